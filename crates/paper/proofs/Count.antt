@@ -1,0 +1,284 @@
+-- The laws of counting to n. Assumes nothing.
+use mathlib.Core.Path.{_≡_, refl, sym, ap, ap₂, _∙_}
+use mathlib.Core.Logic.{⊎-elim, _≢_}
+use mathlib.Core.Bool.{Bool, true, false, _&&_, cond}
+use mathlib.Core.List.{List, [], _∷_, _++_}
+use Prim.Native.Nat.{ℕ, zero, suc, _+_, _-_, _*_, _≤_, _<_, zero-le}
+use native.Mathlib.Nat.{le-of-suc-le-suc, not-suc-le-zero, eq-or-lt-of-le, le-antisymm}
+use native.Mathlib.Numerals.{add-one}
+use native.Mathlib.Omega.{arith}
+use borrow.Author.Tests.{ltb-true, ltb-false}
+use lib.Dec.{ltb}
+use lib.ListN.{length, getD, set, length-set, length-append, List·getD-append}
+use lib.Seq.{getD-set-same, getD-set-other, getD-append-seam}
+use Rattle.paper.specs.Count.{all, allIn, sum, over, fill, among}
+use Rattle.paper.proofs.Logic.{by-test, below-suc, and-false, and-true, both, lt-or-ge, same-test}
+
+-- ---- a test at every number below n
+
+pub all-none : (p : ℕ → Bool) → all 0 p ≡ true
+unfolding all
+all-none p = refl
+
+pub all-more : (i : ℕ) (p : ℕ → Bool) → all i p ≡ true → p i ≡ true → all (i + 1) p ≡ true
+unfolding all
+all-more i p a b = ap (λ (n : ℕ). all n p) (add-one i) ∙ ap₂ _&&_ a b
+
+pub all-fails : (n i : ℕ) (p : ℕ → Bool) → i < n → p i ≡ false → all n p ≡ false
+unfolding all
+all-fails zero i p h e = absurd (not-suc-le-zero h)
+all-fails (suc n) i p h e =
+    below-suc (all n p && p n ≡ false) h
+    (λ q. ap (λ (b : Bool). all n p && b) (ap p (sym q) ∙ e) ∙ and-false (all n p))
+    (λ l. ap (λ (b : Bool). b && p n) (all-fails n i p l e))
+
+-- a loop that has passed all i numbers below n is done
+pub all-done : (n i : ℕ) (p : ℕ → Bool) → i ≤ n → n ≤ i → all i p ≡ true → true ≡ all n p
+all-done n i p h k a = sym (ap (λ (m : ℕ). all m p) (le-antisymm k h) ∙ a)
+
+pub all-each : (n : ℕ) (p : ℕ → Bool) → all n p ≡ true → (k : ℕ) → k < n → p k ≡ true
+unfolding all
+all-each zero p e k h = absurd (not-suc-le-zero h)
+all-each (suc n) p e k h =
+    below-suc (p k ≡ true) h (λ q. ap p q ∙ both (all n p) (p n) e .1)
+    (λ l. all-each n p (both (all n p) (p n) e .0) k l)
+
+pub each-all : (n : ℕ) (p : ℕ → Bool) → ((k : ℕ) → k < n → p k ≡ true) → all n p ≡ true
+unfolding all
+each-all zero p f = refl
+each-all (suc n) p f = and-true (all n p) (p n) (each-all n p (λ k h. f k (omega arith))) (f n (omega arith))
+
+pub all-same : (n : ℕ) (p q : ℕ → Bool) → ((k : ℕ) → k < n → p k ≡ q k) → all n p ≡ all n q
+unfolding all
+all-same zero p q f = refl
+all-same (suc n) p q f = ap₂ _&&_ (all-same n p q (λ k h. f k (omega arith))) (f n (omega arith))
+
+-- ---- a test at every number from a up to e
+
+pub in-none : (a : ℕ) (p : ℕ → Bool) → allIn a a p ≡ true
+unfolding allIn
+in-none a p =
+    let z : a - a ≡ 0 = omega arith in
+    ap (λ (n : ℕ). all n (λ j. p (a + j))) z ∙ all-none (λ j. p (a + j))
+
+pub in-more : (a k : ℕ) (p : ℕ → Bool) → a ≤ k → allIn a k p ≡ true → p k ≡ true → allIn a (k + 1) p ≡ true
+unfolding allIn
+in-more a k p h e t =
+    let z : k + 1 - a ≡ k - a + 1 = omega arith in
+    let y : a + (k - a) ≡ k = omega arith in
+    ap (λ (n : ℕ). all n (λ j. p (a + j))) z ∙ all-more (k - a) (λ j. p (a + j)) e (ap p y ∙ t)
+
+pub in-fails : (a k e : ℕ) (p : ℕ → Bool) → a ≤ k → k < e → p k ≡ false → false ≡ allIn a e p
+unfolding allIn
+in-fails a k e p h l f =
+    let y : a + (k - a) ≡ k = omega arith in
+    sym (all-fails (e - a) (k - a) (λ j. p (a + j)) (omega arith) (ap p y ∙ f))
+
+pub in-done : (a k e : ℕ) (p : ℕ → Bool) → k ≤ e → e ≤ k → allIn a k p ≡ true → true ≡ allIn a e p
+in-done a k e p h g t = sym (ap (λ (n : ℕ). allIn a n p) (le-antisymm g h) ∙ t)
+
+pub in-each : (a e : ℕ) (p : ℕ → Bool) → allIn a e p ≡ true → (k : ℕ) → a ≤ k → k < e → p k ≡ true
+unfolding allIn
+in-each a e p t k h l =
+    let y : a + (k - a) ≡ k = omega arith in
+    ap p (sym y) ∙ all-each (e - a) (λ j. p (a + j)) t (k - a) (omega arith)
+
+pub each-in : (a e : ℕ) (p : ℕ → Bool) → ((k : ℕ) → a ≤ k → k < e → p k ≡ true) → allIn a e p ≡ true
+unfolding allIn
+each-in a e p f = each-all (e - a) (λ j. p (a + j)) (λ j h. f (a + j) (omega arith) (omega arith))
+
+pub in-same : (a e : ℕ) (p q : ℕ → Bool) → ((k : ℕ) → a ≤ k → k < e → p k ≡ q k) → allIn a e p ≡ allIn a e q
+unfolding allIn
+in-same a e p q f =
+    all-same (e - a) (λ j. p (a + j)) (λ j. q (a + j)) (λ j h. f (a + j) (omega arith) (omega arith))
+
+-- ---- sums
+
+pub sum-none : (f : ℕ → ℕ) → sum 0 f ≡ 0
+unfolding sum
+sum-none f = refl
+
+pub sum-more : (i : ℕ) (f : ℕ → ℕ) → sum (i + 1) f ≡ sum i f + f i
+unfolding sum
+sum-more i f = ap (λ (n : ℕ). sum n f) (add-one i)
+
+pub sum-done : (n i t : ℕ) (f : ℕ → ℕ) → i ≤ n → n ≤ i → t ≡ sum i f → t ≡ sum n f
+sum-done n i t f h k e = e ∙ ap (λ (m : ℕ). sum m f) (le-antisymm h k)
+
+pub sum-le : (b n : ℕ) (f : ℕ → ℕ) → ((k : ℕ) → k < n → f k ≤ b) → sum n f ≤ n * b
+unfolding sum
+sum-le b zero f h = zero-le
+sum-le b (suc n) f h = omega (arith, sum-le b n f (λ k l. h k (omega arith)), h n (omega arith), suc-times n b)
+  where
+    suc-times : (n b : ℕ) → suc n * b ≡ n * b + b
+    suc-times n b = native.Mathlib.Nat.suc-mul n b
+
+pub sum-part : (n j : ℕ) (f : ℕ → ℕ) → j < n → f j ≤ sum n f
+unfolding sum
+sum-part zero j f h = absurd (not-suc-le-zero h)
+sum-part (suc n) j f h =
+    below-suc (f j ≤ sum n f + f n) h (λ q. omega (arith, ap f q)) (λ l. omega (arith, sum-part n j f l))
+
+pub sum-same : (n : ℕ) (f g : ℕ → ℕ) → ((k : ℕ) → k < n → f k ≡ g k) → sum n f ≡ sum n g
+unfolding sum
+sum-same zero f g h = refl
+sum-same (suc n) f g h = ap₂ _+_ (sum-same n f g (λ k l. h k (omega arith))) (h n (omega arith))
+
+pub sum-add : (n : ℕ) (f g : ℕ → ℕ) → sum n (λ k. f k + g k) ≡ sum n f + sum n g
+unfolding sum
+sum-add zero f g = refl
+sum-add (suc n) f g = omega (arith, sum-add n f g)
+
+-- the sum after one summand changed
+pub sum-change : (n j : ℕ) (f g : ℕ → ℕ) → j < n → ((k : ℕ) → k ≢ j → f k ≡ g k) → sum n g + f j ≡ sum n f + g j
+unfolding sum
+sum-change zero j f g h e = absurd (not-suc-le-zero h)
+sum-change (suc n) j f g h e =
+    below-suc (sum n g + g n + f j ≡ sum n f + f n + g j) h
+    (λ q. omega (arith, ap f q, ap g q, sum-same n f g (λ k l. e k (λ x. omega arith))))
+    (λ l. omega (arith, sum-change n j f g l e, e n (λ x. omega arith)))
+
+-- ---- a list made anew
+
+pub length-over : (f : ℕ → ℕ) (n : ℕ) (l : List ℕ) → length (over f n l) ≡ length l
+unfolding over
+length-over f zero l = refl
+length-over f (suc n) l = length-set (over f n l) n (f n) ∙ length-over f n l
+
+pub over-none : (f : ℕ → ℕ) (l : List ℕ) → over f 0 l ≡ l
+unfolding over
+over-none f l = refl
+
+pub over-more : (f : ℕ → ℕ) (i : ℕ) (l : List ℕ) → over f (i + 1) l ≡ set (over f i l) i (f i)
+unfolding over
+over-more f i l = ap (λ (n : ℕ). over f n l) (add-one i)
+
+pub getD-over-out : (f : ℕ → ℕ) (n : ℕ) (l : List ℕ) (k : ℕ) → n ≤ k → getD (over f n l) k 0 ≡ getD l k 0
+unfolding over
+getD-over-out f zero l k h = refl
+getD-over-out f (suc n) l k h =
+    getD-set-other (over f n l) n k (f n) 0 (λ q. omega arith) ∙ getD-over-out f n l k (omega arith)
+
+pub getD-over : (f : ℕ → ℕ) (n : ℕ) (l : List ℕ) (k : ℕ) → k < n → k < length l → getD (over f n l) k 0 ≡ f k
+unfolding over
+getD-over f zero l k h r = absurd (not-suc-le-zero h)
+getD-over f (suc n) l k h r =
+    below-suc (getD (set (over f n l) n (f n)) k 0 ≡ f k) h
+    (λ q. ap (λ (j : ℕ). getD (set (over f n l) j (f j)) k 0) (sym q)
+    ∙ getD-set-same (over f n l) k (f k) 0 (omega (arith, length-over f n l)))
+    (λ b. getD-set-other (over f n l) n k (f n) 0 (λ q. omega arith) ∙ getD-over f n l k b r)
+
+pub over-same : (f g : ℕ → ℕ) (n : ℕ) (l : List ℕ) → ((k : ℕ) → k < n → f k ≡ g k) → over f n l ≡ over g n l
+unfolding over
+over-same f g zero l h = refl
+over-same f g (suc n) l h =
+    ap₂ (λ (x : List ℕ) (y : ℕ). set x n y) (over-same f g n l (λ k b. h k (omega arith))) (h n (omega arith))
+
+-- ---- a stretch set to one value
+
+pub length-fill : (v a n : ℕ) (l : List ℕ) → length (fill v a n l) ≡ length l
+unfolding fill
+length-fill v a zero l = refl
+length-fill v a (suc n) l = length-set (fill v a n l) (a + n) v ∙ length-fill v a n l
+
+pub fill-none : (v a : ℕ) (l : List ℕ) → fill v a (a - a) l ≡ l
+unfolding fill
+fill-none v a l = let z : a - a ≡ 0 = omega arith in ap (λ (n : ℕ). fill v a n l) z
+
+pub fill-more : (v a k : ℕ) (l : List ℕ) → a ≤ k → fill v a (k + 1 - a) l ≡ set (fill v a (k - a) l) k v
+unfolding fill
+fill-more v a k l h =
+    let p : k + 1 - a ≡ suc (k - a) = omega arith in
+    let q : a + (k - a) ≡ k = omega arith in
+    ap (λ (n : ℕ). fill v a n l) p ∙ ap (λ (i : ℕ). set (fill v a (k - a) l) i v) q
+
+pub getD-fill-in : (v a n : ℕ) (l : List ℕ) (k : ℕ) → a ≤ k → k < a + n → k < length l → getD (fill v a n l) k 0 ≡ v
+unfolding fill
+getD-fill-in v a zero l k h g r = absurd (omega arith)
+getD-fill-in v a (suc n) l k h g r =
+    ⊎-elim
+    (λ (b : k < a + n). getD-set-other (fill v a n l) (a + n) k v 0 (λ q. omega arith) ∙ getD-fill-in v a n l k h b r)
+    (λ (b : a + n ≤ k).
+    let q : a + n ≡ k = omega arith in
+    ap (λ (i : ℕ). getD (set (fill v a n l) i v) k 0) q
+    ∙ getD-set-same (fill v a n l) k v 0 (omega (arith, length-fill v a n l)))
+    (lt-or-ge k (a + n))
+
+pub getD-fill-out : (v a n : ℕ) (l : List ℕ) (k : ℕ) → (a ≤ k → k < a + n → ⊥) → getD (fill v a n l) k 0 ≡ getD l k 0
+unfolding fill
+getD-fill-out v a zero l k f = refl
+getD-fill-out v a (suc n) l k f =
+    getD-set-other (fill v a n l) (a + n) k v 0 (λ q. f (omega arith) (omega arith))
+    ∙ getD-fill-out v a n l k (λ x y. f x (omega arith))
+
+-- ---- the numbers that pass a test
+
+pub among-none : (p : ℕ → Bool) → length (among p 0) ≡ 0
+unfolding among
+among-none p = refl
+
+pub among-in : (p : ℕ → Bool) (i : ℕ) → p i ≡ true → among p (i + 1) ≡ among p i ++ (i ∷ [])
+unfolding among
+among-in p i t = ap (among p) (add-one i) ∙ ap (λ (b : Bool). among p i ++ cond b (i ∷ []) []) t
+
+pub among-out : (p : ℕ → Bool) (i : ℕ) → p i ≡ false → among p (i + 1) ≡ among p i
+unfolding among
+among-out p i f =
+    ap (among p) (add-one i) ∙ ap (λ (b : Bool). among p i ++ cond b (i ∷ []) []) f
+    ∙ mathlib.Core.List.append-nil (among p i)
+
+-- as many as n at most
+pub among-le : (p : ℕ → Bool) (n : ℕ) → length (among p n) ≤ n
+unfolding among
+among-le p zero = zero-le
+among-le p (suc n) =
+    by-test (p n) _
+    (λ t. omega (arith, ap (λ (b : Bool). length (among p n ++ cond b (n ∷ []) [])) t, length-append (among p n) (n ∷ []), among-le p n))
+    (λ f. omega (arith, ap (λ (b : Bool). length (among p n ++ cond b (n ∷ []) [])) f, length-append (among p n) [], among-le p n))
+
+-- one that passes stands in the list, after those below it
+pub among-at : (p : ℕ → Bool) (n i : ℕ) → i < n → p i ≡ true
+    → (length (among p i) < length (among p n)) × (getD (among p n) (length (among p i)) 0 ≡ i)
+unfolding among
+among-at p zero i h t = absurd (not-suc-le-zero h)
+among-at p (suc n) i h t =
+    below-suc _ h
+    (λ (q : i ≡ n).
+    let tn : p n ≡ true = ap p (sym q) ∙ t in
+    let l : among p (suc n) ≡ among p n ++ (n ∷ []) = ap (λ (b : Bool). among p n ++ cond b (n ∷ []) []) tn in (
+      omega (arith, ap length l, length-append (among p n) (n ∷ []), ap (λ (k : ℕ). length (among p k)) q),
+      ap (λ (k : ℕ). getD (among p (suc n)) (length (among p k)) 0) q
+          ∙ ap (λ (r : List ℕ). getD r (length (among p n)) 0) l ∙ getD-append-seam (among p n) n [] 0 ∙ sym q,
+    ))
+    (λ (b : i < n).
+    let r = among-at p n i b t in (
+      omega (arith, r .0, length-append (among p n) (cond (p n) (n ∷ []) [])),
+      List·getD-append (among p n) (cond (p n) (n ∷ []) []) 0 (length (among p i)) (r .0) ∙ r .1,
+    ))
+
+-- each entry of the list is below n and passes
+pub among-each : (p : ℕ → Bool) (n k : ℕ) → k < length (among p n) → (getD (among p n) k 0 < n) × (p (getD (among p n) k 0) ≡ true)
+unfolding among
+among-each p zero k h = absurd (not-suc-le-zero h)
+among-each p (suc n) k h =
+    ⊎-elim
+    (λ (b : k < length (among p n)).
+    let e = List·getD-append (among p n) (cond (p n) (n ∷ []) []) 0 k b in
+    let r = among-each p n k b in
+    (omega (arith, e, r .0), ap p e ∙ r .1))
+    (λ (g : length (among p n) ≤ k).
+    by-test (p n) _
+    (λ t.
+    let l : among p (suc n) ≡ among p n ++ (n ∷ []) = ap (λ (b : Bool). among p n ++ cond b (n ∷ []) []) t in
+    let q : k ≡ length (among p n) = omega (arith, ap length l, length-append (among p n) (n ∷ [])) in
+    let e : getD (among p (suc n)) k 0 ≡ n = ap (λ (j : ℕ). getD (among p (suc n)) j 0) q
+    ∙ ap (λ (r : List ℕ). getD r (length (among p n)) 0) l ∙ getD-append-seam (among p n) n [] 0 in
+    (omega (arith, e), ap p e ∙ t))
+    (λ u. absurd (omega (arith, ap (λ (b : Bool). length (among p n ++ cond b (n ∷ []) [])) u, length-append (among p n) []))))
+    (lt-or-ge k (length (among p n)))
+
+pub among-same : (p q : ℕ → Bool) (n : ℕ) → ((k : ℕ) → k < n → p k ≡ q k) → among p n ≡ among q n
+unfolding among
+among-same p q zero f = refl
+among-same p q (suc n) f =
+    ap₂ (λ (x : List ℕ) (b : Bool). x ++ cond b (n ∷ []) []) (among-same p q n (λ k h. f k (omega arith))) (f n (omega arith))

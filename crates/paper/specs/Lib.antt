@@ -1,0 +1,4 @@
+-- What every crate's definitions are made of.
+pub mod Limits
+pub mod Count
+pub mod Bits
