@@ -1,0 +1,81 @@
+-- The members of a set: how many, after a change, and that the bits past the length don't count. Assumes nothing.
+use mathlib.Core.Path.{_≡_, refl, sym, ap, ap₂, _∙_}
+use mathlib.Core.Bool.{Bool, true, false, _&&_, cond}
+use mathlib.Core.List.{List, [], _∷_, _++_}
+use mathlib.Core.Logic.{⊎-elim, _≢_}
+use Prim.Native.Nat.{ℕ, zero, suc, _+_, _-_, _*_, _/_, _≤_, _<_}
+use native.Mathlib.Omega.{arith}
+use borrow.Author.Tests.{eq-eqb, ne-eqb, lt-ltb, le-ltb, le-leb, lt-leb}
+use lib.Dec.{eqb, leb, ltb}
+use lib.ListN.{length, length-append}
+use Rattle.paper.specs.Count.{all, sum, among}
+use Rattle.paper.proofs.Count.{sum-same, all-same}
+use Rattle.paper.proofs.Logic.{by-test, lt-or-ge}
+use Rattle.slotset.specs.Slots.{slot, size, has, noMember, putSlot, putSlots, stretched}
+use Rattle.slotset.specs.Runs.{allRuns}
+use Rattle.slotset.proofs.Puts.{slot-put, slot-puts-here}
+use Rattle.slotset.proofs.Runs.{runs-same}
+
+-- the size is the number of members
+pub size-members : (f : ℕ → ℕ) (len : ℕ) → ((k : ℕ) → f k < 2) → size f len ≡ length (among (λ k. eqb (f k) 1) len)
+unfolding size sum among
+size-members f zero bits = refl
+size-members f (suc n) bits =
+    by-test (eqb (f n) 1) _
+    (λ t. omega (
+      arith,
+      size-members f n bits,
+      borrow.Author.Tests.eqb-true (f n) 1 t,
+      length-append (among (λ k. eqb (f k) 1) n) (n ∷ []),
+      ap (λ (b : Bool). length (among (λ k. eqb (f k) 1) n ++ cond b (n ∷ []) [])) t,
+    ))
+    (λ u. omega (
+      arith,
+      size-members f n bits,
+      zero-of (f n) (bits n) (borrow.Author.Tests.eqb-false (f n) 1 u),
+      length-append (among (λ k. eqb (f k) 1) n) [],
+      ap (λ (b : Bool). length (among (λ k. eqb (f k) 1) n ++ cond b (n ∷ []) [])) u,
+    ))
+  where
+    zero-of : (x : ℕ) → x < 2 → (x ≡ 1 → ⊥) → x ≡ 0
+    zero-of x h n = omega arith
+
+-- after slot i was put at v: that slot is v, and every other is as it was
+module _ (b i v : ℕ) (ws : List ℕ) (small : v < 2) (room : b + i / 64 < length ws) where
+  pub put-here : slot (putSlot b i v ws) b i ≡ v
+  put-here = slot-put b i v ws b i small room ∙ ap (λ (t : Bool). cond t v (slot ws b i)) (eq-eqb (b * 64 + i) (b * 64 + i) refl)
+
+  pub put-elsewhere : (k : ℕ) → k ≢ i → slot (putSlot b i v ws) b k ≡ slot ws b k
+  put-elsewhere k n =
+      slot-put b i v ws b k small room
+      ∙ ap (λ (t : Bool). cond t v (slot ws b k)) (ne-eqb (b * 64 + k) (b * 64 + i) (λ q. n (omega arith)))
+
+-- after a stretch was put at v: the slots of `stretched`
+pub stretch-slots : (v b a e : ℕ) (ws : List ℕ) (k : ℕ) → v < 2 → a ≤ e → b * 64 + e ≤ length ws * 64
+    → slot (putSlots (λ _. v) b a (e - a) ws) b k ≡ stretched v a e (slot ws b) k
+unfolding stretched
+stretch-slots v b a e ws k small h room =
+    let q : a + (e - a) ≡ e = omega arith in
+    slot-puts-here (λ _. v) b a (e - a) ws k (λ i. small) (omega arith)
+    ∙ ap (λ (x : ℕ). cond (leb a k && ltb k x) v (slot ws b k)) q
+
+-- sets that agree below the length have the same members, size and runs, whatever their other bits
+module _ (f g : ℕ → ℕ) (len : ℕ) (same : (k : ℕ) → k < len → f k ≡ g k) where
+  pub size-same : size f len ≡ size g len
+  unfolding size
+  size-same = sum-same len f g same
+
+  pub none-same : noMember f len ≡ noMember g len
+  unfolding noMember
+  none-same = all-same len (λ k. eqb (f k) 0) (λ k. eqb (g k) 0) (λ k h. ap (λ (x : ℕ). eqb x 0) (same k h))
+
+  pub has-same : (i : ℕ) → has f len i ≡ has g len i
+  unfolding has
+  has-same i =
+      ⊎-elim
+      (λ (h : i < len). ap (λ (x : ℕ). ltb i len && eqb x 1) (same i h))
+      (λ (h : len ≤ i). simp (le-ltb i len h))
+      (lt-or-ge i len)
+
+  pub all-runs-same : allRuns f len ≡ allRuns g len
+  all-runs-same = runs-same f g len same len 0

@@ -1,0 +1,268 @@
+-- Runs: what `runAs` and the reader give, said of every slot, and the list of all runs. Assumes nothing.
+use mathlib.Core.Path.{_≡_, refl, sym, ap, ap₂, _∙_}
+use mathlib.Core.Bool.{Bool, true, false, _&&_}
+use mathlib.Core.List.{List, [], _∷_}
+use mathlib.Core.Logic.{_⊎_, inl, inr, ⊎-elim}
+use Prim.Native.Nat.{ℕ, zero, suc, _+_, _-_, _≤_, _<_}
+use native.Mathlib.Numerals.{add-one}
+use native.Mathlib.Omega.{arith}
+use borrow.Author.Tests.{lt-ltb, le-ltb, eq-eqb, ne-eqb, ltb-true, eqb-true}
+use lib.Dec.{ltb, eqb}
+use Rattle.paper.proofs.Logic.{lt-or-ge, both}
+use Rattle.slotset.specs.declared.Found.{Found}
+use Rattle.slotset.specs.declared.Found.the-variants.{At, Nothing, Refused}
+use Rattle.slotset.specs.Slots.{Member, has}
+use Rattle.slotset.specs.Search.{First, Last, Above, Below, nextSet, nextUnsetAfter, prevUnsetBefore, nextWith}
+use Rattle.slotset.specs.Runs.{startOf, endOf, firstOfRun, lastOfRun, RunAround, Ends, whenFound, runs, AreRuns, InRuns}
+use Rattle.slotset.proofs.Meaning.{next-is, last-is, next-same, last-same}
+
+-- membership, as a fact and as a test
+pub has-member : (f : ℕ → ℕ) (len i : ℕ) → has f len i ≡ true → Member f len i
+unfolding has
+has-member f len i e = let x = both (ltb i len) (eqb (f i) 1) e in (ltb-true _ _ (x .0), eqb-true _ _ (x .1))
+
+pub member-has : (f : ℕ → ℕ) (len i : ℕ) → Member f len i → has f len i ≡ true
+unfolding has
+member-has f len i m = simp (lt-ltb i len (m .0), eq-eqb (f i) 1 (m .1))
+
+-- ---- what the code asks of what was found
+
+pub start-le : (v : ℕ) (f : ℕ → ℕ) (len end : ℕ) (r : Found) → Last v f len end r → startOf r ≤ len
+start-le v f len end (At i) w = omega (arith, w .1)
+start-le v f len end Nothing w = omega arith
+start-le v f len end (Refused n) w = absurd w
+
+pub first-above : (v : ℕ) (f : ℕ → ℕ) (len from : ℕ) (r : Found) → First v f len from r → 0 < from → Above 0 r
+first-above v f len from (At i) w h = omega (arith, w .0)
+first-above v f len from Nothing w h = tt
+first-above v f len from (Refused n) w h = tt
+
+pub end-lt : (v : ℕ) (f : ℕ → ℕ) (len from : ℕ) (r : Found) → First v f len from r → 0 < len → endOf len r < len
+end-lt v f len from (At i) w h = omega (arith, w .1)
+end-lt v f len from Nothing w h = omega arith
+end-lt v f len from (Refused n) w h = absurd w
+
+pub next-after : (v : ℕ) (f : ℕ → ℕ) (len i : ℕ) → nextWith v f len (i + 1) ≡ nextWith v f len (suc i)
+next-after v f len i = ap (nextWith v f len) (add-one i)
+
+-- ---- the run around a member
+
+-- a slot is 0 or 1
+abbrev pub Bits : (ℕ → ℕ) → Type 0
+Bits f = (k : ℕ) → f k < 2
+
+one-of : (x : ℕ) → x < 2 → (x ≡ 0 → ⊥) → x ≡ 1
+one-of x h n = omega arith
+
+module _ (f : ℕ → ℕ) (bits : Bits f) (len i : ℕ) (m : Member f len i) where
+  left-side : (p : Found) → Last 0 f len i p
+      → (startOf p ≤ i) × ((k : ℕ) → startOf p ≤ k → k ≤ i → f k ≡ 1) × (0 < startOf p → f (startOf p - 1) ≡ 0)
+  left-side (At p) l =
+      let q : p + 1 - 1 ≡ p = omega arith in (
+        omega (arith, l .0),
+        λ k a b. ⊎-elim
+            (λ (x : k < i). one-of _ (bits k) (l .3 k (omega arith) x (omega (arith, m .0))))
+            (λ (x : i ≤ k). let e : k ≡ i = omega arith in ap f e ∙ m .1) (lt-or-ge k i),
+        λ h. ap f q ∙ l .2,
+      )
+  left-side Nothing l = (
+    omega arith,
+    λ k a b. ⊎-elim
+        (λ (x : k < i). one-of _ (bits k) (l k x (omega (arith, m .0))))
+        (λ (x : i ≤ k). let e : k ≡ i = omega arith in ap f e ∙ m .1) (lt-or-ge k i),
+    λ h. let z : ⊥ = omega arith in absurd z,
+  )
+  left-side (Refused n) l = absurd l
+
+  right-side : (n : Found) → First 0 f len (suc i) n
+      → (i ≤ endOf len n) × (endOf len n < len) × ((k : ℕ) → i ≤ k → k ≤ endOf len n → f k ≡ 1) × (endOf len n + 1 < len → f (endOf len n + 1) ≡ 0)
+  right-side (At n) w =
+      let q : n - 1 + 1 ≡ n = omega (arith, w .0) in (
+        omega (arith, w .0),
+        omega (arith, w .1),
+        λ k a b. ⊎-elim
+            (λ (x : i < k). one-of _ (bits k) (w .3 k x (omega (arith, w .0))))
+            (λ (x : k ≤ i). let e : k ≡ i = omega arith in ap f e ∙ m .1) (lt-or-ge i k),
+        λ h. ap f q ∙ w .2,
+      )
+  right-side Nothing w = (
+    omega (arith, m .0),
+    omega (arith, m .0),
+    λ k a b. ⊎-elim
+        (λ (x : i < k). one-of _ (bits k) (w k x (omega (arith, m .0))))
+        (λ (x : k ≤ i). let e : k ≡ i = omega arith in ap f e ∙ m .1) (lt-or-ge i k),
+    λ h. let z : ⊥ = omega (arith, m .0) in absurd z,
+  )
+  right-side (Refused n) w = absurd w
+
+  -- the run of a member is a maximal stretch around it
+  pub run-around : RunAround f len i (firstOfRun f len i) (lastOfRun f len i)
+  run-around =
+      let l = left-side (prevUnsetBefore f len i) (last-is 0 f len i) in
+      let r = right-side (nextUnsetAfter f len i) (next-is 0 f len (suc i)) in
+      record {
+        from = l .0;
+        to = r .0;
+        fits = r .1;
+        all = λ k a b. ⊎-elim (λ (h : i < k). r .2 k (omega arith) b) (λ (h : k ≤ i). l .1 k a h) (lt-or-ge i k);
+        left = l .2;
+        right = r .3;
+      }
+
+-- only one stretch is the whole run around i
+module _ (f : ℕ → ℕ) (len i a b c d : ℕ) (x : RunAround f len i a b) (y : RunAround f len i c d) where
+  same-first : a ≡ c
+  same-first =
+      ⊎-elim
+      (λ (h : a < c). let z : _≡_ {A = ℕ} 0 1 = sym (y .left (omega arith)) ∙ x .all (c - 1) (omega arith) (omega (arith, x .to, y .from)) in
+      omega arith)
+      (λ (h : c ≤ a). ⊎-elim
+      (λ (g : c < a). let z : _≡_ {A = ℕ} 0 1 = sym (x .left (omega arith)) ∙ y .all (a - 1) (omega arith) (omega (arith, y .to, x .from)) in
+      omega arith)
+      (λ (g : a ≤ c). omega arith) (lt-or-ge c a))
+      (lt-or-ge a c)
+
+  same-last : b ≡ d
+  same-last =
+      ⊎-elim
+      (λ (h : b < d). let z : _≡_ {A = ℕ} 0 1 = sym (x .right (omega (arith, y .fits))) ∙ y .all (b + 1) (omega (arith, y .from, x .to))
+      (omega arith) in omega arith)
+      (λ (h : d ≤ b). ⊎-elim
+      (λ (g : d < b). let z : _≡_ {A = ℕ} 0 1 = sym (y .right (omega (arith, x .fits))) ∙ x .all (d + 1) (omega (arith, x .from, y .to))
+      (omega arith) in omega arith)
+      (λ (g : b ≤ d). omega arith) (lt-or-ge d b))
+      (lt-or-ge b d)
+
+  pub around-unique : (a ≡ c) × (b ≡ d)
+  around-unique = (same-first, same-last)
+
+-- ---- the list of all runs
+
+-- from a cursor that stands at 0 or after an unset slot, the first member found starts a run
+starts-run : (f : ℕ → ℕ) (len lo : ℕ) → Bits f → Member f len lo → (0 < lo → f (lo - 1) ≡ 0) → RunAround f len lo lo (lastOfRun f len lo)
+starts-run f len lo bits m before =
+    let r = run-around f bits len lo m in
+    record { from = omega arith; to = r .to; fits = r .fits; all = λ k a b. r .all k (omega (arith, r .from)) b; left = before; right = r .right }
+
+module _ (f : ℕ → ℕ) (bits : Bits f) (len : ℕ) where
+  are-step : (n at : ℕ) (r : Found) → ((at′ : ℕ) → len < n + at′ + 1 → AreRuns f len at′ (runs n f len at′)) → len < suc n + at + 1
+      → First 1 f len at r → AreRuns f len at
+      (whenFound r (λ lo. record { first = lo; last = lastOfRun f len lo } ∷ runs n f len (lastOfRun f len lo + 1)))
+  are-step n at (At lo) ih h w =
+      let r = run-around f bits len lo (w .1, w .2) in (
+        w .0,
+        r .to,
+        r .fits,
+        w .3,
+        λ k a b. r .all k (omega (arith, r .from)) b,
+        λ g e. let z : _≡_ {A = ℕ} 0 1 = sym (r .right g) ∙ e in omega arith,
+        ih (lastOfRun f len lo + 1) (omega (arith, r .to, w .0)),
+      )
+  are-step n at Nothing ih h w = w
+  are-step n at (Refused k) ih h w = absurd w
+
+  -- what the reader gives, as a whole list, is the list of the runs
+  pub runs-are : (n at : ℕ) → len < n + at + 1 → AreRuns f len at (runs n f len at)
+  unfolding runs
+  runs-are zero at h = λ k a b e. let z : ⊥ = omega arith in z
+  runs-are (suc n) at h = are-step n at (nextSet f len at) (runs-are n) h (next-is 1 f len at)
+
+  -- and no other list is
+  pub runs-unique : (at : ℕ) (l m : List Ends) → AreRuns f len at l → AreRuns f len at m → l ≡ m
+  runs-unique at [] [] x y = refl
+  runs-unique at [] (r ∷ m) x y = absurd (x (r .first) (y .0) (omega (arith, y .1, y .2)) (y .4 (r .first) (omega arith) (y .1)))
+  runs-unique at (r ∷ l) [] x y = absurd (y (r .first) (x .0) (omega (arith, x .1, x .2)) (x .4 (r .first) (omega arith) (x .1)))
+  runs-unique at (r ∷ l) (s ∷ m) x y =
+      let e : r .first ≡ s .first = ⊎-elim
+      (λ (h : r .first < s .first). absurd (y .3 (r .first) (x .0) h (x .4 (r .first) (omega arith) (x .1))))
+      (λ (h : s .first ≤ r .first). ⊎-elim
+      (λ (g : s .first < r .first). absurd (x .3 (s .first) (y .0) g (y .4 (s .first) (omega arith) (y .1))))
+      (λ (g : r .first ≤ s .first). omega arith) (lt-or-ge (s .first) (r .first)))
+      (lt-or-ge (r .first) (s .first)) in
+      let d : r .last ≡ s .last = ⊎-elim
+      (λ (h : r .last < s .last). absurd (x .5 (omega (arith, y .2)) (y .4 (r .last + 1) (omega (arith, x .1)) (omega arith))))
+      (λ (h : s .last ≤ r .last). ⊎-elim
+      (λ (g : s .last < r .last). absurd (y .5 (omega (arith, x .2)) (x .4 (s .last + 1) (omega (arith, y .1)) (omega arith))))
+      (λ (g : r .last ≤ s .last). omega arith) (lt-or-ge (s .last) (r .last)))
+      (lt-or-ge (r .last) (s .last)) in
+      let same : r ≡ s = ap₂ {C = Ends} (λ (a b : ℕ). record { first = a; last = b }) e d in
+      ap₂ (λ (z : Ends) (t : List Ends). z ∷ t) same (runs-unique (r .last + 1) l m (x .6) (rw d (y .6)))
+
+  -- the runs hold every member from the cursor on, and nothing else
+  pub runs-hold : (at : ℕ) (l : List Ends) → AreRuns f len at l → (k : ℕ) → at ≤ k → Member f len k → InRuns k l
+  runs-hold at [] x k h m = x k h (m .0) (m .1)
+  runs-hold at (r ∷ l) x k h m =
+      ⊎-elim
+      (λ (a : k < r .first). absurd (x .3 k h a (m .1)))
+      (λ (a : r .first ≤ k). ⊎-elim
+      (λ (b : r .last < k). inr (runs-hold (r .last + 1) l (x .6) k (omega arith) m))
+      (λ (b : k ≤ r .last). inl (a, b)) (lt-or-ge (r .last) k))
+      (lt-or-ge k (r .first))
+
+  pub runs-only : (at : ℕ) (l : List Ends) → AreRuns f len at l → (k : ℕ) → InRuns k l → Member f len k
+  runs-only at [] x k h = absurd h
+  runs-only at (r ∷ l) x k h =
+      ⊎-elim (λ i. (omega (arith, x .2, i .1), x .4 k (i .0) (i .1))) (λ i. runs-only (r .last + 1) l (x .6) k i) h
+
+-- l has the run with these two ends
+abbrev pub Among : ℕ → ℕ → List Ends → Type 0
+Among a b [] = ⊥
+Among a b (r ∷ rs) = ((r .first ≡ a) × (r .last ≡ b)) ⊎ Among a b rs
+
+module _ (f : ℕ → ℕ) (bits : Bits f) (len i : ℕ) (m : Member f len i) where
+  -- the run of a member is the one of the list that holds it
+  pub run-among : (at : ℕ) (l : List Ends) → AreRuns f len at l → at ≤ i → (0 < at → at < len → f (at - 1) ≡ 1 → f at ≡ 1 → ⊥)
+      → Among (firstOfRun f len i) (lastOfRun f len i) l
+  run-among at [] x h apart = x i h (m .0) (m .1)
+  run-among at (r ∷ l) x h apart =
+      ⊎-elim
+      (λ (a : i < r .first). absurd (x .3 i h a (m .1)))
+      (λ (a : r .first ≤ i). ⊎-elim
+      (λ (b : r .last < i). inr (run-among (r .last + 1) l (x .6) (omega arith) (λ p q u v. x .5 q v)))
+      (λ (b : i ≤ r .last).
+      let whole : RunAround f len i (r .first) (r .last) = record {
+        from = a;
+        to = b;
+        fits = x .2;
+        all = x .4;
+        left = λ p. zero-of (f (r .first - 1)) (bits _) (λ e. ⊎-elim
+            (λ (g : at ≤ r .first - 1). x .3 (r .first - 1) g (omega arith) e)
+            (λ (g : r .first - 1 < at).
+            let q : r .first ≡ at = omega (arith, x .0) in
+            apart (omega arith) (omega (arith, x .1, x .2)) (ap (λ (z : ℕ). f (z - 1)) (sym q) ∙ e)
+            (ap f (sym q) ∙ x .4 (r .first) (omega arith) (x .1)))
+            (le-or-lt at (r .first - 1)));
+        right = λ p. zero-of (f (r .last + 1)) (bits _) (x .5 p);
+      } in
+      let u = around-unique f len i (r .first) (r .last) _ _ whole (run-around f bits len i m) in
+      inl (u .0, u .1)) (lt-or-ge (r .last) i))
+      (lt-or-ge i (r .first))
+    where
+      zero-of : (x : ℕ) → x < 2 → (x ≡ 1 → ⊥) → x ≡ 0
+      zero-of x h n = omega arith
+
+      le-or-lt : (a b : ℕ) → (a ≤ b) ⊎ (b < a)
+      le-or-lt a b = ⊎-elim (λ h. inr h) (λ h. inl h) (lt-or-ge b a)
+
+-- ---- sets that agree below the length have the same runs
+
+module _ (f g : ℕ → ℕ) (len : ℕ) (same : (k : ℕ) → k < len → f k ≡ g k) where
+  pub run-same : (i : ℕ) → (firstOfRun f len i ≡ firstOfRun g len i) × (lastOfRun f len i ≡ lastOfRun g len i)
+  run-same i = (ap startOf (last-same 0 f g len i same), ap (endOf len) (next-same 0 f g len (suc i) same))
+
+  pub runs-same : (n at : ℕ) → runs n f len at ≡ runs n g len at
+  unfolding runs
+  runs-same zero at = refl
+  runs-same (suc n) at =
+      ap (λ (r : Found). whenFound r (λ lo. record { first = lo; last = lastOfRun f len lo } ∷ runs n f len (lastOfRun f len lo + 1)))
+      (next-same 1 f g len at same)
+      ∙ step (nextSet g len at) (runs-same n)
+    where
+      step : (r : Found) → ((at′ : ℕ) → runs n f len at′ ≡ runs n g len at′)
+          → whenFound r (λ lo. record { first = lo; last = lastOfRun f len lo } ∷ runs n f len (lastOfRun f len lo + 1))
+          ≡ whenFound r (λ lo. record { first = lo; last = lastOfRun g len lo } ∷ runs n g len (lastOfRun g len lo + 1))
+      step (At lo) ih =
+          ap (λ (z : ℕ). record { first = lo; last = z } ∷ runs n f len (z + 1)) (run-same lo .1)
+          ∙ ap (λ (t : List Ends). record { first = lo; last = lastOfRun g len lo } ∷ t) (ih (lastOfRun g len lo + 1))
+      step Nothing ih = refl
+      step (Refused k) ih = refl

@@ -1,0 +1,42 @@
+-- `slotset::SlotSet::is_empty` meets its contract. Assumes nothing.
+use borrow.Author.Needs.{needs}
+use mathlib.Core.Path.{_≡_, sym, _∙_}
+use native.Mathlib.Omega.{arith}
+use lib.ListN.{length}
+use Rattle.slotset.proofs.Refusals.{len-says, told-is, told-no}
+use Rattle.slotset.proofs.SlotSet.is_empty.Statement.{statement}
+use Rattle.slotset.proofs.SlotSet.is_empty.Tie as tie
+
+len-no-requires : tie.Need-len-no-requires
+len-no-requires c κs = search needs
+
+slice-aggregate-is-empty-from : tie.Need-slice-aggregate-is-empty-from
+slice-aggregate-is-empty-from c = search needs
+
+is-empty-from-requires : tie.Need-is-empty-from-requires
+is-empty-from-requires c κs =
+    let k = c .before .before in
+    let n : length (k .before .before .args .self .words) ≡ 16 = search needs in
+    (omega (arith, n), len-says _ (sym (k .before .len-no .ensures) ∙ k .if1 .taken))
+
+yes-or-no-requires : tie.Need-yes-or-no-requires
+yes-or-no-requires c κs = search needs
+
+returns : tie.Need-returns
+returns c =
+    let k = c .before .before .before .before in
+    c .yes-or-no .ensures ∙ told-is _ _ (k .before .len-no .ensures) (k .if1 .taken) _ _ (c .before .is-empty-from .ensures)
+
+returns-2 : tie.Need-returns-2
+returns-2 c = told-no _ _ (c .before .len-no .ensures) (c .if1 .left) _
+
+pub is-empty-spec : {M : Type 1} → statement M
+is-empty-spec =
+    tie.close
+    (tie.spec
+    len-no-requires
+    slice-aggregate-is-empty-from
+    is-empty-from-requires
+    yes-or-no-requires
+    returns
+    returns-2)

@@ -1,0 +1,20 @@
+-- `slotset::SlotSet::new` meets its contract. Assumes nothing.
+use borrow.Author.Needs.{needs}
+use Rattle.slotset.specs.Answers.{newOf}
+use Rattle.slotset.proofs.Refusals.{new-is, new-no}
+use Rattle.slotset.proofs.SlotSet.new.Statement.{statement}
+use Rattle.slotset.proofs.SlotSet.new.Tie as tie
+
+len-no-requires : tie.Need-len-no-requires
+len-no-requires c κs = search needs
+
+returns : tie.Need-returns
+unfolding newOf
+returns c = new-is _ _ (c .before .len-no .ensures) (c .if1 .taken) _ _
+
+returns-2 : tie.Need-returns-2
+unfolding newOf
+returns-2 c = new-no _ _ (c .before .len-no .ensures) (c .if1 .left) _ _
+
+pub new-spec : {M : Type 1} → statement M
+new-spec = tie.close (tie.spec len-no-requires returns returns-2)

@@ -1,0 +1,38 @@
+-- `slotset::SlotSet::next_member` meets its contract. Assumes nothing.
+use borrow.Author.Needs.{needs}
+use mathlib.Core.Path.{_≡_, sym, _∙_}
+use native.Mathlib.Omega.{arith}
+use lib.ListN.{length}
+use Rattle.slotset.proofs.Refusals.{len-says, next-member-is, next-member-no}
+use Rattle.slotset.proofs.SlotSet.next_member.Statement.{statement}
+use Rattle.slotset.proofs.SlotSet.next_member.Tie as tie
+
+len-no-requires : tie.Need-len-no-requires
+len-no-requires c κs = search needs
+
+slice-aggregate-next-member-from : tie.Need-slice-aggregate-next-member-from
+slice-aggregate-next-member-from c = search needs
+
+next-member-from-requires : tie.Need-next-member-from-requires
+next-member-from-requires c κs =
+    let k = c .before .before in
+    let n : length (k .before .before .args .self .words) ≡ 16 = search needs in
+    (omega (arith, n), len-says _ (sym (k .before .len-no .ensures) ∙ k .if1 .taken))
+
+returns : tie.Need-returns
+returns c =
+    let k = c .before .before .before in
+    c .next-member-from .ensures ∙ next-member-is _ _ (k .before .len-no .ensures) (k .if1 .taken) _ _ _
+
+returns-2 : tie.Need-returns-2
+returns-2 c = next-member-no _ _ (c .before .len-no .ensures) (c .if1 .left) _ _ _
+
+pub next-member-spec : {M : Type 1} → statement M
+next-member-spec =
+    tie.close
+    (tie.spec
+    len-no-requires
+    slice-aggregate-next-member-from
+    next-member-from-requires
+    returns
+    returns-2)

@@ -1,0 +1,38 @@
+-- `slotset::SlotSet::next_unset_after` meets its contract. Assumes nothing.
+use borrow.Author.Needs.{needs}
+use mathlib.Core.Path.{_≡_, sym, _∙_}
+use native.Mathlib.Omega.{arith}
+use lib.ListN.{length}
+use Rattle.slotset.proofs.Refusals.{len-says, found-is, found-no}
+use Rattle.slotset.proofs.SlotSet.next_unset_after.Statement.{statement}
+use Rattle.slotset.proofs.SlotSet.next_unset_after.Tie as tie
+
+len-no-requires : tie.Need-len-no-requires
+len-no-requires c κs = search needs
+
+slice-aggregate-next-unset-from : tie.Need-slice-aggregate-next-unset-from
+slice-aggregate-next-unset-from c = search needs
+
+next-unset-from-requires : tie.Need-next-unset-from-requires
+next-unset-from-requires c κs =
+    let k = c .before .before in
+    let n : length (k .before .before .args .self .words) ≡ 16 = search needs in
+    (omega (arith, n), len-says _ (sym (k .before .len-no .ensures) ∙ k .if1 .taken))
+
+returns : tie.Need-returns
+returns c =
+    let k = c .before .before .before in
+    found-is _ _ (k .before .len-no .ensures) (k .if1 .taken) _ _ (c .next-unset-from .ensures)
+
+returns-2 : tie.Need-returns-2
+returns-2 c = found-no _ _ (c .before .len-no .ensures) (c .if1 .left) _
+
+pub next-unset-after-spec : {M : Type 1} → statement M
+next-unset-after-spec =
+    tie.close
+    (tie.spec
+    len-no-requires
+    slice-aggregate-next-unset-from
+    next-unset-from-requires
+    returns
+    returns-2)

@@ -1,0 +1,33 @@
+-- `slotset::SlotSet::prev_unset_before` meets its contract. Assumes nothing.
+use borrow.Author.Needs.{needs}
+use mathlib.Core.Path.{_≡_, sym, _∙_}
+use native.Mathlib.Omega.{arith}
+use lib.ListN.{length}
+use Rattle.slotset.proofs.Refusals.{len-says, found-is, found-no}
+use Rattle.slotset.proofs.SlotSet.prev_unset_before.Statement.{statement}
+use Rattle.slotset.proofs.SlotSet.prev_unset_before.Tie as tie
+
+len-no-requires : tie.Need-len-no-requires
+len-no-requires c κs = search needs
+
+slice-aggregate-last-below : tie.Need-slice-aggregate-last-below
+slice-aggregate-last-below c = search needs
+
+last-below-requires : tie.Need-last-below-requires
+last-below-requires c κs =
+    let k = c .before .before in
+    let n : length (k .before .before .args .self .words) ≡ 16 = search needs in
+    (omega (arith, n), len-says _ (sym (k .before .len-no .ensures) ∙ k .if1 .taken))
+
+returns : tie.Need-returns
+returns c =
+    let k = c .before .before .before in
+    found-is _ _ (k .before .len-no .ensures) (k .if1 .taken) _ _ (c .last-below .ensures)
+
+returns-2 : tie.Need-returns-2
+returns-2 c = found-no _ _ (c .before .len-no .ensures) (c .if1 .left) _
+
+pub prev-unset-before-spec : {M : Type 1} → statement M
+prev-unset-before-spec =
+    tie.close
+    (tie.spec len-no-requires slice-aggregate-last-below last-below-requires returns returns-2)

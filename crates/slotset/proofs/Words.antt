@@ -1,0 +1,119 @@
+-- What one word answers: the first and the last wanted bit by the counts of zeros, ones below a bit, two words merged. Assumes nothing.
+use mathlib.Core.Path.{_≡_, refl, sym, ap, ap₂, _∙_}
+use mathlib.Core.Bool.{Bool, true, false, _&&_, cond}
+use mathlib.Core.Logic.{⊎-elim}
+use Prim.Native.Nat.{ℕ, zero, suc, _+_, _-_, _*_, _/_, _%_, _^_, _≤_, _<_, min, max}
+use native.Mathlib.Nat.{mod-lt, mod-one, one-mul, lt-of-le-of-lt}
+use native.Mathlib.Omega.{arith}
+use borrow.Author.Tests.{lt-ltb, le-ltb, le-leb, lt-leb}
+use lib.Bits.{bitAnd, bitOr, and-mask, and-lt}
+use lib.Count.{ones, ones-cat, trailingZeros, trailing-le}
+use lib.Dec.{lit<, leb, ltb}
+use lib.Pow.{pow-pos, mod-pow-add, shl-exact, shr-le}
+use Rattle.paper.specs.Bits.{bitOf}
+use Rattle.paper.proofs.Bits.{bit-lt, bit-and, bit-or, bit-not, bit-from, bit-before, bit-upto, bit-past, trailing-clear, trailing-set, top-clear}
+use Rattle.paper.proofs.Bits.{length-set-bit}
+use Rattle.paper.proofs.Logic.{lt-or-ge}
+use Rattle.slotset.specs.Words.{Wanted, FirstBit, LastBit, bitsBelow, Merged}
+
+abbrev from-mask : ℕ → ℕ
+from-mask s = (2 ^ 64 - 1) * 2 ^ s % 2 ^ 64
+
+abbrev upto-mask : ℕ → ℕ
+upto-mask s = (2 ^ 64 - 1) / 2 ^ (63 - s)
+
+pub first-law : (v w x s : ℕ) → Wanted v w x → s < 64 → FirstBit v w s (trailingZeros 64 (bitAnd x ((2 ^ 64 - 1) * 2 ^ s % 2 ^ 64)))
+first-law v w x s hw hs =
+    let n = bitAnd x (from-mask s) in
+    let t = trailingZeros 64 n in
+    record {
+      from = ⊎-elim (λ (h : t < s). omega (arith, trailing-set 64 n (omega arith), bit-and x (from-mask s) t, bit-before s t h (omega arith)))
+          (λ (h : s ≤ t). h) (lt-or-ge t s);
+      to = trailing-le 64 n;
+      clear = λ k a b e. omega (
+        arith,
+        trailing-le 64 n,
+        trailing-clear 64 n k b,
+        bit-and x (from-mask s) k,
+        bit-from s k a (omega (arith, trailing-le 64 n)),
+        hw k
+            (omega (arith, trailing-le 64 n)) .1 e,
+      );
+      hit = λ h. hw t h .0 (omega (arith, trailing-set 64 n h, bit-and x (from-mask s) t, bit-lt x t));
+    }
+
+pub last-law : (v w x s r : ℕ) → Wanted v w x → s < 64 → bitAnd x ((2 ^ 64 - 1) / 2 ^ (63 - s)) < 2 ^ r → 2 ^ r ≤ 2 * bitAnd x
+    ((2 ^ 64 - 1) / 2 ^ (63 - s)) + 1 → LastBit v w s r
+last-law v w x s r hw hs lo hi =
+    let n = bitAnd x (upto-mask s) in
+    let short : r ≤ s + 1 =
+    ⊎-elim (λ (h : s + 1 < r). omega
+    (arith, length-set-bit n r (omega arith) lo hi, bit-and x (upto-mask s) (r - 1), bit-past s (r - 1) (omega arith))) (λ (h : r ≤ s + 1). h)
+    (lt-or-ge (s + 1) r) in
+    record {
+      to = short;
+      clear = λ k a b e. omega (arith, top-clear n r k lo a, bit-and x (upto-mask s) k, bit-upto s k hs b, hw k (omega arith) .1 e);
+      hit = λ h. hw (r - 1) (omega arith) .0 (omega (arith, length-set-bit n r h lo hi, bit-and x (upto-mask s) (r - 1), bit-lt x (r - 1)));
+    }
+
+ones-small : (b : ℕ) → b < 2 → ones b ≡ b
+unfolding ones
+ones-small zero h = refl
+ones-small (suc zero) h = refl
+ones-small (suc (suc b)) h = let z : ⊥ = omega arith in absurd z
+
+pub ones-mod : (w k : ℕ) → ones (w % 2 ^ k) ≡ bitsBelow w k
+unfolding bitsBelow bitOf
+ones-mod w zero = ap ones (mod-one w) ∙ ones-small 0 (lit< tt)
+ones-mod w (suc k) =
+    let e : suc k ≡ 1 + k = omega arith in
+    ap (λ (x : ℕ). ones (w % 2 ^ x)) e ∙ ap ones (mod-pow-add w 1 k)
+    ∙ ones-cat k (w / 2 ^ k % 2) (w % 2 ^ k) (mod-lt w (pow-pos k))
+    ∙ ap₂ (λ (x y : ℕ). x + y) (ones-small _ (mod-lt _ (lit< tt))) (ones-mod w k)
+
+pub one-shl : (k : ℕ) → k < 64 → 1 * 2 ^ k % 2 ^ 64 ≡ 2 ^ k
+one-shl k h = shl-exact {a = 1} 1 k 64 (lit< tt) (omega arith) ∙ one-mul (2 ^ k)
+
+pub ones-masked : (w k : ℕ) → k < 64 → ones (bitAnd w (1 * 2 ^ k % 2 ^ 64 - 1)) ≡ bitsBelow w k
+ones-masked w k h = ap (λ (x : ℕ). ones (bitAnd w (x - 1))) (one-shl k h) ∙ ap ones (and-mask w k) ∙ ones-mod w k
+
+pub bits-le : (w k : ℕ) → bitsBelow w k ≤ k
+unfolding bitsBelow
+bits-le w zero = omega arith
+bits-le w (suc k) = omega (arith, bit-lt w k, bits-le w k)
+
+-- the mask of the bits from s up to e
+mask-bit : (s e k : ℕ) → s < e → e ≤ 64 → k < 64
+    → bitOf (bitAnd (from-mask s) ((2 ^ 64 - 1) / 2 ^ (64 - e))) k ≡ cond (leb s k && ltb k e) 1 0
+mask-bit s e k h g l =
+    let d : 64 - e ≡ 63 - (e - 1) = omega arith in
+    let up : bitOf ((2 ^ 64 - 1) / 2 ^ (64 - e)) k ≡ bitOf (upto-mask (e - 1)) k =
+    ap (λ (x : ℕ). bitOf ((2 ^ 64 - 1) / 2 ^ x) k) d in
+    bit-and (from-mask s) ((2 ^ 64 - 1) / 2 ^ (64 - e)) k
+    ∙ ⊎-elim
+    (λ (x : k < s). simp (lt-leb s k x) (omega (arith, bit-before s k x l)))
+    (λ (x : s ≤ k).
+    ⊎-elim
+    (λ (y : k < e).
+    simp (le-leb s k x, lt-ltb k e y)
+    (omega (arith, up, bit-from s k x l, bit-upto (e - 1) k (omega arith) (omega arith))))
+    (λ (y : e ≤ k).
+    simp (le-leb s k x, le-ltb k e y) (omega (arith, up, bit-from s k x l, bit-past (e - 1) k (omega arith))))
+    (lt-or-ge k e))
+    (lt-or-ge k s)
+
+merge-pick : (b : Bool) (x w m : ℕ) → x < 2 → w < 2 → m ≡ cond b 1 0 → max (min w (1 - m)) (min x m) ≡ cond b x w
+merge-pick true x w m hx hw e = omega arith
+merge-pick false x w m hx hw e = omega arith
+
+-- the bits of w outside a mask and those of x inside it
+pub merge-law : (w x s e : ℕ) → s < e → e ≤ 64
+    → let m = bitAnd ((2 ^ 64 - 1) * 2 ^ s % 2 ^ 64) ((2 ^ 64 - 1) / 2 ^ (64 - e)) in
+    Merged w x s e (bitOr (bitAnd w (2 ^ 64 - 1 - m)) (bitAnd x m))
+merge-law w x s e h g k l =
+    let m = bitAnd (from-mask s) ((2 ^ 64 - 1) / 2 ^ (64 - e)) in
+    let small : m < 2 ^ 64 =
+    and-lt 64 (from-mask s) _ (mod-lt ((2 ^ 64 - 1) * 2 ^ s) (pow-pos 64)) (lt-of-le-of-lt (shr-le (2 ^ 64 - 1) (64 - e)) (lit< tt)) in
+    bit-or (bitAnd w (2 ^ 64 - 1 - m)) (bitAnd x m) k
+    ∙ ap₂ (λ (a b : ℕ). max a b) (bit-and w (2 ^ 64 - 1 - m) k ∙ ap (λ (a : ℕ). min (bitOf w k) a) (bit-not 64 m k small l)) (bit-and x m k)
+    ∙ merge-pick (leb s k && ltb k e) (bitOf x k) (bitOf w k) (bitOf m k) (bit-lt x k) (bit-lt w k) (mask-bit s e k h g l)

@@ -1,0 +1,36 @@
+-- `slotset::row::contains` meets its contract. Assumes nothing.
+use borrow.Author.Needs.{needs}
+use mathlib.Core.Path.{sym, _∙_}
+use native.Mathlib.Omega.{arith}
+use Rattle.slotset.proofs.Refusals.{row-says, told-is, told-no}
+use Rattle.slotset.proofs.row.contains.Statement.{statement}
+use Rattle.slotset.proofs.row.contains.Tie as tie
+
+row-no-requires : tie.Need-row-no-requires
+row-no-requires c κs = search needs
+
+mul-has-slot : tie.Need-mul-has-slot
+mul-has-slot c =
+    let r = row-says _ _ _ _ (sym (c .before .row-no .ensures) ∙ c .if1 .taken) in
+    omega (arith, r .few, r .known)
+
+has-slot-requires : tie.Need-has-slot-requires
+has-slot-requires c κs =
+    let r = row-says _ _ _ _ (sym (c .before .row-no .ensures) ∙ c .if1 .taken) in
+    (r .words, r .short)
+
+yes-or-no-requires : tie.Need-yes-or-no-requires
+yes-or-no-requires c κs = search needs
+
+returns : tie.Need-returns
+returns c =
+    let k = c .before .before in
+    c .yes-or-no .ensures ∙ told-is _ _ (k .before .row-no .ensures) (k .if1 .taken) _ _ (c .before .has-slot .ensures)
+
+returns-2 : tie.Need-returns-2
+returns-2 c = told-no _ _ (c .before .row-no .ensures) (c .if1 .left) _
+
+pub contains-spec : {M : Type 1} → statement M
+contains-spec =
+    tie.close
+    (tie.spec row-no-requires mul-has-slot has-slot-requires yes-or-no-requires returns returns-2)

@@ -1,0 +1,42 @@
+-- `slotset::row::is_empty` meets its contract. Assumes nothing.
+use borrow.Author.Needs.{needs}
+use mathlib.Core.Path.{sym, _∙_}
+use native.Mathlib.Omega.{arith}
+use Rattle.slotset.proofs.Refusals.{row-says, told-is, told-no}
+use Rattle.slotset.proofs.row.is_empty.Statement.{statement}
+use Rattle.slotset.proofs.row.is_empty.Tie as tie
+
+row-no-requires : tie.Need-row-no-requires
+row-no-requires c κs = search needs
+
+mul-is-empty-from : tie.Need-mul-is-empty-from
+mul-is-empty-from c =
+    let r = row-says _ _ _ _ (sym (c .before .row-no .ensures) ∙ c .if1 .taken) in
+    omega (arith, r .few, r .known)
+
+is-empty-from-requires : tie.Need-is-empty-from-requires
+is-empty-from-requires c κs =
+    let r = row-says _ _ _ _ (sym (c .before .row-no .ensures) ∙ c .if1 .taken) in
+    (r .words, r .short)
+
+yes-or-no-requires : tie.Need-yes-or-no-requires
+yes-or-no-requires c κs = search needs
+
+returns : tie.Need-returns
+returns c =
+    let k = c .before .before in
+    c .yes-or-no .ensures ∙ told-is _ _ (k .before .row-no .ensures) (k .if1 .taken) _ _ (c .before .is-empty-from .ensures)
+
+returns-2 : tie.Need-returns-2
+returns-2 c = told-no _ _ (c .before .row-no .ensures) (c .if1 .left) _
+
+pub is-empty-spec : {M : Type 1} → statement M
+is-empty-spec =
+    tie.close
+    (tie.spec
+    row-no-requires
+    mul-is-empty-from
+    is-empty-from-requires
+    yes-or-no-requires
+    returns
+    returns-2)

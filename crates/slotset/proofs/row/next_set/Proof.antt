@@ -1,0 +1,30 @@
+-- `slotset::row::next_set` meets its contract. Assumes nothing.
+use borrow.Author.Needs.{needs}
+use mathlib.Core.Path.{sym, _∙_}
+use native.Mathlib.Omega.{arith}
+use Rattle.slotset.proofs.Refusals.{row-says, found-is, found-no}
+use Rattle.slotset.proofs.row.next_set.Statement.{statement}
+use Rattle.slotset.proofs.row.next_set.Tie as tie
+
+row-no-requires : tie.Need-row-no-requires
+row-no-requires c κs = search needs
+
+mul-next-with : tie.Need-mul-next-with
+mul-next-with c =
+    let r = row-says _ _ _ _ (sym (c .before .row-no .ensures) ∙ c .if1 .taken) in
+    omega (arith, r .few, r .known)
+
+next-with-requires : tie.Need-next-with-requires
+next-with-requires c κs =
+    let r = row-says _ _ _ _ (sym (c .before .row-no .ensures) ∙ c .if1 .taken) in
+    (r .words, r .short)
+
+returns : tie.Need-returns
+returns c = found-is _ _ (c .before .before .row-no .ensures) (c .before .if1 .taken) _ _ (c .next-with .ensures)
+
+returns-2 : tie.Need-returns-2
+returns-2 c = found-no _ _ (c .before .row-no .ensures) (c .if1 .left) _
+
+pub next-set-spec : {M : Type 1} → statement M
+next-set-spec =
+    tie.close (tie.spec row-no-requires mul-next-with next-with-requires returns returns-2)

@@ -1,0 +1,55 @@
+-- `slotset::row::put_stretch` meets its contract. Assumes nothing.
+use borrow.Author.Needs.{needs}
+use mathlib.Core.Path.{sym, _∙_}
+use native.Mathlib.Omega.{arith}
+use Rattle.slotset.specs.Answers.{rowStretchOf}
+use Rattle.slotset.proofs.Refusals.{row-says, row-stretch-says, words-is, words-no}
+use Rattle.slotset.proofs.row.put_stretch.Statement.{statement}
+use Rattle.slotset.proofs.row.put_stretch.Tie as tie
+
+row-stretch-no-requires : tie.Need-row-stretch-no-requires
+row-stretch-no-requires c κs = search needs
+
+mul-put-slots : tie.Need-mul-put-slots
+mul-put-slots c =
+    let k = c .before in
+    let r = row-says _ _ _ _ (row-stretch-says _ _ _ _ _ _ (sym (k .before .row-stretch-no .ensures) ∙ k .if1 .taken) .0) in
+    omega (arith, r .few, r .known)
+
+put-slots-requires : tie.Need-put-slots-requires
+put-slots-requires c κs =
+    let k = c .before in
+    let x = row-stretch-says _ _ _ _ _ _ (sym (k .before .row-stretch-no .ensures) ∙ k .if1 .taken) in
+    let r = row-says _ _ _ _ (x .0) in
+    (r .words, λ h. omega (arith, r .short, x .1 h))
+
+same-length : tie.Need-same-length
+same-length c = search needs
+
+returns : tie.Need-returns
+unfolding rowStretchOf
+returns c =
+    let k = c .before .before .before .before in (
+      sym (k .if1 .taken) ∙ k .before .row-stretch-no .ensures,
+      words-is _ _ (k .before .row-stretch-no .ensures) (k .if1 .taken) _ _ _ (c .before .before .put-slots .ensures),
+    )
+
+same-length-2 : tie.Need-same-length-2
+same-length-2 c = search needs
+
+returns-2 : tie.Need-returns-2
+unfolding rowStretchOf
+returns-2 c =
+    (c .before .row-stretch-no .ensures, words-no _ _ (c .before .row-stretch-no .ensures) (c .if1 .left) _ _)
+
+pub put-stretch-spec : {M : Type 1} → statement M
+put-stretch-spec =
+    tie.close
+    (tie.spec
+    row-stretch-no-requires
+    mul-put-slots
+    put-slots-requires
+    same-length
+    returns
+    same-length-2
+    returns-2)

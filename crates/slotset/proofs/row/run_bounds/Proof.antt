@@ -1,0 +1,29 @@
+-- `slotset::row::run_bounds` meets its contract. Assumes nothing.
+use borrow.Author.Needs.{needs}
+use mathlib.Core.Path.{sym, _∙_}
+use native.Mathlib.Omega.{arith}
+use Rattle.slotset.proofs.Refusals.{row-says, run-is, run-no}
+use Rattle.slotset.proofs.row.run_bounds.Statement.{statement}
+use Rattle.slotset.proofs.row.run_bounds.Tie as tie
+
+row-no-requires : tie.Need-row-no-requires
+row-no-requires c κs = search needs
+
+mul-run-of : tie.Need-mul-run-of
+mul-run-of c =
+    let r = row-says _ _ _ _ (sym (c .before .row-no .ensures) ∙ c .if1 .taken) in
+    omega (arith, r .few, r .known)
+
+run-of-requires : tie.Need-run-of-requires
+run-of-requires c κs =
+    let r = row-says _ _ _ _ (sym (c .before .row-no .ensures) ∙ c .if1 .taken) in
+    (r .words, r .short)
+
+returns : tie.Need-returns
+returns c = c .run-of .ensures ∙ run-is _ _ (c .before .before .row-no .ensures) (c .before .if1 .taken) _ _ _
+
+returns-2 : tie.Need-returns-2
+returns-2 c = run-no _ _ (c .before .row-no .ensures) (c .if1 .left) _ _ _
+
+pub run-bounds-spec : {M : Type 1} → statement M
+run-bounds-spec = tie.close (tie.spec row-no-requires mul-run-of run-of-requires returns returns-2)

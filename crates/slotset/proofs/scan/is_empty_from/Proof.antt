@@ -1,0 +1,46 @@
+-- `slotset::scan::is_empty_from` meets its contract. Assumes nothing.
+use borrow.Author.Needs.{needs}
+use mathlib.Core.Path.{_≡_, sym, _∙_, subst}
+use Rattle.slotset.specs.Slots.{slot}
+use Rattle.slotset.specs.Search.{First}
+use Rattle.slotset.proofs.Meaning.{next-is, none-found, one-found}
+use Rattle.slotset.proofs.Puts.{slot-lt}
+use Rattle.slotset.proofs.scan.is_empty_from.Statement.{statement}
+use Rattle.slotset.proofs.scan.is_empty_from.Tie as tie
+
+next-with-requires : tie.Need-next-with-requires
+next-with-requires c κs = search needs
+
+enum-told : tie.Need-enum-told
+enum-told c = search needs
+
+enum-told-2 : tie.Need-enum-told-2
+enum-told-2 c = search needs
+
+enum-told-3 : tie.Need-enum-told-3
+enum-told-3 c = search needs
+
+returns : tie.Need-returns
+returns c =
+    let s = c .before .before .before .before .args in
+    let f = slot (s .words .now) (s .base) in
+    one-found f (s .len) _
+    (subst (First 1 f (s .len) 0) (sym (c .before .before .next-with .ensures) ∙ c .enum-told .given .1) (next-is 1 f (s .len) 0))
+
+returns-2 : tie.Need-returns-2
+returns-2 c =
+    let s = c .before .before .before .before .args in
+    let f = slot (s .words .now) (s .base) in
+    none-found f (s .len) (slot-lt (s .words .now) (s .base))
+    (subst (First 1 f (s .len) 0) (sym (c .before .before .next-with .ensures) ∙ c .enum-told2 .given .1) (next-is 1 f (s .len) 0))
+
+returns-3 : tie.Need-returns-3
+returns-3 c =
+    let s = c .before .before .before .before .args in
+    let f = slot (s .words .now) (s .base) in
+    absurd (subst (First 1 f (s .len) 0) (sym (c .before .before .next-with .ensures) ∙ c .enum-told3 .given .1) (next-is 1 f (s .len) 0))
+
+pub is-empty-from-spec : {M : Type 1} → statement M
+is-empty-from-spec =
+    tie.close
+    (tie.spec next-with-requires enum-told enum-told-2 enum-told-3 returns returns-2 returns-3)

@@ -1,0 +1,31 @@
+-- `slotset::scan::prev_set_from` meets its contract. Assumes nothing.
+use borrow.Author.Needs.{needs}
+use mathlib.Core.Path.{ap, _∙_}
+use native.Mathlib.Numerals.{add-one}
+use native.Mathlib.Omega.{arith}
+use Rattle.slotset.specs.Slots.{slot}
+use Rattle.slotset.specs.Search.{lastBelow}
+use Rattle.slotset.proofs.Meaning.{last-lowered}
+use Rattle.slotset.proofs.scan.prev_set_from.Statement.{statement}
+use Rattle.slotset.proofs.scan.prev_set_from.Tie as tie
+
+add-last-below : tie.Need-add-last-below
+add-last-below c = search needs
+
+last-below-requires : tie.Need-last-below-requires
+last-below-requires c κs = search needs
+
+last-below-requires-2 : tie.Need-last-below-requires-2
+last-below-requires-2 c κs = search needs
+
+returns : tie.Need-returns
+returns c =
+    let s = c .before .before .before .args in
+    c .last-below .ensures ∙ ap (lastBelow 1 (slot (s .words .now) (s .base)) (s .len)) (add-one (s .from))
+
+returns-2 : tie.Need-returns-2
+returns-2 c = c .last-below2 .ensures ∙ last-lowered 1 _ _ _ (omega (arith, c .before .if1 .left))
+
+pub prev-set-from-spec : {M : Type 1} → statement M
+prev-set-from-spec =
+    tie.close (tie.spec add-last-below last-below-requires last-below-requires-2 returns returns-2)

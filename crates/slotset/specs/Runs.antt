@@ -1,0 +1,77 @@
+-- Runs: maximal stretches of set slots, both ends named. Assumes nothing.
+use mathlib.Core.Path.{_≡_}
+use mathlib.Core.Bool.{Bool, cond}
+use mathlib.Core.List.{List, [], _∷_}
+use mathlib.Core.Logic.{_⊎_}
+use Prim.Native.Nat.{ℕ, zero, suc, _+_, _-_, _≤_, _<_}
+use Rattle.slotset.specs.declared.Found.{Found}
+use Rattle.slotset.specs.declared.Found.the-variants.{At, Nothing, Refused}
+use Rattle.slotset.specs.Slots.{has}
+use Rattle.slotset.specs.Search.{nextSet, nextUnsetAfter, prevUnsetBefore}
+
+-- one past the slot found, or 0: where a run starts after the unset slot before it
+abbrev pub startOf : Found → ℕ
+startOf (At k) = k + 1
+startOf Nothing = 0
+startOf (Refused n) = 0
+
+-- one before the slot found, or the last slot: where a run ends before the unset slot after it
+abbrev pub endOf : ℕ → Found → ℕ
+endOf len (At k) = k - 1
+endOf len Nothing = len - 1
+endOf len (Refused n) = 0
+
+-- the ends of the run of a member i
+abbrev pub firstOfRun : (ℕ → ℕ) → ℕ → ℕ → ℕ
+firstOfRun f len i = startOf (prevUnsetBefore f len i)
+
+abbrev pub lastOfRun : (ℕ → ℕ) → ℕ → ℕ → ℕ
+lastOfRun f len i = endOf len (nextUnsetAfter f len i)
+
+-- first to last is the whole run of set slots around i
+pub record RunAround (f : ℕ → ℕ) (len i first last : ℕ) : Type 0 where
+  pub from : first ≤ i
+  pub to : i ≤ last
+  pub fits : last < len
+  pub all : (k : ℕ) → first ≤ k → k ≤ last → f k ≡ 1
+  pub left : 0 < first → f (first - 1) ≡ 0
+  pub right : last + 1 < len → f (last + 1) ≡ 0
+
+-- ---- all runs, as the reader gives them: each from the cursor on, the cursor then one past it
+
+-- a run by its two ends
+pub record Ends : Type 0 where
+  pub first : ℕ
+  pub last : ℕ
+
+-- what follows from the slot found, if one was
+abbrev pub whenFound : Found → (ℕ → List Ends) → List Ends
+whenFound (At i) g = g i
+whenFound Nothing g = []
+whenFound (Refused n) g = []
+
+-- at most n runs from the cursor `at` on
+unfoldable pub runs : ℕ → (ℕ → ℕ) → ℕ → ℕ → List Ends
+runs zero f len at = []
+runs (suc n) f len at =
+    whenFound (nextSet f len at)
+    (λ lo. record { first = lo; last = lastOfRun f len lo } ∷ runs n f len (lastOfRun f len lo + 1))
+
+-- all of them: a set of len slots has at most len runs
+abbrev pub allRuns : (ℕ → ℕ) → ℕ → List Ends
+allRuns f len = runs len f len 0
+
+-- l is the list of runs from `at` on: ascending, apart by at least one unset slot, with every member and nothing else
+abbrev pub AreRuns : (ℕ → ℕ) → ℕ → ℕ → List Ends → Type 0
+AreRuns f len at [] = (k : ℕ) → at ≤ k → k < len → f k ≡ 1 → ⊥
+AreRuns f len at (r ∷ rs) =
+    (at ≤ r .first) × (r .first ≤ r .last) × (r .last < len)
+    × ((k : ℕ) → at ≤ k → k < r .first → f k ≡ 1 → ⊥)
+    × ((k : ℕ) → r .first ≤ k → k ≤ r .last → f k ≡ 1)
+    × (r .last + 1 < len → f (r .last + 1) ≡ 1 → ⊥)
+    × AreRuns f len (r .last + 1) rs
+
+-- k lies in one of the runs of l
+abbrev pub InRuns : ℕ → List Ends → Type 0
+InRuns k [] = ⊥
+InRuns k (r ∷ rs) = ((r .first ≤ k) × (k ≤ r .last)) ⊎ InRuns k rs

@@ -1,0 +1,37 @@
+-- What is asked of one word of a set. Assumes nothing.
+use mathlib.Core.Path.{_≡_}
+use mathlib.Core.Bool.{_&&_, cond}
+use mathlib.Core.Logic.{_↔_}
+use Prim.Native.Nat.{ℕ, zero, suc, _+_, _-_, _≤_, _<_}
+use lib.Dec.{ltb, leb}
+use Rattle.paper.specs.Bits.{bitOf}
+
+-- the bits of r are set where those of w are v
+abbrev pub Wanted : ℕ → ℕ → ℕ → Type 0
+Wanted v w r = (k : ℕ) → k < 64 → (bitOf r k ≡ 1) ↔ (bitOf w k ≡ v)
+
+-- every bit of r is v
+abbrev pub Every : ℕ → ℕ → Type 0
+Every v r = (k : ℕ) → k < 64 → bitOf r k ≡ v
+
+-- r is the first bit of w from s on that is v, or 64
+pub record FirstBit (v w s r : ℕ) : Type 0 where
+  pub from : s ≤ r
+  pub to : r ≤ 64
+  pub clear : (k : ℕ) → s ≤ k → k < r → bitOf w k ≡ v → ⊥
+  pub hit : r < 64 → bitOf w r ≡ v
+
+-- r is one past the last bit of w up to s that is v, or 0
+pub record LastBit (v w s r : ℕ) : Type 0 where
+  pub to : r ≤ s + 1
+  pub clear : (k : ℕ) → r ≤ k → k ≤ s → bitOf w k ≡ v → ⊥
+  pub hit : 0 < r → bitOf w (r - 1) ≡ v
+
+-- how many of the k lowest bits of w are set
+unfoldable pub bitsBelow : ℕ → ℕ → ℕ
+bitsBelow w zero = 0
+bitsBelow w (suc k) = bitOf w k + bitsBelow w k
+
+-- r has the bits of x from s up to e, and those of w elsewhere
+abbrev pub Merged : ℕ → ℕ → ℕ → ℕ → ℕ → Type 0
+Merged w x s e r = (k : ℕ) → k < 64 → bitOf r k ≡ cond (leb s k && ltb k e) (bitOf x k) (bitOf w k)

@@ -1,0 +1,342 @@
+// A set of up to 1,024 slots: slot i is bit i mod 64 of word i div 64. Bits at or past the length are ignored and never written.
+// A set by value is 16 words and a length; a row is one person's 16 words among lent ones (module `row`).
+pub mod row;
+mod scan;
+mod word;
+
+ghost use mathlib.Core.Path.{_≡_};
+ghost use Prim.Native.Nat.{suc};
+ghost use Rattle.slotset.specs.Slots.{has, size, noMember, valueOf};
+ghost use Rattle.slotset.specs.Search.{nextSet, prevSet, nextUnsetAfter, prevUnsetBefore};
+ghost use Rattle.slotset.specs.Answers.{lenNo, slotNo, stretchNo, slotsOf, foundAs, toldAs, countedAs, runAs, nextRunAs, nextMemberAs, newOf, putOf, stretchOf};
+
+// A set: its words, and how many slots it has.
+pub struct SlotSet {
+    pub words: [u64; 16],
+    pub len: usize,
+}
+
+// A set after a change. The number is 0, or that of the refusal, and then the set is as it was.
+pub struct Changed {
+    pub set: SlotSet,
+    pub number: u8,
+}
+
+// A slot that was looked for.
+pub enum Found {
+    At(usize),
+    Nothing,
+    Refused(u8),
+}
+
+// Yes or no.
+pub enum Told {
+    Yes,
+    No,
+    Refused(u8),
+}
+
+// A number of slots.
+pub enum Counted {
+    Is(usize),
+    Refused(u8),
+}
+
+// The run that holds a slot, both ends in it; or Outside, of a slot that is not in the set.
+pub enum Run {
+    Span { first: usize, last: usize },
+    Outside,
+    Refused(u8),
+}
+
+// Where a reader stands.
+pub struct Cursor {
+    pub at: usize,
+}
+
+// The next run, both ends in it, with the cursor one past it; or Done.
+pub enum NextRun {
+    Span {
+        first: usize,
+        last: usize,
+        next: Cursor,
+    },
+    Done,
+    Refused(u8),
+}
+
+// The next member, with the cursor one past it; or Done.
+pub enum NextMember {
+    Slot { at: usize, next: Cursor },
+    Done,
+    Refused(u8),
+}
+
+// Refusal 1 of a set's length, or 0.
+pub(crate) fn len_no(len: usize) -> u8
+    ensures { λ r. ⌜ r ≡ lenNo len ⌝ }
+{
+    if len <= paper::SLOTS_MOST { 0 } else { 1 }
+}
+
+// Refusal 1 of a set's length, 11 of an index, or 0.
+fn slot_no(len: usize, i: usize) -> u8
+    ensures { λ r. ⌜ r ≡ slotNo len i ⌝ }
+{
+    if len <= paper::SLOTS_MOST {
+        if i < len {
+            return 0;
+        }
+        return 11;
+    }
+    1
+}
+
+// Refusal 1 of a set's length, 11 of a stretch, or 0.
+fn stretch_no(len: usize, from: usize, to: usize) -> u8
+    ensures { λ r. ⌜ r ≡ stretchNo len from to ⌝ }
+{
+    if len <= paper::SLOTS_MOST {
+        if to <= from {
+            return 0;
+        }
+        if to <= len {
+            return 0;
+        }
+        return 11;
+    }
+    1
+}
+
+// Yes or no.
+pub(crate) fn yes_or_no(b: bool) -> Told
+    ensures { λ r. ⌜ r ≡ toldAs 0 b ⌝ }
+{
+    if b { Told::Yes } else { Told::No }
+}
+
+impl SlotSet {
+    // The empty set of len slots; refused, the empty set of none.
+    pub fn new(len: usize) -> Changed
+        ensures { λ r. ⌜ r ≡ newOf len ⌝ }
+    {
+        let words = [0u64; 16];
+        let number = len_no(len);
+        if number == 0 {
+            return Changed {
+                set: SlotSet { words, len },
+                number,
+            };
+        }
+        Changed {
+            set: SlotSet { words, len: 0 },
+            number,
+        }
+    }
+
+    // How many slots the set ranges over.
+    pub fn len(self) -> Counted
+        ensures { λ r. ⌜ r ≡ countedAs (lenNo (self .len)) (self .len) ⌝ }
+    {
+        let len = self.len;
+        let number = len_no(len);
+        if number == 0 {
+            return Counted::Is(len);
+        }
+        Counted::Refused(number)
+    }
+
+    // Whether slot i is a member; at or past the length it is not.
+    pub fn contains(self, i: usize) -> Told
+        ensures { λ r. ⌜ r ≡ toldAs (lenNo (self .len)) (has (slotsOf self) (self .len) i) ⌝ }
+    {
+        let len = self.len;
+        let number = len_no(len);
+        if number == 0 {
+            let words = self.words;
+            return yes_or_no(scan::has_slot(&words, 0, len, i));
+        }
+        Told::Refused(number)
+    }
+
+    // The set with slot i.
+    pub fn insert(self, i: usize) -> Changed
+        ensures { λ r. ⌜ r ≡ putOf 1 self i ⌝ }
+    {
+        self.put(i, true)
+    }
+
+    // The set without slot i.
+    pub fn remove(self, i: usize) -> Changed
+        ensures { λ r. ⌜ r ≡ putOf 0 self i ⌝ }
+    {
+        self.put(i, false)
+    }
+
+    // The set with every slot from `from` up to `to`, without `to`.
+    pub fn insert_stretch(self, from: usize, to: usize) -> Changed
+        ensures { λ r. ⌜ r ≡ stretchOf 1 self from to ⌝ }
+    {
+        self.put_stretch(from, to, true)
+    }
+
+    // The set without any slot from `from` up to `to`, without `to`.
+    pub fn remove_stretch(self, from: usize, to: usize) -> Changed
+        ensures { λ r. ⌜ r ≡ stretchOf 0 self from to ⌝ }
+    {
+        self.put_stretch(from, to, false)
+    }
+
+    // The set with slot i as wanted.
+    fn put(self, i: usize, want: bool) -> Changed
+        ensures { λ r. ⌜ r ≡ putOf (valueOf want) self i ⌝ }
+    {
+        let len = self.len;
+        let number = slot_no(len, i);
+        if number == 0 {
+            let mut words = self.words;
+            scan::put_slots(&mut words, 0, want, i, i + 1);
+            return Changed {
+                set: SlotSet { words, len },
+                number,
+            };
+        }
+        Changed { set: self, number }
+    }
+
+    // The set with every slot from `from` up to `to` as wanted.
+    fn put_stretch(self, from: usize, to: usize, want: bool) -> Changed
+        ensures { λ r. ⌜ r ≡ stretchOf (valueOf want) self from to ⌝ }
+    {
+        let len = self.len;
+        let number = stretch_no(len, from, to);
+        if number == 0 {
+            let mut words = self.words;
+            scan::put_slots(&mut words, 0, want, from, to);
+            return Changed {
+                set: SlotSet { words, len },
+                number,
+            };
+        }
+        Changed { set: self, number }
+    }
+
+    // Whether the set has no member.
+    pub fn is_empty(self) -> Told
+        ensures { λ r. ⌜ r ≡ toldAs (lenNo (self .len)) (noMember (slotsOf self) (self .len)) ⌝ }
+    {
+        let len = self.len;
+        let number = len_no(len);
+        if number == 0 {
+            let words = self.words;
+            return yes_or_no(scan::is_empty_from(&words, 0, len));
+        }
+        Told::Refused(number)
+    }
+
+    // How many members the set has.
+    pub fn count(self) -> Counted
+        ensures { λ r. ⌜ r ≡ countedAs (lenNo (self .len)) (size (slotsOf self) (self .len)) ⌝ }
+    {
+        let len = self.len;
+        let number = len_no(len);
+        if number == 0 {
+            let words = self.words;
+            return Counted::Is(scan::count_slots(&words, 0, len));
+        }
+        Counted::Refused(number)
+    }
+
+    // The first member at or after `from`.
+    pub fn next_set(self, from: usize) -> Found
+        ensures { λ r. ⌜ r ≡ foundAs (lenNo (self .len)) (nextSet (slotsOf self) (self .len) from) ⌝ }
+    {
+        let len = self.len;
+        let number = len_no(len);
+        if number == 0 {
+            let words = self.words;
+            return scan::next_with(&words, 0, len, true, from);
+        }
+        Found::Refused(number)
+    }
+
+    // The last member at or before `from`.
+    pub fn prev_set(self, from: usize) -> Found
+        ensures { λ r. ⌜ r ≡ foundAs (lenNo (self .len)) (prevSet (slotsOf self) (self .len) from) ⌝ }
+    {
+        let len = self.len;
+        let number = len_no(len);
+        if number == 0 {
+            let words = self.words;
+            return scan::prev_set_from(&words, 0, len, from);
+        }
+        Found::Refused(number)
+    }
+
+    // The first slot after `from`, below the length, that is no member.
+    pub fn next_unset_after(self, from: usize) -> Found
+        ensures { λ r. ⌜ r ≡ foundAs (lenNo (self .len)) (nextUnsetAfter (slotsOf self) (self .len) from) ⌝ }
+    {
+        let len = self.len;
+        let number = len_no(len);
+        if number == 0 {
+            let words = self.words;
+            return scan::next_unset_from(&words, 0, len, from);
+        }
+        Found::Refused(number)
+    }
+
+    // The last slot before `from`, below the length, that is no member.
+    pub fn prev_unset_before(self, from: usize) -> Found
+        ensures { λ r. ⌜ r ≡ foundAs (lenNo (self .len)) (prevUnsetBefore (slotsOf self) (self .len) from) ⌝ }
+    {
+        let len = self.len;
+        let number = len_no(len);
+        if number == 0 {
+            let words = self.words;
+            return scan::last_below(&words, 0, len, false, from);
+        }
+        Found::Refused(number)
+    }
+
+    // The run that holds slot i.
+    pub fn run_bounds(self, i: usize) -> Run
+        ensures { λ r. ⌜ r ≡ runAs (lenNo (self .len)) (slotsOf self) (self .len) i ⌝ }
+    {
+        let len = self.len;
+        let number = len_no(len);
+        if number == 0 {
+            let words = self.words;
+            return scan::run_of(&words, 0, len, i);
+        }
+        Run::Refused(number)
+    }
+
+    // The reader of runs: the next one from the cursor on.
+    pub fn next_run(self, c: Cursor) -> NextRun
+        ensures { λ r. ⌜ r ≡ nextRunAs (lenNo (self .len)) (slotsOf self) (self .len) (c .at) ⌝ }
+    {
+        let len = self.len;
+        let at = c.at;
+        let number = len_no(len);
+        if number == 0 {
+            let words = self.words;
+            return scan::next_run_from(&words, 0, len, at);
+        }
+        NextRun::Refused(number)
+    }
+
+    // The reader of single members: the next one from the cursor on.
+    pub fn next_member(self, c: Cursor) -> NextMember
+        ensures { λ r. ⌜ r ≡ nextMemberAs (lenNo (self .len)) (slotsOf self) (self .len) (c .at) ⌝ }
+    {
+        let len = self.len;
+        let at = c.at;
+        let number = len_no(len);
+        if number == 0 {
+            let words = self.words;
+            return scan::next_member_from(&words, 0, len, at);
+        }
+        NextMember::Refused(number)
+    }
+}

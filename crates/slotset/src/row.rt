@@ -1,0 +1,255 @@
+// A person's row: the 16 words of one set among lent ones, a set a person, in person order. Nothing is copied to answer a question.
+use crate::Changed;
+use crate::Counted;
+use crate::Cursor;
+use crate::Found;
+use crate::NextMember;
+use crate::NextRun;
+use crate::Run;
+use crate::SlotSet;
+use crate::Told;
+use crate::scan;
+ghost use mathlib.Core.Path.{_≡_};
+ghost use Prim.Native.Nat.{_+_, _*_, _≤_};
+ghost use lib.ListN.{length, take, drop};
+ghost use Rattle.slotset.specs.Slots.{has, size, noMember, valueOf};
+ghost use Rattle.slotset.specs.Search.{nextSet, prevSet, nextUnsetAfter, prevUnsetBefore};
+ghost use Rattle.slotset.specs.Answers.{rowNo, rowStretchNo, rowSlots, foundAs, toldAs, countedAs, runAs, nextRunAs, nextMemberAs, loadOf, storeOf, rowStretchOf};
+
+// Refusals 1, 2 and 11 of a row, or 0.
+fn row_no(words: &[u64], people: usize, person: usize, len: usize) -> u8
+    ensures { λ r. ⌜ r ≡ rowNo (now (words .entry)) people person len ⌝ }
+{
+    if paper::people_ok(people) {
+        if len <= paper::SLOTS_MOST {
+            if words.len() < paper::SET_WORDS * people {
+                return 2;
+            }
+            if person < people {
+                return 0;
+            }
+            return 11;
+        }
+        return 1;
+    }
+    1
+}
+
+// Refusals 1, 2 and 11 of a row, 11 of a stretch, or 0.
+fn row_stretch_no(
+    words: &[u64],
+    people: usize,
+    person: usize,
+    len: usize,
+    from: usize,
+    to: usize,
+) -> u8
+    ensures { λ r. ⌜ r ≡ rowStretchNo (now (words .entry)) people person len from to ⌝ }
+{
+    let number = row_no(words, people, person, len);
+    if number == 0 {
+        if to <= from {
+            return 0;
+        }
+        if to <= len {
+            return 0;
+        }
+        return 11;
+    }
+    number
+}
+
+// Whether slot i is a member; at or past the length it is not.
+pub fn contains(words: &[u64], people: usize, person: usize, len: usize, i: usize) -> Told
+    ensures { λ r. ⌜ r ≡ toldAs (rowNo (now (words .entry)) people person len) (has (rowSlots (now (words .entry)) person) len i) ⌝ }
+{
+    let number = row_no(words, people, person, len);
+    if number == 0 {
+        return crate::yes_or_no(scan::has_slot(words, 16 * person, len, i));
+    }
+    Told::Refused(number)
+}
+
+// Whether the row has no member.
+pub fn is_empty(words: &[u64], people: usize, person: usize, len: usize) -> Told
+    ensures { λ r. ⌜ r ≡ toldAs (rowNo (now (words .entry)) people person len) (noMember (rowSlots (now (words .entry)) person) len) ⌝ }
+{
+    let number = row_no(words, people, person, len);
+    if number == 0 {
+        return crate::yes_or_no(scan::is_empty_from(words, 16 * person, len));
+    }
+    Told::Refused(number)
+}
+
+// How many members the row has.
+pub fn count(words: &[u64], people: usize, person: usize, len: usize) -> Counted
+    ensures { λ r. ⌜ r ≡ countedAs (rowNo (now (words .entry)) people person len) (size (rowSlots (now (words .entry)) person) len) ⌝ }
+{
+    let number = row_no(words, people, person, len);
+    if number == 0 {
+        return Counted::Is(scan::count_slots(words, 16 * person, len));
+    }
+    Counted::Refused(number)
+}
+
+// The first member at or after `from`.
+pub fn next_set(words: &[u64], people: usize, person: usize, len: usize, from: usize) -> Found
+    ensures { λ r. ⌜ r ≡ foundAs (rowNo (now (words .entry)) people person len) (nextSet (rowSlots (now (words .entry)) person) len from) ⌝ }
+{
+    let number = row_no(words, people, person, len);
+    if number == 0 {
+        return scan::next_with(words, 16 * person, len, true, from);
+    }
+    Found::Refused(number)
+}
+
+// The last member at or before `from`.
+pub fn prev_set(words: &[u64], people: usize, person: usize, len: usize, from: usize) -> Found
+    ensures { λ r. ⌜ r ≡ foundAs (rowNo (now (words .entry)) people person len) (prevSet (rowSlots (now (words .entry)) person) len from) ⌝ }
+{
+    let number = row_no(words, people, person, len);
+    if number == 0 {
+        return scan::prev_set_from(words, 16 * person, len, from);
+    }
+    Found::Refused(number)
+}
+
+// The first slot after `from`, below the length, that is no member.
+pub fn next_unset_after(
+    words: &[u64],
+    people: usize,
+    person: usize,
+    len: usize,
+    from: usize,
+) -> Found
+    ensures { λ r. ⌜ r ≡ foundAs (rowNo (now (words .entry)) people person len) (nextUnsetAfter (rowSlots (now (words .entry)) person) len from) ⌝ }
+{
+    let number = row_no(words, people, person, len);
+    if number == 0 {
+        return scan::next_unset_from(words, 16 * person, len, from);
+    }
+    Found::Refused(number)
+}
+
+// The last slot before `from`, below the length, that is no member.
+pub fn prev_unset_before(
+    words: &[u64],
+    people: usize,
+    person: usize,
+    len: usize,
+    from: usize,
+) -> Found
+    ensures { λ r. ⌜ r ≡ foundAs (rowNo (now (words .entry)) people person len) (prevUnsetBefore (rowSlots (now (words .entry)) person) len from) ⌝ }
+{
+    let number = row_no(words, people, person, len);
+    if number == 0 {
+        return scan::last_below(words, 16 * person, len, false, from);
+    }
+    Found::Refused(number)
+}
+
+// The run that holds slot i.
+pub fn run_bounds(words: &[u64], people: usize, person: usize, len: usize, i: usize) -> Run
+    ensures { λ r. ⌜ r ≡ runAs (rowNo (now (words .entry)) people person len) (rowSlots (now (words .entry)) person) len i ⌝ }
+{
+    let number = row_no(words, people, person, len);
+    if number == 0 {
+        return scan::run_of(words, 16 * person, len, i);
+    }
+    Run::Refused(number)
+}
+
+// The reader of runs: the next one from the cursor on.
+pub fn next_run(words: &[u64], people: usize, person: usize, len: usize, c: Cursor) -> NextRun
+    ensures { λ r. ⌜ r ≡ nextRunAs (rowNo (now (words .entry)) people person len) (rowSlots (now (words .entry)) person) len (c .at) ⌝ }
+{
+    let at = c.at;
+    let number = row_no(words, people, person, len);
+    if number == 0 {
+        return scan::next_run_from(words, 16 * person, len, at);
+    }
+    NextRun::Refused(number)
+}
+
+// The reader of single members: the next one from the cursor on.
+pub fn next_member(words: &[u64], people: usize, person: usize, len: usize, c: Cursor) -> NextMember
+    ensures { λ r. ⌜ r ≡ nextMemberAs (rowNo (now (words .entry)) people person len) (rowSlots (now (words .entry)) person) len (c .at) ⌝ }
+{
+    let at = c.at;
+    let number = row_no(words, people, person, len);
+    if number == 0 {
+        return scan::next_member_from(words, 16 * person, len, at);
+    }
+    NextMember::Refused(number)
+}
+
+// Every slot of the row from `from` up to `to`, without `to`, becomes as wanted.
+pub fn put_stretch(
+    words: &mut [u64],
+    people: usize,
+    person: usize,
+    len: usize,
+    from: usize,
+    to: usize,
+    want: bool,
+) -> u8
+    ensures { λ r. ⌜ (r ≡ rowStretchNo (now (words .entry)) people person len from to)
+        × (now (words .exit) ≡ rowStretchOf (valueOf want) (now (words .entry)) people person len from to) ⌝ }
+{
+    let number = row_stretch_no(words, people, person, len, from, to);
+    if number == 0 {
+        scan::put_slots(words, 16 * person, want, from, to);
+        return 0;
+    }
+    number
+}
+
+// The sixteen words from word `base` on.
+fn words_at(words: &[u64], base: usize) -> [u64; 16]
+    requires { ⌜ base + 16 ≤ length (now words) ⌝ }
+    ensures { λ r. ⌜ r ≡ take 16 (drop base (now (words .entry))) ⌝ }
+{
+    let mut out = [0u64; 16];
+    let mut j = 0;
+    while j < 16 {
+        out[j] = words[base + j];
+        j += 1;
+    }
+    out
+}
+
+// The row as a set by value; refused, the empty set of no slots.
+pub fn load(words: &[u64], people: usize, person: usize, len: usize) -> Changed
+    ensures { λ r. ⌜ r ≡ loadOf (now (words .entry)) people person len ⌝ }
+{
+    let number = row_no(words, people, person, len);
+    if number == 0 {
+        let read = words_at(words, 16 * person);
+        return Changed {
+            set: SlotSet { words: read, len },
+            number,
+        };
+    }
+    let none = [0u64; 16];
+    Changed {
+        set: SlotSet {
+            words: none,
+            len: 0,
+        },
+        number,
+    }
+}
+
+// The slots of a set below its length go into the row; the bits past them stay.
+pub fn store(set: SlotSet, words: &mut [u64], people: usize, person: usize) -> u8
+    ensures { λ r. ⌜ (r ≡ rowNo (now (words .entry)) people person (set .len)) × (now (words .exit) ≡ storeOf set (now (words .entry)) people person) ⌝ }
+{
+    let len = set.len;
+    let number = row_no(words, people, person, len);
+    if number == 0 {
+        let read = set.words;
+        scan::copy_slots(&read, len, words, 16 * person);
+        return 0;
+    }
+    number
+}

@@ -1,0 +1,234 @@
+// The scans over a set's words where they stand: in a slice, from word `base` on. Sets by value and rows both ask here.
+use crate::Cursor;
+use crate::Found;
+use crate::NextMember;
+use crate::NextRun;
+use crate::Run;
+use crate::word;
+ghost use mathlib.Core.Path.{_≡_};
+ghost use Prim.Native.Nat.{_+_, _-_, _≤_, _<_, min};
+ghost use lib.ListN.{length};
+ghost use Rattle.slotset.specs.Slots.{slot, valueOf, has, size, noMember, putSlots};
+ghost use Rattle.slotset.specs.Search.{nextWith, lastBelow, prevSet, nextUnsetAfter, Below, Above};
+ghost use Rattle.slotset.specs.Runs.{startOf, endOf};
+ghost use Rattle.slotset.specs.Answers.{runAs, nextRunAs, nextMemberAs, memberStep};
+
+// The lesser of two numbers.
+pub(crate) fn least(a: usize, b: usize) -> usize
+    ensures { λ r. ⌜ r ≡ min a b ⌝ }
+{
+    if a < b { a } else { b }
+}
+
+// Whether slot i is in the set.
+pub(crate) fn has_slot(words: &[u64], base: usize, len: usize, i: usize) -> bool
+    requires { ⌜ (base + 16 ≤ length (now words)) × (len ≤ 1024) ⌝ }
+    ensures { λ r. ⌜ r ≡ has (slot (now (words .entry)) base) len i ⌝ }
+{
+    if i < len {
+        word::bit(words[base + i / 64], i % 64)
+    } else {
+        false
+    }
+}
+
+// The first slot at or after `from` that is as wanted.
+pub(crate) fn next_with(words: &[u64], base: usize, len: usize, want: bool, from: usize) -> Found
+    requires { ⌜ (base + 16 ≤ length (now words)) × (len ≤ 1024) ⌝ }
+    ensures { λ r. ⌜ r ≡ nextWith (valueOf want) (slot (now (words .entry)) base) len from ⌝ }
+{
+    let mut at = from;
+    while at < len {
+        let j = at / 64;
+        let k = word::first_bit(words[base + j], want, at % 64);
+        let hit = j * 64 + k;
+        if k < 64 {
+            if hit < len {
+                return Found::At(hit);
+            }
+            return Found::Nothing;
+        }
+        at = hit;
+    }
+    Found::Nothing
+}
+
+// The last slot below `before` that is as wanted.
+pub(crate) fn last_below(words: &[u64], base: usize, len: usize, want: bool, before: usize) -> Found
+    requires { ⌜ (base + 16 ≤ length (now words)) × (len ≤ 1024) ⌝ }
+    ensures { λ r. ⌜ r ≡ lastBelow (valueOf want) (slot (now (words .entry)) base) len before ⌝ }
+{
+    let mut end = least(before, len);
+    while 0 < end {
+        let last = end - 1;
+        let j = last / 64;
+        let k = word::last_bit(words[base + j], want, last % 64);
+        if 0 < k {
+            return Found::At(j * 64 + k - 1);
+        }
+        end = j * 64;
+    }
+    Found::Nothing
+}
+
+// How many slots the set has.
+pub(crate) fn count_slots(words: &[u64], base: usize, len: usize) -> usize
+    requires { ⌜ (base + 16 ≤ length (now words)) × (len ≤ 1024) ⌝ }
+    ensures { λ r. ⌜ r ≡ size (slot (now (words .entry)) base) len ⌝ }
+{
+    let mut n = 0;
+    let mut at = 0;
+    while at < len {
+        let k = least(64, len - at);
+        n += word::ones_below(words[base + at / 64], k);
+        at += k;
+    }
+    n
+}
+
+// Each slot from `from` up to `to` becomes as wanted.
+pub(crate) fn put_slots(words: &mut [u64], base: usize, want: bool, from: usize, to: usize)
+    requires { ⌜ (base + 16 ≤ length (now words)) × (from < to → to ≤ 1024) ⌝ }
+    ensures { λ _. ⌜ now (words .exit) ≡ putSlots (λ _. valueOf want) base from (to - from) (now (words .entry)) ⌝ }
+{
+    let x = word::every(want);
+    let mut at = from;
+    while at < to {
+        let j = at / 64;
+        let e = least(64, to - j * 64);
+        words[base + j] = word::merge(words[base + j], x, at % 64, e);
+        at = j * 64 + e;
+    }
+}
+
+// The slots of src below len go to the words from `base` on; the bits past them stay.
+pub(crate) fn copy_slots(src: &[u64], len: usize, words: &mut [u64], base: usize)
+    requires { ⌜ (base + 16 ≤ length (now words)) × (len ≤ 1024) × (length (now src) ≡ 16) ⌝ }
+    ensures { λ _. ⌜ now (words .exit) ≡ putSlots (slot (now (src .entry)) 0) base 0 len (now (words .entry)) ⌝ }
+{
+    let mut at = 0;
+    while at < len {
+        let j = at / 64;
+        let e = least(64, len - j * 64);
+        words[base + j] = word::merge(words[base + j], src[j], at % 64, e);
+        at = j * 64 + e;
+    }
+}
+
+// One past the slot found, or 0.
+fn start_of(f: Found) -> usize
+    requires { ⌜ startOf f ≤ 1024 ⌝ }
+    ensures { λ r. ⌜ r ≡ startOf f ⌝ }
+{
+    match f {
+        Found::At(k) => k + 1,
+        Found::Nothing => 0,
+        Found::Refused(_) => 0,
+    }
+}
+
+// One before the slot found, or the last slot.
+fn end_of(f: Found, len: usize) -> usize
+    requires { ⌜ (0 < len) × (Above 0 f) ⌝ }
+    ensures { λ r. ⌜ r ≡ endOf len f ⌝ }
+{
+    match f {
+        Found::At(k) => k - 1,
+        Found::Nothing => len - 1,
+        Found::Refused(_) => 0,
+    }
+}
+
+// The run that holds slot i.
+pub(crate) fn run_of(words: &[u64], base: usize, len: usize, i: usize) -> Run
+    requires { ⌜ (base + 16 ≤ length (now words)) × (len ≤ 1024) ⌝ }
+    ensures { λ r. ⌜ r ≡ runAs 0 (slot (now (words .entry)) base) len i ⌝ }
+{
+    if has_slot(words, base, len, i) {
+        let first = start_of(last_below(words, base, len, false, i));
+        let last = end_of(next_with(words, base, len, false, i + 1), len);
+        Run::Span { first, last }
+    } else {
+        Run::Outside
+    }
+}
+
+// The run that starts at the first member from `at` on, and the cursor one past it.
+pub(crate) fn next_run_from(words: &[u64], base: usize, len: usize, at: usize) -> NextRun
+    requires { ⌜ (base + 16 ≤ length (now words)) × (len ≤ 1024) ⌝ }
+    ensures { λ r. ⌜ r ≡ nextRunAs 0 (slot (now (words .entry)) base) len at ⌝ }
+{
+    let found = next_with(words, base, len, true, at);
+    match found {
+        Found::At(first) => {
+            let last = end_of(next_with(words, base, len, false, first + 1), len);
+            NextRun::Span {
+                first,
+                last,
+                next: Cursor { at: last + 1 },
+            }
+        }
+        Found::Nothing => NextRun::Done,
+        Found::Refused(n) => NextRun::Refused(n),
+    }
+}
+
+// Whether the set has no member.
+pub(crate) fn is_empty_from(words: &[u64], base: usize, len: usize) -> bool
+    requires { ⌜ (base + 16 ≤ length (now words)) × (len ≤ 1024) ⌝ }
+    ensures { λ r. ⌜ r ≡ noMember (slot (now (words .entry)) base) len ⌝ }
+{
+    let found = next_with(words, base, len, true, 0);
+    match found {
+        Found::At(_) => false,
+        Found::Nothing => true,
+        Found::Refused(_) => false,
+    }
+}
+
+// The last member at or before `from`; a start past the end is lowered to the last slot.
+pub(crate) fn prev_set_from(words: &[u64], base: usize, len: usize, from: usize) -> Found
+    requires { ⌜ (base + 16 ≤ length (now words)) × (len ≤ 1024) ⌝ }
+    ensures { λ r. ⌜ r ≡ prevSet (slot (now (words .entry)) base) len from ⌝ }
+{
+    if from < len {
+        last_below(words, base, len, true, from + 1)
+    } else {
+        last_below(words, base, len, true, len)
+    }
+}
+
+// The first slot after `from` that is no member.
+pub(crate) fn next_unset_from(words: &[u64], base: usize, len: usize, from: usize) -> Found
+    requires { ⌜ (base + 16 ≤ length (now words)) × (len ≤ 1024) ⌝ }
+    ensures { λ r. ⌜ r ≡ nextUnsetAfter (slot (now (words .entry)) base) len from ⌝ }
+{
+    if from < len {
+        next_with(words, base, len, false, from + 1)
+    } else {
+        Found::Nothing
+    }
+}
+
+// The next member from what was found.
+fn member_of(f: Found) -> NextMember
+    requires { ⌜ Below 1024 f ⌝ }
+    ensures { λ r. ⌜ r ≡ memberStep f ⌝ }
+{
+    match f {
+        Found::At(i) => NextMember::Slot {
+            at: i,
+            next: Cursor { at: i + 1 },
+        },
+        Found::Nothing => NextMember::Done,
+        Found::Refused(n) => NextMember::Refused(n),
+    }
+}
+
+// The next member from `at` on, and the cursor one past it.
+pub(crate) fn next_member_from(words: &[u64], base: usize, len: usize, at: usize) -> NextMember
+    requires { ⌜ (base + 16 ≤ length (now words)) × (len ≤ 1024) ⌝ }
+    ensures { λ r. ⌜ r ≡ nextMemberAs 0 (slot (now (words .entry)) base) len at ⌝ }
+{
+    member_of(next_with(words, base, len, true, at))
+}
