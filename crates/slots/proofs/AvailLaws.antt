@@ -1,0 +1,331 @@
+-- A slot is available exactly where one merged range holds it whole; and the sets, row by row. Assumes nothing.
+use mathlib.Core.Path.{_≡_, refl, sym, ap, _∙_}
+use mathlib.Core.Bool.{Bool, true, false, _&&_, _||_}
+use mathlib.Core.Logic.{⊎-elim}
+use mathlib.Core.List.{List, [], _∷_}
+use Prim.Native.Nat.{ℕ, zero, suc, _+_, _-_, _*_, _≤_, _<_}
+use native.Mathlib.Nat.{not-suc-le-zero}
+use native.Mathlib.Numerals.{add-one}
+use native.Mathlib.Omega.{arith}
+use borrow.Author.Tests.{leb-true, le-leb, lt-ltb, eq-eqb, ne-eqb}
+use lib.Dec.{leb, eqb}
+use lib.ListN.{length, getD, take}
+use lib.Seq.{getD-take, length-take-le}
+use Rattle.paper.specs.Limits.{peopleOk, slotCountOk}
+use Rattle.paper.specs.Count.{allIn}
+use Rattle.paper.proofs.Logic.{lt-or-ge, both, three, and-true, or-left, same-test, cond-zero, people-says, slot-count-says}
+use Rattle.paper.proofs.Count.{in-each, each-in}
+use Rattle.slotset.specs.Slots.{putSlot, putSlots, valueOf}
+use Rattle.slotset.specs.Answers.{rowNo, rowStretchNo, rowStretchOf, wordsAs}
+use Rattle.slotset.proofs.Puts.{length-puts, puts-one, puts-same}
+use Rattle.slots.specs.Lent.{slotRoomOk, slotsOk, SlotsSound}
+use Rattle.slots.specs.Ranges.{anyOf, Ranges, rangeCountOk, rangeRoomOk, rangesOk, RangesSound, inRanges, available}
+use Rattle.slots.specs.Ranges.{opens, closes, mergedOf, Spaced}
+use Rattle.slots.specs.Walk.{MergedFrom}
+use Rattle.slots.specs.Freeze.{Opening}
+use Rattle.slots.specs.Atomic.{countsOk}
+use Rattle.slots.specs.Availability.{availableBit, rows, availabilityRoomOk, availabilityNo, availabilityOf, spans, heldBit}
+use Rattle.slots.proofs.Keys.{inLine, in-line, line-in}
+use Rattle.slots.proofs.LentLaws.{slots-sound}
+use Rattle.slots.proofs.Merging.{or-either, or-second, before-none, any-minutes}
+use Rattle.slots.proofs.RangeLaws.{ranges-sound, merged-is}
+use Rattle.slots.proofs.MergedLaws.{any-at}
+
+-- ---- spaced lists, place by place
+
+module _ (a b x : ℕ) where
+  pub spans-says : spans a b x ≡ true → (opens x ≤ a) × (b ≤ closes x)
+  unfolding spans
+  spans-says e = let w = both (leb (opens x) a) (leb b (closes x)) e in (leb-true _ _ (w .0), leb-true _ _ (w .1))
+
+  pub says-spans : opens x ≤ a → b ≤ closes x → spans a b x ≡ true
+  unfolding spans
+  says-spans p q = and-true _ _ (le-leb _ _ p) (le-leb _ _ q)
+
+-- a range that holds all places holds each
+held-all : (a b : ℕ) (l : List ℕ) → anyOf (spans a b) l ≡ true → (q : ℕ) → a ≤ q → q < b → anyOf (inLine q) l ≡ true
+unfolding anyOf
+held-all a b [] e q h g = e
+held-all a b (x ∷ l) e q h g =
+    ⊎-elim
+    (λ i. let w = spans-says a b x i in or-left (inLine q x) _ (line-in q x (omega arith) (omega arith)))
+    (λ i. or-second (inLine q x) _ (held-all a b l i q h g))
+    (or-either (spans a b x) (anyOf (spans a b) l) e)
+
+-- where each place is held, one range holds all of them: there is a gap after each
+all-held : (from a b : ℕ) (l : List ℕ) → Spaced from l → a < b → ((q : ℕ) → a ≤ q → q < b → anyOf (inLine q) l ≡ true)
+    → anyOf (spans a b) l ≡ true
+unfolding anyOf
+all-held from a b [] s h f = f a (omega arith) h
+all-held from a b (x ∷ l) s h f =
+    ⊎-elim
+    (λ (g : a < closes x).
+    let o : opens x ≤ a =
+    ⊎-elim (λ i. in-line a x i .0) (λ i. absurd (before-none (suc (closes x)) a l (s .2) (omega arith) i))
+    (or-either (inLine a x) (anyOf (inLine a) l) (f a (omega arith) h)) in
+    let c : b ≤ closes x =
+    ⊎-elim
+    (λ (k : closes x < b).
+    ⊎-elim (λ i. absurd (omega (arith, in-line (closes x) x i .1)))
+    (λ i. absurd (before-none (suc (closes x)) (closes x) l (s .2) (omega arith) i))
+    (or-either (inLine (closes x) x) (anyOf (inLine (closes x)) l) (f (closes x) (omega arith) k)))
+    (λ k. k) (lt-or-ge (closes x) b) in
+    or-left (spans a b x) _ (says-spans a b x o c))
+    (λ (g : closes x ≤ a).
+    or-second (spans a b x) _
+    (all-held (suc (closes x)) a b l (s .2) h
+    (λ q p r. ⊎-elim (λ i. absurd (omega (arith, in-line q x i .1))) (λ i. i) (or-either (inLine q x) (anyOf (inLine q) l) (f q p r)))))
+    (lt-or-ge a (closes x))
+
+-- available, over minutes, exactly where one merged range holds the whole slot
+pub held-available : (R : Ranges) → RangesSound R → (p s e : ℕ) → s < e → e ≤ 100000000
+    → anyOf (spans (p * 268435456 + s) (p * 268435456 + e)) (mergedOf R) ≡ available R p s e
+unfolding available
+held-available R S p s e h g =
+    let M = merged-is R S in
+    let l = mergedOf R in
+    same-test (anyOf (spans (p * 268435456 + s) (p * 268435456 + e)) l) (allIn s e (inRanges R p))
+    (λ t. each-in s e (inRanges R p)
+    (λ k a b.
+    sym (M .minutes p k) ∙ any-minutes p k l (omega arith)
+    ∙ held-all (p * 268435456 + s) (p * 268435456 + e) l t (p * 268435456 + k) (omega arith) (omega arith)))
+    (λ t. all-held 0 (p * 268435456 + s) (p * 268435456 + e) l (M .spaced) (omega arith)
+    (λ q a b.
+    let k = q - p * 268435456 in
+    let m : p * 268435456 + k ≡ q = omega arith in
+    ap (λ (x : ℕ). anyOf (inLine x) l) (sym m) ∙ sym (any-minutes p k l (omega arith)) ∙ M .minutes p k
+    ∙ in-each s e (inRanges R p) t k (omega arith) (omega arith)))
+
+-- ---- the one candidate
+
+spaced-after : (from : ℕ) (l : List ℕ) → Spaced from l → (k : ℕ) → k < length l → from ≤ opens (getD l k 0)
+spaced-after from [] s k h = absurd (not-suc-le-zero h)
+spaced-after from (x ∷ l) s zero h = s .0
+spaced-after from (x ∷ l) s (suc k) h = omega (arith, spaced-after (suc (closes x)) l (s .2) k (omega arith), s .0, s .1)
+
+spaced-order : (from : ℕ) (l : List ℕ) → Spaced from l → (k j : ℕ) → k < j → j < length l
+    → (opens (getD l k 0) < closes (getD l k 0)) × (closes (getD l k 0) < opens (getD l j 0))
+spaced-order from [] s k j h g = absurd (not-suc-le-zero g)
+spaced-order from (x ∷ l) s zero zero h g = absurd (omega arith)
+spaced-order from (x ∷ l) s zero (suc j) h g = (s .1, spaced-after (suc (closes x)) l (s .2) j (omega arith))
+spaced-order from (x ∷ l) s (suc k) zero h g = absurd (omega arith)
+spaced-order from (x ∷ l) s (suc k) (suc j) h g = spaced-order (suc (closes x)) l (s .2) k j (omega arith) (omega arith)
+
+-- an entry that passes
+pub some-by : (p : ℕ → Bool) (l : List ℕ) (X : Type 0) → anyOf p l ≡ true → ((k : ℕ) → k < length l → p (getD l k 0) ≡ true → X) → X
+unfolding anyOf
+some-by p [] X e f = absurd (mathlib.Core.Bool.false≢true e)
+some-by p (x ∷ l) X e f =
+    ⊎-elim (λ t. f zero (omega arith) t) (λ t. some-by p l X t (λ k h u. f (suc k) (omega arith) u)) (or-either (p x) (anyOf p l) e)
+
+module _ (keys : List ℕ) (n a b : ℕ) (fits : n ≤ length keys) (s : Spaced 0 (take n keys)) where
+  at-front : (k : ℕ) → k < n → getD (take n keys) k 0 ≡ getD keys k 0
+  at-front k h = getD-take n keys k 0 h
+
+  front-size : length (take n keys) ≡ n
+  front-size = length-take-le n keys fits
+
+  -- the places where merged ranges open rise
+  pub opens-rise : (k j : ℕ) → k < j → j < n → opens (getD keys k 0) ≤ opens (getD keys j 0)
+  opens-rise k j h g =
+      let w = spaced-order 0 (take n keys) s k j h (omega (arith, front-size)) in
+      omega (arith, w .0, w .1, ap opens (at-front k (omega arith)), ap opens (at-front j g))
+
+  module _ (r : ℕ) (O : Opening n (λ k. opens (getD keys k 0)) a r) (order : a ≤ b) where
+    -- none opens early enough
+    pub covered-none : r ≤ 0 → false ≡ anyOf (spans a b) (take n keys)
+    covered-none z =
+        same-test false (anyOf (spans a b) (take n keys)) (λ e. absurd (mathlib.Core.Bool.false≢true e))
+        (λ e. absurd (some-by (spans a b) (take n keys) ⊥ e
+        (λ k h t.
+        let w = spans-says a b (getD (take n keys) k 0) t in
+        omega (arith, w .0, ap opens (at-front k (omega (arith, front-size))), O .after k (omega arith) (omega (arith, front-size))))))
+
+    -- the last that opens early enough holds them all, or none does
+    pub covered-last : 0 < r → (c : ℕ) → c ≡ closes (getD keys (r - 1) 0) → leb b c ≡ anyOf (spans a b) (take n keys)
+    covered-last z c e =
+        let x = getD keys (r - 1) 0 in
+        let few : r ≤ n = O .few in
+        let q = at-front (r - 1) (omega arith) in
+        same-test (leb b c) (anyOf (spans a b) (take n keys))
+        (λ t. any-at (spans a b) (take n keys) (r - 1) (omega (arith, front-size))
+        (says-spans a b (getD (take n keys) (r - 1) 0)
+        (omega (arith, O .by (r - 1) (omega arith), ap opens q)) (omega (arith, leb-true b c t, ap closes q))))
+        (λ t. some-by (spans a b) (take n keys) _ t
+        (λ k h u.
+        let w = spans-says a b (getD (take n keys) k 0) u in
+        let early : k < r =
+        ⊎-elim (λ g. g) (λ (g : r ≤ k). absurd (omega (
+          arith,
+          w .0,
+          ap opens (at-front k (omega (arith, front-size))),
+          O .after k g
+              (omega (arith, front-size)),
+        )))
+        (lt-or-ge k r) in
+        ⊎-elim
+        (λ (g : k < r - 1).
+        let v = spaced-order 0 (take n keys) s k (r - 1) g (omega (arith, front-size)) in
+        absurd (omega (arith, v .1, w .1, ap opens q, O .by (r - 1) (omega arith))))
+        (λ (g : r - 1 ≤ k).
+        let m : k ≡ r - 1 = omega arith in
+        le-leb b c (omega (arith, w .1, ap (λ (i : ℕ). closes (getD (take n keys) i 0)) m, ap closes q)))
+        (lt-or-ge k (r - 1))))
+
+-- ---- the sets, slot by slot and row by row
+
+module _ (people person slots : ℕ) (ok : peopleOk people ≡ true) (few : slots ≤ 1024) (known : person < people) where
+  row-none : (ws : List ℕ) → 16 * people ≤ length ws → rowNo ws people person slots ≡ 0
+  unfolding rowNo
+  row-none ws room = simp (ok, le-leb slots 1024 few, le-leb (16 * people) (length ws) room, lt-ltb person people known)
+
+  pub row-put : (ws : List ℕ) → 16 * people ≤ length ws → (k v : ℕ) → k < slots
+      → rowStretchOf v ws people person slots k (k + 1) ≡ putSlot (16 * person) k v ws
+  unfolding rowStretchOf rowStretchNo wordsAs
+  row-put ws room k v h =
+      let e = row-none ws room in
+      let t : (leb (k + 1) k || leb (k + 1) slots) ≡ true = or-second (leb (k + 1) k) (leb (k + 1) slots) (le-leb (k + 1) slots
+      (omega arith)) in
+      simp (e, t) (puts-one v (16 * person) k ws)
+
+-- one slot more of a row
+pub row-more : (g : ℕ → ℕ) (b k : ℕ) (ws₀ ws next : List ℕ) → ws ≡ putSlots g b 0 k ws₀ → next ≡ putSlot b k (g k) ws
+    → next ≡ putSlots g b 0 (k + 1) ws₀
+unfolding putSlots
+row-more g b k ws₀ ws next e d =
+    let z : 0 + k ≡ k = omega arith in
+    d ∙ ap (λ (l : List ℕ). putSlot b k (g k) l) e ∙ ap (λ (i : ℕ). putSlot b i (g i) (putSlots g b 0 k ws₀)) (sym z)
+    ∙ ap (λ (m : ℕ). putSlots g b 0 m ws₀) (sym (add-one k))
+
+pub row-length : (g : ℕ → ℕ) (b k : ℕ) (ws₀ ws : List ℕ) → ws ≡ putSlots g b 0 k ws₀ → length ws ≡ length ws₀
+row-length g b k ws₀ ws e = ap length e ∙ length-puts g b 0 k ws₀
+
+pub row-done : (g : ℕ → ℕ) (b k n : ℕ) (ws₀ ws : List ℕ) → ws ≡ putSlots g b 0 k ws₀ → k ≤ n → n ≤ k → ws ≡ putSlots g b 0 n ws₀
+row-done g b k n ws₀ ws e x y = let q : k ≡ n = omega arith in e ∙ ap (λ (m : ℕ). putSlots g b 0 m ws₀) q
+
+-- the mark that the code puts
+pub held-mark : (l starts ends : List ℕ) (person k : ℕ) (want : Bool)
+    → want ≡ anyOf (spans (person * 268435456 + getD starts k 0) (person * 268435456 + getD ends k 0)) l
+    → valueOf want ≡ heldBit l starts ends person k
+unfolding heldBit
+held-mark l starts ends person k want e = ap valueOf e
+
+-- ---- all rows
+
+pub rows-none : (g : ℕ → ℕ → ℕ) (slots : ℕ) (ws : List ℕ) → ws ≡ rows g slots 0 ws
+unfolding rows
+rows-none g slots ws = refl
+
+pub rows-more : (g : ℕ → ℕ → ℕ) (slots p : ℕ) (ws₀ ws next : List ℕ) → ws ≡ rows g slots p ws₀ → next ≡ putSlots (g p) (16 * p) 0 slots ws
+    → next ≡ rows g slots (p + 1) ws₀
+unfolding rows
+rows-more g slots p ws₀ ws next e d =
+    d ∙ ap (putSlots (g p) (16 * p) 0 slots) e ∙ ap (λ (n : ℕ). rows g slots n ws₀) (sym (add-one p))
+
+pub length-rows : (g : ℕ → ℕ → ℕ) (slots p : ℕ) (ws : List ℕ) → length (rows g slots p ws) ≡ length ws
+unfolding rows
+length-rows g slots zero ws = refl
+length-rows g slots (suc p) ws = length-puts (g p) (16 * p) 0 slots (rows g slots p ws) ∙ length-rows g slots p ws
+
+pub rows-length : (g : ℕ → ℕ → ℕ) (slots p : ℕ) (ws₀ ws : List ℕ) → ws ≡ rows g slots p ws₀ → length ws ≡ length ws₀
+rows-length g slots p ws₀ ws e = ap length e ∙ length-rows g slots p ws₀
+
+pub rows-done : (g : ℕ → ℕ → ℕ) (slots p n : ℕ) (ws₀ ws : List ℕ) → ws ≡ rows g slots p ws₀ → p ≤ n → n ≤ p → ws ≡ rows g slots n ws₀
+rows-done g slots p n ws₀ ws e x y = let q : p ≡ n = omega arith in e ∙ ap (λ (m : ℕ). rows g slots m ws₀) q
+
+rows-same : (g h : ℕ → ℕ → ℕ) (slots p : ℕ) (ws : List ℕ) → ((q k : ℕ) → k < slots → g q k ≡ h q k) → rows g slots p ws ≡ rows h slots p ws
+unfolding rows
+rows-same g h slots zero ws f = refl
+rows-same g h slots (suc p) ws f =
+    puts-same (g p) (h p) (16 * p) 0 slots (rows g slots p ws) (λ k a b. f p k (omega arith))
+    ∙ ap (putSlots (h p) (16 * p) 0 slots) (rows-same g h slots p ws f)
+
+-- ---- the outcome
+
+pub record AvailabilitySound (people slots : ℕ) (starts ends : List ℕ) (R : Ranges) (words : List ℕ) : Type 0 where
+  pub slots-sound : SlotsSound slots starts ends
+  pub ranges-sound : RangesSound R
+  pub few : slots ≤ 1024
+  pub people-ok : peopleOk people ≡ true
+  pub room : 16 * people ≤ length words
+
+pub counts-people : (people slots count : ℕ) → countsOk people slots count ≡ true → people ≤ 32
+unfolding countsOk
+counts-people people slots count e =
+    people-says people (three (peopleOk people) (slotCountOk slots) (rangeCountOk count) e .0) .1
+
+pub availability-says : (people slots : ℕ) (starts ends : List ℕ) (R : Ranges) (words : List ℕ)
+    → availabilityNo people slots starts ends R words ≡ 0 → AvailabilitySound people slots starts ends R words
+unfolding availabilityNo availabilityRoomOk countsOk
+availability-says people slots starts ends R words e =
+    let p = peopleOk people in
+    let s = slotCountOk slots in
+    let c = rangeCountOk (R .count) in
+    let a = slotRoomOk slots starts ends in
+    let b = rangeRoomOk R in
+    let d = leb (16 * people) (length words) in
+    let x = cond-zero (p && (s && c)) _ 0 e in
+    let y = cond-zero (a && (b && d)) _ 1 (x .1) in
+    let z = cond-zero (rangesOk people R) _ 3 (y .1) in
+    let w = cond-zero (slotsOk slots starts ends) _ 8 (z .1) in
+    let u = three p s c (x .0) in
+    let v = three a b d (y .0) in
+    record {
+      slots-sound = slots-sound slots starts ends (w .0);
+      ranges-sound = ranges-sound people R (u .0) (u .2) (z .0);
+      few = slot-count-says slots (u .1) .1;
+      people-ok = u .0;
+      room = leb-true (16 * people) (length words) (v .2);
+    }
+
+-- the marks of the merged list are those over minutes
+marks-same : (R : Ranges) → RangesSound R → (slots : ℕ) (starts ends : List ℕ) → SlotsSound slots starts ends → (p k : ℕ) → k < slots
+    → heldBit (mergedOf R) starts ends p k ≡ availableBit R starts ends p k
+unfolding heldBit availableBit
+marks-same R S slots starts ends T p k h =
+    ap valueOf (held-available R S p (getD starts k 0) (getD ends k 0) (T .ordered k h) (T .capped k h))
+
+module _ (people slots : ℕ) (starts ends : List ℕ) (R : Ranges) (words : List ℕ) (number : ℕ)
+    (e : number ≡ availabilityNo people slots starts ends R words) where
+  pub availability-refused : (number ≡ 0 → ⊥) → (number ≡ availabilityNo people slots starts ends R words) ×
+      (words ≡ availabilityOf people slots starts ends R words)
+  unfolding availabilityOf wordsAs
+  availability-refused h =
+      let z : eqb (availabilityNo people slots starts ends R words) 0 ≡ false = ne-eqb _ _ (λ q. h (e ∙ q)) in
+      (e, simp z)
+
+  pub availability-done : number ≡ 0 → (keys : List ℕ) (n : ℕ) → MergedFrom R keys n → (next : List ℕ)
+      → next ≡ rows (heldBit (take n keys) starts ends) slots people words
+      → (0 ≡ availabilityNo people slots starts ends R words) × (next ≡ availabilityOf people slots starts ends R words)
+  unfolding availabilityOf wordsAs
+  availability-done h keys n M next d =
+      let none = sym e ∙ h in
+      let z : eqb (availabilityNo people slots starts ends R words) 0 ≡ true = eq-eqb _ _ none in
+      let S = availability-says people slots starts ends R words none in (
+        sym none,
+        simp z (d ∙ ap (λ (l : List ℕ). rows (heldBit l starts ends) slots people words) (M .list)
+            ∙ rows-same (heldBit (mergedOf R) starts ends) (availableBit R starts ends) slots people words
+            (marks-same R (S .ranges-sound) slots starts ends (S .slots-sound))),
+      )
+
+-- the merged list as the code holds it is spaced
+pub held-spaced : (R : Ranges) → RangesSound R → (keys : List ℕ) (n : ℕ) → MergedFrom R keys n → Spaced 0 (take n keys)
+held-spaced R S keys n M = rw (M .list) (merged-is R S .spaced)
+
+-- one turn of the loop that fills a row
+pub row-turn : (l starts ends : List ℕ) (people person slots base k : ℕ) (ws₀ ws next : List ℕ) (want : Bool)
+    → peopleOk people ≡ true → slots ≤ 1024 → person < people → 16 * people ≤ length ws₀ → base ≡ person * 268435456
+    → ws ≡ putSlots (heldBit l starts ends person) (16 * person) 0 k ws₀ → k < slots
+    → want ≡ anyOf (spans (base + getD starts k 0) (base + getD ends k 0)) l
+    → next ≡ rowStretchOf (valueOf want) ws people person slots k (k + 1)
+    → next ≡ putSlots (heldBit l starts ends person) (16 * person) 0 (k + 1) ws₀
+row-turn l starts ends people person slots base k ws₀ ws next want ok few known room b e h w d =
+    let mark : valueOf want ≡ heldBit l starts ends person k =
+    held-mark l starts ends person k want (w ∙ ap (λ (x : ℕ). anyOf (spans (x + getD starts k 0) (x + getD ends k 0)) l) b) in
+    row-more (heldBit l starts ends person) (16 * person) k ws₀ ws next e
+    (d ∙ row-put people person slots ok few known ws (omega (
+      arith,
+      row-length (heldBit l starts ends person)
+          (16 * person) k ws₀ ws e,
+    )) k (valueOf want) h
+    ∙ ap (λ (v : ℕ). putSlot (16 * person) k v ws) mark)

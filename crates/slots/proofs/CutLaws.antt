@@ -1,0 +1,367 @@
+-- Cuts and atomic slots: the next cut, the pieces of one slot, and of all. Assumes nothing.
+use mathlib.Core.Path.{_≡_, refl, sym, ap, ap₂, _∙_}
+use mathlib.Core.Bool.{Bool, true, false, _&&_, _||_, cond}
+use mathlib.Core.Logic.{⊎-elim}
+use mathlib.Core.List.{List, [], _∷_, _++_, append-assoc, append-nil}
+use Prim.Native.Nat.{ℕ, zero, suc, _+_, _-_, _≤_, _<_}
+use native.Mathlib.Numerals.{add-one}
+use native.Mathlib.Omega.{arith}
+use borrow.Author.Tests.{ltb-true, lt-ltb, le-ltb, le-leb, lt-leb, eq-eqb, ne-eqb}
+use lib.Dec.{ltb, eqb}
+use lib.ListN.{length, getD, take, set, length-append, length-set}
+use lib.Seq.{take-suc, take-suc-set, length-take-le}
+use Rattle.paper.specs.Count.{among}
+use Rattle.paper.proofs.Logic.{by-test, lt-or-ge, both, and-true, and-false, or-left}
+use Rattle.paper.proofs.Count.{among-in, among-out}
+use Rattle.slots.specs.Ranges.{anyOf, startOf, endOf}
+use Rattle.slots.specs.Atomic.{startsOrEnds, isCut, cutAfter, cutsIn, atomStarts, atomEnds, orFull, NextCut, nearer, Grown}
+use Rattle.slots.proofs.Chains.{and-stops}
+use Rattle.slots.proofs.Merging.{or-assoc, or-false, or-second, any-append}
+
+-- ---- the next cut
+
+-- r is the first minute that passes p strictly between two minutes, or the later of them
+pub record Near (p : ℕ → Bool) (after end r : ℕ) : Type 0 where
+  pub later : after < r
+  pub most : r ≤ end
+  pub cut : r < end → p r ≡ true
+  pub none : (t : ℕ) → after < t → t < r → p t ≡ false
+
+or-none : (a b : Bool) → a ≡ false → b ≡ false → a || b ≡ false
+or-none a b f g = simp (f, g)
+
+-- one minute more that passes
+near-more : (p : ℕ → Bool) (after end b c r : ℕ) → Near p after end b → r ≡ nearer after b c → Near (λ t. p t || eqb c t) after end r
+unfolding nearer
+near-more p after end b c r N e =
+    by-test (ltb after c && ltb c b) _
+    (λ t.
+    let w = both (ltb after c) (ltb c b) t in
+    let x = ltb-true after c (w .0) in
+    let y = ltb-true c b (w .1) in
+    let q : r ≡ c = e ∙ simp t in
+    rw q
+    (record {
+      later = x;
+      most = omega (arith, N .most);
+      cut = λ h. or-second (p c) (eqb c c) (eq-eqb c c refl);
+      none = λ t a d. or-none (p t) (eqb c t) (N .none t a (omega arith)) (ne-eqb c t (λ z. omega arith));
+    }))
+    (λ f.
+    let q : r ≡ b = e ∙ simp f in
+    rw q
+    (record {
+      later = N .later;
+      most = N .most;
+      cut = λ h. or-left (p b) (eqb c b) (N .cut h);
+      none = λ t a d. or-none (p t) (eqb c t) (N .none t a d)
+          (ne-eqb c t (λ z. mathlib.Core.Bool.true≢false (sym (and-true _ _ (lt-ltb after c (omega arith)) (lt-ltb c b (omega arith)))
+          ∙ f)));
+    }))
+
+near-same : (p q : ℕ → Bool) (after end r : ℕ) → ((t : ℕ) → p t ≡ q t) → Near p after end r → Near q after end r
+near-same p q after end r f N =
+    record {
+      later = N .later;
+      most = N .most;
+      cut = λ h. sym (f r) ∙ N .cut h;
+      none = λ t a b. sym (f t) ∙ N .none t a b;
+    }
+
+cut-none : (t : ℕ) → isCut [] t ≡ false
+unfolding isCut anyOf
+cut-none t = refl
+
+cut-more : (l : List ℕ) (x t : ℕ) → (isCut l t || eqb (startOf x) t) || eqb (endOf x) t ≡ isCut (l ++ (x ∷ [])) t
+unfolding isCut startsOrEnds anyOf
+cut-more l x t =
+    or-assoc (anyOf (startsOrEnds t) l) (eqb (startOf x) t) (eqb (endOf x) t)
+    ∙ ap (λ (b : Bool). anyOf (startsOrEnds t) l || b) (sym (or-false (eqb (startOf x) t || eqb (endOf x) t)))
+    ∙ sym (any-append (startsOrEnds t) l (x ∷ []))
+
+pub cuts-begin : (after end : ℕ) → after < end → (keys : List ℕ) → Near (isCut (take 0 keys)) after end end
+cuts-begin after end h keys =
+    record { later = h; most = omega arith; cut = λ g. absurd (omega arith); none = λ t a b. cut-none t }
+
+pub cuts-go : (keys : List ℕ) (i after end b s e u v : ℕ) → i < length keys → Near (isCut (take i keys)) after end b
+    → s ≡ startOf (getD keys i 0) → u ≡ nearer after b s → e ≡ endOf (getD keys i 0) → v ≡ nearer after u e
+    → Near (isCut (take (i + 1) keys)) after end v
+cuts-go keys i after end b s e u v h N a c d f =
+    let x = getD keys i 0 in
+    let l : take (i + 1) keys ≡ take i keys ++ (x ∷ []) = ap (λ (n : ℕ). take n keys) (add-one i) ∙ take-suc keys i 0 h in
+    rw l
+    (near-same (λ t. (isCut (take i keys) t || eqb (startOf x) t) || eqb (endOf x) t) (isCut (take i keys ++ (x ∷ []))) after end v
+    (cut-more (take i keys) x)
+    (near-more (λ t. isCut (take i keys) t || eqb (startOf x) t) after end u (endOf x) v
+    (near-more (isCut (take i keys)) after end b (startOf x) u N (c ∙ ap (nearer after b) a))
+    (f ∙ ap (nearer after u) d)))
+
+pub cuts-end : (keys : List ℕ) (i n after end b : ℕ) → i ≤ n → n ≤ i → Near (isCut (take i keys)) after end b
+    → NextCut (take n keys) after end b
+cuts-end keys i n after end b g h N =
+    let q : i ≡ n = omega arith in
+    let M : Near (isCut (take n keys)) after end b = rw q at N in
+    record { later = M .later; most = M .most; cut = M .cut; none = M .none }
+
+-- ---- the cuts inside one slot
+
+-- where none passes, none is listed
+pub among-gap : (p : ℕ → Bool) (a d : ℕ) → ((t : ℕ) → a ≤ t → t < a + d → p t ≡ false) → among p (a + d) ≡ among p a
+among-gap p a zero f = let e : a + zero ≡ a = omega arith in ap (among p) e
+among-gap p a (suc d) f =
+    let e : a + suc d ≡ a + d + 1 = omega arith in
+    ap (among p) e ∙ among-out p (a + d) (f (a + d) (omega arith) (omega arith)) ∙ among-gap p a d (λ t x y. f t x (omega arith))
+
+pub among-longer : (p : ℕ → Bool) (a d : ℕ) → length (among p a) ≤ length (among p (a + d))
+unfolding among
+among-longer p a zero = let e : a + zero ≡ a = omega arith in omega (arith, ap (λ (n : ℕ). length (among p n)) e)
+among-longer p a (suc d) =
+    let e : a + suc d ≡ suc (a + d) = omega arith in
+    omega (
+      arith,
+      ap (λ (n : ℕ). length (among p n)) e,
+      among-longer p a d,
+      length-append (among p (a + d)) (cond (p (a + d)) ((a + d) ∷ []) []),
+    )
+
+module _ (l : List ℕ) (s : ℕ) where
+  cut-passes : (t : ℕ) → s < t → isCut l t ≡ true → cutAfter l s t ≡ true
+  unfolding cutAfter
+  cut-passes t h e = and-true _ _ (lt-ltb s t h) e
+
+  cut-fails : (t : ℕ) → isCut l t ≡ false → cutAfter l s t ≡ false
+  unfolding cutAfter
+  cut-fails t e = ap (λ (b : Bool). ltb s t && b) e ∙ and-false (ltb s t)
+
+  cut-before : (t : ℕ) → t ≤ s → cutAfter l s t ≡ false
+  unfolding cutAfter
+  cut-before t h = and-stops _ _ (le-ltb s t h)
+
+  -- no cut has been passed at the slot's start
+  pub cuts-none : among (cutAfter l s) (s + 1) ≡ []
+  unfolding among
+  cuts-none =
+      let e : s + 1 ≡ 0 + (s + 1) = omega arith in
+      ap (among (cutAfter l s)) e ∙ among-gap (cutAfter l s) 0 (s + 1) (λ t x y. cut-before t (omega arith))
+
+  module _ (prev end c : ℕ) (from : s ≤ prev) (N : NextCut l prev end c) where
+    -- up to the next cut there is none
+    to-cut : among (cutAfter l s) c ≡ among (cutAfter l s) (prev + 1)
+    to-cut =
+        let e : c ≡ prev + 1 + (c - (prev + 1)) = omega (arith, N .later) in
+        ap (among (cutAfter l s)) e
+        ∙ among-gap (cutAfter l s) (prev + 1) (c - (prev + 1)) (λ t x y. cut-fails t (N .none t (omega arith) (omega (arith, N .later))))
+
+    pub cuts-next : c < end → among (cutAfter l s) (c + 1) ≡ among (cutAfter l s) (prev + 1) ++ (c ∷ [])
+    cuts-next h =
+        among-in (cutAfter l s) c (cut-passes c (omega (arith, N .later)) (N .cut h)) ∙ ap (λ (k : List ℕ). k ++ (c ∷ [])) to-cut
+
+    pub cuts-last : end ≤ c → cutsIn l s end ≡ among (cutAfter l s) (prev + 1)
+    unfolding cutsIn
+    cuts-last h = let e : end ≡ c = omega (arith, N .most) in ap (among (cutAfter l s)) e ∙ to-cut
+
+-- ---- one slot, piece by piece
+
+-- the pieces before `prev` are in the lists, the one from `prev` on is not yet
+pub record Splitting (l : List ℕ) (s count prev m : ℕ) (S₀ E₀ S E : List ℕ) : Type 0 where
+  pub from : s ≤ prev
+  pub few : m ≤ 1024
+  pub room : (1024 ≤ length S₀) × (1024 ≤ length E₀)
+  pub lengths : (length S ≡ length S₀) × (length E ≡ length E₀)
+  pub starts : take m S ++ (prev ∷ []) ≡ take count S₀ ++ (s ∷ among (cutAfter l s) (prev + 1))
+  pub ends : take m E ≡ take count E₀ ++ among (cutAfter l s) (prev + 1)
+
+-- one entry more at a list's end
+pub push : (k : List ℕ) (m x : ℕ) → m < length k → take (m + 1) (set k m x) ≡ take m k ++ (x ∷ [])
+push k m x h = ap (λ (n : ℕ). take n (set k m x)) (add-one m) ∙ take-suc-set k m x h
+
+pub full-some : (n : ℕ) → n ≤ 1024 → orFull n ≡ n
+unfolding orFull
+full-some n h = simp (le-leb n 1024 h)
+
+pub full-over : (n : ℕ) → 1024 < n → orFull n ≡ 1025
+unfolding orFull
+full-over n h = simp (lt-leb n 1024 h)
+
+pub split-starts : (l : List ℕ) (s count : ℕ) (S E : List ℕ) → count ≤ 1024 → 1024 ≤ length S → 1024 ≤ length E
+    → Splitting l s count s count S E S E
+split-starts l s count S E a b d =
+    record {
+      from = omega arith;
+      few = a;
+      room = (b, d);
+      lengths = (refl, refl);
+      starts = ap (λ (k : List ℕ). take count S ++ (s ∷ k)) (sym (cuts-none l s));
+      ends = sym (ap (λ (k : List ℕ). take count E ++ k) (cuts-none l s) ∙ append-nil (take count E));
+    }
+
+module _ (l : List ℕ) (s count prev m : ℕ) (S₀ E₀ S E : List ℕ) (I : Splitting l s count prev m S₀ E₀ S E) where
+  pub split-room : m < 1024 → (m < length S) × (m < length E)
+  split-room h = (omega (arith, I .room .0, I .lengths .0), omega (arith, I .room .1, I .lengths .1))
+
+  module _ (end c : ℕ) (h : m < 1024) (N : NextCut l prev end c) where
+    new-starts : take (m + 1) (set S m prev) ≡ take count S₀ ++ (s ∷ among (cutAfter l s) (prev + 1))
+    new-starts = push S m prev (split-room h .0) ∙ I .starts
+
+    new-ends : take (m + 1) (set E m c) ≡ take count E₀ ++ (among (cutAfter l s) (prev + 1) ++ (c ∷ []))
+    new-ends =
+        push E m c (split-room h .1) ∙ ap (λ (k : List ℕ). k ++ (c ∷ [])) (I .ends)
+        ∙ append-assoc (take count E₀) (among (cutAfter l s) (prev + 1)) (c ∷ [])
+
+    pub split-more : c < end → Splitting l s count c (m + 1) S₀ E₀ (set S m prev) (set E m c)
+    split-more g =
+        let q = cuts-next l s prev end c (I .from) N g in
+        record {
+          from = omega (arith, I .from, N .later);
+          few = omega arith;
+          room = I .room;
+          lengths = (length-set S m prev ∙ I .lengths .0, length-set E m c ∙ I .lengths .1);
+          starts =
+              ap (λ (k : List ℕ). k ++ (c ∷ [])) new-starts ∙ append-assoc (take count S₀) (s ∷ among (cutAfter l s) (prev + 1)) (c ∷ [])
+              ∙ ap (λ (k : List ℕ). take count S₀ ++ (s ∷ k)) (sym q);
+          ends = new-ends ∙ ap (λ (k : List ℕ). take count E₀ ++ k) (sym q);
+        }
+
+    pub split-ends : count ≤ 1024 → end ≤ c
+        → Grown count S₀ E₀ (s ∷ cutsIn l s end) (cutsIn l s end ++ (end ∷ [])) (m + 1) (set S m prev) (set E m c)
+    split-ends few g =
+        let q = cuts-last l s prev end c (I .from) N g in
+        let e : c ≡ end = omega (arith, N .most) in
+        let a : take (m + 1) (set S m prev) ≡ take count S₀ ++ (s ∷ cutsIn l s end) = new-starts
+        ∙ ap (λ (k : List ℕ). take count S₀ ++ (s ∷ k)) (sym q) in
+        let n : m + 1 ≡ count + length (s ∷ cutsIn l s end) =
+        omega (
+          arith,
+          ap length a,
+          length-append (take count S₀) (s ∷ cutsIn l s end),
+          length-take-le count S₀ (omega (arith, I .room .0)),
+          length-take-le (m + 1) (set S m prev) (omega (arith, length-set S m prev, split-room h .0)),
+        ) in
+        record {
+          number = n ∙ sym (full-some _ (omega (arith, n)));
+          starts = λ _. a;
+          ends = λ _. new-ends ∙ ap₂ (λ (k : List ℕ) (x : ℕ). take count E₀ ++ (k ++ (x ∷ []))) (sym q) e;
+        }
+
+  -- no room for the next piece
+  pub split-full : (end : ℕ) → prev < end → count ≤ 1024 → 1024 ≤ m
+      → Grown count S₀ E₀ (s ∷ cutsIn l s end) (cutsIn l s end ++ (end ∷ [])) 1025 S E
+  unfolding cutsIn
+  split-full end h few g =
+      let e : end ≡ prev + 1 + (end - (prev + 1)) = omega arith in
+      let long = among-longer (cutAfter l s) (prev + 1) (end - (prev + 1)) in
+      let n : 1024 < count + length (s ∷ among (cutAfter l s) end) =
+      omega (
+        arith,
+        ap (λ (k : ℕ). length (among (cutAfter l s) k)) e,
+        long,
+        ap length (I .starts),
+        length-append (take m S) (prev ∷ []),
+        length-append (take count S₀) (s ∷ among (cutAfter l s) (prev + 1)),
+        length-take-le count S₀ (omega (arith, I .room .0)),
+        length-take-le m S (omega (arith, I .few, I .room .0, I .lengths .0)),
+      ) in
+      record {
+        number = sym (full-over _ n);
+        starts = λ x. absurd (omega arith);
+        ends = λ x. absurd (omega arith);
+      }
+
+-- ---- all slots, one by one
+
+pub record Growing (l : List ℕ) (i : ℕ) (starts ends : List ℕ) (count : ℕ) (F₀ T₀ F T : List ℕ) : Type 0 where
+  pub few : count ≤ 1024
+  pub number : count ≡ length (atomStarts l i starts ends)
+  pub lengths : (length F ≡ length F₀) × (length T ≡ length T₀)
+  pub froms : take count F ≡ atomStarts l i starts ends
+  pub tos : take count T ≡ atomEnds l i starts ends
+
+module _ (l starts ends : List ℕ) where
+  starts-more : (i : ℕ) → atomStarts l (i + 1) starts ends ≡ atomStarts l i starts ends ++ (getD starts i 0 ∷ cutsIn l (getD starts i 0)
+      (getD ends i 0))
+  unfolding atomStarts
+  starts-more i = ap (λ (n : ℕ). atomStarts l n starts ends) (add-one i)
+
+  ends-more : (i : ℕ) → atomEnds l (i + 1) starts ends ≡ atomEnds l i starts ends ++ (cutsIn l (getD starts i 0) (getD ends i 0) ++
+      (getD ends i 0 ∷ []))
+  unfolding atomEnds
+  ends-more i = ap (λ (n : ℕ). atomEnds l n starts ends) (add-one i)
+
+  starts-longer : (i d : ℕ) → length (atomStarts l i starts ends) ≤ length (atomStarts l (i + d) starts ends)
+  starts-longer i zero = let e : i + zero ≡ i = omega arith in omega (arith, ap (λ (n : ℕ). length (atomStarts l n starts ends)) e)
+  starts-longer i (suc d) =
+      let e : i + suc d ≡ i + d + 1 = omega arith in
+      omega (
+        arith,
+        ap (λ (n : ℕ). length (atomStarts l n starts ends)) e,
+        ap length (starts-more (i + d)),
+        starts-longer i d,
+        length-append (atomStarts l (i + d) starts ends) (getD starts (i + d) 0 ∷ cutsIn l (getD starts (i + d) 0) (getD ends (i + d) 0)),
+      )
+
+  pub grow-starts : (F T : List ℕ) → Growing l 0 starts ends 0 F T F T
+  unfolding atomStarts atomEnds
+  grow-starts F T = record { few = omega arith; number = refl; lengths = (refl, refl); froms = refl; tos = refl }
+
+  module _ (i count r : ℕ) (F₀ T₀ F T F′ T′ : List ℕ) (G : Growing l i starts ends count F₀ T₀ F T)
+      (W : Grown count F T (getD starts i 0 ∷ cutsIn l (getD starts i 0) (getD ends i 0)) (cutsIn l (getD starts i 0) (getD ends i 0) ++
+      (getD ends i 0 ∷ [])) r F′ T′) where
+    total : length (atomStarts l (i + 1) starts ends) ≡ count + length (getD starts i 0 ∷ cutsIn l (getD starts i 0) (getD ends i 0))
+    total =
+        omega (
+          arith,
+          ap length (starts-more i),
+          G .number,
+          length-append (atomStarts l i starts ends) (getD starts i 0 ∷ cutsIn l (getD starts i 0) (getD ends i 0)),
+        )
+
+    fits-of : r ≤ 1024 → count + length (getD starts i 0 ∷ cutsIn l (getD starts i 0) (getD ends i 0)) ≤ 1024
+    fits-of h =
+        ⊎-elim (λ (g : 1024 < count + length (getD starts i 0 ∷ cutsIn l (getD starts i 0) (getD ends i 0))). absurd (omega
+        (arith, W .number, full-over _ g))) (λ g. g)
+        (lt-or-ge 1024 (count + length (getD starts i 0 ∷ cutsIn l (getD starts i 0) (getD ends i 0))))
+
+    pub grow-more : length F′ ≡ length F → length T′ ≡ length T → r ≤ 1024 → Growing l (i + 1) starts ends r F₀ T₀ F′ T′
+    grow-more a b h =
+        let f = fits-of h in
+        record {
+          few = h;
+          number = W .number ∙ full-some _ f ∙ sym total;
+          lengths = (a ∙ G .lengths .0, b ∙ G .lengths .1);
+          froms = W .starts f ∙ ap (λ (k : List ℕ). k ++ (getD starts i 0 ∷ cutsIn l (getD starts i 0) (getD ends i 0))) (G .froms)
+              ∙ sym (starts-more i);
+          tos = W .ends f ∙ ap (λ (k : List ℕ). k ++ (cutsIn l (getD starts i 0) (getD ends i 0) ++ (getD ends i 0 ∷ []))) (G .tos)
+              ∙ sym (ends-more i);
+        }
+
+    pub grow-full : (slots : ℕ) → i < slots → 1024 < r → Grown 0 F₀ T₀ (atomStarts l slots starts ends)
+        (atomEnds l slots starts ends) r F′ T′
+    grow-full slots h g =
+        let over : 1024 < count + length (getD starts i 0 ∷ cutsIn l (getD starts i 0) (getD ends i 0)) =
+        ⊎-elim (λ x. x) (λ (x : count + length (getD starts i 0 ∷ cutsIn l (getD starts i 0) (getD ends i 0)) ≤ 1024). absurd (omega
+        (arith, W .number, full-some _ x)))
+        (lt-or-ge 1024 (count + length (getD starts i 0 ∷ cutsIn l (getD starts i 0) (getD ends i 0)))) in
+        let e : slots ≡ i + 1 + (slots - (i + 1)) = omega arith in
+        let all : 1024 < 0 + length (atomStarts l slots starts ends) =
+        omega (arith, over, total, starts-longer (i + 1) (slots - (i + 1)), ap (λ (n : ℕ). length (atomStarts l n starts ends)) e) in
+        record {
+          number = W .number ∙ full-over _ over ∙ sym (full-over _ all);
+          starts = λ x. absurd (omega arith);
+          ends = λ x. absurd (omega arith);
+        }
+
+  pub grow-ends : (slots i count : ℕ) (F₀ T₀ F T : List ℕ) → Growing l i starts ends count F₀ T₀ F T → i ≤ slots → slots ≤ i
+      → Grown 0 F₀ T₀ (atomStarts l slots starts ends) (atomEnds l slots starts ends) count F T
+  grow-ends slots i count F₀ T₀ F T G a b =
+      let e : i ≡ slots = omega arith in
+      let n : count ≡ 0 + length (atomStarts l slots starts ends) = omega (
+        arith,
+        G .number,
+        ap (λ (n : ℕ). length
+            (atomStarts l n starts ends)) e,
+      ) in
+      record {
+        number = n ∙ sym (full-some _ (omega (arith, n, G .few)));
+        starts = λ _. G .froms ∙ ap (λ (n : ℕ). atomStarts l n starts ends) e;
+        ends = λ _. G .tos ∙ ap (λ (n : ℕ). atomEnds l n starts ends) e;
+      }

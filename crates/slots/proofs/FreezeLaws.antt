@@ -1,0 +1,197 @@
+-- The slots that end by an instant open the list: their count, and their marks. Assumes nothing.
+use mathlib.Core.Path.{_≡_, refl, sym, ap, ap₂, _∙_}
+use mathlib.Core.Bool.{Bool, true, false, _&&_, _||_}
+use mathlib.Core.Logic.{⊎-elim}
+use mathlib.Core.List.{List}
+use Prim.Native.Nat.{ℕ, zero, suc, _+_, _-_, _*_, _≤_, _<_}
+use native.Mathlib.Omega.{arith}
+use borrow.Author.Tests.{le-leb, lt-leb, leb-true, eq-eqb, ne-eqb}
+use lib.Dec.{leb, ltb, eqb}
+use lib.ListN.{length, getD}
+use Rattle.paper.specs.Limits.{peopleOk, slotCountOk}
+use Rattle.paper.specs.Count.{sum, count}
+use Rattle.paper.proofs.Logic.{lt-or-ge, both, cond-zero, slot-count-says}
+use Rattle.slotset.specs.declared.Counted.the-variants as counted
+use Rattle.slotset.specs.declared.Told.{Told}
+use Rattle.slotset.specs.declared.Told.the-variants as told
+use Rattle.slotset.specs.Slots.{putSlot, putSlots, has}
+use Rattle.slotset.specs.Answers.{rowNo, rowStretchNo, rowStretchOf, rowSlots, countedAs, toldAs, wordsAs}
+use Rattle.slots.specs.Lent.{slotRoomOk, slotsOk, SlotsSound}
+use Rattle.slots.specs.Freeze.{endsBy, endedBy, marked, freezeNo, freezeOf, Opening, availableNo, isAvailable}
+use Rattle.slots.proofs.LentLaws.{slots-sound}
+use Rattle.slots.proofs.Merging.{or-second}
+
+-- ---- an opening stretch
+
+count-opening : (n r : ℕ) (p : ℕ → Bool) → r ≤ n → ((k : ℕ) → k < r → p k ≡ true) → ((k : ℕ) → r ≤ k → k < n → p k ≡ false) → count n p ≡ r
+unfolding count sum
+count-opening zero r p h f g = omega arith
+count-opening (suc n) r p h f g =
+    ⊎-elim
+    (λ (a : n < r).
+    let e = f n a in
+    let i = count-opening n n p (omega arith) (λ k b. f k (omega arith)) (λ k b d. absurd (omega arith)) in
+    simp e (omega (arith, i)))
+    (λ (a : r ≤ n).
+    let e = g n a (omega arith) in
+    let i = count-opening n r p a f (λ k b d. g k b (omega arith)) in
+    simp e (omega (arith, i)))
+    (lt-or-ge n r)
+
+marked-opening : (n r : ℕ) (ends : List ℕ) (instant : ℕ) (ws : List ℕ) → r ≤ n → ((k : ℕ) → k < r → endsBy ends instant k ≡ true)
+    → ((k : ℕ) → r ≤ k → k < n → endsBy ends instant k ≡ false) → marked n ends instant ws ≡ putSlots (λ _. 1) 0 0 r ws
+unfolding marked putSlots
+marked-opening zero zero ends instant ws h f g = refl
+marked-opening zero (suc r) ends instant ws h f g = absurd (omega arith)
+marked-opening (suc n) zero ends instant ws h f g =
+    let e = g n (omega arith) (omega arith) in
+    simp e (marked-opening n zero ends instant ws (omega arith) f (λ k b d. g k b (omega arith)))
+marked-opening (suc n) (suc r) ends instant ws h f g =
+    ⊎-elim
+    (λ (a : n < suc r).
+    let q : r ≡ n = omega arith in
+    let e = f n a in
+    let z : 0 + r ≡ n = omega arith in
+    let i = marked-opening n n ends instant ws (omega arith) (λ k b. f k (omega arith)) (λ k b d. absurd (omega arith)) in
+    simp e (ap₂ (λ (k : ℕ) (l : List ℕ). putSlot 0 k 1 l) (sym z) (i ∙ ap (λ (m : ℕ). putSlots (λ _. 1) 0 0 m ws) (sym q))))
+    (λ (a : suc r ≤ n).
+    let e = g n a (omega arith) in
+    simp e (marked-opening n (suc r) ends instant ws a f (λ k b d. g k b (omega arith))))
+    (lt-or-ge n (suc r))
+
+module _ (slots : ℕ) (ends : List ℕ) (instant r : ℕ) (O : Opening slots (λ k. getD ends k 0) instant r) where
+  passes : (k : ℕ) → k < r → endsBy ends instant k ≡ true
+  unfolding endsBy
+  passes k h = le-leb (getD ends k 0) instant (O .by k h)
+
+  fails : (k : ℕ) → r ≤ k → k < slots → endsBy ends instant k ≡ false
+  unfolding endsBy
+  fails k a b = lt-leb (getD ends k 0) instant (O .after k a b)
+
+  pub opening-count : endedBy slots ends instant ≡ r
+  unfolding endedBy
+  opening-count = count-opening slots r (endsBy ends instant) (O .few) passes fails
+
+  pub opening-marked : (ws : List ℕ) → marked slots ends instant ws ≡ putSlots (λ _. 1) 0 0 r ws
+  opening-marked ws = marked-opening slots r ends instant ws (O .few) passes fails
+
+-- ends ascend
+pub ends-rise : (slots : ℕ) (starts ends : List ℕ) → SlotsSound slots starts ends → (k j : ℕ) → k < j → j < slots
+    → getD ends k 0 ≤ getD ends j 0
+ends-rise slots starts ends S k j h l = omega (arith, S .ascending k j h l, S .ordered j l)
+
+-- ---- the search for the opening stretch: all below `low` are at most the bound, none from `high` on is
+pub record Between (n : ℕ) (f : ℕ → ℕ) (bound low high : ℕ) : Type 0 where
+  pub order : low ≤ high
+  pub few : high ≤ n
+  pub by : (k : ℕ) → k < low → f k ≤ bound
+  pub after : (k : ℕ) → high ≤ k → k < n → bound < f k
+
+module _ (n : ℕ) (f : ℕ → ℕ) (bound : ℕ) where
+  pub between-all : Between n f bound 0 n
+  between-all = record { order = omega arith; few = omega arith; by = λ k h. absurd (omega arith); after = λ k a b. absurd (omega arith) }
+
+  module _ (rise : (k j : ℕ) → k < j → j < n → f k ≤ f j) (low high m : ℕ) (B : Between n f bound low high) where
+    no-later : (k j : ℕ) → k ≤ j → j < n → f k ≤ f j
+    no-later k j a b =
+        ⊎-elim (λ (h : k < j). rise k j h b) (λ (h : j ≤ k). let e : k ≡ j = omega arith in omega (arith, ap f e)) (lt-or-ge k j)
+
+    pub between-up : low ≤ m → m < high → f m ≤ bound → Between n f bound (m + 1) high
+    between-up a b h =
+        record {
+          order = omega arith;
+          few = B .few;
+          by = λ k g. omega (arith, no-later k m (omega arith) (omega (arith, B .few)));
+          after = B .after;
+        }
+
+    pub between-down : low ≤ m → m < high → bound < f m → Between n f bound low m
+    between-down a b h =
+        record {
+          order = a;
+          few = omega (arith, B .few);
+          by = B .by;
+          after = λ k g l. omega (arith, no-later m k g l);
+        }
+
+  pub between-done : (low high : ℕ) → Between n f bound low high → high ≤ low → Opening n f bound low
+  between-done low high B h =
+      record { few = omega (arith, B .order, B .few); by = B .by; after = λ k a b. B .after k (omega (arith, B .order)) b }
+
+-- ---- the numbers
+
+-- what no refusal leaves known
+pub freeze-says : (slots : ℕ) (starts ends frozen : List ℕ) → freezeNo slots starts ends frozen ≡ 0
+    → (slots ≤ 1024) × (16 ≤ length frozen) × SlotsSound slots starts ends
+unfolding freezeNo
+freeze-says slots starts ends frozen e =
+    let x = cond-zero (slotCountOk slots) _ 0 e in
+    let y = cond-zero (slotRoomOk slots starts ends && leb 16 (length frozen)) _ 1 (x .1) in
+    let z = cond-zero (slotsOk slots starts ends) _ 8 (y .1) in
+    let w = both (slotRoomOk slots starts ends) (leb 16 (length frozen)) (y .0) in
+    (slot-count-says slots (x .0) .1, leb-true 16 (length frozen) (w .1), slots-sound slots starts ends (z .0))
+
+-- the flags are one set, of which any opening stretch may be put
+one-row : (slots : ℕ) (ws : List ℕ) → slots ≤ 1024 → 16 ≤ length ws → rowNo ws 1 0 slots ≡ 0
+unfolding rowNo peopleOk
+one-row slots ws a b = simp (le-leb slots 1024 a, le-leb 16 (length ws) b)
+
+stretch-none : (slots n : ℕ) (ws : List ℕ) → slots ≤ 1024 → 16 ≤ length ws → n ≤ slots → rowStretchNo ws 1 0 slots 0 n ≡ 0
+unfolding rowStretchNo
+stretch-none slots n ws a b h =
+    let e = one-row slots ws a b in
+    let t : (leb n 0 || leb n slots) ≡ true = or-second (leb n 0) (leb n slots) (le-leb n slots h) in
+    simp (e, t)
+
+stretch-put : (slots n : ℕ) (ws : List ℕ) → slots ≤ 1024 → 16 ≤ length ws → n ≤ slots
+    → rowStretchOf 1 ws 1 0 slots 0 n ≡ putSlots (λ _. 1) 0 0 n ws
+unfolding rowStretchOf wordsAs
+stretch-put slots n ws a b h =
+    let e = stretch-none slots n ws a b h in
+    let z : n - 0 ≡ n = omega arith in
+    simp e (ap (λ (m : ℕ). putSlots (λ _. 1) 0 0 m ws) z)
+
+-- the two outcomes
+module _ (slots : ℕ) (starts ends frozen : List ℕ) (instant number : ℕ) (e : number ≡ freezeNo slots starts ends frozen) where
+  pub freeze-refused : (number ≡ 0 → ⊥)
+      → (counted.Refused number ≡ freezeOf slots starts ends frozen instant .answer) ×
+      (frozen ≡ freezeOf slots starts ends frozen instant .flags)
+  unfolding freezeOf countedAs wordsAs
+  freeze-refused h =
+      let z : eqb (freezeNo slots starts ends frozen) 0 ≡ false = ne-eqb _ _ (λ q. h (e ∙ q)) in
+      (simp z (ap counted.Refused e), simp z)
+
+  pub freeze-done : number ≡ 0 → (n : ℕ) → Opening slots (λ k. getD ends k 0) instant n → (ws : List ℕ)
+      → ws ≡ rowStretchOf 1 frozen 1 0 slots 0 n
+      → (counted.Is n ≡ freezeOf slots starts ends frozen instant .answer) × (ws ≡ freezeOf slots starts ends frozen instant .flags)
+  unfolding freezeOf countedAs wordsAs
+  freeze-done h n O ws w =
+      let z : eqb (freezeNo slots starts ends frozen) 0 ≡ true = eq-eqb _ _ (sym e ∙ h) in
+      let k = freeze-says slots starts ends frozen (sym e ∙ h) in (
+        simp z (ap counted.Is (sym (opening-count slots ends instant n O))),
+        simp z (w ∙ stretch-put slots n frozen (k .0) (k .1) (O .few) ∙ sym (opening-marked slots ends instant n O frozen)),
+      )
+
+-- ---- may this person cover this slot
+module _ (slots : ℕ) (words : List ℕ) (people person slot number : ℕ) (e : number ≡ availableNo people slots words person slot) where
+  pub available-refused : (number ≡ 0 → ⊥) → told.Refused number ≡ isAvailable people slots words person slot
+  unfolding isAvailable toldAs
+  available-refused h =
+      let z : eqb (availableNo people slots words person slot) 0 ≡ false = ne-eqb _ _ (λ q. h (e ∙ q)) in
+      simp z (ap told.Refused e)
+
+  row-none : availableNo people slots words person slot ≡ 0 → rowNo words people person slots ≡ 0
+  unfolding availableNo rowNo
+  row-none z =
+      let x = cond-zero (peopleOk people && slotCountOk slots) _ 0 z in
+      let y = cond-zero (leb (16 * people) (length words)) _ 1 (x .1) in
+      let w = cond-zero (ltb person people && ltb slot slots) _ 10 (y .1) in
+      let u = both (peopleOk people) (slotCountOk slots) (x .0) in
+      let v = both (ltb person people) (ltb slot slots) (w .0) in
+      simp (u .0, le-leb slots 1024 (slot-count-says slots (u .1) .1), y .0, v .0)
+
+  pub available-told : number ≡ 0 → (r : Told) → r ≡ toldAs (rowNo words people person slots) (has (rowSlots words person) slots slot)
+      → r ≡ isAvailable people slots words person slot
+  unfolding isAvailable
+  available-told h r d =
+      d ∙ ap (λ (n : ℕ). toldAs n (has (rowSlots words person) slots slot)) (row-none (sym e ∙ h) ∙ sym (sym e ∙ h))

@@ -1,0 +1,168 @@
+-- The laws of lent slots: what the one test says of those that pass, and the steps of its loops. Assumes nothing.
+use mathlib.Core.Path.{_≡_, refl, sym, ap, ap₂, _∙_}
+use mathlib.Core.Bool.{Bool, true, false, cond}
+use mathlib.Core.List.{List}
+use Prim.Native.Nat.{ℕ, zero, suc, _+_, _-_, _≤_, _<_, zero-le}
+use native.Mathlib.Numerals.{add-one}
+use native.Mathlib.Omega.{arith}
+use borrow.Author.Tests.{ltb-true, leb-true, eq-eqb, ne-eqb}
+use lib.Dec.{leb, ltb, eqb}
+use lib.ListN.{length, getD}
+use Rattle.paper.specs.Limits.{slotCountOk}
+use Rattle.paper.specs.Count.{all, sum}
+use Rattle.paper.proofs.Logic.{both, three, cond-zero}
+use Rattle.paper.proofs.Count.{all-each, sum-more, sum-part}
+use Rattle.slots.specs.declared.Minutes.the-variants as minutes
+use Rattle.slots.specs.Lent.{slotOk, prevEnd, slotOkAt, slotRoomOk, slotsOk, minutesAt, demandOf, demandWhenOk, SlotsSound}
+use Rattle.slots.specs.Lent.{lentNo, lentSlotNo, minutesAs}
+
+-- ---- what one slot's test says
+
+pub slot-says : (starts ends : List ℕ) (k : ℕ) → slotOkAt starts ends k ≡ true
+    → (prevEnd ends k ≤ getD starts k 0) × (getD starts k 0 < getD ends k 0) × (getD ends k 0 ≤ 100000000)
+unfolding slotOkAt slotOk
+slot-says starts ends k e =
+    let s = getD starts k 0 in
+    let f = getD ends k 0 in
+    let x = three (leb (prevEnd ends k) s) (ltb s f) (leb f 100000000) e in
+    (leb-true _ _ (x .0), ltb-true _ _ (x .1), leb-true _ _ (x .2))
+
+-- ---- slots of which each passes
+
+module _ (slots : ℕ) (starts ends : List ℕ) (each : (k : ℕ) → k < slots → slotOkAt starts ends k ≡ true) where
+  -- a slot ends before any later one starts
+  later : (k d : ℕ) → suc (k + d) < slots → getD ends k 0 ≤ getD starts (suc (k + d)) 0
+  unfolding prevEnd
+  later k zero h =
+      let e : k + zero ≡ k = omega arith in
+      omega (arith, slot-says starts ends (suc (k + zero)) (each (suc (k + zero)) h) .0, ap (λ (x : ℕ). getD ends x 0) e)
+  later k (suc d) h =
+      let e : k + suc d ≡ suc (k + d) = omega arith in
+      let x = slot-says starts ends (suc (k + suc d)) (each (suc (k + suc d)) h) .0 in
+      let y = slot-says starts ends (suc (k + d)) (each (suc (k + d)) (omega arith)) .1 in
+      omega (arith, later k d (omega arith), x, y, ap (λ (z : ℕ). getD ends z 0) e)
+
+  pub slots-ascend : (k j : ℕ) → k < j → j < slots → getD ends k 0 ≤ getD starts j 0
+  slots-ascend k j h l =
+      let e : suc (k + (j - suc k)) ≡ j = omega arith in
+      rw e at (later k (j - suc k) (omega arith))
+
+  -- the lengths up to slot n add up to no more than where the last of them ends
+  pub demand-by-end : (n : ℕ) → n ≤ slots → sum n (minutesAt starts ends) ≤ prevEnd ends n
+  unfolding sum minutesAt prevEnd
+  demand-by-end zero h = zero-le
+  demand-by-end (suc n) h =
+      let x = slot-says starts ends n (each n (omega arith)) in
+      omega (arith, demand-by-end n (omega arith), x .0, x .1)
+
+  pub prev-capped : (n : ℕ) → n ≤ slots → prevEnd ends n ≤ 100000000
+  unfolding prevEnd
+  prev-capped zero h = zero-le
+  prev-capped (suc n) h = slot-says starts ends n (each n (omega arith)) .2
+
+-- ---- what the test says
+
+pub room-says : (slots : ℕ) (starts ends : List ℕ) → slotRoomOk slots starts ends ≡ true → (slots ≤ length starts) × (slots ≤ length ends)
+unfolding slotRoomOk
+room-says slots starts ends e =
+    let x = both (leb slots (length starts)) (leb slots (length ends)) e in
+    (leb-true _ _ (x .0), leb-true _ _ (x .1))
+
+pub slots-each : (slots : ℕ) (starts ends : List ℕ) → slotsOk slots starts ends ≡ true
+    → (k : ℕ) → k < slots → slotOkAt starts ends k ≡ true
+unfolding slotsOk
+slots-each slots starts ends e =
+    all-each slots (slotOkAt starts ends) (both (slotRoomOk slots starts ends) (all slots (slotOkAt starts ends)) e .1)
+
+pub slots-sound : (slots : ℕ) (starts ends : List ℕ) → slotsOk slots starts ends ≡ true → SlotsSound slots starts ends
+unfolding slotsOk demandOf
+slots-sound slots starts ends e =
+    let r = room-says slots starts ends (both (slotRoomOk slots starts ends) (all slots (slotOkAt starts ends)) e .0) in
+    let f = slots-each slots starts ends e in
+    record {
+      starts-room = r .0;
+      ends-room = r .1;
+      ordered = λ k h. slot-says starts ends k (f k h) .1;
+      capped = λ k h. slot-says starts ends k (f k h) .2;
+      ascending = slots-ascend slots starts ends f;
+      demand-fits =
+          omega (arith, demand-by-end slots starts ends f slots (omega arith), prev-capped slots starts ends f slots (omega arith));
+    }
+
+-- a slot's length is a part of demand
+pub minutes-le-demand : (slots : ℕ) (starts ends : List ℕ) (k : ℕ) → k < slots → minutesAt starts ends k ≤ demandOf slots starts ends
+unfolding demandOf
+minutes-le-demand slots starts ends k h = sum-part slots k (minutesAt starts ends) h
+
+-- the lengths of the first slots fit as well
+pub demand-part : (slots : ℕ) (starts ends : List ℕ) → slotsOk slots starts ends ≡ true → (n : ℕ) → n ≤ slots
+    → sum n (minutesAt starts ends) ≤ 100000000
+demand-part slots starts ends e n h =
+    let f = slots-each slots starts ends e in
+    omega (arith, demand-by-end slots starts ends f n h, prev-capped slots starts ends f n h)
+
+-- ---- the steps of the loops
+
+module _ (s e : List ℕ) (i prev : ℕ) (b : Bool) (q : prev ≡ prevEnd e i) (d : b ≡ slotOk prev (getD s i 0) (getD e i 0)) where
+  pub slot-test : slotOkAt s e i ≡ b
+  unfolding slotOkAt
+  slot-test = ap (λ (p : ℕ). slotOk p (getD s i 0) (getD e i 0)) (sym q) ∙ sym d
+
+pub prev-none : (ends : List ℕ) → 0 ≡ prevEnd ends 0
+unfolding prevEnd
+prev-none ends = refl
+
+pub prev-more : (ends : List ℕ) (i : ℕ) → getD ends i 0 ≡ prevEnd ends (i + 1)
+unfolding prevEnd
+prev-more ends i = sym (ap (prevEnd ends) (add-one i))
+
+-- ---- the numbers
+
+-- 1, 2 and 9 are what they are, as tests
+pub lent-says : (slots : ℕ) (starts ends : List ℕ) → lentNo slots starts ends ≡ 0
+    → (slotCountOk slots ≡ true) × (slotsOk slots starts ends ≡ true)
+unfolding lentNo
+lent-says slots starts ends e =
+    let x = cond-zero (slotCountOk slots) _ 0 e in
+    let y = cond-zero (slotRoomOk slots starts ends) _ 1 (x .1) in
+    let z = cond-zero (slotsOk slots starts ends) _ 8 (y .1) in
+    (x .0, z .0)
+
+then-eleven : (a b d f : Bool) (n : ℕ)
+    → n ≡ cond a (cond b (cond d 0 9) 2) 1
+    → cond a (cond b (cond d (cond f 0 11) 9) 2) 1 ≡ cond (eqb n 0) (cond f 0 11) n
+then-eleven true true true f n e = rw e refl
+then-eleven true true false f n e = rw e refl
+then-eleven true false d f n e = rw e refl
+then-eleven false b d f n e = rw e refl
+
+-- a slot's number is that of the lent slots, then 11
+pub lent-slot : (slots : ℕ) (starts ends : List ℕ) (k n : ℕ) → n ≡ lentNo slots starts ends
+    → lentSlotNo slots starts ends k ≡ cond (eqb n 0) (cond (ltb k slots) 0 11) n
+unfolding lentNo lentSlotNo
+lent-slot slots starts ends k n e =
+    then-eleven (slotCountOk slots) (slotRoomOk slots starts ends) (slotsOk slots starts ends) (ltb k slots) n e
+
+-- one more turn of the sum of the lengths
+module _ (starts ends : List ℕ) (i total m : ℕ) (e : total ≡ sum i (minutesAt starts ends)) (d : m ≡ minutesAt starts ends i) where
+  pub turn-adds : total + m ≡ sum (i + 1) (minutesAt starts ends)
+  turn-adds = ap₂ _+_ e d ∙ sym (sum-more i (minutesAt starts ends))
+
+  pub turn-fits : (slots : ℕ) → slotsOk slots starts ends ≡ true → i < slots → total + m ≤ 100000000
+  turn-fits slots ok h = omega (arith, turn-adds, demand-part slots starts ends ok (i + 1) (omega arith))
+
+-- ---- the answer, by its number
+
+pub minutes-told : (n n′ m x : ℕ) → n ≡ n′ → n ≡ 0 → m ≡ x → minutes.Are m ≡ minutesAs n′ x
+unfolding minutesAs
+minutes-told n n′ m x e z q = simp (eq-eqb n′ 0 (sym e ∙ z)) (ap minutes.Are q)
+
+pub minutes-refused : (n n′ x : ℕ) → n ≡ n′ → (n ≡ 0 → ⊥) → minutes.Refused n ≡ minutesAs n′ x
+unfolding minutesAs
+minutes-refused n n′ x e z = simp (ne-eqb n′ 0 (λ q. z (e ∙ q))) (ap minutes.Refused e)
+
+-- demand of slots that pass
+pub when-ok : (slots : ℕ) (starts ends : List ℕ) → slotsOk slots starts ends ≡ true
+    → demandWhenOk slots starts ends ≡ demandOf slots starts ends
+unfolding demandWhenOk
+when-ok slots starts ends e = simp e

@@ -1,0 +1,16 @@
+-- The laws of slots.
+pub mod Chains
+pub mod LentLaws
+pub mod Keys
+pub mod Merging
+pub mod RangeLaws
+pub mod Sorting
+pub mod WalkLaws
+pub mod FreezeLaws
+pub mod MergedLaws
+pub mod CutLaws
+pub mod AtomLaws
+pub mod AvailLaws
+pub mod SplitLaws
+pub mod Meaning
+pub mod Cases

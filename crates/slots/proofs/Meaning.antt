@@ -1,0 +1,217 @@
+-- What the outcomes mean, slot by slot, and that only one fits. Assumes nothing.
+use mathlib.Core.Path.{_≡_, refl, sym, ap, ap₂, _∙_}
+use mathlib.Core.Bool.{Bool, true, _&&_, cond}
+use mathlib.Core.Logic.{⊎-elim}
+use mathlib.Core.List.{List}
+use Prim.Native.Nat.{ℕ, zero, suc, _+_, _-_, _*_, _≤_, _<_}
+use native.Mathlib.Nat.{not-suc-le-zero}
+use native.Mathlib.Omega.{arith}
+use borrow.Author.Tests.{le-leb, lt-ltb, eq-eqb, ne-eqb}
+use lib.Dec.{leb, ltb, eqb}
+use lib.ListN.{length, getD, length-set}
+use Rattle.paper.specs.Limits.{slotCountOk}
+use Rattle.paper.specs.Count.{all}
+use Rattle.paper.proofs.Logic.{by-test, lt-or-ge, below-suc, and-true, both, slot-count-says}
+use Rattle.paper.proofs.Count.{all-same, sum-same, getD-over, getD-over-out, length-over}
+use Rattle.slotset.specs.declared.Counted.{Counted}
+use Rattle.slotset.specs.Slots.{slot, putSlot, putSlots, valueOf}
+use Rattle.slotset.proofs.Puts.{slot-put, slot-puts-here, slot-puts-other, value-lt}
+use Rattle.slots.specs.Lent.{slotOk, prevEnd, slotOkAt, slotRoomOk, slotsOk, minutesAt, demandOf}
+use Rattle.slots.specs.Ranges.{Ranges, available}
+use Rattle.slots.specs.Freeze.{endsBy, marked}
+use Rattle.slots.specs.Merged.{written, MergedOut, MergedEnd}
+use Rattle.slots.specs.Atomic.{atomStarts, atomEnds, Atoms, AtomsEnd}
+use Rattle.slots.specs.Availability.{availableBit, rows}
+use Rattle.slots.proofs.LentLaws.{slots-each}
+use Rattle.slots.proofs.AvailLaws.{length-rows}
+use Rattle.slots.proofs.SplitLaws.{atoms-ok, atoms-even, atoms-some, atoms-demand}
+
+-- ---- freezing: exactly the marks said
+
+length-marked : (n : ℕ) (ends : List ℕ) (instant : ℕ) (ws : List ℕ) → length (marked n ends instant ws) ≡ length ws
+unfolding marked putSlot
+length-marked zero ends instant ws = refl
+length-marked (suc n) ends instant ws =
+    by-test (endsBy ends instant n) _
+    (λ t. simp (t, length-set) (length-marked n ends instant ws))
+    (λ f. simp f (length-marked n ends instant ws))
+
+-- slot k after slot n was marked
+mark-at : (n k : ℕ) (ws : List ℕ) → n < 1024 → 16 ≤ length ws → slot (putSlot 0 n 1 ws) 0 k ≡ cond (eqb k n) 1 (slot ws 0 k)
+mark-at n k ws h r =
+    let e : 0 * 64 + k ≡ k = omega arith in
+    let d : 0 * 64 + n ≡ n = omega arith in
+    slot-put 0 n 1 ws 0 k (omega arith) (omega arith) ∙ ap₂ (λ (x y : ℕ). cond (eqb x y) 1 (slot ws 0 k)) e d
+
+module _ (ends : List ℕ) (instant : ℕ) (ws : List ℕ) (room : 16 ≤ length ws) (k : ℕ) where
+  mark-next : (n : ℕ) → n < 1024 → slot (putSlot 0 n 1 (marked n ends instant ws)) 0 k ≡ cond (eqb k n) 1 (slot
+      (marked n ends instant ws) 0 k)
+  mark-next n h = mark-at n k (marked n ends instant ws) h (omega (arith, length-marked n ends instant ws))
+
+  -- a slot that ends by the instant is marked
+  pub frozen-marked : (n : ℕ) → n ≤ 1024 → k < n → endsBy ends instant k ≡ true → slot (marked n ends instant ws) 0 k ≡ 1
+  unfolding marked
+  frozen-marked zero h l e = absurd (not-suc-le-zero l)
+  frozen-marked (suc n) h l e =
+      below-suc _ l
+      (λ (q : k ≡ n).
+      let t : endsBy ends instant n ≡ true = ap (endsBy ends instant) (sym q) ∙ e in
+      simp t (mark-next n (omega arith) ∙ simp (eq-eqb k n q)))
+      (λ (b : k < n).
+      by-test (endsBy ends instant n) _
+      (λ t. simp t (mark-next n (omega arith) ∙ simp (ne-eqb k n (λ q. omega arith)) (frozen-marked n (omega arith) b e)))
+      (λ f. simp f (frozen-marked n (omega arith) b e)))
+
+  -- any other keeps its mark, or has none as before
+  pub frozen-kept : (n : ℕ) → n ≤ 1024 → (k < n → endsBy ends instant k ≡ true → ⊥) → slot (marked n ends instant ws) 0 k ≡ slot ws 0 k
+  unfolding marked
+  frozen-kept zero h f = refl
+  frozen-kept (suc n) h f =
+      by-test (endsBy ends instant n) _
+      (λ t.
+      let ne : k ≡ n → ⊥ = λ q. f (omega arith) (ap (endsBy ends instant) q ∙ t) in
+      simp t (mark-next n (omega arith) ∙ simp (ne-eqb k n ne) (frozen-kept n (omega arith) (λ l. f (omega arith)))))
+      (λ u. simp u (frozen-kept n (omega arith) (λ l. f (omega arith))))
+
+-- ---- availability: exactly the slots said, and no other bit
+
+module _ (g : ℕ → ℕ → ℕ) (bits : (p k : ℕ) → g p k < 2) (slots : ℕ) (few : slots ≤ 1024) (ws : List ℕ) where
+  row-fits : (q : ℕ) → 16 * suc q ≤ length ws → 16 * q * 64 + (0 + slots) ≤ length (rows g slots q ws) * 64
+  row-fits q h = omega (arith, length-rows g slots q ws)
+
+  pub set-slot : (people : ℕ) → 16 * people ≤ length ws → (p k : ℕ) → p < people → k < slots
+      → slot (rows g slots people ws) (16 * p) k ≡ g p k
+  unfolding rows
+  set-slot zero room p k h l = absurd (not-suc-le-zero h)
+  set-slot (suc q) room p k h l =
+      below-suc _ h
+      (λ (e : p ≡ q).
+      let here = slot-puts-here (g q) (16 * q) 0 slots (rows g slots q ws) k (bits q) (row-fits q room) in
+      let t : leb 0 k && ltb k (0 + slots) ≡ true = and-true _ _ (le-leb 0 k (omega arith)) (lt-ltb k (0 + slots) (omega arith)) in
+      ap (λ (x : ℕ). slot (putSlots (g q) (16 * q) 0 slots (rows g slots q ws)) (16 * x) k) e ∙ here
+      ∙ ap (λ (b : Bool). cond b (g q k) (slot (rows g slots q ws) (16 * q) k)) t ∙ ap (λ (x : ℕ). g x k) (sym e))
+      (λ (b : p < q).
+      slot-puts-other (g q) (16 * q) 0 slots (rows g slots q ws) (16 * p) k (bits q) (row-fits q room) (λ x y. omega arith)
+      ∙ set-slot q (omega arith) p k b l)
+
+  -- bits at or past the slot count, and sets past the people, stay
+  pub other-slot : (people : ℕ) → 16 * people ≤ length ws → (p k : ℕ) → (p < people → slots ≤ k) → k < 1024
+      → slot (rows g slots people ws) (16 * p) k ≡ slot ws (16 * p) k
+  unfolding rows
+  other-slot zero room p k h l = refl
+  other-slot (suc q) room p k h l =
+      slot-puts-other (g q) (16 * q) 0 slots (rows g slots q ws) (16 * p) k (bits q) (row-fits q room)
+      (λ x y.
+      ⊎-elim
+      (λ (a : p < q). omega arith)
+      (λ (a : q ≤ p).
+      ⊎-elim (λ (b : q < p). omega arith) (λ (b : p ≤ q). let e : p ≡ q = omega arith in omega (arith, h (omega arith))) (lt-or-ge q p))
+      (lt-or-ge p q))
+      ∙ other-slot q (omega arith) p k (λ a. h (omega arith)) l
+
+bit-lt-two : (R : Ranges) (starts ends : List ℕ) (p k : ℕ) → availableBit R starts ends p k < 2
+unfolding availableBit
+bit-lt-two R starts ends p k = value-lt (available R p (getD starts k 0) (getD ends k 0))
+
+-- slot k of a person's set is 1 exactly where they are available for it
+pub available-slot : (R : Ranges) (starts ends : List ℕ) (slots people : ℕ) (ws : List ℕ) → slots ≤ 1024 → 16 * people ≤ length ws
+    → (p k : ℕ) → p < people → k < slots
+    → slot (rows (availableBit R starts ends) slots people ws) (16 * p) k ≡ valueOf (available R p (getD starts k 0) (getD ends k 0))
+unfolding availableBit
+available-slot R starts ends slots people ws few room p k h l =
+    set-slot (availableBit R starts ends) (bit-lt-two R starts ends) slots few ws people room p k h l
+
+-- ---- atomic slots in the columns that they were written to
+
+pub written-at : (f : ℕ → ℕ) (list column : List ℕ) (k : ℕ) → k < length list → length list ≤ length column
+    → getD (written f list column) k 0 ≡ f (getD list k 0)
+unfolding written
+written-at f list column k h r = getD-over (λ k. f (getD list k 0)) (length list) column k h (omega arith)
+
+-- what lies past the list's end stays
+pub written-past : (f : ℕ → ℕ) (list column : List ℕ) (k : ℕ) → length list ≤ k → getD (written f list column) k 0 ≡ getD column k 0
+unfolding written
+written-past f list column k h = getD-over-out (λ k. f (getD list k 0)) (length list) column k h
+
+pub written-length : (f : ℕ → ℕ) (list column : List ℕ) → length (written f list column) ≡ length column
+unfolding written
+written-length f list column = length-over (λ k. f (getD list k 0)) (length list) column
+
+-- columns that agree on the slots give the same test and the same demand
+module _ (n : ℕ) (s e s′ e′ : List ℕ) (a : (k : ℕ) → k < n → getD s k 0 ≡ getD s′ k 0) (b : (k : ℕ) → k < n
+    → getD e k 0 ≡ getD e′ k 0) where
+  prev-same : (k : ℕ) → k < n → prevEnd e k ≡ prevEnd e′ k
+  unfolding prevEnd
+  prev-same zero h = refl
+  prev-same (suc k) h = b k (omega arith)
+
+  pub tests-same : (k : ℕ) → k < n → slotOkAt s e k ≡ slotOkAt s′ e′ k
+  unfolding slotOkAt
+  tests-same k h =
+      ap (λ (x : ℕ). slotOk x (getD s k 0) (getD e k 0)) (prev-same k h) ∙ ap₂ (λ (x y : ℕ). slotOk (prevEnd e′ k) x y) (a k h) (b k h)
+
+  pub demand-same : demandOf n s e ≡ demandOf n s′ e′
+  unfolding demandOf minutesAt
+  demand-same = sum-same n (λ k. getD e k 0 - getD s k 0) (λ k. getD e′ k 0 - getD s′ k 0) (λ k h. ap₂ _-_ (b k h) (a k h))
+
+-- the atomic slots of base slots that pass, in columns s and e with room for them
+module _ (l : List ℕ) (slots : ℕ) (starts ends s e : List ℕ) (ok : slotsOk slots starts ends ≡ true)
+    (rs : length (atomStarts l slots starts ends) ≤ length s) (re : length (atomStarts l slots starts ends) ≤ length e) where
+  at-starts : (k : ℕ) → k < length (atomStarts l slots starts ends)
+      → getD (written (λ t. t) (atomStarts l slots starts ends) s) k 0 ≡ getD (atomStarts l slots starts ends) k 0
+  at-starts k h = written-at (λ t. t) (atomStarts l slots starts ends) s k h rs
+
+  at-ends : (k : ℕ) → k < length (atomStarts l slots starts ends)
+      → getD (written (λ t. t) (atomEnds l slots starts ends) e) k 0 ≡ getD (atomEnds l slots starts ends) k 0
+  at-ends k h =
+      let same = atoms-even l slots starts ends in
+      written-at (λ t. t) (atomEnds l slots starts ends) e k (omega arith) (omega arith)
+
+  -- they pass the test of lent slots
+  pub atoms-lent : slotsOk (length (atomStarts l slots starts ends)) (written (λ t. t) (atomStarts l slots starts ends) s)
+      (written (λ t. t) (atomEnds l slots starts ends) e) ≡ true
+  unfolding slotsOk slotRoomOk
+  atoms-lent =
+      let A = atomStarts l slots starts ends in
+      let E = atomEnds l slots starts ends in
+      let w = both (slotRoomOk (length A) A E) (all (length A) (slotOkAt A E)) (atoms-ok l slots starts ends ok) in
+      and-true _ _
+      (and-true _ _ (le-leb (length A) (length (written (λ t. t) A s)) (omega (arith, written-length (λ t. t) A s)))
+      (le-leb (length A) (length (written (λ t. t) E e)) (omega (arith, written-length (λ t. t) E e))))
+      (all-same (length A) (slotOkAt (written (λ t. t) A s) (written (λ t. t) E e)) (slotOkAt A E)
+      (tests-same (length A) (written (λ t. t) A s) (written (λ t. t) E e) A E at-starts at-ends) ∙ w .1)
+
+  -- and their demand is that of the base slots
+  pub atoms-lent-demand : demandOf (length (atomStarts l slots starts ends)) (written (λ t. t) (atomStarts l slots starts ends) s)
+      (written (λ t. t) (atomEnds l slots starts ends) e) ≡ demandOf slots starts ends
+  atoms-lent-demand =
+      let A = atomStarts l slots starts ends in
+      let E = atomEnds l slots starts ends in
+      demand-same (length A) (written (λ t. t) A s) (written (λ t. t) E e) A E at-starts at-ends
+      ∙ atoms-demand l slots starts ends (slots-each slots starts ends ok) slots (omega arith)
+
+-- where they are not refused, their number is one of 1 to 1,024
+pub atoms-count-ok : (l : List ℕ) (slots : ℕ) (starts ends : List ℕ) → slotCountOk slots ≡ true
+    → length (atomStarts l slots starts ends) ≤ 1024 → slotCountOk (length (atomStarts l slots starts ends)) ≡ true
+unfolding slotCountOk
+atoms-count-ok l slots starts ends ok few =
+    let one = slot-count-says slots ok .0 in
+    let n = length (atomStarts l slots starts ends) in
+    and-true _ _ (le-leb 1 n (omega (arith, atoms-some l slots starts ends))) (le-leb n 1024 few)
+
+-- ---- only one outcome fits
+
+-- an answer that the contract names: demand, slot_minutes, is_available, and each buffer of freeze_before and availability
+pub one-answer {ℓ} : {A : Type ℓ} (x r s : A) → r ≡ x → s ≡ x → r ≡ s
+one-answer x r s a b = a ∙ sym b
+
+-- merged_ranges
+pub one-merged-end : (x : MergedOut) (r r′ : Counted) (p p′ s s′ e e′ : List ℕ) → MergedEnd x r p s e → MergedEnd x r′ p′ s′ e′
+    → (r ≡ r′) × (p ≡ p′) × (s ≡ s′) × (e ≡ e′)
+one-merged-end x r r′ p p′ s s′ e e′ a b =
+    (a .heard ∙ sym (b .heard), a .persons ∙ sym (b .persons), a .starts ∙ sym (b .starts), a .ends ∙ sym (b .ends))
+
+-- atomise
+pub one-atoms-end : (x : Atoms) (r r′ : Counted) (s s′ e e′ : List ℕ) → AtomsEnd x r s e → AtomsEnd x r′ s′ e′
+    → (r ≡ r′) × (s ≡ s′) × (e ≡ e′)
+one-atoms-end x r r′ s s′ e e′ a b = (a .heard ∙ sym (b .heard), a .starts ∙ sym (b .starts), a .ends ∙ sym (b .ends))

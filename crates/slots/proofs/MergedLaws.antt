@@ -1,0 +1,155 @@
+-- Merged ranges handed out: the columns written, and the outcome. Assumes nothing.
+use mathlib.Core.Path.{_≡_, refl, sym, ap, ap₂, _∙_}
+use mathlib.Core.Bool.{Bool, true, false, _&&_, _||_}
+use mathlib.Core.List.{List, [], _∷_}
+use Prim.Native.Nat.{ℕ, zero, suc, _+_, _≤_, _<_}
+use native.Mathlib.Nat.{not-suc-le-zero}
+use native.Mathlib.Omega.{arith}
+use borrow.Author.Tests.{le-leb, lt-ltb, eq-eqb, eqb-true, ne-eqb}
+use lib.Dec.{leb, ltb, eqb}
+use lib.ListN.{length, getD, take, set}
+use lib.Seq.{length-take-le, getD-take}
+use Rattle.paper.specs.Limits.{peopleOk}
+use Rattle.paper.specs.Count.{over}
+use Rattle.paper.proofs.Logic.{both, three, by-test, cond-zero, and-true}
+use Rattle.paper.proofs.Count.{over-more, over-same, length-over}
+use Rattle.slotset.specs.declared.Counted.the-variants as counted
+use Rattle.slotset.specs.Answers.{countedAs, wordsAs}
+use Rattle.slots.specs.Ranges.{some, anyOf, Ranges, ranges, rangeCountOk, rangeRoomOk, rangesOk, RangesSound, inRange, inRanges}
+use Rattle.slots.specs.Ranges.{personOf, startOf, endOf, covers, opens, closes, mergedOf, Spaced}
+use Rattle.slots.specs.Walk.{MergedFrom}
+use Rattle.slots.specs.Merged.{written, Columns, mergedNo, mergedRanges, MergedEnd, TakenApart}
+use Rattle.slots.proofs.Keys.{empty-line}
+use Rattle.slots.proofs.Merging.{or-second}
+use Rattle.slots.proofs.RangeLaws.{ranges-sound, range-room-says, merged-is}
+
+-- ---- an entry of the merged list is a known person's
+
+some-one : (n : ℕ) (p : ℕ → Bool) (X : Type 0) → some n p ≡ true → ((k : ℕ) → k < n → p k ≡ true → X) → X
+unfolding some
+some-one zero p X e f = absurd (mathlib.Core.Bool.false≢true e)
+some-one (suc n) p X e f =
+    by-test (p n) X
+    (λ t. f n (omega arith) t)
+    (λ u. some-one n p X (or-first (some n p) (p n) e u) (λ k h t. f k (omega arith) t))
+  where
+    or-first : (a b : Bool) → a || b ≡ true → b ≡ false → a ≡ true
+    or-first true b e f = refl
+    or-first false b e f = absurd (mathlib.Core.Bool.true≢false (sym e ∙ f))
+
+-- a test that one entry passes
+pub any-at : (p : ℕ → Bool) (l : List ℕ) (k : ℕ) → k < length l → p (getD l k 0) ≡ true → anyOf p l ≡ true
+unfolding anyOf
+any-at p [] k h e = absurd (not-suc-le-zero h)
+any-at p (x ∷ l) zero h e = simp e
+any-at p (x ∷ l) (suc k) h e = or-second (p x) (anyOf p l) (any-at p l k (omega arith) e)
+
+-- no entry of a spaced list is empty
+pub spaced-some : (from : ℕ) (l : List ℕ) → Spaced from l → (k : ℕ) → k < length l → opens (getD l k 0) < closes (getD l k 0)
+spaced-some from [] s k h = absurd (not-suc-le-zero h)
+spaced-some from (x ∷ l) s zero h = s .1
+spaced-some from (x ∷ l) s (suc k) h = spaced-some (suc (closes x)) l (s .2) k (omega arith)
+
+own-minute : (x : ℕ) → opens x < closes x → covers (personOf x) (startOf x) x ≡ true
+unfolding covers
+own-minute x h =
+    and-true _ _ (eq-eqb (personOf x) (personOf x) refl)
+    (and-true _ _ (le-leb (startOf x) (startOf x) (omega arith)) (empty-line x ∙ lt-ltb (opens x) (closes x) h))
+
+pub merged-known : (R : Ranges) → RangesSound R → (k : ℕ) → k < length (mergedOf R) → personOf (getD (mergedOf R) k 0) < 32
+unfolding inRanges inRange
+merged-known R S k h =
+    let M = merged-is R S in
+    let x = getD (mergedOf R) k 0 in
+    let c = own-minute x (spaced-some 0 (mergedOf R) (M .spaced) k h) in
+    let e = sym (M .minutes (personOf x) (startOf x)) ∙ any-at (covers (personOf x) (startOf x)) (mergedOf R) k h c in
+    some-one (R .count) (inRange R (personOf x) (startOf x)) _ e
+    (λ j l t.
+    let w = three (eqb (getD (R .persons) j 0) (personOf x)) (leb (getD (R .starts) j 0) (startOf x)) (ltb (startOf x) (getD
+    (R .ends) j 0)) t in
+    omega (arith, eqb-true (getD (R .persons) j 0) (personOf x) (w .0), S .known j l))
+
+-- the first n entries of a list are written
+pub front-written : (f : ℕ → ℕ) (l a column : List ℕ) (n : ℕ) → take n l ≡ a → n ≤ length l
+    → over (λ k. f (getD l k 0)) n column ≡ written f a column
+unfolding written
+front-written f l a column n e h =
+    let m : n ≡ length a = sym (length-take-le n l h) ∙ ap length e in
+    over-same (λ k. f (getD l k 0)) (λ k. f (getD a k 0)) n column
+    (λ k g. ap f (sym (getD-take n l k 0 g) ∙ ap (λ (x : List ℕ). getD x k 0) e))
+    ∙ ap (λ (j : ℕ). over (λ k. f (getD a k 0)) j column) m
+
+-- ---- the list as the code holds it
+
+module _ (R : Ranges) (S : RangesSound R) (keys : List ℕ) (n : ℕ) (M : MergedFrom R keys n) where
+  pub held-length : length (mergedOf R) ≡ n
+  held-length = ap length (sym (M .list)) ∙ length-take-le n keys (M .fits)
+
+  pub held-at : (k : ℕ) → k < n → getD keys k 0 ≡ getD (mergedOf R) k 0
+  held-at k h = sym (getD-take n keys k 0 h) ∙ ap (λ (l : List ℕ). getD l k 0) (M .list)
+
+  pub held-known : (k : ℕ) → k < n → personOf (getD keys k 0) < 32
+  held-known k h = omega (arith, ap personOf (held-at k h), merged-known R S k (omega (arith, held-length)))
+
+  pub held-written : (f : ℕ → ℕ) (column : List ℕ) → over (λ k. f (getD keys k 0)) n column ≡ written f (mergedOf R) column
+  held-written f column = front-written f keys (mergedOf R) column n (M .list) (M .fits)
+
+-- ---- the outcome
+
+pub merged-says : (people : ℕ) (R : Ranges) (out : Columns) → mergedNo people R out ≡ 0
+    → RangesSound R × (R .count ≤ length (out .persons)) × (R .count ≤ length (out .starts)) × (R .count ≤ length (out .ends))
+unfolding mergedNo
+merged-says people R out e =
+    let x = cond-zero (peopleOk people && rangeCountOk (R .count)) _ 0 e in
+    let O = ranges (R .count) (out .persons) (out .starts) (out .ends) in
+    let y = cond-zero (rangeRoomOk R && rangeRoomOk O) _ 1 (x .1) in
+    let z = cond-zero (rangesOk people R) _ 3 (y .1) in
+    let u = both (peopleOk people) (rangeCountOk (R .count)) (x .0) in
+    let w = range-room-says O (both (rangeRoomOk R) (rangeRoomOk O) (y .0) .1) in
+    (ranges-sound people R (u .0) (u .1) (z .0), w .0, w .1, w .2)
+
+module _ (people : ℕ) (R : Ranges) (out : Columns) (number : ℕ) (e : number ≡ mergedNo people R out) where
+  pub merged-refused : (number ≡ 0 → ⊥)
+      → MergedEnd (mergedRanges people R out) (counted.Refused number) (out .persons) (out .starts) (out .ends)
+  unfolding mergedRanges countedAs wordsAs
+  merged-refused h =
+      let z : eqb (mergedNo people R out) 0 ≡ false = ne-eqb _ _ (λ q. h (e ∙ q)) in
+      record { heard = simp z (ap counted.Refused e); persons = simp z; starts = simp z; ends = simp z }
+
+  pub merged-done : number ≡ 0 → (keys : List ℕ) (n : ℕ) → MergedFrom R keys n → (p s f : List ℕ)
+      → TakenApart n keys (out .persons) (out .starts) (out .ends) p s f → MergedEnd (mergedRanges people R out) (counted.Is n) p s f
+  unfolding mergedRanges countedAs wordsAs
+  merged-done h keys n M p s f T =
+      let z : eqb (mergedNo people R out) 0 ≡ true = eq-eqb _ _ (sym e ∙ h) in
+      let S = merged-says people R out (sym e ∙ h) .0 in
+      record {
+        heard = simp z (ap counted.Is (sym (held-length R S keys n M)));
+        persons = simp z (T .persons ∙ held-written R S keys n M personOf (out .persons));
+        starts = simp z (T .starts ∙ held-written R S keys n M startOf (out .starts));
+        ends = simp z (T .ends ∙ held-written R S keys n M endOf (out .ends));
+      }
+
+-- ---- one entry more in a column
+
+pub column-more : (f : ℕ → ℕ) (i x : ℕ) (old now : List ℕ) → now ≡ over f i old → x ≡ f i → set now i x ≡ over f (i + 1) old
+column-more f i x old now e d = ap₂ (λ (l : List ℕ) (y : ℕ). set l i y) e d ∙ sym (over-more f i old)
+
+pub column-length : (f : ℕ → ℕ) (i : ℕ) (old now : List ℕ) → now ≡ over f i old → length now ≡ length old
+column-length f i old now e = ap length e ∙ length-over f i old
+
+pub column-done : (f : ℕ → ℕ) (i n : ℕ) (old now : List ℕ) → now ≡ over f i old → i ≤ n → n ≤ i → now ≡ over f n old
+column-done f i n old now e a b = let q : i ≡ n = omega arith in e ∙ ap (λ (m : ℕ). over f m old) q
+
+pub column-room : (f : ℕ → ℕ) (i n : ℕ) (old now : List ℕ) → now ≡ over f i old → n ≤ length old → i < n → i < length now
+column-room f i n old now e a b = omega (arith, column-length f i old now e)
+
+-- what taking the list apart asks
+pub merged-work : (people : ℕ) (R : Ranges) (out : Columns) → mergedNo people R out ≡ 0 → (keys : List ℕ) (n : ℕ) → MergedFrom R keys n
+    → ((n ≤ 1024) × (n ≤ length keys) × ((k : ℕ) → k < n → personOf (getD keys k 0) < 32))
+    × ((n ≤ length (out .persons)) × (n ≤ length (out .starts)) × (n ≤ length (out .ends)))
+merged-work people R out e keys n M =
+    let x = merged-says people R out e in
+    let few : n ≤ R .count = M .few in (
+      (omega (arith, x .0 .few), M .fits, held-known R (x .0) keys n M),
+      (omega (arith, x .1), omega (arith, x .2), omega (arith, x .3)),
+    )

@@ -1,0 +1,226 @@
+-- Lent ranges: what their checks say, the ranges as numbers, and that the merged list is the one of their minutes. Assumes nothing.
+use mathlib.Core.Path.{_≡_, refl, sym, ap, ap₂, _∙_}
+use mathlib.Core.Bool.{Bool, true, false, _&&_, _||_}
+use mathlib.Core.List.{List, [], _∷_, _++_}
+use Prim.Native.Nat.{ℕ, zero, suc, _+_, _*_, _≤_, _<_}
+use native.Mathlib.Nat.{not-suc-le-zero, le-antisymm}
+use native.Mathlib.Numerals.{add-one}
+use native.Mathlib.Omega.{arith}
+use borrow.Author.Tests.{ltb-true, ltb-false, leb-true, le-ltb}
+use lib.Dec.{leb, ltb}
+use lib.ListN.{length, getD, take, drop, set, length-append}
+use lib.Seq.{take-suc-set, take-at, length-take-le}
+use Rattle.paper.specs.Limits.{peopleOk}
+use Rattle.paper.specs.Count.{all}
+use Rattle.paper.proofs.Logic.{both, three, people-says}
+use Rattle.paper.proofs.Count.{all-each}
+use Rattle.slots.specs.Ranges.{some, anyOf, Ranges, rangeCountOk, rangeRoomOk, rangeOk, rangeOkAt, rangesOk, RangesSound}
+use Rattle.slots.specs.Ranges.{inRange, inRanges, keyOf, personOf, startOf, endOf, keyAt, keysTo, keysOf, covers, opens, closes}
+use Rattle.slots.specs.Ranges.{mergeAll, mergedOf, IsMerged}
+use Rattle.slots.specs.Walk.{SortedTo, SameEntries, walkOn, MergedFrom}
+use Rattle.slots.proofs.WalkLaws.{walk-few}
+use Rattle.slots.proofs.Keys.{person-key, start-key, end-key, inLine, opens-mono}
+use Rattle.slots.proofs.Merging.{or-false, any-append, all-places, all-spaced, places-minutes, one-merged, Rising}
+use Rattle.slots.proofs.Merging.{empty-none, walk-places, walk-spaced}
+
+-- ---- what the checks say
+
+pub range-room-says : (R : Ranges) → rangeRoomOk R ≡ true
+    → (R .count ≤ length (R .persons)) × (R .count ≤ length (R .starts)) × (R .count ≤ length (R .ends))
+unfolding rangeRoomOk
+range-room-says R e =
+    let x = three (leb (R .count) (length (R .persons))) (leb (R .count) (length (R .starts))) (leb (R .count) (length (R .ends))) e in
+    (leb-true _ _ (x .0), leb-true _ _ (x .1), leb-true _ _ (x .2))
+
+range-says : (people : ℕ) (R : Ranges) (k : ℕ) → rangeOkAt people R k ≡ true
+    → (getD (R .starts) k 0 ≤ getD (R .ends) k 0) × (getD (R .ends) k 0 ≤ 100000000) × (getD (R .persons) k 0 < people)
+unfolding rangeOkAt rangeOk
+range-says people R k e =
+    let p = getD (R .persons) k 0 in
+    let s = getD (R .starts) k 0 in
+    let f = getD (R .ends) k 0 in
+    let x = three (leb s f) (leb f 100000000) (ltb p people) e in
+    (leb-true _ _ (x .0), leb-true _ _ (x .1), ltb-true _ _ (x .2))
+
+pub ranges-sound : (people : ℕ) (R : Ranges) → peopleOk people ≡ true → rangeCountOk (R .count) ≡ true → rangesOk people R ≡ true
+    → RangesSound R
+unfolding rangeCountOk rangesOk
+ranges-sound people R a b e =
+    let x = both (rangeRoomOk R) (all (R .count) (rangeOkAt people R)) e in
+    let r = range-room-says R (x .0) in
+    let f = all-each (R .count) (rangeOkAt people R) (x .1) in
+    record {
+      few = leb-true _ _ b;
+      persons-room = r .0;
+      starts-room = r .1;
+      ends-room = r .2;
+      known = λ k h. omega (arith, range-says people R k (f k h) .2, people-says people a .1);
+      ordered = λ k h. range-says people R k (f k h) .0;
+      capped = λ k h. range-says people R k (f k h) .1;
+    }
+
+-- ---- the ranges as numbers
+
+pub length-keys : (R : Ranges) (n : ℕ) → length (keysTo R n) ≡ n
+unfolding keysTo
+length-keys R zero = refl
+length-keys R (suc n) = length-append (keysTo R n) (keyAt R n ∷ []) ∙ omega (arith, length-keys R n)
+
+pub keys-none : (R : Ranges) → keysTo R 0 ≡ []
+unfolding keysTo
+keys-none R = refl
+
+pub keys-more : (R : Ranges) (n : ℕ) → keysTo R (n + 1) ≡ keysTo R n ++ (keyAt R n ∷ [])
+unfolding keysTo
+keys-more R n = ap (keysTo R) (add-one n)
+
+module _ (R : Ranges) (S : RangesSound R) (k : ℕ) (h : k < R .count) where
+  pub person-at : personOf (keyAt R k) ≡ getD (R .persons) k 0
+  unfolding keyAt
+  person-at = person-key _ _ _ (omega (arith, S .ordered k h, S .capped k h)) (omega (arith, S .capped k h))
+
+  pub start-at : startOf (keyAt R k) ≡ getD (R .starts) k 0
+  unfolding keyAt
+  start-at = start-key _ _ _ (omega (arith, S .ordered k h, S .capped k h)) (omega (arith, S .capped k h))
+
+  pub end-at : endOf (keyAt R k) ≡ getD (R .ends) k 0
+  unfolding keyAt
+  end-at = end-key _ _ _ (omega (arith, S .capped k h))
+
+  pub covers-at : (p t : ℕ) → covers p t (keyAt R k) ≡ inRange R p t k
+  unfolding covers inRange
+  covers-at p t = simp (person-at, start-at, end-at)
+
+-- the numbers have the minutes of the ranges
+pub keys-minutes : (R : Ranges) → RangesSound R → (n : ℕ) → n ≤ R .count → (p t : ℕ)
+    → anyOf (covers p t) (keysTo R n) ≡ some n (inRange R p t)
+unfolding anyOf keysTo some
+keys-minutes R S zero h p t = refl
+keys-minutes R S (suc n) h p t =
+    any-append (covers p t) (keysTo R n) (keyAt R n ∷ [])
+    ∙ ap₂ _||_ (keys-minutes R S n (omega arith) p t) (or-false (covers p t (keyAt R n)) ∙ covers-at R S n (omega arith) p t)
+
+proper-at : (R : Ranges) → RangesSound R → (k : ℕ) → k < R .count → ltb (closes (keyAt R k)) (opens (keyAt R k)) ≡ false
+unfolding closes opens
+proper-at R S k h =
+    le-ltb (personOf (keyAt R k) * 268435456 + endOf (keyAt R k)) (personOf (keyAt R k) * 268435456 + startOf (keyAt R k))
+    (omega (arith, start-at R S k h, end-at R S k h, S .ordered k h))
+
+-- no number is of a reversed range
+pub keys-proper : (R : Ranges) → RangesSound R → (n : ℕ) → n ≤ R .count → anyOf (λ x. ltb (closes x) (opens x)) (keysTo R n) ≡ false
+unfolding anyOf keysTo
+keys-proper R S zero h = refl
+keys-proper R S (suc n) h =
+    any-append (λ x. ltb (closes x) (opens x)) (keysTo R n) (keyAt R n ∷ [])
+    ∙ ap₂ _||_ (keys-proper R S n (omega arith)) (or-false (ltb (closes (keyAt R n)) (opens (keyAt R n))) ∙ proper-at R S n (omega arith))
+
+-- ---- the merged list
+
+pub merged-is : (R : Ranges) → RangesSound R → IsMerged (inRanges R) (mergedOf R)
+unfolding mergedOf keysOf inRanges
+merged-is R S =
+    record {
+      spaced = all-spaced (keysTo R (R .count));
+      minutes = λ p t.
+          places-minutes (mergeAll (keysTo R (R .count))) (keysTo R (R .count)) (λ q. all-places q (keysTo R (R .count))) p t
+          ∙ keys-minutes R S (R .count) (omega arith) p t;
+    }
+
+-- ---- numbers in order
+
+or-no : (a b : Bool) → a || b ≡ false → (a ≡ false) × (b ≡ false)
+or-no true b e = absurd (mathlib.Core.Bool.true≢false e)
+or-no false b e = (refl, e)
+
+-- a test that no entry passes
+pub any-not : (p : ℕ → Bool) (l : List ℕ) → anyOf p l ≡ false → (k : ℕ) → k < length l → p (getD l k 0) ≡ false
+unfolding anyOf
+any-not p [] e k h = absurd (not-suc-le-zero h)
+any-not p (x ∷ l) e zero h = or-no (p x) (anyOf p l) e .0
+any-not p (x ∷ l) e (suc k) h = any-not p l (or-no (p x) (anyOf p l) e .1) k (omega arith)
+
+zero-order : ltb (closes 0) (opens 0) ≡ false
+unfolding closes opens personOf startOf endOf
+zero-order = refl
+
+zero-empty : ltb (startOf 0) (endOf 0) ≡ false
+unfolding startOf endOf
+zero-empty = refl
+
+-- the number 0 is an empty range
+zero-line : (opens 0 ≤ closes 0) × ((q : ℕ) → inLine q 0 ≡ false)
+zero-line = (ltb-false (closes 0) (opens 0) zero-order, λ q. empty-none q 0 zero-empty)
+
+rising-of : (from : ℕ) (l : List ℕ) → SortedTo (length l) l → ((k : ℕ) → k < length l → from ≤ opens (getD l k 0))
+    → ((k : ℕ) → k < length l → opens (getD l k 0) ≤ closes (getD l k 0)) → Rising from l
+rising-of from [] s f g = tt
+rising-of from (x ∷ l) s f g = (
+  f zero (omega arith),
+  g zero (omega arith),
+  rising-of (opens x) l (λ k j a b. s (suc k) (suc j) (omega arith) (omega arith))
+      (λ k h. opens-mono x (getD l k 0) (s zero (suc k) (omega arith) (omega arith)))
+      (λ k h. g (suc k) (omega arith)),
+)
+
+-- the walk over the ranges in order gives the merged list
+pub walk-merged : (R : Ranges) → RangesSound R → (l : List ℕ) → SortedTo (length l) l → SameEntries l (keysOf R) → walkOn 0 l ≡ mergedOf R
+unfolding keysOf inRanges
+walk-merged R S l s e =
+    let g : (k : ℕ) → k < length l → opens (getD l k 0) ≤ closes (getD l k 0) = λ k h.
+    ltb-false _ _ (any-not (λ x. ltb (closes x) (opens x)) l (e (λ x. ltb (closes x) (opens x))
+    ∙ keys-proper R S (R .count) (omega arith)) k h) in
+    let r : Rising (opens 0) l = rising-of (opens 0) l s (λ k h. opens-mono 0 (getD l k 0) (omega arith)) g in
+    one-merged (inRanges R) (walkOn 0 l) (mergedOf R)
+    (record {
+      spaced = walk-spaced 0 0 l r (omega arith) (zero-line .0);
+      minutes = λ p t.
+          places-minutes (walkOn 0 l) l (λ q. walk-places q 0 l r ∙ ap (λ (b : Bool). b || anyOf (inLine q) l) (zero-line .1 q)) p t
+          ∙ e (covers p t) ∙ keys-minutes R S (R .count) (omega arith) p t;
+    })
+    (merged-is R S)
+
+-- ---- the numbers, written one by one
+
+pub load-more : (R : Ranges) (l : List ℕ) (i x : ℕ) → take i l ≡ keysTo R i → i < length l
+    → x ≡ keyOf (getD (R .persons) i 0) (getD (R .starts) i 0) (getD (R .ends) i 0)
+    → take (i + 1) (set l i x) ≡ keysTo R (i + 1)
+unfolding keyAt
+load-more R l i x e h d =
+    ap (λ (n : ℕ). take n (set l i x)) (add-one i) ∙ take-suc-set l i x h ∙ ap₂ (λ (k : List ℕ) (y : ℕ). k ++ (y ∷ [])) e d
+    ∙ sym (keys-more R i)
+
+pub keys-done : (R : Ranges) (l : List ℕ) (i : ℕ) → i ≤ R .count → R .count ≤ i → take i l ≡ keysTo R i → take (R .count) l ≡ keysOf R
+unfolding keysOf
+keys-done R l i a b e = ap (λ (n : ℕ). take n l) (le-antisymm b a) ∙ e ∙ ap (keysTo R) (le-antisymm a b)
+
+-- a test after two that hold
+pub two-then : (a b d : Bool) → a ≡ true → b ≡ true → d ≡ a && (b && d)
+two-then a b d p q = simp (p, q)
+
+-- ---- sorted, then walked over
+
+-- the first n entries of a list, put back sorted
+module _ (n : ℕ) (keys sorted : List ℕ) (few : n ≤ length keys) (kept : length sorted ≡ length (take n keys)) where
+  sorted-length : length sorted ≡ n
+  sorted-length = kept ∙ length-take-le n keys few
+
+  pub front-sorted : take n (sorted ++ drop n keys) ≡ sorted
+  front-sorted = take-at sorted (drop n keys) n sorted-length
+
+  pub front-length : length (take n (sorted ++ drop n keys)) ≡ n
+  front-length = ap length front-sorted ∙ sorted-length
+
+  pub front-fits : n ≤ length (sorted ++ drop n keys)
+  front-fits = omega (arith, length-append sorted (drop n keys), sorted-length)
+
+  -- the walk over them gives the merged list
+  pub front-merged : (R : Ranges) → RangesSound R → R .count ≡ n → take n keys ≡ keysOf R
+      → SortedTo (length (take n keys)) sorted → SameEntries sorted (take n keys)
+      → (m : ℕ) (out : List ℕ) → n ≤ length out
+      → m ≡ length (walkOn 0 (take n (sorted ++ drop n keys))) → take m out ≡ walkOn 0 (take n (sorted ++ drop n keys))
+      → MergedFrom R out m
+  front-merged R S e k s same m out f a b =
+      let w : walkOn 0 (take n (sorted ++ drop n keys)) ≡ mergedOf R =
+      ap (walkOn 0) front-sorted ∙ walk-merged R S sorted (λ i j x y. s i j x (omega (arith, kept))) (λ p. same p ∙ ap (anyOf p) k) in
+      let few : m ≤ n = omega (arith, walk-few (take n (sorted ++ drop n keys)), front-length) in
+      record { fits = omega arith; few = omega arith; list = b ∙ w }

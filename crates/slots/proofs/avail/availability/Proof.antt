@@ -1,0 +1,58 @@
+-- `slots::avail::availability` meets its contract. Assumes nothing.
+use borrow.Author.Needs.{needs}
+use mathlib.Core.Path.{sym, _∙_}
+use native.Mathlib.Omega.{arith}
+use Rattle.slots.proofs.AvailLaws.{availability-says, availability-refused, availability-done, held-spaced}
+use Rattle.slots.proofs.avail.availability.Statement.{statement}
+use Rattle.slots.proofs.avail.availability.Tie as tie
+
+availability-no-requires : tie.Need-availability-no-requires
+availability-no-requires c κs = search needs
+
+merged-keys-requires : tie.Need-merged-keys-requires
+merged-keys-requires c κs = availability-says _ _ _ _ _ _ (sym (c .before .availability-no .ensures) ∙ c .if1 .taken) .ranges-sound
+
+slice-aggregate-fill-rows : tie.Need-slice-aggregate-fill-rows
+slice-aggregate-fill-rows c = search needs
+
+fill-rows-requires : tie.Need-fill-rows-requires
+fill-rows-requires c κs =
+    let availability-no = c .before .before .before .before .before .availability-no in
+    let if1 = c .before .before .before .before .if1 in
+    let merged-keys = c .before .before .before .merged-keys in
+    let S = availability-says _ _ _ _ _ _ (sym (availability-no .ensures) ∙ if1 .taken) in
+    let M = merged-keys .ensures in (
+      (omega (arith, M .few, S .ranges-sound .few), M .fits, held-spaced _ (S .ranges-sound) (merged-keys .result .keys) _ M),
+      ((S .few, S .slots-sound), (S .people-ok, S .room)),
+    )
+
+same-length : tie.Need-same-length
+same-length c = search needs
+
+returns : tie.Need-returns
+returns c =
+    let availability-no = c .before .before .before .before .before .before .before .before .availability-no in
+    let if1 = c .before .before .before .before .before .before .before .if1 in
+    let merged-keys = c .before .before .before .before .before .before .merged-keys in
+    let fill-rows = c .before .before .fill-rows in
+    availability-done _ _ _ _ _ _ _ (availability-no .ensures) (if1 .taken) (merged-keys .result .keys) _ (merged-keys .ensures) _
+    (fill-rows .ensures)
+
+same-length-2 : tie.Need-same-length-2
+same-length-2 c = search needs
+
+returns-2 : tie.Need-returns-2
+returns-2 c = availability-refused _ _ _ _ _ _ _ (c .before .availability-no .ensures) (c .if1 .left)
+
+pub availability-spec : {M : Type 1} → statement M
+availability-spec =
+    tie.close
+    (tie.spec
+    availability-no-requires
+    merged-keys-requires
+    slice-aggregate-fill-rows
+    fill-rows-requires
+    same-length
+    returns
+    same-length-2
+    returns-2)

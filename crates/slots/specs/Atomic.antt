@@ -1,0 +1,140 @@
+-- Atomic slots: each base slot split at every cut strictly inside it. Assumes nothing.
+use mathlib.Core.Path.{_≡_}
+use mathlib.Core.Bool.{Bool, true, false, _&&_, _||_, cond}
+use mathlib.Core.List.{List, [], _∷_, _++_}
+use Prim.Native.Nat.{ℕ, zero, suc, _+_, _≤_, _<_}
+use lib.Dec.{leb, ltb, eqb}
+use lib.ListN.{length, getD, take}
+use Rattle.paper.specs.Limits.{peopleOk, slotCountOk, slotsMost, orElse}
+use Rattle.paper.specs.Count.{among}
+use Rattle.slotset.specs.declared.Counted.{Counted}
+use Rattle.slotset.specs.Answers.{countedAs, wordsAs}
+use Rattle.slots.specs.Lent.{slotRoomOk, slotsOk}
+use Rattle.slots.specs.Ranges.{anyOf, Ranges, rangeCountOk, rangeRoomOk, rangesOk, startOf, endOf, mergedOf}
+use Rattle.slots.specs.Merged.{written}
+
+-- minute t is a start or an end of a merged range
+unfoldable pub startsOrEnds : ℕ → ℕ → Bool
+startsOrEnds t x = eqb (startOf x) t || eqb (endOf x) t
+
+unfoldable pub isCut : List ℕ → ℕ → Bool
+isCut merged t = anyOf (startsOrEnds t) merged
+
+-- a cut past a slot's start
+unfoldable pub cutAfter : List ℕ → ℕ → ℕ → Bool
+cutAfter merged start t = ltb start t && isCut merged t
+
+-- the cuts strictly inside a slot, ascending
+unfoldable pub cutsIn : List ℕ → ℕ → ℕ → List ℕ
+cutsIn merged start end = among (cutAfter merged start) end
+
+-- where the atomic slots of the first n base slots start, and where they end
+unfoldable pub atomStarts : List ℕ → ℕ → List ℕ → List ℕ → List ℕ
+atomStarts merged zero starts ends = []
+atomStarts merged (suc n) starts ends =
+    atomStarts merged n starts ends ++ (getD starts n 0 ∷ cutsIn merged (getD starts n 0) (getD ends n 0))
+
+unfoldable pub atomEnds : List ℕ → ℕ → List ℕ → List ℕ → List ℕ
+atomEnds merged zero starts ends = []
+atomEnds merged (suc n) starts ends =
+    atomEnds merged n starts ends ++ (cutsIn merged (getD starts n 0) (getD ends n 0) ++ (getD ends n 0 ∷ []))
+
+-- the same, said of every minute: c is the ascending list of all cuts strictly between lo and hi, and of nothing else
+abbrev pub IsCuts : (ℕ → Bool) → ℕ → List ℕ → ℕ → Type 0
+IsCuts cut lo [] hi = (lo < hi) × ((t : ℕ) → lo < t → t < hi → cut t ≡ false)
+IsCuts cut lo (x ∷ c) hi = (lo < x) × (cut x ≡ true) × ((t : ℕ) → lo < t → t < x → cut t ≡ false) × IsCuts cut x c hi
+
+-- ---- the outcome
+
+-- what splitting takes: the base slots, the people and their ranges, and the two columns to write
+pub record Base : Type 0 where
+  pub slots : ℕ
+  pub starts : List ℕ
+  pub ends : List ℕ
+  pub people : ℕ
+  pub ranges : Ranges
+  pub outStarts : List ℕ
+  pub outEnds : List ℕ
+
+abbrev pub base : ℕ → List ℕ → List ℕ → ℕ → Ranges → List ℕ → List ℕ → Base
+base n s e p R a b = record { slots = n; starts = s; ends = e; people = p; ranges = R; outStarts = a; outEnds = b }
+
+abbrev pub startsOfAtoms : Base → List ℕ
+startsOfAtoms B = atomStarts (mergedOf (B .ranges)) (B .slots) (B .starts) (B .ends)
+
+abbrev pub endsOfAtoms : Base → List ℕ
+endsOfAtoms B = atomEnds (mergedOf (B .ranges)) (B .slots) (B .starts) (B .ends)
+
+-- rule 1
+unfoldable pub countsOk : ℕ → ℕ → ℕ → Bool
+countsOk people slots count = peopleOk people && (slotCountOk slots && rangeCountOk count)
+
+-- rule 2: the columns to write need room for 1,024 atomic slots
+unfoldable pub roomOk : ℕ → List ℕ → List ℕ → Ranges → List ℕ → List ℕ → Bool
+roomOk slots starts ends R outStarts outEnds =
+    slotRoomOk slots starts ends && (rangeRoomOk R && slotRoomOk slotsMost outStarts outEnds)
+
+abbrev pub baseCountsOk : Base → Bool
+baseCountsOk B = countsOk (B .people) (B .slots) (B .ranges .count)
+
+abbrev pub baseRoomOk : Base → Bool
+baseRoomOk B = roomOk (B .slots) (B .starts) (B .ends) (B .ranges) (B .outStarts) (B .outEnds)
+
+-- 1 to 4, which are known before the work
+unfoldable pub baseNo : Base → ℕ
+baseNo B =
+    orElse (baseCountsOk B) 1
+    (orElse (baseRoomOk B) 2
+    (orElse (slotsOk (B .slots) (B .starts) (B .ends)) 3 (orElse (rangesOk (B .people) (B .ranges)) 4 0)))
+
+-- 1 to 5: more than 1,024 atomic slots
+unfoldable pub atomiseNo : Base → ℕ
+atomiseNo B =
+    orElse (baseCountsOk B) 1
+    (orElse (baseRoomOk B) 2
+    (orElse (slotsOk (B .slots) (B .starts) (B .ends)) 3
+    (orElse (rangesOk (B .people) (B .ranges)) 4 (orElse (leb (length (startsOfAtoms B)) slotsMost) 5 0))))
+
+-- the whole outcome: what is heard, and the two columns at exit
+pub record Atoms : Type 0 where
+  pub answer : Counted
+  pub starts : List ℕ
+  pub ends : List ℕ
+
+unfoldable pub atomiseOf : Base → Atoms
+atomiseOf B =
+    let n = atomiseNo B in
+    record {
+      answer = countedAs n (length (startsOfAtoms B));
+      starts = wordsAs n (B .outStarts) (written (λ t. t) (startsOfAtoms B) (B .outStarts));
+      ends = wordsAs n (B .outEnds) (written (λ t. t) (endsOfAtoms B) (B .outEnds));
+    }
+
+-- what is heard and what is left in the lent columns are those of the outcome
+pub record AtomsEnd (x : Atoms) (r : Counted) (s e : List ℕ) : Type 0 where
+  pub heard : r ≡ x .answer
+  pub starts : s ≡ x .starts
+  pub ends : e ≡ x .ends
+
+-- ---- what the work goes by
+
+-- a number of atomic slots, or one too many
+unfoldable pub orFull : ℕ → ℕ
+orFull n = cond (leb n slotsMost) n 1025
+
+-- r is the first cut strictly between two minutes, or the later of them
+pub record NextCut (merged : List ℕ) (after end r : ℕ) : Type 0 where
+  pub later : after < r
+  pub most : r ≤ end
+  pub cut : r < end → isCut merged r ≡ true
+  pub none : (t : ℕ) → after < t → t < r → isCut merged t ≡ false
+
+-- t, where it lies strictly between two minutes; else the later of them
+unfoldable pub nearer : ℕ → ℕ → ℕ → ℕ
+nearer after best t = cond (ltb after t && ltb t best) t best
+
+-- lists that grew from s and e by the pieces a and b, where these fit
+pub record Grown (count : ℕ) (s e a b : List ℕ) (r : ℕ) (s′ e′ : List ℕ) : Type 0 where
+  pub number : r ≡ orFull (count + length a)
+  pub starts : count + length a ≤ slotsMost → take r s′ ≡ take count s ++ a
+  pub ends : count + length a ≤ slotsMost → take r e′ ≡ take count e ++ b

@@ -1,0 +1,205 @@
+// Availability of lent slots, any that pass rule 3: one set a person.
+use crate::lent;
+use crate::ranges;
+use crate::split;
+use slotset::row;
+ghost use mathlib.Core.Path.{_≡_};
+ghost use mathlib.Core.Bool.{true};
+ghost use Prim.Native.Nat.{_+_, _*_, _≤_, _<_};
+ghost use lib.ListN.{length, getD, take};
+ghost use Rattle.paper.specs.Limits.{peopleOk};
+ghost use Rattle.slotset.specs.Slots.{putSlots};
+ghost use Rattle.slots.specs.Lent.{SlotsSound};
+ghost use Rattle.slots.specs.Ranges.{ranges, anyOf, opens, Spaced};
+ghost use Rattle.slots.specs.Freeze.{Opening};
+ghost use Rattle.slots.specs.Availability.{availabilityRoomOk, availabilityNo, availabilityOf, spans, heldBit, rows};
+
+// How many of the merged ranges open at a place of the line or before it.
+fn opened_by(keys: &[u64], n: usize, place: u64) -> usize
+    requires { ⌜ (n ≤ 1024) × (n ≤ length (now keys)) × Spaced 0 (take n (now keys)) ⌝ }
+    ensures { λ r. ⌜ Opening n (λ k. opens (getD (now (keys .entry)) k 0)) place r ⌝ }
+{
+    let mut low: usize = 0;
+    let mut high = n;
+    while low < high {
+        let middle = (low + high) / 2;
+        if ranges::opens_at(keys[middle]) <= place {
+            low = middle + 1;
+        } else {
+            high = middle;
+        }
+    }
+    low
+}
+
+// Whether one of the merged ranges holds all places from a up to b: the only candidate is the last that opens at a or before it.
+fn covered(keys: &[u64], n: usize, a: u64, b: u64) -> bool
+    requires { ⌜ (n ≤ 1024) × (n ≤ length (now keys)) × Spaced 0 (take n (now keys)) ⌝ }
+    requires { ⌜ a ≤ b ⌝ }
+    ensures { λ r. ⌜ r ≡ anyOf (spans a b) (take n (now (keys .entry))) ⌝ }
+{
+    let r = opened_by(keys, n, a);
+    if 0 < r {
+        b <= ranges::closes_at(keys[r - 1])
+    } else {
+        false
+    }
+}
+
+// One person's set.
+fn fill_row(
+    keys: &[u64],
+    n: usize,
+    slots: usize,
+    starts: &[u32],
+    ends: &[u32],
+    words: &mut [u64],
+    people: usize,
+    person: usize,
+)
+    requires { ⌜ (n ≤ 1024) × (n ≤ length (now keys)) × Spaced 0 (take n (now keys)) ⌝ }
+    requires { ⌜ (slots ≤ 1024) × SlotsSound slots (now starts) (now ends) ⌝ }
+    requires { ⌜ (peopleOk people ≡ true) × (16 * people ≤ length (now words)) × (person < people) ⌝ }
+    ensures { λ _. ⌜ now (words .exit) ≡ putSlots (heldBit (take n (now (keys .entry))) (now (starts .entry)) (now (ends .entry)) person)
+        (16 * person) 0 slots (now (words .entry)) ⌝ }
+{
+    let base = (person as u64) * ranges::WIDTH;
+    let mut k: usize = 0;
+    while k < slots {
+        let want = covered(keys, n, base + starts[k] as u64, base + ends[k] as u64);
+        row::put_stretch(words, people, person, slots, k, k + 1, want);
+        k += 1;
+    }
+}
+
+// Everybody's sets.
+fn fill_rows(
+    keys: &[u64],
+    n: usize,
+    slots: usize,
+    starts: &[u32],
+    ends: &[u32],
+    words: &mut [u64],
+    people: usize,
+)
+    requires { ⌜ (n ≤ 1024) × (n ≤ length (now keys)) × Spaced 0 (take n (now keys)) ⌝ }
+    requires { ⌜ (slots ≤ 1024) × SlotsSound slots (now starts) (now ends) ⌝ }
+    requires { ⌜ (peopleOk people ≡ true) × (16 * people ≤ length (now words)) ⌝ }
+    ensures { λ _. ⌜ now (words .exit) ≡ rows (heldBit (take n (now (keys .entry))) (now (starts .entry)) (now (ends .entry)))
+        slots people (now (words .entry)) ⌝ }
+{
+    let mut person: usize = 0;
+    while person < people {
+        fill_row(keys, n, slots, starts, ends, words, people, person);
+        person += 1;
+    }
+}
+
+// Whether each column and the sets have room (rule 2).
+fn availability_room_ok(
+    people: usize,
+    slots: usize,
+    starts: &[u32],
+    ends: &[u32],
+    count: usize,
+    persons: &[u16],
+    opens: &[u32],
+    shuts: &[u32],
+    words: &[u64],
+) -> bool
+    requires { ⌜ people ≤ 32 ⌝ }
+    ensures { λ r. ⌜ r ≡ availabilityRoomOk people slots (now (starts .entry)) (now (ends .entry))
+        (ranges count (now (persons .entry)) (now (opens .entry)) (now (shuts .entry))) (now (words .entry)) ⌝ }
+{
+    if lent::slot_room_ok(slots, starts, ends) {
+        if ranges::range_room_ok(count, persons, opens, shuts) {
+            paper::SET_WORDS * people <= words.len()
+        } else {
+            false
+        }
+    } else {
+        false
+    }
+}
+
+// What is wrong with what availability takes: 1, 2, 4 or 9; 0 for nothing.
+fn availability_no(
+    people: usize,
+    slots: usize,
+    starts: &[u32],
+    ends: &[u32],
+    count: usize,
+    persons: &[u16],
+    opens: &[u32],
+    shuts: &[u32],
+    words: &[u64],
+) -> u8
+    ensures { λ r. ⌜ r ≡ availabilityNo people slots (now (starts .entry)) (now (ends .entry))
+        (ranges count (now (persons .entry)) (now (opens .entry)) (now (shuts .entry))) (now (words .entry)) ⌝ }
+{
+    if split::base_counts_ok(people, slots, count) {
+        if availability_room_ok(
+            people,
+            slots,
+            starts,
+            ends,
+            count,
+            persons,
+            opens,
+            shuts,
+            words,
+        ) {
+            if ranges::ranges_ok(people, count, persons, opens, shuts) {
+                if lent::slots_ok(slots, starts, ends) {
+                    0
+                } else {
+                    9
+                }
+            } else {
+                4
+            }
+        } else {
+            2
+        }
+    } else {
+        1
+    }
+}
+
+// One set a person: slot k is in it exactly when each of its minutes lies in one of the person's ranges. Refusals 1, 2, 4, 9.
+pub fn availability(
+    people: usize,
+    slots: usize,
+    starts: &[u32],
+    ends: &[u32],
+    count: usize,
+    persons: &[u16],
+    opens: &[u32],
+    shuts: &[u32],
+    words: &mut [u64],
+) -> u8
+    ensures { λ r. ⌜ (r ≡ availabilityNo people slots (now (starts .entry)) (now (ends .entry))
+        (ranges count (now (persons .entry)) (now (opens .entry)) (now (shuts .entry))) (now (words .entry)))
+        × (now (words .exit) ≡ availabilityOf people slots (now (starts .entry)) (now (ends .entry))
+        (ranges count (now (persons .entry)) (now (opens .entry)) (now (shuts .entry))) (now (words .entry))) ⌝ }
+{
+    let number = availability_no(
+        people,
+        slots,
+        starts,
+        ends,
+        count,
+        persons,
+        opens,
+        shuts,
+        words,
+    );
+    if number == 0 {
+        let list = ranges::merged_keys(count, persons, opens, shuts);
+        let keys = list.keys;
+        let n = list.count;
+        fill_rows(&keys, n, slots, starts, ends, words, people);
+        return 0;
+    }
+    number
+}

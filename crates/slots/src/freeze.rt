@@ -1,0 +1,109 @@
+// Freezing at an instant, and the single question of lent availability.
+use crate::lent;
+use paper::people_ok;
+use paper::slot_count_ok;
+use slotset::Counted;
+use slotset::Told;
+use slotset::row;
+ghost use mathlib.Core.Path.{_≡_};
+ghost use Prim.Native.Nat.{ℕ, _*_, _≤_, _<_};
+ghost use lib.ListN.{length, getD};
+ghost use Rattle.slots.specs.Freeze.{freezeNo, freezeOf, Opening, availableNo, isAvailable};
+
+// How many slots end at the instant or before it: they open the list, since ends ascend.
+fn ended_by(slots: usize, ends: &[u32], instant: u32) -> usize
+    requires { ⌜ (slots ≤ 1024) × (slots ≤ length (now ends))
+        × ((k j : ℕ) → k < j → j < slots → getD (now ends) k 0 ≤ getD (now ends) j 0) ⌝ }
+    ensures { λ r. ⌜ Opening slots (λ k. getD (now (ends .entry)) k 0) instant r ⌝ }
+{
+    let mut low: usize = 0;
+    let mut high = slots;
+    while low < high {
+        let middle = (low + high) / 2;
+        if ends[middle] <= instant {
+            low = middle + 1;
+        } else {
+            high = middle;
+        }
+    }
+    low
+}
+
+// What is wrong with what freezing takes: 1, 2 or 9; 0 for nothing.
+fn freeze_no(slots: usize, starts: &[u32], ends: &[u32], frozen: &[u64]) -> u8
+    ensures { λ r. ⌜ r ≡ freezeNo slots (now (starts .entry)) (now (ends .entry)) (now (frozen .entry)) ⌝ }
+{
+    if slot_count_ok(slots) {
+        if lent::slot_room_ok(slots, starts, ends) {
+            if frozen.len() < paper::SET_WORDS {
+                2
+            } else if lent::slots_ok(slots, starts, ends) {
+                0
+            } else {
+                9
+            }
+        } else {
+            2
+        }
+    } else {
+        1
+    }
+}
+
+// Marks each slot whose end is at or before the instant, clears no mark, and answers how many end by then. Refusals 1, 2, 9.
+pub fn freeze_before(
+    slots: usize,
+    starts: &[u32],
+    ends: &[u32],
+    frozen: &mut [u64],
+    instant: u32,
+) -> Counted
+    ensures { λ r. ⌜ (r ≡ freezeOf slots (now (starts .entry)) (now (ends .entry)) (now (frozen .entry)) instant .answer)
+        × (now (frozen .exit) ≡ freezeOf slots (now (starts .entry)) (now (ends .entry)) (now (frozen .entry)) instant .flags) ⌝ }
+{
+    let number = freeze_no(slots, starts, ends, frozen);
+    if number == 0 {
+        let n = ended_by(slots, ends, instant);
+        row::put_stretch(frozen, 1, 0, slots, 0, n, true);
+        return Counted::Is(n);
+    }
+    Counted::Refused(number)
+}
+
+// What is wrong with the question: 1, 2 or 11; 0 for nothing.
+fn available_no(people: usize, slots: usize, availability: &[u64], person: usize, slot: usize) -> u8
+    ensures { λ r. ⌜ r ≡ availableNo people slots (now (availability .entry)) person slot ⌝ }
+{
+    if people_ok(people) {
+        if slot_count_ok(slots) {
+            if availability.len() < paper::SET_WORDS * people {
+                2
+            } else if person < people {
+                if slot < slots { 0 } else { 11 }
+            } else {
+                11
+            }
+        } else {
+            1
+        }
+    } else {
+        1
+    }
+}
+
+// May this person cover this slot? Refusals 1, 2, 11.
+pub fn is_available(
+    people: usize,
+    slots: usize,
+    availability: &[u64],
+    person: usize,
+    slot: usize,
+) -> Told
+    ensures { λ r. ⌜ r ≡ isAvailable people slots (now (availability .entry)) person slot ⌝ }
+{
+    let number = available_no(people, slots, availability, person, slot);
+    if number == 0 {
+        return row::contains(availability, people, person, slots, slot);
+    }
+    Told::Refused(number)
+}

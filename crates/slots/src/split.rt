@@ -1,0 +1,254 @@
+// Atomic slots: each base slot split at every cut strictly inside it. Cuts are the starts and ends of merged ranges.
+use crate::lent;
+use crate::ranges;
+use paper::people_ok;
+use paper::slot_count_ok;
+use slotset::Counted;
+ghost use mathlib.Core.Path.{_≡_};
+ghost use mathlib.Core.List.{_∷_, [], _++_};
+ghost use Prim.Native.Nat.{_≤_, _<_};
+ghost use lib.ListN.{length, getD, take};
+ghost use Rattle.paper.specs.Count.{over};
+ghost use Rattle.slots.specs.Lent.{SlotsSound};
+ghost use Rattle.slots.specs.Ranges.{ranges};
+ghost use Rattle.slots.specs.Atomic.{cutsIn, atomStarts, atomEnds, NextCut, nearer, Grown};
+ghost use Rattle.slots.specs.Atomic.{countsOk, roomOk, base, baseNo, atomiseOf, AtomsEnd};
+
+// A minute, where it lies strictly between two others; else the later of them.
+fn nearer_of(after: u64, best: u64, t: u64) -> u64
+    ensures { λ r. ⌜ r ≡ nearer after best t ⌝ }
+{
+    if after < t {
+        if t < best {
+            return t;
+        }
+    }
+    best
+}
+
+// The first cut strictly between two minutes, or the later of them.
+fn next_cut(keys: &[u64], n: usize, after: u64, end: u64) -> u64
+    requires { ⌜ (n ≤ 1024) × (n ≤ length (now keys)) × (after < end) ⌝ }
+    ensures { λ r. ⌜ NextCut (take n (now (keys .entry))) after end r ⌝ }
+{
+    let mut best = end;
+    let mut i: usize = 0;
+    while i < n {
+        let key = keys[i];
+        let near = nearer_of(after, best, ranges::start_of(key));
+        best = nearer_of(after, near, ranges::end_of(key));
+        i += 1;
+    }
+    best
+}
+
+// The pieces of one base slot go to the lists' ends. Gives the number in the lists then, or 1,025 where there is no room.
+fn split_slot(
+    keys: &[u64],
+    n: usize,
+    start: u32,
+    end: u32,
+    starts: &mut [u32],
+    ends: &mut [u32],
+    count: usize,
+) -> usize
+    requires { ⌜ (n ≤ 1024) × (n ≤ length (now keys)) × (start < end) ⌝ }
+    requires { ⌜ (count ≤ 1024) × (1024 ≤ length (now starts)) × (1024 ≤ length (now ends)) ⌝ }
+    ensures { λ r. ⌜ Grown count (now (starts .entry)) (now (ends .entry))
+        (start ∷ cutsIn (take n (now (keys .entry))) start end) (cutsIn (take n (now (keys .entry))) start end ++ (end ∷ []))
+        r (now (starts .exit)) (now (ends .exit)) ⌝ }
+{
+    let mut prev = start;
+    let mut m = count;
+    while m < 1024 {
+        let cut = next_cut(keys, n, prev as u64, end as u64) as u32;
+        starts[m] = prev;
+        ends[m] = cut;
+        m += 1;
+        if cut < end {
+            prev = cut;
+        } else {
+            return m;
+        }
+    }
+    1025
+}
+
+// The pieces of all base slots. Gives their number, or 1,025 where there is no room.
+fn split_all(
+    keys: &[u64],
+    n: usize,
+    slots: usize,
+    starts: &[u32],
+    ends: &[u32],
+    froms: &mut [u32],
+    tos: &mut [u32],
+) -> usize
+    requires { ⌜ (n ≤ 1024) × (n ≤ length (now keys)) × SlotsSound slots (now starts) (now ends) ⌝ }
+    requires { ⌜ (slots ≤ 1024) × (1024 ≤ length (now froms)) × (1024 ≤ length (now tos)) ⌝ }
+    ensures { λ r. ⌜ Grown 0 (now (froms .entry)) (now (tos .entry))
+        (atomStarts (take n (now (keys .entry))) slots (now (starts .entry)) (now (ends .entry)))
+        (atomEnds (take n (now (keys .entry))) slots (now (starts .entry)) (now (ends .entry)))
+        r (now (froms .exit)) (now (tos .exit)) ⌝ }
+{
+    let mut i: usize = 0;
+    let mut count: usize = 0;
+    while i < slots {
+        count = split_slot(keys, n, starts[i], ends[i], froms, tos, count);
+        if 1024 < count {
+            return count;
+        }
+        i += 1;
+    }
+    count
+}
+
+// The first n entries of one column go to another.
+fn copy_column(src: &[u32], n: usize, column: &mut [u32])
+    requires { ⌜ (n ≤ 1024) × (n ≤ length (now src)) × (n ≤ length (now column)) ⌝ }
+    ensures { λ _. ⌜ now (column .exit) ≡ over (λ k. getD (now (src .entry)) k 0) n (now (column .entry)) ⌝ }
+{
+    let mut i: usize = 0;
+    while i < n {
+        column[i] = src[i];
+        i += 1;
+    }
+}
+
+// A column with nothing in it yet.
+fn blank_column() -> [u32; 1024] {
+    [0u32; 1024]
+}
+
+// What is wrong with what splitting takes: 1 to 4; 0 for nothing.
+fn base_no(
+    slots: usize,
+    starts: &[u32],
+    ends: &[u32],
+    people: usize,
+    count: usize,
+    persons: &[u16],
+    opens: &[u32],
+    shuts: &[u32],
+    froms: &[u32],
+    tos: &[u32],
+) -> u8
+    ensures { λ r. ⌜ r ≡ baseNo (base slots (now (starts .entry)) (now (ends .entry)) people
+        (ranges count (now (persons .entry)) (now (opens .entry)) (now (shuts .entry))) (now (froms .entry)) (now (tos .entry))) ⌝ }
+{
+    if base_counts_ok(people, slots, count) {
+        if base_room_ok(
+            slots,
+            starts,
+            ends,
+            count,
+            persons,
+            opens,
+            shuts,
+            froms,
+            tos,
+        ) {
+            if lent::slots_ok(slots, starts, ends) {
+                if ranges::ranges_ok(people, count, persons, opens, shuts) {
+                    0
+                } else {
+                    4
+                }
+            } else {
+                3
+            }
+        } else {
+            2
+        }
+    } else {
+        1
+    }
+}
+
+// Whether each count is one that is taken (rule 1).
+pub(crate) fn base_counts_ok(people: usize, slots: usize, count: usize) -> bool
+    ensures { λ r. ⌜ r ≡ countsOk people slots count ⌝ }
+{
+    if people_ok(people) {
+        if slot_count_ok(slots) {
+            ranges::range_count_ok(count)
+        } else {
+            false
+        }
+    } else {
+        false
+    }
+}
+
+// Whether each column has room (rule 2).
+fn base_room_ok(
+    slots: usize,
+    starts: &[u32],
+    ends: &[u32],
+    count: usize,
+    persons: &[u16],
+    opens: &[u32],
+    shuts: &[u32],
+    froms: &[u32],
+    tos: &[u32],
+) -> bool
+    ensures { λ r. ⌜ r ≡ roomOk slots (now (starts .entry)) (now (ends .entry))
+        (ranges count (now (persons .entry)) (now (opens .entry)) (now (shuts .entry))) (now (froms .entry)) (now (tos .entry)) ⌝ }
+{
+    if lent::slot_room_ok(slots, starts, ends) {
+        if ranges::range_room_ok(count, persons, opens, shuts) {
+            lent::slot_room_ok(paper::SLOTS_MOST, froms, tos)
+        } else {
+            false
+        }
+    } else {
+        false
+    }
+}
+
+// The base slots split at every start and end of a merged range that lies strictly inside one, with their number. Refusals 1 to 5.
+pub fn atomise(
+    slots: usize,
+    starts: &[u32],
+    ends: &[u32],
+    people: usize,
+    count: usize,
+    persons: &[u16],
+    opens: &[u32],
+    shuts: &[u32],
+    froms: &mut [u32],
+    tos: &mut [u32],
+) -> Counted
+    ensures { λ r. ⌜ AtomsEnd
+        (atomiseOf (base slots (now (starts .entry)) (now (ends .entry)) people
+        (ranges count (now (persons .entry)) (now (opens .entry)) (now (shuts .entry))) (now (froms .entry)) (now (tos .entry))))
+        r (now (froms .exit)) (now (tos .exit)) ⌝ }
+{
+    let number = base_no(
+        slots,
+        starts,
+        ends,
+        people,
+        count,
+        persons,
+        opens,
+        shuts,
+        froms,
+        tos,
+    );
+    if number == 0 {
+        let list = ranges::merged_keys(count, persons, opens, shuts);
+        let keys = list.keys;
+        let n = list.count;
+        let mut s = blank_column();
+        let mut e = blank_column();
+        let atoms = split_all(&keys, n, slots, starts, ends, &mut s, &mut e);
+        if atoms <= 1024 {
+            copy_column(&s, atoms, froms);
+            copy_column(&e, atoms, tos);
+            return Counted::Is(atoms);
+        }
+        return Counted::Refused(5);
+    }
+    Counted::Refused(number)
+}
