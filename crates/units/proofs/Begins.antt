@@ -1,0 +1,98 @@
+-- The laws of rotation and unit starts. Assumes nothing.
+use mathlib.Core.Path.{_≡_, refl, sym, ap, _∙_}
+use mathlib.Core.Bool.{Bool, true, false, _&&_, not}
+use mathlib.Core.List.{List}
+use Prim.Native.Nat.{ℕ, zero, suc, _-_, _*_, _/_, _%_, _≤_, max}
+use native.Mathlib.Nat.{mod-one, zero-mod, mul-mod-left, div-add-mod'}
+use native.Mathlib.Omega.{arith}
+use borrow.Author.Tests.{eq-eqb, ne-eqb, leb-true, eqb-true}
+use lib.Dec.{eqb, leb}
+use lib.ListN.{length}
+use Rattle.paper.specs.Count.{among}
+use Rattle.paper.specs.Limits.{slotCountOk}
+use Rattle.paper.proofs.Logic.{by-test, cond-zero, slot-count-says}
+use Rattle.paper.proofs.Count.{among-same}
+use Rattle.slots.specs.Lent.{slotRoomOk}
+use Rattle.units.specs.declared.Settings.{Settings}
+use Rattle.units.specs.Dates.{listed}
+use Rattle.units.specs.Starts.{startDate, everyBegins, dayBegins, rotationBegins, unitBegins, startsNo}
+
+-- ---- one slot
+
+pub every-one : (n k : ℕ) → n ≡ 0 → everyBegins n k ≡ true
+unfolding everyBegins
+every-one n k e =
+    let m : max n 1 ≡ 1 = omega arith in
+    ap (λ (d : ℕ). eqb (k % d) 0) m ∙ eq-eqb (k % 1) 0 (mod-one k)
+
+pub every-more : (n k : ℕ) → (n ≡ 0 → ⊥) → everyBegins n k ≡ eqb (k % n) 0
+unfolding everyBegins
+every-more n k z = let m : max n 1 ≡ n = omega arith in ap (λ (d : ℕ). eqb (k % d) 0) m
+
+pub day-first : (mask : ℕ) (starts : List ℕ) (k : ℕ) → k ≡ 0 → dayBegins mask starts k ≡ true
+unfolding dayBegins
+day-first mask starts zero e = refl
+day-first mask starts (suc k) e = absurd (omega arith)
+
+day-later : (mask : ℕ) (starts : List ℕ) (k : ℕ) → (k ≡ 0 → ⊥)
+    → dayBegins mask starts k ≡ not (eqb (startDate starts k) (startDate starts (k - 1))) && listed mask (startDate starts k)
+unfolding dayBegins
+day-later mask starts zero z = absurd (z refl)
+day-later mask starts (suc k) z =
+    let e : k ≡ suc k - 1 = omega arith in
+    ap (λ (j : ℕ). not (eqb (startDate starts (suc k)) (startDate starts j)) && listed mask (startDate starts (suc k))) e
+
+module _ (mask : ℕ) (starts : List ℕ) (k d d′ : ℕ) (z : k ≡ 0 → ⊥) (p : d ≡ startDate starts k) (q : d′ ≡ startDate starts (k - 1)) where
+  pub day-same : d ≡ d′ → dayBegins mask starts k ≡ false
+  day-same e =
+      let t : eqb (startDate starts k) (startDate starts (k - 1)) ≡ true = eq-eqb (startDate starts k) _ (sym p ∙ e ∙ q) in
+      day-later mask starts k z ∙ simp t
+
+  pub day-new : (d ≡ d′ → ⊥) → (b : Bool) → b ≡ listed mask d → b ≡ dayBegins mask starts k
+  day-new n b l =
+      let f : eqb (startDate starts k) (startDate starts (k - 1)) ≡ false = ne-eqb (startDate starts k) _ (λ e. n (p ∙ e ∙ sym q)) in
+      l ∙ ap (listed mask) p ∙ sym (day-later mask starts k z ∙ simp f)
+
+-- ---- with the lock, units are rotations
+pub locked-same : (boundary value slots : ℕ) (starts : List ℕ)
+    → among (unitBegins 1 boundary value starts) slots ≡ among (rotationBegins boundary value starts) slots
+unfolding unitBegins
+locked-same boundary value slots starts =
+    among-same (unitBegins 1 boundary value starts) (rotationBegins boundary value starts) slots (λ k h. refl)
+
+-- ---- what no refusal says
+
+pub starts-say : (s : Settings) (slots : ℕ) (starts ends firsts : List ℕ) → startsNo s slots starts ends firsts ≡ 0
+    → (1 ≤ slots) × (slots ≤ 1024) × (slots ≤ length firsts)
+unfolding startsNo
+starts-say s slots starts ends firsts e =
+    let x = cond-zero (slotCountOk slots) _ 0 e in
+    let y = cond-zero (slotRoomOk slots starts ends) _ 1 (x .1) in
+    let z = cond-zero (leb slots (length firsts)) _ 1 (y .1) in
+    let h = slot-count-says slots (x .0) in
+    (h .0, h .1, leb-true _ _ (z .0))
+
+-- ---- the lists of starts: exactly those that begin one (`among-each`, `among-at`), from 0, rising, below the slot count
+
+pub every-zero : (n : ℕ) → everyBegins n 0 ≡ true
+unfolding everyBegins
+every-zero n = eq-eqb (0 % max n 1) 0 (zero-mod (max n 1))
+
+pub rotation-zero : (boundary value : ℕ) (starts : List ℕ) → rotationBegins boundary value starts 0 ≡ true
+unfolding rotationBegins
+rotation-zero boundary value starts =
+    by-test (eqb boundary 0) _ (λ t. simp t (every-zero value)) (λ f. simp f (day-first value starts 0 refl))
+
+pub unit-zero : (lock boundary value : ℕ) (starts : List ℕ) → unitBegins lock boundary value starts 0 ≡ true
+unfolding unitBegins
+unit-zero lock boundary value starts =
+    by-test (eqb lock 0) _ (λ t. simp t) (λ f. simp f (rotation-zero boundary value starts))
+
+-- every-n is the multiples of n
+pub every-multiple : (n k : ℕ) → everyBegins n k ≡ true → k ≡ k / max n 1 * max n 1
+unfolding everyBegins
+every-multiple n k t = omega (arith, div-add-mod' k (max n 1), eqb-true (k % max n 1) 0 t)
+
+pub multiple-every : (n m : ℕ) → everyBegins n (m * max n 1) ≡ true
+unfolding everyBegins
+multiple-every n m = eq-eqb (m * max n 1 % max n 1) 0 (mul-mod-left m (max n 1))

@@ -1,0 +1,12 @@
+-- The laws of units.
+pub mod Units
+pub mod Answers
+pub mod Collect
+pub mod Begins
+pub mod Rising
+pub mod Cases
+pub mod Covered
+pub mod Longest
+pub mod Sets
+pub mod Reach
+pub mod Means

@@ -1,0 +1,104 @@
+-- The numbers below n that pass a test, as starts. Assumes nothing.
+use mathlib.Core.Path.{_≡_, sym, ap, _∙_}
+use mathlib.Core.Logic.{⊎-elim}
+use mathlib.Core.Bool.{Bool, true, cond}
+use mathlib.Core.List.{List, [], _∷_, _++_}
+use Prim.Native.Nat.{ℕ, zero, suc, _+_, _-_, _≤_, _<_}
+use native.Mathlib.Nat.{not-suc-le-zero}
+use native.Mathlib.Omega.{arith}
+use borrow.Author.Tests.{lt-ltb, le-leb, eq-eqb}
+use lib.Dec.{leb}
+use lib.ListN.{length, getD, drop, length-append, List·getD-append}
+use Rattle.paper.specs.Count.{among}
+use Rattle.paper.proofs.Logic.{by-test, lt-or-ge, and-true}
+use Rattle.paper.proofs.Count.{among-at, among-each, among-le, each-all}
+use Rattle.units.specs.Units.{unitStart, startRises, startOk, unitsOk}
+use Rattle.units.specs.declared.Settings.{Settings}
+use Rattle.units.specs.Answers.{onto, writtenAs}
+use Rattle.units.specs.Starts.{rotationBegins, unitBegins, rotationStarts, unitStarts, startsNo, rotationStartsIs, unitStartsIs}
+use Rattle.units.proofs.Answers.{length-onto}
+use Rattle.units.proofs.Begins.{rotation-zero, unit-zero, starts-say}
+
+-- an entry that an opening part of the list has
+among-before : (p : ℕ → Bool) (n k : ℕ) → k < length (among p n) → getD (among p (suc n)) k 0 ≡ getD (among p n) k 0
+unfolding among
+among-before p n k h = List·getD-append (among p n) (cond (p n) (n ∷ []) []) 0 k h
+
+-- the list rises strictly, so nobody stands in it twice
+pub among-rises : (p : ℕ → Bool) (n k : ℕ) → suc k < length (among p n) → getD (among p n) k 0 < getD (among p n) (suc k) 0
+unfolding among
+among-rises p zero k h = absurd (not-suc-le-zero h)
+among-rises p (suc n) k h =
+    ⊎-elim
+    (λ (b : suc k < length (among p n)).
+    omega (arith, among-before p n k (omega arith), among-before p n (suc k) b, among-rises p n k b))
+    (λ (g : length (among p n) ≤ suc k).
+    by-test (p n) _
+    (λ t.
+    let l : length (among p (suc n)) ≡ length (among p n) + 1
+    = ap (λ (b : Bool). length (among p n ++ cond b (n ∷ []) [])) t ∙ length-append (among p n) (n ∷ []) in
+    let s : length (among p n) ≡ suc k = omega (arith, l) in
+    let a = among-at p (suc n) n (omega arith) t .1 in
+    let e : getD (among p (suc n)) (suc k) 0 ≡ n = ap (λ (j : ℕ). getD (among p (suc n)) j 0) (sym s) ∙ a in
+    omega (arith, e, among-before p n k (omega arith), among-each p n k (omega arith) .0))
+    (λ f.
+    absurd
+    (omega (arith, ap (λ (b : Bool). length (among p n ++ cond b (n ∷ []) [])) f, length-append (among p n) []))))
+    (lt-or-ge (suc k) (length (among p n)))
+
+module _ (p : ℕ → Bool) (slots : ℕ) (old : List ℕ) (first : p 0 ≡ true) (some : 1 ≤ slots) where
+  -- where slot 0 passes, the list begins with it
+  among-some : 0 < length (among p slots)
+  unfolding among
+  among-some = among-at p slots 0 some first .0
+
+  among-first : getD (among p slots) 0 0 ≡ 0
+  unfolding among
+  among-first = among-at p slots 0 some first .1
+
+  -- an entry of the list, where it is written
+  onto-at : (k : ℕ) → k < length (among p slots) → unitStart (onto (among p slots) old) k ≡ getD (among p slots) k 0
+  unfolding onto
+  onto-at k h = List·getD-append (among p slots) (drop (length (among p slots)) old) 0 k h
+
+  rises-at : (k : ℕ) → k < length (among p slots) → startRises (onto (among p slots) old) k ≡ true
+  rises-at zero h = eq-eqb _ 0 (onto-at 0 h ∙ among-first)
+  rises-at (suc k) h =
+      lt-ltb (unitStart (onto (among p slots) old) k) (unitStart (onto (among p slots) old) (suc k))
+      (omega (arith, onto-at k (omega arith), onto-at (suc k) h, among-rises p slots k h))
+
+  start-at : (k : ℕ) → k < length (among p slots) → startOk slots (onto (among p slots) old) k ≡ true
+  unfolding startOk
+  start-at k h =
+      and-true _ _ (rises-at k h)
+      (lt-ltb (unitStart (onto (among p slots) old) k) slots (omega (arith, onto-at k h, among-each p slots k h .0)))
+
+  -- so the starts that were written are right
+  pub among-units-ok : slots ≤ length old → unitsOk slots (length (among p slots)) (onto (among p slots) old) ≡ true
+  unfolding unitsOk
+  among-units-ok h =
+      let n = length (among p slots) in
+      let r : n ≤ length (onto (among p slots) old)
+      = omega (arith, length-onto (among p slots) old (omega (arith, among-le p slots)), among-le p slots) in
+      and-true (leb 1 n) _ (le-leb 1 n among-some)
+      (and-true (leb n (length (onto (among p slots) old))) _ (le-leb n _ r)
+      (each-all n (startOk slots (onto (among p slots) old)) start-at))
+
+-- the starts that an accepted call leaves are right: units and rotations tile the slots (the laws of `Units`)
+module _ (s : Settings) (slots : ℕ) (starts ends firsts : List ℕ) (e : startsNo s slots starts ends firsts ≡ 0) where
+  pub rotation-starts-right
+      : unitsOk slots (length (rotationStarts s slots starts)) (rotationStartsIs s slots starts ends firsts .buffer) ≡ true
+  unfolding rotationStartsIs rotationStarts writtenAs
+  rotation-starts-right =
+      let h = starts-say s slots starts ends firsts e in
+      let z = rotation-zero (s .boundary) (s .value) starts in
+      simp (eq-eqb (startsNo s slots starts ends firsts) 0 e)
+      (among-units-ok (rotationBegins (s .boundary) (s .value) starts) slots firsts z (h .0) (h .2))
+
+  pub unit-starts-right : unitsOk slots (length (unitStarts s slots starts)) (unitStartsIs s slots starts ends firsts .buffer) ≡ true
+  unfolding unitStartsIs unitStarts writtenAs
+  unit-starts-right =
+      let h = starts-say s slots starts ends firsts e in
+      let z = unit-zero (s .lock) (s .boundary) (s .value) starts in
+      simp (eq-eqb (startsNo s slots starts ends firsts) 0 e)
+      (among-units-ok (unitBegins (s .lock) (s .boundary) (s .value) starts) slots firsts z (h .0) (h .2))

@@ -1,0 +1,202 @@
+-- The laws of availability and of frozen flags: what a search of a set says of a stretch. Assumes nothing.
+use mathlib.Core.Path.{_≡_, sym, ap, ap₂, _∙_}
+use mathlib.Core.Bool.{Bool, true, false, _&&_, not}
+use mathlib.Core.List.{List}
+use Prim.Native.Nat.{ℕ, _+_, _-_, _*_, _/_, _≤_, _<_}
+use native.Mathlib.Omega.{arith}
+use borrow.Author.Tests.{eq-eqb, ne-eqb, ltb-true, ltb-false, leb-true, le-leb, lt-ltb}
+use lib.Dec.{eqb, ltb, leb}
+use lib.ListN.{length}
+use Rattle.paper.specs.Limits.{peopleOk, slotCountOk}
+use Rattle.paper.specs.Count.{allIn}
+use Rattle.paper.proofs.Logic.{by-test, same-test, cond-zero, slot-count-says}
+use Rattle.paper.proofs.Count.{in-none, in-more, in-fails, in-each, each-in, among-same}
+use Rattle.slotset.specs.declared.Found.{Found}
+use Rattle.slotset.specs.declared.Found.the-variants.{At, Nothing, Refused}
+use Rattle.slotset.specs.declared.Told.the-variants as told
+use Rattle.slotset.specs.Slots.{slot}
+use Rattle.slotset.specs.Search.{nextSet, prevUnsetBefore, First, Last}
+use Rattle.slotset.specs.Answers.{rowNo, rowSlots, foundAs, toldAs}
+use Rattle.slotset.proofs.Meaning.{next-is, last-is}
+use Rattle.slotset.proofs.Puts.{slot-lt}
+use Rattle.units.specs.Units.{unitStart, unitEnd, unitsOk}
+use Rattle.units.specs.Domains.{available, able, domain, slotDomain, unitDomain, unfrozen, clear, unitFrozen}
+use Rattle.units.specs.Domains.{ableIn, clearIn, DomainRoom}
+use Rattle.units.specs.Domains.{unitFrozenNo, slotDomainNo, unitDomainNo}
+use Rattle.units.proofs.Units.{unit-within}
+
+-- ---- availability
+
+-- what the last slot before e that a person lacks says of the slots from a up to e
+abbrev pub ableBy : ℕ → Found → Bool
+ableBy a (At i) = ltb i a
+ableBy a Nothing = true
+ableBy a (Refused n) = false
+
+module _ (av : List ℕ) (p : ℕ) where
+  -- a slot that is not lacking is had
+  had : (k : ℕ) → (rowSlots av p k ≡ 0 → ⊥) → available av p k ≡ true
+  unfolding available
+  had k z = eq-eqb (slot av (16 * p) k) 1 (one (slot av (16 * p) k) (slot-lt av (16 * p) k) z)
+    where
+      one : (x : ℕ) → x < 2 → (x ≡ 0 → ⊥) → x ≡ 1
+      one x h n = omega arith
+
+  lacking : (k : ℕ) → rowSlots av p k ≡ 0 → available av p k ≡ false
+  unfolding available
+  lacking k z = ne-eqb (slot av (16 * p) k) 1 (λ q. let x : _≡_ {A = ℕ} 0 1 = sym z ∙ q in omega arith)
+
+  able-answers : (a e : ℕ) (r : Found) → Last 0 (rowSlots av p) e e r → ableBy a r ≡ able av a e p
+  unfolding able
+  able-answers a e (At i) w =
+      by-test (ltb i a) _
+      (λ t.
+      let h : i < a = ltb-true i a t in
+      t ∙ sym (each-in a e (available av p) (λ k l g. had k (w .3 k (omega arith) g g))))
+      (λ f. f ∙ in-fails a i e (available av p) (ltb-false i a f) (w .0) (lacking i (w .2)))
+  able-answers a e Nothing w = sym (each-in a e (available av p) (λ k l g. had k (w k g g)))
+  able-answers a e (Refused n) w = absurd w
+
+found-able : (a n : ℕ) (x : Found) → ableBy a (foundAs n x) ≡ eqb n 0 && ableBy a x
+unfolding foundAs
+found-able a n x = by-test (eqb n 0) _ (λ t. simp t) (λ f. simp f)
+
+pub able-law : (av : List ℕ) (people p a e : ℕ)
+    → ableBy a (foundAs (rowNo av people p e) (prevUnsetBefore (rowSlots av p) e e)) ≡ ableIn av people p a e
+unfolding ableIn
+able-law av people p a e =
+    found-able a (rowNo av people p e) (prevUnsetBefore (rowSlots av p) e e)
+    ∙ ap (λ (b : Bool). eqb (rowNo av people p e) 0 && b)
+    (able-answers av p a e (prevUnsetBefore (rowSlots av p) e e) (last-is 0 (rowSlots av p) e e))
+
+-- where the words and the person are known, that is availability itself
+pub able-known : (av : List ℕ) (people e : ℕ) (list : List ℕ) → DomainRoom av people e list
+    → (p a : ℕ) → p < people → ableIn av people p a e ≡ able av a e p
+unfolding ableIn rowNo
+able-known av people e list r p a h =
+    simp (r .counted, le-leb e 1024 (r .short), le-leb (16 * people) (length av) (r .words), lt-ltb p people h)
+
+-- ---- frozen flags
+
+abbrev pub clearBy : Found → Bool
+clearBy (At i) = false
+clearBy Nothing = true
+clearBy (Refused n) = false
+
+clear-answers : (fr : List ℕ) (a e : ℕ) (r : Found) → First 1 (rowSlots fr 0) e a r → clearBy r ≡ clear fr a e
+unfolding clear unfrozen
+clear-answers fr a e (At i) w =
+    in-fails a i e (unfrozen fr) (w .0) (w .1) (ap not (eq-eqb (slot fr 0 i) 1 (w .2)))
+clear-answers fr a e Nothing w =
+    sym (each-in a e (unfrozen fr) (λ k l g. ap not (ne-eqb (slot fr 0 k) 1 (w k l g))))
+clear-answers fr a e (Refused n) w = absurd w
+
+found-clear : (n : ℕ) (x : Found) → clearBy (foundAs n x) ≡ eqb n 0 && clearBy x
+unfolding foundAs
+found-clear n x = by-test (eqb n 0) _ (λ t. simp t) (λ f. simp f)
+
+pub clear-law : (fr : List ℕ) (a e : ℕ) → clearBy (foundAs (rowNo fr 1 0 e) (nextSet (rowSlots fr 0) e a)) ≡ clearIn fr a e
+unfolding clearIn
+clear-law fr a e =
+    found-clear (rowNo fr 1 0 e) (nextSet (rowSlots fr 0) e a)
+    ∙ ap (λ (b : Bool). eqb (rowNo fr 1 0 e) 0 && b)
+    (clear-answers fr a e (nextSet (rowSlots fr 0) e a) (next-is 1 (rowSlots fr 0) e a))
+
+pub clear-known : (fr : List ℕ) (a e : ℕ) → 16 ≤ length fr → e ≤ 1024 → clearIn fr a e ≡ clear fr a e
+unfolding clearIn rowNo peopleOk
+clear-known fr a e h g = simp (le-leb e 1024 g, le-leb 16 (length fr) h)
+
+-- ---- one slot is a stretch
+
+in-one : (k : ℕ) (p : ℕ → Bool) → allIn k (k + 1) p ≡ p k
+in-one k p =
+    same-test (allIn k (k + 1) p) (p k) (λ t. in-each k (k + 1) p t k (omega arith) (omega arith))
+    (λ t. in-more k k p (omega arith) (in-none k p) t)
+
+pub slot-domain-same : (av : List ℕ) (people k : ℕ) → domain av people k (k + 1) ≡ slotDomain av people k
+unfolding domain slotDomain able
+slot-domain-same av people k =
+    among-same (able av k (k + 1)) (λ p. available av p k) people (λ p h. in-one k (available av p))
+
+-- ---- rule 2 of lent sets, without the product
+pub words-room : (people n : ℕ) → leb people (n / 16) ≡ leb (16 * people) n
+words-room people n =
+    same-test (leb people (n / 16)) (leb (16 * people) n)
+    (λ t. le-leb (16 * people) n (omega (arith, leb-true people (n / 16) t)))
+    (λ t. le-leb people (n / 16) (omega (arith, leb-true (16 * people) n t)))
+
+-- ---- what no refusal says
+
+pub frozen-says : (fr : List ℕ) (slots units : ℕ) (firsts : List ℕ) (u : ℕ) → unitFrozenNo fr slots units firsts u ≡ 0
+    → (16 ≤ length fr) × (unitEnd slots units firsts u ≤ 1024)
+unfolding unitFrozenNo
+frozen-says fr slots units firsts u z =
+    let a = cond-zero (slotCountOk slots) _ 0 z in
+    let b = cond-zero (leb units (length firsts)) _ 1 (a .1) in
+    let c = cond-zero (leb 16 (length fr)) _ 1 (b .1) in
+    let d = cond-zero (unitsOk slots units firsts) _ 8 (c .1) in
+    let e = cond-zero (ltb u units) _ 10 (d .1) in
+    let h = unit-within slots units firsts (d .0) u (ltb-true u units (e .0)) in
+    (leb-true 16 (length fr) (c .0), omega (arith, h, slot-count-says slots (a .0) .1))
+
+pub slot-domain-says : (av : List ℕ) (people slots k : ℕ) (list : List ℕ) → slotDomainNo av people slots k list ≡ 0
+    → DomainRoom av people (k + 1) list
+unfolding slotDomainNo
+slot-domain-says av people slots k list z =
+    let a = cond-zero (peopleOk people) _ 0 z in
+    let b = cond-zero (slotCountOk slots) _ 0 (a .1) in
+    let c = cond-zero (leb (16 * people) (length av)) _ 1 (b .1) in
+    let d = cond-zero (leb people (length list)) _ 1 (c .1) in
+    let e = cond-zero (ltb k slots) _ 10 (d .1) in
+    record {
+      counted = a .0;
+      words = leb-true (16 * people) (length av) (c .0);
+      short = omega (arith, ltb-true k slots (e .0), slot-count-says slots (b .0) .1);
+      room = leb-true people (length list) (d .0);
+    }
+
+pub unit-domain-says : (av : List ℕ) (people slots units : ℕ) (firsts : List ℕ) (u : ℕ) (list : List ℕ) (to : ℕ)
+    → unitDomainNo av people slots units firsts u list ≡ 0 → to ≡ unitEnd slots units firsts u → DomainRoom av people to list
+unfolding unitDomainNo
+unit-domain-says av people slots units firsts u list to z q =
+    let a = cond-zero (peopleOk people) _ 0 z in
+    let b = cond-zero (slotCountOk slots) _ 0 (a .1) in
+    let c = cond-zero (leb (16 * people) (length av)) _ 1 (b .1) in
+    let f = cond-zero (leb units (length firsts)) _ 1 (c .1) in
+    let d = cond-zero (leb people (length list)) _ 1 (f .1) in
+    let g = cond-zero (unitsOk slots units firsts) _ 8 (d .1) in
+    let e = cond-zero (ltb u units) _ 10 (g .1) in
+    let h = unit-within slots units firsts (g .0) u (ltb-true u units (e .0)) in
+    record {
+      counted = a .0;
+      words = leb-true (16 * people) (length av) (c .0);
+      short = omega (arith, q, h, slot-count-says slots (b .0) .1);
+      room = leb-true people (length list) (d .0);
+    }
+
+-- ---- yes or no, by its number
+
+pub told-yes : (n n′ : ℕ) (b : Bool) → n ≡ n′ → n ≡ 0 → b ≡ true → told.Yes ≡ toldAs n′ b
+unfolding toldAs
+told-yes n n′ b e z t = simp (eq-eqb n′ 0 (sym e ∙ z), t)
+
+pub told-no : (n n′ : ℕ) (b : Bool) → n ≡ n′ → n ≡ 0 → b ≡ false → told.No ≡ toldAs n′ b
+unfolding toldAs
+told-no n n′ b e z f = simp (eq-eqb n′ 0 (sym e ∙ z), f)
+
+pub told-refused : (n n′ : ℕ) (b : Bool) → n ≡ n′ → (n ≡ 0 → ⊥) → told.Refused n ≡ toldAs n′ b
+unfolding toldAs
+told-refused n n′ b e z = simp (ne-eqb n′ 0 (λ q. z (e ∙ q))) (ap told.Refused e)
+
+-- a unit is frozen where it is not clear
+pub frozen-by : (fr : List ℕ) (slots units : ℕ) (firsts : List ℕ) (u a e : ℕ) (b : Bool)
+    → (16 ≤ length fr) × (unitEnd slots units firsts u ≤ 1024) → a ≡ unitStart firsts u → e ≡ unitEnd slots units firsts u
+    → b ≡ clearIn fr a e → unitFrozen fr slots units firsts u ≡ not b
+unfolding unitFrozen
+frozen-by fr slots units firsts u a e b h p q c =
+    ap not (sym (c ∙ ap₂ (clearIn fr) p q ∙ clear-known fr (unitStart firsts u) (unitEnd slots units firsts u) (h .0) (h .1)))
+
+pub domain-at : (av : List ℕ) (people slots units : ℕ) (firsts : List ℕ) (u a e : ℕ) → a ≡ unitStart firsts u
+    → e ≡ unitEnd slots units firsts u → domain av people a e ≡ unitDomain av people slots units firsts u
+unfolding unitDomain
+domain-at av people slots units firsts u a e p q = ap₂ (domain av people) p q

@@ -1,0 +1,90 @@
+-- `units::starts::write_starts` meets its contract. Assumes nothing.
+use native.Mathlib.Omega.{arith}
+use mathlib.Core.Path.{sym, _∙_}
+use Rattle.units.specs.Starts.{unitBegins}
+use borrow.Author.Needs.{needs}
+use Prim.Native.Nat.{_≤_, _-_}
+use Rattle.units.proofs.Collect.{Collecting, collect-none, collect-few, collect-length}
+use Rattle.units.proofs.Collect.{collect-room, collect-in, collect-out, collect-end}
+use Rattle.units.proofs.starts.write_starts.Statement.{statement}
+use Rattle.units.proofs.starts.write_starts.Tie as tie
+
+abbrev Inv-loop : tie.InvT-loop
+Inv-loop lock boundary value slots starts firsts₀ n₀ k₀ firsts n k =
+    Collecting (unitBegins lock boundary value starts) slots firsts₀ firsts n k × (slots ≤ 1024)
+
+abbrev μ-loop : tie.MeasureT-loop
+μ-loop lock boundary value slots starts firsts₀ n₀ k₀ firsts n k = slots - k
+
+loop-holds : tie.Need-loop-holds Inv-loop μ-loop
+loop-holds c = (collect-none _ _ _ (c .before .before .pre .1), c .before .before .pre .0)
+
+unit-begins-requires : tie.Need-unit-begins-requires Inv-loop μ-loop
+unit-begins-requires c κs = search needs
+
+cast-firsts : tie.Need-cast-firsts Inv-loop μ-loop
+cast-firsts c = omega arith
+
+mul-firsts : tie.Need-mul-firsts Inv-loop μ-loop
+mul-firsts c =
+    let at = c .before .before .before .loop in
+    omega (arith, collect-few _ _ _ _ _ _ (at .inv .0))
+
+slice-write-firsts : tie.Need-slice-write-firsts Inv-loop μ-loop
+slice-write-firsts c = collect-room _ _ _ _ _ _ (c .before .before .before .loop .inv .0) (c .before .before .loop-test .taken)
+
+add-n : tie.Need-add-n Inv-loop μ-loop
+add-n c =
+    let at = c .before .before .before .loop in
+    omega (arith, collect-few _ _ _ _ _ _ (at .inv .0))
+
+add-k : tie.Need-add-k Inv-loop μ-loop
+add-k c = omega arith
+
+loop-less : tie.Need-loop-less Inv-loop μ-loop
+loop-less c = omega arith
+
+loop-again : tie.Need-loop-again Inv-loop μ-loop
+loop-again c =
+    let at = c .before .before .before .loop in
+    let t = sym (c .before .unit-begins .ensures) ∙ c .if1 .taken in
+    (collect-in _ _ _ _ _ _ (at .inv .0) (c .before .before .loop-test .taken) t, at .inv .1)
+
+add-k-2 : tie.Need-add-k-2 Inv-loop μ-loop
+add-k-2 c = omega arith
+
+loop-less-2 : tie.Need-loop-less-2 Inv-loop μ-loop
+loop-less-2 c = omega arith
+
+loop-again-2 : tie.Need-loop-again-2 Inv-loop μ-loop
+loop-again-2 c =
+    let at = c .before .before .before .loop in
+    let f = sym (c .before .unit-begins .ensures) ∙ c .if1 .left in
+    (collect-out _ _ _ _ _ _ (at .inv .0) (c .before .before .loop-test .taken) f, at .inv .1)
+
+same-length : tie.Need-same-length Inv-loop μ-loop
+same-length c = collect-length _ _ _ _ _ _ (c .before .loop .inv .0)
+
+returns : tie.Need-returns Inv-loop μ-loop
+returns c = collect-end _ _ _ _ _ _ (c .before .loop .inv .0) (c .loop-test .left)
+
+pub write-starts-spec : {M : Type 1} → statement M
+write-starts-spec =
+    tie.close
+    (tie.spec
+    Inv-loop
+    μ-loop
+    loop-holds
+    unit-begins-requires
+    cast-firsts
+    mul-firsts
+    slice-write-firsts
+    add-n
+    add-k
+    loop-less
+    loop-again
+    add-k-2
+    loop-less-2
+    loop-again-2
+    same-length
+    returns)

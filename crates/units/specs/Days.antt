@@ -1,0 +1,66 @@
+-- Covered days, minutes a day, target run. What a covered day is stands here alone: `covers` and `coveredDays`. Assumes nothing.
+use mathlib.Core.Bool.{Bool, true, not, cond}
+use mathlib.Core.List.{List}
+use Prim.Native.Nat.{ℕ, zero, suc, _*_, _/_, max}
+use lib.Dec.{eqb}
+use Rattle.paper.specs.Limits.{slotCountOk, orElse}
+use Rattle.paper.specs.Count.{all, count}
+use Rattle.slots.specs.Lent.{slotRoomOk, slotsOk, demandOf, lentNo}
+use Rattle.units.specs.declared.Number.{Number}
+use Rattle.units.specs.declared.Duration.{Duration}
+use Rattle.units.specs.declared.Duration.the-variants as duration
+use Rattle.units.specs.declared.Settings.{Settings}
+use Rattle.units.specs.Settings.{settingsOk}
+use Rattle.units.specs.Answers.{numberAs}
+use Rattle.units.specs.Starts.{startDate}
+
+-- p holds of a number below n
+unfoldable pub some : ℕ → (ℕ → Bool) → Bool
+some n p = not (all n (λ k. not (p k)))
+
+-- date d is covered: one of the slots starts on it
+unfoldable pub covers : ℕ → List ℕ → ℕ → Bool
+covers slots starts d = some slots (λ k. eqb (startDate starts k) d)
+
+-- the dates that there are: minute 100,000,000 is on date 69,444
+abbrev pub datesMost : ℕ
+datesMost = 69445
+
+-- how many of them are covered
+unfoldable pub coveredDays : ℕ → List ℕ → ℕ
+coveredDays slots starts = count datesMost (covers slots starts)
+
+-- demand div covered days, at least 1
+unfoldable pub minutesPerDay : ℕ → List ℕ → List ℕ → ℕ
+minutesPerDay slots starts ends = max (demandOf slots starts ends / coveredDays slots starts) 1
+
+-- that times the shift days, at least 1 day
+unfoldable pub targetRun : ℕ → ℕ → List ℕ → List ℕ → ℕ
+targetRun days slots starts ends = minutesPerDay slots starts ends * max days 1
+
+-- ---- how they are found: slots are ordered, so a date's slots are neighbours
+
+-- slot k is the first of its date: slot 0, or its date differs from the previous slot's
+unfoldable pub dateBegins : List ℕ → ℕ → Bool
+dateBegins starts zero = true
+dateBegins starts (suc j) = not (eqb (startDate starts (suc j)) (startDate starts j))
+
+-- ---- the answers
+
+unfoldable pub durationAs : ℕ → ℕ → Duration
+durationAs n m = cond (eqb n 0) (duration.Minutes m) (duration.Refused n)
+
+unfoldable pub coveredDaysIs : ℕ → List ℕ → List ℕ → Number
+coveredDaysIs slots starts ends = numberAs (lentNo slots starts ends) (coveredDays slots starts)
+
+unfoldable pub minutesPerDayIs : ℕ → List ℕ → List ℕ → Duration
+minutesPerDayIs slots starts ends = durationAs (lentNo slots starts ends) (minutesPerDay slots starts ends)
+
+-- 1, 2, 7, 9
+unfoldable pub targetRunNo : Settings → ℕ → List ℕ → List ℕ → ℕ
+targetRunNo s slots starts ends =
+    orElse (slotCountOk slots) 1
+    (orElse (slotRoomOk slots starts ends) 2 (orElse (settingsOk s) 7 (orElse (slotsOk slots starts ends) 9 0)))
+
+unfoldable pub targetRunIs : Settings → ℕ → List ℕ → List ℕ → Duration
+targetRunIs s slots starts ends = durationAs (targetRunNo s slots starts ends) (targetRun (s .days) slots starts ends)

@@ -1,0 +1,99 @@
+-- Who is available for a slot or a unit, and whether a unit is frozen, by the lent sets. Assumes nothing.
+use mathlib.Core.Path.{_≡_}
+use mathlib.Core.Bool.{Bool, true, _&&_, not}
+use mathlib.Core.List.{List}
+use Prim.Native.Nat.{ℕ, _*_, _≤_}
+use lib.Dec.{eqb, ltb, leb}
+use lib.ListN.{length}
+use Rattle.paper.specs.Limits.{peopleOk, slotCountOk, orElse}
+use Rattle.paper.specs.Count.{allIn, among}
+use Rattle.slotset.specs.Slots.{slot}
+use Rattle.slotset.specs.Answers.{rowNo, toldAs}
+use Rattle.slotset.specs.declared.Told.{Told}
+use Rattle.units.specs.Units.{unitStart, unitEnd, unitsOk}
+use Rattle.units.specs.Answers.{Written, writtenAs}
+
+-- ---- domains
+
+-- person p is available for slot k
+unfoldable pub available : List ℕ → ℕ → ℕ → Bool
+available av p k = eqb (slot av (16 * p) k) 1
+
+-- person p is available for each slot from a up to e
+unfoldable pub able : List ℕ → ℕ → ℕ → ℕ → Bool
+able av a e p = allIn a e (available av p)
+
+-- the people available for each slot from a up to e, ascending
+unfoldable pub domain : List ℕ → ℕ → ℕ → ℕ → List ℕ
+domain av people a e = among (able av a e) people
+
+-- of a slot, and of a unit
+unfoldable pub slotDomain : List ℕ → ℕ → ℕ → List ℕ
+slotDomain av people k = among (λ p. available av p k) people
+
+unfoldable pub unitDomain : List ℕ → ℕ → ℕ → ℕ → List ℕ → ℕ → List ℕ
+unitDomain av people slots units firsts u = domain av people (unitStart firsts u) (unitEnd slots units firsts u)
+
+-- ---- frozen units
+
+-- slot k is not frozen: the flags are one set
+unfoldable pub unfrozen : List ℕ → ℕ → Bool
+unfrozen fr k = not (eqb (slot fr 0 k) 1)
+
+-- no slot from a up to e is frozen
+unfoldable pub clear : List ℕ → ℕ → ℕ → Bool
+clear fr a e = allIn a e (unfrozen fr)
+
+-- a unit is frozen if any slot of it is
+unfoldable pub unitFrozen : List ℕ → ℕ → ℕ → List ℕ → ℕ → Bool
+unitFrozen fr slots units firsts u = not (clear fr (unitStart firsts u) (unitEnd slots units firsts u))
+
+-- ---- the same asked of any words: no where they are too short or the person is unknown
+
+unfoldable pub ableIn : List ℕ → ℕ → ℕ → ℕ → ℕ → Bool
+ableIn av people p a e = eqb (rowNo av people p e) 0 && able av a e p
+
+unfoldable pub clearIn : List ℕ → ℕ → ℕ → Bool
+clearIn fr a e = eqb (rowNo fr 1 0 e) 0 && clear fr a e
+
+-- what the checks, passed, leave known to the writing of a domain
+pub record DomainRoom (av : List ℕ) (people e : ℕ) (list : List ℕ) : Type 0 where
+  pub counted : peopleOk people ≡ true
+  pub words : 16 * people ≤ length av
+  pub short : e ≤ 1024
+  pub room : people ≤ length list
+
+-- ---- the answers
+
+-- 1, 2, 9, 11
+unfoldable pub unitFrozenNo : List ℕ → ℕ → ℕ → List ℕ → ℕ → ℕ
+unitFrozenNo fr slots units firsts u =
+    orElse (slotCountOk slots) 1
+    (orElse (leb units (length firsts)) 2
+    (orElse (leb 16 (length fr)) 2 (orElse (unitsOk slots units firsts) 9 (orElse (ltb u units) 11 0))))
+
+unfoldable pub unitFrozenIs : List ℕ → ℕ → ℕ → List ℕ → ℕ → Told
+unitFrozenIs fr slots units firsts u = toldAs (unitFrozenNo fr slots units firsts u) (unitFrozen fr slots units firsts u)
+
+-- 1, 2, 11
+unfoldable pub slotDomainNo : List ℕ → ℕ → ℕ → ℕ → List ℕ → ℕ
+slotDomainNo av people slots k list =
+    orElse (peopleOk people) 1
+    (orElse (slotCountOk slots) 1
+    (orElse (leb (16 * people) (length av)) 2 (orElse (leb people (length list)) 2 (orElse (ltb k slots) 11 0))))
+
+unfoldable pub slotDomainIs : List ℕ → ℕ → ℕ → ℕ → List ℕ → Written
+slotDomainIs av people slots k list = writtenAs (slotDomainNo av people slots k list) (slotDomain av people k) list
+
+-- 1, 2, 9, 11
+unfoldable pub unitDomainNo : List ℕ → ℕ → ℕ → ℕ → List ℕ → ℕ → List ℕ → ℕ
+unitDomainNo av people slots units firsts u list =
+    orElse (peopleOk people) 1
+    (orElse (slotCountOk slots) 1
+    (orElse (leb (16 * people) (length av)) 2
+    (orElse (leb units (length firsts)) 2
+    (orElse (leb people (length list)) 2 (orElse (unitsOk slots units firsts) 9 (orElse (ltb u units) 11 0))))))
+
+unfoldable pub unitDomainIs : List ℕ → ℕ → ℕ → ℕ → List ℕ → ℕ → List ℕ → Written
+unitDomainIs av people slots units firsts u list =
+    writtenAs (unitDomainNo av people slots units firsts u list) (unitDomain av people slots units firsts u) list
