@@ -1,0 +1,148 @@
+-- Refusal 8 is given exactly when an unrounded target that the passes work out breaks the guard. Assumes nothing.
+use mathlib.Core.Path.{_≡_, refl, sym, ap, _∙_}
+use mathlib.Core.Bool.{Bool, true, false, not, _&&_, cond, true≢false}
+use mathlib.Core.List.{List, [], _∷_, map}
+use mathlib.Core.Logic.{_↔_}
+use Prim.Native.Nat.{ℕ, zero, suc, _+_, _-_, _<_, suc-le-suc}
+use native.Mathlib.Nat.{zero-add, suc-add, zero-lt-suc, le-of-suc-le-suc}
+use native.Mathlib.Omega.{arith}
+use lib.Ieee.{Float, lt}
+use lib.ListN.{length, getD}
+use Rattle.paper.proofs.Logic.{by-test, or-right}
+use Rattle.targets.specs.declared.Line.{Line}
+use Rattle.targets.specs.Figures.{zeroF, whole, pad}
+use Rattle.targets.specs.Passes.{within, unrounded, settle, outside, falls, some, shareSum, notional}
+use Rattle.targets.specs.Passes.{Passed, again, done, refused, passed, pass, passes, passesLeave, Beyond}
+use Rattle.targets.specs.Remainder.{adjusted, beyond, closed, targets}
+use Rattle.targets.proofs.Loops.{differ, none-passes}
+
+-- ---- one pass
+
+passed-refused : (n s : Float) (ls : List Line) → passed n s ls ≡ refused → (lt zeroF s ≡ true) × (some (outside n s) ls ≡ true)
+passed-refused n s ls e = go (lt zeroF s) (some (outside n s) ls) (some (falls n s) ls) e
+  where
+    new : List Line
+    new = map (settle n s) ls
+
+    go : (a b c : Bool) → cond a (cond b refused (cond c (again new) (done new))) (done ls) ≡ refused → (a ≡ true) × (b ≡ true)
+    go true true c e = (refl, refl)
+    go true false true e = let z : _≡_ {A = ℕ} 0 1 = cc in differ z
+    go true false false e = let z : _≡_ {A = ℕ} 0 1 = cc in differ z
+    go false b c e = let z : _≡_ {A = ℕ} 0 1 = cc in differ z
+
+refused-passed : (n s : Float) (ls : List Line) → lt zeroF s ≡ true → some (outside n s) ls ≡ true → passed n s ls ≡ refused
+refused-passed n s ls a b = rw (a, b)
+
+-- the person
+some-at : (p : Line → Bool) (ls : List Line) → some p ls ≡ true → (j : ℕ) × (j < length ls) × (p (getD ls j pad) ≡ true)
+some-at p [] e = absurd (true≢false (sym e))
+some-at p (l ∷ ls) e =
+    by-test (p l) ((j : ℕ) × (j < suc (length ls)) × (p (getD (l ∷ ls) j pad) ≡ true))
+    (λ q. (0, zero-lt-suc (length ls), q))
+    (λ q. let r = some-at p ls (or-right (p l) (some p ls) e q) in (suc (r .0), suc-le-suc (r .1), r .2))
+
+at-some : (p : Line → Bool) (ls : List Line) (j : ℕ) → j < length ls → p (getD ls j pad) ≡ true → some p ls ≡ true
+at-some p ls j h e = go (some p ls) refl
+  where
+    go : (b : Bool) → some p ls ≡ b → b ≡ true
+    go true q = refl
+    go false q = absurd (true≢false (sym e ∙ none-passes p ls j pad q h))
+
+outside-says : (b w : Bool) → not b && not w ≡ true → (b ≡ false) × (w ≡ false)
+outside-says true w e = absurd (true≢false (sym e))
+outside-says false true e = absurd (true≢false (sym e))
+outside-says false false e = (refl, refl)
+
+-- ---- all passes
+
+pub done-stays : (k d : ℕ) (ls : List Line) → passes k d (done ls) ≡ done ls
+unfolding passes pass
+done-stays zero d ls = refl
+done-stays (suc k) d ls = done-stays k d ls
+
+pub refused-stays : (k d : ℕ) → passes k d refused ≡ refused
+unfolding passes pass
+refused-stays zero d = refl
+refused-stays (suc k) d = refused-stays k d
+
+passes-add : (a b d : ℕ) (p : Passed) → passes (a + b) d p ≡ passes b d (passes a d p)
+unfolding passes
+passes-add zero b d p = ap (λ (k : ℕ). passes k d p) (zero-add b)
+passes-add (suc a) b d p = ap (λ (k : ℕ). passes k d p) (suc-add a b) ∙ passes-add a b d (pass d p)
+
+-- the pass that is refused, of n
+pub record At (n d : ℕ) (ls : List Line) : Type 0 where
+  pub before : ℕ
+  pub lines : List Line
+  pub few : before < n
+  pub due : passes before d (again ls) ≡ again lines
+  pub no : pass d (again lines) ≡ refused
+
+refused-at : (n d : ℕ) (ls : List Line) → passes n d (again ls) ≡ refused → At n d ls
+unfolding passes
+refused-at zero d ls e = let z : _≡_ {A = ℕ} 0 1 = cc in differ z
+refused-at (suc n) d ls e = go (pass d (again ls)) refl e (refused-at n d)
+  where
+    go : (q : Passed) → pass d (again ls) ≡ q → passes n d q ≡ refused
+        → ((ms : List Line) → passes n d (again ms) ≡ refused → At n d ms) → At (suc n) d ls
+    go (again ms) h e f =
+        let r = f ms e in
+        record {
+          before = suc (r .before);
+          lines = r .lines;
+          few = suc-le-suc (r .few);
+          due = ap (passes (r .before) d) h ∙ r .due;
+          no = r .no;
+        }
+    go (done ms) h e f =
+        let g : done ms ≡ refused = sym (done-stays n d ms) ∙ e in
+        let z : _≡_ {A = ℕ} 0 1 = cc in
+        differ z
+    go refused h e f = record { before = 0; lines = ls; few = zero-lt-suc n; due = refl; no = h }
+
+closed-beyond : (d : ℕ) (p : Passed) → closed (adjusted d) p ≡ beyond → p ≡ refused
+closed-beyond d (again ls) e = let z : _≡_ {A = ℕ} 0 1 = cc in differ z
+closed-beyond d (done ls) e = let z : _≡_ {A = ℕ} 0 1 = cc in differ z
+closed-beyond d refused e = refl
+
+-- ---- exactly
+
+found-beyond : (d : ℕ) (ls : List Line) → targets d ls ≡ beyond → Beyond d ls
+unfolding pass
+found-beyond d ls e =
+    let r = refused-at (suc (length ls)) d ls (closed-beyond d (passesLeave d ls) e) in
+    let n = whole (notional d (r .lines)) in
+    let s = shareSum (r .lines) in
+    let q = passed-refused n s (r .lines) (r .no) in
+    let j = some-at (outside n s) (r .lines) (q .1) in
+    let l = getD (r .lines) (j .0) pad in
+    let o = outside-says (l .pinned) (within (unrounded n s l)) (j .2) in
+    record {
+      before = r .before;
+      lines = r .lines;
+      at = j .0;
+      few = le-of-suc-le-suc (r .few);
+      due = r .due;
+      above = q .0;
+      here = j .1;
+      free = o .0;
+      breaks = o .1;
+    }
+
+beyond-found : (d : ℕ) (ls : List Line) → Beyond d ls → targets d ls ≡ beyond
+unfolding pass passes
+beyond-found d ls b =
+    let n = whole (notional d (b .lines)) in
+    let s = shareSum (b .lines) in
+    let l = getD (b .lines) (b .at) pad in
+    let o : outside n s l ≡ true = rw (b .free, b .breaks) in
+    let t = at-some (outside n s) (b .lines) (b .at) (b .here) o in
+    let p : pass d (again (b .lines)) ≡ refused = refused-passed n s (b .lines) (b .above) t in
+    let k = length ls - b .before in
+    let c : suc (length ls) ≡ b .before + suc k = omega (arith, b .few) in
+    ap (closed (adjusted d))
+    (ap (λ (i : ℕ). passes i d (again ls)) c ∙ passes-add (b .before) (suc k) d (again ls)
+    ∙ ap (λ (q : Passed). passes (suc k) d q) (b .due) ∙ ap (passes k d) p ∙ refused-stays k d)
+
+pub eight-exactly : (d : ℕ) (ls : List Line) → (targets d ls ≡ beyond) ↔ Beyond d ls
+eight-exactly d ls = (found-beyond d ls, beyond-found d ls)

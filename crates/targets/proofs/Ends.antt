@@ -1,0 +1,120 @@
+-- The bound of people + 1 passes never cuts them short: a pass that asks for another pins somebody. Assumes nothing.
+use mathlib.Core.Path.{_≡_, refl, sym, ap, _∙_}
+use mathlib.Core.Bool.{Bool, true, false, not, _&&_, cond, true≢false}
+use mathlib.Core.List.{List, [], _∷_, map}
+use Prim.Native.Nat.{ℕ, zero, suc, _+_, _≤_, _<_, zero-le}
+use native.Mathlib.Nat.{le-refl}
+use native.Mathlib.Omega.{arith}
+use lib.Ieee.{Float, lt}
+use lib.ListN.{length, length-map}
+use Rattle.paper.proofs.Logic.{by-test, both, or-right}
+use Rattle.targets.specs.declared.Line.{Line}
+use Rattle.targets.specs.Figures.{zeroF, whole}
+use Rattle.targets.specs.Passes.{rounded, unrounded, settled, settle, outside, falls, some, shareSum, notional}
+use Rattle.targets.specs.Passes.{Passed, again, done, refused, passed, pass, passes, passesLeave}
+use Rattle.targets.proofs.Loops.{differ}
+use Rattle.targets.proofs.Eight.{done-stays, refused-stays}
+
+-- how many are pinned
+abbrev ofOne : Bool → ℕ
+ofOne b = cond b 1 0
+
+abbrev pinnedIn : List Line → ℕ
+pinnedIn [] = 0
+pinnedIn (l ∷ ls) = ofOne (l .pinned) + pinnedIn ls
+
+pinned-le : (ls : List Line) → pinnedIn ls ≤ length ls
+pinned-le [] = zero-le
+pinned-le (l ∷ ls) = let h = pinned-le ls in omega (arith, at-most (l .pinned))
+  where
+    at-most : (b : Bool) → ofOne b ≤ 1
+    at-most true = le-refl 1
+    at-most false = zero-le
+
+-- ---- one person
+
+pin-kept : (x : Float) (l : Line) → ofOne (l .pinned) ≤ ofOne (settled x l .pinned)
+unfolding settled
+pin-kept x l = go (l .pinned) (lt x zeroF) refl
+  where
+    go : (p z : Bool) → l .pinned ≡ p
+        → ofOne p
+        ≤ ofOne
+        (cond {A = Line} p l
+        (cond {A = Line} z (record { person = l .person; raw = l .raw; target = 0; pinned = true })
+        (record { person = l .person; raw = l .raw; target = rounded x; pinned = false })) .pinned)
+    go true z e = rw e (le-refl 1)
+    go false z e = zero-le
+
+pin-new : (x : Float) (l : Line) → not (l .pinned) && lt x zeroF ≡ true → ofOne (l .pinned) < ofOne (settled x l .pinned)
+unfolding settled
+pin-new x l h =
+    let b = both (not (l .pinned)) (lt x zeroF) h in
+    rw (free (l .pinned) (b .0), b .1) (le-refl 1)
+  where
+    free : (p : Bool) → not p ≡ true → p ≡ false
+    free true e = absurd (true≢false (sym e))
+    free false e = refl
+
+-- ---- one pass
+
+no-fewer : (n s : Float) (ls : List Line) → pinnedIn ls ≤ pinnedIn (map (settle n s) ls)
+no-fewer n s [] = zero-le
+no-fewer n s (l ∷ ls) = let h = no-fewer n s ls in omega (arith, pin-kept (unrounded n s l) l)
+
+more-pinned : (n s : Float) (ls : List Line) → some (falls n s) ls ≡ true → pinnedIn ls < pinnedIn (map (settle n s) ls)
+more-pinned n s [] e = absurd (true≢false (sym e))
+more-pinned n s (l ∷ ls) e =
+    by-test (falls n s l) (pinnedIn (l ∷ ls) < pinnedIn (map (settle n s) (l ∷ ls)))
+    (λ t. omega (arith, pin-new (unrounded n s l) l t, no-fewer n s ls))
+    (λ f. omega (arith, pin-kept (unrounded n s l) l, more-pinned n s ls (or-right (falls n s l) (some (falls n s) ls) e f)))
+
+passed-again : (n s : Float) (ls xs : List Line) → passed n s ls ≡ again xs → (some (falls n s) ls ≡ true) × (map (settle n s) ls ≡ xs)
+passed-again n s ls xs e = go (lt zeroF s) (some (outside n s) ls) (some (falls n s) ls) e
+  where
+    new : List Line
+    new = map (settle n s) ls
+
+    go : (a b c : Bool) → cond a (cond b refused (cond c (again new) (done new))) (done ls) ≡ again xs → (c ≡ true) × (new ≡ xs)
+    go true true c e = let z : _≡_ {A = ℕ} 0 1 = cc in differ z
+    go true false true e = (refl, cc)
+    go true false false e = let z : _≡_ {A = ℕ} 0 1 = cc in differ z
+    go false b c e = let z : _≡_ {A = ℕ} 0 1 = cc in differ z
+
+pass-grows : (d : ℕ) (ls xs : List Line) → pass d (again ls) ≡ again xs → (pinnedIn ls < pinnedIn xs) × (length xs ≡ length ls)
+unfolding pass
+pass-grows d ls xs e =
+    let n = whole (notional d ls) in
+    let s = shareSum ls in
+    let h = passed-again n s ls xs e in
+    (omega (arith, more-pinned n s ls (h .0), ap pinnedIn (h .1)), sym (ap length (h .1)) ∙ length-map ls (settle n s))
+
+-- ---- all passes
+
+again-grows : (k d : ℕ) (ls ms : List Line) → passes k d (again ls) ≡ again ms
+    → (k + pinnedIn ls ≤ pinnedIn ms) × (length ms ≡ length ls)
+unfolding passes
+again-grows zero d ls ms e = let q : ls ≡ ms = cc in (omega (arith, ap pinnedIn q), sym (ap length q))
+again-grows (suc k) d ls ms e = go (pass d (again ls)) refl e (again-grows k d)
+  where
+    go : (q : Passed) → pass d (again ls) ≡ q → passes k d q ≡ again ms
+        → ((xs ys : List Line) → passes k d (again xs) ≡ again ys → (k + pinnedIn xs ≤ pinnedIn ys) × (length ys ≡ length xs))
+        → (suc k + pinnedIn ls ≤ pinnedIn ms) × (length ms ≡ length ls)
+    go (again xs) h e f =
+        let a = pass-grows d ls xs h in
+        let r = f xs ms e in
+        (omega (arith, a .0, r .0), r .1 ∙ a .1)
+    go (done xs) h e f =
+        let g : done xs ≡ again ms = sym (done-stays k d xs) ∙ e in
+        let z : _≡_ {A = ℕ} 0 1 = cc in
+        differ z
+    go refused h e f =
+        let g : refused ≡ again ms = sym (refused-stays k d) ∙ e in
+        let z : _≡_ {A = ℕ} 0 1 = cc in
+        differ z
+
+-- after people + 1 passes none is due
+pub passes-end : (d : ℕ) (ls ms : List Line) → passesLeave d ls ≡ again ms → ⊥
+passes-end d ls ms e =
+    let h = again-grows (suc (length ls)) d ls ms e in
+    omega (arith, h .0, h .1, pinned-le ms)

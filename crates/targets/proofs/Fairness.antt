@@ -1,0 +1,49 @@
+-- Where everybody is available for every slot, fairness 0 and fairness 1 come to the same. Assumes nothing.
+use mathlib.Core.Path.{_≡_, refl, ap, ap₂}
+use mathlib.Core.Bool.{Bool, cond}
+use mathlib.Core.List.{List, [], _∷_, _++_}
+use Prim.Native.Nat.{ℕ, zero, suc, _<_}
+use native.Mathlib.Omega.{arith}
+use borrow.Author.Tests.{eq-eqb}
+use lib.Dec.{eqb}
+use lib.IntN.{ℤ}
+use lib.ListN.{length}
+use lib.Ieee.{Float}
+use Rattle.paper.proofs.Count.{sum-same}
+use Rattle.slotset.specs.Answers.{rowSlots}
+use Rattle.slots.specs.Lent.{minutesAt, demandOf}
+use Rattle.targets.specs.declared.Line.{Line}
+use Rattle.targets.specs.Figures.{personAt, lineOf, upTo}
+use Rattle.targets.specs.Available.{minutesIfAvailable, availableMinutes}
+use Rattle.targets.specs.Remainder.{targets}
+use Rattle.targets.specs.Outcome.{given, checkNo, demandIn, linesIn, Outcome, published, computeTargets}
+
+upTo-same : {A : Type 0} (f g : ℕ → A) (n : ℕ) → ((k : ℕ) → k < n → f k ≡ g k) → upTo f n ≡ upTo g n
+upTo-same f g zero h = refl
+upTo-same {A = A} f g (suc n) h =
+    ap₂ (λ (xs : List A) (x : A). xs ++ (x ∷ [])) (upTo-same f g n (λ k l. h k (omega arith))) (h n (omega arith))
+
+module _ (people slots : ℕ) (starts ends avail : List ℕ) (capacities : List Float) (priors : List ℕ)
+    (everybody : (p k : ℕ) → p < people → k < slots → rowSlots avail p k ≡ 1) where
+  -- the available minutes are demand
+  all-available : (p : ℕ) → p < people → availableMinutes slots starts ends avail p ≡ demandOf slots starts ends
+  unfolding availableMinutes demandOf
+  all-available p h =
+      sum-same slots (minutesIfAvailable starts ends avail p) (minutesAt starts ends)
+      (λ k l. ap (λ (b : Bool). cond b (minutesAt starts ends k) 0) (eq-eqb (rowSlots avail p k) 1 (everybody p k h l)))
+
+  same-lines : linesIn (given people slots starts ends avail capacities priors 0)
+      ≡ linesIn (given people slots starts ends avail capacities priors 1)
+  same-lines =
+      upTo-same (λ (k : ℕ). lineOf (personAt capacities priors k) (availableMinutes slots starts ends avail k))
+      (λ (k : ℕ). lineOf (personAt capacities priors k) (demandOf slots starts ends)) people
+      (λ k h. ap (lineOf (personAt capacities priors k)) (all-available k h))
+
+  pub fairness-agrees : (out : List ℤ) → computeTargets (given people slots starts ends avail capacities priors 0) out
+      ≡ computeTargets (given people slots starts ends avail capacities priors 1) out
+  unfolding computeTargets checkNo
+  fairness-agrees out =
+      let g = given people slots starts ends avail capacities priors 1 in
+      let no = checkNo g (length out) in
+      ap (λ (ls : List Line). cond {A = Outcome} (eqb no 0) (published people (targets (demandIn g) ls) out) (record { number = no; out = out }))
+      same-lines

@@ -1,0 +1,203 @@
+-- No unrounded target of people whose figures pass reaches 2 ^ 40: the guard of refusal 8 is kept. Assumes nothing.
+-- The sum of the raw shares, each step rounded, is at least each of them, since rounding keeps the order.
+-- So a quotient is at most 1, and the product at most N.
+use mathlib.Core.Path.{_≡_, refl, sym, ap, _∙_, subst}
+use mathlib.Core.Bool.{Bool, true, false, not, _&&_, _||_, cond, true≢false}
+use mathlib.Core.List.{List, [], _∷_, foldl}
+use Prim.Native.Nat.{ℕ, suc, _+_, _*_, _^_, _≤_, _<_, zero-le}
+use native.Mathlib.Nat.{mul-one, mul-comm, mul-assoc, add-mul, suc-mul, add-zero, zero-add, add-le-add}
+use native.Mathlib.Nat.{mul-pos, mul-le-mul-right, le-refl, le-trans, le-of-eq, le-suc, lt-of-le-of-lt}
+use native.Mathlib.Omega.{arith}
+use lib.Dec.{T, ltb→lt, lit≤}
+use lib.IntN.{ℤ}
+use lib.ListN.{length}
+use lib.Ieee.{Float, nan, inf, fin, binary64, add, sub, mul, div, lt, fits, up, down, round, ofInt}
+use lib.Ieee.Exact.{HasValue}
+use lib.Ieee.Fits.{down-pos, round-fits}
+use lib.Ieee.Back.{round-whole}
+use lib.Ieee.Positive.{first-pos}
+use Rattle.targets.specs.declared.Line.{Line}
+use Rattle.targets.specs.Figures.{zeroF, whole}
+use Rattle.targets.specs.Passes.{within, unrounded, outside, some, withShare, shareSum, withPrior, notional}
+use Rattle.targets.proofs.Nearest.{held}
+use Rattle.targets.proofs.Floats.{Most, Plain, Share, Under, round-most, round-plain, quotient, product, difference, inside}
+use Rattle.targets.proofs.Floats.{under-round, under-refl, under-trans, add-plain}
+
+-- ---- one more raw share. 2 ^ 37 is more than any of them
+
+pub record Acc (k : ℕ) (x : Float) : Type 0 where
+  pub plain : Plain x
+  pub ok : T (fits binary64 x)
+  pub most : Most x (k * 137438953472) 1
+
+pub record Added (k : ℕ) (x y z : Float) : Type 0 where
+  pub acc : Acc k z
+  pub left : Under x z
+  pub right : Under y z
+
+room : (m d e k w : ℕ) → m * 1 ≤ k * w * e → m * d ≤ k * w * (e * d)
+room m d e k w h = le-trans (mul-le-mul-right d (le-trans (le-of-eq (sym (mul-one m))) h)) (le-of-eq (mul-assoc (k * w) e d))
+
+swapped : (n e d w : ℕ) → n * 1 ≤ w * d → n * e ≤ w * (e * d)
+swapped n e d w h =
+    le-trans (mul-le-mul-right e (le-trans (le-of-eq (sym (mul-one n))) h))
+    (le-of-eq (mul-assoc w d e ∙ ap (λ (z : ℕ). w * z) (mul-comm d e)))
+
+added : (k : ℕ) (x y : Float) → suc k ≤ 64 → Acc k x → Share y → Most y 137438953472 1 → Added (suc k) x y (add binary64 x y)
+added k nan y K a h l = absurd (a .plain)
+added k (inf s) y K a h l = absurd (a .most)
+added k (fin true m e) y K a h l = absurd (true≢false (a .plain))
+added k (fin false m e) nan K a h l = absurd h
+added k (fin false m e) (inf t) K a h l = absurd h
+added k (fin false m e) (fin t n d) K a h l =
+    let A = m * up e * down d in
+    let B = n * up d * down e in
+    let C = down e * down d in
+    let c : 0 < C = mul-pos (down-pos e) (down-pos d) in
+    let q : add binary64 (fin false m e) (fin t n d) ≡ round binary64 false (A + B) C = add-plain m e t n d (h .1) in
+    let ra : A ≤ k * 137438953472 * C = room (m * up e) (down d) (down e) k 137438953472 (a .most) in
+    let rb : B ≤ 137438953472 * C = swapped (n * up d) (down e) (down d) 137438953472 l in
+    let s : k * 137438953472 * C + 137438953472 * C ≡ suc k * 137438953472 * C
+    = sym (add-mul (k * 137438953472) 137438953472 C) ∙ ap (λ (z : ℕ). z * C) (sym (suc-mul k 137438953472)) in
+    let f : A + B ≤ suc k * 137438953472 * C = le-trans (add-le-add ra rb) (le-of-eq s) in
+    let w : suc k * 137438953472 ≤ 2 ^ 53 = le-trans (mul-le-mul-right 137438953472 K) (lit≤ {m = 64 * 137438953472} {n = 2 ^ 53} tt) in
+    let r = round-most false (A + B) C (suc k * 137438953472) c w f in
+    subst (λ (z : Float). Added (suc k) (fin false m e) (fin t n d) z) (sym q)
+    (record {
+      acc = record { plain = round-plain binary64 (A + B) C; ok = round-fits binary64 false (A + B) C; most = r };
+      left = under-round false m e (A + B) C (suc k * 137438953472) (a .ok) c
+          (le-trans
+          (le-of-eq (ap (λ (z : ℕ). m * up e * z) (mul-comm (down e) (down d)) ∙ sym (mul-assoc (m * up e) (down d) (down e))))
+          (mul-le-mul-right (down e) (first A B)))
+          r;
+      right = under-round t n d (A + B) C (suc k * 137438953472) (h .0) c
+          (le-trans (le-of-eq (sym (mul-assoc (n * up d) (down e) (down d)))) (mul-le-mul-right (down d) (second A B)))
+          r;
+    })
+  where
+    first : (a b : ℕ) → a ≤ a + b
+    first a b = omega arith
+
+    second : (a b : ℕ) → b ≤ a + b
+    second a b = omega arith
+
+-- ---- all people
+
+-- a raw share is at most 2 ^ 37 and not below zero, and the prior minutes are at most 100,000,000
+pub record Good (l : Line) : Type 0 where
+  pub share : Share (l .raw)
+  pub small : Most (l .raw) 137438953472 1
+  pub prior : l .person .prior ≤ 100000000
+
+abbrev pub Goods : List Line → Type 0
+Goods [] = Unit
+Goods (l ∷ ls) = Good l × Goods ls
+
+abbrev AllUnder : Float → List Line → Type 0
+AllUnder s [] = Unit
+AllUnder s (l ∷ ls) = (l .pinned ≡ false → Under (l .raw) s) × AllUnder s ls
+
+more-room : (k : ℕ) (x : Float) → Most x (k * 137438953472) 1 → Most x (suc k * 137438953472) 1
+more-room k nan h = h
+more-room k (inf s) h = h
+more-room k (fin s m e) h = le-trans h (mul-le-mul-right (down e) (mul-le-mul-right 137438953472 (le-suc k)))
+
+-- with one person's share, if they are not pinned
+pub record With (k : ℕ) (b : Bool) (x y z : Float) : Type 0 where
+  pub acc : Acc k z
+  pub left : Under x z
+  pub right : b ≡ false → Under y z
+
+with-one : (b : Bool) (k : ℕ) (x y : Float) → suc k ≤ 64 → Acc k x → Share y → Most y 137438953472 1
+    → With (suc k) b x y (cond b x (add binary64 x y))
+with-one true k x y K a h l = record {
+  acc = record { plain = a .plain; ok = a .ok; most = more-room k x (a .most) };
+  left = under-refl x (k * 137438953472) 1 (a .most);
+  right = λ q. absurd (true≢false q);
+}
+with-one false k x y K a h l = let r = added k x y K a h l in record { acc = r .acc; left = r .left; right = λ q. r .right }
+
+pub record Summed (k : ℕ) (x s : Float) (ls : List Line) : Type 0 where
+  pub acc : Acc k s
+  pub from : Under x s
+  pub all : AllUnder s ls
+
+summed : (ls : List Line) (k n : ℕ) (x : Float) → Acc k x → Goods ls → n ≡ k + length ls → n ≤ 64 → Summed n x (foldl withShare x ls) ls
+summed [] k n x a g e h = record {
+  acc = subst (λ (j : ℕ). Acc j x) (sym (e ∙ add-zero k)) a;
+  from = under-refl x (k * 137438953472) 1 (a .most);
+  all = tt;
+}
+summed (l ∷ ls) k n x a g e h =
+    let K : suc k ≤ 64 = omega arith in
+    let w = with-one (l .pinned) k x (l .raw) K a (g .0 .share) (g .0 .small) in
+    let r = summed ls (suc k) n (withShare x l) (w .acc) (g .1) (omega arith) h in
+    record {
+      acc = r .acc;
+      from = under-trans x (withShare x l) (foldl withShare x (l ∷ ls)) (w .left) (r .from);
+      all = (λ q. under-trans (l .raw) (withShare x l) (foldl withShare x (l ∷ ls)) (w .right q) (r .from), r .all);
+    }
+
+priors-most : (ls : List Line) (a : ℕ) → Goods ls → foldl withPrior a ls ≤ a + 100000000 * length ls
+priors-most [] a g = omega arith
+priors-most (l ∷ ls) a g =
+    let h = priors-most ls (withPrior a l) (g .1) in
+    let w : withPrior a l ≤ a + 100000000 = go (l .pinned) (g .0 .prior) in
+    omega arith
+  where
+    go : (b : Bool) → l .person .prior ≤ 100000000 → cond b a (a + l .person .prior) ≤ a + 100000000
+    go true p = omega arith
+    go false p = omega arith
+
+-- ---- the guard is kept
+pub positive : (n : ℕ) (d : ℤ) → lt zeroF (fin false n d) ≡ true → 0 < n
+unfolding lt
+positive n d h = first-pos n (up d) (first-pos (n * up d) 1 (lt-of-le-of-lt (zero-le) (ltb→lt (0 * down d) (n * up d * 1) (held h))))
+
+pub whole-val : (n : ℕ) → n ≤ 2 ^ 53 → HasValue (whole n) false n 1
+unfolding ofInt
+whole-val n h = round-whole binary64 false n h
+
+kept-at : (n p : ℕ) (s r : Float) (k : ℕ) → Plain s → Most s k 1 → lt zeroF s ≡ true → n ≤ 4000000000 → p ≤ 100000000 → Under r s
+    → within (sub binary64 (mul binary64 (whole n) (div binary64 r s)) (whole p)) ≡ true
+kept-at n p nan r k q m z N P u = absurd q
+kept-at n p (inf s) r k q m z N P u = absurd m
+kept-at n p (fin true v g) r k q m z N P u = absurd (true≢false q)
+kept-at n p (fin false v g) nan k q m z N P u = absurd u
+kept-at n p (fin false v g) (inf t) k q m z N P u = absurd u
+kept-at n p (fin false v g) (fin t r e) k q m z N P u =
+    let a : n ≤ 2 ^ 53 = le-trans N (lit≤ {m = 4000000000} {n = 2 ^ 53} tt) in
+    let b : p ≤ 2 ^ 53 = le-trans P (lit≤ {m = 100000000} {n = 2 ^ 53} tt) in
+    let c : n + p ≤ 2 ^ 53 = le-trans (add-le-add N P) (lit≤ {m = 4100000000} {n = 2 ^ 53} tt) in
+    let q = div binary64 (fin t r e) (fin false v g) in
+    let x = mul binary64 (whole n) q in
+    let y : Most x n 1 = product (whole n) q n (whole-val n a) a (quotient t r e v g (positive v g z) u) in
+    inside (sub binary64 x (whole p)) (n + p) (difference x (whole p) n p y (whole-val p b) c) (omega arith)
+
+kept : (n : ℕ) (s : Float) (k : ℕ) (l : Line) → Plain s → Most s k 1 → lt zeroF s ≡ true → n ≤ 4000000000 → Good l
+    → Under (l .raw) s → within (unrounded (whole n) s l) ≡ true
+kept n s k l p m z h g u = kept-at n (l .person .prior) s (l .raw) k p m z h (g .prior) u
+
+none-outside : (n : ℕ) (s : Float) (k : ℕ) (ls : List Line) → Plain s → Most s k 1 → lt zeroF s ≡ true → n ≤ 4000000000
+    → Goods ls → AllUnder s ls → some (outside (whole n) s) ls ≡ false
+none-outside n s k [] p m z h g u = refl
+none-outside n s k (l ∷ ls) p m z h g u =
+    go (l .pinned) (within (unrounded (whole n) s l)) (some (outside (whole n) s) ls)
+    (λ q. kept n s k l p m z h (g .0) (u .0 q)) (none-outside n s k ls p m z h (g .1) (u .1))
+  where
+    go : (b w r : Bool) → (b ≡ false → w ≡ true) → r ≡ false → (not b && not w) || r ≡ false
+    go true w r t e = e
+    go false true r t e = e
+    go false false r t e = absurd (true≢false (sym (t refl)))
+
+zero-acc : Acc 0 zeroF
+unfolding fits
+zero-acc = record { plain = refl; ok = tt; most = le-refl 0 }
+
+-- no pass over such people is refused
+pub never-outside : (d : ℕ) (ls : List Line) → d ≤ 100000000 → length ls ≤ 32 → Goods ls → lt zeroF (shareSum ls) ≡ true
+    → some (outside (whole (notional d ls)) (shareSum ls)) ls ≡ false
+never-outside d ls D L g z =
+    let r = summed ls 0 (length ls) zeroF zero-acc g (sym (zero-add (length ls))) (le-trans L (lit≤ {m = 32} {n = 64} tt)) in
+    let N : notional d ls ≤ 4000000000 = omega (arith, priors-most ls d g) in
+    none-outside (notional d ls) (shareSum ls) (length ls * 137438953472) ls (r .acc .plain) (r .acc .most) z N g (r .all)

@@ -1,0 +1,98 @@
+-- Available minutes: what a person's row tells of a slot, and that they are at most demand. Assumes nothing.
+use mathlib.Core.Path.{_≡_, refl, sym, ap, ap₂, _∙_}
+use mathlib.Core.Bool.{Bool, true, false, _&&_, cond}
+use mathlib.Core.List.{List}
+use Prim.Native.Nat.{ℕ, zero, suc, _*_, _≤_, _<_, zero-le}
+use native.Mathlib.Nat.{le-refl}
+use native.Mathlib.Omega.{arith}
+use borrow.Author.Tests.{le-leb, lt-ltb}
+use lib.Dec.{eqb}
+use lib.ListN.{length}
+use Rattle.paper.specs.Limits.{peopleOk}
+use Rattle.paper.specs.Count.{sum}
+use Rattle.slots.specs.Lent.{minutesAt, slotsOk}
+use Rattle.slots.proofs.LentLaws.{demand-part}
+use Rattle.slotset.specs.declared.Told.{Told}
+use Rattle.slotset.specs.declared.Told.the-variants as told
+use Rattle.slotset.specs.Slots.{has}
+use Rattle.slotset.specs.Answers.{rowNo, rowSlots, toldAs}
+use Rattle.targets.specs.Available.{minutesIfAvailable, availableMinutes}
+use Rattle.targets.specs.Code.{RowSound}
+use Rattle.targets.proofs.Loops.{differ}
+
+-- a sum of smaller numbers is smaller
+pub sum-mono : (n : ℕ) (f g : ℕ → ℕ) → ((k : ℕ) → k < n → f k ≤ g k) → sum n f ≤ sum n g
+unfolding sum
+sum-mono zero f g h = zero-le
+sum-mono (suc n) f g h = omega (arith, sum-mono n f g (λ k l. h k (omega arith)), h n (omega arith))
+
+pub if-available-le : (starts ends avail : List ℕ) (person k : ℕ)
+    → minutesIfAvailable starts ends avail person k ≤ minutesAt starts ends k
+if-available-le starts ends avail person k = go (eqb (rowSlots avail person k) 1) (minutesAt starts ends k)
+  where
+    go : (b : Bool) (m : ℕ) → cond b m 0 ≤ m
+    go true m = le-refl m
+    go false m = zero-le
+
+-- the available minutes of the first n slots fit
+pub available-part : (slots : ℕ) (starts ends avail : List ℕ) (person : ℕ) → slotsOk slots starts ends ≡ true → (n : ℕ) → n ≤ slots
+    → sum n (minutesIfAvailable starts ends avail person) ≤ 100000000
+available-part slots starts ends avail person o n h =
+    omega (
+      arith,
+      sum-mono n (minutesIfAvailable starts ends avail person) (minutesAt starts ends) (λ k l. if-available-le starts ends avail person k),
+      demand-part slots starts ends o n h,
+    )
+
+pub available-fits : (slots : ℕ) (starts ends avail : List ℕ) (person : ℕ) → slotsOk slots starts ends ≡ true
+    → availableMinutes slots starts ends avail person ≤ 100000000
+unfolding availableMinutes
+available-fits slots starts ends avail person o = available-part slots starts ends avail person o slots (le-refl slots)
+
+-- ---- what the row tells
+
+-- a row that can be asked is not refused
+row-asked : (people person slots : ℕ) (avail : List ℕ) → RowSound people person slots avail → rowNo avail people person slots ≡ 0
+unfolding rowNo peopleOk
+row-asked people person slots avail s =
+    rw (
+      le-leb 1 people (s .somebody),
+      le-leb people 32 (s .few),
+      le-leb slots 1024 (s .slots-few),
+      le-leb (16 * people) (length avail) (s .words),
+      lt-ltb person people (s .known),
+    )
+
+module _ (people person slots : ℕ) (starts ends avail : List ℕ) (k : ℕ) (s : RowSound people person slots avail) (h : k < slots)
+    (t : Told) (e : t ≡ toldAs (rowNo avail people person slots) (has (rowSlots avail person) slots k)) where
+  -- the answer is about the slot's bit
+  by-bit : t ≡ toldAs 0 (eqb (rowSlots avail person k) 1)
+  unfolding has
+  by-bit =
+      e
+      ∙ ap₂ toldAs (row-asked people person slots avail s)
+      (ap (λ (b : Bool). b && eqb (rowSlots avail person k) 1) (lt-ltb k slots h))
+
+  pub told-yes : t ≡ told.Yes → {m : ℕ} → m ≡ minutesAt starts ends k → m ≡ minutesIfAvailable starts ends avail person k
+  unfolding toldAs
+  told-yes y q = q ∙ go (eqb (rowSlots avail person k) 1) (sym by-bit ∙ y)
+    where
+      go : (b : Bool) → toldAs 0 b ≡ told.Yes → minutesAt starts ends k ≡ cond b (minutesAt starts ends k) 0
+      go true w = refl
+      go false w = let z : _≡_ {A = ℕ} 0 1 = cc in differ z
+
+  pub told-no : t ≡ told.No → 0 ≡ minutesIfAvailable starts ends avail person k
+  unfolding toldAs
+  told-no y = go (eqb (rowSlots avail person k) 1) (sym by-bit ∙ y)
+    where
+      go : (b : Bool) → toldAs 0 b ≡ told.No → 0 ≡ cond b (minutesAt starts ends k) 0
+      go true w = let z : _≡_ {A = ℕ} 0 1 = cc in differ z
+      go false w = refl
+
+  pub told-refused : {n : ℕ} → t ≡ told.Refused n → ⊥
+  unfolding toldAs
+  told-refused {n} y = go (eqb (rowSlots avail person k) 1) (sym by-bit ∙ y)
+    where
+      go : (b : Bool) → toldAs 0 b ≡ told.Refused n → ⊥
+      go true w = let z : _≡_ {A = ℕ} 0 1 = cc in differ z
+      go false w = let z : _≡_ {A = ℕ} 0 1 = cc in differ z

@@ -1,0 +1,187 @@
+-- Refusal 8 is never given: for people whose figures pass, with a demand and minutes of at most 100,000,000, there are targets.
+-- Assumes nothing.
+use mathlib.Core.Path.{_≡_, refl, sym, ap, _∙_}
+use mathlib.Core.Bool.{Bool, true, false, cond, true≢false}
+use mathlib.Core.List.{List, [], _∷_, _++_, map}
+use Prim.Native.Nat.{ℕ, zero, suc, _*_, _^_, _≤_, _<_, zero-le}
+use native.Mathlib.Nat.{mul-one, zero-mul, mul-mul-mul-comm, mul-pos, mul-le-mul-right, mul-le-mul-left}
+use native.Mathlib.Nat.{le-trans, le-of-eq, zero-lt-suc}
+use native.Mathlib.Omega.{arith}
+use borrow.Author.Tests.{leb-true}
+use lib.Dec.{T, leb, eqb, eqb→eq, lit≤}
+use lib.IntN.{ℤ, pos}
+use lib.ListN.{length, length-map}
+use lib.Ieee.{Float, nan, inf, fin, binary64, mul, lt, le, fits, up, down, round, ofInt, unlike}
+use lib.Ieee.Exact.{HasValue}
+use lib.Ieee.Fits.{up-pos, down-pos, and-l, round-fits}
+use Rattle.targets.specs.declared.Line.{Line}
+use Rattle.targets.specs.declared.Person.{Person}
+use Rattle.targets.specs.Figures.{zeroF, whole, lineOf, upTo, figuresOk}
+use Rattle.targets.specs.Passes.{rounded, settled, settle, unrounded, outside, falls, some, shareSum, notional}
+use Rattle.targets.specs.Passes.{Passed, again, done, refused, passed, pass, passes, passesLeave}
+use Rattle.targets.specs.Remainder.{are, closed, targets, adjusted}
+use Rattle.paper.proofs.Logic.{three}
+use Rattle.targets.proofs.Nearest.{held}
+use Rattle.targets.proofs.Floats.{Most, Plain, Share, round-most, round-plain, le-cross}
+use Rattle.targets.proofs.Guard.{Good, Goods, whole-val, never-outside}
+
+-- ---- a person's line
+
+-- a capacity that passes: finite, at most 1000, and 0 if it has the sign
+abbrev Cap : Float → Type 0
+Cap nan = ⊥
+Cap (inf s) = ⊥
+Cap (fin s m e) = (m * up e * 1 ≤ 1000 * down e) × (s ≡ true → m * up e ≡ 0)
+
+cap-of : (x : Float) → T (le zeroF x) → T (le x (whole 1000)) → Cap x
+unfolding le ofInt
+cap-of nan a b = absurd a
+cap-of (inf true) a b = absurd a
+cap-of (inf false) a b = absurd b
+cap-of (fin true m e) a b =
+    let x = m * up e * 1 in
+    let q : 0 * down e ≡ x = eqb→eq (0 * down e) x (and-l (eqb (0 * down e) x) (eqb (0 * down e) 0) a) in
+    (omega arith, λ t. omega arith)
+cap-of (fin false m e) a b = (le-cross m 125 e (pos 3) b, λ t. absurd (true≢false (sym t)))
+
+share-plain : (x : Float) (k : ℕ) → T (fits binary64 x) → Plain x → Most x k 1 → Share x
+share-plain nan k f p h = h
+share-plain (inf s) k f p h = h
+share-plain (fin true m e) k f p h = absurd (true≢false p)
+share-plain (fin false m e) k f p h = (f, λ q. absurd (true≢false (sym q)))
+
+no-size : (m : ℕ) (e : ℤ) → m * up e * 1 ≤ 0 * down e → m ≡ 0
+no-size zero e h = refl
+no-size (suc m) e h = absurd (no (mul-pos (zero-lt-suc m) (up-pos e)) (le-trans h (le-of-eq (zero-mul (down e)))))
+  where
+    no : 0 < suc m * up e → suc m * up e * 1 ≤ 0 → ⊥
+    no p q = omega arith
+
+share-zero : (x : Float) → T (fits binary64 x) → Most x 0 1 → Share x
+share-zero nan f h = h
+share-zero (inf s) f h = h
+share-zero (fin s m e) f h = (f, λ q. no-size m e h)
+
+pub record Raw (x : Float) : Type 0 where
+  pub share : Share x
+  pub small : Most x 137438953472 1
+
+-- capacity times minutes
+times : (s : Bool) (m : ℕ) (e : ℤ) (t : Bool) (n : ℕ) (d : ℤ) (b : ℕ) → b ≤ 100000000 → Cap (fin s m e)
+    → HasValue (fin t n d) false b 1 → Raw (mul binary64 (fin s m e) (fin t n d))
+unfolding mul
+times s m e true n d b B c v = absurd (true≢false (v .0))
+times s m e false n d b B c v = go s (c .1)
+  where
+    A : ℕ
+    A = m * up e * (n * up d)
+
+    C : ℕ
+    C = down e * down d
+
+    p : 0 < C
+    p = mul-pos (down-pos e) (down-pos d)
+
+    bound : A ≤ 137438953472 * C
+    bound =
+        le-trans (mul-le-mul-right (n * up d) (le-trans (le-of-eq (sym (mul-one (m * up e)))) (c .0)))
+        (le-trans (mul-le-mul-left (1000 * down e) (le-trans (le-of-eq (sym (mul-one (n * up d)) ∙ v .1)) (mul-le-mul-right (down d) B)))
+        (le-trans (le-of-eq (mul-mul-mul-comm 1000 (down e) 100000000 (down d)))
+        (mul-le-mul-right C (lit≤ {m = 100000000000} {n = 137438953472} tt))))
+
+    w : 137438953472 ≤ 2 ^ 53
+    w = lit≤ {m = 137438953472} {n = 2 ^ 53} tt
+
+    go : (s : Bool) → (s ≡ true → m * up e ≡ 0) → Raw (round binary64 (unlike s false) A C)
+    go false z =
+        let x = round binary64 false A C in
+        let r = round-most false A C 137438953472 p w bound in
+        record { share = share-plain x 137438953472 (round-fits binary64 false A C) (round-plain binary64 A C) r; small = r }
+    go true z = record {
+      share = share-zero (round binary64 true A C) (round-fits binary64 true A C)
+          (round-most true A C 0 p zero-le
+          (le-of-eq (ap (λ (k : ℕ). k * (n * up d)) (z refl) ∙ zero-mul (n * up d) ∙ sym (zero-mul C))));
+      small = round-most true A C 137438953472 p w bound;
+    }
+
+raw-of : (x y : Float) (b : ℕ) → b ≤ 100000000 → Cap x → HasValue y false b 1 → Raw (mul binary64 x y)
+raw-of nan y b B c v = absurd c
+raw-of (inf s) y b B c v = absurd c
+raw-of (fin s m e) nan b B c v = absurd v
+raw-of (fin s m e) (inf t) b B c v = absurd v
+raw-of (fin s m e) (fin t n d) b B c v = times s m e t n d b B c v
+
+pub good-line : (p : Person) (b : ℕ) → figuresOk p ≡ true → b ≤ 100000000 → Good (lineOf p b)
+unfolding figuresOk
+good-line p b f B =
+    let c = p .capacity in
+    let h = three (le zeroF c) (le c (whole 1000)) (leb (p .prior) 100000000) f in
+    let v = whole-val b (le-trans B (lit≤ {m = 100000000} {n = 2 ^ 53} tt)) in
+    let r = raw-of c (whole b) b B (cap-of c (held (h .0)) (held (h .1))) v in
+    record { share = r .share; small = r .small; prior = leb-true (p .prior) 100000000 (h .2) }
+
+pub goods-upTo : (f : ℕ → Line) (n : ℕ) → ((k : ℕ) → k < n → Good (f k)) → Goods (upTo f n)
+goods-upTo f zero h = tt
+goods-upTo f (suc n) h = goods-append (upTo f n) (f n ∷ []) (goods-upTo f n (λ k l. h k (omega arith))) (h n (omega arith), tt)
+  where
+    goods-append : (xs ys : List Line) → Goods xs → Goods ys → Goods (xs ++ ys)
+    goods-append [] ys g k = k
+    goods-append (x ∷ xs) ys g k = (g .0, goods-append xs ys (g .1) k)
+
+-- ---- the passes
+
+settled-good : (x : Float) (l : Line) → Good l → Good (settled x l)
+unfolding settled
+settled-good x l g = go (l .pinned) (lt x zeroF)
+  where
+    go : (p z : Bool)
+        → Good (cond p l
+        (cond z (record { person = l .person; raw = l .raw; target = 0; pinned = true })
+        (record { person = l .person; raw = l .raw; target = rounded x; pinned = false })))
+    go true z = g
+    go false true = record { share = g .share; small = g .small; prior = g .prior }
+    go false false = record { share = g .share; small = g .small; prior = g .prior }
+
+goods-map : (n s : Float) (ls : List Line) → Goods ls → Goods (map (settle n s) ls)
+goods-map n s [] g = tt
+goods-map n s (l ∷ ls) g = (settled-good (unrounded n s l) l (g .0), goods-map n s ls (g .1))
+
+abbrev Fine : Passed → Type 0
+Fine (again ls) = (length ls ≤ 32) × Goods ls
+Fine (done ls) = (length ls ≤ 32) × Goods ls
+Fine refused = ⊥
+
+fine-passed : (n s : Float) (ls : List Line) → (lt zeroF s ≡ true → some (outside n s) ls ≡ false) → Fine (again ls) → Fine (passed n s ls)
+fine-passed n s ls o h = go (lt zeroF s) (some (outside n s) ls) (some (falls n s) ls) o
+  where
+    new : List Line
+    new = map (settle n s) ls
+
+    fine : Fine (again new)
+    fine = (le-trans (le-of-eq (length-map ls (settle n s))) (h .0), goods-map n s ls (h .1))
+
+    go : (a b c : Bool) → (a ≡ true → b ≡ false) → Fine (cond a (cond b refused (cond c (again new) (done new))) (done ls))
+    go false b c q = h
+    go true true c q = absurd (true≢false (q refl))
+    go true false true q = fine
+    go true false false q = fine
+
+fine-pass : (d : ℕ) → d ≤ 100000000 → (p : Passed) → Fine p → Fine (pass d p)
+unfolding pass
+fine-pass d D (again ls) h = fine-passed (whole (notional d ls)) (shareSum ls) ls (never-outside d ls D (h .0) (h .1)) h
+fine-pass d D (done ls) h = h
+fine-pass d D refused h = h
+
+fine-passes : (k d : ℕ) → d ≤ 100000000 → (p : Passed) → Fine p → Fine (passes k d p)
+unfolding passes
+fine-passes zero d D p h = h
+fine-passes (suc k) d D p h = fine-passes k d D (pass d p) (fine-pass d D p h)
+
+given : (d : ℕ) (p : Passed) → Fine p → (zs : List ℤ) × (closed (adjusted d) p ≡ are zs)
+given d (again ls) h = (adjusted d ls, refl)
+given d (done ls) h = (adjusted d ls, refl)
+given d refused h = absurd h
+
+-- there are targets, for any such people
+pub never-refused : (d : ℕ) (ls : List Line) → d ≤ 100000000 → length ls ≤ 32 → Goods ls → (zs : List ℤ) × (targets d ls ≡ are zs)
+never-refused d ls D L g = given d (passesLeave d ls) (fine-passes (suc (length ls)) d D (again ls) (L, g))

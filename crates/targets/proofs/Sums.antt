@@ -1,0 +1,40 @@
+-- The targets add up to the demand, whatever the passes leave. Assumes nothing.
+use mathlib.Core.Path.{_≡_, sym, ap, _∙_}
+use mathlib.Core.List.{List, [], _∷_, map, foldl}
+use Prim.Native.Nat.{ℕ, zero, suc, _+_, _<_}
+use native.Mathlib.Nat.{not-suc-le-zero, le-of-suc-le-suc}
+use lib.IntN.{ℤ, pos, negℤ, _+ℤ_, _-ℤ_, +ℤ-assoc, +ℤ-comm, +ℤ-idl, +ℤ-idr, +ℤ-invl}
+use lib.ListN.{length, getD, set}
+use Rattle.targets.specs.declared.Line.{Line}
+use Rattle.targets.specs.Figures.{pad}
+use Rattle.targets.specs.Remainder.{withTarget, totalOf, takerOf, targetOf, adjusted, sumℤ}
+use Rattle.targets.proofs.Taker.{taker-here}
+
+-- the total, with what it started from
+total-from : (a : ℕ) (ls : List Line) → pos (foldl withTarget a ls) ≡ pos a +ℤ sumℤ (map targetOf ls)
+total-from a [] = sym (+ℤ-idr (pos a))
+total-from a (l ∷ ls) = total-from (a + l .target) ls ∙ +ℤ-assoc (pos a) (pos (l .target)) (sumℤ (map targetOf ls))
+
+-- a target that gets r more
+swap : (a b r : ℤ) → (a +ℤ r) +ℤ b ≡ (a +ℤ b) +ℤ r
+swap a b r = +ℤ-assoc a r b ∙ ap (λ (z : ℤ). a +ℤ z) (+ℤ-comm r b) ∙ sym (+ℤ-assoc a b r)
+
+moved : (ls : List Line) (k : ℕ) (r : ℤ) → k < length ls
+    → sumℤ (set (map targetOf ls) k (pos (getD ls k pad .target) +ℤ r)) ≡ sumℤ (map targetOf ls) +ℤ r
+moved [] k r h = absurd (not-suc-le-zero h)
+moved (l ∷ ls) zero r h = swap (pos (l .target)) (sumℤ (map targetOf ls)) r
+moved (l ∷ ls) (suc k) r h =
+    ap (λ (z : ℤ). pos (l .target) +ℤ z) (moved ls k r (le-of-suc-le-suc h))
+    ∙ sym (+ℤ-assoc (pos (l .target)) (sumℤ (map targetOf ls)) r)
+
+pub adds-up : (d : ℕ) (ls : List Line) → 0 < length ls → sumℤ (adjusted d ls) ≡ pos d
+unfolding adjusted
+adds-up d ls h =
+    let t = pos (totalOf ls) in
+    let r = pos d -ℤ t in
+    moved ls (takerOf ls) r (taker-here ls h)
+    ∙ ap (λ (z : ℤ). z +ℤ r) (sym (total-from 0 ls ∙ +ℤ-idl (sumℤ (map targetOf ls))))
+    ∙ +ℤ-comm t r
+    ∙ +ℤ-assoc (pos d) (negℤ t) t
+    ∙ ap (λ (z : ℤ). pos d +ℤ z) (+ℤ-invl t)
+    ∙ +ℤ-idr (pos d)

@@ -1,0 +1,22 @@
+-- `targets::checks::counts_ok` meets its contract. Assumes nothing.
+use borrow.Author.Needs.{needs}
+use Rattle.targets.specs.Outcome.{countsOk}
+use Rattle.targets.proofs.checks.counts_ok.Statement.{statement}
+use Rattle.targets.proofs.checks.counts_ok.Tie as tie
+
+people-ok-requires : tie.Need-people-ok-requires
+people-ok-requires c κs = search needs
+
+slot-count-ok-requires : tie.Need-slot-count-ok-requires
+slot-count-ok-requires c κs = search needs
+
+returns : tie.Need-returns
+unfolding countsOk
+returns c = rw (← c .before .before .people-ok .ensures, c .before .if1 .taken) (c .slot-count-ok .ensures)
+
+returns-2 : tie.Need-returns-2
+unfolding countsOk
+returns-2 c = rw (← c .before .people-ok .ensures, c .if1 .left)
+
+pub counts-ok-spec : {M : Type 1} → statement M
+counts-ok-spec = tie.close (tie.spec people-ok-requires slot-count-ok-requires returns returns-2)

@@ -1,0 +1,85 @@
+-- `targets::compute_targets` meets its contract. Assumes nothing.
+use mathlib.Core.Path.{_≡_, sym, _∙_}
+use borrow.Author.Needs.{needs}
+use lib.ListN.{length}
+use Rattle.targets.specs.Outcome.{Given, given, checkNo}
+use Rattle.targets.proofs.Accepted.{Accepted, accepted}
+use Rattle.targets.proofs.Work.{demand-is, small-in, meets-refused, meets-eight, meets-done}
+use Rattle.targets.proofs.compute_targets.Statement.{statement}
+use Rattle.targets.proofs.compute_targets.Tie as tie
+
+-- what is lent
+abbrev lent : tie.Start → Given
+lent s =
+    let a = s .args in
+    given (a .people) (a .slots) (a .starts .now) (a .ends .now) (a .avail .now) (a .capacities .now) (a .priors .now) (a .fairness)
+
+-- where the work starts
+abbrev start : tie.Then1 → tie.Start
+start c = c .before .before .before .before .before .before .before
+
+clear : (c : tie.Then1) → checkNo (lent (start c)) (length (start c .args .out .now)) ≡ 0
+clear c = sym (c .before .check-no .ensures) ∙ c .if1 .taken
+
+fine : (c : tie.Then1) → Accepted (lent (start c)) (length (start c .args .out .now))
+fine c = accepted (lent (start c)) (length (start c .args .out .now)) (clear c)
+
+check-no-requires : tie.Need-check-no-requires
+check-no-requires c κs = search needs
+
+demand-of-requires : tie.Need-demand-of-requires
+demand-of-requires c κs = search needs
+
+lines-of-requires : tie.Need-lines-of-requires
+lines-of-requires c κs =
+    let s = fine (c .before) .sound in
+    (s, demand-is (lent (start (c .before))) s (c .demand-of .ensures))
+
+targets-of-requires : tie.Need-targets-of-requires
+targets-of-requires c κs =
+    let b = c .before .before in
+    (fine b .sound .few, small-in (lent (start b)) (c .lines-of .ensures))
+
+returns : tie.Need-returns
+returns c =
+    let b = c .before .before .before .before in
+    let g = lent (start b) in
+    meets-eight g (start b .args .out .now) (clear b) (c .before .targets-of .result)
+    (demand-is g (fine b .sound) (c .before .before .before .demand-of .ensures)) (c .before .before .lines-of .ensures)
+    (c .before .targets-of .ensures) (c .if2 .taken)
+
+put-targets-requires : tie.Need-put-targets-requires
+put-targets-requires c κs =
+    let b = c .before .before .before .before .before .before in
+    (fine b .sound .few, fine b .out-room)
+
+same-length : tie.Need-same-length
+same-length c = search needs
+
+returns-2 : tie.Need-returns-2
+returns-2 c =
+    let t = c .before .before .before .before .before in
+    let b = t .before .before .before in
+    let g = lent (start b) in
+    meets-done g (start b .args .out .now) (clear b) (t .targets-of .result)
+    (demand-is g (fine b .sound) (t .before .before .demand-of .ensures)) (t .before .lines-of .ensures)
+    (t .targets-of .ensures) (c .before .before .before .before .if2 .left) (c .before .put-targets .ensures)
+
+returns-3 : tie.Need-returns-3
+returns-3 c =
+    let e = c .before .before .before .before .before .before .before in
+    meets-refused (lent e) (e .args .out .now) (c .before .check-no .ensures) (c .if1 .left)
+
+pub compute-targets-spec : {M : Type 1} → statement M
+compute-targets-spec =
+    tie.close
+    (tie.spec
+    check-no-requires
+    demand-of-requires
+    lines-of-requires
+    targets-of-requires
+    returns
+    put-targets-requires
+    same-length
+    returns-2
+    returns-3)

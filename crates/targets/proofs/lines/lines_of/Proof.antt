@@ -1,0 +1,117 @@
+-- `targets::lines::lines_of` meets its contract: the lines of the people passed stand in front, and the rest takes no part.
+-- Assumes nothing.
+use mathlib.Core.Path.{_≡_, refl, ap, _∙_}
+use mathlib.Core.Bool.{cond}
+use mathlib.Core.List.{_++_}
+use Prim.Native.Nat.{ℕ, _≤_, _-_}
+use native.Mathlib.Omega.{arith}
+use borrow.Author.Needs.{needs}
+use lib.Dec.{eqb}
+use lib.Ieee.{ofBits}
+use lib.ListN.{replicate}
+use Rattle.targets.specs.declared.Line.{Line}
+use Rattle.targets.specs.Figures.{personAt, lineOf, upTo, pad}
+use Rattle.targets.specs.Available.{availableMinutes}
+use Rattle.targets.specs.Outcome.{Given, given, baseAt}
+use Rattle.targets.proofs.Loops.{fill}
+use Rattle.targets.proofs.lines.lines_of.Statement.{statement}
+use Rattle.targets.proofs.lines.lines_of.Tie as tie
+
+-- person k's line
+abbrev lineIn : Given → ℕ → Line
+lineIn g k = lineOf (personAt (g .capacities) (g .priors) k) (baseAt g k)
+
+abbrev Inv-loop : tie.InvT-loop
+Inv-loop people slots starts ends avail capacities priors fairness demand out₀ i₀ out i =
+    (i ≤ people)
+    × (out ≡ upTo (lineIn (given people slots starts ends avail capacities priors fairness)) i ++ replicate (32 - i) pad)
+
+abbrev μ-loop : tie.MeasureT-loop
+μ-loop people slots starts ends avail capacities priors fairness demand out₀ i₀ out i = people - i
+
+-- what is lent
+abbrev lent : tie.Start Inv-loop μ-loop → Given
+lent s =
+    let a = s .args in
+    given (a .people) (a .slots) (a .starts .now) (a .ends .now) (a .avail .now) (a .capacities .now) (a .priors .now) (a .fairness)
+
+loop-holds : tie.Need-loop-holds Inv-loop μ-loop
+unfolding ofBits
+loop-holds c = (search needs, refl)
+
+mul-t18 : tie.Need-mul-t18 Inv-loop μ-loop
+mul-t18 c = omega arith
+
+shared-slice-read-t20 : tie.Need-shared-slice-read-t20 Inv-loop μ-loop
+shared-slice-read-t20 c =
+    let s = c .before .before .before .before .before .before .before .before .pre .0 in
+    omega (arith, s .capacities-room)
+
+mul-t21 : tie.Need-mul-t21 Inv-loop μ-loop
+mul-t21 c = omega arith
+
+shared-slice-read-t23 : tie.Need-shared-slice-read-t23 Inv-loop μ-loop
+shared-slice-read-t23 c =
+    let s = c .before .before .before .before .before .before .before .before .before .pre .0 in
+    omega (arith, s .priors-room)
+
+base-of-requires : tie.Need-base-of-requires Inv-loop μ-loop
+base-of-requires c κs =
+    let s = c .before .before .before .before .before .before .before .before .before .pre .0 in (
+      record { somebody = s .somebody; few = s .few; known = omega arith; slots-few = s .slots-few; words = s .words },
+      s .ordered,
+    )
+
+line-of-requires : tie.Need-line-of-requires Inv-loop μ-loop
+line-of-requires c κs = search needs
+
+mul-out : tie.Need-mul-out Inv-loop μ-loop
+mul-out c = omega arith
+
+array-set-from-out : tie.Need-array-set-from-out Inv-loop μ-loop
+array-set-from-out c =
+    let s = c .before .before .before .before .before .before .before .before .before .before .before .pre .0 in
+    omega (arith, s .few)
+
+add-i : tie.Need-add-i Inv-loop μ-loop
+add-i c = omega arith
+
+loop-less : tie.Need-loop-less Inv-loop μ-loop
+loop-less c = omega arith
+
+loop-again : tie.Need-loop-again Inv-loop μ-loop
+loop-again c =
+    let p = c .before .before .before .before .before in
+    let e = p .before .before .before .before .before .before in
+    let g = lent e in
+    let m = availableMinutes (g .slots) (g .starts) (g .ends) (g .avail) (p .loop .i) in
+    let b = c .before .base-of .ensures ∙ ap (λ (d : ℕ). cond (eqb (g .fairness) 1) d m) (e .pre .1) in
+    let l = c .line-of .ensures ∙ ap (lineOf (personAt (g .capacities) (g .priors) (p .loop .i))) b in
+    let n = e .pre .0 .few in
+    (search needs, fill (lineIn g) 32 (p .loop .i) pad (p .loop .inv .1) l (omega arith))
+
+returns : tie.Need-returns Inv-loop μ-loop
+returns c =
+    let a = c .before .before .before .before .before .before .before .args in
+    let e : c .before .loop .i ≡ a .people = omega arith in
+    rw (← e) (c .before .loop .inv .1)
+
+pub lines-of-spec : {M : Type 1} → statement M
+lines-of-spec =
+    tie.close
+    (tie.spec
+    Inv-loop
+    μ-loop
+    loop-holds
+    mul-t18
+    shared-slice-read-t20
+    mul-t21
+    shared-slice-read-t23
+    base-of-requires
+    line-of-requires
+    mul-out
+    array-set-from-out
+    add-i
+    loop-less
+    loop-again
+    returns)

@@ -1,0 +1,58 @@
+-- `targets::lines::minutes_if_available` meets its contract. Assumes nothing.
+use borrow.Author.Needs.{needs}
+use Rattle.targets.proofs.Minutes.{told-yes, told-no, told-refused}
+use Rattle.targets.proofs.lines.minutes_if_available.Statement.{statement}
+use Rattle.targets.proofs.lines.minutes_if_available.Tie as tie
+
+contains-requires : tie.Need-contains-requires
+contains-requires c κs = search needs
+
+enum-told : tie.Need-enum-told
+enum-told c = search needs
+
+minutes-at-requires : tie.Need-minutes-at-requires
+minutes-at-requires c κs = search needs
+
+enum-told-2 : tie.Need-enum-told-2
+enum-told-2 c = search needs
+
+enum-told-3 : tie.Need-enum-told-3
+enum-told-3 c = search needs
+
+returns : tie.Need-returns
+returns c =
+    let p = c .before .before .before in
+    let e = p .before .before .before .before in
+    let a = e .args in
+    told-yes (a .people) (a .person) (a .slots) (a .starts .now) (a .ends .now) (a .avail .now) (a .k) (e .pre .0) (e .pre .1)
+    (p .contains .result) (p .contains .ensures) (c .before .enum-told .given .1) (c .minutes-at .ensures)
+
+returns-2 : tie.Need-returns-2
+returns-2 c =
+    let p = c .before .before in
+    let e = p .before .before .before .before in
+    let a = e .args in
+    told-no (a .people) (a .person) (a .slots) (a .starts .now) (a .ends .now) (a .avail .now) (a .k) (e .pre .0) (e .pre .1)
+    (p .contains .result) (p .contains .ensures) (c .enum-told2 .given .1)
+
+returns-3 : tie.Need-returns-3
+returns-3 c =
+    let p = c .before .before in
+    let e = p .before .before .before .before in
+    let a = e .args in
+    absurd
+    (told-refused (a .people) (a .person) (a .slots) (a .starts .now) (a .ends .now) (a .avail .now) (a .k) (e .pre .0) (e .pre .1)
+    (p .contains .result) (p .contains .ensures) (c .enum-told3 .given .1))
+
+pub minutes-if-available-spec : {M : Type 1} → statement M
+minutes-if-available-spec =
+    tie.close
+    (tie.spec
+    contains-requires
+    enum-told
+    minutes-at-requires
+    enum-told-2
+    enum-told-3
+    returns
+    returns-2
+    returns-3)

@@ -1,0 +1,75 @@
+-- `targets::passes::settled_lines` meets its contract. Assumes nothing.
+use Prim.Native.Nat.{_≤_, _-_}
+use native.Mathlib.Omega.{arith}
+use borrow.Author.Needs.{needs}
+use mathlib.Core.Path.{_≡_, refl}
+use mathlib.Core.List.{_++_, map}
+use lib.ListN.{length, take, drop, length-set}
+use Rattle.targets.specs.Passes.{outside, settle}
+use Rattle.targets.proofs.Loops.{copied, filled, none-passes}
+use Rattle.targets.proofs.passes.settled_lines.Statement.{statement}
+use Rattle.targets.proofs.passes.settled_lines.Tie as tie
+
+abbrev Inv-loop : tie.InvT-loop
+Inv-loop n sum ls out₀ i₀ out i = (i ≤ 32) × (length out ≡ 32) × (take i out ++ map (settle n sum) (drop i ls) ≡ map (settle n sum) ls)
+
+abbrev μ-loop : tie.MeasureT-loop
+μ-loop n sum ls out₀ i₀ out i = 32 - i
+
+loop-holds : tie.Need-loop-holds Inv-loop μ-loop
+loop-holds c = (search needs, omega arith, refl)
+
+mul-l : tie.Need-mul-l Inv-loop μ-loop
+mul-l c = search needs
+
+array-copy-out-l : tie.Need-array-copy-out-l Inv-loop μ-loop
+array-copy-out-l c = search needs
+
+settled-line-requires : tie.Need-settled-line-requires Inv-loop μ-loop
+settled-line-requires c κs =
+    let a = c .before .before .before .args in
+    none-passes (outside (a .n) (a .sum)) (a .t1) (c .before .before .loop .i) _ (c .before .before .before .pre) (omega arith)
+
+mul-out : tie.Need-mul-out Inv-loop μ-loop
+mul-out c = search needs
+
+array-set-from-out : tie.Need-array-set-from-out Inv-loop μ-loop
+array-set-from-out c = search needs
+
+add-i : tie.Need-add-i Inv-loop μ-loop
+add-i c = search needs
+
+loop-less : tie.Need-loop-less Inv-loop μ-loop
+loop-less c = search needs
+
+loop-again : tie.Need-loop-again Inv-loop μ-loop
+loop-again c =
+    let a = c .before .before .before .before .args in
+    let p = c .before .before .before .loop in (
+      search needs,
+      simp length-set (p .inv .1),
+      copied (settle (a .n) (a .sum)) (a .t1) (p .out) (p .i) _ (p .inv .2) (c .settled-line .ensures) (omega arith) (omega arith),
+    )
+
+returns : tie.Need-returns Inv-loop μ-loop
+returns c =
+    let a = c .before .before .args in
+    let p = c .before .loop in
+    filled (settle (a .n) (a .sum)) (a .t1) (p .out) (p .i) (p .inv .2) (omega arith) (omega arith)
+
+pub settled-lines-spec : {M : Type 1} → statement M
+settled-lines-spec =
+    tie.close
+    (tie.spec
+    Inv-loop
+    μ-loop
+    loop-holds
+    mul-l
+    array-copy-out-l
+    settled-line-requires
+    mul-out
+    array-set-from-out
+    add-i
+    loop-less
+    loop-again
+    returns)

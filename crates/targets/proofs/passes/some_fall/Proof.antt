@@ -1,0 +1,57 @@
+-- `targets::passes::some_fall` meets its contract: what is left to look at says as much as the whole. Assumes nothing.
+use Prim.Native.Nat.{_≤_, _-_}
+use native.Mathlib.Omega.{arith}
+use borrow.Author.Needs.{needs}
+use mathlib.Core.Path.{_≡_, refl}
+use lib.ListN.{drop}
+use Rattle.targets.specs.Passes.{some, falls}
+use Rattle.targets.proofs.Loops.{found, missed, nowhere}
+use Rattle.targets.proofs.passes.some_fall.Statement.{statement}
+use Rattle.targets.proofs.passes.some_fall.Tie as tie
+
+abbrev Inv-loop : tie.InvT-loop
+Inv-loop n sum ls i₀ i = (i ≤ 32) × (some (falls n sum) (drop i ls) ≡ some (falls n sum) ls)
+
+abbrev μ-loop : tie.MeasureT-loop
+μ-loop n sum ls i₀ i = 32 - i
+
+loop-holds : tie.Need-loop-holds Inv-loop μ-loop
+loop-holds c = (search needs, refl)
+
+mul-l : tie.Need-mul-l Inv-loop μ-loop
+mul-l c = search needs
+
+array-copy-out-l : tie.Need-array-copy-out-l Inv-loop μ-loop
+array-copy-out-l c = search needs
+
+does-fall-requires : tie.Need-does-fall-requires Inv-loop μ-loop
+does-fall-requires c κs = search needs
+
+returns : tie.Need-returns Inv-loop μ-loop
+returns c =
+    let a = c .before .before .before .before .before .args in
+    let p = c .before .before .before .before .loop in
+    found (falls (a .n) (a .sum)) (a .t1) (p .i) _ (p .inv .1) (c .before .does-fall .ensures) (c .if1 .taken) (omega arith)
+
+add-i : tie.Need-add-i Inv-loop μ-loop
+add-i c = search needs
+
+loop-less : tie.Need-loop-less Inv-loop μ-loop
+loop-less c = search needs
+
+loop-again : tie.Need-loop-again Inv-loop μ-loop
+loop-again c =
+    let a = c .before .before .before .before .before .args in
+    let p = c .before .before .before .before .loop in
+    let h = missed (falls (a .n) (a .sum)) (a .t1) (p .i) _ (p .inv .1) (c .before .does-fall .ensures) (c .if1 .left) (omega arith) in
+    (search needs, h)
+
+returns-2 : tie.Need-returns-2 Inv-loop μ-loop
+returns-2 c =
+    let a = c .before .before .args in
+    nowhere (falls (a .n) (a .sum)) (a .t1) (c .before .loop .i) (c .before .loop .inv .1) (omega arith)
+
+pub some-fall-spec : {M : Type 1} → statement M
+some-fall-spec =
+    tie.close
+    (tie.spec Inv-loop μ-loop loop-holds mul-l array-copy-out-l does-fall-requires returns add-i loop-less loop-again returns-2)

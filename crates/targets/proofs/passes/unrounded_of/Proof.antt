@@ -1,0 +1,14 @@
+-- `targets::passes::unrounded_of` meets its contract: the code's steps are the rule's, in its order. Assumes nothing.
+use mathlib.Core.Path.{refl}
+use borrow.Author.Needs.{needs}
+use Rattle.targets.proofs.passes.unrounded_of.Statement.{statement}
+use Rattle.targets.proofs.passes.unrounded_of.Tie as tie
+
+int-to-float-result : tie.Need-int-to-float-result
+int-to-float-result c = search needs
+
+returns : tie.Need-returns
+returns c = refl
+
+pub unrounded-of-spec : {M : Type 1} → statement M
+unrounded-of-spec = tie.close (tie.spec int-to-float-result returns)

@@ -1,0 +1,64 @@
+-- `targets::remainder::adjusted_of` meets its contract. Assumes nothing.
+use native.Mathlib.Omega.{arith}
+use mathlib.Core.Path.{ap, _∙_}
+use borrow.Author.Needs.{sfits-of}
+use mir.Facts.{toZ-ofZ}
+use Rattle.targets.specs.declared.Best.{Best}
+use Rattle.targets.specs.declared.Line.{Line}
+use Rattle.targets.specs.Figures.{pad}
+use Rattle.targets.proofs.Sizes.{small-at}
+use Rattle.targets.proofs.Taker.{same-line, adjusted-by}
+use borrow.Author.Needs.{needs}
+use Rattle.targets.proofs.remainder.adjusted_of.Statement.{statement}
+use Rattle.targets.proofs.remainder.adjusted_of.Tie as tie
+
+signed-of-requires : tie.Need-signed-of-requires
+signed-of-requires c κs = search needs
+
+total-of-requires : tie.Need-total-of-requires
+total-of-requires c κs = search needs
+
+best-of-requires : tie.Need-best-of-requires
+best-of-requires c κs = search needs
+
+mul-l : tie.Need-mul-l
+mul-l c = search needs
+
+array-copy-out-l : tie.Need-array-copy-out-l
+array-copy-out-l c = search needs
+
+with-rest-requires : tie.Need-with-rest-requires
+with-rest-requires c κs =
+    let e = c .before .before .before .before in
+    (small-at (e .args .t1) (c .before .best-of .result .at) _ (e .pre) (omega arith), omega arith)
+
+mul-out : tie.Need-mul-out
+mul-out c = search needs
+
+array-set-from-out : tie.Need-array-set-from-out
+array-set-from-out c = search needs
+
+returns : tie.Need-returns
+returns c =
+    let a = c .before .before .before .before .before .args in
+    let b = c .before .before .best-of in
+    adjusted-by (a .t1) (a .demand)
+    (c .before .before .before .before .signed-of .ensures)
+    (ap (λ (x : Best). x .at) (b .ensures .0))
+    (ap (λ (l : Line). l .target) (same-line (a .t1) (b .result .at) _ pad (omega arith)))
+    (c .before .before .before .total-of .ensures .0)
+    (toZ-ofZ (sfits-of (c .with-rest .ok)) ∙ c .with-rest .ensures)
+
+pub adjusted-of-spec : {M : Type 1} → statement M
+adjusted-of-spec =
+    tie.close
+    (tie.spec
+    signed-of-requires
+    total-of-requires
+    best-of-requires
+    mul-l
+    array-copy-out-l
+    with-rest-requires
+    mul-out
+    array-set-from-out
+    returns)

@@ -1,0 +1,55 @@
+-- What the code's own values stand for, and what the work behind the checks asks. Assumes nothing.
+use mathlib.Core.Path.{_≡_}
+use mathlib.Core.Bool.{true, cond}
+use mathlib.Core.List.{List, [], _∷_}
+use Prim.Native.Nat.{ℕ, _*_, _≤_, _<_}
+use lib.ListN.{length}
+use Rattle.slots.specs.Lent.{slotsOk}
+use Rattle.targets.specs.declared.Line.{Line}
+use Rattle.targets.specs.declared.Next.{Next}
+use Rattle.targets.specs.declared.Next.the-variants.{Again, Done, Refused}
+use Rattle.targets.specs.declared.Round.{Round}
+use Rattle.targets.specs.declared.Answer.{Answer}
+use Rattle.targets.specs.Figures.{allFiguresOk}
+use Rattle.targets.specs.Passes.{Passed, again, done, refused}
+use Rattle.targets.specs.Remainder.{Targets, beyond, are}
+use Rattle.targets.specs.Outcome.{Given}
+
+-- ---- the code's values
+
+abbrev pub roundIs : Next → List Line → Passed
+roundIs Again ls = again ls
+roundIs Done ls = done ls
+roundIs Refused ls = refused
+
+abbrev pub passedOf : Round → Passed
+passedOf r = roundIs (r .next) (r .lines)
+
+abbrev pub answerOf : Answer → Targets
+answerOf a = cond (a .refused) beyond (are (a .targets))
+
+-- every target is at most 2 ^ 40, so that no sum of them wraps
+abbrev pub Small : List Line → Type 0
+Small [] = Unit
+Small (l ∷ ls) = (l .target ≤ 1099511627776) × Small ls
+
+-- ---- what the checks, passed, leave known
+
+pub record Sound (g : Given) : Type 0 where
+  pub somebody : 0 < g .people
+  pub few : g .people ≤ 32
+  pub slots-few : g .slots ≤ 1024
+  pub words : 16 * g .people ≤ length (g .avail)
+  pub capacities-room : g .people ≤ length (g .capacities)
+  pub priors-room : g .people ≤ length (g .priors)
+  pub figures : allFiguresOk (g .people) (g .capacities) (g .priors) ≡ true
+  pub flag : g .fairness ≤ 1
+  pub ordered : slotsOk (g .slots) (g .starts) (g .ends) ≡ true
+
+-- a person's row can be asked
+pub record RowSound (people person slots : ℕ) (avail : List ℕ) : Type 0 where
+  pub somebody : 0 < people
+  pub few : people ≤ 32
+  pub known : person < people
+  pub slots-few : slots ≤ 1024
+  pub words : 16 * people ≤ length avail

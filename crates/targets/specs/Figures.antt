@@ -1,0 +1,55 @@
+-- A person's figures, rule 6 of them, and the line that the passes keep of each person. Assumes nothing.
+use mathlib.Core.Bool.{Bool, true, false, _&&_}
+use mathlib.Core.List.{List, [], _∷_, _++_}
+use Prim.Native.Nat.{ℕ, zero, suc}
+use lib.Dec.{leb}
+use lib.IntN.{pos}
+use lib.ListN.{getD}
+use lib.Ieee.{Float, nan, fin, binary64, mul, le, ofInt}
+use Rattle.paper.specs.Limits.{lastMinute}
+use Rattle.paper.specs.Count.{all}
+use Rattle.targets.specs.declared.Person.{Person}
+use Rattle.targets.specs.declared.Line.{Line}
+
+abbrev pub zeroF : Float
+zeroF = fin false 0 (pos 0)
+
+-- a whole number as an f64
+abbrev pub whole : ℕ → Float
+whole n = ofInt binary64 (pos n)
+
+-- ---- figures
+
+-- person k, from the lent columns
+abbrev pub personAt : List Float → List ℕ → ℕ → Person
+personAt capacities priors k = record { capacity = getD capacities k nan; prior = getD priors k 0 }
+
+-- rule 6, passed: capacity is a number, not below 0 and not above 1,000; prior minutes are not above 100,000,000
+unfoldable pub figuresOk : Person → Bool
+figuresOk p = le zeroF (p .capacity) && (le (p .capacity) (whole 1000) && leb (p .prior) lastMinute)
+
+-- of person k, and of everybody
+abbrev pub figuresOkAt : List Float → List ℕ → ℕ → Bool
+figuresOkAt capacities priors k = figuresOk (personAt capacities priors k)
+
+unfoldable pub allFiguresOk : ℕ → List Float → List ℕ → Bool
+allFiguresOk people capacities priors = all people (figuresOkAt capacities priors)
+
+-- ---- lines
+
+-- raw share: capacity times the base, which is demand or the person's available minutes. Target 0 at first, nobody pinned
+abbrev pub lineOf : Person → ℕ → Line
+lineOf p base = record { person = p; raw = mul binary64 (p .capacity) (whole base); target = 0; pinned = false }
+
+-- what f gives each number below n, in order
+abbrev pub upTo {ℓ} : {A : Type ℓ} → (ℕ → A) → ℕ → List A
+upTo f zero = []
+upTo f (suc k) = upTo f k ++ (f k ∷ [])
+
+-- the people's lines in order, each person's base given
+abbrev pub linesOf : List Float → List ℕ → (ℕ → ℕ) → ℕ → List Line
+linesOf capacities priors baseAt people = upTo (λ (k : ℕ). lineOf (personAt capacities priors k) (baseAt k)) people
+
+-- a line that takes no part: arrays by value are filled up with it
+abbrev pub pad : Line
+pad = record { person = record { capacity = zeroF; prior = 0 }; raw = zeroF; target = 0; pinned = true }

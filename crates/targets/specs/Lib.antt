@@ -1,0 +1,7 @@
+-- What the contracts of targets cite: a person's figures and line, the passes, the remainder, and the whole outcome of a call.
+pub mod Figures
+pub mod Passes
+pub mod Remainder
+pub mod Available
+pub mod Outcome
+pub mod Code

@@ -1,0 +1,118 @@
+-- The passes, over the people's lines in order. Every step on a Float is IEEE 754's at binary64, rounded once. Assumes nothing.
+use mathlib.Core.Path.{_≡_}
+use mathlib.Core.Bool.{Bool, true, false, not, _&&_, _||_, cond}
+use mathlib.Core.List.{List, [], _∷_, map, foldl}
+use Prim.Native.Nat.{ℕ, zero, suc, _+_, _*_, _/_, _≤_, _<_}
+use lib.Dec.{ltb}
+use lib.ListN.{length, getD}
+use lib.Ieee.{Float, nan, inf, fin, binary64, add, sub, mul, div, lt, up, down}
+use Rattle.targets.specs.declared.Line.{Line}
+use Rattle.targets.specs.Figures.{zeroF, whole, pad}
+
+-- ---- one number
+
+-- rounding to whole minutes: the nearest whole number, halves away from zero, of a number that is not below 0. The whole part of x + 1/2
+unfoldable pub rounded : Float → ℕ
+rounded nan = 0
+rounded (inf s) = 0
+rounded (fin s m e) = (m * up e * 2 + down e) / (down e * 2)
+
+-- the same, said of x and r: r - 1/2 ≤ x < r + 1/2, so that a half goes up
+abbrev pub NearestWhole : Float → ℕ → Type 0
+NearestWhole nan r = ⊥
+NearestWhole (inf s) r = ⊥
+NearestWhole (fin s m e) r = (r * 2 * down e ≤ m * up e * 2 + down e) × (m * up e * 2 < (r * 2 + 1) * down e)
+
+-- refusal 8's guard, kept: a number is finite, and of size below 2 ^ 40
+unfoldable pub within : Float → Bool
+within nan = false
+within (inf s) = false
+within (fin s m e) = ltb (m * up e) (1099511627776 * down e)
+
+-- ---- one person
+
+-- N * (raw / sum) - prior: the quotient, the product and the difference are rounded each
+abbrev pub unrounded : Float → Float → Line → Float
+unrounded n sum l = sub binary64 (mul binary64 n (div binary64 (l .raw) sum)) (whole (l .person .prior))
+
+-- below 0: pinned at 0. Else rounded to the nearest whole number. Who is pinned stays so
+unfoldable pub settled : Float → Line → Line
+settled x l =
+    cond (l .pinned) l
+    (cond (lt x zeroF)
+    (record { person = l .person; raw = l .raw; target = 0; pinned = true })
+    (record { person = l .person; raw = l .raw; target = rounded x; pinned = false }))
+
+abbrev pub settle : Float → Float → Line → Line
+settle n sum l = settled (unrounded n sum l) l
+
+-- an unpinned person's unrounded target breaks the guard
+abbrev pub outside : Float → Float → Line → Bool
+outside n sum l = not (l .pinned) && not (within (unrounded n sum l))
+
+-- an unpinned person's unrounded target is below 0
+abbrev pub falls : Float → Float → Line → Bool
+falls n sum l = not (l .pinned) && lt (unrounded n sum l) zeroF
+
+-- ---- one pass
+
+abbrev pub withShare : Float → Line → Float
+withShare sum l = cond (l .pinned) sum (add binary64 sum (l .raw))
+
+-- the raw shares of the unpinned, added in order
+abbrev pub shareSum : List Line → Float
+shareSum = foldl withShare zeroF
+
+abbrev pub withPrior : ℕ → Line → ℕ
+withPrior n l = cond (l .pinned) n (n + l .person .prior)
+
+-- N: demand plus the priors of the unpinned, a whole number
+abbrev pub notional : ℕ → List Line → ℕ
+notional demand = foldl withPrior demand
+
+-- some person passes the test
+abbrev pub some : (Line → Bool) → List Line → Bool
+some p [] = false
+some p (l ∷ ls) = p l || some p ls
+
+-- how the passes stand: another is due over these lines; these lines are what they leave; refusal 8
+pub data Passed : Type 0 where
+  again done : List Line → Passed
+  refused : Passed
+
+-- a pass with this N and this sum: stop if the sum is not above 0, keeping the targets; go on if it pinned somebody
+abbrev pub passed : Float → Float → List Line → Passed
+passed n sum ls =
+    cond (lt zeroF sum)
+    (cond (some (outside n sum) ls) refused
+    (cond (some (falls n sum) ls) (again (map (settle n sum) ls)) (done (map (settle n sum) ls))))
+    (done ls)
+
+unfoldable pub pass : ℕ → Passed → Passed
+pass demand (again ls) = passed (whole (notional demand ls)) (shareSum ls) ls
+pass demand (done ls) = done ls
+pass demand refused = refused
+
+-- k passes
+unfoldable pub passes : ℕ → ℕ → Passed → Passed
+passes zero demand p = p
+passes (suc k) demand p = passes k demand (pass demand p)
+
+-- what the passes leave: at most people + 1 of them
+abbrev pub passesLeave : ℕ → List Line → Passed
+passesLeave demand ls = passes (suc (length ls)) demand (again ls)
+
+-- ---- refusal 8, said of the unrounded targets: one that is worked out breaks the guard
+
+pub record Beyond (demand : ℕ) (ls : List Line) : Type 0 where
+  -- how many passes went before, and the lines that they gave to this one
+  pub before : ℕ
+  pub lines : List Line
+  -- the person
+  pub at : ℕ
+  pub few : before ≤ length ls
+  pub due : passes before demand (again ls) ≡ again lines
+  pub above : lt zeroF (shareSum lines) ≡ true
+  pub here : at < length lines
+  pub free : getD lines at pad .pinned ≡ false
+  pub breaks : within (unrounded (whole (notional demand lines)) (shareSum lines) (getD lines at pad)) ≡ false
