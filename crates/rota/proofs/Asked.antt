@@ -1,0 +1,336 @@
+-- The laws of the entries but play: which refusal, and what is left. Assumes nothing.
+use mathlib.Core.Path.{_≡_, refl, sym, ap, ap₂, _∙_}
+use mathlib.Core.Bool.{Bool, true, false, cond, _&&_}
+use mathlib.Core.List.{List, [], _∷_}
+use Prim.Native.Nat.{ℕ, zero, suc, _+_, _-_, _*_, _≤_, _<_}
+use native.Mathlib.Omega.{arith}
+use borrow.Author.Tests.{eq-eqb, ne-eqb, lt-ltb, ltb-true, leb-true}
+use lib.Dec.{eqb, ltb, leb}
+use lib.ListN.{length, getD, set}
+use Rattle.paper.specs.Limits.{nobody, peopleOk, slotCountOk, orElse}
+use Rattle.paper.specs.Count.{all, sum, count, fill, over}
+use Rattle.paper.proofs.Logic.{by-test, both, three, cond-zero, people-says, slot-count-says}
+use Rattle.paper.proofs.Count.{all-each, fill-none, fill-more, sum-more}
+use Rattle.slotset.proofs.Puts.{Fit}
+use Rattle.slots.specs.Lent.{slotRoomOk, slotsOk}
+use Rattle.slots.proofs.LentLaws.{slots-sound}
+use Rattle.units.specs.Units.{unitStart, unitEnd, unitsOk}
+use Rattle.rota.specs.declared.Figure.{Figure}
+use Rattle.rota.specs.declared.Figure.the-variants.{Is, Refused}
+use Rattle.rota.specs.Derived.{Plan, PlanSound, Derived, derived, knownBy, worked, uncovered, unassigned, afresh, setsFrom}
+use Rattle.rota.specs.Derived.{nobodies, InStep, Makes, HandedOver, OneOwner}
+use Rattle.rota.specs.Recount.{firstFail, freeFor, knownAt, freeAt, recounts, RotaRoom}
+use Rattle.rota.specs.Entries.{countsOk, roomOk, ground, outcome, Ended, fromSlotsNo, fromSlots, assignNo, assigned, recountNo}
+use Rattle.rota.specs.Entries.{recountSlotsNo}
+use Rattle.rota.specs.Entries.{emptyNo, emptied, figureAs, ownerIs, minutesIs, unassignedIs, uncoveredIs}
+use Rattle.rota.proofs.Scans.{first-passes, first-test, fails-none}
+use Rattle.rota.proofs.Entered.{ground-all, ground-stops, ground-goes, ground-0, Grounds, grounds, Recounted, recount-says}
+use Rattle.rota.proofs.Entered.{recount-step, ended-no, ended-yes, last-no, last-yes, else-no, else-on}
+
+-- a scan that ends before n: not all pass
+pub scan-no : (n r : ℕ) (p : ℕ → Bool) → r ≡ firstFail n p → r < n → all n p ≡ false
+scan-no n r p e h =
+    by-test (all n p) _ (λ t. absurd (omega (arith, e, fails-none n p t))) (λ f. f)
+
+pub scan-yes : (n r : ℕ) (p : ℕ → Bool) → r ≡ firstFail n p → n ≤ r → all n p ≡ true
+scan-yes n r p e h = first-passes n p (omega (arith, e))
+
+-- ---- from_slots
+
+module _ (P : Plan) (avail o : List ℕ) (D : Derived) where
+  abbrev c1 : Bool
+  c1 = countsOk (P .people) (P .slots)
+
+  abbrev c2 : Bool
+  c2 = roomOk P avail o D
+
+  abbrev c9 : Bool
+  c9 = slotsOk (P .slots) (P .starts) (P .ends)
+
+  pub from-grounds : ground c1 c2 c9 0 ≡ 0 → Grounds P avail o D
+  from-grounds e = let y = ground-all c1 c2 c9 0 e in grounds P avail o D (y .0) (y .1) (y .2)
+
+  module _ (m : ℕ) (em : m ≡ ground c1 c2 c9 0) where
+    pub from-stops : (m ≡ 0 → ⊥) → m ≡ fromSlotsNo P avail o D
+    unfolding fromSlotsNo
+    from-stops z = ground-stops c1 c2 c9 m _ em z
+
+    module _ (z : m ≡ 0) (r : ℕ) (er : r ≡ firstFail (P .slots) (knownAt (P .people) o)) where
+      pub from-11 : r < P .slots → 11 ≡ fromSlotsNo P avail o D
+      unfolding fromSlotsNo
+      from-11 h = ground-goes c1 c2 c9 m _ 11 em z (else-no (all (P .slots) (knownAt (P .people) o)) 11 _ (scan-no _ r _ er h))
+
+      module _ (h : P .slots ≤ r) (s : ℕ) (es : s ≡ firstFail (P .slots) (freeAt avail o)) where
+        pub from-12 : s < P .slots → 12 ≡ fromSlotsNo P avail o D
+        unfolding fromSlotsNo
+        from-12 l =
+            ground-goes c1 c2 c9 m _ 12 em z
+            (else-on (all (P .slots) (knownAt (P .people) o)) 11 _ 12 (scan-yes _ r _ er h)
+            (last-no (all (P .slots) (freeAt avail o)) 12 (scan-no _ s _ es l)))
+
+        pub from-0 : P .slots ≤ s → 0 ≡ fromSlotsNo P avail o D
+        unfolding fromSlotsNo
+        from-0 l =
+            ground-goes c1 c2 c9 m _ 0 em z
+            (else-on (all (P .slots) (knownAt (P .people) o)) 11 _ 0 (scan-yes _ r _ er h)
+            (last-yes (all (P .slots) (freeAt avail o)) 12 (scan-yes _ s _ es l)))
+
+  pub from-asks : fromSlotsNo P avail o D ≡ 0 → PlanSound P × Makes P o D
+  unfolding fromSlotsNo knownAt
+  from-asks e =
+      let y = ground-all c1 c2 c9 _ e in
+      let g = grounds P avail o D (y .0) (y .1) (y .2) in
+      let k = cond-zero (all (P .slots) (knownAt (P .people) o)) _ 10 (y .3) in
+      let R = g .room in (
+        g .sound,
+        record {
+          owners-room = R .owners-room;
+          sets-room = R .sets-room;
+          minutes-room = R .minutes-room;
+          known = all-each (P .slots)
+              (knownAt (P .people) o) (k .0);
+        },
+      )
+
+  module _ (n : ℕ) (e : n ≡ fromSlotsNo P avail o D) where
+    pub from-no : (n ≡ 0 → ⊥) → Ended (fromSlots P avail o D) n o D []
+    unfolding fromSlots
+    from-no z = ended-no n _ e o D [] _ _ _ z
+
+    pub from-yes : (E : Derived) → n ≡ 0 → E ≡ afresh P o D → Ended (fromSlots P avail o D) 0 o E []
+    unfolding fromSlots
+    from-yes E z q = ended-yes n _ e o D [] _ _ _ z o E [] refl q refl
+
+  -- ---- the recount without units
+
+  pub no-units : (f : List ℕ) → recounts P avail 0 f o D ≡ recounts P avail 0 [] o D
+  unfolding recounts all
+  no-units f = refl
+
+  module _ (m : ℕ) (em : m ≡ ground c1 c2 c9 0) where
+    pub slots-stops : (m ≡ 0 → ⊥) → m ≡ recountSlotsNo P avail o D
+    unfolding recountSlotsNo
+    slots-stops z = ground-stops c1 c2 c9 m _ em z
+
+    module _ (z : m ≡ 0) (f : List ℕ) (b : Bool) (eb : b ≡ recounts P avail 0 f o D) where
+      pub slots-10 : b ≡ false → 10 ≡ recountSlotsNo P avail o D
+      unfolding recountSlotsNo
+      slots-10 t = ground-goes c1 c2 c9 m _ 10 em z (last-no (recounts P avail 0 [] o D) 10 (sym (no-units f) ∙ sym eb ∙ t))
+
+      pub slots-0 : b ≡ true → 0 ≡ recountSlotsNo P avail o D
+      unfolding recountSlotsNo
+      slots-0 t = ground-goes c1 c2 c9 m _ 0 em z (last-yes (recounts P avail 0 [] o D) 10 (sym (no-units f) ∙ sym eb ∙ t))
+
+  -- ---- assign
+
+  module _ (k w : ℕ) where
+    abbrev c11 : Bool
+    c11 = ltb k (P .slots) && knownBy (P .people) w
+
+    module _ (m : ℕ) (em : m ≡ ground c1 c2 c9 0) where
+      pub assign-stops : (m ≡ 0 → ⊥) → m ≡ assignNo P avail o D k w
+      unfolding assignNo
+      assign-stops z = ground-stops c1 c2 c9 m _ em z
+
+      module _ (z : m ≡ 0) (f : List ℕ) (b : Bool) (eb : b ≡ recounts P avail 0 f o D) where
+        pub assign-10 : b ≡ false → 10 ≡ assignNo P avail o D k w
+        unfolding assignNo
+        assign-10 t = ground-goes c1 c2 c9 m _ 10 em z (else-no (recounts P avail 0 [] o D) 10 _ (sym (no-units f) ∙ sym eb ∙ t))
+
+        module _ (t : b ≡ true) (c : Bool) (ec : c ≡ c11) where
+          pub assign-11 : c ≡ false → 11 ≡ assignNo P avail o D k w
+          unfolding assignNo
+          assign-11 s =
+              ground-goes c1 c2 c9 m _ 11 em z
+              (else-on (recounts P avail 0 [] o D) 10 _ 11 (sym (no-units f) ∙ sym eb ∙ t) (else-no c11 11 _ (sym ec ∙ s)))
+
+          module _ (s : c ≡ true) (d : Bool) (ed : d ≡ freeFor avail w k) where
+            pub assign-12 : d ≡ false → 12 ≡ assignNo P avail o D k w
+            unfolding assignNo
+            assign-12 q =
+                ground-goes c1 c2 c9 m _ 12 em z
+                (else-on (recounts P avail 0 [] o D) 10 _ 12 (sym (no-units f) ∙ sym eb ∙ t)
+                (else-on c11 11 _ 12 (sym ec ∙ s) (last-no (freeFor avail w k) 12 (sym ed ∙ q))))
+
+            pub assign-0 : d ≡ true → 0 ≡ assignNo P avail o D k w
+            unfolding assignNo
+            assign-0 q =
+                ground-goes c1 c2 c9 m _ 0 em z
+                (else-on (recounts P avail 0 [] o D) 10 _ 0 (sym (no-units f) ∙ sym eb ∙ t)
+                (else-on c11 11 _ 0 (sym ec ∙ s) (last-yes (freeFor avail w k) 12 (sym ed ∙ q))))
+
+    pub named-says : c11 ≡ true → (k < P .slots) × (knownBy (P .people) w ≡ true)
+    named-says e = let x = both (ltb k (P .slots)) (knownBy (P .people) w) e in (ltb-true _ _ (x .0), x .1)
+
+    -- what assign may do where nothing stands against it
+    pub record Asks : Type 0 where
+      pub on : Grounds P avail o D
+      pub recount : Recounted P avail 0 [] o D
+      pub slot : k < P .slots
+      pub known : knownBy (P .people) w ≡ true
+      pub free : freeFor avail w k ≡ true
+
+    pub assign-asks : assignNo P avail o D k w ≡ 0 → Asks
+    unfolding assignNo
+    assign-asks e =
+        let y = ground-all c1 c2 c9 _ e in
+        let a = cond-zero (recounts P avail 0 [] o D) _ 9 (y .3) in
+        let b = cond-zero c11 _ 10 (a .1) in
+        let c = cond-zero (freeFor avail w k) 0 11 (b .1) in
+        let x = named-says (b .0) in
+        record {
+          on = grounds P avail o D (y .0) (y .1) (y .2);
+          recount = recount-says P avail 0 [] o D (a .0);
+          slot = x .0;
+          known = x .1;
+          free = c .0;
+        }
+
+    pub asks-one : Asks → OneOwner o (P .slots) k (k + 1)
+    asks-one A =
+        record {
+          some = omega arith;
+          within = omega (arith, A .slot);
+          each = λ j x y. let q : j ≡ k = omega arith in ap (λ (i : ℕ). getD o i 0) q;
+        }
+
+    pub asks-in-step : Asks → InStep P o D
+    asks-in-step A = recount-step P avail 0 [] o D (A .on .room) (A .recount)
+
+    module _ (n : ℕ) (e : n ≡ assignNo P avail o D k w) where
+      pub assigned-no : (n ≡ 0 → ⊥) → Ended (assigned P avail o D k w) n o D []
+      unfolding assigned
+      assigned-no z = ended-no n _ e o D [] _ _ _ z
+
+      pub assigned-yes : (o′ : List ℕ) (D′ : Derived) → n ≡ 0 → HandedOver P o D k (k + 1) w o′ D′ → Ended (assigned P avail o D k
+          w) 0 o′ D′ []
+      unfolding assigned
+      assigned-yes o′ D′ z O =
+          let q : o′ ≡ set o k w = O .owners ∙ fill-more w k k o (omega arith) ∙ ap (λ (l : List ℕ). set l k w) (fill-none w k o) in
+          ended-yes n _ e o D [] _ _ _ z o′ D′ [] q (O .derived ∙ ap (λ (l : List ℕ). afresh P l D) q) refl
+
+-- ---- the recount with units
+
+module _ (P : Plan) (avail : List ℕ) (units : ℕ) (firsts o : List ℕ) (D : Derived) where
+  abbrev d2 : Bool
+  d2 = roomOk P avail o D && leb units (length firsts)
+
+  abbrev d9 : Bool
+  d9 = slotsOk (P .slots) (P .starts) (P .ends) && unitsOk (P .slots) units firsts
+
+  pub recount-grounds : ground (countsOk (P .people) (P .slots)) d2 d9 0 ≡ 0 → Grounds P avail o D × (unitsOk (P .slots) units
+      firsts ≡ true)
+  recount-grounds e =
+      let y = ground-all (countsOk (P .people) (P .slots)) d2 d9 0 e in
+      let b = both (roomOk P avail o D) (leb units (length firsts)) (y .1) in
+      let c = both (slotsOk (P .slots) (P .starts) (P .ends)) (unitsOk (P .slots) units firsts) (y .2) in
+      (grounds P avail o D (y .0) (b .0) (c .0), c .1)
+
+  module _ (m : ℕ) (em : m ≡ ground (countsOk (P .people) (P .slots)) d2 d9 0) where
+    pub recount-stops : (m ≡ 0 → ⊥) → m ≡ recountNo P avail units firsts o D
+    unfolding recountNo
+    recount-stops z = ground-stops (countsOk (P .people) (P .slots)) d2 d9 m _ em z
+
+    module _ (z : m ≡ 0) (b : Bool) (eb : b ≡ recounts P avail units firsts o D) where
+      pub recount-10 : b ≡ false → 10 ≡ recountNo P avail units firsts o D
+      unfolding recountNo
+      recount-10 t =
+          ground-goes (countsOk (P .people) (P .slots)) d2 d9 m _ 10 em z (last-no (recounts P avail units firsts o D) 10 (sym eb ∙ t))
+
+      pub recount-0 : b ≡ true → 0 ≡ recountNo P avail units firsts o D
+      unfolding recountNo
+      recount-0 t =
+          ground-goes (countsOk (P .people) (P .slots)) d2 d9 m _ 0 em z (last-yes (recounts P avail units firsts o D) 10 (sym eb ∙ t))
+
+-- ---- an empty rota
+
+module _ (people slots : ℕ) (o : List ℕ) (D : Derived) where
+  pub empty-says : emptyNo people slots o D ≡ 0
+      → (1 ≤ people) × (people ≤ 32) × (slots ≤ 1024) × (slots ≤ length o) × (16 * people ≤ length (D .sets)) × (people ≤ length (D
+      .minutes))
+  unfolding emptyNo countsOk
+  empty-says e =
+      let y = ground-all (countsOk people slots) _ true 0 e in
+      let a = both (peopleOk people) (slotCountOk slots) (y .0) in
+      let p = people-says people (a .0) in
+      let q = slot-count-says slots (a .1) in
+      let b = three (leb slots (length o)) (leb (16 * people) (length (D .sets))) (leb people (length (D .minutes))) (y .1) in
+      (p .0, p .1, q .1, leb-true _ _ (b .0), leb-true _ _ (b .1), leb-true _ _ (b .2))
+
+  module _ (n : ℕ) (e : n ≡ emptyNo people slots o D) where
+    pub emptied-no : (n ≡ 0 → ⊥) → Ended (emptied people slots o D) n o D []
+    unfolding emptied
+    emptied-no z = ended-no n _ e o D [] _ _ _ z
+
+    pub emptied-yes : (o′ s m : List ℕ) → n ≡ 0 → o′ ≡ fill nobody 0 (slots - 0) o → s ≡ setsFrom people slots (nobodies slots) (D .sets)
+        → m ≡ over (λ _. 0) people (D .minutes) → Ended (emptied people slots o D) 0 o′ (derived s m) []
+    unfolding emptied
+    emptied-yes o′ s m z a b c =
+        let q : slots - 0 ≡ slots = omega arith in
+        ended-yes n _ e o D [] _ _ _ z o′ (derived s m) [] (a ∙ ap (λ (k : ℕ). fill nobody 0 k o) q) (ap₂ {C = Derived} derived b c) refl
+
+-- ---- readers
+
+-- a figure, where nothing stands against it and where something does
+module _ (n m : ℕ) (e : n ≡ m) where
+  pub figure-is : (x y : ℕ) → n ≡ 0 → x ≡ y → Is x ≡ figureAs m y
+  unfolding figureAs
+  figure-is x y z q = let t : eqb m 0 ≡ true = eq-eqb m 0 (sym e ∙ z) in simp t (ap Is q)
+
+  pub figure-no : (y : ℕ) → (n ≡ 0 → ⊥) → Refused n ≡ figureAs m y
+  unfolding figureAs
+  figure-no y z = let t : eqb m 0 ≡ false = ne-eqb m 0 (λ q. z (e ∙ q)) in simp t (ap Refused e)
+
+-- three tests, then one more for 11
+module _ (a b c t : Bool) (m x : ℕ) (em : m ≡ ground a b c 0) where
+  pub figure-stops : (m ≡ 0 → ⊥) → Refused m ≡ figureAs (ground a b c (orElse t 11 0)) x
+  figure-stops z = figure-no m (ground a b c (orElse t 11 0)) (ground-stops a b c m _ em z) x z
+
+  pub figure-11 : m ≡ 0 → t ≡ false → Refused 11 ≡ figureAs (ground a b c (orElse t 11 0)) x
+  figure-11 z f = figure-no 11 (ground a b c (orElse t 11 0)) (ground-goes a b c m _ 11 em z (last-no t 11 f)) x (λ q. omega arith)
+
+  pub figure-told : (y : ℕ) → m ≡ 0 → t ≡ true → y ≡ x → Is y ≡ figureAs (ground a b c (orElse t 11 0)) x
+  figure-told y z f q = figure-is 0 (ground a b c (orElse t 11 0)) (ground-goes a b c m _ 0 em z (last-yes t 11 f)) y x refl q
+
+-- how many nobody owns, slot by slot
+pub nobody-more : (o : List ℕ) (k n : ℕ) → n ≡ unassigned k o → getD o k 0 ≡ nobody → n + 1 ≡ unassigned (k + 1) o
+unfolding unassigned count
+nobody-more o k n e q =
+    ap₂ _+_ e (sym (ap (λ (b : Bool). cond b 1 0) (eq-eqb (getD o k 0) nobody q))) ∙ sym (sum-more k (λ j. cond (eqb (getD o j 0)
+    nobody) 1 0))
+
+pub nobody-same : (o : List ℕ) (k n : ℕ) → n ≡ unassigned k o → (getD o k 0 ≡ nobody → ⊥) → n ≡ unassigned (k + 1) o
+unfolding unassigned count
+nobody-same o k n e q =
+    e ∙ omega (
+      arith,
+      sum-more k (λ j. cond (eqb (getD o j 0) nobody) 1 0),
+      ap {B = ℕ} (λ (b : Bool). cond b 1 0) (ne-eqb (getD o k
+          0) nobody q),
+    )
+
+pub nobody-none : (o : List ℕ) → 0 ≡ unassigned 0 o
+unfolding unassigned count sum
+nobody-none o = refl
+
+pub nobody-le : (o : List ℕ) (k : ℕ) → unassigned k o ≤ k
+unfolding unassigned count sum
+nobody-le o zero = omega arith
+nobody-le o (suc k) = by-test (eqb (getD o k 0) nobody) _
+    (λ t. omega (arith, nobody-le o k, ap {B = ℕ} (λ (b : Bool). cond b 1 0) t))
+    (λ f. omega (arith, nobody-le o k, ap {B = ℕ} (λ (b : Bool). cond b 1 0) f))
+
+-- what counts and slots that pass leave known
+pub plan-sound : (P : Plan) → countsOk (P .people) (P .slots) ≡ true → slotsOk (P .slots) (P .starts) (P .ends) ≡ true → PlanSound P
+unfolding countsOk
+plan-sound P a c =
+    let x = both (peopleOk (P .people)) (slotCountOk (P .slots)) a in
+    let p = people-says (P .people) (x .0) in
+    let q = slot-count-says (P .slots) (x .1) in
+    record {
+      people-some = p .0;
+      people-few = p .1;
+      slots-some = q .0;
+      slots-few = q .1;
+      lent = slots-sound (P .slots) (P .starts) (P .ends) c;
+    }

@@ -1,0 +1,346 @@
+-- The entries: what the first tests leave known, which refusal it is, and that only one outcome fits. Assumes nothing.
+use mathlib.Core.Path.{_≡_, refl, sym, ap, ap₂, _∙_, subst}
+use mathlib.Core.Logic.{⊎-elim}
+use mathlib.Core.Bool.{Bool, true, false, cond, not, _&&_, _||_}
+use mathlib.Core.List.{List, [], _∷_}
+use Prim.Native.Nat.{ℕ, zero, suc, _+_, _-_, _*_, _/_, _%_, _≤_, _<_}
+use native.Mathlib.Omega.{arith}
+use borrow.Author.Tests.{eq-eqb, ne-eqb, eqb-true, eqb-false, lt-ltb, le-ltb, ltb-true, leb-true, leb-false, le-leb, lt-leb}
+use lib.Dec.{eqb, ltb, leb}
+use lib.ListN.{length, getD, set}
+use Rattle.paper.specs.Limits.{nobody, peopleOk, slotCountOk, orElse}
+use Rattle.paper.specs.Count.{all, allIn, fill}
+use Rattle.paper.proofs.Logic.{by-test, lt-or-ge, both, five, same-test, or-right, and-true, cond-zero, people-says, slot-count-says}
+use Rattle.paper.proofs.Count.{all-each, each-all, in-each, each-in, fill-none, fill-more}
+use Rattle.slotset.specs.Slots.{slot}
+use Rattle.slotset.proofs.Puts.{Fit}
+use Rattle.slots.specs.Lent.{slotRoomOk, slotsOk}
+use Rattle.slots.proofs.LentLaws.{slots-sound}
+use Rattle.units.specs.Units.{unitStart, unitEnd, unitsOk, unitOf}
+use Rattle.units.specs.Domains.{available, able}
+use Rattle.units.proofs.Units.{unit-some, unit-within, units-within, unit-of-in}
+use Rattle.rota.specs.Board.{Board, BoardSound, InUnit, Even, ownerOf}
+use Rattle.rota.specs.Plays.{drawsOf, ownersAfter, answers, written}
+use Rattle.rota.specs.Ready.{ready}
+use Rattle.rota.specs.Lent.{fitsUnit, frozenUnit, boardOf, FitsRight, FrozenRight}
+use Rattle.rota.specs.Derived.{Plan, PlanSound, Derived, derived, knownBy, worked, held, afresh, InStep, Makes, HandedOver}
+use Rattle.rota.specs.Derived.{OneOwner}
+use Rattle.rota.specs.Recount.{freeFor, knownAt, freeAt, evenAt, setSlotAt, setAt, minutesOkAt, recounts, RotaRoom}
+use Rattle.rota.specs.Stepped.{Ran, DrawRoom}
+use Rattle.rota.specs.Entries.{countsOk, roomOk, ground, Outcome, outcome, Ended, fromSlotsNo, fromSlots, assignNo, assigned}
+use Rattle.rota.specs.Entries.{recountNo, recountSlotsNo, playRoomOk, playNo, played}
+use Rattle.rota.proofs.Minutes.{known-below}
+use Rattle.rota.proofs.Readied.{board-is, board-sound}
+
+-- ---- 1, 2 and 9
+
+pub words-fit : (people n : ℕ) → leb people (n / 16) ≡ leb (16 * people) n
+words-fit people n =
+    same-test _ _ (λ t. let h = leb-true people (n / 16) t in le-leb (16 * people) n (omega arith))
+    (λ t. let h = leb-true (16 * people) n t in le-leb people (n / 16) (omega arith))
+
+-- the answer of the three tests together, over plain flags
+module _ (a b c : Bool) where
+  pub ground-1 : a ≡ false → 1 ≡ ground a b c 0
+  unfolding ground
+  ground-1 e = simp e
+
+  pub ground-2 : a ≡ true → b ≡ false → 2 ≡ ground a b c 0
+  unfolding ground
+  ground-2 e f = simp (e, f)
+
+  pub ground-9 : a ≡ true → b ≡ true → c ≡ false → 9 ≡ ground a b c 0
+  unfolding ground
+  ground-9 e f g = simp (e, f, g)
+
+  pub ground-0 : a ≡ true → b ≡ true → c ≡ true → 0 ≡ ground a b c 0
+  unfolding ground
+  ground-0 e f g = simp (e, f, g)
+
+  -- none of the three: each test passed, and the rest decides
+  pub ground-all : (x : ℕ) → ground a b c x ≡ 0 → (a ≡ true) × (b ≡ true) × (c ≡ true) × (x ≡ 0)
+  unfolding ground
+  ground-all x e =
+      let p = cond-zero a _ 0 e in
+      let q = cond-zero b _ 1 (p .1) in
+      let r = cond-zero c _ 8 (q .1) in
+      (p .0, q .0, r .0, r .1)
+
+  -- one of the three: what comes after is not asked
+  pub ground-stops : (n x : ℕ) → n ≡ ground a b c 0 → (n ≡ 0 → ⊥) → n ≡ ground a b c x
+  unfolding ground
+  ground-stops n x e z =
+      by-test a _
+      (λ p. by-test b _
+      (λ q. by-test c _ (λ r. absurd (z (e ∙ simp (p, q, r)))) (λ r. e ∙ simp (p, q, r)))
+      (λ q. e ∙ simp (p, q)))
+      (λ p. e ∙ simp p)
+
+  pub ground-goes : (n x r : ℕ) → n ≡ ground a b c 0 → n ≡ 0 → r ≡ x → r ≡ ground a b c x
+  unfolding ground
+  ground-goes n x r e z q =
+      let y = ground-all 0 (sym e ∙ z) in
+      simp (y .0, y .1, y .2) q
+
+-- ---- what they leave known
+
+pub record Grounds (P : Plan) (avail o : List ℕ) (D : Derived) : Type 0 where
+  pub sound : PlanSound P
+  pub room : RotaRoom (P .people) (P .slots) avail o D
+  pub lent : slotsOk (P .slots) (P .starts) (P .ends) ≡ true
+
+pub grounds : (P : Plan) (avail o : List ℕ) (D : Derived) → countsOk (P .people) (P .slots) ≡ true → roomOk P avail o D ≡ true
+    → slotsOk (P .slots) (P .starts) (P .ends) ≡ true → Grounds P avail o D
+unfolding countsOk roomOk
+grounds P avail o D a b c =
+    let x = both (peopleOk (P .people)) (slotCountOk (P .slots)) a in
+    let p = people-says (P .people) (x .0) in
+    let q = slot-count-says (P .slots) (x .1) in
+    let y = five (slotRoomOk (P .slots) (P .starts) (P .ends)) (leb (16 * P .people) (length avail)) (leb (P .slots) (length o))
+    (leb (16 * P .people) (length (D .sets))) (leb (P .people) (length (D .minutes))) b in
+    record {
+      sound = record {
+        people-some = p .0;
+        people-few = p .1;
+        slots-some = q .0;
+        slots-few = q .1;
+        lent = slots-sound (P .slots) (P .starts) (P .ends) c;
+      };
+      room = record {
+        avail-room = leb-true _ _ (y .1);
+        owners-room = leb-true _ _ (y .2);
+        sets-room = leb-true _ _ (y .3);
+        minutes-room = leb-true _ _ (y .4);
+      };
+      lent = c;
+    }
+
+free-able : (avail : List ℕ) (w k : ℕ) → (w ≡ nobody → ⊥) → freeFor avail w k ≡ true → available avail w k ≡ true
+unfolding freeFor
+free-able avail w k n t = or-right (eqb w nobody) (available avail w k) t (ne-eqb w nobody n)
+
+-- ---- what the recount leaves known
+
+pub record Recounted (P : Plan) (avail : List ℕ) (units : ℕ) (firsts o : List ℕ) (D : Derived) : Type 0 where
+  pub known : (k : ℕ) → k < P .slots → knownBy (P .people) (getD o k 0) ≡ true
+  pub free : (k : ℕ) → k < P .slots → freeFor avail (getD o k 0) k ≡ true
+  pub even : (u k : ℕ) → u < units → unitStart firsts u ≤ k → k < unitEnd (P .slots) units firsts u → getD o k 0 ≡ getD o (unitStart
+      firsts u) 0
+  pub sets : (p k : ℕ) → p < P .people → k < P .slots → slot (D .sets) (16 * p) k ≡ held o p k
+  pub minutes : (p : ℕ) → p < P .people → getD (D .minutes) p 0 ≡ worked P o p
+
+module _ (P : Plan) (avail : List ℕ) (units : ℕ) (firsts o : List ℕ) (D : Derived) where
+  pub recount-says : recounts P avail units firsts o D ≡ true → Recounted P avail units firsts o D
+  unfolding recounts knownAt freeAt evenAt setAt setSlotAt minutesOkAt
+  recount-says e =
+      let x = five (all (P .slots) (knownAt (P .people) o)) (all (P .slots) (freeAt avail o)) (all units (evenAt (P .slots) units
+      firsts o))
+      (all (P .people) (setAt (P .slots) o (D .sets))) (all (P .people) (minutesOkAt P o (D .minutes))) e in
+      record {
+        known = λ k h. all-each (P .slots) (knownAt (P .people) o) (x .0) k h;
+        free = λ k h. all-each (P .slots) (freeAt avail o) (x .1) k h;
+        even = λ u k h a b.
+            eqb-true _ _ (in-each _ _ (λ j. eqb (getD o j 0) (getD o (unitStart firsts u) 0)) (all-each units (evenAt (P .slots)
+            units firsts o) (x .2) u h) k a b);
+        sets = λ p k h g.
+            eqb-true _ _ (all-each (P .slots) (setSlotAt o (D .sets) p) (all-each (P .people) (setAt (P .slots) o (D .sets)) (x .3)
+            p h) k g);
+        minutes = λ p h. eqb-true _ _ (all-each (P .people) (minutesOkAt P o (D .minutes)) (x .4) p h);
+      }
+
+  -- a rota of which all that holds passes the recount
+  pub says-recount : Recounted P avail units firsts o D → recounts P avail units firsts o D ≡ true
+  unfolding recounts knownAt freeAt evenAt setAt setSlotAt minutesOkAt
+  says-recount R =
+      let k = each-all (P .slots) (knownAt (P .people) o) (R .known) in
+      let f = each-all (P .slots) (freeAt avail o) (R .free) in
+      let e = each-all units (evenAt (P .slots) units firsts o) (λ u h. each-in _ _ _ (λ j a b. eq-eqb _ _ (R .even u j h a b))) in
+      let s = each-all (P .people) (setAt (P .slots) o (D .sets)) (λ p h. each-all (P .slots) _ (λ j g. eq-eqb _ _ (R .sets p j h g))) in
+      let m = each-all (P .people) (minutesOkAt P o (D .minutes)) (λ p h. eq-eqb _ _ (R .minutes p h)) in
+      and-true _ _ k (and-true _ _ f (and-true _ _ e (and-true _ _ s m)))
+
+  pub recount-step : RotaRoom (P .people) (P .slots) avail o D → Recounted P avail units firsts o D → InStep P o D
+  recount-step R C =
+      record {
+        owners-room = R .owners-room;
+        sets-room = R .sets-room;
+        minutes-room = R .minutes-room;
+        known = C .known;
+        sets = C .sets;
+        minutes = C .minutes;
+      }
+
+  -- units with one owner each, who fits
+  pub recount-even : (frozen : List ℕ) → unitsOk (P .slots) units firsts ≡ true → RotaRoom (P .people) (P .slots) avail o D
+      → Recounted P avail units firsts o D → Even (boardOf (P .people) (P .slots) units avail firsts frozen) o
+  unfolding ownerOf fitsUnit able
+  recount-even frozen ok R C =
+      record {
+        room = R .owners-room;
+        same = λ u k I. C .even u k (I .below) (I .from) (I .upto);
+        manned = λ u h n.
+            let a = unitStart firsts u in
+            let e = unitEnd (P .slots) units firsts u in
+            let l = unit-some (P .slots) units firsts ok u h in
+            let g = unit-within (P .slots) units firsts ok u h in
+            let w = getD o a 0 in
+            let b = known-below (P .people) w (C .known a (omega arith)) n in (
+              b,
+              and-true _ _ (lt-ltb u units h) (and-true _ _ (lt-ltb w (P .people) b)
+                  (each-in a e (available avail w) (λ k x y.
+                  free-able avail w k n (ap (λ (v : ℕ). freeFor avail v k) (sym (C .even u k h x y)) ∙ C .free k (omega arith))))),
+            );
+      }
+
+-- ---- outcomes
+
+module _ (n m : ℕ) (e : n ≡ m) (o : List ℕ) (D : Derived) (x o′ : List ℕ) (D′ : Derived) (x′ : List ℕ) where
+  pub ended-no : (n ≡ 0 → ⊥) → Ended (outcome m o D x o′ D′ x′) n o D x
+  unfolding outcome
+  ended-no z =
+      let t : eqb m 0 ≡ false = ne-eqb m 0 (λ q. z (e ∙ q)) in
+      record { heard = e; owners = simp t; derived = simp t; answers = simp t }
+
+  pub ended-yes : n ≡ 0 → (p : List ℕ) (E : Derived) (y : List ℕ) → p ≡ o′ → E ≡ D′ → y ≡ x′ → Ended (outcome m o D x o′ D′ x′) 0 p E y
+  unfolding outcome
+  ended-yes z p E y a b c =
+      let t : eqb m 0 ≡ true = eq-eqb m 0 (sym e ∙ z) in
+      record { heard = sym z ∙ e; owners = simp t a; derived = simp t b; answers = simp t c }
+
+-- only one outcome fits
+pub one-outcome : (y : Outcome) (n m : ℕ) (o p : List ℕ) (D E : Derived) (x z : List ℕ) → Ended y n o D x → Ended y m p E z
+    → (n ≡ m) × (o ≡ p) × (D ≡ E) × (x ≡ z)
+one-outcome y n m o p D E x z A B =
+    (A .heard ∙ sym (B .heard), A .owners ∙ sym (B .owners), A .derived ∙ sym (B .derived), A .answers ∙ sym (B .answers))
+
+-- the last test of a chain
+pub last-no : (b : Bool) (n : ℕ) → b ≡ false → n ≡ orElse b n 0
+last-no b n e = sym (ap (λ (t : Bool). cond t 0 n) e)
+
+pub last-yes : (b : Bool) (n : ℕ) → b ≡ true → 0 ≡ orElse b n 0
+last-yes b n e = sym (ap (λ (t : Bool). cond t 0 n) e)
+
+pub else-no : (b : Bool) (n x : ℕ) → b ≡ false → n ≡ orElse b n x
+else-no b n x e = sym (ap (λ (t : Bool). cond t x n) e)
+
+pub else-on : (b : Bool) (n x r : ℕ) → b ≡ true → r ≡ x → r ≡ orElse b n x
+else-on b n x r e q = q ∙ sym (ap (λ (t : Bool). cond t x n) e)
+
+-- ---- play
+
+module _ (P : Plan) (avail : List ℕ) (units : ℕ) (firsts frozen : List ℕ) (n : ℕ) (ks fs ss o : List ℕ) (D : Derived) (x : List ℕ) where
+  abbrev counts : Bool
+  counts = countsOk (P .people) (P .slots) && leb n 1024
+
+  abbrev room : Bool
+  room = roomOk P avail o D && playRoomOk units firsts frozen n ks fs ss x
+
+  abbrev sound : Bool
+  sound = slotsOk (P .slots) (P .starts) (P .ends) && unitsOk (P .slots) units firsts
+
+  pub record PlayGrounds : Type 0 where
+    pub on : Grounds P avail o D
+    pub units-ok : unitsOk (P .slots) units firsts ≡ true
+    pub flags : 16 ≤ length frozen
+    pub draws : DrawRoom n ks fs ss x
+
+  pub play-grounds : ground counts room sound 0 ≡ 0 → PlayGrounds
+  unfolding playRoomOk
+  play-grounds e =
+      let y = ground-all counts room sound 0 e in
+      let a = both (countsOk (P .people) (P .slots)) (leb n 1024) (y .0) in
+      let b = both (roomOk P avail o D) (playRoomOk units firsts frozen n ks fs ss x) (y .1) in
+      let c = both (slotsOk (P .slots) (P .starts) (P .ends)) (unitsOk (P .slots) units firsts) (y .2) in
+      let u = both (leb units (length firsts)) _ (b .1) in
+      let r = five (leb 16 (length frozen)) (leb n (length ks)) (leb n (length fs)) (leb n (length ss)) (leb n (length x)) (u .1) in
+      record {
+        on = grounds P avail o D (a .0) (b .0) (c .0);
+        units-ok = c .1;
+        flags = leb-true _ _ (r .0);
+        draws = record {
+          kinds = leb-true _ _ (r .1);
+          firsts = leb-true _ _ (r .2);
+          seconds = leb-true _ _ (r .3);
+          answers =
+              leb-true _ _ (r .4);
+        };
+      }
+
+  pub units-say : unitsOk (P .slots) units firsts ≡ true → (u : ℕ) → u < units
+      → (unitStart firsts u < unitEnd (P .slots) units firsts u) × (unitEnd (P .slots) units firsts u ≤ P .slots)
+  units-say ok u h = (unit-some (P .slots) units firsts ok u h, unit-within (P .slots) units firsts ok u h)
+
+  module _ (m r : ℕ) (b : Bool) (em : m ≡ ground counts room sound 0) where
+    pub play-stops : (m ≡ 0 → ⊥) → m ≡ playNo P avail units firsts frozen n ks fs ss o D x
+    unfolding playNo
+    play-stops z = ground-stops counts room sound m _ em z
+
+    pub play-10 : m ≡ 0 → b ≡ recounts P avail units firsts o D → b ≡ false → 10 ≡ playNo P avail units firsts frozen n ks fs ss o D x
+    unfolding playNo
+    play-10 z eb t = ground-goes counts room sound m _ 10 em z (last-no (recounts P avail units firsts o D) 10 (sym eb ∙ t))
+
+    pub play-0 : m ≡ 0 → b ≡ recounts P avail units firsts o D → b ≡ true → 0 ≡ playNo P avail units firsts frozen n ks fs ss o D x
+    unfolding playNo
+    play-0 z eb t = ground-goes counts room sound m _ 0 em z (last-yes (recounts P avail units firsts o D) 10 (sym eb ∙ t))
+
+  -- where nothing stands against the play
+  pub record PlayAsks : Type 0 where
+    pub grounds : PlayGrounds
+    pub recount : Recounted P avail units firsts o D
+
+  pub play-asks : playNo P avail units firsts frozen n ks fs ss o D x ≡ 0 → PlayAsks
+  unfolding playNo
+  play-asks e =
+      let y = ground-all counts room sound _ e in
+      let z = cond-zero (recounts P avail units firsts o D) 0 9 (y .3) in
+      record {
+        grounds = play-grounds (sym (ground-0 counts room sound (y .0) (y .1) (y .2)));
+        recount = recount-says P avail units firsts o D (z .0);
+      }
+
+  module _ (A : PlayAsks) where
+    abbrev B : Board
+    B = boardOf (P .people) (P .slots) units avail firsts frozen
+
+    pub asks-few : units ≤ 1024
+    asks-few = let g = A .grounds in omega (arith, units-within (P .slots) units firsts (g .units-ok), g .on .sound .slots-few)
+
+    pub asks-step : InStep P o D
+    asks-step = recount-step P avail units firsts o D (A .grounds .on .room) (A .recount)
+
+    pub asks-sound : BoardSound B
+    asks-sound = board-sound (P .people) (P .slots) units avail firsts frozen (A .grounds .on .sound .people-few) (A .grounds .units-ok)
+
+    pub asks-even : Even B o
+    asks-even = recount-even P avail units firsts o D frozen (A .grounds .units-ok) (A .grounds .on .room) (A .recount)
+
+    module _ (fits flags : List ℕ) (F : FitsRight (P .people) (P .slots) units avail firsts fits) (Z : FrozenRight (P .slots) units
+        firsts frozen flags) where
+      same-board : ready (P .people) (P .slots) units firsts fits flags ≡ B
+      same-board = board-is (P .people) (P .slots) units avail firsts frozen fits flags F Z
+
+      pub ready-sound : BoardSound (ready (P .people) (P .slots) units firsts fits flags)
+      ready-sound = subst BoardSound (sym same-board) asks-sound
+
+      pub ready-even : Even (ready (P .people) (P .slots) units firsts fits flags) o
+      ready-even = subst (λ (b : Board). Even b o) (sym same-board) asks-even
+
+      pub played-yes : (m : ℕ) → m ≡ playNo P avail units firsts frozen n ks fs ss o D x → m ≡ 0 → (o′ : List ℕ) (D′ : Derived) (x′
+          : List ℕ)
+          → Ran P (ready (P .people) (P .slots) units firsts fits flags) o D x (drawsOf ks fs ss n) o′ D′ x′
+          → Ended (played P avail units firsts frozen n ks fs ss o D x) 0 o′ D′ x′
+      unfolding played
+      played-yes m em z o′ D′ x′ R =
+          let ds = drawsOf ks fs ss n in
+          let p : o′ ≡ ownersAfter B o ds = R .owners ∙ ap (λ (b : Board). ownersAfter b o ds) same-board in
+          ended-yes m _ em o D x _ _ _ z o′ D′ x′ p (R .derived ∙ ap (λ (l : List ℕ). afresh P l D) p)
+          (R .answers ∙ ap (λ (b : Board). written (answers b o ds) x) same-board)
+
+  pub played-no : (m : ℕ) → m ≡ playNo P avail units firsts frozen n ks fs ss o D x → (m ≡ 0 → ⊥)
+      → Ended (played P avail units firsts frozen n ks fs ss o D x) m o D x
+  unfolding played
+  played-no m em z = ended-no m _ em o D x _ _ _ z
+
+-- the three flags, from the answers of their tests
+pub ground-same : (p q r a b c : Bool) → p ≡ a → q ≡ b → r ≡ c → ground p q r 0 ≡ ground a b c 0
+ground-same p q r a b c x y z = ap₂ (λ (s t : Bool). ground s t r 0) x y ∙ ap (λ (t : Bool). ground a b t 0) z

@@ -1,0 +1,168 @@
+-- The laws of judging a draw: tests in a row, masks of people, picks, and the walks to a run's two ends. Assumes nothing.
+use mathlib.Core.Path.{_≡_, refl, sym, ap, ap₂, _∙_}
+use mathlib.Core.Bool.{Bool, true, false, cond, not, _&&_, _||_}
+use mathlib.Core.List.{List, [], _∷_, _++_}
+use mathlib.Core.Logic.{⊎-elim}
+use Prim.Native.Nat.{ℕ, zero, suc, _+_, _-_, _*_, _^_, _≤_, _<_, min}
+use native.Mathlib.Nat.{le-antisymm}
+use native.Mathlib.Omega.{arith}
+use borrow.Author.Tests.{eq-eqb, ne-eqb, eqb-true, lt-ltb, le-leb, lt-leb}
+use lib.Dec.{eqb, ltb, leb, lit<}
+use lib.Bits.{bitAnd}
+use lib.ListN.{length, getD, length-append}
+use Rattle.paper.specs.Bits.{bitOf}
+use Rattle.paper.specs.Count.{all, allIn, among}
+use Rattle.paper.proofs.Logic.{by-test}
+use Rattle.paper.proofs.Bits.{top-clear, bit-and, bit-ones, bit-lt}
+use Rattle.paper.proofs.Count.{in-none, among-at, among-in}
+use Rattle.rota.specs.declared.Pick.the-variants.{Nobody, Beyond, Person}
+use Rattle.rota.specs.declared.Move.{Move}
+use Rattle.rota.specs.declared.Move.the-variants.{Stay, Give, Trade}
+use Rattle.rota.specs.Board.{runStart, runTo, runEnd}
+use Rattle.rota.specs.Ready.{inMask, fitsBy, Cover}
+use Rattle.rota.specs.Moves.{anyOf, stayIf, picked}
+
+-- ---- tests in a row
+
+-- one of the tests holds
+any-at : (ts : List Bool) (k : ℕ) → getD ts k false ≡ true → anyOf ts ≡ true
+unfolding anyOf
+any-at [] k e = absurd (mathlib.Core.Bool.false≢true e)
+any-at (t ∷ ts) zero e = ap (λ (b : Bool). b || anyOf ts) e
+any-at (t ∷ ts) (suc k) e = ap (λ (b : Bool). t || b) (any-at ts k e) ∙ mathlib.Core.Bool.or-true t
+
+-- so the draw stays
+pub stays : (ts : List Bool) (n : ℕ) (m : Move) (k : ℕ) → getD ts k false ≡ true → Stay n ≡ stayIf ts n m
+stays ts n m k e = sym (ap (λ (b : Bool). cond b (Stay n) m) (any-at ts k e))
+
+-- none of them holds
+abbrev pub None : List Bool → Type 0
+None [] = Unit {0}
+None (t ∷ ts) = (t ≡ false) × None ts
+
+none-any : (ts : List Bool) → None ts → anyOf ts ≡ false
+unfolding anyOf
+none-any [] n = refl
+none-any (t ∷ ts) n = ap₂ _||_ (n .0) (none-any ts (n .1))
+
+-- so it goes on
+pub goes : (ts : List Bool) (n : ℕ) (m r : Move) → None ts → r ≡ m → r ≡ stayIf ts n m
+goes ts n m r z e = e ∙ sym (ap (λ (b : Bool). cond b (Stay n) m) (none-any ts z))
+
+-- ---- masks
+
+pub mask-past : (mask p : ℕ) → mask < 2 ^ 32 → 32 ≤ p → false ≡ inMask mask p
+unfolding inMask
+mask-past mask p h g = sym (ap (λ (b : ℕ). eqb b 1) (top-clear mask 32 p h g))
+
+both-set : (a b : ℕ) → a < 2 → b < 2 → eqb (min a b) 1 ≡ eqb a 1 && eqb b 1
+both-set zero b h g = let e : min 0 b ≡ 0 = omega arith in ap (λ (x : ℕ). eqb x 1) e
+both-set (suc zero) b h g = let e : min 1 b ≡ b = omega arith in ap (λ (x : ℕ). eqb x 1) e
+both-set (suc (suc a)) b h g = absurd (omega arith)
+
+in-step : (a k : ℕ) (p : ℕ → Bool) → a ≤ k → allIn a (k + 1) p ≡ allIn a k p && p k
+unfolding allIn all
+in-step a k p h =
+    let z : k + 1 - a ≡ suc (k - a) = omega arith in
+    let y : a + (k - a) ≡ k = omega arith in
+    ap (λ (n : ℕ). all n (λ j. p (a + j))) z ∙ ap (λ (j : ℕ). all (k - a) (λ i. p (a + i)) && p j) y
+
+pub cover-start : (fits : List ℕ) (a : ℕ) → Cover fits a a (2 ^ 32 - 1)
+unfolding inMask
+cover-start fits a =
+    record { each = λ p h. ap (λ (b : ℕ). eqb b 1) (bit-ones 32 p h) ∙ sym (in-none a (fitsBy fits p)) }
+
+pub cover-more : (fits : List ℕ) (a u mask m : ℕ) → a ≤ u → m ≡ getD fits u 0 → Cover fits a u mask → Cover fits a (u + 1) (bitAnd mask m)
+unfolding inMask fitsBy
+cover-more fits a u mask m h q C =
+    record {
+      each = λ p g.
+          ap (λ (b : ℕ). eqb b 1) (bit-and mask m p)
+          ∙ both-set (bitOf mask p) (bitOf m p) (bit-lt mask p) (bit-lt m p)
+          ∙ ap₂ (λ (b : Bool) (x : ℕ). b && eqb (bitOf x p) 1) (C .each p g) q
+          ∙ sym (in-step a u (fitsBy fits p) h);
+    }
+
+-- ---- picks
+
+pub picked-more : (q : ℕ → Bool) (i : ℕ) → q i ≡ true → length (among q i) + 1 ≡ length (among q (i + 1))
+picked-more q i t = sym (ap length (among-in q i t) ∙ length-append (among q i) (i ∷ []))
+
+module _ (q : ℕ → Bool) (people k : ℕ) where
+  pub picked-found : (i seen : ℕ) → i < people → q i ≡ true → seen ≡ length (among q i) → seen ≡ k → Person i ≡ picked (among q people) k
+  unfolding picked
+  picked-found i seen h t s e =
+      let r = among-at q people i h t in
+      let z : length (among q i) ≡ k = sym s ∙ e in
+      let x : leb (length (among q people)) k ≡ false = lt-leb (length (among q people)) k (omega (arith, r .0)) in
+      let y : eqb (length (among q people)) 0 ≡ false = ne-eqb (length (among q people)) 0 (λ w. omega (arith, r .0)) in
+      simp (x, y) (ap Person (sym (ap (λ (j : ℕ). getD (among q people) j 0) (sym z) ∙ r .1)))
+
+  module _ (i seen : ℕ) (h : i ≤ people) (g : people ≤ i) (s : seen ≡ length (among q i)) (l : seen ≤ k) where
+    all-seen : length (among q people) ≡ seen
+    all-seen = ap (λ (n : ℕ). length (among q n)) (le-antisymm g h) ∙ sym s
+
+    pub picked-nobody : seen ≡ 0 → Nobody ≡ picked (among q people) k
+    unfolding picked
+    picked-nobody z = let y : eqb (length (among q people)) 0 ≡ true = eq-eqb _ _ (all-seen ∙ z) in simp y
+
+    pub picked-beyond : (seen ≡ 0 → ⊥) → Beyond ≡ picked (among q people) k
+    unfolding picked
+    picked-beyond z =
+        let x : leb (length (among q people)) k ≡ true = le-leb (length (among q people)) k (omega (arith, all-seen)) in
+        let y : eqb (length (among q people)) 0 ≡ false = ne-eqb _ _ (λ w. z (sym all-seen ∙ w)) in
+        simp (x, y)
+
+-- ---- the walks to a run's ends
+
+module _ (w : ℕ → ℕ) where
+  down : (s t : ℕ) → s ≡ suc t → w t ≡ w s → runStart w s ≡ runStart w t
+  unfolding runStart
+  down s t e q = ap (runStart w) e ∙ (let z : eqb (w t) (w (suc t)) ≡ true = eq-eqb _ _ (q ∙ ap w e) in simp z)
+
+  stay : (s t : ℕ) → s ≡ suc t → (w t ≡ w s → ⊥) → runStart w s ≡ s
+  unfolding runStart
+  stay s t e n = ap (runStart w) e ∙ (let z : eqb (w t) (w (suc t)) ≡ false = ne-eqb _ _ (λ q. n (q ∙ sym (ap w e))) in simp z) ∙ sym e
+
+  -- while the walk goes down from u: the run of u starts where that of s does, and s has the owner v as u has
+  module _ (u s v b : ℕ) (h : 0 < s) (i : runStart w u ≡ runStart w s) (k : v ≡ w s) (d : b ≡ w (s - 1)) where
+    pub start-down : b ≡ v → (runStart w u ≡ runStart w (s - 1)) × (v ≡ w (s - 1))
+    start-down q = let z : s ≡ suc (s - 1) = omega arith in (i ∙ down s (s - 1) z (sym d ∙ q ∙ k), sym q ∙ d)
+
+    pub start-here : (b ≡ v → ⊥) → s ≡ runStart w u
+    start-here n = let z : s ≡ suc (s - 1) = omega arith in sym (i ∙ stay s (s - 1) z (λ q. n (d ∙ q ∙ sym k)))
+
+  pub start-none : (u s : ℕ) → s ≤ 0 → runStart w u ≡ runStart w s → 0 ≡ runStart w u
+  unfolding runStart
+  start-none u s h i = let z : s ≡ 0 = omega arith in sym (i ∙ ap (runStart w) z)
+
+  up : (k n e t : ℕ) → k ≡ suc n → t ≡ suc e → w t ≡ w e → runTo w k e ≡ runTo w n t
+  unfolding runTo
+  up k n e t p r q =
+      ap (λ (x : ℕ). runTo w x e) p ∙ (let z : eqb (w (suc e)) (w e) ≡ true = eq-eqb _ _ (ap w (sym r) ∙ q) in simp z)
+      ∙ ap (runTo w n) (sym r)
+
+  keep : (k n e t : ℕ) → k ≡ suc n → t ≡ suc e → (w t ≡ w e → ⊥) → runTo w k e ≡ e
+  unfolding runTo
+  keep k n e t p r q =
+      ap (λ (x : ℕ). runTo w x e) p ∙ (let z : eqb (w (suc e)) (w e) ≡ false = ne-eqb _ _ (λ y. q (ap w r ∙ y)) in simp z)
+
+  module _ (units u e t v b : ℕ) (r : t ≡ e + 1) (i : runEnd units w u ≡ runEnd units w e) (k : v ≡ w e) where
+    pub end-none : units ≤ t → e ≡ runEnd units w u
+    unfolding runEnd runTo
+    end-none h = let z : units - 1 - e ≡ 0 = omega arith in sym (i ∙ ap (λ (x : ℕ). runTo w x e) z)
+
+    module _ (h : t < units) (d : b ≡ w t) where
+      pub end-up : b ≡ v → (runEnd units w u ≡ runEnd units w t) × (v ≡ w t)
+      unfolding runEnd
+      end-up q =
+          let x : units - 1 - e ≡ suc (units - 1 - t) = omega arith in
+          let y : t ≡ suc e = omega arith in
+          (i ∙ up (units - 1 - e) (units - 1 - t) e t x y (sym d ∙ q ∙ k), sym q ∙ d)
+
+      pub end-here : (b ≡ v → ⊥) → e ≡ runEnd units w u
+      unfolding runEnd
+      end-here n =
+          let x : units - 1 - e ≡ suc (units - 1 - t) = omega arith in
+          let y : t ≡ suc e = omega arith in
+          sym (i ∙ keep (units - 1 - e) (units - 1 - t) e t x y (λ q. n (d ∙ q ∙ sym k)))

@@ -1,0 +1,457 @@
+-- What each test of a move comes to, over plain values: the answers of the functions that judge a draw. Assumes nothing.
+use mathlib.Core.Path.{_≡_, refl, sym, ap, ap₂, _∙_}
+use mathlib.Core.Bool.{Bool, true, false, cond, not, _&&_}
+use mathlib.Core.List.{List, [], _∷_}
+use Prim.Native.Nat.{ℕ, zero, suc, _+_, _-_, _≤_, _<_}
+use native.Mathlib.Numerals.{add-one}
+use native.Mathlib.Omega.{arith}
+use borrow.Author.Tests.{eq-eqb, ne-eqb, lt-ltb, le-ltb, le-leb, lt-leb}
+use lib.Dec.{eqb, ltb, leb}
+use lib.ListN.{length, getD}
+use Rattle.paper.specs.Limits.{nobody}
+use Rattle.paper.specs.Count.{allIn, among}
+use Rattle.paper.proofs.Count.{among-same}
+use Rattle.rota.specs.declared.Pick.{Pick}
+use Rattle.rota.specs.declared.Pick.the-variants.{Nobody, Beyond, Person}
+use Rattle.rota.specs.declared.Move.{Move}
+use Rattle.rota.specs.declared.Move.the-variants.{Stay, Give, Trade}
+use Rattle.rota.specs.Board.{Board, ownerOf, unowned, runStart, runEnd}
+use Rattle.rota.specs.Ready.{inMask, fitsBy, Cover}
+use Rattle.rota.specs.Moves.{stayIf, give, movable, covers, firstOf, lastOf, picked, onPick, domainOf, reassigned, swapStays}
+use Rattle.rota.specs.Moves.{swapped}
+use Rattle.rota.specs.Moves.{others, runReassigned, runsStay, runsSwapped, grown, shrunk, shifted, draw, decided}
+use Rattle.rota.proofs.Runs.{run-is}
+use Rattle.rota.proofs.Judged.{stays, goes}
+
+nobody-owns : (B : Board) (o : List ℕ) (u w : ℕ) → w ≡ ownerOf B o u → w ≡ nobody → unowned B o u ≡ true
+unfolding unowned
+nobody-owns B o u w e q = eq-eqb _ _ (sym e ∙ q)
+
+somebody-owns : (B : Board) (o : List ℕ) (u w : ℕ) → w ≡ ownerOf B o u → (w ≡ nobody → ⊥) → unowned B o u ≡ false
+unfolding unowned
+somebody-owns B o u w e n = ne-eqb _ _ (λ q. n (e ∙ q))
+
+-- ---- reassign
+
+-- the pick from a mask with nobody left out
+pub pick-all : (q : ℕ → Bool) (people k : ℕ) (r : Pick) → people ≤ 32 → r ≡ picked (among (λ p. not (eqb p nobody) && q p) people) k
+    → r ≡ picked (among q people) k
+pick-all q people k r few e =
+    e ∙ ap (λ (l : List ℕ). picked l k)
+    (among-same (λ p. not (eqb p nobody) && q p) q people (λ p h. ap (λ (b : Bool). not b && q p) (ne-eqb p nobody (λ z. omega arith))))
+
+module _ (B : Board) (o : List ℕ) (f s : ℕ) where
+  pub reassign-frozen : B .frozen f ≡ true → Stay 1 ≡ reassigned B o f s
+  unfolding reassigned
+  reassign-frozen e = stays (B .frozen f ∷ []) 1 _ 0 e
+
+  module _ (r v : Pick) (z : B .frozen f ≡ false) (d : r ≡ picked (domainOf B f) s) (q : r ≡ v) where
+    reassign-as : onPick (λ p. stayIf (eqb p (ownerOf B o f) ∷ []) 1 (give B f f p)) v ≡ reassigned B o f s
+    unfolding reassigned
+    reassign-as =
+        goes (B .frozen f ∷ []) 1 _ _ (z, tt)
+        (ap (onPick (λ p. stayIf (eqb p (ownerOf B o f) ∷ []) 1 (give B f f p))) (sym q ∙ d))
+
+  module _ (r : Pick) (z : B .frozen f ≡ false) (d : r ≡ picked (domainOf B f) s) where
+    pub reassign-nobody : r ≡ Nobody → Stay 1 ≡ reassigned B o f s
+    reassign-nobody q = reassign-as r Nobody z d q
+
+    pub reassign-beyond : r ≡ Beyond → Stay 2 ≡ reassigned B o f s
+    reassign-beyond q = reassign-as r Beyond z d q
+
+    module _ (p w : ℕ) (q : r ≡ Person p) (ew : w ≡ ownerOf B o f) where
+      pub reassign-kept : p ≡ w → Stay 1 ≡ reassigned B o f s
+      reassign-kept h =
+          stays (eqb p (ownerOf B o f) ∷ []) 1 (give B f f p) 0 (eq-eqb _ _ (h ∙ ew)) ∙ reassign-as r (Person p) z d q
+
+      pub reassign-given : (m : Move) → (p ≡ w → ⊥) → m ≡ give B f f p → m ≡ reassigned B o f s
+      reassign-given m h e =
+          goes (eqb p (ownerOf B o f) ∷ []) 1 (give B f f p) m (ne-eqb _ _ (λ x. h (x ∙ sym ew)), tt) e ∙ reassign-as r (Person p) z d q
+
+-- ---- swap units
+
+module _ (B : Board) (o : List ℕ) (f s : ℕ) where
+  swap-stays : (k : ℕ) → getD (swapStays B o f s) k false ≡ true → Stay 1 ≡ swapped B o f s
+  unfolding swapped
+  swap-stays k e = stays (swapStays B o f s) 1 _ k e
+
+  pub swap-frozen : B .frozen f ≡ true → Stay 1 ≡ swapped B o f s
+  swap-frozen e = swap-stays 0 e
+
+  pub swap-frozen-2 : B .frozen s ≡ true → Stay 1 ≡ swapped B o f s
+  swap-frozen-2 e = swap-stays 1 e
+
+  pub swap-same : f ≡ s → Stay 1 ≡ swapped B o f s
+  swap-same e = swap-stays 2 (eq-eqb f s e)
+
+  module _ (w v : ℕ) (ew : w ≡ ownerOf B o f) (ev : v ≡ ownerOf B o s) where
+    pub swap-unowned : w ≡ nobody → Stay 1 ≡ swapped B o f s
+    swap-unowned e = swap-stays 3 (nobody-owns B o f w ew e)
+
+    pub swap-unowned-2 : v ≡ nobody → Stay 1 ≡ swapped B o f s
+    swap-unowned-2 e = swap-stays 4 (nobody-owns B o s v ev e)
+
+    pub swap-owner : w ≡ v → Stay 1 ≡ swapped B o f s
+    swap-owner e = swap-stays 5 (eq-eqb _ _ (sym ew ∙ e ∙ ev))
+
+    pub swap-unfit : B .fits v f ≡ false → Stay 1 ≡ swapped B o f s
+    swap-unfit e = swap-stays 6 (ap not (ap (λ (x : ℕ). B .fits x f) (sym ev) ∙ e))
+
+    pub swap-unfit-2 : B .fits w s ≡ false → Stay 1 ≡ swapped B o f s
+    swap-unfit-2 e = swap-stays 7 (ap not (ap (λ (x : ℕ). B .fits x s) (sym ew) ∙ e))
+
+    pub swap-acts : (m : Move) → B .frozen f ≡ false → B .frozen s ≡ false → (f ≡ s → ⊥) → (w ≡ nobody → ⊥) → (v ≡ nobody → ⊥) → (w
+        ≡ v → ⊥)
+        → B .fits v f ≡ true → B .fits w s ≡ true → m ≡ Trade (B .from f) (B .upto f) v (B .from s) (B .upto s) w → m ≡ swapped B o f s
+    unfolding swapped
+    swap-acts m a b c d e g h i t =
+        goes (swapStays B o f s) 1 _ m (
+          a,
+          (
+            b,
+            (
+              ne-eqb f s c,
+              (
+                somebody-owns B o f w ew d,
+                (
+                  somebody-owns B o s v ev e,
+                  (
+                    ne-eqb _ _ (λ q. g (ew ∙ q ∙ sym ev)),
+                    (
+                      ap
+                          not (ap (λ (x : ℕ). B .fits x f) (sym ev) ∙ h),
+                      (ap not (ap (λ (x : ℕ). B .fits x s) (sym ew) ∙ i), tt),
+                    ),
+                  ),
+                ),
+              ),
+            ),
+          ),
+        )
+        (t ∙ ap₂ (λ (x y : ℕ). Trade (B .from f) (B .upto f) x (B .from s) (B .upto s) y) ev ew)
+
+-- ---- runs
+
+-- the ends of a run stand in order, below the unit count
+pub run-order : (w : ℕ → ℕ) (units u : ℕ) → u < units → (runStart w u ≤ runEnd units w u) × (runEnd units w u < units)
+run-order w units u h = let R = run-is w units u h in (omega (arith, R .from, R .to), R .fits)
+
+movable-one : (B : Board) (a b : ℕ) → allIn a (b + 1) (λ u. not (B .frozen u)) ≡ movable B a b
+unfolding movable
+movable-one B a b = ap (λ (e : ℕ). allIn a e (λ u. not (B .frozen u))) (add-one b)
+
+covers-one : (B : Board) (a b p : ℕ) → allIn a (b + 1) (B .fits p) ≡ covers B a b p
+unfolding covers
+covers-one B a b p = ap (λ (e : ℕ). allIn a e (B .fits p)) (add-one b)
+
+-- ---- reassign run
+
+module _ (B : Board) (o : List ℕ) (f s w : ℕ) (ew : w ≡ ownerOf B o f) where
+  abbrev run-tests : ℕ → ℕ → List Bool
+  run-tests a b = B .frozen f ∷ unowned B o f ∷ not (movable B a b) ∷ []
+
+  pub run-frozen : B .frozen f ≡ true → Stay 1 ≡ runReassigned B o f s
+  unfolding runReassigned
+  run-frozen e = stays (run-tests (firstOf B o f) (lastOf B o f)) 1 _ 0 e
+
+  pub run-unowned : w ≡ nobody → Stay 1 ≡ runReassigned B o f s
+  unfolding runReassigned
+  run-unowned e = stays (run-tests (firstOf B o f) (lastOf B o f)) 1 _ 1 (nobody-owns B o f w ew e)
+
+  module _ (a b : ℕ) (ea : a ≡ firstOf B o f) (eb : b ≡ lastOf B o f) where
+    pub run-stuck : allIn a (b + 1) (λ u. not (B .frozen u)) ≡ false → Stay 1 ≡ runReassigned B o f s
+    unfolding runReassigned
+    run-stuck e =
+        stays (run-tests (firstOf B o f) (lastOf B o f)) 1 _ 2
+        (ap not (sym (ap₂ (movable B) ea eb) ∙ sym (movable-one B a b) ∙ e))
+
+    module _ (r : Pick) (mask : ℕ) (fr : B .frozen f ≡ false) (nw : w ≡ nobody → ⊥) (mv : allIn a (b + 1) (λ u. not (B .frozen u)) ≡ true)
+        (few : B .people ≤ 32) (cover : (p : ℕ) → p < 32 → inMask mask p ≡ allIn a (b + 1) (B .fits p))
+        (d : r ≡ picked (among (λ p. not (eqb p w) && inMask mask p) (B .people)) s) where
+      others-as : r ≡ picked (others B (ownerOf B o f) (firstOf B o f) (lastOf B o f)) s
+      unfolding others
+      others-as =
+          d ∙ ap (λ (l : List ℕ). picked l s)
+          (among-same _ _ (B .people)
+          (λ p h. ap₂ (λ (x : ℕ) (t : Bool). not (eqb p x) && t) ew
+          (cover p (omega arith) ∙ covers-one B a b p ∙ ap₂ (λ (x y : ℕ). covers B x y p) ea eb)))
+
+      run-as : (v : Pick) → r ≡ v → onPick (give B (firstOf B o f) (lastOf B o f)) v ≡ runReassigned B o f s
+      unfolding runReassigned
+      run-as v q =
+          goes (run-tests (firstOf B o f) (lastOf B o f)) 1 _ _
+          (fr, (somebody-owns B o f w ew nw, (ap not (sym (ap₂ (movable B) ea eb) ∙ sym (movable-one B a b) ∙ mv), tt)))
+          (ap (onPick (give B (firstOf B o f) (lastOf B o f))) (sym q ∙ others-as))
+
+      pub run-nobody : r ≡ Nobody → Stay 1 ≡ runReassigned B o f s
+      run-nobody q = run-as Nobody q
+
+      pub run-beyond : r ≡ Beyond → Stay 2 ≡ runReassigned B o f s
+      run-beyond q = run-as Beyond q
+
+      pub run-given : (p : ℕ) (m : Move) → r ≡ Person p → m ≡ give B a b p → m ≡ runReassigned B o f s
+      run-given p m q e = e ∙ ap₂ (λ (x y : ℕ). give B x y p) ea eb ∙ run-as (Person p) q
+
+-- ---- swap runs
+
+module _ (B : Board) (o : List ℕ) (f s : ℕ) where
+  runs-stay : (k : ℕ) → getD (runsStay B o f s (firstOf B o f) (lastOf B o f) (firstOf B o s) (lastOf B o s)) k false ≡ true
+      → Stay 1 ≡ runsSwapped B o f s
+  unfolding runsSwapped
+  runs-stay k e = stays (runsStay B o f s (firstOf B o f) (lastOf B o f) (firstOf B o s) (lastOf B o s)) 1 _ k e
+
+  pub runs-frozen : B .frozen f ≡ true → Stay 1 ≡ runsSwapped B o f s
+  runs-frozen e = runs-stay 0 e
+
+  pub runs-frozen-2 : B .frozen s ≡ true → Stay 1 ≡ runsSwapped B o f s
+  runs-frozen-2 e = runs-stay 1 e
+
+  module _ (w v : ℕ) (ew : w ≡ ownerOf B o f) (ev : v ≡ ownerOf B o s) where
+    pub runs-unowned : w ≡ nobody → Stay 1 ≡ runsSwapped B o f s
+    runs-unowned e = runs-stay 2 (nobody-owns B o f w ew e)
+
+    pub runs-unowned-2 : v ≡ nobody → Stay 1 ≡ runsSwapped B o f s
+    runs-unowned-2 e = runs-stay 3 (nobody-owns B o s v ev e)
+
+    pub runs-owner : w ≡ v → Stay 1 ≡ runsSwapped B o f s
+    runs-owner e = runs-stay 5 (eq-eqb _ _ (sym ew ∙ e ∙ ev))
+
+    module _ (a b c d : ℕ) (ea : a ≡ firstOf B o f) (eb : b ≡ lastOf B o f) (ec : c ≡ firstOf B o s) (ed : d ≡ lastOf B o s) where
+      pub runs-same : a ≡ c → Stay 1 ≡ runsSwapped B o f s
+      runs-same e = runs-stay 4 (eq-eqb _ _ (sym ea ∙ e ∙ ec))
+
+      abbrev mf : Bool
+      mf = allIn a (b + 1) (λ u. not (B .frozen u))
+
+      abbrev ms : Bool
+      ms = allIn c (d + 1) (λ u. not (B .frozen u))
+
+      abbrev cf : Bool
+      cf = allIn a (b + 1) (B .fits v)
+
+      abbrev cs : Bool
+      cs = allIn c (d + 1) (B .fits w)
+
+      is-mf : mf ≡ movable B (firstOf B o f) (lastOf B o f)
+      is-mf = movable-one B a b ∙ ap₂ (movable B) ea eb
+
+      is-ms : ms ≡ movable B (firstOf B o s) (lastOf B o s)
+      is-ms = movable-one B c d ∙ ap₂ (movable B) ec ed
+
+      is-cf : cf ≡ covers B (firstOf B o f) (lastOf B o f) (ownerOf B o s)
+      is-cf = covers-one B a b v ∙ ap₂ (λ (x y : ℕ). covers B x y v) ea eb ∙ ap (covers B (firstOf B o f) (lastOf B o f)) ev
+
+      is-cs : cs ≡ covers B (firstOf B o s) (lastOf B o s) (ownerOf B o f)
+      is-cs = covers-one B c d w ∙ ap₂ (λ (x y : ℕ). covers B x y w) ec ed ∙ ap (covers B (firstOf B o s) (lastOf B o s)) ew
+
+      some-fails : (p q r t : Bool) (X : Type 0) → p && (q && (r && t)) ≡ false → (p ≡ false → X) → (q ≡ false → X) → (r ≡ false →
+          X) → (t ≡ false → X) → X
+      some-fails false q r t X e g h i j = g refl
+      some-fails true false r t X e g h i j = h refl
+      some-fails true true false t X e g h i j = i refl
+      some-fails true true true t X e g h i j = j e
+
+      pub runs-unfit : mf && (ms && (cf && cs)) ≡ false → Stay 1 ≡ runsSwapped B o f s
+      runs-unfit e =
+          some-fails mf ms cf cs _ e
+          (λ x. runs-stay 6 (ap not (sym is-mf ∙ x)))
+          (λ x. runs-stay 7 (ap not (sym is-ms ∙ x)))
+          (λ x. runs-stay 8 (ap not (sym is-cf ∙ x)))
+          (λ x. runs-stay 9 (ap not (sym is-cs ∙ x)))
+
+      pub runs-act : (m : Move) → B .frozen f ≡ false → B .frozen s ≡ false → (w ≡ nobody → ⊥) → (v ≡ nobody → ⊥) → (a ≡ c → ⊥) → (w
+          ≡ v → ⊥)
+          → mf && (ms && (cf && cs)) ≡ true → m ≡ Trade (B .from a) (B .upto b) v (B .from c) (B .upto d) w → m ≡ runsSwapped B o f s
+      unfolding runsSwapped
+      runs-act m x y h i j k e t =
+          let z = Rattle.paper.proofs.Logic.four mf ms cf cs e in
+          goes (runsStay B o f s (firstOf B o f) (lastOf B o f) (firstOf B o s) (lastOf B o s)) 1 _ m (
+            x,
+            (
+              y,
+              (
+                somebody-owns B o f w ew h,
+                (
+                  somebody-owns B o s v ev i,
+                  (
+                    ne-eqb _ _ (λ q. j (ea ∙ q ∙ sym ec)),
+                    (
+                      ne-eqb _ _ (λ
+                          q. k (ew ∙ q ∙ sym ev)),
+                      (
+                        ap not (sym is-mf ∙ z .0),
+                        (
+                          ap not (sym is-ms ∙ z .1),
+                          (
+                            ap not (sym is-cf ∙ z .2),
+                            (
+                              ap not
+                                  (sym is-cs ∙ z .3),
+                              tt,
+                            ),
+                          ),
+                        ),
+                      ),
+                    ),
+                  ),
+                ),
+              ),
+            ),
+          )
+          (t ∙ ap₂ (λ (p q : ℕ). Trade (B .from p) (B .upto q) v (B .from c) (B .upto d) w) ea eb
+          ∙ ap₂ (λ (p q : ℕ). Trade (B .from (firstOf B o f)) (B .upto (lastOf B o f)) v (B .from p) (B .upto q) w) ec ed
+          ∙ ap₂ (λ (p q : ℕ). Trade (B .from (firstOf B o f)) (B .upto (lastOf B o f)) p (B .from (firstOf B o s)) (B .upto (lastOf
+          B o s)) q) ev ew)
+
+-- ---- shift
+
+module _ (B : Board) (w a : ℕ) where
+  abbrev grow-tests : List Bool
+  grow-tests = eqb a 0 ∷ B .frozen (a - 1) ∷ not (B .fits w (a - 1)) ∷ []
+
+  pub grow-none : a ≡ 0 → Stay 1 ≡ grown B w a
+  unfolding grown
+  grow-none e = stays grow-tests 1 _ 0 (eq-eqb a 0 e)
+
+  pub grow-frozen : B .frozen (a - 1) ≡ true → Stay 1 ≡ grown B w a
+  unfolding grown
+  grow-frozen e = stays grow-tests 1 _ 1 e
+
+  pub grow-unfit : B .fits w (a - 1) ≡ false → Stay 1 ≡ grown B w a
+  unfolding grown
+  grow-unfit e = stays grow-tests 1 _ 2 (ap not e)
+
+  pub grow-acts : (m : Move) → (a ≡ 0 → ⊥) → B .frozen (a - 1) ≡ false → B .fits w (a - 1) ≡ true → m ≡ give B (a - 1) (a - 1) w → m
+      ≡ grown B w a
+  unfolding grown
+  grow-acts m x y z e = goes grow-tests 1 _ m (ne-eqb a 0 x, (y, (ap not z, tt))) e
+
+module _ (B : Board) (o : List ℕ) (a b : ℕ) where
+  abbrev shrink-tests : List Bool
+  shrink-tests = eqb a 0 ∷ eqb a b ∷ unowned B o (a - 1) ∷ B .frozen a ∷ not (B .fits (ownerOf B o (a - 1)) a) ∷ []
+
+  pub shrink-none : a ≡ 0 → Stay 1 ≡ shrunk B o a b
+  unfolding shrunk
+  shrink-none e = stays shrink-tests 1 _ 0 (eq-eqb a 0 e)
+
+  pub shrink-one : a ≡ b → Stay 1 ≡ shrunk B o a b
+  unfolding shrunk
+  shrink-one e = stays shrink-tests 1 _ 1 (eq-eqb a b e)
+
+  module _ (w : ℕ) (ew : w ≡ ownerOf B o (a - 1)) where
+    pub shrink-unowned : w ≡ nobody → Stay 1 ≡ shrunk B o a b
+    unfolding shrunk
+    shrink-unowned e = stays shrink-tests 1 _ 2 (nobody-owns B o (a - 1) w ew e)
+
+    pub shrink-unfit : B .fits w a ≡ false → Stay 1 ≡ shrunk B o a b
+    unfolding shrunk
+    shrink-unfit e = stays shrink-tests 1 _ 4 (ap not (ap (λ (x : ℕ). B .fits x a) (sym ew) ∙ e))
+
+    pub shrink-acts : (m : Move) → (a ≡ 0 → ⊥) → (a ≡ b → ⊥) → (w ≡ nobody → ⊥) → B .frozen a ≡ false → B .fits w a ≡ true
+        → m ≡ give B a a w → m ≡ shrunk B o a b
+    unfolding shrunk
+    shrink-acts m x y n z h e =
+        goes shrink-tests 1 _ m
+        (ne-eqb a 0 x, (ne-eqb a b y, (somebody-owns B o (a - 1) w ew n, (z, (ap not (ap (λ (v : ℕ). B .fits v a) (sym ew) ∙ h), tt)))))
+        (e ∙ ap (give B a a) ew)
+
+  pub shrink-frozen : B .frozen a ≡ true → Stay 1 ≡ shrunk B o a b
+  unfolding shrunk
+  shrink-frozen e = stays shrink-tests 1 _ 3 e
+
+module _ (B : Board) (o : List ℕ) (f s w : ℕ) (ew : w ≡ ownerOf B o f) where
+  abbrev shift-tests : List Bool
+  shift-tests = B .frozen f ∷ unowned B o f ∷ []
+
+  pub shift-frozen : B .frozen f ≡ true → Stay 1 ≡ shifted B o f s
+  unfolding shifted
+  shift-frozen e = stays shift-tests 1 _ 0 e
+
+  pub shift-unowned : w ≡ nobody → Stay 1 ≡ shifted B o f s
+  unfolding shifted
+  shift-unowned e = stays shift-tests 1 _ 1 (nobody-owns B o f w ew e)
+
+  module _ (x : B .frozen f ≡ false) (n : w ≡ nobody → ⊥) where
+    shift-on : (m : Move) → m ≡ stayIf (ltb 1 s ∷ []) 2 (cond (eqb s 1) (grown B (ownerOf B o f) (firstOf B o f)) (shrunk B o
+        (firstOf B o f) (lastOf B o f)))
+        → m ≡ shifted B o f s
+    unfolding shifted
+    shift-on m e = goes shift-tests 1 _ m (x, (somebody-owns B o f w ew n, tt)) e
+
+    pub shift-beyond : 1 < s → Stay 2 ≡ shifted B o f s
+    shift-beyond h = shift-on (Stay 2) (stays (ltb 1 s ∷ []) 2 _ 0 (lt-ltb 1 s h))
+
+    module _ (m : Move) (a : ℕ) (l : s ≤ 1) (ea : a ≡ firstOf B o f) where
+      pub shift-grows : s ≡ 1 → m ≡ grown B w a → m ≡ shifted B o f s
+      shift-grows q e =
+          shift-on m
+          (goes (ltb 1 s ∷ []) 2 _ m (le-ltb 1 s l, tt)
+          (e ∙ ap₂ (grown B) ew ea ∙ sym (ap (λ (t : Bool). cond t (grown B (ownerOf B o f) (firstOf B o f)) (shrunk B o (firstOf B
+          o f) (lastOf B o f))) (eq-eqb s 1 q))))
+
+      pub shift-shrinks : (b : ℕ) → b ≡ lastOf B o f → (s ≡ 1 → ⊥) → m ≡ shrunk B o a b → m ≡ shifted B o f s
+      shift-shrinks b eb q e =
+          shift-on m
+          (goes (ltb 1 s ∷ []) 2 _ m (le-ltb 1 s l, tt)
+          (e ∙ ap₂ (shrunk B o) ea eb ∙ sym (ap (λ (t : Bool). cond t (grown B (ownerOf B o f) (firstOf B o f)) (shrunk B o (firstOf
+          B o f) (lastOf B o f))) (ne-eqb s 1 q))))
+
+-- ---- a draw
+
+module _ (B : Board) (o : List ℕ) (k f s : ℕ) where
+  abbrev draw-tests : List Bool
+  draw-tests = leb 100 k ∷ leb (B .units) f ∷ []
+
+  pub draw-beyond : 100 ≤ k → Stay 2 ≡ decided B o (draw k f s)
+  unfolding decided
+  draw-beyond h = stays draw-tests 2 _ 0 (le-leb 100 k h)
+
+  pub draw-unit : B .units ≤ f → Stay 2 ≡ decided B o (draw k f s)
+  unfolding decided
+  draw-unit h = stays draw-tests 2 _ 1 (le-leb (B .units) f h)
+
+  module _ (m : Move) (hk : k < 100) (hf : f < B .units) where
+    draw-on : {x : Move} → m ≡ x → m ≡ stayIf draw-tests 2 x
+    draw-on {x} e = goes draw-tests 2 x m (lt-leb 100 k hk, (lt-leb (B .units) f hf, tt)) e
+
+    pub draw-reassign : k < 35 → m ≡ reassigned B o f s → m ≡ decided B o (draw k f s)
+    unfolding decided
+    draw-reassign a e = draw-on (let z : ltb k 35 ≡ true = lt-ltb k 35 a in simp z e)
+
+    module _ (a : 35 ≤ k) where
+      pub draw-swap : k < 60 → s < B .units → m ≡ swapped B o f s → m ≡ decided B o (draw k f s)
+      unfolding decided
+      draw-swap b h e =
+          draw-on (simp (le-ltb k 35 a, lt-ltb k 60 b) (goes (leb (B .units) s ∷ []) 2 _ m (lt-leb (B .units) s h, tt) e))
+
+      module _ (b : 60 ≤ k) where
+        pub draw-run : k < 75 → m ≡ runReassigned B o f s → m ≡ decided B o (draw k f s)
+        unfolding decided
+        draw-run c e = draw-on (simp (le-ltb k 35 a, le-ltb k 60 b, lt-ltb k 75 c) e)
+
+        module _ (c : 75 ≤ k) where
+          pub draw-runs : k < 90 → s < B .units → m ≡ runsSwapped B o f s → m ≡ decided B o (draw k f s)
+          unfolding decided
+          draw-runs d h e =
+              draw-on
+              (simp (le-ltb k 35 a, le-ltb k 60 b, le-ltb k 75 c, lt-ltb k 90 d)
+              (goes (leb (B .units) s ∷ []) 2 _ m (lt-leb (B .units) s h, tt) e))
+
+          pub draw-shift : 90 ≤ k → m ≡ shifted B o f s → m ≡ decided B o (draw k f s)
+          unfolding decided
+          draw-shift d e = draw-on (simp (le-ltb k 35 a, le-ltb k 60 b, le-ltb k 75 c, le-ltb k 90 d) e)
+
+  -- a swap that names a unit not below the count
+  module _ (hk : k < 100) (hf : f < B .units) (h : B .units ≤ s) where
+    pub draw-swap-unit : 35 ≤ k → k < 60 → Stay 2 ≡ decided B o (draw k f s)
+    unfolding decided
+    draw-swap-unit a b =
+        goes draw-tests 2 _ (Stay 2) (lt-leb 100 k hk, (lt-leb (B .units) f hf, tt))
+        (simp (le-ltb k 35 a, lt-ltb k 60 b) (stays (leb (B .units) s ∷ []) 2 _ 0 (le-leb (B .units) s h)))
+
+    pub draw-runs-unit : 75 ≤ k → k < 90 → Stay 2 ≡ decided B o (draw k f s)
+    unfolding decided
+    draw-runs-unit c d =
+        goes draw-tests 2 _ (Stay 2) (lt-leb 100 k hk, (lt-leb (B .units) f hf, tt))
+        (simp (le-ltb k 35 (omega arith), le-ltb k 60 (omega arith), le-ltb k 75 c, lt-ltb k 90 d)
+        (stays (leb (B .units) s ∷ []) 2 _ 0 (le-leb (B .units) s h)))

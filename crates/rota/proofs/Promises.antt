@@ -1,0 +1,263 @@
+-- What the rota promises, each by name: of lent slots, units, availability and flags, and of a play of any length. Assumes nothing.
+use mathlib.Core.Path.{_≡_, refl, sym, ap, ap₂, _∙_, subst}
+use mathlib.Core.Logic.{⊎-elim}
+use mathlib.Core.Bool.{Bool, true, false, cond, not, _&&_, _||_}
+use mathlib.Core.List.{List, [], _∷_, _++_, append-assoc, append-nil}
+use Prim.Native.Nat.{ℕ, zero, suc, _+_, _-_, _*_, _≤_, _<_}
+use native.Mathlib.Omega.{arith}
+use borrow.Author.Tests.{eq-eqb, ne-eqb, lt-ltb, eqb-true, eqb-false}
+use lib.Dec.{eqb, ltb}
+use lib.ListN.{length, getD, set, drop, length-set, replicate}
+use lib.Seq.{getD-drop, getD-set-same, getD-set-other}
+use Rattle.paper.specs.Limits.{nobody}
+use Rattle.paper.specs.Bits.{bitOf}
+use Rattle.paper.specs.Count.{sum, all, allIn}
+use Rattle.paper.proofs.Logic.{by-test, lt-or-ge, both}
+use Rattle.paper.proofs.Count.{in-each, sum-same}
+use Rattle.slotset.specs.Slots.{slot}
+use Rattle.slotset.proofs.Puts.{Fit}
+use Rattle.slots.specs.Lent.{demandOf}
+use Rattle.units.specs.Units.{unitStart, unitEnd, unitsOk, unitOf}
+use Rattle.units.specs.Domains.{available, able, unfrozen, clear, unitFrozen}
+use Rattle.units.proofs.Units.{unit-of-in}
+use Rattle.rota.specs.Board.{Board, BoardSound, InUnit, Even, ownerOf, unowned}
+use Rattle.rota.specs.Moves.{Draw, draw, decided, answerOf, stayIf, anyOf, swapped, swapStays, runsSwapped, runsStay, firstOf}
+use Rattle.rota.specs.Moves.{lastOf}
+use Rattle.rota.specs.Plays.{step, ownersAfter, answer, answers, touched, drawsOf}
+use Rattle.rota.specs.Lent.{fitsUnit, frozenUnit, boardOf}
+use Rattle.rota.specs.Derived.{Plan, PlanSound, Derived, derived, knownBy, worked, uncovered, held, afresh, InStep}
+use Rattle.rota.specs.Recount.{freeFor, recounts, RotaRoom}
+use Rattle.rota.specs.declared.Move.{Move}
+use Rattle.rota.specs.declared.Move.the-variants.{Stay, Give, Trade}
+use Rattle.rota.proofs.Minutes.{known-nobody, known-person, minutes-total}
+use Rattle.rota.proofs.Plays.{play-even, play-frozen, play-covered, play-only, play-length, owners-append, answers-append}
+use Rattle.rota.proofs.Steps.{afresh-same, afresh-again, afresh-step}
+use Rattle.rota.proofs.Entered.{Recounted, recount-says, says-recount, PlayAsks, asks-sound, asks-even}
+use Rattle.rota.proofs.Asked.{Asks}
+
+-- ---- a play that is accepted
+
+module _ (P : Plan) (avail : List ℕ) (units : ℕ) (firsts frozen : List ℕ) (n : ℕ) (ks fs ss o : List ℕ) (D : Derived) (x : List ℕ)
+    (A : PlayAsks P avail units firsts frozen n ks fs ss o D x) (ds : List Draw) where
+  abbrev B : Board
+  B = boardOf (P .people) (P .slots) units avail firsts frozen
+
+  abbrev after : List ℕ
+  after = ownersAfter B o ds
+
+  sound : BoardSound B
+  sound = asks-sound P avail units firsts frozen n ks fs ss o D x A
+
+  even : Even B o
+  even = asks-even P avail units firsts frozen n ks fs ss o D x A
+
+  -- the unit of a slot
+  unit : ℕ → ℕ
+  unit k = unitOf units firsts k
+
+  in-unit : (k : ℕ) → k < P .slots → InUnit B (unitOf units firsts k) k
+  in-unit k h =
+      let I = unit-of-in (P .slots) units firsts (A .grounds .units-ok) k h in
+      record { below = I .known; from = I .from; upto = I .to }
+
+  -- frozen slots keep their owners
+  frozen-unit : (u k : ℕ) → InUnit B u k → eqb (slot frozen 0 k) 1 ≡ true → frozenUnit (P .slots) units firsts frozen u ≡ true
+  unfolding frozenUnit unitFrozen clear unfrozen
+  frozen-unit u k I z =
+      by-test (allIn (unitStart firsts u) (unitEnd (P .slots) units firsts u) (λ j. not (eqb (slot frozen 0 j) 1))) _
+      (λ t.
+      let e = in-each (unitStart firsts u) (unitEnd (P .slots) units firsts u) (λ j. not (eqb (slot frozen 0 j) 1)) t k (I .from) (I
+      .upto) in
+      absurd (mathlib.Core.Bool.false≢true (sym (ap not z) ∙ e)))
+      (λ f. ap₂ _&&_ (lt-ltb u units (I .below)) (ap not f))
+
+  pub frozen-slots-keep : (k : ℕ) → k < P .slots → eqb (slot frozen 0 k) 1 ≡ true → getD after k 0 ≡ getD o k 0
+  frozen-slots-keep k h z = play-frozen B sound o ds even (unitOf units firsts k) k (in-unit k h) (frozen-unit (unitOf units firsts
+      k) k (in-unit k h) z)
+
+  -- no covered slot becomes uncovered
+  pub covered-stays : (k : ℕ) → k < P .slots → (getD o k 0 ≡ nobody → ⊥) → getD after k 0 ≡ nobody → ⊥
+  covered-stays k h = play-covered B sound o ds even (unitOf units firsts k) k (in-unit k h)
+
+  -- only slots of units that an acting draw hands over, at its step, change owner
+  pub only-handed-over : (k : ℕ) → k < P .slots → touched B o ds (unitOf units firsts k) ≡ false → getD after k 0 ≡ getD o k 0
+  only-handed-over k h = play-only B sound o ds even (unitOf units firsts k) k (in-unit k h)
+
+  -- every owner is known and available, units are uniform, sets and minutes are right: the rota passes the recount again
+  after-even : Even B after
+  after-even = play-even B sound o ds even
+
+  owner-after : (k : ℕ) → k < P .slots → getD after k 0 ≡ ownerOf B after (unitOf units firsts k)
+  owner-after k h = after-even .same (unitOf units firsts k) k (in-unit k h)
+
+  able-at : (p u k : ℕ) → InUnit B u k → fitsUnit (P .people) (P .slots) units avail firsts p u ≡ true → available avail p k ≡ true
+  unfolding fitsUnit able
+  able-at p u k I e =
+      let a = both (ltb u units) _ e in
+      let b = both (ltb p (P .people)) _ (a .1) in
+      in-each (unitStart firsts u) (unitEnd (P .slots) units firsts u) (available avail p) (b .1) k (I .from) (I .upto)
+
+  pub owners-known : (k : ℕ) → k < P .slots → knownBy (P .people) (getD after k 0) ≡ true
+  owners-known k h =
+      by-test (eqb (getD after k 0) nobody) _
+      (λ t. ap (knownBy (P .people)) (eqb-true _ _ t) ∙ known-nobody (P .people))
+      (λ f.
+      let m = after-even .manned (unitOf units firsts k) (in-unit k h .below) (λ q. eqb-false _ _ f (owner-after k h ∙ q)) in
+      known-person (P .people) (getD after k 0) (omega (arith, owner-after k h, m .0)))
+
+  pub owners-available : (k : ℕ) → k < P .slots → freeFor avail (getD after k 0) k ≡ true
+  unfolding freeFor
+  owners-available k h =
+      by-test (eqb (getD after k 0) nobody) _ (λ t. ap (λ (b : Bool). b || available avail (getD after k 0) k) t)
+      (λ f.
+      let I = in-unit k h in
+      let m = after-even .manned (unitOf units firsts k) (I .below) (λ q. eqb-false _ _ f (owner-after k h ∙ q)) in
+      let e : available avail (getD after k 0) k ≡ true = able-at (getD after k 0) (unitOf units firsts k) k I
+      (ap (λ (w : ℕ). fitsUnit (P .people) (P .slots) units avail firsts w (unitOf units firsts k)) (owner-after k h) ∙ m .1) in
+      ap₂ _||_ f e)
+
+  pub played-recounts : recounts P avail units firsts after (afresh P after D) ≡ true
+  unfolding ownerOf
+  played-recounts =
+      let g = A .grounds .on in
+      let J = afresh-step P after D (g .sound .slots-few) (omega (arith, play-length B o ds, g .room .owners-room)) (g .room .sets-room)
+      (g .room .minutes-room) owners-known in
+      says-recount P avail units firsts after (afresh P after D)
+      record {
+        known = owners-known;
+        free = owners-available;
+        even = λ u k h a b. after-even .same u k record { below = h; from = a; upto = b };
+        sets = J .sets;
+        minutes = J .minutes;
+      }
+
+-- ---- every rota that passes the recount
+
+module _ (P : Plan) (S : PlanSound P) (avail : List ℕ) (units : ℕ) (firsts o : List ℕ) (D : Derived) (e : recounts P avail units
+    firsts o D ≡ true) where
+  counted : Recounted P avail units firsts o D
+  counted = recount-says P avail units firsts o D e
+
+  -- all persons' minutes plus the uncovered ones are the sum of the lent slots
+  pub minutes-and-uncovered : sum (P .people) (λ p. getD (D .minutes) p 0) + uncovered P o ≡ demandOf (P .slots) (P .starts) (P .ends)
+  minutes-and-uncovered =
+      ap (λ (s : ℕ). s + uncovered P o) (sum-same (P .people) (λ p. getD (D .minutes) p 0) (worked P o) (counted .minutes))
+      ∙ minutes-total P o (S .people-few) (counted .known)
+
+  module _ (R : RotaRoom (P .people) (P .slots) avail o D) (f : Fit (D .sets)) where
+    in-step : InStep P o D
+    in-step =
+        record {
+          owners-room = R .owners-room;
+          sets-room = R .sets-room;
+          minutes-room = R .minutes-room;
+          known = counted .known;
+          sets = counted .sets;
+          minutes = counted .minutes;
+        }
+
+    -- from_slots of its owners gives it back
+    pub from-slots-back : afresh P o D ≡ D
+    from-slots-back = sym (afresh-same P o D (S .slots-few) f in-step)
+
+-- ---- a single assign keeps the recount true, units aside
+
+module _ (P : Plan) (avail o : List ℕ) (D : Derived) (k w : ℕ) (A : Asks P avail o D k w) where
+  set-at : (j : ℕ) → j < P .slots → (Q : ℕ → Type 0) → (j ≡ k → Q w) → Q (getD o j 0) → Q (getD (set o k w) j 0)
+  set-at j h Q f g =
+      by-test (eqb j k) _
+      (λ t.
+      let q = eqb-true j k t in
+      subst Q (sym (ap (λ (i : ℕ). getD (set o k w) i 0) q ∙ getD-set-same o k w 0 (omega (arith, A .on .room .owners-room)))) (f q))
+      (λ n. subst Q (sym (getD-set-other o k j w 0 (λ q. eqb-false j k n q))) g)
+
+  set-known : (j : ℕ) → j < P .slots → knownBy (P .people) (getD (set o k w) j 0) ≡ true
+  set-known j h = set-at j h (λ v. knownBy (P .people) v ≡ true) (λ _. A .known) (A .recount .known j h)
+
+  pub assign-recounts : recounts P avail 0 [] (set o k w) (afresh P (set o k w) D) ≡ true
+  assign-recounts =
+      let g = A .on in
+      let J = afresh-step P (set o k w) D (g .sound .slots-few) (omega (arith, length-set o k w, g .room .owners-room)) (g .room
+      .sets-room)
+      (g .room .minutes-room) set-known in
+      says-recount P avail 0 [] (set o k w) (afresh P (set o k w) D)
+      record {
+        known = set-known;
+        free = λ j h.
+            set-at j h (λ v. freeFor avail v j ≡ true) (λ q. ap (freeFor avail w) q ∙ A .free) (A .recount .free j h);
+        even = λ u j h a b. absurd (omega arith);
+        sets = J .sets;
+        minutes = J .minutes;
+      }
+
+-- ---- a list played in two calls
+
+same-draw : (a b c x y z : ℕ) → a ≡ x → b ≡ y → c ≡ z → draw a b c ≡ draw x y z
+same-draw a b c x y z p q r = ap₂ {C = Draw} (λ (i j : ℕ). draw i j c) p q ∙ ap {B = Draw} (λ (k : ℕ). draw x y k) r
+
+-- the first n + m draws are the first n and then the m after them
+draws-split : (ks fs ss : List ℕ) (n m : ℕ) → drawsOf ks fs ss (n + m) ≡ drawsOf ks fs ss n ++ drawsOf (drop n ks) (drop n fs) (drop
+    n ss) m
+unfolding drawsOf
+draws-split ks fs ss n zero = let e : n + 0 ≡ n = omega arith in ap (drawsOf ks fs ss) e ∙ sym (append-nil (drawsOf ks fs ss n))
+draws-split ks fs ss n (suc m) =
+    let e : n + suc m ≡ suc (n + m) = omega arith in
+    let d : draw (getD ks (n + m) 0) (getD fs (n + m) 0) (getD ss (n + m) 0)
+    ≡ draw (getD (drop n ks) m 0) (getD (drop n fs) m 0) (getD (drop n ss) m 0) =
+    same-draw _ _ _ _ _ _ (sym (getD-drop n ks m 0)) (sym (getD-drop n fs m 0)) (sym (getD-drop n ss m 0)) in
+    ap (drawsOf ks fs ss) e
+    ∙ ap₂ (λ (l : List Draw) (y : Draw). l ++ (y ∷ [])) (draws-split ks fs ss n m) d
+    ∙ append-assoc (drawsOf ks fs ss n) (drawsOf (drop n ks) (drop n fs) (drop n ss) m) _
+
+module _ (B : Board) (o : List ℕ) (ks fs ss : List ℕ) (n m : ℕ) where
+  abbrev first-call : List ℕ
+  first-call = ownersAfter B o (drawsOf ks fs ss n)
+
+  abbrev rest : List Draw
+  rest = drawsOf (drop n ks) (drop n fs) (drop n ss) m
+
+  pub two-calls-owners : ownersAfter B o (drawsOf ks fs ss (n + m)) ≡ ownersAfter B first-call rest
+  two-calls-owners = ap (ownersAfter B o) (draws-split ks fs ss n m) ∙ owners-append B o (drawsOf ks fs ss n) rest
+
+  pub two-calls-answers : answers B o (drawsOf ks fs ss (n + m)) ≡ answers B o (drawsOf ks fs ss n) ++ answers B first-call rest
+  two-calls-answers = ap (answers B o) (draws-split ks fs ss n m) ∙ answers-append B o (drawsOf ks fs ss n) rest
+
+  pub two-calls-derived : (P : Plan) (D : Derived) → P .slots ≤ 1024 → 16 * P .people ≤ length (D .sets) → Fit (D .sets)
+      → afresh P (ownersAfter B first-call rest) (afresh P first-call D) ≡ afresh P (ownersAfter B o (drawsOf ks fs ss (n + m))) D
+  two-calls-derived P D few room f =
+      afresh-again P first-call (ownersAfter B first-call rest) D few room f ∙ ap (λ (l : List ℕ). afresh P l D) (sym two-calls-owners)
+
+-- ---- a swap acts exactly when none of its reasons to stay holds
+
+stay-or-act : (ts : List Bool) (m : Move) → answerOf m ≡ 0 → answerOf (stayIf ts 1 m) ≡ cond (anyOf ts) 1 0
+stay-or-act ts m e =
+    by-test (anyOf ts) _ (λ t. ap (λ (b : Bool). answerOf (cond b (Stay 1) m)) t ∙ sym (ap (λ (b : Bool). cond b 1 0) t))
+    (λ f. ap (λ (b : Bool). answerOf (cond b (Stay 1) m)) f ∙ e ∙ sym (ap (λ (b : Bool). cond b 1 0) f))
+
+pub swap-acts-exactly : (B : Board) (o : List ℕ) (f s : ℕ) → answerOf (swapped B o f s) ≡ cond (anyOf (swapStays B o f s)) 1 0
+unfolding swapped
+swap-acts-exactly B o f s = stay-or-act (swapStays B o f s) _ refl
+
+pub swap-runs-act-exactly : (B : Board) (o : List ℕ) (f s : ℕ)
+    → answerOf (runsSwapped B o f s) ≡ cond (anyOf (runsStay B o f s (firstOf B o f) (lastOf B o f) (firstOf B o s) (lastOf B o s))) 1 0
+unfolding runsSwapped
+swap-runs-act-exactly B o f s = stay-or-act (runsStay B o f s (firstOf B o f) (lastOf B o f) (firstOf B o s) (lastOf B o s)) _ refl
+
+-- ---- marked case 12, and its twin with no slot frozen
+
+-- two people who are available for both slots; two units of a slot each
+abbrev case-avail : List ℕ
+case-avail = (3 ∷ replicate 15 0) ++ (3 ∷ replicate 15 0)
+
+abbrev case-board : List ℕ → Board
+case-board frozen = boardOf 2 2 2 case-avail (0 ∷ 1 ∷ []) frozen
+
+pub case-12 : answers (case-board (2 ∷ replicate 15 0)) (0 ∷ 1 ∷ []) (draw 35 0 1 ∷ []) ≡ 1 ∷ []
+unfolding answers answer step decided anyOf swapped unowned ownerOf frozenUnit unitFrozen clear unfrozen allIn all slot bitOf
+    unitEnd fitsUnit able available
+case-12 = refl
+
+pub case-12-twin : answers (case-board (replicate 16 0)) (0 ∷ 1 ∷ []) (draw 35 0 1 ∷ []) ≡ 0 ∷ []
+unfolding answers answer step decided anyOf swapped unowned ownerOf frozenUnit unitFrozen clear unfrozen allIn all slot bitOf
+    unitEnd fitsUnit able available
+case-12-twin = refl

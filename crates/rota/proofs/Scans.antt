@@ -1,0 +1,221 @@
+-- The laws of scans that answer their first fault. Assumes nothing.
+use mathlib.Core.Path.{_≡_, refl, sym, ap, ap₂, _∙_}
+use mathlib.Core.Bool.{Bool, true, false, cond, not, _&&_, _||_}
+use mathlib.Core.List.{List}
+use mathlib.Core.Logic.{⊎-elim}
+use Prim.Native.Nat.{ℕ, zero, suc, _+_, _-_, _*_, _≤_, _<_}
+use native.Mathlib.Nat.{le-antisymm}
+use native.Mathlib.Omega.{arith}
+use borrow.Author.Tests.{eq-eqb, ne-eqb, eqb-true, eqb-false, lt-ltb, le-ltb, le-leb, lt-leb, ltb-true, ltb-false}
+use lib.Dec.{eqb, ltb, leb}
+use lib.ListN.{length, getD}
+use Rattle.paper.specs.Limits.{nobody, peopleOk}
+use Rattle.paper.specs.Count.{all, allIn, sum}
+use Rattle.paper.proofs.Logic.{by-test, lt-or-ge, below-suc, and-true, and-false, both}
+use Rattle.paper.proofs.Count.{all-each, each-all, all-fails, sum-more}
+use Rattle.slotset.specs.Slots.{slot, has}
+use Rattle.slotset.specs.Answers.{rowNo, toldAs, rowSlots}
+use Rattle.slotset.specs.declared.Told.{Told}
+use Rattle.slotset.specs.declared.Told.the-variants as told
+use Rattle.slots.specs.Lent.{minutesAt, demandOf}
+use Rattle.units.specs.Units.{unitStart, unitEnd}
+use Rattle.units.specs.Domains.{available}
+use Rattle.rota.specs.declared.Fault.{Fault}
+use Rattle.rota.specs.declared.Fault.the-variants.{Clean, Unknown, Unavailable, Uneven, WrongSet, WrongMinutes}
+use Rattle.rota.specs.Derived.{Plan, Derived, PlanSound, knownBy, portion, worked, held, lengthAt}
+use Rattle.rota.specs.Recount.{firstFail, FirstFault, freeFor, knownAt, freeAt, evenAt, setSlotAt, setAt, sameBit, minutesOkAt}
+use Rattle.rota.specs.Recount.{orFault, faultOf, recounts}
+use Rattle.rota.proofs.Minutes.{known-below, worked-part-le}
+
+-- ---- the first fault
+
+-- every number below n passes
+pub fails-none : (n : ℕ) (p : ℕ → Bool) → all n p ≡ true → firstFail n p ≡ n
+unfolding firstFail all
+fails-none zero p e = refl
+fails-none (suc n) p e = let x = both (all n p) (p n) e in simp (x .0, x .1)
+
+-- all below i pass, and i does not
+pub fails-at : (n i : ℕ) (p : ℕ → Bool) → i < n → all i p ≡ true → p i ≡ false → firstFail n p ≡ i
+unfolding firstFail
+fails-at zero i p h a f = absurd (omega arith)
+fails-at (suc n) i p h a f =
+    below-suc (firstFail (suc n) p ≡ i) h
+    (λ q.
+    let x : all n p ≡ true = ap (λ (m : ℕ). all m p) (sym q) ∙ a in
+    let y : p n ≡ false = ap p (sym q) ∙ f in
+    simp (x, y) (sym q))
+    (λ l. let x : all n p ≡ false = all-fails n i p l f in simp x (fails-at n i p l a f))
+
+-- the answer is the first fault, and only that is
+pub first-is : (n : ℕ) (p : ℕ → Bool) → FirstFault n p (firstFail n p)
+unfolding firstFail
+first-is zero p = record { within = omega arith; before = λ k h. absurd (omega arith); fails = λ h. absurd (omega arith) }
+first-is (suc n) p =
+    by-test (all n p) _
+    (λ a. by-test (p n) _
+    (λ t. simp (a, t)
+    record {
+      within = omega arith;
+      before = λ k h. below-suc (p k ≡ true) h (λ q. ap p q ∙ t) (λ l. all-each n p a k l);
+      fails = λ h. absurd (omega arith);
+    })
+    (λ f. simp (a, f) record { within = omega arith; before = λ k h. all-each n p a k h; fails = λ h. f }))
+    (λ b.
+    let F = first-is n p in
+    let l : firstFail n p < n = ⊎-elim (λ (x : firstFail n p < n). x)
+    (λ (x : n ≤ firstFail n p).
+    absurd (mathlib.Core.Bool.true≢false (sym (each-all n p (λ k h. F .before k (omega arith))) ∙ b)))
+    (lt-or-ge (firstFail n p) n) in
+    simp b record { within = omega arith; before = F .before; fails = λ h. F .fails l })
+
+pub first-only : (n : ℕ) (p : ℕ → Bool) (r : ℕ) → FirstFault n p r → r ≡ firstFail n p
+first-only n p r F =
+    ⊎-elim
+    (λ (l : r < n). sym (fails-at n r p l (each-all r p (F .before)) (F .fails l)))
+    (λ (l : n ≤ r).
+    let q : r ≡ n = le-antisymm (F .within) l in
+    q ∙ sym (fails-none n p (each-all n p (λ k h. F .before k (omega arith)))))
+    (lt-or-ge r n)
+
+-- where it is n, every number passes; where it is below, some number fails
+pub first-passes : (n : ℕ) (p : ℕ → Bool) → n ≤ firstFail n p → all n p ≡ true
+first-passes n p h = let F = first-is n p in each-all n p (λ k l. F .before k (omega arith))
+
+pub first-test : (n : ℕ) (p : ℕ → Bool) → ltb (firstFail n p) n ≡ not (all n p)
+first-test n p =
+    by-test (all n p) _
+    (λ t. let e = fails-none n p t in ap (λ (x : ℕ). ltb x n) e ∙ le-ltb n n (omega arith) ∙ sym (ap not t))
+    (λ f.
+    ⊎-elim (λ (l : firstFail n p < n). lt-ltb _ _ l ∙ sym (ap not f))
+    (λ (l : n ≤ firstFail n p). absurd (mathlib.Core.Bool.true≢false (sym (first-passes n p l) ∙ f)))
+    (lt-or-ge (firstFail n p) n))
+
+-- the loops: all below i passed
+pub scan-fails : (n i : ℕ) (p : ℕ → Bool) → i < n → all i p ≡ true → p i ≡ false → i ≡ firstFail n p
+scan-fails n i p h a f = sym (fails-at n i p h a f)
+
+pub scan-ends : (n i : ℕ) (p : ℕ → Bool) → i ≤ n → n ≤ i → all i p ≡ true → n ≡ firstFail n p
+scan-ends n i p h g a = sym (fails-none n p (ap (λ (m : ℕ). all m p) (le-antisymm g h) ∙ a))
+
+-- ---- one row of a set
+
+pub row-ok : (ws : List ℕ) (people person len : ℕ) → person < people → people ≤ 32 → len ≤ 1024 → 16 * people ≤ length ws → rowNo ws
+    people person len ≡ 0
+unfolding rowNo peopleOk
+row-ok ws people person len h few l room =
+    simp (
+      le-leb 1 people (omega arith),
+      le-leb people 32 few,
+      le-leb len 1024 l,
+      le-leb (16 * people) (length ws) room,
+      lt-ltb
+          person people h,
+    )
+
+has-says : (f : ℕ → ℕ) (len k : ℕ) → k < len → has f len k ≡ eqb (f k) 1
+unfolding has
+has-says f len k h = ap (λ (b : Bool). b && eqb (f k) 1) (lt-ltb k len h)
+
+module _ (ws : List ℕ) (people person len k : ℕ) (h : person < people) (few : people ≤ 32) (l : len ≤ 1024) (hk : k < len) (room :
+    16 * people ≤ length ws) where
+  told-says : toldAs (rowNo ws people person len) (has (rowSlots ws person) len k) ≡ cond (eqb (slot ws (16 * person) k) 1) told.Yes
+      told.No
+  unfolding toldAs
+  told-says =
+      simp (row-ok ws people person len h few l room)
+      (ap (λ (b : Bool). cond b told.Yes told.No) (has-says (rowSlots ws person) len k hk))
+
+  module _ (r : Told) (e : r ≡ toldAs (rowNo ws people person len) (has (rowSlots ws person) len k)) where
+    row-by : (b : Bool) → eqb (slot ws (16 * person) k) 1 ≡ b → r ≡ cond b told.Yes told.No
+    row-by b q = e ∙ told-says ∙ ap (λ (t : Bool). cond t told.Yes told.No) q
+
+    pub row-yes : r ≡ told.Yes → true ≡ eqb (slot ws (16 * person) k) 1
+    row-yes q =
+        by-test (eqb (slot ws (16 * person) k) 1) _ (λ t. sym t)
+        (λ f. let z : _≡_ {A = ℕ} 0 1 = cc (row-by false f) in absurd (omega arith))
+
+    pub row-no : r ≡ told.No → false ≡ eqb (slot ws (16 * person) k) 1
+    row-no q =
+        by-test (eqb (slot ws (16 * person) k) 1) _ (λ t. let z : _≡_ {A = ℕ} 0 1 = cc (row-by true t) in absurd (omega arith))
+        (λ f. sym f)
+
+    pub row-refused : (n : ℕ) → r ≡ told.Refused n → false ≡ eqb (slot ws (16 * person) k) 1
+    row-refused n q =
+        by-test (eqb (slot ws (16 * person) k) 1) _ (λ t. let z : _≡_ {A = ℕ} 0 1 = cc (row-by true t) in absurd (omega arith))
+        (λ f. sym f)
+
+-- ---- the tests of the scans
+
+pub known-test : (people : ℕ) (o : List ℕ) (k : ℕ) (b : Bool) → b ≡ knownBy people (getD o k 0) → knownAt people o k ≡ b
+unfolding knownAt
+known-test people o k b e = sym e
+
+pub free-test : (avail o : List ℕ) (k : ℕ) (b : Bool) → b ≡ freeFor avail (getD o k 0) k → freeAt avail o k ≡ b
+unfolding freeAt
+free-test avail o k b e = sym e
+
+pub free-nobody : (avail : List ℕ) (w k : ℕ) → w ≡ nobody → true ≡ freeFor avail w k
+unfolding freeFor
+free-nobody avail w k e = simp (eq-eqb w nobody e)
+
+pub free-person : (avail : List ℕ) (w k : ℕ) (b : Bool) → (w ≡ nobody → ⊥) → b ≡ eqb (slot avail (16 * w) k) 1 → b ≡ freeFor avail w k
+unfolding freeFor available
+free-person avail w k b n e = simp (ne-eqb w nobody n) e
+
+-- all of a stretch has the owner of its first slot
+module _ (slots units : ℕ) (firsts o : List ℕ) (u a e w : ℕ) (pa : a ≡ unitStart firsts u) (pe : e ≡ unitEnd slots units firsts u)
+    (pw : w ≡ getD o a 0) where
+  even-as : evenAt slots units firsts o u ≡ allIn a e (λ k. eqb (getD o k 0) w)
+  unfolding evenAt
+  even-as =
+      ap₂ (λ (x y : ℕ). allIn x y (λ k. eqb (getD o k 0) (getD o x 0))) (sym pa) (sym pe)
+      ∙ ap (λ (v : ℕ). allIn a e (λ k. eqb (getD o k 0) v)) (sym pw)
+
+  pub even-fails : false ≡ allIn a e (λ k. eqb (getD o k 0) w) → false ≡ evenAt slots units firsts o u
+  even-fails q = q ∙ sym even-as
+
+  pub even-holds : true ≡ allIn a e (λ k. eqb (getD o k 0) w) → true ≡ evenAt slots units firsts o u
+  even-holds q = q ∙ sym even-as
+
+-- slot k of a set, by the owner and by whether it is there
+bit-eq : (x : ℕ) (c : Bool) → x < 2 → eqb x (cond c 1 0) ≡ sameBit (eqb x 1) c
+bit-eq zero true h = refl
+bit-eq zero false h = refl
+bit-eq (suc zero) true h = refl
+bit-eq (suc zero) false h = refl
+bit-eq (suc (suc x)) c h = absurd (omega arith)
+
+pub member-test : (o ws : List ℕ) (p k : ℕ) (b there : Bool) → there ≡ eqb (slot ws (16 * p) k) 1 → b ≡ sameBit there (eqb (getD o k 0) p)
+    → setSlotAt o ws p k ≡ b
+unfolding setSlotAt held
+member-test o ws p k b there e q =
+    bit-eq (slot ws (16 * p) k) (eqb (getD o k 0) p) (Rattle.slotset.proofs.Puts.slot-lt ws (16 * p) k)
+    ∙ ap (λ (t : Bool). sameBit t (eqb (getD o k 0) p)) (sym e) ∙ sym q
+
+pub set-passes : (slots : ℕ) (o ws : List ℕ) (p r : ℕ) → r ≡ firstFail slots (setSlotAt o ws p) → r ≡ slots → setAt slots o ws p ≡ true
+unfolding setAt
+set-passes slots o ws p r e q = first-passes slots (setSlotAt o ws p) (omega (arith, e, q))
+
+pub set-fails : (slots : ℕ) (o ws : List ℕ) (p r : ℕ) → r ≡ firstFail slots (setSlotAt o ws p) → (r ≡ slots → ⊥) → setAt slots o ws
+    p ≡ false
+unfolding setAt
+set-fails slots o ws p r e n =
+    by-test (all slots (setSlotAt o ws p)) _ (λ t. absurd (n (e ∙ fails-none slots (setSlotAt o ws p) t))) (λ f. f)
+
+-- a person's minutes, slot by slot
+module _ (P : Plan) (o : List ℕ) (p k t r m : ℕ) (e : t ≡ sum k (λ j. portion (getD o j 0) p (lengthAt P j)))
+    (em : m ≡ minutesAt (P .starts) (P .ends) k) (d : r ≡ portion (getD o k 0) p m) where
+  pub worked-more : t + r ≡ sum (k + 1) (λ j. portion (getD o j 0) p (lengthAt P j))
+  worked-more = ap₂ _+_ e (d ∙ ap (portion (getD o k 0) p) em) ∙ sym (sum-more k (λ j. portion (getD o j 0) p (lengthAt P j)))
+
+  pub worked-fits : PlanSound P → k < P .slots → t + r ≤ 100000000
+  worked-fits S h = omega (arith, worked-more, worked-part-le P o p (k + 1) (omega arith), S .lent .demand-fits)
+
+pub minutes-test : (P : Plan) (o m : List ℕ) (p r : ℕ) → r ≡ worked P o p → getD m p 0 ≡ r → minutesOkAt P o m p ≡ true
+unfolding minutesOkAt
+minutes-test P o m p r e q = eq-eqb _ _ (q ∙ e)
+
+pub minutes-fail : (P : Plan) (o m : List ℕ) (p r : ℕ) → r ≡ worked P o p → (getD m p 0 ≡ r → ⊥) → minutesOkAt P o m p ≡ false
+unfolding minutesOkAt
+minutes-fail P o m p r e n = ne-eqb _ _ (λ q. n (q ∙ sym e))

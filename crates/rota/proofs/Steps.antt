@@ -1,0 +1,289 @@
+-- A rota stays in step: worked out afresh, and when a stretch of slots changes hands. Assumes nothing.
+use mathlib.Core.Path.{_≡_, refl, sym, ap, ap₂, _∙_, subst}
+use mathlib.Core.Logic.{⊎-elim}
+use mathlib.Core.Bool.{Bool, true, false, cond, _||_}
+use mathlib.Core.List.{List}
+use Prim.Native.Nat.{ℕ, zero, suc, _+_, _-_, _*_, _≤_, _<_}
+use native.Mathlib.Omega.{arith}
+use borrow.Author.Tests.{eq-eqb, ne-eqb, eqb-true, eqb-false, lt-ltb, le-leb}
+use lib.Dec.{eqb, ltb, leb}
+use lib.ListN.{length, getD, set, length-set}
+use lib.Seq.{getD-set-same, getD-set-other, ext-getD}
+use Rattle.paper.specs.Limits.{nobody}
+use Rattle.paper.specs.Count.{over, fill, sum}
+use Rattle.paper.proofs.Logic.{by-test, lt-or-ge}
+use Rattle.paper.proofs.Count.{length-over, getD-over, getD-over-out, length-fill, getD-fill-in, getD-fill-out}
+use Rattle.slotset.proofs.Puts.{Fit}
+use Rattle.slots.specs.Lent.{demandOf, minutesAt}
+use Rattle.slotset.specs.Slots.{putSlots, valueOf}
+use Rattle.slotset.specs.Answers.{rowNo, rowStretchNo, rowStretchOf, wordsAs}
+use Rattle.paper.specs.Limits.{peopleOk}
+use Rattle.rota.specs.Derived.{Plan, PlanSound, knownBy, portion, worked, setsFrom, Derived, derived, afresh, InStep, setFor}
+use Rattle.rota.specs.Derived.{lessAt, moreAt, stretchMinutes, lengthAt, HandedOver, OneOwner}
+use Rattle.rota.proofs.Minutes.{known-below, portion-own, portion-other, worked-over, worked-le, sum-rises}
+use Rattle.rota.proofs.Sets.{length-sets, sets-fit, sets-in, sets-again, sets-same, sets-handed}
+
+-- ---- worked out afresh
+
+pub over-again : (f g : ℕ → ℕ) (n : ℕ) (m : List ℕ) → over g n (over f n m) ≡ over g n m
+over-again f g n m =
+    ext-getD 0 (over g n (over f n m)) (over g n m)
+    (length-over g n (over f n m) ∙ length-over f n m ∙ sym (length-over g n m))
+    (λ j r.
+    let rm : j < length m = omega (arith, length-over g n (over f n m), length-over f n m) in
+    ⊎-elim
+    (λ (t : j < n). getD-over g n (over f n m) j t (omega (arith, length-over f n m)) ∙ sym (getD-over g n m j t rm))
+    (λ (u : n ≤ j). getD-over-out g n (over f n m) j u ∙ getD-over-out f n m j u ∙ sym (getD-over-out g n m j u))
+    (lt-or-ge j n))
+
+over-right : (f : ℕ → ℕ) (n : ℕ) (m : List ℕ) → ((j : ℕ) → j < n → getD m j 0 ≡ f j) → m ≡ over f n m
+over-right f n m h =
+    ext-getD 0 m (over f n m) (sym (length-over f n m))
+    (λ j r. ⊎-elim (λ (t : j < n). h j t ∙ sym (getD-over f n m j t r)) (λ (u : n ≤ j). sym (getD-over-out f n m j u)) (lt-or-ge j n))
+
+-- what is worked out afresh forgets what was there before
+pub afresh-again : (P : Plan) (o o′ : List ℕ) (D : Derived) → P .slots ≤ 1024 → 16 * P .people ≤ length (D .sets) → Fit (D .sets)
+    → afresh P o′ (afresh P o D) ≡ afresh P o′ D
+unfolding afresh
+afresh-again P o o′ D few room f =
+    ap₂ {C = Derived} derived (sets-again (P .people) (P .slots) o o′ (D .sets) few room f) (over-again (worked P o) (worked P o′)
+    (P .people) (D .minutes))
+
+-- a rota in step is the one worked out afresh from its owners
+pub afresh-same : (P : Plan) (o : List ℕ) (D : Derived) → P .slots ≤ 1024 → Fit (D .sets) → InStep P o D → D ≡ afresh P o D
+unfolding afresh
+afresh-same P o D few f J =
+    ap₂ {C = Derived} derived (sets-same (P .people) (P .slots) o (D .sets) few (J .sets-room) f (J .sets))
+    (over-right (worked P o) (P .people) (D .minutes) (J .minutes))
+
+-- what was worked out afresh is in step
+pub afresh-step : (P : Plan) (o : List ℕ) (D : Derived) → P .slots ≤ 1024 → P .slots ≤ length o → 16 * P .people ≤ length (D .sets)
+    → P .people ≤ length (D .minutes) → ((k : ℕ) → k < P .slots → knownBy (P .people) (getD o k 0) ≡ true) → InStep P o (afresh P o D)
+unfolding afresh
+afresh-step P o D few lo ls lm k =
+    record {
+      owners-room = lo;
+      sets-room = omega (arith, length-sets (P .people) (P .slots) o (D .sets));
+      minutes-room = omega (arith, length-over (worked P o) (P .people) (D .minutes));
+      known = k;
+      sets = sets-in (P .slots) o (D .sets) few (P .people) ls;
+      minutes = λ p h. getD-over (worked P o) (P .people) (D .minutes) p h (omega arith);
+    }
+
+-- lengths and words stay
+pub afresh-lengths : (P : Plan) (o : List ℕ) (D : Derived)
+    → (length (afresh P o D .sets) ≡ length (D .sets)) × (length (afresh P o D .minutes) ≡ length (D .minutes))
+unfolding afresh
+afresh-lengths P o D = (length-sets (P .people) (P .slots) o (D .sets), length-over (worked P o) (P .people) (D .minutes))
+
+pub afresh-fit : (P : Plan) (o : List ℕ) (D : Derived) → Fit (D .sets) → Fit (afresh P o D .sets)
+unfolding afresh
+afresh-fit P o D f = sets-fit (P .people) (P .slots) o (D .sets) f
+
+-- ---- the two updates of the minutes
+
+pub length-less : (w n : ℕ) (m : List ℕ) → length (lessAt w n m) ≡ length m
+unfolding lessAt
+length-less w n m = by-test (eqb w nobody) _ (λ t. simp t) (λ f. simp (f, length-set))
+
+pub length-more : (w n : ℕ) (m : List ℕ) → length (moreAt w n m) ≡ length m
+unfolding moreAt
+length-more w n m = by-test (eqb w nobody) _ (λ t. simp t) (λ f. simp (f, length-set))
+
+module _ (w n p : ℕ) (m : List ℕ) (h : p ≡ nobody → ⊥) (r : p < length m) where
+  getD-less : getD (lessAt w n m) p 0 ≡ getD m p 0 - portion w p n
+  unfolding lessAt
+  getD-less =
+      by-test (eqb w nobody) _
+      (λ t. simp t (omega (arith, portion-other w p n (λ q. h (sym q ∙ eqb-true w nobody t)))))
+      (λ f. by-test (eqb w p) _
+      (λ t.
+      let q = eqb-true w p t in
+      simp f (ap (λ (j : ℕ). getD (set m j (getD m j 0 - n)) p 0) q ∙ getD-set-same m p (getD m p 0 - n) 0 r
+      ∙ ap (λ (x : ℕ). getD m p 0 - x) (sym (ap (λ (j : ℕ). portion j p n) q ∙ portion-own p n))))
+      (λ g.
+      let q = eqb-false w p g in
+      simp f (getD-set-other m w p (getD m w 0 - n) 0 (λ x. q (sym x)) ∙ omega (arith, portion-other w p n q))))
+
+  getD-more : getD (moreAt w n m) p 0 ≡ getD m p 0 + portion w p n
+  unfolding moreAt
+  getD-more =
+      by-test (eqb w nobody) _
+      (λ t. simp t (omega (arith, portion-other w p n (λ q. h (sym q ∙ eqb-true w nobody t)))))
+      (λ f. by-test (eqb w p) _
+      (λ t.
+      let q = eqb-true w p t in
+      simp f (ap (λ (j : ℕ). getD (set m j (getD m j 0 + n)) p 0) q ∙ getD-set-same m p (getD m p 0 + n) 0 r
+      ∙ ap (λ (x : ℕ). getD m p 0 + x) (sym (ap (λ (j : ℕ). portion j p n) q ∙ portion-own p n))))
+      (λ g.
+      let q = eqb-false w p g in
+      simp f (getD-set-other m w p (getD m w 0 + n) 0 (λ x. q (sym x)) ∙ omega (arith, portion-other w p n q))))
+
+-- an entry that is no person's stays
+module _ (people w n p : ℕ) (m : List ℕ) (h : knownBy people w ≡ true) (r : people ≤ p) where
+  less-past : getD (lessAt w n m) p 0 ≡ getD m p 0
+  unfolding lessAt
+  less-past =
+      by-test (eqb w nobody) _ (λ t. simp t)
+      (λ f. simp f (getD-set-other m w p (getD m w 0 - n) 0 (λ q. omega (arith, known-below people w h (eqb-false w nobody f)))))
+
+  more-past : getD (moreAt w n m) p 0 ≡ getD m p 0
+  unfolding moreAt
+  more-past =
+      by-test (eqb w nobody) _ (λ t. simp t)
+      (λ f. simp f (getD-set-other m w p (getD m w 0 + n) 0 (λ q. omega (arith, known-below people w h (eqb-false w nobody f)))))
+
+-- ---- slots a up to e go from old to w
+
+pub record Owned (o : List ℕ) (a e old : ℕ) : Type 0 where
+  pub each : (k : ℕ) → a ≤ k → k < e → getD o k 0 ≡ old
+
+module _ (P : Plan) (S : PlanSound P) (o : List ℕ) (D : Derived) (J : InStep P o D) (a e old w : ℕ) (le : a ≤ e) (within : e ≤ P .slots)
+    (owned : Owned o a e old) (ko : knownBy (P .people) old ≡ true) (kw : knownBy (P .people) w ≡ true) where
+  abbrev t : ℕ
+  t = stretchMinutes P a e
+
+  -- the old owner has the minutes of the stretch
+  pub old-has : (p : ℕ) → (p ≡ nobody → ⊥) → portion old p t ≤ worked P o p
+  old-has p n =
+      omega (arith, worked-over P o p a e old nobody le within (J .owners-room) (owned .each), portion-other nobody p t (λ q. n (sym q)))
+
+  pub old-room : (old ≡ nobody → ⊥) → (old < length (D .minutes)) × (t ≤ getD (D .minutes) old 0)
+  old-room n =
+      let b = known-below (P .people) old ko n in
+      (omega (arith, J .minutes-room), omega (arith, J .minutes old b, old-has old n, portion-own old t))
+
+  pub new-room : (w ≡ nobody → ⊥) → (w < length (lessAt old t (D .minutes))) × (getD (lessAt old t (D .minutes)) w 0 + t ≤ 200000000)
+  new-room n =
+      let b = known-below (P .people) w kw n in
+      let r : w < length (D .minutes) = omega (arith, J .minutes-room) in
+      let whole = worked-le P (fill w a (e - a) o) w in (
+        omega (arith, length-less old t (D .minutes)),
+        omega (
+          arith,
+          getD-less old t w (D .minutes) n r,
+          J .minutes w b,
+          worked-le P o w,
+          S .lent .demand-fits,
+          old-has w n,
+          whole,
+          worked-over P o w a e old w le within (J .owners-room) (owned .each),
+          portion-own w t,
+        ),
+      )
+
+  minutes-handed : moreAt w t (lessAt old t (D .minutes)) ≡ over (worked P (fill w a (e - a) o)) (P .people) (D .minutes)
+  minutes-handed =
+      let m = D .minutes in
+      let l = lessAt old t m in
+      let f = worked P (fill w a (e - a) o) in
+      ext-getD 0 (moreAt w t l) (over f (P .people) m)
+      (length-more w t l ∙ length-less old t m ∙ sym (length-over f (P .people) m))
+      (λ p r.
+      let rl : p < length l = omega (arith, length-more w t l) in
+      let rm : p < length m = omega (arith, length-less old t m) in
+      ⊎-elim
+      (λ (h : p < P .people).
+      let n : p ≡ nobody → ⊥ = λ q. omega (arith, S .people-few) in
+      let x = getD-more w t p l n rl in
+      let y = getD-less old t p m n rm in
+      let z = worked-over P o p a e old w le within (J .owners-room) (owned .each) in
+      omega (arith, x, y, z, J .minutes p h, old-has p n, getD-over f (P .people) m p h rm))
+      (λ (h : P .people ≤ p).
+      more-past (P .people) w t p l kw h ∙ less-past (P .people) old t p m ko h ∙ sym (getD-over-out f (P .people) m p h))
+      (lt-or-ge p (P .people)))
+
+  pub handed-known : (k : ℕ) → k < P .slots → knownBy (P .people) (getD (fill w a (e - a) o) k 0) ≡ true
+  handed-known k h =
+      ⊎-elim
+      (λ (x : k < a). ap (knownBy (P .people)) (getD-fill-out w a (e - a) o k (λ u v. omega arith)) ∙ J .known k h)
+      (λ (x : a ≤ k).
+      ⊎-elim
+      (λ (y : k < e). ap (knownBy (P .people)) (getD-fill-in w a (e - a) o k x (omega arith) (omega (arith, J .owners-room))) ∙ kw)
+      (λ (y : e ≤ k). ap (knownBy (P .people)) (getD-fill-out w a (e - a) o k (λ u v. omega arith)) ∙ J .known k h)
+      (lt-or-ge k e))
+      (lt-or-ge k a)
+
+  -- both columns, after the updates, are those worked out afresh
+  pub handed-over : (f : Fit (D .sets)) (s m : List ℕ) → s ≡ setFor 1 w a e (setFor 0 old a e (D .sets)) → m ≡ moreAt w t (lessAt
+      old t (D .minutes))
+      → derived s m ≡ afresh P (fill w a (e - a) o) D
+  unfolding afresh
+  handed-over f s m p q =
+      ap₂ {C = Derived} derived
+      (p ∙ sets-handed (P .people) (P .slots) a e old w o (D .sets) (S .slots-few) le within (J .owners-room) (S .people-few) (J
+      .sets-room) f
+      (J .sets) (owned .each) (known-below (P .people) old ko) (known-below (P .people) w kw))
+      (q ∙ minutes-handed)
+
+  pub handed-step : InStep P (fill w a (e - a) o) (afresh P (fill w a (e - a) o) D)
+  handed-step =
+      afresh-step P (fill w a (e - a) o) D (S .slots-few) (omega (arith, J .owners-room, length-fill w a (e - a) o)) (J .sets-room)
+      (J .minutes-room)
+      handed-known
+
+  -- the owners and both columns at the end
+  pub handed-done : (f : Fit (D .sets)) (o′ s m : List ℕ) → o′ ≡ fill w a (e - a) o → s ≡ setFor 1 w a e (setFor 0 old a e (D .sets))
+      → m ≡ moreAt w t (lessAt old t (D .minutes)) → HandedOver P o D a e w o′ (derived s m)
+  handed-done f o′ s m p q r =
+      let x : derived s m ≡ afresh P o′ D = handed-over f s m q r ∙ ap (λ (l : List ℕ). afresh P l D) (sym p) in
+      record {
+        owners = p;
+        derived = x;
+        step = subst (λ (d : Derived). InStep P o′ d) (sym x) (subst (λ (l : List ℕ). InStep P l (afresh P l D)) (sym p) handed-step);
+      }
+
+-- ---- one call of the row's stretch, and the minutes of a stretch
+
+pub row-put : (v w a e people len : ℕ) (ws : List ℕ) → 1 ≤ people → people ≤ 32 → len ≤ 1024 → e ≤ len → 16 * people ≤ length ws
+    → knownBy people w ≡ true → (w ≡ nobody → ⊥) → rowStretchOf v ws people w len a e ≡ setFor v w a e ws
+unfolding rowStretchOf wordsAs rowStretchNo rowNo peopleOk setFor
+row-put v w a e people len ws h1 h2 h3 h4 h5 k n =
+    simp (
+      le-leb 1 people h1,
+      le-leb people 32 h2,
+      le-leb len 1024 h3,
+      le-leb (16 * people) (length ws) h5,
+      lt-ltb w people (known-below people w k n),
+      le-leb e len h4,
+      mathlib.Core.Bool.or-true (leb e a),
+      ne-eqb w nobody n,
+    )
+
+pub row-none : (v w a e : ℕ) (ws : List ℕ) → w ≡ nobody → ws ≡ setFor v w a e ws
+unfolding setFor
+row-none v w a e ws h = simp (eq-eqb w nobody h)
+
+sum-after : (a n : ℕ) (f : ℕ → ℕ) → sum a f + sum n (λ j. f (a + j)) ≡ sum (a + n) f
+unfolding sum
+sum-after a zero f = let e : a + 0 ≡ a = omega arith in omega (arith, ap (λ (x : ℕ). sum x f) e)
+sum-after a (suc n) f = let e : a + suc n ≡ suc (a + n) = omega arith in omega (arith, sum-after a n f, ap (λ (x : ℕ). sum x f) e)
+
+pub stretch-le : (P : Plan) (a e : ℕ) → a ≤ e → e ≤ P .slots → stretchMinutes P a e ≤ demandOf (P .slots) (P .starts) (P .ends)
+unfolding stretchMinutes demandOf
+stretch-le P a e h g =
+    let x : a + (e - a) ≡ e = omega arith in
+    let y : e + (P .slots - e) ≡ P .slots = omega arith in
+    omega (
+      arith,
+      sum-after a (e - a) (lengthAt P),
+      ap (λ (z : ℕ). sum z (lengthAt P)) x,
+      sum-rises e (P .slots - e) (lengthAt P),
+      ap (λ (z : ℕ). sum z (lengthAt P)) y,
+    )
+
+pub stretch-none : (P : Plan) (a : ℕ) → 0 ≡ stretchMinutes P a a
+unfolding stretchMinutes sum
+stretch-none P a = let z : a - a ≡ 0 = omega arith in sym (ap (λ (n : ℕ). sum n (λ j. lengthAt P (a + j))) z)
+
+pub stretch-more : (P : Plan) (a k t m : ℕ) → a ≤ k → t ≡ stretchMinutes P a k → m ≡ minutesAt (P .starts) (P .ends) k → t + m ≡
+    stretchMinutes P a (k + 1)
+unfolding stretchMinutes sum
+stretch-more P a k t m h p q =
+    let z : k + 1 - a ≡ suc (k - a) = omega arith in
+    let y : a + (k - a) ≡ k = omega arith in
+    omega (arith, p, q, ap (λ (n : ℕ). sum n (λ j. lengthAt P (a + j))) z, ap (lengthAt P) y)
+
+pub bit-of : (b : Bool) → valueOf b < 2
+bit-of true = omega arith
+bit-of false = omega arith

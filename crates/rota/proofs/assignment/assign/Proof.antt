@@ -1,0 +1,99 @@
+-- `rota::assignment::assign` meets its contract. Assumes nothing.
+use mathlib.Core.Path.{sym, _∙_}
+use native.Mathlib.Omega.{arith}
+use borrow.Author.Needs.{needs}
+use Rattle.rota.specs.Derived.{plan, derived}
+use Rattle.rota.proofs.Stepping.{over-lengths}
+use Rattle.rota.proofs.Asked.{assign-asks, asks-one, asks-in-step, assigned-no, assigned-yes}
+use Rattle.rota.proofs.assignment.assign.Statement.{statement}
+use Rattle.rota.proofs.assignment.assign.Tie as tie
+
+assign-no-requires : tie.Need-assign-no-requires
+assign-no-requires c κs = search needs
+
+add-hand-over : tie.Need-add-hand-over
+add-hand-over c =
+    let at-args = c .before .before .before .before .before .before .before .before .before .before .before .before .before
+    .before .args in
+    let at-assign-no = c .before .before .before .before .assign-no in
+    let at-if1 = c .before .before .before .if1 in
+    let A = assign-asks (plan (at-args .people) (at-args .slots) (at-args .starts .now) (at-args .ends .now)) (at-args .avail
+    .now) (at-args .owners .now) (derived (at-args .sets .now) (at-args .minutes .now)) (at-args .slot) (at-args .owner)
+    (sym (at-assign-no .ensures) ∙ (at-if1 .taken)) in
+    omega (arith, A .slot, A .on .sound .slots-few)
+
+hand-over-requires : tie.Need-hand-over-requires
+hand-over-requires c κs =
+    let at-args = c .before .before .before .before .before .before .before .before .before .before .before .before .before
+    .before .args in
+    let at-assign-no = c .before .before .before .before .assign-no in
+    let at-if1 = c .before .before .before .if1 in
+    let A = assign-asks (plan (at-args .people) (at-args .slots) (at-args .starts .now) (at-args .ends .now)) (at-args .avail
+    .now) (at-args .owners .now) (derived (at-args .sets .now) (at-args .minutes .now)) (at-args .slot) (at-args .owner)
+    (sym (at-assign-no .ensures) ∙ (at-if1 .taken)) in (
+      A .on .sound,
+      (
+        asks-in-step (plan (at-args .people) (at-args .slots) (at-args .starts .now) (at-args .ends .now)) (at-args
+            .avail .now) (at-args .owners .now) (derived (at-args .sets .now) (at-args .minutes .now)) (at-args .slot) (at-args
+            .owner) A,
+        (
+          asks-one (plan (at-args .people) (at-args .slots) (at-args .starts .now) (at-args .ends .now)) (at-args
+              .avail .now) (at-args .owners .now) (derived (at-args .sets .now) (at-args .minutes .now)) (at-args .slot) (at-args
+              .owner) A,
+          A .known,
+        ),
+      ),
+    )
+
+same-length : tie.Need-same-length
+same-length c = over-lengths _ _ _ _ _ _ _ _ (c .before .before .before .before .before .before .hand-over .ensures) .0
+
+same-length-2 : tie.Need-same-length-2
+same-length-2 c = over-lengths _ _ _ _ _ _ _ _ (c .before .before .before .before .before .before .hand-over .ensures) .1
+
+same-length-3 : tie.Need-same-length-3
+same-length-3 c = over-lengths _ _ _ _ _ _ _ _ (c .before .before .before .before .before .before .hand-over .ensures) .2
+
+returns : tie.Need-returns
+returns c =
+    let at-args = c .before .before .before .before .before .before .before .before .before .before .before .before .before
+    .before .before .before .before .before .before .before .before .args in
+    let at-assign-no = c .before .before .before .before .before .before .before .before .before .before .before .assign-no in
+    let at-if1 = c .before .before .before .before .before .before .before .before .before .before .if1 in
+    let at-hand-over = c .before .before .before .before .before .before .hand-over in
+    assigned-yes (plan (at-args .people) (at-args .slots) (at-args .starts .now) (at-args .ends .now)) (at-args .avail .now)
+    (at-args .owners .now) (derived (at-args .sets .now) (at-args .minutes .now)) (at-args .slot) (at-args .owner) _
+    (at-assign-no .ensures) _ _ (at-if1 .taken) (at-hand-over .ensures)
+
+same-length-4 : tie.Need-same-length-4
+same-length-4 c = search needs
+
+same-length-5 : tie.Need-same-length-5
+same-length-5 c = search needs
+
+same-length-6 : tie.Need-same-length-6
+same-length-6 c = search needs
+
+returns-2 : tie.Need-returns-2
+returns-2 c =
+    let at-args = c .before .before .before .before .before .before .before .before .before .before .before .args in
+    let at-assign-no = c .before .assign-no in
+    assigned-no (plan (at-args .people) (at-args .slots) (at-args .starts .now) (at-args .ends .now)) (at-args .avail .now)
+    (at-args .owners .now) (derived (at-args .sets .now) (at-args .minutes .now)) (at-args .slot) (at-args .owner) _
+    (at-assign-no .ensures) (c .if1 .left)
+
+pub assign-spec : {M : Type 1} → statement M
+assign-spec =
+    tie.close
+    (tie.spec
+    assign-no-requires
+    add-hand-over
+    hand-over-requires
+    same-length
+    same-length-2
+    same-length-3
+    returns
+    same-length-4
+    same-length-5
+    same-length-6
+    returns-2)

@@ -1,0 +1,46 @@
+-- `rota::assignment::give_to` meets its contract. Assumes nothing.
+use native.Mathlib.Omega.{arith}
+use borrow.Author.Needs.{needs}
+use borrow.Author.Tests.{eq-eqb, ne-eqb}
+use Rattle.rota.specs.Derived.{moreAt}
+use Rattle.rota.proofs.assignment.give_to.Statement.{statement}
+use Rattle.rota.proofs.assignment.give_to.Tie as tie
+
+returns : tie.Need-returns
+unfolding moreAt
+returns c = simp (eq-eqb _ _ (c .if1 .taken))
+
+mul-minutes : tie.Need-mul-minutes
+mul-minutes c = search needs
+
+slice-read-minutes : tie.Need-slice-read-minutes
+slice-read-minutes c = (c .before .before .pre) (c .before .if1 .left) .0
+
+add-minutes : tie.Need-add-minutes
+add-minutes c = let h = (c .before .before .pre) (c .before .if1 .left) in omega arith
+
+mul-minutes-2 : tie.Need-mul-minutes-2
+mul-minutes-2 c = search needs
+
+slice-write-minutes : tie.Need-slice-write-minutes
+slice-write-minutes c = (c .before .before .pre) (c .before .if1 .left) .0
+
+same-length : tie.Need-same-length
+same-length c = search needs
+
+returns-2 : tie.Need-returns-2
+unfolding moreAt
+returns-2 c = simp (ne-eqb _ _ (c .before .if1 .left))
+
+pub give-to-spec : {M : Type 1} → statement M
+give-to-spec =
+    tie.close
+    (tie.spec
+    returns
+    mul-minutes
+    slice-read-minutes
+    add-minutes
+    mul-minutes-2
+    slice-write-minutes
+    same-length
+    returns-2)

@@ -1,0 +1,75 @@
+-- `rota::recount::first_unavailable` meets its contract. Assumes nothing.
+use mathlib.Core.Path.{_≡_, _∙_}
+use mathlib.Core.Bool.{true}
+use Prim.Native.Nat.{_-_, _≤_}
+use native.Mathlib.Omega.{arith}
+use borrow.Author.Needs.{needs}
+use Rattle.paper.specs.Count.{all}
+use Rattle.paper.proofs.Count.{all-none, all-more, all-each}
+use Rattle.rota.specs.Recount.{knownAt, freeAt}
+use Rattle.rota.proofs.Scans.{scan-fails, scan-ends, free-test}
+use Rattle.rota.proofs.recount.first_unavailable.Statement.{statement}
+use Rattle.rota.proofs.recount.first_unavailable.Tie as tie
+
+abbrev Inv-loop : tie.InvT-loop
+Inv-loop people slots avail owners k₀ k = (k ≤ slots) × (all k (freeAt avail owners) ≡ true)
+
+abbrev μ-loop : tie.MeasureT-loop
+μ-loop people slots avail owners k₀ k = slots - k
+
+loop-holds : tie.Need-loop-holds Inv-loop μ-loop
+loop-holds c = (search needs, all-none _)
+
+shared-slice-read-free-for : tie.Need-shared-slice-read-free-for Inv-loop μ-loop
+shared-slice-read-free-for c = search needs
+
+free-for-requires : tie.Need-free-for-requires Inv-loop μ-loop
+unfolding knownAt
+free-for-requires c κs =
+    let at-pre = c .before .before .before .before .before .pre in
+    let at-loop = c .before .before .loop in
+    let at-loop-test = c .before .loop-test in (
+      all-each _ _ (at-pre .1) (at-loop .k) (at-loop-test .taken),
+      (at-pre .0 .0),
+      (at-pre .0 .1),
+      (at-loop-test .taken),
+      (at-pre
+          .0 .3),
+    )
+
+add-k : tie.Need-add-k Inv-loop μ-loop
+add-k c = search needs
+
+loop-less : tie.Need-loop-less Inv-loop μ-loop
+loop-less c = omega arith
+
+loop-again : tie.Need-loop-again Inv-loop μ-loop
+loop-again c =
+    let at-loop = c .before .before .before .before .loop in
+    let at-free-for = c .before .free-for in
+    (omega arith, all-more _ _ (at-loop .inv .1) (free-test _ _ _ _ (at-free-for .ensures) ∙ (c .if1 .taken)))
+
+returns : tie.Need-returns Inv-loop μ-loop
+returns c =
+    let at-loop-test = c .before .before .before .loop-test in
+    let at-loop = c .before .before .before .before .loop in
+    let at-free-for = c .before .free-for in
+    scan-fails _ _ _ (at-loop-test .taken) (at-loop .inv .1) (free-test _ _ _ _ (at-free-for .ensures) ∙ (c .if1 .left))
+
+returns-2 : tie.Need-returns-2 Inv-loop μ-loop
+returns-2 c = scan-ends _ _ _ (c .before .loop .inv .0) (c .loop-test .left) (c .before .loop .inv .1)
+
+pub first-unavailable-spec : {M : Type 1} → statement M
+first-unavailable-spec =
+    tie.close
+    (tie.spec
+    Inv-loop
+    μ-loop
+    loop-holds
+    shared-slice-read-free-for
+    free-for-requires
+    add-k
+    loop-less
+    loop-again
+    returns
+    returns-2)

@@ -1,0 +1,122 @@
+-- `rota::recount::recount` meets its contract. Assumes nothing.
+use mathlib.Core.Path.{sym, ap, ap₂, _∙_}
+use mathlib.Core.Bool.{Bool, _&&_}
+use borrow.Author.Needs.{needs}
+use lib.Dec.{leb}
+use lib.ListN.{length}
+use Rattle.rota.specs.Derived.{plan, derived}
+use Rattle.rota.proofs.Entered.{ground-same}
+use Rattle.rota.proofs.Asked.{recount-grounds, recount-stops, recount-10, recount-0}
+use Rattle.units.proofs.Units.{unit-some, unit-within}
+use Rattle.rota.proofs.recount.recount.Statement.{statement}
+use Rattle.rota.proofs.recount.recount.Tie as tie
+
+room-ok-requires : tie.Need-room-ok-requires
+room-ok-requires c κs = search needs
+
+both-requires : tie.Need-both-requires
+both-requires c κs = search needs
+
+slots-ok-requires : tie.Need-slots-ok-requires
+slots-ok-requires c κs = search needs
+
+units-ok-requires : tie.Need-units-ok-requires
+units-ok-requires c κs = search needs
+
+both-requires-2 : tie.Need-both-requires-2
+both-requires-2 c κs = search needs
+
+counts-ok-requires : tie.Need-counts-ok-requires
+counts-ok-requires c κs = search needs
+
+ground-requires : tie.Need-ground-requires
+ground-requires c κs = search needs
+
+recount-ok-requires : tie.Need-recount-ok-requires
+recount-ok-requires c κs =
+    let at-args = c .before .before .before .before .before .before .before .before .before .before .before .before .before
+    .before .before .args in
+    let at-ground = c .before .ground in
+    let at-counts-ok = c .before .before .counts-ok in
+    let at-both = c .before .before .before .before .before .before .both in
+    let at-room-ok = c .before .before .before .before .before .before .before .room-ok in
+    let at-both2 = c .before .before .before .both2 in
+    let at-slots-ok = c .before .before .before .before .before .slots-ok in
+    let at-units-ok = c .before .before .before .before .units-ok in
+    let g = recount-grounds (plan (at-args .people) (at-args .slots) (at-args .starts .now) (at-args .ends .now)) (at-args
+    .avail .now) (at-args .units) (at-args .firsts .now) (at-args .owners .now) (derived (at-args .sets .now) (at-args
+    .minutes .now)) (sym ((at-ground .ensures) ∙ ground-same _ _ _ _ _ _ (at-counts-ok .ensures) ((at-both .ensures) ∙ ap (λ
+    (b : Bool). b && leb (at-args .units) (length (at-args .firsts .now))) (at-room-ok .ensures)) ((at-both2 .ensures) ∙ ap₂
+    _&&_ (at-slots-ok .ensures) (at-units-ok .ensures))) ∙ (c .if1 .taken)) in
+    (g .0 .sound, (g .0 .room, λ u h. (unit-some _ _ _ (g .1) u h, unit-within _ _ _ (g .1) u h)))
+
+returns : tie.Need-returns
+returns c =
+    let at-args = c .before .before .before .before .before .before .before .before .before .before .before .before .before
+    .before .before .before .before .args in
+    let at-ground = c .before .before .before .ground in
+    let at-counts-ok = c .before .before .before .before .counts-ok in
+    let at-both = c .before .before .before .before .before .before .before .before .both in
+    let at-room-ok = c .before .before .before .before .before .before .before .before .before .room-ok in
+    let at-both2 = c .before .before .before .before .before .both2 in
+    let at-slots-ok = c .before .before .before .before .before .before .before .slots-ok in
+    let at-units-ok = c .before .before .before .before .before .before .units-ok in
+    let at-if1 = c .before .before .if1 in
+    let at-recount-ok = c .before .recount-ok in
+    recount-0 (plan (at-args .people) (at-args .slots) (at-args .starts .now) (at-args .ends .now)) (at-args .avail .now)
+    (at-args .units) (at-args .firsts .now) (at-args .owners .now) (derived (at-args .sets .now) (at-args .minutes .now)) _
+    ((at-ground .ensures) ∙ ground-same _ _ _ _ _ _ (at-counts-ok .ensures) ((at-both .ensures) ∙ ap (λ (b : Bool). b && leb
+    (at-args .units) (length (at-args .firsts .now))) (at-room-ok .ensures)) ((at-both2 .ensures) ∙ ap₂ _&&_ (at-slots-ok
+    .ensures) (at-units-ok .ensures))) (at-if1 .taken) _ (at-recount-ok .ensures) (c .if2 .taken)
+
+returns-2 : tie.Need-returns-2
+returns-2 c =
+    let at-args = c .before .before .before .before .before .before .before .before .before .before .before .before .before
+    .before .before .before .before .args in
+    let at-ground = c .before .before .before .ground in
+    let at-counts-ok = c .before .before .before .before .counts-ok in
+    let at-both = c .before .before .before .before .before .before .before .before .both in
+    let at-room-ok = c .before .before .before .before .before .before .before .before .before .room-ok in
+    let at-both2 = c .before .before .before .before .before .both2 in
+    let at-slots-ok = c .before .before .before .before .before .before .before .slots-ok in
+    let at-units-ok = c .before .before .before .before .before .before .units-ok in
+    let at-if1 = c .before .before .if1 in
+    let at-recount-ok = c .before .recount-ok in
+    recount-10 (plan (at-args .people) (at-args .slots) (at-args .starts .now) (at-args .ends .now)) (at-args .avail .now)
+    (at-args .units) (at-args .firsts .now) (at-args .owners .now) (derived (at-args .sets .now) (at-args .minutes .now)) _
+    ((at-ground .ensures) ∙ ground-same _ _ _ _ _ _ (at-counts-ok .ensures) ((at-both .ensures) ∙ ap (λ (b : Bool). b && leb
+    (at-args .units) (length (at-args .firsts .now))) (at-room-ok .ensures)) ((at-both2 .ensures) ∙ ap₂ _&&_ (at-slots-ok
+    .ensures) (at-units-ok .ensures))) (at-if1 .taken) _ (at-recount-ok .ensures) (c .if2 .left)
+
+returns-3 : tie.Need-returns-3
+returns-3 c =
+    let at-args = c .before .before .before .before .before .before .before .before .before .before .before .before .before
+    .before .before .args in
+    let at-ground = c .before .ground in
+    let at-counts-ok = c .before .before .counts-ok in
+    let at-both = c .before .before .before .before .before .before .both in
+    let at-room-ok = c .before .before .before .before .before .before .before .room-ok in
+    let at-both2 = c .before .before .before .both2 in
+    let at-slots-ok = c .before .before .before .before .before .slots-ok in
+    let at-units-ok = c .before .before .before .before .units-ok in
+    recount-stops (plan (at-args .people) (at-args .slots) (at-args .starts .now) (at-args .ends .now)) (at-args .avail .now)
+    (at-args .units) (at-args .firsts .now) (at-args .owners .now) (derived (at-args .sets .now) (at-args .minutes .now)) _
+    ((at-ground .ensures) ∙ ground-same _ _ _ _ _ _ (at-counts-ok .ensures) ((at-both .ensures) ∙ ap (λ (b : Bool). b && leb
+    (at-args .units) (length (at-args .firsts .now))) (at-room-ok .ensures)) ((at-both2 .ensures) ∙ ap₂ _&&_ (at-slots-ok
+    .ensures) (at-units-ok .ensures))) (c .if1 .left)
+
+pub recount-spec : {M : Type 1} → statement M
+recount-spec =
+    tie.close
+    (tie.spec
+    room-ok-requires
+    both-requires
+    slots-ok-requires
+    units-ok-requires
+    both-requires-2
+    counts-ok-requires
+    ground-requires
+    recount-ok-requires
+    returns
+    returns-2
+    returns-3)

@@ -1,0 +1,52 @@
+-- The board that lent units, availability and frozen flags make. Assumes nothing.
+use mathlib.Core.Path.{_≡_}
+use mathlib.Core.Bool.{Bool, cond, _&&_, _||_}
+use mathlib.Core.List.{List}
+use Prim.Native.Nat.{ℕ, _≤_, _<_}
+use lib.Dec.{eqb, ltb}
+use Rattle.units.specs.Units.{unitStart, unitEnd}
+use Rattle.units.specs.Domains.{able, clear, unitFrozen}
+use Rattle.rota.specs.Board.{Board}
+use Rattle.rota.specs.Ready.{inMask, fitsBy, frozenBy}
+
+-- a known person is available for every slot of a unit
+unfoldable pub fitsUnit : ℕ → ℕ → ℕ → List ℕ → List ℕ → ℕ → ℕ → Bool
+fitsUnit people slots units avail firsts p u =
+    ltb u units && (ltb p people && able avail (unitStart firsts u) (unitEnd slots units firsts u) p)
+
+-- some slot of a unit is frozen
+unfoldable pub frozenUnit : ℕ → ℕ → List ℕ → List ℕ → ℕ → Bool
+frozenUnit slots units firsts frozen u = ltb u units && unitFrozen frozen slots units firsts u
+
+abbrev pub boardOf : ℕ → ℕ → ℕ → List ℕ → List ℕ → List ℕ → Board
+boardOf people slots units avail firsts frozen =
+    record {
+      people = people;
+      slots = slots;
+      units = units;
+      from = unitStart firsts;
+      upto = unitEnd slots units firsts;
+      fits = fitsUnit people slots units avail firsts;
+      frozen = frozenUnit slots units firsts frozen;
+    }
+
+-- ---- what is worked out once a call
+
+-- mask has the known people who are available from slot a up to e
+pub record UnitMask (avail : List ℕ) (people a e mask : ℕ) : Type 0 where
+  pub each : (p : ℕ) → inMask mask p ≡ ltb p people && able avail a e p
+
+-- r has the people of mask and one more
+pub record WithPerson (mask person r : ℕ) : Type 0 where
+  pub each : (p : ℕ) → inMask r p ≡ inMask mask p || eqb p person
+
+-- the mark of a unit from slot a up to e
+unfoldable pub markOf : List ℕ → ℕ → ℕ → ℕ
+markOf frozen a e = cond (clear frozen a e) 0 1
+
+-- the masks and the marks are those of the definitions
+pub record FitsRight (people slots units : ℕ) (avail firsts fits : List ℕ) : Type 0 where
+  pub each : (p u : ℕ) → fitsBy fits p u ≡ fitsUnit people slots units avail firsts p u
+
+pub record FrozenRight (slots units : ℕ) (firsts frozen flags : List ℕ) : Type 0 where
+  pub each : (u : ℕ) → frozenBy flags u ≡ frozenUnit slots units firsts frozen u

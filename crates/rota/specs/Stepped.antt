@@ -1,0 +1,31 @@
+-- What one draw, and a list of draws, leave in the lent columns. Assumes nothing.
+use mathlib.Core.Path.{_≡_}
+use mathlib.Core.List.{List}
+use Prim.Native.Nat.{ℕ, _≤_}
+use lib.ListN.{length}
+use Rattle.rota.specs.Board.{Board, Even}
+use Rattle.rota.specs.Moves.{Draw}
+use Rattle.rota.specs.Plays.{step, answer, ownersAfter, answers, written}
+use Rattle.rota.specs.Derived.{Plan, Derived, afresh, InStep}
+
+-- one draw: its answer, its owners, and sets and minutes worked out afresh from them
+pub record Stepped (P : Plan) (B : Board) (o : List ℕ) (D : Derived) (d : Draw) (r : ℕ) (o′ : List ℕ) (D′ : Derived) : Type 0 where
+  pub answer : r ≡ answer B o d
+  pub owners : o′ ≡ step B o d
+  pub derived : D′ ≡ afresh P o′ D
+  pub in-step : InStep P o′ D′
+
+-- a list of draws
+pub record Ran (P : Plan) (B : Board) (o : List ℕ) (D : Derived) (x : List ℕ) (ds : List Draw) (o′ : List ℕ) (D′ : Derived) (x′ :
+    List ℕ) : Type 0 where
+  pub owners : o′ ≡ ownersAfter B o ds
+  pub derived : D′ ≡ afresh P o′ D
+  pub answers : x′ ≡ written (answers B o ds) x
+  pub in-step : InStep P o′ D′
+
+-- room in the columns of draws and answers
+pub record DrawRoom (n : ℕ) (ks fs ss x : List ℕ) : Type 0 where
+  pub kinds : n ≤ length ks
+  pub firsts : n ≤ length fs
+  pub seconds : n ≤ length ss
+  pub answers : n ≤ length x

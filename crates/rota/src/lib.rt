@@ -1,0 +1,48 @@
+// A rota: who owns which slot, with each person's set of slots and minutes; the five moves, and a play of many draws.
+
+pub mod assignment;
+mod checks;
+mod moves;
+pub mod play;
+pub mod recount;
+
+// One of a list of people: nobody is on it, the choice lies beyond it, or this person.
+pub enum Pick {
+    Nobody,
+    Beyond,
+    Person(u8),
+}
+
+// What a draw does. Stay answers 1 or 2; a stretch of slots goes from its first up to, without, its end.
+pub enum Move {
+    Stay(u8),
+    Give {
+        from: usize,
+        upto: usize,
+        to: u8,
+    },
+    Trade {
+        from: usize,
+        upto: usize,
+        to: u8,
+        from2: usize,
+        upto2: usize,
+        to2: u8,
+    },
+}
+
+// What the recount finds, and where: the lowest slot, unit or person at fault, and for a set that person's lowest slot.
+pub enum Fault {
+    Clean,
+    Unknown(usize),
+    Unavailable(usize),
+    Uneven(usize),
+    WrongSet { person: usize, slot: usize },
+    WrongMinutes(usize),
+}
+
+// A figure that was asked for.
+pub enum Figure {
+    Is(u64),
+    Refused(u8),
+}

@@ -1,0 +1,545 @@
+// The five moves: each judges a draw and says what to do; nothing is written here.
+use crate::Move;
+use crate::Pick;
+ghost use mathlib.Core.Path.{_≡_};
+ghost use mathlib.Core.Bool.{not, _&&_};
+ghost use Prim.Native.Nat.{ℕ, suc, _+_, _-_, _<_, _≤_};
+ghost use lib.Dec.{eqb};
+ghost use lib.ListN.{length, getD};
+ghost use Rattle.paper.specs.Count.{allIn, among};
+ghost use Rattle.units.specs.Units.{unitStart, unitEnd};
+ghost use Rattle.rota.specs.Board.{ownerOf, runStart, runEnd};
+ghost use Rattle.rota.specs.Ready.{ready, inMask, fitsBy, frozenBy, Cover, runsFit};
+ghost use Rattle.rota.specs.Moves.{draw, movable, firstOf, lastOf, picked, reassigned, swapped, runReassigned, runsSwapped};
+ghost use Rattle.rota.specs.Moves.{grown, shrunk, shifted, decided};
+
+// The owner of a unit: that of its first slot.
+fn owner_of(firsts: &[u16], owners: &[u8], unit: usize) -> u8
+    ensures { λ r. ⌜ r ≡ getD (now (owners .entry)) (unitStart (now (firsts .entry)) unit) 0 ⌝ }
+{
+    let slot = units::start_of(firsts, unit);
+    if slot < owners.len() { owners[slot] } else { 0 }
+}
+
+// Whether a unit is frozen.
+fn is_frozen(frozen: &[u8], unit: usize) -> bool
+    ensures { λ r. ⌜ r ≡ frozenBy (now (frozen .entry)) unit ⌝ }
+{
+    if unit < frozen.len() {
+        frozen[unit] == 1
+    } else {
+        false
+    }
+}
+
+// Whether a person stands in a mask.
+pub(crate) fn in_mask(mask: u32, person: usize) -> bool
+    ensures { λ r. ⌜ r ≡ inMask mask person ⌝ }
+{
+    if person < 32 {
+        (mask >> person) % 2 == 1
+    } else {
+        false
+    }
+}
+
+// The people who fit a unit.
+fn mask_of(fits: &[u32], unit: usize) -> u32
+    ensures { λ r. ⌜ r ≡ getD (now (fits .entry)) unit 0 ⌝ }
+{
+    if unit < fits.len() { fits[unit] } else { 0 }
+}
+
+// Whether a person fits a unit.
+fn fits_unit(fits: &[u32], person: u8, unit: usize) -> bool
+    ensures { λ r. ⌜ r ≡ fitsBy (now (fits .entry)) person unit ⌝ }
+{
+    in_mask(mask_of(fits, unit), person as usize)
+}
+
+// The first unit of a unit's run.
+fn run_start(firsts: &[u16], owners: &[u8], unit: usize) -> usize
+    ensures { λ r. ⌜ r ≡ runStart (λ u. getD (now (owners .entry)) (unitStart (now (firsts .entry)) u) 0) unit ⌝ }
+{
+    let owner = owner_of(firsts, owners, unit);
+    let mut start = unit;
+    while 0 < start {
+        let before = start - 1;
+        if owner_of(firsts, owners, before) == owner {
+            start = before;
+        } else {
+            return start;
+        }
+    }
+    0
+}
+
+// The last unit of a unit's run.
+fn run_end(units: usize, firsts: &[u16], owners: &[u8], unit: usize) -> usize
+    requires { ⌜ unit < units ⌝ }
+    ensures { λ r. ⌜ r ≡ runEnd units (λ u. getD (now (owners .entry)) (unitStart (now (firsts .entry)) u) 0) unit ⌝ }
+{
+    let owner = owner_of(firsts, owners, unit);
+    let mut end = unit;
+    let mut next = unit + 1;
+    while next < units {
+        if owner_of(firsts, owners, next) == owner {
+            end = next;
+            next += 1;
+        } else {
+            return end;
+        }
+    }
+    end
+}
+
+// Whether no unit from a up to e is frozen.
+fn is_movable(frozen: &[u8], a: usize, e: usize) -> bool
+    requires { ⌜ a ≤ e ⌝ }
+    ensures { λ r. ⌜ r ≡ allIn a e (λ u. not (frozenBy (now (frozen .entry)) u)) ⌝ }
+{
+    let mut u = a;
+    while u < e {
+        if is_frozen(frozen, u) {
+            return false;
+        } else {
+            u += 1;
+        }
+    }
+    true
+}
+
+// The people who fit every unit from a up to e.
+fn cover_of(fits: &[u32], a: usize, e: usize) -> u32
+    requires { ⌜ a ≤ e ⌝ }
+    ensures { λ r. ⌜ Cover (now (fits .entry)) a e r ⌝ }
+{
+    let mut mask = !0u32;
+    let mut u = a;
+    while u < e {
+        mask = mask & mask_of(fits, u);
+        u += 1;
+    }
+    mask
+}
+
+// Whether a person fits every unit from a up to e.
+fn fits_all(fits: &[u32], a: usize, e: usize, person: u8) -> bool
+    requires { ⌜ a ≤ e ⌝ }
+    ensures { λ r. ⌜ r ≡ allIn a e (fitsBy (now (fits .entry)) person) ⌝ }
+{
+    let mut u = a;
+    while u < e {
+        if fits_unit(fits, person, u) {
+            u += 1;
+        } else {
+            return false;
+        }
+    }
+    true
+}
+
+// The nth person of a mask, ascending, `skip` left out.
+fn nth_of(mask: u32, people: usize, skip: u8, nth: usize) -> Pick
+    requires { ⌜ people ≤ 32 ⌝ }
+    ensures { λ r. ⌜ r ≡ picked (among (λ p. not (eqb p skip) && inMask mask p) people) nth ⌝ }
+{
+    let mut p: usize = 0;
+    let mut seen: usize = 0;
+    while p < people {
+        if is_other(mask, skip, p) {
+            if seen == nth {
+                return Pick::Person(p as u8);
+            } else {
+                seen += 1;
+                p += 1;
+            }
+        } else {
+            p += 1;
+        }
+    }
+    if seen == 0 {
+        return Pick::Nobody;
+    }
+    Pick::Beyond
+}
+
+// Whether a person stands in a mask and is not `skip`.
+fn is_other(mask: u32, skip: u8, person: usize) -> bool
+    ensures { λ r. ⌜ r ≡ not (eqb person skip) && inMask mask person ⌝ }
+{
+    if person == skip as usize {
+        return false;
+    }
+    in_mask(mask, person)
+}
+
+// Units a to b, both included, to a person.
+fn give(slots: usize, units: usize, firsts: &[u16], a: usize, b: usize, to: u8) -> Move
+    ensures { λ r. ⌜ r ≡ Move.Give (unitStart (now (firsts .entry)) a) (unitEnd slots units (now (firsts .entry)) b) to ⌝ }
+{
+    Move::Give {
+        from: units::start_of(firsts, a),
+        upto: units::unit_end(slots, units, firsts, b),
+        to,
+    }
+}
+
+// Units a to b to a person, and units c to d to another.
+fn trade(
+    slots: usize,
+    units: usize,
+    firsts: &[u16],
+    a: usize,
+    b: usize,
+    to: u8,
+    c: usize,
+    d: usize,
+    to2: u8,
+) -> Move
+    ensures { λ r. ⌜ r ≡ Move.Trade (unitStart (now (firsts .entry)) a) (unitEnd slots units (now (firsts .entry)) b) to (unitStart
+        (now (firsts .entry)) c) (unitEnd slots units (now (firsts .entry)) d) to2 ⌝ }
+{
+    Move::Trade {
+        from: units::start_of(firsts, a),
+        upto: units::unit_end(slots, units, firsts, b),
+        to,
+        from2: units::start_of(firsts, c),
+        upto2: units::unit_end(slots, units, firsts, d),
+        to2,
+    }
+}
+
+// 0 to 34: the unit to one of those who fit it.
+fn reassign(
+    people: usize,
+    slots: usize,
+    units: usize,
+    firsts: &[u16],
+    fits: &[u32],
+    frozen: &[u8],
+    owners: &[u8],
+    first: usize,
+    second: usize,
+) -> Move
+    requires { ⌜ people ≤ 32 ⌝ }
+    ensures { λ r. ⌜ r ≡ reassigned (ready people slots units (now (firsts .entry)) (now (fits .entry)) (now (frozen .entry))) (now
+        (owners .entry)) first second ⌝ }
+{
+    if is_frozen(frozen, first) {
+        return Move::Stay(1);
+    }
+    match nth_of(mask_of(fits, first), people, 255, second) {
+        Pick::Nobody => Move::Stay(1),
+        Pick::Beyond => Move::Stay(2),
+        Pick::Person(p) => {
+            if p == owner_of(firsts, owners, first) {
+                Move::Stay(1)
+            } else {
+                give(slots, units, firsts, first, first, p)
+            }
+        }
+    }
+}
+
+// 35 to 59: two units change owners.
+fn swap_units(
+    people: usize,
+    slots: usize,
+    units: usize,
+    firsts: &[u16],
+    fits: &[u32],
+    frozen: &[u8],
+    owners: &[u8],
+    first: usize,
+    second: usize,
+) -> Move
+    ensures { λ r. ⌜ r ≡ swapped (ready people slots units (now (firsts .entry)) (now (fits .entry)) (now (frozen .entry))) (now
+        (owners .entry)) first second ⌝ }
+{
+    let left = owner_of(firsts, owners, first);
+    let right = owner_of(firsts, owners, second);
+    if is_frozen(frozen, first) {
+        return Move::Stay(1);
+    }
+    if is_frozen(frozen, second) {
+        return Move::Stay(1);
+    }
+    if first == second {
+        return Move::Stay(1);
+    }
+    if left == 255 {
+        return Move::Stay(1);
+    }
+    if right == 255 {
+        return Move::Stay(1);
+    }
+    if left == right {
+        return Move::Stay(1);
+    }
+    if fits_unit(fits, right, first) {
+        if fits_unit(fits, left, second) {
+            return trade(
+                slots,
+                units,
+                firsts,
+                first,
+                first,
+                right,
+                second,
+                second,
+                left,
+            );
+        }
+        return Move::Stay(1);
+    }
+    Move::Stay(1)
+}
+
+// 60 to 74: the run of a unit to somebody else who fits it all.
+fn reassign_run(
+    people: usize,
+    slots: usize,
+    units: usize,
+    firsts: &[u16],
+    fits: &[u32],
+    frozen: &[u8],
+    owners: &[u8],
+    first: usize,
+    second: usize,
+) -> Move
+    requires { ⌜ (people ≤ 32) × (first < units) ⌝ }
+    ensures { λ r. ⌜ r ≡ runReassigned (ready people slots units (now (firsts .entry)) (now (fits .entry)) (now (frozen .entry)))
+        (now (owners .entry)) first second ⌝ }
+{
+    let owner = owner_of(firsts, owners, first);
+    if is_frozen(frozen, first) {
+        return Move::Stay(1);
+    }
+    if owner == 255 {
+        return Move::Stay(1);
+    }
+    let a = run_start(firsts, owners, first);
+    let b = run_end(units, firsts, owners, first);
+    if is_movable(frozen, a, b + 1) {
+        match nth_of(cover_of(fits, a, b + 1), people, owner, second) {
+            Pick::Nobody => Move::Stay(1),
+            Pick::Beyond => Move::Stay(2),
+            Pick::Person(p) => give(slots, units, firsts, a, b, p),
+        }
+    } else {
+        Move::Stay(1)
+    }
+}
+
+// 75 to 89: the runs of two units change owners.
+fn swap_runs(
+    people: usize,
+    slots: usize,
+    units: usize,
+    firsts: &[u16],
+    fits: &[u32],
+    frozen: &[u8],
+    owners: &[u8],
+    first: usize,
+    second: usize,
+) -> Move
+    requires { ⌜ (first < units) × (second < units) ⌝ }
+    ensures { λ r. ⌜ r ≡ runsSwapped (ready people slots units (now (firsts .entry)) (now (fits .entry)) (now (frozen .entry))) (now
+        (owners .entry)) first second ⌝ }
+{
+    let left = owner_of(firsts, owners, first);
+    let right = owner_of(firsts, owners, second);
+    if is_frozen(frozen, first) {
+        return Move::Stay(1);
+    }
+    if is_frozen(frozen, second) {
+        return Move::Stay(1);
+    }
+    if left == 255 {
+        return Move::Stay(1);
+    }
+    if right == 255 {
+        return Move::Stay(1);
+    }
+    if left == right {
+        return Move::Stay(1);
+    }
+    let a = run_start(firsts, owners, first);
+    let b = run_end(units, firsts, owners, first);
+    let c = run_start(firsts, owners, second);
+    let d = run_end(units, firsts, owners, second);
+    if a == c {
+        return Move::Stay(1);
+    }
+    if runs_fit(fits, frozen, a, b + 1, right, c, d + 1, left) {
+        return trade(slots, units, firsts, a, b, right, c, d, left);
+    }
+    Move::Stay(1)
+}
+
+// Whether units a up to e and c up to g are free to move, and each of two people fits the units that they would get.
+fn runs_fit(
+    fits: &[u32],
+    frozen: &[u8],
+    a: usize,
+    e: usize,
+    to: u8,
+    c: usize,
+    g: usize,
+    to2: u8,
+) -> bool
+    requires { ⌜ (a ≤ e) × (c ≤ g) ⌝ }
+    ensures { λ r. ⌜ r ≡ runsFit (now (fits .entry)) (now (frozen .entry)) a e to c g to2 ⌝ }
+{
+    if is_movable(frozen, a, e) {
+        if is_movable(frozen, c, g) {
+            if fits_all(fits, a, e, to) {
+                return fits_all(fits, c, g, to2);
+            }
+            return false;
+        }
+        return false;
+    }
+    false
+}
+
+// Second 1: the owner of a run that starts at unit a gets the unit before it.
+fn grow(
+    people: usize,
+    slots: usize,
+    units: usize,
+    firsts: &[u16],
+    fits: &[u32],
+    frozen: &[u8],
+    owner: u8,
+    a: usize,
+) -> Move
+    ensures { λ r. ⌜ r ≡ grown (ready people slots units (now (firsts .entry)) (now (fits .entry)) (now (frozen .entry))) owner a ⌝ }
+{
+    if a == 0 {
+        return Move::Stay(1);
+    }
+    let before = a - 1;
+    if is_frozen(frozen, before) {
+        return Move::Stay(1);
+    }
+    if fits_unit(fits, owner, before) {
+        return give(slots, units, firsts, before, before, owner);
+    }
+    Move::Stay(1)
+}
+
+// Second 0: the first unit of a run from a to b goes to the owner of the unit before it.
+fn shrink(
+    people: usize,
+    slots: usize,
+    units: usize,
+    firsts: &[u16],
+    fits: &[u32],
+    frozen: &[u8],
+    owners: &[u8],
+    a: usize,
+    b: usize,
+) -> Move
+    ensures { λ r. ⌜ r ≡ shrunk (ready people slots units (now (firsts .entry)) (now (fits .entry)) (now (frozen .entry))) (now
+        (owners .entry)) a b ⌝ }
+{
+    if a == 0 {
+        return Move::Stay(1);
+    }
+    if a == b {
+        return Move::Stay(1);
+    }
+    let owner = owner_of(firsts, owners, a - 1);
+    if owner == 255 {
+        return Move::Stay(1);
+    }
+    if is_frozen(frozen, a) {
+        return Move::Stay(1);
+    }
+    if fits_unit(fits, owner, a) {
+        return give(slots, units, firsts, a, a, owner);
+    }
+    Move::Stay(1)
+}
+
+// 90 to 99: the boundary before a unit's run moves by one unit.
+fn shift_boundary(
+    people: usize,
+    slots: usize,
+    units: usize,
+    firsts: &[u16],
+    fits: &[u32],
+    frozen: &[u8],
+    owners: &[u8],
+    first: usize,
+    second: usize,
+) -> Move
+    requires { ⌜ first < units ⌝ }
+    ensures { λ r. ⌜ r ≡ shifted (ready people slots units (now (firsts .entry)) (now (fits .entry)) (now (frozen .entry))) (now
+        (owners .entry)) first second ⌝ }
+{
+    let owner = owner_of(firsts, owners, first);
+    if is_frozen(frozen, first) {
+        return Move::Stay(1);
+    }
+    if owner == 255 {
+        return Move::Stay(1);
+    }
+    if 1 < second {
+        return Move::Stay(2);
+    }
+    let a = run_start(firsts, owners, first);
+    if second == 1 {
+        return grow(people, slots, units, firsts, fits, frozen, owner, a);
+    }
+    let b = run_end(units, firsts, owners, first);
+    shrink(people, slots, units, firsts, fits, frozen, owners, a, b)
+}
+
+// What a draw does. The draw, then the units that it names, are judged before all else.
+pub(crate) fn decide(
+    people: usize,
+    slots: usize,
+    units: usize,
+    firsts: &[u16],
+    fits: &[u32],
+    frozen: &[u8],
+    owners: &[u8],
+    kind: u16,
+    first: u16,
+    second: u16,
+) -> Move
+    requires { ⌜ people ≤ 32 ⌝ }
+    ensures { λ r. ⌜ r ≡ decided (ready people slots units (now (firsts .entry)) (now (fits .entry)) (now (frozen .entry))) (now
+        (owners .entry)) (draw kind first second) ⌝ }
+{
+    let f = first as usize;
+    let s = second as usize;
+    if 100 <= kind {
+        return Move::Stay(2);
+    }
+    if units <= f {
+        return Move::Stay(2);
+    }
+    if kind < 35 {
+        return reassign(people, slots, units, firsts, fits, frozen, owners, f, s);
+    }
+    if kind < 60 {
+        if units <= s {
+            return Move::Stay(2);
+        }
+        return swap_units(people, slots, units, firsts, fits, frozen, owners, f, s);
+    }
+    if kind < 75 {
+        return reassign_run(people, slots, units, firsts, fits, frozen, owners, f, s);
+    }
+    if kind < 90 {
+        if units <= s {
+            return Move::Stay(2);
+        }
+        return swap_runs(people, slots, units, firsts, fits, frozen, owners, f, s);
+    }
+    shift_boundary(people, slots, units, firsts, fits, frozen, owners, f, s)
+}

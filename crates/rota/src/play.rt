@@ -1,0 +1,352 @@
+// A play: the draws of a list in order. Who fits which unit, and which units are frozen, are worked out once a call.
+use crate::Move;
+use crate::assignment::hand_over;
+use crate::checks::both;
+use crate::checks::counts_ok;
+use crate::checks::ground;
+use crate::checks::play_room_ok;
+use crate::checks::room_ok;
+use crate::moves::decide;
+use crate::recount::recount_ok;
+ghost use mathlib.Core.Path.{_≡_};
+ghost use Prim.Native.Nat.{ℕ, _+_, _*_, _<_, _≤_};
+ghost use lib.ListN.{length};
+ghost use Rattle.units.specs.Units.{unitStart, unitEnd};
+ghost use Rattle.rota.specs.Board.{BoardSound, Even};
+ghost use Rattle.rota.specs.Ready.{ready};
+ghost use Rattle.rota.specs.Lent.{WithPerson, UnitMask, FitsRight, FrozenRight, markOf};
+ghost use Rattle.rota.specs.Moves.{draw};
+ghost use Rattle.rota.specs.Plays.{drawsOf};
+ghost use Rattle.rota.specs.Derived.{plan, derived, InStep, PlanSound};
+ghost use Rattle.rota.specs.Stepped.{Stepped, Ran, DrawRoom};
+ghost use Rattle.rota.specs.Entries.{playNo, played, Ended};
+
+// One more person in a mask.
+fn with_person(mask: u32, person: usize) -> u32
+    requires { ⌜ person < 32 ⌝ }
+    ensures { λ r. ⌜ WithPerson mask person r ⌝ }
+{
+    mask | (1u32 << person)
+}
+
+// The people who are available from slot a up to e.
+fn unit_mask(avail: &[u64], people: usize, a: usize, e: usize) -> u32
+    requires { ⌜ (1 ≤ people) × (people ≤ 32) × (e ≤ 1024) × (16 * people ≤ length (now avail)) ⌝ }
+    ensures { λ r. ⌜ UnitMask (now (avail .entry)) people a e r ⌝ }
+{
+    let mut mask: u32 = 0;
+    let mut p: usize = 0;
+    while p < people {
+        if units::able(avail, people, p, a, e) {
+            mask = with_person(mask, p);
+            p += 1;
+        } else {
+            p += 1;
+        }
+    }
+    mask
+}
+
+// For each unit the mask of the people who fit it.
+fn fits_of(people: usize, slots: usize, units: usize, avail: &[u64], firsts: &[u16]) -> [u32; 1024]
+    requires { ⌜ (1 ≤ people) × (people ≤ 32) × (slots ≤ 1024) × (units ≤ 1024) × (16 * people ≤ length (now avail)) ⌝ }
+    requires { ⌜ ((u : ℕ) → u < units → unitEnd slots units (now firsts) u ≤ slots) ⌝ }
+    ensures { λ r. ⌜ FitsRight people slots units (now (avail .entry)) (now (firsts .entry)) r ⌝ }
+{
+    let mut fits = [0u32; 1024];
+    let mut u: usize = 0;
+    while u < units {
+        let a = units::start_of(firsts, u);
+        let e = units::unit_end(slots, units, firsts, u);
+        fits[u] = unit_mask(avail, people, a, e);
+        u += 1;
+    }
+    fits
+}
+
+// 0 where no slot from a up to e is frozen, else 1.
+fn mark_of(frozen: &[u64], a: usize, e: usize) -> u8
+    requires { ⌜ (e ≤ 1024) × (16 ≤ length (now frozen)) ⌝ }
+    ensures { λ r. ⌜ r ≡ markOf (now (frozen .entry)) a e ⌝ }
+{
+    if units::clear(frozen, a, e) { 0 } else { 1 }
+}
+
+// For each unit 1 where it is frozen.
+fn frozen_of(slots: usize, units: usize, firsts: &[u16], frozen: &[u64]) -> [u8; 1024]
+    requires { ⌜ (slots ≤ 1024) × (units ≤ 1024) × (16 ≤ length (now frozen)) ⌝ }
+    requires { ⌜ ((u : ℕ) → u < units → unitEnd slots units (now firsts) u ≤ slots) ⌝ }
+    ensures { λ r. ⌜ FrozenRight slots units (now (firsts .entry)) (now (frozen .entry)) r ⌝ }
+{
+    let mut flags = [0u8; 1024];
+    let mut u: usize = 0;
+    while u < units {
+        let a = units::start_of(firsts, u);
+        let e = units::unit_end(slots, units, firsts, u);
+        flags[u] = mark_of(frozen, a, e);
+        u += 1;
+    }
+    flags
+}
+
+// One draw: judged, then done. The answer is 0, 1 or 2.
+fn step(
+    people: usize,
+    slots: usize,
+    units: usize,
+    starts: &[u32],
+    ends: &[u32],
+    firsts: &[u16],
+    fits: &[u32],
+    flags: &[u8],
+    owners: &mut [u8],
+    sets: &mut [u64],
+    minutes: &mut [u64],
+    kind: u16,
+    first: u16,
+    second: u16,
+) -> u8
+    requires { ⌜ PlanSound (plan people slots (now starts) (now ends)) ⌝ }
+    requires { ⌜ InStep (plan people slots (now starts) (now ends)) (now owners) (derived (now sets) (now minutes)) ⌝ }
+    requires { ⌜ BoardSound (ready people slots units (now firsts) (now fits) (now flags)) ⌝ }
+    requires { ⌜ Even (ready people slots units (now firsts) (now fits) (now flags)) (now owners) ⌝ }
+    ensures { λ r. ⌜ Stepped (plan people slots (now (starts .entry)) (now (ends .entry))) (ready people slots units (now (firsts
+        .entry)) (now (fits .entry)) (now (flags .entry))) (now (owners .entry)) (derived (now (sets .entry)) (now (minutes
+        .entry))) (draw kind first second) r (now (owners .exit)) (derived (now (sets .exit)) (now (minutes .exit))) ⌝ }
+{
+    match decide(
+        people,
+        slots,
+        units,
+        firsts,
+        fits,
+        flags,
+        owners,
+        kind,
+        first,
+        second,
+    ) {
+        Move::Stay(n) => n,
+        Move::Give { from, upto, to } => {
+            hand_over(
+                people,
+                slots,
+                starts,
+                ends,
+                owners,
+                sets,
+                minutes,
+                from,
+                upto,
+                to,
+            );
+            0
+        }
+        Move::Trade {
+            from,
+            upto,
+            to,
+            from2,
+            upto2,
+            to2,
+        } => {
+            hand_over(
+                people,
+                slots,
+                starts,
+                ends,
+                owners,
+                sets,
+                minutes,
+                from,
+                upto,
+                to,
+            );
+            hand_over(
+                people,
+                slots,
+                starts,
+                ends,
+                owners,
+                sets,
+                minutes,
+                from2,
+                upto2,
+                to2,
+            );
+            0
+        }
+    }
+}
+
+// The draws in order, each with its answer.
+fn run(
+    people: usize,
+    slots: usize,
+    units: usize,
+    count: usize,
+    starts: &[u32],
+    ends: &[u32],
+    firsts: &[u16],
+    fits: &[u32],
+    flags: &[u8],
+    owners: &mut [u8],
+    sets: &mut [u64],
+    minutes: &mut [u64],
+    kinds: &[u16],
+    ones: &[u16],
+    twos: &[u16],
+    answers: &mut [u8],
+)
+    requires { ⌜ PlanSound (plan people slots (now starts) (now ends)) ⌝ }
+    requires { ⌜ InStep (plan people slots (now starts) (now ends)) (now owners) (derived (now sets) (now minutes)) ⌝ }
+    requires { ⌜ BoardSound (ready people slots units (now firsts) (now fits) (now flags)) ⌝ }
+    requires { ⌜ Even (ready people slots units (now firsts) (now fits) (now flags)) (now owners) ⌝ }
+    requires { ⌜ DrawRoom count (now kinds) (now ones) (now twos) (now answers) ⌝ }
+    ensures { λ _. ⌜ Ran (plan people slots (now (starts .entry)) (now (ends .entry))) (ready people slots units (now (firsts
+        .entry)) (now (fits .entry)) (now (flags .entry))) (now (owners .entry)) (derived (now (sets .entry)) (now (minutes
+        .entry))) (now (answers .entry)) (drawsOf (now (kinds .entry)) (now (ones .entry)) (now (twos .entry)) count) (now (owners
+        .exit)) (derived (now (sets .exit)) (now (minutes .exit))) (now (answers .exit)) ⌝ }
+{
+    let mut i: usize = 0;
+    while i < count {
+        answers[i] = step(
+            people,
+            slots,
+            units,
+            starts,
+            ends,
+            firsts,
+            fits,
+            flags,
+            owners,
+            sets,
+            minutes,
+            kinds[i],
+            ones[i],
+            twos[i],
+        );
+        i += 1;
+    }
+}
+
+// What stands against a play: 1, 2, 9 or 10; 0 for nothing.
+fn play_no(
+    people: usize,
+    slots: usize,
+    units: usize,
+    count: usize,
+    starts: &[u32],
+    ends: &[u32],
+    avail: &[u64],
+    firsts: &[u16],
+    frozen: &[u64],
+    owners: &[u8],
+    sets: &[u64],
+    minutes: &[u64],
+    kinds: &[u16],
+    ones: &[u16],
+    twos: &[u16],
+    answers: &[u8],
+) -> u8
+    ensures { λ r. ⌜ r ≡ playNo (plan people slots (now (starts .entry)) (now (ends .entry))) (now (avail .entry)) units (now
+        (firsts .entry)) (now (frozen .entry)) count (now (kinds .entry)) (now (ones .entry)) (now (twos .entry)) (now (owners
+        .entry)) (derived (now (sets .entry)) (now (minutes .entry))) (now (answers .entry)) ⌝ }
+{
+    let counts = both(counts_ok(people, slots), count <= paper::DRAWS_MOST);
+    let room = both(
+        room_ok(people, slots, starts, ends, avail, owners, sets, minutes),
+        play_room_ok(units, count, firsts, frozen, kinds, ones, twos, answers),
+    );
+    let sound = both(
+        slots::slots_ok(slots, starts, ends),
+        units::units_ok(slots, units, firsts),
+    );
+    let n = ground(counts, room, sound);
+    if n == 0 {
+        if recount_ok(
+            people,
+            slots,
+            units,
+            starts,
+            ends,
+            avail,
+            firsts,
+            owners,
+            sets,
+            minutes,
+        ) {
+            return 0;
+        }
+        return 10;
+    }
+    n
+}
+
+// Plays a list of draws, given as three columns; one answer byte a draw: 0 acted, 1 no move, 2 choice outside. Refusals 1, 2, 9, 10.
+pub fn play(
+    people: usize,
+    slots: usize,
+    units: usize,
+    count: usize,
+    starts: &[u32],
+    ends: &[u32],
+    avail: &[u64],
+    firsts: &[u16],
+    frozen: &[u64],
+    owners: &mut [u8],
+    sets: &mut [u64],
+    minutes: &mut [u64],
+    kinds: &[u16],
+    ones: &[u16],
+    twos: &[u16],
+    answers: &mut [u8],
+) -> u8
+    ensures { λ r. ⌜ Ended (played (plan people slots (now (starts .entry)) (now (ends .entry))) (now (avail .entry)) units (now
+        (firsts .entry)) (now (frozen .entry)) count (now (kinds .entry)) (now (ones .entry)) (now (twos .entry)) (now (owners
+        .entry)) (derived (now (sets .entry)) (now (minutes .entry))) (now (answers .entry))) r (now (owners .exit)) (derived (now
+        (sets .exit)) (now (minutes .exit))) (now (answers .exit)) ⌝ }
+{
+    let n = play_no(
+        people,
+        slots,
+        units,
+        count,
+        starts,
+        ends,
+        avail,
+        firsts,
+        frozen,
+        owners,
+        sets,
+        minutes,
+        kinds,
+        ones,
+        twos,
+        answers,
+    );
+    if n == 0 {
+        let fits = fits_of(people, slots, units, avail, firsts);
+        let flags = frozen_of(slots, units, firsts, frozen);
+        run(
+            people,
+            slots,
+            units,
+            count,
+            starts,
+            ends,
+            firsts,
+            &fits,
+            &flags,
+            owners,
+            sets,
+            minutes,
+            kinds,
+            ones,
+            twos,
+            answers,
+        );
+        return 0;
+    }
+    n
+}
