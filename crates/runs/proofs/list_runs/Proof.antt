@@ -1,0 +1,186 @@
+-- `runs::list_runs` meets its contract. Assumes nothing.
+use borrow.Author.Needs.{needs}
+use mathlib.Core.Path.{_≡_, sym, ap, _∙_}
+use Prim.Native.Nat.{ℕ, _+_, _-_, _*_, _≤_, _<_}
+use native.Mathlib.Omega.{arith}
+use lib.ListN.{length}
+use Rattle.slotset.specs.Answers.{rowNo, rowSlots}
+use Rattle.slotset.proofs.Puts.{slot-lt}
+use Rattle.slotset.proofs.Refusals.{row-says}
+use Rattle.runs.proofs.Listing.{Listing, listing-starts, listing-given, listing-more, listing-past, listing-done}
+use Rattle.runs.proofs.Listing.{listing-refused, answered}
+use Rattle.runs.proofs.list_runs.Statement.{statement}
+use Rattle.runs.proofs.list_runs.Tie as tie
+
+abbrev Inv-loop : tie.InvT-loop
+Inv-loop words people person len firsts₀ lasts₀ n₀ at₀ firsts lasts n at =
+    (rowNo words people person len ≡ 0) × (((len ≤ length firsts₀) × (len ≤ length lasts₀))
+    × Listing (rowSlots words person) len firsts₀ lasts₀ n at firsts lasts)
+
+abbrev μ-loop : tie.MeasureT-loop
+μ-loop words people person len firsts₀ lasts₀ n₀ at₀ firsts lasts n at = len - at
+
+loop-holds : tie.Need-loop-holds Inv-loop μ-loop
+loop-holds c =
+    let s = c .before .before .before in
+    let a = s .args in
+    let f = rowSlots (a .words .now) (a .person) in
+    (s .pre .0, (s .pre .1, listing-starts f (slot-lt (a .words .now) (16 * a .person)) (a .len) (a .firsts .now) (a .lasts .now)))
+
+run-from-requires : tie.Need-run-from-requires Inv-loop μ-loop
+run-from-requires c κs = search needs
+
+enum-known-first : tie.Need-enum-known-first Inv-loop μ-loop
+enum-known-first c = search needs
+
+cast-firsts : tie.Need-cast-firsts Inv-loop μ-loop
+cast-firsts c =
+    let l = c .before .before .before .before .before in
+    let a = l .before .before .before .before .args in
+    let f = rowSlots (a .words .now) (a .person) in
+    let bits = slot-lt (a .words .now) (16 * a .person) in
+    let i = l .loop .inv in
+    let x = c .before .first .given .0 in
+    let e = answered _ f (a .len) (l .loop .at) _ _ (i .0) (c .before .before .before .run-from .ensures) (c .before .first .given .1) in
+    let g = listing-given f bits (a .len) (a .firsts .now) (a .lasts .now) (l .loop .n) (l .loop .at) (l .loop .firsts) (l .loop .lasts)
+    (i .1 .1) (c .before .before .before .before .loop-test .taken) (x .0) (x .1 .0) (x .1 .1 .0) e in
+    record { fits = omega (arith, g .to, g .fits, row-says (a .words .now) (a .people) (a .person) (a .len) (i .0) .short) }
+
+mul-firsts : tie.Need-mul-firsts Inv-loop μ-loop
+mul-firsts c = search needs
+
+slice-write-firsts : tie.Need-slice-write-firsts Inv-loop μ-loop
+slice-write-firsts c = search needs
+
+cast-lasts : tie.Need-cast-lasts Inv-loop μ-loop
+cast-lasts c =
+    let l = c .before .before .before .before .before in
+    let a = l .before .before .before .before .args in
+    let f = rowSlots (a .words .now) (a .person) in
+    let bits = slot-lt (a .words .now) (16 * a .person) in
+    let i = l .loop .inv in
+    let x = c .before .first .given .0 in
+    let e = answered _ f (a .len) (l .loop .at) _ _ (i .0) (c .before .before .before .run-from .ensures) (c .before .first .given .1) in
+    let g = listing-given f bits (a .len) (a .firsts .now) (a .lasts .now) (l .loop .n) (l .loop .at) (l .loop .firsts) (l .loop .lasts)
+    (i .1 .1) (c .before .before .before .before .loop-test .taken) (x .0) (x .1 .0) (x .1 .1 .0) e in
+    record { fits = omega (arith, g .fits, row-says (a .words .now) (a .people) (a .person) (a .len) (i .0) .short) }
+
+mul-lasts : tie.Need-mul-lasts Inv-loop μ-loop
+mul-lasts c = search needs
+
+slice-write-lasts : tie.Need-slice-write-lasts Inv-loop μ-loop
+slice-write-lasts c = search needs
+
+add-n : tie.Need-add-n Inv-loop μ-loop
+add-n c = search needs
+
+loop-less : tie.Need-loop-less Inv-loop μ-loop
+loop-less c =
+    let l = c .before .before .before .before .before in
+    let a = l .before .before .before .before .args in
+    let f = rowSlots (a .words .now) (a .person) in
+    let bits = slot-lt (a .words .now) (16 * a .person) in
+    let i = l .loop .inv in
+    let x = c .before .first .given .0 in
+    let e = answered _ f (a .len) (l .loop .at) _ _ (i .0) (c .before .before .before .run-from .ensures) (c .before .first .given .1) in
+    let g = listing-given f bits (a .len) (a .firsts .now) (a .lasts .now) (l .loop .n) (l .loop .at) (l .loop .firsts) (l .loop .lasts)
+    (i .1 .1) (c .before .before .before .before .loop-test .taken) (x .0) (x .1 .0) (x .1 .1 .0) e in
+    omega (arith, g .from, g .to, g .past, c .before .before .before .before .loop-test .taken)
+
+loop-again : tie.Need-loop-again Inv-loop μ-loop
+loop-again c =
+    let l = c .before .before .before .before .before in
+    let a = l .before .before .before .before .args in
+    let f = rowSlots (a .words .now) (a .person) in
+    let bits = slot-lt (a .words .now) (16 * a .person) in
+    let i = l .loop .inv in
+    let x = c .before .first .given .0 in
+    let e = answered _ f (a .len) (l .loop .at) _ _ (i .0) (c .before .before .before .run-from .ensures) (c .before .first .given .1) in
+    let m = listing-more f bits (a .len) (a .firsts .now) (a .lasts .now) (l .loop .n) (l .loop .at) (l .loop .firsts) (l .loop .lasts)
+    (i .1 .1) (c .before .before .before .before .loop-test .taken) (x .0) (x .1 .0) (x .1 .1 .0) e in
+    (i .0, (i .1 .0, m))
+
+enum-told : tie.Need-enum-told Inv-loop μ-loop
+enum-told c = search needs
+
+same-length : tie.Need-same-length Inv-loop μ-loop
+same-length c = search needs
+
+same-length-2 : tie.Need-same-length-2 Inv-loop μ-loop
+same-length-2 c = search needs
+
+returns : tie.Need-returns Inv-loop μ-loop
+returns c =
+    let l = c .before .before .before .before in
+    let a = l .before .before .before .before .args in
+    let f = rowSlots (a .words .now) (a .person) in
+    let bits = slot-lt (a .words .now) (16 * a .person) in
+    let i = l .loop .inv in
+    let e = answered _ f (a .len) (l .loop .at) _ _ (i .0) (c .before .before .run-from .ensures) (c .enum-told .given .1) in
+    listing-done f bits (a .len) (a .firsts .now) (a .lasts .now) (l .loop .n) (l .loop .at) (l .loop .firsts) (l .loop .lasts) (i .1 .1) e
+
+enum-told-2 : tie.Need-enum-told-2 Inv-loop μ-loop
+enum-told-2 c = search needs
+
+same-length-3 : tie.Need-same-length-3 Inv-loop μ-loop
+same-length-3 c = search needs
+
+same-length-4 : tie.Need-same-length-4 Inv-loop μ-loop
+same-length-4 c = search needs
+
+returns-2 : tie.Need-returns-2 Inv-loop μ-loop
+returns-2 c =
+    let l = c .before .before .before .before in
+    let a = l .before .before .before .before .args in
+    let f = rowSlots (a .words .now) (a .person) in
+    let bits = slot-lt (a .words .now) (16 * a .person) in
+    let i = l .loop .inv in
+    let e = answered _ f (a .len) (l .loop .at) _ _ (i .0) (c .before .before .run-from .ensures) (c .enum-told2 .given .1) in
+    listing-refused f bits (a .len) (a .firsts .now) (a .lasts .now) (l .loop .n) (l .loop .at) (l .loop .firsts) (l .loop .lasts)
+    (i .1 .1) _ e
+
+same-length-5 : tie.Need-same-length-5 Inv-loop μ-loop
+same-length-5 c = search needs
+
+same-length-6 : tie.Need-same-length-6 Inv-loop μ-loop
+same-length-6 c = search needs
+
+returns-3 : tie.Need-returns-3 Inv-loop μ-loop
+returns-3 c =
+    let l = c .before in
+    let a = l .before .before .before .before .args in
+    let f = rowSlots (a .words .now) (a .person) in
+    let bits = slot-lt (a .words .now) (16 * a .person) in
+    let i = l .loop .inv in
+    listing-past f bits (a .len) (a .firsts .now) (a .lasts .now) (l .loop .n) (l .loop .at) (l .loop .firsts) (l .loop .lasts) (i .1 .1)
+    (c .loop-test .left)
+
+pub list-runs-spec : {M : Type 1} → statement M
+list-runs-spec =
+    tie.close
+    (tie.spec
+    Inv-loop
+    μ-loop
+    loop-holds
+    run-from-requires
+    enum-known-first
+    cast-firsts
+    mul-firsts
+    slice-write-firsts
+    cast-lasts
+    mul-lasts
+    slice-write-lasts
+    add-n
+    loop-less
+    loop-again
+    enum-told
+    same-length
+    same-length-2
+    returns
+    enum-told-2
+    same-length-3
+    same-length-4
+    returns-2
+    same-length-5
+    same-length-6
+    returns-3)

@@ -1,0 +1,30 @@
+-- A reader of a person's runs: how it is made, what it gives next, and where it stands then. Assumes nothing.
+use mathlib.Core.List.{List}
+use Prim.Native.Nat.{ℕ}
+use denote.Ref.{RefT, now}
+use Rattle.slotset.specs.declared.NextRun.{NextRun}
+use Rattle.slotset.specs.declared.NextRun.the-variants.{Span, Done, Refused}
+use Rattle.slotset.specs.Answers.{rowNo, rowSlots, nextRunAs}
+use Rattle.runs.specs.declared.Runs.{Runs}
+
+-- the answer of the cursor by value
+abbrev pub runFrom : List ℕ → ℕ → ℕ → ℕ → ℕ → NextRun
+runFrom ws people person len at = nextRunAs (rowNo ws people person len) (rowSlots ws person) len at
+
+-- where a cursor stands after an answer: one past the run given, else where it stood
+abbrev pub cursorAfter : NextRun → ℕ → ℕ
+cursorAfter (Span first last next) at = next .at
+cursorAfter Done at = at
+cursorAfter (Refused n) at = at
+
+-- a reader at the beginning of a person's words
+abbrev pub readerOf : RefT (List ℕ) → ℕ → ℕ → ℕ → Runs
+readerOf words people person len = record { words = words; people = people; person = person; len = len; at = 0 }
+
+-- the same reader at another place
+abbrev pub movedTo : Runs → ℕ → Runs
+movedTo d at = record { words = d .words; people = d .people; person = d .person; len = d .len; at = at }
+
+-- what a reader gives next: that of the cursor by value, at what the reader holds
+abbrev pub nextOf : Runs → NextRun
+nextOf d = runFrom (now (d .words)) (d .people) (d .person) (d .len) (d .at)
