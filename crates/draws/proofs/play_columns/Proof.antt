@@ -1,0 +1,100 @@
+-- `draws::play_columns` meets its contract. Assumes nothing.
+use borrow.Author.Needs.{needs}
+use mathlib.Core.Path.{_≡_}
+use Prim.Native.Nat.{ℕ}
+use lib.ListN.{length, take}
+use Rattle.rota.specs.Derived.{plan, derived}
+use Rattle.rota.specs.Entries.{played}
+use Rattle.draws.proofs.Cut.{ended-same}
+use Rattle.draws.proofs.Unpacking.{prefix-fits}
+use Rattle.draws.proofs.play_columns.Statement.{statement}
+use Rattle.draws.proofs.play_columns.Tie as tie
+
+at-most-requires : tie.Need-at-most-requires
+at-most-requires c κs = search needs
+
+array-share-prefix-kinds : tie.Need-array-share-prefix-kinds
+array-share-prefix-kinds c =
+    let m = c .before .before .before .before .before .before in
+    let s = m .before .before .before .before .before .before .before .before .before .before in
+    let n : length (s .args .c .kinds) ≡ 1024 = search (needs, s .good .0) in
+    prefix-fits (m .at-most .result) (s .args .c .count) (s .args .c .kinds) (m .at-most .ensures) n .0
+
+slice-aggregate-play : tie.Need-slice-aggregate-play
+slice-aggregate-play c =
+    let m = c .before .before .before .before .before .before .before in
+    let s = m .before .before .before .before .before .before .before .before .before .before in
+    let n : length (s .args .c .kinds) ≡ 1024 = search (needs, s .good .0) in
+    prefix-fits (m .at-most .result) (s .args .c .count) (s .args .c .kinds) (m .at-most .ensures) n .1
+
+array-share-prefix-ones : tie.Need-array-share-prefix-ones
+array-share-prefix-ones c =
+    let m = c .before .before .before .before .before .before .before in
+    let s = m .before .before .before .before .before .before .before .before .before .before in
+    let n : length (s .args .c .ones) ≡ 1024 = search (needs, s .good .0) in
+    prefix-fits (m .at-most .result) (s .args .c .count) (s .args .c .ones) (m .at-most .ensures) n .0
+
+slice-aggregate-play-2 : tie.Need-slice-aggregate-play-2
+slice-aggregate-play-2 c =
+    let m = c .before .before .before .before .before .before .before .before in
+    let s = m .before .before .before .before .before .before .before .before .before .before in
+    let n : length (s .args .c .ones) ≡ 1024 = search (needs, s .good .0) in
+    prefix-fits (m .at-most .result) (s .args .c .count) (s .args .c .ones) (m .at-most .ensures) n .1
+
+array-share-prefix-twos : tie.Need-array-share-prefix-twos
+array-share-prefix-twos c =
+    let m = c .before .before .before .before .before .before .before .before in
+    let s = m .before .before .before .before .before .before .before .before .before .before in
+    let n : length (s .args .c .twos) ≡ 1024 = search (needs, s .good .0) in
+    prefix-fits (m .at-most .result) (s .args .c .count) (s .args .c .twos) (m .at-most .ensures) n .0
+
+slice-aggregate-play-3 : tie.Need-slice-aggregate-play-3
+slice-aggregate-play-3 c =
+    let m = c .before .before .before .before .before .before .before .before .before in
+    let s = m .before .before .before .before .before .before .before .before .before .before in
+    let n : length (s .args .c .twos) ≡ 1024 = search (needs, s .good .0) in
+    prefix-fits (m .at-most .result) (s .args .c .count) (s .args .c .twos) (m .at-most .ensures) n .1
+
+play-requires : tie.Need-play-requires
+play-requires c κs = search needs
+
+same-length : tie.Need-same-length
+same-length c = search needs
+
+same-length-2 : tie.Need-same-length-2
+same-length-2 c = search needs
+
+same-length-3 : tie.Need-same-length-3
+same-length-3 c = search needs
+
+same-length-4 : tie.Need-same-length-4
+same-length-4 c = search needs
+
+returns : tie.Need-returns
+returns c =
+    let p = c .before .before .before .before .before .before .before .before in
+    let m = p .before .before .before .before .before .before .before .before .before .before .before in
+    let a = m .before .before .before .before .before .before .before .before .before .before .args in
+    ended-same _ _
+    (λ (i : ℕ). played (plan (a .people) (a .slots) (a .starts .now) (a .ends .now)) (a .avail .now) (a .units) (a .firsts .now)
+    (a .frozen .now) (a .count) (take i (a .c .kinds)) (take i (a .c .ones)) (take i (a .c .twos)) (a .owners .now)
+    (derived (a .sets .now) (a .minutes .now)) (a .answers .now))
+    (m .at-most .ensures) (p .play .ensures)
+
+pub play-columns-spec : {M : Type 1} → statement M
+play-columns-spec =
+    tie.close
+    (tie.spec
+    at-most-requires
+    array-share-prefix-kinds
+    slice-aggregate-play
+    array-share-prefix-ones
+    slice-aggregate-play-2
+    array-share-prefix-twos
+    slice-aggregate-play-3
+    play-requires
+    same-length
+    same-length-2
+    same-length-3
+    same-length-4
+    returns)

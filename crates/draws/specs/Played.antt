@@ -1,0 +1,11 @@
+-- A play of a list of draws. Assumes nothing.
+use mathlib.Core.List.{List}
+use Prim.Native.Nat.{ℕ}
+use Rattle.rota.specs.Derived.{Plan, Derived}
+use Rattle.rota.specs.Entries.{Outcome, played}
+use Rattle.draws.specs.declared.Draw.{Draw}
+use Rattle.draws.specs.Columns.{kinds, ones, twos}
+
+-- it is the play of its three columns
+abbrev pub playedDraws : Plan → List ℕ → ℕ → List ℕ → List ℕ → ℕ → List Draw → List ℕ → Derived → List ℕ → Outcome
+playedDraws P avail units firsts frozen n ds o D x = played P avail units firsts frozen n (kinds ds) (ones ds) (twos ds) o D x

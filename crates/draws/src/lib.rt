@@ -1,0 +1,214 @@
+// A play over a lent list of `Draw` structs: the columns' play of crate `rota`, for whoever holds draws together.
+ghost use mathlib.Core.Path.{_≡_};
+ghost use Prim.Native.Nat.{_<_};
+ghost use lib.ListN.{length, take};
+ghost use Rattle.rota.specs.Derived.{plan, derived};
+ghost use Rattle.rota.specs.Entries.{Ended, played};
+ghost use Rattle.draws.specs.Columns.{drawAt, Roomy, putAt, most, Unpacked};
+ghost use Rattle.draws.specs.Played.{playedDraws};
+
+// A draw: the number drawn, and the two numbers that choose.
+pub struct Draw {
+    pub draw: u16,
+    pub first: u16,
+    pub second: u16,
+}
+
+// Draws by value, as columns: `count` of them, and zeros after those.
+struct Columns {
+    kinds: [u16; 1024],
+    ones: [u16; 1024],
+    twos: [u16; 1024],
+    count: usize,
+}
+
+// One draw of a lent list.
+fn draw_at(draws: &[Draw], i: usize) -> Draw
+    requires { ⌜ i < length (now draws) ⌝ }
+    ensures { λ r. ⌜ r ≡ drawAt (now (draws .entry)) i ⌝ }
+{
+    draws[i]
+}
+
+// How many of n draws are unpacked.
+fn at_most(n: usize) -> usize
+    ensures { λ r. ⌜ r ≡ most n ⌝ }
+{
+    if n <= paper::DRAWS_MOST {
+        n
+    } else {
+        paper::DRAWS_MOST
+    }
+}
+
+// Columns of zeros.
+fn blank(count: usize) -> Columns
+    ensures { λ r. ⌜ Roomy r count ⌝ }
+{
+    Columns {
+        kinds: [0; 1024],
+        ones: [0; 1024],
+        twos: [0; 1024],
+        count,
+    }
+}
+
+// The columns with a draw at i.
+fn put(c: Columns, i: usize, d: Draw) -> Columns
+    requires { ⌜ i < 1024 ⌝ }
+    ensures { λ r. ⌜ r ≡ putAt c i d ⌝ }
+{
+    let mut kinds = c.kinds;
+    let mut ones = c.ones;
+    let mut twos = c.twos;
+    kinds[i] = d.draw;
+    ones[i] = d.first;
+    twos[i] = d.second;
+    Columns {
+        kinds,
+        ones,
+        twos,
+        count: c.count,
+    }
+}
+
+// The columns of a lent list of draws: each draw goes to `put`.
+fn unpack(draws: &[Draw]) -> Columns
+    ensures { λ r. ⌜ Unpacked (now (draws .entry)) r ⌝ }
+{
+    let n = at_most(draws.len());
+    let mut c = blank(n);
+    let mut i: usize = 0;
+    while i < n {
+        let d = draw_at(draws, i);
+        c = put(c, i, d);
+        i = i + 1;
+    }
+    c
+}
+
+// The columns' play of draws by value.
+fn play_columns(
+    c: Columns,
+    people: usize,
+    slots: usize,
+    units: usize,
+    count: usize,
+    starts: &[u32],
+    ends: &[u32],
+    avail: &[u64],
+    firsts: &[u16],
+    frozen: &[u64],
+    owners: &mut [u8],
+    sets: &mut [u64],
+    minutes: &mut [u64],
+    answers: &mut [u8],
+) -> u8
+    ensures { λ r. ⌜ Ended (played (plan people slots (now (starts .entry)) (now (ends .entry))) (now (avail .entry)) units
+        (now (firsts .entry)) (now (frozen .entry)) count (take (most (c .count)) (c .kinds)) (take (most (c .count)) (c .ones))
+        (take (most (c .count)) (c .twos)) (now (owners .entry)) (derived (now (sets .entry)) (now (minutes .entry)))
+        (now (answers .entry))) r (now (owners .exit)) (derived (now (sets .exit)) (now (minutes .exit))) (now (answers .exit)) ⌝ }
+{
+    let n = at_most(c.count);
+    let kinds = c.kinds;
+    let ones = c.ones;
+    let twos = c.twos;
+    rota::play::play(
+        people,
+        slots,
+        units,
+        count,
+        starts,
+        ends,
+        avail,
+        firsts,
+        frozen,
+        owners,
+        sets,
+        minutes,
+        &kinds[..n],
+        &ones[..n],
+        &twos[..n],
+        answers,
+    )
+}
+
+// Plays a lent list of draws: the refusals, answers and outcome of `rota::play` over its three columns.
+pub fn play(
+    people: usize,
+    slots: usize,
+    units: usize,
+    count: usize,
+    starts: &[u32],
+    ends: &[u32],
+    avail: &[u64],
+    firsts: &[u16],
+    frozen: &[u64],
+    owners: &mut [u8],
+    sets: &mut [u64],
+    minutes: &mut [u64],
+    draws: &[Draw],
+    answers: &mut [u8],
+) -> u8
+    ensures { λ r. ⌜ Ended (playedDraws (plan people slots (now (starts .entry)) (now (ends .entry))) (now (avail .entry)) units
+        (now (firsts .entry)) (now (frozen .entry)) count (now (draws .entry)) (now (owners .entry))
+        (derived (now (sets .entry)) (now (minutes .entry))) (now (answers .entry)))
+        r (now (owners .exit)) (derived (now (sets .exit)) (now (minutes .exit))) (now (answers .exit)) ⌝ }
+{
+    play_columns(
+        unpack(draws),
+        people,
+        slots,
+        units,
+        count,
+        starts,
+        ends,
+        avail,
+        firsts,
+        frozen,
+        owners,
+        sets,
+        minutes,
+        answers,
+    )
+}
+
+// The same of draws by value, of which the first `count` are played: whoever calls it needs no walk.
+pub fn play_array(
+    people: usize,
+    slots: usize,
+    units: usize,
+    count: usize,
+    starts: &[u32],
+    ends: &[u32],
+    avail: &[u64],
+    firsts: &[u16],
+    frozen: &[u64],
+    owners: &mut [u8],
+    sets: &mut [u64],
+    minutes: &mut [u64],
+    draws: [Draw; 1024],
+    answers: &mut [u8],
+) -> u8
+    ensures { λ r. ⌜ Ended (playedDraws (plan people slots (now (starts .entry)) (now (ends .entry))) (now (avail .entry)) units
+        (now (firsts .entry)) (now (frozen .entry)) count draws (now (owners .entry))
+        (derived (now (sets .entry)) (now (minutes .entry))) (now (answers .entry)))
+        r (now (owners .exit)) (derived (now (sets .exit)) (now (minutes .exit))) (now (answers .exit)) ⌝ }
+{
+    play(
+        people,
+        slots,
+        units,
+        count,
+        starts,
+        ends,
+        avail,
+        firsts,
+        frozen,
+        owners,
+        sets,
+        minutes,
+        &draws,
+        answers,
+    )
+}
