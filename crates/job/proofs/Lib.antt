@@ -1,0 +1,11 @@
+-- Laws that belong to no one function.
+pub mod Numbers
+pub mod Walks
+pub mod Sequences
+pub mod Files
+pub mod Texts
+pub mod Signs
+pub mod Prepares
+pub mod Written
+pub mod Results
+pub mod Readings

@@ -1,0 +1,100 @@
+-- Laws of a signed number's size. Assumes nothing.
+use mathlib.Core.Path.{_≡_, refl, sym, ap, _∙_, subst}
+use mathlib.Core.Bool.{Bool, true, false}
+use Prim.Native.Nat.{ℕ, zero, suc, _+_, _^_, _≤_, _<_}
+use native.Mathlib.Numerals.{add-one}
+use native.Mathlib.Omega.{arith}
+use lib.Dec.{T, ltb}
+use mathlib.Core.List.{_∷_}
+use lib.IntN.{ℤ, pos, negsuc, negℤ, natAbs, _+ℤ_, _-ℤ_, +ℤ-one, +ℤ-idl, negℤ-negℤ}
+use lib.Signed.{ltZ, nonNeg, mag}
+use mir.Syntax.{w64}
+use mir.Val.{Fits, SFits, ofZ, toZ}
+use mir.ValLaws.{toZ-ofZ}
+use Rattle.job.specs.Listing.{digits, signed}
+
+-- -(n + 1) plus 1 is -n, and 0 less that is n
+neg-one : (n : ℕ) → negsuc n +ℤ pos 1 ≡ negℤ (pos n)
+neg-one zero = refl
+neg-one (suc n) = +ℤ-one (negsuc (suc n))
+
+opposite : (n : ℕ) → pos 0 -ℤ negℤ (pos n) ≡ pos n
+opposite n = +ℤ-idl (negℤ (negℤ (pos n))) ∙ negℤ-negℤ (pos n)
+
+neg-fits : (n : ℕ) → n < 2 ^ 63 → SFits w64 (negℤ (pos n))
+neg-fits zero h = record { sfits = h }
+neg-fits (suc n) h = record { sfits = omega arith }
+
+-- a number below 0
+record Below (z : ℤ) : Type 0 where
+  size : ℕ
+  is : z ≡ negsuc size
+  few : size < 2 ^ 63
+
+below-of : (z : ℤ) → SFits w64 z → ltZ z (pos 0) ≡ true → Below z
+below-of (pos n) f e = absurd (omega (arith, borrow.Author.Tests.ltb-true n 0 e))
+below-of (negsuc n) f e = record { size = n; is = refl; few = f .sfits }
+
+-- the steps of (-(t + 1)) + 1, where t is below 0
+module _ (z : ℤ) (f : SFits w64 z) (lower : ltZ (toZ w64 (ofZ w64 z)) (pos 0) ≡ true) where
+  found : Below z
+  found = below-of z f (ap (λ (x : ℤ). ltZ x (pos 0)) (sym (toZ-ofZ w64 z f)) ∙ lower)
+
+  next-is : toZ w64 (ofZ w64 z) +ℤ pos 1 ≡ negℤ (pos (found .size))
+  next-is = ap (λ (x : ℤ). x +ℤ pos 1) (toZ-ofZ w64 z f ∙ found .is) ∙ neg-one (found .size)
+
+  pub next-fits : SFits w64 (toZ w64 (ofZ w64 z) +ℤ pos 1)
+  next-fits = subst (SFits w64) (sym next-is) (neg-fits (found .size) (found .few))
+
+  next-read : toZ w64 (ofZ w64 (toZ w64 (ofZ w64 z) +ℤ pos 1)) ≡ negℤ (pos (found .size))
+  next-read = toZ-ofZ w64 (toZ w64 (ofZ w64 z) +ℤ pos 1) next-fits ∙ next-is
+
+  turned : pos 0 -ℤ toZ w64 (ofZ w64 (toZ w64 (ofZ w64 z) +ℤ pos 1)) ≡ pos (found .size)
+  turned = ap (λ (x : ℤ). pos 0 -ℤ x) next-read ∙ opposite (found .size)
+
+  pub turned-fits : SFits w64 (pos 0 -ℤ toZ w64 (ofZ w64 (toZ w64 (ofZ w64 z) +ℤ pos 1)))
+  turned-fits = subst (SFits w64) (sym turned) (record { sfits = found .few })
+
+  turned-read : toZ w64 (ofZ w64 (pos 0 -ℤ toZ w64 (ofZ w64 (toZ w64 (ofZ w64 z) +ℤ pos 1)))) ≡ pos (found .size)
+  turned-read = toZ-ofZ w64 (pos 0 -ℤ toZ w64 (ofZ w64 (toZ w64 (ofZ w64 z) +ℤ pos 1))) turned-fits ∙ turned
+
+  pub turned-whole : T (nonNeg (toZ w64 (ofZ w64 (pos 0 -ℤ toZ w64 (ofZ w64 (toZ w64 (ofZ w64 z) +ℤ pos 1))))))
+  turned-whole = subst (λ (x : ℤ). T (nonNeg x)) (sym turned-read) tt
+
+  turned-size : natAbs (toZ w64 (ofZ w64 (pos 0 -ℤ toZ w64 (ofZ w64 (toZ w64 (ofZ w64 z) +ℤ pos 1))))) ≡ found .size
+  turned-size = ap natAbs turned-read
+
+  pub size-below : natAbs (toZ w64 (ofZ w64 (pos 0 -ℤ toZ w64 (ofZ w64 (toZ w64 (ofZ w64 z) +ℤ pos 1))))) + 1 < 2 ^ 64
+  size-below = omega (arith, turned-size, found .few)
+
+  pub size-is : natAbs (toZ w64 (ofZ w64 (pos 0 -ℤ toZ w64 (ofZ w64 (toZ w64 (ofZ w64 z) +ℤ pos 1))))) + 1 ≡ natAbs z
+  size-is = ap (λ (n : ℕ). n + 1) turned-size ∙ add-one (found .size) ∙ ap natAbs (sym (found .is))
+
+-- where t is not below 0, it is its own size
+whole-of : (z x : ℤ) → x ≡ z → SFits w64 z → ltZ x (pos 0) ≡ false → T (nonNeg x) × Fits w64 (natAbs x)
+whole-of (pos n) x e f h = (subst (λ (y : ℤ). T (nonNeg y)) (sym e) tt, subst (λ (y : ℤ). Fits w64 (natAbs y)) (sym e) (record { fits = omega (arith, f .sfits) }))
+whole-of (negsuc n) x e f h = absurd (mathlib.Core.Bool.true≢false (ap (λ (y : ℤ). ltZ y (pos 0)) (sym e) ∙ h))
+
+pub whole-fits : (z : ℤ) → SFits w64 z → ltZ (toZ w64 (ofZ w64 z)) (pos 0) ≡ false
+    → T (nonNeg (toZ w64 (ofZ w64 z))) × Fits w64 (natAbs (toZ w64 (ofZ w64 z)))
+whole-fits z f h = whole-of z (toZ w64 (ofZ w64 z)) (toZ-ofZ w64 z f) f h
+
+-- the text of a signed number
+text-below : (z x : ℤ) → x ≡ z → ltZ x (pos 0) ≡ true → signed z ≡ 45 ∷ digits (natAbs z)
+unfolding signed
+text-below (pos n) x e h = absurd (omega (arith, borrow.Author.Tests.ltb-true n 0 (ap (λ (y : ℤ). ltZ y (pos 0)) (sym e) ∙ h)))
+text-below (negsuc n) x e h = refl
+
+text-above : (z x : ℤ) → x ≡ z → ltZ x (pos 0) ≡ false → signed z ≡ digits (natAbs z)
+unfolding signed
+text-above (pos n) x e h = refl
+text-above (negsuc n) x e h = absurd (mathlib.Core.Bool.true≢false (ap (λ (y : ℤ). ltZ y (pos 0)) (sym e) ∙ h))
+
+pub signed-below : (z : ℤ) → SFits w64 z → ltZ (toZ w64 (ofZ w64 z)) (pos 0) ≡ true → (n : ℕ) → n ≡ natAbs (toZ w64 (ofZ w64 z))
+    → signed z ≡ 45 ∷ digits n
+signed-below z f h n e = text-below z (toZ w64 (ofZ w64 z)) (toZ-ofZ w64 z f) h
+    ∙ ap (λ (k : ℕ). 45 ∷ digits k) (sym (e ∙ ap natAbs (toZ-ofZ w64 z f)))
+
+pub signed-above : (z : ℤ) → SFits w64 z → ltZ (toZ w64 (ofZ w64 z)) (pos 0) ≡ false → (n : ℕ) → n ≡ natAbs (toZ w64 (ofZ w64 z))
+    → signed z ≡ digits n
+signed-above z f h n e = text-above z (toZ w64 (ofZ w64 z)) (toZ-ofZ w64 z f) h ∙ ap digits (sym (e ∙ ap natAbs (toZ-ofZ w64 z f)))

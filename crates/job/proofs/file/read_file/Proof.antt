@@ -1,0 +1,71 @@
+-- `job::file::read_file` meets its contract. Assumes nothing.
+use borrow.Author.Needs.{needs}
+use mathlib.Core.Path.{_≡_, sym, ap, _∙_}
+use mathlib.Core.Bool.{Bool, _&&_}
+use lib.ListN.{getD}
+use mathlib.Core.List.{List}
+use Prim.Native.Nat.{ℕ}
+use lib.Dec.{lit<}
+use Rattle.job.specs.File.{jobCounts, jobStarts}
+use Rattle.job.proofs.Files.{count-at, start-at, owners-end, file-ok}
+use Rattle.job.proofs.file.read_file.Statement.{statement}
+use Rattle.job.proofs.file.read_file.Tie as tie
+
+walk-requires : tie.Need-walk-requires
+walk-requires c κs = search needs
+
+array-read-rest-ok : tie.Need-array-read-rest-ok
+array-read-rest-ok c = search needs
+
+array-read-rest-ok-2 : tie.Need-array-read-rest-ok-2
+array-read-rest-ok-2 c = search needs
+
+array-read-rest-ok-3 : tie.Need-array-read-rest-ok-3
+array-read-rest-ok-3 c = search needs
+
+array-read-rest-ok-4 : tie.Need-array-read-rest-ok-4
+array-read-rest-ok-4 c = search needs
+
+rest-ok-requires : tie.Need-rest-ok-requires
+unfolding jobCounts jobStarts
+rest-ok-requires c κs =
+    let w = c .before .before .walk .ensures .1 in
+    let s = c .before .before .before .before .args .s .now in
+    owners-end s _ _ (ap (λ (l : List ℕ). getD l 5 0) (w .1) ∙ start-at s 5 (lit< tt)) (ap (λ (l : List ℕ). getD l 5 0) (w .0) ∙ count-at s 5 (lit< tt))
+
+returns : tie.Need-returns
+unfolding jobCounts jobStarts
+returns c =
+    let w = c .before .before .before .before .walk .ensures in
+    let s = c .before .before .before .before .before .before .args .s .now in (
+      sym (ap (λ (b : Bool). b && c .before .rest-ok .result) (c .if1 .taken)) ∙ file-ok s _ _ _ _ _ _ (w .0)
+          (ap (λ (l : List ℕ). getD l 0 0) (w .1 .0) ∙ count-at s 0 (lit< tt)) (ap (λ (l : List ℕ). getD l 4 0) (w .1 .0) ∙ count-at s 4 (lit< tt))
+          (ap (λ (l : List ℕ). getD l 5 0) (w .1 .1) ∙ start-at s 5 (lit< tt)) (ap (λ (l : List ℕ). getD l 5 0) (w .1 .0) ∙ count-at s 5 (lit< tt))
+          (c .before .rest-ok .ensures),
+      w .1,
+    )
+
+returns-2 : tie.Need-returns-2
+unfolding jobCounts jobStarts
+returns-2 c =
+    let w = c .before .before .before .before .walk .ensures in
+    let s = c .before .before .before .before .before .before .args .s .now in (
+      sym (ap (λ (b : Bool). b && c .before .rest-ok .result) (c .if1 .left)) ∙ file-ok s _ _ _ _ _ _ (w .0)
+          (ap (λ (l : List ℕ). getD l 0 0) (w .1 .0) ∙ count-at s 0 (lit< tt)) (ap (λ (l : List ℕ). getD l 4 0) (w .1 .0) ∙ count-at s 4 (lit< tt))
+          (ap (λ (l : List ℕ). getD l 5 0) (w .1 .1) ∙ start-at s 5 (lit< tt)) (ap (λ (l : List ℕ). getD l 5 0) (w .1 .0) ∙ count-at s 5 (lit< tt))
+          (c .before .rest-ok .ensures),
+      w .1,
+    )
+
+pub read-file-spec : {M : Type 1} → statement M
+read-file-spec =
+    tie.close
+    (tie.spec
+    walk-requires
+    array-read-rest-ok
+    array-read-rest-ok-2
+    array-read-rest-ok-3
+    array-read-rest-ok-4
+    rest-ok-requires
+    returns
+    returns-2)

@@ -1,0 +1,95 @@
+-- `job::file::slots_rise` meets its contract. The invariant: the slots rise up to record k. Assumes nothing.
+use borrow.Author.Needs.{needs}
+use mathlib.Core.Path.{_≡_, sym, ap, _∙_}
+use mathlib.Core.Bool.{true}
+use Prim.Native.Nat.{ℕ, _+_, _-_, _*_, _≤_, _<_}
+use native.Mathlib.Omega.{arith}
+use lib.Dec.{ltb}
+use lib.ListN.{length}
+use Rattle.paper.specs.Count.{all}
+use Rattle.job.specs.File.{ownerSlot, rising}
+use Rattle.job.proofs.Files.{rise-none, rise-more, rise-fails, rise-done}
+use Rattle.job.proofs.file.slots_rise.Statement.{statement}
+use Rattle.job.proofs.file.slots_rise.Tie as tie
+
+abbrev Inv-loop : tie.InvT-loop
+Inv-loop s at n k₀ k = (all k (λ j. ltb (ownerSlot s at j) (ownerSlot s at (j + 1))) ≡ true) × (k ≤ n - 1)
+
+abbrev μ-loop : tie.MeasureT-loop
+μ-loop s at n k₀ k = n - k
+
+loop-holds : tie.Need-loop-holds Inv-loop μ-loop
+loop-holds c = (rise-none _ _, omega arith)
+
+add-loop : tie.Need-add-loop Inv-loop μ-loop
+add-loop c = search needs
+
+mul-field : tie.Need-mul-field Inv-loop μ-loop
+mul-field c = search needs
+
+add-field : tie.Need-add-field Inv-loop μ-loop
+add-field c = search needs
+
+add-field-2 : tie.Need-add-field-2 Inv-loop μ-loop
+add-field-2 c = search needs
+
+field-requires : tie.Need-field-requires Inv-loop μ-loop
+field-requires c κs = search needs
+
+add-field-3 : tie.Need-add-field-3 Inv-loop μ-loop
+add-field-3 c = search needs
+
+mul-field-2 : tie.Need-mul-field-2 Inv-loop μ-loop
+mul-field-2 c = search needs
+
+add-field-4 : tie.Need-add-field-4 Inv-loop μ-loop
+add-field-4 c = search needs
+
+add-field-5 : tie.Need-add-field-5 Inv-loop μ-loop
+add-field-5 c = search needs
+
+field-requires-2 : tie.Need-field-requires-2 Inv-loop μ-loop
+field-requires-2 c κs = search needs
+
+add-k : tie.Need-add-k Inv-loop μ-loop
+add-k c = search needs
+
+loop-less : tie.Need-loop-less Inv-loop μ-loop
+loop-less c = search needs
+
+loop-again : tie.Need-loop-again Inv-loop μ-loop
+unfolding ownerSlot
+loop-again c =
+    let l = c .before .before .before .before .loop in
+    (rise-more _ _ _ _ _ (c .before .before .field .ensures .0) (c .before .field2 .ensures .0) (c .if1 .taken) (l .inv .0), omega arith)
+
+returns : tie.Need-returns Inv-loop μ-loop
+unfolding ownerSlot
+returns c =
+    rise-fails _ _ _ _ _ _ (c .before .before .before .loop-test .taken) (c .before .before .field .ensures .0) (c .before .field2 .ensures .0) (c .if1 .left)
+
+returns-2 : tie.Need-returns-2 Inv-loop μ-loop
+returns-2 c = rise-done _ _ _ _ (c .before .loop .inv .1) (c .loop-test .left) (c .before .loop .inv .0)
+
+pub slots-rise-spec : {M : Type 1} → statement M
+slots-rise-spec =
+    tie.close
+    (tie.spec
+    Inv-loop
+    μ-loop
+    loop-holds
+    add-loop
+    mul-field
+    add-field
+    add-field-2
+    field-requires
+    add-field-3
+    mul-field-2
+    add-field-4
+    add-field-5
+    field-requires-2
+    add-k
+    loop-less
+    loop-again
+    returns
+    returns-2)

@@ -1,0 +1,44 @@
+-- `job::listing::put_head` meets its contract. Assumes nothing.
+use mathlib.Core.List.{List, [], _∷_, _++_}
+use native.Mathlib.Omega.{arith}
+use Rattle.job.specs.Listing.{digits, headText}
+use Rattle.job.proofs.Texts.{room-first, room-next, wrote-both, wrote-length}
+use Rattle.job.proofs.listing.put_head.Statement.{statement}
+use Rattle.job.proofs.listing.put_head.Tie as tie
+
+put-byte-requires : tie.Need-put-byte-requires
+unfolding headText
+put-byte-requires c κs =
+    let s = c .before .before in omega (arith, s .pre)
+
+put-byte-requires-2 : tie.Need-put-byte-requires-2
+unfolding headText
+put-byte-requires-2 c κs =
+    let s = c .before .before .before .before .before .before in
+    omega (arith, room-next (32 ∷ (digits (s .args .n) ++ (s .args .last ∷ []))) (c .before .before .before .put-byte .ensures) (s .pre))
+
+put-number-then-requires : tie.Need-put-number-then-requires
+unfolding headText
+put-number-then-requires c κs =
+    let s = c .before .before .before .before .before .before .before .before .before .before in
+    let n = digits (s .args .n) ++ (s .args .last ∷ []) in
+    room-next (n) (c .before .before .before .put-byte2 .ensures) (room-next (32 ∷ n) (c .before .before .before .before .before .before .before .put-byte .ensures) (s .pre))
+
+same-length : tie.Need-same-length
+unfolding headText
+same-length c =
+    let s = c .before .before .before .before .before .before .before .before .before .before .before .before .before in
+    let n = digits (s .args .n) ++ (s .args .last ∷ []) in
+    wrote-length (wrote-both (c .before .before .before .before .before .before .before .before .before .before .put-byte .ensures) (wrote-both (c .before .before .before .before .before .before .put-byte2 .ensures) (c .before .before .put-number-then .ensures) (room-next (32 ∷ n) (c .before .before .before .before .before .before .before .before .before .before .put-byte .ensures) (s .pre))) (s .pre)) (s .pre)
+
+returns : tie.Need-returns
+unfolding headText
+returns c =
+    let s = c .before .before .before .before .before .before .before .before .before .before .before .before .before in
+    let n = digits (s .args .n) ++ (s .args .last ∷ []) in
+    wrote-both (c .before .before .before .before .before .before .before .before .before .before .put-byte .ensures) (wrote-both (c .before .before .before .before .before .before .put-byte2 .ensures) (c .before .before .put-number-then .ensures) (room-next (32 ∷ n) (c .before .before .before .before .before .before .before .before .before .before .put-byte .ensures) (s .pre))) (s .pre)
+
+pub put-head-spec : {M : Type 1} → statement M
+put-head-spec =
+    tie.close
+    (tie.spec put-byte-requires put-byte-requires-2 put-number-then-requires same-length returns)

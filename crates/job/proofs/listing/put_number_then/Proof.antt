@@ -1,0 +1,23 @@
+-- `job::listing::put_number_then` meets its contract. Assumes nothing.
+use mathlib.Core.List.{List, [], _∷_}
+use native.Mathlib.Omega.{arith}
+use Rattle.job.specs.Listing.{digits}
+use Rattle.job.proofs.Texts.{room-first, room-next, wrote-both, wrote-length}
+use Rattle.job.proofs.listing.put_number_then.Statement.{statement}
+use Rattle.job.proofs.listing.put_number_then.Tie as tie
+
+put-number-requires : tie.Need-put-number-requires
+put-number-requires c κs = let s = c .before .before in room-first (digits (s .args .n)) (s .args .last ∷ []) (s .args .at) (s .args .out .now) (s .pre)
+
+put-byte-requires : tie.Need-put-byte-requires
+put-byte-requires c κs = let s = c .before .before .before .before .before .before in omega (arith, room-next (s .args .last ∷ []) (c .before .before .before .put-number .ensures) (s .pre))
+
+same-length : tie.Need-same-length
+same-length c = let s = c .before .before .before .before .before .before .before .before .before in wrote-length (wrote-both (c .before .before .before .before .before .before .put-number .ensures) (c .before .before .put-byte .ensures) (s .pre)) (s .pre)
+
+returns : tie.Need-returns
+returns c = wrote-both (c .before .before .before .before .before .before .put-number .ensures) (c .before .before .put-byte .ensures) (c .before .before .before .before .before .before .before .before .before .pre)
+
+pub put-number-then-spec : {M : Type 1} → statement M
+put-number-then-spec =
+    tie.close (tie.spec put-number-requires put-byte-requires same-length returns)

@@ -1,0 +1,45 @@
+-- `job::listing::put_person` meets its contract. Assumes nothing.
+use borrow.Author.Needs.{needs}
+use mathlib.Core.List.{List, [], _∷_, _++_}
+use native.Mathlib.Omega.{arith}
+use lib.ListN.{length, length-append}
+use lib.IntN.{ℤ}
+use mathlib.Core.Path.{sym, ap}
+use mir.Syntax.{w64}
+use mir.ValLaws.{toZ-ofZ}
+use Rattle.job.proofs.Texts.{room-next, wrote-both, wrote-same}
+use Rattle.job.specs.Listing.{digits, signed, headText, personLine}
+use Rattle.job.proofs.listing.put_person.Statement.{statement}
+use Rattle.job.proofs.listing.put_person.Tie as tie
+
+put-head-requires : tie.Need-put-head-requires
+unfolding personLine
+put-head-requires c κs =
+    let s = c .before .before in
+    omega (arith, (s .pre), length-append (headText 80 (s .args .p) 32) ((digits (s .args .minutes) ++ (32 ∷ [])) ++ (signed (s .args .target) ++ (10 ∷ []))))
+
+put-number-then-requires : tie.Need-put-number-then-requires
+unfolding personLine
+put-number-then-requires c κs =
+    let s = c .before .before .before .before .before .before in
+    omega (arith, (room-next ((digits (s .args .minutes) ++ (32 ∷ [])) ++ (signed (s .args .target) ++ (10 ∷ []))) (c .before .before .before .put-head .ensures) (s .pre)), length-append (digits (s .args .minutes) ++ (32 ∷ [])) (signed (s .args .target) ++ (10 ∷ [])))
+
+put-signed-requires : tie.Need-put-signed-requires
+unfolding personLine
+put-signed-requires c κs =
+    let s = c .before .before .before .before .before .before .before .before .before .before in
+    omega (arith, (room-next (signed (s .args .target) ++ (10 ∷ [])) (c .before .before .before .put-number-then .ensures) (room-next ((digits (s .args .minutes) ++ (32 ∷ [])) ++ (signed (s .args .target) ++ (10 ∷ []))) (c .before .before .before .before .before .before .before .put-head .ensures) (s .pre))), ap (λ (z : ℤ). length (signed z ++ (10 ∷ []))) (toZ-ofZ w64 (s .args .target) (s .fits .target)))
+
+same-length : tie.Need-same-length
+same-length c = search needs
+
+returns : tie.Need-returns
+unfolding personLine
+returns c =
+    let s = c .before .before .before .before .before .before .before .before .before .before .before .before .before in
+    (wrote-both (c .before .before .before .before .before .before .before .before .before .before .put-head .ensures) (wrote-both (c .before .before .before .before .before .before .put-number-then .ensures) (wrote-same (ap (λ (z : ℤ). signed z ++ (10 ∷ [])) (toZ-ofZ w64 (s .args .target) (s .fits .target))) (c .before .before .put-signed .ensures)) (room-next ((digits (s .args .minutes) ++ (32 ∷ [])) ++ (signed (s .args .target) ++ (10 ∷ []))) (c .before .before .before .before .before .before .before .before .before .before .put-head .ensures) (s .pre))) (s .pre))
+
+pub put-person-spec : {M : Type 1} → statement M
+put-person-spec =
+    tie.close
+    (tie.spec put-head-requires put-number-then-requires put-signed-requires same-length returns)

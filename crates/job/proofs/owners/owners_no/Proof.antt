@@ -1,0 +1,31 @@
+-- `job::owners::owners_no` meets its contract. Assumes nothing.
+use borrow.Author.Needs.{needs}
+use mathlib.Core.Path.{sym, _∙_}
+use Rattle.job.specs.Stages.{allKnown, ownersNo}
+use Rattle.job.proofs.Prepares.{owners-link}
+use Rattle.job.proofs.owners.owners_no.Statement.{statement}
+use Rattle.job.proofs.owners.owners_no.Tie as tie
+
+all-even-requires : tie.Need-all-even-requires
+all-even-requires c κs = search needs
+
+all-known-requires : tie.Need-all-known-requires
+all-known-requires c κs = search needs
+
+returns : tie.Need-returns
+unfolding ownersNo
+returns c = owners-link _ _ .0 (sym (c .before .before .before .all-even .ensures) ∙ c .before .before .if1 .taken) (sym (c .before .all-known .ensures) ∙ c .if2 .taken)
+
+returns-2 : tie.Need-returns-2
+unfolding ownersNo
+returns-2 c = owners-link _ _ .1 (sym (c .before .before .before .all-even .ensures) ∙ c .before .before .if1 .taken) (sym (c .before .all-known .ensures) ∙ c .if2 .left)
+
+returns-3 : tie.Need-returns-3
+unfolding ownersNo
+returns-3 c =
+    let s = c .before .before .before .before .before .args in
+    owners-link _ (allKnown (s .s .now) (s .at) (s .n) (s .slots) (s .people)) .2 (sym (c .before .all-even .ensures) ∙ c .if1 .left)
+
+pub owners-no-spec : {M : Type 1} → statement M
+owners-no-spec =
+    tie.close (tie.spec all-even-requires all-known-requires returns returns-2 returns-3)

@@ -1,0 +1,105 @@
+-- `job::owners::placed_by` meets its contract. The invariant: the first k records are placed. Assumes nothing.
+use borrow.Author.Needs.{needs}
+use mathlib.Core.Path.{_≡_, refl, sym, ap, _∙_}
+use Prim.Native.Nat.{ℕ, _+_, _-_, _*_, _≤_, _<_}
+use native.Mathlib.Omega.{arith}
+use Rattle.job.specs.File.{ownerSlot}
+use Rattle.job.specs.Stages.{ownerValue, placed}
+use Rattle.job.proofs.Prepares.{placed-none, placed-more, placed-not}
+use Rattle.job.proofs.owners.placed_by.Statement.{statement}
+use Rattle.job.proofs.owners.placed_by.Tie as tie
+
+abbrev Inv-loop : tie.InvT-loop
+Inv-loop s at n slots out₀ k₀ out k = (out ≡ placed s at slots k) × (k ≤ n)
+
+abbrev μ-loop : tie.MeasureT-loop
+μ-loop s at n slots out₀ k₀ out k = n - k
+
+loop-holds : tie.Need-loop-holds Inv-loop μ-loop
+loop-holds c = (placed-none _ _ _, omega arith)
+
+mul-field : tie.Need-mul-field Inv-loop μ-loop
+mul-field c = search needs
+
+add-field : tie.Need-add-field Inv-loop μ-loop
+add-field c = search needs
+
+add-field-2 : tie.Need-add-field-2 Inv-loop μ-loop
+add-field-2 c = search needs
+
+field-requires : tie.Need-field-requires Inv-loop μ-loop
+field-requires c κs = search needs
+
+mul-field-2 : tie.Need-mul-field-2 Inv-loop μ-loop
+mul-field-2 c = search needs
+
+add-field-3 : tie.Need-add-field-3 Inv-loop μ-loop
+add-field-3 c = search needs
+
+add-field-4 : tie.Need-add-field-4 Inv-loop μ-loop
+add-field-4 c = search needs
+
+field-requires-2 : tie.Need-field-requires-2 Inv-loop μ-loop
+field-requires-2 c κs = search needs
+
+cast-owner : tie.Need-cast-owner Inv-loop μ-loop
+cast-owner c = search needs
+
+mul-out : tie.Need-mul-out Inv-loop μ-loop
+mul-out c = omega (arith, c .before .before .before .before .before .before .pre .1)
+
+array-write-out : tie.Need-array-write-out Inv-loop μ-loop
+array-write-out c = omega (arith, c .before .before .before .before .before .before .pre .1)
+
+add-k : tie.Need-add-k Inv-loop μ-loop
+add-k c = search needs
+
+loop-less : tie.Need-loop-less Inv-loop μ-loop
+loop-less c = search needs
+
+loop-again : tie.Need-loop-again Inv-loop μ-loop
+unfolding ownerSlot ownerValue
+loop-again c =
+    (placed-more _ _ _ _ _ _ _ (c .before .before .before .before .loop .inv .0) (c .before .before .field .ensures .0) (c .before .field2 .ensures .0) (c .if1 .taken), omega arith)
+
+add-k-2 : tie.Need-add-k-2 Inv-loop μ-loop
+add-k-2 c = search needs
+
+loop-less-2 : tie.Need-loop-less-2 Inv-loop μ-loop
+loop-less-2 c = search needs
+
+loop-again-2 : tie.Need-loop-again-2 Inv-loop μ-loop
+unfolding ownerSlot
+loop-again-2 c =
+    (placed-not _ _ _ _ _ _ (c .before .before .before .before .loop .inv .0) (c .before .before .field .ensures .0) (c .if1 .left), omega arith)
+
+returns : tie.Need-returns Inv-loop μ-loop
+returns c =
+    let e : c .before .loop .k ≡ c .before .before .before .args .n = omega arith in
+    c .before .loop .inv .0 ∙ ap (placed _ _ _) e
+
+pub placed-by-spec : {M : Type 1} → statement M
+placed-by-spec =
+    tie.close
+    (tie.spec
+    Inv-loop
+    μ-loop
+    loop-holds
+    mul-field
+    add-field
+    add-field-2
+    field-requires
+    mul-field-2
+    add-field-3
+    add-field-4
+    field-requires-2
+    cast-owner
+    mul-out
+    array-write-out
+    add-k
+    loop-less
+    loop-again
+    add-k-2
+    loop-less-2
+    loop-again-2
+    returns)

@@ -1,0 +1,46 @@
+-- `job::play::play_draws` meets its contract. Assumes nothing.
+use borrow.Author.Needs.{needs}
+use mathlib.Core.Path.{_≡_, ap}
+use lib.ListN.{length}
+use Rattle.rota.specs.Derived.{Derived}
+use Rattle.job.proofs.play.play_draws.Statement.{statement}
+use Rattle.job.proofs.play.play_draws.Tie as tie
+
+slice-aggregate-play : tie.Need-slice-aggregate-play
+slice-aggregate-play c = search needs
+
+slice-aggregate-play-2 : tie.Need-slice-aggregate-play-2
+slice-aggregate-play-2 c = search needs
+
+slice-aggregate-play-3 : tie.Need-slice-aggregate-play-3
+slice-aggregate-play-3 c = search needs
+
+slice-aggregate-play-4 : tie.Need-slice-aggregate-play-4
+slice-aggregate-play-4 c = search needs
+
+play-requires : tie.Need-play-requires
+play-requires c κs = search needs
+
+returns : tie.Need-returns
+returns c =
+    let e = c .before .before .before .before .play .ensures in
+    record {
+      no = e .heard;
+      owners = e .owners;
+      minutes = ap (λ (D : Derived). D .minutes) (e .derived);
+      answers = e .answers;
+      owners-room = search needs;
+      minutes-room = search needs;
+      answers-room = search needs;
+    }
+
+pub play-draws-spec : {M : Type 1} → statement M
+play-draws-spec =
+    tie.close
+    (tie.spec
+    slice-aggregate-play
+    slice-aggregate-play-2
+    slice-aggregate-play-3
+    slice-aggregate-play-4
+    play-requires
+    returns)

@@ -1,0 +1,75 @@
+-- `job::play::play_stage` meets its contract. Assumes nothing.
+use borrow.Author.Needs.{needs}
+use lib.ListN.{length}
+use mathlib.Core.Path.{_≡_, sym}
+use native.Mathlib.Omega.{arith}
+use Rattle.job.specs.Outcome.{startOf, playOf}
+use Rattle.job.proofs.Results.{start-refused, play-refused, play-listed}
+use Rattle.job.proofs.play.play_stage.Statement.{statement}
+use Rattle.job.proofs.play.play_stage.Tie as tie
+
+slice-aggregate-start-rota : tie.Need-slice-aggregate-start-rota
+slice-aggregate-start-rota c = search needs
+
+start-rota-requires : tie.Need-start-rota-requires
+start-rota-requires c κs = search needs
+
+play-draws-requires : tie.Need-play-draws-requires
+play-draws-requires c κs = search needs
+
+slice-aggregate-uncovered-of : tie.Need-slice-aggregate-uncovered-of
+slice-aggregate-uncovered-of c = search needs
+
+uncovered-of-requires : tie.Need-uncovered-of-requires
+uncovered-of-requires c κs = search needs
+
+slice-aggregate-put-listing : tie.Need-slice-aggregate-put-listing
+slice-aggregate-put-listing c = search needs
+
+slice-aggregate-put-listing-2 : tie.Need-slice-aggregate-put-listing-2
+slice-aggregate-put-listing-2 c = search needs
+
+slice-aggregate-put-listing-3 : tie.Need-slice-aggregate-put-listing-3
+slice-aggregate-put-listing-3 c = sym (c .before .before .before .before .before .before .before .before .before .before .play-draws .ensures .answers-room)
+
+put-listing-requires : tie.Need-put-listing-requires
+put-listing-requires c κs =
+    let s = c .before .before .before .before .before .before .before .before .before .before .before .before .before .before .before .before .before .before .before .before .before .before .before .before .before in
+    let p = c .before .before .before .before .before .before .before .before .before .before .play-draws .ensures in
+    omega (arith, s .pre .0, s .pre .1, p .owners-room, p .minutes-room, p .answers-room)
+
+same-length : tie.Need-same-length
+same-length c = search needs
+
+returns : tie.Need-returns
+unfolding startOf playOf
+returns c =
+    play-listed _ _ _ _ _ (c .before .before .before .before .before .before .before .before .before .before .before .before .before .before .before .before .before .start-rota .ensures) _ (c .before .before .before .before .before .before .before .before .before .before .before .before .before .play-draws .ensures) _ _ _ (c .before .before .before .before .before .before .before .before .before .before .before .before .before .before .before .before .if1 .taken) (c .before .before .before .before .before .before .before .before .before .before .before .before .if2 .taken)
+    (c .before .before .before .before .before .before .before .uncovered-of .ensures) (c .before .before .put-listing .ensures)
+
+returns-2 : tie.Need-returns-2
+unfolding startOf playOf
+returns-2 c =
+    play-refused _ _ _ _ _ (c .before .before .before .before .before .start-rota .ensures) _ (c .before .play-draws .ensures) (c .before .before .before .before .if1 .taken) (c .if2 .left)
+
+returns-3 : tie.Need-returns-3
+unfolding startOf
+returns-3 c = start-refused _ _ _ _ _ (c .before .start-rota .ensures) (c .if1 .left)
+
+pub play-stage-spec : {M : Type 1} → statement M
+play-stage-spec =
+    tie.close
+    (tie.spec
+    slice-aggregate-start-rota
+    start-rota-requires
+    play-draws-requires
+    slice-aggregate-uncovered-of
+    uncovered-of-requires
+    slice-aggregate-put-listing
+    slice-aggregate-put-listing-2
+    slice-aggregate-put-listing-3
+    put-listing-requires
+    same-length
+    returns
+    returns-2
+    returns-3)

@@ -1,0 +1,25 @@
+-- `job::play::uncovered_of` meets its contract. Assumes nothing.
+use borrow.Author.Needs.{needs}
+use mathlib.Core.Path.{sym, ap, _∙_}
+use Rattle.job.specs.Outcome.{figureValue}
+use Rattle.job.proofs.play.uncovered_of.Statement.{statement}
+use Rattle.job.proofs.play.uncovered_of.Tie as tie
+
+uncovered-minutes-requires : tie.Need-uncovered-minutes-requires
+uncovered-minutes-requires c κs = search needs
+
+enum-known-heard : tie.Need-enum-known-heard
+enum-known-heard c = search needs
+
+enum-told : tie.Need-enum-told
+enum-told c = search needs
+
+returns : tie.Need-returns
+returns c = sym (ap figureValue (sym (c .before .before .before .uncovered-minutes .ensures) ∙ c .before .heard .given .1))
+
+returns-2 : tie.Need-returns-2
+returns-2 c = sym (ap figureValue (sym (c .before .before .uncovered-minutes .ensures) ∙ c .enum-told .given .1))
+
+pub uncovered-of-spec : {M : Type 1} → statement M
+uncovered-of-spec =
+    tie.close (tie.spec uncovered-minutes-requires enum-known-heard enum-told returns returns-2)

@@ -1,0 +1,23 @@
+-- `job::prepare::instant_in` meets its contract. Assumes nothing.
+use native.Mathlib.Omega.{arith}
+use Rattle.job.proofs.Prepares.{instant-none, instant-some}
+use Rattle.job.proofs.prepare.instant_in.Statement.{statement}
+use Rattle.job.proofs.prepare.instant_in.Tie as tie
+
+returns : tie.Need-returns
+returns c = instant-none _ _ (c .if1 .taken)
+
+add-field : tie.Need-add-field
+add-field c = omega (arith, c .before .before .pre (c .if1 .left))
+
+field-requires : tie.Need-field-requires
+field-requires c κs = omega (arith, c .before .before .pre (c .if1 .left))
+
+cast-result : tie.Need-cast-result
+cast-result c = omega (arith, c .field .ensures .1)
+
+returns-2 : tie.Need-returns-2
+returns-2 c = instant-some _ _ _ (c .before .if1 .left) (c .field .ensures .0)
+
+pub instant-in-spec : {M : Type 1} → statement M
+instant-in-spec = tie.close (tie.spec returns add-field field-requires cast-result returns-2)

@@ -1,0 +1,214 @@
+-- `job::run::slots_stage` meets its contract. Assumes nothing.
+use borrow.Author.Needs.{needs}
+use mathlib.Core.Path.{_≡_, refl, sym, ap, ap₂, _∙_}
+use mathlib.Core.List.{List}
+use Prim.Native.Nat.{ℕ}
+use native.Mathlib.Omega.{arith}
+use lib.Dec.{lit<, lit≤}
+use lib.ListN.{length, getD}
+use Rattle.job.specs.Stages.{frozenIn}
+use Rattle.job.specs.Outcome.{Draws, draws, availIn}
+use Rattle.job.proofs.Readings.{read-block, read-room, read-owners, read-freeze, read-settings, read-few}
+use Rattle.job.proofs.Readings.{shares-is, units-is, slots-refused, slots-passed}
+use Rattle.job.proofs.run.slots_stage.Statement.{statement}
+use Rattle.job.proofs.run.slots_stage.Tie as tie
+
+array-read-people : tie.Need-array-read-people
+array-read-people c = search needs
+
+array-read-count : tie.Need-array-read-count
+array-read-count c = search needs
+
+array-read-freezes : tie.Need-array-read-freezes
+array-read-freezes c = search needs
+
+array-read-at : tie.Need-array-read-at
+array-read-at c = search needs
+
+array-read-drawn : tie.Need-array-read-drawn
+array-read-drawn c = search needs
+
+array-read-avail-of : tie.Need-array-read-avail-of
+array-read-avail-of c = search needs
+
+avail-of-requires : tie.Need-avail-of-requires
+avail-of-requires c κs = search needs
+
+add-capacities : tie.Need-add-capacities
+add-capacities c = let s = c .before .before .before .before .before .before .before .before in omega (arith, read-block (s .pre .0) 2 (lit< tt), s .good .0)
+
+capacities-requires : tie.Need-capacities-requires
+capacities-requires c κs =
+    let s = c .before .before .before .before .before .before .before .before in
+    (read-few (s .pre .0) .2, λ k h. omega (arith, read-room (s .pre .0) 2 k 0 8 (lit< tt) h (lit≤ tt)))
+
+add-priors : tie.Need-add-priors
+add-priors c = let s = c .before .before .before .before .before .before .before .before .before in omega (arith, read-block (s .pre .0) 2 (lit< tt), s .good .0)
+
+priors-requires : tie.Need-priors-requires
+priors-requires c κs =
+    let s = c .before .before .before .before .before .before .before .before .before in
+    (read-few (s .pre .0) .2, λ k h. omega (arith, read-room (s .pre .0) 2 k 8 4 (lit< tt) h (lit≤ tt)))
+
+settings-in-requires : tie.Need-settings-in-requires
+settings-in-requires c κs = read-settings (c .before .before .before .before .before .before .before .before .before .before .pre .0)
+
+slice-aggregate-shares-of : tie.Need-slice-aggregate-shares-of
+slice-aggregate-shares-of c = search needs
+
+slice-aggregate-shares-of-2 : tie.Need-slice-aggregate-shares-of-2
+slice-aggregate-shares-of-2 c = search needs
+
+slice-aggregate-shares-of-3 : tie.Need-slice-aggregate-shares-of-3
+slice-aggregate-shares-of-3 c = search needs
+
+shares-of-requires : tie.Need-shares-of-requires
+shares-of-requires c κs = search needs
+
+units-of-requires : tie.Need-units-of-requires
+units-of-requires c κs = search needs
+
+lower-no-requires : tie.Need-lower-no-requires
+lower-no-requires c κs = search needs
+
+array-read-instant-in : tie.Need-array-read-instant-in
+array-read-instant-in c = search needs
+
+instant-in-requires : tie.Need-instant-in-requires
+instant-in-requires c κs = read-freeze (c .before .before .before .before .before .before .before .before .before .before .before .before .before .before .before .before .before .before .pre .0)
+
+frozen-in-requires : tie.Need-frozen-in-requires
+frozen-in-requires c κs = search needs
+
+add-column16 : tie.Need-add-column16
+add-column16 c = let s = c .before .before .before .before .before .before .before .before .before .before .before .before .before .before .before .before .before .before .before .before in omega (arith, read-block (s .pre .0) 6 (lit< tt), s .good .0)
+
+column16-requires : tie.Need-column16-requires
+column16-requires c κs =
+    let s = c .before .before .before .before .before .before .before .before .before .before .before .before .before .before .before .before .before .before .before .before in
+    (read-few (s .pre .0) .4, λ k h. omega (arith, read-room (s .pre .0) 6 k 0 2 (lit< tt) h (lit≤ tt)))
+
+add-column16-2 : tie.Need-add-column16-2
+add-column16-2 c = let s = c .before .before .before .before .before .before .before .before .before .before .before .before .before .before .before .before .before .before .before .before .before in omega (arith, read-block (s .pre .0) 6 (lit< tt), s .good .0)
+
+column16-requires-2 : tie.Need-column16-requires-2
+column16-requires-2 c κs =
+    let s = c .before .before .before .before .before .before .before .before .before .before .before .before .before .before .before .before .before .before .before .before .before in
+    (read-few (s .pre .0) .4, λ k h. omega (arith, read-room (s .pre .0) 6 k 2 2 (lit< tt) h (lit≤ tt)))
+
+add-column16-3 : tie.Need-add-column16-3
+add-column16-3 c = let s = c .before .before .before .before .before .before .before .before .before .before .before .before .before .before .before .before .before .before .before .before .before .before in omega (arith, read-block (s .pre .0) 6 (lit< tt), s .good .0)
+
+column16-requires-3 : tie.Need-column16-requires-3
+column16-requires-3 c κs =
+    let s = c .before .before .before .before .before .before .before .before .before .before .before .before .before .before .before .before .before .before .before .before .before .before in
+    (read-few (s .pre .0) .4, λ k h. omega (arith, read-room (s .pre .0) 6 k 4 2 (lit< tt) h (lit≤ tt)))
+
+array-read-owners-stage : tie.Need-array-read-owners-stage
+array-read-owners-stage c = search needs
+
+array-read-owners-stage-2 : tie.Need-array-read-owners-stage-2
+array-read-owners-stage-2 c = search needs
+
+slice-aggregate-owners-stage : tie.Need-slice-aggregate-owners-stage
+slice-aggregate-owners-stage c = sym (c .before .before .before .before .before .before .before .before .before .before .before .before .before .before .before .before .before .before .avail-of .ensures .1)
+
+slice-aggregate-owners-stage-2 : tie.Need-slice-aggregate-owners-stage-2
+slice-aggregate-owners-stage-2 c = sym (c .before .before .before .before .before .before .before .before .before .before .before .units-of .ensures .room)
+
+slice-aggregate-owners-stage-3 : tie.Need-slice-aggregate-owners-stage-3
+slice-aggregate-owners-stage-3 c = search needs
+
+slice-aggregate-owners-stage-4 : tie.Need-slice-aggregate-owners-stage-4
+slice-aggregate-owners-stage-4 c = search needs
+
+slice-aggregate-owners-stage-5 : tie.Need-slice-aggregate-owners-stage-5
+slice-aggregate-owners-stage-5 c = search needs
+
+slice-aggregate-owners-stage-6 : tie.Need-slice-aggregate-owners-stage-6
+slice-aggregate-owners-stage-6 c = search needs
+
+slice-aggregate-owners-stage-7 : tie.Need-slice-aggregate-owners-stage-7
+slice-aggregate-owners-stage-7 c = search needs
+
+owners-stage-requires : tie.Need-owners-stage-requires
+owners-stage-requires c κs =
+    let s = c .before .before .before .before .before .before .before .before .before .before .before .before .before .before .before .before .before .before .before .before .before .before .before .before .before .before .before .before .before .before .before .before .before in
+    let w = read-few (s .pre .0) in (
+      read-owners (s .pre .0),
+      (
+        (s .pre .1 .0, s .pre .1 .1, s .pre .1 .2),
+        (w .2, omega (arith, w .2, c .before .before .before .before .before .before .before .before .before .before .before .before .before .before .before .before .before .before .shares-of .ensures .room), w .4, s .pre .1 .3),
+      ),
+    )
+
+same-length : tie.Need-same-length
+same-length c = search needs
+
+returns : tie.Need-returns
+unfolding availIn
+returns c =
+    let s = c .before .before .before .before .before .before .before .before .before .before .before .before .before .before .before .before .before .before .before .before .before .before .before .before .before .before .before .before .before .before .before .before .before .before .before .before in
+    let st = c .before .before .before .before .before .before .before .before .before .before .before .before .before .before .before .before .before .before .before .before .before .before .before .before .before .settings-in .ensures in
+    slots-passed _ _ _ _ _ _ _ _ _ _ _
+    (shares-is _ _ _ _ _ _ _ _ _ _ _ _ (c .before .before .before .before .before .before .before .before .before .before .before .before .before .before .before .before .before .before .before .before .before .before .before .before .before .before .before .before .avail-of .ensures .0) (c .before .before .before .before .before .before .before .before .before .before .before .before .before .before .before .before .before .before .before .before .before .before .before .before .before .before .before .capacities .ensures) (c .before .before .before .before .before .before .before .before .before .before .before .before .before .before .before .before .before .before .before .before .before .before .before .before .before .before .priors .ensures) st (c .before .before .before .before .before .before .before .before .before .before .before .before .before .before .before .before .before .before .before .before .before .shares-of .ensures))
+    (units-is _ _ _ _ _ _ st (c .before .before .before .before .before .before .before .before .before .before .before .before .before .before .before .before .before .before .before .before .units-of .ensures)) (c .before .before .before .before .before .before .before .before .before .before .before .before .before .before .before .before .before .before .before .lower-no .ensures)
+    _ _ _ _ _ _ _ (c .before .before .before .before .before .before .before .before .before .before .before .before .before .before .before .before .before .before .if1 .taken) (c .before .before .before .before .before .before .before .before .before .before .before .before .before .before .before .before .before .before .before .before .before .before .before .before .before .before .before .before .avail-of .ensures .0)
+    (c .before .before .before .before .before .before .before .before .before .before .before .before .before .before .before .before .frozen-in .ensures ∙ ap (frozenIn _ _ _ _) (c .before .before .before .before .before .before .before .before .before .before .before .before .before .before .before .before .before .instant-in .ensures))
+    (ap₂ (λ (x y : List ℕ). draws (getD (s .args .t2) 6 0) x y (c .before .before .before .before .before .before .before .before .before .before .before .before .before .column163 .result)) (c .before .before .before .before .before .before .before .before .before .before .before .before .before .before .before .column16 .ensures) (c .before .before .before .before .before .before .before .before .before .before .before .before .before .before .column162 .ensures)
+    ∙ ap (draws (getD (s .args .t2) 6 0) _ _) (c .before .before .before .before .before .before .before .before .before .before .before .before .before .column163 .ensures))
+    (c .before .before .owners-stage .ensures)
+
+returns-2 : tie.Need-returns-2
+unfolding availIn
+returns-2 c =
+    let s = c .before .before .before .before .before .before .before .before .before .before .before .before .before .before .before .before .before .before in
+    let st = c .before .before .before .before .before .before .before .settings-in .ensures in
+    slots-refused _ _ _ _ _ _ _ _ _ _ _
+    (shares-is _ _ _ _ _ _ _ _ _ _ _ _ (c .before .before .before .before .before .before .before .before .before .before .avail-of .ensures .0) (c .before .before .before .before .before .before .before .before .before .capacities .ensures) (c .before .before .before .before .before .before .before .before .priors .ensures) st (c .before .before .before .shares-of .ensures))
+    (units-is _ _ _ _ _ _ st (c .before .before .units-of .ensures)) (c .before .lower-no .ensures) (c .if1 .left)
+
+pub slots-stage-spec : {M : Type 1} → statement M
+slots-stage-spec =
+    tie.close
+    (tie.spec
+    array-read-people
+    array-read-count
+    array-read-freezes
+    array-read-at
+    array-read-drawn
+    array-read-avail-of
+    avail-of-requires
+    add-capacities
+    capacities-requires
+    add-priors
+    priors-requires
+    settings-in-requires
+    slice-aggregate-shares-of
+    slice-aggregate-shares-of-2
+    slice-aggregate-shares-of-3
+    shares-of-requires
+    units-of-requires
+    lower-no-requires
+    array-read-instant-in
+    instant-in-requires
+    frozen-in-requires
+    add-column16
+    column16-requires
+    add-column16-2
+    column16-requires-2
+    add-column16-3
+    column16-requires-3
+    array-read-owners-stage
+    array-read-owners-stage-2
+    slice-aggregate-owners-stage
+    slice-aggregate-owners-stage-2
+    slice-aggregate-owners-stage-3
+    slice-aggregate-owners-stage-4
+    slice-aggregate-owners-stage-5
+    slice-aggregate-owners-stage-6
+    slice-aggregate-owners-stage-7
+    owners-stage-requires
+    same-length
+    returns
+    returns-2)

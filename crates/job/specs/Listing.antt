@@ -1,0 +1,128 @@
+-- The listing: decimal numbers, spaces and newlines, as bytes. Assumes nothing.
+use mathlib.Core.Path.{_≡_}
+use mathlib.Core.Bool.{Bool, cond}
+use mathlib.Core.List.{List, [], _∷_, _++_}
+use Prim.Native.Nat.{ℕ, zero, suc, _+_, _*_, _/_, _%_}
+use lib.Dec.{leb, ltb, eqb}
+use lib.IntN.{ℤ, pos, negsuc}
+use lib.ListN.{length, getD, take, drop}
+use Rattle.paper.specs.Limits.{nobody}
+
+-- ---- numbers
+
+-- the decimal digits of n, where they are not more than suc f
+unfoldable pub decimal : ℕ → ℕ → List ℕ
+decimal zero n = (48 + n) ∷ []
+decimal (suc f) n = cond (ltb n 10) ((48 + n) ∷ []) (decimal f (n / 10) ++ ((48 + n % 10) ∷ []))
+
+-- of a number of 64 bits
+unfoldable pub digits : ℕ → List ℕ
+digits n = decimal 19 n
+
+-- a minus sign where it is negative
+unfoldable pub signed : ℤ → List ℕ
+signed (pos n) = digits n
+signed (negsuc n) = 45 ∷ digits (suc n)
+
+-- - for nobody
+unfoldable pub ownerText : ℕ → List ℕ
+ownerText w = cond (eqb w nobody) (45 ∷ []) (digits w)
+
+-- A, N or C for the answers 0, 1 and 2
+unfoldable pub answerLetter : ℕ → ℕ
+answerLetter a = cond (eqb a 0) 65 (cond (eqb a 1) 78 67)
+
+-- ---- lines
+
+-- a letter, a space, a number and one byte more
+unfoldable pub headText : ℕ → ℕ → ℕ → List ℕ
+headText letter n last = letter ∷ (32 ∷ (digits n ++ (last ∷ [])))
+
+-- S: slot, start, end, last owner
+unfoldable pub slotLine : ℕ → ℕ → ℕ → ℕ → List ℕ
+slotLine k start end owner =
+    headText 83 k 32 ++ (digits start ++ (32 ∷ []) ++ (digits end ++ (32 ∷ []) ++ (ownerText owner ++ (10 ∷ []))))
+
+-- P: person, minutes, target
+unfoldable pub personLine : ℕ → ℕ → ℤ → List ℕ
+personLine p minutes target = headText 80 p 32 ++ (digits minutes ++ (32 ∷ []) ++ (signed target ++ (10 ∷ [])))
+
+-- D: draw, answer
+unfoldable pub drawLine : ℕ → ℕ → List ℕ
+drawLine d answer = headText 68 d 32 ++ (answerLetter answer ∷ [] ++ (10 ∷ []))
+
+-- U: uncovered minutes; R: the number of a refusal
+unfoldable pub uncoveredLine : ℕ → List ℕ
+uncoveredLine minutes = headText 85 minutes 10
+
+unfoldable pub refusalLine : ℕ → List ℕ
+refusalLine n = headText 82 n 10
+
+-- the lines of the numbers below n, in order
+unfoldable pub lines : (ℕ → List ℕ) → ℕ → List ℕ
+lines f zero = []
+lines f (suc n) = lines f n ++ f n
+
+-- what is listed: the slots with their last owners, the people's minutes and targets, the answers, the uncovered minutes
+pub record Listed : Type 0 where
+  pub slots : ℕ
+  pub starts : List ℕ
+  pub ends : List ℕ
+  pub owners : List ℕ
+  pub people : ℕ
+  pub minutes : List ℕ
+  pub targets : List ℤ
+  pub draws : ℕ
+  pub answers : List ℕ
+  pub uncovered : ℕ
+
+-- the line of slot k, of person p, of draw d
+unfoldable pub slotAt : List ℕ → List ℕ → List ℕ → ℕ → List ℕ
+slotAt starts ends owners k = slotLine k (getD starts k 0) (getD ends k 0) (getD owners k 0)
+
+unfoldable pub personAt : List ℕ → List ℤ → ℕ → List ℕ
+personAt minutes targets p = personLine p (getD minutes p 0) (getD targets p (pos 0))
+
+unfoldable pub drawAt : List ℕ → ℕ → List ℕ
+drawAt answers d = drawLine d (getD answers d 0)
+
+abbrev pub listed : ℕ → List ℕ → List ℕ → List ℕ → ℕ → List ℕ → List ℤ → ℕ → List ℕ → ℕ → Listed
+listed slots starts ends owners people minutes targets draws answers uncovered = record {
+  slots = slots;
+  starts = starts;
+  ends = ends;
+  owners = owners;
+  people = people;
+  minutes = minutes;
+  targets = targets;
+  draws = draws;
+  answers = answers;
+  uncovered = uncovered;
+}
+
+unfoldable pub listingOf : Listed → List ℕ
+listingOf l =
+    lines (slotAt (l .starts) (l .ends) (l .owners)) (l .slots) ++ (lines (personAt (l .minutes) (l .targets)) (l .people)
+    ++ (lines (drawAt (l .answers)) (l .draws) ++ uncoveredLine (l .uncovered)))
+
+-- ---- bytes in a lent buffer
+
+-- x with l written from `at` on
+unfoldable pub put : List ℕ → ℕ → List ℕ → List ℕ
+put l at x = take at x ++ (l ++ drop (at + length l) x)
+
+-- l was written from `at` on: where it ends, and the buffer then
+pub record Wrote (l : List ℕ) (at : ℕ) (x : List ℕ) (end : ℕ) (y : List ℕ) : Type 0 where
+  pub ends : end ≡ at + length l
+  pub text : y ≡ put l at x
+
+-- room for the longest listing: 1,024 slots, 32 people, 1,024 draws and the last line, each line at its longest
+abbrev pub listingMost : ℕ
+listingMost = 44535
+
+-- the line of a refusal in a lent buffer; nothing where there is no room for six bytes
+unfoldable pub refusalOut : ℕ → List ℕ → List ℕ
+refusalOut n x = cond (leb 6 (length x)) (put (refusalLine n) 0 x) x
+
+unfoldable pub refusalLength : ℕ → List ℕ → ℕ
+refusalLength n x = cond (leb 6 (length x)) (length (refusalLine n)) 0

@@ -1,0 +1,221 @@
+// The listing, written into a lent buffer from its front. Each function takes the place to write at and returns the next.
+ghost use mathlib.Core.Path.{_≡_};
+ghost use mathlib.Core.List.{List, [], _∷_, _++_};
+ghost use Prim.Native.Nat.{ℕ, _+_, _*_, _≤_, _<_};
+ghost use lib.IntN.{natAbs};
+ghost use lib.ListN.{length};
+ghost use Rattle.job.specs.Listing.{digits, signed, ownerText, answerLetter, headText, slotLine, personLine, drawLine, lines, slotAt, personAt, drawAt};
+ghost use Rattle.job.specs.Listing.{listed, listingOf, listingMost, refusalLine, refusalLength, refusalOut, Wrote};
+
+// One byte.
+fn put_byte(out: &mut [u8], at: usize, byte: u8) -> usize
+    requires { ⌜ at < length (now out) ⌝ }
+    ensures { λ r. ⌜ Wrote (byte ∷ []) at (now (out .entry)) r (now (out .exit)) ⌝ }
+{
+    out[at] = byte;
+    at + 1
+}
+
+// The decimal digits of a number.
+fn put_number(out: &mut [u8], at: usize, n: u64) -> usize
+    requires { ⌜ at + length (digits n) ≤ length (now out) ⌝ }
+    ensures { λ r. ⌜ Wrote (digits n) at (now (out .entry)) r (now (out .exit)) ⌝ }
+{
+    if n < 10 {
+        return put_byte(out, at, 48 + n as u8);
+    }
+    let next = put_number(out, at, n / 10);
+    put_byte(out, next, 48 + (n % 10) as u8)
+}
+
+// A number and one byte more.
+fn put_number_then(out: &mut [u8], at: usize, n: u64, last: u8) -> usize
+    requires { ⌜ at + length (digits n ++ (last ∷ [])) ≤ length (now out) ⌝ }
+    ensures { λ r. ⌜ Wrote (digits n ++ (last ∷ [])) at (now (out .entry)) r (now (out .exit)) ⌝ }
+{
+    let next = put_number(out, at, n);
+    put_byte(out, next, last)
+}
+
+// A letter, a space, a number and one byte more.
+fn put_head(out: &mut [u8], at: usize, letter: u8, n: u64, last: u8) -> usize
+    requires { ⌜ at + length (headText letter n last) ≤ length (now out) ⌝ }
+    ensures { λ r. ⌜ Wrote (headText letter n last) at (now (out .entry)) r (now (out .exit)) ⌝ }
+{
+    let second = put_byte(out, at, letter);
+    let third = put_byte(out, second, b' ');
+    put_number_then(out, third, n, last)
+}
+
+// An owner, - for nobody, and a newline.
+fn put_owner(out: &mut [u8], at: usize, owner: u8) -> usize
+    requires { ⌜ at + length (ownerText owner ++ (10 ∷ [])) ≤ length (now out) ⌝ }
+    ensures { λ r. ⌜ Wrote (ownerText owner ++ (10 ∷ [])) at (now (out .entry)) r (now (out .exit)) ⌝ }
+{
+    if owner == 255 {
+        let next = put_byte(out, at, b'-');
+        return put_byte(out, next, b'\n');
+    }
+    put_number_then(out, at, owner as u64, b'\n')
+}
+
+// How far a number is from 0.
+fn size_of(t: i64) -> u64
+    ensures { λ r. ⌜ r ≡ natAbs t ⌝ }
+{
+    if t < 0 {
+        return (-(t + 1)) as u64 + 1;
+    }
+    t as u64
+}
+
+// A number with its sign, and a newline.
+fn put_signed(out: &mut [u8], at: usize, t: i64) -> usize
+    requires { ⌜ at + length (signed t ++ (10 ∷ [])) ≤ length (now out) ⌝ }
+    ensures { λ r. ⌜ Wrote (signed t ++ (10 ∷ [])) at (now (out .entry)) r (now (out .exit)) ⌝ }
+{
+    let size = size_of(t);
+    if t < 0 {
+        let next = put_byte(out, at, b'-');
+        return put_number_then(out, next, size, b'\n');
+    }
+    put_number_then(out, at, size, b'\n')
+}
+
+// The line of a slot.
+fn put_slot(out: &mut [u8], at: usize, k: usize, start: u32, end: u32, owner: u8) -> usize
+    requires { ⌜ at + length (slotLine k start end owner) ≤ length (now out) ⌝ }
+    ensures { λ r. ⌜ Wrote (slotLine k start end owner) at (now (out .entry)) r (now (out .exit)) ⌝ }
+{
+    let first = put_head(out, at, b'S', k as u64, b' ');
+    let second = put_number_then(out, first, start as u64, b' ');
+    let third = put_number_then(out, second, end as u64, b' ');
+    put_owner(out, third, owner)
+}
+
+// The line of a person.
+fn put_person(out: &mut [u8], at: usize, p: usize, minutes: u64, target: i64) -> usize
+    requires { ⌜ at + length (personLine p minutes target) ≤ length (now out) ⌝ }
+    ensures { λ r. ⌜ Wrote (personLine p minutes target) at (now (out .entry)) r (now (out .exit)) ⌝ }
+{
+    let first = put_head(out, at, b'P', p as u64, b' ');
+    let second = put_number_then(out, first, minutes, b' ');
+    put_signed(out, second, target)
+}
+
+// The letter of an answer.
+fn letter_of(answer: u8) -> u8
+    ensures { λ r. ⌜ r ≡ answerLetter answer ⌝ }
+{
+    if answer == 0 {
+        return b'A';
+    }
+    if answer == 1 {
+        return b'N';
+    }
+    b'C'
+}
+
+// The line of a draw.
+fn put_draw(out: &mut [u8], at: usize, d: usize, answer: u8) -> usize
+    requires { ⌜ at + length (drawLine d answer) ≤ length (now out) ⌝ }
+    ensures { λ r. ⌜ Wrote (drawLine d answer) at (now (out .entry)) r (now (out .exit)) ⌝ }
+{
+    let letter = letter_of(answer);
+    let first = put_head(out, at, b'D', d as u64, b' ');
+    let second = put_byte(out, first, letter);
+    put_byte(out, second, b'\n')
+}
+
+// The lines of n slots.
+fn put_slots(
+    out: &mut [u8],
+    at: usize,
+    n: usize,
+    starts: &[u32],
+    ends: &[u32],
+    owners: &[u8],
+) -> usize
+    requires { ⌜ (n ≤ 1024) × (n ≤ length (now starts)) × (n ≤ length (now ends)) × (n ≤ length (now owners)) ⌝ }
+    requires { ⌜ at + n * 33 ≤ length (now out) ⌝ }
+    ensures { λ r. ⌜ Wrote (lines (slotAt (now (starts .entry)) (now (ends .entry)) (now (owners .entry))) n) at (now (out .entry)) r (now (out .exit)) ⌝ }
+    ensures { λ r. ⌜ r ≤ at + n * 33 ⌝ }
+{
+    let mut next = at;
+    let mut k: usize = 0;
+    while k < n {
+        next = put_slot(out, next, k, starts[k], ends[k], owners[k]);
+        k += 1;
+    }
+    next
+}
+
+// The lines of n people.
+fn put_people(out: &mut [u8], at: usize, n: usize, minutes: &[u64], targets: &[i64]) -> usize
+    requires { ⌜ (n ≤ 32) × (n ≤ length (now minutes)) × (n ≤ length (now targets)) ⌝ }
+    requires { ⌜ at + n * 47 ≤ length (now out) ⌝ }
+    ensures { λ r. ⌜ Wrote (lines (personAt (now (minutes .entry)) (now (targets .entry))) n) at (now (out .entry)) r (now (out .exit)) ⌝ }
+    ensures { λ r. ⌜ r ≤ at + n * 47 ⌝ }
+{
+    let mut next = at;
+    let mut k: usize = 0;
+    while k < n {
+        let target = targets[k];
+        next = put_person(out, next, k, minutes[k], target);
+        k += 1;
+    }
+    next
+}
+
+// The lines of n draws.
+fn put_draws(out: &mut [u8], at: usize, n: usize, answers: &[u8]) -> usize
+    requires { ⌜ (n ≤ 1024) × (n ≤ length (now answers)) ⌝ }
+    requires { ⌜ at + n * 9 ≤ length (now out) ⌝ }
+    ensures { λ r. ⌜ Wrote (lines (drawAt (now (answers .entry))) n) at (now (out .entry)) r (now (out .exit)) ⌝ }
+    ensures { λ r. ⌜ r ≤ at + n * 9 ⌝ }
+{
+    let mut next = at;
+    let mut k: usize = 0;
+    while k < n {
+        next = put_draw(out, next, k, answers[k]);
+        k += 1;
+    }
+    next
+}
+
+// The whole listing, from the front of out; its length.
+pub(crate) fn put_listing(
+    out: &mut [u8],
+    slots: usize,
+    starts: &[u32],
+    ends: &[u32],
+    owners: &[u8],
+    people: usize,
+    minutes: &[u64],
+    targets: &[i64],
+    draws: usize,
+    answers: &[u8],
+    uncovered: u64,
+) -> usize
+    requires { ⌜ (slots ≤ 1024) × (slots ≤ length (now starts)) × (slots ≤ length (now ends)) × (slots ≤ length (now owners)) ⌝ }
+    requires { ⌜ (people ≤ 32) × (people ≤ length (now minutes)) × (people ≤ length (now targets)) ⌝ }
+    requires { ⌜ (draws ≤ 1024) × (draws ≤ length (now answers)) ⌝ }
+    requires { ⌜ listingMost ≤ length (now out) ⌝ }
+    ensures { λ r. ⌜ Wrote (listingOf (listed slots (now (starts .entry)) (now (ends .entry)) (now (owners .entry)) people (now (minutes .entry))
+        (now (targets .entry)) draws (now (answers .entry)) uncovered)) 0 (now (out .entry)) r (now (out .exit)) ⌝ }
+{
+    let first = put_slots(out, 0, slots, starts, ends, owners);
+    let second = put_people(out, first, people, minutes, targets);
+    let third = put_draws(out, second, draws, answers);
+    put_head(out, third, b'U', uncovered, b'\n')
+}
+
+// The line of a refusal, at the front of line; its length, or 0 where there is no room for six bytes.
+pub fn refusal_line(number: u8, line: &mut [u8]) -> usize
+    ensures { λ r. ⌜ (r ≡ refusalLength number (now (line .entry))) × (now (line .exit) ≡ refusalOut number (now (line .entry))) ⌝ }
+{
+    if line.len() < 6 {
+        return 0;
+    }
+    put_head(line, 0, b'R', number as u64, b'\n')
+}
