@@ -1,0 +1,16 @@
+-- `boltraven::within` meets its contract. Assumes nothing.
+use mathlib.Core.Path.{sym}
+use native.Mathlib.Omega.{arith}
+use native.Mathlib.Nat.{le-refl}
+use lib.Seq.{length-take-le}
+use Rattle.boltraven.proofs.within.Statement.{statement}
+use Rattle.boltraven.proofs.within.Tie as tie
+
+returns : tie.Need-returns
+returns c = (c .if1 .taken, sym (length-take-le _ _ (c .if1 .taken)))
+
+returns-2 : tie.Need-returns-2
+returns-2 c = (le-refl _, sym (length-take-le _ (c .before .args .buf .now) (le-refl _)))
+
+pub within-spec : {M : Type 1} → statement M
+within-spec = tie.close (tie.spec returns returns-2)

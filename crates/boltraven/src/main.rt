@@ -1,0 +1,131 @@
+// boltraven FILE: the listing of a job file on standard output, or the line of its refusal. With no argument it reads standard input.
+// What can't be read is reported on standard error, with nothing on standard output.
+use job::JobAnswer;
+use libc::STDERR_FILENO;
+use libc::STDIN_FILENO;
+use libc::STDOUT_FILENO;
+ghost use mathlib.Core.Path.{_≡_};
+ghost use Prim.Native.Nat.{_≤_};
+ghost use lib.ListN.{length};
+ghost use Rattle.io.specs.Counts.{Counts};
+
+// What was read: how many bytes, and whether reading failed.
+struct Input {
+    count: usize,
+    failed: bool,
+}
+
+// n, or the length of buf where that is less.
+fn within(n: usize, buf: &[u8]) -> usize
+    ensures { λ r. ⌜ Counts r (now (buf .entry)) ⌝ }
+{
+    if n <= buf.len() {
+        return n;
+    }
+    buf.len()
+}
+
+// Reads once into what is left of buf from `done` on.
+fn read_some(fd: i32, buf: &mut [u8], done: usize) -> Input
+    requires { ⌜ done ≤ length (now buf) ⌝ }
+    ensures { λ r. ⌜ r .count ≤ length (now (buf .exit)) ⌝ }
+{
+    let got = libc::read(fd, &mut buf[done..]);
+    if got < 0 {
+        return Input {
+            count: done,
+            failed: true,
+        };
+    }
+    let n = io::count(got, &buf[done..]);
+    Input {
+        count: done + n,
+        failed: false,
+    }
+}
+
+// Reads until buf is full, the input ends or a read fails.
+fn read_all(fd: i32, buf: &mut [u8]) -> Input
+    ensures { λ r. ⌜ r .count ≤ length (now (buf .exit)) ⌝ }
+{
+    let mut done: usize = 0;
+    while done < buf.len() {
+        let step = read_some(fd, buf, done);
+        let next = step.count;
+        if step.failed {
+            return Input {
+                count: done,
+                failed: true,
+            };
+        }
+        if next <= done {
+            return Input {
+                count: done,
+                failed: false,
+            };
+        }
+        done = next;
+    }
+    Input {
+        count: done,
+        failed: false,
+    }
+}
+
+// The line of a refusal.
+fn print_refusal(number: u8) {
+    let mut line = [0u8; 6];
+    let n = job::refusal_line(number, &mut line);
+    let m = within(n, &line);
+    io::write_all(STDOUT_FILENO, &line[..m]);
+}
+
+// The listing of the job that fd holds; what names it where it can't be read.
+fn print_listing(fd: i32, what: &[u8]) {
+    let mut file = [0u8; 49153];
+    let input = read_all(fd, &mut file);
+    if input.failed {
+        os::fail(what);
+        return;
+    }
+    let n = within(input.count, &file);
+    let mut out = [0u8; 44535];
+    let heard = job::run_job(&file[..n], &mut out);
+    match heard {
+        JobAnswer::Length(k) => {
+            let m = within(k, &out);
+            io::write_all(STDOUT_FILENO, &out[..m]);
+        }
+        JobAnswer::Refused(number) => print_refusal(number),
+    }
+}
+
+// The file that the one argument names.
+fn print_named() {
+    let mut path = io::buffer();
+    let n = os::arg(1, &mut path);
+    if os::errno() != 0 {
+        os::fail(b"the argument");
+        return;
+    }
+    let fd = os::open_read(&path[..n]);
+    if fd < 0 {
+        os::fail(&path[..n]);
+        return;
+    }
+    print_listing(fd, &path[..n]);
+    libc::close(fd);
+}
+
+fn main() {
+    let count = os::arg_count();
+    if count > 2 {
+        io::write_all(STDERR_FILENO, b"boltraven: more than one argument\n");
+        return;
+    }
+    if count < 2 {
+        print_listing(STDIN_FILENO, b"standard input");
+        return;
+    }
+    print_named();
+}
