@@ -1,0 +1,21 @@
+-- `boltraven_c::lengths::boltraven_minutes_per_day` meets its contract. Assumes nothing.
+use borrow.Author.Needs.{needs}
+use mathlib.Core.Path.{ap, _∙_}
+use Rattle.boltraven_c.specs.Units.{durationNo, durationMinutes}
+use Rattle.boltraven_c.proofs.lengths.boltraven_minutes_per_day.Statement.{statement}
+use Rattle.boltraven_c.proofs.lengths.boltraven_minutes_per_day.Tie as tie
+
+minutes-per-day-requires : tie.Need-minutes-per-day-requires
+minutes-per-day-requires c κs = search needs
+
+put-minutes-requires : tie.Need-put-minutes-requires
+put-minutes-requires c κs = search needs
+
+returns : tie.Need-returns
+returns c =
+    let e = c .before .before .minutes-per-day .ensures in
+    (c .put-minutes .ensures .0 ∙ ap durationNo e, c .put-minutes .ensures .1 ∙ ap (durationMinutes _) e)
+
+pub boltraven-minutes-per-day-spec : {M : Type 1} → statement M
+boltraven-minutes-per-day-spec =
+    tie.close (tie.spec minutes-per-day-requires put-minutes-requires returns)

@@ -1,0 +1,49 @@
+-- `boltraven_c::sets::boltraven_next_member` meets its contract. Assumes nothing.
+use borrow.Author.Needs.{needs}
+use mathlib.Core.Path.{sym, ap, _∙_}
+use Rattle.boltraven_c.specs.Numbers.{memberNumber, memberAt, memberCursor}
+use Rattle.boltraven_c.proofs.sets.boltraven_next_member.Statement.{statement}
+use Rattle.boltraven_c.proofs.sets.boltraven_next_member.Tie as tie
+
+next-member-requires : tie.Need-next-member-requires
+next-member-requires c κs = search needs
+
+enum-known-member : tie.Need-enum-known-member
+enum-known-member c = search needs
+
+enum-told : tie.Need-enum-told
+enum-told c = search needs
+
+enum-known-member-2 : tie.Need-enum-known-member-2
+enum-known-member-2 c = search needs
+
+refused-requires : tie.Need-refused-requires
+refused-requires c κs = search needs
+
+returns : tie.Need-returns
+returns c =
+    let e = sym (c .before .before .before .next-member .ensures) ∙ c .before .member .given .1 in
+    (sym (ap memberNumber e), (sym (ap (memberAt _) e), sym (ap (memberCursor _) e)))
+
+returns-2 : tie.Need-returns-2
+returns-2 c =
+    let e = sym (c .before .before .next-member .ensures) ∙ c .enum-told .given .1 in
+    (sym (ap memberNumber e), (sym (ap (memberAt _) e), sym (ap (memberCursor _) e)))
+
+returns-3 : tie.Need-returns-3
+returns-3 c =
+    let e = sym (c .before .before .before .before .next-member .ensures) ∙ c .before .before .member2 .given .1 in
+    (c .refused .ensures ∙ sym (ap memberNumber e), (sym (ap (memberAt _) e), sym (ap (memberCursor _) e)))
+
+pub boltraven-next-member-spec : {M : Type 1} → statement M
+boltraven-next-member-spec =
+    tie.close
+    (tie.spec
+    next-member-requires
+    enum-known-member
+    enum-told
+    enum-known-member-2
+    refused-requires
+    returns
+    returns-2
+    returns-3)

@@ -1,0 +1,51 @@
+-- `boltraven_c::sets::boltraven_next_run` meets its contract. Assumes nothing.
+use borrow.Author.Needs.{needs}
+use mathlib.Core.Path.{sym, ap, _∙_}
+use Rattle.boltraven_c.specs.Numbers.{nextRunNumber, nextRunFirst, nextRunLast, nextRunCursor}
+use Rattle.boltraven_c.proofs.sets.boltraven_next_run.Statement.{statement}
+use Rattle.boltraven_c.proofs.sets.boltraven_next_run.Tie as tie
+
+next-run-requires : tie.Need-next-run-requires
+next-run-requires c κs = search needs
+
+enum-known-run : tie.Need-enum-known-run
+enum-known-run c = search needs
+
+enum-told : tie.Need-enum-told
+enum-told c = search needs
+
+enum-known-run-2 : tie.Need-enum-known-run-2
+enum-known-run-2 c = search needs
+
+refused-requires : tie.Need-refused-requires
+refused-requires c κs = search needs
+
+returns : tie.Need-returns
+returns c =
+    let e = sym (c .before .before .before .next-run .ensures) ∙ c .before .run .given .1 in
+    (sym (ap nextRunNumber e), (sym (ap (nextRunFirst _) e), (sym (ap (nextRunLast _) e), sym (ap (nextRunCursor _) e))))
+
+returns-2 : tie.Need-returns-2
+returns-2 c =
+    let e = sym (c .before .before .next-run .ensures) ∙ c .enum-told .given .1 in
+    (sym (ap nextRunNumber e), (sym (ap (nextRunFirst _) e), (sym (ap (nextRunLast _) e), sym (ap (nextRunCursor _) e))))
+
+returns-3 : tie.Need-returns-3
+returns-3 c =
+    let e = sym (c .before .before .before .before .next-run .ensures) ∙ c .before .before .run2 .given .1 in (
+      c .refused .ensures ∙ sym (ap nextRunNumber e),
+      (sym (ap (nextRunFirst _) e), (sym (ap (nextRunLast _) e), sym (ap (nextRunCursor _) e))),
+    )
+
+pub boltraven-next-run-spec : {M : Type 1} → statement M
+boltraven-next-run-spec =
+    tie.close
+    (tie.spec
+    next-run-requires
+    enum-known-run
+    enum-told
+    enum-known-run-2
+    refused-requires
+    returns
+    returns-2
+    returns-3)

@@ -1,0 +1,84 @@
+-- An answer as one number: what was asked is below 65,536; 65,536 is nothing; 65,536 + n is the refusal n. Assumes nothing.
+use Prim.Native.Nat.{ℕ, _+_}
+use Rattle.slotset.specs.declared.Found.{Found}
+use Rattle.slotset.specs.declared.Found.the-variants as found
+use Rattle.slotset.specs.declared.Told.{Told}
+use Rattle.slotset.specs.declared.Told.the-variants as told
+use Rattle.slotset.specs.declared.Counted.{Counted}
+use Rattle.slotset.specs.declared.Counted.the-variants as counted
+use Rattle.slotset.specs.declared.Run.{Run}
+use Rattle.slotset.specs.declared.Run.the-variants as run
+use Rattle.slotset.specs.declared.NextRun.{NextRun}
+use Rattle.slotset.specs.declared.NextRun.the-variants as nextRun
+use Rattle.slotset.specs.declared.NextMember.{NextMember}
+use Rattle.slotset.specs.declared.NextMember.the-variants as nextMember
+
+-- a slot: its index
+abbrev pub foundNumber : Found → ℕ
+foundNumber (found.At i) = i
+foundNumber found.Nothing = 65536
+foundNumber (found.Refused n) = 65536 + n
+
+-- yes is 1, no is 0
+abbrev pub toldNumber : Told → ℕ
+toldNumber told.Yes = 1
+toldNumber told.No = 0
+toldNumber (told.Refused n) = 65536 + n
+
+-- a count: itself
+abbrev pub countedNumber : Counted → ℕ
+countedNumber (counted.Is k) = k
+countedNumber (counted.Refused n) = 65536 + n
+
+-- a run: 0, its ends beside it; otherwise those stay as they were lent
+abbrev pub runNumber : Run → ℕ
+runNumber (run.Span first last) = 0
+runNumber run.Outside = 65536
+runNumber (run.Refused n) = 65536 + n
+
+abbrev pub runFirst : ℕ → Run → ℕ
+runFirst was (run.Span first last) = first
+runFirst was run.Outside = was
+runFirst was (run.Refused n) = was
+
+abbrev pub runLast : ℕ → Run → ℕ
+runLast was (run.Span first last) = last
+runLast was run.Outside = was
+runLast was (run.Refused n) = was
+
+-- the next run: 0, its ends and the cursor beside it
+abbrev pub nextRunNumber : NextRun → ℕ
+nextRunNumber (nextRun.Span first last next) = 0
+nextRunNumber nextRun.Done = 65536
+nextRunNumber (nextRun.Refused n) = 65536 + n
+
+abbrev pub nextRunFirst : ℕ → NextRun → ℕ
+nextRunFirst was (nextRun.Span first last next) = first
+nextRunFirst was nextRun.Done = was
+nextRunFirst was (nextRun.Refused n) = was
+
+abbrev pub nextRunLast : ℕ → NextRun → ℕ
+nextRunLast was (nextRun.Span first last next) = last
+nextRunLast was nextRun.Done = was
+nextRunLast was (nextRun.Refused n) = was
+
+abbrev pub nextRunCursor : ℕ → NextRun → ℕ
+nextRunCursor was (nextRun.Span first last next) = next .at
+nextRunCursor was nextRun.Done = was
+nextRunCursor was (nextRun.Refused n) = was
+
+-- the next member: 0, its index and the cursor beside it
+abbrev pub memberNumber : NextMember → ℕ
+memberNumber (nextMember.Slot at next) = 0
+memberNumber nextMember.Done = 65536
+memberNumber (nextMember.Refused n) = 65536 + n
+
+abbrev pub memberAt : ℕ → NextMember → ℕ
+memberAt was (nextMember.Slot at next) = at
+memberAt was nextMember.Done = was
+memberAt was (nextMember.Refused n) = was
+
+abbrev pub memberCursor : ℕ → NextMember → ℕ
+memberCursor was (nextMember.Slot at next) = next .at
+memberCursor was nextMember.Done = was
+memberCursor was (nextMember.Refused n) = was

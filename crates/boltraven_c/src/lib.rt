@@ -1,0 +1,24 @@
+// The library for C and Rust to link: numbers, flags and slices only. A slice is passed as its address and its number of elements.
+// Every function is total, as the one that it calls: what is promised of that one, said in numbers, is promised here.
+mod calendar;
+mod freezing;
+mod lengths;
+mod rotas;
+mod rotations;
+mod sets;
+mod shares;
+mod splitting;
+mod teams;
+
+ghost use mathlib.Core.Path.{_≡_};
+ghost use Prim.Native.Nat.{_+_};
+
+// What is answered where there is nothing; a refusal adds its number.
+pub(crate) const NOTHING: u64 = 65536;
+
+// A refusal's number.
+pub(crate) fn refused(n: u8) -> u64
+    ensures { λ r. ⌜ r ≡ 65536 + n ⌝ }
+{
+    NOTHING + n as u64
+}

@@ -1,0 +1,315 @@
+// Slot sets, as rows of words: 16 words of u64 a person.
+// Answers are numbers: below 65,536 what was asked, 65,536 nothing, 65,536 + n refused by n.
+use crate::NOTHING;
+use crate::refused;
+use slotset::Counted;
+use slotset::Cursor;
+use slotset::Found;
+use slotset::NextMember;
+use slotset::NextRun;
+use slotset::Run;
+use slotset::Told;
+use slotset::row;
+ghost use mathlib.Core.Path.{_≡_};
+ghost use Rattle.slotset.specs.Slots.{has, size, noMember, valueOf};
+ghost use Rattle.slotset.specs.Search.{nextSet, prevSet, nextUnsetAfter, prevUnsetBefore};
+ghost use Rattle.slotset.specs.Answers.{rowNo, rowStretchNo, rowSlots, foundAs, toldAs, countedAs, rowStretchOf};
+ghost use Rattle.boltraven_c.specs.Numbers.{foundNumber, toldNumber, countedNumber, runNumber, runFirst, runLast};
+ghost use Rattle.boltraven_c.specs.Numbers.{nextRunNumber, nextRunFirst, nextRunLast, nextRunCursor};
+ghost use Rattle.boltraven_c.specs.Numbers.{memberNumber, memberAt, memberCursor};
+ghost use Rattle.boltraven_c.specs.Sets.{rowRun, rowNextRun, rowNextMember, rowPutNo, rowPutOf};
+
+// The answers as numbers.
+fn found_number(found: Found) -> u64
+    ensures { λ r. ⌜ r ≡ foundNumber found ⌝ }
+{
+    match found {
+        Found::At(i) => i as u64,
+        Found::Nothing => NOTHING,
+        Found::Refused(n) => refused(n),
+    }
+}
+
+pub(crate) fn told_number(told: Told) -> u64
+    ensures { λ r. ⌜ r ≡ toldNumber told ⌝ }
+{
+    match told {
+        Told::Yes => 1,
+        Told::No => 0,
+        Told::Refused(n) => refused(n),
+    }
+}
+
+pub(crate) fn counted_number(counted: Counted) -> u64
+    ensures { λ r. ⌜ r ≡ countedNumber counted ⌝ }
+{
+    match counted {
+        Counted::Is(k) => k as u64,
+        Counted::Refused(n) => refused(n),
+    }
+}
+
+// Whether slot i is a member: 1 or 0.
+#[no_mangle]
+pub extern "C" fn boltraven_contains(
+    words: &[u64],
+    people: usize,
+    person: usize,
+    len: usize,
+    i: usize,
+) -> u64
+    ensures { λ r. ⌜ r ≡ toldNumber (toldAs (rowNo (now (words .entry)) people person len)
+        (has (rowSlots (now (words .entry)) person) len i)) ⌝ }
+{
+    told_number(row::contains(words, people, person, len, i))
+}
+
+// Whether the row has no member: 1 or 0.
+#[no_mangle]
+pub extern "C" fn boltraven_is_empty(words: &[u64], people: usize, person: usize, len: usize) -> u64
+    ensures { λ r. ⌜ r ≡ toldNumber (toldAs (rowNo (now (words .entry)) people person len)
+        (noMember (rowSlots (now (words .entry)) person) len)) ⌝ }
+{
+    told_number(row::is_empty(words, people, person, len))
+}
+
+// How many members the row has.
+#[no_mangle]
+pub extern "C" fn boltraven_count(words: &[u64], people: usize, person: usize, len: usize) -> u64
+    ensures { λ r. ⌜ r ≡ countedNumber (countedAs (rowNo (now (words .entry)) people person len)
+        (size (rowSlots (now (words .entry)) person) len)) ⌝ }
+{
+    counted_number(row::count(words, people, person, len))
+}
+
+// The first member at or after `from`.
+#[no_mangle]
+pub extern "C" fn boltraven_next_set(
+    words: &[u64],
+    people: usize,
+    person: usize,
+    len: usize,
+    from: usize,
+) -> u64
+    ensures { λ r. ⌜ r ≡ foundNumber (foundAs (rowNo (now (words .entry)) people person len)
+        (nextSet (rowSlots (now (words .entry)) person) len from)) ⌝ }
+{
+    found_number(row::next_set(words, people, person, len, from))
+}
+
+// The last member at or before `from`.
+#[no_mangle]
+pub extern "C" fn boltraven_prev_set(
+    words: &[u64],
+    people: usize,
+    person: usize,
+    len: usize,
+    from: usize,
+) -> u64
+    ensures { λ r. ⌜ r ≡ foundNumber (foundAs (rowNo (now (words .entry)) people person len)
+        (prevSet (rowSlots (now (words .entry)) person) len from)) ⌝ }
+{
+    found_number(row::prev_set(words, people, person, len, from))
+}
+
+// The first slot after `from`, below the length, that is no member.
+#[no_mangle]
+pub extern "C" fn boltraven_next_unset_after(
+    words: &[u64],
+    people: usize,
+    person: usize,
+    len: usize,
+    from: usize,
+) -> u64
+    ensures { λ r. ⌜ r ≡ foundNumber (foundAs (rowNo (now (words .entry)) people person len)
+        (nextUnsetAfter (rowSlots (now (words .entry)) person) len from)) ⌝ }
+{
+    found_number(row::next_unset_after(words, people, person, len, from))
+}
+
+// The last slot before `from`, below the length, that is no member.
+#[no_mangle]
+pub extern "C" fn boltraven_prev_unset_before(
+    words: &[u64],
+    people: usize,
+    person: usize,
+    len: usize,
+    from: usize,
+) -> u64
+    ensures { λ r. ⌜ r ≡ foundNumber (foundAs (rowNo (now (words .entry)) people person len)
+        (prevUnsetBefore (rowSlots (now (words .entry)) person) len from)) ⌝ }
+{
+    found_number(row::prev_unset_before(words, people, person, len, from))
+}
+
+// The run that holds slot i: 0, with its ends written; otherwise they stay.
+#[no_mangle]
+pub extern "C" fn boltraven_run_bounds(
+    words: &[u64],
+    people: usize,
+    person: usize,
+    len: usize,
+    i: usize,
+    first: &mut u64,
+    last: &mut u64,
+) -> u64
+    ensures { λ r. ⌜ r ≡ runNumber (rowRun (now (words .entry)) people person len i) ⌝ }
+    ensures { λ _. ⌜ now (first .exit)
+        ≡ runFirst (now (first .entry)) (rowRun (now (words .entry)) people person len i) ⌝ }
+    ensures { λ _. ⌜ now (last .exit)
+        ≡ runLast (now (last .entry)) (rowRun (now (words .entry)) people person len i) ⌝ }
+{
+    let run = row::run_bounds(words, people, person, len, i);
+    match run {
+        Run::Span {
+            first: low,
+            last: high,
+        } => {
+            *first = low as u64;
+            *last = high as u64;
+            0
+        }
+        Run::Outside => NOTHING,
+        Run::Refused(n) => refused(n),
+    }
+}
+
+// The next run from the cursor on: 0, with its ends and the next cursor written; otherwise they stay.
+#[no_mangle]
+pub extern "C" fn boltraven_next_run(
+    words: &[u64],
+    people: usize,
+    person: usize,
+    len: usize,
+    cursor: usize,
+    first: &mut u64,
+    last: &mut u64,
+    next: &mut u64,
+) -> u64
+    ensures { λ r. ⌜ r ≡ nextRunNumber (rowNextRun (now (words .entry)) people person len cursor) ⌝ }
+    ensures { λ _. ⌜ now (first .exit)
+        ≡ nextRunFirst (now (first .entry)) (rowNextRun (now (words .entry)) people person len cursor) ⌝ }
+    ensures { λ _. ⌜ now (last .exit)
+        ≡ nextRunLast (now (last .entry)) (rowNextRun (now (words .entry)) people person len cursor) ⌝ }
+    ensures { λ _. ⌜ now (next .exit)
+        ≡ nextRunCursor (now (next .entry)) (rowNextRun (now (words .entry)) people person len cursor) ⌝ }
+{
+    let run = row::next_run(words, people, person, len, Cursor { at: cursor });
+    match run {
+        NextRun::Span {
+            first: low,
+            last: high,
+            next: after,
+        } => {
+            *first = low as u64;
+            *last = high as u64;
+            *next = after.at as u64;
+            0
+        }
+        NextRun::Done => NOTHING,
+        NextRun::Refused(n) => refused(n),
+    }
+}
+
+// The next member from the cursor on: 0, with its index and the next cursor written; otherwise they stay.
+#[no_mangle]
+pub extern "C" fn boltraven_next_member(
+    words: &[u64],
+    people: usize,
+    person: usize,
+    len: usize,
+    cursor: usize,
+    at: &mut u64,
+    next: &mut u64,
+) -> u64
+    ensures { λ r. ⌜ r ≡ memberNumber (rowNextMember (now (words .entry)) people person len cursor) ⌝ }
+    ensures { λ _. ⌜ now (at .exit)
+        ≡ memberAt (now (at .entry)) (rowNextMember (now (words .entry)) people person len cursor) ⌝ }
+    ensures { λ _. ⌜ now (next .exit)
+        ≡ memberCursor (now (next .entry)) (rowNextMember (now (words .entry)) people person len cursor) ⌝ }
+{
+    let member = row::next_member(words, people, person, len, Cursor { at: cursor });
+    match member {
+        NextMember::Slot {
+            at: slot,
+            next: after,
+        } => {
+            *at = slot as u64;
+            *next = after.at as u64;
+            0
+        }
+        NextMember::Done => NOTHING,
+        NextMember::Refused(n) => refused(n),
+    }
+}
+
+// The row with slot i, by way of a set by value.
+#[no_mangle]
+pub extern "C" fn boltraven_insert(
+    words: &mut [u64],
+    people: usize,
+    person: usize,
+    len: usize,
+    i: usize,
+) -> u8
+    ensures { λ r. ⌜ r ≡ rowPutNo 1 (now (words .entry)) people person len i ⌝ }
+    ensures { λ _. ⌜ now (words .exit) ≡ rowPutOf 1 (now (words .entry)) people person len i ⌝ }
+{
+    let loaded = row::load(words, people, person, len);
+    let number = loaded.number;
+    if number == 0 {
+        let set = loaded.set;
+        let changed = set.insert(i);
+        let refusal = changed.number;
+        if refusal == 0 {
+            let new = changed.set;
+            return row::store(new, words, people, person);
+        }
+        return refusal;
+    }
+    number
+}
+
+// The row without slot i, by way of a set by value.
+#[no_mangle]
+pub extern "C" fn boltraven_remove(
+    words: &mut [u64],
+    people: usize,
+    person: usize,
+    len: usize,
+    i: usize,
+) -> u8
+    ensures { λ r. ⌜ r ≡ rowPutNo 0 (now (words .entry)) people person len i ⌝ }
+    ensures { λ _. ⌜ now (words .exit) ≡ rowPutOf 0 (now (words .entry)) people person len i ⌝ }
+{
+    let loaded = row::load(words, people, person, len);
+    let number = loaded.number;
+    if number == 0 {
+        let set = loaded.set;
+        let changed = set.remove(i);
+        let refusal = changed.number;
+        if refusal == 0 {
+            let new = changed.set;
+            return row::store(new, words, people, person);
+        }
+        return refusal;
+    }
+    number
+}
+
+// Every slot of the row from `from` up to `to`, without `to`, becomes as wanted.
+#[no_mangle]
+pub extern "C" fn boltraven_put_stretch(
+    words: &mut [u64],
+    people: usize,
+    person: usize,
+    len: usize,
+    from: usize,
+    to: usize,
+    want: bool,
+) -> u8
+    ensures { λ r. ⌜ r ≡ rowStretchNo (now (words .entry)) people person len from to ⌝ }
+    ensures { λ _. ⌜ now (words .exit) ≡ rowStretchOf (valueOf want) (now (words .entry)) people person len from to ⌝ }
+{
+    row::put_stretch(words, people, person, len, from, to, want)
+}

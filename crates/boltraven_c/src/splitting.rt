@@ -1,0 +1,105 @@
+// Ranges merged, base slots split at their cuts, and who is available for which slot. Ranges come as three columns.
+use crate::sets::counted_number;
+ghost use mathlib.Core.Path.{_≡_};
+ghost use Rattle.slots.specs.Ranges.{ranges};
+ghost use Rattle.slots.specs.Merged.{columns, mergedRanges};
+ghost use Rattle.slots.specs.Atomic.{base, atomiseOf};
+ghost use Rattle.slots.specs.Availability.{availabilityNo, availabilityOf};
+ghost use Rattle.boltraven_c.specs.Numbers.{countedNumber};
+
+// Each person's ranges, sorted and merged, in three columns, and how many.
+#[no_mangle]
+pub extern "C" fn boltraven_merged_ranges(
+    people: usize,
+    count: usize,
+    persons: &[u16],
+    starts: &[u32],
+    ends: &[u32],
+    whose: &mut [u16],
+    froms: &mut [u32],
+    tos: &mut [u32],
+) -> u64
+    ensures { λ r. ⌜ r ≡ countedNumber
+        (mergedRanges people (ranges count (now (persons .entry)) (now (starts .entry)) (now (ends .entry)))
+        (columns (now (whose .entry)) (now (froms .entry)) (now (tos .entry))) .answer) ⌝ }
+    ensures { λ _. ⌜ now (whose .exit)
+        ≡ mergedRanges people (ranges count (now (persons .entry)) (now (starts .entry)) (now (ends .entry)))
+        (columns (now (whose .entry)) (now (froms .entry)) (now (tos .entry))) .persons ⌝ }
+    ensures { λ _. ⌜ now (froms .exit)
+        ≡ mergedRanges people (ranges count (now (persons .entry)) (now (starts .entry)) (now (ends .entry)))
+        (columns (now (whose .entry)) (now (froms .entry)) (now (tos .entry))) .starts ⌝ }
+    ensures { λ _. ⌜ now (tos .exit)
+        ≡ mergedRanges people (ranges count (now (persons .entry)) (now (starts .entry)) (now (ends .entry)))
+        (columns (now (whose .entry)) (now (froms .entry)) (now (tos .entry))) .ends ⌝ }
+{
+    counted_number(slots::merged_ranges(people, count, persons, starts, ends, whose, froms, tos))
+}
+
+// The atomic slots, in two columns, and how many.
+#[no_mangle]
+pub extern "C" fn boltraven_atomise(
+    slots: usize,
+    starts: &[u32],
+    ends: &[u32],
+    people: usize,
+    count: usize,
+    persons: &[u16],
+    opens: &[u32],
+    shuts: &[u32],
+    froms: &mut [u32],
+    tos: &mut [u32],
+) -> u64
+    ensures { λ r. ⌜ r ≡ countedNumber
+        (atomiseOf (base slots (now (starts .entry)) (now (ends .entry)) people
+        (ranges count (now (persons .entry)) (now (opens .entry)) (now (shuts .entry))) (now (froms .entry)) (now (tos .entry))) .answer) ⌝ }
+    ensures { λ _. ⌜ now (froms .exit)
+        ≡ atomiseOf (base slots (now (starts .entry)) (now (ends .entry)) people
+        (ranges count (now (persons .entry)) (now (opens .entry)) (now (shuts .entry))) (now (froms .entry)) (now (tos .entry))) .starts ⌝ }
+    ensures { λ _. ⌜ now (tos .exit)
+        ≡ atomiseOf (base slots (now (starts .entry)) (now (ends .entry)) people
+        (ranges count (now (persons .entry)) (now (opens .entry)) (now (shuts .entry))) (now (froms .entry)) (now (tos .entry))) .ends ⌝ }
+{
+    counted_number(slots::atomise(
+        slots,
+        starts,
+        ends,
+        people,
+        count,
+        persons,
+        opens,
+        shuts,
+        froms,
+        tos,
+    ))
+}
+
+// Who is available for which of the lent slots, as a row of words a person.
+#[no_mangle]
+pub extern "C" fn boltraven_availability(
+    people: usize,
+    slots: usize,
+    starts: &[u32],
+    ends: &[u32],
+    count: usize,
+    persons: &[u16],
+    opens: &[u32],
+    shuts: &[u32],
+    words: &mut [u64],
+) -> u8
+    ensures { λ r. ⌜ r ≡ availabilityNo people slots (now (starts .entry)) (now (ends .entry))
+        (ranges count (now (persons .entry)) (now (opens .entry)) (now (shuts .entry))) (now (words .entry)) ⌝ }
+    ensures { λ _. ⌜ now (words .exit) ≡ availabilityOf people slots (now (starts .entry)) (now (ends .entry))
+        (ranges count (now (persons .entry)) (now (opens .entry)) (now (shuts .entry))) (now (words .entry)) ⌝ }
+{
+    slots::availability(
+        people,
+        slots,
+        starts,
+        ends,
+        count,
+        persons,
+        opens,
+        shuts,
+        words,
+    )
+}

@@ -1,0 +1,40 @@
+// Who can cover a unit, and whether it is frozen.
+use crate::rotations::count_number;
+use crate::sets::told_number;
+ghost use mathlib.Core.Path.{_≡_};
+ghost use Rattle.units.specs.Domains.{unitDomainIs, unitFrozenIs};
+ghost use Rattle.boltraven_c.specs.Numbers.{toldNumber};
+ghost use Rattle.boltraven_c.specs.Units.{countNumber};
+
+// The people available for all slots of a unit, ascending, and how many.
+#[no_mangle]
+pub extern "C" fn boltraven_unit_domain(
+    avail: &[u64],
+    people: usize,
+    slots: usize,
+    units: usize,
+    firsts: &[u16],
+    unit: usize,
+    list: &mut [u8],
+) -> u64
+    ensures { λ r. ⌜ r ≡ countNumber
+        (unitDomainIs (now (avail .entry)) people slots units (now (firsts .entry)) unit (now (list .entry)) .answer) ⌝ }
+    ensures { λ _. ⌜ now (list .exit)
+        ≡ unitDomainIs (now (avail .entry)) people slots units (now (firsts .entry)) unit (now (list .entry)) .buffer ⌝ }
+{
+    count_number(units::unit_domain(avail, people, slots, units, firsts, unit, list))
+}
+
+// Whether any slot of a unit is frozen: 1 or 0.
+#[no_mangle]
+pub extern "C" fn boltraven_unit_frozen(
+    frozen: &[u64],
+    slots: usize,
+    units: usize,
+    firsts: &[u16],
+    unit: usize,
+) -> u64
+    ensures { λ r. ⌜ r ≡ toldNumber (unitFrozenIs (now (frozen .entry)) slots units (now (firsts .entry)) unit) ⌝ }
+{
+    told_number(units::unit_frozen(frozen, slots, units, firsts, unit))
+}
