@@ -1,0 +1,50 @@
+-- `replay_rota::owners` meets its contract: it is safe and ends. Assumes nothing.
+use borrow.Author.Needs.{needs}
+use Prim.Native.Nat.{_≤_, _-_}
+use Rattle.replay_rota.proofs.owners.Statement.{statement}
+use Rattle.replay_rota.proofs.owners.Tie as tie
+
+abbrev Inv-loop : tie.InvT-loop
+Inv-loop b at out₀ j₀ out j = j ≤ 16
+
+abbrev μ-loop : tie.MeasureT-loop
+μ-loop b at out₀ j₀ out j = 16 - j
+
+loop-holds : tie.Need-loop-holds Inv-loop μ-loop
+loop-holds c = search needs
+
+plus-requires : tie.Need-plus-requires Inv-loop μ-loop
+plus-requires c κs = search needs
+
+raw-requires : tie.Need-raw-requires Inv-loop μ-loop
+raw-requires c κs = search needs
+
+array-write-out : tie.Need-array-write-out Inv-loop μ-loop
+array-write-out c = search needs
+
+add-j : tie.Need-add-j Inv-loop μ-loop
+add-j c = search needs
+
+loop-less : tie.Need-loop-less Inv-loop μ-loop
+loop-less c = search needs
+
+loop-again : tie.Need-loop-again Inv-loop μ-loop
+loop-again c = search needs
+
+returns : tie.Need-returns Inv-loop μ-loop
+returns c = search needs
+
+pub owners-spec : {M : Type 1} → statement M
+owners-spec =
+    tie.close
+    (tie.spec
+    Inv-loop
+    μ-loop
+    loop-holds
+    plus-requires
+    raw-requires
+    array-write-out
+    add-j
+    loop-less
+    loop-again
+    returns)

@@ -1,0 +1,43 @@
+-- `stored::Tally::with` meets its contract. Assumes nothing.
+use borrow.Author.Needs.{needs}
+use mathlib.Core.Path.{_∙_, ap, sym}
+use mathlib.Core.Bool.{Bool, cond}
+use Prim.Native.Nat.{ℕ}
+use Rattle.stored.specs.Numbers.{further}
+use Rattle.stored.proofs.Tally.with.Statement.{statement}
+use Rattle.stored.proofs.Tally.with.Tie as tie
+
+wrapping-add-u64-requires : tie.Need-wrapping-add-u64-requires
+wrapping-add-u64-requires c κs = search needs
+
+wrapping-add-u64-requires-2 : tie.Need-wrapping-add-u64-requires-2
+wrapping-add-u64-requires-2 c κs = search needs
+
+returns : tie.Need-returns
+returns c =
+    let k = c .before in
+    let s = k .before .before .args .self in (
+      k .before .wrapping-add-u64 .ensures,
+      c .wrapping-add-u642 .ensures ∙ sym (ap (λ (b : Bool). further (s .differing) (cond b 0 1)) (k .if1 .taken)),
+    )
+
+wrapping-add-u64-requires-3 : tie.Need-wrapping-add-u64-requires-3
+wrapping-add-u64-requires-3 c κs = search needs
+
+returns-2 : tie.Need-returns-2
+returns-2 c =
+    let k = c .before in
+    let s = k .before .before .args .self in (
+      k .before .wrapping-add-u64 .ensures,
+      c .wrapping-add-u643 .ensures ∙ sym (ap (λ (b : Bool). further (s .differing) (cond b 0 1)) (k .if1 .left)),
+    )
+
+pub with-spec : {M : Type 1} → statement M
+with-spec =
+    tie.close
+    (tie.spec
+    wrapping-add-u64-requires
+    wrapping-add-u64-requires-2
+    returns
+    wrapping-add-u64-requires-3
+    returns-2)

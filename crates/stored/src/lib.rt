@@ -1,0 +1,127 @@
+// Reading stored answers: the numbers of a record, low byte first, and the tally of what was compared. The programs `replay_*` use it.
+ghost use mathlib.Core.Path.{_≡_};
+ghost use mathlib.Core.Bool.{cond};
+ghost use Prim.Native.Nat.{_+_, _%_, _^_, _<_};
+ghost use lib.ListN.{getD};
+ghost use Rattle.stored.specs.Numbers.{further, littleAt, fourAfter};
+
+// How many answers were compared, and how many differ.
+pub struct Tally {
+    pub compared: u64,
+    pub differing: u64,
+}
+
+impl Tally {
+    // Nothing compared yet.
+    pub fn none() -> Tally
+        ensures { λ r. ⌜ (r .compared ≡ 0) × (r .differing ≡ 0) ⌝ }
+    {
+        Tally {
+            compared: 0,
+            differing: 0,
+        }
+    }
+
+    // One answer more.
+    pub fn with(self, same: bool) -> Tally
+        ensures { λ r. ⌜ (r .compared ≡ further (self .compared) 1) × (r .differing ≡ further (self .differing) (cond same 0 1)) ⌝ }
+    {
+        let compared = std::num::wrapping_add_u64(self.compared, 1);
+        if same {
+            return Tally {
+                compared,
+                differing: std::num::wrapping_add_u64(self.differing, 0),
+            };
+        }
+        Tally {
+            compared,
+            differing: std::num::wrapping_add_u64(self.differing, 1),
+        }
+    }
+}
+
+// An index k further on: no index of a record is near the end of numbers.
+pub fn plus(at: usize, k: usize) -> usize
+    ensures { λ r. ⌜ r ≡ further at k ⌝ }
+{
+    std::num::wrapping_add_usize(at, k)
+}
+
+fn wide(x: u8) -> u64
+    ensures { λ r. ⌜ r ≡ x ⌝ }
+{
+    x as u64
+}
+
+// The byte k places after an index, or 0 past the end.
+fn byte_after(b: &[u8], at: usize, k: usize) -> u64
+    ensures { λ r. ⌜ (r ≡ getD (now (b .entry)) (at + k) 0) × (r < 256) ⌝ }
+{
+    if at < b.len() {
+        if k < b.len() - at {
+            return wide(b[at + k]);
+        }
+        return 0;
+    }
+    0
+}
+
+// The byte at an index, or 0 past the end.
+pub fn byte(b: &[u8], at: usize) -> u64
+    ensures { λ r. ⌜ r ≡ littleAt 1 (now (b .entry)) at ⌝ }
+{
+    byte_after(b, at, 0)
+}
+
+// Two bytes at an index.
+fn pair(b: &[u8], at: usize) -> u64
+    ensures { λ r. ⌜ (r ≡ littleAt 2 (now (b .entry)) at) × (r < 65536) ⌝ }
+{
+    byte_after(b, at, 0) + 256 * byte_after(b, at, 1)
+}
+
+// The u16 at an index.
+pub fn half(b: &[u8], at: usize) -> usize
+    ensures { λ r. ⌜ r ≡ littleAt 2 (now (b .entry)) at ⌝ }
+{
+    pair(b, at) as usize
+}
+
+// Four bytes from k places after an index.
+fn four_after(b: &[u8], at: usize, k: usize) -> u64
+    requires { ⌜ k < 5 ⌝ }
+    ensures { λ r. ⌜ (r ≡ fourAfter (now (b .entry)) at k) × (r < 4294967296) ⌝ }
+{
+    byte_after(b, at, k)
+        + 256 * byte_after(b, at, k + 1)
+        + 65536 * byte_after(b, at, k + 2)
+        + 16777216 * byte_after(b, at, k + 3)
+}
+
+// The byte at an index as it is, or 0 past the end.
+pub fn raw(b: &[u8], at: usize) -> u8
+    ensures { λ r. ⌜ r ≡ getD (now (b .entry)) at 0 ⌝ }
+{
+    if at < b.len() { b[at] } else { 0 }
+}
+
+// The u16 at an index, as a u16.
+pub fn short(b: &[u8], at: usize) -> u16
+    ensures { λ r. ⌜ r ≡ littleAt 2 (now (b .entry)) at ⌝ }
+{
+    pair(b, at) as u16
+}
+
+// The u32 at an index.
+pub fn quad(b: &[u8], at: usize) -> u32
+    ensures { λ r. ⌜ r ≡ littleAt 4 (now (b .entry)) at ⌝ }
+{
+    four_after(b, at, 0) as u32
+}
+
+// The u64 at an index.
+pub fn word(b: &[u8], at: usize) -> u64
+    ensures { λ r. ⌜ r ≡ littleAt 8 (now (b .entry)) at ⌝ }
+{
+    four_after(b, at, 0) + 4294967296 * four_after(b, at, 4)
+}

@@ -1,0 +1,537 @@
+//! Rotas and lists of draws: any units, availability and frozen flags, and what the Rust's moves make of them.
+
+use on_call::model::problem::Problem;
+use on_call::model::Assignment;
+use on_call::search::moves::MoveGenerator;
+use rand::Script;
+
+use crate::call::{bytes16, bytes32, bytes64, Arg, Outcome, Question};
+use crate::days::MINUTES_MOST;
+use crate::problems::{availability_into, put_bit, slots_of, unit_starts_of, Person, ProblemCase, Range, Settings};
+use crate::seed::Seed;
+use crate::sets::{PEOPLE_MOST, SET_WORDS, SLOTS_MOST};
+
+/// The owner byte of a slot that nobody holds.
+pub const NOBODY: u8 = 255;
+
+/// Three numbers a draw.
+pub type Draw = (u16, u16, u16);
+
+/// A rota with its draws.
+pub struct RotaCase {
+    /// The Rust's problem, with the frozen flags in it.
+    pub problem: Problem,
+    pub owners: Vec<u8>,
+    pub draws: Vec<Draw>,
+}
+
+/// A rota after a play.
+#[derive(Debug, Clone, PartialEq, Eq)]
+pub struct Played {
+    pub answers: Vec<u8>,
+    pub owners: Vec<u8>,
+    pub minutes: Vec<u64>,
+    pub uncovered: u64,
+}
+
+impl RotaCase {
+    /// A rota by its seed. Slots of one unit start on one day and units on different days, so that a lock on all weekdays makes exactly
+    /// these units; people's ranges are exactly the slots that they can cover.
+    pub fn new(seed: &mut Seed) -> Self {
+        let count = if seed.one_in(25) { SLOTS_MOST as u64 } else { seed.within(1, 40) } as usize;
+        let people = if seed.one_in(8) { PEOPLE_MOST as u64 } else { seed.within(1, 6) } as usize;
+        let locked = seed.one_in(2);
+        let base = rota_slots(seed, count, locked);
+        let ranges = able(seed, &base, people);
+        let case = ProblemCase {
+            base,
+            ranges,
+            people: vec![Person { capacity: 1.0, prior: 0 }; people],
+            settings: Settings {
+                fairness: 1,
+                lock: u8::from(locked),
+                boundary: 1,
+                value: 127,
+                days: 1,
+            },
+        };
+        let mut problem = case.rust();
+        assert_eq!(problem.slot_count(), case.base.len(), "no range cuts a slot");
+        let often = seed.pick(&[1000, 30, 8, 3]);
+        for flag in problem.frozen.iter_mut() {
+            *flag = seed.one_in(often);
+        }
+        let owners = owners(seed, &problem);
+        let draws = draws(seed, &problem);
+        Self { problem, owners, draws }
+    }
+
+    /// The Rust's assignment of owners.
+    pub fn assignment(&self, owners: &[u8]) -> Assignment {
+        let slots = owners
+            .iter()
+            .map(|&owner| (owner != NOBODY).then_some(usize::from(owner)))
+            .collect();
+        Assignment::from_slots(&self.problem, slots)
+    }
+
+    /// Plays all draws as the Rust's moves do.
+    pub fn play(&self) -> Played {
+        let mut assignment = self.assignment(&self.owners);
+        let generator = MoveGenerator::new();
+        let answers = self
+            .draws
+            .iter()
+            .map(|&draw| step(&self.problem, &mut assignment, &generator, draw))
+            .collect();
+        played(&self.problem, &assignment, answers)
+    }
+}
+
+/// What is to be seen of an assignment.
+pub fn played(problem: &Problem, assignment: &Assignment, answers: Vec<u8>) -> Played {
+    let owners: Vec<u8> = assignment
+        .slots()
+        .iter()
+        .map(|slot| slot.map_or(NOBODY, |person| person as u8))
+        .collect();
+    let uncovered = owners.iter().zip(&problem.slot_minutes).filter(|(&owner, _)| owner == NOBODY);
+    Played {
+        minutes: (0..problem.human_count())
+            .map(|person| assignment.assigned_minutes(person) as u64)
+            .collect(),
+        uncovered: uncovered.map(|(_, &minutes)| minutes as u64).sum(),
+        answers,
+        owners,
+    }
+}
+
+/// One draw: 0 acted, 1 no move, 2 a choice outside.
+pub fn step(problem: &Problem, assignment: &mut Assignment, generator: &MoveGenerator, (draw, first, second): Draw) -> u8 {
+    if draw >= 100 {
+        return 2;
+    }
+    let mut script = Script::new(u32::from(draw), &[usize::from(first), usize::from(second)]);
+    let mut changes = Vec::new();
+    let acted = generator.generate(problem, assignment, &mut script, &mut changes);
+    if script.outside() {
+        return 2;
+    }
+    if !acted {
+        return 1;
+    }
+    for (slot, person) in changes {
+        assignment.assign(problem, slot, person);
+    }
+    0
+}
+
+/// Slots for a rota: locked, those of one day make a unit; unlocked, any, some of them touching.
+fn rota_slots(seed: &mut Seed, count: usize, locked: bool) -> Vec<(u32, u32)> {
+    let mut slots: Vec<(u32, u32)> = Vec::new();
+    let mut day = seed.below(30_000);
+    let most = seed.pick(&[1, 2, 3, 6, 1024]);
+    let mut at = day * 1440;
+    while slots.len() < count {
+        let in_day = if locked { seed.within(1, most) as usize } else { 1 }.min(count - slots.len());
+        for k in 1..=in_day {
+            // the last slot of a day may be long, and all start within the day
+            let length = if k == in_day { seed.within(1, 400) } else { 1 };
+            slots.push((at as u32, (at + length) as u32));
+            at += length;
+            if in_day <= 300 {
+                at += seed.below(2);
+            }
+        }
+        if locked {
+            day = at / 1440 + 1 + if seed.one_in(3) { seed.below(4) } else { 0 };
+            at = day * 1440;
+        }
+    }
+    assert!(i64::from(slots[slots.len() - 1].1) <= MINUTES_MOST, "the slots fit");
+    slots
+}
+
+/// Who can cover which slot: any grid, some of it in stretches.
+fn able(seed: &mut Seed, base: &[(u32, u32)], people: usize) -> Vec<Range> {
+    let mut ranges = Vec::new();
+    for person in 0..people {
+        let way = seed.below(5);
+        let mut value = true;
+        let mut left = 0;
+        for &(start, end) in base {
+            let can = match way {
+                0 => true,
+                1 => seed.one_in(2),
+                2 => !seed.one_in(6),
+                3 => seed.one_in(6),
+                _ => {
+                    if left == 0 {
+                        value = !value;
+                        left = seed.within(1, 12);
+                    }
+                    left -= 1;
+                    value
+                }
+            };
+            if can {
+                ranges.push(Range { person, start, end });
+            }
+        }
+    }
+    ranges
+}
+
+/// Owners that keep the paper's rules: each unit has one, able to cover it, or nobody; often the same for several units.
+pub fn owners(seed: &mut Seed, problem: &Problem) -> Vec<u8> {
+    let mut owners = vec![NOBODY; problem.slot_count()];
+    let gaps = seed.pick(&[1, 5, 20, 1000]);
+    let mut previous = None;
+    for (unit, domain) in problem.units.iter().zip(&problem.unit_domains) {
+        let owner = match previous {
+            Some(person) if domain.contains(&person) && !seed.one_in(3) => Some(person),
+            _ if domain.is_empty() || seed.one_in(gaps) => None,
+            _ => Some(seed.pick(domain)),
+        };
+        previous = owner;
+        if let Some(person) = owner {
+            owners[unit.clone()].fill(person as u8);
+        }
+    }
+    owners
+}
+
+/// Draws of all five moves, mostly naming units that there are, some outside in each number.
+pub fn draws(seed: &mut Seed, problem: &Problem) -> Vec<Draw> {
+    let count = if seed.one_in(40) { 1024 } else { seed.within(0, 30) };
+    let units = problem.unit_count() as u64;
+    (0..count)
+        .map(|_| {
+            let draw = match seed.below(12) {
+                0 => seed.pick(&[0, 34, 35, 59, 60, 74, 75, 89, 90, 99]),
+                1 if seed.one_in(4) => seed.pick(&[100, 101, 65_535]),
+                _ => seed.below(100),
+            };
+            let unit = |seed: &mut Seed| {
+                if seed.one_in(40) {
+                    seed.pick(&[units, units + 1, 65_535])
+                } else {
+                    seed.below(units)
+                }
+            };
+            let first = unit(seed);
+            let second = match draw {
+                35..=59 | 75..=89 => unit(seed),
+                90..=99 if seed.one_in(10) => seed.below(4),
+                90..=99 => seed.below(2),
+                _ => seed.below(problem.human_count() as u64 + 1),
+            };
+            (draw as u16, first as u16, second as u16)
+        })
+        .collect()
+}
+
+// ---- the calls
+
+/// A rota as it is lent, with any bits past the last slot, and now and then more room than needed.
+struct Lent {
+    people: usize,
+    units: usize,
+    starts: Vec<u32>,
+    ends: Vec<u32>,
+    avail: Vec<u64>,
+    firsts: Vec<u16>,
+    frozen: Vec<u64>,
+    owners: Vec<u8>,
+    sets: Vec<u64>,
+    minutes: Vec<u64>,
+    draws: Vec<Draw>,
+    answers: Vec<u8>,
+}
+
+impl Lent {
+    fn new(seed: &mut Seed, case: &RotaCase) -> Self {
+        let problem = &case.problem;
+        let people = problem.human_count();
+        let slots = problem.slot_count();
+        let spare = seed.below(2) as usize;
+        let (starts, ends) = slots_of(problem);
+        let firsts = unit_starts_of(problem);
+        let mut words = |sets: usize| -> Vec<u64> { (0..SET_WORDS * sets + spare).map(|_| seed.word()).collect() };
+        let (mut avail, mut frozen, mut sets) = (words(people), words(1), words(people));
+        availability_into(problem, &mut avail);
+        for slot in 0..slots {
+            put_bit(&mut frozen, 0, slot, problem.is_frozen(slot));
+        }
+        sets_into(&mut sets, people, &case.owners);
+        let begun = played(problem, &case.assignment(&case.owners), vec![]);
+        let mut bytes = |list: &[u8]| [list, &vec![seed.word() as u8; spare]].concat();
+        let owners = bytes(&case.owners);
+        let answers = bytes(&vec![9; case.draws.len()]);
+        Self {
+            people,
+            units: firsts.len(),
+            starts,
+            ends,
+            avail,
+            firsts,
+            frozen,
+            owners,
+            sets,
+            minutes: [&begun.minutes[..], &vec![seed.word(); spare]].concat(),
+            draws: case.draws.clone(),
+            answers,
+        }
+    }
+
+    fn column(&self, number: fn(&Draw) -> u16) -> Arg {
+        Arg::Lent(2, bytes16(&self.draws.iter().map(number).collect::<Vec<u16>>()))
+    }
+
+    /// A play: what it leaves, or a refusal that leaves everything as it was.
+    fn question(&self, due: Result<&Played, u64>) -> Question {
+        let (mut owners, mut sets) = (self.owners.clone(), self.sets.clone());
+        let (mut minutes, mut answers) = (self.minutes.clone(), self.answers.clone());
+        let mut result = 0;
+        match due {
+            Ok(end) => {
+                owners[..end.owners.len()].copy_from_slice(&end.owners);
+                sets_into(&mut sets, self.people, &end.owners);
+                minutes[..end.minutes.len()].copy_from_slice(&end.minutes);
+                answers[..end.answers.len()].copy_from_slice(&end.answers);
+            }
+            Err(number) => result = number,
+        }
+        Question {
+            function: "boltraven_play",
+            result_size: 1,
+            args: vec![
+                Arg::Number(self.people as u64),
+                Arg::Number(self.starts.len() as u64),
+                Arg::Number(self.units as u64),
+                Arg::Number(self.draws.len() as u64),
+                Arg::Lent(4, bytes32(&self.starts)),
+                Arg::Lent(4, bytes32(&self.ends)),
+                Arg::Lent(8, bytes64(&self.avail)),
+                Arg::Lent(2, bytes16(&self.firsts)),
+                Arg::Lent(8, bytes64(&self.frozen)),
+                Arg::LentMut(1, self.owners.clone()),
+                Arg::LentMut(8, bytes64(&self.sets)),
+                Arg::LentMut(8, bytes64(&self.minutes)),
+                self.column(|draw| draw.0),
+                self.column(|draw| draw.1),
+                self.column(|draw| draw.2),
+                Arg::LentMut(1, self.answers.clone()),
+            ],
+            due: Outcome {
+                result,
+                written: vec![owners, bytes64(&sets), bytes64(&minutes), answers],
+            },
+        }
+    }
+}
+
+/// Everybody's set of slots, by the owners; bits past the last slot stay.
+fn sets_into(words: &mut [u64], people: usize, owners: &[u8]) {
+    for person in 0..people {
+        for (slot, &owner) in owners.iter().enumerate() {
+            put_bit(words, person, slot, usize::from(owner) == person);
+        }
+    }
+}
+
+/// A play of all draws of a rota; sets and minutes made from its owners; one slot assigned; and what is left uncovered.
+pub fn questions(case_seed: u64) -> Vec<Question> {
+    let mut seed = Seed::new(case_seed);
+    let case = RotaCase::new(&mut seed);
+    let lent = Lent::new(&mut seed, &case);
+    let mut asked = vec![lent.question(Ok(&case.play())), lent.from_slots(&mut seed, &case)];
+    for _ in 0..3 {
+        asked.push(lent.assign(&mut seed, &case));
+    }
+    asked.extend(lent.readers(&mut seed, &case));
+    asked
+}
+
+impl Lent {
+    /// What every entry on a rota takes first.
+    fn ground(&self) -> Vec<Arg> {
+        vec![
+            Arg::Number(self.people as u64),
+            Arg::Number(self.starts.len() as u64),
+            Arg::Lent(4, bytes32(&self.starts)),
+            Arg::Lent(4, bytes32(&self.ends)),
+        ]
+    }
+
+    /// Sets and minutes from owners that are available, over whatever stood there.
+    fn from_slots(&self, seed: &mut Seed, case: &RotaCase) -> Question {
+        let mut sets: Vec<u64> = self.sets.iter().map(|_| seed.word()).collect();
+        let mut minutes: Vec<u64> = self.minutes.iter().map(|_| seed.word()).collect();
+        let mut args = self.ground();
+        args.extend([
+            Arg::Lent(8, bytes64(&self.avail)),
+            Arg::Lent(1, self.owners.clone()),
+            Arg::LentMut(8, bytes64(&sets)),
+            Arg::LentMut(8, bytes64(&minutes)),
+        ]);
+        let made = played(&case.problem, &case.assignment(&case.owners), vec![]);
+        sets_into(&mut sets, self.people, &made.owners);
+        minutes[..self.people].copy_from_slice(&made.minutes);
+        Question {
+            function: "boltraven_from_slots",
+            result_size: 1,
+            args,
+            due: Outcome {
+                result: 0,
+                written: vec![bytes64(&sets), bytes64(&minutes)],
+            },
+        }
+    }
+
+    /// A slot assigned to somebody or cleared. The Rust has no answer for one who is not available, or an unknown one or slot: 12, 11.
+    fn assign(&self, seed: &mut Seed, case: &RotaCase) -> Question {
+        let slots = self.starts.len();
+        let slot = if seed.one_in(12) {
+            slots + seed.below(3) as usize
+        } else {
+            seed.below(slots as u64) as usize
+        };
+        let owner = match seed.below(8) {
+            0 => NOBODY,
+            1 if seed.one_in(3) => self.people as u8,
+            _ => seed.below(self.people as u64) as u8,
+        };
+        let person = usize::from(owner);
+        let number = if slot >= slots || (owner != NOBODY && person >= self.people) {
+            11
+        } else if owner != NOBODY && !case.problem.is_available(person, slot) {
+            12
+        } else {
+            0
+        };
+        let mut args = self.ground();
+        args.extend([
+            Arg::Lent(8, bytes64(&self.avail)),
+            Arg::LentMut(1, self.owners.clone()),
+            Arg::LentMut(8, bytes64(&self.sets)),
+            Arg::LentMut(8, bytes64(&self.minutes)),
+            Arg::Number(slot as u64),
+            Arg::Number(u64::from(owner)),
+        ]);
+        let (mut owners, mut sets, mut minutes) = (self.owners.clone(), self.sets.clone(), self.minutes.clone());
+        if number == 0 {
+            let mut assignment = case.assignment(&case.owners);
+            assignment.assign(&case.problem, slot, (owner != NOBODY).then_some(person));
+            let made = played(&case.problem, &assignment, vec![]);
+            owners[..slots].copy_from_slice(&made.owners);
+            sets_into(&mut sets, self.people, &made.owners);
+            minutes[..self.people].copy_from_slice(&made.minutes);
+        }
+        Question {
+            function: "boltraven_assign",
+            result_size: 1,
+            args,
+            due: Outcome {
+                result: number,
+                written: vec![owners, bytes64(&sets), bytes64(&minutes)],
+            },
+        }
+    }
+
+    /// Slots and minutes that nobody owns.
+    fn readers(&self, seed: &mut Seed, case: &RotaCase) -> Vec<Question> {
+        let assignment = case.assignment(&case.owners);
+        let uncovered = played(&case.problem, &assignment, vec![]).uncovered;
+        let mut count_args = vec![
+            Arg::Number(self.people as u64),
+            Arg::Number(self.starts.len() as u64),
+            Arg::Lent(1, self.owners.clone()),
+        ];
+        count_args.push(Arg::Out(seed.word()));
+        let mut minute_args = self.ground();
+        minute_args.extend([Arg::Lent(1, self.owners.clone()), Arg::Out(seed.word())]);
+        let question = |function, args, due: u64| Question {
+            function,
+            result_size: 1,
+            args,
+            due: Outcome {
+                result: 0,
+                written: vec![due.to_le_bytes().to_vec()],
+            },
+        };
+        vec![
+            question("boltraven_unassigned_count", count_args, assignment.unassigned_count() as u64),
+            question("boltraven_uncovered_minutes", minute_args, uncovered),
+        ]
+    }
+}
+
+/// Rotas with one fault: in what was lent, or of the recount. The number is the paper's, and it is the only one that is due.
+pub fn damaged(case_seed: u64) -> Vec<Question> {
+    let mut seed = Seed::new(case_seed);
+    let case = RotaCase::new(&mut seed);
+    let mut lent = Lent::new(&mut seed, &case);
+    let slots = case.problem.slot_count();
+    let slot = seed.below(slots as u64) as usize;
+    let person = seed.below(lent.people as u64) as usize;
+    let number = match seed.below(9) {
+        0 => {
+            lent.people = seed.pick(&[0, 33, usize::MAX]);
+            1
+        }
+        1 => {
+            lent.owners.truncate(slots - 1);
+            2
+        }
+        2 => {
+            lent.sets.truncate(SET_WORDS * lent.people - 1);
+            2
+        }
+        3 => {
+            lent.ends[slot] = lent.starts[slot];
+            9
+        }
+        4 => {
+            lent.firsts[0] = 1;
+            9
+        }
+        5 => {
+            lent.units = 0;
+            9
+        }
+        6 => {
+            lent.owners[slot] = lent.people as u8 + seed.below(254 - lent.people as u64) as u8;
+            10
+        }
+        7 => {
+            let word = &mut lent.sets[SET_WORDS * person + slot / 64];
+            *word ^= 1 << (slot % 64);
+            10
+        }
+        _ => {
+            lent.minutes[person] ^= 1 << seed.below(64);
+            10
+        }
+    };
+    vec![lent.question(Err(number))]
+}
+
+#[cfg(test)]
+mod tests {
+    use super::RotaCase;
+    use crate::seed::Seed;
+
+    /// The generators make rotas that the Rust takes, and draws that reach every answer.
+    #[test]
+    fn every_answer_is_reached() {
+        let mut seen = [0u64; 3];
+        for k in 0..300 {
+            let case = RotaCase::new(&mut Seed::new(k));
+            for answer in case.play().answers {
+                seen[usize::from(answer)] += 1;
+            }
+        }
+        assert!(seen.iter().all(|&times| times > 100), "{seen:?}");
+    }
+}

@@ -1,0 +1,411 @@
+//! Slot sets: cases, the Rust's answers, and the calls of the library that must give the same.
+
+use on_call::model::assignment::SlotSet;
+
+use crate::call::{bytes64, Arg, Outcome, Question};
+use crate::seed::Seed;
+
+/// Words in a set, and the longest set.
+pub const SET_WORDS: usize = 16;
+pub const SLOTS_MOST: usize = 1024;
+/// The most people.
+pub const PEOPLE_MOST: usize = 32;
+/// What an exported function answers for nothing found; a refusal adds its number.
+pub const NOTHING: u64 = 65_536;
+
+/// Lengths at which words and limits begin and end.
+const LENGTHS: [u64; 19] = [
+    0, 1, 2, 62, 63, 64, 65, 66, 127, 128, 129, 191, 192, 193, 512, 1022, 1023, 1024, 1024,
+];
+
+/// A set: its words, with bits past the length as they come.
+#[derive(Debug, Clone)]
+pub struct SetCase {
+    pub len: usize,
+    pub words: [u64; SET_WORDS],
+}
+
+impl SetCase {
+    /// A set by its seed.
+    pub fn new(seed: &mut Seed) -> Self {
+        let len = if seed.one_in(3) {
+            seed.within(0, SLOTS_MOST as u64)
+        } else {
+            seed.pick(&LENGTHS)
+        } as usize;
+        let mut words = [0u64; SET_WORDS];
+        fill(seed, &mut words, 0, len);
+        // bits past the length: none, all, or any
+        fill(seed, &mut words, len, SLOTS_MOST);
+        Self { len, words }
+    }
+
+    /// The same set as the Rust holds it. It has no bits past the length.
+    pub fn rust(&self) -> SlotSet {
+        self.rust_with_len(self.len)
+    }
+
+    /// The members below this set's length, in a set of another length.
+    fn rust_with_len(&self, len: usize) -> SlotSet {
+        let mut set = SlotSet::new(len);
+        for i in 0..self.len.min(len) {
+            if self.bit(i) {
+                set.insert(i);
+            }
+        }
+        set
+    }
+
+    fn bit(&self, i: usize) -> bool {
+        bit(&self.words, i)
+    }
+
+    /// This set's words with the members of a Rust set, and the bits past the length as they were.
+    pub fn words_of(&self, set: &SlotSet) -> [u64; SET_WORDS] {
+        let mut words = self.words;
+        for i in 0..self.len {
+            put(&mut words, i, set.contains(i));
+        }
+        words
+    }
+}
+
+fn bit(words: &[u64], i: usize) -> bool {
+    words[i / 64] >> (i % 64) & 1 == 1
+}
+
+fn put(words: &mut [u64], i: usize, value: bool) {
+    let mask = 1u64 << (i % 64);
+    if value {
+        words[i / 64] |= mask;
+    } else {
+        words[i / 64] &= !mask;
+    }
+}
+
+/// Sets the bits from `from` up to `to` in one of several ways.
+fn fill(seed: &mut Seed, words: &mut [u64], from: usize, to: usize) {
+    let way = seed.below(7);
+    let mut value = seed.one_in(2);
+    let mut left = 0;
+    let single = if from < to {
+        seed.within(from as u64, to as u64 - 1) as usize
+    } else {
+        0
+    };
+    for i in from..to {
+        let set = match way {
+            0 => false,
+            1 => true,
+            2 => seed.one_in(2),
+            3 => seed.one_in(40),
+            4 => !seed.one_in(40),
+            5 => i == single,
+            _ => {
+                // runs, some of them over several words
+                if left == 0 {
+                    value = !value;
+                    left = if seed.one_in(4) { seed.within(1, 200) } else { seed.within(1, 9) };
+                }
+                left -= 1;
+                value
+            }
+        };
+        put(words, i, set);
+    }
+}
+
+/// An index to ask about: near the ends of words and of the set, inside it, or far away.
+pub fn index(seed: &mut Seed, len: usize) -> usize {
+    let near = |seed: &mut Seed, at: u64| at.saturating_add(seed.below(4)).saturating_sub(2);
+    match seed.below(8) {
+        0 => near(seed, 0) as usize,
+        1 => near(seed, len as u64) as usize,
+        2 => {
+            let word = seed.below(17);
+            near(seed, 64 * word) as usize
+        }
+        3 => seed.within(0, 2000) as usize,
+        4 if seed.one_in(4) => seed.pick(&[usize::MAX, usize::MAX - 1, 1 << 63, 1 << 32, 65_535, 65_536]),
+        _ => seed.within(0, (len as u64).max(1)) as usize,
+    }
+}
+
+// ---- the Rust's answers
+
+/// The number that stands for a slot found, or for nothing.
+fn found(answer: Option<usize>) -> u64 {
+    answer.map_or(NOTHING, |i| i as u64)
+}
+
+/// `next_unset_after` is private: the run of `from`, put into a copy, ends just before it.
+pub fn next_unset_after(case: &SetCase, from: usize) -> Option<usize> {
+    if from >= case.len {
+        return None;
+    }
+    let mut set = case.rust();
+    set.insert(from);
+    let (_, end) = set.run_bounds(from).expect("it was just put in");
+    (end + 1 < case.len).then_some(end + 1)
+}
+
+/// `prev_unset_before` is private: the run of `from`, put into a copy that has room for it, starts just after it.
+/// From past the length the Rust would read bits past it; the paper lowers the index to the length first.
+pub fn prev_unset_before(case: &SetCase, from: usize) -> Option<usize> {
+    let from = from.min(case.len);
+    let mut set = case.rust_with_len(case.len.max(from + 1));
+    set.insert(from);
+    let (start, _) = set.run_bounds(from).expect("it was just put in");
+    start.checked_sub(1)
+}
+
+/// The next run from a cursor on: the reader starts at 0, so the members below the cursor are taken out of a copy first.
+pub fn next_run(case: &SetCase, cursor: usize) -> Option<(usize, usize)> {
+    let mut set = case.rust();
+    for i in 0..cursor.min(case.len) {
+        set.remove(i);
+    }
+    set.runs().next()
+}
+
+/// The next member from a cursor on, likewise.
+pub fn next_member(case: &SetCase, cursor: usize) -> Option<usize> {
+    case.rust().iter().find(|&i| i >= cursor)
+}
+
+// ---- the calls
+
+/// A set among those of several people, in more words than are needed.
+struct Row {
+    case: SetCase,
+    words: Vec<u64>,
+    people: usize,
+    person: usize,
+}
+
+impl Row {
+    fn new(seed: &mut Seed) -> Self {
+        let case = SetCase::new(seed);
+        let people = if seed.one_in(2) {
+            1
+        } else {
+            seed.within(1, PEOPLE_MOST as u64) as usize
+        };
+        let person = seed.below(people as u64) as usize;
+        let spare = seed.below(3) as usize;
+        let mut words: Vec<u64> = (0..SET_WORDS * people + spare).map(|_| seed.word()).collect();
+        words[SET_WORDS * person..SET_WORDS * (person + 1)].copy_from_slice(&case.words);
+        Self {
+            case,
+            words,
+            people,
+            person,
+        }
+    }
+
+    /// The arguments that every function of a row takes.
+    fn args(&self, lent: fn(usize, Vec<u8>) -> Arg) -> Vec<Arg> {
+        vec![
+            lent(8, bytes64(&self.words)),
+            Arg::Number(self.people as u64),
+            Arg::Number(self.person as u64),
+            Arg::Number(self.case.len as u64),
+        ]
+    }
+
+    /// A question whose answer is a number.
+    fn number(&self, function: &'static str, more: &[usize], result: u64) -> Question {
+        let mut args = self.args(Arg::Lent);
+        args.extend(more.iter().map(|&n| Arg::Number(n as u64)));
+        Question {
+            function,
+            result_size: 8,
+            args,
+            due: Outcome { result, written: vec![] },
+        }
+    }
+
+    /// A question whose answer is also written through addresses: `due`, or where there is none, what stood there.
+    fn numbers(&self, function: &'static str, index: usize, outs: &[u64], due: Option<Vec<u64>>) -> Question {
+        let mut args = self.args(Arg::Lent);
+        args.push(Arg::Number(index as u64));
+        args.extend(outs.iter().map(|&n| Arg::Out(n)));
+        let result = if due.is_some() { 0 } else { NOTHING };
+        let written = due.unwrap_or_else(|| outs.to_vec());
+        Question {
+            function,
+            result_size: 8,
+            args,
+            due: Outcome {
+                result,
+                written: written.iter().map(|n| n.to_le_bytes().to_vec()).collect(),
+            },
+        }
+    }
+
+    /// A change: the number, and the words at exit.
+    fn change(&self, function: &'static str, more: &[u64], number: u64, row: Option<[u64; SET_WORDS]>) -> Question {
+        let mut args = self.args(Arg::LentMut);
+        args.extend(more.iter().map(|&n| Arg::Number(n)));
+        let mut words = self.words.clone();
+        if let Some(row) = row {
+            words[SET_WORDS * self.person..SET_WORDS * (self.person + 1)].copy_from_slice(&row);
+        }
+        Question {
+            function,
+            result_size: 1,
+            args,
+            due: Outcome {
+                result: number,
+                written: vec![bytes64(&words)],
+            },
+        }
+    }
+}
+
+/// What is asked of one set: its size, and of several indexes every search, run and change.
+pub fn questions(case_seed: u64) -> Vec<Question> {
+    let mut seed = Seed::new(case_seed);
+    let row = Row::new(&mut seed);
+    let case = &row.case;
+    let set = case.rust();
+    let mut asked = vec![
+        row.number("boltraven_is_empty", &[], u64::from(set.is_empty())),
+        row.number("boltraven_count", &[], set.count() as u64),
+    ];
+    for _ in 0..3 {
+        let i = index(&mut seed, case.len);
+        asked.push(row.number("boltraven_contains", &[i], u64::from(set.contains(i))));
+        asked.push(row.number("boltraven_next_set", &[i], found(set.next_set(i))));
+        asked.push(row.number("boltraven_prev_set", &[i], found(set.prev_set(i))));
+        asked.push(row.number("boltraven_next_unset_after", &[i], found(next_unset_after(case, i))));
+        asked.push(row.number("boltraven_prev_unset_before", &[i], found(prev_unset_before(case, i))));
+        let outs = [seed.word(), seed.word(), seed.word()];
+        let run = set.run_bounds(i).map(|(first, last)| vec![first as u64, last as u64]);
+        asked.push(row.numbers("boltraven_run_bounds", i, &outs[..2], run));
+        let run = next_run(case, i).map(|(first, last)| vec![first as u64, last as u64, last as u64 + 1]);
+        asked.push(row.numbers("boltraven_next_run", i, &outs, run));
+        let member = next_member(case, i).map(|at| vec![at as u64, at as u64 + 1]);
+        asked.push(row.numbers("boltraven_next_member", i, &outs[..2], member));
+        asked.extend(changes(&mut seed, &row, i));
+    }
+    asked.extend(all_runs(&mut seed, &row));
+    asked
+}
+
+/// Insert, remove and stretches at an index. The Rust has no answer for an index past the length: the paper's is 11.
+fn changes(seed: &mut Seed, row: &Row, i: usize) -> Vec<Question> {
+    let case = &row.case;
+    let inside = i < case.len;
+    let number = if inside { 0 } else { 11 };
+    let changed = |value: bool| {
+        let mut set = case.rust();
+        if inside && value {
+            set.insert(i);
+        } else if inside {
+            set.remove(i);
+        }
+        Some(case.words_of(&set))
+    };
+    let value = seed.one_in(2);
+    let to = index(seed, case.len);
+    let (from, to) = if seed.one_in(6) { (to, i) } else { (i.min(to), i.max(to)) };
+    let within = to <= from || to <= case.len;
+    let mut set = case.rust();
+    if within {
+        for k in from..to {
+            if value {
+                set.insert(k);
+            } else {
+                set.remove(k);
+            }
+        }
+    }
+    vec![
+        row.change("boltraven_insert", &[i as u64], number, changed(true)),
+        row.change("boltraven_remove", &[i as u64], number, changed(false)),
+        row.change(
+            "boltraven_put_stretch",
+            &[from as u64, to as u64, u64::from(value)],
+            if within { 0 } else { 11 },
+            Some(case.words_of(&set)),
+        ),
+    ]
+}
+
+/// The whole reader: every run, each from the cursor that the one before it left, then nothing.
+fn all_runs(seed: &mut Seed, row: &Row) -> Vec<Question> {
+    let outs = [seed.word(), seed.word(), seed.word()];
+    let mut cursor = 0;
+    let mut asked = Vec::new();
+    // a set of single members has hundreds of runs: the first twenty, and the end
+    for (first, last) in row.case.rust().runs().take(20) {
+        let due = vec![first as u64, last as u64, last as u64 + 1];
+        asked.push(row.numbers("boltraven_next_run", cursor, &outs, Some(due)));
+        cursor = last + 1;
+    }
+    asked.push(row.numbers("boltraven_next_run", row.case.len, &outs, None));
+    asked
+}
+
+/// Damaged calls: the Rust has no refusals, so the number is the paper's, worked out here by its table.
+pub fn damaged(case_seed: u64) -> Vec<Question> {
+    let mut seed = Seed::new(case_seed);
+    let mut row = Row::new(&mut seed);
+    let i = index(&mut seed, row.case.len);
+    if seed.one_in(2) {
+        row.people = seed.pick(&[0, 33, 34, 1 << 40, usize::MAX]);
+    }
+    if seed.one_in(2) {
+        row.case.len = seed.pick(&[1025, 1026, 2000, 1 << 32, usize::MAX]);
+    }
+    if seed.one_in(2) {
+        let keep = seed.below(row.words.len() as u64 + 1) as usize;
+        row.words.truncate(keep);
+    }
+    if seed.one_in(2) {
+        row.person = seed.pick(&[row.people, row.people.saturating_add(1), usize::MAX]);
+    }
+    let number = row_number(&row);
+    if number == 0 {
+        return vec![];
+    }
+    let refused = NOTHING + number;
+    let outs = [seed.word(), seed.word(), seed.word()];
+    let mut asked = vec![
+        row.number("boltraven_is_empty", &[], refused),
+        row.number("boltraven_count", &[], refused),
+    ];
+    for function in [
+        "boltraven_contains",
+        "boltraven_next_set",
+        "boltraven_prev_set",
+        "boltraven_next_unset_after",
+        "boltraven_prev_unset_before",
+    ] {
+        asked.push(row.number(function, &[i], refused));
+    }
+    for (function, count) in [("boltraven_run_bounds", 2), ("boltraven_next_run", 3), ("boltraven_next_member", 2)] {
+        let mut question = row.numbers(function, i, &outs[..count], None);
+        question.due.result = refused;
+        asked.push(question);
+    }
+    for function in ["boltraven_insert", "boltraven_remove"] {
+        asked.push(row.change(function, &[i as u64], number, None));
+    }
+    asked.push(row.change("boltraven_put_stretch", &[i as u64, i as u64, 1], number, None));
+    asked
+}
+
+/// The refusal of a row, by the table: counts, room, then the person.
+fn row_number(row: &Row) -> u64 {
+    if row.people == 0 || row.people > PEOPLE_MOST || row.case.len > SLOTS_MOST {
+        1
+    } else if row.words.len() < SET_WORDS * row.people {
+        2
+    } else if row.person >= row.people {
+        11
+    } else {
+        0
+    }
+}

@@ -1,0 +1,276 @@
+//! Ranges merged, base slots split, availability: whole problems through the library.
+
+use crate::call::{bytes16, bytes32, bytes64, Arg, Outcome, Question};
+use crate::days::MINUTES_MOST;
+use crate::problems::{availability_into, problem_case, slots_of, Person, ProblemCase, Range};
+use crate::seed::Seed;
+use crate::sets::{NOTHING, PEOPLE_MOST, SET_WORDS, SLOTS_MOST};
+
+/// A problem as it is lent.
+struct Lent {
+    slots: usize,
+    starts: Vec<u32>,
+    ends: Vec<u32>,
+    people: usize,
+    count: usize,
+    persons: Vec<u16>,
+    opens: Vec<u32>,
+    shuts: Vec<u32>,
+}
+
+impl Lent {
+    fn new(case: &ProblemCase) -> Self {
+        Self {
+            slots: case.base.len(),
+            starts: case.base.iter().map(|slot| slot.0).collect(),
+            ends: case.base.iter().map(|slot| slot.1).collect(),
+            people: case.people.len(),
+            count: case.ranges.len(),
+            persons: case.ranges.iter().map(|range| range.person as u16).collect(),
+            opens: case.ranges.iter().map(|range| range.start).collect(),
+            shuts: case.ranges.iter().map(|range| range.end).collect(),
+        }
+    }
+
+    fn slot_args(&self) -> Vec<Arg> {
+        vec![
+            Arg::Number(self.slots as u64),
+            Arg::Lent(4, bytes32(&self.starts)),
+            Arg::Lent(4, bytes32(&self.ends)),
+        ]
+    }
+
+    fn range_args(&self) -> Vec<Arg> {
+        vec![
+            Arg::Number(self.count as u64),
+            Arg::Lent(2, bytes16(&self.persons)),
+            Arg::Lent(4, bytes32(&self.opens)),
+            Arg::Lent(4, bytes32(&self.shuts)),
+        ]
+    }
+
+    /// Base slots split: `due` at the front of two columns, or a refusal.
+    fn atomise(&self, seed: &mut Seed, room: usize, due: Result<(&[u32], &[u32]), u64>) -> Question {
+        let froms: Vec<u32> = (0..room).map(|_| seed.word() as u32).collect();
+        let tos: Vec<u32> = (0..room).map(|_| seed.word() as u32).collect();
+        let mut args = self.slot_args();
+        args.push(Arg::Number(self.people as u64));
+        args.extend(self.range_args());
+        args.extend([Arg::LentMut(4, bytes32(&froms)), Arg::LentMut(4, bytes32(&tos))]);
+        let (mut froms_due, mut tos_due) = (froms, tos);
+        let result = match due {
+            Ok((starts, ends)) => {
+                froms_due[..starts.len()].copy_from_slice(starts);
+                tos_due[..ends.len()].copy_from_slice(ends);
+                starts.len() as u64
+            }
+            Err(number) => NOTHING + number,
+        };
+        Question {
+            function: "boltraven_atomise",
+            result_size: 8,
+            args,
+            due: Outcome {
+                result,
+                written: vec![bytes32(&froms_due), bytes32(&tos_due)],
+            },
+        }
+    }
+
+    /// Ranges merged: `due` at the front of three columns, or a refusal.
+    fn merged(&self, seed: &mut Seed, room: usize, due: Result<&[Range], u64>) -> Question {
+        let mut whose: Vec<u16> = (0..room).map(|_| seed.word() as u16).collect();
+        let mut froms: Vec<u32> = (0..room).map(|_| seed.word() as u32).collect();
+        let mut tos: Vec<u32> = (0..room).map(|_| seed.word() as u32).collect();
+        let mut args = vec![Arg::Number(self.people as u64)];
+        args.extend(self.range_args());
+        args.extend([
+            Arg::LentMut(2, bytes16(&whose)),
+            Arg::LentMut(4, bytes32(&froms)),
+            Arg::LentMut(4, bytes32(&tos)),
+        ]);
+        let result = match due {
+            Ok(list) => {
+                for (k, range) in list.iter().enumerate() {
+                    (whose[k], froms[k], tos[k]) = (range.person as u16, range.start, range.end);
+                }
+                list.len() as u64
+            }
+            Err(number) => NOTHING + number,
+        };
+        Question {
+            function: "boltraven_merged_ranges",
+            result_size: 8,
+            args,
+            due: Outcome {
+                result,
+                written: vec![bytes16(&whose), bytes32(&froms), bytes32(&tos)],
+            },
+        }
+    }
+}
+
+/// The Rust's merged ranges are private: of one person alone, over one slot that covers all times, they are the slots that come out
+/// available.
+fn merged_of(case: &ProblemCase) -> Vec<Range> {
+    let mut merged = Vec::new();
+    for person in 0..case.people.len() {
+        let own = case.ranges.iter().filter(|range| range.person == person);
+        let alone = ProblemCase {
+            base: vec![(0, MINUTES_MOST as u32)],
+            ranges: own.map(|range| Range { person: 0, ..*range }).collect(),
+            people: vec![Person { capacity: 1.0, prior: 0 }],
+            settings: case.settings,
+        };
+        let problem = alone.rust();
+        let (starts, ends) = slots_of(&problem);
+        let available = (0..starts.len()).filter(|&slot| problem.is_available(0, slot));
+        merged.extend(available.map(|slot| Range {
+            person,
+            start: starts[slot],
+            end: ends[slot],
+        }));
+    }
+    merged
+}
+
+/// The slots, merged ranges and availability of a problem. More than 1,024 atomic slots are refused by 5.
+pub fn questions(case_seed: u64) -> Vec<Question> {
+    let mut seed = Seed::new(case_seed);
+    let case = problem_case(&mut seed);
+    let lent = Lent::new(&case);
+    let room = lent.count + seed.below(2) as usize;
+    let merged = merged_of(&case);
+    let mut asked = vec![lent.merged(&mut seed, room, Ok(&merged))];
+    let problem = case.rust();
+    let (starts, ends) = slots_of(&problem);
+    let room = SLOTS_MOST + seed.below(2) as usize;
+    let due = if starts.len() > SLOTS_MOST {
+        Err(5)
+    } else {
+        Ok((&starts[..], &ends[..]))
+    };
+    asked.push(lent.atomise(&mut seed, room, due));
+    if starts.len() <= SLOTS_MOST {
+        let before: Vec<u64> = (0..SET_WORDS * lent.people).map(|_| seed.word()).collect();
+        let mut after = before.clone();
+        availability_into(&problem, &mut after);
+        asked.push(availability(&lent, &starts, &ends, &before, 0, &after));
+    }
+    asked
+}
+
+/// Who is available for which of the lent slots.
+fn availability(lent: &Lent, starts: &[u32], ends: &[u32], before: &[u64], number: u64, after: &[u64]) -> Question {
+    let mut args = vec![
+        Arg::Number(lent.people as u64),
+        Arg::Number(starts.len() as u64),
+        Arg::Lent(4, bytes32(starts)),
+        Arg::Lent(4, bytes32(ends)),
+    ];
+    args.extend(lent.range_args());
+    args.push(Arg::LentMut(8, bytes64(before)));
+    Question {
+        function: "boltraven_availability",
+        result_size: 1,
+        args,
+        due: Outcome {
+            result: number,
+            written: vec![bytes64(after)],
+        },
+    }
+}
+
+/// Damaged copies: counts, room, base slots and ranges; the number is the paper's, worked out here by its table.
+pub fn damaged(case_seed: u64) -> Vec<Question> {
+    let mut seed = Seed::new(case_seed);
+    let case = problem_case(&mut seed);
+    let mut lent = Lent::new(&case);
+    let mut room = SLOTS_MOST;
+    let slot = seed.below(lent.slots as u64) as usize;
+    let range = seed.below(lent.count.max(1) as u64) as usize;
+    for _ in 0..seed.within(1, 2) {
+        match seed.below(13) {
+            0 => lent.people = seed.pick(&[0, 33, usize::MAX]),
+            1 => lent.slots = seed.pick(&[0, 1025, usize::MAX]),
+            2 => lent.count = seed.pick(&[1025, 2000, usize::MAX]),
+            3 => drop(lent.starts.pop()),
+            4 => drop(lent.ends.pop()),
+            5 => drop(lent.shuts.pop()),
+            6 => room = seed.pick(&[0, 1023]),
+            7 if slot < lent.starts.len() && slot < lent.ends.len() => lent.ends[slot] = lent.starts[slot],
+            8 if slot < lent.ends.len() => lent.ends[slot] = MINUTES_MOST as u32 + 1,
+            9 if slot > 0 && slot < lent.starts.len() && slot <= lent.ends.len() => lent.starts[slot] = lent.ends[slot - 1] - 1,
+            10 if range < lent.shuts.len() => lent.shuts[range] = MINUTES_MOST as u32 + 1,
+            11 if range < lent.shuts.len() && lent.shuts[range] < MINUTES_MOST as u32 => lent.opens[range] = lent.shuts[range] + 1,
+            12 if range < lent.persons.len() => lent.persons[range] = seed.pick(&[lent.people.min(65_535) as u16, 255, 65_535]),
+            _ => {}
+        }
+    }
+    let mut asked = Vec::new();
+    let number = lent.number(room);
+    if number > 0 {
+        asked.push(lent.atomise(&mut seed, room, Err(number)));
+    }
+    let number = lent.merged_number(lent.persons.len());
+    if number > 0 {
+        let room = lent.persons.len();
+        asked.push(lent.merged(&mut seed, room, Err(number)));
+    }
+    asked
+}
+
+impl Lent {
+    fn counts_ok(&self) -> bool {
+        (1..=PEOPLE_MOST).contains(&self.people) && self.count <= SLOTS_MOST
+    }
+
+    fn range_room_ok(&self) -> bool {
+        self.count <= self.persons.len().min(self.opens.len()).min(self.shuts.len())
+    }
+
+    fn ranges_ok(&self) -> bool {
+        (0..self.count).all(|k| {
+            let sound = self.opens[k] <= self.shuts[k] && i64::from(self.shuts[k]) <= MINUTES_MOST;
+            sound && usize::from(self.persons[k]) < self.people
+        })
+    }
+
+    fn slots_ok(&self) -> bool {
+        let mut previous = 0;
+        (0..self.slots).all(|k| {
+            let (start, end) = (self.starts[k], self.ends[k]);
+            let sound = previous <= start && start < end && i64::from(end) <= MINUTES_MOST;
+            previous = end;
+            sound
+        })
+    }
+
+    /// The number of a split: 1, 2, 3 or 4, or 0 for none of them.
+    fn number(&self, room: usize) -> u64 {
+        if !self.counts_ok() || !(1..=SLOTS_MOST).contains(&self.slots) {
+            1
+        } else if self.slots > self.starts.len().min(self.ends.len()) || !self.range_room_ok() || room < SLOTS_MOST {
+            2
+        } else if !self.slots_ok() {
+            3
+        } else if !self.ranges_ok() {
+            4
+        } else {
+            0
+        }
+    }
+
+    /// The number of a merge: 1, 2 or 4, or 0.
+    fn merged_number(&self, room: usize) -> u64 {
+        if !self.counts_ok() {
+            1
+        } else if !self.range_room_ok() || room < self.count {
+            2
+        } else if !self.ranges_ok() {
+            4
+        } else {
+            0
+        }
+    }
+}

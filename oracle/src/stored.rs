@@ -1,0 +1,283 @@
+//! Stored answers: records of the Rust's answers, which the `replay_*` programs of the library compare with no Rust at hand.
+
+use crate::figures::{targets_by, FigureCase, WRONG};
+use crate::problems::{slots_of, unit_starts_of};
+use crate::rotas::{Played, RotaCase};
+use crate::seed::Seed;
+use crate::sets::{index, next_run, next_unset_after, prev_unset_before, SetCase, SLOTS_MOST};
+
+/// Nothing found, in a record.
+const NOTHING: usize = 65_535;
+
+/// Indexes of a set's record.
+const INDEXES: usize = 8;
+
+/// Records, and how many answers they hold.
+pub struct Stored {
+    pub bytes: Vec<u8>,
+    pub answers: u64,
+}
+
+/// The records of a kind, by its name.
+pub fn of_kind(kind: &str, n: u64, run: u64) -> Option<Stored> {
+    match kind {
+        "slot-sets" => Some(slot_sets(n, run)),
+        "targets" => Some(targets(n, run)),
+        "rotas" => Some(rotas(n, run)),
+        _ => None,
+    }
+}
+
+/// Records of slot sets. A record is, in u16 and u64 numbers, low byte first: the length; the 16 words; is_empty; count; eight times an
+/// index with contains, next_set, prev_set, next_unset_after, prev_unset_before, and the ends of the run that holds it and of the next run
+/// from it on; then, each with all words after it, the index of an insert and of a remove, and the two ends of a stretch put in and of one
+/// taken out. Nothing is 65,535.
+fn slot_sets(n: u64, run: u64) -> Stored {
+    let mut bytes = Vec::new();
+    let mut k = 0;
+    let mut made = 0;
+    while made < n {
+        let mut seed = Seed::new(Seed::of_case(run, "stored-slot-sets", k));
+        k += 1;
+        let case = SetCase::new(&mut seed);
+        // a set of no slots has none to change
+        if case.len > 0 {
+            slot_set(&mut bytes, &mut seed, &case);
+            made += 1;
+        }
+    }
+    Stored { bytes, answers: 62 * n }
+}
+
+/// Records of targets, of at most eight people and six slots. A record is, low byte first: people, slots and fairness as u16; six starts and
+/// six ends as u32; eight u16 of slots that a person can cover; eight capacities as one u32 divided by another; eight prior minutes as u32;
+/// eight targets as u32, with 2 ^ 31 added. Some of the cases are looked for: those that tell a wrong rule from the Rust's.
+fn targets(n: u64, run: u64) -> Stored {
+    let mut bytes = Vec::new();
+    let mut told = [0u64; WRONG.len()];
+    let mut plain = n - TELLING * WRONG.len() as u64;
+    let mut made = 0;
+    for k in 0..SEARCHED {
+        if made == n {
+            break;
+        }
+        let mut seed = Seed::new(Seed::of_case(run, "stored-targets", k));
+        let mut case = FigureCase::new(&mut seed);
+        case.people.truncate(FIGURES);
+        case.able.truncate(FIGURES);
+        let ratios = ratios(&mut seed, &mut case);
+        let due = case.rust();
+        if due.iter().any(|&target| i32::try_from(target).is_err()) {
+            continue;
+        }
+        let mut tells = false;
+        for (rule, times) in WRONG.iter().zip(told.iter_mut()) {
+            if *times < TELLING && targets_by(*rule, &case) != due {
+                *times += 1;
+                tells = true;
+            }
+        }
+        if tells || plain > 0 {
+            plain -= u64::from(!tells);
+            figures(&mut bytes, &case, &ratios, &due);
+            made += 1;
+        }
+    }
+    Stored { bytes, answers: made }
+}
+
+/// Cases that tell each wrong rule, and how many seeds are looked through for them.
+const TELLING: u64 = 3;
+const SEARCHED: u64 = 600_000;
+
+/// People, and slots, of a record of targets.
+const FIGURES: usize = 8;
+const FIGURE_SLOTS: usize = 6;
+
+/// Capacities that are one u32 divided by another: in some cases all alike.
+fn ratios(seed: &mut Seed, case: &mut FigureCase) -> Vec<(u32, u32)> {
+    let ratio = |seed: &mut Seed| match seed.below(6) {
+        0 => (0, 1),
+        1 => (1000, 1),
+        2 => (seed.within(1, 10) as u32, seed.within(1, 10) as u32),
+        3 => (seed.word() as u32, u32::MAX),
+        4 => (1, u32::MAX - seed.below(1000) as u32),
+        _ => (1, 1),
+    };
+    let alike = ratio(seed);
+    let equal = seed.one_in(3);
+    let mut ratios = Vec::new();
+    for person in case.people.iter_mut() {
+        let (above, below) = if equal { alike } else { ratio(seed) };
+        person.capacity = f64::from(above) / f64::from(below);
+        ratios.push((above, below));
+    }
+    ratios
+}
+
+fn figures(bytes: &mut Vec<u8>, case: &FigureCase, ratios: &[(u32, u32)], due: &[i64]) {
+    half(bytes, case.people.len());
+    half(bytes, case.lengths.len());
+    half(bytes, usize::from(case.fairness));
+    let slots = case.slots();
+    quads(bytes, FIGURE_SLOTS, slots.iter().map(|slot| slot.0));
+    quads(bytes, FIGURE_SLOTS, slots.iter().map(|slot| slot.1));
+    for person in 0..FIGURES {
+        let row = case.able.get(person).map_or(&[][..], |row| row);
+        let set: usize = row.iter().enumerate().map(|(slot, &can)| usize::from(can) << slot).sum();
+        half(bytes, set);
+    }
+    quads(bytes, FIGURES, ratios.iter().map(|ratio| ratio.0));
+    // nobody's capacity is divided by 0
+    let below = ratios.iter().map(|ratio| ratio.1).chain(std::iter::repeat(1));
+    quads(bytes, FIGURES, below.take(FIGURES));
+    quads(bytes, FIGURES, case.people.iter().map(|person| person.prior));
+    quads(bytes, FIGURES, due.iter().map(|&target| (target + (1 << 31)) as u32));
+}
+
+/// Numbers, with zeros up to a count.
+fn quads(bytes: &mut Vec<u8>, count: usize, numbers: impl Iterator<Item = u32>) {
+    let zeros = std::iter::repeat(0);
+    for n in numbers.chain(zeros).take(count) {
+        bytes.extend(n.to_le_bytes());
+    }
+}
+
+fn slot_set(bytes: &mut Vec<u8>, seed: &mut Seed, case: &SetCase) {
+    let set = case.rust();
+    half(bytes, case.len);
+    words(bytes, &case.words);
+    half(bytes, usize::from(set.is_empty()));
+    half(bytes, set.count());
+    for _ in 0..INDEXES {
+        // an index is a u16 here, and the largest stands for nothing
+        let i = index(seed, case.len).min(NOTHING - 1);
+        half(bytes, i);
+        half(bytes, usize::from(set.contains(i)));
+        for found in [
+            set.next_set(i),
+            set.prev_set(i),
+            next_unset_after(case, i),
+            prev_unset_before(case, i),
+        ] {
+            half(bytes, found.unwrap_or(NOTHING));
+        }
+        for run in [set.run_bounds(i), next_run(case, i)] {
+            let (first, last) = run.unwrap_or((NOTHING, NOTHING));
+            half(bytes, first);
+            half(bytes, last);
+        }
+    }
+    for value in [true, false] {
+        let i = seed.below(case.len as u64) as usize;
+        half(bytes, i);
+        words(bytes, &after(case, i, i + 1, value));
+    }
+    for value in [true, false] {
+        let a = index(seed, case.len).min(case.len);
+        let b = index(seed, case.len).min(case.len);
+        let (from, to) = (a.min(b), a.max(b));
+        half(bytes, from);
+        half(bytes, to);
+        words(bytes, &after(case, from, to, value));
+    }
+}
+
+/// The words after each slot from `from` up to `to` was inserted or removed.
+fn after(case: &SetCase, from: usize, to: usize, value: bool) -> [u64; SLOTS_MOST / 64] {
+    let mut set = case.rust();
+    for i in from..to {
+        if value {
+            set.insert(i);
+        } else {
+            set.remove(i);
+        }
+    }
+    case.words_of(&set)
+}
+
+/// People, slots and draws of a record of a rota, at most.
+const ROTA_PEOPLE: usize = 4;
+const ROTA_SLOTS: usize = 16;
+const ROTA_DRAWS: usize = 8;
+
+/// Records of plays. A record is, low byte first: people, slots, units and draws as u16; sixteen starts and sixteen ends as u32; sixteen u16 of
+/// the slots at which units begin; four u16 of slots that a person can cover; a u16 of frozen slots; sixteen owners; the three columns of
+/// eight u16 of draws; then what the Rust makes of it: eight answers, sixteen owners, four u16 of the slots that a person holds, four u32
+/// of minutes.
+fn rotas(n: u64, run: u64) -> Stored {
+    let mut bytes = Vec::new();
+    let mut k = 0;
+    let mut made = 0;
+    while made < n {
+        let mut case = RotaCase::new(&mut Seed::new(Seed::of_case(run, "stored-rotas", k)));
+        k += 1;
+        case.draws.truncate(ROTA_DRAWS);
+        let small = case.problem.slot_count() <= ROTA_SLOTS && case.problem.human_count() <= ROTA_PEOPLE;
+        // a play that only stays put tells little
+        let end = case.play();
+        if small && (end.answers.contains(&0) || made % 4 == 0) {
+            rota(&mut bytes, &case, &end);
+            made += 1;
+        }
+    }
+    Stored { bytes, answers: 4 * n }
+}
+
+fn rota(bytes: &mut Vec<u8>, case: &RotaCase, end: &Played) {
+    let problem = &case.problem;
+    let firsts = unit_starts_of(problem);
+    for count in [problem.human_count(), problem.slot_count(), firsts.len(), case.draws.len()] {
+        half(bytes, count);
+    }
+    let (starts, ends) = slots_of(problem);
+    quads(bytes, ROTA_SLOTS, starts.into_iter());
+    quads(bytes, ROTA_SLOTS, ends.into_iter());
+    halves(bytes, ROTA_SLOTS, firsts.into_iter());
+    let set = |holds: &dyn Fn(usize) -> bool| -> u16 { (0..problem.slot_count()).map(|slot| u16::from(holds(slot)) << slot).sum() };
+    let able = (0..problem.human_count()).map(|person| set(&|slot| problem.is_available(person, slot)));
+    halves(bytes, ROTA_PEOPLE, able);
+    halves(bytes, 1, std::iter::once(set(&|slot| problem.is_frozen(slot))));
+    fill(bytes, ROTA_SLOTS, &case.owners);
+    halves(bytes, ROTA_DRAWS, case.draws.iter().map(|draw| draw.0));
+    halves(bytes, ROTA_DRAWS, case.draws.iter().map(|draw| draw.1));
+    halves(bytes, ROTA_DRAWS, case.draws.iter().map(|draw| draw.2));
+    fill(bytes, ROTA_DRAWS, &end.answers);
+    fill(bytes, ROTA_SLOTS, &end.owners);
+    let held = (0..problem.human_count()).map(|person| set(&|slot| usize::from(end.owners[slot]) == person));
+    halves(bytes, ROTA_PEOPLE, held);
+    quads(bytes, ROTA_PEOPLE, end.minutes.iter().map(|&minutes| minutes as u32));
+}
+
+/// Bytes, with zeros up to a count.
+fn fill(bytes: &mut Vec<u8>, count: usize, list: &[u8]) {
+    bytes.extend(list.iter().copied().chain(std::iter::repeat(0)).take(count));
+}
+
+/// u16 numbers, with zeros up to a count.
+fn halves(bytes: &mut Vec<u8>, count: usize, numbers: impl Iterator<Item = u16>) {
+    for n in numbers.chain(std::iter::repeat(0)).take(count) {
+        bytes.extend(n.to_le_bytes());
+    }
+}
+
+fn half(bytes: &mut Vec<u8>, n: usize) {
+    bytes.extend((n as u16).to_le_bytes());
+}
+
+fn words(bytes: &mut Vec<u8>, words: &[u64]) {
+    for word in words {
+        bytes.extend(word.to_le_bytes());
+    }
+}
+
+#[cfg(test)]
+mod tests {
+    #[test]
+    fn records_have_one_size() {
+        assert_eq!(super::slot_sets(7, 1).bytes.len(), 7 * 818);
+        assert_eq!(super::rotas(7, 1).bytes.len(), 7 * 290);
+        let stored = super::targets(30, 1);
+        assert_eq!(stored.bytes.len() as u64, stored.answers * 198);
+    }
+}

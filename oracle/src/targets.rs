@@ -1,0 +1,147 @@
+//! Targets through the library: people's figures, availability and slots, and the Rust's targets.
+
+use crate::call::{bytes32, bytes64, bytes_i64, Arg, Outcome, Question};
+use crate::days::MINUTES_MOST;
+use crate::figures::FigureCase;
+use crate::problems::put_bit;
+use crate::seed::Seed;
+use crate::sets::{PEOPLE_MOST, SET_WORDS, SLOTS_MOST};
+
+/// What is lent to work out targets.
+struct Lent {
+    people: usize,
+    slots: usize,
+    starts: Vec<u32>,
+    ends: Vec<u32>,
+    avail: Vec<u64>,
+    capacities: Vec<u64>,
+    priors: Vec<u32>,
+    fairness: u8,
+    out: Vec<i64>,
+}
+
+impl Lent {
+    /// A case as it is lent: longer buffers than needed now and then, and any bits past the last slot.
+    fn new(seed: &mut Seed, case: &FigureCase) -> Self {
+        let slots = case.slots();
+        let people = case.people.len();
+        let spare = seed.below(2) as usize;
+        let mut avail: Vec<u64> = (0..SET_WORDS * people + spare).map(|_| seed.word()).collect();
+        for (person, row) in case.able.iter().enumerate() {
+            for (slot, &can) in row.iter().enumerate() {
+                put_bit(&mut avail, person, slot, can);
+            }
+        }
+        Self {
+            people,
+            slots: slots.len(),
+            starts: slots.iter().map(|slot| slot.0).collect(),
+            ends: slots.iter().map(|slot| slot.1).collect(),
+            avail,
+            capacities: case.people.iter().map(|person| person.capacity.to_bits()).collect(),
+            priors: case.people.iter().map(|person| person.prior).collect(),
+            fairness: case.fairness,
+            out: (0..people + spare).map(|_| seed.word() as i64).collect(),
+        }
+    }
+
+    fn question(&self, number: u64, targets: &[i64]) -> Question {
+        let mut after = self.out.clone();
+        after[..targets.len()].copy_from_slice(targets);
+        Question {
+            function: "boltraven_compute_targets",
+            result_size: 1,
+            args: vec![
+                Arg::Number(self.people as u64),
+                Arg::Number(self.slots as u64),
+                Arg::Lent(4, bytes32(&self.starts)),
+                Arg::Lent(4, bytes32(&self.ends)),
+                Arg::Lent(8, bytes64(&self.avail)),
+                Arg::Lent(8, bytes64(&self.capacities)),
+                Arg::Lent(4, bytes32(&self.priors)),
+                Arg::Number(u64::from(self.fairness)),
+                Arg::LentMut(8, bytes_i64(&self.out)),
+            ],
+            due: Outcome {
+                result: number,
+                written: vec![bytes_i64(&after)],
+            },
+        }
+    }
+
+    /// The paper's number, by its table.
+    fn number(&self) -> u64 {
+        let figures = |person: usize| {
+            let capacity = f64::from_bits(self.capacities[person]);
+            (0.0..=1000.0).contains(&capacity) && i64::from(self.priors[person]) <= MINUTES_MOST
+        };
+        let mut previous = 0;
+        let mut ordered = true;
+        for (&start, &end) in self.starts.iter().zip(&self.ends).take(self.slots) {
+            ordered &= previous <= start && start < end && i64::from(end) <= MINUTES_MOST;
+            previous = end;
+        }
+        let short = |room: usize, count: usize| room < count;
+        if self.people == 0 || self.people > PEOPLE_MOST || self.slots == 0 || self.slots > SLOTS_MOST {
+            1
+        } else if short(self.starts.len(), self.slots)
+            || short(self.ends.len(), self.slots)
+            || short(self.avail.len(), SET_WORDS * self.people)
+            || short(self.capacities.len(), self.people)
+            || short(self.priors.len(), self.people)
+            || short(self.out.len(), self.people)
+        {
+            2
+        } else if !(0..self.people).all(figures) {
+            6
+        } else if self.fairness > 1 {
+            7
+        } else if !ordered {
+            9
+        } else {
+            0
+        }
+    }
+}
+
+/// The targets of a case.
+pub fn questions(case_seed: u64) -> Vec<Question> {
+    let mut seed = Seed::new(case_seed);
+    let case = FigureCase::new(&mut seed);
+    let lent = Lent::new(&mut seed, &case);
+    vec![lent.question(0, &case.rust())]
+}
+
+/// Damaged copies, in one or several ways.
+pub fn damaged(case_seed: u64) -> Vec<Question> {
+    let mut seed = Seed::new(case_seed);
+    let case = FigureCase::new(&mut seed);
+    let mut lent = Lent::new(&mut seed, &case);
+    let person = seed.below(lent.people as u64) as usize;
+    let slot = seed.below(lent.slots as u64) as usize;
+    for _ in 0..seed.within(1, 2) {
+        match seed.below(12) {
+            0 => lent.people = seed.pick(&[0, 33, usize::MAX]),
+            1 => lent.slots = seed.pick(&[0, 1025, usize::MAX]),
+            2 => drop(lent.starts.pop()),
+            3 => lent.avail.truncate((SET_WORDS * lent.people.min(PEOPLE_MOST)).saturating_sub(1)),
+            4 => drop(lent.priors.pop()),
+            5 => lent.out.truncate(case.people.len() - 1),
+            6 if person < lent.capacities.len() => {
+                let above = f64::from_bits(1000f64.to_bits() + 1);
+                let wrong = [f64::NAN, f64::INFINITY, f64::NEG_INFINITY, -1.0, -f64::from_bits(1), above];
+                let nan = f64::from_bits(0xfff8_0000_0000_0000 | seed.below(1 << 40));
+                lent.capacities[person] = if seed.one_in(3) { nan } else { seed.pick(&wrong) }.to_bits();
+            }
+            7 if person < lent.priors.len() => lent.priors[person] = MINUTES_MOST as u32 + 1 + seed.below(1000) as u32,
+            8 => lent.fairness = seed.within(2, 255) as u8,
+            9 if slot < lent.starts.len() => lent.starts[slot] = lent.ends[slot],
+            10 if slot > 0 && slot < lent.starts.len() => lent.starts[slot] = lent.ends[slot - 1] - 1,
+            _ => lent.ends[slot] = MINUTES_MOST as u32 + 1,
+        }
+    }
+    match lent.number() {
+        0 => vec![],
+        number => vec![lent.question(number, &[])],
+    }
+}
