@@ -1,6 +1,6 @@
 -- A play reads no more than 1,024 entries of a column: one that is cut there has the same outcome. Assumes nothing.
 use mathlib.Core.Path.{_≡_, refl, sym, ap, ap₂, subst, _∙_}
-use mathlib.Core.Bool.{Bool, true, false, _&&_, cond}
+use mathlib.Core.Bool.{Bool, true, false, _&&_, cond, and-false}
 use mathlib.Core.List.{List, [], _∷_, _++_, map}
 use Prim.Native.Nat.{ℕ, zero, suc, _≤_, _<_}
 use native.Mathlib.Nat.{le-of-suc-le-suc}
@@ -9,11 +9,12 @@ use borrow.Author.Tests.{le-leb, lt-leb, leb-true, leb-false}
 use lib.Dec.{leb}
 use lib.ListN.{length, getD, take, length-map}
 use lib.Seq.{take-all, length-take-le, getD-take}
-use Rattle.paper.proofs.Logic.{by-test, and-false}
+use Rattle.paper.specs.Limits.{countsOk}
+use Rattle.paper.proofs.Logic.{by-test}
 use Rattle.rota.specs.Derived.{Plan, Derived}
 use Rattle.rota.specs.Moves.{Draw, draw}
 use Rattle.rota.specs.Plays.{drawsOf}
-use Rattle.rota.specs.Entries.{Outcome, Ended, outcome, ground, countsOk, playRoomOk, playNo, played}
+use Rattle.rota.specs.Entries.{Outcome, Ended, outcome, ground, playRoomOk, playNo, played}
 use Rattle.draws.specs.declared.Draw.{Draw as Drawn}
 use Rattle.draws.specs.declared.Columns.{Columns}
 use Rattle.draws.specs.Columns.{kinds, ones, twos, most, Unpacked}

@@ -110,7 +110,7 @@ no-nan-field b h = rw (ne-eqb (b % 9223372036854775808 / 4503599627370496) 2047 
 pub no-nan-digits : (b : ℕ) → b % 4503599627370496 ≡ 0 → T (not (nanBits binary64 b))
 unfolding nanBits
 no-nan-digits b h =
-    rw (eq-eqb (b % 4503599627370496) 0 h) (rw (Rattle.paper.proofs.Logic.and-false (eqb (b % 9223372036854775808 / 4503599627370496) 2047)) tt)
+    rw (eq-eqb (b % 4503599627370496) 0 h) (rw (mathlib.Core.Bool.and-false (eqb (b % 9223372036854775808 / 4503599627370496) 2047)) tt)
 
 pub nan-pattern : (b : ℕ) → b % 9223372036854775808 / 4503599627370496 ≡ 2047 → (b % 4503599627370496 ≡ 0 → ⊥)
     → div binary64 (ofBits binary64 0) (ofBits binary64 0) ≡ ofBits binary64 b

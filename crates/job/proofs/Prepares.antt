@@ -13,7 +13,7 @@ use Rattle.paper.specs.Count.{allIn}
 use Rattle.paper.proofs.Count.{in-more, in-fails, in-each, each-in}
 use Rattle.slots.specs.Freeze.{freezeOf}
 use Rattle.job.specs.File.{ownerSlot}
-use Rattle.job.specs.Stages.{countsOk, countsNo, frozenIn, lowerNo, ownerValue, placed, recordKnown}
+use Rattle.job.specs.Stages.{jobCountsOk, countsNo, frozenIn, lowerNo, ownerValue, placed, recordKnown}
 
 -- ---- the lower of two numbers
 
@@ -42,20 +42,20 @@ lower-more a b n m h = sym (lower-both a b n m ∙ ap (λ (t : Bool). cond t a b
 -- ---- the counts, link by link
 
 module _ (base people ranges draws : ℕ) where
-  pub counts-draws : slotCountOk base ≡ true → peopleOk people ≡ true → ranges ≤ 1024 → leb draws 1024 ≡ countsOk base people ranges draws
-  unfolding countsOk
+  pub counts-draws : slotCountOk base ≡ true → peopleOk people ≡ true → ranges ≤ 1024 → leb draws 1024 ≡ jobCountsOk base people ranges draws
+  unfolding jobCountsOk
   counts-draws p q r = sym (simp (p, q, le-leb ranges 1024 r))
 
-  pub counts-ranges : slotCountOk base ≡ true → peopleOk people ≡ true → 1024 < ranges → false ≡ countsOk base people ranges draws
-  unfolding countsOk
+  pub counts-ranges : slotCountOk base ≡ true → peopleOk people ≡ true → 1024 < ranges → false ≡ jobCountsOk base people ranges draws
+  unfolding jobCountsOk
   counts-ranges p q r = sym (simp (p, q, lt-leb ranges 1024 r))
 
-  pub counts-people : slotCountOk base ≡ true → peopleOk people ≡ false → false ≡ countsOk base people ranges draws
-  unfolding countsOk
+  pub counts-people : slotCountOk base ≡ true → peopleOk people ≡ false → false ≡ jobCountsOk base people ranges draws
+  unfolding jobCountsOk
   counts-people p q = sym (simp (p, q))
 
-  pub counts-base : slotCountOk base ≡ false → false ≡ countsOk base people ranges draws
-  unfolding countsOk
+  pub counts-base : slotCountOk base ≡ false → false ≡ jobCountsOk base people ranges draws
+  unfolding jobCountsOk
   counts-base p = sym (simp p)
 
 -- ---- frozen flags
@@ -74,17 +74,17 @@ frozen-some slots starts ends freezes instant n =
 
 -- the numbers of the counts
 
-pub counts-none : (base people ranges draws room : ℕ) → countsOk base people ranges draws ≡ true → 44535 ≤ room
+pub counts-none : (base people ranges draws room : ℕ) → jobCountsOk base people ranges draws ≡ true → 44535 ≤ room
     → 0 ≡ countsNo base people ranges draws room
 unfolding countsNo
 counts-none base people ranges draws room p h = sym (simp (p, le-leb 44535 room h))
 
-pub counts-room : (base people ranges draws room : ℕ) → countsOk base people ranges draws ≡ true → room < 44535
+pub counts-room : (base people ranges draws room : ℕ) → jobCountsOk base people ranges draws ≡ true → room < 44535
     → 2 ≡ countsNo base people ranges draws room
 unfolding countsNo
 counts-room base people ranges draws room p h = sym (simp (p, lt-leb 44535 room h))
 
-pub counts-fail : (base people ranges draws room : ℕ) → countsOk base people ranges draws ≡ false
+pub counts-fail : (base people ranges draws room : ℕ) → jobCountsOk base people ranges draws ≡ false
     → 1 ≡ countsNo base people ranges draws room
 unfolding countsNo
 counts-fail base people ranges draws room p = sym (simp p)

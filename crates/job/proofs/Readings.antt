@@ -25,7 +25,7 @@ use Rattle.job.specs.declared.Made.{Made}
 use Rattle.job.specs.declared.Shares.{Shares}
 use Rattle.job.specs.Records.{blockAt, countOf, walkOk}
 use Rattle.job.specs.File.{jobLayout, jobSizes, fileMost, jobCounts, jobStarts, rising, restOk, fileOk}
-use Rattle.job.specs.Stages.{countsOk, countsNo, settingsIn, frozenIn, noOf, valueOf, AtomsAre, UnitsAre, SharesAre, unitsNoOf, unitsValueOf, lowerNo}
+use Rattle.job.specs.Stages.{jobCountsOk, countsNo, settingsIn, frozenIn, noOf, valueOf, AtomsAre, UnitsAre, SharesAre, unitsNoOf, unitsValueOf, lowerNo}
 use Rattle.job.specs.Outcome.{Result, Ends, Ready, ready, Draws, draws, ReadOk, baseIn, peopleIn, capacitiesIn, priorsIn, drawsIn, instantIn}
 use Rattle.job.specs.Outcome.{columnOf, rangesIn, atomsIn, atomsResult, availIn, sharesIn, unitsIn, readyIn, ownersResult, slotsResult, orRefused, refusedAs, countedResult, jobResult}
 use Rattle.job.proofs.Sequences.{counted-at, block-le, block-end, field-room}
@@ -71,7 +71,7 @@ module _ {s c b : List ℕ} (K : ReadOk s c b) where
       omega (arith, record-says s 1 8 _ (counted-at jobLayout s 0 0 (omega (arith, one-settings))) .0)
 
   pub read-few : (1 ≤ baseIn c) × (baseIn c ≤ 1024) × (peopleIn c ≤ 32) × (getD c 3 0 ≤ 1024) × (getD c 6 0 ≤ 1024)
-  unfolding countsOk
+  unfolding jobCountsOk
   read-few =
       let x = four (slotCountOk (baseIn c)) (peopleOk (peopleIn c)) (leb (getD c 3 0) 1024) (leb (getD c 6 0) 1024) (K .few) in
       let y = slot-count-says (baseIn c) (x .0) in
@@ -190,7 +190,7 @@ module _ (s x c b : List ℕ) (no : ℕ) (ok : fileOk s ≡ true) (C : c ≡ job
   pub job-ready : no ≡ 0 → ReadOk s c b × (44535 ≤ length x)
   unfolding countsNo
   job-ready h =
-      let y = cond-zero (countsOk (baseIn c) (peopleIn c) (getD c 3 0) (getD c 6 0)) (cond (leb 44535 (length x)) 0 2) 0 (sym N ∙ h) in
+      let y = cond-zero (jobCountsOk (baseIn c) (peopleIn c) (getD c 3 0) (getD c 6 0)) (cond (leb 44535 (length x)) 0 2) 0 (sym N ∙ h) in
       (record { ok = ok; counts = C; starts = B; few = y .0 }, leb-true 44535 (length x) (cond-zero (leb 44535 (length x)) 0 1 (y .1) .0))
 
 pub job-layout : (s x : List ℕ) → fileOk s ≡ false → Ends (jobResult s x) (answer.Refused 13) x

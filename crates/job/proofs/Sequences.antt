@@ -1,6 +1,6 @@
 -- What the walk accepts is a sequence of whole records that the layout allows, and every such sequence is accepted. Assumes nothing.
 use mathlib.Core.Path.{_≡_, refl, sym, ap, ap₂, _∙_, subst}
-use mathlib.Core.Bool.{Bool, true, false, _&&_}
+use mathlib.Core.Bool.{Bool, true, false, _&&_, and-false}
 use mathlib.Core.List.{List, [], _∷_, _++_, append-assoc}
 use Prim.Native.Nat.{ℕ, zero, suc, _+_, _-_, _*_, _^_, _≤_, _<_}
 use native.Mathlib.Nat.{suc-mul, zero-mul}
@@ -11,7 +11,7 @@ use lib.Dec.{leb, eqb}
 use lib.ListN.{length, getD, take, drop, length-append, length-drop, take-append-drop}
 use lib.Seq.{drop-drop, drop-at, getD-drop, getD-take, length-take-le, drop-length}
 use Rattle.paper.specs.Count.{all}
-use Rattle.paper.proofs.Logic.{both, and-true, and-false}
+use Rattle.paper.proofs.Logic.{both, and-true}
 use Rattle.paper.proofs.Count.{all-each, all-none}
 use Rattle.job.specs.Fields.{le, leBytes, Bytes}
 use Rattle.job.specs.Records.{Layout, Rec, bytesOf, fileOf, Laid, done, next, more}

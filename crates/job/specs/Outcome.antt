@@ -26,7 +26,7 @@ use Rattle.job.specs.Fields.{le}
 use Rattle.job.specs.File.{jobSizes, jobCounts, jobStarts, fileOk}
 use Rattle.job.specs.Columns.{column, priorsColumn, capacitiesColumn}
 use Rattle.job.specs.Listing.{listed, listingOf, put}
-use Rattle.job.specs.Stages.{countsOk, countsNo, settingsIn, frozenIn, noOf, valueOf, unitsNoOf, unitsValueOf, lowerNo, placed, ownersNo, narrowed}
+use Rattle.job.specs.Stages.{jobCountsOk, countsNo, settingsIn, frozenIn, noOf, valueOf, unitsNoOf, unitsValueOf, lowerNo, placed, ownersNo, narrowed}
 
 -- ---- what is heard and left
 
@@ -210,4 +210,4 @@ pub record ReadOk (s c b : List ℕ) : Type 0 where
   pub ok : fileOk s ≡ true
   pub counts : c ≡ jobCounts s
   pub starts : b ≡ jobStarts s
-  pub few : countsOk (baseIn c) (peopleIn c) (getD c 3 0) (getD c 6 0) ≡ true
+  pub few : jobCountsOk (baseIn c) (peopleIn c) (getD c 3 0) (getD c 6 0) ≡ true

@@ -28,12 +28,12 @@ use Rattle.job.specs.Listing.{listingMost}
 -- ---- counts and room
 
 -- 1: base slots, people, ranges and draws; 2: room for the listing
-unfoldable pub countsOk : ℕ → ℕ → ℕ → ℕ → Bool
-countsOk base people ranges draws =
+unfoldable pub jobCountsOk : ℕ → ℕ → ℕ → ℕ → Bool
+jobCountsOk base people ranges draws =
     slotCountOk base && (peopleOk people && (leb ranges rangesMost && leb draws drawsMost))
 
 unfoldable pub countsNo : ℕ → ℕ → ℕ → ℕ → ℕ → ℕ
-countsNo base people ranges draws room = orElse (countsOk base people ranges draws) 1 (orElse (leb listingMost room) 2 0)
+countsNo base people ranges draws room = orElse (jobCountsOk base people ranges draws) 1 (orElse (leb listingMost room) 2 0)
 
 -- ---- settings and the instant of freezing
 

@@ -18,14 +18,14 @@ ghost use Rattle.slots.specs.Availability.{availabilityOf};
 ghost use Rattle.units.specs.Starts.{unitStartsIs};
 ghost use Rattle.targets.specs.Outcome.{given, computeTargets};
 ghost use Rattle.job.specs.Fields.{le};
-ghost use Rattle.job.specs.Stages.{countsOk, countsNo, settingsIn, frozenIn, AtomsAre, UnitsAre, SharesAre, lowerNo};
+ghost use Rattle.job.specs.Stages.{jobCountsOk, countsNo, settingsIn, frozenIn, AtomsAre, UnitsAre, SharesAre, lowerNo};
 
 // The bytes that every listing fits.
 pub const LISTING_MOST: usize = 44535;
 
 // Whether the counts are within the paper's (rule 1).
 fn counts_ok(base: usize, people: usize, ranges: usize, draws: usize) -> bool
-    ensures { λ r. ⌜ r ≡ countsOk base people ranges draws ⌝ }
+    ensures { λ r. ⌜ r ≡ jobCountsOk base people ranges draws ⌝ }
 {
     if paper::slot_count_ok(base) {
         if paper::people_ok(people) {

@@ -1,7 +1,7 @@
 -- The laws of counting to n. Assumes nothing.
 use mathlib.Core.Path.{_≡_, refl, sym, ap, ap₂, _∙_}
 use mathlib.Core.Logic.{⊎-elim, _≢_}
-use mathlib.Core.Bool.{Bool, true, false, _&&_, cond}
+use mathlib.Core.Bool.{Bool, true, false, _&&_, _||_, cond, and-false, or-false}
 use mathlib.Core.List.{List, [], _∷_, _++_}
 use Prim.Native.Nat.{ℕ, zero, suc, _+_, _-_, _*_, _≤_, _<_, zero-le}
 use native.Mathlib.Nat.{le-of-suc-le-suc, not-suc-le-zero, eq-or-lt-of-le, le-antisymm}
@@ -9,10 +9,10 @@ use native.Mathlib.Numerals.{add-one}
 use native.Mathlib.Omega.{arith}
 use borrow.Author.Tests.{ltb-true, ltb-false}
 use lib.Dec.{ltb}
-use lib.ListN.{length, getD, set, length-set, length-append, List·getD-append}
-use lib.Seq.{getD-set-same, getD-set-other, getD-append-seam}
-use Rattle.paper.specs.Count.{all, allIn, sum, over, fill, among}
-use Rattle.paper.proofs.Logic.{by-test, below-suc, and-false, and-true, both, lt-or-ge, same-test}
+use lib.ListN.{length, drop, getD, set, length-set, length-append, length-drop, List·getD-append}
+use lib.Seq.{getD-set-same, getD-set-other, getD-append-seam, drop-cons, set-append-seam, append-snoc}
+use Rattle.paper.specs.Count.{all, allIn, some, sum, over, fill, onto, among}
+use Rattle.paper.proofs.Logic.{by-test, below-suc, and-true, both, lt-or-ge, same-test, or-left, or-second, or-either}
 
 -- ---- a test at every number below n
 
@@ -52,6 +52,30 @@ pub all-same : (n : ℕ) (p q : ℕ → Bool) → ((k : ℕ) → k < n → p k �
 unfolding all
 all-same zero p q f = refl
 all-same (suc n) p q f = ap₂ _&&_ (all-same n p q (λ k h. f k (omega arith))) (f n (omega arith))
+
+-- ---- a test at some number below n
+
+pub some-here : (n k : ℕ) (p : ℕ → Bool) → k < n → p k ≡ true → some n p ≡ true
+unfolding some
+some-here zero k p h t = absurd (not-suc-le-zero h)
+some-here (suc n) k p h t =
+    below-suc (some n p || p n ≡ true) h (λ q. or-second (some n p) (p n) (ap p (sym q) ∙ t))
+    (λ l. or-left (some n p) (p n) (some-here n k p l t))
+
+pub some-none : (n : ℕ) (p : ℕ → Bool) → ((k : ℕ) → k < n → p k ≡ false) → some n p ≡ false
+unfolding some
+some-none zero p f = refl
+some-none (suc n) p f = ap₂ _||_ (some-none n p (λ k h. f k (omega arith))) (f n (omega arith))
+
+pub some-more : (n : ℕ) (p : ℕ → Bool) → p n ≡ false → some (suc n) p ≡ some n p
+unfolding some
+some-more n p f = ap (λ (b : Bool). some n p || b) f ∙ or-false (some n p)
+
+pub some-one : (n : ℕ) (p : ℕ → Bool) (X : Type 0) → some n p ≡ true → ((k : ℕ) → k < n → p k ≡ true → X) → X
+unfolding some
+some-one zero p X e f = absurd (mathlib.Core.Bool.false≢true e)
+some-one (suc n) p X e f =
+    ⊎-elim (λ t. some-one n p X t (λ k h u. f k (omega arith) u)) (λ t. f n (omega arith) t) (or-either (some n p) (p n) e)
 
 -- ---- a test at every number from a up to e
 
@@ -282,3 +306,23 @@ unfolding among
 among-same p q zero f = refl
 among-same p q (suc n) f =
     ap₂ (λ (x : List ℕ) (b : Bool). x ++ cond b (n ∷ []) []) (among-same p q n (λ k h. f k (omega arith))) (f n (omega arith))
+
+-- ---- a list written from the front
+
+pub onto-none : (old : List ℕ) → old ≡ onto [] old
+unfolding onto
+onto-none old = refl
+
+pub length-onto : (l old : List ℕ) → length l ≤ length old → length (onto l old) ≡ length old
+unfolding onto
+length-onto l old h = length-append l (drop (length l) old) ∙ omega (arith, length-drop (length l) old)
+
+-- one more entry
+pub onto-more : (l old : List ℕ) (v : ℕ) → length l < length old → set (onto l old) (length l) v ≡ onto (l ++ (v ∷ [])) old
+unfolding onto
+onto-more l old v h =
+    let n : suc (length l) ≡ length (l ++ (v ∷ [])) = omega (arith, length-append l (v ∷ [])) in
+    ap (λ (t : List ℕ). set (l ++ t) (length l) v) (drop-cons old (length l) 0 h)
+    ∙ set-append-seam l (getD old (length l) 0) (drop (suc (length l)) old) v
+    ∙ sym (append-snoc l v (drop (suc (length l)) old))
+    ∙ ap (λ (k : ℕ). l ++ (v ∷ []) ++ drop k old) n

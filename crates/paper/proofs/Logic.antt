@@ -24,10 +24,6 @@ lt-or-ge (suc a) (suc b) = ⊎-elim (λ h. inl (suc-le-suc h)) (λ h. inr (suc-l
 pub below-suc {ℓ} : {k n : ℕ} (X : Type ℓ) → k < suc n → (k ≡ n → X) → (k < n → X) → X
 below-suc X h f g = ⊎-elim f g (eq-or-lt-of-le (le-of-suc-le-suc h))
 
-pub and-false : (b : Bool) → b && false ≡ false
-and-false true = refl
-and-false false = refl
-
 and-left : (a b : Bool) → a && b ≡ true → a ≡ true
 and-left true b e = refl
 and-left false b e = e
@@ -69,11 +65,37 @@ pub or-right : (a b : Bool) → a || b ≡ true → a ≡ false → b ≡ true
 or-right true b e f = absurd (mathlib.Core.Bool.true≢false f)
 or-right false b e f = e
 
+pub or-second : (a b : Bool) → b ≡ true → a || b ≡ true
+or-second true b e = refl
+or-second false b e = e
+
+pub or-either : (a b : Bool) → a || b ≡ true → (a ≡ true) ⊎ (b ≡ true)
+or-either true b e = inl refl
+or-either false b e = inr e
+
+-- neither of two tests holds
+pub neither : (a b : Bool) → a || b ≡ false → (a ≡ false) × (b ≡ false)
+neither true b e = absurd (mathlib.Core.Bool.true≢false e)
+neither false b e = (refl, e)
+
+pub and-stops : (a b : Bool) → a ≡ false → a && b ≡ false
+and-stops a b f = simp f
+
+pub and-last : (a b : Bool) → a ≡ true → b ≡ false → a && b ≡ false
+and-last a b t f = simp (t, f)
+
 -- two tests that hold together are the same test
 pub same-test : (a b : Bool) → (a ≡ true → b ≡ true) → (b ≡ true → a ≡ true) → a ≡ b
 same-test true b f g = sym (f refl)
 same-test false true f g = g refl
 same-test false false f g = refl
+
+-- one test of a chain of refusals: where it holds, what comes after it is heard; where it fails, its number
+pub passes : (b : Bool) (n next r : ℕ) → b ≡ true → r ≡ next → r ≡ orElse b n next
+passes b n next r t e = e ∙ sym (simp t)
+
+pub stops : (b : Bool) (n next : ℕ) → b ≡ false → n ≡ orElse b n next
+stops b n next f = sym (simp f)
 
 -- where a chain of refusals gives none, its first test holds and the rest gives none
 pub cond-zero : (b : Bool) (x y : ℕ) → cond b x (suc y) ≡ 0 → (b ≡ true) × (x ≡ 0)

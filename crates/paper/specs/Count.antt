@@ -1,8 +1,8 @@
 -- Counting to n: a test at every number, the sum, a list whose first entries are made anew, the numbers that pass a test. Assumes nothing.
-use mathlib.Core.Bool.{Bool, true, _&&_, cond}
+use mathlib.Core.Bool.{Bool, true, false, _&&_, _||_, cond}
 use mathlib.Core.List.{List, [], _∷_, _++_}
 use Prim.Native.Nat.{ℕ, zero, suc, _+_, _-_}
-use lib.ListN.{set}
+use lib.ListN.{length, drop, set}
 
 -- p holds of every number below n
 unfoldable pub all : ℕ → (ℕ → Bool) → Bool
@@ -12,6 +12,11 @@ all (suc n) p = all n p && p n
 -- p holds of every number from a up to e, without e
 unfoldable pub allIn : ℕ → ℕ → (ℕ → Bool) → Bool
 allIn a e p = all (e - a) (λ j. p (a + j))
+
+-- p holds of some number below n
+unfoldable pub some : ℕ → (ℕ → Bool) → Bool
+some zero p = false
+some (suc n) p = some n p || p n
 
 -- the sum of f over the numbers below n
 unfoldable pub sum : ℕ → (ℕ → ℕ) → ℕ
@@ -31,6 +36,10 @@ over f (suc n) l = set (over f n l) n (f n)
 unfoldable pub fill : ℕ → ℕ → ℕ → List ℕ → List ℕ
 fill v a zero l = l
 fill v a (suc n) l = set (fill v a n l) (a + n) v
+
+-- a list written from the front of old; what lies past its end stays
+unfoldable pub onto : List ℕ → List ℕ → List ℕ
+onto l old = l ++ drop (length l) old
 
 -- the numbers below n that pass p, ascending
 unfoldable pub among : (ℕ → Bool) → ℕ → List ℕ

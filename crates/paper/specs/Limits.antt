@@ -32,6 +32,10 @@ peopleOk people = leb 1 people && leb people peopleMost
 unfoldable pub slotCountOk : ℕ → Bool
 slotCountOk slots = leb 1 slots && leb slots slotsMost
 
+-- rule 1 of people and slots
+unfoldable pub countsOk : ℕ → ℕ → Bool
+countsOk people slots = peopleOk people && slotCountOk slots
+
 -- the number that is heard: n where the test fails, else what comes after it. A chain of these in rising order gives the lowest
 abbrev pub orElse : Bool → ℕ → ℕ → ℕ
 orElse ok n next = cond ok next n

@@ -1,6 +1,6 @@
 // The paper's limits, and the tests of rule 1 that every entry asks first.
 ghost use mathlib.Core.Path.{_≡_};
-ghost use Rattle.paper.specs.Limits.{peopleOk, slotCountOk};
+ghost use Rattle.paper.specs.Limits.{peopleOk, slotCountOk, countsOk};
 
 pub const PEOPLE_MOST: usize = 32;
 
@@ -34,4 +34,14 @@ pub fn slot_count_ok(slots: usize) -> bool
         return false;
     }
     slots <= SLOTS_MOST
+}
+
+// Rule 1 of people and slots.
+pub fn counts_ok(people: usize, slots: usize) -> bool
+    ensures { λ r. ⌜ r ≡ countsOk people slots ⌝ }
+{
+    if people_ok(people) {
+        return slot_count_ok(slots);
+    }
+    false
 }

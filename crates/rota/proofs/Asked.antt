@@ -7,7 +7,7 @@ use native.Mathlib.Omega.{arith}
 use borrow.Author.Tests.{eq-eqb, ne-eqb, lt-ltb, ltb-true, leb-true}
 use lib.Dec.{eqb, ltb, leb}
 use lib.ListN.{length, getD, set}
-use Rattle.paper.specs.Limits.{nobody, peopleOk, slotCountOk, orElse}
+use Rattle.paper.specs.Limits.{nobody, peopleOk, slotCountOk, orElse, countsOk}
 use Rattle.paper.specs.Count.{all, sum, count, fill, over}
 use Rattle.paper.proofs.Logic.{by-test, both, three, cond-zero, people-says, slot-count-says}
 use Rattle.paper.proofs.Count.{all-each, fill-none, fill-more, sum-more}
@@ -20,7 +20,7 @@ use Rattle.rota.specs.declared.Figure.the-variants.{Is, Refused}
 use Rattle.rota.specs.Derived.{Plan, PlanSound, Derived, derived, knownBy, worked, uncovered, unassigned, afresh, setsFrom}
 use Rattle.rota.specs.Derived.{nobodies, InStep, Makes, HandedOver, OneOwner}
 use Rattle.rota.specs.Recount.{firstFail, freeFor, knownAt, freeAt, recounts, RotaRoom}
-use Rattle.rota.specs.Entries.{countsOk, roomOk, ground, outcome, Ended, fromSlotsNo, fromSlots, assignNo, assigned, recountNo}
+use Rattle.rota.specs.Entries.{roomOk, ground, outcome, Ended, fromSlotsNo, fromSlots, assignNo, assigned, recountNo}
 use Rattle.rota.specs.Entries.{recountSlotsNo}
 use Rattle.rota.specs.Entries.{emptyNo, emptied, figureAs, ownerIs, minutesIs, unassignedIs, uncoveredIs}
 use Rattle.rota.proofs.Scans.{first-passes, first-test, fails-none}

@@ -8,8 +8,8 @@ use native.Mathlib.Omega.{arith}
 use borrow.Author.Tests.{eq-eqb, ne-eqb, eqb-true, eqb-false, lt-ltb, le-ltb, ltb-true, leb-true, leb-false, le-leb, lt-leb}
 use lib.Dec.{eqb, ltb, leb}
 use lib.ListN.{length, getD, set}
-use Rattle.paper.specs.Limits.{nobody, peopleOk, slotCountOk, orElse}
-use Rattle.paper.specs.Count.{all, allIn, fill}
+use Rattle.paper.specs.Limits.{nobody, peopleOk, slotCountOk, orElse, countsOk}
+use Rattle.paper.specs.Count.{all, allIn, fill, onto}
 use Rattle.paper.proofs.Logic.{by-test, lt-or-ge, both, five, same-test, or-right, and-true, cond-zero, people-says, slot-count-says}
 use Rattle.paper.proofs.Count.{all-each, each-all, in-each, each-in, fill-none, fill-more}
 use Rattle.slotset.specs.Slots.{slot}
@@ -20,14 +20,14 @@ use Rattle.units.specs.Units.{unitStart, unitEnd, unitsOk, unitOf}
 use Rattle.units.specs.Domains.{available, able}
 use Rattle.units.proofs.Units.{unit-some, unit-within, units-within, unit-of-in}
 use Rattle.rota.specs.Board.{Board, BoardSound, InUnit, Even, ownerOf}
-use Rattle.rota.specs.Plays.{drawsOf, ownersAfter, answers, written}
+use Rattle.rota.specs.Plays.{drawsOf, ownersAfter, answers}
 use Rattle.rota.specs.Ready.{ready}
 use Rattle.rota.specs.Lent.{fitsUnit, frozenUnit, boardOf, FitsRight, FrozenRight}
 use Rattle.rota.specs.Derived.{Plan, PlanSound, Derived, derived, knownBy, worked, held, afresh, InStep, Makes, HandedOver}
 use Rattle.rota.specs.Derived.{OneOwner}
 use Rattle.rota.specs.Recount.{freeFor, knownAt, freeAt, evenAt, setSlotAt, setAt, minutesOkAt, recounts, RotaRoom}
 use Rattle.rota.specs.Stepped.{Ran, DrawRoom}
-use Rattle.rota.specs.Entries.{countsOk, roomOk, ground, Outcome, outcome, Ended, fromSlotsNo, fromSlots, assignNo, assigned}
+use Rattle.rota.specs.Entries.{roomOk, ground, Outcome, outcome, Ended, fromSlotsNo, fromSlots, assignNo, assigned}
 use Rattle.rota.specs.Entries.{recountNo, recountSlotsNo, playRoomOk, playNo, played}
 use Rattle.rota.proofs.Minutes.{known-below}
 use Rattle.rota.proofs.Readied.{board-is, board-sound}
@@ -334,7 +334,7 @@ module _ (P : Plan) (avail : List ℕ) (units : ℕ) (firsts frozen : List ℕ) 
           let ds = drawsOf ks fs ss n in
           let p : o′ ≡ ownersAfter B o ds = R .owners ∙ ap (λ (b : Board). ownersAfter b o ds) same-board in
           ended-yes m _ em o D x _ _ _ z o′ D′ x′ p (R .derived ∙ ap (λ (l : List ℕ). afresh P l D) p)
-          (R .answers ∙ ap (λ (b : Board). written (answers b o ds) x) same-board)
+          (R .answers ∙ ap (λ (b : Board). onto (answers b o ds) x) same-board)
 
   pub played-no : (m : ℕ) → m ≡ playNo P avail units firsts frozen n ks fs ss o D x → (m ≡ 0 → ⊥)
       → Ended (played P avail units firsts frozen n ks fs ss o D x) m o D x

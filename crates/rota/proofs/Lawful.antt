@@ -10,7 +10,7 @@ use lib.Dec.{eqb, ltb, leb}
 use lib.ListN.{length, getD}
 use Rattle.paper.specs.Limits.{nobody}
 use Rattle.paper.specs.Count.{allIn, among, fill}
-use Rattle.paper.proofs.Logic.{by-test, both, and-true, or-left}
+use Rattle.paper.proofs.Logic.{by-test, both, and-true, or-left, neither}
 use Rattle.paper.proofs.Count.{in-each, among-each, length-fill, getD-fill-in, getD-fill-out}
 use Rattle.rota.specs.declared.Pick.{Pick}
 use Rattle.rota.specs.declared.Pick.the-variants.{Nobody, Beyond, Person}
@@ -58,15 +58,11 @@ Lawful B o H (Trade a e p c g q) = Traded B o H a e p c g q
 abbrev pub NoneOf : List Bool → Type 0
 NoneOf ts = (k : ℕ) → getD ts k false ≡ false
 
-or-none : (a b : Bool) → a || b ≡ false → (a ≡ false) × (b ≡ false)
-or-none true b e = absurd (mathlib.Core.Bool.true≢false e)
-or-none false b e = (refl, e)
-
 pub none-of : (ts : List Bool) → anyOf ts ≡ false → NoneOf ts
 unfolding anyOf
 none-of [] e k = refl
-none-of (t ∷ ts) e zero = or-none t (anyOf ts) e .0
-none-of (t ∷ ts) e (suc k) = none-of ts (or-none t (anyOf ts) e .1) k
+none-of (t ∷ ts) e zero = neither t (anyOf ts) e .0
+none-of (t ∷ ts) e (suc k) = none-of ts (neither t (anyOf ts) e .1) k
 
 stay-or : (Q : Move → Type 0) (ts : List Bool) (n : ℕ) (m : Move) → Q (Stay n) → (NoneOf ts → Q m) → Q (stayIf ts n m)
 stay-or Q ts n m a f = by-test (anyOf ts) _ (λ t. simp t a) (λ g. simp g (f (none-of ts g)))

@@ -1,7 +1,7 @@
 -- What is worked out once a call is what the definitions say: masks of people, marks of frozen units, the board. Assumes nothing.
 use mathlib.Core.Path.{_≡_, refl, sym, ap, ap₂, _∙_, fun-ext}
 use mathlib.Core.Logic.{⊎-elim}
-use mathlib.Core.Bool.{Bool, true, false, cond, not, _&&_, _||_}
+use mathlib.Core.Bool.{Bool, true, false, cond, not, _&&_, _||_, and-false}
 use mathlib.Core.List.{List}
 use Prim.Native.Nat.{ℕ, zero, suc, _+_, _-_, _*_, _/_, _%_, _^_, _≤_, _<_, max}
 use native.Mathlib.Omega.{arith}
@@ -15,7 +15,7 @@ use lib.Seq.{getD-set-same, getD-set-other}
 use Rattle.paper.specs.Limits.{peopleOk}
 use Rattle.paper.specs.Bits.{bitOf}
 use Rattle.paper.proofs.Bits.{bit-or, bit-lt, bit-shl-low, bit-shl-high, top-clear, bit-none, bit-ones}
-use Rattle.paper.proofs.Logic.{by-test, lt-or-ge, both, and-false}
+use Rattle.paper.proofs.Logic.{by-test, lt-or-ge, both}
 use Rattle.slotset.specs.Answers.{rowNo}
 use Rattle.units.specs.Units.{unitStart, unitEnd, unitsOk, unitOf}
 use Rattle.units.specs.Domains.{able, ableIn, clear, clearIn, unitFrozen}

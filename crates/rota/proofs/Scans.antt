@@ -1,6 +1,6 @@
 -- The laws of scans that answer their first fault. Assumes nothing.
 use mathlib.Core.Path.{_≡_, refl, sym, ap, ap₂, _∙_}
-use mathlib.Core.Bool.{Bool, true, false, cond, not, _&&_, _||_}
+use mathlib.Core.Bool.{Bool, true, false, cond, not, _&&_, _||_, and-false}
 use mathlib.Core.List.{List}
 use mathlib.Core.Logic.{⊎-elim}
 use Prim.Native.Nat.{ℕ, zero, suc, _+_, _-_, _*_, _≤_, _<_}
@@ -11,7 +11,7 @@ use lib.Dec.{eqb, ltb, leb}
 use lib.ListN.{length, getD}
 use Rattle.paper.specs.Limits.{nobody, peopleOk}
 use Rattle.paper.specs.Count.{all, allIn, sum}
-use Rattle.paper.proofs.Logic.{by-test, lt-or-ge, below-suc, and-true, and-false, both}
+use Rattle.paper.proofs.Logic.{by-test, lt-or-ge, below-suc, and-true, both}
 use Rattle.paper.proofs.Count.{all-each, each-all, all-fails, sum-more}
 use Rattle.slotset.specs.Slots.{slot, has}
 use Rattle.slotset.specs.Answers.{rowNo, toldAs, rowSlots}

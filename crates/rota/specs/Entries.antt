@@ -5,24 +5,20 @@ use mathlib.Core.List.{List, []}
 use Prim.Native.Nat.{ℕ, _*_, _≤_}
 use lib.Dec.{eqb, ltb, leb}
 use lib.ListN.{length, set, getD, replicate}
-use Rattle.paper.specs.Limits.{peopleOk, slotCountOk, drawsMost, nobody, orElse}
-use Rattle.paper.specs.Count.{all, fill, over}
+use Rattle.paper.specs.Limits.{peopleOk, slotCountOk, drawsMost, nobody, orElse, countsOk}
+use Rattle.paper.specs.Count.{all, fill, over, onto}
 use Rattle.slotset.specs.declared.Changed.{Changed}
 use Rattle.slotset.specs.Answers.{loadOf}
 use Rattle.slots.specs.Lent.{slotRoomOk, slotsOk}
 use Rattle.units.specs.Units.{unitsOk}
 use Rattle.rota.specs.declared.Figure.{Figure}
 use Rattle.rota.specs.declared.Figure.the-variants.{Is, Refused}
-use Rattle.rota.specs.Plays.{drawsOf, ownersAfter, answers, written}
+use Rattle.rota.specs.Plays.{drawsOf, ownersAfter, answers}
 use Rattle.rota.specs.Derived.{Plan, Derived, derived, knownBy, afresh, setsFrom, nobodies, unassigned, uncovered}
 use Rattle.rota.specs.Recount.{freeFor, knownAt, freeAt, recounts}
 use Rattle.rota.specs.Lent.{boardOf}
 
 -- ---- the tests that come first
-
--- rule 1 of people and slots
-unfoldable pub countsOk : ℕ → ℕ → Bool
-countsOk people slots = peopleOk people && slotCountOk slots
 
 -- rule 2 of what a rota is lent in
 unfoldable pub roomOk : Plan → List ℕ → List ℕ → Derived → Bool
@@ -114,7 +110,7 @@ played P avail units firsts frozen n ks fs ss o D x =
     let B = boardOf (P .people) (P .slots) units avail firsts frozen in
     let ds = drawsOf ks fs ss n in
     outcome (playNo P avail units firsts frozen n ks fs ss o D x) o D x
-    (ownersAfter B o ds) (afresh P (ownersAfter B o ds) D) (written (answers B o ds) x)
+    (ownersAfter B o ds) (afresh P (ownersAfter B o ds) D) (onto (answers B o ds) x)
 
 -- ---- an empty rota: 1, 2
 

@@ -33,7 +33,3 @@ touched B o (d ∷ ds) u = (eqb (answer B o d) 0 && handed B o d u) || touched B
 unfoldable pub drawsOf : List ℕ → List ℕ → List ℕ → ℕ → List Draw
 drawsOf ks fs ss zero = []
 drawsOf ks fs ss (suc n) = drawsOf ks fs ss n ++ (draw (getD ks n 0) (getD fs n 0) (getD ss n 0) ∷ [])
-
--- l written over the first entries of x: what lies past it stays
-unfoldable pub written : List ℕ → List ℕ → List ℕ
-written l x = l ++ drop (length l) x

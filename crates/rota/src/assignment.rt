@@ -1,7 +1,6 @@
 // Owners, with each person's set of slots and minutes kept in step with them.
 use crate::Figure;
 use crate::checks::both;
-use crate::checks::counts_ok;
 use crate::checks::ground;
 use crate::checks::room_ok;
 use crate::checks::words_ok;
@@ -11,6 +10,7 @@ use crate::recount::free_for;
 use crate::recount::known_by;
 use crate::recount::recount_ok;
 use crate::recount::worked_by;
+use paper::counts_ok;
 use slotset::Changed;
 use slotset::SlotSet;
 ghost use mathlib.Core.Path.{_≡_};

@@ -5,20 +5,13 @@ ghost use Prim.Native.Nat.{_*_};
 ghost use lib.Dec.{leb};
 ghost use lib.ListN.{length};
 ghost use Rattle.rota.specs.Derived.{plan, derived};
-ghost use Rattle.rota.specs.Entries.{countsOk, roomOk, playRoomOk, ground};
+ghost use Rattle.rota.specs.Entries.{roomOk, playRoomOk, ground};
 
 // Both of two tests.
 pub(crate) fn both(a: bool, b: bool) -> bool
     ensures { λ r. ⌜ r ≡ a && b ⌝ }
 {
     if a { b } else { false }
-}
-
-// Rule 1 of people and slots.
-pub(crate) fn counts_ok(people: usize, slots: usize) -> bool
-    ensures { λ r. ⌜ r ≡ countsOk people slots ⌝ }
-{
-    both(paper::people_ok(people), paper::slot_count_ok(slots))
 }
 
 // Whether words for that many sets are lent.

@@ -2,12 +2,12 @@
 use crate::Move;
 use crate::assignment::hand_over;
 use crate::checks::both;
-use crate::checks::counts_ok;
 use crate::checks::ground;
 use crate::checks::play_room_ok;
 use crate::checks::room_ok;
 use crate::moves::decide;
 use crate::recount::recount_ok;
+use paper::counts_ok;
 ghost use mathlib.Core.Path.{_≡_};
 ghost use Prim.Native.Nat.{ℕ, _+_, _*_, _<_, _≤_};
 ghost use lib.ListN.{length};

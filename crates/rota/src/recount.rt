@@ -2,9 +2,9 @@
 use crate::Fault;
 use crate::assignment::rebuild;
 use crate::checks::both;
-use crate::checks::counts_ok;
 use crate::checks::ground;
 use crate::checks::room_ok;
+use paper::counts_ok;
 use slotset::Told;
 ghost use mathlib.Core.Path.{_≡_};
 ghost use mathlib.Core.Bool.{true, _&&_};

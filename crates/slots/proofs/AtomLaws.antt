@@ -16,7 +16,7 @@ use Rattle.slotset.specs.Answers.{countedAs, wordsAs}
 use Rattle.slots.specs.Lent.{slotRoomOk, slotsOk, SlotsSound}
 use Rattle.slots.specs.Ranges.{rangeCountOk, rangeRoomOk, rangesOk, RangesSound}
 use Rattle.slots.specs.Walk.{MergedFrom}
-use Rattle.slots.specs.Atomic.{atomStarts, atomEnds, Base, countsOk, roomOk, baseCountsOk, baseRoomOk, baseNo, atomiseNo, atomiseOf}
+use Rattle.slots.specs.Atomic.{atomStarts, atomEnds, Base, splitCountsOk, roomOk, baseCountsOk, baseRoomOk, baseNo, atomiseNo, atomiseOf}
 use Rattle.slots.specs.Atomic.{startsOfAtoms, endsOfAtoms, AtomsEnd, orFull, Grown}
 use Rattle.slots.proofs.LentLaws.{room-says, slots-sound}
 use Rattle.slots.proofs.RangeLaws.{ranges-sound}
@@ -32,7 +32,7 @@ pub record BaseSound (B : Base) : Type 0 where
   pub room : (1024 ≤ length (B .outStarts)) × (1024 ≤ length (B .outEnds))
 
 pub base-says : (B : Base) → baseNo B ≡ 0 → BaseSound B
-unfolding baseNo countsOk roomOk
+unfolding baseNo splitCountsOk roomOk
 base-says B e =
     let p = peopleOk (B .people) in
     let s = slotCountOk (B .slots) in

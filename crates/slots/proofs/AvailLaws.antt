@@ -13,7 +13,7 @@ use lib.ListN.{length, getD, take}
 use lib.Seq.{getD-take, length-take-le}
 use Rattle.paper.specs.Limits.{peopleOk, slotCountOk}
 use Rattle.paper.specs.Count.{allIn}
-use Rattle.paper.proofs.Logic.{lt-or-ge, both, three, and-true, or-left, same-test, cond-zero, people-says, slot-count-says}
+use Rattle.paper.proofs.Logic.{lt-or-ge, both, three, and-true, or-left, same-test, cond-zero, people-says, slot-count-says, or-either, or-second}
 use Rattle.paper.proofs.Count.{in-each, each-in}
 use Rattle.slotset.specs.Slots.{putSlot, putSlots, valueOf}
 use Rattle.slotset.specs.Answers.{rowNo, rowStretchNo, rowStretchOf, wordsAs}
@@ -23,11 +23,11 @@ use Rattle.slots.specs.Ranges.{anyOf, Ranges, rangeCountOk, rangeRoomOk,
 use Rattle.slots.specs.Ranges.{opens, closes, mergedOf, Spaced}
 use Rattle.slots.specs.Walk.{MergedFrom}
 use Rattle.slots.specs.Freeze.{Opening}
-use Rattle.slots.specs.Atomic.{countsOk}
+use Rattle.slots.specs.Atomic.{splitCountsOk}
 use Rattle.slots.specs.Availability.{availableBit, rows, availabilityRoomOk, availabilityNo, availabilityOf, spans, heldBit}
 use Rattle.slots.proofs.Keys.{inLine, in-line, line-in}
 use Rattle.slots.proofs.LentLaws.{slots-sound}
-use Rattle.slots.proofs.Merging.{or-either, or-second, before-none, any-minutes}
+use Rattle.slots.proofs.Merging.{before-none, any-minutes}
 use Rattle.slots.proofs.RangeLaws.{ranges-sound, merged-is}
 use Rattle.slots.proofs.MergedLaws.{any-at}
 
@@ -249,14 +249,14 @@ pub record AvailabilitySound (people slots : ℕ) (starts ends : List ℕ) (R : 
   pub people-ok : peopleOk people ≡ true
   pub room : 16 * people ≤ length words
 
-pub counts-people : (people slots count : ℕ) → countsOk people slots count ≡ true → people ≤ 32
-unfolding countsOk
+pub counts-people : (people slots count : ℕ) → splitCountsOk people slots count ≡ true → people ≤ 32
+unfolding splitCountsOk
 counts-people people slots count e =
     people-says people (three (peopleOk people) (slotCountOk slots) (rangeCountOk count) e .0) .1
 
 pub availability-says : (people slots : ℕ) (starts ends : List ℕ) (R : Ranges) (words : List ℕ)
     → availabilityNo people slots starts ends R words ≡ 0 → AvailabilitySound people slots starts ends R words
-unfolding availabilityNo availabilityRoomOk countsOk
+unfolding availabilityNo availabilityRoomOk splitCountsOk
 availability-says people slots starts ends R words e =
     let p = peopleOk people in
     let s = slotCountOk slots in

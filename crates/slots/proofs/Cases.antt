@@ -5,15 +5,15 @@ use mathlib.Core.List.{List, [], _∷_}
 use Prim.Native.Nat.{ℕ}
 use lib.ListN.{replicate}
 use Rattle.paper.specs.Limits.{peopleOk, slotCountOk}
-use Rattle.paper.specs.Count.{all, allIn, among}
+use Rattle.paper.specs.Count.{all, allIn, among, some}
 use Rattle.slotset.specs.declared.Counted.the-variants as counted
 use Rattle.slotset.specs.Answers.{countedAs}
 use Rattle.slots.specs.Lent.{slotOk, slotOkAt, slotRoomOk, slotsOk, prevEnd}
-use Rattle.slots.specs.Ranges.{some, anyOf, ranges, rangeCountOk, rangeRoomOk, rangeOk, rangeOkAt, rangesOk, inRange}
+use Rattle.slots.specs.Ranges.{anyOf, ranges, rangeCountOk, rangeRoomOk, rangeOk, rangeOkAt, rangesOk, inRange}
 use Rattle.slots.specs.Ranges.{inRanges, available}
 use Rattle.slots.specs.Ranges.{keyOf, personOf, startOf, endOf, keyAt, keysTo, keysOf, opens, closes, joined, mergeIn}
 use Rattle.slots.specs.Ranges.{mergeAll, mergedOf}
-use Rattle.slots.specs.Atomic.{startsOrEnds, isCut, cutAfter, cutsIn, atomStarts, atomEnds, Base, base, countsOk}
+use Rattle.slots.specs.Atomic.{startsOrEnds, isCut, cutAfter, cutsIn, atomStarts, atomEnds, Base, base, splitCountsOk}
 use Rattle.slots.specs.Atomic.{roomOk, atomiseNo, atomiseOf}
 use Rattle.slots.specs.Atomic.{startsOfAtoms, endsOfAtoms}
 
@@ -56,7 +56,7 @@ case-6-available = (refl, refl, refl, refl)
 
 -- none of them is refused, and the number is heard
 pub case-heard : (atomiseOf four .answer ≡ counted.Is 2) × (atomiseOf five .answer ≡ counted.Is 1) × (atomiseOf six .answer ≡ counted.Is 4)
-unfolding atomiseOf atomiseNo countedAs countsOk peopleOk slotCountOk rangeCountOk roomOk slotRoomOk rangeRoomOk slotsOk
+unfolding atomiseOf atomiseNo countedAs splitCountsOk peopleOk slotCountOk rangeCountOk roomOk slotRoomOk rangeRoomOk slotsOk
     slotOkAt slotOk prevEnd all rangesOk rangeOkAt rangeOk atomStarts atomEnds cutsIn cutAfter isCut startsOrEnds anyOf among
     mergedOf mergeAll mergeIn keysOf keysTo keyAt keyOf personOf startOf endOf opens closes joined
 case-heard = (refl, refl, refl)

@@ -1,6 +1,6 @@
 -- Cuts and atomic slots: the next cut, the pieces of one slot, and of all. Assumes nothing.
 use mathlib.Core.Path.{_≡_, refl, sym, ap, ap₂, _∙_}
-use mathlib.Core.Bool.{Bool, true, false, _&&_, _||_, cond}
+use mathlib.Core.Bool.{Bool, true, false, _&&_, _||_, cond, and-false, or-false, or-assoc}
 use mathlib.Core.Logic.{⊎-elim}
 use mathlib.Core.List.{List, [], _∷_, _++_, append-assoc, append-nil}
 use Prim.Native.Nat.{ℕ, zero, suc, _+_, _-_, _≤_, _<_}
@@ -11,12 +11,11 @@ use lib.Dec.{ltb, eqb}
 use lib.ListN.{length, getD, take, set, length-append, length-set}
 use lib.Seq.{take-suc, take-suc-set, length-take-le}
 use Rattle.paper.specs.Count.{among}
-use Rattle.paper.proofs.Logic.{by-test, lt-or-ge, both, and-true, and-false, or-left}
+use Rattle.paper.proofs.Logic.{by-test, lt-or-ge, both, and-true, or-left, or-second, and-stops}
 use Rattle.paper.proofs.Count.{among-in, among-out}
 use Rattle.slots.specs.Ranges.{anyOf, startOf, endOf}
 use Rattle.slots.specs.Atomic.{startsOrEnds, isCut, cutAfter, cutsIn, atomStarts, atomEnds, orFull, NextCut, nearer, Grown}
-use Rattle.slots.proofs.Chains.{and-stops}
-use Rattle.slots.proofs.Merging.{or-assoc, or-false, or-second, any-append}
+use Rattle.slots.proofs.Merging.{any-append}
 
 -- ---- the next cut
 

@@ -10,7 +10,7 @@ use lib.Dec.{leb, ltb, eqb}
 use lib.ListN.{length, getD}
 use Rattle.paper.specs.Limits.{peopleOk, slotCountOk}
 use Rattle.paper.specs.Count.{sum, count}
-use Rattle.paper.proofs.Logic.{lt-or-ge, both, cond-zero, slot-count-says}
+use Rattle.paper.proofs.Logic.{lt-or-ge, both, cond-zero, slot-count-says, or-second}
 use Rattle.slotset.specs.declared.Counted.the-variants as counted
 use Rattle.slotset.specs.declared.Told.{Told}
 use Rattle.slotset.specs.declared.Told.the-variants as told
@@ -19,7 +19,6 @@ use Rattle.slotset.specs.Answers.{rowNo, rowStretchNo, rowStretchOf, rowSlots, 
 use Rattle.slots.specs.Lent.{slotRoomOk, slotsOk, SlotsSound}
 use Rattle.slots.specs.Freeze.{endsBy, endedBy, marked, freezeNo, freezeOf, Opening, availableNo, isAvailable}
 use Rattle.slots.proofs.LentLaws.{slots-sound}
-use Rattle.slots.proofs.Merging.{or-second}
 
 -- ---- an opening stretch
 

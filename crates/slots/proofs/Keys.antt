@@ -1,11 +1,11 @@
 -- Ranges as single numbers, and on the line of everybody's minutes. Assumes nothing.
 use mathlib.Core.Path.{_≡_}
-use mathlib.Core.Bool.{Bool, true, false, _&&_}
+use mathlib.Core.Bool.{Bool, true, false, _&&_, and-false}
 use Prim.Native.Nat.{ℕ, _+_, _*_, _/_, _≤_, _<_, min, max}
 use native.Mathlib.Omega.{arith}
 use borrow.Author.Tests.{ltb-true, leb-true, eqb-true, lt-ltb, le-ltb, le-leb, eq-eqb}
 use lib.Dec.{leb, ltb, eqb}
-use Rattle.paper.proofs.Logic.{both, three, and-true, and-false, same-test}
+use Rattle.paper.proofs.Logic.{both, three, and-true, same-test}
 use Rattle.slots.specs.Ranges.{keyOf, personOf, startOf, endOf, opens, closes, joined, covers}
 
 -- the parts of a number

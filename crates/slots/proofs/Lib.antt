@@ -1,5 +1,4 @@
 -- The laws of slots.
-pub mod Chains
 pub mod LentLaws
 pub mod Keys
 pub mod Merging

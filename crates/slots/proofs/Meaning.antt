@@ -201,10 +201,6 @@ atoms-count-ok l slots starts ends ok few =
 
 -- ---- only one outcome fits
 
--- an answer that the contract names: demand, slot_minutes, is_available, and each buffer of freeze_before and availability
-pub one-answer {ℓ} : {A : Type ℓ} (x r s : A) → r ≡ x → s ≡ x → r ≡ s
-one-answer x r s a b = a ∙ sym b
-
 -- merged_ranges
 pub one-merged-end : (x : MergedOut) (r r′ : Counted) (p p′ s s′ e e′ : List ℕ) → MergedEnd x r p s e → MergedEnd x r′ p′ s′ e′
     → (r ≡ r′) × (p ≡ p′) × (s ≡ s′) × (e ≡ e′)

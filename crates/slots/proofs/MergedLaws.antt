@@ -10,32 +10,19 @@ use lib.Dec.{leb, ltb, eqb}
 use lib.ListN.{length, getD, take, set}
 use lib.Seq.{length-take-le, getD-take}
 use Rattle.paper.specs.Limits.{peopleOk}
-use Rattle.paper.specs.Count.{over}
-use Rattle.paper.proofs.Logic.{both, three, by-test, cond-zero, and-true}
-use Rattle.paper.proofs.Count.{over-more, over-same, length-over}
+use Rattle.paper.specs.Count.{over, some}
+use Rattle.paper.proofs.Logic.{both, three, by-test, cond-zero, and-true, or-second}
+use Rattle.paper.proofs.Count.{over-more, over-same, length-over, some-one}
 use Rattle.slotset.specs.declared.Counted.the-variants as counted
 use Rattle.slotset.specs.Answers.{countedAs, wordsAs}
-use Rattle.slots.specs.Ranges.{some, anyOf, Ranges, ranges, rangeCountOk, rangeRoomOk, rangesOk, RangesSound, inRange, inRanges}
+use Rattle.slots.specs.Ranges.{anyOf, Ranges, ranges, rangeCountOk, rangeRoomOk, rangesOk, RangesSound, inRange, inRanges}
 use Rattle.slots.specs.Ranges.{personOf, startOf, endOf, covers, opens, closes, mergedOf, Spaced}
 use Rattle.slots.specs.Walk.{MergedFrom}
 use Rattle.slots.specs.Merged.{written, Columns, mergedNo, mergedRanges, MergedEnd, TakenApart}
 use Rattle.slots.proofs.Keys.{empty-line}
-use Rattle.slots.proofs.Merging.{or-second}
 use Rattle.slots.proofs.RangeLaws.{ranges-sound, range-room-says, merged-is}
 
 -- ---- an entry of the merged list is a known person's
-
-some-one : (n : ℕ) (p : ℕ → Bool) (X : Type 0) → some n p ≡ true → ((k : ℕ) → k < n → p k ≡ true → X) → X
-unfolding some
-some-one zero p X e f = absurd (mathlib.Core.Bool.false≢true e)
-some-one (suc n) p X e f =
-    by-test (p n) X
-    (λ t. f n (omega arith) t)
-    (λ u. some-one n p X (or-first (some n p) (p n) e u) (λ k h t. f k (omega arith) t))
-  where
-    or-first : (a b : Bool) → a || b ≡ true → b ≡ false → a ≡ true
-    or-first true b e f = refl
-    or-first false b e f = absurd (mathlib.Core.Bool.true≢false (sym e ∙ f))
 
 -- a test that one entry passes
 pub any-at : (p : ℕ → Bool) (l : List ℕ) (k : ℕ) → k < length l → p (getD l k 0) ≡ true → anyOf p l ≡ true

@@ -1,14 +1,14 @@
 -- Merged lists: the definition meets the statement over minutes, only one list does, and a walk over ranges in order gives it.
 -- Assumes nothing.
 use mathlib.Core.Path.{_≡_, refl, sym, ap, ap₂, _∙_}
-use mathlib.Core.Bool.{Bool, true, false, _||_}
+use mathlib.Core.Bool.{Bool, true, false, _||_, or-assoc}
 use mathlib.Core.Logic.{_⊎_, inl, inr, ⊎-elim}
 use mathlib.Core.List.{List, [], _∷_, _++_}
 use Prim.Native.Nat.{ℕ, suc, _+_, _*_, _/_, _%_, _≤_, _<_, min, max}
 use native.Mathlib.Omega.{arith}
 use borrow.Author.Tests.{ltb-true, ltb-false, leb-true, leb-false}
 use lib.Dec.{leb, ltb}
-use Rattle.paper.proofs.Logic.{by-test, lt-or-ge, same-test, or-left}
+use Rattle.paper.proofs.Logic.{by-test, lt-or-ge, same-test, or-left, or-either, or-second}
 use Rattle.slots.specs.Ranges.{anyOf, personOf, startOf, endOf, opens, closes, joined, covers, mergeIn, mergeAll, Spaced, IsMerged}
 use Rattle.slots.specs.Walk.{extended, closed, walkOn}
 use Rattle.slots.proofs.Keys.{inLine, in-line, line-in, opens-joined, closes-joined, empty-line, same-range}
@@ -16,26 +16,10 @@ use Rattle.slots.proofs.Keys.{covers-line, covers-far, opens-is, end-lt
 
 -- ---- or
 
-pub or-assoc : (a b c : Bool) → (a || b) || c ≡ a || (b || c)
-or-assoc true b c = refl
-or-assoc false b c = refl
-
 pub or-swap : (a b c : Bool) → a || (b || c) ≡ b || (a || c)
 or-swap true true c = refl
 or-swap true false c = refl
 or-swap false b c = refl
-
-pub or-false : (a : Bool) → a || false ≡ a
-or-false true = refl
-or-false false = refl
-
-pub or-either : (a b : Bool) → a || b ≡ true → (a ≡ true) ⊎ (b ≡ true)
-or-either true b e = inl refl
-or-either false b e = inr e
-
-pub or-second : (a b : Bool) → b ≡ true → a || b ≡ true
-or-second true b e = refl
-or-second false b e = e
 
 -- ---- any entry
 

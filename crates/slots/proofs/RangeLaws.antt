@@ -1,6 +1,6 @@
 -- Lent ranges: what their checks say, the ranges as numbers, and that the merged list is the one of their minutes. Assumes nothing.
 use mathlib.Core.Path.{_≡_, refl, sym, ap, ap₂, _∙_}
-use mathlib.Core.Bool.{Bool, true, false, _&&_, _||_}
+use mathlib.Core.Bool.{Bool, true, false, _&&_, _||_, or-false}
 use mathlib.Core.List.{List, [], _∷_, _++_}
 use Prim.Native.Nat.{ℕ, zero, suc, _+_, _*_, _≤_, _<_}
 use native.Mathlib.Nat.{not-suc-le-zero, le-antisymm}
@@ -11,16 +11,16 @@ use lib.Dec.{leb, ltb}
 use lib.ListN.{length, getD, take, drop, set, length-append}
 use lib.Seq.{take-suc-set, take-at, length-take-le}
 use Rattle.paper.specs.Limits.{peopleOk}
-use Rattle.paper.specs.Count.{all}
+use Rattle.paper.specs.Count.{all, some}
 use Rattle.paper.proofs.Logic.{both, three, people-says}
 use Rattle.paper.proofs.Count.{all-each}
-use Rattle.slots.specs.Ranges.{some, anyOf, Ranges, rangeCountOk, rangeRoomOk, rangeOk, rangeOkAt, rangesOk, RangesSound}
+use Rattle.slots.specs.Ranges.{anyOf, Ranges, rangeCountOk, rangeRoomOk, rangeOk, rangeOkAt, rangesOk, RangesSound}
 use Rattle.slots.specs.Ranges.{inRange, inRanges, keyOf, personOf, startOf, endOf, keyAt, keysTo, keysOf, covers, opens, closes}
 use Rattle.slots.specs.Ranges.{mergeAll, mergedOf, IsMerged}
 use Rattle.slots.specs.Walk.{SortedTo, SameEntries, walkOn, MergedFrom}
 use Rattle.slots.proofs.WalkLaws.{walk-few}
 use Rattle.slots.proofs.Keys.{person-key, start-key, end-key, inLine, opens-mono}
-use Rattle.slots.proofs.Merging.{or-false, any-append, all-places, all-spaced, places-minutes, one-merged, Rising}
+use Rattle.slots.proofs.Merging.{any-append, all-places, all-spaced, places-minutes, one-merged, Rising}
 use Rattle.slots.proofs.Merging.{empty-none, walk-places, walk-spaced}
 
 -- ---- what the checks say

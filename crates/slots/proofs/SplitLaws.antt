@@ -12,13 +12,12 @@ use lib.Dec.{leb, ltb, eqb}
 use lib.ListN.{length, getD, length-append, List·getD-append}
 use lib.Seq.{getD-append-add}
 use Rattle.paper.specs.Count.{sum, among}
-use Rattle.paper.proofs.Logic.{by-test, lt-or-ge, three, and-true, or-left}
+use Rattle.paper.proofs.Logic.{by-test, lt-or-ge, three, and-true, or-left, or-second}
 use Rattle.paper.proofs.Count.{each-all, sum-same, among-in, among-out, each-in}
 use Rattle.slots.specs.Lent.{slotOk, prevEnd, slotOkAt, slotRoomOk, slotsOk, minutesAt, demandOf}
 use Rattle.slots.specs.Ranges.{Ranges, RangesSound, inRanges, available, personOf, startOf, endOf, covers, mergedOf}
 use Rattle.slots.specs.Atomic.{startsOrEnds, isCut, cutAfter, cutsIn, IsCuts, atomStarts, atomEnds}
 use Rattle.slots.proofs.LentLaws.{slot-says, slots-each, prev-capped}
-use Rattle.slots.proofs.Merging.{or-second}
 use Rattle.slots.proofs.RangeLaws.{merged-is}
 use Rattle.slots.proofs.CutLaws.{cuts-none}
 use Rattle.slots.proofs.MergedLaws.{any-at}

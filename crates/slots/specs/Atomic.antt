@@ -66,8 +66,8 @@ abbrev pub endsOfAtoms : Base → List ℕ
 endsOfAtoms B = atomEnds (mergedOf (B .ranges)) (B .slots) (B .starts) (B .ends)
 
 -- rule 1
-unfoldable pub countsOk : ℕ → ℕ → ℕ → Bool
-countsOk people slots count = peopleOk people && (slotCountOk slots && rangeCountOk count)
+unfoldable pub splitCountsOk : ℕ → ℕ → ℕ → Bool
+splitCountsOk people slots count = peopleOk people && (slotCountOk slots && rangeCountOk count)
 
 -- rule 2: the columns to write need room for 1,024 atomic slots
 unfoldable pub roomOk : ℕ → List ℕ → List ℕ → Ranges → List ℕ → List ℕ → Bool
@@ -75,7 +75,7 @@ roomOk slots starts ends R outStarts outEnds =
     slotRoomOk slots starts ends && (rangeRoomOk R && slotRoomOk slotsMost outStarts outEnds)
 
 abbrev pub baseCountsOk : Base → Bool
-baseCountsOk B = countsOk (B .people) (B .slots) (B .ranges .count)
+baseCountsOk B = splitCountsOk (B .people) (B .slots) (B .ranges .count)
 
 abbrev pub baseRoomOk : Base → Bool
 baseRoomOk B = roomOk (B .slots) (B .starts) (B .ends) (B .ranges) (B .outStarts) (B .outEnds)

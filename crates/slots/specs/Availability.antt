@@ -9,7 +9,7 @@ use Rattle.slotset.specs.Slots.{putSlots, valueOf}
 use Rattle.slotset.specs.Answers.{wordsAs}
 use Rattle.slots.specs.Lent.{slotRoomOk, slotsOk}
 use Rattle.slots.specs.Ranges.{anyOf, Ranges, rangeRoomOk, rangesOk, available, opens, closes}
-use Rattle.slots.specs.Atomic.{countsOk}
+use Rattle.slots.specs.Atomic.{splitCountsOk}
 
 -- the mark of slot k in a person's set: each minute of the slot lies in one of the person's ranges
 unfoldable pub availableBit : Ranges → List ℕ → List ℕ → ℕ → ℕ → ℕ
@@ -28,7 +28,7 @@ availabilityRoomOk people slots starts ends R words =
 -- 1, then 2, then 4, then 9
 unfoldable pub availabilityNo : ℕ → ℕ → List ℕ → List ℕ → Ranges → List ℕ → ℕ
 availabilityNo people slots starts ends R words =
-    orElse (countsOk people slots (R .count)) 1
+    orElse (splitCountsOk people slots (R .count)) 1
     (orElse (availabilityRoomOk people slots starts ends R words) 2
     (orElse (rangesOk people R) 4 (orElse (slotsOk slots starts ends) 9 0)))
 

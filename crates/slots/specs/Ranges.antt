@@ -7,12 +7,7 @@ use Prim.Native.Nat.{ℕ, zero, suc, _+_, _*_, _/_, _%_, _≤_, _<_, min, max}
 use lib.Dec.{leb, ltb, eqb}
 use lib.ListN.{length, getD}
 use Rattle.paper.specs.Limits.{peopleMost, rangesMost, lastMinute}
-use Rattle.paper.specs.Count.{all, allIn}
-
--- p holds of some number below n
-unfoldable pub some : ℕ → (ℕ → Bool) → Bool
-some zero p = false
-some (suc n) p = some n p || p n
+use Rattle.paper.specs.Count.{all, allIn, some}
 
 -- p holds of some entry of a list
 unfoldable pub anyOf : (ℕ → Bool) → List ℕ → Bool

@@ -12,7 +12,7 @@ ghost use Rattle.paper.specs.Count.{over};
 ghost use Rattle.slots.specs.Lent.{SlotsSound};
 ghost use Rattle.slots.specs.Ranges.{ranges};
 ghost use Rattle.slots.specs.Atomic.{cutsIn, atomStarts, atomEnds, NextCut, nearer, Grown};
-ghost use Rattle.slots.specs.Atomic.{countsOk, roomOk, base, baseNo, atomiseOf, AtomsEnd};
+ghost use Rattle.slots.specs.Atomic.{splitCountsOk, roomOk, base, baseNo, atomiseOf, AtomsEnd};
 
 // A minute, where it lies strictly between two others; else the later of them.
 fn nearer_of(after: u64, best: u64, t: u64) -> u64
@@ -167,7 +167,7 @@ fn base_no(
 
 // Whether each count is one that is taken (rule 1).
 pub(crate) fn base_counts_ok(people: usize, slots: usize, count: usize) -> bool
-    ensures { λ r. ⌜ r ≡ countsOk people slots count ⌝ }
+    ensures { λ r. ⌜ r ≡ splitCountsOk people slots count ⌝ }
 {
     if people_ok(people) {
         if slot_count_ok(slots) {

@@ -7,11 +7,11 @@ use native.Mathlib.Omega.{arith}
 use borrow.Author.Tests.{leb-true, le-leb, lt-leb}
 use lib.Dec.{leb}
 use lib.ListN.{length}
-use Rattle.paper.specs.Limits.{peopleOk, slotCountOk, orElse}
+use Rattle.paper.specs.Limits.{peopleOk, slotCountOk, orElse, countsOk}
 use Rattle.paper.proofs.Logic.{both, four, cond-zero, people-says, slot-count-says}
 use Rattle.slots.specs.Lent.{slotRoomOk, slotsOk}
 use Rattle.targets.specs.Figures.{allFiguresOk}
-use Rattle.targets.specs.Outcome.{Given, countsOk, peopleRoomOk, roomOk, checkNo}
+use Rattle.targets.specs.Outcome.{Given, peopleRoomOk, roomOk, checkNo}
 use Rattle.targets.specs.Code.{Sound}
 
 -- ---- the chain, over plain tests

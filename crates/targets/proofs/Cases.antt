@@ -8,13 +8,13 @@ use native.Mathlib.Nat.{le-refl}
 use lib.IntN.{ℤ, pos, negsuc}
 use lib.ListN.{length, drop}
 use lib.Ieee.{Float, fin, add, sub, mul, div, lt, eq, le, ofInt}
-use Rattle.paper.specs.Limits.{peopleOk, slotCountOk}
+use Rattle.paper.specs.Limits.{peopleOk, slotCountOk, countsOk}
 use Rattle.paper.specs.Count.{all, sum}
 use Rattle.slots.specs.Lent.{slotOk, prevEnd, slotOkAt, slotRoomOk, slotsOk, minutesAt, demandOf}
 use Rattle.targets.specs.Figures.{figuresOk, allFiguresOk}
 use Rattle.targets.specs.Passes.{rounded, within, settled, pass, passes}
 use Rattle.targets.specs.Remainder.{adjusted, Targets, are}
-use Rattle.targets.specs.Outcome.{Given, given, countsOk, targetsIn, published, computeTargets}
+use Rattle.targets.specs.Outcome.{Given, given, targetsIn, published, computeTargets}
 use Rattle.targets.proofs.Accepted.{all-clear, people-room}
 use Rattle.targets.proofs.Promises.{when-accepted}
 

@@ -8,6 +8,7 @@ use native.Mathlib.Omega.{arith}
 use lib.ListN.{length, getD, replicate}
 use lib.Ieee.{Float, nan, inf, fin, lt, up, down}
 use lib.Ieee.Fits.{down-pos}
+use Rattle.paper.proofs.Logic.{neither}
 use Rattle.targets.specs.declared.Line.{Line}
 use Rattle.targets.specs.declared.Next.{Next}
 use Rattle.targets.specs.declared.Next.the-variants.{Again, Done}
@@ -45,16 +46,12 @@ settled-small x l k h = go (l .pinned) (lt x zeroF) (λ p. rounded-small x (k p)
     go false true r = omega arith
     go false false r = r refl
 
-or-false : (a b : Bool) → a || b ≡ false → (a ≡ false) × (b ≡ false)
-or-false true b e = absurd (mathlib.Core.Bool.true≢false e)
-or-false false b e = (refl, e)
-
 -- ---- all passes
 
 small-map : (n s : Float) (ls : List Line) → some (outside n s) ls ≡ false → Small ls → Small (map (settle n s) ls)
 small-map n s [] o h = tt
 small-map n s (l ∷ ls) o h =
-    let x = or-false (outside n s l) (some (outside n s) ls) o in
+    let x = neither (outside n s l) (some (outside n s) ls) o in
     (settled-small (unrounded n s l) l (guard-kept n s l (x .0)) (h .0), small-map n s ls (x .1) (h .1))
 
 abbrev pub SmallP : Passed → Type 0

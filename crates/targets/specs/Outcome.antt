@@ -7,7 +7,7 @@ use lib.Dec.{eqb, leb}
 use lib.IntN.{ℤ}
 use lib.ListN.{length, drop}
 use lib.Ieee.{Float}
-use Rattle.paper.specs.Limits.{peopleOk, slotCountOk, orElse}
+use Rattle.paper.specs.Limits.{peopleOk, slotCountOk, orElse, countsOk}
 use Rattle.slots.specs.Lent.{slotRoomOk, slotsOk, demandOf}
 use Rattle.targets.specs.declared.Line.{Line}
 use Rattle.targets.specs.Figures.{allFiguresOk, linesOf}
@@ -40,10 +40,6 @@ given people slots starts ends avail capacities priors fairness = record {
 }
 
 -- ---- the checks that come before the work, 0 for none: the lowest number wins. 8 is judged only where 9 doesn't apply, so it comes after
-
--- 1: a count of people or of slots
-unfoldable pub countsOk : ℕ → ℕ → Bool
-countsOk people slots = peopleOk people && slotCountOk slots
 
 -- 2: the slots' columns; then 16 words a person, the figures, and room for as many targets as people
 unfoldable pub peopleRoomOk : ℕ → ℕ → ℕ → ℕ → ℕ → Bool

@@ -1,24 +1,13 @@
 // The checks that come before the work: rules 1, 2, 6, 7 and 9.
 use crate::Person;
-use paper::people_ok;
-use paper::slot_count_ok;
+use paper::counts_ok;
 use slots::slot_room_ok;
 use slots::slots_ok;
 ghost use mathlib.Core.Path.{_≡_};
 ghost use Prim.Native.Nat.{_≤_};
 ghost use lib.ListN.{length};
 ghost use Rattle.targets.specs.Figures.{figuresOk, allFiguresOk};
-ghost use Rattle.targets.specs.Outcome.{given, countsOk, peopleRoomOk, checkNo};
-
-// Whether both counts are within the paper's (rule 1).
-fn counts_ok(people: usize, slots: usize) -> bool
-    ensures { λ r. ⌜ r ≡ countsOk people slots ⌝ }
-{
-    if people_ok(people) {
-        return slot_count_ok(slots);
-    }
-    false
-}
+ghost use Rattle.targets.specs.Outcome.{given, peopleRoomOk, checkNo};
 
 // Whether what is lent for the people has room for them (rule 2).
 fn people_room_ok(

@@ -7,11 +7,12 @@ use native.Mathlib.Omega.{arith}
 use borrow.Author.Tests.{eq-eqb, ne-eqb}
 use lib.ListN.{length, drop, getD, set, length-append, length-drop}
 use lib.Seq.{drop-cons, set-append-seam, append-snoc}
+use Rattle.paper.specs.Count.{onto}
 use Rattle.paper.specs.Limits.{orElse}
 use Rattle.units.specs.declared.Number.{Number}
 use Rattle.units.specs.declared.Number.the-variants as number
 use Rattle.units.specs.declared.UnitSlots.the-variants as unitSlots
-use Rattle.units.specs.Answers.{numberAs, spanAs, onto, Written, writtenAs, Are}
+use Rattle.units.specs.Answers.{numberAs, spanAs, Written, writtenAs, Are}
 
 -- one test of a chain of refusals
 pub else-same : (r n x x′ : ℕ) (b b′ : Bool) → r ≡ orElse b n x → b ≡ b′ → x ≡ x′ → r ≡ orElse b′ n x′
@@ -35,26 +36,6 @@ pub span-refused : (n n′ x y : ℕ) → n ≡ n′ → (n ≡ 0 → ⊥) → u
 unfolding spanAs
 span-refused n n′ x y e z = simp (ne-eqb n′ 0 (λ q. z (e ∙ q))) (ap unitSlots.Refused e)
 
--- ---- a list written from the front
-
-pub onto-none : (old : List ℕ) → old ≡ onto [] old
-unfolding onto
-onto-none old = refl
-
-pub length-onto : (l old : List ℕ) → length l ≤ length old → length (onto l old) ≡ length old
-unfolding onto
-length-onto l old h = length-append l (drop (length l) old) ∙ omega (arith, length-drop (length l) old)
-
--- one more entry
-pub onto-more : (l old : List ℕ) (v : ℕ) → length l < length old → set (onto l old) (length l) v ≡ onto (l ++ (v ∷ [])) old
-unfolding onto
-onto-more l old v h =
-    let n : suc (length l) ≡ length (l ++ (v ∷ [])) = omega (arith, length-append l (v ∷ [])) in
-    ap (λ (t : List ℕ). set (l ++ t) (length l) v) (drop-cons old (length l) 0 h)
-    ∙ set-append-seam l (getD old (length l) 0) (drop (suc (length l)) old) v
-    ∙ sym (append-snoc l v (drop (suc (length l)) old))
-    ∙ ap (λ (k : ℕ). l ++ (v ∷ []) ++ drop k old) n
-
 -- ---- a written list, by its number
 
 pub written-told : (n n′ k : ℕ) (l l′ old b : List ℕ) → n ≡ n′ → n ≡ 0 → k ≡ length l → b ≡ onto l old → l ≡ l′
@@ -71,9 +52,6 @@ unfolding writtenAs
 written-refused n n′ l old b e z p =
     record { said = number-refused n n′ (length l) e z; left = simp (ne-eqb n′ 0 (λ q. z (e ∙ q))) p }
 
--- only one answer fits, and only one answer with one buffer
-pub one-answer {ℓ} : {A : Type ℓ} (x r r′ : A) → r ≡ x → r′ ≡ x → r ≡ r′
-one-answer x r r′ e q = e ∙ sym q
-
-pub one-outcome : (w : Written) (r r′ : Number) (b b′ : List ℕ) → Are w r b → Are w r′ b′ → (r ≡ r′) × (b ≡ b′)
-one-outcome w r r′ b b′ x y = (x .said ∙ sym (y .said), x .left ∙ sym (y .left))
+-- only one answer with one buffer fits
+pub one-written : (w : Written) (r r′ : Number) (b b′ : List ℕ) → Are w r b → Are w r′ b′ → (r ≡ r′) × (b ≡ b′)
+one-written w r r′ b b′ x y = (x .said ∙ sym (y .said), x .left ∙ sym (y .left))

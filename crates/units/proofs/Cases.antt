@@ -3,14 +3,14 @@ use mathlib.Core.Path.{_≡_, refl}
 use mathlib.Core.List.{[], _∷_}
 use Prim.Native.Nat.{ℕ}
 use Rattle.paper.specs.Limits.{slotCountOk}
-use Rattle.paper.specs.Count.{all, among}
+use Rattle.paper.specs.Count.{all, among, onto}
 use Rattle.paper.specs.Bits.{bitOf}
 use Rattle.slots.specs.Lent.{slotOk, prevEnd, slotOkAt, slotRoomOk, slotsOk}
 use Rattle.units.specs.declared.Settings.{Settings}
 use Rattle.units.specs.declared.Number.the-variants as number
 use Rattle.units.specs.Settings.{boundaryOk, settingsOk}
 use Rattle.units.specs.Dates.{dateOf, weekdayOf, listed}
-use Rattle.units.specs.Answers.{numberAs, onto, writtenAs}
+use Rattle.units.specs.Answers.{numberAs, writtenAs}
 use Rattle.units.specs.Starts.{dayBegins, rotationBegins, rotationStarts, startsNo, rotationStartsIs}
 
 abbrev pub mondays : Settings

@@ -6,10 +6,8 @@ use Prim.Native.Nat.{ℕ, _+_, _≤_, _<_}
 use native.Mathlib.Nat.{le-antisymm}
 use native.Mathlib.Omega.{arith}
 use lib.ListN.{length, set, length-append}
-use Rattle.paper.specs.Count.{among}
-use Rattle.paper.proofs.Count.{among-in, among-out, among-le}
-use Rattle.units.specs.Answers.{onto}
-use Rattle.units.proofs.Answers.{onto-none, onto-more, length-onto}
+use Rattle.paper.specs.Count.{among, onto}
+use Rattle.paper.proofs.Count.{among-in, among-out, among-le, onto-none, length-onto, onto-more}
 
 -- what holds at number k, with n numbers written
 pub record Collecting (p : ℕ → Bool) (top : ℕ) (old buffer : List ℕ) (n k : ℕ) : Type 0 where

@@ -9,10 +9,10 @@ use native.Mathlib.Numerals.{add-one}
 use native.Mathlib.Omega.{arith}
 use borrow.Author.Tests.{eq-eqb, ne-eqb, eqb-true, eqb-false}
 use lib.Dec.{eqb}
-use Rattle.paper.specs.Count.{all, sum, count}
+use Rattle.paper.specs.Count.{all, sum, count, some}
 use Rattle.paper.specs.Limits.{slotCountOk, lastMinute}
 use Rattle.paper.proofs.Logic.{by-test, lt-or-ge, cond-zero, slot-count-says}
-use Rattle.paper.proofs.Count.{all-fails, each-all, sum-none, sum-more, sum-same, sum-change, sum-part, sum-le}
+use Rattle.paper.proofs.Count.{all-fails, each-all, sum-none, sum-more, sum-same, sum-change, sum-part, sum-le, some-here, some-none, some-more}
 use Rattle.slots.specs.Lent.{slotRoomOk, slotsOk, demandOf, demandWhenOk, lentNo}
 use Rattle.slots.proofs.LentLaws.{slots-sound, when-ok, lent-says}
 use Rattle.units.specs.declared.Settings.{Settings}
@@ -20,7 +20,7 @@ use Rattle.units.specs.declared.Duration.the-variants as duration
 use Rattle.units.specs.Settings.{settingsOk}
 use Rattle.units.specs.Dates.{dateOf}
 use Rattle.units.specs.Starts.{startDate}
-use Rattle.units.specs.Days.{some, covers, datesMost, coveredDays, dateBegins, minutesPerDay, targetRun}
+use Rattle.units.specs.Days.{covers, datesMost, coveredDays, dateBegins, minutesPerDay, targetRun}
 use Rattle.units.specs.Days.{durationAs, targetRunNo}
 
 -- ---- counting
@@ -65,24 +65,6 @@ count-zero : (n : ℕ) (p : ℕ → Bool) → ((k : ℕ) → p k ≡ false) → 
 unfolding count
 count-zero n p e =
     omega (arith, sum-le 0 n (λ k. one (p k)) (λ k h. omega (arith, ap one (e k))))
-
--- ---- some number passes
-
-some-here : (n k : ℕ) (p : ℕ → Bool) → k < n → p k ≡ true → some n p ≡ true
-unfolding some
-some-here n k p h t = ap not (all-fails n k (λ j. not (p j)) h (ap not t))
-
-some-none : (n : ℕ) (p : ℕ → Bool) → ((k : ℕ) → k < n → p k ≡ false) → some n p ≡ false
-unfolding some
-some-none n p f = ap not (each-all n (λ j. not (p j)) (λ k h. ap not (f k h)))
-
-and-only : (b : Bool) → b && true ≡ b
-and-only true = refl
-and-only false = refl
-
-some-more : (n : ℕ) (p : ℕ → Bool) → p n ≡ false → some (suc n) p ≡ some n p
-unfolding some all
-some-more n p f = ap not (ap (λ (b : Bool). all n (λ j. not (p j)) && not b) f ∙ and-only (all n (λ j. not (p j))))
 
 covers-none : (starts : List ℕ) (d : ℕ) → covers 0 starts d ≡ false
 unfolding covers

@@ -9,14 +9,13 @@ use native.Mathlib.Omega.{arith}
 use borrow.Author.Tests.{lt-ltb, le-leb, eq-eqb}
 use lib.Dec.{leb}
 use lib.ListN.{length, getD, drop, length-append, List·getD-append}
-use Rattle.paper.specs.Count.{among}
+use Rattle.paper.specs.Count.{among, onto}
 use Rattle.paper.proofs.Logic.{by-test, lt-or-ge, and-true}
-use Rattle.paper.proofs.Count.{among-at, among-each, among-le, each-all}
+use Rattle.paper.proofs.Count.{among-at, among-each, among-le, each-all, length-onto}
 use Rattle.units.specs.Units.{unitStart, startRises, startOk, unitsOk}
 use Rattle.units.specs.declared.Settings.{Settings}
-use Rattle.units.specs.Answers.{onto, writtenAs}
+use Rattle.units.specs.Answers.{writtenAs}
 use Rattle.units.specs.Starts.{rotationBegins, unitBegins, rotationStarts, unitStarts, startsNo, rotationStartsIs, unitStartsIs}
-use Rattle.units.proofs.Answers.{length-onto}
 use Rattle.units.proofs.Begins.{rotation-zero, unit-zero, starts-say}
 
 -- an entry that an opening part of the list has

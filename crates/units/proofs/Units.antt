@@ -1,7 +1,7 @@
 -- What right unit starts give: every unit has a slot, units follow one another, and every slot is in exactly one. Assumes nothing.
 use mathlib.Core.Path.{_≡_, refl, sym, ap, _∙_}
 use mathlib.Core.Logic.{⊎-elim}
-use mathlib.Core.Bool.{Bool, true, false, _&&_}
+use mathlib.Core.Bool.{Bool, true, false, _&&_, and-false}
 use mathlib.Core.List.{List}
 use Prim.Native.Nat.{ℕ, zero, suc, _+_, _-_, _≤_, _<_}
 use native.Mathlib.Nat.{not-suc-le-zero}
@@ -11,7 +11,7 @@ use borrow.Author.Tests.{ltb-true, leb-true, eqb-true, lt-ltb, le-ltb, le-leb, l
 use lib.Dec.{eqb, ltb, leb}
 use lib.ListN.{length}
 use Rattle.paper.specs.Count.{all}
-use Rattle.paper.proofs.Logic.{by-test, both, three, and-false, below-suc, lt-or-ge}
+use Rattle.paper.proofs.Logic.{by-test, both, three, below-suc, lt-or-ge}
 use Rattle.paper.proofs.Count.{all-each}
 use Rattle.units.specs.Units.{unitStart, unitEnd, startRises, startOk, unitsOk, InUnit, unitOf}
 

@@ -5,6 +5,7 @@ use mathlib.Core.Path.{_≡_}
 use Prim.Native.Nat.{ℕ}
 use lib.Dec.{eqb, ltb, leb}
 use lib.ListN.{length, drop}
+use Rattle.paper.specs.Count.{onto}
 use Rattle.paper.specs.Limits.{slotCountOk, orElse}
 use Rattle.units.specs.declared.Number.{Number}
 use Rattle.units.specs.declared.Number.the-variants as number
@@ -21,10 +22,6 @@ unfoldable pub spanAs : ℕ → ℕ → ℕ → UnitSlots
 spanAs n a e = cond (eqb n 0) (unitSlots.Span a e) (unitSlots.Refused n)
 
 -- ---- a lent list at exit
-
--- a list written from the front; what lies past its end stays
-unfoldable pub onto : List ℕ → List ℕ → List ℕ
-onto l old = l ++ drop (length l) old
 
 -- the number of entries, and the lent buffer
 pub record Written : Type 0 where

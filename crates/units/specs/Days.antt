@@ -4,7 +4,7 @@ use mathlib.Core.List.{List}
 use Prim.Native.Nat.{ℕ, zero, suc, _*_, _/_, max}
 use lib.Dec.{eqb}
 use Rattle.paper.specs.Limits.{slotCountOk, orElse}
-use Rattle.paper.specs.Count.{all, count}
+use Rattle.paper.specs.Count.{all, count, some}
 use Rattle.slots.specs.Lent.{slotRoomOk, slotsOk, demandOf, lentNo}
 use Rattle.units.specs.declared.Number.{Number}
 use Rattle.units.specs.declared.Duration.{Duration}
@@ -13,10 +13,6 @@ use Rattle.units.specs.declared.Settings.{Settings}
 use Rattle.units.specs.Settings.{settingsOk}
 use Rattle.units.specs.Answers.{numberAs}
 use Rattle.units.specs.Starts.{startDate}
-
--- p holds of a number below n
-unfoldable pub some : ℕ → (ℕ → Bool) → Bool
-some n p = not (all n (λ k. not (p k)))
 
 -- date d is covered: one of the slots starts on it
 unfoldable pub covers : ℕ → List ℕ → ℕ → Bool

@@ -10,7 +10,8 @@ use slotset::Told;
 ghost use mathlib.Core.Path.{_≡_};
 ghost use Prim.Native.Nat.{_*_, _≤_};
 ghost use lib.ListN.{length};
-ghost use Rattle.units.specs.Answers.{onto, Are};
+ghost use Rattle.paper.specs.Count.{onto};
+ghost use Rattle.units.specs.Answers.{Are};
 ghost use Rattle.units.specs.Domains.{ableIn, clearIn, domain, DomainRoom, unitFrozenNo, unitFrozenIs};
 ghost use Rattle.units.specs.Domains.{slotDomainNo, slotDomainIs, unitDomainNo, unitDomainIs};
 

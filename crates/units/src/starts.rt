@@ -8,7 +8,8 @@ use crate::refuse::settings_ok;
 ghost use mathlib.Core.Path.{_≡_};
 ghost use Prim.Native.Nat.{_≤_};
 ghost use lib.ListN.{length};
-ghost use Rattle.units.specs.Answers.{onto, Are};
+ghost use Rattle.paper.specs.Count.{onto};
+ghost use Rattle.units.specs.Answers.{Are};
 ghost use Rattle.units.specs.Starts.{startDate, everyBegins, dayBegins, unitBegins, begun};
 ghost use Rattle.units.specs.Starts.{startsNo, rotationStartsIs, unitStartsIs};
 

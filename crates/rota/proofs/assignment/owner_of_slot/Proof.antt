@@ -6,8 +6,9 @@ use borrow.Author.Needs.{needs}
 use borrow.Author.Tests.{le-ltb, lt-ltb, leb-true}
 use lib.Dec.{ltb, leb}
 use lib.ListN.{length, getD}
+use Rattle.paper.specs.Limits.{countsOk}
 use Rattle.rota.specs.Derived.{knownBy}
-use Rattle.rota.specs.Entries.{countsOk, ownerIs}
+use Rattle.rota.specs.Entries.{ownerIs}
 use Rattle.rota.proofs.Entered.{ground-same, ground-all}
 use Rattle.paper.proofs.Logic.{and-true}
 use Rattle.rota.proofs.Asked.{figure-stops, figure-11, figure-told}

@@ -5,9 +5,10 @@ use borrow.Author.Needs.{needs}
 use borrow.Author.Tests.{leb-true}
 use lib.Dec.{leb}
 use lib.ListN.{length}
+use Rattle.paper.specs.Limits.{countsOk}
 use Rattle.paper.specs.Count.{all}
 use Rattle.rota.specs.Recount.{knownAt}
-use Rattle.rota.specs.Entries.{countsOk, unassignedIs}
+use Rattle.rota.specs.Entries.{unassignedIs}
 use Rattle.rota.proofs.Entered.{ground-same, ground-all}
 use Rattle.rota.proofs.Asked.{scan-no, scan-yes, figure-stops, figure-11, figure-told}
 use Rattle.rota.proofs.assignment.unassigned_count.Statement.{statement}

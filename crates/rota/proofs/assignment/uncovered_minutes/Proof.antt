@@ -5,11 +5,12 @@ use borrow.Author.Needs.{needs}
 use borrow.Author.Tests.{leb-true}
 use lib.Dec.{leb}
 use lib.ListN.{length}
+use Rattle.paper.specs.Limits.{countsOk}
 use Rattle.paper.specs.Count.{all}
 use Rattle.rota.specs.Derived.{plan, uncovered}
 use Rattle.rota.specs.Recount.{knownAt}
 use Rattle.slots.specs.Lent.{slotRoomOk, slotsOk}
-use Rattle.rota.specs.Entries.{countsOk, uncoveredIs}
+use Rattle.rota.specs.Entries.{uncoveredIs}
 use Rattle.rota.proofs.Entered.{ground-same, ground-all}
 use Rattle.paper.proofs.Logic.{both}
 use Rattle.rota.proofs.Asked.{scan-no, scan-yes, figure-stops, figure-11, figure-told, plan-sound}

@@ -1,8 +1,8 @@
 -- `slots::avail::availability_no` meets its contract. Assumes nothing.
 use mathlib.Core.Path.{refl, sym, _∙_}
+use Rattle.paper.proofs.Logic.{passes, stops}
 use Rattle.slots.specs.Availability.{availabilityNo}
 use Rattle.slots.proofs.AvailLaws.{counts-people}
-use Rattle.slots.proofs.Chains.{passes, stops}
 use borrow.Author.Needs.{needs}
 use Rattle.slots.proofs.avail.availability_no.Statement.{statement}
 use Rattle.slots.proofs.avail.availability_no.Tie as tie

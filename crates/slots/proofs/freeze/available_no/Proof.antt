@@ -2,9 +2,8 @@
 use borrow.Author.Tests.{le-leb, lt-leb, lt-ltb, le-ltb}
 use mathlib.Core.Path.{refl, sym, _∙_}
 use native.Mathlib.Omega.{arith}
-use Rattle.paper.proofs.Logic.{and-true, people-says}
+use Rattle.paper.proofs.Logic.{and-true, people-says, passes, stops, and-stops, and-last}
 use Rattle.slots.specs.Freeze.{availableNo}
-use Rattle.slots.proofs.Chains.{passes, stops, and-stops, and-last}
 use borrow.Author.Needs.{needs}
 use Rattle.slots.proofs.freeze.available_no.Statement.{statement}
 use Rattle.slots.proofs.freeze.available_no.Tie as tie

@@ -1,9 +1,8 @@
 -- `slots::freeze::freeze_no` meets its contract. Assumes nothing.
 use borrow.Author.Tests.{le-leb, lt-leb}
 use mathlib.Core.Path.{refl, sym, _∙_}
-use Rattle.paper.proofs.Logic.{and-true}
+use Rattle.paper.proofs.Logic.{and-true, passes, stops, and-stops, and-last}
 use Rattle.slots.specs.Freeze.{freezeNo}
-use Rattle.slots.proofs.Chains.{passes, stops, and-stops, and-last}
 use borrow.Author.Needs.{needs}
 use Rattle.slots.proofs.freeze.freeze_no.Statement.{statement}
 use Rattle.slots.proofs.freeze.freeze_no.Tie as tie

@@ -1,8 +1,7 @@
 -- `slots::merge::merged_no` meets its contract. Assumes nothing.
 use mathlib.Core.Path.{refl, sym, _∙_}
-use Rattle.paper.proofs.Logic.{and-true}
+use Rattle.paper.proofs.Logic.{and-true, passes, stops, and-stops, and-last}
 use Rattle.slots.specs.Merged.{mergedNo}
-use Rattle.slots.proofs.Chains.{passes, stops, and-stops, and-last}
 use borrow.Author.Needs.{needs}
 use Rattle.slots.proofs.merge.merged_no.Statement.{statement}
 use Rattle.slots.proofs.merge.merged_no.Tie as tie

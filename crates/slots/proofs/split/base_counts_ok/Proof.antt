@@ -1,8 +1,8 @@
 -- `slots::split::base_counts_ok` meets its contract. Assumes nothing.
 use mathlib.Core.Path.{sym, _∙_}
-use Rattle.slots.specs.Atomic.{countsOk}
+use Rattle.paper.proofs.Logic.{and-stops, and-last}
+use Rattle.slots.specs.Atomic.{splitCountsOk}
 use Rattle.slots.proofs.RangeLaws.{two-then}
-use Rattle.slots.proofs.Chains.{and-stops, and-last}
 use borrow.Author.Needs.{needs}
 use Rattle.slots.proofs.split.base_counts_ok.Statement.{statement}
 use Rattle.slots.proofs.split.base_counts_ok.Tie as tie
@@ -17,7 +17,7 @@ range-count-ok-requires : tie.Need-range-count-ok-requires
 range-count-ok-requires c κs = search needs
 
 returns : tie.Need-returns
-unfolding countsOk
+unfolding splitCountsOk
 returns c =
     let people-ok = c .before .before .before .before .people-ok in
     let if1 = c .before .before .before .if1 in
@@ -26,14 +26,14 @@ returns c =
     ∙ c .before .if2 .taken)
 
 returns-2 : tie.Need-returns-2
-unfolding countsOk
+unfolding splitCountsOk
 returns-2 c =
     let people-ok = c .before .before .before .people-ok in
     let if1 = c .before .before .if1 in
     sym (and-last _ _ (sym (people-ok .ensures) ∙ if1 .taken) (and-stops _ _ (sym (c .before .slot-count-ok .ensures) ∙ c .if2 .left)))
 
 returns-3 : tie.Need-returns-3
-unfolding countsOk
+unfolding splitCountsOk
 returns-3 c = sym (and-stops _ _ (sym (c .before .people-ok .ensures) ∙ c .if1 .left))
 
 pub base-counts-ok-spec : {M : Type 1} → statement M

@@ -1,7 +1,7 @@
 -- `slots::split::base_no` meets its contract. Assumes nothing.
 use mathlib.Core.Path.{refl, sym, _∙_}
+use Rattle.paper.proofs.Logic.{passes, stops}
 use Rattle.slots.specs.Atomic.{baseNo}
-use Rattle.slots.proofs.Chains.{passes, stops}
 use borrow.Author.Needs.{needs}
 use Rattle.slots.proofs.split.base_no.Statement.{statement}
 use Rattle.slots.proofs.split.base_no.Tie as tie

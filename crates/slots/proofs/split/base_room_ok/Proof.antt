@@ -1,8 +1,8 @@
 -- `slots::split::base_room_ok` meets its contract. Assumes nothing.
 use mathlib.Core.Path.{sym, _∙_}
+use Rattle.paper.proofs.Logic.{and-stops, and-last}
 use Rattle.slots.specs.Atomic.{roomOk}
 use Rattle.slots.proofs.RangeLaws.{two-then}
-use Rattle.slots.proofs.Chains.{and-stops, and-last}
 use borrow.Author.Needs.{needs}
 use Rattle.slots.proofs.split.base_room_ok.Statement.{statement}
 use Rattle.slots.proofs.split.base_room_ok.Tie as tie

@@ -1,8 +1,8 @@
--- `targets::checks::counts_ok` meets its contract. Assumes nothing.
+-- `paper::counts_ok` meets its contract. Assumes nothing.
 use borrow.Author.Needs.{needs}
-use Rattle.targets.specs.Outcome.{countsOk}
-use Rattle.targets.proofs.checks.counts_ok.Statement.{statement}
-use Rattle.targets.proofs.checks.counts_ok.Tie as tie
+use Rattle.paper.specs.Limits.{countsOk}
+use Rattle.paper.proofs.counts_ok.Statement.{statement}
+use Rattle.paper.proofs.counts_ok.Tie as tie
 
 people-ok-requires : tie.Need-people-ok-requires
 people-ok-requires c κs = search needs
