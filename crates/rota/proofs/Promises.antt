@@ -1,34 +1,30 @@
 -- What the rota promises, each by name: of lent slots, units, availability and flags, and of a play of any length. Assumes nothing.
 use mathlib.Core.Path.{_≡_, refl, sym, ap, ap₂, _∙_, subst}
-use mathlib.Core.Logic.{⊎-elim}
-use mathlib.Core.Bool.{Bool, true, false, cond, not, _&&_, _||_}
+use mathlib.Core.Bool.{Bool, true, false, not, _&&_, _||_}
 use mathlib.Core.List.{List, [], _∷_, _++_, append-assoc, append-nil}
-use Prim.Native.Nat.{ℕ, zero, suc, _+_, _-_, _*_, _≤_, _<_}
+use Prim.Native.Nat.{ℕ, zero, suc, _+_, _*_, _≤_, _<_}
 use native.Mathlib.Omega.{arith}
-use borrow.Author.Tests.{eq-eqb, ne-eqb, lt-ltb, eqb-true, eqb-false}
+use borrow.Author.Tests.{lt-ltb, eqb-true, eqb-false}
 use lib.Dec.{eqb, ltb}
 use lib.ListN.{length, getD, set, drop, length-set, replicate}
 use lib.Seq.{getD-drop, getD-set-same, getD-set-other}
 use Rattle.paper.specs.Limits.{nobody}
 use Rattle.paper.specs.Bits.{bitOf}
 use Rattle.paper.specs.Count.{sum, all, allIn}
-use Rattle.paper.proofs.Logic.{by-test, lt-or-ge, both}
+use Rattle.paper.proofs.Logic.{by-test, both}
 use Rattle.paper.proofs.Count.{in-each, sum-same}
 use Rattle.slotset.specs.Slots.{slot}
 use Rattle.slotset.proofs.Puts.{Fit}
 use Rattle.slots.specs.Lent.{demandOf}
-use Rattle.units.specs.Units.{unitStart, unitEnd, unitsOk, unitOf}
+use Rattle.units.specs.Units.{unitStart, unitEnd, unitOf}
 use Rattle.units.specs.Domains.{available, able, unfrozen, clear, unitFrozen}
 use Rattle.units.proofs.Units.{unit-of-in}
 use Rattle.rota.specs.Board.{Board, BoardSound, InUnit, Even, ownerOf, unowned}
-use Rattle.rota.specs.Moves.{Draw, draw, decided, answerOf, stayIf, anyOf, swapped, swapStays, runsSwapped, runsStay, firstOf}
-use Rattle.rota.specs.Moves.{lastOf}
+use Rattle.rota.specs.Moves.{Draw, draw, decided, anyOf, swapped}
 use Rattle.rota.specs.Plays.{step, ownersAfter, answer, answers, touched, drawsOf}
 use Rattle.rota.specs.Lent.{fitsUnit, frozenUnit, boardOf}
-use Rattle.rota.specs.Derived.{Plan, PlanSound, Derived, derived, knownBy, worked, uncovered, held, afresh, InStep}
+use Rattle.rota.specs.Derived.{Plan, PlanSound, Derived, knownBy, worked, uncovered, afresh, InStep}
 use Rattle.rota.specs.Recount.{freeFor, recounts, RotaRoom}
-use Rattle.rota.specs.declared.Move.{Move}
-use Rattle.rota.specs.declared.Move.the-variants.{Stay, Give, Trade}
 use Rattle.rota.proofs.Minutes.{known-nobody, known-person, minutes-total}
 use Rattle.rota.proofs.Plays.{play-even, play-frozen, play-covered, play-only, play-length, owners-append, answers-append}
 use Rattle.rota.proofs.Steps.{afresh-same, afresh-again, afresh-step}
@@ -226,22 +222,6 @@ module _ (B : Board) (o : List ℕ) (ks fs ss : List ℕ) (n m : ℕ) where
       → afresh P (ownersAfter B first-call rest) (afresh P first-call D) ≡ afresh P (ownersAfter B o (drawsOf ks fs ss (n + m))) D
   two-calls-derived P D few room f =
       afresh-again P first-call (ownersAfter B first-call rest) D few room f ∙ ap (λ (l : List ℕ). afresh P l D) (sym two-calls-owners)
-
--- ---- a swap acts exactly when none of its reasons to stay holds
-
-stay-or-act : (ts : List Bool) (m : Move) → answerOf m ≡ 0 → answerOf (stayIf ts 1 m) ≡ cond (anyOf ts) 1 0
-stay-or-act ts m e =
-    by-test (anyOf ts) _ (λ t. ap (λ (b : Bool). answerOf (cond b (Stay 1) m)) t ∙ sym (ap (λ (b : Bool). cond b 1 0) t))
-    (λ f. ap (λ (b : Bool). answerOf (cond b (Stay 1) m)) f ∙ e ∙ sym (ap (λ (b : Bool). cond b 1 0) f))
-
-pub swap-acts-exactly : (B : Board) (o : List ℕ) (f s : ℕ) → answerOf (swapped B o f s) ≡ cond (anyOf (swapStays B o f s)) 1 0
-unfolding swapped
-swap-acts-exactly B o f s = stay-or-act (swapStays B o f s) _ refl
-
-pub swap-runs-act-exactly : (B : Board) (o : List ℕ) (f s : ℕ)
-    → answerOf (runsSwapped B o f s) ≡ cond (anyOf (runsStay B o f s (firstOf B o f) (lastOf B o f) (firstOf B o s) (lastOf B o s))) 1 0
-unfolding runsSwapped
-swap-runs-act-exactly B o f s = stay-or-act (runsStay B o f s (firstOf B o f) (lastOf B o f) (firstOf B o s) (lastOf B o s)) _ refl
 
 -- ---- marked case 12, and its twin with no slot frozen
 
