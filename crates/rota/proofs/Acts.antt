@@ -19,7 +19,8 @@ use Rattle.rota.specs.Acts.{Heard, Chosen, Outside, ReassignActs, Reassi
 use Rattle.rota.specs.Acts.{ReassignRunOutside, SwapRunsActs, Boundary, GrowActs, ShrinkActs, ShiftOutside}
 use Rattle.rota.proofs.Runs.{run-only}
 use Rattle.rota.proofs.Lawful.{none-of, owned, span-clear, span-able, run-of}
-use Rattle.rota.proofs.Choices.{Ruled, among-count, chosen-at, chosen-one, either, heard, outside-if, moves, picks, said-as, no-move-if}
+use Rattle.rota.proofs.Choices.{among-count, chosen-at, chosen-one}
+use Rattle.rota.proofs.Choices.{Ruled, heard, moves, either, no-move-if, outside-if, picks, said-as}
 
 -- ---- the five moves
 
@@ -32,7 +33,10 @@ clear-span : (B : Board) (a b : ℕ) → ((u : ℕ) → a ≤ u → u ≤ b → 
 unfolding movable
 clear-span B a b c = each-in a (suc b) (λ u. not (B .frozen u)) (λ u x y. ap not (c u x (omega arith)))
 
-able-span : (B : Board) (a b p : ℕ) → ((u : ℕ) → a ≤ u → u ≤ b → B .fits p u ≡ true) → covers B a b p ≡ true
+abbrev Able : Board → ℕ → ℕ → ℕ → Type 0
+Able B p a b = (u : ℕ) → a ≤ u → u ≤ b → B .fits p u ≡ true
+
+able-span : (B : Board) (a b p : ℕ) → Able B p a b → covers B a b p ≡ true
 unfolding covers
 able-span B a b p c = each-in a (suc b) (B .fits p) (λ u x y. c u x (omega arith))
 
@@ -245,7 +249,8 @@ module _ (B : Board) (o : List ℕ) (f s : ℕ) (hf : f < B .units) where
       either _ _ _ (eqb s 1) _ _
       (λ t.
       let c = eqb-true s 1 t in
-      said-as _ _ _ _ _ _ _ inl (as-grow c) (as-grow-same c) (λ x. absurd x) (λ C. omega (arith, C .beyond)) (grow-ruled B o f s hf free own c))
+      said-as _ _ _ _ _ _ _ inl (as-grow c) (as-grow-same c) (λ x. absurd x) (λ C. omega (arith, C .beyond))
+      (grow-ruled B o f s hf free own c))
       (λ t.
       let n = eqb-false s 1 t in
       let c : s ≡ 0 = omega arith in
@@ -328,8 +333,8 @@ module _ (B : Board) (o : List ℕ) (f s : ℕ) (hf : f < B .units) where
           ne-eqb left right (A .two-owners),
           may-move B o f (A .first) (A .last) (A .moves),
           may-move B o s (A .first2) (A .last2) (A .moves2),
-          able-span B a b right (at-ends B o f (A .first) (A .last) (A .moves .run) (λ x y. (u : ℕ) → x ≤ u → u ≤ y → B .fits right u ≡ true) (A .fits)),
-          able-span B c d left (at-ends B o s (A .first2) (A .last2) (A .moves2 .run) (λ x y. (u : ℕ) → x ≤ u → u ≤ y → B .fits left u ≡ true) (A .fits2)),
+          able-span B a b right (at-ends B o f (A .first) (A .last) (A .moves .run) (Able B right) (A .fits)),
+          able-span B c d left (at-ends B o s (A .first2) (A .last2) (A .moves2 .run) (Able B left) (A .fits2)),
         )) (λ x. absurd x)
         (λ e.
         let t = none-of ts e in

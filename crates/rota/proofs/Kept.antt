@@ -71,6 +71,10 @@ module _ (B : Board) (T : BoardSound B) where
     outside u k I n =
         ap (λ (l : List ℕ). getD l k 0) (sym same-fill) ∙ given-out (S .first) (S .last) p (S .rise) (S .below) o u k I n
 
+    -- what lies past the slots stays
+    past : (k : ℕ) → B .slots ≤ k → getD (fill p a (e - a) o) k 0 ≡ getD o k 0
+    past k h = getD-fill-out p a (e - a) o k (λ x y. omega (arith, S .ends, T .within (S .last) (S .below)))
+
     fill-even : Even B o → Even B (fill p a (e - a) o)
     unfolding ownerOf
     fill-even E =
@@ -135,3 +139,9 @@ module _ (B : Board) (T : BoardSound B) where
         outside o H c g q (L .right) (fill p a (e - a) o) u k I (λ h b. mathlib.Core.Bool.true≢false (sym (L .right .named u h b) ∙
         z refl))
         ∙ outside o H a e p (L .left) o u k I (λ h b. mathlib.Core.Bool.true≢false (sym (L .left .named u h b) ∙ z refl))
+
+    -- what lies past the slots stays
+    pub act-past : (m : Move) → Lawful B o H m → (k : ℕ) → B .slots ≤ k → getD (act m o) k 0 ≡ getD o k 0
+    act-past (Stay n) L k h = refl
+    act-past (Give a e p) L k h = past o H a e p L o k h
+    act-past (Trade a e p c g q) L k h = past o H c g q (L .right) (fill p a (e - a) o) k h ∙ past o H a e p (L .left) o k h
