@@ -1,25 +1,22 @@
 -- What one draw keeps: each move it decides hands whole units, none frozen, to a person who fits them all. Assumes nothing.
-use mathlib.Core.Path.{_≡_, refl, sym, ap, _∙_, subst}
-use mathlib.Core.Bool.{Bool, true, false, cond, not, _&&_, _||_, or-true}
+use mathlib.Core.Path.{_≡_, refl, sym, ap, _∙_}
+use mathlib.Core.Bool.{Bool, true, false, not, _&&_, _||_, or-true}
 use mathlib.Core.List.{List, [], _∷_}
-use mathlib.Core.Logic.{_⊎_, inl, inr, ⊎-elim}
-use Prim.Native.Nat.{ℕ, zero, suc, _+_, _-_, _≤_, _<_}
+use Prim.Native.Nat.{ℕ, zero, suc, _-_, _≤_, _<_}
 use native.Mathlib.Omega.{arith}
-use borrow.Author.Tests.{eq-eqb, ne-eqb, eqb-false, le-leb, leb-false, not-true, not-false}
+use borrow.Author.Tests.{eq-eqb, eqb-false, le-leb, leb-false, not-true, not-false}
 use lib.Dec.{eqb, ltb, leb}
 use lib.ListN.{length, getD}
 use Rattle.paper.specs.Limits.{nobody}
-use Rattle.paper.specs.Count.{allIn, among, fill}
+use Rattle.paper.specs.Count.{among}
 use Rattle.paper.proofs.Logic.{by-test, both, and-true, or-left, neither}
-use Rattle.paper.proofs.Count.{in-each, among-each, length-fill, getD-fill-in, getD-fill-out}
-use Rattle.rota.specs.declared.Pick.{Pick}
-use Rattle.rota.specs.declared.Pick.the-variants.{Nobody, Beyond, Person}
+use Rattle.paper.proofs.Count.{in-each, among-each}
 use Rattle.rota.specs.declared.Move.{Move}
 use Rattle.rota.specs.declared.Move.the-variants.{Stay, Give, Trade}
-use Rattle.rota.specs.Board.{Board, BoardSound, InUnit, Even, ownerOf, unowned, RunOf}
-use Rattle.rota.specs.Moves.{anyOf, stayIf, give, movable, covers, firstOf, lastOf, picked, onPick, domainOf, reassigned}
+use Rattle.rota.specs.Board.{Board, Even, ownerOf, unowned, RunOf}
+use Rattle.rota.specs.Moves.{anyOf, stayIf, movable, covers, firstOf, lastOf, picked, onPick, domainOf, reassigned}
 use Rattle.rota.specs.Moves.{swapStays, swapped, others, runReassigned, runsStay, runsSwapped, grown, shrunk, shifted, Draw}
-use Rattle.rota.specs.Moves.{decided, answerOf, act, between, handed}
+use Rattle.rota.specs.Moves.{decided, between, handed}
 use Rattle.rota.proofs.Runs.{run-is}
 
 -- ---- what a decided move hands over
@@ -74,9 +71,31 @@ pick-or Q g l k a b c =
     by-test (eqb (length l) 0) _ (λ t. simp t a)
     (λ f. by-test (leb (length l) k) _ (λ t. simp (f, t) b) (λ h. simp (f, h) (c (leb-false _ _ h))))
 
-owned : (B : Board) (o : List ℕ) (u : ℕ) → unowned B o u ≡ false → ownerOf B o u ≡ nobody → ⊥
+pub owned : (B : Board) (o : List ℕ) (u : ℕ) → unowned B o u ≡ false → ownerOf B o u ≡ nobody → ⊥
 unfolding unowned
 owned B o u f = eqb-false _ _ f
+
+-- a run that may move, unit by unit; one that a person can cover
+pub span-clear : (B : Board) (a b : ℕ) → movable B a b ≡ true → (u : ℕ) → a ≤ u → u ≤ b → B .frozen u ≡ false
+unfolding movable
+span-clear B a b m u x y = not-true _ (in-each a (suc b) (λ v. not (B .frozen v)) m u x (omega arith))
+
+pub span-able : (B : Board) (a b p : ℕ) → covers B a b p ≡ true → (u : ℕ) → a ≤ u → u ≤ b → B .fits p u ≡ true
+unfolding covers
+span-able B a b p c u x y = in-each a (suc b) (B .fits p) c u x (omega arith)
+
+module _ (B : Board) (o : List ℕ) (u : ℕ) (h : u < B .units) where
+  -- the run of a unit
+  pub run-of : RunOf (B .units) (ownerOf B o) u (firstOf B o u) (lastOf B o u)
+  unfolding firstOf lastOf
+  run-of = run-is (ownerOf B o) (B .units) u h
+
+  -- each unit of the run has the owner of its first
+  run-one : (v : ℕ) → firstOf B o u ≤ v → v ≤ lastOf B o u → ownerOf B o v ≡ ownerOf B o (firstOf B o u)
+  run-one v x y = run-of .one v x y ∙ sym (run-of .one (firstOf B o u) (omega arith) (omega (arith, run-of .from, run-of .to)))
+
+  run-rises : (firstOf B o u ≤ lastOf B o u) × (lastOf B o u < B .units)
+  run-rises = (omega (arith, run-of .from, run-of .to), run-of .fits)
 
 module _ (B : Board) (o : List ℕ) (H : ℕ → Bool) where
   -- one unit
@@ -98,14 +117,6 @@ module _ (B : Board) (o : List ℕ) (H : ℕ → Bool) where
       }
 
   -- a run of units
-  span-clear : (a b : ℕ) → movable B a b ≡ true → (u : ℕ) → a ≤ u → u ≤ b → B .frozen u ≡ false
-  unfolding movable
-  span-clear a b m u x y = not-true _ (in-each a (suc b) (λ v. not (B .frozen v)) m u x (omega arith))
-
-  span-able : (a b p : ℕ) → covers B a b p ≡ true → (u : ℕ) → a ≤ u → u ≤ b → B .fits p u ≡ true
-  unfolding covers
-  span-able a b p c u x y = in-each a (suc b) (B .fits p) c u x (omega arith)
-
   abbrev span : (a b p : ℕ) → a ≤ b → b < B .units → p < B .people → movable B a b ≡ true → covers B a b p ≡ true
       → ((u : ℕ) → a ≤ u → u ≤ b → H u ≡ true) → ((u : ℕ) → a ≤ u → u ≤ b → ownerOf B o u ≡ ownerOf B o a)
       → Stretch B o H (B .from a) (B .upto b) p
@@ -118,8 +129,8 @@ module _ (B : Board) (o : List ℕ) (H : ℕ → Bool) where
         rise = h;
         below = l;
         person = r;
-        clear = span-clear a b m;
-        able = span-able a b p c;
+        clear = span-clear B a b m;
+        able = span-able B a b p c;
         named = n;
         one = z;
       }
@@ -148,24 +159,12 @@ module _ (B : Board) (o : List ℕ) (E : Even B o) (H : ℕ → Bool) (f s : ℕ
         apart = λ u a b c d. eqb-false f s (t 2) (omega arith);
       })
 
-  -- the run of a unit, and its owner
-  run-of : (u : ℕ) → u < B .units → RunOf (B .units) (ownerOf B o) u (firstOf B o u) (lastOf B o u)
-  unfolding firstOf lastOf
-  run-of u h = run-is (ownerOf B o) (B .units) u h
-
-  -- each unit of the run has the owner of its first
-  run-one : (u : ℕ) → u < B .units → (v : ℕ) → firstOf B o u ≤ v → v ≤ lastOf B o u → ownerOf B o v ≡ ownerOf B o (firstOf B o u)
-  run-one u h v x y = let R = run-of u h in R .one v x y ∙ sym (R .one (firstOf B o u) (omega arith) (omega (arith, R .from, R .to)))
-
-  run-rises : (u : ℕ) → u < B .units → (firstOf B o u ≤ lastOf B o u) × (lastOf B o u < B .units)
-  run-rises u h = let R = run-of u h in (omega (arith, R .from, R .to), R .fits)
-
   run-reassigned-lawful : ((u : ℕ) → firstOf B o f ≤ u → u ≤ lastOf B o f → H u ≡ true) → Lawful B o H (runReassigned B o f s)
   unfolding runReassigned others
   run-reassigned-lawful n =
       let a = firstOf B o f in
       let b = lastOf B o f in
-      let R = run-rises f hf in
+      let R = run-rises B o f hf in
       let q : ℕ → Bool = λ p. not (eqb p (ownerOf B o f)) && covers B a b p in
       stay-or (Lawful B o H) _ 1 _ tt
       (λ t. pick-or (Lawful B o H) _ (among q (B .people)) s tt tt
@@ -173,7 +172,7 @@ module _ (B : Board) (o : List ℕ) (E : Even B o) (H : ℕ → Bool) (f s : ℕ
       let p = getD (among q (B .people)) s 0 in
       let r = among-each q (B .people) s l in
       span B o H a b p (R .0) (R .1) (r .0) (not-false _ (t 2)) (both (not (eqb p (ownerOf B o f))) (covers B a b p) (r .1) .1) n
-      (run-one f hf)))
+      (run-one B o f hf)))
 
   runs-swapped-lawful : s < B .units → ((u : ℕ) → firstOf B o f ≤ u → u ≤ lastOf B o f → H u ≡ true)
       → ((u : ℕ) → firstOf B o s ≤ u → u ≤ lastOf B o s → H u ≡ true) → Lawful B o H (runsSwapped B o f s)
@@ -183,16 +182,16 @@ module _ (B : Board) (o : List ℕ) (E : Even B o) (H : ℕ → Bool) (f s : ℕ
       let b = lastOf B o f in
       let c = firstOf B o s in
       let d = lastOf B o s in
-      let F = run-rises f hf in
-      let S = run-rises s hs in
+      let F = run-rises B o f hf in
+      let S = run-rises B o s hs in
       stay-or (Lawful B o H) (runsStay B o f s a b c d) 1 _ tt
       (λ t.
       let mf = E .manned f hf (owned B o f (t 2)) in
       let ms = E .manned s hs (owned B o s (t 3)) in
       record {
-        left = span B o H a b (ownerOf B o s) (F .0) (F .1) (ms .0) (not-false _ (t 6)) (not-false _ (t 8)) nf (run-one f hf);
-        right = span B o H c d (ownerOf B o f) (S .0) (S .1) (mf .0) (not-false _ (t 7)) (not-false _ (t 9)) ns (run-one s hs);
-        apart = λ u w x y z. eqb-false _ _ (t 5) (sym (run-of f hf .one u w x) ∙ run-of s hs .one u y z);
+        left = span B o H a b (ownerOf B o s) (F .0) (F .1) (ms .0) (not-false _ (t 6)) (not-false _ (t 8)) nf (run-one B o f hf);
+        right = span B o H c d (ownerOf B o f) (S .0) (S .1) (mf .0) (not-false _ (t 7)) (not-false _ (t 9)) ns (run-one B o s hs);
+        apart = λ u w x y z. eqb-false _ _ (t 5) (sym (run-of B o f hf .one u w x) ∙ run-of B o s hs .one u y z);
       })
 
   grown-lawful : ownerOf B o f < B .people → ((u : ℕ) → suc u ≡ firstOf B o f → H u ≡ true) → Lawful B o H (grown B (ownerOf B o f)
@@ -200,7 +199,7 @@ module _ (B : Board) (o : List ℕ) (E : Even B o) (H : ℕ → Bool) (f s : ℕ
   unfolding grown
   grown-lawful b n =
       let a = firstOf B o f in
-      let R = run-of f hf in
+      let R = run-of B o f hf in
       stay-or (Lawful B o H) _ 1 _ tt
       (λ t.
       let z = eqb-false _ _ (t 0) in
@@ -214,7 +213,7 @@ module _ (B : Board) (o : List ℕ) (E : Even B o) (H : ℕ → Bool) (f s : ℕ
   unfolding shrunk
   shrunk-lawful n =
       let a = firstOf B o f in
-      let R = run-of f hf in
+      let R = run-of B o f hf in
       stay-or (Lawful B o H) _ 1 _ tt
       (λ t.
       let m = E .manned (a - 1) (omega (arith, R .from)) (owned B o (a - 1) (t 2)) in

@@ -2,6 +2,10 @@
 pub mod Runs
 pub mod Lawful
 pub mod Kept
+pub mod Choices
+pub mod Acts
+pub mod Drawn
+pub mod HandsOver
 pub mod Plays
 pub mod Judged
 pub mod Moved

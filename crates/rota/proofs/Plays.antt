@@ -17,7 +17,7 @@ use Rattle.rota.specs.Board.{Board, BoardSound, InUnit, Even}
 use Rattle.rota.specs.Moves.{Draw, draw, decided, answerOf, act, handed}
 use Rattle.rota.specs.Plays.{step, ownersAfter, answer, answers, touched, drawsOf}
 use Rattle.rota.proofs.Lawful.{decided-lawful}
-use Rattle.rota.proofs.Kept.{act-even, act-covered, act-frozen, act-only}
+use Rattle.rota.proofs.Kept.{act-even, act-covered, act-frozen, act-only, act-past}
 
 -- ---- a list in two parts
 
@@ -108,3 +108,13 @@ module _ (B : Board) (T : BoardSound B) where
   play-only o (d ∷ ds) E u k I z =
       let x = or-parts (eqb (answer B o d) 0 && handed B o d u) (touched B (step B o d) ds u) z in
       play-only (step B o d) ds (step-even o d E) u k I (x .1) ∙ step-only o d E u k I (x .0)
+
+  -- owners past the slots stay
+  step-past : (o : List ℕ) (d : Draw) → Even B o → (k : ℕ) → B .slots ≤ k → getD (step B o d) k 0 ≡ getD o k 0
+  unfolding step
+  step-past o d E = act-past B T (handed B o d) o E (decided B o d) (decided-lawful B o d E)
+
+  pub play-past : (o : List ℕ) (ds : List Draw) → Even B o → (k : ℕ) → B .slots ≤ k → getD (ownersAfter B o ds) k 0 ≡ getD o k 0
+  unfolding ownersAfter
+  play-past o [] E k h = refl
+  play-past o (d ∷ ds) E k h = play-past (step B o d) ds (step-even o d E) k h ∙ step-past o d E k h
