@@ -4,6 +4,7 @@ pub mod Walks
 pub mod Sequences
 pub mod Files
 pub mod Texts
+pub mod Digits
 pub mod Signs
 pub mod Prepares
 pub mod Written

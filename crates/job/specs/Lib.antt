@@ -4,5 +4,6 @@ pub mod Records
 pub mod File
 pub mod Columns
 pub mod Listing
+pub mod Digits
 pub mod Stages
 pub mod Outcome
