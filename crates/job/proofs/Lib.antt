@@ -3,6 +3,7 @@ pub mod Numbers
 pub mod Walks
 pub mod Sequences
 pub mod Files
+pub mod Layouts
 pub mod Texts
 pub mod Digits
 pub mod Signs
