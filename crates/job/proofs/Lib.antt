@@ -11,3 +11,7 @@ pub mod Prepares
 pub mod Written
 pub mod Results
 pub mod Readings
+pub mod Rotas
+pub mod Tests
+pub mod Passing
+pub mod Heard
