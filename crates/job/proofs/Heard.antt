@@ -1,0 +1,238 @@
+-- What a job hears, and what it lists: the whole outcome by the row of its tests. Assumes nothing.
+use mathlib.Core.Path.{_≡_, refl, sym, ap, ap₂, _∙_, subst}
+use mathlib.Core.Bool.{Bool, true, false, cond, _&&_}
+use mathlib.Core.List.{List, [], _∷_, _++_}
+use Prim.Native.Nat.{ℕ, zero, suc, _+_, _-_, _*_, _≤_, _<_}
+use native.Mathlib.Omega.{arith}
+use borrow.Author.Tests.{le-leb, leb-true, eq-eqb}
+use lib.Dec.{leb, eqb, lit<}
+use lib.Ieee.{Float, fin, binary64, ofBits}
+use lib.IntN.{pos}
+use lib.ListN.{length, getD, replicate, length-replicate}
+use Rattle.paper.specs.Limits.{peopleOk, slotCountOk, countsOk, orElse}
+use Rattle.paper.specs.Count.{all, sum}
+use Rattle.paper.proofs.Logic.{by-test, and-true, cond-zero, people-says, slot-count-says}
+use Rattle.paper.proofs.Count.{length-over, getD-over, sum-same}
+use Rattle.slots.specs.Lent.{slotRoomOk, slotsOk, minutesAt, demandOf}
+use Rattle.slots.specs.Ranges.{rangeCountOk, rangeRoomOk, rangesOk}
+use Rattle.slots.specs.Atomic as atomic
+use Rattle.units.specs.Settings.{settingsOk}
+use Rattle.units.specs.Units.{unitsOk}
+use Rattle.units.proofs.Units.{unit-within}
+use Rattle.targets.specs.Figures.{allFiguresOk}
+use Rattle.targets.specs.Outcome as targets
+use Rattle.rota.specs.declared.Figure.{Figure}
+use Rattle.rota.specs.Derived.{uncovered}
+use Rattle.rota.specs.Recount.{freeAt}
+use Rattle.rota.specs.Entries as rota
+use Rattle.job.specs.Fields.{le}
+use Rattle.job.specs.File.{jobCounts, jobStarts, fileOk}
+use Rattle.job.specs.Columns.{column, priorsColumn, capacitiesColumn}
+use Rattle.job.specs.Listing.{listed, listingOf}
+use Rattle.job.specs.Stages.{jobCountsOk, countsNo, settingsIn, frozenIn, noOf, valueOf, unitsNoOf, lowerNo}
+use Rattle.job.specs.Stages.{placed, allEven, allKnown, ownersNo, narrowed}
+use Rattle.job.specs.Outcome.{Result, Ready, Draws, planOf, startOf, playOf, figureValue, textOf, listedAs, refusedAs, orRefused}
+use Rattle.job.specs.Outcome.{baseIn, peopleIn, rangesIn, columnOf, capacitiesIn, priorsIn, drawsIn, instantIn, atomsIn, availIn, sharesIn}
+use Rattle.job.specs.Outcome.{unitsIn, readyIn, playResult, rotaResult, ownersResult, slotsResult, atomsResult, countedResult, jobResult}
+use Rattle.job.specs.Heard.{Test, test, heardOf, baseOf, readyOf, drawsOf, writtenOf, ownersOf, startedOf, playedOf, listedOf, baseTotal, jobTests}
+use Rattle.job.proofs.Files.{length-floats}
+use Rattle.job.proofs.Tests.{Numbered, stage}
+use Rattle.job.proofs.Passing.{few-says, atoms-no, AtomsSound, atoms-sound, avail-length, frozen-length, lent-room, shares-no, units-no}
+use Rattle.job.proofs.Passing.{units-right, units-fit, lower-is, owners-known, owners-even, narrowed-length}
+use Rattle.job.proofs.Rotas.{RotaSound, start-no, play-no, uncovered-told, total-before, total-after}
+
+-- ---- columns have the room that their counts may ask for
+
+column-room : (width : ℕ) (s : List ℕ) (at stride n m : ℕ) → m ≤ 1024 → leb m (length (column width s at stride n)) ≡ true
+unfolding column
+column-room width s at stride n m h =
+    le-leb m _ (omega (arith, length-over (λ k. le width s (at + k * stride)) n (replicate 1024 0), length-replicate {A = ℕ} 1024 0))
+
+priors-room : (s : List ℕ) (at stride n m : ℕ) → m ≤ 32 → leb m (length (priorsColumn s at stride n)) ≡ true
+unfolding priorsColumn
+priors-room s at stride n m h =
+    le-leb m _ (omega (arith, length-over (λ k. le 4 s (at + k * stride)) n (replicate 32 0), length-replicate {A = ℕ} 32 0))
+
+capacities-room : (s : List ℕ) (at stride n m : ℕ) → m ≤ 32 → leb m (length (capacitiesColumn s at stride n)) ≡ true
+unfolding capacitiesColumn
+capacities-room s at stride n m h =
+    let zero : Float = fin false 0 (pos 0) in
+    le-leb m _ (omega (
+      arith,
+      length-floats (λ k. ofBits binary64 (le 8 s (at + k * stride))) n (replicate 32 zero),
+      length-replicate 32 zero,
+    ))
+
+-- ---- the stages of a file, from the tests that it has passed
+
+module _ (s : List ℕ) where
+  abbrev c : List ℕ
+  c = jobCounts s
+
+  abbrev b : List ℕ
+  b = jobStarts s
+
+  abbrev Few : Type 0
+  Few = jobCountsOk (baseIn (jobCounts s)) (peopleIn (jobCounts s)) (getD (jobCounts s) 3 0) (getD (jobCounts s) 6 0) ≡ true
+
+  base-counts : Few → atomic.baseCountsOk (baseOf s) ≡ true
+  unfolding baseOf atomic.splitCountsOk rangeCountOk
+  base-counts e =
+      let f = few-says (baseIn c) (peopleIn c) (getD c 3 0) (getD c 6 0) e in
+      and-true _ _ (f .1) (and-true _ _ (f .0) (f .2))
+
+  base-room : Few → atomic.baseRoomOk (baseOf s) ≡ true
+  unfolding baseOf atomic.roomOk slotRoomOk rangeRoomOk
+  base-room e =
+      let f = few-says (baseIn c) (peopleIn c) (getD c 3 0) (getD c 6 0) e in
+      let n = slot-count-says (baseIn c) (f .0) .1 in
+      let r = leb-true (getD c 3 0) 1024 (f .2) in
+      let full : leb 1024 (length (replicate {A = ℕ} 1024 0)) ≡ true =
+      le-leb 1024 (length (replicate {A = ℕ} 1024 0)) (omega (arith, length-replicate {A = ℕ} 1024 0)) in
+      and-true _ _ (and-true _ _ (column-room 4 s _ _ _ (baseIn c) n) (column-room 4 s _ _ _ (baseIn c) n))
+      (and-true _ _
+      (and-true _ _ (column-room 2 s _ _ _ (getD c 3 0) r) (and-true _ _ (column-room 4 s _ _ _ (getD c 3 0) r) (column-room 4 s _ _ _ (getD c 3 0) r)))
+      (and-true _ _ full full))
+
+  -- 3, 4 and 5
+
+  abbrev atomTests : List Test
+  atomTests =
+      test 3 (slotsOk (baseOf s .slots) (baseOf s .starts) (baseOf s .ends)) ∷ test 4 (rangesOk (baseOf s .people) (baseOf s .ranges))
+      ∷ test 5 (leb (length (atomic.startsOfAtoms (baseOf s))) 1024) ∷ []
+
+  atoms-are : atomsIn s (jobCounts s) (jobStarts s) ≡ atomic.atomiseOf (baseOf s)
+  unfolding atomsIn baseOf
+  atoms-are = refl
+
+  atoms-heard : Few → noOf (atomsIn s (jobCounts s) (jobStarts s) .answer) ≡ heardOf atomTests
+  unfolding heardOf
+  atoms-heard e =
+      ap (λ (a : atomic.Atoms). noOf (a .answer)) atoms-are ∙ atoms-no (baseOf s) (base-counts e) (base-room e)
+
+  atoms-right : Few → heardOf atomTests ≡ 0
+      → AtomsSound (baseOf s) (readyOf s .slots) (readyOf s .starts) (readyOf s .ends)
+  unfolding heardOf readyOf readyIn
+  atoms-right e z =
+      let p = cond-zero (slotsOk (baseOf s .slots) (baseOf s .starts) (baseOf s .ends)) _ 2 z in
+      let q = cond-zero (rangesOk (baseOf s .people) (baseOf s .ranges)) _ 3 (p .1) in
+      let r = cond-zero (leb (length (atomic.startsOfAtoms (baseOf s))) 1024) 0 4 (q .1) in
+      subst (λ (a : atomic.Atoms). AtomsSound (baseOf s) (valueOf (a .answer)) (a .starts) (a .ends)) (sym atoms-are)
+      (atoms-sound (baseOf s) (base-counts e) (base-room e) (p .0) (q .0) (r .0))
+
+  -- 6 and 7
+
+  abbrev figureTests : List Test
+  figureTests =
+      test 6 (allFiguresOk (peopleIn (jobCounts s)) (capacitiesIn s (jobCounts s) (jobStarts s)) (priorsIn s (jobCounts s) (jobStarts s)))
+      ∷ test 7 (settingsOk (settingsIn s)) ∷ []
+
+  module _ (few : Few) (n : ℕ) (S E : List ℕ) (A : AtomsSound (baseOf s) n S E) where
+    people-few : peopleIn (jobCounts s) ≤ 32
+    people-few = people-says (peopleIn c) (few-says (baseIn c) (peopleIn c) (getD c 3 0) (getD c 6 0) few .1) .1
+
+    slots-few : n ≤ length (replicate {A = ℕ} 1024 0)
+    slots-few = omega (arith, slot-count-says n (A .count-ok) .1, length-replicate {A = ℕ} 1024 0)
+
+    words-room : 16 * peopleIn (jobCounts s) ≤ length (availIn (jobCounts s) (rangesIn s (jobCounts s) (jobStarts s)) n S E)
+    unfolding availIn
+    words-room =
+        omega (
+          arith,
+          people-few,
+          avail-length (peopleIn c) n S E (rangesIn s c b) (replicate 512 0),
+          length-replicate {A = ℕ} 512 0,
+        )
+
+    shares-counts : countsOk (peopleIn (jobCounts s)) n ≡ true
+    unfolding countsOk
+    shares-counts = and-true _ _ (few-says (baseIn c) (peopleIn c) (getD c 3 0) (getD c 6 0) few .1) (A .count-ok)
+
+    shares-room : slotRoomOk n S E
+        && targets.peopleRoomOk (peopleIn (jobCounts s)) (length (availIn (jobCounts s) (rangesIn s (jobCounts s) (jobStarts s)) n S E))
+        (length (capacitiesIn s (jobCounts s) (jobStarts s))) (length (priorsIn s (jobCounts s) (jobStarts s)))
+        (length (replicate 32 (pos 0))) ≡ true
+    unfolding targets.peopleRoomOk
+    shares-room =
+        and-true _ _ (lent-room n S E (A .lent)) (and-true _ _ (le-leb _ _ words-room)
+        (and-true _ _ (capacities-room s _ 16 (peopleIn c) (peopleIn c) people-few)
+        (and-true _ _ (priors-room s _ 16 (peopleIn c) (peopleIn c) people-few)
+        (le-leb (peopleIn c) (length (replicate 32 (pos 0))) (omega (arith, people-few, length-replicate 32 (pos 0)))))))
+
+    figures-heard : lowerNo (sharesIn s (jobCounts s) (jobStarts s) (rangesIn s (jobCounts s) (jobStarts s)) n S E .number)
+        (unitsNoOf (unitsIn s n S E .answer)) ≡ heardOf figureTests
+    unfolding heardOf sharesIn unitsIn
+    figures-heard =
+        ap₂ lowerNo (shares-no _ (replicate 32 (pos 0)) shares-counts shares-room (A .lent))
+        (units-no (settingsIn s) n S E (replicate 1024 0) (A .count-ok) (A .lent) slots-few)
+        ∙ lower-is (settingsIn s) (allFiguresOk (peopleIn c) (capacitiesIn s c b) (priorsIn s c b))
+
+  -- what a play goes by, part by part
+
+  people-same : readyOf s .people ≡ peopleIn (jobCounts s)
+  unfolding readyOf readyIn
+  people-same = refl
+
+  people-there : peopleOk (peopleIn (jobCounts s)) ≡ true → peopleOk (readyOf s .people) ≡ true
+  people-there e = ap peopleOk people-same ∙ e
+
+  flags-there : 16 ≤ length (readyOf s .frozen)
+  unfolding readyOf readyIn
+  flags-there =
+      let a = atomsIn s c b in
+      omega (arith, frozen-length (valueOf (a .answer)) (a .starts) (a .ends) (getD c 4 0) (instantIn s c b))
+
+  words-there : Few → AtomsSound (baseOf s) (readyOf s .slots) (readyOf s .starts) (readyOf s .ends)
+      → 16 * readyOf s .people ≤ length (readyOf s .avail)
+  unfolding readyOf readyIn
+  words-there few A = words-room few _ _ _ A
+
+  units-there : Few → AtomsSound (baseOf s) (readyOf s .slots) (readyOf s .starts) (readyOf s .ends) → settingsOk (settingsIn s) ≡ true
+      → (unitsOk (readyOf s .slots) (readyOf s .units) (readyOf s .firsts) ≡ true) × (readyOf s .units ≤ length (readyOf s .firsts))
+  unfolding readyOf readyIn unitsIn
+  units-there few A ok =
+      let a = atomsIn s c b in
+      let n = valueOf (a .answer) in
+      let r = slots-few few n (a .starts) (a .ends) A in (
+        units-right (settingsIn s) n (a .starts) (a .ends) (replicate 1024 0) (A .count-ok) (A .lent) r ok,
+        units-fit (settingsIn s) n (a .starts) (a .ends) (replicate 1024 0) (A .count-ok) (A .lent) r ok,
+      )
+
+  -- 10 and 11
+
+  abbrev ownerTests : List Test
+  ownerTests =
+      test 10 (allEven (readyOf s .slots) (readyOf s .units) (readyOf s .firsts) (writtenOf s))
+      ∷ test 11 (allKnown s (getD (jobStarts s) 5 0) (getD (jobCounts s) 5 0) (readyOf s .slots) (readyOf s .people)) ∷ []
+
+  rota-sound : Few → heardOf atomTests ≡ 0 → heardOf figureTests ≡ 0 → heardOf ownerTests ≡ 0
+      → RotaSound (readyOf s) (drawsOf s) (ownersOf s)
+  unfolding heardOf drawsOf ownersOf writtenOf
+  rota-sound few a f o =
+      let R = readyOf s in
+      let A = atoms-right few a in
+      let x = few-says (baseIn c) (peopleIn c) (getD c 3 0) (getD c 6 0) few in
+      let slots = slot-count-says (R .slots) (A .count-ok) .1 in
+      let ps = people-few few (R .slots) (R .starts) (R .ends) A in
+      let ok = cond-zero (settingsOk (settingsIn s)) 0 6 (cond-zero (allFiguresOk (peopleIn c) (capacitiesIn s c b) (priorsIn s c b)) _ 5 f .1) .0 in
+      let e = cond-zero (allEven (R .slots) (R .units) (R .firsts) (writtenOf s)) _ 9 o in
+      let k = cond-zero (allKnown s (getD b 5 0) (getD c 5 0) (R .slots) (R .people)) 0 10 (e .1) .0 in
+      let u = units-there few A ok in
+      let draws = leb-true (getD c 6 0) 1024 (x .3) in
+      record {
+        people-ok = people-there (x .1);
+        count-ok = A .count-ok;
+        lent = A .lent;
+        avail-room = words-there few A;
+        owners-room = omega (arith, narrowed-length (writtenOf s));
+        units-ok = u .0;
+        units-room = u .1;
+        flags-room = flags-there;
+        draws-few = draws;
+        kinds-room = leb-true (getD c 6 0) _ (column-room 2 s _ _ _ (getD c 6 0) draws);
+        ones-room = leb-true (getD c 6 0) _ (column-room 2 s _ _ _ (getD c 6 0) draws);
+        twos-room = leb-true (getD c 6 0) _ (column-room 2 s _ _ _ (getD c 6 0) draws);
+        known = owners-known s (getD b 5 0) (getD c 5 0) (R .slots) (R .people) slots (omega (arith, ps, people-same)) k;
+        even = owners-even (R .slots) (R .units) (R .firsts) (writtenOf s) slots (e .0)
+            (unit-within (R .slots) (R .units) (R .firsts) (u .0));
+      }
