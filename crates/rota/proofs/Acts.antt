@@ -18,7 +18,7 @@ use Rattle.rota.specs.Moves.{runReassigned, runsStay, runsSwapped, grown
 use Rattle.rota.specs.Acts.{Heard, Chosen, Outside, ReassignActs, ReassignOutside, SwapActs, RunMoves, another, ReassignRunActs}
 use Rattle.rota.specs.Acts.{ReassignRunOutside, SwapRunsActs, Boundary, GrowActs, ShrinkActs, ShiftOutside}
 use Rattle.rota.proofs.Runs.{run-only}
-use Rattle.rota.proofs.Lawful.{none-of, owned, span-clear, span-able, run-of}
+use Rattle.rota.proofs.Lawful.{none-of, has-owner, owned, span-clear, span-able, run-of}
 use Rattle.rota.proofs.Choices.{among-count, chosen-at, chosen-one}
 use Rattle.rota.proofs.Choices.{Ruled, heard, moves, either, no-move-if, outside-if, picks, said-as}
 
@@ -49,10 +49,6 @@ another-says B w a b p = (
       (eqb-false p w (not-true _ (r .0)), span-able B a b p (r .1)),
   λ h. and-true _ _ (ap not (ne-eqb p w (h .0))) (able-span B a b p (h .1)),
 )
-
-has-owner : (B : Board) (o : List ℕ) (u : ℕ) → (ownerOf B o u ≡ nobody → ⊥) → unowned B o u ≡ false
-unfolding unowned
-has-owner B o u n = ne-eqb (ownerOf B o u) nobody n
 
 module _ (B : Board) (o : List ℕ) (f s : ℕ) where
   pub reassign-ruled : Ruled (ReassignActs B o f s) (ReassignOutside B f s) (λ A. give B f f (A .to)) (reassigned B o f s)

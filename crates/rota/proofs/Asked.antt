@@ -319,18 +319,3 @@ nobody-le o zero = omega arith
 nobody-le o (suc k) = by-test (eqb (getD o k 0) nobody) _
     (λ t. omega (arith, nobody-le o k, ap {B = ℕ} (λ (b : Bool). cond b 1 0) t))
     (λ f. omega (arith, nobody-le o k, ap {B = ℕ} (λ (b : Bool). cond b 1 0) f))
-
--- what counts and slots that pass leave known
-pub plan-sound : (P : Plan) → countsOk (P .people) (P .slots) ≡ true → slotsOk (P .slots) (P .starts) (P .ends) ≡ true → PlanSound P
-unfolding countsOk
-plan-sound P a c =
-    let x = both (peopleOk (P .people)) (slotCountOk (P .slots)) a in
-    let p = people-says (P .people) (x .0) in
-    let q = slot-count-says (P .slots) (x .1) in
-    record {
-      people-some = p .0;
-      people-few = p .1;
-      slots-some = q .0;
-      slots-few = q .1;
-      lent = slots-sound (P .slots) (P .starts) (P .ends) c;
-    }

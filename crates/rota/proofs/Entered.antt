@@ -84,6 +84,20 @@ module _ (a b c : Bool) where
 
 -- ---- what they leave known
 
+pub plan-sound : (P : Plan) → countsOk (P .people) (P .slots) ≡ true → slotsOk (P .slots) (P .starts) (P .ends) ≡ true → PlanSound P
+unfolding countsOk
+plan-sound P a c =
+    let x = both (peopleOk (P .people)) (slotCountOk (P .slots)) a in
+    let p = people-says (P .people) (x .0) in
+    let q = slot-count-says (P .slots) (x .1) in
+    record {
+      people-some = p .0;
+      people-few = p .1;
+      slots-some = q .0;
+      slots-few = q .1;
+      lent = slots-sound (P .slots) (P .starts) (P .ends) c;
+    }
+
 pub record Grounds (P : Plan) (avail o : List ℕ) (D : Derived) : Type 0 where
   pub sound : PlanSound P
   pub room : RotaRoom (P .people) (P .slots) avail o D
@@ -91,21 +105,12 @@ pub record Grounds (P : Plan) (avail o : List ℕ) (D : Derived) : Type 0 where
 
 pub grounds : (P : Plan) (avail o : List ℕ) (D : Derived) → countsOk (P .people) (P .slots) ≡ true → roomOk P avail o D ≡ true
     → slotsOk (P .slots) (P .starts) (P .ends) ≡ true → Grounds P avail o D
-unfolding countsOk roomOk
+unfolding roomOk
 grounds P avail o D a b c =
-    let x = both (peopleOk (P .people)) (slotCountOk (P .slots)) a in
-    let p = people-says (P .people) (x .0) in
-    let q = slot-count-says (P .slots) (x .1) in
     let y = five (slotRoomOk (P .slots) (P .starts) (P .ends)) (leb (16 * P .people) (length avail)) (leb (P .slots) (length o))
     (leb (16 * P .people) (length (D .sets))) (leb (P .people) (length (D .minutes))) b in
     record {
-      sound = record {
-        people-some = p .0;
-        people-few = p .1;
-        slots-some = q .0;
-        slots-few = q .1;
-        lent = slots-sound (P .slots) (P .starts) (P .ends) c;
-      };
+      sound = plan-sound P a c;
       room = record {
         avail-room = leb-true _ _ (y .1);
         owners-room = leb-true _ _ (y .2);

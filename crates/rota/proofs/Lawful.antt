@@ -4,7 +4,7 @@ use mathlib.Core.Bool.{Bool, true, false, not, _&&_, _||_, or-true}
 use mathlib.Core.List.{List, [], _∷_}
 use Prim.Native.Nat.{ℕ, zero, suc, _-_, _≤_, _<_}
 use native.Mathlib.Omega.{arith}
-use borrow.Author.Tests.{eq-eqb, eqb-false, le-leb, leb-false, not-true, not-false}
+use borrow.Author.Tests.{eq-eqb, ne-eqb, eqb-false, le-leb, leb-false, not-true, not-false}
 use lib.Dec.{eqb, ltb, leb}
 use lib.ListN.{length, getD}
 use Rattle.paper.specs.Limits.{nobody}
@@ -55,7 +55,8 @@ Lawful B o H (Trade a e p c g q) = Traded B o H a e p c g q
 abbrev pub NoneOf : List Bool → Type 0
 NoneOf ts = (k : ℕ) → getD ts k false ≡ false
 
-or-none : (a b : Bool) → a || b ≡ false → (a ≡ false) × (b ≡ false)
+-- neither of two tests holds
+pub or-none : (a b : Bool) → a || b ≡ false → (a ≡ false) × (b ≡ false)
 or-none true b e = absurd (mathlib.Core.Bool.true≢false e)
 or-none false b e = (refl, e)
 
@@ -74,6 +75,10 @@ unfolding picked
 pick-or Q g l k a b c =
     by-test (eqb (length l) 0) _ (λ t. simp t a)
     (λ f. by-test (leb (length l) k) _ (λ t. simp (f, t) b) (λ h. simp (f, h) (c (leb-false _ _ h))))
+
+pub has-owner : (B : Board) (o : List ℕ) (u : ℕ) → (ownerOf B o u ≡ nobody → ⊥) → unowned B o u ≡ false
+unfolding unowned
+has-owner B o u n = ne-eqb (ownerOf B o u) nobody n
 
 pub owned : (B : Board) (o : List ℕ) (u : ℕ) → unowned B o u ≡ false → ownerOf B o u ≡ nobody → ⊥
 unfolding unowned

@@ -21,6 +21,7 @@ use Rattle.rota.specs.Moves.{stayIf, give, movable, covers, firstOf, las
 use Rattle.rota.specs.Moves.{swapped}
 use Rattle.rota.specs.Moves.{others, runReassigned, runsStay, runsSwapped, grown, shrunk, shifted, draw, decided}
 use Rattle.rota.proofs.Runs.{run-is}
+use Rattle.rota.proofs.Lawful.{has-owner}
 use Rattle.rota.proofs.Judged.{stays, goes}
 
 nobody-owns : (B : Board) (o : List ℕ) (u w : ℕ) → w ≡ ownerOf B o u → w ≡ nobody → unowned B o u ≡ true
@@ -28,8 +29,7 @@ unfolding unowned
 nobody-owns B o u w e q = eq-eqb _ _ (sym e ∙ q)
 
 somebody-owns : (B : Board) (o : List ℕ) (u w : ℕ) → w ≡ ownerOf B o u → (w ≡ nobody → ⊥) → unowned B o u ≡ false
-unfolding unowned
-somebody-owns B o u w e n = ne-eqb _ _ (λ q. n (e ∙ q))
+somebody-owns B o u w e n = has-owner B o u (λ q. n (e ∙ q))
 
 -- ---- reassign
 
