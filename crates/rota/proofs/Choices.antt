@@ -1,6 +1,6 @@
 -- A choice among people listed ascending, and moves that follow a rule: when they act, and when the choice lies outside. Assumes nothing.
 use mathlib.Core.Path.{_≡_, refl, sym, ap, _∙_}
-use mathlib.Core.Bool.{Bool, true, false, cond}
+use mathlib.Core.Bool.{Bool, true, false, cond, _||_}
 use mathlib.Core.List.{List, [], _∷_}
 use mathlib.Core.Logic.{⊎-elim}
 use Prim.Native.Nat.{ℕ, zero, suc, _≤_, _<_}
@@ -16,6 +16,23 @@ use Rattle.rota.specs.declared.Move.{Move}
 use Rattle.rota.specs.declared.Move.the-variants.{Stay}
 use Rattle.rota.specs.Moves.{anyOf, stayIf, picked, onPick, answerOf}
 use Rattle.rota.specs.Acts.{Heard, Chosen, Outside}
+
+-- ---- chains of tests
+
+-- none of the tests holds
+abbrev pub NoneOf : List Bool → Type 0
+NoneOf ts = (k : ℕ) → getD ts k false ≡ false
+
+-- neither of two tests holds
+pub or-none : (a b : Bool) → a || b ≡ false → (a ≡ false) × (b ≡ false)
+or-none true b e = absurd (mathlib.Core.Bool.true≢false e)
+or-none false b e = (refl, e)
+
+pub none-of : (ts : List Bool) → anyOf ts ≡ false → NoneOf ts
+unfolding anyOf
+none-of [] e k = refl
+none-of (t ∷ ts) e zero = or-none t (anyOf ts) e .0
+none-of (t ∷ ts) e (suc k) = none-of ts (or-none t (anyOf ts) e .1) k
 
 -- ---- choices
 

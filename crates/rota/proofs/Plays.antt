@@ -1,10 +1,9 @@
 -- Demand 3 of a play of any length, over owners alone; and a list played in two parts. Assumes nothing.
-use mathlib.Core.Path.{_≡_, refl, sym, ap, ap₂, _∙_}
-use mathlib.Core.Bool.{Bool, true, false, _&&_, _||_}
+use mathlib.Core.Path.{_≡_, refl, sym, ap, _∙_}
+use mathlib.Core.Bool.{Bool, true, false, _&&_}
 use mathlib.Core.List.{List, [], _∷_, _++_}
-use Prim.Native.Nat.{ℕ, zero, suc, _+_, _-_, _≤_, _<_}
+use Prim.Native.Nat.{ℕ, zero, suc, _-_, _≤_}
 use native.Mathlib.Omega.{arith}
-use native.Mathlib.Numerals.{add-one}
 use borrow.Author.Tests.{eq-eqb}
 use lib.Dec.{eqb}
 use lib.ListN.{length, getD, length-append}
@@ -14,9 +13,10 @@ use Rattle.paper.proofs.Count.{length-fill}
 use Rattle.rota.specs.declared.Move.{Move}
 use Rattle.rota.specs.declared.Move.the-variants.{Stay, Give, Trade}
 use Rattle.rota.specs.Board.{Board, BoardSound, InUnit, Even}
-use Rattle.rota.specs.Moves.{Draw, draw, decided, answerOf, act, handed}
+use Rattle.rota.specs.Moves.{Draw, decided, answerOf, act, handed}
 use Rattle.rota.specs.Plays.{step, ownersAfter, answer, answers, touched, drawsOf}
-use Rattle.rota.proofs.Lawful.{or-none, decided-lawful}
+use Rattle.rota.proofs.Choices.{or-none}
+use Rattle.rota.proofs.Lawful.{decided-lawful}
 use Rattle.rota.proofs.Kept.{act-even, act-covered, act-frozen, act-only, act-past}
 
 -- ---- a list in two parts

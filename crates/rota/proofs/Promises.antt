@@ -23,8 +23,8 @@ use Rattle.rota.specs.Board.{Board, BoardSound, InUnit, Even, ownerOf, u
 use Rattle.rota.specs.Moves.{Draw, draw, decided, anyOf, swapped}
 use Rattle.rota.specs.Plays.{step, ownersAfter, answer, answers, touched, drawsOf, written}
 use Rattle.rota.specs.Lent.{fitsUnit, frozenUnit, boardOf}
-use Rattle.rota.specs.Derived.{Plan, PlanSound, Derived, knownBy, worked, uncovered, afresh, InStep}
-use Rattle.rota.specs.Recount.{freeFor, knownAt, freeAt, recounts, RotaRoom}
+use Rattle.rota.specs.Derived.{Plan, PlanSound, Derived, knownBy, worked, uncovered, afresh}
+use Rattle.rota.specs.Recount.{freeFor, knownAt, freeAt, recounts}
 use Rattle.rota.specs.Entries.{countsOk, roomOk, ground, Outcome, outcome, fromSlotsNo, fromSlots, recountNo, recountSlotsNo}
 use Rattle.rota.specs.Acts.{Heard, Acts, ChoiceOutside, ownerThen}
 use Rattle.rota.proofs.Minutes.{known-nobody, known-person, minutes-total}
@@ -363,7 +363,9 @@ module _ (B : Board) (o ks fs ss x : List ℕ) (n i : ℕ) (h : i < n) where
 
   -- it is 0 exactly when the conditions of that draw's move hold there, 2 exactly when its choice lies outside, 1 exactly when neither
   pub answers-exactly : Heard heard-at (Acts B found drawn) (ChoiceOutside B found drawn)
-  answers-exactly = subst (λ (r : ℕ). Heard r (Acts B found drawn) (ChoiceOutside B found drawn)) (sym answer-at) (draw-acts-exactly B found drawn)
+  answers-exactly =
+      subst (λ (r : ℕ). Heard r (Acts B found drawn) (ChoiceOutside B found drawn)) (sym answer-at)
+      (draw-acts-exactly B found drawn)
 
 -- answers past the draws stay
 pub answers-past-stay : (B : Board) (o ks fs ss x : List ℕ) (n k : ℕ) → n ≤ k

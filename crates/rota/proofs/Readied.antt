@@ -3,20 +3,18 @@ use mathlib.Core.Path.{_≡_, refl, sym, ap, ap₂, _∙_, fun-ext}
 use mathlib.Core.Logic.{⊎-elim}
 use mathlib.Core.Bool.{Bool, true, false, cond, not, _&&_, _||_}
 use mathlib.Core.List.{List}
-use Prim.Native.Nat.{ℕ, zero, suc, _+_, _-_, _*_, _/_, _%_, _^_, _≤_, _<_, max}
+use Prim.Native.Nat.{ℕ, zero, suc, _+_, _-_, _*_, _%_, _^_, _≤_, _<_, max}
 use native.Mathlib.Omega.{arith}
-use borrow.Author.Tests.{eq-eqb, ne-eqb, eqb-true, eqb-false, lt-ltb, le-ltb, le-leb}
-use lib.Dec.{eqb, ltb, leb, lit<}
+use borrow.Author.Tests.{ne-eqb, eqb-true, eqb-false, lt-ltb, le-ltb}
+use lib.Dec.{eqb, ltb, lit<}
 use lib.Bits.{bitOr}
 use lib.Pow.{pow-lt}
 use native.Mathlib.Nat.{mod-eq-of-lt}
 use lib.ListN.{length, getD, set, replicate, getD-replicate, length-replicate, List·getD-eq-default}
 use lib.Seq.{getD-set-same, getD-set-other}
-use Rattle.paper.specs.Limits.{peopleOk}
 use Rattle.paper.specs.Bits.{bitOf}
 use Rattle.paper.proofs.Bits.{bit-or, bit-lt, bit-shl-low, bit-shl-high, top-clear, bit-none, bit-ones}
-use Rattle.paper.proofs.Logic.{by-test, lt-or-ge, both, and-false}
-use Rattle.slotset.specs.Answers.{rowNo}
+use Rattle.paper.proofs.Logic.{by-test, lt-or-ge, and-false}
 use Rattle.units.specs.Units.{unitStart, unitEnd, unitsOk, unitOf}
 use Rattle.units.specs.Domains.{able, ableIn, clear, clearIn, unitFrozen}
 use Rattle.rota.specs.Board.{Board, BoardSound}
