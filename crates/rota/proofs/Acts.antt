@@ -1,6 +1,6 @@
 -- Each move acts exactly when the paper says, and hears 2 exactly when its choice lies outside. Assumes nothing.
 use mathlib.Core.Path.{_≡_, refl, sym, ap, ap₂, _∙_, subst}
-use mathlib.Core.Bool.{Bool, true, false, cond, not, _&&_, _||_}
+use mathlib.Core.Bool.{Bool, true, false, cond, not, _||_}
 use mathlib.Core.List.{List, [], _∷_}
 use mathlib.Core.Logic.{_⊎_, inl, inr, _↔_}
 use Prim.Native.Nat.{ℕ, suc, _-_, _≤_, _<_}
@@ -9,7 +9,7 @@ use borrow.Author.Tests.{ne-eqb, eqb-true, eqb-false, le-ltb, ltb-true, ltb-fals
 use lib.Dec.{eqb, ltb}
 use Rattle.paper.specs.Limits.{nobody}
 use Rattle.paper.proofs.Logic.{both, and-true}
-use Rattle.paper.proofs.Count.{each-in}
+use Rattle.paper.proofs.Count.{in-each, each-in}
 use Rattle.rota.specs.declared.Move.{Move}
 use Rattle.rota.specs.declared.Move.the-variants.{Trade}
 use Rattle.rota.specs.Board.{Board, ownerOf, unowned, RunOf}
@@ -17,9 +17,8 @@ use Rattle.rota.specs.Moves.{anyOf, give, movable, covers, firstOf, last
 use Rattle.rota.specs.Moves.{runReassigned, runsStay, runsSwapped, grown, shrunk, shifted, answerOf}
 use Rattle.rota.specs.Acts.{Heard, Chosen, Outside, ReassignActs, ReassignOutside, SwapActs, RunMoves, another, ReassignRunActs}
 use Rattle.rota.specs.Acts.{ReassignRunOutside, SwapRunsActs, Boundary, GrowActs, ShrinkActs, ShiftOutside}
-use Rattle.rota.proofs.Runs.{run-only}
-use Rattle.rota.proofs.Lawful.{none-of, owned, span-clear, span-able, run-of}
-use Rattle.rota.proofs.Choices.{among-count, chosen-at, chosen-one}
+use Rattle.rota.proofs.Runs.{run-is, run-only}
+use Rattle.rota.proofs.Choices.{none-of, among-count, chosen-at, chosen-one}
 use Rattle.rota.proofs.Choices.{Ruled, heard, moves, either, no-move-if, outside-if, picks, said-as}
 
 -- ---- the five moves
@@ -28,7 +27,23 @@ use Rattle.rota.proofs.Choices.{Ruled, heard, moves, either, no-move-if
 abbrev pub swap-does : Board → List ℕ → ℕ → ℕ → ℕ → ℕ → ℕ → ℕ → Move
 swap-does B o f s x y z v = Trade (B .from x) (B .upto y) (ownerOf B o s) (B .from z) (B .upto v) (ownerOf B o f)
 
--- a run that may move, and one that a person can cover
+pub has-owner : (B : Board) (o : List ℕ) (u : ℕ) → (ownerOf B o u ≡ nobody → ⊥) → unowned B o u ≡ false
+unfolding unowned
+has-owner B o u n = ne-eqb (ownerOf B o u) nobody n
+
+owned : (B : Board) (o : List ℕ) (u : ℕ) → unowned B o u ≡ false → ownerOf B o u ≡ nobody → ⊥
+unfolding unowned
+owned B o u f = eqb-false _ _ f
+
+-- a run that may move, unit by unit; one that a person can cover
+span-clear : (B : Board) (a b : ℕ) → movable B a b ≡ true → (u : ℕ) → a ≤ u → u ≤ b → B .frozen u ≡ false
+unfolding movable
+span-clear B a b m u x y = not-true _ (in-each a (suc b) (λ v. not (B .frozen v)) m u x (omega arith))
+
+span-able : (B : Board) (a b p : ℕ) → covers B a b p ≡ true → (u : ℕ) → a ≤ u → u ≤ b → B .fits p u ≡ true
+unfolding covers
+span-able B a b p c u x y = in-each a (suc b) (B .fits p) c u x (omega arith)
+
 clear-span : (B : Board) (a b : ℕ) → ((u : ℕ) → a ≤ u → u ≤ b → B .frozen u ≡ false) → movable B a b ≡ true
 unfolding movable
 clear-span B a b c = each-in a (suc b) (λ u. not (B .frozen u)) (λ u x y. ap not (c u x (omega arith)))
@@ -50,9 +65,10 @@ another-says B w a b p = (
   λ h. and-true _ _ (ap not (ne-eqb p w (h .0))) (able-span B a b p (h .1)),
 )
 
-has-owner : (B : Board) (o : List ℕ) (u : ℕ) → (ownerOf B o u ≡ nobody → ⊥) → unowned B o u ≡ false
-unfolding unowned
-has-owner B o u n = ne-eqb (ownerOf B o u) nobody n
+-- the run of a unit
+run-of : (B : Board) (o : List ℕ) (u : ℕ) → u < B .units → RunOf (B .units) (ownerOf B o) u (firstOf B o u) (lastOf B o u)
+unfolding firstOf lastOf
+run-of B o u h = run-is (ownerOf B o) (B .units) u h
 
 module _ (B : Board) (o : List ℕ) (f s : ℕ) where
   pub reassign-ruled : Ruled (ReassignActs B o f s) (ReassignOutside B f s) (λ A. give B f f (A .to)) (reassigned B o f s)

@@ -1,6 +1,6 @@
 -- A choice among people listed ascending, and moves that follow a rule: when they act, and when the choice lies outside. Assumes nothing.
 use mathlib.Core.Path.{_≡_, refl, sym, ap, _∙_}
-use mathlib.Core.Bool.{Bool, true, false, cond}
+use mathlib.Core.Bool.{Bool, true, false, cond, _||_}
 use mathlib.Core.List.{List, [], _∷_}
 use mathlib.Core.Logic.{⊎-elim}
 use Prim.Native.Nat.{ℕ, zero, suc, _≤_, _<_}
@@ -9,13 +9,25 @@ use borrow.Author.Tests.{eqb-true, eqb-false, leb-true, leb-false}
 use lib.Dec.{eqb, leb}
 use lib.ListN.{length, getD, length-append}
 use Rattle.paper.specs.Count.{among, count, sum}
-use Rattle.paper.proofs.Logic.{by-test, lt-or-ge, below-suc}
+use Rattle.paper.proofs.Logic.{by-test, lt-or-ge, below-suc, neither}
 use Rattle.paper.proofs.Count.{among-each, among-at}
 use Rattle.units.proofs.Rising.{among-rises}
 use Rattle.rota.specs.declared.Move.{Move}
 use Rattle.rota.specs.declared.Move.the-variants.{Stay}
 use Rattle.rota.specs.Moves.{anyOf, stayIf, picked, onPick, answerOf}
 use Rattle.rota.specs.Acts.{Heard, Chosen, Outside}
+
+-- ---- chains of tests
+
+-- none of the tests holds
+abbrev pub NoneOf : List Bool → Type 0
+NoneOf ts = (k : ℕ) → getD ts k false ≡ false
+
+pub none-of : (ts : List Bool) → anyOf ts ≡ false → NoneOf ts
+unfolding anyOf
+none-of [] e k = refl
+none-of (t ∷ ts) e zero = neither t (anyOf ts) e .0
+none-of (t ∷ ts) e (suc k) = none-of ts (neither t (anyOf ts) e .1) k
 
 -- ---- choices
 

@@ -1,21 +1,24 @@
 -- A draw acts exactly when the conditions of its move hold, and hears 2 exactly when its choice lies outside. Assumes nothing.
-use mathlib.Core.Path.{_≡_, refl, sym, ap, _∙_}
+use mathlib.Core.Path.{_≡_, refl, sym, ap, ap₂, _∙_}
+use mathlib.Core.Bool.{Bool, true, false, _||_}
 use mathlib.Core.List.{List, [], _∷_}
-use mathlib.Core.Logic.{_⊎_, inl, inr, ⊎-elim}
-use Prim.Native.Nat.{ℕ, _≤_, _<_}
+use mathlib.Core.Logic.{_⊎_, inl, inr, ⊎-elim, _↔_}
+use Prim.Native.Nat.{ℕ, suc, _≤_, _<_}
 use native.Mathlib.Omega.{arith}
-use borrow.Author.Tests.{lt-ltb, le-ltb, le-leb, lt-leb}
-use lib.Dec.{leb}
-use Rattle.paper.proofs.Logic.{lt-or-ge}
+use borrow.Author.Tests.{eq-eqb, ne-eqb, eqb-true, lt-ltb, le-ltb, le-leb, lt-leb, leb-true}
+use lib.Dec.{eqb, leb}
+use Rattle.paper.proofs.Logic.{lt-or-ge, both, and-true}
 use Rattle.rota.specs.declared.Move.{Move}
 use Rattle.rota.specs.declared.Move.the-variants.{Stay}
 use Rattle.rota.specs.Board.{Board}
 use Rattle.rota.specs.Moves.{anyOf, stayIf, give, reassigned, swapped, runReassigned, runsSwapped, shifted, Draw, answerOf, decided}
+use Rattle.rota.specs.Moves.{firstOf, between, handed}
 use Rattle.rota.specs.Plays.{answer}
 use Rattle.rota.specs.Acts.{Heard, GrowActs, ShrinkActs, Acts, reassigns, swaps, reassigns-run, swaps-runs, grows, shrinks}
-use Rattle.rota.specs.Acts.{ChoiceOutside, number, first-unit, swap-unit, swap-run-unit, person, run-person, side}
+use Rattle.rota.specs.Acts.{HandsOver, ChoiceOutside, number, first-unit, swap-unit, swap-run-unit, person, run-person, side}
 use Rattle.rota.proofs.Choices.{Ruled, heard}
-use Rattle.rota.proofs.Acts.{reassign-ruled, reassign-run-ruled, shift-does, shift-ruled, swap-does, swap-ruled, swap-runs-ruled}
+use Rattle.rota.proofs.Acts.{reassign-ruled, swap-ruled, reassign-run-ruled, swap-runs-ruled, shift-ruled, swap-does, shift-does}
+use Rattle.rota.proofs.Acts.{same-ends, boundary-at}
 
 -- ---- a draw
 
@@ -125,7 +128,7 @@ module _ (B : Board) (o : List ℕ) (d : Draw) where
   draw-outside (side h g C) = by-first (λ hf. ap answerOf (is-shift hf h g) ∙ shift-ruled B o f s hf .beyond C)
 
   -- and what is heard tells them apart
-  record Told : Type 0 where
+  pub record Told : Type 0 where
     pub acted : answerOf (decided B o d) ≡ 0 → Acts B o d
     pub outside : answerOf (decided B o d) ≡ 2 → ChoiceOutside B o d
     pub three : answerOf (decided B o d) < 3
@@ -151,7 +154,7 @@ module _ (B : Board) (o : List ℕ) (d : Draw) where
   sides h g hf (inl A) = grows h g hf A
   sides h g hf (inr A) = shrinks h g hf A
 
-  draw-told : Told
+  pub draw-told : Told
   draw-told =
       ⊎-elim
       (λ (top : k < 100). ⊎-elim
@@ -186,3 +189,72 @@ module _ (B : Board) (o : List ℕ) (d : Draw) where
         outside = draw-told .outside;
         three = draw-told .three;
       }
+
+-- ---- the units that it hands over
+
+-- tests and what they say
+eqb-says : (x y : ℕ) → (eqb x y ≡ true) ↔ (x ≡ y)
+eqb-says x y = (eqb-true x y, eq-eqb x y)
+
+pub between-says : (x y u : ℕ) → (between x y u ≡ true) ↔ ((x ≤ u) × (u ≤ y))
+between-says x y u = (
+  λ e. let r = both (leb x u) (leb u y) e in (leb-true x u (r .0), leb-true u y (r .1)),
+  λ h. and-true (leb x u) (leb u y) (le-leb x u (h .0)) (le-leb u y (h .1)),
+)
+
+or-says : (p q : Bool) (P Q : Type 0) → (p ≡ true) ↔ P → (q ≡ true) ↔ Q → (p || q ≡ true) ↔ (P ⊎ Q)
+or-says true q P Q x y = (λ _. inl (x .0 refl), λ _. refl)
+or-says false q P Q x y = (
+  λ e. inr (y .0 e),
+  λ h. ⊎-elim (λ (a : P). absurd (mathlib.Core.Bool.false≢true (x .1 a))) (λ (b : Q). y .1 b) h,
+)
+
+test-is : (p q : Bool) (P : Type 0) → p ≡ q → (q ≡ true) ↔ P → (p ≡ true) ↔ P
+test-is p q P e x = (λ h. x .0 (sym e ∙ h), λ h. e ∙ x .1 h)
+
+pub not-says : (p : Bool) (P : Type 0) → (p ≡ true) ↔ P → (P → ⊥) → p ≡ false
+not-says true P x n = absurd (n (x .0 refl))
+not-says false P x n = refl
+
+module _ (B : Board) (o : List ℕ) (d : Draw) where
+  -- the units that an acting draw hands over are those that its kind and the runs name
+  pub handed-exactly : (A : Acts B o d) (u : ℕ) → (handed B o d u ≡ true) ↔ HandsOver B o d A u
+  unfolding handed
+  handed-exactly (reassigns h hf A) u = test-is _ (eqb u (d .first)) _ (simp (lt-ltb (d .kind) 35 h)) (eqb-says u (d .first))
+  handed-exactly (swaps h g hf hs A) u =
+      test-is _ (eqb u (d .first) || eqb u (d .second)) _ (simp (le-ltb (d .kind) 35 h, lt-ltb (d .kind) 60 g))
+      (or-says _ _ _ _ (eqb-says u (d .first)) (eqb-says u (d .second)))
+  handed-exactly (reassigns-run h g hf A) u =
+      let e = same-ends B o (d .first) (A .first) (A .last) (A .moves .run) in
+      test-is _ (between (A .first) (A .last) u) _
+      (simp (le-ltb (d .kind) 35 (omega arith), le-ltb (d .kind) 60 h, lt-ltb (d .kind) 75 g)
+      (ap₂ (λ (x y : ℕ). between x y u) (sym (e .0)) (sym (e .1)))) (between-says (A .first) (A .last) u)
+  handed-exactly (swaps-runs h g hf hs A) u =
+      let e = same-ends B o (d .first) (A .first) (A .last) (A .moves .run) in
+      let i = same-ends B o (d .second) (A .first2) (A .last2) (A .moves2 .run) in
+      test-is _ (between (A .first) (A .last) u || between (A .first2) (A .last2) u) _
+      (simp (le-ltb (d .kind) 35 (omega arith), le-ltb (d .kind) 60 (omega arith), le-ltb (d .kind) 75 h, lt-ltb (d .kind) 90 g)
+      (ap₂ _||_ (ap₂ (λ (x y : ℕ). between x y u) (sym (e .0)) (sym (e .1))) (ap₂ (λ (x y : ℕ). between x y u) (sym (i .0)) (sym (i .1)))))
+      (or-says _ _ _ _ (between-says (A .first) (A .last) u) (between-says (A .first2) (A .last2) u))
+  handed-exactly (grows h g hf A) u =
+      let e = boundary-at B o (d .first) (A .before) (A .last) (A .boundary) in
+      test-is _ (eqb (suc u) (firstOf B o (d .first))) _
+      (simp (
+        le-ltb (d .kind) 35 (omega arith),
+        le-ltb (d .kind) 60 (omega arith),
+        le-ltb (d .kind) 75 (omega arith),
+        le-ltb (d .kind) 90 h,
+        eq-eqb (d .second) 1 (A .choice),
+      ))
+      (λ t. omega (arith, eqb-true (suc u) (firstOf B o (d .first)) t, e), λ q. eq-eqb _ _ (ap suc q ∙ e))
+  handed-exactly (shrinks h g hf A) u =
+      let e = boundary-at B o (d .first) (A .before) (A .last) (A .boundary) in
+      test-is _ (eqb u (firstOf B o (d .first))) _
+      (simp (
+        le-ltb (d .kind) 35 (omega arith),
+        le-ltb (d .kind) 60 (omega arith),
+        le-ltb (d .kind) 75 (omega arith),
+        le-ltb (d .kind) 90 h,
+        ne-eqb (d .second) 1 (λ q. omega (arith, A .choice)),
+      ))
+      (λ t. eqb-true _ _ t ∙ sym e, λ q. eq-eqb _ _ (q ∙ e))

@@ -17,11 +17,16 @@ use Rattle.rota.specs.Moves.{answerOf, act}
 use Rattle.rota.proofs.Lawful.{Stretch, Lawful}
 
 -- by whether u lies from first to last
-pub in-or-out {ℓ} : (X : Type ℓ) (first last u : ℕ) → (first ≤ u → u ≤ last → X) → ((u < first) ⊎ (last < u) → X) → X
+in-or-out {ℓ} : (X : Type ℓ) (first last u : ℕ) → (first ≤ u → u ≤ last → X) → ((u < first) ⊎ (last < u) → X) → X
 in-or-out X first last u f g =
     ⊎-elim (λ (h : u < first). g (inl h))
     (λ (h : first ≤ u). ⊎-elim (λ (l : last < u). g (inr l)) (λ (l : u ≤ last). f h l) (lt-or-ge last u))
     (lt-or-ge u first)
+
+in-or-not {ℓ} : (X : Type ℓ) (first last u : ℕ) → (first ≤ u → u ≤ last → X) → ((first ≤ u → u ≤ last → ⊥) → X) → X
+in-or-not X first last u f g =
+    in-or-out X first last u f
+    (λ z. g (λ h l. ⊎-elim (λ (a : u < first). omega arith) (λ (b : last < u). omega arith) z))
 
 module _ (B : Board) (T : BoardSound B) where
   pub from-rises : (u v : ℕ) → u ≤ v → v < B .units → B .from u ≤ B .from v
@@ -84,30 +89,27 @@ module _ (B : Board) (T : BoardSound B) where
           room = omega (arith, E .room, length-fill p a (e - a) o);
           same = λ u k I.
               let J = first-slot u (I .below) in
-              in-or-out (getD o′ k 0 ≡ getD o′ (B .from u) 0) (S .first) (S .last) u
+              in-or-not (getD o′ k 0 ≡ getD o′ (B .from u) 0) (S .first) (S .last) u
               (λ h g. inside u k I (room k u I) h g ∙ sym (inside u (B .from u) J (room (B .from u) u J) h g))
-              (λ n. let z = apart-of u n in outside u k I z ∙ E .same u k I ∙ sym (outside u (B .from u) J z));
+              (λ z. outside u k I z ∙ E .same u k I ∙ sym (outside u (B .from u) J z));
           manned = λ u b n.
               let J = first-slot u b in
-              in-or-out ((getD o′ (B .from u) 0 < B .people) × (B .fits (getD o′ (B .from u) 0) u ≡ true)) (S .first) (S .last) u
+              in-or-not ((getD o′ (B .from u) 0 < B .people) × (B .fits (getD o′ (B .from u) 0) u ≡ true)) (S .first) (S .last) u
               (λ h g.
               let q = inside u (B .from u) J (room (B .from u) u J) h g in
               (omega (arith, q, S .person), ap (λ (w : ℕ). B .fits w u) q ∙ S .able u h g))
               (λ z.
-              let q = outside u (B .from u) J (apart-of u z) in
+              let q = outside u (B .from u) J z in
               let m = E .manned u b (λ e. n (q ∙ e)) in
               (omega (arith, q, m .0), ap (λ (w : ℕ). B .fits w u) q ∙ m .1));
         }
-      where
-        apart-of : (u : ℕ) → (u < S .first) ⊎ (S .last < u) → S .first ≤ u → u ≤ S .last → ⊥
-        apart-of u z h g = ⊎-elim (λ (l : u < S .first). omega arith) (λ (l : S .last < u). omega arith) z
 
     -- a covered slot stays covered
     fill-covered : Even B o → (u k : ℕ) → InUnit B u k → (getD o k 0 ≡ nobody → ⊥) → getD (fill p a (e - a) o) k 0 ≡ nobody → ⊥
     fill-covered E u k I n q =
-        in-or-out ⊥ (S .first) (S .last) u
+        in-or-not ⊥ (S .first) (S .last) u
         (λ h g. omega (arith, q, inside u k I (omega (arith, E .room, T .within u (I .below), I .upto)) h g, S .person, T .few))
-        (λ z. n (sym (outside u k I (λ h g. ⊎-elim (λ (l : u < S .first). omega arith) (λ (l : S .last < u). omega arith) z)) ∙ q))
+        (λ z. n (sym (outside u k I z) ∙ q))
 
   module _ (H : ℕ → Bool) (o : List ℕ) (E : Even B o) where
     pub act-even : (m : Move) → Lawful B o H m → Even B (act m o)

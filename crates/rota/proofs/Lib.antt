@@ -1,10 +1,10 @@
 -- The laws behind rota.
 pub mod Runs
-pub mod Lawful
-pub mod Kept
 pub mod Choices
 pub mod Acts
 pub mod Drawn
+pub mod Lawful
+pub mod Kept
 pub mod HandsOver
 pub mod Plays
 pub mod Judged

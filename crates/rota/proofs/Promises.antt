@@ -23,8 +23,8 @@ use Rattle.rota.specs.Board.{Board, BoardSound, InUnit, Even, ownerOf, u
 use Rattle.rota.specs.Moves.{Draw, draw, decided, anyOf, swapped}
 use Rattle.rota.specs.Plays.{step, ownersAfter, answer, answers, touched, drawsOf}
 use Rattle.rota.specs.Lent.{fitsUnit, frozenUnit, boardOf}
-use Rattle.rota.specs.Derived.{Plan, PlanSound, Derived, knownBy, worked, uncovered, afresh, InStep}
-use Rattle.rota.specs.Recount.{freeFor, knownAt, freeAt, recounts, RotaRoom}
+use Rattle.rota.specs.Derived.{Plan, PlanSound, Derived, knownBy, worked, uncovered, afresh}
+use Rattle.rota.specs.Recount.{freeFor, knownAt, freeAt, recounts}
 use Rattle.rota.specs.Entries.{roomOk, ground, Outcome, outcome, fromSlotsNo, fromSlots, recountNo, recountSlotsNo}
 use Rattle.rota.specs.Acts.{Heard, Acts, ChoiceOutside, ownerThen}
 use Rattle.rota.proofs.Minutes.{known-nobody, known-person, minutes-total}
@@ -75,16 +75,17 @@ module _ (P : Plan) (avail : List ℕ) (units : ℕ) (firsts frozen : List ℕ) 
       (λ f. ap₂ _&&_ (lt-ltb u units (I .below)) (ap not f))
 
   pub frozen-slots-keep : (k : ℕ) → k < P .slots → eqb (slot frozen 0 k) 1 ≡ true → getD after k 0 ≡ getD o k 0
-  frozen-slots-keep k h z = play-frozen B sound o ds even (unitOf units firsts k) k (in-unit k h) (frozen-unit (unitOf units firsts
-      k) k (in-unit k h) z)
+  frozen-slots-keep k h z =
+      let u = unitOf units firsts k in
+      play-frozen B sound u k (in-unit k h) (frozen-unit u k (in-unit k h) z) o ds even
 
   -- no covered slot becomes uncovered
   pub covered-stays : (k : ℕ) → k < P .slots → (getD o k 0 ≡ nobody → ⊥) → getD after k 0 ≡ nobody → ⊥
-  covered-stays k h = play-covered B sound o ds even (unitOf units firsts k) k (in-unit k h)
+  covered-stays k h = play-covered B sound (unitOf units firsts k) k (in-unit k h) o ds even
 
   -- only slots of units that an acting draw hands over, at its step, change owner
   pub only-handed-over : (k : ℕ) → k < P .slots → touched B o ds (unitOf units firsts k) ≡ false → getD after k 0 ≡ getD o k 0
-  only-handed-over k h = play-only B sound o ds even (unitOf units firsts k) k (in-unit k h)
+  only-handed-over k h = play-only B sound (unitOf units firsts k) k (in-unit k h) o ds even
 
   -- every owner is known and available, units are uniform, sets and minutes are right: the rota passes the recount again
   after-even : Even B after
@@ -126,7 +127,7 @@ module _ (P : Plan) (avail : List ℕ) (units : ℕ) (firsts frozen : List ℕ) 
 
   -- owners past the slots stay, and so do bits beside the slots and minutes past the people
   pub owners-past-stay : (k : ℕ) → P .slots ≤ k → getD after k 0 ≡ getD o k 0
-  owners-past-stay = play-past B sound o ds even
+  owners-past-stay k h = play-past B sound k h o ds even
 
   pub derived-past-stay : ((i : ℕ) → Beside (P .people) (P .slots) i → slot (afresh P after D .sets) 0 i ≡ slot (D .sets) 0 i)
       × ((p : ℕ) → P .people ≤ p → getD (afresh P after D .minutes) p 0 ≡ getD (D .minutes) p 0)
@@ -362,7 +363,9 @@ module _ (B : Board) (o ks fs ss x : List ℕ) (n i : ℕ) (h : i < n) where
 
   -- it is 0 exactly when the conditions of that draw's move hold there, 2 exactly when its choice lies outside, 1 exactly when neither
   pub answers-exactly : Heard heard-at (Acts B found drawn) (ChoiceOutside B found drawn)
-  answers-exactly = subst (λ (r : ℕ). Heard r (Acts B found drawn) (ChoiceOutside B found drawn)) (sym answer-at) (draw-acts-exactly B found drawn)
+  answers-exactly =
+      subst (λ (r : ℕ). Heard r (Acts B found drawn) (ChoiceOutside B found drawn)) (sym answer-at)
+      (draw-acts-exactly B found drawn)
 
 -- answers past the draws stay
 pub answers-past-stay : (B : Board) (o ks fs ss x : List ℕ) (n k : ℕ) → n ≤ k

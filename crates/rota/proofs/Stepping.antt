@@ -1,13 +1,12 @@
 -- One draw and a list of draws, done on the lent columns. Assumes nothing.
 use mathlib.Core.Path.{_≡_, refl, sym, ap, ap₂, _∙_, subst}
 use mathlib.Core.Logic.{⊎-elim}
-use mathlib.Core.Bool.{Bool, true, false}
-use mathlib.Core.List.{List, [], _∷_, _++_, append-assoc}
-use Prim.Native.Nat.{ℕ, zero, suc, _+_, _-_, _*_, _≤_, _<_}
+use mathlib.Core.Bool.{Bool, true}
+use mathlib.Core.List.{List, [], _∷_, _++_}
+use Prim.Native.Nat.{ℕ, _+_, _-_, _*_, _≤_, _<_}
 use native.Mathlib.Numerals.{add-one}
 use native.Mathlib.Omega.{arith}
-use lib.ListN.{length, getD, set, length-append, drop}
-use Rattle.paper.specs.Limits.{nobody}
+use lib.ListN.{length, getD, set}
 use Rattle.paper.specs.Count.{fill, onto}
 use Rattle.paper.proofs.Logic.{lt-or-ge}
 use Rattle.paper.proofs.Count.{length-fill, length-onto, onto-more}
@@ -17,11 +16,11 @@ use Rattle.rota.specs.declared.Move.the-variants.{Stay, Give, Trade}
 use Rattle.rota.specs.Board.{Board, BoardSound, InUnit, Even, ownerOf}
 use Rattle.rota.specs.Moves.{Draw, draw, decided, answerOf, act, handed}
 use Rattle.rota.specs.Plays.{step, answer, ownersAfter, answers, drawsOf}
-use Rattle.rota.specs.Derived.{Plan, PlanSound, knownBy, Derived, derived, afresh, InStep, HandedOver, OneOwner}
+use Rattle.rota.specs.Derived.{Plan, knownBy, Derived, derived, afresh, InStep, HandedOver, OneOwner}
 use Rattle.rota.specs.Stepped.{Stepped, Ran}
 use Rattle.rota.proofs.Minutes.{known-person}
 use Rattle.rota.proofs.Lawful.{Stretch, Traded, Lawful, decided-lawful}
-use Rattle.rota.proofs.Kept.{from-rises, upto-rises, outside}
+use Rattle.rota.proofs.Kept.{upto-rises, outside}
 use Rattle.rota.proofs.Plays.{play-length, play-even, owners-append, answers-append, answers-length, draws-length}
 use Rattle.rota.proofs.Steps.{afresh-again, afresh-same, afresh-lengths}
 
