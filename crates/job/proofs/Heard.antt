@@ -236,3 +236,91 @@ module _ (s : List ℕ) where
         even = owners-even (R .slots) (R .units) (R .firsts) (writtenOf s) slots (e .0)
             (unit-within (R .slots) (R .units) (R .firsts) (u .0));
       }
+
+  -- ---- the outcome, the last stage first
+
+  module _ (x : List ℕ) where
+    abbrev text : Result
+    text = listedAs (listingOf (listedOf s)) x
+
+    abbrev startTests : List Test
+    startTests = test 12 (all (readyOf s .slots) (freeAt (readyOf s .avail) (ownersOf s))) ∷ []
+
+    play-told : RotaSound (readyOf s) (drawsOf s) (ownersOf s) → all (readyOf s .slots) (freeAt (readyOf s .avail) (ownersOf s)) ≡ true
+        → playResult (readyOf s) (drawsOf s) (playedOf s) x ≡ listedAs (listingOf (listedOf s)) x
+    unfolding playResult textOf listedOf playedOf startedOf
+    play-told H free =
+        let R = readyOf s in
+        let y = playedOf s in
+        ap (λ (t : Bool). cond t (listedAs (textOf R (drawsOf s) y) x) (refusedAs (y .number) x))
+        (eq-eqb (y .number) 0 (play-no R (drawsOf s) (ownersOf s) H free))
+        ∙ ap (λ (f : Figure). listedAs (listingOf (listed (R .slots) (R .starts) (R .ends) (y .owners) (R .people) (y .derived .minutes)
+        (R .targets) (drawsOf s .count) (y .answers) (figureValue f))) x) (uncovered-told R (drawsOf s) (ownersOf s) H free)
+
+    rota-told : RotaSound (readyOf s) (drawsOf s) (ownersOf s)
+        → rotaResult (readyOf s) (drawsOf s) (ownersOf s) x ≡ orRefused (heardOf startTests) x text
+    unfolding rotaResult heardOf playedOf startedOf
+    rota-told H =
+        stage startTests [] (lit< tt, tt) (startOf (readyOf s) (ownersOf s) .number) x (playResult (readyOf s) (drawsOf s) (playedOf s) x) text
+        (start-no (readyOf s) (drawsOf s) (ownersOf s) H)
+        (λ z. play-told H (cond-zero (all (readyOf s .slots) (freeAt (readyOf s .avail) (ownersOf s))) 0 11 z .0))
+
+    owners-told : Few → heardOf atomTests ≡ 0 → heardOf figureTests ≡ 0
+        → ownersResult s (getD (jobStarts s) 5 0) (getD (jobCounts s) 5 0) (readyOf s) (drawsOf s) x
+        ≡ orRefused (heardOf (ownerTests ++ startTests)) x text
+    unfolding ownersResult ownersNo heardOf ownersOf writtenOf
+    owners-told few a f =
+        let R = readyOf s in
+        stage ownerTests startTests (lit< tt, (lit< tt, tt))
+        (ownersNo s (getD b 5 0) (getD c 5 0) (R .slots) (R .people) (R .units) (R .firsts) (writtenOf s)) x
+        (rotaResult R (drawsOf s) (ownersOf s) x) text refl (λ o. rota-told (rota-sound few a f o))
+
+    slots-told : Few → heardOf atomTests ≡ 0
+        → slotsResult s (jobCounts s) (jobStarts s) (rangesIn s (jobCounts s) (jobStarts s)) (readyOf s .slots) (readyOf s .starts)
+        (readyOf s .ends) x ≡ orRefused (heardOf (figureTests ++ (ownerTests ++ startTests))) x text
+    unfolding slotsResult readyOf readyIn drawsOf
+    slots-told few a =
+        let R = readyOf s in
+        stage figureTests (ownerTests ++ startTests) (lit< tt, (lit< tt, tt))
+        (lowerNo (sharesIn s c b (rangesIn s c b) (R .slots) (R .starts) (R .ends) .number)
+        (unitsNoOf (unitsIn s (R .slots) (R .starts) (R .ends) .answer))) x
+        (ownersResult s (getD b 5 0) (getD c 5 0) (readyOf s) (drawsOf s) x) text
+        (figures-heard few (R .slots) (R .starts) (R .ends) (atoms-right few a)) (owners-told few a)
+
+    atoms-told : Few → atomsResult s (jobCounts s) (jobStarts s) x
+        ≡ orRefused (heardOf (atomTests ++ (figureTests ++ (ownerTests ++ startTests)))) x text
+    unfolding atomsResult readyOf readyIn
+    atoms-told few =
+        stage atomTests (figureTests ++ (ownerTests ++ startTests)) (lit< tt, (lit< tt, (lit< tt, tt)))
+        (noOf (atomsIn s c b .answer)) x
+        (slotsResult s c b (rangesIn s c b) (valueOf (atomsIn s c b .answer)) (atomsIn s c b .starts) (atomsIn s c b .ends) x) text
+        (atoms-heard few) (slots-told few)
+
+    abbrev countTests : List Test
+    countTests =
+        test 1 (countsOk (baseIn (jobCounts s)) (peopleIn (jobCounts s)) (getD (jobCounts s) 3 0) (getD (jobCounts s) 6 0))
+        ∷ test 2 (leb 44535 (length x)) ∷ []
+
+    counted-told : countedResult s (jobCounts s) (jobStarts s) x
+        ≡ orRefused (heardOf (countTests ++ (atomTests ++ (figureTests ++ (ownerTests ++ startTests))))) x text
+    unfolding countedResult countsNo heardOf
+    counted-told =
+        stage countTests (atomTests ++ (figureTests ++ (ownerTests ++ startTests))) (lit< tt, (lit< tt, tt))
+        (countsNo (baseIn c) (peopleIn c) (getD c 3 0) (getD c 6 0) (length x)) x (atomsResult s c b x) text refl
+        (λ z. atoms-told (cond-zero (countsOk (baseIn c) (peopleIn c) (getD c 3 0) (getD c 6 0)) _ 0 z .0))
+
+    file-told : jobResult s x ≡ orRefused (orElse (fileOk s) 13 0) x (countedResult s (jobCounts s) (jobStarts s) x)
+    unfolding jobResult
+    file-told = go (fileOk s) (countedResult s c b x)
+      where
+        go : (ok : Bool) (y : Result) → cond ok y (refusedAs 13 x) ≡ orRefused (orElse ok 13 0) x y
+        go true y = refl
+        go false y = refl
+
+    -- the whole: the first test that fails is heard; where none does, the listing
+    pub job-told : jobResult s x ≡ orRefused (heardOf (jobTests s (length x))) x (listedAs (listingOf (listedOf s)) x)
+    unfolding jobTests heardOf
+    job-told =
+        file-told
+        ∙ stage (test 13 (fileOk s) ∷ []) (countTests ++ (atomTests ++ (figureTests ++ (ownerTests ++ startTests)))) (lit< tt, tt)
+        (orElse (fileOk s) 13 0) x (countedResult s c b x) text refl (λ _. counted-told)
