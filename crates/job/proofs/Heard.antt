@@ -5,7 +5,7 @@ use mathlib.Core.List.{List, [], _∷_, _++_}
 use Prim.Native.Nat.{ℕ, zero, suc, _+_, _-_, _*_, _≤_, _<_}
 use native.Mathlib.Omega.{arith}
 use borrow.Author.Tests.{le-leb, leb-true, eq-eqb}
-use lib.Dec.{leb, eqb, lit<}
+use lib.Dec.{leb, eqb, lit<, lit≤}
 use lib.Ieee.{Float, fin, binary64, ofBits}
 use lib.IntN.{pos}
 use lib.ListN.{length, getD, replicate, length-replicate}
@@ -34,9 +34,10 @@ use Rattle.job.specs.Stages.{placed, allEven, allKnown, ownersNo, narrow
 use Rattle.job.specs.Outcome.{Result, Ready, Draws, planOf, startOf, playOf, figureValue, textOf, listedAs, refusedAs, orRefused}
 use Rattle.job.specs.Outcome.{baseIn, peopleIn, rangesIn, columnOf, capacitiesIn, priorsIn, drawsIn, instantIn, atomsIn, availIn, sharesIn}
 use Rattle.job.specs.Outcome.{unitsIn, readyIn, playResult, rotaResult, ownersResult, slotsResult, atomsResult, countedResult, jobResult}
-use Rattle.job.specs.Heard.{Test, test, heardOf, baseOf, readyOf, drawsOf, writtenOf, ownersOf, startedOf, playedOf, listedOf, baseTotal, jobTests}
+use Rattle.job.specs.Heard.{Test, test, heardOf, AllPass, baseOf, readyOf, drawsOf, writtenOf, ownersOf, startedOf, playedOf, listedOf}
+use Rattle.job.specs.Heard.{baseTotal, jobTests}
 use Rattle.job.proofs.Files.{length-floats}
-use Rattle.job.proofs.Tests.{Numbered, stage}
+use Rattle.job.proofs.Tests.{Numbered, Rising, stage}
 use Rattle.job.proofs.Passing.{few-says, atoms-no, AtomsSound, atoms-sound, avail-length, frozen-length, lent-room, shares-no, units-no}
 use Rattle.job.proofs.Passing.{units-right, units-fit, lower-is, owners-known, owners-even, narrowed-length}
 use Rattle.job.proofs.Rotas.{RotaSound, start-no, play-no, uncovered-told, total-before, total-after}
@@ -324,3 +325,55 @@ module _ (s : List ℕ) where
         file-told
         ∙ stage (test 13 (fileOk s) ∷ []) (countTests ++ (atomTests ++ (figureTests ++ (ownerTests ++ startTests)))) (lit< tt, tt)
         (orElse (fileOk s) 13 0) x (countedResult s c b x) text refl (λ _. counted-told)
+
+-- ---- a job that passes all its tests
+
+-- the numbers of the tests, in their order: none is 0, 13 comes first and the others rise
+pub numbered : (s : List ℕ) (room : ℕ) → Numbered (jobTests s room)
+unfolding jobTests
+numbered s room =
+    (lit< tt, (lit< tt, (lit< tt, (lit< tt, (lit< tt, (lit< tt, (lit< tt, (lit< tt, (lit< tt, (lit< tt, (lit< tt, tt)))))))))))
+
+pub rising : (s : List ℕ) (room : ℕ) → Rising 0 (jobTests s room)
+unfolding jobTests
+rising s room =
+    (lit≤ tt, (lit≤ tt, (lit≤ tt, (lit≤ tt, (lit≤ tt, (lit≤ tt, (lit≤ tt, (lit≤ tt, (lit≤ tt, (lit≤ tt, (lit≤ tt, tt)))))))))))
+
+module _ (s : List ℕ) (room : ℕ) (A : AllPass (jobTests s room)) where
+  few : Few s
+  unfolding jobTests
+  few = A 1 (lit< tt)
+
+  pub free : all (readyOf s .slots) (freeAt (readyOf s .avail) (ownersOf s)) ≡ true
+  unfolding jobTests
+  free = A 10 (lit< tt)
+
+  atoms : heardOf (atomTests s) ≡ 0
+  unfolding jobTests heardOf
+  atoms = simp (A 3 (lit< tt), A 4 (lit< tt), A 5 (lit< tt))
+
+  figures : heardOf (figureTests s) ≡ 0
+  unfolding jobTests heardOf
+  figures = simp (A 6 (lit< tt), A 7 (lit< tt))
+
+  owners : heardOf (ownerTests s) ≡ 0
+  unfolding jobTests heardOf
+  owners = simp (A 8 (lit< tt), A 9 (lit< tt))
+
+  pub sound : RotaSound (readyOf s) (drawsOf s) (ownersOf s)
+  sound = rota-sound s few atoms figures owners
+
+  -- the demand of its atomic slots is the total of its base slots
+  base-same : demandOf (baseOf s .slots) (baseOf s .starts) (baseOf s .ends) ≡ baseTotal s
+  unfolding demandOf minutesAt baseTotal baseOf column
+  base-same =
+      let c = jobCounts s in
+      let at = getD (jobStarts s) 1 0 in
+      let n = slot-count-says (baseIn c) (few-says (baseIn c) (peopleIn c) (getD c 3 0) (getD c 6 0) few .0) .1 in
+      let entry : (off k : ℕ) → k < getD c 1 0
+          → getD (column 4 s (at + off) 12 (getD c 1 0)) k 0 ≡ le 4 s (at + off + k * 12) =
+      λ off k h. getD-over (λ j. le 4 s (at + off + j * 12)) (getD c 1 0) (replicate 1024 0) k h (omega (arith, length-replicate {A = ℕ} 1024 0)) in
+      sum-same (getD c 1 0) _ _ (λ k h. ap₂ _-_ (entry 8 k h) (entry 4 k h))
+
+  pub demand-is : demandOf (readyOf s .slots) (readyOf s .starts) (readyOf s .ends) ≡ baseTotal s
+  demand-is = atoms-right s few atoms .demand ∙ base-same
