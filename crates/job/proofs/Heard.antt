@@ -371,7 +371,7 @@ module _ (s : List ℕ) (room : ℕ) (A : AllPass (jobTests s room)) where
       let at = getD (jobStarts s) 1 0 in
       let n = slot-count-says (baseIn c) (few-says (baseIn c) (peopleIn c) (getD c 3 0) (getD c 6 0) few .0) .1 in
       let entry : (off k : ℕ) → k < getD c 1 0
-          → getD (column 4 s (at + off) 12 (getD c 1 0)) k 0 ≡ le 4 s (at + off + k * 12) =
+      → getD (column 4 s (at + off) 12 (getD c 1 0)) k 0 ≡ le 4 s (at + off + k * 12) =
       λ off k h. getD-over (λ j. le 4 s (at + off + j * 12)) (getD c 1 0) (replicate 1024 0) k h (omega (arith, length-replicate {A = ℕ} 1024 0)) in
       sum-same (getD c 1 0) _ _ (λ k h. ap₂ _-_ (entry 8 k h) (entry 4 k h))
 

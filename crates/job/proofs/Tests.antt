@@ -122,8 +122,16 @@ heard-back r (t ∷ ts) R n L =
         let a = L .least 0 (omega arith) f in
         absurd (omega (arith, rising-above (suc (rank (t .number))) ts R k (omega (arith, L .within)), ap rank q))
 
-pub heard-lowest : (r : ℕ) (ts : List Test) → Rising r ts → (n : ℕ) → 0 < n → (heardOf ts ≡ n) ↔ Lowest ts n
-heard-lowest r ts R n z = (heard-there r ts R n z, heard-back r ts R n)
+numbered-at : (ts : List Test) → Numbered ts → (k : ℕ) → k < length ts → 0 < testAt ts k .number
+numbered-at [] N k h = absurd (omega arith)
+numbered-at (t ∷ ts) N zero h = N .0
+numbered-at (t ∷ ts) N (suc k) h = numbered-at ts (N .1) k (omega arith)
+
+pub heard-lowest : (r : ℕ) (ts : List Test) → Rising r ts → Numbered ts → (n : ℕ) → ((heardOf ts ≡ n) × (0 < n)) ↔ Lowest ts n
+heard-lowest r ts R N n = (
+  λ e. heard-there r ts R n (e .1) (e .0),
+  λ L. (heard-back r ts R n L, omega (arith, numbered-at ts N (L .place) (L .within), L .number)),
+)
 
 -- ---- a stage that hears the first tests of a row, and goes on with the others
 
