@@ -32,13 +32,17 @@ use Rattle.job.specs.Listing.{listed, listingOf}
 use Rattle.job.specs.Stages.{countsOk, countsNo, settingsIn, frozenIn, noOf, valueOf, unitsNoOf, lowerNo}
 use Rattle.job.specs.Stages.{placed, allEven, allKnown, ownersNo, narrowed}
 use Rattle.job.specs.Outcome.{Result, Ready, Draws, planOf, startOf, playOf, figureValue, textOf, listedAs, refusedAs, orRefused}
-use Rattle.job.specs.Outcome.{baseIn, peopleIn, rangesIn, columnOf, capacitiesIn, priorsIn, drawsIn, instantIn, atomsIn, availIn, sharesIn}
-use Rattle.job.specs.Outcome.{unitsIn, readyIn, playResult, rotaResult, ownersResult, slotsResult, atomsResult, countedResult, jobResult}
-use Rattle.job.specs.Heard.{Test, test, heardOf, AllPass, baseOf, readyOf, drawsOf, writtenOf, ownersOf, startedOf, playedOf, listedOf}
+use Rattle.job.specs.Outcome.{baseIn, peopleIn, rangesIn, columnOf, capacitiesIn, priorsIn, drawsIn, instantIn, atomsIn, availIn}
+use Rattle.job.specs.Outcome.{sharesIn}
+use Rattle.job.specs.Outcome.{unitsIn, readyIn, playResult, rotaResult, ownersResult, slotsResult, atomsResult, countedResult}
+use Rattle.job.specs.Outcome.{jobResult}
+use Rattle.job.specs.Heard.{Test, test, heardOf, AllPass, baseOf, readyOf, drawsOf, writtenOf, ownersOf, startedOf, playedOf}
+use Rattle.job.specs.Heard.{listedOf}
 use Rattle.job.specs.Heard.{baseTotal, jobTests}
 use Rattle.job.proofs.Files.{length-floats}
 use Rattle.job.proofs.Tests.{Numbered, Rising, stage}
-use Rattle.job.proofs.Passing.{few-says, atoms-no, AtomsSound, atoms-sound, avail-length, frozen-length, lent-room, shares-no, units-no}
+use Rattle.job.proofs.Passing.{few-says, atoms-no, AtomsSound, atoms-sound, avail-length, frozen-length, lent-room, shares-no}
+use Rattle.job.proofs.Passing.{units-no}
 use Rattle.job.proofs.Passing.{units-right, units-fit, lower-is, owners-known, owners-even, narrowed-length}
 use Rattle.job.proofs.Rotas.{RotaSound, start-no, play-no, uncovered-told, total-before, total-after}
 
@@ -92,7 +96,8 @@ module _ (s : List ℕ) where
       le-leb 1024 (length (replicate {A = ℕ} 1024 0)) (omega (arith, length-replicate {A = ℕ} 1024 0)) in
       and-true _ _ (and-true _ _ (column-room 4 s _ _ _ (baseIn c) n) (column-room 4 s _ _ _ (baseIn c) n))
       (and-true _ _
-      (and-true _ _ (column-room 2 s _ _ _ (getD c 3 0) r) (and-true _ _ (column-room 4 s _ _ _ (getD c 3 0) r) (column-room 4 s _ _ _ (getD c 3 0) r)))
+      (and-true _ _ (column-room 2 s _ _ _ (getD c 3 0) r) (and-true _ _ (column-room 4 s _ _ _ (getD c 3 0) r)
+      (column-room 4 s _ _ _ (getD c 3 0) r)))
       (and-true _ _ full full))
 
   -- 3, 4 and 5
@@ -215,7 +220,8 @@ module _ (s : List ℕ) where
       let x = few-says (baseIn c) (peopleIn c) (getD c 3 0) (getD c 6 0) few in
       let slots = slot-count-says (R .slots) (A .count-ok) .1 in
       let ps = people-few few (R .slots) (R .starts) (R .ends) A in
-      let ok = cond-zero (settingsOk (settingsIn s)) 0 6 (cond-zero (allFiguresOk (peopleIn c) (capacitiesIn s c b) (priorsIn s c b)) _ 5 f .1) .0 in
+      let ok = cond-zero (settingsOk (settingsIn s)) 0 6 (cond-zero
+      (allFiguresOk (peopleIn c) (capacitiesIn s c b) (priorsIn s c b)) _ 5 f .1) .0 in
       let e = cond-zero (allEven (R .slots) (R .units) (R .firsts) (writtenOf s)) _ 9 o in
       let k = cond-zero (allKnown s (getD b 5 0) (getD c 5 0) (R .slots) (R .people)) 0 10 (e .1) .0 in
       let u = units-there few A ok in
@@ -262,7 +268,8 @@ module _ (s : List ℕ) where
         → rotaResult (readyOf s) (drawsOf s) (ownersOf s) x ≡ orRefused (heardOf startTests) x text
     unfolding rotaResult heardOf playedOf startedOf
     rota-told H =
-        stage startTests [] (lit< tt, tt) (startOf (readyOf s) (ownersOf s) .number) x (playResult (readyOf s) (drawsOf s) (playedOf s) x) text
+        stage startTests [] (lit< tt, tt) (startOf (readyOf s) (ownersOf s) .number) x
+        (playResult (readyOf s) (drawsOf s) (playedOf s) x) text
         (start-no (readyOf s) (drawsOf s) (ownersOf s) H)
         (λ z. play-told H (cond-zero (all (readyOf s .slots) (freeAt (readyOf s .avail) (ownersOf s))) 0 11 z .0))
 
@@ -372,7 +379,8 @@ module _ (s : List ℕ) (room : ℕ) (A : AllPass (jobTests s room)) where
       let n = slot-count-says (baseIn c) (few-says (baseIn c) (peopleIn c) (getD c 3 0) (getD c 6 0) few .0) .1 in
       let entry : (off k : ℕ) → k < getD c 1 0
       → getD (column 4 s (at + off) 12 (getD c 1 0)) k 0 ≡ le 4 s (at + off + k * 12) =
-      λ off k h. getD-over (λ j. le 4 s (at + off + j * 12)) (getD c 1 0) (replicate 1024 0) k h (omega (arith, length-replicate {A = ℕ} 1024 0)) in
+      λ off k h. getD-over (λ j. le 4 s (at + off + j * 12)) (getD c 1 0) (replicate 1024 0) k h
+      (omega (arith, length-replicate {A = ℕ} 1024 0)) in
       sum-same (getD c 1 0) _ _ (λ k h. ap₂ _-_ (entry 8 k h) (entry 4 k h))
 
   pub demand-is : demandOf (readyOf s .slots) (readyOf s .starts) (readyOf s .ends) ≡ baseTotal s

@@ -73,7 +73,8 @@ unfolding atomic.atomiseOf atomic.atomiseNo atomic.countsOk atomic.roomOk counte
 atoms-sound B counts room a b c =
     let few = leb-true (length (atomic.startsOfAtoms B)) 1024 c in
     let cs = three (peopleOk (B .people)) (slotCountOk (B .slots)) (rangeCountOk (B .ranges .count)) counts in
-    let rs = three (slotRoomOk (B .slots) (B .starts) (B .ends)) (rangeRoomOk (B .ranges)) (slotRoomOk 1024 (B .outStarts) (B .outEnds)) room in
+    let rs = three (slotRoomOk (B .slots) (B .starts) (B .ends)) (rangeRoomOk (B .ranges))
+    (slotRoomOk 1024 (B .outStarts) (B .outEnds)) room in
     let out = both (leb 1024 (length (B .outStarts))) (leb 1024 (length (B .outEnds))) (rs .2) in
     let l = Rattle.slots.specs.Ranges.mergedOf (B .ranges) in
     let x = leb-true 1024 (length (B .outStarts)) (out .0) in
@@ -120,7 +121,8 @@ lent-room n S E e = both (slotRoomOk n S E) (all n (slotOkAt S E)) e .0
 
 pub shares-no : (g : targets.Given) (out : List ℤ) → targets.countsOk (g .people) (g .slots) ≡ true → targets.roomOk g (length out) ≡ true
     → slotsOk (g .slots) (g .starts) (g .ends) ≡ true
-    → targets.computeTargets g out .number ≡ orElse (allFiguresOk (g .people) (g .capacities) (g .priors)) 6 (orElse (leb (g .fairness) 1) 7 0)
+    → targets.computeTargets g out .number ≡ orElse (allFiguresOk (g .people) (g .capacities) (g .priors)) 6
+    (orElse (leb (g .fairness) 1) 7 0)
 unfolding targets.checkNo
 shares-no g out counts room lent = number-is g out ∙ simp (counts, room, lent)
 
@@ -163,7 +165,8 @@ module _ (st : Settings) (n : ℕ) (S E firsts : List ℕ) (count-ok : slotCount
         omega (arith, units-value, ap length e, length-append l (lib.ListN.drop (length l) firsts))
 
 -- the two of them together: right settings have a right fairness
-pub lower-is : (st : Settings) (figures : Bool) → lowerNo (orElse figures 6 (orElse (leb (st .fairness) 1) 7 0)) (orElse (settingsOk st) 7 0)
+pub lower-is : (st : Settings) (figures : Bool) → lowerNo (orElse figures 6 (orElse (leb (st .fairness) 1) 7 0))
+    (orElse (settingsOk st) 7 0)
     ≡ orElse figures 6 (orElse (settingsOk st) 7 0)
 unfolding settingsOk lowerNo
 lower-is st figures =
@@ -241,4 +244,5 @@ owners-even slots units firsts o few e within u k h a b =
     let x = in-each (unitStart firsts u) (unitEnd slots units firsts u) (λ j. eqb (getD o j 0) (getD o (unitStart firsts u) 0))
     (all-each units (unitEven slots units firsts o) e u h) k a b in
     let w = within u h in
-    narrowed-at o k (omega arith) ∙ ap byteOf (eqb-true (getD o k 0) (getD o (unitStart firsts u) 0) x) ∙ sym (narrowed-at o (unitStart firsts u) (omega arith))
+    narrowed-at o k (omega arith) ∙ ap byteOf (eqb-true (getD o k 0) (getD o (unitStart firsts u) 0) x)
+    ∙ sym (narrowed-at o (unitStart firsts u) (omega arith))

@@ -18,7 +18,8 @@ use Rattle.job.specs.declared.JobAnswer.{JobAnswer}
 use Rattle.job.specs.declared.JobAnswer.the-variants as answer
 use Rattle.job.specs.Listing.{listingOf}
 use Rattle.job.specs.Outcome.{Result, refusedAs, listedAs, orRefused, Ends, planOf, jobResult}
-use Rattle.job.specs.Heard.{heardOf, rank, testAt, Lowest, AllPass, readyOf, drawsOf, ownersOf, startedOf, playedOf, listedOf, baseTotal}
+use Rattle.job.specs.Heard.{heardOf, rank, testAt, Lowest, AllPass, readyOf, drawsOf, ownersOf, startedOf, playedOf, listedOf}
+use Rattle.job.specs.Heard.{baseTotal}
 use Rattle.job.specs.Heard.{jobTests}
 use Rattle.job.proofs.Tests.{heard-none, heard-lowest}
 use Rattle.job.proofs.Heard.{job-told, numbered, rising, free, sound, demand-is}

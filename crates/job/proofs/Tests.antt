@@ -80,7 +80,8 @@ heard-there r (t ∷ ts) R n z e =
       within = omega arith;
       number = q;
       fails = f;
-      least = subst (λ (m : ℕ). (k : ℕ) → k < suc (length ts) → testAt (t ∷ ts) k .passes ≡ false → rank m ≤ rank (testAt (t ∷ ts) k .number))
+      least = subst (λ (m : ℕ). (k : ℕ) → k < suc (length ts) → testAt (t ∷ ts) k .passes ≡ false
+          → rank m ≤ rank (testAt (t ∷ ts) k .number))
           q (λ k h g. first t ts (R .1) k h);
     })
   where
