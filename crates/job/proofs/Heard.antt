@@ -8,10 +8,10 @@ use borrow.Author.Tests.{le-leb, leb-true, eq-eqb}
 use lib.Dec.{leb, eqb, lit<, lit≤}
 use lib.Ieee.{Float, fin, binary64, ofBits}
 use lib.IntN.{pos}
-use lib.ListN.{length, getD, replicate, length-replicate}
+use lib.ListN.{length, getD, take, replicate, length-replicate}
 use Rattle.paper.specs.Limits.{peopleOk, slotCountOk, orElse}
 use Rattle.paper.specs.Count.{all, sum}
-use Rattle.paper.proofs.Logic.{by-test, and-true, cond-zero, people-says, slot-count-says}
+use Rattle.paper.proofs.Logic.{by-test, both, and-true, cond-zero, people-says, slot-count-says}
 use Rattle.paper.proofs.Count.{length-over, getD-over, sum-same}
 use Rattle.slots.specs.Lent.{slotRoomOk, slotsOk, minutesAt, demandOf}
 use Rattle.slots.specs.Ranges.{rangeCountOk, rangeRoomOk, rangesOk}
@@ -20,7 +20,9 @@ use Rattle.units.specs.Settings.{settingsOk}
 use Rattle.units.specs.Units.{unitsOk}
 use Rattle.units.proofs.Units.{unit-within}
 use Rattle.targets.specs.Figures.{allFiguresOk}
+use Rattle.targets.specs.Remainder.{sumℤ}
 use Rattle.targets.specs.Outcome as targets
+use Rattle.targets.proofs.Promises.{targets-add-up}
 use Rattle.rota.specs.declared.Figure.{Figure}
 use Rattle.rota.specs.Derived.{uncovered}
 use Rattle.rota.specs.Recount.{freeAt}
@@ -165,11 +167,17 @@ module _ (s : List ℕ) where
         (and-true _ _ (priors-room s _ 16 (peopleIn c) (peopleIn c) people-few)
         (le-leb (peopleIn c) (length (replicate 32 (pos 0))) (omega (arith, people-few, length-replicate 32 (pos 0)))))))
 
+    shares-heard : sharesIn s (jobCounts s) (jobStarts s) (rangesIn s (jobCounts s) (jobStarts s)) n S E .number
+        ≡ orElse (allFiguresOk (peopleIn (jobCounts s)) (capacitiesIn s (jobCounts s) (jobStarts s)) (priorsIn s (jobCounts s) (jobStarts s))) 6
+        (orElse (leb (settingsIn s .fairness) 1) 7 0)
+    unfolding sharesIn
+    shares-heard = shares-no _ (replicate 32 (pos 0)) shares-counts shares-room (A .lent)
+
     figures-heard : lowerNo (sharesIn s (jobCounts s) (jobStarts s) (rangesIn s (jobCounts s) (jobStarts s)) n S E .number)
         (unitsNoOf (unitsIn s n S E .answer)) ≡ heardOf figureTests
-    unfolding heardOf sharesIn unitsIn
+    unfolding heardOf unitsIn
     figures-heard =
-        ap₂ lowerNo (shares-no _ (replicate 32 (pos 0)) shares-counts shares-room (A .lent))
+        ap₂ lowerNo shares-heard
         (units-no (settingsIn s) n S E (replicate 1024 0) (A .count-ok) (A .lent) slots-few)
         ∙ lower-is (settingsIn s) (allFiguresOk (peopleIn c) (capacitiesIn s c b) (priorsIn s c b))
 
@@ -385,3 +393,16 @@ module _ (s : List ℕ) (room : ℕ) (A : AllPass (jobTests s room)) where
 
   pub demand-is : demandOf (readyOf s .slots) (readyOf s .starts) (readyOf s .ends) ≡ baseTotal s
   demand-is = atoms-right s few atoms .demand ∙ base-same
+
+  -- and so is the sum of its targets
+  shares-none : sharesIn s (jobCounts s) (jobStarts s) (rangesIn s (jobCounts s) (jobStarts s)) (readyOf s .slots) (readyOf s .starts)
+      (readyOf s .ends) .number ≡ 0
+  unfolding jobTests settingsOk
+  shares-none =
+      let R = readyOf s in
+      let f = both (leb (settingsIn s .fairness) 1) _ (A 7 (lit< tt)) .0 in
+      shares-heard s few (R .slots) (R .starts) (R .ends) (atoms-right s few atoms) ∙ simp (A 6 (lit< tt), f)
+
+  pub targets-add : sumℤ (take (readyOf s .people) (readyOf s .targets)) ≡ pos (demandOf (readyOf s .slots) (readyOf s .starts) (readyOf s .ends))
+  unfolding readyOf readyIn sharesIn
+  targets-add = targets-add-up _ (replicate 32 (pos 0)) shares-none

@@ -1,28 +1,35 @@
 -- What a job promises, each by name, of every file and every lent listing. Assumes nothing.
-use mathlib.Core.Path.{_≡_, refl, sym, ap, _∙_}
+use mathlib.Core.Path.{_≡_, refl, sym, ap, ap₂, _∙_}
 use mathlib.Core.Logic.{_↔_}
 use mathlib.Core.Bool.{Bool, true, false, cond, not, _&&_}
-use mathlib.Core.List.{List}
-use Prim.Native.Nat.{ℕ, zero, suc, _+_, _≤_, _<_}
+use mathlib.Core.List.{List, [], _++_}
+use Prim.Native.Nat.{ℕ, zero, suc, _+_, _-_, _*_, _≤_, _<_}
 use native.Mathlib.Omega.{arith}
 use borrow.Author.Tests.{eq-eqb, ne-eqb, eqb-true, eqb-false, not-true}
-use lib.Dec.{eqb}
-use lib.ListN.{length, getD}
+use lib.Dec.{eqb, lit<, lit≤}
+use lib.IntN.{pos}
+use lib.ListN.{length, getD, take, drop}
+use lib.Seq.{take-at, drop-at}
 use Rattle.paper.specs.Count.{sum, all}
 use Rattle.paper.proofs.Logic.{by-test, both}
-use Rattle.paper.proofs.Count.{all-each}
+use Rattle.paper.proofs.Count.{all-each, sum-same}
+use Rattle.targets.specs.Remainder.{sumℤ}
 use Rattle.rota.specs.declared.Figure.the-variants as figure
 use Rattle.rota.specs.Derived.{uncovered}
 use Rattle.rota.specs.Entries as rota
 use Rattle.job.specs.declared.JobAnswer.{JobAnswer}
 use Rattle.job.specs.declared.JobAnswer.the-variants as answer
-use Rattle.job.specs.Listing.{listingOf}
+use Rattle.job.specs.Fields.{le}
+use Rattle.job.specs.Records.{bodies}
+use Rattle.job.specs.File.{jobCounts, jobStarts, JobFile}
+use Rattle.job.specs.Listing.{listingOf, put}
 use Rattle.job.specs.Outcome.{Result, refusedAs, listedAs, orRefused, Ends, planOf, jobResult}
 use Rattle.job.specs.Heard.{heardOf, rank, testAt, Lowest, AllPass, readyOf, drawsOf, ownersOf, startedOf, playedOf, listedOf}
 use Rattle.job.specs.Heard.{baseTotal}
 use Rattle.job.specs.Heard.{jobTests}
 use Rattle.job.proofs.Tests.{heard-none, heard-lowest}
-use Rattle.job.proofs.Heard.{job-told, numbered, rising, free, sound, demand-is}
+use Rattle.job.proofs.Heard.{job-told, numbered, rising, free, sound, demand-is, targets-add}
+use Rattle.job.proofs.Layouts.{counts-read, fields-read}
 use Rattle.job.proofs.Rotas as rotas
 
 -- ---- only one outcome fits
@@ -75,11 +82,11 @@ module _ (s x : List ℕ) where
       absurd (omega arith))
 
   -- a refusal leaves the lent listing as it was
-  pub refused-keeps : (n : ℕ) → jobResult s x .answer ≡ answer.Refused n → jobResult s x .out ≡ x
+  pub refused-keeps : (n : ℕ) (out : List ℕ) → Ends (jobResult s x) (answer.Refused n) out → out ≡ x
   unfolding refusedAs
-  refused-keeps n e =
-      let h = refused-heard n e in
-      ap (λ (y : Result). y .out) (told-some (λ z. omega (arith, h .0, h .1)))
+  refused-keeps n out E =
+      let h = refused-heard n (sym (E .heard)) in
+      E .left ∙ ap (λ (y : Result). y .out) (told-some (λ z. omega (arith, h .0, h .1)))
 
   -- the lowest number is heard, 13 before all: n is heard exactly where it is the lowest of the tests that fail
   pub lowest-heard : (n : ℕ) → (jobResult s x .answer ≡ answer.Refused n) ↔ Lowest (jobTests s (length x)) n
@@ -124,6 +131,16 @@ module _ (s x : List ℕ) where
     pub listing-is : jobResult s x ≡ listedAs (listingOf (listedOf s)) x
     listing-is = told-none (listed-none n e)
 
+    -- it stands at the front of the lent listing, n bytes of it, and what lies past them is as it was
+    pub listing-stands : (take n (jobResult s x .out) ≡ listingOf (listedOf s)) × (drop n (jobResult s x .out) ≡ drop n x)
+    unfolding listedAs put
+    listing-stands =
+        let l = listingOf (listedOf s) in
+        let z : length l ≡ n = sym (accepted-exactly n .0 e .1) in
+        let k : 0 + length l ≡ n = omega arith in
+        let o : jobResult s x .out ≡ l ++ drop (0 + length l) x = ap (λ (y : Result). y .out) listing-is in
+        (ap (take n) o ∙ take-at l _ n z, ap (drop n) o ∙ drop-at l _ n z ∙ ap (λ (j : ℕ). drop j x) k)
+
     pass : AllPass (jobTests s (length x))
     pass = accepted-exactly n .0 e .0
 
@@ -146,3 +163,25 @@ module _ (s x : List ℕ) where
     total-before =
         rotas.total-before (readyOf s) (drawsOf s) (ownersOf s) (sound s (length x) pass) (free s (length x) pass)
         ∙ demand-is s (length x) pass
+
+    -- the targets that are listed add up to it too
+    pub targets-total : sumℤ (take (listedOf s .people) (listedOf s .targets)) ≡ pos (baseTotal s)
+    unfolding listedOf
+    targets-total = targets-add s (length x) pass ∙ ap pos (demand-is s (length x) pass)
+
+-- the total, over the records of the file
+pub base-total-read : (s : List ℕ) (J : JobFile s)
+    → baseTotal s
+    ≡ sum (length (bodies 2 (J .records))) (λ k. le 4 (getD (bodies 2 (J .records)) k []) 4 - le 4 (getD (bodies 2 (J .records)) k []) 0)
+unfolding baseTotal
+base-total-read s J =
+    let at = getD (jobStarts s) 1 0 in
+    let n = counts-read s J 1 (lit< tt) in
+    let entry : (off k : ℕ) → off + 4 ≤ 8 → k < getD (jobCounts s) 1 0
+    → le 4 s (at + (4 + off) + k * 12) ≡ le 4 (getD (bodies 2 (J .records)) k []) off =
+    λ off k r h.
+    let z : at + (4 + off) + k * 12 ≡ at + k * 12 + (4 + off) = omega arith in
+    ap (le 4 s) z ∙ fields-read s J 1 k off 4 (lit< tt) (omega (arith, n)) r in
+    sum-same (getD (jobCounts s) 1 0) _ (λ k. le 4 (getD (bodies 2 (J .records)) k []) 4 - le 4 (getD (bodies 2 (J .records)) k []) 0)
+    (λ k h. ap₂ _-_ (entry 4 k (lit≤ tt) h) (entry 0 k (lit≤ tt) h))
+    ∙ ap (λ (m : ℕ). sum m (λ k. le 4 (getD (bodies 2 (J .records)) k []) 4 - le 4 (getD (bodies 2 (J .records)) k []) 0)) n
