@@ -13,6 +13,7 @@ use Rattle.paper.specs.Limits.{peopleOk, slotCountOk, orElse}
 use Rattle.paper.specs.Count.{all, sum}
 use Rattle.paper.proofs.Logic.{by-test, both, and-true, cond-zero, people-says, slot-count-says}
 use Rattle.paper.proofs.Count.{length-over, getD-over, sum-same}
+use Rattle.slotset.specs.Slots.{slot}
 use Rattle.slots.specs.Lent.{slotRoomOk, slotsOk, minutesAt, demandOf}
 use Rattle.slots.specs.Ranges.{rangeCountOk, rangeRoomOk, rangesOk}
 use Rattle.slots.specs.Atomic as atomic
@@ -43,7 +44,7 @@ use Rattle.job.specs.Heard.{listedOf}
 use Rattle.job.specs.Heard.{baseTotal, jobTests}
 use Rattle.job.proofs.Files.{length-floats}
 use Rattle.job.proofs.Tests.{Numbered, Rising, stage}
-use Rattle.job.proofs.Passing.{few-says, atoms-no, AtomsSound, atoms-sound, avail-length, frozen-length, lent-room, shares-no}
+use Rattle.job.proofs.Passing.{few-says, atoms-no, AtomsSound, atoms-sound, avail-length, frozen-length, frozen-at, lent-room, shares-no}
 use Rattle.job.proofs.Passing.{units-no}
 use Rattle.job.proofs.Passing.{units-right, units-fit, lower-is, owners-known, owners-even, narrowed-length}
 use Rattle.job.proofs.Rotas.{RotaSound, start-no, play-no, uncovered-told, total-before, total-after}
@@ -406,3 +407,12 @@ module _ (s : List ℕ) (room : ℕ) (A : AllPass (jobTests s room)) where
   pub targets-add : sumℤ (take (readyOf s .people) (readyOf s .targets)) ≡ pos (demandOf (readyOf s .slots) (readyOf s .starts) (readyOf s .ends))
   unfolding readyOf readyIn sharesIn
   targets-add = targets-add-up _ (replicate 32 (pos 0)) shares-none
+
+  -- slots that end by the instant of the freeze record are frozen
+  pub frozen-there : (getD (jobCounts s) 4 0 ≡ 0 → ⊥) → (k : ℕ) → k < readyOf s .slots
+      → getD (readyOf s .ends) k 0 ≤ instantIn s (jobCounts s) (jobStarts s) → slot (readyOf s .frozen) 0 k ≡ 1
+  unfolding readyOf readyIn
+  frozen-there some k h e =
+      let B = atoms-right s few atoms in
+      let a = atomsIn s (jobCounts s) (jobStarts s) in
+      frozen-at (valueOf (a .answer)) (a .starts) (a .ends) (getD (jobCounts s) 4 0) _ (B .count-ok) (B .lent) some k h e

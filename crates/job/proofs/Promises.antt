@@ -10,12 +10,14 @@ use lib.Dec.{eqb, lit<, lit≤}
 use lib.IntN.{pos}
 use lib.ListN.{length, getD, take, drop}
 use lib.Seq.{take-at, drop-at}
+use Rattle.paper.specs.Limits.{nobody}
 use Rattle.paper.specs.Count.{sum, all}
 use Rattle.paper.proofs.Logic.{by-test, both}
 use Rattle.paper.proofs.Count.{all-each, sum-same}
 use Rattle.targets.specs.Remainder.{sumℤ}
 use Rattle.rota.specs.declared.Figure.the-variants as figure
-use Rattle.rota.specs.Derived.{uncovered}
+use Rattle.rota.specs.Derived.{knownBy, uncovered}
+use Rattle.rota.specs.Recount.{freeFor}
 use Rattle.rota.specs.Entries as rota
 use Rattle.job.specs.declared.JobAnswer.{JobAnswer}
 use Rattle.job.specs.declared.JobAnswer.the-variants as answer
@@ -23,12 +25,12 @@ use Rattle.job.specs.Fields.{le}
 use Rattle.job.specs.Records.{bodies}
 use Rattle.job.specs.File.{jobCounts, jobStarts, JobFile}
 use Rattle.job.specs.Listing.{listingOf, put}
-use Rattle.job.specs.Outcome.{Result, refusedAs, listedAs, orRefused, Ends, planOf, jobResult}
+use Rattle.job.specs.Outcome.{Result, refusedAs, listedAs, Ends, planOf, instantIn, jobResult}
 use Rattle.job.specs.Heard.{heardOf, rank, testAt, Lowest, AllPass, readyOf, drawsOf, ownersOf, startedOf, playedOf, listedOf}
 use Rattle.job.specs.Heard.{baseTotal}
 use Rattle.job.specs.Heard.{jobTests}
 use Rattle.job.proofs.Tests.{heard-none, heard-lowest}
-use Rattle.job.proofs.Heard.{job-told, numbered, rising, free, sound, demand-is, targets-add}
+use Rattle.job.proofs.Heard.{job-told, numbered, rising, free, sound, demand-is, targets-add, frozen-there}
 use Rattle.job.proofs.Layouts.{counts-read, fields-read}
 use Rattle.job.proofs.Rotas as rotas
 
@@ -168,6 +170,28 @@ module _ (s x : List ℕ) where
     pub targets-total : sumℤ (take (listedOf s .people) (listedOf s .targets)) ≡ pos (baseTotal s)
     unfolding listedOf
     targets-total = targets-add s (length x) pass ∙ ap pos (demand-is s (length x) pass)
+
+    -- ---- what the draws keep, slot by slot: the owners listed, beside those of the file's records
+
+    -- a slot that ends by the instant of the freeze record keeps its owner
+    pub frozen-keeps : (getD (jobCounts s) 4 0 ≡ 0 → ⊥) → (k : ℕ) → k < listedOf s .slots
+        → getD (listedOf s .ends) k 0 ≤ instantIn s (jobCounts s) (jobStarts s) → getD (listedOf s .owners) k 0 ≡ getD (ownersOf s) k 0
+    unfolding listedOf playedOf startedOf
+    frozen-keeps some k h b =
+        rotas.frozen-keeps (readyOf s) (drawsOf s) (ownersOf s) (sound s (length x) pass) (free s (length x) pass) k h
+        (eq-eqb _ 1 (frozen-there s (length x) pass some k h b))
+
+    -- a covered slot stays covered
+    pub stays-covered : (k : ℕ) → k < listedOf s .slots → (getD (ownersOf s) k 0 ≡ nobody → ⊥) → getD (listedOf s .owners) k 0 ≡ nobody → ⊥
+    unfolding listedOf playedOf startedOf
+    stays-covered k h = rotas.stays-covered (readyOf s) (drawsOf s) (ownersOf s) (sound s (length x) pass) (free s (length x) pass) k h
+
+    -- every owner is nobody, or known and available
+    pub owners-fit : (k : ℕ) → k < listedOf s .slots
+        → (knownBy (listedOf s .people) (getD (listedOf s .owners) k 0) ≡ true)
+        × (freeFor (readyOf s .avail) (getD (listedOf s .owners) k 0) k ≡ true)
+    unfolding listedOf playedOf startedOf
+    owners-fit k h = rotas.owners-fit (readyOf s) (drawsOf s) (ownersOf s) (sound s (length x) pass) (free s (length x) pass) k h
 
 -- the total, over the records of the file
 pub base-total-read : (s : List ℕ) (J : JobFile s)
