@@ -1,26 +1,24 @@
 -- What each stage of a job hears where those before it heard nothing, and what it leaves known. Assumes nothing.
-use mathlib.Core.Path.{_≡_, refl, sym, ap, ap₂, _∙_, subst}
-use mathlib.Core.Logic.{⊎-elim}
-use mathlib.Core.Bool.{Bool, true, false, cond, _&&_, _||_}
-use mathlib.Core.List.{List, [], _++_}
-use Prim.Native.Nat.{ℕ, zero, suc, _+_, _-_, _*_, _≤_, _<_}
+use mathlib.Core.Path.{_≡_, refl, sym, ap, _∙_}
+use mathlib.Core.Bool.{Bool, true, false, cond, _||_}
+use mathlib.Core.List.{List, _++_}
+use Prim.Native.Nat.{ℕ, zero, suc, _+_, _-_, _≤_, _<_}
 use native.Mathlib.Omega.{arith}
-use borrow.Author.Tests.{le-leb, leb-true, eq-eqb, ne-eqb, eqb-true, eqb-false, lt-ltb, ltb-true, ltb-false}
+use borrow.Author.Tests.{le-leb, leb-true, eq-eqb, eqb-true, eqb-false, lt-ltb, ltb-true}
 use lib.Dec.{leb, ltb, eqb}
-use lib.IntN.{ℤ, pos}
+use lib.IntN.{ℤ}
 use lib.ListN.{length, getD, set, replicate, length-append, length-replicate, getD-replicate, length-set}
 use lib.Seq.{getD-set-same, getD-set-other}
 use Rattle.paper.specs.Limits.{peopleOk, slotCountOk, orElse, nobody}
-use Rattle.paper.specs.Count.{all, allIn, over}
+use Rattle.paper.specs.Count.{all}
 use Rattle.paper.proofs.Logic.{by-test, both, three, four, slot-count-says}
 use Rattle.paper.proofs.Count.{all-each, in-each, length-over, getD-over}
 use Rattle.slotset.specs.Answers.{countedAs, wordsAs}
 use Rattle.slotset.specs.Slots.{slot, putSlot}
 use Rattle.slots.specs.Lent.{slotRoomOk, slotsOk, slotOkAt, demandOf}
 use Rattle.slots.specs.Ranges.{Ranges, rangeCountOk, rangeRoomOk, rangesOk}
-use Rattle.slots.specs.Merged.{written}
 use Rattle.slots.specs.Atomic as atomic
-use Rattle.slots.specs.Availability.{availabilityOf, availabilityNo, availableBit, rows}
+use Rattle.slots.specs.Availability.{availabilityOf, availabilityNo, availableBit}
 use Rattle.slots.specs.Freeze.{endsBy, marked, freezeNo, freezeOf}
 use Rattle.slots.proofs.AvailLaws.{length-rows}
 use Rattle.slots.proofs.Meaning.{frozen-marked, atoms-lent, atoms-lent-demand, atoms-count-ok}

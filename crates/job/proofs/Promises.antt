@@ -1,7 +1,7 @@
 -- What a job promises, each by name, of every file and every lent listing. Assumes nothing.
 use mathlib.Core.Path.{_≡_, refl, sym, ap, ap₂, _∙_}
 use mathlib.Core.Logic.{_↔_}
-use mathlib.Core.Bool.{Bool, true, false, cond, not, _&&_}
+use mathlib.Core.Bool.{Bool, true, cond, not, _&&_}
 use mathlib.Core.List.{List, [], _++_}
 use Prim.Native.Nat.{ℕ, zero, suc, _+_, _-_, _*_, _≤_, _<_}
 use native.Mathlib.Omega.{arith}
@@ -26,7 +26,7 @@ use Rattle.job.specs.Records.{bodies}
 use Rattle.job.specs.File.{jobCounts, jobStarts, JobFile}
 use Rattle.job.specs.Listing.{listingOf, put}
 use Rattle.job.specs.Outcome.{Result, refusedAs, listedAs, Ends, planOf, instantIn, jobResult}
-use Rattle.job.specs.Heard.{heardOf, rank, testAt, Lowest, AllPass, readyOf, drawsOf, ownersOf, startedOf, playedOf, listedOf}
+use Rattle.job.specs.Heard.{heardOf, testAt, Lowest, AllPass, readyOf, drawsOf, ownersOf, startedOf, playedOf, listedOf}
 use Rattle.job.specs.Heard.{baseTotal}
 use Rattle.job.specs.Heard.{jobTests}
 use Rattle.job.proofs.Tests.{heard-none, heard-lowest}

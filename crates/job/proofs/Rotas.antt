@@ -1,11 +1,11 @@
 -- The rota of a job whose owners are known: 12 is the one refusal left, and minutes and uncovered ones add up. Assumes nothing.
-use mathlib.Core.Path.{_≡_, refl, sym, ap, ap₂, _∙_, subst}
-use mathlib.Core.Bool.{Bool, true, false, cond, _&&_}
-use mathlib.Core.List.{List, []}
-use Prim.Native.Nat.{ℕ, zero, suc, _+_, _-_, _*_, _≤_, _<_}
+use mathlib.Core.Path.{_≡_, sym, ap, ap₂, _∙_}
+use mathlib.Core.Bool.{Bool, true, cond}
+use mathlib.Core.List.{List}
+use Prim.Native.Nat.{ℕ, _+_, _-_, _*_, _≤_, _<_}
 use native.Mathlib.Omega.{arith}
-use borrow.Author.Tests.{le-leb, eq-eqb, eqb-true}
-use lib.Dec.{leb, eqb}
+use borrow.Author.Tests.{le-leb, eq-eqb}
+use lib.Dec.{eqb}
 use lib.ListN.{length, getD, replicate, length-replicate}
 use Rattle.paper.specs.Limits.{peopleOk, slotCountOk, orElse, nobody}
 use Rattle.slotset.specs.Slots.{slot}
@@ -14,7 +14,6 @@ use Rattle.paper.proofs.Logic.{both, and-true, people-says, slot-count-says}
 use Rattle.paper.proofs.Count.{each-all, all-each, sum-same}
 use Rattle.slots.specs.Lent.{slotRoomOk, slotsOk, slotOkAt, demandOf}
 use Rattle.units.specs.Units.{unitStart, unitEnd, unitsOk}
-use Rattle.rota.specs.declared.Figure.{Figure}
 use Rattle.rota.specs.declared.Figure.the-variants as figure
 use Rattle.rota.specs.Derived.{Plan, Derived, derived, knownBy, worked, uncovered, afresh, InStep}
 use Rattle.rota.specs.Recount.{freeFor, knownAt, freeAt, recounts}
@@ -24,7 +23,7 @@ use Rattle.rota.specs.Entries as rota
 use Rattle.rota.proofs.Minutes.{minutes-total}
 use Rattle.rota.proofs.Plays.{play-length}
 use Rattle.rota.proofs.Steps.{afresh-step}
-use Rattle.rota.proofs.Entered.{Grounds, grounds, says-recount, PlayAsks, play-asks}
+use Rattle.rota.proofs.Entered.{says-recount, PlayAsks, play-asks}
 use Rattle.rota.proofs.Promises.{owners-known, owners-available, frozen-slots-keep, covered-stays}
 use Rattle.job.specs.Outcome.{Ready, Draws, planOf, startOf, playOf}
 
