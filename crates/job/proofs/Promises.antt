@@ -13,7 +13,8 @@ use lib.Seq.{take-at, drop-at}
 use Rattle.paper.specs.Limits.{nobody}
 use Rattle.paper.specs.Count.{sum, all}
 use Rattle.paper.proofs.Logic.{by-test, both}
-use Rattle.paper.proofs.Count.{all-each, sum-same}
+use Rattle.paper.proofs.Count.{all-each, sum-part, sum-same}
+use Rattle.slots.proofs.LentLaws.{slots-sound}
 use Rattle.targets.specs.Remainder.{sumℤ}
 use Rattle.rota.specs.declared.Figure.the-variants as figure
 use Rattle.rota.specs.Derived.{knownBy, uncovered}
@@ -24,13 +25,15 @@ use Rattle.job.specs.declared.JobAnswer.the-variants as answer
 use Rattle.job.specs.Fields.{le}
 use Rattle.job.specs.Records.{bodies}
 use Rattle.job.specs.File.{jobCounts, jobStarts, JobFile}
-use Rattle.job.specs.Listing.{listingOf, put}
+use Rattle.job.specs.Listing.{digits, listingOf, put}
+use Rattle.job.specs.Digits.{readDigits}
 use Rattle.job.specs.Outcome.{Result, refusedAs, listedAs, Ends, planOf, instantIn, jobResult}
 use Rattle.job.specs.Heard.{heardOf, testAt, Lowest, AllPass, readyOf, drawsOf, ownersOf, startedOf, playedOf, listedOf}
 use Rattle.job.specs.Heard.{baseTotal}
 use Rattle.job.specs.Heard.{jobTests}
 use Rattle.job.proofs.Tests.{heard-none, heard-lowest}
 use Rattle.job.proofs.Heard.{job-told, numbered, rising, free, sound, demand-is, targets-add, frozen-there}
+use Rattle.job.proofs.Digits.{digits-value}
 use Rattle.job.proofs.Layouts.{counts-read, fields-read}
 use Rattle.job.proofs.Rotas as rotas
 
@@ -165,6 +168,23 @@ module _ (s x : List ℕ) where
     total-before =
         rotas.total-before (readyOf s) (drawsOf s) (ownersOf s) (sound s (length x) pass) (free s (length x) pass)
         ∙ demand-is s (length x) pass
+
+    -- each of these numbers is at most 100,000,000, so that its digits read back: the total as it stands in the bytes of the listing
+    total-small : baseTotal s ≤ 100000000
+    total-small =
+        let R = readyOf s in
+        omega (arith, demand-is s (length x) pass, slots-sound (R .slots) (R .starts) (R .ends) (sound s (length x) pass .lent) .demand-fits)
+
+    pub total-read : sum (listedOf s .people) (λ p. readDigits (digits (getD (listedOf s .minutes) p 0)))
+        + readDigits (digits (listedOf s .uncovered)) ≡ baseTotal s
+    total-read =
+        let L = listedOf s in
+        let m : ℕ → ℕ = λ p. getD (L .minutes) p 0 in
+        ap₂ _+_
+        (sum-same (L .people) (λ p. readDigits (digits (m p))) m
+        (λ p h. digits-value (m p) (omega (arith, total, total-small, sum-part (L .people) p m h))))
+        (digits-value (L .uncovered) (omega (arith, total, total-small)))
+        ∙ total
 
     -- the targets that are listed add up to it too
     pub targets-total : sumℤ (take (listedOf s .people) (listedOf s .targets)) ≡ pos (baseTotal s)
