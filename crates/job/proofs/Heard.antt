@@ -2,17 +2,18 @@
 use mathlib.Core.Path.{_≡_, refl, sym, ap, ap₂, _∙_, subst}
 use mathlib.Core.Bool.{Bool, true, false, cond, _&&_}
 use mathlib.Core.List.{List, [], _∷_, _++_}
-use Prim.Native.Nat.{ℕ, zero, suc, _+_, _-_, _*_, _≤_, _<_}
+use Prim.Native.Nat.{ℕ, zero, _+_, _-_, _*_, _≤_, _<_}
 use native.Mathlib.Omega.{arith}
 use borrow.Author.Tests.{le-leb, leb-true, eq-eqb}
-use lib.Dec.{leb, eqb, lit<}
+use lib.Dec.{leb, lit<, lit≤}
 use lib.Ieee.{Float, fin, binary64, ofBits}
 use lib.IntN.{pos}
-use lib.ListN.{length, getD, replicate, length-replicate}
-use Rattle.paper.specs.Limits.{peopleOk, slotCountOk, countsOk, orElse}
+use lib.ListN.{length, getD, take, replicate, length-replicate}
+use Rattle.paper.specs.Limits.{peopleOk, countsOk, orElse}
 use Rattle.paper.specs.Count.{all, sum}
-use Rattle.paper.proofs.Logic.{by-test, and-true, cond-zero, people-says, slot-count-says}
+use Rattle.paper.proofs.Logic.{both, and-true, cond-zero, people-says, slot-count-says}
 use Rattle.paper.proofs.Count.{length-over, getD-over, sum-same}
+use Rattle.slotset.specs.Slots.{slot}
 use Rattle.slots.specs.Lent.{slotRoomOk, slotsOk, minutesAt, demandOf}
 use Rattle.slots.specs.Ranges.{rangeCountOk, rangeRoomOk, rangesOk}
 use Rattle.slots.specs.Atomic as atomic
@@ -20,26 +21,31 @@ use Rattle.units.specs.Settings.{settingsOk}
 use Rattle.units.specs.Units.{unitsOk}
 use Rattle.units.proofs.Units.{unit-within}
 use Rattle.targets.specs.Figures.{allFiguresOk}
+use Rattle.targets.specs.Remainder.{sumℤ}
 use Rattle.targets.specs.Outcome as targets
+use Rattle.targets.proofs.Promises.{targets-add-up}
 use Rattle.rota.specs.declared.Figure.{Figure}
-use Rattle.rota.specs.Derived.{uncovered}
 use Rattle.rota.specs.Recount.{freeAt}
-use Rattle.rota.specs.Entries as rota
 use Rattle.job.specs.Fields.{le}
 use Rattle.job.specs.File.{jobCounts, jobStarts, fileOk}
 use Rattle.job.specs.Columns.{column, priorsColumn, capacitiesColumn}
 use Rattle.job.specs.Listing.{listed, listingOf}
-use Rattle.job.specs.Stages.{jobCountsOk, countsNo, settingsIn, frozenIn, noOf, valueOf, unitsNoOf, lowerNo}
-use Rattle.job.specs.Stages.{placed, allEven, allKnown, ownersNo, narrowed}
-use Rattle.job.specs.Outcome.{Result, Ready, Draws, planOf, startOf, playOf, figureValue, textOf, listedAs, refusedAs, orRefused}
-use Rattle.job.specs.Outcome.{baseIn, peopleIn, rangesIn, columnOf, capacitiesIn, priorsIn, drawsIn, instantIn, atomsIn, availIn, sharesIn}
-use Rattle.job.specs.Outcome.{unitsIn, readyIn, playResult, rotaResult, ownersResult, slotsResult, atomsResult, countedResult, jobResult}
-use Rattle.job.specs.Heard.{Test, test, heardOf, baseOf, readyOf, drawsOf, writtenOf, ownersOf, startedOf, playedOf, listedOf, baseTotal, jobTests}
+use Rattle.job.specs.Stages.{jobCountsOk, countsNo, settingsIn, noOf, valueOf, unitsNoOf, lowerNo}
+use Rattle.job.specs.Stages.{allEven, allKnown, ownersNo}
+use Rattle.job.specs.Outcome.{Result, startOf, figureValue, textOf, listedAs, refusedAs, orRefused}
+use Rattle.job.specs.Outcome.{baseIn, peopleIn, rangesIn, capacitiesIn, priorsIn, instantIn, atomsIn, availIn}
+use Rattle.job.specs.Outcome.{sharesIn}
+use Rattle.job.specs.Outcome.{unitsIn, readyIn, playResult, rotaResult, ownersResult, slotsResult, atomsResult, countedResult}
+use Rattle.job.specs.Outcome.{jobResult}
+use Rattle.job.specs.Heard.{Test, test, heardOf, AllPass, baseOf, readyOf, drawsOf, writtenOf, ownersOf, startedOf, playedOf}
+use Rattle.job.specs.Heard.{listedOf}
+use Rattle.job.specs.Heard.{baseTotal, jobTests}
 use Rattle.job.proofs.Files.{length-floats}
-use Rattle.job.proofs.Tests.{Numbered, stage}
-use Rattle.job.proofs.Passing.{few-says, atoms-no, AtomsSound, atoms-sound, avail-length, frozen-length, lent-room, shares-no, units-no}
+use Rattle.job.proofs.Tests.{Numbered, Rising, stage}
+use Rattle.job.proofs.Passing.{few-says, atoms-no, AtomsSound, atoms-sound, avail-length, frozen-length, frozen-at, lent-room, shares-no}
+use Rattle.job.proofs.Passing.{units-no}
 use Rattle.job.proofs.Passing.{units-right, units-fit, lower-is, owners-known, owners-even, narrowed-length}
-use Rattle.job.proofs.Rotas.{RotaSound, start-no, play-no, uncovered-told, total-before, total-after}
+use Rattle.job.proofs.Rotas.{RotaSound, start-no, play-no, uncovered-told}
 
 -- ---- columns have the room that their counts may ask for
 
@@ -91,7 +97,8 @@ module _ (s : List ℕ) where
       le-leb 1024 (length (replicate {A = ℕ} 1024 0)) (omega (arith, length-replicate {A = ℕ} 1024 0)) in
       and-true _ _ (and-true _ _ (column-room 4 s _ _ _ (baseIn c) n) (column-room 4 s _ _ _ (baseIn c) n))
       (and-true _ _
-      (and-true _ _ (column-room 2 s _ _ _ (getD c 3 0) r) (and-true _ _ (column-room 4 s _ _ _ (getD c 3 0) r) (column-room 4 s _ _ _ (getD c 3 0) r)))
+      (and-true _ _ (column-room 2 s _ _ _ (getD c 3 0) r) (and-true _ _ (column-room 4 s _ _ _ (getD c 3 0) r)
+      (column-room 4 s _ _ _ (getD c 3 0) r)))
       (and-true _ _ full full))
 
   -- 3, 4 and 5
@@ -159,11 +166,17 @@ module _ (s : List ℕ) where
         (and-true _ _ (priors-room s _ 16 (peopleIn c) (peopleIn c) people-few)
         (le-leb (peopleIn c) (length (replicate 32 (pos 0))) (omega (arith, people-few, length-replicate 32 (pos 0)))))))
 
+    shares-heard : sharesIn s (jobCounts s) (jobStarts s) (rangesIn s (jobCounts s) (jobStarts s)) n S E .number
+        ≡ orElse (allFiguresOk (peopleIn (jobCounts s)) (capacitiesIn s (jobCounts s) (jobStarts s)) (priorsIn s (jobCounts s) (jobStarts s))) 6
+        (orElse (leb (settingsIn s .fairness) 1) 7 0)
+    unfolding sharesIn
+    shares-heard = shares-no _ (replicate 32 (pos 0)) shares-counts shares-room (A .lent)
+
     figures-heard : lowerNo (sharesIn s (jobCounts s) (jobStarts s) (rangesIn s (jobCounts s) (jobStarts s)) n S E .number)
         (unitsNoOf (unitsIn s n S E .answer)) ≡ heardOf figureTests
-    unfolding heardOf sharesIn unitsIn
+    unfolding heardOf unitsIn
     figures-heard =
-        ap₂ lowerNo (shares-no _ (replicate 32 (pos 0)) shares-counts shares-room (A .lent))
+        ap₂ lowerNo shares-heard
         (units-no (settingsIn s) n S E (replicate 1024 0) (A .count-ok) (A .lent) slots-few)
         ∙ lower-is (settingsIn s) (allFiguresOk (peopleIn c) (capacitiesIn s c b) (priorsIn s c b))
 
@@ -214,7 +227,8 @@ module _ (s : List ℕ) where
       let x = few-says (baseIn c) (peopleIn c) (getD c 3 0) (getD c 6 0) few in
       let slots = slot-count-says (R .slots) (A .count-ok) .1 in
       let ps = people-few few (R .slots) (R .starts) (R .ends) A in
-      let ok = cond-zero (settingsOk (settingsIn s)) 0 6 (cond-zero (allFiguresOk (peopleIn c) (capacitiesIn s c b) (priorsIn s c b)) _ 5 f .1) .0 in
+      let ok = cond-zero (settingsOk (settingsIn s)) 0 6 (cond-zero
+      (allFiguresOk (peopleIn c) (capacitiesIn s c b) (priorsIn s c b)) _ 5 f .1) .0 in
       let e = cond-zero (allEven (R .slots) (R .units) (R .firsts) (writtenOf s)) _ 9 o in
       let k = cond-zero (allKnown s (getD b 5 0) (getD c 5 0) (R .slots) (R .people)) 0 10 (e .1) .0 in
       let u = units-there few A ok in
@@ -236,3 +250,167 @@ module _ (s : List ℕ) where
         even = owners-even (R .slots) (R .units) (R .firsts) (writtenOf s) slots (e .0)
             (unit-within (R .slots) (R .units) (R .firsts) (u .0));
       }
+
+  -- ---- the outcome, the last stage first
+
+  module _ (x : List ℕ) where
+    abbrev text : Result
+    text = listedAs (listingOf (listedOf s)) x
+
+    abbrev startTests : List Test
+    startTests = test 12 (all (readyOf s .slots) (freeAt (readyOf s .avail) (ownersOf s))) ∷ []
+
+    play-told : RotaSound (readyOf s) (drawsOf s) (ownersOf s) → all (readyOf s .slots) (freeAt (readyOf s .avail) (ownersOf s)) ≡ true
+        → playResult (readyOf s) (drawsOf s) (playedOf s) x ≡ listedAs (listingOf (listedOf s)) x
+    unfolding playResult textOf listedOf playedOf startedOf
+    play-told H free =
+        let R = readyOf s in
+        let y = playedOf s in
+        ap (λ (t : Bool). cond t (listedAs (textOf R (drawsOf s) y) x) (refusedAs (y .number) x))
+        (eq-eqb (y .number) 0 (play-no R (drawsOf s) (ownersOf s) H free))
+        ∙ ap (λ (f : Figure). listedAs (listingOf (listed (R .slots) (R .starts) (R .ends) (y .owners) (R .people) (y .derived .minutes)
+        (R .targets) (drawsOf s .count) (y .answers) (figureValue f))) x) (uncovered-told R (drawsOf s) (ownersOf s) H free)
+
+    rota-told : RotaSound (readyOf s) (drawsOf s) (ownersOf s)
+        → rotaResult (readyOf s) (drawsOf s) (ownersOf s) x ≡ orRefused (heardOf startTests) x text
+    unfolding rotaResult heardOf playedOf startedOf
+    rota-told H =
+        stage startTests [] (lit< tt, tt) (startOf (readyOf s) (ownersOf s) .number) x
+        (playResult (readyOf s) (drawsOf s) (playedOf s) x) text
+        (start-no (readyOf s) (drawsOf s) (ownersOf s) H)
+        (λ z. play-told H (cond-zero (all (readyOf s .slots) (freeAt (readyOf s .avail) (ownersOf s))) 0 11 z .0))
+
+    owners-told : Few → heardOf atomTests ≡ 0 → heardOf figureTests ≡ 0
+        → ownersResult s (getD (jobStarts s) 5 0) (getD (jobCounts s) 5 0) (readyOf s) (drawsOf s) x
+        ≡ orRefused (heardOf (ownerTests ++ startTests)) x text
+    unfolding ownersResult ownersNo heardOf ownersOf writtenOf
+    owners-told few a f =
+        let R = readyOf s in
+        stage ownerTests startTests (lit< tt, (lit< tt, tt))
+        (ownersNo s (getD b 5 0) (getD c 5 0) (R .slots) (R .people) (R .units) (R .firsts) (writtenOf s)) x
+        (rotaResult R (drawsOf s) (ownersOf s) x) text refl (λ o. rota-told (rota-sound few a f o))
+
+    slots-told : Few → heardOf atomTests ≡ 0
+        → slotsResult s (jobCounts s) (jobStarts s) (rangesIn s (jobCounts s) (jobStarts s)) (readyOf s .slots) (readyOf s .starts)
+        (readyOf s .ends) x ≡ orRefused (heardOf (figureTests ++ (ownerTests ++ startTests))) x text
+    unfolding slotsResult readyOf readyIn drawsOf
+    slots-told few a =
+        let R = readyOf s in
+        stage figureTests (ownerTests ++ startTests) (lit< tt, (lit< tt, tt))
+        (lowerNo (sharesIn s c b (rangesIn s c b) (R .slots) (R .starts) (R .ends) .number)
+        (unitsNoOf (unitsIn s (R .slots) (R .starts) (R .ends) .answer))) x
+        (ownersResult s (getD b 5 0) (getD c 5 0) (readyOf s) (drawsOf s) x) text
+        (figures-heard few (R .slots) (R .starts) (R .ends) (atoms-right few a)) (owners-told few a)
+
+    atoms-told : Few → atomsResult s (jobCounts s) (jobStarts s) x
+        ≡ orRefused (heardOf (atomTests ++ (figureTests ++ (ownerTests ++ startTests)))) x text
+    unfolding atomsResult readyOf readyIn
+    atoms-told few =
+        stage atomTests (figureTests ++ (ownerTests ++ startTests)) (lit< tt, (lit< tt, (lit< tt, tt)))
+        (noOf (atomsIn s c b .answer)) x
+        (slotsResult s c b (rangesIn s c b) (valueOf (atomsIn s c b .answer)) (atomsIn s c b .starts) (atomsIn s c b .ends) x) text
+        (atoms-heard few) (slots-told few)
+
+    abbrev countTests : List Test
+    countTests =
+        test 1 (jobCountsOk (baseIn (jobCounts s)) (peopleIn (jobCounts s)) (getD (jobCounts s) 3 0) (getD (jobCounts s) 6 0))
+        ∷ test 2 (leb 44535 (length x)) ∷ []
+
+    counted-told : countedResult s (jobCounts s) (jobStarts s) x
+        ≡ orRefused (heardOf (countTests ++ (atomTests ++ (figureTests ++ (ownerTests ++ startTests))))) x text
+    unfolding countedResult countsNo heardOf
+    counted-told =
+        stage countTests (atomTests ++ (figureTests ++ (ownerTests ++ startTests))) (lit< tt, (lit< tt, tt))
+        (countsNo (baseIn c) (peopleIn c) (getD c 3 0) (getD c 6 0) (length x)) x (atomsResult s c b x) text refl
+        (λ z. atoms-told (cond-zero (jobCountsOk (baseIn c) (peopleIn c) (getD c 3 0) (getD c 6 0)) _ 0 z .0))
+
+    file-told : jobResult s x ≡ orRefused (orElse (fileOk s) 13 0) x (countedResult s (jobCounts s) (jobStarts s) x)
+    unfolding jobResult
+    file-told = go (fileOk s) (countedResult s c b x)
+      where
+        go : (ok : Bool) (y : Result) → cond ok y (refusedAs 13 x) ≡ orRefused (orElse ok 13 0) x y
+        go true y = refl
+        go false y = refl
+
+    -- the whole: the first test that fails is heard; where none does, the listing
+    pub job-told : jobResult s x ≡ orRefused (heardOf (jobTests s (length x))) x (listedAs (listingOf (listedOf s)) x)
+    unfolding jobTests heardOf
+    job-told =
+        file-told
+        ∙ stage (test 13 (fileOk s) ∷ []) (countTests ++ (atomTests ++ (figureTests ++ (ownerTests ++ startTests)))) (lit< tt, tt)
+        (orElse (fileOk s) 13 0) x (countedResult s c b x) text refl (λ _. counted-told)
+
+-- ---- a job that passes all its tests
+
+-- the numbers of the tests, in their order: none is 0, 13 comes first and the others rise
+pub numbered : (s : List ℕ) (room : ℕ) → Numbered (jobTests s room)
+unfolding jobTests
+numbered s room =
+    (lit< tt, (lit< tt, (lit< tt, (lit< tt, (lit< tt, (lit< tt, (lit< tt, (lit< tt, (lit< tt, (lit< tt, (lit< tt, tt)))))))))))
+
+pub rising : (s : List ℕ) (room : ℕ) → Rising 0 (jobTests s room)
+unfolding jobTests
+rising s room =
+    (lit≤ tt, (lit≤ tt, (lit≤ tt, (lit≤ tt, (lit≤ tt, (lit≤ tt, (lit≤ tt, (lit≤ tt, (lit≤ tt, (lit≤ tt, (lit≤ tt, tt)))))))))))
+
+module _ (s : List ℕ) (room : ℕ) (A : AllPass (jobTests s room)) where
+  few : Few s
+  unfolding jobTests
+  few = A 1 (lit< tt)
+
+  pub free : all (readyOf s .slots) (freeAt (readyOf s .avail) (ownersOf s)) ≡ true
+  unfolding jobTests
+  free = A 10 (lit< tt)
+
+  atoms : heardOf (atomTests s) ≡ 0
+  unfolding jobTests heardOf
+  atoms = simp (A 3 (lit< tt), A 4 (lit< tt), A 5 (lit< tt))
+
+  figures : heardOf (figureTests s) ≡ 0
+  unfolding jobTests heardOf
+  figures = simp (A 6 (lit< tt), A 7 (lit< tt))
+
+  owners : heardOf (ownerTests s) ≡ 0
+  unfolding jobTests heardOf
+  owners = simp (A 8 (lit< tt), A 9 (lit< tt))
+
+  pub sound : RotaSound (readyOf s) (drawsOf s) (ownersOf s)
+  sound = rota-sound s few atoms figures owners
+
+  -- the demand of its atomic slots is the total of its base slots
+  base-same : demandOf (baseOf s .slots) (baseOf s .starts) (baseOf s .ends) ≡ baseTotal s
+  unfolding demandOf minutesAt baseTotal baseOf column
+  base-same =
+      let c = jobCounts s in
+      let at = getD (jobStarts s) 1 0 in
+      let n = slot-count-says (baseIn c) (few-says (baseIn c) (peopleIn c) (getD c 3 0) (getD c 6 0) few .0) .1 in
+      let entry : (off k : ℕ) → k < getD c 1 0
+      → getD (column 4 s (at + off) 12 (getD c 1 0)) k 0 ≡ le 4 s (at + off + k * 12) =
+      λ off k h. getD-over (λ j. le 4 s (at + off + j * 12)) (getD c 1 0) (replicate 1024 0) k h
+      (omega (arith, length-replicate {A = ℕ} 1024 0)) in
+      sum-same (getD c 1 0) _ _ (λ k h. ap₂ _-_ (entry 8 k h) (entry 4 k h))
+
+  pub demand-is : demandOf (readyOf s .slots) (readyOf s .starts) (readyOf s .ends) ≡ baseTotal s
+  demand-is = atoms-right s few atoms .demand ∙ base-same
+
+  -- and so is the sum of its targets
+  shares-none : sharesIn s (jobCounts s) (jobStarts s) (rangesIn s (jobCounts s) (jobStarts s)) (readyOf s .slots) (readyOf s .starts)
+      (readyOf s .ends) .number ≡ 0
+  unfolding jobTests settingsOk
+  shares-none =
+      let R = readyOf s in
+      let f = both (leb (settingsIn s .fairness) 1) _ (A 7 (lit< tt)) .0 in
+      shares-heard s few (R .slots) (R .starts) (R .ends) (atoms-right s few atoms) ∙ simp (A 6 (lit< tt), f)
+
+  pub targets-add : sumℤ (take (readyOf s .people) (readyOf s .targets)) ≡ pos (demandOf (readyOf s .slots) (readyOf s .starts) (readyOf s .ends))
+  unfolding readyOf readyIn sharesIn
+  targets-add = targets-add-up _ (replicate 32 (pos 0)) shares-none
+
+  -- slots that end by the instant of the freeze record are frozen
+  pub frozen-there : (getD (jobCounts s) 4 0 ≡ 0 → ⊥) → (k : ℕ) → k < readyOf s .slots
+      → getD (readyOf s .ends) k 0 ≤ instantIn s (jobCounts s) (jobStarts s) → slot (readyOf s .frozen) 0 k ≡ 1
+  unfolding readyOf readyIn
+  frozen-there some k h e =
+      let B = atoms-right s few atoms in
+      let a = atomsIn s (jobCounts s) (jobStarts s) in
+      frozen-at (valueOf (a .answer)) (a .starts) (a .ends) (getD (jobCounts s) 4 0) _ (B .count-ok) (B .lent) some k h e

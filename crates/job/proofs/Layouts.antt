@@ -1,9 +1,9 @@
 -- Rule 13 as the paper says it: the reader accepts the files of right sequences of records, and no other. Assumes nothing.
 use mathlib.Core.Path.{_≡_, refl, sym, ap, ap₂, _∙_}
 use mathlib.Core.Logic.{_↔_, ⊎-elim}
-use mathlib.Core.Bool.{Bool, true, false, _&&_}
+use mathlib.Core.Bool.{Bool, true}
 use mathlib.Core.List.{List, []}
-use Prim.Native.Nat.{ℕ, zero, suc, _+_, _-_, _*_, _≤_, _<_}
+use Prim.Native.Nat.{ℕ, suc, _+_, _-_, _*_, _≤_, _<_}
 use native.Mathlib.Numerals.{add-one}
 use native.Mathlib.Omega.{arith}
 use borrow.Author.Tests.{leb-true, le-leb, eq-eqb, eqb-true, ltb-true, lt-ltb}
@@ -13,8 +13,9 @@ use Rattle.paper.specs.Count.{all}
 use Rattle.paper.proofs.Logic.{both, four, and-true, lt-or-ge}
 use Rattle.paper.proofs.Count.{all-each, each-all, getD-over}
 use Rattle.job.specs.Fields.{le, Bytes}
-use Rattle.job.specs.Records.{Rec, fileOf, Laid, LayoutFits, IsFile, InOrder, bodies, blockAt, countOf, walkOk}
-use Rattle.job.specs.File.{jobLayout, jobSizes, fileMost, jobCounts, jobStarts, ownerSlot, rising, restOk, fileOk, JobRecords, JobFile}
+use Rattle.job.specs.Records.{Rec, fileOf, Laid, LayoutFits, bodies, blockAt, countOf, walkOk}
+use Rattle.job.specs.File.{jobLayout, jobSizes, fileMost, jobCounts, jobStarts, ownerSlot, rising, restOk, fileOk}
+use Rattle.job.specs.File.{JobFile}
 use Rattle.job.specs.Columns.{column}
 use Rattle.job.specs.Outcome.{columnOf}
 use Rattle.job.proofs.Files.{count-at, start-at}
@@ -55,7 +56,8 @@ module _ (s : List ℕ) (rs : List Rec) (l : Laid jobLayout 0 rs) (e : s ≡ fil
   slot-at k h = fields 5 k 0 2 (lit< tt) h (lit≤ tt)
 
   -- the slots of two owner records, one after the other, rise where the test passes
-  rise-at : (k : ℕ) → suc k < length (bodies 6 rs) → (ltb (ownerSlot s (blockAt jobLayout s 5) k) (ownerSlot s (blockAt jobLayout s 5) (k + 1))
+  rise-at : (k : ℕ) → suc k < length (bodies 6 rs) → (ltb (ownerSlot s (blockAt jobLayout s 5) k)
+      (ownerSlot s (blockAt jobLayout s 5) (k + 1))
       ≡ ltb (le 2 (getD (bodies 6 rs) k []) 0) (le 2 (getD (bodies 6 rs) (suc k) []) 0))
   rise-at k h =
       ap₂ ltb (slot-at k (omega arith)) (ap (ownerSlot s (blockAt jobLayout s 5)) (add-one k) ∙ slot-at (suc k) h)
@@ -98,7 +100,8 @@ file-kept s J =
     let C = counts s rs l e in
     let n = countOf jobLayout s 5 in
     let at = blockAt jobLayout s 5 in
-    and-true _ _ (ap (walkOk jobLayout fileMost) e ∙ laid-accepted jobLayout fileMost rs layout-fits l (omega (arith, ap length e, J .short)))
+    and-true _ _ (ap (walkOk jobLayout fileMost) e ∙ laid-accepted jobLayout fileMost rs layout-fits l
+    (omega (arith, ap length e, J .short)))
     (and-true _ _ (eq-eqb _ _ (C 0 (lit< tt) ∙ R .settings))
     (and-true _ _ (le-leb (countOf jobLayout s 4) 1 (omega (arith, C 4 (lit< tt), R .freezes)))
     (and-true _ _ (eq-eqb _ _ (zero-at s rs l e (omega (arith, R .settings)) ∙ R .zero-byte))

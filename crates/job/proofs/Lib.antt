@@ -15,3 +15,4 @@ pub mod Rotas
 pub mod Tests
 pub mod Passing
 pub mod Heard
+pub mod Promises

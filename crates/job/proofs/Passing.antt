@@ -1,32 +1,30 @@
 -- What each stage of a job hears where those before it heard nothing, and what it leaves known. Assumes nothing.
-use mathlib.Core.Path.{_≡_, refl, sym, ap, ap₂, _∙_, subst}
-use mathlib.Core.Logic.{⊎-elim}
-use mathlib.Core.Bool.{Bool, true, false, cond, _&&_, _||_}
-use mathlib.Core.List.{List, [], _++_}
-use Prim.Native.Nat.{ℕ, zero, suc, _+_, _-_, _*_, _≤_, _<_}
+use mathlib.Core.Path.{_≡_, refl, sym, ap, _∙_}
+use mathlib.Core.Bool.{Bool, true, false, cond, _||_}
+use mathlib.Core.List.{List, _++_}
+use Prim.Native.Nat.{ℕ, zero, suc, _+_, _-_, _≤_, _<_}
 use native.Mathlib.Omega.{arith}
-use borrow.Author.Tests.{le-leb, leb-true, eq-eqb, ne-eqb, eqb-true, eqb-false, lt-ltb, ltb-true, ltb-false}
+use borrow.Author.Tests.{le-leb, leb-true, eq-eqb, eqb-true, eqb-false, lt-ltb, ltb-true}
 use lib.Dec.{leb, ltb, eqb}
-use lib.IntN.{ℤ, pos}
+use lib.IntN.{ℤ}
 use lib.ListN.{length, getD, set, replicate, length-append, length-replicate, getD-replicate, length-set}
 use lib.Seq.{getD-set-same, getD-set-other}
-use Rattle.paper.specs.Limits.{peopleOk, slotCountOk, orElse, nobody}
-use Rattle.paper.specs.Count.{all, allIn, over}
-use Rattle.paper.proofs.Logic.{by-test, both, three, four, and-true, cond-zero}
+use Rattle.paper.specs.Limits.{peopleOk, slotCountOk, countsOk, orElse, nobody}
+use Rattle.paper.specs.Count.{all, onto}
+use Rattle.paper.proofs.Logic.{by-test, both, three, four, slot-count-says}
 use Rattle.paper.proofs.Count.{all-each, in-each, length-over, getD-over}
 use Rattle.slotset.specs.Answers.{countedAs, wordsAs}
-use Rattle.slotset.specs.Slots.{putSlot}
+use Rattle.slotset.specs.Slots.{slot, putSlot}
 use Rattle.slots.specs.Lent.{slotRoomOk, slotsOk, slotOkAt, demandOf}
 use Rattle.slots.specs.Ranges.{Ranges, rangeCountOk, rangeRoomOk, rangesOk}
-use Rattle.slots.specs.Merged.{written}
 use Rattle.slots.specs.Atomic as atomic
-use Rattle.slots.specs.Availability.{availabilityOf, availabilityNo, availableBit, rows}
+use Rattle.slots.specs.Availability.{availabilityOf, availabilityNo, availableBit}
 use Rattle.slots.specs.Freeze.{endsBy, marked, freezeNo, freezeOf}
 use Rattle.slots.proofs.AvailLaws.{length-rows}
-use Rattle.slots.proofs.Meaning.{written-length, atoms-lent, atoms-lent-demand, atoms-count-ok}
+use Rattle.slots.proofs.Meaning.{frozen-marked, atoms-lent, atoms-lent-demand, atoms-count-ok}
 use Rattle.units.specs.declared.Settings.{Settings}
 use Rattle.units.specs.Settings.{settingsOk}
-use Rattle.units.specs.Answers.{writtenAs, numberAs, onto}
+use Rattle.units.specs.Answers.{writtenAs, numberAs}
 use Rattle.units.specs.Starts.{unitStarts, unitStartsIs, startsNo}
 use Rattle.units.specs.Units.{unitStart, unitEnd, unitsOk}
 use Rattle.units.proofs.Rising.{unit-starts-right}
@@ -35,14 +33,15 @@ use Rattle.targets.specs.Outcome as targets
 use Rattle.targets.proofs.Promises.{number-is}
 use Rattle.rota.specs.Derived.{knownBy}
 use Rattle.job.specs.File.{ownerSlot}
-use Rattle.job.specs.Stages.{countsOk, frozenIn, noOf, valueOf, unitsNoOf, unitsValueOf, lowerNo}
+use Rattle.job.proofs.Prepares.{frozen-some}
+use Rattle.job.specs.Stages.{jobCountsOk, frozenIn, noOf, valueOf, unitsNoOf, unitsValueOf, lowerNo}
 use Rattle.job.specs.Stages.{ownerValue, placed, unitEven, allEven, recordKnown, allKnown, narrowed}
 
 -- ---- counts
 
-pub few-says : (base people ranges draws : ℕ) → countsOk base people ranges draws ≡ true
+pub few-says : (base people ranges draws : ℕ) → jobCountsOk base people ranges draws ≡ true
     → (slotCountOk base ≡ true) × (peopleOk people ≡ true) × (leb ranges 1024 ≡ true) × (leb draws 1024 ≡ true)
-unfolding countsOk
+unfolding jobCountsOk
 few-says base people ranges draws e = four (slotCountOk base) (peopleOk people) (leb ranges 1024) (leb draws 1024) e
 
 -- ---- atomic slots
@@ -69,11 +68,12 @@ pub atoms-sound : (B : atomic.Base) → atomic.baseCountsOk B ≡ true → atomi
     → slotsOk (B .slots) (B .starts) (B .ends) ≡ true → rangesOk (B .people) (B .ranges) ≡ true
     → leb (length (atomic.startsOfAtoms B)) 1024 ≡ true
     → AtomsSound B (valueOf (atomic.atomiseOf B .answer)) (atomic.atomiseOf B .starts) (atomic.atomiseOf B .ends)
-unfolding atomic.atomiseOf atomic.atomiseNo atomic.countsOk atomic.roomOk countedAs wordsAs slotRoomOk
+unfolding atomic.atomiseOf atomic.atomiseNo atomic.splitCountsOk atomic.roomOk countedAs wordsAs slotRoomOk
 atoms-sound B counts room a b c =
     let few = leb-true (length (atomic.startsOfAtoms B)) 1024 c in
     let cs = three (peopleOk (B .people)) (slotCountOk (B .slots)) (rangeCountOk (B .ranges .count)) counts in
-    let rs = three (slotRoomOk (B .slots) (B .starts) (B .ends)) (rangeRoomOk (B .ranges)) (slotRoomOk 1024 (B .outStarts) (B .outEnds)) room in
+    let rs = three (slotRoomOk (B .slots) (B .starts) (B .ends)) (rangeRoomOk (B .ranges))
+    (slotRoomOk 1024 (B .outStarts) (B .outEnds)) room in
     let out = both (leb 1024 (length (B .outStarts))) (leb 1024 (length (B .outEnds))) (rs .2) in
     let l = Rattle.slots.specs.Ranges.mergedOf (B .ranges) in
     let x = leb-true 1024 (length (B .outStarts)) (out .0) in
@@ -111,16 +111,28 @@ frozen-length n S E freezes instant =
     (λ t. simp t)
     (λ f. simp f (words-length (freezeNo n S E (replicate 16 0)) (replicate 16 0) _ (marked-length n E instant (replicate 16 0))))
 
--- ---- targets and units
-
 -- slots that pass have room in their columns
 pub lent-room : (n : ℕ) (S E : List ℕ) → slotsOk n S E ≡ true → slotRoomOk n S E ≡ true
 unfolding slotsOk
 lent-room n S E e = both (slotRoomOk n S E) (all n (slotOkAt S E)) e .0
 
-pub shares-no : (g : targets.Given) (out : List ℤ) → targets.countsOk (g .people) (g .slots) ≡ true → targets.roomOk g (length out) ≡ true
+-- a slot that ends by the instant of a freeze record is frozen
+pub frozen-at : (n : ℕ) (S E : List ℕ) (freezes instant : ℕ) → slotCountOk n ≡ true → slotsOk n S E ≡ true → (freezes ≡ 0 → ⊥)
+    → (k : ℕ) → k < n → getD E k 0 ≤ instant → slot (frozenIn n S E freezes instant) 0 k ≡ 1
+unfolding freezeOf freezeNo wordsAs endsBy
+frozen-at n S E freezes instant count lent some k h b =
+    let r : 16 ≤ length (replicate {A = ℕ} 16 0) = omega (arith, length-replicate {A = ℕ} 16 0) in
+    let e : freezeOf n S E (replicate 16 0) instant .flags ≡ marked n E instant (replicate 16 0) =
+    simp (count, lent-room n S E lent, le-leb 16 (length (replicate {A = ℕ} 16 0)) r, lent) in
+    ap (λ (w : List ℕ). slot w 0 k) (sym (frozen-some n S E freezes instant some) ∙ e)
+    ∙ frozen-marked E instant (replicate 16 0) r k n (slot-count-says n count .1) h (le-leb (getD E k 0) instant b)
+
+-- ---- targets and units
+
+pub shares-no : (g : targets.Given) (out : List ℤ) → countsOk (g .people) (g .slots) ≡ true → targets.roomOk g (length out) ≡ true
     → slotsOk (g .slots) (g .starts) (g .ends) ≡ true
-    → targets.computeTargets g out .number ≡ orElse (allFiguresOk (g .people) (g .capacities) (g .priors)) 6 (orElse (leb (g .fairness) 1) 7 0)
+    → targets.computeTargets g out .number ≡ orElse (allFiguresOk (g .people) (g .capacities) (g .priors)) 6
+    (orElse (leb (g .fairness) 1) 7 0)
 unfolding targets.checkNo
 shares-no g out counts room lent = number-is g out ∙ simp (counts, room, lent)
 
@@ -163,7 +175,8 @@ module _ (st : Settings) (n : ℕ) (S E firsts : List ℕ) (count-ok : slotCount
         omega (arith, units-value, ap length e, length-append l (lib.ListN.drop (length l) firsts))
 
 -- the two of them together: right settings have a right fairness
-pub lower-is : (st : Settings) (figures : Bool) → lowerNo (orElse figures 6 (orElse (leb (st .fairness) 1) 7 0)) (orElse (settingsOk st) 7 0)
+pub lower-is : (st : Settings) (figures : Bool) → lowerNo (orElse figures 6 (orElse (leb (st .fairness) 1) 7 0))
+    (orElse (settingsOk st) 7 0)
     ≡ orElse figures 6 (orElse (settingsOk st) 7 0)
 unfolding settingsOk lowerNo
 lower-is st figures =
@@ -241,4 +254,5 @@ owners-even slots units firsts o few e within u k h a b =
     let x = in-each (unitStart firsts u) (unitEnd slots units firsts u) (λ j. eqb (getD o j 0) (getD o (unitStart firsts u) 0))
     (all-each units (unitEven slots units firsts o) e u h) k a b in
     let w = within u h in
-    narrowed-at o k (omega arith) ∙ ap byteOf (eqb-true (getD o k 0) (getD o (unitStart firsts u) 0) x) ∙ sym (narrowed-at o (unitStart firsts u) (omega arith))
+    narrowed-at o k (omega arith) ∙ ap byteOf (eqb-true (getD o k 0) (getD o (unitStart firsts u) 0) x)
+    ∙ sym (narrowed-at o (unitStart firsts u) (omega arith))

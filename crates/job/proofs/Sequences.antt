@@ -3,11 +3,10 @@ use mathlib.Core.Path.{_≡_, refl, sym, ap, ap₂, _∙_, subst}
 use mathlib.Core.Logic.{_↔_}
 use mathlib.Core.Bool.{Bool, true, false, cond, _&&_, and-false}
 use mathlib.Core.List.{List, [], _∷_, _++_, append-assoc}
-use Prim.Native.Nat.{ℕ, zero, suc, _+_, _-_, _*_, _^_, _≤_, _<_}
+use Prim.Native.Nat.{ℕ, zero, suc, _+_, _-_, _*_, _≤_, _<_}
 use native.Mathlib.Nat.{suc-mul, zero-mul}
-use native.Mathlib.Numerals.{add-one}
 use native.Mathlib.Omega.{arith}
-use borrow.Author.Tests.{leb-true, le-leb, eq-eqb, eqb-true, ne-eqb}
+use borrow.Author.Tests.{le-leb, eq-eqb, eqb-true, ne-eqb}
 use lib.Dec.{leb, eqb}
 use lib.ListN.{length, getD, take, drop, length-append, length-drop, take-append-drop}
 use lib.Seq.{drop-drop, take-at, drop-at, getD-drop, getD-take, length-take-le, drop-length}
@@ -46,7 +45,12 @@ body-bytes : (s : List ℕ) (size at : ℕ) → at + (4 + size) ≤ length s →
 unfolding bodyAt
 body-bytes s size at h b k =
     Rattle.paper.proofs.Logic.by-test (lib.Dec.ltb k size) (getD (take size (drop (at + 4) s)) k 0 < 256)
-    (λ t. omega (arith, getD-take size (drop (at + 4) s) k 0 (borrow.Author.Tests.ltb-true k size t), getD-drop (at + 4) s k 0, b (at + 4 + k)))
+    (λ t. omega (
+      arith,
+      getD-take size (drop (at + 4) s) k 0 (borrow.Author.Tests.ltb-true k size t),
+      getD-drop (at + 4) s k 0,
+      b (at + 4 + k),
+    ))
     (λ f.
     let l : length (take size (drop (at + 4) s)) ≤ k =
     omega (arith, length-body s size at h, borrow.Author.Tests.ltb-false k size f) in
@@ -83,7 +87,8 @@ record-split s kind size at b t =
 pub counted-at : (L : Layout) (s : List ℕ) (i j : ℕ) → j < countOf L s i
     → recordAt s (L .first + i) (getD (L .sizes) i 0) (blockAt L s i + j * (4 + getD (L .sizes) i 0)) ≡ true
 unfolding countOf blockCount
-counted-at L s i j h = all-each _ (λ k. recordAt s (L .first + i) (getD (L .sizes) i 0) (blockAt L s i + k * (4 + getD (L .sizes) i 0))) (lead-all _ (length s)) j h
+counted-at L s i j h = all-each _ (λ k. recordAt s (L .first + i) (getD (L .sizes) i 0) (blockAt L s i + k * (4 + getD (L .sizes) i 0)))
+    (lead-all _ (length s)) j h
 
 block-suc : (L : Layout) (s : List ℕ) (i : ℕ) → blockAt L s (suc i) ≡ blockAt L s i + countOf L s i * (4 + getD (L .sizes) i 0)
 unfolding blockAt countOf
@@ -148,7 +153,8 @@ from-kind L s i b h f =
     } in
     rw z at (from-block L s i (countOf L s i) 0 b h q here)
 
-from-end : (L : Layout) (s : List ℕ) (n i : ℕ) → Bytes s → i + n ≡ L .kinds → From L s (L .kinds) (blockAt L s (L .kinds)) → From L s i (blockAt L s i)
+from-end : (L : Layout) (s : List ℕ) (n i : ℕ) → Bytes s → i + n ≡ L .kinds → From L s (L .kinds) (blockAt L s (L .kinds))
+    → From L s i (blockAt L s i)
 from-end L s zero i b e f =
     let z : L .kinds ≡ i = omega arith in
     subst (λ (k : ℕ). From L s k (blockAt L s k)) z f
@@ -215,7 +221,8 @@ module _ (s : List ℕ) (at : ℕ) (r : Rec) (x : List ℕ) (e : drop at s ≡ b
 
   rest-there : (size : ℕ) → length (r .body) ≡ size → drop (at + (4 + size)) s ≡ x
   rest-there size q =
-      sym (drop-drop (4 + size) at s) ∙ ap (drop (4 + size)) e ∙ drop-at (bytesOf r) x (4 + size) (length-bytesOf r ∙ ap (λ (n : ℕ). 4 + n) q)
+      sym (drop-drop (4 + size) at s) ∙ ap (drop (4 + size)) e
+      ∙ drop-at (bytesOf r) x (4 + size) (length-bytesOf r ∙ ap (λ (n : ℕ). 4 + n) q)
 
 not-kind : (s : List ℕ) (kind size at there : ℕ) → le 2 s (at + 2) ≡ there → (there ≡ kind → ⊥) → recordAt s kind size at ≡ false
 unfolding recordAt

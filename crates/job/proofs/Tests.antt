@@ -1,5 +1,5 @@
 -- Laws of a row of tests: the first that fails, and the lowest number. Assumes nothing.
-use mathlib.Core.Path.{_≡_, refl, sym, ap, ap₂, _∙_, subst}
+use mathlib.Core.Path.{_≡_, refl, sym, ap, _∙_, subst}
 use mathlib.Core.Logic.{_↔_}
 use mathlib.Core.Bool.{Bool, true, false, cond}
 use mathlib.Core.List.{List, [], _∷_, _++_}
@@ -7,8 +7,7 @@ use Prim.Native.Nat.{ℕ, zero, suc, _+_, _≤_, _<_}
 use native.Mathlib.Omega.{arith}
 use borrow.Author.Tests.{eq-eqb, ne-eqb, eqb-true, eqb-false}
 use lib.Dec.{eqb}
-use lib.ListN.{length, getD}
-use Rattle.paper.specs.Limits.{orElse}
+use lib.ListN.{length}
 use Rattle.paper.proofs.Logic.{by-test}
 use Rattle.job.specs.Outcome.{Result, refusedAs, orRefused}
 use Rattle.job.specs.Heard.{Test, test, heardOf, rank, testAt, Lowest, AllPass}
@@ -80,7 +79,8 @@ heard-there r (t ∷ ts) R n z e =
       within = omega arith;
       number = q;
       fails = f;
-      least = subst (λ (m : ℕ). (k : ℕ) → k < suc (length ts) → testAt (t ∷ ts) k .passes ≡ false → rank m ≤ rank (testAt (t ∷ ts) k .number))
+      least = subst (λ (m : ℕ). (k : ℕ) → k < suc (length ts) → testAt (t ∷ ts) k .passes ≡ false
+          → rank m ≤ rank (testAt (t ∷ ts) k .number))
           q (λ k h g. first t ts (R .1) k h);
     })
   where
@@ -122,8 +122,16 @@ heard-back r (t ∷ ts) R n L =
         let a = L .least 0 (omega arith) f in
         absurd (omega (arith, rising-above (suc (rank (t .number))) ts R k (omega (arith, L .within)), ap rank q))
 
-pub heard-lowest : (r : ℕ) (ts : List Test) → Rising r ts → (n : ℕ) → 0 < n → (heardOf ts ≡ n) ↔ Lowest ts n
-heard-lowest r ts R n z = (heard-there r ts R n z, heard-back r ts R n)
+numbered-at : (ts : List Test) → Numbered ts → (k : ℕ) → k < length ts → 0 < testAt ts k .number
+numbered-at [] N k h = absurd (omega arith)
+numbered-at (t ∷ ts) N zero h = N .0
+numbered-at (t ∷ ts) N (suc k) h = numbered-at ts (N .1) k (omega arith)
+
+pub heard-lowest : (r : ℕ) (ts : List Test) → Rising r ts → Numbered ts → (n : ℕ) → ((heardOf ts ≡ n) × (0 < n)) ↔ Lowest ts n
+heard-lowest r ts R N n = (
+  λ e. heard-there r ts R n (e .1) (e .0),
+  λ L. (heard-back r ts R n L, omega (arith, numbered-at ts N (L .place) (L .within), L .number)),
+)
 
 -- ---- a stage that hears the first tests of a row, and goes on with the others
 

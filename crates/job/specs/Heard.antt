@@ -18,7 +18,7 @@ use Rattle.rota.specs.Entries as rota
 use Rattle.job.specs.Fields.{le}
 use Rattle.job.specs.File.{jobCounts, jobStarts, fileOk}
 use Rattle.job.specs.Listing.{Listed, listed, listingMost}
-use Rattle.job.specs.Stages.{countsOk, settingsIn, valueOf, placed, allEven, allKnown, narrowed}
+use Rattle.job.specs.Stages.{jobCountsOk, settingsIn, valueOf, placed, allEven, allKnown, narrowed}
 use Rattle.job.specs.Outcome.{Ready, Draws, planOf, startOf, playOf, columnOf, baseIn, peopleIn, rangesIn, capacitiesIn, priorsIn}
 use Rattle.job.specs.Outcome.{drawsIn, atomsIn, readyIn}
 
@@ -110,7 +110,7 @@ jobTests s room =
     let b = jobStarts s in
     let B = baseOf s in
     let R = readyOf s in
-    test 13 (fileOk s) ∷ test 1 (countsOk (baseIn c) (peopleIn c) (getD c 3 0) (getD c 6 0)) ∷ test 2 (leb listingMost room)
+    test 13 (fileOk s) ∷ test 1 (jobCountsOk (baseIn c) (peopleIn c) (getD c 3 0) (getD c 6 0)) ∷ test 2 (leb listingMost room)
     ∷ test 3 (slotsOk (B .slots) (B .starts) (B .ends)) ∷ test 4 (rangesOk (B .people) (B .ranges))
     ∷ test 5 (leb (length (atomic.startsOfAtoms B)) slotsMost)
     ∷ test 6 (allFiguresOk (peopleIn c) (capacitiesIn s c b) (priorsIn s c b)) ∷ test 7 (settingsOk (settingsIn s))
