@@ -3,13 +3,16 @@
 use on_call::model::problem::Problem;
 use on_call::search::moves::MoveGenerator;
 
+use crate::call::{bytes16, bytes32, bytes64};
 use crate::days::instant;
+use crate::job_files::{file_of, Record, BASE, DRAW, FREEZE, OWNER, PERSON, RANGE, SETTINGS};
 use crate::problems::{problem_case, slots_of, ProblemCase};
 use crate::rotas::{draws, owners, played, step, Draw, Played, NOBODY};
 use crate::seed::Seed;
 use crate::sets::SLOTS_MOST;
 
 /// What a job file says.
+#[derive(Debug, Clone)]
 pub struct JobCase {
     pub problem: ProblemCase,
     pub freeze: Option<u32>,
@@ -47,49 +50,32 @@ impl JobCase {
 
     /// The job file.
     pub fn file(&self) -> Vec<u8> {
-        let settings = self.problem.settings;
-        let mut file = Vec::new();
-        let flags = [settings.fairness, settings.lock, settings.boundary, 0];
-        record(&mut file, 1, &[&flags, &settings.value.to_le_bytes(), &settings.days.to_le_bytes()]);
-        for &(start, end) in &self.problem.base {
-            record(&mut file, 2, &[&start.to_le_bytes(), &end.to_le_bytes()]);
-        }
-        for person in &self.problem.people {
-            record(
-                &mut file,
-                3,
-                &[&person.capacity.to_bits().to_le_bytes(), &person.prior.to_le_bytes()],
-            );
-        }
-        for range in &self.problem.ranges {
-            let person = range.person as u16;
-            record(
-                &mut file,
-                4,
-                &[&person.to_le_bytes(), &range.start.to_le_bytes(), &range.end.to_le_bytes()],
-            );
-        }
-        if let Some(instant) = self.freeze {
-            record(&mut file, 5, &[&instant.to_le_bytes()]);
-        }
-        for (slot, owner) in &self.owners {
-            record(&mut file, 6, &[&slot.to_le_bytes(), &owner.to_le_bytes()]);
-        }
-        for (draw, first, second) in &self.draws {
-            record(&mut file, 7, &[&draw.to_le_bytes(), &first.to_le_bytes(), &second.to_le_bytes()]);
-        }
-        file
+        file_of(&self.records())
     }
 
-    /// The listing: the Rust's slots, minutes, targets and answers in the paper's lines; too many slots are refused by 5.
+    /// The records of the job file.
+    pub fn records(&self) -> Vec<Record> {
+        let settings = self.problem.settings;
+        let flags = [settings.fairness, settings.lock, settings.boundary, 0];
+        let mut records = vec![(SETTINGS, [&flags[..], &bytes16(&[settings.value, settings.days])].concat())];
+        records.extend(self.problem.base.iter().map(|&(start, end)| (BASE, bytes32(&[start, end]))));
+        for person in &self.problem.people {
+            let figures = [bytes64(&[person.capacity.to_bits()]), bytes32(&[person.prior])];
+            records.push((PERSON, figures.concat()));
+        }
+        for range in &self.problem.ranges {
+            let times = [bytes16(&[range.person as u16]), bytes32(&[range.start, range.end])];
+            records.push((RANGE, times.concat()));
+        }
+        records.extend(self.freeze.iter().map(|&instant| (FREEZE, bytes32(&[instant]))));
+        records.extend(self.owners.iter().map(|&(slot, owner)| (OWNER, bytes16(&[slot, owner]))));
+        records.extend(self.draws.iter().map(|draw| (DRAW, bytes16(&[draw.0, draw.1, draw.2]))));
+        records
+    }
+
+    /// The listing of a job that nothing is wrong with: the Rust's slots, minutes, targets and answers in the paper's lines.
     pub fn listing(&self) -> String {
-        let mut problem = self.problem.rust();
-        if problem.slot_count() > SLOTS_MOST {
-            return "R 5\n".to_string();
-        }
-        if let Some(at) = self.freeze {
-            problem.freeze_before(instant(i64::from(at)));
-        }
+        let problem = self.frozen();
         let end = self.play(&problem);
         let (starts, ends) = slots_of(&problem);
         let mut text = String::new();
@@ -111,6 +97,20 @@ impl JobCase {
         text
     }
 
+    /// The Rust's problem, frozen at the job's instant.
+    fn frozen(&self) -> Problem {
+        let mut problem = self.problem.rust();
+        if let Some(at) = self.freeze {
+            problem.freeze_before(instant(i64::from(at)));
+        }
+        problem
+    }
+
+    /// The answers to the draws.
+    pub fn answers(&self) -> Vec<u8> {
+        self.play(&self.frozen()).answers
+    }
+
     fn play(&self, problem: &Problem) -> Played {
         let mut slots = vec![None; problem.slot_count()];
         for &(slot, owner) in &self.owners {
@@ -127,21 +127,10 @@ impl JobCase {
     }
 }
 
-/// A record: the length of its body, its kind, its body.
-fn record(file: &mut Vec<u8>, kind: u16, parts: &[&[u8]]) {
-    let length: usize = parts.iter().map(|part| part.len()).sum();
-    file.extend((length as u16).to_le_bytes());
-    file.extend(kind.to_le_bytes());
-    for part in parts {
-        file.extend(*part);
-    }
-}
-
 #[cfg(test)]
 mod tests {
     use super::JobCase;
     use crate::problems::{Person, ProblemCase, Range, Settings};
-    use crate::seed::Seed;
 
     /// The paper's own job and its listing.
     #[test]
@@ -178,15 +167,5 @@ mod tests {
         };
         let listing = "S 0 0 60 0\nS 1 60 120 1\nP 0 60 80\nP 1 60 40\nD 0 A\nU 0\n";
         assert_eq!(job.listing(), listing);
-    }
-
-    /// Every generated job has a listing, and its file is within the limit.
-    #[test]
-    fn jobs_have_listings() {
-        for k in 0..200 {
-            let job = JobCase::new(&mut Seed::new(k));
-            assert!(job.file().len() <= 49_152);
-            assert!(!job.listing().is_empty());
-        }
     }
 }

@@ -3,6 +3,8 @@
 mod call;
 mod days;
 mod figures;
+mod job_faults;
+mod job_files;
 mod jobs;
 mod library;
 mod problems;
@@ -81,8 +83,15 @@ fn main() -> ExitCode {
             Err(_) => usage(),
         },
         ["listing", seed] => match seed.parse() {
-            Ok(seed) => write_out(jobs::JobCase::new(&mut Seed::new(seed)).listing().as_bytes()),
+            Ok(seed) => write_out(job_files::text_of(&jobs::JobCase::new(&mut Seed::new(seed)).file()).as_bytes()),
             Err(_) => usage(),
+        },
+        ["listing-of", file] => match fs::read(file) {
+            Ok(bytes) => write_out(job_files::text_of(&bytes).as_bytes()),
+            Err(error) => {
+                eprintln!("oracle: {file}: {error}");
+                ExitCode::from(2)
+            }
         },
         ["store", kind, n, seed, folder] => match (n.parse(), seed.parse()) {
             (Ok(n), Ok(seed)) => store(kind, n, seed, Path::new(folder)),
