@@ -2,6 +2,7 @@
 
 use on_call::model::problem::Problem;
 
+use crate::call::bytes16;
 use crate::days::MINUTES_MOST;
 use crate::job_files::{file_of, numbers, Record, DRAWS_MOST, FILE_MOST, FREEZE, OWNER, SETTINGS};
 use crate::jobs::JobCase;
@@ -47,23 +48,41 @@ pub const FAULTS: [Fault; 46] = [
     said(11, "slot not below the count", slot_past_the_end),
     said(11, "unknown owner", unknown_owner),
     said(12, "owner not available", unavailable_owner),
-    said(7, "fairness", |seed, job| put(&mut job.problem.settings.fairness, seed.within(2, 255) as u8)),
-    said(7, "lock", |seed, job| put(&mut job.problem.settings.lock, seed.within(2, 255) as u8)),
-    said(7, "boundary", |seed, job| put(&mut job.problem.settings.boundary, seed.within(2, 255) as u8)),
+    said(7, "fairness", |seed, job| {
+        put(&mut job.problem.settings.fairness, seed.within(2, 255) as u8)
+    }),
+    said(7, "lock", |seed, job| {
+        put(&mut job.problem.settings.lock, seed.within(2, 255) as u8)
+    }),
+    said(7, "boundary", |seed, job| {
+        put(&mut job.problem.settings.boundary, seed.within(2, 255) as u8)
+    }),
     said(7, "every-count or mask", value_above),
-    said(7, "shift days", |seed, job| put(&mut job.problem.settings.days, above(seed, 366) as u16)),
+    said(7, "shift days", |seed, job| {
+        put(&mut job.problem.settings.days, above(seed, 366) as u16)
+    }),
     said(6, "capacity not a number", |seed, job| capacity(seed, job, not_a_number)),
-    said(6, "capacity below 0", |seed, job| capacity(seed, job, |seed| -f64::from_bits(seed.within(1, f64::MAX.to_bits() + 1)))),
-    said(6, "capacity above 1,000", |seed, job| capacity(seed, job, |seed| f64::from_bits(1000f64.to_bits() + 1 + seed.below(1 << 20)))),
-    said(6, "capacity not finite", |seed, job| capacity(seed, job, |seed| seed.pick(&[f64::INFINITY, f64::NEG_INFINITY]))),
-    said(6, "prior minutes", |seed, job| put(&mut person(seed, job).prior, minute_above(seed))),
+    said(6, "capacity below 0", |seed, job| {
+        capacity(seed, job, |seed| -f64::from_bits(seed.within(1, f64::MAX.to_bits() + 1)))
+    }),
+    said(6, "capacity above 1,000", |seed, job| {
+        capacity(seed, job, |seed| f64::from_bits(1000f64.to_bits() + 1 + seed.below(1 << 20)))
+    }),
+    said(6, "capacity not finite", |seed, job| {
+        capacity(seed, job, |seed| seed.pick(&[f64::INFINITY, f64::NEG_INFINITY]))
+    }),
+    said(6, "prior minutes", |seed, job| {
+        put(&mut person(seed, job).prior, minute_above(seed))
+    }),
     said(5, "too many atomic slots", too_many_slots),
     said(4, "range reversed", |seed, job| {
         let range = a_range(seed, job);
         range.start = range.start.max(1);
         put(&mut range.end, range.start - 1)
     }),
-    said(4, "range too late", |seed, job| put(&mut a_range(seed, job).end, minute_above(seed))),
+    said(4, "range too late", |seed, job| {
+        put(&mut a_range(seed, job).end, minute_above(seed))
+    }),
     said(4, "range of an unknown person", |seed, job| {
         let people = job.problem.people.len() as u64;
         let unknown = seed.pick(&[people, people + 1, 255, 256, 65_535]).max(people) as usize;
@@ -91,7 +110,7 @@ pub const FAULTS: [Fault; 46] = [
     said(3, "base slot before the previous end", |seed, job| {
         let slots = &mut job.problem.base;
         let k = seed.below(slots.len() as u64) as usize;
-        let early = slots[k.saturating_sub(1)].1 - 1;
+        let early = slots[k.saturating_sub(1)].1.saturating_sub(1);
         k > 0 && put(&mut slots[k].0, early)
     }),
     said(1, "no base slots", |_, job| emptied(&mut job.problem.base)),
@@ -358,32 +377,40 @@ fn exchange(seed: &mut Seed, records: &mut [Record], wanted: fn(u16, u16) -> boo
     true
 }
 
-/// Owner records up to the first whole record past the limit: the slots rise, so only the size is wrong with the layout.
+/// One owner record more than the limit has room for: the slots rise, so only the size is wrong with the layout.
 fn too_many_bytes(_: &mut Seed, records: &mut Vec<Record>) -> bool {
+    add_owners(records, 1)
+}
+
+/// A job's file with owner records for nobody up to the limit of bytes, of slots that it does not have: 11, or 1.
+pub fn at_the_limit(job: &JobCase) -> Option<Vec<u8>> {
+    let mut records = job.records();
+    add_owners(&mut records, 0).then(|| file_of(&records))
+}
+
+/// As many owner records for nobody as fit into the limit, and some more.
+fn add_owners(records: &mut Vec<Record>, more: usize) -> bool {
     let size: usize = records.iter().map(|(_, body)| 4 + body.len()).sum();
-    let draws = records.iter().position(|record| record.0 > OWNER).unwrap_or(records.len());
-    let slots = records.iter().filter(|record| record.0 == OWNER);
-    let next = slots.map(|(_, body)| u16::from_le_bytes([body[0], body[1]])).max().map_or(Some(0), |slot| slot.checked_add(1));
-    let count = (FILE_MOST + 1).saturating_sub(size).div_ceil(8);
-    let Some(first) = next.filter(|&first| usize::from(first) + count <= 65_536) else {
+    let end = records.iter().position(|record| record.0 > OWNER).unwrap_or(records.len());
+    let slots = records
+        .iter()
+        .filter(|record| record.0 == OWNER)
+        .map(|(_, body)| u16::from_le_bytes([body[0], body[1]]));
+    let next = slots.max().map_or(0, |slot| usize::from(slot) + 1);
+    let count = FILE_MOST.saturating_sub(size) / 8 + more;
+    if next + count > 65_536 {
         return false;
-    };
-    let more = (0..count).map(|k| (OWNER, [(first + k as u16).to_le_bytes(), [255, 0]].concat()));
-    records.splice(draws..draws, more);
+    }
+    let added = (next..next + count).map(|slot| (OWNER, bytes16(&[slot as u16, u16::from(NOBODY)])));
+    records.splice(end..end, added);
     true
 }
 
 // ---- jobs with faults
 
-/// A job file with faults, and the numbers that they earn, as they were meant.
-pub struct Faulty {
-    pub file: Vec<u8>,
-    pub meant: Vec<u8>,
-}
-
 /// A job's file with these faults, given in the order of the table above, where the job can have them all and none takes another back. Two
 /// faults of the layout might, so at most one is taken.
-pub fn with_faults(seed: &mut Seed, mut job: JobCase, faults: &[Fault]) -> Option<Faulty> {
+pub fn with_faults(seed: &mut Seed, mut job: JobCase, faults: &[Fault]) -> Option<Vec<u8>> {
     let mut made = faults.iter().filter(|fault| fault.number == 13).count() <= 1;
     for fault in faults {
         if let Change::Said(make) = fault.change {
@@ -405,8 +432,7 @@ pub fn with_faults(seed: &mut Seed, mut job: JobCase, faults: &[Fault]) -> Optio
             made &= make(seed, &mut file);
         }
     }
-    let meant = faults.iter().map(|fault| fault.number).collect();
-    made.then_some(Faulty { file, meant })
+    made.then_some(file)
 }
 
 /// Whether the numbers meant are those of the job, as far as they can be told beside the lowest.
@@ -451,8 +477,8 @@ mod tests {
                 if job.file().len() > 2000 || listing_of(&job.file()).is_err() {
                     continue;
                 }
-                if let Some(faulty) = with_faults(&mut seed, job, &[fault]) {
-                    assert_eq!(listing_of(&faulty.file), Err(fault.number), "{} in {k}", fault.name);
+                if let Some(file) = with_faults(&mut seed, job, &[fault]) {
+                    assert_eq!(listing_of(&file), Err(fault.number), "{} in {k}", fault.name);
                     times += 1;
                 }
             }
@@ -470,8 +496,8 @@ mod tests {
                 for k in 0..20 {
                     let mut seed = Seed::new(k);
                     let job = JobCase::new(&mut seed);
-                    if let Some(faulty) = with_faults(&mut seed, job, &[*first, *second]) {
-                        assert_eq!(listing_of(&faulty.file), Err(due), "{} and {} in {k}", first.name, second.name);
+                    if let Some(file) = with_faults(&mut seed, job, &[*first, *second]) {
+                        assert_eq!(listing_of(&file), Err(due), "{} and {} in {k}", first.name, second.name);
                     }
                 }
             }

@@ -87,7 +87,12 @@ pub fn read(file: &[u8]) -> Option<JobCase> {
     if records.windows(2).any(|pair| pair[0].0 > pair[1].0) {
         return None;
     }
-    let of = |wanted: u16| records.iter().filter(move |(kind, _)| *kind == wanted).map(|(_, body)| body.as_slice());
+    let of = |wanted: u16| {
+        records
+            .iter()
+            .filter(move |(kind, _)| *kind == wanted)
+            .map(|(_, body)| body.as_slice())
+    };
     if of(SETTINGS).count() != 1 || of(FREEZE).count() > 1 || of(SETTINGS).any(|body| body[3] != 0) {
         return None;
     }
@@ -220,8 +225,14 @@ fn owners_numbers(job: &JobCase, problem: &Problem) -> Vec<u8> {
     let able = |slot: usize, owner: u16| owner == nobody || !known(owner) || problem.is_available(usize::from(owner), slot);
     let mut units = problem.units.iter();
     let judged = [
-        (10, units.any(|unit| written[unit.clone()].windows(2).any(|pair| pair[0] != pair[1]))),
-        (11, job.owners.iter().any(|&(slot, owner)| usize::from(slot) >= slots || !known(owner))),
+        (
+            10,
+            units.any(|unit| written[unit.clone()].windows(2).any(|pair| pair[0] != pair[1])),
+        ),
+        (
+            11,
+            job.owners.iter().any(|&(slot, owner)| usize::from(slot) >= slots || !known(owner)),
+        ),
         (12, written.iter().enumerate().any(|(slot, &owner)| !able(slot, owner))),
     ];
     judged.iter().filter(|(_, earned)| *earned).map(|(number, _)| *number).collect()

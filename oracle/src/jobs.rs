@@ -3,13 +3,17 @@
 use on_call::model::problem::Problem;
 use on_call::search::moves::MoveGenerator;
 
-use crate::call::{bytes16, bytes32, bytes64};
+use crate::call::{bytes16, bytes32, bytes64, Arg, Outcome, Question};
 use crate::days::instant;
-use crate::job_files::{file_of, Record, BASE, DRAW, FREEZE, OWNER, PERSON, RANGE, SETTINGS};
+use crate::job_faults::{at_the_limit, some_faults, with_faults};
+use crate::job_files::{file_of, listing_of, Record, BASE, DRAW, FREEZE, OWNER, PERSON, RANGE, SETTINGS};
 use crate::problems::{problem_case, slots_of, ProblemCase};
 use crate::rotas::{draws, owners, played, step, Draw, Played, NOBODY};
 use crate::seed::Seed;
 use crate::sets::SLOTS_MOST;
+
+/// The room that a listing is asked for: 1,024 lines of slots, 32 of people, 1,024 of draws and the last, each at its longest.
+const LISTING_MOST: usize = 1024 * 33 + 32 * 47 + 1024 * 9 + 23;
 
 /// What a job file says.
 #[derive(Debug, Clone)]
@@ -125,6 +129,84 @@ impl JobCase {
             .collect();
         played(problem, &assignment, answers)
     }
+}
+
+// ---- files, and the calls
+
+/// The file of a job that nothing is wrong with, unless it has too many atomic slots.
+pub fn sound_file(seed: &mut Seed) -> Vec<u8> {
+    JobCase::new(seed).file()
+}
+
+/// A job's file with one fault or two, or filled up to the limit, or with one bit changed, or cut anywhere: that may leave a job that nothing
+/// is wrong with.
+pub fn damaged_file(seed: &mut Seed) -> Vec<u8> {
+    let job = JobCase::new(seed);
+    let mut file = job.file();
+    match seed.below(16) {
+        0 => file = at_the_limit(&job).unwrap_or(file),
+        1 => {
+            let at = seed.below(file.len() as u64) as usize;
+            file[at] ^= 1 << seed.below(8);
+        }
+        2 => file.truncate(seed.below(file.len() as u64 + 1) as usize),
+        _ => {
+            let faults = some_faults(seed);
+            if let Some(faulty) = with_faults(seed, job, &faults) {
+                file = faulty;
+            }
+        }
+    }
+    file
+}
+
+/// A job, run into a buffer with room for the longest listing or a little more: what lies past the listing stays, and a refusal leaves all.
+fn question(seed: &mut Seed, file: Vec<u8>, room: usize) -> Question {
+    let before: Vec<u8> = vec![seed.word() as u8; room];
+    let (mut after, was) = (before.clone(), seed.word());
+    let (mut number, mut length) = (0, was);
+    // short of room is 2: after 13 and 1, before the rest
+    let heard = match listing_of(&file) {
+        Err(number) if number == 13 || number == 1 => Err(number),
+        _ if room < LISTING_MOST => Err(2),
+        heard => heard,
+    };
+    match heard {
+        Ok(text) => {
+            after[..text.len()].copy_from_slice(text.as_bytes());
+            length = text.len() as u64;
+        }
+        Err(refused) => number = u64::from(refused),
+    }
+    Question {
+        function: "boltraven_run_job",
+        result_size: 1,
+        args: vec![Arg::Lent(1, file), Arg::LentMut(1, before), Arg::Out(was)],
+        due: Outcome {
+            result: number,
+            written: vec![after, bytes64(&[length])],
+        },
+    }
+}
+
+/// A whole job.
+pub fn questions(case_seed: u64) -> Vec<Question> {
+    let mut seed = Seed::new(case_seed);
+    let file = sound_file(&mut seed);
+    let room = LISTING_MOST + seed.below(3) as usize;
+    vec![question(&mut seed, file, room)]
+}
+
+/// A damaged job, now and then with too little room besides.
+pub fn damaged(case_seed: u64) -> Vec<Question> {
+    let mut seed = Seed::new(case_seed);
+    let file = damaged_file(&mut seed);
+    let room = if seed.one_in(8) {
+        seed.pick(&[0, 1, 4096, LISTING_MOST - 1])
+    } else {
+        LISTING_MOST
+    };
+    vec![question(&mut seed, file, room)]
 }
 
 #[cfg(test)]

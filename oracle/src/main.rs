@@ -8,12 +8,14 @@ mod job_files;
 mod jobs;
 mod library;
 mod problems;
+mod program;
 mod rotas;
 mod rotations;
 mod seed;
 mod sets;
 mod splitting;
 mod stored;
+mod stored_jobs;
 mod targets;
 mod units;
 
@@ -37,7 +39,7 @@ const fn kind(name: &'static str, questions: fn(u64) -> Vec<Question>) -> Kind {
 }
 
 /// Every kind that the library has by now.
-const KINDS: [Kind; 12] = [
+const KINDS: [Kind; 14] = [
     kind("slot-sets", sets::questions),
     kind("slot-sets-damaged", sets::damaged),
     kind("slots", splitting::questions),
@@ -50,6 +52,8 @@ const KINDS: [Kind; 12] = [
     kind("targets-damaged", targets::damaged),
     kind("rotas", rotas::questions),
     kind("rotas-damaged", rotas::damaged),
+    kind("jobs", jobs::questions),
+    kind("jobs-damaged", jobs::damaged),
 ];
 
 /// How many cases are asked at once.
@@ -74,6 +78,10 @@ fn main() -> ExitCode {
             Err(_) => usage(),
         },
         ["days", _, ..] => ended(every_day(&words[1..])),
+        ["program", n, seed, _, ..] => match (n.parse(), seed.parse()) {
+            (Ok(n), Ok(seed)) => ended(program::compare(n, seed, &words[3..])),
+            _ => usage(),
+        },
         ["rules", n, seed] => match (n.parse(), seed.parse()) {
             (Ok(n), Ok(seed)) => compare_rules(n, seed),
             _ => usage(),
@@ -103,8 +111,16 @@ fn main() -> ExitCode {
 
 /// Writes stored answers of a kind into the folder of the program that replays them: what it reads, and what it must then write.
 fn store(kind: &str, n: u64, seed: u64, folder: &Path) -> ExitCode {
-    let Some(stored) = stored::of_kind(kind, n, seed) else {
-        return usage();
+    let made = match kind {
+        "jobs" => stored_jobs::jobs(n, seed),
+        _ => stored::of_kind(kind, n, seed).ok_or_else(|| format!("no kind {kind}")),
+    };
+    let stored = match made {
+        Ok(stored) => stored,
+        Err(missing) => {
+            eprintln!("oracle: {missing}");
+            return ExitCode::from(2);
+        }
     };
     let line = format!("{} answers compared, 0 differ\n", stored.answers);
     let written = fs::write(folder.join("stdin"), &stored.bytes).and_then(|()| fs::write(folder.join("stdout"), line));
