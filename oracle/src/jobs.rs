@@ -4,13 +4,13 @@ use on_call::model::problem::Problem;
 use on_call::search::moves::MoveGenerator;
 
 use crate::call::{bytes16, bytes32, bytes64, Arg, Outcome, Question};
-use crate::days::instant;
+use crate::days::{instant, MINUTES_MOST};
 use crate::job_faults::{at_the_limit, some_faults, with_faults};
-use crate::job_files::{file_of, listing_of, Record, BASE, DRAW, FREEZE, OWNER, PERSON, RANGE, SETTINGS};
-use crate::problems::{problem_case, slots_of, ProblemCase};
+use crate::job_files::{file_of, listing_of, Record, BASE, DRAW, DRAWS_MOST, FREEZE, OWNER, PERSON, RANGE, SETTINGS};
+use crate::problems::{problem_case, slots_of, Person, ProblemCase, Range, Settings};
 use crate::rotas::{draws, owners, played, step, Draw, Played, NOBODY};
 use crate::seed::Seed;
-use crate::sets::SLOTS_MOST;
+use crate::sets::{PEOPLE_MOST, SLOTS_MOST};
 
 /// The room that a listing is asked for: 1,024 lines of slots, 32 of people, 1,024 of draws and the last, each at its longest.
 const LISTING_MOST: usize = 1024 * 33 + 32 * 47 + 1024 * 9 + 23;
@@ -49,6 +49,44 @@ impl JobCase {
             freeze,
             owners: listed,
             draws: drawn,
+        }
+    }
+
+    /// A job at every limit: 1,024 base slots up to the last minute, 32 people, 1,024 ranges, 1,024 owners, 1,024 draws. Everybody is available
+    /// for every slot, by 32 touching ranges, the last first; one person owns all, and every draw hands the whole rota to somebody else.
+    pub fn at_every_limit() -> Self {
+        let length = MINUTES_MOST as u32 / SLOTS_MOST as u32;
+        let first = MINUTES_MOST as u32 - length * SLOTS_MOST as u32;
+        let start = |slot: u32| first + length * slot;
+        let (people, ranges) = (PEOPLE_MOST as u32, 1024);
+        let share = ranges / people;
+        let stretch = SLOTS_MOST as u32 / share;
+        let range = |k: u32| Range {
+            person: (k % people) as usize,
+            start: start(k / people * stretch),
+            end: start((k / people + 1) * stretch),
+        };
+        Self {
+            problem: ProblemCase {
+                base: (0..SLOTS_MOST as u32).map(|slot| (start(slot), start(slot + 1))).collect(),
+                ranges: (0..ranges).rev().map(range).collect(),
+                people: (0..people)
+                    .map(|k| Person {
+                        capacity: 1.0 + f64::from(k),
+                        prior: 1 << (k % 26),
+                    })
+                    .collect(),
+                settings: Settings {
+                    fairness: 0,
+                    lock: 0,
+                    boundary: 1,
+                    value: 127,
+                    days: 366,
+                },
+            },
+            freeze: Some(0),
+            owners: (0..SLOTS_MOST as u16).map(|slot| (slot, 0)).collect(),
+            draws: (0..DRAWS_MOST as u16).map(|k| (60, k, k % 31)).collect(),
         }
     }
 
@@ -133,6 +171,14 @@ impl JobCase {
 
 // ---- files, and the calls
 
+/// The job at every limit, and the same file cut by its last byte, which is refused at once: what is between their times is the job's.
+pub fn timed() -> [Question; 2] {
+    let file = JobCase::at_every_limit().file();
+    let cut = file[..file.len() - 1].to_vec();
+    let mut seed = Seed::new(0);
+    [file, cut].map(|file| question(&mut seed, file, LISTING_MOST))
+}
+
 /// The file of a job that nothing is wrong with, unless it has too many atomic slots.
 pub fn sound_file(seed: &mut Seed) -> Vec<u8> {
     JobCase::new(seed).file()
@@ -212,7 +258,20 @@ pub fn damaged(case_seed: u64) -> Vec<Question> {
 #[cfg(test)]
 mod tests {
     use super::JobCase;
+    use crate::job_files::listing_of;
     use crate::problems::{Person, ProblemCase, Range, Settings};
+
+    /// The job at every limit is accepted, all its draws act, and only more owner records would make its file longer.
+    #[test]
+    fn limits_are_met() {
+        let job = JobCase::at_every_limit();
+        let listing = listing_of(&job.file()).expect("it is accepted");
+        assert_eq!(
+            listing.lines().filter(|line| line.starts_with('D') && line.ends_with('A')).count(),
+            1024
+        );
+        assert_eq!(job.file().len(), 45_588);
+    }
 
     /// The paper's own job and its listing.
     #[test]

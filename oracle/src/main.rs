@@ -23,6 +23,7 @@ use std::fs;
 use std::io::Write;
 use std::path::Path;
 use std::process::ExitCode;
+use std::time::{Duration, Instant};
 
 use call::Question;
 use library::Library;
@@ -62,8 +63,9 @@ const BATCH: u64 = 256;
 /// How many differences of a kind are printed.
 const SHOWN: u64 = 20;
 
-const USAGE: &str =
-    "usage: oracle compare N SEED KIND|every WORKER.. | oracle case KIND CASE-SEED WORKER.. | oracle days | oracle store KIND N SEED FOLDER";
+const USAGE: &str = "usage: oracle compare N SEED KIND|every WORKER.. | case KIND CASE-SEED WORKER.. | days WORKER.. | time N WORKER..
+       oracle program N SEED COMMAND.. | rules N SEED | store KIND N SEED FOLDER
+       oracle job SEED | listing SEED | limits | listing-of FILE";
 
 fn main() -> ExitCode {
     let words: Vec<String> = std::env::args().skip(1).collect();
@@ -92,6 +94,11 @@ fn main() -> ExitCode {
         },
         ["listing", seed] => match seed.parse() {
             Ok(seed) => write_out(job_files::text_of(&jobs::JobCase::new(&mut Seed::new(seed)).file()).as_bytes()),
+            Err(_) => usage(),
+        },
+        ["limits"] => write_out(&jobs::JobCase::at_every_limit().file()),
+        ["time", n, _, ..] => match n.parse() {
+            Ok(n) => ended(time_job(n, &words[2..])),
             Err(_) => usage(),
         },
         ["listing-of", file] => match fs::read(file) {
@@ -201,6 +208,28 @@ fn compare(n: u64, run: u64, wanted: &str, worker: &[String]) -> std::io::Result
         differing += different;
     }
     library.finish()?;
+    Ok(differing)
+}
+
+/// Times the job at every limit: the least of n runs, less the least of as many runs of the same file cut by a byte.
+fn time_job(n: u64, worker: &[String]) -> std::io::Result<u64> {
+    let mut library = Library::start(worker)?;
+    let mut least = [Duration::MAX; 2];
+    let mut differing = 0;
+    for _ in 0..n {
+        for (question, least) in jobs::timed().iter().zip(&mut least) {
+            let begun = Instant::now();
+            let outcomes = library.ask(std::slice::from_ref(question))?;
+            *least = begun.elapsed().min(*least);
+            differing += u64::from(outcomes[0] != question.due);
+        }
+    }
+    library.finish()?;
+    let [whole, cut] = least.map(|time| time.as_secs_f64() * 1000.0);
+    println!(
+        "jobs: a job at every limit takes {:.2} ms: {whole:.2} less {cut:.2} for its file cut by a byte, each the least of {n} runs",
+        whole - cut
+    );
     Ok(differing)
 }
 
