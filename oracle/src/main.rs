@@ -9,6 +9,8 @@ mod jobs;
 mod library;
 mod problems;
 mod program;
+mod readers;
+mod recounts;
 mod rotas;
 mod rotations;
 mod seed;

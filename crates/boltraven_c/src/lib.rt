@@ -2,6 +2,7 @@
 // Every function is total, as the one that it calls: what is promised of that one, said in numbers, is promised here.
 mod calendar;
 mod demand;
+mod drawn;
 mod freezing;
 mod jobs;
 mod lengths;
