@@ -257,9 +257,23 @@ pub fn damaged(case_seed: u64) -> Vec<Question> {
 
 #[cfg(test)]
 mod tests {
-    use super::JobCase;
+    use super::{damaged_file, JobCase};
     use crate::job_files::listing_of;
     use crate::problems::{Person, ProblemCase, Range, Settings};
+    use crate::seed::Seed;
+
+    /// Damaged jobs reach every number, and some have nothing wrong with them.
+    #[test]
+    fn every_number_is_reached() {
+        let mut seen = [0u64; 14];
+        for k in 0..2000 {
+            let number = listing_of(&damaged_file(&mut Seed::new(k))).err();
+            seen[usize::from(number.unwrap_or(0))] += 1;
+        }
+        for number in [0, 1, 3, 4, 5, 6, 7, 10, 11, 12, 13] {
+            assert!(seen[number] >= 10, "{number}: {seen:?}");
+        }
+    }
 
     /// The job at every limit is accepted, all its draws act, and only more owner records would make its file longer.
     #[test]
