@@ -61,13 +61,18 @@ fn changed(file: &Path) -> Option<SystemTime> {
     fs::metadata(file).and_then(|about| about.modified()).ok()
 }
 
-/// When the newest file of a folder was written.
+/// When the newest source of a folder was written, or the newest folder, since a source may have gone from it.
 fn newest(place: &Path) -> Option<SystemTime> {
-    if !place.is_dir() {
-        return changed(place);
+    let kind = place.extension().and_then(|name| name.to_str());
+    match fs::read_dir(place) {
+        Ok(inside) => inside
+            .flatten()
+            .filter_map(|entry| newest(&entry.path()))
+            .chain(changed(place))
+            .max(),
+        Err(_) if matches!(kind, Some("rt" | "antt" | "txt")) => changed(place),
+        Err(_) => None,
     }
-    let inside = fs::read_dir(place).ok()?;
-    inside.flatten().filter_map(|entry| newest(&entry.path())).max()
 }
 
 /// Ends the build with one line.
