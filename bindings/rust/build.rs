@@ -36,7 +36,7 @@ fn main() {
 fn built() -> PathBuf {
     let root = PathBuf::from(env::var_os("CARGO_MANIFEST_DIR").unwrap_or_default()).join("../..");
     let archive = root.join("target/staticlib").join(ARCHIVE);
-    let sources = [root.join("crates"), root.join("crates.txt")];
+    let sources = sources(&root);
     for source in &sources {
         println!("cargo:rerun-if-changed={}", source.display());
     }
@@ -56,23 +56,24 @@ fn built() -> PathBuf {
     }
 }
 
+/// What the archive is made of: the list of crates, and each crate's sources.
+fn sources(root: &Path) -> Vec<PathBuf> {
+    let crates = fs::read_dir(root.join("crates")).into_iter().flatten().flatten();
+    let folders = crates.flat_map(|one| ["src", "specs", "proofs"].map(|part| one.path().join(part)));
+    let mut sources: Vec<PathBuf> = folders.filter(|folder| folder.is_dir()).collect();
+    sources.push(root.join("crates.txt"));
+    sources
+}
+
 /// When a file was last written.
 fn changed(file: &Path) -> Option<SystemTime> {
     fs::metadata(file).and_then(|about| about.modified()).ok()
 }
 
-/// When the newest source of a folder was written, or the newest folder, since a source may have gone from it.
+/// When the newest file of a folder was written, or the newest folder, since a file may have gone from it.
 fn newest(place: &Path) -> Option<SystemTime> {
-    let kind = place.extension().and_then(|name| name.to_str());
-    match fs::read_dir(place) {
-        Ok(inside) => inside
-            .flatten()
-            .filter_map(|entry| newest(&entry.path()))
-            .chain(changed(place))
-            .max(),
-        Err(_) if matches!(kind, Some("rt" | "antt" | "txt")) => changed(place),
-        Err(_) => None,
-    }
+    let inside = fs::read_dir(place).into_iter().flatten().flatten();
+    inside.filter_map(|entry| newest(&entry.path())).chain(changed(place)).max()
 }
 
 /// Ends the build with one line.
