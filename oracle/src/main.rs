@@ -6,6 +6,8 @@ mod figures;
 mod jobs;
 mod library;
 mod problems;
+mod readers;
+mod recounts;
 mod rotas;
 mod rotations;
 mod seed;

@@ -8,11 +8,16 @@ use rand::Script;
 use crate::call::{bytes16, bytes32, bytes64, Arg, Outcome, Question};
 use crate::days::MINUTES_MOST;
 use crate::problems::{availability_into, put_bit, slots_of, unit_starts_of, Person, ProblemCase, Range, Settings};
+use crate::readers;
+use crate::recounts;
 use crate::seed::Seed;
 use crate::sets::{PEOPLE_MOST, SET_WORDS, SLOTS_MOST};
 
 /// The owner byte of a slot that nobody holds.
 pub const NOBODY: u8 = 255;
+
+/// The draws of a call.
+const DRAWS_MOST: usize = 1024;
 
 /// Three numbers a draw.
 pub type Draw = (u16, u16, u16);
@@ -203,7 +208,7 @@ pub fn owners(seed: &mut Seed, problem: &Problem) -> Vec<u8> {
 
 /// Draws of all five moves, mostly naming units that there are, some outside in each number.
 pub fn draws(seed: &mut Seed, problem: &Problem) -> Vec<Draw> {
-    let count = if seed.one_in(40) { 1024 } else { seed.within(0, 30) };
+    let count = if seed.one_in(40) { DRAWS_MOST as u64 } else { seed.within(0, 30) };
     let units = problem.unit_count() as u64;
     (0..count)
         .map(|_| {
@@ -234,23 +239,25 @@ pub fn draws(seed: &mut Seed, problem: &Problem) -> Vec<Draw> {
 // ---- the calls
 
 /// A rota as it is lent, with any bits past the last slot, and now and then more room than needed.
-struct Lent {
-    people: usize,
-    units: usize,
-    starts: Vec<u32>,
-    ends: Vec<u32>,
-    avail: Vec<u64>,
-    firsts: Vec<u16>,
-    frozen: Vec<u64>,
-    owners: Vec<u8>,
-    sets: Vec<u64>,
-    minutes: Vec<u64>,
-    draws: Vec<Draw>,
-    answers: Vec<u8>,
+#[derive(Clone)]
+pub struct Lent {
+    pub people: usize,
+    pub units: usize,
+    pub starts: Vec<u32>,
+    pub ends: Vec<u32>,
+    pub avail: Vec<u64>,
+    pub firsts: Vec<u16>,
+    pub frozen: Vec<u64>,
+    pub owners: Vec<u8>,
+    pub sets: Vec<u64>,
+    pub minutes: Vec<u64>,
+    pub count: usize,
+    pub draws: Vec<Draw>,
+    pub answers: Vec<u8>,
 }
 
 impl Lent {
-    fn new(seed: &mut Seed, case: &RotaCase) -> Self {
+    pub fn new(seed: &mut Seed, case: &RotaCase) -> Self {
         let problem = &case.problem;
         let people = problem.human_count();
         let slots = problem.slot_count();
@@ -279,6 +286,7 @@ impl Lent {
             owners,
             sets,
             minutes: [&begun.minutes[..], &vec![seed.word(); spare]].concat(),
+            count: case.draws.len(),
             draws: case.draws.clone(),
             answers,
         }
@@ -288,8 +296,8 @@ impl Lent {
         Arg::Lent(2, bytes16(&self.draws.iter().map(number).collect::<Vec<u16>>()))
     }
 
-    /// A play: what it leaves, or a refusal that leaves everything as it was.
-    fn question(&self, due: Result<&Played, u64>) -> Question {
+    /// A play, of draws in three columns and of the same draws as structs: what both leave, or a refusal that leaves everything as it was.
+    fn plays(&self, due: Result<&Played, u64>) -> Vec<Question> {
         let (mut owners, mut sets) = (self.owners.clone(), self.sets.clone());
         let (mut minutes, mut answers) = (self.minutes.clone(), self.answers.clone());
         let mut result = 0;
@@ -302,37 +310,45 @@ impl Lent {
             }
             Err(number) => result = number,
         }
-        Question {
-            function: "boltraven_play",
-            result_size: 1,
-            args: vec![
-                Arg::Number(self.people as u64),
-                Arg::Number(self.starts.len() as u64),
-                Arg::Number(self.units as u64),
-                Arg::Number(self.draws.len() as u64),
-                Arg::Lent(4, bytes32(&self.starts)),
-                Arg::Lent(4, bytes32(&self.ends)),
-                Arg::Lent(8, bytes64(&self.avail)),
-                Arg::Lent(2, bytes16(&self.firsts)),
-                Arg::Lent(8, bytes64(&self.frozen)),
-                Arg::LentMut(1, self.owners.clone()),
-                Arg::LentMut(8, bytes64(&self.sets)),
-                Arg::LentMut(8, bytes64(&self.minutes)),
-                self.column(|draw| draw.0),
-                self.column(|draw| draw.1),
-                self.column(|draw| draw.2),
-                Arg::LentMut(1, self.answers.clone()),
-            ],
-            due: Outcome {
-                result,
-                written: vec![owners, bytes64(&sets), bytes64(&minutes), answers],
-            },
-        }
+        let due = Outcome {
+            result,
+            written: vec![owners, bytes64(&sets), bytes64(&minutes), answers],
+        };
+        let columns = vec![self.column(|draw| draw.0), self.column(|draw| draw.1), self.column(|draw| draw.2)];
+        let numbers: Vec<u16> = self.draws.iter().flat_map(|draw| [draw.0, draw.1, draw.2]).collect();
+        let structs = vec![Arg::Lent(6, bytes16(&numbers))];
+        let ways = [("boltraven_play", columns), ("boltraven_play_draws", structs)];
+        ways.into_iter()
+            .map(|(function, draws)| Question {
+                function,
+                result_size: 1,
+                args: [self.board(), draws, vec![Arg::LentMut(1, self.answers.clone())]].concat(),
+                due: due.clone(),
+            })
+            .collect()
+    }
+
+    /// What a play takes before its draws.
+    fn board(&self) -> Vec<Arg> {
+        vec![
+            Arg::Number(self.people as u64),
+            Arg::Number(self.starts.len() as u64),
+            Arg::Number(self.units as u64),
+            Arg::Number(self.count as u64),
+            Arg::Lent(4, bytes32(&self.starts)),
+            Arg::Lent(4, bytes32(&self.ends)),
+            Arg::Lent(8, bytes64(&self.avail)),
+            Arg::Lent(2, bytes16(&self.firsts)),
+            Arg::Lent(8, bytes64(&self.frozen)),
+            Arg::LentMut(1, self.owners.clone()),
+            Arg::LentMut(8, bytes64(&self.sets)),
+            Arg::LentMut(8, bytes64(&self.minutes)),
+        ]
     }
 }
 
 /// Everybody's set of slots, by the owners; bits past the last slot stay.
-fn sets_into(words: &mut [u64], people: usize, owners: &[u8]) {
+pub fn sets_into(words: &mut [u64], people: usize, owners: &[u8]) {
     for person in 0..people {
         for (slot, &owner) in owners.iter().enumerate() {
             put_bit(words, person, slot, usize::from(owner) == person);
@@ -340,22 +356,25 @@ fn sets_into(words: &mut [u64], people: usize, owners: &[u8]) {
     }
 }
 
-/// A play of all draws of a rota; sets and minutes made from its owners; one slot assigned; and what is left uncovered.
+/// A play of all draws of a rota; sets and minutes made from its owners; one slot assigned; what is left uncovered; recounts; readers.
 pub fn questions(case_seed: u64) -> Vec<Question> {
     let mut seed = Seed::new(case_seed);
     let case = RotaCase::new(&mut seed);
     let lent = Lent::new(&mut seed, &case);
-    let mut asked = vec![lent.question(Ok(&case.play())), lent.from_slots(&mut seed, &case)];
+    let mut asked = lent.plays(Ok(&case.play()));
+    asked.push(lent.from_slots(&mut seed, &case));
     for _ in 0..3 {
         asked.push(lent.assign(&mut seed, &case));
     }
     asked.extend(lent.readers(&mut seed, &case));
+    asked.extend(recounts::questions(&mut seed, &case, &lent));
+    asked.extend(readers::questions(&mut seed, &case, &lent));
     asked
 }
 
 impl Lent {
     /// What every entry on a rota takes first.
-    fn ground(&self) -> Vec<Arg> {
+    pub fn ground(&self) -> Vec<Arg> {
         vec![
             Arg::Number(self.people as u64),
             Arg::Number(self.starts.len() as u64),
@@ -467,7 +486,8 @@ impl Lent {
     }
 }
 
-/// Rotas with one fault: in what was lent, or of the recount. The number is the paper's, and it is the only one that is due.
+/// Rotas with one fault: in what was lent, or of the recount. The numbers are the paper's, each the only one that is due: of a play, of the
+/// recount, of the recount without units, and of an empty rota. An entry that doesn't take the damaged thing has none.
 pub fn damaged(case_seed: u64) -> Vec<Question> {
     let mut seed = Seed::new(case_seed);
     let case = RotaCase::new(&mut seed);
@@ -475,46 +495,67 @@ pub fn damaged(case_seed: u64) -> Vec<Question> {
     let slots = case.problem.slot_count();
     let slot = seed.below(slots as u64) as usize;
     let person = seed.below(lent.people as u64) as usize;
-    let number = match seed.below(9) {
+    let [play, recount, recount_slots, empty] = match seed.below(13) {
         0 => {
             lent.people = seed.pick(&[0, 33, usize::MAX]);
-            1
+            [1, 1, 1, 1]
         }
         1 => {
             lent.owners.truncate(slots - 1);
-            2
+            [2, 2, 2, 2]
         }
         2 => {
             lent.sets.truncate(SET_WORDS * lent.people - 1);
-            2
+            [2, 2, 2, 2]
         }
         3 => {
             lent.ends[slot] = lent.starts[slot];
-            9
+            [9, 9, 9, 0]
         }
         4 => {
             lent.firsts[0] = 1;
-            9
+            [9, 9, 0, 0]
         }
         5 => {
             lent.units = 0;
-            9
+            [9, 9, 0, 0]
         }
         6 => {
             lent.owners[slot] = lent.people as u8 + seed.below(254 - lent.people as u64) as u8;
-            10
+            [10, 10, 10, 0]
         }
         7 => {
             let word = &mut lent.sets[SET_WORDS * person + slot / 64];
             *word ^= 1 << (slot % 64);
-            10
+            [10, 10, 10, 0]
+        }
+        8 => {
+            lent.minutes[person] ^= 1 << seed.below(64);
+            [10, 10, 10, 0]
+        }
+        9 => {
+            lent.count = seed.pick(&[DRAWS_MOST + 1, usize::MAX]);
+            [1, 0, 0, 0]
+        }
+        10 => {
+            lent.count = (lent.count + 1).min(DRAWS_MOST);
+            lent.draws.truncate(lent.count - 1);
+            [2, 0, 0, 0]
+        }
+        11 => {
+            lent.firsts.truncate(lent.units - 1);
+            [2, 2, 0, 0]
         }
         _ => {
-            lent.minutes[person] ^= 1 << seed.below(64);
-            10
+            lent.starts.clear();
+            [1, 1, 1, 1]
         }
     };
-    vec![lent.question(Err(number))]
+    let mut asked = lent.plays(Err(play));
+    asked.push(recounts::with_units(&lent, recount));
+    asked.push(recounts::without_units(&lent, recount_slots));
+    asked.push(recounts::empty(&case, &lent, empty));
+    asked
 }
 
 #[cfg(test)]

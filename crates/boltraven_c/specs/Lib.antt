@@ -3,3 +3,5 @@ pub mod Numbers
 pub mod Sets
 pub mod Rotas
 pub mod Units
+pub mod Demand
+pub mod Jobs

@@ -3,6 +3,8 @@ use Prim.Native.Nat.{ℕ, _+_}
 use Rattle.units.specs.declared.Settings.{Settings}
 use Rattle.units.specs.declared.Number.{Number}
 use Rattle.units.specs.declared.Number.the-variants as number
+use Rattle.units.specs.declared.UnitSlots.{UnitSlots}
+use Rattle.units.specs.declared.UnitSlots.the-variants as unitSlots
 use Rattle.units.specs.declared.Duration.{Duration}
 use Rattle.units.specs.declared.Duration.the-variants as duration
 
@@ -24,3 +26,16 @@ durationNo (duration.Refused n) = n
 abbrev pub durationMinutes : ℕ → Duration → ℕ
 durationMinutes was (duration.Minutes m) = m
 durationMinutes was (duration.Refused n) = was
+
+-- a unit's slots: the number of the refusal, or 0, and its ends beside it; refused, those stay as they were lent
+abbrev pub spanNo : UnitSlots → ℕ
+spanNo (unitSlots.Span from to) = 0
+spanNo (unitSlots.Refused n) = n
+
+abbrev pub spanFrom : ℕ → UnitSlots → ℕ
+spanFrom was (unitSlots.Span from to) = from
+spanFrom was (unitSlots.Refused n) = was
+
+abbrev pub spanTo : ℕ → UnitSlots → ℕ
+spanTo was (unitSlots.Span from to) = to
+spanTo was (unitSlots.Refused n) = was

@@ -1,8 +1,12 @@
 // The library for C and Rust to link: numbers, flags and slices only. A slice is passed as its address and its number of elements.
 // Every function is total, as the one that it calls: what is promised of that one, said in numbers, is promised here.
 mod calendar;
+mod demand;
+mod drawn;
 mod freezing;
+mod jobs;
 mod lengths;
+mod recounts;
 mod rotas;
 mod rotations;
 mod sets;

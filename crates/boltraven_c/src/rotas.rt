@@ -3,7 +3,7 @@ use rota::Figure;
 ghost use mathlib.Core.Path.{_≡_};
 ghost use mathlib.Core.List.{[]};
 ghost use Rattle.rota.specs.Derived.{plan, derived};
-ghost use Rattle.rota.specs.Entries.{Ended, fromSlots, assigned, played, unassignedIs, uncoveredIs};
+ghost use Rattle.rota.specs.Entries.{Ended, fromSlots, emptied, assigned, played, ownerIs, minutesIs, unassignedIs, uncoveredIs};
 ghost use Rattle.boltraven_c.specs.Rotas.{figureNo, figureIs};
 
 fn put_figure(figure: Figure, out: &mut u64) -> u8
@@ -37,6 +37,22 @@ pub extern "C" fn boltraven_from_slots(
         r (now (owners .entry)) (derived (now (sets .exit)) (now (minutes .exit))) [] ⌝ }
 {
     rota::assignment::from_slots(people, slots, starts, ends, avail, owners, sets, minutes)
+}
+
+// An empty rota: nobody owns a slot, and sets and minutes are cleared.
+#[no_mangle]
+pub extern "C" fn boltraven_empty(
+    people: usize,
+    slots: usize,
+    owners: &mut [u8],
+    sets: &mut [u64],
+    minutes: &mut [u64],
+) -> u8
+    ensures { λ r. ⌜ Ended
+        (emptied people slots (now (owners .entry)) (derived (now (sets .entry)) (now (minutes .entry))))
+        r (now (owners .exit)) (derived (now (sets .exit)) (now (minutes .exit))) [] ⌝ }
+{
+    rota::assignment::empty(people, slots, owners, sets, minutes)
 }
 
 // A slot assigned to a person, or cleared by 255.
@@ -116,6 +132,37 @@ pub extern "C" fn boltraven_play(
         twos,
         answers,
     )
+}
+
+// The owner of a slot: a person's number, or 255 for nobody.
+#[no_mangle]
+pub extern "C" fn boltraven_owner_of_slot(
+    people: usize,
+    slots: usize,
+    owners: &[u8],
+    slot: usize,
+    out: &mut u64,
+) -> u8
+    ensures { λ r. ⌜ r ≡ figureNo (ownerIs people slots (now (owners .entry)) slot) ⌝ }
+    ensures { λ _. ⌜ now (out .exit) ≡ figureIs (now (out .entry)) (ownerIs people slots (now (owners .entry)) slot) ⌝ }
+{
+    let figure = rota::assignment::owner_of_slot(people, slots, owners, slot);
+    put_figure(figure, out)
+}
+
+// A person's minutes.
+#[no_mangle]
+pub extern "C" fn boltraven_minutes_of(
+    people: usize,
+    minutes: &[u64],
+    person: usize,
+    out: &mut u64,
+) -> u8
+    ensures { λ r. ⌜ r ≡ figureNo (minutesIs people (now (minutes .entry)) person) ⌝ }
+    ensures { λ _. ⌜ now (out .exit) ≡ figureIs (now (out .entry)) (minutesIs people (now (minutes .entry)) person) ⌝ }
+{
+    let figure = rota::assignment::minutes_of(people, minutes, person);
+    put_figure(figure, out)
 }
 
 // The slots that nobody owns.

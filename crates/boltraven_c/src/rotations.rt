@@ -1,9 +1,11 @@
-// Where rotations and units begin. The settings come as their five numbers.
+// Where rotations and units begin, and what a unit holds. The settings come as their five numbers.
 use units::Number;
 use units::Settings;
+use units::UnitSlots;
 ghost use mathlib.Core.Path.{_≡_};
+ghost use Rattle.units.specs.Answers.{unitSlotsIs, unitOfSlotIs};
 ghost use Rattle.units.specs.Starts.{rotationStartsIs, unitStartsIs};
-ghost use Rattle.boltraven_c.specs.Units.{countNumber, settingsOf};
+ghost use Rattle.boltraven_c.specs.Units.{countNumber, settingsOf, spanNo, spanFrom, spanTo};
 
 pub(crate) fn count_number(count: Number) -> u64
     ensures { λ r. ⌜ r ≡ countNumber count ⌝ }
@@ -72,4 +74,45 @@ pub extern "C" fn boltraven_unit_starts(
         days,
     };
     count_number(units::unit_starts(settings, slots, starts, ends, firsts))
+}
+
+// The slots of a unit (or of a rotation): `from` up to `to`, without `to`.
+#[no_mangle]
+pub extern "C" fn boltraven_unit_slots(
+    slots: usize,
+    units: usize,
+    firsts: &[u16],
+    unit: usize,
+    from: &mut u64,
+    to: &mut u64,
+) -> u8
+    ensures { λ r. ⌜ r ≡ spanNo (unitSlotsIs slots units (now (firsts .entry)) unit) ⌝ }
+    ensures { λ _. ⌜ now (from .exit) ≡ spanFrom (now (from .entry)) (unitSlotsIs slots units (now (firsts .entry)) unit) ⌝ }
+    ensures { λ _. ⌜ now (to .exit) ≡ spanTo (now (to .entry)) (unitSlotsIs slots units (now (firsts .entry)) unit) ⌝ }
+{
+    let span = units::unit_slots(slots, units, firsts, unit);
+    match span {
+        UnitSlots::Span {
+            from: low,
+            to: high,
+        } => {
+            *from = low as u64;
+            *to = high as u64;
+            0
+        }
+        UnitSlots::Refused(n) => n,
+    }
+}
+
+// The unit (or the rotation) of a slot.
+#[no_mangle]
+pub extern "C" fn boltraven_unit_of_slot(
+    slots: usize,
+    units: usize,
+    firsts: &[u16],
+    slot: usize,
+) -> u64
+    ensures { λ r. ⌜ r ≡ countNumber (unitOfSlotIs slots units (now (firsts .entry)) slot) ⌝ }
+{
+    count_number(units::unit_of_slot(slots, units, firsts, slot))
 }

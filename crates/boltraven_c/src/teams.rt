@@ -1,10 +1,25 @@
-// Who can cover a unit, and whether it is frozen.
+// Who can cover a slot or a unit, and whether a unit is frozen.
 use crate::rotations::count_number;
 use crate::sets::told_number;
 ghost use mathlib.Core.Path.{_≡_};
-ghost use Rattle.units.specs.Domains.{unitDomainIs, unitFrozenIs};
+ghost use Rattle.units.specs.Domains.{slotDomainIs, unitDomainIs, unitFrozenIs};
 ghost use Rattle.boltraven_c.specs.Numbers.{toldNumber};
 ghost use Rattle.boltraven_c.specs.Units.{countNumber};
+
+// The people available for a slot, ascending, and how many.
+#[no_mangle]
+pub extern "C" fn boltraven_slot_domain(
+    avail: &[u64],
+    people: usize,
+    slots: usize,
+    slot: usize,
+    list: &mut [u8],
+) -> u64
+    ensures { λ r. ⌜ r ≡ countNumber (slotDomainIs (now (avail .entry)) people slots slot (now (list .entry)) .answer) ⌝ }
+    ensures { λ _. ⌜ now (list .exit) ≡ slotDomainIs (now (avail .entry)) people slots slot (now (list .entry)) .buffer ⌝ }
+{
+    count_number(units::slot_domain(avail, people, slots, slot, list))
+}
 
 // The people available for all slots of a unit, ascending, and how many.
 #[no_mangle]

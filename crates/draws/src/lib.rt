@@ -7,7 +7,8 @@ ghost use Rattle.rota.specs.Entries.{Ended, played};
 ghost use Rattle.draws.specs.Columns.{drawAt, Roomy, putAt, most, Unpacked};
 ghost use Rattle.draws.specs.Played.{playedDraws};
 
-// A draw: the number drawn, and the two numbers that choose.
+// A draw: the number drawn, and the two numbers that choose; laid out as C does, so that an exported function can be lent a list of them.
+#[repr(C)]
 pub struct Draw {
     pub draw: u16,
     pub first: u16,

@@ -1,0 +1,21 @@
+-- `boltraven_c::demand::boltraven_slot_minutes` meets its contract. Assumes nothing.
+use borrow.Author.Needs.{needs}
+use mathlib.Core.Path.{ap, _∙_}
+use Rattle.boltraven_c.specs.Demand.{minutesNo, minutesAre}
+use Rattle.boltraven_c.proofs.demand.boltraven_slot_minutes.Statement.{statement}
+use Rattle.boltraven_c.proofs.demand.boltraven_slot_minutes.Tie as tie
+
+slot-minutes-requires : tie.Need-slot-minutes-requires
+slot-minutes-requires c κs = search needs
+
+put-length-requires : tie.Need-put-length-requires
+put-length-requires c κs = search needs
+
+returns : tie.Need-returns
+returns c =
+    let e = c .before .before .slot-minutes .ensures in
+    (c .put-length .ensures .0 ∙ ap minutesNo e, c .put-length .ensures .1 ∙ ap (minutesAre _) e)
+
+pub boltraven-slot-minutes-spec : {M : Type 1} → statement M
+boltraven-slot-minutes-spec =
+    tie.close (tie.spec slot-minutes-requires put-length-requires returns)

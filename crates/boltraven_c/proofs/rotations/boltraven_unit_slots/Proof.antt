@@ -1,0 +1,29 @@
+-- `boltraven_c::rotations::boltraven_unit_slots` meets its contract. Assumes nothing.
+use borrow.Author.Needs.{needs}
+use mathlib.Core.Path.{sym, ap, _∙_}
+use Rattle.boltraven_c.specs.Units.{spanNo, spanFrom, spanTo}
+use Rattle.boltraven_c.proofs.rotations.boltraven_unit_slots.Statement.{statement}
+use Rattle.boltraven_c.proofs.rotations.boltraven_unit_slots.Tie as tie
+
+unit-slots-requires : tie.Need-unit-slots-requires
+unit-slots-requires c κs = search needs
+
+enum-known-span : tie.Need-enum-known-span
+enum-known-span c = search needs
+
+enum-known-span-2 : tie.Need-enum-known-span-2
+enum-known-span-2 c = search needs
+
+returns : tie.Need-returns
+returns c =
+    let e = sym (c .before .before .before .unit-slots .ensures) ∙ c .before .span .given .1 in
+    (sym (ap spanNo e), (sym (ap (spanFrom _) e), sym (ap (spanTo _) e)))
+
+returns-2 : tie.Need-returns-2
+returns-2 c =
+    let e = sym (c .before .before .before .unit-slots .ensures) ∙ c .before .span2 .given .1 in
+    (sym (ap spanNo e), (sym (ap (spanFrom _) e), sym (ap (spanTo _) e)))
+
+pub boltraven-unit-slots-spec : {M : Type 1} → statement M
+boltraven-unit-slots-spec =
+    tie.close (tie.spec unit-slots-requires enum-known-span enum-known-span-2 returns returns-2)

@@ -1,0 +1,46 @@
+// The minutes of lent slots, written through an address, beside the number of the refusal, or 0.
+use slots::Minutes;
+ghost use mathlib.Core.Path.{_≡_};
+ghost use Rattle.slots.specs.Lent.{demandIs, slotMinutesIs};
+ghost use Rattle.boltraven_c.specs.Demand.{minutesNo, minutesAre};
+
+fn put_length(minutes: Minutes, out: &mut u64) -> u8
+    ensures { λ r. ⌜ r ≡ minutesNo minutes ⌝ }
+    ensures { λ _. ⌜ now (out .exit) ≡ minutesAre (now (out .entry)) minutes ⌝ }
+{
+    match minutes {
+        Minutes::Are(m) => {
+            *out = m as u64;
+            0
+        }
+        Minutes::Refused(n) => n,
+    }
+}
+
+// The minutes of all slots.
+#[no_mangle]
+pub extern "C" fn boltraven_demand(slots: usize, starts: &[u32], ends: &[u32], out: &mut u64) -> u8
+    ensures { λ r. ⌜ r ≡ minutesNo (demandIs slots (now (starts .entry)) (now (ends .entry))) ⌝ }
+    ensures { λ _. ⌜ now (out .exit)
+        ≡ minutesAre (now (out .entry)) (demandIs slots (now (starts .entry)) (now (ends .entry))) ⌝ }
+{
+    let minutes = slots::demand(slots, starts, ends);
+    put_length(minutes, out)
+}
+
+// The minutes of one slot.
+#[no_mangle]
+pub extern "C" fn boltraven_slot_minutes(
+    slots: usize,
+    starts: &[u32],
+    ends: &[u32],
+    slot: usize,
+    out: &mut u64,
+) -> u8
+    ensures { λ r. ⌜ r ≡ minutesNo (slotMinutesIs slots (now (starts .entry)) (now (ends .entry)) slot) ⌝ }
+    ensures { λ _. ⌜ now (out .exit)
+        ≡ minutesAre (now (out .entry)) (slotMinutesIs slots (now (starts .entry)) (now (ends .entry)) slot) ⌝ }
+{
+    let minutes = slots::slot_minutes(slots, starts, ends, slot);
+    put_length(minutes, out)
+}

@@ -1,0 +1,53 @@
+// The recount: whether owners, sets and minutes fit together, with units and without.
+ghost use mathlib.Core.Path.{_≡_};
+ghost use Rattle.rota.specs.Derived.{plan, derived};
+ghost use Rattle.rota.specs.Entries.{recountNo, recountSlotsNo};
+
+// 0 where the rota passes the recount, as a play asks it.
+#[no_mangle]
+pub extern "C" fn boltraven_recount(
+    people: usize,
+    slots: usize,
+    units: usize,
+    starts: &[u32],
+    ends: &[u32],
+    avail: &[u64],
+    firsts: &[u16],
+    owners: &[u8],
+    sets: &[u64],
+    minutes: &[u64],
+) -> u8
+    ensures { λ r. ⌜ r ≡ recountNo (plan people slots (now (starts .entry)) (now (ends .entry))) (now (avail .entry)) units
+        (now (firsts .entry)) (now (owners .entry)) (derived (now (sets .entry)) (now (minutes .entry))) ⌝ }
+{
+    rota::recount::recount(
+        people,
+        slots,
+        units,
+        starts,
+        ends,
+        avail,
+        firsts,
+        owners,
+        sets,
+        minutes,
+    )
+}
+
+// The same without units, as a single assign asks it.
+#[no_mangle]
+pub extern "C" fn boltraven_recount_slots(
+    people: usize,
+    slots: usize,
+    starts: &[u32],
+    ends: &[u32],
+    avail: &[u64],
+    owners: &[u8],
+    sets: &[u64],
+    minutes: &[u64],
+) -> u8
+    ensures { λ r. ⌜ r ≡ recountSlotsNo (plan people slots (now (starts .entry)) (now (ends .entry))) (now (avail .entry))
+        (now (owners .entry)) (derived (now (sets .entry)) (now (minutes .entry))) ⌝ }
+{
+    rota::recount::recount_slots(people, slots, starts, ends, avail, owners, sets, minutes)
+}

@@ -1,0 +1,113 @@
+//! Single questions of slots, units and owners, with numbers past their counts among them.
+
+use crate::call::{bytes16, bytes64, Arg, Outcome, Question};
+use crate::rotas::{Lent, RotaCase, NOBODY};
+use crate::seed::Seed;
+
+/// What an answer by one number adds to the number of a refusal.
+const REFUSED: u64 = 65_536;
+
+/// Refused: an index that is not below its count.
+const OUTSIDE: u64 = 11;
+
+/// An index below a count, now and then past it.
+fn index(seed: &mut Seed, count: usize) -> usize {
+    if seed.one_in(8) {
+        count + seed.below(3) as usize
+    } else {
+        seed.below(count as u64) as usize
+    }
+}
+
+/// A number beside each of its own words, or a refusal that leaves them.
+fn beside(function: &'static str, mut args: Vec<Arg>, seed: &mut Seed, due: Option<Vec<u64>>, words: usize) -> Question {
+    let was: Vec<u64> = (0..words).map(|_| seed.word()).collect();
+    args.extend(was.iter().map(|&word| Arg::Out(word)));
+    let result = if due.is_some() { 0 } else { OUTSIDE };
+    let written = due.unwrap_or(was);
+    Question {
+        function,
+        result_size: 1,
+        args,
+        due: Outcome {
+            result,
+            written: written.iter().map(|word| word.to_le_bytes().to_vec()).collect(),
+        },
+    }
+}
+
+/// The owner of a slot, a person's minutes, who can cover a slot, a slot's unit, a unit's slots, and minutes of one and of all slots.
+pub fn questions(seed: &mut Seed, case: &RotaCase, lent: &Lent) -> Vec<Question> {
+    let problem = &case.problem;
+    let assignment = case.assignment(&case.owners);
+    let (slots, people, units) = (problem.slot_count(), lent.people, lent.units);
+    let slot = index(seed, slots);
+    let person = index(seed, people);
+    let unit = index(seed, units);
+
+    let owner = (slot < slots).then(|| vec![assignment.get(slot).map_or(u64::from(NOBODY), |person| person as u64)]);
+    let owner_args = vec![
+        Arg::Number(people as u64),
+        Arg::Number(slots as u64),
+        Arg::Lent(1, lent.owners.clone()),
+        Arg::Number(slot as u64),
+    ];
+    let minutes = (person < people).then(|| vec![assignment.assigned_minutes(person) as u64]);
+    let minutes_args = vec![
+        Arg::Number(people as u64),
+        Arg::Lent(8, bytes64(&lent.minutes)),
+        Arg::Number(person as u64),
+    ];
+    let span = (unit < units).then(|| vec![problem.units[unit].start as u64, problem.units[unit].end as u64]);
+    let units_args = vec![
+        Arg::Number(slots as u64),
+        Arg::Number(units as u64),
+        Arg::Lent(2, bytes16(&lent.firsts)),
+    ];
+    let length = (slot < slots).then(|| vec![problem.slot_minutes[slot] as u64]);
+    // slots, starts and ends
+    let slots_args = lent.ground()[1..].to_vec();
+    let one = |args: &[Arg], k: usize| [args, &[Arg::Number(k as u64)]].concat();
+    vec![
+        beside("boltraven_owner_of_slot", owner_args, seed, owner, 1),
+        beside("boltraven_minutes_of", minutes_args, seed, minutes, 1),
+        beside("boltraven_unit_slots", one(&units_args, unit), seed, span, 2),
+        beside("boltraven_slot_minutes", one(&slots_args, slot), seed, length, 1),
+        beside("boltraven_demand", slots_args, seed, Some(vec![problem.total_demand() as u64]), 1),
+        Question {
+            function: "boltraven_unit_of_slot",
+            result_size: 8,
+            args: one(&units_args, slot),
+            due: Outcome {
+                result: problem.unit_of_slot.get(slot).map_or(REFUSED + OUTSIDE, |&unit| unit as u64),
+                written: vec![],
+            },
+        },
+        slot_domain(seed, case, lent, slot),
+    ]
+}
+
+/// The ascending list of people who can cover a slot.
+fn slot_domain(seed: &mut Seed, case: &RotaCase, lent: &Lent, slot: usize) -> Question {
+    let before: Vec<u8> = (0..lent.people + seed.below(2) as usize).map(|_| seed.word() as u8).collect();
+    let mut after = before.clone();
+    let domain = case.problem.domains.get(slot);
+    for (k, &person) in domain.into_iter().flatten().enumerate() {
+        after[k] = person as u8;
+    }
+    Question {
+        function: "boltraven_slot_domain",
+        result_size: 8,
+        args: vec![
+            Arg::Lent(8, bytes64(&lent.avail)),
+            Arg::Number(lent.people as u64),
+            Arg::Number(case.problem.slot_count() as u64),
+            Arg::Number(slot as u64),
+            Arg::LentMut(1, before),
+        ],
+        due: Outcome {
+            result: domain.map_or(REFUSED + OUTSIDE, |domain| domain.len() as u64),
+            written: vec![after],
+        },
+    }
+}
