@@ -4,7 +4,7 @@
 use std::any::Any;
 use std::io;
 
-use boltraven::{lent, Refusal};
+use boltraven::{lent, Draw, Refusal};
 
 use crate::call::{Arg, Outcome, Question};
 
@@ -77,11 +77,16 @@ exports! {
     told is_available(number, number, slice, number, number);
     counted rotation_starts(number, number, number, number, number, number, slice, slice, slice);
     counted unit_starts(number, number, number, number, number, number, slice, slice, slice);
+    done unit_slots(number, number, slice, number, out, out);
+    counted unit_of_slot(number, number, slice, number);
     counted covered_days(number, slice, slice);
+    done demand(number, slice, slice, out);
+    done slot_minutes(number, slice, slice, number, out);
     done minutes_per_day(number, slice, slice, out);
     done target_run(number, number, number, number, number, number, slice, slice, out);
     done achievable_run(number, number, number, number, number, slice, number, number, number, slice, slice, out);
     counted unit_domain(slice, number, number, number, slice, number, slice);
+    counted slot_domain(slice, number, number, number, slice);
     told unit_frozen(slice, number, number, slice, number);
     plain date_of(number);
     plain weekday_of(number);
@@ -89,8 +94,15 @@ exports! {
     done from_slots(number, number, slice, slice, slice, slice, slice, slice);
     done assign(number, number, slice, slice, slice, slice, slice, slice, number, number);
     done play(number, number, number, number, slice, slice, slice, slice, slice, slice, slice, slice, slice, slice, slice, slice);
+    done play_draws(number, number, number, number, slice, slice, slice, slice, slice, slice, slice, slice, slice, slice);
+    done empty(number, number, slice, slice, slice);
+    done recount(number, number, number, slice, slice, slice, slice, slice, slice, slice);
+    done recount_slots(number, number, slice, slice, slice, slice, slice, slice);
+    done owner_of_slot(number, number, slice, number, out);
+    done minutes_of(number, slice, number, out);
     done unassigned_count(number, number, slice, out);
     done uncovered_minutes(number, number, slice, slice, slice, out);
+    done run_job(slice, slice, out);
 }
 
 // ---- answers as numbers
@@ -224,6 +236,28 @@ macro_rules! elements {
 }
 
 elements!(u8, u16, u32, u64, i64, f64);
+
+impl Element for Draw {
+    const GUARD: Self = Draw {
+        draw: u16::GUARD,
+        first: u16::GUARD,
+        second: u16::GUARD,
+    };
+
+    fn read(bytes: &[u8]) -> Self {
+        let (draw, rest) = bytes.split_at(2);
+        let (first, second) = rest.split_at(2);
+        Draw {
+            draw: u16::read(draw),
+            first: u16::read(first),
+            second: u16::read(second),
+        }
+    }
+
+    fn put(self, bytes: &mut Vec<u8>) {
+        [self.draw, self.first, self.second].into_iter().for_each(|number| number.put(bytes));
+    }
+}
 
 /// Elements of a guard.
 const GUARD: usize = 64;
