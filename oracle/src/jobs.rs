@@ -55,8 +55,9 @@ impl JobCase {
         }
     }
 
-    /// A job at every limit: 1,024 base slots up to the last minute, 32 people, 1,024 ranges, 1,024 owners, 1,024 draws. Everybody is available
-    /// for every slot, by 32 touching ranges, the last first; two people own half each, and every draw has them swap their halves.
+    /// A job at every limit: 1,024 base slots up to the last minute, 32 people, 1,024 ranges, 1,024 owners, 1,024 draws. Everybody is
+    /// available for every slot, by 32 touching ranges, the last first; two people own half each, and every draw has them swap their
+    /// halves.
     pub fn at_every_limit() -> Self {
         let length = MINUTES_MOST as u32 / SLOTS_MOST as u32;
         let first = MINUTES_MOST as u32 - length * SLOTS_MOST as u32;
@@ -174,8 +175,8 @@ impl JobCase {
 
 // ---- files, and the calls
 
-/// Times the job at every limit, and the same file cut by its last byte, which is refused at once: what is between is the job's. Each time is
-/// the mean of n runs, of the processor and not of the clock.
+/// Times the job at every limit, and the same file cut by its last byte, which is refused at once: what is between is the job's. Each time
+/// is the mean of n runs, of the processor and not of the clock.
 pub fn time(n: u64) -> io::Result<u64> {
     let file = JobCase::at_every_limit().file();
     let cut = file[..file.len() - 1].to_vec();
@@ -207,8 +208,8 @@ pub fn sound_file(seed: &mut Seed) -> Vec<u8> {
     JobCase::new(seed).file()
 }
 
-/// A job's file with one fault or two, or filled up to the limit, or with one bit changed, or cut anywhere: that may leave a job that nothing
-/// is wrong with.
+/// A job's file with one fault or two, or filled up to the limit, or with one bit changed, or cut anywhere: that may leave a job that
+/// nothing is wrong with.
 pub fn damaged_file(seed: &mut Seed) -> Vec<u8> {
     let job = JobCase::new(seed);
     let mut file = job.file();
