@@ -1,125 +1,315 @@
-//! The library's side: a worker process that is linked with its static library and answers calls over its standard
-//! input and output. The library is for x86-64, so on another processor the worker runs under an emulator.
+//! The library's side: its exported functions, called in this process through the binding's lent slices. Every lent buffer stands between
+//! guards, so that a write past either end is seen, and one that is only read is compared with what was lent.
 
-use std::io::{self, BufReader, BufWriter, Read, Write};
-use std::process::{Child, Command, Stdio};
-use std::thread;
+use std::any::Any;
+use std::io;
+
+use boltraven::{lent, Draw, Refusal};
 
 use crate::call::{Arg, Outcome, Question};
 
-/// The exported functions, in the worker's order.
-const EXPORTS: &str = include_str!("../worker/exports.h");
+/// Asks a question.
+pub fn ask(question: &Question) -> io::Result<Outcome> {
+    let mut passed: Vec<Passed> = question.args.iter().map(|arg| Passed { arg, lent: None }).collect();
+    let mut args = Args { left: passed.iter_mut() };
+    let result = call(question.function, &mut args);
+    assert!(args.left.next().is_none(), "{} has fewer arguments", question.function);
+    assert!(
+        result >> 1 >> (8 * question.result_size - 1) == 0,
+        "{} has a wider result",
+        question.function
+    );
+    let mut written = Vec::new();
+    for Passed { arg, lent } in &passed {
+        let Some(buffer) = lent else { continue };
+        let wrong = |what: &str| io::Error::other(format!("{}: a lent buffer {what}", question.function));
+        if !buffer.guards_stand() {
+            return Err(wrong("was written past its end"));
+        }
+        match arg {
+            Arg::Lent(_, bytes) if *bytes != buffer.bytes() => return Err(wrong("that is only read was written")),
+            Arg::Lent(..) => {}
+            _ => written.push(buffer.bytes()),
+        }
+    }
+    Ok(Outcome { result, written })
+}
 
-/// The worker's number of a function.
-fn number_of(function: &str) -> u32 {
-    let line = format!("EXPORT({function})");
-    let place = EXPORTS
-        .lines()
-        .filter(|text| text.starts_with("EXPORT("))
-        .position(|text| text == line);
-    match place {
-        Some(n) => n as u32,
-        None => panic!("worker/exports.h does not name {function}"),
+// ---- the exported functions
+
+/// The names of all that the library exports, by the binding's declarations.
+pub fn exports() -> impl Iterator<Item = &'static str> {
+    let declared = include_str!("../../bindings/rust/src/sys.rs").lines();
+    declared.filter_map(|line| line.trim_start().strip_prefix("pub fn ")?.split('(').next())
+}
+
+/// Every function, one after the other: how its answer is said as a number, its name, and what each of its arguments is.
+macro_rules! exports {
+    ($($answer:ident $name:ident($($kind:ident),*);)*) => {
+        /// Calls a function by its name; its result as the library's number.
+        fn call(function: &str, args: &mut Args) -> u64 {
+            $(if function == concat!("boltraven_", stringify!($name)) {
+                return $answer(lent::$name($(args.$kind()),*));
+            })*
+            panic!("{function} is not among the exports")
+        }
+    };
+}
+
+exports! {
+    told contains(slice, number, number, number, number);
+    told is_empty(slice, number, number, number);
+    counted count(slice, number, number, number);
+    found next_set(slice, number, number, number, number);
+    found prev_set(slice, number, number, number, number);
+    found next_unset_after(slice, number, number, number, number);
+    found prev_unset_before(slice, number, number, number, number);
+    wrote run_bounds(slice, number, number, number, number, out, out);
+    wrote next_run(slice, number, number, number, number, out, out, out);
+    wrote next_member(slice, number, number, number, number, out, out);
+    done insert(slice, number, number, number, number);
+    done remove(slice, number, number, number, number);
+    done put_stretch(slice, number, number, number, number, number, number);
+    counted merged_ranges(number, number, slice, slice, slice, slice, slice, slice);
+    counted atomise(number, slice, slice, number, number, slice, slice, slice, slice, slice);
+    done availability(number, number, slice, slice, number, slice, slice, slice, slice);
+    counted freeze_before(number, slice, slice, slice, number);
+    told is_available(number, number, slice, number, number);
+    counted rotation_starts(number, number, number, number, number, number, slice, slice, slice);
+    counted unit_starts(number, number, number, number, number, number, slice, slice, slice);
+    done unit_slots(number, number, slice, number, out, out);
+    counted unit_of_slot(number, number, slice, number);
+    counted covered_days(number, slice, slice);
+    done demand(number, slice, slice, out);
+    done slot_minutes(number, slice, slice, number, out);
+    done minutes_per_day(number, slice, slice, out);
+    done target_run(number, number, number, number, number, number, slice, slice, out);
+    done achievable_run(number, number, number, number, number, slice, number, number, number, slice, slice, out);
+    counted unit_domain(slice, number, number, number, slice, number, slice);
+    counted slot_domain(slice, number, number, number, slice);
+    told unit_frozen(slice, number, number, slice, number);
+    plain date_of(number);
+    plain weekday_of(number);
+    done compute_targets(number, number, slice, slice, slice, slice, slice, number, slice);
+    done from_slots(number, number, slice, slice, slice, slice, slice, slice);
+    done assign(number, number, slice, slice, slice, slice, slice, slice, number, number);
+    done play(number, number, number, number, slice, slice, slice, slice, slice, slice, slice, slice, slice, slice, slice, slice);
+    done play_draws(number, number, number, number, slice, slice, slice, slice, slice, slice, slice, slice, slice, slice);
+    done empty(number, number, slice, slice, slice);
+    done recount(number, number, number, slice, slice, slice, slice, slice, slice, slice);
+    done recount_slots(number, number, slice, slice, slice, slice, slice, slice);
+    done owner_of_slot(number, number, slice, number, out);
+    done minutes_of(number, slice, number, out);
+    done unassigned_count(number, number, slice, out);
+    done uncovered_minutes(number, number, slice, slice, slice, out);
+    done run_job(slice, slice, out);
+}
+
+// ---- answers as numbers
+
+/// What stands for nothing; a refusal adds its number.
+const NOTHING: u64 = 65_536;
+
+fn number_of(refusal: Refusal) -> u64 {
+    u64::from(refusal.number())
+}
+
+fn done(answer: Result<(), Refusal>) -> u64 {
+    answer.map_or_else(number_of, |()| 0)
+}
+
+fn counted(answer: Result<usize, Refusal>) -> u64 {
+    answer.map_or_else(|refusal| NOTHING + number_of(refusal), |count| count as u64)
+}
+
+fn found(answer: Result<Option<usize>, Refusal>) -> u64 {
+    counted(answer.map(|slot| slot.unwrap_or(NOTHING as usize)))
+}
+
+fn told(answer: Result<bool, Refusal>) -> u64 {
+    counted(answer.map(usize::from))
+}
+
+fn wrote(answer: Result<bool, Refusal>) -> u64 {
+    found(answer.map(|is_written| is_written.then_some(0)))
+}
+
+fn plain(answer: u32) -> u64 {
+    u64::from(answer)
+}
+
+// ---- arguments
+
+/// An argument, with the buffer that was made of it.
+struct Passed<'q> {
+    arg: &'q Arg,
+    lent: Option<Box<dyn Buffer>>,
+}
+
+/// The arguments of a call that are still to be passed.
+struct Args<'a, 'q> {
+    left: std::slice::IterMut<'a, Passed<'q>>,
+}
+
+impl<'a> Args<'a, '_> {
+    fn number<N: TryFrom<Word>>(&mut self) -> N {
+        let Some(Passed { arg: Arg::Number(n), .. }) = self.left.next() else {
+            panic!("a number is due")
+        };
+        N::try_from(Word(*n)).unwrap_or_else(|_| panic!("{n} is no such number"))
+    }
+
+    fn slice<T: Element>(&mut self) -> &'a mut [T] {
+        let Some(Passed {
+            arg: Arg::Lent(size, bytes) | Arg::LentMut(size, bytes),
+            lent,
+        }) = self.left.next()
+        else {
+            panic!("a slice is due")
+        };
+        assert_eq!(*size, std::mem::size_of::<T>(), "an element is of another size");
+        lend(lent, bytes)
+    }
+
+    fn out(&mut self) -> &'a mut u64 {
+        let Some(Passed { arg: Arg::Out(n), lent }) = self.left.next() else {
+            panic!("an address is due")
+        };
+        &mut lend(lent, &n.to_le_bytes())[0]
     }
 }
 
-/// A running worker.
-pub struct Library {
-    child: Child,
+/// A number that is passed: u64, or narrower.
+struct Word(u64);
+
+macro_rules! narrowed {
+    ($($number:ty),*) => {$(
+        impl TryFrom<Word> for $number {
+            type Error = std::num::TryFromIntError;
+
+            fn try_from(word: Word) -> Result<Self, Self::Error> {
+                <$number>::try_from(word.0)
+            }
+        }
+    )*};
 }
 
-impl Library {
-    /// Starts a worker by its command line.
-    pub fn start(command: &[String]) -> io::Result<Self> {
-        let child = Command::new(&command[0])
-            .args(&command[1..])
-            .stdin(Stdio::piped())
-            .stdout(Stdio::piped())
-            .spawn()?;
-        Ok(Self { child })
-    }
+narrowed!(u8, u16, u32, usize);
 
-    /// Asks all questions, in order.
-    pub fn ask(&mut self, questions: &[Question]) -> io::Result<Vec<Outcome>> {
-        let stdin = self.child.stdin.as_mut().expect("the worker's input is a pipe");
-        let stdout = self.child.stdout.as_mut().expect("the worker's output is a pipe");
-        // Both pipes are served at once: neither side waits for the other to read.
-        thread::scope(|scope| {
-            let writer = scope.spawn(move || -> io::Result<()> {
-                let mut to = BufWriter::new(stdin);
-                for question in questions {
-                    to.write_all(&request(question))?;
-                }
-                to.flush()
-            });
-            let mut from = BufReader::new(stdout);
-            let outcomes = questions.iter().map(|question| reply(&mut from, question)).collect();
-            writer.join().expect("the writer ends")?;
-            outcomes
-        })
-    }
+impl TryFrom<Word> for bool {
+    type Error = u64;
 
-    /// Ends the worker.
-    pub fn finish(mut self) -> io::Result<()> {
-        drop(self.child.stdin.take());
-        let status = self.child.wait()?;
-        if status.success() {
-            Ok(())
-        } else {
-            Err(io::Error::other(format!("the worker ended with {status}")))
+    fn try_from(word: Word) -> Result<Self, u64> {
+        match word.0 {
+            0 => Ok(false),
+            1 => Ok(true),
+            n => Err(n),
         }
     }
 }
 
-/// A call as the worker reads it.
-fn request(question: &Question) -> Vec<u8> {
-    let mut bytes = Vec::new();
-    bytes.extend(number_of(question.function).to_le_bytes());
-    bytes.extend((question.args.len() as u32).to_le_bytes());
-    for arg in &question.args {
-        let (tag, size, data): (u32, usize, &[u8]) = match arg {
-            Arg::Number(n) => {
-                bytes.extend(0u32.to_le_bytes());
-                bytes.extend(n.to_le_bytes());
-                continue;
+// ---- lent buffers
+
+/// What a lent slice holds.
+trait Element: Copy + 'static {
+    /// What a guard is made of.
+    const GUARD: Self;
+
+    fn read(bytes: &[u8]) -> Self;
+    fn put(self, bytes: &mut Vec<u8>);
+}
+
+macro_rules! elements {
+    ($($element:ty),*) => {$(
+        impl Element for $element {
+            const GUARD: Self = <$element>::from_le_bytes([0xa5; std::mem::size_of::<$element>()]);
+
+            fn read(bytes: &[u8]) -> Self {
+                <$element>::from_le_bytes(bytes.try_into().expect("as many bytes as an element has"))
             }
-            Arg::Out(n) => {
-                bytes.extend(3u32.to_le_bytes());
-                bytes.extend(n.to_le_bytes());
-                continue;
+
+            fn put(self, bytes: &mut Vec<u8>) {
+                bytes.extend(self.to_le_bytes());
             }
-            Arg::Lent(size, data) => (1, *size, data),
-            Arg::LentMut(size, data) => (2, *size, data),
-        };
-        bytes.extend(tag.to_le_bytes());
-        bytes.extend((size as u32).to_le_bytes());
-        bytes.extend((data.len() as u64).to_le_bytes());
-        bytes.extend(data);
+        }
+    )*};
+}
+
+elements!(u8, u16, u32, u64, i64, f64);
+
+impl Element for Draw {
+    const GUARD: Self = Draw {
+        draw: u16::GUARD,
+        first: u16::GUARD,
+        second: u16::GUARD,
+    };
+
+    fn read(bytes: &[u8]) -> Self {
+        let (draw, rest) = bytes.split_at(2);
+        let (first, second) = rest.split_at(2);
+        Draw {
+            draw: u16::read(draw),
+            first: u16::read(first),
+            second: u16::read(second),
+        }
     }
+
+    fn put(self, bytes: &mut Vec<u8>) {
+        [self.draw, self.first, self.second]
+            .into_iter()
+            .for_each(|number| number.put(bytes));
+    }
+}
+
+/// Elements of a guard.
+const GUARD: usize = 64;
+
+/// A buffer between two guards.
+struct Guarded<T> {
+    all: Vec<T>,
+}
+
+impl<T: Element> Guarded<T> {
+    fn len(&self) -> usize {
+        self.all.len() - 2 * GUARD
+    }
+}
+
+/// A buffer of any element.
+trait Buffer {
+    fn bytes(&self) -> Vec<u8>;
+    fn guards_stand(&self) -> bool;
+    fn whole(&mut self) -> &mut dyn Any;
+}
+
+impl<T: Element> Buffer for Guarded<T> {
+    fn bytes(&self) -> Vec<u8> {
+        bytes_of(&self.all[GUARD..GUARD + self.len()])
+    }
+
+    fn guards_stand(&self) -> bool {
+        let guard = bytes_of(&[T::GUARD; GUARD]);
+        bytes_of(&self.all[..GUARD]) == guard && bytes_of(&self.all[GUARD + self.len()..]) == guard
+    }
+
+    fn whole(&mut self) -> &mut dyn Any {
+        self
+    }
+}
+
+fn bytes_of<T: Element>(elements: &[T]) -> Vec<u8> {
+    let mut bytes = Vec::with_capacity(std::mem::size_of_val(elements));
+    elements.iter().for_each(|element| element.put(&mut bytes));
     bytes
 }
 
-/// The worker's answer to a call.
-fn reply(from: &mut impl Read, question: &Question) -> io::Result<Outcome> {
-    let mut result = [0u8; 8];
-    from.read_exact(&mut result)?;
-    // A result that is narrower than a register leaves the rest of it open.
-    for byte in result.iter_mut().skip(question.result_size) {
-        *byte = 0;
-    }
-    let mut written = Vec::new();
-    for arg in &question.args {
-        let length = match arg {
-            Arg::LentMut(_, data) => data.len(),
-            Arg::Out(_) => 8,
-            _ => continue,
-        };
-        let mut data = vec![0u8; length];
-        from.read_exact(&mut data)?;
-        written.push(data);
-    }
-    Ok(Outcome {
-        result: u64::from_le_bytes(result),
-        written,
-    })
+/// Makes a buffer of bytes and lends it.
+fn lend<'a, T: Element>(place: &'a mut Option<Box<dyn Buffer>>, bytes: &[u8]) -> &'a mut [T] {
+    let guard = [T::GUARD; GUARD];
+    let within = bytes.chunks_exact(std::mem::size_of::<T>()).map(T::read);
+    let all: Vec<T> = guard.into_iter().chain(within).chain(guard).collect();
+    let buffer = place.insert(Box::new(Guarded { all }));
+    let guarded = buffer.whole().downcast_mut::<Guarded<T>>().expect("it was just made");
+    let end = GUARD + guarded.len();
+    &mut guarded.all[GUARD..end]
 }

@@ -3,9 +3,12 @@
 mod call;
 mod days;
 mod figures;
+mod job_faults;
+mod job_files;
 mod jobs;
 mod library;
 mod problems;
+mod program;
 mod readers;
 mod recounts;
 mod rotas;
@@ -14,16 +17,17 @@ mod seed;
 mod sets;
 mod splitting;
 mod stored;
+mod stored_jobs;
 mod targets;
 mod units;
 
+use std::collections::BTreeSet;
 use std::fs;
 use std::io::Write;
 use std::path::Path;
 use std::process::ExitCode;
 
 use call::Question;
-use library::Library;
 use seed::Seed;
 
 /// A kind of case: its name, and the questions of a case with their due outcomes.
@@ -37,7 +41,7 @@ const fn kind(name: &'static str, questions: fn(u64) -> Vec<Question>) -> Kind {
 }
 
 /// Every kind that the library has by now.
-const KINDS: [Kind; 12] = [
+const KINDS: [Kind; 14] = [
     kind("slot-sets", sets::questions),
     kind("slot-sets-damaged", sets::damaged),
     kind("slots", splitting::questions),
@@ -50,30 +54,37 @@ const KINDS: [Kind; 12] = [
     kind("targets-damaged", targets::damaged),
     kind("rotas", rotas::questions),
     kind("rotas-damaged", rotas::damaged),
+    kind("jobs", jobs::questions),
+    kind("jobs-damaged", jobs::damaged),
 ];
 
-/// How many cases are asked at once.
-const BATCH: u64 = 256;
+/// From how many cases of every kind on each exported function must have been asked.
+const ENOUGH: u64 = 100;
 
 /// How many differences of a kind are printed.
 const SHOWN: u64 = 20;
 
-const USAGE: &str =
-    "usage: oracle compare N SEED KIND|every WORKER.. | oracle case KIND CASE-SEED WORKER.. | oracle days | oracle store KIND N SEED FOLDER";
+const USAGE: &str = "usage: oracle compare N SEED KIND|every | case KIND CASE-SEED | days | time N
+       oracle program N SEED COMMAND.. | rules N SEED | store KIND N SEED FOLDER
+       oracle job SEED | listing SEED | limits | listing-of FILE";
 
 fn main() -> ExitCode {
     let words: Vec<String> = std::env::args().skip(1).collect();
     let plain: Vec<&str> = words.iter().map(String::as_str).collect();
     match plain.as_slice() {
-        ["compare", n, seed, kind, _, ..] => match (n.parse(), seed.parse()) {
-            (Ok(n), Ok(seed)) => ended(compare(n, seed, kind, &words[4..])),
+        ["compare", n, seed, kind] => match (n.parse(), seed.parse()) {
+            (Ok(n), Ok(seed)) => ended(compare(n, seed, kind)),
             _ => usage(),
         },
-        ["case", kind, seed, _, ..] => match seed.parse() {
-            Ok(seed) => ended(one_case(kind, seed, &words[3..])),
+        ["case", kind, seed] => match seed.parse() {
+            Ok(seed) => ended(one_case(kind, seed)),
             Err(_) => usage(),
         },
-        ["days", _, ..] => ended(every_day(&words[1..])),
+        ["days"] => ended(every_day()),
+        ["program", n, seed, _, ..] => match (n.parse(), seed.parse()) {
+            (Ok(n), Ok(seed)) => ended(program::compare(n, seed, &words[3..])),
+            _ => usage(),
+        },
         ["rules", n, seed] => match (n.parse(), seed.parse()) {
             (Ok(n), Ok(seed)) => compare_rules(n, seed),
             _ => usage(),
@@ -83,8 +94,20 @@ fn main() -> ExitCode {
             Err(_) => usage(),
         },
         ["listing", seed] => match seed.parse() {
-            Ok(seed) => write_out(jobs::JobCase::new(&mut Seed::new(seed)).listing().as_bytes()),
+            Ok(seed) => write_out(job_files::text_of(&jobs::JobCase::new(&mut Seed::new(seed)).file()).as_bytes()),
             Err(_) => usage(),
+        },
+        ["limits"] => write_out(&jobs::JobCase::at_every_limit().file()),
+        ["time", n] => match n.parse() {
+            Ok(n) => ended(jobs::time(n)),
+            Err(_) => usage(),
+        },
+        ["listing-of", file] => match fs::read(file) {
+            Ok(bytes) => write_out(job_files::text_of(&bytes).as_bytes()),
+            Err(error) => {
+                eprintln!("oracle: {file}: {error}");
+                ExitCode::from(2)
+            }
         },
         ["store", kind, n, seed, folder] => match (n.parse(), seed.parse()) {
             (Ok(n), Ok(seed)) => store(kind, n, seed, Path::new(folder)),
@@ -96,8 +119,16 @@ fn main() -> ExitCode {
 
 /// Writes stored answers of a kind into the folder of the program that replays them: what it reads, and what it must then write.
 fn store(kind: &str, n: u64, seed: u64, folder: &Path) -> ExitCode {
-    let Some(stored) = stored::of_kind(kind, n, seed) else {
-        return usage();
+    let made = match kind {
+        "jobs" => stored_jobs::jobs(n, seed),
+        _ => stored::of_kind(kind, n, seed).ok_or_else(|| format!("no kind {kind}")),
+    };
+    let stored = match made {
+        Ok(stored) => stored,
+        Err(missing) => {
+            eprintln!("oracle: {missing}");
+            return ExitCode::from(2);
+        }
     };
     let line = format!("{} answers compared, 0 differ\n", stored.answers);
     let written = fs::write(folder.join("stdin"), &stored.bytes).and_then(|()| fs::write(folder.join("stdout"), line));
@@ -152,9 +183,9 @@ fn ended(differing: std::io::Result<u64>) -> ExitCode {
 }
 
 /// Compares n cases of a kind, or of every kind, and prints the seed of each that differs.
-fn compare(n: u64, run: u64, wanted: &str, worker: &[String]) -> std::io::Result<u64> {
-    let mut library = Library::start(worker)?;
+fn compare(n: u64, run: u64, wanted: &str) -> std::io::Result<u64> {
     let mut differing = 0;
+    let mut functions = BTreeSet::new();
     let kinds: Vec<&Kind> = KINDS.iter().filter(|kind| wanted == "every" || wanted == kind.name).collect();
     if kinds.is_empty() {
         return Err(std::io::Error::other(format!("no kind {wanted}")));
@@ -162,14 +193,10 @@ fn compare(n: u64, run: u64, wanted: &str, worker: &[String]) -> std::io::Result
     for kind in kinds {
         let mut different = 0;
         let mut answers = 0;
-        let mut first = 0;
-        while first < n {
-            let cases = BATCH.min(n - first);
-            let seeds: Vec<u64> = (first..first + cases).map(|k| Seed::of_case(run, kind.name, k)).collect();
-            let (asked, failed) = ask(&mut library, kind, &seeds, SHOWN.saturating_sub(different))?;
+        for k in 0..n {
+            let (asked, differs) = ask(kind, Seed::of_case(run, kind.name, k), different < SHOWN, &mut functions)?;
             answers += asked;
-            different += failed;
-            first += cases;
+            different += u64::from(differs);
         }
         println!(
             "{}: {n} cases, {answers} answers compared, {different} cases differ (seed {run})",
@@ -177,12 +204,24 @@ fn compare(n: u64, run: u64, wanted: &str, worker: &[String]) -> std::io::Result
         );
         differing += different;
     }
-    library.finish()?;
+    if wanted == "every" && n >= ENOUGH {
+        every_export_in(&functions)?;
+    }
     Ok(differing)
 }
 
+/// Whether every function that the library exports was asked.
+fn every_export_in(functions: &BTreeSet<&str>) -> std::io::Result<()> {
+    let left: Vec<&str> = library::exports().filter(|name| !functions.contains(name)).collect();
+    if left.is_empty() {
+        println!("exports: all {} were asked", functions.len());
+        return Ok(());
+    }
+    Err(std::io::Error::other(format!("never asked: {}", left.join(", "))))
+}
+
 /// Compares every day of the range, by the rule and by the library.
-fn every_day(worker: &[String]) -> std::io::Result<u64> {
+fn every_day() -> std::io::Result<u64> {
     match days::compare_rule() {
         Ok(n) => println!("days: the rule agrees with chrono on {n} minutes"),
         Err(minute) => {
@@ -190,54 +229,43 @@ fn every_day(worker: &[String]) -> std::io::Result<u64> {
             return Ok(1);
         }
     }
-    let mut library = Library::start(worker)?;
     let questions = days::every_day();
-    let outcomes = library.ask(&questions)?;
-    let differing = questions
-        .iter()
-        .zip(&outcomes)
-        .filter(|(question, outcome)| question.due != **outcome)
-        .count() as u64;
+    let mut differing = 0;
+    for question in &questions {
+        differing += u64::from(library::ask(question)? != question.due);
+    }
     println!("days: {} answers of the library compared, {differing} differ", questions.len());
-    library.finish()?;
     Ok(differing)
 }
 
 /// Compares one case again, by its kind and its own seed.
-fn one_case(name: &str, seed: u64, worker: &[String]) -> std::io::Result<u64> {
+fn one_case(name: &str, seed: u64) -> std::io::Result<u64> {
     let kind = KINDS
         .iter()
         .find(|kind| kind.name == name)
         .ok_or_else(|| std::io::Error::other(format!("no kind {name}")))?;
-    let mut library = Library::start(worker)?;
-    let (answers, different) = ask(&mut library, kind, &[seed], SHOWN)?;
+    let (answers, differs) = ask(kind, seed, true, &mut BTreeSet::new())?;
     println!(
         "{name} {seed}: {answers} answers compared, {}",
-        if different == 0 { "none differs" } else { "some differ" }
+        if differs { "some differ" } else { "none differs" }
     );
-    library.finish()?;
-    Ok(different)
+    Ok(u64::from(differs))
 }
 
-/// Asks the questions of some cases: how many answers were compared, and how many cases differ.
-fn ask(library: &mut Library, kind: &Kind, seeds: &[u64], shown: u64) -> std::io::Result<(u64, u64)> {
-    let cases: Vec<Vec<Question>> = seeds.iter().map(|&seed| (kind.questions)(seed)).collect();
-    let flat: Vec<Question> = cases.iter().flatten().cloned().collect();
-    let outcomes = library.ask(&flat)?;
-    let mut outcomes = outcomes.iter();
-    let mut different = 0;
-    for (seed, case) in seeds.iter().zip(&cases) {
-        let mut differs = false;
-        for question in case {
-            let outcome = outcomes.next().expect("an outcome for each question");
-            if *outcome != question.due && !differs {
-                differs = true;
-                if different < shown {
-                    println!("{} {seed}: {}", kind.name, question.told(outcome));
-                }
+/// Asks the questions of a case: how many answers were compared, and whether some differ; the first of those is printed if it is wanted.
+/// The functions that were asked are added to a list.
+fn ask(kind: &Kind, seed: u64, shown: bool, functions: &mut BTreeSet<&str>) -> std::io::Result<(u64, bool)> {
+    let questions = (kind.questions)(seed);
+    let mut differs = false;
+    for question in &questions {
+        functions.insert(question.function);
+        let outcome = library::ask(question)?;
+        if outcome != question.due && !differs {
+            differs = true;
+            if shown {
+                println!("{} {seed}: {}", kind.name, question.told(&outcome));
             }
         }
-        different += u64::from(differs);
     }
-    Ok((flat.len() as u64, different))
+    Ok((questions.len() as u64, differs))
 }

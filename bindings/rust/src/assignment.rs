@@ -1,0 +1,229 @@
+//! A rota: who holds which slot.
+
+use crate::lent::{self, NOBODY, SET_WORDS};
+use crate::problem::Problem;
+use crate::refusal::Refusal;
+use crate::set::SlotSet;
+
+/// A change to be tried: the number that picks the move, and the two numbers that choose in it.
+///
+/// | `draw` | Move |
+/// |---|---|
+/// | 0 to 34 | the unit `first` goes to person `second` of its domain |
+/// | 35 to 59 | the units `first` and `second` are swapped |
+/// | 60 to 74 | the run of unit `first` goes to person `second` of those others who can cover it |
+/// | 75 to 89 | the runs of the units `first` and `second` are swapped |
+/// | 90 to 99 | the run of unit `first` starts one unit earlier (`second` 1) or later (0) |
+#[derive(Debug, Clone, Copy, PartialEq, Eq)]
+#[repr(C)]
+pub struct Draw {
+    /// Which move, below 100.
+    pub draw: u16,
+    /// A unit.
+    pub first: u16,
+    /// A unit, a place in a list of people, or 0 or 1.
+    pub second: u16,
+}
+
+/// What became of a draw.
+#[derive(Debug, Clone, Copy, PartialEq, Eq)]
+pub enum Answer {
+    /// The rota changed.
+    Acted,
+    /// There is no such move now; the rota is as it was.
+    NoMove,
+    /// A number of the draw lies outside what it chooses from; the rota is as it was.
+    Outside,
+}
+
+impl Answer {
+    fn of(byte: u8) -> Self {
+        match byte {
+            0 => Answer::Acted,
+            1 => Answer::NoMove,
+            _ => Answer::Outside,
+        }
+    }
+}
+
+/// The owners of all slots, with everybody's set of slots and minutes, which always fit together.
+///
+/// A method that takes a [`Problem`] is meant for the one that the rota was made for. With another one it is refused, or answers for the
+/// slots and people of that one.
+///
+/// ```
+/// use boltraven::{Assignment, Person, Problem, Range, Refusal, Settings, Slot};
+///
+/// let base = [Slot { start: 0, end: 60 }, Slot { start: 60, end: 120 }];
+/// let people = [Person { capacity: 1.0, prior: 0 }; 2];
+/// let ranges = [Range { person: 0, start: 0, end: 120 }, Range { person: 1, start: 60, end: 120 }];
+/// let problem = Problem::build(Settings::default(), &base, &people, &ranges)?;
+///
+/// let mut rota = Assignment::empty(&problem)?;
+/// rota.assign(&problem, 0, Some(0))?;
+/// assert_eq!(rota.assign(&problem, 0, Some(1)), Err(Refusal::Unavailable));
+/// assert_eq!(rota.slots(), [Some(0), None]);
+/// assert_eq!(rota.slots_of(0)?.iter().collect::<Vec<_>>(), [0]);
+/// assert_eq!(rota.uncovered_minutes(&problem)?, 60);
+/// # Ok::<(), Refusal>(())
+/// ```
+#[derive(Debug, Clone, PartialEq, Eq)]
+pub struct Assignment {
+    owners: Vec<u8>,
+    sets: Vec<u64>,
+    minutes: Vec<u64>,
+}
+
+/// An owner as the library takes it. A person whose number doesn't fit is as unknown as the last number that does.
+fn owner_byte(owner: Option<usize>) -> u8 {
+    match owner {
+        None => NOBODY,
+        Some(person) => u8::try_from(person).unwrap_or(NOBODY - 1).min(NOBODY - 1),
+    }
+}
+
+/// An owner in Rust's terms.
+fn owner_of(byte: u8) -> Option<usize> {
+    (byte != NOBODY).then_some(usize::from(byte))
+}
+
+impl Assignment {
+    /// A rota in which nobody owns a slot. No refusal is known.
+    pub fn empty(problem: &Problem) -> Result<Self, Refusal> {
+        let (people, slots) = (problem.human_count(), problem.slot_count());
+        let mut rota = Self {
+            owners: vec![NOBODY; slots],
+            sets: vec![0; SET_WORDS * people],
+            minutes: vec![0; people],
+        };
+        lent::empty(people, slots, &mut rota.owners, &mut rota.sets, &mut rota.minutes)?;
+        Ok(rota)
+    }
+
+    /// A rota with these owners, one a slot. Refusals 2 (fewer owners than slots), 11, 12. Owners past the last slot are not looked at.
+    pub fn from_slots(problem: &Problem, slots: &[Option<usize>]) -> Result<Self, Refusal> {
+        let count = problem.slot_count();
+        let mut rota = Self {
+            owners: slots.iter().take(count).copied().map(owner_byte).collect(),
+            sets: vec![0; SET_WORDS * problem.human_count()],
+            minutes: vec![0; problem.human_count()],
+        };
+        lent::from_slots(
+            problem.human_count(),
+            count,
+            problem.slots().starts(),
+            problem.slots().ends(),
+            problem.availability().words(),
+            &rota.owners,
+            &mut rota.sets,
+            &mut rota.minutes,
+        )?;
+        Ok(rota)
+    }
+
+    /// Who owns a slot. Refusal 11.
+    pub fn get(&self, slot: usize) -> Result<Option<usize>, Refusal> {
+        let mut owner = 0;
+        lent::owner_of_slot(self.minutes.len(), self.owners.len(), &self.owners, slot, &mut owner)?;
+        Ok((owner != u64::from(NOBODY)).then_some(owner as usize))
+    }
+
+    /// The owner of each slot.
+    pub fn slots(&self) -> Vec<Option<usize>> {
+        self.owners.iter().map(|&owner| owner_of(owner)).collect()
+    }
+
+    /// The owner of each slot as a byte, 255 for nobody.
+    pub fn owners(&self) -> &[u8] {
+        &self.owners
+    }
+
+    /// The slots that a person owns. Refusal 11.
+    pub fn slots_of(&self, person: usize) -> Result<SlotSet, Refusal> {
+        SlotSet::from_row(&self.sets, self.minutes.len(), person, self.owners.len())
+    }
+
+    /// The minutes of the slots that a person owns. Refusal 11.
+    pub fn assigned_minutes(&self, person: usize) -> Result<u64, Refusal> {
+        let mut minutes = 0;
+        lent::minutes_of(self.minutes.len(), &self.minutes, person, &mut minutes)?;
+        Ok(minutes)
+    }
+
+    /// Gives a slot to a person, or to nobody. It asks nothing of units or frozen slots: a rota whose units it makes uneven is refused by
+    /// the next play. Refusals 10, 11, 12.
+    pub fn assign(&mut self, problem: &Problem, slot: usize, owner: Option<usize>) -> Result<(), Refusal> {
+        lent::assign(
+            problem.human_count(),
+            problem.slot_count(),
+            problem.slots().starts(),
+            problem.slots().ends(),
+            problem.availability().words(),
+            &mut self.owners,
+            &mut self.sets,
+            &mut self.minutes,
+            slot,
+            owner_byte(owner),
+        )
+    }
+
+    /// Plays draws in order, and answers each. Refusals 1 (more than 1,024 draws), 10.
+    pub fn play(&mut self, problem: &Problem, draws: &[Draw]) -> Result<Vec<Answer>, Refusal> {
+        let mut answers = vec![0; draws.len()];
+        lent::play_draws(
+            problem.human_count(),
+            problem.slot_count(),
+            problem.unit_count(),
+            draws.len(),
+            problem.slots().starts(),
+            problem.slots().ends(),
+            problem.availability().words(),
+            problem.units().firsts(),
+            problem.frozen().words(),
+            &mut self.owners,
+            &mut self.sets,
+            &mut self.minutes,
+            draws,
+            &mut answers,
+        )?;
+        Ok(answers.into_iter().map(Answer::of).collect())
+    }
+
+    /// Whether owners, units, sets and minutes fit together, as a play asks it first. Refusal 10: a unit has two owners, which `assign` can
+    /// bring about.
+    pub fn recount(&self, problem: &Problem) -> Result<(), Refusal> {
+        lent::recount(
+            problem.human_count(),
+            problem.slot_count(),
+            problem.unit_count(),
+            problem.slots().starts(),
+            problem.slots().ends(),
+            problem.availability().words(),
+            problem.units().firsts(),
+            &self.owners,
+            &self.sets,
+            &self.minutes,
+        )
+    }
+
+    /// How many slots nobody owns. No refusal is known.
+    pub fn unassigned_count(&self) -> Result<u64, Refusal> {
+        let mut count = 0;
+        lent::unassigned_count(self.minutes.len(), self.owners.len(), &self.owners, &mut count)?;
+        Ok(count)
+    }
+
+    /// The minutes of the slots that nobody owns. Refusals 2, 11, where the problem is another one.
+    pub fn uncovered_minutes(&self, problem: &Problem) -> Result<u64, Refusal> {
+        let mut minutes = 0;
+        lent::uncovered_minutes(
+            problem.human_count(),
+            problem.slot_count(),
+            problem.slots().starts(),
+            problem.slots().ends(),
+            &self.owners,
+            &mut minutes,
+        )?;
+        Ok(minutes)
+    }
+}

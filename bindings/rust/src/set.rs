@@ -1,0 +1,203 @@
+//! A set of slots, by value.
+
+use std::fmt;
+
+use crate::lent::{self, SET_WORDS};
+use crate::refusal::{checked, Refusal};
+
+/// A set of slots below a length of at most 1,024.
+///
+/// ```
+/// use boltraven::{Refusal, SlotSet};
+///
+/// let mut set = SlotSet::new(70)?;
+/// for slot in 60..70 {
+///     set.insert(slot)?;
+/// }
+/// assert_eq!(set.run_bounds(64), Some((60, 69)));
+/// assert_eq!(set.runs().collect::<Vec<_>>(), [(60, 69)]);
+/// assert_eq!(set.insert(70), Err(Refusal::Unknown));
+/// assert_eq!(SlotSet::new(1025).err(), Some(Refusal::Count));
+/// # Ok::<(), Refusal>(())
+/// ```
+#[derive(Clone, PartialEq, Eq)]
+pub struct SlotSet {
+    words: [u64; SET_WORDS],
+    len: usize,
+}
+
+impl SlotSet {
+    /// The empty set of a length. Refusal 1.
+    pub fn new(len: usize) -> Result<Self, Refusal> {
+        let words = [0; SET_WORDS];
+        lent::count(&words, 1, 0, len)?;
+        Ok(Self { words, len })
+    }
+
+    /// The set of a length with these slots. Refusals 1, 11.
+    pub fn from_members(len: usize, members: impl IntoIterator<Item = usize>) -> Result<Self, Refusal> {
+        let mut set = Self::new(len)?;
+        members.into_iter().try_for_each(|slot| set.insert(slot))?;
+        Ok(set)
+    }
+
+    /// A person's set out of everybody's words. Refusals 1, 2, 11.
+    pub fn from_row(words: &[u64], people: usize, person: usize, len: usize) -> Result<Self, Refusal> {
+        lent::count(words, people, person, len)?;
+        let mut set = Self::new(len)?;
+        let (mut at, mut cursor) = (0, 0);
+        while lent::next_member(words, people, person, len, cursor as usize, &mut at, &mut cursor)? {
+            set.insert(at as usize)?;
+        }
+        Ok(set)
+    }
+
+    /// The length: every member is below it.
+    pub fn len(&self) -> usize {
+        self.len
+    }
+
+    /// The words, bit i mod 64 of word i div 64 for slot i.
+    pub fn words(&self) -> &[u64; SET_WORDS] {
+        &self.words
+    }
+
+    pub(crate) fn words_mut(&mut self) -> &mut [u64; SET_WORDS] {
+        &mut self.words
+    }
+
+    /// Whether a slot is a member; past the length none is.
+    pub fn contains(&self, slot: usize) -> bool {
+        checked(lent::contains(&self.words, 1, 0, self.len, slot))
+    }
+
+    /// Puts a slot in. Refusal 11.
+    pub fn insert(&mut self, slot: usize) -> Result<(), Refusal> {
+        lent::insert(&mut self.words, 1, 0, self.len, slot)
+    }
+
+    /// Takes a slot out. Refusal 11.
+    pub fn remove(&mut self, slot: usize) -> Result<(), Refusal> {
+        lent::remove(&mut self.words, 1, 0, self.len, slot)
+    }
+
+    /// Puts in every slot of a stretch. Refusal 11.
+    pub fn insert_stretch(&mut self, slots: std::ops::Range<usize>) -> Result<(), Refusal> {
+        lent::put_stretch(&mut self.words, 1, 0, self.len, slots.start, slots.end, true)
+    }
+
+    /// Takes out every slot of a stretch. Refusal 11.
+    pub fn remove_stretch(&mut self, slots: std::ops::Range<usize>) -> Result<(), Refusal> {
+        lent::put_stretch(&mut self.words, 1, 0, self.len, slots.start, slots.end, false)
+    }
+
+    /// Whether there is no member.
+    pub fn is_empty(&self) -> bool {
+        checked(lent::is_empty(&self.words, 1, 0, self.len))
+    }
+
+    /// How many members there are.
+    pub fn count(&self) -> usize {
+        checked(lent::count(&self.words, 1, 0, self.len))
+    }
+
+    /// The first member at or after a slot.
+    pub fn next_set(&self, from: usize) -> Option<usize> {
+        checked(lent::next_set(&self.words, 1, 0, self.len, from))
+    }
+
+    /// The last member at or before a slot.
+    pub fn prev_set(&self, from: usize) -> Option<usize> {
+        checked(lent::prev_set(&self.words, 1, 0, self.len, from))
+    }
+
+    /// The first slot after `from`, below the length, that is no member.
+    pub fn next_unset_after(&self, from: usize) -> Option<usize> {
+        checked(lent::next_unset_after(&self.words, 1, 0, self.len, from))
+    }
+
+    /// The last slot before `from`, below the length, that is no member.
+    pub fn prev_unset_before(&self, from: usize) -> Option<usize> {
+        checked(lent::prev_unset_before(&self.words, 1, 0, self.len, from))
+    }
+
+    /// The first and the last slot of the run that holds a slot.
+    pub fn run_bounds(&self, slot: usize) -> Option<(usize, usize)> {
+        let (mut first, mut last) = (0, 0);
+        let is_member = checked(lent::run_bounds(&self.words, 1, 0, self.len, slot, &mut first, &mut last));
+        is_member.then_some((first as usize, last as usize))
+    }
+
+    /// The runs, ascending, each as its first and its last slot.
+    pub fn runs(&self) -> Runs<'_> {
+        Runs { set: self, cursor: 0 }
+    }
+
+    /// The members, ascending.
+    pub fn iter(&self) -> Members<'_> {
+        Members { set: self, cursor: 0 }
+    }
+}
+
+impl fmt::Debug for SlotSet {
+    fn fmt(&self, f: &mut fmt::Formatter<'_>) -> fmt::Result {
+        write!(f, "SlotSet({}) ", self.len)?;
+        f.debug_set().entries(self).finish()
+    }
+}
+
+impl<'a> IntoIterator for &'a SlotSet {
+    type Item = usize;
+    type IntoIter = Members<'a>;
+
+    fn into_iter(self) -> Members<'a> {
+        self.iter()
+    }
+}
+
+/// A reader of a set's runs.
+#[derive(Debug, Clone)]
+pub struct Runs<'a> {
+    set: &'a SlotSet,
+    cursor: u64,
+}
+
+impl Iterator for Runs<'_> {
+    type Item = (usize, usize);
+
+    fn next(&mut self) -> Option<(usize, usize)> {
+        let set = self.set;
+        let (mut first, mut last) = (0, 0);
+        let from = self.cursor as usize;
+        let is_run = checked(lent::next_run(
+            &set.words,
+            1,
+            0,
+            set.len,
+            from,
+            &mut first,
+            &mut last,
+            &mut self.cursor,
+        ));
+        is_run.then_some((first as usize, last as usize))
+    }
+}
+
+/// A reader of a set's members.
+#[derive(Debug, Clone)]
+pub struct Members<'a> {
+    set: &'a SlotSet,
+    cursor: u64,
+}
+
+impl Iterator for Members<'_> {
+    type Item = usize;
+
+    fn next(&mut self) -> Option<usize> {
+        let set = self.set;
+        let mut at = 0;
+        let from = self.cursor as usize;
+        let is_member = checked(lent::next_member(&set.words, 1, 0, set.len, from, &mut at, &mut self.cursor));
+        is_member.then_some(at as usize)
+    }
+}

@@ -1,0 +1,87 @@
+//! The settings of a problem.
+
+/// What a person's fair share is measured by.
+#[derive(Debug, Clone, Copy, PartialEq, Eq, Default)]
+pub enum Fairness {
+    /// Capacity times the minutes for which the person is available.
+    #[default]
+    Capacity,
+    /// Capacity times the whole demand, whatever the availability.
+    Equal,
+}
+
+impl Fairness {
+    pub(crate) fn number(self) -> u8 {
+        match self {
+            Fairness::Capacity => 0,
+            Fairness::Equal => 1,
+        }
+    }
+}
+
+/// Where a new rotation begins.
+#[derive(Debug, Clone, Copy, PartialEq, Eq)]
+pub enum Boundary {
+    /// Every so many slots, at most 1,024; 0 counts as 1.
+    EverySlots(u16),
+    /// At a slot that starts on another date than the one before it, on a weekday of this mask; bit 0 is Monday, at most 127.
+    DayOfWeek(u16),
+}
+
+/// Fairness, units and rotations, and the length of a shift.
+///
+/// ```
+/// use boltraven::{Boundary, Fairness, Settings};
+///
+/// // Whole weeks from Monday on, each held by one person.
+/// let weeks = Settings { lock: true, boundary: Boundary::DayOfWeek(0b1), days: 7, ..Settings::default() };
+/// assert_eq!(weeks.fairness, Fairness::Capacity);
+/// ```
+#[derive(Debug, Clone, Copy, PartialEq, Eq)]
+pub struct Settings {
+    /// What a fair share is measured by.
+    pub fairness: Fairness,
+    /// Whether a whole rotation is a unit; otherwise each slot is.
+    pub lock: bool,
+    /// Where rotations begin.
+    pub boundary: Boundary,
+    /// The days of a shift, at most 366; 0 counts as 1.
+    pub days: u16,
+}
+
+impl Default for Settings {
+    /// Shares by capacity, each slot a unit and a rotation, shifts of one day.
+    fn default() -> Self {
+        Self {
+            fairness: Fairness::Capacity,
+            lock: false,
+            boundary: Boundary::EverySlots(1),
+            days: 1,
+        }
+    }
+}
+
+/// The five numbers that the library takes.
+pub(crate) struct Numbers {
+    pub fairness: u8,
+    pub lock: u8,
+    pub boundary: u8,
+    pub value: u16,
+    pub days: u16,
+}
+
+impl Settings {
+    pub(crate) fn numbers(self) -> Numbers {
+        let (boundary, value) = match self.boundary {
+            Boundary::EverySlots(count) => (0, count),
+            Boundary::DayOfWeek(mask) => (1, mask),
+        };
+        Numbers {
+            fairness: self.fairness.number(),
+            lock: u8::from(self.lock),
+            boundary,
+            value,
+            days: self.days,
+        }
+    }
+}

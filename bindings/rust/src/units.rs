@@ -1,0 +1,129 @@
+//! Rotations, and the units that a play moves.
+
+use std::ops::Range;
+
+use crate::availability::Availability;
+use crate::lent;
+use crate::refusal::Refusal;
+use crate::set::SlotSet;
+use crate::settings::Settings;
+use crate::slots::Slots;
+
+/// Slots in neighbouring stretches: rotations, or the units that a play moves whole.
+///
+/// ```
+/// use boltraven::{Boundary, Settings, Slot, Slots, Units};
+///
+/// // Two shifts of Sunday and two of Monday, in weeks from Monday on.
+/// let shifts = [4320, 5040, 5760, 6480].map(|start| Slot { start, end: start + 720 });
+/// let weeks = Settings { lock: true, boundary: Boundary::DayOfWeek(1), ..Settings::default() };
+/// let units = Units::new(weeks, &Slots::new(&shifts)?)?;
+/// assert_eq!(units.iter().collect::<Vec<_>>(), [0..2, 2..4]);
+/// assert_eq!((units.slots(1)?, units.of_slot(3)?), (2..4, 1));
+/// # Ok::<(), boltraven::Refusal>(())
+/// ```
+#[derive(Debug, Clone, PartialEq, Eq)]
+pub struct Units {
+    firsts: Vec<u16>,
+    slots: usize,
+}
+
+impl Units {
+    /// The units: locked, each rotation is one; otherwise each slot. Refusal 7.
+    pub fn new(settings: Settings, slots: &Slots) -> Result<Self, Refusal> {
+        let n = settings.numbers();
+        let mut firsts = vec![0; slots.len()];
+        let (starts, ends) = (slots.starts(), slots.ends());
+        let count = lent::unit_starts(
+            n.fairness,
+            n.lock,
+            n.boundary,
+            n.value,
+            n.days,
+            slots.len(),
+            starts,
+            ends,
+            &mut firsts,
+        )?;
+        Ok(Self::made(firsts, count, slots))
+    }
+
+    /// The rotations. Refusal 7.
+    pub fn rotations(settings: Settings, slots: &Slots) -> Result<Self, Refusal> {
+        let n = settings.numbers();
+        let mut firsts = vec![0; slots.len()];
+        let (starts, ends) = (slots.starts(), slots.ends());
+        let count = lent::rotation_starts(
+            n.fairness,
+            n.lock,
+            n.boundary,
+            n.value,
+            n.days,
+            slots.len(),
+            starts,
+            ends,
+            &mut firsts,
+        )?;
+        Ok(Self::made(firsts, count, slots))
+    }
+
+    fn made(mut firsts: Vec<u16>, count: usize, slots: &Slots) -> Self {
+        firsts.truncate(count);
+        Self {
+            firsts,
+            slots: slots.len(),
+        }
+    }
+
+    /// How many there are.
+    #[allow(clippy::len_without_is_empty)]
+    pub fn len(&self) -> usize {
+        self.firsts.len()
+    }
+
+    /// The first slot of each.
+    pub fn firsts(&self) -> &[u16] {
+        &self.firsts
+    }
+
+    /// The slots of one. Refusal 11.
+    pub fn slots(&self, unit: usize) -> Result<Range<usize>, Refusal> {
+        let (mut from, mut to) = (0, 0);
+        lent::unit_slots(self.slots, self.len(), &self.firsts, unit, &mut from, &mut to)?;
+        Ok(from as usize..to as usize)
+    }
+
+    /// The one that holds a slot. Refusal 11.
+    pub fn of_slot(&self, slot: usize) -> Result<usize, Refusal> {
+        lent::unit_of_slot(self.slots, self.len(), &self.firsts, slot)
+    }
+
+    /// The slots of each, in order. One ends where the next starts, the last with the slots.
+    pub fn iter(&self) -> impl Iterator<Item = Range<usize>> + '_ {
+        let starts = self.firsts.iter().map(|&first| usize::from(first));
+        let ends = starts.clone().skip(1).chain([self.slots]);
+        starts.zip(ends).map(|(start, end)| start..end)
+    }
+
+    /// The people who are available for all slots of one, ascending. Refusals 2, 9, 11.
+    ///
+    /// ```
+    /// use boltraven::{Availability, Range, Settings, Slot, Slots, Units};
+    ///
+    /// let slots = Slots::new(&[Slot { start: 0, end: 60 }])?;
+    /// let who = Availability::new(3, &slots, &[0, 2].map(|person| Range { person, start: 0, end: 60 }))?;
+    /// assert_eq!(Units::new(Settings::default(), &slots)?.domain(&who, 0)?, [0, 2]);
+    /// # Ok::<(), boltraven::Refusal>(())
+    /// ```
+    pub fn domain(&self, availability: &Availability, unit: usize) -> Result<Vec<usize>, Refusal> {
+        let people = availability.people();
+        let mut list = vec![0; people];
+        let count = lent::unit_domain(availability.words(), people, self.slots, self.len(), &self.firsts, unit, &mut list)?;
+        Ok(list.iter().take(count).map(|&person| usize::from(person)).collect())
+    }
+
+    /// Whether any slot of one is frozen. Refusal 11.
+    pub fn is_frozen(&self, frozen: &SlotSet, unit: usize) -> Result<bool, Refusal> {
+        lent::unit_frozen(frozen.words(), self.slots, self.len(), &self.firsts, unit)
+    }
+}

@@ -1,0 +1,155 @@
+//! Refusals, and what lies past the ends, through the lent slices.
+
+use boltraven::{lent, Refusal};
+
+const SPARE: u64 = 0xa5a5_a5a5_a5a5_a5a5;
+
+/// Two slots of an hour each; person 0 available for both, person 1 for the second; bits past the slots are set.
+const STARTS: [u32; 2] = [0, 60];
+const ENDS: [u32; 2] = [60, 120];
+
+fn avail() -> Vec<u64> {
+    let mut words = vec![SPARE; 33];
+    words[0] = SPARE | 0b11;
+    words[16] = (SPARE | 0b10) & !0b01;
+    words
+}
+
+#[test]
+fn every_refusal_has_its_number_and_sentence() {
+    for (k, refusal) in Refusal::ALL.iter().enumerate() {
+        assert_eq!(usize::from(refusal.number()), k + 1);
+        assert_eq!(Refusal::try_from(refusal.number()), Ok(*refusal));
+        assert_eq!(
+            refusal.to_string(),
+            format!("refused by {}: {}", refusal.number(), refusal.sentence())
+        );
+    }
+    assert!(Refusal::try_from(0).is_err());
+    assert!(Refusal::try_from(14).is_err());
+}
+
+#[test]
+fn the_lowest_number_is_heard() {
+    let words = [0; 16];
+    assert_eq!(lent::contains(&words, 0, 0, 2000, 0), Err(Refusal::Count));
+    assert_eq!(lent::contains(&words[..3], 1, 9, 64, 0), Err(Refusal::ShortBuffer));
+    assert_eq!(lent::contains(&words, 1, 1, 64, 0), Err(Refusal::Unknown));
+    assert_eq!(lent::contains(&words, 1, 0, 64, usize::MAX), Ok(false));
+    assert_eq!(lent::contains(&words, usize::MAX, 0, 64, 0), Err(Refusal::Count));
+    assert_eq!(lent::contains(&[], 1, 0, 64, 0), Err(Refusal::ShortBuffer));
+}
+
+#[test]
+fn each_number_of_slots_and_targets_comes_through() {
+    let (mut froms, mut tos) = (vec![7; 1024], vec![7; 1024]);
+    let mut atomise = |starts: &[u32], ends: &[u32], person: u16| {
+        lent::atomise(starts.len(), starts, ends, 1, 1, &[person], &[30], &[90], &mut froms, &mut tos)
+    };
+    assert_eq!(atomise(&[0, 50], &[60, 120], 0), Err(Refusal::BaseSlot));
+    assert_eq!(atomise(&STARTS, &ENDS, 1), Err(Refusal::Range));
+    assert_eq!(atomise(&STARTS, &ENDS, 0), Ok(4));
+    assert_eq!(froms[..5], [0, 30, 60, 90, 7]);
+    assert_eq!(tos[..5], [30, 60, 90, 120, 7]);
+
+    let bases: Vec<u32> = (0..1024).map(|k| 10 * k).collect();
+    let ends: Vec<u32> = bases.iter().map(|start| start + 10).collect();
+    let many = lent::atomise(1024, &bases, &ends, 1, 1, &[0], &[5], &[6], &mut froms, &mut tos);
+    assert_eq!(many, Err(Refusal::TooManySlots));
+    assert_eq!(froms[..5], [0, 30, 60, 90, 7]);
+
+    let mut out = [-1; 3];
+    let mut targets = |capacity: f64, fairness: u8, ends: &[u32]| {
+        lent::compute_targets(2, 2, &STARTS, ends, &avail(), &[1.0, capacity], &[0, 0], fairness, &mut out)
+    };
+    assert_eq!(targets(f64::NAN, 0, &ENDS), Err(Refusal::Figures));
+    assert_eq!(targets(1.0, 2, &ENDS), Err(Refusal::Settings));
+    assert_eq!(targets(1.0, 0, &[61, 120]), Err(Refusal::Slots));
+    assert_eq!(targets(1.0, 0, &ENDS), Ok(()));
+    assert_eq!(out, [80, 40, -1]);
+}
+
+#[test]
+fn a_rota_keeps_what_lies_past_its_ends() {
+    let mut owners = vec![0, 0, 77];
+    let mut sets = vec![SPARE; 33];
+    let mut minutes = vec![SPARE; 3];
+    let made = lent::from_slots(2, 2, &STARTS, &ENDS, &avail(), &owners, &mut sets, &mut minutes);
+    assert_eq!(made, Ok(()));
+    assert_eq!(minutes, [120, 0, SPARE]);
+    assert_eq!((sets[0], sets[16]), (SPARE | 0b11, SPARE & !0b11));
+    assert!(sets.iter().enumerate().all(|(k, &word)| k == 0 || k == 16 || word == SPARE));
+
+    // Person 1 can't have slot 0, and there is no slot 2: nothing changes.
+    let before = (owners.clone(), sets.clone(), minutes.clone());
+    for (slot, owner, refusal) in [(0, 1, Refusal::Unavailable), (2, 0, Refusal::Unknown), (0, 2, Refusal::Unknown)] {
+        let refused = lent::assign(2, 2, &STARTS, &ENDS, &avail(), &mut owners, &mut sets, &mut minutes, slot, owner);
+        assert_eq!(refused, Err(refusal));
+        assert_eq!((&owners, &sets, &minutes), (&before.0, &before.1, &before.2));
+    }
+
+    let mut answers = [9; 4];
+    let frozen = [SPARE & !0b11; 16];
+    let mut play = |owners: &mut [u8], minutes: &mut [u64]| {
+        let (kinds, ones, twos) = ([0, 100, 35], [1, 0, 0], [1, 0, 9]);
+        lent::play(
+            2,
+            2,
+            2,
+            3,
+            &STARTS,
+            &ENDS,
+            &avail(),
+            &[0, 1],
+            &frozen,
+            owners,
+            &mut sets,
+            minutes,
+            &kinds,
+            &ones,
+            &twos,
+            &mut answers,
+        )
+    };
+    minutes[0] += 1;
+    assert_eq!(play(&mut owners, &mut minutes), Err(Refusal::Recount));
+    minutes[0] -= 1;
+    assert_eq!(play(&mut owners, &mut minutes), Ok(()));
+    assert_eq!(answers, [0, 2, 2, 9]);
+    assert_eq!(owners, [0, 1, 77]);
+    assert_eq!(minutes, [60, 60, SPARE]);
+}
+
+#[test]
+fn a_job_is_listed_or_refused_whole() {
+    let mut out = vec![7; 44_540];
+    let mut length = SPARE;
+    for (file, refusal) in [(vec![1], Refusal::JobFile), (vec![0; 49_153], Refusal::JobFile)] {
+        assert_eq!(lent::run_job(&file, &mut out, &mut length), Err(refusal));
+    }
+    // Settings and a base slot, but nobody to cover it.
+    let mut file = vec![8, 0, 1, 0, 0, 0, 0, 0, 1, 0, 1, 0];
+    file.extend([8, 0, 2, 0, 0, 0, 0, 0, 60, 0, 0, 0]);
+    assert_eq!(lent::run_job(&file, &mut out, &mut length), Err(Refusal::Count));
+    // One person, of capacity 0, who is never there.
+    file.extend([12, 0, 3, 0, 0, 0, 0, 0, 0, 0, 0, 0, 0, 0, 0, 0]);
+    assert_eq!(lent::run_job(&file, &mut out[..100], &mut length), Err(Refusal::ShortBuffer));
+    assert_eq!((length, out.iter().all(|&byte| byte == 7)), (SPARE, true));
+
+    let listing = b"S 0 0 60 -\nP 0 0 60\nU 60\n";
+    assert_eq!(lent::run_job(&file, &mut out, &mut length), Ok(()));
+    assert_eq!(length, listing.len() as u64);
+    assert_eq!(&out[..listing.len()], listing);
+    assert!(out[listing.len()..].iter().all(|&byte| byte == 7));
+}
+
+#[test]
+fn numbers_beside_a_result_stay_where_there_is_none() {
+    let words = [0; 16];
+    let (mut first, mut last, mut next) = (SPARE, SPARE, SPARE);
+    assert_eq!(lent::run_bounds(&words, 1, 0, 64, 3, &mut first, &mut last), Ok(false));
+    assert_eq!(lent::next_run(&words, 1, 0, 64, 0, &mut first, &mut last, &mut next), Ok(false));
+    assert_eq!(lent::next_member(&words, 1, 0, 2000, 0, &mut first, &mut next), Err(Refusal::Count));
+    assert_eq!(lent::minutes_per_day(1, &[5], &[5], &mut last), Err(Refusal::Slots));
+    assert_eq!((first, last, next), (SPARE, SPARE, SPARE));
+}
