@@ -255,7 +255,9 @@ impl Element for Draw {
     }
 
     fn put(self, bytes: &mut Vec<u8>) {
-        [self.draw, self.first, self.second].into_iter().for_each(|number| number.put(bytes));
+        [self.draw, self.first, self.second]
+            .into_iter()
+            .for_each(|number| number.put(bytes));
     }
 }
 

@@ -3,9 +3,12 @@
 mod call;
 mod days;
 mod figures;
+mod job_faults;
+mod job_files;
 mod jobs;
 mod library;
 mod problems;
+mod program;
 mod readers;
 mod recounts;
 mod rotas;
@@ -14,6 +17,7 @@ mod seed;
 mod sets;
 mod splitting;
 mod stored;
+mod stored_jobs;
 mod targets;
 mod units;
 
@@ -22,6 +26,7 @@ use std::fs;
 use std::io::Write;
 use std::path::Path;
 use std::process::ExitCode;
+use std::time::{Duration, Instant};
 
 use call::Question;
 use seed::Seed;
@@ -37,7 +42,7 @@ const fn kind(name: &'static str, questions: fn(u64) -> Vec<Question>) -> Kind {
 }
 
 /// Every kind that the library has by now.
-const KINDS: [Kind; 12] = [
+const KINDS: [Kind; 14] = [
     kind("slot-sets", sets::questions),
     kind("slot-sets-damaged", sets::damaged),
     kind("slots", splitting::questions),
@@ -50,6 +55,8 @@ const KINDS: [Kind; 12] = [
     kind("targets-damaged", targets::damaged),
     kind("rotas", rotas::questions),
     kind("rotas-damaged", rotas::damaged),
+    kind("jobs", jobs::questions),
+    kind("jobs-damaged", jobs::damaged),
 ];
 
 /// From how many cases of every kind on each exported function must have been asked.
@@ -58,7 +65,9 @@ const ENOUGH: u64 = 100;
 /// How many differences of a kind are printed.
 const SHOWN: u64 = 20;
 
-const USAGE: &str = "usage: oracle compare N SEED KIND|every | oracle case KIND CASE-SEED | oracle days | oracle store KIND N SEED FOLDER";
+const USAGE: &str = "usage: oracle compare N SEED KIND|every | case KIND CASE-SEED | days | time N
+       oracle program N SEED COMMAND.. | rules N SEED | store KIND N SEED FOLDER
+       oracle job SEED | listing SEED | limits | listing-of FILE";
 
 fn main() -> ExitCode {
     let words: Vec<String> = std::env::args().skip(1).collect();
@@ -73,6 +82,10 @@ fn main() -> ExitCode {
             Err(_) => usage(),
         },
         ["days"] => ended(every_day()),
+        ["program", n, seed, _, ..] => match (n.parse(), seed.parse()) {
+            (Ok(n), Ok(seed)) => ended(program::compare(n, seed, &words[3..])),
+            _ => usage(),
+        },
         ["rules", n, seed] => match (n.parse(), seed.parse()) {
             (Ok(n), Ok(seed)) => compare_rules(n, seed),
             _ => usage(),
@@ -82,8 +95,20 @@ fn main() -> ExitCode {
             Err(_) => usage(),
         },
         ["listing", seed] => match seed.parse() {
-            Ok(seed) => write_out(jobs::JobCase::new(&mut Seed::new(seed)).listing().as_bytes()),
+            Ok(seed) => write_out(job_files::text_of(&jobs::JobCase::new(&mut Seed::new(seed)).file()).as_bytes()),
             Err(_) => usage(),
+        },
+        ["limits"] => write_out(&jobs::JobCase::at_every_limit().file()),
+        ["time", n] => match n.parse() {
+            Ok(n) => ended(time_job(n)),
+            Err(_) => usage(),
+        },
+        ["listing-of", file] => match fs::read(file) {
+            Ok(bytes) => write_out(job_files::text_of(&bytes).as_bytes()),
+            Err(error) => {
+                eprintln!("oracle: {file}: {error}");
+                ExitCode::from(2)
+            }
         },
         ["store", kind, n, seed, folder] => match (n.parse(), seed.parse()) {
             (Ok(n), Ok(seed)) => store(kind, n, seed, Path::new(folder)),
@@ -95,8 +120,16 @@ fn main() -> ExitCode {
 
 /// Writes stored answers of a kind into the folder of the program that replays them: what it reads, and what it must then write.
 fn store(kind: &str, n: u64, seed: u64, folder: &Path) -> ExitCode {
-    let Some(stored) = stored::of_kind(kind, n, seed) else {
-        return usage();
+    let made = match kind {
+        "jobs" => stored_jobs::jobs(n, seed),
+        _ => stored::of_kind(kind, n, seed).ok_or_else(|| format!("no kind {kind}")),
+    };
+    let stored = match made {
+        Ok(stored) => stored,
+        Err(missing) => {
+            eprintln!("oracle: {missing}");
+            return ExitCode::from(2);
+        }
     };
     let line = format!("{} answers compared, 0 differ\n", stored.answers);
     let written = fs::write(folder.join("stdin"), &stored.bytes).and_then(|()| fs::write(folder.join("stdout"), line));
@@ -186,6 +219,26 @@ fn every_export_in(functions: &BTreeSet<&str>) -> std::io::Result<()> {
         return Ok(());
     }
     Err(std::io::Error::other(format!("never asked: {}", left.join(", "))))
+}
+
+/// Times the job at every limit: the least of n runs, less the least of as many runs of the same file cut by a byte.
+fn time_job(n: u64) -> std::io::Result<u64> {
+    let mut least = [Duration::MAX; 2];
+    let mut differing = 0;
+    for _ in 0..n {
+        for (question, least) in jobs::timed().iter().zip(&mut least) {
+            let begun = Instant::now();
+            let outcome = library::ask(question)?;
+            *least = begun.elapsed().min(*least);
+            differing += u64::from(outcome != question.due);
+        }
+    }
+    let [whole, cut] = least.map(|time| time.as_secs_f64() * 1000.0);
+    println!(
+        "jobs: a job at every limit takes {:.2} ms: {whole:.2} less {cut:.2} for its file cut by a byte, each the least of {n} runs",
+        whole - cut
+    );
+    Ok(differing)
 }
 
 /// Compares every day of the range, by the rule and by the library.
