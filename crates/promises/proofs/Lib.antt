@@ -1,0 +1,4 @@
+-- The proofs of what is promised.
+pub mod Calls
+pub mod TwoUnits
+pub mod Marked

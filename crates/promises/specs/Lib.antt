@@ -1,0 +1,3 @@
+-- What is promised: the marked cases.
+pub mod Entries
+pub mod Marked
