@@ -2,3 +2,4 @@
 pub mod Calls
 pub mod TwoUnits
 pub mod Marked
+pub mod Table

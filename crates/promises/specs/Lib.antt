@@ -1,3 +1,4 @@
--- What is promised: the marked cases.
+-- What is promised: the marked cases, the demands.
 pub mod Entries
 pub mod Marked
+pub mod Table
