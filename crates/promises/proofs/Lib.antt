@@ -3,3 +3,4 @@ pub mod Calls
 pub mod TwoUnits
 pub mod Marked
 pub mod Table
+pub mod Refusals

@@ -2,3 +2,4 @@
 pub mod Entries
 pub mod Marked
 pub mod Table
+pub mod Refusals

@@ -21,27 +21,39 @@ use Rattle.rota.specs.declared.Figure.the-variants as figure
 
 -- ---- the table
 
--- a row: the number, and what it says
-pub record Row : Type 1 where
+-- a rule of it: the number, and what it says
+pub record Rule : Type 1 where
   pub number : ℕ
   pub Says : Type 0
 
--- a row that says that a test fails
-abbrev pub row : ℕ → Bool → Row
-row n ok = record { number = n; Says = ok ≡ false }
-
--- number m applies: a row with it says so
-abbrev pub Applies : List Row → ℕ → Type 0
+-- number m applies: a rule with it says so
+abbrev pub Applies : List Rule → ℕ → Type 0
 Applies [] m = ⊥
 Applies (r ∷ t) m = ((r .number ≡ m) × (r .Says)) ⊎ Applies t m
 
--- a number is given exactly when its row says so and no lower one does; 0 stands for none and is given exactly when no row says so
-pub record Heard (t : List Row) (n : ℕ) : Type 0 where
+-- a number is given exactly when its rule says so and no lower one does; 0 stands for none and is given exactly when no rule says so
+pub record Heard (t : List Rule) (n : ℕ) : Type 0 where
   pub given : (m : ℕ) → 0 < m → (n ≡ m) ↔ (Applies t m × ((k : ℕ) → k < m → Applies t k → ⊥))
   pub none : (n ≡ 0) ↔ ((m : ℕ) → Applies t m → ⊥)
 
+-- a rule that a test decides: its number is due where the test does not pass
+pub record Row : Type 0 where
+  pub number : ℕ
+  pub passes : Bool
+
+abbrev pub row : ℕ → Bool → Row
+row n ok = record { number = n; passes = ok }
+
+abbrev pub rules : List Row → List Rule
+rules [] = []
+rules (r ∷ t) = record { number = r .number; Says = r .passes ≡ false } ∷ rules t
+
+-- an entry that reads alone: by the table
+abbrev pub Hears : List Row → ℕ → Type 0
+Hears t n = Heard (rules t) n
+
 -- an entry that is lent something to write: by the table, and refused it is as it was
-pub record Refuses {A : Type 0} (t : List Row) (n : ℕ) (entry exit : A) : Type 0 where
+pub record Refuses {A : Type 0} (t : List Rule) (n : ℕ) (entry exit : A) : Type 0 where
   pub heard : Heard t n
   pub kept : (n ≡ 0 → ⊥) → exit ≡ entry
 
