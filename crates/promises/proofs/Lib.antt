@@ -5,3 +5,4 @@ pub mod Marked
 pub mod Table
 pub mod Refusals
 pub mod RotaRefusals
+pub mod Rota

@@ -3,3 +3,4 @@ pub mod Entries
 pub mod Marked
 pub mod Table
 pub mod Refusals
+pub mod Rota
