@@ -6,3 +6,4 @@ pub mod Table
 pub mod Refusals
 pub mod RotaRefusals
 pub mod Rota
+pub mod Empty

@@ -24,14 +24,14 @@ use Rattle.rota.specs.Derived.{knownBy, portion, worked, held, setsFrom, afresh
 use Rattle.rota.specs.Recount.{knownAt, freeFor, freeAt, evenAt, setSlotAt, setAt, minutesOkAt, recounts}
 use Rattle.rota.specs.Entries.{countsOk, roomOk}
 use Rattle.promises.specs.Entries.{Call, noOf, playOf}
-use Rattle.promises.specs.Marked.{Spare, twoUnits}
+use Rattle.promises.specs.Marked.{Owned, apart, Spare, twoUnits}
 use Rattle.promises.proofs.Calls.{Accepted, says-accepted, accepted-is}
 
 -- with as many draws as there are numbers for, and room for the answers, it is accepted
-module _ (frozen count : ℕ) (kinds ones twos : List ℕ) (more : Spare) (few : leb count 1024 ≡ true) (k : leb count (length kinds) ≡ true)
+module _ (r : Owned) (frozen count : ℕ) (kinds ones twos : List ℕ) (more : Spare) (few : leb count 1024 ≡ true) (k : leb count (length kinds) ≡ true)
     (f : leb count (length ones) ≡ true) (s : leb count (length twos) ≡ true) (room : count ≤ length (more .answers)) where
   abbrev call : Call
-  call = twoUnits frozen count kinds ones twos more
+  call = twoUnits r frozen count kinds ones twos more
 
   rota-room : roomOk (call .plan) (call .avail) (call .owners) (call .derived) ≡ true
   unfolding roomOk slotRoomOk
@@ -42,14 +42,9 @@ module _ (frozen count : ℕ) (kinds ones twos : List ℕ) (more : Spare) (few :
       and-true _ _ (le-leb 2 (length (call .owners)) a)
       (and-true _ _ (le-leb 32 (length (call .derived .sets)) b) (le-leb 2 (length (call .derived .minutes)) d))
 
-  recounted : recounts (call .plan) (call .avail) 2 (call .firsts) (call .owners) (call .derived) ≡ true
-  unfolding recounts all allIn knownAt knownBy freeAt freeFor available evenAt unitEnd setAt setSlotAt held minutesOkAt worked portion
-      sum minutesAt slot bitOf
-  recounted = refl
-
-  passes : Accepted call
+  passes : recounts (call .plan) (call .avail) 2 (call .firsts) (call .owners) (call .derived) ≡ true → Accepted call
   unfolding countsOk peopleOk slotCountOk slotsOk slotRoomOk slotOkAt slotOk prevEnd all unitsOk startOk
-  passes = record {
+  passes recount = record {
     counts = refl;
     few = few;
     room = rota-room;
@@ -61,17 +56,24 @@ module _ (frozen count : ℕ) (kinds ones twos : List ℕ) (more : Spare) (few :
     answers = room;
     slots = refl;
     units = refl;
-    recount = recounted;
+    recount = recount;
   }
 
-  pub accepted : noOf call ≡ 0
-  accepted = says-accepted call passes
+  pub accepted : recounts (call .plan) (call .avail) 2 (call .firsts) (call .owners) (call .derived) ≡ true → noOf call ≡ 0
+  accepted recount = says-accepted call (passes recount)
+
+-- owners 0 and 1 pass the recount
+pub apart-recounts : (frozen count : ℕ) (kinds ones twos : List ℕ) (more : Spare)
+    → let c = twoUnits apart frozen count kinds ones twos more in recounts (c .plan) (c .avail) 2 (c .firsts) (c .owners) (c .derived) ≡ true
+unfolding recounts all allIn knownAt knownBy freeAt freeFor available evenAt unitEnd setAt setSlotAt held minutesOkAt worked portion sum
+    minutesAt slot bitOf
+apart-recounts frozen count kinds ones twos more = refl
 
 -- unit 1 frozen, the swap of both units: 1, and nothing changes
 pub case-12 : (more : Spare) → 1 ≤ length (more .answers)
-    → let c = twoUnits 2 1 (35 ∷ []) (0 ∷ []) (1 ∷ []) more in
+    → let c = twoUnits apart 2 1 (35 ∷ []) (0 ∷ []) (1 ∷ []) more in
     playOf c ≡ record { number = 0; owners = c .owners; derived = c .derived; answers = 1 ∷ drop 1 (more .answers) }
 unfolding drawsOf ownersAfter answers answer step written decided anyOf swapped unowned ownerOf frozenUnit unitFrozen clear unfrozen allIn all
     slot bitOf unitEnd fitsUnit able available afresh setsFrom putSlots putSlot withBit held over worked portion sum minutesAt
 case-12 more room =
-    accepted-is (twoUnits 2 1 (35 ∷ []) (0 ∷ []) (1 ∷ []) more) (accepted 2 1 (35 ∷ []) (0 ∷ []) (1 ∷ []) more refl refl refl refl room)
+    accepted-is (twoUnits apart 2 1 (35 ∷ []) (0 ∷ []) (1 ∷ []) more) (accepted apart 2 1 (35 ∷ []) (0 ∷ []) (1 ∷ []) more refl refl refl refl room (apart-recounts 2 1 (35 ∷ []) (0 ∷ []) (1 ∷ []) more))

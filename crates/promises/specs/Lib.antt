@@ -4,3 +4,4 @@ pub mod Marked
 pub mod Table
 pub mod Refusals
 pub mod Rota
+pub mod Empty

@@ -52,8 +52,20 @@ Shared C demand capacities priors zs =
 abbrev pub mondays : ℕ → ℕ → ℕ → Settings
 mondays fairness lock days = record { fairness = fairness; lock = lock; boundary = 1; value = 1; days = days }
 
--- two slots of an hour, each a unit, two people who are available for both, owners 0 and 1; with these flags, these draws and, past what
--- is needed, anything
+-- who owns two slots of an hour, and each person's first word and minutes
+pub record Owned : Type 0 where
+  pub first : ℕ
+  pub second : ℕ
+  pub words0 : ℕ
+  pub words1 : ℕ
+  pub minutes0 : ℕ
+  pub minutes1 : ℕ
+
+-- owners 0 and 1
+abbrev pub apart : Owned
+apart = record { first = 0; second = 1; words0 = 1; words1 = 2; minutes0 = 60; minutes1 = 60 }
+
+-- what is lent past what is needed, and the answers' buffer: anything
 pub record Spare : Type 0 where
   pub owners : List ℕ
   pub sets : List ℕ
@@ -63,8 +75,9 @@ pub record Spare : Type 0 where
 abbrev pub words : ℕ → List ℕ
 words w = w ∷ replicate 15 0
 
-abbrev pub twoUnits : ℕ → ℕ → List ℕ → List ℕ → List ℕ → Spare → Call
-twoUnits frozen count kinds ones twos more = record {
+-- these two slots, each a unit, and two people who are available for both; with these flags and these draws
+abbrev pub twoUnits : Owned → ℕ → ℕ → List ℕ → List ℕ → List ℕ → Spare → Call
+twoUnits r frozen count kinds ones twos more = record {
   plan = plan 2 2 (0 ∷ 60 ∷ []) (60 ∷ 120 ∷ []);
   avail = words 3 ++ words 3;
   units = 2;
@@ -74,8 +87,8 @@ twoUnits frozen count kinds ones twos more = record {
   kinds = kinds;
   ones = ones;
   twos = twos;
-  owners = 0 ∷ 1 ∷ more .owners;
-  derived = derived (words 1 ++ (words 2 ++ more .sets)) (60 ∷ 60 ∷ more .minutes);
+  owners = r .first ∷ r .second ∷ more .owners;
+  derived = derived (words (r .words0) ++ (words (r .words1) ++ more .sets)) (r .minutes0 ∷ r .minutes1 ∷ more .minutes);
   answers = more .answers;
 }
 
@@ -117,5 +130,5 @@ pub record MarkedCases (C : Component) : Type 0 where
       ≡ record { answer = number.Is 2; buffer = 0 ∷ 2 ∷ drop 2 list }
   -- 12. Two units, owners 0 and 1, unit 1 frozen: (35, 0, 1) answers 1
   pub case-12 : (more : Spare) → 1 ≤ length (more .answers)
-      → let c = twoUnits 2 1 (35 ∷ []) (0 ∷ []) (1 ∷ []) more in
+      → let c = twoUnits apart 2 1 (35 ∷ []) (0 ∷ []) (1 ∷ []) more in
       C .play c ≡ record { number = 0; owners = c .owners; derived = c .derived; answers = 1 ∷ drop 1 (more .answers) }

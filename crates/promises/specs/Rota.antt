@@ -6,7 +6,8 @@ use Prim.Native.Nat.{ℕ, _+_, _^_, _<_}
 use lib.Dec.{eqb}
 use lib.ListN.{length, getD, take, drop}
 use Rattle.paper.specs.Limits.{nobody}
-use Rattle.paper.specs.Count.{sum}
+use Rattle.paper.specs.Count.{sum, count}
+use Rattle.slotset.specs.declared.Counted.the-variants as counted
 use Rattle.slotset.specs.Slots.{slot}
 use Rattle.slots.specs.Lent.{demandOf}
 use Rattle.units.specs.Units.{unitOf}
@@ -14,7 +15,7 @@ use Rattle.rota.specs.declared.Figure.the-variants.{Is}
 use Rattle.rota.specs.Plays.{touched}
 use Rattle.rota.specs.Derived.{knownBy}
 use Rattle.rota.specs.Recount.{freeFor, recounts}
-use Rattle.rota.specs.Entries.{Outcome}
+use Rattle.rota.specs.Entries.{Outcome, slotsOfIs}
 use Rattle.promises.specs.Entries.{Call, Component, noOf, afreshIn, boardIn, drawsIn}
 
 -- "From any rota that passes the recount, any accepted list of draws ends in the rota that the rules give worked out afresh."
@@ -54,6 +55,13 @@ abbrev pub Recounts : Component → Type 0
 Recounts C =
     (c : Call) → noOf c ≡ 0
     → recounts (c .plan) (c .avail) (c .units) (c .firsts) (C .play c .owners) (C .play c .derived) ≡ true
+
+-- .. so that the count of a person's set is the number of slots that they own
+abbrev pub SizesRecount : Component → Type 0
+SizesRecount C =
+    (c : Call) → noOf c ≡ 0 → (p : ℕ) → p < c .plan .people
+    → C .size (slotsOfIs (c .plan .people) (c .plan .slots) (C .play c .derived .sets) p .set)
+    ≡ counted.Is (count (c .plan .slots) (λ k. eqb (after C c k) p))
 
 -- "minutes plus uncovered minutes equal the slots' total": the uncovered minutes are told, and this is their sum
 abbrev pub AddsUp : Component → Type 0
