@@ -36,7 +36,7 @@ use Rattle.rota.specs.Derived.{knownBy, portion, worked, held, setsFrom, afresh
 use Rattle.rota.specs.Recount.{knownAt, freeFor, freeAt, evenAt, setSlotAt, setAt, minutesOkAt, recounts}
 use Rattle.rota.specs.Entries as rota
 use Rattle.rota.proofs.Entered.{recount-says}
-use Rattle.promises.specs.Entries.{Call, Component, noOf, playOf, afreshIn, ownersIn}
+use Rattle.promises.specs.Entries.{Call, Component, built, noOf, playOf, afreshIn, ownersIn}
 use Rattle.promises.specs.Marked.{MarkedCases, inWords, onePerson, atoms, one, mondays, Owned, apart, Spare, twoUnits}
 use Rattle.promises.specs.Table.{countedNo, numberNo}
 use Rattle.promises.specs.Refusals.{playTable}
@@ -67,6 +67,9 @@ zeros n = replicate n 0
 
 room : (n : ℕ) → n ≤ length (zeros n)
 room n = le-of-eq (sym (length-replicate n 0))
+
+pub refuses-by-table : RefusesByTable built
+refuses-by-table c = rota-refuses .play c .heard
 
 pub always-refusing-falls : (C : Component) → AlwaysRefuses C → MarkedCases C → RefusesByTable C → ⊥
 always-refusing-falls C (refuses-atomise f) M T =

@@ -1,24 +1,30 @@
 -- Demand 3, sentence by sentence, by the laws of rota. Assumes nothing.
 use mathlib.Core.Path.{_≡_, refl, sym, ap, ap₂, _∙_}
-use mathlib.Core.Bool.{Bool, true, _&&_}
+use mathlib.Core.Bool.{Bool, true, _&&_, cond}
 use mathlib.Core.List.{List, [], _∷_, _++_, append-assoc}
-use Prim.Native.Nat.{ℕ, suc, _+_, _-_, _*_, _≤_, _<_}
+use Prim.Native.Nat.{ℕ, suc, _+_, _-_, _*_, _/_, _%_, _≤_, _<_}
 use native.Mathlib.Omega.{arith}
-use borrow.Author.Tests.{le-leb, leb-true}
-use lib.Dec.{leb}
-use lib.ListN.{length, getD, take, drop, length-append, length-drop}
-use lib.Seq.{take-at, drop-at, drop-drop}
-use Rattle.paper.specs.Count.{all, sum}
-use Rattle.paper.specs.Limits.{orElse}
-use Rattle.paper.proofs.Logic.{both, five, and-true}
-use Rattle.paper.proofs.Count.{each-all}
+use borrow.Author.Tests.{le-leb, leb-true, lt-ltb}
+use lib.Dec.{leb, eqb}
+use lib.ListN.{length, getD, take, drop, replicate, length-append, length-drop}
+use lib.Seq.{getD-take, getD-drop, take-at, drop-at, drop-drop}
+use Rattle.paper.specs.Count.{all, sum, count}
+use Rattle.paper.specs.Limits.{peopleOk, slotCountOk, orElse}
+use Rattle.paper.specs.Bits.{bitOf}
+use Rattle.paper.proofs.Logic.{both, five, and-true, slot-count-says}
+use Rattle.paper.proofs.Count.{each-all, sum-same}
+use Rattle.slotset.specs.declared.SlotSet.{SlotSet}
+use Rattle.slotset.specs.declared.Changed.{Changed}
+use Rattle.slotset.specs.declared.Counted.the-variants as counted
+use Rattle.slotset.specs.Slots.{slot, size}
+use Rattle.slotset.specs.Answers.{lenNo, rowNo, countedAs, loadOf}
 use Rattle.slots.specs.Lent.{slotRoomOk, demandOf}
 use Rattle.rota.specs.declared.Figure.the-variants.{Is}
 use Rattle.rota.specs.Moves.{Draw}
 use Rattle.rota.specs.Plays.{drawsOf, ownersAfter, answers, written}
-use Rattle.rota.specs.Derived.{Plan, Derived, knownBy, uncovered, afresh}
+use Rattle.rota.specs.Derived.{Plan, Derived, knownBy, uncovered, held, afresh}
 use Rattle.rota.specs.Recount.{freeFor, knownAt, recounts}
-use Rattle.rota.specs.Entries.{Outcome, roomOk, uncoveredIs, figureAs, ground}
+use Rattle.rota.specs.Entries.{Outcome, countsOk, roomOk, uncoveredIs, figureAs, ground, slotsOfIs}
 use Rattle.rota.proofs.Entered.{PlayAsks, play-asks, recount-says}
 use Rattle.rota.proofs.Plays.{play-length, answers-length, draws-length}
 use Rattle.rota.proofs.Steps.{afresh-lengths}
@@ -26,7 +32,8 @@ use Rattle.rota.proofs.Promises.{frozen-slots-keep, covered-stays, only-handed-
 use Rattle.rota.proofs.Promises.{minutes-and-uncovered, two-calls-owners, two-calls-answers, two-calls-derived}
 use Rattle.promises.specs.Entries.{Call, built, noOf, playOf, afreshIn, boardIn, ownersIn, drawsIn}
 use Rattle.promises.specs.Rota.{EndsAfresh, FrozenKeep, OwnersAvailable, CoveredStays, OnlyHandedOver, Recounts, AddsUp, after}
-use Rattle.promises.specs.Rota.{firstCall, nextCall, secondCall, Words, InTwo, TwoCalls}
+use Rattle.promises.specs.Rota.{SizesRecount, firstCall, nextCall, secondCall, Words, InTwo, TwoCalls}
+use Rattle.promises.specs.Empty.{ActsByRule}
 use Rattle.promises.proofs.Calls.{accepted-is, Accepted, accepted-says, says-accepted}
 
 pub ends-afresh : EndsAfresh built
@@ -42,6 +49,9 @@ module _ (c : Call) (e : noOf c ≡ 0) where
 
   owner-is : (k : ℕ) → after built c k ≡ getD (ownersIn c) k 0
   owner-is k = ap (λ (y : Outcome). getD (y .owners) k 0) (accepted-is c e)
+
+pub acts-by-rule : ActsByRule built
+acts-by-rule c e = ap (λ (y : Outcome). y .owners) (accepted-is c e)
 
 pub frozen-keep : FrozenKeep built
 frozen-keep c e k h z =
@@ -121,6 +131,67 @@ adds-up c e =
       ap (λ (y : Outcome). uncoveredIs (c .plan) (y .owners)) q ∙ told c e,
       ap (λ (y : Outcome). sum (c .plan .people) (λ p. getD (y .derived .minutes) p 0) + uncovered (c .plan) (ownersIn c)) q ∙ total c e,
     )
+
+-- ---- the count of a person's set
+
+-- a person's row as a set by value has its slots
+row-slot : (ws : List ℕ) (p k : ℕ) → k < 1024 → slot (take 16 (drop (16 * p) ws)) 0 k ≡ slot ws (16 * p) k
+unfolding slot
+row-slot ws p k h =
+    let w : 0 + k / 64 < 16 = omega arith in
+    let e : 16 * p + (0 + k / 64) ≡ 16 * p + k / 64 = omega arith in
+    ap (λ (x : ℕ). bitOf x (k % 64))
+    (getD-take 16 (drop (16 * p) ws) (0 + k / 64) 0 w ∙ getD-drop (16 * p) ws (0 + k / 64) 0 ∙ ap (λ (j : ℕ). getD ws j 0) e)
+
+three-hold : (a b c : Bool) → a ≡ true → b ≡ true → c ≡ true → orElse a 1 (orElse b 2 (orElse c 11 0)) ≡ 0
+three-hold a b c p q r = simp (p, q, r)
+
+module _ (people slots : ℕ) (ws : List ℕ) (p : ℕ) (e : countsOk people slots ≡ true) (room : 16 * people ≤ length ws) (h : p < people) where
+  abbrev row : SlotSet
+  row = record { words = take 16 (drop (16 * p) ws); len = slots }
+
+  counts : (peopleOk people ≡ true) × (slotCountOk slots ≡ true)
+  unfolding countsOk
+  counts = both (peopleOk people) (slotCountOk slots) e
+
+  few : leb slots 1024 ≡ true
+  few = le-leb slots 1024 (slot-count-says slots (counts .1) .1)
+
+  row-none : rowNo ws people p slots ≡ 0
+  unfolding rowNo
+  row-none =
+      three-hold _ _ _ (and-true _ _ (counts .0) few) (le-leb (16 * people) (length ws) room) (lt-ltb p people h)
+
+  row-is : slotsOfIs people slots ws p .set ≡ row
+  unfolding slotsOfIs loadOf
+  row-is =
+      ap (λ (b : Bool). cond b (loadOf ws people p slots) (record { set = record { words = replicate 16 0; len = 0 }; number = 1 }) .set) (counts .1)
+      ∙ ap {B = SlotSet} (λ (n : ℕ). record { words = cond (eqb n 0) (take 16 (drop (16 * p) ws)) (replicate 16 0); len = cond (eqb n 0) slots 0 })
+      row-none
+
+  row-size : built .size row ≡ counted.Is (sum slots (slot (take 16 (drop (16 * p) ws)) 0))
+  unfolding countedAs lenNo size
+  row-size = ap (λ (b : Bool). countedAs (orElse b 1 0) (sum slots (slot (take 16 (drop (16 * p) ws)) 0))) few
+
+  -- of a rota whose sets are right
+  size-is : (o : List ℕ) → ((k : ℕ) → k < slots → slot ws (16 * p) k ≡ held o p k)
+      → built .size (slotsOfIs people slots ws p .set) ≡ counted.Is (count slots (λ k. eqb (getD o k 0) p))
+  unfolding count held
+  size-is o right =
+      ap (built .size) row-is ∙ row-size
+      ∙ ap counted.Is (sum-same slots (slot (take 16 (drop (16 * p) ws)) 0) (held o p)
+      (λ k b. row-slot ws p k (omega (arith, leb-true slots 1024 few)) ∙ right k b))
+
+pub sizes-recounted : SizesRecount built
+sizes-recounted c e p h =
+    let y = afreshIn c in
+    let A = accepted-says c e in
+    let r = recount-says (c .plan) (c .avail) (c .units) (c .firsts) (ownersIn c) (y .derived) (afresh-recounts c e) in
+    let l = afresh-lengths (c .plan) (ownersIn c) (c .derived) in
+    ap (λ (a : Outcome). built .size (slotsOfIs (c .plan .people) (c .plan .slots) (a .derived .sets) p .set)) (accepted-is c e)
+    ∙ size-is (c .plan .people) (c .plan .slots) (y .derived .sets) p (A .counts)
+    (omega (arith, l .0, asks c e .grounds .on .room .sets-room)) h (ownersIn c) (λ k b. r .sets p k h b)
+    ∙ sym (ap (λ (a : Outcome). counted.Is (count (c .plan .slots) (λ k. eqb (getD (a .owners) k 0) p))) (accepted-is c e))
 
 -- ---- two calls
 
