@@ -7,3 +7,5 @@ pub mod Refusals
 pub mod RotaRefusals
 pub mod Rota
 pub mod Empty
+pub mod SetRules
+pub mod SlotRules

@@ -5,3 +5,5 @@ pub mod Table
 pub mod Refusals
 pub mod Rota
 pub mod Empty
+pub mod SetRules
+pub mod SlotRules
