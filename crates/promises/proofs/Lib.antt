@@ -9,3 +9,4 @@ pub mod Rota
 pub mod Empty
 pub mod SetRules
 pub mod SlotRules
+pub mod UnitRules

@@ -7,3 +7,4 @@ pub mod Rota
 pub mod Empty
 pub mod SetRules
 pub mod SlotRules
+pub mod UnitRules
