@@ -10,3 +10,4 @@ pub mod Empty
 pub mod SetRules
 pub mod SlotRules
 pub mod UnitRules
+pub mod TargetRules

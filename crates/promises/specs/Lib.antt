@@ -8,3 +8,4 @@ pub mod Empty
 pub mod SetRules
 pub mod SlotRules
 pub mod UnitRules
+pub mod TargetRules
