@@ -11,3 +11,4 @@ pub mod SetRules
 pub mod SlotRules
 pub mod UnitRules
 pub mod TargetRules
+pub mod Outcomes

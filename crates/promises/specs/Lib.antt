@@ -9,3 +9,4 @@ pub mod SetRules
 pub mod SlotRules
 pub mod UnitRules
 pub mod TargetRules
+pub mod Outcomes
