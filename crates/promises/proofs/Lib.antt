@@ -4,6 +4,7 @@ pub mod TwoUnits
 pub mod Marked
 pub mod Table
 pub mod Refusals
+pub mod SetRefusals
 pub mod RotaRefusals
 pub mod Rota
 pub mod Empty

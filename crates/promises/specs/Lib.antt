@@ -3,6 +3,7 @@ pub mod Entries
 pub mod Marked
 pub mod Table
 pub mod Refusals
+pub mod SetRefusals
 pub mod Rota
 pub mod Empty
 pub mod SetRules
