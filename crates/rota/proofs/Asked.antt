@@ -1,30 +1,27 @@
 -- The laws of the entries but play: which refusal, and what is left. Assumes nothing.
 use mathlib.Core.Path.{_≡_, refl, sym, ap, ap₂, _∙_}
 use mathlib.Core.Bool.{Bool, true, false, cond, _&&_}
-use mathlib.Core.List.{List, [], _∷_}
+use mathlib.Core.List.{List, []}
 use Prim.Native.Nat.{ℕ, zero, suc, _+_, _-_, _*_, _≤_, _<_}
 use native.Mathlib.Omega.{arith}
-use borrow.Author.Tests.{eq-eqb, ne-eqb, lt-ltb, ltb-true, leb-true}
+use borrow.Author.Tests.{eq-eqb, ne-eqb, ltb-true, leb-true}
 use lib.Dec.{eqb, ltb, leb}
 use lib.ListN.{length, getD, set}
 use Rattle.paper.specs.Limits.{nobody, peopleOk, slotCountOk, orElse}
 use Rattle.paper.specs.Count.{all, sum, count, fill, over}
 use Rattle.paper.proofs.Logic.{by-test, both, three, cond-zero, people-says, slot-count-says}
 use Rattle.paper.proofs.Count.{all-each, fill-none, fill-more, sum-more}
-use Rattle.slotset.proofs.Puts.{Fit}
-use Rattle.slots.specs.Lent.{slotRoomOk, slotsOk}
-use Rattle.slots.proofs.LentLaws.{slots-sound}
-use Rattle.units.specs.Units.{unitStart, unitEnd, unitsOk}
-use Rattle.rota.specs.declared.Figure.{Figure}
+use Rattle.slots.specs.Lent.{slotsOk}
+use Rattle.units.specs.Units.{unitsOk}
 use Rattle.rota.specs.declared.Figure.the-variants.{Is, Refused}
-use Rattle.rota.specs.Derived.{Plan, PlanSound, Derived, derived, knownBy, worked, uncovered, unassigned, afresh, setsFrom}
+use Rattle.rota.specs.Derived.{Plan, PlanSound, Derived, derived, knownBy, unassigned, afresh, setsFrom}
 use Rattle.rota.specs.Derived.{nobodies, InStep, Makes, HandedOver, OneOwner}
-use Rattle.rota.specs.Recount.{firstFail, freeFor, knownAt, freeAt, recounts, RotaRoom}
-use Rattle.rota.specs.Entries.{countsOk, roomOk, ground, outcome, Ended, fromSlotsNo, fromSlots, assignNo, assigned, recountNo}
+use Rattle.rota.specs.Recount.{firstFail, freeFor, knownAt, freeAt, recounts}
+use Rattle.rota.specs.Entries.{countsOk, roomOk, ground, Ended, fromSlotsNo, fromSlots, assignNo, assigned, recountNo}
 use Rattle.rota.specs.Entries.{recountSlotsNo}
-use Rattle.rota.specs.Entries.{emptyNo, emptied, figureAs, ownerIs, minutesIs, unassignedIs, uncoveredIs}
-use Rattle.rota.proofs.Scans.{first-passes, first-test, fails-none}
-use Rattle.rota.proofs.Entered.{ground-all, ground-stops, ground-goes, ground-0, Grounds, grounds, Recounted, recount-says}
+use Rattle.rota.specs.Entries.{emptyNo, emptied, figureAs}
+use Rattle.rota.proofs.Scans.{first-passes, fails-none}
+use Rattle.rota.proofs.Entered.{ground-all, ground-stops, ground-goes, Grounds, grounds, Recounted, recount-says}
 use Rattle.rota.proofs.Entered.{recount-step, ended-no, ended-yes, last-no, last-yes, else-no, else-on}
 
 -- a scan that ends before n: not all pass
@@ -319,18 +316,3 @@ nobody-le o zero = omega arith
 nobody-le o (suc k) = by-test (eqb (getD o k 0) nobody) _
     (λ t. omega (arith, nobody-le o k, ap {B = ℕ} (λ (b : Bool). cond b 1 0) t))
     (λ f. omega (arith, nobody-le o k, ap {B = ℕ} (λ (b : Bool). cond b 1 0) f))
-
--- what counts and slots that pass leave known
-pub plan-sound : (P : Plan) → countsOk (P .people) (P .slots) ≡ true → slotsOk (P .slots) (P .starts) (P .ends) ≡ true → PlanSound P
-unfolding countsOk
-plan-sound P a c =
-    let x = both (peopleOk (P .people)) (slotCountOk (P .slots)) a in
-    let p = people-says (P .people) (x .0) in
-    let q = slot-count-says (P .slots) (x .1) in
-    record {
-      people-some = p .0;
-      people-few = p .1;
-      slots-some = q .0;
-      slots-few = q .1;
-      lent = slots-sound (P .slots) (P .starts) (P .ends) c;
-    }

@@ -1,34 +1,31 @@
 -- The entries: what the first tests leave known, which refusal it is, and that only one outcome fits. Assumes nothing.
-use mathlib.Core.Path.{_≡_, refl, sym, ap, ap₂, _∙_, subst}
-use mathlib.Core.Logic.{⊎-elim}
-use mathlib.Core.Bool.{Bool, true, false, cond, not, _&&_, _||_}
-use mathlib.Core.List.{List, [], _∷_}
-use Prim.Native.Nat.{ℕ, zero, suc, _+_, _-_, _*_, _/_, _%_, _≤_, _<_}
+use mathlib.Core.Path.{_≡_, sym, ap, ap₂, _∙_, subst}
+use mathlib.Core.Bool.{Bool, true, false, cond, _&&_}
+use mathlib.Core.List.{List}
+use Prim.Native.Nat.{ℕ, _*_, _/_, _≤_, _<_}
 use native.Mathlib.Omega.{arith}
-use borrow.Author.Tests.{eq-eqb, ne-eqb, eqb-true, eqb-false, lt-ltb, le-ltb, ltb-true, leb-true, leb-false, le-leb, lt-leb}
-use lib.Dec.{eqb, ltb, leb}
-use lib.ListN.{length, getD, set}
+use borrow.Author.Tests.{eq-eqb, ne-eqb, eqb-true, lt-ltb, leb-true, le-leb}
+use lib.Dec.{eqb, leb}
+use lib.ListN.{length, getD}
 use Rattle.paper.specs.Limits.{nobody, peopleOk, slotCountOk, orElse}
-use Rattle.paper.specs.Count.{all, allIn, fill}
-use Rattle.paper.proofs.Logic.{by-test, lt-or-ge, both, five, same-test, or-right, and-true, cond-zero, people-says, slot-count-says}
-use Rattle.paper.proofs.Count.{all-each, each-all, in-each, each-in, fill-none, fill-more}
+use Rattle.paper.specs.Count.{all}
+use Rattle.paper.proofs.Logic.{by-test, both, five, same-test, or-right, and-true, cond-zero, people-says, slot-count-says}
+use Rattle.paper.proofs.Count.{all-each, each-all, in-each, each-in}
 use Rattle.slotset.specs.Slots.{slot}
-use Rattle.slotset.proofs.Puts.{Fit}
 use Rattle.slots.specs.Lent.{slotRoomOk, slotsOk}
 use Rattle.slots.proofs.LentLaws.{slots-sound}
-use Rattle.units.specs.Units.{unitStart, unitEnd, unitsOk, unitOf}
+use Rattle.units.specs.Units.{unitStart, unitEnd, unitsOk}
 use Rattle.units.specs.Domains.{available, able}
-use Rattle.units.proofs.Units.{unit-some, unit-within, units-within, unit-of-in}
-use Rattle.rota.specs.Board.{Board, BoardSound, InUnit, Even, ownerOf}
+use Rattle.units.proofs.Units.{unit-some, unit-within, units-within}
+use Rattle.rota.specs.Board.{Board, BoardSound, Even, ownerOf}
 use Rattle.rota.specs.Plays.{drawsOf, ownersAfter, answers, written}
 use Rattle.rota.specs.Ready.{ready}
-use Rattle.rota.specs.Lent.{fitsUnit, frozenUnit, boardOf, FitsRight, FrozenRight}
-use Rattle.rota.specs.Derived.{Plan, PlanSound, Derived, derived, knownBy, worked, held, afresh, InStep, Makes, HandedOver}
-use Rattle.rota.specs.Derived.{OneOwner}
+use Rattle.rota.specs.Lent.{fitsUnit, boardOf, FitsRight, FrozenRight}
+use Rattle.rota.specs.Derived.{Plan, PlanSound, Derived, derived, knownBy, worked, held, afresh, InStep}
 use Rattle.rota.specs.Recount.{freeFor, knownAt, freeAt, evenAt, setSlotAt, setAt, minutesOkAt, recounts, RotaRoom}
 use Rattle.rota.specs.Stepped.{Ran, DrawRoom}
-use Rattle.rota.specs.Entries.{countsOk, roomOk, ground, Outcome, outcome, Ended, fromSlotsNo, fromSlots, assignNo, assigned}
-use Rattle.rota.specs.Entries.{recountNo, recountSlotsNo, playRoomOk, playNo, played}
+use Rattle.rota.specs.Entries.{countsOk, roomOk, ground, Outcome, outcome, Ended}
+use Rattle.rota.specs.Entries.{playRoomOk, playNo, played}
 use Rattle.rota.proofs.Minutes.{known-below}
 use Rattle.rota.proofs.Readied.{board-is, board-sound}
 
@@ -84,6 +81,20 @@ module _ (a b c : Bool) where
 
 -- ---- what they leave known
 
+pub plan-sound : (P : Plan) → countsOk (P .people) (P .slots) ≡ true → slotsOk (P .slots) (P .starts) (P .ends) ≡ true → PlanSound P
+unfolding countsOk
+plan-sound P a c =
+    let x = both (peopleOk (P .people)) (slotCountOk (P .slots)) a in
+    let p = people-says (P .people) (x .0) in
+    let q = slot-count-says (P .slots) (x .1) in
+    record {
+      people-some = p .0;
+      people-few = p .1;
+      slots-some = q .0;
+      slots-few = q .1;
+      lent = slots-sound (P .slots) (P .starts) (P .ends) c;
+    }
+
 pub record Grounds (P : Plan) (avail o : List ℕ) (D : Derived) : Type 0 where
   pub sound : PlanSound P
   pub room : RotaRoom (P .people) (P .slots) avail o D
@@ -91,21 +102,12 @@ pub record Grounds (P : Plan) (avail o : List ℕ) (D : Derived) : Type 0 where
 
 pub grounds : (P : Plan) (avail o : List ℕ) (D : Derived) → countsOk (P .people) (P .slots) ≡ true → roomOk P avail o D ≡ true
     → slotsOk (P .slots) (P .starts) (P .ends) ≡ true → Grounds P avail o D
-unfolding countsOk roomOk
+unfolding roomOk
 grounds P avail o D a b c =
-    let x = both (peopleOk (P .people)) (slotCountOk (P .slots)) a in
-    let p = people-says (P .people) (x .0) in
-    let q = slot-count-says (P .slots) (x .1) in
     let y = five (slotRoomOk (P .slots) (P .starts) (P .ends)) (leb (16 * P .people) (length avail)) (leb (P .slots) (length o))
     (leb (16 * P .people) (length (D .sets))) (leb (P .people) (length (D .minutes))) b in
     record {
-      sound = record {
-        people-some = p .0;
-        people-few = p .1;
-        slots-some = q .0;
-        slots-few = q .1;
-        lent = slots-sound (P .slots) (P .starts) (P .ends) c;
-      };
+      sound = plan-sound P a c;
       room = record {
         avail-room = leb-true _ _ (y .1);
         owners-room = leb-true _ _ (y .2);

@@ -1,9 +1,9 @@
 -- What an act keeps: a lawful move leaves the units even and manned, frozen ones as they were, and no slot uncovered. Assumes nothing.
-use mathlib.Core.Path.{_≡_, refl, sym, ap, _∙_}
+use mathlib.Core.Path.{_≡_, refl, sym, ap, ap₂, _∙_}
 use mathlib.Core.Bool.{Bool, true, false}
 use mathlib.Core.List.{List}
 use mathlib.Core.Logic.{_⊎_, inl, inr, ⊎-elim}
-use Prim.Native.Nat.{ℕ, _+_, _-_, _≤_, _<_}
+use Prim.Native.Nat.{ℕ, _-_, _≤_, _<_}
 use native.Mathlib.Omega.{arith}
 use lib.ListN.{length, getD}
 use Rattle.paper.specs.Limits.{nobody}
@@ -23,6 +23,11 @@ in-or-out X first last u f g =
     (λ (h : first ≤ u). ⊎-elim (λ (l : last < u). g (inr l)) (λ (l : u ≤ last). f h l) (lt-or-ge last u))
     (lt-or-ge u first)
 
+in-or-not {ℓ} : (X : Type ℓ) (first last u : ℕ) → (first ≤ u → u ≤ last → X) → ((first ≤ u → u ≤ last → ⊥) → X) → X
+in-or-not X first last u f g =
+    in-or-out X first last u f
+    (λ z. g (λ h l. ⊎-elim (λ (a : u < first). omega arith) (λ (b : last < u). omega arith) z))
+
 module _ (B : Board) (T : BoardSound B) where
   pub from-rises : (u v : ℕ) → u ≤ v → v < B .units → B .from u ≤ B .from v
   from-rises u v h g =
@@ -37,26 +42,43 @@ module _ (B : Board) (T : BoardSound B) where
   pub first-slot : (u : ℕ) → u < B .units → InUnit B u (B .from u)
   first-slot u h = record { below = h; from = omega arith; upto = T .rising u h }
 
+  -- units first to last go to person p: each of their slots has p, any other slot has the owner it had
+  module _ (first last p : ℕ) (rise : first ≤ last) (below : last < B .units) (o : List ℕ) (u k : ℕ) (I : InUnit B u k) where
+    abbrev given : List ℕ
+    given = fill p (B .from first) (B .upto last - B .from first) o
+
+    pub given-in : k < length o → first ≤ u → u ≤ last → getD given k 0 ≡ p
+    given-in r h g =
+        let x = from-rises first u h (I .below) in
+        getD-fill-in p (B .from first) (B .upto last - B .from first) o k (omega (arith, I .from))
+        (omega (arith, I .from, I .upto, upto-rises u last g below)) r
+
+    pub given-out : (first ≤ u → u ≤ last → ⊥) → getD given k 0 ≡ getD o k 0
+    given-out n =
+        getD-fill-out p (B .from first) (B .upto last - B .from first) o k
+        (λ x y. in-or-out ⊥ first last u n
+        (⊎-elim (λ (l : u < first). let q = T .apart u first l (omega arith) in omega (arith, I .upto))
+        (λ (l : last < u).
+        let q = T .apart last u l (I .below) in
+        let z = from-rises first last rise below in
+        omega (arith, T .rising last below, I .from))))
+
   module _ (w : List ℕ) (H : ℕ → Bool) (a e p : ℕ) (S : Stretch B w H a e p) (o : List ℕ) where
+    same-fill : fill p (B .from (S .first)) (B .upto (S .last) - B .from (S .first)) o ≡ fill p a (e - a) o
+    same-fill = ap₂ (λ (x y : ℕ). fill p x (y - x) o) (sym (S .starts)) (sym (S .ends))
+
     -- a slot of a unit in the stretch has person p, any other has the owner it had
     inside : (u k : ℕ) → InUnit B u k → k < length o → S .first ≤ u → u ≤ S .last → getD (fill p a (e - a) o) k 0 ≡ p
     inside u k I r h g =
-        getD-fill-in p a (e - a) o k
-        (omega (arith, S .starts, I .from, from-rises (S .first) u h (I .below)))
-        (omega (arith, S .starts, S .ends, I .from, I .upto, from-rises (S .first) u h (I .below), upto-rises u (S .last) g (S .below))) r
+        ap (λ (l : List ℕ). getD l k 0) (sym same-fill) ∙ given-in (S .first) (S .last) p (S .rise) (S .below) o u k I r h g
 
     pub outside : (u k : ℕ) → InUnit B u k → (S .first ≤ u → u ≤ S .last → ⊥) → getD (fill p a (e - a) o) k 0 ≡ getD o k 0
     outside u k I n =
-        getD-fill-out p a (e - a) o k
-        (λ x y. in-or-out ⊥ (S .first) (S .last) u n
-        (⊎-elim
-        (λ (l : u < S .first).
-        let q = T .apart u (S .first) l (omega (arith, S .rise, S .below)) in omega (arith, S .starts, I .upto))
-        (λ (l : S .last < u).
-        let q = T .apart (S .last) u l (I .below) in
-        let z = from-rises (S .first) (S .last) (S .rise) (S .below) in
-        let t = T .rising (S .last) (S .below) in
-        omega (arith, S .ends, S .starts, I .from))))
+        ap (λ (l : List ℕ). getD l k 0) (sym same-fill) ∙ given-out (S .first) (S .last) p (S .rise) (S .below) o u k I n
+
+    -- what lies past the slots stays
+    past : (k : ℕ) → B .slots ≤ k → getD (fill p a (e - a) o) k 0 ≡ getD o k 0
+    past k h = getD-fill-out p a (e - a) o k (λ x y. omega (arith, S .ends, T .within (S .last) (S .below)))
 
     fill-even : Even B o → Even B (fill p a (e - a) o)
     unfolding ownerOf
@@ -67,30 +89,27 @@ module _ (B : Board) (T : BoardSound B) where
           room = omega (arith, E .room, length-fill p a (e - a) o);
           same = λ u k I.
               let J = first-slot u (I .below) in
-              in-or-out (getD o′ k 0 ≡ getD o′ (B .from u) 0) (S .first) (S .last) u
+              in-or-not (getD o′ k 0 ≡ getD o′ (B .from u) 0) (S .first) (S .last) u
               (λ h g. inside u k I (room k u I) h g ∙ sym (inside u (B .from u) J (room (B .from u) u J) h g))
-              (λ n. let z = apart-of u n in outside u k I z ∙ E .same u k I ∙ sym (outside u (B .from u) J z));
+              (λ z. outside u k I z ∙ E .same u k I ∙ sym (outside u (B .from u) J z));
           manned = λ u b n.
               let J = first-slot u b in
-              in-or-out ((getD o′ (B .from u) 0 < B .people) × (B .fits (getD o′ (B .from u) 0) u ≡ true)) (S .first) (S .last) u
+              in-or-not ((getD o′ (B .from u) 0 < B .people) × (B .fits (getD o′ (B .from u) 0) u ≡ true)) (S .first) (S .last) u
               (λ h g.
               let q = inside u (B .from u) J (room (B .from u) u J) h g in
               (omega (arith, q, S .person), ap (λ (w : ℕ). B .fits w u) q ∙ S .able u h g))
               (λ z.
-              let q = outside u (B .from u) J (apart-of u z) in
+              let q = outside u (B .from u) J z in
               let m = E .manned u b (λ e. n (q ∙ e)) in
               (omega (arith, q, m .0), ap (λ (w : ℕ). B .fits w u) q ∙ m .1));
         }
-      where
-        apart-of : (u : ℕ) → (u < S .first) ⊎ (S .last < u) → S .first ≤ u → u ≤ S .last → ⊥
-        apart-of u z h g = ⊎-elim (λ (l : u < S .first). omega arith) (λ (l : S .last < u). omega arith) z
 
     -- a covered slot stays covered
     fill-covered : Even B o → (u k : ℕ) → InUnit B u k → (getD o k 0 ≡ nobody → ⊥) → getD (fill p a (e - a) o) k 0 ≡ nobody → ⊥
     fill-covered E u k I n q =
-        in-or-out ⊥ (S .first) (S .last) u
+        in-or-not ⊥ (S .first) (S .last) u
         (λ h g. omega (arith, q, inside u k I (omega (arith, E .room, T .within u (I .below), I .upto)) h g, S .person, T .few))
-        (λ z. n (sym (outside u k I (λ h g. ⊎-elim (λ (l : u < S .first). omega arith) (λ (l : S .last < u). omega arith) z)) ∙ q))
+        (λ z. n (sym (outside u k I z) ∙ q))
 
   module _ (H : ℕ → Bool) (o : List ℕ) (E : Even B o) where
     pub act-even : (m : Move) → Lawful B o H m → Even B (act m o)
@@ -122,3 +141,9 @@ module _ (B : Board) (T : BoardSound B) where
         outside o H c g q (L .right) (fill p a (e - a) o) u k I (λ h b. mathlib.Core.Bool.true≢false (sym (L .right .named u h b) ∙
         z refl))
         ∙ outside o H a e p (L .left) o u k I (λ h b. mathlib.Core.Bool.true≢false (sym (L .left .named u h b) ∙ z refl))
+
+    -- what lies past the slots stays
+    pub act-past : (m : Move) → Lawful B o H m → (k : ℕ) → B .slots ≤ k → getD (act m o) k 0 ≡ getD o k 0
+    act-past (Stay n) L k h = refl
+    act-past (Give a e p) L k h = past o H a e p L o k h
+    act-past (Trade a e p c g q) L k h = past o H c g q (L .right) (fill p a (e - a) o) k h ∙ past o H a e p (L .left) o k h

@@ -1,26 +1,20 @@
 -- What one draw keeps: each move it decides hands whole units, none frozen, to a person who fits them all. Assumes nothing.
 use mathlib.Core.Path.{_≡_, refl, sym, ap, _∙_, subst}
-use mathlib.Core.Bool.{Bool, true, false, cond, not, _&&_, _||_, or-true}
-use mathlib.Core.List.{List, [], _∷_}
-use mathlib.Core.Logic.{_⊎_, inl, inr, ⊎-elim}
-use Prim.Native.Nat.{ℕ, zero, suc, _+_, _-_, _≤_, _<_}
+use mathlib.Core.Bool.{Bool, true, false}
+use mathlib.Core.List.{List}
+use mathlib.Core.Logic.{inl, inr}
+use Prim.Native.Nat.{ℕ, suc, _≤_, _<_}
 use native.Mathlib.Omega.{arith}
-use borrow.Author.Tests.{eq-eqb, ne-eqb, eqb-false, le-leb, leb-false, not-true, not-false}
-use lib.Dec.{eqb, ltb, leb}
-use lib.ListN.{length, getD}
-use Rattle.paper.specs.Limits.{nobody}
-use Rattle.paper.specs.Count.{allIn, among, fill}
-use Rattle.paper.proofs.Logic.{by-test, both, and-true, or-left}
-use Rattle.paper.proofs.Count.{in-each, among-each, length-fill, getD-fill-in, getD-fill-out}
-use Rattle.rota.specs.declared.Pick.{Pick}
-use Rattle.rota.specs.declared.Pick.the-variants.{Nobody, Beyond, Person}
+use borrow.Author.Tests.{eqb-true, eqb-false}
+use lib.Dec.{eqb}
+use Rattle.paper.proofs.Logic.{by-test}
 use Rattle.rota.specs.declared.Move.{Move}
 use Rattle.rota.specs.declared.Move.the-variants.{Stay, Give, Trade}
-use Rattle.rota.specs.Board.{Board, BoardSound, InUnit, Even, ownerOf, unowned, RunOf}
-use Rattle.rota.specs.Moves.{anyOf, stayIf, give, movable, covers, firstOf, lastOf, picked, onPick, domainOf, reassigned}
-use Rattle.rota.specs.Moves.{swapStays, swapped, others, runReassigned, runsStay, runsSwapped, grown, shrunk, shifted, Draw}
-use Rattle.rota.specs.Moves.{decided, answerOf, act, between, handed}
-use Rattle.rota.proofs.Runs.{run-is}
+use Rattle.rota.specs.Board.{Board, Even, ownerOf}
+use Rattle.rota.specs.Moves.{Draw, decided, answerOf, handed}
+use Rattle.rota.specs.Acts.{RunMoves, Acts, reassigns, swaps, reassigns-run, swaps-runs, grows, shrinks}
+use Rattle.rota.proofs.Acts.{another-says}
+use Rattle.rota.proofs.Drawn.{draw-does, draw-acts, draw-told, handed-exactly}
 
 -- ---- what a decided move hands over
 
@@ -52,36 +46,6 @@ Lawful B o H (Stay n) = Unit {0}
 Lawful B o H (Give a e p) = Stretch B o H a e p
 Lawful B o H (Trade a e p c g q) = Traded B o H a e p c g q
 
--- ---- chains of tests
-
--- none of the tests holds
-abbrev pub NoneOf : List Bool → Type 0
-NoneOf ts = (k : ℕ) → getD ts k false ≡ false
-
-or-none : (a b : Bool) → a || b ≡ false → (a ≡ false) × (b ≡ false)
-or-none true b e = absurd (mathlib.Core.Bool.true≢false e)
-or-none false b e = (refl, e)
-
-pub none-of : (ts : List Bool) → anyOf ts ≡ false → NoneOf ts
-unfolding anyOf
-none-of [] e k = refl
-none-of (t ∷ ts) e zero = or-none t (anyOf ts) e .0
-none-of (t ∷ ts) e (suc k) = none-of ts (or-none t (anyOf ts) e .1) k
-
-stay-or : (Q : Move → Type 0) (ts : List Bool) (n : ℕ) (m : Move) → Q (Stay n) → (NoneOf ts → Q m) → Q (stayIf ts n m)
-stay-or Q ts n m a f = by-test (anyOf ts) _ (λ t. simp t a) (λ g. simp g (f (none-of ts g)))
-
-pick-or : (Q : Move → Type 0) (g : ℕ → Move) (l : List ℕ) (k : ℕ) → Q (Stay 1) → Q (Stay 2) → (k < length l → Q (g (getD l k 0)))
-    → Q (onPick g (picked l k))
-unfolding picked
-pick-or Q g l k a b c =
-    by-test (eqb (length l) 0) _ (λ t. simp t a)
-    (λ f. by-test (leb (length l) k) _ (λ t. simp (f, t) b) (λ h. simp (f, h) (c (leb-false _ _ h))))
-
-owned : (B : Board) (o : List ℕ) (u : ℕ) → unowned B o u ≡ false → ownerOf B o u ≡ nobody → ⊥
-unfolding unowned
-owned B o u f = eqb-false _ _ f
-
 module _ (B : Board) (o : List ℕ) (H : ℕ → Bool) where
   -- one unit
   abbrev single : (f p : ℕ) → f < B .units → p < B .people → B .frozen f ≡ false → B .fits p f ≡ true → H f ≡ true
@@ -102,203 +66,77 @@ module _ (B : Board) (o : List ℕ) (H : ℕ → Bool) where
       }
 
   -- a run of units
-  span-clear : (a b : ℕ) → movable B a b ≡ true → (u : ℕ) → a ≤ u → u ≤ b → B .frozen u ≡ false
-  unfolding movable
-  span-clear a b m u x y = not-true _ (in-each a (suc b) (λ v. not (B .frozen v)) m u x (omega arith))
-
-  span-able : (a b p : ℕ) → covers B a b p ≡ true → (u : ℕ) → a ≤ u → u ≤ b → B .fits p u ≡ true
-  unfolding covers
-  span-able a b p c u x y = in-each a (suc b) (B .fits p) c u x (omega arith)
-
-  abbrev span : (a b p : ℕ) → a ≤ b → b < B .units → p < B .people → movable B a b ≡ true → covers B a b p ≡ true
-      → ((u : ℕ) → a ≤ u → u ≤ b → H u ≡ true) → ((u : ℕ) → a ≤ u → u ≤ b → ownerOf B o u ≡ ownerOf B o a)
-      → Stretch B o H (B .from a) (B .upto b) p
-  span a b p h l r m c n z =
+  abbrev span : (f a b p : ℕ) → RunMoves B o f a b → p < B .people → ((u : ℕ) → a ≤ u → u ≤ b → B .fits p u ≡ true)
+      → ((u : ℕ) → a ≤ u → u ≤ b → H u ≡ true) → Stretch B o H (B .from a) (B .upto b) p
+  span f a b p M r c n =
+      let R = M .run in
       record {
         first = a;
         last = b;
         starts = refl;
         ends = refl;
-        rise = h;
-        below = l;
+        rise = omega (arith, R .from, R .to);
+        below = R .fits;
         person = r;
-        clear = span-clear a b m;
-        able = span-able a b p c;
+        clear = M .clear;
+        able = c;
         named = n;
-        one = z;
+        one = λ u x y. R .one u x y ∙ sym (R .one a (omega arith) (omega (arith, R .from, R .to)));
       }
 
-module _ (B : Board) (o : List ℕ) (E : Even B o) (H : ℕ → Bool) (f s : ℕ) (hf : f < B .units) where
-  reassigned-lawful : H f ≡ true → Lawful B o H (reassigned B o f s)
-  unfolding reassigned domainOf
-  reassigned-lawful n =
-      stay-or (Lawful B o H) _ 1 _ tt
-      (λ c. pick-or (Lawful B o H) _ (among (λ p. B .fits p f) (B .people)) s tt tt
-      (λ l.
-      let p = getD (among (λ p. B .fits p f) (B .people)) s 0 in
-      let r = among-each (λ p. B .fits p f) (B .people) s l in
-      stay-or (Lawful B o H) _ 1 _ tt (λ _. single B o H f p hf (r .0) (c 0) (r .1) n)))
+module _ (B : Board) (o : List ℕ) (d : Draw) (E : Even B o) where
+  abbrev H : ℕ → Bool
+  H = handed B o d
 
-  swapped-lawful : s < B .units → H f ≡ true → H s ≡ true → Lawful B o H (swapped B o f s)
-  unfolding swapped
-  swapped-lawful hs nf ns =
-      stay-or (Lawful B o H) (swapStays B o f s) 1 _ tt
-      (λ t.
-      let mf = E .manned f hf (owned B o f (t 3)) in
-      let ms = E .manned s hs (owned B o s (t 4)) in
+  -- a draw that acts does so lawfully
+  does-lawful : (A : Acts B o d) → Lawful B o (handed B o d) (draw-does B o d A)
+  does-lawful (reassigns k hf A) =
+      single B o H (d .first) (A .to) hf (A .chosen .known) (A .free) (A .chosen .passes)
+      (handed-exactly B o d (reassigns k hf A) (d .first) .1 refl)
+  does-lawful (swaps k l hf hs A) =
+      let f = d .first in
+      let s = d .second in
+      let n = handed-exactly B o d (swaps k l hf hs A) in
       record {
-        left = single B o H f (ownerOf B o s) hf (ms .0) (t 0) (not-false _ (t 6)) nf;
-        right = single B o H s (ownerOf B o f) hs (mf .0) (t 1) (not-false _ (t 7)) ns;
-        apart = λ u a b c d. eqb-false f s (t 2) (omega arith);
-      })
-
-  -- the run of a unit, and its owner
-  run-of : (u : ℕ) → u < B .units → RunOf (B .units) (ownerOf B o) u (firstOf B o u) (lastOf B o u)
-  unfolding firstOf lastOf
-  run-of u h = run-is (ownerOf B o) (B .units) u h
-
-  -- each unit of the run has the owner of its first
-  run-one : (u : ℕ) → u < B .units → (v : ℕ) → firstOf B o u ≤ v → v ≤ lastOf B o u → ownerOf B o v ≡ ownerOf B o (firstOf B o u)
-  run-one u h v x y = let R = run-of u h in R .one v x y ∙ sym (R .one (firstOf B o u) (omega arith) (omega (arith, R .from, R .to)))
-
-  run-rises : (u : ℕ) → u < B .units → (firstOf B o u ≤ lastOf B o u) × (lastOf B o u < B .units)
-  run-rises u h = let R = run-of u h in (omega (arith, R .from, R .to), R .fits)
-
-  run-reassigned-lawful : ((u : ℕ) → firstOf B o f ≤ u → u ≤ lastOf B o f → H u ≡ true) → Lawful B o H (runReassigned B o f s)
-  unfolding runReassigned others
-  run-reassigned-lawful n =
-      let a = firstOf B o f in
-      let b = lastOf B o f in
-      let R = run-rises f hf in
-      let q : ℕ → Bool = λ p. not (eqb p (ownerOf B o f)) && covers B a b p in
-      stay-or (Lawful B o H) _ 1 _ tt
-      (λ t. pick-or (Lawful B o H) _ (among q (B .people)) s tt tt
-      (λ l.
-      let p = getD (among q (B .people)) s 0 in
-      let r = among-each q (B .people) s l in
-      span B o H a b p (R .0) (R .1) (r .0) (not-false _ (t 2)) (both (not (eqb p (ownerOf B o f))) (covers B a b p) (r .1) .1) n
-      (run-one f hf)))
-
-  runs-swapped-lawful : s < B .units → ((u : ℕ) → firstOf B o f ≤ u → u ≤ lastOf B o f → H u ≡ true)
-      → ((u : ℕ) → firstOf B o s ≤ u → u ≤ lastOf B o s → H u ≡ true) → Lawful B o H (runsSwapped B o f s)
-  unfolding runsSwapped
-  runs-swapped-lawful hs nf ns =
-      let a = firstOf B o f in
-      let b = lastOf B o f in
-      let c = firstOf B o s in
-      let d = lastOf B o s in
-      let F = run-rises f hf in
-      let S = run-rises s hs in
-      stay-or (Lawful B o H) (runsStay B o f s a b c d) 1 _ tt
-      (λ t.
-      let mf = E .manned f hf (owned B o f (t 2)) in
-      let ms = E .manned s hs (owned B o s (t 3)) in
+        left = single B o H f (ownerOf B o s) hf (E .manned s hs (A .second-owned) .0) (A .first-free) (A .first-fits) (n f .1 (inl refl));
+        right = single B o H s (ownerOf B o f) hs (E .manned f hf (A .first-owned) .0) (A .second-free) (A .second-fits)
+            (n s .1 (inr refl));
+        apart = λ u a b c e. A .two-units (omega arith);
+      }
+  does-lawful (reassigns-run k l hf A) =
+      span B o H (d .first) (A .first) (A .last) (A .to) (A .moves) (A .chosen .known)
+      (another-says B (ownerOf B o (d .first)) (A .first) (A .last) (A .to) .0 (A .chosen .passes) .1)
+      (λ u x y. handed-exactly B o d (reassigns-run k l hf A) u .1 (x, y))
+  does-lawful (swaps-runs k l hf hs A) =
+      let f = d .first in
+      let s = d .second in
+      let n = handed-exactly B o d (swaps-runs k l hf hs A) in
       record {
-        left = span B o H a b (ownerOf B o s) (F .0) (F .1) (ms .0) (not-false _ (t 6)) (not-false _ (t 8)) nf (run-one f hf);
-        right = span B o H c d (ownerOf B o f) (S .0) (S .1) (mf .0) (not-false _ (t 7)) (not-false _ (t 9)) ns (run-one s hs);
-        apart = λ u w x y z. eqb-false _ _ (t 5) (sym (run-of f hf .one u w x) ∙ run-of s hs .one u y z);
-      })
+        left = span B o H f (A .first) (A .last) (ownerOf B o s) (A .moves) (E .manned s hs (A .moves2 .owned) .0) (A .fits)
+            (λ u x y. n u .1 (inl (x, y)));
+        right = span B o H s (A .first2) (A .last2) (ownerOf B o f) (A .moves2) (E .manned f hf (A .moves .owned) .0) (A .fits2)
+            (λ u x y. n u .1 (inr (x, y)));
+        apart = λ u a b c e. A .two-owners (sym (A .moves .run .one u a b) ∙ A .moves2 .run .one u c e);
+      }
+  does-lawful (grows k l hf A) =
+      single B o H (A .before) (ownerOf B o (d .first)) (omega (arith, A .boundary .run .from)) (E .manned (d .first) hf (A .boundary
+      .owned) .0) (A .before-free) (A .fits) (handed-exactly B o d (grows k l hf A) (A .before) .1 refl)
+  does-lawful (shrinks k l hf A) =
+      let b : A .before < B .units = omega (arith, A .boundary .run .from) in
+      single B o H (suc (A .before)) (ownerOf B o (A .before)) (omega (arith, A .boundary .run .from)) (E .manned (A .before) b (A
+      .before-owned) .0) (A .first-free) (A .fits) (handed-exactly B o d (shrinks k l hf A) (suc (A .before)) .1 refl)
 
-  grown-lawful : ownerOf B o f < B .people → ((u : ℕ) → suc u ≡ firstOf B o f → H u ≡ true) → Lawful B o H (grown B (ownerOf B o f)
-      (firstOf B o f))
-  unfolding grown
-  grown-lawful b n =
-      let a = firstOf B o f in
-      let R = run-of f hf in
-      stay-or (Lawful B o H) _ 1 _ tt
-      (λ t.
-      let z = eqb-false _ _ (t 0) in
-      single B o H (a - 1) (ownerOf B o f) (omega (arith, R .from)) b (t 1) (not-false _ (t 2)) (n (a - 1) (pos a z)))
-    where
-      pos : (a : ℕ) → (a ≡ 0 → ⊥) → suc (a - 1) ≡ a
-      pos zero z = absurd (z refl)
-      pos (suc a) z = omega arith
-
-  shrunk-lawful : ((u : ℕ) → u ≡ firstOf B o f → H u ≡ true) → Lawful B o H (shrunk B o (firstOf B o f) (lastOf B o f))
-  unfolding shrunk
-  shrunk-lawful n =
-      let a = firstOf B o f in
-      let R = run-of f hf in
-      stay-or (Lawful B o H) _ 1 _ tt
-      (λ t.
-      let m = E .manned (a - 1) (omega (arith, R .from)) (owned B o (a - 1) (t 2)) in
-      single B o H a (ownerOf B o (a - 1)) (omega (arith, R .from)) (m .0) (t 3) (not-false _ (t 4)) (n a refl))
-
-  shifted-lawful : (eqb s 1 ≡ true → (u : ℕ) → suc u ≡ firstOf B o f → H u ≡ true) → (eqb s 1 ≡ false → (u : ℕ) → u ≡ firstOf B o f
-      → H u ≡ true)
-      → Lawful B o H (shifted B o f s)
-  unfolding shifted
-  shifted-lawful g n =
-      stay-or (Lawful B o H) _ 1 _ tt
-      (λ t. stay-or (Lawful B o H) _ 2 _ tt
-      (λ _. by-test (eqb s 1) _ (λ y. simp y (grown-lawful (E .manned f hf (owned B o f (t 1)) .0) (g y))) (λ z. simp z
-      (shrunk-lawful (n z)))))
-
--- ---- a draw
-
-module _ (B : Board) (o : List ℕ) (d : Draw) where
-  in-between : (a b u : ℕ) → a ≤ u → u ≤ b → between a b u ≡ true
-  in-between a b u h g = and-true (leb a u) (leb u b) (le-leb a u h) (le-leb u b g)
-
-  named-reassign : ltb (d .kind) 35 ≡ true → handed B o d (d .first) ≡ true
-  unfolding handed
-  named-reassign h = simp (h, eq-eqb (d .first) (d .first) refl)
-
-  module _ (h : ltb (d .kind) 35 ≡ false) where
-    named-swap : ltb (d .kind) 60 ≡ true → (handed B o d (d .first) ≡ true) × (handed B o d (d .second) ≡ true)
-    unfolding handed
-    named-swap g = (
-      simp (h, g, eq-eqb (d .first) (d .first) refl),
-      simp (h, g, eq-eqb (d .second) (d .second) refl) (or-true (eqb
-          (d .second) (d .first))),
-    )
-
-    module _ (i : ltb (d .kind) 60 ≡ false) where
-      named-run : ltb (d .kind) 75 ≡ true → (u : ℕ) → firstOf B o (d .first) ≤ u → u ≤ lastOf B o (d .first) → handed B o d u ≡ true
-      unfolding handed
-      named-run g u x y = simp (h, i, g) (in-between _ _ u x y)
-
-      module _ (j : ltb (d .kind) 75 ≡ false) where
-        named-runs : ltb (d .kind) 90 ≡ true → (u : ℕ) → firstOf B o (d .first) ≤ u → u ≤ lastOf B o (d .first) → handed B o d u ≡ true
-        unfolding handed
-        named-runs g u x y = simp (h, i, j, g) (or-left (between (firstOf B o (d .first)) (lastOf B o (d .first)) u) _ (in-between _
-            _ u x y))
-
-        named-runs′ : ltb (d .kind) 90 ≡ true → (u : ℕ) → firstOf B o (d .second) ≤ u → u ≤ lastOf B o (d .second) → handed B o d u ≡ true
-        unfolding handed
-        named-runs′ g u x y =
-            simp (h, i, j, g, in-between (firstOf B o (d .second)) (lastOf B o (d .second)) u x y)
-            (or-true (between (firstOf B o (d .first)) (lastOf B o (d .first)) u))
-
-        module _ (k : ltb (d .kind) 90 ≡ false) where
-          named-grow : eqb (d .second) 1 ≡ true → (u : ℕ) → suc u ≡ firstOf B o (d .first) → handed B o d u ≡ true
-          unfolding handed
-          named-grow g u e = simp (h, i, j, k, g) (eq-eqb (suc u) (firstOf B o (d .first)) e)
-
-          named-shrink : eqb (d .second) 1 ≡ false → (u : ℕ) → u ≡ firstOf B o (d .first) → handed B o d u ≡ true
-          unfolding handed
-          named-shrink g u e = simp (h, i, j, k, g) (eq-eqb u (firstOf B o (d .first)) e)
+-- one that doesn't hands nothing over
+still-lawful : (B : Board) (o : List ℕ) (H : ℕ → Bool) (m : Move) → (answerOf m ≡ 0 → ⊥) → Lawful B o H m
+still-lawful B o H (Stay n) z = tt
+still-lawful B o H (Give a e p) z = absurd (z refl)
+still-lawful B o H (Trade a e p c g q) z = absurd (z refl)
 
 -- what any draw decides is lawful: whole units of those it names, none frozen, to a person who fits them all
 pub decided-lawful : (B : Board) (o : List ℕ) (d : Draw) → Even B o → Lawful B o (handed B o d) (decided B o d)
-unfolding decided
 decided-lawful B o d E =
-    let H = handed B o d in
-    let k = d .kind in
-    let f = d .first in
-    let s = d .second in
-    let L = Lawful B o H in
-    stay-or L _ 2 _ tt
-    (λ n.
-    let hf : f < B .units = leb-false _ _ (n 1) in
-    by-test (ltb k 35) _ (λ h. simp h (reassigned-lawful B o E H f s hf (named-reassign B o d h)))
-    (λ h. by-test (ltb k 60) _
-    (λ g. simp (h, g)
-    (stay-or L _ 2 _ tt
-    (λ m. let x = named-swap B o d h g in swapped-lawful B o E H f s hf (leb-false _ _ (m 0)) (x .0) (x .1))))
-    (λ i. by-test (ltb k 75) _ (λ g. simp (h, i, g) (run-reassigned-lawful B o E H f s hf (named-run B o d h i g)))
-    (λ j. by-test (ltb k 90) _
-    (λ g. simp (h, i, j, g)
-    (stay-or L _ 2 _ tt
-    (λ m. runs-swapped-lawful B o E H f s hf (leb-false _ _ (m 0)) (named-runs B o d h i j g) (named-runs′ B o d h i j g))))
-    (λ z. simp (h, i, j, z) (shifted-lawful B o E H f s hf (named-grow B o d h i j z) (named-shrink B o d h i j z)))))))
+    by-test (eqb (answerOf (decided B o d)) 0) _
+    (λ t.
+    let A = draw-told B o d .acted (eqb-true _ _ t) in
+    subst (Lawful B o (handed B o d)) (sym (draw-acts B o d A)) (does-lawful B o d E A))
+    (λ f. still-lawful B o (handed B o d) (decided B o d) (eqb-false _ _ f))

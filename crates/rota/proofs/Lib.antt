@@ -1,7 +1,11 @@
 -- The laws behind rota.
 pub mod Runs
+pub mod Choices
+pub mod Acts
+pub mod Drawn
 pub mod Lawful
 pub mod Kept
+pub mod HandsOver
 pub mod Plays
 pub mod Judged
 pub mod Moved

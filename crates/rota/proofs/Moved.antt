@@ -2,25 +2,26 @@
 use mathlib.Core.Path.{_≡_, refl, sym, ap, ap₂, _∙_}
 use mathlib.Core.Bool.{Bool, true, false, cond, not, _&&_}
 use mathlib.Core.List.{List, [], _∷_}
-use Prim.Native.Nat.{ℕ, zero, suc, _+_, _-_, _≤_, _<_}
+use Prim.Native.Nat.{ℕ, _+_, _-_, _≤_, _<_}
 use native.Mathlib.Numerals.{add-one}
 use native.Mathlib.Omega.{arith}
 use borrow.Author.Tests.{eq-eqb, ne-eqb, lt-ltb, le-ltb, le-leb, lt-leb}
 use lib.Dec.{eqb, ltb, leb}
-use lib.ListN.{length, getD}
+use lib.ListN.{getD}
 use Rattle.paper.specs.Limits.{nobody}
 use Rattle.paper.specs.Count.{allIn, among}
 use Rattle.paper.proofs.Count.{among-same}
 use Rattle.rota.specs.declared.Pick.{Pick}
 use Rattle.rota.specs.declared.Pick.the-variants.{Nobody, Beyond, Person}
 use Rattle.rota.specs.declared.Move.{Move}
-use Rattle.rota.specs.declared.Move.the-variants.{Stay, Give, Trade}
+use Rattle.rota.specs.declared.Move.the-variants.{Stay, Trade}
 use Rattle.rota.specs.Board.{Board, ownerOf, unowned, runStart, runEnd}
-use Rattle.rota.specs.Ready.{inMask, fitsBy, Cover}
+use Rattle.rota.specs.Ready.{inMask}
 use Rattle.rota.specs.Moves.{stayIf, give, movable, covers, firstOf, lastOf, picked, onPick, domainOf, reassigned, swapStays}
 use Rattle.rota.specs.Moves.{swapped}
 use Rattle.rota.specs.Moves.{others, runReassigned, runsStay, runsSwapped, grown, shrunk, shifted, draw, decided}
 use Rattle.rota.proofs.Runs.{run-is}
+use Rattle.rota.proofs.Acts.{has-owner}
 use Rattle.rota.proofs.Judged.{stays, goes}
 
 nobody-owns : (B : Board) (o : List ℕ) (u w : ℕ) → w ≡ ownerOf B o u → w ≡ nobody → unowned B o u ≡ true
@@ -28,8 +29,7 @@ unfolding unowned
 nobody-owns B o u w e q = eq-eqb _ _ (sym e ∙ q)
 
 somebody-owns : (B : Board) (o : List ℕ) (u w : ℕ) → w ≡ ownerOf B o u → (w ≡ nobody → ⊥) → unowned B o u ≡ false
-unfolding unowned
-somebody-owns B o u w e n = ne-eqb _ _ (λ q. n (e ∙ q))
+somebody-owns B o u w e n = has-owner B o u (λ q. n (e ∙ q))
 
 -- ---- reassign
 

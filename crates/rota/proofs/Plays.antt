@@ -1,10 +1,9 @@
 -- Demand 3 of a play of any length, over owners alone; and a list played in two parts. Assumes nothing.
-use mathlib.Core.Path.{_≡_, refl, sym, ap, ap₂, _∙_}
-use mathlib.Core.Bool.{Bool, true, false, _&&_, _||_}
+use mathlib.Core.Path.{_≡_, refl, sym, ap, _∙_}
+use mathlib.Core.Bool.{Bool, true, false, _&&_}
 use mathlib.Core.List.{List, [], _∷_, _++_}
-use Prim.Native.Nat.{ℕ, zero, suc, _+_, _-_, _≤_, _<_}
+use Prim.Native.Nat.{ℕ, zero, suc, _-_, _≤_}
 use native.Mathlib.Omega.{arith}
-use native.Mathlib.Numerals.{add-one}
 use borrow.Author.Tests.{eq-eqb}
 use lib.Dec.{eqb}
 use lib.ListN.{length, getD, length-append}
@@ -14,10 +13,11 @@ use Rattle.paper.proofs.Count.{length-fill}
 use Rattle.rota.specs.declared.Move.{Move}
 use Rattle.rota.specs.declared.Move.the-variants.{Stay, Give, Trade}
 use Rattle.rota.specs.Board.{Board, BoardSound, InUnit, Even}
-use Rattle.rota.specs.Moves.{Draw, draw, decided, answerOf, act, handed}
+use Rattle.rota.specs.Moves.{Draw, decided, answerOf, act, handed}
 use Rattle.rota.specs.Plays.{step, ownersAfter, answer, answers, touched, drawsOf}
+use Rattle.rota.proofs.Choices.{or-none}
 use Rattle.rota.proofs.Lawful.{decided-lawful}
-use Rattle.rota.proofs.Kept.{act-even, act-covered, act-frozen, act-only}
+use Rattle.rota.proofs.Kept.{act-even, act-covered, act-frozen, act-only, act-past}
 
 -- ---- a list in two parts
 
@@ -66,45 +66,52 @@ module _ (B : Board) (T : BoardSound B) where
   play-even o [] E = E
   play-even o (d ∷ ds) E = play-even (step B o d) ds (step-even o d E)
 
-  -- slots of frozen units keep their owners
-  step-frozen : (o : List ℕ) (d : Draw) → Even B o → (u k : ℕ) → InUnit B u k → B .frozen u ≡ true → getD (step B o d) k 0 ≡ getD o k 0
-  unfolding step
-  step-frozen o d E = act-frozen B T (handed B o d) o E (decided B o d) (decided-lawful B o d E)
-
-  pub play-frozen : (o : List ℕ) (ds : List Draw) → Even B o → (u k : ℕ) → InUnit B u k → B .frozen u ≡ true
-      → getD (ownersAfter B o ds) k 0 ≡ getD o k 0
+  -- what every draw keeps a play keeps
+  play-keeps : (Q : List ℕ → Type 0) → ((o : List ℕ) (d : Draw) → Even B o → Q o → Q (step B o d)) → (o : List ℕ) (ds : List Draw)
+      → Even B o → Q o → Q (ownersAfter B o ds)
   unfolding ownersAfter
-  play-frozen o [] E u k I z = refl
-  play-frozen o (d ∷ ds) E u k I z = play-frozen (step B o d) ds (step-even o d E) u k I z ∙ step-frozen o d E u k I z
+  play-keeps Q f o [] E q = q
+  play-keeps Q f o (d ∷ ds) E q = play-keeps Q f (step B o d) ds (step-even o d E) (f o d E q)
 
-  -- no covered slot becomes uncovered
-  step-covered : (o : List ℕ) (d : Draw) → Even B o → (u k : ℕ) → InUnit B u k → (getD o k 0 ≡ nobody → ⊥) → getD (step B o d) k 0 ≡
-      nobody → ⊥
+  play-owner : (k : ℕ) → ((o : List ℕ) (d : Draw) → Even B o → getD (step B o d) k 0 ≡ getD o k 0) → (o : List ℕ) (ds : List Draw)
+      → Even B o → getD (ownersAfter B o ds) k 0 ≡ getD o k 0
+  play-owner k f o ds E = play-keeps (λ l. getD l k 0 ≡ getD o k 0) (λ l d e q. f l d e ∙ q) o ds E refl
+
+  module _ (u k : ℕ) (I : InUnit B u k) where
+    -- slots of frozen units keep their owners
+    step-frozen : B .frozen u ≡ true → (o : List ℕ) (d : Draw) → Even B o → getD (step B o d) k 0 ≡ getD o k 0
+    unfolding step
+    step-frozen z o d E = act-frozen B T (handed B o d) o E (decided B o d) (decided-lawful B o d E) u k I z
+
+    pub play-frozen : B .frozen u ≡ true → (o : List ℕ) (ds : List Draw) → Even B o → getD (ownersAfter B o ds) k 0 ≡ getD o k 0
+    play-frozen z = play-owner k (step-frozen z)
+
+    -- no covered slot becomes uncovered
+    step-covered : (o : List ℕ) (d : Draw) → Even B o → (getD o k 0 ≡ nobody → ⊥) → getD (step B o d) k 0 ≡ nobody → ⊥
+    unfolding step
+    step-covered o d E = act-covered B T (handed B o d) o E (decided B o d) (decided-lawful B o d E) u k I
+
+    pub play-covered : (o : List ℕ) (ds : List Draw) → Even B o → (getD o k 0 ≡ nobody → ⊥) → getD (ownersAfter B o ds) k 0 ≡ nobody → ⊥
+    play-covered = play-keeps (λ l. getD l k 0 ≡ nobody → ⊥) step-covered
+
+    -- only units that an acting draw hands over change owner
+    step-only : (o : List ℕ) (d : Draw) → Even B o → eqb (answer B o d) 0 && handed B o d u ≡ false → getD (step B o d) k 0 ≡ getD o k 0
+    unfolding step answer
+    step-only o d E z =
+        act-only B T (handed B o d) o E (decided B o d) (decided-lawful B o d E) u k I
+        (λ e. ap (λ (b : Bool). b && handed B o d u) (sym (eq-eqb (answerOf (decided B o d)) 0 e)) ∙ z)
+
+    pub play-only : (o : List ℕ) (ds : List Draw) → Even B o → touched B o ds u ≡ false → getD (ownersAfter B o ds) k 0 ≡ getD o k 0
+    unfolding ownersAfter touched
+    play-only o [] E z = refl
+    play-only o (d ∷ ds) E z =
+        let x = or-none (eqb (answer B o d) 0 && handed B o d u) (touched B (step B o d) ds u) z in
+        play-only (step B o d) ds (step-even o d E) (x .1) ∙ step-only o d E (x .0)
+
+  -- owners past the slots stay
+  step-past : (k : ℕ) → B .slots ≤ k → (o : List ℕ) (d : Draw) → Even B o → getD (step B o d) k 0 ≡ getD o k 0
   unfolding step
-  step-covered o d E = act-covered B T (handed B o d) o E (decided B o d) (decided-lawful B o d E)
+  step-past k h o d E = act-past B T (handed B o d) o E (decided B o d) (decided-lawful B o d E) k h
 
-  pub play-covered : (o : List ℕ) (ds : List Draw) → Even B o → (u k : ℕ) → InUnit B u k → (getD o k 0 ≡ nobody → ⊥)
-      → getD (ownersAfter B o ds) k 0 ≡ nobody → ⊥
-  unfolding ownersAfter
-  play-covered o [] E u k I z = z
-  play-covered o (d ∷ ds) E u k I z = play-covered (step B o d) ds (step-even o d E) u k I (step-covered o d E u k I z)
-
-  -- only units that an acting draw hands over change owner
-  step-only : (o : List ℕ) (d : Draw) → Even B o → (u k : ℕ) → InUnit B u k → eqb (answer B o d) 0 && handed B o d u ≡ false
-      → getD (step B o d) k 0 ≡ getD o k 0
-  unfolding step answer
-  step-only o d E u k I z =
-      act-only B T (handed B o d) o E (decided B o d) (decided-lawful B o d E) u k I
-      (λ e. ap (λ (b : Bool). b && handed B o d u) (sym (eq-eqb (answerOf (decided B o d)) 0 e)) ∙ z)
-
-  or-parts : (a b : Bool) → a || b ≡ false → (a ≡ false) × (b ≡ false)
-  or-parts true b e = absurd (mathlib.Core.Bool.true≢false e)
-  or-parts false b e = (refl, e)
-
-  pub play-only : (o : List ℕ) (ds : List Draw) → Even B o → (u k : ℕ) → InUnit B u k → touched B o ds u ≡ false
-      → getD (ownersAfter B o ds) k 0 ≡ getD o k 0
-  unfolding ownersAfter touched
-  play-only o [] E u k I z = refl
-  play-only o (d ∷ ds) E u k I z =
-      let x = or-parts (eqb (answer B o d) 0 && handed B o d u) (touched B (step B o d) ds u) z in
-      play-only (step B o d) ds (step-even o d E) u k I (x .1) ∙ step-only o d E u k I (x .0)
+  pub play-past : (k : ℕ) → B .slots ≤ k → (o : List ℕ) (ds : List Draw) → Even B o → getD (ownersAfter B o ds) k 0 ≡ getD o k 0
+  play-past k h = play-owner k (step-past k h)

@@ -1,38 +1,41 @@
 -- What the rota promises, each by name: of lent slots, units, availability and flags, and of a play of any length. Assumes nothing.
 use mathlib.Core.Path.{_≡_, refl, sym, ap, ap₂, _∙_, subst}
-use mathlib.Core.Logic.{⊎-elim}
-use mathlib.Core.Bool.{Bool, true, false, cond, not, _&&_, _||_}
+use mathlib.Core.Bool.{Bool, true, false, not, _&&_, _||_}
 use mathlib.Core.List.{List, [], _∷_, _++_, append-assoc, append-nil}
 use Prim.Native.Nat.{ℕ, zero, suc, _+_, _-_, _*_, _≤_, _<_}
 use native.Mathlib.Omega.{arith}
-use borrow.Author.Tests.{eq-eqb, ne-eqb, lt-ltb, eqb-true, eqb-false}
-use lib.Dec.{eqb, ltb}
+use borrow.Author.Tests.{lt-ltb, le-leb, eqb-true, eqb-false}
+use lib.Dec.{eqb, ltb, leb}
 use lib.ListN.{length, getD, set, drop, length-set, replicate}
-use lib.Seq.{getD-drop, getD-set-same, getD-set-other}
+use lib.Seq.{getD-drop, getD-set-same, getD-set-other, getD-append-seam, getD-append-add}
 use Rattle.paper.specs.Limits.{nobody}
 use Rattle.paper.specs.Bits.{bitOf}
 use Rattle.paper.specs.Count.{sum, all, allIn}
-use Rattle.paper.proofs.Logic.{by-test, lt-or-ge, both}
-use Rattle.paper.proofs.Count.{in-each, sum-same}
+use Rattle.paper.proofs.Logic.{by-test, both, five, and-true, cond-zero}
+use Rattle.paper.proofs.Count.{in-each, each-all, sum-same, getD-over-out}
 use Rattle.slotset.specs.Slots.{slot}
 use Rattle.slotset.proofs.Puts.{Fit}
-use Rattle.slots.specs.Lent.{demandOf}
-use Rattle.units.specs.Units.{unitStart, unitEnd, unitsOk, unitOf}
+use Rattle.slots.specs.Lent.{demandOf, slotRoomOk, slotsOk}
+use Rattle.units.specs.Units.{unitStart, unitEnd, unitOf}
 use Rattle.units.specs.Domains.{available, able, unfrozen, clear, unitFrozen}
 use Rattle.units.proofs.Units.{unit-of-in}
 use Rattle.rota.specs.Board.{Board, BoardSound, InUnit, Even, ownerOf, unowned}
-use Rattle.rota.specs.Moves.{Draw, draw, decided, answerOf, stayIf, anyOf, swapped, swapStays, runsSwapped, runsStay, firstOf}
-use Rattle.rota.specs.Moves.{lastOf}
-use Rattle.rota.specs.Plays.{step, ownersAfter, answer, answers, touched, drawsOf}
+use Rattle.rota.specs.Moves.{Draw, draw, decided, anyOf, swapped}
+use Rattle.rota.specs.Plays.{step, ownersAfter, answer, answers, touched, drawsOf, written}
 use Rattle.rota.specs.Lent.{fitsUnit, frozenUnit, boardOf}
-use Rattle.rota.specs.Derived.{Plan, PlanSound, Derived, derived, knownBy, worked, uncovered, held, afresh, InStep}
-use Rattle.rota.specs.Recount.{freeFor, recounts, RotaRoom}
-use Rattle.rota.specs.declared.Move.{Move}
-use Rattle.rota.specs.declared.Move.the-variants.{Stay, Give, Trade}
+use Rattle.rota.specs.Derived.{Plan, PlanSound, Derived, knownBy, worked, uncovered, afresh}
+use Rattle.rota.specs.Recount.{freeFor, knownAt, freeAt, recounts}
+use Rattle.rota.specs.Entries.{countsOk, roomOk, ground, Outcome, outcome, fromSlotsNo, fromSlots, recountNo, recountSlotsNo}
+use Rattle.rota.specs.Acts.{Heard, Acts, ChoiceOutside, ownerThen}
 use Rattle.rota.proofs.Minutes.{known-nobody, known-person, minutes-total}
-use Rattle.rota.proofs.Plays.{play-even, play-frozen, play-covered, play-only, play-length, owners-append, answers-append}
-use Rattle.rota.proofs.Steps.{afresh-same, afresh-again, afresh-step}
-use Rattle.rota.proofs.Entered.{Recounted, recount-says, says-recount, PlayAsks, asks-sound, asks-even}
+use Rattle.rota.proofs.Plays.{play-even, play-frozen, play-covered, play-only, play-length, play-past, owners-append}
+use Rattle.rota.proofs.Plays.{answers-append, answers-length, draws-length}
+use Rattle.rota.proofs.Steps.{afresh-same, afresh-again, afresh-step, afresh-lengths}
+use Rattle.rota.proofs.Sets.{Beside, sets-out}
+use Rattle.rota.proofs.Entered.{Recounted, recount-says, says-recount, recount-step, PlayAsks, asks-sound, asks-even}
+use Rattle.rota.proofs.Entered.{Grounds, grounds, ground-all}
+use Rattle.rota.proofs.Drawn.{draw-acts-exactly}
+use Rattle.rota.proofs.HandsOver.{draw-hands-over}
 use Rattle.rota.proofs.Asked.{Asks}
 
 -- ---- a play that is accepted
@@ -72,16 +75,17 @@ module _ (P : Plan) (avail : List ℕ) (units : ℕ) (firsts frozen : List ℕ) 
       (λ f. ap₂ _&&_ (lt-ltb u units (I .below)) (ap not f))
 
   pub frozen-slots-keep : (k : ℕ) → k < P .slots → eqb (slot frozen 0 k) 1 ≡ true → getD after k 0 ≡ getD o k 0
-  frozen-slots-keep k h z = play-frozen B sound o ds even (unitOf units firsts k) k (in-unit k h) (frozen-unit (unitOf units firsts
-      k) k (in-unit k h) z)
+  frozen-slots-keep k h z =
+      let u = unitOf units firsts k in
+      play-frozen B sound u k (in-unit k h) (frozen-unit u k (in-unit k h) z) o ds even
 
   -- no covered slot becomes uncovered
   pub covered-stays : (k : ℕ) → k < P .slots → (getD o k 0 ≡ nobody → ⊥) → getD after k 0 ≡ nobody → ⊥
-  covered-stays k h = play-covered B sound o ds even (unitOf units firsts k) k (in-unit k h)
+  covered-stays k h = play-covered B sound (unitOf units firsts k) k (in-unit k h) o ds even
 
   -- only slots of units that an acting draw hands over, at its step, change owner
   pub only-handed-over : (k : ℕ) → k < P .slots → touched B o ds (unitOf units firsts k) ≡ false → getD after k 0 ≡ getD o k 0
-  only-handed-over k h = play-only B sound o ds even (unitOf units firsts k) k (in-unit k h)
+  only-handed-over k h = play-only B sound (unitOf units firsts k) k (in-unit k h) o ds even
 
   -- every owner is known and available, units are uniform, sets and minutes are right: the rota passes the recount again
   after-even : Even B after
@@ -116,6 +120,24 @@ module _ (P : Plan) (avail : List ℕ) (units : ℕ) (firsts frozen : List ℕ) 
       (ap (λ (w : ℕ). fitsUnit (P .people) (P .slots) units avail firsts w (unitOf units firsts k)) (owner-after k h) ∙ m .1) in
       ap₂ _||_ f e)
 
+  -- the next draw, if it acts, hands each unit to the owner that its rule gives it
+  pub next-hands-over : (d : Draw) (A : Acts B after d) (k : ℕ) → k < P .slots
+      → getD (step B after d) k 0 ≡ ownerThen B after d A (unitOf units firsts k)
+  next-hands-over d A k h = draw-hands-over B sound after after-even (unitOf units firsts k) k (in-unit k h) d A
+
+  -- owners past the slots stay, and so do bits beside the slots and minutes past the people
+  pub owners-past-stay : (k : ℕ) → P .slots ≤ k → getD after k 0 ≡ getD o k 0
+  owners-past-stay k h = play-past B sound k h o ds even
+
+  pub derived-past-stay : ((i : ℕ) → Beside (P .people) (P .slots) i → slot (afresh P after D .sets) 0 i ≡ slot (D .sets) 0 i)
+      × ((p : ℕ) → P .people ≤ p → getD (afresh P after D .minutes) p 0 ≡ getD (D .minutes) p 0)
+  unfolding afresh
+  derived-past-stay =
+      let g = A .grounds .on in (
+        λ i b. sets-out (P .slots) after (D .sets) (g .sound .slots-few) (P .people) (g .room .sets-room) i b,
+        λ p h. getD-over-out (worked P after) (P .people) (D .minutes) p h,
+      )
+
   pub played-recounts : recounts P avail units firsts after (afresh P after D) ≡ true
   unfolding ownerOf
   played-recounts =
@@ -144,21 +166,98 @@ module _ (P : Plan) (S : PlanSound P) (avail : List ℕ) (units : ℕ) (firsts o
       ap (λ (s : ℕ). s + uncovered P o) (sum-same (P .people) (λ p. getD (D .minutes) p 0) (worked P o) (counted .minutes))
       ∙ minutes-total P o (S .people-few) (counted .known)
 
-  module _ (R : RotaRoom (P .people) (P .slots) avail o D) (f : Fit (D .sets)) where
-    in-step : InStep P o D
-    in-step =
+-- ---- from_slots of the owners of a rota that passes the recount
+
+-- D′ has the sets and minutes of D; every other bit and entry, and the lengths, are those of E
+pub record Copied (P : Plan) (D E D′ : Derived) : Type 0 where
+  pub sets : (p k : ℕ) → p < P .people → k < P .slots → slot (D′ .sets) (16 * p) k ≡ slot (D .sets) (16 * p) k
+  pub minutes : (p : ℕ) → p < P .people → getD (D′ .minutes) p 0 ≡ getD (D .minutes) p 0
+  pub beside : (i : ℕ) → Beside (P .people) (P .slots) i → slot (D′ .sets) 0 i ≡ slot (E .sets) 0 i
+  pub past : (p : ℕ) → P .people ≤ p → getD (D′ .minutes) p 0 ≡ getD (E .minutes) p 0
+  pub lengths : (length (D′ .sets) ≡ length (E .sets)) × (length (D′ .minutes) ≡ length (E .minutes))
+
+-- a rota that passes with units passes without
+pub recount-slots-too : (P : Plan) (avail : List ℕ) (units : ℕ) (firsts o : List ℕ) (D : Derived)
+    → recountNo P avail units firsts o D ≡ 0 → recountSlotsNo P avail o D ≡ 0
+unfolding recountNo recountSlotsNo ground
+recount-slots-too P avail units firsts o D e =
+    let y = ground-all (countsOk (P .people) (P .slots)) _ _ _ e in
+    let r = both (roomOk P avail o D) _ (y .1) in
+    let l = both (slotsOk (P .slots) (P .starts) (P .ends)) _ (y .2) in
+    let c = recount-says P avail units firsts o D (cond-zero (recounts P avail units firsts o D) 0 9 (y .3) .0) in
+    simp (
+      y .0,
+      r .0,
+      l .0,
+      says-recount P avail 0 [] o D
+          record {
+            known = c .known;
+            free = c .free;
+            even = λ u j h a b. absurd (omega arith);
+            sets = c .sets;
+            minutes = c .minutes;
+          },
+    )
+
+module _ (P : Plan) (avail o : List ℕ) (D : Derived) (e : recountSlotsNo P avail o D ≡ 0) where
+  tests : (countsOk (P .people) (P .slots) ≡ true) × (roomOk P avail o D ≡ true)
+      × (slotsOk (P .slots) (P .starts) (P .ends) ≡ true) × (recounts P avail 0 [] o D ≡ true)
+  unfolding recountSlotsNo
+  tests =
+      let y = ground-all (countsOk (P .people) (P .slots)) (roomOk P avail o D) (slotsOk (P .slots) (P .starts) (P .ends)) _ e in
+      (y .0, y .1, y .2, cond-zero (recounts P avail 0 [] o D) 0 9 (y .3) .0)
+
+  on : Grounds P avail o D
+  on = grounds P avail o D (tests .0) (tests .1) (tests .2)
+
+  right : Recounted P avail 0 [] o D
+  right = recount-says P avail 0 [] o D (tests .3)
+
+  module _ (E : Derived) (rs : 16 * P .people ≤ length (E .sets)) (rm : P .people ≤ length (E .minutes)) where
+    room-there : roomOk P avail o E ≡ true
+    unfolding roomOk
+    room-there =
+        let y = five (slotRoomOk (P .slots) (P .starts) (P .ends)) (leb (16 * P .people) (length avail)) (leb (P .slots) (length o))
+        (leb (16 * P .people) (length (D .sets))) (leb (P .people) (length (D .minutes))) (tests .1) in
+        and-true _ _ (y .0) (and-true _ _ (y .1) (and-true _ _ (y .2) (and-true _ _ (le-leb _ _ rs) (le-leb _ _ rm))))
+
+    accepted : fromSlotsNo P avail o E ≡ 0
+    unfolding fromSlotsNo ground knownAt freeAt
+    accepted =
+        simp (
+          tests .0,
+          room-there,
+          tests .2,
+          each-all (P .slots) (knownAt (P .people) o) (right .known),
+          each-all (P .slots) (freeAt avail o) (right .free),
+        )
+
+    -- whatever columns are lent, it is accepted and leaves what is worked out afresh
+    made : fromSlots P avail o E ≡ record { number = 0; owners = o; derived = afresh P o E; answers = [] }
+    unfolding fromSlots outcome
+    made = simp accepted
+
+    -- in any columns with room: the rota's sets and minutes, and what lies beside or past them as it was lent
+    pub from-slots-copies : Copied P D E (fromSlots P avail o E .derived)
+    unfolding afresh
+    from-slots-copies =
+        let J = afresh-step P o E (on .sound .slots-few) (on .room .owners-room) rs rm (right .known) in
+        subst (λ (y : Outcome). Copied P D E (y .derived)) (sym made)
         record {
-          owners-room = R .owners-room;
-          sets-room = R .sets-room;
-          minutes-room = R .minutes-room;
-          known = counted .known;
-          sets = counted .sets;
-          minutes = counted .minutes;
+          sets = λ p k h g. J .sets p k h g ∙ sym (right .sets p k h g);
+          minutes = λ p h. J .minutes p h ∙ sym (right .minutes p h);
+          beside = λ i b. sets-out (P .slots) o (E .sets) (on .sound .slots-few) (P .people) rs i b;
+          past = λ p h. getD-over-out (worked P o) (P .people) (E .minutes) p h;
+          lengths = afresh-lengths P o E;
         }
 
-    -- from_slots of its owners gives it back
-    pub from-slots-back : afresh P o D ≡ D
-    from-slots-back = sym (afresh-same P o D (S .slots-few) f in-step)
+  -- in its own columns, of any length: accepted, and every word and entry of them, past the needed ones too, is as it was
+  pub from-slots-back : Fit (D .sets) → fromSlots P avail o D ≡ record { number = 0; owners = o; derived = D; answers = [] }
+  from-slots-back f =
+      let R = on .room in
+      made D (R .sets-room) (R .minutes-room)
+      ∙ ap (λ (d : Derived). record { number = 0; owners = o; derived = d; answers = [] })
+      (sym (afresh-same P o D (on .sound .slots-few) f (recount-step P avail 0 [] o D R right)))
 
 -- ---- a single assign keeps the recount true, units aside
 
@@ -227,21 +326,57 @@ module _ (B : Board) (o : List ℕ) (ks fs ss : List ℕ) (n m : ℕ) where
   two-calls-derived P D few room f =
       afresh-again P first-call (ownersAfter B first-call rest) D few room f ∙ ap (λ (l : List ℕ). afresh P l D) (sym two-calls-owners)
 
--- ---- a swap acts exactly when none of its reasons to stay holds
+-- ---- each answer of a play, beside the rule
 
-stay-or-act : (ts : List Bool) (m : Move) → answerOf m ≡ 0 → answerOf (stayIf ts 1 m) ≡ cond (anyOf ts) 1 0
-stay-or-act ts m e =
-    by-test (anyOf ts) _ (λ t. ap (λ (b : Bool). answerOf (cond b (Stay 1) m)) t ∙ sym (ap (λ (b : Bool). cond b 1 0) t))
-    (λ f. ap (λ (b : Bool). answerOf (cond b (Stay 1) m)) f ∙ e ∙ sym (ap (λ (b : Bool). cond b 1 0) f))
+at-seam : (l r s : List ℕ) (a i : ℕ) → length l ≡ i → getD (((l ++ (a ∷ [])) ++ r) ++ s) i 0 ≡ a
+at-seam l r s a i z =
+    ap (λ (y : List ℕ). getD y i 0) (append-assoc (l ++ (a ∷ [])) r s ∙ append-assoc l (a ∷ []) (r ++ s))
+    ∙ ap (λ (k : ℕ). getD (l ++ (a ∷ (r ++ s))) k 0) (sym z) ∙ getD-append-seam l a (r ++ s) 0
 
-pub swap-acts-exactly : (B : Board) (o : List ℕ) (f s : ℕ) → answerOf (swapped B o f s) ≡ cond (anyOf (swapStays B o f s)) 1 0
-unfolding swapped
-swap-acts-exactly B o f s = stay-or-act (swapStays B o f s) _ refl
+module _ (B : Board) (o ks fs ss x : List ℕ) (n i : ℕ) (h : i < n) where
+  abbrev drawn : Draw
+  drawn = draw (getD ks i 0) (getD fs i 0) (getD ss i 0)
 
-pub swap-runs-act-exactly : (B : Board) (o : List ℕ) (f s : ℕ)
-    → answerOf (runsSwapped B o f s) ≡ cond (anyOf (runsStay B o f s (firstOf B o f) (lastOf B o f) (firstOf B o s) (lastOf B o s))) 1 0
-unfolding runsSwapped
-swap-runs-act-exactly B o f s = stay-or-act (runsStay B o f s (firstOf B o f) (lastOf B o f) (firstOf B o s) (lastOf B o s)) _ refl
+  -- the owners that draw i finds
+  abbrev found : List ℕ
+  found = ownersAfter B o (drawsOf ks fs ss i)
+
+  abbrev heard-at : ℕ
+  heard-at = getD (written (answers B o (drawsOf ks fs ss n)) x) i 0
+
+  -- answer i is that of draw i, to the owners that the draws before it leave
+  pub answer-at : heard-at ≡ answer B found drawn
+  unfolding written drawsOf answers
+  answer-at =
+      let m = n - suc i in
+      let rest = drawsOf (drop (suc i) ks) (drop (suc i) fs) (drop (suc i) ss) m in
+      let l = answers B o (drawsOf ks fs ss i) in
+      let a = answer B found drawn in
+      let e : n ≡ suc i + m = omega arith in
+      let z : length l ≡ i = answers-length B o (drawsOf ks fs ss i) ∙ draws-length ks fs ss i in
+      let w : answers B o (drawsOf ks fs ss n) ≡ (l ++ (a ∷ [])) ++ answers B (ownersAfter B o (drawsOf ks fs ss (suc i))) rest =
+      ap (λ (k : ℕ). answers B o (drawsOf ks fs ss k)) e
+      ∙ two-calls-answers B o ks fs ss (suc i) m
+      ∙ ap (λ (y : List ℕ). y ++ answers B (ownersAfter B o (drawsOf ks fs ss (suc i))) rest)
+      (answers-append B o (drawsOf ks fs ss i) (drawn ∷ [])) in
+      ap (λ (y : List ℕ). getD (y ++ drop (length y) x) i 0) w ∙ at-seam l _ _ a i z
+
+  -- it is 0 exactly when the conditions of that draw's move hold there, 2 exactly when its choice lies outside, 1 exactly when neither
+  pub answers-exactly : Heard heard-at (Acts B found drawn) (ChoiceOutside B found drawn)
+  answers-exactly =
+      subst (λ (r : ℕ). Heard r (Acts B found drawn) (ChoiceOutside B found drawn)) (sym answer-at)
+      (draw-acts-exactly B found drawn)
+
+-- answers past the draws stay
+pub answers-past-stay : (B : Board) (o ks fs ss x : List ℕ) (n k : ℕ) → n ≤ k
+    → getD (written (answers B o (drawsOf ks fs ss n)) x) k 0 ≡ getD x k 0
+unfolding written
+answers-past-stay B o ks fs ss x n k h =
+    let l = answers B o (drawsOf ks fs ss n) in
+    let z : length l ≡ n = answers-length B o (drawsOf ks fs ss n) ∙ draws-length ks fs ss n in
+    let e : k ≡ length l + (k - n) = omega arith in
+    ap (λ (j : ℕ). getD (l ++ drop (length l) x) j 0) e ∙ getD-append-add l (drop (length l) x) (k - n) 0
+    ∙ getD-drop (length l) x (k - n) 0 ∙ ap (λ (j : ℕ). getD x j 0) (sym e)
 
 -- ---- marked case 12, and its twin with no slot frozen
 

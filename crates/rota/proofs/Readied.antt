@@ -3,20 +3,18 @@ use mathlib.Core.Path.{_≡_, refl, sym, ap, ap₂, _∙_, fun-ext}
 use mathlib.Core.Logic.{⊎-elim}
 use mathlib.Core.Bool.{Bool, true, false, cond, not, _&&_, _||_}
 use mathlib.Core.List.{List}
-use Prim.Native.Nat.{ℕ, zero, suc, _+_, _-_, _*_, _/_, _%_, _^_, _≤_, _<_, max}
+use Prim.Native.Nat.{ℕ, zero, suc, _+_, _-_, _*_, _%_, _^_, _≤_, _<_, max}
 use native.Mathlib.Omega.{arith}
-use borrow.Author.Tests.{eq-eqb, ne-eqb, eqb-true, eqb-false, lt-ltb, le-ltb, le-leb}
-use lib.Dec.{eqb, ltb, leb, lit<}
+use borrow.Author.Tests.{ne-eqb, eqb-true, eqb-false, lt-ltb, le-ltb}
+use lib.Dec.{eqb, ltb, lit<}
 use lib.Bits.{bitOr}
 use lib.Pow.{pow-lt}
 use native.Mathlib.Nat.{mod-eq-of-lt}
 use lib.ListN.{length, getD, set, replicate, getD-replicate, length-replicate, List·getD-eq-default}
 use lib.Seq.{getD-set-same, getD-set-other}
-use Rattle.paper.specs.Limits.{peopleOk}
 use Rattle.paper.specs.Bits.{bitOf}
 use Rattle.paper.proofs.Bits.{bit-or, bit-lt, bit-shl-low, bit-shl-high, top-clear, bit-none, bit-ones}
-use Rattle.paper.proofs.Logic.{by-test, lt-or-ge, both, and-false}
-use Rattle.slotset.specs.Answers.{rowNo}
+use Rattle.paper.proofs.Logic.{by-test, lt-or-ge, and-false}
 use Rattle.units.specs.Units.{unitStart, unitEnd, unitsOk, unitOf}
 use Rattle.units.specs.Domains.{able, ableIn, clear, clearIn, unitFrozen}
 use Rattle.rota.specs.Board.{Board, BoardSound}
@@ -129,48 +127,54 @@ module _ (av : List ℕ) (people a e : ℕ) where
 
 -- ---- one entry for each unit
 
+zero-at : (n u : ℕ) → _≡_ {A = ℕ} (getD (replicate n 0) u 0) 0
+zero-at n u =
+    ⊎-elim (λ (h : u < n). getD-replicate n u 0 0 h)
+    (λ (h : n ≤ u). List·getD-eq-default {A = ℕ} (replicate n 0) 0 {n = u} (omega (arith, length-replicate {A = ℕ} n 0)))
+    (lt-or-ge u n)
+
+-- a column that is made entry by entry: r reads from entry u what g says of unit u, and no from those that are not made yet
+module _ (r g : ℕ → Bool) where
+  abbrev ReadTo : ℕ → List ℕ → Type 0
+  ReadTo i column = (u : ℕ) → r (getD column u 0) ≡ ltb u i && g u
+
+  read-none : (n : ℕ) → r 0 ≡ false → ReadTo 0 (replicate n 0)
+  read-none n z u = ap r (zero-at n u) ∙ z ∙ sym (ap (λ (b : Bool). b && g u) (le-ltb u 0 (omega arith)))
+
+  read-more : (i v : ℕ) (column : List ℕ) → i < length column → r v ≡ g i → ReadTo i column → ReadTo (i + 1) (set column i v)
+  read-more i v column h e F u =
+      by-test (eqb u i) _
+      (λ t.
+      let q = eqb-true u i t in
+      ap r (ap (λ (j : ℕ). getD (set column i v) j 0) q ∙ getD-set-same column i v 0 h) ∙ e ∙ ap g (sym q)
+      ∙ sym (ap (λ (b : Bool). b && g u) (lt-ltb u (i + 1) (omega arith))))
+      (λ f.
+      ap r (getD-set-other column i u v 0 (eqb-false u i f)) ∙ F u
+      ∙ ap (λ (b : Bool). b && g u) (sym (below-more u i ∙ ap (λ (x : Bool). ltb u i || x) f ∙ mathlib.Core.Bool.or-false (ltb u i))))
+
 module _ (slots units people : ℕ) (av firsts : List ℕ) where
+  abbrev fit-for : ℕ → ℕ → Bool
+  fit-for p u = ltb p people && able av (unitStart firsts u) (unitEnd slots units firsts u) p
+
   abbrev FitsTo : ℕ → List ℕ → Type 0
-  FitsTo i fits = (p u : ℕ) → fitsBy fits p u ≡ ltb u i && (ltb p people && able av (unitStart firsts u) (unitEnd slots units firsts u) p)
+  FitsTo i fits = (p u : ℕ) → fitsBy fits p u ≡ ltb u i && fit-for p u
 
   pub fits-none : (n : ℕ) → FitsTo 0 (replicate n 0)
   unfolding fitsBy inMask
-  fits-none n p u =
-      ap (λ (m : ℕ). eqb (bitOf m p) 1) (zero-at n u) ∙ ap (λ (b : ℕ). eqb b 1) (bit-none p)
-      ∙ sym (ap (λ (b : Bool). b && (ltb p people && able av (unitStart firsts u) (unitEnd slots units firsts u) p)) (le-ltb u 0
-      (omega arith)))
-    where
-      zero-at : (n u : ℕ) → _≡_ {A = ℕ} (getD (replicate n 0) u 0) 0
-      zero-at n u =
-          ⊎-elim (λ (h : u < n). getD-replicate n u 0 0 h)
-          (λ (h : n ≤ u). List·getD-eq-default {A = ℕ} (replicate n 0) 0 {n = u} (omega (arith, length-replicate {A = ℕ} n 0)))
-          (lt-or-ge u n)
+  fits-none n p = read-none (λ m. inMask m p) (fit-for p) n (ap (λ (b : ℕ). eqb b 1) (bit-none p))
 
   pub fits-more : (i a e mask : ℕ) (fits : List ℕ) → i < length fits → a ≡ unitStart firsts i → e ≡ unitEnd slots units firsts i
       → UnitMask av people a e mask → FitsTo i fits → FitsTo (i + 1) (set fits i mask)
   unfolding fitsBy
-  fits-more i a e mask fits h pa pe U F p u =
-      by-test (eqb u i) _
-      (λ t.
-      let q = eqb-true u i t in
-      ap (λ (m : ℕ). inMask m p) (ap (λ (j : ℕ). getD (set fits i mask) j 0) q ∙ getD-set-same fits i mask 0 h)
-      ∙ U .each p
-      ∙ ap₂ (λ (x y : ℕ). ltb p people && able av x y p) (pa ∙ ap (unitStart firsts) (sym q)) (pe ∙ ap (unitEnd slots units firsts)
-      (sym q))
-      ∙ sym (ap (λ (b : Bool). b && (ltb p people && able av (unitStart firsts u) (unitEnd slots units firsts u) p)) (lt-ltb u (i +
-      1) (omega arith))))
-      (λ f.
-      let n = eqb-false u i f in
-      ap (λ (m : ℕ). inMask m p) (getD-set-other fits i u mask 0 n) ∙ F p u
-      ∙ ap (λ (b : Bool). b && (ltb p people && able av (unitStart firsts u) (unitEnd slots units firsts u) p))
-      (sym (below-more u i ∙ ap (λ (x : Bool). ltb u i || x) f ∙ mathlib.Core.Bool.or-false (ltb u i))))
+  fits-more i a e mask fits h pa pe U F p =
+      read-more (λ m. inMask m p) (fit-for p) i mask fits h
+      (U .each p ∙ ap₂ (λ (x y : ℕ). ltb p people && able av x y p) pa pe) (F p)
 
   pub fits-done : (fits : List ℕ) (i : ℕ) → i ≡ units → FitsTo i fits → FitsRight people slots units av firsts fits
   unfolding fitsUnit
   fits-done fits i q F =
       record {
-        each = λ p u. F p u ∙ ap (λ (n : ℕ). ltb u n && (ltb p people && able av (unitStart firsts u) (unitEnd slots units firsts u)
-            p)) q;
+        each = λ p u. F p u ∙ ap (λ (n : ℕ). ltb u n && fit-for p u) q;
       }
 
 module _ (slots units : ℕ) (firsts fr : List ℕ) where
@@ -179,14 +183,7 @@ module _ (slots units : ℕ) (firsts fr : List ℕ) where
 
   pub marks-none : (n : ℕ) → MarksTo 0 (replicate n 0)
   unfolding frozenBy
-  marks-none n u =
-      ap (λ (m : ℕ). eqb m 1) (zero-at n u) ∙ sym (ap (λ (b : Bool). b && unitFrozen fr slots units firsts u) (le-ltb u 0 (omega arith)))
-    where
-      zero-at : (n u : ℕ) → _≡_ {A = ℕ} (getD (replicate n 0) u 0) 0
-      zero-at n u =
-          ⊎-elim (λ (h : u < n). getD-replicate n u 0 0 h)
-          (λ (h : n ≤ u). List·getD-eq-default {A = ℕ} (replicate n 0) 0 {n = u} (omega (arith, length-replicate {A = ℕ} n 0)))
-          (lt-or-ge u n)
+  marks-none n = read-none (λ m. eqb m 1) (unitFrozen fr slots units firsts) n refl
 
   mark-says : (c : Bool) → eqb (cond c 0 1) 1 ≡ not c
   mark-says true = refl
@@ -195,19 +192,9 @@ module _ (slots units : ℕ) (firsts fr : List ℕ) where
   pub marks-more : (i a e m : ℕ) (flags : List ℕ) → i < length flags → a ≡ unitStart firsts i → e ≡ unitEnd slots units firsts i
       → m ≡ markOf fr a e → MarksTo i flags → MarksTo (i + 1) (set flags i m)
   unfolding frozenBy markOf unitFrozen
-  marks-more i a e m flags h pa pe d F u =
-      by-test (eqb u i) _
-      (λ t.
-      let q = eqb-true u i t in
-      ap (λ (x : ℕ). eqb x 1) (ap (λ (j : ℕ). getD (set flags i m) j 0) q ∙ getD-set-same flags i m 0 h ∙ d)
-      ∙ mark-says (clear fr a e)
-      ∙ ap not (ap₂ (clear fr) (pa ∙ ap (unitStart firsts) (sym q)) (pe ∙ ap (unitEnd slots units firsts) (sym q)))
-      ∙ sym (ap (λ (b : Bool). b && not (clear fr (unitStart firsts u) (unitEnd slots units firsts u))) (lt-ltb u (i + 1) (omega arith))))
-      (λ f.
-      let n = eqb-false u i f in
-      ap (λ (x : ℕ). eqb x 1) (getD-set-other flags i u m 0 n) ∙ F u
-      ∙ ap (λ (b : Bool). b && not (clear fr (unitStart firsts u) (unitEnd slots units firsts u)))
-      (sym (below-more u i ∙ ap (λ (x : Bool). ltb u i || x) f ∙ mathlib.Core.Bool.or-false (ltb u i))))
+  marks-more i a e m flags h pa pe d F =
+      read-more (λ x. eqb x 1) (unitFrozen fr slots units firsts) i m flags h
+      (ap (λ (x : ℕ). eqb x 1) d ∙ mark-says (clear fr a e) ∙ ap not (ap₂ (clear fr) pa pe)) F
 
   pub marks-done : (flags : List ℕ) (i : ℕ) → i ≡ units → MarksTo i flags → FrozenRight slots units firsts fr flags
   unfolding frozenUnit

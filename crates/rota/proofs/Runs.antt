@@ -1,10 +1,9 @@
 -- The run of a unit is the one maximal stretch of units with its owner: it is one, and only that one is. Assumes nothing.
-use mathlib.Core.Path.{_≡_, refl, sym, ap, _∙_, subst}
-use mathlib.Core.Bool.{true, false, cond}
+use mathlib.Core.Path.{_≡_, sym, ap, _∙_}
 use mathlib.Core.Logic.{⊎-elim}
 use Prim.Native.Nat.{ℕ, zero, suc, _+_, _-_, _≤_, _<_, zero-le}
 use native.Mathlib.Omega.{arith}
-use borrow.Author.Tests.{eq-eqb, ne-eqb, eqb-true, eqb-false}
+use borrow.Author.Tests.{eqb-true, eqb-false}
 use lib.Dec.{eqb}
 use Rattle.paper.proofs.Logic.{by-test, lt-or-ge}
 use Rattle.rota.specs.Board.{runStart, runTo, runEnd, RunOf}
@@ -80,24 +79,20 @@ module _ (w : ℕ → ℕ) where
         right = λ l q. R .end (omega arith) q;
       }
 
+  -- no longer one exists: any stretch around u with the owner of u lies in its run
+  pub run-longest : (units u a b c d : ℕ) → RunOf units w u a b → c ≤ u → u ≤ d → d < units
+      → ((v : ℕ) → c ≤ v → v ≤ d → w v ≡ w u) → (a ≤ c) × (d ≤ b)
+  run-longest units u a b c d R h g l one = (
+    ⊎-elim (λ (x : c < a). absurd (R .left (a - 1) (omega arith) (one (a - 1) (omega arith) (omega (arith, R .from)))))
+        (λ (x : a ≤ c). x) (lt-or-ge c a),
+    ⊎-elim (λ (x : b < d). absurd (R .right (omega arith) (one (suc b) (omega (arith, R .to)) (omega arith))))
+        (λ (x : d ≤ b). x) (lt-or-ge b d),
+  )
+
   -- no other stretch is one
-  starts-meet : (units u a b c d : ℕ) → RunOf units w u a b → RunOf units w u c d → a ≤ c
-  starts-meet units u a b c d P Q =
-      ⊎-elim
-      (λ (l : c < a). absurd (P .left (a - 1) (omega arith) (Q .one (a - 1) (omega arith) (omega (arith, P .from, Q .to)))))
-      (λ (l : a ≤ c). l) (lt-or-ge c a)
-
-  ends-meet : (units u a b c d : ℕ) → RunOf units w u a b → RunOf units w u c d → b ≤ d
-  ends-meet units u a b c d P Q =
-      ⊎-elim
-      (λ (l : d < b). absurd (Q .right (omega (arith, P .fits)) (P .one (suc d) (omega (arith, P .from, Q .to)) (omega arith))))
-      (λ (l : b ≤ d). l) (lt-or-ge d b)
-
   pub run-only : (units u a b : ℕ) → u < units → RunOf units w u a b → (a ≡ runStart w u) × (b ≡ runEnd units w u)
   run-only units u a b h P =
       let Q = run-is units u h in
-      let c = runStart w u in
-      let d = runEnd units w u in (
-        omega (arith, starts-meet units u a b c d P Q, starts-meet units u c d a b Q P),
-        omega (arith, ends-meet units u a b c d P Q, ends-meet units u c d a b Q P),
-      )
+      let x = run-longest units u a b (runStart w u) (runEnd units w u) P (Q .from) (Q .to) (Q .fits) (Q .one) in
+      let y = run-longest units u (runStart w u) (runEnd units w u) a b Q (P .from) (P .to) (P .fits) (P .one) in
+      (omega (arith, x .0, y .0), omega (arith, x .1, y .1))

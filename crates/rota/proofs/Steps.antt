@@ -1,12 +1,12 @@
 -- A rota stays in step: worked out afresh, and when a stretch of slots changes hands. Assumes nothing.
-use mathlib.Core.Path.{_≡_, refl, sym, ap, ap₂, _∙_, subst}
+use mathlib.Core.Path.{_≡_, sym, ap, ap₂, _∙_, subst}
 use mathlib.Core.Logic.{⊎-elim}
-use mathlib.Core.Bool.{Bool, true, false, cond, _||_}
+use mathlib.Core.Bool.{Bool, true, false, cond}
 use mathlib.Core.List.{List}
 use Prim.Native.Nat.{ℕ, zero, suc, _+_, _-_, _*_, _≤_, _<_}
 use native.Mathlib.Omega.{arith}
 use borrow.Author.Tests.{eq-eqb, ne-eqb, eqb-true, eqb-false, lt-ltb, le-leb}
-use lib.Dec.{eqb, ltb, leb}
+use lib.Dec.{eqb, leb}
 use lib.ListN.{length, getD, set, length-set}
 use lib.Seq.{getD-set-same, getD-set-other, ext-getD}
 use Rattle.paper.specs.Limits.{nobody}
@@ -15,11 +15,11 @@ use Rattle.paper.proofs.Logic.{by-test, lt-or-ge}
 use Rattle.paper.proofs.Count.{length-over, getD-over, getD-over-out, length-fill, getD-fill-in, getD-fill-out}
 use Rattle.slotset.proofs.Puts.{Fit}
 use Rattle.slots.specs.Lent.{demandOf, minutesAt}
-use Rattle.slotset.specs.Slots.{putSlots, valueOf}
+use Rattle.slotset.specs.Slots.{valueOf}
 use Rattle.slotset.specs.Answers.{rowNo, rowStretchNo, rowStretchOf, wordsAs}
 use Rattle.paper.specs.Limits.{peopleOk}
-use Rattle.rota.specs.Derived.{Plan, PlanSound, knownBy, portion, worked, setsFrom, Derived, derived, afresh, InStep, setFor}
-use Rattle.rota.specs.Derived.{lessAt, moreAt, stretchMinutes, lengthAt, HandedOver, OneOwner}
+use Rattle.rota.specs.Derived.{Plan, PlanSound, knownBy, portion, worked, Derived, derived, afresh, InStep, setFor}
+use Rattle.rota.specs.Derived.{lessAt, moreAt, stretchMinutes, lengthAt, HandedOver}
 use Rattle.rota.proofs.Minutes.{known-below, portion-own, portion-other, worked-over, worked-le, sum-rises}
 use Rattle.rota.proofs.Sets.{length-sets, sets-fit, sets-in, sets-again, sets-same, sets-handed}
 
@@ -82,56 +82,60 @@ afresh-fit P o D f = sets-fit (P .people) (P .slots) o (D .sets) f
 
 -- ---- the two updates of the minutes
 
-pub length-less : (w n : ℕ) (m : List ℕ) → length (lessAt w n m) ≡ length m
-unfolding lessAt
-length-less w n m = by-test (eqb w nobody) _ (λ t. simp t) (λ f. simp (f, length-set))
+-- the entry of w changed by n, f being the change; nobody has none
+module _ (f : ℕ → ℕ → ℕ) (w n : ℕ) (m : List ℕ) where
+  abbrev changed : List ℕ
+  changed = cond (eqb w nobody) m (set m w (f (getD m w 0) n))
 
-pub length-more : (w n : ℕ) (m : List ℕ) → length (moreAt w n m) ≡ length m
-unfolding moreAt
-length-more w n m = by-test (eqb w nobody) _ (λ t. simp t) (λ f. simp (f, length-set))
+  length-changed : length changed ≡ length m
+  length-changed = by-test (eqb w nobody) _ (λ t. simp t) (λ f. simp (f, length-set))
 
-module _ (w n p : ℕ) (m : List ℕ) (h : p ≡ nobody → ⊥) (r : p < length m) where
-  getD-less : getD (lessAt w n m) p 0 ≡ getD m p 0 - portion w p n
-  unfolding lessAt
-  getD-less =
-      by-test (eqb w nobody) _
-      (λ t. simp t (omega (arith, portion-other w p n (λ q. h (sym q ∙ eqb-true w nobody t)))))
-      (λ f. by-test (eqb w p) _
+  getD-changed : ((x : ℕ) → f x 0 ≡ x) → (p : ℕ) → (p ≡ nobody → ⊥) → p < length m → getD changed p 0 ≡ f (getD m p 0) (portion w p n)
+  getD-changed z p h r =
+      let none : (w ≡ p → ⊥) → getD m p 0 ≡ f (getD m p 0) (portion w p n) = λ q.
+      sym (ap (f (getD m p 0)) (portion-other w p n q) ∙ z (getD m p 0)) in
+      by-test (eqb w nobody) _ (λ t. simp t (none (λ q. h (sym q ∙ eqb-true w nobody t))))
+      (λ u. by-test (eqb w p) _
       (λ t.
       let q = eqb-true w p t in
-      simp f (ap (λ (j : ℕ). getD (set m j (getD m j 0 - n)) p 0) q ∙ getD-set-same m p (getD m p 0 - n) 0 r
-      ∙ ap (λ (x : ℕ). getD m p 0 - x) (sym (ap (λ (j : ℕ). portion j p n) q ∙ portion-own p n))))
+      simp u (ap (λ (j : ℕ). getD (set m j (f (getD m j 0) n)) p 0) q ∙ getD-set-same m p (f (getD m p 0) n) 0 r
+      ∙ ap (f (getD m p 0)) (sym (ap (λ (j : ℕ). portion j p n) q ∙ portion-own p n))))
       (λ g.
       let q = eqb-false w p g in
-      simp f (getD-set-other m w p (getD m w 0 - n) 0 (λ x. q (sym x)) ∙ omega (arith, portion-other w p n q))))
+      simp u (getD-set-other m w p (f (getD m w 0) n) 0 (λ x. q (sym x)) ∙ none q)))
 
-  getD-more : getD (moreAt w n m) p 0 ≡ getD m p 0 + portion w p n
-  unfolding moreAt
-  getD-more =
-      by-test (eqb w nobody) _
-      (λ t. simp t (omega (arith, portion-other w p n (λ q. h (sym q ∙ eqb-true w nobody t)))))
-      (λ f. by-test (eqb w p) _
-      (λ t.
-      let q = eqb-true w p t in
-      simp f (ap (λ (j : ℕ). getD (set m j (getD m j 0 + n)) p 0) q ∙ getD-set-same m p (getD m p 0 + n) 0 r
-      ∙ ap (λ (x : ℕ). getD m p 0 + x) (sym (ap (λ (j : ℕ). portion j p n) q ∙ portion-own p n))))
-      (λ g.
-      let q = eqb-false w p g in
-      simp f (getD-set-other m w p (getD m w 0 + n) 0 (λ x. q (sym x)) ∙ omega (arith, portion-other w p n q))))
+  -- an entry that is no person's stays
+  changed-past : (people p : ℕ) → knownBy people w ≡ true → people ≤ p → getD changed p 0 ≡ getD m p 0
+  changed-past people p h r =
+      by-test (eqb w nobody) _ (λ t. simp t)
+      (λ u. simp u (getD-set-other m w p (f (getD m w 0) n) 0 (λ q. omega (arith, known-below people w h (eqb-false w nobody u)))))
 
--- an entry that is no person's stays
-module _ (people w n p : ℕ) (m : List ℕ) (h : knownBy people w ≡ true) (r : people ≤ p) where
-  less-past : getD (lessAt w n m) p 0 ≡ getD m p 0
+module _ (w n : ℕ) (m : List ℕ) where
+  pub length-less : length (lessAt w n m) ≡ length m
   unfolding lessAt
-  less-past =
-      by-test (eqb w nobody) _ (λ t. simp t)
-      (λ f. simp f (getD-set-other m w p (getD m w 0 - n) 0 (λ q. omega (arith, known-below people w h (eqb-false w nobody f)))))
+  length-less = length-changed _-_ w n m
 
-  more-past : getD (moreAt w n m) p 0 ≡ getD m p 0
+  pub length-more : length (moreAt w n m) ≡ length m
   unfolding moreAt
-  more-past =
-      by-test (eqb w nobody) _ (λ t. simp t)
-      (λ f. simp f (getD-set-other m w p (getD m w 0 + n) 0 (λ q. omega (arith, known-below people w h (eqb-false w nobody f)))))
+  length-more = length-changed _+_ w n m
+
+  module _ (p : ℕ) where
+    getD-less : (p ≡ nobody → ⊥) → p < length m → getD (lessAt w n m) p 0 ≡ getD m p 0 - portion w p n
+    unfolding lessAt
+    getD-less = getD-changed _-_ w n m (λ x. omega arith) p
+
+    getD-more : (p ≡ nobody → ⊥) → p < length m → getD (moreAt w n m) p 0 ≡ getD m p 0 + portion w p n
+    unfolding moreAt
+    getD-more = getD-changed _+_ w n m (λ x. omega arith) p
+
+    module _ (people : ℕ) where
+      less-past : knownBy people w ≡ true → people ≤ p → getD (lessAt w n m) p 0 ≡ getD m p 0
+      unfolding lessAt
+      less-past = changed-past _-_ w n m people p
+
+      more-past : knownBy people w ≡ true → people ≤ p → getD (moreAt w n m) p 0 ≡ getD m p 0
+      unfolding moreAt
+      more-past = changed-past _+_ w n m people p
 
 -- ---- slots a up to e go from old to w
 
@@ -161,7 +165,7 @@ module _ (P : Plan) (S : PlanSound P) (o : List ℕ) (D : Derived) (J : InStep P
         omega (arith, length-less old t (D .minutes)),
         omega (
           arith,
-          getD-less old t w (D .minutes) n r,
+          getD-less old t (D .minutes) w n r,
           J .minutes w b,
           worked-le P o w,
           S .lent .demand-fits,
@@ -185,12 +189,12 @@ module _ (P : Plan) (S : PlanSound P) (o : List ℕ) (D : Derived) (J : InStep P
       ⊎-elim
       (λ (h : p < P .people).
       let n : p ≡ nobody → ⊥ = λ q. omega (arith, S .people-few) in
-      let x = getD-more w t p l n rl in
-      let y = getD-less old t p m n rm in
+      let x = getD-more w t l p n rl in
+      let y = getD-less old t m p n rm in
       let z = worked-over P o p a e old w le within (J .owners-room) (owned .each) in
       omega (arith, x, y, z, J .minutes p h, old-has p n, getD-over f (P .people) m p h rm))
       (λ (h : P .people ≤ p).
-      more-past (P .people) w t p l kw h ∙ less-past (P .people) old t p m ko h ∙ sym (getD-over-out f (P .people) m p h))
+      more-past w t l p (P .people) kw h ∙ less-past old t m p (P .people) ko h ∙ sym (getD-over-out f (P .people) m p h))
       (lt-or-ge p (P .people)))
 
   pub handed-known : (k : ℕ) → k < P .slots → knownBy (P .people) (getD (fill w a (e - a) o) k 0) ≡ true

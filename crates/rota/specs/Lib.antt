@@ -2,6 +2,7 @@
 pub mod Board
 pub mod Moves
 pub mod Plays
+pub mod Acts
 pub mod Derived
 pub mod Ready
 pub mod Recount

@@ -10,9 +10,9 @@ use Rattle.rota.specs.Derived.{plan, uncovered}
 use Rattle.rota.specs.Recount.{knownAt}
 use Rattle.slots.specs.Lent.{slotRoomOk, slotsOk}
 use Rattle.rota.specs.Entries.{countsOk, uncoveredIs}
-use Rattle.rota.proofs.Entered.{ground-same, ground-all}
+use Rattle.rota.proofs.Entered.{ground-same, ground-all, plan-sound}
 use Rattle.paper.proofs.Logic.{both}
-use Rattle.rota.proofs.Asked.{scan-no, scan-yes, figure-stops, figure-11, figure-told, plan-sound}
+use Rattle.rota.proofs.Asked.{scan-no, scan-yes, figure-stops, figure-11, figure-told}
 use Rattle.rota.proofs.assignment.uncovered_minutes.Statement.{statement}
 use Rattle.rota.proofs.assignment.uncovered_minutes.Tie as tie
 
