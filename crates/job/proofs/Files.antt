@@ -27,7 +27,8 @@ pub rise-more : (s : List ℕ) (at k x y : ℕ) → x ≡ ownerSlot s at k → y
     → all k (λ j. ltb (ownerSlot s at j) (ownerSlot s at (j + 1))) ≡ true
     → all (k + 1) (λ j. ltb (ownerSlot s at j) (ownerSlot s at (j + 1))) ≡ true
 rise-more s at k x y e g h a =
-    all-more k (λ j. ltb (ownerSlot s at j) (ownerSlot s at (j + 1))) a (lt-ltb (ownerSlot s at k) (ownerSlot s at (k + 1)) (omega (arith, e, g)))
+    all-more k (λ j. ltb (ownerSlot s at j) (ownerSlot s at (j + 1))) a
+    (lt-ltb (ownerSlot s at k) (ownerSlot s at (k + 1)) (omega (arith, e, g)))
 
 pub rise-fails : (s : List ℕ) (at n k x y : ℕ) → k + 1 < n → x ≡ ownerSlot s at k → y ≡ ownerSlot s at (k + 1) → y ≤ x
     → false ≡ rising s at n
@@ -43,7 +44,8 @@ rise-done s at n k h g a = all-done (n - 1) k _ h (omega arith) a
 
 -- the chain, link by link
 module _ (s : List ℕ) (settings freezes at owners : ℕ) where
-  pub rest-last : (r : Bool) → settings ≡ 1 → freezes ≤ 1 → getD s 7 0 ≡ 0 → r ≡ rising s at owners → r ≡ restOk s settings freezes at owners
+  pub rest-last : (r : Bool) → settings ≡ 1 → freezes ≤ 1 → getD s 7 0 ≡ 0 → r ≡ rising s at owners
+      → r ≡ restOk s settings freezes at owners
   unfolding restOk
   rest-last r p q z e = e ∙ sym (simp (eq-eqb _ _ p, le-leb _ _ q, eq-eqb _ _ z))
 
@@ -88,7 +90,8 @@ pub floats-none : (f : ℕ → Float) (l : List Float) → l ≡ overFloats f 0 
 unfolding overFloats
 floats-none f l = refl
 
-pub floats-turn : (f : ℕ → Float) (l x : List Float) (k : ℕ) (v : Float) → x ≡ overFloats f k l → v ≡ f k → set x k v ≡ overFloats f (k + 1) l
+pub floats-turn : (f : ℕ → Float) (l x : List Float) (k : ℕ) (v : Float) → x ≡ overFloats f k l → v ≡ f k
+    → set x k v ≡ overFloats f (k + 1) l
 unfolding overFloats
 floats-turn f l x k v e g =
     ap₂ (λ (y : List Float) (u : Float). set y k u) e g ∙ ap (λ (n : ℕ). overFloats f n l) (sym (add-one k))
@@ -110,7 +113,8 @@ no-nan-field b h = rw (ne-eqb (b % 9223372036854775808 / 4503599627370496) 2047 
 pub no-nan-digits : (b : ℕ) → b % 4503599627370496 ≡ 0 → T (not (nanBits binary64 b))
 unfolding nanBits
 no-nan-digits b h =
-    rw (eq-eqb (b % 4503599627370496) 0 h) (rw (Rattle.paper.proofs.Logic.and-false (eqb (b % 9223372036854775808 / 4503599627370496) 2047)) tt)
+    rw (eq-eqb (b % 4503599627370496) 0 h) (rw (Rattle.paper.proofs.Logic.and-false
+    (eqb (b % 9223372036854775808 / 4503599627370496) 2047)) tt)
 
 pub nan-pattern : (b : ℕ) → b % 9223372036854775808 / 4503599627370496 ≡ 2047 → (b % 4503599627370496 ≡ 0 → ⊥)
     → div binary64 (ofBits binary64 0) (ofBits binary64 0) ≡ ofBits binary64 b

@@ -35,7 +35,8 @@ unfolding le
 le-turn w left at s v h g e =
     let p : w - (left - 1) ≡ suc (w - left) = omega arith in
     let q : suc (at + (left - 1)) ≡ at + left = omega arith in
-    let r : le (w - (left - 1)) s (at + (left - 1)) ≡ le (suc (w - left)) s (at + (left - 1)) = ap (λ (n : ℕ). le n s (at + (left - 1))) p in
+    let r : le (w - (left - 1)) s (at + (left - 1)) ≡ le (suc (w - left)) s (at + (left - 1)) = ap
+    (λ (n : ℕ). le n s (at + (left - 1))) p in
     let t : le (w - left) s (suc (at + (left - 1))) ≡ v = ap (le (w - left) s) q ∙ sym e in
     omega (arith, r, t)
 
@@ -68,7 +69,8 @@ le-written (suc n) v b h =
     omega (arith, r)
 
 -- what is read can be written again
-pub written-le : (n : ℕ) (s : List ℕ) (at : ℕ) → Bytes s → at + n ≤ length s → lib.ListN.take n (lib.ListN.drop at s) ≡ leBytes n (le n s at)
+pub written-le : (n : ℕ) (s : List ℕ) (at : ℕ) → Bytes s → at + n ≤ length s
+    → lib.ListN.take n (lib.ListN.drop at s) ≡ leBytes n (le n s at)
 unfolding le leBytes
 written-le zero s at b h = refl
 written-le (suc n) s at b h =

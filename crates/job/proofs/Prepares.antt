@@ -113,13 +113,15 @@ placed-not s at slots k x slot e p h =
     ∙ ap (λ (b : Bool). cond b (set (placed s at slots k) (ownerSlot s at k) (ownerValue s at k)) (placed s at slots k)) t)
 
 -- a record's slot and owner
-pub known-nobody : (s : List ℕ) (at slots people k : ℕ) (slot owner : ℕ) → slot ≡ ownerSlot s at k → owner ≡ ownerValue s at k → slot < slots
+pub known-nobody : (s : List ℕ) (at slots people k : ℕ) (slot owner : ℕ) → slot ≡ ownerSlot s at k → owner ≡ ownerValue s at k
+    → slot < slots
     → owner ≡ 255 → true ≡ recordKnown s at slots people k
 unfolding recordKnown
 known-nobody s at slots people k slot owner p q h e =
     sym (simp (lt-ltb (ownerSlot s at k) slots (omega (arith, p)), eq-eqb (ownerValue s at k) 255 (sym q ∙ e)))
 
-pub known-person : (s : List ℕ) (at slots people k : ℕ) (slot owner : ℕ) → slot ≡ ownerSlot s at k → owner ≡ ownerValue s at k → slot < slots
+pub known-person : (s : List ℕ) (at slots people k : ℕ) (slot owner : ℕ) → slot ≡ ownerSlot s at k → owner ≡ ownerValue s at k
+    → slot < slots
     → (owner ≡ 255 → ⊥) → ltb owner people ≡ recordKnown s at slots people k
 unfolding recordKnown
 known-person s at slots people k slot owner p q h e =

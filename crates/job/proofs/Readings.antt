@@ -25,9 +25,12 @@ use Rattle.job.specs.declared.Made.{Made}
 use Rattle.job.specs.declared.Shares.{Shares}
 use Rattle.job.specs.Records.{blockAt, countOf, walkOk}
 use Rattle.job.specs.File.{jobLayout, jobSizes, fileMost, jobCounts, jobStarts, rising, restOk, fileOk}
-use Rattle.job.specs.Stages.{countsOk, countsNo, settingsIn, frozenIn, noOf, valueOf, AtomsAre, UnitsAre, SharesAre, unitsNoOf, unitsValueOf, lowerNo}
-use Rattle.job.specs.Outcome.{Result, Ends, Ready, ready, Draws, draws, ReadOk, baseIn, peopleIn, capacitiesIn, priorsIn, drawsIn, instantIn}
-use Rattle.job.specs.Outcome.{columnOf, rangesIn, atomsIn, atomsResult, availIn, sharesIn, unitsIn, readyIn, ownersResult, slotsResult, orRefused, refusedAs, countedResult, jobResult}
+use Rattle.job.specs.Stages.{countsOk, countsNo, settingsIn, frozenIn, noOf, valueOf, AtomsAre, UnitsAre, SharesAre, unitsNoOf}
+use Rattle.job.specs.Stages.{unitsValueOf, lowerNo}
+use Rattle.job.specs.Outcome.{Result, Ends, Ready, ready, Draws, draws, ReadOk, baseIn, peopleIn, capacitiesIn, priorsIn, drawsIn}
+use Rattle.job.specs.Outcome.{instantIn}
+use Rattle.job.specs.Outcome.{columnOf, rangesIn, atomsIn, atomsResult, availIn, sharesIn, unitsIn, readyIn, ownersResult}
+use Rattle.job.specs.Outcome.{slotsResult, orRefused, refusedAs, countedResult, jobResult}
 use Rattle.job.proofs.Sequences.{counted-at, block-le, block-end, field-room}
 use Rattle.job.proofs.Walks.{record-says}
 use Rattle.job.proofs.Files.{count-at, start-at}
@@ -62,7 +65,8 @@ module _ {s c b : List ℕ} (K : ReadOk s c b) where
   one-settings : countOf jobLayout s 0 ≡ 1
   unfolding fileOk restOk
   one-settings =
-      let x = both (walkOk jobLayout fileMost s) (restOk s (countOf jobLayout s 0) (countOf jobLayout s 4) (blockAt jobLayout s 5) (countOf jobLayout s 5)) (K .ok) in
+      let x = both (walkOk jobLayout fileMost s) (restOk s (countOf jobLayout s 0) (countOf jobLayout s 4) (blockAt jobLayout s 5)
+      (countOf jobLayout s 5)) (K .ok) in
       eqb-true (countOf jobLayout s 0) 1 (both (eqb (countOf jobLayout s 0) 1) _ (x .1) .0)
 
   pub read-settings : 12 ≤ length s
@@ -87,7 +91,8 @@ unfolding sharesIn
 shares-is s c b R n starts ends a cp pr st h p q r t w =
     subst (λ (g : targets.Given). SharesAre (targets.computeTargets g (replicate 32 (pos 0))) h)
     (ap₂ (λ (x : List ℕ) (y : List Float). targets.given (peopleIn c) n starts ends x y pr (st .fairness)) p q
-    ∙ ap₂ (λ (y : List ℕ) (z : Settings). targets.given (peopleIn c) n starts ends (availIn c R n starts ends) (capacitiesIn s c b) y (z .fairness)) r t)
+    ∙ ap₂ (λ (y : List ℕ) (z : Settings). targets.given (peopleIn c) n starts ends (availIn c R n starts ends) (capacitiesIn s c b) y
+    (z .fairness)) r t)
     w
 
 pub units-is : (s : List ℕ) (n : ℕ) (starts ends : List ℕ) (st : Settings) (m : Made) → st ≡ settingsIn s
@@ -115,7 +120,8 @@ module _ (s c b : List ℕ) (R : Ranges) (n : ℕ) (starts ends x : List ℕ) (h
       (subst (λ (d : Draws). Ends (ownersResult s (getD b 5 0) (getD c 5 0) (readyIn s c b R n starts ends) d x) r y) t
       (subst (λ (g : Ready). Ends (ownersResult s (getD b 5 0) (getD c 5 0) g (draws (getD c 6 0) ks os ts) x) r y)
       (ap₂ (λ (u : List ℕ) (v : ℕ). ready (peopleIn c) n starts ends u v (m .firsts) fz (h .targets)) p (M .count)
-      ∙ ap₂ (λ (u v : List ℕ). ready (peopleIn c) n starts ends (availIn c R n starts ends) (unitsValueOf (unitsIn s n starts ends .answer)) u v (h .targets)) (M .firsts) q
+      ∙ ap₂ (λ (u v : List ℕ). ready (peopleIn c) n starts ends (availIn c R n starts ends)
+      (unitsValueOf (unitsIn s n starts ends .answer)) u v (h .targets)) (M .firsts) q
       ∙ ap (λ (z : List ℤ). ready (peopleIn c) n starts ends (availIn c R n starts ends) (unitsValueOf (unitsIn s n starts ends .answer))
       (unitsIn s n starts ends .buffer) (frozenIn n starts ends (getD c 4 0) (instantIn s c b)) z) (H .targets)) w))
 
@@ -127,13 +133,16 @@ ranges-same s c b ps os sh r t u = ap₂ (λ (x y : List ℕ). ranges (getD c 3 
 
 pub atoms-is : (s c b : List ℕ) (st en ps os sh : List ℕ) (a : Atoms) → st ≡ columnOf s c b 1 0 4 → en ≡ columnOf s c b 1 4 4
     → ps ≡ columnOf s c b 3 0 2 → os ≡ columnOf s c b 3 2 4 → sh ≡ columnOf s c b 3 6 4
-    → AtomsAre (atomic.atomiseOf (atomic.base (baseIn c) st en (peopleIn c) (ranges (getD c 3 0) ps os sh) (replicate 1024 0) (replicate 1024 0))) a
+    → AtomsAre (atomic.atomiseOf (atomic.base (baseIn c) st en (peopleIn c) (ranges (getD c 3 0) ps os sh) (replicate 1024 0)
+    (replicate 1024 0))) a
     → AtomsAre (atomsIn s c b) a
 unfolding atomsIn
 atoms-is s c b st en ps os sh a p q r t u w =
     subst (λ (B : atomic.Base). AtomsAre (atomic.atomiseOf B) a)
-    (ap₂ (λ (x y : List ℕ). atomic.base (baseIn c) x y (peopleIn c) (ranges (getD c 3 0) ps os sh) (replicate 1024 0) (replicate 1024 0)) p q
-    ∙ ap (λ (R : Ranges). atomic.base (baseIn c) (columnOf s c b 1 0 4) (columnOf s c b 1 4 4) (peopleIn c) R (replicate 1024 0) (replicate 1024 0))
+    (ap₂ (λ (x y : List ℕ). atomic.base (baseIn c) x y (peopleIn c) (ranges (getD c 3 0) ps os sh) (replicate 1024 0)
+    (replicate 1024 0)) p q
+    ∙ ap (λ (R : Ranges). atomic.base (baseIn c) (columnOf s c b 1 0 4) (columnOf s c b 1 4 4) (peopleIn c) R (replicate 1024 0)
+    (replicate 1024 0))
     (ranges-same s c b ps os sh r t u)) w
 
 pub atoms-few : (B : atomic.Base) (a : Atoms) → AtomsAre (atomic.atomiseOf B) a → a .count ≤ 1024
@@ -152,7 +161,11 @@ atoms-few B a w =
           ∙ ap (λ (q : Bool). valueOf (cond q (counted.Is (length (atomic.startsOfAtoms B))) (counted.Refused (atomic.atomiseNo B)))) t,
     ))
     (λ f.
-    omega (arith, w .count ∙ ap (λ (q : Bool). valueOf (cond q (counted.Is (length (atomic.startsOfAtoms B))) (counted.Refused (atomic.atomiseNo B)))) f))
+    omega (
+      arith,
+      w .count ∙ ap (λ (q : Bool). valueOf (cond q (counted.Is (length (atomic.startsOfAtoms B)))
+          (counted.Refused (atomic.atomiseNo B)))) f,
+    ))
 
 module _ (s c b x : List ℕ) (a : Atoms) (A : AtomsAre (atomsIn s c b) a) where
   pub atoms-refused : (a .no ≡ 0 → ⊥) → Ends (atomsResult s c b x) (answer.Refused (a .no)) x
@@ -176,8 +189,10 @@ module _ (s x c b : List ℕ) (no : ℕ) (ok : fileOk s ≡ true) (C : c ≡ job
   counted-then : (r : JobAnswer) (y : List ℕ) → Ends (countedResult s c b x) r y → Ends (jobResult s x) r y
   unfolding jobResult
   counted-then r y w =
-      subst (λ (z : Result). Ends z r y) (sym (ap (λ (t : Bool). cond t (countedResult s (jobCounts s) (jobStarts s) x) (refusedAs 13 x)) ok))
-      (subst (λ (l : List ℕ). Ends (countedResult s (jobCounts s) l x) r y) B (subst (λ (l : List ℕ). Ends (countedResult s l b x) r y) C w))
+      subst (λ (z : Result). Ends z r y) (sym (ap (λ (t : Bool). cond t (countedResult s (jobCounts s) (jobStarts s) x)
+      (refusedAs 13 x)) ok))
+      (subst (λ (l : List ℕ). Ends (countedResult s (jobCounts s) l x) r y) B
+      (subst (λ (l : List ℕ). Ends (countedResult s l b x) r y) C w))
 
   pub job-counts : (no ≡ 0 → ⊥) → Ends (jobResult s x) (answer.Refused no) x
   unfolding countedResult
@@ -196,5 +211,6 @@ module _ (s x c b : List ℕ) (no : ℕ) (ok : fileOk s ≡ true) (C : c ≡ job
 pub job-layout : (s x : List ℕ) → fileOk s ≡ false → Ends (jobResult s x) (answer.Refused 13) x
 unfolding jobResult
 job-layout s x f =
-    subst (λ (z : Result). Ends z (answer.Refused 13) x) (sym (ap (λ (t : Bool). cond t (countedResult s (jobCounts s) (jobStarts s) x) (refusedAs 13 x)) f))
+    subst (λ (z : Result). Ends z (answer.Refused 13) x) (sym
+    (ap (λ (t : Bool). cond t (countedResult s (jobCounts s) (jobStarts s) x) (refusedAs 13 x)) f))
     (refused-is 13 x)

@@ -31,7 +31,8 @@ or-refused n k x next e h =
     (ap (λ (j : ℕ). refusedAs j x) e ∙ sym (ap (λ (b : Bool). cond b next (refusedAs k x)) (ne-eqb k 0 (λ z. h (e ∙ z)))))
     (refused-is n x)
 
-pub or-passed : (n k : ℕ) (x : List ℕ) (next : Result) (r : JobAnswer) (y : List ℕ) → n ≡ k → n ≡ 0 → Ends next r y → Ends (orRefused k x next) r y
+pub or-passed : (n k : ℕ) (x : List ℕ) (next : Result) (r : JobAnswer) (y : List ℕ) → n ≡ k → n ≡ 0 → Ends next r y
+    → Ends (orRefused k x next) r y
 or-passed n k x next r y e h w =
     subst (λ (z : Result). Ends z r y) (sym (ap (λ (b : Bool). cond b next (refusedAs k x)) (eq-eqb k 0 (sym e ∙ h)))) w
 
@@ -45,13 +46,17 @@ listed-is l x n y w =
 -- ---- the rota
 
 -- the listing of a play, by what it left
-pub text-is : (R : Ready) (d : Draws) (y : rota.Outcome) (p : Played) (u : ℕ) → PlayedAs y p → u ≡ figureValue (rota.uncoveredIs (planOf R) (p .owners))
-    → listingOf (listed (R .slots) (R .starts) (R .ends) (p .owners) (R .people) (p .minutes) (R .targets) (d .count) (p .answers) u) ≡ textOf R d y
+pub text-is : (R : Ready) (d : Draws) (y : rota.Outcome) (p : Played) (u : ℕ) → PlayedAs y p
+    → u ≡ figureValue (rota.uncoveredIs (planOf R) (p .owners))
+    → listingOf (listed (R .slots) (R .starts) (R .ends) (p .owners) (R .people) (p .minutes) (R .targets) (d .count) (p .answers) u) ≡
+    textOf R d y
 unfolding textOf
 text-is R d y p u P e =
     ap listingOf
-    (ap₂ (λ (o m : List ℕ). listed (R .slots) (R .starts) (R .ends) o (R .people) m (R .targets) (d .count) (p .answers) u) (P .owners) (P .minutes)
-    ∙ ap₂ (λ (a : List ℕ) (v : ℕ). listed (R .slots) (R .starts) (R .ends) (y .owners) (R .people) (y .derived .minutes) (R .targets) (d .count) a v)
+    (ap₂ (λ (o m : List ℕ). listed (R .slots) (R .starts) (R .ends) o (R .people) m (R .targets) (d .count) (p .answers) u) (P .owners)
+    (P .minutes)
+    ∙ ap₂ (λ (a : List ℕ) (v : ℕ). listed (R .slots) (R .starts) (R .ends) (y .owners) (R .people) (y .derived .minutes) (R .targets)
+    (d .count) a v)
     (P .answers) (e ∙ ap (λ (o : List ℕ). figureValue (rota.uncoveredIs (planOf R) o)) (P .owners)))
 
 module _ (R : Ready) (d : Draws) (o x : List ℕ) (s : Started) (S : StartedAs (startOf R o) s) where
@@ -76,7 +81,8 @@ module _ (R : Ready) (d : Draws) (o x : List ℕ) (s : Started) (S : StartedAs (
         (listedAs (textOf R d (playOf R d o (derived (s .sets) (s .minutes)))) x) (P .no) g)
 
     pub play-listed : (u n : ℕ) (y : List ℕ) → s .no ≡ 0 → p .no ≡ 0 → u ≡ figureValue (rota.uncoveredIs (planOf R) (p .owners))
-        → Wrote (listingOf (listed (R .slots) (R .starts) (R .ends) (p .owners) (R .people) (p .minutes) (R .targets) (d .count) (p .answers) u)) 0 x n y
+        → Wrote (listingOf (listed (R .slots) (R .starts) (R .ends) (p .owners) (R .people) (p .minutes) (R .targets) (d .count)
+        (p .answers) u)) 0 x n y
         → Ends (rotaResult R d o x) (answer.Length n) y
     unfolding playResult
     play-listed u n y h g e w =

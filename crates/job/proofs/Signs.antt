@@ -72,7 +72,11 @@ module _ (z : ℤ) (f : SFits w64 z) (lower : ltZ (toZ w64 (ofZ w64 z)) (pos 0) 
 
 -- where t is not below 0, it is its own size
 whole-of : (z x : ℤ) → x ≡ z → SFits w64 z → ltZ x (pos 0) ≡ false → T (nonNeg x) × Fits w64 (natAbs x)
-whole-of (pos n) x e f h = (subst (λ (y : ℤ). T (nonNeg y)) (sym e) tt, subst (λ (y : ℤ). Fits w64 (natAbs y)) (sym e) (record { fits = omega (arith, f .sfits) }))
+whole-of (pos n) x e f h = (
+  subst (λ (y : ℤ). T (nonNeg y)) (sym e) tt,
+  subst (λ (y : ℤ). Fits w64 (natAbs y)) (sym e)
+      (record { fits = omega (arith, f .sfits) }),
+)
 whole-of (negsuc n) x e f h = absurd (mathlib.Core.Bool.true≢false (ap (λ (y : ℤ). ltZ y (pos 0)) (sym e) ∙ h))
 
 pub whole-fits : (z : ℤ) → SFits w64 z → ltZ (toZ w64 (ofZ w64 z)) (pos 0) ≡ false

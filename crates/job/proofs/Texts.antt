@@ -58,7 +58,8 @@ put-put l m at x h =
     whole : (l : List ℕ) (at : ℕ) (x : List ℕ) → put l at x ≡ take at x ++ (l ++ drop (at + length l) x)
     whole l at x = put-grouped l at x ∙ append-assoc (take at x) l (drop (at + length l) x)
 
-pub wrote-length : {l : List ℕ} {at : ℕ} {x : List ℕ} {e : ℕ} {y : List ℕ} → Wrote l at x e y → at + length l ≤ length x → length y ≡ length x
+pub wrote-length : {l : List ℕ} {at : ℕ} {x : List ℕ} {e : ℕ} {y : List ℕ} → Wrote l at x e y → at + length l ≤ length x
+    → length y ≡ length x
 wrote-length {l} {at} {x} w h = ap length (w .text) ∙ length-put l at x h
 
 pub wrote-none : (at : ℕ) (x : List ℕ) → Wrote [] at x at x
@@ -166,11 +167,13 @@ letter-acted a e = sym (ap (λ (b : Bool). cond b 65 (cond (eqb a 1) 78 67)) (eq
 
 pub letter-none : (a : ℕ) → (a ≡ 0 → ⊥) → a ≡ 1 → 78 ≡ answerLetter a
 unfolding answerLetter
-letter-none a n e = sym (ap (λ (b : Bool). cond b 65 (cond (eqb a 1) 78 67)) (ne-eqb a 0 n) ∙ ap (λ (b : Bool). cond b 78 67) (eq-eqb a 1 e))
+letter-none a n e = sym (ap (λ (b : Bool). cond b 65 (cond (eqb a 1) 78 67)) (ne-eqb a 0 n)
+    ∙ ap (λ (b : Bool). cond b 78 67) (eq-eqb a 1 e))
 
 pub letter-outside : (a : ℕ) → (a ≡ 0 → ⊥) → (a ≡ 1 → ⊥) → 67 ≡ answerLetter a
 unfolding answerLetter
-letter-outside a n e = sym (ap (λ (b : Bool). cond b 65 (cond (eqb a 1) 78 67)) (ne-eqb a 0 n) ∙ ap (λ (b : Bool). cond b 78 67) (ne-eqb a 1 e))
+letter-outside a n e = sym (ap (λ (b : Bool). cond b 65 (cond (eqb a 1) 78 67)) (ne-eqb a 0 n)
+    ∙ ap (λ (b : Bool). cond b 78 67) (ne-eqb a 1 e))
 
 -- ---- how long a line can be
 

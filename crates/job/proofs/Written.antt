@@ -20,10 +20,12 @@ unfolding bodyOf
 later-back f fs x n k =
     let b = leBytes (f .width) (f .value) in
     let w : f .width + k ≡ length b + k = omega (arith, length-bytes (f .width) (f .value)) in
-    ap (λ (l : List ℕ). le n l (f .width + k)) (append-assoc b (bodyOf fs) x) ∙ ap (le n (b ++ (bodyOf fs ++ x))) w ∙ le-back n b (bodyOf fs ++ x) k
+    ap (λ (l : List ℕ). le n l (f .width + k)) (append-assoc b (bodyOf fs) x) ∙ ap (le n (b ++ (bodyOf fs ++ x))) w
+    ∙ le-back n b (bodyOf fs ++ x) k
 
 -- the seven kinds
-pub settings-back : (fairness lock boundary value days : ℕ) (x : List ℕ) → fairness < 256 → lock < 256 → boundary < 256 → value < 65536 → days < 65536
+pub settings-back : (fairness lock boundary value days : ℕ) (x : List ℕ) → fairness < 256 → lock < 256 → boundary < 256 → value < 65536
+    → days < 65536
     → let b = bodyOf (settingsBody fairness lock boundary value days) ++ x in
     (le 1 b 0 ≡ fairness) × (le 1 b 1 ≡ lock) × (le 1 b 2 ≡ boundary) × (le 1 b 3 ≡ 0) × (le 2 b 4 ≡ value) × (le 2 b 6 ≡ days)
 settings-back fa lo bo va da x p q r s t =
@@ -35,7 +37,8 @@ settings-back fa lo bo va da x p q r s t =
       first-back (byte fa) f1 x p,
       later-back (byte fa) f1 x 1 0 ∙ first-back (byte lo) f2 x q,
       later-back (byte fa) f1 x 1 1 ∙ later-back (byte lo) f2 x 1 0 ∙ first-back (byte bo) f3 x r,
-      later-back (byte fa) f1 x 1 2 ∙ later-back (byte lo) f2 x 1 1 ∙ later-back (byte bo) f3 x 1 0 ∙ first-back (byte 0) f4 x (omega arith),
+      later-back (byte fa) f1 x 1 2 ∙ later-back (byte lo) f2 x 1 1 ∙ later-back (byte bo) f3 x 1 0
+          ∙ first-back (byte 0) f4 x (omega arith),
       later-back (byte fa) f1 x 2 3 ∙ later-back (byte lo) f2 x 2 2 ∙ later-back (byte bo) f3 x 2 1 ∙ later-back (byte 0) f4 x 2 0
           ∙ first-back (two va) f5 x s,
       later-back (byte fa) f1 x 2 5 ∙ later-back (byte lo) f2 x 2 4 ∙ later-back (byte bo) f3 x 2 3 ∙ later-back (byte 0) f4 x 2 2

@@ -1,12 +1,13 @@
 -- The layout of a job file, and refusal 13. Assumes nothing.
+use mathlib.Core.Path.{_≡_}
 use mathlib.Core.Bool.{Bool, _&&_}
 use mathlib.Core.List.{List, [], _∷_}
-use Prim.Native.Nat.{ℕ, _+_, _-_, _*_}
+use Prim.Native.Nat.{ℕ, suc, _+_, _-_, _*_, _≤_, _<_}
 use lib.Dec.{leb, ltb, eqb}
-use lib.ListN.{getD, replicate}
+use lib.ListN.{length, getD, replicate}
 use Rattle.paper.specs.Count.{all, over}
 use Rattle.job.specs.Fields.{le}
-use Rattle.job.specs.Records.{Layout, layout, blockAt, countOf, walkOk}
+use Rattle.job.specs.Records.{Layout, layout, Rec, fileOf, InOrder, bodies, blockAt, countOf, walkOk}
 
 -- the most bytes of a job file
 abbrev pub fileMost : ℕ
@@ -42,3 +43,20 @@ restOk s settings freezes at owners =
 unfoldable pub fileOk : List ℕ → Bool
 fileOk s =
     walkOk jobLayout fileMost s && restOk s (countOf jobLayout s 0) (countOf jobLayout s 4) (blockAt jobLayout s 5) (countOf jobLayout s 5)
+
+-- ---- the same in the paper's words
+
+-- a sequence of whole records, as many of each kind as there may be
+pub record JobRecords (rs : List Rec) : Type 0 where
+  pub order : InOrder jobLayout rs
+  pub settings : length (bodies 1 rs) ≡ 1
+  pub zero-byte : getD (getD (bodies 1 rs) 0 []) 3 0 ≡ 0
+  pub freezes : length (bodies 5 rs) ≤ 1
+  pub slots-rise : (k : ℕ) → suc k < length (bodies 6 rs) → le 2 (getD (bodies 6 rs) k []) 0 < le 2 (getD (bodies 6 rs) (suc k) []) 0
+
+-- s is the file of such a sequence, and not too long
+pub record JobFile (s : List ℕ) : Type 0 where
+  pub records : List Rec
+  pub right : JobRecords records
+  pub whole : s ≡ fileOf records
+  pub short : length s ≤ fileMost

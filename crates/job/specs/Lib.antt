@@ -4,5 +4,7 @@ pub mod Records
 pub mod File
 pub mod Columns
 pub mod Listing
+pub mod Digits
 pub mod Stages
 pub mod Outcome
+pub mod Heard

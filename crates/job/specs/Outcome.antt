@@ -26,7 +26,8 @@ use Rattle.job.specs.Fields.{le}
 use Rattle.job.specs.File.{jobSizes, jobCounts, jobStarts, fileOk}
 use Rattle.job.specs.Columns.{column, priorsColumn, capacitiesColumn}
 use Rattle.job.specs.Listing.{listed, listingOf, put}
-use Rattle.job.specs.Stages.{countsOk, countsNo, settingsIn, frozenIn, noOf, valueOf, unitsNoOf, unitsValueOf, lowerNo, placed, ownersNo, narrowed}
+use Rattle.job.specs.Stages.{countsOk, countsNo, settingsIn, frozenIn, noOf, valueOf, unitsNoOf, unitsValueOf, lowerNo, placed}
+use Rattle.job.specs.Stages.{ownersNo, narrowed}
 
 -- ---- what is heard and left
 

@@ -2,7 +2,7 @@
 use mathlib.Core.Path.{_≡_}
 use mathlib.Core.Bool.{Bool, true, cond, _&&_}
 use mathlib.Core.List.{List, [], _∷_, _++_}
-use Prim.Native.Nat.{ℕ, zero, suc, _+_, _*_, _≤_, _<_}
+use Prim.Native.Nat.{ℕ, zero, suc, _+_, _-_, _*_, _≤_, _<_}
 use lib.Dec.{leb, eqb}
 use lib.ListN.{length, getD}
 use Rattle.paper.specs.Count.{all}
@@ -37,6 +37,25 @@ pub data Laid (L : Layout) : ℕ → List Rec → Type 0 where
   next : {i : ℕ} {rs : List Rec} → i < L .kinds → Laid L (suc i) rs → Laid L i rs
   more : {i : ℕ} {rs : List Rec} (body : List ℕ) → i < L .kinds → length body ≡ getD (L .sizes) i 0 → Bytes body → Laid L i rs
       → Laid L i (record { kind = L .first + i; body = body } ∷ rs)
+
+-- the same, record by record: a kind of the layout with a body of its size, and no kind below the one before it
+pub record Allowed (L : Layout) (r : Rec) : Type 0 where
+  pub least : L .first ≤ r .kind
+  pub most : r .kind < L .first + L .kinds
+  pub size : length (r .body) ≡ getD (L .sizes) (r .kind - L .first) 0
+  pub bytes : Bytes (r .body)
+
+abbrev pub recordOf : List Rec → ℕ → Rec
+recordOf rs k = getD rs k (record { kind = 0; body = [] })
+
+pub record InOrder (L : Layout) (rs : List Rec) : Type 0 where
+  pub each : (k : ℕ) → k < length rs → Allowed L (recordOf rs k)
+  pub rise : (k : ℕ) → suc k < length rs → recordOf rs k .kind ≤ recordOf rs (suc k) .kind
+
+-- the bodies of the records of a kind, in order
+unfoldable pub bodies : ℕ → List Rec → List (List ℕ)
+bodies kind [] = []
+bodies kind (r ∷ rs) = cond (eqb (r .kind) kind) (r .body ∷ bodies kind rs) (bodies kind rs)
 
 -- ---- what a reader finds
 

@@ -1,4 +1,5 @@
 -- `job::columns::capacities` meets its contract. The invariant: the first k patterns are read. Assumes nothing.
+-- Below, cN is what is known N places before c.
 use borrow.Author.Needs.{needs}
 use mathlib.Core.Path.{_≡_, sym, ap, _∙_}
 use mathlib.Core.Bool.{false}
@@ -14,7 +15,8 @@ use Rattle.job.proofs.columns.capacities.Statement.{statement}
 use Rattle.job.proofs.columns.capacities.Tie as tie
 
 abbrev Inv-loop : tie.InvT-loop
-Inv-loop s at stride n out₀ k₀ out k = (out ≡ overFloats (λ (j : ℕ). ofBits binary64 (le 8 s (at + j * stride))) k (replicate 32 (fin false 0 (pos 0)))) × (k ≤ n)
+Inv-loop s at stride n out₀ k₀ out k = (out ≡ overFloats (λ (j : ℕ). ofBits binary64 (le 8 s (at + j * stride))) k
+    (replicate 32 (fin false 0 (pos 0)))) × (k ≤ n)
 
 abbrev μ-loop : tie.MeasureT-loop
 μ-loop s at stride n out₀ k₀ out k = n - k
@@ -48,7 +50,9 @@ loop-less : tie.Need-loop-less Inv-loop μ-loop
 loop-less c = search needs
 
 loop-again : tie.Need-loop-again Inv-loop μ-loop
-loop-again c = (floats-turn _ _ _ _ _ (c .before .before .before .loop .inv .0) (c .float-of .ensures ∙ ap (ofBits binary64) (c .before .field .ensures .0)), omega arith)
+loop-again c =
+    let c3 = c .before .before .before in
+    (floats-turn _ _ _ _ _ (c3 .loop .inv .0) (c .float-of .ensures ∙ ap (ofBits binary64) (c .before .field .ensures .0)), omega arith)
 
 returns : tie.Need-returns Inv-loop μ-loop
 unfolding capacitiesColumn

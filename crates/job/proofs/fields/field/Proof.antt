@@ -42,7 +42,12 @@ cast-value c = omega (arith, c .shared-slice-known .given (c .before .before .be
 add-value-2 : tie.Need-add-value-2 Inv-loop μ-loop
 add-value-2 c =
     let l = c .before .before in
-    omega (arith, narrower _ (l .before .args .width - l .loop .left) 7 (l .loop .inv .1) (omega arith), c .shared-slice-known .given (l .before .args .at + (l .loop .left - 1)))
+    omega (
+      arith,
+      narrower _ (l .before .args .width - l .loop .left) 7 (l .loop .inv .1) (omega arith),
+      c .shared-slice-known .given
+          (l .before .args .at + (l .loop .left - 1)),
+    )
 
 loop-less : tie.Need-loop-less Inv-loop μ-loop
 loop-less c = search needs
@@ -51,7 +56,8 @@ loop-again : tie.Need-loop-again Inv-loop μ-loop
 loop-again c =
     let l = c .before .before in
     let a = l .before .args in
-    let b : getD (a .s .now) (a .at + (l .loop .left - 1)) 0 < 256 = omega (arith, c .shared-slice-known .given (a .at + (l .loop .left - 1))) in
+    let b : getD (a .s .now) (a .at + (l .loop .left - 1)) 0 < 256 = omega
+    (arith, c .shared-slice-known .given (a .at + (l .loop .left - 1))) in
     let p : a .width - (l .loop .left - 1) ≡ suc (a .width - l .loop .left) = omega arith in
     (le-turn _ _ _ _ _ (omega arith) (omega arith) (l .loop .inv .0), rw p (wider _ _ _ (l .loop .inv .1) b), omega arith)
 

@@ -1,4 +1,5 @@
 -- `job::file::read_file` meets its contract. Assumes nothing.
+-- Below, cN is what is known N places before c.
 use borrow.Author.Needs.{needs}
 use mathlib.Core.Path.{_≡_, sym, ap, _∙_}
 use mathlib.Core.Bool.{Bool, _&&_}
@@ -29,18 +30,24 @@ array-read-rest-ok-4 c = search needs
 rest-ok-requires : tie.Need-rest-ok-requires
 unfolding jobCounts jobStarts
 rest-ok-requires c κs =
+    let c4 = c .before .before .before .before in
     let w = c .before .before .walk .ensures .1 in
-    let s = c .before .before .before .before .args .s .now in
-    owners-end s _ _ (ap (λ (l : List ℕ). getD l 5 0) (w .1) ∙ start-at s 5 (lit< tt)) (ap (λ (l : List ℕ). getD l 5 0) (w .0) ∙ count-at s 5 (lit< tt))
+    let s = c4 .args .s .now in
+    owners-end s _ _ (ap (λ (l : List ℕ). getD l 5 0) (w .1) ∙ start-at s 5 (lit< tt))
+    (ap (λ (l : List ℕ). getD l 5 0) (w .0) ∙ count-at s 5 (lit< tt))
 
 returns : tie.Need-returns
 unfolding jobCounts jobStarts
 returns c =
-    let w = c .before .before .before .before .walk .ensures in
-    let s = c .before .before .before .before .before .before .args .s .now in (
+    let c4 = c .before .before .before .before in
+    let c6 = c4 .before .before in
+    let w = c4 .walk .ensures in
+    let s = c6 .args .s .now in (
       sym (ap (λ (b : Bool). b && c .before .rest-ok .result) (c .if1 .taken)) ∙ file-ok s _ _ _ _ _ _ (w .0)
-          (ap (λ (l : List ℕ). getD l 0 0) (w .1 .0) ∙ count-at s 0 (lit< tt)) (ap (λ (l : List ℕ). getD l 4 0) (w .1 .0) ∙ count-at s 4 (lit< tt))
-          (ap (λ (l : List ℕ). getD l 5 0) (w .1 .1) ∙ start-at s 5 (lit< tt)) (ap (λ (l : List ℕ). getD l 5 0) (w .1 .0) ∙ count-at s 5 (lit< tt))
+          (ap (λ (l : List ℕ). getD l 0 0) (w .1 .0) ∙ count-at s 0 (lit< tt))
+          (ap (λ (l : List ℕ). getD l 4 0) (w .1 .0) ∙ count-at s 4 (lit< tt))
+          (ap (λ (l : List ℕ). getD l 5 0) (w .1 .1) ∙ start-at s 5 (lit< tt))
+          (ap (λ (l : List ℕ). getD l 5 0) (w .1 .0) ∙ count-at s 5 (lit< tt))
           (c .before .rest-ok .ensures),
       w .1,
     )
@@ -48,11 +55,15 @@ returns c =
 returns-2 : tie.Need-returns-2
 unfolding jobCounts jobStarts
 returns-2 c =
-    let w = c .before .before .before .before .walk .ensures in
-    let s = c .before .before .before .before .before .before .args .s .now in (
+    let c4 = c .before .before .before .before in
+    let c6 = c4 .before .before in
+    let w = c4 .walk .ensures in
+    let s = c6 .args .s .now in (
       sym (ap (λ (b : Bool). b && c .before .rest-ok .result) (c .if1 .left)) ∙ file-ok s _ _ _ _ _ _ (w .0)
-          (ap (λ (l : List ℕ). getD l 0 0) (w .1 .0) ∙ count-at s 0 (lit< tt)) (ap (λ (l : List ℕ). getD l 4 0) (w .1 .0) ∙ count-at s 4 (lit< tt))
-          (ap (λ (l : List ℕ). getD l 5 0) (w .1 .1) ∙ start-at s 5 (lit< tt)) (ap (λ (l : List ℕ). getD l 5 0) (w .1 .0) ∙ count-at s 5 (lit< tt))
+          (ap (λ (l : List ℕ). getD l 0 0) (w .1 .0) ∙ count-at s 0 (lit< tt))
+          (ap (λ (l : List ℕ). getD l 4 0) (w .1 .0) ∙ count-at s 4 (lit< tt))
+          (ap (λ (l : List ℕ). getD l 5 0) (w .1 .1) ∙ start-at s 5 (lit< tt))
+          (ap (λ (l : List ℕ). getD l 5 0) (w .1 .0) ∙ count-at s 5 (lit< tt))
           (c .before .rest-ok .ensures),
       w .1,
     )

@@ -1,4 +1,5 @@
 -- `job::file::rest_ok` meets its contract. Assumes nothing.
+-- Below, cN is what is known N places before c.
 use borrow.Author.Needs.{needs}
 use mathlib.Core.Path.{sym, _∙_}
 use Rattle.job.proofs.Files.{rest-last, rest-byte, rest-freezes, rest-settings}
@@ -13,11 +14,15 @@ slots-rise-requires c κs = search needs
 
 returns : tie.Need-returns
 returns c =
+    let c3 = c .before .before .before in
+    let c4 = c3 .before in
     let z = c .before .before .byte-at .ensures in
-    rest-last _ _ _ _ _ _ (c .before .before .before .before .if1 .taken) (c .before .before .before .if2 .taken) (sym z ∙ c .before .if3 .taken) (c .slots-rise .ensures)
+    rest-last _ _ _ _ _ _ (c4 .if1 .taken) (c3 .if2 .taken) (sym z ∙ c .before .if3 .taken) (c .slots-rise .ensures)
 
 returns-2 : tie.Need-returns-2
-returns-2 c = rest-byte _ _ _ _ _ (c .before .before .before .if1 .taken) (c .before .before .if2 .taken) (λ e. c .if3 .left (c .before .byte-at .ensures ∙ e))
+returns-2 c =
+    let c3 = c .before .before .before in
+    rest-byte _ _ _ _ _ (c3 .if1 .taken) (c .before .before .if2 .taken) (λ e. c .if3 .left (c .before .byte-at .ensures ∙ e))
 
 returns-3 : tie.Need-returns-3
 returns-3 c = rest-freezes _ _ _ _ _ (c .before .if1 .taken) (c .if2 .left)

@@ -1,4 +1,5 @@
 -- `job::file::slots_rise` meets its contract. The invariant: the slots rise up to record k. Assumes nothing.
+-- Below, cN is what is known N places before c.
 use borrow.Author.Needs.{needs}
 use mathlib.Core.Path.{_≡_, sym, ap, _∙_}
 use mathlib.Core.Bool.{true}
@@ -66,7 +67,8 @@ loop-again c =
 returns : tie.Need-returns Inv-loop μ-loop
 unfolding ownerSlot
 returns c =
-    rise-fails _ _ _ _ _ _ (c .before .before .before .loop-test .taken) (c .before .before .field .ensures .0) (c .before .field2 .ensures .0) (c .if1 .left)
+    let c3 = c .before .before .before in
+    rise-fails _ _ _ _ _ _ (c3 .loop-test .taken) (c .before .before .field .ensures .0) (c .before .field2 .ensures .0) (c .if1 .left)
 
 returns-2 : tie.Need-returns-2 Inv-loop μ-loop
 returns-2 c = rise-done _ _ _ _ (c .before .loop .inv .1) (c .loop-test .left) (c .before .loop .inv .0)

@@ -1,4 +1,5 @@
 -- `job::listing::put_number` meets its contract: the digits of a tenth, then the last digit. Assumes nothing.
+-- Below, cN is what is known N places before c.
 use mathlib.Core.Path.{_≡_, sym, ap, subst}
 use mathlib.Core.List.{List, [], _∷_}
 use borrow.Author.Needs.{needs}
@@ -65,7 +66,9 @@ put-number-returns : (t : ℕ) → put-number-lts.Need-returns (
   put-number-below t,
   put-number.Post,
 ) (put-number-at t) put-number.Post
-put-number-returns t c = wrote-same (sym (digits-small _ (c .before .before .before .before .if1 .taken))) (c .before .before .put-byte .ensures)
+put-number-returns t c =
+    let c4 = c .before .before .before .before in
+    wrote-same (sym (digits-small _ (c4 .if1 .taken))) (c .before .before .put-byte .ensures)
 
 put-number-put-number-requires : (t : ℕ) → put-number-lts.Need-put-number-requires (
   put-byte-reads.Asked,
@@ -77,7 +80,13 @@ put-number-put-number-requires t c κs =
     let s = c .before .before .before in
     let n = s .args .n in (
       omega (arith, s .pre .0, c .before .if1 .left),
-      omega (arith, s .pre .1, ap length (digits-more n (c .before .if1 .left) (omega (arith, s .fits .n))), length-append (digits (n / 10)) ((48 + n % 10) ∷ [])),
+      omega (
+        arith,
+        s .pre .1,
+        ap length (digits-more n (c .before .if1 .left) (omega (arith, s .fits .n))),
+        length-append
+            (digits (n / 10)) ((48 + n % 10) ∷ []),
+      ),
     )
 
 put-number-cast-put-byte-2 : (t : ℕ) → put-number-lts.Need-cast-put-byte-2 (
@@ -119,11 +128,13 @@ put-number-same-length-2 : (t : ℕ) → put-number-lts.Need-same-length-2 (
   put-number.Post,
 ) (put-number-at t) put-number.Post
 put-number-same-length-2 t c =
-    let s = c .before .before .before .before .before .before .before .before .before .before in
+    let c6 = c .before .before .before .before .before .before in
+    let c8 = c6 .before .before in
+    let s = c8 .before .before in
     let n = s .args .n in
-    let e = digits-more n (c .before .before .before .before .before .before .before .before .if1 .left) (omega (arith, s .fits .n)) in
+    let e = digits-more n (c8 .if1 .left) (omega (arith, s .fits .n)) in
     let r = subst (λ (l : List ℕ). s .args .at + length l ≤ length (s .args .out .now)) e (s .pre .1) in
-    wrote-length (wrote-both (c .before .before .before .before .before .before .put-number .ensures) (c .before .before .put-byte2 .ensures) r) r
+    wrote-length (wrote-both (c6 .put-number .ensures) (c .before .before .put-byte2 .ensures) r) r
 
 put-number-returns-2 : (t : ℕ) → put-number-lts.Need-returns-2 (
   put-byte-reads.Asked,
@@ -132,11 +143,13 @@ put-number-returns-2 : (t : ℕ) → put-number-lts.Need-returns-2 (
   put-number.Post,
 ) (put-number-at t) put-number.Post
 put-number-returns-2 t c =
-    let s = c .before .before .before .before .before .before .before .before .before .before in
+    let c6 = c .before .before .before .before .before .before in
+    let c8 = c6 .before .before in
+    let s = c8 .before .before in
     let n = s .args .n in
-    let e = digits-more n (c .before .before .before .before .before .before .before .before .if1 .left) (omega (arith, s .fits .n)) in
+    let e = digits-more n (c8 .if1 .left) (omega (arith, s .fits .n)) in
     let r = subst (λ (l : List ℕ). s .args .at + length l ≤ length (s .args .out .now)) e (s .pre .1) in
-    wrote-same (sym e) (wrote-both (c .before .before .before .before .before .before .put-number .ensures) (c .before .before .put-byte2 .ensures) r)
+    wrote-same (sym e) (wrote-both (c6 .put-number .ensures) (c .before .before .put-byte2 .ensures) r)
 
 pub +put-number-spec : {M : Type 1} → statement M
 +put-number-spec = close μ-put-number λ t. put-number-lts.spec (

@@ -1,4 +1,5 @@
 -- `job::listing::put_draw` meets its contract. Assumes nothing.
+-- Below, cN is what is known N places before c.
 use borrow.Author.Needs.{needs}
 use mathlib.Core.List.{List, [], _∷_, _++_}
 use native.Mathlib.Omega.{arith}
@@ -22,14 +23,26 @@ put-head-requires c κs =
 put-byte-requires : tie.Need-put-byte-requires
 unfolding drawLine
 put-byte-requires c κs =
-    let s = c .before .before .before .before .before .before .before in
-    omega (arith, (room-next (answerLetter (s .args .answer) ∷ [] ++ (10 ∷ [])) (c .before .before .before .put-head .ensures) (s .pre)), length-append (answerLetter (s .args .answer) ∷ []) (10 ∷ []))
+    let c3 = c .before .before .before in
+    let s = c3 .before .before .before .before in
+    omega (
+      arith,
+      (room-next (answerLetter (s .args .answer) ∷ [] ++ (10 ∷ [])) (c3 .put-head .ensures) (s .pre)),
+      length-append
+          (answerLetter (s .args .answer) ∷ []) (10 ∷ []),
+    )
 
 put-byte-requires-2 : tie.Need-put-byte-requires-2
 unfolding drawLine
 put-byte-requires-2 c κs =
-    let s = c .before .before .before .before .before .before .before .before .before .before .before in
-    omega (arith, (room-next (10 ∷ []) (c .before .before .before .put-byte .ensures) (room-next (answerLetter (s .args .answer) ∷ [] ++ (10 ∷ [])) (c .before .before .before .before .before .before .before .put-head .ensures) (s .pre))))
+    let c3 = c .before .before .before in
+    let c7 = c3 .before .before .before .before in
+    let s = c7 .before .before .before .before in
+    omega (
+      arith,
+      (room-next (10 ∷ []) (c3 .put-byte .ensures)
+          (room-next (answerLetter (s .args .answer) ∷ [] ++ (10 ∷ [])) (c7 .put-head .ensures) (s .pre))),
+    )
 
 same-length : tie.Need-same-length
 same-length c = search needs
@@ -37,13 +50,17 @@ same-length c = search needs
 returns : tie.Need-returns
 unfolding drawLine
 returns c =
-    let s = c .before .before .before .before .before .before .before .before .before .before .before .before .before .before in
-    let e = c .before .before .before .before .before .before .before .before .before .before .before .before .letter-of .ensures in
-    let letter = c .before .before .before .before .before .before .before .before .before .before .before .before .letter-of .result in
-    let r = subst (λ (x : ℕ). s .args .at + length (headText 68 (s .args .d) 32 ++ (x ∷ [] ++ (10 ∷ []))) ≤ length (s .args .out .now)) (sym e) (s .pre) in
+    let c6 = c .before .before .before .before .before .before in
+    let c10 = c6 .before .before .before .before in
+    let c12 = c10 .before .before in
+    let s = c12 .before .before in
+    let e = c12 .letter-of .ensures in
+    let letter = c12 .letter-of .result in
+    let r = subst (λ (x : ℕ). s .args .at + length (headText 68 (s .args .d) 32 ++ (x ∷ [] ++ (10 ∷ []))) ≤ length (s .args .out .now))
+    (sym e) (s .pre) in
     wrote-same (ap (λ (x : ℕ). headText 68 (s .args .d) 32 ++ (x ∷ [] ++ (10 ∷ []))) e)
-    (wrote-both (c .before .before .before .before .before .before .before .before .before .before .put-head .ensures) (wrote-both (c .before .before .before .before .before .before .put-byte .ensures) (c .before .before .put-byte2 .ensures)
-    (room-next (letter ∷ [] ++ (10 ∷ [])) (c .before .before .before .before .before .before .before .before .before .before .put-head .ensures) r)) r)
+    (wrote-both (c10 .put-head .ensures) (wrote-both (c6 .put-byte .ensures) (c .before .before .put-byte2 .ensures)
+    (room-next (letter ∷ [] ++ (10 ∷ [])) (c10 .put-head .ensures) r)) r)
 
 pub put-draw-spec : {M : Type 1} → statement M
 put-draw-spec =

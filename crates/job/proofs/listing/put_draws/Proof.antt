@@ -1,4 +1,5 @@
 -- `job::listing::put_draws` meets its contract. The invariant: the lines of the first k draws are written. Assumes nothing.
+-- Below, cN is what is known N places before c.
 use borrow.Author.Needs.{needs}
 use mathlib.Core.Path.{_≡_}
 use Prim.Native.Nat.{ℕ, _+_, _-_, _*_, _≤_, _<_, _^_}
@@ -24,8 +25,9 @@ shared-slice-read-put-draw c = omega (arith, c .before .before .before .before .
 put-draw-requires : tie.Need-put-draw-requires Inv-loop μ-loop
 unfolding drawAt
 put-draw-requires c κs =
-    let s = c .before .before .before .before .before .before in
-    going-room (c .before .before .before .loop .inv .0) (s .args .n) (omega arith) (s .pre .1) (draw-line-le _ _ (omega (arith, s .pre .0)))
+    let c3 = c .before .before .before in
+    let s = c3 .before .before .before in
+    going-room (c3 .loop .inv .0) (s .args .n) (omega arith) (s .pre .1) (draw-line-le _ _ (omega (arith, s .pre .0)))
 
 add-k : tie.Need-add-k Inv-loop μ-loop
 add-k c = search needs
@@ -36,8 +38,9 @@ loop-less c = search needs
 loop-again : tie.Need-loop-again Inv-loop μ-loop
 unfolding drawAt
 loop-again c =
-    let s = c .before .before .before .before .before .before .before .before .before in (
-      going-more (c .before .before .before .before .before .before .loop .inv .0) (c .before .before .put-draw .ensures) (s .args .n) (omega arith) (s .pre .1)
+    let c6 = c .before .before .before .before .before .before in
+    let s = c6 .before .before .before in (
+      going-more (c6 .loop .inv .0) (c .before .before .put-draw .ensures) (s .args .n) (omega arith) (s .pre .1)
           (draw-line-le _ _ (omega (arith, s .pre .0))),
       omega arith,
     )

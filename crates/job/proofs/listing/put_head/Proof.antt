@@ -1,4 +1,5 @@
 -- `job::listing::put_head` meets its contract. Assumes nothing.
+-- Below, cN is what is known N places before c.
 use mathlib.Core.List.{List, [], _∷_, _++_}
 use native.Mathlib.Omega.{arith}
 use Rattle.job.specs.Listing.{digits, headText}
@@ -20,23 +21,31 @@ put-byte-requires-2 c κs =
 put-number-then-requires : tie.Need-put-number-then-requires
 unfolding headText
 put-number-then-requires c κs =
-    let s = c .before .before .before .before .before .before .before .before .before .before in
+    let c3 = c .before .before .before in
+    let c7 = c3 .before .before .before .before in
+    let s = c7 .before .before .before in
     let n = digits (s .args .n) ++ (s .args .last ∷ []) in
-    room-next (n) (c .before .before .before .put-byte2 .ensures) (room-next (32 ∷ n) (c .before .before .before .before .before .before .before .put-byte .ensures) (s .pre))
+    room-next (n) (c3 .put-byte2 .ensures) (room-next (32 ∷ n) (c7 .put-byte .ensures) (s .pre))
 
 same-length : tie.Need-same-length
 unfolding headText
 same-length c =
-    let s = c .before .before .before .before .before .before .before .before .before .before .before .before .before in
+    let c6 = c .before .before .before .before .before .before in
+    let c10 = c6 .before .before .before .before in
+    let s = c10 .before .before .before in
     let n = digits (s .args .n) ++ (s .args .last ∷ []) in
-    wrote-length (wrote-both (c .before .before .before .before .before .before .before .before .before .before .put-byte .ensures) (wrote-both (c .before .before .before .before .before .before .put-byte2 .ensures) (c .before .before .put-number-then .ensures) (room-next (32 ∷ n) (c .before .before .before .before .before .before .before .before .before .before .put-byte .ensures) (s .pre))) (s .pre)) (s .pre)
+    wrote-length (wrote-both (c10 .put-byte .ensures) (wrote-both (c6 .put-byte2 .ensures) (c .before .before .put-number-then .ensures)
+    (room-next (32 ∷ n) (c10 .put-byte .ensures) (s .pre))) (s .pre)) (s .pre)
 
 returns : tie.Need-returns
 unfolding headText
 returns c =
-    let s = c .before .before .before .before .before .before .before .before .before .before .before .before .before in
+    let c6 = c .before .before .before .before .before .before in
+    let c10 = c6 .before .before .before .before in
+    let s = c10 .before .before .before in
     let n = digits (s .args .n) ++ (s .args .last ∷ []) in
-    wrote-both (c .before .before .before .before .before .before .before .before .before .before .put-byte .ensures) (wrote-both (c .before .before .before .before .before .before .put-byte2 .ensures) (c .before .before .put-number-then .ensures) (room-next (32 ∷ n) (c .before .before .before .before .before .before .before .before .before .before .put-byte .ensures) (s .pre))) (s .pre)
+    wrote-both (c10 .put-byte .ensures) (wrote-both (c6 .put-byte2 .ensures) (c .before .before .put-number-then .ensures)
+    (room-next (32 ∷ n) (c10 .put-byte .ensures) (s .pre))) (s .pre)
 
 pub put-head-spec : {M : Type 1} → statement M
 put-head-spec =

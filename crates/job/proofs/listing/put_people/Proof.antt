@@ -1,4 +1,5 @@
 -- `job::listing::put_people` meets its contract. The invariant: the lines of the first k people are written. Assumes nothing.
+-- Below, cN is what is known N places before c.
 use borrow.Author.Needs.{needs}
 use Prim.Native.Nat.{ℕ, _+_, _-_, _*_, _≤_, _<_, _^_}
 use native.Mathlib.Omega.{arith}
@@ -37,12 +38,14 @@ shared-slice-read-put-person c = omega (arith, c .before .before .before .before
 put-person-requires : tie.Need-put-person-requires Inv-loop μ-loop
 unfolding personAt
 put-person-requires c κs =
-    let s = c .before .before .before .before .before .before .before in
-    let k = c .before .before .before .before .loop .k in
+    let c4 = c .before .before .before .before in
+    let s = c4 .before .before .before in
+    let k = c4 .loop .k in
     let z = getD (s .args .targets .now) k (pos 0) in
     let f : SFits w64 (getD (s .args .targets .now) k (pos 0)) = search needs in
     let m : getD (s .args .minutes .now) k 0 < 2 ^ 64 = omega (arith, c .shared-slice-known2 .given k) in
-    let r = going-room (c .before .before .before .before .loop .inv .0) (s .args .n) (omega arith) (s .pre .1) (person-line-le k _ _ (omega (arith, s .pre .0)) m (f .sfits)) in
+    let r = going-room (c4 .loop .inv .0) (s .args .n) (omega arith) (s .pre .1)
+    (person-line-le k _ _ (omega (arith, s .pre .0)) m (f .sfits)) in
     omega (arith, r, ap (λ (y : ℤ). length (personLine k (getD (s .args .minutes .now) k 0) y)) (toZ-ofZ w64 z f))
 
 add-k : tie.Need-add-k Inv-loop μ-loop
@@ -54,12 +57,15 @@ loop-less c = search needs
 loop-again : tie.Need-loop-again Inv-loop μ-loop
 unfolding personAt
 loop-again c =
-    let s = c .before .before .before .before .before .before .before .before .before .before in
-    let k = c .before .before .before .before .before .before .before .loop .k in
+    let c3 = c .before .before .before in
+    let c7 = c3 .before .before .before .before in
+    let s = c7 .before .before .before in
+    let k = c7 .loop .k in
     let z = getD (s .args .targets .now) k (pos 0) in
     let f : SFits w64 (getD (s .args .targets .now) k (pos 0)) = search needs in
-    let m : getD (s .args .minutes .now) k 0 < 2 ^ 64 = omega (arith, c .before .before .before .shared-slice-known2 .given k) in (
-      going-more (c .before .before .before .before .before .before .before .loop .inv .0) (wrote-same (ap (personLine k (getD (s .args .minutes .now) k 0)) (toZ-ofZ w64 z f)) (c .before .before .put-person .ensures))
+    let m : getD (s .args .minutes .now) k 0 < 2 ^ 64 = omega (arith, c3 .shared-slice-known2 .given k) in (
+      going-more (c7 .loop .inv .0) (wrote-same (ap (personLine k (getD (s .args .minutes .now) k 0)) (toZ-ofZ w64 z f))
+          (c .before .before .put-person .ensures))
           (s .args .n) (omega arith) (s .pre .1) (person-line-le k _ _ (omega (arith, s .pre .0)) m (f .sfits)),
       omega arith,
     )

@@ -1,4 +1,5 @@
 -- `job::listing::put_slots` meets its contract. The invariant: the lines of the first k slots are written. Assumes nothing.
+-- Below, cN is what is known N places before c.
 use borrow.Author.Needs.{needs}
 use mathlib.Core.Path.{_≡_}
 use Prim.Native.Nat.{ℕ, _+_, _-_, _*_, _≤_, _<_, _^_}
@@ -36,12 +37,13 @@ shared-slice-read-put-slot-3 c = omega (arith, c .before .before .before .before
 put-slot-requires : tie.Need-put-slot-requires Inv-loop μ-loop
 unfolding slotAt
 put-slot-requires c κs =
-    let s = c .before .before .before .before .before .before .before .before .before .before in
-    let k = c .before .before .before .before .before .loop .k in
+    let c5 = c .before .before .before .before .before in
+    let s = c5 .before .before .before .before .before in
+    let k = c5 .loop .k in
     let a : getD (s .args .starts .now) k 0 < 2 ^ 32 = omega (arith, c .before .before .shared-slice-known4 .given k) in
     let e : getD (s .args .ends .now) k 0 < 2 ^ 32 = omega (arith, c .before .shared-slice-known5 .given k) in
     let w : getD (s .args .owners .now) k 0 < 256 = omega (arith, c .shared-slice-known6 .given k) in
-    going-room (c .before .before .before .before .before .loop .inv .0) (s .args .n) (omega arith) (s .pre .1) (slot-line-le k _ _ _ (omega (arith, s .pre .0)) a e w)
+    going-room (c5 .loop .inv .0) (s .args .n) (omega arith) (s .pre .1) (slot-line-le k _ _ _ (omega (arith, s .pre .0)) a e w)
 
 add-k : tie.Need-add-k Inv-loop μ-loop
 add-k c = search needs
@@ -52,12 +54,16 @@ loop-less c = search needs
 loop-again : tie.Need-loop-again Inv-loop μ-loop
 unfolding slotAt
 loop-again c =
-    let s = c .before .before .before .before .before .before .before .before .before .before .before .before .before in
-    let k = c .before .before .before .before .before .before .before .before .loop .k in
-    let a : getD (s .args .starts .now) k 0 < 2 ^ 32 = omega (arith, c .before .before .before .before .before .shared-slice-known4 .given k) in
-    let e : getD (s .args .ends .now) k 0 < 2 ^ 32 = omega (arith, c .before .before .before .before .shared-slice-known5 .given k) in
-    let w : getD (s .args .owners .now) k 0 < 256 = omega (arith, c .before .before .before .shared-slice-known6 .given k) in (
-      going-more (c .before .before .before .before .before .before .before .before .loop .inv .0) (c .before .before .put-slot .ensures) (s .args .n) (omega arith) (s .pre .1)
+    let c3 = c .before .before .before in
+    let c4 = c3 .before in
+    let c5 = c4 .before in
+    let c8 = c5 .before .before .before in
+    let s = c8 .before .before .before .before .before in
+    let k = c8 .loop .k in
+    let a : getD (s .args .starts .now) k 0 < 2 ^ 32 = omega (arith, c5 .shared-slice-known4 .given k) in
+    let e : getD (s .args .ends .now) k 0 < 2 ^ 32 = omega (arith, c4 .shared-slice-known5 .given k) in
+    let w : getD (s .args .owners .now) k 0 < 256 = omega (arith, c3 .shared-slice-known6 .given k) in (
+      going-more (c8 .loop .inv .0) (c .before .before .put-slot .ensures) (s .args .n) (omega arith) (s .pre .1)
           (slot-line-le k _ _ _ (omega (arith, s .pre .0)) a e w),
       omega arith,
     )
@@ -67,9 +73,10 @@ same-length c = c .before .loop .inv .0 .same
 
 returns : tie.Need-returns Inv-loop μ-loop
 returns c =
+    let c6 = c .before .before .before .before .before .before in
     let g = c .before .loop .inv .0 in
-    let e : c .before .loop .k ≡ c .before .before .before .before .before .before .args .n = omega arith in
-    (going-end g (c .before .before .before .before .before .before .args .n) e, going-bound g (c .before .before .before .before .before .before .args .n) e)
+    let e : c .before .loop .k ≡ c6 .args .n = omega arith in
+    (going-end g (c6 .args .n) e, going-bound g (c6 .args .n) e)
 
 pub put-slots-spec : {M : Type 1} → statement M
 put-slots-spec =

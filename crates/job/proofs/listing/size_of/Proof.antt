@@ -13,7 +13,11 @@ sub-result : tie.Need-sub-result
 sub-result c = turned-fits (c .before .args .t) (c .before .fits .t) (c .if1 .taken)
 
 cast-result : tie.Need-cast-result
-cast-result c = (turned-whole (c .before .args .t) (c .before .fits .t) (c .if1 .taken), omega (arith, size-below (c .before .args .t) (c .before .fits .t) (c .if1 .taken)))
+cast-result c = (
+  turned-whole (c .before .args .t) (c .before .fits .t) (c .if1 .taken),
+  omega
+      (arith, size-below (c .before .args .t) (c .before .fits .t) (c .if1 .taken)),
+)
 
 add-result-2 : tie.Need-add-result-2
 add-result-2 c = omega (arith, size-below (c .before .args .t) (c .before .fits .t) (c .if1 .taken))

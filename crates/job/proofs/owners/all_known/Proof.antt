@@ -1,4 +1,5 @@
 -- `job::owners::all_known` meets its contract. The invariant: the first k records are right. Assumes nothing.
+-- Below, cN is what is known N places before c.
 use borrow.Author.Needs.{needs}
 use mathlib.Core.Path.{_≡_, sym, _∙_}
 use mathlib.Core.Bool.{true}
@@ -29,7 +30,9 @@ loop-less : tie.Need-loop-less Inv-loop μ-loop
 loop-less c = search needs
 
 loop-again : tie.Need-loop-again Inv-loop μ-loop
-loop-again c = (all-more _ _ (c .before .before .before .loop .inv .0) (sym (c .before .record-known .ensures) ∙ c .if1 .taken), omega arith)
+loop-again c =
+    let c3 = c .before .before .before in
+    (all-more _ _ (c3 .loop .inv .0) (sym (c .before .record-known .ensures) ∙ c .if1 .taken), omega arith)
 
 returns : tie.Need-returns Inv-loop μ-loop
 unfolding allKnown

@@ -1,4 +1,5 @@
 -- `job::owners::narrow` meets its contract. The invariant: the first k owners are bytes. Assumes nothing.
+-- Below, cN is what is known N places before c.
 use borrow.Author.Needs.{needs}
 use mathlib.Core.Path.{_≡_, refl, sym, ap, _∙_}
 use mathlib.Core.Bool.{cond}
@@ -16,7 +17,8 @@ use Rattle.job.proofs.owners.narrow.Statement.{statement}
 use Rattle.job.proofs.owners.narrow.Tie as tie
 
 abbrev Inv-loop : tie.InvT-loop
-Inv-loop owners out₀ k₀ out k = (out ≡ over (λ (j : ℕ). cond (ltb (getD owners j 0) 256) (getD owners j 0) 255) k (replicate 1024 0)) × (k ≤ 1024)
+Inv-loop owners out₀ k₀ out k = (out ≡ over (λ (j : ℕ). cond (ltb (getD owners j 0) 256) (getD owners j 0) 255) k (replicate 1024 0)) ×
+    (k ≤ 1024)
 
 abbrev μ-loop : tie.MeasureT-loop
 μ-loop owners out₀ k₀ out k = 1024 - k
@@ -40,7 +42,13 @@ loop-less : tie.Need-loop-less Inv-loop μ-loop
 loop-less c = search needs
 
 loop-again : tie.Need-loop-again Inv-loop μ-loop
-loop-again c = (over-turn _ _ _ _ _ (c .before .before .before .loop .inv .0) (narrow-same (c .before .before .before .before .before .args .owners .now) (c .before .before .before .loop .k) _ (c .before .entry16 .ensures) (c .if1 .taken)), omega arith)
+loop-again c =
+    let c3 = c .before .before .before in
+    let c5 = c3 .before .before in (
+      over-turn _ _ _ _ _ (c3 .loop .inv .0) (narrow-same (c5 .args .owners .now) (c3 .loop .k) _ (c .before .entry16 .ensures)
+          (c .if1 .taken)),
+      omega arith,
+    )
 
 array-write-out-2 : tie.Need-array-write-out-2 Inv-loop μ-loop
 array-write-out-2 c = search needs
@@ -52,7 +60,13 @@ loop-less-2 : tie.Need-loop-less-2 Inv-loop μ-loop
 loop-less-2 c = search needs
 
 loop-again-2 : tie.Need-loop-again-2 Inv-loop μ-loop
-loop-again-2 c = (over-turn _ _ _ _ _ (c .before .before .before .loop .inv .0) (narrow-nobody (c .before .before .before .before .before .args .owners .now) (c .before .before .before .loop .k) _ (c .before .entry16 .ensures) (c .if1 .left)), omega arith)
+loop-again-2 c =
+    let c3 = c .before .before .before in
+    let c5 = c3 .before .before in (
+      over-turn _ _ _ _ _ (c3 .loop .inv .0) (narrow-nobody (c5 .args .owners .now) (c3 .loop .k) _ (c .before .entry16 .ensures)
+          (c .if1 .left)),
+      omega arith,
+    )
 
 returns : tie.Need-returns Inv-loop μ-loop
 unfolding narrowed

@@ -1,4 +1,5 @@
 -- `job::owners::owners_no` meets its contract. Assumes nothing.
+-- Below, cN is what is known N places before c.
 use borrow.Author.Needs.{needs}
 use mathlib.Core.Path.{sym, _∙_}
 use Rattle.job.specs.Stages.{allKnown, ownersNo}
@@ -14,11 +15,15 @@ all-known-requires c κs = search needs
 
 returns : tie.Need-returns
 unfolding ownersNo
-returns c = owners-link _ _ .0 (sym (c .before .before .before .all-even .ensures) ∙ c .before .before .if1 .taken) (sym (c .before .all-known .ensures) ∙ c .if2 .taken)
+returns c =
+    let c3 = c .before .before .before in
+    owners-link _ _ .0 (sym (c3 .all-even .ensures) ∙ c .before .before .if1 .taken) (sym (c .before .all-known .ensures) ∙ c .if2 .taken)
 
 returns-2 : tie.Need-returns-2
 unfolding ownersNo
-returns-2 c = owners-link _ _ .1 (sym (c .before .before .before .all-even .ensures) ∙ c .before .before .if1 .taken) (sym (c .before .all-known .ensures) ∙ c .if2 .left)
+returns-2 c =
+    let c3 = c .before .before .before in
+    owners-link _ _ .1 (sym (c3 .all-even .ensures) ∙ c .before .before .if1 .taken) (sym (c .before .all-known .ensures) ∙ c .if2 .left)
 
 returns-3 : tie.Need-returns-3
 unfolding ownersNo

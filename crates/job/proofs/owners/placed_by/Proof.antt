@@ -1,4 +1,5 @@
 -- `job::owners::placed_by` meets its contract. The invariant: the first k records are placed. Assumes nothing.
+-- Below, cN is what is known N places before c.
 use borrow.Author.Needs.{needs}
 use mathlib.Core.Path.{_≡_, refl, sym, ap, _∙_}
 use Prim.Native.Nat.{ℕ, _+_, _-_, _*_, _≤_, _<_}
@@ -60,7 +61,11 @@ loop-less c = search needs
 loop-again : tie.Need-loop-again Inv-loop μ-loop
 unfolding ownerSlot ownerValue
 loop-again c =
-    (placed-more _ _ _ _ _ _ _ (c .before .before .before .before .loop .inv .0) (c .before .before .field .ensures .0) (c .before .field2 .ensures .0) (c .if1 .taken), omega arith)
+    let c4 = c .before .before .before .before in (
+      placed-more _ _ _ _ _ _ _ (c4 .loop .inv .0) (c .before .before .field .ensures .0) (c .before .field2 .ensures .0)
+          (c .if1 .taken),
+      omega arith,
+    )
 
 add-k-2 : tie.Need-add-k-2 Inv-loop μ-loop
 add-k-2 c = search needs
@@ -71,7 +76,8 @@ loop-less-2 c = search needs
 loop-again-2 : tie.Need-loop-again-2 Inv-loop μ-loop
 unfolding ownerSlot
 loop-again-2 c =
-    (placed-not _ _ _ _ _ _ (c .before .before .before .before .loop .inv .0) (c .before .before .field .ensures .0) (c .if1 .left), omega arith)
+    let c4 = c .before .before .before .before in
+    (placed-not _ _ _ _ _ _ (c4 .loop .inv .0) (c .before .before .field .ensures .0) (c .if1 .left), omega arith)
 
 returns : tie.Need-returns Inv-loop μ-loop
 returns c =

@@ -1,4 +1,5 @@
 -- `job::owners::record_known` meets its contract. Assumes nothing.
+-- Below, cN is what is known N places before c.
 use borrow.Author.Needs.{needs}
 use Rattle.job.specs.File.{ownerSlot}
 use Rattle.job.specs.Stages.{ownerValue}
@@ -32,11 +33,15 @@ field-requires-2 c κs = search needs
 
 returns : tie.Need-returns
 unfolding ownerSlot ownerValue
-returns c = known-nobody _ _ _ _ _ _ _ (c .before .before .before .field .ensures .0) (c .before .before .field2 .ensures .0) (c .before .if1 .taken) (c .if2 .taken)
+returns c =
+    let c3 = c .before .before .before in
+    known-nobody _ _ _ _ _ _ _ (c3 .field .ensures .0) (c .before .before .field2 .ensures .0) (c .before .if1 .taken) (c .if2 .taken)
 
 returns-2 : tie.Need-returns-2
 unfolding ownerSlot ownerValue
-returns-2 c = known-person _ _ _ _ _ _ _ (c .before .before .before .field .ensures .0) (c .before .before .field2 .ensures .0) (c .before .if1 .taken) (c .if2 .left)
+returns-2 c =
+    let c3 = c .before .before .before in
+    known-person _ _ _ _ _ _ _ (c3 .field .ensures .0) (c .before .before .field2 .ensures .0) (c .before .if1 .taken) (c .if2 .left)
 
 returns-3 : tie.Need-returns-3
 unfolding ownerSlot

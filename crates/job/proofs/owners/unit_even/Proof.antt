@@ -1,4 +1,5 @@
 -- `job::owners::unit_even` meets its contract. The invariant: the slots from the unit's start up to k have its owner. Assumes nothing.
+-- Below, cN is what is known N places before c.
 use borrow.Author.Needs.{needs}
 use mathlib.Core.Path.{_≡_, sym, _∙_}
 use mathlib.Core.Bool.{true}
@@ -41,19 +42,34 @@ loop-less : tie.Need-loop-less Inv-loop μ-loop
 loop-less c = search needs
 
 loop-again : tie.Need-loop-again Inv-loop μ-loop
-loop-again c = (even-more (c .before .before .before .before .before .before .before .before .before .args .owners .now) _ _ _ _ (c .before .before .before .loop .inv .1) (c .before .before .before .loop .inv .0) (c .before .entry162 .ensures) (c .if1 .taken), omega arith)
+loop-again c =
+    let c3 = c .before .before .before in
+    let c9 = c3 .before .before .before .before .before .before in (
+      even-more (c9 .args .owners .now) _ _ _ _ (c3 .loop .inv .1) (c3 .loop .inv .0) (c .before .entry162 .ensures)
+          (c .if1 .taken),
+      omega arith,
+    )
 
 returns : tie.Need-returns Inv-loop μ-loop
 unfolding unitEven
 returns c =
-    even-fails (c .before .before .before .before .before .before .before .before .before .args .owners .now) _ _ _ _ _ _ _ (c .before .before .before .loop .inv .1) (c .before .before .loop-test .taken) (c .before .entry162 .ensures) (c .if1 .left)
-    (c .before .before .before .before .before .before .start-of .ensures) (c .before .before .before .before .before .unit-end .ensures) (c .before .before .before .before .entry16 .ensures)
+    let c3 = c .before .before .before in
+    let c4 = c3 .before in
+    let c5 = c4 .before in
+    let c6 = c5 .before in
+    let c9 = c6 .before .before .before in
+    even-fails (c9 .args .owners .now) _ _ _ _ _ _ _ (c3 .loop .inv .1) (c .before .before .loop-test .taken)
+    (c .before .entry162 .ensures) (c .if1 .left)
+    (c6 .start-of .ensures) (c5 .unit-end .ensures) (c4 .entry16 .ensures)
 
 returns-2 : tie.Need-returns-2 Inv-loop μ-loop
 unfolding unitEven
 returns-2 c =
-    even-done (c .before .before .before .before .before .before .before .args .owners .now) _ _ _ _ _ _ (c .before .loop .inv .1) (c .loop-test .left) (c .before .loop .inv .0)
-    (c .before .before .before .before .start-of .ensures) (c .before .before .before .unit-end .ensures) (c .before .before .entry16 .ensures)
+    let c3 = c .before .before .before in
+    let c4 = c3 .before in
+    let c7 = c4 .before .before .before in
+    even-done (c7 .args .owners .now) _ _ _ _ _ _ (c .before .loop .inv .1) (c .loop-test .left) (c .before .loop .inv .0)
+    (c4 .start-of .ensures) (c3 .unit-end .ensures) (c .before .before .entry16 .ensures)
 
 pub unit-even-spec : {M : Type 1} → statement M
 unit-even-spec =

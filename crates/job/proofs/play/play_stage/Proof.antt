@@ -1,4 +1,5 @@
 -- `job::play::play_stage` meets its contract. Assumes nothing.
+-- Below, cN is what is known N places before c.
 use borrow.Author.Needs.{needs}
 use lib.ListN.{length}
 use mathlib.Core.Path.{_≡_, sym}
@@ -30,12 +31,15 @@ slice-aggregate-put-listing-2 : tie.Need-slice-aggregate-put-listing-2
 slice-aggregate-put-listing-2 c = search needs
 
 slice-aggregate-put-listing-3 : tie.Need-slice-aggregate-put-listing-3
-slice-aggregate-put-listing-3 c = sym (c .before .before .before .before .before .before .before .before .before .before .play-draws .ensures .answers-room)
+slice-aggregate-put-listing-3 c =
+    let c10 = c .before .before .before .before .before .before .before .before .before .before in
+    sym (c10 .play-draws .ensures .answers-room)
 
 put-listing-requires : tie.Need-put-listing-requires
 put-listing-requires c κs =
-    let s = c .before .before .before .before .before .before .before .before .before .before .before .before .before .before .before .before .before .before .before .before .before .before .before .before .before in
-    let p = c .before .before .before .before .before .before .before .before .before .before .play-draws .ensures in
+    let c10 = c .before .before .before .before .before .before .before .before .before .before in
+    let s = c10 .before .before .before .before .before .before .before .before .before .before .before .before .before .before .before in
+    let p = c10 .play-draws .ensures in
     omega (arith, s .pre .0, s .pre .1, p .owners-room, p .minutes-room, p .answers-room)
 
 same-length : tie.Need-same-length
@@ -44,13 +48,20 @@ same-length c = search needs
 returns : tie.Need-returns
 unfolding startOf playOf
 returns c =
-    play-listed _ _ _ _ _ (c .before .before .before .before .before .before .before .before .before .before .before .before .before .before .before .before .before .start-rota .ensures) _ (c .before .before .before .before .before .before .before .before .before .before .before .before .before .play-draws .ensures) _ _ _ (c .before .before .before .before .before .before .before .before .before .before .before .before .before .before .before .before .if1 .taken) (c .before .before .before .before .before .before .before .before .before .before .before .before .if2 .taken)
-    (c .before .before .before .before .before .before .before .uncovered-of .ensures) (c .before .before .put-listing .ensures)
+    let c7 = c .before .before .before .before .before .before .before in
+    let c12 = c7 .before .before .before .before .before in
+    let c13 = c12 .before in
+    let c16 = c13 .before .before .before in
+    let c17 = c16 .before in
+    play-listed _ _ _ _ _ (c17 .start-rota .ensures) _ (c13 .play-draws .ensures) _ _ _ (c16 .if1 .taken) (c12 .if2 .taken)
+    (c7 .uncovered-of .ensures) (c .before .before .put-listing .ensures)
 
 returns-2 : tie.Need-returns-2
 unfolding startOf playOf
 returns-2 c =
-    play-refused _ _ _ _ _ (c .before .before .before .before .before .start-rota .ensures) _ (c .before .play-draws .ensures) (c .before .before .before .before .if1 .taken) (c .if2 .left)
+    let c4 = c .before .before .before .before in
+    let c5 = c4 .before in
+    play-refused _ _ _ _ _ (c5 .start-rota .ensures) _ (c .before .play-draws .ensures) (c4 .if1 .taken) (c .if2 .left)
 
 returns-3 : tie.Need-returns-3
 unfolding startOf

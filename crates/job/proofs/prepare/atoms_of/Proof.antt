@@ -1,4 +1,5 @@
 -- `job::prepare::atoms_of` meets its contract. Assumes nothing.
+-- Below, cN is what is known N places before c.
 use borrow.Author.Needs.{needs}
 use mathlib.Core.Path.{sym, ap, _∙_}
 use Rattle.job.specs.Stages.{noOf, valueOf}
@@ -22,15 +23,31 @@ enum-known-heard-2 c = search needs
 
 returns : tie.Need-returns
 returns c =
-    let w = c .before .before .before .before .before .atomise .ensures in
+    let c5 = c .before .before .before .before .before in
+    let w = c5 .atomise .ensures in
     let e = sym (w .heard) ∙ c .before .heard .given .1 in
-    record { no = sym (ap noOf e); count = sym (ap valueOf e); starts = w .starts; ends = w .ends; starts-room = search needs; ends-room = search needs }
+    record {
+      no = sym (ap noOf e);
+      count = sym (ap valueOf e);
+      starts = w .starts;
+      ends = w .ends;
+      starts-room = search needs;
+      ends-room = search needs;
+    }
 
 returns-2 : tie.Need-returns-2
 returns-2 c =
-    let w = c .before .before .before .before .before .atomise .ensures in
+    let c5 = c .before .before .before .before .before in
+    let w = c5 .atomise .ensures in
     let e = sym (w .heard) ∙ c .before .heard2 .given .1 in
-    record { no = sym (ap noOf e); count = sym (ap valueOf e); starts = w .starts; ends = w .ends; starts-room = search needs; ends-room = search needs }
+    record {
+      no = sym (ap noOf e);
+      count = sym (ap valueOf e);
+      starts = w .starts;
+      ends = w .ends;
+      starts-room = search needs;
+      ends-room = search needs;
+    }
 
 pub atoms-of-spec : {M : Type 1} → statement M
 atoms-of-spec =

@@ -1,4 +1,5 @@
 -- `job::prepare::settings_in` meets its contract. Assumes nothing.
+-- Below, cN is what is known N places before c.
 use borrow.Author.Needs.{needs}
 use mathlib.Core.Path.{_≡_, ap₂}
 use Prim.Native.Nat.{ℕ}
@@ -32,9 +33,18 @@ shared-slice-read-t10 c = search needs
 returns : tie.Need-returns
 unfolding settingsIn
 returns c =
-    let s = c .before .before .before .before .before .before .args .s .now in
-    ap₂ {A = ℕ} {B = ℕ} {C = Settings} (λ (v d : ℕ). record { fairness = getD s 4 0; lock = getD s 5 0; boundary = getD s 6 0; value = v; days = d })
-    (c .before .before .before .before .field .ensures .0) (c .before .before .before .field2 .ensures .0)
+    let c3 = c .before .before .before in
+    let c4 = c3 .before in
+    let c6 = c4 .before .before in
+    let s = c6 .args .s .now in
+    ap₂ {A = ℕ} {B = ℕ} {C = Settings} (λ (v d : ℕ). record {
+      fairness = getD s 4 0;
+      lock = getD s 5 0;
+      boundary = getD s 6 0;
+      value = v;
+      days = d;
+    })
+    (c4 .field .ensures .0) (c3 .field2 .ensures .0)
 
 pub settings-in-spec : {M : Type 1} → statement M
 settings-in-spec =

@@ -13,7 +13,8 @@ use Rattle.job.proofs.records.block_from.Statement.{statement}
 use Rattle.job.proofs.records.block_from.Tie as tie
 
 abbrev Inv-loop : tie.InvT-loop
-Inv-loop s kind size at count₀ end₀ count end = (end ≡ at + count * (4 + size)) × (end ≤ length s) × (count ≤ end) × (all count (λ j. recordAt s kind size (at + j * (4 + size))) ≡ true)
+Inv-loop s kind size at count₀ end₀ count end = (end ≡ at + count * (4 + size)) × (end ≤ length s) × (count ≤ end) ×
+    (all count (λ j. recordAt s kind size (at + j * (4 + size))) ≡ true)
 
 abbrev μ-loop : tie.MeasureT-loop
 μ-loop s kind size at count₀ end₀ count end = length s - end
@@ -39,13 +40,20 @@ loop-less c = omega (arith, record-says _ _ _ _ (sym (c .before .record-at .ensu
 loop-again : tie.Need-loop-again Inv-loop μ-loop
 loop-again c =
     let l = c .before .before .loop in
-    let t = sym (c .before .record-at .ensures) ∙ c .if1 .taken in
-    (next-at _ _ _ _ (l .inv .0), omega (arith, record-says _ _ _ _ t .0), omega (arith, l .inv .2), block-more _ _ _ _ _ _ (l .inv .0) t (l .inv .3))
+    let t = sym (c .before .record-at .ensures) ∙ c .if1 .taken in (
+      next-at _ _ _ _ (l .inv .0),
+      omega (arith, record-says _ _ _ _ t .0),
+      omega (arith, l .inv .2),
+      block-more _ _ _ _ _ _
+          (l .inv .0) t (l .inv .3),
+    )
 
 returns : tie.Need-returns Inv-loop μ-loop
 returns c =
-    let l = c .before .before .loop in
-    (block-done _ _ _ _ _ _ (l .inv .0) (l .inv .1) (sym (c .before .record-at .ensures) ∙ c .if1 .left) (l .inv .3), (l .inv .0, l .inv .1))
+    let l = c .before .before .loop in (
+      block-done _ _ _ _ _ _ (l .inv .0) (l .inv .1) (sym (c .before .record-at .ensures) ∙ c .if1 .left) (l .inv .3),
+      (l .inv .0, l .inv .1),
+    )
 
 pub block-from-spec : {M : Type 1} → statement M
 block-from-spec =

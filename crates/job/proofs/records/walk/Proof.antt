@@ -15,7 +15,8 @@ use Rattle.job.proofs.records.walk.Statement.{statement}
 use Rattle.job.proofs.records.walk.Tie as tie
 
 abbrev Inv-loop : tie.InvT-loop
-Inv-loop s first kinds limit sizes counts₀ starts₀ at₀ i₀ counts starts at i = (counts ≡ over (countOf (layout first kinds sizes) s) i (replicate 8 0))
+Inv-loop s first kinds limit sizes counts₀ starts₀ at₀ i₀ counts starts at
+    i = (counts ≡ over (countOf (layout first kinds sizes) s) i (replicate 8 0))
     × (starts ≡ over (blockAt (layout first kinds sizes) s) i (replicate 8 0)) × (at ≡ blockAt (layout first kinds sizes) s i)
     × (at ≤ length s) × (i ≤ kinds)
 
@@ -75,8 +76,10 @@ loop-again c =
 returns : tie.Need-returns Inv-loop μ-loop
 returns c =
     let l = c .before .before in
-    let e : l .loop .i ≡ l .before .before .args .kinds = omega arith in
-    (walk-short _ _ _ _ (l .loop .inv .2 ∙ ap (blockAt _ _) e) (c .if1 .taken), (over-done _ _ _ _ _ e (l .loop .inv .0), over-done _ _ _ _ _ e (l .loop .inv .1)))
+    let e : l .loop .i ≡ l .before .before .args .kinds = omega arith in (
+      walk-short _ _ _ _ (l .loop .inv .2 ∙ ap (blockAt _ _) e) (c .if1 .taken),
+      (over-done _ _ _ _ _ e (l .loop .inv .0), over-done _ _ _ _ _ e (l .loop .inv .1)),
+    )
 
 returns-2 : tie.Need-returns-2 Inv-loop μ-loop
 returns-2 c =

@@ -1,4 +1,5 @@
 -- `job::run::atoms_stage` meets its contract. Assumes nothing.
+-- Below, cN is what is known N places before c.
 use borrow.Author.Needs.{needs}
 use mathlib.Core.Path.{_≡_, sym}
 use native.Mathlib.Omega.{arith}
@@ -52,7 +53,9 @@ column32-requires-3 c κs =
     (read-few (s .pre .0) .3, λ k h. omega (arith, read-room (s .pre .0) 3 k 2 4 (lit< tt) h (lit≤ tt)))
 
 add-column32-4 : tie.Need-add-column32-4
-add-column32-4 c = let s = c .before .before .before .before .before .before in omega (arith, read-block (s .pre .0) 3 (lit< tt), s .good .0)
+add-column32-4 c =
+    let s = c .before .before .before .before .before .before in
+    omega (arith, read-block (s .pre .0) 3 (lit< tt), s .good .0)
 
 column32-requires-4 : tie.Need-column32-requires-4
 column32-requires-4 c κs =
@@ -97,8 +100,9 @@ slice-aggregate-slots-stage-5 c = search needs
 
 slots-stage-requires : tie.Need-slots-stage-requires
 slots-stage-requires c κs =
-    let s = c .before .before .before .before .before .before .before .before .before .before .before .before .before .before .before .before .before .before .before .before .before .before in
-    let a = c .before .before .before .before .before .before .before .before .before .atoms-of .ensures in
+    let c9 = c .before .before .before .before .before .before .before .before .before in
+    let s = c9 .before .before .before .before .before .before .before .before .before .before .before .before .before in
+    let a = c9 .atoms-of .ensures in
     let n = atoms-few _ _ a in
     (s .pre .0, (n, omega (arith, n, a .starts-room), omega (arith, n, a .ends-room), s .pre .1))
 
@@ -107,15 +111,29 @@ same-length c = search needs
 
 returns : tie.Need-returns
 returns c =
-    let a = atoms-is _ _ _ _ _ _ _ _ _ (c .before .before .before .before .before .before .before .before .before .before .before .before .before .before .before .before .before .before .before .before .before .before .column32 .ensures) (c .before .before .before .before .before .before .before .before .before .before .before .before .before .before .before .before .before .before .before .before .before .column322 .ensures) (c .before .before .before .before .before .before .before .before .before .before .before .before .before .before .before .before .before .before .before .before .column16 .ensures)
-    (c .before .before .before .before .before .before .before .before .before .before .before .before .before .before .before .before .before .before .before .column323 .ensures) (c .before .before .before .before .before .before .before .before .before .before .before .before .before .before .before .before .before .before .column324 .ensures) (c .before .before .before .before .before .before .before .before .before .before .before .before .atoms-of .ensures) in
-    atoms-passed _ _ _ _ _ a _ _ _ (c .before .before .before .before .before .before .before .before .before .before .before .if1 .taken)
-    (ranges-same (c .before .before .before .before .before .before .before .before .before .before .before .before .before .before .before .before .before .before .before .before .before .before .before .before .before .args .file .now) (c .before .before .before .before .before .before .before .before .before .before .before .before .before .before .before .before .before .before .before .before .before .before .before .before .before .args .t2) (c .before .before .before .before .before .before .before .before .before .before .before .before .before .before .before .before .before .before .before .before .before .before .before .before .before .args .t3) _ _ _ (c .before .before .before .before .before .before .before .before .before .before .before .before .before .before .before .before .before .before .before .before .column16 .ensures) (c .before .before .before .before .before .before .before .before .before .before .before .before .before .before .before .before .before .before .before .column323 .ensures) (c .before .before .before .before .before .before .before .before .before .before .before .before .before .before .before .before .before .before .column324 .ensures)) (c .before .before .slots-stage .ensures)
+    let c11 = c .before .before .before .before .before .before .before .before .before .before .before in
+    let c12 = c11 .before in
+    let c18 = c12 .before .before .before .before .before .before in
+    let c19 = c18 .before in
+    let c20 = c19 .before in
+    let c21 = c20 .before in
+    let c22 = c21 .before in
+    let c25 = c22 .before .before .before in
+    let a = atoms-is _ _ _ _ _ _ _ _ _ (c22 .column32 .ensures) (c21 .column322 .ensures) (c20 .column16 .ensures)
+    (c19 .column323 .ensures) (c18 .column324 .ensures) (c12 .atoms-of .ensures) in
+    atoms-passed _ _ _ _ _ a _ _ _ (c11 .if1 .taken)
+    (ranges-same (c25 .args .file .now) (c25 .args .t2) (c25 .args .t3) _ _ _ (c20 .column16 .ensures) (c19 .column323 .ensures)
+    (c18 .column324 .ensures)) (c .before .before .slots-stage .ensures)
 
 returns-2 : tie.Need-returns-2
 returns-2 c =
-    let a = atoms-is _ _ _ _ _ _ _ _ _ (c .before .before .before .before .before .before .before .before .before .before .before .column32 .ensures) (c .before .before .before .before .before .before .before .before .before .before .column322 .ensures) (c .before .before .before .before .before .before .before .before .before .column16 .ensures)
-    (c .before .before .before .before .before .before .before .before .column323 .ensures) (c .before .before .before .before .before .before .before .column324 .ensures) (c .before .atoms-of .ensures) in
+    let c7 = c .before .before .before .before .before .before .before in
+    let c8 = c7 .before in
+    let c9 = c8 .before in
+    let c10 = c9 .before in
+    let c11 = c10 .before in
+    let a = atoms-is _ _ _ _ _ _ _ _ _ (c11 .column32 .ensures) (c10 .column322 .ensures) (c9 .column16 .ensures)
+    (c8 .column323 .ensures) (c7 .column324 .ensures) (c .before .atoms-of .ensures) in
     atoms-refused _ _ _ _ _ a (c .if1 .left)
 
 pub atoms-stage-spec : {M : Type 1} → statement M

@@ -1,4 +1,5 @@
 -- `job::run::owners_stage` meets its contract. Assumes nothing.
+-- Below, cN is what is known N places before c.
 use borrow.Author.Needs.{needs}
 use Rattle.job.proofs.Results.{owners-refused, owners-passed}
 use Rattle.job.proofs.run.owners_stage.Statement.{statement}
@@ -26,7 +27,13 @@ same-length : tie.Need-same-length
 same-length c = search needs
 
 returns : tie.Need-returns
-returns c = owners-passed _ _ _ _ _ _ _ _ (c .before .before .before .before .before .before .before .before .before .placed-by .ensures) (c .before .before .before .before .before .before .before .owners-no .ensures) _ _ _ (c .before .before .before .before .before .before .if1 .taken) (c .before .before .before .before .narrow .ensures) (c .before .before .play-stage .ensures)
+returns c =
+    let c4 = c .before .before .before .before in
+    let c6 = c4 .before .before in
+    let c7 = c6 .before in
+    let c9 = c7 .before .before in
+    owners-passed _ _ _ _ _ _ _ _ (c9 .placed-by .ensures) (c7 .owners-no .ensures) _ _ _ (c6 .if1 .taken) (c4 .narrow .ensures)
+    (c .before .before .play-stage .ensures)
 
 returns-2 : tie.Need-returns-2
 returns-2 c = owners-refused _ _ _ _ _ _ _ _ (c .before .before .before .placed-by .ensures) (c .before .owners-no .ensures) (c .if1 .left)

@@ -1,4 +1,5 @@
 -- `job::run::run_job` meets its contract. Assumes nothing.
+-- Below, cN is what is known N places before c.
 use borrow.Author.Needs.{needs}
 use mathlib.Core.Path.{_≡_, sym, _∙_}
 use Rattle.job.proofs.Readings.{job-counts, job-passed, job-ready, job-layout}
@@ -25,21 +26,32 @@ counts-no-requires c κs = search needs
 
 atoms-stage-requires : tie.Need-atoms-stage-requires
 atoms-stage-requires c κs =
-    let r = c .before .before .before .before .before .before .read-file .ensures in
-    job-ready _ (c .before .before .before .before .before .before .before .before .before .args .out .now) _ _ _ (sym (r .0) ∙ c .before .before .before .before .before .if1 .taken) (r .1 .0) (r .1 .1) (c .before .before .counts-no .ensures) (c .before .if2 .taken)
+    let c5 = c .before .before .before .before .before in
+    let c6 = c5 .before in
+    let c9 = c6 .before .before .before in
+    let r = c6 .read-file .ensures in
+    job-ready _ (c9 .args .out .now) _ _ _ (sym (r .0) ∙ c5 .if1 .taken) (r .1 .0) (r .1 .1) (c .before .before .counts-no .ensures)
+    (c .before .if2 .taken)
 
 same-length : tie.Need-same-length
 same-length c = search needs
 
 returns : tie.Need-returns
 returns c =
-    let r = c .before .before .before .before .before .before .before .before .before .read-file .ensures in
-    job-passed _ _ _ _ _ (sym (r .0) ∙ c .before .before .before .before .before .before .before .before .if1 .taken) (r .1 .0) (r .1 .1) (c .before .before .before .before .before .counts-no .ensures) _ _ (c .before .before .before .before .if2 .taken) (c .before .before .atoms-stage .ensures)
+    let c4 = c .before .before .before .before in
+    let c5 = c4 .before in
+    let c8 = c5 .before .before .before in
+    let c9 = c8 .before in
+    let r = c9 .read-file .ensures in
+    job-passed _ _ _ _ _ (sym (r .0) ∙ c8 .if1 .taken) (r .1 .0) (r .1 .1) (c5 .counts-no .ensures) _ _ (c4 .if2 .taken)
+    (c .before .before .atoms-stage .ensures)
 
 returns-2 : tie.Need-returns-2
 returns-2 c =
-    let r = c .before .before .before .before .before .read-file .ensures in
-    job-counts _ _ _ _ _ (sym (r .0) ∙ c .before .before .before .before .if1 .taken) (r .1 .0) (r .1 .1) (c .before .counts-no .ensures) (c .if2 .left)
+    let c4 = c .before .before .before .before in
+    let c5 = c4 .before in
+    let r = c5 .read-file .ensures in
+    job-counts _ _ _ _ _ (sym (r .0) ∙ c4 .if1 .taken) (r .1 .0) (r .1 .1) (c .before .counts-no .ensures) (c .if2 .left)
 
 returns-3 : tie.Need-returns-3
 returns-3 c =

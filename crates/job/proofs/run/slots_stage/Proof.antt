@@ -1,4 +1,5 @@
 -- `job::run::slots_stage` meets its contract. Assumes nothing.
+-- Below, cN is what is known N places before c.
 use borrow.Author.Needs.{needs}
 use mathlib.Core.Path.{_≡_, refl, sym, ap, ap₂, _∙_}
 use mathlib.Core.List.{List}
@@ -35,7 +36,9 @@ avail-of-requires : tie.Need-avail-of-requires
 avail-of-requires c κs = search needs
 
 add-capacities : tie.Need-add-capacities
-add-capacities c = let s = c .before .before .before .before .before .before .before .before in omega (arith, read-block (s .pre .0) 2 (lit< tt), s .good .0)
+add-capacities c =
+    let s = c .before .before .before .before .before .before .before .before in
+    omega (arith, read-block (s .pre .0) 2 (lit< tt), s .good .0)
 
 capacities-requires : tie.Need-capacities-requires
 capacities-requires c κs =
@@ -43,7 +46,9 @@ capacities-requires c κs =
     (read-few (s .pre .0) .2, λ k h. omega (arith, read-room (s .pre .0) 2 k 0 8 (lit< tt) h (lit≤ tt)))
 
 add-priors : tie.Need-add-priors
-add-priors c = let s = c .before .before .before .before .before .before .before .before .before in omega (arith, read-block (s .pre .0) 2 (lit< tt), s .good .0)
+add-priors c =
+    let s = c .before .before .before .before .before .before .before .before .before in
+    omega (arith, read-block (s .pre .0) 2 (lit< tt), s .good .0)
 
 priors-requires : tie.Need-priors-requires
 priors-requires c κs =
@@ -75,33 +80,48 @@ array-read-instant-in : tie.Need-array-read-instant-in
 array-read-instant-in c = search needs
 
 instant-in-requires : tie.Need-instant-in-requires
-instant-in-requires c κs = read-freeze (c .before .before .before .before .before .before .before .before .before .before .before .before .before .before .before .before .before .before .pre .0)
+instant-in-requires c κs =
+    let c18 = c .before .before .before .before .before .before .before .before .before .before .before .before .before .before .before
+    .before .before .before in
+    read-freeze (c18 .pre .0)
 
 frozen-in-requires : tie.Need-frozen-in-requires
 frozen-in-requires c κs = search needs
 
 add-column16 : tie.Need-add-column16
-add-column16 c = let s = c .before .before .before .before .before .before .before .before .before .before .before .before .before .before .before .before .before .before .before .before in omega (arith, read-block (s .pre .0) 6 (lit< tt), s .good .0)
+add-column16 c =
+    let s = c .before .before .before .before .before .before .before .before .before .before .before .before .before .before .before
+    .before .before .before .before .before in
+    omega (arith, read-block (s .pre .0) 6 (lit< tt), s .good .0)
 
 column16-requires : tie.Need-column16-requires
 column16-requires c κs =
-    let s = c .before .before .before .before .before .before .before .before .before .before .before .before .before .before .before .before .before .before .before .before in
+    let s = c .before .before .before .before .before .before .before .before .before .before .before .before .before .before .before
+    .before .before .before .before .before in
     (read-few (s .pre .0) .4, λ k h. omega (arith, read-room (s .pre .0) 6 k 0 2 (lit< tt) h (lit≤ tt)))
 
 add-column16-2 : tie.Need-add-column16-2
-add-column16-2 c = let s = c .before .before .before .before .before .before .before .before .before .before .before .before .before .before .before .before .before .before .before .before .before in omega (arith, read-block (s .pre .0) 6 (lit< tt), s .good .0)
+add-column16-2 c =
+    let s = c .before .before .before .before .before .before .before .before .before .before .before .before .before .before .before
+    .before .before .before .before .before .before in
+    omega (arith, read-block (s .pre .0) 6 (lit< tt), s .good .0)
 
 column16-requires-2 : tie.Need-column16-requires-2
 column16-requires-2 c κs =
-    let s = c .before .before .before .before .before .before .before .before .before .before .before .before .before .before .before .before .before .before .before .before .before in
+    let s = c .before .before .before .before .before .before .before .before .before .before .before .before .before .before .before
+    .before .before .before .before .before .before in
     (read-few (s .pre .0) .4, λ k h. omega (arith, read-room (s .pre .0) 6 k 2 2 (lit< tt) h (lit≤ tt)))
 
 add-column16-3 : tie.Need-add-column16-3
-add-column16-3 c = let s = c .before .before .before .before .before .before .before .before .before .before .before .before .before .before .before .before .before .before .before .before .before .before in omega (arith, read-block (s .pre .0) 6 (lit< tt), s .good .0)
+add-column16-3 c =
+    let s = c .before .before .before .before .before .before .before .before .before .before .before .before .before .before .before
+    .before .before .before .before .before .before .before in
+    omega (arith, read-block (s .pre .0) 6 (lit< tt), s .good .0)
 
 column16-requires-3 : tie.Need-column16-requires-3
 column16-requires-3 c κs =
-    let s = c .before .before .before .before .before .before .before .before .before .before .before .before .before .before .before .before .before .before .before .before .before .before in
+    let s = c .before .before .before .before .before .before .before .before .before .before .before .before .before .before .before
+    .before .before .before .before .before .before .before in
     (read-few (s .pre .0) .4, λ k h. omega (arith, read-room (s .pre .0) 6 k 4 2 (lit< tt) h (lit≤ tt)))
 
 array-read-owners-stage : tie.Need-array-read-owners-stage
@@ -111,10 +131,15 @@ array-read-owners-stage-2 : tie.Need-array-read-owners-stage-2
 array-read-owners-stage-2 c = search needs
 
 slice-aggregate-owners-stage : tie.Need-slice-aggregate-owners-stage
-slice-aggregate-owners-stage c = sym (c .before .before .before .before .before .before .before .before .before .before .before .before .before .before .before .before .before .before .avail-of .ensures .1)
+slice-aggregate-owners-stage c =
+    let c18 = c .before .before .before .before .before .before .before .before .before .before .before .before .before .before .before
+    .before .before .before in
+    sym (c18 .avail-of .ensures .1)
 
 slice-aggregate-owners-stage-2 : tie.Need-slice-aggregate-owners-stage-2
-slice-aggregate-owners-stage-2 c = sym (c .before .before .before .before .before .before .before .before .before .before .before .units-of .ensures .room)
+slice-aggregate-owners-stage-2 c =
+    let c11 = c .before .before .before .before .before .before .before .before .before .before .before in
+    sym (c11 .units-of .ensures .room)
 
 slice-aggregate-owners-stage-3 : tie.Need-slice-aggregate-owners-stage-3
 slice-aggregate-owners-stage-3 c = search needs
@@ -133,12 +158,14 @@ slice-aggregate-owners-stage-7 c = search needs
 
 owners-stage-requires : tie.Need-owners-stage-requires
 owners-stage-requires c κs =
-    let s = c .before .before .before .before .before .before .before .before .before .before .before .before .before .before .before .before .before .before .before .before .before .before .before .before .before .before .before .before .before .before .before .before .before in
+    let c18 = c .before .before .before .before .before .before .before .before .before .before .before .before .before .before .before
+    .before .before .before in
+    let s = c18 .before .before .before .before .before .before .before .before .before .before .before .before .before .before .before in
     let w = read-few (s .pre .0) in (
       read-owners (s .pre .0),
       (
         (s .pre .1 .0, s .pre .1 .1, s .pre .1 .2),
-        (w .2, omega (arith, w .2, c .before .before .before .before .before .before .before .before .before .before .before .before .before .before .before .before .before .before .shares-of .ensures .room), w .4, s .pre .1 .3),
+        (w .2, omega (arith, w .2, c18 .shares-of .ensures .room), w .4, s .pre .1 .3),
       ),
     )
 
@@ -148,24 +175,44 @@ same-length c = search needs
 returns : tie.Need-returns
 unfolding availIn
 returns c =
-    let s = c .before .before .before .before .before .before .before .before .before .before .before .before .before .before .before .before .before .before .before .before .before .before .before .before .before .before .before .before .before .before .before .before .before .before .before .before in
-    let st = c .before .before .before .before .before .before .before .before .before .before .before .before .before .before .before .before .before .before .before .before .before .before .before .before .before .settings-in .ensures in
+    let c13 = c .before .before .before .before .before .before .before .before .before .before .before .before .before in
+    let c14 = c13 .before in
+    let c15 = c14 .before in
+    let c16 = c15 .before in
+    let c17 = c16 .before in
+    let c18 = c17 .before in
+    let c19 = c18 .before in
+    let c20 = c19 .before in
+    let c21 = c20 .before in
+    let c25 = c21 .before .before .before .before in
+    let c26 = c25 .before in
+    let c27 = c26 .before in
+    let c28 = c27 .before in
+    let s = c28 .before .before .before .before .before .before .before .before in
+    let st = c25 .settings-in .ensures in
     slots-passed _ _ _ _ _ _ _ _ _ _ _
-    (shares-is _ _ _ _ _ _ _ _ _ _ _ _ (c .before .before .before .before .before .before .before .before .before .before .before .before .before .before .before .before .before .before .before .before .before .before .before .before .before .before .before .before .avail-of .ensures .0) (c .before .before .before .before .before .before .before .before .before .before .before .before .before .before .before .before .before .before .before .before .before .before .before .before .before .before .before .capacities .ensures) (c .before .before .before .before .before .before .before .before .before .before .before .before .before .before .before .before .before .before .before .before .before .before .before .before .before .before .priors .ensures) st (c .before .before .before .before .before .before .before .before .before .before .before .before .before .before .before .before .before .before .before .before .before .shares-of .ensures))
-    (units-is _ _ _ _ _ _ st (c .before .before .before .before .before .before .before .before .before .before .before .before .before .before .before .before .before .before .before .before .units-of .ensures)) (c .before .before .before .before .before .before .before .before .before .before .before .before .before .before .before .before .before .before .before .lower-no .ensures)
-    _ _ _ _ _ _ _ (c .before .before .before .before .before .before .before .before .before .before .before .before .before .before .before .before .before .before .if1 .taken) (c .before .before .before .before .before .before .before .before .before .before .before .before .before .before .before .before .before .before .before .before .before .before .before .before .before .before .before .before .avail-of .ensures .0)
-    (c .before .before .before .before .before .before .before .before .before .before .before .before .before .before .before .before .frozen-in .ensures ∙ ap (frozenIn _ _ _ _) (c .before .before .before .before .before .before .before .before .before .before .before .before .before .before .before .before .before .instant-in .ensures))
-    (ap₂ (λ (x y : List ℕ). draws (getD (s .args .t2) 6 0) x y (c .before .before .before .before .before .before .before .before .before .before .before .before .before .column163 .result)) (c .before .before .before .before .before .before .before .before .before .before .before .before .before .before .before .column16 .ensures) (c .before .before .before .before .before .before .before .before .before .before .before .before .before .before .column162 .ensures)
-    ∙ ap (draws (getD (s .args .t2) 6 0) _ _) (c .before .before .before .before .before .before .before .before .before .before .before .before .before .column163 .ensures))
+    (shares-is _ _ _ _ _ _ _ _ _ _ _ _ (c28 .avail-of .ensures .0) (c27 .capacities .ensures) (c26 .priors .ensures) st
+    (c21 .shares-of .ensures))
+    (units-is _ _ _ _ _ _ st (c20 .units-of .ensures)) (c19 .lower-no .ensures)
+    _ _ _ _ _ _ _ (c18 .if1 .taken) (c28 .avail-of .ensures .0)
+    (c16 .frozen-in .ensures ∙ ap (frozenIn _ _ _ _) (c17 .instant-in .ensures))
+    (ap₂ (λ (x y : List ℕ). draws (getD (s .args .t2) 6 0) x y (c13 .column163 .result)) (c15 .column16 .ensures) (c14 .column162 .ensures)
+    ∙ ap (draws (getD (s .args .t2) 6 0) _ _) (c13 .column163 .ensures))
     (c .before .before .owners-stage .ensures)
 
 returns-2 : tie.Need-returns-2
 unfolding availIn
 returns-2 c =
-    let s = c .before .before .before .before .before .before .before .before .before .before .before .before .before .before .before .before .before .before in
-    let st = c .before .before .before .before .before .before .before .settings-in .ensures in
+    let c3 = c .before .before .before in
+    let c7 = c3 .before .before .before .before in
+    let c8 = c7 .before in
+    let c9 = c8 .before in
+    let c10 = c9 .before in
+    let s = c10 .before .before .before .before .before .before .before .before in
+    let st = c7 .settings-in .ensures in
     slots-refused _ _ _ _ _ _ _ _ _ _ _
-    (shares-is _ _ _ _ _ _ _ _ _ _ _ _ (c .before .before .before .before .before .before .before .before .before .before .avail-of .ensures .0) (c .before .before .before .before .before .before .before .before .before .capacities .ensures) (c .before .before .before .before .before .before .before .before .priors .ensures) st (c .before .before .before .shares-of .ensures))
+    (shares-is _ _ _ _ _ _ _ _ _ _ _ _ (c10 .avail-of .ensures .0) (c9 .capacities .ensures) (c8 .priors .ensures) st
+    (c3 .shares-of .ensures))
     (units-is _ _ _ _ _ _ st (c .before .before .units-of .ensures)) (c .before .lower-no .ensures) (c .if1 .left)
 
 pub slots-stage-spec : {M : Type 1} → statement M

@@ -1,0 +1,124 @@
+-- The digits of a number have that number as their value, and no 0 stands before them. Assumes nothing.
+use mathlib.Core.Path.{_≡_, refl, sym, ap, ap₂, _∙_}
+use mathlib.Core.Logic.{⊎-elim}
+use mathlib.Core.Bool.{Bool, true, false, cond}
+use mathlib.Core.List.{List, [], _∷_, _++_}
+use Prim.Native.Nat.{ℕ, zero, suc, _+_, _-_, _*_, _/_, _%_, _^_, _≤_, _<_}
+use native.Mathlib.Nat.{pow-suc}
+use native.Mathlib.Omega.{arith}
+use borrow.Author.Tests.{lt-ltb, le-ltb, ltb-true, ltb-false, eq-eqb, ne-eqb}
+use lib.Dec.{ltb, eqb}
+use lib.IntN.{ℤ, pos, negsuc, negℤ, natAbs}
+use lib.ListN.{length, getD, length-append, List·getD-append}
+use lib.Seq.{getD-append-seam}
+use Rattle.paper.proofs.Logic.{by-test, lt-or-ge}
+use Rattle.job.specs.Listing.{decimal, digits, signed}
+use Rattle.job.specs.Digits.{readFrom, readDigits, readSigned, Decimal}
+
+-- ---- one digit, and one more
+
+read-more : (v : ℕ) (l : List ℕ) (b : ℕ) → readFrom v (l ++ (b ∷ [])) ≡ readFrom v l * 10 + (b - 48)
+unfolding readFrom
+read-more v [] b = refl
+read-more v (c ∷ l) b = read-more (v * 10 + (c - 48)) l b
+
+-- decimal f n is one digit, or digits and one more
+decimal-one : (f n : ℕ) → n < 10 → decimal f n ≡ (48 + n) ∷ []
+unfolding decimal
+decimal-one zero n h = refl
+decimal-one (suc f) n h = ap (λ (b : Bool). cond b ((48 + n) ∷ []) (decimal f (n / 10) ++ ((48 + n % 10) ∷ []))) (lt-ltb n 10 h)
+
+decimal-next : (f n : ℕ) → 10 ≤ n → decimal (suc f) n ≡ decimal f (n / 10) ++ ((48 + n % 10) ∷ [])
+unfolding decimal
+decimal-next f n h = ap (λ (b : Bool). cond b ((48 + n) ∷ []) (decimal f (n / 10) ++ ((48 + n % 10) ∷ []))) (le-ltb n 10 h)
+
+-- ---- the value
+
+one-value : (n : ℕ) → n < 10 → readDigits ((48 + n) ∷ []) ≡ n
+unfolding readFrom
+one-value n h = omega arith
+
+decimal-value : (f n : ℕ) → n < 10 ^ suc f → readDigits (decimal f n) ≡ n
+decimal-value zero n h = ap readDigits (decimal-one 0 n (omega arith)) ∙ one-value n (omega arith)
+decimal-value (suc f) n h =
+    ⊎-elim (λ (l : n < 10). ap readDigits (decimal-one (suc f) n l) ∙ one-value n l)
+    (λ (g : 10 ≤ n).
+    let e = ap readDigits (decimal-next f n g) ∙ read-more 0 (decimal f (n / 10)) (48 + n % 10) in
+    omega (arith, e, decimal-value f (n / 10) (omega (arith, pow-suc 10 (suc f)))))
+    (lt-or-ge n 10)
+
+-- ---- the form
+
+one-decimal : (n : ℕ) → n < 10 → Decimal ((48 + n) ∷ [])
+one-decimal n h = record {
+  some = omega arith;
+  each = λ k l.
+      let z : k ≡ 0 = omega arith in
+      let e : getD ((48 + n) ∷ []) k 0 ≡ 48 + n = ap (λ (j : ℕ). getD ((48 + n) ∷ []) j 0) z in
+      (omega arith, omega arith);
+  lead = λ l e. omega arith;
+}
+
+-- a digit after a number that is not 0
+more-decimal : (l : List ℕ) (b : ℕ) → Decimal l → (getD l 0 0 ≡ 48 → ⊥) → 48 ≤ b → b ≤ 57 → Decimal (l ++ (b ∷ []))
+more-decimal l b D n p q = record {
+  some = omega (arith, length-append l (b ∷ []));
+  each = λ k h.
+      ⊎-elim (λ (g : k < length l). let e = List·getD-append l (b ∷ []) 0 k g in let d = D .each k g in (omega arith, omega arith))
+      (λ (g : length l ≤ k).
+      let z : k ≡ length l = omega (arith, length-append l (b ∷ [])) in
+      let e : getD (l ++ (b ∷ [])) k 0 ≡ b = ap (λ (j : ℕ). getD (l ++ (b ∷ [])) j 0) z ∙ getD-append-seam l b [] 0 in
+      (omega arith, omega arith))
+      (lt-or-ge k (length l));
+  lead = λ h e. n (sym (List·getD-append l (b ∷ []) 0 0 (D .some)) ∙ e);
+}
+
+decimal-form : (f n : ℕ) → n < 10 ^ suc f → Decimal (decimal f n) × (0 < n → getD (decimal f n) 0 0 ≡ 48 → ⊥)
+decimal-form zero n h = rw (decimal-one 0 n (omega arith)) (one-decimal n (omega arith), λ z e. omega arith)
+decimal-form (suc f) n h =
+    ⊎-elim (λ (l : n < 10). rw (decimal-one (suc f) n l) (one-decimal n l, λ z e. omega arith))
+    (λ (g : 10 ≤ n).
+    let r = decimal-form f (n / 10) (omega (arith, pow-suc 10 (suc f))) in
+    let lead = r .1 (omega arith) in
+    rw (decimal-next f n g) (
+      more-decimal (decimal f (n / 10)) (48 + n % 10) (r .0) lead (omega arith) (omega arith),
+      λ z e. lead (sym (List·getD-append (decimal f (n / 10)) ((48 + n % 10) ∷ []) 0 0 (r .0 .some)) ∙ e),
+    ))
+    (lt-or-ge n 10)
+
+-- ---- digits
+
+-- reading the digits of n gives n back
+pub digits-value : (n : ℕ) → n < 10 ^ 20 → readDigits (digits n) ≡ n
+unfolding digits
+digits-value n h = decimal-value 19 n h
+
+-- they are decimal digits, with no 0 before them but that of 0 itself
+pub digits-decimal : (n : ℕ) → n < 10 ^ 20 → Decimal (digits n)
+unfolding digits
+digits-decimal n h = decimal-form 19 n h .0
+
+-- two numbers with the same digits are equal
+pub digits-one : (n m : ℕ) → n < 10 ^ 20 → m < 10 ^ 20 → digits n ≡ digits m → n ≡ m
+digits-one n m h g e = sym (digits-value n h) ∙ ap readDigits e ∙ digits-value m g
+
+-- ---- with a sign
+
+read-minus : (l : List ℕ) → readSigned (45 ∷ l) ≡ negℤ (pos (readDigits l))
+unfolding readSigned
+read-minus l = refl
+
+read-plain : (l : List ℕ) → Decimal l → readSigned l ≡ pos (readDigits l)
+unfolding readSigned
+read-plain [] D = absurd (omega (arith, D .some))
+read-plain (b ∷ l) D =
+    let d = D .each 0 (omega arith) in
+    ap (λ (t : Bool). cond t (negℤ (pos (readDigits l))) (pos (readDigits (b ∷ l)))) (ne-eqb b 45 (λ e. omega arith))
+
+pub signed-value : (z : ℤ) → natAbs z < 10 ^ 20 → readSigned (signed z) ≡ z
+unfolding signed
+signed-value (pos n) h = read-plain (digits n) (digits-decimal n h) ∙ ap pos (digits-value n h)
+signed-value (negsuc n) h = read-minus (digits (suc n)) ∙ ap (λ (k : ℕ). negℤ (pos k)) (digits-value (suc n) (omega arith))
+
+pub signed-one : (x z : ℤ) → natAbs x < 10 ^ 20 → natAbs z < 10 ^ 20 → signed x ≡ signed z → x ≡ z
+signed-one x z h g e = sym (signed-value x h) ∙ ap readSigned e ∙ signed-value z g

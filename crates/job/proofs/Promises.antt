@@ -1,0 +1,187 @@
+-- What a job promises, each by name, of every file and every lent listing. Assumes nothing.
+use mathlib.Core.Path.{_≡_, refl, sym, ap, ap₂, _∙_}
+use mathlib.Core.Logic.{_↔_}
+use mathlib.Core.Bool.{Bool, true, false, cond, not, _&&_}
+use mathlib.Core.List.{List, [], _++_}
+use Prim.Native.Nat.{ℕ, zero, suc, _+_, _-_, _*_, _≤_, _<_}
+use native.Mathlib.Omega.{arith}
+use borrow.Author.Tests.{eq-eqb, ne-eqb, eqb-true, eqb-false, not-true}
+use lib.Dec.{eqb, lit<, lit≤}
+use lib.IntN.{pos}
+use lib.ListN.{length, getD, take, drop}
+use lib.Seq.{take-at, drop-at}
+use Rattle.paper.specs.Count.{sum, all}
+use Rattle.paper.proofs.Logic.{by-test, both}
+use Rattle.paper.proofs.Count.{all-each, sum-same}
+use Rattle.targets.specs.Remainder.{sumℤ}
+use Rattle.rota.specs.declared.Figure.the-variants as figure
+use Rattle.rota.specs.Derived.{uncovered}
+use Rattle.rota.specs.Entries as rota
+use Rattle.job.specs.declared.JobAnswer.{JobAnswer}
+use Rattle.job.specs.declared.JobAnswer.the-variants as answer
+use Rattle.job.specs.Fields.{le}
+use Rattle.job.specs.Records.{bodies}
+use Rattle.job.specs.File.{jobCounts, jobStarts, JobFile}
+use Rattle.job.specs.Listing.{listingOf, put}
+use Rattle.job.specs.Outcome.{Result, refusedAs, listedAs, orRefused, Ends, planOf, jobResult}
+use Rattle.job.specs.Heard.{heardOf, rank, testAt, Lowest, AllPass, readyOf, drawsOf, ownersOf, startedOf, playedOf, listedOf}
+use Rattle.job.specs.Heard.{baseTotal}
+use Rattle.job.specs.Heard.{jobTests}
+use Rattle.job.proofs.Tests.{heard-none, heard-lowest}
+use Rattle.job.proofs.Heard.{job-told, numbered, rising, free, sound, demand-is, targets-add}
+use Rattle.job.proofs.Layouts.{counts-read, fields-read}
+use Rattle.job.proofs.Rotas as rotas
+
+-- ---- only one outcome fits
+
+pub one-job : (y : Result) (r q : JobAnswer) (x z : List ℕ) → Ends y r x → Ends y q z → (r ≡ q) × (x ≡ z)
+one-job y r q x z A B = (A .heard ∙ sym (B .heard), A .left ∙ sym (B .left))
+
+-- ---- what is heard
+
+some : (n : ℕ) → (n ≡ 0 → ⊥) → 0 < n
+some zero f = absurd (f refl)
+some (suc n) f = omega arith
+
+module _ (s x : List ℕ) where
+  -- no test fails: the listing
+  told-none : heardOf (jobTests s (length x)) ≡ 0 → jobResult s x ≡ listedAs (listingOf (listedOf s)) x
+  told-none e =
+      job-told s x
+      ∙ ap (λ (b : Bool). cond b (listedAs (listingOf (listedOf s)) x) (refusedAs (heardOf (jobTests s (length x))) x)) (eq-eqb _ 0 e)
+
+  -- one fails: its number, and the lent listing as it was
+  told-some : (heardOf (jobTests s (length x)) ≡ 0 → ⊥) → jobResult s x ≡ refusedAs (heardOf (jobTests s (length x))) x
+  told-some n =
+      job-told s x
+      ∙ ap (λ (b : Bool). cond b (listedAs (listingOf (listedOf s)) x) (refusedAs (heardOf (jobTests s (length x))) x)) (ne-eqb _ 0 n)
+
+  -- a refusal is the number of the first test that fails
+  refused-heard : (n : ℕ) → jobResult s x .answer ≡ answer.Refused n
+      → (heardOf (jobTests s (length x)) ≡ n) × (0 < n)
+  unfolding listedAs refusedAs
+  refused-heard n e =
+      by-test (eqb (heardOf (jobTests s (length x))) 0) _
+      (λ t.
+      let p = ap (λ (y : Result). y .answer) (told-none (eqb-true _ 0 t)) in
+      let z : _≡_ {A = ℕ} 0 1 = cc in
+      absurd (omega arith))
+      (λ f.
+      let p = ap (λ (y : Result). y .answer) (told-some (eqb-false _ 0 f)) in
+      let q : heardOf (jobTests s (length x)) ≡ n = cc in
+      (q, some n (λ z. eqb-false _ 0 f (q ∙ z))))
+
+  -- a listing comes only where none does
+  listed-none : (n : ℕ) → jobResult s x .answer ≡ answer.Length n → heardOf (jobTests s (length x)) ≡ 0
+  unfolding refusedAs
+  listed-none n e =
+      by-test (eqb (heardOf (jobTests s (length x))) 0) _ (λ t. eqb-true _ 0 t)
+      (λ f.
+      let p = ap (λ (y : Result). y .answer) (told-some (eqb-false _ 0 f)) in
+      let z : _≡_ {A = ℕ} 0 1 = cc in
+      absurd (omega arith))
+
+  -- a refusal leaves the lent listing as it was
+  pub refused-keeps : (n : ℕ) (out : List ℕ) → Ends (jobResult s x) (answer.Refused n) out → out ≡ x
+  unfolding refusedAs
+  refused-keeps n out E =
+      let h = refused-heard n (sym (E .heard)) in
+      E .left ∙ ap (λ (y : Result). y .out) (told-some (λ z. omega (arith, h .0, h .1)))
+
+  -- the lowest number is heard, 13 before all: n is heard exactly where it is the lowest of the tests that fail
+  pub lowest-heard : (n : ℕ) → (jobResult s x .answer ≡ answer.Refused n) ↔ Lowest (jobTests s (length x)) n
+  unfolding refusedAs
+  lowest-heard n =
+      let law = heard-lowest 0 (jobTests s (length x)) (rising s (length x)) (numbered s (length x)) n in (
+        λ e. law .0 (refused-heard n e),
+        λ L.
+            let h = law .1 L in
+            ap (λ (y : Result). y .answer) (told-some (λ z. omega (arith, h .0, h .1))) ∙ ap answer.Refused (h .0),
+      )
+
+  -- and a listing is given exactly where all pass, with its length
+  pub accepted-exactly : (n : ℕ) → (jobResult s x .answer ≡ answer.Length n)
+      ↔ (AllPass (jobTests s (length x)) × (n ≡ length (listingOf (listedOf s))))
+  unfolding listedAs
+  accepted-exactly n =
+      let law = heard-none (jobTests s (length x)) (numbered s (length x)) in (
+        λ e.
+            let h = listed-none n e in
+            let p = ap (λ (y : Result). y .answer) (told-none h) in
+            (law .0 h, cc),
+        λ A. ap (λ (y : Result). y .answer) (told-none (law .1 (A .0))) ∙ ap answer.Length (sym (A .1)),
+      )
+
+  -- 8 and 9 are never heard
+  pub eight-nine-never : (n : ℕ) → jobResult s x .answer ≡ answer.Refused n → (n ≡ 8 → ⊥) × (n ≡ 9 → ⊥)
+  unfolding jobTests all
+  eight-nine-never n e =
+      let L = lowest-heard n .0 e in
+      let ts = jobTests s (length x) in
+      let t = both (not (eqb (testAt ts (L .place) .number) 8)) (not (eqb (testAt ts (L .place) .number) 9))
+      (all-each 11 (λ k. not (eqb (testAt ts k .number) 8) && not (eqb (testAt ts k .number) 9)) refl (L .place) (L .within)) in (
+        λ z. eqb-false _ 8 (not-true _ (t .0)) (L .number ∙ z),
+        λ z. eqb-false _ 9 (not-true _ (t .1)) (L .number ∙ z),
+      )
+
+  -- ---- an accepted job
+
+  module _ (n : ℕ) (e : jobResult s x .answer ≡ answer.Length n) where
+    -- the listing, by the file alone
+    pub listing-is : jobResult s x ≡ listedAs (listingOf (listedOf s)) x
+    listing-is = told-none (listed-none n e)
+
+    -- it stands at the front of the lent listing, n bytes of it, and what lies past them is as it was
+    pub listing-stands : (take n (jobResult s x .out) ≡ listingOf (listedOf s)) × (drop n (jobResult s x .out) ≡ drop n x)
+    unfolding listedAs put
+    listing-stands =
+        let l = listingOf (listedOf s) in
+        let z : length l ≡ n = sym (accepted-exactly n .0 e .1) in
+        let k : 0 + length l ≡ n = omega arith in
+        let o : jobResult s x .out ≡ l ++ drop (0 + length l) x = ap (λ (y : Result). y .out) listing-is in
+        (ap (take n) o ∙ take-at l _ n z, ap (drop n) o ∙ drop-at l _ n z ∙ ap (λ (j : ℕ). drop j x) k)
+
+    pass : AllPass (jobTests s (length x))
+    pass = accepted-exactly n .0 e .0
+
+    -- U is a number: the reader that answers it is never refused
+    pub uncovered-told : rota.uncoveredIs (planOf (readyOf s)) (playedOf s .owners) ≡ figure.Is (listedOf s .uncovered)
+    unfolding listedOf playedOf startedOf
+    uncovered-told = rotas.uncovered-told (readyOf s) (drawsOf s) (ownersOf s) (sound s (length x) pass) (free s (length x) pass)
+
+    -- P minutes and U add up to the total of the base slots in the file
+    pub total : sum (listedOf s .people) (λ p. getD (listedOf s .minutes) p 0) + listedOf s .uncovered ≡ baseTotal s
+    unfolding listedOf playedOf startedOf
+    total =
+        rotas.total-after (readyOf s) (drawsOf s) (ownersOf s) (sound s (length x) pass) (free s (length x) pass)
+        ∙ demand-is s (length x) pass
+
+    -- and so do they before the draws
+    pub total-before : sum (listedOf s .people) (λ p. getD (startedOf s .derived .minutes) p 0)
+        + uncovered (planOf (readyOf s)) (ownersOf s) ≡ baseTotal s
+    unfolding listedOf startedOf
+    total-before =
+        rotas.total-before (readyOf s) (drawsOf s) (ownersOf s) (sound s (length x) pass) (free s (length x) pass)
+        ∙ demand-is s (length x) pass
+
+    -- the targets that are listed add up to it too
+    pub targets-total : sumℤ (take (listedOf s .people) (listedOf s .targets)) ≡ pos (baseTotal s)
+    unfolding listedOf
+    targets-total = targets-add s (length x) pass ∙ ap pos (demand-is s (length x) pass)
+
+-- the total, over the records of the file
+pub base-total-read : (s : List ℕ) (J : JobFile s)
+    → baseTotal s
+    ≡ sum (length (bodies 2 (J .records))) (λ k. le 4 (getD (bodies 2 (J .records)) k []) 4 - le 4 (getD (bodies 2 (J .records)) k []) 0)
+unfolding baseTotal
+base-total-read s J =
+    let at = getD (jobStarts s) 1 0 in
+    let n = counts-read s J 1 (lit< tt) in
+    let entry : (off k : ℕ) → off + 4 ≤ 8 → k < getD (jobCounts s) 1 0
+    → le 4 s (at + (4 + off) + k * 12) ≡ le 4 (getD (bodies 2 (J .records)) k []) off =
+    λ off k r h.
+    let z : at + (4 + off) + k * 12 ≡ at + k * 12 + (4 + off) = omega arith in
+    ap (le 4 s) z ∙ fields-read s J 1 k off 4 (lit< tt) (omega (arith, n)) r in
+    sum-same (getD (jobCounts s) 1 0) _ (λ k. le 4 (getD (bodies 2 (J .records)) k []) 4 - le 4 (getD (bodies 2 (J .records)) k []) 0)
+    (λ k h. ap₂ _-_ (entry 4 k (lit≤ tt) h) (entry 0 k (lit≤ tt) h))
+    ∙ ap (λ (m : ℕ). sum m (λ k. le 4 (getD (bodies 2 (J .records)) k []) 4 - le 4 (getD (bodies 2 (J .records)) k []) 0)) n
