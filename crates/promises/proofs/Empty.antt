@@ -1,0 +1,263 @@
+-- How empty answers are shut out: each breaks a promise, by a witness. Assumes nothing.
+use mathlib.Core.Path.{_≡_, refl, sym, ap, ap₂, _∙_}
+use mathlib.Core.Bool.{Bool, true, false}
+use mathlib.Core.List.{List, [], _∷_}
+use Prim.Native.Nat.{ℕ, suc, _+_, _*_, _≤_, _<_}
+use native.Mathlib.Omega.{arith}
+use lib.Dec.{eqb}
+use lib.IntN.{ℤ, pos}
+use lib.ListN.{length, getD, replicate, length-replicate}
+use native.Mathlib.Nat.{le-of-eq}
+use Rattle.paper.specs.Bits.{bitOf}
+use Rattle.paper.specs.Count.{all, allIn, sum, count, over, fill, among}
+use Rattle.slotset.specs.declared.Found.{Found}
+use Rattle.slotset.specs.declared.Found.the-variants.{At, Nothing}
+use Rattle.slotset.specs.declared.Told.{Told}
+use Rattle.slotset.specs.declared.Told.the-variants.{Yes, No}
+use Rattle.slotset.specs.declared.Counted.{Counted}
+use Rattle.slotset.specs.declared.Counted.the-variants as counted
+use Rattle.paper.specs.Limits.{peopleOk, slotCountOk}
+use Rattle.slotset.specs.declared.SlotSet.{SlotSet}
+use Rattle.slotset.specs.Slots.{slot, withBit, putSlot, putSlots}
+use Rattle.slotset.specs.Answers.{rowNo, loadOf}
+use Rattle.slots.specs.Atomic.{Base, Atoms}
+use Rattle.slots.specs.Ranges.{ranges}
+use Rattle.slots.specs.Lent.{minutesAt, demandOf}
+use Rattle.units.specs.Units.{unitEnd}
+use Rattle.units.specs.Domains.{available, able, unfrozen, clear, unitFrozen}
+use Rattle.units.specs.Answers.{Written}
+use Rattle.targets.specs.Outcome as targets
+use Rattle.rota.specs.declared.Figure.the-variants as figure
+use Rattle.rota.specs.Board.{ownerOf, unowned}
+use Rattle.rota.specs.Lent.{fitsUnit, frozenUnit}
+use Rattle.rota.specs.Moves.{anyOf, decided, swapped, reassigned, picked, domainOf}
+use Rattle.rota.specs.Plays.{step, ownersAfter, drawsOf}
+use Rattle.rota.specs.Derived.{knownBy, portion, worked, held, setsFrom, afresh}
+use Rattle.rota.specs.Recount.{knownAt, freeFor, freeAt, evenAt, setSlotAt, setAt, minutesOkAt, recounts}
+use Rattle.rota.specs.Entries as rota
+use Rattle.rota.proofs.Entered.{recount-says}
+use Rattle.promises.specs.Entries.{Call, Component, built, noOf, playOf, afreshIn, ownersIn}
+use Rattle.promises.specs.Marked.{MarkedCases, inWords, onePerson, atoms, one, mondays, Owned, apart, Spare, twoUnits}
+use Rattle.promises.specs.Table.{countedNo, numberNo}
+use Rattle.promises.specs.Refusals.{playTable}
+use Rattle.promises.specs.Rota.{EndsAfresh, FrozenKeep, OwnersAvailable, CoveredStays, AddsUp, SizesRecount, after, firstCall}
+use Rattle.promises.specs.Empty.{RefusesByTable, AlwaysRefuses, refuses-atomise, refuses-targets, refuses-rotations, refuses-play}
+use Rattle.promises.specs.Empty.{FixedAnswer, fixed-next, fixed-prev, fixed-atomise, fixed-available, fixed-targets, fixed-rotations}
+use Rattle.promises.specs.Empty.{fixed-play, DoesNothing, ActsByRule, FirstDrawOnly, InventedCount, InventedUncovered}
+use Rattle.promises.proofs.Table.{one-heard}
+use Rattle.promises.proofs.Calls.{accepted-is, accepted-says}
+use Rattle.promises.proofs.TwoUnits.{accepted, apart-recounts}
+use Rattle.promises.proofs.RotaRefusals.{rota-refuses}
+
+-- nothing past what is needed, and these answers
+abbrev spare : List ℕ → Spare
+spare x = record { owners = []; sets = []; minutes = []; answers = x }
+
+-- owners 0 and 1, no draw
+abbrev still : Call
+still = twoUnits apart 0 0 [] [] [] (spare [])
+
+still-accepted : noOf still ≡ 0
+still-accepted = accepted apart 0 0 [] [] [] (spare []) refl refl refl refl (omega arith) (apart-recounts 0 0 [] [] [] (spare []))
+
+-- ---- always refusing
+
+abbrev zeros : ℕ → List ℕ
+zeros n = replicate n 0
+
+room : (n : ℕ) → n ≤ length (zeros n)
+room n = le-of-eq (sym (length-replicate n 0))
+
+pub refuses-by-table : RefusesByTable built
+refuses-by-table c = rota-refuses .play c .heard
+
+pub always-refusing-falls : (C : Component) → AlwaysRefuses C → MarkedCases C → RefusesByTable C → ⊥
+always-refusing-falls C (refuses-atomise f) M T =
+    f _ (ap (λ (x : Atoms). countedNo (x .answer)) (M .case-4 (zeros 1024) (zeros 1024) (room 1024) (room 1024)))
+always-refusing-falls C (refuses-targets f) M T =
+    f _ _ (ap (λ (y : targets.Outcome). y .number) (M .case-9 (zeros 32) (pos 0 ∷ pos 0 ∷ []) (room 32) (omega arith)))
+always-refusing-falls C (refuses-rotations f) M T =
+    f _ _ _ _ _ (ap (λ (w : Written). numberNo (w .answer))
+    (M .case-11 0 0 0 (0 ∷ 0 ∷ 0 ∷ 0 ∷ []) (omega arith) (omega arith) (omega arith) (omega arith)))
+always-refusing-falls C (refuses-play f) M T =
+    f still (one-heard _ _ _ (T still) (rota-refuses .play still .heard) ∙ ap (λ (y : rota.Outcome). y .number) (accepted-is still still-accepted))
+
+-- ---- one fixed answer
+
+pub fixed-answer-falls : (C : Component) → FixedAnswer C → MarkedCases C → ⊥
+fixed-answer-falls C (fixed-next f) M =
+    let q : At 63 ≡ Nothing = sym (M .case-1 [] .0) ∙ f _ _ _ _ ∙ M .case-1 [] .1 in
+    let z : _≡_ {A = ℕ} 0 1 = cc in omega arith
+fixed-answer-falls C (fixed-prev f) M =
+    let q : At 64 ≡ At 0 = sym (M .case-2 [] .0) ∙ f _ _ _ _ ∙ M .case-2 [] .1 in
+    let z : _≡_ {A = ℕ} 64 0 = cc in omega arith
+fixed-answer-falls C (fixed-atomise f) M =
+    let l = zeros 1024 in
+    let q : counted.Is 2 ≡ counted.Is 1 =
+    sym (ap (λ (x : Atoms). x .answer) (M .case-4 l l (room 1024) (room 1024))) ∙ ap (λ (x : Atoms). x .answer) (f _ _)
+    ∙ ap (λ (x : Atoms). x .answer) (M .case-5 l l (room 1024) (room 1024)) in
+    let z : _≡_ {A = ℕ} 2 1 = cc in omega arith
+fixed-answer-falls C (fixed-available f) M =
+    let x = M .case-6-available (zeros 16) (room 16) in
+    let q : No ≡ Yes = sym (x .0) ∙ f _ _ _ _ _ _ _ ∙ x .1 in
+    let z : _≡_ {A = ℕ} 0 1 = cc in omega arith
+fixed-answer-falls C (fixed-targets f) M =
+    let out = pos 0 ∷ pos 0 ∷ pos 0 ∷ pos 0 ∷ [] in
+    let first : targets.Outcome → ℤ = λ y. getD (y .out) 0 (pos 0) in
+    let q : pos 33 ≡ pos 1 =
+    sym (ap first (M .case-7 (zeros 48) out (room 48) (omega arith))) ∙ ap first (f _ _ out)
+    ∙ ap first (M .case-8 (zeros 64) out (room 64) (omega arith)) in
+    let z : _≡_ {A = ℕ} 33 1 = cc in omega arith
+fixed-answer-falls C (fixed-rotations f) M =
+    let a = M .case-11 0 0 0 (0 ∷ 0 ∷ 0 ∷ 0 ∷ []) (omega arith) (omega arith) (omega arith) (omega arith) in
+    let b = M .case-11 0 0 0 (0 ∷ 0 ∷ 1 ∷ 0 ∷ []) (omega arith) (omega arith) (omega arith) (omega arith) in
+    let third : Written → ℕ = λ w. getD (w .buffer) 2 0 in
+    let z : _≡_ {A = ℕ} 0 1 = sym (ap third a) ∙ ap third (f _ _ _ _ _ _) ∙ ap third b in omega arith
+fixed-answer-falls C (fixed-play f) M =
+    let a = M .case-12 (spare (0 ∷ 0 ∷ [])) (omega arith) in
+    let b = M .case-12 (spare (0 ∷ 1 ∷ [])) (omega arith) in
+    let second : rota.Outcome → ℕ = λ y. getD (y .answers) 1 0 in
+    let z : _≡_ {A = ℕ} 0 1 = sym (ap second a) ∙ ap second (f _ _) ∙ ap second b in omega arith
+
+-- ---- doing nothing
+
+pub doing-nothing-keeps : (C : Component) → DoesNothing C → FrozenKeep C × OwnersAvailable C × CoveredStays C
+doing-nothing-keeps C f =
+    let same : (c : Call) (k : ℕ) → after C c k ≡ getD (c .owners) k 0 = λ c k. ap (λ (o : List ℕ). getD o k 0) (f c) in (
+      λ c e k h z. same c k,
+      λ c e k h.
+          let r = recount-says (c .plan) (c .avail) (c .units) (c .firsts) (c .owners) (c .derived) (accepted-says c e .recount) in (
+            ap (knownBy (c .plan .people)) (same c k) ∙ r .known k h,
+            ap (λ (w : ℕ). freeFor (c .avail) w k) (same c k) ∙ r .free k h,
+          ),
+      λ c e k h owned now. owned (sym (same c k) ∙ now),
+    )
+
+-- owners 0 and 1, nothing frozen, the swap of both units: it acts
+abbrev swap : Call
+swap = twoUnits apart 0 1 (35 ∷ []) (0 ∷ []) (1 ∷ []) (spare (0 ∷ []))
+
+swap-accepted : noOf swap ≡ 0
+swap-accepted =
+    accepted apart 0 1 (35 ∷ []) (0 ∷ []) (1 ∷ []) (spare (0 ∷ [])) refl refl refl refl (omega arith)
+    (apart-recounts 0 1 (35 ∷ []) (0 ∷ []) (1 ∷ []) (spare (0 ∷ [])))
+
+pub swap-acts : ownersIn swap ≡ 1 ∷ 0 ∷ []
+unfolding drawsOf ownersAfter step decided anyOf swapped unowned ownerOf frozenUnit unitFrozen clear unfrozen allIn all slot bitOf unitEnd
+    fitsUnit able available fill
+swap-acts = refl
+
+pub doing-nothing-falls : (C : Component) → DoesNothing C → ActsByRule C → ⊥
+doing-nothing-falls C f g =
+    let first : List ℕ → ℕ = λ o. getD o 0 0 in
+    let z : _≡_ {A = ℕ} 0 1 = ap first (sym (f swap) ∙ g swap swap-accepted ∙ swap-acts) in omega arith
+
+-- ---- playing only the first draw
+
+-- owners 0 and 1: unit 0 to person 1, then unit 1 to person 0
+abbrev twice : Call
+twice = twoUnits apart 0 2 (0 ∷ 0 ∷ []) (0 ∷ 1 ∷ []) (1 ∷ 0 ∷ []) (spare (0 ∷ 0 ∷ []))
+
+twice-accepted : noOf twice ≡ 0
+twice-accepted =
+    accepted apart 0 2 (0 ∷ 0 ∷ []) (0 ∷ 1 ∷ []) (1 ∷ 0 ∷ []) (spare (0 ∷ 0 ∷ [])) refl refl refl refl (omega arith)
+    (apart-recounts 0 2 (0 ∷ 0 ∷ []) (0 ∷ 1 ∷ []) (1 ∷ 0 ∷ []) (spare (0 ∷ 0 ∷ [])))
+
+pub both-draws : (ownersIn twice ≡ 1 ∷ 0 ∷ []) × (ownersIn (firstCall twice 1) ≡ 1 ∷ 1 ∷ [])
+unfolding drawsOf ownersAfter step decided anyOf reassigned picked domainOf among ownerOf frozenUnit unitFrozen clear unfrozen allIn all
+    slot bitOf unitEnd fitsUnit able available fill
+both-draws = (refl, refl)
+
+pub first-draw-only-falls : (C : Component) → FirstDrawOnly C → EndsAfresh C → ⊥
+first-draw-only-falls C f g =
+    let second : List ℕ → ℕ = λ o. getD o 1 0 in
+    let z : _≡_ {A = ℕ} 1 0 =
+    ap second (sym (both-draws .1) ∙ sym (f twice twice-accepted (omega arith))
+    ∙ ap (λ (y : rota.Outcome). y .owners) (g twice twice-accepted) ∙ both-draws .0) in
+    omega arith
+
+-- ---- an invented count, or uncovered total
+
+-- both slots are person 0's; the second is nobody's
+abbrev both-his : Owned
+both-his = record { first = 0; second = 0; words0 = 3; words1 = 0; minutes0 = 120; minutes1 = 0 }
+
+abbrev half : Owned
+half = record { first = 0; second = 255; words0 = 1; words1 = 0; minutes0 = 60; minutes1 = 0 }
+
+abbrev at-rest : Owned → Call
+at-rest r = twoUnits r 0 0 [] [] [] (spare [])
+
+both-accepted : noOf (at-rest both-his) ≡ 0
+unfolding recounts all allIn knownAt knownBy freeAt freeFor available evenAt unitEnd setAt setSlotAt held minutesOkAt worked portion sum
+    minutesAt slot bitOf
+both-accepted = accepted both-his 0 0 [] [] [] (spare []) refl refl refl refl (omega arith) refl
+
+half-accepted : noOf (at-rest half) ≡ 0
+unfolding recounts all allIn knownAt knownBy freeAt freeFor available evenAt unitEnd setAt setSlotAt held minutesOkAt worked portion sum
+    minutesAt slot bitOf
+half-accepted = accepted half 0 0 [] [] [] (spare []) refl refl refl refl (omega arith) refl
+
+-- of owners 0 and 0 person 0 has two slots, person 1 none
+counts-differ : (count 2 (λ k. eqb (getD (0 ∷ 0 ∷ []) k 0) 0) ≡ 2) × (count 2 (λ k. eqb (getD (0 ∷ 0 ∷ []) k 0) 1) ≡ 0)
+unfolding count sum
+counts-differ = (refl, refl)
+
+module _ (C : Component) (g : EndsAfresh C) where
+  abbrev c : Call
+  c = at-rest both-his
+
+  owners-rest : C .play c .owners ≡ 0 ∷ 0 ∷ []
+  unfolding drawsOf ownersAfter
+  owners-rest = ap (λ (y : rota.Outcome). y .owners) (g c both-accepted)
+
+  abbrev setOf : rota.Outcome → ℕ → SlotSet
+  setOf y p = rota.slotsOfIs 2 2 (y .derived .sets) p .set
+
+  afresh-lengths : setOf (afreshIn c) 0 .len ≡ setOf (afreshIn c) 1 .len
+  unfolding rota.slotsOfIs loadOf rowNo slotCountOk peopleOk drawsOf ownersAfter afresh setsFrom putSlots putSlot withBit held slot bitOf
+  afresh-lengths = refl
+
+  same-lengths : setOf (C .play c) 0 .len ≡ setOf (C .play c) 1 .len
+  same-lengths =
+      let q = g c both-accepted in
+      ap (λ (y : rota.Outcome). setOf y 0 .len) q ∙ afresh-lengths ∙ sym (ap (λ (y : rota.Outcome). setOf y 1 .len) q)
+
+  count-of : SizesRecount C → (p n : ℕ) → p < 2 → count 2 (λ k. eqb (getD (0 ∷ 0 ∷ []) k 0) p) ≡ n → C .size (setOf (C .play c) p) ≡ counted.Is n
+  count-of f p n h e =
+      f c both-accepted p h ∙ ap (λ (o : List ℕ). counted.Is (count 2 (λ k. eqb (getD o k 0) p))) owners-rest ∙ ap counted.Is e
+
+  pub invented-count-falls : InventedCount C → SizesRecount C → ⊥
+  invented-count-falls i f =
+      let q : counted.Is 2 ≡ counted.Is 0 =
+      sym (count-of f 0 2 (omega arith) (counts-differ .0)) ∙ i _ _ same-lengths ∙ count-of f 1 0 (omega arith) (counts-differ .1) in
+      let z : _≡_ {A = ℕ} 2 0 = cc in
+      omega arith
+
+  -- minutes after no draw: all covered, and half of it
+  covered-sum : sum 2 (λ p. getD (afreshIn (at-rest apart) .derived .minutes) p 0) ≡ 120
+  unfolding drawsOf ownersAfter afresh over worked portion sum minutesAt
+  covered-sum = refl
+
+  half-sum : sum 2 (λ p. getD (afreshIn (at-rest half) .derived .minutes) p 0) ≡ 60
+  unfolding drawsOf ownersAfter afresh over worked portion sum minutesAt
+  half-sum = refl
+
+  both-hours : demandOf 2 (0 ∷ 60 ∷ []) (60 ∷ 120 ∷ []) ≡ 120
+  unfolding demandOf sum minutesAt
+  both-hours = refl
+
+  abbrev minutes-in : rota.Outcome → ℕ
+  minutes-in y = sum 2 (λ p. getD (y .derived .minutes) p 0)
+
+  pub invented-uncovered-falls : InventedUncovered C → AddsUp C → ⊥
+  invented-uncovered-falls i f =
+      let a = f (at-rest apart) still-accepted in
+      let b = f (at-rest half) half-accepted in
+      let q : figure.Is (a .0) ≡ figure.Is (b .0) = sym (a .1) ∙ i _ _ _ ∙ b .1 in
+      let z : a .0 ≡ b .0 = cc in
+      let s : 120 + a .0 ≡ 120 =
+      ap (λ (n : ℕ). n + a .0) (sym (ap minutes-in (g (at-rest apart) still-accepted) ∙ covered-sum)) ∙ a .2 ∙ both-hours in
+      let t : 60 + b .0 ≡ 120 =
+      ap (λ (n : ℕ). n + b .0) (sym (ap minutes-in (g (at-rest half) half-accepted) ∙ half-sum)) ∙ b .2 ∙ both-hours in
+      omega arith

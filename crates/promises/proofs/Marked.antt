@@ -1,0 +1,260 @@
+-- The marked cases, computed through the definitions that the contracts cite. Assumes nothing.
+use mathlib.Core.Path.{_≡_, refl, sym, ap, ap₂, _∙_}
+use mathlib.Core.Bool.{Bool, true, false, _&&_, cond}
+use mathlib.Core.List.{List, [], _∷_, _++_}
+use Prim.Native.Nat.{ℕ, zero, suc, _+_, _-_, _*_, _^_, _≤_, _<_, min}
+use native.Mathlib.Omega.{arith}
+use borrow.Author.Tests.{le-leb, leb-true, lt-ltb}
+use lib.Dec.{leb, ltb, eqb}
+use lib.ListN.{length, drop, getD, length-append, length-drop, List·getD-append}
+use lib.Seq.{ext-getD, getD-append-add, getD-drop}
+use native.Mathlib.Bridge.{le-by-compare, IsLe}
+use mathlib.Core.Logic.{⊎-elim}
+use Rattle.paper.proofs.Logic.{lt-or-ge, and-true}
+use Rattle.paper.specs.Limits.{peopleOk, slotCountOk, orElse}
+use Rattle.paper.specs.Count.{all, allIn, among}
+use Rattle.paper.specs.Bits.{bitOf}
+use Rattle.slotset.specs.declared.Found.the-variants.{At, Nothing}
+use Rattle.slotset.specs.declared.Run.the-variants as run
+use Rattle.slotset.specs.Slots.{slot, has}
+use Rattle.slotset.specs.Search.{up, down, nextWith, lastBelow}
+use Rattle.slotset.specs.Answers.{lenNo, foundAs, runAs}
+use Rattle.slotset.specs.declared.Told.the-variants.{Yes, No}
+use Rattle.slotset.specs.declared.Counted.the-variants as counted
+use Rattle.slotset.specs.Slots.{valueOf}
+use Rattle.slotset.specs.Answers.{countedAs, wordsAs, toldAs}
+use Rattle.slots.specs.Lent.{slotOk, prevEnd, slotOkAt, slotRoomOk, slotsOk}
+use Rattle.slots.specs.Ranges.{Ranges, ranges, some, inRange, inRanges, available, rangeCountOk, rangeRoomOk, rangeOk, rangeOkAt, rangesOk}
+use Rattle.slots.specs.Ranges.{anyOf, keyOf, personOf, startOf, endOf, keyAt, keysTo, keysOf, opens, closes, joined, mergeIn, mergeAll, mergedOf}
+use Rattle.slots.specs.Merged.{written}
+use Rattle.slots.specs.Atomic.{startsOrEnds, isCut, cutAfter, cutsIn, atomStarts, atomEnds, Base, base, countsOk, roomOk, Atoms}
+use Rattle.slots.specs.Atomic.{startsOfAtoms, endsOfAtoms, baseCountsOk, baseRoomOk, atomiseNo, atomiseOf}
+use Rattle.slots.specs.Availability.{availableBit, rows, availabilityRoomOk, availabilityNo, availabilityOf}
+use Rattle.slots.specs.Freeze.{availableNo, isAvailable}
+use Rattle.slots.proofs.Meaning.{written-at, written-past, written-length, available-slot}
+use Rattle.slots.proofs.AvailLaws.{length-rows}
+use Rattle.units.specs.declared.Settings.{Settings}
+use Rattle.units.specs.declared.Number.the-variants as number
+use Rattle.units.specs.Settings.{boundaryOk, settingsOk}
+use Rattle.units.specs.Dates.{dateOf, weekdayOf, listed}
+use Rattle.units.specs.Answers.{numberAs, onto, writtenAs}
+use Rattle.units.specs.Starts.{dayBegins, rotationBegins, rotationStarts, startsNo, rotationStartsIs}
+use Rattle.promises.proofs.TwoUnits.{case-12}
+use Rattle.targets.proofs.Cases.{case7, case8, case9, case10}
+use Rattle.promises.specs.Entries.{Component, built}
+use Rattle.promises.specs.Marked.{MarkedCases, inWords, onePerson, atoms, mondays}
+
+case-1 : (rest : List ℕ)
+    → (built .next (inWords 64 (2 ^ 63 ∷ rest)) 0 ≡ At 63) × (built .next (inWords 64 (2 ^ 63 ∷ rest)) 64 ≡ Nothing)
+unfolding foundAs lenNo nextWith up slot bitOf
+case-1 rest = (refl, refl)
+
+case-2 : (rest : List ℕ)
+    → (built .prev (inWords 65 (1 ∷ 1 ∷ rest)) 1000 ≡ At 64) × (built .prev (inWords 65 (1 ∷ 1 ∷ rest)) 63 ≡ At 0)
+unfolding foundAs lenNo lastBelow down slot bitOf
+case-2 rest = (refl, refl)
+
+case-3 : (rest : List ℕ) → built .run (inWords 70 ((2 ^ 64 - 2 ^ 60) ∷ (2 ^ 6 - 1) ∷ rest)) 64 ≡ run.Span 60 69
+unfolding runAs lenNo has nextWith lastBelow up down slot bitOf
+case-3 rest = refl
+
+-- ---- 4 to 6
+
+-- a list at the front of a column, and the rest of the column
+front : (list column : List ℕ) → length list ≤ length column → written (λ t. t) list column ≡ list ++ drop (length list) column
+front list column room =
+    ext-getD 0 (written (λ t. t) list column) (list ++ drop (length list) column)
+    (written-length (λ t. t) list column ∙ sym (length-append list _ ∙ ap (λ (n : ℕ). length list + n) (length-drop (length list) column)
+    ∙ omega arith))
+    (λ i _.
+    ⊎-elim
+    (λ (h : i < length list). written-at (λ t. t) list column i h room ∙ sym (List·getD-append list _ 0 i h))
+    (λ (h : length list ≤ i).
+    let e : length list + (i - length list) ≡ i = omega arith in
+    written-past (λ t. t) list column i h
+    ∙ sym (ap (λ (j : ℕ). getD (list ++ drop (length list) column) j 0) (sym e)
+    ∙ getD-append-add list (drop (length list) column) (i - length list) 0
+    ∙ getD-drop (length list) column (i - length list) 0
+    ∙ ap (λ (j : ℕ). getD column j 0) e))
+    (lt-or-ge i (length list)))
+
+-- a chain of five tests that hold
+five-hold : (a b c d e : Bool) → a ≡ true → b ≡ true → c ≡ true → d ≡ true → e ≡ true
+    → orElse a 1 (orElse b 2 (orElse c 3 (orElse d 4 (orElse e 5 0)))) ≡ 0
+five-hold a b c d e p q r s t = simp (p, q, r, s, t)
+
+-- the outcome where nothing is refused
+module _ (B : Base) where
+  abbrev by : ℕ → List ℕ → List ℕ → Atoms
+  by n s e = record {
+    answer = countedAs n (length s);
+    starts = wordsAs n (B .outStarts) (written (λ t. t) s (B .outStarts));
+    ends = wordsAs n (B .outEnds) (written (λ t. t) e (B .outEnds));
+  }
+
+  module _ (s e : List ℕ) (even : length e ≡ length s) (few : leb (length s) 1024 ≡ true) (counts : baseCountsOk B ≡ true)
+      (lent : slotRoomOk (B .slots) (B .starts) (B .ends) ≡ true) (lentRanges : rangeRoomOk (B .ranges) ≡ true)
+      (slots : slotsOk (B .slots) (B .starts) (B .ends) ≡ true) (right : rangesOk (B .people) (B .ranges) ≡ true)
+      (x : startsOfAtoms B ≡ s) (y : endsOfAtoms B ≡ e) (a : 1024 ≤ length (B .outStarts)) (b : 1024 ≤ length (B .outEnds)) where
+    room : baseRoomOk B ≡ true
+    unfolding roomOk slotRoomOk
+    room =
+        and-true _ _ lent (and-true _ _ lentRanges (and-true _ _ (le-leb 1024 (length (B .outStarts)) a) (le-leb 1024 (length (B .outEnds)) b)))
+
+    heard : atomiseNo B ≡ 0
+    unfolding atomiseNo
+    heard = five-hold _ _ _ _ _ counts room slots right (ap (λ (l : List ℕ). leb (length l) 1024) x ∙ few)
+
+    shape : atomiseOf B ≡ by (atomiseNo B) (startsOfAtoms B) (endsOfAtoms B)
+    unfolding atomiseOf
+    shape = refl
+
+    plain : by 0 s e ≡ record { answer = counted.Is (length s); starts = written (λ t. t) s (B .outStarts); ends = written (λ t. t) e (B .outEnds) }
+    unfolding countedAs wordsAs
+    plain = refl
+
+    atomised : atomiseOf B ≡ atoms (length s) s e (B .outStarts) (B .outEnds)
+    atomised =
+        let h = leb-true (length s) 1024 few in
+        shape ∙ ap (λ (n : ℕ). by n (startsOfAtoms B) (endsOfAtoms B)) heard ∙ ap₂ (by 0) x y ∙ plain
+        ∙ ap₂ {C = Atoms} (λ (p q : List ℕ). record { answer = counted.Is (length s); starts = p; ends = q })
+        (front s (B .outStarts) (omega arith))
+        (front e (B .outEnds) (omega arith) ∙ ap (λ (n : ℕ). e ++ drop n (B .outEnds)) even)
+
+case-4 : (a b : List ℕ) → 1024 ≤ length a → 1024 ≤ length b
+    → built .atomise (onePerson 1 (0 ∷ []) (120 ∷ []) 1 (60 ∷ []) (180 ∷ []) a b) ≡ atoms 2 (0 ∷ 60 ∷ []) (60 ∷ 120 ∷ []) a b
+unfolding countsOk peopleOk slotCountOk rangeCountOk slotRoomOk rangeRoomOk slotsOk slotOkAt slotOk prevEnd all rangesOk rangeOkAt rangeOk
+    atomStarts atomEnds cutsIn cutAfter isCut startsOrEnds anyOf among mergedOf mergeAll mergeIn keysOf keysTo keyAt keyOf personOf startOf
+    endOf opens closes joined
+case-4 a b =
+    atomised (onePerson 1 (0 ∷ []) (120 ∷ []) 1 (60 ∷ []) (180 ∷ []) a b) (0 ∷ 60 ∷ []) (60 ∷ 120 ∷ [])
+    refl refl refl refl refl refl refl refl refl
+
+case-5 : (a b : List ℕ) → 1024 ≤ length a → 1024 ≤ length b
+    → built .atomise (onePerson 1 (0 ∷ []) (120 ∷ []) 2 (0 ∷ 60 ∷ []) (60 ∷ 120 ∷ []) a b) ≡ atoms 1 (0 ∷ []) (120 ∷ []) a b
+unfolding countsOk peopleOk slotCountOk rangeCountOk slotRoomOk rangeRoomOk slotsOk slotOkAt slotOk prevEnd all rangesOk rangeOkAt rangeOk
+    atomStarts atomEnds cutsIn cutAfter isCut startsOrEnds anyOf among mergedOf mergeAll mergeIn keysOf keysTo keyAt keyOf personOf startOf
+    endOf opens closes joined
+case-5 a b =
+    atomised (onePerson 1 (0 ∷ []) (120 ∷ []) 2 (0 ∷ 60 ∷ []) (60 ∷ 120 ∷ []) a b) (0 ∷ []) (120 ∷ [])
+    refl refl refl refl refl refl refl refl refl
+
+case-6 : (a b : List ℕ) → 1024 ≤ length a → 1024 ≤ length b
+    → built .atomise (onePerson 2 (0 ∷ 60 ∷ []) (60 ∷ 120 ∷ []) 1 (30 ∷ []) (90 ∷ []) a b)
+    ≡ atoms 4 (0 ∷ 30 ∷ 60 ∷ 90 ∷ []) (30 ∷ 60 ∷ 90 ∷ 120 ∷ []) a b
+unfolding countsOk peopleOk slotCountOk rangeCountOk slotRoomOk rangeRoomOk slotsOk slotOkAt slotOk prevEnd all rangesOk rangeOkAt rangeOk
+    atomStarts atomEnds cutsIn cutAfter isCut startsOrEnds anyOf among mergedOf mergeAll mergeIn keysOf keysTo keyAt keyOf personOf startOf
+    endOf opens closes joined
+case-6 a b =
+    atomised (onePerson 2 (0 ∷ 60 ∷ []) (60 ∷ 120 ∷ []) 1 (30 ∷ []) (90 ∷ []) a b) (0 ∷ 30 ∷ 60 ∷ 90 ∷ []) (30 ∷ 60 ∷ 90 ∷ 120 ∷ [])
+    refl refl refl refl refl refl refl refl refl
+
+-- the four slots of case 6, one person with the range 30-90, and any words with room
+module _ (ws : List ℕ) (room : 16 ≤ length ws) where
+  abbrev starts : List ℕ
+  starts = 0 ∷ 30 ∷ 60 ∷ 90 ∷ []
+
+  abbrev ends : List ℕ
+  ends = 30 ∷ 60 ∷ 90 ∷ 120 ∷ []
+
+  abbrev theirs : Ranges
+  theirs = ranges 1 (0 ∷ []) (30 ∷ []) (90 ∷ [])
+
+  abbrev out : List ℕ
+  out = availabilityOf 1 4 starts ends theirs ws
+
+  -- nothing is refused
+  four-hold : (a b c d : Bool) → a ≡ true → b ≡ true → c ≡ true → d ≡ true → orElse a 1 (orElse b 2 (orElse c 4 (orElse d 9 0))) ≡ 0
+  four-hold a b c d p q r s = simp (p, q, r, s)
+
+  none-refused : availabilityNo 1 4 starts ends theirs ws ≡ 0
+  unfolding availabilityNo availabilityRoomOk countsOk peopleOk slotCountOk rangeCountOk slotRoomOk rangeRoomOk slotsOk slotOkAt slotOk prevEnd
+      all rangesOk rangeOkAt rangeOk
+  none-refused = four-hold _ _ _ _ refl (le-leb 16 (length ws) room) refl refl
+
+  out-is : out ≡ rows (availableBit theirs starts ends) 4 1 ws
+  unfolding availabilityOf wordsAs
+  out-is = ap (λ (n : ℕ). wordsAs n ws (rows (availableBit theirs starts ends) 4 1 ws)) none-refused
+
+  room-out : 16 ≤ length out
+  room-out = omega (arith, ap length out-is, length-rows (availableBit theirs starts ends) 4 1 ws)
+
+  bit : (k : ℕ) → k < 4 → slot out 0 k ≡ valueOf (available theirs 0 (getD starts k 0) (getD ends k 0))
+  bit k h =
+      ap (λ (l : List ℕ). slot l 0 k) out-is
+      ∙ available-slot theirs starts ends 4 1 ws (omega arith) room 0 k (omega arith) h
+
+  three-hold : (a b c : Bool) → a ≡ true → b ≡ true → c ≡ true → orElse a 1 (orElse b 2 (orElse c 11 0)) ≡ 0
+  three-hold a b c p q r = simp (p, q, r)
+
+  value-one : (b : Bool) → eqb (valueOf b) 1 ≡ b
+  value-one true = refl
+  value-one false = refl
+
+  told : (k : ℕ) (b : Bool) → k < 4 → ltb k 4 ≡ true → available theirs 0 (getD starts k 0) (getD ends k 0) ≡ b
+      → isAvailable 1 4 out 0 k ≡ cond b Yes No
+  unfolding isAvailable availableNo toldAs has peopleOk slotCountOk
+  told k b h t e =
+      let n : availableNo 1 4 out 0 k ≡ 0 = three-hold _ _ _ refl (le-leb 16 (length out) room-out) t in
+      let m : has (slot out 0) 4 k ≡ b =
+      ap₂ (λ (x : Bool) (y : ℕ). x && eqb y 1) t (bit k h ∙ ap valueOf e) ∙ value-one b in
+      ap₂ toldAs n m
+
+  case-6-available : (isAvailable 1 4 out 0 0 ≡ No) × (isAvailable 1 4 out 0 1 ≡ Yes) × (isAvailable 1 4 out 0 2 ≡ Yes)
+      × (isAvailable 1 4 out 0 3 ≡ No)
+  unfolding available allIn all inRanges inRange some
+  case-6-available = (
+    told 0 false (omega arith) refl refl,
+    told 1 true (omega arith) refl refl,
+    told 2 true (omega arith) refl refl,
+    told 3 false (omega arith) refl refl,
+  )
+
+-- ---- 11
+
+module _ (fairness lock days : ℕ) (list : List ℕ) (f : fairness ≤ 1) (l : lock ≤ 1) (d : days ≤ 366) (room : 4 ≤ length list) where
+  abbrev from : List ℕ
+  from = 4320 ∷ 5040 ∷ 5760 ∷ 6480 ∷ []
+
+  abbrev to : List ℕ
+  to = 5040 ∷ 5760 ∷ 6480 ∷ 7200 ∷ []
+
+  hold : (a b c e g : Bool) → a ≡ true → b ≡ true → c ≡ true → e ≡ true → g ≡ true
+      → orElse a 1 (orElse b 2 (orElse c 2 (orElse e 7 (orElse g 9 0)))) ≡ 0
+  hold a b c e g p q r s t = simp (p, q, r, s, t)
+
+  set-right : settingsOk (mondays fairness lock days) ≡ true
+  unfolding settingsOk boundaryOk
+  set-right =
+      and-true _ _ (le-leb fairness 1 f) (and-true _ _ (le-leb lock 1 l) (and-true _ _ (le-leb days 366 d) refl))
+
+  starts-none : startsNo (mondays fairness lock days) 4 from to list ≡ 0
+  unfolding startsNo slotCountOk slotRoomOk slotsOk slotOkAt slotOk prevEnd all
+  starts-none = hold _ _ _ _ _ refl refl (le-leb 4 (length list) room) set-right refl
+
+  begins : rotationStarts (mondays fairness lock days) 4 from ≡ 0 ∷ 2 ∷ []
+  unfolding rotationStarts rotationBegins dayBegins listed weekdayOf dateOf among bitOf
+  begins = refl
+
+  case-11 : rotationStartsIs (mondays fairness lock days) 4 from to list ≡ record { answer = number.Is 2; buffer = 0 ∷ 2 ∷ drop 2 list }
+  unfolding rotationStartsIs writtenAs numberAs onto
+  case-11 = ap₂ (λ (n : ℕ) (b : List ℕ). writtenAs n b list) starts-none begins
+
+-- ---- the table
+
+pub marked-cases : MarkedCases built
+marked-cases = record {
+  case-1 = case-1;
+  case-2 = case-2;
+  case-3 = case-3;
+  case-4 = case-4;
+  case-5 = case-5;
+  case-6 = case-6;
+  case-6-available = case-6-available;
+  case-7 = case7;
+  case-8 = case8;
+  case-9 = case9;
+  case-10 = case10;
+  case-11 = case-11;
+  case-12 = case-12;
+}

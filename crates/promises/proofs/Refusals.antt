@@ -1,0 +1,259 @@
+-- Demand 1: each entry's chain is heard by its table, and a refusal leaves what was lent as it was. Assumes nothing.
+use mathlib.Core.Path.{_≡_, refl, sym, ap, ap₂, _∙_, subst}
+use mathlib.Core.Bool.{Bool, true, false, _&&_, cond}
+use mathlib.Core.List.{List, [], _∷_}
+use mathlib.Core.Logic.{_⊎_, inl, inr, ⊎-elim}
+use Prim.Native.Nat.{ℕ, _*_, _≤_, _<_}
+use native.Mathlib.Omega.{arith}
+use borrow.Author.Tests.{eq-eqb, ne-eqb, eqb-true, eqb-false}
+use lib.Dec.{leb, ltb, eqb}
+use lib.IntN.{ℤ}
+use lib.ListN.{length, getD}
+use Rattle.paper.specs.Limits.{peopleOk, slotCountOk}
+use Rattle.paper.specs.Count.{all}
+use Rattle.paper.proofs.Logic.{by-test}
+use Rattle.slotset.specs.declared.Told.the-variants as told
+use Rattle.slotset.specs.declared.Counted.the-variants as counted
+use Rattle.slotset.specs.Answers.{toldAs, countedAs, wordsAs, rowNo, loadOf}
+use Rattle.slots.specs.declared.Minutes.the-variants as minutes
+use Rattle.slots.specs.Lent.{lentNo, lentSlotNo, minutesAs, demandIs, slotMinutesIs}
+use Rattle.slots.specs.Ranges.{Ranges, personOf, startOf, endOf, mergedOf}
+use Rattle.slots.specs.Merged.{Columns, columns, written, mergedNo, mergedRanges}
+use Rattle.slots.specs.Atomic as atomic
+use Rattle.slots.specs.Availability.{availableBit, rows, availabilityNo, availabilityOf}
+use Rattle.slots.specs.Freeze.{endedBy, marked, freezeNo, freezeOf, availableNo, isAvailable}
+use Rattle.units.specs.declared.Settings.{Settings}
+use Rattle.units.specs.declared.Number.the-variants as number
+use Rattle.units.specs.declared.UnitSlots.the-variants as unitSlots
+use Rattle.units.specs.declared.Duration.the-variants as duration
+use Rattle.units.specs.Answers.{numberAs, spanAs, onto, Written, writtenAs, unitsNo, unitNo, unitSlotNo, unitCountIs, unitSlotsIs, unitOfSlotIs}
+use Rattle.units.specs.Starts.{rotationStarts, unitStarts, startsNo, rotationStartsIs, unitStartsIs}
+use Rattle.units.specs.Days.{durationAs, coveredDaysIs, minutesPerDayIs, targetRunNo, targetRunIs}
+use Rattle.units.specs.Domains.{slotDomain, unitDomain, unitFrozenNo, unitFrozenIs, slotDomainNo, slotDomainIs, unitDomainNo, unitDomainIs}
+use Rattle.units.specs.Achievable.{achievableRunNo, achievableRunIs}
+use Rattle.promises.specs.Table.{Rule, Row, row, rules, Hears, Refuses, toldNo, countedNo, minutesNo, numberNo, spanNo, durationNo, figureNo}
+use Rattle.promises.specs.Refusals.{lentTable, mergedTable, atomiseTable, availabilityTable, freezeTable, availableTable, SlotsRefuse}
+use Rattle.promises.specs.Refusals.{unitsTable, startsTable, unitFrozenTable, slotDomainTable, unitDomainTable, targetRunTable}
+use Rattle.promises.specs.Refusals.{achievableTable, UnitsRefuse}
+use Rattle.promises.proofs.Table.{chain, rising, chain-heard, heard-as}
+
+-- ---- the number of an answer is the one that it was made with
+
+pub by-number : {A : Type 0} (num : A → ℕ) (n : ℕ) (told ref : A) → num told ≡ 0 → num ref ≡ n → num (cond (eqb n 0) told ref) ≡ n
+by-number {A} num n told ref p q =
+    by-test (eqb n 0) _ (λ t. ap (λ (b : Bool). num (cond b told ref)) t ∙ p ∙ sym (eqb-true n 0 t))
+    (λ f. ap (λ (b : Bool). num (cond b told ref)) f ∙ q)
+
+pub counted-no : (n k : ℕ) → countedNo (countedAs n k) ≡ n
+unfolding countedAs
+counted-no n k = by-number countedNo n (counted.Is k) (counted.Refused n) refl refl
+
+pub minutes-no : (n m : ℕ) → minutesNo (minutesAs n m) ≡ n
+unfolding minutesAs
+minutes-no n m = by-number minutesNo n (minutes.Are m) (minutes.Refused n) refl refl
+
+pub number-no : (n k : ℕ) → numberNo (numberAs n k) ≡ n
+unfolding numberAs
+number-no n k = by-number numberNo n (number.Is k) (number.Refused n) refl refl
+
+pub span-no : (n a e : ℕ) → spanNo (spanAs n a e) ≡ n
+unfolding spanAs
+span-no n a e = by-number spanNo n (unitSlots.Span a e) (unitSlots.Refused n) refl refl
+
+pub duration-no : (n m : ℕ) → durationNo (durationAs n m) ≡ n
+unfolding durationAs
+duration-no n m = by-number durationNo n (duration.Minutes m) (duration.Refused n) refl refl
+
+yes-or-no : (b : Bool) → toldNo (cond b told.Yes told.No) ≡ 0
+yes-or-no true = refl
+yes-or-no false = refl
+
+pub told-no : (n : ℕ) (b : Bool) → toldNo (toldAs n b) ≡ n
+unfolding toldAs
+told-no n b = by-number toldNo n (cond b told.Yes told.No) (told.Refused n) (yes-or-no b) refl
+
+-- refused, what comes out is what was there
+pub stays : {A : Type 0} (n : ℕ) (new old : A) → (n ≡ 0 → ⊥) → cond (eqb n 0) new old ≡ old
+stays {A} n new old h = ap (λ (b : Bool). cond b new old) (ne-eqb n 0 h)
+
+-- ---- slots
+
+module _ (slots : ℕ) (starts ends : List ℕ) where
+  lent-heard : (n : ℕ) → n ≡ lentNo slots starts ends → Hears (lentTable slots starts ends []) n
+  unfolding lentNo
+  lent-heard n e = heard-as (lentTable slots starts ends []) n refl e
+
+  slot-heard : (k : ℕ) → Hears (lentTable slots starts ends (row 11 (ltb k slots) ∷ [])) (minutesNo (slotMinutesIs slots starts ends k))
+  unfolding slotMinutesIs lentSlotNo
+  slot-heard k = heard-as (lentTable slots starts ends (row 11 (ltb k slots) ∷ [])) _ refl (minutes-no (lentSlotNo slots starts ends k) _)
+
+-- refused, by the number of the answer
+not-none : (m n : ℕ) → m ≡ n → (m ≡ 0 → ⊥) → eqb n 0 ≡ false
+not-none m n e h = ne-eqb n 0 (λ z. h (e ∙ z))
+
+merged-refuses : (people : ℕ) (R : Ranges) (out : Columns)
+    → let x = mergedRanges people R out in
+    Refuses (rules (mergedTable people R out)) (countedNo (x .answer)) out (columns (x .persons) (x .starts) (x .ends))
+unfolding mergedRanges mergedNo wordsAs
+merged-refuses people R out =
+    let n = mergedNo people R out in
+    let l = mergedOf R in
+    let e = counted-no n (length l) in
+    record {
+      heard = heard-as (mergedTable people R out) _ refl e;
+      kept = λ h.
+          ap (λ (b : Bool). columns (cond b (written personOf l (out .persons)) (out .persons))
+          (cond b (written startOf l (out .starts)) (out .starts)) (cond b (written endOf l (out .ends)) (out .ends))) (not-none _ n e h);
+    }
+
+atomise-refuses : (B : atomic.Base)
+    → let x = atomic.atomiseOf B in
+    Refuses {A = List ℕ × List ℕ} (rules (atomiseTable B)) (countedNo (x .answer)) (B .outStarts, B .outEnds) (x .starts, x .ends)
+unfolding atomic.atomiseOf atomic.atomiseNo wordsAs
+atomise-refuses B =
+    let n = atomic.atomiseNo B in
+    let e = counted-no n (length (atomic.startsOfAtoms B)) in
+    record {
+      heard = heard-as (atomiseTable B) _ refl e;
+      kept = λ h.
+          ap {B = List ℕ × List ℕ} (λ (b : Bool). (
+            cond b (written (λ t. t) (atomic.startsOfAtoms B) (B .outStarts)) (B .outStarts),
+            cond b (written (λ t. t) (atomic.endsOfAtoms B) (B .outEnds)) (B .outEnds),
+          )) (not-none _ n e h);
+    }
+
+availability-refuses : (people slots : ℕ) (starts ends : List ℕ) (R : Ranges) (words : List ℕ)
+    → Refuses (rules (availabilityTable people slots starts ends R words)) (availabilityNo people slots starts ends R words) words
+    (availabilityOf people slots starts ends R words)
+unfolding availabilityOf availabilityNo wordsAs
+availability-refuses people slots starts ends R words = record {
+  heard = chain-heard (availabilityTable people slots starts ends R words) refl;
+  kept = stays _ (rows (availableBit R starts ends) slots people words) words;
+}
+
+freeze-refuses : (slots : ℕ) (starts ends frozen : List ℕ) (instant : ℕ)
+    → let x = freezeOf slots starts ends frozen instant in
+    Refuses (rules (freezeTable slots starts ends frozen)) (countedNo (x .answer)) frozen (x .flags)
+unfolding freezeOf freezeNo wordsAs
+freeze-refuses slots starts ends frozen instant =
+    let n = freezeNo slots starts ends frozen in
+    let e = counted-no n (endedBy slots ends instant) in
+    record {
+      heard = heard-as (freezeTable slots starts ends frozen) _ refl e;
+      kept = λ h. stays n (marked slots ends instant frozen) frozen (λ z. h (e ∙ z));
+    }
+
+available-heard : (people slots : ℕ) (words : List ℕ) (person slot : ℕ)
+    → Hears (availableTable people slots words person slot) (toldNo (isAvailable people slots words person slot))
+unfolding isAvailable availableNo
+available-heard people slots words person slot =
+    heard-as (availableTable people slots words person slot) _ refl (told-no (availableNo people slots words person slot) _)
+
+demand-heard : (slots : ℕ) (starts ends : List ℕ) → Hears (lentTable slots starts ends []) (minutesNo (demandIs slots starts ends))
+unfolding demandIs
+demand-heard slots starts ends = lent-heard slots starts ends _ (minutes-no (lentNo slots starts ends) _)
+
+pub slots-refuse : SlotsRefuse
+slots-refuse = record {
+  demand = demand-heard;
+  slot-minutes = slot-heard;
+  merged-ranges = merged-refuses;
+  atomise = atomise-refuses;
+  availability = availability-refuses;
+  freeze-before = freeze-refuses;
+  is-available = available-heard;
+}
+
+-- ---- units
+
+module _ (slots units : ℕ) (firsts : List ℕ) where
+  unit-count-heard : Hears (unitsTable slots units firsts []) (numberNo (unitCountIs slots units firsts))
+  unfolding unitCountIs unitsNo
+  unit-count-heard = heard-as (unitsTable slots units firsts []) _ refl (number-no (unitsNo slots units firsts 0) _)
+
+  unit-slots-heard : (u : ℕ) → Hears (unitsTable slots units firsts (row 11 (ltb u units) ∷ [])) (spanNo (unitSlotsIs slots units firsts u))
+  unfolding unitSlotsIs unitNo unitsNo
+  unit-slots-heard u =
+      heard-as (unitsTable slots units firsts (row 11 (ltb u units) ∷ [])) _ refl (span-no (unitNo slots units firsts u) _ _)
+
+  unit-of-heard : (k : ℕ) → Hears (unitsTable slots units firsts (row 11 (ltb k slots) ∷ [])) (numberNo (unitOfSlotIs slots units firsts k))
+  unfolding unitOfSlotIs unitSlotNo unitsNo
+  unit-of-heard k =
+      heard-as (unitsTable slots units firsts (row 11 (ltb k slots) ∷ [])) _ refl (number-no (unitSlotNo slots units firsts k) _)
+
+  unit-frozen-heard : (frozen : List ℕ) (u : ℕ)
+      → Hears (unitFrozenTable frozen slots units firsts u) (toldNo (unitFrozenIs frozen slots units firsts u))
+  unfolding unitFrozenIs unitFrozenNo
+  unit-frozen-heard frozen u =
+      heard-as (unitFrozenTable frozen slots units firsts u) _ refl (told-no (unitFrozenNo frozen slots units firsts u) _)
+
+-- a list that is written
+written-refuses : (t : List Row) (n : ℕ) (l old : List ℕ) → rising 1 t ≡ true → n ≡ chain t
+    → Refuses (rules t) (numberNo (writtenAs n l old .answer)) old (writtenAs n l old .buffer)
+unfolding writtenAs
+written-refuses t n l old r e =
+    let q = number-no n (length l) in
+    record { heard = heard-as t _ r (q ∙ e); kept = λ h. stays n (onto l old) old (λ z. h (q ∙ z)) }
+
+module _ (s : Settings) (slots : ℕ) (starts ends list : List ℕ) where
+  rotation-starts-refuses : let x = rotationStartsIs s slots starts ends list in
+      Refuses (rules (startsTable s slots starts ends list)) (numberNo (x .answer)) list (x .buffer)
+  unfolding rotationStartsIs startsNo
+  rotation-starts-refuses = written-refuses (startsTable s slots starts ends list) _ (rotationStarts s slots starts) list refl refl
+
+  unit-starts-refuses : let x = unitStartsIs s slots starts ends list in
+      Refuses (rules (startsTable s slots starts ends list)) (numberNo (x .answer)) list (x .buffer)
+  unfolding unitStartsIs startsNo
+  unit-starts-refuses = written-refuses (startsTable s slots starts ends list) _ (unitStarts s slots starts) list refl refl
+
+slot-domain-refuses : (avail : List ℕ) (people slots k : ℕ) (list : List ℕ)
+    → let x = slotDomainIs avail people slots k list in
+    Refuses (rules (slotDomainTable avail people slots k list)) (numberNo (x .answer)) list (x .buffer)
+unfolding slotDomainIs slotDomainNo
+slot-domain-refuses avail people slots k list =
+    written-refuses (slotDomainTable avail people slots k list) _ (slotDomain avail people k) list refl refl
+
+unit-domain-refuses : (avail : List ℕ) (people slots units : ℕ) (firsts : List ℕ) (u : ℕ) (list : List ℕ)
+    → let x = unitDomainIs avail people slots units firsts u list in
+    Refuses (rules (unitDomainTable avail people slots units firsts u list)) (numberNo (x .answer)) list (x .buffer)
+unfolding unitDomainIs unitDomainNo
+unit-domain-refuses avail people slots units firsts u list =
+    written-refuses (unitDomainTable avail people slots units firsts u list) _ (unitDomain avail people slots units firsts u) list refl refl
+
+module _ (slots : ℕ) (starts ends : List ℕ) where
+  covered-heard : Hears (lentTable slots starts ends []) (numberNo (coveredDaysIs slots starts ends))
+  unfolding coveredDaysIs
+  covered-heard = lent-heard slots starts ends _ (number-no (lentNo slots starts ends) _)
+
+  per-day-heard : Hears (lentTable slots starts ends []) (durationNo (minutesPerDayIs slots starts ends))
+  unfolding minutesPerDayIs
+  per-day-heard = lent-heard slots starts ends _ (duration-no (lentNo slots starts ends) _)
+
+target-run-heard : (s : Settings) (slots : ℕ) (starts ends : List ℕ)
+    → Hears (targetRunTable s slots starts ends) (durationNo (targetRunIs s slots starts ends))
+unfolding targetRunIs targetRunNo
+target-run-heard s slots starts ends =
+    heard-as (targetRunTable s slots starts ends) _ refl (duration-no (targetRunNo s slots starts ends) _)
+
+achievable-heard : (s : Settings) (avail : List ℕ) (people p slots : ℕ) (starts ends : List ℕ)
+    → Hears (achievableTable s avail people p slots starts ends) (durationNo (achievableRunIs s avail people p slots starts ends))
+unfolding achievableRunIs achievableRunNo
+achievable-heard s avail people p slots starts ends =
+    heard-as (achievableTable s avail people p slots starts ends) _ refl
+    (duration-no (achievableRunNo s avail people p slots starts ends) _)
+
+pub units-refuse : UnitsRefuse
+units-refuse = record {
+  unit-count = unit-count-heard;
+  unit-slots = unit-slots-heard;
+  unit-of-slot = unit-of-heard;
+  rotation-starts = rotation-starts-refuses;
+  unit-starts = unit-starts-refuses;
+  unit-frozen = λ frozen slots units firsts u. unit-frozen-heard slots units firsts frozen u;
+  slot-domain = slot-domain-refuses;
+  unit-domain = unit-domain-refuses;
+  covered-days = covered-heard;
+  minutes-per-day = per-day-heard;
+  target-run = target-run-heard;
+  achievable-run = achievable-heard;
+}

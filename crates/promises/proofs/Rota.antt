@@ -1,0 +1,320 @@
+-- Demand 3, sentence by sentence, by the laws of rota. Assumes nothing.
+use mathlib.Core.Path.{_≡_, refl, sym, ap, ap₂, _∙_}
+use mathlib.Core.Bool.{Bool, true, _&&_, cond}
+use mathlib.Core.List.{List, [], _∷_, _++_, append-assoc}
+use Prim.Native.Nat.{ℕ, suc, _+_, _-_, _*_, _/_, _%_, _≤_, _<_}
+use native.Mathlib.Omega.{arith}
+use borrow.Author.Tests.{le-leb, leb-true, lt-ltb}
+use lib.Dec.{leb, eqb}
+use lib.ListN.{length, getD, take, drop, replicate, length-append, length-drop}
+use lib.Seq.{getD-take, getD-drop, take-at, drop-at, drop-drop}
+use Rattle.paper.specs.Count.{all, sum, count}
+use Rattle.paper.specs.Limits.{peopleOk, slotCountOk, orElse}
+use Rattle.paper.specs.Bits.{bitOf}
+use Rattle.paper.proofs.Logic.{both, five, and-true, slot-count-says}
+use Rattle.paper.proofs.Count.{each-all, sum-same}
+use Rattle.slotset.specs.declared.SlotSet.{SlotSet}
+use Rattle.slotset.specs.declared.Changed.{Changed}
+use Rattle.slotset.specs.declared.Counted.the-variants as counted
+use Rattle.slotset.specs.Slots.{slot, size}
+use Rattle.slotset.specs.Answers.{lenNo, rowNo, countedAs, loadOf}
+use Rattle.slots.specs.Lent.{slotRoomOk, demandOf}
+use Rattle.rota.specs.declared.Figure.the-variants.{Is}
+use Rattle.rota.specs.Moves.{Draw}
+use Rattle.rota.specs.Plays.{drawsOf, ownersAfter, answers, written}
+use Rattle.rota.specs.Derived.{Plan, Derived, knownBy, uncovered, held, afresh}
+use Rattle.rota.specs.Recount.{freeFor, knownAt, recounts}
+use Rattle.rota.specs.Entries.{Outcome, countsOk, roomOk, uncoveredIs, figureAs, ground, slotsOfIs}
+use Rattle.rota.proofs.Entered.{PlayAsks, play-asks, recount-says}
+use Rattle.rota.proofs.Plays.{play-length, answers-length, draws-length}
+use Rattle.rota.proofs.Steps.{afresh-lengths}
+use Rattle.rota.proofs.Promises.{frozen-slots-keep, covered-stays, only-handed-over, owners-known, owners-available, played-recounts}
+use Rattle.rota.proofs.Promises.{minutes-and-uncovered, two-calls-owners, two-calls-answers, two-calls-derived}
+use Rattle.promises.specs.Entries.{Call, built, noOf, playOf, afreshIn, boardIn, ownersIn, drawsIn}
+use Rattle.promises.specs.Rota.{EndsAfresh, FrozenKeep, OwnersAvailable, CoveredStays, OnlyHandedOver, Recounts, AddsUp, after}
+use Rattle.promises.specs.Rota.{SizesRecount, firstCall, nextCall, secondCall, Words, InTwo, TwoCalls}
+use Rattle.promises.specs.Empty.{ActsByRule}
+use Rattle.promises.proofs.Calls.{accepted-is, Accepted, accepted-says, says-accepted}
+
+pub ends-afresh : EndsAfresh built
+ends-afresh = accepted-is
+
+-- what an accepted call was asked
+module _ (c : Call) (e : noOf c ≡ 0) where
+  asks : PlayAsks (c .plan) (c .avail) (c .units) (c .firsts) (c .frozen) (c .count) (c .kinds) (c .ones) (c .twos) (c .owners) (c .derived)
+      (c .answers)
+  asks =
+      play-asks (c .plan) (c .avail) (c .units) (c .firsts) (c .frozen) (c .count) (c .kinds) (c .ones) (c .twos) (c .owners) (c .derived)
+      (c .answers) e
+
+  owner-is : (k : ℕ) → after built c k ≡ getD (ownersIn c) k 0
+  owner-is k = ap (λ (y : Outcome). getD (y .owners) k 0) (accepted-is c e)
+
+pub acts-by-rule : ActsByRule built
+acts-by-rule c e = ap (λ (y : Outcome). y .owners) (accepted-is c e)
+
+pub frozen-keep : FrozenKeep built
+frozen-keep c e k h z =
+    owner-is c e k
+    ∙ frozen-slots-keep (c .plan) (c .avail) (c .units) (c .firsts) (c .frozen) (c .count) (c .kinds) (c .ones) (c .twos) (c .owners)
+    (c .derived) (c .answers) (asks c e) (drawsIn c) k h z
+
+pub covered-stay : CoveredStays built
+covered-stay c e k h owned now =
+    covered-stays (c .plan) (c .avail) (c .units) (c .firsts) (c .frozen) (c .count) (c .kinds) (c .ones) (c .twos) (c .owners)
+    (c .derived) (c .answers) (asks c e) (drawsIn c) k h owned (sym (owner-is c e k) ∙ now)
+
+pub only-handed : OnlyHandedOver built
+only-handed c e k h z =
+    owner-is c e k
+    ∙ only-handed-over (c .plan) (c .avail) (c .units) (c .firsts) (c .frozen) (c .count) (c .kinds) (c .ones) (c .twos) (c .owners)
+    (c .derived) (c .answers) (asks c e) (drawsIn c) k h z
+
+pub owners-can : OwnersAvailable built
+owners-can c e k h = (
+  ap (knownBy (c .plan .people)) (owner-is c e k)
+      ∙ owners-known (c .plan) (c .avail) (c .units) (c .firsts) (c .frozen) (c .count) (c .kinds) (c .ones) (c .twos) (c .owners) (c .derived)
+      (c .answers) (asks c e) (drawsIn c) k h,
+  ap (λ (w : ℕ). freeFor (c .avail) w k) (owner-is c e k)
+      ∙ owners-available (c .plan) (c .avail) (c .units) (c .firsts) (c .frozen) (c .count) (c .kinds) (c .ones) (c .twos) (c .owners)
+      (c .derived) (c .answers) (asks c e) (drawsIn c) k h,
+)
+
+-- the rota that the rules give passes the recount
+afresh-recounts : (c : Call) → noOf c ≡ 0
+    → recounts (c .plan) (c .avail) (c .units) (c .firsts) (ownersIn c) (afresh (c .plan) (ownersIn c) (c .derived)) ≡ true
+afresh-recounts c e =
+    played-recounts (c .plan) (c .avail) (c .units) (c .firsts) (c .frozen) (c .count) (c .kinds) (c .ones) (c .twos) (c .owners)
+    (c .derived) (c .answers) (asks c e) (drawsIn c)
+
+pub recounted : Recounts built
+recounted c e =
+    ap (λ (y : Outcome). recounts (c .plan) (c .avail) (c .units) (c .firsts) (y .owners) (y .derived)) (accepted-is c e) ∙ afresh-recounts c e
+
+-- ---- the total
+
+told-hold : (a b c d : Bool) → a ≡ true → b ≡ true → c ≡ true → d ≡ true → ground a b c (orElse d 11 0) ≡ 0
+unfolding ground
+told-hold a b c d p q r s = simp (p, q, r, s)
+
+module _ (c : Call) (e : noOf c ≡ 0) where
+  room-after : leb (c .plan .slots) (length (ownersIn c)) ≡ true
+  room-after =
+      le-leb (c .plan .slots) (length (ownersIn c))
+      (omega (arith, asks c e .grounds .on .room .owners-room, play-length (boardIn c) (c .owners) (drawsIn c)))
+
+  known-after : all (c .plan .slots) (knownAt (c .plan .people) (ownersIn c)) ≡ true
+  unfolding knownAt
+  known-after =
+      each-all (c .plan .slots) (λ k. knownBy (c .plan .people) (getD (ownersIn c) k 0))
+      (recount-says (c .plan) (c .avail) (c .units) (c .firsts) (ownersIn c) (afresh (c .plan) (ownersIn c) (c .derived))
+      (afresh-recounts c e) .known)
+
+  told : uncoveredIs (c .plan) (ownersIn c) ≡ Is (uncovered (c .plan) (ownersIn c))
+  unfolding uncoveredIs figureAs roomOk
+  told =
+      let A = accepted-says c e in
+      let r = both (slotRoomOk (c .plan .slots) (c .plan .starts) (c .plan .ends)) _ (A .room) in
+      ap (λ (n : ℕ). figureAs n (uncovered (c .plan) (ownersIn c)))
+      (told-hold _ _ _ _ (A .counts) (and-true _ _ (r .0) room-after) (A .slots) known-after)
+
+  total : sum (c .plan .people) (λ p. getD (afresh (c .plan) (ownersIn c) (c .derived) .minutes) p 0) + uncovered (c .plan) (ownersIn c)
+      ≡ demandOf (c .plan .slots) (c .plan .starts) (c .plan .ends)
+  total =
+      minutes-and-uncovered (c .plan) (asks c e .grounds .on .sound) (c .avail) (c .units) (c .firsts) (ownersIn c)
+      (afresh (c .plan) (ownersIn c) (c .derived)) (afresh-recounts c e)
+
+pub adds-up : AddsUp built
+adds-up c e =
+    let q = accepted-is c e in (
+      uncovered (c .plan) (ownersIn c),
+      ap (λ (y : Outcome). uncoveredIs (c .plan) (y .owners)) q ∙ told c e,
+      ap (λ (y : Outcome). sum (c .plan .people) (λ p. getD (y .derived .minutes) p 0) + uncovered (c .plan) (ownersIn c)) q ∙ total c e,
+    )
+
+-- ---- the count of a person's set
+
+-- a person's row as a set by value has its slots
+row-slot : (ws : List ℕ) (p k : ℕ) → k < 1024 → slot (take 16 (drop (16 * p) ws)) 0 k ≡ slot ws (16 * p) k
+unfolding slot
+row-slot ws p k h =
+    let w : 0 + k / 64 < 16 = omega arith in
+    let e : 16 * p + (0 + k / 64) ≡ 16 * p + k / 64 = omega arith in
+    ap (λ (x : ℕ). bitOf x (k % 64))
+    (getD-take 16 (drop (16 * p) ws) (0 + k / 64) 0 w ∙ getD-drop (16 * p) ws (0 + k / 64) 0 ∙ ap (λ (j : ℕ). getD ws j 0) e)
+
+three-hold : (a b c : Bool) → a ≡ true → b ≡ true → c ≡ true → orElse a 1 (orElse b 2 (orElse c 11 0)) ≡ 0
+three-hold a b c p q r = simp (p, q, r)
+
+module _ (people slots : ℕ) (ws : List ℕ) (p : ℕ) (e : countsOk people slots ≡ true) (room : 16 * people ≤ length ws) (h : p < people) where
+  abbrev row : SlotSet
+  row = record { words = take 16 (drop (16 * p) ws); len = slots }
+
+  counts : (peopleOk people ≡ true) × (slotCountOk slots ≡ true)
+  unfolding countsOk
+  counts = both (peopleOk people) (slotCountOk slots) e
+
+  few : leb slots 1024 ≡ true
+  few = le-leb slots 1024 (slot-count-says slots (counts .1) .1)
+
+  row-none : rowNo ws people p slots ≡ 0
+  unfolding rowNo
+  row-none =
+      three-hold _ _ _ (and-true _ _ (counts .0) few) (le-leb (16 * people) (length ws) room) (lt-ltb p people h)
+
+  row-is : slotsOfIs people slots ws p .set ≡ row
+  unfolding slotsOfIs loadOf
+  row-is =
+      ap (λ (b : Bool). cond b (loadOf ws people p slots) (record { set = record { words = replicate 16 0; len = 0 }; number = 1 }) .set) (counts .1)
+      ∙ ap {B = SlotSet} (λ (n : ℕ). record { words = cond (eqb n 0) (take 16 (drop (16 * p) ws)) (replicate 16 0); len = cond (eqb n 0) slots 0 })
+      row-none
+
+  row-size : built .size row ≡ counted.Is (sum slots (slot (take 16 (drop (16 * p) ws)) 0))
+  unfolding countedAs lenNo size
+  row-size = ap (λ (b : Bool). countedAs (orElse b 1 0) (sum slots (slot (take 16 (drop (16 * p) ws)) 0))) few
+
+  -- of a rota whose sets are right
+  size-is : (o : List ℕ) → ((k : ℕ) → k < slots → slot ws (16 * p) k ≡ held o p k)
+      → built .size (slotsOfIs people slots ws p .set) ≡ counted.Is (count slots (λ k. eqb (getD o k 0) p))
+  unfolding count held
+  size-is o right =
+      ap (built .size) row-is ∙ row-size
+      ∙ ap counted.Is (sum-same slots (slot (take 16 (drop (16 * p) ws)) 0) (held o p)
+      (λ k b. row-slot ws p k (omega (arith, leb-true slots 1024 few)) ∙ right k b))
+
+pub sizes-recounted : SizesRecount built
+sizes-recounted c e p h =
+    let y = afreshIn c in
+    let A = accepted-says c e in
+    let r = recount-says (c .plan) (c .avail) (c .units) (c .firsts) (ownersIn c) (y .derived) (afresh-recounts c e) in
+    let l = afresh-lengths (c .plan) (ownersIn c) (c .derived) in
+    ap (λ (a : Outcome). built .size (slotsOfIs (c .plan .people) (c .plan .slots) (a .derived .sets) p .set)) (accepted-is c e)
+    ∙ size-is (c .plan .people) (c .plan .slots) (y .derived .sets) p (A .counts)
+    (omega (arith, l .0, asks c e .grounds .on .room .sets-room)) h (ownersIn c) (λ k b. r .sets p k h b)
+    ∙ sym (ap (λ (a : Outcome). counted.Is (count (c .plan .slots) (λ k. eqb (getD (a .owners) k 0) p))) (accepted-is c e))
+
+-- ---- two calls
+
+-- answers of two parts, each written where the call before it ended
+written-twice : (a b x : List ℕ) (n m : ℕ) → length a ≡ n → length b ≡ m
+    → take n (written a x) ++ written b (drop n (written a x)) ≡ written (a ++ b) x
+unfolding written
+written-twice a b x n m p q =
+    let d : drop n (a ++ drop (length a) x) ≡ drop n x = drop-at a (drop (length a) x) n p ∙ ap (λ (k : ℕ). drop k x) p in
+    let s : n + length b ≡ length (a ++ b) = omega (arith, length-append a b) in
+    ap₂ (λ (l r : List ℕ). l ++ (b ++ drop (length b) r)) (take-at a (drop (length a) x) n p) d
+    ∙ ap (λ (r : List ℕ). a ++ (b ++ r)) (drop-drop (length b) n x ∙ ap (λ (k : ℕ). drop k x) s)
+    ∙ sym (append-assoc a b (drop (length (a ++ b)) x))
+
+module _ (c : Call) (n m : ℕ) (s : c .count ≡ n + m) (e : noOf c ≡ 0) (f : Words (c .derived .sets)) where
+  A : Accepted c
+  A = accepted-says c e
+
+  abbrev one : Call
+  one = firstCall c n
+
+  first-accepted : noOf one ≡ 0
+  first-accepted =
+      says-accepted one record {
+        counts = A .counts;
+        few = le-leb n 1024 (omega (arith, leb-true (c .count) 1024 (A .few)));
+        room = A .room;
+        starts = A .starts;
+        flags = A .flags;
+        kinds = omega (arith, A .kinds);
+        ones = omega (arith, A .ones);
+        twos = omega (arith, A .twos);
+        answers = omega (arith, A .answers);
+        slots = A .slots;
+        units = A .units;
+        recount = A .recount;
+      }
+
+  -- the second call, on the rota that the rules give after the first
+  abbrev two : Call
+  two = nextCall c (afreshIn one) n m
+
+  two-is : secondCall built c n m ≡ two
+  two-is = ap (λ (y : Outcome). nextCall c y n m) (accepted-is one first-accepted)
+
+  room-two : roomOk (two .plan) (two .avail) (two .owners) (two .derived) ≡ true
+  unfolding roomOk
+  room-two =
+      let l = afresh-lengths (c .plan) (ownersIn one) (c .derived) in
+      let r = five (slotRoomOk (c .plan .slots) (c .plan .starts) (c .plan .ends)) (leb (16 * c .plan .people) (length (c .avail)))
+      (leb (c .plan .slots) (length (c .owners))) (leb (16 * c .plan .people) (length (c .derived .sets)))
+      (leb (c .plan .people) (length (c .derived .minutes))) (A .room) in
+      and-true _ _ (r .0) (and-true _ _ (r .1) (and-true _ _ (room-after one first-accepted)
+      (and-true _ _ (ap (leb (16 * c .plan .people)) (l .0) ∙ r .3) (ap (leb (c .plan .people)) (l .1) ∙ r .4))))
+
+  abbrev said : List ℕ
+  said = answers (boardIn c) (c .owners) (drawsIn one)
+
+  said-length : length said ≡ n
+  said-length = answers-length (boardIn c) (c .owners) (drawsIn one) ∙ draws-length (c .kinds) (c .ones) (c .twos) n
+
+  left-length : length (afreshIn one .answers) ≡ length (c .answers)
+  unfolding written
+  left-length =
+      length-append said (drop (length said) (c .answers))
+      ∙ omega (arith, length-drop (length said) (c .answers), said-length, A .answers)
+
+  second-accepted : noOf two ≡ 0
+  second-accepted =
+      says-accepted two record {
+        counts = A .counts;
+        few = le-leb m 1024 (omega (arith, leb-true (c .count) 1024 (A .few)));
+        room = room-two;
+        starts = A .starts;
+        flags = A .flags;
+        kinds = omega (arith, length-drop n (c .kinds), A .kinds);
+        ones = omega (arith, length-drop n (c .ones), A .ones);
+        twos = omega (arith, length-drop n (c .twos), A .twos);
+        answers = omega (arith, length-drop n (afreshIn one .answers), left-length, A .answers);
+        slots = A .slots;
+        units = A .units;
+        recount = afresh-recounts one first-accepted;
+      }
+
+  -- the draws of the one call are those of both
+  abbrev whole : ℕ → List Draw
+  whole k = drawsOf (c .kinds) (c .ones) (c .twos) k
+
+  owners-same : ownersIn two ≡ ownersIn c
+  owners-same =
+      sym (two-calls-owners (boardIn c) (c .owners) (c .kinds) (c .ones) (c .twos) n m)
+      ∙ ap (λ (k : ℕ). ownersAfter (boardIn c) (c .owners) (whole k)) (sym s)
+
+  derived-same : afresh (c .plan) (ownersIn two) (two .derived) ≡ afresh (c .plan) (ownersIn c) (c .derived)
+  derived-same =
+      two-calls-derived (boardIn c) (c .owners) (c .kinds) (c .ones) (c .twos) n m (c .plan) (c .derived)
+      (asks c e .grounds .on .sound .slots-few) (asks c e .grounds .on .room .sets-room) f
+      ∙ ap (λ (k : ℕ). afresh (c .plan) (ownersAfter (boardIn c) (c .owners) (whole k)) (c .derived)) (sym s)
+
+  answers-same : take n (afreshIn one .answers) ++ afreshIn two .answers ≡ afreshIn c .answers
+  answers-same =
+      written-twice said (answers (boardIn c) (ownersIn one) (drawsIn two)) (c .answers) n m said-length
+      (answers-length (boardIn c) (ownersIn one) (drawsIn two) ∙ draws-length (two .kinds) (two .ones) (two .twos) m)
+      ∙ ap (λ (l : List ℕ). written l (c .answers))
+      (sym (two-calls-answers (boardIn c) (c .owners) (c .kinds) (c .ones) (c .twos) n m)
+      ∙ ap (λ (k : ℕ). answers (boardIn c) (c .owners) (whole k)) (sym s))
+
+  -- what the second call gives
+  two-gives : playOf (secondCall built c n m) ≡ afreshIn two
+  two-gives = ap playOf two-is ∙ accepted-is two second-accepted
+
+  in-two : InTwo built c n m
+  in-two =
+      let w = accepted-is c e in
+      record {
+        first = ap (λ (y : Outcome). y .number) (accepted-is one first-accepted);
+        second = ap (λ (y : Outcome). y .number) two-gives;
+        owners = ap (λ (y : Outcome). y .owners) two-gives ∙ owners-same ∙ sym (ap (λ (y : Outcome). y .owners) w);
+        derived = ap (λ (y : Outcome). y .derived) two-gives ∙ derived-same ∙ sym (ap (λ (y : Outcome). y .derived) w);
+        answers =
+            ap₂ (λ (y z : Outcome). take n (y .answers) ++ z .answers) (accepted-is one first-accepted) two-gives
+            ∙ answers-same ∙ sym (ap (λ (y : Outcome). y .answers) w);
+      }
+
+pub two-calls : TwoCalls built
+two-calls c n m s e f = in-two c n m s e f

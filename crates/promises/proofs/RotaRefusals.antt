@@ -1,0 +1,209 @@
+-- Demand 1 of targets and rota: heard by the table, and a refusal leaves what was lent as it was. Assumes nothing.
+use mathlib.Core.Path.{_≡_, refl, sym, ap, ap₂, _∙_, subst}
+use mathlib.Core.Bool.{Bool, true, false, _&&_, cond}
+use mathlib.Core.List.{List, [], _∷_}
+use mathlib.Core.Logic.{_⊎_, inl, inr, ⊎-elim}
+use Prim.Native.Nat.{ℕ, _*_, _≤_, _<_}
+use native.Mathlib.Omega.{arith}
+use borrow.Author.Tests.{eq-eqb, ne-eqb, eqb-true, eqb-false, le-leb, leb-true}
+use lib.Dec.{leb, ltb, eqb}
+use lib.IntN.{ℤ}
+use lib.ListN.{length, getD, set, replicate}
+use Rattle.paper.specs.Limits.{peopleOk, slotCountOk, orElse, nobody}
+use Rattle.paper.specs.Count.{all, fill, over}
+use Rattle.paper.proofs.Logic.{by-test, lt-or-ge, and-false, slot-count-says}
+use Rattle.slotset.specs.declared.Changed.{Changed}
+use Rattle.slotset.specs.Answers.{rowNo, loadOf}
+use Rattle.slots.specs.Lent.{slotRoomOk, slotsOk}
+use Rattle.targets.specs.Passes.{Beyond}
+use Rattle.targets.specs.Outcome as targets
+use Rattle.targets.proofs.Promises.{eight-heard, eight-never, number-is, refused-keeps}
+use Rattle.rota.specs.declared.Figure.the-variants as figure
+use Rattle.rota.specs.Derived.{Plan, Derived, derived, knownBy, afresh, setsFrom, nobodies, unassigned, uncovered}
+use Rattle.rota.specs.Recount.{freeFor, knownAt, freeAt, recounts}
+use Rattle.rota.specs.Entries as rota
+use Rattle.promises.specs.Entries.{Call, noOf, playOf, afreshIn}
+use Rattle.promises.specs.Table.{Rule, Row, row, rules, Applies, Heard, Hears, Refuses, figureNo}
+use Rattle.promises.specs.Refusals.{targetsChecks, guard, TargetsRefuse, rotaTable, recountTable, playTable, emptyTable, ownersTable}
+use Rattle.promises.specs.Refusals.{Lent, left, RotaRefuses}
+use Rattle.promises.proofs.Table.{chain, rising, Least, chain-least, least-heard, chain-heard, heard-as}
+use Rattle.promises.proofs.Refusals.{by-number}
+
+-- ---- targets
+
+module _ (g : targets.Given) (out : List ℤ) where
+  abbrev number : ℕ
+  number = targets.checkNo g (length out)
+
+  checks : Least (rules (targetsChecks g (length out))) number
+  unfolding targets.checkNo
+  checks = chain-least 1 (targetsChecks g (length out)) (omega arith) refl
+
+  -- a number of the checks other than 9 is below 8
+  below-guard : (n : ℕ) → Applies (rules (targetsChecks g (length out))) n → slotsOk (g .slots) (g .starts) (g .ends) ≡ true → n ≤ 8
+  below-guard n (inl p) ok = omega (arith, p .0)
+  below-guard n (inr (inl p)) ok = omega (arith, p .0)
+  below-guard n (inr (inr (inl p))) ok = omega (arith, p .0)
+  below-guard n (inr (inr (inr (inl p)))) ok = omega (arith, p .0)
+  below-guard n (inr (inr (inr (inr (inl p))))) ok = absurd (mathlib.Core.Bool.true≢false (sym ok ∙ p .1))
+  below-guard n (inr (inr (inr (inr (inr p))))) ok = absurd p
+
+  by-guard : slotsOk (g .slots) (g .starts) (g .ends) ≡ true → Beyond (targets.demandIn g) (targets.linesIn g) → (0 < number) × (number ≤ 8)
+  by-guard ok b =
+      let pos : 0 < number =
+      ⊎-elim (λ (h : 0 < number). h)
+      (λ (h : number ≤ 0). let z : number ≡ 0 = omega arith in absurd (eight-never g out (eight-heard g out .1 (z, b))))
+      (lt-or-ge 0 number) in
+      (pos, below-guard number (checks .here pos) ok)
+
+  with-guard : Least (guard g ∷ rules (targetsChecks g (length out))) number
+  with-guard = record {
+    here = λ z. inr (checks .here z);
+    least = λ k a.
+        ⊎-elim (λ (p : (8 ≡ k) × (guard g .Says)). let x = by-guard (p .1 .0) (p .1 .1) in (x .0, omega (arith, p .0, x .1)))
+        (λ (b : Applies (rules (targetsChecks g (length out))) k). checks .least k b) a;
+  }
+
+  targets-refuse-here : let x = targets.computeTargets g out in
+      Refuses (guard g ∷ rules (targetsChecks g (length out))) (x .number) out (x .out)
+  targets-refuse-here = record {
+    heard = subst (Heard (guard g ∷ rules (targetsChecks g (length out)))) (sym (number-is g out)) (least-heard _ number with-guard);
+    kept = refused-keeps g out;
+  }
+
+pub targets-refuse : TargetsRefuse
+targets-refuse = record { compute-targets = targets-refuse-here }
+
+-- ---- rota
+
+figure-no : (n k : ℕ) → figureNo (rota.figureAs n k) ≡ n
+unfolding rota.figureAs
+figure-no n k = by-number figureNo n (figure.Is k) (figure.Refused n) refl refl
+
+-- an outcome with the number of a chain
+outcome-refuses : (t : List Row) (n : ℕ) (o : List ℕ) (D : Derived) (x o′ : List ℕ) (D′ : Derived) (x′ : List ℕ) → rising 1 t ≡ true
+    → n ≡ chain t
+    → Refuses {A = Lent} (rules t) (rota.outcome n o D x o′ D′ x′ .number) (o, D, x) (left (rota.outcome n o D x o′ D′ x′))
+unfolding rota.outcome
+outcome-refuses t n o D x o′ D′ x′ r e = record {
+  heard = heard-as t n r e;
+  kept = λ h. ap {B = Lent} (λ (b : Bool). (cond b o′ o, cond b D′ D, cond b x′ x)) (ne-eqb n 0 h);
+}
+
+from-slots-refuses : (P : Plan) (avail o : List ℕ) (D : Derived)
+    → let y = rota.fromSlots P avail o D in
+    Refuses {A = Lent}
+    (rules (rotaTable P avail o D (row 11 (all (P .slots) (knownAt (P .people) o)) ∷ row 12 (all (P .slots) (freeAt avail o)) ∷ [])))
+    (y .number) (o, D, []) (left y)
+unfolding rota.fromSlots rota.fromSlotsNo rota.ground
+from-slots-refuses P avail o D =
+    outcome-refuses
+    (rotaTable P avail o D (row 11 (all (P .slots) (knownAt (P .people) o)) ∷ row 12 (all (P .slots) (freeAt avail o)) ∷ []))
+    _ o D [] o (afresh P o D) [] refl refl
+
+assign-refuses : (P : Plan) (avail o : List ℕ) (D : Derived) (k w : ℕ)
+    → let y = rota.assigned P avail o D k w in
+    Refuses {A = Lent}
+    (rules (rotaTable P avail o D
+    (row 10 (recounts P avail 0 [] o D) ∷ row 11 (ltb k (P .slots) && knownBy (P .people) w) ∷ row 12 (freeFor avail w k) ∷ [])))
+    (y .number) (o, D, []) (left y)
+unfolding rota.assigned rota.assignNo rota.ground
+assign-refuses P avail o D k w =
+    outcome-refuses
+    (rotaTable P avail o D
+    (row 10 (recounts P avail 0 [] o D) ∷ row 11 (ltb k (P .slots) && knownBy (P .people) w) ∷ row 12 (freeFor avail w k) ∷ []))
+    _ o D [] (set o k w) (afresh P (set o k w) D) [] refl refl
+
+recount-heard : (P : Plan) (avail : List ℕ) (units : ℕ) (firsts o : List ℕ) (D : Derived)
+    → Hears (recountTable P avail units firsts o D) (rota.recountNo P avail units firsts o D)
+unfolding rota.recountNo rota.ground
+recount-heard P avail units firsts o D = chain-heard (recountTable P avail units firsts o D) refl
+
+recount-slots-heard : (P : Plan) (avail o : List ℕ) (D : Derived)
+    → Hears (rotaTable P avail o D (row 10 (recounts P avail 0 [] o D) ∷ [])) (rota.recountSlotsNo P avail o D)
+unfolding rota.recountSlotsNo rota.ground
+recount-slots-heard P avail o D = chain-heard (rotaTable P avail o D (row 10 (recounts P avail 0 [] o D) ∷ [])) refl
+
+play-refuses : (c : Call)
+    → let y = playOf c in Refuses {A = Lent} (rules (playTable c)) (y .number) (c .owners, c .derived, c .answers) (left y)
+unfolding rota.played rota.playNo rota.ground
+play-refuses c =
+    let y = afreshIn c in
+    outcome-refuses (playTable c) _ (c .owners) (c .derived) (c .answers) (y .owners) (y .derived) (y .answers) refl refl
+
+empty-refuses : (people slots : ℕ) (o : List ℕ) (D : Derived)
+    → let y = rota.emptied people slots o D in Refuses {A = Lent} (rules (emptyTable people slots o D)) (y .number) (o, D, []) (left y)
+unfolding rota.emptied rota.emptyNo rota.ground
+empty-refuses people slots o D =
+    outcome-refuses (emptyTable people slots o D) _ o D [] (fill nobody 0 slots o)
+    (derived (setsFrom people slots (nobodies slots) (D .sets)) (over (λ _. 0) people (D .minutes))) [] refl refl
+
+owner-heard : (people slots : ℕ) (o : List ℕ) (k : ℕ)
+    → Hears (ownersTable people slots o (row 11 (ltb k slots && knownBy people (getD o k 0)) ∷ [])) (figureNo (rota.ownerIs people slots o k))
+unfolding rota.ownerIs rota.ground
+owner-heard people slots o k =
+    heard-as (ownersTable people slots o (row 11 (ltb k slots && knownBy people (getD o k 0)) ∷ [])) _ refl (figure-no _ (getD o k 0))
+
+minutes-heard : (people : ℕ) (m : List ℕ) (p : ℕ)
+    → Hears (row 1 (peopleOk people) ∷ row 2 (leb people (length m)) ∷ row 11 (ltb p people) ∷ []) (figureNo (rota.minutesIs people m p))
+unfolding rota.minutesIs rota.ground
+minutes-heard people m p =
+    heard-as (row 1 (peopleOk people) ∷ row 2 (leb people (length m)) ∷ row 11 (ltb p people) ∷ []) _ refl (figure-no _ (getD m p 0))
+
+unassigned-heard : (people slots : ℕ) (o : List ℕ)
+    → Hears (ownersTable people slots o (row 11 (all slots (knownAt people o)) ∷ [])) (figureNo (rota.unassignedIs people slots o))
+unfolding rota.unassignedIs rota.ground
+unassigned-heard people slots o =
+    heard-as (ownersTable people slots o (row 11 (all slots (knownAt people o)) ∷ [])) _ refl (figure-no _ (unassigned slots o))
+
+module _ (P : Plan) (o : List ℕ) where
+  abbrev uncoveredTable : List Row
+  uncoveredTable =
+      row 1 (rota.countsOk (P .people) (P .slots)) ∷ row 2 (slotRoomOk (P .slots) (P .starts) (P .ends) && leb (P .slots) (length o))
+      ∷ row 9 (slotsOk (P .slots) (P .starts) (P .ends)) ∷ row 11 (all (P .slots) (knownAt (P .people) o)) ∷ []
+
+  uncovered-heard : Hears uncoveredTable (figureNo (rota.uncoveredIs P o))
+  unfolding rota.uncoveredIs rota.ground
+  uncovered-heard = heard-as uncoveredTable _ refl (figure-no _ (uncovered P o))
+
+module _ (people slots : ℕ) (ws : List ℕ) (p : ℕ) where
+  abbrev rowTable : List Row
+  rowTable = row 1 (rota.countsOk people slots) ∷ row 2 (leb (16 * people) (length ws)) ∷ row 11 (ltb p people) ∷ []
+
+  abbrev after : ℕ
+  after = chain (row 2 (leb (16 * people) (length ws)) ∷ row 11 (ltb p people) ∷ [])
+
+  -- a count of slots that passes is a length that does
+  row-number : slotCountOk slots ≡ true → rowNo ws people p slots ≡ chain rowTable
+  unfolding rowNo rota.countsOk
+  row-number t =
+      ap (λ (b : Bool). orElse (peopleOk people && b) 1 after) (le-leb slots 1024 (slot-count-says slots t .1) ∙ sym t)
+
+  slots-of-number : rota.slotsOfIs people slots ws p .number ≡ chain rowTable
+  unfolding rota.slotsOfIs loadOf rota.countsOk
+  slots-of-number =
+      by-test (slotCountOk slots) _
+      (λ t.
+      ap (λ (b : Bool). cond b (loadOf ws people p slots) (record { set = record { words = replicate 16 0; len = 0 }; number = 1 }) .number) t
+      ∙ row-number t)
+      (λ f.
+      ap (λ (b : Bool). cond b (loadOf ws people p slots) (record { set = record { words = replicate 16 0; len = 0 }; number = 1 }) .number) f
+      ∙ sym (ap (λ (b : Bool). orElse b 1 after) (ap (λ (b : Bool). peopleOk people && b) f ∙ and-false (peopleOk people))))
+
+  slots-of-heard : Hears rowTable (rota.slotsOfIs people slots ws p .number)
+  slots-of-heard = heard-as rowTable _ refl slots-of-number
+
+pub rota-refuses : RotaRefuses
+rota-refuses = record {
+  from-slots = from-slots-refuses;
+  assign = assign-refuses;
+  recount = recount-heard;
+  recount-slots = recount-slots-heard;
+  play = play-refuses;
+  empty = empty-refuses;
+  owner-of-slot = owner-heard;
+  minutes-of = minutes-heard;
+  slots-of = slots-of-heard;
+  unassigned-count = unassigned-heard;
+  uncovered-minutes = uncovered-heard;
+}

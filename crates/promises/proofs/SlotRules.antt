@@ -1,0 +1,255 @@
+-- Demand 2, slots and availability, by the laws of slots. Assumes nothing.
+use mathlib.Core.Path.{_≡_, refl, sym, ap, ap₂, _∙_}
+use mathlib.Core.Bool.{Bool, true, false, cond, _&&_}
+use mathlib.Core.List.{List, [], _∷_}
+use mathlib.Core.Logic.{_↔_}
+use Prim.Native.Nat.{ℕ, zero, suc, _+_, _*_, _≤_, _<_}
+use native.Mathlib.Omega.{arith}
+use borrow.Author.Tests.{eq-eqb, leb-true, ltb-true, le-leb, lt-ltb, lt-leb}
+use lib.Dec.{eqb, leb, ltb}
+use lib.ListN.{length, getD}
+use Rattle.paper.specs.Limits.{peopleOk, slotCountOk, orElse}
+use Rattle.paper.specs.Count.{allIn}
+use Rattle.paper.proofs.Logic.{by-test, cond-zero, both, and-true}
+use Rattle.paper.proofs.Count.{in-each, each-in}
+use Rattle.slotset.specs.declared.Told.{Told}
+use Rattle.slotset.specs.declared.Told.the-variants.{Yes, No}
+use Rattle.slotset.specs.declared.Counted.the-variants as counted
+use Rattle.slotset.specs.Slots.{slot, has, valueOf}
+use Rattle.slotset.specs.Answers.{countedAs, toldAs, wordsAs}
+use Rattle.slots.specs.Lent.{slotRoomOk, slotsOk, demandOf}
+use Rattle.slots.specs.Ranges.{Ranges, rangeRoomOk, rangesOk, personOf, startOf, endOf, opens, closes, joined, inRanges, available}
+use Rattle.slots.specs.Ranges.{keysTo, keysOf, mergeIn, mergeAll, mergedOf, IsMerged}
+use Rattle.slots.specs.Merged.{Columns, columns, written, mergedNo, mergedRanges}
+use Rattle.slots.specs.Atomic.{Base, baseCountsOk, baseRoomOk, baseNo, atomiseNo, atomiseOf, startsOfAtoms, endsOfAtoms, isCut, cutsIn, IsCuts}
+use Rattle.slots.specs.Atomic.{countsOk}
+use Rattle.slots.specs.Availability.{availableBit, rows, availabilityRoomOk, availabilityNo, availabilityOf}
+use Rattle.slots.specs.Freeze.{endsBy, endedBy, marked, freezeNo, freezeOf, availableNo, isAvailable}
+use Rattle.slots.proofs.LentLaws.{slots-sound}
+use Rattle.slots.proofs.RangeLaws.{length-keys, merged-is}
+use Rattle.slots.proofs.Merging.{one-merged}
+use Rattle.slots.proofs.MergedLaws.{merged-says}
+use Rattle.slots.proofs.AtomLaws.{BaseSound, base-says}
+use Rattle.slots.proofs.SplitLaws.{cuts-are, one-cuts, atoms-even, atom-whole}
+use Rattle.slots.proofs.AvailLaws.{AvailabilitySound, availability-says, length-rows}
+use Rattle.slots.proofs.FreezeLaws.{freeze-says}
+use Rattle.slots.proofs.Meaning.{written-at, available-slot, atoms-lent, atoms-lent-demand, frozen-marked, frozen-kept}
+use Rattle.promises.specs.SetRules.{TheOne}
+use Rattle.promises.specs.SlotRules.{Merged, Split, Froze, SlotsByRule}
+
+-- ---- merged ranges
+
+-- as few as the ranges
+length-in : (x : ℕ) (l : List ℕ) → length (mergeIn x l) ≤ suc (length l)
+unfolding mergeIn
+length-in x [] = omega arith
+length-in x (y ∷ l) =
+    by-test (ltb (closes x) (opens y)) _ (λ t. simp t (omega arith))
+    (λ f. by-test (ltb (closes y) (opens x)) _ (λ t. simp (f, t) (omega (arith, length-in x l)))
+    (λ g. simp (f, g) (omega (arith, length-in (joined x y) l))))
+
+length-all : (l : List ℕ) → length (mergeAll l) ≤ length l
+unfolding mergeAll
+length-all [] = omega arith
+length-all (x ∷ l) =
+    by-test (ltb (startOf x) (endOf x)) _ (λ t. simp t (omega (arith, length-in x (mergeAll l), length-all l)))
+    (λ f. simp f (omega (arith, length-all l)))
+
+merged-few : (R : Ranges) → length (mergedOf R) ≤ R .count
+unfolding mergedOf keysOf
+merged-few R = omega (arith, length-all (keysTo R (R .count)), length-keys R (R .count))
+
+module _ (people : ℕ) (R : Ranges) (out : Columns) (e : mergedNo people R out ≡ 0) where
+  abbrev l : List ℕ
+  l = mergedOf R
+
+  accepted : (wordsAs (mergedNo people R out) (out .persons) (written personOf l (out .persons)) ≡ written personOf l (out .persons))
+      × (wordsAs (mergedNo people R out) (out .starts) (written startOf l (out .starts)) ≡ written startOf l (out .starts))
+      × (wordsAs (mergedNo people R out) (out .ends) (written endOf l (out .ends)) ≡ written endOf l (out .ends))
+  unfolding wordsAs
+  accepted = (
+    ap (λ (n : ℕ). cond (eqb n 0) (written personOf l (out .persons)) (out .persons)) e,
+    ap (λ (n : ℕ). cond (eqb n 0) (written startOf l (out .starts)) (out .starts)) e,
+    ap (λ (n : ℕ). cond (eqb n 0) (written endOf l (out .ends)) (out .ends)) e,
+  )
+
+  told : countedAs (mergedNo people R out) (length l) ≡ counted.Is (length l)
+  unfolding countedAs
+  told = ap (λ (n : ℕ). cond (eqb n 0) (counted.Is (length l)) (counted.Refused n)) e
+
+  merged-by-rule : Merged people R out
+  unfolding mergedRanges
+  merged-by-rule =
+      let s = merged-says people R out e in
+      let few = merged-few R in
+      record {
+        list = record { meets = merged-is R (s .0); only = λ k m. one-merged (inRanges R) k l m (merged-is R (s .0)) };
+        number = told;
+        persons = λ k h.
+            ap (λ (c : List ℕ). getD c k 0) (accepted .0) ∙ written-at personOf l (out .persons) k h (omega (arith, s .1));
+        starts = λ k h.
+            ap (λ (c : List ℕ). getD c k 0) (accepted .1) ∙ written-at startOf l (out .starts) k h (omega (arith, s .2));
+        ends = λ k h. ap (λ (c : List ℕ). getD c k 0) (accepted .2) ∙ written-at endOf l (out .ends) k h (omega (arith, s .3));
+      }
+
+-- ---- atomic slots
+
+module _ (B : Base) (e : atomiseNo B ≡ 0) where
+  abbrev A : List ℕ
+  A = startsOfAtoms B
+
+  abbrev E : List ℕ
+  E = endsOfAtoms B
+
+  four-say : (a b c d : Bool) (x : ℕ) → orElse a 1 (orElse b 2 (orElse c 3 (orElse d 4 x))) ≡ 0
+      → (orElse a 1 (orElse b 2 (orElse c 3 (orElse d 4 0))) ≡ 0) × (c ≡ true) × (x ≡ 0)
+  four-say a b c d x z =
+      let p = cond-zero a _ 0 z in
+      let q = cond-zero b _ 1 (p .1) in
+      let r = cond-zero c _ 2 (q .1) in
+      let s = cond-zero d _ 3 (r .1) in
+      (simp (p .0, q .0, r .0, s .0), r .0, s .1)
+
+  says : (baseNo B ≡ 0) × (slotsOk (B .slots) (B .starts) (B .ends) ≡ true) × (length A ≤ 1024)
+  unfolding atomiseNo baseNo
+  says =
+      let x = four-say (baseCountsOk B) (baseRoomOk B) (slotsOk (B .slots) (B .starts) (B .ends)) (rangesOk (B .people) (B .ranges)) _ e in
+      let y = cond-zero (leb (length A) 1024) 0 4 (x .2) in
+      (x .0, x .1, leb-true (length A) 1024 (y .0))
+
+  sound : BaseSound B
+  sound = base-says B (says .0)
+
+  out-starts : atomiseOf B .starts ≡ written (λ t. t) A (B .outStarts)
+  unfolding atomiseOf wordsAs
+  out-starts = ap (λ (n : ℕ). cond (eqb n 0) (written (λ t. t) A (B .outStarts)) (B .outStarts)) e
+
+  out-ends : atomiseOf B .ends ≡ written (λ t. t) E (B .outEnds)
+  unfolding atomiseOf wordsAs
+  out-ends = ap (λ (n : ℕ). cond (eqb n 0) (written (λ t. t) E (B .outEnds)) (B .outEnds)) e
+
+  out-number : atomiseOf B .answer ≡ counted.Is (length A)
+  unfolding atomiseOf countedAs
+  out-number = ap (λ (n : ℕ). cond (eqb n 0) (counted.Is (length A)) (counted.Refused n)) e
+
+  split-by-rule : Split B
+  split-by-rule =
+      let S = sound in
+      let m = mergedOf (B .ranges) in
+      let few = says .2 in
+      let a : length A ≤ length (B .outStarts) = omega (arith, S .room .0) in
+      let b : length A ≤ length (B .outEnds) = omega (arith, S .room .1) in
+      record {
+        cuts = λ k h.
+            let c = cuts-are m (getD (B .starts) k 0) (getD (B .ends) k 0) (S .slots .ordered k h) in
+            record { meets = c; only = λ d x. one-cuts (isCut m) (getD (B .starts) k 0) d _ (getD (B .ends) k 0) x c };
+        number = out-number;
+        starts = λ k h. ap (λ (c : List ℕ). getD c k 0) out-starts ∙ written-at (λ t. t) A (B .outStarts) k h a;
+        ends = λ k h.
+            ap (λ (c : List ℕ). getD c k 0) out-ends
+            ∙ written-at (λ t. t) E (B .outEnds) k (omega (arith, atoms-even m (B .slots) (B .starts) (B .ends)))
+            (omega (arith, atoms-even m (B .slots) (B .starts) (B .ends)));
+        passes =
+            ap₂ (λ (s f : List ℕ). slotsOk (length A) s f) out-starts out-ends
+            ∙ atoms-lent m (B .slots) (B .starts) (B .ends) (B .outStarts) (B .outEnds) (says .1) a b;
+        lengths =
+            ap₂ (λ (s f : List ℕ). demandOf (length A) s f) out-starts out-ends
+            ∙ atoms-lent-demand m (B .slots) (B .starts) (B .ends) (B .outStarts) (B .outEnds) (says .1) a b;
+        whole = atom-whole (B .ranges) (S .ranges) (B .slots) (B .starts) (B .ends) (says .1);
+      }
+
+-- ---- availability
+
+module _ (people slots : ℕ) (starts ends : List ℕ) (R : Ranges) (words : List ℕ) (e : availabilityNo people slots starts ends R words ≡ 0)
+    (p k : ℕ) (hp : p < people) (hk : k < slots) where
+  abbrev out : List ℕ
+  out = availabilityOf people slots starts ends R words
+
+  abbrev can : Bool
+  can = available R p (getD starts k 0) (getD ends k 0)
+
+  avail : AvailabilitySound people slots starts ends R words
+  avail = availability-says people slots starts ends R words e
+
+  out-is : out ≡ rows (availableBit R starts ends) slots people words
+  unfolding availabilityOf wordsAs
+  out-is = ap (λ (n : ℕ). cond (eqb n 0) (rows (availableBit R starts ends) slots people words) words) e
+
+  counts : peopleOk people && slotCountOk slots ≡ true
+  unfolding availabilityNo countsOk
+  counts =
+      let x = cond-zero (peopleOk people && (slotCountOk slots && _)) _ 0 e in
+      let y = both (peopleOk people) _ (x .0) in
+      and-true _ _ (y .0) (both (slotCountOk slots) _ (y .1) .0)
+
+  three-hold : (a b c : Bool) → a ≡ true → b ≡ true → c ≡ true → orElse a 1 (orElse b 2 (orElse c 11 0)) ≡ 0
+  three-hold a b c x y z = simp (x, y, z)
+
+  heard : availableNo people slots out p k ≡ 0
+  unfolding availableNo
+  heard =
+      let r : 16 * people ≤ length out = omega (arith, ap length out-is, length-rows (availableBit R starts ends) slots people words, avail .room) in
+      three-hold _ _ _ counts (le-leb (16 * people) (length out) r) (and-true _ _ (lt-ltb p people hp) (lt-ltb k slots hk))
+
+  value-one : (b : Bool) → eqb (valueOf b) 1 ≡ b
+  value-one true = refl
+  value-one false = refl
+
+  bit : has (slot out (16 * p)) slots k ≡ can
+  unfolding has
+  bit =
+      ap₂ (λ (x : Bool) (y : ℕ). x && eqb y 1) (lt-ltb k slots hk)
+      (ap (λ (l : List ℕ). slot l (16 * p) k) out-is
+      ∙ available-slot R starts ends slots people words (avail .few) (avail .room) p k hp hk)
+      ∙ value-one can
+
+  told-is : isAvailable people slots out p k ≡ cond can Yes No
+  unfolding isAvailable toldAs
+  told-is = ap₂ toldAs heard bit
+
+  said : can ≡ true → isAvailable people slots out p k ≡ Yes
+  said t = told-is ∙ ap (λ (b : Bool). cond b Yes No) t
+
+  heard-yes : (b : Bool) → cond b Yes No ≡ Yes → b ≡ true
+  heard-yes true q = refl
+  heard-yes false q = let z : _≡_ {A = ℕ} 0 1 = cc in absurd (omega arith)
+
+  available-by-rule : (isAvailable people slots out p k ≡ Yes) ↔ ((t : ℕ) → getD starts k 0 ≤ t → t < getD ends k 0 → inRanges R p t ≡ true)
+  unfolding available
+  available-by-rule = (
+    λ q. in-each (getD starts k 0) (getD ends k 0) (inRanges R p) (heard-yes can (sym told-is ∙ q)),
+    λ f. said (each-in (getD starts k 0) (getD ends k 0) (inRanges R p) f),
+  )
+
+-- ---- freezing
+
+module _ (slots : ℕ) (starts ends frozen : List ℕ) (instant : ℕ) (e : freezeNo slots starts ends frozen ≡ 0) where
+  flags-are : freezeOf slots starts ends frozen instant .flags ≡ marked slots ends instant frozen
+  unfolding freezeOf wordsAs
+  flags-are = ap (λ (n : ℕ). cond (eqb n 0) (marked slots ends instant frozen) frozen) e
+
+  answer-is : freezeOf slots starts ends frozen instant .answer ≡ counted.Is (endedBy slots ends instant)
+  unfolding freezeOf countedAs
+  answer-is = ap (λ (n : ℕ). cond (eqb n 0) (counted.Is (endedBy slots ends instant)) (counted.Refused n)) e
+
+  frozen-by-rule : Froze slots starts ends frozen instant
+  unfolding endsBy
+  frozen-by-rule =
+      let s = freeze-says slots starts ends frozen e in
+      record {
+        marked = λ k h b.
+            ap (λ (l : List ℕ). slot l 0 k) flags-are
+            ∙ frozen-marked ends instant frozen (s .1) k slots (s .0) h (le-leb (getD ends k 0) instant b);
+        kept = λ k f.
+            ap (λ (l : List ℕ). slot l 0 k) flags-are
+            ∙ frozen-kept ends instant frozen (s .1) k slots (s .0) (λ h t. f h (leb-true (getD ends k 0) instant t));
+        number = answer-is;
+      }
+
+pub slots-by-rule : SlotsByRule
+slots-by-rule = record {
+  merged = merged-by-rule;
+  split = split-by-rule;
+  available = available-by-rule;
+  frozen = frozen-by-rule;
+}

@@ -1,0 +1,79 @@
+-- The rota of two slots, two units and two people who are available for both: it is accepted, and what a swap does to it.
+-- Assumes nothing.
+use mathlib.Core.Path.{_≡_, refl, sym, ap, ap₂, _∙_}
+use mathlib.Core.Bool.{Bool, true, false, _&&_, cond}
+use mathlib.Core.List.{List, [], _∷_, _++_}
+use Prim.Native.Nat.{ℕ, zero, suc, _+_, _-_, _*_, _≤_, _<_}
+use native.Mathlib.Omega.{arith}
+use borrow.Author.Tests.{le-leb, leb-true}
+use lib.Dec.{leb, ltb, eqb}
+use lib.ListN.{length, drop, getD}
+use Rattle.paper.specs.Limits.{peopleOk, slotCountOk, orElse}
+use Rattle.paper.specs.Bits.{bitOf}
+use Rattle.paper.specs.Count.{all, allIn, sum, over, fill, among}
+use Rattle.paper.proofs.Logic.{and-true}
+use Rattle.slotset.specs.Slots.{slot, withBit, putSlot, putSlots}
+use Rattle.slots.specs.Lent.{slotOk, prevEnd, slotOkAt, slotRoomOk, slotsOk, minutesAt}
+use Rattle.units.specs.Units.{unitEnd, startOk, unitsOk}
+use Rattle.units.specs.Domains.{available, able, unfrozen, clear, unitFrozen}
+use Rattle.rota.specs.Board.{ownerOf, unowned}
+use Rattle.rota.specs.Lent.{fitsUnit, frozenUnit}
+use Rattle.rota.specs.Moves.{anyOf, decided, swapped}
+use Rattle.rota.specs.Plays.{step, ownersAfter, answer, answers, drawsOf, written}
+use Rattle.rota.specs.Derived.{knownBy, portion, worked, held, setsFrom, afresh}
+use Rattle.rota.specs.Recount.{knownAt, freeFor, freeAt, evenAt, setSlotAt, setAt, minutesOkAt, recounts}
+use Rattle.rota.specs.Entries.{countsOk, roomOk}
+use Rattle.promises.specs.Entries.{Call, noOf, playOf}
+use Rattle.promises.specs.Marked.{Owned, apart, Spare, twoUnits}
+use Rattle.promises.proofs.Calls.{Accepted, says-accepted, accepted-is}
+
+-- with as many draws as there are numbers for, and room for the answers, it is accepted
+module _ (r : Owned) (frozen count : ℕ) (kinds ones twos : List ℕ) (more : Spare) (few : leb count 1024 ≡ true) (k : leb count (length kinds) ≡ true)
+    (f : leb count (length ones) ≡ true) (s : leb count (length twos) ≡ true) (room : count ≤ length (more .answers)) where
+  abbrev call : Call
+  call = twoUnits r frozen count kinds ones twos more
+
+  rota-room : roomOk (call .plan) (call .avail) (call .owners) (call .derived) ≡ true
+  unfolding roomOk slotRoomOk
+  rota-room =
+      let a : 2 ≤ length (call .owners) = omega arith in
+      let b : 32 ≤ length (call .derived .sets) = omega arith in
+      let d : 2 ≤ length (call .derived .minutes) = omega arith in
+      and-true _ _ (le-leb 2 (length (call .owners)) a)
+      (and-true _ _ (le-leb 32 (length (call .derived .sets)) b) (le-leb 2 (length (call .derived .minutes)) d))
+
+  passes : recounts (call .plan) (call .avail) 2 (call .firsts) (call .owners) (call .derived) ≡ true → Accepted call
+  unfolding countsOk peopleOk slotCountOk slotsOk slotRoomOk slotOkAt slotOk prevEnd all unitsOk startOk
+  passes recount = record {
+    counts = refl;
+    few = few;
+    room = rota-room;
+    starts = refl;
+    flags = refl;
+    kinds = leb-true count (length kinds) k;
+    ones = leb-true count (length ones) f;
+    twos = leb-true count (length twos) s;
+    answers = room;
+    slots = refl;
+    units = refl;
+    recount = recount;
+  }
+
+  pub accepted : recounts (call .plan) (call .avail) 2 (call .firsts) (call .owners) (call .derived) ≡ true → noOf call ≡ 0
+  accepted recount = says-accepted call (passes recount)
+
+-- owners 0 and 1 pass the recount
+pub apart-recounts : (frozen count : ℕ) (kinds ones twos : List ℕ) (more : Spare)
+    → let c = twoUnits apart frozen count kinds ones twos more in recounts (c .plan) (c .avail) 2 (c .firsts) (c .owners) (c .derived) ≡ true
+unfolding recounts all allIn knownAt knownBy freeAt freeFor available evenAt unitEnd setAt setSlotAt held minutesOkAt worked portion sum
+    minutesAt slot bitOf
+apart-recounts frozen count kinds ones twos more = refl
+
+-- unit 1 frozen, the swap of both units: 1, and nothing changes
+pub case-12 : (more : Spare) → 1 ≤ length (more .answers)
+    → let c = twoUnits apart 2 1 (35 ∷ []) (0 ∷ []) (1 ∷ []) more in
+    playOf c ≡ record { number = 0; owners = c .owners; derived = c .derived; answers = 1 ∷ drop 1 (more .answers) }
+unfolding drawsOf ownersAfter answers answer step written decided anyOf swapped unowned ownerOf frozenUnit unitFrozen clear unfrozen allIn all
+    slot bitOf unitEnd fitsUnit able available afresh setsFrom putSlots putSlot withBit held over worked portion sum minutesAt
+case-12 more room =
+    accepted-is (twoUnits apart 2 1 (35 ∷ []) (0 ∷ []) (1 ∷ []) more) (accepted apart 2 1 (35 ∷ []) (0 ∷ []) (1 ∷ []) more refl refl refl refl room (apart-recounts 2 1 (35 ∷ []) (0 ∷ []) (1 ∷ []) more))

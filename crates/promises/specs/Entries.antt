@@ -1,0 +1,109 @@
+-- A component, by what its entries answer: anything of these types may be judged by the promises. The one that is built answers by the
+-- definitions that the contracts cite. Assumes nothing.
+use mathlib.Core.List.{List}
+use Prim.Native.Nat.{ℕ}
+use lib.IntN.{ℤ}
+use Rattle.slotset.specs.declared.SlotSet.{SlotSet}
+use Rattle.slotset.specs.declared.Found.{Found}
+use Rattle.slotset.specs.declared.Run.{Run}
+use Rattle.slotset.specs.declared.Told.{Told}
+use Rattle.slotset.specs.declared.Counted.{Counted}
+use Rattle.slotset.specs.Slots.{size}
+use Rattle.slotset.specs.Search.{nextSet, prevSet}
+use Rattle.slotset.specs.Answers.{lenNo, slotsOf, foundAs, runAs, countedAs}
+use Rattle.slots.specs.Ranges.{Ranges}
+use Rattle.slots.specs.Atomic.{Base, Atoms, atomiseOf}
+use Rattle.slots.specs.Availability.{availabilityOf}
+use Rattle.slots.specs.Freeze.{isAvailable}
+use Rattle.units.specs.declared.Settings.{Settings}
+use Rattle.units.specs.Answers.{Written}
+use Rattle.units.specs.Starts.{rotationStartsIs}
+use Rattle.targets.specs.Outcome as targets
+use Rattle.rota.specs.declared.Figure.{Figure}
+use Rattle.rota.specs.Board.{Board}
+use Rattle.rota.specs.Lent.{boardOf}
+use Rattle.rota.specs.Moves.{Draw}
+use Rattle.rota.specs.Plays.{drawsOf, ownersAfter, answers, written}
+use Rattle.rota.specs.Derived.{Plan, Derived, afresh}
+use Rattle.rota.specs.Entries as rota
+
+-- ---- a call of play
+
+-- a call of play: what is lent to be read, the draws' three columns, then what is lent to be written
+pub record Call : Type 0 where
+  pub plan : Plan
+  pub avail : List ℕ
+  pub units : ℕ
+  pub firsts : List ℕ
+  pub frozen : List ℕ
+  pub count : ℕ
+  pub kinds : List ℕ
+  pub ones : List ℕ
+  pub twos : List ℕ
+  pub owners : List ℕ
+  pub derived : Derived
+  pub answers : List ℕ
+
+-- the number that it hears, and its whole outcome
+abbrev pub noOf : Call → ℕ
+noOf c =
+    rota.playNo (c .plan) (c .avail) (c .units) (c .firsts) (c .frozen) (c .count) (c .kinds) (c .ones) (c .twos) (c .owners) (c .derived)
+    (c .answers)
+
+abbrev pub playOf : Call → rota.Outcome
+playOf c =
+    rota.played (c .plan) (c .avail) (c .units) (c .firsts) (c .frozen) (c .count) (c .kinds) (c .ones) (c .twos) (c .owners) (c .derived)
+    (c .answers)
+
+-- the board that it is played on, its draws as a list, and the owners that the rules give
+abbrev pub boardIn : Call → Board
+boardIn c = boardOf (c .plan .people) (c .plan .slots) (c .units) (c .avail) (c .firsts) (c .frozen)
+
+abbrev pub drawsIn : Call → List Draw
+drawsIn c = drawsOf (c .kinds) (c .ones) (c .twos) (c .count)
+
+abbrev pub ownersIn : Call → List ℕ
+ownersIn c = ownersAfter (boardIn c) (c .owners) (drawsIn c)
+
+-- the rota that the rules give, worked out afresh, with an answer a draw
+abbrev pub afreshIn : Call → rota.Outcome
+afreshIn c = record {
+  number = 0;
+  owners = ownersIn c;
+  derived = afresh (c .plan) (ownersIn c) (c .derived);
+  answers = written (answers (boardIn c) (c .owners) (drawsIn c)) (c .answers);
+}
+
+-- ---- a component
+
+pub record Component : Type 0 where
+  -- of a set: the next and the previous member, the run that holds a slot, the size
+  pub next : SlotSet → ℕ → Found
+  pub prev : SlotSet → ℕ → Found
+  pub run : SlotSet → ℕ → Run
+  pub size : SlotSet → Counted
+  -- atomic slots; the words of availability at exit, of people, slots, starts, ends, ranges and words; one of its bits
+  pub atomise : Base → Atoms
+  pub availability : ℕ → ℕ → List ℕ → List ℕ → Ranges → List ℕ → List ℕ
+  pub available : ℕ → ℕ → List ℕ → ℕ → ℕ → Told
+  -- targets; the starts of rotations, of settings, slots, starts, ends and the list to write
+  pub targets : targets.Given → List ℤ → targets.Outcome
+  pub rotations : Settings → ℕ → List ℕ → List ℕ → List ℕ → Written
+  -- a play; the uncovered minutes of owners
+  pub play : Call → rota.Outcome
+  pub uncovered : Plan → List ℕ → Figure
+
+abbrev pub built : Component
+built = record {
+  next = λ s from. foundAs (lenNo (s .len)) (nextSet (slotsOf s) (s .len) from);
+  prev = λ s from. foundAs (lenNo (s .len)) (prevSet (slotsOf s) (s .len) from);
+  run = λ s i. runAs (lenNo (s .len)) (slotsOf s) (s .len) i;
+  size = λ s. countedAs (lenNo (s .len)) (size (slotsOf s) (s .len));
+  atomise = atomiseOf;
+  availability = availabilityOf;
+  available = isAvailable;
+  targets = targets.computeTargets;
+  rotations = rotationStartsIs;
+  play = playOf;
+  uncovered = rota.uncoveredIs;
+}

@@ -1,0 +1,241 @@
+-- Demand 1: "Whatever is lent, every entry point ends, checks for itself, and either works or gives the refusal that document 01 lists. A
+-- refusal changes no lent byte." Each entry's table, in the paper's numbers and by the rooms' own tests, and that it is heard both ways.
+-- That every entry ends is the check's own verdict: no public function has a precondition. Assumes nothing.
+use mathlib.Core.Path.{_≡_}
+use mathlib.Core.Bool.{Bool, true, _&&_}
+use mathlib.Core.List.{List, [], _∷_}
+use Prim.Native.Nat.{ℕ, _*_}
+use lib.Dec.{leb, ltb}
+use lib.IntN.{ℤ}
+use lib.ListN.{length}
+use Rattle.paper.specs.Limits.{peopleOk, slotCountOk, slotsMost, drawsMost, setWords}
+use Rattle.paper.specs.Count.{all}
+use Rattle.slots.specs.Lent.{slotRoomOk, slotsOk, demandIs, slotMinutesIs}
+use Rattle.slots.specs.Ranges.{Ranges, ranges, rangeCountOk, rangeRoomOk, rangesOk}
+use Rattle.slots.specs.Merged.{Columns, columns, MergedOut, mergedRanges}
+use Rattle.slots.specs.Atomic as atomic
+use Rattle.slots.specs.Availability.{availabilityRoomOk, availabilityNo, availabilityOf}
+use Rattle.slots.specs.Freeze.{freezeOf, isAvailable}
+use Rattle.units.specs.declared.Settings.{Settings}
+use Rattle.units.specs.Settings.{settingsOk}
+use Rattle.units.specs.Units.{unitsOk}
+use Rattle.units.specs.Answers.{unitCountIs, unitSlotsIs, unitOfSlotIs}
+use Rattle.units.specs.Starts.{rotationStartsIs, unitStartsIs}
+use Rattle.units.specs.Days.{coveredDaysIs, minutesPerDayIs, targetRunIs}
+use Rattle.units.specs.Domains.{unitFrozenIs, slotDomainIs, unitDomainIs}
+use Rattle.units.specs.Achievable.{achievableRunIs}
+use Rattle.targets.specs.Figures.{allFiguresOk}
+use Rattle.targets.specs.Passes.{Beyond}
+use Rattle.targets.specs.Outcome as targets
+use Rattle.rota.specs.Derived.{Plan, Derived, knownBy}
+use Rattle.rota.specs.Recount.{freeFor, knownAt, freeAt, recounts}
+use Rattle.rota.specs.Entries as rota
+use Rattle.promises.specs.Entries.{Call, playOf}
+use Rattle.promises.specs.Table.{Rule, Row, row, rules, Hears, Refuses, toldNo, countedNo, minutesNo, numberNo, spanNo, durationNo, figureNo}
+
+-- ---- slots
+
+-- lent slots, and what comes after: 1, 2, 9
+abbrev pub lentTable : ℕ → List ℕ → List ℕ → List Row → List Row
+lentTable slots starts ends more =
+    row 1 (slotCountOk slots) ∷ row 2 (slotRoomOk slots starts ends) ∷ row 9 (slotsOk slots starts ends) ∷ more
+
+abbrev pub mergedTable : ℕ → Ranges → Columns → List Row
+mergedTable people R out =
+    row 1 (peopleOk people && rangeCountOk (R .count))
+    ∷ row 2 (rangeRoomOk R && rangeRoomOk (ranges (R .count) (out .persons) (out .starts) (out .ends))) ∷ row 4 (rangesOk people R) ∷ []
+
+abbrev pub atomiseTable : atomic.Base → List Row
+atomiseTable B =
+    row 1 (atomic.baseCountsOk B) ∷ row 2 (atomic.baseRoomOk B) ∷ row 3 (slotsOk (B .slots) (B .starts) (B .ends))
+    ∷ row 4 (rangesOk (B .people) (B .ranges)) ∷ row 5 (leb (length (atomic.startsOfAtoms B)) slotsMost) ∷ []
+
+abbrev pub availabilityTable : ℕ → ℕ → List ℕ → List ℕ → Ranges → List ℕ → List Row
+availabilityTable people slots starts ends R words =
+    row 1 (atomic.countsOk people slots (R .count)) ∷ row 2 (availabilityRoomOk people slots starts ends R words)
+    ∷ row 4 (rangesOk people R) ∷ row 9 (slotsOk slots starts ends) ∷ []
+
+abbrev pub freezeTable : ℕ → List ℕ → List ℕ → List ℕ → List Row
+freezeTable slots starts ends frozen =
+    row 1 (slotCountOk slots) ∷ row 2 (slotRoomOk slots starts ends && leb setWords (length frozen)) ∷ row 9 (slotsOk slots starts ends) ∷ []
+
+abbrev pub availableTable : ℕ → ℕ → List ℕ → ℕ → ℕ → List Row
+availableTable people slots words person slot =
+    row 1 (peopleOk people && slotCountOk slots) ∷ row 2 (leb (setWords * people) (length words))
+    ∷ row 11 (ltb person people && ltb slot slots) ∷ []
+
+abbrev pub mergedColumns : MergedOut → Columns
+mergedColumns x = columns (x .persons) (x .starts) (x .ends)
+
+pub record SlotsRefuse : Type 0 where
+  pub demand : (slots : ℕ) (starts ends : List ℕ) → Hears (lentTable slots starts ends []) (minutesNo (demandIs slots starts ends))
+  pub slot-minutes : (slots : ℕ) (starts ends : List ℕ) (k : ℕ)
+      → Hears (lentTable slots starts ends (row 11 (ltb k slots) ∷ [])) (minutesNo (slotMinutesIs slots starts ends k))
+  pub merged-ranges : (people : ℕ) (R : Ranges) (out : Columns)
+      → let x = mergedRanges people R out in Refuses (rules (mergedTable people R out)) (countedNo (x .answer)) out (mergedColumns x)
+  pub atomise : (B : atomic.Base)
+      → let x = atomic.atomiseOf B in
+      Refuses {A = List ℕ × List ℕ} (rules (atomiseTable B)) (countedNo (x .answer)) (B .outStarts, B .outEnds) (x .starts, x .ends)
+  pub availability : (people slots : ℕ) (starts ends : List ℕ) (R : Ranges) (words : List ℕ)
+      → Refuses (rules (availabilityTable people slots starts ends R words)) (availabilityNo people slots starts ends R words) words
+      (availabilityOf people slots starts ends R words)
+  pub freeze-before : (slots : ℕ) (starts ends frozen : List ℕ) (instant : ℕ)
+      → let x = freezeOf slots starts ends frozen instant in
+      Refuses (rules (freezeTable slots starts ends frozen)) (countedNo (x .answer)) frozen (x .flags)
+  pub is-available : (people slots : ℕ) (words : List ℕ) (person slot : ℕ)
+      → Hears (availableTable people slots words person slot) (toldNo (isAvailable people slots words person slot))
+
+-- ---- units
+
+-- lent units, and what comes after: 1, 2, 9
+abbrev pub unitsTable : ℕ → ℕ → List ℕ → List Row → List Row
+unitsTable slots units firsts more =
+    row 1 (slotCountOk slots) ∷ row 2 (leb units (length firsts)) ∷ row 9 (unitsOk slots units firsts) ∷ more
+
+abbrev pub startsTable : Settings → ℕ → List ℕ → List ℕ → List ℕ → List Row
+startsTable s slots starts ends list =
+    row 1 (slotCountOk slots) ∷ row 2 (slotRoomOk slots starts ends) ∷ row 2 (leb slots (length list)) ∷ row 7 (settingsOk s)
+    ∷ row 9 (slotsOk slots starts ends) ∷ []
+
+abbrev pub unitFrozenTable : List ℕ → ℕ → ℕ → List ℕ → ℕ → List Row
+unitFrozenTable frozen slots units firsts u =
+    row 1 (slotCountOk slots) ∷ row 2 (leb units (length firsts)) ∷ row 2 (leb 16 (length frozen)) ∷ row 9 (unitsOk slots units firsts)
+    ∷ row 11 (ltb u units) ∷ []
+
+abbrev pub slotDomainTable : List ℕ → ℕ → ℕ → ℕ → List ℕ → List Row
+slotDomainTable avail people slots k list =
+    row 1 (peopleOk people) ∷ row 1 (slotCountOk slots) ∷ row 2 (leb (16 * people) (length avail)) ∷ row 2 (leb people (length list))
+    ∷ row 11 (ltb k slots) ∷ []
+
+abbrev pub unitDomainTable : List ℕ → ℕ → ℕ → ℕ → List ℕ → ℕ → List ℕ → List Row
+unitDomainTable avail people slots units firsts u list =
+    row 1 (peopleOk people) ∷ row 1 (slotCountOk slots) ∷ row 2 (leb (16 * people) (length avail)) ∷ row 2 (leb units (length firsts))
+    ∷ row 2 (leb people (length list)) ∷ row 9 (unitsOk slots units firsts) ∷ row 11 (ltb u units) ∷ []
+
+abbrev pub targetRunTable : Settings → ℕ → List ℕ → List ℕ → List Row
+targetRunTable s slots starts ends =
+    row 1 (slotCountOk slots) ∷ row 2 (slotRoomOk slots starts ends) ∷ row 7 (settingsOk s) ∷ row 9 (slotsOk slots starts ends) ∷ []
+
+abbrev pub achievableTable : Settings → List ℕ → ℕ → ℕ → ℕ → List ℕ → List ℕ → List Row
+achievableTable s avail people p slots starts ends =
+    row 1 (peopleOk people) ∷ row 1 (slotCountOk slots) ∷ row 2 (slotRoomOk slots starts ends) ∷ row 2 (leb (16 * people) (length avail))
+    ∷ row 7 (settingsOk s) ∷ row 9 (slotsOk slots starts ends) ∷ row 11 (ltb p people) ∷ []
+
+pub record UnitsRefuse : Type 0 where
+  pub unit-count : (slots units : ℕ) (firsts : List ℕ) → Hears (unitsTable slots units firsts []) (numberNo (unitCountIs slots units firsts))
+  pub unit-slots : (slots units : ℕ) (firsts : List ℕ) (u : ℕ)
+      → Hears (unitsTable slots units firsts (row 11 (ltb u units) ∷ [])) (spanNo (unitSlotsIs slots units firsts u))
+  pub unit-of-slot : (slots units : ℕ) (firsts : List ℕ) (k : ℕ)
+      → Hears (unitsTable slots units firsts (row 11 (ltb k slots) ∷ [])) (numberNo (unitOfSlotIs slots units firsts k))
+  pub rotation-starts : (s : Settings) (slots : ℕ) (starts ends list : List ℕ)
+      → let x = rotationStartsIs s slots starts ends list in
+      Refuses (rules (startsTable s slots starts ends list)) (numberNo (x .answer)) list (x .buffer)
+  pub unit-starts : (s : Settings) (slots : ℕ) (starts ends list : List ℕ)
+      → let x = unitStartsIs s slots starts ends list in
+      Refuses (rules (startsTable s slots starts ends list)) (numberNo (x .answer)) list (x .buffer)
+  pub unit-frozen : (frozen : List ℕ) (slots units : ℕ) (firsts : List ℕ) (u : ℕ)
+      → Hears (unitFrozenTable frozen slots units firsts u) (toldNo (unitFrozenIs frozen slots units firsts u))
+  pub slot-domain : (avail : List ℕ) (people slots k : ℕ) (list : List ℕ)
+      → let x = slotDomainIs avail people slots k list in
+      Refuses (rules (slotDomainTable avail people slots k list)) (numberNo (x .answer)) list (x .buffer)
+  pub unit-domain : (avail : List ℕ) (people slots units : ℕ) (firsts : List ℕ) (u : ℕ) (list : List ℕ)
+      → let x = unitDomainIs avail people slots units firsts u list in
+      Refuses (rules (unitDomainTable avail people slots units firsts u list)) (numberNo (x .answer)) list (x .buffer)
+  pub covered-days : (slots : ℕ) (starts ends : List ℕ) → Hears (lentTable slots starts ends []) (numberNo (coveredDaysIs slots starts ends))
+  pub minutes-per-day : (slots : ℕ) (starts ends : List ℕ)
+      → Hears (lentTable slots starts ends []) (durationNo (minutesPerDayIs slots starts ends))
+  pub target-run : (s : Settings) (slots : ℕ) (starts ends : List ℕ)
+      → Hears (targetRunTable s slots starts ends) (durationNo (targetRunIs s slots starts ends))
+  pub achievable-run : (s : Settings) (avail : List ℕ) (people p slots : ℕ) (starts ends : List ℕ)
+      → Hears (achievableTable s avail people p slots starts ends) (durationNo (achievableRunIs s avail people p slots starts ends))
+
+-- ---- targets
+
+-- 8 is judged only where 9 doesn't apply: a target has no meaning on slots that break rule 3
+abbrev pub targetsChecks : targets.Given → ℕ → List Row
+targetsChecks g room =
+    row 1 (targets.countsOk (g .people) (g .slots)) ∷ row 2 (targets.roomOk g room)
+    ∷ row 6 (allFiguresOk (g .people) (g .capacities) (g .priors)) ∷ row 7 (leb (g .fairness) 1)
+    ∷ row 9 (slotsOk (g .slots) (g .starts) (g .ends)) ∷ []
+
+-- an unrounded target is not finite, or of size 2^40 or more
+abbrev pub guard : targets.Given → Rule
+guard g = record {
+  number = 8;
+  Says = (slotsOk (g .slots) (g .starts) (g .ends) ≡ true) × Beyond (targets.demandIn g) (targets.linesIn g);
+}
+
+pub record TargetsRefuse : Type 0 where
+  pub compute-targets : (g : targets.Given) (out : List ℤ)
+      → let x = targets.computeTargets g out in Refuses (guard g ∷ rules (targetsChecks g (length out))) (x .number) out (x .out)
+
+-- ---- rota
+
+-- people and slots, and what comes after: 1, 2, 9
+abbrev pub rotaTable : Plan → List ℕ → List ℕ → Derived → List Row → List Row
+rotaTable P avail o D more =
+    row 1 (rota.countsOk (P .people) (P .slots)) ∷ row 2 (rota.roomOk P avail o D) ∷ row 9 (slotsOk (P .slots) (P .starts) (P .ends)) ∷ more
+
+abbrev pub recountTable : Plan → List ℕ → ℕ → List ℕ → List ℕ → Derived → List Row
+recountTable P avail units firsts o D =
+    row 1 (rota.countsOk (P .people) (P .slots)) ∷ row 2 (rota.roomOk P avail o D && leb units (length firsts))
+    ∷ row 9 (slotsOk (P .slots) (P .starts) (P .ends) && unitsOk (P .slots) units firsts) ∷ row 10 (recounts P avail units firsts o D) ∷ []
+
+abbrev pub playTable : Call → List Row
+playTable c =
+    row 1 (rota.countsOk (c .plan .people) (c .plan .slots) && leb (c .count) drawsMost)
+    ∷ row 2 (rota.roomOk (c .plan) (c .avail) (c .owners) (c .derived)
+    && rota.playRoomOk (c .units) (c .firsts) (c .frozen) (c .count) (c .kinds) (c .ones) (c .twos) (c .answers))
+    ∷ row 9 (slotsOk (c .plan .slots) (c .plan .starts) (c .plan .ends) && unitsOk (c .plan .slots) (c .units) (c .firsts))
+    ∷ row 10 (recounts (c .plan) (c .avail) (c .units) (c .firsts) (c .owners) (c .derived)) ∷ []
+
+abbrev pub emptyTable : ℕ → ℕ → List ℕ → Derived → List Row
+emptyTable people slots o D =
+    row 1 (rota.countsOk people slots)
+    ∷ row 2 (leb slots (length o) && (leb (16 * people) (length (D .sets)) && leb people (length (D .minutes)))) ∷ []
+
+-- readers of owners, and what comes after: 1, 2
+abbrev pub ownersTable : ℕ → ℕ → List ℕ → List Row → List Row
+ownersTable people slots o more = row 1 (rota.countsOk people slots) ∷ row 2 (leb slots (length o)) ∷ more
+
+-- owners, sets and minutes, and answers: what the rota's entries are lent to write
+abbrev pub Lent : Type 0
+Lent = List ℕ × Derived × List ℕ
+
+abbrev pub left : rota.Outcome → Lent
+left y = (y .owners, y .derived, y .answers)
+
+pub record RotaRefuses : Type 0 where
+  pub from-slots : (P : Plan) (avail o : List ℕ) (D : Derived)
+      → let y = rota.fromSlots P avail o D in
+      Refuses {A = Lent}
+      (rules (rotaTable P avail o D (row 11 (all (P .slots) (knownAt (P .people) o)) ∷ row 12 (all (P .slots) (freeAt avail o)) ∷ [])))
+      (y .number) (o, D, []) (left y)
+  pub assign : (P : Plan) (avail o : List ℕ) (D : Derived) (k w : ℕ)
+      → let y = rota.assigned P avail o D k w in
+      Refuses {A = Lent}
+      (rules (rotaTable P avail o D
+      (row 10 (recounts P avail 0 [] o D) ∷ row 11 (ltb k (P .slots) && knownBy (P .people) w) ∷ row 12 (freeFor avail w k) ∷ [])))
+      (y .number) (o, D, []) (left y)
+  pub recount : (P : Plan) (avail : List ℕ) (units : ℕ) (firsts o : List ℕ) (D : Derived)
+      → Hears (recountTable P avail units firsts o D) (rota.recountNo P avail units firsts o D)
+  pub recount-slots : (P : Plan) (avail o : List ℕ) (D : Derived)
+      → Hears (rotaTable P avail o D (row 10 (recounts P avail 0 [] o D) ∷ [])) (rota.recountSlotsNo P avail o D)
+  pub play : (c : Call)
+      → let y = playOf c in Refuses {A = Lent} (rules (playTable c)) (y .number) (c .owners, c .derived, c .answers) (left y)
+  pub empty : (people slots : ℕ) (o : List ℕ) (D : Derived)
+      → let y = rota.emptied people slots o D in Refuses {A = Lent} (rules (emptyTable people slots o D)) (y .number) (o, D, []) (left y)
+  pub owner-of-slot : (people slots : ℕ) (o : List ℕ) (k : ℕ)
+      → Hears (ownersTable people slots o (row 11 (ltb k slots && knownBy people (lib.ListN.getD o k 0)) ∷ []))
+      (figureNo (rota.ownerIs people slots o k))
+  pub minutes-of : (people : ℕ) (m : List ℕ) (p : ℕ)
+      → Hears (row 1 (peopleOk people) ∷ row 2 (leb people (length m)) ∷ row 11 (ltb p people) ∷ []) (figureNo (rota.minutesIs people m p))
+  pub slots-of : (people slots : ℕ) (ws : List ℕ) (p : ℕ)
+      → Hears (row 1 (rota.countsOk people slots) ∷ row 2 (leb (16 * people) (length ws)) ∷ row 11 (ltb p people) ∷ [])
+      (rota.slotsOfIs people slots ws p .number)
+  pub unassigned-count : (people slots : ℕ) (o : List ℕ)
+      → Hears (ownersTable people slots o (row 11 (all slots (knownAt people o)) ∷ [])) (figureNo (rota.unassignedIs people slots o))
+  pub uncovered-minutes : (P : Plan) (o : List ℕ)
+      → Hears (row 1 (rota.countsOk (P .people) (P .slots)) ∷ row 2 (slotRoomOk (P .slots) (P .starts) (P .ends) && leb (P .slots) (length o))
+      ∷ row 9 (slotsOk (P .slots) (P .starts) (P .ends)) ∷ row 11 (all (P .slots) (knownAt (P .people) o)) ∷ [])
+      (figureNo (rota.uncoveredIs P o))

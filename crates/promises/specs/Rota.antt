@@ -1,0 +1,124 @@
+-- Demand 3, a definition a sentence: what holds of every list of draws that a component accepts, whatever its rota. Assumes nothing.
+use mathlib.Core.Path.{_≡_}
+use mathlib.Core.Bool.{true, false}
+use mathlib.Core.List.{List, _++_}
+use Prim.Native.Nat.{ℕ, _+_, _^_, _<_}
+use lib.Dec.{eqb}
+use lib.ListN.{length, getD, take, drop}
+use Rattle.paper.specs.Limits.{nobody}
+use Rattle.paper.specs.Count.{sum, count}
+use Rattle.slotset.specs.declared.Counted.the-variants as counted
+use Rattle.slotset.specs.Slots.{slot}
+use Rattle.slots.specs.Lent.{demandOf}
+use Rattle.units.specs.Units.{unitOf}
+use Rattle.rota.specs.declared.Figure.the-variants.{Is}
+use Rattle.rota.specs.Plays.{touched}
+use Rattle.rota.specs.Derived.{knownBy}
+use Rattle.rota.specs.Recount.{freeFor, recounts}
+use Rattle.rota.specs.Entries.{Outcome, slotsOfIs}
+use Rattle.promises.specs.Entries.{Call, Component, noOf, afreshIn, boardIn, drawsIn}
+
+-- "From any rota that passes the recount, any accepted list of draws ends in the rota that the rules give worked out afresh."
+abbrev pub EndsAfresh : Component → Type 0
+EndsAfresh C = (c : Call) → noOf c ≡ 0 → C .play c ≡ afreshIn c
+
+-- the owner of slot k before the call, and after it
+abbrev pub before : Call → ℕ → ℕ
+before c k = getD (c .owners) k 0
+
+abbrev pub after : Component → Call → ℕ → ℕ
+after C c k = getD (C .play c .owners) k 0
+
+-- "Frozen slots keep their owners"
+abbrev pub FrozenKeep : Component → Type 0
+FrozenKeep C =
+    (c : Call) → noOf c ≡ 0 → (k : ℕ) → k < c .plan .slots → eqb (slot (c .frozen) 0 k) 1 ≡ true → after C c k ≡ before c k
+
+-- "every owner is available": each slot has a known person who is available for it, or nobody
+abbrev pub OwnersAvailable : Component → Type 0
+OwnersAvailable C =
+    (c : Call) → noOf c ≡ 0 → (k : ℕ) → k < c .plan .slots
+    → (knownBy (c .plan .people) (after C c k) ≡ true) × (freeFor (c .avail) (after C c k) k ≡ true)
+
+-- "no covered slot becomes uncovered"
+abbrev pub CoveredStays : Component → Type 0
+CoveredStays C = (c : Call) → noOf c ≡ 0 → (k : ℕ) → k < c .plan .slots → (before c k ≡ nobody → ⊥) → after C c k ≡ nobody → ⊥
+
+-- "only units that an acting draw hands over change owner": by its kind and the runs at its step
+abbrev pub OnlyHandedOver : Component → Type 0
+OnlyHandedOver C =
+    (c : Call) → noOf c ≡ 0 → (k : ℕ) → k < c .plan .slots
+    → touched (boardIn c) (c .owners) (drawsIn c) (unitOf (c .units) (c .firsts) k) ≡ false → after C c k ≡ before c k
+
+-- "sets and minutes equal a recount": the rota that is left passes it, units too
+abbrev pub Recounts : Component → Type 0
+Recounts C =
+    (c : Call) → noOf c ≡ 0
+    → recounts (c .plan) (c .avail) (c .units) (c .firsts) (C .play c .owners) (C .play c .derived) ≡ true
+
+-- .. so that the count of a person's set is the number of slots that they own
+abbrev pub SizesRecount : Component → Type 0
+SizesRecount C =
+    (c : Call) → noOf c ≡ 0 → (p : ℕ) → p < c .plan .people
+    → C .size (slotsOfIs (c .plan .people) (c .plan .slots) (C .play c .derived .sets) p .set)
+    ≡ counted.Is (count (c .plan .slots) (λ k. eqb (after C c k) p))
+
+-- "minutes plus uncovered minutes equal the slots' total": the uncovered minutes are told, and this is their sum
+abbrev pub AddsUp : Component → Type 0
+AddsUp C =
+    (c : Call) → noOf c ≡ 0
+    → (u : ℕ) × (C .uncovered (c .plan) (C .play c .owners) ≡ Is u)
+    × (sum (c .plan .people) (λ p. getD (C .play c .derived .minutes) p 0) + u ≡ demandOf (c .plan .slots) (c .plan .starts) (c .plan .ends))
+
+-- "and a list played in two calls ends as in one"
+
+-- the call with its first n draws alone
+abbrev pub firstCall : Call → ℕ → Call
+firstCall c n = record {
+  plan = c .plan;
+  avail = c .avail;
+  units = c .units;
+  firsts = c .firsts;
+  frozen = c .frozen;
+  count = n;
+  kinds = c .kinds;
+  ones = c .ones;
+  twos = c .twos;
+  owners = c .owners;
+  derived = c .derived;
+  answers = c .answers;
+}
+
+-- the call with the m draws after them, on what an outcome left
+abbrev pub nextCall : Call → Outcome → ℕ → ℕ → Call
+nextCall c y n m = record {
+  plan = c .plan;
+  avail = c .avail;
+  units = c .units;
+  firsts = c .firsts;
+  frozen = c .frozen;
+  count = m;
+  kinds = drop n (c .kinds);
+  ones = drop n (c .ones);
+  twos = drop n (c .twos);
+  owners = y .owners;
+  derived = y .derived;
+  answers = drop n (y .answers);
+}
+
+abbrev pub secondCall : Component → Call → ℕ → ℕ → Call
+secondCall C c n m = nextCall c (C .play (firstCall c n)) n m
+
+-- words of a lent set are numbers of 64 bits
+abbrev pub Words : List ℕ → Type 0
+Words ws = (j : ℕ) → getD ws j 0 < 2 ^ 64
+
+pub record InTwo (C : Component) (c : Call) (n m : ℕ) : Type 0 where
+  pub first : C .play (firstCall c n) .number ≡ 0
+  pub second : C .play (secondCall C c n m) .number ≡ 0
+  pub owners : C .play (secondCall C c n m) .owners ≡ C .play c .owners
+  pub derived : C .play (secondCall C c n m) .derived ≡ C .play c .derived
+  pub answers : take n (C .play (firstCall c n) .answers) ++ C .play (secondCall C c n m) .answers ≡ C .play c .answers
+
+abbrev pub TwoCalls : Component → Type 0
+TwoCalls C = (c : Call) (n m : ℕ) → c .count ≡ n + m → noOf c ≡ 0 → Words (c .derived .sets) → InTwo C c n m

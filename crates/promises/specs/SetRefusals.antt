@@ -1,0 +1,84 @@
+-- Demand 1 of slot sets, by value and in lent rows: their numbers by the table, how an answer has its number, and that a refusal changes
+-- nothing. Assumes nothing.
+use mathlib.Core.Path.{_≡_}
+use mathlib.Core.Bool.{Bool, _&&_, _||_}
+use mathlib.Core.List.{List, [], _∷_}
+use Prim.Native.Nat.{ℕ, _*_}
+use lib.Dec.{leb, ltb}
+use lib.ListN.{length}
+use Rattle.paper.specs.Limits.{peopleOk, slotsMost}
+use Rattle.slotset.specs.declared.SlotSet.{SlotSet}
+use Rattle.slotset.specs.declared.Found.{Found}
+use Rattle.slotset.specs.declared.Found.the-variants as found
+use Rattle.slotset.specs.declared.Run.{Run}
+use Rattle.slotset.specs.declared.Run.the-variants as run
+use Rattle.slotset.specs.declared.NextRun.{NextRun}
+use Rattle.slotset.specs.declared.NextRun.the-variants as nextRun
+use Rattle.slotset.specs.declared.NextMember.{NextMember}
+use Rattle.slotset.specs.declared.NextMember.the-variants as nextMember
+use Rattle.slotset.specs.Search.{nextWith, lastBelow}
+use Rattle.slotset.specs.Answers.{lenNo, slotNo, stretchNo, rowNo, rowStretchNo, foundAs, toldAs, countedAs, runAs, nextRunAs, nextMemberAs}
+use Rattle.slotset.specs.Answers.{newOf, putOf, stretchOf, loadOf, storeOf, rowStretchOf}
+use Rattle.promises.specs.Table.{Row, row, rules, Hears, Refuses, toldNo, countedNo}
+
+-- the number of an answer, 0 where it is no refusal
+abbrev pub foundNo : Found → ℕ
+foundNo (found.At i) = 0
+foundNo found.Nothing = 0
+foundNo (found.Refused n) = n
+
+abbrev pub runNo : Run → ℕ
+runNo (run.Span a b) = 0
+runNo run.Outside = 0
+runNo (run.Refused n) = n
+
+abbrev pub nextRunNo : NextRun → ℕ
+nextRunNo (nextRun.Span a b c) = 0
+nextRunNo nextRun.Done = 0
+nextRunNo (nextRun.Refused n) = n
+
+abbrev pub nextMemberNo : NextMember → ℕ
+nextMemberNo (nextMember.Slot i c) = 0
+nextMemberNo nextMember.Done = 0
+nextMemberNo (nextMember.Refused n) = n
+
+-- ---- the tables
+
+abbrev pub lengthTable : ℕ → List Row → List Row
+lengthTable len more = row 1 (leb len slotsMost) ∷ more
+
+-- an index to insert or remove; each index of a stretch
+abbrev pub slotTable : ℕ → ℕ → List Row
+slotTable len i = lengthTable len (row 11 (ltb i len) ∷ [])
+
+abbrev pub stretchTable : ℕ → ℕ → ℕ → List Row
+stretchTable len a e = lengthTable len (row 11 (leb e a || leb e len) ∷ [])
+
+abbrev pub rowTable : List ℕ → ℕ → ℕ → ℕ → List Row → List Row
+rowTable ws people person len more =
+    row 1 (peopleOk people && leb len slotsMost) ∷ row 2 (leb (16 * people) (length ws)) ∷ row 11 (ltb person people) ∷ more
+
+pub record SetsRefuse : Type 0 where
+  -- the methods that read, and `new`
+  pub lengths : (len : ℕ) → Hears (lengthTable len []) (lenNo len)
+  pub new : (len : ℕ) → Hears (lengthTable len []) (newOf len .number)
+  -- insert, remove and the stretches: a set refused is handed back as it was
+  pub put : (v : ℕ) (s : SlotSet) (i : ℕ) → Refuses (rules (slotTable (s .len) i)) (putOf v s i .number) s (putOf v s i .set)
+  pub stretch : (v : ℕ) (s : SlotSet) (a e : ℕ)
+      → Refuses (rules (stretchTable (s .len) a e)) (stretchOf v s a e .number) s (stretchOf v s a e .set)
+  -- the same questions and writes of a person's row
+  pub rows : (ws : List ℕ) (people person len : ℕ) → Hears (rowTable ws people person len []) (rowNo ws people person len)
+  pub load : (ws : List ℕ) (people person len : ℕ) → Hears (rowTable ws people person len []) (loadOf ws people person len .number)
+  pub store : (s : SlotSet) (ws : List ℕ) (people person : ℕ)
+      → Refuses (rules (rowTable ws people person (s .len) [])) (rowNo ws people person (s .len)) ws (storeOf s ws people person)
+  pub put-stretch : (v : ℕ) (ws : List ℕ) (people person len a e : ℕ)
+      → Refuses (rules (rowTable ws people person len (row 11 (leb e a || leb e len) ∷ []))) (rowStretchNo ws people person len a e) ws
+      (rowStretchOf v ws people person len a e)
+  -- an answer has the number that it was made with, whatever is asked
+  pub found-next : (n v : ℕ) (f : ℕ → ℕ) (len from : ℕ) → foundNo (foundAs n (nextWith v f len from)) ≡ n
+  pub found-last : (n v : ℕ) (f : ℕ → ℕ) (len end : ℕ) → foundNo (foundAs n (lastBelow v f len end)) ≡ n
+  pub told : (n : ℕ) (b : Bool) → toldNo (toldAs n b) ≡ n
+  pub counted : (n k : ℕ) → countedNo (countedAs n k) ≡ n
+  pub run : (n : ℕ) (f : ℕ → ℕ) (len i : ℕ) → runNo (runAs n f len i) ≡ n
+  pub next-run : (n : ℕ) (f : ℕ → ℕ) (len at : ℕ) → nextRunNo (nextRunAs n f len at) ≡ n
+  pub next-member : (n : ℕ) (f : ℕ → ℕ) (len at : ℕ) → nextMemberNo (nextMemberAs n f len at) ≡ n

@@ -1,0 +1,63 @@
+-- Demand 2, slots and availability: each accepted outcome is the one that the paper's section says. Assumes nothing.
+use mathlib.Core.Path.{_≡_}
+use mathlib.Core.Bool.{true, false}
+use mathlib.Core.List.{List}
+use mathlib.Core.Logic.{_↔_}
+use Prim.Native.Nat.{ℕ, _≤_, _<_}
+use lib.ListN.{length, getD}
+use Rattle.slotset.specs.declared.Told.the-variants.{Yes}
+use Rattle.slotset.specs.declared.Counted.the-variants as counted
+use Rattle.slotset.specs.Slots.{slot}
+use Rattle.slots.specs.Lent.{slotsOk, demandOf}
+use Rattle.slots.specs.Ranges.{Ranges, personOf, startOf, endOf, inRanges, available, mergedOf, IsMerged}
+use Rattle.slots.specs.Merged.{Columns, mergedNo, mergedRanges}
+use Rattle.slots.specs.Atomic.{Base, atomiseNo, atomiseOf, startsOfAtoms, endsOfAtoms, isCut, cutsIn, IsCuts}
+use Rattle.slots.specs.Availability.{availabilityNo, availabilityOf}
+use Rattle.slots.specs.Freeze.{endedBy, freezeNo, freezeOf, isAvailable}
+use Rattle.promises.specs.SetRules.{TheOne}
+
+-- "Each person's ranges are sorted, empty ones dropped, and touching or overlapping ones merged": the one list that is ascending person by
+-- person, with gaps, none empty, and has exactly the ranges' minutes; it is told, with its number, at the front of the columns
+pub record Merged (people : ℕ) (R : Ranges) (out : Columns) : Type 0 where
+  pub list : TheOne (IsMerged (inRanges R)) (mergedOf R)
+  pub number : mergedRanges people R out .answer ≡ counted.Is (length (mergedOf R))
+  pub persons : (k : ℕ) → k < length (mergedOf R) → getD (mergedRanges people R out .persons) k 0 ≡ personOf (getD (mergedOf R) k 0)
+  pub starts : (k : ℕ) → k < length (mergedOf R) → getD (mergedRanges people R out .starts) k 0 ≡ startOf (getD (mergedOf R) k 0)
+  pub ends : (k : ℕ) → k < length (mergedOf R) → getD (mergedRanges people R out .ends) k 0 ≡ endOf (getD (mergedOf R) k 0)
+
+-- "The cuts are all starts and ends of the merged ranges. Each base slot is split at every cut strictly inside it; a cut equal to its start
+-- or end does nothing." .. "Atomic lengths add up to base lengths."
+pub record Split (B : Base) : Type 0 where
+  -- of each base slot, the one list of the cuts strictly inside it; its pieces follow each other from its start to its end
+  pub cuts : (k : ℕ) → k < B .slots
+      → TheOne (λ c. IsCuts (isCut (mergedOf (B .ranges))) (getD (B .starts) k 0) c (getD (B .ends) k 0))
+      (cutsIn (mergedOf (B .ranges)) (getD (B .starts) k 0) (getD (B .ends) k 0))
+  -- the pieces of all of them, in order, are told with their number at the front of the columns
+  pub number : atomiseOf B .answer ≡ counted.Is (length (startsOfAtoms B))
+  pub starts : (k : ℕ) → k < length (startsOfAtoms B) → getD (atomiseOf B .starts) k 0 ≡ getD (startsOfAtoms B) k 0
+  pub ends : (k : ℕ) → k < length (startsOfAtoms B) → getD (atomiseOf B .ends) k 0 ≡ getD (endsOfAtoms B) k 0
+  -- they pass the test of lent slots, and their lengths add up
+  pub passes : slotsOk (length (startsOfAtoms B)) (atomiseOf B .starts) (atomiseOf B .ends) ≡ true
+  pub lengths : demandOf (length (startsOfAtoms B)) (atomiseOf B .starts) (atomiseOf B .ends) ≡ demandOf (B .slots) (B .starts) (B .ends)
+  -- "Otherwise, if the slot comes from a split by these ranges, none of its minutes does."
+  pub whole : (k : ℕ) → k < length (startsOfAtoms B) → (p : ℕ)
+      → available (B .ranges) p (getD (startsOfAtoms B) k 0) (getD (endsOfAtoms B) k 0) ≡ false
+      → (t : ℕ) → getD (startsOfAtoms B) k 0 ≤ t → t < getD (endsOfAtoms B) k 0 → inRanges (B .ranges) p t ≡ false
+
+-- "Freezing at an instant, any u32, marks each slot whose end is at or before it, clears no mark, and returns how many end by then."
+pub record Froze (slots : ℕ) (starts ends frozen : List ℕ) (instant : ℕ) : Type 0 where
+  pub marked : (k : ℕ) → k < slots → getD ends k 0 ≤ instant → slot (freezeOf slots starts ends frozen instant .flags) 0 k ≡ 1
+  pub kept : (k : ℕ) → (k < slots → getD ends k 0 ≤ instant → ⊥)
+      → slot (freezeOf slots starts ends frozen instant .flags) 0 k ≡ slot frozen 0 k
+  pub number : freezeOf slots starts ends frozen instant .answer ≡ counted.Is (endedBy slots ends instant)
+
+pub record SlotsByRule : Type 0 where
+  pub merged : (people : ℕ) (R : Ranges) (out : Columns) → mergedNo people R out ≡ 0 → Merged people R out
+  pub split : (B : Base) → atomiseNo B ≡ 0 → Split B
+  -- "A person is available for a slot exactly when each of its minutes lies in one of their ranges."
+  pub available : (people slots : ℕ) (starts ends : List ℕ) (R : Ranges) (words : List ℕ) → availabilityNo people slots starts ends R words ≡ 0
+      → (p k : ℕ) → p < people → k < slots
+      → (isAvailable people slots (availabilityOf people slots starts ends R words) p k ≡ Yes)
+      ↔ ((t : ℕ) → getD starts k 0 ≤ t → t < getD ends k 0 → inRanges R p t ≡ true)
+  pub frozen : (slots : ℕ) (starts ends frozen : List ℕ) (instant : ℕ) → freezeNo slots starts ends frozen ≡ 0
+      → Froze slots starts ends frozen instant

@@ -1,0 +1,89 @@
+-- The table of what a caller hears, as one entry judges it; and the number that an answer has. Assumes nothing.
+use mathlib.Core.Path.{_≡_}
+use mathlib.Core.Bool.{Bool, false}
+use mathlib.Core.List.{List, [], _∷_}
+use mathlib.Core.Logic.{_⊎_, _↔_}
+use Prim.Native.Nat.{ℕ, _<_}
+use Rattle.slotset.specs.declared.Told.{Told}
+use Rattle.slotset.specs.declared.Told.the-variants as told
+use Rattle.slotset.specs.declared.Counted.{Counted}
+use Rattle.slotset.specs.declared.Counted.the-variants as counted
+use Rattle.slots.specs.declared.Minutes.{Minutes}
+use Rattle.slots.specs.declared.Minutes.the-variants as minutes
+use Rattle.units.specs.declared.Number.{Number}
+use Rattle.units.specs.declared.Number.the-variants as number
+use Rattle.units.specs.declared.UnitSlots.{UnitSlots}
+use Rattle.units.specs.declared.UnitSlots.the-variants as unitSlots
+use Rattle.units.specs.declared.Duration.{Duration}
+use Rattle.units.specs.declared.Duration.the-variants as duration
+use Rattle.rota.specs.declared.Figure.{Figure}
+use Rattle.rota.specs.declared.Figure.the-variants as figure
+
+-- ---- the table
+
+-- a rule of it: the number, and what it says
+pub record Rule : Type 1 where
+  pub number : ℕ
+  pub Says : Type 0
+
+-- number m applies: a rule with it says so
+abbrev pub Applies : List Rule → ℕ → Type 0
+Applies [] m = ⊥
+Applies (r ∷ t) m = ((r .number ≡ m) × (r .Says)) ⊎ Applies t m
+
+-- a number is given exactly when its rule says so and no lower one does; 0 stands for none and is given exactly when no rule says so
+pub record Heard (t : List Rule) (n : ℕ) : Type 0 where
+  pub given : (m : ℕ) → 0 < m → (n ≡ m) ↔ (Applies t m × ((k : ℕ) → k < m → Applies t k → ⊥))
+  pub none : (n ≡ 0) ↔ ((m : ℕ) → Applies t m → ⊥)
+
+-- a rule that a test decides: its number is due where the test does not pass
+pub record Row : Type 0 where
+  pub number : ℕ
+  pub passes : Bool
+
+abbrev pub row : ℕ → Bool → Row
+row n ok = record { number = n; passes = ok }
+
+abbrev pub rules : List Row → List Rule
+rules [] = []
+rules (r ∷ t) = record { number = r .number; Says = r .passes ≡ false } ∷ rules t
+
+-- an entry that reads alone: by the table
+abbrev pub Hears : List Row → ℕ → Type 0
+Hears t n = Heard (rules t) n
+
+-- an entry that is lent something to write: by the table, and refused it is as it was
+pub record Refuses {A : Type 0} (t : List Rule) (n : ℕ) (entry exit : A) : Type 0 where
+  pub heard : Heard t n
+  pub kept : (n ≡ 0 → ⊥) → exit ≡ entry
+
+-- ---- the number of an answer, 0 where it is no refusal
+
+abbrev pub toldNo : Told → ℕ
+toldNo told.Yes = 0
+toldNo told.No = 0
+toldNo (told.Refused n) = n
+
+abbrev pub countedNo : Counted → ℕ
+countedNo (counted.Is k) = 0
+countedNo (counted.Refused n) = n
+
+abbrev pub minutesNo : Minutes → ℕ
+minutesNo (minutes.Are m) = 0
+minutesNo (minutes.Refused n) = n
+
+abbrev pub numberNo : Number → ℕ
+numberNo (number.Is k) = 0
+numberNo (number.Refused n) = n
+
+abbrev pub spanNo : UnitSlots → ℕ
+spanNo (unitSlots.Span a e) = 0
+spanNo (unitSlots.Refused n) = n
+
+abbrev pub durationNo : Duration → ℕ
+durationNo (duration.Minutes m) = 0
+durationNo (duration.Refused n) = n
+
+abbrev pub figureNo : Figure → ℕ
+figureNo (figure.Is k) = 0
+figureNo (figure.Refused n) = n

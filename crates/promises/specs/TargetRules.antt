@@ -1,0 +1,61 @@
+-- Demand 2, targets: each step, and the outcome, are what the paper's section says. Every step on a Float is IEEE 754's. Assumes nothing.
+use mathlib.Core.Path.{_≡_}
+use mathlib.Core.Bool.{Bool, true, false, cond}
+use mathlib.Core.List.{List, map}
+use mathlib.Core.Logic.{_≢_}
+use Prim.Native.Nat.{ℕ, suc, _+_, _<_}
+use lib.Dec.{eqb}
+use lib.IntN.{ℤ, pos, _+ℤ_, _-ℤ_}
+use lib.ListN.{length, getD, take, drop}
+use lib.Ieee.{Float, fin, binary64, mul, div, sub, lt}
+use Rattle.slotset.specs.Answers.{rowSlots}
+use Rattle.targets.specs.declared.Line.{Line}
+use Rattle.targets.specs.declared.Person.{Person}
+use Rattle.targets.specs.Figures.{zeroF, whole, lineOf, pad}
+use Rattle.targets.specs.Available.{availableMinutes}
+use Rattle.targets.specs.Passes.{rounded, NearestWhole, within, unrounded, settle, outside, falls, shareSum, notional, some, Passed, again, done}
+use Rattle.targets.specs.Passes.{refused, pass, passes, passesLeave}
+use Rattle.targets.specs.Remainder.{totalOf, Takes, sumℤ}
+use Rattle.targets.specs.Outcome.{Given, given, computeTargets, demandIn, baseAt, linesIn, leftIn, takerIn}
+use Rattle.promises.specs.SetRules.{TheOne}
+
+-- one person in a pass, x being their unrounded target
+pub record Settles (n sum : Float) (l : Line) : Type 0 where
+  pub keeps : l .pinned ≡ true → settle n sum l ≡ l
+  -- "Below 0: pinned at 0."
+  pub below : l .pinned ≡ false → lt (unrounded n sum l) zeroF ≡ true → (settle n sum l .pinned ≡ true) × (settle n sum l .target ≡ 0)
+  -- "Else round to the nearest whole number, halves away from zero."
+  pub else-rounds : l .pinned ≡ false → lt (unrounded n sum l) zeroF ≡ false
+      → (settle n sum l .pinned ≡ false) × (settle n sum l .target ≡ rounded (unrounded n sum l))
+
+pub record TargetsByRule : Type 0 where
+  -- "Raw share is capacity times demand (fairness 1) or times their available minutes (fairness 0)."
+  pub share : (p : Person) (base : ℕ) → lineOf p base .raw ≡ mul binary64 (p .capacity) (whole base)
+  pub base-1 : (g : Given) (k : ℕ) → g .fairness ≡ 1 → baseAt g k ≡ demandIn g
+  pub base-0 : (g : Given) (k : ℕ) → g .fairness ≡ 0 → baseAt g k ≡ availableMinutes (g .slots) (g .starts) (g .ends) (g .avail) k
+  -- "stop if the sum is not above 0, keeping the targets"
+  pub stops : (demand : ℕ) (ls : List Line) → lt zeroF (shareSum ls) ≡ false → pass demand (again ls) ≡ done ls
+  -- "for each unpinned person work out N * (raw / sum) - prior": quotient, product and difference are rounded each
+  pub works-out : (n sum : Float) (l : Line)
+      → unrounded n sum l ≡ sub binary64 (mul binary64 n (div binary64 (l .raw) sum)) (whole (l .person .prior))
+  pub settles : (n sum : Float) (l : Line) → Settles n sum l
+  pub rounds : (s : Bool) (m : ℕ) (e : ℤ) → TheOne (NearestWhole (fin s m e)) (rounded (fin s m e))
+  -- "Repeat while a pass pinned somebody, at most people + 1 passes": the passes end by themselves, the bound never cuts them short
+  pub ends : (g : Given) (ls : List Line) → passesLeave (demandIn g) (linesIn g) ≡ again ls → ⊥
+  -- "Then demand less the targets goes to the largest unpinned target, the last of equals, or to person 0 if all are pinned."
+  pub taker : (g : Given) → TheOne (Takes (leftIn g)) (takerIn g)
+  -- everybody else's target is what the passes left, not below 0: "one may be negative"
+  pub others : (g : Given) (out : List ℤ) (k : ℕ) → computeTargets g out .number ≡ 0 → k < g .people → k ≢ takerIn g
+      → getD (computeTargets g out .out) k (pos 0) ≡ pos (getD (leftIn g) k pad .target)
+  -- "The targets add up to demand"
+  pub add-up : (g : Given) (out : List ℤ) → computeTargets g out .number ≡ 0
+      → sumℤ (take (g .people) (computeTargets g out .out)) ≡ pos (demandIn g)
+  -- past them the buffer stays, refused or not
+  pub past : (g : Given) (out : List ℤ) → drop (g .people) (computeTargets g out .out) ≡ drop (g .people) out
+  -- 8, "a guard only", is never heard
+  pub guard : (g : Given) (out : List ℤ) → computeTargets g out .number ≡ 8 → ⊥
+  -- marked cases 8 to 10 name no fairness: where everybody is available for every slot the two come to the same
+  pub agrees : (people slots : ℕ) (starts ends avail : List ℕ) (capacities : List Float) (priors : List ℕ)
+      → ((p k : ℕ) → p < people → k < slots → rowSlots avail p k ≡ 1) → (out : List ℤ)
+      → computeTargets (given people slots starts ends avail capacities priors 0) out
+      ≡ computeTargets (given people slots starts ends avail capacities priors 1) out
