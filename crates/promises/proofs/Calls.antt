@@ -6,12 +6,12 @@ use Prim.Native.Nat.{ℕ, _≤_}
 use borrow.Author.Tests.{le-leb, leb-true}
 use lib.Dec.{leb}
 use lib.ListN.{length}
-use Rattle.paper.specs.Limits.{drawsMost, orElse}
+use Rattle.paper.specs.Limits.{drawsMost, orElse, countsOk}
 use Rattle.paper.proofs.Logic.{both, five, and-true, cond-zero}
 use Rattle.slots.specs.Lent.{slotsOk}
 use Rattle.units.specs.Units.{unitsOk}
 use Rattle.rota.specs.Recount.{recounts}
-use Rattle.rota.specs.Entries.{countsOk, roomOk, ground, playRoomOk, playNo, Outcome, outcome, played}
+use Rattle.rota.specs.Entries.{roomOk, ground, playRoomOk, playNo, Outcome, outcome, played}
 use Rattle.rota.proofs.Entered.{ground-all}
 use Rattle.promises.specs.Entries.{Call, noOf, playOf, afreshIn}
 

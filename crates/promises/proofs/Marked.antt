@@ -12,7 +12,7 @@ use native.Mathlib.Bridge.{le-by-compare, IsLe}
 use mathlib.Core.Logic.{⊎-elim}
 use Rattle.paper.proofs.Logic.{lt-or-ge, and-true}
 use Rattle.paper.specs.Limits.{peopleOk, slotCountOk, orElse}
-use Rattle.paper.specs.Count.{all, allIn, among}
+use Rattle.paper.specs.Count.{all, allIn, among, onto, some}
 use Rattle.paper.specs.Bits.{bitOf}
 use Rattle.slotset.specs.declared.Found.the-variants.{At, Nothing}
 use Rattle.slotset.specs.declared.Run.the-variants as run
@@ -24,10 +24,10 @@ use Rattle.slotset.specs.declared.Counted.the-variants as counted
 use Rattle.slotset.specs.Slots.{valueOf}
 use Rattle.slotset.specs.Answers.{countedAs, wordsAs, toldAs}
 use Rattle.slots.specs.Lent.{slotOk, prevEnd, slotOkAt, slotRoomOk, slotsOk}
-use Rattle.slots.specs.Ranges.{Ranges, ranges, some, inRange, inRanges, available, rangeCountOk, rangeRoomOk, rangeOk, rangeOkAt, rangesOk}
+use Rattle.slots.specs.Ranges.{Ranges, ranges, inRange, inRanges, available, rangeCountOk, rangeRoomOk, rangeOk, rangeOkAt, rangesOk}
 use Rattle.slots.specs.Ranges.{anyOf, keyOf, personOf, startOf, endOf, keyAt, keysTo, keysOf, opens, closes, joined, mergeIn, mergeAll, mergedOf}
 use Rattle.slots.specs.Merged.{written}
-use Rattle.slots.specs.Atomic.{startsOrEnds, isCut, cutAfter, cutsIn, atomStarts, atomEnds, Base, base, countsOk, roomOk, Atoms}
+use Rattle.slots.specs.Atomic.{startsOrEnds, isCut, cutAfter, cutsIn, atomStarts, atomEnds, Base, base, splitCountsOk, roomOk, Atoms}
 use Rattle.slots.specs.Atomic.{startsOfAtoms, endsOfAtoms, baseCountsOk, baseRoomOk, atomiseNo, atomiseOf}
 use Rattle.slots.specs.Availability.{availableBit, rows, availabilityRoomOk, availabilityNo, availabilityOf}
 use Rattle.slots.specs.Freeze.{availableNo, isAvailable}
@@ -37,7 +37,7 @@ use Rattle.units.specs.declared.Settings.{Settings}
 use Rattle.units.specs.declared.Number.the-variants as number
 use Rattle.units.specs.Settings.{boundaryOk, settingsOk}
 use Rattle.units.specs.Dates.{dateOf, weekdayOf, listed}
-use Rattle.units.specs.Answers.{numberAs, onto, writtenAs}
+use Rattle.units.specs.Answers.{numberAs, writtenAs}
 use Rattle.units.specs.Starts.{dayBegins, rotationBegins, rotationStarts, startsNo, rotationStartsIs}
 use Rattle.promises.proofs.TwoUnits.{case-12}
 use Rattle.targets.proofs.Cases.{case7, case8, case9, case10}
@@ -123,7 +123,7 @@ module _ (B : Base) where
 
 case-4 : (a b : List ℕ) → 1024 ≤ length a → 1024 ≤ length b
     → built .atomise (onePerson 1 (0 ∷ []) (120 ∷ []) 1 (60 ∷ []) (180 ∷ []) a b) ≡ atoms 2 (0 ∷ 60 ∷ []) (60 ∷ 120 ∷ []) a b
-unfolding countsOk peopleOk slotCountOk rangeCountOk slotRoomOk rangeRoomOk slotsOk slotOkAt slotOk prevEnd all rangesOk rangeOkAt rangeOk
+unfolding splitCountsOk peopleOk slotCountOk rangeCountOk slotRoomOk rangeRoomOk slotsOk slotOkAt slotOk prevEnd all rangesOk rangeOkAt rangeOk
     atomStarts atomEnds cutsIn cutAfter isCut startsOrEnds anyOf among mergedOf mergeAll mergeIn keysOf keysTo keyAt keyOf personOf startOf
     endOf opens closes joined
 case-4 a b =
@@ -132,7 +132,7 @@ case-4 a b =
 
 case-5 : (a b : List ℕ) → 1024 ≤ length a → 1024 ≤ length b
     → built .atomise (onePerson 1 (0 ∷ []) (120 ∷ []) 2 (0 ∷ 60 ∷ []) (60 ∷ 120 ∷ []) a b) ≡ atoms 1 (0 ∷ []) (120 ∷ []) a b
-unfolding countsOk peopleOk slotCountOk rangeCountOk slotRoomOk rangeRoomOk slotsOk slotOkAt slotOk prevEnd all rangesOk rangeOkAt rangeOk
+unfolding splitCountsOk peopleOk slotCountOk rangeCountOk slotRoomOk rangeRoomOk slotsOk slotOkAt slotOk prevEnd all rangesOk rangeOkAt rangeOk
     atomStarts atomEnds cutsIn cutAfter isCut startsOrEnds anyOf among mergedOf mergeAll mergeIn keysOf keysTo keyAt keyOf personOf startOf
     endOf opens closes joined
 case-5 a b =
@@ -142,7 +142,7 @@ case-5 a b =
 case-6 : (a b : List ℕ) → 1024 ≤ length a → 1024 ≤ length b
     → built .atomise (onePerson 2 (0 ∷ 60 ∷ []) (60 ∷ 120 ∷ []) 1 (30 ∷ []) (90 ∷ []) a b)
     ≡ atoms 4 (0 ∷ 30 ∷ 60 ∷ 90 ∷ []) (30 ∷ 60 ∷ 90 ∷ 120 ∷ []) a b
-unfolding countsOk peopleOk slotCountOk rangeCountOk slotRoomOk rangeRoomOk slotsOk slotOkAt slotOk prevEnd all rangesOk rangeOkAt rangeOk
+unfolding splitCountsOk peopleOk slotCountOk rangeCountOk slotRoomOk rangeRoomOk slotsOk slotOkAt slotOk prevEnd all rangesOk rangeOkAt rangeOk
     atomStarts atomEnds cutsIn cutAfter isCut startsOrEnds anyOf among mergedOf mergeAll mergeIn keysOf keysTo keyAt keyOf personOf startOf
     endOf opens closes joined
 case-6 a b =
@@ -168,7 +168,7 @@ module _ (ws : List ℕ) (room : 16 ≤ length ws) where
   four-hold a b c d p q r s = simp (p, q, r, s)
 
   none-refused : availabilityNo 1 4 starts ends theirs ws ≡ 0
-  unfolding availabilityNo availabilityRoomOk countsOk peopleOk slotCountOk rangeCountOk slotRoomOk rangeRoomOk slotsOk slotOkAt slotOk prevEnd
+  unfolding availabilityNo availabilityRoomOk splitCountsOk peopleOk slotCountOk rangeCountOk slotRoomOk rangeRoomOk slotsOk slotOkAt slotOk prevEnd
       all rangesOk rangeOkAt rangeOk
   none-refused = four-hold _ _ _ _ refl (le-leb 16 (length ws) room) refl refl
 

@@ -10,7 +10,7 @@ use lib.Dec.{leb, ltb, eqb}
 use lib.IntN.{ℤ}
 use lib.ListN.{length, getD}
 use Rattle.paper.specs.Limits.{peopleOk, slotCountOk}
-use Rattle.paper.specs.Count.{all}
+use Rattle.paper.specs.Count.{all, onto}
 use Rattle.paper.proofs.Logic.{by-test}
 use Rattle.slotset.specs.declared.Told.the-variants as told
 use Rattle.slotset.specs.declared.Counted.the-variants as counted
@@ -26,7 +26,7 @@ use Rattle.units.specs.declared.Settings.{Settings}
 use Rattle.units.specs.declared.Number.the-variants as number
 use Rattle.units.specs.declared.UnitSlots.the-variants as unitSlots
 use Rattle.units.specs.declared.Duration.the-variants as duration
-use Rattle.units.specs.Answers.{numberAs, spanAs, onto, Written, writtenAs, unitsNo, unitNo, unitSlotNo, unitCountIs, unitSlotsIs, unitOfSlotIs}
+use Rattle.units.specs.Answers.{numberAs, spanAs, Written, writtenAs, unitsNo, unitNo, unitSlotNo, unitCountIs, unitSlotsIs, unitOfSlotIs}
 use Rattle.units.specs.Starts.{rotationStarts, unitStarts, startsNo, rotationStartsIs, unitStartsIs}
 use Rattle.units.specs.Days.{durationAs, coveredDaysIs, minutesPerDayIs, targetRunNo, targetRunIs}
 use Rattle.units.specs.Domains.{slotDomain, unitDomain, unitFrozenNo, unitFrozenIs, slotDomainNo, slotDomainIs, unitDomainNo, unitDomainIs}

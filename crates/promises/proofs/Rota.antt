@@ -8,8 +8,8 @@ use borrow.Author.Tests.{le-leb, leb-true, lt-ltb}
 use lib.Dec.{leb, eqb}
 use lib.ListN.{length, getD, take, drop, replicate, length-append, length-drop}
 use lib.Seq.{getD-take, getD-drop, take-at, drop-at, drop-drop}
-use Rattle.paper.specs.Count.{all, sum, count}
-use Rattle.paper.specs.Limits.{peopleOk, slotCountOk, orElse}
+use Rattle.paper.specs.Count.{all, sum, count, onto}
+use Rattle.paper.specs.Limits.{peopleOk, slotCountOk, orElse, countsOk}
 use Rattle.paper.specs.Bits.{bitOf}
 use Rattle.paper.proofs.Logic.{both, five, and-true, slot-count-says}
 use Rattle.paper.proofs.Count.{each-all, sum-same}
@@ -21,10 +21,10 @@ use Rattle.slotset.specs.Answers.{lenNo, rowNo, countedAs, loadOf}
 use Rattle.slots.specs.Lent.{slotRoomOk, demandOf}
 use Rattle.rota.specs.declared.Figure.the-variants.{Is}
 use Rattle.rota.specs.Moves.{Draw}
-use Rattle.rota.specs.Plays.{drawsOf, ownersAfter, answers, written}
+use Rattle.rota.specs.Plays.{drawsOf, ownersAfter, answers}
 use Rattle.rota.specs.Derived.{Plan, Derived, knownBy, uncovered, held, afresh}
 use Rattle.rota.specs.Recount.{freeFor, knownAt, recounts}
-use Rattle.rota.specs.Entries.{Outcome, countsOk, roomOk, uncoveredIs, figureAs, ground, slotsOfIs}
+use Rattle.rota.specs.Entries.{Outcome, roomOk, uncoveredIs, figureAs, ground, slotsOfIs}
 use Rattle.rota.proofs.Entered.{PlayAsks, play-asks, recount-says}
 use Rattle.rota.proofs.Plays.{play-length, answers-length, draws-length}
 use Rattle.rota.proofs.Steps.{afresh-lengths}
@@ -197,8 +197,8 @@ sizes-recounted c e p h =
 
 -- answers of two parts, each written where the call before it ended
 written-twice : (a b x : List ℕ) (n m : ℕ) → length a ≡ n → length b ≡ m
-    → take n (written a x) ++ written b (drop n (written a x)) ≡ written (a ++ b) x
-unfolding written
+    → take n (onto a x) ++ onto b (drop n (onto a x)) ≡ onto (a ++ b) x
+unfolding onto
 written-twice a b x n m p q =
     let d : drop n (a ++ drop (length a) x) ≡ drop n x = drop-at a (drop (length a) x) n p ∙ ap (λ (k : ℕ). drop k x) p in
     let s : n + length b ≡ length (a ++ b) = omega (arith, length-append a b) in
@@ -254,7 +254,7 @@ module _ (c : Call) (n m : ℕ) (s : c .count ≡ n + m) (e : noOf c ≡ 0) (f :
   said-length = answers-length (boardIn c) (c .owners) (drawsIn one) ∙ draws-length (c .kinds) (c .ones) (c .twos) n
 
   left-length : length (afreshIn one .answers) ≡ length (c .answers)
-  unfolding written
+  unfolding onto
   left-length =
       length-append said (drop (length said) (c .answers))
       ∙ omega (arith, length-drop (length said) (c .answers), said-length, A .answers)
@@ -295,7 +295,7 @@ module _ (c : Call) (n m : ℕ) (s : c .count ≡ n + m) (e : noOf c ≡ 0) (f :
   answers-same =
       written-twice said (answers (boardIn c) (ownersIn one) (drawsIn two)) (c .answers) n m said-length
       (answers-length (boardIn c) (ownersIn one) (drawsIn two) ∙ draws-length (two .kinds) (two .ones) (two .twos) m)
-      ∙ ap (λ (l : List ℕ). written l (c .answers))
+      ∙ ap (λ (l : List ℕ). onto l (c .answers))
       (sym (two-calls-answers (boardIn c) (c .owners) (c .kinds) (c .ones) (c .twos) n m)
       ∙ ap (λ (k : ℕ). answers (boardIn c) (c .owners) (whole k)) (sym s))
 

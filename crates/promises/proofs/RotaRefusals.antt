@@ -1,6 +1,6 @@
 -- Demand 1 of targets and rota: heard by the table, and a refusal leaves what was lent as it was. Assumes nothing.
 use mathlib.Core.Path.{_≡_, refl, sym, ap, ap₂, _∙_, subst}
-use mathlib.Core.Bool.{Bool, true, false, _&&_, cond}
+use mathlib.Core.Bool.{Bool, true, false, _&&_, cond, and-false}
 use mathlib.Core.List.{List, [], _∷_}
 use mathlib.Core.Logic.{_⊎_, inl, inr, ⊎-elim}
 use Prim.Native.Nat.{ℕ, _*_, _≤_, _<_}
@@ -9,9 +9,9 @@ use borrow.Author.Tests.{eq-eqb, ne-eqb, eqb-true, eqb-false, le-leb, leb-true}
 use lib.Dec.{leb, ltb, eqb}
 use lib.IntN.{ℤ}
 use lib.ListN.{length, getD, set, replicate}
-use Rattle.paper.specs.Limits.{peopleOk, slotCountOk, orElse, nobody}
+use Rattle.paper.specs.Limits.{peopleOk, slotCountOk, countsOk, orElse, nobody}
 use Rattle.paper.specs.Count.{all, fill, over}
-use Rattle.paper.proofs.Logic.{by-test, lt-or-ge, and-false, slot-count-says}
+use Rattle.paper.proofs.Logic.{by-test, lt-or-ge, slot-count-says}
 use Rattle.slotset.specs.declared.Changed.{Changed}
 use Rattle.slotset.specs.Answers.{rowNo, loadOf}
 use Rattle.slots.specs.Lent.{slotRoomOk, slotsOk}
@@ -159,7 +159,7 @@ unassigned-heard people slots o =
 module _ (P : Plan) (o : List ℕ) where
   abbrev uncoveredTable : List Row
   uncoveredTable =
-      row 1 (rota.countsOk (P .people) (P .slots)) ∷ row 2 (slotRoomOk (P .slots) (P .starts) (P .ends) && leb (P .slots) (length o))
+      row 1 (countsOk (P .people) (P .slots)) ∷ row 2 (slotRoomOk (P .slots) (P .starts) (P .ends) && leb (P .slots) (length o))
       ∷ row 9 (slotsOk (P .slots) (P .starts) (P .ends)) ∷ row 11 (all (P .slots) (knownAt (P .people) o)) ∷ []
 
   uncovered-heard : Hears uncoveredTable (figureNo (rota.uncoveredIs P o))
@@ -168,19 +168,19 @@ module _ (P : Plan) (o : List ℕ) where
 
 module _ (people slots : ℕ) (ws : List ℕ) (p : ℕ) where
   abbrev rowTable : List Row
-  rowTable = row 1 (rota.countsOk people slots) ∷ row 2 (leb (16 * people) (length ws)) ∷ row 11 (ltb p people) ∷ []
+  rowTable = row 1 (countsOk people slots) ∷ row 2 (leb (16 * people) (length ws)) ∷ row 11 (ltb p people) ∷ []
 
   abbrev after : ℕ
   after = chain (row 2 (leb (16 * people) (length ws)) ∷ row 11 (ltb p people) ∷ [])
 
   -- a count of slots that passes is a length that does
   row-number : slotCountOk slots ≡ true → rowNo ws people p slots ≡ chain rowTable
-  unfolding rowNo rota.countsOk
+  unfolding rowNo countsOk
   row-number t =
       ap (λ (b : Bool). orElse (peopleOk people && b) 1 after) (le-leb slots 1024 (slot-count-says slots t .1) ∙ sym t)
 
   slots-of-number : rota.slotsOfIs people slots ws p .number ≡ chain rowTable
-  unfolding rota.slotsOfIs loadOf rota.countsOk
+  unfolding rota.slotsOfIs loadOf countsOk
   slots-of-number =
       by-test (slotCountOk slots) _
       (λ t.

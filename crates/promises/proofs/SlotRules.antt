@@ -22,7 +22,7 @@ use Rattle.slots.specs.Ranges.{Ranges, rangeRoomOk, rangesOk, personOf, startOf
 use Rattle.slots.specs.Ranges.{keysTo, keysOf, mergeIn, mergeAll, mergedOf, IsMerged}
 use Rattle.slots.specs.Merged.{Columns, columns, written, mergedNo, mergedRanges}
 use Rattle.slots.specs.Atomic.{Base, baseCountsOk, baseRoomOk, baseNo, atomiseNo, atomiseOf, startsOfAtoms, endsOfAtoms, isCut, cutsIn, IsCuts}
-use Rattle.slots.specs.Atomic.{countsOk}
+use Rattle.slots.specs.Atomic.{splitCountsOk}
 use Rattle.slots.specs.Availability.{availableBit, rows, availabilityRoomOk, availabilityNo, availabilityOf}
 use Rattle.slots.specs.Freeze.{endsBy, endedBy, marked, freezeNo, freezeOf, availableNo, isAvailable}
 use Rattle.slots.proofs.LentLaws.{slots-sound}
@@ -176,7 +176,7 @@ module _ (people slots : ℕ) (starts ends : List ℕ) (R : Ranges) (words : Lis
   out-is = ap (λ (n : ℕ). cond (eqb n 0) (rows (availableBit R starts ends) slots people words) words) e
 
   counts : peopleOk people && slotCountOk slots ≡ true
-  unfolding availabilityNo countsOk
+  unfolding availabilityNo splitCountsOk
   counts =
       let x = cond-zero (peopleOk people && (slotCountOk slots && _)) _ 0 e in
       let y = both (peopleOk people) _ (x .0) in

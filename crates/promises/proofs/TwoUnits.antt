@@ -8,9 +8,9 @@ use native.Mathlib.Omega.{arith}
 use borrow.Author.Tests.{le-leb, leb-true}
 use lib.Dec.{leb, ltb, eqb}
 use lib.ListN.{length, drop, getD}
-use Rattle.paper.specs.Limits.{peopleOk, slotCountOk, orElse}
+use Rattle.paper.specs.Limits.{peopleOk, slotCountOk, orElse, countsOk}
 use Rattle.paper.specs.Bits.{bitOf}
-use Rattle.paper.specs.Count.{all, allIn, sum, over, fill, among}
+use Rattle.paper.specs.Count.{all, allIn, sum, over, fill, among, onto}
 use Rattle.paper.proofs.Logic.{and-true}
 use Rattle.slotset.specs.Slots.{slot, withBit, putSlot, putSlots}
 use Rattle.slots.specs.Lent.{slotOk, prevEnd, slotOkAt, slotRoomOk, slotsOk, minutesAt}
@@ -19,10 +19,10 @@ use Rattle.units.specs.Domains.{available, able, unfrozen, clear, unitFrozen}
 use Rattle.rota.specs.Board.{ownerOf, unowned}
 use Rattle.rota.specs.Lent.{fitsUnit, frozenUnit}
 use Rattle.rota.specs.Moves.{anyOf, decided, swapped}
-use Rattle.rota.specs.Plays.{step, ownersAfter, answer, answers, drawsOf, written}
+use Rattle.rota.specs.Plays.{step, ownersAfter, answer, answers, drawsOf}
 use Rattle.rota.specs.Derived.{knownBy, portion, worked, held, setsFrom, afresh}
 use Rattle.rota.specs.Recount.{knownAt, freeFor, freeAt, evenAt, setSlotAt, setAt, minutesOkAt, recounts}
-use Rattle.rota.specs.Entries.{countsOk, roomOk}
+use Rattle.rota.specs.Entries.{roomOk}
 use Rattle.promises.specs.Entries.{Call, noOf, playOf}
 use Rattle.promises.specs.Marked.{Owned, apart, Spare, twoUnits}
 use Rattle.promises.proofs.Calls.{Accepted, says-accepted, accepted-is}
@@ -73,7 +73,7 @@ apart-recounts frozen count kinds ones twos more = refl
 pub case-12 : (more : Spare) → 1 ≤ length (more .answers)
     → let c = twoUnits apart 2 1 (35 ∷ []) (0 ∷ []) (1 ∷ []) more in
     playOf c ≡ record { number = 0; owners = c .owners; derived = c .derived; answers = 1 ∷ drop 1 (more .answers) }
-unfolding drawsOf ownersAfter answers answer step written decided anyOf swapped unowned ownerOf frozenUnit unitFrozen clear unfrozen allIn all
+unfolding drawsOf ownersAfter answers answer step onto decided anyOf swapped unowned ownerOf frozenUnit unitFrozen clear unfrozen allIn all
     slot bitOf unitEnd fitsUnit able available afresh setsFrom putSlots putSlot withBit held over worked portion sum minutesAt
 case-12 more room =
     accepted-is (twoUnits apart 2 1 (35 ∷ []) (0 ∷ []) (1 ∷ []) more) (accepted apart 2 1 (35 ∷ []) (0 ∷ []) (1 ∷ []) more refl refl refl refl room (apart-recounts 2 1 (35 ∷ []) (0 ∷ []) (1 ∷ []) more))

@@ -9,13 +9,13 @@ use borrow.Author.Tests.{eq-eqb, ne-eqb, eqb-true, eqb-false}
 use lib.Dec.{eqb}
 use lib.ListN.{length, getD}
 use Rattle.paper.specs.Bits.{bitOf}
-use Rattle.paper.specs.Count.{all, count, among}
+use Rattle.paper.specs.Count.{all, count, among, onto}
 use Rattle.paper.proofs.Logic.{by-test, both, and-true}
 use Rattle.paper.proofs.Count.{all-each, each-all, all-fails, among-each, among-at}
 use Rattle.slotset.specs.Slots.{slot}
 use Rattle.slots.specs.Lent.{minutesAt, demandOf}
 use Rattle.units.specs.declared.Settings.{Settings}
-use Rattle.units.specs.Answers.{onto, writtenAs}
+use Rattle.units.specs.Answers.{writtenAs}
 use Rattle.units.specs.Dates.{dateOf, weekdayOf, listed}
 use Rattle.units.specs.Units.{unitStart, unitEnd, unitsOk, unitOf, InUnit}
 use Rattle.units.specs.Starts.{startDate, everyBegins, dayBegins, rotationBegins, unitBegins, rotationStarts, unitStarts, startsNo}

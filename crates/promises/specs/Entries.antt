@@ -3,6 +3,7 @@
 use mathlib.Core.List.{List}
 use Prim.Native.Nat.{ℕ}
 use lib.IntN.{ℤ}
+use Rattle.paper.specs.Count.{onto}
 use Rattle.slotset.specs.declared.SlotSet.{SlotSet}
 use Rattle.slotset.specs.declared.Found.{Found}
 use Rattle.slotset.specs.declared.Run.{Run}
@@ -23,7 +24,7 @@ use Rattle.rota.specs.declared.Figure.{Figure}
 use Rattle.rota.specs.Board.{Board}
 use Rattle.rota.specs.Lent.{boardOf}
 use Rattle.rota.specs.Moves.{Draw}
-use Rattle.rota.specs.Plays.{drawsOf, ownersAfter, answers, written}
+use Rattle.rota.specs.Plays.{drawsOf, ownersAfter, answers}
 use Rattle.rota.specs.Derived.{Plan, Derived, afresh}
 use Rattle.rota.specs.Entries as rota
 
@@ -71,7 +72,7 @@ afreshIn c = record {
   number = 0;
   owners = ownersIn c;
   derived = afresh (c .plan) (ownersIn c) (c .derived);
-  answers = written (answers (boardIn c) (c .owners) (drawsIn c)) (c .answers);
+  answers = onto (answers (boardIn c) (c .owners) (drawsIn c)) (c .answers);
 }
 
 -- ---- a component

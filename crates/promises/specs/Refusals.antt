@@ -8,7 +8,7 @@ use Prim.Native.Nat.{ℕ, _*_}
 use lib.Dec.{leb, ltb}
 use lib.IntN.{ℤ}
 use lib.ListN.{length}
-use Rattle.paper.specs.Limits.{peopleOk, slotCountOk, slotsMost, drawsMost, setWords}
+use Rattle.paper.specs.Limits.{peopleOk, slotCountOk, countsOk, slotsMost, drawsMost, setWords}
 use Rattle.paper.specs.Count.{all}
 use Rattle.slots.specs.Lent.{slotRoomOk, slotsOk, demandIs, slotMinutesIs}
 use Rattle.slots.specs.Ranges.{Ranges, ranges, rangeCountOk, rangeRoomOk, rangesOk}
@@ -52,7 +52,7 @@ atomiseTable B =
 
 abbrev pub availabilityTable : ℕ → ℕ → List ℕ → List ℕ → Ranges → List ℕ → List Row
 availabilityTable people slots starts ends R words =
-    row 1 (atomic.countsOk people slots (R .count)) ∷ row 2 (availabilityRoomOk people slots starts ends R words)
+    row 1 (atomic.splitCountsOk people slots (R .count)) ∷ row 2 (availabilityRoomOk people slots starts ends R words)
     ∷ row 4 (rangesOk people R) ∷ row 9 (slotsOk slots starts ends) ∷ []
 
 abbrev pub freezeTable : ℕ → List ℕ → List ℕ → List ℕ → List Row
@@ -154,7 +154,7 @@ pub record UnitsRefuse : Type 0 where
 -- 8 is judged only where 9 doesn't apply: a target has no meaning on slots that break rule 3
 abbrev pub targetsChecks : targets.Given → ℕ → List Row
 targetsChecks g room =
-    row 1 (targets.countsOk (g .people) (g .slots)) ∷ row 2 (targets.roomOk g room)
+    row 1 (countsOk (g .people) (g .slots)) ∷ row 2 (targets.roomOk g room)
     ∷ row 6 (allFiguresOk (g .people) (g .capacities) (g .priors)) ∷ row 7 (leb (g .fairness) 1)
     ∷ row 9 (slotsOk (g .slots) (g .starts) (g .ends)) ∷ []
 
@@ -174,16 +174,16 @@ pub record TargetsRefuse : Type 0 where
 -- people and slots, and what comes after: 1, 2, 9
 abbrev pub rotaTable : Plan → List ℕ → List ℕ → Derived → List Row → List Row
 rotaTable P avail o D more =
-    row 1 (rota.countsOk (P .people) (P .slots)) ∷ row 2 (rota.roomOk P avail o D) ∷ row 9 (slotsOk (P .slots) (P .starts) (P .ends)) ∷ more
+    row 1 (countsOk (P .people) (P .slots)) ∷ row 2 (rota.roomOk P avail o D) ∷ row 9 (slotsOk (P .slots) (P .starts) (P .ends)) ∷ more
 
 abbrev pub recountTable : Plan → List ℕ → ℕ → List ℕ → List ℕ → Derived → List Row
 recountTable P avail units firsts o D =
-    row 1 (rota.countsOk (P .people) (P .slots)) ∷ row 2 (rota.roomOk P avail o D && leb units (length firsts))
+    row 1 (countsOk (P .people) (P .slots)) ∷ row 2 (rota.roomOk P avail o D && leb units (length firsts))
     ∷ row 9 (slotsOk (P .slots) (P .starts) (P .ends) && unitsOk (P .slots) units firsts) ∷ row 10 (recounts P avail units firsts o D) ∷ []
 
 abbrev pub playTable : Call → List Row
 playTable c =
-    row 1 (rota.countsOk (c .plan .people) (c .plan .slots) && leb (c .count) drawsMost)
+    row 1 (countsOk (c .plan .people) (c .plan .slots) && leb (c .count) drawsMost)
     ∷ row 2 (rota.roomOk (c .plan) (c .avail) (c .owners) (c .derived)
     && rota.playRoomOk (c .units) (c .firsts) (c .frozen) (c .count) (c .kinds) (c .ones) (c .twos) (c .answers))
     ∷ row 9 (slotsOk (c .plan .slots) (c .plan .starts) (c .plan .ends) && unitsOk (c .plan .slots) (c .units) (c .firsts))
@@ -191,12 +191,12 @@ playTable c =
 
 abbrev pub emptyTable : ℕ → ℕ → List ℕ → Derived → List Row
 emptyTable people slots o D =
-    row 1 (rota.countsOk people slots)
+    row 1 (countsOk people slots)
     ∷ row 2 (leb slots (length o) && (leb (16 * people) (length (D .sets)) && leb people (length (D .minutes)))) ∷ []
 
 -- readers of owners, and what comes after: 1, 2
 abbrev pub ownersTable : ℕ → ℕ → List ℕ → List Row → List Row
-ownersTable people slots o more = row 1 (rota.countsOk people slots) ∷ row 2 (leb slots (length o)) ∷ more
+ownersTable people slots o more = row 1 (countsOk people slots) ∷ row 2 (leb slots (length o)) ∷ more
 
 -- owners, sets and minutes, and answers: what the rota's entries are lent to write
 abbrev pub Lent : Type 0
@@ -231,11 +231,11 @@ pub record RotaRefuses : Type 0 where
   pub minutes-of : (people : ℕ) (m : List ℕ) (p : ℕ)
       → Hears (row 1 (peopleOk people) ∷ row 2 (leb people (length m)) ∷ row 11 (ltb p people) ∷ []) (figureNo (rota.minutesIs people m p))
   pub slots-of : (people slots : ℕ) (ws : List ℕ) (p : ℕ)
-      → Hears (row 1 (rota.countsOk people slots) ∷ row 2 (leb (16 * people) (length ws)) ∷ row 11 (ltb p people) ∷ [])
+      → Hears (row 1 (countsOk people slots) ∷ row 2 (leb (16 * people) (length ws)) ∷ row 11 (ltb p people) ∷ [])
       (rota.slotsOfIs people slots ws p .number)
   pub unassigned-count : (people slots : ℕ) (o : List ℕ)
       → Hears (ownersTable people slots o (row 11 (all slots (knownAt people o)) ∷ [])) (figureNo (rota.unassignedIs people slots o))
   pub uncovered-minutes : (P : Plan) (o : List ℕ)
-      → Hears (row 1 (rota.countsOk (P .people) (P .slots)) ∷ row 2 (slotRoomOk (P .slots) (P .starts) (P .ends) && leb (P .slots) (length o))
+      → Hears (row 1 (countsOk (P .people) (P .slots)) ∷ row 2 (slotRoomOk (P .slots) (P .starts) (P .ends) && leb (P .slots) (length o))
       ∷ row 9 (slotsOk (P .slots) (P .starts) (P .ends)) ∷ row 11 (all (P .slots) (knownAt (P .people) o)) ∷ [])
       (figureNo (rota.uncoveredIs P o))
