@@ -3,6 +3,7 @@
 use std::{fs, io};
 
 use on_call::model::problem::Problem;
+use on_call::model::Assignment;
 use on_call::search::moves::MoveGenerator;
 
 use crate::call::{bytes16, bytes32, bytes64, Arg, Outcome, Question};
@@ -144,7 +145,7 @@ impl JobCase {
     }
 
     /// The Rust's problem, frozen at the job's instant.
-    fn frozen(&self) -> Problem {
+    pub fn frozen(&self) -> Problem {
         let mut problem = self.problem.rust();
         if let Some(at) = self.freeze {
             problem.freeze_before(instant(i64::from(at)));
@@ -157,12 +158,17 @@ impl JobCase {
         self.play(&self.frozen()).answers
     }
 
-    fn play(&self, problem: &Problem) -> Played {
+    /// The rota before its draws.
+    pub fn assignment(&self, problem: &Problem) -> Assignment {
         let mut slots = vec![None; problem.slot_count()];
         for &(slot, owner) in &self.owners {
             slots[usize::from(slot)] = (owner != u16::from(NOBODY)).then_some(usize::from(owner));
         }
-        let mut assignment = on_call::model::Assignment::from_slots(problem, slots);
+        Assignment::from_slots(problem, slots)
+    }
+
+    fn play(&self, problem: &Problem) -> Played {
+        let mut assignment = self.assignment(problem);
         let generator = MoveGenerator::new();
         let answers = self
             .draws

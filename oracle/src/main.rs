@@ -13,6 +13,7 @@ mod readers;
 mod recounts;
 mod rotas;
 mod rotations;
+mod search;
 mod seed;
 mod sets;
 mod splitting;
@@ -66,7 +67,7 @@ const SHOWN: u64 = 20;
 
 const USAGE: &str = "usage: oracle compare N SEED KIND|every | case KIND CASE-SEED | days | time N
        oracle program N SEED COMMAND.. | rules N SEED | store KIND N SEED FOLDER
-       oracle job SEED | listing SEED | limits | listing-of FILE";
+       oracle job SEED | listing SEED | limits | listing-of FILE | moves BLOCKS DRAWS SEED FILE";
 
 fn main() -> ExitCode {
     let words: Vec<String> = std::env::args().skip(1).collect();
@@ -108,6 +109,10 @@ fn main() -> ExitCode {
                 eprintln!("oracle: {file}: {error}");
                 ExitCode::from(2)
             }
+        },
+        ["moves", blocks, draws, seed, file] => match (blocks.parse(), draws.parse(), seed.parse()) {
+            (Ok(blocks), Ok(draws), Ok(seed)) => moves_on(file, blocks, draws, seed),
+            _ => usage(),
         },
         ["store", kind, n, seed, folder] => match (n.parse(), seed.parse()) {
             (Ok(n), Ok(seed)) => store(kind, n, seed, Path::new(folder)),
@@ -152,6 +157,18 @@ fn compare_rules(n: u64, seed: u64) -> ExitCode {
         println!("targets: {rule:?} differs in {seen}{where_first}");
     }
     ExitCode::from(u8::from(!told))
+}
+
+/// Writes the moves of the Rust's generator on a job file that nothing is wrong with.
+fn moves_on(file: &str, blocks: u64, draws: u64, seed: u64) -> ExitCode {
+    let job = fs::read(file).ok().and_then(|bytes| job_files::read(&bytes));
+    match job {
+        Some(job) if job_files::numbers(&job).is_empty() => write_out(search::moves(&job, blocks, draws, seed).as_bytes()),
+        _ => {
+            eprintln!("oracle: {file} is no job that is accepted");
+            ExitCode::from(2)
+        }
+    }
 }
 
 /// Writes bytes to standard output.
