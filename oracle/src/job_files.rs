@@ -1,5 +1,5 @@
-//! What is due for a job file: the listing that the Rust's answers make, or the number of its refusal by the paper's table. It is worked out
-//! from the file's bytes alone, as the paper says them; nothing of the library is asked.
+//! What is due for a job file: the listing that the Rust's answers make, or the number of its refusal by the paper's table. It is worked
+//! out from the file's bytes alone, as the paper says them; nothing of the library is asked.
 
 use on_call::model::problem::Problem;
 

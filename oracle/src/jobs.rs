@@ -1,5 +1,7 @@
 //! Whole jobs: a job file, and the listing that the Rust's answers make.
 
+use std::{fs, io};
+
 use on_call::model::problem::Problem;
 use on_call::model::Assignment;
 use on_call::search::moves::MoveGenerator;
@@ -8,6 +10,7 @@ use crate::call::{bytes16, bytes32, bytes64, Arg, Outcome, Question};
 use crate::days::{instant, MINUTES_MOST};
 use crate::job_faults::{at_the_limit, some_faults, with_faults};
 use crate::job_files::{file_of, listing_of, Record, BASE, DRAW, DRAWS_MOST, FREEZE, OWNER, PERSON, RANGE, SETTINGS};
+use crate::library;
 use crate::problems::{problem_case, slots_of, Person, ProblemCase, Range, Settings};
 use crate::rotas::{draws, owners, played, step, Draw, Played, NOBODY};
 use crate::seed::Seed;
@@ -53,8 +56,9 @@ impl JobCase {
         }
     }
 
-    /// A job at every limit: 1,024 base slots up to the last minute, 32 people, 1,024 ranges, 1,024 owners, 1,024 draws. Everybody is available
-    /// for every slot, by 32 touching ranges, the last first; one person owns all, and every draw hands the whole rota to somebody else.
+    /// A job at every limit: 1,024 base slots up to the last minute, 32 people, 1,024 ranges, 1,024 owners, 1,024 draws. Everybody is
+    /// available for every slot, by 32 touching ranges, the last first; two people own half each, and every draw has them swap their
+    /// halves.
     pub fn at_every_limit() -> Self {
         let length = MINUTES_MOST as u32 / SLOTS_MOST as u32;
         let first = MINUTES_MOST as u32 - length * SLOTS_MOST as u32;
@@ -86,8 +90,8 @@ impl JobCase {
                 },
             },
             freeze: Some(0),
-            owners: (0..SLOTS_MOST as u16).map(|slot| (slot, 0)).collect(),
-            draws: (0..DRAWS_MOST as u16).map(|k| (60, k, k % 31)).collect(),
+            owners: (0..SLOTS_MOST as u16).map(|slot| (slot, slot / 512)).collect(),
+            draws: vec![(75, 0, 1023); DRAWS_MOST],
         }
     }
 
@@ -177,12 +181,32 @@ impl JobCase {
 
 // ---- files, and the calls
 
-/// The job at every limit, and the same file cut by its last byte, which is refused at once: what is between their times is the job's.
-pub fn timed() -> [Question; 2] {
+/// Times the job at every limit, and the same file cut by its last byte, which is refused at once: what is between is the job's. Each time
+/// is the mean of n runs, of the processor and not of the clock.
+pub fn time(n: u64) -> io::Result<u64> {
     let file = JobCase::at_every_limit().file();
     let cut = file[..file.len() - 1].to_vec();
-    let mut seed = Seed::new(0);
-    [file, cut].map(|file| question(&mut seed, file, LISTING_MOST))
+    let mut mean = [0.0; 2];
+    let mut differing = 0;
+    for (file, mean) in [file, cut].into_iter().zip(&mut mean) {
+        let question = question(&mut Seed::new(0), file, LISTING_MOST);
+        let begun = processor_time()?;
+        for _ in 0..n {
+            differing += u64::from(library::ask(&question)? != question.due);
+        }
+        *mean = (processor_time()? - begun) as f64 / n as f64 / 1e6;
+    }
+    let [whole, cut] = mean;
+    let time = whole - cut;
+    println!("jobs: a job at every limit takes {time:.2} ms: {whole:.2} less {cut:.2} for its file cut by a byte, means of {n} runs");
+    Ok(differing)
+}
+
+/// Nanoseconds that this process has had of a processor.
+fn processor_time() -> io::Result<u64> {
+    let told = fs::read_to_string("/proc/self/schedstat")?;
+    let first = told.split(' ').next().and_then(|word| word.parse().ok());
+    first.ok_or_else(|| io::Error::other("/proc/self/schedstat has no number"))
 }
 
 /// The file of a job that nothing is wrong with, unless it has too many atomic slots.
@@ -190,8 +214,8 @@ pub fn sound_file(seed: &mut Seed) -> Vec<u8> {
     JobCase::new(seed).file()
 }
 
-/// A job's file with one fault or two, or filled up to the limit, or with one bit changed, or cut anywhere: that may leave a job that nothing
-/// is wrong with.
+/// A job's file with one fault or two, or filled up to the limit, or with one bit changed, or cut anywhere: that may leave a job that
+/// nothing is wrong with.
 pub fn damaged_file(seed: &mut Seed) -> Vec<u8> {
     let job = JobCase::new(seed);
     let mut file = job.file();

@@ -27,7 +27,6 @@ use std::fs;
 use std::io::Write;
 use std::path::Path;
 use std::process::ExitCode;
-use std::time::{Duration, Instant};
 
 use call::Question;
 use seed::Seed;
@@ -101,7 +100,7 @@ fn main() -> ExitCode {
         },
         ["limits"] => write_out(&jobs::JobCase::at_every_limit().file()),
         ["time", n] => match n.parse() {
-            Ok(n) => ended(time_job(n)),
+            Ok(n) => ended(jobs::time(n)),
             Err(_) => usage(),
         },
         ["listing-of", file] => match fs::read(file) {
@@ -236,26 +235,6 @@ fn every_export_in(functions: &BTreeSet<&str>) -> std::io::Result<()> {
         return Ok(());
     }
     Err(std::io::Error::other(format!("never asked: {}", left.join(", "))))
-}
-
-/// Times the job at every limit: the least of n runs, less the least of as many runs of the same file cut by a byte.
-fn time_job(n: u64) -> std::io::Result<u64> {
-    let mut least = [Duration::MAX; 2];
-    let mut differing = 0;
-    for _ in 0..n {
-        for (question, least) in jobs::timed().iter().zip(&mut least) {
-            let begun = Instant::now();
-            let outcome = library::ask(question)?;
-            *least = begun.elapsed().min(*least);
-            differing += u64::from(outcome != question.due);
-        }
-    }
-    let [whole, cut] = least.map(|time| time.as_secs_f64() * 1000.0);
-    println!(
-        "jobs: a job at every limit takes {:.2} ms: {whole:.2} less {cut:.2} for its file cut by a byte, each the least of {n} runs",
-        whole - cut
-    );
-    Ok(differing)
 }
 
 /// Compares every day of the range, by the rule and by the library.

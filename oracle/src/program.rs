@@ -1,7 +1,7 @@
 //! The program: a job on its standard input or in the file that its argument names, and what it must write.
 
 use std::fs::{self, File};
-use std::io::{self, Write};
+use std::io;
 use std::path::Path;
 use std::process::{Command, Output, Stdio};
 
@@ -32,13 +32,10 @@ pub fn compare(n: u64, run: u64, command: &[String]) -> io::Result<u64> {
             println!("program {case_seed}: {}", told(&got));
         }
     }
-    let refusals = refused_to_read(command, &name)?;
+    differing += unreadable(command, &name)?;
     fs::remove_file(&name)?;
-    println!(
-        "program: {n} jobs and {} of what it can't read, {differing} differ (seed {run})",
-        refusals.len()
-    );
-    Ok(differing + refusals.iter().filter(|&&as_due| !as_due).count() as u64)
+    println!("program: {n} jobs and {UNREADABLE} inputs that it can't read, {differing} differ (seed {run})");
+    Ok(differing)
 }
 
 fn started(command: &[String], words: &[&Path]) -> Command {
@@ -58,20 +55,21 @@ fn told(got: &Output) -> String {
     format!("{}, {} bytes written, first '{first}'", got.status, got.stdout.len())
 }
 
-/// A file that is not there, a folder, and two arguments: a report on standard error, and nothing on standard output.
-fn refused_to_read(command: &[String], name: &Path) -> io::Result<Vec<bool>> {
+/// Inputs that can't be read.
+const UNREADABLE: usize = 3;
+
+/// A file that is not there, a folder, and two arguments: a report on standard error and nothing on standard output, or they are counted.
+fn unreadable(command: &[String], name: &Path) -> io::Result<u64> {
     let missing = name.with_extension("missing");
     let folder = std::env::temp_dir();
-    let asked: [&[&Path]; 3] = [&[&missing], &[&folder], &[name, name]];
-    let mut as_due = Vec::new();
+    let asked: [&[&Path]; UNREADABLE] = [&[&missing], &[&folder], &[name, name]];
+    let mut differing = 0;
     for words in asked {
         let got = started(command, words).stdin(Stdio::null()).output()?;
-        let silent = got.stdout.is_empty() && !got.stderr.is_empty();
-        if !silent {
+        if !got.stdout.is_empty() || got.stderr.is_empty() {
+            differing += 1;
             println!("program: {words:?} {}", told(&got));
         }
-        as_due.push(silent);
     }
-    io::stdout().flush()?;
-    Ok(as_due)
+    Ok(differing)
 }

@@ -1,5 +1,5 @@
-//! Stored jobs: small job files with the texts that are due for them, which `replay_job` runs with no Rust at hand. They cover every fault of a
-//! job file, every two numbers together, and every move with every answer, or they are not written.
+//! Stored jobs: small job files with the texts that are due for them, which `replay_job` runs with no Rust at hand. They cover every fault
+//! of a job file, every two numbers together, and every move with every answer, or they are not written.
 
 use std::collections::BTreeMap;
 
@@ -35,8 +35,8 @@ struct Jobs {
     seen: BTreeMap<String, u64>,
 }
 
-/// Records of jobs: at most n that are played, then one of each fault, then one of every two numbers. A record is two u16, low byte first, the length of
-/// the file and that of the text that is due; then the file; then the text. What is not covered is an error.
+/// Records of jobs: at most n that are played, then one of each fault, then one of every two numbers. A record is two u16, low byte first,
+/// the length of the file and that of the text that is due; then the file; then the text. What is not covered is an error.
 pub fn jobs(n: u64, run: u64) -> Result<Stored, String> {
     let stored = Stored {
         bytes: Vec::new(),

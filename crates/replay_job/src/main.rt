@@ -1,5 +1,5 @@
-// Replays stored jobs: reads job files, each with the text that is due for it, from standard input, runs them, and tells how many it compared
-// and how many differ. `oracle/store` writes them (oracle/src/stored.rs has their layout).
+// Replays stored jobs: reads job files, each with the text that is due for it, from standard input, runs them, and tells how many it
+// compared and how many differ. `oracle/store` writes them (oracle/src/stored_jobs.rs has their layout).
 use job::JobAnswer;
 use stored::Tally;
 use stored::raw;
