@@ -2,13 +2,14 @@
 use mathlib.Core.Path.{_≡_, sym, ap, _∙_}
 use mathlib.Core.Bool.{Bool, true, false, _&&_}
 use mathlib.Core.List.{List}
-use Prim.Native.Nat.{ℕ, _+_, _<_, _≤_}
+use Prim.Native.Nat.{ℕ, _+_, _-_, _<_, _≤_, min}
 use native.Mathlib.Omega.{arith}
+use native.Mathlib.Nat.{sub-zero}
 use lib.Dec.{eqb}
-use lib.ListN.{length, getD, set}
+use lib.ListN.{length, getD, set, take}
 use Rattle.paper.specs.Count.{all, over}
 use Rattle.paper.proofs.Count.{all-fails, all-done, over-more}
-use Rattle.stored.specs.Columns.{same}
+use Rattle.stored.specs.Columns.{same, front}
 
 -- one entry more is filled
 pub filled-more : (f : ℕ → ℕ) (i v : ℕ) (now before : List ℕ) → now ≡ over f i before → v ≡ f i → set now i v ≡ over f (i + 1) before
@@ -35,3 +36,7 @@ agrees a b i long up down so =
 
 pub unlike : (a b : List ℕ) → eqb (length a) (length b) ≡ false → false ≡ same a b
 unlike a b long = sym (ap (λ (t : Bool). t && all (length a) (alike a b)) long)
+
+-- the part from 0 up to the smaller of a number and the length
+pub front-is : (l : List ℕ) (n k : ℕ) → k ≡ min n (length l) → take (k - 0) l ≡ front n l
+front-is l n k least = ap (λ (m : ℕ). take m l) (sub-zero k ∙ least)

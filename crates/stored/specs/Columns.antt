@@ -1,9 +1,9 @@
 -- Columns of numbers: read from bytes, and compared. Assumes nothing.
 use mathlib.Core.Bool.{Bool, _&&_, cond}
 use mathlib.Core.List.{List}
-use Prim.Native.Nat.{ℕ, _*_, _/_, _%_}
+use Prim.Native.Nat.{ℕ, _*_, _/_, _%_, min}
 use lib.Dec.{eqb}
-use lib.ListN.{getD, length}
+use lib.ListN.{getD, length, take}
 use Rattle.paper.specs.Count.{all, over}
 use Rattle.stored.specs.Numbers.{further, littleAt}
 
@@ -25,3 +25,7 @@ rowsFilled b at out = over (rowWord b at) (length out) out
 -- as many entries, and each the same
 abbrev pub same : List ℕ → List ℕ → Bool
 same a b = eqb (length a) (length b) && all (length a) (λ j. eqb (getD a j 0) (getD b j 0))
+
+-- the first n entries, or all where there are fewer
+abbrev pub front : ℕ → List ℕ → List ℕ
+front n l = take (min n (length l)) l

@@ -4,7 +4,7 @@ ghost use mathlib.Core.Bool.{cond};
 ghost use Prim.Native.Nat.{_+_, _%_, _^_, _<_, _≤_, min};
 ghost use lib.ListN.{getD};
 ghost use Rattle.stored.specs.Numbers.{further, littleAt, fourAfter};
-ghost use Rattle.stored.specs.Columns.{filled, bytesFilled, rowWord, rowsFilled, same};
+ghost use Rattle.stored.specs.Columns.{filled, bytesFilled, rowWord, rowsFilled, same, front};
 
 // How many answers were compared, and how many differ.
 pub struct Tally {
@@ -265,4 +265,28 @@ pub fn same_words(a: &[u64], b: &[u64]) -> bool
         return true;
     }
     false
+}
+
+// The first n entries of a column of u16, or all where it has fewer.
+pub fn front_shorts(s: &[u16], n: usize) -> &[u16]
+    ensures { λ r. ⌜ now r ≡ front n (now (s .entry)) ⌝ }
+{
+    let k = at_most(n, s.len());
+    &s[0..k]
+}
+
+// The first n entries of a column of u32, or all where it has fewer.
+pub fn front_quads(s: &[u32], n: usize) -> &[u32]
+    ensures { λ r. ⌜ now r ≡ front n (now (s .entry)) ⌝ }
+{
+    let k = at_most(n, s.len());
+    &s[0..k]
+}
+
+// The first n entries of a column of u64, or all where it has fewer.
+pub fn front_words(s: &[u64], n: usize) -> &[u64]
+    ensures { λ r. ⌜ now r ≡ front n (now (s .entry)) ⌝ }
+{
+    let k = at_most(n, s.len());
+    &s[0..k]
 }

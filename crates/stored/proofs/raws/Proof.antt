@@ -57,7 +57,7 @@ returns c =
     let at-loop = c .before .loop in
     let at-args = c .before .before .before .before .args in
     filled-done (entry (at-args .b .now) (at-args .at)) (at-loop .j) _ _ (at-loop .inv .1)
-        (omega (arith, c .loop-test .left, at-loop .inv .0, at-loop .inv .2))
+    (omega (arith, c .loop-test .left, at-loop .inv .0, at-loop .inv .2))
 
 pub raws-spec : {M : Type 1} → statement M
 raws-spec = tie.close (tie.spec Inv-loop μ-loop loop-holds plus-requires raw-requires slice-write-out add-j loop-less loop-again same-length returns)

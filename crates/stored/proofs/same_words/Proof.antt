@@ -59,4 +59,19 @@ returns-3 : tie.Need-returns-3 Inv-loop μ-loop
 returns-3 c = unlike (c .before .args .a .now) (c .before .args .b .now) (ne-eqb _ _ (c .if1 .left))
 
 pub same-words-spec : {M : Type 1} → statement M
-same-words-spec = tie.close (tie.spec Inv-loop μ-loop loop-holds mul-if2 shared-slice-read-if2 mul-if2-2 shared-slice-read-if2-2 add-j loop-less loop-again returns returns-2 returns-3)
+same-words-spec =
+    tie.close
+    (tie.spec
+    Inv-loop
+    μ-loop
+    loop-holds
+    mul-if2
+    shared-slice-read-if2
+    mul-if2-2
+    shared-slice-read-if2-2
+    add-j
+    loop-less
+    loop-again
+    returns
+    returns-2
+    returns-3)
