@@ -4,6 +4,7 @@ mod call;
 mod days;
 mod figures;
 mod jobs;
+mod lent_units;
 mod library;
 mod problems;
 mod rotas;
@@ -12,6 +13,9 @@ mod seed;
 mod sets;
 mod splitting;
 mod stored;
+mod stored_slots;
+mod stored_units;
+mod table;
 mod targets;
 mod units;
 
@@ -35,7 +39,7 @@ const fn kind(name: &'static str, questions: fn(u64) -> Vec<Question>) -> Kind {
 }
 
 /// Every kind that the library has by now.
-const KINDS: [Kind; 12] = [
+const KINDS: [Kind; 13] = [
     kind("slot-sets", sets::questions),
     kind("slot-sets-damaged", sets::damaged),
     kind("slots", splitting::questions),
@@ -44,6 +48,7 @@ const KINDS: [Kind; 12] = [
     kind("rotations-damaged", rotations::damaged),
     kind("days", days::questions),
     kind("units", units::questions),
+    kind("units-damaged", units::damaged),
     kind("targets", targets::questions),
     kind("targets-damaged", targets::damaged),
     kind("rotas", rotas::questions),
@@ -97,8 +102,9 @@ fn store(kind: &str, n: u64, seed: u64, folder: &Path) -> ExitCode {
     let Some(stored) = stored::of_kind(kind, n, seed) else {
         return usage();
     };
-    let line = format!("{} answers compared, 0 differ\n", stored.answers);
-    let written = fs::write(folder.join("stdin"), &stored.bytes).and_then(|()| fs::write(folder.join("stdout"), line));
+    let line = |(answers, of): &(u64, &str)| format!("{answers} answers{of} compared, 0 differ\n");
+    let lines: String = stored.lines.iter().map(line).collect();
+    let written = fs::write(folder.join("stdin"), &stored.bytes).and_then(|()| fs::write(folder.join("stdout"), lines));
     match written {
         Ok(()) => ExitCode::SUCCESS,
         Err(error) => {
