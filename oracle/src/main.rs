@@ -6,6 +6,7 @@ mod figures;
 mod job_faults;
 mod job_files;
 mod jobs;
+mod lent_units;
 mod library;
 mod problems;
 mod program;
@@ -19,6 +20,9 @@ mod sets;
 mod splitting;
 mod stored;
 mod stored_jobs;
+mod stored_slots;
+mod stored_units;
+mod table;
 mod targets;
 mod units;
 
@@ -42,7 +46,7 @@ const fn kind(name: &'static str, questions: fn(u64) -> Vec<Question>) -> Kind {
 }
 
 /// Every kind that the library has by now.
-const KINDS: [Kind; 14] = [
+const KINDS: [Kind; 15] = [
     kind("slot-sets", sets::questions),
     kind("slot-sets-damaged", sets::damaged),
     kind("slots", splitting::questions),
@@ -51,6 +55,7 @@ const KINDS: [Kind; 14] = [
     kind("rotations-damaged", rotations::damaged),
     kind("days", days::questions),
     kind("units", units::questions),
+    kind("units-damaged", units::damaged),
     kind("targets", targets::questions),
     kind("targets-damaged", targets::damaged),
     kind("rotas", rotas::questions),
@@ -135,8 +140,9 @@ fn store(kind: &str, n: u64, seed: u64, folder: &Path) -> ExitCode {
             return ExitCode::from(2);
         }
     };
-    let line = format!("{} answers compared, 0 differ\n", stored.answers);
-    let written = fs::write(folder.join("stdin"), &stored.bytes).and_then(|()| fs::write(folder.join("stdout"), line));
+    let line = |(answers, of): &(u64, &str)| format!("{answers} answers{of} compared, 0 differ\n");
+    let lines: String = stored.lines.iter().map(line).collect();
+    let written = fs::write(folder.join("stdin"), &stored.bytes).and_then(|()| fs::write(folder.join("stdout"), lines));
     match written {
         Ok(()) => ExitCode::SUCCESS,
         Err(error) => {

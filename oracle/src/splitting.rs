@@ -7,19 +7,19 @@ use crate::seed::Seed;
 use crate::sets::{NOTHING, PEOPLE_MOST, SET_WORDS, SLOTS_MOST};
 
 /// A problem as it is lent.
-struct Lent {
-    slots: usize,
-    starts: Vec<u32>,
-    ends: Vec<u32>,
-    people: usize,
-    count: usize,
-    persons: Vec<u16>,
-    opens: Vec<u32>,
-    shuts: Vec<u32>,
+pub struct Lent {
+    pub slots: usize,
+    pub starts: Vec<u32>,
+    pub ends: Vec<u32>,
+    pub people: usize,
+    pub count: usize,
+    pub persons: Vec<u16>,
+    pub opens: Vec<u32>,
+    pub shuts: Vec<u32>,
 }
 
 impl Lent {
-    fn new(case: &ProblemCase) -> Self {
+    pub fn new(case: &ProblemCase) -> Self {
         Self {
             slots: case.base.len(),
             starts: case.base.iter().map(|slot| slot.0).collect(),
@@ -112,7 +112,7 @@ impl Lent {
 
 /// The Rust's merged ranges are private: of one person alone, over one slot that covers all times, they are the slots that come out
 /// available.
-fn merged_of(case: &ProblemCase) -> Vec<Range> {
+pub fn merged_of(case: &ProblemCase) -> Vec<Range> {
     let mut merged = Vec::new();
     for person in 0..case.people.len() {
         let own = case.ranges.iter().filter(|range| range.person == person);
@@ -221,15 +221,15 @@ pub fn damaged(case_seed: u64) -> Vec<Question> {
 }
 
 impl Lent {
-    fn counts_ok(&self) -> bool {
+    pub fn counts_ok(&self) -> bool {
         (1..=PEOPLE_MOST).contains(&self.people) && self.count <= SLOTS_MOST
     }
 
-    fn range_room_ok(&self) -> bool {
+    pub fn range_room_ok(&self) -> bool {
         self.count <= self.persons.len().min(self.opens.len()).min(self.shuts.len())
     }
 
-    fn ranges_ok(&self) -> bool {
+    pub fn ranges_ok(&self) -> bool {
         (0..self.count).all(|k| {
             let sound = self.opens[k] <= self.shuts[k] && i64::from(self.shuts[k]) <= MINUTES_MOST;
             sound && usize::from(self.persons[k]) < self.people

@@ -5,6 +5,8 @@ use crate::problems::{slots_of, unit_starts_of};
 use crate::rotas::{Played, RotaCase};
 use crate::seed::Seed;
 use crate::sets::{index, next_run, next_unset_after, prev_unset_before, SetCase, SLOTS_MOST};
+use crate::stored_slots;
+use crate::stored_units;
 
 /// Nothing found, in a record.
 const NOTHING: usize = 65_535;
@@ -12,10 +14,19 @@ const NOTHING: usize = 65_535;
 /// Indexes of a set's record.
 const INDEXES: usize = 8;
 
-/// Records, and how many answers they hold.
+/// Records, and what is written of them.
 pub struct Stored {
     pub bytes: Vec<u8>,
-    pub answers: u64,
+    /// For each line that the program writes: how many answers, and of what.
+    pub lines: Vec<(u64, &'static str)>,
+}
+
+impl Stored {
+    /// Records with one line for all of their answers.
+    pub fn new(bytes: Vec<u8>, answers: u64) -> Self {
+        let lines = vec![(answers, "")];
+        Self { bytes, lines }
+    }
 }
 
 /// The records of a kind, by its name.
@@ -23,6 +34,8 @@ pub fn of_kind(kind: &str, n: u64, run: u64) -> Option<Stored> {
     match kind {
         "slot-sets" => Some(slot_sets(n, run)),
         "targets" => Some(targets(n, run)),
+        "slots" => Some(stored_slots::slots(n, run)),
+        "units" => Some(stored_units::units(n, run)),
         "rotas" => Some(rotas(n, run)),
         _ => None,
     }
@@ -46,7 +59,7 @@ fn slot_sets(n: u64, run: u64) -> Stored {
             made += 1;
         }
     }
-    Stored { bytes, answers: 62 * n }
+    Stored::new(bytes, 62 * n)
 }
 
 /// Records of targets, of at most eight people and six slots. A record is, low byte first: people, slots and fairness as u16; six starts and
@@ -83,7 +96,7 @@ fn targets(n: u64, run: u64) -> Stored {
             made += 1;
         }
     }
-    Stored { bytes, answers: made }
+    Stored::new(bytes, made)
 }
 
 /// Cases that tell each wrong rule, and how many seeds are looked through for them.
@@ -221,7 +234,7 @@ fn rotas(n: u64, run: u64) -> Stored {
             made += 1;
         }
     }
-    Stored { bytes, answers: 4 * n }
+    Stored::new(bytes, 4 * n)
 }
 
 fn rota(bytes: &mut Vec<u8>, case: &RotaCase, end: &Played) {
@@ -261,11 +274,25 @@ fn halves(bytes: &mut Vec<u8>, count: usize, numbers: impl Iterator<Item = u16>)
     }
 }
 
-fn half(bytes: &mut Vec<u8>, n: usize) {
+/// u16 numbers, filled up to a count.
+pub fn filled16(bytes: &mut Vec<u8>, count: usize, list: &[u16], fill: u16) {
+    for n in list.iter().copied().chain(std::iter::repeat(fill)).take(count) {
+        bytes.extend(n.to_le_bytes());
+    }
+}
+
+/// u32 numbers, filled up to a count.
+pub fn filled32(bytes: &mut Vec<u8>, count: usize, list: &[u32], fill: u32) {
+    for n in list.iter().copied().chain(std::iter::repeat(fill)).take(count) {
+        bytes.extend(n.to_le_bytes());
+    }
+}
+
+pub fn half(bytes: &mut Vec<u8>, n: usize) {
     bytes.extend((n as u16).to_le_bytes());
 }
 
-fn words(bytes: &mut Vec<u8>, words: &[u64]) {
+pub fn words(bytes: &mut Vec<u8>, words: &[u64]) {
     for word in words {
         bytes.extend(word.to_le_bytes());
     }
@@ -278,6 +305,6 @@ mod tests {
         assert_eq!(super::slot_sets(7, 1).bytes.len(), 7 * 818);
         assert_eq!(super::rotas(7, 1).bytes.len(), 7 * 290);
         let stored = super::targets(30, 1);
-        assert_eq!(stored.bytes.len() as u64, stored.answers * 198);
+        assert_eq!(stored.bytes.len() as u64, stored.lines[0].0 * 198);
     }
 }

@@ -31,19 +31,17 @@ const DRAWS_SMALL: usize = 12;
 
 /// Jobs, and what they cover: how often each thing that is wanted was seen.
 struct Jobs {
-    stored: Stored,
+    bytes: Vec<u8>,
+    answers: u64,
     seen: BTreeMap<String, u64>,
 }
 
 /// Records of jobs: at most n that are played, then one of each fault, then one of every two numbers. A record is two u16, low byte first,
 /// the length of the file and that of the text that is due; then the file; then the text. What is not covered is an error.
 pub fn jobs(n: u64, run: u64) -> Result<Stored, String> {
-    let stored = Stored {
+    let mut jobs = Jobs {
         bytes: Vec::new(),
         answers: 0,
-    };
-    let mut jobs = Jobs {
-        stored,
         seen: wanted().into_iter().map(|thing| (thing, 0)).collect(),
     };
     jobs.add_played(n, run);
@@ -56,7 +54,7 @@ pub fn jobs(n: u64, run: u64) -> Result<Stored, String> {
         .map(|(thing, _)| thing)
         .collect();
     if missing.is_empty() {
-        Ok(jobs.stored)
+        Ok(Stored::new(jobs.bytes, jobs.answers))
     } else {
         Err(format!("no stored job covers {}", missing.join("; ")))
     }
@@ -100,13 +98,13 @@ fn small_job(seed: &mut Seed) -> Option<JobCase> {
 impl Jobs {
     fn add(&mut self, file: &[u8], things: &[String]) {
         let text = text_of(file);
-        let bytes = &mut self.stored.bytes;
+        let bytes = &mut self.bytes;
         for length in [file.len(), text.len()] {
             bytes.extend(u16::try_from(length).expect("a length of 16 bits").to_le_bytes());
         }
         bytes.extend(file);
         bytes.extend(text.as_bytes());
-        self.stored.answers += 1;
+        self.answers += 1;
         for thing in things {
             *self.seen.entry(thing.clone()).or_default() += 1;
         }
@@ -120,7 +118,7 @@ impl Jobs {
             };
             let things = shown(&job);
             let telling = things.iter().any(|thing| self.seen[thing] < TIMES);
-            if self.stored.answers < n / 2 || (telling && self.stored.answers < n) {
+            if self.answers < n / 2 || (telling && self.answers < n) {
                 self.add(&job.file(), &things);
             }
         }

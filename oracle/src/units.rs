@@ -4,10 +4,11 @@ use on_call::model::problem::Problem;
 
 use crate::call::{bytes16, bytes32, bytes64, Arg, Outcome, Question};
 use crate::days::instant;
+use crate::lent_units::{lent, DueUnits, LentUnits};
 use crate::problems::{availability_into, problem_case, put_bit, slots_of, unit_starts_of};
 use crate::rotations::settings_args;
 use crate::seed::Seed;
-use crate::sets::{SET_WORDS, SLOTS_MOST};
+use crate::sets::{NOTHING, SET_WORDS, SLOTS_MOST};
 
 /// A call that is answered by a number alone.
 fn number(function: &'static str, args: Vec<Arg>, result: u64) -> Question {
@@ -176,4 +177,131 @@ fn freezing(seed: &mut Seed, mut problem: Problem, lent_slots: &[Arg]) -> Vec<Qu
         ));
     }
     asked
+}
+
+/// Damaged copies, some of them twice: each function is asked all the same, and hears the paper's number or, where the damage is none of
+/// its concern, gives the Rust's answer.
+pub fn damaged(case_seed: u64) -> Vec<Question> {
+    let mut seed = Seed::new(case_seed);
+    let case = problem_case(&mut seed);
+    let problem = case.rust();
+    if problem.slot_count() > SLOTS_MOST {
+        return vec![];
+    }
+    let (mut asked, due) = lent(&mut seed, &case, problem);
+    for _ in 0..seed.within(1, 2) {
+        asked.damage(&mut seed);
+    }
+    let mut questions = asked.starts_asked(&mut seed, &due);
+    questions.extend(asked.units_asked(&mut seed, &due));
+    questions.extend(asked.minutes_asked(&mut seed, &due));
+    questions
+}
+
+impl LentUnits {
+    fn slot_args(&self) -> Vec<Arg> {
+        vec![
+            Arg::Number(self.slots.count as u64),
+            Arg::Lent(4, bytes32(&self.slots.starts)),
+            Arg::Lent(4, bytes32(&self.slots.ends)),
+        ]
+    }
+
+    fn unit_args(&self) -> Vec<Arg> {
+        vec![
+            Arg::Number(self.slots.count as u64),
+            Arg::Number(self.units.count as u64),
+            Arg::Lent(2, bytes16(&self.units.firsts)),
+            Arg::Number(self.unit as u64),
+        ]
+    }
+
+    /// Rotation and unit starts.
+    fn starts_asked(&self, seed: &mut Seed, due: &DueUnits) -> Vec<Question> {
+        let number = self.starts_no();
+        let asked = [("boltraven_rotation_starts", &due.rotations), ("boltraven_unit_starts", &due.units)];
+        let question = |(function, starts): (&'static str, &Vec<u16>)| {
+            let before: Vec<u16> = (0..self.starts_room).map(|_| seed.word() as u16).collect();
+            let mut args = settings_args(self.settings);
+            args.extend(self.slot_args());
+            list(function, args, 2, bytes16(&before), number, starts.len(), &bytes16(starts))
+        };
+        asked.map(question).into()
+    }
+
+    /// A unit's domain, whether it is frozen, and covered days.
+    fn units_asked(&self, seed: &mut Seed, due: &DueUnits) -> Vec<Question> {
+        let before: Vec<u8> = (0..self.list_room).map(|_| seed.word() as u8).collect();
+        let mut domain_args = vec![Arg::Lent(8, bytes64(&self.rows)), Arg::Number(self.people as u64)];
+        domain_args.extend(self.unit_args());
+        let domain = &due.unit_domain;
+        let mut frozen_args = vec![Arg::Lent(8, bytes64(&self.flags))];
+        frozen_args.extend(self.unit_args());
+        vec![
+            list(
+                "boltraven_unit_domain",
+                domain_args,
+                1,
+                before,
+                self.unit_domain_no(),
+                domain.len(),
+                domain,
+            ),
+            number("boltraven_unit_frozen", frozen_args, heard(self.frozen_no(), u64::from(due.frozen))),
+            number("boltraven_covered_days", self.slot_args(), heard(self.days_no(), due.days as u64)),
+        ]
+    }
+
+    /// Minutes a day, target and achievable run.
+    fn minutes_asked(&self, seed: &mut Seed, due: &DueUnits) -> Vec<Question> {
+        let mut target_args = settings_args(self.settings);
+        target_args.extend(self.slot_args());
+        let mut run_args = settings_args(self.settings);
+        run_args.extend([
+            Arg::Lent(8, bytes64(&self.rows)),
+            Arg::Number(self.people as u64),
+            Arg::Number(self.person as u64),
+        ]);
+        run_args.extend(self.slot_args());
+        let asked = [
+            ("boltraven_minutes_per_day", self.slot_args(), self.days_no(), due.per_day),
+            ("boltraven_target_run", target_args, self.target_no(), due.target),
+            ("boltraven_achievable_run", run_args, self.achievable_no(), due.achievable),
+        ];
+        let question = |(function, args, number, right)| {
+            let was = seed.word();
+            // a refusal writes nothing
+            let mut question = minutes(function, args, was, if number == 0 { right } else { was as i64 });
+            question.due.result = number;
+            question
+        };
+        asked.map(question).into()
+    }
+}
+
+/// A number that was asked for, or a refusal.
+fn heard(number: u64, right: u64) -> u64 {
+    if number == 0 {
+        right
+    } else {
+        NOTHING + number
+    }
+}
+
+/// A call that writes a list at the front of a lent buffer, or refuses and writes nothing.
+fn list(function: &'static str, mut args: Vec<Arg>, size: usize, before: Vec<u8>, number: u64, count: usize, right: &[u8]) -> Question {
+    let mut after = before.clone();
+    if number == 0 {
+        after[..right.len()].copy_from_slice(right);
+    }
+    args.push(Arg::LentMut(size, before));
+    Question {
+        function,
+        result_size: 8,
+        args,
+        due: Outcome {
+            result: heard(number, count as u64),
+            written: vec![after],
+        },
+    }
 }

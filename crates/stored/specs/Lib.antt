@@ -1,2 +1,3 @@
 -- What the contracts of stored cite.
 pub mod Numbers
+pub mod Columns

@@ -1,9 +1,10 @@
 // Reading stored answers: the numbers of a record, low byte first, and the tally of what was compared. The programs `replay_*` use it.
 ghost use mathlib.Core.Path.{_≡_};
 ghost use mathlib.Core.Bool.{cond};
-ghost use Prim.Native.Nat.{_+_, _%_, _^_, _<_};
+ghost use Prim.Native.Nat.{_+_, _%_, _^_, _<_, _≤_, min};
 ghost use lib.ListN.{getD};
 ghost use Rattle.stored.specs.Numbers.{further, littleAt, fourAfter};
+ghost use Rattle.stored.specs.Columns.{filled, bytesFilled, rowWord, rowsFilled, same, front};
 
 // How many answers were compared, and how many differ.
 pub struct Tally {
@@ -124,4 +125,168 @@ pub fn word(b: &[u8], at: usize) -> u64
     ensures { λ r. ⌜ r ≡ littleAt 8 (now (b .entry)) at ⌝ }
 {
     four_after(b, at, 0) + 4294967296 * four_after(b, at, 4)
+}
+
+// The count of eight bytes at an index.
+pub fn size(b: &[u8], at: usize) -> usize
+    ensures { λ r. ⌜ r ≡ littleAt 8 (now (b .entry)) at ⌝ }
+{
+    word(b, at) as usize
+}
+
+// A number, or the most that it may be.
+pub fn at_most(n: usize, most: usize) -> usize
+    ensures { λ r. ⌜ (r ≡ min n most) × (r ≤ most) ⌝ }
+{
+    if n < most { n } else { most }
+}
+
+// Word j of rows of 16 words: the first of each row is stored, the others are garbage.
+fn row_word(b: &[u8], at: usize, j: usize) -> u64
+    ensures { λ r. ⌜ r ≡ rowWord (now (b .entry)) at j ⌝ }
+{
+    if j % 16 == 0 {
+        return word(b, plus(at, 8 * (j / 16)));
+    }
+    11936128518282651045
+}
+
+// Fills rows of 16 words, as slot sets are lent: the first word of each from an index on, garbage in the others.
+pub fn rows(b: &[u8], at: usize, out: &mut [u64])
+    ensures { λ _. ⌜ now (out .exit) ≡ rowsFilled (now (b .entry)) at (now (out .entry)) ⌝ }
+{
+    let mut j: usize = 0;
+    while j < out.len() {
+        out[j] = row_word(b, at, j);
+        j += 1;
+    }
+}
+
+// Fills a column with the bytes from an index on.
+pub fn raws(b: &[u8], at: usize, out: &mut [u8])
+    ensures { λ _. ⌜ now (out .exit) ≡ bytesFilled (now (b .entry)) at (now (out .entry)) ⌝ }
+{
+    let mut j: usize = 0;
+    while j < out.len() {
+        out[j] = raw(b, plus(at, j));
+        j += 1;
+    }
+}
+
+// Fills a column with the u16 from an index on.
+pub fn shorts(b: &[u8], at: usize, out: &mut [u16])
+    ensures { λ _. ⌜ now (out .exit) ≡ filled 2 (now (b .entry)) at (now (out .entry)) ⌝ }
+{
+    let mut j: usize = 0;
+    while j < out.len() {
+        out[j] = short(b, plus(at, 2 * j));
+        j += 1;
+    }
+}
+
+// Fills a column with the u32 from an index on.
+pub fn quads(b: &[u8], at: usize, out: &mut [u32])
+    ensures { λ _. ⌜ now (out .exit) ≡ filled 4 (now (b .entry)) at (now (out .entry)) ⌝ }
+{
+    let mut j: usize = 0;
+    while j < out.len() {
+        out[j] = quad(b, plus(at, 4 * j));
+        j += 1;
+    }
+}
+
+// Whether two columns of u8 are the same.
+pub fn same_raws(a: &[u8], b: &[u8]) -> bool
+    ensures { λ r. ⌜ r ≡ same (now (a .entry)) (now (b .entry)) ⌝ }
+{
+    if a.len() == b.len() {
+        let mut j: usize = 0;
+        while j < a.len() {
+            if a[j] == b[j] {
+                j += 1;
+            } else {
+                return false;
+            }
+        }
+        return true;
+    }
+    false
+}
+
+// Whether two columns of u16 are the same.
+pub fn same_shorts(a: &[u16], b: &[u16]) -> bool
+    ensures { λ r. ⌜ r ≡ same (now (a .entry)) (now (b .entry)) ⌝ }
+{
+    if a.len() == b.len() {
+        let mut j: usize = 0;
+        while j < a.len() {
+            if a[j] == b[j] {
+                j += 1;
+            } else {
+                return false;
+            }
+        }
+        return true;
+    }
+    false
+}
+
+// Whether two columns of u32 are the same.
+pub fn same_quads(a: &[u32], b: &[u32]) -> bool
+    ensures { λ r. ⌜ r ≡ same (now (a .entry)) (now (b .entry)) ⌝ }
+{
+    if a.len() == b.len() {
+        let mut j: usize = 0;
+        while j < a.len() {
+            if a[j] == b[j] {
+                j += 1;
+            } else {
+                return false;
+            }
+        }
+        return true;
+    }
+    false
+}
+
+// Whether two columns of u64 are the same.
+pub fn same_words(a: &[u64], b: &[u64]) -> bool
+    ensures { λ r. ⌜ r ≡ same (now (a .entry)) (now (b .entry)) ⌝ }
+{
+    if a.len() == b.len() {
+        let mut j: usize = 0;
+        while j < a.len() {
+            if a[j] == b[j] {
+                j += 1;
+            } else {
+                return false;
+            }
+        }
+        return true;
+    }
+    false
+}
+
+// The first n entries of a column of u16, or all where it has fewer.
+pub fn front_shorts(s: &[u16], n: usize) -> &[u16]
+    ensures { λ r. ⌜ now r ≡ front n (now (s .entry)) ⌝ }
+{
+    let k = at_most(n, s.len());
+    &s[0..k]
+}
+
+// The first n entries of a column of u32, or all where it has fewer.
+pub fn front_quads(s: &[u32], n: usize) -> &[u32]
+    ensures { λ r. ⌜ now r ≡ front n (now (s .entry)) ⌝ }
+{
+    let k = at_most(n, s.len());
+    &s[0..k]
+}
+
+// The first n entries of a column of u64, or all where it has fewer.
+pub fn front_words(s: &[u64], n: usize) -> &[u64]
+    ensures { λ r. ⌜ now r ≡ front n (now (s .entry)) ⌝ }
+{
+    let k = at_most(n, s.len());
+    &s[0..k]
 }

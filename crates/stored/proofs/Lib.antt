@@ -1,0 +1,2 @@
+-- The laws of stored.
+pub mod Columns

@@ -1,0 +1,191 @@
+//! What the functions on units are lent, whole or damaged, and what is due of each: the Rust's answer, or the paper's number.
+
+use on_call::model::problem::Problem;
+
+use crate::problems::{availability_into, put_bit, slots_of, unit_starts_of, ProblemCase, Settings};
+use crate::seed::Seed;
+use crate::sets::SET_WORDS;
+use crate::table::{damage_settings, lowest, people_ok, settings_ok, words_ok, Slots, Units};
+
+/// What is lent and asked. Rows and flags hold any bits past the last slot.
+pub struct LentUnits {
+    pub settings: Settings,
+    pub people: usize,
+    pub slots: Slots,
+    pub units: Units,
+    pub rows: Vec<u64>,
+    pub flags: Vec<u64>,
+    pub person: usize,
+    pub slot: usize,
+    pub unit: usize,
+    /// Room for starts, and for a list of people.
+    pub starts_room: usize,
+    pub list_room: usize,
+}
+
+/// The Rust's answers to what is asked.
+pub struct DueUnits {
+    pub rotations: Vec<u16>,
+    pub units: Vec<u16>,
+    pub span: std::ops::Range<usize>,
+    pub unit_of_slot: usize,
+    pub frozen: bool,
+    pub slot_domain: Vec<u8>,
+    pub unit_domain: Vec<u8>,
+    pub days: usize,
+    pub per_day: i64,
+    pub target: i64,
+    pub achievable: i64,
+}
+
+/// A problem with some slots frozen, as it is lent, and the Rust's answers.
+pub fn lent(seed: &mut Seed, case: &ProblemCase, mut problem: Problem) -> (LentUnits, DueUnits) {
+    let (starts, ends) = slots_of(&problem);
+    let (people, count) = (problem.human_count(), starts.len());
+    let mut rows: Vec<u64> = (0..SET_WORDS * people).map(|_| seed.word()).collect();
+    availability_into(&problem, &mut rows);
+    let mut flags: Vec<u64> = (0..SET_WORDS).map(|_| seed.word()).collect();
+    let often = seed.pick(&[2, 5, 1000]);
+    for slot in 0..count {
+        problem.frozen[slot] = seed.one_in(often);
+        put_bit(&mut flags, 0, slot, problem.frozen[slot]);
+    }
+    let firsts = unit_starts_of(&problem);
+    let lent = LentUnits {
+        settings: case.settings,
+        people,
+        units: Units {
+            count: firsts.len(),
+            firsts,
+        },
+        rows,
+        flags,
+        person: seed.below(people as u64) as usize,
+        slot: seed.below(count as u64) as usize,
+        unit: seed.below(problem.unit_count() as u64) as usize,
+        starts_room: count + seed.below(2) as usize,
+        list_room: people + seed.below(2) as usize,
+        slots: Slots { count, starts, ends },
+    };
+    let due = due(case, &problem, &lent);
+    (lent, due)
+}
+
+fn due(case: &ProblemCase, problem: &Problem, lent: &LentUnits) -> DueUnits {
+    let list = |domain: &[usize]| domain.iter().map(|&person| person as u8).collect::<Vec<u8>>();
+    // with a shift of one day the target run is the minutes a day; the days themselves are private in the Rust
+    let mut one_day = case.clone();
+    one_day.settings.days = 1;
+    let mut dates: Vec<u32> = lent.slots.starts.iter().map(|start| start / 1440).collect();
+    dates.dedup();
+    DueUnits {
+        rotations: problem.rotation_starts.iter().map(|&start| start as u16).collect(),
+        units: unit_starts_of(problem),
+        span: problem.units[lent.unit].clone(),
+        unit_of_slot: problem.unit_of_slot[lent.slot],
+        frozen: problem.is_unit_frozen(lent.unit),
+        slot_domain: list(&problem.domains[lent.slot]),
+        unit_domain: list(&problem.unit_domains[lent.unit]),
+        days: dates.len(),
+        per_day: one_day.rust().target_run_minutes,
+        target: problem.target_run_minutes,
+        achievable: problem.achievable_run_minutes[lent.person],
+    }
+}
+
+impl LentUnits {
+    /// Breaks one rule.
+    pub fn damage(&mut self, seed: &mut Seed) {
+        match seed.below(12) {
+            0 => self.people = seed.pick(&[0, 33, usize::MAX]),
+            1 => self.rows.truncate(seed.pick(&[0, self.rows.len().max(1) - 1])),
+            2 => self.flags.truncate(seed.pick(&[0, SET_WORDS - 1])),
+            3 => self.person = seed.pick(&[self.people, usize::MAX]),
+            4 => self.slot = seed.pick(&[self.slots.count, usize::MAX]),
+            5 => self.unit = seed.pick(&[self.units.count, usize::MAX]),
+            6 => self.starts_room = seed.pick(&[0, self.slots.starts.len().max(1) - 1]),
+            7 => self.list_room = seed.pick(&[0, self.people.clamp(1, 32) - 1]),
+            8 => damage_settings(seed, &mut self.settings),
+            9 => self.units.damage(seed, self.slots.starts.len()),
+            _ => self.slots.damage(seed),
+        }
+    }
+
+    /// Rotation and unit starts: 1, 2, 7, 9.
+    pub fn starts_no(&self) -> u64 {
+        let slots = &self.slots;
+        lowest(&[
+            (1, slots.count_ok()),
+            (2, slots.room_ok() && slots.count <= self.starts_room),
+            (7, settings_ok(self.settings)),
+            (9, slots.ok()),
+        ])
+    }
+
+    /// The number of units: 1, 2, 9; and with a unit or slot asked for, 11.
+    pub fn units_no(&self, known: bool) -> u64 {
+        lowest(&[
+            (1, self.slots.count_ok()),
+            (2, self.units.room_ok()),
+            (9, self.units.ok(self.slots.count)),
+            (11, known),
+        ])
+    }
+
+    /// Whether a unit is frozen: 1, 2, 9, 11.
+    pub fn frozen_no(&self) -> u64 {
+        lowest(&[
+            (1, self.slots.count_ok()),
+            (2, self.units.room_ok() && SET_WORDS <= self.flags.len()),
+            (9, self.units.ok(self.slots.count)),
+            (11, self.unit < self.units.count),
+        ])
+    }
+
+    /// The domain of a slot: 1, 2, 11.
+    pub fn slot_domain_no(&self) -> u64 {
+        lowest(&[
+            (1, people_ok(self.people) && self.slots.count_ok()),
+            (2, words_ok(self.people, self.rows.len()) && self.people <= self.list_room),
+            (11, self.slot < self.slots.count),
+        ])
+    }
+
+    /// The domain of a unit: 1, 2, 9, 11.
+    pub fn unit_domain_no(&self) -> u64 {
+        let room = words_ok(self.people, self.rows.len()) && self.people <= self.list_room;
+        lowest(&[
+            (1, people_ok(self.people) && self.slots.count_ok()),
+            (2, room && self.units.room_ok()),
+            (9, self.units.ok(self.slots.count)),
+            (11, self.unit < self.units.count),
+        ])
+    }
+
+    /// Covered days and minutes a day: 1, 2, 9.
+    pub fn days_no(&self) -> u64 {
+        let slots = &self.slots;
+        lowest(&[(1, slots.count_ok()), (2, slots.room_ok()), (9, slots.ok())])
+    }
+
+    /// The target run: 1, 2, 7, 9.
+    pub fn target_no(&self) -> u64 {
+        lowest(&[
+            (1, self.slots.count_ok()),
+            (2, self.slots.room_ok()),
+            (7, settings_ok(self.settings)),
+            (9, self.slots.ok()),
+        ])
+    }
+
+    /// The achievable run: 1, 2, 7, 9, 11.
+    pub fn achievable_no(&self) -> u64 {
+        lowest(&[
+            (1, people_ok(self.people) && self.slots.count_ok()),
+            (2, self.slots.room_ok() && words_ok(self.people, self.rows.len())),
+            (7, settings_ok(self.settings)),
+            (9, self.slots.ok()),
+            (11, self.person < self.people),
+        ])
+    }
+}

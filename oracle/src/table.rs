@@ -1,0 +1,125 @@
+//! The paper's table of refusals over what is lent, written from the paper and not from the library.
+
+use crate::days::MINUTES_MOST;
+use crate::problems::Settings;
+use crate::seed::Seed;
+use crate::sets::{PEOPLE_MOST, SET_WORDS, SLOTS_MOST};
+
+/// The lowest number of the rules that are broken, or 0 where all are kept.
+pub fn lowest(rules: &[(u64, bool)]) -> u64 {
+    let broken = rules.iter().filter(|rule| !rule.1);
+    broken.map(|rule| rule.0).min().unwrap_or(0)
+}
+
+/// 1: a count of people.
+pub fn people_ok(people: usize) -> bool {
+    (1..=PEOPLE_MOST).contains(&people)
+}
+
+/// 2: words for the sets of so many people. A count that is refused itself asks for none.
+pub fn words_ok(people: usize, words: usize) -> bool {
+    !people_ok(people) || SET_WORDS * people <= words
+}
+
+/// 7: the settings.
+pub fn settings_ok(s: Settings) -> bool {
+    let value_most = match s.boundary {
+        0 => 1024,
+        1 => 127,
+        _ => return false,
+    };
+    s.fairness <= 1 && s.lock <= 1 && s.value <= value_most && s.days <= 366
+}
+
+/// Slots as they are lent.
+#[derive(Debug, Clone)]
+pub struct Slots {
+    pub count: usize,
+    pub starts: Vec<u32>,
+    pub ends: Vec<u32>,
+}
+
+impl Slots {
+    /// 1: their count.
+    pub fn count_ok(&self) -> bool {
+        (1..=SLOTS_MOST).contains(&self.count)
+    }
+
+    /// 2: as many starts and ends as the count says.
+    pub fn room_ok(&self) -> bool {
+        self.count <= self.starts.len() && self.count <= self.ends.len()
+    }
+
+    /// 3 or 9: none empty or reversed, none after the last minute, none before the previous one ends. Asked only where there is room.
+    pub fn ok(&self) -> bool {
+        if !self.count_ok() || !self.room_ok() {
+            return true;
+        }
+        let slots: Vec<(u32, u32)> = (0..self.count).map(|k| (self.starts[k], self.ends[k])).collect();
+        let each = slots.iter().all(|slot| slot.0 < slot.1 && i64::from(slot.1) <= MINUTES_MOST);
+        each && slots.windows(2).all(|two| two[0].1 <= two[1].0)
+    }
+
+    /// Breaks one of their rules.
+    pub fn damage(&mut self, seed: &mut Seed) {
+        let k = seed.below(self.ends.len().min(self.starts.len()).max(1) as u64) as usize;
+        match seed.below(6) {
+            0 => self.count = seed.pick(&[0, 1025, usize::MAX]),
+            1 => drop(self.starts.pop()),
+            2 => drop(self.ends.pop()),
+            _ if k >= self.starts.len() || k >= self.ends.len() => {}
+            3 => self.ends[k] = self.starts[k],
+            4 if k > 0 => self.starts[k] = self.ends[k - 1].saturating_sub(1),
+            _ => self.ends[k] = MINUTES_MOST as u32 + 1 + seed.below(1000) as u32,
+        }
+    }
+}
+
+/// Where units begin, as it is lent.
+#[derive(Debug, Clone)]
+pub struct Units {
+    pub count: usize,
+    pub firsts: Vec<u16>,
+}
+
+impl Units {
+    /// 2: as many starts as the count says.
+    pub fn room_ok(&self) -> bool {
+        self.count <= self.firsts.len()
+    }
+
+    /// 9: they begin at 0, rise, and stay below the slot count. Asked only where there is room.
+    pub fn ok(&self, slots: usize) -> bool {
+        if !self.room_ok() {
+            return true;
+        }
+        let firsts = &self.firsts[..self.count];
+        let rise = firsts.windows(2).all(|two| two[0] < two[1]);
+        firsts.first() == Some(&0) && rise && firsts.iter().all(|&first| usize::from(first) < slots)
+    }
+
+    /// Breaks one of their rules.
+    pub fn damage(&mut self, seed: &mut Seed, slots: usize) {
+        let k = seed.below(self.firsts.len().max(1) as u64) as usize;
+        match seed.below(5) {
+            0 => self.count = 0,
+            1 => self.count = self.firsts.len() + 1,
+            2 => drop(self.firsts.pop()),
+            _ if k >= self.firsts.len() => {}
+            3 if k > 0 => self.firsts[k] = self.firsts[k - 1],
+            4 => self.firsts[k] = slots as u16 + seed.below(3) as u16,
+            _ => self.firsts[0] = 1,
+        }
+    }
+}
+
+/// Settings with one that breaks rule 7.
+pub fn damage_settings(seed: &mut Seed, s: &mut Settings) {
+    match seed.below(5) {
+        0 => s.fairness = seed.within(2, 255) as u8,
+        1 => s.lock = seed.within(2, 255) as u8,
+        2 => s.boundary = seed.within(2, 255) as u8,
+        3 => s.value = if s.boundary == 0 { 1025 } else { 128 } + seed.below(64_000) as u16,
+        _ => s.days = seed.within(367, 65_535) as u16,
+    }
+}
