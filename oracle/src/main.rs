@@ -13,6 +13,7 @@ mod seed;
 mod sets;
 mod splitting;
 mod stored;
+mod stored_rotas;
 mod stored_slots;
 mod stored_units;
 mod table;
