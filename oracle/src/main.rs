@@ -20,6 +20,7 @@ mod sets;
 mod splitting;
 mod stored;
 mod stored_jobs;
+mod stored_rotas;
 mod stored_slots;
 mod stored_units;
 mod table;

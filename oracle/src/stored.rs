@@ -1,10 +1,9 @@
 //! Stored answers: records of the Rust's answers, which the `replay_*` programs of the library compare with no Rust at hand.
 
 use crate::figures::{targets_by, FigureCase, WRONG};
-use crate::problems::{slots_of, unit_starts_of};
-use crate::rotas::{Played, RotaCase};
 use crate::seed::Seed;
 use crate::sets::{index, next_run, next_unset_after, prev_unset_before, SetCase, SLOTS_MOST};
+use crate::stored_rotas;
 use crate::stored_slots;
 use crate::stored_units;
 
@@ -36,7 +35,7 @@ pub fn of_kind(kind: &str, n: u64, run: u64) -> Option<Stored> {
         "targets" => Some(targets(n, run)),
         "slots" => Some(stored_slots::slots(n, run)),
         "units" => Some(stored_units::units(n, run)),
-        "rotas" => Some(rotas(n, run)),
+        "rotas" => Some(stored_rotas::rotas(n, run)),
         _ => None,
     }
 }
@@ -209,71 +208,6 @@ fn after(case: &SetCase, from: usize, to: usize, value: bool) -> [u64; SLOTS_MOS
     case.words_of(&set)
 }
 
-/// People, slots and draws of a record of a rota, at most.
-const ROTA_PEOPLE: usize = 4;
-const ROTA_SLOTS: usize = 16;
-const ROTA_DRAWS: usize = 8;
-
-/// Records of plays. A record is, low byte first: people, slots, units and draws as u16; sixteen starts and sixteen ends as u32; sixteen u16 of
-/// the slots at which units begin; four u16 of slots that a person can cover; a u16 of frozen slots; sixteen owners; the three columns of
-/// eight u16 of draws; then what the Rust makes of it: eight answers, sixteen owners, four u16 of the slots that a person holds, four u32
-/// of minutes.
-fn rotas(n: u64, run: u64) -> Stored {
-    let mut bytes = Vec::new();
-    let mut k = 0;
-    let mut made = 0;
-    while made < n {
-        let mut case = RotaCase::new(&mut Seed::new(Seed::of_case(run, "stored-rotas", k)));
-        k += 1;
-        case.draws.truncate(ROTA_DRAWS);
-        let small = case.problem.slot_count() <= ROTA_SLOTS && case.problem.human_count() <= ROTA_PEOPLE;
-        // a play that only stays put tells little
-        let end = case.play();
-        if small && (end.answers.contains(&0) || made % 4 == 0) {
-            rota(&mut bytes, &case, &end);
-            made += 1;
-        }
-    }
-    Stored::new(bytes, 4 * n)
-}
-
-fn rota(bytes: &mut Vec<u8>, case: &RotaCase, end: &Played) {
-    let problem = &case.problem;
-    let firsts = unit_starts_of(problem);
-    for count in [problem.human_count(), problem.slot_count(), firsts.len(), case.draws.len()] {
-        half(bytes, count);
-    }
-    let (starts, ends) = slots_of(problem);
-    quads(bytes, ROTA_SLOTS, starts.into_iter());
-    quads(bytes, ROTA_SLOTS, ends.into_iter());
-    halves(bytes, ROTA_SLOTS, firsts.into_iter());
-    let set = |holds: &dyn Fn(usize) -> bool| -> u16 { (0..problem.slot_count()).map(|slot| u16::from(holds(slot)) << slot).sum() };
-    let able = (0..problem.human_count()).map(|person| set(&|slot| problem.is_available(person, slot)));
-    halves(bytes, ROTA_PEOPLE, able);
-    halves(bytes, 1, std::iter::once(set(&|slot| problem.is_frozen(slot))));
-    fill(bytes, ROTA_SLOTS, &case.owners);
-    halves(bytes, ROTA_DRAWS, case.draws.iter().map(|draw| draw.0));
-    halves(bytes, ROTA_DRAWS, case.draws.iter().map(|draw| draw.1));
-    halves(bytes, ROTA_DRAWS, case.draws.iter().map(|draw| draw.2));
-    fill(bytes, ROTA_DRAWS, &end.answers);
-    fill(bytes, ROTA_SLOTS, &end.owners);
-    let held = (0..problem.human_count()).map(|person| set(&|slot| usize::from(end.owners[slot]) == person));
-    halves(bytes, ROTA_PEOPLE, held);
-    quads(bytes, ROTA_PEOPLE, end.minutes.iter().map(|&minutes| minutes as u32));
-}
-
-/// Bytes, with zeros up to a count.
-fn fill(bytes: &mut Vec<u8>, count: usize, list: &[u8]) {
-    bytes.extend(list.iter().copied().chain(std::iter::repeat(0)).take(count));
-}
-
-/// u16 numbers, with zeros up to a count.
-fn halves(bytes: &mut Vec<u8>, count: usize, numbers: impl Iterator<Item = u16>) {
-    for n in numbers.chain(std::iter::repeat(0)).take(count) {
-        bytes.extend(n.to_le_bytes());
-    }
-}
-
 /// u16 numbers, filled up to a count.
 pub fn filled16(bytes: &mut Vec<u8>, count: usize, list: &[u16], fill: u16) {
     for n in list.iter().copied().chain(std::iter::repeat(fill)).take(count) {
@@ -303,7 +237,6 @@ mod tests {
     #[test]
     fn records_have_one_size() {
         assert_eq!(super::slot_sets(7, 1).bytes.len(), 7 * 818);
-        assert_eq!(super::rotas(7, 1).bytes.len(), 7 * 290);
         let stored = super::targets(30, 1);
         assert_eq!(stored.bytes.len() as u64, stored.lines[0].0 * 198);
     }

@@ -4,13 +4,16 @@ use Rattle.replay_rota.proofs.replay.Statement.{statement}
 use Rattle.replay_rota.proofs.replay.Tie as tie
 
 abbrev Inv-loop : tie.InvT-loop
-Inv-loop t₀ turns₀ t turns = Unit
+Inv-loop section t₀ left₀ t left = Unit
 
 abbrev μ-loop : tie.MeasureT-loop
-μ-loop t₀ turns₀ t turns = turns
+μ-loop section t₀ left₀ t left = left
 
 none-requires : tie.Need-none-requires Inv-loop μ-loop
 none-requires c κs = search needs
+
+records-requires : tie.Need-records-requires Inv-loop μ-loop
+records-requires c κs = search needs
 
 loop-holds : tie.Need-loop-holds Inv-loop μ-loop
 loop-holds c = search needs
@@ -18,8 +21,8 @@ loop-holds c = search needs
 one-record-requires : tie.Need-one-record-requires Inv-loop μ-loop
 one-record-requires c κs = search needs
 
-sub-turns : tie.Need-sub-turns Inv-loop μ-loop
-sub-turns c = search needs
+sub-left : tie.Need-sub-left Inv-loop μ-loop
+sub-left c = search needs
 
 loop-less : tie.Need-loop-less Inv-loop μ-loop
 loop-less c = search needs
@@ -30,9 +33,6 @@ loop-again c = search needs
 returns : tie.Need-returns Inv-loop μ-loop
 returns c = search needs
 
-returns-2 : tie.Need-returns-2 Inv-loop μ-loop
-returns-2 c = search needs
-
 pub replay-spec : {M : Type 1} → statement M
 replay-spec =
     tie.close
@@ -40,10 +40,10 @@ replay-spec =
     Inv-loop
     μ-loop
     none-requires
+    records-requires
     loop-holds
     one-record-requires
-    sub-turns
+    sub-left
     loop-less
     loop-again
-    returns
-    returns-2)
+    returns)

@@ -1,0 +1,341 @@
+//! Records of rotas, in sections: plays, four facts that are easy to get wrong, single assigns, and damaged plays.
+
+use crate::problems::{slots_of, unit_starts_of, Person, ProblemCase, Range, Settings};
+use crate::rotas::{played, Draw, Played, RotaCase, NOBODY};
+use crate::seed::Seed;
+use crate::sets::SET_WORDS;
+use crate::stored::{filled16, filled32, half, Stored};
+use crate::table::{lowest, people_ok, Slots, Units};
+
+/// People, slots and draws of a record, at most.
+const PEOPLE: usize = 4;
+const SLOTS: usize = 16;
+const DRAWS: usize = 8;
+
+/// Of each section: its records (the first has as many as are asked for), the answers of one record, and what its line says they are of.
+const SECTIONS: [(u64, u64, &str); 7] = [
+    (0, 4, ""),
+    (12, 7, " of unfrozen twins"),
+    (12, 6, " of rotas made uneven"),
+    (12, 5, " of swaps of unequal units"),
+    (12, 5, " of reassigns"),
+    (20, 4, " of single assigns"),
+    (32, 5, " of damaged rotas"),
+];
+
+/// Sections, each with its number of records as u16 before them: plays; twins, which act with no slot frozen; rotas that one assign makes
+/// uneven; swaps of units of unequal lengths; reassigns that act; single assigns; damaged plays.
+///
+/// A record is, low byte first: people, slots, units and draws as u16; sixteen starts and sixteen ends as u32; sixteen u16 of the slots at
+/// which units begin; four u16 of slots that a person can cover; a u16 of frozen slots; sixteen owners; the three columns of eight u16 of
+/// draws; then what the Rust makes of it: eight answers, sixteen owners, four u16 of the slots that a person holds, four u32 of minutes;
+/// then the slot and the owner of an assign and the number that is due as u16; what is held and worked before it, as u16 and u32 of four
+/// people; and u16 of how many owners, words of sets and unit starts are lent.
+pub fn rotas(n: u64, run: u64) -> Stored {
+    let kinds: [fn(&mut Seed, u64) -> Option<Record>; 7] = [plain, twin, uneven, unequal_swap, reassign, assign, damaged];
+    let mut bytes = Vec::new();
+    let mut lines = Vec::new();
+    for (kind, (records, answers, label)) in kinds.iter().zip(SECTIONS) {
+        let records = if records == 0 { n } else { records };
+        let name = format!("stored-rotas{label}");
+        half(&mut bytes, records as usize);
+        let mut k = 0;
+        let mut made = 0;
+        while made < records {
+            let mut seed = Seed::new(Seed::of_case(run, &name, k));
+            k += 1;
+            if let Some(record) = kind(&mut seed, made) {
+                record.write(&mut bytes);
+                made += 1;
+            }
+        }
+        lines.push((answers * records, label));
+    }
+    Stored { bytes, lines }
+}
+
+/// What is lent, and what is due.
+struct Record {
+    case: RotaCase,
+    due: Played,
+    people: usize,
+    draws: usize,
+    slots: Slots,
+    units: Units,
+    owners: Vec<u8>,
+    sets: Vec<u16>,
+    minutes: Vec<u64>,
+    slot: usize,
+    owner: u8,
+    number: u64,
+    owners_lent: usize,
+    words_lent: usize,
+}
+
+/// A small rota, its draws cut to those that fit.
+fn small(seed: &mut Seed) -> Option<RotaCase> {
+    let mut case = RotaCase::new(seed);
+    case.draws.truncate(DRAWS);
+    let fits = case.problem.slot_count() <= SLOTS && case.problem.human_count() <= PEOPLE;
+    fits.then_some(case)
+}
+
+impl Record {
+    fn new(case: RotaCase, due: Played) -> Self {
+        let problem = &case.problem;
+        let (starts, ends) = slots_of(problem);
+        let firsts = unit_starts_of(problem);
+        let begun = played(problem, &case.assignment(&case.owners), vec![]);
+        Self {
+            people: problem.human_count(),
+            draws: case.draws.len(),
+            slots: Slots {
+                count: starts.len(),
+                starts,
+                ends,
+            },
+            units: Units {
+                count: firsts.len(),
+                firsts,
+            },
+            owners: case.owners.clone(),
+            sets: held(problem.human_count(), &case.owners),
+            minutes: begun.minutes,
+            slot: 0,
+            owner: NOBODY,
+            number: 0,
+            owners_lent: SLOTS,
+            words_lent: SET_WORDS * PEOPLE,
+            case,
+            due,
+        }
+    }
+
+    fn write(&self, bytes: &mut Vec<u8>) {
+        let problem = &self.case.problem;
+        for count in [self.people, self.slots.count, self.units.count, self.draws] {
+            half(bytes, count);
+        }
+        filled32(bytes, SLOTS, &self.slots.starts, 0);
+        filled32(bytes, SLOTS, &self.slots.ends, 0);
+        filled16(bytes, SLOTS, &self.units.firsts, 0);
+        let set = |holds: &dyn Fn(usize) -> bool| -> u16 { (0..problem.slot_count()).map(|slot| u16::from(holds(slot)) << slot).sum() };
+        let able: Vec<u16> = (0..problem.human_count())
+            .map(|person| set(&|slot| problem.is_available(person, slot)))
+            .collect();
+        filled16(bytes, PEOPLE, &able, 0);
+        filled16(bytes, 1, &[set(&|slot| problem.is_frozen(slot))], 0);
+        fill(bytes, SLOTS, &self.owners);
+        for number in [|draw: &Draw| draw.0, |draw: &Draw| draw.1, |draw: &Draw| draw.2] {
+            let column: Vec<u16> = self.case.draws.iter().map(number).collect();
+            filled16(bytes, DRAWS, &column, 0);
+        }
+        fill(bytes, DRAWS, &self.due.answers);
+        fill(bytes, SLOTS, &self.due.owners);
+        filled16(bytes, PEOPLE, &held(problem.human_count(), &self.due.owners), 0);
+        worked(bytes, &self.due.minutes);
+        for n in [self.slot, usize::from(self.owner), self.number as usize] {
+            half(bytes, n);
+        }
+        filled16(bytes, PEOPLE, &self.sets, 0);
+        worked(bytes, &self.minutes);
+        for length in [self.owners_lent, self.words_lent, self.units.firsts.len()] {
+            half(bytes, length);
+        }
+    }
+}
+
+/// The slots that each person holds.
+fn held(people: usize, owners: &[u8]) -> Vec<u16> {
+    let set = |person: usize| {
+        let own = owners.iter().enumerate().filter(|(_, &owner)| usize::from(owner) == person);
+        own.map(|(slot, _)| 1u16 << slot).sum()
+    };
+    (0..people).map(set).collect()
+}
+
+fn worked(bytes: &mut Vec<u8>, minutes: &[u64]) {
+    let column: Vec<u32> = minutes.iter().map(|&minutes| minutes as u32).collect();
+    filled32(bytes, PEOPLE, &column, 0);
+}
+
+/// Bytes, with zeros up to a count.
+fn fill(bytes: &mut Vec<u8>, count: usize, list: &[u8]) {
+    bytes.extend(list.iter().copied().chain(std::iter::repeat(0)).take(count));
+}
+
+/// A play; most of them act, since one that only stays put tells little.
+fn plain(seed: &mut Seed, made: u64) -> Option<Record> {
+    let case = small(seed)?;
+    let end = case.play();
+    (end.answers.contains(&0) || made % 4 == 0).then(|| Record::new(case, end))
+}
+
+/// Marked case 12, but with no slot frozen yet: two units, owners 0 and 1, draw (35, 0, 1).
+fn case_12() -> RotaCase {
+    let base = vec![(0, 60), (60, 120)];
+    let range = |person| Range {
+        person,
+        start: 0,
+        end: 120,
+    };
+    let case = ProblemCase {
+        base,
+        ranges: vec![range(0), range(1)],
+        people: vec![Person { capacity: 1.0, prior: 0 }; 2],
+        settings: Settings {
+            fairness: 1,
+            lock: 0,
+            boundary: 0,
+            value: 1,
+            days: 1,
+        },
+    };
+    RotaCase {
+        problem: case.rust(),
+        owners: vec![0, 1],
+        draws: vec![(35, 0, 1)],
+    }
+}
+
+/// A swap that acts where nothing is frozen, and answers 1 where the second unit is: the record has the frozen flags, and what is due of
+/// its twin without them. The first is marked case 12.
+fn twin(seed: &mut Seed, made: u64) -> Option<Record> {
+    let mut case = if made == 0 { case_12() } else { small(seed)? };
+    let units = case.problem.unit_count();
+    if made > 0 {
+        case.problem.frozen.fill(false);
+        case.draws = vec![(seed.within(35, 59) as u16, one_of(seed, units), one_of(seed, units))];
+    }
+    let end = case.play();
+    let second = case.problem.units[usize::from(case.draws[0].2)].clone();
+    case.problem.frozen[second.start + seed.below(second.len() as u64) as usize] = true;
+    let stays = case.play();
+    let tells = end.answers == [0] && stays.answers == [1] && stays.owners == case.owners;
+    assert!(made > 0 || tells, "the Rust takes marked case 12 as the paper says");
+    tells.then(|| Record::new(case, end))
+}
+
+fn one_of(seed: &mut Seed, units: usize) -> u16 {
+    seed.below(units as u64) as u16
+}
+
+/// A unit of several slots, of which an assign gives one to another person or to nobody: what is due is the rota after the assign.
+fn uneven(seed: &mut Seed, _: u64) -> Option<Record> {
+    let case = small(seed)?;
+    let long = case.problem.units.iter().find(|unit| unit.len() > 1)?;
+    let slot = long.start + seed.below(long.len() as u64) as usize;
+    let others = case.problem.domains[slot].iter().map(|&person| person as u8).chain([NOBODY]);
+    let others: Vec<u8> = others.filter(|&owner| owner != case.owners[slot]).collect();
+    let owner = *others.first()?;
+    Some(assigned(case, slot, owner))
+}
+
+/// One slot assigned: an unknown slot or owner is 11, one who is not available 12.
+fn assign(seed: &mut Seed, _: u64) -> Option<Record> {
+    let case = small(seed)?;
+    let (people, slots) = (case.problem.human_count(), case.problem.slot_count());
+    let slot = seed.below(slots as u64 + 1) as usize;
+    let owner = if seed.one_in(4) {
+        NOBODY
+    } else {
+        seed.below(people as u64 + 1) as u8
+    };
+    Some(assigned(case, slot, owner))
+}
+
+fn assigned(case: RotaCase, slot: usize, owner: u8) -> Record {
+    let (problem, person) = (&case.problem, usize::from(owner));
+    let known = slot < problem.slot_count() && (owner == NOBODY || person < problem.human_count());
+    let fit = !known || owner == NOBODY || problem.is_available(person, slot);
+    let number = lowest(&[(11, known), (12, fit)]);
+    let mut assignment = case.assignment(&case.owners);
+    if number == 0 {
+        assignment.assign(problem, slot, (owner != NOBODY).then_some(person));
+    }
+    let due = played(problem, &assignment, vec![]);
+    let mut record = Record::new(case, due);
+    (record.slot, record.owner, record.number) = (slot, owner, number);
+    record
+}
+
+/// A swap that acts, of two units of unequal lengths.
+fn unequal_swap(seed: &mut Seed, _: u64) -> Option<Record> {
+    let mut case = small(seed)?;
+    let units = case.problem.unit_count();
+    let (first, second) = (one_of(seed, units), one_of(seed, units));
+    let minutes = |unit: u16| {
+        case.problem.units[usize::from(unit)]
+            .clone()
+            .map(|slot| case.problem.slot_minutes[slot])
+    };
+    if minutes(first).sum::<i64>() == minutes(second).sum::<i64>() {
+        return None;
+    }
+    case.draws = vec![(seed.within(35, 59) as u16, first, second)];
+    let end = case.play();
+    (end.answers == [0]).then(|| Record::new(case, end))
+}
+
+/// A reassign that acts.
+fn reassign(seed: &mut Seed, _: u64) -> Option<Record> {
+    let mut case = small(seed)?;
+    let unit = one_of(seed, case.problem.unit_count());
+    case.draws = vec![(seed.below(35) as u16, unit, seed.below(PEOPLE as u64) as u16)];
+    let end = case.play();
+    (end.answers == [0]).then(|| Record::new(case, end))
+}
+
+/// Rules that damage breaks.
+const RULES: u64 = 9;
+
+/// A play with one fault or two: what is due is the lowest of their numbers, and everything lent as it was.
+fn damaged(seed: &mut Seed, _: u64) -> Option<Record> {
+    let case = small(seed)?;
+    let slots = case.problem.slot_count();
+    let stays = played(&case.problem, &case.assignment(&case.owners), vec![]);
+    let mut record = Record::new(case, stays);
+    let mut recounts = true;
+    let people = record.people;
+    let first = seed.below(RULES);
+    // a second fault is of another rule, so that it can't undo the first
+    let second = (first + seed.below(RULES)) % RULES;
+    for rule in [first, second].into_iter().take(if first == second { 1 } else { 2 }) {
+        let (slot, person) = (seed.below(slots as u64) as usize, seed.below(people as u64) as usize);
+        record.damage(seed, rule, slot, person);
+        recounts &= !(4..=6).contains(&rule);
+    }
+    let room = record.slots.count <= record.owners_lent && SET_WORDS * record.people.min(32) <= record.words_lent;
+    record.number = lowest(&[
+        (1, people_ok(record.people) && record.slots.count_ok() && record.draws <= 1024),
+        (2, room),
+        (9, record.slots.ok() && record.units.ok(record.slots.count)),
+        (10, recounts),
+    ]);
+    (record.number > 0).then_some(record)
+}
+
+impl Record {
+    /// Breaks a rule: 4 to 6 are those of the recount.
+    fn damage(&mut self, seed: &mut Seed, rule: u64, slot: usize, person: usize) {
+        match rule {
+            0 => self.people = seed.pick(&[0, 33, 65_535]),
+            1 => self.draws = seed.pick(&[1025, 65_535]),
+            2 => self.owners_lent = slot,
+            3 => self.words_lent = SET_WORDS * self.people.clamp(1, PEOPLE) - 1,
+            4 => self.owners[slot] = PEOPLE as u8 + seed.below(250) as u8,
+            5 => self.sets[person] ^= 1 << slot,
+            6 => self.minutes[person] ^= 1 << seed.below(31),
+            7 => self.units.firsts[0] = 1,
+            _ => self.slots.ends[slot] = self.slots.starts[slot],
+        }
+    }
+}
+
+#[cfg(test)]
+mod tests {
+    #[test]
+    fn records_have_one_size() {
+        assert_eq!(super::rotas(7, 1).bytes.len(), 7 * 2 + (7 + 4 * 12 + 20 + 32) * 326);
+    }
+}
