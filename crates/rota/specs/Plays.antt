@@ -4,7 +4,7 @@ use mathlib.Core.Bool.{Bool, false, true, _&&_, _||_}
 use mathlib.Core.List.{List, [], _∷_, _++_}
 use Prim.Native.Nat.{ℕ, zero, suc}
 use lib.Dec.{eqb}
-use lib.ListN.{length, getD, drop}
+use lib.ListN.{getD}
 use Rattle.rota.specs.Board.{Board}
 use Rattle.rota.specs.Moves.{Draw, draw, decided, answerOf, act, handed}
 
