@@ -313,3 +313,29 @@ fn lend<'a, T: Element>(place: &'a mut Option<Box<dyn Buffer>>, bytes: &[u8]) ->
     let end = GUARD + guarded.len();
     &mut guarded.all[GUARD..end]
 }
+
+#[cfg(test)]
+mod tests {
+    use super::{bytes_of, lend, Buffer, Guarded, GUARD};
+
+    /// What is lent is what was given, byte by byte, and stands between guards.
+    #[test]
+    fn lent_bytes_are_those_given() {
+        let bytes: Vec<u8> = (0..24).collect();
+        let mut place = None;
+        assert_eq!(bytes_of(lend::<u64>(&mut place, &bytes)), bytes);
+        let buffer = place.expect("a buffer was made");
+        assert_eq!(buffer.bytes(), bytes);
+        assert!(buffer.guards_stand());
+    }
+
+    /// A write past either end is seen.
+    #[test]
+    fn guards_tell() {
+        for (at, stand) in [(GUARD - 1, false), (GUARD, true), (GUARD + 3, true), (GUARD + 4, false)] {
+            let mut all = vec![0xa5_u8; 2 * GUARD + 4];
+            all[at] = 0;
+            assert_eq!(Guarded { all }.guards_stand(), stand, "byte {at}");
+        }
+    }
+}
