@@ -1,10 +1,10 @@
 # Sourced by whoever calls cargo: a compiler that builds for x86-64, and how to link and run what it builds. Installs nothing.
 export CARGO_BUILD_TARGET=x86_64-unknown-linux-gnu
 
-# Whether a compiler is there, is Rust 1.73 or newer, and has the standard library for x86-64.
+# Whether a compiler is there, is Rust 1.74 or newer, and has the standard library for x86-64.
 builds_for_x86_64() { # COMPILER
     minor=$("$1" --version 2>/dev/null | sed -n 's/^rustc 1\.\([0-9]*\)\..*/\1/p')
-    [ -n "$minor" ] && [ "$minor" -ge 73 ] || return 1
+    [ -n "$minor" ] && [ "$minor" -ge 74 ] || return 1
     ls "$("$1" --print target-libdir --target "$CARGO_BUILD_TARGET")"/libstd-*.rlib >/dev/null 2>&1
 }
 

@@ -213,7 +213,9 @@ impl TryFrom<Word> for bool {
 /// What a lent slice holds.
 trait Element: Copy + 'static {
     /// What a guard is made of.
-    const GUARD: Self;
+    fn guard() -> Self {
+        Self::read(&vec![0xa5; std::mem::size_of::<Self>()])
+    }
 
     fn read(bytes: &[u8]) -> Self;
     fn put(self, bytes: &mut Vec<u8>);
@@ -222,8 +224,6 @@ trait Element: Copy + 'static {
 macro_rules! elements {
     ($($element:ty),*) => {$(
         impl Element for $element {
-            const GUARD: Self = <$element>::from_le_bytes([0xa5; std::mem::size_of::<$element>()]);
-
             fn read(bytes: &[u8]) -> Self {
                 <$element>::from_le_bytes(bytes.try_into().expect("as many bytes as an element has"))
             }
@@ -238,12 +238,6 @@ macro_rules! elements {
 elements!(u8, u16, u32, u64, i64, f64);
 
 impl Element for Draw {
-    const GUARD: Self = Draw {
-        draw: u16::GUARD,
-        first: u16::GUARD,
-        second: u16::GUARD,
-    };
-
     fn read(bytes: &[u8]) -> Self {
         let (draw, rest) = bytes.split_at(2);
         let (first, second) = rest.split_at(2);
@@ -288,7 +282,7 @@ impl<T: Element> Buffer for Guarded<T> {
     }
 
     fn guards_stand(&self) -> bool {
-        let guard = bytes_of(&[T::GUARD; GUARD]);
+        let guard = bytes_of(&[T::guard(); GUARD]);
         bytes_of(&self.all[..GUARD]) == guard && bytes_of(&self.all[GUARD + self.len()..]) == guard
     }
 
@@ -305,11 +299,37 @@ fn bytes_of<T: Element>(elements: &[T]) -> Vec<u8> {
 
 /// Makes a buffer of bytes and lends it.
 fn lend<'a, T: Element>(place: &'a mut Option<Box<dyn Buffer>>, bytes: &[u8]) -> &'a mut [T] {
-    let guard = [T::GUARD; GUARD];
+    let guard = [T::guard(); GUARD];
     let within = bytes.chunks_exact(std::mem::size_of::<T>()).map(T::read);
     let all: Vec<T> = guard.into_iter().chain(within).chain(guard).collect();
     let buffer = place.insert(Box::new(Guarded { all }));
     let guarded = buffer.whole().downcast_mut::<Guarded<T>>().expect("it was just made");
     let end = GUARD + guarded.len();
     &mut guarded.all[GUARD..end]
+}
+
+#[cfg(test)]
+mod tests {
+    use super::{bytes_of, lend, Buffer, Guarded, GUARD};
+
+    /// What is lent is what was given, byte by byte, and stands between guards.
+    #[test]
+    fn lent_bytes_are_those_given() {
+        let bytes: Vec<u8> = (0..24).collect();
+        let mut place = None;
+        assert_eq!(bytes_of(lend::<u64>(&mut place, &bytes)), bytes);
+        let buffer = place.expect("a buffer was made");
+        assert_eq!(buffer.bytes(), bytes);
+        assert!(buffer.guards_stand());
+    }
+
+    /// A write past either end is seen.
+    #[test]
+    fn guards_tell() {
+        for (at, stand) in [(GUARD - 1, false), (GUARD, true), (GUARD + 3, true), (GUARD + 4, false)] {
+            let mut all = vec![0xa5_u8; 2 * GUARD + 4];
+            all[at] = 0;
+            assert_eq!(Guarded { all }.guards_stand(), stand, "byte {at}");
+        }
+    }
 }
