@@ -25,7 +25,7 @@ use Rattle.slots.proofs.RangeLaws.{ranges-sound, range-room-says, merge
 
 -- ---- an entry of the merged list is a known person's
 
-some-one : (n : ℕ) (p : ℕ → Bool) (X : Type 0) → some n p ≡ true → ((k : ℕ) → k < n → p k ≡ true → X) → X
+pub some-one : (n : ℕ) (p : ℕ → Bool) (X : Type 0) → some n p ≡ true → ((k : ℕ) → k < n → p k ≡ true → X) → X
 unfolding some
 some-one zero p X e f = absurd (mathlib.Core.Bool.false≢true e)
 some-one (suc n) p X e f =
