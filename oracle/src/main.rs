@@ -1,5 +1,6 @@
 //! The Rust as oracle. `oracle/compare` builds both sides and runs `oracle compare`.
 
+mod bench;
 mod call;
 mod days;
 mod figures;
@@ -58,7 +59,8 @@ const ENOUGH: u64 = 100;
 /// How many differences of a kind are printed.
 const SHOWN: u64 = 20;
 
-const USAGE: &str = "usage: oracle compare N SEED KIND|every | oracle case KIND CASE-SEED | oracle days | oracle store KIND N SEED FOLDER";
+const USAGE: &str = "usage: oracle compare N SEED KIND|every | oracle case KIND CASE-SEED | oracle days | oracle store KIND N SEED FOLDER \
+     | oracle bench rows | oracle bench SEED [COUNTS] | oracle bench SEED ROW ours|rust 1|2";
 
 fn main() -> ExitCode {
     let words: Vec<String> = std::env::args().skip(1).collect();
@@ -73,6 +75,18 @@ fn main() -> ExitCode {
             Err(_) => usage(),
         },
         ["days"] => ended(every_day()),
+        ["bench", "rows"] => {
+            bench::names();
+            ExitCode::SUCCESS
+        }
+        ["bench", seed, counts @ ..] if counts.len() < 2 => match seed.parse() {
+            Ok(seed) => ended(bench::table(seed, counts.first().copied())),
+            Err(_) => usage(),
+        },
+        ["bench", seed, row, side, times] => match (seed.parse(), times.parse()) {
+            (Ok(seed), Ok(times)) => ended(bench::one(seed, row, side, times).map(|()| 0)),
+            _ => usage(),
+        },
         ["rules", n, seed] => match (n.parse(), seed.parse()) {
             (Ok(n), Ok(seed)) => compare_rules(n, seed),
             _ => usage(),
