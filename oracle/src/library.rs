@@ -4,7 +4,7 @@
 use std::any::Any;
 use std::io;
 
-use boltraven::{lent, Refusal};
+use boltraven::{lent, Draw, Refusal};
 
 use crate::call::{Arg, Outcome, Question};
 
@@ -77,11 +77,16 @@ exports! {
     told is_available(number, number, slice, number, number);
     counted rotation_starts(number, number, number, number, number, number, slice, slice, slice);
     counted unit_starts(number, number, number, number, number, number, slice, slice, slice);
+    done unit_slots(number, number, slice, number, out, out);
+    counted unit_of_slot(number, number, slice, number);
     counted covered_days(number, slice, slice);
+    done demand(number, slice, slice, out);
+    done slot_minutes(number, slice, slice, number, out);
     done minutes_per_day(number, slice, slice, out);
     done target_run(number, number, number, number, number, number, slice, slice, out);
     done achievable_run(number, number, number, number, number, slice, number, number, number, slice, slice, out);
     counted unit_domain(slice, number, number, number, slice, number, slice);
+    counted slot_domain(slice, number, number, number, slice);
     told unit_frozen(slice, number, number, slice, number);
     plain date_of(number);
     plain weekday_of(number);
@@ -89,8 +94,15 @@ exports! {
     done from_slots(number, number, slice, slice, slice, slice, slice, slice);
     done assign(number, number, slice, slice, slice, slice, slice, slice, number, number);
     done play(number, number, number, number, slice, slice, slice, slice, slice, slice, slice, slice, slice, slice, slice, slice);
+    done play_draws(number, number, number, number, slice, slice, slice, slice, slice, slice, slice, slice, slice, slice);
+    done empty(number, number, slice, slice, slice);
+    done recount(number, number, number, slice, slice, slice, slice, slice, slice, slice);
+    done recount_slots(number, number, slice, slice, slice, slice, slice, slice);
+    done owner_of_slot(number, number, slice, number, out);
+    done minutes_of(number, slice, number, out);
     done unassigned_count(number, number, slice, out);
     done uncovered_minutes(number, number, slice, slice, slice, out);
+    done run_job(slice, slice, out);
 }
 
 // ---- answers as numbers
@@ -225,6 +237,30 @@ macro_rules! elements {
 
 elements!(u8, u16, u32, u64, i64, f64);
 
+impl Element for Draw {
+    const GUARD: Self = Draw {
+        draw: u16::GUARD,
+        first: u16::GUARD,
+        second: u16::GUARD,
+    };
+
+    fn read(bytes: &[u8]) -> Self {
+        let (draw, rest) = bytes.split_at(2);
+        let (first, second) = rest.split_at(2);
+        Draw {
+            draw: u16::read(draw),
+            first: u16::read(first),
+            second: u16::read(second),
+        }
+    }
+
+    fn put(self, bytes: &mut Vec<u8>) {
+        [self.draw, self.first, self.second]
+            .into_iter()
+            .for_each(|number| number.put(bytes));
+    }
+}
+
 /// Elements of a guard.
 const GUARD: usize = 64;
 
@@ -276,4 +312,30 @@ fn lend<'a, T: Element>(place: &'a mut Option<Box<dyn Buffer>>, bytes: &[u8]) ->
     let guarded = buffer.whole().downcast_mut::<Guarded<T>>().expect("it was just made");
     let end = GUARD + guarded.len();
     &mut guarded.all[GUARD..end]
+}
+
+#[cfg(test)]
+mod tests {
+    use super::{bytes_of, lend, Buffer, Guarded, GUARD};
+
+    /// What is lent is what was given, byte by byte, and stands between guards.
+    #[test]
+    fn lent_bytes_are_those_given() {
+        let bytes: Vec<u8> = (0..24).collect();
+        let mut place = None;
+        assert_eq!(bytes_of(lend::<u64>(&mut place, &bytes)), bytes);
+        let buffer = place.expect("a buffer was made");
+        assert_eq!(buffer.bytes(), bytes);
+        assert!(buffer.guards_stand());
+    }
+
+    /// A write past either end is seen.
+    #[test]
+    fn guards_tell() {
+        for (at, stand) in [(GUARD - 1, false), (GUARD, true), (GUARD + 3, true), (GUARD + 4, false)] {
+            let mut all = vec![0xa5_u8; 2 * GUARD + 4];
+            all[at] = 0;
+            assert_eq!(Guarded { all }.guards_stand(), stand, "byte {at}");
+        }
+    }
 }

@@ -4,17 +4,22 @@ mod bench;
 mod call;
 mod days;
 mod figures;
+mod job_faults;
+mod job_files;
 mod jobs;
 mod library;
 mod problems;
+mod program;
 mod readers;
 mod recounts;
 mod rotas;
 mod rotations;
+mod search;
 mod seed;
 mod sets;
 mod splitting;
 mod stored;
+mod stored_jobs;
 mod targets;
 mod units;
 
@@ -38,7 +43,7 @@ const fn kind(name: &'static str, questions: fn(u64) -> Vec<Question>) -> Kind {
 }
 
 /// Every kind that the library has by now.
-const KINDS: [Kind; 12] = [
+const KINDS: [Kind; 14] = [
     kind("slot-sets", sets::questions),
     kind("slot-sets-damaged", sets::damaged),
     kind("slots", splitting::questions),
@@ -51,6 +56,8 @@ const KINDS: [Kind; 12] = [
     kind("targets-damaged", targets::damaged),
     kind("rotas", rotas::questions),
     kind("rotas-damaged", rotas::damaged),
+    kind("jobs", jobs::questions),
+    kind("jobs-damaged", jobs::damaged),
 ];
 
 /// From how many cases of every kind on each exported function must have been asked.
@@ -59,8 +66,10 @@ const ENOUGH: u64 = 100;
 /// How many differences of a kind are printed.
 const SHOWN: u64 = 20;
 
-const USAGE: &str = "usage: oracle compare N SEED KIND|every | oracle case KIND CASE-SEED | oracle days | oracle store KIND N SEED FOLDER \
-     | oracle bench rows | oracle bench SEED [COUNTS] | oracle bench SEED ROW ours|rust 1|2";
+const USAGE: &str = "usage: oracle compare N SEED KIND|every | case KIND CASE-SEED | days | time N
+       oracle program N SEED COMMAND.. | rules N SEED | store KIND N SEED FOLDER
+       oracle job SEED | listing SEED | limits | listing-of FILE | moves BLOCKS DRAWS SEED FILE
+       oracle bench rows | bench SEED [COUNTS] | bench SEED ROW ours|rust 1|2";
 
 fn main() -> ExitCode {
     let words: Vec<String> = std::env::args().skip(1).collect();
@@ -87,6 +96,10 @@ fn main() -> ExitCode {
             (Ok(seed), Ok(times)) => ended(bench::one(seed, row, side, times).map(|()| 0)),
             _ => usage(),
         },
+        ["program", n, seed, _, ..] => match (n.parse(), seed.parse()) {
+            (Ok(n), Ok(seed)) => ended(program::compare(n, seed, &words[3..])),
+            _ => usage(),
+        },
         ["rules", n, seed] => match (n.parse(), seed.parse()) {
             (Ok(n), Ok(seed)) => compare_rules(n, seed),
             _ => usage(),
@@ -96,8 +109,24 @@ fn main() -> ExitCode {
             Err(_) => usage(),
         },
         ["listing", seed] => match seed.parse() {
-            Ok(seed) => write_out(jobs::JobCase::new(&mut Seed::new(seed)).listing().as_bytes()),
+            Ok(seed) => write_out(job_files::text_of(&jobs::JobCase::new(&mut Seed::new(seed)).file()).as_bytes()),
             Err(_) => usage(),
+        },
+        ["limits"] => write_out(&jobs::JobCase::at_every_limit().file()),
+        ["time", n] => match n.parse() {
+            Ok(n) => ended(jobs::time(n)),
+            Err(_) => usage(),
+        },
+        ["listing-of", file] => match fs::read(file) {
+            Ok(bytes) => write_out(job_files::text_of(&bytes).as_bytes()),
+            Err(error) => {
+                eprintln!("oracle: {file}: {error}");
+                ExitCode::from(2)
+            }
+        },
+        ["moves", blocks, draws, seed, file] => match (blocks.parse(), draws.parse(), seed.parse()) {
+            (Ok(blocks), Ok(draws), Ok(seed)) => moves_on(file, blocks, draws, seed),
+            _ => usage(),
         },
         ["store", kind, n, seed, folder] => match (n.parse(), seed.parse()) {
             (Ok(n), Ok(seed)) => store(kind, n, seed, Path::new(folder)),
@@ -109,8 +138,16 @@ fn main() -> ExitCode {
 
 /// Writes stored answers of a kind into the folder of the program that replays them: what it reads, and what it must then write.
 fn store(kind: &str, n: u64, seed: u64, folder: &Path) -> ExitCode {
-    let Some(stored) = stored::of_kind(kind, n, seed) else {
-        return usage();
+    let made = match kind {
+        "jobs" => stored_jobs::jobs(n, seed),
+        _ => stored::of_kind(kind, n, seed).ok_or_else(|| format!("no kind {kind}")),
+    };
+    let stored = match made {
+        Ok(stored) => stored,
+        Err(missing) => {
+            eprintln!("oracle: {missing}");
+            return ExitCode::from(2);
+        }
     };
     let line = format!("{} answers compared, 0 differ\n", stored.answers);
     let written = fs::write(folder.join("stdin"), &stored.bytes).and_then(|()| fs::write(folder.join("stdout"), line));
@@ -134,6 +171,18 @@ fn compare_rules(n: u64, seed: u64) -> ExitCode {
         println!("targets: {rule:?} differs in {seen}{where_first}");
     }
     ExitCode::from(u8::from(!told))
+}
+
+/// Writes the moves of the Rust's generator on a job file that nothing is wrong with.
+fn moves_on(file: &str, blocks: u64, draws: u64, seed: u64) -> ExitCode {
+    let job = fs::read(file).ok().and_then(|bytes| job_files::read(&bytes));
+    match job {
+        Some(job) if job_files::numbers(&job).is_empty() => write_out(search::moves(&job, blocks, draws, seed).as_bytes()),
+        _ => {
+            eprintln!("oracle: {file} is no job that is accepted");
+            ExitCode::from(2)
+        }
+    }
 }
 
 /// Writes bytes to standard output.

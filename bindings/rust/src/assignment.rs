@@ -15,6 +15,7 @@ use crate::set::SlotSet;
 /// | 75 to 89 | the runs of the units `first` and `second` are swapped |
 /// | 90 to 99 | the run of unit `first` starts one unit earlier (`second` 1) or later (0) |
 #[derive(Debug, Clone, Copy, PartialEq, Eq)]
+#[repr(C)]
 pub struct Draw {
     /// Which move, below 100.
     pub draw: u16,
@@ -89,7 +90,14 @@ fn owner_of(byte: u8) -> Option<usize> {
 impl Assignment {
     /// A rota in which nobody owns a slot. No refusal is known.
     pub fn empty(problem: &Problem) -> Result<Self, Refusal> {
-        Self::from_slots(problem, &vec![None; problem.slot_count()])
+        let (people, slots) = (problem.human_count(), problem.slot_count());
+        let mut rota = Self {
+            owners: vec![NOBODY; slots],
+            sets: vec![0; SET_WORDS * people],
+            minutes: vec![0; people],
+        };
+        lent::empty(people, slots, &mut rota.owners, &mut rota.sets, &mut rota.minutes)?;
+        Ok(rota)
     }
 
     /// A rota with these owners, one a slot. Refusals 2 (fewer owners than slots), 11, 12. Owners past the last slot are not looked at.
@@ -115,8 +123,9 @@ impl Assignment {
 
     /// Who owns a slot. Refusal 11.
     pub fn get(&self, slot: usize) -> Result<Option<usize>, Refusal> {
-        let owner = self.owners.get(slot).ok_or(Refusal::Unknown)?;
-        Ok(owner_of(*owner))
+        let mut owner = 0;
+        lent::owner_of_slot(self.minutes.len(), self.owners.len(), &self.owners, slot, &mut owner)?;
+        Ok((owner != u64::from(NOBODY)).then_some(owner as usize))
     }
 
     /// The owner of each slot.
@@ -136,7 +145,9 @@ impl Assignment {
 
     /// The minutes of the slots that a person owns. Refusal 11.
     pub fn assigned_minutes(&self, person: usize) -> Result<u64, Refusal> {
-        self.minutes.get(person).copied().ok_or(Refusal::Unknown)
+        let mut minutes = 0;
+        lent::minutes_of(self.minutes.len(), &self.minutes, person, &mut minutes)?;
+        Ok(minutes)
     }
 
     /// Gives a slot to a person, or to nobody. It asks nothing of units or frozen slots: a rota whose units it makes uneven is refused by
@@ -158,9 +169,8 @@ impl Assignment {
 
     /// Plays draws in order, and answers each. Refusals 1 (more than 1,024 draws), 10.
     pub fn play(&mut self, problem: &Problem, draws: &[Draw]) -> Result<Vec<Answer>, Refusal> {
-        let column = |number: fn(&Draw) -> u16| -> Vec<u16> { draws.iter().map(number).collect() };
         let mut answers = vec![0; draws.len()];
-        lent::play(
+        lent::play_draws(
             problem.human_count(),
             problem.slot_count(),
             problem.unit_count(),
@@ -173,12 +183,27 @@ impl Assignment {
             &mut self.owners,
             &mut self.sets,
             &mut self.minutes,
-            &column(|draw| draw.draw),
-            &column(|draw| draw.first),
-            &column(|draw| draw.second),
+            draws,
             &mut answers,
         )?;
         Ok(answers.into_iter().map(Answer::of).collect())
+    }
+
+    /// Whether owners, units, sets and minutes fit together, as a play asks it first. Refusal 10: a unit has two owners, which `assign` can
+    /// bring about.
+    pub fn recount(&self, problem: &Problem) -> Result<(), Refusal> {
+        lent::recount(
+            problem.human_count(),
+            problem.slot_count(),
+            problem.unit_count(),
+            problem.slots().starts(),
+            problem.slots().ends(),
+            problem.availability().words(),
+            problem.units().firsts(),
+            &self.owners,
+            &self.sets,
+            &self.minutes,
+        )
     }
 
     /// How many slots nobody owns. No refusal is known.

@@ -15,6 +15,7 @@ use crate::slots::{Columns, Range, Slots};
 /// let who = Availability::new(2, &slots, &[Range { person: 1, start: 30, end: 120 }])?;
 /// assert!(!who.is_available(1, 0)?);
 /// assert!(who.is_available(1, 1)?);
+/// assert_eq!((who.domain(0)?, who.domain(1)?), (vec![], vec![1]));
 /// assert_eq!(who.is_available(2, 0), Err(Refusal::Unknown));
 /// # Ok::<(), Refusal>(())
 /// ```
@@ -67,6 +68,13 @@ impl Availability {
     /// Whether a person is available for a slot. Refusal 11.
     pub fn is_available(&self, person: usize, slot: usize) -> Result<bool, Refusal> {
         lent::is_available(self.people, self.slots, &self.words, person, slot)
+    }
+
+    /// The people who are available for a slot, ascending. Refusal 11.
+    pub fn domain(&self, slot: usize) -> Result<Vec<usize>, Refusal> {
+        let mut list = vec![0; self.people];
+        let count = lent::slot_domain(&self.words, self.people, self.slots, slot, &mut list)?;
+        Ok(list.iter().take(count).map(|&person| usize::from(person)).collect())
     }
 
     /// The slots for which a person is available. Refusal 11.

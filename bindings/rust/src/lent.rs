@@ -16,6 +16,7 @@
 //! ```
 #![allow(clippy::too_many_arguments)]
 
+use crate::assignment::Draw;
 use crate::refusal::Refusal;
 use crate::sys;
 
@@ -382,11 +383,31 @@ pub fn unit_starts(
     })
 }
 
+/// The slots of a unit, or of a rotation: `from` up to `to`, without `to`. Refusals: 1, 2, 9, 11.
+pub fn unit_slots(slots: usize, units: usize, firsts: &[u16], unit: usize, from: &mut u64, to: &mut u64) -> Result<(), Refusal> {
+    done(unsafe { sys::boltraven_unit_slots(slots, units, firsts.as_ptr(), firsts.len(), unit, from, to) })
+}
+
+/// The unit, or the rotation, of a slot. Refusals: 1, 2, 9, 11.
+pub fn unit_of_slot(slots: usize, units: usize, firsts: &[u16], slot: usize) -> Result<usize, Refusal> {
+    counted(unsafe { sys::boltraven_unit_of_slot(slots, units, firsts.as_ptr(), firsts.len(), slot) })
+}
+
 // ---- days, and how long runs are to be
 
 /// The distinct start dates of the slots. Refusals: 1, 2, 9.
 pub fn covered_days(slots: usize, starts: &[u32], ends: &[u32]) -> Result<usize, Refusal> {
     counted(unsafe { sys::boltraven_covered_days(slots, starts.as_ptr(), starts.len(), ends.as_ptr(), ends.len()) })
+}
+
+/// The minutes of all slots. Refusals: 1, 2, 9.
+pub fn demand(slots: usize, starts: &[u32], ends: &[u32], out: &mut u64) -> Result<(), Refusal> {
+    done(unsafe { sys::boltraven_demand(slots, starts.as_ptr(), starts.len(), ends.as_ptr(), ends.len(), out) })
+}
+
+/// The minutes of one slot. Refusals: 1, 2, 9, 11.
+pub fn slot_minutes(slots: usize, starts: &[u32], ends: &[u32], slot: usize, out: &mut u64) -> Result<(), Refusal> {
+    done(unsafe { sys::boltraven_slot_minutes(slots, starts.as_ptr(), starts.len(), ends.as_ptr(), ends.len(), slot, out) })
 }
 
 /// Minutes a day. Refusals: 1, 2, 9.
@@ -487,6 +508,11 @@ pub fn unit_domain(
     })
 }
 
+/// The people available for a slot, ascending, and how many. Refusals: 1, 2, 11.
+pub fn slot_domain(avail: &[u64], people: usize, slots: usize, slot: usize, list: &mut [u8]) -> Result<usize, Refusal> {
+    counted(unsafe { sys::boltraven_slot_domain(avail.as_ptr(), avail.len(), people, slots, slot, list.as_mut_ptr(), list.len()) })
+}
+
 /// Whether any slot of a unit is frozen. Refusals: 1, 2, 9, 11.
 pub fn unit_frozen(frozen: &[u64], slots: usize, units: usize, firsts: &[u16], unit: usize) -> Result<bool, Refusal> {
     told(unsafe { sys::boltraven_unit_frozen(frozen.as_ptr(), frozen.len(), slots, units, firsts.as_ptr(), firsts.len(), unit) })
@@ -563,6 +589,22 @@ pub fn from_slots(
             avail.as_ptr(),
             avail.len(),
             owners.as_ptr(),
+            owners.len(),
+            sets.as_mut_ptr(),
+            sets.len(),
+            minutes.as_mut_ptr(),
+            minutes.len(),
+        )
+    })
+}
+
+/// An empty rota: nobody owns a slot, and sets and minutes are cleared. Refusals: 1, 2.
+pub fn empty(people: usize, slots: usize, owners: &mut [u8], sets: &mut [u64], minutes: &mut [u64]) -> Result<(), Refusal> {
+    done(unsafe {
+        sys::boltraven_empty(
+            people,
+            slots,
+            owners.as_mut_ptr(),
             owners.len(),
             sets.as_mut_ptr(),
             sets.len(),
@@ -660,6 +702,130 @@ pub fn play(
     })
 }
 
+/// Plays draws as they stand: an answer byte each, 0 acted, 1 no move, 2 a choice outside. Refusals: 1, 2, 9, 10.
+pub fn play_draws(
+    people: usize,
+    slots: usize,
+    units: usize,
+    count: usize,
+    starts: &[u32],
+    ends: &[u32],
+    avail: &[u64],
+    firsts: &[u16],
+    frozen: &[u64],
+    owners: &mut [u8],
+    sets: &mut [u64],
+    minutes: &mut [u64],
+    draws: &[Draw],
+    answers: &mut [u8],
+) -> Result<(), Refusal> {
+    done(unsafe {
+        sys::boltraven_play_draws(
+            people,
+            slots,
+            units,
+            count,
+            starts.as_ptr(),
+            starts.len(),
+            ends.as_ptr(),
+            ends.len(),
+            avail.as_ptr(),
+            avail.len(),
+            firsts.as_ptr(),
+            firsts.len(),
+            frozen.as_ptr(),
+            frozen.len(),
+            owners.as_mut_ptr(),
+            owners.len(),
+            sets.as_mut_ptr(),
+            sets.len(),
+            minutes.as_mut_ptr(),
+            minutes.len(),
+            draws.as_ptr(),
+            draws.len(),
+            answers.as_mut_ptr(),
+            answers.len(),
+        )
+    })
+}
+
+/// Whether owners, units, sets and minutes fit together, as a play asks it first. Refusals: 1, 2, 9, 10.
+pub fn recount(
+    people: usize,
+    slots: usize,
+    units: usize,
+    starts: &[u32],
+    ends: &[u32],
+    avail: &[u64],
+    firsts: &[u16],
+    owners: &[u8],
+    sets: &[u64],
+    minutes: &[u64],
+) -> Result<(), Refusal> {
+    done(unsafe {
+        sys::boltraven_recount(
+            people,
+            slots,
+            units,
+            starts.as_ptr(),
+            starts.len(),
+            ends.as_ptr(),
+            ends.len(),
+            avail.as_ptr(),
+            avail.len(),
+            firsts.as_ptr(),
+            firsts.len(),
+            owners.as_ptr(),
+            owners.len(),
+            sets.as_ptr(),
+            sets.len(),
+            minutes.as_ptr(),
+            minutes.len(),
+        )
+    })
+}
+
+/// The same without units, as a single assign asks it. Refusals: 1, 2, 9, 10.
+pub fn recount_slots(
+    people: usize,
+    slots: usize,
+    starts: &[u32],
+    ends: &[u32],
+    avail: &[u64],
+    owners: &[u8],
+    sets: &[u64],
+    minutes: &[u64],
+) -> Result<(), Refusal> {
+    done(unsafe {
+        sys::boltraven_recount_slots(
+            people,
+            slots,
+            starts.as_ptr(),
+            starts.len(),
+            ends.as_ptr(),
+            ends.len(),
+            avail.as_ptr(),
+            avail.len(),
+            owners.as_ptr(),
+            owners.len(),
+            sets.as_ptr(),
+            sets.len(),
+            minutes.as_ptr(),
+            minutes.len(),
+        )
+    })
+}
+
+/// The owner of a slot: a person's number, or 255 for nobody. Refusals: 1, 2, 11.
+pub fn owner_of_slot(people: usize, slots: usize, owners: &[u8], slot: usize, out: &mut u64) -> Result<(), Refusal> {
+    done(unsafe { sys::boltraven_owner_of_slot(people, slots, owners.as_ptr(), owners.len(), slot, out) })
+}
+
+/// A person's minutes. Refusals: 1, 2, 11.
+pub fn minutes_of(people: usize, minutes: &[u64], person: usize, out: &mut u64) -> Result<(), Refusal> {
+    done(unsafe { sys::boltraven_minutes_of(people, minutes.as_ptr(), minutes.len(), person, out) })
+}
+
 /// The slots that nobody owns. Refusals: 1, 2, 11.
 pub fn unassigned_count(people: usize, slots: usize, owners: &[u8], out: &mut u64) -> Result<(), Refusal> {
     done(unsafe { sys::boltraven_unassigned_count(people, slots, owners.as_ptr(), owners.len(), out) })
@@ -680,4 +846,11 @@ pub fn uncovered_minutes(people: usize, slots: usize, starts: &[u32], ends: &[u3
             out,
         )
     })
+}
+
+// ---- a whole job
+
+/// A whole job: the listing at the front of `out`, and its length. Refusals: 1 to 7, 10 to 13.
+pub fn run_job(file: &[u8], out: &mut [u8], length: &mut u64) -> Result<(), Refusal> {
+    done(unsafe { sys::boltraven_run_job(file.as_ptr(), file.len(), out.as_mut_ptr(), out.len(), length) })
 }

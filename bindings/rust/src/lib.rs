@@ -3,8 +3,8 @@
 //!
 //! Two layers. [`lent`] has one function for each that the library exports, over slices that the caller owns. The types here stand on it,
 //! in the terms of the Rust that the library carries over: a [`Problem`] is built once, and an [`Assignment`] is changed by
-//! [`assign`](Assignment::assign) and by [`play`](Assignment::play). Nothing here panics on what a caller passes: what the library doesn't
-//! take is a [`Refusal`], and it changes nothing.
+//! [`assign`](Assignment::assign) and by [`play`](Assignment::play); a [`Job`] is all of that in one call. Nothing here panics on what a
+//! caller passes: what the library doesn't take is a [`Refusal`], and it changes nothing.
 //!
 //! Times are whole minutes from 1970-01-01 00:00 (a Thursday) to 100,000,000; there are 1 to 32 people and at most 1,024 slots, ranges and
 //! draws.
@@ -31,6 +31,7 @@
 
 mod assignment;
 mod availability;
+mod job;
 pub mod lent;
 mod problem;
 mod refusal;
@@ -43,6 +44,7 @@ mod units;
 
 pub use assignment::{Answer, Assignment, Draw};
 pub use availability::Availability;
+pub use job::{run_job, Job, LISTING_MOST};
 pub use problem::Problem;
 pub use refusal::{NoRefusal, Refusal};
 pub use set::{Members, Runs, SlotSet};

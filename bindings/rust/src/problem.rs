@@ -78,9 +78,14 @@ impl Problem {
         self.availability.people()
     }
 
+    /// The minutes of one slot. Refusal 11.
+    pub fn slot_minutes(&self, slot: usize) -> Result<u64, Refusal> {
+        self.slots.minutes(slot)
+    }
+
     /// The sum of all slots' minutes.
     pub fn total_demand(&self) -> u64 {
-        self.slots.iter().map(|slot| u64::from(slot.end) - u64::from(slot.start)).sum()
+        self.slots.demand()
     }
 
     /// Who is available for which slot.
@@ -103,9 +108,9 @@ impl Problem {
         self.rotations.len()
     }
 
-    /// The slots of a rotation.
-    pub fn rotation_slots(&self, rotation: usize) -> Option<SlotRange<usize>> {
-        self.rotations.get(rotation)
+    /// The slots of a rotation. Refusal 11.
+    pub fn rotation_slots(&self, rotation: usize) -> Result<SlotRange<usize>, Refusal> {
+        self.rotations.slots(rotation)
     }
 
     /// The units, which a play moves whole.
@@ -116,6 +121,16 @@ impl Problem {
     /// How many units there are.
     pub fn unit_count(&self) -> usize {
         self.units.len()
+    }
+
+    /// The unit that holds a slot. Refusal 11.
+    pub fn unit_of_slot(&self, slot: usize) -> Result<usize, Refusal> {
+        self.units.of_slot(slot)
+    }
+
+    /// The people who can cover a slot, ascending. Refusal 11.
+    pub fn domain(&self, slot: usize) -> Result<Vec<usize>, Refusal> {
+        self.availability.domain(slot)
     }
 
     /// The people who can cover a whole unit, ascending. Refusal 11.

@@ -82,6 +82,7 @@ pub fn merged_ranges(people: usize, ranges: &[Range]) -> Result<Vec<Range>, Refu
 /// use boltraven::{Refusal, Slot, Slots};
 ///
 /// let slots = Slots::new(&[Slot { start: 0, end: 60 }, Slot { start: 1440, end: 1500 }])?;
+/// assert_eq!((slots.demand(), slots.minutes(1)), (120, Ok(60)));
 /// assert_eq!(slots.covered_days(), 2);
 /// assert_eq!(slots.minutes_per_day(), 60);
 /// assert_eq!(Slots::new(&[Slot { start: 5, end: 5 }]).err(), Some(Refusal::Slots));
@@ -157,6 +158,20 @@ impl Slots {
     /// The ends of the slots.
     pub fn ends(&self) -> &[u32] {
         &self.ends
+    }
+
+    /// The minutes of all slots.
+    pub fn demand(&self) -> u64 {
+        let mut minutes = 0;
+        checked(lent::demand(self.len(), &self.starts, &self.ends, &mut minutes));
+        minutes
+    }
+
+    /// The minutes of one slot. Refusal 11.
+    pub fn minutes(&self, slot: usize) -> Result<u64, Refusal> {
+        let mut minutes = 0;
+        lent::slot_minutes(self.len(), &self.starts, &self.ends, slot, &mut minutes)?;
+        Ok(minutes)
     }
 
     /// The distinct dates on which slots start.

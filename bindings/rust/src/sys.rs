@@ -1,6 +1,8 @@
 //! The exported functions of the library, as its archive has them. A slice is an address and a number of elements; an address of one
 //! number stands alone. `tests/exports.rs` compares these declarations with the library's sources.
 
+use crate::assignment::Draw;
+
 extern "C" {
     // ---- sets
 
@@ -178,9 +180,33 @@ extern "C" {
         firsts_len: usize,
     ) -> u64;
 
+    pub fn boltraven_unit_slots(
+        slots: usize,
+        units: usize,
+        firsts: *const u16,
+        firsts_len: usize,
+        unit: usize,
+        from: *mut u64,
+        to: *mut u64,
+    ) -> u8;
+
+    pub fn boltraven_unit_of_slot(slots: usize, units: usize, firsts: *const u16, firsts_len: usize, slot: usize) -> u64;
+
     // ---- lengths
 
     pub fn boltraven_covered_days(slots: usize, starts: *const u32, starts_len: usize, ends: *const u32, ends_len: usize) -> u64;
+
+    pub fn boltraven_demand(slots: usize, starts: *const u32, starts_len: usize, ends: *const u32, ends_len: usize, out: *mut u64) -> u8;
+
+    pub fn boltraven_slot_minutes(
+        slots: usize,
+        starts: *const u32,
+        starts_len: usize,
+        ends: *const u32,
+        ends_len: usize,
+        slot: usize,
+        out: *mut u64,
+    ) -> u8;
 
     pub fn boltraven_minutes_per_day(
         slots: usize,
@@ -234,6 +260,16 @@ extern "C" {
         firsts: *const u16,
         firsts_len: usize,
         unit: usize,
+        list: *mut u8,
+        list_len: usize,
+    ) -> u64;
+
+    pub fn boltraven_slot_domain(
+        avail: *const u64,
+        avail_len: usize,
+        people: usize,
+        slots: usize,
+        slot: usize,
         list: *mut u8,
         list_len: usize,
     ) -> u64;
@@ -293,6 +329,17 @@ extern "C" {
         minutes_len: usize,
     ) -> u8;
 
+    pub fn boltraven_empty(
+        people: usize,
+        slots: usize,
+        owners: *mut u8,
+        owners_len: usize,
+        sets: *mut u64,
+        sets_len: usize,
+        minutes: *mut u64,
+        minutes_len: usize,
+    ) -> u8;
+
     pub fn boltraven_assign(
         people: usize,
         slots: usize,
@@ -343,6 +390,74 @@ extern "C" {
         answers_len: usize,
     ) -> u8;
 
+    pub fn boltraven_play_draws(
+        people: usize,
+        slots: usize,
+        units: usize,
+        count: usize,
+        starts: *const u32,
+        starts_len: usize,
+        ends: *const u32,
+        ends_len: usize,
+        avail: *const u64,
+        avail_len: usize,
+        firsts: *const u16,
+        firsts_len: usize,
+        frozen: *const u64,
+        frozen_len: usize,
+        owners: *mut u8,
+        owners_len: usize,
+        sets: *mut u64,
+        sets_len: usize,
+        minutes: *mut u64,
+        minutes_len: usize,
+        draws: *const Draw,
+        draws_len: usize,
+        answers: *mut u8,
+        answers_len: usize,
+    ) -> u8;
+
+    pub fn boltraven_recount(
+        people: usize,
+        slots: usize,
+        units: usize,
+        starts: *const u32,
+        starts_len: usize,
+        ends: *const u32,
+        ends_len: usize,
+        avail: *const u64,
+        avail_len: usize,
+        firsts: *const u16,
+        firsts_len: usize,
+        owners: *const u8,
+        owners_len: usize,
+        sets: *const u64,
+        sets_len: usize,
+        minutes: *const u64,
+        minutes_len: usize,
+    ) -> u8;
+
+    pub fn boltraven_recount_slots(
+        people: usize,
+        slots: usize,
+        starts: *const u32,
+        starts_len: usize,
+        ends: *const u32,
+        ends_len: usize,
+        avail: *const u64,
+        avail_len: usize,
+        owners: *const u8,
+        owners_len: usize,
+        sets: *const u64,
+        sets_len: usize,
+        minutes: *const u64,
+        minutes_len: usize,
+    ) -> u8;
+
+    pub fn boltraven_owner_of_slot(people: usize, slots: usize, owners: *const u8, owners_len: usize, slot: usize, out: *mut u64) -> u8;
+
+    pub fn boltraven_minutes_of(people: usize, minutes: *const u64, minutes_len: usize, person: usize, out: *mut u64) -> u8;
+
     pub fn boltraven_unassigned_count(people: usize, slots: usize, owners: *const u8, owners_len: usize, out: *mut u64) -> u8;
 
     pub fn boltraven_uncovered_minutes(
@@ -356,4 +471,8 @@ extern "C" {
         owners_len: usize,
         out: *mut u64,
     ) -> u8;
+
+    // ---- jobs
+
+    pub fn boltraven_run_job(file: *const u8, file_len: usize, out: *mut u8, out_len: usize, length: *mut u64) -> u8;
 }

@@ -19,6 +19,7 @@ use crate::slots::Slots;
 /// let weeks = Settings { lock: true, boundary: Boundary::DayOfWeek(1), ..Settings::default() };
 /// let units = Units::new(weeks, &Slots::new(&shifts)?)?;
 /// assert_eq!(units.iter().collect::<Vec<_>>(), [0..2, 2..4]);
+/// assert_eq!((units.slots(1)?, units.of_slot(3)?), (2..4, 1));
 /// # Ok::<(), boltraven::Refusal>(())
 /// ```
 #[derive(Debug, Clone, PartialEq, Eq)]
@@ -44,7 +45,7 @@ impl Units {
             ends,
             &mut firsts,
         )?;
-        Ok(Self::of(firsts, count, slots))
+        Ok(Self::made(firsts, count, slots))
     }
 
     /// The rotations. Refusal 7.
@@ -63,10 +64,10 @@ impl Units {
             ends,
             &mut firsts,
         )?;
-        Ok(Self::of(firsts, count, slots))
+        Ok(Self::made(firsts, count, slots))
     }
 
-    fn of(mut firsts: Vec<u16>, count: usize, slots: &Slots) -> Self {
+    fn made(mut firsts: Vec<u16>, count: usize, slots: &Slots) -> Self {
         firsts.truncate(count);
         Self {
             firsts,
@@ -85,9 +86,16 @@ impl Units {
         &self.firsts
     }
 
-    /// The slots of one.
-    pub fn get(&self, unit: usize) -> Option<Range<usize>> {
-        self.iter().nth(unit)
+    /// The slots of one. Refusal 11.
+    pub fn slots(&self, unit: usize) -> Result<Range<usize>, Refusal> {
+        let (mut from, mut to) = (0, 0);
+        lent::unit_slots(self.slots, self.len(), &self.firsts, unit, &mut from, &mut to)?;
+        Ok(from as usize..to as usize)
+    }
+
+    /// The one that holds a slot. Refusal 11.
+    pub fn of_slot(&self, slot: usize) -> Result<usize, Refusal> {
+        lent::unit_of_slot(self.slots, self.len(), &self.firsts, slot)
     }
 
     /// The slots of each, in order. One ends where the next starts, the last with the slots.

@@ -121,6 +121,29 @@ fn a_rota_keeps_what_lies_past_its_ends() {
 }
 
 #[test]
+fn a_job_is_listed_or_refused_whole() {
+    let mut out = vec![7; 44_540];
+    let mut length = SPARE;
+    for (file, refusal) in [(vec![1], Refusal::JobFile), (vec![0; 49_153], Refusal::JobFile)] {
+        assert_eq!(lent::run_job(&file, &mut out, &mut length), Err(refusal));
+    }
+    // Settings and a base slot, but nobody to cover it.
+    let mut file = vec![8, 0, 1, 0, 0, 0, 0, 0, 1, 0, 1, 0];
+    file.extend([8, 0, 2, 0, 0, 0, 0, 0, 60, 0, 0, 0]);
+    assert_eq!(lent::run_job(&file, &mut out, &mut length), Err(Refusal::Count));
+    // One person, of capacity 0, who is never there.
+    file.extend([12, 0, 3, 0, 0, 0, 0, 0, 0, 0, 0, 0, 0, 0, 0, 0]);
+    assert_eq!(lent::run_job(&file, &mut out[..100], &mut length), Err(Refusal::ShortBuffer));
+    assert_eq!((length, out.iter().all(|&byte| byte == 7)), (SPARE, true));
+
+    let listing = b"S 0 0 60 -\nP 0 0 60\nU 60\n";
+    assert_eq!(lent::run_job(&file, &mut out, &mut length), Ok(()));
+    assert_eq!(length, listing.len() as u64);
+    assert_eq!(&out[..listing.len()], listing);
+    assert!(out[listing.len()..].iter().all(|&byte| byte == 7));
+}
+
+#[test]
 fn numbers_beside_a_result_stay_where_there_is_none() {
     let words = [0; 16];
     let (mut first, mut last, mut next) = (SPARE, SPARE, SPARE);

@@ -1,6 +1,6 @@
 //! The types above the lent slices: refusals of what a caller passes, and sizes at their limits.
 
-use boltraven::{Answer, Assignment, Availability, Boundary, Draw, Person, Problem, Range, Refusal, Settings, Slot, SlotSet, Slots};
+use boltraven::{Answer, Assignment, Availability, Boundary, Draw, Job, Person, Problem, Range, Refusal, Settings, Slot, SlotSet, Slots};
 
 const ONE: Person = Person { capacity: 1.0, prior: 0 };
 
@@ -102,6 +102,45 @@ fn rotas_refuse_and_stay() {
     );
     assert_eq!(rota.unassigned_count(), Ok(1));
     assert_eq!(rota.uncovered_minutes(&problem), Ok(60));
+}
+
+#[test]
+fn a_unit_with_two_owners_fails_the_recount() {
+    let pairs = Settings {
+        lock: true,
+        boundary: Boundary::EverySlots(2),
+        ..Settings::default()
+    };
+    let problem = Problem::build(pairs, &days(4), &[ONE; 2], &[always(0), always(1)]).expect("it is taken");
+    let mut rota = Assignment::empty(&problem).expect("it is taken");
+    assert_eq!(rota.recount(&problem), Ok(()));
+    assert_eq!(rota.assign(&problem, 3, Some(1)), Ok(()));
+    assert_eq!(rota.recount(&problem), Err(Refusal::Recount));
+    assert_eq!(rota.play(&problem, &[]), Err(Refusal::Recount));
+    assert_eq!(rota.assign(&problem, 2, Some(1)), Ok(()));
+    assert_eq!(rota.recount(&problem), Ok(()));
+    assert_eq!(problem.unit_of_slot(4), Err(Refusal::Unknown));
+    assert_eq!(problem.rotation_slots(2), Err(Refusal::Unknown));
+}
+
+#[test]
+fn a_job_says_what_the_rota_does() {
+    let mut job = Job {
+        base: days(2),
+        people: vec![ONE; 2],
+        ranges: vec![always(0)],
+        owners: vec![(1, Some(0))],
+        ..Job::default()
+    };
+    assert_eq!(job.run().as_deref(), Ok("S 0 0 60 -\nS 1 1440 1500 0\nP 0 60 120\nP 1 0 0\nU 60\n"));
+    job.owners = vec![(1, Some(1))];
+    assert_eq!(job.run(), Err(Refusal::Unavailable));
+    for person in [2, 255, 256, usize::MAX] {
+        job.owners = vec![(1, Some(person))];
+        assert_eq!(job.run(), Err(Refusal::Unknown));
+    }
+    job.owners = vec![(1, None), (0, None)];
+    assert_eq!(job.run(), Err(Refusal::JobFile));
 }
 
 #[test]

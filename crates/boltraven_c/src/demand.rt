@@ -4,7 +4,7 @@ ghost use mathlib.Core.Path.{_≡_};
 ghost use Rattle.slots.specs.Lent.{demandIs, slotMinutesIs};
 ghost use Rattle.boltraven_c.specs.Demand.{minutesNo, minutesAre};
 
-fn put_length(minutes: Minutes, out: &mut u64) -> u8
+fn put_minutes(minutes: Minutes, out: &mut u64) -> u8
     ensures { λ r. ⌜ r ≡ minutesNo minutes ⌝ }
     ensures { λ _. ⌜ now (out .exit) ≡ minutesAre (now (out .entry)) minutes ⌝ }
 {
@@ -25,7 +25,7 @@ pub extern "C" fn boltraven_demand(slots: usize, starts: &[u32], ends: &[u32], o
         ≡ minutesAre (now (out .entry)) (demandIs slots (now (starts .entry)) (now (ends .entry))) ⌝ }
 {
     let minutes = slots::demand(slots, starts, ends);
-    put_length(minutes, out)
+    put_minutes(minutes, out)
 }
 
 // The minutes of one slot.
@@ -42,5 +42,5 @@ pub extern "C" fn boltraven_slot_minutes(
         ≡ minutesAre (now (out .entry)) (slotMinutesIs slots (now (starts .entry)) (now (ends .entry)) slot) ⌝ }
 {
     let minutes = slots::slot_minutes(slots, starts, ends, slot);
-    put_length(minutes, out)
+    put_minutes(minutes, out)
 }

@@ -8,14 +8,14 @@ use Rattle.boltraven_c.proofs.demand.boltraven_slot_minutes.Tie as tie
 slot-minutes-requires : tie.Need-slot-minutes-requires
 slot-minutes-requires c κs = search needs
 
-put-length-requires : tie.Need-put-length-requires
-put-length-requires c κs = search needs
+put-minutes-requires : tie.Need-put-minutes-requires
+put-minutes-requires c κs = search needs
 
 returns : tie.Need-returns
 returns c =
     let e = c .before .before .slot-minutes .ensures in
-    (c .put-length .ensures .0 ∙ ap minutesNo e, c .put-length .ensures .1 ∙ ap (minutesAre _) e)
+    (c .put-minutes .ensures .0 ∙ ap minutesNo e, c .put-minutes .ensures .1 ∙ ap (minutesAre _) e)
 
 pub boltraven-slot-minutes-spec : {M : Type 1} → statement M
 boltraven-slot-minutes-spec =
-    tie.close (tie.spec slot-minutes-requires put-length-requires returns)
+    tie.close (tie.spec slot-minutes-requires put-minutes-requires returns)

@@ -1,0 +1,267 @@
+/* Boltraven: a duty-rota core. Every function is total: whatever is passed, it answers, and what it refuses it leaves as it was lent.
+
+   Slices. A list is lent by its address and its number of elements, side by side: `const uint32_t *starts, size_t starts_len`. The address
+   must hold that many elements, and must not be null even for none; what may be written must not overlap anything else that is lent. A
+   count of things beside it (`slots`, `people`, `count`) says how many of the elements are meant; a list that has fewer is refused by 2.
+   Elements past those meant, and bits of a set at or past its length, make no difference and are never written.
+
+   Sets. A set of slots is 16 words: slot i is bit i mod 64 of word i div 64. Sets of several people (`avail`, `sets`, `words`) stand one
+   after the other in person order; `people` says how many there are and `person` whose is meant. One set alone (`frozen`) is 16 words.
+
+   Answers. A function that returns uint8_t gives 0, or the number of the refusal, 1 to 13; what it was asked for stands in the lists
+   and behind the addresses (`uint64_t *out`), which stay as they were where it refuses. One that returns uint64_t gives what was asked
+   (below 65,536), or BOLTRAVEN_NOTHING, or BOLTRAVEN_NOTHING + n for the refusal n. A date and a weekday are plain numbers.
+
+   Refusals. 1 a count out of range; 2 a list too short; 3 a bad base slot; 4 a bad range; 5 more than 1,024 slots after the split; 6 a bad
+   capacity or prior; 7 a bad setting; 8 a target past its guard, which no accepted figures reach; 9 bad slots or units; 10 the recount
+   fails; 11 an unknown slot, unit, person or index; 12 a person who is not available; 13 a job file that breaks its layout.
+
+   Settings go as five numbers: fairness 0 or 1; lock 0 or 1; boundary 0 (a rotation every `value` slots) or 1 (on the weekdays of the mask
+   `value`, bit 0 Monday); days, the length of a shift. */
+#ifndef BOLTRAVEN_H
+#define BOLTRAVEN_H
+
+#include <stdbool.h>
+#include <stddef.h>
+#include <stdint.h>
+
+#if SIZE_MAX != UINT64_MAX
+#error "the library is for x86-64"
+#endif
+
+#ifdef __cplusplus
+extern "C" {
+#endif
+
+#define BOLTRAVEN_NOTHING 65536
+#define BOLTRAVEN_NOBODY 255
+#define BOLTRAVEN_SET_WORDS 16
+#define BOLTRAVEN_PEOPLE_MOST 32
+#define BOLTRAVEN_SLOTS_MOST 1024
+#define BOLTRAVEN_RANGES_MOST 1024
+#define BOLTRAVEN_DRAWS_MOST 1024
+#define BOLTRAVEN_FILE_MOST 49152
+#define BOLTRAVEN_LISTING_MOST 44535
+
+/* A draw: the number drawn, and the two numbers that choose. */
+struct boltraven_draw {
+    uint16_t draw;
+    uint16_t first;
+    uint16_t second;
+};
+
+/* ---- Sets: a row of words a person, of `len` slots. */
+
+/* Whether slot i is a member: 1 or 0. */
+uint64_t boltraven_contains(const uint64_t *words, size_t words_len, size_t people, size_t person, size_t len, size_t i);
+
+/* Whether there is no member: 1 or 0. */
+uint64_t boltraven_is_empty(const uint64_t *words, size_t words_len, size_t people, size_t person, size_t len);
+
+/* How many members there are. */
+uint64_t boltraven_count(const uint64_t *words, size_t words_len, size_t people, size_t person, size_t len);
+
+/* The first member at or after `from`, or nothing. */
+uint64_t boltraven_next_set(const uint64_t *words, size_t words_len, size_t people, size_t person, size_t len, size_t from);
+
+/* The last member at or before `from`, or nothing. */
+uint64_t boltraven_prev_set(const uint64_t *words, size_t words_len, size_t people, size_t person, size_t len, size_t from);
+
+/* The first slot after `from` that is no member, or nothing. */
+uint64_t boltraven_next_unset_after(const uint64_t *words, size_t words_len, size_t people, size_t person, size_t len, size_t from);
+
+/* The last slot before `from` that is no member, or nothing. */
+uint64_t boltraven_prev_unset_before(const uint64_t *words, size_t words_len, size_t people, size_t person, size_t len,
+                                     size_t from);
+
+/* The run that holds slot i, both ends in it: 0, or nothing. */
+uint64_t boltraven_run_bounds(const uint64_t *words, size_t words_len, size_t people, size_t person, size_t len, size_t i,
+                              uint64_t *first, uint64_t *last);
+
+/* The next run from the cursor on, and the cursor one past it: 0, or nothing. */
+uint64_t boltraven_next_run(const uint64_t *words, size_t words_len, size_t people, size_t person, size_t len, size_t cursor,
+                            uint64_t *first, uint64_t *last, uint64_t *next);
+
+/* The next member from the cursor on, and the cursor one past it: 0, or nothing. */
+uint64_t boltraven_next_member(const uint64_t *words, size_t words_len, size_t people, size_t person, size_t len, size_t cursor,
+                               uint64_t *at, uint64_t *next);
+
+/* The row with slot i. */
+uint8_t boltraven_insert(uint64_t *words, size_t words_len, size_t people, size_t person, size_t len, size_t i);
+
+/* The row without slot i. */
+uint8_t boltraven_remove(uint64_t *words, size_t words_len, size_t people, size_t person, size_t len, size_t i);
+
+/* Each slot from `from` up to `to`, without `to`, becomes as wanted. */
+uint8_t boltraven_put_stretch(uint64_t *words, size_t words_len, size_t people, size_t person, size_t len, size_t from, size_t to,
+                              bool want);
+
+/* ---- Times: minute 0 is Thursday 1970-01-01 00:00. */
+
+/* The date of a minute, in days from 1970-01-01 on. */
+uint32_t boltraven_date_of(uint32_t minute);
+
+/* The weekday of a date, 0 for Monday. */
+uint32_t boltraven_weekday_of(uint32_t date);
+
+/* ---- Slots, by starts and ends; ranges, by persons, opens and shuts. */
+
+/* Each person's ranges, sorted and merged, and how many. */
+uint64_t boltraven_merged_ranges(size_t people, size_t count, const uint16_t *persons, size_t persons_len,
+                                 const uint32_t *starts, size_t starts_len, const uint32_t *ends, size_t ends_len,
+                                 uint16_t *whose, size_t whose_len, uint32_t *froms, size_t froms_len,
+                                 uint32_t *tos, size_t tos_len);
+
+/* Base slots split at the ends of merged ranges, and how many slots came out: `froms` and `tos` need room for 1,024. */
+uint64_t boltraven_atomise(size_t slots, const uint32_t *starts, size_t starts_len, const uint32_t *ends, size_t ends_len,
+                           size_t people, size_t count, const uint16_t *persons, size_t persons_len,
+                           const uint32_t *opens, size_t opens_len, const uint32_t *shuts, size_t shuts_len,
+                           uint32_t *froms, size_t froms_len, uint32_t *tos, size_t tos_len);
+
+/* Who is available for which slot, as a set a person. */
+uint8_t boltraven_availability(size_t people, size_t slots, const uint32_t *starts, size_t starts_len,
+                               const uint32_t *ends, size_t ends_len, size_t count, const uint16_t *persons, size_t persons_len,
+                               const uint32_t *opens, size_t opens_len, const uint32_t *shuts, size_t shuts_len,
+                               uint64_t *words, size_t words_len);
+
+/* Whether a person is available for a slot: 1 or 0. */
+uint64_t boltraven_is_available(size_t people, size_t slots, const uint64_t *availability, size_t availability_len, size_t person,
+                                size_t slot);
+
+/* The people available for a slot, ascending, and how many. */
+uint64_t boltraven_slot_domain(const uint64_t *avail, size_t avail_len, size_t people, size_t slots, size_t slot,
+                               uint8_t *list, size_t list_len);
+
+/* The minutes of one slot. */
+uint8_t boltraven_slot_minutes(size_t slots, const uint32_t *starts, size_t starts_len, const uint32_t *ends, size_t ends_len,
+                               size_t slot, uint64_t *out);
+
+/* The minutes of all slots. */
+uint8_t boltraven_demand(size_t slots, const uint32_t *starts, size_t starts_len, const uint32_t *ends, size_t ends_len,
+                         uint64_t *out);
+
+/* Marks each slot that ends by the instant in the set `frozen`; how many do. */
+uint64_t boltraven_freeze_before(size_t slots, const uint32_t *starts, size_t starts_len, const uint32_t *ends, size_t ends_len,
+                                 uint64_t *frozen, size_t frozen_len, uint32_t instant);
+
+/* ---- Rotations and units, by the slots that begin them. */
+
+/* The first slots of the rotations, and how many. */
+uint64_t boltraven_rotation_starts(uint8_t fairness, uint8_t lock, uint8_t boundary, uint16_t value, uint16_t days, size_t slots,
+                                   const uint32_t *starts, size_t starts_len, const uint32_t *ends, size_t ends_len,
+                                   uint16_t *firsts, size_t firsts_len);
+
+/* The first slots of the units, and how many: each slot one unlocked, each rotation one locked. */
+uint64_t boltraven_unit_starts(uint8_t fairness, uint8_t lock, uint8_t boundary, uint16_t value, uint16_t days, size_t slots,
+                               const uint32_t *starts, size_t starts_len, const uint32_t *ends, size_t ends_len,
+                               uint16_t *firsts, size_t firsts_len);
+
+/* The slots of a unit: `from` up to `to`, without `to`. */
+uint8_t boltraven_unit_slots(size_t slots, size_t units, const uint16_t *firsts, size_t firsts_len, size_t unit, uint64_t *from,
+                             uint64_t *to);
+
+/* The unit of a slot. */
+uint64_t boltraven_unit_of_slot(size_t slots, size_t units, const uint16_t *firsts, size_t firsts_len, size_t slot);
+
+/* The people available for all slots of a unit, ascending, and how many. */
+uint64_t boltraven_unit_domain(const uint64_t *avail, size_t avail_len, size_t people, size_t slots, size_t units,
+                               const uint16_t *firsts, size_t firsts_len, size_t unit, uint8_t *list, size_t list_len);
+
+/* Whether any slot of a unit is frozen: 1 or 0. */
+uint64_t boltraven_unit_frozen(const uint64_t *frozen, size_t frozen_len, size_t slots, size_t units,
+                               const uint16_t *firsts, size_t firsts_len, size_t unit);
+
+/* The distinct start dates of slots. */
+uint64_t boltraven_covered_days(size_t slots, const uint32_t *starts, size_t starts_len, const uint32_t *ends, size_t ends_len);
+
+/* Minutes a covered day. */
+uint8_t boltraven_minutes_per_day(size_t slots, const uint32_t *starts, size_t starts_len, const uint32_t *ends, size_t ends_len,
+                                  uint64_t *minutes);
+
+/* How long a run is to be. */
+uint8_t boltraven_target_run(uint8_t fairness, uint8_t lock, uint8_t boundary, uint16_t value, uint16_t days, size_t slots,
+                             const uint32_t *starts, size_t starts_len, const uint32_t *ends, size_t ends_len, uint64_t *minutes);
+
+/* The longest run that a person can have, up to the target run. */
+uint8_t boltraven_achievable_run(uint8_t fairness, uint8_t lock, uint8_t boundary, uint16_t value, uint16_t days,
+                                 const uint64_t *avail, size_t avail_len, size_t people, size_t person, size_t slots,
+                                 const uint32_t *starts, size_t starts_len, const uint32_t *ends, size_t ends_len,
+                                 uint64_t *minutes);
+
+/* ---- Targets. */
+
+/* Each person's target, by capacity and prior minutes; they add up to the minutes of all slots, and one may be negative. */
+uint8_t boltraven_compute_targets(size_t people, size_t slots, const uint32_t *starts, size_t starts_len,
+                                  const uint32_t *ends, size_t ends_len, const uint64_t *avail, size_t avail_len,
+                                  const double *capacities, size_t capacities_len, const uint32_t *priors, size_t priors_len,
+                                  uint8_t fairness, int64_t *out, size_t out_len);
+
+/* ---- A rota: an owner a slot, and everybody's set and minutes. */
+
+/* A rota in which nobody owns a slot. */
+uint8_t boltraven_empty(size_t people, size_t slots, uint8_t *owners, size_t owners_len, uint64_t *sets, size_t sets_len,
+                        uint64_t *minutes, size_t minutes_len);
+
+/* Sets and minutes from owners. */
+uint8_t boltraven_from_slots(size_t people, size_t slots, const uint32_t *starts, size_t starts_len,
+                             const uint32_t *ends, size_t ends_len, const uint64_t *avail, size_t avail_len,
+                             const uint8_t *owners, size_t owners_len, uint64_t *sets, size_t sets_len,
+                             uint64_t *minutes, size_t minutes_len);
+
+/* A slot given to a person, or cleared by 255. */
+uint8_t boltraven_assign(size_t people, size_t slots, const uint32_t *starts, size_t starts_len,
+                         const uint32_t *ends, size_t ends_len, const uint64_t *avail, size_t avail_len,
+                         uint8_t *owners, size_t owners_len, uint64_t *sets, size_t sets_len, uint64_t *minutes, size_t minutes_len,
+                         size_t slot, uint8_t owner);
+
+/* The owner of a slot, 255 for nobody. */
+uint8_t boltraven_owner_of_slot(size_t people, size_t slots, const uint8_t *owners, size_t owners_len, size_t slot, uint64_t *out);
+
+/* A person's minutes. */
+uint8_t boltraven_minutes_of(size_t people, const uint64_t *minutes, size_t minutes_len, size_t person, uint64_t *out);
+
+/* How many slots nobody owns. */
+uint8_t boltraven_unassigned_count(size_t people, size_t slots, const uint8_t *owners, size_t owners_len, uint64_t *out);
+
+/* The minutes of the slots that nobody owns. */
+uint8_t boltraven_uncovered_minutes(size_t people, size_t slots, const uint32_t *starts, size_t starts_len,
+                                    const uint32_t *ends, size_t ends_len, const uint8_t *owners, size_t owners_len, uint64_t *out);
+
+/* Whether owners, sets and minutes fit together, and units have one owner each: 0, or 10. */
+uint8_t boltraven_recount(size_t people, size_t slots, size_t units, const uint32_t *starts, size_t starts_len,
+                          const uint32_t *ends, size_t ends_len, const uint64_t *avail, size_t avail_len,
+                          const uint16_t *firsts, size_t firsts_len, const uint8_t *owners, size_t owners_len,
+                          const uint64_t *sets, size_t sets_len, const uint64_t *minutes, size_t minutes_len);
+
+/* The same, units aside. */
+uint8_t boltraven_recount_slots(size_t people, size_t slots, const uint32_t *starts, size_t starts_len,
+                                const uint32_t *ends, size_t ends_len, const uint64_t *avail, size_t avail_len,
+                                const uint8_t *owners, size_t owners_len, const uint64_t *sets, size_t sets_len,
+                                const uint64_t *minutes, size_t minutes_len);
+
+/* Draws in three columns, played in order; an answer byte each: 0 acted, 1 no move, 2 choice outside. */
+uint8_t boltraven_play(size_t people, size_t slots, size_t units, size_t count, const uint32_t *starts, size_t starts_len,
+                       const uint32_t *ends, size_t ends_len, const uint64_t *avail, size_t avail_len,
+                       const uint16_t *firsts, size_t firsts_len, const uint64_t *frozen, size_t frozen_len,
+                       uint8_t *owners, size_t owners_len, uint64_t *sets, size_t sets_len, uint64_t *minutes, size_t minutes_len,
+                       const uint16_t *kinds, size_t kinds_len, const uint16_t *ones, size_t ones_len,
+                       const uint16_t *twos, size_t twos_len, uint8_t *answers, size_t answers_len);
+
+/* The same of draws as structs. */
+uint8_t boltraven_play_draws(size_t people, size_t slots, size_t units, size_t count, const uint32_t *starts, size_t starts_len,
+                             const uint32_t *ends, size_t ends_len, const uint64_t *avail, size_t avail_len,
+                             const uint16_t *firsts, size_t firsts_len, const uint64_t *frozen, size_t frozen_len,
+                             uint8_t *owners, size_t owners_len, uint64_t *sets, size_t sets_len,
+                             uint64_t *minutes, size_t minutes_len, const struct boltraven_draw *draws, size_t draws_len,
+                             uint8_t *answers, size_t answers_len);
+
+/* ---- A whole job. */
+
+/* A job file's listing, at the front of `out`, and its length; `out` needs room for BOLTRAVEN_LISTING_MOST bytes. */
+uint8_t boltraven_run_job(const uint8_t *file, size_t file_len, uint8_t *out, size_t out_len, uint64_t *length);
+
+#ifdef __cplusplus
+}
+#endif
+
+#endif

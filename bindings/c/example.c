@@ -1,0 +1,79 @@
+/* One base slot of two hours and two people: the slots after the split, who can cover which, targets, a rota, one draw played, and the
+   listing that a job of the same numbers has. Then one refusal. */
+#include <inttypes.h>
+#include <stdio.h>
+#include <stdlib.h>
+
+#include "boltraven.h"
+
+enum { PEOPLE = 2, RANGES = 2, DRAWS = 1, SLOTS = BOLTRAVEN_SLOTS_MOST, WORDS = PEOPLE * BOLTRAVEN_SET_WORDS };
+
+/* What is planned: the slots, who can cover them, and the units. */
+static uint32_t starts[SLOTS], ends[SLOTS];
+static uint64_t avail[WORDS], frozen[BOLTRAVEN_SET_WORDS];
+static uint16_t firsts[SLOTS];
+static size_t slots, units;
+
+/* The rota. */
+static uint8_t owners[SLOTS];
+static uint64_t sets[WORDS], minutes[PEOPLE];
+static int64_t targets[PEOPLE];
+
+/* Ends the program where something is refused that should not be. */
+static void done(const char *what, uint64_t refusal) {
+    if (refusal == 0) return;
+    fprintf(stderr, "%s: refused by %" PRIu64 "\n", what, refusal);
+    exit(1);
+}
+
+/* A number that was asked for. */
+static size_t answer(const char *what, uint64_t answered) {
+    if (answered >= BOLTRAVEN_NOTHING) done(what, answered - BOLTRAVEN_NOTHING);
+    return answered;
+}
+
+static void prepare(void) {
+    const uint32_t base_starts[] = {0}, base_ends[] = {120};
+    const uint16_t persons[RANGES] = {0, 1};
+    const uint32_t opens[RANGES] = {0, 60}, shuts[RANGES] = {120, 180};
+    const double capacities[PEOPLE] = {1.0, 1.0};
+    const uint32_t priors[PEOPLE] = {0, 0};
+    slots = answer("atomise", boltraven_atomise(1, base_starts, 1, base_ends, 1, PEOPLE, RANGES, persons, RANGES, opens, RANGES, shuts,
+                                                RANGES, starts, SLOTS, ends, SLOTS));
+    done("availability", boltraven_availability(PEOPLE, slots, starts, SLOTS, ends, SLOTS, RANGES, persons, RANGES, opens, RANGES, shuts,
+                                                RANGES, avail, WORDS));
+    units = answer("unit_starts", boltraven_unit_starts(0, 0, 0, 1, 1, slots, starts, SLOTS, ends, SLOTS, firsts, SLOTS));
+    done("compute_targets", boltraven_compute_targets(PEOPLE, slots, starts, SLOTS, ends, SLOTS, avail, WORDS, capacities, PEOPLE, priors,
+                                                      PEOPLE, 0, targets, PEOPLE));
+}
+
+/* Person 0 has both slots; the draw hands the second to the second of those who can cover it. */
+static uint8_t play(void) {
+    const struct boltraven_draw draws[DRAWS] = {{0, 1, 1}};
+    uint8_t answers[DRAWS];
+    owners[0] = owners[1] = 0;
+    done("from_slots", boltraven_from_slots(PEOPLE, slots, starts, SLOTS, ends, SLOTS, avail, WORDS, owners, SLOTS, sets, WORDS, minutes,
+                                            PEOPLE));
+    done("play_draws", boltraven_play_draws(PEOPLE, slots, units, DRAWS, starts, SLOTS, ends, SLOTS, avail, WORDS, firsts, SLOTS, frozen,
+                                            BOLTRAVEN_SET_WORDS, owners, SLOTS, sets, WORDS, minutes, PEOPLE, draws, DRAWS, answers,
+                                            DRAWS));
+    return answers[0];
+}
+
+static void list(uint8_t answered) {
+    uint64_t uncovered;
+    for (size_t k = 0; k < slots; k++) printf("S %zu %" PRIu32 " %" PRIu32 " %d\n", k, starts[k], ends[k], owners[k]);
+    for (size_t p = 0; p < PEOPLE; p++) printf("P %zu %" PRIu64 " %" PRId64 "\n", p, minutes[p], targets[p]);
+    printf("D 0 %c\n", "ANC"[answered]);
+    done("uncovered_minutes", boltraven_uncovered_minutes(PEOPLE, slots, starts, SLOTS, ends, SLOTS, owners, SLOTS, &uncovered));
+    printf("U %" PRIu64 "\n", uncovered);
+}
+
+int main(void) {
+    prepare();
+    list(play());
+    /* person 1 is not there for slot 0 */
+    printf("R %d\n", boltraven_assign(PEOPLE, slots, starts, SLOTS, ends, SLOTS, avail, WORDS, owners, SLOTS, sets, WORDS, minutes, PEOPLE,
+                                      0, 1));
+    return 0;
+}

@@ -1,0 +1,257 @@
+//! What is due for a job file: the listing that the Rust's answers make, or the number of its refusal by the paper's table. It is worked
+//! out from the file's bytes alone, as the paper says them; nothing of the library is asked.
+
+use on_call::model::problem::Problem;
+
+use crate::days::MINUTES_MOST;
+use crate::jobs::JobCase;
+use crate::problems::{Person, ProblemCase, Range, Settings};
+use crate::rotas::NOBODY;
+use crate::sets::{PEOPLE_MOST, SLOTS_MOST};
+
+/// The most bytes of a job file, and the most ranges and draws.
+pub const FILE_MOST: usize = 49_152;
+const RANGES_MOST: usize = 1024;
+pub const DRAWS_MOST: usize = 1024;
+
+/// The kinds: their numbers, and the size of a body.
+pub const SETTINGS: u16 = 1;
+pub const BASE: u16 = 2;
+pub const PERSON: u16 = 3;
+pub const RANGE: u16 = 4;
+pub const FREEZE: u16 = 5;
+pub const OWNER: u16 = 6;
+pub const DRAW: u16 = 7;
+
+fn body_size(kind: u16) -> Option<usize> {
+    match kind {
+        SETTINGS | BASE => Some(8),
+        PERSON => Some(12),
+        RANGE => Some(10),
+        FREEZE | OWNER => Some(4),
+        DRAW => Some(6),
+        _ => None,
+    }
+}
+
+/// A record: its kind and its body.
+pub type Record = (u16, Vec<u8>);
+
+/// The bytes of records, each with the length of its body before it.
+pub fn file_of(records: &[Record]) -> Vec<u8> {
+    let mut file = Vec::new();
+    for (kind, body) in records {
+        file.extend((body.len() as u16).to_le_bytes());
+        file.extend(kind.to_le_bytes());
+        file.extend(body);
+    }
+    file
+}
+
+/// The listing of a job file, or the number of its refusal.
+pub fn listing_of(file: &[u8]) -> Result<String, u8> {
+    let job = read(file).ok_or(13)?;
+    match numbers(&job).first() {
+        Some(&number) => Err(number),
+        None => Ok(job.listing()),
+    }
+}
+
+/// What the program writes for a job file: the listing, or the line of the refusal.
+pub fn text_of(file: &[u8]) -> String {
+    listing_of(file).unwrap_or_else(|number| format!("R {number}\n"))
+}
+
+/// A file's records, where they are whole and nothing is left over.
+fn records(file: &[u8]) -> Option<Vec<Record>> {
+    let mut records = Vec::new();
+    let mut rest = file;
+    while !rest.is_empty() {
+        let length = usize::from(u16::from_le_bytes(rest.get(0..2)?.try_into().ok()?));
+        let kind = u16::from_le_bytes(rest.get(2..4)?.try_into().ok()?);
+        records.push((kind, rest.get(4..4 + length)?.to_vec()));
+        rest = &rest[4 + length..];
+    }
+    Some(records)
+}
+
+/// The job of a file that keeps the layout; nothing is 13.
+pub fn read(file: &[u8]) -> Option<JobCase> {
+    if file.len() > FILE_MOST {
+        return None;
+    }
+    let records = records(file)?;
+    if records.iter().any(|(kind, body)| body_size(*kind) != Some(body.len())) {
+        return None;
+    }
+    if records.windows(2).any(|pair| pair[0].0 > pair[1].0) {
+        return None;
+    }
+    let of = |wanted: u16| {
+        records
+            .iter()
+            .filter(move |(kind, _)| *kind == wanted)
+            .map(|(_, body)| body.as_slice())
+    };
+    if of(SETTINGS).count() != 1 || of(FREEZE).count() > 1 || of(SETTINGS).any(|body| body[3] != 0) {
+        return None;
+    }
+    let owners: Vec<(u16, u16)> = of(OWNER).map(|body| (two(body, 0), two(body, 2))).collect();
+    if owners.windows(2).any(|pair| pair[0].0 >= pair[1].0) {
+        return None;
+    }
+    let settings = of(SETTINGS).map(|body| Settings {
+        fairness: body[0],
+        lock: body[1],
+        boundary: body[2],
+        value: two(body, 4),
+        days: two(body, 6),
+    });
+    Some(JobCase {
+        problem: ProblemCase {
+            base: of(BASE).map(|body| (four(body, 0), four(body, 4))).collect(),
+            ranges: of(RANGE).map(range).collect(),
+            people: of(PERSON).map(person).collect(),
+            settings: settings.last()?,
+        },
+        freeze: of(FREEZE).map(|body| four(body, 0)).last(),
+        owners,
+        draws: of(DRAW).map(|body| (two(body, 0), two(body, 2), two(body, 4))).collect(),
+    })
+}
+
+fn range(body: &[u8]) -> Range {
+    Range {
+        person: usize::from(two(body, 0)),
+        start: four(body, 2),
+        end: four(body, 6),
+    }
+}
+
+fn person(body: &[u8]) -> Person {
+    let bits = u64::from(four(body, 0)) | u64::from(four(body, 4)) << 32;
+    Person {
+        capacity: f64::from_bits(bits),
+        prior: four(body, 8),
+    }
+}
+
+fn two(body: &[u8], at: usize) -> u16 {
+    u16::from_le_bytes([body[at], body[at + 1]])
+}
+
+fn four(body: &[u8], at: usize) -> u32 {
+    u32::from(two(body, at)) | u32::from(two(body, at + 2)) << 16
+}
+
+/// Every number of the table that a job earns, the lowest first, as far as one can be told beside a lower one: atomic slots want sound
+/// base slots and ranges, and owners want atomic slots and sound settings.
+pub fn numbers(job: &JobCase) -> Vec<u8> {
+    let case = &job.problem;
+    let judged = [
+        (1, !counts_ok(job)),
+        (3, !base_ok(&case.base)),
+        (4, !case.ranges.iter().all(|range| range_ok(range, case.people.len()))),
+    ];
+    let mut numbers: Vec<u8> = judged.iter().filter(|(_, earned)| *earned).map(|(number, _)| *number).collect();
+    let cut = numbers.is_empty().then(|| plain(case).rust().slot_count());
+    let too_many = cut.is_some_and(|slots| slots > SLOTS_MOST);
+    numbers.extend(too_many.then_some(5));
+    numbers.extend((!case.people.iter().all(figures_ok)).then_some(6));
+    numbers.extend((!settings_ok(case.settings)).then_some(7));
+    if numbers.iter().all(|&number| number == 6) {
+        let settings = case.settings;
+        numbers.extend(owners_numbers(job, &ProblemCase { settings, ..plain(case) }.rust()));
+    }
+    numbers
+}
+
+/// The same base slots and ranges, with figures and settings that nothing is wrong with.
+fn plain(case: &ProblemCase) -> ProblemCase {
+    ProblemCase {
+        people: vec![Person { capacity: 1.0, prior: 0 }; case.people.len()],
+        settings: Settings {
+            fairness: 0,
+            lock: 0,
+            boundary: 0,
+            value: 1,
+            days: 1,
+        },
+        ..case.clone()
+    }
+}
+
+fn counts_ok(job: &JobCase) -> bool {
+    let case = &job.problem;
+    (1..=SLOTS_MOST).contains(&case.base.len())
+        && (1..=PEOPLE_MOST).contains(&case.people.len())
+        && case.ranges.len() <= RANGES_MOST
+        && job.draws.len() <= DRAWS_MOST
+}
+
+fn base_ok(base: &[(u32, u32)]) -> bool {
+    let sound = |&(start, end): &(u32, u32)| start < end && i64::from(end) <= MINUTES_MOST;
+    base.iter().all(sound) && base.windows(2).all(|pair| pair[0].1 <= pair[1].0)
+}
+
+fn range_ok(range: &Range, people: usize) -> bool {
+    range.start <= range.end && i64::from(range.end) <= MINUTES_MOST && range.person < people
+}
+
+fn figures_ok(person: &Person) -> bool {
+    (0.0..=1000.0).contains(&person.capacity) && i64::from(person.prior) <= MINUTES_MOST
+}
+
+fn settings_ok(settings: Settings) -> bool {
+    let value_most = match settings.boundary {
+        0 => 1024,
+        1 => 127,
+        _ => return false,
+    };
+    settings.fairness <= 1 && settings.lock <= 1 && settings.value <= value_most && settings.days <= 366
+}
+
+/// 10, 11 and 12: the owners as they are written, over the slots and units that the Rust made.
+fn owners_numbers(job: &JobCase, problem: &Problem) -> Vec<u8> {
+    let nobody = u16::from(NOBODY);
+    let (slots, people) = (problem.slot_count(), problem.human_count());
+    let mut written = vec![nobody; slots];
+    for &(slot, owner) in &job.owners {
+        if usize::from(slot) < slots {
+            written[usize::from(slot)] = owner;
+        }
+    }
+    let known = |owner: u16| owner == nobody || usize::from(owner) < people;
+    let able = |slot: usize, owner: u16| owner == nobody || !known(owner) || problem.is_available(usize::from(owner), slot);
+    let mut units = problem.units.iter();
+    let judged = [
+        (
+            10,
+            units.any(|unit| written[unit.clone()].windows(2).any(|pair| pair[0] != pair[1])),
+        ),
+        (
+            11,
+            job.owners.iter().any(|&(slot, owner)| usize::from(slot) >= slots || !known(owner)),
+        ),
+        (12, written.iter().enumerate().any(|(slot, &owner)| !able(slot, owner))),
+    ];
+    judged.iter().filter(|(_, earned)| *earned).map(|(number, _)| *number).collect()
+}
+
+#[cfg(test)]
+mod tests {
+    use super::{listing_of, read};
+    use crate::jobs::JobCase;
+    use crate::seed::Seed;
+
+    /// What a job's file says is the job again, and its listing is the job's.
+    #[test]
+    fn files_are_read_back() {
+        for k in 0..200 {
+            let job = JobCase::new(&mut Seed::new(k));
+            let file = job.file();
+            assert_eq!(read(&file).map(|again| again.file()), Some(file.clone()));
+            assert!(matches!(listing_of(&file), Ok(_) | Err(5)));
+        }
+    }
+}
