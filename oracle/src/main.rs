@@ -1,5 +1,6 @@
 //! The Rust as oracle. `oracle/compare` builds both sides and runs `oracle compare`.
 
+mod bench;
 mod call;
 mod days;
 mod figures;
@@ -73,7 +74,8 @@ const SHOWN: u64 = 20;
 
 const USAGE: &str = "usage: oracle compare N SEED KIND|every | case KIND CASE-SEED | days | time N
        oracle program N SEED COMMAND.. | rules N SEED | store KIND N SEED FOLDER
-       oracle job SEED | listing SEED | limits | listing-of FILE | moves BLOCKS DRAWS SEED FILE";
+       oracle job SEED | listing SEED | limits | listing-of FILE | moves BLOCKS DRAWS SEED FILE
+       oracle bench rows | bench SEED [COUNTS] | bench SEED ROW ours|rust 1|2";
 
 fn main() -> ExitCode {
     let words: Vec<String> = std::env::args().skip(1).collect();
@@ -88,6 +90,18 @@ fn main() -> ExitCode {
             Err(_) => usage(),
         },
         ["days"] => ended(every_day()),
+        ["bench", "rows"] => {
+            bench::names();
+            ExitCode::SUCCESS
+        }
+        ["bench", seed, counts @ ..] if counts.len() < 2 => match seed.parse() {
+            Ok(seed) => ended(bench::table(seed, counts.first().copied())),
+            Err(_) => usage(),
+        },
+        ["bench", seed, row, side, times] => match (seed.parse(), times.parse()) {
+            (Ok(seed), Ok(times)) => ended(bench::one(seed, row, side, times).map(|()| 0)),
+            _ => usage(),
+        },
         ["program", n, seed, _, ..] => match (n.parse(), seed.parse()) {
             (Ok(n), Ok(seed)) => ended(program::compare(n, seed, &words[3..])),
             _ => usage(),

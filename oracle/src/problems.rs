@@ -59,6 +59,11 @@ const WEEKDAYS: [Weekday; 7] = [
 impl ProblemCase {
     /// The Rust's problem.
     pub fn rust(&self) -> Problem {
+        build(&self.config())
+    }
+
+    /// What the Rust builds it from.
+    pub fn config(&self) -> Config {
         let humans = (0..self.people.len()).map(|person| (name(person), self.human(person))).collect();
         let boundary = if self.settings.boundary == 0 {
             RotationBoundary::EverySlots(usize::from(self.settings.value))
@@ -66,7 +71,7 @@ impl ProblemCase {
             let listed = |day: &usize| self.settings.value >> day & 1 == 1;
             RotationBoundary::DayOfWeek((0..7).filter(listed).map(|day| WEEKDAYS[day]).collect())
         };
-        let config = Config {
+        Config {
             constraints: vec![Constraint {
                 ranges: self.base.iter().map(|&(start, end)| time_range(start, end)).collect(),
             }],
@@ -83,8 +88,7 @@ impl ProblemCase {
             },
             rules: Rules::default(),
             weights: Weights::default(),
-        };
-        Problem::build(&config, instant(0), instant(MINUTES_MOST)).expect("there are base slots")
+        }
     }
 
     fn human(&self, person: usize) -> Human {
@@ -98,6 +102,11 @@ impl ProblemCase {
             preferences: vec![],
         }
     }
+}
+
+/// The Rust's problem over the whole range of times.
+pub fn build(config: &Config) -> Problem {
+    Problem::build(config, instant(0), instant(MINUTES_MOST)).expect("there are base slots")
 }
 
 /// A person's name: the Rust puts people in the order of their names.

@@ -37,6 +37,7 @@ pub const NOBODY: u8 = 255;
 const NOTHING: u64 = 65_536;
 
 /// The refusal of a number that the library gave.
+#[cold]
 fn refused(number: u64) -> Refusal {
     match u8::try_from(number).map(Refusal::try_from) {
         Ok(Ok(refusal)) => refusal,
@@ -45,6 +46,7 @@ fn refused(number: u64) -> Refusal {
 }
 
 /// 0, or a refusal.
+#[inline]
 fn done(number: u8) -> Result<(), Refusal> {
     match number {
         0 => Ok(()),
@@ -53,6 +55,7 @@ fn done(number: u8) -> Result<(), Refusal> {
 }
 
 /// A count, or a refusal.
+#[inline]
 fn counted(number: u64) -> Result<usize, Refusal> {
     match number {
         k if k < NOTHING => Ok(k as usize),
@@ -61,6 +64,7 @@ fn counted(number: u64) -> Result<usize, Refusal> {
 }
 
 /// A slot, nothing, or a refusal.
+#[inline]
 fn found(number: u64) -> Result<Option<usize>, Refusal> {
     match number {
         NOTHING => Ok(None),
@@ -69,6 +73,7 @@ fn found(number: u64) -> Result<Option<usize>, Refusal> {
 }
 
 /// Yes is 1, no is 0, or a refusal.
+#[inline]
 fn told(number: u64) -> Result<bool, Refusal> {
     match number {
         0 => Ok(false),
@@ -78,6 +83,7 @@ fn told(number: u64) -> Result<bool, Refusal> {
 }
 
 /// 0 where the numbers beside it were written, nothing, or a refusal.
+#[inline]
 fn wrote(number: u64) -> Result<bool, Refusal> {
     match number {
         0 => Ok(true),
@@ -86,44 +92,52 @@ fn wrote(number: u64) -> Result<bool, Refusal> {
     }
 }
 
-// ---- slot sets, as rows of words: `words` holds 16 words for each of `people`, and `person`'s are meant
+// ---- slot sets, as rows of words: `words` holds 16 words for each of `people`, and `person`'s are meant. A call is short: it is inlined.
 
 /// Whether slot i is a member. Refusals: 1, 2, 11.
+#[inline]
 pub fn contains(words: &[u64], people: usize, person: usize, len: usize, i: usize) -> Result<bool, Refusal> {
     told(unsafe { sys::boltraven_contains(words.as_ptr(), words.len(), people, person, len, i) })
 }
 
 /// Whether the row has no member. Refusals: 1, 2, 11.
+#[inline]
 pub fn is_empty(words: &[u64], people: usize, person: usize, len: usize) -> Result<bool, Refusal> {
     told(unsafe { sys::boltraven_is_empty(words.as_ptr(), words.len(), people, person, len) })
 }
 
 /// How many members the row has. Refusals: 1, 2, 11.
+#[inline]
 pub fn count(words: &[u64], people: usize, person: usize, len: usize) -> Result<usize, Refusal> {
     counted(unsafe { sys::boltraven_count(words.as_ptr(), words.len(), people, person, len) })
 }
 
 /// The first member at or after `from`. Refusals: 1, 2, 11.
+#[inline]
 pub fn next_set(words: &[u64], people: usize, person: usize, len: usize, from: usize) -> Result<Option<usize>, Refusal> {
     found(unsafe { sys::boltraven_next_set(words.as_ptr(), words.len(), people, person, len, from) })
 }
 
 /// The last member at or before `from`. Refusals: 1, 2, 11.
+#[inline]
 pub fn prev_set(words: &[u64], people: usize, person: usize, len: usize, from: usize) -> Result<Option<usize>, Refusal> {
     found(unsafe { sys::boltraven_prev_set(words.as_ptr(), words.len(), people, person, len, from) })
 }
 
 /// The first slot after `from`, below the length, that is no member. Refusals: 1, 2, 11.
+#[inline]
 pub fn next_unset_after(words: &[u64], people: usize, person: usize, len: usize, from: usize) -> Result<Option<usize>, Refusal> {
     found(unsafe { sys::boltraven_next_unset_after(words.as_ptr(), words.len(), people, person, len, from) })
 }
 
 /// The last slot before `from`, below the length, that is no member. Refusals: 1, 2, 11.
+#[inline]
 pub fn prev_unset_before(words: &[u64], people: usize, person: usize, len: usize, from: usize) -> Result<Option<usize>, Refusal> {
     found(unsafe { sys::boltraven_prev_unset_before(words.as_ptr(), words.len(), people, person, len, from) })
 }
 
 /// The run that holds slot i: true, with both its ends written; false, where i is no member. Refusals: 1, 2, 11.
+#[inline]
 pub fn run_bounds(
     words: &[u64],
     people: usize,
@@ -137,6 +151,7 @@ pub fn run_bounds(
 }
 
 /// The next run from the cursor on: true, with both its ends and the next cursor written; false at the end. Refusals: 1, 2, 11.
+#[inline]
 pub fn next_run(
     words: &[u64],
     people: usize,
@@ -151,6 +166,7 @@ pub fn next_run(
 }
 
 /// The next member from the cursor on: true, with its index and the next cursor written; false at the end. Refusals: 1, 2, 11.
+#[inline]
 pub fn next_member(
     words: &[u64],
     people: usize,
@@ -164,11 +180,13 @@ pub fn next_member(
 }
 
 /// Puts slot i into the row. Refusals: 1, 2, 11.
+#[inline]
 pub fn insert(words: &mut [u64], people: usize, person: usize, len: usize, i: usize) -> Result<(), Refusal> {
     done(unsafe { sys::boltraven_insert(words.as_mut_ptr(), words.len(), people, person, len, i) })
 }
 
 /// Takes slot i out of the row. Refusals: 1, 2, 11.
+#[inline]
 pub fn remove(words: &mut [u64], people: usize, person: usize, len: usize, i: usize) -> Result<(), Refusal> {
     done(unsafe { sys::boltraven_remove(words.as_mut_ptr(), words.len(), people, person, len, i) })
 }

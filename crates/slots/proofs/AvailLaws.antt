@@ -103,7 +103,7 @@ spaced-after from [] s k h = absurd (not-suc-le-zero h)
 spaced-after from (x ∷ l) s zero h = s .0
 spaced-after from (x ∷ l) s (suc k) h = omega (arith, spaced-after (suc (closes x)) l (s .2) k (omega arith), s .0, s .1)
 
-spaced-order : (from : ℕ) (l : List ℕ) → Spaced from l → (k j : ℕ) → k < j → j < length l
+pub spaced-order : (from : ℕ) (l : List ℕ) → Spaced from l → (k j : ℕ) → k < j → j < length l
     → (opens (getD l k 0) < closes (getD l k 0)) × (closes (getD l k 0) < opens (getD l j 0))
 spaced-order from [] s k j h g = absurd (not-suc-le-zero g)
 spaced-order from (x ∷ l) s zero zero h g = absurd (omega arith)

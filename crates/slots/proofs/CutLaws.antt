@@ -1,106 +1,19 @@
--- Cuts and atomic slots: the next cut, the pieces of one slot, and of all. Assumes nothing.
+-- Cuts and atomic slots: the pieces of one slot, and of all. Assumes nothing.
 use mathlib.Core.Path.{_≡_, refl, sym, ap, ap₂, _∙_}
-use mathlib.Core.Bool.{Bool, true, false, _&&_, _||_, cond, and-false, or-false, or-assoc}
+use mathlib.Core.Bool.{Bool, true, false, _&&_, cond, and-false}
 use mathlib.Core.Logic.{⊎-elim}
 use mathlib.Core.List.{List, [], _∷_, _++_, append-assoc, append-nil}
 use Prim.Native.Nat.{ℕ, zero, suc, _+_, _-_, _≤_, _<_}
 use native.Mathlib.Numerals.{add-one}
 use native.Mathlib.Omega.{arith}
-use borrow.Author.Tests.{ltb-true, lt-ltb, le-ltb, le-leb, lt-leb, eq-eqb, ne-eqb}
-use lib.Dec.{ltb, eqb}
+use borrow.Author.Tests.{lt-ltb, le-ltb, le-leb, lt-leb}
+use lib.Dec.{ltb}
 use lib.ListN.{length, getD, take, set, length-append, length-set}
 use lib.Seq.{take-suc, take-suc-set, length-take-le}
 use Rattle.paper.specs.Count.{among}
-use Rattle.paper.proofs.Logic.{by-test, lt-or-ge, both, and-true, or-left, or-second, and-stops}
+use Rattle.paper.proofs.Logic.{lt-or-ge, and-true, and-stops}
 use Rattle.paper.proofs.Count.{among-in, among-out}
-use Rattle.slots.specs.Ranges.{anyOf, startOf, endOf}
-use Rattle.slots.specs.Atomic.{startsOrEnds, isCut, cutAfter, cutsIn, atomStarts, atomEnds, orFull, NextCut, nearer, Grown}
-use Rattle.slots.proofs.Merging.{any-append}
-
--- ---- the next cut
-
--- r is the first minute that passes p strictly between two minutes, or the later of them
-pub record Near (p : ℕ → Bool) (after end r : ℕ) : Type 0 where
-  pub later : after < r
-  pub most : r ≤ end
-  pub cut : r < end → p r ≡ true
-  pub none : (t : ℕ) → after < t → t < r → p t ≡ false
-
-or-none : (a b : Bool) → a ≡ false → b ≡ false → a || b ≡ false
-or-none a b f g = simp (f, g)
-
--- one minute more that passes
-near-more : (p : ℕ → Bool) (after end b c r : ℕ) → Near p after end b → r ≡ nearer after b c → Near (λ t. p t || eqb c t) after end r
-unfolding nearer
-near-more p after end b c r N e =
-    by-test (ltb after c && ltb c b) _
-    (λ t.
-    let w = both (ltb after c) (ltb c b) t in
-    let x = ltb-true after c (w .0) in
-    let y = ltb-true c b (w .1) in
-    let q : r ≡ c = e ∙ simp t in
-    rw q
-    (record {
-      later = x;
-      most = omega (arith, N .most);
-      cut = λ h. or-second (p c) (eqb c c) (eq-eqb c c refl);
-      none = λ t a d. or-none (p t) (eqb c t) (N .none t a (omega arith)) (ne-eqb c t (λ z. omega arith));
-    }))
-    (λ f.
-    let q : r ≡ b = e ∙ simp f in
-    rw q
-    (record {
-      later = N .later;
-      most = N .most;
-      cut = λ h. or-left (p b) (eqb c b) (N .cut h);
-      none = λ t a d. or-none (p t) (eqb c t) (N .none t a d)
-          (ne-eqb c t (λ z. mathlib.Core.Bool.true≢false (sym (and-true _ _ (lt-ltb after c (omega arith)) (lt-ltb c b (omega arith)))
-          ∙ f)));
-    }))
-
-near-same : (p q : ℕ → Bool) (after end r : ℕ) → ((t : ℕ) → p t ≡ q t) → Near p after end r → Near q after end r
-near-same p q after end r f N =
-    record {
-      later = N .later;
-      most = N .most;
-      cut = λ h. sym (f r) ∙ N .cut h;
-      none = λ t a b. sym (f t) ∙ N .none t a b;
-    }
-
-cut-none : (t : ℕ) → isCut [] t ≡ false
-unfolding isCut anyOf
-cut-none t = refl
-
-cut-more : (l : List ℕ) (x t : ℕ) → (isCut l t || eqb (startOf x) t) || eqb (endOf x) t ≡ isCut (l ++ (x ∷ [])) t
-unfolding isCut startsOrEnds anyOf
-cut-more l x t =
-    or-assoc (anyOf (startsOrEnds t) l) (eqb (startOf x) t) (eqb (endOf x) t)
-    ∙ ap (λ (b : Bool). anyOf (startsOrEnds t) l || b) (sym (or-false (eqb (startOf x) t || eqb (endOf x) t)))
-    ∙ sym (any-append (startsOrEnds t) l (x ∷ []))
-
-pub cuts-begin : (after end : ℕ) → after < end → (keys : List ℕ) → Near (isCut (take 0 keys)) after end end
-cuts-begin after end h keys =
-    record { later = h; most = omega arith; cut = λ g. absurd (omega arith); none = λ t a b. cut-none t }
-
-pub cuts-go : (keys : List ℕ) (i after end b s e u v : ℕ) → i < length keys → Near (isCut (take i keys)) after end b
-    → s ≡ startOf (getD keys i 0) → u ≡ nearer after b s → e ≡ endOf (getD keys i 0) → v ≡ nearer after u e
-    → Near (isCut (take (i + 1) keys)) after end v
-cuts-go keys i after end b s e u v h N a c d f =
-    let x = getD keys i 0 in
-    let l : take (i + 1) keys ≡ take i keys ++ (x ∷ []) = ap (λ (n : ℕ). take n keys) (add-one i) ∙ take-suc keys i 0 h in
-    rw l
-    (near-same (λ t. (isCut (take i keys) t || eqb (startOf x) t) || eqb (endOf x) t) (isCut (take i keys ++ (x ∷ []))) after end v
-    (cut-more (take i keys) x)
-    (near-more (λ t. isCut (take i keys) t || eqb (startOf x) t) after end u (endOf x) v
-    (near-more (isCut (take i keys)) after end b (startOf x) u N (c ∙ ap (nearer after b) a))
-    (f ∙ ap (nearer after u) d)))
-
-pub cuts-end : (keys : List ℕ) (i n after end b : ℕ) → i ≤ n → n ≤ i → Near (isCut (take i keys)) after end b
-    → NextCut (take n keys) after end b
-cuts-end keys i n after end b g h N =
-    let q : i ≡ n = omega arith in
-    let M : Near (isCut (take n keys)) after end b = rw q at N in
-    record { later = M .later; most = M .most; cut = M .cut; none = M .none }
+use Rattle.slots.specs.Atomic.{isCut, cutAfter, cutsIn, atomStarts, atomEnds, orFull, NextCut, Grown}
 
 -- ---- the cuts inside one slot
 

@@ -10,6 +10,7 @@ pub mod MergedLaws
 pub mod CutLaws
 pub mod AtomLaws
 pub mod AvailLaws
+pub mod EdgeLaws
 pub mod SplitLaws
 pub mod Meaning
 pub mod Cases

@@ -10,7 +10,7 @@ use Rattle.paper.specs.Count.{among}
 use Rattle.slotset.specs.declared.Counted.{Counted}
 use Rattle.slotset.specs.Answers.{countedAs, wordsAs}
 use Rattle.slots.specs.Lent.{slotRoomOk, slotsOk}
-use Rattle.slots.specs.Ranges.{anyOf, Ranges, rangeCountOk, rangeRoomOk, rangesOk, startOf, endOf, mergedOf}
+use Rattle.slots.specs.Ranges.{anyOf, Ranges, rangeCountOk, rangeRoomOk, rangesOk, personOf, startOf, endOf, opens, closes, mergedOf, Spaced}
 use Rattle.slots.specs.Merged.{written}
 
 -- minute t is a start or an end of a merged range
@@ -128,6 +128,30 @@ pub record NextCut (merged : List ℕ) (after end r : ℕ) : Type 0 where
   pub most : r ≤ end
   pub cut : r < end → isCut merged r ≡ true
   pub none : (t : ℕ) → after < t → t < r → isCut merged t ≡ false
+
+-- what is known of the merged ranges where they are held, as the first n of these numbers
+pub record HeldMerged (keys : List ℕ) (n : ℕ) : Type 0 where
+  pub few : n ≤ 1024
+  pub fits : n ≤ length keys
+  pub spaced : Spaced 0 (take n keys)
+  pub known : (k : ℕ) → k < n → personOf (getD keys k 0) < 32
+
+-- a range opens or closes at that place of the line of everybody's minutes
+unfoldable pub opensOrCloses : ℕ → ℕ → Bool
+opensOrCloses q x = eqb (opens x) q || eqb (closes x) q
+
+unfoldable pub isEdge : List ℕ → ℕ → Bool
+isEdge merged q = anyOf (opensOrCloses q) merged
+
+-- where the range of number r opens; past the last, 64 people's minutes on
+unfoldable pub opensFrom : List ℕ → ℕ → ℕ → ℕ
+opensFrom keys n r = cond (ltb r n) (opens (getD keys r 0)) 17179869184
+
+-- r is the first edge past a place, or lies far past all
+pub record NextEdge (merged : List ℕ) (place r : ℕ) : Type 0 where
+  pub later : place < r
+  pub edge : r < 17179869184 → isEdge merged r ≡ true
+  pub none : (q : ℕ) → place < q → q < r → isEdge merged q ≡ false
 
 -- t, where it lies strictly between two minutes; else the later of them
 unfoldable pub nearer : ℕ → ℕ → ℕ → ℕ

@@ -15,7 +15,7 @@ ghost use Rattle.slots.specs.Freeze.{Opening};
 ghost use Rattle.slots.specs.Availability.{availabilityRoomOk, availabilityNo, availabilityOf, spans, heldBit, rows};
 
 // How many of the merged ranges open at a place of the line or before it.
-fn opened_by(keys: &[u64], n: usize, place: u64) -> usize
+pub(crate) fn opened_by(keys: &[u64], n: usize, place: u64) -> usize
     requires { ⌜ (n ≤ 1024) × (n ≤ length (now keys)) × Spaced 0 (take n (now keys)) ⌝ }
     ensures { λ r. ⌜ Opening n (λ k. opens (getD (now (keys .entry)) k 0)) place r ⌝ }
 {

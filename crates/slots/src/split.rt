@@ -1,4 +1,5 @@
 // Atomic slots: each base slot split at every cut strictly inside it. Cuts are the starts and ends of merged ranges.
+use crate::avail;
 use crate::lent;
 use crate::ranges;
 use paper::people_ok;
@@ -12,6 +13,7 @@ ghost use Rattle.paper.specs.Count.{over};
 ghost use Rattle.slots.specs.Lent.{SlotsSound};
 ghost use Rattle.slots.specs.Ranges.{ranges};
 ghost use Rattle.slots.specs.Atomic.{cutsIn, atomStarts, atomEnds, NextCut, nearer, Grown};
+ghost use Rattle.slots.specs.Atomic.{HeldMerged, NextEdge, opensFrom};
 ghost use Rattle.slots.specs.Atomic.{splitCountsOk, roomOk, base, baseNo, atomiseOf, AtomsEnd};
 
 // A minute, where it lies strictly between two others; else the later of them.
@@ -26,18 +28,46 @@ fn nearer_of(after: u64, best: u64, t: u64) -> u64
     best
 }
 
-// The first cut strictly between two minutes, or the later of them.
+// Where the merged range of a number opens, or far past everybody's minutes.
+fn opens_from(keys: &[u64], n: usize, r: usize) -> u64
+    requires { ⌜ (n ≤ 1024) × (n ≤ length (now keys)) ⌝ }
+    ensures { λ v. ⌜ v ≡ opensFrom (now (keys .entry)) n r ⌝ }
+{
+    if r < n {
+        return ranges::opens_at(keys[r]);
+    }
+    17_179_869_184
+}
+
+// The first place of the line past another at which a merged range opens or closes: the last that opens there or before it closes, or the
+// next one opens.
+fn next_edge(keys: &[u64], n: usize, place: u64) -> u64
+    requires { ⌜ HeldMerged (now keys) n × (place < 17179869184) ⌝ }
+    ensures { λ r. ⌜ NextEdge (take n (now (keys .entry))) place r ⌝ }
+{
+    let r = avail::opened_by(keys, n, place);
+    if 0 < r {
+        let close = ranges::closes_at(keys[r - 1]);
+        if place < close {
+            return close;
+        }
+        return opens_from(keys, n, r);
+    }
+    opens_from(keys, n, r)
+}
+
+// The first cut strictly between two minutes, or the later of them: the nearest of everybody's.
 fn next_cut(keys: &[u64], n: usize, after: u64, end: u64) -> u64
-    requires { ⌜ (n ≤ 1024) × (n ≤ length (now keys)) × (after < end) ⌝ }
+    requires { ⌜ HeldMerged (now keys) n × (after < end) × (end ≤ 100000000) ⌝ }
     ensures { λ r. ⌜ NextCut (take n (now (keys .entry))) after end r ⌝ }
 {
     let mut best = end;
-    let mut i: usize = 0;
-    while i < n {
-        let key = keys[i];
-        let near = nearer_of(after, best, ranges::start_of(key));
-        best = nearer_of(after, near, ranges::end_of(key));
-        i += 1;
+    let mut person: u64 = 0;
+    while person < 32 {
+        let base = person * ranges::WIDTH;
+        let edge = next_edge(keys, n, base + after);
+        best = nearer_of(after, best, edge - base);
+        person += 1;
     }
     best
 }
@@ -52,7 +82,7 @@ fn split_slot(
     ends: &mut [u32],
     count: usize,
 ) -> usize
-    requires { ⌜ (n ≤ 1024) × (n ≤ length (now keys)) × (start < end) ⌝ }
+    requires { ⌜ HeldMerged (now keys) n × (start < end) × (end ≤ 100000000) ⌝ }
     requires { ⌜ (count ≤ 1024) × (1024 ≤ length (now starts)) × (1024 ≤ length (now ends)) ⌝ }
     ensures { λ r. ⌜ Grown count (now (starts .entry)) (now (ends .entry))
         (start ∷ cutsIn (take n (now (keys .entry))) start end) (cutsIn (take n (now (keys .entry))) start end ++ (end ∷ []))
@@ -84,7 +114,7 @@ fn split_all(
     froms: &mut [u32],
     tos: &mut [u32],
 ) -> usize
-    requires { ⌜ (n ≤ 1024) × (n ≤ length (now keys)) × SlotsSound slots (now starts) (now ends) ⌝ }
+    requires { ⌜ HeldMerged (now keys) n × SlotsSound slots (now starts) (now ends) ⌝ }
     requires { ⌜ (slots ≤ 1024) × (1024 ≤ length (now froms)) × (1024 ≤ length (now tos)) ⌝ }
     ensures { λ r. ⌜ Grown 0 (now (froms .entry)) (now (tos .entry))
         (atomStarts (take n (now (keys .entry))) slots (now (starts .entry)) (now (ends .entry)))

@@ -2,7 +2,7 @@
 use mathlib.Core.Path.{_≡_, sym, ap, ap₂, _∙_}
 use mathlib.Core.Bool.{Bool, true, false, _&&_, not}
 use mathlib.Core.List.{List}
-use Prim.Native.Nat.{ℕ, _+_, _-_, _*_, _/_, _≤_, _<_}
+use Prim.Native.Nat.{ℕ, suc, _+_, _-_, _*_, _/_, _≤_, _<_}
 use native.Mathlib.Omega.{arith}
 use borrow.Author.Tests.{eq-eqb, ne-eqb, ltb-true, ltb-false, leb-true, le-leb, lt-ltb}
 use lib.Dec.{eqb, ltb, leb}
@@ -15,23 +15,17 @@ use Rattle.slotset.specs.declared.Found.{Found}
 use Rattle.slotset.specs.declared.Found.the-variants.{At, Nothing, Refused}
 use Rattle.slotset.specs.declared.Told.the-variants as told
 use Rattle.slotset.specs.Slots.{slot}
-use Rattle.slotset.specs.Search.{nextSet, prevUnsetBefore, First, Last}
+use Rattle.slotset.specs.Search.{nextSet, nextUnsetAfter, prevUnsetBefore, First, Last}
 use Rattle.slotset.specs.Answers.{rowNo, rowSlots, foundAs, toldAs}
 use Rattle.slotset.proofs.Meaning.{next-is, last-is}
 use Rattle.slotset.proofs.Puts.{slot-lt}
 use Rattle.units.specs.Units.{unitStart, unitEnd, unitsOk}
 use Rattle.units.specs.Domains.{available, able, domain, slotDomain, unitDomain, unfrozen, clear, unitFrozen}
-use Rattle.units.specs.Domains.{ableIn, clearIn, DomainRoom}
+use Rattle.units.specs.Domains.{isNothing, ableIn, clearIn, DomainRoom}
 use Rattle.units.specs.Domains.{unitFrozenNo, slotDomainNo, unitDomainNo}
 use Rattle.units.proofs.Units.{unit-within}
 
 -- ---- availability
-
--- what the last slot before e that a person lacks says of the slots from a up to e
-abbrev pub ableBy : ℕ → Found → Bool
-ableBy a (At i) = ltb i a
-ableBy a Nothing = true
-ableBy a (Refused n) = false
 
 module _ (av : List ℕ) (p : ℕ) where
   -- a slot that is not lacking is had
@@ -46,28 +40,38 @@ module _ (av : List ℕ) (p : ℕ) where
   unfolding available
   lacking k z = ne-eqb (slot av (16 * p) k) 1 (λ q. let x : _≡_ {A = ℕ} 0 1 = sym z ∙ q in omega arith)
 
-  able-answers : (a e : ℕ) (r : Found) → Last 0 (rowSlots av p) e e r → ableBy a r ≡ able av a e p
+  -- none is lacking from a up to e: by the first that is, or from slot 0 on by the last
+  able-from : (a e : ℕ) (r : Found) → First 0 (rowSlots av p) e a r → isNothing r ≡ able av a e p
   unfolding able
-  able-answers a e (At i) w =
-      by-test (ltb i a) _
-      (λ t.
-      let h : i < a = ltb-true i a t in
-      t ∙ sym (each-in a e (available av p) (λ k l g. had k (w .3 k (omega arith) g g))))
-      (λ f. f ∙ in-fails a i e (available av p) (ltb-false i a f) (w .0) (lacking i (w .2)))
-  able-answers a e Nothing w = sym (each-in a e (available av p) (λ k l g. had k (w k g g)))
-  able-answers a e (Refused n) w = absurd w
+  able-from a e (At i) w = in-fails a i e (available av p) (w .0) (w .1) (lacking i (w .2))
+  able-from a e Nothing w = sym (each-in a e (available av p) (λ k l g. had k (w k l g)))
+  able-from a e (Refused n) w = absurd w
 
-found-able : (a n : ℕ) (x : Found) → ableBy a (foundAs n x) ≡ eqb n 0 && ableBy a x
+  able-below : (e : ℕ) (r : Found) → Last 0 (rowSlots av p) e e r → isNothing r ≡ able av 0 e p
+  unfolding able
+  able-below e (At i) w = in-fails 0 i e (available av p) (omega arith) (w .0) (lacking i (w .2))
+  able-below e Nothing w = sym (each-in 0 e (available av p) (λ k l g. had k (w k g g)))
+  able-below e (Refused n) w = absurd w
+
+found-none : (n : ℕ) (x : Found) → isNothing (foundAs n x) ≡ eqb n 0 && isNothing x
 unfolding foundAs
-found-able a n x = by-test (eqb n 0) _ (λ t. simp t) (λ f. simp f)
+found-none n x = by-test (eqb n 0) _ (λ t. simp t) (λ f. simp f)
 
-pub able-law : (av : List ℕ) (people p a e : ℕ)
-    → ableBy a (foundAs (rowNo av people p e) (prevUnsetBefore (rowSlots av p) e e)) ≡ ableIn av people p a e
+pub able-below-law : (av : List ℕ) (people p a e : ℕ) → a ≡ 0
+    → isNothing (foundAs (rowNo av people p e) (prevUnsetBefore (rowSlots av p) e e)) ≡ ableIn av people p a e
 unfolding ableIn
-able-law av people p a e =
-    found-able a (rowNo av people p e) (prevUnsetBefore (rowSlots av p) e e)
+able-below-law av people p a e z =
+    found-none (rowNo av people p e) (prevUnsetBefore (rowSlots av p) e e)
     ∙ ap (λ (b : Bool). eqb (rowNo av people p e) 0 && b)
-    (able-answers av p a e (prevUnsetBefore (rowSlots av p) e e) (last-is 0 (rowSlots av p) e e))
+    (able-below av p e (prevUnsetBefore (rowSlots av p) e e) (last-is 0 (rowSlots av p) e e) ∙ ap (λ x. able av x e p) (sym z))
+
+pub able-after-law : (av : List ℕ) (people p a b e : ℕ) → suc b ≡ a
+    → isNothing (foundAs (rowNo av people p e) (nextUnsetAfter (rowSlots av p) e b)) ≡ ableIn av people p a e
+unfolding ableIn
+able-after-law av people p a b e z =
+    found-none (rowNo av people p e) (nextUnsetAfter (rowSlots av p) e b)
+    ∙ ap (λ (b : Bool). eqb (rowNo av people p e) 0 && b)
+    (able-from av p (suc b) e (nextUnsetAfter (rowSlots av p) e b) (next-is 0 (rowSlots av p) e (suc b)) ∙ ap (λ x. able av x e p) z)
 
 -- where the words and the person are known, that is availability itself
 pub able-known : (av : List ℕ) (people e : ℕ) (list : List ℕ) → DomainRoom av people e list
@@ -78,12 +82,7 @@ able-known av people e list r p a h =
 
 -- ---- frozen flags
 
-abbrev pub clearBy : Found → Bool
-clearBy (At i) = false
-clearBy Nothing = true
-clearBy (Refused n) = false
-
-clear-answers : (fr : List ℕ) (a e : ℕ) (r : Found) → First 1 (rowSlots fr 0) e a r → clearBy r ≡ clear fr a e
+clear-answers : (fr : List ℕ) (a e : ℕ) (r : Found) → First 1 (rowSlots fr 0) e a r → isNothing r ≡ clear fr a e
 unfolding clear unfrozen
 clear-answers fr a e (At i) w =
     in-fails a i e (unfrozen fr) (w .0) (w .1) (ap not (eq-eqb (slot fr 0 i) 1 (w .2)))
@@ -91,14 +90,10 @@ clear-answers fr a e Nothing w =
     sym (each-in a e (unfrozen fr) (λ k l g. ap not (ne-eqb (slot fr 0 k) 1 (w k l g))))
 clear-answers fr a e (Refused n) w = absurd w
 
-found-clear : (n : ℕ) (x : Found) → clearBy (foundAs n x) ≡ eqb n 0 && clearBy x
-unfolding foundAs
-found-clear n x = by-test (eqb n 0) _ (λ t. simp t) (λ f. simp f)
-
-pub clear-law : (fr : List ℕ) (a e : ℕ) → clearBy (foundAs (rowNo fr 1 0 e) (nextSet (rowSlots fr 0) e a)) ≡ clearIn fr a e
+pub clear-law : (fr : List ℕ) (a e : ℕ) → isNothing (foundAs (rowNo fr 1 0 e) (nextSet (rowSlots fr 0) e a)) ≡ clearIn fr a e
 unfolding clearIn
 clear-law fr a e =
-    found-clear (rowNo fr 1 0 e) (nextSet (rowSlots fr 0) e a)
+    found-none (rowNo fr 1 0 e) (nextSet (rowSlots fr 0) e a)
     ∙ ap (λ (b : Bool). eqb (rowNo fr 1 0 e) 0 && b)
     (clear-answers fr a e (nextSet (rowSlots fr 0) e a) (next-is 1 (rowSlots fr 0) e a))
 

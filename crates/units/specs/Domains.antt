@@ -1,6 +1,6 @@
 -- Who is available for a slot or a unit, and whether a unit is frozen, by the lent sets. Assumes nothing.
 use mathlib.Core.Path.{_≡_}
-use mathlib.Core.Bool.{Bool, true, _&&_, not}
+use mathlib.Core.Bool.{Bool, true, false, _&&_, not}
 use mathlib.Core.List.{List}
 use Prim.Native.Nat.{ℕ, _*_, _≤_}
 use lib.Dec.{eqb, ltb, leb}
@@ -9,6 +9,8 @@ use Rattle.paper.specs.Limits.{peopleOk, slotCountOk, orElse}
 use Rattle.paper.specs.Count.{allIn, among}
 use Rattle.slotset.specs.Slots.{slot}
 use Rattle.slotset.specs.Answers.{rowNo, toldAs}
+use Rattle.slotset.specs.declared.Found.{Found}
+use Rattle.slotset.specs.declared.Found.the-variants.{At, Nothing, Refused}
 use Rattle.slotset.specs.declared.Told.{Told}
 use Rattle.units.specs.Units.{unitStart, unitEnd, unitsOk}
 use Rattle.units.specs.Answers.{Written, writtenAs}
@@ -47,6 +49,12 @@ clear fr a e = allIn a e (unfrozen fr)
 -- a unit is frozen if any slot of it is
 unfoldable pub unitFrozen : List ℕ → ℕ → ℕ → List ℕ → ℕ → Bool
 unitFrozen fr slots units firsts u = not (clear fr (unitStart firsts u) (unitEnd slots units firsts u))
+
+-- a search found nothing
+abbrev pub isNothing : Found → Bool
+isNothing (At i) = false
+isNothing Nothing = true
+isNothing (Refused n) = false
 
 -- ---- the same asked of any words: no where they are too short or the person is unknown
 

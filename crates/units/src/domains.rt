@@ -12,29 +12,35 @@ ghost use Prim.Native.Nat.{_*_, _≤_};
 ghost use lib.ListN.{length};
 ghost use Rattle.paper.specs.Count.{onto};
 ghost use Rattle.units.specs.Answers.{Are};
-ghost use Rattle.units.specs.Domains.{ableIn, clearIn, domain, DomainRoom, unitFrozenNo, unitFrozenIs};
+ghost use Rattle.units.specs.Domains.{isNothing, ableIn, clearIn, domain, DomainRoom, unitFrozenNo, unitFrozenIs};
 ghost use Rattle.units.specs.Domains.{slotDomainNo, slotDomainIs, unitDomainNo, unitDomainIs};
 
-// Whether a person is available for each slot from `a` up to `e`: the last slot before `e` that they lack lies before `a`.
-pub fn able(avail: &[u64], people: usize, person: usize, a: usize, e: usize) -> bool
-    ensures { λ r. ⌜ r ≡ ableIn (now (avail .entry)) people person a e ⌝ }
+// Whether a search found nothing.
+fn is_nothing(f: Found) -> bool
+    ensures { λ r. ⌜ r ≡ isNothing f ⌝ }
 {
-    match slotset::row::prev_unset_before(avail, people, person, e, e) {
-        Found::At(i) => i < a,
+    match f {
+        Found::At(_) => false,
         Found::Nothing => true,
         Found::Refused(_) => false,
     }
+}
+
+// Whether a person is available for each slot from `a` up to `e`: there is none among them that they lack. No other slot is looked at.
+pub fn able(avail: &[u64], people: usize, person: usize, a: usize, e: usize) -> bool
+    ensures { λ r. ⌜ r ≡ ableIn (now (avail .entry)) people person a e ⌝ }
+{
+    if a == 0 {
+        return is_nothing(slotset::row::prev_unset_before(avail, people, person, e, e));
+    }
+    is_nothing(slotset::row::next_unset_after(avail, people, person, e, a - 1))
 }
 
 // Whether no slot from `a` up to `e` is frozen.
 pub fn clear(frozen: &[u64], a: usize, e: usize) -> bool
     ensures { λ r. ⌜ r ≡ clearIn (now (frozen .entry)) a e ⌝ }
 {
-    match slotset::row::next_set(frozen, 1, 0, e, a) {
-        Found::At(_) => false,
-        Found::Nothing => true,
-        Found::Refused(_) => false,
-    }
+    is_nothing(slotset::row::next_set(frozen, 1, 0, e, a))
 }
 
 // What stands against asking whether a unit is frozen: 1, 2, 9 or 11; 0 for nothing.

@@ -2,6 +2,7 @@
 use mathlib.Core.Path.{_≡_, sym, _∙_}
 use native.Mathlib.Omega.{arith}
 use lib.ListN.{length}
+use Rattle.slots.proofs.EdgeLaws.{held-merged}
 use Rattle.slots.proofs.AtomLaws.{base-says, after-some, atoms-refused, atoms-full, atoms-done}
 use borrow.Author.Needs.{needs}
 use Rattle.slots.proofs.split.atomise.Statement.{statement}
@@ -39,7 +40,7 @@ split-all-requires c κs =
     let M = merged-keys .ensures in
     let s : length (blank-column .result) ≡ 1024 = search needs in
     let e : length (blank-column2 .result) ≡ 1024 = search needs in
-    ((omega (arith, M .few, S .ranges .few), M .fits, S .slots), (S .few, omega (arith, s), omega (arith, e)))
+    ((held-merged _ (S .ranges) _ _ M, S .slots), (S .few, omega (arith, s), omega (arith, e)))
 
 slice-aggregate-copy-column : tie.Need-slice-aggregate-copy-column
 slice-aggregate-copy-column c = search needs

@@ -3,70 +3,58 @@ use borrow.Author.Needs.{needs}
 use Prim.Native.Nat.{_≤_, _-_}
 use native.Mathlib.Omega.{arith}
 use lib.ListN.{take}
-use Rattle.slots.specs.Atomic.{isCut}
-use Rattle.slots.proofs.CutLaws.{Near, cuts-begin, cuts-go, cuts-end}
+use Rattle.slots.proofs.EdgeLaws.{Near, cutBelow, below-begin, below-more, below-done}
 use Rattle.slots.proofs.split.next_cut.Statement.{statement}
 use Rattle.slots.proofs.split.next_cut.Tie as tie
 
 abbrev Inv-loop : tie.InvT-loop
-Inv-loop keys n after end best₀ i₀ best i = (i ≤ n) × Near (isCut (take i keys)) after end best
+Inv-loop keys n after end best₀ person₀ best person = (person ≤ 32) × Near (cutBelow (take n keys) after end person) after end best
 
 abbrev μ-loop : tie.MeasureT-loop
-μ-loop keys n after end best₀ i₀ best i = n - i
+μ-loop keys n after end best₀ person₀ best person = 32 - person
 
 loop-holds : tie.Need-loop-holds Inv-loop μ-loop
-loop-holds c = (search needs, cuts-begin _ _ (c .before .pre .2) (c .before .args .keys .now))
+loop-holds c = (search needs, below-begin _ _ _ (c .before .pre .1))
 
-mul-key : tie.Need-mul-key Inv-loop μ-loop
-mul-key c =
+mul-base : tie.Need-mul-base Inv-loop μ-loop
+mul-base c = omega (arith, c .loop-test .taken)
+
+add-next-edge : tie.Need-add-next-edge Inv-loop μ-loop
+add-next-edge c =
     let pre = c .before .before .before .pre in
-    omega (arith, c .loop-test .taken, pre .0)
+    omega (arith, c .loop-test .taken, pre .1, pre .2)
 
-shared-slice-read-key : tie.Need-shared-slice-read-key Inv-loop μ-loop
-shared-slice-read-key c =
-    let pre = c .before .before .before .before .pre in
-    omega (arith, c .before .loop-test .taken, pre .1)
+next-edge-requires : tie.Need-next-edge-requires Inv-loop μ-loop
+next-edge-requires c κs =
+    let pre = c .before .before .before .pre in
+    (pre .0, omega (arith, c .loop-test .taken, pre .1, pre .2))
 
-start-of-requires : tie.Need-start-of-requires Inv-loop μ-loop
-start-of-requires c κs = search needs
+sub-nearer-of : tie.Need-sub-nearer-of Inv-loop μ-loop
+sub-nearer-of c = omega (arith, c .next-edge .ensures .later)
 
 nearer-of-requires : tie.Need-nearer-of-requires Inv-loop μ-loop
 nearer-of-requires c κs = search needs
 
-end-of-requires : tie.Need-end-of-requires Inv-loop μ-loop
-end-of-requires c κs = search needs
-
-nearer-of-requires-2 : tie.Need-nearer-of-requires-2 Inv-loop μ-loop
-nearer-of-requires-2 c κs = search needs
-
-add-i : tie.Need-add-i Inv-loop μ-loop
-add-i c =
-    let loop-test = c .before .before .before .before .before .loop-test in
-    let pre = c .before .before .before .before .before .before .before .before .pre in
-    omega (arith, loop-test .taken, pre .0)
+add-person : tie.Need-add-person Inv-loop μ-loop
+add-person c = omega (arith, c .before .before .loop-test .taken)
 
 loop-less : tie.Need-loop-less Inv-loop μ-loop
-loop-less c =
-    let loop-test = c .before .before .before .before .before .loop-test in
-    omega (arith, loop-test .taken)
+loop-less c = omega (arith, c .before .before .loop-test .taken)
 
 loop-again : tie.Need-loop-again Inv-loop μ-loop
 loop-again c =
-    let loop-test = c .before .before .before .before .before .loop-test in
-    let args = c .before .before .before .before .before .before .before .before .args in
-    let loop = c .before .before .before .before .before .before .loop in
-    let pre = c .before .before .before .before .before .before .before .before .pre in
-    let start-of = c .before .before .before .start-of in
-    let nearer-of = c .before .before .nearer-of in (
+    let pre = c .before .before .before .before .before .pre in
+    let loop = c .before .before .before .loop in
+    let loop-test = c .before .before .loop-test in (
       omega (arith, loop-test .taken),
-      cuts-go (args .keys .now) (loop .i) _ _ _ _ _ _ _ (omega (arith, loop-test .taken, pre .1)) (loop .inv .1)
-          (start-of .ensures) (nearer-of .ensures) (c .before .end-of .ensures) (c .nearer-of2 .ensures),
+      below-more _ _ _ _ _ _ _ (loop-test .taken) (pre .2) (loop .inv .1) (c .before .next-edge .ensures) (c .nearer-of .ensures),
     )
 
 returns : tie.Need-returns Inv-loop μ-loop
 returns c =
     let args = c .before .before .before .args in
-    cuts-end (args .keys .now) (c .before .loop .i) _ _ _ _ (c .before .loop .inv .0) (c .loop-test .left) (c .before .loop .inv .1)
+    let pre = c .before .before .before .pre in
+    below-done (args .keys .now) (args .n) _ _ _ _ (pre .0) (pre .2) (c .before .loop .inv .0) (c .loop-test .left) (c .before .loop .inv .1)
 
 pub next-cut-spec : {M : Type 1} → statement M
 next-cut-spec =
@@ -75,13 +63,12 @@ next-cut-spec =
     Inv-loop
     μ-loop
     loop-holds
-    mul-key
-    shared-slice-read-key
-    start-of-requires
+    mul-base
+    add-next-edge
+    next-edge-requires
+    sub-nearer-of
     nearer-of-requires
-    end-of-requires
-    nearer-of-requires-2
-    add-i
+    add-person
     loop-less
     loop-again
     returns)

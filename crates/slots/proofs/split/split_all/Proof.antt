@@ -20,30 +20,30 @@ loop-holds c = (search needs, grow-starts _ _ _ _ _)
 mul-split-slot : tie.Need-mul-split-slot Inv-loop μ-loop
 mul-split-slot c =
     let pre = c .before .before .before .before .before .before .before .pre in
-    omega (arith, c .loop-test .taken, pre .0 .2 .starts-room)
+    omega (arith, c .loop-test .taken, pre .0 .1 .starts-room)
 
 shared-slice-read-split-slot : tie.Need-shared-slice-read-split-slot Inv-loop μ-loop
 shared-slice-read-split-slot c =
     let pre = c .before .before .before .before .before .before .before .before .pre in
-    omega (arith, c .before .loop-test .taken, pre .0 .2 .starts-room)
+    omega (arith, c .before .loop-test .taken, pre .0 .1 .starts-room)
 
 mul-split-slot-2 : tie.Need-mul-split-slot-2 Inv-loop μ-loop
 mul-split-slot-2 c =
     let pre = c .before .before .before .before .before .before .before .before .pre in
-    omega (arith, c .before .loop-test .taken, pre .0 .2 .ends-room)
+    omega (arith, c .before .loop-test .taken, pre .0 .1 .ends-room)
 
 shared-slice-read-split-slot-2 : tie.Need-shared-slice-read-split-slot-2 Inv-loop μ-loop
 shared-slice-read-split-slot-2 c =
     let loop-test = c .before .before .loop-test in
     let pre = c .before .before .before .before .before .before .before .before .before .pre in
-    omega (arith, loop-test .taken, pre .0 .2 .ends-room)
+    omega (arith, loop-test .taken, pre .0 .1 .ends-room)
 
 split-slot-requires : tie.Need-split-slot-requires Inv-loop μ-loop
 split-slot-requires c κs =
     let pre = c .before .before .before .before .before .before .before .before .before .before .before .pre in
     let loop-test = c .before .before .before .before .loop-test in
     let loop = c .before .before .before .before .before .loop in (
-      (pre .0 .0, pre .0 .1, pre .0 .2 .ordered _ (loop-test .taken)),
+      (pre .0 .0, pre .0 .1 .ordered _ (loop-test .taken), pre .0 .1 .capped _ (loop-test .taken)),
       (loop .inv .1 .few, omega (arith, loop .inv .1 .lengths .0, pre .1 .1), omega (arith, loop .inv .1 .lengths .1, pre .1 .2)),
     )
 

@@ -16,7 +16,7 @@ abbrev μ-loop : tie.MeasureT-loop
 loop-holds : tie.Need-loop-holds Inv-loop μ-loop
 loop-holds c =
     let pre = c .before .before .before .pre in
-    (split-starts _ _ _ _ _ (pre .1 .0) (pre .1 .1) (pre .1 .2), pre .0 .2)
+    (split-starts _ _ _ _ _ (pre .1 .0) (pre .1 .1) (pre .1 .2), pre .0 .1)
 
 cast-next-cut : tie.Need-cast-next-cut Inv-loop μ-loop
 cast-next-cut c =
@@ -26,7 +26,7 @@ cast-next-cut c =
 next-cut-requires : tie.Need-next-cut-requires Inv-loop μ-loop
 next-cut-requires c κs =
     let pre = c .before .before .before .before .before .pre in
-    (pre .0 .0, pre .0 .1, c .before .loop .inv .1)
+    (pre .0 .0, c .before .loop .inv .1, pre .0 .2)
 
 cast-cut : tie.Need-cast-cut Inv-loop μ-loop
 cast-cut c =

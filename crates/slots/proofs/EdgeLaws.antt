@@ -1,0 +1,269 @@
+-- The next edge of the merged ranges past a place of the line, and the next cut as the nearest of everybody's. Assumes nothing.
+use mathlib.Core.Path.{_≡_, refl, sym, ap, _∙_}
+use mathlib.Core.Bool.{Bool, true, false, _&&_, _||_}
+use mathlib.Core.Logic.{⊎-elim}
+use mathlib.Core.List.{List}
+use Prim.Native.Nat.{ℕ, zero, suc, _+_, _-_, _*_, _≤_, _<_}
+use native.Mathlib.Numerals.{add-one}
+use native.Mathlib.Omega.{arith}
+use borrow.Author.Tests.{ltb-true, ltb-false, lt-ltb, le-ltb, eq-eqb, eqb-true}
+use lib.Dec.{ltb, eqb}
+use lib.ListN.{length, getD, take}
+use lib.Seq.{getD-take, length-take-le}
+use Rattle.paper.proofs.Count.{some-one}
+use Rattle.paper.specs.Count.{some}
+use Rattle.paper.proofs.Logic.{by-test, lt-or-ge, both, and-true, or-left, same-test, or-either, or-second}
+use Rattle.slots.specs.Ranges.{anyOf, Ranges, RangesSound, personOf, startOf, endOf, opens, closes}
+use Rattle.slots.specs.Walk.{MergedFrom}
+use Rattle.slots.specs.Freeze.{Opening}
+use Rattle.slots.specs.Atomic.{startsOrEnds, isCut, NextCut, nearer}
+use Rattle.slots.specs.Atomic.{HeldMerged, opensOrCloses, isEdge, opensFrom, NextEdge}
+use Rattle.slots.proofs.Keys.{start-lt, end-lt}
+use Rattle.slots.proofs.MergedLaws.{any-at, spaced-some, held-known}
+use Rattle.slots.proofs.AvailLaws.{spaced-order, some-by, held-spaced}
+
+or-none : (a b : Bool) → a ≡ false → b ≡ false → a || b ≡ false
+or-none a b f g = simp (f, g)
+
+-- ---- the next edge
+
+pub held-merged : (R : Ranges) → RangesSound R → (keys : List ℕ) (n : ℕ) → MergedFrom R keys n → HeldMerged keys n
+held-merged R S keys n M =
+    record {
+      few = omega (arith, M .few, S .few);
+      fits = M .fits;
+      spaced = held-spaced R S keys n M;
+      known = held-known R S keys n M;
+    }
+
+pub opens-some : (keys : List ℕ) (n r v : ℕ) → r < n → v ≡ opens (getD keys r 0) → v ≡ opensFrom keys n r
+unfolding opensFrom
+opens-some keys n r v h e = simp (lt-ltb r n h) e
+
+pub opens-past : (keys : List ℕ) (n r : ℕ) → n ≤ r → 17179869184 ≡ opensFrom keys n r
+unfolding opensFrom
+opens-past keys n r h = simp (le-ltb r n h)
+
+module _ (keys : List ℕ) (n : ℕ) (H : HeldMerged keys n) where
+  at-front : (k : ℕ) → k < n → getD (take n keys) k 0 ≡ getD keys k 0
+  at-front k h = getD-take n keys k 0 h
+
+  front-size : length (take n keys) ≡ n
+  front-size = length-take-le n keys (H .fits)
+
+  -- no range is empty, and each closes before the next opens
+  filled : (k : ℕ) → k < n → opens (getD keys k 0) < closes (getD keys k 0)
+  filled k h =
+      let w = spaced-some 0 (take n keys) (H .spaced) k (omega (arith, front-size)) in
+      omega (arith, w, ap opens (at-front k h), ap closes (at-front k h))
+
+  apart : (k j : ℕ) → k < j → j < n → closes (getD keys k 0) < opens (getD keys j 0)
+  apart k j h g =
+      let w = spaced-order 0 (take n keys) (H .spaced) k j h (omega (arith, front-size)) in
+      omega (arith, w .1, ap closes (at-front k (omega arith)), ap opens (at-front j g))
+
+  -- an edge is some range's
+  edge-opens : (k : ℕ) → k < n → isEdge (take n keys) (opens (getD keys k 0)) ≡ true
+  unfolding isEdge opensOrCloses
+  edge-opens k h =
+      any-at (opensOrCloses (opens (getD keys k 0))) (take n keys) k (omega (arith, front-size))
+      (or-left _ _ (eq-eqb _ _ (ap opens (at-front k h))))
+
+  edge-closes : (k : ℕ) → k < n → isEdge (take n keys) (closes (getD keys k 0)) ≡ true
+  unfolding isEdge opensOrCloses
+  edge-closes k h =
+      any-at (opensOrCloses (closes (getD keys k 0))) (take n keys) k (omega (arith, front-size))
+      (or-second (eqb (opens (getD (take n keys) k 0)) (closes (getD keys k 0))) _ (eq-eqb _ _ (ap closes (at-front k h))))
+
+  no-edge : (q : ℕ) → ((k : ℕ) → k < n → opens (getD keys k 0) ≡ q → ⊥) → ((k : ℕ) → k < n → closes (getD keys k 0) ≡ q → ⊥)
+      → isEdge (take n keys) q ≡ false
+  unfolding isEdge opensOrCloses
+  no-edge q f g =
+      sym (same-test false (anyOf (opensOrCloses q) (take n keys)) (λ e. absurd (mathlib.Core.Bool.false≢true e))
+      (λ e. absurd (some-by (opensOrCloses q) (take n keys) ⊥ e
+      (λ k h t.
+      let i : k < n = omega (arith, front-size) in
+      ⊎-elim (λ u. f k i (sym (ap opens (at-front k i)) ∙ eqb-true _ _ u)) (λ u. g k i (sym (ap closes (at-front k i)) ∙ eqb-true _ _ u))
+      (or-either (eqb (opens (getD (take n keys) k 0)) q) (eqb (closes (getD (take n keys) k 0)) q) t)))))
+
+  module _ (place r : ℕ) (O : Opening n (λ k. opens (getD keys k 0)) place r) where
+    -- the last that opens early enough closes past the place
+    pub edge-close : (c : ℕ) → 0 < r → c ≡ closes (getD keys (r - 1) 0) → place < c → NextEdge (take n keys) place c
+    edge-close c z e h =
+        let few : r ≤ n = O .few in
+        let last : opens (getD keys (r - 1) 0) ≤ place = O .by (r - 1) (omega arith) in
+        record {
+          later = h;
+          edge = λ x. ap (isEdge (take n keys)) e ∙ edge-closes (r - 1) (omega arith);
+          none = λ q a b. no-edge q
+              (λ k i u.
+              ⊎-elim (λ (g : k < r). omega (arith, O .by k g)) (λ (g : r ≤ k). omega (arith, apart (r - 1) k (omega arith) i)) (lt-or-ge k r))
+              (λ k i u.
+              ⊎-elim
+              (λ (g : k < r - 1). omega (arith, apart k (r - 1) g (omega arith)))
+              (λ (g : r - 1 ≤ k).
+              ⊎-elim
+              (λ (m : k < r).
+              let s : k ≡ r - 1 = omega arith in omega (arith, ap (λ (j : ℕ). closes (getD keys j 0)) s))
+              (λ (m : r ≤ k). omega (arith, apart (r - 1) k (omega arith) i, filled k i))
+              (lt-or-ge k r))
+              (lt-or-ge k (r - 1)));
+        }
+
+    -- those that open early enough have all closed by the place
+    closed-by : (0 < r → closes (getD keys (r - 1) 0) ≤ place) → (k : ℕ) → k < r → closes (getD keys k 0) ≤ place
+    closed-by f k h =
+        let few : r ≤ n = O .few in
+        ⊎-elim (λ (g : k < r - 1). omega (arith, apart k (r - 1) g (omega arith), O .by (r - 1) (omega arith)))
+        (λ (g : r - 1 ≤ k).
+        let s : k ≡ r - 1 = omega arith in omega (arith, ap (λ (j : ℕ). closes (getD keys j 0)) s, f (omega arith)))
+        (lt-or-ge k (r - 1))
+
+    -- and so the next one's opening is the next edge
+    pub edge-open : (v : ℕ) → (0 < r → closes (getD keys (r - 1) 0) ≤ place) → place < 17179869184 → v ≡ opensFrom keys n r
+        → NextEdge (take n keys) place v
+    unfolding opensFrom
+    edge-open v f p e =
+        by-test (ltb r n) _
+        (λ t.
+        let h : r < n = ltb-true r n t in
+        let s : v ≡ opens (getD keys r 0) = e ∙ simp t in
+        record {
+          later = omega (arith, s, O .after r (omega arith) h);
+          edge = λ x. ap (isEdge (take n keys)) s ∙ edge-opens r h;
+          none = λ q a b. no-edge q
+              (λ k i u.
+              ⊎-elim (λ (g : k < r). omega (arith, O .by k g))
+              (λ (g : r ≤ k).
+              ⊎-elim (λ (m : r < k). omega (arith, s, apart r k m i, filled r h))
+              (λ (m : k ≤ r). let w : k ≡ r = omega arith in omega (arith, s, ap (λ (j : ℕ). opens (getD keys j 0)) w))
+              (lt-or-ge r k))
+              (lt-or-ge k r))
+              (λ k i u.
+              ⊎-elim (λ (g : k < r). omega (arith, closed-by f k g))
+              (λ (g : r ≤ k).
+              ⊎-elim (λ (m : r < k). omega (arith, s, apart r k m i, filled r h, filled k i))
+              (λ (m : k ≤ r). let w : k ≡ r = omega arith in omega (arith, s, filled r h, ap (λ (j : ℕ). closes (getD keys j 0)) w))
+              (lt-or-ge r k))
+              (lt-or-ge k r));
+        })
+        (λ t.
+        let h : n ≤ r = ltb-false r n t in
+        let s : v ≡ 17179869184 = e ∙ simp t in
+        record {
+          later = omega (arith, s);
+          edge = λ x. absurd (omega (arith, s));
+          none = λ q a b. no-edge q (λ k i u. omega (arith, O .by k (omega arith))) (λ k i u. omega (arith, closed-by f k (omega arith)));
+        })
+
+-- ---- the next cut, person by person
+
+-- r is the first minute that passes p strictly between two minutes, or the later of them
+pub record Near (p : ℕ → Bool) (after end r : ℕ) : Type 0 where
+  pub later : after < r
+  pub most : r ≤ end
+  pub cut : r < end → p r ≡ true
+  pub none : (t : ℕ) → after < t → t < r → p t ≡ false
+
+module _ (l : List ℕ) (after end : ℕ) where
+  -- somebody below p has an edge at that minute
+  abbrev pub cutBelow : ℕ → ℕ → Bool
+  cutBelow p t = some p (λ q. isEdge l (q * 268435456 + t))
+
+  pub below-begin : after < end → Near (cutBelow 0) after end end
+  unfolding some
+  below-begin h = record { later = h; most = omega arith; cut = λ g. absurd (omega arith); none = λ t a b. refl }
+
+  below-turn : (p b e v : ℕ) → p < 32 → end ≤ 100000000 → Near (cutBelow p) after end b → NextEdge l (p * 268435456 + after) e
+      → v ≡ nearer after b (e - p * 268435456) → Near (cutBelow (suc p)) after end v
+  unfolding nearer some
+  below-turn p b e v few capped N E d =
+      let c = e - p * 268435456 in
+      let m : p * 268435456 + c ≡ e = omega (arith, E .later) in
+      let x : after < c = omega (arith, E .later) in
+      by-test (ltb after c && ltb c b) _
+      (λ t.
+      let y = ltb-true c b (both (ltb after c) (ltb c b) t .1) in
+      let q : v ≡ c = d ∙ simp t in
+      rw q
+      (record {
+        later = x;
+        most = omega (arith, N .most);
+        cut = λ h. or-second (cutBelow p c) _ (ap (isEdge l) m ∙ E .edge (omega (arith, N .most)));
+        none = λ s a g. or-none (cutBelow p s) _ (N .none s a (omega arith)) (E .none (p * 268435456 + s) (omega arith) (omega arith));
+      }))
+      (λ f.
+      let q : v ≡ b = d ∙ simp f in
+      let y : b ≤ c =
+      ⊎-elim (λ (g : c < b). absurd (mathlib.Core.Bool.true≢false (sym (and-true _ _ (lt-ltb after c x) (lt-ltb c b g)) ∙ f))) (λ g. g)
+      (lt-or-ge c b) in
+      rw q
+      (record {
+        later = N .later;
+        most = N .most;
+        cut = λ h. or-left (cutBelow p b) _ (N .cut h);
+        none = λ s a g. or-none (cutBelow p s) _ (N .none s a g) (E .none (p * 268435456 + s) (omega arith) (omega arith));
+      }))
+
+  pub below-more : (p b e v : ℕ) → p < 32 → end ≤ 100000000 → Near (cutBelow p) after end b → NextEdge l (p * 268435456 + after) e
+      → v ≡ nearer after b (e - p * 268435456) → Near (cutBelow (p + 1)) after end v
+  below-more p b e v few capped N E d = rw (add-one p) (below-turn p b e v few capped N E d)
+
+  module _ (known : (k : ℕ) → k < length l → personOf (getD l k 0) < 32) where
+    own-edge : (x t : ℕ) → startsOrEnds t x ≡ true → opensOrCloses (personOf x * 268435456 + t) x ≡ true
+    unfolding startsOrEnds opensOrCloses opens closes
+    own-edge x t e =
+        ⊎-elim (λ u. or-left _ _ (eq-eqb _ _ (ap (λ (s : ℕ). personOf x * 268435456 + s) (eqb-true (startOf x) t u))))
+        (λ u. or-second (eqb (personOf x * 268435456 + startOf x) (personOf x * 268435456 + t)) _
+        (eq-eqb _ _ (ap (λ (s : ℕ). personOf x * 268435456 + s) (eqb-true (endOf x) t u))))
+        (or-either (eqb (startOf x) t) (eqb (endOf x) t) e)
+
+    edge-own : (x q t : ℕ) → t < 268435456 → opensOrCloses (q * 268435456 + t) x ≡ true → startsOrEnds t x ≡ true
+    unfolding startsOrEnds opensOrCloses opens closes
+    edge-own x q t h e =
+        ⊎-elim
+        (λ u.
+        let w = eqb-true (personOf x * 268435456 + startOf x) (q * 268435456 + t) u in
+        or-left _ _ (eq-eqb (startOf x) t (omega (arith, w, start-lt x))))
+        (λ u.
+        let w = eqb-true (personOf x * 268435456 + endOf x) (q * 268435456 + t) u in
+        or-second (eqb (startOf x) t) _ (eq-eqb (endOf x) t (omega (arith, w, end-lt x))))
+        (or-either (eqb (personOf x * 268435456 + startOf x) (q * 268435456 + t)) (eqb (personOf x * 268435456 + endOf x) (q * 268435456 + t)) e)
+
+    some-at : (n : ℕ) (p : ℕ → Bool) (k : ℕ) → k < n → p k ≡ true → some n p ≡ true
+    unfolding some
+    some-at zero p k h e = absurd (omega arith)
+    some-at (suc n) p k h e =
+        ⊎-elim (λ (g : k < n). or-left _ _ (some-at n p k g e))
+        (λ (g : n ≤ k). let w : n ≡ k = omega arith in or-second (some n p) _ (ap p w ∙ e))
+        (lt-or-ge k n)
+
+    all-cuts : (t : ℕ) → t < 268435456 → cutBelow 32 t ≡ isCut l t
+    unfolding isCut isEdge
+    all-cuts t h =
+        same-test (cutBelow 32 t) (isCut l t)
+        (λ e. some-one 32 (λ q. isEdge l (q * 268435456 + t)) _ e
+        (λ q g u. some-by (opensOrCloses (q * 268435456 + t)) l _ u
+        (λ k i w. any-at (startsOrEnds t) l k i (edge-own (getD l k 0) q t h w))))
+        (λ e. some-by (startsOrEnds t) l _ e
+        (λ k i w. some-at 32 (λ q. isEdge l (q * 268435456 + t)) (personOf (getD l k 0)) (known k i)
+        (any-at (opensOrCloses (personOf (getD l k 0) * 268435456 + t)) l k i (own-edge (getD l k 0) t w))))
+
+    pub below-end : (b : ℕ) → end ≤ 100000000 → Near (cutBelow 32) after end b → NextCut l after end b
+    below-end b capped N =
+        record {
+          later = N .later;
+          most = N .most;
+          cut = λ h. sym (all-cuts b (omega arith)) ∙ N .cut h;
+          none = λ t a h. sym (all-cuts t (omega (arith, N .most))) ∙ N .none t a h;
+        }
+
+pub below-done : (keys : List ℕ) (n after end p b : ℕ) → HeldMerged keys n → end ≤ 100000000 → p ≤ 32 → 32 ≤ p
+    → Near (cutBelow (take n keys) after end p) after end b → NextCut (take n keys) after end b
+below-done keys n after end p b H capped g h N =
+    let q : p ≡ 32 = omega arith in
+    below-end (take n keys) after end
+    (λ k i.
+    let m : k < n = omega (arith, length-take-le n keys (H .fits)) in
+    omega (arith, ap personOf (getD-take n keys k 0 m), H .known k m))
+    b capped (rw q at N)
