@@ -173,7 +173,11 @@ module _ (s x : List ℕ) where
     total-small : baseTotal s ≤ 100000000
     total-small =
         let R = readyOf s in
-        omega (arith, demand-is s (length x) pass, slots-sound (R .slots) (R .starts) (R .ends) (sound s (length x) pass .lent) .demand-fits)
+        omega (
+          arith,
+          demand-is s (length x) pass,
+          slots-sound (R .slots) (R .starts) (R .ends) (sound s (length x) pass .lent) .demand-fits,
+        )
 
     pub total-read : sum (listedOf s .people) (λ p. readDigits (digits (getD (listedOf s .minutes) p 0)))
         + readDigits (digits (listedOf s .uncovered)) ≡ baseTotal s
