@@ -43,8 +43,7 @@ use Rattle.job.specs.Heard.{baseTotal, jobTests}
 use Rattle.job.proofs.Files.{length-floats}
 use Rattle.job.proofs.Tests.{Numbered, Rising, stage}
 use Rattle.job.proofs.Passing.{few-says, atoms-no, AtomsSound, atoms-sound, avail-length, frozen-length, frozen-at, lent-room}
-use Rattle.job.proofs.Passing.{shares-no}
-use Rattle.job.proofs.Passing.{units-no}
+use Rattle.job.proofs.Passing.{shares-no, units-no}
 use Rattle.job.proofs.Passing.{units-right, units-fit, lower-is, owners-known, owners-even, narrowed-length}
 use Rattle.job.proofs.Rotas.{RotaSound, start-no, play-no, uncovered-told}
 

@@ -29,8 +29,7 @@ use Rattle.job.specs.Listing.{digits, listingOf, put}
 use Rattle.job.specs.Digits.{readDigits}
 use Rattle.job.specs.Outcome.{Result, refusedAs, listedAs, Ends, planOf, instantIn, jobResult}
 use Rattle.job.specs.Heard.{heardOf, testAt, Lowest, AllPass, readyOf, drawsOf, ownersOf, startedOf, playedOf, listedOf}
-use Rattle.job.specs.Heard.{baseTotal}
-use Rattle.job.specs.Heard.{jobTests}
+use Rattle.job.specs.Heard.{baseTotal, jobTests}
 use Rattle.job.proofs.Tests.{heard-none, heard-lowest}
 use Rattle.job.proofs.Heard.{job-told, numbered, rising, free, sound, demand-is, targets-add, frozen-there}
 use Rattle.job.proofs.Digits.{digits-value}
