@@ -42,8 +42,8 @@ use Rattle.job.specs.Heard.{listedOf}
 use Rattle.job.specs.Heard.{baseTotal, jobTests}
 use Rattle.job.proofs.Files.{length-floats}
 use Rattle.job.proofs.Tests.{Numbered, Rising, stage}
-use Rattle.job.proofs.Passing.{few-says, atoms-no, AtomsSound, atoms-sound, avail-length, frozen-length, frozen-at, lent-room, shares-no}
-use Rattle.job.proofs.Passing.{units-no}
+use Rattle.job.proofs.Passing.{few-says, atoms-no, AtomsSound, atoms-sound, avail-length, frozen-length, frozen-at, lent-room}
+use Rattle.job.proofs.Passing.{shares-no, units-no}
 use Rattle.job.proofs.Passing.{units-right, units-fit, lower-is, owners-known, owners-even, narrowed-length}
 use Rattle.job.proofs.Rotas.{RotaSound, start-no, play-no, uncovered-told}
 
@@ -167,7 +167,8 @@ module _ (s : List ℕ) where
         (le-leb (peopleIn c) (length (replicate 32 (pos 0))) (omega (arith, people-few, length-replicate 32 (pos 0)))))))
 
     shares-heard : sharesIn s (jobCounts s) (jobStarts s) (rangesIn s (jobCounts s) (jobStarts s)) n S E .number
-        ≡ orElse (allFiguresOk (peopleIn (jobCounts s)) (capacitiesIn s (jobCounts s) (jobStarts s)) (priorsIn s (jobCounts s) (jobStarts s))) 6
+        ≡ orElse (allFiguresOk (peopleIn (jobCounts s)) (capacitiesIn s (jobCounts s) (jobStarts s))
+        (priorsIn s (jobCounts s) (jobStarts s))) 6
         (orElse (leb (settingsIn s .fairness) 1) 7 0)
     unfolding sharesIn
     shares-heard = shares-no _ (replicate 32 (pos 0)) shares-counts shares-room (A .lent)
@@ -402,7 +403,8 @@ module _ (s : List ℕ) (room : ℕ) (A : AllPass (jobTests s room)) where
       let f = both (leb (settingsIn s .fairness) 1) _ (A 7 (lit< tt)) .0 in
       shares-heard s few (R .slots) (R .starts) (R .ends) (atoms-right s few atoms) ∙ simp (A 6 (lit< tt), f)
 
-  pub targets-add : sumℤ (take (readyOf s .people) (readyOf s .targets)) ≡ pos (demandOf (readyOf s .slots) (readyOf s .starts) (readyOf s .ends))
+  pub targets-add : sumℤ (take (readyOf s .people) (readyOf s .targets)) ≡ pos
+      (demandOf (readyOf s .slots) (readyOf s .starts) (readyOf s .ends))
   unfolding readyOf readyIn sharesIn
   targets-add = targets-add-up _ (replicate 32 (pos 0)) shares-none
 

@@ -1,18 +1,18 @@
 -- What a job promises, each by name, of every file and every lent listing. Assumes nothing.
 use mathlib.Core.Path.{_≡_, refl, sym, ap, ap₂, _∙_}
 use mathlib.Core.Logic.{_↔_}
-use mathlib.Core.Bool.{Bool, true, cond, not, _&&_}
+use mathlib.Core.Bool.{Bool, true, cond, not, _&&_, _||_}
 use mathlib.Core.List.{List, [], _++_}
 use Prim.Native.Nat.{ℕ, zero, suc, _+_, _-_, _*_, _≤_, _<_}
 use native.Mathlib.Omega.{arith}
-use borrow.Author.Tests.{eq-eqb, ne-eqb, eqb-true, eqb-false, not-true}
+use borrow.Author.Tests.{eq-eqb, ne-eqb, eqb-true, eqb-false, leb-false, not-true}
 use lib.Dec.{eqb, lit<, lit≤}
 use lib.IntN.{pos}
 use lib.ListN.{length, getD, take, drop}
 use lib.Seq.{take-at, drop-at}
 use Rattle.paper.specs.Limits.{nobody}
 use Rattle.paper.specs.Count.{sum, all}
-use Rattle.paper.proofs.Logic.{by-test, both}
+use Rattle.paper.proofs.Logic.{by-test, both, or-right}
 use Rattle.paper.proofs.Count.{all-each, sum-part, sum-same}
 use Rattle.slots.proofs.LentLaws.{slots-sound}
 use Rattle.targets.specs.Remainder.{sumℤ}
@@ -29,8 +29,7 @@ use Rattle.job.specs.Listing.{digits, listingOf, put}
 use Rattle.job.specs.Digits.{readDigits}
 use Rattle.job.specs.Outcome.{Result, refusedAs, listedAs, Ends, planOf, instantIn, jobResult}
 use Rattle.job.specs.Heard.{heardOf, testAt, Lowest, AllPass, readyOf, drawsOf, ownersOf, startedOf, playedOf, listedOf}
-use Rattle.job.specs.Heard.{baseTotal}
-use Rattle.job.specs.Heard.{jobTests}
+use Rattle.job.specs.Heard.{baseTotal, jobTests}
 use Rattle.job.proofs.Tests.{heard-none, heard-lowest}
 use Rattle.job.proofs.Heard.{job-told, numbered, rising, free, sound, demand-is, targets-add, frozen-there}
 use Rattle.job.proofs.Digits.{digits-value}
@@ -129,6 +128,17 @@ module _ (s x : List ℕ) where
         λ z. eqb-false _ 9 (not-true _ (t .1)) (L .number ∙ z),
       )
 
+  -- 2 is heard only where the lent listing is too short
+  pub two-short : jobResult s x .answer ≡ answer.Refused 2 → length x < 44535
+  unfolding jobTests all
+  two-short e =
+      let L = lowest-heard 2 .0 e in
+      let ts = jobTests s (length x) in
+      let z = eqb-true (L .place) 2 (or-right (not (eqb (testAt ts (L .place) .number) 2)) (eqb (L .place) 2)
+      (all-each 11 (λ k. not (eqb (testAt ts k .number) 2) || eqb k 2) refl (L .place) (L .within))
+      (ap not (eq-eqb _ 2 (L .number)))) in
+      leb-false 44535 (length x) (sym (ap (λ (k : ℕ). testAt ts k .passes) z) ∙ L .fails)
+
   -- ---- an accepted job
 
   module _ (n : ℕ) (e : jobResult s x .answer ≡ answer.Length n) where
@@ -173,7 +183,11 @@ module _ (s x : List ℕ) where
     total-small : baseTotal s ≤ 100000000
     total-small =
         let R = readyOf s in
-        omega (arith, demand-is s (length x) pass, slots-sound (R .slots) (R .starts) (R .ends) (sound s (length x) pass .lent) .demand-fits)
+        omega (
+          arith,
+          demand-is s (length x) pass,
+          slots-sound (R .slots) (R .starts) (R .ends) (sound s (length x) pass .lent) .demand-fits,
+        )
 
     pub total-read : sum (listedOf s .people) (λ p. readDigits (digits (getD (listedOf s .minutes) p 0)))
         + readDigits (digits (listedOf s .uncovered)) ≡ baseTotal s

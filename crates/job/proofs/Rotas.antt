@@ -232,7 +232,8 @@ module _ (R : Ready) (d : Draws) (o : List ℕ) (H : RotaSound R d o) where
         (replicate 1024 0) asks (drawsOf (d .kinds) (d .ones) (d .twos) (d .count)) k h z
 
     -- a covered slot stays covered
-    pub stays-covered : (k : ℕ) → k < R .slots → (getD o k 0 ≡ nobody → ⊥) → getD (playOf R d o (startOf R o .derived) .owners) k 0 ≡ nobody → ⊥
+    pub stays-covered : (k : ℕ) → k < R .slots → (getD o k 0 ≡ nobody → ⊥)
+        → getD (playOf R d o (startOf R o .derived) .owners) k 0 ≡ nobody → ⊥
     unfolding after
     stays-covered k h n z =
         covered-stays P (R .avail) (R .units) (R .firsts) (R .frozen) (d .count) (d .kinds) (d .ones) (d .twos) o (afresh P o none)
@@ -248,6 +249,7 @@ module _ (R : Ready) (d : Draws) (o : List ℕ) (H : RotaSound R d o) where
         let e : getD (playOf R d o (startOf R o .derived) .owners) k 0 ≡ getD after k 0 = ap (λ (w : List ℕ). getD w k 0) play-owners in (
           ap (knownBy (R .people)) e ∙ after-known k h,
           ap (λ (w : ℕ). freeFor (R .avail) w k) e
-              ∙ owners-available P (R .avail) (R .units) (R .firsts) (R .frozen) (d .count) (d .kinds) (d .ones) (d .twos) o (afresh P o none)
+              ∙ owners-available P (R .avail) (R .units) (R .firsts) (R .frozen) (d .count) (d .kinds) (d .ones) (d .twos) o
+              (afresh P o none)
               (replicate 1024 0) asks (drawsOf (d .kinds) (d .ones) (d .twos) (d .count)) k h,
         )
