@@ -448,15 +448,24 @@ fn earned(job: &JobCase, faults: &[Fault]) -> bool {
     meant.filter(|&number| told(number)).all(|number| numbers.contains(&number))
 }
 
+/// Every number that a job file earns.
+pub const NUMBERS: [u8; 10] = [1, 3, 4, 5, 6, 7, 10, 11, 12, 13];
+
 /// One or two faults by a seed, in the order of the table.
 pub fn some_faults(seed: &mut Seed) -> Vec<Fault> {
-    let first = seed.below(FAULTS.len() as u64) as usize;
-    let second = seed.below(FAULTS.len() as u64) as usize;
+    let (first, second) = (a_fault(seed), a_fault(seed));
     if first == second || seed.one_in(3) {
         vec![FAULTS[first]]
     } else {
         vec![FAULTS[first.min(second)], FAULTS[first.max(second)]]
     }
+}
+
+/// The place of a fault in the table: of any number, each as often as another.
+fn a_fault(seed: &mut Seed) -> usize {
+    let number = seed.pick(&NUMBERS);
+    let places: Vec<usize> = (0..FAULTS.len()).filter(|&k| FAULTS[k].number == number).collect();
+    seed.pick(&places)
 }
 
 #[cfg(test)]

@@ -227,10 +227,12 @@ pub fn damaged_file(seed: &mut Seed) -> Vec<u8> {
         }
         2 => file.truncate(seed.below(file.len() as u64 + 1) as usize),
         _ => {
-            let faults = some_faults(seed);
-            if let Some(faulty) = with_faults(seed, job, &faults) {
-                file = faulty;
-            }
+            // not every job can have every fault
+            let made = (0..8).find_map(|_| {
+                let faults = some_faults(seed);
+                with_faults(seed, job.clone(), &faults)
+            });
+            file = made.unwrap_or(file);
         }
     }
     file

@@ -3,7 +3,7 @@
 
 use std::collections::BTreeMap;
 
-use crate::job_faults::{with_faults, Fault, FAULTS};
+use crate::job_faults::{with_faults, Fault, FAULTS, NUMBERS};
 use crate::job_files::{listing_of, text_of};
 use crate::jobs::JobCase;
 use crate::seed::Seed;
@@ -17,9 +17,6 @@ const MOVES: [(&str, u16); 5] = [
     ("swap runs", 89),
     ("shift boundary", 99),
 ];
-
-/// Every number that a job file earns.
-const NUMBERS: [u8; 10] = [1, 3, 4, 5, 6, 7, 10, 11, 12, 13];
 
 /// How often each answer of each move is to be seen, and how many seeds are looked through for anything.
 const TIMES: u64 = 3;
