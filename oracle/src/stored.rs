@@ -57,7 +57,7 @@ fn targets(n: u64, run: u64) -> Stored {
     let mut told = [0u64; WRONG.len()];
     let mut plain = n - TELLING * WRONG.len() as u64;
     let mut made = 0;
-    for k in 0..SEARCHED {
+    for k in 0..SEARCHED * n {
         if made == n {
             break;
         }
@@ -86,9 +86,9 @@ fn targets(n: u64, run: u64) -> Stored {
     Stored { bytes, answers: made }
 }
 
-/// Cases that tell each wrong rule, and how many seeds are looked through for them.
+/// Cases that tell each wrong rule, and how many seeds a record are looked through for them.
 const TELLING: u64 = 3;
-const SEARCHED: u64 = 600_000;
+const SEARCHED: u64 = 2000;
 
 /// People, and slots, of a record of targets.
 const FIGURES: usize = 8;
