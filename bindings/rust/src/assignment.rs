@@ -2,7 +2,7 @@
 
 use crate::lent::{self, NOBODY, SET_WORDS};
 use crate::problem::Problem;
-use crate::refusal::Refusal;
+use crate::refusal::{checked, Refusal};
 use crate::set::SlotSet;
 
 /// A change to be tried: the number that picks the move, and the two numbers that choose in it.
@@ -59,7 +59,7 @@ impl Answer {
 /// let ranges = [Range { person: 0, start: 0, end: 120 }, Range { person: 1, start: 60, end: 120 }];
 /// let problem = Problem::build(Settings::default(), &base, &people, &ranges)?;
 ///
-/// let mut rota = Assignment::empty(&problem)?;
+/// let mut rota = Assignment::empty(&problem);
 /// rota.assign(&problem, 0, Some(0))?;
 /// assert_eq!(rota.assign(&problem, 0, Some(1)), Err(Refusal::Unavailable));
 /// assert_eq!(rota.slots(), [Some(0), None]);
@@ -88,16 +88,16 @@ fn owner_of(byte: u8) -> Option<usize> {
 }
 
 impl Assignment {
-    /// A rota in which nobody owns a slot. No refusal is known.
-    pub fn empty(problem: &Problem) -> Result<Self, Refusal> {
+    /// A rota in which nobody owns a slot.
+    pub fn empty(problem: &Problem) -> Self {
         let (people, slots) = (problem.human_count(), problem.slot_count());
         let mut rota = Self {
             owners: vec![NOBODY; slots],
             sets: vec![0; SET_WORDS * people],
             minutes: vec![0; people],
         };
-        lent::empty(people, slots, &mut rota.owners, &mut rota.sets, &mut rota.minutes)?;
-        Ok(rota)
+        checked(lent::empty(people, slots, &mut rota.owners, &mut rota.sets, &mut rota.minutes));
+        rota
     }
 
     /// A rota with these owners, one a slot. Refusals 2 (fewer owners than slots), 11, 12. Owners past the last slot are not looked at.
@@ -206,11 +206,16 @@ impl Assignment {
         )
     }
 
-    /// How many slots nobody owns. No refusal is known.
-    pub fn unassigned_count(&self) -> Result<u64, Refusal> {
+    /// How many slots nobody owns.
+    pub fn unassigned_count(&self) -> usize {
         let mut count = 0;
-        lent::unassigned_count(self.minutes.len(), self.owners.len(), &self.owners, &mut count)?;
-        Ok(count)
+        checked(lent::unassigned_count(
+            self.minutes.len(),
+            self.owners.len(),
+            &self.owners,
+            &mut count,
+        ));
+        count as usize
     }
 
     /// The minutes of the slots that nobody owns. Refusals 2, 11, where the problem is another one.

@@ -100,7 +100,7 @@ fn rotas_refuse_and_stay() {
         rota.play(&problem, &[draw, first, draw]),
         Ok(vec![Answer::Acted, Answer::NoMove, Answer::NoMove])
     );
-    assert_eq!(rota.unassigned_count(), Ok(1));
+    assert_eq!(rota.unassigned_count(), 1);
     assert_eq!(rota.uncovered_minutes(&problem), Ok(60));
 }
 
@@ -112,7 +112,7 @@ fn a_unit_with_two_owners_fails_the_recount() {
         ..Settings::default()
     };
     let problem = Problem::build(pairs, &days(4), &[ONE; 2], &[always(0), always(1)]).expect("it is taken");
-    let mut rota = Assignment::empty(&problem).expect("it is taken");
+    let mut rota = Assignment::empty(&problem);
     assert_eq!(rota.recount(&problem), Ok(()));
     assert_eq!(rota.assign(&problem, 3, Some(1)), Ok(()));
     assert_eq!(rota.recount(&problem), Err(Refusal::Recount));
@@ -147,7 +147,7 @@ fn a_job_says_what_the_rota_does() {
 fn a_rota_of_another_problem_is_refused() {
     let small = Problem::build(Settings::default(), &days(2), &[ONE], &[always(0)]).expect("it is taken");
     let large = Problem::build(Settings::default(), &days(9), &[ONE; 3], &[always(0)]).expect("it is taken");
-    let mut rota = Assignment::empty(&small).expect("it is taken");
+    let mut rota = Assignment::empty(&small);
     assert_eq!(rota.assign(&large, 0, None), Err(Refusal::ShortBuffer));
     assert_eq!(rota.play(&large, &[]), Err(Refusal::ShortBuffer));
     assert_eq!(rota.uncovered_minutes(&large), Err(Refusal::ShortBuffer));
