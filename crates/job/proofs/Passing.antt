@@ -96,20 +96,12 @@ unfolding availabilityOf
 avail-length people n S E R words =
     words-length (availabilityNo people n S E R words) words _ (length-rows (availableBit R S E) n people words)
 
-marked-length : (n : ℕ) (ends : List ℕ) (instant : ℕ) (ws : List ℕ) → length (marked n ends instant ws) ≡ length ws
-unfolding marked putSlot
-marked-length zero ends instant ws = refl
-marked-length (suc n) ends instant ws =
-    by-test (endsBy ends instant n) _
-    (λ t. simp (t, length-set) (marked-length n ends instant ws))
-    (λ f. simp f (marked-length n ends instant ws))
-
 pub frozen-length : (n : ℕ) (S E : List ℕ) (freezes instant : ℕ) → length (frozenIn n S E freezes instant) ≡ 16
 unfolding frozenIn freezeOf
 frozen-length n S E freezes instant =
     by-test (eqb freezes 0) _
     (λ t. simp t)
-    (λ f. simp f (words-length (freezeNo n S E (replicate 16 0)) (replicate 16 0) _ (marked-length n E instant (replicate 16 0))))
+    (λ f. simp f (words-length (freezeNo n S E (replicate 16 0)) (replicate 16 0) _ (length-marked n E instant (replicate 16 0))))
 
 -- slots that pass have room in their columns
 pub lent-room : (n : ℕ) (S E : List ℕ) → slotsOk n S E ≡ true → slotRoomOk n S E ≡ true

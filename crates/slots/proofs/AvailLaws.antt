@@ -7,13 +7,13 @@ use Prim.Native.Nat.{ℕ, zero, suc, _+_, _-_, _*_, _≤_, _<_}
 use native.Mathlib.Nat.{not-suc-le-zero}
 use native.Mathlib.Numerals.{add-one}
 use native.Mathlib.Omega.{arith}
-use borrow.Author.Tests.{leb-true, le-leb, lt-ltb, eq-eqb, ne-eqb}
-use lib.Dec.{leb, eqb}
+use borrow.Author.Tests.{leb-true, ltb-true, ltb-false, le-leb, lt-ltb, le-ltb, eq-eqb, ne-eqb}
+use lib.Dec.{leb, ltb, eqb}
 use lib.ListN.{length, getD, take}
 use lib.Seq.{getD-take, length-take-le}
 use Rattle.paper.specs.Limits.{peopleOk, slotCountOk}
 use Rattle.paper.specs.Count.{allIn}
-use Rattle.paper.proofs.Logic.{lt-or-ge, both, three, and-true, or-left, same-test, cond-zero, people-says, slot-count-says, or-either, or-second}
+use Rattle.paper.proofs.Logic.{by-test, lt-or-ge, both, three, and-true, or-left, same-test, cond-zero, people-says, slot-count-says, or-either, or-second}
 use Rattle.paper.proofs.Count.{in-each, each-in}
 use Rattle.slotset.specs.Slots.{putSlot, putSlots, valueOf}
 use Rattle.slotset.specs.Answers.{rowNo, rowStretchNo, rowStretchOf, wordsAs}
@@ -24,7 +24,7 @@ use Rattle.slots.specs.Ranges.{opens, closes, mergedOf, Spaced}
 use Rattle.slots.specs.Walk.{MergedFrom}
 use Rattle.slots.specs.Freeze.{Opening}
 use Rattle.slots.specs.Atomic.{splitCountsOk}
-use Rattle.slots.specs.Availability.{availableBit, rows, availabilityRoomOk, availabilityNo, availabilityOf, spans, heldBit}
+use Rattle.slots.specs.Availability.{availableBit, rows, availabilityRoomOk, availabilityNo, availabilityOf, spans, reaches, heldBit}
 use Rattle.slots.proofs.Keys.{inLine, in-line, line-in}
 use Rattle.slots.proofs.LentLaws.{slots-sound}
 use Rattle.slots.proofs.Merging.{before-none, any-minutes}
@@ -171,6 +171,39 @@ module _ (keys : List ℕ) (n a b : ℕ) (fits : n ≤ length keys) (s : Spaced 
         let m : k ≡ r - 1 = omega arith in
         le-leb b c (omega (arith, w .1, ap (λ (i : ℕ). closes (getD (take n keys) i 0)) m, ap closes q)))
         (lt-or-ge k (r - 1))))
+
+    -- and so it is asked of that one
+    pub covered-by : (w : Bool) → w ≡ reaches keys r b → w ≡ anyOf (spans a b) (take n keys)
+    unfolding reaches
+    covered-by w e =
+        by-test (ltb 0 r) _ (λ t. e ∙ simp t (covered-last (ltb-true 0 r t) _ refl)) (λ f. e ∙ simp f (covered-none (ltb-false 0 r f)))
+
+pub reaches-some : (keys : List ℕ) (r place c : ℕ) → 0 < r → c ≡ closes (getD keys (r - 1) 0) → leb place c ≡ reaches keys r place
+unfolding reaches
+reaches-some keys r place c h e = simp (lt-ltb 0 r h) (ap (leb place) e)
+
+pub reaches-none : (keys : List ℕ) (r place : ℕ) → r ≤ 0 → false ≡ reaches keys r place
+unfolding reaches
+reaches-none keys r place h = simp (le-ltb 0 r h)
+
+-- ---- the walk to it
+
+module _ (n : ℕ) (f : ℕ → ℕ) (bound r : ℕ) (few : r ≤ n) (by : (k : ℕ) → k < r → f k ≤ bound) where
+  pub opened-more : f r ≤ bound → (k : ℕ) → k < r + 1 → f k ≤ bound
+  opened-more h k l =
+      ⊎-elim (λ i. by k i) (λ (i : r ≤ k). let e : k ≡ r = omega arith in omega (arith, ap f e)) (lt-or-ge k r)
+
+  pub opened-stops : ((k j : ℕ) → k < j → j < n → f k ≤ f j) → bound < f r → Opening n f bound r
+  opened-stops rise h =
+      record {
+        few = few;
+        by = by;
+        after = λ k a b. ⊎-elim (λ (i : r < k). omega (arith, rise r k i b)) (λ (i : k ≤ r). let e : k ≡ r = omega arith in omega
+            (arith, ap f e)) (lt-or-ge r k);
+      }
+
+  pub opened-ends : n ≤ r → Opening n f bound r
+  opened-ends h = record { few = few; by = by; after = λ k a b. absurd (omega arith) }
 
 -- ---- the sets, slot by slot and row by row
 

@@ -28,7 +28,7 @@ use Rattle.slots.proofs.SplitLaws.{atoms-ok, atoms-even, atoms-some, at
 
 -- ---- freezing: exactly the marks said
 
-length-marked : (n : ℕ) (ends : List ℕ) (instant : ℕ) (ws : List ℕ) → length (marked n ends instant ws) ≡ length ws
+pub length-marked : (n : ℕ) (ends : List ℕ) (instant : ℕ) (ws : List ℕ) → length (marked n ends instant ws) ≡ length ws
 unfolding marked putSlot
 length-marked zero ends instant ws = refl
 length-marked (suc n) ends instant ws =

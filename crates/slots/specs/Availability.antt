@@ -1,8 +1,8 @@
 -- Availability of lent slots: one set a person. Assumes nothing.
 use mathlib.Core.Bool.{Bool, _&&_}
 use mathlib.Core.List.{List}
-use Prim.Native.Nat.{ℕ, zero, suc, _+_, _*_}
-use lib.Dec.{leb}
+use Prim.Native.Nat.{ℕ, zero, suc, _+_, _-_, _*_}
+use lib.Dec.{leb, ltb}
 use lib.ListN.{length, getD}
 use Rattle.paper.specs.Limits.{setWords, orElse}
 use Rattle.slotset.specs.Slots.{putSlots, valueOf}
@@ -42,6 +42,10 @@ availabilityOf people slots starts ends R words =
 -- the range x holds all places of the line from a up to b
 unfoldable pub spans : ℕ → ℕ → ℕ → Bool
 spans a b x = leb (opens x) a && leb b (closes x)
+
+-- the last of the first r ranges closes at a place or past it
+unfoldable pub reaches : List ℕ → ℕ → ℕ → Bool
+reaches keys r place = ltb 0 r && leb place (closes (getD keys (r - 1) 0))
 
 -- one of the merged ranges holds the whole slot
 unfoldable pub heldBit : List ℕ → List ℕ → List ℕ → ℕ → ℕ → ℕ

@@ -5,14 +5,14 @@ use crate::split;
 use slotset::row;
 ghost use mathlib.Core.Path.{_≡_};
 ghost use mathlib.Core.Bool.{true};
-ghost use Prim.Native.Nat.{_+_, _*_, _≤_, _<_};
+ghost use Prim.Native.Nat.{ℕ, _+_, _*_, _≤_, _<_};
 ghost use lib.ListN.{length, getD, take};
 ghost use Rattle.paper.specs.Limits.{peopleOk};
 ghost use Rattle.slotset.specs.Slots.{putSlots};
 ghost use Rattle.slots.specs.Lent.{SlotsSound};
-ghost use Rattle.slots.specs.Ranges.{ranges, anyOf, opens, Spaced};
+ghost use Rattle.slots.specs.Ranges.{ranges, opens, Spaced};
 ghost use Rattle.slots.specs.Freeze.{Opening};
-ghost use Rattle.slots.specs.Availability.{availabilityRoomOk, availabilityNo, availabilityOf, spans, heldBit, rows};
+ghost use Rattle.slots.specs.Availability.{availabilityRoomOk, availabilityNo, availabilityOf, reaches, heldBit, rows};
 
 // How many of the merged ranges open at a place of the line or before it.
 pub(crate) fn opened_by(keys: &[u64], n: usize, place: u64) -> usize
@@ -32,21 +32,37 @@ pub(crate) fn opened_by(keys: &[u64], n: usize, place: u64) -> usize
     low
 }
 
-// Whether one of the merged ranges holds all places from a up to b: the only candidate is the last that opens at a or before it.
-fn covered(keys: &[u64], n: usize, a: u64, b: u64) -> bool
+// How many of the merged ranges open at a place of the line or before it, where the first `low` do: a walk on from there.
+fn opened_on(keys: &[u64], n: usize, low: usize, place: u64) -> usize
     requires { ⌜ (n ≤ 1024) × (n ≤ length (now keys)) × Spaced 0 (take n (now keys)) ⌝ }
-    requires { ⌜ a ≤ b ⌝ }
-    ensures { λ r. ⌜ r ≡ anyOf (spans a b) (take n (now (keys .entry))) ⌝ }
+    requires { ⌜ (low ≤ n) × ((k : ℕ) → k < low → opens (getD (now keys) k 0) ≤ place) ⌝ }
+    ensures { λ r. ⌜ Opening n (λ k. opens (getD (now (keys .entry)) k 0)) place r ⌝ }
 {
-    let r = opened_by(keys, n, a);
+    let mut r = low;
+    while r < n {
+        if ranges::opens_at(keys[r]) <= place {
+            r += 1;
+        } else {
+            return r;
+        }
+    }
+    r
+}
+
+// Whether the last of the first r merged ranges closes at a place or past it.
+fn reaches(keys: &[u64], r: usize, place: u64) -> bool
+    requires { ⌜ (r ≤ 1024) × (r ≤ length (now keys)) ⌝ }
+    ensures { λ b. ⌜ b ≡ reaches (now (keys .entry)) r place ⌝ }
+{
     if 0 < r {
-        b <= ranges::closes_at(keys[r - 1])
+        place <= ranges::closes_at(keys[r - 1])
     } else {
         false
     }
 }
 
-// One person's set.
+// One person's set. Slots ascend, so the ranges that open by a slot's start are those of the slot before it, and more; the last of them is
+// the only one that may hold the slot.
 fn fill_row(
     keys: &[u64],
     n: usize,
@@ -64,9 +80,11 @@ fn fill_row(
         (16 * person) 0 slots (now (words .entry)) ⌝ }
 {
     let base = (person as u64) * ranges::WIDTH;
+    let mut opened: usize = 0;
     let mut k: usize = 0;
     while k < slots {
-        let want = covered(keys, n, base + starts[k] as u64, base + ends[k] as u64);
+        opened = opened_on(keys, n, opened, base + starts[k] as u64);
+        let want = reaches(keys, opened, base + ends[k] as u64);
         row::put_stretch(words, people, person, slots, k, k + 1, want);
         k += 1;
     }

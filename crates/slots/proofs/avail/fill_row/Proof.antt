@@ -1,23 +1,25 @@
 -- `slots::avail::fill_row` meets its contract. Assumes nothing.
 use borrow.Author.Needs.{needs}
 use mathlib.Core.Path.{_≡_, refl, sym}
-use Prim.Native.Nat.{_≤_, _-_, _*_}
+use Prim.Native.Nat.{ℕ, _+_, _≤_, _<_, _-_, _*_}
 use native.Mathlib.Omega.{arith}
-use lib.ListN.{take}
+use lib.ListN.{getD, take}
 use Rattle.paper.proofs.Logic.{people-says}
 use Rattle.slotset.specs.Slots.{putSlots}
+use Rattle.slots.specs.Ranges.{opens}
 use Rattle.slots.specs.Availability.{heldBit}
 use Rattle.slotset.proofs.Puts.{puts-none}
-use Rattle.slots.proofs.AvailLaws.{row-length, row-done, row-turn}
+use Rattle.slots.proofs.AvailLaws.{covered-by, row-length, row-done, row-turn}
 use Rattle.slots.proofs.avail.fill_row.Statement.{statement}
 use Rattle.slots.proofs.avail.fill_row.Tie as tie
 
 abbrev Inv-loop : tie.InvT-loop
-Inv-loop keys n slots starts ends words₀ people person base k₀ words k = (k ≤ slots) × (base ≡ person * 268435456) × (words ≡ putSlots
-    (heldBit (take n keys) starts ends person) (16 * person) 0 k words₀)
+Inv-loop keys n slots starts ends words₀ people person base opened₀ k₀ words opened k = (k ≤ slots) × (base ≡ person * 268435456)
+    × (words ≡ putSlots (heldBit (take n keys) starts ends person) (16 * person) 0 k words₀) × (opened ≤ n)
+    × ((j : ℕ) → j < opened → (i : ℕ) → k ≤ i → i < slots → opens (getD keys j 0) ≤ base + getD starts i 0)
 
 abbrev μ-loop : tie.MeasureT-loop
-μ-loop keys n slots starts ends words₀ people person base k₀ words k = slots - k
+μ-loop keys n slots starts ends words₀ people person base opened₀ k₀ words opened k = slots - k
 
 mul-base : tie.Need-mul-base Inv-loop μ-loop
 mul-base c =
@@ -25,25 +27,25 @@ mul-base c =
     omega (arith, people-says _ (pre .1 .1 .0) .1, pre .1 .1 .2)
 
 loop-holds : tie.Need-loop-holds Inv-loop μ-loop
-loop-holds c = (search needs, refl, sym (puts-none _ _ _ _))
+loop-holds c = (search needs, refl, sym (puts-none _ _ _ _), omega arith, λ j h i a b. absurd (omega arith))
 
-mul-covered : tie.Need-mul-covered Inv-loop μ-loop
-mul-covered c =
+mul-opened-on : tie.Need-mul-opened-on Inv-loop μ-loop
+mul-opened-on c =
     let pre = c .before .before .before .before .before .before .pre in
     let T = pre .1 .0 .1 in omega (arith, c .loop-test .taken, T .starts-room)
 
-shared-slice-read-covered : tie.Need-shared-slice-read-covered Inv-loop μ-loop
-shared-slice-read-covered c =
+shared-slice-read-opened-on : tie.Need-shared-slice-read-opened-on Inv-loop μ-loop
+shared-slice-read-opened-on c =
     let pre = c .before .before .before .before .before .before .before .pre in
     let T = pre .1 .0 .1 in omega (arith, c .before .loop-test .taken, T .starts-room)
 
-cast-covered : tie.Need-cast-covered Inv-loop μ-loop
-cast-covered c =
+cast-opened-on : tie.Need-cast-opened-on Inv-loop μ-loop
+cast-opened-on c =
     let pre = c .before .before .before .before .before .before .before .pre in
     let T = pre .1 .0 .1 in omega (arith, T .ordered _ (c .before .loop-test .taken), T .capped _ (c .before .loop-test .taken))
 
-add-covered : tie.Need-add-covered Inv-loop μ-loop
-add-covered c =
+add-opened-on : tie.Need-add-opened-on Inv-loop μ-loop
+add-opened-on c =
     let pre = c .before .before .before .before .before .before .before .pre in
     let loop = c .before .before .loop in
     let T = pre .1 .0 .1 in
@@ -57,42 +59,47 @@ add-covered c =
           (c .before .loop-test .taken),
     )
 
-mul-covered-2 : tie.Need-mul-covered-2 Inv-loop μ-loop
-mul-covered-2 c =
+opened-on-requires : tie.Need-opened-on-requires Inv-loop μ-loop
+opened-on-requires c κs =
     let pre = c .before .before .before .before .before .before .before .pre in
-    let T = pre .1 .0 .1 in omega (arith, c .before .loop-test .taken, T .ends-room)
+    let loop = c .before .before .loop in
+    ((pre .0 .0, pre .0 .1, pre .0 .2), (loop .inv .3, λ j h. loop .inv .4 j h _ (omega arith) (c .before .loop-test .taken)))
 
-shared-slice-read-covered-2 : tie.Need-shared-slice-read-covered-2 Inv-loop μ-loop
-shared-slice-read-covered-2 c =
+mul-reaches : tie.Need-mul-reaches Inv-loop μ-loop
+mul-reaches c =
     let pre = c .before .before .before .before .before .before .before .before .pre in
-    let loop-test = c .before .before .loop-test in
+    let T = pre .1 .0 .1 in omega (arith, c .before .before .loop-test .taken, T .ends-room)
+
+shared-slice-read-reaches : tie.Need-shared-slice-read-reaches Inv-loop μ-loop
+shared-slice-read-reaches c =
+    let pre = c .before .before .before .before .before .before .before .before .before .pre in
+    let loop-test = c .before .before .before .loop-test in
     let T = pre .1 .0 .1 in omega (arith, loop-test .taken, T .ends-room)
 
-cast-covered-2 : tie.Need-cast-covered-2 Inv-loop μ-loop
-cast-covered-2 c =
-    let pre = c .before .before .before .before .before .before .before .before .pre in
-    let loop-test = c .before .before .loop-test in
+cast-reaches : tie.Need-cast-reaches Inv-loop μ-loop
+cast-reaches c =
+    let pre = c .before .before .before .before .before .before .before .before .before .pre in
+    let loop-test = c .before .before .before .loop-test in
     let T = pre .1 .0 .1 in omega (arith, T .capped _ (loop-test .taken))
 
-add-covered-2 : tie.Need-add-covered-2 Inv-loop μ-loop
-add-covered-2 c =
-    let pre = c .before .before .before .before .before .before .before .before .pre in
-    let loop = c .before .before .before .loop in
-    let loop-test = c .before .before .loop-test in
+add-reaches : tie.Need-add-reaches Inv-loop μ-loop
+add-reaches c =
+    let pre = c .before .before .before .before .before .before .before .before .before .pre in
+    let loop = c .before .before .before .before .loop in
+    let loop-test = c .before .before .before .loop-test in
     let T = pre .1 .0 .1 in
     omega (arith, loop .inv .1, people-says _ (pre .1 .1 .0) .1, pre .1 .1 .2, T .capped _ (loop-test .taken))
 
-covered-requires : tie.Need-covered-requires Inv-loop μ-loop
-covered-requires c κs =
-    let pre = c .before .before .before .before .before .before .before .before .pre in
-    let loop-test = c .before .before .loop-test in
-    let T = pre .1 .0 .1 in
-    ((pre .0 .0, pre .0 .1, pre .0 .2), omega (arith, T .ordered _ (loop-test .taken)))
+reaches-requires : tie.Need-reaches-requires Inv-loop μ-loop
+reaches-requires c κs =
+    let pre = c .before .before .before .before .before .before .before .before .before .pre in
+    let few = c .before .opened-on .ensures .few in
+    (omega (arith, few, pre .0 .0), omega (arith, few, pre .0 .1))
 
 add-put-stretch : tie.Need-add-put-stretch Inv-loop μ-loop
 add-put-stretch c =
-    let loop-test = c .before .before .before .before .loop-test in
-    let pre = c .before .before .before .before .before .before .before .before .before .before .pre in
+    let loop-test = c .before .before .before .before .before .loop-test in
+    let pre = c .before .before .before .before .before .before .before .before .before .before .before .pre in
     omega (arith, loop-test .taken, pre .1 .0 .0)
 
 put-stretch-requires : tie.Need-put-stretch-requires Inv-loop μ-loop
@@ -100,30 +107,36 @@ put-stretch-requires c κs = search needs
 
 add-k : tie.Need-add-k Inv-loop μ-loop
 add-k c =
-    let loop-test = c .before .before .before .before .before .before .before .loop-test in
-    let pre = c .before .before .before .before .before .before .before .before .before .before .before .before .before .pre in
+    let loop-test = c .before .before .before .before .before .before .before .before .loop-test in
+    let pre = c .before .before .before .before .before .before .before .before .before .before .before .before .before .before .pre in
     omega (arith, loop-test .taken, pre .1 .0 .0)
 
 loop-less : tie.Need-loop-less Inv-loop μ-loop
 loop-less c =
-    let loop-test = c .before .before .before .before .before .before .before .loop-test in
+    let loop-test = c .before .before .before .before .before .before .before .before .loop-test in
     omega (arith, loop-test .taken)
 
 loop-again : tie.Need-loop-again Inv-loop μ-loop
 loop-again c =
-    let loop = c .before .before .before .before .before .before .before .before .loop in
-    let loop-test = c .before .before .before .before .before .before .before .loop-test in
-    let args = c .before .before .before .before .before .before .before .before .before .before .before .before .before .args in
-    let pre = c .before .before .before .before .before .before .before .before .before .before .before .before .before .pre in
-    let covered = c .before .before .before .before .covered in
+    let loop = c .before .before .before .before .before .before .before .before .before .loop in
+    let loop-test = c .before .before .before .before .before .before .before .before .loop-test in
+    let args = c .before .before .before .before .before .before .before .before .before .before .before .before .before .before .args in
+    let pre = c .before .before .before .before .before .before .before .before .before .before .before .before .before .before .pre in
+    let opened-on = c .before .before .before .before .before .before .opened-on in
+    let reaches = c .before .before .before .before .reaches in
     let put-stretch = c .before .before .put-stretch in
     let inv = loop .inv in
-    let h = loop-test .taken in (
+    let h = loop-test .taken in
+    let T = pre .1 .0 .1 in
+    let order = T .ordered (loop .k) h in (
       omega (arith, h),
       inv .1,
       row-turn (take (args .n) (args .keys .now)) (args .starts .now) (args .ends .now) _ _ _ _ _ _ _ _ _ (pre .1 .1 .0) (pre .1 .0 .0)
           (pre .1 .1 .2) (pre .1 .1 .1) (inv .1) (inv .2) h
-          (covered .ensures) (put-stretch .ensures .1),
+          (covered-by (args .keys .now) (args .n) _ _ (pre .0 .1) (pre .0 .2) _ (opened-on .ensures) (omega (arith, order)) _ (reaches .ensures))
+          (put-stretch .ensures .1),
+      opened-on .ensures .few,
+      λ j g i a b. omega (arith, opened-on .ensures .by j g, T .ascending (loop .k) i (omega arith) b, order),
     )
 
 same-length : tie.Need-same-length Inv-loop μ-loop
@@ -140,15 +153,16 @@ fill-row-spec =
     μ-loop
     mul-base
     loop-holds
-    mul-covered
-    shared-slice-read-covered
-    cast-covered
-    add-covered
-    mul-covered-2
-    shared-slice-read-covered-2
-    cast-covered-2
-    add-covered-2
-    covered-requires
+    mul-opened-on
+    shared-slice-read-opened-on
+    cast-opened-on
+    add-opened-on
+    opened-on-requires
+    mul-reaches
+    shared-slice-read-reaches
+    cast-reaches
+    add-reaches
+    reaches-requires
     add-put-stretch
     put-stretch-requires
     add-k
