@@ -14,14 +14,14 @@ use Rattle.paper.specs.Count.{all, onto}
 use Rattle.paper.proofs.Logic.{by-test, both, three, four, slot-count-says}
 use Rattle.paper.proofs.Count.{all-each, in-each, length-over, getD-over}
 use Rattle.slotset.specs.Answers.{countedAs, wordsAs}
-use Rattle.slotset.specs.Slots.{slot, putSlot}
+use Rattle.slotset.specs.Slots.{slot}
 use Rattle.slots.specs.Lent.{slotRoomOk, slotsOk, slotOkAt, demandOf}
 use Rattle.slots.specs.Ranges.{Ranges, rangeCountOk, rangeRoomOk, rangesOk}
 use Rattle.slots.specs.Atomic as atomic
 use Rattle.slots.specs.Availability.{availabilityOf, availabilityNo, availableBit}
 use Rattle.slots.specs.Freeze.{endsBy, marked, freezeNo, freezeOf}
 use Rattle.slots.proofs.AvailLaws.{length-rows}
-use Rattle.slots.proofs.Meaning.{frozen-marked, atoms-lent, atoms-lent-demand, atoms-count-ok}
+use Rattle.slots.proofs.Meaning.{length-marked, frozen-marked, atoms-lent, atoms-lent-demand, atoms-count-ok}
 use Rattle.units.specs.declared.Settings.{Settings}
 use Rattle.units.specs.Settings.{settingsOk}
 use Rattle.units.specs.Answers.{writtenAs, numberAs}
