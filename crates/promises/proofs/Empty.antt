@@ -80,7 +80,8 @@ always-refusing-falls C (refuses-rotations f) M T =
     f _ _ _ _ _ (ap (λ (w : Written). numberNo (w .answer))
     (M .case-11 0 0 0 (0 ∷ 0 ∷ 0 ∷ 0 ∷ []) (omega arith) (omega arith) (omega arith) (omega arith)))
 always-refusing-falls C (refuses-play f) M T =
-    f still (one-heard _ _ _ (T still) (rota-refuses .play still .heard) ∙ ap (λ (y : rota.Outcome). y .number) (accepted-is still still-accepted))
+    f still (one-heard _ _ _ (T still) (rota-refuses .play still .heard)
+    ∙ ap (λ (y : rota.Outcome). y .number) (accepted-is still still-accepted))
 
 -- ---- one fixed answer
 
@@ -223,7 +224,8 @@ module _ (C : Component) (g : EndsAfresh C) where
       let q = g c both-accepted in
       ap (λ (y : rota.Outcome). setOf y 0 .len) q ∙ afresh-lengths ∙ sym (ap (λ (y : rota.Outcome). setOf y 1 .len) q)
 
-  count-of : SizesRecount C → (p n : ℕ) → p < 2 → count 2 (λ k. eqb (getD (0 ∷ 0 ∷ []) k 0) p) ≡ n → C .size (setOf (C .play c) p) ≡ counted.Is n
+  count-of : SizesRecount C → (p n : ℕ) → p < 2 → count 2 (λ k. eqb (getD (0 ∷ 0 ∷ []) k 0) p) ≡ n
+      → C .size (setOf (C .play c) p) ≡ counted.Is n
   count-of f p n h e =
       f c both-accepted p h ∙ ap (λ (o : List ℕ). counted.Is (count 2 (λ k. eqb (getD o k 0) p))) owners-rest ∙ ap counted.Is e
 

@@ -12,4 +12,6 @@ pub mod SetRules
 pub mod SlotRules
 pub mod UnitRules
 pub mod TargetRules
+pub mod MoveRules
+pub mod JobRules
 pub mod Outcomes

@@ -25,7 +25,8 @@ use Rattle.slotset.specs.Slots.{valueOf}
 use Rattle.slotset.specs.Answers.{countedAs, wordsAs, toldAs}
 use Rattle.slots.specs.Lent.{slotOk, prevEnd, slotOkAt, slotRoomOk, slotsOk}
 use Rattle.slots.specs.Ranges.{Ranges, ranges, some, inRange, inRanges, available, rangeCountOk, rangeRoomOk, rangeOk, rangeOkAt, rangesOk}
-use Rattle.slots.specs.Ranges.{anyOf, keyOf, personOf, startOf, endOf, keyAt, keysTo, keysOf, opens, closes, joined, mergeIn, mergeAll, mergedOf}
+use Rattle.slots.specs.Ranges.{anyOf, keyOf, personOf, startOf, endOf, keyAt, keysTo, keysOf, opens, closes, joined, mergeIn, mergeAll}
+use Rattle.slots.specs.Ranges.{mergedOf}
 use Rattle.slots.specs.Merged.{written}
 use Rattle.slots.specs.Atomic.{startsOrEnds, isCut, cutAfter, cutsIn, atomStarts, atomEnds, Base, base, countsOk, roomOk, Atoms}
 use Rattle.slots.specs.Atomic.{startsOfAtoms, endsOfAtoms, baseCountsOk, baseRoomOk, atomiseNo, atomiseOf}
@@ -99,7 +100,8 @@ module _ (B : Base) where
     room : baseRoomOk B ≡ true
     unfolding roomOk slotRoomOk
     room =
-        and-true _ _ lent (and-true _ _ lentRanges (and-true _ _ (le-leb 1024 (length (B .outStarts)) a) (le-leb 1024 (length (B .outEnds)) b)))
+        and-true _ _ lent (and-true _ _ lentRanges
+        (and-true _ _ (le-leb 1024 (length (B .outStarts)) a) (le-leb 1024 (length (B .outEnds)) b)))
 
     heard : atomiseNo B ≡ 0
     unfolding atomiseNo
@@ -109,7 +111,8 @@ module _ (B : Base) where
     unfolding atomiseOf
     shape = refl
 
-    plain : by 0 s e ≡ record { answer = counted.Is (length s); starts = written (λ t. t) s (B .outStarts); ends = written (λ t. t) e (B .outEnds) }
+    plain : by 0 s e
+        ≡ record { answer = counted.Is (length s); starts = written (λ t. t) s (B .outStarts); ends = written (λ t. t) e (B .outEnds) }
     unfolding countedAs wordsAs
     plain = refl
 
@@ -168,8 +171,8 @@ module _ (ws : List ℕ) (room : 16 ≤ length ws) where
   four-hold a b c d p q r s = simp (p, q, r, s)
 
   none-refused : availabilityNo 1 4 starts ends theirs ws ≡ 0
-  unfolding availabilityNo availabilityRoomOk countsOk peopleOk slotCountOk rangeCountOk slotRoomOk rangeRoomOk slotsOk slotOkAt slotOk prevEnd
-      all rangesOk rangeOkAt rangeOk
+  unfolding availabilityNo availabilityRoomOk countsOk peopleOk slotCountOk rangeCountOk slotRoomOk rangeRoomOk slotsOk slotOkAt slotOk
+      prevEnd all rangesOk rangeOkAt rangeOk
   none-refused = four-hold _ _ _ _ refl (le-leb 16 (length ws) room) refl refl
 
   out-is : out ≡ rows (availableBit theirs starts ends) 4 1 ws

@@ -26,12 +26,14 @@ use Rattle.units.specs.declared.Settings.{Settings}
 use Rattle.units.specs.declared.Number.the-variants as number
 use Rattle.units.specs.declared.UnitSlots.the-variants as unitSlots
 use Rattle.units.specs.declared.Duration.the-variants as duration
-use Rattle.units.specs.Answers.{numberAs, spanAs, onto, Written, writtenAs, unitsNo, unitNo, unitSlotNo, unitCountIs, unitSlotsIs, unitOfSlotIs}
+use Rattle.units.specs.Answers.{numberAs, spanAs, onto, Written, writtenAs, unitsNo, unitNo, unitSlotNo, unitCountIs, unitSlotsIs}
+use Rattle.units.specs.Answers.{unitOfSlotIs}
 use Rattle.units.specs.Starts.{rotationStarts, unitStarts, startsNo, rotationStartsIs, unitStartsIs}
 use Rattle.units.specs.Days.{durationAs, coveredDaysIs, minutesPerDayIs, targetRunNo, targetRunIs}
 use Rattle.units.specs.Domains.{slotDomain, unitDomain, unitFrozenNo, unitFrozenIs, slotDomainNo, slotDomainIs, unitDomainNo, unitDomainIs}
 use Rattle.units.specs.Achievable.{achievableRunNo, achievableRunIs}
-use Rattle.promises.specs.Table.{Rule, Row, row, rules, Hears, Refuses, toldNo, countedNo, minutesNo, numberNo, spanNo, durationNo, figureNo}
+use Rattle.promises.specs.Table.{Rule, Row, row, rules, Hears, Refuses, toldNo, countedNo, minutesNo, numberNo, spanNo}
+use Rattle.promises.specs.Table.{durationNo, figureNo}
 use Rattle.promises.specs.Refusals.{lentTable, mergedTable, atomiseTable, availabilityTable, freezeTable, availableTable, SlotsRefuse}
 use Rattle.promises.specs.Refusals.{unitsTable, startsTable, unitFrozenTable, slotDomainTable, unitDomainTable, targetRunTable}
 use Rattle.promises.specs.Refusals.{achievableTable, UnitsRefuse}

@@ -34,6 +34,7 @@ use Rattle.promises.specs.Entries.{Call, built, noOf, playOf, afreshIn, 
 use Rattle.promises.specs.Rota.{EndsAfresh, FrozenKeep, OwnersAvailable, CoveredStays, OnlyHandedOver, Recounts, AddsUp, after}
 use Rattle.promises.specs.Rota.{SizesRecount, firstCall, nextCall, secondCall, Words, InTwo, TwoCalls}
 use Rattle.promises.specs.Empty.{ActsByRule}
+use Rattle.promises.proofs.RotaRefusals.{refused-set}
 use Rattle.promises.proofs.Calls.{accepted-is, Accepted, accepted-says, says-accepted}
 
 pub ends-afresh : EndsAfresh built
@@ -41,7 +42,8 @@ ends-afresh = accepted-is
 
 -- what an accepted call was asked
 module _ (c : Call) (e : noOf c ≡ 0) where
-  asks : PlayAsks (c .plan) (c .avail) (c .units) (c .firsts) (c .frozen) (c .count) (c .kinds) (c .ones) (c .twos) (c .owners) (c .derived)
+  pub asks : PlayAsks (c .plan) (c .avail) (c .units) (c .firsts) (c .frozen) (c .count) (c .kinds) (c .ones) (c .twos) (c .owners)
+      (c .derived)
       (c .answers)
   asks =
       play-asks (c .plan) (c .avail) (c .units) (c .firsts) (c .frozen) (c .count) (c .kinds) (c .ones) (c .twos) (c .owners) (c .derived)
@@ -73,7 +75,8 @@ only-handed c e k h z =
 pub owners-can : OwnersAvailable built
 owners-can c e k h = (
   ap (knownBy (c .plan .people)) (owner-is c e k)
-      ∙ owners-known (c .plan) (c .avail) (c .units) (c .firsts) (c .frozen) (c .count) (c .kinds) (c .ones) (c .twos) (c .owners) (c .derived)
+      ∙ owners-known (c .plan) (c .avail) (c .units) (c .firsts) (c .frozen) (c .count) (c .kinds) (c .ones) (c .twos) (c .owners)
+      (c .derived)
       (c .answers) (asks c e) (drawsIn c) k h,
   ap (λ (w : ℕ). freeFor (c .avail) w k) (owner-is c e k)
       ∙ owners-available (c .plan) (c .avail) (c .units) (c .firsts) (c .frozen) (c .count) (c .kinds) (c .ones) (c .twos) (c .owners)
@@ -89,7 +92,8 @@ afresh-recounts c e =
 
 pub recounted : Recounts built
 recounted c e =
-    ap (λ (y : Outcome). recounts (c .plan) (c .avail) (c .units) (c .firsts) (y .owners) (y .derived)) (accepted-is c e) ∙ afresh-recounts c e
+    ap (λ (y : Outcome). recounts (c .plan) (c .avail) (c .units) (c .firsts) (y .owners) (y .derived)) (accepted-is c e)
+    ∙ afresh-recounts c e
 
 -- ---- the total
 
@@ -165,8 +169,9 @@ module _ (people slots : ℕ) (ws : List ℕ) (p : ℕ) (e : countsOk people slo
   row-is : slotsOfIs people slots ws p .set ≡ row
   unfolding slotsOfIs loadOf
   row-is =
-      ap (λ (b : Bool). cond b (loadOf ws people p slots) (record { set = record { words = replicate 16 0; len = 0 }; number = 1 }) .set) (counts .1)
-      ∙ ap {B = SlotSet} (λ (n : ℕ). record { words = cond (eqb n 0) (take 16 (drop (16 * p) ws)) (replicate 16 0); len = cond (eqb n 0) slots 0 })
+      ap (λ (b : Bool). cond b (loadOf ws people p slots) refused-set .set) (counts .1)
+      ∙ ap {B = SlotSet}
+      (λ (n : ℕ). record { words = cond (eqb n 0) (take 16 (drop (16 * p) ws)) (replicate 16 0); len = cond (eqb n 0) slots 0 })
       row-none
 
   row-size : built .size row ≡ counted.Is (sum slots (slot (take 16 (drop (16 * p) ws)) 0))

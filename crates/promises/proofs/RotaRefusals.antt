@@ -139,7 +139,8 @@ empty-refuses people slots o D =
     (derived (setsFrom people slots (nobodies slots) (D .sets)) (over (λ _. 0) people (D .minutes))) [] refl refl
 
 owner-heard : (people slots : ℕ) (o : List ℕ) (k : ℕ)
-    → Hears (ownersTable people slots o (row 11 (ltb k slots && knownBy people (getD o k 0)) ∷ [])) (figureNo (rota.ownerIs people slots o k))
+    → Hears (ownersTable people slots o (row 11 (ltb k slots && knownBy people (getD o k 0)) ∷ []))
+    (figureNo (rota.ownerIs people slots o k))
 unfolding rota.ownerIs rota.ground
 owner-heard people slots o k =
     heard-as (ownersTable people slots o (row 11 (ltb k slots && knownBy people (getD o k 0)) ∷ [])) _ refl (figure-no _ (getD o k 0))
@@ -166,6 +167,10 @@ module _ (P : Plan) (o : List ℕ) where
   unfolding rota.uncoveredIs rota.ground
   uncovered-heard = heard-as uncoveredTable _ refl (figure-no _ (uncovered P o))
 
+-- the empty set of no slots, refused by 1
+abbrev pub refused-set : Changed
+refused-set = record { set = record { words = replicate 16 0; len = 0 }; number = 1 }
+
 module _ (people slots : ℕ) (ws : List ℕ) (p : ℕ) where
   abbrev rowTable : List Row
   rowTable = row 1 (rota.countsOk people slots) ∷ row 2 (leb (16 * people) (length ws)) ∷ row 11 (ltb p people) ∷ []
@@ -184,10 +189,10 @@ module _ (people slots : ℕ) (ws : List ℕ) (p : ℕ) where
   slots-of-number =
       by-test (slotCountOk slots) _
       (λ t.
-      ap (λ (b : Bool). cond b (loadOf ws people p slots) (record { set = record { words = replicate 16 0; len = 0 }; number = 1 }) .number) t
+      ap (λ (b : Bool). cond b (loadOf ws people p slots) refused-set .number) t
       ∙ row-number t)
       (λ f.
-      ap (λ (b : Bool). cond b (loadOf ws people p slots) (record { set = record { words = replicate 16 0; len = 0 }; number = 1 }) .number) f
+      ap (λ (b : Bool). cond b (loadOf ws people p slots) refused-set .number) f
       ∙ sym (ap (λ (b : Bool). orElse b 1 after) (ap (λ (b : Bool). peopleOk people && b) f ∙ and-false (peopleOk people))))
 
   slots-of-heard : Hears rowTable (rota.slotsOfIs people slots ws p .number)

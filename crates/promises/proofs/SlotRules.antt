@@ -21,7 +21,8 @@ use Rattle.slots.specs.Lent.{slotRoomOk, slotsOk, demandOf}
 use Rattle.slots.specs.Ranges.{Ranges, rangeRoomOk, rangesOk, personOf, startOf, endOf, opens, closes, joined, inRanges, available}
 use Rattle.slots.specs.Ranges.{keysTo, keysOf, mergeIn, mergeAll, mergedOf, IsMerged}
 use Rattle.slots.specs.Merged.{Columns, columns, written, mergedNo, mergedRanges}
-use Rattle.slots.specs.Atomic.{Base, baseCountsOk, baseRoomOk, baseNo, atomiseNo, atomiseOf, startsOfAtoms, endsOfAtoms, isCut, cutsIn, IsCuts}
+use Rattle.slots.specs.Atomic.{Base, baseCountsOk, baseRoomOk, baseNo, atomiseNo, atomiseOf, startsOfAtoms, endsOfAtoms, isCut, cutsIn}
+use Rattle.slots.specs.Atomic.{IsCuts}
 use Rattle.slots.specs.Atomic.{countsOk}
 use Rattle.slots.specs.Availability.{availableBit, rows, availabilityRoomOk, availabilityNo, availabilityOf}
 use Rattle.slots.specs.Freeze.{endsBy, endedBy, marked, freezeNo, freezeOf, availableNo, isAvailable}
@@ -188,7 +189,8 @@ module _ (people slots : ℕ) (starts ends : List ℕ) (R : Ranges) (words : Lis
   heard : availableNo people slots out p k ≡ 0
   unfolding availableNo
   heard =
-      let r : 16 * people ≤ length out = omega (arith, ap length out-is, length-rows (availableBit R starts ends) slots people words, avail .room) in
+      let r : 16 * people ≤ length out =
+      omega (arith, ap length out-is, length-rows (availableBit R starts ends) slots people words, avail .room) in
       three-hold _ _ _ counts (le-leb (16 * people) (length out) r) (and-true _ _ (lt-ltb p people hp) (lt-ltb k slots hk))
 
   value-one : (b : Bool) → eqb (valueOf b) 1 ≡ b

@@ -46,7 +46,8 @@ module _ (low : ℕ) (t : Row) (ts : List Row) (pos : 0 < low) (h : rising low (
   passed e = record {
     here = λ z. inr (l .here z);
     least = λ k a.
-        ⊎-elim (λ (p : (t .number ≡ k) × (t .passes ≡ false)). not-both (t .passes) _ e (p .1)) (λ (b : Applies (rules ts) k). l .least k b) a;
+        ⊎-elim (λ (p : (t .number ≡ k) × (t .passes ≡ false)). not-both (t .passes) _ e (p .1))
+        (λ (b : Applies (rules ts) k). l .least k b) a;
   }
 
   failed : t .passes ≡ false → Least (rules (t ∷ ts)) (t .number)

@@ -11,7 +11,8 @@ use lib.Ieee.{Float, fin, lt}
 use Rattle.targets.specs.declared.Line.{Line}
 use Rattle.targets.specs.Figures.{zeroF, whole}
 use Rattle.targets.specs.Available.{availableMinutes}
-use Rattle.targets.specs.Passes.{rounded, NearestWhole, unrounded, settled, settle, outside, falls, shareSum, notional, some, Passed, again, done}
+use Rattle.targets.specs.Passes.{rounded, NearestWhole, unrounded, settled, settle, outside, falls, shareSum, notional, some, Passed}
+use Rattle.targets.specs.Passes.{again, done}
 use Rattle.targets.specs.Passes.{refused, pass}
 use Rattle.targets.specs.Remainder.{Takes}
 use Rattle.targets.specs.Outcome.{Given, demandIn, baseAt, leftIn, takerIn}

@@ -83,7 +83,8 @@ unlocked-begins : (boundary value : ℕ) (starts : List ℕ) (k : ℕ) → unitB
 unfolding unitBegins
 unlocked-begins boundary value starts k = refl
 
-locked-begins : (boundary value : ℕ) (starts : List ℕ) (k : ℕ) → unitBegins 1 boundary value starts k ≡ rotationBegins boundary value starts k
+locked-begins : (boundary value : ℕ) (starts : List ℕ) (k : ℕ)
+    → unitBegins 1 boundary value starts k ≡ rotationBegins boundary value starts k
 unfolding unitBegins
 locked-begins boundary value starts k = refl
 

@@ -68,7 +68,8 @@ abbrev pub AddsUp : Component → Type 0
 AddsUp C =
     (c : Call) → noOf c ≡ 0
     → (u : ℕ) × (C .uncovered (c .plan) (C .play c .owners) ≡ Is u)
-    × (sum (c .plan .people) (λ p. getD (C .play c .derived .minutes) p 0) + u ≡ demandOf (c .plan .slots) (c .plan .starts) (c .plan .ends))
+    × (sum (c .plan .people) (λ p. getD (C .play c .derived .minutes) p 0) + u
+    ≡ demandOf (c .plan .slots) (c .plan .starts) (c .plan .ends))
 
 -- "and a list played in two calls ends as in one"
 

@@ -1,5 +1,5 @@
--- Demand 2, slot sets: each answer is the one that the paper's section says. A set is its slots, as a function f, and a length, so each fact
--- is said once for sets by value and for lent rows, over every length. Assumes nothing.
+-- Demand 2, slot sets: each answer is the one that the paper's section says. A set is its slots, as a function f, and a length, so
+-- each fact is said once for sets by value and for lent rows, over every length. Assumes nothing.
 use mathlib.Core.Path.{_≡_}
 use mathlib.Core.List.{List}
 use mathlib.Core.Logic.{_↔_, _≢_}

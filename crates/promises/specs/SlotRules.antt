@@ -55,7 +55,8 @@ pub record SlotsByRule : Type 0 where
   pub merged : (people : ℕ) (R : Ranges) (out : Columns) → mergedNo people R out ≡ 0 → Merged people R out
   pub split : (B : Base) → atomiseNo B ≡ 0 → Split B
   -- "A person is available for a slot exactly when each of its minutes lies in one of their ranges."
-  pub available : (people slots : ℕ) (starts ends : List ℕ) (R : Ranges) (words : List ℕ) → availabilityNo people slots starts ends R words ≡ 0
+  pub available : (people slots : ℕ) (starts ends : List ℕ) (R : Ranges) (words : List ℕ)
+      → availabilityNo people slots starts ends R words ≡ 0
       → (p k : ℕ) → p < people → k < slots
       → (isAvailable people slots (availabilityOf people slots starts ends R words) p k ≡ Yes)
       ↔ ((t : ℕ) → getD starts k 0 ≤ t → t < getD ends k 0 → inRanges R p t ≡ true)

@@ -13,7 +13,8 @@ use Rattle.targets.specs.declared.Line.{Line}
 use Rattle.targets.specs.declared.Person.{Person}
 use Rattle.targets.specs.Figures.{zeroF, whole, lineOf, pad}
 use Rattle.targets.specs.Available.{availableMinutes}
-use Rattle.targets.specs.Passes.{rounded, NearestWhole, within, unrounded, settle, outside, falls, shareSum, notional, some, Passed, again, done}
+use Rattle.targets.specs.Passes.{rounded, NearestWhole, within, unrounded, settle, outside, falls, shareSum, notional, some, Passed}
+use Rattle.targets.specs.Passes.{again, done}
 use Rattle.targets.specs.Passes.{refused, pass, passes, passesLeave}
 use Rattle.targets.specs.Remainder.{totalOf, Takes, sumℤ}
 use Rattle.targets.specs.Outcome.{Given, given, computeTargets, demandIn, baseAt, linesIn, leftIn, takerIn}

@@ -50,7 +50,8 @@ pub record UnitsByRule : Type 0 where
       → Began (unitBegins (s .lock) (s .boundary) (s .value) starts) slots (unitStarts s slots starts) list
       (unitStartsIs s slots starts ends list .buffer)
   pub unlocked : (boundary value : ℕ) (starts : List ℕ) (k : ℕ) → unitBegins 0 boundary value starts k ≡ true
-  pub locked : (boundary value : ℕ) (starts : List ℕ) (k : ℕ) → unitBegins 1 boundary value starts k ≡ rotationBegins boundary value starts k
+  pub locked : (boundary value : ℕ) (starts : List ℕ) (k : ℕ)
+      → unitBegins 1 boundary value starts k ≡ rotationBegins boundary value starts k
   -- units that pass rule 9 tile the slots: each slot is in exactly one
   pub tile : (slots units : ℕ) (firsts : List ℕ) → unitsOk slots units firsts ≡ true → (k : ℕ) → k < slots
       → (u : ℕ) × TheOne (InUnit slots units firsts k) u
