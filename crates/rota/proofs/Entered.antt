@@ -15,10 +15,11 @@ use Rattle.slotset.specs.Slots.{slot}
 use Rattle.slots.specs.Lent.{slotRoomOk, slotsOk}
 use Rattle.slots.proofs.LentLaws.{slots-sound}
 use Rattle.units.specs.Units.{unitStart, unitEnd, unitsOk}
+use Rattle.units.specs.Answers.{onto}
 use Rattle.units.specs.Domains.{available, able}
 use Rattle.units.proofs.Units.{unit-some, unit-within, units-within}
 use Rattle.rota.specs.Board.{Board, BoardSound, Even, ownerOf}
-use Rattle.rota.specs.Plays.{drawsOf, ownersAfter, answers, written}
+use Rattle.rota.specs.Plays.{drawsOf, ownersAfter, answers}
 use Rattle.rota.specs.Ready.{ready}
 use Rattle.rota.specs.Lent.{fitsUnit, boardOf, FitsRight, FrozenRight}
 use Rattle.rota.specs.Derived.{Plan, PlanSound, Derived, derived, knownBy, worked, held, afresh, InStep}
@@ -336,7 +337,7 @@ module _ (P : Plan) (avail : List ℕ) (units : ℕ) (firsts frozen : List ℕ) 
           let ds = drawsOf ks fs ss n in
           let p : o′ ≡ ownersAfter B o ds = R .owners ∙ ap (λ (b : Board). ownersAfter b o ds) same-board in
           ended-yes m _ em o D x _ _ _ z o′ D′ x′ p (R .derived ∙ ap (λ (l : List ℕ). afresh P l D) p)
-          (R .answers ∙ ap (λ (b : Board). written (answers b o ds) x) same-board)
+          (R .answers ∙ ap (λ (b : Board). onto (answers b o ds) x) same-board)
 
   pub played-no : (m : ℕ) → m ≡ playNo P avail units firsts frozen n ks fs ss o D x → (m ≡ 0 → ⊥)
       → Ended (played P avail units firsts frozen n ks fs ss o D x) m o D x

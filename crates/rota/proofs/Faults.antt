@@ -3,21 +3,20 @@ use mathlib.Core.Path.{_≡_, refl, sym, ap, ap₂, _∙_}
 use mathlib.Core.Logic.{⊎-elim}
 use mathlib.Core.Bool.{Bool, true, false, cond, not, _&&_}
 use mathlib.Core.List.{List}
-use Prim.Native.Nat.{ℕ, zero, suc, _+_, _-_, _*_, _/_, _%_, _^_, _≤_, _<_}
+use Prim.Native.Nat.{ℕ, _+_, _*_, _/_, _%_, _≤_, _<_}
 use native.Mathlib.Omega.{arith}
 use borrow.Author.Tests.{eq-eqb, eqb-true, lt-ltb, le-ltb}
 use lib.Dec.{eqb, ltb}
 use lib.ListN.{length, getD, replicate, length-replicate, List·getD-eq-default}
 use Rattle.paper.specs.Bits.{bitOf}
 use Rattle.paper.specs.Count.{all, over}
-use Rattle.paper.proofs.Logic.{by-test, lt-or-ge, same-test, both}
+use Rattle.paper.proofs.Logic.{lt-or-ge, same-test, both}
 use Rattle.paper.proofs.Count.{all-each, each-all, all-same, length-over, getD-over, getD-over-out}
 use Rattle.slotset.specs.Slots.{slot}
 use Rattle.slotset.proofs.Puts.{Fit}
-use Rattle.units.specs.Units.{unitStart, unitEnd}
 use Rattle.rota.specs.declared.Fault.{Fault}
 use Rattle.rota.specs.declared.Fault.the-variants.{Clean, Unknown, Unavailable, Uneven, WrongSet, WrongMinutes}
-use Rattle.rota.specs.Derived.{Plan, PlanSound, Derived, derived, knownBy, worked, held, setsFrom, afresh, Makes}
+use Rattle.rota.specs.Derived.{Plan, PlanSound, Derived, derived, worked, held, setsFrom, afresh, Makes}
 use Rattle.rota.specs.Recount.{firstFail, knownAt, freeAt, evenAt, setSlotAt, setAt, minutesOkAt, faultOf, recounts}
 use Rattle.rota.proofs.Sets.{sets-in, sets-same, length-sets}
 use Rattle.rota.proofs.Scans.{first-test, first-passes}

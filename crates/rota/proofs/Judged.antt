@@ -1,23 +1,21 @@
 -- The laws of judging a draw: tests in a row, masks of people, picks, and the walks to a run's two ends. Assumes nothing.
 use mathlib.Core.Path.{_≡_, refl, sym, ap, ap₂, _∙_}
-use mathlib.Core.Bool.{Bool, true, false, cond, not, _&&_, _||_}
-use mathlib.Core.List.{List, [], _∷_, _++_}
-use mathlib.Core.Logic.{⊎-elim}
-use Prim.Native.Nat.{ℕ, zero, suc, _+_, _-_, _*_, _^_, _≤_, _<_, min}
+use mathlib.Core.Bool.{Bool, true, false, cond, _&&_, _||_}
+use mathlib.Core.List.{List, [], _∷_}
+use Prim.Native.Nat.{ℕ, zero, suc, _+_, _-_, _^_, _≤_, _<_, min}
 use native.Mathlib.Nat.{le-antisymm}
 use native.Mathlib.Omega.{arith}
-use borrow.Author.Tests.{eq-eqb, ne-eqb, eqb-true, lt-ltb, le-leb, lt-leb}
-use lib.Dec.{eqb, ltb, leb, lit<}
+use borrow.Author.Tests.{eq-eqb, ne-eqb, le-leb, lt-leb}
+use lib.Dec.{eqb, leb}
 use lib.Bits.{bitAnd}
 use lib.ListN.{length, getD, length-append}
 use Rattle.paper.specs.Bits.{bitOf}
 use Rattle.paper.specs.Count.{all, allIn, among}
-use Rattle.paper.proofs.Logic.{by-test}
 use Rattle.paper.proofs.Bits.{top-clear, bit-and, bit-ones, bit-lt}
 use Rattle.paper.proofs.Count.{in-none, among-at, among-in}
 use Rattle.rota.specs.declared.Pick.the-variants.{Nobody, Beyond, Person}
 use Rattle.rota.specs.declared.Move.{Move}
-use Rattle.rota.specs.declared.Move.the-variants.{Stay, Give, Trade}
+use Rattle.rota.specs.declared.Move.the-variants.{Stay}
 use Rattle.rota.specs.Board.{runStart, runTo, runEnd}
 use Rattle.rota.specs.Ready.{inMask, fitsBy, Cover}
 use Rattle.rota.specs.Moves.{anyOf, stayIf, picked}

@@ -1,14 +1,14 @@
 -- Sets and minutes made from owners, a stretch at a time. Assumes nothing.
 use mathlib.Core.Path.{_≡_, refl, sym, ap, ap₂, _∙_, subst}
 use mathlib.Core.Logic.{⊎-elim}
-use mathlib.Core.Bool.{Bool, true, false, cond}
+use mathlib.Core.Bool.{Bool, true}
 use mathlib.Core.List.{List}
 use Prim.Native.Nat.{ℕ, zero, suc, _+_, _-_, _*_, _≤_, _<_, zero-le}
 use native.Mathlib.Numerals.{add-one}
 use native.Mathlib.Omega.{arith}
-use borrow.Author.Tests.{eq-eqb, ne-eqb, le-leb, lt-ltb}
-use lib.Dec.{eqb, leb}
-use lib.ListN.{length, getD, set, replicate, getD-replicate}
+use borrow.Author.Tests.{le-leb, lt-ltb}
+use lib.Dec.{leb}
+use lib.ListN.{length, getD, getD-replicate}
 use Rattle.paper.specs.Limits.{nobody, peopleOk}
 use Rattle.paper.specs.Count.{sum, over, fill}
 use Rattle.paper.proofs.Logic.{lt-or-ge}

@@ -1,20 +1,20 @@
 -- Minutes worked out from owners: the total, and a stretch that changes hands. Assumes nothing.
-use mathlib.Core.Path.{_≡_, refl, sym, ap, ap₂, _∙_}
-use mathlib.Core.Logic.{_≢_, ⊎-elim}
-use mathlib.Core.Bool.{Bool, true, false, cond, _||_}
+use mathlib.Core.Path.{_≡_, refl, sym, ap, _∙_}
+use mathlib.Core.Logic.{⊎-elim}
+use mathlib.Core.Bool.{Bool, true, cond}
 use mathlib.Core.List.{List}
-use Prim.Native.Nat.{ℕ, zero, suc, _+_, _-_, _*_, _≤_, _<_, zero-le}
+use Prim.Native.Nat.{ℕ, zero, suc, _+_, _-_, _≤_, _<_, zero-le}
 use native.Mathlib.Omega.{arith}
-use borrow.Author.Tests.{eq-eqb, ne-eqb, eqb-true, eqb-false, ltb-true, ltb-false, lt-ltb, le-ltb}
+use borrow.Author.Tests.{eq-eqb, ne-eqb, eqb-true, eqb-false, ltb-true, lt-ltb, le-ltb}
 use lib.Dec.{eqb, ltb}
-use lib.ListN.{length, getD, set, length-set}
-use lib.Seq.{getD-set-same, getD-set-other, ext-getD}
+use lib.ListN.{length, getD, set}
+use lib.Seq.{getD-set-same, getD-set-other}
 use Rattle.paper.specs.Limits.{nobody}
-use Rattle.paper.specs.Count.{sum, over, fill}
-use Rattle.paper.proofs.Logic.{by-test, or-right, below-suc, lt-or-ge}
-use Rattle.paper.proofs.Count.{sum-part, sum-same, sum-add, sum-change, length-over, getD-over, getD-over-out, length-fill, getD-fill-out}
-use Rattle.slots.specs.Lent.{minutesAt, demandOf}
-use Rattle.rota.specs.Derived.{Plan, lengthAt, knownBy, portion, worked, uncovered, lessAt, moreAt, stretchMinutes}
+use Rattle.paper.specs.Count.{sum, fill}
+use Rattle.paper.proofs.Logic.{by-test, or-right, lt-or-ge}
+use Rattle.paper.proofs.Count.{sum-same, sum-add, sum-change, length-fill, getD-fill-out}
+use Rattle.slots.specs.Lent.{demandOf}
+use Rattle.rota.specs.Derived.{Plan, lengthAt, knownBy, portion, worked, uncovered, stretchMinutes}
 
 pub known-below : (people w : ℕ) → knownBy people w ≡ true → (w ≡ nobody → ⊥) → w < people
 unfolding knownBy

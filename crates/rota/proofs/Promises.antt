@@ -17,11 +17,12 @@ use Rattle.slotset.specs.Slots.{slot}
 use Rattle.slotset.proofs.Puts.{Fit}
 use Rattle.slots.specs.Lent.{demandOf, slotRoomOk, slotsOk}
 use Rattle.units.specs.Units.{unitStart, unitEnd, unitOf}
+use Rattle.units.specs.Answers.{onto}
 use Rattle.units.specs.Domains.{available, able, unfrozen, clear, unitFrozen}
 use Rattle.units.proofs.Units.{unit-of-in}
 use Rattle.rota.specs.Board.{Board, BoardSound, InUnit, Even, ownerOf, unowned}
 use Rattle.rota.specs.Moves.{Draw, draw, decided, anyOf, swapped}
-use Rattle.rota.specs.Plays.{step, ownersAfter, answer, answers, touched, drawsOf, written}
+use Rattle.rota.specs.Plays.{step, ownersAfter, answer, answers, touched, drawsOf}
 use Rattle.rota.specs.Lent.{fitsUnit, frozenUnit, boardOf}
 use Rattle.rota.specs.Derived.{Plan, PlanSound, Derived, knownBy, worked, uncovered, afresh}
 use Rattle.rota.specs.Recount.{freeFor, knownAt, freeAt, recounts}
@@ -342,11 +343,11 @@ module _ (B : Board) (o ks fs ss x : List ℕ) (n i : ℕ) (h : i < n) where
   found = ownersAfter B o (drawsOf ks fs ss i)
 
   abbrev heard-at : ℕ
-  heard-at = getD (written (answers B o (drawsOf ks fs ss n)) x) i 0
+  heard-at = getD (onto (answers B o (drawsOf ks fs ss n)) x) i 0
 
   -- answer i is that of draw i, to the owners that the draws before it leave
   pub answer-at : heard-at ≡ answer B found drawn
-  unfolding written drawsOf answers
+  unfolding onto drawsOf answers
   answer-at =
       let m = n - suc i in
       let rest = drawsOf (drop (suc i) ks) (drop (suc i) fs) (drop (suc i) ss) m in
@@ -369,8 +370,8 @@ module _ (B : Board) (o ks fs ss x : List ℕ) (n i : ℕ) (h : i < n) where
 
 -- answers past the draws stay
 pub answers-past-stay : (B : Board) (o ks fs ss x : List ℕ) (n k : ℕ) → n ≤ k
-    → getD (written (answers B o (drawsOf ks fs ss n)) x) k 0 ≡ getD x k 0
-unfolding written
+    → getD (onto (answers B o (drawsOf ks fs ss n)) x) k 0 ≡ getD x k 0
+unfolding onto
 answers-past-stay B o ks fs ss x n k h =
     let l = answers B o (drawsOf ks fs ss n) in
     let z : length l ≡ n = answers-length B o (drawsOf ks fs ss n) ∙ draws-length ks fs ss n in

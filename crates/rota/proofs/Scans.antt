@@ -1,31 +1,28 @@
 -- The laws of scans that answer their first fault. Assumes nothing.
 use mathlib.Core.Path.{_≡_, refl, sym, ap, ap₂, _∙_}
-use mathlib.Core.Bool.{Bool, true, false, cond, not, _&&_, _||_}
+use mathlib.Core.Bool.{Bool, true, false, cond, not, _&&_}
 use mathlib.Core.List.{List}
 use mathlib.Core.Logic.{⊎-elim}
-use Prim.Native.Nat.{ℕ, zero, suc, _+_, _-_, _*_, _≤_, _<_}
+use Prim.Native.Nat.{ℕ, zero, suc, _+_, _*_, _≤_, _<_}
 use native.Mathlib.Nat.{le-antisymm}
 use native.Mathlib.Omega.{arith}
-use borrow.Author.Tests.{eq-eqb, ne-eqb, eqb-true, eqb-false, lt-ltb, le-ltb, le-leb, lt-leb, ltb-true, ltb-false}
-use lib.Dec.{eqb, ltb, leb}
+use borrow.Author.Tests.{eq-eqb, ne-eqb, lt-ltb, le-ltb, le-leb}
+use lib.Dec.{eqb, ltb}
 use lib.ListN.{length, getD}
 use Rattle.paper.specs.Limits.{nobody, peopleOk}
 use Rattle.paper.specs.Count.{all, allIn, sum}
-use Rattle.paper.proofs.Logic.{by-test, lt-or-ge, below-suc, and-true, and-false, both}
+use Rattle.paper.proofs.Logic.{by-test, lt-or-ge, below-suc, both}
 use Rattle.paper.proofs.Count.{all-each, each-all, all-fails, sum-more}
 use Rattle.slotset.specs.Slots.{slot, has}
 use Rattle.slotset.specs.Answers.{rowNo, toldAs, rowSlots}
 use Rattle.slotset.specs.declared.Told.{Told}
 use Rattle.slotset.specs.declared.Told.the-variants as told
-use Rattle.slots.specs.Lent.{minutesAt, demandOf}
+use Rattle.slots.specs.Lent.{minutesAt}
 use Rattle.units.specs.Units.{unitStart, unitEnd}
 use Rattle.units.specs.Domains.{available}
-use Rattle.rota.specs.declared.Fault.{Fault}
-use Rattle.rota.specs.declared.Fault.the-variants.{Clean, Unknown, Unavailable, Uneven, WrongSet, WrongMinutes}
-use Rattle.rota.specs.Derived.{Plan, Derived, PlanSound, knownBy, portion, worked, held, lengthAt}
+use Rattle.rota.specs.Derived.{Plan, PlanSound, knownBy, portion, worked, held, lengthAt}
 use Rattle.rota.specs.Recount.{firstFail, FirstFault, freeFor, knownAt, freeAt, evenAt, setSlotAt, setAt, sameBit, minutesOkAt}
-use Rattle.rota.specs.Recount.{orFault, faultOf, recounts}
-use Rattle.rota.proofs.Minutes.{known-below, worked-part-le}
+use Rattle.rota.proofs.Minutes.{worked-part-le}
 
 -- ---- the first fault
 

@@ -1,13 +1,12 @@
 -- One draw and a list of draws, done on the lent columns. Assumes nothing.
 use mathlib.Core.Path.{_≡_, refl, sym, ap, ap₂, _∙_, subst}
 use mathlib.Core.Logic.{⊎-elim}
-use mathlib.Core.Bool.{Bool, true, false}
-use mathlib.Core.List.{List, [], _∷_, _++_, append-assoc}
-use Prim.Native.Nat.{ℕ, zero, suc, _+_, _-_, _*_, _≤_, _<_}
+use mathlib.Core.Bool.{Bool, true}
+use mathlib.Core.List.{List, [], _∷_, _++_}
+use Prim.Native.Nat.{ℕ, _+_, _-_, _*_, _≤_, _<_}
 use native.Mathlib.Numerals.{add-one}
 use native.Mathlib.Omega.{arith}
-use lib.ListN.{length, getD, set, length-append, drop}
-use Rattle.paper.specs.Limits.{nobody}
+use lib.ListN.{length, getD, set}
 use Rattle.paper.specs.Count.{fill}
 use Rattle.paper.proofs.Logic.{lt-or-ge}
 use Rattle.paper.proofs.Count.{length-fill}
@@ -18,12 +17,12 @@ use Rattle.rota.specs.declared.Move.{Move}
 use Rattle.rota.specs.declared.Move.the-variants.{Stay, Give, Trade}
 use Rattle.rota.specs.Board.{Board, BoardSound, InUnit, Even, ownerOf}
 use Rattle.rota.specs.Moves.{Draw, draw, decided, answerOf, act, handed}
-use Rattle.rota.specs.Plays.{step, answer, ownersAfter, answers, drawsOf, written}
-use Rattle.rota.specs.Derived.{Plan, PlanSound, knownBy, Derived, derived, afresh, InStep, HandedOver, OneOwner}
+use Rattle.rota.specs.Plays.{step, answer, ownersAfter, answers, drawsOf}
+use Rattle.rota.specs.Derived.{Plan, knownBy, Derived, derived, afresh, InStep, HandedOver, OneOwner}
 use Rattle.rota.specs.Stepped.{Stepped, Ran}
 use Rattle.rota.proofs.Minutes.{known-person}
 use Rattle.rota.proofs.Lawful.{Stretch, Traded, Lawful, decided-lawful}
-use Rattle.rota.proofs.Kept.{from-rises, upto-rises, outside}
+use Rattle.rota.proofs.Kept.{upto-rises, outside}
 use Rattle.rota.proofs.Plays.{play-length, play-even, owners-append, answers-append, answers-length, draws-length}
 use Rattle.rota.proofs.Steps.{afresh-again, afresh-same, afresh-lengths}
 
@@ -143,17 +142,9 @@ module _ (P : Plan) (B : Board) (o : List ℕ) (D : Derived) (d : Draw) (r : Mov
 
 -- ---- a list of draws
 
-pub written-more : (l x : List ℕ) (b : ℕ) → length l < length x → set (written l x) (length l) b ≡ written (l ++ (b ∷ [])) x
-unfolding written onto
-written-more l x b h = onto-more l x b h
-
-pub written-length : (l x : List ℕ) → length l ≤ length x → length (written l x) ≡ length x
-unfolding written onto
-written-length l x h = length-onto l x h
-
 pub ran-start : (P : Plan) (B : Board) (o : List ℕ) (D : Derived) (x ks fs ss : List ℕ) → P .slots ≤ 1024 → Fit (D .sets) → InStep P o D
     → Ran P B o D x (drawsOf ks fs ss 0) o D x
-unfolding drawsOf ownersAfter answers written
+unfolding drawsOf ownersAfter answers onto
 ran-start P B o D x ks fs ss few f J = record { owners = refl; derived = afresh-same P o D few f J; answers = refl; in-step = J }
 
 module _ (P : Plan) (B : Board) (o : List ℕ) (D : Derived) (x ks fs ss : List ℕ) (i : ℕ) (o′ : List ℕ) (D′ : Derived) (x′ : List ℕ)
@@ -168,7 +159,7 @@ module _ (P : Plan) (B : Board) (o : List ℕ) (D : Derived) (x ks fs ss : List 
   answers-so-far = answers-length B o (drawsOf ks fs ss i) ∙ draws-length ks fs ss i
 
   pub ran-answers : i ≤ length x → length x′ ≡ length x
-  ran-answers h = ap length (R .answers) ∙ written-length (answers B o (drawsOf ks fs ss i)) x (omega (arith, answers-so-far))
+  ran-answers h = ap length (R .answers) ∙ length-onto (answers B o (drawsOf ks fs ss i)) x (omega (arith, answers-so-far))
 
   pub ran-lengths : (length (D′ .sets) ≡ length (D .sets)) × (length (D′ .minutes) ≡ length (D .minutes))
   ran-lengths =
@@ -191,11 +182,11 @@ module _ (P : Plan) (B : Board) (o : List ℕ) (D : Derived) (x ks fs ss : List 
         derived = S .derived ∙ ap (afresh P o″) (R .derived) ∙ afresh-again P o′ o″ D few room f;
         answers =
             ap₂ (λ (z : List ℕ) (c : ℕ). set z i c) (R .answers) (S .answer ∙ ap (λ (z : List ℕ). answer B z d) (R .owners))
-            ∙ ap (λ (j : ℕ). set (written l x) j (answer B (ownersAfter B o ds) d)) (sym answers-so-far)
-            ∙ written-more l x (answer B (ownersAfter B o ds) d) (omega (arith, answers-so-far))
-            ∙ ap (λ (z : List ℕ). written z x) (ap (λ (z : List ℕ). l ++ z) (one-answer B (ownersAfter B o ds) d) ∙ sym
+            ∙ ap (λ (j : ℕ). set (onto l x) j (answer B (ownersAfter B o ds) d)) (sym answers-so-far)
+            ∙ onto-more l x (answer B (ownersAfter B o ds) d) (omega (arith, answers-so-far))
+            ∙ ap (λ (z : List ℕ). onto z x) (ap (λ (z : List ℕ). l ++ z) (one-answer B (ownersAfter B o ds) d) ∙ sym
             (answers-append B o ds (d ∷ [])))
-            ∙ ap (λ (z : List Draw). written (answers B o z) x) (sym next);
+            ∙ ap (λ (z : List Draw). onto (answers B o z) x) (sym next);
         in-step = S .in-step;
       }
     where

@@ -11,9 +11,10 @@ use Rattle.slotset.specs.declared.Changed.{Changed}
 use Rattle.slotset.specs.Answers.{loadOf}
 use Rattle.slots.specs.Lent.{slotRoomOk, slotsOk}
 use Rattle.units.specs.Units.{unitsOk}
+use Rattle.units.specs.Answers.{onto}
 use Rattle.rota.specs.declared.Figure.{Figure}
 use Rattle.rota.specs.declared.Figure.the-variants.{Is, Refused}
-use Rattle.rota.specs.Plays.{drawsOf, ownersAfter, answers, written}
+use Rattle.rota.specs.Plays.{drawsOf, ownersAfter, answers}
 use Rattle.rota.specs.Derived.{Plan, Derived, derived, knownBy, afresh, setsFrom, nobodies, unassigned, uncovered}
 use Rattle.rota.specs.Recount.{freeFor, knownAt, freeAt, recounts}
 use Rattle.rota.specs.Lent.{boardOf}
@@ -114,7 +115,7 @@ played P avail units firsts frozen n ks fs ss o D x =
     let B = boardOf (P .people) (P .slots) units avail firsts frozen in
     let ds = drawsOf ks fs ss n in
     outcome (playNo P avail units firsts frozen n ks fs ss o D x) o D x
-    (ownersAfter B o ds) (afresh P (ownersAfter B o ds) D) (written (answers B o ds) x)
+    (ownersAfter B o ds) (afresh P (ownersAfter B o ds) D) (onto (answers B o ds) x)
 
 -- ---- an empty rota: 1, 2
 

@@ -4,7 +4,7 @@ use mathlib.Core.Bool.{Bool, false, true, _&&_, _||_}
 use mathlib.Core.List.{List, [], _∷_, _++_}
 use Prim.Native.Nat.{ℕ, zero, suc}
 use lib.Dec.{eqb}
-use lib.ListN.{length, getD, drop}
+use lib.ListN.{getD}
 use Rattle.rota.specs.Board.{Board}
 use Rattle.rota.specs.Moves.{Draw, draw, decided, answerOf, act, handed}
 
@@ -33,7 +33,3 @@ touched B o (d ∷ ds) u = (eqb (answer B o d) 0 && handed B o d u) || touched B
 unfoldable pub drawsOf : List ℕ → List ℕ → List ℕ → ℕ → List Draw
 drawsOf ks fs ss zero = []
 drawsOf ks fs ss (suc n) = drawsOf ks fs ss n ++ (draw (getD ks n 0) (getD fs n 0) (getD ss n 0) ∷ [])
-
--- l written over the first entries of x: what lies past it stays
-unfoldable pub written : List ℕ → List ℕ → List ℕ
-written l x = l ++ drop (length l) x

@@ -3,9 +3,10 @@ use mathlib.Core.Path.{_≡_}
 use mathlib.Core.List.{List}
 use Prim.Native.Nat.{ℕ, _≤_}
 use lib.ListN.{length}
+use Rattle.units.specs.Answers.{onto}
 use Rattle.rota.specs.Board.{Board, Even}
 use Rattle.rota.specs.Moves.{Draw}
-use Rattle.rota.specs.Plays.{step, answer, ownersAfter, answers, written}
+use Rattle.rota.specs.Plays.{step, answer, ownersAfter, answers}
 use Rattle.rota.specs.Derived.{Plan, Derived, afresh, InStep}
 
 -- one draw: its answer, its owners, and sets and minutes worked out afresh from them
@@ -20,7 +21,7 @@ pub record Ran (P : Plan) (B : Board) (o : List ℕ) (D : Derived) (x : List ℕ
     List ℕ) : Type 0 where
   pub owners : o′ ≡ ownersAfter B o ds
   pub derived : D′ ≡ afresh P o′ D
-  pub answers : x′ ≡ written (answers B o ds) x
+  pub answers : x′ ≡ onto (answers B o ds) x
   pub in-step : InStep P o′ D′
 
 -- room in the columns of draws and answers
