@@ -1,17 +1,16 @@
 -- The digits of a number have that number as their value, and no 0 stands before them. Assumes nothing.
 use mathlib.Core.Path.{_≡_, refl, sym, ap, ap₂, _∙_}
 use mathlib.Core.Logic.{⊎-elim}
-use mathlib.Core.Bool.{Bool, true, false, cond}
+use mathlib.Core.Bool.{Bool, cond}
 use mathlib.Core.List.{List, [], _∷_, _++_}
 use Prim.Native.Nat.{ℕ, zero, suc, _+_, _-_, _*_, _/_, _%_, _^_, _≤_, _<_}
 use native.Mathlib.Nat.{pow-suc}
 use native.Mathlib.Omega.{arith}
-use borrow.Author.Tests.{lt-ltb, le-ltb, ltb-true, ltb-false, eq-eqb, ne-eqb}
-use lib.Dec.{ltb, eqb}
+use borrow.Author.Tests.{lt-ltb, le-ltb, ne-eqb}
 use lib.IntN.{ℤ, pos, negsuc, negℤ, natAbs}
-use lib.ListN.{length, getD, length-append, List·getD-append}
-use lib.Seq.{getD-append-seam}
-use Rattle.paper.proofs.Logic.{by-test, lt-or-ge}
+use lib.ListN.{length, getD, take, length-append, List·getD-append}
+use lib.Seq.{getD-append-seam, getD-take, take-suc, take-length, length-take-le}
+use Rattle.paper.proofs.Logic.{lt-or-ge}
 use Rattle.job.specs.Listing.{decimal, digits, signed}
 use Rattle.job.specs.Digits.{readFrom, readDigits, readSigned, Decimal}
 
@@ -86,6 +85,61 @@ decimal-form (suc f) n h =
     ))
     (lt-or-ge n 10)
 
+-- ---- no other text has that value and that form
+
+read-below : (v : ℕ) (l : List ℕ) → v ≤ readFrom v l
+unfolding readFrom
+read-below v [] = omega arith
+read-below v (b ∷ l) = omega (arith, read-below (v * 10 + (b - 48)) l)
+
+-- digits that don't begin with 0 stand for a number above 0
+read-some : (l : List ℕ) → Decimal l → (getD l 0 0 ≡ 48 → ⊥) → 1 ≤ readDigits l
+unfolding readFrom
+read-some [] D n = absurd (omega (arith, D .some))
+read-some (b ∷ l) D n =
+    let d = D .each 0 (omega arith) in
+    ⊎-elim (λ (h : 48 < b). omega (arith, read-below (0 * 10 + (b - 48)) l)) (λ (h : b ≤ 48). absurd (n (omega arith))) (lt-or-ge 48 b)
+
+one-only : (f : ℕ) (l : List ℕ) → Decimal l → length l ≡ 1 → decimal f (readDigits l) ≡ l
+unfolding readFrom
+one-only f [] D e = absurd (omega arith)
+one-only f (b ∷ []) D e =
+    let d = D .each 0 (omega arith) in
+    let z : 48 + (0 * 10 + (b - 48)) ≡ b = omega arith in
+    decimal-one f (0 * 10 + (b - 48)) (omega arith) ∙ ap (λ (k : ℕ). k ∷ []) z
+one-only f (b ∷ (c ∷ l)) D e = absurd (omega arith)
+
+-- all digits but the last are decimal too
+front-decimal : (l : List ℕ) (k : ℕ) → Decimal l → length l ≡ suc k → 1 ≤ k → Decimal (take k l)
+front-decimal l k D e h =
+    let n = length-take-le k l (omega arith) in
+    record {
+      some = omega arith;
+      each = λ j g. let q = getD-take k l j 0 (omega arith) in let d = D .each j (omega arith) in (omega arith, omega arith);
+      lead = λ g q. D .lead (omega arith) (sym (getD-take k l 0 0 (omega arith)) ∙ q);
+    }
+
+decimal-only : (f : ℕ) (l : List ℕ) → Decimal l → length l ≤ suc f → decimal f (readDigits l) ≡ l
+decimal-only zero l D h = one-only 0 l D (omega (arith, D .some))
+decimal-only (suc f) l D h =
+    ⊎-elim (λ (g : length l < 2). one-only (suc f) l D (omega (arith, D .some)))
+    (λ (g : 2 ≤ length l).
+    let k = length l - 1 in
+    let w : length l ≡ suc k = omega arith in
+    let m = take k l in
+    let b = getD l k 0 in
+    let e : l ≡ m ++ (b ∷ []) = sym (ap (λ (j : ℕ). take j l) (sym w) ∙ take-length l) ∙ take-suc l k 0 (omega arith) in
+    let M = front-decimal l k D w (omega arith) in
+    let n = length-take-le k l (omega arith) in
+    let v = read-some m M (λ q. D .lead (omega arith) (sym (getD-take k l 0 0 (omega arith)) ∙ q)) in
+    let r : readDigits l ≡ readDigits m * 10 + (b - 48) = ap readDigits e ∙ read-more 0 m b in
+    let d = D .each k (omega arith) in
+    let q : readDigits l / 10 ≡ readDigits m = omega arith in
+    let t : 48 + readDigits l % 10 ≡ b = omega arith in
+    decimal-next f (readDigits l) (omega arith)
+    ∙ ap₂ (λ (x : List ℕ) (y : ℕ). x ++ (y ∷ [])) (ap (decimal f) q ∙ decimal-only f m M (omega arith)) t ∙ sym e)
+    (lt-or-ge (length l) 2)
+
 -- ---- digits
 
 -- reading the digits of n gives n back
@@ -97,6 +151,11 @@ digits-value n h = decimal-value 19 n h
 pub digits-decimal : (n : ℕ) → n < 10 ^ 20 → Decimal (digits n)
 unfolding digits
 digits-decimal n h = decimal-form 19 n h .0
+
+-- and the only ones of that value
+pub digits-only : (l : List ℕ) → Decimal l → length l ≤ 20 → digits (readDigits l) ≡ l
+unfolding digits
+digits-only l D h = decimal-only 19 l D h
 
 -- two numbers with the same digits are equal
 pub digits-one : (n m : ℕ) → n < 10 ^ 20 → m < 10 ^ 20 → digits n ≡ digits m → n ≡ m

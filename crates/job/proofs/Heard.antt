@@ -2,17 +2,18 @@
 use mathlib.Core.Path.{_≡_, refl, sym, ap, ap₂, _∙_, subst}
 use mathlib.Core.Bool.{Bool, true, false, cond, _&&_}
 use mathlib.Core.List.{List, [], _∷_, _++_}
-use Prim.Native.Nat.{ℕ, zero, suc, _+_, _-_, _*_, _≤_, _<_}
+use Prim.Native.Nat.{ℕ, zero, _+_, _-_, _*_, _≤_, _<_}
 use native.Mathlib.Omega.{arith}
 use borrow.Author.Tests.{le-leb, leb-true, eq-eqb}
-use lib.Dec.{leb, eqb, lit<, lit≤}
+use lib.Dec.{leb, lit<, lit≤}
 use lib.Ieee.{Float, fin, binary64, ofBits}
 use lib.IntN.{pos}
 use lib.ListN.{length, getD, take, replicate, length-replicate}
-use Rattle.paper.specs.Limits.{peopleOk, slotCountOk, orElse}
+use Rattle.paper.specs.Limits.{peopleOk, orElse}
 use Rattle.paper.specs.Count.{all, sum}
-use Rattle.paper.proofs.Logic.{by-test, both, and-true, cond-zero, people-says, slot-count-says}
+use Rattle.paper.proofs.Logic.{both, and-true, cond-zero, people-says, slot-count-says}
 use Rattle.paper.proofs.Count.{length-over, getD-over, sum-same}
+use Rattle.slotset.specs.Slots.{slot}
 use Rattle.slots.specs.Lent.{slotRoomOk, slotsOk, minutesAt, demandOf}
 use Rattle.slots.specs.Ranges.{rangeCountOk, rangeRoomOk, rangesOk}
 use Rattle.slots.specs.Atomic as atomic
@@ -24,17 +25,15 @@ use Rattle.targets.specs.Remainder.{sumℤ}
 use Rattle.targets.specs.Outcome as targets
 use Rattle.targets.proofs.Promises.{targets-add-up}
 use Rattle.rota.specs.declared.Figure.{Figure}
-use Rattle.rota.specs.Derived.{uncovered}
 use Rattle.rota.specs.Recount.{freeAt}
-use Rattle.rota.specs.Entries as rota
 use Rattle.job.specs.Fields.{le}
 use Rattle.job.specs.File.{jobCounts, jobStarts, fileOk}
 use Rattle.job.specs.Columns.{column, priorsColumn, capacitiesColumn}
 use Rattle.job.specs.Listing.{listed, listingOf}
-use Rattle.job.specs.Stages.{countsOk, countsNo, settingsIn, frozenIn, noOf, valueOf, unitsNoOf, lowerNo}
-use Rattle.job.specs.Stages.{placed, allEven, allKnown, ownersNo, narrowed}
-use Rattle.job.specs.Outcome.{Result, Ready, Draws, planOf, startOf, playOf, figureValue, textOf, listedAs, refusedAs, orRefused}
-use Rattle.job.specs.Outcome.{baseIn, peopleIn, rangesIn, columnOf, capacitiesIn, priorsIn, drawsIn, instantIn, atomsIn, availIn}
+use Rattle.job.specs.Stages.{countsOk, countsNo, settingsIn, noOf, valueOf, unitsNoOf, lowerNo}
+use Rattle.job.specs.Stages.{allEven, allKnown, ownersNo}
+use Rattle.job.specs.Outcome.{Result, startOf, figureValue, textOf, listedAs, refusedAs, orRefused}
+use Rattle.job.specs.Outcome.{baseIn, peopleIn, rangesIn, capacitiesIn, priorsIn, instantIn, atomsIn, availIn}
 use Rattle.job.specs.Outcome.{sharesIn}
 use Rattle.job.specs.Outcome.{unitsIn, readyIn, playResult, rotaResult, ownersResult, slotsResult, atomsResult, countedResult}
 use Rattle.job.specs.Outcome.{jobResult}
@@ -43,10 +42,10 @@ use Rattle.job.specs.Heard.{listedOf}
 use Rattle.job.specs.Heard.{baseTotal, jobTests}
 use Rattle.job.proofs.Files.{length-floats}
 use Rattle.job.proofs.Tests.{Numbered, Rising, stage}
-use Rattle.job.proofs.Passing.{few-says, atoms-no, AtomsSound, atoms-sound, avail-length, frozen-length, lent-room, shares-no}
-use Rattle.job.proofs.Passing.{units-no}
+use Rattle.job.proofs.Passing.{few-says, atoms-no, AtomsSound, atoms-sound, avail-length, frozen-length, frozen-at, lent-room}
+use Rattle.job.proofs.Passing.{shares-no, units-no}
 use Rattle.job.proofs.Passing.{units-right, units-fit, lower-is, owners-known, owners-even, narrowed-length}
-use Rattle.job.proofs.Rotas.{RotaSound, start-no, play-no, uncovered-told, total-before, total-after}
+use Rattle.job.proofs.Rotas.{RotaSound, start-no, play-no, uncovered-told}
 
 -- ---- columns have the room that their counts may ask for
 
@@ -168,7 +167,8 @@ module _ (s : List ℕ) where
         (le-leb (peopleIn c) (length (replicate 32 (pos 0))) (omega (arith, people-few, length-replicate 32 (pos 0)))))))
 
     shares-heard : sharesIn s (jobCounts s) (jobStarts s) (rangesIn s (jobCounts s) (jobStarts s)) n S E .number
-        ≡ orElse (allFiguresOk (peopleIn (jobCounts s)) (capacitiesIn s (jobCounts s) (jobStarts s)) (priorsIn s (jobCounts s) (jobStarts s))) 6
+        ≡ orElse (allFiguresOk (peopleIn (jobCounts s)) (capacitiesIn s (jobCounts s) (jobStarts s))
+        (priorsIn s (jobCounts s) (jobStarts s))) 6
         (orElse (leb (settingsIn s .fairness) 1) 7 0)
     unfolding sharesIn
     shares-heard = shares-no _ (replicate 32 (pos 0)) shares-counts shares-room (A .lent)
@@ -403,6 +403,16 @@ module _ (s : List ℕ) (room : ℕ) (A : AllPass (jobTests s room)) where
       let f = both (leb (settingsIn s .fairness) 1) _ (A 7 (lit< tt)) .0 in
       shares-heard s few (R .slots) (R .starts) (R .ends) (atoms-right s few atoms) ∙ simp (A 6 (lit< tt), f)
 
-  pub targets-add : sumℤ (take (readyOf s .people) (readyOf s .targets)) ≡ pos (demandOf (readyOf s .slots) (readyOf s .starts) (readyOf s .ends))
+  pub targets-add : sumℤ (take (readyOf s .people) (readyOf s .targets)) ≡ pos
+      (demandOf (readyOf s .slots) (readyOf s .starts) (readyOf s .ends))
   unfolding readyOf readyIn sharesIn
   targets-add = targets-add-up _ (replicate 32 (pos 0)) shares-none
+
+  -- slots that end by the instant of the freeze record are frozen
+  pub frozen-there : (getD (jobCounts s) 4 0 ≡ 0 → ⊥) → (k : ℕ) → k < readyOf s .slots
+      → getD (readyOf s .ends) k 0 ≤ instantIn s (jobCounts s) (jobStarts s) → slot (readyOf s .frozen) 0 k ≡ 1
+  unfolding readyOf readyIn
+  frozen-there some k h e =
+      let B = atoms-right s few atoms in
+      let a = atomsIn s (jobCounts s) (jobStarts s) in
+      frozen-at (valueOf (a .answer)) (a .starts) (a .ends) (getD (jobCounts s) 4 0) _ (B .count-ok) (B .lent) some k h e

@@ -1,9 +1,9 @@
 -- Rule 13 as the paper says it: the reader accepts the files of right sequences of records, and no other. Assumes nothing.
 use mathlib.Core.Path.{_≡_, refl, sym, ap, ap₂, _∙_}
 use mathlib.Core.Logic.{_↔_, ⊎-elim}
-use mathlib.Core.Bool.{Bool, true, false, _&&_}
-use mathlib.Core.List.{List, []}
-use Prim.Native.Nat.{ℕ, zero, suc, _+_, _-_, _*_, _≤_, _<_}
+use mathlib.Core.Bool.{Bool, true}
+use mathlib.Core.List.{List, [], _++_, append-nil}
+use Prim.Native.Nat.{ℕ, suc, _+_, _-_, _*_, _≤_, _<_}
 use native.Mathlib.Numerals.{add-one}
 use native.Mathlib.Omega.{arith}
 use borrow.Author.Tests.{leb-true, le-leb, eq-eqb, eqb-true, ltb-true, lt-ltb}
@@ -12,11 +12,12 @@ use lib.ListN.{length, getD, replicate, length-replicate, List·getD-eq-default}
 use Rattle.paper.specs.Count.{all}
 use Rattle.paper.proofs.Logic.{both, four, and-true, lt-or-ge}
 use Rattle.paper.proofs.Count.{all-each, each-all, getD-over}
-use Rattle.job.specs.Fields.{le, Bytes}
-use Rattle.job.specs.Records.{Rec, fileOf, Laid, LayoutFits, IsFile, InOrder, bodies, blockAt, countOf, walkOk}
-use Rattle.job.specs.File.{jobLayout, jobSizes, fileMost, jobCounts, jobStarts, ownerSlot, rising, restOk, fileOk, JobRecords}
+use Rattle.job.specs.Fields.{le, Bytes, Field, bodyOf}
+use Rattle.job.specs.Records.{Rec, fileOf, Laid, LayoutFits, bodies, blockAt, countOf, walkOk}
+use Rattle.job.specs.File.{jobLayout, jobSizes, fileMost, jobCounts, jobStarts, ownerSlot, rising, restOk, fileOk}
 use Rattle.job.specs.File.{JobFile}
 use Rattle.job.specs.Columns.{column}
+use Rattle.job.specs.Stages.{settingsIn}
 use Rattle.job.specs.Outcome.{columnOf}
 use Rattle.job.proofs.Files.{count-at, start-at}
 use Rattle.job.proofs.Sequences.{accepted-laid, laid-accepted, laid-ordered, laid-count, laid-field}
@@ -142,3 +143,28 @@ module _ (s : List ℕ) (J : JobFile s) where
       getD-over (λ j. le n s (at + (4 + off) + j * w)) (getD (jobCounts s) i 0) (replicate 1024 0) k
       (omega (arith, counts-read i h)) (omega (arith, length-replicate {A = ℕ} 1024 0))
       ∙ ap (le n s) z ∙ fields-read i k off n h g r
+
+  -- so a record that was written field by field is read back, by the laws of `Written`
+  pub body-read : (i k off n : ℕ) (fs : List Field) → i < 7 → k < length (bodies (1 + i) (J .records)) → off + n ≤ getD jobSizes i 0
+      → getD (bodies (1 + i) (J .records)) k [] ≡ bodyOf fs
+      → le n s (getD (jobStarts s) i 0 + k * (4 + getD jobSizes i 0) + (4 + off)) ≡ le n (bodyOf fs ++ []) off
+  body-read i k off n fs h g r e =
+      fields-read i k off n h g r ∙ ap (λ (l : List ℕ). le n l off) (e ∙ sym (append-nil (bodyOf fs)))
+
+  -- the settings are those of the settings record
+  pub settings-read : let body = getD (bodies 1 (J .records)) 0 [] in
+      (settingsIn s .fairness ≡ le 1 body 0) × (settingsIn s .lock ≡ le 1 body 1) × (settingsIn s .boundary ≡ le 1 body 2)
+      × (settingsIn s .value ≡ le 2 body 4) × (settingsIn s .days ≡ le 2 body 6)
+  unfolding settingsIn blockAt
+  settings-read =
+      let h : 0 < length (bodies 1 (J .records)) = omega (arith, J .right .settings) in
+      let at : (off n : ℕ) → off + n ≤ 8 → le n s (4 + off) ≡ le n (getD (bodies 1 (J .records)) 0 []) off =
+      λ off n r.
+      let z : 4 + off ≡ 0 + 0 * 12 + (4 + off) = omega arith in
+      ap (le n s) z ∙ fields s (J .records) laid-out (J .whole) 0 0 off n (lit< tt) h r in (
+        sym (one-byte s 4) ∙ at 0 1 (lit≤ tt),
+        sym (one-byte s 5) ∙ at 1 1 (lit≤ tt),
+        sym (one-byte s 6) ∙ at 2 1 (lit≤ tt),
+        at 4 2 (lit≤ tt),
+        at 6 2 (lit≤ tt),
+      )

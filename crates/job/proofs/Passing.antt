@@ -1,29 +1,27 @@
 -- What each stage of a job hears where those before it heard nothing, and what it leaves known. Assumes nothing.
-use mathlib.Core.Path.{_≡_, refl, sym, ap, ap₂, _∙_, subst}
-use mathlib.Core.Logic.{⊎-elim}
-use mathlib.Core.Bool.{Bool, true, false, cond, _&&_, _||_}
-use mathlib.Core.List.{List, [], _++_}
-use Prim.Native.Nat.{ℕ, zero, suc, _+_, _-_, _*_, _≤_, _<_}
+use mathlib.Core.Path.{_≡_, refl, sym, ap, _∙_}
+use mathlib.Core.Bool.{Bool, true, false, cond, _||_}
+use mathlib.Core.List.{List, _++_}
+use Prim.Native.Nat.{ℕ, zero, suc, _+_, _-_, _≤_, _<_}
 use native.Mathlib.Omega.{arith}
-use borrow.Author.Tests.{le-leb, leb-true, eq-eqb, ne-eqb, eqb-true, eqb-false, lt-ltb, ltb-true, ltb-false}
+use borrow.Author.Tests.{le-leb, leb-true, eq-eqb, eqb-true, eqb-false, lt-ltb, ltb-true}
 use lib.Dec.{leb, ltb, eqb}
-use lib.IntN.{ℤ, pos}
+use lib.IntN.{ℤ}
 use lib.ListN.{length, getD, set, replicate, length-append, length-replicate, getD-replicate, length-set}
 use lib.Seq.{getD-set-same, getD-set-other}
 use Rattle.paper.specs.Limits.{peopleOk, slotCountOk, orElse, nobody}
-use Rattle.paper.specs.Count.{all, allIn, over}
-use Rattle.paper.proofs.Logic.{by-test, both, three, four, and-true, cond-zero}
+use Rattle.paper.specs.Count.{all}
+use Rattle.paper.proofs.Logic.{by-test, both, three, four, slot-count-says}
 use Rattle.paper.proofs.Count.{all-each, in-each, length-over, getD-over}
 use Rattle.slotset.specs.Answers.{countedAs, wordsAs}
-use Rattle.slotset.specs.Slots.{putSlot}
+use Rattle.slotset.specs.Slots.{slot, putSlot}
 use Rattle.slots.specs.Lent.{slotRoomOk, slotsOk, slotOkAt, demandOf}
 use Rattle.slots.specs.Ranges.{Ranges, rangeCountOk, rangeRoomOk, rangesOk}
-use Rattle.slots.specs.Merged.{written}
 use Rattle.slots.specs.Atomic as atomic
-use Rattle.slots.specs.Availability.{availabilityOf, availabilityNo, availableBit, rows}
+use Rattle.slots.specs.Availability.{availabilityOf, availabilityNo, availableBit}
 use Rattle.slots.specs.Freeze.{endsBy, marked, freezeNo, freezeOf}
 use Rattle.slots.proofs.AvailLaws.{length-rows}
-use Rattle.slots.proofs.Meaning.{written-length, atoms-lent, atoms-lent-demand, atoms-count-ok}
+use Rattle.slots.proofs.Meaning.{frozen-marked, atoms-lent, atoms-lent-demand, atoms-count-ok}
 use Rattle.units.specs.declared.Settings.{Settings}
 use Rattle.units.specs.Settings.{settingsOk}
 use Rattle.units.specs.Answers.{writtenAs, numberAs, onto}
@@ -35,6 +33,7 @@ use Rattle.targets.specs.Outcome as targets
 use Rattle.targets.proofs.Promises.{number-is}
 use Rattle.rota.specs.Derived.{knownBy}
 use Rattle.job.specs.File.{ownerSlot}
+use Rattle.job.proofs.Prepares.{frozen-some}
 use Rattle.job.specs.Stages.{countsOk, frozenIn, noOf, valueOf, unitsNoOf, unitsValueOf, lowerNo}
 use Rattle.job.specs.Stages.{ownerValue, placed, unitEven, allEven, recordKnown, allKnown, narrowed}
 
@@ -112,12 +111,23 @@ frozen-length n S E freezes instant =
     (λ t. simp t)
     (λ f. simp f (words-length (freezeNo n S E (replicate 16 0)) (replicate 16 0) _ (marked-length n E instant (replicate 16 0))))
 
--- ---- targets and units
-
 -- slots that pass have room in their columns
 pub lent-room : (n : ℕ) (S E : List ℕ) → slotsOk n S E ≡ true → slotRoomOk n S E ≡ true
 unfolding slotsOk
 lent-room n S E e = both (slotRoomOk n S E) (all n (slotOkAt S E)) e .0
+
+-- a slot that ends by the instant of a freeze record is frozen
+pub frozen-at : (n : ℕ) (S E : List ℕ) (freezes instant : ℕ) → slotCountOk n ≡ true → slotsOk n S E ≡ true → (freezes ≡ 0 → ⊥)
+    → (k : ℕ) → k < n → getD E k 0 ≤ instant → slot (frozenIn n S E freezes instant) 0 k ≡ 1
+unfolding freezeOf freezeNo wordsAs endsBy
+frozen-at n S E freezes instant count lent some k h b =
+    let r : 16 ≤ length (replicate {A = ℕ} 16 0) = omega (arith, length-replicate {A = ℕ} 16 0) in
+    let e : freezeOf n S E (replicate 16 0) instant .flags ≡ marked n E instant (replicate 16 0) =
+    simp (count, lent-room n S E lent, le-leb 16 (length (replicate {A = ℕ} 16 0)) r, lent) in
+    ap (λ (w : List ℕ). slot w 0 k) (sym (frozen-some n S E freezes instant some) ∙ e)
+    ∙ frozen-marked E instant (replicate 16 0) r k n (slot-count-says n count .1) h (le-leb (getD E k 0) instant b)
+
+-- ---- targets and units
 
 pub shares-no : (g : targets.Given) (out : List ℤ) → targets.countsOk (g .people) (g .slots) ≡ true → targets.roomOk g (length out) ≡ true
     → slotsOk (g .slots) (g .starts) (g .ends) ≡ true

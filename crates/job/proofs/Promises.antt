@@ -1,34 +1,38 @@
 -- What a job promises, each by name, of every file and every lent listing. Assumes nothing.
 use mathlib.Core.Path.{_≡_, refl, sym, ap, ap₂, _∙_}
 use mathlib.Core.Logic.{_↔_}
-use mathlib.Core.Bool.{Bool, true, false, cond, not, _&&_}
+use mathlib.Core.Bool.{Bool, true, cond, not, _&&_, _||_}
 use mathlib.Core.List.{List, [], _++_}
 use Prim.Native.Nat.{ℕ, zero, suc, _+_, _-_, _*_, _≤_, _<_}
 use native.Mathlib.Omega.{arith}
-use borrow.Author.Tests.{eq-eqb, ne-eqb, eqb-true, eqb-false, not-true}
+use borrow.Author.Tests.{eq-eqb, ne-eqb, eqb-true, eqb-false, leb-false, not-true}
 use lib.Dec.{eqb, lit<, lit≤}
 use lib.IntN.{pos}
 use lib.ListN.{length, getD, take, drop}
 use lib.Seq.{take-at, drop-at}
+use Rattle.paper.specs.Limits.{nobody}
 use Rattle.paper.specs.Count.{sum, all}
-use Rattle.paper.proofs.Logic.{by-test, both}
-use Rattle.paper.proofs.Count.{all-each, sum-same}
+use Rattle.paper.proofs.Logic.{by-test, both, or-right}
+use Rattle.paper.proofs.Count.{all-each, sum-part, sum-same}
+use Rattle.slots.proofs.LentLaws.{slots-sound}
 use Rattle.targets.specs.Remainder.{sumℤ}
 use Rattle.rota.specs.declared.Figure.the-variants as figure
-use Rattle.rota.specs.Derived.{uncovered}
+use Rattle.rota.specs.Derived.{knownBy, uncovered}
+use Rattle.rota.specs.Recount.{freeFor}
 use Rattle.rota.specs.Entries as rota
 use Rattle.job.specs.declared.JobAnswer.{JobAnswer}
 use Rattle.job.specs.declared.JobAnswer.the-variants as answer
 use Rattle.job.specs.Fields.{le}
 use Rattle.job.specs.Records.{bodies}
 use Rattle.job.specs.File.{jobCounts, jobStarts, JobFile}
-use Rattle.job.specs.Listing.{listingOf, put}
-use Rattle.job.specs.Outcome.{Result, refusedAs, listedAs, orRefused, Ends, planOf, jobResult}
-use Rattle.job.specs.Heard.{heardOf, rank, testAt, Lowest, AllPass, readyOf, drawsOf, ownersOf, startedOf, playedOf, listedOf}
-use Rattle.job.specs.Heard.{baseTotal}
-use Rattle.job.specs.Heard.{jobTests}
+use Rattle.job.specs.Listing.{digits, listingOf, put}
+use Rattle.job.specs.Digits.{readDigits}
+use Rattle.job.specs.Outcome.{Result, refusedAs, listedAs, Ends, planOf, instantIn, jobResult}
+use Rattle.job.specs.Heard.{heardOf, testAt, Lowest, AllPass, readyOf, drawsOf, ownersOf, startedOf, playedOf, listedOf}
+use Rattle.job.specs.Heard.{baseTotal, jobTests}
 use Rattle.job.proofs.Tests.{heard-none, heard-lowest}
-use Rattle.job.proofs.Heard.{job-told, numbered, rising, free, sound, demand-is, targets-add}
+use Rattle.job.proofs.Heard.{job-told, numbered, rising, free, sound, demand-is, targets-add, frozen-there}
+use Rattle.job.proofs.Digits.{digits-value}
 use Rattle.job.proofs.Layouts.{counts-read, fields-read}
 use Rattle.job.proofs.Rotas as rotas
 
@@ -124,6 +128,17 @@ module _ (s x : List ℕ) where
         λ z. eqb-false _ 9 (not-true _ (t .1)) (L .number ∙ z),
       )
 
+  -- 2 is heard only where the lent listing is too short
+  pub two-short : jobResult s x .answer ≡ answer.Refused 2 → length x < 44535
+  unfolding jobTests all
+  two-short e =
+      let L = lowest-heard 2 .0 e in
+      let ts = jobTests s (length x) in
+      let z = eqb-true (L .place) 2 (or-right (not (eqb (testAt ts (L .place) .number) 2)) (eqb (L .place) 2)
+      (all-each 11 (λ k. not (eqb (testAt ts k .number) 2) || eqb k 2) refl (L .place) (L .within))
+      (ap not (eq-eqb _ 2 (L .number)))) in
+      leb-false 44535 (length x) (sym (ap (λ (k : ℕ). testAt ts k .passes) z) ∙ L .fails)
+
   -- ---- an accepted job
 
   module _ (n : ℕ) (e : jobResult s x .answer ≡ answer.Length n) where
@@ -164,10 +179,53 @@ module _ (s x : List ℕ) where
         rotas.total-before (readyOf s) (drawsOf s) (ownersOf s) (sound s (length x) pass) (free s (length x) pass)
         ∙ demand-is s (length x) pass
 
+    -- each of these numbers is at most 100,000,000, so that its digits read back: the total as it stands in the bytes of the listing
+    total-small : baseTotal s ≤ 100000000
+    total-small =
+        let R = readyOf s in
+        omega (
+          arith,
+          demand-is s (length x) pass,
+          slots-sound (R .slots) (R .starts) (R .ends) (sound s (length x) pass .lent) .demand-fits,
+        )
+
+    pub total-read : sum (listedOf s .people) (λ p. readDigits (digits (getD (listedOf s .minutes) p 0)))
+        + readDigits (digits (listedOf s .uncovered)) ≡ baseTotal s
+    total-read =
+        let L = listedOf s in
+        let m : ℕ → ℕ = λ p. getD (L .minutes) p 0 in
+        ap₂ _+_
+        (sum-same (L .people) (λ p. readDigits (digits (m p))) m
+        (λ p h. digits-value (m p) (omega (arith, total, total-small, sum-part (L .people) p m h))))
+        (digits-value (L .uncovered) (omega (arith, total, total-small)))
+        ∙ total
+
     -- the targets that are listed add up to it too
     pub targets-total : sumℤ (take (listedOf s .people) (listedOf s .targets)) ≡ pos (baseTotal s)
     unfolding listedOf
     targets-total = targets-add s (length x) pass ∙ ap pos (demand-is s (length x) pass)
+
+    -- ---- what the draws keep, slot by slot: the owners listed, beside those of the file's records
+
+    -- a slot that ends by the instant of the freeze record keeps its owner
+    pub frozen-keeps : (getD (jobCounts s) 4 0 ≡ 0 → ⊥) → (k : ℕ) → k < listedOf s .slots
+        → getD (listedOf s .ends) k 0 ≤ instantIn s (jobCounts s) (jobStarts s) → getD (listedOf s .owners) k 0 ≡ getD (ownersOf s) k 0
+    unfolding listedOf playedOf startedOf
+    frozen-keeps some k h b =
+        rotas.frozen-keeps (readyOf s) (drawsOf s) (ownersOf s) (sound s (length x) pass) (free s (length x) pass) k h
+        (eq-eqb _ 1 (frozen-there s (length x) pass some k h b))
+
+    -- a covered slot stays covered
+    pub stays-covered : (k : ℕ) → k < listedOf s .slots → (getD (ownersOf s) k 0 ≡ nobody → ⊥) → getD (listedOf s .owners) k 0 ≡ nobody → ⊥
+    unfolding listedOf playedOf startedOf
+    stays-covered k h = rotas.stays-covered (readyOf s) (drawsOf s) (ownersOf s) (sound s (length x) pass) (free s (length x) pass) k h
+
+    -- every owner is nobody, or known and available
+    pub owners-fit : (k : ℕ) → k < listedOf s .slots
+        → (knownBy (listedOf s .people) (getD (listedOf s .owners) k 0) ≡ true)
+        × (freeFor (readyOf s .avail) (getD (listedOf s .owners) k 0) k ≡ true)
+    unfolding listedOf playedOf startedOf
+    owners-fit k h = rotas.owners-fit (readyOf s) (drawsOf s) (ownersOf s) (sound s (length x) pass) (free s (length x) pass) k h
 
 -- the total, over the records of the file
 pub base-total-read : (s : List ℕ) (J : JobFile s)

@@ -1,30 +1,30 @@
 -- The rota of a job whose owners are known: 12 is the one refusal left, and minutes and uncovered ones add up. Assumes nothing.
-use mathlib.Core.Path.{_≡_, refl, sym, ap, ap₂, _∙_, subst}
-use mathlib.Core.Bool.{Bool, true, false, cond, _&&_}
-use mathlib.Core.List.{List, []}
-use Prim.Native.Nat.{ℕ, zero, suc, _+_, _-_, _*_, _≤_, _<_}
+use mathlib.Core.Path.{_≡_, sym, ap, ap₂, _∙_}
+use mathlib.Core.Bool.{Bool, true, cond}
+use mathlib.Core.List.{List}
+use Prim.Native.Nat.{ℕ, _+_, _-_, _*_, _≤_, _<_}
 use native.Mathlib.Omega.{arith}
-use borrow.Author.Tests.{le-leb, eq-eqb, eqb-true}
-use lib.Dec.{leb, eqb}
+use borrow.Author.Tests.{le-leb, eq-eqb}
+use lib.Dec.{eqb}
 use lib.ListN.{length, getD, replicate, length-replicate}
-use Rattle.paper.specs.Limits.{peopleOk, slotCountOk, orElse}
+use Rattle.paper.specs.Limits.{peopleOk, slotCountOk, orElse, nobody}
+use Rattle.slotset.specs.Slots.{slot}
 use Rattle.paper.specs.Count.{sum, all}
 use Rattle.paper.proofs.Logic.{both, and-true, people-says, slot-count-says}
 use Rattle.paper.proofs.Count.{each-all, all-each, sum-same}
 use Rattle.slots.specs.Lent.{slotRoomOk, slotsOk, slotOkAt, demandOf}
 use Rattle.units.specs.Units.{unitStart, unitEnd, unitsOk}
-use Rattle.rota.specs.declared.Figure.{Figure}
 use Rattle.rota.specs.declared.Figure.the-variants as figure
 use Rattle.rota.specs.Derived.{Plan, Derived, derived, knownBy, worked, uncovered, afresh, InStep}
-use Rattle.rota.specs.Recount.{knownAt, freeAt, recounts}
+use Rattle.rota.specs.Recount.{freeFor, knownAt, freeAt, recounts}
 use Rattle.rota.specs.Plays.{drawsOf, ownersAfter}
 use Rattle.rota.specs.Lent.{boardOf}
 use Rattle.rota.specs.Entries as rota
 use Rattle.rota.proofs.Minutes.{minutes-total}
 use Rattle.rota.proofs.Plays.{play-length}
 use Rattle.rota.proofs.Steps.{afresh-step}
-use Rattle.rota.proofs.Entered.{Grounds, grounds, says-recount, PlayAsks, play-asks}
-use Rattle.rota.proofs.Promises.{owners-known, played-recounts, minutes-and-uncovered}
+use Rattle.rota.proofs.Entered.{says-recount, PlayAsks, play-asks}
+use Rattle.rota.proofs.Promises.{owners-known, owners-available, frozen-slots-keep, covered-stays}
 use Rattle.job.specs.Outcome.{Ready, Draws, planOf, startOf, playOf}
 
 -- what is known of a job before its owners are judged by availability
@@ -116,9 +116,6 @@ module _ (R : Ready) (d : Draws) (o : List ℕ) (H : RotaSound R d o) where
 
     -- ---- the play is never refused
 
-    abbrev D : Derived
-    D = afresh P o none
-
     abbrev no : ℕ
     no =
         rota.playNo P (R .avail) (R .units) (R .firsts) (R .frozen) (d .count) (d .kinds) (d .ones) (d .twos) o (afresh P o none)
@@ -155,9 +152,6 @@ module _ (R : Ready) (d : Draws) (o : List ℕ) (H : RotaSound R d o) where
     after =
         ownersAfter (boardOf (R .people) (R .slots) (R .units) (R .avail) (R .firsts) (R .frozen)) o
         (drawsOf (d .kinds) (d .ones) (d .twos) (d .count))
-
-    abbrev y : rota.Outcome
-    y = playOf R d o (startOf R o .derived)
 
     pub play-no : playOf R d o (startOf R o .derived) .number ≡ 0
     unfolding playOf rota.played rota.outcome
@@ -225,3 +219,37 @@ module _ (R : Ready) (d : Draws) (o : List ℕ) (H : RotaSound R d o) where
         ap₂ (λ (E : Derived) (w : List ℕ). sum (R .people) (λ p. getD (E .minutes) p 0) + uncovered P w) play-derived play-owners
         ∙ total-of after (afresh P o none) after-known (omega (arith, length-after, H .owners-room)) (in-step .sets-room)
         (in-step .minutes-room)
+
+    -- ---- what the draws keep
+
+    -- a frozen slot keeps its owner
+    pub frozen-keeps : (k : ℕ) → k < R .slots → eqb (slot (R .frozen) 0 k) 1 ≡ true
+        → getD (playOf R d o (startOf R o .derived) .owners) k 0 ≡ getD o k 0
+    unfolding after
+    frozen-keeps k h z =
+        ap (λ (w : List ℕ). getD w k 0) play-owners
+        ∙ frozen-slots-keep P (R .avail) (R .units) (R .firsts) (R .frozen) (d .count) (d .kinds) (d .ones) (d .twos) o (afresh P o none)
+        (replicate 1024 0) asks (drawsOf (d .kinds) (d .ones) (d .twos) (d .count)) k h z
+
+    -- a covered slot stays covered
+    pub stays-covered : (k : ℕ) → k < R .slots → (getD o k 0 ≡ nobody → ⊥)
+        → getD (playOf R d o (startOf R o .derived) .owners) k 0 ≡ nobody → ⊥
+    unfolding after
+    stays-covered k h n z =
+        covered-stays P (R .avail) (R .units) (R .firsts) (R .frozen) (d .count) (d .kinds) (d .ones) (d .twos) o (afresh P o none)
+        (replicate 1024 0) asks (drawsOf (d .kinds) (d .ones) (d .twos) (d .count)) k h n
+        (ap (λ (w : List ℕ). getD w k 0) (sym play-owners) ∙ z)
+
+    -- every owner is nobody, or known and available
+    pub owners-fit : (k : ℕ) → k < R .slots
+        → (knownBy (R .people) (getD (playOf R d o (startOf R o .derived) .owners) k 0) ≡ true)
+        × (freeFor (R .avail) (getD (playOf R d o (startOf R o .derived) .owners) k 0) k ≡ true)
+    unfolding after
+    owners-fit k h =
+        let e : getD (playOf R d o (startOf R o .derived) .owners) k 0 ≡ getD after k 0 = ap (λ (w : List ℕ). getD w k 0) play-owners in (
+          ap (knownBy (R .people)) e ∙ after-known k h,
+          ap (λ (w : ℕ). freeFor (R .avail) w k) e
+              ∙ owners-available P (R .avail) (R .units) (R .firsts) (R .frozen) (d .count) (d .kinds) (d .ones) (d .twos) o
+              (afresh P o none)
+              (replicate 1024 0) asks (drawsOf (d .kinds) (d .ones) (d .twos) (d .count)) k h,
+        )

@@ -1,5 +1,5 @@
 -- Laws of a row of tests: the first that fails, and the lowest number. Assumes nothing.
-use mathlib.Core.Path.{_≡_, refl, sym, ap, ap₂, _∙_, subst}
+use mathlib.Core.Path.{_≡_, refl, sym, ap, _∙_, subst}
 use mathlib.Core.Logic.{_↔_}
 use mathlib.Core.Bool.{Bool, true, false, cond}
 use mathlib.Core.List.{List, [], _∷_, _++_}
@@ -7,8 +7,7 @@ use Prim.Native.Nat.{ℕ, zero, suc, _+_, _≤_, _<_}
 use native.Mathlib.Omega.{arith}
 use borrow.Author.Tests.{eq-eqb, ne-eqb, eqb-true, eqb-false}
 use lib.Dec.{eqb}
-use lib.ListN.{length, getD}
-use Rattle.paper.specs.Limits.{orElse}
+use lib.ListN.{length}
 use Rattle.paper.proofs.Logic.{by-test}
 use Rattle.job.specs.Outcome.{Result, refusedAs, orRefused}
 use Rattle.job.specs.Heard.{Test, test, heardOf, rank, testAt, Lowest, AllPass}
