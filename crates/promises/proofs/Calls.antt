@@ -1,7 +1,6 @@
 -- A call of play that is accepted: what its tests say, and its outcome. Assumes nothing.
-use mathlib.Core.Path.{_≡_, refl, sym, ap, _∙_}
+use mathlib.Core.Path.{_≡_, ap}
 use mathlib.Core.Bool.{Bool, true, _&&_}
-use mathlib.Core.List.{List, []}
 use Prim.Native.Nat.{ℕ, _≤_}
 use borrow.Author.Tests.{le-leb, leb-true}
 use lib.Dec.{leb}
@@ -11,7 +10,7 @@ use Rattle.paper.proofs.Logic.{both, five, and-true, cond-zero}
 use Rattle.slots.specs.Lent.{slotsOk}
 use Rattle.units.specs.Units.{unitsOk}
 use Rattle.rota.specs.Recount.{recounts}
-use Rattle.rota.specs.Entries.{countsOk, roomOk, ground, playRoomOk, playNo, Outcome, outcome, played}
+use Rattle.rota.specs.Entries.{countsOk, roomOk, ground, playRoomOk, playNo, outcome, played}
 use Rattle.rota.proofs.Entered.{ground-all}
 use Rattle.promises.specs.Entries.{Call, noOf, playOf, afreshIn}
 

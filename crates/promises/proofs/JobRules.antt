@@ -1,6 +1,5 @@
 -- The job, by the laws of job. Assumes nothing.
-use mathlib.Core.Path.{_≡_, refl, sym}
-use Prim.Native.Nat.{ℕ}
+use mathlib.Core.Path.{refl, sym}
 use Rattle.job.specs.Outcome.{jobResult}
 use Rattle.job.proofs.Layouts.{rule-13}
 use Rattle.job.proofs.Digits.{digits-value}

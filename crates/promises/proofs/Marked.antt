@@ -2,13 +2,12 @@
 use mathlib.Core.Path.{_≡_, refl, sym, ap, ap₂, _∙_}
 use mathlib.Core.Bool.{Bool, true, false, _&&_, cond}
 use mathlib.Core.List.{List, [], _∷_, _++_}
-use Prim.Native.Nat.{ℕ, zero, suc, _+_, _-_, _*_, _^_, _≤_, _<_, min}
+use Prim.Native.Nat.{ℕ, _+_, _-_, _^_, _≤_, _<_}
 use native.Mathlib.Omega.{arith}
-use borrow.Author.Tests.{le-leb, leb-true, lt-ltb}
+use borrow.Author.Tests.{le-leb, leb-true}
 use lib.Dec.{leb, ltb, eqb}
 use lib.ListN.{length, drop, getD, length-append, length-drop, List·getD-append}
 use lib.Seq.{ext-getD, getD-append-add, getD-drop}
-use native.Mathlib.Bridge.{le-by-compare, IsLe}
 use mathlib.Core.Logic.{⊎-elim}
 use Rattle.paper.proofs.Logic.{lt-or-ge, and-true}
 use Rattle.paper.specs.Limits.{peopleOk, slotCountOk, orElse}
@@ -28,13 +27,12 @@ use Rattle.slots.specs.Ranges.{Ranges, ranges, some, inRange, inRanges, availab
 use Rattle.slots.specs.Ranges.{anyOf, keyOf, personOf, startOf, endOf, keyAt, keysTo, keysOf, opens, closes, joined, mergeIn, mergeAll}
 use Rattle.slots.specs.Ranges.{mergedOf}
 use Rattle.slots.specs.Merged.{written}
-use Rattle.slots.specs.Atomic.{startsOrEnds, isCut, cutAfter, cutsIn, atomStarts, atomEnds, Base, base, countsOk, roomOk, Atoms}
+use Rattle.slots.specs.Atomic.{startsOrEnds, isCut, cutAfter, cutsIn, atomStarts, atomEnds, Base, countsOk, roomOk, Atoms}
 use Rattle.slots.specs.Atomic.{startsOfAtoms, endsOfAtoms, baseCountsOk, baseRoomOk, atomiseNo, atomiseOf}
 use Rattle.slots.specs.Availability.{availableBit, rows, availabilityRoomOk, availabilityNo, availabilityOf}
 use Rattle.slots.specs.Freeze.{availableNo, isAvailable}
 use Rattle.slots.proofs.Meaning.{written-at, written-past, written-length, available-slot}
 use Rattle.slots.proofs.AvailLaws.{length-rows}
-use Rattle.units.specs.declared.Settings.{Settings}
 use Rattle.units.specs.declared.Number.the-variants as number
 use Rattle.units.specs.Settings.{boundaryOk, settingsOk}
 use Rattle.units.specs.Dates.{dateOf, weekdayOf, listed}
@@ -42,7 +40,7 @@ use Rattle.units.specs.Answers.{numberAs, onto, writtenAs}
 use Rattle.units.specs.Starts.{dayBegins, rotationBegins, rotationStarts, startsNo, rotationStartsIs}
 use Rattle.promises.proofs.TwoUnits.{case-12}
 use Rattle.targets.proofs.Cases.{case7, case8, case9, case10}
-use Rattle.promises.specs.Entries.{Component, built}
+use Rattle.promises.specs.Entries.{built}
 use Rattle.promises.specs.Marked.{MarkedCases, inWords, onePerson, atoms, mondays}
 
 case-1 : (rest : List ℕ)

@@ -1,8 +1,8 @@
 -- Demand 3, sentence by sentence, by the laws of rota. Assumes nothing.
-use mathlib.Core.Path.{_≡_, refl, sym, ap, ap₂, _∙_}
-use mathlib.Core.Bool.{Bool, true, _&&_, cond}
-use mathlib.Core.List.{List, [], _∷_, _++_, append-assoc}
-use Prim.Native.Nat.{ℕ, suc, _+_, _-_, _*_, _/_, _%_, _≤_, _<_}
+use mathlib.Core.Path.{_≡_, sym, ap, ap₂, _∙_}
+use mathlib.Core.Bool.{Bool, true, cond}
+use mathlib.Core.List.{List, _++_, append-assoc}
+use Prim.Native.Nat.{ℕ, _+_, _*_, _/_, _%_, _≤_, _<_}
 use native.Mathlib.Omega.{arith}
 use borrow.Author.Tests.{le-leb, leb-true, lt-ltb}
 use lib.Dec.{leb, eqb}
@@ -14,25 +14,26 @@ use Rattle.paper.specs.Bits.{bitOf}
 use Rattle.paper.proofs.Logic.{both, five, and-true, slot-count-says}
 use Rattle.paper.proofs.Count.{each-all, sum-same}
 use Rattle.slotset.specs.declared.SlotSet.{SlotSet}
-use Rattle.slotset.specs.declared.Changed.{Changed}
 use Rattle.slotset.specs.declared.Counted.the-variants as counted
 use Rattle.slotset.specs.Slots.{slot, size}
 use Rattle.slotset.specs.Answers.{lenNo, rowNo, countedAs, loadOf}
 use Rattle.slots.specs.Lent.{slotRoomOk, demandOf}
+use Rattle.units.specs.Answers.{onto}
 use Rattle.rota.specs.declared.Figure.the-variants.{Is}
 use Rattle.rota.specs.Moves.{Draw}
-use Rattle.rota.specs.Plays.{drawsOf, ownersAfter, answers, written}
-use Rattle.rota.specs.Derived.{Plan, Derived, knownBy, uncovered, held, afresh}
+use Rattle.rota.specs.Plays.{drawsOf, ownersAfter, answers}
+use Rattle.rota.specs.Derived.{knownBy, uncovered, held, afresh}
 use Rattle.rota.specs.Recount.{freeFor, knownAt, recounts}
 use Rattle.rota.specs.Entries.{Outcome, countsOk, roomOk, uncoveredIs, figureAs, ground, slotsOfIs}
 use Rattle.rota.proofs.Entered.{PlayAsks, play-asks, recount-says}
 use Rattle.rota.proofs.Plays.{play-length, answers-length, draws-length}
 use Rattle.rota.proofs.Steps.{afresh-lengths}
 use Rattle.rota.proofs.Promises.{frozen-slots-keep, covered-stays, only-handed-over, owners-known, owners-available, played-recounts}
+use Rattle.rota.proofs.Promises.{owners-past-stay, derived-past-stay, answers-past-stay}
 use Rattle.rota.proofs.Promises.{minutes-and-uncovered, two-calls-owners, two-calls-answers, two-calls-derived}
 use Rattle.promises.specs.Entries.{Call, built, noOf, playOf, afreshIn, boardIn, ownersIn, drawsIn}
 use Rattle.promises.specs.Rota.{EndsAfresh, FrozenKeep, OwnersAvailable, CoveredStays, OnlyHandedOver, Recounts, AddsUp, after}
-use Rattle.promises.specs.Rota.{SizesRecount, firstCall, nextCall, secondCall, Words, InTwo, TwoCalls}
+use Rattle.promises.specs.Rota.{SizesRecount, PastStays, firstCall, nextCall, secondCall, Words, InTwo, TwoCalls}
 use Rattle.promises.specs.Empty.{ActsByRule}
 use Rattle.promises.proofs.RotaRefusals.{refused-set}
 use Rattle.promises.proofs.Calls.{accepted-is, Accepted, accepted-says, says-accepted}
@@ -198,13 +199,32 @@ sizes-recounted c e p h =
     (omega (arith, l .0, asks c e .grounds .on .room .sets-room)) h (ownersIn c) (λ k b. r .sets p k h b)
     ∙ sym (ap (λ (a : Outcome). counted.Is (count (c .plan .slots) (λ k. eqb (getD (a .owners) k 0) p))) (accepted-is c e))
 
+-- ---- what lies past
+
+pub past-stays : PastStays built
+past-stays c e =
+    let w = accepted-is c e in
+    let d = derived-past-stay (c .plan) (c .avail) (c .units) (c .firsts) (c .frozen) (c .count) (c .kinds) (c .ones) (c .twos) (c .owners)
+    (c .derived) (c .answers) (asks c e) (drawsIn c) in
+    record {
+      owners = λ k h.
+          owner-is c e k
+          ∙ owners-past-stay (c .plan) (c .avail) (c .units) (c .firsts) (c .frozen) (c .count) (c .kinds) (c .ones) (c .twos) (c .owners)
+          (c .derived) (c .answers) (asks c e) (drawsIn c) k h;
+      minutes = λ p h. ap (λ (y : Outcome). getD (y .derived .minutes) p 0) w ∙ d .1 p h;
+      answers = λ k h.
+          ap (λ (y : Outcome). getD (y .answers) k 0) w
+          ∙ answers-past-stay (boardIn c) (c .owners) (c .kinds) (c .ones) (c .twos) (c .answers) (c .count) k h;
+      sets = λ i b. ap (λ (y : Outcome). slot (y .derived .sets) 0 i) w ∙ d .0 i b;
+    }
+
 -- ---- two calls
 
 -- answers of two parts, each written where the call before it ended
-written-twice : (a b x : List ℕ) (n m : ℕ) → length a ≡ n → length b ≡ m
-    → take n (written a x) ++ written b (drop n (written a x)) ≡ written (a ++ b) x
-unfolding written
-written-twice a b x n m p q =
+onto-twice : (a b x : List ℕ) (n m : ℕ) → length a ≡ n → length b ≡ m
+    → take n (onto a x) ++ onto b (drop n (onto a x)) ≡ onto (a ++ b) x
+unfolding onto
+onto-twice a b x n m p q =
     let d : drop n (a ++ drop (length a) x) ≡ drop n x = drop-at a (drop (length a) x) n p ∙ ap (λ (k : ℕ). drop k x) p in
     let s : n + length b ≡ length (a ++ b) = omega (arith, length-append a b) in
     ap₂ (λ (l r : List ℕ). l ++ (b ++ drop (length b) r)) (take-at a (drop (length a) x) n p) d
@@ -259,7 +279,7 @@ module _ (c : Call) (n m : ℕ) (s : c .count ≡ n + m) (e : noOf c ≡ 0) (f :
   said-length = answers-length (boardIn c) (c .owners) (drawsIn one) ∙ draws-length (c .kinds) (c .ones) (c .twos) n
 
   left-length : length (afreshIn one .answers) ≡ length (c .answers)
-  unfolding written
+  unfolding onto
   left-length =
       length-append said (drop (length said) (c .answers))
       ∙ omega (arith, length-drop (length said) (c .answers), said-length, A .answers)
@@ -298,9 +318,9 @@ module _ (c : Call) (n m : ℕ) (s : c .count ≡ n + m) (e : noOf c ≡ 0) (f :
 
   answers-same : take n (afreshIn one .answers) ++ afreshIn two .answers ≡ afreshIn c .answers
   answers-same =
-      written-twice said (answers (boardIn c) (ownersIn one) (drawsIn two)) (c .answers) n m said-length
+      onto-twice said (answers (boardIn c) (ownersIn one) (drawsIn two)) (c .answers) n m said-length
       (answers-length (boardIn c) (ownersIn one) (drawsIn two) ∙ draws-length (two .kinds) (two .ones) (two .twos) m)
-      ∙ ap (λ (l : List ℕ). written l (c .answers))
+      ∙ ap (λ (l : List ℕ). onto l (c .answers))
       (sym (two-calls-answers (boardIn c) (c .owners) (c .kinds) (c .ones) (c .twos) n m)
       ∙ ap (λ (k : ℕ). answers (boardIn c) (c .owners) (whole k)) (sym s))
 

@@ -1,12 +1,12 @@
 -- Demand 1 of targets and rota: heard by the table, and a refusal leaves what was lent as it was. Assumes nothing.
-use mathlib.Core.Path.{_≡_, refl, sym, ap, ap₂, _∙_, subst}
-use mathlib.Core.Bool.{Bool, true, false, _&&_, cond}
+use mathlib.Core.Path.{_≡_, refl, sym, ap, _∙_, subst}
+use mathlib.Core.Bool.{Bool, true, _&&_, cond}
 use mathlib.Core.List.{List, [], _∷_}
-use mathlib.Core.Logic.{_⊎_, inl, inr, ⊎-elim}
+use mathlib.Core.Logic.{inl, inr, ⊎-elim}
 use Prim.Native.Nat.{ℕ, _*_, _≤_, _<_}
 use native.Mathlib.Omega.{arith}
-use borrow.Author.Tests.{eq-eqb, ne-eqb, eqb-true, eqb-false, le-leb, leb-true}
-use lib.Dec.{leb, ltb, eqb}
+use borrow.Author.Tests.{ne-eqb, le-leb}
+use lib.Dec.{leb, ltb}
 use lib.IntN.{ℤ}
 use lib.ListN.{length, getD, set, replicate}
 use Rattle.paper.specs.Limits.{peopleOk, slotCountOk, orElse, nobody}
@@ -22,8 +22,8 @@ use Rattle.rota.specs.declared.Figure.the-variants as figure
 use Rattle.rota.specs.Derived.{Plan, Derived, derived, knownBy, afresh, setsFrom, nobodies, unassigned, uncovered}
 use Rattle.rota.specs.Recount.{freeFor, knownAt, freeAt, recounts}
 use Rattle.rota.specs.Entries as rota
-use Rattle.promises.specs.Entries.{Call, noOf, playOf, afreshIn}
-use Rattle.promises.specs.Table.{Rule, Row, row, rules, Applies, Heard, Hears, Refuses, figureNo}
+use Rattle.promises.specs.Entries.{Call, playOf, afreshIn}
+use Rattle.promises.specs.Table.{Row, row, rules, Applies, Heard, Hears, Refuses, figureNo}
 use Rattle.promises.specs.Refusals.{targetsChecks, guard, TargetsRefuse, rotaTable, recountTable, playTable, emptyTable, ownersTable}
 use Rattle.promises.specs.Refusals.{Lent, left, RotaRefuses}
 use Rattle.promises.proofs.Table.{chain, rising, Least, chain-least, least-heard, chain-heard, heard-as}

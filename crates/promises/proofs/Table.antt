@@ -2,14 +2,14 @@
 use mathlib.Core.Path.{_≡_, refl, sym, ap, _∙_, subst}
 use mathlib.Core.Bool.{Bool, true, false, cond, _&&_}
 use mathlib.Core.List.{List, [], _∷_}
-use mathlib.Core.Logic.{_⊎_, inl, inr, ⊎-elim, _↔_}
-use Prim.Native.Nat.{ℕ, zero, suc, _≤_, _<_}
+use mathlib.Core.Logic.{inl, inr, ⊎-elim}
+use Prim.Native.Nat.{ℕ, _≤_, _<_}
 use native.Mathlib.Omega.{arith}
-use borrow.Author.Tests.{leb-true, eq-eqb, ne-eqb, eqb-true, eqb-false}
-use lib.Dec.{leb, eqb}
+use borrow.Author.Tests.{leb-true}
+use lib.Dec.{leb}
 use Rattle.paper.specs.Limits.{orElse}
 use Rattle.paper.proofs.Logic.{by-test, both, lt-or-ge}
-use Rattle.promises.specs.Table.{Rule, Row, row, rules, Applies, Heard}
+use Rattle.promises.specs.Table.{Rule, Row, rules, Applies, Heard}
 
 -- a chain of tests, as the entries have it
 abbrev pub chain : List Row → ℕ

@@ -1,25 +1,26 @@
 -- The rota of two slots, two units and two people who are available for both: it is accepted, and what a swap does to it.
 -- Assumes nothing.
-use mathlib.Core.Path.{_≡_, refl, sym, ap, ap₂, _∙_}
-use mathlib.Core.Bool.{Bool, true, false, _&&_, cond}
-use mathlib.Core.List.{List, [], _∷_, _++_}
-use Prim.Native.Nat.{ℕ, zero, suc, _+_, _-_, _*_, _≤_, _<_}
+use mathlib.Core.Path.{_≡_, refl}
+use mathlib.Core.Bool.{true}
+use mathlib.Core.List.{List, [], _∷_}
+use Prim.Native.Nat.{ℕ, _≤_}
 use native.Mathlib.Omega.{arith}
 use borrow.Author.Tests.{le-leb, leb-true}
-use lib.Dec.{leb, ltb, eqb}
-use lib.ListN.{length, drop, getD}
-use Rattle.paper.specs.Limits.{peopleOk, slotCountOk, orElse}
+use lib.Dec.{leb}
+use lib.ListN.{length, drop}
+use Rattle.paper.specs.Limits.{peopleOk, slotCountOk}
 use Rattle.paper.specs.Bits.{bitOf}
-use Rattle.paper.specs.Count.{all, allIn, sum, over, fill, among}
+use Rattle.paper.specs.Count.{all, allIn, sum, over}
 use Rattle.paper.proofs.Logic.{and-true}
 use Rattle.slotset.specs.Slots.{slot, withBit, putSlot, putSlots}
 use Rattle.slots.specs.Lent.{slotOk, prevEnd, slotOkAt, slotRoomOk, slotsOk, minutesAt}
+use Rattle.units.specs.Answers.{onto}
 use Rattle.units.specs.Units.{unitEnd, startOk, unitsOk}
 use Rattle.units.specs.Domains.{available, able, unfrozen, clear, unitFrozen}
 use Rattle.rota.specs.Board.{ownerOf, unowned}
 use Rattle.rota.specs.Lent.{fitsUnit, frozenUnit}
 use Rattle.rota.specs.Moves.{anyOf, decided, swapped}
-use Rattle.rota.specs.Plays.{step, ownersAfter, answer, answers, drawsOf, written}
+use Rattle.rota.specs.Plays.{step, ownersAfter, answer, answers, drawsOf}
 use Rattle.rota.specs.Derived.{knownBy, portion, worked, held, setsFrom, afresh}
 use Rattle.rota.specs.Recount.{knownAt, freeFor, freeAt, evenAt, setSlotAt, setAt, minutesOkAt, recounts}
 use Rattle.rota.specs.Entries.{countsOk, roomOk}
@@ -75,7 +76,7 @@ apart-recounts frozen count kinds ones twos more = refl
 pub case-12 : (more : Spare) → 1 ≤ length (more .answers)
     → let c = twoUnits apart 2 1 (35 ∷ []) (0 ∷ []) (1 ∷ []) more in
     playOf c ≡ record { number = 0; owners = c .owners; derived = c .derived; answers = 1 ∷ drop 1 (more .answers) }
-unfolding drawsOf ownersAfter answers answer step written decided anyOf swapped unowned ownerOf frozenUnit unitFrozen clear unfrozen allIn
+unfolding drawsOf ownersAfter answers answer step onto decided anyOf swapped unowned ownerOf frozenUnit unitFrozen clear unfrozen allIn
     all slot bitOf unitEnd fitsUnit able available afresh setsFrom putSlots putSlot withBit held over worked portion sum minutesAt
 case-12 more room =
     accepted-is (twoUnits apart 2 1 (35 ∷ []) (0 ∷ []) (1 ∷ []) more) (accepted apart 2 1 (35 ∷ []) (0 ∷ []) (1 ∷ []) more

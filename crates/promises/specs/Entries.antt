@@ -16,14 +16,14 @@ use Rattle.slots.specs.Atomic.{Base, Atoms, atomiseOf}
 use Rattle.slots.specs.Availability.{availabilityOf}
 use Rattle.slots.specs.Freeze.{isAvailable}
 use Rattle.units.specs.declared.Settings.{Settings}
-use Rattle.units.specs.Answers.{Written}
+use Rattle.units.specs.Answers.{Written, onto}
 use Rattle.units.specs.Starts.{rotationStartsIs}
 use Rattle.targets.specs.Outcome as targets
 use Rattle.rota.specs.declared.Figure.{Figure}
 use Rattle.rota.specs.Board.{Board}
 use Rattle.rota.specs.Lent.{boardOf}
 use Rattle.rota.specs.Moves.{Draw}
-use Rattle.rota.specs.Plays.{drawsOf, ownersAfter, answers, written}
+use Rattle.rota.specs.Plays.{drawsOf, ownersAfter, answers}
 use Rattle.rota.specs.Derived.{Plan, Derived, afresh}
 use Rattle.rota.specs.Entries as rota
 
@@ -71,7 +71,7 @@ afreshIn c = record {
   number = 0;
   owners = ownersIn c;
   derived = afresh (c .plan) (ownersIn c) (c .derived);
-  answers = written (answers (boardIn c) (c .owners) (drawsIn c)) (c .answers);
+  answers = onto (answers (boardIn c) (c .owners) (drawsIn c)) (c .answers);
 }
 
 -- ---- a component

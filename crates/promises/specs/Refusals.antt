@@ -2,7 +2,7 @@
 -- refusal changes no lent byte." Each entry's table, in the paper's numbers and by the rooms' own tests, and that it is heard both ways.
 -- That every entry ends is the check's own verdict: no public function has a precondition. Assumes nothing.
 use mathlib.Core.Path.{_≡_}
-use mathlib.Core.Bool.{Bool, true, _&&_}
+use mathlib.Core.Bool.{true, _&&_}
 use mathlib.Core.List.{List, [], _∷_}
 use Prim.Native.Nat.{ℕ, _*_}
 use lib.Dec.{leb, ltb}

@@ -3,17 +3,14 @@ use mathlib.Core.Path.{_≡_}
 use mathlib.Core.Bool.{Bool, true, false}
 use mathlib.Core.List.{List}
 use mathlib.Core.Logic.{_↔_, _≢_}
-use Prim.Native.Nat.{ℕ, zero, suc, _+_, _*_, _/_, _%_, _≤_, _<_, max, min}
-use lib.Dec.{eqb}
+use Prim.Native.Nat.{ℕ, suc, _+_, _*_, _/_, _%_, _≤_, _<_, max, min}
 use lib.ListN.{length, getD}
 use Rattle.paper.specs.Bits.{bitOf}
 use Rattle.paper.specs.Count.{count}
 use Rattle.slotset.specs.Slots.{slot}
-use Rattle.slots.specs.Lent.{slotsOk, minutesAt, demandOf}
+use Rattle.slots.specs.Lent.{minutesAt, demandOf}
 use Rattle.units.specs.declared.Settings.{Settings}
-use Rattle.units.specs.declared.Number.the-variants as number
 use Rattle.units.specs.Answers.{onto}
-use Rattle.units.specs.Dates.{dateOf}
 use Rattle.units.specs.Units.{unitStart, unitEnd, unitsOk, InUnit}
 use Rattle.units.specs.Starts.{startDate, everyBegins, dayBegins, rotationBegins, unitBegins, rotationStarts, unitStarts, startsNo}
 use Rattle.units.specs.Starts.{rotationStartsIs, unitStartsIs}
