@@ -4,6 +4,7 @@ use Rattle.job.specs.Outcome.{jobResult}
 use Rattle.job.proofs.Layouts.{rule-13}
 use Rattle.job.proofs.Digits.{digits-value}
 use Rattle.job.proofs.Promises.{lowest-heard, accepted-exactly, refused-keeps, listing-stands, total, targets-total}
+use Rattle.job.proofs.Promises.{frozen-keeps, stays-covered, owners-fit}
 use Rattle.promises.specs.JobRules.{JobByRule}
 
 pub job-by-rule : JobByRule
@@ -16,6 +17,9 @@ job-by-rule = record {
     listing = listing-stands s x n e;
     total = total s x n e;
     targets = targets-total s x n e;
+    frozen = frozen-keeps s x n e;
+    covered = stays-covered s x n e;
+    owners = owners-fit s x n e;
   };
   digits = digits-value;
 }
