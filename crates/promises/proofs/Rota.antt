@@ -1,7 +1,7 @@
 -- Demand 3, sentence by sentence, by the laws of rota. Assumes nothing.
 use mathlib.Core.Path.{_≡_, sym, ap, ap₂, _∙_}
 use mathlib.Core.Bool.{Bool, true, cond}
-use mathlib.Core.List.{List, _++_, append-assoc}
+use mathlib.Core.List.{List, [], _++_, append-assoc}
 use Prim.Native.Nat.{ℕ, _+_, _*_, _/_, _%_, _≤_, _<_}
 use native.Mathlib.Omega.{arith}
 use borrow.Author.Tests.{le-leb, leb-true, lt-ltb}
@@ -35,7 +35,9 @@ use Rattle.promises.specs.Entries.{Call, built, noOf, playOf, afreshIn, 
 use Rattle.promises.specs.Rota.{EndsAfresh, FrozenKeep, OwnersAvailable, CoveredStays, OnlyHandedOver, Recounts, AddsUp, after}
 use Rattle.promises.specs.Rota.{SizesRecount, PastStays, firstCall, nextCall, secondCall, Words, InTwo, TwoCalls}
 use Rattle.promises.specs.Empty.{ActsByRule}
-use Rattle.promises.proofs.RotaRefusals.{refused-set}
+use Rattle.promises.specs.SetRefusals.{rowTable}
+use Rattle.promises.proofs.Table.{all-pass}
+use Rattle.promises.proofs.RotaRefusals.{refused-set, uncoveredTable}
 use Rattle.promises.proofs.Calls.{accepted-is, Accepted, accepted-says, says-accepted}
 
 pub ends-afresh : EndsAfresh built
@@ -98,10 +100,6 @@ recounted c e =
 
 -- ---- the total
 
-told-hold : (a b c d : Bool) → a ≡ true → b ≡ true → c ≡ true → d ≡ true → ground a b c (orElse d 11 0) ≡ 0
-unfolding ground
-told-hold a b c d p q r s = simp (p, q, r, s)
-
 module _ (c : Call) (e : noOf c ≡ 0) where
   room-after : leb (c .plan .slots) (length (ownersIn c)) ≡ true
   room-after =
@@ -116,12 +114,12 @@ module _ (c : Call) (e : noOf c ≡ 0) where
       (afresh-recounts c e) .known)
 
   told : uncoveredIs (c .plan) (ownersIn c) ≡ Is (uncovered (c .plan) (ownersIn c))
-  unfolding uncoveredIs figureAs roomOk
+  unfolding uncoveredIs figureAs roomOk ground
   told =
       let A = accepted-says c e in
       let r = both (slotRoomOk (c .plan .slots) (c .plan .starts) (c .plan .ends)) _ (A .room) in
       ap (λ (n : ℕ). figureAs n (uncovered (c .plan) (ownersIn c)))
-      (told-hold _ _ _ _ (A .counts) (and-true _ _ (r .0) room-after) (A .slots) known-after)
+      (all-pass (uncoveredTable (c .plan) (ownersIn c)) (A .counts, (and-true _ _ (r .0) room-after, (A .slots, (known-after, tt)))))
 
   total : sum (c .plan .people) (λ p. getD (afresh (c .plan) (ownersIn c) (c .derived) .minutes) p 0) + uncovered (c .plan) (ownersIn c)
       ≡ demandOf (c .plan .slots) (c .plan .starts) (c .plan .ends)
@@ -148,9 +146,6 @@ row-slot ws p k h =
     ap (λ (x : ℕ). bitOf x (k % 64))
     (getD-take 16 (drop (16 * p) ws) (0 + k / 64) 0 w ∙ getD-drop (16 * p) ws (0 + k / 64) 0 ∙ ap (λ (j : ℕ). getD ws j 0) e)
 
-three-hold : (a b c : Bool) → a ≡ true → b ≡ true → c ≡ true → orElse a 1 (orElse b 2 (orElse c 11 0)) ≡ 0
-three-hold a b c p q r = simp (p, q, r)
-
 module _ (people slots : ℕ) (ws : List ℕ) (p : ℕ) (e : countsOk people slots ≡ true) (room : 16 * people ≤ length ws) (h : p < people) where
   abbrev row : SlotSet
   row = record { words = take 16 (drop (16 * p) ws); len = slots }
@@ -165,7 +160,8 @@ module _ (people slots : ℕ) (ws : List ℕ) (p : ℕ) (e : countsOk people slo
   row-none : rowNo ws people p slots ≡ 0
   unfolding rowNo
   row-none =
-      three-hold _ _ _ (and-true _ _ (counts .0) few) (le-leb (16 * people) (length ws) room) (lt-ltb p people h)
+      all-pass (rowTable ws people p slots [])
+      (and-true _ _ (counts .0) few, (le-leb (16 * people) (length ws) room, (lt-ltb p people h, tt)))
 
   row-is : slotsOfIs people slots ws p .set ≡ row
   unfolding slotsOfIs loadOf

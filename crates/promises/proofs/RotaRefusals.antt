@@ -158,7 +158,7 @@ unassigned-heard people slots o =
     heard-as (ownersTable people slots o (row 11 (all slots (knownAt people o)) ∷ [])) _ refl (figure-no _ (unassigned slots o))
 
 module _ (P : Plan) (o : List ℕ) where
-  abbrev uncoveredTable : List Row
+  abbrev pub uncoveredTable : List Row
   uncoveredTable =
       row 1 (rota.countsOk (P .people) (P .slots)) ∷ row 2 (slotRoomOk (P .slots) (P .starts) (P .ends) && leb (P .slots) (length o))
       ∷ row 9 (slotsOk (P .slots) (P .starts) (P .ends)) ∷ row 11 (all (P .slots) (knownAt (P .people) o)) ∷ []

@@ -32,6 +32,8 @@ use Rattle.slots.proofs.AvailLaws.{AvailabilitySound, availability-says, length
 use Rattle.slots.proofs.FreezeLaws.{freeze-says}
 use Rattle.slots.proofs.Meaning.{written-at, written-past, available-slot, other-slot, atoms-lent, atoms-lent-demand, frozen-marked}
 use Rattle.slots.proofs.Meaning.{frozen-kept}
+use Rattle.promises.specs.Refusals.{availableTable}
+use Rattle.promises.proofs.Table.{all-pass}
 use Rattle.promises.specs.SlotRules.{Merged, Split, Froze, SlotsByRule}
 
 -- ---- merged ranges
@@ -189,15 +191,13 @@ module _ (people slots : ℕ) (starts ends : List ℕ) (R : Ranges) (words : Lis
       let y = both (peopleOk people) _ (x .0) in
       and-true _ _ (y .0) (both (slotCountOk slots) _ (y .1) .0)
 
-  three-hold : (a b c : Bool) → a ≡ true → b ≡ true → c ≡ true → orElse a 1 (orElse b 2 (orElse c 11 0)) ≡ 0
-  three-hold a b c x y z = simp (x, y, z)
-
   heard : availableNo people slots out p k ≡ 0
   unfolding availableNo
   heard =
       let r : 16 * people ≤ length out =
       omega (arith, ap length out-is, length-rows (availableBit R starts ends) slots people words, avail .room) in
-      three-hold _ _ _ counts (le-leb (16 * people) (length out) r) (and-true _ _ (lt-ltb p people hp) (lt-ltb k slots hk))
+      all-pass (availableTable people slots out p k)
+      (counts, (le-leb (16 * people) (length out) r, (and-true _ _ (lt-ltb p people hp) (lt-ltb k slots hk), tt)))
 
   value-one : (b : Bool) → eqb (valueOf b) 1 ≡ b
   value-one true = refl
@@ -211,7 +211,7 @@ module _ (people slots : ℕ) (starts ends : List ℕ) (R : Ranges) (words : Lis
       ∙ available-slot R starts ends slots people words (avail .few) (avail .room) p k hp hk)
       ∙ value-one can
 
-  told-is : isAvailable people slots out p k ≡ cond can Yes No
+  pub told-is : isAvailable people slots out p k ≡ cond can Yes No
   unfolding isAvailable toldAs
   told-is = ap₂ toldAs heard bit
 

@@ -16,6 +16,15 @@ abbrev pub chain : List Row → ℕ
 chain [] = 0
 chain (t ∷ ts) = orElse (t .passes) (t .number) (chain ts)
 
+-- each of its tests passes: nothing is heard
+abbrev pub Pass : List Row → Type 0
+Pass [] = Unit
+Pass (t ∷ ts) = (t .passes ≡ true) × Pass ts
+
+pub all-pass : (ts : List Row) → Pass ts → chain ts ≡ 0
+all-pass [] p = refl
+all-pass (t ∷ ts) p = ap (λ (b : Bool). orElse b (t .number) (chain ts)) (p .0) ∙ all-pass ts (p .1)
+
 -- numbers are at least `low` and never fall
 abbrev pub rising : ℕ → List Row → Bool
 rising low [] = true
