@@ -1,18 +1,19 @@
 -- A call of play that is accepted: what its tests say, and its outcome. Assumes nothing.
-use mathlib.Core.Path.{_≡_, refl, sym, ap, _∙_}
-use mathlib.Core.Bool.{Bool, true, _&&_}
-use mathlib.Core.List.{List, []}
+use mathlib.Core.Path.{_≡_, ap}
+use mathlib.Core.Bool.{true, _&&_}
 use Prim.Native.Nat.{ℕ, _≤_}
 use borrow.Author.Tests.{le-leb, leb-true}
 use lib.Dec.{leb}
 use lib.ListN.{length}
-use Rattle.paper.specs.Limits.{drawsMost, orElse, countsOk}
+use Rattle.paper.specs.Limits.{drawsMost, countsOk}
 use Rattle.paper.proofs.Logic.{both, five, and-true, cond-zero}
 use Rattle.slots.specs.Lent.{slotsOk}
 use Rattle.units.specs.Units.{unitsOk}
 use Rattle.rota.specs.Recount.{recounts}
-use Rattle.rota.specs.Entries.{roomOk, ground, playRoomOk, playNo, Outcome, outcome, played}
+use Rattle.rota.specs.Entries.{roomOk, ground, playRoomOk, playNo, outcome, played}
 use Rattle.rota.proofs.Entered.{ground-all}
+use Rattle.promises.specs.Refusals.{playTable}
+use Rattle.promises.proofs.Table.{all-pass}
 use Rattle.promises.specs.Entries.{Call, noOf, playOf, afreshIn}
 
 -- its outcome is the rota that the rules give, worked out afresh
@@ -73,18 +74,16 @@ accepted-says c e =
       recount = z .0;
     }
 
-ground-hold : (a b c d : Bool) → a ≡ true → b ≡ true → c ≡ true → d ≡ true → ground a b c (orElse d 10 0) ≡ 0
-unfolding ground
-ground-hold a b c d p q r s = simp (p, q, r, s)
-
 pub says-accepted : (c : Call) → Accepted c → noOf c ≡ 0
-unfolding playNo playRoomOk
+unfolding playNo playRoomOk ground
 says-accepted c A =
     let n = c .count in
     let k = le-leb n (length (c .kinds)) (A .kinds) in
     let f = le-leb n (length (c .ones)) (A .ones) in
     let s = le-leb n (length (c .twos)) (A .twos) in
     let x = le-leb n (length (c .answers)) (A .answers) in
-    ground-hold _ _ _ _ (and-true _ _ (A .counts) (A .few))
-    (and-true _ _ (A .room) (and-true _ _ (A .starts) (and-true _ _ (A .flags) (and-true _ _ k (and-true _ _ f (and-true _ _ s x))))))
-    (and-true _ _ (A .slots) (A .units)) (A .recount)
+    let lent = and-true _ _ (A .starts) (and-true _ _ (A .flags) (and-true _ _ k (and-true _ _ f (and-true _ _ s x)))) in
+    all-pass (playTable c) (
+      and-true _ _ (A .counts) (A .few),
+      (and-true _ _ (A .room) lent, (and-true _ _ (A .slots) (A .units), (A .recount, tt))),
+    )

@@ -1,8 +1,7 @@
 -- How empty answers are shut out: each breaks a promise, by a witness. Assumes nothing.
-use mathlib.Core.Path.{_≡_, refl, sym, ap, ap₂, _∙_}
-use mathlib.Core.Bool.{Bool, true, false}
+use mathlib.Core.Path.{_≡_, refl, sym, ap, _∙_}
 use mathlib.Core.List.{List, [], _∷_}
-use Prim.Native.Nat.{ℕ, suc, _+_, _*_, _≤_, _<_}
+use Prim.Native.Nat.{ℕ, _+_, _≤_, _<_}
 use native.Mathlib.Omega.{arith}
 use lib.Dec.{eqb}
 use lib.IntN.{ℤ, pos}
@@ -10,18 +9,14 @@ use lib.ListN.{length, getD, replicate, length-replicate}
 use native.Mathlib.Nat.{le-of-eq}
 use Rattle.paper.specs.Bits.{bitOf}
 use Rattle.paper.specs.Count.{all, allIn, sum, count, over, fill, among}
-use Rattle.slotset.specs.declared.Found.{Found}
 use Rattle.slotset.specs.declared.Found.the-variants.{At, Nothing}
-use Rattle.slotset.specs.declared.Told.{Told}
 use Rattle.slotset.specs.declared.Told.the-variants.{Yes, No}
-use Rattle.slotset.specs.declared.Counted.{Counted}
 use Rattle.slotset.specs.declared.Counted.the-variants as counted
 use Rattle.paper.specs.Limits.{peopleOk, slotCountOk}
 use Rattle.slotset.specs.declared.SlotSet.{SlotSet}
 use Rattle.slotset.specs.Slots.{slot, withBit, putSlot, putSlots}
 use Rattle.slotset.specs.Answers.{rowNo, loadOf}
-use Rattle.slots.specs.Atomic.{Base, Atoms}
-use Rattle.slots.specs.Ranges.{ranges}
+use Rattle.slots.specs.Atomic.{Atoms}
 use Rattle.slots.specs.Lent.{minutesAt, demandOf}
 use Rattle.units.specs.Units.{unitEnd}
 use Rattle.units.specs.Domains.{available, able, unfrozen, clear, unitFrozen}
@@ -36,10 +31,9 @@ use Rattle.rota.specs.Derived.{knownBy, portion, worked, held, setsFrom, afresh
 use Rattle.rota.specs.Recount.{knownAt, freeFor, freeAt, evenAt, setSlotAt, setAt, minutesOkAt, recounts}
 use Rattle.rota.specs.Entries as rota
 use Rattle.rota.proofs.Entered.{recount-says}
-use Rattle.promises.specs.Entries.{Call, Component, built, noOf, playOf, afreshIn, ownersIn}
-use Rattle.promises.specs.Marked.{MarkedCases, inWords, onePerson, atoms, one, mondays, Owned, apart, Spare, twoUnits}
+use Rattle.promises.specs.Entries.{Call, Component, built, noOf, afreshIn, ownersIn}
+use Rattle.promises.specs.Marked.{MarkedCases, Owned, apart, Spare, twoUnits}
 use Rattle.promises.specs.Table.{countedNo, numberNo}
-use Rattle.promises.specs.Refusals.{playTable}
 use Rattle.promises.specs.Rota.{EndsAfresh, FrozenKeep, OwnersAvailable, CoveredStays, AddsUp, SizesRecount, after, firstCall}
 use Rattle.promises.specs.Empty.{RefusesByTable, AlwaysRefuses, refuses-atomise, refuses-targets, refuses-rotations, refuses-play}
 use Rattle.promises.specs.Empty.{FixedAnswer, fixed-next, fixed-prev, fixed-atomise, fixed-available, fixed-targets, fixed-rotations}
@@ -80,7 +74,8 @@ always-refusing-falls C (refuses-rotations f) M T =
     f _ _ _ _ _ (ap (λ (w : Written). numberNo (w .answer))
     (M .case-11 0 0 0 (0 ∷ 0 ∷ 0 ∷ 0 ∷ []) (omega arith) (omega arith) (omega arith) (omega arith)))
 always-refusing-falls C (refuses-play f) M T =
-    f still (one-heard _ _ _ (T still) (rota-refuses .play still .heard) ∙ ap (λ (y : rota.Outcome). y .number) (accepted-is still still-accepted))
+    f still (one-heard _ _ _ (T still) (rota-refuses .play still .heard)
+    ∙ ap (λ (y : rota.Outcome). y .number) (accepted-is still still-accepted))
 
 -- ---- one fixed answer
 
@@ -223,7 +218,8 @@ module _ (C : Component) (g : EndsAfresh C) where
       let q = g c both-accepted in
       ap (λ (y : rota.Outcome). setOf y 0 .len) q ∙ afresh-lengths ∙ sym (ap (λ (y : rota.Outcome). setOf y 1 .len) q)
 
-  count-of : SizesRecount C → (p n : ℕ) → p < 2 → count 2 (λ k. eqb (getD (0 ∷ 0 ∷ []) k 0) p) ≡ n → C .size (setOf (C .play c) p) ≡ counted.Is n
+  count-of : SizesRecount C → (p n : ℕ) → p < 2 → count 2 (λ k. eqb (getD (0 ∷ 0 ∷ []) k 0) p) ≡ n
+      → C .size (setOf (C .play c) p) ≡ counted.Is n
   count-of f p n h e =
       f c both-accepted p h ∙ ap (λ (o : List ℕ). counted.Is (count 2 (λ k. eqb (getD o k 0) p))) owners-rest ∙ ap counted.Is e
 

@@ -1,17 +1,16 @@
 -- The marked cases, computed through the definitions that the contracts cite. Assumes nothing.
 use mathlib.Core.Path.{_≡_, refl, sym, ap, ap₂, _∙_}
-use mathlib.Core.Bool.{Bool, true, false, _&&_, cond}
+use mathlib.Core.Bool.{true, cond}
 use mathlib.Core.List.{List, [], _∷_, _++_}
-use Prim.Native.Nat.{ℕ, zero, suc, _+_, _-_, _*_, _^_, _≤_, _<_, min}
+use Prim.Native.Nat.{ℕ, _+_, _-_, _^_, _≤_, _<_}
 use native.Mathlib.Omega.{arith}
-use borrow.Author.Tests.{le-leb, leb-true, lt-ltb}
-use lib.Dec.{leb, ltb, eqb}
+use borrow.Author.Tests.{le-leb, leb-true}
+use lib.Dec.{leb}
 use lib.ListN.{length, drop, getD, length-append, length-drop, List·getD-append}
 use lib.Seq.{ext-getD, getD-append-add, getD-drop}
-use native.Mathlib.Bridge.{le-by-compare, IsLe}
 use mathlib.Core.Logic.{⊎-elim}
 use Rattle.paper.proofs.Logic.{lt-or-ge, and-true}
-use Rattle.paper.specs.Limits.{peopleOk, slotCountOk, orElse}
+use Rattle.paper.specs.Limits.{peopleOk, slotCountOk}
 use Rattle.paper.specs.Count.{all, allIn, among, onto, some}
 use Rattle.paper.specs.Bits.{bitOf}
 use Rattle.slotset.specs.declared.Found.the-variants.{At, Nothing}
@@ -21,27 +20,28 @@ use Rattle.slotset.specs.Search.{up, down, nextWith, lastBelow}
 use Rattle.slotset.specs.Answers.{lenNo, foundAs, runAs}
 use Rattle.slotset.specs.declared.Told.the-variants.{Yes, No}
 use Rattle.slotset.specs.declared.Counted.the-variants as counted
-use Rattle.slotset.specs.Slots.{valueOf}
-use Rattle.slotset.specs.Answers.{countedAs, wordsAs, toldAs}
+use Rattle.slotset.specs.Answers.{countedAs, wordsAs}
 use Rattle.slots.specs.Lent.{slotOk, prevEnd, slotOkAt, slotRoomOk, slotsOk}
 use Rattle.slots.specs.Ranges.{Ranges, ranges, inRange, inRanges, available, rangeCountOk, rangeRoomOk, rangeOk, rangeOkAt, rangesOk}
-use Rattle.slots.specs.Ranges.{anyOf, keyOf, personOf, startOf, endOf, keyAt, keysTo, keysOf, opens, closes, joined, mergeIn, mergeAll, mergedOf}
+use Rattle.slots.specs.Ranges.{anyOf, keyOf, personOf, startOf, endOf, keyAt, keysTo, keysOf, opens, closes, joined, mergeIn, mergeAll}
+use Rattle.slots.specs.Ranges.{mergedOf}
 use Rattle.slots.specs.Merged.{written}
-use Rattle.slots.specs.Atomic.{startsOrEnds, isCut, cutAfter, cutsIn, atomStarts, atomEnds, Base, base, splitCountsOk, roomOk, Atoms}
+use Rattle.slots.specs.Atomic.{startsOrEnds, isCut, cutAfter, cutsIn, atomStarts, atomEnds, Base, splitCountsOk, roomOk, Atoms}
 use Rattle.slots.specs.Atomic.{startsOfAtoms, endsOfAtoms, baseCountsOk, baseRoomOk, atomiseNo, atomiseOf}
-use Rattle.slots.specs.Availability.{availableBit, rows, availabilityRoomOk, availabilityNo, availabilityOf}
-use Rattle.slots.specs.Freeze.{availableNo, isAvailable}
-use Rattle.slots.proofs.Meaning.{written-at, written-past, written-length, available-slot}
-use Rattle.slots.proofs.AvailLaws.{length-rows}
-use Rattle.units.specs.declared.Settings.{Settings}
+use Rattle.slots.specs.Availability.{availabilityRoomOk, availabilityNo, availabilityOf}
+use Rattle.slots.specs.Freeze.{isAvailable}
+use Rattle.slots.proofs.Meaning.{written-at, written-past, written-length}
 use Rattle.units.specs.declared.Number.the-variants as number
 use Rattle.units.specs.Settings.{boundaryOk, settingsOk}
 use Rattle.units.specs.Dates.{dateOf, weekdayOf, listed}
 use Rattle.units.specs.Answers.{numberAs, writtenAs}
 use Rattle.units.specs.Starts.{dayBegins, rotationBegins, rotationStarts, startsNo, rotationStartsIs}
+use Rattle.promises.specs.Refusals.{atomiseTable, availabilityTable, startsTable}
+use Rattle.promises.proofs.Table.{all-pass}
+use Rattle.promises.proofs.SlotRules.{told-is}
 use Rattle.promises.proofs.TwoUnits.{case-12}
 use Rattle.targets.proofs.Cases.{case7, case8, case9, case10}
-use Rattle.promises.specs.Entries.{Component, built}
+use Rattle.promises.specs.Entries.{built}
 use Rattle.promises.specs.Marked.{MarkedCases, inWords, onePerson, atoms, mondays}
 
 case-1 : (rest : List ℕ)
@@ -78,11 +78,6 @@ front list column room =
     ∙ ap (λ (j : ℕ). getD column j 0) e))
     (lt-or-ge i (length list)))
 
--- a chain of five tests that hold
-five-hold : (a b c d e : Bool) → a ≡ true → b ≡ true → c ≡ true → d ≡ true → e ≡ true
-    → orElse a 1 (orElse b 2 (orElse c 3 (orElse d 4 (orElse e 5 0)))) ≡ 0
-five-hold a b c d e p q r s t = simp (p, q, r, s, t)
-
 -- the outcome where nothing is refused
 module _ (B : Base) where
   abbrev by : ℕ → List ℕ → List ℕ → Atoms
@@ -99,17 +94,21 @@ module _ (B : Base) where
     room : baseRoomOk B ≡ true
     unfolding roomOk slotRoomOk
     room =
-        and-true _ _ lent (and-true _ _ lentRanges (and-true _ _ (le-leb 1024 (length (B .outStarts)) a) (le-leb 1024 (length (B .outEnds)) b)))
+        and-true _ _ lent (and-true _ _ lentRanges
+        (and-true _ _ (le-leb 1024 (length (B .outStarts)) a) (le-leb 1024 (length (B .outEnds)) b)))
 
     heard : atomiseNo B ≡ 0
     unfolding atomiseNo
-    heard = five-hold _ _ _ _ _ counts room slots right (ap (λ (l : List ℕ). leb (length l) 1024) x ∙ few)
+    heard =
+        all-pass (atomiseTable B)
+        (counts, (room, (slots, (right, (ap (λ (l : List ℕ). leb (length l) 1024) x ∙ few, tt)))))
 
     shape : atomiseOf B ≡ by (atomiseNo B) (startsOfAtoms B) (endsOfAtoms B)
     unfolding atomiseOf
     shape = refl
 
-    plain : by 0 s e ≡ record { answer = counted.Is (length s); starts = written (λ t. t) s (B .outStarts); ends = written (λ t. t) e (B .outEnds) }
+    plain : by 0 s e
+        ≡ record { answer = counted.Is (length s); starts = written (λ t. t) s (B .outStarts); ends = written (λ t. t) e (B .outEnds) }
     unfolding countedAs wordsAs
     plain = refl
 
@@ -164,51 +163,18 @@ module _ (ws : List ℕ) (room : 16 ≤ length ws) where
   out = availabilityOf 1 4 starts ends theirs ws
 
   -- nothing is refused
-  four-hold : (a b c d : Bool) → a ≡ true → b ≡ true → c ≡ true → d ≡ true → orElse a 1 (orElse b 2 (orElse c 4 (orElse d 9 0))) ≡ 0
-  four-hold a b c d p q r s = simp (p, q, r, s)
-
   none-refused : availabilityNo 1 4 starts ends theirs ws ≡ 0
-  unfolding availabilityNo availabilityRoomOk splitCountsOk peopleOk slotCountOk rangeCountOk slotRoomOk rangeRoomOk slotsOk slotOkAt slotOk prevEnd
-      all rangesOk rangeOkAt rangeOk
-  none-refused = four-hold _ _ _ _ refl (le-leb 16 (length ws) room) refl refl
+  unfolding availabilityNo availabilityRoomOk splitCountsOk peopleOk slotCountOk rangeCountOk slotRoomOk rangeRoomOk slotsOk slotOkAt slotOk
+      prevEnd all rangesOk rangeOkAt rangeOk
+  none-refused = all-pass (availabilityTable 1 4 starts ends theirs ws) (refl, (le-leb 16 (length ws) room, (refl, (refl, tt))))
 
-  out-is : out ≡ rows (availableBit theirs starts ends) 4 1 ws
-  unfolding availabilityOf wordsAs
-  out-is = ap (λ (n : ℕ). wordsAs n ws (rows (availableBit theirs starts ends) 4 1 ws)) none-refused
-
-  room-out : 16 ≤ length out
-  room-out = omega (arith, ap length out-is, length-rows (availableBit theirs starts ends) 4 1 ws)
-
-  bit : (k : ℕ) → k < 4 → slot out 0 k ≡ valueOf (available theirs 0 (getD starts k 0) (getD ends k 0))
-  bit k h =
-      ap (λ (l : List ℕ). slot l 0 k) out-is
-      ∙ available-slot theirs starts ends 4 1 ws (omega arith) room 0 k (omega arith) h
-
-  three-hold : (a b c : Bool) → a ≡ true → b ≡ true → c ≡ true → orElse a 1 (orElse b 2 (orElse c 11 0)) ≡ 0
-  three-hold a b c p q r = simp (p, q, r)
-
-  value-one : (b : Bool) → eqb (valueOf b) 1 ≡ b
-  value-one true = refl
-  value-one false = refl
-
-  told : (k : ℕ) (b : Bool) → k < 4 → ltb k 4 ≡ true → available theirs 0 (getD starts k 0) (getD ends k 0) ≡ b
-      → isAvailable 1 4 out 0 k ≡ cond b Yes No
-  unfolding isAvailable availableNo toldAs has peopleOk slotCountOk
-  told k b h t e =
-      let n : availableNo 1 4 out 0 k ≡ 0 = three-hold _ _ _ refl (le-leb 16 (length out) room-out) t in
-      let m : has (slot out 0) 4 k ≡ b =
-      ap₂ (λ (x : Bool) (y : ℕ). x && eqb y 1) t (bit k h ∙ ap valueOf e) ∙ value-one b in
-      ap₂ toldAs n m
+  told : (k : ℕ) → k < 4 → isAvailable 1 4 out 0 k ≡ cond (available theirs 0 (getD starts k 0) (getD ends k 0)) Yes No
+  told k h = told-is 1 4 starts ends theirs ws none-refused 0 k (omega arith) h
 
   case-6-available : (isAvailable 1 4 out 0 0 ≡ No) × (isAvailable 1 4 out 0 1 ≡ Yes) × (isAvailable 1 4 out 0 2 ≡ Yes)
       × (isAvailable 1 4 out 0 3 ≡ No)
   unfolding available allIn all inRanges inRange some
-  case-6-available = (
-    told 0 false (omega arith) refl refl,
-    told 1 true (omega arith) refl refl,
-    told 2 true (omega arith) refl refl,
-    told 3 false (omega arith) refl refl,
-  )
+  case-6-available = (told 0 (omega arith), told 1 (omega arith), told 2 (omega arith), told 3 (omega arith))
 
 -- ---- 11
 
@@ -219,10 +185,6 @@ module _ (fairness lock days : ℕ) (list : List ℕ) (f : fairness ≤ 1) (l : 
   abbrev to : List ℕ
   to = 5040 ∷ 5760 ∷ 6480 ∷ 7200 ∷ []
 
-  hold : (a b c e g : Bool) → a ≡ true → b ≡ true → c ≡ true → e ≡ true → g ≡ true
-      → orElse a 1 (orElse b 2 (orElse c 2 (orElse e 7 (orElse g 9 0)))) ≡ 0
-  hold a b c e g p q r s t = simp (p, q, r, s, t)
-
   set-right : settingsOk (mondays fairness lock days) ≡ true
   unfolding settingsOk boundaryOk
   set-right =
@@ -230,7 +192,9 @@ module _ (fairness lock days : ℕ) (list : List ℕ) (f : fairness ≤ 1) (l : 
 
   starts-none : startsNo (mondays fairness lock days) 4 from to list ≡ 0
   unfolding startsNo slotCountOk slotRoomOk slotsOk slotOkAt slotOk prevEnd all
-  starts-none = hold _ _ _ _ _ refl refl (le-leb 4 (length list) room) set-right refl
+  starts-none =
+      all-pass (startsTable (mondays fairness lock days) 4 from to list)
+      (refl, (refl, (le-leb 4 (length list) room, (set-right, (refl, tt)))))
 
   begins : rotationStarts (mondays fairness lock days) 4 from ≡ 0 ∷ 2 ∷ []
   unfolding rotationStarts rotationBegins dayBegins listed weekdayOf dateOf among bitOf

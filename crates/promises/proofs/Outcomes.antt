@@ -27,7 +27,7 @@ one-outcome-fits = record {
       let e = one-merged-end x (r .0) (s .0) (r .1) (s .1) (r .2) (s .2) (r .3) (s .3) p q in four r s (e .0) (e .1) (e .2) (e .3);
   atomise = λ x r s p q.
       let e = one-atoms-end x (r .0) (s .0) (r .1) (s .1) (r .2) (s .2) p q in triple r s (e .0) (e .1) (e .2);
-  written = λ w r s p q. let e = units.one-outcome w (r .0) (s .0) (r .1) (s .1) p q in pair r s (e .0) (e .1);
+  written = λ w r s p q. let e = units.one-written w (r .0) (s .0) (r .1) (s .1) p q in pair r s (e .0) (e .1);
   compute-targets = λ g out r s p q. let e = only-one g out (r .0) (s .0) (r .1) (s .1) p q in pair r s (e .0) (e .1);
   rota = λ y r s p q.
       let e = rota.one-outcome y (r .0) (s .0) (r .1) (s .1) (r .2) (s .2) (r .3) (s .3) p q in four r s (e .0) (e .1) (e .2) (e .3);

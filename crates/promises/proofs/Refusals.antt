@@ -1,20 +1,16 @@
 -- Demand 1: each entry's chain is heard by its table, and a refusal leaves what was lent as it was. Assumes nothing.
-use mathlib.Core.Path.{_≡_, refl, sym, ap, ap₂, _∙_, subst}
-use mathlib.Core.Bool.{Bool, true, false, _&&_, cond}
+use mathlib.Core.Path.{_≡_, refl, sym, ap, _∙_}
+use mathlib.Core.Bool.{Bool, true, false, cond}
 use mathlib.Core.List.{List, [], _∷_}
-use mathlib.Core.Logic.{_⊎_, inl, inr, ⊎-elim}
-use Prim.Native.Nat.{ℕ, _*_, _≤_, _<_}
-use native.Mathlib.Omega.{arith}
-use borrow.Author.Tests.{eq-eqb, ne-eqb, eqb-true, eqb-false}
-use lib.Dec.{leb, ltb, eqb}
-use lib.IntN.{ℤ}
-use lib.ListN.{length, getD}
-use Rattle.paper.specs.Limits.{peopleOk, slotCountOk}
-use Rattle.paper.specs.Count.{all, onto}
+use Prim.Native.Nat.{ℕ}
+use borrow.Author.Tests.{ne-eqb, eqb-true}
+use lib.Dec.{ltb, eqb}
+use lib.ListN.{length}
+use Rattle.paper.specs.Count.{onto}
 use Rattle.paper.proofs.Logic.{by-test}
 use Rattle.slotset.specs.declared.Told.the-variants as told
 use Rattle.slotset.specs.declared.Counted.the-variants as counted
-use Rattle.slotset.specs.Answers.{toldAs, countedAs, wordsAs, rowNo, loadOf}
+use Rattle.slotset.specs.Answers.{toldAs, countedAs, wordsAs}
 use Rattle.slots.specs.declared.Minutes.the-variants as minutes
 use Rattle.slots.specs.Lent.{lentNo, lentSlotNo, minutesAs, demandIs, slotMinutesIs}
 use Rattle.slots.specs.Ranges.{Ranges, personOf, startOf, endOf, mergedOf}
@@ -26,12 +22,14 @@ use Rattle.units.specs.declared.Settings.{Settings}
 use Rattle.units.specs.declared.Number.the-variants as number
 use Rattle.units.specs.declared.UnitSlots.the-variants as unitSlots
 use Rattle.units.specs.declared.Duration.the-variants as duration
-use Rattle.units.specs.Answers.{numberAs, spanAs, Written, writtenAs, unitsNo, unitNo, unitSlotNo, unitCountIs, unitSlotsIs, unitOfSlotIs}
+use Rattle.units.specs.Answers.{numberAs, spanAs, writtenAs, unitsNo, unitNo, unitSlotNo, unitCountIs, unitSlotsIs}
+use Rattle.units.specs.Answers.{unitOfSlotIs}
 use Rattle.units.specs.Starts.{rotationStarts, unitStarts, startsNo, rotationStartsIs, unitStartsIs}
 use Rattle.units.specs.Days.{durationAs, coveredDaysIs, minutesPerDayIs, targetRunNo, targetRunIs}
 use Rattle.units.specs.Domains.{slotDomain, unitDomain, unitFrozenNo, unitFrozenIs, slotDomainNo, slotDomainIs, unitDomainNo, unitDomainIs}
 use Rattle.units.specs.Achievable.{achievableRunNo, achievableRunIs}
-use Rattle.promises.specs.Table.{Rule, Row, row, rules, Hears, Refuses, toldNo, countedNo, minutesNo, numberNo, spanNo, durationNo, figureNo}
+use Rattle.promises.specs.Table.{Row, row, rules, Hears, Refuses, toldNo, countedNo, minutesNo, numberNo, spanNo}
+use Rattle.promises.specs.Table.{durationNo}
 use Rattle.promises.specs.Refusals.{lentTable, mergedTable, atomiseTable, availabilityTable, freezeTable, availableTable, SlotsRefuse}
 use Rattle.promises.specs.Refusals.{unitsTable, startsTable, unitFrozenTable, slotDomainTable, unitDomainTable, targetRunTable}
 use Rattle.promises.specs.Refusals.{achievableTable, UnitsRefuse}

@@ -1,8 +1,8 @@
 -- Demand 3, sentence by sentence, by the laws of rota. Assumes nothing.
-use mathlib.Core.Path.{_≡_, refl, sym, ap, ap₂, _∙_}
-use mathlib.Core.Bool.{Bool, true, _&&_, cond}
-use mathlib.Core.List.{List, [], _∷_, _++_, append-assoc}
-use Prim.Native.Nat.{ℕ, suc, _+_, _-_, _*_, _/_, _%_, _≤_, _<_}
+use mathlib.Core.Path.{_≡_, sym, ap, ap₂, _∙_}
+use mathlib.Core.Bool.{Bool, true, cond}
+use mathlib.Core.List.{List, [], _++_, append-assoc}
+use Prim.Native.Nat.{ℕ, _+_, _*_, _/_, _%_, _≤_, _<_}
 use native.Mathlib.Omega.{arith}
 use borrow.Author.Tests.{le-leb, leb-true, lt-ltb}
 use lib.Dec.{leb, eqb}
@@ -14,7 +14,6 @@ use Rattle.paper.specs.Bits.{bitOf}
 use Rattle.paper.proofs.Logic.{both, five, and-true, slot-count-says}
 use Rattle.paper.proofs.Count.{each-all, sum-same}
 use Rattle.slotset.specs.declared.SlotSet.{SlotSet}
-use Rattle.slotset.specs.declared.Changed.{Changed}
 use Rattle.slotset.specs.declared.Counted.the-variants as counted
 use Rattle.slotset.specs.Slots.{slot, size}
 use Rattle.slotset.specs.Answers.{lenNo, rowNo, countedAs, loadOf}
@@ -22,18 +21,22 @@ use Rattle.slots.specs.Lent.{slotRoomOk, demandOf}
 use Rattle.rota.specs.declared.Figure.the-variants.{Is}
 use Rattle.rota.specs.Moves.{Draw}
 use Rattle.rota.specs.Plays.{drawsOf, ownersAfter, answers}
-use Rattle.rota.specs.Derived.{Plan, Derived, knownBy, uncovered, held, afresh}
+use Rattle.rota.specs.Derived.{knownBy, uncovered, held, afresh}
 use Rattle.rota.specs.Recount.{freeFor, knownAt, recounts}
 use Rattle.rota.specs.Entries.{Outcome, roomOk, uncoveredIs, figureAs, ground, slotsOfIs}
 use Rattle.rota.proofs.Entered.{PlayAsks, play-asks, recount-says}
 use Rattle.rota.proofs.Plays.{play-length, answers-length, draws-length}
 use Rattle.rota.proofs.Steps.{afresh-lengths}
 use Rattle.rota.proofs.Promises.{frozen-slots-keep, covered-stays, only-handed-over, owners-known, owners-available, played-recounts}
+use Rattle.rota.proofs.Promises.{owners-past-stay, derived-past-stay, answers-past-stay}
 use Rattle.rota.proofs.Promises.{minutes-and-uncovered, two-calls-owners, two-calls-answers, two-calls-derived}
 use Rattle.promises.specs.Entries.{Call, built, noOf, playOf, afreshIn, boardIn, ownersIn, drawsIn}
 use Rattle.promises.specs.Rota.{EndsAfresh, FrozenKeep, OwnersAvailable, CoveredStays, OnlyHandedOver, Recounts, AddsUp, after}
-use Rattle.promises.specs.Rota.{SizesRecount, firstCall, nextCall, secondCall, Words, InTwo, TwoCalls}
+use Rattle.promises.specs.Rota.{SizesRecount, PastStays, firstCall, nextCall, secondCall, Words, InTwo, TwoCalls}
 use Rattle.promises.specs.Empty.{ActsByRule}
+use Rattle.promises.specs.SetRefusals.{rowTable}
+use Rattle.promises.proofs.Table.{all-pass}
+use Rattle.promises.proofs.RotaRefusals.{refused-set, uncoveredTable}
 use Rattle.promises.proofs.Calls.{accepted-is, Accepted, accepted-says, says-accepted}
 
 pub ends-afresh : EndsAfresh built
@@ -41,7 +44,8 @@ ends-afresh = accepted-is
 
 -- what an accepted call was asked
 module _ (c : Call) (e : noOf c ≡ 0) where
-  asks : PlayAsks (c .plan) (c .avail) (c .units) (c .firsts) (c .frozen) (c .count) (c .kinds) (c .ones) (c .twos) (c .owners) (c .derived)
+  pub asks : PlayAsks (c .plan) (c .avail) (c .units) (c .firsts) (c .frozen) (c .count) (c .kinds) (c .ones) (c .twos) (c .owners)
+      (c .derived)
       (c .answers)
   asks =
       play-asks (c .plan) (c .avail) (c .units) (c .firsts) (c .frozen) (c .count) (c .kinds) (c .ones) (c .twos) (c .owners) (c .derived)
@@ -73,7 +77,8 @@ only-handed c e k h z =
 pub owners-can : OwnersAvailable built
 owners-can c e k h = (
   ap (knownBy (c .plan .people)) (owner-is c e k)
-      ∙ owners-known (c .plan) (c .avail) (c .units) (c .firsts) (c .frozen) (c .count) (c .kinds) (c .ones) (c .twos) (c .owners) (c .derived)
+      ∙ owners-known (c .plan) (c .avail) (c .units) (c .firsts) (c .frozen) (c .count) (c .kinds) (c .ones) (c .twos) (c .owners)
+      (c .derived)
       (c .answers) (asks c e) (drawsIn c) k h,
   ap (λ (w : ℕ). freeFor (c .avail) w k) (owner-is c e k)
       ∙ owners-available (c .plan) (c .avail) (c .units) (c .firsts) (c .frozen) (c .count) (c .kinds) (c .ones) (c .twos) (c .owners)
@@ -89,13 +94,10 @@ afresh-recounts c e =
 
 pub recounted : Recounts built
 recounted c e =
-    ap (λ (y : Outcome). recounts (c .plan) (c .avail) (c .units) (c .firsts) (y .owners) (y .derived)) (accepted-is c e) ∙ afresh-recounts c e
+    ap (λ (y : Outcome). recounts (c .plan) (c .avail) (c .units) (c .firsts) (y .owners) (y .derived)) (accepted-is c e)
+    ∙ afresh-recounts c e
 
 -- ---- the total
-
-told-hold : (a b c d : Bool) → a ≡ true → b ≡ true → c ≡ true → d ≡ true → ground a b c (orElse d 11 0) ≡ 0
-unfolding ground
-told-hold a b c d p q r s = simp (p, q, r, s)
 
 module _ (c : Call) (e : noOf c ≡ 0) where
   room-after : leb (c .plan .slots) (length (ownersIn c)) ≡ true
@@ -111,12 +113,12 @@ module _ (c : Call) (e : noOf c ≡ 0) where
       (afresh-recounts c e) .known)
 
   told : uncoveredIs (c .plan) (ownersIn c) ≡ Is (uncovered (c .plan) (ownersIn c))
-  unfolding uncoveredIs figureAs roomOk
+  unfolding uncoveredIs figureAs roomOk ground
   told =
       let A = accepted-says c e in
       let r = both (slotRoomOk (c .plan .slots) (c .plan .starts) (c .plan .ends)) _ (A .room) in
       ap (λ (n : ℕ). figureAs n (uncovered (c .plan) (ownersIn c)))
-      (told-hold _ _ _ _ (A .counts) (and-true _ _ (r .0) room-after) (A .slots) known-after)
+      (all-pass (uncoveredTable (c .plan) (ownersIn c)) (A .counts, (and-true _ _ (r .0) room-after, (A .slots, (known-after, tt)))))
 
   total : sum (c .plan .people) (λ p. getD (afresh (c .plan) (ownersIn c) (c .derived) .minutes) p 0) + uncovered (c .plan) (ownersIn c)
       ≡ demandOf (c .plan .slots) (c .plan .starts) (c .plan .ends)
@@ -143,9 +145,6 @@ row-slot ws p k h =
     ap (λ (x : ℕ). bitOf x (k % 64))
     (getD-take 16 (drop (16 * p) ws) (0 + k / 64) 0 w ∙ getD-drop (16 * p) ws (0 + k / 64) 0 ∙ ap (λ (j : ℕ). getD ws j 0) e)
 
-three-hold : (a b c : Bool) → a ≡ true → b ≡ true → c ≡ true → orElse a 1 (orElse b 2 (orElse c 11 0)) ≡ 0
-three-hold a b c p q r = simp (p, q, r)
-
 module _ (people slots : ℕ) (ws : List ℕ) (p : ℕ) (e : countsOk people slots ≡ true) (room : 16 * people ≤ length ws) (h : p < people) where
   abbrev row : SlotSet
   row = record { words = take 16 (drop (16 * p) ws); len = slots }
@@ -160,13 +159,15 @@ module _ (people slots : ℕ) (ws : List ℕ) (p : ℕ) (e : countsOk people slo
   row-none : rowNo ws people p slots ≡ 0
   unfolding rowNo
   row-none =
-      three-hold _ _ _ (and-true _ _ (counts .0) few) (le-leb (16 * people) (length ws) room) (lt-ltb p people h)
+      all-pass (rowTable ws people p slots [])
+      (and-true _ _ (counts .0) few, (le-leb (16 * people) (length ws) room, (lt-ltb p people h, tt)))
 
   row-is : slotsOfIs people slots ws p .set ≡ row
   unfolding slotsOfIs loadOf
   row-is =
-      ap (λ (b : Bool). cond b (loadOf ws people p slots) (record { set = record { words = replicate 16 0; len = 0 }; number = 1 }) .set) (counts .1)
-      ∙ ap {B = SlotSet} (λ (n : ℕ). record { words = cond (eqb n 0) (take 16 (drop (16 * p) ws)) (replicate 16 0); len = cond (eqb n 0) slots 0 })
+      ap (λ (b : Bool). cond b (loadOf ws people p slots) refused-set .set) (counts .1)
+      ∙ ap {B = SlotSet}
+      (λ (n : ℕ). record { words = cond (eqb n 0) (take 16 (drop (16 * p) ws)) (replicate 16 0); len = cond (eqb n 0) slots 0 })
       row-none
 
   row-size : built .size row ≡ counted.Is (sum slots (slot (take 16 (drop (16 * p) ws)) 0))
@@ -193,13 +194,32 @@ sizes-recounted c e p h =
     (omega (arith, l .0, asks c e .grounds .on .room .sets-room)) h (ownersIn c) (λ k b. r .sets p k h b)
     ∙ sym (ap (λ (a : Outcome). counted.Is (count (c .plan .slots) (λ k. eqb (getD (a .owners) k 0) p))) (accepted-is c e))
 
+-- ---- what lies past
+
+pub past-stays : PastStays built
+past-stays c e =
+    let w = accepted-is c e in
+    let d = derived-past-stay (c .plan) (c .avail) (c .units) (c .firsts) (c .frozen) (c .count) (c .kinds) (c .ones) (c .twos) (c .owners)
+    (c .derived) (c .answers) (asks c e) (drawsIn c) in
+    record {
+      owners = λ k h.
+          owner-is c e k
+          ∙ owners-past-stay (c .plan) (c .avail) (c .units) (c .firsts) (c .frozen) (c .count) (c .kinds) (c .ones) (c .twos) (c .owners)
+          (c .derived) (c .answers) (asks c e) (drawsIn c) k h;
+      minutes = λ p h. ap (λ (y : Outcome). getD (y .derived .minutes) p 0) w ∙ d .1 p h;
+      answers = λ k h.
+          ap (λ (y : Outcome). getD (y .answers) k 0) w
+          ∙ answers-past-stay (boardIn c) (c .owners) (c .kinds) (c .ones) (c .twos) (c .answers) (c .count) k h;
+      sets = λ i b. ap (λ (y : Outcome). slot (y .derived .sets) 0 i) w ∙ d .0 i b;
+    }
+
 -- ---- two calls
 
 -- answers of two parts, each written where the call before it ended
-written-twice : (a b x : List ℕ) (n m : ℕ) → length a ≡ n → length b ≡ m
+onto-twice : (a b x : List ℕ) (n m : ℕ) → length a ≡ n → length b ≡ m
     → take n (onto a x) ++ onto b (drop n (onto a x)) ≡ onto (a ++ b) x
 unfolding onto
-written-twice a b x n m p q =
+onto-twice a b x n m p q =
     let d : drop n (a ++ drop (length a) x) ≡ drop n x = drop-at a (drop (length a) x) n p ∙ ap (λ (k : ℕ). drop k x) p in
     let s : n + length b ≡ length (a ++ b) = omega (arith, length-append a b) in
     ap₂ (λ (l r : List ℕ). l ++ (b ++ drop (length b) r)) (take-at a (drop (length a) x) n p) d
@@ -293,7 +313,7 @@ module _ (c : Call) (n m : ℕ) (s : c .count ≡ n + m) (e : noOf c ≡ 0) (f :
 
   answers-same : take n (afreshIn one .answers) ++ afreshIn two .answers ≡ afreshIn c .answers
   answers-same =
-      written-twice said (answers (boardIn c) (ownersIn one) (drawsIn two)) (c .answers) n m said-length
+      onto-twice said (answers (boardIn c) (ownersIn one) (drawsIn two)) (c .answers) n m said-length
       (answers-length (boardIn c) (ownersIn one) (drawsIn two) ∙ draws-length (two .kinds) (two .ones) (two .twos) m)
       ∙ ap (λ (l : List ℕ). onto l (c .answers))
       (sym (two-calls-answers (boardIn c) (c .owners) (c .kinds) (c .ones) (c .twos) n m)

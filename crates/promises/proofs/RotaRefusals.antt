@@ -1,15 +1,15 @@
 -- Demand 1 of targets and rota: heard by the table, and a refusal leaves what was lent as it was. Assumes nothing.
-use mathlib.Core.Path.{_≡_, refl, sym, ap, ap₂, _∙_, subst}
-use mathlib.Core.Bool.{Bool, true, false, _&&_, cond, and-false}
+use mathlib.Core.Path.{_≡_, refl, sym, ap, _∙_, subst}
+use mathlib.Core.Bool.{Bool, true, _&&_, cond, and-false}
 use mathlib.Core.List.{List, [], _∷_}
-use mathlib.Core.Logic.{_⊎_, inl, inr, ⊎-elim}
+use mathlib.Core.Logic.{inl, inr, ⊎-elim}
 use Prim.Native.Nat.{ℕ, _*_, _≤_, _<_}
 use native.Mathlib.Omega.{arith}
-use borrow.Author.Tests.{eq-eqb, ne-eqb, eqb-true, eqb-false, le-leb, leb-true}
-use lib.Dec.{leb, ltb, eqb}
+use borrow.Author.Tests.{ne-eqb, le-leb}
+use lib.Dec.{leb, ltb}
 use lib.IntN.{ℤ}
 use lib.ListN.{length, getD, set, replicate}
-use Rattle.paper.specs.Limits.{peopleOk, slotCountOk, countsOk, orElse, nobody}
+use Rattle.paper.specs.Limits.{peopleOk, slotCountOk, orElse, nobody, countsOk}
 use Rattle.paper.specs.Count.{all, fill, over}
 use Rattle.paper.proofs.Logic.{by-test, lt-or-ge, slot-count-says}
 use Rattle.slotset.specs.declared.Changed.{Changed}
@@ -22,8 +22,8 @@ use Rattle.rota.specs.declared.Figure.the-variants as figure
 use Rattle.rota.specs.Derived.{Plan, Derived, derived, knownBy, afresh, setsFrom, nobodies, unassigned, uncovered}
 use Rattle.rota.specs.Recount.{freeFor, knownAt, freeAt, recounts}
 use Rattle.rota.specs.Entries as rota
-use Rattle.promises.specs.Entries.{Call, noOf, playOf, afreshIn}
-use Rattle.promises.specs.Table.{Rule, Row, row, rules, Applies, Heard, Hears, Refuses, figureNo}
+use Rattle.promises.specs.Entries.{Call, playOf, afreshIn}
+use Rattle.promises.specs.Table.{Row, row, rules, Applies, Heard, Hears, Refuses, figureNo}
 use Rattle.promises.specs.Refusals.{targetsChecks, guard, TargetsRefuse, rotaTable, recountTable, playTable, emptyTable, ownersTable}
 use Rattle.promises.specs.Refusals.{Lent, left, RotaRefuses}
 use Rattle.promises.proofs.Table.{chain, rising, Least, chain-least, least-heard, chain-heard, heard-as}
@@ -139,7 +139,8 @@ empty-refuses people slots o D =
     (derived (setsFrom people slots (nobodies slots) (D .sets)) (over (λ _. 0) people (D .minutes))) [] refl refl
 
 owner-heard : (people slots : ℕ) (o : List ℕ) (k : ℕ)
-    → Hears (ownersTable people slots o (row 11 (ltb k slots && knownBy people (getD o k 0)) ∷ [])) (figureNo (rota.ownerIs people slots o k))
+    → Hears (ownersTable people slots o (row 11 (ltb k slots && knownBy people (getD o k 0)) ∷ []))
+    (figureNo (rota.ownerIs people slots o k))
 unfolding rota.ownerIs rota.ground
 owner-heard people slots o k =
     heard-as (ownersTable people slots o (row 11 (ltb k slots && knownBy people (getD o k 0)) ∷ [])) _ refl (figure-no _ (getD o k 0))
@@ -157,7 +158,7 @@ unassigned-heard people slots o =
     heard-as (ownersTable people slots o (row 11 (all slots (knownAt people o)) ∷ [])) _ refl (figure-no _ (unassigned slots o))
 
 module _ (P : Plan) (o : List ℕ) where
-  abbrev uncoveredTable : List Row
+  abbrev pub uncoveredTable : List Row
   uncoveredTable =
       row 1 (countsOk (P .people) (P .slots)) ∷ row 2 (slotRoomOk (P .slots) (P .starts) (P .ends) && leb (P .slots) (length o))
       ∷ row 9 (slotsOk (P .slots) (P .starts) (P .ends)) ∷ row 11 (all (P .slots) (knownAt (P .people) o)) ∷ []
@@ -165,6 +166,10 @@ module _ (P : Plan) (o : List ℕ) where
   uncovered-heard : Hears uncoveredTable (figureNo (rota.uncoveredIs P o))
   unfolding rota.uncoveredIs rota.ground
   uncovered-heard = heard-as uncoveredTable _ refl (figure-no _ (uncovered P o))
+
+-- the empty set of no slots, refused by 1
+abbrev pub refused-set : Changed
+refused-set = record { set = record { words = replicate 16 0; len = 0 }; number = 1 }
 
 module _ (people slots : ℕ) (ws : List ℕ) (p : ℕ) where
   abbrev rowTable : List Row
@@ -184,10 +189,10 @@ module _ (people slots : ℕ) (ws : List ℕ) (p : ℕ) where
   slots-of-number =
       by-test (slotCountOk slots) _
       (λ t.
-      ap (λ (b : Bool). cond b (loadOf ws people p slots) (record { set = record { words = replicate 16 0; len = 0 }; number = 1 }) .number) t
+      ap (λ (b : Bool). cond b (loadOf ws people p slots) refused-set .number) t
       ∙ row-number t)
       (λ f.
-      ap (λ (b : Bool). cond b (loadOf ws people p slots) (record { set = record { words = replicate 16 0; len = 0 }; number = 1 }) .number) f
+      ap (λ (b : Bool). cond b (loadOf ws people p slots) refused-set .number) f
       ∙ sym (ap (λ (b : Bool). orElse b 1 after) (ap (λ (b : Bool). peopleOk people && b) f ∙ and-false (peopleOk people))))
 
   slots-of-heard : Hears rowTable (rota.slotsOfIs people slots ws p .number)

@@ -1,5 +1,5 @@
 -- Demand 1 of slot sets. Assumes nothing.
-use mathlib.Core.Path.{_≡_, refl, sym, ap, _∙_}
+use mathlib.Core.Path.{_≡_, refl, ap}
 use mathlib.Core.Bool.{Bool, true, false, cond, _&&_, _||_}
 use mathlib.Core.List.{List, [], _∷_}
 use Prim.Native.Nat.{ℕ, _-_, _*_}
@@ -7,7 +7,6 @@ use borrow.Author.Tests.{ne-eqb}
 use lib.Dec.{eqb, leb, ltb}
 use lib.ListN.{length}
 use Rattle.paper.specs.Limits.{peopleOk, slotsMost, orElse}
-use Rattle.paper.proofs.Logic.{by-test}
 use Rattle.slotset.specs.declared.SlotSet.{SlotSet}
 use Rattle.slotset.specs.declared.Found.{Found}
 use Rattle.slotset.specs.declared.Found.the-variants as found
@@ -21,7 +20,8 @@ use Rattle.slotset.specs.Answers.{lenNo, slotNo, stretchNo, rowNo, rowStretchNo
 use Rattle.slotset.specs.Answers.{nextMemberAs, changedAs, newOf, putOf, stretchOf, loadOf, wordsAs, storeOf, rowStretchOf}
 use Rattle.slotset.proofs.Meaning.{next-is, last-is}
 use Rattle.promises.specs.Table.{Row, row, rules, Hears, Refuses}
-use Rattle.promises.specs.SetRefusals.{foundNo, runNo, nextRunNo, nextMemberNo, lengthTable, slotTable, stretchTable, rowTable, SetsRefuse}
+use Rattle.promises.specs.SetRefusals.{foundNo, runNo, nextRunNo, nextMemberNo, lengthTable, slotTable, stretchTable, rowTable}
+use Rattle.promises.specs.SetRefusals.{SetsRefuse}
 use Rattle.promises.proofs.Table.{chain, rising, chain-heard, heard-as}
 use Rattle.promises.proofs.Refusals.{by-number, told-no, counted-no, stays}
 
@@ -110,7 +110,8 @@ last-none v f len end (found.Refused n) h = absurd h
 next-found : (n v : ℕ) (f : ℕ → ℕ) (len from : ℕ) → foundNo (foundAs n (nextWith v f len from)) ≡ n
 unfolding foundAs
 next-found n v f len from =
-    by-number foundNo n (nextWith v f len from) (found.Refused n) (first-none v f len from (nextWith v f len from) (next-is v f len from)) refl
+    by-number foundNo n (nextWith v f len from) (found.Refused n)
+    (first-none v f len from (nextWith v f len from) (next-is v f len from)) refl
 
 last-found : (n v : ℕ) (f : ℕ → ℕ) (len end : ℕ) → foundNo (foundAs n (lastBelow v f len end)) ≡ n
 unfolding foundAs

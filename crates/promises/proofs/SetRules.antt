@@ -1,9 +1,8 @@
 -- Demand 2, slot sets, by the laws of slotset. Assumes nothing.
-use mathlib.Core.Path.{_≡_, refl, sym, ap, ap₂, _∙_}
-use mathlib.Core.Bool.{Bool, true, false, cond}
-use mathlib.Core.List.{List}
-use mathlib.Core.Logic.{_↔_, _≢_}
-use Prim.Native.Nat.{ℕ, suc, _+_, _*_, _/_, _≤_, _<_}
+use mathlib.Core.Path.{_≡_, refl, ap, _∙_}
+use mathlib.Core.Bool.{Bool, cond}
+use mathlib.Core.Logic.{_↔_}
+use Prim.Native.Nat.{ℕ, suc, _+_, _/_, _<_}
 use native.Mathlib.Omega.{arith}
 use borrow.Author.Tests.{leb-true, ltb-true}
 use lib.Dec.{eqb, leb, ltb}
@@ -11,12 +10,11 @@ use lib.ListN.{length}
 use Rattle.paper.specs.Count.{among}
 use Rattle.paper.proofs.Logic.{by-test, cond-zero}
 use Rattle.slotset.specs.declared.SlotSet.{SlotSet}
-use Rattle.slotset.specs.declared.Found.{Found}
 use Rattle.slotset.specs.declared.Run.the-variants as run
 use Rattle.slotset.specs.declared.Counted.the-variants as counted
-use Rattle.slotset.specs.Slots.{slot, putSlot, has, Member, size}
-use Rattle.slotset.specs.Search.{nextWith, lastBelow, nextSet, prevSet, nextUnsetAfter, prevUnsetBefore, First, Last}
-use Rattle.slotset.specs.Runs.{firstOfRun, lastOfRun, RunAround, Ends, allRuns, AreRuns, InRuns}
+use Rattle.slotset.specs.Slots.{putSlot, has, Member, size}
+use Rattle.slotset.specs.Search.{nextWith, lastBelow, First, Last}
+use Rattle.slotset.specs.Runs.{firstOfRun, lastOfRun, allRuns, AreRuns, InRuns}
 use Rattle.slotset.specs.Answers.{slotNo, slotsOf, foundAs, runAs, countedAs, changedAs, putOf}
 use Rattle.slotset.proofs.Meaning.{next-is, next-unique, last-is, last-unique, next-same, last-same}
 use Rattle.slotset.proofs.Members.{size-members, put-here, put-elsewhere, size-same, all-runs-same}

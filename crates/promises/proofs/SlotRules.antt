@@ -3,29 +3,26 @@ use mathlib.Core.Path.{_≡_, refl, sym, ap, ap₂, _∙_}
 use mathlib.Core.Bool.{Bool, true, false, cond, _&&_}
 use mathlib.Core.List.{List, [], _∷_}
 use mathlib.Core.Logic.{_↔_}
-use Prim.Native.Nat.{ℕ, zero, suc, _+_, _*_, _≤_, _<_}
+use Prim.Native.Nat.{ℕ, suc, _*_, _≤_, _<_}
 use native.Mathlib.Omega.{arith}
-use borrow.Author.Tests.{eq-eqb, leb-true, ltb-true, le-leb, lt-ltb, lt-leb}
+use borrow.Author.Tests.{leb-true, le-leb, lt-ltb}
 use lib.Dec.{eqb, leb, ltb}
 use lib.ListN.{length, getD}
 use Rattle.paper.specs.Limits.{peopleOk, slotCountOk, orElse}
-use Rattle.paper.specs.Count.{allIn}
 use Rattle.paper.proofs.Logic.{by-test, cond-zero, both, and-true}
 use Rattle.paper.proofs.Count.{in-each, each-in}
-use Rattle.slotset.specs.declared.Told.{Told}
 use Rattle.slotset.specs.declared.Told.the-variants.{Yes, No}
 use Rattle.slotset.specs.declared.Counted.the-variants as counted
 use Rattle.slotset.specs.Slots.{slot, has, valueOf}
 use Rattle.slotset.specs.Answers.{countedAs, toldAs, wordsAs}
-use Rattle.slots.specs.Lent.{slotRoomOk, slotsOk, demandOf}
-use Rattle.slots.specs.Ranges.{Ranges, rangeRoomOk, rangesOk, personOf, startOf, endOf, opens, closes, joined, inRanges, available}
-use Rattle.slots.specs.Ranges.{keysTo, keysOf, mergeIn, mergeAll, mergedOf, IsMerged}
-use Rattle.slots.specs.Merged.{Columns, columns, written, mergedNo, mergedRanges}
-use Rattle.slots.specs.Atomic.{Base, baseCountsOk, baseRoomOk, baseNo, atomiseNo, atomiseOf, startsOfAtoms, endsOfAtoms, isCut, cutsIn, IsCuts}
+use Rattle.slots.specs.Lent.{slotsOk, demandOf}
+use Rattle.slots.specs.Ranges.{Ranges, rangesOk, personOf, startOf, endOf, opens, closes, joined, inRanges, available}
+use Rattle.slots.specs.Ranges.{keysTo, keysOf, mergeIn, mergeAll, mergedOf}
+use Rattle.slots.specs.Merged.{Columns, written, mergedNo, mergedRanges}
+use Rattle.slots.specs.Atomic.{Base, baseCountsOk, baseRoomOk, baseNo, atomiseNo, atomiseOf, startsOfAtoms, endsOfAtoms, isCut}
 use Rattle.slots.specs.Atomic.{splitCountsOk}
-use Rattle.slots.specs.Availability.{availableBit, rows, availabilityRoomOk, availabilityNo, availabilityOf}
+use Rattle.slots.specs.Availability.{availableBit, rows, availabilityNo, availabilityOf}
 use Rattle.slots.specs.Freeze.{endsBy, endedBy, marked, freezeNo, freezeOf, availableNo, isAvailable}
-use Rattle.slots.proofs.LentLaws.{slots-sound}
 use Rattle.slots.proofs.RangeLaws.{length-keys, merged-is}
 use Rattle.slots.proofs.Merging.{one-merged}
 use Rattle.slots.proofs.MergedLaws.{merged-says}
@@ -33,8 +30,10 @@ use Rattle.slots.proofs.AtomLaws.{BaseSound, base-says}
 use Rattle.slots.proofs.SplitLaws.{cuts-are, one-cuts, atoms-even, atom-whole}
 use Rattle.slots.proofs.AvailLaws.{AvailabilitySound, availability-says, length-rows}
 use Rattle.slots.proofs.FreezeLaws.{freeze-says}
-use Rattle.slots.proofs.Meaning.{written-at, available-slot, atoms-lent, atoms-lent-demand, frozen-marked, frozen-kept}
-use Rattle.promises.specs.SetRules.{TheOne}
+use Rattle.slots.proofs.Meaning.{written-at, written-past, available-slot, other-slot, atoms-lent, atoms-lent-demand, frozen-marked}
+use Rattle.slots.proofs.Meaning.{frozen-kept}
+use Rattle.promises.specs.Refusals.{availableTable}
+use Rattle.promises.proofs.Table.{all-pass}
 use Rattle.promises.specs.SlotRules.{Merged, Split, Froze, SlotsByRule}
 
 -- ---- merged ranges
@@ -90,6 +89,11 @@ module _ (people : ℕ) (R : Ranges) (out : Columns) (e : mergedNo people R out 
         starts = λ k h.
             ap (λ (c : List ℕ). getD c k 0) (accepted .1) ∙ written-at startOf l (out .starts) k h (omega (arith, s .2));
         ends = λ k h. ap (λ (c : List ℕ). getD c k 0) (accepted .2) ∙ written-at endOf l (out .ends) k h (omega (arith, s .3));
+        past = λ k h. (
+          ap (λ (c : List ℕ). getD c k 0) (accepted .0) ∙ written-past personOf l (out .persons) k h,
+          ap (λ (c : List ℕ). getD c k 0) (accepted .1) ∙ written-past startOf l (out .starts) k h,
+          ap (λ (c : List ℕ). getD c k 0) (accepted .2) ∙ written-past endOf l (out .ends) k h,
+        );
       }
 
 -- ---- atomic slots
@@ -149,6 +153,11 @@ module _ (B : Base) (e : atomiseNo B ≡ 0) where
             ap (λ (c : List ℕ). getD c k 0) out-ends
             ∙ written-at (λ t. t) E (B .outEnds) k (omega (arith, atoms-even m (B .slots) (B .starts) (B .ends)))
             (omega (arith, atoms-even m (B .slots) (B .starts) (B .ends)));
+        past = λ k h. (
+          ap (λ (c : List ℕ). getD c k 0) out-starts ∙ written-past (λ t. t) A (B .outStarts) k h,
+          ap (λ (c : List ℕ). getD c k 0) out-ends
+              ∙ written-past (λ t. t) E (B .outEnds) k (omega (arith, atoms-even m (B .slots) (B .starts) (B .ends))),
+        );
         passes =
             ap₂ (λ (s f : List ℕ). slotsOk (length A) s f) out-starts out-ends
             ∙ atoms-lent m (B .slots) (B .starts) (B .ends) (B .outStarts) (B .outEnds) (says .1) a b;
@@ -182,14 +191,13 @@ module _ (people slots : ℕ) (starts ends : List ℕ) (R : Ranges) (words : Lis
       let y = both (peopleOk people) _ (x .0) in
       and-true _ _ (y .0) (both (slotCountOk slots) _ (y .1) .0)
 
-  three-hold : (a b c : Bool) → a ≡ true → b ≡ true → c ≡ true → orElse a 1 (orElse b 2 (orElse c 11 0)) ≡ 0
-  three-hold a b c x y z = simp (x, y, z)
-
   heard : availableNo people slots out p k ≡ 0
   unfolding availableNo
   heard =
-      let r : 16 * people ≤ length out = omega (arith, ap length out-is, length-rows (availableBit R starts ends) slots people words, avail .room) in
-      three-hold _ _ _ counts (le-leb (16 * people) (length out) r) (and-true _ _ (lt-ltb p people hp) (lt-ltb k slots hk))
+      let r : 16 * people ≤ length out =
+      omega (arith, ap length out-is, length-rows (availableBit R starts ends) slots people words, avail .room) in
+      all-pass (availableTable people slots out p k)
+      (counts, (le-leb (16 * people) (length out) r, (and-true _ _ (lt-ltb p people hp) (lt-ltb k slots hk), tt)))
 
   value-one : (b : Bool) → eqb (valueOf b) 1 ≡ b
   value-one true = refl
@@ -203,7 +211,7 @@ module _ (people slots : ℕ) (starts ends : List ℕ) (R : Ranges) (words : Lis
       ∙ available-slot R starts ends slots people words (avail .few) (avail .room) p k hp hk)
       ∙ value-one can
 
-  told-is : isAvailable people slots out p k ≡ cond can Yes No
+  pub told-is : isAvailable people slots out p k ≡ cond can Yes No
   unfolding isAvailable toldAs
   told-is = ap₂ toldAs heard bit
 
@@ -220,6 +228,24 @@ module _ (people slots : ℕ) (starts ends : List ℕ) (R : Ranges) (words : Lis
     λ q. in-each (getD starts k 0) (getD ends k 0) (inRanges R p) (heard-yes can (sym told-is ∙ q)),
     λ f. said (each-in (getD starts k 0) (getD ends k 0) (inRanges R p) f),
   )
+
+value-small : (b : Bool) → valueOf b < 2
+value-small true = omega arith
+value-small false = omega arith
+
+bit-small : (R : Ranges) (starts ends : List ℕ) (p k : ℕ) → availableBit R starts ends p k < 2
+unfolding availableBit
+bit-small R starts ends p k = value-small (available R p (getD starts k 0) (getD ends k 0))
+
+past-available : (people slots : ℕ) (starts ends : List ℕ) (R : Ranges) (words : List ℕ)
+    → availabilityNo people slots starts ends R words ≡ 0
+    → (p k : ℕ) → (p < people → slots ≤ k) → k < 1024
+    → slot (availabilityOf people slots starts ends R words) (16 * p) k ≡ slot words (16 * p) k
+unfolding availabilityOf wordsAs
+past-available people slots starts ends R words e p k h l =
+    let s = availability-says people slots starts ends R words e in
+    ap (λ (n : ℕ). slot (cond (eqb n 0) (rows (availableBit R starts ends) slots people words) words) (16 * p) k) e
+    ∙ other-slot (availableBit R starts ends) (bit-small R starts ends) slots (s .few) words people (s .room) p k h l
 
 -- ---- freezing
 
@@ -251,5 +277,6 @@ slots-by-rule = record {
   merged = merged-by-rule;
   split = split-by-rule;
   available = available-by-rule;
+  past = past-available;
   frozen = frozen-by-rule;
 }

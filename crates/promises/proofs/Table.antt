@@ -2,19 +2,28 @@
 use mathlib.Core.Path.{_≡_, refl, sym, ap, _∙_, subst}
 use mathlib.Core.Bool.{Bool, true, false, cond, _&&_}
 use mathlib.Core.List.{List, [], _∷_}
-use mathlib.Core.Logic.{_⊎_, inl, inr, ⊎-elim, _↔_}
-use Prim.Native.Nat.{ℕ, zero, suc, _≤_, _<_}
+use mathlib.Core.Logic.{inl, inr, ⊎-elim}
+use Prim.Native.Nat.{ℕ, _≤_, _<_}
 use native.Mathlib.Omega.{arith}
-use borrow.Author.Tests.{leb-true, eq-eqb, ne-eqb, eqb-true, eqb-false}
-use lib.Dec.{leb, eqb}
+use borrow.Author.Tests.{leb-true}
+use lib.Dec.{leb}
 use Rattle.paper.specs.Limits.{orElse}
 use Rattle.paper.proofs.Logic.{by-test, both, lt-or-ge}
-use Rattle.promises.specs.Table.{Rule, Row, row, rules, Applies, Heard}
+use Rattle.promises.specs.Table.{Rule, Row, rules, Applies, Heard}
 
 -- a chain of tests, as the entries have it
 abbrev pub chain : List Row → ℕ
 chain [] = 0
 chain (t ∷ ts) = orElse (t .passes) (t .number) (chain ts)
+
+-- each of its tests passes: nothing is heard
+abbrev pub Pass : List Row → Type 0
+Pass [] = Unit
+Pass (t ∷ ts) = (t .passes ≡ true) × Pass ts
+
+pub all-pass : (ts : List Row) → Pass ts → chain ts ≡ 0
+all-pass [] p = refl
+all-pass (t ∷ ts) p = ap (λ (b : Bool). orElse b (t .number) (chain ts)) (p .0) ∙ all-pass ts (p .1)
 
 -- numbers are at least `low` and never fall
 abbrev pub rising : ℕ → List Row → Bool
@@ -46,7 +55,8 @@ module _ (low : ℕ) (t : Row) (ts : List Row) (pos : 0 < low) (h : rising low (
   passed e = record {
     here = λ z. inr (l .here z);
     least = λ k a.
-        ⊎-elim (λ (p : (t .number ≡ k) × (t .passes ≡ false)). not-both (t .passes) _ e (p .1)) (λ (b : Applies (rules ts) k). l .least k b) a;
+        ⊎-elim (λ (p : (t .number ≡ k) × (t .passes ≡ false)). not-both (t .passes) _ e (p .1))
+        (λ (b : Applies (rules ts) k). l .least k b) a;
   }
 
   failed : t .passes ≡ false → Least (rules (t ∷ ts)) (t .number)

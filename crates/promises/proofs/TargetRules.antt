@@ -3,23 +3,20 @@ use mathlib.Core.Path.{_≡_, refl, ap, ap₂}
 use mathlib.Core.Bool.{Bool, true, false, cond}
 use mathlib.Core.List.{List, map}
 use Prim.Native.Nat.{ℕ}
-use borrow.Author.Tests.{eq-eqb, ne-eqb}
-use native.Mathlib.Omega.{arith}
+use borrow.Author.Tests.{eq-eqb}
 use lib.Dec.{eqb}
-use lib.IntN.{ℤ}
 use lib.Ieee.{Float, fin, lt}
 use Rattle.targets.specs.declared.Line.{Line}
 use Rattle.targets.specs.Figures.{zeroF, whole}
 use Rattle.targets.specs.Available.{availableMinutes}
-use Rattle.targets.specs.Passes.{rounded, NearestWhole, unrounded, settled, settle, outside, falls, shareSum, notional, some, Passed, again, done}
+use Rattle.targets.specs.Passes.{rounded, unrounded, settled, settle, outside, falls, shareSum, notional, some}
+use Rattle.targets.specs.Passes.{again, done}
 use Rattle.targets.specs.Passes.{refused, pass}
-use Rattle.targets.specs.Remainder.{Takes}
 use Rattle.targets.specs.Outcome.{Given, demandIn, baseAt, leftIn, takerIn}
 use Rattle.targets.proofs.Nearest.{rounded-nearest, nearest-one}
 use Rattle.targets.proofs.Taker.{takes-one}
 use Rattle.targets.proofs.Fairness.{fairness-agrees}
 use Rattle.targets.proofs.Promises.{taker-by-rule, others-not-below, targets-add-up, past-stays, eight-never, never-cut}
-use Rattle.promises.specs.SetRules.{TheOne}
 use Rattle.promises.specs.TargetRules.{Settles, TargetsByRule}
 
 base-by : (g : Given) (k : ℕ) (b : Bool) → eqb (g .fairness) 1 ≡ b

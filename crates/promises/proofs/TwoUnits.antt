@@ -1,16 +1,16 @@
 -- The rota of two slots, two units and two people who are available for both: it is accepted, and what a swap does to it.
 -- Assumes nothing.
-use mathlib.Core.Path.{_≡_, refl, sym, ap, ap₂, _∙_}
-use mathlib.Core.Bool.{Bool, true, false, _&&_, cond}
-use mathlib.Core.List.{List, [], _∷_, _++_}
-use Prim.Native.Nat.{ℕ, zero, suc, _+_, _-_, _*_, _≤_, _<_}
+use mathlib.Core.Path.{_≡_, refl}
+use mathlib.Core.Bool.{true}
+use mathlib.Core.List.{List, [], _∷_}
+use Prim.Native.Nat.{ℕ, _≤_}
 use native.Mathlib.Omega.{arith}
 use borrow.Author.Tests.{le-leb, leb-true}
-use lib.Dec.{leb, ltb, eqb}
-use lib.ListN.{length, drop, getD}
-use Rattle.paper.specs.Limits.{peopleOk, slotCountOk, orElse, countsOk}
+use lib.Dec.{leb}
+use lib.ListN.{length, drop}
+use Rattle.paper.specs.Limits.{peopleOk, slotCountOk, countsOk}
 use Rattle.paper.specs.Bits.{bitOf}
-use Rattle.paper.specs.Count.{all, allIn, sum, over, fill, among, onto}
+use Rattle.paper.specs.Count.{all, allIn, sum, over, onto}
 use Rattle.paper.proofs.Logic.{and-true}
 use Rattle.slotset.specs.Slots.{slot, withBit, putSlot, putSlots}
 use Rattle.slots.specs.Lent.{slotOk, prevEnd, slotOkAt, slotRoomOk, slotsOk, minutesAt}
@@ -28,7 +28,8 @@ use Rattle.promises.specs.Marked.{Owned, apart, Spare, twoUnits}
 use Rattle.promises.proofs.Calls.{Accepted, says-accepted, accepted-is}
 
 -- with as many draws as there are numbers for, and room for the answers, it is accepted
-module _ (r : Owned) (frozen count : ℕ) (kinds ones twos : List ℕ) (more : Spare) (few : leb count 1024 ≡ true) (k : leb count (length kinds) ≡ true)
+module _ (r : Owned) (frozen count : ℕ) (kinds ones twos : List ℕ) (more : Spare) (few : leb count 1024 ≡ true)
+    (k : leb count (length kinds) ≡ true)
     (f : leb count (length ones) ≡ true) (s : leb count (length twos) ≡ true) (room : count ≤ length (more .answers)) where
   abbrev call : Call
   call = twoUnits r frozen count kinds ones twos more
@@ -64,7 +65,8 @@ module _ (r : Owned) (frozen count : ℕ) (kinds ones twos : List ℕ) (more : S
 
 -- owners 0 and 1 pass the recount
 pub apart-recounts : (frozen count : ℕ) (kinds ones twos : List ℕ) (more : Spare)
-    → let c = twoUnits apart frozen count kinds ones twos more in recounts (c .plan) (c .avail) 2 (c .firsts) (c .owners) (c .derived) ≡ true
+    → let c = twoUnits apart frozen count kinds ones twos more in
+    recounts (c .plan) (c .avail) 2 (c .firsts) (c .owners) (c .derived) ≡ true
 unfolding recounts all allIn knownAt knownBy freeAt freeFor available evenAt unitEnd setAt setSlotAt held minutesOkAt worked portion sum
     minutesAt slot bitOf
 apart-recounts frozen count kinds ones twos more = refl
@@ -73,7 +75,8 @@ apart-recounts frozen count kinds ones twos more = refl
 pub case-12 : (more : Spare) → 1 ≤ length (more .answers)
     → let c = twoUnits apart 2 1 (35 ∷ []) (0 ∷ []) (1 ∷ []) more in
     playOf c ≡ record { number = 0; owners = c .owners; derived = c .derived; answers = 1 ∷ drop 1 (more .answers) }
-unfolding drawsOf ownersAfter answers answer step onto decided anyOf swapped unowned ownerOf frozenUnit unitFrozen clear unfrozen allIn all
-    slot bitOf unitEnd fitsUnit able available afresh setsFrom putSlots putSlot withBit held over worked portion sum minutesAt
+unfolding drawsOf ownersAfter answers answer step onto decided anyOf swapped unowned ownerOf frozenUnit unitFrozen clear unfrozen allIn
+    all slot bitOf unitEnd fitsUnit able available afresh setsFrom putSlots putSlot withBit held over worked portion sum minutesAt
 case-12 more room =
-    accepted-is (twoUnits apart 2 1 (35 ∷ []) (0 ∷ []) (1 ∷ []) more) (accepted apart 2 1 (35 ∷ []) (0 ∷ []) (1 ∷ []) more refl refl refl refl room (apart-recounts 2 1 (35 ∷ []) (0 ∷ []) (1 ∷ []) more))
+    accepted-is (twoUnits apart 2 1 (35 ∷ []) (0 ∷ []) (1 ∷ []) more) (accepted apart 2 1 (35 ∷ []) (0 ∷ []) (1 ∷ []) more
+    refl refl refl refl room (apart-recounts 2 1 (35 ∷ []) (0 ∷ []) (1 ∷ []) more))

@@ -1,6 +1,6 @@
 -- Demand 2, rotations, units and run lengths, by the laws of units. Assumes nothing.
-use mathlib.Core.Path.{_≡_, refl, sym, ap, ap₂, _∙_}
-use mathlib.Core.Bool.{Bool, true, false, not, cond, _&&_, _||_}
+use mathlib.Core.Path.{_≡_, refl, sym, ap, _∙_}
+use mathlib.Core.Bool.{Bool, true, false, not, cond}
 use mathlib.Core.List.{List}
 use mathlib.Core.Logic.{_↔_, _≢_}
 use Prim.Native.Nat.{ℕ, zero, suc, _+_, _*_, _/_, _%_, _≤_, _<_, max, min}
@@ -11,7 +11,7 @@ use lib.ListN.{length, getD}
 use Rattle.paper.specs.Bits.{bitOf}
 use Rattle.paper.specs.Count.{all, count, among, onto}
 use Rattle.paper.proofs.Logic.{by-test, both, and-true}
-use Rattle.paper.proofs.Count.{all-each, each-all, all-fails, among-each, among-at}
+use Rattle.paper.proofs.Count.{all-fails, among-each, among-at}
 use Rattle.slotset.specs.Slots.{slot}
 use Rattle.slots.specs.Lent.{minutesAt, demandOf}
 use Rattle.units.specs.declared.Settings.{Settings}
@@ -21,7 +21,7 @@ use Rattle.units.specs.Units.{unitStart, unitEnd, unitsOk, unitOf, InUnit}
 use Rattle.units.specs.Starts.{startDate, everyBegins, dayBegins, rotationBegins, unitBegins, rotationStarts, unitStarts, startsNo}
 use Rattle.units.specs.Starts.{rotationStartsIs, unitStartsIs}
 use Rattle.units.specs.Days.{some, covers, datesMost, coveredDays, minutesPerDay, targetRun}
-use Rattle.units.specs.Domains.{available, able, domain, unitDomain, clear, unitFrozen}
+use Rattle.units.specs.Domains.{available, domain, unitDomain, clear, unitFrozen}
 use Rattle.units.specs.Achievable.{Longest, longestRun, achievable, achievableRun}
 use Rattle.units.proofs.Units.{unit-of-in, unit-of-only}
 use Rattle.units.proofs.Rising.{among-rises, rotation-starts-right, unit-starts-right}
@@ -83,7 +83,8 @@ unlocked-begins : (boundary value : ℕ) (starts : List ℕ) (k : ℕ) → unitB
 unfolding unitBegins
 unlocked-begins boundary value starts k = refl
 
-locked-begins : (boundary value : ℕ) (starts : List ℕ) (k : ℕ) → unitBegins 1 boundary value starts k ≡ rotationBegins boundary value starts k
+locked-begins : (boundary value : ℕ) (starts : List ℕ) (k : ℕ)
+    → unitBegins 1 boundary value starts k ≡ rotationBegins boundary value starts k
 unfolding unitBegins
 locked-begins boundary value starts k = refl
 

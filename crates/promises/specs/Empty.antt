@@ -5,7 +5,6 @@ use mathlib.Core.List.{List}
 use Prim.Native.Nat.{ℕ, _<_}
 use lib.IntN.{ℤ}
 use Rattle.slotset.specs.declared.SlotSet.{SlotSet}
-use Rattle.slots.specs.Ranges.{Ranges}
 use Rattle.slots.specs.Atomic.{Base}
 use Rattle.units.specs.declared.Settings.{Settings}
 use Rattle.targets.specs.Outcome as targets

@@ -1,4 +1,6 @@
--- What is promised: the marked cases, the demands.
+-- What is promised. Entries: a component, by what its entries answer. Marked: the twelve marked cases. Demand 1: Table, Refusals,
+-- SetRefusals, Outcomes. Demand 2: SetRules, SlotRules, UnitRules, TargetRules, MoveRules. Demand 3: Rota. The job: JobRules.
+-- Empty: how empty answers are shut out.
 pub mod Entries
 pub mod Marked
 pub mod Table
@@ -10,4 +12,6 @@ pub mod SetRules
 pub mod SlotRules
 pub mod UnitRules
 pub mod TargetRules
+pub mod MoveRules
+pub mod JobRules
 pub mod Outcomes

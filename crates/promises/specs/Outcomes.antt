@@ -1,5 +1,5 @@
--- "that only one outcome fits is itself proved": of each form that a contract has, two outcomes that meet it are one. There is no exception.
--- Assumes nothing.
+-- "that only one outcome fits is itself proved": of each form that a contract has, two outcomes that meet it are one.
+-- There is no exception. Assumes nothing.
 use mathlib.Core.Path.{_≡_}
 use mathlib.Core.List.{List}
 use Prim.Native.Nat.{ℕ}

@@ -2,13 +2,13 @@
 -- refusal changes no lent byte." Each entry's table, in the paper's numbers and by the rooms' own tests, and that it is heard both ways.
 -- That every entry ends is the check's own verdict: no public function has a precondition. Assumes nothing.
 use mathlib.Core.Path.{_≡_}
-use mathlib.Core.Bool.{Bool, true, _&&_}
+use mathlib.Core.Bool.{true, _&&_}
 use mathlib.Core.List.{List, [], _∷_}
 use Prim.Native.Nat.{ℕ, _*_}
 use lib.Dec.{leb, ltb}
 use lib.IntN.{ℤ}
 use lib.ListN.{length}
-use Rattle.paper.specs.Limits.{peopleOk, slotCountOk, countsOk, slotsMost, drawsMost, setWords}
+use Rattle.paper.specs.Limits.{peopleOk, slotCountOk, slotsMost, drawsMost, setWords, countsOk}
 use Rattle.paper.specs.Count.{all}
 use Rattle.slots.specs.Lent.{slotRoomOk, slotsOk, demandIs, slotMinutesIs}
 use Rattle.slots.specs.Ranges.{Ranges, ranges, rangeCountOk, rangeRoomOk, rangesOk}
@@ -31,7 +31,8 @@ use Rattle.rota.specs.Derived.{Plan, Derived, knownBy}
 use Rattle.rota.specs.Recount.{freeFor, knownAt, freeAt, recounts}
 use Rattle.rota.specs.Entries as rota
 use Rattle.promises.specs.Entries.{Call, playOf}
-use Rattle.promises.specs.Table.{Rule, Row, row, rules, Hears, Refuses, toldNo, countedNo, minutesNo, numberNo, spanNo, durationNo, figureNo}
+use Rattle.promises.specs.Table.{Rule, Row, row, rules, Hears, Refuses, toldNo, countedNo, minutesNo, numberNo, spanNo}
+use Rattle.promises.specs.Table.{durationNo, figureNo}
 
 -- ---- slots
 
@@ -57,7 +58,8 @@ availabilityTable people slots starts ends R words =
 
 abbrev pub freezeTable : ℕ → List ℕ → List ℕ → List ℕ → List Row
 freezeTable slots starts ends frozen =
-    row 1 (slotCountOk slots) ∷ row 2 (slotRoomOk slots starts ends && leb setWords (length frozen)) ∷ row 9 (slotsOk slots starts ends) ∷ []
+    row 1 (slotCountOk slots) ∷ row 2 (slotRoomOk slots starts ends && leb setWords (length frozen))
+    ∷ row 9 (slotsOk slots starts ends) ∷ []
 
 abbrev pub availableTable : ℕ → ℕ → List ℕ → ℕ → ℕ → List Row
 availableTable people slots words person slot =
@@ -122,7 +124,8 @@ achievableTable s avail people p slots starts ends =
     ∷ row 7 (settingsOk s) ∷ row 9 (slotsOk slots starts ends) ∷ row 11 (ltb p people) ∷ []
 
 pub record UnitsRefuse : Type 0 where
-  pub unit-count : (slots units : ℕ) (firsts : List ℕ) → Hears (unitsTable slots units firsts []) (numberNo (unitCountIs slots units firsts))
+  pub unit-count : (slots units : ℕ) (firsts : List ℕ)
+      → Hears (unitsTable slots units firsts []) (numberNo (unitCountIs slots units firsts))
   pub unit-slots : (slots units : ℕ) (firsts : List ℕ) (u : ℕ)
       → Hears (unitsTable slots units firsts (row 11 (ltb u units) ∷ [])) (spanNo (unitSlotsIs slots units firsts u))
   pub unit-of-slot : (slots units : ℕ) (firsts : List ℕ) (k : ℕ)
@@ -141,7 +144,8 @@ pub record UnitsRefuse : Type 0 where
   pub unit-domain : (avail : List ℕ) (people slots units : ℕ) (firsts : List ℕ) (u : ℕ) (list : List ℕ)
       → let x = unitDomainIs avail people slots units firsts u list in
       Refuses (rules (unitDomainTable avail people slots units firsts u list)) (numberNo (x .answer)) list (x .buffer)
-  pub covered-days : (slots : ℕ) (starts ends : List ℕ) → Hears (lentTable slots starts ends []) (numberNo (coveredDaysIs slots starts ends))
+  pub covered-days : (slots : ℕ) (starts ends : List ℕ)
+      → Hears (lentTable slots starts ends []) (numberNo (coveredDaysIs slots starts ends))
   pub minutes-per-day : (slots : ℕ) (starts ends : List ℕ)
       → Hears (lentTable slots starts ends []) (durationNo (minutesPerDayIs slots starts ends))
   pub target-run : (s : Settings) (slots : ℕ) (starts ends : List ℕ)
@@ -236,6 +240,7 @@ pub record RotaRefuses : Type 0 where
   pub unassigned-count : (people slots : ℕ) (o : List ℕ)
       → Hears (ownersTable people slots o (row 11 (all slots (knownAt people o)) ∷ [])) (figureNo (rota.unassignedIs people slots o))
   pub uncovered-minutes : (P : Plan) (o : List ℕ)
-      → Hears (row 1 (countsOk (P .people) (P .slots)) ∷ row 2 (slotRoomOk (P .slots) (P .starts) (P .ends) && leb (P .slots) (length o))
+      → Hears (row 1 (countsOk (P .people) (P .slots))
+      ∷ row 2 (slotRoomOk (P .slots) (P .starts) (P .ends) && leb (P .slots) (length o))
       ∷ row 9 (slotsOk (P .slots) (P .starts) (P .ends)) ∷ row 11 (all (P .slots) (knownAt (P .people) o)) ∷ [])
       (figureNo (rota.uncoveredIs P o))

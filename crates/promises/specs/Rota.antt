@@ -2,9 +2,9 @@
 use mathlib.Core.Path.{_≡_}
 use mathlib.Core.Bool.{true, false}
 use mathlib.Core.List.{List, _++_}
-use Prim.Native.Nat.{ℕ, _+_, _^_, _<_}
+use Prim.Native.Nat.{ℕ, _+_, _*_, _^_, _≤_, _<_}
 use lib.Dec.{eqb}
-use lib.ListN.{length, getD, take, drop}
+use lib.ListN.{getD, take, drop}
 use Rattle.paper.specs.Limits.{nobody}
 use Rattle.paper.specs.Count.{sum, count}
 use Rattle.slotset.specs.declared.Counted.the-variants as counted
@@ -68,7 +68,20 @@ abbrev pub AddsUp : Component → Type 0
 AddsUp C =
     (c : Call) → noOf c ≡ 0
     → (u : ℕ) × (C .uncovered (c .plan) (C .play c .owners) ≡ Is u)
-    × (sum (c .plan .people) (λ p. getD (C .play c .derived .minutes) p 0) + u ≡ demandOf (c .plan .slots) (c .plan .starts) (c .plan .ends))
+    × (sum (c .plan .people) (λ p. getD (C .play c .derived .minutes) p 0) + u
+    ≡ demandOf (c .plan .slots) (c .plan .starts) (c .plan .ends))
+
+-- and of the paper, "Bytes past the list's end or the needed length always stay": owners past the slots, minutes past the people, answers
+-- past the draws, and each bit of the sets that is no slot of a person
+pub record PastKept (C : Component) (c : Call) : Type 0 where
+  pub owners : (k : ℕ) → c .plan .slots ≤ k → after C c k ≡ before c k
+  pub minutes : (p : ℕ) → c .plan .people ≤ p → getD (C .play c .derived .minutes) p 0 ≡ getD (c .derived .minutes) p 0
+  pub answers : (k : ℕ) → c .count ≤ k → getD (C .play c .answers) k 0 ≡ getD (c .answers) k 0
+  pub sets : (i : ℕ) → ((p k : ℕ) → p < c .plan .people → k < c .plan .slots → i ≡ 1024 * p + k → ⊥)
+      → slot (C .play c .derived .sets) 0 i ≡ slot (c .derived .sets) 0 i
+
+abbrev pub PastStays : Component → Type 0
+PastStays C = (c : Call) → noOf c ≡ 0 → PastKept C c
 
 -- "and a list played in two calls ends as in one"
 

@@ -17,7 +17,7 @@ use Rattle.slotset.specs.declared.NextRun.the-variants as nextRun
 use Rattle.slotset.specs.declared.NextMember.{NextMember}
 use Rattle.slotset.specs.declared.NextMember.the-variants as nextMember
 use Rattle.slotset.specs.Search.{nextWith, lastBelow}
-use Rattle.slotset.specs.Answers.{lenNo, slotNo, stretchNo, rowNo, rowStretchNo, foundAs, toldAs, countedAs, runAs, nextRunAs, nextMemberAs}
+use Rattle.slotset.specs.Answers.{lenNo, rowNo, rowStretchNo, foundAs, toldAs, countedAs, runAs, nextRunAs, nextMemberAs}
 use Rattle.slotset.specs.Answers.{newOf, putOf, stretchOf, loadOf, storeOf, rowStretchOf}
 use Rattle.promises.specs.Table.{Row, row, rules, Hears, Refuses, toldNo, countedNo}
 

@@ -1,19 +1,17 @@
--- Demand 2, slot sets: each answer is the one that the paper's section says. A set is its slots, as a function f, and a length, so each fact
--- is said once for sets by value and for lent rows, over every length. Assumes nothing.
+-- Demand 2, slot sets: each answer is the one that the paper's section says. A set is its slots, as a function f, and a length, so
+-- each fact is said once for sets by value and for lent rows, over every length. Assumes nothing.
 use mathlib.Core.Path.{_≡_}
-use mathlib.Core.List.{List}
 use mathlib.Core.Logic.{_↔_, _≢_}
-use Prim.Native.Nat.{ℕ, suc, _≤_, _<_}
+use Prim.Native.Nat.{ℕ, suc, _<_}
 use lib.Dec.{eqb}
 use lib.ListN.{length}
 use Rattle.paper.specs.Count.{among}
 use Rattle.slotset.specs.declared.SlotSet.{SlotSet}
-use Rattle.slotset.specs.declared.Found.{Found}
 use Rattle.slotset.specs.declared.Run.the-variants.{Span, Outside}
 use Rattle.slotset.specs.declared.Counted.the-variants as counted
 use Rattle.slotset.specs.Slots.{Member, size}
 use Rattle.slotset.specs.Search.{nextSet, prevSet, nextUnsetAfter, prevUnsetBefore, First, Last}
-use Rattle.slotset.specs.Runs.{RunAround, Ends, allRuns, AreRuns, InRuns}
+use Rattle.slotset.specs.Runs.{RunAround, allRuns, AreRuns, InRuns}
 use Rattle.slotset.specs.Answers.{slotNo, slotsOf, foundAs, runAs, countedAs, putOf}
 
 -- x meets a statement, and nothing else does

@@ -3,7 +3,7 @@ use mathlib.Core.Path.{_≡_}
 use mathlib.Core.Bool.{true, false}
 use mathlib.Core.List.{List}
 use mathlib.Core.Logic.{_↔_}
-use Prim.Native.Nat.{ℕ, _≤_, _<_}
+use Prim.Native.Nat.{ℕ, _*_, _≤_, _<_}
 use lib.ListN.{length, getD}
 use Rattle.slotset.specs.declared.Told.the-variants.{Yes}
 use Rattle.slotset.specs.declared.Counted.the-variants as counted
@@ -24,6 +24,11 @@ pub record Merged (people : ℕ) (R : Ranges) (out : Columns) : Type 0 where
   pub persons : (k : ℕ) → k < length (mergedOf R) → getD (mergedRanges people R out .persons) k 0 ≡ personOf (getD (mergedOf R) k 0)
   pub starts : (k : ℕ) → k < length (mergedOf R) → getD (mergedRanges people R out .starts) k 0 ≡ startOf (getD (mergedOf R) k 0)
   pub ends : (k : ℕ) → k < length (mergedOf R) → getD (mergedRanges people R out .ends) k 0 ≡ endOf (getD (mergedOf R) k 0)
+  -- past its end the columns stay
+  pub past : (k : ℕ) → length (mergedOf R) ≤ k
+      → (getD (mergedRanges people R out .persons) k 0 ≡ getD (out .persons) k 0)
+      × (getD (mergedRanges people R out .starts) k 0 ≡ getD (out .starts) k 0)
+      × (getD (mergedRanges people R out .ends) k 0 ≡ getD (out .ends) k 0)
 
 -- "The cuts are all starts and ends of the merged ranges. Each base slot is split at every cut strictly inside it; a cut equal to its start
 -- or end does nothing." .. "Atomic lengths add up to base lengths."
@@ -36,6 +41,9 @@ pub record Split (B : Base) : Type 0 where
   pub number : atomiseOf B .answer ≡ counted.Is (length (startsOfAtoms B))
   pub starts : (k : ℕ) → k < length (startsOfAtoms B) → getD (atomiseOf B .starts) k 0 ≡ getD (startsOfAtoms B) k 0
   pub ends : (k : ℕ) → k < length (startsOfAtoms B) → getD (atomiseOf B .ends) k 0 ≡ getD (endsOfAtoms B) k 0
+  -- past their end the columns stay
+  pub past : (k : ℕ) → length (startsOfAtoms B) ≤ k
+      → (getD (atomiseOf B .starts) k 0 ≡ getD (B .outStarts) k 0) × (getD (atomiseOf B .ends) k 0 ≡ getD (B .outEnds) k 0)
   -- they pass the test of lent slots, and their lengths add up
   pub passes : slotsOk (length (startsOfAtoms B)) (atomiseOf B .starts) (atomiseOf B .ends) ≡ true
   pub lengths : demandOf (length (startsOfAtoms B)) (atomiseOf B .starts) (atomiseOf B .ends) ≡ demandOf (B .slots) (B .starts) (B .ends)
@@ -55,9 +63,14 @@ pub record SlotsByRule : Type 0 where
   pub merged : (people : ℕ) (R : Ranges) (out : Columns) → mergedNo people R out ≡ 0 → Merged people R out
   pub split : (B : Base) → atomiseNo B ≡ 0 → Split B
   -- "A person is available for a slot exactly when each of its minutes lies in one of their ranges."
-  pub available : (people slots : ℕ) (starts ends : List ℕ) (R : Ranges) (words : List ℕ) → availabilityNo people slots starts ends R words ≡ 0
+  pub available : (people slots : ℕ) (starts ends : List ℕ) (R : Ranges) (words : List ℕ)
+      → availabilityNo people slots starts ends R words ≡ 0
       → (p k : ℕ) → p < people → k < slots
       → (isAvailable people slots (availabilityOf people slots starts ends R words) p k ≡ Yes)
       ↔ ((t : ℕ) → getD starts k 0 ≤ t → t < getD ends k 0 → inRanges R p t ≡ true)
+  -- a bit at or past the slot count, and the sets past the people, stay
+  pub past : (people slots : ℕ) (starts ends : List ℕ) (R : Ranges) (words : List ℕ) → availabilityNo people slots starts ends R words ≡ 0
+      → (p k : ℕ) → (p < people → slots ≤ k) → k < 1024
+      → slot (availabilityOf people slots starts ends R words) (16 * p) k ≡ slot words (16 * p) k
   pub frozen : (slots : ℕ) (starts ends frozen : List ℕ) (instant : ℕ) → freezeNo slots starts ends frozen ≡ 0
       → Froze slots starts ends frozen instant

@@ -1,21 +1,21 @@
 -- Demand 2, targets: each step, and the outcome, are what the paper's section says. Every step on a Float is IEEE 754's. Assumes nothing.
 use mathlib.Core.Path.{_≡_}
-use mathlib.Core.Bool.{Bool, true, false, cond}
-use mathlib.Core.List.{List, map}
+use mathlib.Core.Bool.{Bool, true, false}
+use mathlib.Core.List.{List}
 use mathlib.Core.Logic.{_≢_}
-use Prim.Native.Nat.{ℕ, suc, _+_, _<_}
-use lib.Dec.{eqb}
-use lib.IntN.{ℤ, pos, _+ℤ_, _-ℤ_}
-use lib.ListN.{length, getD, take, drop}
+use Prim.Native.Nat.{ℕ, _<_}
+use lib.IntN.{ℤ, pos}
+use lib.ListN.{getD, take, drop}
 use lib.Ieee.{Float, fin, binary64, mul, div, sub, lt}
 use Rattle.slotset.specs.Answers.{rowSlots}
 use Rattle.targets.specs.declared.Line.{Line}
 use Rattle.targets.specs.declared.Person.{Person}
 use Rattle.targets.specs.Figures.{zeroF, whole, lineOf, pad}
 use Rattle.targets.specs.Available.{availableMinutes}
-use Rattle.targets.specs.Passes.{rounded, NearestWhole, within, unrounded, settle, outside, falls, shareSum, notional, some, Passed, again, done}
-use Rattle.targets.specs.Passes.{refused, pass, passes, passesLeave}
-use Rattle.targets.specs.Remainder.{totalOf, Takes, sumℤ}
+use Rattle.targets.specs.Passes.{rounded, NearestWhole, unrounded, settle, shareSum}
+use Rattle.targets.specs.Passes.{again, done}
+use Rattle.targets.specs.Passes.{pass, passesLeave}
+use Rattle.targets.specs.Remainder.{Takes, sumℤ}
 use Rattle.targets.specs.Outcome.{Given, given, computeTargets, demandIn, baseAt, linesIn, leftIn, takerIn}
 use Rattle.promises.specs.SetRules.{TheOne}
 

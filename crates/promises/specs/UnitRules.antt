@@ -3,16 +3,13 @@ use mathlib.Core.Path.{_≡_}
 use mathlib.Core.Bool.{Bool, true, false}
 use mathlib.Core.List.{List}
 use mathlib.Core.Logic.{_↔_, _≢_}
-use Prim.Native.Nat.{ℕ, zero, suc, _+_, _*_, _/_, _%_, _≤_, _<_, max, min}
-use lib.Dec.{eqb}
+use Prim.Native.Nat.{ℕ, suc, _+_, _*_, _/_, _%_, _≤_, _<_, max, min}
 use lib.ListN.{length, getD}
 use Rattle.paper.specs.Bits.{bitOf}
 use Rattle.paper.specs.Count.{count, onto}
 use Rattle.slotset.specs.Slots.{slot}
-use Rattle.slots.specs.Lent.{slotsOk, minutesAt, demandOf}
+use Rattle.slots.specs.Lent.{minutesAt, demandOf}
 use Rattle.units.specs.declared.Settings.{Settings}
-use Rattle.units.specs.declared.Number.the-variants as number
-use Rattle.units.specs.Dates.{dateOf}
 use Rattle.units.specs.Units.{unitStart, unitEnd, unitsOk, InUnit}
 use Rattle.units.specs.Starts.{startDate, everyBegins, dayBegins, rotationBegins, unitBegins, rotationStarts, unitStarts, startsNo}
 use Rattle.units.specs.Starts.{rotationStartsIs, unitStartsIs}
@@ -49,7 +46,8 @@ pub record UnitsByRule : Type 0 where
       → Began (unitBegins (s .lock) (s .boundary) (s .value) starts) slots (unitStarts s slots starts) list
       (unitStartsIs s slots starts ends list .buffer)
   pub unlocked : (boundary value : ℕ) (starts : List ℕ) (k : ℕ) → unitBegins 0 boundary value starts k ≡ true
-  pub locked : (boundary value : ℕ) (starts : List ℕ) (k : ℕ) → unitBegins 1 boundary value starts k ≡ rotationBegins boundary value starts k
+  pub locked : (boundary value : ℕ) (starts : List ℕ) (k : ℕ)
+      → unitBegins 1 boundary value starts k ≡ rotationBegins boundary value starts k
   -- units that pass rule 9 tile the slots: each slot is in exactly one
   pub tile : (slots units : ℕ) (firsts : List ℕ) → unitsOk slots units firsts ≡ true → (k : ℕ) → k < slots
       → (u : ℕ) × TheOne (InUnit slots units firsts k) u

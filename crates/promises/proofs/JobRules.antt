@@ -1,0 +1,25 @@
+-- The job, by the laws of job. Assumes nothing.
+use mathlib.Core.Path.{refl, sym}
+use Rattle.job.specs.Outcome.{jobResult}
+use Rattle.job.proofs.Layouts.{rule-13}
+use Rattle.job.proofs.Digits.{digits-value}
+use Rattle.job.proofs.Promises.{lowest-heard, accepted-exactly, refused-keeps, listing-stands, total, targets-total}
+use Rattle.job.proofs.Promises.{frozen-keeps, stays-covered, owners-fit}
+use Rattle.promises.specs.JobRules.{JobByRule}
+
+pub job-by-rule : JobByRule
+job-by-rule = record {
+  heard = lowest-heard;
+  told = accepted-exactly;
+  kept = λ s x n e. refused-keeps s x n (jobResult s x .out) record { heard = sym e; left = refl };
+  file = rule-13;
+  accepted = λ s x n e. record {
+    listing = listing-stands s x n e;
+    total = total s x n e;
+    targets = targets-total s x n e;
+    frozen = frozen-keeps s x n e;
+    covered = stays-covered s x n e;
+    owners = owners-fit s x n e;
+  };
+  digits = digits-value;
+}

@@ -1,0 +1,49 @@
+-- Demand 2, moves, by the laws of rota. Assumes nothing.
+use mathlib.Core.Path.{_≡_, sym, ap, subst}
+use mathlib.Core.List.{List}
+use Prim.Native.Nat.{ℕ, _<_}
+use lib.ListN.{getD}
+use Rattle.rota.specs.Board.{Board, ownerOf, RunOf}
+use Rattle.rota.specs.Moves.{firstOf, lastOf}
+use Rattle.rota.specs.Plays.{drawsOf}
+use Rattle.rota.specs.Entries.{Outcome}
+use Rattle.rota.specs.Acts as acts
+use Rattle.rota.proofs.Runs.{run-is, run-only}
+use Rattle.rota.proofs.Drawn.{draw-acts-exactly, handed-exactly}
+use Rattle.rota.proofs.HandsOver.{draw-keeps}
+use Rattle.rota.proofs.Promises.{answers-exactly, next-hands-over}
+use Rattle.promises.specs.Entries.{Call, noOf, playOf, boardIn}
+use Rattle.promises.specs.MoveRules.{drawAt, foundAt, MovesByRule}
+use Rattle.promises.proofs.Calls.{accepted-is}
+use Rattle.promises.proofs.Rota.{asks}
+
+play-answers : (c : Call) → noOf c ≡ 0 → (i : ℕ) → i < c .count
+    → acts.Heard (getD (playOf c .answers) i 0) (acts.Acts (boardIn c) (foundAt c i) (drawAt c i))
+    (acts.ChoiceOutside (boardIn c) (foundAt c i) (drawAt c i))
+play-answers c e i h =
+    subst (λ (r : ℕ). acts.Heard r (acts.Acts (boardIn c) (foundAt c i) (drawAt c i))
+    (acts.ChoiceOutside (boardIn c) (foundAt c i) (drawAt c i)))
+    (sym (ap (λ (y : Outcome). getD (y .answers) i 0) (accepted-is c e)))
+    (answers-exactly (boardIn c) (c .owners) (c .kinds) (c .ones) (c .twos) (c .answers) (c .count) i h)
+
+run-found : (B : Board) (o : List ℕ) (u : ℕ) → u < B .units → RunOf (B .units) (ownerOf B o) u (firstOf B o u) (lastOf B o u)
+unfolding firstOf lastOf
+run-found B o u h = run-is (ownerOf B o) (B .units) u h
+
+run-one : (B : Board) (o : List ℕ) (u a b : ℕ) → u < B .units → RunOf (B .units) (ownerOf B o) u a b
+    → (a ≡ firstOf B o u) × (b ≡ lastOf B o u)
+unfolding firstOf lastOf
+run-one B o u a b h R = run-only (ownerOf B o) (B .units) u a b h R
+
+pub moves-by-rule : MovesByRule
+moves-by-rule = record {
+  answers = draw-acts-exactly;
+  play = play-answers;
+  hands-over = λ c e i A k h.
+      next-hands-over (c .plan) (c .avail) (c .units) (c .firsts) (c .frozen) (c .count) (c .kinds) (c .ones) (c .twos) (c .owners)
+      (c .derived) (c .answers) (asks c e) (drawsOf (c .kinds) (c .ones) (c .twos) i) (drawAt c i) A k h;
+  keeps = draw-keeps;
+  handed = handed-exactly;
+  run = run-found;
+  one-run = run-one;
+}

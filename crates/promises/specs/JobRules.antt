@@ -1,0 +1,50 @@
+-- The job: demand 1 of run_job, whose number 13 comes before all, and what its file and its listing mean. Assumes nothing.
+use mathlib.Core.Path.{_≡_}
+use mathlib.Core.Bool.{true}
+use mathlib.Core.List.{List}
+use mathlib.Core.Logic.{_↔_}
+use Prim.Native.Nat.{ℕ, _+_, _^_, _≤_, _<_}
+use lib.IntN.{pos}
+use lib.ListN.{length, getD, take, drop}
+use Rattle.paper.specs.Limits.{nobody}
+use Rattle.paper.specs.Count.{sum}
+use Rattle.targets.specs.Remainder.{sumℤ}
+use Rattle.rota.specs.Derived.{knownBy}
+use Rattle.rota.specs.Recount.{freeFor}
+use Rattle.job.specs.declared.JobAnswer.the-variants as answer
+use Rattle.job.specs.Fields.{Bytes}
+use Rattle.job.specs.File.{jobCounts, jobStarts, fileOk, JobFile}
+use Rattle.job.specs.Listing.{digits, listingOf}
+use Rattle.job.specs.Digits.{readDigits}
+use Rattle.job.specs.Outcome.{instantIn, jobResult}
+use Rattle.job.specs.Heard.{Lowest, AllPass, jobTests, readyOf, ownersOf, listedOf, baseTotal}
+
+-- an accepted job, with n bytes of listing
+pub record Accepted (s x : List ℕ) (n : ℕ) : Type 0 where
+  -- the listing stands at the front of the lent buffer, and past it the buffer stays
+  pub listing : (take n (jobResult s x .out) ≡ listingOf (listedOf s)) × (drop n (jobResult s x .out) ≡ drop n x)
+  -- demand 3's total: P minutes and U add up to the total of the file's base slots, and so do the targets
+  pub total : sum (listedOf s .people) (λ p. getD (listedOf s .minutes) p 0) + listedOf s .uncovered ≡ baseTotal s
+  pub targets : sumℤ (take (listedOf s .people) (listedOf s .targets)) ≡ pos (baseTotal s)
+  -- demand 3 of the owners listed, beside those of the file's records: a slot that ends by the freeze record's instant keeps its owner, no
+  -- covered slot becomes uncovered, every owner is nobody or known and available
+  pub frozen : (getD (jobCounts s) 4 0 ≡ 0 → ⊥) → (k : ℕ) → k < listedOf s .slots
+      → getD (listedOf s .ends) k 0 ≤ instantIn s (jobCounts s) (jobStarts s) → getD (listedOf s .owners) k 0 ≡ getD (ownersOf s) k 0
+  pub covered : (k : ℕ) → k < listedOf s .slots → (getD (ownersOf s) k 0 ≡ nobody → ⊥) → getD (listedOf s .owners) k 0 ≡ nobody → ⊥
+  pub owners : (k : ℕ) → k < listedOf s .slots
+      → (knownBy (listedOf s .people) (getD (listedOf s .owners) k 0) ≡ true)
+      × (freeFor (readyOf s .avail) (getD (listedOf s .owners) k 0) k ≡ true)
+
+pub record JobByRule : Type 0 where
+  -- "The lowest number wins, but 13 comes before all": n is heard exactly where it is the lowest of those that apply
+  pub heard : (s x : List ℕ) (n : ℕ) → (jobResult s x .answer ≡ answer.Refused n) ↔ Lowest (jobTests s (length x)) n
+  -- a listing is given exactly where no number applies
+  pub told : (s x : List ℕ) (n : ℕ)
+      → (jobResult s x .answer ≡ answer.Length n) ↔ (AllPass (jobTests s (length x)) × (n ≡ length (listingOf (listedOf s))))
+  -- "A refusal returns its number alone and changes nothing lent."
+  pub kept : (s x : List ℕ) (n : ℕ) → jobResult s x .answer ≡ answer.Refused n → jobResult s x .out ≡ x
+  -- 13, both ways: the file is a right sequence of records, and not too long
+  pub file : (s : List ℕ) → Bytes s → (fileOk s ≡ true) ↔ JobFile s
+  pub accepted : (s x : List ℕ) (n : ℕ) → jobResult s x .answer ≡ answer.Length n → Accepted s x n
+  -- the digits of a number have that number as their value
+  pub digits : (n : ℕ) → n < 10 ^ 20 → readDigits (digits n) ≡ n
