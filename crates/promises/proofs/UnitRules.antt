@@ -9,7 +9,7 @@ use borrow.Author.Tests.{eq-eqb, ne-eqb, eqb-true, eqb-false}
 use lib.Dec.{eqb}
 use lib.ListN.{length, getD}
 use Rattle.paper.specs.Bits.{bitOf}
-use Rattle.paper.specs.Count.{all, count, among, onto}
+use Rattle.paper.specs.Count.{all, count, among, onto, some}
 use Rattle.paper.proofs.Logic.{by-test, both, and-true}
 use Rattle.paper.proofs.Count.{all-fails, among-each, among-at}
 use Rattle.slotset.specs.Slots.{slot}
@@ -20,7 +20,7 @@ use Rattle.units.specs.Dates.{dateOf, weekdayOf, listed}
 use Rattle.units.specs.Units.{unitStart, unitEnd, unitsOk, unitOf, InUnit}
 use Rattle.units.specs.Starts.{startDate, everyBegins, dayBegins, rotationBegins, unitBegins, rotationStarts, unitStarts, startsNo}
 use Rattle.units.specs.Starts.{rotationStartsIs, unitStartsIs}
-use Rattle.units.specs.Days.{some, covers, datesMost, coveredDays, minutesPerDay, targetRun}
+use Rattle.units.specs.Days.{covers, datesMost, coveredDays, minutesPerDay, targetRun}
 use Rattle.units.specs.Domains.{available, domain, unitDomain, clear, unitFrozen}
 use Rattle.units.specs.Achievable.{Longest, longestRun, achievable, achievableRun}
 use Rattle.units.proofs.Units.{unit-of-in, unit-of-only}

@@ -6,10 +6,9 @@ use Prim.Native.Nat.{ℕ, zero, suc, _+_, _-_, _*_, _≤_, _<_}
 use native.Mathlib.Omega.{arith}
 use borrow.Author.Tests.{lt-ltb, le-leb, eqb-true, eqb-false}
 use lib.Dec.{eqb, ltb, leb}
-use lib.ListN.{length, getD, set, drop, length-set, replicate}
+use lib.ListN.{length, getD, set, drop, length-set}
 use lib.Seq.{getD-drop, getD-set-same, getD-set-other, getD-append-seam, getD-append-add}
 use Rattle.paper.specs.Limits.{nobody, countsOk}
-use Rattle.paper.specs.Bits.{bitOf}
 use Rattle.paper.specs.Count.{sum, all, allIn, onto}
 use Rattle.paper.proofs.Logic.{by-test, both, five, and-true, cond-zero}
 use Rattle.paper.proofs.Count.{in-each, each-all, sum-same, getD-over-out}
@@ -19,8 +18,8 @@ use Rattle.slots.specs.Lent.{demandOf, slotRoomOk, slotsOk}
 use Rattle.units.specs.Units.{unitStart, unitEnd, unitOf}
 use Rattle.units.specs.Domains.{available, able, unfrozen, clear, unitFrozen}
 use Rattle.units.proofs.Units.{unit-of-in}
-use Rattle.rota.specs.Board.{Board, BoardSound, InUnit, Even, ownerOf, unowned}
-use Rattle.rota.specs.Moves.{Draw, draw, decided, anyOf, swapped}
+use Rattle.rota.specs.Board.{Board, BoardSound, InUnit, Even, ownerOf}
+use Rattle.rota.specs.Moves.{Draw, draw}
 use Rattle.rota.specs.Plays.{step, ownersAfter, answer, answers, touched, drawsOf}
 use Rattle.rota.specs.Lent.{fitsUnit, frozenUnit, boardOf}
 use Rattle.rota.specs.Derived.{Plan, PlanSound, Derived, knownBy, worked, uncovered, afresh}
@@ -377,22 +376,3 @@ answers-past-stay B o ks fs ss x n k h =
     let e : k ≡ length l + (k - n) = omega arith in
     ap (λ (j : ℕ). getD (l ++ drop (length l) x) j 0) e ∙ getD-append-add l (drop (length l) x) (k - n) 0
     ∙ getD-drop (length l) x (k - n) 0 ∙ ap (λ (j : ℕ). getD x j 0) (sym e)
-
--- ---- marked case 12, and its twin with no slot frozen
-
--- two people who are available for both slots; two units of a slot each
-abbrev case-avail : List ℕ
-case-avail = (3 ∷ replicate 15 0) ++ (3 ∷ replicate 15 0)
-
-abbrev case-board : List ℕ → Board
-case-board frozen = boardOf 2 2 2 case-avail (0 ∷ 1 ∷ []) frozen
-
-pub case-12 : answers (case-board (2 ∷ replicate 15 0)) (0 ∷ 1 ∷ []) (draw 35 0 1 ∷ []) ≡ 1 ∷ []
-unfolding answers answer step decided anyOf swapped unowned ownerOf frozenUnit unitFrozen clear unfrozen allIn all slot bitOf
-    unitEnd fitsUnit able available
-case-12 = refl
-
-pub case-12-twin : answers (case-board (replicate 16 0)) (0 ∷ 1 ∷ []) (draw 35 0 1 ∷ []) ≡ 0 ∷ []
-unfolding answers answer step decided anyOf swapped unowned ownerOf frozenUnit unitFrozen clear unfrozen allIn all slot bitOf
-    unitEnd fitsUnit able available
-case-12-twin = refl

@@ -13,4 +13,3 @@ pub mod AvailLaws
 pub mod EdgeLaws
 pub mod SplitLaws
 pub mod Meaning
-pub mod Cases

@@ -4,7 +4,6 @@ pub mod Answers
 pub mod Collect
 pub mod Begins
 pub mod Rising
-pub mod Cases
 pub mod Covered
 pub mod Longest
 pub mod Sets
