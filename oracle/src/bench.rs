@@ -29,19 +29,18 @@ impl<S: 'static, V: 'static> Side<S, V> {
         (self.seen)(&state)
     }
 
-    /// Runs so many times of two, on what was made before.
     fn timed(self) -> Timed {
-        Box::new(move |times| {
-            let mut states = [(self.fresh)(), (self.fresh)()];
+        Box::new(move |made, turns| {
+            let mut states: Vec<S> = (0..made).map(|_| (self.fresh)()).collect();
             let begin = Instant::now();
-            states.iter_mut().take(times).for_each(|state| (self.run)(state));
+            states.iter_mut().take(turns).for_each(|state| (self.run)(state));
             begin.elapsed()
         })
     }
 }
 
-/// A side that can be timed.
-type Timed = Box<dyn Fn(usize) -> Duration>;
+/// A side that can be timed: what it works on is made so often first, and so many turns are taken then.
+type Timed = Box<dyn Fn(usize, usize) -> Duration>;
 
 /// Both sides of a row.
 pub struct Row {
@@ -67,8 +66,8 @@ fn best(row: &Row) -> (Duration, Duration) {
         if turn >= REPEATS_LEAST && begin.elapsed() > BUDGET {
             break;
         }
-        least.0 = least.0.min((row.ours)(1));
-        least.1 = least.1.min((row.rust)(1));
+        least.0 = least.0.min((row.ours)(1, 1));
+        least.1 = least.1.min((row.rust)(1, 1));
     }
     least
 }
@@ -78,15 +77,18 @@ pub fn names() {
     ROWS.iter().for_each(|(name, _)| println!("{name}"));
 }
 
-/// Runs one side of a row so many times, once or twice, for whoever counts its instructions.
-pub fn one(seed: u64, name: &str, side: &str, times: usize) -> io::Result<()> {
+/// The most turns that are taken where instructions are counted.
+const TURNS: usize = 5;
+
+/// Takes so many turns of one side of a row, for whoever counts instructions: as much is made whatever the number.
+pub fn one(seed: u64, name: &str, side: &str, turns: usize) -> io::Result<()> {
     let (_, make) = ROWS
         .iter()
         .find(|(known, _)| *known == name)
         .ok_or_else(|| io::Error::other(format!("no row {name}")))?;
     let row = make(seed);
     let timed = if side == "ours" { &row.ours } else { &row.rust };
-    timed(times);
+    timed(TURNS, turns);
     Ok(())
 }
 
@@ -112,11 +114,20 @@ pub fn table(seed: u64, counts: Option<&str>) -> io::Result<u64> {
             micros(rust) / micros(ours)
         );
         match counts.get(*name) {
-            Some(&(ours, rust)) => println!(" {ours} | {rust} | {:.2} |", rust as f64 / ours as f64),
+            Some(&(ours, rust)) => println!(" {} | {} | {:.2} |", grouped(ours), grouped(rust), rust as f64 / ours as f64),
             None => println!(" | | |"),
         }
     }
     Ok(differing)
+}
+
+/// A number with its digits by threes.
+fn grouped(n: u64) -> String {
+    if n < 1000 {
+        n.to_string()
+    } else {
+        format!("{},{:03}", grouped(n / 1000), n % 1000)
+    }
 }
 
 /// Instructions by row, each line with both counts and the name.

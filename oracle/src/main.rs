@@ -75,7 +75,7 @@ const SHOWN: u64 = 20;
 const USAGE: &str = "usage: oracle compare N SEED KIND|every | case KIND CASE-SEED | days | time N
        oracle program N SEED COMMAND.. | rules N SEED | store KIND N SEED FOLDER
        oracle job SEED | listing SEED | limits | listing-of FILE | moves BLOCKS DRAWS SEED FILE
-       oracle bench rows | bench SEED [COUNTS] | bench SEED ROW ours|rust 1|2";
+       oracle bench rows | bench SEED [COUNTS] | bench SEED ROW ours|rust TURNS";
 
 fn main() -> ExitCode {
     let words: Vec<String> = std::env::args().skip(1).collect();
@@ -98,8 +98,8 @@ fn main() -> ExitCode {
             Ok(seed) => ended(bench::table(seed, counts.first().copied())),
             Err(_) => usage(),
         },
-        ["bench", seed, row, side, times] => match (seed.parse(), times.parse()) {
-            (Ok(seed), Ok(times)) => ended(bench::one(seed, row, side, times).map(|()| 0)),
+        ["bench", seed, row, side, turns] => match (seed.parse(), turns.parse()) {
+            (Ok(seed), Ok(turns)) => ended(bench::one(seed, row, side, turns).map(|()| 0)),
             _ => usage(),
         },
         ["program", n, seed, _, ..] => match (n.parse(), seed.parse()) {
