@@ -9,9 +9,9 @@ use borrow.Author.Tests.{eq-eqb, ne-eqb, eqb-true, eqb-false}
 use lib.Dec.{eqb}
 use lib.ListN.{length, getD}
 use Rattle.paper.specs.Bits.{bitOf}
-use Rattle.paper.specs.Count.{all, count, among, onto, some}
-use Rattle.paper.proofs.Logic.{by-test, both, and-true}
-use Rattle.paper.proofs.Count.{all-fails, among-each, among-at}
+use Rattle.paper.specs.Count.{count, among, onto}
+use Rattle.paper.proofs.Logic.{both, and-true}
+use Rattle.paper.proofs.Count.{some-one, some-here, among-each, among-at}
 use Rattle.slotset.specs.Slots.{slot}
 use Rattle.slots.specs.Lent.{minutesAt, demandOf}
 use Rattle.units.specs.declared.Settings.{Settings}
@@ -129,24 +129,11 @@ module _ (avail : List ℕ) (people slots units : ℕ) (firsts : List ℕ) (u : 
 
 -- ---- days
 
-find : (n : ℕ) (p : ℕ → Bool) → all n (λ k. not (p k)) ≡ false → (k : ℕ) × (k < n) × (p k ≡ true)
-unfolding all
-find zero p e = absurd (mathlib.Core.Bool.true≢false e)
-find (suc n) p e =
-    by-test (p n) _ (λ t. (n, omega arith, t))
-    (λ f.
-    by-test (all n (λ k. not (p k))) _
-    (λ t. absurd (mathlib.Core.Bool.true≢false (sym (and-true _ _ t (ap not f)) ∙ e)))
-    (λ g. let x = find n p g in (x .0, omega (arith, x .1), x .2)))
-
 date-covered : (slots : ℕ) (starts : List ℕ) (d : ℕ) → (covers slots starts d ≡ true) ↔ ((k : ℕ) × (k < slots) × (startDate starts k ≡ d))
-unfolding covers some
+unfolding covers
 date-covered slots starts d = (
-  λ t.
-      let x = find slots (λ k. eqb (startDate starts k) d) (not-says _ t) in
-      (x .0, x .1, eqb-true _ _ (x .2)),
-  λ x.
-      ap not (all-fails slots (x .0) (λ k. not (eqb (startDate starts k) d)) (x .1) (ap not (eq-eqb (startDate starts (x .0)) d (x .2)))),
+  λ t. some-one slots (λ k. eqb (startDate starts k) d) _ t (λ k h e. (k, h, eqb-true (startDate starts k) d e)),
+  λ x. some-here slots (x .0) (λ k. eqb (startDate starts k) d) (x .1) (eq-eqb (startDate starts (x .0)) d (x .2)),
 )
 
 days-counted : (slots : ℕ) (starts : List ℕ) → coveredDays slots starts ≡ count datesMost (covers slots starts)
