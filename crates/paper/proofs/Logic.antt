@@ -20,6 +20,13 @@ lt-or-ge a zero = inr zero-le
 lt-or-ge zero (suc b) = inl (omega arith)
 lt-or-ge (suc a) (suc b) = ⊎-elim (λ h. inl (suc-le-suc h)) (λ h. inr (suc-le-suc h)) (lt-or-ge a b)
 
+-- a number below 2 is 0 or 1
+pub zero-of : (x : ℕ) → x < 2 → (x ≡ 1 → ⊥) → x ≡ 0
+zero-of x h n = omega arith
+
+pub one-of : (x : ℕ) → x < 2 → (x ≡ 0 → ⊥) → x ≡ 1
+one-of x h n = omega arith
+
 -- a number below n + 1 is n or below n
 pub below-suc {ℓ} : {k n : ℕ} (X : Type ℓ) → k < suc n → (k ≡ n → X) → (k < n → X) → X
 below-suc X h f g = ⊎-elim f g (eq-or-lt-of-le (le-of-suc-le-suc h))

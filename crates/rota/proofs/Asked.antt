@@ -9,7 +9,7 @@ use lib.Dec.{eqb, ltb, leb}
 use lib.ListN.{length, getD, set}
 use Rattle.paper.specs.Limits.{nobody, peopleOk, slotCountOk, orElse, countsOk}
 use Rattle.paper.specs.Count.{all, sum, count, fill, over}
-use Rattle.paper.proofs.Logic.{by-test, both, three, cond-zero, people-says, slot-count-says}
+use Rattle.paper.proofs.Logic.{by-test, both, three, cond-zero, people-says, slot-count-says, passes, stops}
 use Rattle.paper.proofs.Count.{all-each, fill-none, fill-more, sum-more}
 use Rattle.slots.specs.Lent.{slotsOk}
 use Rattle.units.specs.Units.{unitsOk}
@@ -22,7 +22,7 @@ use Rattle.rota.specs.Entries.{recountSlotsNo}
 use Rattle.rota.specs.Entries.{emptyNo, emptied, figureAs}
 use Rattle.rota.proofs.Scans.{first-passes, fails-none}
 use Rattle.rota.proofs.Entered.{ground-all, ground-stops, ground-goes, Grounds, grounds, Recounted, recount-says}
-use Rattle.rota.proofs.Entered.{recount-step, ended-no, ended-yes, last-no, last-yes, else-no, else-on}
+use Rattle.rota.proofs.Entered.{recount-step, ended-no, ended-yes}
 
 -- a scan that ends before n: not all pass
 pub scan-no : (n r : ℕ) (p : ℕ → Bool) → r ≡ firstFail n p → r < n → all n p ≡ false
@@ -55,22 +55,22 @@ module _ (P : Plan) (avail o : List ℕ) (D : Derived) where
     module _ (z : m ≡ 0) (r : ℕ) (er : r ≡ firstFail (P .slots) (knownAt (P .people) o)) where
       pub from-11 : r < P .slots → 11 ≡ fromSlotsNo P avail o D
       unfolding fromSlotsNo
-      from-11 h = ground-goes c1 c2 c9 m _ 11 em z (else-no (all (P .slots) (knownAt (P .people) o)) 11 _ (scan-no _ r _ er h))
+      from-11 h = ground-goes c1 c2 c9 m _ 11 em z (stops (all (P .slots) (knownAt (P .people) o)) 11 _ (scan-no _ r _ er h))
 
       module _ (h : P .slots ≤ r) (s : ℕ) (es : s ≡ firstFail (P .slots) (freeAt avail o)) where
         pub from-12 : s < P .slots → 12 ≡ fromSlotsNo P avail o D
         unfolding fromSlotsNo
         from-12 l =
             ground-goes c1 c2 c9 m _ 12 em z
-            (else-on (all (P .slots) (knownAt (P .people) o)) 11 _ 12 (scan-yes _ r _ er h)
-            (last-no (all (P .slots) (freeAt avail o)) 12 (scan-no _ s _ es l)))
+            (passes (all (P .slots) (knownAt (P .people) o)) 11 _ 12 (scan-yes _ r _ er h)
+            (stops (all (P .slots) (freeAt avail o)) 12 0 (scan-no _ s _ es l)))
 
         pub from-0 : P .slots ≤ s → 0 ≡ fromSlotsNo P avail o D
         unfolding fromSlotsNo
         from-0 l =
             ground-goes c1 c2 c9 m _ 0 em z
-            (else-on (all (P .slots) (knownAt (P .people) o)) 11 _ 0 (scan-yes _ r _ er h)
-            (last-yes (all (P .slots) (freeAt avail o)) 12 (scan-yes _ s _ es l)))
+            (passes (all (P .slots) (knownAt (P .people) o)) 11 _ 0 (scan-yes _ r _ er h)
+            (passes (all (P .slots) (freeAt avail o)) 12 0 0 (scan-yes _ s _ es l) refl))
 
   pub from-asks : fromSlotsNo P avail o D ≡ 0 → PlanSound P × Makes P o D
   unfolding fromSlotsNo knownAt
@@ -112,11 +112,11 @@ module _ (P : Plan) (avail o : List ℕ) (D : Derived) where
     module _ (z : m ≡ 0) (f : List ℕ) (b : Bool) (eb : b ≡ recounts P avail 0 f o D) where
       pub slots-10 : b ≡ false → 10 ≡ recountSlotsNo P avail o D
       unfolding recountSlotsNo
-      slots-10 t = ground-goes c1 c2 c9 m _ 10 em z (last-no (recounts P avail 0 [] o D) 10 (sym (no-units f) ∙ sym eb ∙ t))
+      slots-10 t = ground-goes c1 c2 c9 m _ 10 em z (stops (recounts P avail 0 [] o D) 10 0 (sym (no-units f) ∙ sym eb ∙ t))
 
       pub slots-0 : b ≡ true → 0 ≡ recountSlotsNo P avail o D
       unfolding recountSlotsNo
-      slots-0 t = ground-goes c1 c2 c9 m _ 0 em z (last-yes (recounts P avail 0 [] o D) 10 (sym (no-units f) ∙ sym eb ∙ t))
+      slots-0 t = ground-goes c1 c2 c9 m _ 0 em z (passes (recounts P avail 0 [] o D) 10 0 0 (sym (no-units f) ∙ sym eb ∙ t) refl)
 
   -- ---- assign
 
@@ -132,29 +132,29 @@ module _ (P : Plan) (avail o : List ℕ) (D : Derived) where
       module _ (z : m ≡ 0) (f : List ℕ) (b : Bool) (eb : b ≡ recounts P avail 0 f o D) where
         pub assign-10 : b ≡ false → 10 ≡ assignNo P avail o D k w
         unfolding assignNo
-        assign-10 t = ground-goes c1 c2 c9 m _ 10 em z (else-no (recounts P avail 0 [] o D) 10 _ (sym (no-units f) ∙ sym eb ∙ t))
+        assign-10 t = ground-goes c1 c2 c9 m _ 10 em z (stops (recounts P avail 0 [] o D) 10 _ (sym (no-units f) ∙ sym eb ∙ t))
 
         module _ (t : b ≡ true) (c : Bool) (ec : c ≡ c11) where
           pub assign-11 : c ≡ false → 11 ≡ assignNo P avail o D k w
           unfolding assignNo
           assign-11 s =
               ground-goes c1 c2 c9 m _ 11 em z
-              (else-on (recounts P avail 0 [] o D) 10 _ 11 (sym (no-units f) ∙ sym eb ∙ t) (else-no c11 11 _ (sym ec ∙ s)))
+              (passes (recounts P avail 0 [] o D) 10 _ 11 (sym (no-units f) ∙ sym eb ∙ t) (stops c11 11 _ (sym ec ∙ s)))
 
           module _ (s : c ≡ true) (d : Bool) (ed : d ≡ freeFor avail w k) where
             pub assign-12 : d ≡ false → 12 ≡ assignNo P avail o D k w
             unfolding assignNo
             assign-12 q =
                 ground-goes c1 c2 c9 m _ 12 em z
-                (else-on (recounts P avail 0 [] o D) 10 _ 12 (sym (no-units f) ∙ sym eb ∙ t)
-                (else-on c11 11 _ 12 (sym ec ∙ s) (last-no (freeFor avail w k) 12 (sym ed ∙ q))))
+                (passes (recounts P avail 0 [] o D) 10 _ 12 (sym (no-units f) ∙ sym eb ∙ t)
+                (passes c11 11 _ 12 (sym ec ∙ s) (stops (freeFor avail w k) 12 0 (sym ed ∙ q))))
 
             pub assign-0 : d ≡ true → 0 ≡ assignNo P avail o D k w
             unfolding assignNo
             assign-0 q =
                 ground-goes c1 c2 c9 m _ 0 em z
-                (else-on (recounts P avail 0 [] o D) 10 _ 0 (sym (no-units f) ∙ sym eb ∙ t)
-                (else-on c11 11 _ 0 (sym ec ∙ s) (last-yes (freeFor avail w k) 12 (sym ed ∙ q))))
+                (passes (recounts P avail 0 [] o D) 10 _ 0 (sym (no-units f) ∙ sym eb ∙ t)
+                (passes c11 11 _ 0 (sym ec ∙ s) (passes (freeFor avail w k) 12 0 0 (sym ed ∙ q) refl)))
 
     pub named-says : c11 ≡ true → (k < P .slots) × (knownBy (P .people) w ≡ true)
     named-says e = let x = both (ltb k (P .slots)) (knownBy (P .people) w) e in (ltb-true _ _ (x .0), x .1)
@@ -232,12 +232,12 @@ module _ (P : Plan) (avail : List ℕ) (units : ℕ) (firsts o : List ℕ) (D : 
       pub recount-10 : b ≡ false → 10 ≡ recountNo P avail units firsts o D
       unfolding recountNo
       recount-10 t =
-          ground-goes (countsOk (P .people) (P .slots)) d2 d9 m _ 10 em z (last-no (recounts P avail units firsts o D) 10 (sym eb ∙ t))
+          ground-goes (countsOk (P .people) (P .slots)) d2 d9 m _ 10 em z (stops (recounts P avail units firsts o D) 10 0 (sym eb ∙ t))
 
       pub recount-0 : b ≡ true → 0 ≡ recountNo P avail units firsts o D
       unfolding recountNo
       recount-0 t =
-          ground-goes (countsOk (P .people) (P .slots)) d2 d9 m _ 0 em z (last-yes (recounts P avail units firsts o D) 10 (sym eb ∙ t))
+          ground-goes (countsOk (P .people) (P .slots)) d2 d9 m _ 0 em z (passes (recounts P avail units firsts o D) 10 0 0 (sym eb ∙ t) refl)
 
 -- ---- an empty rota
 
@@ -284,10 +284,10 @@ module _ (a b c t : Bool) (m x : ℕ) (em : m ≡ ground a b c 0) where
   figure-stops z = figure-no m (ground a b c (orElse t 11 0)) (ground-stops a b c m _ em z) x z
 
   pub figure-11 : m ≡ 0 → t ≡ false → Refused 11 ≡ figureAs (ground a b c (orElse t 11 0)) x
-  figure-11 z f = figure-no 11 (ground a b c (orElse t 11 0)) (ground-goes a b c m _ 11 em z (last-no t 11 f)) x (λ q. omega arith)
+  figure-11 z f = figure-no 11 (ground a b c (orElse t 11 0)) (ground-goes a b c m _ 11 em z (stops t 11 0 f)) x (λ q. omega arith)
 
   pub figure-told : (y : ℕ) → m ≡ 0 → t ≡ true → y ≡ x → Is y ≡ figureAs (ground a b c (orElse t 11 0)) x
-  figure-told y z f q = figure-is 0 (ground a b c (orElse t 11 0)) (ground-goes a b c m _ 0 em z (last-yes t 11 f)) y x refl q
+  figure-told y z f q = figure-is 0 (ground a b c (orElse t 11 0)) (ground-goes a b c m _ 0 em z (passes t 11 0 0 f refl)) y x refl q
 
 -- how many nobody owns, slot by slot
 pub nobody-more : (o : List ℕ) (k n : ℕ) → n ≡ unassigned k o → getD o k 0 ≡ nobody → n + 1 ≡ unassigned (k + 1) o

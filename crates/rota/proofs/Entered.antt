@@ -1,5 +1,5 @@
 -- The entries: what the first tests leave known, which refusal it is, and that only one outcome fits. Assumes nothing.
-use mathlib.Core.Path.{_≡_, sym, ap, ap₂, _∙_, subst}
+use mathlib.Core.Path.{_≡_, sym, ap, ap₂, _∙_, subst, refl}
 use mathlib.Core.Bool.{Bool, true, false, cond, _&&_}
 use mathlib.Core.List.{List}
 use Prim.Native.Nat.{ℕ, _*_, _/_, _≤_, _<_}
@@ -9,7 +9,7 @@ use lib.Dec.{eqb, leb}
 use lib.ListN.{length, getD}
 use Rattle.paper.specs.Limits.{nobody, peopleOk, slotCountOk, orElse, countsOk}
 use Rattle.paper.specs.Count.{all, onto}
-use Rattle.paper.proofs.Logic.{by-test, both, five, same-test, or-right, and-true, cond-zero, people-says, slot-count-says}
+use Rattle.paper.proofs.Logic.{by-test, both, five, or-right, and-true, cond-zero, people-says, slot-count-says, passes, stops}
 use Rattle.paper.proofs.Count.{all-each, each-all, in-each, each-in}
 use Rattle.slotset.specs.Slots.{slot}
 use Rattle.slots.specs.Lent.{slotRoomOk, slotsOk}
@@ -30,11 +30,6 @@ use Rattle.rota.proofs.Minutes.{known-below}
 use Rattle.rota.proofs.Readied.{board-is, board-sound}
 
 -- ---- 1, 2 and 9
-
-pub words-fit : (people n : ℕ) → leb people (n / 16) ≡ leb (16 * people) n
-words-fit people n =
-    same-test _ _ (λ t. let h = leb-true people (n / 16) t in le-leb (16 * people) n (omega arith))
-    (λ t. let h = leb-true (16 * people) n t in le-leb people (n / 16) (omega arith))
 
 -- the answer of the three tests together, over plain flags
 module _ (a b c : Bool) where
@@ -215,19 +210,6 @@ pub one-outcome : (y : Outcome) (n m : ℕ) (o p : List ℕ) (D E : Derived) (x 
 one-outcome y n m o p D E x z A B =
     (A .heard ∙ sym (B .heard), A .owners ∙ sym (B .owners), A .derived ∙ sym (B .derived), A .answers ∙ sym (B .answers))
 
--- the last test of a chain
-pub last-no : (b : Bool) (n : ℕ) → b ≡ false → n ≡ orElse b n 0
-last-no b n e = sym (ap (λ (t : Bool). cond t 0 n) e)
-
-pub last-yes : (b : Bool) (n : ℕ) → b ≡ true → 0 ≡ orElse b n 0
-last-yes b n e = sym (ap (λ (t : Bool). cond t 0 n) e)
-
-pub else-no : (b : Bool) (n x : ℕ) → b ≡ false → n ≡ orElse b n x
-else-no b n x e = sym (ap (λ (t : Bool). cond t x n) e)
-
-pub else-on : (b : Bool) (n x r : ℕ) → b ≡ true → r ≡ x → r ≡ orElse b n x
-else-on b n x r e q = q ∙ sym (ap (λ (t : Bool). cond t x n) e)
-
 -- ---- play
 
 module _ (P : Plan) (avail : List ℕ) (units : ℕ) (firsts frozen : List ℕ) (n : ℕ) (ks fs ss o : List ℕ) (D : Derived) (x : List ℕ) where
@@ -279,11 +261,11 @@ module _ (P : Plan) (avail : List ℕ) (units : ℕ) (firsts frozen : List ℕ) 
 
     pub play-10 : m ≡ 0 → b ≡ recounts P avail units firsts o D → b ≡ false → 10 ≡ playNo P avail units firsts frozen n ks fs ss o D x
     unfolding playNo
-    play-10 z eb t = ground-goes counts room sound m _ 10 em z (last-no (recounts P avail units firsts o D) 10 (sym eb ∙ t))
+    play-10 z eb t = ground-goes counts room sound m _ 10 em z (stops (recounts P avail units firsts o D) 10 0 (sym eb ∙ t))
 
     pub play-0 : m ≡ 0 → b ≡ recounts P avail units firsts o D → b ≡ true → 0 ≡ playNo P avail units firsts frozen n ks fs ss o D x
     unfolding playNo
-    play-0 z eb t = ground-goes counts room sound m _ 0 em z (last-yes (recounts P avail units firsts o D) 10 (sym eb ∙ t))
+    play-0 z eb t = ground-goes counts room sound m _ 0 em z (passes (recounts P avail units firsts o D) 10 0 0 (sym eb ∙ t) refl)
 
   -- where nothing stands against the play
   pub record PlayAsks : Type 0 where

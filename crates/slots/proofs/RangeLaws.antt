@@ -12,7 +12,7 @@ use lib.ListN.{length, getD, take, drop, set, length-append}
 use lib.Seq.{take-suc-set, take-at, length-take-le}
 use Rattle.paper.specs.Limits.{peopleOk}
 use Rattle.paper.specs.Count.{all, some}
-use Rattle.paper.proofs.Logic.{both, three, people-says}
+use Rattle.paper.proofs.Logic.{both, three, people-says, neither}
 use Rattle.paper.proofs.Count.{all-each}
 use Rattle.slots.specs.Ranges.{anyOf, Ranges, rangeCountOk, rangeRoomOk, rangeOk, rangeOkAt, rangesOk, RangesSound}
 use Rattle.slots.specs.Ranges.{inRange, inRanges, keyOf, personOf, startOf, endOf, keyAt, keysTo, keysOf, covers, opens, closes}
@@ -128,16 +128,12 @@ merged-is R S =
 
 -- ---- numbers in order
 
-or-no : (a b : Bool) → a || b ≡ false → (a ≡ false) × (b ≡ false)
-or-no true b e = absurd (mathlib.Core.Bool.true≢false e)
-or-no false b e = (refl, e)
-
 -- a test that no entry passes
 pub any-not : (p : ℕ → Bool) (l : List ℕ) → anyOf p l ≡ false → (k : ℕ) → k < length l → p (getD l k 0) ≡ false
 unfolding anyOf
 any-not p [] e k h = absurd (not-suc-le-zero h)
-any-not p (x ∷ l) e zero h = or-no (p x) (anyOf p l) e .0
-any-not p (x ∷ l) e (suc k) h = any-not p l (or-no (p x) (anyOf p l) e .1) k (omega arith)
+any-not p (x ∷ l) e zero h = neither (p x) (anyOf p l) e .0
+any-not p (x ∷ l) e (suc k) h = any-not p l (neither (p x) (anyOf p l) e .1) k (omega arith)
 
 zero-order : ltb (closes 0) (opens 0) ≡ false
 unfolding closes opens personOf startOf endOf

@@ -8,7 +8,7 @@ use native.Mathlib.Omega.{arith}
 use borrow.Author.Tests.{eq-eqb, ne-eqb}
 use lib.Dec.{eqb}
 use Rattle.paper.proofs.Count.{each-all, all-fails}
-use Rattle.paper.proofs.Logic.{lt-or-ge}
+use Rattle.paper.proofs.Logic.{lt-or-ge, zero-of}
 use Rattle.slotset.specs.declared.Found.{Found}
 use Rattle.slotset.specs.declared.Found.the-variants.{At, Nothing, Refused}
 use Rattle.slotset.specs.Slots.{noMember}
@@ -137,9 +137,6 @@ pub none-found : (f : ℕ → ℕ) (len : ℕ) → ((k : ℕ) → f k < 2) → F
 unfolding noMember
 none-found f len bits w =
     sym (each-all len (λ k. eqb (f k) 0) (λ k h. eq-eqb (f k) 0 (zero-of (f k) (bits k) (w k (omega arith) h))))
-  where
-    zero-of : (x : ℕ) → x < 2 → (x ≡ 1 → ⊥) → x ≡ 0
-    zero-of x h n = omega arith
 
 pub one-found : (f : ℕ → ℕ) (len i : ℕ) → First 1 f len 0 (At i) → false ≡ noMember f len
 unfolding noMember

@@ -10,7 +10,7 @@ use lib.Dec.{eqb, leb, ltb}
 use lib.ListN.{length, length-append}
 use Rattle.paper.specs.Count.{all, sum, among}
 use Rattle.paper.proofs.Count.{sum-same, all-same}
-use Rattle.paper.proofs.Logic.{by-test, lt-or-ge}
+use Rattle.paper.proofs.Logic.{by-test, lt-or-ge, zero-of}
 use Rattle.slotset.specs.Slots.{slot, size, has, noMember, putSlot, putSlots, stretched}
 use Rattle.slotset.specs.Runs.{allRuns}
 use Rattle.slotset.proofs.Puts.{slot-put, slot-puts-here}
@@ -36,9 +36,6 @@ size-members f (suc n) bits =
       length-append (among (λ k. eqb (f k) 1) n) [],
       ap (λ (b : Bool). length (among (λ k. eqb (f k) 1) n ++ cond b (n ∷ []) [])) u,
     ))
-  where
-    zero-of : (x : ℕ) → x < 2 → (x ≡ 1 → ⊥) → x ≡ 0
-    zero-of x h n = omega arith
 
 -- after slot i was put at v: that slot is v, and every other is as it was
 module _ (b i v : ℕ) (ws : List ℕ) (small : v < 2) (room : b + i / 64 < length ws) where

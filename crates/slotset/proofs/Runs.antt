@@ -8,7 +8,7 @@ use native.Mathlib.Numerals.{add-one}
 use native.Mathlib.Omega.{arith}
 use borrow.Author.Tests.{lt-ltb, le-ltb, eq-eqb, ne-eqb, ltb-true, eqb-true}
 use lib.Dec.{ltb, eqb}
-use Rattle.paper.proofs.Logic.{lt-or-ge, both}
+use Rattle.paper.proofs.Logic.{lt-or-ge, both, zero-of, one-of}
 use Rattle.slotset.specs.declared.Found.{Found}
 use Rattle.slotset.specs.declared.Found.the-variants.{At, Nothing, Refused}
 use Rattle.slotset.specs.Slots.{Member, has}
@@ -50,9 +50,6 @@ next-after v f len i = ap (nextWith v f len) (add-one i)
 -- a slot is 0 or 1
 abbrev pub Bits : (ℕ → ℕ) → Type 0
 Bits f = (k : ℕ) → f k < 2
-
-one-of : (x : ℕ) → x < 2 → (x ≡ 0 → ⊥) → x ≡ 1
-one-of x h n = omega arith
 
 module _ (f : ℕ → ℕ) (bits : Bits f) (len i : ℕ) (m : Member f len i) where
   left-side : (p : Found) → Last 0 f len i p
@@ -238,9 +235,6 @@ module _ (f : ℕ → ℕ) (bits : Bits f) (len i : ℕ) (m : Member f len i) wh
       inl (u .0, u .1)) (lt-or-ge (r .last) i))
       (lt-or-ge i (r .first))
     where
-      zero-of : (x : ℕ) → x < 2 → (x ≡ 1 → ⊥) → x ≡ 0
-      zero-of x h n = omega arith
-
       le-or-lt : (a b : ℕ) → (a ≤ b) ⊎ (b < a)
       le-or-lt a b = ⊎-elim (λ h. inr h) (λ h. inl h) (lt-or-ge b a)
 

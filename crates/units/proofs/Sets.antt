@@ -9,7 +9,7 @@ use lib.Dec.{eqb, ltb, leb}
 use lib.ListN.{length}
 use Rattle.paper.specs.Limits.{peopleOk, slotCountOk}
 use Rattle.paper.specs.Count.{allIn}
-use Rattle.paper.proofs.Logic.{by-test, same-test, cond-zero, slot-count-says}
+use Rattle.paper.proofs.Logic.{by-test, same-test, cond-zero, slot-count-says, one-of}
 use Rattle.paper.proofs.Count.{in-none, in-more, in-fails, in-each, each-in, among-same}
 use Rattle.slotset.specs.declared.Found.{Found}
 use Rattle.slotset.specs.declared.Found.the-variants.{At, Nothing, Refused}
@@ -31,10 +31,7 @@ module _ (av : List ℕ) (p : ℕ) where
   -- a slot that is not lacking is had
   had : (k : ℕ) → (rowSlots av p k ≡ 0 → ⊥) → available av p k ≡ true
   unfolding available
-  had k z = eq-eqb (slot av (16 * p) k) 1 (one (slot av (16 * p) k) (slot-lt av (16 * p) k) z)
-    where
-      one : (x : ℕ) → x < 2 → (x ≡ 0 → ⊥) → x ≡ 1
-      one x h n = omega arith
+  had k z = eq-eqb (slot av (16 * p) k) 1 (one-of (slot av (16 * p) k) (slot-lt av (16 * p) k) z)
 
   lacking : (k : ℕ) → rowSlots av p k ≡ 0 → available av p k ≡ false
   unfolding available
