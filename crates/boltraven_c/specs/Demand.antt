@@ -1,11 +1,7 @@
--- Minutes of lent slots: the number of the refusal, or 0, and the minutes beside it; refused, those stay as they were lent. Assumes nothing.
+-- Minutes of lent slots, written beside the number of the refusal (`minutesNo`); refused, what was lent for them stays. Assumes nothing.
 use Prim.Native.Nat.{ℕ}
 use Rattle.slots.specs.declared.Minutes.{Minutes}
 use Rattle.slots.specs.declared.Minutes.the-variants as minutes
-
-abbrev pub minutesNo : Minutes → ℕ
-minutesNo (minutes.Are m) = 0
-minutesNo (minutes.Refused n) = n
 
 abbrev pub minutesAre : ℕ → Minutes → ℕ
 minutesAre was (minutes.Are m) = m

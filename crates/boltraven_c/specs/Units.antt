@@ -18,20 +18,12 @@ abbrev pub settingsOf : ℕ → ℕ → ℕ → ℕ → ℕ → Settings
 settingsOf fairness lock boundary value days =
     record { fairness = fairness; lock = lock; boundary = boundary; value = value; days = days }
 
--- minutes may be large: the number of the refusal, or 0, and the minutes beside it; refused, those stay as they were lent
-abbrev pub durationNo : Duration → ℕ
-durationNo (duration.Minutes m) = 0
-durationNo (duration.Refused n) = n
-
+-- minutes may be large: they are written beside the number of the refusal (`durationNo`); refused, what was lent for them stays
 abbrev pub durationMinutes : ℕ → Duration → ℕ
 durationMinutes was (duration.Minutes m) = m
 durationMinutes was (duration.Refused n) = was
 
--- a unit's slots: the number of the refusal, or 0, and its ends beside it; refused, those stay as they were lent
-abbrev pub spanNo : UnitSlots → ℕ
-spanNo (unitSlots.Span from to) = 0
-spanNo (unitSlots.Refused n) = n
-
+-- a unit's slots: both ends are written beside the number of the refusal (`spanNo`); refused, what was lent for them stays
 abbrev pub spanFrom : ℕ → UnitSlots → ℕ
 spanFrom was (unitSlots.Span from to) = from
 spanFrom was (unitSlots.Refused n) = was

@@ -1,8 +1,8 @@
 // The minutes of lent slots, written through an address, beside the number of the refusal, or 0.
 use slots::Minutes;
 ghost use mathlib.Core.Path.{_≡_};
-ghost use Rattle.slots.specs.Lent.{demandIs, slotMinutesIs};
-ghost use Rattle.boltraven_c.specs.Demand.{minutesNo, minutesAre};
+ghost use Rattle.slots.specs.Lent.{demandIs, slotMinutesIs, minutesNo};
+ghost use Rattle.boltraven_c.specs.Demand.{minutesAre};
 
 fn put_minutes(minutes: Minutes, out: &mut u64) -> u8
     ensures { λ r. ⌜ r ≡ minutesNo minutes ⌝ }

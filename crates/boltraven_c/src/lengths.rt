@@ -3,9 +3,9 @@ use crate::rotations::count_number;
 use units::Duration;
 use units::Settings;
 ghost use mathlib.Core.Path.{_≡_};
-ghost use Rattle.units.specs.Days.{coveredDaysIs, minutesPerDayIs, targetRunIs};
+ghost use Rattle.units.specs.Days.{durationNo, coveredDaysIs, minutesPerDayIs, targetRunIs};
 ghost use Rattle.units.specs.Achievable.{achievableRunIs};
-ghost use Rattle.boltraven_c.specs.Units.{countNumber, settingsOf, durationNo, durationMinutes};
+ghost use Rattle.boltraven_c.specs.Units.{countNumber, settingsOf, durationMinutes};
 
 fn put_minutes(duration: Duration, minutes: &mut u64) -> u8
     ensures { λ r. ⌜ r ≡ durationNo duration ⌝ }

@@ -3,8 +3,9 @@ use rota::Figure;
 ghost use mathlib.Core.Path.{_≡_};
 ghost use mathlib.Core.List.{[]};
 ghost use Rattle.rota.specs.Derived.{plan, derived};
+ghost use Rattle.rota.specs.Entries.{figureNo};
 ghost use Rattle.rota.specs.Entries.{Ended, fromSlots, emptied, assigned, played, ownerIs, minutesIs, unassignedIs, uncoveredIs};
-ghost use Rattle.boltraven_c.specs.Rotas.{figureNo, figureIs};
+ghost use Rattle.boltraven_c.specs.Rotas.{figureIs};
 
 fn put_figure(figure: Figure, out: &mut u64) -> u8
     ensures { λ r. ⌜ r ≡ figureNo figure ⌝ }

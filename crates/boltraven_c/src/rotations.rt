@@ -3,9 +3,9 @@ use units::Number;
 use units::Settings;
 use units::UnitSlots;
 ghost use mathlib.Core.Path.{_≡_};
-ghost use Rattle.units.specs.Answers.{unitSlotsIs, unitOfSlotIs};
+ghost use Rattle.units.specs.Answers.{unitSlotsIs, unitOfSlotIs, spanNo};
 ghost use Rattle.units.specs.Starts.{rotationStartsIs, unitStartsIs};
-ghost use Rattle.boltraven_c.specs.Units.{countNumber, settingsOf, spanNo, spanFrom, spanTo};
+ghost use Rattle.boltraven_c.specs.Units.{countNumber, settingsOf, spanFrom, spanTo};
 
 pub(crate) fn count_number(count: Number) -> u64
     ensures { λ r. ⌜ r ≡ countNumber count ⌝ }

@@ -9,6 +9,7 @@ pub mod SetRules
 pub mod SlotRules
 pub mod UnitRules
 pub mod TargetRules
+pub mod TargetCases
 pub mod Marked
 pub mod Rota
 pub mod MoveRules

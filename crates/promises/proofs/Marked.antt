@@ -40,7 +40,7 @@ use Rattle.promises.specs.Refusals.{atomiseTable, availabilityTable, sta
 use Rattle.promises.proofs.Table.{all-pass}
 use Rattle.promises.proofs.SlotRules.{told-is}
 use Rattle.promises.proofs.TwoUnits.{case-12}
-use Rattle.targets.proofs.Cases.{case7, case8, case9, case10}
+use Rattle.promises.proofs.TargetCases.{case-7, case-8, case-9, case-10}
 use Rattle.promises.specs.Entries.{built}
 use Rattle.promises.specs.Marked.{MarkedCases, inWords, onePerson, atoms, mondays}
 
@@ -215,10 +215,10 @@ marked-cases = record {
   case-5 = case-5;
   case-6 = case-6;
   case-6-available = case-6-available;
-  case-7 = case7;
-  case-8 = case8;
-  case-9 = case9;
-  case-10 = case10;
+  case-7 = case-7;
+  case-8 = case-8;
+  case-9 = case-9;
+  case-10 = case-10;
   case-11 = case-11;
   case-12 = case-12;
 }

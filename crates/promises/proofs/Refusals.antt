@@ -12,7 +12,7 @@ use Rattle.slotset.specs.declared.Told.the-variants as told
 use Rattle.slotset.specs.declared.Counted.the-variants as counted
 use Rattle.slotset.specs.Answers.{toldAs, countedAs, wordsAs}
 use Rattle.slots.specs.declared.Minutes.the-variants as minutes
-use Rattle.slots.specs.Lent.{lentNo, lentSlotNo, minutesAs, demandIs, slotMinutesIs}
+use Rattle.slots.specs.Lent.{lentNo, lentSlotNo, minutesAs, demandIs, slotMinutesIs, minutesNo}
 use Rattle.slots.specs.Ranges.{Ranges, personOf, startOf, endOf, mergedOf}
 use Rattle.slots.specs.Merged.{Columns, columns, written, mergedNo, mergedRanges}
 use Rattle.slots.specs.Atomic as atomic
@@ -23,13 +23,12 @@ use Rattle.units.specs.declared.Number.the-variants as number
 use Rattle.units.specs.declared.UnitSlots.the-variants as unitSlots
 use Rattle.units.specs.declared.Duration.the-variants as duration
 use Rattle.units.specs.Answers.{numberAs, spanAs, writtenAs, unitsNo, unitNo, unitSlotNo, unitCountIs, unitSlotsIs}
-use Rattle.units.specs.Answers.{unitOfSlotIs}
+use Rattle.units.specs.Answers.{unitOfSlotIs, spanNo}
 use Rattle.units.specs.Starts.{rotationStarts, unitStarts, startsNo, rotationStartsIs, unitStartsIs}
-use Rattle.units.specs.Days.{durationAs, coveredDaysIs, minutesPerDayIs, targetRunNo, targetRunIs}
+use Rattle.units.specs.Days.{durationNo, durationAs, coveredDaysIs, minutesPerDayIs, targetRunNo, targetRunIs}
 use Rattle.units.specs.Domains.{slotDomain, unitDomain, unitFrozenNo, unitFrozenIs, slotDomainNo, slotDomainIs, unitDomainNo, unitDomainIs}
 use Rattle.units.specs.Achievable.{achievableRunNo, achievableRunIs}
-use Rattle.promises.specs.Table.{Row, row, rules, Hears, Refuses, toldNo, countedNo, minutesNo, numberNo, spanNo}
-use Rattle.promises.specs.Table.{durationNo}
+use Rattle.promises.specs.Table.{Row, row, rules, Hears, Refuses, toldNo, countedNo, numberNo}
 use Rattle.promises.specs.Refusals.{lentTable, mergedTable, atomiseTable, availabilityTable, freezeTable, availableTable, SlotsRefuse}
 use Rattle.promises.specs.Refusals.{unitsTable, startsTable, unitFrozenTable, slotDomainTable, unitDomainTable, targetRunTable}
 use Rattle.promises.specs.Refusals.{achievableTable, UnitsRefuse}

@@ -22,8 +22,9 @@ use Rattle.rota.specs.declared.Figure.the-variants as figure
 use Rattle.rota.specs.Derived.{Plan, Derived, derived, knownBy, afresh, setsFrom, nobodies, unassigned, uncovered}
 use Rattle.rota.specs.Recount.{freeFor, knownAt, freeAt, recounts}
 use Rattle.rota.specs.Entries as rota
+use Rattle.rota.specs.Entries.{figureNo}
 use Rattle.promises.specs.Entries.{Call, playOf, afreshIn}
-use Rattle.promises.specs.Table.{Row, row, rules, Applies, Heard, Hears, Refuses, figureNo}
+use Rattle.promises.specs.Table.{Row, row, rules, Applies, Heard, Hears, Refuses}
 use Rattle.promises.specs.Refusals.{targetsChecks, guard, TargetsRefuse, rotaTable, recountTable, playTable, emptyTable, ownersTable}
 use Rattle.promises.specs.Refusals.{Lent, left, RotaRefuses}
 use Rattle.promises.proofs.Table.{chain, rising, Least, chain-least, least-heard, chain-heard, heard-as}

@@ -31,7 +31,7 @@ use Rattle.slots.proofs.SplitLaws.{cuts-are, one-cuts, atoms-even, atom-whole}
 use Rattle.slots.proofs.AvailLaws.{AvailabilitySound, availability-says, length-rows}
 use Rattle.slots.proofs.FreezeLaws.{freeze-says}
 use Rattle.slots.proofs.Meaning.{written-at, written-past, available-slot, other-slot, atoms-lent, atoms-lent-demand, frozen-marked}
-use Rattle.slots.proofs.Meaning.{frozen-kept}
+use Rattle.slots.proofs.Meaning.{frozen-kept, bit-lt-two}
 use Rattle.promises.specs.Refusals.{availableTable}
 use Rattle.promises.proofs.Table.{all-pass}
 use Rattle.promises.specs.SlotRules.{Merged, Split, Froze, SlotsByRule}
@@ -229,14 +229,6 @@ module _ (people slots : ℕ) (starts ends : List ℕ) (R : Ranges) (words : Lis
     λ f. said (each-in (getD starts k 0) (getD ends k 0) (inRanges R p) f),
   )
 
-value-small : (b : Bool) → valueOf b < 2
-value-small true = omega arith
-value-small false = omega arith
-
-bit-small : (R : Ranges) (starts ends : List ℕ) (p k : ℕ) → availableBit R starts ends p k < 2
-unfolding availableBit
-bit-small R starts ends p k = value-small (available R p (getD starts k 0) (getD ends k 0))
-
 past-available : (people slots : ℕ) (starts ends : List ℕ) (R : Ranges) (words : List ℕ)
     → availabilityNo people slots starts ends R words ≡ 0
     → (p k : ℕ) → (p < people → slots ≤ k) → k < 1024
@@ -245,7 +237,7 @@ unfolding availabilityOf wordsAs
 past-available people slots starts ends R words e p k h l =
     let s = availability-says people slots starts ends R words e in
     ap (λ (n : ℕ). slot (cond (eqb n 0) (rows (availableBit R starts ends) slots people words) words) (16 * p) k) e
-    ∙ other-slot (availableBit R starts ends) (bit-small R starts ends) slots (s .few) words people (s .room) p k h l
+    ∙ other-slot (availableBit R starts ends) (bit-lt-two R starts ends) slots (s .few) words people (s .room) p k h l
 
 -- ---- freezing
 

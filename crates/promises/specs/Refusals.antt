@@ -1,5 +1,5 @@
--- Demand 1: "Whatever is lent, every entry point ends, checks for itself, and either works or gives the refusal that document 01 lists. A
--- refusal changes no lent byte." Each entry's table, in the paper's numbers and by the rooms' own tests, and that it is heard both ways.
+-- Demand 1: whatever is lent, every entry point ends, checks for itself, and either works or gives the refusal that the paper lists. A
+-- refusal changes no lent byte. Each entry's table, in the paper's numbers and by the crates' own tests, and that it is heard both ways.
 -- That every entry ends is the check's own verdict: no public function has a precondition. Assumes nothing.
 use mathlib.Core.Path.{_≡_}
 use mathlib.Core.Bool.{true, _&&_}
@@ -10,7 +10,7 @@ use lib.IntN.{ℤ}
 use lib.ListN.{length}
 use Rattle.paper.specs.Limits.{peopleOk, slotCountOk, slotsMost, drawsMost, setWords, countsOk}
 use Rattle.paper.specs.Count.{all}
-use Rattle.slots.specs.Lent.{slotRoomOk, slotsOk, demandIs, slotMinutesIs}
+use Rattle.slots.specs.Lent.{slotRoomOk, slotsOk, demandIs, slotMinutesIs, minutesNo}
 use Rattle.slots.specs.Ranges.{Ranges, ranges, rangeCountOk, rangeRoomOk, rangesOk}
 use Rattle.slots.specs.Merged.{Columns, columns, MergedOut, mergedRanges}
 use Rattle.slots.specs.Atomic as atomic
@@ -19,9 +19,9 @@ use Rattle.slots.specs.Freeze.{freezeOf, isAvailable}
 use Rattle.units.specs.declared.Settings.{Settings}
 use Rattle.units.specs.Settings.{settingsOk}
 use Rattle.units.specs.Units.{unitsOk}
-use Rattle.units.specs.Answers.{unitCountIs, unitSlotsIs, unitOfSlotIs}
+use Rattle.units.specs.Answers.{unitCountIs, unitSlotsIs, unitOfSlotIs, spanNo}
 use Rattle.units.specs.Starts.{rotationStartsIs, unitStartsIs}
-use Rattle.units.specs.Days.{coveredDaysIs, minutesPerDayIs, targetRunIs}
+use Rattle.units.specs.Days.{coveredDaysIs, minutesPerDayIs, targetRunIs, durationNo}
 use Rattle.units.specs.Domains.{unitFrozenIs, slotDomainIs, unitDomainIs}
 use Rattle.units.specs.Achievable.{achievableRunIs}
 use Rattle.targets.specs.Figures.{allFiguresOk}
@@ -30,9 +30,9 @@ use Rattle.targets.specs.Outcome as targets
 use Rattle.rota.specs.Derived.{Plan, Derived, knownBy}
 use Rattle.rota.specs.Recount.{freeFor, knownAt, freeAt, recounts}
 use Rattle.rota.specs.Entries as rota
+use Rattle.rota.specs.Entries.{figureNo}
 use Rattle.promises.specs.Entries.{Call, playOf}
-use Rattle.promises.specs.Table.{Rule, Row, row, rules, Hears, Refuses, toldNo, countedNo, minutesNo, numberNo, spanNo}
-use Rattle.promises.specs.Table.{durationNo, figureNo}
+use Rattle.promises.specs.Table.{Rule, Row, row, rules, Hears, Refuses, toldNo, countedNo, numberNo}
 
 -- ---- slots
 

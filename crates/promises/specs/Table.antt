@@ -8,16 +8,8 @@ use Rattle.slotset.specs.declared.Told.{Told}
 use Rattle.slotset.specs.declared.Told.the-variants as told
 use Rattle.slotset.specs.declared.Counted.{Counted}
 use Rattle.slotset.specs.declared.Counted.the-variants as counted
-use Rattle.slots.specs.declared.Minutes.{Minutes}
-use Rattle.slots.specs.declared.Minutes.the-variants as minutes
 use Rattle.units.specs.declared.Number.{Number}
 use Rattle.units.specs.declared.Number.the-variants as number
-use Rattle.units.specs.declared.UnitSlots.{UnitSlots}
-use Rattle.units.specs.declared.UnitSlots.the-variants as unitSlots
-use Rattle.units.specs.declared.Duration.{Duration}
-use Rattle.units.specs.declared.Duration.the-variants as duration
-use Rattle.rota.specs.declared.Figure.{Figure}
-use Rattle.rota.specs.declared.Figure.the-variants as figure
 
 -- ---- the table
 
@@ -57,7 +49,7 @@ pub record Refuses {A : Type 0} (t : List Rule) (n : ℕ) (entry exit : A) : Typ
   pub heard : Heard t n
   pub kept : (n ≡ 0 → ⊥) → exit ≡ entry
 
--- ---- the number of an answer, 0 where it is no refusal
+-- ---- the number of an answer, 0 where it is no refusal. Those of minutes, spans, durations and figures stand in their crates
 
 abbrev pub toldNo : Told → ℕ
 toldNo told.Yes = 0
@@ -68,22 +60,6 @@ abbrev pub countedNo : Counted → ℕ
 countedNo (counted.Is k) = 0
 countedNo (counted.Refused n) = n
 
-abbrev pub minutesNo : Minutes → ℕ
-minutesNo (minutes.Are m) = 0
-minutesNo (minutes.Refused n) = n
-
 abbrev pub numberNo : Number → ℕ
 numberNo (number.Is k) = 0
 numberNo (number.Refused n) = n
-
-abbrev pub spanNo : UnitSlots → ℕ
-spanNo (unitSlots.Span a e) = 0
-spanNo (unitSlots.Refused n) = n
-
-abbrev pub durationNo : Duration → ℕ
-durationNo (duration.Minutes m) = 0
-durationNo (duration.Refused n) = n
-
-abbrev pub figureNo : Figure → ℕ
-figureNo (figure.Is k) = 0
-figureNo (figure.Refused n) = n

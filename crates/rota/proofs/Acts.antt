@@ -66,7 +66,7 @@ another-says B w a b p = (
 )
 
 -- the run of a unit
-run-of : (B : Board) (o : List ℕ) (u : ℕ) → u < B .units → RunOf (B .units) (ownerOf B o) u (firstOf B o u) (lastOf B o u)
+pub run-of : (B : Board) (o : List ℕ) (u : ℕ) → u < B .units → RunOf (B .units) (ownerOf B o) u (firstOf B o u) (lastOf B o u)
 unfolding firstOf lastOf
 run-of B o u h = run-is (ownerOf B o) (B .units) u h
 

@@ -15,7 +15,6 @@ use Rattle.paper.proofs.Logic.{by-test, lt-or-ge}
 use Rattle.paper.proofs.Count.{length-over, getD-over, getD-over-out, length-fill, getD-fill-in, getD-fill-out}
 use Rattle.slotset.proofs.Puts.{Fit}
 use Rattle.slots.specs.Lent.{demandOf, minutesAt}
-use Rattle.slotset.specs.Slots.{valueOf}
 use Rattle.slotset.specs.Answers.{rowNo, rowStretchNo, rowStretchOf, wordsAs}
 use Rattle.paper.specs.Limits.{peopleOk}
 use Rattle.rota.specs.Derived.{Plan, PlanSound, knownBy, portion, worked, Derived, derived, afresh, InStep, setFor}
@@ -287,7 +286,3 @@ stretch-more P a k t m h p q =
     let z : k + 1 - a ≡ suc (k - a) = omega arith in
     let y : a + (k - a) ≡ k = omega arith in
     omega (arith, p, q, ap (λ (n : ℕ). sum n (λ j. lengthAt P (a + j))) z, ap (lengthAt P) y)
-
-pub bit-of : (b : Bool) → valueOf b < 2
-bit-of true = omega arith
-bit-of false = omega arith

@@ -130,6 +130,11 @@ emptied people slots o D =
 unfoldable pub figureAs : ℕ → ℕ → Figure
 figureAs n x = cond (eqb n 0) (Is x) (Refused n)
 
+-- the number of the refusal, or 0
+abbrev pub figureNo : Figure → ℕ
+figureNo (Is x) = 0
+figureNo (Refused n) = n
+
 -- the owner of a slot: 1, 2, 11
 unfoldable pub ownerIs : ℕ → ℕ → List ℕ → ℕ → Figure
 ownerIs people slots o k =

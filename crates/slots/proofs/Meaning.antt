@@ -109,7 +109,7 @@ module _ (g : ℕ → ℕ → ℕ) (bits : (p k : ℕ) → g p k < 2) (slots : �
       (lt-or-ge p q))
       ∙ other-slot q (omega arith) p k (λ a. h (omega arith)) l
 
-bit-lt-two : (R : Ranges) (starts ends : List ℕ) (p k : ℕ) → availableBit R starts ends p k < 2
+pub bit-lt-two : (R : Ranges) (starts ends : List ℕ) (p k : ℕ) → availableBit R starts ends p k < 2
 unfolding availableBit
 bit-lt-two R starts ends p k = value-lt (available R p (getD starts k 0) (getD ends k 0))
 

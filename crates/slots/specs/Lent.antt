@@ -67,6 +67,11 @@ lentSlotNo slots starts ends k =
 unfoldable pub minutesAs : ℕ → ℕ → Minutes
 minutesAs n m = cond (eqb n 0) (minutes.Are m) (minutes.Refused n)
 
+-- the number of the refusal, or 0
+abbrev pub minutesNo : Minutes → ℕ
+minutesNo (minutes.Are m) = 0
+minutesNo (minutes.Refused n) = n
+
 unfoldable pub demandIs : ℕ → List ℕ → List ℕ → Minutes
 demandIs slots starts ends = minutesAs (lentNo slots starts ends) (demandOf slots starts ends)
 

@@ -16,4 +16,3 @@ pub mod Accepted
 pub mod Promises
 pub mod Fairness
 pub mod Work
-pub mod Cases

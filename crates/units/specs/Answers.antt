@@ -21,6 +21,11 @@ numberAs n k = cond (eqb n 0) (number.Is k) (number.Refused n)
 unfoldable pub spanAs : ℕ → ℕ → ℕ → UnitSlots
 spanAs n a e = cond (eqb n 0) (unitSlots.Span a e) (unitSlots.Refused n)
 
+-- the number of the refusal, or 0
+abbrev pub spanNo : UnitSlots → ℕ
+spanNo (unitSlots.Span a e) = 0
+spanNo (unitSlots.Refused n) = n
+
 -- ---- a lent list at exit
 
 -- the number of entries, and the lent buffer

@@ -46,6 +46,11 @@ dateBegins starts (suc j) = not (eqb (startDate starts (suc j)) (startDate start
 unfoldable pub durationAs : ℕ → ℕ → Duration
 durationAs n m = cond (eqb n 0) (duration.Minutes m) (duration.Refused n)
 
+-- the number of the refusal, or 0
+abbrev pub durationNo : Duration → ℕ
+durationNo (duration.Minutes m) = 0
+durationNo (duration.Refused n) = n
+
 unfoldable pub coveredDaysIs : ℕ → List ℕ → List ℕ → Number
 coveredDaysIs slots starts ends = numberAs (lentNo slots starts ends) (coveredDays slots starts)
 

@@ -1,7 +1,8 @@
 -- `boltraven_c::demand::boltraven_demand` meets its contract. Assumes nothing.
 use borrow.Author.Needs.{needs}
 use mathlib.Core.Path.{ap, _∙_}
-use Rattle.boltraven_c.specs.Demand.{minutesNo, minutesAre}
+use Rattle.slots.specs.Lent.{minutesNo}
+use Rattle.boltraven_c.specs.Demand.{minutesAre}
 use Rattle.boltraven_c.proofs.demand.boltraven_demand.Statement.{statement}
 use Rattle.boltraven_c.proofs.demand.boltraven_demand.Tie as tie
 

@@ -1,7 +1,8 @@
 -- `boltraven_c::lengths::boltraven_achievable_run` meets its contract. Assumes nothing.
 use borrow.Author.Needs.{needs}
 use mathlib.Core.Path.{ap, _∙_}
-use Rattle.boltraven_c.specs.Units.{durationNo, durationMinutes}
+use Rattle.units.specs.Days.{durationNo}
+use Rattle.boltraven_c.specs.Units.{durationMinutes}
 use Rattle.boltraven_c.proofs.lengths.boltraven_achievable_run.Statement.{statement}
 use Rattle.boltraven_c.proofs.lengths.boltraven_achievable_run.Tie as tie
 

@@ -1,7 +1,8 @@
 -- `boltraven_c::rotas::boltraven_owner_of_slot` meets its contract. Assumes nothing.
 use borrow.Author.Needs.{needs}
 use mathlib.Core.Path.{ap, _∙_}
-use Rattle.boltraven_c.specs.Rotas.{figureNo, figureIs}
+use Rattle.rota.specs.Entries.{figureNo}
+use Rattle.boltraven_c.specs.Rotas.{figureIs}
 use Rattle.boltraven_c.proofs.rotas.boltraven_owner_of_slot.Statement.{statement}
 use Rattle.boltraven_c.proofs.rotas.boltraven_owner_of_slot.Tie as tie
 

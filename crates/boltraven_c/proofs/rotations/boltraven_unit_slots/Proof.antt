@@ -1,7 +1,8 @@
 -- `boltraven_c::rotations::boltraven_unit_slots` meets its contract. Assumes nothing.
 use borrow.Author.Needs.{needs}
 use mathlib.Core.Path.{sym, ap, _∙_}
-use Rattle.boltraven_c.specs.Units.{spanNo, spanFrom, spanTo}
+use Rattle.units.specs.Answers.{spanNo}
+use Rattle.boltraven_c.specs.Units.{spanFrom, spanTo}
 use Rattle.boltraven_c.proofs.rotations.boltraven_unit_slots.Statement.{statement}
 use Rattle.boltraven_c.proofs.rotations.boltraven_unit_slots.Tie as tie
 

@@ -1,0 +1,58 @@
+-- The marked cases 7 to 10, computed through the outcome of `compute_targets`. Assumes nothing.
+use mathlib.Core.Path.{_≡_, refl, sym, ap, _∙_}
+use mathlib.Core.Bool.{true, false}
+use mathlib.Core.List.{List, [], _∷_}
+use Prim.Native.Nat.{ℕ}
+use native.Mathlib.Nat.{le-refl, le-of-eq}
+use lib.IntN.{ℤ, pos, negsuc}
+use lib.ListN.{length}
+use lib.Ieee.{Float, add, sub, mul, div, lt, eq, le, ofInt}
+use Rattle.paper.specs.Limits.{peopleOk, slotCountOk, countsOk}
+use Rattle.paper.specs.Count.{all, sum}
+use Rattle.slots.specs.Lent.{slotOk, prevEnd, slotOkAt, slotRoomOk, slotsOk, minutesAt, demandOf}
+use Rattle.targets.specs.Figures.{figuresOk, allFiguresOk}
+use Rattle.targets.specs.Passes.{rounded, within, settled, pass, passes}
+use Rattle.targets.specs.Remainder.{adjusted, Targets, are}
+use Rattle.targets.specs.Outcome.{Given, given, targetsIn, published}
+use Rattle.targets.proofs.Accepted.{all-clear, people-room}
+use Rattle.targets.proofs.Promises.{when-accepted}
+use Rattle.promises.specs.Entries.{built}
+use Rattle.promises.specs.Marked.{one, none, Shared}
+
+-- from the targets of these figures to what is heard of them, whatever is lent
+module _ (demand : ℕ) (capacities : List Float) (priors : List ℕ) (zs : List ℤ) where
+  abbrev asked : List ℕ → Given
+  asked avail = given (length capacities) 1 (0 ∷ []) (demand ∷ []) avail capacities priors 1
+
+  shared : countsOk (length capacities) 1 ≡ true → length priors ≡ length capacities
+      → allFiguresOk (length capacities) capacities priors ≡ true → slotRoomOk 1 (0 ∷ []) (demand ∷ []) ≡ true
+      → slotsOk 1 (0 ∷ []) (demand ∷ []) ≡ true → ((avail : List ℕ) → targetsIn (asked avail) ≡ are zs)
+      → Shared built demand capacities priors zs
+  shared a n f b e t avail out w r =
+      let p = length capacities in
+      let room = people-room p (length avail) p (length priors) (length out)
+      (record { words-room = w; capacities-room = le-refl p; priors-room = le-of-eq (sym n); out-room = r }) in
+      when-accepted (asked avail) out (sym (all-clear (asked avail) (length out) a b room f (le-refl 1) e))
+      ∙ ap (λ (x : Targets). published p x out) (t avail)
+
+pub case-7 : Shared built 100 (one ∷ one ∷ one ∷ []) (0 ∷ 0 ∷ 0 ∷ []) (pos 33 ∷ pos 33 ∷ pos 34 ∷ [])
+unfolding countsOk peopleOk slotCountOk allFiguresOk all figuresOk le lt eq slotRoomOk slotsOk slotOkAt slotOk prevEnd
+    demandOf sum minutesAt ofInt mul add div sub rounded within settled pass passes adjusted
+case-7 = shared 100 (one ∷ one ∷ one ∷ []) (0 ∷ 0 ∷ 0 ∷ []) (pos 33 ∷ pos 33 ∷ pos 34 ∷ []) refl refl refl refl refl (λ avail. refl)
+
+pub case-8 : Shared built 2 (one ∷ one ∷ one ∷ one ∷ []) (0 ∷ 0 ∷ 0 ∷ 0 ∷ []) (pos 1 ∷ pos 1 ∷ pos 1 ∷ negsuc 0 ∷ [])
+unfolding countsOk peopleOk slotCountOk allFiguresOk all figuresOk le lt eq slotRoomOk slotsOk slotOkAt slotOk prevEnd
+    demandOf sum minutesAt ofInt mul add div sub rounded within settled pass passes adjusted
+case-8 =
+    shared 2 (one ∷ one ∷ one ∷ one ∷ []) (0 ∷ 0 ∷ 0 ∷ 0 ∷ []) (pos 1 ∷ pos 1 ∷ pos 1 ∷ negsuc 0 ∷ [])
+    refl refl refl refl refl (λ avail. refl)
+
+pub case-9 : Shared built 100 (one ∷ one ∷ []) (300 ∷ 0 ∷ []) (pos 0 ∷ pos 100 ∷ [])
+unfolding countsOk peopleOk slotCountOk allFiguresOk all figuresOk le lt eq slotRoomOk slotsOk slotOkAt slotOk prevEnd
+    demandOf sum minutesAt ofInt mul add div sub rounded within settled pass passes adjusted
+case-9 = shared 100 (one ∷ one ∷ []) (300 ∷ 0 ∷ []) (pos 0 ∷ pos 100 ∷ []) refl refl refl refl refl (λ avail. refl)
+
+pub case-10 : Shared built 100 (none ∷ none ∷ []) (0 ∷ 0 ∷ []) (pos 0 ∷ pos 100 ∷ [])
+unfolding countsOk peopleOk slotCountOk allFiguresOk all figuresOk le lt eq slotRoomOk slotsOk slotOkAt slotOk prevEnd
+    demandOf sum minutesAt ofInt mul add div sub rounded within settled pass passes adjusted
+case-10 = shared 100 (none ∷ none ∷ []) (0 ∷ 0 ∷ []) (pos 0 ∷ pos 100 ∷ []) refl refl refl refl refl (λ avail. refl)
