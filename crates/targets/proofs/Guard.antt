@@ -43,7 +43,7 @@ swapped n e d w h =
     le-trans (mul-le-mul-right e (le-trans (le-of-eq (sym (mul-one n))) h))
     (le-of-eq (mul-assoc w d e ∙ ap (λ (z : ℕ). w * z) (mul-comm d e)))
 
-added : (k : ℕ) (x y : Float) → suc k ≤ 64 → Acc k x → Share y → Most y 137438953472 1 → Added (suc k) x y (add binary64 x y)
+pub added : (k : ℕ) (x y : Float) → suc k ≤ 64 → Acc k x → Share y → Most y 137438953472 1 → Added (suc k) x y (add binary64 x y)
 added k nan y K a h l = absurd (a .plain)
 added k (inf s) y K a h l = absurd (a .most)
 added k (fin true m e) y K a h l = absurd (true≢false (a .plain))
@@ -93,7 +93,7 @@ abbrev pub Goods : List Line → Type 0
 Goods [] = Unit
 Goods (l ∷ ls) = Good l × Goods ls
 
-abbrev AllUnder : Float → List Line → Type 0
+abbrev pub AllUnder : Float → List Line → Type 0
 AllUnder s [] = Unit
 AllUnder s (l ∷ ls) = (l .pinned ≡ false → Under (l .raw) s) × AllUnder s ls
 
@@ -108,7 +108,7 @@ pub record With (k : ℕ) (b : Bool) (x y z : Float) : Type 0 where
   pub left : Under x z
   pub right : b ≡ false → Under y z
 
-with-one : (b : Bool) (k : ℕ) (x y : Float) → suc k ≤ 64 → Acc k x → Share y → Most y 137438953472 1
+pub with-one : (b : Bool) (k : ℕ) (x y : Float) → suc k ≤ 64 → Acc k x → Share y → Most y 137438953472 1
     → With (suc k) b x y (cond b x (add binary64 x y))
 with-one true k x y K a h l = record {
   acc = record { plain = a .plain; ok = a .ok; most = more-room k x (a .most) };
@@ -122,7 +122,7 @@ pub record Summed (k : ℕ) (x s : Float) (ls : List Line) : Type 0 where
   pub from : Under x s
   pub all : AllUnder s ls
 
-summed : (ls : List Line) (k n : ℕ) (x : Float) → Acc k x → Goods ls → n ≡ k + length ls → n ≤ 64 → Summed n x (foldl withShare x ls) ls
+pub summed : (ls : List Line) (k n : ℕ) (x : Float) → Acc k x → Goods ls → n ≡ k + length ls → n ≤ 64 → Summed n x (foldl withShare x ls) ls
 summed [] k n x a g e h = record {
   acc = subst (λ (j : ℕ). Acc j x) (sym (e ∙ add-zero k)) a;
   from = under-refl x (k * 137438953472) 1 (a .most);
@@ -138,7 +138,7 @@ summed (l ∷ ls) k n x a g e h =
       all = (λ q. under-trans (l .raw) (withShare x l) (foldl withShare x (l ∷ ls)) (w .right q) (r .from), r .all);
     }
 
-priors-most : (ls : List Line) (a : ℕ) → Goods ls → foldl withPrior a ls ≤ a + 100000000 * length ls
+pub priors-most : (ls : List Line) (a : ℕ) → Goods ls → foldl withPrior a ls ≤ a + 100000000 * length ls
 priors-most [] a g = omega arith
 priors-most (l ∷ ls) a g =
     let h = priors-most ls (withPrior a l) (g .1) in
@@ -190,7 +190,7 @@ none-outside n s k (l ∷ ls) p m z h g u =
     go false true r t e = e
     go false false r t e = absurd (true≢false (sym (t refl)))
 
-zero-acc : Acc 0 zeroF
+pub zero-acc : Acc 0 zeroF
 unfolding fits
 zero-acc = record { plain = refl; ok = tt; most = le-refl 0 }
 

@@ -7,7 +7,9 @@ pub mod Taker
 pub mod Sums
 pub mod Padding
 pub mod Floats
+pub mod Errors
 pub mod Guard
+pub mod Shares
 pub mod Never
 pub mod Eight
 pub mod Ends
