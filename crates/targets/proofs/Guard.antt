@@ -158,25 +158,34 @@ pub whole-val : (n : ℕ) → n ≤ 2 ^ 53 → HasValue (whole n) false n 1
 unfolding ofInt
 whole-val n h = round-whole binary64 false n h
 
-kept-at : (n p : ℕ) (s r : Float) (k : ℕ) → Plain s → Most s k 1 → lt zeroF s ≡ true → n ≤ 4000000000 → p ≤ 100000000 → Under r s
-    → within (sub binary64 (mul binary64 (whole n) (div binary64 r s)) (whole p)) ≡ true
-kept-at n p nan r k q m z N P u = absurd q
-kept-at n p (inf s) r k q m z N P u = absurd m
-kept-at n p (fin true v g) r k q m z N P u = absurd (true≢false q)
-kept-at n p (fin false v g) nan k q m z N P u = absurd u
-kept-at n p (fin false v g) (inf t) k q m z N P u = absurd u
-kept-at n p (fin false v g) (fin t r e) k q m z N P u =
+-- the quotient, the product and the difference of one person are bounded
+pub record Steps (n p : ℕ) (s r : Float) : Type 0 where
+  pub quotient-most : Most (div binary64 r s) 1 1
+  pub product-most : Most (mul binary64 (whole n) (div binary64 r s)) n 1
+  pub difference-most : Most (sub binary64 (mul binary64 (whole n) (div binary64 r s)) (whole p)) (n + p) 1
+
+pub steps : (n p : ℕ) (s r : Float) (k : ℕ) → Plain s → Most s k 1 → lt zeroF s ≡ true → n ≤ 4000000000 → p ≤ 100000000 → Under r s
+    → Steps n p s r
+steps n p nan r k q m z N P u = absurd q
+steps n p (inf s) r k q m z N P u = absurd m
+steps n p (fin true v g) r k q m z N P u = absurd (true≢false q)
+steps n p (fin false v g) nan k q m z N P u = absurd u
+steps n p (fin false v g) (inf t) k q m z N P u = absurd u
+steps n p (fin false v g) (fin t r e) k q m z N P u =
     let a : n ≤ 2 ^ 53 = le-trans N (lit≤ {m = 4000000000} {n = 2 ^ 53} tt) in
     let b : p ≤ 2 ^ 53 = le-trans P (lit≤ {m = 100000000} {n = 2 ^ 53} tt) in
     let c : n + p ≤ 2 ^ 53 = le-trans (add-le-add N P) (lit≤ {m = 4100000000} {n = 2 ^ 53} tt) in
     let q = div binary64 (fin t r e) (fin false v g) in
     let x = mul binary64 (whole n) q in
-    let y : Most x n 1 = product (whole n) q n (whole-val n a) a (quotient t r e v g (positive v g z) u) in
-    inside (sub binary64 x (whole p)) (n + p) (difference x (whole p) n p y (whole-val p b) c) (omega arith)
+    let i = quotient t r e v g (positive v g z) u in
+    let j = product (whole n) q n (whole-val n a) a i in
+    record { quotient-most = i; product-most = j; difference-most = difference x (whole p) n p j (whole-val p b) c }
 
 kept : (n : ℕ) (s : Float) (k : ℕ) (l : Line) → Plain s → Most s k 1 → lt zeroF s ≡ true → n ≤ 4000000000 → Good l
     → Under (l .raw) s → within (unrounded (whole n) s l) ≡ true
-kept n s k l p m z h g u = kept-at n (l .person .prior) s (l .raw) k p m z h (g .prior) u
+kept n s k l p m z h g u =
+    inside (unrounded (whole n) s l) (n + l .person .prior) (steps n (l .person .prior) s (l .raw) k p m z h (g .prior) u .difference-most)
+    (omega (arith, h, g .prior))
 
 none-outside : (n : ℕ) (s : Float) (k : ℕ) (ls : List Line) → Plain s → Most s k 1 → lt zeroF s ≡ true → n ≤ 4000000000
     → Goods ls → AllUnder s ls → some (outside (whole n) s) ls ≡ false

@@ -7,7 +7,7 @@ use mathlib.Core.Logic.{⊎-elim}
 use Prim.Native.Nat.{ℕ, zero, suc, _+_, _-_, _*_, _/_, _^_, _≤_, _<_, zero-le}
 use native.Mathlib.Nat.{mul-one, one-mul, zero-mul, mul-comm, mul-assoc, mul-left-comm, mul-right-comm, add-mul, mul-add, suc-mul, zero-add, add-zero}
 use native.Mathlib.Nat.{mul-pos, mul-le-mul-right, mul-le-mul-left, le-of-mul-le-mul-right, mul-div-cancel, div-one}
-use native.Mathlib.Nat.{le-refl, le-trans, le-of-eq, le-add-right, add-assoc, eq-of-mul-eq-mul-right}
+use native.Mathlib.Nat.{le-refl, le-trans, le-of-eq, le-add-right, add-le-add, add-assoc, two-mul, eq-of-mul-eq-mul-right}
 use native.Mathlib.Omega.{arith}
 use lib.Dec.{T, lit≤}
 use lib.Pow.{pow-pos}
@@ -15,6 +15,7 @@ use lib.IntN.{ℤ, pos, negsuc}
 use lib.ListN.{length}
 use lib.Ieee.{Float, nan, inf, fin, binary64, add, sub, mul, div, lt, fits, up, down, unlike}
 use lib.Ieee.Fits.{up-pos, down-pos}
+use lib.Ieee.Positive.{first-pos}
 use Rattle.paper.proofs.Logic.{lt-or-ge}
 use Rattle.targets.specs.declared.Line.{Line}
 use Rattle.targets.specs.Figures.{zeroF, whole}
@@ -23,7 +24,7 @@ use Rattle.targets.proofs.Nearest.{reach, exponent}
 use Rattle.targets.proofs.Floats.{Most, Plain, Share, Under, own-down, quotient, product, difference}
 use Rattle.targets.proofs.Errors.{Units, Near, near, NearUnits, near-units, sum-units, product-units, quotient-units}
 use Rattle.targets.proofs.Errors.{Less, less-units, rounded-units}
-use Rattle.targets.proofs.Guard.{Acc, Good, Goods, With, with-one, summed, positive, whole-val}
+use Rattle.targets.proofs.Guard.{Acc, Good, Goods, With, with-one, summed, positive, whole-val, steps}
 
 -- ---- a share, in units
 
@@ -135,3 +136,112 @@ shares-from (l ∷ ls) k n x g S a u o e h v =
     let q = shares-from ls (suc k) n (withShare x l) (t .units) S (w .acc) (t .is) (o .1) (omega arith) h v in
     lost g (cond (l .pinned) 0 (unitsOf (l .raw))) (t .units) (sharesIn ls) (length ls) S (2 ^ 52) (t .loss)
     (units-under (withShare x l) (foldl withShare (withShare x l) ls) (t .units) S (r .from) (t .is) v) q
+
+-- ---- one person: t is x rounded, x is y less p, y is N times q, q is the share R by the sum S; g counts units, v of them make one
+-- minute. Each step is E or F parts, F one more than E
+
+minutes-by : (t p gx gy v E F : ℕ) → t * v ≤ gx + v → gx * E + p * v * E ≤ gy * F + E → (t + p) * v * E ≤ gy * F + E + v * E
+minutes-by t p gx gy v E F h k =
+    let a : t * v * E ≤ gx * E + v * E = le-trans (mul-le-mul-right E h) (le-of-eq (add-mul gx v E)) in
+    let b : (t + p) * v * E ≡ t * v * E + p * v * E = ap (λ (z : ℕ). z * E) (add-mul t p v) ∙ add-mul (t * v) (p * v) E in
+    omega (arith, a, b, k)
+
+part-by : (x m gy v E F : ℕ) → x * E ≤ gy * F + E + v * E → gy * E ≤ m * F + E
+    → x * (E * E) ≤ m * (F * F) + (E * F + E * E) + v * (E * E)
+part-by x m gy v E F h k =
+    let a : x * (E * E) ≤ (gy * F + E + v * E) * E = le-trans (le-of-eq (sym (mul-assoc x E E))) (mul-le-mul-right E h) in
+    let b : (gy * F + E + v * E) * E ≡ gy * E * F + E * E + v * (E * E) = spread gy v E F in
+    let c : gy * E * F ≤ m * (F * F) + E * F
+    = le-trans (mul-le-mul-right F k) (le-of-eq (add-mul (m * F) E F ∙ ap (λ (z : ℕ). z + E * F) (mul-assoc m F F))) in
+    omega (arith, a, b, c)
+  where
+    spread : (g v E F : ℕ) → (g * F + E + v * E) * E ≡ g * E * F + E * E + v * (E * E)
+    spread g v E F =
+        add-mul (g * F + E) (v * E) E
+        ∙ ap (λ (z : ℕ). z + v * E * E) (add-mul (g * F) E E ∙ ap (λ (z : ℕ). z + E * E) (mul-right-comm g F E))
+        ∙ ap (λ (z : ℕ). g * E * F + E * E + z) (mul-assoc v E E)
+
+-- with a = F * F, b = E * E, c = E * F + E * E, and s = S * E
+whole-part : (x n q R s v F a b c : ℕ) → x * b ≤ n * q * a + c + v * b → q * s ≤ R * v * F + s → n * a + c ≤ v * b
+    → x * b * s ≤ n * R * (a * F) * v + 2 * (b * s) * v
+whole-part x n q R s v F a b c h k l =
+    let i : x * b * s ≤ n * a * (q * s) + (c + v * b) * s = le-trans (mul-le-mul-right s h) (le-of-eq (parts n q a c v b s)) in
+    let j : n * a * (q * s) ≤ n * a * (R * v * F) + n * a * s
+    = le-trans (mul-le-mul-left (n * a) k) (le-of-eq (mul-add (n * a) (R * v * F) s)) in
+    let m : (n * a + c) * s ≤ v * b * s = mul-le-mul-right s l in
+    let o : (n * a + c) * s ≡ n * a * s + c * s = add-mul (n * a) c s in
+    let p : (c + v * b) * s ≡ c * s + v * b * s = add-mul c (v * b) s in
+    let r : n * a * (R * v * F) ≡ n * R * (a * F) * v = simp (mul-assoc, mul-comm, mul-left-comm) in
+    let t : v * b * s + v * b * s ≡ 2 * (b * s) * v = twice v b s in
+    omega (arith, i, j, m, o, p, r, t)
+  where
+    parts : (n q a c v b s : ℕ) → (n * q * a + c + v * b) * s ≡ n * a * (q * s) + (c + v * b) * s
+    parts n q a c v b s =
+        ap (λ (z : ℕ). z * s) (add-assoc (n * q * a) c (v * b)) ∙ add-mul (n * q * a) (c + v * b) s
+        ∙ ap (λ (z : ℕ). z + (c + v * b) * s) (simp (mul-assoc, mul-comm, mul-left-comm))
+
+    twice : (v b s : ℕ) → v * b * s + v * b * s ≡ 2 * (b * s) * v
+    twice v b s = sym (two-mul (v * b * s)) ∙ ap (λ (z : ℕ). 2 * z) (mul-assoc v b s ∙ mul-comm v (b * s)) ∙ sym (mul-assoc 2 (b * s) v)
+
+person-by : (t p n R S gq gy gx v E F : ℕ) → 0 < v → t * v ≤ gx + v → gx * E + p * v * E ≤ gy * F + E → gy * E ≤ n * gq * F + E
+    → gq * S * E ≤ R * v * F + S * E → n * (F * F) + (E * F + E * E) ≤ v * (E * E)
+    → (t + p) * (S * (E * E * E)) ≤ n * R * (F * F * F) + 2 * (S * (E * E * E))
+person-by t p n R S gq gy gx v E F P h1 h2 h3 h4 h5 =
+    let a = part-by ((t + p) * v) (n * gq) gy v E F (minutes-by t p gx gy v E F h1 h2) h3 in
+    let b = whole-part ((t + p) * v) n gq R (S * E) v F (F * F) (E * E) (E * F + E * E) a
+    (le-trans (le-of-eq (sym (mul-assoc gq S E))) h4) h5 in
+    le-of-mul-le-mul-right
+    (le-trans (le-of-eq (left (t + p) S E v)) (le-trans b (le-of-eq (right n R S E F v)))) P
+  where
+    left : (x S E v : ℕ) → x * (S * (E * E * E)) * v ≡ x * v * (E * E) * (S * E)
+    left x S E v = simp (mul-assoc, mul-comm, mul-left-comm)
+
+    right : (n R S E F v : ℕ) → n * R * (F * F * F) * v + 2 * (E * E * (S * E)) * v ≡ (n * R * (F * F * F) + 2 * (S * (E * E * E))) * v
+    right n R S E F v =
+        ap (λ (z : ℕ). n * R * (F * F * F) * v + 2 * z * v) (simp (mul-assoc, mul-comm, mul-left-comm))
+        ∙ sym (add-mul (n * R * (F * F * F)) (2 * (S * (E * E * E))) v)
+
+-- of the floats: S units are the sum of the shares, and what the person gets is not below 0
+abbrev pub exactParts : ℕ
+exactParts = 2 ^ 52 * 2 ^ 52 * 2 ^ 52
+
+abbrev pub roundedParts : ℕ
+roundedParts = (2 ^ 52 + 1) * (2 ^ 52 + 1) * (2 ^ 52 + 1)
+
+-- at most t with p, for a share of R units
+abbrev pub AtMost : (t p n R S : ℕ) → Type 0
+AtMost t p n R S = (t + p) * (S * exactParts) ≤ n * R * roundedParts + 2 * (S * exactParts)
+
+few-units : (n : ℕ) → n ≤ 4000000000
+    → n * ((2 ^ 52 + 1) * (2 ^ 52 + 1)) + (2 ^ 52 * (2 ^ 52 + 1) + 2 ^ 52 * 2 ^ 52) ≤ 2 ^ 1074 * (2 ^ 52 * 2 ^ 52)
+few-units n h =
+    le-trans (add-le-add (mul-le-mul-right ((2 ^ 52 + 1) * (2 ^ 52 + 1)) h) (le-refl (2 ^ 52 * (2 ^ 52 + 1) + 2 ^ 52 * 2 ^ 52)))
+    (lit≤ {m = 4000000000 * ((2 ^ 52 + 1) * (2 ^ 52 + 1)) + (2 ^ 52 * (2 ^ 52 + 1) + 2 ^ 52 * 2 ^ 52)} {n = 2 ^ 1074 * (2 ^ 52 * 2 ^ 52)} tt)
+
+quotient-near : (s r : Float) (R S : ℕ) → Plain s → lt zeroF s ≡ true → Units r R → Units s S → Most (div binary64 r s) 1 1
+    → Near (div binary64 r s) R S
+quotient-near nan r R S p z u w m = absurd p
+quotient-near (inf s) r R S p z u w m = absurd w
+quotient-near (fin true n d) r R S p z u w m = absurd (true≢false p)
+quotient-near (fin false n d) nan R S p z u w m = absurd u
+quotient-near (fin false n d) (inf t) R S p z u w m = absurd u
+quotient-near (fin false n d) (fin t a e) R S p z u w m =
+    let N = positive n d z in
+    let P = first-pos S (down d) (subst (λ (k : ℕ). 0 < k) w (mul-pos (mul-pos N (up-pos d)) (pow-pos 1074))) in
+    near (div binary64 (fin t a e) (fin false n d)) (unlike t false) R S 1 P (quotient-units t a e n d R S N P u w) m
+
+pub person-most : (n p : ℕ) (s r : Float) (S k : ℕ) → Plain s → Most s k 1 → lt zeroF s ≡ true → n ≤ 4000000000 → p ≤ 100000000
+    → Under r s → Share r → Units s S → (x : Float) → x ≡ sub binary64 (mul binary64 (whole n) (div binary64 r s)) (whole p)
+    → lt x zeroF ≡ false → AtMost (rounded x) p n (unitsOf r) S
+person-most n p s r S k q m z N P u h w x e f =
+    let o = steps n p s r k q m z N P u in
+    let y = mul binary64 (whole n) (div binary64 r s) in
+    let a = quotient-near s r (unitsOf r) S q z (share-units r h) w (o .quotient-most) in
+    let b = product-units (whole n) (div binary64 r s) n (a .units)
+    (whole-val n (le-trans N (lit≤ {m = 4000000000} {n = 2 ^ 53} tt))) (a .is) in
+    let c = near-units y (b .0) (n * a .units) n (b .1) (o .product-most) in
+    let d = less-units y (whole p) (c .units) p (n + p) (c .is)
+    (whole-val p (le-trans P (lit≤ {m = 100000000} {n = 2 ^ 53} tt))) (o .difference-most) (ap (λ (v : Float). lt v zeroF) (sym e) ∙ f) in
+    let g = rounded-units x (d .units) (subst (λ (v : Float). Units v (d .units)) (sym e) (d .is)) in
+    person-by (rounded x) p n (unitsOf r) S (a .units) (c .units) (d .units) (2 ^ 1074) (2 ^ 52) (2 ^ 52 + 1) (pow-pos 1074)
+    g (d .over) (c .over) (a .over) (few-units n N)
