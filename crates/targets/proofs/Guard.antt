@@ -43,7 +43,7 @@ swapped n e d w h =
     le-trans (mul-le-mul-right e (le-trans (le-of-eq (sym (mul-one n))) h))
     (le-of-eq (mul-assoc w d e ∙ ap (λ (z : ℕ). w * z) (mul-comm d e)))
 
-pub added : (k : ℕ) (x y : Float) → suc k ≤ 64 → Acc k x → Share y → Most y 137438953472 1 → Added (suc k) x y (add binary64 x y)
+added : (k : ℕ) (x y : Float) → suc k ≤ 64 → Acc k x → Share y → Most y 137438953472 1 → Added (suc k) x y (add binary64 x y)
 added k nan y K a h l = absurd (a .plain)
 added k (inf s) y K a h l = absurd (a .most)
 added k (fin true m e) y K a h l = absurd (true≢false (a .plain))
@@ -138,7 +138,7 @@ summed (l ∷ ls) k n x a g e h =
       all = (λ q. under-trans (l .raw) (withShare x l) (foldl withShare x (l ∷ ls)) (w .right q) (r .from), r .all);
     }
 
-pub priors-most : (ls : List Line) (a : ℕ) → Goods ls → foldl withPrior a ls ≤ a + 100000000 * length ls
+priors-most : (ls : List Line) (a : ℕ) → Goods ls → foldl withPrior a ls ≤ a + 100000000 * length ls
 priors-most [] a g = omega arith
 priors-most (l ∷ ls) a g =
     let h = priors-most ls (withPrior a l) (g .1) in
@@ -203,10 +203,18 @@ pub zero-acc : Acc 0 zeroF
 unfolding fits
 zero-acc = record { plain = refl; ok = tt; most = le-refl 0 }
 
+-- the sum of the shares of such people
+pub summed-all : (ls : List Line) → length ls ≤ 32 → Goods ls → Summed (length ls) zeroF (shareSum ls) ls
+summed-all ls L g = summed ls 0 (length ls) zeroF zero-acc g (sym (zero-add (length ls))) (le-trans L (lit≤ {m = 32} {n = 64} tt))
+
+-- N is below 2 ^ 32
+pub notional-most : (d : ℕ) (ls : List Line) → d ≤ 100000000 → length ls ≤ 32 → Goods ls → notional d ls ≤ 4000000000
+notional-most d ls D L g = omega (arith, priors-most ls d g)
+
 -- no pass over such people is refused
 pub never-outside : (d : ℕ) (ls : List Line) → d ≤ 100000000 → length ls ≤ 32 → Goods ls → lt zeroF (shareSum ls) ≡ true
     → some (outside (whole (notional d ls)) (shareSum ls)) ls ≡ false
 never-outside d ls D L g z =
-    let r = summed ls 0 (length ls) zeroF zero-acc g (sym (zero-add (length ls))) (le-trans L (lit≤ {m = 32} {n = 64} tt)) in
-    let N : notional d ls ≤ 4000000000 = omega (arith, priors-most ls d g) in
-    none-outside (notional d ls) (shareSum ls) (length ls * 137438953472) ls (r .acc .plain) (r .acc .most) z N g (r .all)
+    let r = summed-all ls L g in
+    none-outside (notional d ls) (shareSum ls) (length ls * 137438953472) ls (r .acc .plain) (r .acc .most) z (notional-most d ls D L g) g
+    (r .all)

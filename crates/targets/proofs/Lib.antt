@@ -9,8 +9,8 @@ pub mod Padding
 pub mod Floats
 pub mod Errors
 pub mod Guard
-pub mod Shares
 pub mod Never
+pub mod Shares
 pub mod Eight
 pub mod Ends
 pub mod Minutes

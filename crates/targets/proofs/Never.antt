@@ -44,7 +44,7 @@ cap-of (fin true m e) a b =
     (omega arith, λ t. omega arith)
 cap-of (fin false m e) a b = (le-cross m 125 e (pos 3) b, λ t. absurd (true≢false (sym t)))
 
-share-plain : (x : Float) (k : ℕ) → T (fits binary64 x) → Plain x → Most x k 1 → Share x
+pub share-plain : (x : Float) (k : ℕ) → T (fits binary64 x) → Plain x → Most x k 1 → Share x
 share-plain nan k f p h = h
 share-plain (inf s) k f p h = h
 share-plain (fin true m e) k f p h = absurd (true≢false p)
@@ -142,11 +142,12 @@ settled-good x l g = go (l .pinned) (lt x zeroF)
     go false true = record { share = g .share; small = g .small; prior = g .prior }
     go false false = record { share = g .share; small = g .small; prior = g .prior }
 
-goods-map : (n s : Float) (ls : List Line) → Goods ls → Goods (map (settle n s) ls)
+pub goods-map : (n s : Float) (ls : List Line) → Goods ls → Goods (map (settle n s) ls)
 goods-map n s [] g = tt
 goods-map n s (l ∷ ls) g = (settled-good (unrounded n s l) l (g .0), goods-map n s ls (g .1))
 
-abbrev Fine : Passed → Type 0
+-- as many people as may be, whose figures pass
+abbrev pub Fine : Passed → Type 0
 Fine (again ls) = (length ls ≤ 32) × Goods ls
 Fine (done ls) = (length ls ≤ 32) × Goods ls
 Fine refused = ⊥
@@ -166,7 +167,7 @@ fine-passed n s ls o h = go (lt zeroF s) (some (outside n s) ls) (some (falls n 
     go true false true q = fine
     go true false false q = fine
 
-fine-pass : (d : ℕ) → d ≤ 100000000 → (p : Passed) → Fine p → Fine (pass d p)
+pub fine-pass : (d : ℕ) → d ≤ 100000000 → (p : Passed) → Fine p → Fine (pass d p)
 unfolding pass
 fine-pass d D (again ls) h = fine-passed (whole (notional d ls)) (shareSum ls) ls (never-outside d ls D (h .0) (h .1)) h
 fine-pass d D (done ls) h = h

@@ -9,6 +9,7 @@ use native.Mathlib.Nat.{mul-one, one-mul, zero-mul, mul-comm, mul-assoc, mul-lef
 use native.Mathlib.Nat.{mul-pos, mul-le-mul-right, mul-le-mul-left, le-of-mul-le-mul-right, mul-div-cancel, div-one}
 use native.Mathlib.Nat.{le-refl, le-trans, le-of-eq, le-add-right, add-le-add, add-assoc, two-mul, eq-of-mul-eq-mul-right}
 use native.Mathlib.Omega.{arith}
+use borrow.Author.Tests.{ltb-false}
 use lib.Dec.{T, lit≤}
 use lib.Pow.{pow-pos}
 use lib.IntN.{ℤ, pos, negsuc}
@@ -24,7 +25,8 @@ use Rattle.targets.proofs.Nearest.{reach, exponent}
 use Rattle.targets.proofs.Floats.{Most, Plain, Share, Under, own-down, quotient, product, difference}
 use Rattle.targets.proofs.Errors.{Units, Near, near, NearUnits, near-units, sum-units, product-units, quotient-units}
 use Rattle.targets.proofs.Errors.{Less, less-units, rounded-units}
-use Rattle.targets.proofs.Guard.{Acc, Good, Goods, With, with-one, summed, positive, whole-val, steps}
+use Rattle.targets.proofs.Guard.{Acc, Goods, AllUnder, with-one, summed, zero-acc, summed-all, positive, whole-val, steps}
+use Rattle.targets.proofs.Never.{share-plain}
 
 -- ---- a share, in units
 
@@ -137,6 +139,29 @@ shares-from (l ∷ ls) k n x g S a u o e h v =
     lost g (cond (l .pinned) 0 (unitsOf (l .raw))) (t .units) (sharesIn ls) (length ls) S (2 ^ 52) (t .loss)
     (units-under (withShare x l) (foldl withShare (withShare x l) ls) (t .units) S (r .from) (t .is) v) q
 
+-- of people whose figures pass, all that is known of the sum of their shares
+pub record SumOf (ls : List Line) (s : Float) : Type 0 where
+  pub plain : Plain s
+  pub most : Most s (length ls * 137438953472) 1
+  pub all : AllUnder s ls
+  pub is : Units s (unitsOf s)
+  pub loss : sharesIn ls * 2 ^ 52 ≤ unitsOf s * 2 ^ 52 + 2 * (length ls * unitsOf s)
+
+pub sum-of : (ls : List Line) → length ls ≤ 32 → Goods ls → SumOf ls (shareSum ls)
+sum-of ls L g =
+    let r = summed-all ls L g in
+    let s = shareSum ls in
+    let u = share-units s (share-plain s (length ls * 137438953472) (r .acc .ok) (r .acc .plain) (r .acc .most)) in
+    record {
+      plain = r .acc .plain;
+      most = r .acc .most;
+      all = r .all;
+      is = u;
+      loss = subst (λ (k : ℕ). k * 2 ^ 52 ≤ unitsOf s * 2 ^ 52 + 2 * (length ls * unitsOf s)) (zero-add (sharesIn ls))
+          (shares-from ls 0 (length ls) zeroF 0 (unitsOf s) zero-acc refl g (sym (zero-add (length ls)))
+          (le-trans L (lit≤ {m = 32} {n = 64} tt)) u);
+    }
+
 -- ---- one person: t is x rounded, x is y less p, y is N times q, q is the share R by the sum S; g counts units, v of them make one
 -- minute. Each step is E or F parts, F one more than E
 
@@ -218,6 +243,25 @@ few-units n h =
     le-trans (add-le-add (mul-le-mul-right ((2 ^ 52 + 1) * (2 ^ 52 + 1)) h) (le-refl (2 ^ 52 * (2 ^ 52 + 1) + 2 ^ 52 * 2 ^ 52)))
     (lit≤ {m = 4000000000 * ((2 ^ 52 + 1) * (2 ^ 52 + 1)) + (2 ^ 52 * (2 ^ 52 + 1) + 2 ^ 52 * 2 ^ 52)} {n = 2 ^ 1074 * (2 ^ 52 * 2 ^ 52)} tt)
 
+-- a sum above 0 has units, any other sum has none
+pub units-some : (s : Float) (S : ℕ) → Plain s → lt zeroF s ≡ true → Units s S → 0 < S
+units-some nan S p z u = absurd p
+units-some (inf s) S p z u = absurd u
+units-some (fin true n d) S p z u = absurd (true≢false p)
+units-some (fin false n d) S p z u =
+    first-pos S (down d) (subst (λ (k : ℕ). 0 < k) u (mul-pos (mul-pos (positive n d z) (up-pos d)) (pow-pos 1074)))
+
+pub units-none : (s : Float) (S : ℕ) → Plain s → lt zeroF s ≡ false → Units s S → S ≡ 0
+unfolding lt
+units-none nan S p z u = absurd p
+units-none (inf s) S p z u = absurd u
+units-none (fin true n d) S p z u = absurd (true≢false p)
+units-none (fin false n d) S p z u =
+    let a : n * up d * 1 ≤ 0 * down d = ltb-false (0 * down d) (n * up d * 1) z in
+    let b : n * up d ≡ 0 = omega (arith, a) in
+    eq-of-mul-eq-mul-right (down d) (down-pos d) S 0
+    (sym u ∙ ap (λ (k : ℕ). k * 2 ^ 1074) b ∙ zero-mul (2 ^ 1074) ∙ sym (zero-mul (down d)))
+
 quotient-near : (s r : Float) (R S : ℕ) → Plain s → lt zeroF s ≡ true → Units r R → Units s S → Most (div binary64 r s) 1 1
     → Near (div binary64 r s) R S
 quotient-near nan r R S p z u w m = absurd p
@@ -226,9 +270,8 @@ quotient-near (fin true n d) r R S p z u w m = absurd (true≢false p)
 quotient-near (fin false n d) nan R S p z u w m = absurd u
 quotient-near (fin false n d) (inf t) R S p z u w m = absurd u
 quotient-near (fin false n d) (fin t a e) R S p z u w m =
-    let N = positive n d z in
-    let P = first-pos S (down d) (subst (λ (k : ℕ). 0 < k) w (mul-pos (mul-pos N (up-pos d)) (pow-pos 1074))) in
-    near (div binary64 (fin t a e) (fin false n d)) (unlike t false) R S 1 P (quotient-units t a e n d R S N P u w) m
+    let P = units-some (fin false n d) S p z w in
+    near (div binary64 (fin t a e) (fin false n d)) (unlike t false) R S 1 P (quotient-units t a e n d R S (positive n d z) P u w) m
 
 pub person-most : (n p : ℕ) (s r : Float) (S k : ℕ) → Plain s → Most s k 1 → lt zeroF s ≡ true → n ≤ 4000000000 → p ≤ 100000000
     → Under r s → Share r → Units s S → (x : Float) → x ≡ sub binary64 (mul binary64 (whole n) (div binary64 r s)) (whole p)
