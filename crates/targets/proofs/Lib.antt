@@ -16,6 +16,7 @@ pub mod Ends
 pub mod Minutes
 pub mod Accepted
 pub mod Promises
+pub mod Spread
 pub mod Fairness
 pub mod Work
 pub mod Cases
