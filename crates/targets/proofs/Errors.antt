@@ -99,7 +99,8 @@ fine : (n c : ℕ) → 0 < c → Fine (c * 2 ^ drop 53 n c) c n (2 ^ 52)
 fine n c C =
     ⊎-elim (λ (q : drop 53 n c ≡ 0). inl (ap (λ (k : ℕ). c * 2 ^ k) q ∙ mul-one c)) (λ h. inr h) (dropped n c C)
 
-grid-units : (a c : ℕ) → grid binary64 a c * c ≡ closest (a * 2 ^ 1074) (c * 2 ^ drop 53 (a * 2 ^ 1074) c) * (c * 2 ^ drop 53 (a * 2 ^ 1074) c)
+grid-units : (a c : ℕ)
+    → grid binary64 a c * c ≡ closest (a * 2 ^ 1074) (c * 2 ^ drop 53 (a * 2 ^ 1074) c) * (c * 2 ^ drop 53 (a * 2 ^ 1074) c)
 grid-units a c =
     let n = a * 2 ^ 1074 in
     let k = drop 53 n c in

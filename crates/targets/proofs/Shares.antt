@@ -4,27 +4,27 @@ use mathlib.Core.Path.{_≡_, refl, sym, ap, _∙_, subst}
 use mathlib.Core.Bool.{Bool, true, false, cond, true≢false}
 use mathlib.Core.List.{List, [], _∷_, foldl}
 use mathlib.Core.Logic.{⊎-elim}
-use Prim.Native.Nat.{ℕ, zero, suc, _+_, _-_, _*_, _/_, _^_, _≤_, _<_, zero-le}
-use native.Mathlib.Nat.{mul-one, one-mul, zero-mul, mul-comm, mul-assoc, mul-left-comm, mul-right-comm, add-mul, mul-add, suc-mul, zero-add, add-zero}
+use Prim.Native.Nat.{ℕ, suc, _+_, _-_, _*_, _/_, _^_, _≤_, _<_}
+use native.Mathlib.Nat.{mul-one, zero-mul, mul-comm, mul-assoc, mul-left-comm, mul-right-comm, add-mul, mul-add, suc-mul}
 use native.Mathlib.Nat.{mul-pos, mul-le-mul-right, mul-le-mul-left, le-of-mul-le-mul-right, mul-div-cancel, div-one}
-use native.Mathlib.Nat.{le-refl, le-trans, le-of-eq, le-add-right, add-le-add, add-assoc, two-mul, eq-of-mul-eq-mul-right}
+use native.Mathlib.Nat.{le-refl, le-trans, le-of-eq, le-add-right, add-le-add, add-assoc, zero-add, add-zero, two-mul, eq-of-mul-eq-mul-right}
 use native.Mathlib.Omega.{arith}
 use borrow.Author.Tests.{ltb-false}
-use lib.Dec.{T, lit≤}
+use lib.Dec.{lit≤}
 use lib.Pow.{pow-pos}
-use lib.IntN.{ℤ, pos, negsuc}
+use lib.IntN.{pos, negsuc}
 use lib.ListN.{length}
-use lib.Ieee.{Float, nan, inf, fin, binary64, add, sub, mul, div, lt, fits, up, down, unlike}
+use lib.Ieee.{Float, nan, inf, fin, binary64, add, sub, mul, div, lt, up, down, unlike}
 use lib.Ieee.Fits.{up-pos, down-pos}
 use lib.Ieee.Positive.{first-pos}
 use Rattle.paper.proofs.Logic.{lt-or-ge}
 use Rattle.targets.specs.declared.Line.{Line}
 use Rattle.targets.specs.Figures.{zeroF, whole}
-use Rattle.targets.specs.Passes.{rounded, unrounded, withShare, shareSum}
+use Rattle.targets.specs.Passes.{rounded, withShare, shareSum}
 use Rattle.targets.proofs.Nearest.{reach, exponent}
-use Rattle.targets.proofs.Floats.{Most, Plain, Share, Under, own-down, quotient, product, difference}
+use Rattle.targets.proofs.Floats.{Most, Plain, Share, Under, own-down}
 use Rattle.targets.proofs.Errors.{Units, Near, near, NearUnits, near-units, sum-units, product-units, quotient-units}
-use Rattle.targets.proofs.Errors.{Less, less-units, rounded-units}
+use Rattle.targets.proofs.Errors.{less-units, rounded-units}
 use Rattle.targets.proofs.Guard.{Acc, Goods, AllUnder, with-one, summed, zero-acc, summed-all, positive, whole-val, steps}
 use Rattle.targets.proofs.Never.{share-plain}
 
@@ -241,7 +241,8 @@ few-units : (n : ℕ) → n ≤ 4000000000
     → n * ((2 ^ 52 + 1) * (2 ^ 52 + 1)) + (2 ^ 52 * (2 ^ 52 + 1) + 2 ^ 52 * 2 ^ 52) ≤ 2 ^ 1074 * (2 ^ 52 * 2 ^ 52)
 few-units n h =
     le-trans (add-le-add (mul-le-mul-right ((2 ^ 52 + 1) * (2 ^ 52 + 1)) h) (le-refl (2 ^ 52 * (2 ^ 52 + 1) + 2 ^ 52 * 2 ^ 52)))
-    (lit≤ {m = 4000000000 * ((2 ^ 52 + 1) * (2 ^ 52 + 1)) + (2 ^ 52 * (2 ^ 52 + 1) + 2 ^ 52 * 2 ^ 52)} {n = 2 ^ 1074 * (2 ^ 52 * 2 ^ 52)} tt)
+    (lit≤ {m = 4000000000 * ((2 ^ 52 + 1) * (2 ^ 52 + 1)) + (2 ^ 52 * (2 ^ 52 + 1) + 2 ^ 52 * 2 ^ 52)} {n = 2 ^ 1074 * (2 ^ 52 * 2 ^ 52)}
+    tt)
 
 -- a sum above 0 has units, any other sum has none
 pub units-some : (s : Float) (S : ℕ) → Plain s → lt zeroF s ≡ true → Units s S → 0 < S

@@ -1,24 +1,38 @@
 -- The rounded targets go past demand by at most 65 minutes in all. So either no target is below 0, or every target is below 100 in size.
 -- Assumes nothing.
 use mathlib.Core.Path.{_≡_, refl, sym, ap, _∙_, subst}
-use mathlib.Core.Bool.{Bool, true, false, not, _&&_, _||_, cond, true≢false}
+use mathlib.Core.Bool.{Bool, true, false, not, _&&_, cond, true≢false}
 use mathlib.Core.List.{List, [], _∷_, _++_, map, foldl}
 use mathlib.Core.Logic.{_⊎_, inl, inr, ⊎-elim}
 use Prim.Native.Nat.{ℕ, zero, suc, _+_, _-_, _*_, _^_, _≤_, _<_, zero-le}
-use native.Mathlib.Nat.{mul-one, zero-mul, mul-zero, mul-comm, mul-assoc, mul-left-comm, add-mul, mul-add, suc-mul, add-assoc}
-use native.Mathlib.Nat.{mul-pos, mul-le-mul-right, mul-le-mul-left, le-of-mul-le-mul-right, le-refl, le-trans, le-of-eq}
+use native.Mathlib.Nat.{zero-mul, mul-zero, mul-comm, mul-assoc, mul-left-comm, add-mul, mul-add, suc-mul, add-assoc, add-zero, zero-add}
+use native.Mathlib.Nat.{mul-pos, mul-le-mul-right, mul-le-mul-left, le-of-mul-le-mul-right, le-trans, le-of-eq}
+use native.Mathlib.Nat.{lt-of-lt-of-le}
 use native.Mathlib.Omega.{arith}
-use lib.Dec.{lit≤}
-use lib.ListN.{length}
+use borrow.Author.Tests.{eqb-true, eqb-false}
+use lib.Dec.{eqb, lit≤}
+use lib.IntN.{ℤ, pos, negℤ, natAbs, _+ℤ_, _-ℤ_, +ℤ-assoc, +ℤ-idl, +ℤ-invr, +ℤ-negℤ-cancel, negℤ-+ℤ}
+use lib.ListN.{length, getD, length-map, List·getD-eq-default}
+use lib.Seq.{getD-set-same}
 use lib.Ieee.{Float, lt}
-use Rattle.paper.proofs.Logic.{neither}
+use Rattle.paper.proofs.Logic.{by-test, lt-or-ge, neither}
 use Rattle.targets.specs.declared.Line.{Line}
-use Rattle.targets.specs.Figures.{zeroF, whole}
-use Rattle.targets.specs.Passes.{rounded, unrounded, settled, settle, falls, some}
+use Rattle.targets.specs.Figures.{zeroF, whole, upTo, pad, personAt, lineOf}
+use Rattle.targets.specs.Passes.{rounded, unrounded, settled, settle, outside, falls, some, withPrior, shareSum, notional}
+use Rattle.targets.specs.Passes.{Passed, again, done, refused, passed, pass, passes, passesLeave}
+use Rattle.targets.specs.Remainder.{withTarget, totalOf, takerOf, Largest, targetOf, adjusted, are, closed}
+use Rattle.targets.specs.Outcome.{Given, demandIn, baseAt, linesIn, targetsIn}
+use Rattle.targets.specs.Code.{Sound}
+use Rattle.targets.proofs.Loops.{differ}
+use Rattle.targets.proofs.Taker.{taker-here, taker-takes}
+use Rattle.targets.proofs.Padding.{Len, len-passes}
 use Rattle.targets.proofs.Floats.{Most, Plain, Under}
-use Rattle.targets.proofs.Guard.{Good, Goods, AllUnder}
+use Rattle.targets.proofs.Guard.{Good, Goods, AllUnder, notional-most}
+use Rattle.targets.proofs.Never.{Fine, fine-pass}
 use Rattle.targets.proofs.Errors.{Units}
-use Rattle.targets.proofs.Shares.{unitsOf, units-under, sharesIn, AtMost, exactParts, roundedParts, units-some, person-most}
+use Rattle.targets.proofs.Shares.{unitsOf, share-units, units-under, units-some, units-none, sharesIn, SumOf, sum-of}
+use Rattle.targets.proofs.Shares.{AtMost, exactParts, roundedParts, person-most}
+use Rattle.targets.proofs.Promises.{demand-fits, people-in, people-few, goods-in, never-cut, other}
 
 -- ---- what a pass keeps of each line
 
@@ -173,3 +187,207 @@ total-most X n R S k P h N i j =
     (sum-parts X n R S k exactParts roundedParts (2 ^ 52) P h i (shares-most R S k (2 ^ 52) h j))
     (lit≤ {m = roundedParts * (2 ^ 52 + 64)} {n = exactParts * 2 ^ 52 + 2 ^ 163} tt)
     (le-trans (mul-le-mul-right (2 ^ 163) N) (lit≤ {m = 4000000000 * 2 ^ 163} {n = exactParts * 2 ^ 52} tt))
+
+-- ---- one pass, and all of them
+
+-- where the sum is not above 0 nobody unpinned has a share, so each target is at most 2
+few-left : (s : Float) (ls : List Line) → Units s 0 → Goods ls → AllUnder s ls → AllKept ls → addedUp ls ≤ 2 * length ls
+few-left s [] u g a h = zero-le
+few-left s (l ∷ ls) u g a h = let r = few-left s ls u (g .1) (a .1) (h .1) in omega (arith, r, few (l .pinned) refl)
+  where
+    few : (b : Bool) → l .pinned ≡ b → l .target ≤ 2
+    few true e = le-trans (le-of-eq (h .0 .pinned-none e)) zero-le
+    few false e =
+        h .0 .shareless-few e
+        (zero-only (units-under (l .raw) s (unitsOf (l .raw)) 0 (a .0 e) (share-units (l .raw) (g .0 .share)) u))
+      where
+        zero-only : {x : ℕ} → x ≤ 0 → x ≡ 0
+        zero-only z = omega arith
+
+notional-is : (ls : List Line) (d : ℕ) → notional d ls ≡ d + priorsIn ls
+notional-is [] d = sym (add-zero d)
+notional-is (l ∷ ls) d = notional-is ls (withPrior d l) ∙ ap (λ (z : ℕ). z + priorsIn ls) (go (l .pinned)) ∙ add-assoc d _ (priorsIn ls)
+  where
+    go : (b : Bool) → cond b d (d + l .person .prior) ≡ d + cond b 0 (l .person .prior)
+    go true = sym (add-zero d)
+    go false = refl
+
+-- what holds of the passes' lines: kept ones while a pass is due, and in the end also that the targets are at most demand and 65 more
+abbrev Spread : ℕ → Passed → Type 0
+Spread d (again ls) = AllKept ls
+Spread d (done ls) = AllKept ls × (addedUp ls ≤ d + 65)
+Spread d refused = Unit
+
+spread-passed : (d : ℕ) (ls : List Line) → d ≤ 100000000 → length ls ≤ 32 → Goods ls → AllKept ls
+    → Spread d (passed (whole (notional d ls)) (shareSum ls) ls)
+spread-passed d ls D F g h = go (lt zeroF s) (some (outside (whole n) s) ls) (some (falls (whole n) s) ls) refl refl
+  where
+    n : ℕ
+    n = notional d ls
+
+    s : Float
+    s = shareSum ls
+
+    k : ℕ
+    k = length ls * 137438953472
+
+    o : SumOf ls s
+    o = sum-of ls F g
+
+    N : n ≤ 4000000000
+    N = notional-most d ls D F g
+
+    new : List Line
+    new = map (settle (whole n) s) ls
+
+    kept : lt zeroF s ≡ true → AllKept new
+    kept z = all-kept n k s (unitsOf s) (o .plain) (o .most) z N (o .is) ls g (o .all) h
+
+    most : lt zeroF s ≡ true → some (falls (whole n) s) ls ≡ false → addedUp new ≤ d + 65
+    most z f =
+        let S = unitsOf s in
+        let x = lines-most n k s S (o .plain) (o .most) z N (o .is) ls g (o .all) h f in
+        let t = total-most (addedUp new + priorsIn ls) n (sharesIn ls) S (length ls) (units-some s S (o .plain) z (o .is)) F N x
+        (o .loss) in
+        omega (arith, t, notional-is ls d)
+
+    stop : lt zeroF s ≡ false → addedUp ls ≤ d + 65
+    stop z =
+        let u = subst (λ (j : ℕ). Units s j) (units-none s (unitsOf s) (o .plain) z (o .is)) (o .is) in
+        omega (arith, few-left s ls u g (o .all) h, F)
+
+    go : (a b c : Bool) → lt zeroF s ≡ a → some (falls (whole n) s) ls ≡ c
+        → Spread d (cond a (cond b refused (cond c (again new) (done new))) (done ls))
+    go false b c z f = (h, stop z)
+    go true true c z f = tt
+    go true false true z f = kept z
+    go true false false z f = (kept z, most z f)
+
+spread-pass : (d : ℕ) (p : Passed) → d ≤ 100000000 → Fine p → Spread d p → Spread d (pass d p)
+unfolding pass
+spread-pass d (again ls) D f h = spread-passed d ls D (f .0) (f .1) h
+spread-pass d (done ls) D f h = h
+spread-pass d refused D f h = tt
+
+spread-passes : (k d : ℕ) (p : Passed) → d ≤ 100000000 → Fine p → Spread d p → Spread d (passes k d p)
+unfolding passes
+spread-passes zero d p D f h = h
+spread-passes (suc k) d p D f h = spread-passes k d (pass d p) D (fine-pass d D p f) (spread-pass d p D f h)
+
+-- lines that are new
+new-kept : (f : ℕ → Line) (n : ℕ) → ((k : ℕ) → f k .target ≡ 0) → AllKept (upTo f n)
+new-kept f zero h = tt
+new-kept f (suc n) h =
+    kept-append (upTo f n) (f n ∷ []) (new-kept f n h)
+    (record { pinned-none = λ q. h n; shareless-few = λ q z. le-trans (le-of-eq (h n)) zero-le }, tt)
+  where
+    kept-append : (xs ys : List Line) → AllKept xs → AllKept ys → AllKept (xs ++ ys)
+    kept-append [] ys a b = b
+    kept-append (x ∷ xs) ys a b = (a .0, kept-append xs ys (a .1) b)
+
+-- ---- the remainder
+
+total-is : (ls : List Line) (a : ℕ) → foldl withTarget a ls ≡ a + addedUp ls
+total-is [] a = sym (add-zero a)
+total-is (l ∷ ls) a = total-is ls (a + l .target) ∙ add-assoc a (l .target) (addedUp ls)
+
+none-pinned : (ls : List Line) (j : ℕ) → AllKept ls → getD ls j pad .pinned ≡ true → getD ls j pad .target ≡ 0
+none-pinned [] j h e = refl
+none-pinned (l ∷ ls) zero h e = h .0 .pinned-none e
+none-pinned (l ∷ ls) (suc j) h e = none-pinned ls j (h .1) e
+
+-- nobody has more than who takes the remainder
+taker-most : (ls : List Line) (j : ℕ) → AllKept ls → getD ls j pad .target ≤ getD ls (takerOf ls) pad .target
+taker-most ls j h =
+    by-test (getD ls j pad .pinned) (getD ls j pad .target ≤ getD ls (takerOf ls) pad .target)
+    (λ e. le-trans (le-of-eq (none-pinned ls j h e)) zero-le)
+    (λ e.
+    ⊎-elim (λ (m : Largest ls (takerOf ls)). m .most j (here e) e) (λ m. absurd (true≢false (sym (m .0 j (here e)) ∙ e)))
+    (taker-takes ls))
+  where
+    here : getD ls j pad .pinned ≡ false → j < length ls
+    here e =
+        ⊎-elim (λ (l : j < length ls). l)
+        (λ (l : length ls ≤ j). absurd (true≢false (sym (ap (λ (x : Line). x .pinned) (List·getD-eq-default ls pad l)) ∙ e)))
+        (lt-or-ge j (length ls))
+
+-- a + (d - t): a whole number, or below 0 by what is missing
+not-missing : (a d t : ℕ) → t ≤ a + d → pos a +ℤ (pos d -ℤ pos t) ≡ pos (a + d - t)
+not-missing a d t h =
+    sym (+ℤ-assoc (pos a) (pos d) (negℤ (pos t))) ∙ ap (λ (z : ℕ). pos z -ℤ pos t) (sym back) ∙ +ℤ-negℤ-cancel (pos (a + d - t)) (pos t)
+  where
+    back : a + d - t + t ≡ a + d
+    back = omega arith
+
+missing : (a d t : ℕ) → a + d < t → pos a +ℤ (pos d -ℤ pos t) ≡ negℤ (pos (t - (a + d)))
+missing a d t h =
+    let r = t - (a + d) in
+    let b : a + d + r ≡ t = omega arith in
+    let x = pos (a + d) in
+    sym (+ℤ-assoc (pos a) (pos d) (negℤ (pos t)))
+    ∙ ap (λ (z : ℕ). x -ℤ pos z) (sym b)
+    ∙ ap (λ (z : ℤ). x +ℤ z) (negℤ-+ℤ x (pos r))
+    ∙ sym (+ℤ-assoc x (negℤ x) (negℤ (pos r)))
+    ∙ ap (λ (z : ℤ). z +ℤ negℤ (pos r)) (+ℤ-invr x)
+    ∙ +ℤ-idl (negℤ (pos r))
+
+size-neg : (r : ℕ) → natAbs (negℤ (pos r)) ≡ r
+size-neg zero = refl
+size-neg (suc r) = refl
+
+-- ---- each target is 0 or above; each is below n in size. A place past the people holds 0, so any k may be asked
+
+abbrev pub AllPlain : List ℤ → Type 0
+AllPlain zs = (k : ℕ) → getD zs k (pos 0) ≡ pos (natAbs (getD zs k (pos 0)))
+
+abbrev pub AllBelow : ℕ → List ℤ → Type 0
+AllBelow n zs = (k : ℕ) → natAbs (getD zs k (pos 0)) < n
+
+-- what holds of the taker's entry and of every other holds of each
+each-target : (d : ℕ) (ls : List Line) (Q : ℤ → Type 0) → 0 < length ls
+    → Q (pos (getD ls (takerOf ls) pad .target) +ℤ (pos d -ℤ pos (totalOf ls))) → ((k : ℕ) → Q (pos (getD ls k pad .target)))
+    → (k : ℕ) → Q (getD (adjusted d ls) k (pos 0))
+unfolding adjusted
+each-target d ls Q L t f k =
+    by-test (eqb k (takerOf ls)) (Q (getD (adjusted d ls) k (pos 0)))
+    (λ e.
+    subst Q
+    (sym (ap (λ (j : ℕ). getD (adjusted d ls) j (pos 0)) (eqb-true k (takerOf ls) e)
+    ∙ getD-set-same (map targetOf ls) (takerOf ls) _ (pos 0) (lt-of-lt-of-le (taker-here ls L) (le-of-eq (sym (length-map ls targetOf))))))
+    t)
+    (λ e. subst Q (sym (other d k ls (eqb-false k (takerOf ls) e))) (f k))
+
+plain-or-small : (d : ℕ) (ls : List Line) → 0 < length ls → AllKept ls → addedUp ls ≤ d + 65
+    → AllPlain (adjusted d ls) ⊎ AllBelow 100 (adjusted d ls)
+plain-or-small d ls L h m =
+    let top = getD ls (takerOf ls) pad .target in
+    let t = totalOf ls in
+    let q : t ≡ addedUp ls = total-is ls 0 ∙ zero-add (addedUp ls) in
+    ⊎-elim
+    (λ (l : top + d < t).
+    inr (each-target d ls (λ (z : ℤ). natAbs z < 100) L
+    (le-trans (le-of-eq (ap suc (ap natAbs (missing top d t l) ∙ size-neg (t - (top + d))))) (omega arith))
+    (λ k. omega (arith, taker-most ls k h, l, q, m))))
+    (λ (l : t ≤ top + d).
+    inl (each-target d ls (λ (z : ℤ). z ≡ pos (natAbs z)) L
+    (not-missing top d t l ∙ ap (λ (z : ℤ). pos (natAbs z)) (sym (not-missing top d t l))) (λ k. refl)))
+    (lt-or-ge (top + d) t)
+
+closed-spread : (d n : ℕ) (p : Passed) (zs : List ℤ) → 0 < n → Len n p → ((ms : List Line) → p ≡ again ms → ⊥) → Spread d p
+    → closed (adjusted d) p ≡ are zs → AllPlain zs ⊎ AllBelow 100 zs
+closed-spread d n (again ls) zs N l c h e = absurd (c ls refl)
+closed-spread d n (done ls) zs N l c h e =
+    let q : adjusted d ls ≡ zs = cc in
+    subst (λ (x : List ℤ). AllPlain x ⊎ AllBelow 100 x) q (plain-or-small d ls (omega arith) (h .0) (h .1))
+closed-spread d n refused zs N l c h e = let z : _≡_ {A = ℕ} 0 1 = cc in differ z
+
+-- no target is below 0, or all are small
+pub targets-plain-or-small : (g : Given) → Sound g → (zs : List ℤ) → targetsIn g ≡ are zs → AllPlain zs ⊎ AllBelow 100 zs
+targets-plain-or-small g s zs e =
+    let d = demandIn g in
+    let ls = linesIn g in
+    closed-spread d (g .people) (passesLeave d ls) zs (s .somebody) (len-passes (g .people) (suc (length ls)) d (again ls) (people-in g))
+    (never-cut g)
+    (spread-passes (suc (length ls)) d (again ls) (demand-fits g s) (people-few g s, goods-in g s)
+    (new-kept (λ (k : ℕ). lineOf (personAt (g .capacities) (g .priors) k) (baseAt g k)) (g .people) (λ k. refl)))
+    e
