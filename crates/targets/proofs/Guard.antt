@@ -19,6 +19,7 @@ use lib.Ieee.Positive.{first-pos}
 use Rattle.targets.specs.declared.Line.{Line}
 use Rattle.targets.specs.Figures.{zeroF, whole}
 use Rattle.targets.specs.Passes.{within, unrounded, outside, some, withShare, shareSum, withPrior, notional}
+use Rattle.targets.proofs.Loops.{Each}
 use Rattle.targets.proofs.Nearest.{held}
 use Rattle.targets.proofs.Floats.{Most, Plain, Share, Under, round-most, round-plain, quotient, product, difference, inside}
 use Rattle.targets.proofs.Floats.{under-round, under-refl, under-trans, add-plain}
@@ -90,12 +91,10 @@ pub record Good (l : Line) : Type 0 where
   pub prior : l .person .prior ≤ 100000000
 
 abbrev pub Goods : List Line → Type 0
-Goods [] = Unit
-Goods (l ∷ ls) = Good l × Goods ls
+Goods = Each Good
 
 abbrev pub AllUnder : Float → List Line → Type 0
-AllUnder s [] = Unit
-AllUnder s (l ∷ ls) = (l .pinned ≡ false → Under (l .raw) s) × AllUnder s ls
+AllUnder s = Each (λ (l : Line). l .pinned ≡ false → Under (l .raw) s)
 
 more-room : (k : ℕ) (x : Float) → Most x (k * 137438953472) 1 → Most x (suc k * 137438953472) 1
 more-room k nan h = h

@@ -2,7 +2,7 @@
 -- Assumes nothing.
 use mathlib.Core.Path.{_≡_, refl, sym, ap, _∙_}
 use mathlib.Core.Bool.{Bool, true, false, cond, true≢false}
-use mathlib.Core.List.{List, [], _∷_, _++_, map}
+use mathlib.Core.List.{List, [], _∷_, map}
 use Prim.Native.Nat.{ℕ, zero, suc, _*_, _^_, _≤_, _<_, zero-le}
 use native.Mathlib.Nat.{mul-one, zero-mul, mul-mul-mul-comm, mul-pos, mul-le-mul-right, mul-le-mul-left}
 use native.Mathlib.Nat.{le-trans, le-of-eq, zero-lt-suc}
@@ -16,7 +16,7 @@ use lib.Ieee.Exact.{HasValue}
 use lib.Ieee.Fits.{up-pos, down-pos, and-l, round-fits}
 use Rattle.targets.specs.declared.Line.{Line}
 use Rattle.targets.specs.declared.Person.{Person}
-use Rattle.targets.specs.Figures.{zeroF, whole, lineOf, upTo, figuresOk}
+use Rattle.targets.specs.Figures.{zeroF, whole, lineOf, figuresOk}
 use Rattle.targets.specs.Passes.{rounded, settled, settle, unrounded, outside, falls, some, shareSum, notional}
 use Rattle.targets.specs.Passes.{Passed, again, done, refused, passed, pass, passes, passesLeave}
 use Rattle.targets.specs.Remainder.{are, closed, targets, adjusted}
@@ -119,14 +119,6 @@ good-line p b f B =
     let v = whole-val b (le-trans B (lit≤ {m = 100000000} {n = 2 ^ 53} tt)) in
     let r = raw-of c (whole b) b B (cap-of c (held (h .0)) (held (h .1))) v in
     record { share = r .share; small = r .small; prior = leb-true (p .prior) 100000000 (h .2) }
-
-pub goods-upTo : (f : ℕ → Line) (n : ℕ) → ((k : ℕ) → k < n → Good (f k)) → Goods (upTo f n)
-goods-upTo f zero h = tt
-goods-upTo f (suc n) h = goods-append (upTo f n) (f n ∷ []) (goods-upTo f n (λ k l. h k (omega arith))) (h n (omega arith), tt)
-  where
-    goods-append : (xs ys : List Line) → Goods xs → Goods ys → Goods (xs ++ ys)
-    goods-append [] ys g k = k
-    goods-append (x ∷ xs) ys g k = (g .0, goods-append xs ys (g .1) k)
 
 -- ---- the passes
 

@@ -21,14 +21,14 @@ use Rattle.targets.specs.Remainder.{targetOf, adjusted, Targets, beyond,
 use Rattle.targets.specs.Outcome.{Given, checkNo, demandIn, baseAt, linesIn, targetsIn, Outcome, published, computeTargets}
 use Rattle.targets.specs.Outcome.{Meets, linesLeft, leftIn, takerIn}
 use Rattle.targets.specs.Code.{Sound}
-use Rattle.targets.proofs.Loops.{differ, length-upTo}
+use Rattle.targets.proofs.Loops.{differ, each-upTo, length-upTo}
 use Rattle.targets.proofs.Taker.{taker-takes}
 use Rattle.targets.proofs.Sums.{adds-up}
 use Rattle.targets.proofs.Padding.{Len, len-passes, LenT, len-targets}
 use Rattle.targets.proofs.Eight.{eight-exactly}
 use Rattle.targets.proofs.Ends.{passes-end}
-use Rattle.targets.proofs.Guard.{Goods}
-use Rattle.targets.proofs.Never.{good-line, goods-upTo, never-refused}
+use Rattle.targets.proofs.Guard.{Good, Goods}
+use Rattle.targets.proofs.Never.{good-line, never-refused}
 use Rattle.targets.proofs.Minutes.{available-fits}
 use Rattle.targets.proofs.Accepted.{accepted, check-not-eight}
 
@@ -74,7 +74,7 @@ base-fits g s k =
 pub goods-in : (g : Given) → Sound g → Goods (linesIn g)
 unfolding allFiguresOk
 goods-in g s =
-    goods-upTo (λ (k : ℕ). lineOf (personAt (g .capacities) (g .priors) k) (baseAt g k)) (g .people)
+    each-upTo Good (λ (k : ℕ). lineOf (personAt (g .capacities) (g .priors) k) (baseAt g k)) (g .people)
     (λ k h. good-line (personAt (g .capacities) (g .priors) k) (baseAt g k)
     (all-each (g .people) (figuresOkAt (g .capacities) (g .priors)) (s .figures) k h) (base-fits g s k))
 

@@ -7,7 +7,8 @@ use mathlib.Core.Logic.{⊎-elim}
 use Prim.Native.Nat.{ℕ, suc, _+_, _-_, _*_, _/_, _^_, _≤_, _<_}
 use native.Mathlib.Nat.{mul-one, zero-mul, mul-comm, mul-assoc, mul-left-comm, mul-right-comm, add-mul, mul-add, suc-mul}
 use native.Mathlib.Nat.{mul-pos, mul-le-mul-right, mul-le-mul-left, le-of-mul-le-mul-right, mul-div-cancel, div-one}
-use native.Mathlib.Nat.{le-refl, le-trans, le-of-eq, le-add-right, add-le-add, add-assoc, zero-add, add-zero, two-mul, eq-of-mul-eq-mul-right}
+use native.Mathlib.Nat.{le-refl, le-trans, le-of-eq, le-add-right, add-le-add, add-assoc, zero-add, add-zero, two-mul}
+use native.Mathlib.Nat.{eq-of-mul-eq-mul-right}
 use native.Mathlib.Omega.{arith}
 use borrow.Author.Tests.{ltb-false}
 use lib.Dec.{lit≤}

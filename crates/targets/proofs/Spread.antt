@@ -2,7 +2,7 @@
 -- Assumes nothing.
 use mathlib.Core.Path.{_≡_, refl, sym, ap, _∙_, subst}
 use mathlib.Core.Bool.{Bool, true, false, not, _&&_, cond, true≢false}
-use mathlib.Core.List.{List, [], _∷_, _++_, map, foldl}
+use mathlib.Core.List.{List, [], _∷_, map, foldl}
 use mathlib.Core.Logic.{_⊎_, inl, inr, ⊎-elim}
 use Prim.Native.Nat.{ℕ, zero, suc, _+_, _-_, _*_, _^_, _≤_, _<_, zero-le}
 use native.Mathlib.Nat.{zero-mul, mul-zero, mul-comm, mul-assoc, mul-left-comm, add-mul, mul-add, suc-mul, add-assoc, add-zero, zero-add}
@@ -17,13 +17,13 @@ use lib.Seq.{getD-set-same}
 use lib.Ieee.{Float, lt}
 use Rattle.paper.proofs.Logic.{by-test, lt-or-ge, neither}
 use Rattle.targets.specs.declared.Line.{Line}
-use Rattle.targets.specs.Figures.{zeroF, whole, upTo, pad, personAt, lineOf}
+use Rattle.targets.specs.Figures.{zeroF, whole, pad, personAt, lineOf}
 use Rattle.targets.specs.Passes.{rounded, unrounded, settled, settle, outside, falls, some, withPrior, shareSum, notional}
 use Rattle.targets.specs.Passes.{Passed, again, done, refused, passed, pass, passes, passesLeave}
 use Rattle.targets.specs.Remainder.{withTarget, totalOf, takerOf, Largest, targetOf, adjusted, are, closed}
 use Rattle.targets.specs.Outcome.{Given, demandIn, baseAt, linesIn, targetsIn}
 use Rattle.targets.specs.Code.{Sound}
-use Rattle.targets.proofs.Loops.{differ}
+use Rattle.targets.proofs.Loops.{differ, Each, each-upTo}
 use Rattle.targets.proofs.Taker.{taker-here, taker-takes}
 use Rattle.targets.proofs.Padding.{Len, len-passes}
 use Rattle.targets.proofs.Floats.{Most, Plain, Under}
@@ -42,8 +42,7 @@ pub record Kept (l : Line) : Type 0 where
   pub shareless-few : l .pinned ≡ false → unitsOf (l .raw) ≡ 0 → l .target ≤ 2
 
 abbrev pub AllKept : List Line → Type 0
-AllKept [] = Unit
-AllKept (l ∷ ls) = Kept l × AllKept ls
+AllKept = Each Kept
 
 -- the targets, and the prior minutes of the unpinned
 abbrev pub addedUp : List Line → ℕ
@@ -274,16 +273,9 @@ unfolding passes
 spread-passes zero d p D f h = h
 spread-passes (suc k) d p D f h = spread-passes k d (pass d p) D (fine-pass d D p f) (spread-pass d p D f h)
 
--- lines that are new
-new-kept : (f : ℕ → Line) (n : ℕ) → ((k : ℕ) → f k .target ≡ 0) → AllKept (upTo f n)
-new-kept f zero h = tt
-new-kept f (suc n) h =
-    kept-append (upTo f n) (f n ∷ []) (new-kept f n h)
-    (record { pinned-none = λ q. h n; shareless-few = λ q z. le-trans (le-of-eq (h n)) zero-le }, tt)
-  where
-    kept-append : (xs ys : List Line) → AllKept xs → AllKept ys → AllKept (xs ++ ys)
-    kept-append [] ys a b = b
-    kept-append (x ∷ xs) ys a b = (a .0, kept-append xs ys (a .1) b)
+-- a line that is new
+new-kept : (l : Line) → l .target ≡ 0 → Kept l
+new-kept l h = record { pinned-none = λ q. h; shareless-few = λ q z. le-trans (le-of-eq h) zero-le }
 
 -- ---- the remainder
 
@@ -386,8 +378,9 @@ pub targets-plain-or-small : (g : Given) → Sound g → (zs : List ℤ) → tar
 targets-plain-or-small g s zs e =
     let d = demandIn g in
     let ls = linesIn g in
+    let line : ℕ → Line = λ (k : ℕ). lineOf (personAt (g .capacities) (g .priors) k) (baseAt g k) in
     closed-spread d (g .people) (passesLeave d ls) zs (s .somebody) (len-passes (g .people) (suc (length ls)) d (again ls) (people-in g))
     (never-cut g)
     (spread-passes (suc (length ls)) d (again ls) (demand-fits g s) (people-few g s, goods-in g s)
-    (new-kept (λ (k : ℕ). lineOf (personAt (g .capacities) (g .priors) k) (baseAt g k)) (g .people) (λ k. refl)))
+    (each-upTo Kept line (g .people) (λ k h. new-kept (line k) refl)))
     e
