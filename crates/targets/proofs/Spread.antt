@@ -12,8 +12,8 @@ use native.Mathlib.Omega.{arith}
 use borrow.Author.Tests.{eqb-true, eqb-false}
 use lib.Dec.{eqb, lit≤}
 use lib.IntN.{ℤ, pos, negℤ, natAbs, _+ℤ_, _-ℤ_, +ℤ-assoc, +ℤ-idl, +ℤ-invr, +ℤ-negℤ-cancel, negℤ-+ℤ}
-use lib.ListN.{length, getD, length-map, List·getD-eq-default}
-use lib.Seq.{getD-set-same}
+use lib.ListN.{length, getD, take, drop, length-map, List·getD-eq-default}
+use lib.Seq.{getD-set-same, take-at}
 use lib.Ieee.{Float, lt}
 use Rattle.paper.proofs.Logic.{by-test, lt-or-ge, neither}
 use Rattle.targets.specs.declared.Line.{Line}
@@ -21,7 +21,7 @@ use Rattle.targets.specs.Figures.{zeroF, whole, pad, personAt, lineOf}
 use Rattle.targets.specs.Passes.{rounded, unrounded, settled, settle, outside, falls, some, withPrior, shareSum, notional}
 use Rattle.targets.specs.Passes.{Passed, again, done, refused, passed, pass, passes, passesLeave}
 use Rattle.targets.specs.Remainder.{withTarget, totalOf, takerOf, Largest, targetOf, adjusted, are, closed}
-use Rattle.targets.specs.Outcome.{Given, demandIn, baseAt, linesIn, targetsIn}
+use Rattle.targets.specs.Outcome.{Given, demandIn, baseAt, linesIn, targetsIn, computeTargets}
 use Rattle.targets.specs.Code.{Sound}
 use Rattle.targets.proofs.Loops.{differ, Each, each-upTo}
 use Rattle.targets.proofs.Taker.{taker-here, taker-takes}
@@ -33,6 +33,8 @@ use Rattle.targets.proofs.Errors.{Units}
 use Rattle.targets.proofs.Shares.{unitsOf, share-units, units-under, units-some, units-none, sharesIn, SumOf, sum-of}
 use Rattle.targets.proofs.Shares.{AtMost, exactParts, roundedParts, person-most}
 use Rattle.targets.proofs.Promises.{demand-fits, people-in, people-few, goods-in, never-cut, other}
+use Rattle.targets.proofs.Promises.{number-is, accepted-holds}
+use Rattle.targets.proofs.Accepted.{accepted}
 
 -- ---- what a pass keeps of each line
 
@@ -384,3 +386,13 @@ targets-plain-or-small g s zs e =
     (spread-passes (suc (length ls)) d (again ls) (demand-fits g s) (people-few g s, goods-in g s)
     (each-upTo Kept line (g .people) (λ k h. new-kept (line k) refl)))
     e
+
+-- the same of what the buffer holds, accepted
+pub accepted-plain-or-small : (g : Given) (out : List ℤ) → computeTargets g out .number ≡ 0
+    → let zs = take (g .people) (computeTargets g out .out) in AllPlain zs ⊎ AllBelow 100 zs
+accepted-plain-or-small g out e =
+    let h = accepted-holds g out e in
+    let s = accepted g (length out) (sym (number-is g out) ∙ e) .sound in
+    subst (λ (x : List ℤ). AllPlain x ⊎ AllBelow 100 x)
+    (sym (ap (take (g .people)) (h .is) ∙ take-at (h .zs) (drop (g .people) out) (g .people) (h .count)))
+    (targets-plain-or-small g s (h .zs) (h .these))
