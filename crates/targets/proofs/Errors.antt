@@ -60,17 +60,17 @@ dropped n c C =
 -- ---- a / c rounded is g units, where n / c of them would be exact and u / c is what the last kept digit stands for
 
 -- nothing is dropped, or u is at most one part in E of n
-abbrev Fine : ℕ → ℕ → ℕ → ℕ → Type 0
-Fine u c n E = (u ≡ c) ⊎ (u * E ≤ n)
+abbrev Slight : ℕ → ℕ → ℕ → ℕ → Type 0
+Slight u c n E = (u ≡ c) ⊎ (u * E ≤ n)
 
-over-by : (g c u n E : ℕ) → g * c ≤ n + u → Fine u c n E → g * c * E ≤ n * (E + 1) + c * E
+over-by : (g c u n E : ℕ) → g * c ≤ n + u → Slight u c n E → g * c * E ≤ n * (E + 1) + c * E
 over-by g c u n E h f =
     let a : g * c * E ≤ n * E + u * E = le-trans (mul-le-mul-right E h) (le-of-eq (add-mul n u E)) in
     let b : n * (E + 1) ≡ n * E + n = mul-add n E 1 ∙ ap (λ (z : ℕ). n * E + z) (mul-one n) in
     ⊎-elim (λ (q : u ≡ c). omega (arith, a, b, ap (λ (z : ℕ). z * E) q)) (λ (q : u * E ≤ n). omega (arith, a, b, q)) f
 
--- where c is a unit's v, and n is w of them
-under-by : (g v u w E : ℕ) → 0 < v → w * v < g * v + u → Fine u v (w * v) E → w * E ≤ g * E + w
+-- where c is v, the units in 1, and n / v is w of them
+under-by : (g v u w E : ℕ) → 0 < v → w * v < g * v + u → Slight u v (w * v) E → w * E ≤ g * E + w
 under-by g v u w E P h (inl q) =
     let a : w * v < (g + 1) * v = lt-of-lt-of-le h (le-of-eq (sum q)) in
     let b : w * E ≤ g * E = mul-le-mul-right E (le-of-lt-suc (lt-of-mul-lt-mul-right v a)) in
@@ -95,8 +95,8 @@ under-by g v u w E P h (inr q) = le-of-mul-le-mul-right (le-trans (le-of-eq left
         = le-trans (mul-le-mul-right E (le-of-lt h)) (le-of-eq (add-mul (g * v) u E)) in
         omega (arith, a, q)
 
-fine : (n c : ℕ) → 0 < c → Fine (c * 2 ^ drop 53 n c) c n (2 ^ 52)
-fine n c C =
+slight : (n c : ℕ) → 0 < c → Slight (c * 2 ^ drop 53 n c) c n (2 ^ 52)
+slight n c C =
     ⊎-elim (λ (q : drop 53 n c ≡ 0). inl (ap (λ (k : ℕ). c * 2 ^ k) q ∙ mul-one c)) (λ h. inr h) (dropped n c C)
 
 grid-units : (a c : ℕ)
@@ -111,7 +111,7 @@ grid-over : (a c : ℕ) → 0 < c → grid binary64 a c * c * 2 ^ 52 ≤ a * 2 ^
 grid-over a c C =
     let n = a * 2 ^ 1074 in
     let u = c * 2 ^ drop 53 n c in
-    over-by (grid binary64 a c) c u n (2 ^ 52) (le-trans (le-of-eq (grid-units a c)) (closest-over n u)) (fine n c C)
+    over-by (grid binary64 a c) c u n (2 ^ 52) (le-trans (le-of-eq (grid-units a c)) (closest-over n u)) (slight n c C)
 
 grid-under : (w : ℕ) → w * 2 ^ 52 ≤ grid binary64 w (2 ^ 1074) * 2 ^ 52 + w
 grid-under w =
@@ -121,7 +121,7 @@ grid-under w =
     under-by (grid binary64 w v) v u w (2 ^ 52) (pow-pos 1074)
     (lt-of-lt-of-le (closest-under n u (mul-pos (pow-pos 1074) (pow-pos (drop 53 n v))))
     (le-of-eq (ap (λ (z : ℕ). z + u) (sym (grid-units w v)))))
-    (fine n v (pow-pos 1074))
+    (slight n v (pow-pos 1074))
 
 -- ---- the same of a float
 

@@ -134,11 +134,11 @@ settled-good x l g = go (l .pinned) (lt x zeroF)
     go false true = record { share = g .share; small = g .small; prior = g .prior }
     go false false = record { share = g .share; small = g .small; prior = g .prior }
 
-pub goods-map : (n s : Float) (ls : List Line) → Goods ls → Goods (map (settle n s) ls)
+goods-map : (n s : Float) (ls : List Line) → Goods ls → Goods (map (settle n s) ls)
 goods-map n s [] g = tt
 goods-map n s (l ∷ ls) g = (settled-good (unrounded n s l) l (g .0), goods-map n s ls (g .1))
 
--- as many people as may be, whose figures pass
+-- at most 32 people, whose figures pass
 abbrev pub Fine : Passed → Type 0
 Fine (again ls) = (length ls ≤ 32) × Goods ls
 Fine (done ls) = (length ls ≤ 32) × Goods ls

@@ -227,14 +227,14 @@ person-by t p n R S gq gy gx v E F P h1 h2 h3 h4 h5 =
         ap (λ (z : ℕ). n * R * (F * F * F) * v + 2 * z * v) (simp (mul-assoc, mul-comm, mul-left-comm))
         ∙ sym (add-mul (n * R * (F * F * F)) (2 * (S * (E * E * E))) v)
 
--- of the floats: S units are the sum of the shares, and what the person gets is not below 0
+-- three roundings, each of one part in 2 ^ 52: the parts before, and after
 abbrev pub exactParts : ℕ
 exactParts = 2 ^ 52 * 2 ^ 52 * 2 ^ 52
 
 abbrev pub roundedParts : ℕ
 roundedParts = (2 ^ 52 + 1) * (2 ^ 52 + 1) * (2 ^ 52 + 1)
 
--- at most t with p, for a share of R units
+-- t and the prior minutes p are at most n times the share R by the sum S, rounding allowed for, and two minutes more
 abbrev pub AtMost : (t p n R S : ℕ) → Type 0
 AtMost t p n R S = (t + p) * (S * exactParts) ≤ n * R * roundedParts + 2 * (S * exactParts)
 
