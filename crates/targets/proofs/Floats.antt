@@ -59,7 +59,7 @@ units-neg f q k = go (ltb (q * 2 ^ k) (2 ^ (low f + suc (emax f)))) q
     go true (suc q) = refl
     go false q = refl
 
-round-neg : (f : Format) (a b : ℕ) → round f true a b ≡ neg (round f false a b)
+pub round-neg : (f : Format) (a b : ℕ) → round f true a b ≡ neg (round f false a b)
 unfolding round
 round-neg f a b = units-neg f _ _
 
@@ -201,7 +201,7 @@ own-up m k l = simp (mul-one, pow-add, mul-assoc)
 own-by : (m k t : ℕ) → m * 1 * 2 ^ (suc k + t) ≡ m * 2 ^ t * 2 ^ suc k
 own-by m k t = simp (mul-one, pow-add, mul-assoc, mul-comm)
 
-own-down : (m k l : ℕ) → k < l → m * 1 * 2 ^ l ≡ m * 2 ^ (l - suc k) * 2 ^ suc k
+pub own-down : (m k l : ℕ) → k < l → m * 1 * 2 ^ l ≡ m * 2 ^ (l - suc k) * 2 ^ suc k
 own-down m k l h =
     let e : suc k + (l - suc k) ≡ l = omega arith in
     subst (λ (z : ℕ). m * 1 * 2 ^ z ≡ m * 2 ^ (l - suc k) * 2 ^ suc k) e (own-by m k (l - suc k))

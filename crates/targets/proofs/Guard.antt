@@ -19,6 +19,7 @@ use lib.Ieee.Positive.{first-pos}
 use Rattle.targets.specs.declared.Line.{Line}
 use Rattle.targets.specs.Figures.{zeroF, whole}
 use Rattle.targets.specs.Passes.{within, unrounded, outside, some, withShare, shareSum, withPrior, notional}
+use Rattle.targets.proofs.Loops.{Each}
 use Rattle.targets.proofs.Nearest.{held}
 use Rattle.targets.proofs.Floats.{Most, Plain, Share, Under, round-most, round-plain, quotient, product, difference, inside}
 use Rattle.targets.proofs.Floats.{under-round, under-refl, under-trans, add-plain}
@@ -90,12 +91,10 @@ pub record Good (l : Line) : Type 0 where
   pub prior : l .person .prior ≤ 100000000
 
 abbrev pub Goods : List Line → Type 0
-Goods [] = Unit
-Goods (l ∷ ls) = Good l × Goods ls
+Goods = Each Good
 
-abbrev AllUnder : Float → List Line → Type 0
-AllUnder s [] = Unit
-AllUnder s (l ∷ ls) = (l .pinned ≡ false → Under (l .raw) s) × AllUnder s ls
+abbrev pub AllUnder : Float → List Line → Type 0
+AllUnder s = Each (λ (l : Line). l .pinned ≡ false → Under (l .raw) s)
 
 more-room : (k : ℕ) (x : Float) → Most x (k * 137438953472) 1 → Most x (suc k * 137438953472) 1
 more-room k nan h = h
@@ -108,7 +107,7 @@ pub record With (k : ℕ) (b : Bool) (x y z : Float) : Type 0 where
   pub left : Under x z
   pub right : b ≡ false → Under y z
 
-with-one : (b : Bool) (k : ℕ) (x y : Float) → suc k ≤ 64 → Acc k x → Share y → Most y 137438953472 1
+pub with-one : (b : Bool) (k : ℕ) (x y : Float) → suc k ≤ 64 → Acc k x → Share y → Most y 137438953472 1
     → With (suc k) b x y (cond b x (add binary64 x y))
 with-one true k x y K a h l = record {
   acc = record { plain = a .plain; ok = a .ok; most = more-room k x (a .most) };
@@ -122,7 +121,7 @@ pub record Summed (k : ℕ) (x s : Float) (ls : List Line) : Type 0 where
   pub from : Under x s
   pub all : AllUnder s ls
 
-summed : (ls : List Line) (k n : ℕ) (x : Float) → Acc k x → Goods ls → n ≡ k + length ls → n ≤ 64 → Summed n x (foldl withShare x ls) ls
+pub summed : (ls : List Line) (k n : ℕ) (x : Float) → Acc k x → Goods ls → n ≡ k + length ls → n ≤ 64 → Summed n x (foldl withShare x ls) ls
 summed [] k n x a g e h = record {
   acc = subst (λ (j : ℕ). Acc j x) (sym (e ∙ add-zero k)) a;
   from = under-refl x (k * 137438953472) 1 (a .most);
@@ -158,25 +157,34 @@ pub whole-val : (n : ℕ) → n ≤ 2 ^ 53 → HasValue (whole n) false n 1
 unfolding ofInt
 whole-val n h = round-whole binary64 false n h
 
-kept-at : (n p : ℕ) (s r : Float) (k : ℕ) → Plain s → Most s k 1 → lt zeroF s ≡ true → n ≤ 4000000000 → p ≤ 100000000 → Under r s
-    → within (sub binary64 (mul binary64 (whole n) (div binary64 r s)) (whole p)) ≡ true
-kept-at n p nan r k q m z N P u = absurd q
-kept-at n p (inf s) r k q m z N P u = absurd m
-kept-at n p (fin true v g) r k q m z N P u = absurd (true≢false q)
-kept-at n p (fin false v g) nan k q m z N P u = absurd u
-kept-at n p (fin false v g) (inf t) k q m z N P u = absurd u
-kept-at n p (fin false v g) (fin t r e) k q m z N P u =
+-- the quotient, the product and the difference of one person are bounded
+pub record Steps (n p : ℕ) (s r : Float) : Type 0 where
+  pub quotient-most : Most (div binary64 r s) 1 1
+  pub product-most : Most (mul binary64 (whole n) (div binary64 r s)) n 1
+  pub difference-most : Most (sub binary64 (mul binary64 (whole n) (div binary64 r s)) (whole p)) (n + p) 1
+
+pub steps : (n p : ℕ) (s r : Float) (k : ℕ) → Plain s → Most s k 1 → lt zeroF s ≡ true → n ≤ 4000000000 → p ≤ 100000000 → Under r s
+    → Steps n p s r
+steps n p nan r k q m z N P u = absurd q
+steps n p (inf s) r k q m z N P u = absurd m
+steps n p (fin true v g) r k q m z N P u = absurd (true≢false q)
+steps n p (fin false v g) nan k q m z N P u = absurd u
+steps n p (fin false v g) (inf t) k q m z N P u = absurd u
+steps n p (fin false v g) (fin t r e) k q m z N P u =
     let a : n ≤ 2 ^ 53 = le-trans N (lit≤ {m = 4000000000} {n = 2 ^ 53} tt) in
     let b : p ≤ 2 ^ 53 = le-trans P (lit≤ {m = 100000000} {n = 2 ^ 53} tt) in
     let c : n + p ≤ 2 ^ 53 = le-trans (add-le-add N P) (lit≤ {m = 4100000000} {n = 2 ^ 53} tt) in
     let q = div binary64 (fin t r e) (fin false v g) in
     let x = mul binary64 (whole n) q in
-    let y : Most x n 1 = product (whole n) q n (whole-val n a) a (quotient t r e v g (positive v g z) u) in
-    inside (sub binary64 x (whole p)) (n + p) (difference x (whole p) n p y (whole-val p b) c) (omega arith)
+    let i = quotient t r e v g (positive v g z) u in
+    let j = product (whole n) q n (whole-val n a) a i in
+    record { quotient-most = i; product-most = j; difference-most = difference x (whole p) n p j (whole-val p b) c }
 
 kept : (n : ℕ) (s : Float) (k : ℕ) (l : Line) → Plain s → Most s k 1 → lt zeroF s ≡ true → n ≤ 4000000000 → Good l
     → Under (l .raw) s → within (unrounded (whole n) s l) ≡ true
-kept n s k l p m z h g u = kept-at n (l .person .prior) s (l .raw) k p m z h (g .prior) u
+kept n s k l p m z h g u =
+    inside (unrounded (whole n) s l) (n + l .person .prior) (steps n (l .person .prior) s (l .raw) k p m z h (g .prior) u .difference-most)
+    (omega (arith, h, g .prior))
 
 none-outside : (n : ℕ) (s : Float) (k : ℕ) (ls : List Line) → Plain s → Most s k 1 → lt zeroF s ≡ true → n ≤ 4000000000
     → Goods ls → AllUnder s ls → some (outside (whole n) s) ls ≡ false
@@ -190,14 +198,22 @@ none-outside n s k (l ∷ ls) p m z h g u =
     go false true r t e = e
     go false false r t e = absurd (true≢false (sym (t refl)))
 
-zero-acc : Acc 0 zeroF
+pub zero-acc : Acc 0 zeroF
 unfolding fits
 zero-acc = record { plain = refl; ok = tt; most = le-refl 0 }
+
+-- the sum of the shares of such people
+pub summed-all : (ls : List Line) → length ls ≤ 32 → Goods ls → Summed (length ls) zeroF (shareSum ls) ls
+summed-all ls L g = summed ls 0 (length ls) zeroF zero-acc g (sym (zero-add (length ls))) (le-trans L (lit≤ {m = 32} {n = 64} tt))
+
+-- N is below 2 ^ 32
+pub notional-most : (d : ℕ) (ls : List Line) → d ≤ 100000000 → length ls ≤ 32 → Goods ls → notional d ls ≤ 4000000000
+notional-most d ls D L g = omega (arith, priors-most ls d g)
 
 -- no pass over such people is refused
 pub never-outside : (d : ℕ) (ls : List Line) → d ≤ 100000000 → length ls ≤ 32 → Goods ls → lt zeroF (shareSum ls) ≡ true
     → some (outside (whole (notional d ls)) (shareSum ls)) ls ≡ false
 never-outside d ls D L g z =
-    let r = summed ls 0 (length ls) zeroF zero-acc g (sym (zero-add (length ls))) (le-trans L (lit≤ {m = 32} {n = 64} tt)) in
-    let N : notional d ls ≤ 4000000000 = omega (arith, priors-most ls d g) in
-    none-outside (notional d ls) (shareSum ls) (length ls * 137438953472) ls (r .acc .plain) (r .acc .most) z N g (r .all)
+    let r = summed-all ls L g in
+    none-outside (notional d ls) (shareSum ls) (length ls * 137438953472) ls (r .acc .plain) (r .acc .most) z (notional-most d ls D L g) g
+    (r .all)

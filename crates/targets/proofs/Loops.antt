@@ -47,6 +47,21 @@ module _ (p : Line → Bool) {z : Bool} (ls : List Line) (i : ℕ) where
   pub nowhere : some p (drop i ls) ≡ z → length ls ≤ i → false ≡ z
   nowhere h l = rw (drop-of-length-le ls l) at h
 
+-- ---- what holds of each line
+
+abbrev pub Each : (Line → Type 0) → List Line → Type 0
+Each P [] = Unit
+Each P (l ∷ ls) = P l × Each P ls
+
+each-append : (P : Line → Type 0) (xs ys : List Line) → Each P xs → Each P ys → Each P (xs ++ ys)
+each-append P [] ys h k = k
+each-append P (x ∷ xs) ys h k = (h .0, each-append P xs ys (h .1) k)
+
+pub each-upTo : (P : Line → Type 0) (f : ℕ → Line) (n : ℕ) → ((k : ℕ) → k < n → P (f k)) → Each P (upTo f n)
+each-upTo P f zero h = tt
+each-upTo P f (suc n) h =
+    each-append P (upTo f n) (f n ∷ []) (each-upTo P f n (λ k l. h k (omega arith))) (h n (omega arith), tt)
+
 -- where no line passes, none at any place does
 pub none-passes : (p : Line → Bool) (ls : List Line) (i : ℕ) (d : Line) → some p ls ≡ false → i < length ls → p (getD ls i d) ≡ false
 none-passes p [] i d h l = absurd (not-suc-le-zero l)

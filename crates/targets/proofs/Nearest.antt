@@ -226,7 +226,7 @@ doubled s m e f h =
 -- ---- of an x that fits, is not below zero and is in the guard: what the cast asks, and what half of its result plus one is
 
 -- it is 0 if it has the sign
-no-sign : (s : Bool) (m : ℕ) (e : ℤ) → lt (fin s m e) zeroF ≡ false → s ≡ true → m * up e * 2 ≡ 0
+pub no-sign : (s : Bool) (m : ℕ) (e : ℤ) → lt (fin s m e) zeroF ≡ false → s ≡ true → m * up e * 2 ≡ 0
 unfolding lt
 no-sign true m e z t = omega (arith, nltb→le 0 (m * up e * 1 + 0 * down e) (held (ap not z)))
 no-sign false m e z t = absurd (true≢false (sym t))

@@ -2,7 +2,7 @@
 -- Assumes nothing.
 use mathlib.Core.Path.{_≡_, refl, sym, ap, _∙_}
 use mathlib.Core.Bool.{Bool, true, false, cond, true≢false}
-use mathlib.Core.List.{List, [], _∷_, _++_, map}
+use mathlib.Core.List.{List, [], _∷_, map}
 use Prim.Native.Nat.{ℕ, zero, suc, _*_, _^_, _≤_, _<_, zero-le}
 use native.Mathlib.Nat.{mul-one, zero-mul, mul-mul-mul-comm, mul-pos, mul-le-mul-right, mul-le-mul-left}
 use native.Mathlib.Nat.{le-trans, le-of-eq, zero-lt-suc}
@@ -16,7 +16,7 @@ use lib.Ieee.Exact.{HasValue}
 use lib.Ieee.Fits.{up-pos, down-pos, and-l, round-fits}
 use Rattle.targets.specs.declared.Line.{Line}
 use Rattle.targets.specs.declared.Person.{Person}
-use Rattle.targets.specs.Figures.{zeroF, whole, lineOf, upTo, figuresOk}
+use Rattle.targets.specs.Figures.{zeroF, whole, lineOf, figuresOk}
 use Rattle.targets.specs.Passes.{rounded, settled, settle, unrounded, outside, falls, some, shareSum, notional}
 use Rattle.targets.specs.Passes.{Passed, again, done, refused, passed, pass, passes, passesLeave}
 use Rattle.targets.specs.Remainder.{are, closed, targets, adjusted}
@@ -44,7 +44,7 @@ cap-of (fin true m e) a b =
     (omega arith, λ t. omega arith)
 cap-of (fin false m e) a b = (le-cross m 125 e (pos 3) b, λ t. absurd (true≢false (sym t)))
 
-share-plain : (x : Float) (k : ℕ) → T (fits binary64 x) → Plain x → Most x k 1 → Share x
+pub share-plain : (x : Float) (k : ℕ) → T (fits binary64 x) → Plain x → Most x k 1 → Share x
 share-plain nan k f p h = h
 share-plain (inf s) k f p h = h
 share-plain (fin true m e) k f p h = absurd (true≢false p)
@@ -120,14 +120,6 @@ good-line p b f B =
     let r = raw-of c (whole b) b B (cap-of c (held (h .0)) (held (h .1))) v in
     record { share = r .share; small = r .small; prior = leb-true (p .prior) 100000000 (h .2) }
 
-pub goods-upTo : (f : ℕ → Line) (n : ℕ) → ((k : ℕ) → k < n → Good (f k)) → Goods (upTo f n)
-goods-upTo f zero h = tt
-goods-upTo f (suc n) h = goods-append (upTo f n) (f n ∷ []) (goods-upTo f n (λ k l. h k (omega arith))) (h n (omega arith), tt)
-  where
-    goods-append : (xs ys : List Line) → Goods xs → Goods ys → Goods (xs ++ ys)
-    goods-append [] ys g k = k
-    goods-append (x ∷ xs) ys g k = (g .0, goods-append xs ys (g .1) k)
-
 -- ---- the passes
 
 settled-good : (x : Float) (l : Line) → Good l → Good (settled x l)
@@ -146,7 +138,8 @@ goods-map : (n s : Float) (ls : List Line) → Goods ls → Goods (map (settle n
 goods-map n s [] g = tt
 goods-map n s (l ∷ ls) g = (settled-good (unrounded n s l) l (g .0), goods-map n s ls (g .1))
 
-abbrev Fine : Passed → Type 0
+-- at most 32 people, whose figures pass
+abbrev pub Fine : Passed → Type 0
 Fine (again ls) = (length ls ≤ 32) × Goods ls
 Fine (done ls) = (length ls ≤ 32) × Goods ls
 Fine refused = ⊥
@@ -166,7 +159,7 @@ fine-passed n s ls o h = go (lt zeroF s) (some (outside n s) ls) (some (falls n 
     go true false true q = fine
     go true false false q = fine
 
-fine-pass : (d : ℕ) → d ≤ 100000000 → (p : Passed) → Fine p → Fine (pass d p)
+pub fine-pass : (d : ℕ) → d ≤ 100000000 → (p : Passed) → Fine p → Fine (pass d p)
 unfolding pass
 fine-pass d D (again ls) h = fine-passed (whole (notional d ls)) (shareSum ls) ls (never-outside d ls D (h .0) (h .1)) h
 fine-pass d D (done ls) h = h

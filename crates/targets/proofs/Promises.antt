@@ -21,13 +21,14 @@ use Rattle.targets.specs.Remainder.{targetOf, adjusted, Targets, beyond,
 use Rattle.targets.specs.Outcome.{Given, checkNo, demandIn, baseAt, linesIn, targetsIn, Outcome, published, computeTargets}
 use Rattle.targets.specs.Outcome.{Meets, linesLeft, leftIn, takerIn}
 use Rattle.targets.specs.Code.{Sound}
-use Rattle.targets.proofs.Loops.{differ, length-upTo}
+use Rattle.targets.proofs.Loops.{differ, each-upTo, length-upTo}
 use Rattle.targets.proofs.Taker.{taker-takes}
 use Rattle.targets.proofs.Sums.{adds-up}
 use Rattle.targets.proofs.Padding.{Len, len-passes, LenT, len-targets}
 use Rattle.targets.proofs.Eight.{eight-exactly}
 use Rattle.targets.proofs.Ends.{passes-end}
-use Rattle.targets.proofs.Never.{good-line, goods-upTo, never-refused}
+use Rattle.targets.proofs.Guard.{Good, Goods}
+use Rattle.targets.proofs.Never.{good-line, never-refused}
 use Rattle.targets.proofs.Minutes.{available-fits}
 use Rattle.targets.proofs.Accepted.{accepted, check-not-eight}
 
@@ -70,13 +71,18 @@ base-fits g s k =
 
 -- ---- refusal 8: exactly as the table says, and never on accepted figures
 
-given-targets : (g : Given) → Sound g → (zs : List ℤ) × (targetsIn g ≡ are zs)
+pub goods-in : (g : Given) → Sound g → Goods (linesIn g)
 unfolding allFiguresOk
-given-targets g s =
-    never-refused (demandIn g) (linesIn g) (demand-fits g s) (omega (arith, people-in g, s .few))
-    (goods-upTo (λ (k : ℕ). lineOf (personAt (g .capacities) (g .priors) k) (baseAt g k)) (g .people)
+goods-in g s =
+    each-upTo Good (λ (k : ℕ). lineOf (personAt (g .capacities) (g .priors) k) (baseAt g k)) (g .people)
     (λ k h. good-line (personAt (g .capacities) (g .priors) k) (baseAt g k)
-    (all-each (g .people) (figuresOkAt (g .capacities) (g .priors)) (s .figures) k h) (base-fits g s k)))
+    (all-each (g .people) (figuresOkAt (g .capacities) (g .priors)) (s .figures) k h) (base-fits g s k))
+
+pub people-few : (g : Given) → Sound g → length (linesIn g) ≤ 32
+people-few g s = omega (arith, people-in g, s .few)
+
+given-targets : (g : Given) → Sound g → (zs : List ℤ) × (targetsIn g ≡ are zs)
+given-targets g s = never-refused (demandIn g) (linesIn g) (demand-fits g s) (people-few g s) (goods-in g s)
 
 published-eight : (people : ℕ) (t : Targets) (out : List ℤ) → (published people t out .number ≡ 8) ↔ (t ≡ beyond)
 published-eight people beyond out = (λ e. refl, λ e. refl)
@@ -188,7 +194,7 @@ targets-add-up g out e =
 pub taker-by-rule : (g : Given) → Takes (leftIn g) (takerIn g)
 taker-by-rule g = taker-takes (leftIn g)
 
-other : (d k : ℕ) (ls : List Line) → k ≢ takerOf ls → getD (adjusted d ls) k (pos 0) ≡ pos (getD ls k pad .target)
+pub other : (d k : ℕ) (ls : List Line) → k ≢ takerOf ls → getD (adjusted d ls) k (pos 0) ≡ pos (getD ls k pad .target)
 unfolding adjusted
 other d k ls n = getD-set-other (map targetOf ls) (takerOf ls) k _ (pos 0) n ∙ List·getD-map targetOf ls k pad
 
