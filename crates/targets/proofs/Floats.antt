@@ -2,8 +2,8 @@
 use mathlib.Core.Path.{_≡_, refl, sym, ap, _∙_, subst}
 use mathlib.Core.Bool.{Bool, true, false, _&&_, _||_, cond, true≢false}
 use Prim.Native.Nat.{ℕ, zero, suc, _+_, _-_, _*_, _%_, _^_, _≤_, _<_}
-use native.Mathlib.Nat.{mul-one, one-mul, zero-mul, mul-comm, mul-assoc, mul-right-comm, add-mul, add-comm, add-le-add}
-use native.Mathlib.Nat.{mul-pos, mul-le-mul-right, mul-le-mul-left, le-of-mul-le-mul-right, mul-lt-mul-of-pos-right}
+use native.Mathlib.Nat.{mul-one, one-mul, zero-mul, mul-comm, mul-assoc, add-mul, add-comm, add-le-add}
+use native.Mathlib.Nat.{mul-pos, mul-le-mul-right, mul-le-mul-left, mul-lt-mul-of-pos-right}
 use native.Mathlib.Nat.{le-refl, le-trans, le-of-eq, le-of-lt, lt-of-lt-of-le, lt-of-le-of-lt, lt-irrefl, zero-lt-suc}
 use native.Mathlib.Omega.{arith}
 use borrow.Author.Tests.{lt-ltb}
@@ -16,6 +16,7 @@ use lib.Ieee.Exact.{HasValue, round-exact}
 use lib.Ieee.Fits.{up-pos, down-pos, and-l, and-r}
 use lib.Ieee.Back.{round-whole}
 use lib.Ieee.Order.{round-mono}
+use lib.Ieee.Positive.{through}
 use Rattle.targets.specs.Passes.{within}
 use Rattle.targets.proofs.Nearest.{digits, reach, exponent}
 
@@ -79,15 +80,6 @@ unfolding le
 le-cross m n e d t = or-split (ltb (m * up e * down d) (n * up d * down e)) (eqb (m * up e * down d) (n * up d * down e) && true)
     (λ h. le-of-lt (ltb→lt (m * up e * down d) (n * up d * down e) h))
     (λ h. le-of-eq (eqb→eq (m * up e * down d) (n * up d * down e) (and-l (eqb (m * up e * down d) (n * up d * down e)) true h))) t
-
--- x / p ≤ y / q ≤ z / r
-through : (x y z p q r : ℕ) → 0 < q → x * q ≤ y * p → y * r ≤ z * q → x * r ≤ z * p
-through x y z p q r Q h k =
-    le-of-mul-le-mul-right
-    (le-trans (le-of-eq (mul-right-comm x r q))
-    (le-trans (mul-le-mul-right r h)
-    (le-trans (le-of-eq (mul-right-comm y p r)) (le-trans (mul-le-mul-right p k) (le-of-eq (mul-right-comm z q p))))))
-    Q
 
 le-most : (y z : Float) (a c : ℕ) → Plain y → T (le y z) → HasValue z false a c → Most y a c
 unfolding le
