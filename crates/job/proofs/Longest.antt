@@ -1,11 +1,11 @@
 -- The longest listing that can come out: digits, the lines of slots, of people and of draws, and all of them. Assumes nothing.
 use mathlib.Core.Path.{_≡_, refl, sym, ap, ap₂, _∙_}
 use mathlib.Core.Logic.{⊎-elim, _⊎_, inl, inr}
-use mathlib.Core.Bool.{Bool, true, false, cond, _||_}
+use mathlib.Core.Bool.{true, cond, _||_}
 use mathlib.Core.List.{List, [], _∷_, _++_}
 use Prim.Native.Nat.{ℕ, zero, suc, _+_, _-_, _*_, _/_, _≤_, _<_}
 use native.Mathlib.Omega.{arith}
-use borrow.Author.Tests.{eq-eqb, ne-eqb, eqb-true, eqb-false, lt-ltb, le-ltb}
+use borrow.Author.Tests.{ne-eqb, eqb-true, eqb-false, lt-ltb, le-ltb}
 use lib.Dec.{eqb, ltb}
 use lib.IntN.{ℤ, pos, negsuc, natAbs, _+ℤ_, +ℤ-assoc, +ℤ-idl, +ℤ-idr}
 use lib.ListN.{length, getD, take, length-append}
@@ -262,7 +262,7 @@ shorts (suc n) h =
     (λ (g : 10 ≤ n). omega (arith, shorts n (omega arith), short-later n g (λ e. omega arith)))
     (lt-or-ge n 10)
 
--- the minutes of all people, and the uncovered ones
+-- the minutes of all people, and the uncovered ones: 33 amounts of 62,000,000, less 9,000,000 for each of the eleven that are paid
 minutes-under : (people slots : ℕ) (o : List ℕ) (len : ℕ → ℕ) → people ≤ 32
     → ((k : ℕ) → k < slots → knownBy people (getD o k 0) ≡ true) → sum slots len ≤ 100000000
     → let m : ℕ → ℕ = λ p. sum slots (λ k. portion (getD o k 0) p (len k)) in
@@ -292,6 +292,7 @@ sizes-total ts (suc n) h f =
     ap sumℤ (take-suc ts n (pos 0) h) ∙ sum-last (take n ts) z
     ∙ ap₂ (λ (x y : ℤ). x +ℤ y) (sizes-total ts n (omega arith) (λ p l. f p (omega arith))) (f n (omega arith))
 
+-- a target that is not below 0 is its digits alone; one below 100 in size has three bytes at most
 plain-length : (z : ℤ) → z ≡ pos (natAbs z) → length (signed z) ≡ width (natAbs z)
 unfolding signed
 plain-length z e = ap (λ (x : ℤ). length (signed x)) e
@@ -313,6 +314,7 @@ plain-under ts (suc n) f h =
       width-line (natAbs (getD ts n (pos 0))) (h n (omega arith)),
     )
 
+-- 32 targets of 62,000,000 where none is below 0, else of three bytes
 targets-under : (people demand : ℕ) (ts : List ℤ) → people ≤ 32 → demand ≤ 100000000 → TargetsSound people demand ts
     → 9000000 * sum people (λ p. length (signed (getD ts p (pos 0)))) ≤ 1984000000 + demand
     ⊎ (sum people (λ p. length (signed (getD ts p (pos 0)))) ≤ 96)
@@ -368,6 +370,7 @@ module _ (l : Listed) (L : ListedSound l) where
   last-below : suc (l .slots - 1) ≤ l .slots
   last-below = omega (arith, last)
 
+  -- 24 * 1,024, the 2,986 digits of the slots' numbers and a ninth digit of the last end, less 8
   slots-listed : length (lines (slotAt (l .starts) (l .ends) (l .owners)) (l .slots)) + shortly ≤ 27555 + width (getD (l .starts) 0 0)
   slots-listed =
       let n = l .slots - 1 in
@@ -384,6 +387,7 @@ module _ (l : Listed) (L : ListedSound l) where
         sound .capped n last-below,
       )
 
+  -- the first start has seven digits at most where demand is above 90,000,000
   first-listed : (demand ≤ 90000000) ⊎ (width (getD (l .starts) 0 0) ≤ 7)
   unfolding demandOf
   first-listed =
@@ -395,10 +399,12 @@ module _ (l : Listed) (L : ListedSound l) where
       inr (digits-le 6 (getD (l .starts) 0 0) (omega (arith, t, e, sound .capped n last-below)) (omega arith)))
       (lt-or-ge demand 90000001)
 
+  -- 5 * 32 and the 54 digits of the people's numbers
   people-listed : length (lines (personAt (l .minutes) (l .targets)) (l .people)) ≤ 214 + sum (l .people) (λ p. width (getD (l .minutes) p 0))
       + sum (l .people) (λ p. length (signed (getD (l .targets) p (pos 0))))
   people-listed = omega (arith, few, people-length (l .minutes) (l .targets) (l .people), widths (l .people) (omega (arith, few)))
 
+  -- 5 * 1,024 and the 2,986 digits of the draws' numbers
   draws-listed : length (lines (drawAt (l .answers)) (l .draws)) ≤ 8106
   draws-listed = omega (arith, L .draws-few, draws-length (l .answers) (l .draws), widths (l .draws) (omega (arith, L .draws-few)))
 

@@ -7,13 +7,12 @@ use native.Mathlib.Omega.{arith}
 use borrow.Author.Tests.{le-leb, eq-eqb}
 use lib.Dec.{eqb, leb}
 use lib.ListN.{length, getD, replicate, length-replicate}
-use Rattle.paper.specs.Limits.{countsOk, orElse, nobody}
+use Rattle.paper.specs.Limits.{countsOk, nobody}
 use Rattle.paper.specs.Count.{sum}
-use Rattle.paper.proofs.Logic.{both, and-true}
+use Rattle.paper.proofs.Logic.{both}
 use Rattle.paper.proofs.Count.{each-all}
 use Rattle.slotset.specs.Slots.{slot}
-use Rattle.slots.specs.Lent.{slotRoomOk, slotsOk, demandOf}
-use Rattle.units.specs.Units.{unitsOk}
+use Rattle.slots.specs.Lent.{demandOf}
 use Rattle.rota.specs.declared.Figure.the-variants as figure
 use Rattle.rota.specs.Derived.{Plan, PlanSound, Derived, knownBy, worked, uncovered, afresh}
 use Rattle.rota.specs.Recount.{freeFor, knownAt, recounts}

@@ -1,10 +1,8 @@
 -- `job::listing::put_slots` meets its contract. The invariant: the lines of the first k slots are written. Assumes nothing.
 -- Below, cN is what is known N places before c.
 use borrow.Author.Needs.{needs}
-use mathlib.Core.Path.{_≡_}
-use Prim.Native.Nat.{ℕ, _+_, _-_, _*_, _≤_, _<_, _^_}
+use Prim.Native.Nat.{_-_, _≤_}
 use native.Mathlib.Omega.{arith}
-use lib.ListN.{length, getD}
 use Rattle.job.specs.Listing.{slotAt}
 use Rattle.job.proofs.Texts.{Going, going-start, going-room, going-more, going-end}
 use Rattle.job.proofs.listing.put_slots.Statement.{statement}

@@ -1,8 +1,7 @@
 -- `job::play::play_stage` meets its contract. Assumes nothing.
 -- Below, cN is what is known N places before c.
 use borrow.Author.Needs.{needs}
-use lib.ListN.{length}
-use mathlib.Core.Path.{_≡_, sym}
+use mathlib.Core.Path.{sym}
 use native.Mathlib.Omega.{arith}
 use Rattle.rota.specs.Derived.{derived}
 use Rattle.job.specs.Outcome.{ready, draws, startOf, playOf}
