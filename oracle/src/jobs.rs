@@ -20,8 +20,7 @@ use crate::sets::{PEOPLE_MOST, SLOTS_MOST};
 /// owners of two, and a ninth digit of the last end; those of people and of draws, and U, without their figures; 33 amounts of minutes and
 /// 32 targets, seven of each with eight digits and the others with seven; less a byte for each of the eleven owners who have one digit or
 /// are nobody, and one for the first start, which has seven digits. The numbers up to 1,023 have 2,986 digits, those up to 31 have 54.
-const LISTING_MOST: usize =
-    (1024 * 24 + 2986 + 1) + (32 * 5 + 54) + (1024 * 5 + 2986) + 3 + (33 * 7 + 7) + (32 * 7 + 7) - 11 - 1;
+const LISTING_MOST: usize = (1024 * 24 + 2986 + 1) + (32 * 5 + 54) + (1024 * 5 + 2986) + 3 + (33 * 7 + 7) + (32 * 7 + 7) - 11 - 1;
 
 /// What a job file says.
 #[derive(Debug, Clone)]
@@ -387,7 +386,7 @@ mod tests {
         assert_eq!(job.file().len(), 45_588);
     }
 
-    /// No listing of the Rust is longer than the one that is said to be the longest.
+    /// The longest listing is as long as it is said to be.
     #[test]
     fn the_longest_is_met() {
         let longest = listing_of(&JobCase::with_the_longest_listing().file()).expect("it is accepted");

@@ -400,8 +400,8 @@ module _ (l : Listed) (L : ListedSound l) where
       (lt-or-ge demand 90000001)
 
   -- 5 * 32 and the 54 digits of the people's numbers
-  people-listed : length (lines (personAt (l .minutes) (l .targets)) (l .people)) ≤ 214 + sum (l .people) (λ p. width (getD (l .minutes) p 0))
-      + sum (l .people) (λ p. length (signed (getD (l .targets) p (pos 0))))
+  people-listed : length (lines (personAt (l .minutes) (l .targets)) (l .people))
+      ≤ 214 + sum (l .people) (λ p. width (getD (l .minutes) p 0)) + sum (l .people) (λ p. length (signed (getD (l .targets) p (pos 0))))
   people-listed = omega (arith, few, people-length (l .minutes) (l .targets) (l .people), widths (l .people) (omega (arith, few)))
 
   -- 5 * 1,024 and the 2,986 digits of the draws' numbers
@@ -465,8 +465,8 @@ play-sound R d o D e T u q =
 pub play-fits : (R : Ready) (d : Draws) (o : List ℕ) (D : Derived) (p : Played) (u : ℕ) → PlayedAs (playOf R d o D) p → p .no ≡ 0
     → u ≡ figureValue (rota.uncoveredIs (planOf R) (p .owners))
     → TargetsSound (R .people) (demandOf (R .slots) (R .starts) (R .ends)) (R .targets)
-    → length (listingOf (listed (R .slots) (R .starts) (R .ends) (p .owners) (R .people) (p .minutes) (R .targets) (d .count) (p .answers) u))
-    ≤ listingMost
+    → length (listingOf (listed (R .slots) (R .starts) (R .ends) (p .owners) (R .people) (p .minutes) (R .targets) (d .count) (p .answers)
+    u)) ≤ listingMost
 unfolding textOf
 play-fits R d o D p u A e q T =
     let z = sym (A .no) ∙ e in

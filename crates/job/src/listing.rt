@@ -4,7 +4,8 @@ ghost use mathlib.Core.List.{List, [], _∷_, _++_};
 ghost use Prim.Native.Nat.{ℕ, _+_, _≤_, _<_};
 ghost use lib.IntN.{natAbs};
 ghost use lib.ListN.{length};
-ghost use Rattle.job.specs.Listing.{digits, signed, ownerText, answerLetter, headText, slotLine, personLine, drawLine, lines, slotAt, personAt, drawAt};
+ghost use Rattle.job.specs.Listing.{digits, signed, ownerText, answerLetter, headText, slotLine, personLine, drawLine};
+ghost use Rattle.job.specs.Listing.{lines, slotAt, personAt, drawAt};
 ghost use Rattle.job.specs.Listing.{listed, listingOf, refusalLine, refusalLength, refusalOut, Wrote};
 
 // One byte.
@@ -138,7 +139,8 @@ fn put_slots(
 ) -> usize
     requires { ⌜ (n ≤ length (now starts)) × (n ≤ length (now ends)) × (n ≤ length (now owners)) ⌝ }
     requires { ⌜ at + length (lines (slotAt (now starts) (now ends) (now owners)) n) ≤ length (now out) ⌝ }
-    ensures { λ r. ⌜ Wrote (lines (slotAt (now (starts .entry)) (now (ends .entry)) (now (owners .entry))) n) at (now (out .entry)) r (now (out .exit)) ⌝ }
+    ensures { λ r. ⌜ Wrote (lines (slotAt (now (starts .entry)) (now (ends .entry)) (now (owners .entry))) n) at (now (out .entry)) r
+        (now (out .exit)) ⌝ }
 {
     let mut next = at;
     let mut k: usize = 0;
@@ -198,8 +200,8 @@ pub(crate) fn put_listing(
     requires { ⌜ (people ≤ length (now minutes)) × (people ≤ length (now targets)) × (draws ≤ length (now answers)) ⌝ }
     requires { ⌜ length (listingOf (listed slots (now starts) (now ends) (now owners) people (now minutes) (now targets) draws
         (now answers) uncovered)) ≤ length (now out) ⌝ }
-    ensures { λ r. ⌜ Wrote (listingOf (listed slots (now (starts .entry)) (now (ends .entry)) (now (owners .entry)) people (now (minutes .entry))
-        (now (targets .entry)) draws (now (answers .entry)) uncovered)) 0 (now (out .entry)) r (now (out .exit)) ⌝ }
+    ensures { λ r. ⌜ Wrote (listingOf (listed slots (now (starts .entry)) (now (ends .entry)) (now (owners .entry)) people
+        (now (minutes .entry)) (now (targets .entry)) draws (now (answers .entry)) uncovered)) 0 (now (out .entry)) r (now (out .exit)) ⌝ }
 {
     let first = put_slots(out, 0, slots, starts, ends, owners);
     let second = put_people(out, first, people, minutes, targets);

@@ -125,9 +125,9 @@ pub(crate) fn play_stage(
     requires { ⌜ (slots ≤ 1024) × (slots ≤ length (now starts)) × (slots ≤ length (now ends)) ⌝ }
     requires { ⌜ (people ≤ 32) × (count ≤ 1024) × (listingMost ≤ length (now out)) ⌝ }
     requires { ⌜ TargetsSound people (demandOf slots (now starts) (now ends)) (now targets) ⌝ }
-    ensures { λ r. ⌜ Ends (rotaResult (ready people slots (now (starts .entry)) (now (ends .entry)) (now (avail .entry)) units (now (firsts .entry))
-        (now (frozen .entry)) (now (targets .entry))) (draws count (now (kinds .entry)) (now (ones .entry)) (now (twos .entry))) owners
-        (now (out .entry))) r (now (out .exit)) ⌝ }
+    ensures { λ r. ⌜ Ends (rotaResult (ready people slots (now (starts .entry)) (now (ends .entry)) (now (avail .entry)) units
+        (now (firsts .entry)) (now (frozen .entry)) (now (targets .entry))) (draws count (now (kinds .entry)) (now (ones .entry))
+        (now (twos .entry))) owners (now (out .entry))) r (now (out .exit)) ⌝ }
 {
     let s = start_rota(people, slots, starts, ends, avail, &owners);
     let first = s.no;

@@ -51,9 +51,9 @@ fn owners_stage(
     requires { ⌜ (slots ≤ 1024) × (slots ≤ length (now starts)) × (slots ≤ length (now ends)) ⌝ }
     requires { ⌜ (people ≤ 32) × (count ≤ 1024) × (listingMost ≤ length (now out)) ⌝ }
     requires { ⌜ TargetsSound people (demandOf slots (now starts) (now ends)) (now targets) ⌝ }
-    ensures { λ r. ⌜ Ends (ownersResult (now (file .entry)) at n (ready people slots (now (starts .entry)) (now (ends .entry)) (now (avail .entry))
-        units (now (firsts .entry)) (now (frozen .entry)) (now (targets .entry))) (draws count (now (kinds .entry)) (now (ones .entry))
-        (now (twos .entry))) (now (out .entry))) r (now (out .exit)) ⌝ }
+    ensures { λ r. ⌜ Ends (ownersResult (now (file .entry)) at n (ready people slots (now (starts .entry)) (now (ends .entry))
+        (now (avail .entry)) units (now (firsts .entry)) (now (frozen .entry)) (now (targets .entry))) (draws count (now (kinds .entry))
+        (now (ones .entry)) (now (twos .entry))) (now (out .entry))) r (now (out .exit)) ⌝ }
 {
     let written = placed_by(file, at, n, slots);
     let no = owners_no(file, at, n, slots, people, units, firsts, &written);
@@ -95,8 +95,9 @@ fn slots_stage(
 ) -> JobAnswer
     requires { ⌜ ReadOk (now file) counts blocks ⌝ }
     requires { ⌜ (slots ≤ 1024) × (slots ≤ length (now starts)) × (slots ≤ length (now ends)) × (listingMost ≤ length (now out)) ⌝ }
-    ensures { λ r. ⌜ Ends (slotsResult (now (file .entry)) counts blocks (ranges (getD counts 3 0) (now (persons .entry)) (now (opens .entry))
-        (now (shuts .entry))) slots (now (starts .entry)) (now (ends .entry)) (now (out .entry))) r (now (out .exit)) ⌝ }
+    ensures { λ r. ⌜ Ends (slotsResult (now (file .entry)) counts blocks (ranges (getD counts 3 0) (now (persons .entry))
+        (now (opens .entry)) (now (shuts .entry))) slots (now (starts .entry)) (now (ends .entry)) (now (out .entry))) r
+        (now (out .exit)) ⌝ }
 {
     let people = counts[2];
     let count = counts[6];
