@@ -16,8 +16,11 @@ use crate::rotas::{draws, owners, played, step, Draw, Played, NOBODY};
 use crate::seed::Seed;
 use crate::sets::{PEOPLE_MOST, SLOTS_MOST};
 
-/// The room that a listing is asked for: 1,024 lines of slots, 32 of people, 1,024 of draws and the last, each at its longest.
-const LISTING_MOST: usize = 1024 * 33 + 32 * 47 + 1024 * 9 + 23;
+/// The bytes of the longest listing that can come out, `with_the_longest_listing`'s: the lines of slots, with times of eight digits and
+/// owners of two, and a ninth digit of the last end; those of people and of draws, and U, without their figures; 33 amounts of minutes and
+/// 32 targets, seven of each with eight digits and the others with seven; less a byte for each of the eleven owners who have one digit or
+/// are nobody, and one for the first start, which has seven digits. The numbers up to 1,023 have 2,986 digits, those up to 31 have 54.
+const LISTING_MOST: usize = (1024 * 24 + 2986 + 1) + (32 * 5 + 54) + (1024 * 5 + 2986) + 3 + (33 * 7 + 7) + (32 * 7 + 7) - 11 - 1;
 
 /// What a job file says.
 #[derive(Debug, Clone)]
@@ -92,6 +95,56 @@ impl JobCase {
             freeze: Some(0),
             owners: (0..SLOTS_MOST as u16).map(|slot| (slot, slot / 512)).collect(),
             draws: vec![(75, 0, 1023); DRAWS_MOST],
+        }
+    }
+
+    /// A job whose listing is the longest: 1,024 slots without a gap from minute 1,000,000 to the last, and 32 people who are available
+    /// for all of them. Nobody and people 0 to 9 own a slot each, the first eleven, people 10 to 31 own the others by turns. Of the 33
+    /// amounts of minutes seven have eight digits and the others seven; so have the 32 targets. No draw does anything.
+    pub fn with_the_longest_listing() -> Self {
+        let (first, last, few) = (1_000_000, MINUTES_MOST as u32, 24_679);
+        let mut base = Vec::new();
+        let mut start = first;
+        for slot in 0..SLOTS_MOST {
+            let end = match slot {
+                0..=6 => start + 10_000_000,
+                7..=10 => start + 1_000_000,
+                1023 => last,
+                _ => start + few,
+            };
+            base.push((start, end));
+            start = end;
+        }
+        let owner = |slot: u16| match slot {
+            0 => u16::from(NOBODY),
+            1..=10 => slot - 1,
+            _ => 10 + (slot - 11) % 22,
+        };
+        let range = |person| Range {
+            person,
+            start: first,
+            end: last,
+        };
+        let person = |k| Person {
+            capacity: if k < 7 { 10.1 } else { 1.012 },
+            prior: 0,
+        };
+        Self {
+            problem: ProblemCase {
+                base,
+                ranges: (0..PEOPLE_MOST).map(range).collect(),
+                people: (0..PEOPLE_MOST).map(person).collect(),
+                settings: Settings {
+                    fairness: 1,
+                    lock: 0,
+                    boundary: 0,
+                    value: 1,
+                    days: 1,
+                },
+            },
+            freeze: None,
+            owners: (0..SLOTS_MOST as u16).map(|slot| (slot, owner(slot))).collect(),
+            draws: vec![(100, 0, 0); DRAWS_MOST],
         }
     }
 
@@ -181,13 +234,27 @@ impl JobCase {
 
 // ---- files, and the calls
 
-/// Times the job at every limit, and the same file cut by its last byte, which is refused at once: what is between is the job's. Each time
-/// is the mean of n runs, of the processor and not of the clock.
+/// The longest listing: as long as it is said to be, in a buffer of its own length; with a byte less room it is refused with 2.
+fn longest() -> io::Result<u64> {
+    let file = JobCase::with_the_longest_listing().file();
+    let length = listing_of(&file).map_or(0, |text| text.len());
+    let mut differing = u64::from(length != LISTING_MOST);
+    for (room, number) in [(LISTING_MOST, 0), (LISTING_MOST - 1, 2)] {
+        let question = question(&mut Seed::new(0), file.clone(), room);
+        let told = library::ask(&question)?;
+        differing += u64::from(told != question.due || told.result != number);
+    }
+    println!("jobs: the longest listing has {length} bytes, and {differing} of 3 answers to it differ");
+    Ok(differing)
+}
+
+/// The jobs at the limits: asks for the longest listing; then times the job at every limit, and the same file cut by its last byte, which
+/// is refused at once: what is between is the job's. Each time is the mean of n runs, of the processor and not of the clock.
 pub fn time(n: u64) -> io::Result<u64> {
     let file = JobCase::at_every_limit().file();
     let cut = file[..file.len() - 1].to_vec();
     let mut mean = [0.0; 2];
-    let mut differing = 0;
+    let mut differing = longest()?;
     for (file, mean) in [file, cut].into_iter().zip(&mut mean) {
         let question = question(&mut Seed::new(0), file, LISTING_MOST);
         let begun = processor_time()?;
@@ -289,7 +356,7 @@ pub fn damaged(case_seed: u64) -> Vec<Question> {
 
 #[cfg(test)]
 mod tests {
-    use super::{damaged_file, JobCase};
+    use super::{damaged_file, JobCase, LISTING_MOST};
     use crate::job_files::listing_of;
     use crate::problems::{Person, ProblemCase, Range, Settings};
     use crate::seed::Seed;
@@ -317,6 +384,13 @@ mod tests {
             1024
         );
         assert_eq!(job.file().len(), 45_588);
+    }
+
+    /// The longest listing is as long as it is said to be.
+    #[test]
+    fn the_longest_is_met() {
+        let longest = listing_of(&JobCase::with_the_longest_listing().file()).expect("it is accepted");
+        assert_eq!((longest.len(), LISTING_MOST), (36_343, 36_343));
     }
 
     /// The paper's own job and its listing.

@@ -8,7 +8,7 @@ use borrow.Author.Tests.{le-leb, leb-true, eq-eqb}
 use lib.Dec.{leb, lit<, lit≤}
 use lib.Ieee.{Float, fin, binary64, ofBits}
 use lib.IntN.{pos}
-use lib.ListN.{length, getD, take, replicate, length-replicate}
+use lib.ListN.{length, getD, replicate, length-replicate}
 use Rattle.paper.specs.Limits.{peopleOk, countsOk, orElse}
 use Rattle.paper.specs.Count.{all, sum}
 use Rattle.paper.proofs.Logic.{both, and-true, cond-zero, people-says, slot-count-says}
@@ -21,17 +21,15 @@ use Rattle.units.specs.Settings.{settingsOk}
 use Rattle.units.specs.Units.{unitsOk}
 use Rattle.units.proofs.Units.{unit-within}
 use Rattle.targets.specs.Figures.{allFiguresOk}
-use Rattle.targets.specs.Remainder.{sumℤ}
 use Rattle.targets.specs.Outcome as targets
-use Rattle.targets.proofs.Promises.{targets-add-up}
 use Rattle.rota.specs.declared.Figure.{Figure}
 use Rattle.rota.specs.Recount.{freeAt}
 use Rattle.job.specs.Fields.{le}
 use Rattle.job.specs.File.{jobCounts, jobStarts, fileOk}
 use Rattle.job.specs.Columns.{column, priorsColumn, capacitiesColumn}
-use Rattle.job.specs.Listing.{listed, listingOf}
+use Rattle.job.specs.Listing.{listed, listingOf, listingMost}
 use Rattle.job.specs.Stages.{jobCountsOk, countsNo, settingsIn, noOf, valueOf, unitsNoOf, lowerNo}
-use Rattle.job.specs.Stages.{allEven, allKnown, ownersNo}
+use Rattle.job.specs.Stages.{TargetsSound, allEven, allKnown, ownersNo}
 use Rattle.job.specs.Outcome.{Result, startOf, figureValue, textOf, listedAs, refusedAs, orRefused}
 use Rattle.job.specs.Outcome.{baseIn, peopleIn, rangesIn, capacitiesIn, priorsIn, instantIn, atomsIn, availIn}
 use Rattle.job.specs.Outcome.{sharesIn}
@@ -43,9 +41,10 @@ use Rattle.job.specs.Heard.{baseTotal, jobTests}
 use Rattle.job.proofs.Files.{length-floats}
 use Rattle.job.proofs.Tests.{Numbered, Rising, stage}
 use Rattle.job.proofs.Passing.{few-says, atoms-no, AtomsSound, atoms-sound, avail-length, frozen-length, frozen-at, lent-room}
-use Rattle.job.proofs.Passing.{shares-no, units-no}
+use Rattle.job.proofs.Passing.{shares-no, targets-sound, units-no}
 use Rattle.job.proofs.Passing.{units-right, units-fit, lower-is, owners-known, owners-even, narrowed-length}
-use Rattle.job.proofs.Rotas.{RotaSound, start-no, play-no, uncovered-told}
+use Rattle.job.proofs.Rotas.{RotaSound, start-no, play-no}
+use Rattle.job.proofs.Plays.{uncovered-told}
 
 -- ---- columns have the room that their counts may ask for
 
@@ -267,10 +266,10 @@ module _ (s : List ℕ) where
     play-told H free =
         let R = readyOf s in
         let y = playedOf s in
-        ap (λ (t : Bool). cond t (listedAs (textOf R (drawsOf s) y) x) (refusedAs (y .number) x))
-        (eq-eqb (y .number) 0 (play-no R (drawsOf s) (ownersOf s) H free))
+        let no = play-no R (drawsOf s) (ownersOf s) H free in
+        ap (λ (t : Bool). cond t (listedAs (textOf R (drawsOf s) y) x) (refusedAs (y .number) x)) (eq-eqb (y .number) 0 no)
         ∙ ap (λ (f : Figure). listedAs (listingOf (listed (R .slots) (R .starts) (R .ends) (y .owners) (R .people) (y .derived .minutes)
-        (R .targets) (drawsOf s .count) (y .answers) (figureValue f))) x) (uncovered-told R (drawsOf s) (ownersOf s) H free)
+        (R .targets) (drawsOf s .count) (y .answers) (figureValue f))) x) (uncovered-told R (drawsOf s) (ownersOf s) _ no)
 
     rota-told : RotaSound (readyOf s) (drawsOf s) (ownersOf s)
         → rotaResult (readyOf s) (drawsOf s) (ownersOf s) x ≡ orRefused (heardOf startTests) x text
@@ -315,7 +314,7 @@ module _ (s : List ℕ) where
     abbrev countTests : List Test
     countTests =
         test 1 (jobCountsOk (baseIn (jobCounts s)) (peopleIn (jobCounts s)) (getD (jobCounts s) 3 0) (getD (jobCounts s) 6 0))
-        ∷ test 2 (leb 44535 (length x)) ∷ []
+        ∷ test 2 (leb listingMost (length x)) ∷ []
 
     counted-told : countedResult s (jobCounts s) (jobStarts s) x
         ≡ orRefused (heardOf (countTests ++ (atomTests ++ (figureTests ++ (ownerTests ++ startTests))))) x text
@@ -403,10 +402,10 @@ module _ (s : List ℕ) (room : ℕ) (A : AllPass (jobTests s room)) where
       let f = both (leb (settingsIn s .fairness) 1) _ (A 7 (lit< tt)) .0 in
       shares-heard s few (R .slots) (R .starts) (R .ends) (atoms-right s few atoms) ∙ simp (A 6 (lit< tt), f)
 
-  pub targets-add : sumℤ (take (readyOf s .people) (readyOf s .targets)) ≡ pos
-      (demandOf (readyOf s .slots) (readyOf s .starts) (readyOf s .ends))
+  pub targets-right : TargetsSound (readyOf s .people) (demandOf (readyOf s .slots) (readyOf s .starts) (readyOf s .ends))
+      (readyOf s .targets)
   unfolding readyOf readyIn sharesIn
-  targets-add = targets-add-up _ (replicate 32 (pos 0)) shares-none
+  targets-right = targets-sound _ shares-none
 
   -- slots that end by the instant of the freeze record are frozen
   pub frozen-there : (getD (jobCounts s) 4 0 ≡ 0 → ⊥) → (k : ℕ) → k < readyOf s .slots

@@ -11,8 +11,10 @@ pub mod Prepares
 pub mod Written
 pub mod Results
 pub mod Readings
-pub mod Rotas
 pub mod Tests
 pub mod Passing
+pub mod Rotas
+pub mod Plays
+pub mod Longest
 pub mod Heard
 pub mod Promises

@@ -1,14 +1,15 @@
 -- What each stage of a job hears where those before it heard nothing, and what it leaves known. Assumes nothing.
-use mathlib.Core.Path.{_≡_, refl, sym, ap, _∙_}
+use mathlib.Core.Path.{_≡_, refl, sym, ap, _∙_, subst}
+use mathlib.Core.Logic.{⊎-elim, inl, inr}
 use mathlib.Core.Bool.{Bool, true, false, cond, _||_}
 use mathlib.Core.List.{List, _++_}
 use Prim.Native.Nat.{ℕ, zero, suc, _+_, _-_, _≤_, _<_}
 use native.Mathlib.Omega.{arith}
 use borrow.Author.Tests.{le-leb, leb-true, eq-eqb, eqb-true, eqb-false, lt-ltb, ltb-true}
 use lib.Dec.{leb, ltb, eqb}
-use lib.IntN.{ℤ}
-use lib.ListN.{length, getD, set, replicate, length-append, length-replicate, getD-replicate, length-set}
-use lib.Seq.{getD-set-same, getD-set-other}
+use lib.IntN.{ℤ, pos, natAbs}
+use lib.ListN.{length, getD, set, take, drop, replicate, length-append, length-replicate, getD-replicate, length-set}
+use lib.Seq.{getD-set-same, getD-set-other, getD-take}
 use Rattle.paper.specs.Limits.{peopleOk, slotCountOk, countsOk, orElse, nobody}
 use Rattle.paper.specs.Count.{all, onto}
 use Rattle.paper.proofs.Logic.{by-test, both, three, four, slot-count-says}
@@ -30,11 +31,13 @@ use Rattle.units.specs.Units.{unitStart, unitEnd, unitsOk}
 use Rattle.units.proofs.Rising.{unit-starts-right}
 use Rattle.targets.specs.Figures.{allFiguresOk}
 use Rattle.targets.specs.Outcome as targets
-use Rattle.targets.proofs.Promises.{number-is}
+use Rattle.targets.proofs.Promises.{number-is, accepted-holds, targets-add-up}
+use Rattle.targets.proofs.Spread.{AllPlain, AllBelow, accepted-plain-or-small}
 use Rattle.rota.specs.Derived.{knownBy}
+use Rattle.job.specs.declared.Shares.{Shares}
 use Rattle.job.specs.File.{ownerSlot}
 use Rattle.job.proofs.Prepares.{frozen-some}
-use Rattle.job.specs.Stages.{jobCountsOk, frozenIn, noOf, valueOf, unitsNoOf, unitsValueOf, lowerNo}
+use Rattle.job.specs.Stages.{jobCountsOk, frozenIn, noOf, valueOf, unitsNoOf, unitsValueOf, SharesAre, TargetsSound, lowerNo}
 use Rattle.job.specs.Stages.{ownerValue, placed, unitEven, allEven, recordKnown, allKnown, narrowed}
 
 -- ---- counts
@@ -127,6 +130,29 @@ pub shares-no : (g : targets.Given) (out : List ℤ) → countsOk (g .people) (g
     (orElse (leb (g .fairness) 1) 7 0)
 unfolding targets.checkNo
 shares-no g out counts room lent = number-is g out ∙ simp (counts, room, lent)
+
+-- the targets that a play is handed
+pub targets-sound : (g : targets.Given) → targets.computeTargets g (replicate 32 (pos 0)) .number ≡ 0
+    → TargetsSound (g .people) (targets.demandIn g) (targets.computeTargets g (replicate 32 (pos 0)) .out)
+targets-sound g e =
+    let out = replicate 32 (pos 0) in
+    let ts = targets.computeTargets g out .out in
+    let H = accepted-holds g out e in
+    let at : (p : ℕ) → p < g .people → getD (take (g .people) ts) p (pos 0) ≡ getD ts p (pos 0) =
+    λ p h. getD-take (g .people) ts p (pos 0) h in
+    record {
+      room = omega (arith, ap length (H .is), length-append (H .zs) (drop (g .people) out), H .count);
+      total = targets-add-up g out e;
+      sizes = ⊎-elim
+          (λ (f : AllPlain (take (g .people) ts)). inl (λ p h. sym (at p h) ∙ f p ∙ ap (λ (z : ℤ). pos (natAbs z)) (at p h)))
+          (λ (f : AllBelow 100 (take (g .people) ts)). inr (λ p h. omega (arith, f p, ap natAbs (at p h))))
+          (accepted-plain-or-small g out e);
+    }
+
+pub shares-sound : (g : targets.Given) (h : Shares) → SharesAre (targets.computeTargets g (replicate 32 (pos 0))) h → h .no ≡ 0
+    → TargetsSound (g .people) (targets.demandIn g) (h .targets)
+shares-sound g h H e =
+    subst (λ (ts : List ℤ). TargetsSound (g .people) (targets.demandIn g) ts) (sym (H .targets)) (targets-sound g (sym (H .no) ∙ e))
 
 no-numbered : (n k : ℕ) → unitsNoOf (numberAs n k) ≡ n
 unfolding numberAs

@@ -5,13 +5,15 @@ use mathlib.Core.List.{List}
 use Prim.Native.Nat.{ℕ, zero, suc, _+_, _*_, _≤_, _<_}
 use native.Mathlib.Omega.{arith}
 use native.Mathlib.Numerals.{add-one}
-use borrow.Author.Tests.{le-leb, lt-leb, lt-ltb, le-ltb, eq-eqb, ne-eqb}
+use borrow.Author.Tests.{le-leb, lt-leb, lt-ltb, le-ltb, eq-eqb, ne-eqb, eqb-true, eqb-false, leb-true, leb-false}
 use lib.Dec.{leb, ltb, eqb}
 use lib.ListN.{length, getD, set, replicate}
 use Rattle.paper.specs.Limits.{peopleOk, slotCountOk, orElse}
 use Rattle.paper.specs.Count.{allIn}
+use Rattle.paper.proofs.Logic.{by-test}
 use Rattle.paper.proofs.Count.{in-more, in-fails, in-each, each-in}
 use Rattle.slots.specs.Freeze.{freezeOf}
+use Rattle.job.specs.Listing.{listingMost}
 use Rattle.job.specs.File.{ownerSlot}
 use Rattle.job.specs.Stages.{jobCountsOk, countsNo, frozenIn, lowerNo, ownerValue, placed, recordKnown}
 
@@ -38,6 +40,16 @@ lower-less a b n m h = sym (lower-both a b n m ∙ ap (λ (t : Bool). cond t a b
 
 pub lower-more : (a b : ℕ) → (a ≡ 0 → ⊥) → (b ≡ 0 → ⊥) → b < a → b ≡ lowerNo a b
 lower-more a b n m h = sym (lower-both a b n m ∙ ap (λ (t : Bool). cond t a b) (lt-leb a b h))
+
+-- where it is none, so is the first
+pub lower-none : (a b : ℕ) → lowerNo a b ≡ 0 → a ≡ 0
+lower-none a b e =
+    by-test (eqb a 0) _ (λ t. eqb-true a 0 t)
+    (λ f.
+    let n = eqb-false a 0 f in
+    by-test (eqb b 0) _ (λ t. lower-second a b n (eqb-true b 0 t) ∙ e)
+    (λ g. by-test (leb a b) _ (λ t. lower-less a b n (eqb-false b 0 g) (leb-true a b t) ∙ e)
+    (λ t. absurd (eqb-false b 0 g (lower-more a b n (eqb-false b 0 g) (leb-false a b t) ∙ e)))))
 
 -- ---- the counts, link by link
 
@@ -74,15 +86,15 @@ frozen-some slots starts ends freezes instant n =
 
 -- the numbers of the counts
 
-pub counts-none : (base people ranges draws room : ℕ) → jobCountsOk base people ranges draws ≡ true → 44535 ≤ room
+pub counts-none : (base people ranges draws room : ℕ) → jobCountsOk base people ranges draws ≡ true → listingMost ≤ room
     → 0 ≡ countsNo base people ranges draws room
 unfolding countsNo
-counts-none base people ranges draws room p h = sym (simp (p, le-leb 44535 room h))
+counts-none base people ranges draws room p h = sym (simp (p, le-leb listingMost room h))
 
-pub counts-room : (base people ranges draws room : ℕ) → jobCountsOk base people ranges draws ≡ true → room < 44535
+pub counts-room : (base people ranges draws room : ℕ) → jobCountsOk base people ranges draws ≡ true → room < listingMost
     → 2 ≡ countsNo base people ranges draws room
 unfolding countsNo
-counts-room base people ranges draws room p h = sym (simp (p, lt-leb 44535 room h))
+counts-room base people ranges draws room p h = sym (simp (p, lt-leb listingMost room h))
 
 pub counts-fail : (base people ranges draws room : ℕ) → jobCountsOk base people ranges draws ≡ false
     → 1 ≡ countsNo base people ranges draws room

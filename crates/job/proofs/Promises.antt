@@ -25,16 +25,18 @@ use Rattle.job.specs.declared.JobAnswer.the-variants as answer
 use Rattle.job.specs.Fields.{le}
 use Rattle.job.specs.Records.{bodies}
 use Rattle.job.specs.File.{jobCounts, jobStarts, JobFile}
-use Rattle.job.specs.Listing.{digits, listingOf, put}
+use Rattle.job.specs.Listing.{digits, listingOf, listingMost, put}
 use Rattle.job.specs.Digits.{readDigits}
 use Rattle.job.specs.Outcome.{Result, refusedAs, listedAs, Ends, planOf, instantIn, jobResult}
 use Rattle.job.specs.Heard.{heardOf, testAt, Lowest, AllPass, readyOf, drawsOf, ownersOf, startedOf, playedOf, listedOf}
 use Rattle.job.specs.Heard.{baseTotal, jobTests}
 use Rattle.job.proofs.Tests.{heard-none, heard-lowest}
-use Rattle.job.proofs.Heard.{job-told, numbered, rising, free, sound, demand-is, targets-add, frozen-there}
+use Rattle.job.proofs.Heard.{job-told, numbered, rising, free, sound, demand-is, targets-right, frozen-there}
 use Rattle.job.proofs.Digits.{digits-value}
 use Rattle.job.proofs.Layouts.{counts-read, fields-read}
 use Rattle.job.proofs.Rotas as rotas
+use Rattle.job.proofs.Plays as plays
+use Rattle.job.proofs.Longest as longest
 
 -- ---- only one outcome fits
 
@@ -129,7 +131,7 @@ module _ (s x : List ℕ) where
       )
 
   -- 2 is heard only where the lent listing is too short
-  pub two-short : jobResult s x .answer ≡ answer.Refused 2 → length x < 44535
+  pub two-short : jobResult s x .answer ≡ answer.Refused 2 → length x < listingMost
   unfolding jobTests all
   two-short e =
       let L = lowest-heard 2 .0 e in
@@ -137,7 +139,7 @@ module _ (s x : List ℕ) where
       let z = eqb-true (L .place) 2 (or-right (not (eqb (testAt ts (L .place) .number) 2)) (eqb (L .place) 2)
       (all-each 11 (λ k. not (eqb (testAt ts k .number) 2) || eqb k 2) refl (L .place) (L .within))
       (ap not (eq-eqb _ 2 (L .number)))) in
-      leb-false 44535 (length x) (sym (ap (λ (k : ℕ). testAt ts k .passes) z) ∙ L .fails)
+      leb-false listingMost (length x) (sym (ap (λ (k : ℕ). testAt ts k .passes) z) ∙ L .fails)
 
   -- ---- an accepted job
 
@@ -159,17 +161,21 @@ module _ (s x : List ℕ) where
     pass : AllPass (jobTests s (length x))
     pass = accepted-exactly n .0 e .0
 
+    -- the play is never refused
+    not-refused : playedOf s .number ≡ 0
+    unfolding playedOf startedOf
+    not-refused = rotas.play-no (readyOf s) (drawsOf s) (ownersOf s) (sound s (length x) pass) (free s (length x) pass)
+
     -- U is a number: the reader that answers it is never refused
     pub uncovered-told : rota.uncoveredIs (planOf (readyOf s)) (playedOf s .owners) ≡ figure.Is (listedOf s .uncovered)
-    unfolding listedOf playedOf startedOf
-    uncovered-told = rotas.uncovered-told (readyOf s) (drawsOf s) (ownersOf s) (sound s (length x) pass) (free s (length x) pass)
+    unfolding listedOf playedOf
+    uncovered-told = plays.uncovered-told (readyOf s) (drawsOf s) (ownersOf s) (startedOf s .derived) not-refused
 
     -- P minutes and U add up to the total of the base slots in the file
     pub total : sum (listedOf s .people) (λ p. getD (listedOf s .minutes) p 0) + listedOf s .uncovered ≡ baseTotal s
     unfolding listedOf playedOf startedOf
     total =
-        rotas.total-after (readyOf s) (drawsOf s) (ownersOf s) (sound s (length x) pass) (free s (length x) pass)
-        ∙ demand-is s (length x) pass
+        plays.total-after (readyOf s) (drawsOf s) (ownersOf s) (startedOf s .derived) not-refused ∙ demand-is s (length x) pass
 
     -- and so do they before the draws
     pub total-before : sum (listedOf s .people) (λ p. getD (startedOf s .derived .minutes) p 0)
@@ -203,7 +209,19 @@ module _ (s x : List ℕ) where
     -- the targets that are listed add up to it too
     pub targets-total : sumℤ (take (listedOf s .people) (listedOf s .targets)) ≡ pos (baseTotal s)
     unfolding listedOf
-    targets-total = targets-add s (length x) pass ∙ ap pos (demand-is s (length x) pass)
+    targets-total = targets-right s (length x) pass .total ∙ ap pos (demand-is s (length x) pass)
+
+    -- no listing is longer than the longest that 2 asks room for
+    pub listing-fits : n ≤ listingMost
+    unfolding listedOf playedOf
+    listing-fits =
+        omega (
+          arith,
+          accepted-exactly n .0 e .1,
+          longest.listing-fits (listedOf s)
+              (longest.play-sound (readyOf s) (drawsOf s) (ownersOf s) (startedOf s .derived) not-refused (targets-right s (length x) pass)
+              _ refl),
+        )
 
     -- ---- what the draws keep, slot by slot: the owners listed, beside those of the file's records
 
@@ -212,20 +230,20 @@ module _ (s x : List ℕ) where
         → getD (listedOf s .ends) k 0 ≤ instantIn s (jobCounts s) (jobStarts s) → getD (listedOf s .owners) k 0 ≡ getD (ownersOf s) k 0
     unfolding listedOf playedOf startedOf
     frozen-keeps some k h b =
-        rotas.frozen-keeps (readyOf s) (drawsOf s) (ownersOf s) (sound s (length x) pass) (free s (length x) pass) k h
+        plays.frozen-keeps (readyOf s) (drawsOf s) (ownersOf s) (startedOf s .derived) not-refused k h
         (eq-eqb _ 1 (frozen-there s (length x) pass some k h b))
 
     -- a covered slot stays covered
     pub stays-covered : (k : ℕ) → k < listedOf s .slots → (getD (ownersOf s) k 0 ≡ nobody → ⊥) → getD (listedOf s .owners) k 0 ≡ nobody → ⊥
     unfolding listedOf playedOf startedOf
-    stays-covered k h = rotas.stays-covered (readyOf s) (drawsOf s) (ownersOf s) (sound s (length x) pass) (free s (length x) pass) k h
+    stays-covered k h = plays.stays-covered (readyOf s) (drawsOf s) (ownersOf s) (startedOf s .derived) not-refused k h
 
     -- every owner is nobody, or known and available
     pub owners-fit : (k : ℕ) → k < listedOf s .slots
         → (knownBy (listedOf s .people) (getD (listedOf s .owners) k 0) ≡ true)
         × (freeFor (readyOf s .avail) (getD (listedOf s .owners) k 0) k ≡ true)
     unfolding listedOf playedOf startedOf
-    owners-fit k h = rotas.owners-fit (readyOf s) (drawsOf s) (ownersOf s) (sound s (length x) pass) (free s (length x) pass) k h
+    owners-fit k h = plays.owners-fit (readyOf s) (drawsOf s) (ownersOf s) (startedOf s .derived) not-refused k h
 
 -- the total, over the records of the file
 pub base-total-read : (s : List ℕ) (J : JobFile s)

@@ -18,6 +18,7 @@ use Rattle.slots.specs.Atomic as atomic
 use Rattle.units.specs.declared.Settings.{Settings}
 use Rattle.units.specs.Answers.{Written}
 use Rattle.targets.specs.Outcome as targets
+use Rattle.job.specs.Listing.{listingMost}
 use Rattle.job.specs.declared.JobAnswer.{JobAnswer}
 use Rattle.job.specs.declared.JobAnswer.the-variants as answer
 use Rattle.job.specs.declared.Atoms.{Atoms}
@@ -202,11 +203,12 @@ module _ (s x c b : List ℕ) (no : ℕ) (ok : fileOk s ≡ true) (C : c ≡ job
   unfolding countedResult
   job-passed r y h w = counted-then r y (or-passed no _ x _ r y N h w)
 
-  pub job-ready : no ≡ 0 → ReadOk s c b × (44535 ≤ length x)
+  pub job-ready : no ≡ 0 → ReadOk s c b × (listingMost ≤ length x)
   unfolding countsNo
   job-ready h =
-      let y = cond-zero (jobCountsOk (baseIn c) (peopleIn c) (getD c 3 0) (getD c 6 0)) (cond (leb 44535 (length x)) 0 2) 0 (sym N ∙ h) in
-      (record { ok = ok; counts = C; starts = B; few = y .0 }, leb-true 44535 (length x) (cond-zero (leb 44535 (length x)) 0 1 (y .1) .0))
+      let room = leb listingMost (length x) in
+      let y = cond-zero (jobCountsOk (baseIn c) (peopleIn c) (getD c 3 0) (getD c 6 0)) (cond room 0 2) 0 (sym N ∙ h) in
+      (record { ok = ok; counts = C; starts = B; few = y .0 }, leb-true listingMost (length x) (cond-zero room 0 1 (y .1) .0))
 
 pub job-layout : (s x : List ℕ) → fileOk s ≡ false → Ends (jobResult s x) (answer.Refused 13) x
 unfolding jobResult

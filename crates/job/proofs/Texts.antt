@@ -1,20 +1,17 @@
 -- Laws of what is written: bytes in a lent buffer, decimal digits, lines. Assumes nothing.
 use mathlib.Core.Path.{_≡_, refl, sym, ap, ap₂, _∙_, subst}
-use mathlib.Core.Bool.{Bool, true, false, cond}
+use mathlib.Core.Bool.{Bool, cond}
 use mathlib.Core.List.{List, [], _∷_, _++_, append-assoc}
-use Prim.Native.Nat.{ℕ, zero, suc, _+_, _-_, _*_, _/_, _%_, _^_, _≤_, _<_}
-use native.Mathlib.Nat.{pow-suc, suc-mul, mul-le-mul-right}
+use Prim.Native.Nat.{ℕ, zero, suc, _+_, _/_, _%_, _^_, _≤_, _<_}
+use native.Mathlib.Nat.{pow-suc}
 use native.Mathlib.Numerals.{add-one}
 use native.Mathlib.Omega.{arith}
-use borrow.Author.Tests.{le-leb, lt-leb, lt-ltb, le-ltb, eq-eqb, ne-eqb, ltb-true, ltb-false}
+use borrow.Author.Tests.{le-leb, lt-leb, lt-ltb, le-ltb, eq-eqb, ne-eqb}
 use lib.Dec.{ltb, eqb, lit<}
-use lib.IntN.{ℤ, pos, negsuc}
-use lib.Signed.{mag}
-use lib.ListN.{length, getD, set, take, drop, length-append, length-drop, take-append-drop}
+use lib.ListN.{length, set, take, drop, length-append, length-drop, take-append-drop}
 use lib.Seq.{length-take-le, take-at, drop-append-add, set-split, drop-drop}
-use Rattle.paper.proofs.Logic.{by-test}
-use Rattle.job.specs.Listing.{decimal, digits, signed, ownerText, answerLetter, headText}
-use Rattle.job.specs.Listing.{slotLine, personLine, drawLine, uncoveredLine, refusalLine, lines, put, Wrote}
+use Rattle.paper.proofs.Logic.{by-test, below-suc}
+use Rattle.job.specs.Listing.{decimal, digits, ownerText, answerLetter, headText, refusalLine, lines, put, Wrote}
 use Rattle.job.specs.Listing.{refusalOut, refusalLength}
 
 -- ---- bytes in a buffer
@@ -79,16 +76,16 @@ wrote-then {l} {m} {at} {x} {e} {g} {y} {z} u v h =
     }
 
 -- room for two texts is room for the first, and for the second once the first stands
-pub room-first : (l m : List ℕ) (at : ℕ) (x : List ℕ) → at + length (l ++ m) ≤ length x → at + length l ≤ length x
-room-first l m at x h = omega (arith, length-append l m)
+pub room-first : (l m : List ℕ) (at : ℕ) {n : ℕ} → at + length (l ++ m) ≤ n → at + length l ≤ n
+room-first l m at h = omega (arith, length-append l m)
 
 pub room-next : {l : List ℕ} (m : List ℕ) {at : ℕ} {x : List ℕ} {e : ℕ} {y : List ℕ} → Wrote l at x e y → at + length (l ++ m) ≤ length x
     → e + length m ≤ length y
-room-next {l} m {at} {x} {e} {y} w h = omega (arith, length-append l m, w .ends, wrote-length w (room-first l m at x h))
+room-next {l} m {at} {x} {e} {y} w h = omega (arith, length-append l m, w .ends, wrote-length w (room-first l m at h))
 
 pub wrote-both : {l m : List ℕ} {at : ℕ} {x : List ℕ} {e g : ℕ} {y z : List ℕ} → Wrote l at x e y → Wrote m e y g z
     → at + length (l ++ m) ≤ length x → Wrote (l ++ m) at x g z
-wrote-both {l} {m} {at} {x} u v h = wrote-then u v (room-first l m at x h)
+wrote-both {l} {m} {at} u v h = wrote-then u v (room-first l m at h)
 
 -- the same text by another name
 pub wrote-same : {l m : List ℕ} {at : ℕ} {x : List ℕ} {e : ℕ} {y : List ℕ} → l ≡ m → Wrote l at x e y → Wrote m at x e y
@@ -147,9 +144,6 @@ digits-le k n h g =
     below : {n : ℕ} (i j : ℕ) → n < 10 ^ i → i ≤ j → n < 10 ^ j
     below i j h g = native.Mathlib.Nat.lt-of-lt-of-le h (native.Mathlib.Nat.pow-le-pow-right (lit< tt) g)
 
-pub digits-most : (n : ℕ) → n < 2 ^ 64 → length (digits n) ≤ 20
-digits-most n h = digits-le 19 n (omega arith) (omega arith)
-
 -- ---- owners
 
 pub owner-none : (w : ℕ) → w ≡ 255 → ownerText w ≡ 45 ∷ []
@@ -175,107 +169,53 @@ unfolding answerLetter
 letter-outside a n e = sym (ap (λ (b : Bool). cond b 65 (cond (eqb a 1) 78 67)) (ne-eqb a 0 n)
     ∙ ap (λ (b : Bool). cond b 78 67) (ne-eqb a 1 e))
 
--- ---- how long a line can be
+-- ---- a loop that writes the lines of f
 
-pub head-le : (letter n last k : ℕ) → length (digits n) ≤ k → length (headText letter n last) ≤ 3 + k
-unfolding headText
-head-le letter n last k h = omega (arith, length-append (digits n) (last ∷ []))
-
-then-le : (l : List ℕ) (last k : ℕ) → length l ≤ k → length (l ++ (last ∷ [])) ≤ k + 1
-then-le l last k h = omega (arith, length-append l (last ∷ []))
-
-both-le : (l m : List ℕ) (j k : ℕ) → length l ≤ j → length m ≤ k → length (l ++ m) ≤ j + k
-both-le l m j k g h = omega (arith, length-append l m)
-
-owner-le : (w : ℕ) → w < 256 → length (ownerText w) ≤ 3
-unfolding ownerText
-owner-le w h =
-    by-test (eqb w 255) (length (cond (eqb w 255) (45 ∷ []) (digits w)) ≤ 3)
-    (λ t. omega (arith, ap (λ (b : Bool). length (cond b (45 ∷ []) (digits w))) t))
-    (λ f. omega (arith, ap (λ (b : Bool). length (cond b (45 ∷ []) (digits w))) f, digits-le 2 w (omega arith) (omega arith)))
-
-pub signed-le : (z : ℤ) → mag z < 2 ^ 63 → length (signed z) ≤ 20
-unfolding signed
-signed-le (pos n) h = omega (arith, digits-le 18 n (omega arith) (omega arith))
-signed-le (negsuc n) h = omega (arith, digits-le 18 (suc n) (omega arith) (omega arith))
-
-pub slot-line-le : (k start end owner : ℕ) → k < 1024 → start < 2 ^ 32 → end < 2 ^ 32 → owner < 256
-    → length (slotLine k start end owner) ≤ 33
-unfolding slotLine
-slot-line-le k start end owner a b c d =
-    let ten : (n : ℕ) → n < 2 ^ 32 → length (digits n) ≤ 10 = λ n h. digits-le 9 n (omega arith) (omega arith) in
-    both-le (headText 83 k 32) _ 7 26 (head-le 83 k 32 4 (digits-le 3 k (omega arith) (omega arith)))
-    (both-le (digits start ++ (32 ∷ [])) _ 11 15 (then-le (digits start) 32 10 (ten start b))
-    (both-le (digits end ++ (32 ∷ [])) _ 11 4 (then-le (digits end) 32 10 (ten end c)) (then-le (ownerText owner) 10 3 (owner-le owner d))))
-
-pub person-line-le : (p minutes : ℕ) (target : ℤ) → p < 32 → minutes < 2 ^ 64 → mag target < 2 ^ 63
-    → length (personLine p minutes target) ≤ 47
-unfolding personLine
-person-line-le p minutes target a b c =
-    both-le (headText 80 p 32) _ 5 42 (head-le 80 p 32 2 (digits-le 1 p (omega arith) (omega arith)))
-    (both-le (digits minutes ++ (32 ∷ [])) _ 21 21 (then-le (digits minutes) 32 20 (digits-most minutes b))
-    (then-le (signed target) 10 20 (signed-le target c)))
-
-pub draw-line-le : (d answer : ℕ) → d < 1024 → length (drawLine d answer) ≤ 9
-unfolding drawLine
-draw-line-le d answer a =
-    both-le (headText 68 d 32) _ 7 2 (head-le 68 d 32 4 (digits-le 3 d (omega arith) (omega arith))) (omega arith)
-
-pub uncovered-line-le : (n : ℕ) → n < 2 ^ 64 → length (uncoveredLine n) ≤ 23
-unfolding uncoveredLine
-uncovered-line-le n h = head-le 85 n 10 20 (digits-most n h)
-
--- ---- a loop that writes the lines of f, each of b bytes at most
-
-pub record Going (f : ℕ → List ℕ) (b at : ℕ) (x : List ℕ) (k next : ℕ) (y : List ℕ) : Type 0 where
+pub record Going (f : ℕ → List ℕ) (at : ℕ) (x : List ℕ) (k next : ℕ) (y : List ℕ) : Type 0 where
   pub wrote : Wrote (lines f k) at x next y
-  pub few : length (lines f k) ≤ k * b
   pub same : length y ≡ length x
 
-pub going-start : (f : ℕ → List ℕ) (b at : ℕ) (x : List ℕ) → Going f b at x 0 at x
+pub going-start : (f : ℕ → List ℕ) (at : ℕ) (x : List ℕ) → Going f at x 0 at x
 unfolding lines
-going-start f b at x = record { wrote = wrote-none at x; few = omega arith; same = refl }
+going-start f at x = record { wrote = wrote-none at x; same = refl }
 
--- there is room for the next line
-pub going-room : {f : ℕ → List ℕ} {b at : ℕ} {x : List ℕ} {k next : ℕ} {y : List ℕ} → Going f b at x k next y → (n : ℕ) → k < n
-    → at + n * b ≤ length x → length (f k) ≤ b → next + length (f k) ≤ length y
-going-room {f} {b} {at} {x} {k} g n h r l =
-    omega (arith, g .wrote .ends, g .few, g .same, mul-le-mul-right b h, suc-mul k b)
-
-pub going-more : {f : ℕ → List ℕ} {b at : ℕ} {x : List ℕ} {k next : ℕ} {y : List ℕ} {end : ℕ} {z : List ℕ} → Going f b at x k next y
-    → Wrote (f k) next y end z → (n : ℕ) → k < n → at + n * b ≤ length x → length (f k) ≤ b → Going f b at x (k + 1) end z
+-- the lines up to one of them are a part of all
+lines-part : (f : ℕ → List ℕ) (k n : ℕ) → k < n → length (lines f k) + length (f k) ≤ length (lines f n)
 unfolding lines
-going-more {f} {b} {at} {x} {k} {next} {y} g w n h r l =
+lines-part f k zero h = absurd (omega arith)
+lines-part f k (suc n) h =
+    let e = length-append (lines f n) (f n) in
+    below-suc _ h (λ q. omega (arith, e, ap (λ (j : ℕ). length (lines f j)) q, ap (λ (j : ℕ). length (f j)) q))
+    (λ l. omega (arith, e, lines-part f k n l))
+
+-- where there is room for all lines, there is room for the next one
+pub going-room : {f : ℕ → List ℕ} {at : ℕ} {x : List ℕ} {k next : ℕ} {y : List ℕ} → Going f at x k next y → (n : ℕ) → k < n
+    → at + length (lines f n) ≤ length x → next + length (f k) ≤ length y
+going-room {f} {k = k} g n h r = omega (arith, g .wrote .ends, g .same, lines-part f k n h)
+
+pub going-more : {f : ℕ → List ℕ} {at : ℕ} {x : List ℕ} {k next : ℕ} {y : List ℕ} {end : ℕ} {z : List ℕ} → Going f at x k next y
+    → Wrote (f k) next y end z → (n : ℕ) → k < n → at + length (lines f n) ≤ length x → Going f at x (k + 1) end z
+unfolding lines
+going-more {f} {at} {x} {k} g w n h r =
     let e : lines f k ++ f k ≡ lines f (k + 1) = ap (lines f) (sym (add-one k)) in
-    let m : (k + 1) * b ≡ k * b + b = ap (λ (j : ℕ). j * b) (add-one k) ∙ suc-mul k b in
-    let room : at + length (lines f k) ≤ length x = omega (arith, g .few, mul-le-mul-right b h, suc-mul k b) in
     record {
-      wrote = wrote-same e (wrote-then (g .wrote) w room);
-      few = omega (arith, ap length (sym e), length-append (lines f k) (f k), g .few, m);
-      same = wrote-length w (going-room g n h r l) ∙ g .same;
+      wrote = wrote-same e (wrote-then (g .wrote) w (omega (arith, lines-part f k n h)));
+      same = wrote-length w (going-room g n h r) ∙ g .same;
     }
 
-pub going-end : {f : ℕ → List ℕ} {b at : ℕ} {x : List ℕ} {k next : ℕ} {y : List ℕ} → Going f b at x k next y → (n : ℕ) → k ≡ n
+pub going-end : {f : ℕ → List ℕ} {at : ℕ} {x : List ℕ} {k next : ℕ} {y : List ℕ} → Going f at x k next y → (n : ℕ) → k ≡ n
     → Wrote (lines f n) at x next y
 going-end {f} g n e = wrote-same (ap (lines f) e) (g .wrote)
 
-pub going-bound : {f : ℕ → List ℕ} {b at : ℕ} {x : List ℕ} {k next : ℕ} {y : List ℕ} → Going f b at x k next y → (n : ℕ) → k ≡ n
-    → next ≤ at + n * b
-going-bound {b = b} g n e = omega (arith, g .wrote .ends, g .few, ap (λ (j : ℕ). j * b) e)
-
--- ---- the whole listing
-
--- four texts one after the other
-pub wrote-four : {a b c d : List ℕ} {at : ℕ} {x : List ℕ} {e g h i : ℕ} {y z u v : List ℕ} → Wrote a at x e y → Wrote b e y g z
-    → Wrote c g z h u → Wrote d h u i v → e ≤ length x → g ≤ length y → h ≤ length z → Wrote (a ++ (b ++ (c ++ d))) at x i v
-wrote-four {a} {b} {c} {d} p q r s k l m =
-    wrote-then p (wrote-then q (wrote-then r s (omega (arith, r .ends, m))) (omega (arith, q .ends, l))) (omega (arith, p .ends, k))
-
 -- ---- the line of a refusal
+
+pub head-length : (letter n last : ℕ) → length (headText letter n last) ≡ 3 + length (digits n)
+unfolding headText
+head-length letter n last = omega (arith, length-append (digits n) (last ∷ []))
 
 pub refusal-le : (n : ℕ) → n < 256 → length (refusalLine n) ≤ 6
 unfolding refusalLine
-refusal-le n h = head-le 82 n 10 3 (digits-le 2 n (omega arith) (omega arith))
+refusal-le n h = omega (arith, head-length 82 n 10, digits-le 2 n (omega arith) (omega arith))
 
 pub refusal-short : (n : ℕ) (x : List ℕ) → length x < 6 → (0 ≡ refusalLength n x) × (x ≡ refusalOut n x)
 unfolding refusalLength refusalOut

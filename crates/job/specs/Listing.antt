@@ -116,9 +116,9 @@ pub record Wrote (l : List ℕ) (at : ℕ) (x : List ℕ) (end : ℕ) (y : List 
   pub ends : end ≡ at + length l
   pub text : y ≡ put l at x
 
--- room for the longest listing: 1,024 slots, 32 people, 1,024 draws and the last line, each line at its longest
+-- how long the longest listing is that can come out (`proofs.Longest.listing-fits`; a job that has it is made by oracle/src/jobs.rs)
 abbrev pub listingMost : ℕ
-listingMost = 44535
+listingMost = 36343
 
 -- the line of a refusal in a lent buffer; nothing where there is no room for six bytes
 unfoldable pub refusalOut : ℕ → List ℕ → List ℕ

@@ -2,10 +2,11 @@
 use mathlib.Core.Path.{_≡_}
 use mathlib.Core.Bool.{Bool, _&&_, _||_, cond}
 use mathlib.Core.List.{List}
-use Prim.Native.Nat.{ℕ, zero, suc, _+_, _*_}
+use mathlib.Core.Logic.{_⊎_}
+use Prim.Native.Nat.{ℕ, zero, suc, _+_, _*_, _≤_, _<_}
 use lib.Dec.{leb, ltb, eqb}
-use lib.IntN.{ℤ, pos}
-use lib.ListN.{length, getD, set, replicate}
+use lib.IntN.{ℤ, pos, natAbs}
+use lib.ListN.{length, getD, set, take, replicate}
 use Rattle.paper.specs.Limits.{peopleOk, slotCountOk, orElse, rangesMost, drawsMost, nobody}
 use Rattle.paper.specs.Count.{all, allIn, over}
 use Rattle.slotset.specs.declared.Counted.{Counted}
@@ -17,6 +18,7 @@ use Rattle.units.specs.declared.Number.{Number}
 use Rattle.units.specs.declared.Number.the-variants as number
 use Rattle.units.specs.Answers.{Written}
 use Rattle.units.specs.Units.{unitStart, unitEnd}
+use Rattle.targets.specs.Remainder.{sumℤ}
 use Rattle.targets.specs.Outcome as targets
 use Rattle.job.specs.declared.Atoms.{Atoms}
 use Rattle.job.specs.declared.Made.{Made}
@@ -83,6 +85,18 @@ pub record SharesAre (x : targets.Outcome) (r : Shares) : Type 0 where
   pub no : r .no ≡ x .number
   pub targets : r .targets ≡ x .out
   pub room : length (r .targets) ≡ 32
+
+-- what a play may take for granted of its targets: they add up to demand, and none is below 0, or each is below 100 in size
+abbrev pub NoneBelow : ℕ → List ℤ → Type 0
+NoneBelow people ts = (p : ℕ) → p < people → getD ts p (pos 0) ≡ pos (natAbs (getD ts p (pos 0)))
+
+abbrev pub AllSmall : ℕ → List ℤ → Type 0
+AllSmall people ts = (p : ℕ) → p < people → natAbs (getD ts p (pos 0)) < 100
+
+pub record TargetsSound (people demand : ℕ) (ts : List ℤ) : Type 0 where
+  pub room : people ≤ length ts
+  pub total : sumℤ (take people ts) ≡ pos demand
+  pub sizes : NoneBelow people ts ⊎ AllSmall people ts
 
 -- the lower of two numbers, where 0 is none
 unfoldable pub lowerNo : ℕ → ℕ → ℕ

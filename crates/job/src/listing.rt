@@ -1,11 +1,12 @@
 // The listing, written into a lent buffer from its front. Each function takes the place to write at and returns the next.
 ghost use mathlib.Core.Path.{_≡_};
 ghost use mathlib.Core.List.{List, [], _∷_, _++_};
-ghost use Prim.Native.Nat.{ℕ, _+_, _*_, _≤_, _<_};
+ghost use Prim.Native.Nat.{ℕ, _+_, _≤_, _<_};
 ghost use lib.IntN.{natAbs};
 ghost use lib.ListN.{length};
-ghost use Rattle.job.specs.Listing.{digits, signed, ownerText, answerLetter, headText, slotLine, personLine, drawLine, lines, slotAt, personAt, drawAt};
-ghost use Rattle.job.specs.Listing.{listed, listingOf, listingMost, refusalLine, refusalLength, refusalOut, Wrote};
+ghost use Rattle.job.specs.Listing.{digits, signed, ownerText, answerLetter, headText, slotLine, personLine, drawLine};
+ghost use Rattle.job.specs.Listing.{lines, slotAt, personAt, drawAt};
+ghost use Rattle.job.specs.Listing.{listed, listingOf, refusalLine, refusalLength, refusalOut, Wrote};
 
 // One byte.
 fn put_byte(out: &mut [u8], at: usize, byte: u8) -> usize
@@ -136,10 +137,10 @@ fn put_slots(
     ends: &[u32],
     owners: &[u8],
 ) -> usize
-    requires { ⌜ (n ≤ 1024) × (n ≤ length (now starts)) × (n ≤ length (now ends)) × (n ≤ length (now owners)) ⌝ }
-    requires { ⌜ at + n * 33 ≤ length (now out) ⌝ }
-    ensures { λ r. ⌜ Wrote (lines (slotAt (now (starts .entry)) (now (ends .entry)) (now (owners .entry))) n) at (now (out .entry)) r (now (out .exit)) ⌝ }
-    ensures { λ r. ⌜ r ≤ at + n * 33 ⌝ }
+    requires { ⌜ (n ≤ length (now starts)) × (n ≤ length (now ends)) × (n ≤ length (now owners)) ⌝ }
+    requires { ⌜ at + length (lines (slotAt (now starts) (now ends) (now owners)) n) ≤ length (now out) ⌝ }
+    ensures { λ r. ⌜ Wrote (lines (slotAt (now (starts .entry)) (now (ends .entry)) (now (owners .entry))) n) at (now (out .entry)) r
+        (now (out .exit)) ⌝ }
 {
     let mut next = at;
     let mut k: usize = 0;
@@ -152,10 +153,9 @@ fn put_slots(
 
 // The lines of n people.
 fn put_people(out: &mut [u8], at: usize, n: usize, minutes: &[u64], targets: &[i64]) -> usize
-    requires { ⌜ (n ≤ 32) × (n ≤ length (now minutes)) × (n ≤ length (now targets)) ⌝ }
-    requires { ⌜ at + n * 47 ≤ length (now out) ⌝ }
+    requires { ⌜ (n ≤ length (now minutes)) × (n ≤ length (now targets)) ⌝ }
+    requires { ⌜ at + length (lines (personAt (now minutes) (now targets)) n) ≤ length (now out) ⌝ }
     ensures { λ r. ⌜ Wrote (lines (personAt (now (minutes .entry)) (now (targets .entry))) n) at (now (out .entry)) r (now (out .exit)) ⌝ }
-    ensures { λ r. ⌜ r ≤ at + n * 47 ⌝ }
 {
     let mut next = at;
     let mut k: usize = 0;
@@ -169,10 +169,9 @@ fn put_people(out: &mut [u8], at: usize, n: usize, minutes: &[u64], targets: &[i
 
 // The lines of n draws.
 fn put_draws(out: &mut [u8], at: usize, n: usize, answers: &[u8]) -> usize
-    requires { ⌜ (n ≤ 1024) × (n ≤ length (now answers)) ⌝ }
-    requires { ⌜ at + n * 9 ≤ length (now out) ⌝ }
+    requires { ⌜ n ≤ length (now answers) ⌝ }
+    requires { ⌜ at + length (lines (drawAt (now answers)) n) ≤ length (now out) ⌝ }
     ensures { λ r. ⌜ Wrote (lines (drawAt (now (answers .entry))) n) at (now (out .entry)) r (now (out .exit)) ⌝ }
-    ensures { λ r. ⌜ r ≤ at + n * 9 ⌝ }
 {
     let mut next = at;
     let mut k: usize = 0;
@@ -197,12 +196,12 @@ pub(crate) fn put_listing(
     answers: &[u8],
     uncovered: u64,
 ) -> usize
-    requires { ⌜ (slots ≤ 1024) × (slots ≤ length (now starts)) × (slots ≤ length (now ends)) × (slots ≤ length (now owners)) ⌝ }
-    requires { ⌜ (people ≤ 32) × (people ≤ length (now minutes)) × (people ≤ length (now targets)) ⌝ }
-    requires { ⌜ (draws ≤ 1024) × (draws ≤ length (now answers)) ⌝ }
-    requires { ⌜ listingMost ≤ length (now out) ⌝ }
-    ensures { λ r. ⌜ Wrote (listingOf (listed slots (now (starts .entry)) (now (ends .entry)) (now (owners .entry)) people (now (minutes .entry))
-        (now (targets .entry)) draws (now (answers .entry)) uncovered)) 0 (now (out .entry)) r (now (out .exit)) ⌝ }
+    requires { ⌜ (slots ≤ length (now starts)) × (slots ≤ length (now ends)) × (slots ≤ length (now owners)) ⌝ }
+    requires { ⌜ (people ≤ length (now minutes)) × (people ≤ length (now targets)) × (draws ≤ length (now answers)) ⌝ }
+    requires { ⌜ length (listingOf (listed slots (now starts) (now ends) (now owners) people (now minutes) (now targets) draws
+        (now answers) uncovered)) ≤ length (now out) ⌝ }
+    ensures { λ r. ⌜ Wrote (listingOf (listed slots (now (starts .entry)) (now (ends .entry)) (now (owners .entry)) people
+        (now (minutes .entry)) (now (targets .entry)) draws (now (answers .entry)) uncovered)) 0 (now (out .entry)) r (now (out .exit)) ⌝ }
 {
     let first = put_slots(out, 0, slots, starts, ends, owners);
     let second = put_people(out, first, people, minutes, targets);

@@ -7,9 +7,11 @@ use rota::Figure;
 ghost use mathlib.Core.Path.{_≡_};
 ghost use Prim.Native.Nat.{ℕ, _+_, _≤_};
 ghost use lib.ListN.{length, replicate};
+ghost use Rattle.slots.specs.Lent.{demandOf};
 ghost use Rattle.rota.specs.Derived.{plan, derived};
 ghost use Rattle.rota.specs.Entries.{fromSlots, played, uncoveredIs};
 ghost use Rattle.job.specs.Listing.{listingMost};
+ghost use Rattle.job.specs.Stages.{TargetsSound};
 ghost use Rattle.job.specs.Outcome.{Ends, StartedAs, PlayedAs, figureValue, ready, draws, rotaResult};
 
 // The minutes that nobody owns.
@@ -121,10 +123,11 @@ pub(crate) fn play_stage(
     out: &mut [u8],
 ) -> JobAnswer
     requires { ⌜ (slots ≤ 1024) × (slots ≤ length (now starts)) × (slots ≤ length (now ends)) ⌝ }
-    requires { ⌜ (people ≤ 32) × (people ≤ length (now targets)) × (count ≤ 1024) × (listingMost ≤ length (now out)) ⌝ }
-    ensures { λ r. ⌜ Ends (rotaResult (ready people slots (now (starts .entry)) (now (ends .entry)) (now (avail .entry)) units (now (firsts .entry))
-        (now (frozen .entry)) (now (targets .entry))) (draws count (now (kinds .entry)) (now (ones .entry)) (now (twos .entry))) owners
-        (now (out .entry))) r (now (out .exit)) ⌝ }
+    requires { ⌜ (people ≤ 32) × (count ≤ 1024) × (listingMost ≤ length (now out)) ⌝ }
+    requires { ⌜ TargetsSound people (demandOf slots (now starts) (now ends)) (now targets) ⌝ }
+    ensures { λ r. ⌜ Ends (rotaResult (ready people slots (now (starts .entry)) (now (ends .entry)) (now (avail .entry)) units
+        (now (firsts .entry)) (now (frozen .entry)) (now (targets .entry))) (draws count (now (kinds .entry)) (now (ones .entry))
+        (now (twos .entry))) owners (now (out .entry))) r (now (out .exit)) ⌝ }
 {
     let s = start_rota(people, slots, starts, ends, avail, &owners);
     let first = s.no;

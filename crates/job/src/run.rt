@@ -21,8 +21,10 @@ use crate::prepare::units_of;
 ghost use mathlib.Core.Path.{_≡_};
 ghost use Prim.Native.Nat.{_+_, _*_, _≤_};
 ghost use lib.ListN.{length, getD};
+ghost use Rattle.slots.specs.Lent.{demandOf};
 ghost use Rattle.slots.specs.Ranges.{ranges};
 ghost use Rattle.job.specs.Listing.{listingMost};
+ghost use Rattle.job.specs.Stages.{TargetsSound};
 ghost use Rattle.job.specs.Outcome.{Ends, ready, draws, ReadOk, ownersResult, slotsResult, atomsResult, jobResult};
 
 // The owners as written, then the rota. Refusals 10 and 11.
@@ -47,10 +49,11 @@ fn owners_stage(
 ) -> JobAnswer
     requires { ⌜ at + n * 8 ≤ length (now file) ⌝ }
     requires { ⌜ (slots ≤ 1024) × (slots ≤ length (now starts)) × (slots ≤ length (now ends)) ⌝ }
-    requires { ⌜ (people ≤ 32) × (people ≤ length (now targets)) × (count ≤ 1024) × (listingMost ≤ length (now out)) ⌝ }
-    ensures { λ r. ⌜ Ends (ownersResult (now (file .entry)) at n (ready people slots (now (starts .entry)) (now (ends .entry)) (now (avail .entry))
-        units (now (firsts .entry)) (now (frozen .entry)) (now (targets .entry))) (draws count (now (kinds .entry)) (now (ones .entry))
-        (now (twos .entry))) (now (out .entry))) r (now (out .exit)) ⌝ }
+    requires { ⌜ (people ≤ 32) × (count ≤ 1024) × (listingMost ≤ length (now out)) ⌝ }
+    requires { ⌜ TargetsSound people (demandOf slots (now starts) (now ends)) (now targets) ⌝ }
+    ensures { λ r. ⌜ Ends (ownersResult (now (file .entry)) at n (ready people slots (now (starts .entry)) (now (ends .entry))
+        (now (avail .entry)) units (now (firsts .entry)) (now (frozen .entry)) (now (targets .entry))) (draws count (now (kinds .entry))
+        (now (ones .entry)) (now (twos .entry))) (now (out .entry))) r (now (out .exit)) ⌝ }
 {
     let written = placed_by(file, at, n, slots);
     let no = owners_no(file, at, n, slots, people, units, firsts, &written);
@@ -92,8 +95,9 @@ fn slots_stage(
 ) -> JobAnswer
     requires { ⌜ ReadOk (now file) counts blocks ⌝ }
     requires { ⌜ (slots ≤ 1024) × (slots ≤ length (now starts)) × (slots ≤ length (now ends)) × (listingMost ≤ length (now out)) ⌝ }
-    ensures { λ r. ⌜ Ends (slotsResult (now (file .entry)) counts blocks (ranges (getD counts 3 0) (now (persons .entry)) (now (opens .entry))
-        (now (shuts .entry))) slots (now (starts .entry)) (now (ends .entry)) (now (out .entry))) r (now (out .exit)) ⌝ }
+    ensures { λ r. ⌜ Ends (slotsResult (now (file .entry)) counts blocks (ranges (getD counts 3 0) (now (persons .entry))
+        (now (opens .entry)) (now (shuts .entry))) slots (now (starts .entry)) (now (ends .entry)) (now (out .entry))) r
+        (now (out .exit)) ⌝ }
 {
     let people = counts[2];
     let count = counts[6];

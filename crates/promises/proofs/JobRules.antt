@@ -3,7 +3,7 @@ use mathlib.Core.Path.{refl, sym}
 use Rattle.job.specs.Outcome.{jobResult}
 use Rattle.job.proofs.Layouts.{rule-13}
 use Rattle.job.proofs.Digits.{digits-value}
-use Rattle.job.proofs.Promises.{lowest-heard, accepted-exactly, refused-keeps, listing-stands, total, targets-total}
+use Rattle.job.proofs.Promises.{lowest-heard, accepted-exactly, refused-keeps, listing-stands, listing-fits, total, targets-total}
 use Rattle.job.proofs.Promises.{frozen-keeps, stays-covered, owners-fit}
 use Rattle.promises.specs.JobRules.{JobByRule}
 
@@ -15,6 +15,7 @@ job-by-rule = record {
   file = rule-13;
   accepted = λ s x n e. record {
     listing = listing-stands s x n e;
+    fits = listing-fits s x n e;
     total = total s x n e;
     targets = targets-total s x n e;
     frozen = frozen-keeps s x n e;

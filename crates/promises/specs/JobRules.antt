@@ -14,7 +14,7 @@ use Rattle.rota.specs.Recount.{freeFor}
 use Rattle.job.specs.declared.JobAnswer.the-variants as answer
 use Rattle.job.specs.Fields.{Bytes}
 use Rattle.job.specs.File.{jobCounts, jobStarts, fileOk, JobFile}
-use Rattle.job.specs.Listing.{digits, listingOf}
+use Rattle.job.specs.Listing.{digits, listingOf, listingMost}
 use Rattle.job.specs.Digits.{readDigits}
 use Rattle.job.specs.Outcome.{instantIn, jobResult}
 use Rattle.job.specs.Heard.{Lowest, AllPass, jobTests, readyOf, ownersOf, listedOf, baseTotal}
@@ -23,6 +23,8 @@ use Rattle.job.specs.Heard.{Lowest, AllPass, jobTests, readyOf, ownersOf, liste
 pub record Accepted (s x : List ℕ) (n : ℕ) : Type 0 where
   -- the listing stands at the front of the lent buffer, and past it the buffer stays
   pub listing : (take n (jobResult s x .out) ≡ listingOf (listedOf s)) × (drop n (jobResult s x .out) ≡ drop n x)
+  -- it is no longer than the room that 2 asks for
+  pub fits : n ≤ listingMost
   -- demand 3's total: P minutes and U add up to the total of the file's base slots, and so do the targets
   pub total : sum (listedOf s .people) (λ p. getD (listedOf s .minutes) p 0) + listedOf s .uncovered ≡ baseTotal s
   pub targets : sumℤ (take (listedOf s .people) (listedOf s .targets)) ≡ pos (baseTotal s)

@@ -85,7 +85,7 @@ unfolding sum
 sum-nothing zero = refl
 sum-nothing (suc n) = omega (arith, sum-nothing n)
 
-total-to : (people n : ℕ) (o : List ℕ) (len : ℕ → ℕ) → people ≤ 32 → ((k : ℕ) → k < n → knownBy people (getD o k 0) ≡ true)
+pub total-to : (people n : ℕ) (o : List ℕ) (len : ℕ → ℕ) → people ≤ 32 → ((k : ℕ) → k < n → knownBy people (getD o k 0) ≡ true)
     → sum people (λ p. sum n (λ k. portion (getD o k 0) p (len k))) + sum n (λ k. portion (getD o k 0) nobody (len k)) ≡ sum n len
 unfolding sum
 total-to people zero o len h k = omega (arith, sum-nothing people)

@@ -9,7 +9,7 @@ use Rattle.job.proofs.listing.put_number_then.Tie as tie
 
 put-number-requires : tie.Need-put-number-requires
 put-number-requires c κs = let s = c .before .before in room-first (digits (s .args .n)) (s .args .last ∷ []) (s .args .at)
-    (s .args .out .now) (s .pre)
+    (s .pre)
 
 put-byte-requires : tie.Need-put-byte-requires
 put-byte-requires c κs =

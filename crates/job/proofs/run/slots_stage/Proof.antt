@@ -9,6 +9,8 @@ use lib.Dec.{lit<, lit≤}
 use lib.ListN.{length, getD}
 use Rattle.job.specs.Stages.{frozenIn}
 use Rattle.job.specs.Outcome.{Draws, draws, availIn}
+use Rattle.job.proofs.Prepares.{lower-none}
+use Rattle.job.proofs.Passing.{shares-sound}
 use Rattle.job.proofs.Readings.{read-block, read-room, read-owners, read-freeze, read-settings, read-few}
 use Rattle.job.proofs.Readings.{shares-is, units-is, slots-refused, slots-passed}
 use Rattle.job.proofs.run.slots_stage.Statement.{statement}
@@ -158,14 +160,16 @@ slice-aggregate-owners-stage-7 c = search needs
 
 owners-stage-requires : tie.Need-owners-stage-requires
 owners-stage-requires c κs =
-    let c18 = c .before .before .before .before .before .before .before .before .before .before .before .before .before .before .before
-    .before .before .before in
+    let c15 = c .before .before .before .before .before .before .before .before .before .before .before .before .before .before .before in
+    let c16 = c15 .before in
+    let c18 = c16 .before .before in
     let s = c18 .before .before .before .before .before .before .before .before .before .before .before .before .before .before .before in
-    let w = read-few (s .pre .0) in (
+    let w = read-few (s .pre .0) in
+    let no = lower-none _ _ (sym (c16 .lower-no .ensures) ∙ c15 .if1 .taken) in (
       read-owners (s .pre .0),
       (
         (s .pre .1 .0, s .pre .1 .1, s .pre .1 .2),
-        (w .2, omega (arith, w .2, c18 .shares-of .ensures .room), w .4, s .pre .1 .3),
+        ((w .2, w .4, s .pre .1 .3), shares-sound _ _ (c18 .shares-of .ensures) no),
       ),
     )
 

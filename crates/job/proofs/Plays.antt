@@ -1,0 +1,125 @@
+-- What a play that was not refused leaves: owners known and available, their minutes, and U, which add up. Assumes nothing.
+use mathlib.Core.Path.{_≡_, sym, ap, ap₂, _∙_}
+use mathlib.Core.Bool.{Bool, true, cond, _&&_}
+use mathlib.Core.List.{List}
+use Prim.Native.Nat.{ℕ, _+_, _≤_, _<_}
+use native.Mathlib.Omega.{arith}
+use borrow.Author.Tests.{le-leb, eq-eqb}
+use lib.Dec.{eqb, leb}
+use lib.ListN.{length, getD, replicate, length-replicate}
+use Rattle.paper.specs.Limits.{countsOk, nobody}
+use Rattle.paper.specs.Count.{sum}
+use Rattle.paper.proofs.Logic.{both}
+use Rattle.paper.proofs.Count.{each-all}
+use Rattle.slotset.specs.Slots.{slot}
+use Rattle.slots.specs.Lent.{demandOf}
+use Rattle.rota.specs.declared.Figure.the-variants as figure
+use Rattle.rota.specs.Derived.{Plan, PlanSound, Derived, knownBy, worked, uncovered, afresh}
+use Rattle.rota.specs.Recount.{freeFor, knownAt, recounts}
+use Rattle.rota.specs.Moves.{Draw}
+use Rattle.rota.specs.Plays.{drawsOf, ownersAfter}
+use Rattle.rota.specs.Lent.{boardOf}
+use Rattle.rota.specs.Entries as rota
+use Rattle.rota.proofs.Plays.{play-length}
+use Rattle.rota.proofs.Entered.{ground-all, Recounted, recount-says, PlayAsks, play-asks}
+use Rattle.rota.proofs.Promises as promises
+use Rattle.job.specs.Outcome.{Ready, Draws, planOf, playOf}
+use Rattle.job.proofs.Passing.{lent-room}
+
+module _ (R : Ready) (d : Draws) (o : List ℕ) (D : Derived) (e : playOf R d o D .number ≡ 0) where
+  abbrev P : Plan
+  P = planOf R
+
+  no : rota.playNo P (R .avail) (R .units) (R .firsts) (R .frozen) (d .count) (d .kinds) (d .ones) (d .twos) o D (replicate 1024 0) ≡ 0
+  unfolding playOf rota.played rota.outcome
+  no = e
+
+  asks : PlayAsks P (R .avail) (R .units) (R .firsts) (R .frozen) (d .count) (d .kinds) (d .ones) (d .twos) o D (replicate 1024 0)
+  asks = play-asks P (R .avail) (R .units) (R .firsts) (R .frozen) (d .count) (d .kinds) (d .ones) (d .twos) o D (replicate 1024 0) no
+
+  -- ---- what the play asked
+
+  pub plan-right : PlanSound P
+  plan-right = asks .grounds .on .sound
+
+  pub draws-few : d .count ≤ 1024
+  draws-few = omega (arith, asks .grounds .draws .answers, length-replicate {A = ℕ} 1024 0)
+
+  counts-ok : countsOk (R .people) (R .slots) ≡ true
+  unfolding rota.playNo
+  counts-ok =
+      both (countsOk (R .people) (R .slots)) (leb (d .count) 1024)
+      (ground-all (countsOk (R .people) (R .slots) && leb (d .count) 1024) _ _ _ no .0) .0
+
+  -- ---- the owners after the draws, and what is worked out from them
+
+  abbrev drawn : List Draw
+  drawn = drawsOf (d .kinds) (d .ones) (d .twos) (d .count)
+
+  after : List ℕ
+  after = ownersAfter (boardOf (R .people) (R .slots) (R .units) (R .avail) (R .firsts) (R .frozen)) o drawn
+
+  owners-are : playOf R d o D .owners ≡ after
+  unfolding playOf rota.played rota.outcome after
+  owners-are = ap (λ (b : Bool). cond b after o) (eq-eqb _ 0 no)
+
+  derived-are : playOf R d o D .derived ≡ afresh P after D
+  unfolding playOf rota.played rota.outcome after
+  derived-are = ap (λ (b : Bool). cond b (afresh P after D) D) (eq-eqb _ 0 no)
+
+  recounted : recounts P (R .avail) (R .units) (R .firsts) (playOf R d o D .owners) (playOf R d o D .derived) ≡ true
+  unfolding after
+  recounted =
+      ap₂ (λ (w : List ℕ) (E : Derived). recounts P (R .avail) (R .units) (R .firsts) w E) owners-are derived-are
+      ∙ promises.played-recounts P (R .avail) (R .units) (R .firsts) (R .frozen) (d .count) (d .kinds) (d .ones) (d .twos) o D
+      (replicate 1024 0) asks drawn
+
+  right : Recounted P (R .avail) (R .units) (R .firsts) (playOf R d o D .owners) (playOf R d o D .derived)
+  right = recount-says P (R .avail) (R .units) (R .firsts) (playOf R d o D .owners) (playOf R d o D .derived) recounted
+
+  -- every owner is nobody, or known and available
+  pub owners-fit : (k : ℕ) → k < R .slots
+      → (knownBy (R .people) (getD (playOf R d o D .owners) k 0) ≡ true) × (freeFor (R .avail) (getD (playOf R d o D .owners) k 0) k ≡ true)
+  owners-fit k h = (right .known k h, right .free k h)
+
+  pub minutes-are : (p : ℕ) → p < R .people → getD (playOf R d o D .derived .minutes) p 0 ≡ worked P (playOf R d o D .owners) p
+  minutes-are = right .minutes
+
+  -- U is a number
+  pub uncovered-told : rota.uncoveredIs P (playOf R d o D .owners) ≡ figure.Is (uncovered P (playOf R d o D .owners))
+  unfolding rota.uncoveredIs rota.figureAs rota.ground knownAt after
+  uncovered-told =
+      let w = playOf R d o D .owners in
+      let g = asks .grounds .on in
+      let l = play-length (boardOf (R .people) (R .slots) (R .units) (R .avail) (R .firsts) (R .frozen)) o drawn in
+      simp (
+        counts-ok,
+        lent-room (R .slots) (R .starts) (R .ends) (g .lent),
+        le-leb (R .slots) (length w) (omega (arith, ap length owners-are, l, g .room .owners-room)),
+        g .lent,
+        each-all (R .slots) (λ k. knownBy (R .people) (getD w k 0)) (right .known),
+      )
+
+  -- all persons' minutes and U are the total of the slots
+  pub total-after : sum (R .people) (λ p. getD (playOf R d o D .derived .minutes) p 0) + uncovered P (playOf R d o D .owners)
+      ≡ demandOf (R .slots) (R .starts) (R .ends)
+  total-after =
+      promises.minutes-and-uncovered P plan-right (R .avail) (R .units) (R .firsts) (playOf R d o D .owners) (playOf R d o D .derived)
+      recounted
+
+  -- ---- what the draws keep
+
+  -- a frozen slot keeps its owner
+  pub frozen-keeps : (k : ℕ) → k < R .slots → eqb (slot (R .frozen) 0 k) 1 ≡ true → getD (playOf R d o D .owners) k 0 ≡ getD o k 0
+  unfolding after
+  frozen-keeps k h z =
+      ap (λ (w : List ℕ). getD w k 0) owners-are
+      ∙ promises.frozen-slots-keep P (R .avail) (R .units) (R .firsts) (R .frozen) (d .count) (d .kinds) (d .ones) (d .twos) o D
+      (replicate 1024 0) asks drawn k h z
+
+  -- a covered slot stays covered
+  pub stays-covered : (k : ℕ) → k < R .slots → (getD o k 0 ≡ nobody → ⊥) → getD (playOf R d o D .owners) k 0 ≡ nobody → ⊥
+  unfolding after
+  stays-covered k h n z =
+      promises.covered-stays P (R .avail) (R .units) (R .firsts) (R .frozen) (d .count) (d .kinds) (d .ones) (d .twos) o D
+      (replicate 1024 0) asks drawn k h n (ap (λ (w : List ℕ). getD w k 0) (sym owners-are) ∙ z)
