@@ -6,10 +6,10 @@ use crate::NextRun;
 use crate::Run;
 use crate::word;
 ghost use mathlib.Core.Path.{_≡_};
-ghost use Prim.Native.Nat.{_+_, _-_, _≤_, _<_, min};
+ghost use Prim.Native.Nat.{_+_, _-_, _*_, _≤_, _<_, min};
 ghost use lib.ListN.{length};
 ghost use Rattle.slotset.specs.Slots.{slot, valueOf, has, size, noMember, putSlots};
-ghost use Rattle.slotset.specs.Search.{nextWith, lastBelow, prevSet, nextUnsetAfter, Below, Above};
+ghost use Rattle.slotset.specs.Search.{foundBelow, nextWith, down, lastBelow, prevSet, nextUnsetAfter, Below, Above};
 ghost use Rattle.slotset.specs.Runs.{startOf, endOf};
 ghost use Rattle.slotset.specs.Answers.{runAs, nextRunAs, nextMemberAs, memberStep};
 
@@ -32,56 +32,110 @@ pub(crate) fn has_slot(words: &[u64], base: usize, len: usize, i: usize) -> bool
     }
 }
 
-// The first slot at or after `from` that is as wanted.
+// The slot that a search came to, unless it is not below the length.
+fn found_below(len: usize, hit: usize) -> Found
+    ensures { λ r. ⌜ r ≡ foundBelow len hit ⌝ }
+{
+    if hit < len {
+        Found::At(hit)
+    } else {
+        Found::Nothing
+    }
+}
+
+// The first slot at or after `from` that is as wanted: in its word from its bit on, then in whole words.
 pub(crate) fn next_with(words: &[u64], base: usize, len: usize, want: bool, from: usize) -> Found
     requires { ⌜ (base + 16 ≤ length (now words)) × (len ≤ 1024) ⌝ }
     ensures { λ r. ⌜ r ≡ nextWith (valueOf want) (slot (now (words .entry)) base) len from ⌝ }
 {
-    let mut at = from;
-    while at < len {
-        let j = at / 64;
-        let k = word::first_bit(words[base + j], want, at % 64);
-        let hit = j * 64 + k;
-        if k < 64 {
-            if hit < len {
-                return Found::At(hit);
-            }
-            return Found::Nothing;
+    if from < len {
+        let j = from / 64;
+        let k = word::first_bit(words[base + j], want, from % 64);
+        if k == 64 {
+            return next_in_words(words, base, len, want, j + 1);
         }
-        at = hit;
+        return found_below(len, j * 64 + k);
     }
     Found::Nothing
 }
 
-// The last slot below `before` that is as wanted.
+// The first slot from word `first` on that is as wanted. No word is masked, so that one with none costs one comparison.
+fn next_in_words(words: &[u64], base: usize, len: usize, want: bool, first: usize) -> Found
+    requires { ⌜ (base + 16 ≤ length (now words)) × (len ≤ 1024) × (first ≤ 16) ⌝ }
+    ensures { λ r. ⌜ r ≡ nextWith (valueOf want) (slot (now (words .entry)) base) len (first * 64) ⌝ }
+{
+    let mut j = first;
+    while j * 64 < len {
+        let k = word::first_bit(words[base + j], want, 0);
+        if k == 64 {
+            j += 1;
+        } else {
+            return found_below(len, j * 64 + k);
+        }
+    }
+    Found::Nothing
+}
+
+// The last slot below `before` that is as wanted: in its word up to its bit, then in whole words.
 pub(crate) fn last_below(words: &[u64], base: usize, len: usize, want: bool, before: usize) -> Found
     requires { ⌜ (base + 16 ≤ length (now words)) × (len ≤ 1024) ⌝ }
     ensures { λ r. ⌜ r ≡ lastBelow (valueOf want) (slot (now (words .entry)) base) len before ⌝ }
 {
-    let mut end = least(before, len);
-    while 0 < end {
+    let end = least(before, len);
+    if 0 < end {
         let last = end - 1;
         let j = last / 64;
         let k = word::last_bit(words[base + j], want, last % 64);
-        if 0 < k {
-            return Found::At(j * 64 + k - 1);
+        if k == 0 {
+            return last_in_words(words, base, want, j);
         }
-        end = j * 64;
+        return Found::At(j * 64 + k - 1);
     }
     Found::Nothing
 }
 
-// How many slots the set has.
+// The last slot below word `before` that is as wanted. No word is masked, so that one with none costs one comparison.
+fn last_in_words(words: &[u64], base: usize, want: bool, before: usize) -> Found
+    requires { ⌜ (base + 16 ≤ length (now words)) × (before ≤ 16) ⌝ }
+    ensures { λ r. ⌜ r ≡ down (valueOf want) (slot (now (words .entry)) base) (before * 64) ⌝ }
+{
+    let mut end = before;
+    while 0 < end {
+        let j = end - 1;
+        let k = word::last_bit(words[base + j], want, 63);
+        if k == 0 {
+            end = j;
+        } else {
+            return Found::At(j * 64 + k - 1);
+        }
+    }
+    Found::Nothing
+}
+
+// How many slots the set has: whole words, then what is left of the last one.
 pub(crate) fn count_slots(words: &[u64], base: usize, len: usize) -> usize
     requires { ⌜ (base + 16 ≤ length (now words)) × (len ≤ 1024) ⌝ }
     ensures { λ r. ⌜ r ≡ size (slot (now (words .entry)) base) len ⌝ }
 {
+    let whole = len / 64;
+    let rest = len % 64;
+    let n = count_words(words, base, whole);
+    if 0 < rest {
+        return n + word::ones_below(words[base + whole], rest);
+    }
+    n
+}
+
+// How many slots of the first `whole` words are set.
+fn count_words(words: &[u64], base: usize, whole: usize) -> usize
+    requires { ⌜ (base + 16 ≤ length (now words)) × (whole ≤ 16) ⌝ }
+    ensures { λ r. ⌜ (r ≡ size (slot (now (words .entry)) base) (whole * 64)) × (r ≤ whole * 64) ⌝ }
+{
     let mut n = 0;
-    let mut at = 0;
-    while at < len {
-        let k = least(64, len - at);
-        n += word::ones_below(words[base + at / 64], k);
-        at += k;
+    let mut j = 0;
+    while j < whole {
+        n += word::ones_below(words[base + j], 64);
+        j += 1;
     }
     n
 }
