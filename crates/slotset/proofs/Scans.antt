@@ -1,16 +1,15 @@
 -- The scans: one skips slots that are not wanted, and stops at the first that is. Assumes nothing.
 use mathlib.Core.Path.{_≡_, refl, sym, ap, _∙_}
-use mathlib.Core.Bool.{Bool, true, false, cond}
+use mathlib.Core.Bool.{Bool, cond}
 use mathlib.Core.List.{List}
 use mathlib.Core.Logic.{⊎-elim, _≢_}
-use Prim.Native.Nat.{ℕ, zero, suc, _+_, _-_, _*_, _/_, _%_, _≤_, _<_, min}
+use Prim.Native.Nat.{ℕ, zero, suc, _+_, _-_, _*_, _/_, _%_, _≤_, _<_}
 use native.Mathlib.Nat.{lt-irrefl}
 use native.Mathlib.Omega.{arith}
 use borrow.Author.Tests.{eq-eqb, ne-eqb, lt-ltb, le-ltb}
 use lib.ListN.{getD}
 use Rattle.paper.specs.Bits.{bitOf}
 use Rattle.paper.proofs.Logic.{lt-or-ge}
-use Rattle.slotset.specs.declared.Found.{Found}
 use Rattle.slotset.specs.declared.Found.the-variants.{At, Nothing}
 use Rattle.slotset.specs.Slots.{slot}
 use Rattle.slotset.specs.Words.{FirstBit, LastBit}
@@ -40,7 +39,8 @@ module _ (v : ℕ) (f : ℕ → ℕ) (len : ℕ) where
   next-skip zero at n = let e : at ≡ at + 0 = omega arith in ap (nextWith v f len) e
   next-skip (suc d) at n =
       let e : suc at + d ≡ at + suc d = omega arith in
-      next-step at (n at (omega arith) (omega arith)) ∙ next-skip d (suc at) (λ k a b. n k (omega arith) (omega arith)) ∙ ap (nextWith v f len) e
+      next-step at (n at (omega arith) (omega arith))
+      ∙ next-skip d (suc at) (λ k a b. n k (omega arith) (omega arith)) ∙ ap (nextWith v f len) e
 
 -- from the first wanted bit of word j, at or after its bit s, to the slots; `at` is that bit's slot
 module _ (v : ℕ) (ws : List ℕ) (b len j s r : ℕ) (f : FirstBit v (getD ws (b + j) 0) s r) (at : ℕ) (here : at ≡ j * 64 + s) where
@@ -89,7 +89,8 @@ module _ (v : ℕ) (f : ℕ → ℕ) where
       ∙ down-skip d n (λ k a b. g k a (omega arith))
 
 -- from the last wanted bit of word j, up to its bit s, to the slots; `end` is one past that bit's slot
-module _ (v : ℕ) (ws : List ℕ) (b j s r : ℕ) (low : s < 64) (f : LastBit v (getD ws (b + j) 0) s r) (end : ℕ) (here : end ≡ j * 64 + s + 1) where
+module _ (v : ℕ) (ws : List ℕ) (b j s r : ℕ) (low : s < 64) (f : LastBit v (getD ws (b + j) 0) s r)
+    (end : ℕ) (here : end ≡ j * 64 + s + 1) where
   word-drop : down v (slot ws b) end ≡ down v (slot ws b) (j * 64 + r)
   unfolding slot
   word-drop =

@@ -8,7 +8,8 @@ ghost use mathlib.Core.Path.{_≡_};
 ghost use Prim.Native.Nat.{suc};
 ghost use Rattle.slotset.specs.Slots.{has, size, noMember, valueOf};
 ghost use Rattle.slotset.specs.Search.{nextSet, prevSet, nextUnsetAfter, prevUnsetBefore};
-ghost use Rattle.slotset.specs.Answers.{lenNo, slotNo, stretchNo, slotsOf, foundAs, toldAs, countedAs, runAs, nextRunAs, nextMemberAs, newOf, putOf, stretchOf};
+ghost use Rattle.slotset.specs.Answers.{lenNo, slotNo, stretchNo, slotsOf, newOf, putOf, stretchOf};
+ghost use Rattle.slotset.specs.Answers.{foundAs, toldAs, countedAs, runAs, nextRunAs, nextMemberAs};
 
 // A set: its words, and how many slots it has.
 pub struct SlotSet {

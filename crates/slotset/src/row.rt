@@ -14,7 +14,8 @@ ghost use Prim.Native.Nat.{_+_, _*_, _≤_};
 ghost use lib.ListN.{length, take, drop};
 ghost use Rattle.slotset.specs.Slots.{has, size, noMember, valueOf};
 ghost use Rattle.slotset.specs.Search.{nextSet, prevSet, nextUnsetAfter, prevUnsetBefore};
-ghost use Rattle.slotset.specs.Answers.{rowNo, rowStretchNo, rowSlots, foundAs, toldAs, countedAs, runAs, nextRunAs, nextMemberAs, loadOf, storeOf, rowStretchOf};
+ghost use Rattle.slotset.specs.Answers.{rowNo, rowStretchNo, rowSlots, loadOf, storeOf, rowStretchOf};
+ghost use Rattle.slotset.specs.Answers.{foundAs, toldAs, countedAs, runAs, nextRunAs, nextMemberAs};
 
 // Refusals 1, 2 and 11 of a row, or 0.
 fn row_no(words: &[u64], people: usize, person: usize, len: usize) -> u8
@@ -94,7 +95,8 @@ pub fn count(words: &[u64], people: usize, person: usize, len: usize) -> Counted
 
 // The first member at or after `from`.
 pub fn next_set(words: &[u64], people: usize, person: usize, len: usize, from: usize) -> Found
-    ensures { λ r. ⌜ r ≡ foundAs (rowNo (now (words .entry)) people person len) (nextSet (rowSlots (now (words .entry)) person) len from) ⌝ }
+    ensures { λ r. ⌜ r ≡ foundAs (rowNo (now (words .entry)) people person len)
+        (nextSet (rowSlots (now (words .entry)) person) len from) ⌝ }
 {
     let number = row_no(words, people, person, len);
     if number == 0 {
@@ -105,7 +107,8 @@ pub fn next_set(words: &[u64], people: usize, person: usize, len: usize, from: u
 
 // The last member at or before `from`.
 pub fn prev_set(words: &[u64], people: usize, person: usize, len: usize, from: usize) -> Found
-    ensures { λ r. ⌜ r ≡ foundAs (rowNo (now (words .entry)) people person len) (prevSet (rowSlots (now (words .entry)) person) len from) ⌝ }
+    ensures { λ r. ⌜ r ≡ foundAs (rowNo (now (words .entry)) people person len)
+        (prevSet (rowSlots (now (words .entry)) person) len from) ⌝ }
 {
     let number = row_no(words, people, person, len);
     if number == 0 {
@@ -122,7 +125,8 @@ pub fn next_unset_after(
     len: usize,
     from: usize,
 ) -> Found
-    ensures { λ r. ⌜ r ≡ foundAs (rowNo (now (words .entry)) people person len) (nextUnsetAfter (rowSlots (now (words .entry)) person) len from) ⌝ }
+    ensures { λ r. ⌜ r ≡ foundAs (rowNo (now (words .entry)) people person len)
+        (nextUnsetAfter (rowSlots (now (words .entry)) person) len from) ⌝ }
 {
     let number = row_no(words, people, person, len);
     if number == 0 {
@@ -139,7 +143,8 @@ pub fn prev_unset_before(
     len: usize,
     from: usize,
 ) -> Found
-    ensures { λ r. ⌜ r ≡ foundAs (rowNo (now (words .entry)) people person len) (prevUnsetBefore (rowSlots (now (words .entry)) person) len from) ⌝ }
+    ensures { λ r. ⌜ r ≡ foundAs (rowNo (now (words .entry)) people person len)
+        (prevUnsetBefore (rowSlots (now (words .entry)) person) len from) ⌝ }
 {
     let number = row_no(words, people, person, len);
     if number == 0 {
@@ -242,7 +247,8 @@ pub fn load(words: &[u64], people: usize, person: usize, len: usize) -> Changed
 
 // The slots of a set below its length go into the row; the bits past them stay.
 pub fn store(set: SlotSet, words: &mut [u64], people: usize, person: usize) -> u8
-    ensures { λ r. ⌜ (r ≡ rowNo (now (words .entry)) people person (set .len)) × (now (words .exit) ≡ storeOf set (now (words .entry)) people person) ⌝ }
+    ensures { λ r. ⌜ (r ≡ rowNo (now (words .entry)) people person (set .len))
+        × (now (words .exit) ≡ storeOf set (now (words .entry)) people person) ⌝ }
 {
     let len = set.len;
     let number = row_no(words, people, person, len);

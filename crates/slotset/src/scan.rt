@@ -20,7 +20,7 @@ pub(crate) fn least(a: usize, b: usize) -> usize
     if a < b { a } else { b }
 }
 
-// Whether slot i is in the set.
+// Whether slot i is a member; at or past the length it is not.
 pub(crate) fn has_slot(words: &[u64], base: usize, len: usize, i: usize) -> bool
     requires { ⌜ (base + 16 ≤ length (now words)) × (len ≤ 1024) ⌝ }
     ensures { λ r. ⌜ r ≡ has (slot (now (words .entry)) base) len i ⌝ }
@@ -112,7 +112,7 @@ fn last_in_words(words: &[u64], base: usize, want: bool, before: usize) -> Found
     Found::Nothing
 }
 
-// How many slots the set has: whole words, then what is left of the last one.
+// How many members the set has: whole words, then what is left of the last one.
 pub(crate) fn count_slots(words: &[u64], base: usize, len: usize) -> usize
     requires { ⌜ (base + 16 ≤ length (now words)) × (len ≤ 1024) ⌝ }
     ensures { λ r. ⌜ r ≡ size (slot (now (words .entry)) base) len ⌝ }
@@ -126,7 +126,7 @@ pub(crate) fn count_slots(words: &[u64], base: usize, len: usize) -> usize
     n
 }
 
-// How many slots of the first `whole` words are set.
+// How many members stand in the first `whole` words.
 fn count_words(words: &[u64], base: usize, whole: usize) -> usize
     requires { ⌜ (base + 16 ≤ length (now words)) × (whole ≤ 16) ⌝ }
     ensures { λ r. ⌜ (r ≡ size (slot (now (words .entry)) base) (whole * 64)) × (r ≤ whole * 64) ⌝ }

@@ -1,6 +1,5 @@
 -- `slotset::scan::has_slot` meets its contract. Assumes nothing.
 use borrow.Author.Needs.{needs}
-use mathlib.Core.Path.{_∙_}
 use borrow.Author.Tests.{lt-ltb, le-ltb}
 use Rattle.slotset.specs.Slots.{slot, has}
 use Rattle.slotset.proofs.scan.has_slot.Statement.{statement}

@@ -1,6 +1,6 @@
 -- `slotset::scan::is_empty_from` meets its contract. Assumes nothing.
 use borrow.Author.Needs.{needs}
-use mathlib.Core.Path.{_≡_, sym, _∙_, subst}
+use mathlib.Core.Path.{sym, _∙_, subst}
 use Rattle.slotset.specs.Slots.{slot}
 use Rattle.slotset.specs.Search.{First}
 use Rattle.slotset.proofs.Meaning.{next-is, none-found, one-found}

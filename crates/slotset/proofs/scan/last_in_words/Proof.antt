@@ -1,4 +1,5 @@
--- `slotset::scan::last_in_words` meets its contract. The invariant: the answer below word `before` is the answer below word `end`. Assumes nothing.
+-- `slotset::scan::last_in_words` meets its contract. The invariant: the answer below word `before` is the answer below word `end`.
+-- Assumes nothing.
 use borrow.Author.Needs.{needs}
 use mathlib.Core.Path.{_≡_, refl, sym, ap, _∙_}
 use Prim.Native.Nat.{_*_, _≤_}

@@ -1,4 +1,5 @@
--- `slotset::scan::next_in_words` meets its contract. The invariant: the answer from word `first` on is the answer from word j on. Assumes nothing.
+-- `slotset::scan::next_in_words` meets its contract. The invariant: the answer from word `first` on is the answer from word j on.
+-- Assumes nothing.
 use borrow.Author.Needs.{needs}
 use mathlib.Core.Path.{_≡_, refl, sym, _∙_}
 use Prim.Native.Nat.{_-_, _*_, _≤_}

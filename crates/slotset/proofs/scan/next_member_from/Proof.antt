@@ -1,7 +1,6 @@
 -- `slotset::scan::next_member_from` meets its contract. Assumes nothing.
 use borrow.Author.Needs.{needs}
 use mathlib.Core.Path.{ap, _∙_}
-use native.Mathlib.Nat.{lt-of-lt-of-le}
 use Rattle.slotset.specs.Slots.{slot}
 use Rattle.slotset.specs.Search.{nextSet}
 use Rattle.slotset.specs.Answers.{memberStep, nextMemberAs}

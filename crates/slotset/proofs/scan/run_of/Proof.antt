@@ -1,6 +1,6 @@
 -- `slotset::scan::run_of` meets its contract. Assumes nothing.
 use borrow.Author.Needs.{needs}
-use mathlib.Core.Path.{_≡_, sym, ap, ap₂, _∙_}
+use mathlib.Core.Path.{sym, ap, ap₂, _∙_}
 use Prim.Native.Nat.{_+_}
 use native.Mathlib.Nat.{le-trans}
 use native.Mathlib.Omega.{arith}
@@ -25,7 +25,8 @@ start-of-requires c κs =
     let b = c .before .before .before .before in
     let s = b .args in
     let f = slot (s .words .now) (s .base) in
-    rw (c .last-below .ensures) (le-trans (start-le 0 f (s .len) (s .i) (lastBelow 0 f (s .len) (s .i)) (last-is 0 f (s .len) (s .i))) (b .pre .1))
+    rw (c .last-below .ensures)
+    (le-trans (start-le 0 f (s .len) (s .i) (lastBelow 0 f (s .len) (s .i)) (last-is 0 f (s .len) (s .i))) (b .pre .1))
 
 add-next-with : tie.Need-add-next-with
 add-next-with c =
@@ -43,7 +44,8 @@ end-of-requires c κs =
     let b = c .before .before .before .before .before .before in
     let s = b .args in
     let f = slot (s .words .now) (s .base) in
-    let m = has-member f (s .len) (s .i) (sym (c .before .before .before .before .has-slot .ensures) ∙ c .before .before .before .if1 .taken) in (
+    let m = has-member f (s .len) (s .i)
+    (sym (c .before .before .before .before .has-slot .ensures) ∙ c .before .before .before .if1 .taken) in (
       omega (arith, m .0),
       rw (c .next-with .ensures)
           (first-above 0 f (s .len) (s .i + 1) (nextWith 0 f (s .len) (s .i + 1)) (next-is 0 f (s .len) (s .i + 1)) (omega arith)),
