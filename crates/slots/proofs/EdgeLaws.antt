@@ -72,8 +72,8 @@ module _ (keys : List ℕ) (n : ℕ) (H : HeldMerged keys n) where
     -- the last that opens early enough closes past the place
     pub edge-close : (c : ℕ) → 0 < r → c ≡ closes (getD keys (r - 1) 0) → place < c → NextEdge (take n keys) place c
     edge-close c z e h =
-        let gap = apart keys n (H .fits) (H .spaced) in
-        let room = filled keys n (H .fits) (H .spaced) in
+        let apart′ = apart keys n (H .fits) (H .spaced) in
+        let filled′ = filled keys n (H .fits) (H .spaced) in
         let few : r ≤ n = O .few in
         let last : opens (getD keys (r - 1) 0) ≤ place = O .by (r - 1) (omega arith) in
         record {
@@ -81,15 +81,15 @@ module _ (keys : List ℕ) (n : ℕ) (H : HeldMerged keys n) where
           edge = λ x. ap (isEdge (take n keys)) e ∙ edge-closes (r - 1) (omega arith);
           none = λ q a b. no-edge q
               (λ k i u.
-              ⊎-elim (λ (g : k < r). omega (arith, O .by k g)) (λ (g : r ≤ k). omega (arith, gap (r - 1) k (omega arith) i)) (lt-or-ge k r))
+              ⊎-elim (λ (g : k < r). omega (arith, O .by k g)) (λ (g : r ≤ k). omega (arith, apart′ (r - 1) k (omega arith) i)) (lt-or-ge k r))
               (λ k i u.
               ⊎-elim
-              (λ (g : k < r - 1). omega (arith, gap k (r - 1) g (omega arith)))
+              (λ (g : k < r - 1). omega (arith, apart′ k (r - 1) g (omega arith)))
               (λ (g : r - 1 ≤ k).
               ⊎-elim
               (λ (m : k < r).
               let s : k ≡ r - 1 = omega arith in omega (arith, ap (λ (j : ℕ). closes (getD keys j 0)) s))
-              (λ (m : r ≤ k). omega (arith, gap (r - 1) k (omega arith) i, room k i))
+              (λ (m : r ≤ k). omega (arith, apart′ (r - 1) k (omega arith) i, filled′ k i))
               (lt-or-ge k r))
               (lt-or-ge k (r - 1)));
         }
@@ -97,9 +97,9 @@ module _ (keys : List ℕ) (n : ℕ) (H : HeldMerged keys n) where
     -- those that open early enough have all closed by the place
     closed-by : (0 < r → closes (getD keys (r - 1) 0) ≤ place) → (k : ℕ) → k < r → closes (getD keys k 0) ≤ place
     closed-by f k h =
-        let gap = apart keys n (H .fits) (H .spaced) in
+        let apart′ = apart keys n (H .fits) (H .spaced) in
         let few : r ≤ n = O .few in
-        ⊎-elim (λ (g : k < r - 1). omega (arith, gap k (r - 1) g (omega arith), O .by (r - 1) (omega arith)))
+        ⊎-elim (λ (g : k < r - 1). omega (arith, apart′ k (r - 1) g (omega arith), O .by (r - 1) (omega arith)))
         (λ (g : r - 1 ≤ k).
         let s : k ≡ r - 1 = omega arith in omega (arith, ap (λ (j : ℕ). closes (getD keys j 0)) s, f (omega arith)))
         (lt-or-ge k (r - 1))
@@ -109,8 +109,8 @@ module _ (keys : List ℕ) (n : ℕ) (H : HeldMerged keys n) where
         → NextEdge (take n keys) place v
     unfolding opensFrom
     edge-open v f p e =
-        let gap = apart keys n (H .fits) (H .spaced) in
-        let room = filled keys n (H .fits) (H .spaced) in
+        let apart′ = apart keys n (H .fits) (H .spaced) in
+        let filled′ = filled keys n (H .fits) (H .spaced) in
         by-test (ltb r n) _
         (λ t.
         let h : r < n = ltb-true r n t in
@@ -122,15 +122,15 @@ module _ (keys : List ℕ) (n : ℕ) (H : HeldMerged keys n) where
               (λ k i u.
               ⊎-elim (λ (g : k < r). omega (arith, O .by k g))
               (λ (g : r ≤ k).
-              ⊎-elim (λ (m : r < k). omega (arith, s, gap r k m i, room r h))
+              ⊎-elim (λ (m : r < k). omega (arith, s, apart′ r k m i, filled′ r h))
               (λ (m : k ≤ r). let w : k ≡ r = omega arith in omega (arith, s, ap (λ (j : ℕ). opens (getD keys j 0)) w))
               (lt-or-ge r k))
               (lt-or-ge k r))
               (λ k i u.
               ⊎-elim (λ (g : k < r). omega (arith, closed-by f k g))
               (λ (g : r ≤ k).
-              ⊎-elim (λ (m : r < k). omega (arith, s, gap r k m i, room r h, room k i))
-              (λ (m : k ≤ r). let w : k ≡ r = omega arith in omega (arith, s, room r h, ap (λ (j : ℕ). closes (getD keys j 0)) w))
+              ⊎-elim (λ (m : r < k). omega (arith, s, apart′ r k m i, filled′ r h, filled′ k i))
+              (λ (m : k ≤ r). let w : k ≡ r = omega arith in omega (arith, s, filled′ r h, ap (λ (j : ℕ). closes (getD keys j 0)) w))
               (lt-or-ge r k))
               (lt-or-ge k r));
         })

@@ -32,7 +32,7 @@ unfolding anyOf
 any-none p [] f = refl
 any-none p (x ∷ l) f = ap₂ _||_ (f x) (any-none p l f)
 
--- an entry that passes is enough, and some entry does
+-- one entry that passes is enough; and where the test holds, some entry passes
 pub any-here : (p : ℕ → Bool) (l : List ℕ) (k : ℕ) → k < length l → p (getD l k 0) ≡ true → anyOf p l ≡ true
 unfolding anyOf
 any-here p [] k h e = absurd (not-suc-le-zero h)

@@ -7,12 +7,12 @@ use lib.ListN.{getD}
 use Rattle.paper.specs.Bits.{bitOf}
 use Rattle.paper.specs.Count.{sum}
 use Rattle.slotset.specs.Slots.{slot, size}
-use Rattle.slotset.specs.Words.{bitsBelow}
+use Rattle.slotset.specs.Words.{onesBelow}
 
 -- the slots below word j, and those of its k lowest bits
 pub count-add : (ws : List ℕ) (b j k : ℕ) → k ≤ 64
-    → size (slot ws b) (j * 64 + k) ≡ bitsBelow (getD ws (b + j) 0) k + size (slot ws b) (j * 64)
-unfolding size sum bitsBelow slot
+    → size (slot ws b) (j * 64 + k) ≡ onesBelow (getD ws (b + j) 0) k + size (slot ws b) (j * 64)
+unfolding size sum onesBelow slot
 count-add ws b j zero g = let e : j * 64 + 0 ≡ j * 64 = omega arith in ap (size (slot ws b)) e ∙ omega arith
 count-add ws b j (suc k) g =
     let e : j * 64 + suc k ≡ suc (j * 64 + k) = omega arith in

@@ -14,7 +14,7 @@ use Rattle.paper.specs.Bits.{bitOf}
 use Rattle.paper.proofs.Bits.{bit-lt, bit-and, bit-or, bit-not, bit-from, bit-before, bit-upto, bit-past}
 use Rattle.paper.proofs.Bits.{trailing-clear, trailing-set, top-clear, length-set-bit}
 use Rattle.paper.proofs.Logic.{lt-or-ge}
-use Rattle.slotset.specs.Words.{Wanted, FirstBit, LastBit, bitsBelow, Merged}
+use Rattle.slotset.specs.Words.{Wanted, FirstBit, LastBit, onesBelow, Merged}
 
 abbrev from-mask : ℕ → ℕ
 from-mask s = (2 ^ 64 - 1) * 2 ^ s % 2 ^ 64
@@ -64,8 +64,8 @@ ones-small zero h = refl
 ones-small (suc zero) h = refl
 ones-small (suc (suc b)) h = let z : ⊥ = omega arith in absurd z
 
-pub ones-mod : (w k : ℕ) → ones (w % 2 ^ k) ≡ bitsBelow w k
-unfolding bitsBelow bitOf
+pub ones-mod : (w k : ℕ) → ones (w % 2 ^ k) ≡ onesBelow w k
+unfolding onesBelow bitOf
 ones-mod w zero = ap ones (mod-one w) ∙ ones-small 0 (lit< tt)
 ones-mod w (suc k) =
     let e : suc k ≡ 1 + k = omega arith in
@@ -76,11 +76,11 @@ ones-mod w (suc k) =
 pub one-shl : (k : ℕ) → k < 64 → 1 * 2 ^ k % 2 ^ 64 ≡ 2 ^ k
 one-shl k h = shl-exact {a = 1} 1 k 64 (lit< tt) (omega arith) ∙ one-mul (2 ^ k)
 
-pub ones-masked : (w k : ℕ) → k < 64 → ones (bitAnd w (1 * 2 ^ k % 2 ^ 64 - 1)) ≡ bitsBelow w k
+pub ones-masked : (w k : ℕ) → k < 64 → ones (bitAnd w (1 * 2 ^ k % 2 ^ 64 - 1)) ≡ onesBelow w k
 ones-masked w k h = ap (λ (x : ℕ). ones (bitAnd w (x - 1))) (one-shl k h) ∙ ap ones (and-mask w k) ∙ ones-mod w k
 
-pub bits-le : (w k : ℕ) → bitsBelow w k ≤ k
-unfolding bitsBelow
+pub bits-le : (w k : ℕ) → onesBelow w k ≤ k
+unfolding onesBelow
 bits-le w zero = omega arith
 bits-le w (suc k) = omega (arith, bit-lt w k, bits-le w k)
 

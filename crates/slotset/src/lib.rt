@@ -109,7 +109,7 @@ fn stretch_no(len: usize, from: usize, to: usize) -> u8
     1
 }
 
-// Yes or no.
+// A test as an answer.
 pub(crate) fn yes_or_no(b: bool) -> Told
     ensures { λ r. ⌜ r ≡ toldAs 0 b ⌝ }
 {
@@ -155,7 +155,7 @@ impl SlotSet {
         let number = len_no(len);
         if number == 0 {
             let words = self.words;
-            return yes_or_no(scan::has_slot(&words, 0, len, i));
+            return yes_or_no(scan::contains(&words, 0, len, i));
         }
         Told::Refused(number)
     }
@@ -230,7 +230,7 @@ impl SlotSet {
         let number = len_no(len);
         if number == 0 {
             let words = self.words;
-            return yes_or_no(scan::is_empty_from(&words, 0, len));
+            return yes_or_no(scan::is_empty(&words, 0, len));
         }
         Told::Refused(number)
     }
@@ -243,7 +243,7 @@ impl SlotSet {
         let number = len_no(len);
         if number == 0 {
             let words = self.words;
-            return Counted::Is(scan::count_slots(&words, 0, len));
+            return Counted::Is(scan::count(&words, 0, len));
         }
         Counted::Refused(number)
     }
@@ -269,7 +269,7 @@ impl SlotSet {
         let number = len_no(len);
         if number == 0 {
             let words = self.words;
-            return scan::prev_set_from(&words, 0, len, from);
+            return scan::prev_set(&words, 0, len, from);
         }
         Found::Refused(number)
     }
@@ -282,7 +282,7 @@ impl SlotSet {
         let number = len_no(len);
         if number == 0 {
             let words = self.words;
-            return scan::next_unset_from(&words, 0, len, from);
+            return scan::next_unset_after(&words, 0, len, from);
         }
         Found::Refused(number)
     }
@@ -308,7 +308,7 @@ impl SlotSet {
         let number = len_no(len);
         if number == 0 {
             let words = self.words;
-            return scan::run_of(&words, 0, len, i);
+            return scan::run_bounds(&words, 0, len, i);
         }
         Run::Refused(number)
     }
@@ -322,7 +322,7 @@ impl SlotSet {
         let number = len_no(len);
         if number == 0 {
             let words = self.words;
-            return scan::next_run_from(&words, 0, len, at);
+            return scan::next_run(&words, 0, len, at);
         }
         NextRun::Refused(number)
     }
@@ -336,7 +336,7 @@ impl SlotSet {
         let number = len_no(len);
         if number == 0 {
             let words = self.words;
-            return scan::next_member_from(&words, 0, len, at);
+            return scan::next_member(&words, 0, len, at);
         }
         NextMember::Refused(number)
     }

@@ -66,7 +66,7 @@ pub fn contains(words: &[u64], people: usize, person: usize, len: usize, i: usiz
 {
     let number = row_no(words, people, person, len);
     if number == 0 {
-        return crate::yes_or_no(scan::has_slot(words, 16 * person, len, i));
+        return crate::yes_or_no(scan::contains(words, 16 * person, len, i));
     }
     Told::Refused(number)
 }
@@ -77,7 +77,7 @@ pub fn is_empty(words: &[u64], people: usize, person: usize, len: usize) -> Told
 {
     let number = row_no(words, people, person, len);
     if number == 0 {
-        return crate::yes_or_no(scan::is_empty_from(words, 16 * person, len));
+        return crate::yes_or_no(scan::is_empty(words, 16 * person, len));
     }
     Told::Refused(number)
 }
@@ -88,7 +88,7 @@ pub fn count(words: &[u64], people: usize, person: usize, len: usize) -> Counted
 {
     let number = row_no(words, people, person, len);
     if number == 0 {
-        return Counted::Is(scan::count_slots(words, 16 * person, len));
+        return Counted::Is(scan::count(words, 16 * person, len));
     }
     Counted::Refused(number)
 }
@@ -112,7 +112,7 @@ pub fn prev_set(words: &[u64], people: usize, person: usize, len: usize, from: u
 {
     let number = row_no(words, people, person, len);
     if number == 0 {
-        return scan::prev_set_from(words, 16 * person, len, from);
+        return scan::prev_set(words, 16 * person, len, from);
     }
     Found::Refused(number)
 }
@@ -130,7 +130,7 @@ pub fn next_unset_after(
 {
     let number = row_no(words, people, person, len);
     if number == 0 {
-        return scan::next_unset_from(words, 16 * person, len, from);
+        return scan::next_unset_after(words, 16 * person, len, from);
     }
     Found::Refused(number)
 }
@@ -159,7 +159,7 @@ pub fn run_bounds(words: &[u64], people: usize, person: usize, len: usize, i: us
 {
     let number = row_no(words, people, person, len);
     if number == 0 {
-        return scan::run_of(words, 16 * person, len, i);
+        return scan::run_bounds(words, 16 * person, len, i);
     }
     Run::Refused(number)
 }
@@ -171,7 +171,7 @@ pub fn next_run(words: &[u64], people: usize, person: usize, len: usize, c: Curs
     let at = c.at;
     let number = row_no(words, people, person, len);
     if number == 0 {
-        return scan::next_run_from(words, 16 * person, len, at);
+        return scan::next_run(words, 16 * person, len, at);
     }
     NextRun::Refused(number)
 }
@@ -183,7 +183,7 @@ pub fn next_member(words: &[u64], people: usize, person: usize, len: usize, c: C
     let at = c.at;
     let number = row_no(words, people, person, len);
     if number == 0 {
-        return scan::next_member_from(words, 16 * person, len, at);
+        return scan::next_member(words, 16 * person, len, at);
     }
     NextMember::Refused(number)
 }

@@ -21,7 +21,7 @@ pub(crate) fn least(a: usize, b: usize) -> usize
 }
 
 // Whether slot i is a member; at or past the length it is not.
-pub(crate) fn has_slot(words: &[u64], base: usize, len: usize, i: usize) -> bool
+pub(crate) fn contains(words: &[u64], base: usize, len: usize, i: usize) -> bool
     requires { ⌜ (base + 16 ≤ length (now words)) × (len ≤ 1024) ⌝ }
     ensures { λ r. ⌜ r ≡ has (slot (now (words .entry)) base) len i ⌝ }
 {
@@ -113,7 +113,7 @@ fn last_in_words(words: &[u64], base: usize, want: bool, before: usize) -> Found
 }
 
 // How many members the set has: whole words, then what is left of the last one.
-pub(crate) fn count_slots(words: &[u64], base: usize, len: usize) -> usize
+pub(crate) fn count(words: &[u64], base: usize, len: usize) -> usize
     requires { ⌜ (base + 16 ≤ length (now words)) × (len ≤ 1024) ⌝ }
     ensures { λ r. ⌜ r ≡ size (slot (now (words .entry)) base) len ⌝ }
 {
@@ -194,11 +194,11 @@ fn end_of(f: Found, len: usize) -> usize
 }
 
 // The run that holds slot i.
-pub(crate) fn run_of(words: &[u64], base: usize, len: usize, i: usize) -> Run
+pub(crate) fn run_bounds(words: &[u64], base: usize, len: usize, i: usize) -> Run
     requires { ⌜ (base + 16 ≤ length (now words)) × (len ≤ 1024) ⌝ }
     ensures { λ r. ⌜ r ≡ runAs 0 (slot (now (words .entry)) base) len i ⌝ }
 {
-    if has_slot(words, base, len, i) {
+    if contains(words, base, len, i) {
         let first = start_of(last_below(words, base, len, false, i));
         let last = end_of(next_with(words, base, len, false, i + 1), len);
         Run::Span { first, last }
@@ -208,7 +208,7 @@ pub(crate) fn run_of(words: &[u64], base: usize, len: usize, i: usize) -> Run
 }
 
 // The run that starts at the first member from `at` on, and the cursor one past it.
-pub(crate) fn next_run_from(words: &[u64], base: usize, len: usize, at: usize) -> NextRun
+pub(crate) fn next_run(words: &[u64], base: usize, len: usize, at: usize) -> NextRun
     requires { ⌜ (base + 16 ≤ length (now words)) × (len ≤ 1024) ⌝ }
     ensures { λ r. ⌜ r ≡ nextRunAs 0 (slot (now (words .entry)) base) len at ⌝ }
 {
@@ -228,7 +228,7 @@ pub(crate) fn next_run_from(words: &[u64], base: usize, len: usize, at: usize) -
 }
 
 // Whether the set has no member.
-pub(crate) fn is_empty_from(words: &[u64], base: usize, len: usize) -> bool
+pub(crate) fn is_empty(words: &[u64], base: usize, len: usize) -> bool
     requires { ⌜ (base + 16 ≤ length (now words)) × (len ≤ 1024) ⌝ }
     ensures { λ r. ⌜ r ≡ noMember (slot (now (words .entry)) base) len ⌝ }
 {
@@ -241,7 +241,7 @@ pub(crate) fn is_empty_from(words: &[u64], base: usize, len: usize) -> bool
 }
 
 // The last member at or before `from`; a start past the end is lowered to the last slot.
-pub(crate) fn prev_set_from(words: &[u64], base: usize, len: usize, from: usize) -> Found
+pub(crate) fn prev_set(words: &[u64], base: usize, len: usize, from: usize) -> Found
     requires { ⌜ (base + 16 ≤ length (now words)) × (len ≤ 1024) ⌝ }
     ensures { λ r. ⌜ r ≡ prevSet (slot (now (words .entry)) base) len from ⌝ }
 {
@@ -253,7 +253,7 @@ pub(crate) fn prev_set_from(words: &[u64], base: usize, len: usize, from: usize)
 }
 
 // The first slot after `from` that is no member.
-pub(crate) fn next_unset_from(words: &[u64], base: usize, len: usize, from: usize) -> Found
+pub(crate) fn next_unset_after(words: &[u64], base: usize, len: usize, from: usize) -> Found
     requires { ⌜ (base + 16 ≤ length (now words)) × (len ≤ 1024) ⌝ }
     ensures { λ r. ⌜ r ≡ nextUnsetAfter (slot (now (words .entry)) base) len from ⌝ }
 {
@@ -265,7 +265,7 @@ pub(crate) fn next_unset_from(words: &[u64], base: usize, len: usize, from: usiz
 }
 
 // The next member from what was found.
-fn member_of(f: Found) -> NextMember
+fn member_step(f: Found) -> NextMember
     requires { ⌜ Below 1024 f ⌝ }
     ensures { λ r. ⌜ r ≡ memberStep f ⌝ }
 {
@@ -280,9 +280,9 @@ fn member_of(f: Found) -> NextMember
 }
 
 // The next member from `at` on, and the cursor one past it.
-pub(crate) fn next_member_from(words: &[u64], base: usize, len: usize, at: usize) -> NextMember
+pub(crate) fn next_member(words: &[u64], base: usize, len: usize, at: usize) -> NextMember
     requires { ⌜ (base + 16 ≤ length (now words)) × (len ≤ 1024) ⌝ }
     ensures { λ r. ⌜ r ≡ nextMemberAs 0 (slot (now (words .entry)) base) len at ⌝ }
 {
-    member_of(next_with(words, base, len, true, at))
+    member_step(next_with(words, base, len, true, at))
 }

@@ -1,12 +1,12 @@
--- `slotset::scan::count_slots` meets its contract. Assumes nothing.
+-- `slotset::scan::count` meets its contract. Assumes nothing.
 use borrow.Author.Needs.{needs}
 use mathlib.Core.Path.{_≡_, ap, _∙_}
 use Prim.Native.Nat.{_+_, _*_, _/_, _%_}
 use native.Mathlib.Omega.{arith}
 use Rattle.slotset.specs.Slots.{slot, size}
 use Rattle.slotset.proofs.Counts.{count-add}
-use Rattle.slotset.proofs.scan.count_slots.Statement.{statement}
-use Rattle.slotset.proofs.scan.count_slots.Tie as tie
+use Rattle.slotset.proofs.scan.count.Statement.{statement}
+use Rattle.slotset.proofs.scan.count.Tie as tie
 
 count-words-requires : tie.Need-count-words-requires
 count-words-requires c κs = search needs
@@ -41,8 +41,8 @@ returns-2 c =
     let e : c .before .before .before .args .len / 64 * 64 ≡ c .before .before .before .args .len = omega arith in
     c .before .count-words .ensures .0 ∙ ap (size _) e
 
-pub count-slots-spec : {M : Type 1} → statement M
-count-slots-spec =
+pub count-spec : {M : Type 1} → statement M
+count-spec =
     tie.close
     (tie.spec
     count-words-requires
