@@ -32,7 +32,7 @@ pub(crate) fn contains(words: &[u64], base: usize, len: usize, i: usize) -> bool
     }
 }
 
-// The slot that a search came to, unless it is not below the length.
+// The slot that a search came to; nothing where that is not below the length.
 fn found_below(len: usize, hit: usize) -> Found
     ensures { λ r. ⌜ r ≡ foundBelow len hit ⌝ }
 {
