@@ -1,6 +1,6 @@
 -- The outcome of splitting. Assumes nothing.
 use mathlib.Core.Path.{_≡_, refl, sym, ap, _∙_}
-use mathlib.Core.Bool.{Bool, true, false, _&&_}
+use mathlib.Core.Bool.{true, false, _&&_, cond}
 use mathlib.Core.Logic.{⊎-elim}
 use mathlib.Core.List.{List}
 use Prim.Native.Nat.{ℕ, _+_, _≤_, _<_}
@@ -16,9 +16,9 @@ use Rattle.slotset.specs.Answers.{countedAs, wordsAs}
 use Rattle.slots.specs.Lent.{slotRoomOk, slotsOk, SlotsSound}
 use Rattle.slots.specs.Ranges.{rangeCountOk, rangeRoomOk, rangesOk, RangesSound}
 use Rattle.slots.specs.Walk.{MergedFrom}
-use Rattle.slots.specs.Atomic.{atomStarts, atomEnds, Base, splitCountsOk, roomOk, baseCountsOk, baseRoomOk, baseNo, atomiseNo, atomiseOf}
-use Rattle.slots.specs.Atomic.{startsOfAtoms, endsOfAtoms, AtomsEnd, orFull, Grown}
-use Rattle.slots.proofs.LentLaws.{room-says, slots-sound}
+use Rattle.slots.specs.Atomic.{atomStarts, atomEnds, Base, splitCountsOk, roomOk, baseCountsOk, baseRoomOk, baseNo}
+use Rattle.slots.specs.Atomic.{atomiseNo, atomiseOf, startsOfAtoms, endsOfAtoms, AtomsEnd, orFull, Grown}
+use Rattle.slots.proofs.LentLaws.{room-says, slots-sound, more-after}
 use Rattle.slots.proofs.RangeLaws.{ranges-sound}
 use Rattle.slots.proofs.MergedLaws.{front-written}
 use Rattle.slots.proofs.CutLaws.{full-some, full-over}
@@ -55,28 +55,21 @@ base-says B e =
 
 -- ---- 5 comes after the others
 
--- a chain of four that gives none goes on to its fifth test; one that gives a number gives it with five
-then-five : (a b c d f : Bool) (n : ℕ) → n ≡ orElse a 1 (orElse b 2 (orElse c 3 (orElse d 4 0)))
-    → (n ≡ 0 → orElse a 1 (orElse b 2 (orElse c 3 (orElse d 4 (orElse f 5 0)))) ≡ orElse f 5 0)
-    × ((n ≡ 0 → ⊥) → orElse a 1 (orElse b 2 (orElse c 3 (orElse d 4 (orElse f 5 0)))) ≡ n)
-then-five true true true true f n e = (λ z. refl, λ z. absurd (z e))
-then-five true true true false f n e = (λ z. absurd (omega arith), λ z. sym e)
-then-five true true false d f n e = (λ z. absurd (omega arith), λ z. sym e)
-then-five true false c d f n e = (λ z. absurd (omega arith), λ z. sym e)
-then-five false b c d f n e = (λ z. absurd (omega arith), λ z. sym e)
-
 module _ (B : Base) (number : ℕ) (e : number ≡ baseNo B) where
-  pub after-none : number ≡ 0 → atomiseNo B ≡ orElse (leb (length (startsOfAtoms B)) 1024) 5 0
+  then-five : atomiseNo B ≡ cond (eqb number 0) (orElse (leb (length (startsOfAtoms B)) 1024) 5 0) number
   unfolding baseNo atomiseNo
-  after-none =
-      then-five (baseCountsOk B) (baseRoomOk B) (slotsOk (B .slots) (B .starts) (B .ends)) (rangesOk (B .people) (B .ranges))
-      (leb (length (startsOfAtoms B)) 1024) number e .0
+  then-five =
+      more-after (baseCountsOk B) 0 _ _ _
+      (more-after (baseRoomOk B) 1 _ _ _
+      (more-after (slotsOk (B .slots) (B .starts) (B .ends)) 2 _ _ _
+      (more-after (rangesOk (B .people) (B .ranges)) 3 0 _ (orElse (leb (length (startsOfAtoms B)) 1024) 5 0) refl)))
+      ∙ ap (λ (n : ℕ). cond (eqb n 0) (orElse (leb (length (startsOfAtoms B)) 1024) 5 0) n) (sym e)
+
+  pub after-none : number ≡ 0 → atomiseNo B ≡ orElse (leb (length (startsOfAtoms B)) 1024) 5 0
+  after-none z = then-five ∙ simp (eq-eqb number 0 z)
 
   pub after-some : (number ≡ 0 → ⊥) → atomiseNo B ≡ number
-  unfolding baseNo atomiseNo
-  after-some =
-      then-five (baseCountsOk B) (baseRoomOk B) (slotsOk (B .slots) (B .starts) (B .ends)) (rangesOk (B .people) (B .ranges))
-      (leb (length (startsOfAtoms B)) 1024) number e .1
+  after-some z = then-five ∙ simp (ne-eqb number 0 z)
 
 -- ---- refused, and done
 

@@ -1,10 +1,9 @@
 -- A slot is available exactly where one merged range holds it whole; and the sets, row by row. Assumes nothing.
 use mathlib.Core.Path.{_≡_, refl, sym, ap, _∙_}
-use mathlib.Core.Bool.{Bool, true, false, _&&_, _||_}
+use mathlib.Core.Bool.{Bool, true, false, _&&_}
 use mathlib.Core.Logic.{⊎-elim}
 use mathlib.Core.List.{List, [], _∷_}
 use Prim.Native.Nat.{ℕ, zero, suc, _+_, _-_, _*_, _≤_, _<_}
-use native.Mathlib.Nat.{not-suc-le-zero}
 use native.Mathlib.Numerals.{add-one}
 use native.Mathlib.Omega.{arith}
 use borrow.Author.Tests.{leb-true, ltb-true, ltb-false, le-leb, lt-ltb, le-ltb, eq-eqb, ne-eqb}
@@ -13,11 +12,13 @@ use lib.ListN.{length, getD, take}
 use lib.Seq.{getD-take, length-take-le}
 use Rattle.paper.specs.Limits.{peopleOk, slotCountOk}
 use Rattle.paper.specs.Count.{allIn}
-use Rattle.paper.proofs.Logic.{by-test, lt-or-ge, both, three, and-true, or-left, same-test, cond-zero, people-says, slot-count-says, or-either, or-second}
+use Rattle.paper.proofs.Logic.{by-test, lt-or-ge, both, three, and-true, or-left, or-second, or-either, same-test}
+use Rattle.paper.proofs.Logic.{cond-zero, people-says, slot-count-says}
 use Rattle.paper.proofs.Count.{in-each, each-in}
 use Rattle.slotset.specs.Slots.{putSlot, putSlots, valueOf}
-use Rattle.slotset.specs.Answers.{rowNo, rowStretchNo, rowStretchOf, wordsAs}
+use Rattle.slotset.specs.Answers.{rowStretchOf, wordsAs}
 use Rattle.slotset.proofs.Puts.{length-puts, puts-one, puts-same}
+use Rattle.slotset.proofs.Refusals.{says-row, stretch-puts}
 use Rattle.slots.specs.Lent.{slotRoomOk, slotsOk, SlotsSound}
 use Rattle.slots.specs.Ranges.{anyOf, Ranges, rangeCountOk, rangeRoomOk, rangesOk, RangesSound, inRanges, available}
 use Rattle.slots.specs.Ranges.{opens, closes, mergedOf, Spaced}
@@ -25,11 +26,11 @@ use Rattle.slots.specs.Walk.{MergedFrom}
 use Rattle.slots.specs.Freeze.{Opening}
 use Rattle.slots.specs.Atomic.{splitCountsOk}
 use Rattle.slots.specs.Availability.{availableBit, rows, availabilityRoomOk, availabilityNo, availabilityOf, spans, reaches, heldBit}
+use Rattle.slots.proofs.Entries.{any-here, any-one}
 use Rattle.slots.proofs.Keys.{inLine, in-line, line-in}
 use Rattle.slots.proofs.LentLaws.{slots-sound}
-use Rattle.slots.proofs.Merging.{before-none, any-minutes}
+use Rattle.slots.proofs.Merging.{before-none, spaced-filled, spaced-apart, any-minutes}
 use Rattle.slots.proofs.RangeLaws.{ranges-sound, merged-is}
-use Rattle.slots.proofs.MergedLaws.{any-at}
 
 -- ---- spaced lists, place by place
 
@@ -98,78 +99,63 @@ held-available R S p s e h g =
 
 -- ---- the one candidate
 
-spaced-after : (from : ℕ) (l : List ℕ) → Spaced from l → (k : ℕ) → k < length l → from ≤ opens (getD l k 0)
-spaced-after from [] s k h = absurd (not-suc-le-zero h)
-spaced-after from (x ∷ l) s zero h = s .0
-spaced-after from (x ∷ l) s (suc k) h = omega (arith, spaced-after (suc (closes x)) l (s .2) k (omega arith), s .0, s .1)
+-- the merged ranges as the code holds them: the first n of the keys
+module _ (keys : List ℕ) (n : ℕ) (fits : n ≤ length keys) (s : Spaced 0 (take n keys)) where
+  pub at-front : (k : ℕ) → k < n → (k < length (take n keys)) × (getD (take n keys) k 0 ≡ getD keys k 0)
+  at-front k h = (omega (arith, length-take-le n keys fits), getD-take n keys k 0 h)
 
-pub spaced-order : (from : ℕ) (l : List ℕ) → Spaced from l → (k j : ℕ) → k < j → j < length l
-    → (opens (getD l k 0) < closes (getD l k 0)) × (closes (getD l k 0) < opens (getD l j 0))
-spaced-order from [] s k j h g = absurd (not-suc-le-zero g)
-spaced-order from (x ∷ l) s zero zero h g = absurd (omega arith)
-spaced-order from (x ∷ l) s zero (suc j) h g = (s .1, spaced-after (suc (closes x)) l (s .2) j (omega arith))
-spaced-order from (x ∷ l) s (suc k) zero h g = absurd (omega arith)
-spaced-order from (x ∷ l) s (suc k) (suc j) h g = spaced-order (suc (closes x)) l (s .2) k j (omega arith) (omega arith)
+  -- none is empty, and each closes before any later one opens
+  pub filled : (k : ℕ) → k < n → opens (getD keys k 0) < closes (getD keys k 0)
+  filled k h =
+      let f = at-front k h in
+      omega (arith, spaced-filled 0 (take n keys) s k (f .0), ap opens (f .1), ap closes (f .1))
 
--- an entry that passes
-pub some-by : (p : ℕ → Bool) (l : List ℕ) (X : Type 0) → anyOf p l ≡ true → ((k : ℕ) → k < length l → p (getD l k 0) ≡ true → X) → X
-unfolding anyOf
-some-by p [] X e f = absurd (mathlib.Core.Bool.false≢true e)
-some-by p (x ∷ l) X e f =
-    ⊎-elim (λ t. f zero (omega arith) t) (λ t. some-by p l X t (λ k h u. f (suc k) (omega arith) u)) (or-either (p x) (anyOf p l) e)
+  pub apart : (k j : ℕ) → k < j → j < n → closes (getD keys k 0) < opens (getD keys j 0)
+  apart k j h g =
+      let f = at-front j g in
+      omega (arith, spaced-apart 0 (take n keys) s k j h (f .0), ap closes (at-front k (omega arith) .1), ap opens (f .1))
 
-module _ (keys : List ℕ) (n a b : ℕ) (fits : n ≤ length keys) (s : Spaced 0 (take n keys)) where
-  at-front : (k : ℕ) → k < n → getD (take n keys) k 0 ≡ getD keys k 0
-  at-front k h = getD-take n keys k 0 h
-
-  front-size : length (take n keys) ≡ n
-  front-size = length-take-le n keys fits
-
-  -- the places where merged ranges open rise
+  -- so the places where they open rise
   pub opens-rise : (k j : ℕ) → k < j → j < n → opens (getD keys k 0) ≤ opens (getD keys j 0)
-  opens-rise k j h g =
-      let w = spaced-order 0 (take n keys) s k j h (omega (arith, front-size)) in
-      omega (arith, w .0, w .1, ap opens (at-front k (omega arith)), ap opens (at-front j g))
+  opens-rise k j h g = omega (arith, filled k (omega arith), apart k j h g)
 
-  module _ (r : ℕ) (O : Opening n (λ k. opens (getD keys k 0)) a r) (order : a ≤ b) where
+  -- a test that one of them passes
+  pub front-here : (p : ℕ → Bool) (k : ℕ) → k < n → p (getD keys k 0) ≡ true → anyOf p (take n keys) ≡ true
+  front-here p k h e = let f = at-front k h in any-here p (take n keys) k (f .0) (ap p (f .1) ∙ e)
+
+  pub front-one : (p : ℕ → Bool) (X : Type 0) → anyOf p (take n keys) ≡ true → ((k : ℕ) → k < n → p (getD keys k 0) ≡ true → X) → X
+  front-one p X e f =
+      any-one p (take n keys) X e
+      (λ k h t. let i : k < n = omega (arith, length-take-le n keys fits) in f k i (ap p (sym (at-front k i .1)) ∙ t))
+
+  pub front-none : (p : ℕ → Bool) → ((k : ℕ) → k < n → p (getD keys k 0) ≡ true → ⊥) → false ≡ anyOf p (take n keys)
+  front-none p f =
+      same-test false (anyOf p (take n keys)) (λ e. absurd (mathlib.Core.Bool.false≢true e)) (λ e. absurd (front-one p ⊥ e f))
+
+  module _ (a b r : ℕ) (O : Opening n (λ k. opens (getD keys k 0)) a r) (order : a ≤ b) where
     -- none opens early enough
     pub covered-none : r ≤ 0 → false ≡ anyOf (spans a b) (take n keys)
     covered-none z =
-        same-test false (anyOf (spans a b) (take n keys)) (λ e. absurd (mathlib.Core.Bool.false≢true e))
-        (λ e. absurd (some-by (spans a b) (take n keys) ⊥ e
-        (λ k h t.
-        let w = spans-says a b (getD (take n keys) k 0) t in
-        omega (arith, w .0, ap opens (at-front k (omega (arith, front-size))), O .after k (omega arith) (omega (arith, front-size))))))
+        front-none (spans a b)
+        (λ k h t. omega (arith, spans-says a b (getD keys k 0) t .0, O .after k (omega arith) h))
 
     -- the last that opens early enough holds them all, or none does
     pub covered-last : 0 < r → (c : ℕ) → c ≡ closes (getD keys (r - 1) 0) → leb b c ≡ anyOf (spans a b) (take n keys)
     covered-last z c e =
-        let x = getD keys (r - 1) 0 in
         let few : r ≤ n = O .few in
-        let q = at-front (r - 1) (omega arith) in
+        let last : opens (getD keys (r - 1) 0) ≤ a = O .by (r - 1) (omega arith) in
         same-test (leb b c) (anyOf (spans a b) (take n keys))
-        (λ t. any-at (spans a b) (take n keys) (r - 1) (omega (arith, front-size))
-        (says-spans a b (getD (take n keys) (r - 1) 0)
-        (omega (arith, O .by (r - 1) (omega arith), ap opens q)) (omega (arith, leb-true b c t, ap closes q))))
-        (λ t. some-by (spans a b) (take n keys) _ t
+        (λ t. front-here (spans a b) (r - 1) (omega arith) (says-spans a b (getD keys (r - 1) 0) last (omega (arith, leb-true b c t))))
+        (λ t. front-one (spans a b) _ t
         (λ k h u.
-        let w = spans-says a b (getD (take n keys) k 0) u in
+        let w = spans-says a b (getD keys k 0) u in
         let early : k < r =
-        ⊎-elim (λ g. g) (λ (g : r ≤ k). absurd (omega (
-          arith,
-          w .0,
-          ap opens (at-front k (omega (arith, front-size))),
-          O .after k g
-              (omega (arith, front-size)),
-        )))
-        (lt-or-ge k r) in
+        ⊎-elim (λ g. g) (λ (g : r ≤ k). absurd (omega (arith, w .0, O .after k g h))) (lt-or-ge k r) in
         ⊎-elim
-        (λ (g : k < r - 1).
-        let v = spaced-order 0 (take n keys) s k (r - 1) g (omega (arith, front-size)) in
-        absurd (omega (arith, v .1, w .1, ap opens q, O .by (r - 1) (omega arith))))
+        (λ (g : k < r - 1). absurd (omega (arith, w .1, apart k (r - 1) g (omega arith))))
         (λ (g : r - 1 ≤ k).
         let m : k ≡ r - 1 = omega arith in
-        le-leb b c (omega (arith, w .1, ap (λ (i : ℕ). closes (getD (take n keys) i 0)) m, ap closes q)))
+        le-leb b c (omega (arith, w .1, ap (λ (i : ℕ). closes (getD keys i 0)) m)))
         (lt-or-ge k (r - 1))))
 
     -- and so it is asked of that one
@@ -208,18 +194,11 @@ module _ (n : ℕ) (f : ℕ → ℕ) (bound r : ℕ) (few : r ≤ n) (by : (k : 
 -- ---- the sets, slot by slot and row by row
 
 module _ (people person slots : ℕ) (ok : peopleOk people ≡ true) (few : slots ≤ 1024) (known : person < people) where
-  row-none : (ws : List ℕ) → 16 * people ≤ length ws → rowNo ws people person slots ≡ 0
-  unfolding rowNo
-  row-none ws room = simp (ok, le-leb slots 1024 few, le-leb (16 * people) (length ws) room, lt-ltb person people known)
-
   pub row-put : (ws : List ℕ) → 16 * people ≤ length ws → (k v : ℕ) → k < slots
       → rowStretchOf v ws people person slots k (k + 1) ≡ putSlot (16 * person) k v ws
-  unfolding rowStretchOf rowStretchNo wordsAs
   row-put ws room k v h =
-      let e = row-none ws room in
-      let t : (leb (k + 1) k || leb (k + 1) slots) ≡ true = or-second (leb (k + 1) k) (leb (k + 1) slots) (le-leb (k + 1) slots
-      (omega arith)) in
-      simp (e, t) (puts-one v (16 * person) k ws)
+      stretch-puts v ws people person slots k (k + 1) (says-row ws people person slots ok few room known) (omega arith)
+      ∙ puts-one v (16 * person) k ws
 
 -- one slot more of a row
 pub row-more : (g : ℕ → ℕ) (b k : ℕ) (ws₀ ws next : List ℕ) → ws ≡ putSlots g b 0 k ws₀ → next ≡ putSlot b k (g k) ws

@@ -9,11 +9,12 @@ use native.Mathlib.Omega.{arith}
 use borrow.Author.Tests.{lt-ltb, le-ltb, le-leb, lt-leb}
 use lib.Dec.{ltb}
 use lib.ListN.{length, getD, take, set, length-append, length-set}
-use lib.Seq.{take-suc, take-suc-set, length-take-le}
+use lib.Seq.{length-take-le}
 use Rattle.paper.specs.Count.{among}
 use Rattle.paper.proofs.Logic.{lt-or-ge, and-true, and-stops}
 use Rattle.paper.proofs.Count.{among-in, among-out}
 use Rattle.slots.specs.Atomic.{isCut, cutAfter, cutsIn, atomStarts, atomEnds, orFull, NextCut, Grown}
+use Rattle.slots.proofs.Entries.{push}
 
 -- ---- the cuts inside one slot
 
@@ -82,10 +83,6 @@ pub record Splitting (l : List ℕ) (s count prev m : ℕ) (S₀ E₀ S E : List
   pub lengths : (length S ≡ length S₀) × (length E ≡ length E₀)
   pub starts : take m S ++ (prev ∷ []) ≡ take count S₀ ++ (s ∷ among (cutAfter l s) (prev + 1))
   pub ends : take m E ≡ take count E₀ ++ among (cutAfter l s) (prev + 1)
-
--- one entry more at a list's end
-pub push : (k : List ℕ) (m x : ℕ) → m < length k → take (m + 1) (set k m x) ≡ take m k ++ (x ∷ [])
-push k m x h = ap (λ (n : ℕ). take n (set k m x)) (add-one m) ∙ take-suc-set k m x h
 
 pub full-some : (n : ℕ) → n ≤ 1024 → orFull n ≡ n
 unfolding orFull

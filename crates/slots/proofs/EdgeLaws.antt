@@ -3,24 +3,25 @@ use mathlib.Core.Path.{_≡_, refl, sym, ap, _∙_}
 use mathlib.Core.Bool.{Bool, true, false, _&&_, _||_}
 use mathlib.Core.Logic.{⊎-elim}
 use mathlib.Core.List.{List}
-use Prim.Native.Nat.{ℕ, zero, suc, _+_, _-_, _*_, _≤_, _<_}
+use Prim.Native.Nat.{ℕ, suc, _+_, _-_, _*_, _≤_, _<_}
 use native.Mathlib.Numerals.{add-one}
 use native.Mathlib.Omega.{arith}
 use borrow.Author.Tests.{ltb-true, ltb-false, lt-ltb, le-ltb, eq-eqb, eqb-true}
 use lib.Dec.{ltb, eqb}
 use lib.ListN.{length, getD, take}
 use lib.Seq.{getD-take, length-take-le}
-use Rattle.paper.proofs.Count.{some-one}
+use Rattle.paper.proofs.Count.{some-here, some-one}
 use Rattle.paper.specs.Count.{some}
 use Rattle.paper.proofs.Logic.{by-test, lt-or-ge, both, and-true, or-left, same-test, or-either, or-second}
-use Rattle.slots.specs.Ranges.{anyOf, Ranges, RangesSound, personOf, startOf, endOf, opens, closes}
+use Rattle.slots.specs.Ranges.{Ranges, RangesSound, personOf, startOf, endOf, opens, closes}
 use Rattle.slots.specs.Walk.{MergedFrom}
 use Rattle.slots.specs.Freeze.{Opening}
 use Rattle.slots.specs.Atomic.{startsOrEnds, isCut, NextCut, nearer}
 use Rattle.slots.specs.Atomic.{HeldMerged, opensOrCloses, isEdge, opensFrom, NextEdge}
+use Rattle.slots.proofs.Entries.{any-here, any-one}
 use Rattle.slots.proofs.Keys.{start-lt, end-lt}
-use Rattle.slots.proofs.MergedLaws.{any-at, spaced-some, held-known}
-use Rattle.slots.proofs.AvailLaws.{spaced-order, some-by, held-spaced}
+use Rattle.slots.proofs.MergedLaws.{held-known}
+use Rattle.slots.proofs.AvailLaws.{filled, apart, front-here, front-none, held-spaced}
 
 or-none : (a b : Bool) → a ≡ false → b ≡ false → a || b ≡ false
 or-none a b f g = simp (f, g)
@@ -45,51 +46,34 @@ unfolding opensFrom
 opens-past keys n r h = simp (le-ltb r n h)
 
 module _ (keys : List ℕ) (n : ℕ) (H : HeldMerged keys n) where
-  at-front : (k : ℕ) → k < n → getD (take n keys) k 0 ≡ getD keys k 0
-  at-front k h = getD-take n keys k 0 h
-
-  front-size : length (take n keys) ≡ n
-  front-size = length-take-le n keys (H .fits)
-
-  -- no range is empty, and each closes before the next opens
-  filled : (k : ℕ) → k < n → opens (getD keys k 0) < closes (getD keys k 0)
-  filled k h =
-      let w = spaced-some 0 (take n keys) (H .spaced) k (omega (arith, front-size)) in
-      omega (arith, w, ap opens (at-front k h), ap closes (at-front k h))
-
-  apart : (k j : ℕ) → k < j → j < n → closes (getD keys k 0) < opens (getD keys j 0)
-  apart k j h g =
-      let w = spaced-order 0 (take n keys) (H .spaced) k j h (omega (arith, front-size)) in
-      omega (arith, w .1, ap closes (at-front k (omega arith)), ap opens (at-front j g))
-
   -- an edge is some range's
   edge-opens : (k : ℕ) → k < n → isEdge (take n keys) (opens (getD keys k 0)) ≡ true
   unfolding isEdge opensOrCloses
   edge-opens k h =
-      any-at (opensOrCloses (opens (getD keys k 0))) (take n keys) k (omega (arith, front-size))
-      (or-left _ _ (eq-eqb _ _ (ap opens (at-front k h))))
+      let o = opens (getD keys k 0) in
+      front-here keys n (H .fits) (H .spaced) (opensOrCloses o) k h (or-left (eqb o o) _ (eq-eqb o o refl))
 
   edge-closes : (k : ℕ) → k < n → isEdge (take n keys) (closes (getD keys k 0)) ≡ true
   unfolding isEdge opensOrCloses
   edge-closes k h =
-      any-at (opensOrCloses (closes (getD keys k 0))) (take n keys) k (omega (arith, front-size))
-      (or-second (eqb (opens (getD (take n keys) k 0)) (closes (getD keys k 0))) _ (eq-eqb _ _ (ap closes (at-front k h))))
+      let c = closes (getD keys k 0) in
+      front-here keys n (H .fits) (H .spaced) (opensOrCloses c) k h (or-second (eqb (opens (getD keys k 0)) c) _ (eq-eqb c c refl))
 
   no-edge : (q : ℕ) → ((k : ℕ) → k < n → opens (getD keys k 0) ≡ q → ⊥) → ((k : ℕ) → k < n → closes (getD keys k 0) ≡ q → ⊥)
       → isEdge (take n keys) q ≡ false
   unfolding isEdge opensOrCloses
   no-edge q f g =
-      sym (same-test false (anyOf (opensOrCloses q) (take n keys)) (λ e. absurd (mathlib.Core.Bool.false≢true e))
-      (λ e. absurd (some-by (opensOrCloses q) (take n keys) ⊥ e
+      sym (front-none keys n (H .fits) (H .spaced) (opensOrCloses q)
       (λ k h t.
-      let i : k < n = omega (arith, front-size) in
-      ⊎-elim (λ u. f k i (sym (ap opens (at-front k i)) ∙ eqb-true _ _ u)) (λ u. g k i (sym (ap closes (at-front k i)) ∙ eqb-true _ _ u))
-      (or-either (eqb (opens (getD (take n keys) k 0)) q) (eqb (closes (getD (take n keys) k 0)) q) t)))))
+      ⊎-elim (λ u. f k h (eqb-true _ _ u)) (λ u. g k h (eqb-true _ _ u))
+      (or-either (eqb (opens (getD keys k 0)) q) (eqb (closes (getD keys k 0)) q) t)))
 
   module _ (place r : ℕ) (O : Opening n (λ k. opens (getD keys k 0)) place r) where
     -- the last that opens early enough closes past the place
     pub edge-close : (c : ℕ) → 0 < r → c ≡ closes (getD keys (r - 1) 0) → place < c → NextEdge (take n keys) place c
     edge-close c z e h =
+        let apart′ = apart keys n (H .fits) (H .spaced) in
+        let filled′ = filled keys n (H .fits) (H .spaced) in
         let few : r ≤ n = O .few in
         let last : opens (getD keys (r - 1) 0) ≤ place = O .by (r - 1) (omega arith) in
         record {
@@ -97,15 +81,15 @@ module _ (keys : List ℕ) (n : ℕ) (H : HeldMerged keys n) where
           edge = λ x. ap (isEdge (take n keys)) e ∙ edge-closes (r - 1) (omega arith);
           none = λ q a b. no-edge q
               (λ k i u.
-              ⊎-elim (λ (g : k < r). omega (arith, O .by k g)) (λ (g : r ≤ k). omega (arith, apart (r - 1) k (omega arith) i)) (lt-or-ge k r))
+              ⊎-elim (λ (g : k < r). omega (arith, O .by k g)) (λ (g : r ≤ k). omega (arith, apart′ (r - 1) k (omega arith) i)) (lt-or-ge k r))
               (λ k i u.
               ⊎-elim
-              (λ (g : k < r - 1). omega (arith, apart k (r - 1) g (omega arith)))
+              (λ (g : k < r - 1). omega (arith, apart′ k (r - 1) g (omega arith)))
               (λ (g : r - 1 ≤ k).
               ⊎-elim
               (λ (m : k < r).
               let s : k ≡ r - 1 = omega arith in omega (arith, ap (λ (j : ℕ). closes (getD keys j 0)) s))
-              (λ (m : r ≤ k). omega (arith, apart (r - 1) k (omega arith) i, filled k i))
+              (λ (m : r ≤ k). omega (arith, apart′ (r - 1) k (omega arith) i, filled′ k i))
               (lt-or-ge k r))
               (lt-or-ge k (r - 1)));
         }
@@ -113,8 +97,9 @@ module _ (keys : List ℕ) (n : ℕ) (H : HeldMerged keys n) where
     -- those that open early enough have all closed by the place
     closed-by : (0 < r → closes (getD keys (r - 1) 0) ≤ place) → (k : ℕ) → k < r → closes (getD keys k 0) ≤ place
     closed-by f k h =
+        let apart′ = apart keys n (H .fits) (H .spaced) in
         let few : r ≤ n = O .few in
-        ⊎-elim (λ (g : k < r - 1). omega (arith, apart k (r - 1) g (omega arith), O .by (r - 1) (omega arith)))
+        ⊎-elim (λ (g : k < r - 1). omega (arith, apart′ k (r - 1) g (omega arith), O .by (r - 1) (omega arith)))
         (λ (g : r - 1 ≤ k).
         let s : k ≡ r - 1 = omega arith in omega (arith, ap (λ (j : ℕ). closes (getD keys j 0)) s, f (omega arith)))
         (lt-or-ge k (r - 1))
@@ -124,6 +109,8 @@ module _ (keys : List ℕ) (n : ℕ) (H : HeldMerged keys n) where
         → NextEdge (take n keys) place v
     unfolding opensFrom
     edge-open v f p e =
+        let apart′ = apart keys n (H .fits) (H .spaced) in
+        let filled′ = filled keys n (H .fits) (H .spaced) in
         by-test (ltb r n) _
         (λ t.
         let h : r < n = ltb-true r n t in
@@ -135,15 +122,15 @@ module _ (keys : List ℕ) (n : ℕ) (H : HeldMerged keys n) where
               (λ k i u.
               ⊎-elim (λ (g : k < r). omega (arith, O .by k g))
               (λ (g : r ≤ k).
-              ⊎-elim (λ (m : r < k). omega (arith, s, apart r k m i, filled r h))
+              ⊎-elim (λ (m : r < k). omega (arith, s, apart′ r k m i, filled′ r h))
               (λ (m : k ≤ r). let w : k ≡ r = omega arith in omega (arith, s, ap (λ (j : ℕ). opens (getD keys j 0)) w))
               (lt-or-ge r k))
               (lt-or-ge k r))
               (λ k i u.
               ⊎-elim (λ (g : k < r). omega (arith, closed-by f k g))
               (λ (g : r ≤ k).
-              ⊎-elim (λ (m : r < k). omega (arith, s, apart r k m i, filled r h, filled k i))
-              (λ (m : k ≤ r). let w : k ≡ r = omega arith in omega (arith, s, filled r h, ap (λ (j : ℕ). closes (getD keys j 0)) w))
+              ⊎-elim (λ (m : r < k). omega (arith, s, apart′ r k m i, filled′ r h, filled′ k i))
+              (λ (m : k ≤ r). let w : k ≡ r = omega arith in omega (arith, s, filled′ r h, ap (λ (j : ℕ). closes (getD keys j 0)) w))
               (lt-or-ge r k))
               (lt-or-ge k r));
         })
@@ -228,26 +215,19 @@ module _ (l : List ℕ) (after end : ℕ) where
         (λ u.
         let w = eqb-true (personOf x * 268435456 + endOf x) (q * 268435456 + t) u in
         or-second (eqb (startOf x) t) _ (eq-eqb (endOf x) t (omega (arith, w, end-lt x))))
-        (or-either (eqb (personOf x * 268435456 + startOf x) (q * 268435456 + t)) (eqb (personOf x * 268435456 + endOf x) (q * 268435456 + t)) e)
-
-    some-at : (n : ℕ) (p : ℕ → Bool) (k : ℕ) → k < n → p k ≡ true → some n p ≡ true
-    unfolding some
-    some-at zero p k h e = absurd (omega arith)
-    some-at (suc n) p k h e =
-        ⊎-elim (λ (g : k < n). or-left _ _ (some-at n p k g e))
-        (λ (g : n ≤ k). let w : n ≡ k = omega arith in or-second (some n p) _ (ap p w ∙ e))
-        (lt-or-ge k n)
+        (or-either (eqb (personOf x * 268435456 + startOf x) (q * 268435456 + t))
+        (eqb (personOf x * 268435456 + endOf x) (q * 268435456 + t)) e)
 
     all-cuts : (t : ℕ) → t < 268435456 → cutBelow 32 t ≡ isCut l t
     unfolding isCut isEdge
     all-cuts t h =
         same-test (cutBelow 32 t) (isCut l t)
         (λ e. some-one 32 (λ q. isEdge l (q * 268435456 + t)) _ e
-        (λ q g u. some-by (opensOrCloses (q * 268435456 + t)) l _ u
-        (λ k i w. any-at (startsOrEnds t) l k i (edge-own (getD l k 0) q t h w))))
-        (λ e. some-by (startsOrEnds t) l _ e
-        (λ k i w. some-at 32 (λ q. isEdge l (q * 268435456 + t)) (personOf (getD l k 0)) (known k i)
-        (any-at (opensOrCloses (personOf (getD l k 0) * 268435456 + t)) l k i (own-edge (getD l k 0) t w))))
+        (λ q g u. any-one (opensOrCloses (q * 268435456 + t)) l _ u
+        (λ k i w. any-here (startsOrEnds t) l k i (edge-own (getD l k 0) q t h w))))
+        (λ e. any-one (startsOrEnds t) l _ e
+        (λ k i w. some-here 32 (personOf (getD l k 0)) (λ q. isEdge l (q * 268435456 + t)) (known k i)
+        (any-here (opensOrCloses (personOf (getD l k 0) * 268435456 + t)) l k i (own-edge (getD l k 0) t w))))
 
     pub below-end : (b : ℕ) → end ≤ 100000000 → Near (cutBelow 32) after end b → NextCut l after end b
     below-end b capped N =

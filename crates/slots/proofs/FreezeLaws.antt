@@ -1,21 +1,22 @@
 -- The slots that end by an instant open the list: their count, and their marks. Assumes nothing.
 use mathlib.Core.Path.{_≡_, refl, sym, ap, ap₂, _∙_}
-use mathlib.Core.Bool.{Bool, true, false, _&&_, _||_}
+use mathlib.Core.Bool.{Bool, true, false, _&&_}
 use mathlib.Core.Logic.{⊎-elim}
 use mathlib.Core.List.{List}
 use Prim.Native.Nat.{ℕ, zero, suc, _+_, _-_, _*_, _≤_, _<_}
 use native.Mathlib.Omega.{arith}
-use borrow.Author.Tests.{le-leb, lt-leb, leb-true, eq-eqb, ne-eqb}
+use borrow.Author.Tests.{le-leb, lt-leb, leb-true, ltb-true, eq-eqb, ne-eqb}
 use lib.Dec.{leb, ltb, eqb}
 use lib.ListN.{length, getD}
 use Rattle.paper.specs.Limits.{peopleOk, slotCountOk}
 use Rattle.paper.specs.Count.{sum, count}
-use Rattle.paper.proofs.Logic.{lt-or-ge, both, cond-zero, slot-count-says, or-second}
+use Rattle.paper.proofs.Logic.{lt-or-ge, both, cond-zero, slot-count-says}
 use Rattle.slotset.specs.declared.Counted.the-variants as counted
 use Rattle.slotset.specs.declared.Told.{Told}
 use Rattle.slotset.specs.declared.Told.the-variants as told
 use Rattle.slotset.specs.Slots.{putSlot, putSlots, has}
-use Rattle.slotset.specs.Answers.{rowNo, rowStretchNo, rowStretchOf, rowSlots, countedAs, toldAs, wordsAs}
+use Rattle.slotset.specs.Answers.{rowNo, rowStretchOf, rowSlots, countedAs, toldAs, wordsAs}
+use Rattle.slotset.proofs.Refusals.{says-row, stretch-puts}
 use Rattle.slots.specs.Lent.{slotRoomOk, slotsOk, SlotsSound}
 use Rattle.slots.specs.Freeze.{endsBy, endedBy, marked, freezeNo, freezeOf, Opening, availableNo, isAvailable}
 use Rattle.slots.proofs.LentLaws.{slots-sound}
@@ -131,24 +132,12 @@ freeze-says slots starts ends frozen e =
     (slot-count-says slots (x .0) .1, leb-true 16 (length frozen) (w .1), slots-sound slots starts ends (z .0))
 
 -- the flags are one set, of which any opening stretch may be put
-one-row : (slots : ℕ) (ws : List ℕ) → slots ≤ 1024 → 16 ≤ length ws → rowNo ws 1 0 slots ≡ 0
-unfolding rowNo peopleOk
-one-row slots ws a b = simp (le-leb slots 1024 a, le-leb 16 (length ws) b)
-
-stretch-none : (slots n : ℕ) (ws : List ℕ) → slots ≤ 1024 → 16 ≤ length ws → n ≤ slots → rowStretchNo ws 1 0 slots 0 n ≡ 0
-unfolding rowStretchNo
-stretch-none slots n ws a b h =
-    let e = one-row slots ws a b in
-    let t : (leb n 0 || leb n slots) ≡ true = or-second (leb n 0) (leb n slots) (le-leb n slots h) in
-    simp (e, t)
-
 stretch-put : (slots n : ℕ) (ws : List ℕ) → slots ≤ 1024 → 16 ≤ length ws → n ≤ slots
     → rowStretchOf 1 ws 1 0 slots 0 n ≡ putSlots (λ _. 1) 0 0 n ws
-unfolding rowStretchOf wordsAs
+unfolding peopleOk
 stretch-put slots n ws a b h =
-    let e = stretch-none slots n ws a b h in
     let z : n - 0 ≡ n = omega arith in
-    simp e (ap (λ (m : ℕ). putSlots (λ _. 1) 0 0 m ws) z)
+    stretch-puts 1 ws 1 0 slots 0 n (says-row ws 1 0 slots refl a b (omega arith)) h ∙ ap (λ (m : ℕ). putSlots (λ _. 1) 0 0 m ws) z
 
 -- the two outcomes
 module _ (slots : ℕ) (starts ends frozen : List ℕ) (instant number : ℕ) (e : number ≡ freezeNo slots starts ends frozen) where
@@ -180,14 +169,14 @@ module _ (slots : ℕ) (words : List ℕ) (people person slot number : ℕ) (e :
       simp z (ap told.Refused e)
 
   row-none : availableNo people slots words person slot ≡ 0 → rowNo words people person slots ≡ 0
-  unfolding availableNo rowNo
+  unfolding availableNo
   row-none z =
       let x = cond-zero (peopleOk people && slotCountOk slots) _ 0 z in
       let y = cond-zero (leb (16 * people) (length words)) _ 1 (x .1) in
       let w = cond-zero (ltb person people && ltb slot slots) _ 10 (y .1) in
       let u = both (peopleOk people) (slotCountOk slots) (x .0) in
       let v = both (ltb person people) (ltb slot slots) (w .0) in
-      simp (u .0, le-leb slots 1024 (slot-count-says slots (u .1) .1), y .0, v .0)
+      says-row words people person slots (u .0) (slot-count-says slots (u .1) .1) (leb-true _ _ (y .0)) (ltb-true _ _ (v .0))
 
   pub available-told : number ≡ 0 → (r : Told) → r ≡ toldAs (rowNo words people person slots) (has (rowSlots words person) slots slot)
       → r ≡ isAvailable people slots words person slot

@@ -1,14 +1,22 @@
 -- Ranges as single numbers, and on the line of everybody's minutes. Assumes nothing.
 use mathlib.Core.Path.{_≡_}
 use mathlib.Core.Bool.{Bool, true, false, _&&_, and-false}
-use Prim.Native.Nat.{ℕ, _+_, _*_, _/_, _≤_, _<_, min, max}
+use Prim.Native.Nat.{ℕ, _+_, _*_, _/_, _%_, _≤_, _<_, min, max}
 use native.Mathlib.Omega.{arith}
 use borrow.Author.Tests.{ltb-true, leb-true, eqb-true, lt-ltb, le-ltb, le-leb, eq-eqb}
 use lib.Dec.{leb, ltb, eqb}
 use Rattle.paper.proofs.Logic.{both, three, and-true, same-test}
 use Rattle.slots.specs.Ranges.{keyOf, personOf, startOf, endOf, opens, closes, joined, covers}
 
--- the parts of a number
+-- the two parts of a number, and the last of them
+pub parts-of : (n m : ℕ) → m < 268435456 → ((n * 268435456 + m) / 268435456 ≡ n) × ((n * 268435456 + m) % 268435456 ≡ m)
+parts-of n m h = (omega arith, omega arith)
+
+pub end-of : (n m : ℕ) → m < 268435456 → endOf (n * 268435456 + m) ≡ m
+unfolding endOf
+end-of n m h = parts-of n m h .1
+
+-- the three parts of a range
 pub person-key : (p s e : ℕ) → s < 268435456 → e < 268435456 → personOf (keyOf p s e) ≡ p
 unfolding personOf keyOf
 person-key p s e hs he = omega arith
@@ -18,8 +26,8 @@ unfolding startOf keyOf
 start-key p s e hs he = omega arith
 
 pub end-key : (p s e : ℕ) → e < 268435456 → endOf (keyOf p s e) ≡ e
-unfolding endOf keyOf
-end-key p s e he = omega arith
+unfolding keyOf
+end-key p s e he = end-of (p * 268435456 + s) e he
 
 pub start-lt : (x : ℕ) → startOf x < 268435456
 unfolding startOf
@@ -121,21 +129,26 @@ module _ (p t x : ℕ) where
       let q : personOf x ≡ p = omega (arith, start-lt x, end-lt x) in
       (q, omega arith, omega arith)
 
+-- minute t of person p lies in the range x
+pub covers-says : (p t x : ℕ) → covers p t x ≡ true → (personOf x ≡ p) × (startOf x ≤ t) × (t < endOf x)
+unfolding covers
+covers-says p t x e =
+    let w = three (eqb (personOf x) p) (leb (startOf x) t) (ltb t (endOf x)) e in
+    (eqb-true _ _ (w .0), leb-true _ _ (w .1), ltb-true _ _ (w .2))
+
+pub says-covers : (p t x : ℕ) → personOf x ≡ p → startOf x ≤ t → t < endOf x → covers p t x ≡ true
+unfolding covers
+says-covers p t x a b d = and-true _ _ (eq-eqb _ _ a) (and-true _ _ (le-leb _ _ b) (lt-ltb _ _ d))
+
 -- a person's minute on the line
 pub covers-line : (p t x : ℕ) → t < 268435456 → covers p t x ≡ inLine (p * 268435456 + t) x
-unfolding covers
 covers-line p t x h =
-    same-test (eqb (personOf x) p && (leb (startOf x) t && ltb t (endOf x))) (inLine (p * 268435456 + t) x)
-    (λ e.
-    let w = three (eqb (personOf x) p) (leb (startOf x) t) (ltb t (endOf x)) e in
-    let a = eqb-true _ _ (w .0) in
-    let b = leb-true _ _ (w .1) in
-    let d = ltb-true _ _ (w .2) in
-    line-in _ x (to-open p t x a b) (to-close p t x a d))
+    same-test (covers p t x) (inLine (p * 268435456 + t) x)
+    (λ e. let w = covers-says p t x e in line-in _ x (to-open p t x (w .0) (w .1)) (to-close p t x (w .0) (w .2)))
     (λ e.
     let w = in-line _ x e in
     let u = back p t x h (w .0) (w .1) in
-    and-true _ _ (eq-eqb _ _ (u .0)) (and-true _ _ (le-leb _ _ (u .1)) (lt-ltb _ _ (u .2))))
+    says-covers p t x (u .0) (u .1) (u .2))
 
 -- a minute past the line's width is nobody's
 pub covers-far : (p t x : ℕ) → 268435456 ≤ t → covers p t x ≡ false

@@ -1,5 +1,6 @@
 -- The laws of slots.
 pub mod LentLaws
+pub mod Entries
 pub mod Keys
 pub mod Merging
 pub mod RangeLaws

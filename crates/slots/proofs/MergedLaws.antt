@@ -1,55 +1,42 @@
 -- Merged ranges handed out: the columns written, and the outcome. Assumes nothing.
 use mathlib.Core.Path.{_≡_, refl, sym, ap, ap₂, _∙_}
-use mathlib.Core.Bool.{Bool, true, false, _&&_, _||_}
-use mathlib.Core.List.{List, [], _∷_}
-use Prim.Native.Nat.{ℕ, zero, suc, _+_, _≤_, _<_}
-use native.Mathlib.Nat.{not-suc-le-zero}
+use mathlib.Core.Bool.{true, false, _&&_}
+use mathlib.Core.List.{List}
+use Prim.Native.Nat.{ℕ, _+_, _≤_, _<_}
 use native.Mathlib.Omega.{arith}
-use borrow.Author.Tests.{le-leb, lt-ltb, eq-eqb, eqb-true, ne-eqb}
+use borrow.Author.Tests.{lt-ltb, ltb-true, eq-eqb, eqb-true, ne-eqb}
 use lib.Dec.{leb, ltb, eqb}
 use lib.ListN.{length, getD, take, set}
 use lib.Seq.{length-take-le, getD-take}
 use Rattle.paper.specs.Limits.{peopleOk}
-use Rattle.paper.specs.Count.{over, some}
-use Rattle.paper.proofs.Logic.{both, three, by-test, cond-zero, and-true, or-second}
+use Rattle.paper.specs.Count.{over}
+use Rattle.paper.proofs.Logic.{both, three, cond-zero}
 use Rattle.paper.proofs.Count.{over-more, over-same, length-over, some-one}
 use Rattle.slotset.specs.declared.Counted.the-variants as counted
 use Rattle.slotset.specs.Answers.{countedAs, wordsAs}
-use Rattle.slots.specs.Ranges.{anyOf, Ranges, ranges, rangeCountOk, rangeRoomOk, rangesOk, RangesSound, inRange, inRanges}
-use Rattle.slots.specs.Ranges.{personOf, startOf, endOf, covers, opens, closes, mergedOf, Spaced}
+use Rattle.slots.specs.Ranges.{Ranges, ranges, rangeCountOk, rangeRoomOk, rangesOk, RangesSound, inRange, inRanges}
+use Rattle.slots.specs.Ranges.{personOf, startOf, endOf, covers, opens, closes, mergedOf}
 use Rattle.slots.specs.Walk.{MergedFrom}
 use Rattle.slots.specs.Merged.{written, Columns, mergedNo, mergedRanges, MergedEnd, TakenApart}
-use Rattle.slots.proofs.Keys.{empty-line}
+use Rattle.slots.proofs.Entries.{any-here}
+use Rattle.slots.proofs.Keys.{empty-line, says-covers}
+use Rattle.slots.proofs.Merging.{spaced-filled}
 use Rattle.slots.proofs.RangeLaws.{ranges-sound, range-room-says, merged-is}
 
 -- ---- an entry of the merged list is a known person's
 
--- a test that one entry passes
-pub any-at : (p : ℕ → Bool) (l : List ℕ) (k : ℕ) → k < length l → p (getD l k 0) ≡ true → anyOf p l ≡ true
-unfolding anyOf
-any-at p [] k h e = absurd (not-suc-le-zero h)
-any-at p (x ∷ l) zero h e = simp e
-any-at p (x ∷ l) (suc k) h e = or-second (p x) (anyOf p l) (any-at p l k (omega arith) e)
-
--- no entry of a spaced list is empty
-pub spaced-some : (from : ℕ) (l : List ℕ) → Spaced from l → (k : ℕ) → k < length l → opens (getD l k 0) < closes (getD l k 0)
-spaced-some from [] s k h = absurd (not-suc-le-zero h)
-spaced-some from (x ∷ l) s zero h = s .1
-spaced-some from (x ∷ l) s (suc k) h = spaced-some (suc (closes x)) l (s .2) k (omega arith)
-
 own-minute : (x : ℕ) → opens x < closes x → covers (personOf x) (startOf x) x ≡ true
-unfolding covers
 own-minute x h =
-    and-true _ _ (eq-eqb (personOf x) (personOf x) refl)
-    (and-true _ _ (le-leb (startOf x) (startOf x) (omega arith)) (empty-line x ∙ lt-ltb (opens x) (closes x) h))
+    says-covers (personOf x) (startOf x) x refl (omega arith)
+    (ltb-true (startOf x) (endOf x) (empty-line x ∙ lt-ltb (opens x) (closes x) h))
 
 pub merged-known : (R : Ranges) → RangesSound R → (k : ℕ) → k < length (mergedOf R) → personOf (getD (mergedOf R) k 0) < 32
 unfolding inRanges inRange
 merged-known R S k h =
     let M = merged-is R S in
     let x = getD (mergedOf R) k 0 in
-    let c = own-minute x (spaced-some 0 (mergedOf R) (M .spaced) k h) in
-    let e = sym (M .minutes (personOf x) (startOf x)) ∙ any-at (covers (personOf x) (startOf x)) (mergedOf R) k h c in
+    let c = own-minute x (spaced-filled 0 (mergedOf R) (M .spaced) k h) in
+    let e = sym (M .minutes (personOf x) (startOf x)) ∙ any-here (covers (personOf x) (startOf x)) (mergedOf R) k h c in
     some-one (R .count) (inRange R (personOf x) (startOf x)) _ e
     (λ j l t.
     let w = three (eqb (getD (R .persons) j 0) (personOf x)) (leb (getD (R .starts) j 0) (startOf x)) (ltb (startOf x) (getD

@@ -2,41 +2,20 @@
 -- Assumes nothing.
 use mathlib.Core.Path.{_≡_, refl, sym, ap, ap₂, _∙_}
 use mathlib.Core.Bool.{Bool, true, false, _||_, or-assoc}
-use mathlib.Core.Logic.{_⊎_, inl, inr, ⊎-elim}
-use mathlib.Core.List.{List, [], _∷_, _++_}
-use Prim.Native.Nat.{ℕ, suc, _+_, _*_, _/_, _%_, _≤_, _<_, min, max}
+use mathlib.Core.Logic.{⊎-elim}
+use mathlib.Core.List.{List, [], _∷_}
+use Prim.Native.Nat.{ℕ, zero, suc, _+_, _*_, _/_, _%_, _≤_, _<_, min, max}
+use native.Mathlib.Nat.{not-suc-le-zero}
 use native.Mathlib.Omega.{arith}
 use borrow.Author.Tests.{ltb-true, ltb-false, leb-true, leb-false}
 use lib.Dec.{leb, ltb}
+use lib.ListN.{length, getD}
 use Rattle.paper.proofs.Logic.{by-test, lt-or-ge, same-test, or-left, or-either, or-second}
 use Rattle.slots.specs.Ranges.{anyOf, personOf, startOf, endOf, opens, closes, joined, covers, mergeIn, mergeAll, Spaced, IsMerged}
 use Rattle.slots.specs.Walk.{extended, closed, walkOn}
 use Rattle.slots.proofs.Keys.{inLine, in-line, line-in, opens-joined, closes-joined, empty-line, same-range}
-use Rattle.slots.proofs.Keys.{covers-line, covers-far, opens-is, end-lt, touch-person}
-
--- ---- or
-
-pub or-swap : (a b c : Bool) → a || (b || c) ≡ b || (a || c)
-or-swap true true c = refl
-or-swap true false c = refl
-or-swap false b c = refl
-
--- ---- any entry
-
-pub any-append : (p : ℕ → Bool) (k l : List ℕ) → anyOf p (k ++ l) ≡ anyOf p k || anyOf p l
-unfolding anyOf
-any-append p [] l = refl
-any-append p (x ∷ k) l = ap (λ (b : Bool). p x || b) (any-append p k l) ∙ sym (or-assoc (p x) (anyOf p k) (anyOf p l))
-
-pub any-same : (p q : ℕ → Bool) (l : List ℕ) → ((x : ℕ) → p x ≡ q x) → anyOf p l ≡ anyOf q l
-unfolding anyOf
-any-same p q [] f = refl
-any-same p q (x ∷ l) f = ap₂ _||_ (f x) (any-same p q l f)
-
-pub any-none : (p : ℕ → Bool) (l : List ℕ) → ((x : ℕ) → p x ≡ false) → anyOf p l ≡ false
-unfolding anyOf
-any-none p [] f = refl
-any-none p (x ∷ l) f = ap₂ _||_ (f x) (any-none p l f)
+use Rattle.slots.proofs.Entries.{or-swap, any-same, any-none}
+use Rattle.slots.proofs.Keys.{covers-line, covers-far, opens-is, end-lt, touch-person, parts-of, end-of}
 
 -- ---- spaced lists
 
@@ -53,6 +32,23 @@ before-none from q (x ∷ l) s h e =
 pub spaced-from : (from to : ℕ) (l : List ℕ) → to ≤ from → Spaced from l → Spaced to l
 spaced-from from to [] h s = tt
 spaced-from from to (x ∷ l) h s = (omega (arith, s .0), s .1, s .2)
+
+-- no entry is empty, and each closes before any later one opens
+pub spaced-filled : (from : ℕ) (l : List ℕ) → Spaced from l → (k : ℕ) → k < length l → opens (getD l k 0) < closes (getD l k 0)
+spaced-filled from [] s k h = absurd (not-suc-le-zero h)
+spaced-filled from (x ∷ l) s zero h = s .1
+spaced-filled from (x ∷ l) s (suc k) h = spaced-filled (suc (closes x)) l (s .2) k (omega arith)
+
+spaced-after : (from : ℕ) (l : List ℕ) → Spaced from l → (k : ℕ) → k < length l → from ≤ opens (getD l k 0)
+spaced-after from [] s k h = absurd (not-suc-le-zero h)
+spaced-after from (x ∷ l) s zero h = s .0
+spaced-after from (x ∷ l) s (suc k) h = omega (arith, spaced-after (suc (closes x)) l (s .2) k (omega arith), s .0, s .1)
+
+pub spaced-apart : (from : ℕ) (l : List ℕ) → Spaced from l → (k j : ℕ) → k < j → j < length l → closes (getD l k 0) < opens (getD l j 0)
+spaced-apart from [] s k j h g = absurd (not-suc-le-zero g)
+spaced-apart from (x ∷ l) s k zero h g = absurd (not-suc-le-zero h)
+spaced-apart from (x ∷ l) s zero (suc j) h g = spaced-after (suc (closes x)) l (s .2) j (omega arith)
+spaced-apart from (x ∷ l) s (suc k) (suc j) h g = spaced-apart (suc (closes x)) l (s .2) k j (omega arith) (omega arith)
 
 -- ---- putting one range in
 
@@ -207,22 +203,14 @@ opens-extended z x =
     rw (opens-is (z / 268435456 * 268435456 + max (endOf z) (endOf x)), opens-is z)
     (omega (arith, end-lt z, end-lt x))
 
--- a number whose last part is replaced
-pub other-end : (n m : ℕ) → m < 268435456 → ((n * 268435456 + m) / 268435456 ≡ n) × ((n * 268435456 + m) % 268435456 ≡ m)
-other-end n m h = (omega arith, omega arith)
-
 person-extended : (z x : ℕ) → personOf (extended z x) ≡ personOf z
 unfolding extended personOf
 person-extended z x =
-    ap (λ (n : ℕ). n / 268435456) (other-end (z / 268435456) (max (endOf z) (endOf x)) (omega (arith, end-lt z, end-lt x)) .0)
-
-last-part : (n m : ℕ) → m < 268435456 → endOf (n * 268435456 + m) ≡ m
-unfolding endOf
-last-part n m h = other-end n m h .1
+    ap (λ (n : ℕ). n / 268435456) (parts-of (z / 268435456) (max (endOf z) (endOf x)) (omega (arith, end-lt z, end-lt x)) .0)
 
 end-extended : (z x : ℕ) → endOf (extended z x) ≡ max (endOf z) (endOf x)
 unfolding extended
-end-extended z x = last-part (z / 268435456) (max (endOf z) (endOf x)) (omega (arith, end-lt z, end-lt x))
+end-extended z x = end-of (z / 268435456) (max (endOf z) (endOf x)) (omega (arith, end-lt z, end-lt x))
 
 closes-extended : (z x : ℕ) → personOf z ≡ personOf x → closes (extended z x) ≡ max (closes z) (closes x)
 unfolding closes

@@ -3,16 +3,16 @@ use mathlib.Core.Path.{_≡_, refl, sym, ap, ap₂, _∙_}
 use mathlib.Core.Bool.{Bool, true, false, _&&_, _||_, or-false}
 use mathlib.Core.List.{List, [], _∷_, _++_}
 use Prim.Native.Nat.{ℕ, zero, suc, _+_, _*_, _≤_, _<_}
-use native.Mathlib.Nat.{not-suc-le-zero, le-antisymm}
+use native.Mathlib.Nat.{le-antisymm}
 use native.Mathlib.Numerals.{add-one}
 use native.Mathlib.Omega.{arith}
 use borrow.Author.Tests.{ltb-true, ltb-false, leb-true, le-ltb}
 use lib.Dec.{leb, ltb}
 use lib.ListN.{length, getD, take, drop, set, length-append}
-use lib.Seq.{take-suc-set, take-at, length-take-le}
+use lib.Seq.{take-at, length-take-le}
 use Rattle.paper.specs.Limits.{peopleOk}
 use Rattle.paper.specs.Count.{all, some}
-use Rattle.paper.proofs.Logic.{both, three, people-says, neither}
+use Rattle.paper.proofs.Logic.{both, three, people-says}
 use Rattle.paper.proofs.Count.{all-each}
 use Rattle.slots.specs.Ranges.{anyOf, Ranges, rangeCountOk, rangeRoomOk, rangeOk, rangeOkAt, rangesOk, RangesSound}
 use Rattle.slots.specs.Ranges.{inRange, inRanges, keyOf, personOf, startOf, endOf, keyAt, keysTo, keysOf, covers, opens, closes}
@@ -20,7 +20,8 @@ use Rattle.slots.specs.Ranges.{mergeAll, mergedOf, IsMerged}
 use Rattle.slots.specs.Walk.{SortedTo, SameEntries, walkOn, MergedFrom}
 use Rattle.slots.proofs.WalkLaws.{walk-few}
 use Rattle.slots.proofs.Keys.{person-key, start-key, end-key, inLine, opens-mono}
-use Rattle.slots.proofs.Merging.{any-append, all-places, all-spaced, places-minutes, one-merged, Rising}
+use Rattle.slots.proofs.Entries.{any-append, any-not, push}
+use Rattle.slots.proofs.Merging.{all-places, all-spaced, places-minutes, one-merged, Rising}
 use Rattle.slots.proofs.Merging.{empty-none, walk-places, walk-spaced}
 
 -- ---- what the checks say
@@ -128,13 +129,6 @@ merged-is R S =
 
 -- ---- numbers in order
 
--- a test that no entry passes
-pub any-not : (p : ℕ → Bool) (l : List ℕ) → anyOf p l ≡ false → (k : ℕ) → k < length l → p (getD l k 0) ≡ false
-unfolding anyOf
-any-not p [] e k h = absurd (not-suc-le-zero h)
-any-not p (x ∷ l) e zero h = neither (p x) (anyOf p l) e .0
-any-not p (x ∷ l) e (suc k) h = any-not p l (neither (p x) (anyOf p l) e .1) k (omega arith)
-
 zero-order : ltb (closes 0) (opens 0) ≡ false
 unfolding closes opens personOf startOf endOf
 zero-order = refl
@@ -182,7 +176,7 @@ pub load-more : (R : Ranges) (l : List ℕ) (i x : ℕ) → take i l ≡ keysTo 
     → take (i + 1) (set l i x) ≡ keysTo R (i + 1)
 unfolding keyAt
 load-more R l i x e h d =
-    ap (λ (n : ℕ). take n (set l i x)) (add-one i) ∙ take-suc-set l i x h ∙ ap₂ (λ (k : List ℕ) (y : ℕ). k ++ (y ∷ [])) e d
+    push l i x h ∙ ap₂ (λ (k : List ℕ) (y : ℕ). k ++ (y ∷ [])) e d
     ∙ sym (keys-more R i)
 
 pub keys-done : (R : Ranges) (l : List ℕ) (i : ℕ) → i ≤ R .count → R .count ≤ i → take i l ≡ keysTo R i → take (R .count) l ≡ keysOf R

@@ -7,21 +7,21 @@ use mathlib.Core.List.{List, [], _∷_, _++_}
 use Prim.Native.Nat.{ℕ, zero, suc, _+_, _-_, _≤_, _<_}
 use native.Mathlib.Nat.{not-suc-le-zero}
 use native.Mathlib.Omega.{arith}
-use borrow.Author.Tests.{ltb-true, leb-true, eqb-true, lt-ltb, le-leb, eq-eqb}
-use lib.Dec.{leb, ltb, eqb}
+use borrow.Author.Tests.{lt-ltb, le-leb, eq-eqb}
+use lib.Dec.{eqb}
 use lib.ListN.{length, getD, length-append, List·getD-append}
 use lib.Seq.{getD-append-add}
 use Rattle.paper.specs.Count.{sum, among}
-use Rattle.paper.proofs.Logic.{by-test, lt-or-ge, three, and-true, or-left, or-second}
+use Rattle.paper.proofs.Logic.{by-test, lt-or-ge, and-true, or-left, or-second}
 use Rattle.paper.proofs.Count.{each-all, sum-same, among-in, among-out, each-in}
 use Rattle.slots.specs.Lent.{slotOk, prevEnd, slotOkAt, slotRoomOk, slotsOk, minutesAt, demandOf}
-use Rattle.slots.specs.Ranges.{Ranges, RangesSound, inRanges, available, personOf, startOf, endOf, covers, mergedOf}
+use Rattle.slots.specs.Ranges.{Ranges, RangesSound, inRanges, available, startOf, endOf, covers, mergedOf}
 use Rattle.slots.specs.Atomic.{startsOrEnds, isCut, cutAfter, cutsIn, IsCuts, atomStarts, atomEnds}
+use Rattle.slots.proofs.Entries.{any-here, any-one}
+use Rattle.slots.proofs.Keys.{covers-says, says-covers}
 use Rattle.slots.proofs.LentLaws.{slot-says, slots-each, prev-capped}
 use Rattle.slots.proofs.RangeLaws.{merged-is}
 use Rattle.slots.proofs.CutLaws.{cuts-none}
-use Rattle.slots.proofs.MergedLaws.{any-at}
-use Rattle.slots.proofs.AvailLaws.{some-by}
 
 -- ---- the cuts of one slot
 
@@ -321,19 +321,9 @@ free-at cut (x ∷ s) (f ∷ e) a (suc k) h g = free-at cut s e (a .1) k (omega 
 ends-cut : (l : List ℕ) (k t : ℕ) → k < length l → (startOf (getD l k 0) ≡ t) ⊎ (endOf (getD l k 0) ≡ t) → isCut l t ≡ true
 unfolding isCut startsOrEnds
 ends-cut l k t h w =
-    any-at (startsOrEnds t) l k h
+    any-here (startsOrEnds t) l k h
     (⊎-elim (λ q. or-left (eqb (startOf (getD l k 0)) t) _ (eq-eqb _ _ q)) (λ q. or-second (eqb (startOf (getD l k 0)) t) _
     (eq-eqb _ _ q)) w)
-
-covers-says : (p t x : ℕ) → covers p t x ≡ true → (personOf x ≡ p) × (startOf x ≤ t) × (t < endOf x)
-unfolding covers
-covers-says p t x e =
-    let w = three (eqb (personOf x) p) (leb (startOf x) t) (ltb t (endOf x)) e in
-    (eqb-true _ _ (w .0), leb-true _ _ (w .1), ltb-true _ _ (w .2))
-
-says-covers : (p t x : ℕ) → personOf x ≡ p → startOf x ≤ t → t < endOf x → covers p t x ≡ true
-unfolding covers
-says-covers p t x a b d = and-true _ _ (eq-eqb _ _ a) (and-true _ _ (le-leb _ _ b) (lt-ltb _ _ d))
 
 -- a slot with no cut strictly inside it, one minute of which lies in a person's ranges, is available to them
 pub whole-or-none : (R : Ranges) → RangesSound R → (p a e t : ℕ) → ((u : ℕ) → a < u → u < e → isCut (mergedOf R) u ≡ false)
@@ -342,7 +332,7 @@ unfolding available
 whole-or-none R S p a e t free h g i =
     let M = merged-is R S in
     let l = mergedOf R in
-    some-by (covers p t) l _ (M .minutes p t ∙ i)
+    any-one (covers p t) l _ (M .minutes p t ∙ i)
     (λ k r c.
     let x = getD l k 0 in
     let w = covers-says p t x c in
@@ -357,7 +347,7 @@ whole-or-none R S p a e t free h g i =
     absurd (mathlib.Core.Bool.false≢true (sym (free (endOf x) (omega (arith, w .2)) z) ∙ ends-cut l k (endOf x) r (inr refl))))
     (λ z. z) (lt-or-ge (endOf x) e) in
     each-in a e (inRanges R p)
-    (λ u y z. sym (M .minutes p u) ∙ any-at (covers p u) l k r (says-covers p u x (w .0) (omega arith) (omega arith))))
+    (λ u y z. sym (M .minutes p u) ∙ any-here (covers p u) l k r (says-covers p u x (w .0) (omega arith) (omega arith))))
 
 -- an atomic slot of a split by these ranges is available, or none of its minutes lies in the person's ranges
 pub atom-whole : (R : Ranges) → RangesSound R → (slots : ℕ) (starts ends : List ℕ) → slotsOk slots starts ends ≡ true

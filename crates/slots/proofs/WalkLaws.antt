@@ -7,10 +7,11 @@ use native.Mathlib.Omega.{arith}
 use borrow.Author.Tests.{lt-ltb, le-ltb, le-leb, lt-leb}
 use lib.Dec.{leb, ltb}
 use lib.ListN.{length, getD, take, drop, set, length-append}
-use lib.Seq.{take-suc-set, drop-cons, drop-length, length-take-le}
+use lib.Seq.{drop-cons, drop-length, length-take-le}
 use Rattle.paper.proofs.Logic.{by-test}
 use Rattle.slots.specs.Ranges.{startOf, endOf, opens, closes}
 use Rattle.slots.specs.Walk.{extended, closed, walkOn}
+use Rattle.slots.proofs.Entries.{push}
 
 -- ---- one range more
 
@@ -43,7 +44,7 @@ module _ (l : List ℕ) (n z s e : ℕ) (a : s ≡ startOf z) (b : e ≡ endOf z
   close-puts h r =
       let q = closed-some z [] (rw (a, b) at h) in (
         omega (arith, ap length q),
-        ap (λ (k : ℕ). take k (set l n z)) (add-one n) ∙ take-suc-set l n z (close-room h r) ∙ ap (λ (k : List ℕ). take n l ++ k) (sym q),
+        push l n z (close-room h r) ∙ ap (λ (k : List ℕ). take n l ++ k) (sym q),
       )
 
   pub close-skips : e ≤ s → (n ≡ n + length (closed z [])) × (take n l ≡ take n l ++ closed z [])

@@ -10,7 +10,8 @@ use Rattle.paper.specs.Count.{among}
 use Rattle.slotset.specs.declared.Counted.{Counted}
 use Rattle.slotset.specs.Answers.{countedAs, wordsAs}
 use Rattle.slots.specs.Lent.{slotRoomOk, slotsOk}
-use Rattle.slots.specs.Ranges.{anyOf, Ranges, rangeCountOk, rangeRoomOk, rangesOk, personOf, startOf, endOf, opens, closes, mergedOf, Spaced}
+use Rattle.slots.specs.Ranges.{anyOf, Ranges, rangeCountOk, rangeRoomOk, rangesOk}
+use Rattle.slots.specs.Ranges.{personOf, startOf, endOf, opens, closes, mergedOf, Spaced}
 use Rattle.slots.specs.Merged.{written}
 
 -- minute t is a start or an end of a merged range

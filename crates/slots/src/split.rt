@@ -28,7 +28,7 @@ fn nearer_of(after: u64, best: u64, t: u64) -> u64
     best
 }
 
-// Where the merged range of a number opens, or far past everybody's minutes.
+// Where the merged range with number r opens; past the last, 64 people's minutes on, which is after everybody's.
 fn opens_from(keys: &[u64], n: usize, r: usize) -> u64
     requires { ⌜ (n ≤ 1024) × (n ≤ length (now keys)) ⌝ }
     ensures { λ v. ⌜ v ≡ opensFrom (now (keys .entry)) n r ⌝ }
@@ -39,8 +39,8 @@ fn opens_from(keys: &[u64], n: usize, r: usize) -> u64
     17_179_869_184
 }
 
-// The first place of the line past another at which a merged range opens or closes: the last that opens there or before it closes, or the
-// next one opens.
+// The next edge: the first place of the line, past the given one, at which a merged range opens or closes. Of the ranges that open by the
+// given place only the last can close past it; if it doesn't, the edge is where the next one opens.
 fn next_edge(keys: &[u64], n: usize, place: u64) -> u64
     requires { ⌜ HeldMerged (now keys) n × (place < 17179869184) ⌝ }
     ensures { λ r. ⌜ NextEdge (take n (now (keys .entry))) place r ⌝ }

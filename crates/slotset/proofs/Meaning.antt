@@ -1,6 +1,6 @@
 -- The answers of the searches are the one answer to the question that each asks. Assumes nothing.
 use mathlib.Core.Path.{_≡_, refl, sym, ap, _∙_}
-use mathlib.Core.Bool.{Bool, true, false, cond}
+use mathlib.Core.Bool.{true, false}
 use mathlib.Core.Logic.{⊎-elim}
 use Prim.Native.Nat.{ℕ, zero, suc, _+_, _-_, _≤_, _<_, min}
 use native.Mathlib.Decide.{ℕ-discrete}
@@ -140,4 +140,5 @@ none-found f len bits w =
 
 pub one-found : (f : ℕ → ℕ) (len i : ℕ) → First 1 f len 0 (At i) → false ≡ noMember f len
 unfolding noMember
-one-found f len i w = sym (all-fails len i (λ k. eqb (f k) 0) (w .1) (ne-eqb (f i) 0 (λ e. let z : _≡_ {A = ℕ} 0 1 = sym e ∙ w .2 in omega arith)))
+one-found f len i w =
+    sym (all-fails len i (λ k. eqb (f k) 0) (w .1) (ne-eqb (f i) 0 (λ e. let z : _≡_ {A = ℕ} 0 1 = sym e ∙ w .2 in omega arith)))

@@ -1,14 +1,14 @@
 -- The members of a set: how many, after a change, and that the bits past the length don't count. Assumes nothing.
-use mathlib.Core.Path.{_≡_, refl, sym, ap, ap₂, _∙_}
-use mathlib.Core.Bool.{Bool, true, false, _&&_, cond}
+use mathlib.Core.Path.{_≡_, refl, ap, _∙_}
+use mathlib.Core.Bool.{Bool, _&&_, cond}
 use mathlib.Core.List.{List, [], _∷_, _++_}
 use mathlib.Core.Logic.{⊎-elim, _≢_}
 use Prim.Native.Nat.{ℕ, zero, suc, _+_, _-_, _*_, _/_, _≤_, _<_}
 use native.Mathlib.Omega.{arith}
-use borrow.Author.Tests.{eq-eqb, ne-eqb, lt-ltb, le-ltb, le-leb, lt-leb}
+use borrow.Author.Tests.{eq-eqb, ne-eqb, le-ltb}
 use lib.Dec.{eqb, leb, ltb}
 use lib.ListN.{length, length-append}
-use Rattle.paper.specs.Count.{all, sum, among}
+use Rattle.paper.specs.Count.{sum, among}
 use Rattle.paper.proofs.Count.{sum-same, all-same}
 use Rattle.paper.proofs.Logic.{by-test, lt-or-ge, zero-of}
 use Rattle.slotset.specs.Slots.{slot, size, has, noMember, putSlot, putSlots, stretched}

@@ -14,7 +14,7 @@ use lib.Dec.{eqb, leb, ltb, eqb·zero-suc, eqb·suc-zero, eqb·suc-suc}
 use lib.ListN.{length, getD, set, length-set, List·getD-eq-default}
 use lib.Seq.{getD-set-same, getD-set-other, set-set, set-getD, ext-getD}
 use Rattle.paper.specs.Bits.{bitOf}
-use Rattle.paper.proofs.Bits.{bit-lt, bit-zero, bit-suc, shift-suc, bit-ext, bit-none}
+use Rattle.paper.proofs.Bits.{bit-lt, bit-zero, bit-suc, shift-suc, bit-ext}
 use Rattle.paper.proofs.Logic.{lt-or-ge}
 use Rattle.slotset.specs.Slots.{slot, withBit, putSlot, putSlots, valueOf}
 use Rattle.slotset.specs.Words.{Merged}
@@ -161,7 +161,8 @@ puts-one v b i ws =
     ap (λ (x : ℕ). putSlots (λ _. v) b i x ws) n ∙ ap (λ (x : ℕ). putSlot b x v ws) z
 
 -- first some, then those after them
-pub puts-add : (g : ℕ → ℕ) (b from n m : ℕ) (ws : List ℕ) → putSlots g b from (n + m) ws ≡ putSlots g b (from + n) m (putSlots g b from n ws)
+pub puts-add : (g : ℕ → ℕ) (b from n m : ℕ) (ws : List ℕ)
+    → putSlots g b from (n + m) ws ≡ putSlots g b (from + n) m (putSlots g b from n ws)
 unfolding putSlots
 puts-add g b from n zero ws = let e : n + 0 ≡ n = omega arith in ap (λ (x : ℕ). putSlots g b from x ws) e
 puts-add g b from n (suc m) ws =
@@ -214,11 +215,13 @@ pub slot-put : (b i v : ℕ) (ws : List ℕ) (c k : ℕ) → v < 2 → b + i / 6
 unfolding slot putSlot
 slot-put b i v ws c k hv room = elim (ℕ-discrete (b + i / 64) (c + k / 64)) [
   | yes e ↦ ap (λ (x : ℕ). bitOf x (k % 64))
-      (ap (λ (x : ℕ). getD (set ws x (withBit v (getD ws x 0) (i % 64))) (c + k / 64) 0) e ∙ getD-set-same ws (c + k / 64) _ 0 (omega arith))
+      (ap (λ (x : ℕ). getD (set ws x (withBit v (getD ws x 0) (i % 64))) (c + k / 64) 0) e
+      ∙ getD-set-same ws (c + k / 64) _ 0 (omega arith))
       ∙ with-bit v (getD ws (c + k / 64) 0) (i % 64) (k % 64) hv
       ∙ ap (λ (t : Bool). cond t v (bitOf (getD ws (c + k / 64) 0) (k % 64))) (same-place b c i k e)
   | no n ↦ ap (λ (x : ℕ). bitOf x (k % 64)) (getD-set-other ws (b + i / 64) (c + k / 64) _ 0 (λ q. n (sym q)))
-      ∙ ap (λ (t : Bool). cond t v (bitOf (getD ws (c + k / 64) 0) (k % 64))) (sym (ne-eqb (c * 64 + k) (b * 64 + i) (λ q. n (omega arith))))
+      ∙ ap (λ (t : Bool). cond t v (bitOf (getD ws (c + k / 64) 0) (k % 64)))
+      (sym (ne-eqb (c * 64 + k) (b * 64 + i) (λ q. n (omega arith))))
 ]
 
 -- slot k of the set at word c, after n slots from `from` on of the set at word b were written: the two by their place among all bits
@@ -229,7 +232,8 @@ unfolding putSlots
 slot-puts g b from zero ws c k hv room =
     ⊎-elim
     (λ (x : c * 64 + k < b * 64 + from). simp (lt-leb (b * 64 + from) (c * 64 + k) x))
-    (λ (x : b * 64 + from ≤ c * 64 + k). simp (le-leb (b * 64 + from) (c * 64 + k) x, le-ltb (c * 64 + k) (b * 64 + from + 0) (omega arith)))
+    (λ (x : b * 64 + from ≤ c * 64 + k).
+    simp (le-leb (b * 64 + from) (c * 64 + k) x, le-ltb (c * 64 + k) (b * 64 + from + 0) (omega arith)))
     (lt-or-ge (c * 64 + k) (b * 64 + from))
 slot-puts g b from (suc n) ws c k hv room =
     let i = from + n in
@@ -246,7 +250,8 @@ slot-puts g b from (suc n) ws c k hv room =
       | no m ↦ put
           ∙ ap (λ (t : Bool). cond t (g i) (slot l c k)) (ne-eqb _ _ m)
           ∙ slot-puts g b from n ws c k hv (omega arith)
-          ∙ ap (λ (t : Bool). cond t (g (c * 64 + k - b * 64)) (slot ws c k)) (inside-more (b * 64 + from) n (c * 64 + k) (λ q. m (q ∙ sym v)))
+          ∙ ap (λ (t : Bool). cond t (g (c * 64 + k - b * 64)) (slot ws c k))
+          (inside-more (b * 64 + from) n (c * 64 + k) (λ q. m (q ∙ sym v)))
     ]
 
 -- the slots of the set itself
@@ -311,7 +316,8 @@ puts-fit g b from (suc n) ws hv f j =
     elim (ℕ-discrete j (b + i / 64)) [
       | yes q ↦ ⊎-elim
           (λ (x : b + i / 64 < length l). rw
-          (ap (λ (y : ℕ). getD (set l (b + i / 64) (withBit (g i) (getD l (b + i / 64) 0) (i % 64))) y 0) q ∙ getD-set-same l (b + i / 64) _ 0 x)
+          (ap (λ (y : ℕ). getD (set l (b + i / 64) (withBit (g i) (getD l (b + i / 64) 0) (i % 64))) y 0) q
+          ∙ getD-set-same l (b + i / 64) _ 0 x)
           (with-lt (g i) _ (i % 64) (hv i) (ih (b + i / 64)) (omega arith)))
           (λ (x : length l ≤ b + i / 64). rw
           (List·getD-eq-default (set l (b + i / 64) (withBit (g i) (getD l (b + i / 64) 0) (i % 64))) 0 {n = j}

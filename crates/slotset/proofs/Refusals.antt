@@ -2,13 +2,13 @@
 use mathlib.Core.Path.{_≡_, refl, sym, ap, ap₂, _∙_}
 use mathlib.Core.Bool.{Bool, true, false, _&&_, _||_, cond}
 use mathlib.Core.List.{List}
-use Prim.Native.Nat.{ℕ, zero, suc, _+_, _*_, _≤_, _<_}
+use Prim.Native.Nat.{ℕ, _+_, _-_, _*_, _≤_, _<_}
 use native.Mathlib.Omega.{arith}
-use borrow.Author.Tests.{leb-true, leb-false, ltb-true, eq-eqb, ne-eqb, lt-leb}
+use borrow.Author.Tests.{leb-true, ltb-true, eq-eqb, ne-eqb, le-leb, lt-leb, lt-ltb}
 use lib.Dec.{eqb, ltb, leb}
 use lib.ListN.{length}
 use Rattle.paper.specs.Limits.{peopleOk}
-use Rattle.paper.proofs.Logic.{both, cond-zero, or-right, people-says}
+use Rattle.paper.proofs.Logic.{both, cond-zero, or-right, or-second, people-says}
 use Rattle.slotset.specs.declared.SlotSet.{SlotSet}
 use Rattle.slotset.specs.declared.Changed.{Changed}
 use Rattle.slotset.specs.declared.Found.{Found}
@@ -18,8 +18,9 @@ use Rattle.slotset.specs.declared.Counted.the-variants as counted
 use Rattle.slotset.specs.declared.Run.the-variants as run
 use Rattle.slotset.specs.declared.NextRun.the-variants as nextRun
 use Rattle.slotset.specs.declared.NextMember.the-variants as nextMember
-use Rattle.slotset.specs.Answers.{lenNo, slotNo, stretchNo, rowNo, rowStretchNo, foundAs, toldAs, countedAs, runAs, nextRunAs, nextMemberAs}
-use Rattle.slotset.specs.Answers.{changedAs, wordsAs}
+use Rattle.slotset.specs.Slots.{putSlots}
+use Rattle.slotset.specs.Answers.{lenNo, slotNo, stretchNo, rowNo, rowStretchNo}
+use Rattle.slotset.specs.Answers.{foundAs, toldAs, countedAs, runAs, nextRunAs, nextMemberAs, changedAs, wordsAs, rowStretchOf}
 
 -- ---- where nothing is refused
 
@@ -70,6 +71,13 @@ row-says ws people person len e =
       words = omega arith;
     }
 
+-- and the other way round: a row that passes each test is not refused
+pub says-row : (ws : List ℕ) (people person len : ℕ) → peopleOk people ≡ true → len ≤ 1024 → 16 * people ≤ length ws → person < people
+    → rowNo ws people person len ≡ 0
+unfolding rowNo
+says-row ws people person len ok short room known =
+    simp (ok, le-leb len 1024 short, le-leb (16 * people) (length ws) room, lt-ltb person people known)
+
 pub row-stretch-says : (ws : List ℕ) (people person len a e : ℕ) → rowStretchNo ws people person len a e ≡ 0
     → (rowNo ws people person len ≡ 0) × (a < e → e ≤ len)
 unfolding rowStretchNo
@@ -86,6 +94,14 @@ row-stretch-says ws people person len a e z =
           (cond-zero (leb e a || leb e len) 0 10 (sym (ap (λ (x : Bool). cond x (cond (leb e a || leb e len) 0 11) n) t) ∙ z) .0),
     )
     by false f = absurd (borrow.Author.Tests.eqb-false n 0 f (sym (ap (λ (x : Bool). cond x (cond (leb e a || leb e len) 0 11) n) f) ∙ z))
+
+-- a stretch of a row that is not refused, and that ends within the length, is put
+pub stretch-puts : (v : ℕ) (ws : List ℕ) (people person len a e : ℕ) → rowNo ws people person len ≡ 0 → e ≤ len
+    → rowStretchOf v ws people person len a e ≡ putSlots (λ _. v) (16 * person) a (e - a) ws
+unfolding rowStretchOf rowStretchNo wordsAs
+stretch-puts v ws people person len a e z h =
+    let t : leb e a || leb e len ≡ true = or-second (leb e a) (leb e len) (le-leb e len h) in
+    simp (z, t)
 
 -- ---- the answer where the number is none, and where it is one
 

@@ -1,18 +1,18 @@
 -- Runs: what `runAs` and the reader give, said of every slot, and the list of all runs. Assumes nothing.
 use mathlib.Core.Path.{_≡_, refl, sym, ap, ap₂, _∙_}
-use mathlib.Core.Bool.{Bool, true, false, _&&_}
+use mathlib.Core.Bool.{true}
 use mathlib.Core.List.{List, [], _∷_}
 use mathlib.Core.Logic.{_⊎_, inl, inr, ⊎-elim}
 use Prim.Native.Nat.{ℕ, zero, suc, _+_, _-_, _≤_, _<_}
 use native.Mathlib.Numerals.{add-one}
 use native.Mathlib.Omega.{arith}
-use borrow.Author.Tests.{lt-ltb, le-ltb, eq-eqb, ne-eqb, ltb-true, eqb-true}
+use borrow.Author.Tests.{lt-ltb, eq-eqb, ltb-true, eqb-true}
 use lib.Dec.{ltb, eqb}
 use Rattle.paper.proofs.Logic.{lt-or-ge, both, zero-of, one-of}
 use Rattle.slotset.specs.declared.Found.{Found}
 use Rattle.slotset.specs.declared.Found.the-variants.{At, Nothing, Refused}
 use Rattle.slotset.specs.Slots.{Member, has}
-use Rattle.slotset.specs.Search.{First, Last, Above, Below, nextSet, nextUnsetAfter, prevUnsetBefore, nextWith}
+use Rattle.slotset.specs.Search.{First, Last, Above, nextSet, nextUnsetAfter, prevUnsetBefore, nextWith}
 use Rattle.slotset.specs.Runs.{startOf, endOf, firstOfRun, lastOfRun, RunAround, Ends, whenFound, runs, AreRuns, InRuns}
 use Rattle.slotset.proofs.Meaning.{next-is, last-is, next-same, last-same}
 
@@ -72,7 +72,8 @@ module _ (f : ℕ → ℕ) (bits : Bits f) (len i : ℕ) (m : Member f len i) wh
   left-side (Refused n) l = absurd l
 
   right-side : (n : Found) → First 0 f len (suc i) n
-      → (i ≤ endOf len n) × (endOf len n < len) × ((k : ℕ) → i ≤ k → k ≤ endOf len n → f k ≡ 1) × (endOf len n + 1 < len → f (endOf len n + 1) ≡ 0)
+      → (i ≤ endOf len n) × (endOf len n < len) × ((k : ℕ) → i ≤ k → k ≤ endOf len n → f k ≡ 1)
+      × (endOf len n + 1 < len → f (endOf len n + 1) ≡ 0)
   right-side (At n) w =
       let q : n - 1 + 1 ≡ n = omega (arith, w .0) in (
         omega (arith, w .0),
@@ -111,10 +112,12 @@ module _ (f : ℕ → ℕ) (len i a b c d : ℕ) (x : RunAround f len i a b) (y 
   same-first : a ≡ c
   same-first =
       ⊎-elim
-      (λ (h : a < c). let z : _≡_ {A = ℕ} 0 1 = sym (y .left (omega arith)) ∙ x .all (c - 1) (omega arith) (omega (arith, x .to, y .from)) in
+      (λ (h : a < c).
+      let z : _≡_ {A = ℕ} 0 1 = sym (y .left (omega arith)) ∙ x .all (c - 1) (omega arith) (omega (arith, x .to, y .from)) in
       omega arith)
       (λ (h : c ≤ a). ⊎-elim
-      (λ (g : c < a). let z : _≡_ {A = ℕ} 0 1 = sym (x .left (omega arith)) ∙ y .all (a - 1) (omega arith) (omega (arith, y .to, x .from)) in
+      (λ (g : c < a).
+      let z : _≡_ {A = ℕ} 0 1 = sym (x .left (omega arith)) ∙ y .all (a - 1) (omega arith) (omega (arith, y .to, x .from)) in
       omega arith)
       (λ (g : a ≤ c). omega arith) (lt-or-ge c a))
       (lt-or-ge a c)
@@ -134,12 +137,6 @@ module _ (f : ℕ → ℕ) (len i a b c d : ℕ) (x : RunAround f len i a b) (y 
   around-unique = (same-first, same-last)
 
 -- ---- the list of all runs
-
--- from a cursor that stands at 0 or after an unset slot, the first member found starts a run
-starts-run : (f : ℕ → ℕ) (len lo : ℕ) → Bits f → Member f len lo → (0 < lo → f (lo - 1) ≡ 0) → RunAround f len lo lo (lastOfRun f len lo)
-starts-run f len lo bits m before =
-    let r = run-around f bits len lo m in
-    record { from = omega arith; to = r .to; fits = r .fits; all = λ k a b. r .all k (omega (arith, r .from)) b; left = before; right = r .right }
 
 module _ (f : ℕ → ℕ) (bits : Bits f) (len : ℕ) where
   are-step : (n at : ℕ) (r : Found) → ((at′ : ℕ) → len < n + at′ + 1 → AreRuns f len at′ (runs n f len at′)) → len < suc n + at + 1
@@ -223,20 +220,17 @@ module _ (f : ℕ → ℕ) (bits : Bits f) (len i : ℕ) (m : Member f len i) wh
         fits = x .2;
         all = x .4;
         left = λ p. zero-of (f (r .first - 1)) (bits _) (λ e. ⊎-elim
-            (λ (g : at ≤ r .first - 1). x .3 (r .first - 1) g (omega arith) e)
             (λ (g : r .first - 1 < at).
             let q : r .first ≡ at = omega (arith, x .0) in
             apart (omega arith) (omega (arith, x .1, x .2)) (ap (λ (z : ℕ). f (z - 1)) (sym q) ∙ e)
             (ap f (sym q) ∙ x .4 (r .first) (omega arith) (x .1)))
-            (le-or-lt at (r .first - 1)));
+            (λ (g : at ≤ r .first - 1). x .3 (r .first - 1) g (omega arith) e)
+            (lt-or-ge (r .first - 1) at));
         right = λ p. zero-of (f (r .last + 1)) (bits _) (x .5 p);
       } in
       let u = around-unique f len i (r .first) (r .last) _ _ whole (run-around f bits len i m) in
       inl (u .0, u .1)) (lt-or-ge (r .last) i))
       (lt-or-ge i (r .first))
-    where
-      le-or-lt : (a b : ℕ) → (a ≤ b) ⊎ (b < a)
-      le-or-lt a b = ⊎-elim (λ h. inr h) (λ h. inl h) (lt-or-ge b a)
 
 -- ---- sets that agree below the length have the same runs
 

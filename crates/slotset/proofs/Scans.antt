@@ -1,20 +1,19 @@
 -- The scans: one skips slots that are not wanted, and stops at the first that is. Assumes nothing.
 use mathlib.Core.Path.{_≡_, refl, sym, ap, _∙_}
-use mathlib.Core.Bool.{Bool, true, false, cond}
+use mathlib.Core.Bool.{Bool, cond}
 use mathlib.Core.List.{List}
-use mathlib.Core.Logic.{⊎-elim}
-use Prim.Native.Nat.{ℕ, zero, suc, _+_, _-_, _*_, _/_, _%_, _≤_, _<_, min}
+use mathlib.Core.Logic.{⊎-elim, _≢_}
+use Prim.Native.Nat.{ℕ, zero, suc, _+_, _-_, _*_, _/_, _%_, _≤_, _<_}
 use native.Mathlib.Nat.{lt-irrefl}
 use native.Mathlib.Omega.{arith}
-use borrow.Author.Tests.{eq-eqb, ne-eqb}
+use borrow.Author.Tests.{eq-eqb, ne-eqb, lt-ltb, le-ltb}
 use lib.ListN.{getD}
 use Rattle.paper.specs.Bits.{bitOf}
 use Rattle.paper.proofs.Logic.{lt-or-ge}
-use Rattle.slotset.specs.declared.Found.{Found}
 use Rattle.slotset.specs.declared.Found.the-variants.{At, Nothing}
 use Rattle.slotset.specs.Slots.{slot}
 use Rattle.slotset.specs.Words.{FirstBit, LastBit}
-use Rattle.slotset.specs.Search.{up, nextWith, down}
+use Rattle.slotset.specs.Search.{up, nextWith, down, foundBelow}
 
 module _ (v : ℕ) (f : ℕ → ℕ) (len : ℕ) where
   pub next-end : (at : ℕ) → len ≤ at → nextWith v f len at ≡ Nothing
@@ -40,26 +39,36 @@ module _ (v : ℕ) (f : ℕ → ℕ) (len : ℕ) where
   next-skip zero at n = let e : at ≡ at + 0 = omega arith in ap (nextWith v f len) e
   next-skip (suc d) at n =
       let e : suc at + d ≡ at + suc d = omega arith in
-      next-step at (n at (omega arith) (omega arith)) ∙ next-skip d (suc at) (λ k a b. n k (omega arith) (omega arith)) ∙ ap (nextWith v f len) e
+      next-step at (n at (omega arith) (omega arith))
+      ∙ next-skip d (suc at) (λ k a b. n k (omega arith) (omega arith)) ∙ ap (nextWith v f len) e
 
--- from a word's first wanted bit, at or after `at`, to the slots
-module _ (v : ℕ) (ws : List ℕ) (b len at r : ℕ) (f : FirstBit v (getD ws (b + at / 64) 0) (at % 64) r) where
-  pub word-skip : nextWith v (slot ws b) len at ≡ nextWith v (slot ws b) len (at / 64 * 64 + r)
+-- from the first wanted bit of word j, at or after its bit s, to the slots; `at` is that bit's slot
+module _ (v : ℕ) (ws : List ℕ) (b len j s r : ℕ) (f : FirstBit v (getD ws (b + j) 0) s r) (at : ℕ) (here : at ≡ j * 64 + s) where
+  word-skip : nextWith v (slot ws b) len at ≡ nextWith v (slot ws b) len (j * 64 + r)
   unfolding slot
   word-skip =
-      let e : at + (at / 64 * 64 + r - at) ≡ at / 64 * 64 + r = omega (arith, f .from) in
-      next-skip v (slot ws b) len (at / 64 * 64 + r - at) at
+      let e : at + (j * 64 + r - at) ≡ j * 64 + r = omega (arith, f .from) in
+      next-skip v (slot ws b) len (j * 64 + r - at) at
       (λ k x y z g.
-      let q : k / 64 ≡ at / 64 = omega (arith, f .to) in
-      f .clear (k % 64) (omega arith) (omega (arith, f .to)) (ap (λ (j : ℕ). bitOf (getD ws (b + j) 0) (k % 64)) (sym q) ∙ g))
+      let q : k / 64 ≡ j = omega (arith, f .to) in
+      f .clear (k % 64) (omega arith) (omega (arith, f .to)) (ap (λ (i : ℕ). bitOf (getD ws (b + i) 0) (k % 64)) (sym q) ∙ g))
       ∙ ap (nextWith v (slot ws b) len) e
 
-  pub word-hit : r < 64 → at / 64 * 64 + r < len → nextWith v (slot ws b) len at ≡ At (at / 64 * 64 + r)
-  unfolding slot
-  word-hit h g =
-      let q : (at / 64 * 64 + r) / 64 ≡ at / 64 = omega arith in
-      let m : (at / 64 * 64 + r) % 64 ≡ r = omega arith in
-      word-skip ∙ next-hit v (slot ws b) len _ g (simp (q, m) (f .hit h))
+  -- no bit: on from the next word
+  pub word-next : r ≡ 64 → nextWith v (slot ws b) len at ≡ nextWith v (slot ws b) len ((j + 1) * 64)
+  word-next h = let e : j * 64 + r ≡ (j + 1) * 64 = omega arith in word-skip ∙ ap (nextWith v (slot ws b) len) e
+
+  -- a bit: its slot, or nothing where that is past the length
+  pub word-found : r ≢ 64 → nextWith v (slot ws b) len at ≡ foundBelow len (j * 64 + r)
+  unfolding slot foundBelow
+  word-found h =
+      let q : (j * 64 + r) / 64 ≡ j = omega (arith, f .to, h) in
+      let m : (j * 64 + r) % 64 ≡ r = omega (arith, f .to, h) in
+      word-skip
+      ∙ ⊎-elim
+      (λ (g : j * 64 + r < len). next-hit v (slot ws b) len _ g (simp (q, m) (f .hit (omega (arith, f .to, h)))) ∙ simp (lt-ltb _ _ g) refl)
+      (λ (g : len ≤ j * 64 + r). next-end v (slot ws b) len _ g ∙ simp (le-ltb _ _ g) refl)
+      (lt-or-ge (j * 64 + r) len)
 
 -- ---- downwards
 
@@ -79,24 +88,27 @@ module _ (v : ℕ) (f : ℕ → ℕ) where
       ap (down v f) q ∙ ap (λ (b : Bool). cond b (At (n + d)) (down v f (n + d))) (ne-eqb _ _ (g (n + d) (omega arith) (omega arith)))
       ∙ down-skip d n (λ k a b. g k a (omega arith))
 
--- from a word's last wanted bit, below `end`, to the slots
-module _ (v : ℕ) (ws : List ℕ) (b end r : ℕ) (p : 0 < end) (f : LastBit v (getD ws (b + (end - 1) / 64) 0) ((end - 1) % 64) r) where
-  pub word-drop : down v (slot ws b) end ≡ down v (slot ws b) ((end - 1) / 64 * 64 + r)
+-- from the last wanted bit of word j, up to its bit s, to the slots; `end` is one past that bit's slot
+module _ (v : ℕ) (ws : List ℕ) (b j s r : ℕ) (low : s < 64) (f : LastBit v (getD ws (b + j) 0) s r)
+    (end : ℕ) (here : end ≡ j * 64 + s + 1) where
+  word-drop : down v (slot ws b) end ≡ down v (slot ws b) (j * 64 + r)
   unfolding slot
   word-drop =
-      let e : end ≡ (end - 1) / 64 * 64 + r + ((end - 1) % 64 + 1 - r) = omega (arith, f .to) in
+      let e : end ≡ j * 64 + r + (s + 1 - r) = omega (arith, f .to) in
       ap (down v (slot ws b)) e
-      ∙ down-skip v (slot ws b) ((end - 1) % 64 + 1 - r) ((end - 1) / 64 * 64 + r)
+      ∙ down-skip v (slot ws b) (s + 1 - r) (j * 64 + r)
       (λ k x y g.
-      let q : k / 64 ≡ (end - 1) / 64 = omega (arith, f .to) in
-      f .clear (k % 64) (omega (arith, f .to)) (omega (arith, f .to)) (ap (λ (j : ℕ). bitOf (getD ws (b + j) 0) (k % 64)) (sym q) ∙ g))
+      let q : k / 64 ≡ j = omega (arith, f .to) in
+      f .clear (k % 64) (omega (arith, f .to)) (omega (arith, f .to)) (ap (λ (i : ℕ). bitOf (getD ws (b + i) 0) (k % 64)) (sym q) ∙ g))
 
-  pub word-none : r ≤ 0 → down v (slot ws b) end ≡ down v (slot ws b) ((end - 1) / 64 * 64)
-  word-none h = let e : (end - 1) / 64 * 64 + r ≡ (end - 1) / 64 * 64 = omega arith in word-drop ∙ ap (down v (slot ws b)) e
+  -- no bit: on below this word
+  pub word-before : r ≡ 0 → down v (slot ws b) end ≡ down v (slot ws b) (j * 64)
+  word-before h = let e : j * 64 + r ≡ j * 64 = omega arith in word-drop ∙ ap (down v (slot ws b)) e
 
-  pub word-last : 0 < r → down v (slot ws b) end ≡ At ((end - 1) / 64 * 64 + r - 1)
+  -- a bit: its slot
+  pub word-last : r ≢ 0 → down v (slot ws b) end ≡ At (j * 64 + r - 1)
   unfolding slot
   word-last h =
-      let q : ((end - 1) / 64 * 64 + r - 1) / 64 ≡ (end - 1) / 64 = omega (arith, f .to) in
-      let m : ((end - 1) / 64 * 64 + r - 1) % 64 ≡ r - 1 = omega (arith, f .to) in
-      word-drop ∙ down-hit v (slot ws b) _ (omega arith) (simp (q, m) (f .hit h))
+      let q : (j * 64 + r - 1) / 64 ≡ j = omega (arith, f .to, h) in
+      let m : (j * 64 + r - 1) % 64 ≡ r - 1 = omega (arith, f .to, h) in
+      word-drop ∙ down-hit v (slot ws b) _ (omega (arith, h)) (simp (q, m) (f .hit (omega (arith, h))))

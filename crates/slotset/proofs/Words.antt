@@ -1,5 +1,5 @@
 -- What one word answers: the first and the last wanted bit by the counts of zeros, ones below a bit, two words merged. Assumes nothing.
-use mathlib.Core.Path.{_≡_, refl, sym, ap, ap₂, _∙_}
+use mathlib.Core.Path.{_≡_, refl, ap, ap₂, _∙_}
 use mathlib.Core.Bool.{Bool, true, false, _&&_, cond}
 use mathlib.Core.Logic.{⊎-elim}
 use Prim.Native.Nat.{ℕ, zero, suc, _+_, _-_, _*_, _/_, _%_, _^_, _≤_, _<_, min, max}
@@ -11,10 +11,10 @@ use lib.Count.{ones, ones-cat, trailingZeros, trailing-le}
 use lib.Dec.{lit<, leb, ltb}
 use lib.Pow.{pow-pos, mod-pow-add, shl-exact, shr-le}
 use Rattle.paper.specs.Bits.{bitOf}
-use Rattle.paper.proofs.Bits.{bit-lt, bit-and, bit-or, bit-not, bit-from, bit-before, bit-upto, bit-past, trailing-clear, trailing-set, top-clear}
-use Rattle.paper.proofs.Bits.{length-set-bit}
+use Rattle.paper.proofs.Bits.{bit-lt, bit-and, bit-or, bit-not, bit-from, bit-before, bit-upto, bit-past}
+use Rattle.paper.proofs.Bits.{trailing-clear, trailing-set, top-clear, length-set-bit}
 use Rattle.paper.proofs.Logic.{lt-or-ge}
-use Rattle.slotset.specs.Words.{Wanted, FirstBit, LastBit, bitsBelow, Merged}
+use Rattle.slotset.specs.Words.{Wanted, FirstBit, LastBit, onesBelow, Merged}
 
 abbrev from-mask : ℕ → ℕ
 from-mask s = (2 ^ 64 - 1) * 2 ^ s % 2 ^ 64
@@ -27,7 +27,8 @@ first-law v w x s hw hs =
     let n = bitAnd x (from-mask s) in
     let t = trailingZeros 64 n in
     record {
-      from = ⊎-elim (λ (h : t < s). omega (arith, trailing-set 64 n (omega arith), bit-and x (from-mask s) t, bit-before s t h (omega arith)))
+      from = ⊎-elim
+          (λ (h : t < s). omega (arith, trailing-set 64 n (omega arith), bit-and x (from-mask s) t, bit-before s t h (omega arith)))
           (λ (h : s ≤ t). h) (lt-or-ge t s);
       to = trailing-le 64 n;
       clear = λ k a b e. omega (
@@ -48,7 +49,8 @@ last-law v w x s r hw hs lo hi =
     let n = bitAnd x (upto-mask s) in
     let short : r ≤ s + 1 =
     ⊎-elim (λ (h : s + 1 < r). omega
-    (arith, length-set-bit n r (omega arith) lo hi, bit-and x (upto-mask s) (r - 1), bit-past s (r - 1) (omega arith))) (λ (h : r ≤ s + 1). h)
+    (arith, length-set-bit n r (omega arith) lo hi, bit-and x (upto-mask s) (r - 1), bit-past s (r - 1) (omega arith)))
+    (λ (h : r ≤ s + 1). h)
     (lt-or-ge (s + 1) r) in
     record {
       to = short;
@@ -62,8 +64,8 @@ ones-small zero h = refl
 ones-small (suc zero) h = refl
 ones-small (suc (suc b)) h = let z : ⊥ = omega arith in absurd z
 
-pub ones-mod : (w k : ℕ) → ones (w % 2 ^ k) ≡ bitsBelow w k
-unfolding bitsBelow bitOf
+pub ones-mod : (w k : ℕ) → ones (w % 2 ^ k) ≡ onesBelow w k
+unfolding onesBelow bitOf
 ones-mod w zero = ap ones (mod-one w) ∙ ones-small 0 (lit< tt)
 ones-mod w (suc k) =
     let e : suc k ≡ 1 + k = omega arith in
@@ -74,11 +76,11 @@ ones-mod w (suc k) =
 pub one-shl : (k : ℕ) → k < 64 → 1 * 2 ^ k % 2 ^ 64 ≡ 2 ^ k
 one-shl k h = shl-exact {a = 1} 1 k 64 (lit< tt) (omega arith) ∙ one-mul (2 ^ k)
 
-pub ones-masked : (w k : ℕ) → k < 64 → ones (bitAnd w (1 * 2 ^ k % 2 ^ 64 - 1)) ≡ bitsBelow w k
+pub ones-masked : (w k : ℕ) → k < 64 → ones (bitAnd w (1 * 2 ^ k % 2 ^ 64 - 1)) ≡ onesBelow w k
 ones-masked w k h = ap (λ (x : ℕ). ones (bitAnd w (x - 1))) (one-shl k h) ∙ ap ones (and-mask w k) ∙ ones-mod w k
 
-pub bits-le : (w k : ℕ) → bitsBelow w k ≤ k
-unfolding bitsBelow
+pub bits-le : (w k : ℕ) → onesBelow w k ≤ k
+unfolding onesBelow
 bits-le w zero = omega arith
 bits-le w (suc k) = omega (arith, bit-lt w k, bits-le w k)
 

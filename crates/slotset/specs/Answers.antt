@@ -1,14 +1,12 @@
 -- What a caller hears and is handed back, refused or not. Assumes nothing.
-use mathlib.Core.Path.{_≡_}
-use mathlib.Core.Bool.{Bool, true, false, _&&_, _||_, cond}
+use mathlib.Core.Bool.{Bool, _&&_, _||_, cond}
 use mathlib.Core.List.{List}
-use Prim.Native.Nat.{ℕ, zero, suc, _+_, _-_, _*_, _≤_, _<_}
+use Prim.Native.Nat.{ℕ, _+_, _-_, _*_}
 use lib.Dec.{eqb, ltb, leb}
 use lib.ListN.{length, take, drop, replicate}
 use Rattle.paper.specs.Limits.{slotsMost, peopleOk, orElse}
 use Rattle.slotset.specs.declared.SlotSet.{SlotSet}
 use Rattle.slotset.specs.declared.Changed.{Changed}
-use Rattle.slotset.specs.declared.Cursor.{Cursor}
 use Rattle.slotset.specs.declared.Found.{Found}
 use Rattle.slotset.specs.declared.Found.the-variants as found
 use Rattle.slotset.specs.declared.Told.{Told}
@@ -21,7 +19,7 @@ use Rattle.slotset.specs.declared.NextRun.{NextRun}
 use Rattle.slotset.specs.declared.NextRun.the-variants as nextRun
 use Rattle.slotset.specs.declared.NextMember.{NextMember}
 use Rattle.slotset.specs.declared.NextMember.the-variants as nextMember
-use Rattle.slotset.specs.Slots.{slot, putSlot, putSlots, has, size, noMember}
+use Rattle.slotset.specs.Slots.{slot, putSlot, putSlots, has}
 use Rattle.slotset.specs.Search.{nextSet}
 use Rattle.slotset.specs.Runs.{firstOfRun, lastOfRun}
 

@@ -1,12 +1,10 @@
 -- Runs: maximal stretches of set slots, both ends named. Assumes nothing.
 use mathlib.Core.Path.{_≡_}
-use mathlib.Core.Bool.{Bool, cond}
 use mathlib.Core.List.{List, [], _∷_}
 use mathlib.Core.Logic.{_⊎_}
 use Prim.Native.Nat.{ℕ, zero, suc, _+_, _-_, _≤_, _<_}
 use Rattle.slotset.specs.declared.Found.{Found}
 use Rattle.slotset.specs.declared.Found.the-variants.{At, Nothing, Refused}
-use Rattle.slotset.specs.Slots.{has}
 use Rattle.slotset.specs.Search.{nextSet, nextUnsetAfter, prevUnsetBefore}
 
 -- one past the slot found, or 0: where a run starts after the unset slot before it

@@ -1,8 +1,8 @@
 -- The next and the previous slot of a value, set (1) or unset (0), in a set of `len` slots. Assumes nothing.
 use mathlib.Core.Path.{_≡_}
-use mathlib.Core.Bool.{Bool, cond}
-use Prim.Native.Nat.{ℕ, zero, suc, _+_, _-_, _≤_, _<_, min}
-use lib.Dec.{eqb}
+use mathlib.Core.Bool.{cond}
+use Prim.Native.Nat.{ℕ, zero, suc, _-_, _≤_, _<_, min}
+use lib.Dec.{eqb, ltb}
 use Rattle.slotset.specs.declared.Found.{Found}
 use Rattle.slotset.specs.declared.Found.the-variants.{At, Nothing, Refused}
 
@@ -23,6 +23,10 @@ nextWith v f len from = up v f (len - from) from
 -- the last slot below `end` that is v; an end past the length is lowered to it
 unfoldable pub lastBelow : ℕ → (ℕ → ℕ) → ℕ → ℕ → Found
 lastBelow v f len end = down v f (min end len)
+
+-- the slot i as found, if it is below the length
+unfoldable pub foundBelow : ℕ → ℕ → Found
+foundBelow len i = cond (ltb i len) (At i) Nothing
 
 abbrev pub nextSet : (ℕ → ℕ) → ℕ → ℕ → Found
 nextSet f len from = nextWith 1 f len from

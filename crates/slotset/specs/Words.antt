@@ -28,9 +28,9 @@ pub record LastBit (v w s r : ℕ) : Type 0 where
   pub hit : 0 < r → bitOf w (r - 1) ≡ v
 
 -- how many of the k lowest bits of w are set
-unfoldable pub bitsBelow : ℕ → ℕ → ℕ
-bitsBelow w zero = 0
-bitsBelow w (suc k) = bitOf w k + bitsBelow w k
+unfoldable pub onesBelow : ℕ → ℕ → ℕ
+onesBelow w zero = 0
+onesBelow w (suc k) = bitOf w k + onesBelow w k
 
 -- r has the bits of x from s up to e, and those of w elsewhere
 abbrev pub Merged : ℕ → ℕ → ℕ → ℕ → ℕ → Type 0

@@ -8,7 +8,8 @@ ghost use mathlib.Core.Path.{_≡_};
 ghost use Prim.Native.Nat.{suc};
 ghost use Rattle.slotset.specs.Slots.{has, size, noMember, valueOf};
 ghost use Rattle.slotset.specs.Search.{nextSet, prevSet, nextUnsetAfter, prevUnsetBefore};
-ghost use Rattle.slotset.specs.Answers.{lenNo, slotNo, stretchNo, slotsOf, foundAs, toldAs, countedAs, runAs, nextRunAs, nextMemberAs, newOf, putOf, stretchOf};
+ghost use Rattle.slotset.specs.Answers.{lenNo, slotNo, stretchNo, slotsOf, newOf, putOf, stretchOf};
+ghost use Rattle.slotset.specs.Answers.{foundAs, toldAs, countedAs, runAs, nextRunAs, nextMemberAs};
 
 // A set: its words, and how many slots it has.
 pub struct SlotSet {
@@ -108,7 +109,7 @@ fn stretch_no(len: usize, from: usize, to: usize) -> u8
     1
 }
 
-// Yes or no.
+// A test as an answer.
 pub(crate) fn yes_or_no(b: bool) -> Told
     ensures { λ r. ⌜ r ≡ toldAs 0 b ⌝ }
 {
@@ -154,7 +155,7 @@ impl SlotSet {
         let number = len_no(len);
         if number == 0 {
             let words = self.words;
-            return yes_or_no(scan::has_slot(&words, 0, len, i));
+            return yes_or_no(scan::contains(&words, 0, len, i));
         }
         Told::Refused(number)
     }
@@ -229,7 +230,7 @@ impl SlotSet {
         let number = len_no(len);
         if number == 0 {
             let words = self.words;
-            return yes_or_no(scan::is_empty_from(&words, 0, len));
+            return yes_or_no(scan::is_empty(&words, 0, len));
         }
         Told::Refused(number)
     }
@@ -242,7 +243,7 @@ impl SlotSet {
         let number = len_no(len);
         if number == 0 {
             let words = self.words;
-            return Counted::Is(scan::count_slots(&words, 0, len));
+            return Counted::Is(scan::count(&words, 0, len));
         }
         Counted::Refused(number)
     }
@@ -268,7 +269,7 @@ impl SlotSet {
         let number = len_no(len);
         if number == 0 {
             let words = self.words;
-            return scan::prev_set_from(&words, 0, len, from);
+            return scan::prev_set(&words, 0, len, from);
         }
         Found::Refused(number)
     }
@@ -281,7 +282,7 @@ impl SlotSet {
         let number = len_no(len);
         if number == 0 {
             let words = self.words;
-            return scan::next_unset_from(&words, 0, len, from);
+            return scan::next_unset_after(&words, 0, len, from);
         }
         Found::Refused(number)
     }
@@ -307,7 +308,7 @@ impl SlotSet {
         let number = len_no(len);
         if number == 0 {
             let words = self.words;
-            return scan::run_of(&words, 0, len, i);
+            return scan::run_bounds(&words, 0, len, i);
         }
         Run::Refused(number)
     }
@@ -321,7 +322,7 @@ impl SlotSet {
         let number = len_no(len);
         if number == 0 {
             let words = self.words;
-            return scan::next_run_from(&words, 0, len, at);
+            return scan::next_run(&words, 0, len, at);
         }
         NextRun::Refused(number)
     }
@@ -335,7 +336,7 @@ impl SlotSet {
         let number = len_no(len);
         if number == 0 {
             let words = self.words;
-            return scan::next_member_from(&words, 0, len, at);
+            return scan::next_member(&words, 0, len, at);
         }
         NextMember::Refused(number)
     }

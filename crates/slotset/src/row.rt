@@ -14,7 +14,8 @@ ghost use Prim.Native.Nat.{_+_, _*_, _≤_};
 ghost use lib.ListN.{length, take, drop};
 ghost use Rattle.slotset.specs.Slots.{has, size, noMember, valueOf};
 ghost use Rattle.slotset.specs.Search.{nextSet, prevSet, nextUnsetAfter, prevUnsetBefore};
-ghost use Rattle.slotset.specs.Answers.{rowNo, rowStretchNo, rowSlots, foundAs, toldAs, countedAs, runAs, nextRunAs, nextMemberAs, loadOf, storeOf, rowStretchOf};
+ghost use Rattle.slotset.specs.Answers.{rowNo, rowStretchNo, rowSlots, loadOf, storeOf, rowStretchOf};
+ghost use Rattle.slotset.specs.Answers.{foundAs, toldAs, countedAs, runAs, nextRunAs, nextMemberAs};
 
 // Refusals 1, 2 and 11 of a row, or 0.
 fn row_no(words: &[u64], people: usize, person: usize, len: usize) -> u8
@@ -65,7 +66,7 @@ pub fn contains(words: &[u64], people: usize, person: usize, len: usize, i: usiz
 {
     let number = row_no(words, people, person, len);
     if number == 0 {
-        return crate::yes_or_no(scan::has_slot(words, 16 * person, len, i));
+        return crate::yes_or_no(scan::contains(words, 16 * person, len, i));
     }
     Told::Refused(number)
 }
@@ -76,7 +77,7 @@ pub fn is_empty(words: &[u64], people: usize, person: usize, len: usize) -> Told
 {
     let number = row_no(words, people, person, len);
     if number == 0 {
-        return crate::yes_or_no(scan::is_empty_from(words, 16 * person, len));
+        return crate::yes_or_no(scan::is_empty(words, 16 * person, len));
     }
     Told::Refused(number)
 }
@@ -87,14 +88,15 @@ pub fn count(words: &[u64], people: usize, person: usize, len: usize) -> Counted
 {
     let number = row_no(words, people, person, len);
     if number == 0 {
-        return Counted::Is(scan::count_slots(words, 16 * person, len));
+        return Counted::Is(scan::count(words, 16 * person, len));
     }
     Counted::Refused(number)
 }
 
 // The first member at or after `from`.
 pub fn next_set(words: &[u64], people: usize, person: usize, len: usize, from: usize) -> Found
-    ensures { λ r. ⌜ r ≡ foundAs (rowNo (now (words .entry)) people person len) (nextSet (rowSlots (now (words .entry)) person) len from) ⌝ }
+    ensures { λ r. ⌜ r ≡ foundAs (rowNo (now (words .entry)) people person len)
+        (nextSet (rowSlots (now (words .entry)) person) len from) ⌝ }
 {
     let number = row_no(words, people, person, len);
     if number == 0 {
@@ -105,11 +107,12 @@ pub fn next_set(words: &[u64], people: usize, person: usize, len: usize, from: u
 
 // The last member at or before `from`.
 pub fn prev_set(words: &[u64], people: usize, person: usize, len: usize, from: usize) -> Found
-    ensures { λ r. ⌜ r ≡ foundAs (rowNo (now (words .entry)) people person len) (prevSet (rowSlots (now (words .entry)) person) len from) ⌝ }
+    ensures { λ r. ⌜ r ≡ foundAs (rowNo (now (words .entry)) people person len)
+        (prevSet (rowSlots (now (words .entry)) person) len from) ⌝ }
 {
     let number = row_no(words, people, person, len);
     if number == 0 {
-        return scan::prev_set_from(words, 16 * person, len, from);
+        return scan::prev_set(words, 16 * person, len, from);
     }
     Found::Refused(number)
 }
@@ -122,11 +125,12 @@ pub fn next_unset_after(
     len: usize,
     from: usize,
 ) -> Found
-    ensures { λ r. ⌜ r ≡ foundAs (rowNo (now (words .entry)) people person len) (nextUnsetAfter (rowSlots (now (words .entry)) person) len from) ⌝ }
+    ensures { λ r. ⌜ r ≡ foundAs (rowNo (now (words .entry)) people person len)
+        (nextUnsetAfter (rowSlots (now (words .entry)) person) len from) ⌝ }
 {
     let number = row_no(words, people, person, len);
     if number == 0 {
-        return scan::next_unset_from(words, 16 * person, len, from);
+        return scan::next_unset_after(words, 16 * person, len, from);
     }
     Found::Refused(number)
 }
@@ -139,7 +143,8 @@ pub fn prev_unset_before(
     len: usize,
     from: usize,
 ) -> Found
-    ensures { λ r. ⌜ r ≡ foundAs (rowNo (now (words .entry)) people person len) (prevUnsetBefore (rowSlots (now (words .entry)) person) len from) ⌝ }
+    ensures { λ r. ⌜ r ≡ foundAs (rowNo (now (words .entry)) people person len)
+        (prevUnsetBefore (rowSlots (now (words .entry)) person) len from) ⌝ }
 {
     let number = row_no(words, people, person, len);
     if number == 0 {
@@ -154,7 +159,7 @@ pub fn run_bounds(words: &[u64], people: usize, person: usize, len: usize, i: us
 {
     let number = row_no(words, people, person, len);
     if number == 0 {
-        return scan::run_of(words, 16 * person, len, i);
+        return scan::run_bounds(words, 16 * person, len, i);
     }
     Run::Refused(number)
 }
@@ -166,7 +171,7 @@ pub fn next_run(words: &[u64], people: usize, person: usize, len: usize, c: Curs
     let at = c.at;
     let number = row_no(words, people, person, len);
     if number == 0 {
-        return scan::next_run_from(words, 16 * person, len, at);
+        return scan::next_run(words, 16 * person, len, at);
     }
     NextRun::Refused(number)
 }
@@ -178,7 +183,7 @@ pub fn next_member(words: &[u64], people: usize, person: usize, len: usize, c: C
     let at = c.at;
     let number = row_no(words, people, person, len);
     if number == 0 {
-        return scan::next_member_from(words, 16 * person, len, at);
+        return scan::next_member(words, 16 * person, len, at);
     }
     NextMember::Refused(number)
 }
@@ -242,7 +247,8 @@ pub fn load(words: &[u64], people: usize, person: usize, len: usize) -> Changed
 
 // The slots of a set below its length go into the row; the bits past them stay.
 pub fn store(set: SlotSet, words: &mut [u64], people: usize, person: usize) -> u8
-    ensures { λ r. ⌜ (r ≡ rowNo (now (words .entry)) people person (set .len)) × (now (words .exit) ≡ storeOf set (now (words .entry)) people person) ⌝ }
+    ensures { λ r. ⌜ (r ≡ rowNo (now (words .entry)) people person (set .len))
+        × (now (words .exit) ≡ storeOf set (now (words .entry)) people person) ⌝ }
 {
     let len = set.len;
     let number = row_no(words, people, person, len);

@@ -6,10 +6,10 @@ use crate::NextRun;
 use crate::Run;
 use crate::word;
 ghost use mathlib.Core.Path.{_≡_};
-ghost use Prim.Native.Nat.{_+_, _-_, _≤_, _<_, min};
+ghost use Prim.Native.Nat.{_+_, _-_, _*_, _≤_, _<_, min};
 ghost use lib.ListN.{length};
 ghost use Rattle.slotset.specs.Slots.{slot, valueOf, has, size, noMember, putSlots};
-ghost use Rattle.slotset.specs.Search.{nextWith, lastBelow, prevSet, nextUnsetAfter, Below, Above};
+ghost use Rattle.slotset.specs.Search.{foundBelow, nextWith, down, lastBelow, prevSet, nextUnsetAfter, Below, Above};
 ghost use Rattle.slotset.specs.Runs.{startOf, endOf};
 ghost use Rattle.slotset.specs.Answers.{runAs, nextRunAs, nextMemberAs, memberStep};
 
@@ -20,8 +20,8 @@ pub(crate) fn least(a: usize, b: usize) -> usize
     if a < b { a } else { b }
 }
 
-// Whether slot i is in the set.
-pub(crate) fn has_slot(words: &[u64], base: usize, len: usize, i: usize) -> bool
+// Whether slot i is a member; at or past the length it is not.
+pub(crate) fn contains(words: &[u64], base: usize, len: usize, i: usize) -> bool
     requires { ⌜ (base + 16 ≤ length (now words)) × (len ≤ 1024) ⌝ }
     ensures { λ r. ⌜ r ≡ has (slot (now (words .entry)) base) len i ⌝ }
 {
@@ -32,56 +32,110 @@ pub(crate) fn has_slot(words: &[u64], base: usize, len: usize, i: usize) -> bool
     }
 }
 
-// The first slot at or after `from` that is as wanted.
+// The slot that a search came to; nothing where that is not below the length.
+fn found_below(len: usize, hit: usize) -> Found
+    ensures { λ r. ⌜ r ≡ foundBelow len hit ⌝ }
+{
+    if hit < len {
+        Found::At(hit)
+    } else {
+        Found::Nothing
+    }
+}
+
+// The first slot at or after `from` that is as wanted: in its word from its bit on, then in whole words.
 pub(crate) fn next_with(words: &[u64], base: usize, len: usize, want: bool, from: usize) -> Found
     requires { ⌜ (base + 16 ≤ length (now words)) × (len ≤ 1024) ⌝ }
     ensures { λ r. ⌜ r ≡ nextWith (valueOf want) (slot (now (words .entry)) base) len from ⌝ }
 {
-    let mut at = from;
-    while at < len {
-        let j = at / 64;
-        let k = word::first_bit(words[base + j], want, at % 64);
-        let hit = j * 64 + k;
-        if k < 64 {
-            if hit < len {
-                return Found::At(hit);
-            }
-            return Found::Nothing;
+    if from < len {
+        let j = from / 64;
+        let k = word::first_bit(words[base + j], want, from % 64);
+        if k == 64 {
+            return next_in_words(words, base, len, want, j + 1);
         }
-        at = hit;
+        return found_below(len, j * 64 + k);
     }
     Found::Nothing
 }
 
-// The last slot below `before` that is as wanted.
+// The first slot from word `first` on that is as wanted. No word is masked, so that one with none costs one comparison.
+fn next_in_words(words: &[u64], base: usize, len: usize, want: bool, first: usize) -> Found
+    requires { ⌜ (base + 16 ≤ length (now words)) × (len ≤ 1024) × (first ≤ 16) ⌝ }
+    ensures { λ r. ⌜ r ≡ nextWith (valueOf want) (slot (now (words .entry)) base) len (first * 64) ⌝ }
+{
+    let mut j = first;
+    while j * 64 < len {
+        let k = word::first_bit(words[base + j], want, 0);
+        if k == 64 {
+            j += 1;
+        } else {
+            return found_below(len, j * 64 + k);
+        }
+    }
+    Found::Nothing
+}
+
+// The last slot below `before` that is as wanted: in its word up to its bit, then in whole words.
 pub(crate) fn last_below(words: &[u64], base: usize, len: usize, want: bool, before: usize) -> Found
     requires { ⌜ (base + 16 ≤ length (now words)) × (len ≤ 1024) ⌝ }
     ensures { λ r. ⌜ r ≡ lastBelow (valueOf want) (slot (now (words .entry)) base) len before ⌝ }
 {
-    let mut end = least(before, len);
-    while 0 < end {
+    let end = least(before, len);
+    if 0 < end {
         let last = end - 1;
         let j = last / 64;
         let k = word::last_bit(words[base + j], want, last % 64);
-        if 0 < k {
-            return Found::At(j * 64 + k - 1);
+        if k == 0 {
+            return last_in_words(words, base, want, j);
         }
-        end = j * 64;
+        return Found::At(j * 64 + k - 1);
     }
     Found::Nothing
 }
 
-// How many slots the set has.
-pub(crate) fn count_slots(words: &[u64], base: usize, len: usize) -> usize
+// The last slot below word `before` that is as wanted. No word is masked, so that one with none costs one comparison.
+fn last_in_words(words: &[u64], base: usize, want: bool, before: usize) -> Found
+    requires { ⌜ (base + 16 ≤ length (now words)) × (before ≤ 16) ⌝ }
+    ensures { λ r. ⌜ r ≡ down (valueOf want) (slot (now (words .entry)) base) (before * 64) ⌝ }
+{
+    let mut end = before;
+    while 0 < end {
+        let j = end - 1;
+        let k = word::last_bit(words[base + j], want, 63);
+        if k == 0 {
+            end = j;
+        } else {
+            return Found::At(j * 64 + k - 1);
+        }
+    }
+    Found::Nothing
+}
+
+// How many members the set has: whole words, then what is left of the last one.
+pub(crate) fn count(words: &[u64], base: usize, len: usize) -> usize
     requires { ⌜ (base + 16 ≤ length (now words)) × (len ≤ 1024) ⌝ }
     ensures { λ r. ⌜ r ≡ size (slot (now (words .entry)) base) len ⌝ }
 {
+    let whole = len / 64;
+    let rest = len % 64;
+    let n = count_words(words, base, whole);
+    if 0 < rest {
+        return n + word::ones_below(words[base + whole], rest);
+    }
+    n
+}
+
+// How many members stand in the first `whole` words.
+fn count_words(words: &[u64], base: usize, whole: usize) -> usize
+    requires { ⌜ (base + 16 ≤ length (now words)) × (whole ≤ 16) ⌝ }
+    ensures { λ r. ⌜ (r ≡ size (slot (now (words .entry)) base) (whole * 64)) × (r ≤ whole * 64) ⌝ }
+{
     let mut n = 0;
-    let mut at = 0;
-    while at < len {
-        let k = least(64, len - at);
-        n += word::ones_below(words[base + at / 64], k);
-        at += k;
+    let mut j = 0;
+    while j < whole {
+        n += word::ones_below(words[base + j], 64);
+        j += 1;
     }
     n
 }
@@ -140,11 +194,11 @@ fn end_of(f: Found, len: usize) -> usize
 }
 
 // The run that holds slot i.
-pub(crate) fn run_of(words: &[u64], base: usize, len: usize, i: usize) -> Run
+pub(crate) fn run_bounds(words: &[u64], base: usize, len: usize, i: usize) -> Run
     requires { ⌜ (base + 16 ≤ length (now words)) × (len ≤ 1024) ⌝ }
     ensures { λ r. ⌜ r ≡ runAs 0 (slot (now (words .entry)) base) len i ⌝ }
 {
-    if has_slot(words, base, len, i) {
+    if contains(words, base, len, i) {
         let first = start_of(last_below(words, base, len, false, i));
         let last = end_of(next_with(words, base, len, false, i + 1), len);
         Run::Span { first, last }
@@ -154,7 +208,7 @@ pub(crate) fn run_of(words: &[u64], base: usize, len: usize, i: usize) -> Run
 }
 
 // The run that starts at the first member from `at` on, and the cursor one past it.
-pub(crate) fn next_run_from(words: &[u64], base: usize, len: usize, at: usize) -> NextRun
+pub(crate) fn next_run(words: &[u64], base: usize, len: usize, at: usize) -> NextRun
     requires { ⌜ (base + 16 ≤ length (now words)) × (len ≤ 1024) ⌝ }
     ensures { λ r. ⌜ r ≡ nextRunAs 0 (slot (now (words .entry)) base) len at ⌝ }
 {
@@ -174,7 +228,7 @@ pub(crate) fn next_run_from(words: &[u64], base: usize, len: usize, at: usize) -
 }
 
 // Whether the set has no member.
-pub(crate) fn is_empty_from(words: &[u64], base: usize, len: usize) -> bool
+pub(crate) fn is_empty(words: &[u64], base: usize, len: usize) -> bool
     requires { ⌜ (base + 16 ≤ length (now words)) × (len ≤ 1024) ⌝ }
     ensures { λ r. ⌜ r ≡ noMember (slot (now (words .entry)) base) len ⌝ }
 {
@@ -187,7 +241,7 @@ pub(crate) fn is_empty_from(words: &[u64], base: usize, len: usize) -> bool
 }
 
 // The last member at or before `from`; a start past the end is lowered to the last slot.
-pub(crate) fn prev_set_from(words: &[u64], base: usize, len: usize, from: usize) -> Found
+pub(crate) fn prev_set(words: &[u64], base: usize, len: usize, from: usize) -> Found
     requires { ⌜ (base + 16 ≤ length (now words)) × (len ≤ 1024) ⌝ }
     ensures { λ r. ⌜ r ≡ prevSet (slot (now (words .entry)) base) len from ⌝ }
 {
@@ -199,7 +253,7 @@ pub(crate) fn prev_set_from(words: &[u64], base: usize, len: usize, from: usize)
 }
 
 // The first slot after `from` that is no member.
-pub(crate) fn next_unset_from(words: &[u64], base: usize, len: usize, from: usize) -> Found
+pub(crate) fn next_unset_after(words: &[u64], base: usize, len: usize, from: usize) -> Found
     requires { ⌜ (base + 16 ≤ length (now words)) × (len ≤ 1024) ⌝ }
     ensures { λ r. ⌜ r ≡ nextUnsetAfter (slot (now (words .entry)) base) len from ⌝ }
 {
@@ -211,7 +265,7 @@ pub(crate) fn next_unset_from(words: &[u64], base: usize, len: usize, from: usiz
 }
 
 // The next member from what was found.
-fn member_of(f: Found) -> NextMember
+fn member_step(f: Found) -> NextMember
     requires { ⌜ Below 1024 f ⌝ }
     ensures { λ r. ⌜ r ≡ memberStep f ⌝ }
 {
@@ -226,9 +280,9 @@ fn member_of(f: Found) -> NextMember
 }
 
 // The next member from `at` on, and the cursor one past it.
-pub(crate) fn next_member_from(words: &[u64], base: usize, len: usize, at: usize) -> NextMember
+pub(crate) fn next_member(words: &[u64], base: usize, len: usize, at: usize) -> NextMember
     requires { ⌜ (base + 16 ≤ length (now words)) × (len ≤ 1024) ⌝ }
     ensures { λ r. ⌜ r ≡ nextMemberAs 0 (slot (now (words .entry)) base) len at ⌝ }
 {
-    member_of(next_with(words, base, len, true, at))
+    member_step(next_with(words, base, len, true, at))
 }

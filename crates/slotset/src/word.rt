@@ -5,7 +5,7 @@ ghost use Prim.Native.Nat.{_≤_, _<_};
 ghost use lib.Dec.{eqb};
 ghost use Rattle.paper.specs.Bits.{bitOf};
 ghost use Rattle.slotset.specs.Slots.{valueOf};
-ghost use Rattle.slotset.specs.Words.{Wanted, FirstBit, LastBit, bitsBelow, Merged, Every};
+ghost use Rattle.slotset.specs.Words.{Wanted, FirstBit, LastBit, onesBelow, Merged, Every};
 
 // Whether bit k of w is set.
 pub(crate) fn bit(w: u64, k: usize) -> bool
@@ -43,7 +43,7 @@ pub(crate) fn last_bit(w: u64, want: bool, s: usize) -> usize
 // How many of the k lowest bits of w are set.
 pub(crate) fn ones_below(w: u64, k: usize) -> usize
     requires { ⌜ k ≤ 64 ⌝ }
-    ensures { λ r. ⌜ (r ≡ bitsBelow w k) × (r ≤ k) ⌝ }
+    ensures { λ r. ⌜ (r ≡ onesBelow w k) × (r ≤ k) ⌝ }
 {
     if k < 64 {
         u64::count_ones(w & ((1u64 << k) - 1)) as usize

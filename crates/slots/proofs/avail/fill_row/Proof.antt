@@ -133,7 +133,8 @@ loop-again c =
       inv .1,
       row-turn (take (args .n) (args .keys .now)) (args .starts .now) (args .ends .now) _ _ _ _ _ _ _ _ _ (pre .1 .1 .0) (pre .1 .0 .0)
           (pre .1 .1 .2) (pre .1 .1 .1) (inv .1) (inv .2) h
-          (covered-by (args .keys .now) (args .n) _ _ (pre .0 .1) (pre .0 .2) _ (opened-on .ensures) (omega (arith, order)) _ (reaches .ensures))
+          (covered-by (args .keys .now) (args .n) (pre .0 .1) (pre .0 .2) _ _ _ (opened-on .ensures)
+          (omega (arith, order)) _ (reaches .ensures))
           (put-stretch .ensures .1),
       opened-on .ensures .few,
       λ j g i a b. omega (arith, opened-on .ensures .by j g, T .ascending (loop .k) i (omega arith) b, order),

@@ -54,7 +54,7 @@ returns c =
     let args = c .before .before .before .before .before .before .args in
     let pre = c .before .before .before .before .before .before .pre in
     let loop = c .before .before .before .before .loop in
-    let rise = opens-rise (args .keys .now) (args .n) 0 0 (pre .0 .1) (pre .0 .2) in
+    let rise = opens-rise (args .keys .now) (args .n) (pre .0 .1) (pre .0 .2) in
     opened-stops _ _ _ _ (loop .inv .0) (loop .inv .1) rise (omega (arith, c .if1 .left, c .before .opens-at .ensures))
 
 returns-2 : tie.Need-returns-2 Inv-loop μ-loop

@@ -54,7 +54,8 @@ returns : tie.Need-returns Inv-loop μ-loop
 returns c =
     let args = c .before .before .before .args in
     let pre = c .before .before .before .pre in
-    below-done (args .keys .now) (args .n) _ _ _ _ (pre .0) (pre .2) (c .before .loop .inv .0) (c .loop-test .left) (c .before .loop .inv .1)
+    below-done (args .keys .now) (args .n) _ _ _ _ (pre .0) (pre .2)
+    (c .before .loop .inv .0) (c .loop-test .left) (c .before .loop .inv .1)
 
 pub next-cut-spec : {M : Type 1} → statement M
 next-cut-spec =

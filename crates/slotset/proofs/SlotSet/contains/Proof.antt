@@ -10,11 +10,11 @@ use Rattle.slotset.proofs.SlotSet.contains.Tie as tie
 len-no-requires : tie.Need-len-no-requires
 len-no-requires c κs = search needs
 
-slice-aggregate-has-slot : tie.Need-slice-aggregate-has-slot
-slice-aggregate-has-slot c = search needs
+slice-aggregate-contains : tie.Need-slice-aggregate-contains
+slice-aggregate-contains c = search needs
 
-has-slot-requires : tie.Need-has-slot-requires
-has-slot-requires c κs =
+contains-requires : tie.Need-contains-requires
+contains-requires c κs =
     let k = c .before .before in
     let n : length (k .before .before .args .self .words) ≡ 16 = search needs in
     (omega (arith, n), len-says _ (sym (k .before .len-no .ensures) ∙ k .if1 .taken))
@@ -25,7 +25,7 @@ yes-or-no-requires c κs = search needs
 returns : tie.Need-returns
 returns c =
     let k = c .before .before .before .before in
-    c .yes-or-no .ensures ∙ told-is _ _ (k .before .len-no .ensures) (k .if1 .taken) _ _ (c .before .has-slot .ensures)
+    c .yes-or-no .ensures ∙ told-is _ _ (k .before .len-no .ensures) (k .if1 .taken) _ _ (c .before .contains .ensures)
 
 returns-2 : tie.Need-returns-2
 returns-2 c = told-no _ _ (c .before .len-no .ensures) (c .if1 .left) _
@@ -35,8 +35,8 @@ contains-spec =
     tie.close
     (tie.spec
     len-no-requires
-    slice-aggregate-has-slot
-    has-slot-requires
+    slice-aggregate-contains
+    contains-requires
     yes-or-no-requires
     returns
     returns-2)

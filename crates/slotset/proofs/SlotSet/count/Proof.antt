@@ -10,11 +10,11 @@ use Rattle.slotset.proofs.SlotSet.count.Tie as tie
 len-no-requires : tie.Need-len-no-requires
 len-no-requires c κs = search needs
 
-slice-aggregate-count-slots : tie.Need-slice-aggregate-count-slots
-slice-aggregate-count-slots c = search needs
+slice-aggregate-count : tie.Need-slice-aggregate-count
+slice-aggregate-count c = search needs
 
-count-slots-requires : tie.Need-count-slots-requires
-count-slots-requires c κs =
+count-requires : tie.Need-count-requires
+count-requires c κs =
     let k = c .before .before in
     let n : length (k .before .before .args .self .words) ≡ 16 = search needs in
     (omega (arith, n), len-says _ (sym (k .before .len-no .ensures) ∙ k .if1 .taken))
@@ -22,7 +22,7 @@ count-slots-requires c κs =
 returns : tie.Need-returns
 returns c =
     let k = c .before .before .before in
-    counted-is _ _ (k .before .len-no .ensures) (k .if1 .taken) _ _ (c .count-slots .ensures)
+    counted-is _ _ (k .before .len-no .ensures) (k .if1 .taken) _ _ (c .count .ensures)
 
 returns-2 : tie.Need-returns-2
 returns-2 c = counted-no _ _ (c .before .len-no .ensures) (c .if1 .left) _
@@ -30,4 +30,4 @@ returns-2 c = counted-no _ _ (c .before .len-no .ensures) (c .if1 .left) _
 pub count-spec : {M : Type 1} → statement M
 count-spec =
     tie.close
-    (tie.spec len-no-requires slice-aggregate-count-slots count-slots-requires returns returns-2)
+    (tie.spec len-no-requires slice-aggregate-count count-requires returns returns-2)

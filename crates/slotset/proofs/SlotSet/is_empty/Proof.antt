@@ -10,11 +10,11 @@ use Rattle.slotset.proofs.SlotSet.is_empty.Tie as tie
 len-no-requires : tie.Need-len-no-requires
 len-no-requires c κs = search needs
 
-slice-aggregate-is-empty-from : tie.Need-slice-aggregate-is-empty-from
-slice-aggregate-is-empty-from c = search needs
+slice-aggregate-is-empty : tie.Need-slice-aggregate-is-empty
+slice-aggregate-is-empty c = search needs
 
-is-empty-from-requires : tie.Need-is-empty-from-requires
-is-empty-from-requires c κs =
+is-empty-requires : tie.Need-is-empty-requires
+is-empty-requires c κs =
     let k = c .before .before in
     let n : length (k .before .before .args .self .words) ≡ 16 = search needs in
     (omega (arith, n), len-says _ (sym (k .before .len-no .ensures) ∙ k .if1 .taken))
@@ -25,7 +25,7 @@ yes-or-no-requires c κs = search needs
 returns : tie.Need-returns
 returns c =
     let k = c .before .before .before .before in
-    c .yes-or-no .ensures ∙ told-is _ _ (k .before .len-no .ensures) (k .if1 .taken) _ _ (c .before .is-empty-from .ensures)
+    c .yes-or-no .ensures ∙ told-is _ _ (k .before .len-no .ensures) (k .if1 .taken) _ _ (c .before .is-empty .ensures)
 
 returns-2 : tie.Need-returns-2
 returns-2 c = told-no _ _ (c .before .len-no .ensures) (c .if1 .left) _
@@ -35,8 +35,8 @@ is-empty-spec =
     tie.close
     (tie.spec
     len-no-requires
-    slice-aggregate-is-empty-from
-    is-empty-from-requires
+    slice-aggregate-is-empty
+    is-empty-requires
     yes-or-no-requires
     returns
     returns-2)

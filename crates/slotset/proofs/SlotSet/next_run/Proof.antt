@@ -10,11 +10,11 @@ use Rattle.slotset.proofs.SlotSet.next_run.Tie as tie
 len-no-requires : tie.Need-len-no-requires
 len-no-requires c κs = search needs
 
-slice-aggregate-next-run-from : tie.Need-slice-aggregate-next-run-from
-slice-aggregate-next-run-from c = search needs
+slice-aggregate-next-run : tie.Need-slice-aggregate-next-run
+slice-aggregate-next-run c = search needs
 
-next-run-from-requires : tie.Need-next-run-from-requires
-next-run-from-requires c κs =
+next-run-requires : tie.Need-next-run-requires
+next-run-requires c κs =
     let k = c .before .before in
     let n : length (k .before .before .args .self .words) ≡ 16 = search needs in
     (omega (arith, n), len-says _ (sym (k .before .len-no .ensures) ∙ k .if1 .taken))
@@ -22,7 +22,7 @@ next-run-from-requires c κs =
 returns : tie.Need-returns
 returns c =
     let k = c .before .before .before in
-    c .next-run-from .ensures ∙ next-run-is _ _ (k .before .len-no .ensures) (k .if1 .taken) _ _ _
+    c .next-run .ensures ∙ next-run-is _ _ (k .before .len-no .ensures) (k .if1 .taken) _ _ _
 
 returns-2 : tie.Need-returns-2
 returns-2 c = next-run-no _ _ (c .before .len-no .ensures) (c .if1 .left) _ _ _
@@ -32,7 +32,7 @@ next-run-spec =
     tie.close
     (tie.spec
     len-no-requires
-    slice-aggregate-next-run-from
-    next-run-from-requires
+    slice-aggregate-next-run
+    next-run-requires
     returns
     returns-2)

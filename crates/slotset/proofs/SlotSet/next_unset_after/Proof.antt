@@ -10,11 +10,11 @@ use Rattle.slotset.proofs.SlotSet.next_unset_after.Tie as tie
 len-no-requires : tie.Need-len-no-requires
 len-no-requires c κs = search needs
 
-slice-aggregate-next-unset-from : tie.Need-slice-aggregate-next-unset-from
-slice-aggregate-next-unset-from c = search needs
+slice-aggregate-next-unset-after : tie.Need-slice-aggregate-next-unset-after
+slice-aggregate-next-unset-after c = search needs
 
-next-unset-from-requires : tie.Need-next-unset-from-requires
-next-unset-from-requires c κs =
+next-unset-after-requires : tie.Need-next-unset-after-requires
+next-unset-after-requires c κs =
     let k = c .before .before in
     let n : length (k .before .before .args .self .words) ≡ 16 = search needs in
     (omega (arith, n), len-says _ (sym (k .before .len-no .ensures) ∙ k .if1 .taken))
@@ -22,7 +22,7 @@ next-unset-from-requires c κs =
 returns : tie.Need-returns
 returns c =
     let k = c .before .before .before in
-    found-is _ _ (k .before .len-no .ensures) (k .if1 .taken) _ _ (c .next-unset-from .ensures)
+    found-is _ _ (k .before .len-no .ensures) (k .if1 .taken) _ _ (c .next-unset-after .ensures)
 
 returns-2 : tie.Need-returns-2
 returns-2 c = found-no _ _ (c .before .len-no .ensures) (c .if1 .left) _
@@ -32,7 +32,7 @@ next-unset-after-spec =
     tie.close
     (tie.spec
     len-no-requires
-    slice-aggregate-next-unset-from
-    next-unset-from-requires
+    slice-aggregate-next-unset-after
+    next-unset-after-requires
     returns
     returns-2)

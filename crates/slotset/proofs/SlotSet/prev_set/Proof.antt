@@ -10,11 +10,11 @@ use Rattle.slotset.proofs.SlotSet.prev_set.Tie as tie
 len-no-requires : tie.Need-len-no-requires
 len-no-requires c κs = search needs
 
-slice-aggregate-prev-set-from : tie.Need-slice-aggregate-prev-set-from
-slice-aggregate-prev-set-from c = search needs
+slice-aggregate-prev-set : tie.Need-slice-aggregate-prev-set
+slice-aggregate-prev-set c = search needs
 
-prev-set-from-requires : tie.Need-prev-set-from-requires
-prev-set-from-requires c κs =
+prev-set-requires : tie.Need-prev-set-requires
+prev-set-requires c κs =
     let k = c .before .before in
     let n : length (k .before .before .args .self .words) ≡ 16 = search needs in
     (omega (arith, n), len-says _ (sym (k .before .len-no .ensures) ∙ k .if1 .taken))
@@ -22,7 +22,7 @@ prev-set-from-requires c κs =
 returns : tie.Need-returns
 returns c =
     let k = c .before .before .before in
-    found-is _ _ (k .before .len-no .ensures) (k .if1 .taken) _ _ (c .prev-set-from .ensures)
+    found-is _ _ (k .before .len-no .ensures) (k .if1 .taken) _ _ (c .prev-set .ensures)
 
 returns-2 : tie.Need-returns-2
 returns-2 c = found-no _ _ (c .before .len-no .ensures) (c .if1 .left) _
@@ -32,7 +32,7 @@ prev-set-spec =
     tie.close
     (tie.spec
     len-no-requires
-    slice-aggregate-prev-set-from
-    prev-set-from-requires
+    slice-aggregate-prev-set
+    prev-set-requires
     returns
     returns-2)

@@ -1,10 +1,10 @@
 -- `slotset::SlotSet::put` meets its contract. Assumes nothing.
 use borrow.Author.Needs.{needs}
-use mathlib.Core.Path.{_≡_, refl, sym, ap, _∙_}
-use Prim.Native.Nat.{ℕ, _+_, _-_}
+use mathlib.Core.Path.{_≡_, sym, _∙_}
+use Prim.Native.Nat.{_-_}
 use native.Mathlib.Omega.{arith}
 use lib.ListN.{length}
-use Rattle.slotset.specs.Slots.{putSlots, valueOf}
+use Rattle.slotset.specs.Slots.{valueOf}
 use Rattle.slotset.specs.Answers.{putOf}
 use Rattle.slotset.proofs.Puts.{puts-one}
 use Rattle.slotset.proofs.Refusals.{slot-says, changed-is, changed-no}

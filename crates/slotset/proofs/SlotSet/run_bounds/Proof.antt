@@ -10,11 +10,11 @@ use Rattle.slotset.proofs.SlotSet.run_bounds.Tie as tie
 len-no-requires : tie.Need-len-no-requires
 len-no-requires c κs = search needs
 
-slice-aggregate-run-of : tie.Need-slice-aggregate-run-of
-slice-aggregate-run-of c = search needs
+slice-aggregate-run-bounds : tie.Need-slice-aggregate-run-bounds
+slice-aggregate-run-bounds c = search needs
 
-run-of-requires : tie.Need-run-of-requires
-run-of-requires c κs =
+run-bounds-requires : tie.Need-run-bounds-requires
+run-bounds-requires c κs =
     let k = c .before .before in
     let n : length (k .before .before .args .self .words) ≡ 16 = search needs in
     (omega (arith, n), len-says _ (sym (k .before .len-no .ensures) ∙ k .if1 .taken))
@@ -22,11 +22,11 @@ run-of-requires c κs =
 returns : tie.Need-returns
 returns c =
     let k = c .before .before .before in
-    c .run-of .ensures ∙ run-is _ _ (k .before .len-no .ensures) (k .if1 .taken) _ _ _
+    c .run-bounds .ensures ∙ run-is _ _ (k .before .len-no .ensures) (k .if1 .taken) _ _ _
 
 returns-2 : tie.Need-returns-2
 returns-2 c = run-no _ _ (c .before .len-no .ensures) (c .if1 .left) _ _ _
 
 pub run-bounds-spec : {M : Type 1} → statement M
 run-bounds-spec =
-    tie.close (tie.spec len-no-requires slice-aggregate-run-of run-of-requires returns returns-2)
+    tie.close (tie.spec len-no-requires slice-aggregate-run-bounds run-bounds-requires returns returns-2)

@@ -9,13 +9,13 @@ use Rattle.slotset.proofs.row.contains.Tie as tie
 row-no-requires : tie.Need-row-no-requires
 row-no-requires c κs = search needs
 
-mul-has-slot : tie.Need-mul-has-slot
-mul-has-slot c =
+mul-contains : tie.Need-mul-contains
+mul-contains c =
     let r = row-says _ _ _ _ (sym (c .before .row-no .ensures) ∙ c .if1 .taken) in
     omega (arith, r .few, r .known)
 
-has-slot-requires : tie.Need-has-slot-requires
-has-slot-requires c κs =
+contains-requires : tie.Need-contains-requires
+contains-requires c κs =
     let r = row-says _ _ _ _ (sym (c .before .row-no .ensures) ∙ c .if1 .taken) in
     (r .words, r .short)
 
@@ -25,7 +25,7 @@ yes-or-no-requires c κs = search needs
 returns : tie.Need-returns
 returns c =
     let k = c .before .before in
-    c .yes-or-no .ensures ∙ told-is _ _ (k .before .row-no .ensures) (k .if1 .taken) _ _ (c .before .has-slot .ensures)
+    c .yes-or-no .ensures ∙ told-is _ _ (k .before .row-no .ensures) (k .if1 .taken) _ _ (c .before .contains .ensures)
 
 returns-2 : tie.Need-returns-2
 returns-2 c = told-no _ _ (c .before .row-no .ensures) (c .if1 .left) _
@@ -33,4 +33,4 @@ returns-2 c = told-no _ _ (c .before .row-no .ensures) (c .if1 .left) _
 pub contains-spec : {M : Type 1} → statement M
 contains-spec =
     tie.close
-    (tie.spec row-no-requires mul-has-slot has-slot-requires yes-or-no-requires returns returns-2)
+    (tie.spec row-no-requires mul-contains contains-requires yes-or-no-requires returns returns-2)

@@ -9,22 +9,22 @@ use Rattle.slotset.proofs.row.count.Tie as tie
 row-no-requires : tie.Need-row-no-requires
 row-no-requires c κs = search needs
 
-mul-count-slots : tie.Need-mul-count-slots
-mul-count-slots c =
+mul-count : tie.Need-mul-count
+mul-count c =
     let r = row-says _ _ _ _ (sym (c .before .row-no .ensures) ∙ c .if1 .taken) in
     omega (arith, r .few, r .known)
 
-count-slots-requires : tie.Need-count-slots-requires
-count-slots-requires c κs =
+count-requires : tie.Need-count-requires
+count-requires c κs =
     let r = row-says _ _ _ _ (sym (c .before .row-no .ensures) ∙ c .if1 .taken) in
     (r .words, r .short)
 
 returns : tie.Need-returns
-returns c = counted-is _ _ (c .before .before .row-no .ensures) (c .before .if1 .taken) _ _ (c .count-slots .ensures)
+returns c = counted-is _ _ (c .before .before .row-no .ensures) (c .before .if1 .taken) _ _ (c .count .ensures)
 
 returns-2 : tie.Need-returns-2
 returns-2 c = counted-no _ _ (c .before .row-no .ensures) (c .if1 .left) _
 
 pub count-spec : {M : Type 1} → statement M
 count-spec =
-    tie.close (tie.spec row-no-requires mul-count-slots count-slots-requires returns returns-2)
+    tie.close (tie.spec row-no-requires mul-count count-requires returns returns-2)

@@ -9,13 +9,13 @@ use Rattle.slotset.proofs.row.is_empty.Tie as tie
 row-no-requires : tie.Need-row-no-requires
 row-no-requires c κs = search needs
 
-mul-is-empty-from : tie.Need-mul-is-empty-from
-mul-is-empty-from c =
+mul-is-empty : tie.Need-mul-is-empty
+mul-is-empty c =
     let r = row-says _ _ _ _ (sym (c .before .row-no .ensures) ∙ c .if1 .taken) in
     omega (arith, r .few, r .known)
 
-is-empty-from-requires : tie.Need-is-empty-from-requires
-is-empty-from-requires c κs =
+is-empty-requires : tie.Need-is-empty-requires
+is-empty-requires c κs =
     let r = row-says _ _ _ _ (sym (c .before .row-no .ensures) ∙ c .if1 .taken) in
     (r .words, r .short)
 
@@ -25,7 +25,7 @@ yes-or-no-requires c κs = search needs
 returns : tie.Need-returns
 returns c =
     let k = c .before .before in
-    c .yes-or-no .ensures ∙ told-is _ _ (k .before .row-no .ensures) (k .if1 .taken) _ _ (c .before .is-empty-from .ensures)
+    c .yes-or-no .ensures ∙ told-is _ _ (k .before .row-no .ensures) (k .if1 .taken) _ _ (c .before .is-empty .ensures)
 
 returns-2 : tie.Need-returns-2
 returns-2 c = told-no _ _ (c .before .row-no .ensures) (c .if1 .left) _
@@ -35,8 +35,8 @@ is-empty-spec =
     tie.close
     (tie.spec
     row-no-requires
-    mul-is-empty-from
-    is-empty-from-requires
+    mul-is-empty
+    is-empty-requires
     yes-or-no-requires
     returns
     returns-2)

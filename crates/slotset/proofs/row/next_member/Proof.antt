@@ -9,18 +9,18 @@ use Rattle.slotset.proofs.row.next_member.Tie as tie
 row-no-requires : tie.Need-row-no-requires
 row-no-requires c κs = search needs
 
-mul-next-member-from : tie.Need-mul-next-member-from
-mul-next-member-from c =
+mul-next-member : tie.Need-mul-next-member
+mul-next-member c =
     let r = row-says _ _ _ _ (sym (c .before .row-no .ensures) ∙ c .if1 .taken) in
     omega (arith, r .few, r .known)
 
-next-member-from-requires : tie.Need-next-member-from-requires
-next-member-from-requires c κs =
+next-member-requires : tie.Need-next-member-requires
+next-member-requires c κs =
     let r = row-says _ _ _ _ (sym (c .before .row-no .ensures) ∙ c .if1 .taken) in
     (r .words, r .short)
 
 returns : tie.Need-returns
-returns c = c .next-member-from .ensures ∙ next-member-is _ _ (c .before .before .row-no .ensures) (c .before .if1 .taken) _ _ _
+returns c = c .next-member .ensures ∙ next-member-is _ _ (c .before .before .row-no .ensures) (c .before .if1 .taken) _ _ _
 
 returns-2 : tie.Need-returns-2
 returns-2 c = next-member-no _ _ (c .before .row-no .ensures) (c .if1 .left) _ _ _
@@ -28,4 +28,4 @@ returns-2 c = next-member-no _ _ (c .before .row-no .ensures) (c .if1 .left) _ _
 pub next-member-spec : {M : Type 1} → statement M
 next-member-spec =
     tie.close
-    (tie.spec row-no-requires mul-next-member-from next-member-from-requires returns returns-2)
+    (tie.spec row-no-requires mul-next-member next-member-requires returns returns-2)

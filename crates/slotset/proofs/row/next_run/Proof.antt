@@ -9,22 +9,22 @@ use Rattle.slotset.proofs.row.next_run.Tie as tie
 row-no-requires : tie.Need-row-no-requires
 row-no-requires c κs = search needs
 
-mul-next-run-from : tie.Need-mul-next-run-from
-mul-next-run-from c =
+mul-next-run : tie.Need-mul-next-run
+mul-next-run c =
     let r = row-says _ _ _ _ (sym (c .before .row-no .ensures) ∙ c .if1 .taken) in
     omega (arith, r .few, r .known)
 
-next-run-from-requires : tie.Need-next-run-from-requires
-next-run-from-requires c κs =
+next-run-requires : tie.Need-next-run-requires
+next-run-requires c κs =
     let r = row-says _ _ _ _ (sym (c .before .row-no .ensures) ∙ c .if1 .taken) in
     (r .words, r .short)
 
 returns : tie.Need-returns
-returns c = c .next-run-from .ensures ∙ next-run-is _ _ (c .before .before .row-no .ensures) (c .before .if1 .taken) _ _ _
+returns c = c .next-run .ensures ∙ next-run-is _ _ (c .before .before .row-no .ensures) (c .before .if1 .taken) _ _ _
 
 returns-2 : tie.Need-returns-2
 returns-2 c = next-run-no _ _ (c .before .row-no .ensures) (c .if1 .left) _ _ _
 
 pub next-run-spec : {M : Type 1} → statement M
 next-run-spec =
-    tie.close (tie.spec row-no-requires mul-next-run-from next-run-from-requires returns returns-2)
+    tie.close (tie.spec row-no-requires mul-next-run next-run-requires returns returns-2)

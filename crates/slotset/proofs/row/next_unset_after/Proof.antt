@@ -9,18 +9,18 @@ use Rattle.slotset.proofs.row.next_unset_after.Tie as tie
 row-no-requires : tie.Need-row-no-requires
 row-no-requires c κs = search needs
 
-mul-next-unset-from : tie.Need-mul-next-unset-from
-mul-next-unset-from c =
+mul-next-unset-after : tie.Need-mul-next-unset-after
+mul-next-unset-after c =
     let r = row-says _ _ _ _ (sym (c .before .row-no .ensures) ∙ c .if1 .taken) in
     omega (arith, r .few, r .known)
 
-next-unset-from-requires : tie.Need-next-unset-from-requires
-next-unset-from-requires c κs =
+next-unset-after-requires : tie.Need-next-unset-after-requires
+next-unset-after-requires c κs =
     let r = row-says _ _ _ _ (sym (c .before .row-no .ensures) ∙ c .if1 .taken) in
     (r .words, r .short)
 
 returns : tie.Need-returns
-returns c = found-is _ _ (c .before .before .row-no .ensures) (c .before .if1 .taken) _ _ (c .next-unset-from .ensures)
+returns c = found-is _ _ (c .before .before .row-no .ensures) (c .before .if1 .taken) _ _ (c .next-unset-after .ensures)
 
 returns-2 : tie.Need-returns-2
 returns-2 c = found-no _ _ (c .before .row-no .ensures) (c .if1 .left) _
@@ -28,4 +28,4 @@ returns-2 c = found-no _ _ (c .before .row-no .ensures) (c .if1 .left) _
 pub next-unset-after-spec : {M : Type 1} → statement M
 next-unset-after-spec =
     tie.close
-    (tie.spec row-no-requires mul-next-unset-from next-unset-from-requires returns returns-2)
+    (tie.spec row-no-requires mul-next-unset-after next-unset-after-requires returns returns-2)

@@ -9,22 +9,22 @@ use Rattle.slotset.proofs.row.prev_set.Tie as tie
 row-no-requires : tie.Need-row-no-requires
 row-no-requires c κs = search needs
 
-mul-prev-set-from : tie.Need-mul-prev-set-from
-mul-prev-set-from c =
+mul-prev-set : tie.Need-mul-prev-set
+mul-prev-set c =
     let r = row-says _ _ _ _ (sym (c .before .row-no .ensures) ∙ c .if1 .taken) in
     omega (arith, r .few, r .known)
 
-prev-set-from-requires : tie.Need-prev-set-from-requires
-prev-set-from-requires c κs =
+prev-set-requires : tie.Need-prev-set-requires
+prev-set-requires c κs =
     let r = row-says _ _ _ _ (sym (c .before .row-no .ensures) ∙ c .if1 .taken) in
     (r .words, r .short)
 
 returns : tie.Need-returns
-returns c = found-is _ _ (c .before .before .row-no .ensures) (c .before .if1 .taken) _ _ (c .prev-set-from .ensures)
+returns c = found-is _ _ (c .before .before .row-no .ensures) (c .before .if1 .taken) _ _ (c .prev-set .ensures)
 
 returns-2 : tie.Need-returns-2
 returns-2 c = found-no _ _ (c .before .row-no .ensures) (c .if1 .left) _
 
 pub prev-set-spec : {M : Type 1} → statement M
 prev-set-spec =
-    tie.close (tie.spec row-no-requires mul-prev-set-from prev-set-from-requires returns returns-2)
+    tie.close (tie.spec row-no-requires mul-prev-set prev-set-requires returns returns-2)

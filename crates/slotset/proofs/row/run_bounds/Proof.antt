@@ -9,21 +9,21 @@ use Rattle.slotset.proofs.row.run_bounds.Tie as tie
 row-no-requires : tie.Need-row-no-requires
 row-no-requires c κs = search needs
 
-mul-run-of : tie.Need-mul-run-of
-mul-run-of c =
+mul-run-bounds : tie.Need-mul-run-bounds
+mul-run-bounds c =
     let r = row-says _ _ _ _ (sym (c .before .row-no .ensures) ∙ c .if1 .taken) in
     omega (arith, r .few, r .known)
 
-run-of-requires : tie.Need-run-of-requires
-run-of-requires c κs =
+run-bounds-requires : tie.Need-run-bounds-requires
+run-bounds-requires c κs =
     let r = row-says _ _ _ _ (sym (c .before .row-no .ensures) ∙ c .if1 .taken) in
     (r .words, r .short)
 
 returns : tie.Need-returns
-returns c = c .run-of .ensures ∙ run-is _ _ (c .before .before .row-no .ensures) (c .before .if1 .taken) _ _ _
+returns c = c .run-bounds .ensures ∙ run-is _ _ (c .before .before .row-no .ensures) (c .before .if1 .taken) _ _ _
 
 returns-2 : tie.Need-returns-2
 returns-2 c = run-no _ _ (c .before .row-no .ensures) (c .if1 .left) _ _ _
 
 pub run-bounds-spec : {M : Type 1} → statement M
-run-bounds-spec = tie.close (tie.spec row-no-requires mul-run-of run-of-requires returns returns-2)
+run-bounds-spec = tie.close (tie.spec row-no-requires mul-run-bounds run-bounds-requires returns returns-2)

@@ -1,9 +1,6 @@
 -- `slotset::row::words_at` meets its contract. The invariant: the first j words are copied. Assumes nothing.
 use borrow.Author.Needs.{needs}
-use mathlib.Core.List.{List, _++_, append-nil}
-use native.Mathlib.Numerals.{add-one}
-use lib.Seq.{paste, paste-zero, paste-suc, getD-drop}
-use mathlib.Core.Path.{_≡_, refl, ap, _∙_}
+use mathlib.Core.Path.{_≡_, refl}
 use Prim.Native.Nat.{_-_, _≤_}
 use native.Mathlib.Omega.{arith}
 use lib.ListN.{length, length-set}
@@ -44,7 +41,8 @@ loop-less c = search needs
 loop-again : tie.Need-loop-again Inv-loop μ-loop
 loop-again c =
     let l = c .before .before in (
-      copied-more (l .loop .out) (l .before .args .words .now) (l .before .args .base) (l .loop .j) (omega (arith, l .loop .inv .2)) (l .loop .inv .0),
+      copied-more (l .loop .out) (l .before .args .words .now) (l .before .args .base) (l .loop .j) (omega
+          (arith, l .loop .inv .2)) (l .loop .inv .0),
       search needs,
       simp length-set (l .loop .inv .2),
     )
@@ -54,7 +52,8 @@ returns c =
     let l = c .before .loop in
     let e : l .j ≡ 16 = omega arith in
     let s = c .before .before .args in
-    copied-all (l .out) (s .words .now) (s .base) 16 (omega (arith, l .inv .2)) (c .before .before .pre) (λ k h. l .inv .0 k (omega (arith, e)))
+    copied-all (l .out) (s .words .now) (s .base) 16 (omega (arith, l .inv .2)) (c .before .before .pre)
+    (λ k h. l .inv .0 k (omega (arith, e)))
 
 pub words-at-spec : {M : Type 1} → statement M
 words-at-spec =

@@ -11,7 +11,8 @@ use Rattle.slotset.proofs.scan.copy_slots.Statement.{statement}
 use Rattle.slotset.proofs.scan.copy_slots.Tie as tie
 
 abbrev Inv-loop : tie.InvT-loop
-Inv-loop src len words₀ base at₀ words at = (words ≡ putSlots (slot src 0) base 0 (at - 0) words₀) × (at ≤ len) × (length words ≡ length words₀)
+Inv-loop src len words₀ base at₀ words at =
+    (words ≡ putSlots (slot src 0) base 0 (at - 0) words₀) × (at ≤ len) × (length words ≡ length words₀)
 
 abbrev μ-loop : tie.MeasureT-loop
 μ-loop src len words₀ base at₀ words at = len - at

@@ -1,5 +1,5 @@
 -- `slotset::word::every` meets its contract. Assumes nothing.
-use mathlib.Core.Path.{_≡_, ap, sym, _∙_}
+use mathlib.Core.Path.{ap, sym, _∙_}
 use Rattle.paper.proofs.Bits.{bit-ones, bit-none}
 use Rattle.slotset.specs.Slots.{valueOf}
 use Rattle.slotset.proofs.word.every.Statement.{statement}

@@ -1,13 +1,12 @@
 -- `slotset::word::ones_below` meets its contract. Assumes nothing.
 use borrow.Author.Needs.{needs}
 use mathlib.Core.Path.{_≡_, sym, ap, _∙_}
-use Prim.Native.Nat.{_^_}
 use native.Mathlib.Nat.{mod-eq-of-lt}
 use native.Mathlib.Omega.{arith}
 use mir.Facts.{fits-le, fits-lit}
 use lib.Count.{ones, ones-le}
 use lib.Pow.{pow-pos}
-use Rattle.slotset.specs.Words.{bitsBelow}
+use Rattle.slotset.specs.Words.{onesBelow}
 use Rattle.slotset.proofs.Words.{ones-mod, ones-masked, one-shl, bits-le}
 use Rattle.slotset.proofs.word.ones_below.Statement.{statement}
 use Rattle.slotset.proofs.word.ones_below.Tie as tie
@@ -37,7 +36,7 @@ returns-2 c =
     let a = c .before .args in
     let small = c .before .fits .w .fits in
     let e : 64 ≡ a .k = omega arith in (
-      ap ones (sym (mod-eq-of-lt small)) ∙ ones-mod (a .w) 64 ∙ ap (bitsBelow (a .w)) e,
+      ap ones (sym (mod-eq-of-lt small)) ∙ ones-mod (a .w) 64 ∙ ap (onesBelow (a .w)) e,
       omega (arith, ones-le 64 (a .w) small),
     )
 

@@ -1,5 +1,5 @@
 -- `slotset::word::wanted` meets its contract. Assumes nothing.
-use mathlib.Core.Path.{_≡_, ap, sym, _∙_}
+use mathlib.Core.Path.{ap, sym, _∙_}
 use native.Mathlib.Omega.{arith}
 use Rattle.paper.proofs.Bits.{bit-not}
 use Rattle.slotset.specs.Slots.{valueOf}

@@ -1,11 +1,11 @@
--- `slotset::scan::member_of` meets its contract. Assumes nothing.
+-- `slotset::scan::member_step` meets its contract. Assumes nothing.
 use borrow.Author.Needs.{needs}
 use mathlib.Core.Path.{sym, ap, subst}
 use native.Mathlib.Omega.{arith}
 use Rattle.slotset.specs.Search.{Below}
 use Rattle.slotset.specs.Answers.{memberStep}
-use Rattle.slotset.proofs.scan.member_of.Statement.{statement}
-use Rattle.slotset.proofs.scan.member_of.Tie as tie
+use Rattle.slotset.proofs.scan.member_step.Statement.{statement}
+use Rattle.slotset.proofs.scan.member_step.Tie as tie
 
 enum-known-f : tie.Need-enum-known-f
 enum-known-f c = search needs
@@ -28,6 +28,6 @@ returns-2 c = sym (ap memberStep (c .enum-told .given .1))
 returns-3 : tie.Need-returns-3
 returns-3 c = sym (ap memberStep (c .before .f2 .given .1))
 
-pub member-of-spec : {M : Type 1} → statement M
-member-of-spec =
+pub member-step-spec : {M : Type 1} → statement M
+member-step-spec =
     tie.close (tie.spec enum-known-f add-t5 enum-told enum-known-f-2 returns returns-2 returns-3)

@@ -1,12 +1,12 @@
--- `slotset::scan::is_empty_from` meets its contract. Assumes nothing.
+-- `slotset::scan::is_empty` meets its contract. Assumes nothing.
 use borrow.Author.Needs.{needs}
-use mathlib.Core.Path.{_≡_, sym, _∙_, subst}
+use mathlib.Core.Path.{sym, _∙_, subst}
 use Rattle.slotset.specs.Slots.{slot}
 use Rattle.slotset.specs.Search.{First}
 use Rattle.slotset.proofs.Meaning.{next-is, none-found, one-found}
 use Rattle.slotset.proofs.Puts.{slot-lt}
-use Rattle.slotset.proofs.scan.is_empty_from.Statement.{statement}
-use Rattle.slotset.proofs.scan.is_empty_from.Tie as tie
+use Rattle.slotset.proofs.scan.is_empty.Statement.{statement}
+use Rattle.slotset.proofs.scan.is_empty.Tie as tie
 
 next-with-requires : tie.Need-next-with-requires
 next-with-requires c κs = search needs
@@ -40,7 +40,7 @@ returns-3 c =
     let f = slot (s .words .now) (s .base) in
     absurd (subst (First 1 f (s .len) 0) (sym (c .before .before .next-with .ensures) ∙ c .enum-told3 .given .1) (next-is 1 f (s .len) 0))
 
-pub is-empty-from-spec : {M : Type 1} → statement M
-is-empty-from-spec =
+pub is-empty-spec : {M : Type 1} → statement M
+is-empty-spec =
     tie.close
     (tie.spec next-with-requires enum-told enum-told-2 enum-told-3 returns returns-2 returns-3)

@@ -1,4 +1,4 @@
--- `slotset::scan::prev_set_from` meets its contract. Assumes nothing.
+-- `slotset::scan::prev_set` meets its contract. Assumes nothing.
 use borrow.Author.Needs.{needs}
 use mathlib.Core.Path.{ap, _∙_}
 use native.Mathlib.Numerals.{add-one}
@@ -6,8 +6,8 @@ use native.Mathlib.Omega.{arith}
 use Rattle.slotset.specs.Slots.{slot}
 use Rattle.slotset.specs.Search.{lastBelow}
 use Rattle.slotset.proofs.Meaning.{last-lowered}
-use Rattle.slotset.proofs.scan.prev_set_from.Statement.{statement}
-use Rattle.slotset.proofs.scan.prev_set_from.Tie as tie
+use Rattle.slotset.proofs.scan.prev_set.Statement.{statement}
+use Rattle.slotset.proofs.scan.prev_set.Tie as tie
 
 add-last-below : tie.Need-add-last-below
 add-last-below c = search needs
@@ -26,6 +26,6 @@ returns c =
 returns-2 : tie.Need-returns-2
 returns-2 c = c .last-below2 .ensures ∙ last-lowered 1 _ _ _ (omega (arith, c .before .if1 .left))
 
-pub prev-set-from-spec : {M : Type 1} → statement M
-prev-set-from-spec =
+pub prev-set-spec : {M : Type 1} → statement M
+prev-set-spec =
     tie.close (tie.spec add-last-below last-below-requires last-below-requires-2 returns returns-2)

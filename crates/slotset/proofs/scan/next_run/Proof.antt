@@ -1,6 +1,6 @@
--- `slotset::scan::next_run_from` meets its contract. Assumes nothing.
+-- `slotset::scan::next_run` meets its contract. Assumes nothing.
 use borrow.Author.Needs.{needs}
-use mathlib.Core.Path.{_≡_, sym, ap, _∙_, subst}
+use mathlib.Core.Path.{sym, ap, _∙_, subst}
 use Prim.Native.Nat.{ℕ, _+_}
 use native.Mathlib.Omega.{arith}
 use Rattle.slotset.specs.declared.NextRun.{NextRun}
@@ -11,8 +11,8 @@ use Rattle.slotset.specs.Runs.{endOf}
 use Rattle.slotset.specs.Answers.{nextRunAs, runStep}
 use Rattle.slotset.proofs.Meaning.{next-is}
 use Rattle.slotset.proofs.Runs.{first-above, end-lt, next-after}
-use Rattle.slotset.proofs.scan.next_run_from.Statement.{statement}
-use Rattle.slotset.proofs.scan.next_run_from.Tie as tie
+use Rattle.slotset.proofs.scan.next_run.Statement.{statement}
+use Rattle.slotset.proofs.scan.next_run.Tie as tie
 
 next-with-requires : tie.Need-next-with-requires
 next-with-requires c κs = search needs
@@ -91,8 +91,8 @@ returns-3 c =
     let s = n .before .before .args in
     sym (ap (runStep (slot (s .words .now) (s .base)) (s .len)) (sym (n .next-with .ensures) ∙ c .before .found2 .given .1))
 
-pub next-run-from-spec : {M : Type 1} → statement M
-next-run-from-spec =
+pub next-run-spec : {M : Type 1} → statement M
+next-run-spec =
     tie.close
     (tie.spec
     next-with-requires

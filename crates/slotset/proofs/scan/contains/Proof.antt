@@ -1,10 +1,9 @@
--- `slotset::scan::has_slot` meets its contract. Assumes nothing.
+-- `slotset::scan::contains` meets its contract. Assumes nothing.
 use borrow.Author.Needs.{needs}
-use mathlib.Core.Path.{_∙_}
 use borrow.Author.Tests.{lt-ltb, le-ltb}
 use Rattle.slotset.specs.Slots.{slot, has}
-use Rattle.slotset.proofs.scan.has_slot.Statement.{statement}
-use Rattle.slotset.proofs.scan.has_slot.Tie as tie
+use Rattle.slotset.proofs.scan.contains.Statement.{statement}
+use Rattle.slotset.proofs.scan.contains.Tie as tie
 
 add-bit : tie.Need-add-bit
 add-bit c = search needs
@@ -26,6 +25,6 @@ returns-2 : tie.Need-returns-2
 unfolding has
 returns-2 c = simp (le-ltb _ _ (c .if1 .left))
 
-pub has-slot-spec : {M : Type 1} → statement M
-has-slot-spec =
+pub contains-spec : {M : Type 1} → statement M
+contains-spec =
     tie.close (tie.spec add-bit mul-bit shared-slice-read-bit bit-requires returns returns-2)

@@ -1,19 +1,18 @@
--- `slotset::scan::next_member_from` meets its contract. Assumes nothing.
+-- `slotset::scan::next_member` meets its contract. Assumes nothing.
 use borrow.Author.Needs.{needs}
 use mathlib.Core.Path.{ap, _∙_}
-use native.Mathlib.Nat.{lt-of-lt-of-le}
 use Rattle.slotset.specs.Slots.{slot}
 use Rattle.slotset.specs.Search.{nextSet}
 use Rattle.slotset.specs.Answers.{memberStep, nextMemberAs}
 use Rattle.slotset.proofs.Meaning.{next-is, first-below, below-more}
-use Rattle.slotset.proofs.scan.next_member_from.Statement.{statement}
-use Rattle.slotset.proofs.scan.next_member_from.Tie as tie
+use Rattle.slotset.proofs.scan.next_member.Statement.{statement}
+use Rattle.slotset.proofs.scan.next_member.Tie as tie
 
 next-with-requires : tie.Need-next-with-requires
 next-with-requires c κs = search needs
 
-member-of-requires : tie.Need-member-of-requires
-member-of-requires c κs =
+member-step-requires : tie.Need-member-step-requires
+member-step-requires c κs =
     let s = c .before .before .args in
     let f = slot (s .words .now) (s .base) in
     rw (c .next-with .ensures)
@@ -22,7 +21,7 @@ member-of-requires c κs =
 
 returns : tie.Need-returns
 unfolding nextMemberAs
-returns c = c .member-of .ensures ∙ ap memberStep (c .before .next-with .ensures)
+returns c = c .member-step .ensures ∙ ap memberStep (c .before .next-with .ensures)
 
-pub next-member-from-spec : {M : Type 1} → statement M
-next-member-from-spec = tie.close (tie.spec next-with-requires member-of-requires returns)
+pub next-member-spec : {M : Type 1} → statement M
+next-member-spec = tie.close (tie.spec next-with-requires member-step-requires returns)

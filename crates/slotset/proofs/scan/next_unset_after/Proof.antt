@@ -1,11 +1,11 @@
--- `slotset::scan::next_unset_from` meets its contract. Assumes nothing.
+-- `slotset::scan::next_unset_after` meets its contract. Assumes nothing.
 use borrow.Author.Needs.{needs}
 use mathlib.Core.Path.{sym, _∙_}
 use native.Mathlib.Omega.{arith}
 use Rattle.slotset.proofs.Scans.{next-end}
 use Rattle.slotset.proofs.Runs.{next-after}
-use Rattle.slotset.proofs.scan.next_unset_from.Statement.{statement}
-use Rattle.slotset.proofs.scan.next_unset_from.Tie as tie
+use Rattle.slotset.proofs.scan.next_unset_after.Statement.{statement}
+use Rattle.slotset.proofs.scan.next_unset_after.Tie as tie
 
 add-next-with : tie.Need-add-next-with
 add-next-with c = search needs
@@ -19,5 +19,5 @@ returns c = c .next-with .ensures ∙ next-after 0 _ _ _
 returns-2 : tie.Need-returns-2
 returns-2 c = sym (next-end 0 _ _ _ (omega (arith, c .if1 .left)))
 
-pub next-unset-from-spec : {M : Type 1} → statement M
-next-unset-from-spec = tie.close (tie.spec add-next-with next-with-requires returns returns-2)
+pub next-unset-after-spec : {M : Type 1} → statement M
+next-unset-after-spec = tie.close (tie.spec add-next-with next-with-requires returns returns-2)

@@ -1,0 +1,76 @@
+-- `slotset::scan::count_words` meets its contract. The invariant: n is the number of members below word j. Assumes nothing.
+use borrow.Author.Needs.{needs}
+use mathlib.Core.Path.{_≡_, refl, ap, _∙_}
+use Prim.Native.Nat.{_+_, _-_, _*_, _≤_}
+use native.Mathlib.Omega.{arith}
+use Rattle.paper.specs.Count.{sum}
+use Rattle.slotset.specs.Slots.{slot, size}
+use Rattle.slotset.proofs.Counts.{count-add}
+use Rattle.slotset.proofs.scan.count_words.Statement.{statement}
+use Rattle.slotset.proofs.scan.count_words.Tie as tie
+
+abbrev Inv-loop : tie.InvT-loop
+Inv-loop words base whole n₀ j₀ n j = (j ≤ whole) × (n ≡ size (slot words base) (j * 64)) × (n ≤ j * 64)
+
+abbrev μ-loop : tie.MeasureT-loop
+μ-loop words base whole n₀ j₀ n j = whole - j
+
+loop-holds : tie.Need-loop-holds Inv-loop μ-loop
+unfolding size sum
+loop-holds c = (omega arith, refl, omega arith)
+
+add-ones-below : tie.Need-add-ones-below Inv-loop μ-loop
+add-ones-below c = search needs
+
+mul-ones-below : tie.Need-mul-ones-below Inv-loop μ-loop
+mul-ones-below c = search needs
+
+shared-slice-read-ones-below : tie.Need-shared-slice-read-ones-below Inv-loop μ-loop
+shared-slice-read-ones-below c = search needs
+
+ones-below-requires : tie.Need-ones-below-requires Inv-loop μ-loop
+ones-below-requires c κs = search needs
+
+add-n : tie.Need-add-n Inv-loop μ-loop
+add-n c = search needs
+
+add-j : tie.Need-add-j Inv-loop μ-loop
+add-j c = search needs
+
+loop-less : tie.Need-loop-less Inv-loop μ-loop
+loop-less c = search needs
+
+loop-again : tie.Need-loop-again Inv-loop μ-loop
+loop-again c =
+    let l = c .before .before .before in
+    let a = l .before .before .args in
+    let j = l .loop .j in
+    let e : (j + 1) * 64 ≡ j * 64 + 64 = omega arith in
+    let more = count-add (a .words .now) (a .base) j 64 (omega arith) in (
+      omega arith,
+      omega (arith, c .ones-below .ensures .0, l .loop .inv .1, more, ap (size (slot (a .words .now) (a .base))) e),
+      omega (arith, c .ones-below .ensures .1, l .loop .inv .2),
+    )
+
+returns : tie.Need-returns Inv-loop μ-loop
+returns c =
+    let inv = c .before .loop .inv in
+    let e : c .before .loop .j * 64 ≡ c .before .before .before .args .whole * 64 = omega (arith, inv .0) in
+    (inv .1 ∙ ap (size _) e, omega (arith, inv .2))
+
+pub count-words-spec : {M : Type 1} → statement M
+count-words-spec =
+    tie.close
+    (tie.spec
+    Inv-loop
+    μ-loop
+    loop-holds
+    add-ones-below
+    mul-ones-below
+    shared-slice-read-ones-below
+    ones-below-requires
+    add-n
+    add-j
+    loop-less
+    loop-again
+    returns)
