@@ -1,0 +1,1 @@
+-- Nothing is stated here: the rules are in proofs/.
