@@ -15,7 +15,7 @@ use ghost.Atoms.{Atoms}
 use contract.Lifetimes.{Lfts, Shares, toks}
 use contract.Monad.{Fun}
 use contract.Running.{givenOf, tables, tablesOf}
-use types.Kit.{Given, ‵, raw, _⊛_, _$_, _∵_, !, qed, move, keep, drop, use1, use2, split}
+use types.Kit.{Given, ‵, raw, _⊛_, _$_, _∵_, !, qed, by, move, keep, drop, use1, use2, split}
 use types.Run.{look, init, stop, from, land, returns}
 use sound.WpLaws.{FmC, fmOf}
 use denote.Plain.{uint-lawful}
@@ -123,7 +123,8 @@ module _ {M : Type 1} (𝓤 : URA M) (H : Heap 𝓤) (A : Atoms 𝓤) (W : Given
         land ! (from ! (stop !)) (init ! 5 refl (uint-lawful 𝓤 H A W w8 .typed r _ is′ .0)) $ returns ! (look ! 5 refl) $
         sink ! 5 $ leaves ! _ _ refl $
         keep ! (3 ∷ 1 ∷ 0 ∷ 2 ∷ []) $ use2 W (raw (toks 𝓤 A 10 κs qs)) (token-back 𝓤 H A 9 8 κs qs) $ move ! (1 ∷ []) $
-        ends ! entry.ended (entry.clauses 𝓤 H A mem run) y u r ws′ _ (id⊢ 𝓤 _) (ended-by-columns _ _ _ _ _ _ _ _ _ _ c e r _ _ _ said))))
+        by ! (ends 𝓤 H A W entry.ended (entry.clauses 𝓤 H A mem run) y u r ws′ _ (id⊢ 𝓤 _)
+        (ended-by-columns _ _ _ _ _ _ _ _ _ _ c e r _ _ _ said)))))
 
 module _ {M : Type 1} (𝓤 : URA M) (H : Heap 𝓤) (A : Atoms 𝓤) (W : Given 𝓤 H A) (mem : Memory → SProp 𝓤) (run : Routine → Fun 𝓤) where
   entry-meets : (𝓣 : Tables 𝓤 H) → Triple 𝓤 (𝓣 .C #draws·unpack) (Unpack 𝓤 H A mem run)

@@ -13,12 +13,12 @@ use ghost.Atoms.{Atoms}
 use contract.Lifetimes.{Lfts, Shares}
 use contract.Monad.{Fun}
 use contract.Running.{givenOf, tables, tablesOf}
-use types.Kit.{Given, raw, _$_, _∵_, !, qed, move}
+use types.Kit.{Given, raw, _$_, _∵_, !, qed, by, move}
 use types.Run.{look, init, stop, from, land, returns}
 use sound.WpLaws.{FmC, fmOf}
 use denote.Laws.{Typed}
 use denote.Plain.{uint-lawful}
-use denote.RattleType.{flat, mirs}
+use denote.RattleType.{mirs}
 use denote.Signature.{typesAt}
 use denote.Triple.Entry.{Args}
 use denote.Triple.Spec.{Meets, tripleOf}
@@ -69,7 +69,8 @@ module _ {M : Type 1} (𝓤 : URA M) (H : Heap 𝓤) (A : Atoms 𝓤) (W : Given
         (copies ! 1 (1 ∷ 2 ∷ 3 ∷ 4 ∷ 5 ∷ 6 ∷ 7 ∷ 8 ∷ 9 ∷ 16 ∷ 18 ∷ 20 ∷ 13 ∷ 22 ∷ []) refl) _ (λ r ws. id⊢ 𝓤 _) (λ u r ws said is.
         -- [the result; the tokens; the last values; the locals]
         land ! (from ! (stop !)) (init ! 3 refl (uint-lawful 𝓤 H A W w8 .typed r _ is .0)) $ returns ! (look ! 3 refl) $
-        sink ! 3 $ leaves ! _ _ refl $ ends ! entry.ended (entry.clauses 𝓤 H A mem run) y u r ws _ (id⊢ 𝓤 _) said))
+        sink ! 3 $ leaves ! _ _ refl $
+        by ! (ends 𝓤 H A W entry.ended (entry.clauses 𝓤 H A mem run) y u r ws _ (id⊢ 𝓤 _) said)))
 
 module _ {M : Type 1} (𝓤 : URA M) (H : Heap 𝓤) (A : Atoms 𝓤) (W : Given 𝓤 H A) (mem : Memory → SProp 𝓤) (run : Routine → Fun 𝓤) where
   entry-meets : (𝓣 : Tables 𝓤 H) → Triple 𝓤 (𝓣 .C #draws·play) (Play 𝓤 H A mem run)
