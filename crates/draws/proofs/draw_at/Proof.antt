@@ -18,7 +18,7 @@ use ghost.Atoms.{Atoms}
 use contract.Lifetimes.{Lfts, Shares}
 use contract.Monad.{Fun}
 use contract.Running.{givenOf, tables, tablesOf}
-use types.Kit.{Given, ‵, _⊛_, _$_, _∵_, !, qed, by, move, keep, drop, split, join, rewrite, fsplit, fjoin}
+use types.Kit.{Given, ‵, _⊛_, _$_, _∵_, !, qed, by, move, keep, drop, split, join, rewrite, fsplit}
 use types.Part.{whole, sub, look-in}
 use types.Run.{look, look-raw, init, stop, hop, fld, from, load, of-opd, bin, lit, assigns, returns}
 use denote.Laws.{Is, Typed, shows}
@@ -33,7 +33,7 @@ use denote.Triple.Spec.{Meets, tripleOf}
 use denote.Triple.Statement.{Contract}
 use denote.Triple.Table.{entered}
 use denote.Triple.Walked.{needs}
-use Rattle.walks.proofs.Calls.{ends}
+use Rattle.walks.proofs.Calls.{ends-silent}
 use Rattle.walks.proofs.Contexts.{sink}
 use Rattle.walks.proofs.Entries.{Knowns, number, lent, _&_, valuesOf, meets-by}
 use Rattle.walks.proofs.Locals.{opens, leaves}
@@ -107,9 +107,8 @@ module _ {M : Type 1} (𝓤 : URA M) (H : Heap 𝓤) (A : Atoms 𝓤) (W : Given
         elem-back ! T.the-row q′ draws i none (mach ∷ []) b o l $ shuts-slice ! tt T.the-row q′ draws b o $
         -- [the token; the fractured borrow; true; i's; the locals]
         returns ! (look ! 4 refl) $ sink ! 4 $ leaves ! _ _ refl $ move ! (0 ∷ 2 ∷ []) $ join ! $ keep ! (0 ∷ []) $
-        nothing ! $ nothing ! $ fjoin ! $ nothing ! $ fjoin ! $ move ! (1 ∷ 0 ∷ []) $
         owned ! T.the-row (Is T.the-row) (LL.makes T.the-type T′.the-plain 𝓤 H A) (drawAt draws i) _ is $
-        by ! (ends 𝓤 H A W draw-at.ended (draw-at.clauses 𝓤 H A mem run) y mach (drawAt draws i) (tt & tt & tt) _ (id⊢ 𝓤 _) refl))))
+        by ! (ends-silent 𝓤 H A W draw-at.ended (draw-at.clauses 𝓤 H A mem run) y mach (drawAt draws i) (tt & tt & tt) 2 refl _ (id⊢ 𝓤 _) refl))))
 
 module _ {M : Type 1} (𝓤 : URA M) (H : Heap 𝓤) (A : Atoms 𝓤) (W : Given 𝓤 H A) (mem : Memory → SProp 𝓤) (run : Routine → Fun 𝓤) where
   draw-at-meets : (𝓣 : Tables 𝓤 H) → Meets 𝓤 H A draw-at.signature (WpFn 𝓤 H (𝓣 .C) (𝓣 .Λ) code.function) (draw-at.spec 𝓤 H A mem run)

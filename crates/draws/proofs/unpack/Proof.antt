@@ -45,7 +45,7 @@ use denote.Triple.Statement.{Contract, Triple}
 use denote.Triple.Table.{entered, cited}
 use denote.Triple.Walked.{says}
 use borrow.Author.Tests.{lt-ltb, le-ltb}
-use Rattle.walks.proofs.Calls.{asks, goes-plain, ends}
+use Rattle.walks.proofs.Calls.{asks, goes-plain, ends-silent}
 use Rattle.walks.proofs.Contexts.{sink}
 use Rattle.walks.proofs.Entries.{Knowns, lent, _&_, valuesOf, meets-by}
 use Rattle.walks.proofs.Locals.{Homes, envAt, localsAs, opens, copies}
@@ -211,9 +211,9 @@ module _ {M : Type 1} (𝓤 : URA M) (H : Heap 𝓤) (A : Atoms 𝓤) (W : Given
         returns ! (look ! 0 refl) $ forget ! 0 refl $ free1 ! $ forget ! 0 refl $ free1 ! $ forget ! 0 refl $ free1 ! $ forget ! 0 refl $
         free1 ! $ forget ! 0 refl $ free1 ! $ free1 ! $ free1 ! $ forget ! 0 refl $ free1 ! $ free0 ! $
         -- [the token; what the list owns]
-        keep ! (0 ∷ []) $ nothing ! $ nothing ! $ fjoin ! $ move ! (1 ∷ 0 ∷ []) $
+        keep ! (0 ∷ []) $
         owned ! S.the-row (Is S.the-row) (LL.makes S.the-type S′.the-plain 𝓤 H A) (t .c) _ (t .is) $
-        by ! (ends 𝓤 H A W unpack.ended (unpack.clauses 𝓤 H A mem run) y (t .u) (t .c) (tt & tt) _ (id⊢ 𝓤 _)
+        by ! (ends-silent 𝓤 H A W unpack.ended (unpack.clauses 𝓤 H A mem run) y (t .u) (t .c) (tt & tt) 1 refl _ (id⊢ 𝓤 _)
         (t .filled .count, whole-list (t .filled)))
       where
         whole-list : Filling draws (t .i) (t .c) → Holds (t .c) draws (t .c .count)
