@@ -155,12 +155,12 @@ module _ {M : Type 1} (𝓤 : URA M) (H : Heap 𝓤) (A : Atoms 𝓤) (W : Given
 
 module _ {M : Type 1} {𝓤 : URA M} {H : Heap 𝓤} {A : Atoms 𝓤} {K : Type 0} {W : Given 𝓤 H A} {Γ : List (Item 𝓤)} where
   -- its locals are allocated and its arguments stored
-  pub opens : K → (C : Calls 𝓤 H) (Λ : Loops 𝓤 H) (f : Fn) (vs : List Val) (Kf : Val → SProp 𝓤)
+  pub enters : K → (C : Calls 𝓤 H) (Λ : Loops 𝓤 H) (f : Fn) (vs : List Val) (Kf : Val → SProp 𝓤)
       → ((bs : Homes (f .locals)) → TypedParams 𝓤 H (envAt 𝓤 H (f .locals) bs) vs)
       → ((bs : Homes (f .locals)) → Seq K W (passed 𝓤 H (envAt 𝓤 H (f .locals) bs) vs ++ Γ)
       (runs C Λ (envAt 𝓤 H (f .locals) bs) (f .body) (atRet (envAt 𝓤 H (f .locals) bs) Kf))) → Seq K W Γ (prop (WpFn 𝓤 H C Λ f vs Kf))
   unfolding WpFn
-  opens t C Λ f vs Kf typed k =
+  enters t C Λ f vs Kf typed k =
       record {
         prf = allocates 𝓤 H A W (f .locals) Γ (λ E. params 𝓤 H E vs (Wp 𝓤 H C Λ E (f .body) (atReturn 𝓤 H E Kf)))
             (λ bs. hands 𝓤 H A W (envAt 𝓤 H (f .locals) bs) vs Γ _ (typed bs) (k bs .prf));

@@ -36,7 +36,7 @@ use denote.Triple.Walked.{needs}
 use Rattle.walks.proofs.Calls.{ends-silent}
 use Rattle.walks.proofs.Contexts.{sink}
 use Rattle.walks.proofs.Entries.{Knowns, number, lent, _&_, valuesOf, meets-by}
-use Rattle.walks.proofs.Locals.{opens, leaves}
+use Rattle.walks.proofs.Locals.{enters, leaves}
 use Rattle.draws.specs.Columns.{none, drawAt}
 use Rattle.draws.specs.declared.Draw.{Draw}
 use Rattle.draws.proofs.Draw as T
@@ -87,7 +87,7 @@ module _ {M : Type 1} (𝓤 : URA M) (H : Heap 𝓤) (A : Atoms 𝓤) (W : Given
         → ent 𝓤 (onEntry 𝓤 H A draw-at.signature κs qs a vss) (WpFn 𝓤 H C Λ code.function (Entry .args y) (Entry .post y))
     walk typed room l =
         qed W ((‵ (flft (κs .0) (qs .0)) ⊛ ‵ ftrue) ∷ ‵ (owns (typesAt (draw-at.signature .params) κs) a vss) ∷ []) ∵
-        opens ! C Λ code.function (Entry .args y) _ (λ bs. typed) (λ bs.
+        enters ! C Λ code.function (Entry .args y) _ (λ bs. typed) (λ bs.
         -- [the locals; the token; what the list and i own]
         assigns ! (bin ! (load ! (from ! (stop !)) (look ! 4 refl)) (lit ! tt) (record { fits = small i (length draws) l (room .1) }))
         (from ! (stop !)) (init ! 6 refl (tt, record { fits = small i (length draws) l (room .1) })) $
@@ -108,7 +108,8 @@ module _ {M : Type 1} (𝓤 : URA M) (H : Heap 𝓤) (A : Atoms 𝓤) (W : Given
         -- [the token; the fractured borrow; true; i's; the locals]
         returns ! (look ! 4 refl) $ sink ! 4 $ leaves ! _ _ refl $ move ! (0 ∷ 2 ∷ []) $ join ! $ keep ! (0 ∷ []) $
         owned ! T.the-row (Is T.the-row) (LL.makes T.the-type T′.the-plain 𝓤 H A) (drawAt draws i) _ is $
-        by ! (ends-silent 𝓤 H A W draw-at.ended (draw-at.clauses 𝓤 H A mem run) y mach (drawAt draws i) (tt & tt & tt) 2 refl _ (id⊢ 𝓤 _) refl))))
+        by ! (ends-silent 𝓤 H A W draw-at.ended (draw-at.clauses 𝓤 H A mem run) y mach (drawAt draws i) (tt & tt & tt) 2 refl _
+        (id⊢ 𝓤 _) refl))))
 
 module _ {M : Type 1} (𝓤 : URA M) (H : Heap 𝓤) (A : Atoms 𝓤) (W : Given 𝓤 H A) (mem : Memory → SProp 𝓤) (run : Routine → Fun 𝓤) where
   draw-at-meets : (𝓣 : Tables 𝓤 H) → Meets 𝓤 H A draw-at.signature (WpFn 𝓤 H (𝓣 .C) (𝓣 .Λ) code.function) (draw-at.spec 𝓤 H A mem run)

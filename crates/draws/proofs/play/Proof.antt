@@ -33,7 +33,7 @@ use Rattle.walks.proofs.Calls.{asks, ends}
 use Rattle.walks.proofs.Contexts.{sink}
 use Rattle.walks.proofs.Entries.{valuesOf, meets-by}
 use Rattle.walks.proofs.Exchange.{lifetime, lifetimes, share, shares, argsWith, valsWith, Rest, parts, joins, token-back}
-use Rattle.walks.proofs.Locals.{opens, leaves, copies}
+use Rattle.walks.proofs.Locals.{enters, leaves, copies}
 use Rattle.walks.proofs.Slices.{lends}
 use Rattle.draws.specs.Columns.{Unpacked}
 use Rattle.draws.proofs.Cut.{ended-by-columns}
@@ -102,7 +102,7 @@ module _ {M : Type 1} (𝓤 : URA M) (H : Heap 𝓤) (A : Atoms 𝓤) (W : Given
         → ent 𝓤 (Entry 𝓤 H A mem run .pre y) (WpFn 𝓤 H C Λ code.function (Entry 𝓤 H A mem run .args y) (Entry 𝓤 H A mem run .post y))
     walk typed =
         qed W (raw (onEntry 𝓤 H A entry.signature κs qs a vss) ∷ ‵ ftrue ∷ []) ∵ move ! (1 ∷ []) $ drop ! $
-        opens ! C Λ code.function (Entry 𝓤 H A mem run .args y) _ (λ bs. typed) (λ bs.
+        enters ! C Λ code.function (Entry 𝓤 H A mem run .args y) _ (λ bs. typed) (λ bs.
         -- [the locals; what was passed]
         move ! (48 ∷ []) $ use1 W (raw (Unpack 𝓤 H A mem run .pre to-unpack) ⊛ raw (Rest 𝓤 H A W 9 8 12 κs qs Rs a vss))
         (parts 𝓤 H A W 9 8 12 κs qs Rs a vss) $ split ! $

@@ -48,7 +48,7 @@ use borrow.Author.Tests.{lt-ltb, le-ltb}
 use Rattle.walks.proofs.Calls.{asks, goes-plain, ends-silent}
 use Rattle.walks.proofs.Contexts.{sink}
 use Rattle.walks.proofs.Entries.{Knowns, lent, _&_, valuesOf, meets-by}
-use Rattle.walks.proofs.Locals.{Homes, envAt, localsAs, opens, copies}
+use Rattle.walks.proofs.Locals.{Homes, envAt, localsAs, enters, copies}
 use Rattle.draws.specs.Columns.{Roomy, most, Holds}
 use Rattle.draws.specs.declared.Draw.{Draw}
 use Rattle.draws.specs.declared.Columns.{Columns}
@@ -280,7 +280,7 @@ module _ {M : Type 1} (𝓤 : URA M) (H : Heap 𝓤) (A : Atoms 𝓤) (W : Given
         → ent 𝓤 (Entry 𝓤 H A mem run .pre y) (WpFn 𝓤 H (𝓣 .C) (𝓣 .Λ) code.function (v ∷ []) (Entry 𝓤 H A mem run .post y))
     walk typed =
         qed W ((raw (toks 𝓤 A 1 κs qs) ⊛ ‵ (owns (typesAt (unpack.signature .params) κs) a vss)) ∷ ‵ ftrue ∷ []) ∵
-        split ! $ keep ! (0 ∷ 1 ∷ []) $ opens ! (𝓣 .C) (𝓣 .Λ) code.function (v ∷ []) _ (λ bs. typed) (λ bs.
+        split ! $ keep ! (0 ∷ 1 ∷ []) $ enters ! (𝓣 .C) (𝓣 .Λ) code.function (v ∷ []) _ (λ bs. typed) (λ bs.
         -- [the locals; the token; what the parameters own]
         assigns ! (of-opd ! (load ! (from ! (fld ! refl (stop !))) (look-in ! 2 (sub ! 1 refl (whole !))))) (from ! (stop !))
         (init ! 12 refl (tt, record { fits = room .0 })) $

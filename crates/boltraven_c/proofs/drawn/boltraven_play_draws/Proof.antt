@@ -27,7 +27,7 @@ use denote.Triple.Table.{entered, cited}
 use Rattle.walks.proofs.Calls.{asks, ends}
 use Rattle.walks.proofs.Contexts.{sink}
 use Rattle.walks.proofs.Entries.{valuesOf, meets-by}
-use Rattle.walks.proofs.Locals.{opens, leaves, copies}
+use Rattle.walks.proofs.Locals.{enters, leaves, copies}
 use Rattle.walks.proofs.Slices.{lends}
 use Rattle.draws.proofs.Lent.{known}
 use Rattle.draws.proofs.play as play
@@ -58,7 +58,7 @@ module _ {M : Type 1} (𝓤 : URA M) (H : Heap 𝓤) (A : Atoms 𝓤) (W : Given
         → ent 𝓤 (Entry 𝓤 H A mem run .pre y) (WpFn 𝓤 H C Λ code.function (Entry 𝓤 H A mem run .args y) (Entry 𝓤 H A mem run .post y))
     walk typed =
         qed W (raw (Play 𝓤 H A mem run .pre y) ∷ []) ∵
-        opens ! C Λ code.function (Entry 𝓤 H A mem run .args y) _ (λ bs. typed) (λ bs.
+        enters ! C Λ code.function (Entry 𝓤 H A mem run .args y) _ (λ bs. typed) (λ bs.
         -- [the locals; what was passed]
         move ! (46 ∷ []) $
         lends ! 1 10 15 16 refl refl refl tt refl refl refl (tt, typed .1 .1 .1 .1 .1 .1 .1 .1 .1 .0 .1) $
