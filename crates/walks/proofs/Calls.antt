@@ -31,7 +31,7 @@ contractOf 𝓤 H A T c = tripleOf 𝓤 H A (T .signature) (closing 𝓤 H A T c
 
 module _ {M : Type 1} {𝓤 : URA M} {H : Heap 𝓤} {A : Atoms 𝓤} {K : Type 0} {W : Given 𝓤 H A} {Γ : List (Item 𝓤)} where
   -- what a call left: what φ says of its result r and of the last values ws, and how the result lies in the machine
-  pub gives : K → {G : Goal 𝓤 H} → Soaks G → (T : Ended) (c : Clauses 𝓤 T) (y : contractOf 𝓤 H A T c .Ghost)
+  gives : K → {G : Goal 𝓤 H} → Soaks G → (T : Ended) (c : Clauses 𝓤 T) (y : contractOf 𝓤 H A T c .Ghost)
       (u : Val) (φ : Res (T .signature) (y .0 .0) → Lasts T (y .0 .0) (y .0 .3) → Type 0)
       → ((r : Res (T .signature) (y .0 .0)) (ws : Lasts T (y .0 .0) (y .0 .3))
       → ent 𝓤 (c (y .0 .0) (y .0 .3) .ensures (y .1) r (atExit T (y .0 .0) (y .0 .3) ws)) (fact 𝓤 (φ r ws)))

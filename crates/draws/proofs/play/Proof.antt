@@ -60,8 +60,8 @@ module _ {M : Type 1} (𝓤 : URA M) (H : Heap 𝓤) (A : Atoms 𝓤) (mem : Mem
   abbrev Unpack : Contract 𝓤
   Unpack = tripleOf 𝓤 H A unpack.signature (unpack.spec 𝓤 H A mem run)
 
-  abbrev Flat : Contract 𝓤
-  Flat = tripleOf 𝓤 H A play-columns.signature (play-columns.spec 𝓤 H A mem run)
+  abbrev PlayColumns : Contract 𝓤
+  PlayColumns = tripleOf 𝓤 H A play-columns.signature (play-columns.spec 𝓤 H A mem run)
 
   abbrev Entry : Contract 𝓤
   Entry = tripleOf 𝓤 H A entry.signature (entry.spec 𝓤 H A mem run)
@@ -84,8 +84,8 @@ module _ {M : Type 1} (𝓤 : URA M) (H : Heap 𝓤) (A : Atoms 𝓤) (W : Given
   abbrev to-unpack : Unpack 𝓤 H A mem run .Ghost
   to-unpack = (((lifetime 9 8 κs, tt), (share 9 8 qs, tt), tt, (draws, tt), (slice-vals draws, tt)), tt)
 
-  abbrev to-flat : Columns → Val → Flat 𝓤 H A mem run .Ghost
-  to-flat c w = (
+  abbrev to-columns : Columns → Val → PlayColumns 𝓤 H A mem run .Ghost
+  to-columns c w = (
     (
       lifetimes 9 8 κs,
       shares 9 8 qs,
@@ -96,8 +96,8 @@ module _ {M : Type 1} (𝓤 : URA M) (H : Heap 𝓤) (A : Atoms 𝓤) (W : Given
     tt,
   )
 
-  module _ (C : Calls 𝓤 H) (Λ : Loops 𝓤 H) (fm : FmC 𝓤 H (W .laws) C) (known-unpack : Triple 𝓤 (C #draws·unpack) (Unpack 𝓤 H A mem run))
-      (known-flat : Triple 𝓤 (C #draws·play-columns) (Flat 𝓤 H A mem run)) where
+  module _ (C : Calls 𝓤 H) (Λ : Loops 𝓤 H) (fm : FmC 𝓤 H (W .laws) C) (met-unpack : Triple 𝓤 (C #draws·unpack) (Unpack 𝓤 H A mem run))
+      (met-columns : Triple 𝓤 (C #draws·play-columns) (PlayColumns 𝓤 H A mem run)) where
     walk : Typed (mirs Rs) (flat Rs vss)
         → ent 𝓤 (Entry 𝓤 H A mem run .pre y) (WpFn 𝓤 H C Λ code.function (Entry 𝓤 H A mem run .args y) (Entry 𝓤 H A mem run .post y))
     walk typed =
@@ -106,7 +106,7 @@ module _ {M : Type 1} (𝓤 : URA M) (H : Heap 𝓤) (A : Atoms 𝓤) (W : Given
         -- [the locals; what was passed]
         move ! (48 ∷ []) $ use1 W (raw (Unpack 𝓤 H A mem run .pre to-unpack) ⊛ raw (Rest 𝓤 H A W 9 8 12 κs qs Rs a vss))
         (parts 𝓤 H A W 9 8 12 κs qs Rs a vss) $ split ! $
-        asks ! fm unpack.ended (unpack.clauses 𝓤 H A mem run) known-unpack to-unpack (copies ! 2 (13 ∷ []) refl)
+        asks ! fm unpack.ended (unpack.clauses 𝓤 H A mem run) met-unpack to-unpack (copies ! 2 (13 ∷ []) refl)
         (λ c ws. Unpacked (draws .now) c) (λ c ws. id⊢ 𝓤 _) (λ w c ws e is.
         -- [the columns; the list's token; nothing; the rest of what was passed; the locals]
         land ! (from ! (stop !)) (init ! 34 refl (LL.lawful S.the-type S′.the-laws 𝓤 H A W .typed c _ is .0)) $
@@ -114,9 +114,9 @@ module _ {M : Type 1} (𝓤 : URA M) (H : Heap 𝓤) (A : Atoms 𝓤) (W : Given
         lends ! 4 11 18 19 refl refl refl tt refl refl refl (tt, typed .1 .1 .1 .1 .1 .1 .1 .1 .1 .1 .0 .1) $
         lends ! 4 12 20 21 refl refl refl tt refl refl refl (tt, typed .1 .1 .1 .1 .1 .1 .1 .1 .1 .1 .1 .0 .1) $
         lends ! 4 14 22 23 refl refl refl tt refl refl refl (tt, typed .1 .1 .1 .1 .1 .1 .1 .1 .1 .1 .1 .1 .1 .0 .1) $
-        move ! (0 ∷ 3 ∷ []) $ use2 W (raw (Flat 𝓤 H A mem run .pre (to-flat c w)))
+        move ! (0 ∷ 3 ∷ []) $ use2 W (raw (PlayColumns 𝓤 H A mem run .pre (to-columns c w)))
         (joins 𝓤 H A W 9 8 12 κs qs Rs a vss S.the-row c (w ∷ [])) $
-        asks ! fm play-columns.ended (play-columns.clauses 𝓤 H A mem run) known-flat (to-flat c w)
+        asks ! fm play-columns.ended (play-columns.clauses 𝓤 H A mem run) met-columns (to-columns c w)
         (copies ! 3 (1 ∷ 2 ∷ 3 ∷ 4 ∷ 5 ∷ 6 ∷ 7 ∷ 8 ∷ 9 ∷ 17 ∷ 19 ∷ 21 ∷ 15 ∷ 23 ∷ []) refl)
         _ (λ r ws′. id⊢ 𝓤 _) (λ u r ws′ said is′.
         -- [the result; the other tokens; the last values; the list's token; nothing; the locals]
@@ -128,11 +128,11 @@ module _ {M : Type 1} (𝓤 : URA M) (H : Heap 𝓤) (A : Atoms 𝓤) (W : Given
 
 module _ {M : Type 1} (𝓤 : URA M) (H : Heap 𝓤) (A : Atoms 𝓤) (W : Given 𝓤 H A) (mem : Memory → SProp 𝓤) (run : Routine → Fun 𝓤) where
   entry-meets : (𝓣 : Tables 𝓤 H) → Triple 𝓤 (𝓣 .C #draws·unpack) (Unpack 𝓤 H A mem run)
-      → Triple 𝓤 (𝓣 .C #draws·play-columns) (Flat 𝓤 H A mem run)
+      → Triple 𝓤 (𝓣 .C #draws·play-columns) (PlayColumns 𝓤 H A mem run)
       → Meets 𝓤 H A entry.signature (WpFn 𝓤 H (𝓣 .C) (𝓣 .Λ) code.function) (entry.spec 𝓤 H A mem run)
-  entry-meets 𝓣 met-unpack met-flat =
+  entry-meets 𝓣 met-unpack met-columns =
       meets-by 𝓤 H A entry.ended (entry.clauses 𝓤 H A mem run) (known 𝓤 H A W) (WpFn 𝓤 H (𝓣 .C) (𝓣 .Λ) code.function)
-      (λ κs qs bounds a g are typed. walk 𝓤 H A W mem run κs qs a (𝓣 .C) (𝓣 .Λ) (fmOf 𝓤 H (W .laws) 𝓣) met-unpack met-flat typed)
+      (λ κs qs bounds a g are typed. walk 𝓤 H A W mem run κs qs a (𝓣 .C) (𝓣 .Λ) (fmOf 𝓤 H (W .laws) 𝓣) met-unpack met-columns typed)
 
 pub play-spec : {M : Type 1} → stated.statement M
 unfolding code.routine tablesOf
@@ -142,5 +142,5 @@ play-spec 𝓤 H 𝓜 𝓖 𝓡 =
     (entry-meets 𝓤 H (𝓖 .A) (givenOf 𝓤 H 𝓜 𝓖) (𝓜 .mem) (𝓡 .run) (tablesOf 𝓤 H 𝓜 (tables 𝓤 H 𝓜 𝓡 code.env))
     (cited 𝓤 H (Unpack 𝓤 H (𝓖 .A) (𝓜 .mem) (𝓡 .run)) 𝓜 𝓡 code.env #draws·unpack unpack-def.routine code.calls-draws·unpack
     (unpack-thm.met 𝓤 H 𝓜 𝓖 𝓡))
-    (cited 𝓤 H (Flat 𝓤 H (𝓖 .A) (𝓜 .mem) (𝓡 .run)) 𝓜 𝓡 code.env #draws·play-columns play-columns-def.routine code.calls-draws·play-columns
-    (play-columns-thm.met 𝓤 H 𝓜 𝓖 𝓡)))
+    (cited 𝓤 H (PlayColumns 𝓤 H (𝓖 .A) (𝓜 .mem) (𝓡 .run)) 𝓜 𝓡 code.env #draws·play-columns play-columns-def.routine
+    code.calls-draws·play-columns (play-columns-thm.met 𝓤 H 𝓜 𝓖 𝓡)))

@@ -171,8 +171,8 @@ module _ {M : Type 1} (𝓤 : URA M) (H : Heap 𝓤) (A : Atoms 𝓤) (W : Given
   Nearer-wf : WellFounded Nearer
   Nearer-wf = InvImage·wf (λ (t : Upto). n - t .i) (Nat·lt-wfRel .wf)
 
-  module _ (𝓣 : Tables 𝓤 H) (known-draw : Triple 𝓤 (𝓣 .C #draws·draw-at) (DrawAt 𝓤 H A mem run))
-      (known-put : Triple 𝓤 (𝓣 .C #draws·put) (Put 𝓤 H A mem run)) (bs : Homes (code.function .locals)) where
+  module _ (𝓣 : Tables 𝓤 H) (met-draw : Triple 𝓤 (𝓣 .C #draws·draw-at) (DrawAt 𝓤 H A mem run))
+      (met-put : Triple 𝓤 (𝓣 .C #draws·put) (Put 𝓤 H A mem run)) (bs : Homes (code.function .locals)) where
     abbrev C : Calls 𝓤 H
     C = 𝓣 .C
 
@@ -230,12 +230,12 @@ module _ {M : Type 1} (𝓤 : URA M) (H : Heap 𝓤) (A : Atoms 𝓤) (W : Given
         -- `draw_at`, on a copy of the slice
         move ! (17 ∷ []) $ use1 W (‵ Own ⊛ ‵ Own) (shr-slice-copy 𝓤 H A W (named 0) (κs .0) T.the-row .twice (a .0) (v ∷ [])) $ split ! $
         move ! (18 ∷ 0 ∷ []) $ use2 W (raw (DrawAt 𝓤 H A mem run .pre (to-draw (t .i)))) (goes-draw (t .i) within i-fits) $
-        asks ! (fmOf 𝓤 H (W .laws) 𝓣) draw-at.ended (draw-at.clauses 𝓤 H A mem run) known-draw (to-draw (t .i))
+        asks ! (fmOf 𝓤 H (W .laws) 𝓣) draw-at.ended (draw-at.clauses 𝓤 H A mem run) met-draw (to-draw (t .i))
         (copies ! 2 (1 ∷ 4 ∷ []) refl) _ (λ r ws. id⊢ 𝓤 _) (λ w d ws e is. drop ! $ move ! (1 ∷ []) $ drop ! $ sink ! 2 $
         land ! (from ! (stop !)) (init ! 10 refl (LL.lawful T.the-type T′.the-laws 𝓤 H A W .typed d _ is .0)) $
         -- `put`
         use0 W (raw (Put 𝓤 H A mem run .pre (to-put (t .c) (t .u) (t .i) d w))) (goes-put (t .c) (t .u) (t .i) d w small (t .is) is) $
-        asks ! (fmOf 𝓤 H (W .laws) 𝓣) put.ended (put.clauses 𝓤 H A mem run) known-put (to-put (t .c) (t .u) (t .i) d w)
+        asks ! (fmOf 𝓤 H (W .laws) 𝓣) put.ended (put.clauses 𝓤 H A mem run) met-put (to-put (t .c) (t .u) (t .i) d w)
         (copies ! 1 (3 ∷ 4 ∷ 5 ∷ []) refl) _ (λ r ws′. id⊢ 𝓤 _) (λ z r ws′ e′ is′. drop ! $ drop ! $ drop ! $
         land ! (from ! (stop !)) (store ! 6 refl (LL.lawful S.the-type S′.the-laws 𝓤 H A W .typed r _ is′ .0)) $
         assigns-last ! (bin ! (load ! (from ! (stop !)) (look ! 8 refl)) (lit ! tt) (record { fits = next-fits })) (from ! (stop !))
@@ -272,10 +272,10 @@ module _ {M : Type 1} (𝓤 : URA M) (H : Heap 𝓤) (A : Atoms 𝓤) (W : Given
         first ! $ blocks ! $ loops ! 𝓣 Nearer Nearer-wf At turns
         (record { i = 0; c = c; u = u; within = omega arith; filled = filling-starts draws n c refl e; is = is })
 
-  module _ (𝓣 : Tables 𝓤 H) (known-most : Triple 𝓤 (𝓣 .C #draws·at-most) (AtMost 𝓤 H A mem run))
-      (known-blank : Triple 𝓤 (𝓣 .C #draws·blank) (Blank 𝓤 H A mem run))
-      (known-draw : Triple 𝓤 (𝓣 .C #draws·draw-at) (DrawAt 𝓤 H A mem run))
-      (known-put : Triple 𝓤 (𝓣 .C #draws·put) (Put 𝓤 H A mem run)) where
+  module _ (𝓣 : Tables 𝓤 H) (met-most : Triple 𝓤 (𝓣 .C #draws·at-most) (AtMost 𝓤 H A mem run))
+      (met-blank : Triple 𝓤 (𝓣 .C #draws·blank) (Blank 𝓤 H A mem run))
+      (met-draw : Triple 𝓤 (𝓣 .C #draws·draw-at) (DrawAt 𝓤 H A mem run))
+      (met-put : Triple 𝓤 (𝓣 .C #draws·put) (Put 𝓤 H A mem run)) where
     walk : Typed (mirs (typesAt (unpack.signature .params) κs)) (v ∷ [])
         → ent 𝓤 (Entry 𝓤 H A mem run .pre y) (WpFn 𝓤 H (𝓣 .C) (𝓣 .Λ) code.function (v ∷ []) (Entry 𝓤 H A mem run .post y))
     walk typed =
@@ -286,27 +286,27 @@ module _ {M : Type 1} (𝓤 : URA M) (H : Heap 𝓤) (A : Atoms 𝓤) (W : Given
         (init ! 12 refl (tt, record { fits = room .0 })) $
         -- `at_most`
         use0 W (raw (AtMost 𝓤 H A mem run .pre to-most)) (goes-number (length draws) (room .0)) $
-        asks ! (fmOf 𝓤 H (W .laws) 𝓣) at-most.ended (at-most.clauses 𝓤 H A mem run) known-most to-most (copies ! 1 (6 ∷ []) refl)
+        asks ! (fmOf 𝓤 H (W .laws) 𝓣) at-most.ended (at-most.clauses 𝓤 H A mem run) met-most to-most (copies ! 1 (6 ∷ []) refl)
         (λ r ws. r ≡ n) (λ r ws. id⊢ 𝓤 _) (λ w r ws e is. drop ! $ drop ! $ drop ! $
         land ! (from ! (stop !)) (init ! 4 refl (uint-lawful 𝓤 H A W w64 .typed r _ is .0)) $
         rewrite ! 4 (λ (z : Val). ‵ (fat fullShare (tyInt w64) (bs .1 .1 .0) 0 z)) (ap only (is .0) ∙ ap (vint w64) e) refl $
         -- `blank`
         use0 W (raw (Blank 𝓤 H A mem run .pre to-blank)) (goes-number n n-fits) $
-        asks ! (fmOf 𝓤 H (W .laws) 𝓣) blank.ended (blank.clauses 𝓤 H A mem run) known-blank to-blank (copies ! 1 (2 ∷ []) refl)
+        asks ! (fmOf 𝓤 H (W .laws) 𝓣) blank.ended (blank.clauses 𝓤 H A mem run) met-blank to-blank (copies ! 1 (2 ∷ []) refl)
         _ (λ c ws′. id⊢ 𝓤 _) (λ z c ws′ e′ is′. drop ! $ drop ! $ drop ! $
         land ! (from ! (stop !)) (init ! 6 refl (LL.lawful S.the-type S′.the-laws 𝓤 H A W .typed c _ is′ .0)) $
         assigns ! (of-opd ! (lit ! tt)) (from ! (stop !)) (init ! 8 refl (tt, record { fits = lit< tt })) $
         forget ! 12 refl $ move ! (17 ∷ []) $ fsplit ! $ move ! (1 ∷ []) $ drop ! $ sink ! 1 $
-        starts 𝓣 known-draw known-put bs c z e′ is′)))
+        starts 𝓣 met-draw met-put bs c z e′ is′)))
 
 module _ {M : Type 1} (𝓤 : URA M) (H : Heap 𝓤) (A : Atoms 𝓤) (W : Given 𝓤 H A) (mem : Memory → SProp 𝓤) (run : Routine → Fun 𝓤) where
   unpack-meets : (𝓣 : Tables 𝓤 H) → Triple 𝓤 (𝓣 .C #draws·at-most) (AtMost 𝓤 H A mem run)
       → Triple 𝓤 (𝓣 .C #draws·blank) (Blank 𝓤 H A mem run) → Triple 𝓤 (𝓣 .C #draws·draw-at) (DrawAt 𝓤 H A mem run)
       → Triple 𝓤 (𝓣 .C #draws·put) (Put 𝓤 H A mem run)
       → Meets 𝓤 H A unpack.signature (WpFn 𝓤 H (𝓣 .C) (𝓣 .Λ) code.function) (unpack.spec 𝓤 H A mem run)
-  unpack-meets 𝓣 km kb kd kp =
+  unpack-meets 𝓣 met-most met-blank met-draw met-put =
       meets-by 𝓤 H A unpack.ended (unpack.clauses 𝓤 H A mem run) (known 𝓤 H A mem run W) (WpFn 𝓤 H (𝓣 .C) (𝓣 .Λ) code.function)
-      (λ κs qs bounds a g are typed. walk 𝓤 H A W mem run κs qs a (are .0 .0 .1) 𝓣 km kb kd kp typed)
+      (λ κs qs bounds a g are typed. walk 𝓤 H A W mem run κs qs a (are .0 .0 .1) 𝓣 met-most met-blank met-draw met-put typed)
 
 pub unpack-spec : {M : Type 1} → stated.statement M
 unfolding code.routine tablesOf

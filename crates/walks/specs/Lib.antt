@@ -1,1 +1,0 @@
--- Nothing is stated here: the rules are in proofs/.
