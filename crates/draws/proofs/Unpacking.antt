@@ -8,11 +8,11 @@ use native.Mathlib.Numerals.{add-one}
 use native.Mathlib.Omega.{arith}
 use borrow.Author.Tests.{leb-true, leb-false}
 use lib.Dec.{leb}
-use lib.ListN.{length, getD, set, take, length-set}
+use lib.ListN.{length, set, take, length-set}
 use lib.Seq.{take-suc-set, length-take-le}
 use Rattle.draws.specs.declared.Draw.{Draw}
 use Rattle.draws.specs.declared.Columns.{Columns}
-use Rattle.draws.specs.Columns.{none, drawAt, Roomy, putAt, kinds, ones, twos, most, Holds}
+use Rattle.draws.specs.Columns.{drawAt, Roomy, putAt, kinds, ones, twos, most, Holds}
 
 -- no more than the list, no more than the limit
 most-by : (n : ℕ) (b : Bool) → leb n 1024 ≡ b → (cond b n 1024 ≤ n) × (cond b n 1024 ≤ 1024)

@@ -90,7 +90,6 @@ fn unpack(draws: &[Draw]) -> Columns
 
 // The columns' play of draws by value.
 fn play_columns(
-    c: Columns,
     people: usize,
     slots: usize,
     units: usize,
@@ -103,6 +102,7 @@ fn play_columns(
     owners: &mut [u8],
     sets: &mut [u64],
     minutes: &mut [u64],
+    c: Columns,
     answers: &mut [u8],
 ) -> u8
     ensures { λ r. ⌜ Ended (played (plan people slots (now (starts .entry)) (now (ends .entry))) (now (avail .entry)) units
@@ -156,8 +156,8 @@ pub fn play(
         (derived (now (sets .entry)) (now (minutes .entry))) (now (answers .entry)))
         r (now (owners .exit)) (derived (now (sets .exit)) (now (minutes .exit))) (now (answers .exit)) ⌝ }
 {
+    let columns = unpack(draws);
     play_columns(
-        unpack(draws),
         people,
         slots,
         units,
@@ -170,46 +170,7 @@ pub fn play(
         owners,
         sets,
         minutes,
-        answers,
-    )
-}
-
-// The same of draws by value, of which the first `count` are played: whoever calls it needs no walk.
-pub fn play_array(
-    people: usize,
-    slots: usize,
-    units: usize,
-    count: usize,
-    starts: &[u32],
-    ends: &[u32],
-    avail: &[u64],
-    firsts: &[u16],
-    frozen: &[u64],
-    owners: &mut [u8],
-    sets: &mut [u64],
-    minutes: &mut [u64],
-    draws: [Draw; 1024],
-    answers: &mut [u8],
-) -> u8
-    ensures { λ r. ⌜ Ended (playedDraws (plan people slots (now (starts .entry)) (now (ends .entry))) (now (avail .entry)) units
-        (now (firsts .entry)) (now (frozen .entry)) count draws (now (owners .entry))
-        (derived (now (sets .entry)) (now (minutes .entry))) (now (answers .entry)))
-        r (now (owners .exit)) (derived (now (sets .exit)) (now (minutes .exit))) (now (answers .exit)) ⌝ }
-{
-    play(
-        people,
-        slots,
-        units,
-        count,
-        starts,
-        ends,
-        avail,
-        firsts,
-        frozen,
-        owners,
-        sets,
-        minutes,
-        &draws,
+        columns,
         answers,
     )
 }

@@ -2,6 +2,7 @@
 // compared and how many differ. `oracle/store` writes them (oracle/src/stored_jobs.rs has their layout).
 use job::JobAnswer;
 use stored::Tally;
+use stored::Turn;
 use stored::raw;
 use stored::short;
 
@@ -53,19 +54,13 @@ fn as_due(file: &[u8], due: &[u8]) -> bool {
     }
 }
 
-// The tally after a job more, and whether there was one.
-struct Turn {
-    tally: Tally,
-    more: bool,
-}
-
 // Reads n bytes to the front of a buffer that has room for them, and answers whether all came.
 fn filled(buf: &mut [u8], n: u16) -> bool {
     let k = io::count(n as isize, buf);
     io::read_full(0, &mut buf[..k]) == k
 }
 
-// Reads the file and the text of a job whose head was read, and compares. Part of a job is a damaged input, and counts as a difference.
+// Reads the file and the text of a job whose head was read, and compares.
 fn one_body(tally: Tally, head: &[u8]) -> Turn {
     let mut file = io::large_buffer();
     let mut due = io::large_buffer();
@@ -74,15 +69,9 @@ fn one_body(tally: Tally, head: &[u8]) -> Turn {
     let n = io::count(short(head, 0) as isize, &file);
     let m = io::count(short(head, 2) as isize, &due);
     if whole && told {
-        return Turn {
-            tally: tally.with(as_due(&file[..n], &due[..m])),
-            more: true,
-        };
+        return Turn::whole(tally.with(as_due(&file[..n], &due[..m])));
     }
-    Turn {
-        tally: tally.with(false),
-        more: false,
-    }
+    Turn::last(tally, HEAD)
 }
 
 // Reads one job and compares it.
@@ -92,13 +81,7 @@ fn one_job(tally: Tally) -> Turn {
     if got == HEAD {
         return one_body(tally, &head);
     }
-    if got == 0 {
-        return Turn { tally, more: false };
-    }
-    Turn {
-        tally: tally.with(false),
-        more: false,
-    }
+    Turn::last(tally, got)
 }
 
 // Every job of the input. A proved loop has to end, so it counts its turns down from a number that no input uses up.

@@ -1,5 +1,5 @@
-// Replays stored rotas of the Rust: reads sections of records from standard input, plays and assigns the same, and tells for each section how
-// many answers it compared and how many differ. `oracle/store` writes the records (oracle/src/stored_rotas.rs has their layout).
+// Replays stored rotas of the Rust: reads sections of records from standard input, plays and assigns the same, and tells for each section
+// how many answers it compared and how many differ. `oracle/store` writes the records (oracle/src/stored_rotas.rs has their layout).
 use stored::Tally;
 use stored::at_most;
 use stored::front_shorts;
@@ -15,7 +15,8 @@ use stored::shorts;
 ghost use Prim.Native.Nat.{_≤_};
 
 // A record: people, slots, units, draws; the slots; where units begin; who can cover which slot; frozen slots; the owners before; the
-// draws; then the Rust's answers, owners, sets and minutes; an assign, and the number that is due; sets and minutes before; how much is lent.
+// draws; then the Rust's answers, owners, sets and minutes; an assign, and the number that is due; sets and minutes before; how much is
+// lent.
 const RECORD: usize = 326;
 
 const STARTS_AT: usize = 8;
@@ -115,6 +116,7 @@ fn sets(b: &[u8], at: usize) -> [u64; 64] {
     out
 }
 
+// A u32 as a u64.
 fn wide(x: u32) -> u64 {
     x as u64
 }
@@ -293,24 +295,28 @@ fn assign(b: &[u8], before: Rota) -> Rota {
     }
 }
 
-// Whether whole arrays are those at an index.
+// Whether the owners of a rota are those at an index.
 fn is_owners(got: &[u8; 16], b: &[u8], at: usize) -> bool {
     same_raws(got, &owners(b, at))
 }
 
+// Whether a call's number is the one that is due.
 fn is_number(got: u8, b: &[u8]) -> bool {
     got as usize == half(b, NUMBER_AT)
 }
 
+// Whether the answers of a play are those that are due.
 fn is_answers(got: &[u8; 8], b: &[u8]) -> bool {
     same_raws(got, &answers(b))
 }
 
+// Whether no answer was written.
 fn is_untouched(got: &[u8; 8]) -> bool {
     let zeros = [0u8; 8];
     same_raws(got, &zeros)
 }
 
+// Whether sets, and minutes, are those at an index.
 fn is_sets(got: &[u64; 64], b: &[u8], at: usize) -> bool {
     same_words(got, &sets(b, at))
 }
@@ -381,6 +387,7 @@ fn uneven_refused(tally: Tally, b: &[u8]) -> Tally {
     t3.with(is_owners(&who, b, OWNERS_DUE_AT))
 }
 
+// 1 where two numbers differ.
 fn apart(x: u64, y: u64) -> usize {
     if x == y { 0 } else { 1 }
 }

@@ -1,9 +1,10 @@
-// Replays stored answers of the Rust on slots: reads records from standard input, asks the library the same, refusals included, and tells how
-// many answers it compared and how many differ. `oracle/store` writes the records (oracle/src/stored_slots.rs has their layout).
+// Replays stored answers of the Rust on slots: reads records from standard input, asks the library the same, refusals included, and tells
+// how many answers it compared and how many differ. `oracle/store` writes the records (oracle/src/stored_slots.rs has their layout).
 use slots::Minutes;
 use slotset::Counted;
 use slotset::Told;
 use stored::Tally;
+use stored::Turn;
 use stored::at_most;
 use stored::front_quads;
 use stored::front_shorts;
@@ -185,6 +186,7 @@ fn refused_minutes(number: u8) -> u32 {
     4000000000 + number as u32
 }
 
+// An answer as it is stored: a count, yes or no, a number alone, minutes.
 fn counted(answer: Counted) -> usize {
     match answer {
         Counted::Is(k) => k,
@@ -357,29 +359,14 @@ fn record_answers(tally: Tally, b: &[u8]) -> Tally {
     length_answers(t5, b)
 }
 
-// The tally after a record more, and whether there was one.
-struct Turn {
-    tally: Tally,
-    more: bool,
-}
-
-// Reads one record and compares its answers. Part of a record is a damaged file, and counts as a difference.
+// Reads one record and compares its answers.
 fn one_record(tally: Tally) -> Turn {
     let mut b = [0u8; RECORD];
     let got = io::read_full(0, &mut b);
     if got == RECORD {
-        return Turn {
-            tally: record_answers(tally, &b),
-            more: true,
-        };
+        return Turn::whole(record_answers(tally, &b));
     }
-    if got == 0 {
-        return Turn { tally, more: false };
-    }
-    Turn {
-        tally: tally.with(false),
-        more: false,
-    }
+    Turn::last(tally, got)
 }
 
 // Every record of the input. A proved loop has to end, so it counts its turns down from a number that no input uses up.

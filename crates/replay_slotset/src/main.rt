@@ -7,8 +7,10 @@ use slotset::SlotSet;
 use slotset::Told;
 use slotset::row;
 use stored::Tally;
+use stored::Turn;
 use stored::half;
 use stored::plus;
+use stored::same_words;
 use stored::word;
 
 // A record: length, words, is_empty, count, eight indexes with their answers, and four changes.
@@ -19,6 +21,7 @@ const WORDS_AT: usize = 2;
 const INDEXES_AT: usize = 134;
 
 const CHANGES_AT: usize = 294;
+
 // Nothing found, and an answer that no record has.
 const NOTHING: usize = 65535;
 
@@ -37,16 +40,10 @@ fn words(b: &[u8], at: usize) -> [u64; 16] {
 fn is_after(changed: slotset::Changed, b: &[u8], at: usize) -> bool {
     let set = changed.set;
     let got = set.words;
-    let due = words(b, at);
-    let mut same = changed.number == 0;
-    for j in 0..16usize {
-        if got[j] != due[j] {
-            same = false;
-        }
-    }
-    same
+    changed.number == 0 && same_words(&got, &words(b, at))
 }
 
+// An answer as it is stored: yes or no, a number, a slot or nothing.
 fn told(answer: Told) -> usize {
     match answer {
         Told::Yes => 1,
@@ -144,29 +141,14 @@ fn record_answers(tally: Tally, b: &[u8]) -> Tally {
     change_answers(t, SlotSet { words: ws, len }, b)
 }
 
-// The tally after a record more, and whether there was one.
-struct Turn {
-    tally: Tally,
-    more: bool,
-}
-
-// Reads one record and compares its answers. Part of a record is a damaged file, and counts as a difference.
+// Reads one record and compares its answers.
 fn one_record(tally: Tally) -> Turn {
     let mut b = [0u8; RECORD];
     let got = io::read_full(0, &mut b);
     if got == RECORD {
-        return Turn {
-            tally: record_answers(tally, &b),
-            more: true,
-        };
+        return Turn::whole(record_answers(tally, &b));
     }
-    if got == 0 {
-        return Turn { tally, more: false };
-    }
-    Turn {
-        tally: tally.with(false),
-        more: false,
-    }
+    Turn::last(tally, got)
 }
 
 // Every record of the input. A proved loop has to end, so it counts its turns down from a number that no input uses up.

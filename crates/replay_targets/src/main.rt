@@ -1,9 +1,11 @@
 // Replays stored targets of the Rust: reads records from standard input, works the targets out, and tells how many lists it compared and
 // how many differ. `oracle/store` writes the records (oracle/src/stored.rs has their layout).
 use stored::Tally;
+use stored::Turn;
 use stored::half;
 use stored::plus;
 use stored::quad;
+use stored::quads;
 
 // A record: people, slots, fairness; the slots; who can cover which; the figures; the targets.
 const RECORD: usize = 198;
@@ -25,18 +27,14 @@ const TARGETS_AT: usize = 166;
 // Six numbers at an index.
 fn six(b: &[u8], at: usize) -> [u32; 6] {
     let mut out = [0u32; 6];
-    for j in 0..6usize {
-        out[j] = quad(b, plus(at, 4 * j));
-    }
+    quads(b, at, &mut out);
     out
 }
 
 // Eight numbers at an index.
 fn eight(b: &[u8], at: usize) -> [u32; 8] {
     let mut out = [0u32; 8];
-    for j in 0..8usize {
-        out[j] = quad(b, plus(at, 4 * j));
-    }
+    quads(b, at, &mut out);
     out
 }
 
@@ -109,29 +107,14 @@ fn same_targets(b: &[u8]) -> bool {
     same
 }
 
-// The tally after a record more, and whether there was one.
-struct Turn {
-    tally: Tally,
-    more: bool,
-}
-
-// Reads one record and compares it. Part of a record is a damaged file, and counts as a difference.
+// Reads one record and compares it.
 fn one_record(tally: Tally) -> Turn {
     let mut b = [0u8; RECORD];
     let got = io::read_full(0, &mut b);
     if got == RECORD {
-        return Turn {
-            tally: tally.with(same_targets(&b)),
-            more: true,
-        };
+        return Turn::whole(tally.with(same_targets(&b)));
     }
-    if got == 0 {
-        return Turn { tally, more: false };
-    }
-    Turn {
-        tally: tally.with(false),
-        more: false,
-    }
+    Turn::last(tally, got)
 }
 
 // Every record of the input. A proved loop has to end, so it counts its turns down from a number that no input uses up.

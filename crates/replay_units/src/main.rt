@@ -1,7 +1,8 @@
-// Replays stored answers of the Rust on units: reads records from standard input, asks the library the same, refusals included, and tells how
-// many answers it compared and how many differ. `oracle/store` writes the records (oracle/src/stored_units.rs has their layout).
+// Replays stored answers of the Rust on units: reads records from standard input, asks the library the same, refusals included, and tells
+// how many answers it compared and how many differ. `oracle/store` writes the records (oracle/src/stored_units.rs has their layout).
 use slotset::Told;
 use stored::Tally;
+use stored::Turn;
 use stored::at_most;
 use stored::front_quads;
 use stored::front_shorts;
@@ -24,8 +25,8 @@ use units::Settings;
 use units::UnitSlots;
 ghost use Prim.Native.Nat.{_≤_};
 
-// A record: counts and what is asked; settings; how long each lent column is; the columns, rows and flags; the answers; the columns and lists
-// that come out.
+// A record: counts and what is asked; settings; how long each lent column is; the columns, rows and flags; the answers; the columns and
+// lists that come out.
 const RECORD: usize = 394;
 
 const PEOPLE_AT: usize = 0;
@@ -138,6 +139,7 @@ fn one_row(b: &[u8]) -> [u64; 17] {
     out
 }
 
+// The settings of a record.
 fn settings(b: &[u8]) -> Settings {
     Settings {
         fairness: raw(b, SETTINGS_AT),
@@ -166,6 +168,7 @@ fn refused_minutes(number: u8) -> u64 {
     1000000000000000000 + number as u64
 }
 
+// An answer as it is stored: a number, yes or no, minutes.
 fn counted(answer: Number) -> usize {
     match answer {
         Number::Is(k) => k,
@@ -341,29 +344,14 @@ fn record_answers(tally: Tally, b: &[u8]) -> Tally {
     achievable_answer(t7, b)
 }
 
-// The tally after a record more, and whether there was one.
-struct Turn {
-    tally: Tally,
-    more: bool,
-}
-
-// Reads one record and compares its answers. Part of a record is a damaged file, and counts as a difference.
+// Reads one record and compares its answers.
 fn one_record(tally: Tally) -> Turn {
     let mut b = [0u8; RECORD];
     let got = io::read_full(0, &mut b);
     if got == RECORD {
-        return Turn {
-            tally: record_answers(tally, &b),
-            more: true,
-        };
+        return Turn::whole(record_answers(tally, &b));
     }
-    if got == 0 {
-        return Turn { tally, more: false };
-    }
-    Turn {
-        tally: tally.with(false),
-        more: false,
-    }
+    Turn::last(tally, got)
 }
 
 // Every record of the input. A proved loop has to end, so it counts its turns down from a number that no input uses up.

@@ -1,16 +1,16 @@
 -- The list of all runs, filled run by run: what the reader gives is the next of the list. Assumes nothing.
-use mathlib.Core.Path.{_≡_, refl, sym, ap, ap₂, _∙_, subst}
-use mathlib.Core.Bool.{Bool, true, false, _&&_, cond}
+use mathlib.Core.Path.{_≡_, refl, sym, ap, ap₂, _∙_}
+use mathlib.Core.Bool.{_&&_}
 use mathlib.Core.List.{List, [], _∷_}
 use mathlib.Core.Logic.{_⊎_, inl, inr, ⊎-elim}
 use Prim.Native.Nat.{ℕ, zero, suc, _+_, _-_, _*_, _≤_, _<_}
 use native.Mathlib.Nat.{not-suc-le-zero, le-of-suc-le-suc}
 use native.Mathlib.Omega.{arith}
-use borrow.Author.Tests.{eq-eqb, leb-true, ltb-true}
-use lib.Dec.{eqb, ltb, leb}
+use borrow.Author.Tests.{leb-true}
+use lib.Dec.{ltb, leb}
 use lib.ListN.{length, set, getD, length-set}
 use lib.Seq.{getD-set-same, getD-set-other}
-use Rattle.paper.specs.Limits.{slotsMost, peopleOk, orElse}
+use Rattle.paper.specs.Limits.{slotsMost, peopleOk}
 use Rattle.paper.proofs.Logic.{both, cond-zero}
 use Rattle.slotset.specs.declared.Found.{Found}
 use Rattle.slotset.specs.declared.Found.the-variants as found

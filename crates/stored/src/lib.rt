@@ -1,7 +1,8 @@
 // Reading stored answers: the numbers of a record, low byte first, and the tally of what was compared. The programs `replay_*` use it.
 ghost use mathlib.Core.Path.{_≡_};
-ghost use mathlib.Core.Bool.{cond};
+ghost use mathlib.Core.Bool.{cond, true, false};
 ghost use Prim.Native.Nat.{_+_, _%_, _^_, _<_, _≤_, min};
+ghost use lib.Dec.{eqb};
 ghost use lib.ListN.{getD};
 ghost use Rattle.stored.specs.Numbers.{further, littleAt, fourAfter};
 ghost use Rattle.stored.specs.Columns.{filled, bytesFilled, rowWord, rowsFilled, same, front};
@@ -41,6 +42,35 @@ impl Tally {
     }
 }
 
+// The tally after a turn of a replay, and whether the input may go on.
+pub struct Turn {
+    pub tally: Tally,
+    pub more: bool,
+}
+
+impl Turn {
+    // After a record that came whole.
+    pub fn whole(tally: Tally) -> Turn
+        ensures { λ r. ⌜ (r .tally ≡ tally) × (r .more ≡ true) ⌝ }
+    {
+        Turn { tally, more: true }
+    }
+
+    // After the input ended with `left` bytes that are no whole record: part of a record is a damaged input, and counts as a difference.
+    pub fn last(tally: Tally, left: usize) -> Turn
+        ensures { λ r. ⌜ (r .tally .compared ≡ cond (eqb left 0) (tally .compared) (further (tally .compared) 1))
+            × ((r .tally .differing ≡ cond (eqb left 0) (tally .differing) (further (tally .differing) 1)) × (r .more ≡ false)) ⌝ }
+    {
+        if left == 0 {
+            return Turn { tally, more: false };
+        }
+        Turn {
+            tally: tally.with(false),
+            more: false,
+        }
+    }
+}
+
 // An index k further on: no index of a record is near the end of numbers.
 pub fn plus(at: usize, k: usize) -> usize
     ensures { λ r. ⌜ r ≡ further at k ⌝ }
@@ -48,6 +78,7 @@ pub fn plus(at: usize, k: usize) -> usize
     std::num::wrapping_add_usize(at, k)
 }
 
+// A byte as a u64.
 fn wide(x: u8) -> u64
     ensures { λ r. ⌜ r ≡ x ⌝ }
 {
@@ -81,7 +112,7 @@ fn pair(b: &[u8], at: usize) -> u64
     byte_after(b, at, 0) + 256 * byte_after(b, at, 1)
 }
 
-// The u16 at an index.
+// The u16 at an index, as a count.
 pub fn half(b: &[u8], at: usize) -> usize
     ensures { λ r. ⌜ r ≡ littleAt 2 (now (b .entry)) at ⌝ }
 {
@@ -127,7 +158,7 @@ pub fn word(b: &[u8], at: usize) -> u64
     four_after(b, at, 0) + 4294967296 * four_after(b, at, 4)
 }
 
-// The count of eight bytes at an index.
+// The u64 at an index, as a count.
 pub fn size(b: &[u8], at: usize) -> usize
     ensures { λ r. ⌜ r ≡ littleAt 8 (now (b .entry)) at ⌝ }
 {

@@ -17,43 +17,43 @@ array-share-prefix-kinds : tie.Need-array-share-prefix-kinds
 array-share-prefix-kinds c =
     let m = c .before .before .before .before .before .before in
     let s = m .before .before .before .before .before .before .before .before .before .before in
-    let n : length (s .args .c .kinds) ≡ 1024 = search (needs, s .good .0) in
-    prefix-fits (m .at-most .result) (s .args .c .count) (s .args .c .kinds) (m .at-most .ensures) n .0
+    let n : length (s .args .c .kinds) ≡ 1024 = search (needs, s .good .1 .1 .1 .1 .1 .1 .1 .1 .1 .1 .1 .1 .0) in
+    prefix-fits _ _ (s .args .c .kinds) (m .at-most .ensures) n .0
 
 slice-aggregate-play : tie.Need-slice-aggregate-play
 slice-aggregate-play c =
     let m = c .before .before .before .before .before .before .before in
     let s = m .before .before .before .before .before .before .before .before .before .before in
-    let n : length (s .args .c .kinds) ≡ 1024 = search (needs, s .good .0) in
-    prefix-fits (m .at-most .result) (s .args .c .count) (s .args .c .kinds) (m .at-most .ensures) n .1
+    let n : length (s .args .c .kinds) ≡ 1024 = search (needs, s .good .1 .1 .1 .1 .1 .1 .1 .1 .1 .1 .1 .1 .0) in
+    prefix-fits _ _ (s .args .c .kinds) (m .at-most .ensures) n .1
 
 array-share-prefix-ones : tie.Need-array-share-prefix-ones
 array-share-prefix-ones c =
     let m = c .before .before .before .before .before .before .before in
     let s = m .before .before .before .before .before .before .before .before .before .before in
-    let n : length (s .args .c .ones) ≡ 1024 = search (needs, s .good .0) in
-    prefix-fits (m .at-most .result) (s .args .c .count) (s .args .c .ones) (m .at-most .ensures) n .0
+    let n : length (s .args .c .ones) ≡ 1024 = search (needs, s .good .1 .1 .1 .1 .1 .1 .1 .1 .1 .1 .1 .1 .0) in
+    prefix-fits _ _ (s .args .c .ones) (m .at-most .ensures) n .0
 
 slice-aggregate-play-2 : tie.Need-slice-aggregate-play-2
 slice-aggregate-play-2 c =
     let m = c .before .before .before .before .before .before .before .before in
     let s = m .before .before .before .before .before .before .before .before .before .before in
-    let n : length (s .args .c .ones) ≡ 1024 = search (needs, s .good .0) in
-    prefix-fits (m .at-most .result) (s .args .c .count) (s .args .c .ones) (m .at-most .ensures) n .1
+    let n : length (s .args .c .ones) ≡ 1024 = search (needs, s .good .1 .1 .1 .1 .1 .1 .1 .1 .1 .1 .1 .1 .0) in
+    prefix-fits _ _ (s .args .c .ones) (m .at-most .ensures) n .1
 
 array-share-prefix-twos : tie.Need-array-share-prefix-twos
 array-share-prefix-twos c =
     let m = c .before .before .before .before .before .before .before .before in
     let s = m .before .before .before .before .before .before .before .before .before .before in
-    let n : length (s .args .c .twos) ≡ 1024 = search (needs, s .good .0) in
-    prefix-fits (m .at-most .result) (s .args .c .count) (s .args .c .twos) (m .at-most .ensures) n .0
+    let n : length (s .args .c .twos) ≡ 1024 = search (needs, s .good .1 .1 .1 .1 .1 .1 .1 .1 .1 .1 .1 .1 .0) in
+    prefix-fits _ _ (s .args .c .twos) (m .at-most .ensures) n .0
 
 slice-aggregate-play-3 : tie.Need-slice-aggregate-play-3
 slice-aggregate-play-3 c =
     let m = c .before .before .before .before .before .before .before .before .before in
     let s = m .before .before .before .before .before .before .before .before .before .before in
-    let n : length (s .args .c .twos) ≡ 1024 = search (needs, s .good .0) in
-    prefix-fits (m .at-most .result) (s .args .c .count) (s .args .c .twos) (m .at-most .ensures) n .1
+    let n : length (s .args .c .twos) ≡ 1024 = search (needs, s .good .1 .1 .1 .1 .1 .1 .1 .1 .1 .1 .1 .1 .0) in
+    prefix-fits _ _ (s .args .c .twos) (m .at-most .ensures) n .1
 
 play-requires : tie.Need-play-requires
 play-requires c κs = search needs

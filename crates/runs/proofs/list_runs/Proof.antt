@@ -1,7 +1,7 @@
 -- `runs::list_runs` meets its contract. Assumes nothing.
 use borrow.Author.Needs.{needs}
-use mathlib.Core.Path.{_≡_, sym, ap, _∙_}
-use Prim.Native.Nat.{ℕ, _+_, _-_, _*_, _≤_, _<_}
+use mathlib.Core.Path.{_≡_}
+use Prim.Native.Nat.{_-_, _*_, _≤_}
 use native.Mathlib.Omega.{arith}
 use lib.ListN.{length}
 use Rattle.slotset.specs.Answers.{rowNo, rowSlots}
@@ -36,15 +36,10 @@ enum-known-first c = search needs
 cast-firsts : tie.Need-cast-firsts Inv-loop μ-loop
 cast-firsts c =
     let l = c .before .before .before .before .before in
-    let a = l .before .before .before .before .args in
-    let f = rowSlots (a .words .now) (a .person) in
-    let bits = slot-lt (a .words .now) (16 * a .person) in
     let i = l .loop .inv in
-    let x = c .before .first .given .0 in
-    let e = answered _ f (a .len) (l .loop .at) _ _ (i .0) (c .before .before .before .run-from .ensures) (c .before .first .given .1) in
-    let g = listing-given f bits (a .len) (a .firsts .now) (a .lasts .now) (l .loop .n) (l .loop .at) (l .loop .firsts) (l .loop .lasts)
-    (i .1 .1) (c .before .before .before .before .loop-test .taken) (x .0) (x .1 .0) (x .1 .1 .0) e in
-    record { fits = omega (arith, g .to, g .fits, row-says (a .words .now) (a .people) (a .person) (a .len) (i .0) .short) }
+    let e = answered _ _ _ _ _ _ (i .0) (c .before .before .before .run-from .ensures) (c .before .first .given .1) in
+    let g = listing-given _ (slot-lt _ _) _ _ _ _ _ _ _ (i .1 .1) (c .before .before .before .before .loop-test .taken) _ _ _ e in
+    record { fits = omega (arith, g .to, g .fits, row-says _ _ _ _ (i .0) .short) }
 
 mul-firsts : tie.Need-mul-firsts Inv-loop μ-loop
 mul-firsts c = search needs
@@ -55,15 +50,10 @@ slice-write-firsts c = search needs
 cast-lasts : tie.Need-cast-lasts Inv-loop μ-loop
 cast-lasts c =
     let l = c .before .before .before .before .before in
-    let a = l .before .before .before .before .args in
-    let f = rowSlots (a .words .now) (a .person) in
-    let bits = slot-lt (a .words .now) (16 * a .person) in
     let i = l .loop .inv in
-    let x = c .before .first .given .0 in
-    let e = answered _ f (a .len) (l .loop .at) _ _ (i .0) (c .before .before .before .run-from .ensures) (c .before .first .given .1) in
-    let g = listing-given f bits (a .len) (a .firsts .now) (a .lasts .now) (l .loop .n) (l .loop .at) (l .loop .firsts) (l .loop .lasts)
-    (i .1 .1) (c .before .before .before .before .loop-test .taken) (x .0) (x .1 .0) (x .1 .1 .0) e in
-    record { fits = omega (arith, g .fits, row-says (a .words .now) (a .people) (a .person) (a .len) (i .0) .short) }
+    let e = answered _ _ _ _ _ _ (i .0) (c .before .before .before .run-from .ensures) (c .before .first .given .1) in
+    let g = listing-given _ (slot-lt _ _) _ _ _ _ _ _ _ (i .1 .1) (c .before .before .before .before .loop-test .taken) _ _ _ e in
+    record { fits = omega (arith, g .fits, row-says _ _ _ _ (i .0) .short) }
 
 mul-lasts : tie.Need-mul-lasts Inv-loop μ-loop
 mul-lasts c = search needs
@@ -77,27 +67,17 @@ add-n c = search needs
 loop-less : tie.Need-loop-less Inv-loop μ-loop
 loop-less c =
     let l = c .before .before .before .before .before in
-    let a = l .before .before .before .before .args in
-    let f = rowSlots (a .words .now) (a .person) in
-    let bits = slot-lt (a .words .now) (16 * a .person) in
     let i = l .loop .inv in
-    let x = c .before .first .given .0 in
-    let e = answered _ f (a .len) (l .loop .at) _ _ (i .0) (c .before .before .before .run-from .ensures) (c .before .first .given .1) in
-    let g = listing-given f bits (a .len) (a .firsts .now) (a .lasts .now) (l .loop .n) (l .loop .at) (l .loop .firsts) (l .loop .lasts)
-    (i .1 .1) (c .before .before .before .before .loop-test .taken) (x .0) (x .1 .0) (x .1 .1 .0) e in
+    let e = answered _ _ _ _ _ _ (i .0) (c .before .before .before .run-from .ensures) (c .before .first .given .1) in
+    let g = listing-given _ (slot-lt _ _) _ _ _ _ _ _ _ (i .1 .1) (c .before .before .before .before .loop-test .taken) _ _ _ e in
     omega (arith, g .from, g .to, g .past, c .before .before .before .before .loop-test .taken)
 
 loop-again : tie.Need-loop-again Inv-loop μ-loop
 loop-again c =
     let l = c .before .before .before .before .before in
-    let a = l .before .before .before .before .args in
-    let f = rowSlots (a .words .now) (a .person) in
-    let bits = slot-lt (a .words .now) (16 * a .person) in
     let i = l .loop .inv in
-    let x = c .before .first .given .0 in
-    let e = answered _ f (a .len) (l .loop .at) _ _ (i .0) (c .before .before .before .run-from .ensures) (c .before .first .given .1) in
-    let m = listing-more f bits (a .len) (a .firsts .now) (a .lasts .now) (l .loop .n) (l .loop .at) (l .loop .firsts) (l .loop .lasts)
-    (i .1 .1) (c .before .before .before .before .loop-test .taken) (x .0) (x .1 .0) (x .1 .1 .0) e in
+    let e = answered _ _ _ _ _ _ (i .0) (c .before .before .before .run-from .ensures) (c .before .first .given .1) in
+    let m = listing-more _ (slot-lt _ _) _ _ _ _ _ _ _ (i .1 .1) (c .before .before .before .before .loop-test .taken) _ _ _ e in
     (i .0, (i .1 .0, m))
 
 enum-told : tie.Need-enum-told Inv-loop μ-loop
@@ -112,12 +92,9 @@ same-length-2 c = search needs
 returns : tie.Need-returns Inv-loop μ-loop
 returns c =
     let l = c .before .before .before .before in
-    let a = l .before .before .before .before .args in
-    let f = rowSlots (a .words .now) (a .person) in
-    let bits = slot-lt (a .words .now) (16 * a .person) in
     let i = l .loop .inv in
-    let e = answered _ f (a .len) (l .loop .at) _ _ (i .0) (c .before .before .run-from .ensures) (c .enum-told .given .1) in
-    listing-done f bits (a .len) (a .firsts .now) (a .lasts .now) (l .loop .n) (l .loop .at) (l .loop .firsts) (l .loop .lasts) (i .1 .1) e
+    let e = answered _ _ _ _ _ _ (i .0) (c .before .before .run-from .ensures) (c .enum-told .given .1) in
+    listing-done _ (slot-lt _ _) _ _ _ _ _ _ _ (i .1 .1) e
 
 enum-told-2 : tie.Need-enum-told-2 Inv-loop μ-loop
 enum-told-2 c = search needs
@@ -131,13 +108,9 @@ same-length-4 c = search needs
 returns-2 : tie.Need-returns-2 Inv-loop μ-loop
 returns-2 c =
     let l = c .before .before .before .before in
-    let a = l .before .before .before .before .args in
-    let f = rowSlots (a .words .now) (a .person) in
-    let bits = slot-lt (a .words .now) (16 * a .person) in
     let i = l .loop .inv in
-    let e = answered _ f (a .len) (l .loop .at) _ _ (i .0) (c .before .before .run-from .ensures) (c .enum-told2 .given .1) in
-    listing-refused f bits (a .len) (a .firsts .now) (a .lasts .now) (l .loop .n) (l .loop .at) (l .loop .firsts) (l .loop .lasts)
-    (i .1 .1) _ e
+    let e = answered _ _ _ _ _ _ (i .0) (c .before .before .run-from .ensures) (c .enum-told2 .given .1) in
+    listing-refused _ (slot-lt _ _) _ _ _ _ _ _ _ (i .1 .1) _ e
 
 same-length-5 : tie.Need-same-length-5 Inv-loop μ-loop
 same-length-5 c = search needs
@@ -147,13 +120,7 @@ same-length-6 c = search needs
 
 returns-3 : tie.Need-returns-3 Inv-loop μ-loop
 returns-3 c =
-    let l = c .before in
-    let a = l .before .before .before .before .args in
-    let f = rowSlots (a .words .now) (a .person) in
-    let bits = slot-lt (a .words .now) (16 * a .person) in
-    let i = l .loop .inv in
-    listing-past f bits (a .len) (a .firsts .now) (a .lasts .now) (l .loop .n) (l .loop .at) (l .loop .firsts) (l .loop .lasts) (i .1 .1)
-    (c .loop-test .left)
+    listing-past _ (slot-lt _ _) _ _ _ _ _ _ _ (c .before .loop .inv .1 .1) (c .loop-test .left)
 
 pub list-runs-spec : {M : Type 1} → statement M
 list-runs-spec =
