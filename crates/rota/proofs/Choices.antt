@@ -7,11 +7,10 @@ use Prim.Native.Nat.{ℕ, zero, suc, _≤_, _<_}
 use native.Mathlib.Omega.{arith}
 use borrow.Author.Tests.{eqb-true, eqb-false, leb-true, leb-false}
 use lib.Dec.{eqb, leb}
-use lib.ListN.{length, getD, length-append}
-use Rattle.paper.specs.Count.{among, count, sum}
-use Rattle.paper.proofs.Logic.{by-test, lt-or-ge, below-suc, neither}
-use Rattle.paper.proofs.Count.{among-each, among-at}
-use Rattle.units.proofs.Rising.{among-rises}
+use lib.ListN.{length, getD}
+use Rattle.paper.specs.Count.{among}
+use Rattle.paper.proofs.Logic.{by-test, lt-or-ge, neither}
+use Rattle.paper.proofs.Count.{among-each, among-at, among-count, rises-far}
 use Rattle.rota.specs.declared.Move.{Move}
 use Rattle.rota.specs.declared.Move.the-variants.{Stay}
 use Rattle.rota.specs.Moves.{anyOf, stayIf, picked, onPick, answerOf}

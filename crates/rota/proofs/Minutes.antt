@@ -125,7 +125,7 @@ worked-part-le P o p n h =
 
 pub worked-le : (P : Plan) (o : List ℕ) (p : ℕ) → worked P o p ≤ demandOf (P .slots) (P .starts) (P .ends)
 unfolding worked demandOf
-worked-le P o p = sum-below (P .slots) _ (lengthAt P) (λ k. portion-le (getD o k 0) p (lengthAt P k))
+worked-le P o p = sum-mono (P .slots) _ (lengthAt P) (λ k l. portion-le (getD o k 0) p (lengthAt P k))
 
 -- ---- a stretch changes hands
 

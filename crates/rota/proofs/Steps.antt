@@ -12,7 +12,7 @@ use lib.Seq.{getD-set-same, getD-set-other, ext-getD}
 use Rattle.paper.specs.Limits.{nobody}
 use Rattle.paper.specs.Count.{over, fill, sum}
 use Rattle.paper.proofs.Logic.{by-test, lt-or-ge}
-use Rattle.paper.proofs.Count.{length-over, getD-over, getD-over-out, length-fill, getD-fill-in, getD-fill-out}
+use Rattle.paper.proofs.Count.{sum-rises, over-again, over-right, length-over, getD-over, getD-over-out, length-fill, getD-fill-in, getD-fill-out}
 use Rattle.slotset.proofs.Puts.{Fit}
 use Rattle.slots.specs.Lent.{demandOf, minutesAt}
 use Rattle.slotset.specs.Slots.{valueOf}
@@ -20,7 +20,7 @@ use Rattle.slotset.specs.Answers.{rowNo, rowStretchNo, rowStretchOf, wordsAs}
 use Rattle.paper.specs.Limits.{peopleOk}
 use Rattle.rota.specs.Derived.{Plan, PlanSound, knownBy, portion, worked, Derived, derived, afresh, InStep, setFor}
 use Rattle.rota.specs.Derived.{lessAt, moreAt, stretchMinutes, lengthAt, HandedOver}
-use Rattle.rota.proofs.Minutes.{known-below, portion-own, portion-other, worked-over, worked-le, sum-rises}
+use Rattle.rota.proofs.Minutes.{known-below, portion-own, portion-other, worked-over, worked-le}
 use Rattle.rota.proofs.Sets.{length-sets, sets-fit, sets-in, sets-again, sets-same, sets-handed}
 
 -- ---- worked out afresh

@@ -26,7 +26,7 @@ use Rattle.units.specs.Domains.{available, able, domain, slotDomain, uni
 use Rattle.units.specs.Domains.{isNothing, ableIn, clearIn, DomainRoom}
 use Rattle.units.specs.Domains.{unitFrozenNo, slotDomainNo, domainNo, unitDomainNo, unitMask, unitDomainsNo, unitDomainsIs}
 use Rattle.units.specs.Striking.{foundOr, FirstNot, MaskRoom}
-use Rattle.units.proofs.Units.{unit-within}
+use Rattle.units.proofs.Units.{units-room, unit-within}
 
 -- ---- one slot is a stretch
 
@@ -313,6 +313,23 @@ unit-domains-say av people slots units firsts masks z =
       right = s .4;
       room = leb-true units (length masks) (s .3);
     }
+
+-- nothing stands against the masks of all units where the counts, the rooms and the units are right
+pub domains-asked : (av : List ℕ) (people slots units : ℕ) (firsts masks : List ℕ) → 1 ≤ people → people ≤ 32 → 1 ≤ slots → slots ≤ 1024
+    → 16 * people ≤ length av → unitsOk slots units firsts ≡ true → units ≤ length masks
+    → unitDomainsNo av people slots units firsts masks ≡ 0
+unfolding unitDomainsNo peopleOk slotCountOk
+domains-asked av people slots units firsts masks a b c d words ok room =
+    simp (
+      le-leb 1 people a,
+      le-leb people 32 b,
+      le-leb 1 slots c,
+      le-leb slots 1024 d,
+      le-leb (16 * people) (length av) words,
+      le-leb units (length firsts) (units-room slots units firsts ok),
+      le-leb units (length masks) room,
+      ok,
+    )
 
 -- everybody's masks, by the number
 module _ (av : List ℕ) (people slots units : ℕ) (firsts old : List ℕ) (n : ℕ) (e : n ≡ unitDomainsNo av people slots units firsts old) where

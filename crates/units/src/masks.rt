@@ -48,7 +48,10 @@ fn next_had(avail: &[u64], people: usize, person: usize, slots: usize, at: usize
     requires { ⌜ (rowNo (now avail) people person slots ≡ 0) × (at ≤ slots) ⌝ }
     ensures { λ r. ⌜ FirstNot (λ k. not (available (now (avail .entry)) person k)) at slots r ⌝ }
 {
-    found_or(slots, slotset::row::next_set(avail, people, person, slots, at))
+    found_or(
+        slots,
+        slotset::row::next_set(avail, people, person, slots, at),
+    )
 }
 
 // The unit of a slot, looked for from unit u on, which starts at or before it.

@@ -24,8 +24,7 @@ next-had-requires : tie.Need-next-had-requires Inv-loop μ-loop
 next-had-requires c κs =
     let pre = c .before .before .before .pre in
     let R = pre .0 in
-    let I = pre .1 .0 .1 in
-    (
+    let I = pre .1 .0 .1 in (
       row-ok _ _ _ _ (pre .1 .0 .0) (people-says _ (R .counted) .1) (R .short) (R .words),
       omega (arith, I .to, unit-within _ _ _ (R .right) _ (I .known)),
     )
@@ -94,8 +93,7 @@ loop-again c =
     let F = b4 .before .next-had .ensures in
     let f = lacks-unit _ _ _ _ (R .right) _ _ _ _ _ (pre .1 .0 .1) (pre .1 .0 .2) (F .each) (b4 .loop .inv .0) (c .before .before .before .loop-test .taken)
     (c .before .if1 .taken) in
-    let bit = one-bit _ _ h (people-says _ (R .counted) .1) in
-    (
+    let bit = one-bit _ _ h (people-says _ (R .counted) .1) in (
       omega (arith, b4 .loop .inv .0),
       omega arith,
       strike-unit _ _ _ _ _ (R .right) _ _ _ _ _ (R .room) (b4 .loop .inv .2) (c .before .before .before .loop-test .taken) h bit f,

@@ -34,16 +34,14 @@ cast-next-gap c = omega (arith, c .shared-slice-known3 .given (c .before .before
 next-gap-requires : tie.Need-next-gap-requires Inv-loop μ-loop
 next-gap-requires c κs =
     let pre = c .before .before .before .before .before .before .pre in
-    let R = pre .0 in
-    (
+    let R = pre .0 in (
       row-ok _ _ _ _ (pre .1 .0) (people-says _ (R .counted) .1) (R .short) (R .words),
       omega (arith, starts-below _ _ _ (R .right) _ (c .before .loop-test .taken)),
     )
 
 unit-from-requires : tie.Need-unit-from-requires Inv-loop μ-loop
 unit-from-requires c κs =
-    let b4 = c .before .before .before .before in
-    (
+    let b4 = c .before .before .before .before in (
       b4 .before .before .before .before .pre .0 .right,
       c .before .before .before .loop-test .taken,
       c .before .next-gap .ensures .from,
@@ -57,8 +55,7 @@ strike-requires c κs =
     let at = b4 .before .before .loop in
     let G = c .before .before .before .next-gap .ensures in
     let U = c .before .unit-from .ensures in
-    let skip = skip-to-gap _ _ _ _ _ (pre .0 .right) _ _ _ _ (G .each) _ (U .1) (U .0) in
-    (
+    let skip = skip-to-gap _ _ _ _ _ (pre .0 .right) _ _ _ _ (G .each) _ (U .1) (U .0) in (
       room-kept _ _ _ _ _ _ _ _ _ (at .inv .1) (pre .0),
       ((pre .1 .0, U .0, G .fails (c .before .before .if1 .taken)), strikes-held _ _ _ _ _ _ _ _ _ _ (at .inv .1) skip),
     )

@@ -33,8 +33,7 @@ strike-person-requires c κs =
     let b4 = c .before .before .before .before in
     let e = c .before .before .loop .inv .1 in
     let full = b4 .before .fill-masks .ensures ∙ strikes-begin _ _ _ _ _ _ in
-    let R = b4 .before .before .before .before .before .before .pre in
-    (
+    let R = b4 .before .before .before .before .before .before .pre in (
       room-kept _ _ _ _ _ _ _ _ _ e (room-kept _ _ _ _ _ _ _ _ _ full R),
       (c .before .loop-test .taken, strikes-held _ _ _ _ _ _ _ _ _ _ e refl),
     )
