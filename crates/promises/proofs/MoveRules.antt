@@ -8,8 +8,8 @@ use Rattle.rota.specs.Moves.{firstOf, lastOf}
 use Rattle.rota.specs.Plays.{drawsOf}
 use Rattle.rota.specs.Entries.{Outcome}
 use Rattle.rota.specs.Acts as acts
-use Rattle.rota.proofs.Acts.{run-of}
 use Rattle.rota.proofs.Runs.{run-only}
+use Rattle.rota.proofs.Acts.{run-of}
 use Rattle.rota.proofs.Drawn.{draw-acts-exactly, handed-exactly}
 use Rattle.rota.proofs.HandsOver.{draw-keeps}
 use Rattle.rota.proofs.Promises.{answers-exactly, next-hands-over}

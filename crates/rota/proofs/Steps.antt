@@ -12,33 +12,18 @@ use lib.Seq.{getD-set-same, getD-set-other, ext-getD}
 use Rattle.paper.specs.Limits.{nobody}
 use Rattle.paper.specs.Count.{over, fill, sum}
 use Rattle.paper.proofs.Logic.{by-test, lt-or-ge}
-use Rattle.paper.proofs.Count.{length-over, getD-over, getD-over-out, length-fill, getD-fill-in, getD-fill-out}
+use Rattle.paper.proofs.Count.{sum-rises, sum-in-none, sum-in-more, sum-in-le, over-again, over-right, length-over, getD-over, getD-over-out}
+use Rattle.paper.proofs.Count.{length-fill, getD-fill-in, getD-fill-out}
 use Rattle.slotset.proofs.Puts.{Fit}
 use Rattle.slots.specs.Lent.{demandOf, minutesAt}
 use Rattle.slotset.specs.Answers.{rowNo, rowStretchNo, rowStretchOf, wordsAs}
 use Rattle.paper.specs.Limits.{peopleOk}
 use Rattle.rota.specs.Derived.{Plan, PlanSound, knownBy, portion, worked, Derived, derived, afresh, InStep, setFor}
 use Rattle.rota.specs.Derived.{lessAt, moreAt, stretchMinutes, lengthAt, HandedOver}
-use Rattle.rota.proofs.Minutes.{known-below, portion-own, portion-other, worked-over, worked-le, sum-rises}
+use Rattle.rota.proofs.Minutes.{known-below, portion-own, portion-other, worked-over, worked-le}
 use Rattle.rota.proofs.Sets.{length-sets, sets-fit, sets-in, sets-again, sets-same, sets-handed}
 
 -- ---- worked out afresh
-
-pub over-again : (f g : ℕ → ℕ) (n : ℕ) (m : List ℕ) → over g n (over f n m) ≡ over g n m
-over-again f g n m =
-    ext-getD 0 (over g n (over f n m)) (over g n m)
-    (length-over g n (over f n m) ∙ length-over f n m ∙ sym (length-over g n m))
-    (λ j r.
-    let rm : j < length m = omega (arith, length-over g n (over f n m), length-over f n m) in
-    ⊎-elim
-    (λ (t : j < n). getD-over g n (over f n m) j t (omega (arith, length-over f n m)) ∙ sym (getD-over g n m j t rm))
-    (λ (u : n ≤ j). getD-over-out g n (over f n m) j u ∙ getD-over-out f n m j u ∙ sym (getD-over-out g n m j u))
-    (lt-or-ge j n))
-
-over-right : (f : ℕ → ℕ) (n : ℕ) (m : List ℕ) → ((j : ℕ) → j < n → getD m j 0 ≡ f j) → m ≡ over f n m
-over-right f n m h =
-    ext-getD 0 m (over f n m) (sym (length-over f n m))
-    (λ j r. ⊎-elim (λ (t : j < n). h j t ∙ sym (getD-over f n m j t r)) (λ (u : n ≤ j). sym (getD-over-out f n m j u)) (lt-or-ge j n))
 
 -- what is worked out afresh forgets what was there before
 pub afresh-again : (P : Plan) (o o′ : List ℕ) (D : Derived) → P .slots ≤ 1024 → 16 * P .people ≤ length (D .sets) → Fit (D .sets)
@@ -257,32 +242,22 @@ pub row-none : (v w a e : ℕ) (ws : List ℕ) → w ≡ nobody → ws ≡ setFo
 unfolding setFor
 row-none v w a e ws h = simp (eq-eqb w nobody h)
 
-sum-after : (a n : ℕ) (f : ℕ → ℕ) → sum a f + sum n (λ j. f (a + j)) ≡ sum (a + n) f
-unfolding sum
-sum-after a zero f = let e : a + 0 ≡ a = omega arith in omega (arith, ap (λ (x : ℕ). sum x f) e)
-sum-after a (suc n) f = let e : a + suc n ≡ suc (a + n) = omega arith in omega (arith, sum-after a n f, ap (λ (x : ℕ). sum x f) e)
-
 pub stretch-le : (P : Plan) (a e : ℕ) → a ≤ e → e ≤ P .slots → stretchMinutes P a e ≤ demandOf (P .slots) (P .starts) (P .ends)
 unfolding stretchMinutes demandOf
 stretch-le P a e h g =
-    let x : a + (e - a) ≡ e = omega arith in
     let y : e + (P .slots - e) ≡ P .slots = omega arith in
     omega (
       arith,
-      sum-after a (e - a) (lengthAt P),
-      ap (λ (z : ℕ). sum z (lengthAt P)) x,
+      sum-in-le a e (lengthAt P) h,
       sum-rises e (P .slots - e) (lengthAt P),
       ap (λ (z : ℕ). sum z (lengthAt P)) y,
     )
 
 pub stretch-none : (P : Plan) (a : ℕ) → 0 ≡ stretchMinutes P a a
-unfolding stretchMinutes sum
-stretch-none P a = let z : a - a ≡ 0 = omega arith in sym (ap (λ (n : ℕ). sum n (λ j. lengthAt P (a + j))) z)
+unfolding stretchMinutes
+stretch-none P a = sym (sum-in-none a (lengthAt P))
 
 pub stretch-more : (P : Plan) (a k t m : ℕ) → a ≤ k → t ≡ stretchMinutes P a k → m ≡ minutesAt (P .starts) (P .ends) k → t + m ≡
     stretchMinutes P a (k + 1)
-unfolding stretchMinutes sum
-stretch-more P a k t m h p q =
-    let z : k + 1 - a ≡ suc (k - a) = omega arith in
-    let y : a + (k - a) ≡ k = omega arith in
-    omega (arith, p, q, ap (λ (n : ℕ). sum n (λ j. lengthAt P (a + j))) z, ap (lengthAt P) y)
+unfolding stretchMinutes
+stretch-more P a k t m h p q = omega (arith, p, q, sum-in-more a k (lengthAt P) h)
