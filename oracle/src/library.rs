@@ -38,9 +38,10 @@ pub fn ask(question: &Question) -> io::Result<Outcome> {
 // ---- the exported functions
 
 /// The names of all that the library exports, by the binding's declarations.
-pub fn exports() -> impl Iterator<Item = &'static str> {
-    let declared = include_str!("../../bindings/rust/src/sys.rs").lines();
-    declared.filter_map(|line| line.trim_start().strip_prefix("pub fn ")?.split('(').next())
+pub fn exports() -> impl Iterator<Item = String> {
+    let declared = include_str!("../../bindings/rust/src/lent.rs").lines();
+    let name = |line: &str| line.strip_prefix("    pub fn ")?.split('(').next().map(|name| format!("boltraven_{name}"));
+    declared.filter_map(name)
 }
 
 /// Every function, one after the other: how its answer is said as a number, its name, and what each of its arguments is.

@@ -250,7 +250,7 @@ fn compare(n: u64, run: u64, wanted: &str) -> std::io::Result<u64> {
 
 /// Whether every function that the library exports was asked.
 fn every_export_in(functions: &BTreeSet<&str>) -> std::io::Result<()> {
-    let left: Vec<&str> = library::exports().filter(|name| !functions.contains(name)).collect();
+    let left: Vec<String> = library::exports().filter(|name| !functions.contains(name.as_str())).collect();
     if left.is_empty() {
         println!("exports: all {} were asked", functions.len());
         return Ok(());

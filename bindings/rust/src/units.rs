@@ -9,6 +9,9 @@ use crate::set::SlotSet;
 use crate::settings::Settings;
 use crate::slots::Slots;
 
+/// What `lent` has for the starts of units and of rotations.
+type StartsOf = fn(u8, u8, u8, u16, u16, usize, &[u32], &[u32], &mut [u16]) -> Result<usize, Refusal>;
+
 /// Slots in neighbouring stretches: rotations, or the units that a play moves whole.
 ///
 /// ```
@@ -31,48 +34,34 @@ pub struct Units {
 impl Units {
     /// The units: locked, each rotation is one; otherwise each slot. Refusal 7.
     pub fn new(settings: Settings, slots: &Slots) -> Result<Self, Refusal> {
-        let n = settings.numbers();
-        let mut firsts = vec![0; slots.len()];
-        let (starts, ends) = (slots.starts(), slots.ends());
-        let count = lent::unit_starts(
-            n.fairness,
-            n.lock,
-            n.boundary,
-            n.value,
-            n.days,
-            slots.len(),
-            starts,
-            ends,
-            &mut firsts,
-        )?;
-        Ok(Self::made(firsts, count, slots))
+        Self::begun(lent::unit_starts, settings, slots)
     }
 
     /// The rotations. Refusal 7.
     pub fn rotations(settings: Settings, slots: &Slots) -> Result<Self, Refusal> {
+        Self::begun(lent::rotation_starts, settings, slots)
+    }
+
+    /// Those that begin where `starts_of` says.
+    fn begun(starts_of: StartsOf, settings: Settings, slots: &Slots) -> Result<Self, Refusal> {
         let n = settings.numbers();
         let mut firsts = vec![0; slots.len()];
-        let (starts, ends) = (slots.starts(), slots.ends());
-        let count = lent::rotation_starts(
+        let count = starts_of(
             n.fairness,
             n.lock,
             n.boundary,
             n.value,
             n.days,
             slots.len(),
-            starts,
-            ends,
+            slots.starts(),
+            slots.ends(),
             &mut firsts,
         )?;
-        Ok(Self::made(firsts, count, slots))
-    }
-
-    fn made(mut firsts: Vec<u16>, count: usize, slots: &Slots) -> Self {
         firsts.truncate(count);
-        Self {
+        Ok(Self {
             firsts,
             slots: slots.len(),
-        }
+        })
     }
 
     /// How many there are.
