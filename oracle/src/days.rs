@@ -40,7 +40,6 @@ fn minutes_of_day(day: i64) -> impl Iterator<Item = i64> {
 fn day_questions(day: i64) -> Vec<Question> {
     let question = |function, argument: i64, due: i64| Question {
         function,
-        result_size: 4,
         args: vec![Arg::Number(argument as u64)],
         due: Outcome {
             result: due as u64,

@@ -4,7 +4,6 @@ use std::{fs, io};
 
 use on_call::model::problem::Problem;
 use on_call::model::Assignment;
-use on_call::search::moves::MoveGenerator;
 
 use crate::call::{bytes16, bytes32, bytes64, Arg, Outcome, Question};
 use crate::days::{instant, MINUTES_MOST};
@@ -12,7 +11,7 @@ use crate::job_faults::{at_the_limit, some_faults, with_faults};
 use crate::job_files::{file_of, listing_of, Record, BASE, DRAW, DRAWS_MOST, FREEZE, OWNER, PERSON, RANGE, SETTINGS};
 use crate::library;
 use crate::problems::{problem_case, slots_of, Person, ProblemCase, Range, Settings};
-use crate::rotas::{draws, owners, played, step, Draw, Played, NOBODY};
+use crate::rotas::{draws, owners, play, played, Draw, Played, NOBODY};
 use crate::seed::Seed;
 use crate::sets::{PEOPLE_MOST, SLOTS_MOST};
 
@@ -169,12 +168,7 @@ impl JobCase {
 
     fn play(&self, problem: &Problem) -> Played {
         let mut assignment = self.assignment(problem);
-        let generator = MoveGenerator::new();
-        let answers = self
-            .draws
-            .iter()
-            .map(|&draw| step(problem, &mut assignment, &generator, draw))
-            .collect();
+        let answers = play(problem, &mut assignment, &self.draws);
         played(problem, &assignment, answers)
     }
 }
@@ -258,7 +252,6 @@ fn question(seed: &mut Seed, file: Vec<u8>, room: usize) -> Question {
     }
     Question {
         function: "boltraven_run_job",
-        result_size: 1,
         args: vec![Arg::Lent(1, file), Arg::LentMut(1, before), Arg::Out(was)],
         due: Outcome {
             result: number,

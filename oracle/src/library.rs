@@ -14,11 +14,6 @@ pub fn ask(question: &Question) -> io::Result<Outcome> {
     let mut args = Args { left: passed.iter_mut() };
     let result = call(question.function, &mut args);
     assert!(args.left.next().is_none(), "{} has fewer arguments", question.function);
-    assert!(
-        result >> 1 >> (8 * question.result_size - 1) == 0,
-        "{} has a wider result",
-        question.function
-    );
     let mut written = Vec::new();
     for Passed { arg, lent } in &passed {
         let Some(buffer) = lent else { continue };
@@ -40,8 +35,8 @@ pub fn ask(question: &Question) -> io::Result<Outcome> {
 /// The names of all that the library exports, by the binding's declarations.
 pub fn exports() -> impl Iterator<Item = String> {
     let declared = include_str!("../../bindings/rust/src/lent.rs").lines();
-    let name = |line: &str| line.strip_prefix("    pub fn ")?.split('(').next().map(|name| format!("boltraven_{name}"));
-    declared.filter_map(name)
+    let names = declared.filter_map(|line| line.strip_prefix("    pub fn ")?.split('(').next());
+    names.map(|name| format!("boltraven_{name}"))
 }
 
 /// Every function, one after the other: how its answer is said as a number, its name, and what each of its arguments is.

@@ -347,6 +347,13 @@ pub fn problem_case(seed: &mut Seed) -> ProblemCase {
     }
 }
 
+/// A whole problem with what the Rust makes of it, unless it has more than 1,024 atomic slots.
+pub fn problem_within(seed: &mut Seed) -> Option<(ProblemCase, Problem)> {
+    let case = problem_case(seed);
+    let problem = case.rust();
+    (problem.slot_count() <= SLOTS_MOST).then_some((case, problem))
+}
+
 #[cfg(test)]
 mod tests {
     use super::problem_case;

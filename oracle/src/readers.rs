@@ -1,7 +1,7 @@
 //! Single questions of slots, units and owners, with numbers past their counts among them.
 
 use crate::call::{bytes16, bytes64, Arg, Outcome, Question};
-use crate::rotas::{Lent, RotaCase, NOBODY};
+use crate::rotas::{LentRota, RotaCase, NOBODY};
 use crate::seed::Seed;
 
 /// What an answer by one number adds to the number of a refusal.
@@ -27,7 +27,6 @@ fn beside(function: &'static str, mut args: Vec<Arg>, seed: &mut Seed, due: Opti
     let written = due.unwrap_or(was);
     Question {
         function,
-        result_size: 1,
         args,
         due: Outcome {
             result,
@@ -37,7 +36,7 @@ fn beside(function: &'static str, mut args: Vec<Arg>, seed: &mut Seed, due: Opti
 }
 
 /// The owner of a slot, a person's minutes, who can cover a slot, a slot's unit, a unit's slots, and minutes of one and of all slots.
-pub fn questions(seed: &mut Seed, case: &RotaCase, lent: &Lent) -> Vec<Question> {
+pub fn questions(seed: &mut Seed, case: &RotaCase, lent: &LentRota) -> Vec<Question> {
     let problem = &case.problem;
     let assignment = case.assignment(&case.owners);
     let (slots, people, units) = (problem.slot_count(), lent.people, lent.units);
@@ -76,7 +75,6 @@ pub fn questions(seed: &mut Seed, case: &RotaCase, lent: &Lent) -> Vec<Question>
         beside("boltraven_demand", slots_args, seed, Some(vec![problem.total_demand() as u64]), 1),
         Question {
             function: "boltraven_unit_of_slot",
-            result_size: 8,
             args: one(&units_args, slot),
             due: Outcome {
                 result: problem.unit_of_slot.get(slot).map_or(REFUSED + OUTSIDE, |&unit| unit as u64),
@@ -88,7 +86,7 @@ pub fn questions(seed: &mut Seed, case: &RotaCase, lent: &Lent) -> Vec<Question>
 }
 
 /// The ascending list of people who can cover a slot.
-fn slot_domain(seed: &mut Seed, case: &RotaCase, lent: &Lent, slot: usize) -> Question {
+fn slot_domain(seed: &mut Seed, case: &RotaCase, lent: &LentRota, slot: usize) -> Question {
     let before: Vec<u8> = (0..lent.people + seed.below(2) as usize).map(|_| seed.word() as u8).collect();
     let mut after = before.clone();
     let domain = case.problem.domains.get(slot);
@@ -97,7 +95,6 @@ fn slot_domain(seed: &mut Seed, case: &RotaCase, lent: &Lent, slot: usize) -> Qu
     }
     Question {
         function: "boltraven_slot_domain",
-        result_size: 8,
         args: vec![
             Arg::Lent(8, bytes64(&lent.avail)),
             Arg::Number(lent.people as u64),

@@ -219,7 +219,6 @@ impl Row {
         args.extend(more.iter().map(|&n| Arg::Number(n as u64)));
         Question {
             function,
-            result_size: 8,
             args,
             due: Outcome { result, written: vec![] },
         }
@@ -234,7 +233,6 @@ impl Row {
         let written = due.unwrap_or_else(|| outs.to_vec());
         Question {
             function,
-            result_size: 8,
             args,
             due: Outcome {
                 result,
@@ -253,7 +251,6 @@ impl Row {
         }
         Question {
             function,
-            result_size: 1,
             args,
             due: Outcome {
                 result: number,

@@ -7,9 +7,9 @@ use crate::days::{instant, MINUTES_MOST};
 use crate::problems::{availability_into, problem_case, put_bit, slots_of, ProblemCase, Range};
 use crate::seed::Seed;
 use crate::sets::{SET_WORDS, SLOTS_MOST};
-use crate::splitting::{merged_of, Lent};
+use crate::splitting::{merged_of, LentProblem};
 use crate::stored::{filled16, filled32, half, words, Stored};
-use crate::table::{lowest, people_ok, words_ok, Slots};
+use crate::table::{lowest, people_ok, words_ok, Ranges, Slots};
 
 /// Entries of a record's columns: base slots, ranges (of which one stays free), atomic slots, people.
 const BASE: usize = 8;
@@ -57,7 +57,7 @@ pub fn slots(n: u64, run: u64) -> Stored {
 /// What is lent and asked.
 struct Asked {
     base: Slots,
-    ranges: Lent,
+    ranges: Ranges,
     atoms: Slots,
     person: usize,
     slot: usize,
@@ -69,15 +69,11 @@ struct Asked {
 
 impl Asked {
     fn new(seed: &mut Seed, case: &ProblemCase, problem: &Problem) -> Self {
-        let ranges = Lent::new(case);
+        let LentProblem { base, ranges } = LentProblem::new(case);
         let (starts, ends) = slots_of(problem);
         let count = starts.len();
         Self {
-            base: Slots {
-                count: ranges.slots,
-                starts: ranges.starts.clone(),
-                ends: ranges.ends.clone(),
-            },
+            base,
             atoms: Slots { count, starts, ends },
             person: seed.below(ranges.people as u64) as usize,
             slot: seed.below(count as u64) as usize,
@@ -112,35 +108,31 @@ impl Asked {
         }
     }
 
-    fn ranges_ok(&self) -> bool {
-        !self.ranges.counts_ok() || !self.ranges.range_room_ok() || self.ranges.ranges_ok()
-    }
-
     fn merged_no(&self) -> u64 {
         let room = self.merged_room.iter().all(|&room| self.ranges.count <= room);
         lowest(&[
-            (1, self.ranges.counts_ok()),
-            (2, self.ranges.range_room_ok() && room),
-            (4, self.ranges_ok()),
+            (1, self.ranges.count_ok()),
+            (2, self.ranges.room_ok() && room),
+            (4, self.ranges.ok()),
         ])
     }
 
     fn atoms_no(&self) -> u64 {
         let room = self.atom_room.iter().all(|&room| SLOTS_MOST <= room);
         lowest(&[
-            (1, self.ranges.counts_ok() && self.base.count_ok()),
-            (2, self.ranges.range_room_ok() && self.base.room_ok() && room),
+            (1, self.ranges.count_ok() && self.base.count_ok()),
+            (2, self.ranges.room_ok() && self.base.room_ok() && room),
             (3, self.base.ok()),
-            (4, self.ranges_ok()),
+            (4, self.ranges.ok()),
         ])
     }
 
     fn availability_no(&self) -> u64 {
         let room = words_ok(self.ranges.people, self.words);
         lowest(&[
-            (1, self.ranges.counts_ok() && self.atoms.count_ok()),
-            (2, self.ranges.range_room_ok() && self.atoms.room_ok() && room),
-            (4, self.ranges_ok()),
+            (1, self.ranges.count_ok() && self.atoms.count_ok()),
+            (2, self.ranges.room_ok() && self.atoms.room_ok() && room),
+            (4, self.ranges.ok()),
             (9, self.atoms.ok()),
         ])
     }

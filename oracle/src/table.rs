@@ -5,6 +5,9 @@ use crate::problems::Settings;
 use crate::seed::Seed;
 use crate::sets::{PEOPLE_MOST, SET_WORDS, SLOTS_MOST};
 
+/// The most ranges.
+const RANGES_MOST: usize = 1024;
+
 /// The lowest number of the rules that are broken, or 0 where all are kept.
 pub fn lowest(rules: &[(u64, bool)]) -> u64 {
     let broken = rules.iter().filter(|rule| !rule.1);
@@ -72,6 +75,39 @@ impl Slots {
             4 if k > 0 => self.starts[k] = self.ends[k - 1].saturating_sub(1),
             _ => self.ends[k] = MINUTES_MOST as u32 + 1 + seed.below(1000) as u32,
         }
+    }
+}
+
+/// Everybody's ranges as they are lent, in three columns.
+#[derive(Debug, Clone)]
+pub struct Ranges {
+    pub people: usize,
+    pub count: usize,
+    pub persons: Vec<u16>,
+    pub opens: Vec<u32>,
+    pub shuts: Vec<u32>,
+}
+
+impl Ranges {
+    /// 1: the count of people, and of ranges.
+    pub fn count_ok(&self) -> bool {
+        people_ok(self.people) && self.count <= RANGES_MOST
+    }
+
+    /// 2: as many entries in each column as the count says.
+    pub fn room_ok(&self) -> bool {
+        self.count <= self.persons.len().min(self.opens.len()).min(self.shuts.len())
+    }
+
+    /// 4: none reversed, none after the last minute, none of an unknown person. Asked only where there is room.
+    pub fn ok(&self) -> bool {
+        if !self.count_ok() || !self.room_ok() {
+            return true;
+        }
+        (0..self.count).all(|k| {
+            let is_range = self.opens[k] <= self.shuts[k] && i64::from(self.shuts[k]) <= MINUTES_MOST;
+            is_range && usize::from(self.persons[k]) < self.people
+        })
     }
 }
 

@@ -50,7 +50,6 @@ impl Lent {
         after[..targets.len()].copy_from_slice(targets);
         Question {
             function: "boltraven_compute_targets",
-            result_size: 1,
             args: vec![
                 Arg::Number(self.people as u64),
                 Arg::Number(self.slots as u64),

@@ -5,16 +5,15 @@ use on_call::model::problem::Problem;
 use crate::call::{bytes16, bytes32, bytes64, Arg, Outcome, Question};
 use crate::days::instant;
 use crate::lent_units::{lent, DueUnits, LentUnits};
-use crate::problems::{availability_into, problem_case, put_bit, slots_of, unit_starts_of};
+use crate::problems::{availability_into, problem_within, put_bit, slots_of, unit_starts_of};
 use crate::rotations::settings_args;
 use crate::seed::Seed;
-use crate::sets::{NOTHING, SET_WORDS, SLOTS_MOST};
+use crate::sets::{NOTHING, SET_WORDS};
 
 /// A call that is answered by a number alone.
 fn number(function: &'static str, args: Vec<Arg>, result: u64) -> Question {
     Question {
         function,
-        result_size: 8,
         args,
         due: Outcome { result, written: vec![] },
     }
@@ -25,7 +24,6 @@ fn minutes(function: &'static str, mut args: Vec<Arg>, was: u64, due: i64) -> Qu
     args.push(Arg::Out(was));
     Question {
         function,
-        result_size: 1,
         args,
         due: Outcome {
             result: 0,
@@ -37,12 +35,10 @@ fn minutes(function: &'static str, mut args: Vec<Arg>, was: u64, due: i64) -> Qu
 /// Covered days, minutes a day, target and achievable runs, each unit's domain, and freezing at an instant.
 pub fn questions(case_seed: u64) -> Vec<Question> {
     let mut seed = Seed::new(case_seed);
-    let mut case = problem_case(&mut seed);
-    let problem = case.rust();
-    let count = problem.slot_count();
-    if count > SLOTS_MOST {
+    let Some((mut case, problem)) = problem_within(&mut seed) else {
         return vec![];
-    }
+    };
+    let count = problem.slot_count();
     let people = problem.human_count();
     let (starts, ends) = slots_of(&problem);
     let lent_slots = vec![
@@ -100,7 +96,6 @@ fn domains(seed: &mut Seed, problem: &Problem, avail: &[u64]) -> Vec<Question> {
         }
         asked.push(Question {
             function: "boltraven_unit_domain",
-            result_size: 8,
             args: vec![
                 Arg::Lent(8, bytes64(avail)),
                 Arg::Number(people as u64),
@@ -154,7 +149,6 @@ fn freezing(seed: &mut Seed, mut problem: Problem, lent_slots: &[Arg]) -> Vec<Qu
     args.extend([Arg::LentMut(8, bytes64(&before)), Arg::Number(u64::from(at))]);
     let mut asked = vec![Question {
         function: "boltraven_freeze_before",
-        result_size: 8,
         args,
         due: Outcome {
             result: frozen as u64,
@@ -183,11 +177,9 @@ fn freezing(seed: &mut Seed, mut problem: Problem, lent_slots: &[Arg]) -> Vec<Qu
 /// its concern, gives the Rust's answer.
 pub fn damaged(case_seed: u64) -> Vec<Question> {
     let mut seed = Seed::new(case_seed);
-    let case = problem_case(&mut seed);
-    let problem = case.rust();
-    if problem.slot_count() > SLOTS_MOST {
+    let Some((case, problem)) = problem_within(&mut seed) else {
         return vec![];
-    }
+    };
     let (mut asked, due) = lent(&mut seed, &case, problem);
     for _ in 0..seed.within(1, 2) {
         asked.damage(&mut seed);
@@ -297,7 +289,6 @@ fn list(function: &'static str, mut args: Vec<Arg>, size: usize, before: Vec<u8>
     args.push(Arg::LentMut(size, before));
     Question {
         function,
-        result_size: 8,
         args,
         due: Outcome {
             result: heard(number, count as u64),
