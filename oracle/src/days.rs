@@ -3,10 +3,8 @@
 use chrono::{Datelike, Duration, NaiveDate, NaiveDateTime};
 
 use crate::call::{Arg, Outcome, Question};
+use crate::limits::MINUTES_MOST;
 use crate::seed::Seed;
-
-/// The last minute that a time may be.
-pub const MINUTES_MOST: i64 = 100_000_000;
 
 /// The instant of a minute: minute 0 is 1970-01-01 00:00.
 pub fn instant(minute: i64) -> NaiveDateTime {

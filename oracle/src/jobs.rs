@@ -6,14 +6,14 @@ use on_call::model::problem::Problem;
 use on_call::model::Assignment;
 
 use crate::call::{bytes16, bytes32, bytes64, Arg, Outcome, Question};
-use crate::days::{instant, MINUTES_MOST};
+use crate::days::instant;
 use crate::job_faults::{at_the_limit, some_faults, with_faults};
-use crate::job_files::{file_of, listing_of, Record, BASE, DRAW, DRAWS_MOST, FREEZE, OWNER, PERSON, RANGE, SETTINGS};
+use crate::job_files::{file_of, listing_of, Record, BASE, DRAW, FREEZE, OWNER, PERSON, RANGE, SETTINGS};
 use crate::library;
+use crate::limits::{DRAWS_MOST, MINUTES_MOST, NOBODY, PEOPLE_MOST, SLOTS_MOST};
 use crate::problems::{problem_case, slots_of, Person, ProblemCase, Range, Settings};
-use crate::rotas::{draws, owners, play, played, Draw, Played, NOBODY};
+use crate::rotas::{draws, owners, play, played, Draw, Played};
 use crate::seed::Seed;
-use crate::sets::{PEOPLE_MOST, SLOTS_MOST};
 
 /// The room that a listing is asked for: 1,024 lines of slots, 32 of people, 1,024 of draws and the last, each at its longest.
 const LISTING_MOST: usize = 1024 * 33 + 32 * 47 + 1024 * 9 + 23;

@@ -2,9 +2,10 @@
 
 use on_call::model::problem::Problem;
 
-use crate::problems::{availability_into, put_bit, slots_of, unit_starts_of, ProblemCase, Settings};
+use crate::limits::SET_WORDS;
+use crate::problems::{availability_into, slots_of, unit_starts_of, ProblemCase, Settings};
 use crate::seed::Seed;
-use crate::sets::SET_WORDS;
+use crate::sets::put_bit;
 use crate::table::{damage_settings, lowest, people_ok, settings_ok, words_ok, Slots, Units};
 
 /// What is lent and asked. Rows and flags hold any bits past the last slot.

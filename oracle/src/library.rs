@@ -7,6 +7,7 @@ use std::io;
 use boltraven::{lent, Draw, Refusal};
 
 use crate::call::{Arg, Outcome, Question};
+use crate::limits::NOTHING;
 
 /// Asks a question.
 pub fn ask(question: &Question) -> io::Result<Outcome> {
@@ -102,9 +103,6 @@ exports! {
 }
 
 // ---- answers as numbers
-
-/// What stands for nothing; a refusal adds its number.
-const NOTHING: u64 = 65_536;
 
 fn number_of(refusal: Refusal) -> u64 {
     u64::from(refusal.number())

@@ -9,6 +9,7 @@ mod job_files;
 mod jobs;
 mod lent_units;
 mod library;
+mod limits;
 mod problems;
 mod program;
 mod readers;
@@ -47,7 +48,7 @@ const fn kind(name: &'static str, questions: fn(u64) -> Vec<Question>) -> Kind {
     Kind { name, questions }
 }
 
-/// Every kind that the library has by now.
+/// Every kind.
 const KINDS: [Kind; 15] = [
     kind("slot-sets", sets::questions),
     kind("slot-sets-damaged", sets::damaged),

@@ -6,9 +6,10 @@ use on_call::constraints::Constraint;
 use on_call::model::problem::Problem;
 use on_call::timerange::TimeRange;
 
-use crate::days::{instant, minute_of, MINUTES_MOST};
+use crate::days::{instant, minute_of};
+use crate::limits::{MINUTES_MOST, PEOPLE_MOST, SLOTS_MOST};
 use crate::seed::Seed;
-use crate::sets::{PEOPLE_MOST, SET_WORDS, SLOTS_MOST};
+use crate::sets::put_bit;
 
 /// A range of one person.
 #[derive(Debug, Clone, Copy, PartialEq, Eq)]
@@ -60,6 +61,11 @@ impl ProblemCase {
     /// The Rust's problem.
     pub fn rust(&self) -> Problem {
         build(&self.config())
+    }
+
+    /// The Rust's problem, unless it has more slots than there may be.
+    pub fn rust_within(&self) -> Option<Problem> {
+        Some(self.rust()).filter(|problem| problem.slot_count() <= SLOTS_MOST)
     }
 
     /// What the Rust builds it from.
@@ -135,17 +141,6 @@ pub fn availability_into(problem: &Problem, words: &mut [u64]) {
         for slot in 0..problem.slot_count().min(SLOTS_MOST) {
             put_bit(words, person, slot, problem.is_available(person, slot));
         }
-    }
-}
-
-/// One slot of a person's row.
-pub fn put_bit(words: &mut [u64], person: usize, slot: usize, value: bool) {
-    let mask = 1u64 << (slot % 64);
-    let word = &mut words[SET_WORDS * person + slot / 64];
-    if value {
-        *word |= mask;
-    } else {
-        *word &= !mask;
     }
 }
 
@@ -347,11 +342,11 @@ pub fn problem_case(seed: &mut Seed) -> ProblemCase {
     }
 }
 
-/// A whole problem with what the Rust makes of it, unless it has more than 1,024 atomic slots.
+/// A whole problem with what the Rust makes of it, unless that has more slots than there may be.
 pub fn problem_within(seed: &mut Seed) -> Option<(ProblemCase, Problem)> {
     let case = problem_case(seed);
-    let problem = case.rust();
-    (problem.slot_count() <= SLOTS_MOST).then_some((case, problem))
+    let problem = case.rust_within()?;
+    Some((case, problem))
 }
 
 #[cfg(test)]

@@ -1,14 +1,12 @@
 //! Single questions of slots, units and owners, with numbers past their counts among them.
 
 use crate::call::{bytes16, bytes64, Arg, Outcome, Question};
-use crate::rotas::{LentRota, RotaCase, NOBODY};
+use crate::limits::{NOBODY, NOTHING};
+use crate::rotas::{LentRota, RotaCase};
 use crate::seed::Seed;
 
-/// What an answer by one number adds to the number of a refusal.
-const REFUSED: u64 = 65_536;
-
-/// Refused: an index that is not below its count.
-const OUTSIDE: u64 = 11;
+/// The refusal of an index that is not below its count.
+const UNKNOWN: u64 = 11;
 
 /// An index below a count, now and then past it.
 fn index(seed: &mut Seed, count: usize) -> usize {
@@ -23,7 +21,7 @@ fn index(seed: &mut Seed, count: usize) -> usize {
 fn beside(function: &'static str, mut args: Vec<Arg>, seed: &mut Seed, due: Option<Vec<u64>>, words: usize) -> Question {
     let was: Vec<u64> = (0..words).map(|_| seed.word()).collect();
     args.extend(was.iter().map(|&word| Arg::Out(word)));
-    let result = if due.is_some() { 0 } else { OUTSIDE };
+    let result = if due.is_some() { 0 } else { UNKNOWN };
     let written = due.unwrap_or(was);
     Question {
         function,
@@ -77,7 +75,7 @@ pub fn questions(seed: &mut Seed, case: &RotaCase, lent: &LentRota) -> Vec<Quest
             function: "boltraven_unit_of_slot",
             args: one(&units_args, slot),
             due: Outcome {
-                result: problem.unit_of_slot.get(slot).map_or(REFUSED + OUTSIDE, |&unit| unit as u64),
+                result: problem.unit_of_slot.get(slot).map_or(NOTHING + UNKNOWN, |&unit| unit as u64),
                 written: vec![],
             },
         },
@@ -103,7 +101,7 @@ fn slot_domain(seed: &mut Seed, case: &RotaCase, lent: &LentRota, slot: usize) -
             Arg::LentMut(1, before),
         ],
         due: Outcome {
-            result: domain.map_or(REFUSED + OUTSIDE, |domain| domain.len() as u64),
+            result: domain.map_or(NOTHING + UNKNOWN, |domain| domain.len() as u64),
             written: vec![after],
         },
     }

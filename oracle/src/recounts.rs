@@ -4,10 +4,10 @@ use on_call::model::problem::Problem;
 use on_call::model::Assignment;
 
 use crate::call::{bytes16, bytes32, bytes64, Arg, Outcome, Question};
-use crate::problems::put_bit;
-use crate::rotas::{played, sets_into, LentRota, RotaCase, NOBODY};
+use crate::limits::{NOBODY, SET_WORDS};
+use crate::rotas::{played, sets_into, LentRota, RotaCase};
 use crate::seed::Seed;
-use crate::sets::SET_WORDS;
+use crate::sets::{has_bit, put_bit};
 
 /// Recounts of some rotas that are changed in one place, where it may matter or not; and an empty rota.
 pub fn questions(seed: &mut Seed, case: &RotaCase, lent: &LentRota) -> Vec<Question> {
@@ -49,9 +49,8 @@ fn passes(case: &RotaCase, lent: &LentRota, units: bool) -> bool {
 /// Whether sets and minutes are those of an assignment. Bits past the last slot don't count.
 fn as_rebuilt(problem: &Problem, rebuilt: &Assignment, lent: &LentRota) -> bool {
     (0..lent.people).all(|person| {
-        let has = |slot: usize| lent.sets[SET_WORDS * person + slot / 64] >> (slot % 64) & 1 == 1;
         let set = rebuilt.slots_of(person);
-        let same_set = (0..problem.slot_count()).all(|slot| has(slot) == set.contains(slot));
+        let same_set = (0..problem.slot_count()).all(|slot| has_bit(&lent.sets, person, slot) == set.contains(slot));
         same_set && lent.minutes[person] == rebuilt.assigned_minutes(person) as u64
     })
 }

@@ -7,18 +7,12 @@ use on_call::search::moves::MoveGenerator;
 use rand::Script;
 
 use crate::call::{bytes16, bytes32, bytes64, Arg, Outcome, Question};
-use crate::days::MINUTES_MOST;
-use crate::problems::{availability_into, put_bit, slots_of, unit_starts_of, Person, ProblemCase, Range, Settings};
+use crate::limits::{DRAWS_MOST, MINUTES_MOST, NOBODY, PEOPLE_MOST, SET_WORDS, SLOTS_MOST};
+use crate::problems::{availability_into, slots_of, unit_starts_of, Person, ProblemCase, Range, Settings};
 use crate::readers;
 use crate::recounts;
 use crate::seed::Seed;
-use crate::sets::{PEOPLE_MOST, SET_WORDS, SLOTS_MOST};
-
-/// The owner byte of a slot that nobody holds.
-pub const NOBODY: u8 = 255;
-
-/// The most draws of a play.
-pub const DRAWS_MOST: usize = 1024;
+use crate::sets::put_bit;
 
 /// Three numbers a draw.
 pub type Draw = (u16, u16, u16);

@@ -1,9 +1,9 @@
 //! Where rotations and units begin: by count and by weekday, across years.
 
 use crate::call::{bytes16, bytes32, Arg, Outcome, Question};
+use crate::limits::NOTHING;
 use crate::problems::{problem_case, problem_within, slots_of, unit_starts_of, ProblemCase, Settings};
 use crate::seed::Seed;
-use crate::sets::NOTHING;
 use crate::table::damage_settings;
 
 /// The starts of rotations and of units over the atomic slots of a problem.

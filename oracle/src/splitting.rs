@@ -1,10 +1,9 @@
 //! Ranges merged, base slots split, availability: whole problems through the library.
 
 use crate::call::{bytes16, bytes32, bytes64, Arg, Outcome, Question};
-use crate::days::MINUTES_MOST;
+use crate::limits::{MINUTES_MOST, NOTHING, SET_WORDS, SLOTS_MOST};
 use crate::problems::{availability_into, problem_case, slots_of, Person, ProblemCase, Range};
 use crate::seed::Seed;
-use crate::sets::{NOTHING, SET_WORDS, SLOTS_MOST};
 use crate::table::{lowest, Ranges, Slots};
 
 /// A problem as it is lent.

@@ -3,12 +3,13 @@
 
 use on_call::model::problem::Problem;
 
-use crate::days::{instant, MINUTES_MOST};
-use crate::problems::{availability_into, problem_case, put_bit, slots_of, ProblemCase, Range};
+use crate::days::instant;
+use crate::limits::{MINUTES_MOST, SET_WORDS, SLOTS_MOST};
+use crate::problems::{availability_into, problem_case, slots_of, ProblemCase, Range};
 use crate::seed::Seed;
-use crate::sets::{SET_WORDS, SLOTS_MOST};
+use crate::sets::put_bit;
 use crate::splitting::{merged_of, LentProblem};
-use crate::stored::{filled16, filled32, half, words, Stored};
+use crate::stored::{filled16, filled32, half, records, words, Stored};
 use crate::table::{lowest, people_ok, words_ok, Ranges, Slots};
 
 /// Entries of a record's columns: base slots, ranges (of which one stays free), atomic slots, people.
@@ -36,21 +37,18 @@ const ANSWERS: u64 = 14;
 /// as u32; and the three columns of 8 and two of 16 that come out.
 pub fn slots(n: u64, run: u64) -> Stored {
     let mut bytes = Vec::new();
-    let mut k = 0;
-    let mut made = 0;
-    while made < n {
-        let mut seed = Seed::new(Seed::of_case(run, "stored-slots", k));
-        k += 1;
-        let case = problem_case(&mut seed);
+    records(n, run, "stored-slots", |seed, made| {
+        let case = problem_case(seed);
         if case.base.len() > BASE || case.ranges.len() >= RANGES || case.people.len() > PEOPLE {
-            continue;
+            return false;
         }
         let problem = case.rust();
-        if problem.slot_count() <= ATOMS {
-            record(&mut bytes, &mut seed, &case, problem, made % 2 == 1);
-            made += 1;
+        let is_small = problem.slot_count() <= ATOMS;
+        if is_small {
+            record(&mut bytes, seed, &case, problem, made % 2 == 1);
         }
-    }
+        is_small
+    });
     Stored::new(bytes, ANSWERS * n)
 }
 

@@ -7,7 +7,7 @@ use crate::days::minute_of;
 use crate::lent_units::{lent, DueUnits, LentUnits};
 use crate::problems::{problem_case, ProblemCase};
 use crate::seed::Seed;
-use crate::stored::{filled16, filled32, half, words, Stored};
+use crate::stored::{filled16, filled32, half, records, words, Stored};
 use crate::stored_slots::{answer, firsts, FILL16};
 
 /// Entries of a record's columns: slots, of which one stays free; rows of people; a list of people.
@@ -32,31 +32,28 @@ const ANSWERS: u64 = 16;
 /// columns of starts of 16 and the two lists of 8 people that come out.
 pub fn units(n: u64, run: u64) -> Stored {
     let mut bytes = Vec::new();
-    let mut k = 0;
-    let mut made = 0;
-    while made < n {
-        let mut seed = Seed::new(Seed::of_case(run, "stored-units", k));
-        k += 1;
+    records(n, run, "stored-units", |seed, made| {
         let case = if made % 3 == 0 {
-            around_a_years_end(&mut seed)
+            around_a_years_end(seed)
         } else {
-            problem_case(&mut seed)
+            problem_case(seed)
         };
         if case.base.len() >= SLOTS || case.people.len() > PEOPLE {
-            continue;
+            return false;
         }
         let problem = case.rust();
-        if problem.slot_count() < SLOTS {
-            let (mut asked, due) = lent(&mut seed, &case, problem);
-            if made % 2 == 1 {
-                for _ in 0..seed.within(1, 2) {
-                    asked.damage(&mut seed);
-                }
-            }
-            record(&mut bytes, &asked, &due);
-            made += 1;
+        if problem.slot_count() >= SLOTS {
+            return false;
         }
-    }
+        let (mut asked, due) = lent(seed, &case, problem);
+        if made % 2 == 1 {
+            for _ in 0..seed.within(1, 2) {
+                asked.damage(seed);
+            }
+        }
+        record(&mut bytes, &asked, &due);
+        true
+    });
     Stored::new(bytes, ANSWERS * n)
 }
 

@@ -1,12 +1,8 @@
 //! The paper's table of refusals over what is lent, written from the paper and not from the library.
 
-use crate::days::MINUTES_MOST;
-use crate::problems::Settings;
+use crate::limits::{MINUTES_MOST, PEOPLE_MOST, RANGES_MOST, SET_WORDS, SLOTS_MOST};
+use crate::problems::{Person, Range, Settings};
 use crate::seed::Seed;
-use crate::sets::{PEOPLE_MOST, SET_WORDS, SLOTS_MOST};
-
-/// The most ranges.
-const RANGES_MOST: usize = 1024;
 
 /// The lowest number of the rules that are broken, or 0 where all are kept.
 pub fn lowest(rules: &[(u64, bool)]) -> u64 {
@@ -22,6 +18,22 @@ pub fn people_ok(people: usize) -> bool {
 /// 2: words for the sets of so many people. A count that is refused itself asks for none.
 pub fn words_ok(people: usize, words: usize) -> bool {
     !people_ok(people) || SET_WORDS * people <= words
+}
+
+/// 3 or 9: slots, none empty or reversed, none after the last minute, none before the previous one ends.
+pub fn slots_ok(slots: &[(u32, u32)]) -> bool {
+    let each = slots.iter().all(|slot| slot.0 < slot.1 && i64::from(slot.1) <= MINUTES_MOST);
+    each && slots.windows(2).all(|two| two[0].1 <= two[1].0)
+}
+
+/// 4: a range, not reversed, not after the last minute, not of an unknown person.
+pub fn range_ok(range: Range, people: usize) -> bool {
+    range.start <= range.end && i64::from(range.end) <= MINUTES_MOST && range.person < people
+}
+
+/// 6: a person's figures.
+pub fn figures_ok(person: Person) -> bool {
+    (0.0..=1000.0).contains(&person.capacity) && i64::from(person.prior) <= MINUTES_MOST
 }
 
 /// 7: the settings.
@@ -53,14 +65,13 @@ impl Slots {
         self.count <= self.starts.len() && self.count <= self.ends.len()
     }
 
-    /// 3 or 9: none empty or reversed, none after the last minute, none before the previous one ends. Asked only where there is room.
+    /// 3 or 9: the slots themselves. Asked only where there is room.
     pub fn ok(&self) -> bool {
         if !self.count_ok() || !self.room_ok() {
             return true;
         }
         let slots: Vec<(u32, u32)> = (0..self.count).map(|k| (self.starts[k], self.ends[k])).collect();
-        let each = slots.iter().all(|slot| slot.0 < slot.1 && i64::from(slot.1) <= MINUTES_MOST);
-        each && slots.windows(2).all(|two| two[0].1 <= two[1].0)
+        slots_ok(&slots)
     }
 
     /// Breaks one of their rules.
@@ -99,15 +110,17 @@ impl Ranges {
         self.count <= self.persons.len().min(self.opens.len()).min(self.shuts.len())
     }
 
-    /// 4: none reversed, none after the last minute, none of an unknown person. Asked only where there is room.
+    /// 4: each range. Asked only where there is room.
     pub fn ok(&self) -> bool {
         if !self.count_ok() || !self.room_ok() {
             return true;
         }
-        (0..self.count).all(|k| {
-            let is_range = self.opens[k] <= self.shuts[k] && i64::from(self.shuts[k]) <= MINUTES_MOST;
-            is_range && usize::from(self.persons[k]) < self.people
-        })
+        let range = |k: usize| Range {
+            person: usize::from(self.persons[k]),
+            start: self.opens[k],
+            end: self.shuts[k],
+        };
+        (0..self.count).all(|k| range_ok(range(k), self.people))
     }
 }
 

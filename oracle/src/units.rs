@@ -5,10 +5,11 @@ use on_call::model::problem::Problem;
 use crate::call::{bytes16, bytes32, bytes64, Arg, Outcome, Question};
 use crate::days::instant;
 use crate::lent_units::{lent, DueUnits, LentUnits};
-use crate::problems::{availability_into, problem_within, put_bit, slots_of, unit_starts_of};
+use crate::limits::{NOTHING, SET_WORDS};
+use crate::problems::{availability_into, problem_within, slots_of, unit_starts_of};
 use crate::rotations::settings_args;
 use crate::seed::Seed;
-use crate::sets::{NOTHING, SET_WORDS};
+use crate::sets::put_bit;
 
 /// A call that is answered by a number alone.
 fn number(function: &'static str, args: Vec<Arg>, result: u64) -> Question {

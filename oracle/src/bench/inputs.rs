@@ -4,10 +4,11 @@ use on_call::model::assignment::SlotSet;
 use on_call::model::problem::Problem;
 
 use crate::days::instant;
-use crate::problems::{put_bit, slots_of, Person, ProblemCase, Range, Settings};
-use crate::rotas::{Draw, LentRota, RotaCase, DRAWS_MOST, NOBODY};
+use crate::limits::{DRAWS_MOST, NOBODY, PEOPLE_MOST, SET_WORDS, SLOTS_MOST};
+use crate::problems::{slots_of, Person, ProblemCase, Range, Settings};
+use crate::rotas::{Draw, LentRota, RotaCase};
 use crate::seed::Seed;
-use crate::sets::{PEOPLE_MOST, SET_WORDS, SLOTS_MOST};
+use crate::sets::put_bit;
 
 /// Minutes of a base slot.
 const BASE: u32 = 720;

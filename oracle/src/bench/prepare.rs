@@ -6,8 +6,8 @@ use boltraven::lent;
 use on_call::model::problem::Problem;
 
 use super::{row, Row, Side};
+use crate::limits::{SET_WORDS, SLOTS_MOST};
 use crate::problems::{availability_into, build, slots_of, unit_starts_of, ProblemCase, Settings};
-use crate::sets::{SET_WORDS, SLOTS_MOST};
 use crate::splitting::LentProblem;
 
 /// A problem as it is lent, with room for what comes out.

@@ -9,8 +9,9 @@ use on_call::model::Assignment;
 
 use super::inputs::Rota;
 use super::{row, Row, Side};
-use crate::rotas::{self, LentRota, NOBODY};
-use crate::sets::SET_WORDS;
+use crate::limits::NOBODY;
+use crate::rotas::{self, LentRota};
+use crate::sets::has_bit;
 
 /// What is to be seen of a rota.
 #[derive(PartialEq)]
@@ -24,10 +25,10 @@ struct Seen {
 /// What is to be seen of a lent rota, with the answers to its draws.
 fn seen_of_lent(rota: &LentRota) -> Seen {
     let (people, slots) = (rota.people, rota.starts.len());
-    let row = |words: &[u64]| (0..slots).filter(|&slot| words[slot / 64] >> (slot % 64) & 1 == 1).collect();
+    let members = |person| (0..slots).filter(|&slot| has_bit(&rota.sets, person, slot)).collect();
     Seen {
         owners: rota.owners[..slots].to_vec(),
-        members: rota.sets.chunks_exact(SET_WORDS).take(people).map(row).collect(),
+        members: (0..people).map(members).collect(),
         minutes: rota.minutes[..people].to_vec(),
         answers: rota.answers[..rota.count].to_vec(),
     }

@@ -7,7 +7,7 @@ use on_call::model::assignment::SlotSet;
 
 use super::inputs::Set;
 use super::{row, Row, Side};
-use crate::sets::SLOTS_MOST;
+use crate::limits::SLOTS_MOST;
 
 /// How often a question of a set is asked, at every slot each time.
 const ROUNDS: usize = 16;
