@@ -3,7 +3,7 @@
 use on_call::model::problem::Problem;
 
 use crate::limits::SET_WORDS;
-use crate::problems::{availability_into, slots_of, unit_starts_of, ProblemCase, Settings};
+use crate::problems::{availability_into, unit_starts_of, ProblemCase, Settings};
 use crate::seed::Seed;
 use crate::sets::put_bit;
 use crate::table::{damage_settings, lowest, people_ok, settings_ok, words_ok, Slots, Units};
@@ -41,8 +41,8 @@ pub struct DueUnits {
 
 /// A problem with some slots frozen, as it is lent, and the Rust's answers.
 pub fn lent(seed: &mut Seed, case: &ProblemCase, mut problem: Problem) -> (LentUnits, DueUnits) {
-    let (starts, ends) = slots_of(&problem);
-    let (people, count) = (problem.human_count(), starts.len());
+    let slots = Slots::of(&problem);
+    let (people, count) = (problem.human_count(), slots.count);
     let mut rows: Vec<u64> = (0..SET_WORDS * people).map(|_| seed.word()).collect();
     availability_into(&problem, &mut rows);
     let mut flags: Vec<u64> = (0..SET_WORDS).map(|_| seed.word()).collect();
@@ -66,7 +66,7 @@ pub fn lent(seed: &mut Seed, case: &ProblemCase, mut problem: Problem) -> (LentU
         unit: seed.below(problem.unit_count() as u64) as usize,
         starts_room: count + seed.below(2) as usize,
         list_room: people + seed.below(2) as usize,
-        slots: Slots { count, starts, ends },
+        slots,
     };
     let due = due(case, &problem, &lent);
     (lent, due)

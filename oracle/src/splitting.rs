@@ -16,11 +16,7 @@ pub struct LentProblem {
 impl LentProblem {
     pub fn new(case: &ProblemCase) -> Self {
         Self {
-            base: Slots {
-                count: case.base.len(),
-                starts: case.base.iter().map(|slot| slot.0).collect(),
-                ends: case.base.iter().map(|slot| slot.1).collect(),
-            },
+            base: Slots::new(&case.base),
             ranges: Ranges {
                 people: case.people.len(),
                 count: case.ranges.len(),
@@ -29,14 +25,6 @@ impl LentProblem {
                 shuts: case.ranges.iter().map(|range| range.end).collect(),
             },
         }
-    }
-
-    fn slot_args(&self) -> Vec<Arg> {
-        vec![
-            Arg::Number(self.base.count as u64),
-            Arg::Lent(4, bytes32(&self.base.starts)),
-            Arg::Lent(4, bytes32(&self.base.ends)),
-        ]
     }
 
     fn range_args(&self) -> Vec<Arg> {
@@ -52,7 +40,7 @@ impl LentProblem {
     fn atomise(&self, seed: &mut Seed, room: usize, due: Result<(&[u32], &[u32]), u64>) -> Question {
         let froms: Vec<u32> = (0..room).map(|_| seed.word() as u32).collect();
         let tos: Vec<u32> = (0..room).map(|_| seed.word() as u32).collect();
-        let mut args = self.slot_args();
+        let mut args = self.base.args();
         args.push(Arg::Number(self.ranges.people as u64));
         args.extend(self.range_args());
         args.extend([Arg::LentMut(4, bytes32(&froms)), Arg::LentMut(4, bytes32(&tos))]);

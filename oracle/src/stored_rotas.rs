@@ -1,7 +1,7 @@
 //! Records of rotas, in sections: plays, four facts that are easy to get wrong, single assigns, and damaged plays.
 
 use crate::limits::{NOBODY, SET_WORDS};
-use crate::problems::{slots_of, unit_starts_of, Person, ProblemCase, Range, Settings};
+use crate::problems::{unit_starts_of, Person, ProblemCase, Range, Settings};
 use crate::rotas::{played, Draw, Played, RotaCase};
 use crate::seed::Seed;
 use crate::stored::{filled16, filled32, half, records, Stored};
@@ -78,17 +78,12 @@ fn small(seed: &mut Seed) -> Option<RotaCase> {
 impl Record {
     fn new(case: RotaCase, due: Played) -> Self {
         let problem = &case.problem;
-        let (starts, ends) = slots_of(problem);
         let firsts = unit_starts_of(problem);
         let begun = played(problem, &case.assignment(&case.owners), vec![]);
         Self {
             people: problem.human_count(),
             draws: case.draws.len(),
-            slots: Slots {
-                count: starts.len(),
-                starts,
-                ends,
-            },
+            slots: Slots::of(problem),
             units: Units {
                 count: firsts.len(),
                 firsts,

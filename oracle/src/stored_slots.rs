@@ -68,17 +68,16 @@ struct Asked {
 impl Asked {
     fn new(seed: &mut Seed, case: &ProblemCase, problem: &Problem) -> Self {
         let LentProblem { base, ranges } = LentProblem::new(case);
-        let (starts, ends) = slots_of(problem);
-        let count = starts.len();
+        let atoms = Slots::of(problem);
         Self {
             base,
-            atoms: Slots { count, starts, ends },
             person: seed.below(ranges.people as u64) as usize,
-            slot: seed.below(count as u64) as usize,
+            slot: seed.below(atoms.count as u64) as usize,
             words: SET_WORDS * ranges.people + seed.below(2) as usize,
             flags: SET_WORDS + seed.below(2) as usize,
             merged_room: [ranges.count, ranges.count + seed.below(2) as usize, RANGES],
             atom_room: [SLOTS_MOST; 2],
+            atoms,
             ranges,
         }
     }

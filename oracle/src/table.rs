@@ -1,7 +1,10 @@
 //! The paper's table of refusals over what is lent, written from the paper and not from the library.
 
+use on_call::model::problem::Problem;
+
+use crate::call::{bytes32, Arg};
 use crate::limits::{MINUTES_MOST, PEOPLE_MOST, RANGES_MOST, SET_WORDS, SLOTS_MOST};
-use crate::problems::{Person, Range, Settings};
+use crate::problems::{slots_of, Person, Range, Settings};
 use crate::seed::Seed;
 
 /// The lowest number of the rules that are broken, or 0 where all are kept.
@@ -55,6 +58,19 @@ pub struct Slots {
 }
 
 impl Slots {
+    pub fn new(slots: &[(u32, u32)]) -> Self {
+        let (starts, ends) = slots.iter().copied().unzip();
+        let count = slots.len();
+        Self { count, starts, ends }
+    }
+
+    /// The atomic slots of a problem.
+    pub fn of(problem: &Problem) -> Self {
+        let (starts, ends) = slots_of(problem);
+        let count = starts.len();
+        Self { count, starts, ends }
+    }
+
     /// 1: their count.
     pub fn count_ok(&self) -> bool {
         (1..=SLOTS_MOST).contains(&self.count)
@@ -72,6 +88,15 @@ impl Slots {
         }
         let slots: Vec<(u32, u32)> = (0..self.count).map(|k| (self.starts[k], self.ends[k])).collect();
         slots_ok(&slots)
+    }
+
+    /// As the library's functions take them.
+    pub fn args(&self) -> Vec<Arg> {
+        vec![
+            Arg::Number(self.count as u64),
+            Arg::Lent(4, bytes32(&self.starts)),
+            Arg::Lent(4, bytes32(&self.ends)),
+        ]
     }
 
     /// Breaks one of their rules.

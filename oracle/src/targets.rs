@@ -22,7 +22,6 @@ struct LentTargets {
 impl LentTargets {
     /// A case as it is lent: longer buffers than needed now and then, and any bits past the last slot.
     fn new(seed: &mut Seed, case: &FigureCase) -> Self {
-        let slots = case.slots();
         let people = case.people.len();
         let spare = seed.below(2) as usize;
         let mut avail: Vec<u64> = (0..SET_WORDS * people + spare).map(|_| seed.word()).collect();
@@ -33,11 +32,7 @@ impl LentTargets {
         }
         Self {
             people,
-            slots: Slots {
-                count: slots.len(),
-                starts: slots.iter().map(|slot| slot.0).collect(),
-                ends: slots.iter().map(|slot| slot.1).collect(),
-            },
+            slots: Slots::new(&case.slots()),
             avail,
             capacities: case.people.iter().map(|person| person.capacity.to_bits()).collect(),
             priors: case.people.iter().map(|person| person.prior).collect(),

@@ -2,7 +2,7 @@
 
 use on_call::model::problem::Problem;
 
-use crate::call::{bytes16, bytes32, bytes64, Arg, Outcome, Question};
+use crate::call::{bytes16, bytes64, Arg, Outcome, Question};
 use crate::days::instant;
 use crate::lent_units::{lent, DueUnits, LentUnits};
 use crate::limits::{NOTHING, SET_WORDS};
@@ -10,6 +10,7 @@ use crate::problems::{availability_into, problem_within, slots_of, unit_starts_o
 use crate::rotations::settings_args;
 use crate::seed::Seed;
 use crate::sets::put_bit;
+use crate::table::Slots;
 
 /// A call that is answered by a number alone.
 fn number(function: &'static str, args: Vec<Arg>, result: u64) -> Question {
@@ -39,14 +40,9 @@ pub fn questions(case_seed: u64) -> Vec<Question> {
     let Some((mut case, problem)) = problem_within(&mut seed) else {
         return vec![];
     };
-    let count = problem.slot_count();
     let people = problem.human_count();
-    let (starts, ends) = slots_of(&problem);
-    let lent_slots = vec![
-        Arg::Number(count as u64),
-        Arg::Lent(4, bytes32(&starts)),
-        Arg::Lent(4, bytes32(&ends)),
-    ];
+    let slots = Slots::of(&problem);
+    let lent_slots = slots.args();
     let mut avail: Vec<u64> = (0..SET_WORDS * people).map(|_| seed.word()).collect();
     availability_into(&problem, &mut avail);
 
@@ -76,7 +72,7 @@ pub fn questions(case_seed: u64) -> Vec<Question> {
     case.settings.days = 1;
     let per_day = case.rust().target_run_minutes;
     asked.push(minutes("boltraven_minutes_per_day", lent_slots.clone(), seed.word(), per_day));
-    let mut dates: Vec<u32> = starts.iter().map(|start| start / 1440).collect();
+    let mut dates: Vec<u32> = slots.starts.iter().map(|start| start / 1440).collect();
     dates.dedup();
     asked.push(number("boltraven_covered_days", lent_slots, dates.len() as u64));
     asked
@@ -192,14 +188,6 @@ pub fn damaged(case_seed: u64) -> Vec<Question> {
 }
 
 impl LentUnits {
-    fn slot_args(&self) -> Vec<Arg> {
-        vec![
-            Arg::Number(self.slots.count as u64),
-            Arg::Lent(4, bytes32(&self.slots.starts)),
-            Arg::Lent(4, bytes32(&self.slots.ends)),
-        ]
-    }
-
     fn unit_args(&self) -> Vec<Arg> {
         vec![
             Arg::Number(self.slots.count as u64),
@@ -216,7 +204,7 @@ impl LentUnits {
         let question = |(function, starts): (&'static str, &Vec<u16>)| {
             let before: Vec<u16> = (0..self.starts_room).map(|_| seed.word() as u16).collect();
             let mut args = settings_args(self.settings);
-            args.extend(self.slot_args());
+            args.extend(self.slots.args());
             list(function, args, 2, bytes16(&before), number, starts.len(), &bytes16(starts))
         };
         asked.map(question).into()
@@ -241,23 +229,23 @@ impl LentUnits {
                 domain,
             ),
             number("boltraven_unit_frozen", frozen_args, heard(self.frozen_no(), u64::from(due.frozen))),
-            number("boltraven_covered_days", self.slot_args(), heard(self.days_no(), due.days as u64)),
+            number("boltraven_covered_days", self.slots.args(), heard(self.days_no(), due.days as u64)),
         ]
     }
 
     /// Minutes a day, target and achievable run.
     fn minutes_asked(&self, seed: &mut Seed, due: &DueUnits) -> Vec<Question> {
         let mut target_args = settings_args(self.settings);
-        target_args.extend(self.slot_args());
+        target_args.extend(self.slots.args());
         let mut run_args = settings_args(self.settings);
         run_args.extend([
             Arg::Lent(8, bytes64(&self.rows)),
             Arg::Number(self.people as u64),
             Arg::Number(self.person as u64),
         ]);
-        run_args.extend(self.slot_args());
+        run_args.extend(self.slots.args());
         let asked = [
-            ("boltraven_minutes_per_day", self.slot_args(), self.days_no(), due.per_day),
+            ("boltraven_minutes_per_day", self.slots.args(), self.days_no(), due.per_day),
             ("boltraven_target_run", target_args, self.target_no(), due.target),
             ("boltraven_achievable_run", run_args, self.achievable_no(), due.achievable),
         ];
