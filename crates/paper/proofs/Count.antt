@@ -7,11 +7,11 @@ use Prim.Native.Nat.{ℕ, zero, suc, _+_, _-_, _*_, _≤_, _<_, zero-le}
 use native.Mathlib.Nat.{le-of-suc-le-suc, not-suc-le-zero, eq-or-lt-of-le, le-antisymm}
 use native.Mathlib.Numerals.{add-one}
 use native.Mathlib.Omega.{arith}
-use borrow.Author.Tests.{ltb-true, ltb-false}
-use lib.Dec.{ltb}
+use borrow.Author.Tests.{eqb-true, eqb-false}
+use lib.Dec.{eqb}
 use lib.ListN.{length, drop, getD, set, length-set, length-append, length-drop, List·getD-append}
-use lib.Seq.{getD-set-same, getD-set-other, getD-append-seam, drop-cons, set-append-seam, append-snoc}
-use Rattle.paper.specs.Count.{all, allIn, some, sum, over, fill, onto, among}
+use lib.Seq.{getD-set-same, getD-set-other, getD-append-seam, drop-cons, set-append-seam, append-snoc, ext-getD}
+use Rattle.paper.specs.Count.{all, allIn, some, sum, count, over, fill, onto, among}
 use Rattle.paper.proofs.Logic.{by-test, below-suc, and-true, both, lt-or-ge, same-test, or-left, or-second, or-either}
 
 -- ---- a test at every number below n
@@ -162,6 +162,17 @@ sum-change (suc n) j f g h e =
     (λ q. omega (arith, ap f q, ap g q, sum-same n f g (λ k l. e k (λ x. omega arith))))
     (λ l. omega (arith, sum-change n j f g l e, e n (λ x. omega arith)))
 
+-- greater summands, and more of them
+pub sum-mono : (n : ℕ) (f g : ℕ → ℕ) → ((k : ℕ) → k < n → f k ≤ g k) → sum n f ≤ sum n g
+unfolding sum
+sum-mono zero f g h = zero-le
+sum-mono (suc n) f g h = omega (arith, sum-mono n f g (λ k l. h k (omega arith)), h n (omega arith))
+
+pub sum-rises : (n d : ℕ) (f : ℕ → ℕ) → sum n f ≤ sum (n + d) f
+unfolding sum
+sum-rises n zero f = let e : n + 0 ≡ n = omega arith in omega (arith, ap (λ (x : ℕ). sum x f) e)
+sum-rises n (suc d) f = let e : n + suc d ≡ suc (n + d) = omega arith in omega (arith, sum-rises n d f, ap (λ (x : ℕ). sum x f) e)
+
 -- ---- a list made anew
 
 pub length-over : (f : ℕ → ℕ) (n : ℕ) (l : List ℕ) → length (over f n l) ≡ length l
@@ -197,6 +208,45 @@ unfolding over
 over-same f g zero l h = refl
 over-same f g (suc n) l h =
     ap₂ (λ (x : List ℕ) (y : ℕ). set x n y) (over-same f g n l (λ k b. h k (omega arith))) (h n (omega arith))
+
+-- made anew twice, the second alone counts; and a list that holds its entries already stays
+pub over-again : (f g : ℕ → ℕ) (n : ℕ) (m : List ℕ) → over g n (over f n m) ≡ over g n m
+over-again f g n m =
+    ext-getD 0 (over g n (over f n m)) (over g n m)
+    (length-over g n (over f n m) ∙ length-over f n m ∙ sym (length-over g n m))
+    (λ j r.
+    let rm : j < length m = omega (arith, length-over g n (over f n m), length-over f n m) in
+    ⊎-elim
+    (λ (t : j < n). getD-over g n (over f n m) j t (omega (arith, length-over f n m)) ∙ sym (getD-over g n m j t rm))
+    (λ (u : n ≤ j). getD-over-out g n (over f n m) j u ∙ getD-over-out f n m j u ∙ sym (getD-over-out g n m j u))
+    (lt-or-ge j n))
+
+pub over-right : (f : ℕ → ℕ) (n : ℕ) (m : List ℕ) → ((j : ℕ) → j < n → getD m j 0 ≡ f j) → m ≡ over f n m
+over-right f n m h =
+    ext-getD 0 m (over f n m) (sym (length-over f n m))
+    (λ j r. ⊎-elim (λ (t : j < n). h j t ∙ sym (getD-over f n m j t r)) (λ (u : n ≤ j). sym (getD-over-out f n m j u)) (lt-or-ge j n))
+
+-- one entry changed
+pub over-set : (f g : ℕ → ℕ) (n : ℕ) (m : List ℕ) (k v : ℕ) → k < n → v ≡ g k → ((j : ℕ) → j ≢ k → f j ≡ g j)
+    → set (over f n m) k v ≡ over g n m
+over-set f g n m k v h e same =
+    ext-getD 0 (set (over f n m) k v) (over g n m)
+    (length-set (over f n m) k v ∙ length-over f n m ∙ sym (length-over g n m))
+    (λ j r.
+    let rm : j < length m = omega (arith, length-set (over f n m) k v, length-over f n m) in
+    ⊎-elim
+    (λ (t : j < n).
+    by-test (eqb j k) _
+    (λ y.
+    let q = eqb-true j k y in
+    ap (λ (i : ℕ). getD (set (over f n m) k v) i 0) q
+    ∙ getD-set-same (over f n m) k v 0 (omega (arith, length-over f n m)) ∙ e ∙ ap g (sym q) ∙ sym (getD-over g n m j t rm))
+    (λ y.
+    getD-set-other (over f n m) k j v 0 (eqb-false j k y) ∙ getD-over f n m j t rm ∙ same j (eqb-false j k y)
+    ∙ sym (getD-over g n m j t rm)))
+    (λ (u : n ≤ j).
+    getD-set-other (over f n m) k j v 0 (λ q. omega arith) ∙ getD-over-out f n m j u ∙ sym (getD-over-out g n m j u))
+    (lt-or-ge j n))
 
 -- ---- a stretch set to one value
 
@@ -306,6 +356,49 @@ unfolding among
 among-same p q zero f = refl
 among-same p q (suc n) f =
     ap₂ (λ (x : List ℕ) (b : Bool). x ++ cond b (n ∷ []) []) (among-same p q n (λ k h. f k (omega arith))) (f n (omega arith))
+
+-- an entry that an opening part of the list has
+among-before : (p : ℕ → Bool) (n k : ℕ) → k < length (among p n) → getD (among p (suc n)) k 0 ≡ getD (among p n) k 0
+unfolding among
+among-before p n k h = List·getD-append (among p n) (cond (p n) (n ∷ []) []) 0 k h
+
+-- the list rises strictly, so nobody stands in it twice
+pub among-rises : (p : ℕ → Bool) (n k : ℕ) → suc k < length (among p n) → getD (among p n) k 0 < getD (among p n) (suc k) 0
+unfolding among
+among-rises p zero k h = absurd (not-suc-le-zero h)
+among-rises p (suc n) k h =
+    ⊎-elim
+    (λ (b : suc k < length (among p n)).
+    omega (arith, among-before p n k (omega arith), among-before p n (suc k) b, among-rises p n k b))
+    (λ (g : length (among p n) ≤ suc k).
+    by-test (p n) _
+    (λ t.
+    let l : length (among p (suc n)) ≡ length (among p n) + 1
+    = ap (λ (b : Bool). length (among p n ++ cond b (n ∷ []) [])) t ∙ length-append (among p n) (n ∷ []) in
+    let s : length (among p n) ≡ suc k = omega (arith, l) in
+    let a = among-at p (suc n) n (omega arith) t .1 in
+    let e : getD (among p (suc n)) (suc k) 0 ≡ n = ap (λ (j : ℕ). getD (among p (suc n)) j 0) (sym s) ∙ a in
+    omega (arith, e, among-before p n k (omega arith), among-each p n k (omega arith) .0))
+    (λ f.
+    absurd
+    (omega (arith, ap (λ (b : Bool). length (among p n ++ cond b (n ∷ []) [])) f, length-append (among p n) []))))
+    (lt-or-ge (suc k) (length (among p n)))
+
+-- as many are listed as pass
+pub among-count : (q : ℕ → Bool) (n : ℕ) → length (among q n) ≡ count n q
+unfolding among count sum
+among-count q zero = refl
+among-count q (suc n) =
+    length-append (among q n) (cond (q n) (n ∷ []) [])
+    ∙ by-test (q n) _ (λ t. simp t (omega (arith, among-count q n))) (λ f. simp f (omega (arith, among-count q n)))
+
+-- the list rises from any entry to any later one
+pub rises-far : (q : ℕ → Bool) (n i j : ℕ) → i < j → j < length (among q n) → getD (among q n) i 0 < getD (among q n) j 0
+rises-far q n i zero h g = absurd (omega arith)
+rises-far q n i (suc j) h g =
+    let r = among-rises q n j g in
+    below-suc _ h (λ (e : i ≡ j). omega (arith, r, ap (λ (k : ℕ). getD (among q n) k 0) e))
+    (λ (l : i < j). omega (arith, r, rises-far q n i j l (omega arith)))
 
 -- ---- a list written from the front
 

@@ -9,7 +9,7 @@ use borrow.Author.Tests.{ne-eqb, eqb-true, eqb-false, le-ltb, ltb-true, ltb-fals
 use lib.Dec.{eqb, ltb}
 use Rattle.paper.specs.Limits.{nobody}
 use Rattle.paper.proofs.Logic.{both, and-true}
-use Rattle.paper.proofs.Count.{in-each, each-in}
+use Rattle.paper.proofs.Count.{in-each, each-in, among-count}
 use Rattle.rota.specs.declared.Move.{Move}
 use Rattle.rota.specs.declared.Move.the-variants.{Trade}
 use Rattle.rota.specs.Board.{Board, ownerOf, unowned, RunOf}
@@ -18,7 +18,7 @@ use Rattle.rota.specs.Moves.{runReassigned, runsStay, runsSwapped, grown
 use Rattle.rota.specs.Acts.{Heard, Chosen, Outside, ReassignActs, ReassignOutside, SwapActs, RunMoves, another, ReassignRunActs}
 use Rattle.rota.specs.Acts.{ReassignRunOutside, SwapRunsActs, Boundary, GrowActs, ShrinkActs, ShiftOutside}
 use Rattle.rota.proofs.Runs.{run-is, run-only}
-use Rattle.rota.proofs.Choices.{none-of, among-count, chosen-at, chosen-one}
+use Rattle.rota.proofs.Choices.{none-of, chosen-at, chosen-one}
 use Rattle.rota.proofs.Choices.{Ruled, heard, moves, either, no-move-if, outside-if, picks, said-as}
 
 -- ---- the five moves

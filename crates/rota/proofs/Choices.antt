@@ -7,11 +7,10 @@ use Prim.Native.Nat.{ℕ, zero, suc, _≤_, _<_}
 use native.Mathlib.Omega.{arith}
 use borrow.Author.Tests.{eqb-true, eqb-false, leb-true, leb-false}
 use lib.Dec.{eqb, leb}
-use lib.ListN.{length, getD, length-append}
-use Rattle.paper.specs.Count.{among, count, sum}
-use Rattle.paper.proofs.Logic.{by-test, lt-or-ge, below-suc, neither}
-use Rattle.paper.proofs.Count.{among-each, among-at}
-use Rattle.units.proofs.Rising.{among-rises}
+use lib.ListN.{length, getD}
+use Rattle.paper.specs.Count.{among}
+use Rattle.paper.proofs.Logic.{by-test, lt-or-ge, neither}
+use Rattle.paper.proofs.Count.{among-each, among-at, among-count, rises-far}
 use Rattle.rota.specs.declared.Move.{Move}
 use Rattle.rota.specs.declared.Move.the-variants.{Stay}
 use Rattle.rota.specs.Moves.{anyOf, stayIf, picked, onPick, answerOf}
@@ -30,22 +29,6 @@ none-of (t ∷ ts) e zero = neither t (anyOf ts) e .0
 none-of (t ∷ ts) e (suc k) = none-of ts (neither t (anyOf ts) e .1) k
 
 -- ---- choices
-
--- as many are listed as pass
-pub among-count : (q : ℕ → Bool) (n : ℕ) → length (among q n) ≡ count n q
-unfolding among count sum
-among-count q zero = refl
-among-count q (suc n) =
-    length-append (among q n) (cond (q n) (n ∷ []) [])
-    ∙ by-test (q n) _ (λ t. simp t (omega (arith, among-count q n))) (λ f. simp f (omega (arith, among-count q n)))
-
--- the list rises from any entry to any later one
-rises-far : (q : ℕ → Bool) (n i j : ℕ) → i < j → j < length (among q n) → getD (among q n) i 0 < getD (among q n) j 0
-rises-far q n i zero h g = absurd (omega arith)
-rises-far q n i (suc j) h g =
-    let r = among-rises q n j g in
-    below-suc _ h (λ (e : i ≡ j). omega (arith, r, ap (λ (k : ℕ). getD (among q n) k 0) e))
-    (λ (l : i < j). omega (arith, r, rises-far q n i j l (omega arith)))
 
 module _ (q : ℕ → Bool) (n k : ℕ) where
   abbrev l : List ℕ

@@ -6,7 +6,7 @@ use Prim.Native.Nat.{ℕ, _*_, _/_, _≤_, _<_}
 use native.Mathlib.Omega.{arith}
 use borrow.Author.Tests.{eq-eqb, ne-eqb, eqb-true, lt-ltb, leb-true, le-leb}
 use lib.Dec.{eqb, leb}
-use lib.ListN.{length, getD}
+use lib.ListN.{length, getD, replicate, length-replicate}
 use Rattle.paper.specs.Limits.{nobody, peopleOk, slotCountOk, orElse, countsOk}
 use Rattle.paper.specs.Count.{all, onto}
 use Rattle.paper.proofs.Logic.{by-test, both, five, or-right, and-true, cond-zero, people-says, slot-count-says, passes, stops}
@@ -15,8 +15,9 @@ use Rattle.slotset.specs.Slots.{slot}
 use Rattle.slots.specs.Lent.{slotRoomOk, slotsOk}
 use Rattle.slots.proofs.LentLaws.{slots-sound}
 use Rattle.units.specs.Units.{unitStart, unitEnd, unitsOk}
-use Rattle.units.specs.Domains.{available, able}
+use Rattle.units.specs.Domains.{available, able, unitDomainsNo, unitDomainsIs}
 use Rattle.units.proofs.Units.{unit-some, unit-within, units-within}
+use Rattle.units.proofs.Sets.{domains-asked}
 use Rattle.rota.specs.Board.{Board, BoardSound, Even, ownerOf}
 use Rattle.rota.specs.Plays.{drawsOf, ownersAfter, answers}
 use Rattle.rota.specs.Ready.{ready}
@@ -27,7 +28,7 @@ use Rattle.rota.specs.Stepped.{Ran, DrawRoom}
 use Rattle.rota.specs.Entries.{roomOk, ground, Outcome, outcome, Ended}
 use Rattle.rota.specs.Entries.{playRoomOk, playNo, played}
 use Rattle.rota.proofs.Minutes.{known-below}
-use Rattle.rota.proofs.Readied.{board-is, board-sound}
+use Rattle.rota.proofs.Readied.{fits-right, board-is, board-sound}
 
 -- ---- 1, 2 and 9
 
@@ -250,10 +251,6 @@ module _ (P : Plan) (avail : List ℕ) (units : ℕ) (firsts frozen : List ℕ) 
         };
       }
 
-  pub units-say : unitsOk (P .slots) units firsts ≡ true → (u : ℕ) → u < units
-      → (unitStart firsts u < unitEnd (P .slots) units firsts u) × (unitEnd (P .slots) units firsts u ≤ P .slots)
-  units-say ok u h = (unit-some (P .slots) units firsts ok u h, unit-within (P .slots) units firsts ok u h)
-
   module _ (m r : ℕ) (b : Bool) (em : m ≡ ground counts room sound 0) where
     pub play-stops : (m ≡ 0 → ⊥) → m ≡ playNo P avail units firsts frozen n ks fs ss o D x
     unfolding playNo
@@ -288,6 +285,20 @@ module _ (P : Plan) (avail : List ℕ) (units : ℕ) (firsts frozen : List ℕ) 
 
     pub asks-few : units ≤ 1024
     asks-few = let g = A .grounds in omega (arith, units-within (P .slots) units firsts (g .units-ok), g .on .sound .slots-few)
+
+    -- so everybody's domains are not refused, and make the masks that are due
+    pub asks-domains : (masks : List ℕ) → units ≤ length masks → unitDomainsNo avail (P .people) (P .slots) units firsts masks ≡ 0
+    asks-domains masks h =
+        let g = A .grounds in
+        let s = g .on .sound in
+        domains-asked avail (P .people) (P .slots) units firsts masks (s .people-some) (s .people-few) (s .slots-some) (s .slots-few)
+        (g .on .room .avail-room) (g .units-ok) h
+
+    pub asks-fits : (fits : List ℕ) → fits ≡ unitDomainsIs avail (P .people) (P .slots) units firsts (replicate 1024 0)
+        → FitsRight (P .people) (P .slots) units avail firsts fits
+    asks-fits fits e =
+        let r = length-replicate {A = ℕ} 1024 0 in
+        fits-right (P .people) (P .slots) units avail firsts fits 1024 asks-few (asks-domains (replicate 1024 0) (omega (arith, asks-few, r))) e
 
     pub asks-step : InStep P o D
     asks-step = recount-step P avail units firsts o D (A .grounds .on .room) (A .recount)

@@ -17,7 +17,8 @@ use Rattle.rota.specs.declared.Pick.the-variants.{Nobody, Beyond, Person
 use Rattle.rota.specs.declared.Move.{Move}
 use Rattle.rota.specs.declared.Move.the-variants.{Stay}
 use Rattle.rota.specs.Board.{runStart, runTo, runEnd}
-use Rattle.rota.specs.Ready.{inMask, fitsBy, Cover}
+use Rattle.units.specs.Domains.{inMask}
+use Rattle.rota.specs.Ready.{fitsBy, Cover}
 use Rattle.rota.specs.Moves.{anyOf, stayIf, picked}
 
 -- ---- tests in a row

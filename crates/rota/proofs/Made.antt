@@ -12,7 +12,7 @@ use lib.ListN.{length, getD, getD-replicate}
 use Rattle.paper.specs.Limits.{nobody, peopleOk}
 use Rattle.paper.specs.Count.{sum, over, fill}
 use Rattle.paper.proofs.Logic.{lt-or-ge}
-use Rattle.paper.proofs.Count.{sum-same, over-same, length-over, getD-over, length-fill, getD-fill-in, getD-fill-out}
+use Rattle.paper.proofs.Count.{sum-same, over-same, over-again, length-over, getD-over, length-fill, getD-fill-in, getD-fill-out}
 use Rattle.slotset.specs.Slots.{slot, putSlots}
 use Rattle.slotset.specs.Answers.{rowNo, rowStretchNo, rowStretchOf, wordsAs}
 use Rattle.slotset.proofs.Puts.{Fit, puts-same}
@@ -21,7 +21,7 @@ use Rattle.rota.specs.Derived.{InStep, setFor, lessAt, moreAt}
 use Rattle.rota.specs.Derived.{stretchMinutes, OneOwner, nobodies, cut, Makes}
 use Rattle.rota.proofs.Minutes.{known-nobody, portion-other}
 use Rattle.rota.proofs.Sets.{held-same, held-not, length-sets, sets-fit, sets-in, sets-again}
-use Rattle.rota.proofs.Steps.{over-again, afresh-again, afresh-same, afresh-step, afresh-fit, afresh-lengths, Owned, new-room}
+use Rattle.rota.proofs.Steps.{afresh-again, afresh-same, afresh-step, afresh-fit, afresh-lengths, Owned, new-room}
 use Rattle.rota.proofs.Steps.{handed-over}
 
 -- ---- only the owners below the slot count matter

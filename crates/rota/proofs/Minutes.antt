@@ -12,7 +12,7 @@ use lib.Seq.{getD-set-same, getD-set-other}
 use Rattle.paper.specs.Limits.{nobody}
 use Rattle.paper.specs.Count.{sum, fill}
 use Rattle.paper.proofs.Logic.{by-test, or-right, lt-or-ge}
-use Rattle.paper.proofs.Count.{sum-same, sum-add, sum-change, length-fill, getD-fill-out}
+use Rattle.paper.proofs.Count.{sum-same, sum-add, sum-change, sum-mono, sum-rises, length-fill, getD-fill-out}
 use Rattle.slots.specs.Lent.{demandOf}
 use Rattle.rota.specs.Derived.{Plan, lengthAt, knownBy, portion, worked, uncovered, stretchMinutes}
 
@@ -110,16 +110,6 @@ portion-le : (w p n : ℕ) → portion w p n ≤ n
 unfolding portion
 portion-le w p n = by-test (eqb w p) _ (λ t. simp t (omega arith)) (λ f. simp f zero-le)
 
-sum-below : (n : ℕ) (f g : ℕ → ℕ) → ((k : ℕ) → f k ≤ g k) → sum n f ≤ sum n g
-unfolding sum
-sum-below zero f g h = zero-le
-sum-below (suc n) f g h = omega (arith, sum-below n f g h, h n)
-
-pub sum-rises : (n d : ℕ) (f : ℕ → ℕ) → sum n f ≤ sum (n + d) f
-unfolding sum
-sum-rises n zero f = let e : n + 0 ≡ n = omega arith in omega (arith, ap (λ (x : ℕ). sum x f) e)
-sum-rises n (suc d) f = let e : n + suc d ≡ suc (n + d) = omega arith in omega (arith, sum-rises n d f, ap (λ (x : ℕ). sum x f) e)
-
 -- so are those of the first n slots
 pub worked-part-le : (P : Plan) (o : List ℕ) (p n : ℕ) → n ≤ P .slots
     → sum n (λ k. portion (getD o k 0) p (lengthAt P k)) ≤ demandOf (P .slots) (P .starts) (P .ends)
@@ -128,14 +118,14 @@ worked-part-le P o p n h =
     let y : n + (P .slots - n) ≡ P .slots = omega arith in
     omega (
       arith,
-      sum-below n _ (lengthAt P) (λ k. portion-le (getD o k 0) p (lengthAt P k)),
+      sum-mono n _ (lengthAt P) (λ k l. portion-le (getD o k 0) p (lengthAt P k)),
       sum-rises n (P .slots - n) (lengthAt P),
       ap (λ (z : ℕ). sum z (lengthAt P)) y,
     )
 
 pub worked-le : (P : Plan) (o : List ℕ) (p : ℕ) → worked P o p ≤ demandOf (P .slots) (P .starts) (P .ends)
 unfolding worked demandOf
-worked-le P o p = sum-below (P .slots) _ (lengthAt P) (λ k. portion-le (getD o k 0) p (lengthAt P k))
+worked-le P o p = sum-mono (P .slots) _ (lengthAt P) (λ k l. portion-le (getD o k 0) p (lengthAt P k))
 
 -- ---- a stretch changes hands
 

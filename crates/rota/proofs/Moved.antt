@@ -16,7 +16,7 @@ use Rattle.rota.specs.declared.Pick.the-variants.{Nobody, Beyond, Person
 use Rattle.rota.specs.declared.Move.{Move}
 use Rattle.rota.specs.declared.Move.the-variants.{Stay, Trade}
 use Rattle.rota.specs.Board.{Board, ownerOf, unowned, runStart, runEnd}
-use Rattle.rota.specs.Ready.{inMask}
+use Rattle.units.specs.Domains.{inMask}
 use Rattle.rota.specs.Moves.{stayIf, give, movable, covers, firstOf, lastOf, picked, onPick, domainOf, reassigned, swapStays}
 use Rattle.rota.specs.Moves.{swapped}
 use Rattle.rota.specs.Moves.{others, runReassigned, runsStay, runsSwapped, grown, shrunk, shifted, draw, decided}

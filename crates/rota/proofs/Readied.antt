@@ -1,72 +1,33 @@
 -- What is worked out once a call is what the definitions say: masks of people, marks of frozen units, the board. Assumes nothing.
 use mathlib.Core.Path.{_≡_, refl, sym, ap, ap₂, _∙_, fun-ext}
 use mathlib.Core.Logic.{⊎-elim}
-use mathlib.Core.Bool.{Bool, true, false, cond, not, _&&_, _||_, and-false}
+use mathlib.Core.Bool.{Bool, true, false, cond, not, _&&_, _||_}
 use mathlib.Core.List.{List}
-use Prim.Native.Nat.{ℕ, zero, suc, _+_, _-_, _*_, _%_, _^_, _≤_, _<_, max}
+use Prim.Native.Nat.{ℕ, _+_, _≤_, _<_}
 use native.Mathlib.Omega.{arith}
-use borrow.Author.Tests.{ne-eqb, eqb-true, eqb-false, lt-ltb, le-ltb}
-use lib.Dec.{eqb, ltb, lit<}
-use lib.Bits.{bitOr}
-use lib.Pow.{pow-lt}
-use native.Mathlib.Nat.{mod-eq-of-lt}
+use borrow.Author.Tests.{eq-eqb, eqb-true, eqb-false, lt-ltb, le-ltb}
+use lib.Dec.{eqb, ltb}
 use lib.ListN.{length, getD, set, replicate, getD-replicate, length-replicate, List·getD-eq-default}
 use lib.Seq.{getD-set-same, getD-set-other}
-use Rattle.paper.specs.Bits.{bitOf}
-use Rattle.paper.proofs.Bits.{bit-or, bit-lt, bit-shl-low, bit-shl-high, top-clear, bit-none, bit-ones}
+use Rattle.paper.specs.Count.{over}
+use Rattle.paper.proofs.Bits.{bit-none}
+use Rattle.paper.proofs.Count.{getD-over, getD-over-out}
 use Rattle.paper.proofs.Logic.{by-test, lt-or-ge}
 use Rattle.units.specs.Units.{unitStart, unitEnd, unitsOk, unitOf}
-use Rattle.units.specs.Domains.{able, ableIn, clear, clearIn, unitFrozen}
+use Rattle.units.specs.Domains.{able, clear, clearIn, unitFrozen, inMask, unitMask, unitDomainsNo, unitDomainsIs}
+use Rattle.units.proofs.Sets.{clear-known}
+use Rattle.units.proofs.MaskBits.{mask-is}
 use Rattle.rota.specs.Board.{Board, BoardSound}
-use Rattle.rota.specs.Ready.{ready, inMask, fitsBy, frozenBy}
-use Rattle.rota.specs.Lent.{fitsUnit, frozenUnit, boardOf, UnitMask, WithPerson, markOf, FitsRight, FrozenRight}
-use Rattle.rota.proofs.Scans.{row-ok}
+use Rattle.rota.specs.Ready.{ready, fitsBy, frozenBy}
+use Rattle.rota.specs.Lent.{fitsUnit, frozenUnit, boardOf, markOf, FitsRight, FrozenRight}
 
--- ---- masks
+-- ---- one entry for each unit
 
--- bit p of a power of two
-bit-power : (s k : ℕ) → bitOf (1 * 2 ^ s) k ≡ cond (eqb k s) 1 0
-bit-power s k =
-    ⊎-elim
-    (λ (h : k < s). bit-shl-low 1 s k h ∙ sym (ap (λ (b : Bool). cond b 1 0) (ne-eqb k s (λ q. omega arith))))
-    (λ (h : s ≤ k).
-    bit-shl-high 1 s k h
-    ∙ by-test (eqb k s) _
-    (λ t.
-    let q = eqb-true k s t in
-    let z : k - s ≡ 0 = omega arith in
-    ap (bitOf 1) z ∙ one ∙ sym (ap (λ (b : Bool). cond b 1 0) t))
-    (λ f.
-    top-clear 1 1 (k - s) (lit< tt) (above k s h (eqb-false k s f)) ∙ sym (ap (λ (b : Bool). cond b 1 0) f)))
-    (lt-or-ge k s)
-  where
-    one : bitOf 1 0 ≡ 1
-    one = bit-ones 1 0 (omega arith)
-
-    above : (k s : ℕ) → s ≤ k → (k ≡ s → ⊥) → 1 ≤ k - s
-    above k s h n = ⊎-elim (λ (l : s < k). omega arith) (λ (l : k ≤ s). absurd (n (omega arith))) (lt-or-ge s k)
-
-either-set : (a : ℕ) (b : Bool) → a < 2 → eqb (max a (cond b 1 0)) 1 ≡ eqb a 1 || b
-either-set zero true h = refl
-either-set zero false h = refl
-either-set (suc zero) true h = refl
-either-set (suc zero) false h = refl
-either-set (suc (suc a)) b h = absurd (omega arith)
-
-pub with-one : (mask person : ℕ) → WithPerson mask person (bitOr mask (1 * 2 ^ person))
-unfolding inMask
-with-one mask person =
-    record {
-      each = λ p.
-          ap (λ (b : ℕ). eqb b 1) (bit-or mask (1 * 2 ^ person) p ∙ ap (max (bitOf mask p)) (bit-power person p))
-          ∙ either-set (bitOf mask p) (eqb p person) (bit-lt mask p);
-    }
-
-pub with-one-fits : (mask person : ℕ) → person < 32 → WithPerson mask person (bitOr mask (1 * 2 ^ person % 4294967296))
-with-one-fits mask person h =
-    let l : 1 * 2 ^ person < 4294967296 = omega (arith, pow-lt {i = person} {j = 32} h) in
-    let e : 1 * 2 ^ person % 4294967296 ≡ 1 * 2 ^ person = mod-eq-of-lt l in
-    rw e (with-one mask person)
+zero-at : (n u : ℕ) → _≡_ {A = ℕ} (getD (replicate n 0) u 0) 0
+zero-at n u =
+    ⊎-elim (λ (h : u < n). getD-replicate n u 0 0 h)
+    (λ (h : n ≤ u). List·getD-eq-default {A = ℕ} (replicate n 0) 0 {n = u} (omega (arith, length-replicate {A = ℕ} n 0)))
+    (lt-or-ge u n)
 
 -- below one more
 below-more : (p i : ℕ) → ltb p (i + 1) ≡ ltb p i || eqb p i
@@ -80,58 +41,6 @@ below-more p i =
   where
     above : (p i : ℕ) → i ≤ p → (p ≡ i → ⊥) → i + 1 ≤ p
     above p i h n = ⊎-elim (λ (l : i < p). omega arith) (λ (l : p ≤ i). absurd (n (omega arith))) (lt-or-ge i p)
-
-module _ (av : List ℕ) (people a e : ℕ) where
-  abbrev MaskTo : ℕ → ℕ → Type 0
-  MaskTo i mask = (p : ℕ) → inMask mask p ≡ ltb p i && able av a e p
-
-  pub mask-none : (p : ℕ) → inMask 0 p ≡ ltb p 0 && able av a e p
-  unfolding inMask
-  mask-none p = ap (λ (b : ℕ). eqb b 1) (bit-none p) ∙ sym (ap (λ (b : Bool). b && able av a e p) (le-ltb p 0 (omega arith)))
-
-  -- the answer of `able`, where the row may be asked
-  able-says : (p : ℕ) → p < people → people ≤ 32 → e ≤ 1024 → 16 * people ≤ length av → ableIn av people p a e ≡ able av a e p
-  unfolding ableIn
-  able-says p h few l room = ap (λ (n : ℕ). eqb n 0 && able av a e p) (row-ok av people p e h few l room)
-
-  joins : (x y z : Bool) → x && z || y && z ≡ (x || y) && z
-  joins true y true = refl
-  joins true y false = and-false y
-  joins false y z = refl
-
-  module _ (i mask : ℕ) (b : Bool) (hi : i < people) (few : people ≤ 32) (l : e ≤ 1024) (room : 16 * people ≤ length av)
-      (M : MaskTo i mask) (d : b ≡ ableIn av people i a e) where
-    pub mask-in : (r : ℕ) → b ≡ true → WithPerson mask i r → (p : ℕ) → inMask r p ≡ ltb p (i + 1) && able av a e p
-    mask-in r t W p =
-        W .each p ∙ ap₂ _||_ (M p) (same p)
-        ∙ joins (ltb p i) (eqb p i) (able av a e p) ∙ ap (λ (x : Bool). x && able av a e p) (sym (below-more p i))
-      where
-        same : (p : ℕ) → eqb p i ≡ eqb p i && able av a e p
-        same p =
-            by-test (eqb p i) _
-            (λ q.
-            let x : able av a e p ≡ true = ap (able av a e) (eqb-true p i q) ∙ sym (able-says i hi few l room) ∙ sym d ∙ t in
-            q ∙ sym (ap₂ _&&_ q x))
-            (λ q. q ∙ sym (ap (λ (x : Bool). x && able av a e p) q))
-
-    pub mask-out : b ≡ false → (p : ℕ) → inMask mask p ≡ ltb p (i + 1) && able av a e p
-    mask-out t p =
-        M p
-        ∙ by-test (eqb p i) _
-        (λ q.
-        let x : able av a e p ≡ false = ap (able av a e) (eqb-true p i q) ∙ sym (able-says i hi few l room) ∙ sym d ∙ t in
-        ap (λ (y : Bool). ltb p i && y) x ∙ and-false (ltb p i) ∙ sym (ap (λ (y : Bool). ltb p (i + 1) && y) x ∙ and-false (ltb p (i
-        + 1))))
-        (λ q. ap (λ (y : Bool). y && able av a e p) (sym (below-more p i ∙ ap (λ (x : Bool). ltb p i || x) q ∙
-        mathlib.Core.Bool.or-false (ltb p i))))
-
--- ---- one entry for each unit
-
-zero-at : (n u : ℕ) → _≡_ {A = ℕ} (getD (replicate n 0) u 0) 0
-zero-at n u =
-    ⊎-elim (λ (h : u < n). getD-replicate n u 0 0 h)
-    (λ (h : n ≤ u). List·getD-eq-default {A = ℕ} (replicate n 0) 0 {n = u} (omega (arith, length-replicate {A = ℕ} n 0)))
-    (lt-or-ge u n)
 
 -- a column that is made entry by entry: r reads from entry u what g says of unit u, and no from those that are not made yet
 module _ (r g : ℕ → Bool) where
@@ -152,30 +61,37 @@ module _ (r g : ℕ → Bool) where
       ap r (getD-set-other column i u v 0 (eqb-false u i f)) ∙ F u
       ∙ ap (λ (b : Bool). b && g u) (sym (below-more u i ∙ ap (λ (x : Bool). ltb u i || x) f ∙ mathlib.Core.Bool.or-false (ltb u i))))
 
-module _ (slots units people : ℕ) (av firsts : List ℕ) where
-  abbrev fit-for : ℕ → ℕ → Bool
-  fit-for p u = ltb p people && able av (unitStart firsts u) (unitEnd slots units firsts u) p
+-- the masks of everybody's domains, written over zeros
+pub fits-right : (people slots units : ℕ) (av firsts fits : List ℕ) (n : ℕ) → units ≤ n
+    → unitDomainsNo av people slots units firsts (replicate n 0) ≡ 0 → fits ≡ unitDomainsIs av people slots units firsts (replicate n 0)
+    → FitsRight people slots units av firsts fits
+unfolding fitsBy inMask fitsUnit unitDomainsIs unitMask
+fits-right people slots units av firsts fits n h z e =
+    record {
+      each = λ p u.
+          ap (λ (l : List ℕ). inMask (getD l u 0) p) made
+          ∙ ⊎-elim
+          (λ (b : u < units).
+          let a = able av (unitStart firsts u) (unitEnd slots units firsts u) in
+          ap (λ (m : ℕ). inMask m p) (getD-over mask units zeros u b (omega (arith, length-replicate {A = ℕ} n 0)))
+          ∙ mask-is a people .each p ∙ sym (ap (λ (t : Bool). t && (ltb p people && a p)) (lt-ltb u units b)))
+          (λ (b : units ≤ u).
+          ap (λ (m : ℕ). inMask m p) (getD-over-out mask units zeros u b ∙ zero-at n u) ∙ nobody-in p
+          ∙ sym (ap (λ (t : Bool). t && (ltb p people && able av (unitStart firsts u) (unitEnd slots units firsts u) p)) (le-ltb u units b)))
+          (lt-or-ge u units);
+    }
+  where
+    mask : ℕ → ℕ
+    mask = unitMask av people slots units firsts
 
-  abbrev FitsTo : ℕ → List ℕ → Type 0
-  FitsTo i fits = (p u : ℕ) → fitsBy fits p u ≡ ltb u i && fit-for p u
+    zeros : List ℕ
+    zeros = replicate n 0
 
-  pub fits-none : (n : ℕ) → FitsTo 0 (replicate n 0)
-  unfolding fitsBy inMask
-  fits-none n p = read-none (λ m. inMask m p) (fit-for p) n (ap (λ (b : ℕ). eqb b 1) (bit-none p))
+    made : fits ≡ over mask units zeros
+    made = e ∙ simp (eq-eqb (unitDomainsNo av people slots units firsts zeros) 0 z)
 
-  pub fits-more : (i a e mask : ℕ) (fits : List ℕ) → i < length fits → a ≡ unitStart firsts i → e ≡ unitEnd slots units firsts i
-      → UnitMask av people a e mask → FitsTo i fits → FitsTo (i + 1) (set fits i mask)
-  unfolding fitsBy
-  fits-more i a e mask fits h pa pe U F p =
-      read-more (λ m. inMask m p) (fit-for p) i mask fits h
-      (U .each p ∙ ap₂ (λ (x y : ℕ). ltb p people && able av x y p) pa pe) (F p)
-
-  pub fits-done : (fits : List ℕ) (i : ℕ) → i ≡ units → FitsTo i fits → FitsRight people slots units av firsts fits
-  unfolding fitsUnit
-  fits-done fits i q F =
-      record {
-        each = λ p u. F p u ∙ ap (λ (n : ℕ). ltb u n && fit-for p u) q;
-      }
+    nobody-in : (p : ℕ) → inMask 0 p ≡ false
+    nobody-in p = ap (λ (b : ℕ). eqb b 1) (bit-none p)
 
 module _ (slots units : ℕ) (firsts fr : List ℕ) where
   abbrev MarksTo : ℕ → List ℕ → Type 0
@@ -200,18 +116,13 @@ module _ (slots units : ℕ) (firsts fr : List ℕ) where
   unfolding frozenUnit
   marks-done flags i q F = record { each = λ u. F u ∙ ap (λ (n : ℕ). ltb u n && unitFrozen fr slots units firsts u) q }
 
--- the answer of `clear`, where the flags may be asked
-pub clear-says : (fr : List ℕ) (a e : ℕ) → e ≤ 1024 → 16 ≤ length fr → clearIn fr a e ≡ clear fr a e
-unfolding clearIn
-clear-says fr a e l room = ap (λ (n : ℕ). eqb n 0 && clear fr a e) (row-ok fr 1 0 e (omega arith) (omega arith) l (omega arith))
-
 pub mark-clear : (fr : List ℕ) (a e : ℕ) (b : Bool) → e ≤ 1024 → 16 ≤ length fr → b ≡ clearIn fr a e → b ≡ true → 0 ≡ markOf fr a e
 unfolding markOf
-mark-clear fr a e b l room d t = sym (ap (λ (x : Bool). cond x 0 1) (sym (clear-says fr a e l room) ∙ sym d ∙ t))
+mark-clear fr a e b l room d t = sym (ap (λ (x : Bool). cond x 0 1) (sym (clear-known fr a e room l) ∙ sym d ∙ t))
 
 pub mark-set : (fr : List ℕ) (a e : ℕ) (b : Bool) → e ≤ 1024 → 16 ≤ length fr → b ≡ clearIn fr a e → b ≡ false → 1 ≡ markOf fr a e
 unfolding markOf
-mark-set fr a e b l room d t = sym (ap (λ (x : Bool). cond x 0 1) (sym (clear-says fr a e l room) ∙ sym d ∙ t))
+mark-set fr a e b l room d t = sym (ap (λ (x : Bool). cond x 0 1) (sym (clear-known fr a e room l) ∙ sym d ∙ t))
 
 -- ---- the board
 

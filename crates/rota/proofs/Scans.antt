@@ -20,6 +20,7 @@ use Rattle.slotset.specs.declared.Told.the-variants as told
 use Rattle.slots.specs.Lent.{minutesAt}
 use Rattle.units.specs.Units.{unitStart, unitEnd}
 use Rattle.units.specs.Domains.{available}
+use Rattle.units.proofs.Sets.{row-ok}
 use Rattle.rota.specs.Derived.{Plan, PlanSound, knownBy, portion, worked, held, lengthAt}
 use Rattle.rota.specs.Recount.{firstFail, FirstFault, freeFor, knownAt, freeAt, evenAt, setSlotAt, setAt, sameBit, minutesOkAt}
 use Rattle.rota.proofs.Minutes.{worked-part-le}
@@ -96,19 +97,6 @@ pub scan-ends : (n i : ℕ) (p : ℕ → Bool) → i ≤ n → n ≤ i → all i
 scan-ends n i p h g a = sym (fails-none n p (ap (λ (m : ℕ). all m p) (le-antisymm g h) ∙ a))
 
 -- ---- one row of a set
-
-pub row-ok : (ws : List ℕ) (people person len : ℕ) → person < people → people ≤ 32 → len ≤ 1024 → 16 * people ≤ length ws → rowNo ws
-    people person len ≡ 0
-unfolding rowNo peopleOk
-row-ok ws people person len h few l room =
-    simp (
-      le-leb 1 people (omega arith),
-      le-leb people 32 few,
-      le-leb len 1024 l,
-      le-leb (16 * people) (length ws) room,
-      lt-ltb
-          person people h,
-    )
 
 has-says : (f : ℕ → ℕ) (len k : ℕ) → k < len → has f len k ≡ eqb (f k) 1
 unfolding has

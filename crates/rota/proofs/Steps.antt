@@ -12,7 +12,7 @@ use lib.Seq.{getD-set-same, getD-set-other, ext-getD}
 use Rattle.paper.specs.Limits.{nobody}
 use Rattle.paper.specs.Count.{over, fill, sum}
 use Rattle.paper.proofs.Logic.{by-test, lt-or-ge}
-use Rattle.paper.proofs.Count.{length-over, getD-over, getD-over-out, length-fill, getD-fill-in, getD-fill-out}
+use Rattle.paper.proofs.Count.{sum-rises, over-again, over-right, length-over, getD-over, getD-over-out, length-fill, getD-fill-in, getD-fill-out}
 use Rattle.slotset.proofs.Puts.{Fit}
 use Rattle.slots.specs.Lent.{demandOf, minutesAt}
 use Rattle.slotset.specs.Slots.{valueOf}
@@ -20,26 +20,10 @@ use Rattle.slotset.specs.Answers.{rowNo, rowStretchNo, rowStretchOf, wordsAs}
 use Rattle.paper.specs.Limits.{peopleOk}
 use Rattle.rota.specs.Derived.{Plan, PlanSound, knownBy, portion, worked, Derived, derived, afresh, InStep, setFor}
 use Rattle.rota.specs.Derived.{lessAt, moreAt, stretchMinutes, lengthAt, HandedOver}
-use Rattle.rota.proofs.Minutes.{known-below, portion-own, portion-other, worked-over, worked-le, sum-rises}
+use Rattle.rota.proofs.Minutes.{known-below, portion-own, portion-other, worked-over, worked-le}
 use Rattle.rota.proofs.Sets.{length-sets, sets-fit, sets-in, sets-again, sets-same, sets-handed}
 
 -- ---- worked out afresh
-
-pub over-again : (f g : ℕ → ℕ) (n : ℕ) (m : List ℕ) → over g n (over f n m) ≡ over g n m
-over-again f g n m =
-    ext-getD 0 (over g n (over f n m)) (over g n m)
-    (length-over g n (over f n m) ∙ length-over f n m ∙ sym (length-over g n m))
-    (λ j r.
-    let rm : j < length m = omega (arith, length-over g n (over f n m), length-over f n m) in
-    ⊎-elim
-    (λ (t : j < n). getD-over g n (over f n m) j t (omega (arith, length-over f n m)) ∙ sym (getD-over g n m j t rm))
-    (λ (u : n ≤ j). getD-over-out g n (over f n m) j u ∙ getD-over-out f n m j u ∙ sym (getD-over-out g n m j u))
-    (lt-or-ge j n))
-
-over-right : (f : ℕ → ℕ) (n : ℕ) (m : List ℕ) → ((j : ℕ) → j < n → getD m j 0 ≡ f j) → m ≡ over f n m
-over-right f n m h =
-    ext-getD 0 m (over f n m) (sym (length-over f n m))
-    (λ j r. ⊎-elim (λ (t : j < n). h j t ∙ sym (getD-over f n m j t r)) (λ (u : n ≤ j). sym (getD-over-out f n m j u)) (lt-or-ge j n))
 
 -- what is worked out afresh forgets what was there before
 pub afresh-again : (P : Plan) (o o′ : List ℕ) (D : Derived) → P .slots ≤ 1024 → 16 * P .people ≤ length (D .sets) → Fit (D .sets)

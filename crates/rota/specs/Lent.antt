@@ -1,13 +1,13 @@
 -- The board that lent units, availability and frozen flags make. Assumes nothing.
 use mathlib.Core.Path.{_≡_}
-use mathlib.Core.Bool.{Bool, cond, _&&_, _||_}
+use mathlib.Core.Bool.{Bool, cond, _&&_}
 use mathlib.Core.List.{List}
 use Prim.Native.Nat.{ℕ, _≤_, _<_}
-use lib.Dec.{eqb, ltb}
+use lib.Dec.{ltb}
 use Rattle.units.specs.Units.{unitStart, unitEnd}
 use Rattle.units.specs.Domains.{able, clear, unitFrozen}
 use Rattle.rota.specs.Board.{Board}
-use Rattle.rota.specs.Ready.{inMask, fitsBy, frozenBy}
+use Rattle.rota.specs.Ready.{fitsBy, frozenBy}
 
 -- a known person is available for every slot of a unit
 unfoldable pub fitsUnit : ℕ → ℕ → ℕ → List ℕ → List ℕ → ℕ → ℕ → Bool
@@ -31,14 +31,6 @@ boardOf people slots units avail firsts frozen =
     }
 
 -- ---- what is worked out once a call
-
--- mask has the known people who are available from slot a up to e
-pub record UnitMask (avail : List ℕ) (people a e mask : ℕ) : Type 0 where
-  pub each : (p : ℕ) → inMask mask p ≡ ltb p people && able avail a e p
-
--- r has the people of mask and one more
-pub record WithPerson (mask person r : ℕ) : Type 0 where
-  pub each : (p : ℕ) → inMask r p ≡ inMask mask p || eqb p person
 
 -- the mark of a unit from slot a up to e
 unfoldable pub markOf : List ℕ → ℕ → ℕ → ℕ

@@ -5,14 +5,10 @@ use mathlib.Core.List.{List}
 use Prim.Native.Nat.{ℕ, _+_, _≤_, _<_}
 use lib.Dec.{eqb}
 use lib.ListN.{length, getD}
-use Rattle.paper.specs.Bits.{bitOf}
 use Rattle.paper.specs.Count.{allIn}
 use Rattle.units.specs.Units.{unitStart, unitEnd}
+use Rattle.units.specs.Domains.{inMask}
 use Rattle.rota.specs.Board.{Board, BoardSound, Even}
-
--- person p stands in a mask: bit p is set
-unfoldable pub inMask : ℕ → ℕ → Bool
-inMask mask p = eqb (bitOf mask p) 1
 
 -- person p stands in the mask of unit u
 unfoldable pub fitsBy : List ℕ → ℕ → ℕ → Bool

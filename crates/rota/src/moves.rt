@@ -9,7 +9,8 @@ ghost use lib.ListN.{length, getD};
 ghost use Rattle.paper.specs.Count.{allIn, among};
 ghost use Rattle.units.specs.Units.{unitStart, unitEnd};
 ghost use Rattle.rota.specs.Board.{ownerOf, runStart, runEnd};
-ghost use Rattle.rota.specs.Ready.{ready, inMask, fitsBy, frozenBy, Cover, runsFit};
+ghost use Rattle.units.specs.Domains.{inMask};
+ghost use Rattle.rota.specs.Ready.{ready, fitsBy, frozenBy, Cover, runsFit};
 ghost use Rattle.rota.specs.Moves.{draw, movable, firstOf, lastOf, picked, reassigned, swapped, runReassigned, runsSwapped};
 ghost use Rattle.rota.specs.Moves.{grown, shrunk, shifted, decided};
 

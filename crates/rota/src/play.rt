@@ -11,58 +11,15 @@ use paper::counts_ok;
 ghost use mathlib.Core.Path.{_≡_};
 ghost use Prim.Native.Nat.{ℕ, _+_, _*_, _<_, _≤_};
 ghost use lib.ListN.{length};
-ghost use Rattle.units.specs.Units.{unitStart, unitEnd};
+ghost use Rattle.units.specs.Units.{unitEnd};
 ghost use Rattle.rota.specs.Board.{BoardSound, Even};
 ghost use Rattle.rota.specs.Ready.{ready};
-ghost use Rattle.rota.specs.Lent.{WithPerson, UnitMask, FitsRight, FrozenRight, markOf};
+ghost use Rattle.rota.specs.Lent.{FrozenRight, markOf};
 ghost use Rattle.rota.specs.Moves.{draw};
 ghost use Rattle.rota.specs.Plays.{drawsOf};
 ghost use Rattle.rota.specs.Derived.{plan, derived, InStep, PlanSound};
 ghost use Rattle.rota.specs.Stepped.{Stepped, Ran, DrawRoom};
 ghost use Rattle.rota.specs.Entries.{playNo, played, Ended};
-
-// One more person in a mask.
-fn with_person(mask: u32, person: usize) -> u32
-    requires { ⌜ person < 32 ⌝ }
-    ensures { λ r. ⌜ WithPerson mask person r ⌝ }
-{
-    mask | (1u32 << person)
-}
-
-// The people who are available from slot a up to e.
-fn unit_mask(avail: &[u64], people: usize, a: usize, e: usize) -> u32
-    requires { ⌜ (1 ≤ people) × (people ≤ 32) × (e ≤ 1024) × (16 * people ≤ length (now avail)) ⌝ }
-    ensures { λ r. ⌜ UnitMask (now (avail .entry)) people a e r ⌝ }
-{
-    let mut mask: u32 = 0;
-    let mut p: usize = 0;
-    while p < people {
-        if units::able(avail, people, p, a, e) {
-            mask = with_person(mask, p);
-            p += 1;
-        } else {
-            p += 1;
-        }
-    }
-    mask
-}
-
-// For each unit the mask of the people who fit it.
-fn fits_of(people: usize, slots: usize, units: usize, avail: &[u64], firsts: &[u16]) -> [u32; 1024]
-    requires { ⌜ (1 ≤ people) × (people ≤ 32) × (slots ≤ 1024) × (units ≤ 1024) × (16 * people ≤ length (now avail)) ⌝ }
-    requires { ⌜ ((u : ℕ) → u < units → unitEnd slots units (now firsts) u ≤ slots) ⌝ }
-    ensures { λ r. ⌜ FitsRight people slots units (now (avail .entry)) (now (firsts .entry)) r ⌝ }
-{
-    let mut fits = [0u32; 1024];
-    let mut u: usize = 0;
-    while u < units {
-        let a = units::start_of(firsts, u);
-        let e = units::unit_end(slots, units, firsts, u);
-        fits[u] = unit_mask(avail, people, a, e);
-        u += 1;
-    }
-    fits
-}
 
 // 0 where no slot from a up to e is frozen, else 1.
 fn mark_of(frozen: &[u64], a: usize, e: usize) -> u8
@@ -326,7 +283,8 @@ pub fn play(
         answers,
     );
     if n == 0 {
-        let fits = fits_of(people, slots, units, avail, firsts);
+        let mut fits = [0u32; 1024];
+        units::unit_domains(avail, people, slots, units, firsts, &mut fits);
         let flags = frozen_of(slots, units, firsts, frozen);
         run(
             people,

@@ -7,5 +7,7 @@ pub mod Rising
 pub mod Covered
 pub mod Longest
 pub mod Sets
+pub mod MaskBits
+pub mod Striking
 pub mod Reach
 pub mod Means

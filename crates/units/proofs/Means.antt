@@ -6,10 +6,9 @@ use Prim.Native.Nat.{ℕ, suc, _*_, _≤_, _<_}
 use borrow.Author.Tests.{eq-eqb, eqb-true, eqb-false, not-true}
 use lib.Dec.{eqb}
 use lib.ListN.{length, getD}
-use Rattle.paper.proofs.Count.{in-each, each-in, in-fails, among-at, among-each}
+use Rattle.paper.proofs.Count.{in-each, each-in, in-fails, among-at, among-each, among-rises}
 use Rattle.slotset.specs.Slots.{slot}
 use Rattle.units.specs.Domains.{available, able, domain, unfrozen, clear}
-use Rattle.units.proofs.Rising.{among-rises}
 
 -- ---- a domain, of the slots from a up to e
 

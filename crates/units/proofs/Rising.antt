@@ -11,39 +11,12 @@ use lib.Dec.{leb}
 use lib.ListN.{length, getD, drop, length-append, List·getD-append}
 use Rattle.paper.specs.Count.{among, onto}
 use Rattle.paper.proofs.Logic.{by-test, lt-or-ge, and-true}
-use Rattle.paper.proofs.Count.{among-at, among-each, among-le, each-all, length-onto}
+use Rattle.paper.proofs.Count.{among-at, among-each, among-rises, among-le, each-all, length-onto}
 use Rattle.units.specs.Units.{unitStart, startRises, startOk, unitsOk}
 use Rattle.units.specs.declared.Settings.{Settings}
 use Rattle.units.specs.Answers.{writtenAs}
 use Rattle.units.specs.Starts.{rotationBegins, unitBegins, rotationStarts, unitStarts, startsNo, rotationStartsIs, unitStartsIs}
 use Rattle.units.proofs.Begins.{rotation-zero, unit-zero, starts-say}
-
--- an entry that an opening part of the list has
-among-before : (p : ℕ → Bool) (n k : ℕ) → k < length (among p n) → getD (among p (suc n)) k 0 ≡ getD (among p n) k 0
-unfolding among
-among-before p n k h = List·getD-append (among p n) (cond (p n) (n ∷ []) []) 0 k h
-
--- the list rises strictly, so nobody stands in it twice
-pub among-rises : (p : ℕ → Bool) (n k : ℕ) → suc k < length (among p n) → getD (among p n) k 0 < getD (among p n) (suc k) 0
-unfolding among
-among-rises p zero k h = absurd (not-suc-le-zero h)
-among-rises p (suc n) k h =
-    ⊎-elim
-    (λ (b : suc k < length (among p n)).
-    omega (arith, among-before p n k (omega arith), among-before p n (suc k) b, among-rises p n k b))
-    (λ (g : length (among p n) ≤ suc k).
-    by-test (p n) _
-    (λ t.
-    let l : length (among p (suc n)) ≡ length (among p n) + 1
-    = ap (λ (b : Bool). length (among p n ++ cond b (n ∷ []) [])) t ∙ length-append (among p n) (n ∷ []) in
-    let s : length (among p n) ≡ suc k = omega (arith, l) in
-    let a = among-at p (suc n) n (omega arith) t .1 in
-    let e : getD (among p (suc n)) (suc k) 0 ≡ n = ap (λ (j : ℕ). getD (among p (suc n)) j 0) (sym s) ∙ a in
-    omega (arith, e, among-before p n k (omega arith), among-each p n k (omega arith) .0))
-    (λ f.
-    absurd
-    (omega (arith, ap (λ (b : Bool). length (among p n ++ cond b (n ∷ []) [])) f, length-append (among p n) []))))
-    (lt-or-ge (suc k) (length (among p n)))
 
 module _ (p : ℕ → Bool) (slots : ℕ) (old : List ℕ) (first : p 0 ≡ true) (some : 1 ≤ slots) where
   -- where slot 0 passes, the list begins with it

@@ -1,15 +1,16 @@
 -- The laws of availability and of frozen flags: what a search of a set says of a stretch. Assumes nothing.
-use mathlib.Core.Path.{_≡_, sym, ap, ap₂, _∙_}
+use mathlib.Core.Path.{_≡_, refl, sym, ap, ap₂, _∙_, subst}
 use mathlib.Core.Bool.{Bool, true, false, _&&_, not}
+use mathlib.Core.Logic.{⊎-elim}
 use mathlib.Core.List.{List}
 use Prim.Native.Nat.{ℕ, suc, _+_, _-_, _*_, _/_, _≤_, _<_}
 use native.Mathlib.Omega.{arith}
 use borrow.Author.Tests.{eq-eqb, ne-eqb, ltb-true, ltb-false, leb-true, le-leb, lt-ltb}
 use lib.Dec.{eqb, ltb, leb}
 use lib.ListN.{length}
-use Rattle.paper.specs.Limits.{peopleOk, slotCountOk}
-use Rattle.paper.specs.Count.{allIn}
-use Rattle.paper.proofs.Logic.{by-test, same-test, cond-zero, slot-count-says, one-of}
+use Rattle.paper.specs.Limits.{peopleOk, slotCountOk, orElse}
+use Rattle.paper.specs.Count.{allIn, over}
+use Rattle.paper.proofs.Logic.{by-test, same-test, cond-zero, people-says, slot-count-says, one-of, lt-or-ge}
 use Rattle.paper.proofs.Count.{in-none, in-more, in-fails, in-each, each-in, among-same}
 use Rattle.slotset.specs.declared.Found.{Found}
 use Rattle.slotset.specs.declared.Found.the-variants.{At, Nothing, Refused}
@@ -17,13 +18,22 @@ use Rattle.slotset.specs.declared.Told.the-variants as told
 use Rattle.slotset.specs.Slots.{slot}
 use Rattle.slotset.specs.Search.{nextSet, nextUnsetAfter, prevUnsetBefore, First, Last}
 use Rattle.slotset.specs.Answers.{rowNo, rowSlots, foundAs, toldAs}
-use Rattle.slotset.proofs.Meaning.{next-is, last-is}
+use Rattle.slotset.proofs.Meaning.{next-is, next-unique, last-is}
+use Rattle.slotset.proofs.Refusals.{row-says}
 use Rattle.slotset.proofs.Puts.{slot-lt}
 use Rattle.units.specs.Units.{unitStart, unitEnd, unitsOk}
 use Rattle.units.specs.Domains.{available, able, domain, slotDomain, unitDomain, unfrozen, clear, unitFrozen}
 use Rattle.units.specs.Domains.{isNothing, ableIn, clearIn, DomainRoom}
-use Rattle.units.specs.Domains.{unitFrozenNo, slotDomainNo, unitDomainNo}
-use Rattle.units.proofs.Units.{unit-within}
+use Rattle.units.specs.Domains.{unitFrozenNo, slotDomainNo, domainNo, unitDomainNo, unitMask, unitDomainsNo, unitDomainsIs}
+use Rattle.units.specs.Striking.{foundOr, FirstNot, MaskRoom}
+use Rattle.units.proofs.Units.{units-room, unit-within}
+
+-- ---- one slot is a stretch
+
+in-one : (k : ℕ) (p : ℕ → Bool) → allIn k (k + 1) p ≡ p k
+in-one k p =
+    same-test (allIn k (k + 1) p) (p k) (λ t. in-each k (k + 1) p t k (omega arith) (omega arith))
+    (λ t. in-more k k p (omega arith) (in-none k p) t)
 
 -- ---- availability
 
@@ -70,12 +80,125 @@ able-after-law av people p a b e z =
     ∙ ap (λ (b : Bool). eqb (rowNo av people p e) 0 && b)
     (able-from av p (suc b) e (nextUnsetAfter (rowSlots av p) e b) (next-is 0 (rowSlots av p) e (suc b)) ∙ ap (λ x. able av x e p) z)
 
+-- a row that may be asked
+pub row-ok : (ws : List ℕ) (people person len : ℕ) → person < people → people ≤ 32 → len ≤ 1024 → 16 * people ≤ length ws
+    → rowNo ws people person len ≡ 0
+unfolding rowNo peopleOk
+row-ok ws people person len h few l room =
+    simp (
+      le-leb 1 people (omega arith),
+      le-leb people 32 few,
+      le-leb len 1024 l,
+      le-leb (16 * people) (length ws) room,
+      lt-ltb person people h,
+    )
+
 -- where the words and the person are known, that is availability itself
 pub able-known : (av : List ℕ) (people e : ℕ) (list : List ℕ) → DomainRoom av people e list
     → (p a : ℕ) → p < people → ableIn av people p a e ≡ able av a e p
-unfolding ableIn rowNo
+unfolding ableIn
 able-known av people e list r p a h =
-    simp (r .counted, le-leb e 1024 (r .short), le-leb (16 * people) (length av) (r .words), lt-ltb p people h)
+    simp (row-ok av people p e h (people-says people (r .counted) .1) (r .short) (r .words))
+
+-- ---- the next slot that a person lacks, and the next that they have
+
+module _ (av : List ℕ) (p slots : ℕ) where
+  gap-found : (at : ℕ) (r : Found) → at ≤ slots → First 0 (rowSlots av p) slots at r → FirstNot (available av p) at slots (foundOr slots r)
+  gap-found at (At i) h w =
+      record {
+        from = w .0;
+        within = omega (arith, w .1);
+        each = λ k l g. had av p k (w .3 k l g);
+        fails = λ _. lacking av p i (w .2);
+      }
+  gap-found at Nothing h w =
+      record { from = h; within = omega arith; each = λ k l g. had av p k (w k l g); fails = λ l. absurd (omega arith) }
+  gap-found at (Refused n) h w = absurd w
+
+  had-found : (at : ℕ) (r : Found) → at ≤ slots → First 1 (rowSlots av p) slots at r
+      → FirstNot (λ k. not (available av p k)) at slots (foundOr slots r)
+  unfolding available
+  had-found at (At i) h w =
+      record {
+        from = w .0;
+        within = omega (arith, w .1);
+        each = λ k l g. ap not (ne-eqb (slot av (16 * p) k) 1 (w .3 k l g));
+        fails = λ _. ap not (eq-eqb (slot av (16 * p) i) 1 (w .2));
+      }
+  had-found at Nothing h w =
+      record {
+        from = h;
+        within = omega arith;
+        each = λ k l g. ap not (ne-eqb (slot av (16 * p) k) 1 (w k l g));
+        fails = λ l. absurd (omega arith);
+      }
+  had-found at (Refused n) h w = absurd w
+
+  module _ (people : ℕ) (ok : rowNo av people p slots ≡ 0) where
+    asked : (x : Found) → foundAs (rowNo av people p slots) x ≡ x
+    unfolding foundAs
+    asked x = simp ok
+
+    -- found by a search, from its answer x
+    pub had-law : (at r : ℕ) (x : Found) → at ≤ slots → x ≡ foundAs (rowNo av people p slots) (nextSet (rowSlots av p) slots at)
+        → r ≡ foundOr slots x → FirstNot (λ k. not (available av p k)) at slots r
+    had-law at r x h e q =
+        subst (FirstNot (λ k. not (available av p k)) at slots)
+        (sym (q ∙ ap (foundOr slots) (e ∙ asked (nextSet (rowSlots av p) slots at))))
+        (had-found at (nextSet (rowSlots av p) slots at) h (next-is 1 (rowSlots av p) slots at))
+
+    pub gap-law : (at b r : ℕ) (x : Found) → suc b ≡ at → at ≤ slots
+        → x ≡ foundAs (rowNo av people p slots) (nextUnsetAfter (rowSlots av p) slots b) → r ≡ foundOr slots x
+        → FirstNot (available av p) at slots r
+    gap-law at b r x z h e q =
+        subst (λ (a : ℕ). FirstNot (available av p) a slots r) z
+        (subst (FirstNot (available av p) (suc b) slots)
+        (sym (q ∙ ap (foundOr slots) (e ∙ asked (nextUnsetAfter (rowSlots av p) slots b))))
+        (gap-found (suc b) (nextUnsetAfter (rowSlots av p) slots b) (omega arith) (next-is 0 (rowSlots av p) slots (suc b))))
+
+    -- from slot 0 on: that slot is asked first
+    slot-zero : (t : Bool) → t ≡ ableIn av people p 0 1 → t ≡ available av p 0
+    unfolding ableIn able
+    slot-zero t e =
+        let R = row-says av people p slots ok in
+        e ∙ simp (row-ok av people p 1 (R .known) (R .few) (omega arith) (R .room)) (in-one 0 (available av p))
+
+    pub gap-first : (at : ℕ) (t : Bool) → at ≡ 0 → t ≡ ableIn av people p 0 1 → t ≡ false → FirstNot (available av p) at slots 0
+    gap-first at t z e f =
+        record {
+          from = omega arith;
+          within = omega arith;
+          each = λ k l g. absurd (omega arith);
+          fails = λ _. sym (slot-zero t e) ∙ f;
+        }
+
+    pub gap-later : (at r : ℕ) (t : Bool) (x : Found) → at ≡ 0 → t ≡ ableIn av people p 0 1 → t ≡ true
+        → x ≡ foundAs (rowNo av people p slots) (nextUnsetAfter (rowSlots av p) slots 0) → r ≡ foundOr slots x
+        → FirstNot (available av p) at slots r
+    gap-later at r t x z e y d q =
+        let zero-had : available av p 0 ≡ true = sym (slot-zero t e) ∙ y in
+        ⊎-elim
+        (λ (h : 0 < slots).
+        let G = gap-law 1 0 r x refl h d q in
+        record {
+          from = omega (arith, G .from);
+          within = G .within;
+          each = λ k l g.
+              ⊎-elim (λ (a : 0 < k). G .each k a g) (λ (a : k ≤ 0). let n : k ≡ 0 = omega arith in ap (available av p) n ∙ zero-had)
+              (lt-or-ge 0 k);
+          fails = G .fails;
+        })
+        (λ (h : slots ≤ 0).
+        let n : slots ≡ 0 = omega arith in
+        let none : r ≡ 0 = q ∙ ap (foundOr slots) (d ∙ asked _ ∙ sym (next-unique 0 (rowSlots av p) slots 1 Nothing (λ k a b. absurd (omega
+        arith)))) ∙ n in
+        record {
+          from = omega arith;
+          within = omega arith;
+          each = λ k l g. absurd (omega arith);
+          fails = λ g. absurd (omega arith);
+        })
+        (lt-or-ge 0 slots)
 
 -- ---- frozen flags
 
@@ -98,12 +221,7 @@ pub clear-known : (fr : List ℕ) (a e : ℕ) → 16 ≤ length fr → e ≤ 102
 unfolding clearIn rowNo peopleOk
 clear-known fr a e h g = simp (le-leb e 1024 g, le-leb 16 (length fr) h)
 
--- ---- one slot is a stretch
-
-in-one : (k : ℕ) (p : ℕ → Bool) → allIn k (k + 1) p ≡ p k
-in-one k p =
-    same-test (allIn k (k + 1) p) (p k) (λ t. in-each k (k + 1) p t k (omega arith) (omega arith))
-    (λ t. in-more k k p (omega arith) (in-none k p) t)
+-- ---- the domain of a slot
 
 pub slot-domain-same : (av : List ℕ) (people k : ℕ) → domain av people k (k + 1) ≡ slotDomain av people k
 unfolding domain slotDomain able
@@ -147,24 +265,83 @@ slot-domain-says av people slots k list z =
       room = leb-true people (length list) (d .0);
     }
 
+-- where the domains of units are not refused: counts, words, the list's room, right units, and nothing after them
+module _ (av : List ℕ) (people slots units : ℕ) (firsts : List ℕ) (room : Bool) (next : ℕ)
+    (z : domainNo av people slots units firsts room next ≡ 0) where
+  pub domain-says : (peopleOk people ≡ true) × (slotCountOk slots ≡ true) × (16 * people ≤ length av) × (room ≡ true)
+      × (unitsOk slots units firsts ≡ true) × (next ≡ 0)
+  domain-says =
+      let a = cond-zero (peopleOk people) _ 0 z in
+      let b = cond-zero (slotCountOk slots) _ 0 (a .1) in
+      let c = cond-zero (leb (16 * people) (length av)) _ 1 (b .1) in
+      let f = cond-zero (leb units (length firsts)) _ 1 (c .1) in
+      let d = cond-zero room _ 1 (f .1) in
+      let g = cond-zero (unitsOk slots units firsts) _ 8 (d .1) in
+      (a .0, b .0, leb-true (16 * people) (length av) (c .0), d .0, g .0, g .1)
+
+-- the number heard of a unit's domain, where the test of the unit comes last
+pub no-after : (av : List ℕ) (people slots units : ℕ) (firsts : List ℕ) (u : ℕ) (list : List ℕ) (n next : ℕ)
+    → n ≡ domainNo av people slots units firsts (leb people (length list)) next → next ≡ orElse (ltb u units) 11 0
+    → n ≡ unitDomainNo av people slots units firsts u list
+unfolding unitDomainNo
+no-after av people slots units firsts u list n next e q =
+    e ∙ ap (domainNo av people slots units firsts (leb people (length list))) q
+
 pub unit-domain-says : (av : List ℕ) (people slots units : ℕ) (firsts : List ℕ) (u : ℕ) (list : List ℕ) (to : ℕ)
     → unitDomainNo av people slots units firsts u list ≡ 0 → to ≡ unitEnd slots units firsts u → DomainRoom av people to list
 unfolding unitDomainNo
 unit-domain-says av people slots units firsts u list to z q =
-    let a = cond-zero (peopleOk people) _ 0 z in
-    let b = cond-zero (slotCountOk slots) _ 0 (a .1) in
-    let c = cond-zero (leb (16 * people) (length av)) _ 1 (b .1) in
-    let f = cond-zero (leb units (length firsts)) _ 1 (c .1) in
-    let d = cond-zero (leb people (length list)) _ 1 (f .1) in
-    let g = cond-zero (unitsOk slots units firsts) _ 8 (d .1) in
-    let e = cond-zero (ltb u units) _ 10 (g .1) in
-    let h = unit-within slots units firsts (g .0) u (ltb-true u units (e .0)) in
+    let s = domain-says av people slots units firsts (leb people (length list)) _ z in
+    let e = cond-zero (ltb u units) _ 10 (s .5) in
+    let h = unit-within slots units firsts (s .4) u (ltb-true u units (e .0)) in
     record {
-      counted = a .0;
-      words = leb-true (16 * people) (length av) (c .0);
-      short = omega (arith, q, h, slot-count-says slots (b .0) .1);
-      room = leb-true people (length list) (d .0);
+      counted = s .0;
+      words = s .2;
+      short = omega (arith, q, h, slot-count-says slots (s .1) .1);
+      room = leb-true people (length list) (s .3);
     }
+
+pub unit-domains-say : (av : List ℕ) (people slots units : ℕ) (firsts masks : List ℕ)
+    → unitDomainsNo av people slots units firsts masks ≡ 0 → MaskRoom av people slots units firsts masks
+unfolding unitDomainsNo
+unit-domains-say av people slots units firsts masks z =
+    let s = domain-says av people slots units firsts (leb units (length masks)) 0 z in
+    record {
+      counted = s .0;
+      words = s .2;
+      short = slot-count-says slots (s .1) .1;
+      right = s .4;
+      room = leb-true units (length masks) (s .3);
+    }
+
+-- nothing stands against the masks of all units where the counts, the rooms and the units are right
+pub domains-asked : (av : List ℕ) (people slots units : ℕ) (firsts masks : List ℕ) → 1 ≤ people → people ≤ 32 → 1 ≤ slots → slots ≤ 1024
+    → 16 * people ≤ length av → unitsOk slots units firsts ≡ true → units ≤ length masks
+    → unitDomainsNo av people slots units firsts masks ≡ 0
+unfolding unitDomainsNo peopleOk slotCountOk
+domains-asked av people slots units firsts masks a b c d words ok room =
+    simp (
+      le-leb 1 people a,
+      le-leb people 32 b,
+      le-leb 1 slots c,
+      le-leb slots 1024 d,
+      le-leb (16 * people) (length av) words,
+      le-leb units (length firsts) (units-room slots units firsts ok),
+      le-leb units (length masks) room,
+      ok,
+    )
+
+-- everybody's masks, by the number
+module _ (av : List ℕ) (people slots units : ℕ) (firsts old : List ℕ) (n : ℕ) (e : n ≡ unitDomainsNo av people slots units firsts old) where
+  pub domains-told : (masks : List ℕ) → n ≡ 0 → masks ≡ over (unitMask av people slots units firsts) units old
+      → (0 ≡ unitDomainsNo av people slots units firsts old) × (masks ≡ unitDomainsIs av people slots units firsts old)
+  unfolding unitDomainsIs
+  domains-told masks z q = (sym z ∙ e, simp (eq-eqb (unitDomainsNo av people slots units firsts old) 0 (sym e ∙ z)) q)
+
+  pub domains-refused : (n ≡ 0 → ⊥)
+      → (n ≡ unitDomainsNo av people slots units firsts old) × (old ≡ unitDomainsIs av people slots units firsts old)
+  unfolding unitDomainsIs
+  domains-refused z = (e, simp (ne-eqb (unitDomainsNo av people slots units firsts old) 0 (λ q. z (e ∙ q))))
 
 -- ---- yes or no, by its number
 

@@ -114,6 +114,11 @@ module _ (slots units : ℕ) (firsts : List ℕ) (ok : unitsOk slots units first
       omega (arith, ends-next u (omega arith), ap (unitStart firsts) (add-one u), ap (λ (x : ℕ). unitStart firsts (suc x)) q))
       (λ (l : u < v). omega (arith, units-apart u v l (omega arith), n))
 
+  pub starts-far : (u v : ℕ) → u ≤ v → v < units → unitStart firsts u ≤ unitStart firsts v
+  starts-far u v h l =
+      ⊎-elim (λ (g : u < v). omega (arith, unit-some u (omega arith), units-apart u v g l))
+      (λ (g : v ≤ u). let e : u ≡ v = omega arith in omega (arith, ap (unitStart firsts) e)) (lt-or-ge u v)
+
   -- a slot is in at most one unit
   pub unit-only : (k u v : ℕ) → InUnit slots units firsts k u → InUnit slots units firsts k v → u ≡ v
   unit-only k u v a b =

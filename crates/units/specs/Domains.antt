@@ -1,12 +1,13 @@
 -- Who is available for a slot or a unit, and whether a unit is frozen, by the lent sets. Assumes nothing.
 use mathlib.Core.Path.{_≡_}
-use mathlib.Core.Bool.{Bool, true, false, _&&_, not}
+use mathlib.Core.Bool.{Bool, true, false, _&&_, not, cond}
 use mathlib.Core.List.{List}
-use Prim.Native.Nat.{ℕ, _*_, _≤_}
+use Prim.Native.Nat.{ℕ, _*_, _^_, _≤_}
 use lib.Dec.{eqb, ltb, leb}
 use lib.ListN.{length}
 use Rattle.paper.specs.Limits.{peopleOk, slotCountOk, orElse}
-use Rattle.paper.specs.Count.{allIn, among}
+use Rattle.paper.specs.Bits.{bitOf}
+use Rattle.paper.specs.Count.{allIn, among, sum, over}
 use Rattle.slotset.specs.Slots.{slot}
 use Rattle.slotset.specs.Answers.{rowNo, toldAs}
 use Rattle.slotset.specs.declared.Found.{Found}
@@ -35,6 +36,24 @@ slotDomain av people k = among (λ p. available av p k) people
 
 unfoldable pub unitDomain : List ℕ → ℕ → ℕ → ℕ → List ℕ → ℕ → List ℕ
 unitDomain av people slots units firsts u = domain av people (unitStart firsts u) (unitEnd slots units firsts u)
+
+-- ---- the same as a mask: bit p is 1 exactly when person p is one of them
+
+-- the people below `people` who pass q
+unfoldable pub maskOf : (ℕ → Bool) → ℕ → ℕ
+maskOf q people = sum people (λ p. cond (q p) (2 ^ p) 0)
+
+-- person p stands in a mask: bit p is set
+unfoldable pub inMask : ℕ → ℕ → Bool
+inMask mask p = eqb (bitOf mask p) 1
+
+-- the same, said of every bit
+pub record MaskOf (q : ℕ → Bool) (people mask : ℕ) : Type 0 where
+  pub each : (p : ℕ) → inMask mask p ≡ ltb p people && q p
+
+-- the mask of unit u's domain
+unfoldable pub unitMask : List ℕ → ℕ → ℕ → ℕ → List ℕ → ℕ → ℕ
+unitMask av people slots units firsts u = maskOf (able av (unitStart firsts u) (unitEnd slots units firsts u)) people
 
 -- ---- frozen units
 
@@ -93,15 +112,28 @@ slotDomainNo av people slots k list =
 unfoldable pub slotDomainIs : List ℕ → ℕ → ℕ → ℕ → List ℕ → Written
 slotDomainIs av people slots k list = writtenAs (slotDomainNo av people slots k list) (slotDomain av people k) list
 
--- 1, 2, 9, 11
-unfoldable pub unitDomainNo : List ℕ → ℕ → ℕ → ℕ → List ℕ → ℕ → List ℕ → ℕ
-unitDomainNo av people slots units firsts u list =
+-- 1, 2 and 9 of units and the sets of their people, with a list that has room or has none; and then what comes after them
+abbrev pub domainNo : List ℕ → ℕ → ℕ → ℕ → List ℕ → Bool → ℕ → ℕ
+domainNo av people slots units firsts room next =
     orElse (peopleOk people) 1
     (orElse (slotCountOk slots) 1
     (orElse (leb (16 * people) (length av)) 2
-    (orElse (leb units (length firsts)) 2
-    (orElse (leb people (length list)) 2 (orElse (unitsOk slots units firsts) 9 (orElse (ltb u units) 11 0))))))
+    (orElse (leb units (length firsts)) 2 (orElse room 2 (orElse (unitsOk slots units firsts) 9 next)))))
+
+-- 1, 2, 9, 11
+unfoldable pub unitDomainNo : List ℕ → ℕ → ℕ → ℕ → List ℕ → ℕ → List ℕ → ℕ
+unitDomainNo av people slots units firsts u list =
+    domainNo av people slots units firsts (leb people (length list)) (orElse (ltb u units) 11 0)
 
 unfoldable pub unitDomainIs : List ℕ → ℕ → ℕ → ℕ → List ℕ → ℕ → List ℕ → Written
 unitDomainIs av people slots units firsts u list =
     writtenAs (unitDomainNo av people slots units firsts u list) (unitDomain av people slots units firsts u) list
+
+-- 1, 2, 9
+unfoldable pub unitDomainsNo : List ℕ → ℕ → ℕ → ℕ → List ℕ → List ℕ → ℕ
+unitDomainsNo av people slots units firsts masks = domainNo av people slots units firsts (leb units (length masks)) 0
+
+-- the mask of each unit's domain; entries past the unit count stay, and refused all do
+unfoldable pub unitDomainsIs : List ℕ → ℕ → ℕ → ℕ → List ℕ → List ℕ → List ℕ
+unitDomainsIs av people slots units firsts masks =
+    cond (eqb (unitDomainsNo av people slots units firsts masks) 0) (over (unitMask av people slots units firsts) units masks) masks

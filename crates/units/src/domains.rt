@@ -13,7 +13,7 @@ ghost use lib.ListN.{length};
 ghost use Rattle.paper.specs.Count.{onto};
 ghost use Rattle.units.specs.Answers.{Are};
 ghost use Rattle.units.specs.Domains.{isNothing, ableIn, clearIn, domain, DomainRoom, unitFrozenNo, unitFrozenIs};
-ghost use Rattle.units.specs.Domains.{slotDomainNo, slotDomainIs, unitDomainNo, unitDomainIs};
+ghost use Rattle.units.specs.Domains.{slotDomainNo, slotDomainIs, domainNo, unitDomainIs};
 
 // Whether a search found nothing.
 fn is_nothing(f: Found) -> bool
@@ -123,22 +123,21 @@ pub fn slot_domain(
     }
 }
 
-// What stands against a unit's domain: 1, 2, 9 or 11; 0 for nothing.
-fn unit_domain_no(
+// What stands against the domains of units, where the list lent for them has room or has none: 1, 2 or 9; 0, what comes after them.
+pub(crate) fn domain_no(
     avail: &[u64],
     people: usize,
     slots: usize,
     units: usize,
     firsts: &[u16],
-    unit: usize,
-    list: &[u8],
+    room: bool,
+    next: u8,
 ) -> u8
-    ensures { λ r. ⌜ r ≡ unitDomainNo (now (avail .entry)) people slots units (now (firsts .entry)) unit (now (list .entry)) ⌝ }
+    ensures { λ r. ⌜ r ≡ domainNo (now (avail .entry)) people slots units (now (firsts .entry)) room next ⌝ }
 {
-    let known = or_else(unit < units, 11, 0);
-    let right = or_else(units_ok(slots, units, firsts), 9, known);
-    let room = or_else(people <= list.len(), 2, right);
-    let column = or_else(units <= firsts.len(), 2, room);
+    let right = or_else(units_ok(slots, units, firsts), 9, next);
+    let list = or_else(room, 2, right);
+    let column = or_else(units <= firsts.len(), 2, list);
     let words = or_else(words_ok(avail, people), 2, column);
     let count = or_else(paper::slot_count_ok(slots), 1, words);
     or_else(paper::people_ok(people), 1, count)
@@ -157,7 +156,16 @@ pub fn unit_domain(
     ensures { λ r. ⌜ Are (unitDomainIs (now (avail .entry)) people slots units (now (firsts .entry)) unit (now (list .entry))) r
         (now (list .exit)) ⌝ }
 {
-    let n = unit_domain_no(avail, people, slots, units, firsts, unit, list);
+    let known = or_else(unit < units, 11, 0);
+    let n = domain_no(
+        avail,
+        people,
+        slots,
+        units,
+        firsts,
+        people <= list.len(),
+        known,
+    );
     if n == 0 {
         let from = start_of(firsts, unit);
         let to = unit_end(slots, units, firsts, unit);

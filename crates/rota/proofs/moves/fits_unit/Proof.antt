@@ -2,7 +2,8 @@
 use mathlib.Core.Path.{ap, _∙_}
 use Prim.Native.Nat.{ℕ}
 use borrow.Author.Needs.{needs}
-use Rattle.rota.specs.Ready.{inMask, fitsBy}
+use Rattle.units.specs.Domains.{inMask}
+use Rattle.rota.specs.Ready.{fitsBy}
 use Rattle.rota.proofs.moves.fits_unit.Statement.{statement}
 use Rattle.rota.proofs.moves.fits_unit.Tie as tie
 

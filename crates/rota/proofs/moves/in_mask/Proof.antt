@@ -4,7 +4,7 @@ use Prim.Native.Nat.{_^_, _<_}
 use native.Mathlib.Omega.{arith}
 use borrow.Author.Needs.{needs}
 use Rattle.paper.specs.Bits.{bitOf}
-use Rattle.rota.specs.Ready.{inMask}
+use Rattle.units.specs.Domains.{inMask}
 use Rattle.rota.proofs.Judged.{mask-past}
 use Rattle.rota.proofs.moves.in_mask.Statement.{statement}
 use Rattle.rota.proofs.moves.in_mask.Tie as tie

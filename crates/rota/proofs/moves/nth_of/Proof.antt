@@ -8,7 +8,7 @@ use lib.Dec.{eqb}
 use lib.ListN.{length}
 use Rattle.paper.specs.Count.{among}
 use Rattle.paper.proofs.Count.{among-none, among-out}
-use Rattle.rota.specs.Ready.{inMask}
+use Rattle.units.specs.Domains.{inMask}
 use Rattle.rota.proofs.Judged.{picked-found, picked-more, picked-nobody, picked-beyond}
 use Rattle.rota.proofs.moves.nth_of.Statement.{statement}
 use Rattle.rota.proofs.moves.nth_of.Tie as tie

@@ -4,7 +4,8 @@ use Prim.Native.Nat.{ℕ}
 use borrow.Author.Needs.{needs}
 use Rattle.paper.specs.Count.{among}
 use Rattle.rota.specs.Board.{ownerOf}
-use Rattle.rota.specs.Ready.{inMask, fitsBy}
+use Rattle.units.specs.Domains.{inMask}
+use Rattle.rota.specs.Ready.{fitsBy}
 use Rattle.rota.specs.Moves.{picked, domainOf}
 use Rattle.rota.proofs.Moved.{pick-all, reassign-frozen, reassign-nobody, reassign-beyond, reassign-kept, reassign-given}
 use Rattle.rota.proofs.moves.reassign.Statement.{statement}

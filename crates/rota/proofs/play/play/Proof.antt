@@ -1,66 +1,33 @@
 -- `rota::play::play` meets its contract. Assumes nothing.
 use mathlib.Core.Path.{sym, _∙_}
 use borrow.Author.Needs.{needs}
+use Rattle.units.proofs.Units.{unit-within}
 use Rattle.rota.specs.Derived.{plan, derived}
 use Rattle.rota.proofs.Stepping.{ran-owners, ran-answers, ran-lengths}
-use Rattle.rota.proofs.Entered.{units-say, play-asks, asks-few, asks-step, ready-sound, ready-even, played-yes, played-no}
+use Rattle.rota.proofs.Entered.{play-asks, asks-few, asks-fits, asks-step, ready-sound, ready-even, played-yes, played-no}
 use Rattle.rota.proofs.play.play.Statement.{statement}
 use Rattle.rota.proofs.play.play.Tie as tie
 
 play-no-requires : tie.Need-play-no-requires
 play-no-requires c κs = search needs
 
-fits-of-requires : tie.Need-fits-of-requires
-fits-of-requires c κs =
-    let at-args = c .before .before .before .before .before .before .before .before .before .before .before .before .before
-    .before .before .before .before .before .args in
-    let at-play-no = c .before .play-no in
-    let A = play-asks (plan (at-args .people) (at-args .slots) (at-args .starts .now) (at-args .ends .now)) (at-args .avail
-    .now) (at-args .units) (at-args .firsts .now) (at-args .frozen .now) (at-args .count) (at-args .kinds .now) (at-args
-    .ones .now) (at-args .twos .now) (at-args .owners .now) (derived (at-args .sets .now) (at-args .minutes .now)) (at-args
-    .answers .now) (sym (at-play-no .ensures) ∙ (c .if1 .taken)) in
-    let S = A .grounds .on .sound in (
-      (
-        S .people-some,
-        S .people-few,
-        S .slots-few,
-        asks-few (plan (at-args .people) (at-args .slots) (at-args .starts .now)
-            (at-args .ends .now)) (at-args .avail .now) (at-args .units) (at-args .firsts .now) (at-args .frozen .now) (at-args
-            .count) (at-args .kinds .now) (at-args .ones .now) (at-args .twos .now) (at-args .owners .now) (derived (at-args .sets
-            .now) (at-args .minutes .now)) (at-args .answers .now) A,
-        A .grounds .on .room .avail-room,
-      ),
-      λ u h. units-say (plan
-          (at-args .people) (at-args .slots) (at-args .starts .now) (at-args .ends .now)) (at-args .avail .now) (at-args .units)
-          (at-args .firsts .now) (at-args .frozen .now) (at-args .count) (at-args .kinds .now) (at-args .ones .now) (at-args .twos
-          .now) (at-args .owners .now) (derived (at-args .sets .now) (at-args .minutes .now)) (at-args .answers .now) (A .grounds
-          .units-ok) u h .1,
-    )
+slice-aggregate-unit-domains : tie.Need-slice-aggregate-unit-domains
+slice-aggregate-unit-domains c = search needs
+
+unit-domains-requires : tie.Need-unit-domains-requires
+unit-domains-requires c κs = search needs
 
 frozen-of-requires : tie.Need-frozen-of-requires
 frozen-of-requires c κs =
-    let at-args = c .before .before .before .before .before .before .before .before .before .before .before .before .before
-    .before .before .before .before .before .before .args in
-    let at-play-no = c .before .before .play-no in
-    let at-if1 = c .before .if1 in
-    let A = play-asks (plan (at-args .people) (at-args .slots) (at-args .starts .now) (at-args .ends .now)) (at-args .avail
-    .now) (at-args .units) (at-args .firsts .now) (at-args .frozen .now) (at-args .count) (at-args .kinds .now) (at-args
-    .ones .now) (at-args .twos .now) (at-args .owners .now) (derived (at-args .sets .now) (at-args .minutes .now)) (at-args
-    .answers .now) (sym (at-play-no .ensures) ∙ (at-if1 .taken)) in
-    let S = A .grounds .on .sound in (
-      (
-        S .slots-few,
-        asks-few (plan (at-args .people) (at-args .slots) (at-args .starts .now) (at-args .ends .now)) (at-args
-            .avail .now) (at-args .units) (at-args .firsts .now) (at-args .frozen .now) (at-args .count) (at-args .kinds .now)
-            (at-args .ones .now) (at-args .twos .now) (at-args .owners .now) (derived (at-args .sets .now) (at-args .minutes .now))
-            (at-args .answers .now) A,
-        A .grounds .flags,
-      ),
-      λ u h. units-say (plan (at-args .people) (at-args .slots) (at-args
-          .starts .now) (at-args .ends .now)) (at-args .avail .now) (at-args .units) (at-args .firsts .now) (at-args .frozen .now)
-          (at-args .count) (at-args .kinds .now) (at-args .ones .now) (at-args .twos .now) (at-args .owners .now) (derived
-          (at-args .sets .now) (at-args .minutes .now)) (at-args .answers .now) (A .grounds .units-ok) u h .1,
-    )
+    let c8 = c .before .before .before .before .before .before .before .before in
+    let c16 = c8 .before .before .before .before .before .before .before .before in
+    let a = c16 .before .before .before .before .before .args in
+    let P = plan (a .people) (a .slots) (a .starts .now) (a .ends .now) in
+    let D = derived (a .sets .now) (a .minutes .now) in
+    let A = play-asks P (a .avail .now) (a .units) (a .firsts .now) (a .frozen .now) (a .count) (a .kinds .now) (a .ones .now) (a .twos .now)
+    (a .owners .now) D (a .answers .now) (sym (c .before .before .before .before .play-no .ensures) ∙ c .before .before .before .if1 .taken) in
+    let G = A .grounds in
+    ((G .on .sound .slots-few, asks-few _ _ _ _ _ _ _ _ _ _ _ _ A, G .flags), λ u h. unit-within _ _ _ (G .units-ok) u h)
 
 slice-aggregate-run : tie.Need-slice-aggregate-run
 slice-aggregate-run c = search needs
@@ -70,92 +37,55 @@ slice-aggregate-run-2 c = search needs
 
 run-requires : tie.Need-run-requires
 run-requires c κs =
-    let at-args = c .before .before .before .before .before .before .before .before .before .before .before .before .before
-    .before .before .before .before .before .before .before .before .before .before .before .before .before .args in
-    let at-play-no = c .before .before .before .before .before .before .before .before .before .play-no in
-    let at-if1 = c .before .before .before .before .before .before .before .before .if1 in
-    let at-fits-of = c .before .before .before .before .before .before .before .fits-of in
-    let at-frozen-of = c .before .before .before .before .before .before .frozen-of in
-    let A = play-asks (plan (at-args .people) (at-args .slots) (at-args .starts .now) (at-args .ends .now)) (at-args .avail
-    .now) (at-args .units) (at-args .firsts .now) (at-args .frozen .now) (at-args .count) (at-args .kinds .now) (at-args
-    .ones .now) (at-args .twos .now) (at-args .owners .now) (derived (at-args .sets .now) (at-args .minutes .now)) (at-args
-    .answers .now) (sym (at-play-no .ensures) ∙ (at-if1 .taken)) in (
+    let c8 = c .before .before .before .before .before .before .before .before in
+    let c16 = c8 .before .before .before .before .before .before .before .before in
+    let c24 = c16 .before .before .before .before .before .before .before .before in
+    let a = c24 .before .before .before .before .args in
+    let P = plan (a .people) (a .slots) (a .starts .now) (a .ends .now) in
+    let D = derived (a .sets .now) (a .minutes .now) in
+    let A = play-asks P (a .avail .now) (a .units) (a .firsts .now) (a .frozen .now) (a .count) (a .kinds .now) (a .ones .now) (a .twos .now)
+    (a .owners .now) D (a .answers .now) (sym (c8 .before .before .before .play-no .ensures) ∙ c8 .before .before .if1 .taken) in
+    let F = asks-fits _ _ _ _ _ _ _ _ _ _ _ _ A _ (c8 .unit-domains .ensures .1) in
+    let Z = c .before .before .before .before .before .before .frozen-of .ensures in (
       A .grounds .on .sound,
-      (
-        asks-step (plan (at-args .people) (at-args .slots) (at-args .starts .now) (at-args .ends .now))
-            (at-args .avail .now) (at-args .units) (at-args .firsts .now) (at-args .frozen .now) (at-args .count) (at-args .kinds
-            .now) (at-args .ones .now) (at-args .twos .now) (at-args .owners .now) (derived (at-args .sets .now) (at-args .minutes
-            .now)) (at-args .answers .now) A,
-        (
-          ready-sound (plan (at-args .people) (at-args .slots) (at-args .starts .now) (at-args
-              .ends .now)) (at-args .avail .now) (at-args .units) (at-args .firsts .now) (at-args .frozen .now) (at-args .count)
-              (at-args .kinds .now) (at-args .ones .now) (at-args .twos .now) (at-args .owners .now) (derived (at-args .sets .now)
-              (at-args .minutes .now)) (at-args .answers .now) A _ _ (at-fits-of .ensures) (at-frozen-of .ensures),
-          (
-            ready-even (plan
-                (at-args .people) (at-args .slots) (at-args .starts .now) (at-args .ends .now)) (at-args .avail .now) (at-args .units)
-                (at-args .firsts .now) (at-args .frozen .now) (at-args .count) (at-args .kinds .now) (at-args .ones .now) (at-args .twos
-                .now) (at-args .owners .now) (derived (at-args .sets .now) (at-args .minutes .now)) (at-args .answers .now) A _ _
-                (at-fits-of .ensures) (at-frozen-of .ensures),
-            A .grounds .draws,
-          ),
-        ),
-      ),
+      (asks-step _ _ _ _ _ _ _ _ _ _ _ _ A, (ready-sound _ _ _ _ _ _ _ _ _ _ _ _ A _ _ F Z, (ready-even _ _ _ _ _ _ _ _ _ _ _ _ A _ _ F Z, A .grounds .draws))),
     )
 
 same-length : tie.Need-same-length
-same-length c =
-    let at-run = c .before .before .before .before .before .before .before .before .run in
-    ran-owners _ _ _ _ _ _ _ _ _ _ _ _ (at-run .ensures)
+same-length c = let r = c .before .before .before .before .before .before .before .before .run in ran-owners _ _ _ _ _ _ _ _ _ _ _ _ (r .ensures)
 
 same-length-2 : tie.Need-same-length-2
-same-length-2 c =
-    let at-run = c .before .before .before .before .before .before .before .before .run in
-    ran-lengths _ _ _ _ _ _ _ _ _ _ _ _ (at-run .ensures) .0
+same-length-2 c = let r = c .before .before .before .before .before .before .before .before .run in ran-lengths _ _ _ _ _ _ _ _ _ _ _ _ (r .ensures) .0
 
 same-length-3 : tie.Need-same-length-3
-same-length-3 c =
-    let at-run = c .before .before .before .before .before .before .before .before .run in
-    ran-lengths _ _ _ _ _ _ _ _ _ _ _ _ (at-run .ensures) .1
+same-length-3 c = let r = c .before .before .before .before .before .before .before .before .run in ran-lengths _ _ _ _ _ _ _ _ _ _ _ _ (r .ensures) .1
 
 same-length-4 : tie.Need-same-length-4
 same-length-4 c =
-    let at-args = c .before .before .before .before .before .before .before .before .before .before .before .before .before
-    .before .before .before .before .before .before .before .before .before .before .before .before .before .before .before
-    .before .before .before .before .before .before .before .args in
-    let at-play-no = c .before .before .before .before .before .before .before .before .before .before .before .before .before
-    .before .before .before .before .before .play-no in
-    let at-if1 = c .before .before .before .before .before .before .before .before .before .before .before .before .before
-    .before .before .before .before .if1 in
-    let at-run = c .before .before .before .before .before .before .before .before .run in
-    let A = play-asks (plan (at-args .people) (at-args .slots) (at-args .starts .now) (at-args .ends .now)) (at-args .avail
-    .now) (at-args .units) (at-args .firsts .now) (at-args .frozen .now) (at-args .count) (at-args .kinds .now) (at-args
-    .ones .now) (at-args .twos .now) (at-args .owners .now) (derived (at-args .sets .now) (at-args .minutes .now)) (at-args
-    .answers .now) (sym (at-play-no .ensures) ∙ (at-if1 .taken)) in
-    ran-answers _ _ _ _ _ _ _ _ _ _ _ _ (at-run .ensures) (A .grounds .draws .answers)
+    let c8 = c .before .before .before .before .before .before .before .before in
+    let c16 = c8 .before .before .before .before .before .before .before .before in
+    let c24 = c16 .before .before .before .before .before .before .before .before in
+    let c32 = c24 .before .before .before .before .before .before .before .before in
+    let a = c32 .before .before .before .before .before .args in
+    let P = plan (a .people) (a .slots) (a .starts .now) (a .ends .now) in
+    let D = derived (a .sets .now) (a .minutes .now) in
+    let A = play-asks P (a .avail .now) (a .units) (a .firsts .now) (a .frozen .now) (a .count) (a .kinds .now) (a .ones .now) (a .twos .now)
+    (a .owners .now) D (a .answers .now) (sym (c16 .before .before .before .before .play-no .ensures) ∙ c16 .before .before .before .if1 .taken) in
+    ran-answers _ _ _ _ _ _ _ _ _ _ _ _ (c8 .run .ensures) (A .grounds .draws .answers)
 
 returns : tie.Need-returns
 returns c =
-    let at-args = c .before .before .before .before .before .before .before .before .before .before .before .before .before
-    .before .before .before .before .before .before .before .before .before .before .before .before .before .before .before
-    .before .before .before .before .before .before .before .args in
-    let at-play-no = c .before .before .before .before .before .before .before .before .before .before .before .before .before
-    .before .before .before .before .before .play-no in
-    let at-if1 = c .before .before .before .before .before .before .before .before .before .before .before .before .before
-    .before .before .before .before .if1 in
-    let at-fits-of = c .before .before .before .before .before .before .before .before .before .before .before .before .before
-    .before .before .before .fits-of in
-    let at-frozen-of = c .before .before .before .before .before .before .before .before .before .before .before .before .before
-    .before .before .frozen-of in
-    let at-run = c .before .before .before .before .before .before .before .before .run in
-    played-yes (plan (at-args .people) (at-args .slots) (at-args .starts .now) (at-args .ends .now)) (at-args .avail .now)
-    (at-args .units) (at-args .firsts .now) (at-args .frozen .now) (at-args .count) (at-args .kinds .now) (at-args .ones
-    .now) (at-args .twos .now) (at-args .owners .now) (derived (at-args .sets .now) (at-args .minutes .now)) (at-args
-    .answers .now) (play-asks (plan (at-args .people) (at-args .slots) (at-args .starts .now) (at-args .ends .now)) (at-args
-    .avail .now) (at-args .units) (at-args .firsts .now) (at-args .frozen .now) (at-args .count) (at-args .kinds .now)
-    (at-args .ones .now) (at-args .twos .now) (at-args .owners .now) (derived (at-args .sets .now) (at-args .minutes .now))
-    (at-args .answers .now) (sym (at-play-no .ensures) ∙ (at-if1 .taken))) _ _ (at-fits-of .ensures) (at-frozen-of .ensures)
-    _ (at-play-no .ensures) (at-if1 .taken) _ _ _ (at-run .ensures)
+    let c8 = c .before .before .before .before .before .before .before .before in
+    let c16 = c8 .before .before .before .before .before .before .before .before in
+    let c24 = c16 .before .before .before .before .before .before .before .before in
+    let c32 = c24 .before .before .before .before .before .before .before .before in
+    let a = c32 .before .before .before .before .before .args in
+    let P = plan (a .people) (a .slots) (a .starts .now) (a .ends .now) in
+    let D = derived (a .sets .now) (a .minutes .now) in
+    let A = play-asks P (a .avail .now) (a .units) (a .firsts .now) (a .frozen .now) (a .count) (a .kinds .now) (a .ones .now) (a .twos .now)
+    (a .owners .now) D (a .answers .now) (sym (c16 .before .before .before .before .play-no .ensures) ∙ c16 .before .before .before .if1 .taken) in
+    let F = asks-fits _ _ _ _ _ _ _ _ _ _ _ _ A _ (c16 .before .unit-domains .ensures .1) in
+    played-yes _ _ _ _ _ _ _ _ _ _ _ _ A _ _ F (c8 .before .before .before .before .before .before .before .frozen-of .ensures) _ (c16 .before .before .before .before .play-no .ensures) (c16 .before .before .before .if1 .taken) _ _ _ (c8 .run .ensures)
 
 same-length-5 : tie.Need-same-length-5
 same-length-5 c = search needs
@@ -171,20 +101,20 @@ same-length-8 c = search needs
 
 returns-2 : tie.Need-returns-2
 returns-2 c =
-    let at-args = c .before .before .before .before .before .before .before .before .before .before .before .before .before
-    .before .before .before .before .before .args in
-    let at-play-no = c .before .play-no in
-    played-no (plan (at-args .people) (at-args .slots) (at-args .starts .now) (at-args .ends .now)) (at-args .avail .now)
-    (at-args .units) (at-args .firsts .now) (at-args .frozen .now) (at-args .count) (at-args .kinds .now) (at-args .ones
-    .now) (at-args .twos .now) (at-args .owners .now) (derived (at-args .sets .now) (at-args .minutes .now)) (at-args
-    .answers .now) _ (at-play-no .ensures) (c .if1 .left)
+    let c8 = c .before .before .before .before .before .before .before .before in
+    let c16 = c8 .before .before .before .before .before .before .before .before in
+    let a = c16 .before .before .args in
+    played-no (plan (a .people) (a .slots) (a .starts .now) (a .ends .now)) (a .avail .now) (a .units) (a .firsts .now) (a .frozen .now)
+    (a .count) (a .kinds .now) (a .ones .now) (a .twos .now) (a .owners .now) (derived (a .sets .now) (a .minutes .now)) (a .answers .now) _
+    (c .before .play-no .ensures) (c .if1 .left)
 
 pub play-spec : {M : Type 1} → statement M
 play-spec =
     tie.close
     (tie.spec
     play-no-requires
-    fits-of-requires
+    slice-aggregate-unit-domains
+    unit-domains-requires
     frozen-of-requires
     slice-aggregate-run
     slice-aggregate-run-2

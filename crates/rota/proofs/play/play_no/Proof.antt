@@ -3,8 +3,9 @@ use mathlib.Core.Path.{sym, ap, ap₂, _∙_}
 use mathlib.Core.Bool.{Bool, true, _&&_}
 use borrow.Author.Needs.{needs}
 use lib.Dec.{leb}
+use Rattle.units.proofs.Units.{unit-some, unit-within}
 use Rattle.rota.specs.Derived.{plan, derived}
-use Rattle.rota.proofs.Entered.{units-say, ground-same, play-grounds, play-stops, play-10, play-0}
+use Rattle.rota.proofs.Entered.{ground-same, play-grounds, play-stops, play-10, play-0}
 use Rattle.rota.proofs.play.play_no.Statement.{statement}
 use Rattle.rota.proofs.play.play_no.Tie as tie
 
@@ -57,10 +58,7 @@ recount-ok-requires c κs =
       g .on .sound,
       (
         g .on .room,
-        units-say (plan (at-args .people) (at-args .slots) (at-args .starts .now) (at-args .ends .now))
-            (at-args .avail .now) (at-args .units) (at-args .firsts .now) (at-args .frozen .now) (at-args .count) (at-args .kinds
-            .now) (at-args .ones .now) (at-args .twos .now) (at-args .owners .now) (derived (at-args .sets .now) (at-args .minutes
-            .now)) (at-args .answers .now) (g .units-ok),
+        λ u h. (unit-some _ _ _ (g .units-ok) u h, unit-within _ _ _ (g .units-ok) u h),
       ),
     )
 
