@@ -2,7 +2,7 @@
 use crate::rotations::count_number;
 use crate::sets::told_number;
 ghost use mathlib.Core.Path.{_≡_};
-ghost use Rattle.units.specs.Domains.{slotDomainIs, unitDomainIs, unitFrozenIs};
+ghost use Rattle.units.specs.Domains.{slotDomainIs, unitDomainIs, unitDomainsNo, unitDomainsIs, unitFrozenIs};
 ghost use Rattle.boltraven_c.specs.Numbers.{toldNumber};
 ghost use Rattle.boltraven_c.specs.Units.{countNumber};
 
@@ -38,6 +38,22 @@ pub extern "C" fn boltraven_unit_domain(
         ≡ unitDomainIs (now (avail .entry)) people slots units (now (firsts .entry)) unit (now (list .entry)) .buffer ⌝ }
 {
     count_number(units::unit_domain(avail, people, slots, units, firsts, unit, list))
+}
+
+// For each unit the mask of the people available for all its slots: bit p is 1 exactly when person p is.
+#[no_mangle]
+pub extern "C" fn boltraven_unit_domains(
+    avail: &[u64],
+    people: usize,
+    slots: usize,
+    units: usize,
+    firsts: &[u16],
+    masks: &mut [u32],
+) -> u8
+    ensures { λ r. ⌜ r ≡ unitDomainsNo (now (avail .entry)) people slots units (now (firsts .entry)) (now (masks .entry)) ⌝ }
+    ensures { λ _. ⌜ now (masks .exit) ≡ unitDomainsIs (now (avail .entry)) people slots units (now (firsts .entry)) (now (masks .entry)) ⌝ }
+{
+    units::unit_domains(avail, people, slots, units, firsts, masks)
 }
 
 // Whether any slot of a unit is frozen: 1 or 0.

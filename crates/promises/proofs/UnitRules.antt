@@ -11,7 +11,7 @@ use lib.ListN.{length, getD}
 use Rattle.paper.specs.Bits.{bitOf}
 use Rattle.paper.specs.Count.{count, among, onto}
 use Rattle.paper.proofs.Logic.{both, and-true}
-use Rattle.paper.proofs.Count.{some-one, some-here, among-each, among-at}
+use Rattle.paper.proofs.Count.{some-one, some-here, among-each, among-at, among-rises}
 use Rattle.slotset.specs.Slots.{slot}
 use Rattle.slots.specs.Lent.{minutesAt, demandOf}
 use Rattle.units.specs.declared.Settings.{Settings}
@@ -24,7 +24,7 @@ use Rattle.units.specs.Days.{covers, datesMost, coveredDays, minutesPerDay, tar
 use Rattle.units.specs.Domains.{available, domain, unitDomain, clear, unitFrozen}
 use Rattle.units.specs.Achievable.{Longest, longestRun, achievable, achievableRun}
 use Rattle.units.proofs.Units.{unit-of-in, unit-of-only}
-use Rattle.units.proofs.Rising.{among-rises, rotation-starts-right, unit-starts-right}
+use Rattle.units.proofs.Rising.{rotation-starts-right, unit-starts-right}
 use Rattle.units.proofs.Begins.{every-multiple, multiple-every, day-first}
 use Rattle.units.proofs.Means.{domain-each, domain-all, domain-rises, clear-each, frozen-any}
 use Rattle.units.proofs.Longest.{longest-meets, longest-only}
