@@ -83,6 +83,7 @@ exports! {
     done target_run(number, number, number, number, number, number, slice, slice, out);
     done achievable_run(number, number, number, number, number, slice, number, number, number, slice, slice, out);
     counted unit_domain(slice, number, number, number, slice, number, slice);
+    done unit_domains(slice, number, number, number, slice, slice);
     counted slot_domain(slice, number, number, number, slice);
     told unit_frozen(slice, number, number, slice, number);
     plain date_of(number);

@@ -149,6 +149,12 @@ pub fn unit_starts_of(problem: &Problem) -> Vec<u16> {
     problem.units.iter().map(|unit| unit.start as u16).collect()
 }
 
+/// Everybody who can cover a unit as a mask, bit p for person p, for each unit.
+pub fn unit_masks_of(problem: &Problem) -> Vec<u32> {
+    let mask = |domain: &Vec<usize>| domain.iter().fold(0, |mask, person| mask | 1 << person);
+    problem.unit_domains.iter().map(mask).collect()
+}
+
 // ---- cases
 
 /// Minutes of a day.

@@ -107,7 +107,7 @@ fn record(bytes: &mut Vec<u8>, asked: &LentUnits, due: &DueUnits) {
     half(bytes, answer(of_unit, due.span.start));
     half(bytes, answer(of_unit, due.span.end));
     half(bytes, answer(asked.units_no(asked.slot < asked.slots.count), due.unit_of_slot));
-    half(bytes, answer(asked.frozen_no(), usize::from(due.frozen)));
+    half(bytes, answer(asked.frozen_no(), usize::from(due.is_frozen)));
     half(bytes, answer(asked.slot_domain_no(), due.slot_domain.len()));
     half(bytes, answer(asked.unit_domain_no(), due.unit_domain.len()));
     half(bytes, answer(asked.days_no(), due.days));
@@ -152,8 +152,8 @@ fn lent_bytes(bytes: &mut Vec<u8>, asked: &LentUnits) {
         slots.starts.len(),
         slots.ends.len(),
         starts.len(),
-        asked.rows.len(),
-        asked.flags.len(),
+        asked.avail.len(),
+        asked.frozen.len(),
     ];
     for length in lengths.into_iter().chain([asked.starts_room, asked.list_room]) {
         half(bytes, length);
@@ -161,10 +161,10 @@ fn lent_bytes(bytes: &mut Vec<u8>, asked: &LentUnits) {
     filled32(bytes, SLOTS, &slots.starts, 0);
     filled32(bytes, SLOTS, &slots.ends, 0);
     filled16(bytes, SLOTS, starts, 0);
-    let mut rows = firsts(&asked.rows);
+    let mut rows = firsts(&asked.avail);
     rows.resize(PEOPLE, 0);
     words(bytes, &rows);
-    words(bytes, &[asked.flags.first().copied().unwrap_or(0)]);
+    words(bytes, &[asked.frozen.first().copied().unwrap_or(0)]);
 }
 
 #[cfg(test)]

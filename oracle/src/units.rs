@@ -2,11 +2,11 @@
 
 use on_call::model::problem::Problem;
 
-use crate::call::{bytes16, bytes64, Arg, Outcome, Question};
+use crate::call::{bytes16, bytes32, bytes64, Arg, Outcome, Question};
 use crate::days::instant;
 use crate::lent_units::{lent, DueUnits, LentUnits};
 use crate::limits::{NOTHING, SET_WORDS};
-use crate::problems::{availability_into, problem_within, slots_of, unit_starts_of};
+use crate::problems::{availability_into, problem_within, slots_of, unit_masks_of, unit_starts_of};
 use crate::rotations::settings_args;
 use crate::seed::Seed;
 use crate::sets::put_bit;
@@ -66,6 +66,7 @@ pub fn questions(case_seed: u64) -> Vec<Question> {
         ));
     }
     asked.extend(domains(&mut seed, &problem, &avail));
+    asked.push(all_domains(&mut seed, &problem, &avail));
     asked.extend(freezing(&mut seed, problem, &lent_slots));
 
     // With a shift of one day the target run is the minutes a day; the days themselves are the Rust's private count, seen through it.
@@ -122,6 +123,37 @@ fn domains(seed: &mut Seed, problem: &Problem, avail: &[u64]) -> Vec<Question> {
         ));
     }
     asked
+}
+
+/// The domains of all units at once, a mask each, in a list with room for them or a little more.
+fn all_domains(seed: &mut Seed, problem: &Problem, avail: &[u64]) -> Question {
+    let firsts = unit_starts_of(problem);
+    let before: Vec<u32> = (0..firsts.len() + seed.below(2) as usize).map(|_| seed.word() as u32).collect();
+    let args = vec![
+        Arg::Lent(8, bytes64(avail)),
+        Arg::Number(problem.human_count() as u64),
+        Arg::Number(problem.slot_count() as u64),
+        Arg::Number(firsts.len() as u64),
+        Arg::Lent(2, bytes16(&firsts)),
+    ];
+    masks(args, before, 0, &unit_masks_of(problem))
+}
+
+/// A call that writes a mask a unit, or refuses and writes nothing.
+fn masks(mut args: Vec<Arg>, before: Vec<u32>, number: u64, right: &[u32]) -> Question {
+    let mut after = before.clone();
+    if number == 0 {
+        after[..right.len()].copy_from_slice(right);
+    }
+    args.push(Arg::LentMut(4, bytes32(&before)));
+    Question {
+        function: "boltraven_unit_domains",
+        args,
+        due: Outcome {
+            result: number,
+            written: vec![bytes32(&after)],
+        },
+    }
 }
 
 /// Freezing at an instant, over flags that some slots have already, and then whether units are frozen.
@@ -184,17 +216,22 @@ pub fn damaged(case_seed: u64) -> Vec<Question> {
     let mut questions = asked.starts_asked(&mut seed, &due);
     questions.extend(asked.units_asked(&mut seed, &due));
     questions.extend(asked.minutes_asked(&mut seed, &due));
+    questions.push(asked.domains_asked(&mut seed, &due));
     questions
 }
 
 impl LentUnits {
-    fn unit_args(&self) -> Vec<Arg> {
+    fn units_args(&self) -> Vec<Arg> {
         vec![
             Arg::Number(self.slots.count as u64),
             Arg::Number(self.units.count as u64),
             Arg::Lent(2, bytes16(&self.units.firsts)),
-            Arg::Number(self.unit as u64),
         ]
+    }
+
+    /// The units, and the one that is asked for.
+    fn unit_args(&self) -> Vec<Arg> {
+        [self.units_args(), vec![Arg::Number(self.unit as u64)]].concat()
     }
 
     /// Rotation and unit starts.
@@ -213,10 +250,10 @@ impl LentUnits {
     /// A unit's domain, whether it is frozen, and covered days.
     fn units_asked(&self, seed: &mut Seed, due: &DueUnits) -> Vec<Question> {
         let before: Vec<u8> = (0..self.list_room).map(|_| seed.word() as u8).collect();
-        let mut domain_args = vec![Arg::Lent(8, bytes64(&self.rows)), Arg::Number(self.people as u64)];
+        let mut domain_args = vec![Arg::Lent(8, bytes64(&self.avail)), Arg::Number(self.people as u64)];
         domain_args.extend(self.unit_args());
         let domain = &due.unit_domain;
-        let mut frozen_args = vec![Arg::Lent(8, bytes64(&self.flags))];
+        let mut frozen_args = vec![Arg::Lent(8, bytes64(&self.frozen))];
         frozen_args.extend(self.unit_args());
         vec![
             list(
@@ -228,9 +265,27 @@ impl LentUnits {
                 domain.len(),
                 domain,
             ),
-            number("boltraven_unit_frozen", frozen_args, heard(self.frozen_no(), u64::from(due.frozen))),
+            number(
+                "boltraven_unit_frozen",
+                frozen_args,
+                heard(self.frozen_no(), u64::from(due.is_frozen)),
+            ),
             number("boltraven_covered_days", self.slots.args(), heard(self.days_no(), due.days as u64)),
         ]
+    }
+
+    /// All units' domains, now and then with too little room for them.
+    fn domains_asked(&self, seed: &mut Seed, due: &DueUnits) -> Question {
+        let units = due.unit_masks.len();
+        let room = if seed.one_in(8) {
+            units - 1
+        } else {
+            units + seed.below(2) as usize
+        };
+        let before: Vec<u32> = (0..room).map(|_| seed.word() as u32).collect();
+        let mut args = vec![Arg::Lent(8, bytes64(&self.avail)), Arg::Number(self.people as u64)];
+        args.extend(self.units_args());
+        masks(args, before, self.unit_domains_no(room), &due.unit_masks)
     }
 
     /// Minutes a day, target and achievable run.
@@ -239,7 +294,7 @@ impl LentUnits {
         target_args.extend(self.slots.args());
         let mut run_args = settings_args(self.settings);
         run_args.extend([
-            Arg::Lent(8, bytes64(&self.rows)),
+            Arg::Lent(8, bytes64(&self.avail)),
             Arg::Number(self.people as u64),
             Arg::Number(self.person as u64),
         ]);

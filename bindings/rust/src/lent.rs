@@ -243,6 +243,11 @@ exports! {
         avail: &[u64], people: usize, slots: usize, units: usize, firsts: &[u16], unit: usize, list: &mut [u8]
     ) -> Result<usize, Refusal> = counted(u64);
 
+    /// The people available for all slots of each unit, as a mask a unit: bit p is person p. Refusals: 1, 2, 9.
+    pub fn unit_domains(
+        avail: &[u64], people: usize, slots: usize, units: usize, firsts: &[u16], masks: &mut [u32]
+    ) -> Result<(), Refusal> = done(u8);
+
     /// The people available for a slot, ascending, and how many. Refusals: 1, 2, 11.
     pub fn slot_domain(avail: &[u64], people: usize, slots: usize, slot: usize, list: &mut [u8]) -> Result<usize, Refusal> = counted(u64);
 

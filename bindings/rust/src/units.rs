@@ -111,6 +111,25 @@ impl Units {
         Ok(list.iter().take(count).map(|&person| usize::from(person)).collect())
     }
 
+    /// The people who are available for all slots of each, ascending: one call for all of them. Refusals 2, 9.
+    ///
+    /// ```
+    /// use boltraven::{Availability, Range, Settings, Slot, Slots, Units};
+    ///
+    /// let slots = Slots::new(&[Slot { start: 0, end: 60 }, Slot { start: 60, end: 120 }])?;
+    /// let who = Availability::new(3, &slots, &[0, 2].map(|person| Range { person, start: 0, end: 60 }))?;
+    /// let none: [usize; 0] = [];
+    /// assert_eq!(Units::new(Settings::default(), &slots)?.domains(&who)?, [&[0, 2][..], &none]);
+    /// # Ok::<(), boltraven::Refusal>(())
+    /// ```
+    pub fn domains(&self, availability: &Availability) -> Result<Vec<Vec<usize>>, Refusal> {
+        let people = availability.people();
+        let mut masks = vec![0; self.len()];
+        lent::unit_domains(availability.words(), people, self.slots, self.len(), &self.firsts, &mut masks)?;
+        let domain = |mask: u32| (0..people).filter(|person| mask >> person & 1 == 1).collect();
+        Ok(masks.into_iter().map(domain).collect())
+    }
+
     /// Whether any slot of one is frozen. Refusal 11.
     pub fn is_frozen(&self, frozen: &SlotSet, unit: usize) -> Result<bool, Refusal> {
         lent::unit_frozen(frozen.words(), self.slots, self.len(), &self.firsts, unit)

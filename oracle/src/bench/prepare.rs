@@ -7,7 +7,7 @@ use on_call::model::problem::Problem;
 
 use super::{row, Row, Side};
 use crate::limits::{SET_WORDS, SLOTS_MOST};
-use crate::problems::{availability_into, build, slots_of, unit_starts_of, ProblemCase, Settings};
+use crate::problems::{availability_into, build, slots_of, unit_masks_of, unit_starts_of, ProblemCase, Settings};
 use crate::splitting::LentProblem;
 
 /// A problem as it is lent, with room for what comes out.
@@ -26,7 +26,7 @@ struct Preparation {
     targets: Vec<i64>,
     target_run: u64,
     runs: Vec<u64>,
-    domains: Vec<Vec<u8>>,
+    masks: Vec<u32>,
 }
 
 impl Preparation {
@@ -46,7 +46,7 @@ impl Preparation {
             targets: vec![0; people],
             target_run: 0,
             runs: vec![0; people],
-            domains: vec![],
+            masks: vec![0; SLOTS_MOST],
         }
     }
 
@@ -131,13 +131,7 @@ impl Preparation {
                 run,
             )?;
         }
-        for unit in 0..self.units {
-            let mut list = vec![0; people];
-            let many = lent::unit_domain(&self.avail, people, self.slots, self.units, &self.firsts, unit, &mut list)?;
-            list.truncate(many);
-            self.domains.push(list);
-        }
-        Ok(())
+        lent::unit_domains(&self.avail, people, self.slots, self.units, &self.firsts, &mut self.masks)
     }
 
     fn seen(&self) -> Prepared {
@@ -154,7 +148,7 @@ impl Preparation {
         Figures {
             target_run: self.target_run as i64,
             runs: self.runs.iter().map(|&run| run as i64).collect(),
-            domains: self.domains.clone(),
+            masks: self.masks[..self.units].to_vec(),
         }
     }
 }
@@ -174,7 +168,7 @@ struct Prepared {
 struct Figures {
     target_run: i64,
     runs: Vec<i64>,
-    domains: Vec<Vec<u8>>,
+    masks: Vec<u32>,
 }
 
 fn prepared(problem: &Problem) -> Prepared {
@@ -191,11 +185,10 @@ fn prepared(problem: &Problem) -> Prepared {
 }
 
 fn figures(problem: &Problem) -> Figures {
-    let bytes = |domain: &Vec<usize>| domain.iter().map(|&person| person as u8).collect();
     Figures {
         target_run: problem.target_run_minutes,
         runs: problem.achievable_run_minutes.clone(),
-        domains: problem.unit_domains.iter().map(bytes).collect(),
+        masks: unit_masks_of(problem),
     }
 }
 
