@@ -13,7 +13,7 @@ use crate::limits::SLOTS_MOST;
 const ROUNDS: usize = 16;
 
 /// One side's question of its set, asked at every slot, round after round; what is to be seen are the answers of one round.
-fn side<S: ?Sized, A: 'static>(set: &'static S, ask: fn(&S, usize) -> A) -> Side<(), Vec<A>> {
+fn side<S: ?Sized, A: 'static>(set: &'static S, ask: impl Fn(&S, usize) -> A + Copy + 'static) -> Side<(), Vec<A>> {
     Side {
         fresh: Box::new(|| ()),
         run: Box::new(move |()| {
@@ -25,8 +25,12 @@ fn side<S: ?Sized, A: 'static>(set: &'static S, ask: fn(&S, usize) -> A) -> Side
     }
 }
 
-/// A question of a set, of each side in its own way.
-fn asked<A: PartialEq + 'static>(set: Set, ours: fn(&[u64], usize) -> A, rust: fn(&SlotSet, usize) -> A) -> Row {
+/// A question of a set, of each side in its own way, which may be inlined.
+fn asked<A: PartialEq + 'static>(
+    set: Set,
+    ours: impl Fn(&[u64], usize) -> A + Copy + 'static,
+    rust: impl Fn(&SlotSet, usize) -> A + Copy + 'static,
+) -> Row {
     let set: &'static Set = Box::leak(Box::new(set));
     row(side(&set.words[..], ours), side(&set.rust, rust))
 }
