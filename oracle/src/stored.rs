@@ -69,9 +69,9 @@ fn slot_sets(n: u64, run: u64) -> Stored {
     Stored::new(bytes, 62 * n)
 }
 
-/// Records of targets, of at most eight people and six slots. A record is, low byte first: people, slots and fairness as u16; six starts and
-/// six ends as u32; eight u16 of slots that a person can cover; eight capacities as one u32 divided by another; eight prior minutes as u32;
-/// eight targets as u32, with 2 ^ 31 added. Some of the cases are looked for: those that tell a wrong rule from the Rust's.
+/// Records of targets, of at most eight people and six slots. A record is, low byte first: people, slots and fairness as u16; six starts
+/// and six ends as u32; eight u16 of slots that a person can cover; eight capacities as one u32 divided by another; eight prior minutes as
+/// u32; eight targets as u32, with 2 ^ 31 added. Some of the cases are looked for: those that tell a wrong rule from the Rust's.
 fn targets(n: u64, run: u64) -> Stored {
     let mut bytes = Vec::new();
     let mut told = [0u64; WRONG.len()];

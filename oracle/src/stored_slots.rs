@@ -31,9 +31,9 @@ const ANSWERS: u64 = 14;
 
 /// Records, every second one damaged. A record is, low byte first: people, base slots, ranges, lent slots, a person and a slot as u64; an
 /// instant as u32; u16 of how long each lent column is: base starts and ends, persons, starts and ends of ranges, lent starts and ends,
-/// words of availability, words of frozen flags, the three columns for merged ranges, the two for atomic slots; the columns themselves, of 8,
-/// 8, 8, 8, 8, 16 and 16; first words of four rows before and as the Rust's availability has them; the first word of frozen flags before and
-/// after; then the answers: merged ranges, atomic slots, availability, frozen slots, is_available as u16, demand and the slot's minutes
+/// words of availability, words of frozen flags, the three columns for merged ranges, the two for atomic slots; the columns themselves, of
+/// 8, 8, 8, 8, 8, 16 and 16; first words of four rows before and as the Rust's availability has them; the first word of frozen flags before
+/// and after; then the answers: merged ranges, atomic slots, availability, frozen slots, is_available as u16, demand and the slot's minutes
 /// as u32; and the three columns of 8 and two of 16 that come out.
 pub fn slots(n: u64, run: u64) -> Stored {
     let mut bytes = Vec::new();

@@ -110,8 +110,8 @@ impl Rota {
         }
     }
 
-    /// Shifts of 3 to 14 units for whoever is able, one slot in 16, from the first on, frozen, and draws of all five moves as a search makes
-    /// them: every choice is one that there is.
+    /// Shifts of 3 to 14 units for whoever is able, one slot in 16, from the first on, frozen, and draws of all five moves as a search
+    /// makes them: every choice is one that there is.
     pub fn typical(seed: &mut Seed, case: &ProblemCase) -> Self {
         let mut problem = case.rust();
         let (_, ends) = slots_of(&problem);
