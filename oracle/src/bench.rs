@@ -1,7 +1,11 @@
 //! Both sides timed on the same inputs, in the same process. `oracle/bench` builds and runs it.
 
 mod inputs;
+mod job;
+mod prepare;
+mod rota;
 mod rows;
+mod set;
 
 use std::collections::HashMap;
 use std::fs;

@@ -20,11 +20,10 @@ pub struct Outcome {
     pub written: Vec<Vec<u8>>,
 }
 
-/// A call, the size of its result in bytes, and the outcome that is due.
+/// A call, and the outcome that is due.
 #[derive(Debug, Clone)]
 pub struct Question {
     pub function: &'static str,
-    pub result_size: usize,
     pub args: Vec<Arg>,
     pub due: Outcome,
 }

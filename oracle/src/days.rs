@@ -3,10 +3,8 @@
 use chrono::{Datelike, Duration, NaiveDate, NaiveDateTime};
 
 use crate::call::{Arg, Outcome, Question};
+use crate::limits::MINUTES_MOST;
 use crate::seed::Seed;
-
-/// The last minute that a time may be.
-pub const MINUTES_MOST: i64 = 100_000_000;
 
 /// The instant of a minute: minute 0 is 1970-01-01 00:00.
 pub fn instant(minute: i64) -> NaiveDateTime {
@@ -40,7 +38,6 @@ fn minutes_of_day(day: i64) -> impl Iterator<Item = i64> {
 fn day_questions(day: i64) -> Vec<Question> {
     let question = |function, argument: i64, due: i64| Question {
         function,
-        result_size: 4,
         args: vec![Arg::Number(argument as u64)],
         due: Outcome {
             result: due as u64,

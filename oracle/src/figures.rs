@@ -1,9 +1,8 @@
 //! Targets: people's figures and what they are available for, the Rust's targets, and wrong rules that the cases must tell from them.
 
-use crate::days::MINUTES_MOST;
+use crate::limits::{MINUTES_MOST, PEOPLE_MOST};
 use crate::problems::{people, Person, ProblemCase, Range, Settings};
 use crate::seed::Seed;
-use crate::sets::PEOPLE_MOST;
 
 /// What targets are worked out from: slots by their lengths, who can cover which, and the figures.
 #[derive(Debug, Clone)]

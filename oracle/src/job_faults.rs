@@ -1,15 +1,12 @@
 //! Jobs that must be refused: every way to earn a number of the paper's table by a job file, alone or two together.
 
-use on_call::model::problem::Problem;
-
 use crate::call::bytes16;
-use crate::days::MINUTES_MOST;
-use crate::job_files::{file_of, numbers, Record, DRAWS_MOST, FILE_MOST, FREEZE, OWNER, SETTINGS};
+use crate::job_files::{file_of, numbers, Record, FREEZE, OWNER, SETTINGS};
 use crate::jobs::JobCase;
+use crate::limits::{DRAWS_MOST, FILE_MOST, MINUTES_MOST, NOBODY, PEOPLE_MOST, SLOTS_MOST};
 use crate::problems::{Person, Range};
-use crate::rotas::{owners, NOBODY};
+use crate::rotas::owners;
 use crate::seed::Seed;
-use crate::sets::{PEOPLE_MOST, SLOTS_MOST};
 
 /// What a fault changes: what the job says, its records, or its bytes. Each answers whether this job could be given the fault.
 #[derive(Clone, Copy)]
@@ -258,11 +255,6 @@ fn too_many_slots(seed: &mut Seed, job: &mut JobCase) -> bool {
 
 // ---- owners
 
-/// The Rust's problem, where it has no more slots than it may.
-fn problem_within(job: &JobCase) -> Option<Problem> {
-    Some(job.problem.rust()).filter(|problem| problem.slot_count() <= SLOTS_MOST)
-}
-
 /// The owner that is written for a slot.
 fn owner_of(job: &JobCase, slot: usize) -> u16 {
     let found = job.owners.iter().find(|record| usize::from(record.0) == slot);
@@ -281,7 +273,7 @@ fn uneven_unit(seed: &mut Seed, job: &mut JobCase) -> bool {
     let settings = &mut job.problem.settings;
     (settings.lock, settings.boundary) = (1, 0);
     settings.value = seed.within(2, 4) as u16;
-    let Some(problem) = problem_within(job) else {
+    let Some(problem) = job.problem.rust_within() else {
         return false;
     };
     let all = owners(seed, &problem);
@@ -302,7 +294,7 @@ fn uneven_unit(seed: &mut Seed, job: &mut JobCase) -> bool {
 }
 
 fn slot_past_the_end(seed: &mut Seed, job: &mut JobCase) -> bool {
-    let Some(problem) = problem_within(job) else {
+    let Some(problem) = job.problem.rust_within() else {
         return false;
     };
     let count = problem.slot_count();
@@ -314,7 +306,7 @@ fn slot_past_the_end(seed: &mut Seed, job: &mut JobCase) -> bool {
 
 /// A whole unit of an owner who is not below the number of people. Only 255 is nobody: 256 is not 0.
 fn unknown_owner(seed: &mut Seed, job: &mut JobCase) -> bool {
-    let Some(problem) = problem_within(job) else {
+    let Some(problem) = job.problem.rust_within() else {
         return false;
     };
     let unit = seed.pick(&(0..problem.unit_count()).collect::<Vec<usize>>());
@@ -326,7 +318,7 @@ fn unknown_owner(seed: &mut Seed, job: &mut JobCase) -> bool {
 
 /// A whole unit of somebody who is not available for all its slots.
 fn unavailable_owner(seed: &mut Seed, job: &mut JobCase) -> bool {
-    let Some(problem) = problem_within(job) else {
+    let Some(problem) = job.problem.rust_within() else {
         return false;
     };
     let unit = seed.below(problem.unit_count() as u64) as usize;

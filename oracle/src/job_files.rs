@@ -3,16 +3,10 @@
 
 use on_call::model::problem::Problem;
 
-use crate::days::MINUTES_MOST;
 use crate::jobs::JobCase;
+use crate::limits::{DRAWS_MOST, FILE_MOST, NOBODY, RANGES_MOST, SLOTS_MOST};
 use crate::problems::{Person, ProblemCase, Range, Settings};
-use crate::rotas::NOBODY;
-use crate::sets::{PEOPLE_MOST, SLOTS_MOST};
-
-/// The most bytes of a job file, and the most ranges and draws.
-pub const FILE_MOST: usize = 49_152;
-const RANGES_MOST: usize = 1024;
-pub const DRAWS_MOST: usize = 1024;
+use crate::table::{figures_ok, people_ok, range_ok, settings_ok, slots_ok};
 
 /// The kinds: their numbers, and the size of a body.
 pub const SETTINGS: u16 = 1;
@@ -150,14 +144,14 @@ pub fn numbers(job: &JobCase) -> Vec<u8> {
     let case = &job.problem;
     let judged = [
         (1, !counts_ok(job)),
-        (3, !base_ok(&case.base)),
-        (4, !case.ranges.iter().all(|range| range_ok(range, case.people.len()))),
+        (3, !slots_ok(&case.base)),
+        (4, !case.ranges.iter().all(|range| range_ok(*range, case.people.len()))),
     ];
     let mut numbers: Vec<u8> = judged.iter().filter(|(_, earned)| *earned).map(|(number, _)| *number).collect();
     let cut = numbers.is_empty().then(|| plain(case).rust().slot_count());
     let too_many = cut.is_some_and(|slots| slots > SLOTS_MOST);
     numbers.extend(too_many.then_some(5));
-    numbers.extend((!case.people.iter().all(figures_ok)).then_some(6));
+    numbers.extend((!case.people.iter().all(|person| figures_ok(*person))).then_some(6));
     numbers.extend((!settings_ok(case.settings)).then_some(7));
     if numbers.iter().all(|&number| number == 6) {
         let settings = case.settings;
@@ -184,31 +178,9 @@ fn plain(case: &ProblemCase) -> ProblemCase {
 fn counts_ok(job: &JobCase) -> bool {
     let case = &job.problem;
     (1..=SLOTS_MOST).contains(&case.base.len())
-        && (1..=PEOPLE_MOST).contains(&case.people.len())
+        && people_ok(case.people.len())
         && case.ranges.len() <= RANGES_MOST
         && job.draws.len() <= DRAWS_MOST
-}
-
-fn base_ok(base: &[(u32, u32)]) -> bool {
-    let sound = |&(start, end): &(u32, u32)| start < end && i64::from(end) <= MINUTES_MOST;
-    base.iter().all(sound) && base.windows(2).all(|pair| pair[0].1 <= pair[1].0)
-}
-
-fn range_ok(range: &Range, people: usize) -> bool {
-    range.start <= range.end && i64::from(range.end) <= MINUTES_MOST && range.person < people
-}
-
-fn figures_ok(person: &Person) -> bool {
-    (0.0..=1000.0).contains(&person.capacity) && i64::from(person.prior) <= MINUTES_MOST
-}
-
-fn settings_ok(settings: Settings) -> bool {
-    let value_most = match settings.boundary {
-        0 => 1024,
-        1 => 127,
-        _ => return false,
-    };
-    settings.fairness <= 1 && settings.lock <= 1 && settings.value <= value_most && settings.days <= 366
 }
 
 /// 10, 11 and 12: the owners as they are written, over the slots and units that the Rust made.

@@ -4,17 +4,16 @@ use std::{fs, io};
 
 use on_call::model::problem::Problem;
 use on_call::model::Assignment;
-use on_call::search::moves::MoveGenerator;
 
 use crate::call::{bytes16, bytes32, bytes64, Arg, Outcome, Question};
-use crate::days::{instant, MINUTES_MOST};
+use crate::days::instant;
 use crate::job_faults::{at_the_limit, some_faults, with_faults};
-use crate::job_files::{file_of, listing_of, Record, BASE, DRAW, DRAWS_MOST, FREEZE, OWNER, PERSON, RANGE, SETTINGS};
+use crate::job_files::{file_of, listing_of, Record, BASE, DRAW, FREEZE, OWNER, PERSON, RANGE, SETTINGS};
 use crate::library;
+use crate::limits::{DRAWS_MOST, MINUTES_MOST, NOBODY, PEOPLE_MOST, SLOTS_MOST};
 use crate::problems::{problem_case, slots_of, Person, ProblemCase, Range, Settings};
-use crate::rotas::{draws, owners, played, step, Draw, Played, NOBODY};
+use crate::rotas::{draws, owners, play, played, Draw, Played};
 use crate::seed::Seed;
-use crate::sets::{PEOPLE_MOST, SLOTS_MOST};
 
 /// The bytes of the longest listing that can come out, `with_the_longest_listing`'s: the lines of slots, with times of eight digits and
 /// owners of two, and a ninth digit of the last end; those of people and of draws, and U, without their figures; 33 amounts of minutes and
@@ -222,12 +221,7 @@ impl JobCase {
 
     fn play(&self, problem: &Problem) -> Played {
         let mut assignment = self.assignment(problem);
-        let generator = MoveGenerator::new();
-        let answers = self
-            .draws
-            .iter()
-            .map(|&draw| step(problem, &mut assignment, &generator, draw))
-            .collect();
+        let answers = play(problem, &mut assignment, &self.draws);
         played(problem, &assignment, answers)
     }
 }
@@ -325,7 +319,6 @@ fn question(seed: &mut Seed, file: Vec<u8>, room: usize) -> Question {
     }
     Question {
         function: "boltraven_run_job",
-        result_size: 1,
         args: vec![Arg::Lent(1, file), Arg::LentMut(1, before), Arg::Out(was)],
         due: Outcome {
             result: number,

@@ -2,19 +2,20 @@
 
 use on_call::model::problem::Problem;
 
-use crate::problems::{availability_into, put_bit, slots_of, unit_starts_of, ProblemCase, Settings};
+use crate::limits::SET_WORDS;
+use crate::problems::{availability_into, unit_masks_of, unit_starts_of, ProblemCase, Settings};
 use crate::seed::Seed;
-use crate::sets::SET_WORDS;
+use crate::sets::put_bit;
 use crate::table::{damage_settings, lowest, people_ok, settings_ok, words_ok, Slots, Units};
 
-/// What is lent and asked. Rows and flags hold any bits past the last slot.
+/// What is lent and asked. Availability and frozen slots have any bits past the last slot.
 pub struct LentUnits {
     pub settings: Settings,
     pub people: usize,
     pub slots: Slots,
     pub units: Units,
-    pub rows: Vec<u64>,
-    pub flags: Vec<u64>,
+    pub avail: Vec<u64>,
+    pub frozen: Vec<u64>,
     pub person: usize,
     pub slot: usize,
     pub unit: usize,
@@ -29,9 +30,11 @@ pub struct DueUnits {
     pub units: Vec<u16>,
     pub span: std::ops::Range<usize>,
     pub unit_of_slot: usize,
-    pub frozen: bool,
+    pub is_frozen: bool,
     pub slot_domain: Vec<u8>,
     pub unit_domain: Vec<u8>,
+    /// Everybody who can cover a unit as a mask, for each.
+    pub unit_masks: Vec<u32>,
     pub days: usize,
     pub per_day: i64,
     pub target: i64,
@@ -40,15 +43,15 @@ pub struct DueUnits {
 
 /// A problem with some slots frozen, as it is lent, and the Rust's answers.
 pub fn lent(seed: &mut Seed, case: &ProblemCase, mut problem: Problem) -> (LentUnits, DueUnits) {
-    let (starts, ends) = slots_of(&problem);
-    let (people, count) = (problem.human_count(), starts.len());
-    let mut rows: Vec<u64> = (0..SET_WORDS * people).map(|_| seed.word()).collect();
-    availability_into(&problem, &mut rows);
-    let mut flags: Vec<u64> = (0..SET_WORDS).map(|_| seed.word()).collect();
+    let slots = Slots::of(&problem);
+    let (people, count) = (problem.human_count(), slots.count);
+    let mut avail: Vec<u64> = (0..SET_WORDS * people).map(|_| seed.word()).collect();
+    availability_into(&problem, &mut avail);
+    let mut frozen: Vec<u64> = (0..SET_WORDS).map(|_| seed.word()).collect();
     let often = seed.pick(&[2, 5, 1000]);
     for slot in 0..count {
         problem.frozen[slot] = seed.one_in(often);
-        put_bit(&mut flags, 0, slot, problem.frozen[slot]);
+        put_bit(&mut frozen, 0, slot, problem.frozen[slot]);
     }
     let firsts = unit_starts_of(&problem);
     let lent = LentUnits {
@@ -58,14 +61,14 @@ pub fn lent(seed: &mut Seed, case: &ProblemCase, mut problem: Problem) -> (LentU
             count: firsts.len(),
             firsts,
         },
-        rows,
-        flags,
+        avail,
+        frozen,
         person: seed.below(people as u64) as usize,
         slot: seed.below(count as u64) as usize,
         unit: seed.below(problem.unit_count() as u64) as usize,
         starts_room: count + seed.below(2) as usize,
         list_room: people + seed.below(2) as usize,
-        slots: Slots { count, starts, ends },
+        slots,
     };
     let due = due(case, &problem, &lent);
     (lent, due)
@@ -83,9 +86,10 @@ fn due(case: &ProblemCase, problem: &Problem, lent: &LentUnits) -> DueUnits {
         units: unit_starts_of(problem),
         span: problem.units[lent.unit].clone(),
         unit_of_slot: problem.unit_of_slot[lent.slot],
-        frozen: problem.is_unit_frozen(lent.unit),
+        is_frozen: problem.is_unit_frozen(lent.unit),
         slot_domain: list(&problem.domains[lent.slot]),
         unit_domain: list(&problem.unit_domains[lent.unit]),
+        unit_masks: unit_masks_of(problem),
         days: dates.len(),
         per_day: one_day.rust().target_run_minutes,
         target: problem.target_run_minutes,
@@ -98,8 +102,8 @@ impl LentUnits {
     pub fn damage(&mut self, seed: &mut Seed) {
         match seed.below(12) {
             0 => self.people = seed.pick(&[0, 33, usize::MAX]),
-            1 => self.rows.truncate(seed.pick(&[0, self.rows.len().max(1) - 1])),
-            2 => self.flags.truncate(seed.pick(&[0, SET_WORDS - 1])),
+            1 => self.avail.truncate(seed.pick(&[0, self.avail.len().max(1) - 1])),
+            2 => self.frozen.truncate(seed.pick(&[0, SET_WORDS - 1])),
             3 => self.person = seed.pick(&[self.people, usize::MAX]),
             4 => self.slot = seed.pick(&[self.slots.count, usize::MAX]),
             5 => self.unit = seed.pick(&[self.units.count, usize::MAX]),
@@ -136,7 +140,7 @@ impl LentUnits {
     pub fn frozen_no(&self) -> u64 {
         lowest(&[
             (1, self.slots.count_ok()),
-            (2, self.units.room_ok() && SET_WORDS <= self.flags.len()),
+            (2, self.units.room_ok() && SET_WORDS <= self.frozen.len()),
             (9, self.units.ok(self.slots.count)),
             (11, self.unit < self.units.count),
         ])
@@ -146,19 +150,29 @@ impl LentUnits {
     pub fn slot_domain_no(&self) -> u64 {
         lowest(&[
             (1, people_ok(self.people) && self.slots.count_ok()),
-            (2, words_ok(self.people, self.rows.len()) && self.people <= self.list_room),
+            (2, words_ok(self.people, self.avail.len()) && self.people <= self.list_room),
             (11, self.slot < self.slots.count),
         ])
     }
 
     /// The domain of a unit: 1, 2, 9, 11.
     pub fn unit_domain_no(&self) -> u64 {
-        let room = words_ok(self.people, self.rows.len()) && self.people <= self.list_room;
+        let room = words_ok(self.people, self.avail.len()) && self.people <= self.list_room;
         lowest(&[
             (1, people_ok(self.people) && self.slots.count_ok()),
             (2, room && self.units.room_ok()),
             (9, self.units.ok(self.slots.count)),
             (11, self.unit < self.units.count),
+        ])
+    }
+
+    /// The domains of all units, with room for so many: 1, 2, 9.
+    pub fn unit_domains_no(&self, room: usize) -> u64 {
+        let room = words_ok(self.people, self.avail.len()) && self.units.count <= room;
+        lowest(&[
+            (1, people_ok(self.people) && self.slots.count_ok()),
+            (2, room && self.units.room_ok()),
+            (9, self.units.ok(self.slots.count)),
         ])
     }
 
@@ -182,7 +196,7 @@ impl LentUnits {
     pub fn achievable_no(&self) -> u64 {
         lowest(&[
             (1, people_ok(self.people) && self.slots.count_ok()),
-            (2, self.slots.room_ok() && words_ok(self.people, self.rows.len())),
+            (2, self.slots.room_ok() && words_ok(self.people, self.avail.len())),
             (7, settings_ok(self.settings)),
             (9, self.slots.ok()),
             (11, self.person < self.people),

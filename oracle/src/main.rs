@@ -9,6 +9,7 @@ mod job_files;
 mod jobs;
 mod lent_units;
 mod library;
+mod limits;
 mod problems;
 mod program;
 mod readers;
@@ -47,7 +48,7 @@ const fn kind(name: &'static str, questions: fn(u64) -> Vec<Question>) -> Kind {
     Kind { name, questions }
 }
 
-/// Every kind that the library has by now.
+/// Every kind.
 const KINDS: [Kind; 15] = [
     kind("slot-sets", sets::questions),
     kind("slot-sets-damaged", sets::damaged),
@@ -250,7 +251,7 @@ fn compare(n: u64, run: u64, wanted: &str) -> std::io::Result<u64> {
 
 /// Whether every function that the library exports was asked.
 fn every_export_in(functions: &BTreeSet<&str>) -> std::io::Result<()> {
-    let left: Vec<&str> = library::exports().filter(|name| !functions.contains(name)).collect();
+    let left: Vec<String> = library::exports().filter(|name| !functions.contains(name.as_str())).collect();
     if left.is_empty() {
         println!("exports: all {} were asked", functions.len());
         return Ok(());

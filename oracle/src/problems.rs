@@ -6,9 +6,10 @@ use on_call::constraints::Constraint;
 use on_call::model::problem::Problem;
 use on_call::timerange::TimeRange;
 
-use crate::days::{instant, minute_of, MINUTES_MOST};
+use crate::days::{instant, minute_of};
+use crate::limits::{MINUTES_MOST, PEOPLE_MOST, SLOTS_MOST};
 use crate::seed::Seed;
-use crate::sets::{PEOPLE_MOST, SET_WORDS, SLOTS_MOST};
+use crate::sets::put_bit;
 
 /// A range of one person.
 #[derive(Debug, Clone, Copy, PartialEq, Eq)]
@@ -60,6 +61,11 @@ impl ProblemCase {
     /// The Rust's problem.
     pub fn rust(&self) -> Problem {
         build(&self.config())
+    }
+
+    /// The Rust's problem, unless it has more slots than there may be.
+    pub fn rust_within(&self) -> Option<Problem> {
+        Some(self.rust()).filter(|problem| problem.slot_count() <= SLOTS_MOST)
     }
 
     /// What the Rust builds it from.
@@ -138,20 +144,15 @@ pub fn availability_into(problem: &Problem, words: &mut [u64]) {
     }
 }
 
-/// One slot of a person's row.
-pub fn put_bit(words: &mut [u64], person: usize, slot: usize, value: bool) {
-    let mask = 1u64 << (slot % 64);
-    let word = &mut words[SET_WORDS * person + slot / 64];
-    if value {
-        *word |= mask;
-    } else {
-        *word &= !mask;
-    }
-}
-
 /// The first slot of each unit.
 pub fn unit_starts_of(problem: &Problem) -> Vec<u16> {
     problem.units.iter().map(|unit| unit.start as u16).collect()
+}
+
+/// Everybody who can cover a unit as a mask, bit p for person p, for each unit.
+pub fn unit_masks_of(problem: &Problem) -> Vec<u32> {
+    let mask = |domain: &Vec<usize>| domain.iter().fold(0, |mask, person| mask | 1 << person);
+    problem.unit_domains.iter().map(mask).collect()
 }
 
 // ---- cases
@@ -345,6 +346,13 @@ pub fn problem_case(seed: &mut Seed) -> ProblemCase {
         people,
         settings: settings(seed),
     }
+}
+
+/// A whole problem with what the Rust makes of it, unless that has more slots than there may be.
+pub fn problem_within(seed: &mut Seed) -> Option<(ProblemCase, Problem)> {
+    let case = problem_case(seed);
+    let problem = case.rust_within()?;
+    Some((case, problem))
 }
 
 #[cfg(test)]

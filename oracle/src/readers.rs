@@ -1,14 +1,12 @@
 //! Single questions of slots, units and owners, with numbers past their counts among them.
 
 use crate::call::{bytes16, bytes64, Arg, Outcome, Question};
-use crate::rotas::{Lent, RotaCase, NOBODY};
+use crate::limits::{NOBODY, NOTHING};
+use crate::rotas::{LentRota, RotaCase};
 use crate::seed::Seed;
 
-/// What an answer by one number adds to the number of a refusal.
-const REFUSED: u64 = 65_536;
-
-/// Refused: an index that is not below its count.
-const OUTSIDE: u64 = 11;
+/// The refusal of an index that is not below its count.
+const UNKNOWN: u64 = 11;
 
 /// An index below a count, now and then past it.
 fn index(seed: &mut Seed, count: usize) -> usize {
@@ -23,11 +21,10 @@ fn index(seed: &mut Seed, count: usize) -> usize {
 fn beside(function: &'static str, mut args: Vec<Arg>, seed: &mut Seed, due: Option<Vec<u64>>, words: usize) -> Question {
     let was: Vec<u64> = (0..words).map(|_| seed.word()).collect();
     args.extend(was.iter().map(|&word| Arg::Out(word)));
-    let result = if due.is_some() { 0 } else { OUTSIDE };
+    let result = if due.is_some() { 0 } else { UNKNOWN };
     let written = due.unwrap_or(was);
     Question {
         function,
-        result_size: 1,
         args,
         due: Outcome {
             result,
@@ -37,7 +34,7 @@ fn beside(function: &'static str, mut args: Vec<Arg>, seed: &mut Seed, due: Opti
 }
 
 /// The owner of a slot, a person's minutes, who can cover a slot, a slot's unit, a unit's slots, and minutes of one and of all slots.
-pub fn questions(seed: &mut Seed, case: &RotaCase, lent: &Lent) -> Vec<Question> {
+pub fn questions(seed: &mut Seed, case: &RotaCase, lent: &LentRota) -> Vec<Question> {
     let problem = &case.problem;
     let assignment = case.assignment(&case.owners);
     let (slots, people, units) = (problem.slot_count(), lent.people, lent.units);
@@ -76,10 +73,9 @@ pub fn questions(seed: &mut Seed, case: &RotaCase, lent: &Lent) -> Vec<Question>
         beside("boltraven_demand", slots_args, seed, Some(vec![problem.total_demand() as u64]), 1),
         Question {
             function: "boltraven_unit_of_slot",
-            result_size: 8,
             args: one(&units_args, slot),
             due: Outcome {
-                result: problem.unit_of_slot.get(slot).map_or(REFUSED + OUTSIDE, |&unit| unit as u64),
+                result: problem.unit_of_slot.get(slot).map_or(NOTHING + UNKNOWN, |&unit| unit as u64),
                 written: vec![],
             },
         },
@@ -88,7 +84,7 @@ pub fn questions(seed: &mut Seed, case: &RotaCase, lent: &Lent) -> Vec<Question>
 }
 
 /// The ascending list of people who can cover a slot.
-fn slot_domain(seed: &mut Seed, case: &RotaCase, lent: &Lent, slot: usize) -> Question {
+fn slot_domain(seed: &mut Seed, case: &RotaCase, lent: &LentRota, slot: usize) -> Question {
     let before: Vec<u8> = (0..lent.people + seed.below(2) as usize).map(|_| seed.word() as u8).collect();
     let mut after = before.clone();
     let domain = case.problem.domains.get(slot);
@@ -97,7 +93,6 @@ fn slot_domain(seed: &mut Seed, case: &RotaCase, lent: &Lent, slot: usize) -> Qu
     }
     Question {
         function: "boltraven_slot_domain",
-        result_size: 8,
         args: vec![
             Arg::Lent(8, bytes64(&lent.avail)),
             Arg::Number(lent.people as u64),
@@ -106,7 +101,7 @@ fn slot_domain(seed: &mut Seed, case: &RotaCase, lent: &Lent, slot: usize) -> Qu
             Arg::LentMut(1, before),
         ],
         due: Outcome {
-            result: domain.map_or(REFUSED + OUTSIDE, |domain| domain.len() as u64),
+            result: domain.map_or(NOTHING + UNKNOWN, |domain| domain.len() as u64),
             written: vec![after],
         },
     }

@@ -4,13 +4,13 @@ use on_call::model::problem::Problem;
 use on_call::model::Assignment;
 
 use crate::call::{bytes16, bytes32, bytes64, Arg, Outcome, Question};
-use crate::problems::put_bit;
-use crate::rotas::{played, sets_into, Lent, RotaCase, NOBODY};
+use crate::limits::{NOBODY, SET_WORDS};
+use crate::rotas::{played, sets_into, LentRota, RotaCase};
 use crate::seed::Seed;
-use crate::sets::SET_WORDS;
+use crate::sets::{has_bit, put_bit};
 
 /// Recounts of some rotas that are changed in one place, where it may matter or not; and an empty rota.
-pub fn questions(seed: &mut Seed, case: &RotaCase, lent: &Lent) -> Vec<Question> {
+pub fn questions(seed: &mut Seed, case: &RotaCase, lent: &LentRota) -> Vec<Question> {
     let mut asked = Vec::new();
     for _ in 0..4 {
         let rota = changed(seed, case, lent);
@@ -31,7 +31,7 @@ fn number(passes: bool) -> u64 {
 }
 
 /// The five scans: owners known, owners available, units uniform, sets and minutes equal to those rebuilt from the owners.
-fn passes(case: &RotaCase, lent: &Lent, units: bool) -> bool {
+fn passes(case: &RotaCase, lent: &LentRota, units: bool) -> bool {
     let problem = &case.problem;
     let owners = &lent.owners[..problem.slot_count()];
     let held = || owners.iter().enumerate().filter(|(_, &owner)| owner != NOBODY);
@@ -47,17 +47,16 @@ fn passes(case: &RotaCase, lent: &Lent, units: bool) -> bool {
 }
 
 /// Whether sets and minutes are those of an assignment. Bits past the last slot don't count.
-fn as_rebuilt(problem: &Problem, rebuilt: &Assignment, lent: &Lent) -> bool {
+fn as_rebuilt(problem: &Problem, rebuilt: &Assignment, lent: &LentRota) -> bool {
     (0..lent.people).all(|person| {
-        let has = |slot: usize| lent.sets[SET_WORDS * person + slot / 64] >> (slot % 64) & 1 == 1;
         let set = rebuilt.slots_of(person);
-        let same_set = (0..problem.slot_count()).all(|slot| has(slot) == set.contains(slot));
+        let same_set = (0..problem.slot_count()).all(|slot| has_bit(&lent.sets, person, slot) == set.contains(slot));
         same_set && lent.minutes[person] == rebuilt.assigned_minutes(person) as u64
     })
 }
 
 /// A rota that is changed in one place.
-fn changed(seed: &mut Seed, case: &RotaCase, lent: &Lent) -> Lent {
+fn changed(seed: &mut Seed, case: &RotaCase, lent: &LentRota) -> LentRota {
     let mut rota = lent.clone();
     let slots = case.problem.slot_count();
     let slot = seed.below(slots as u64) as usize;
@@ -88,7 +87,7 @@ fn changed(seed: &mut Seed, case: &RotaCase, lent: &Lent) -> Lent {
 }
 
 /// The recount as a play asks it.
-pub fn with_units(lent: &Lent, number: u64) -> Question {
+pub fn with_units(lent: &LentRota, number: u64) -> Question {
     let args = vec![
         Arg::Number(lent.people as u64),
         Arg::Number(lent.starts.len() as u64),
@@ -105,7 +104,7 @@ pub fn with_units(lent: &Lent, number: u64) -> Question {
 }
 
 /// The recount as an assign asks it.
-pub fn without_units(lent: &Lent, number: u64) -> Question {
+pub fn without_units(lent: &LentRota, number: u64) -> Question {
     let mut args = lent.ground();
     args.extend([
         Arg::Lent(8, bytes64(&lent.avail)),
@@ -119,14 +118,13 @@ pub fn without_units(lent: &Lent, number: u64) -> Question {
 fn heard(function: &'static str, args: Vec<Arg>, result: u64) -> Question {
     Question {
         function,
-        result_size: 1,
         args,
         due: Outcome { result, written: vec![] },
     }
 }
 
 /// A rota emptied, as the Rust's empty one; or a refusal.
-pub fn empty(case: &RotaCase, lent: &Lent, number: u64) -> Question {
+pub fn empty(case: &RotaCase, lent: &LentRota, number: u64) -> Question {
     let (mut owners, mut sets, mut minutes) = (lent.owners.clone(), lent.sets.clone(), lent.minutes.clone());
     if number == 0 {
         let made = played(&case.problem, &Assignment::empty(&case.problem), vec![]);
@@ -136,7 +134,6 @@ pub fn empty(case: &RotaCase, lent: &Lent, number: u64) -> Question {
     }
     Question {
         function: "boltraven_empty",
-        result_size: 1,
         args: vec![
             Arg::Number(lent.people as u64),
             Arg::Number(lent.starts.len() as u64),
@@ -154,7 +151,7 @@ pub fn empty(case: &RotaCase, lent: &Lent, number: u64) -> Question {
 #[cfg(test)]
 mod tests {
     use super::{changed, passes};
-    use crate::rotas::{Lent, RotaCase};
+    use crate::rotas::{LentRota, RotaCase};
     use crate::seed::Seed;
 
     /// Changed rotas pass, fail, and fail for their units alone.
@@ -164,7 +161,7 @@ mod tests {
         for k in 0..600 {
             let mut seed = Seed::new(k);
             let case = RotaCase::new(&mut seed);
-            let lent = Lent::new(&mut seed, &case);
+            let lent = LentRota::new(&mut seed, &case);
             let rota = changed(&mut seed, &case, &lent);
             let verdict = usize::from(passes(&case, &rota, true)) + usize::from(passes(&case, &rota, false));
             seen[verdict] += 1;

@@ -1,23 +1,18 @@
 //! Rotas and lists of draws: any units, availability and frozen flags, and what the Rust's moves make of them.
 
+use on_call::incremental::Change;
 use on_call::model::problem::Problem;
 use on_call::model::Assignment;
 use on_call::search::moves::MoveGenerator;
 use rand::Script;
 
 use crate::call::{bytes16, bytes32, bytes64, Arg, Outcome, Question};
-use crate::days::MINUTES_MOST;
-use crate::problems::{availability_into, put_bit, slots_of, unit_starts_of, Person, ProblemCase, Range, Settings};
+use crate::limits::{DRAWS_MOST, MINUTES_MOST, NOBODY, PEOPLE_MOST, SET_WORDS, SLOTS_MOST};
+use crate::problems::{availability_into, slots_of, unit_starts_of, Person, ProblemCase, Range, Settings};
 use crate::readers;
 use crate::recounts;
 use crate::seed::Seed;
-use crate::sets::{PEOPLE_MOST, SET_WORDS, SLOTS_MOST};
-
-/// The owner byte of a slot that nobody holds.
-pub const NOBODY: u8 = 255;
-
-/// The draws of a call.
-const DRAWS_MOST: usize = 1024;
+use crate::sets::put_bit;
 
 /// Three numbers a draw.
 pub type Draw = (u16, u16, u16);
@@ -83,12 +78,7 @@ impl RotaCase {
     /// Plays all draws as the Rust's moves do.
     pub fn play(&self) -> Played {
         let mut assignment = self.assignment(&self.owners);
-        let generator = MoveGenerator::new();
-        let answers = self
-            .draws
-            .iter()
-            .map(|&draw| step(&self.problem, &mut assignment, &generator, draw))
-            .collect();
+        let answers = play(&self.problem, &mut assignment, &self.draws);
         played(&self.problem, &assignment, answers)
     }
 }
@@ -111,21 +101,34 @@ pub fn played(problem: &Problem, assignment: &Assignment, answers: Vec<u8>) -> P
     }
 }
 
+/// Plays draws by the Rust's moves: an answer each. One list of changes serves all draws, as in its search.
+pub fn play(problem: &Problem, assignment: &mut Assignment, draws: &[Draw]) -> Vec<u8> {
+    let generator = MoveGenerator::new();
+    let mut changes = Vec::new();
+    let answer = |&draw| step(problem, assignment, &generator, draw, &mut changes);
+    draws.iter().map(answer).collect()
+}
+
 /// One draw: 0 acted, 1 no move, 2 a choice outside.
-pub fn step(problem: &Problem, assignment: &mut Assignment, generator: &MoveGenerator, (draw, first, second): Draw) -> u8 {
+fn step(
+    problem: &Problem,
+    assignment: &mut Assignment,
+    generator: &MoveGenerator,
+    (draw, first, second): Draw,
+    changes: &mut Vec<Change>,
+) -> u8 {
     if draw >= 100 {
         return 2;
     }
-    let mut script = Script::new(u32::from(draw), &[usize::from(first), usize::from(second)]);
-    let mut changes = Vec::new();
-    let acted = generator.generate(problem, assignment, &mut script, &mut changes);
+    let mut script = Script::new(u32::from(draw), [usize::from(first), usize::from(second)]);
+    let acted = generator.generate(problem, assignment, &mut script, changes);
     if script.outside() {
         return 2;
     }
     if !acted {
         return 1;
     }
-    for (slot, person) in changes {
+    for &(slot, person) in changes.iter() {
         assignment.assign(problem, slot, person);
     }
     0
@@ -240,7 +243,7 @@ pub fn draws(seed: &mut Seed, problem: &Problem) -> Vec<Draw> {
 
 /// A rota as it is lent, with any bits past the last slot, and now and then more room than needed.
 #[derive(Clone)]
-pub struct Lent {
+pub struct LentRota {
     pub people: usize,
     pub units: usize,
     pub starts: Vec<u32>,
@@ -256,7 +259,7 @@ pub struct Lent {
     pub answers: Vec<u8>,
 }
 
-impl Lent {
+impl LentRota {
     pub fn new(seed: &mut Seed, case: &RotaCase) -> Self {
         let problem = &case.problem;
         let people = problem.human_count();
@@ -292,8 +295,10 @@ impl Lent {
         }
     }
 
-    fn column(&self, number: fn(&Draw) -> u16) -> Arg {
-        Arg::Lent(2, bytes16(&self.draws.iter().map(number).collect::<Vec<u16>>()))
+    /// The draws as three columns.
+    pub fn columns(&self) -> [Vec<u16>; 3] {
+        let numbers: [fn(&Draw) -> u16; 3] = [|draw| draw.0, |draw| draw.1, |draw| draw.2];
+        numbers.map(|number| self.draws.iter().map(number).collect())
     }
 
     /// A play, of draws in three columns and of the same draws as structs: what both leave, or a refusal that leaves everything as it was.
@@ -314,14 +319,13 @@ impl Lent {
             result,
             written: vec![owners, bytes64(&sets), bytes64(&minutes), answers],
         };
-        let columns = vec![self.column(|draw| draw.0), self.column(|draw| draw.1), self.column(|draw| draw.2)];
+        let columns = self.columns().map(|column| Arg::Lent(2, bytes16(&column))).to_vec();
         let numbers: Vec<u16> = self.draws.iter().flat_map(|draw| [draw.0, draw.1, draw.2]).collect();
         let structs = vec![Arg::Lent(6, bytes16(&numbers))];
         let ways = [("boltraven_play", columns), ("boltraven_play_draws", structs)];
         ways.into_iter()
             .map(|(function, draws)| Question {
                 function,
-                result_size: 1,
                 args: [self.board(), draws, vec![Arg::LentMut(1, self.answers.clone())]].concat(),
                 due: due.clone(),
             })
@@ -360,7 +364,7 @@ pub fn sets_into(words: &mut [u64], people: usize, owners: &[u8]) {
 pub fn questions(case_seed: u64) -> Vec<Question> {
     let mut seed = Seed::new(case_seed);
     let case = RotaCase::new(&mut seed);
-    let lent = Lent::new(&mut seed, &case);
+    let lent = LentRota::new(&mut seed, &case);
     let mut asked = lent.plays(Ok(&case.play()));
     asked.push(lent.from_slots(&mut seed, &case));
     for _ in 0..3 {
@@ -372,7 +376,7 @@ pub fn questions(case_seed: u64) -> Vec<Question> {
     asked
 }
 
-impl Lent {
+impl LentRota {
     /// What every entry on a rota takes first.
     pub fn ground(&self) -> Vec<Arg> {
         vec![
@@ -399,7 +403,6 @@ impl Lent {
         minutes[..self.people].copy_from_slice(&made.minutes);
         Question {
             function: "boltraven_from_slots",
-            result_size: 1,
             args,
             due: Outcome {
                 result: 0,
@@ -449,7 +452,6 @@ impl Lent {
         }
         Question {
             function: "boltraven_assign",
-            result_size: 1,
             args,
             due: Outcome {
                 result: number,
@@ -472,7 +474,6 @@ impl Lent {
         minute_args.extend([Arg::Lent(1, self.owners.clone()), Arg::Out(seed.word())]);
         let question = |function, args, due: u64| Question {
             function,
-            result_size: 1,
             args,
             due: Outcome {
                 result: 0,
@@ -491,7 +492,7 @@ impl Lent {
 pub fn damaged(case_seed: u64) -> Vec<Question> {
     let mut seed = Seed::new(case_seed);
     let case = RotaCase::new(&mut seed);
-    let mut lent = Lent::new(&mut seed, &case);
+    let mut lent = LentRota::new(&mut seed, &case);
     let slots = case.problem.slot_count();
     let slot = seed.below(slots as u64) as usize;
     let person = seed.below(lent.people as u64) as usize;

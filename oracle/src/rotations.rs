@@ -1,18 +1,17 @@
 //! Where rotations and units begin: by count and by weekday, across years.
 
 use crate::call::{bytes16, bytes32, Arg, Outcome, Question};
-use crate::problems::{problem_case, slots_of, unit_starts_of, ProblemCase, Settings};
+use crate::limits::NOTHING;
+use crate::problems::{problem_case, problem_within, slots_of, unit_starts_of, ProblemCase, Settings};
 use crate::seed::Seed;
-use crate::sets::{NOTHING, SLOTS_MOST};
+use crate::table::damage_settings;
 
 /// The starts of rotations and of units over the atomic slots of a problem.
 pub fn questions(case_seed: u64) -> Vec<Question> {
     let mut seed = Seed::new(case_seed);
-    let case = problem_case(&mut seed);
-    let problem = case.rust();
-    if problem.slot_count() > SLOTS_MOST {
+    let Some((case, problem)) = problem_within(&mut seed) else {
         return vec![];
-    }
+    };
     let rotations: Vec<u16> = problem.rotation_starts.iter().map(|&start| start as u16).collect();
     let (starts, ends) = slots_of(&problem);
     vec![
@@ -54,7 +53,6 @@ fn question(seed: &mut Seed, function: &'static str, settings: Settings, starts:
     ]);
     Question {
         function,
-        result_size: 8,
         args,
         due: Outcome {
             result: due.len() as u64,
@@ -80,13 +78,7 @@ pub fn damaged(case_seed: u64) -> Vec<Question> {
     }
     if seed.one_in(2) {
         number = 7;
-        match seed.below(5) {
-            0 => settings.fairness = seed.within(2, 255) as u8,
-            1 => settings.lock = seed.within(2, 255) as u8,
-            2 => settings.boundary = seed.within(2, 255) as u8,
-            3 => settings.value = if settings.boundary == 0 { 1025 } else { 128 } + seed.below(64_000) as u16,
-            _ => settings.days = seed.within(367, 65_535) as u16,
-        }
+        damage_settings(&mut seed, &mut settings);
     }
     let starts: Vec<u32> = base.iter().map(|slot| slot.0).collect();
     let mut ends: Vec<u32> = base.iter().map(|slot| slot.1).collect();

@@ -9,7 +9,8 @@ use on_call::search::moves::MoveGenerator;
 use rand::RngExt;
 
 use crate::jobs::JobCase;
-use crate::rotas::{played, Draw, NOBODY};
+use crate::limits::NOBODY;
+use crate::rotas::{played, Draw};
 use crate::seed::Seed;
 
 /// A source of numbers for one draw, which notes what was asked: the number that picks the move, and the choices in it.

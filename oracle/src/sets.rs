@@ -3,15 +3,9 @@
 use on_call::model::assignment::SlotSet;
 
 use crate::call::{bytes64, Arg, Outcome, Question};
+use crate::limits::{NOTHING, PEOPLE_MOST, SET_WORDS, SLOTS_MOST};
 use crate::seed::Seed;
-
-/// Words in a set, and the longest set.
-pub const SET_WORDS: usize = 16;
-pub const SLOTS_MOST: usize = 1024;
-/// The most people.
-pub const PEOPLE_MOST: usize = 32;
-/// What an exported function answers for nothing found; a refusal adds its number.
-pub const NOTHING: u64 = 65_536;
+use crate::table::{lowest, people_ok, words_ok};
 
 /// Lengths at which words and limits begin and end.
 const LENGTHS: [u64; 19] = [
@@ -49,37 +43,36 @@ impl SetCase {
     fn rust_with_len(&self, len: usize) -> SlotSet {
         let mut set = SlotSet::new(len);
         for i in 0..self.len.min(len) {
-            if self.bit(i) {
+            if has_bit(&self.words, 0, i) {
                 set.insert(i);
             }
         }
         set
     }
 
-    fn bit(&self, i: usize) -> bool {
-        bit(&self.words, i)
-    }
-
     /// This set's words with the members of a Rust set, and the bits past the length as they were.
     pub fn words_of(&self, set: &SlotSet) -> [u64; SET_WORDS] {
         let mut words = self.words;
         for i in 0..self.len {
-            put(&mut words, i, set.contains(i));
+            put_bit(&mut words, 0, i, set.contains(i));
         }
         words
     }
 }
 
-fn bit(words: &[u64], i: usize) -> bool {
-    words[i / 64] >> (i % 64) & 1 == 1
+/// Whether a slot is in a person's row.
+pub fn has_bit(words: &[u64], person: usize, slot: usize) -> bool {
+    words[SET_WORDS * person + slot / 64] >> (slot % 64) & 1 == 1
 }
 
-fn put(words: &mut [u64], i: usize, value: bool) {
-    let mask = 1u64 << (i % 64);
+/// Puts a slot into a person's row, or takes it out.
+pub fn put_bit(words: &mut [u64], person: usize, slot: usize, value: bool) {
+    let mask = 1u64 << (slot % 64);
+    let word = &mut words[SET_WORDS * person + slot / 64];
     if value {
-        words[i / 64] |= mask;
+        *word |= mask;
     } else {
-        words[i / 64] &= !mask;
+        *word &= !mask;
     }
 }
 
@@ -111,7 +104,7 @@ fn fill(seed: &mut Seed, words: &mut [u64], from: usize, to: usize) {
                 value
             }
         };
-        put(words, i, set);
+        put_bit(words, 0, i, set);
     }
 }
 
@@ -219,7 +212,6 @@ impl Row {
         args.extend(more.iter().map(|&n| Arg::Number(n as u64)));
         Question {
             function,
-            result_size: 8,
             args,
             due: Outcome { result, written: vec![] },
         }
@@ -234,7 +226,6 @@ impl Row {
         let written = due.unwrap_or_else(|| outs.to_vec());
         Question {
             function,
-            result_size: 8,
             args,
             due: Outcome {
                 result,
@@ -253,7 +244,6 @@ impl Row {
         }
         Question {
             function,
-            result_size: 1,
             args,
             due: Outcome {
                 result: number,
@@ -366,7 +356,7 @@ pub fn damaged(case_seed: u64) -> Vec<Question> {
     if seed.one_in(2) {
         row.person = seed.pick(&[row.people, row.people.saturating_add(1), usize::MAX]);
     }
-    let number = row_number(&row);
+    let number = row.number_due();
     if number == 0 {
         return vec![];
     }
@@ -397,15 +387,13 @@ pub fn damaged(case_seed: u64) -> Vec<Question> {
     asked
 }
 
-/// The refusal of a row, by the table: counts, room, then the person.
-fn row_number(row: &Row) -> u64 {
-    if row.people == 0 || row.people > PEOPLE_MOST || row.case.len > SLOTS_MOST {
-        1
-    } else if row.words.len() < SET_WORDS * row.people {
-        2
-    } else if row.person >= row.people {
-        11
-    } else {
-        0
+impl Row {
+    /// A row: 1, 2, 11.
+    fn number_due(&self) -> u64 {
+        lowest(&[
+            (1, people_ok(self.people) && self.case.len <= SLOTS_MOST),
+            (2, words_ok(self.people, self.words.len())),
+            (11, self.person < self.people),
+        ])
     }
 }

@@ -1,8 +1,9 @@
 //! Stored answers: records of the Rust's answers, which the `replay_*` programs of the library compare with no Rust at hand.
 
 use crate::figures::{targets_by, FigureCase, WRONG};
+use crate::limits::SLOTS_MOST;
 use crate::seed::Seed;
-use crate::sets::{index, next_run, next_unset_after, prev_unset_before, SetCase, SLOTS_MOST};
+use crate::sets::{index, next_run, next_unset_after, prev_unset_before, SetCase};
 use crate::stored_rotas;
 use crate::stored_slots;
 use crate::stored_units;
@@ -40,30 +41,37 @@ pub fn of_kind(kind: &str, n: u64, run: u64) -> Option<Stored> {
     }
 }
 
+/// Tries seed after seed of this name until n records are made. `make` has the seed and how many there are by then, and answers whether it
+/// made one.
+pub fn records(n: u64, run: u64, name: &str, mut make: impl FnMut(&mut Seed, u64) -> bool) {
+    let mut made = 0;
+    let mut k = 0;
+    while made < n {
+        made += u64::from(make(&mut Seed::new(Seed::of_case(run, name, k)), made));
+        k += 1;
+    }
+}
+
 /// Records of slot sets. A record is, in u16 and u64 numbers, low byte first: the length; the 16 words; is_empty; count; eight times an
 /// index with contains, next_set, prev_set, next_unset_after, prev_unset_before, and the ends of the run that holds it and of the next run
 /// from it on; then, each with all words after it, the index of an insert and of a remove, and the two ends of a stretch put in and of one
 /// taken out. Nothing is 65,535.
 fn slot_sets(n: u64, run: u64) -> Stored {
     let mut bytes = Vec::new();
-    let mut k = 0;
-    let mut made = 0;
-    while made < n {
-        let mut seed = Seed::new(Seed::of_case(run, "stored-slot-sets", k));
-        k += 1;
-        let case = SetCase::new(&mut seed);
+    records(n, run, "stored-slot-sets", |seed, _| {
+        let case = SetCase::new(seed);
         // a set of no slots has none to change
         if case.len > 0 {
-            slot_set(&mut bytes, &mut seed, &case);
-            made += 1;
+            slot_set(&mut bytes, seed, &case);
         }
-    }
+        case.len > 0
+    });
     Stored::new(bytes, 62 * n)
 }
 
-/// Records of targets, of at most eight people and six slots. A record is, low byte first: people, slots and fairness as u16; six starts and
-/// six ends as u32; eight u16 of slots that a person can cover; eight capacities as one u32 divided by another; eight prior minutes as u32;
-/// eight targets as u32, with 2 ^ 31 added. Some of the cases are looked for: those that tell a wrong rule from the Rust's.
+/// Records of targets, of at most eight people and six slots. A record is, low byte first: people, slots and fairness as u16; six starts
+/// and six ends as u32; eight u16 of slots that a person can cover; eight capacities as one u32 divided by another; eight prior minutes as
+/// u32; eight targets as u32, with 2 ^ 31 added. Some of the cases are looked for: those that tell a wrong rule from the Rust's.
 fn targets(n: u64, run: u64) -> Stored {
     let mut bytes = Vec::new();
     let mut told = [0u64; WRONG.len()];
@@ -149,10 +157,7 @@ fn figures(bytes: &mut Vec<u8>, case: &FigureCase, ratios: &[(u32, u32)], due: &
 
 /// Numbers, with zeros up to a count.
 fn quads(bytes: &mut Vec<u8>, count: usize, numbers: impl Iterator<Item = u32>) {
-    let zeros = std::iter::repeat(0);
-    for n in numbers.chain(zeros).take(count) {
-        bytes.extend(n.to_le_bytes());
-    }
+    filled32(bytes, count, &numbers.collect::<Vec<u32>>(), 0);
 }
 
 fn slot_set(bytes: &mut Vec<u8>, seed: &mut Seed, case: &SetCase) {

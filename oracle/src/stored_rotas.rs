@@ -1,10 +1,10 @@
 //! Records of rotas, in sections: plays, four facts that are easy to get wrong, single assigns, and damaged plays.
 
-use crate::problems::{slots_of, unit_starts_of, Person, ProblemCase, Range, Settings};
-use crate::rotas::{played, Draw, Played, RotaCase, NOBODY};
+use crate::limits::{NOBODY, SET_WORDS};
+use crate::problems::{unit_starts_of, Person, ProblemCase, Range, Settings};
+use crate::rotas::{played, Draw, Played, RotaCase};
 use crate::seed::Seed;
-use crate::sets::SET_WORDS;
-use crate::stored::{filled16, filled32, half, Stored};
+use crate::stored::{filled16, filled32, half, records, Stored};
 use crate::table::{lowest, people_ok, Slots, Units};
 
 /// People, slots and draws of a record, at most.
@@ -35,21 +35,16 @@ pub fn rotas(n: u64, run: u64) -> Stored {
     let kinds: [fn(&mut Seed, u64) -> Option<Record>; 7] = [plain, twin, uneven, unequal_swap, reassign, assign, damaged];
     let mut bytes = Vec::new();
     let mut lines = Vec::new();
-    for (kind, (records, answers, label)) in kinds.iter().zip(SECTIONS) {
-        let records = if records == 0 { n } else { records };
+    for (kind, (count, answers, label)) in kinds.iter().zip(SECTIONS) {
+        let count = if count == 0 { n } else { count };
         let name = format!("stored-rotas{label}");
-        half(&mut bytes, records as usize);
-        let mut k = 0;
-        let mut made = 0;
-        while made < records {
-            let mut seed = Seed::new(Seed::of_case(run, &name, k));
-            k += 1;
-            if let Some(record) = kind(&mut seed, made) {
-                record.write(&mut bytes);
-                made += 1;
-            }
-        }
-        lines.push((answers * records, label));
+        half(&mut bytes, count as usize);
+        records(count, run, &name, |seed, made| {
+            let record = kind(seed, made);
+            record.iter().for_each(|record| record.write(&mut bytes));
+            record.is_some()
+        });
+        lines.push((answers * count, label));
     }
     Stored { bytes, lines }
 }
@@ -83,17 +78,12 @@ fn small(seed: &mut Seed) -> Option<RotaCase> {
 impl Record {
     fn new(case: RotaCase, due: Played) -> Self {
         let problem = &case.problem;
-        let (starts, ends) = slots_of(problem);
         let firsts = unit_starts_of(problem);
         let begun = played(problem, &case.assignment(&case.owners), vec![]);
         Self {
             people: problem.human_count(),
             draws: case.draws.len(),
-            slots: Slots {
-                count: starts.len(),
-                starts,
-                ends,
-            },
+            slots: Slots::of(problem),
             units: Units {
                 count: firsts.len(),
                 firsts,

@@ -3,13 +3,14 @@
 
 use on_call::model::problem::Problem;
 
-use crate::days::{instant, MINUTES_MOST};
-use crate::problems::{availability_into, problem_case, put_bit, slots_of, ProblemCase, Range};
+use crate::days::instant;
+use crate::limits::{MINUTES_MOST, SET_WORDS, SLOTS_MOST};
+use crate::problems::{availability_into, problem_case, slots_of, ProblemCase, Range};
 use crate::seed::Seed;
-use crate::sets::{SET_WORDS, SLOTS_MOST};
-use crate::splitting::{merged_of, Lent};
-use crate::stored::{filled16, filled32, half, words, Stored};
-use crate::table::{lowest, people_ok, words_ok, Slots};
+use crate::sets::put_bit;
+use crate::splitting::{merged_of, LentProblem};
+use crate::stored::{filled16, filled32, half, records, words, Stored};
+use crate::table::{lowest, people_ok, words_ok, Ranges, Slots};
 
 /// Entries of a record's columns: base slots, ranges (of which one stays free), atomic slots, people.
 const BASE: usize = 8;
@@ -30,34 +31,31 @@ const ANSWERS: u64 = 14;
 
 /// Records, every second one damaged. A record is, low byte first: people, base slots, ranges, lent slots, a person and a slot as u64; an
 /// instant as u32; u16 of how long each lent column is: base starts and ends, persons, starts and ends of ranges, lent starts and ends,
-/// words of availability, words of frozen flags, the three columns for merged ranges, the two for atomic slots; the columns themselves, of 8,
-/// 8, 8, 8, 8, 16 and 16; first words of four rows before and as the Rust's availability has them; the first word of frozen flags before and
-/// after; then the answers: merged ranges, atomic slots, availability, frozen slots, is_available as u16, demand and the slot's minutes
+/// words of availability, words of frozen flags, the three columns for merged ranges, the two for atomic slots; the columns themselves, of
+/// 8, 8, 8, 8, 8, 16 and 16; first words of four rows before and as the Rust's availability has them; the first word of frozen flags before
+/// and after; then the answers: merged ranges, atomic slots, availability, frozen slots, is_available as u16, demand and the slot's minutes
 /// as u32; and the three columns of 8 and two of 16 that come out.
 pub fn slots(n: u64, run: u64) -> Stored {
     let mut bytes = Vec::new();
-    let mut k = 0;
-    let mut made = 0;
-    while made < n {
-        let mut seed = Seed::new(Seed::of_case(run, "stored-slots", k));
-        k += 1;
-        let case = problem_case(&mut seed);
+    records(n, run, "stored-slots", |seed, made| {
+        let case = problem_case(seed);
         if case.base.len() > BASE || case.ranges.len() >= RANGES || case.people.len() > PEOPLE {
-            continue;
+            return false;
         }
         let problem = case.rust();
-        if problem.slot_count() <= ATOMS {
-            record(&mut bytes, &mut seed, &case, problem, made % 2 == 1);
-            made += 1;
+        let is_small = problem.slot_count() <= ATOMS;
+        if is_small {
+            record(&mut bytes, seed, &case, problem, made % 2 == 1);
         }
-    }
+        is_small
+    });
     Stored::new(bytes, ANSWERS * n)
 }
 
 /// What is lent and asked.
 struct Asked {
     base: Slots,
-    ranges: Lent,
+    ranges: Ranges,
     atoms: Slots,
     person: usize,
     slot: usize,
@@ -69,22 +67,17 @@ struct Asked {
 
 impl Asked {
     fn new(seed: &mut Seed, case: &ProblemCase, problem: &Problem) -> Self {
-        let ranges = Lent::new(case);
-        let (starts, ends) = slots_of(problem);
-        let count = starts.len();
+        let LentProblem { base, ranges } = LentProblem::new(case);
+        let atoms = Slots::of(problem);
         Self {
-            base: Slots {
-                count: ranges.slots,
-                starts: ranges.starts.clone(),
-                ends: ranges.ends.clone(),
-            },
-            atoms: Slots { count, starts, ends },
+            base,
             person: seed.below(ranges.people as u64) as usize,
-            slot: seed.below(count as u64) as usize,
+            slot: seed.below(atoms.count as u64) as usize,
             words: SET_WORDS * ranges.people + seed.below(2) as usize,
             flags: SET_WORDS + seed.below(2) as usize,
             merged_room: [ranges.count, ranges.count + seed.below(2) as usize, RANGES],
             atom_room: [SLOTS_MOST; 2],
+            atoms,
             ranges,
         }
     }
@@ -112,35 +105,31 @@ impl Asked {
         }
     }
 
-    fn ranges_ok(&self) -> bool {
-        !self.ranges.counts_ok() || !self.ranges.range_room_ok() || self.ranges.ranges_ok()
-    }
-
     fn merged_no(&self) -> u64 {
         let room = self.merged_room.iter().all(|&room| self.ranges.count <= room);
         lowest(&[
-            (1, self.ranges.counts_ok()),
-            (2, self.ranges.range_room_ok() && room),
-            (4, self.ranges_ok()),
+            (1, self.ranges.count_ok()),
+            (2, self.ranges.room_ok() && room),
+            (4, self.ranges.ok()),
         ])
     }
 
     fn atoms_no(&self) -> u64 {
         let room = self.atom_room.iter().all(|&room| SLOTS_MOST <= room);
         lowest(&[
-            (1, self.ranges.counts_ok() && self.base.count_ok()),
-            (2, self.ranges.range_room_ok() && self.base.room_ok() && room),
+            (1, self.ranges.count_ok() && self.base.count_ok()),
+            (2, self.ranges.room_ok() && self.base.room_ok() && room),
             (3, self.base.ok()),
-            (4, self.ranges_ok()),
+            (4, self.ranges.ok()),
         ])
     }
 
     fn availability_no(&self) -> u64 {
         let room = words_ok(self.ranges.people, self.words);
         lowest(&[
-            (1, self.ranges.counts_ok() && self.atoms.count_ok()),
-            (2, self.ranges.range_room_ok() && self.atoms.room_ok() && room),
-            (4, self.ranges_ok()),
+            (1, self.ranges.count_ok() && self.atoms.count_ok()),
+            (2, self.ranges.room_ok() && self.atoms.room_ok() && room),
+            (4, self.ranges.ok()),
             (9, self.atoms.ok()),
         ])
     }

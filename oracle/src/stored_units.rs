@@ -7,7 +7,7 @@ use crate::days::minute_of;
 use crate::lent_units::{lent, DueUnits, LentUnits};
 use crate::problems::{problem_case, ProblemCase};
 use crate::seed::Seed;
-use crate::stored::{filled16, filled32, half, words, Stored};
+use crate::stored::{filled16, filled32, half, records, words, Stored};
 use crate::stored_slots::{answer, firsts, FILL16};
 
 /// Entries of a record's columns: slots, of which one stays free; rows of people; a list of people.
@@ -24,39 +24,36 @@ const REFUSED_MINUTES: u64 = 1_000_000_000_000_000_000;
 /// Answers that a record holds.
 const ANSWERS: u64 = 16;
 
-/// Records. A record is, low byte first: people, slots, units, a person, a slot and a unit as u64; fairness, lock and boundary as bytes and a
-/// byte of 0; value and days as u16; u16 of how long each lent column is: starts, ends, unit starts, words of availability, words of frozen
-/// flags, the columns for starts, the lists of people; the columns themselves, of 16, 16 and 16; first words of four rows, and of the
-/// flags; then the answers: rotations, unit starts, units, a unit's first slot and the one past its last, the slot's unit, whether the unit is
-/// frozen, people of the slot's and of the unit's domain, and covered days as u16; minutes a day, target and achievable run as u64; the two
-/// columns of starts of 16 and the two lists of 8 people that come out.
+/// Records. A record is, low byte first: people, slots, units, a person, a slot and a unit as u64; fairness, lock and boundary as bytes and
+/// a byte of 0; value and days as u16; u16 of how long each lent column is: starts, ends, unit starts, words of availability, words of
+/// frozen flags, the columns for starts, the lists of people; the columns themselves, of 16, 16 and 16; first words of four rows, and of
+/// the flags; then the answers: rotations, unit starts, units, a unit's first slot and the one past its last, the slot's unit, whether the
+/// unit is frozen, people of the slot's and of the unit's domain, and covered days as u16; minutes a day, target and achievable run as u64;
+/// the two columns of starts of 16 and the two lists of 8 people that come out.
 pub fn units(n: u64, run: u64) -> Stored {
     let mut bytes = Vec::new();
-    let mut k = 0;
-    let mut made = 0;
-    while made < n {
-        let mut seed = Seed::new(Seed::of_case(run, "stored-units", k));
-        k += 1;
+    records(n, run, "stored-units", |seed, made| {
         let case = if made % 3 == 0 {
-            around_a_years_end(&mut seed)
+            around_a_years_end(seed)
         } else {
-            problem_case(&mut seed)
+            problem_case(seed)
         };
         if case.base.len() >= SLOTS || case.people.len() > PEOPLE {
-            continue;
+            return false;
         }
         let problem = case.rust();
-        if problem.slot_count() < SLOTS {
-            let (mut asked, due) = lent(&mut seed, &case, problem);
-            if made % 2 == 1 {
-                for _ in 0..seed.within(1, 2) {
-                    asked.damage(&mut seed);
-                }
-            }
-            record(&mut bytes, &asked, &due);
-            made += 1;
+        if problem.slot_count() >= SLOTS {
+            return false;
         }
-    }
+        let (mut asked, due) = lent(seed, &case, problem);
+        if made % 2 == 1 {
+            for _ in 0..seed.within(1, 2) {
+                asked.damage(seed);
+            }
+        }
+        record(&mut bytes, &asked, &due);
+        true
+    });
     Stored::new(bytes, ANSWERS * n)
 }
 
@@ -110,7 +107,7 @@ fn record(bytes: &mut Vec<u8>, asked: &LentUnits, due: &DueUnits) {
     half(bytes, answer(of_unit, due.span.start));
     half(bytes, answer(of_unit, due.span.end));
     half(bytes, answer(asked.units_no(asked.slot < asked.slots.count), due.unit_of_slot));
-    half(bytes, answer(asked.frozen_no(), usize::from(due.frozen)));
+    half(bytes, answer(asked.frozen_no(), usize::from(due.is_frozen)));
     half(bytes, answer(asked.slot_domain_no(), due.slot_domain.len()));
     half(bytes, answer(asked.unit_domain_no(), due.unit_domain.len()));
     half(bytes, answer(asked.days_no(), due.days));
@@ -155,8 +152,8 @@ fn lent_bytes(bytes: &mut Vec<u8>, asked: &LentUnits) {
         slots.starts.len(),
         slots.ends.len(),
         starts.len(),
-        asked.rows.len(),
-        asked.flags.len(),
+        asked.avail.len(),
+        asked.frozen.len(),
     ];
     for length in lengths.into_iter().chain([asked.starts_room, asked.list_room]) {
         half(bytes, length);
@@ -164,10 +161,10 @@ fn lent_bytes(bytes: &mut Vec<u8>, asked: &LentUnits) {
     filled32(bytes, SLOTS, &slots.starts, 0);
     filled32(bytes, SLOTS, &slots.ends, 0);
     filled16(bytes, SLOTS, starts, 0);
-    let mut rows = firsts(&asked.rows);
+    let mut rows = firsts(&asked.avail);
     rows.resize(PEOPLE, 0);
     words(bytes, &rows);
-    words(bytes, &[asked.flags.first().copied().unwrap_or(0)]);
+    words(bytes, &[asked.frozen.first().copied().unwrap_or(0)]);
 }
 
 #[cfg(test)]

@@ -1,9 +1,11 @@
 //! The paper's table of refusals over what is lent, written from the paper and not from the library.
 
-use crate::days::MINUTES_MOST;
-use crate::problems::Settings;
+use on_call::model::problem::Problem;
+
+use crate::call::{bytes32, Arg};
+use crate::limits::{MINUTES_MOST, PEOPLE_MOST, RANGES_MOST, SET_WORDS, SLOTS_MOST};
+use crate::problems::{slots_of, Person, Range, Settings};
 use crate::seed::Seed;
-use crate::sets::{PEOPLE_MOST, SET_WORDS, SLOTS_MOST};
 
 /// The lowest number of the rules that are broken, or 0 where all are kept.
 pub fn lowest(rules: &[(u64, bool)]) -> u64 {
@@ -19,6 +21,22 @@ pub fn people_ok(people: usize) -> bool {
 /// 2: words for the sets of so many people. A count that is refused itself asks for none.
 pub fn words_ok(people: usize, words: usize) -> bool {
     !people_ok(people) || SET_WORDS * people <= words
+}
+
+/// 3 or 9: slots, none empty or reversed, none after the last minute, none before the previous one ends.
+pub fn slots_ok(slots: &[(u32, u32)]) -> bool {
+    let each = slots.iter().all(|slot| slot.0 < slot.1 && i64::from(slot.1) <= MINUTES_MOST);
+    each && slots.windows(2).all(|two| two[0].1 <= two[1].0)
+}
+
+/// 4: a range, not reversed, not after the last minute, not of an unknown person.
+pub fn range_ok(range: Range, people: usize) -> bool {
+    range.start <= range.end && i64::from(range.end) <= MINUTES_MOST && range.person < people
+}
+
+/// 6: a person's figures.
+pub fn figures_ok(person: Person) -> bool {
+    (0.0..=1000.0).contains(&person.capacity) && i64::from(person.prior) <= MINUTES_MOST
 }
 
 /// 7: the settings.
@@ -40,6 +58,19 @@ pub struct Slots {
 }
 
 impl Slots {
+    pub fn new(slots: &[(u32, u32)]) -> Self {
+        let (starts, ends) = slots.iter().copied().unzip();
+        let count = slots.len();
+        Self { count, starts, ends }
+    }
+
+    /// The atomic slots of a problem.
+    pub fn of(problem: &Problem) -> Self {
+        let (starts, ends) = slots_of(problem);
+        let count = starts.len();
+        Self { count, starts, ends }
+    }
+
     /// 1: their count.
     pub fn count_ok(&self) -> bool {
         (1..=SLOTS_MOST).contains(&self.count)
@@ -50,14 +81,22 @@ impl Slots {
         self.count <= self.starts.len() && self.count <= self.ends.len()
     }
 
-    /// 3 or 9: none empty or reversed, none after the last minute, none before the previous one ends. Asked only where there is room.
+    /// 3 or 9: the slots themselves. Asked only where there is room.
     pub fn ok(&self) -> bool {
         if !self.count_ok() || !self.room_ok() {
             return true;
         }
         let slots: Vec<(u32, u32)> = (0..self.count).map(|k| (self.starts[k], self.ends[k])).collect();
-        let each = slots.iter().all(|slot| slot.0 < slot.1 && i64::from(slot.1) <= MINUTES_MOST);
-        each && slots.windows(2).all(|two| two[0].1 <= two[1].0)
+        slots_ok(&slots)
+    }
+
+    /// As the library's functions take them.
+    pub fn args(&self) -> Vec<Arg> {
+        vec![
+            Arg::Number(self.count as u64),
+            Arg::Lent(4, bytes32(&self.starts)),
+            Arg::Lent(4, bytes32(&self.ends)),
+        ]
     }
 
     /// Breaks one of their rules.
@@ -72,6 +111,41 @@ impl Slots {
             4 if k > 0 => self.starts[k] = self.ends[k - 1].saturating_sub(1),
             _ => self.ends[k] = MINUTES_MOST as u32 + 1 + seed.below(1000) as u32,
         }
+    }
+}
+
+/// Everybody's ranges as they are lent, in three columns.
+#[derive(Debug, Clone)]
+pub struct Ranges {
+    pub people: usize,
+    pub count: usize,
+    pub persons: Vec<u16>,
+    pub opens: Vec<u32>,
+    pub shuts: Vec<u32>,
+}
+
+impl Ranges {
+    /// 1: the count of people, and of ranges.
+    pub fn count_ok(&self) -> bool {
+        people_ok(self.people) && self.count <= RANGES_MOST
+    }
+
+    /// 2: as many entries in each column as the count says.
+    pub fn room_ok(&self) -> bool {
+        self.count <= self.persons.len().min(self.opens.len()).min(self.shuts.len())
+    }
+
+    /// 4: each range. Asked only where there is room.
+    pub fn ok(&self) -> bool {
+        if !self.count_ok() || !self.room_ok() {
+            return true;
+        }
+        let range = |k: usize| Range {
+            person: usize::from(self.persons[k]),
+            start: self.opens[k],
+            end: self.shuts[k],
+        };
+        (0..self.count).all(|k| range_ok(range(k), self.people))
     }
 }
 

@@ -1,18 +1,17 @@
 //! Targets through the library: people's figures, availability and slots, and the Rust's targets.
 
 use crate::call::{bytes32, bytes64, bytes_i64, Arg, Outcome, Question};
-use crate::days::MINUTES_MOST;
 use crate::figures::FigureCase;
-use crate::problems::put_bit;
+use crate::limits::{MINUTES_MOST, PEOPLE_MOST, SET_WORDS};
+use crate::problems::Person;
 use crate::seed::Seed;
-use crate::sets::{PEOPLE_MOST, SET_WORDS, SLOTS_MOST};
+use crate::sets::put_bit;
+use crate::table::{figures_ok, lowest, people_ok, words_ok, Slots};
 
 /// What is lent to work out targets.
-struct Lent {
+struct LentTargets {
     people: usize,
-    slots: usize,
-    starts: Vec<u32>,
-    ends: Vec<u32>,
+    slots: Slots,
     avail: Vec<u64>,
     capacities: Vec<u64>,
     priors: Vec<u32>,
@@ -20,10 +19,9 @@ struct Lent {
     out: Vec<i64>,
 }
 
-impl Lent {
+impl LentTargets {
     /// A case as it is lent: longer buffers than needed now and then, and any bits past the last slot.
     fn new(seed: &mut Seed, case: &FigureCase) -> Self {
-        let slots = case.slots();
         let people = case.people.len();
         let spare = seed.below(2) as usize;
         let mut avail: Vec<u64> = (0..SET_WORDS * people + spare).map(|_| seed.word()).collect();
@@ -34,9 +32,7 @@ impl Lent {
         }
         Self {
             people,
-            slots: slots.len(),
-            starts: slots.iter().map(|slot| slot.0).collect(),
-            ends: slots.iter().map(|slot| slot.1).collect(),
+            slots: Slots::new(&case.slots()),
             avail,
             capacities: case.people.iter().map(|person| person.capacity.to_bits()).collect(),
             priors: case.people.iter().map(|person| person.prior).collect(),
@@ -50,12 +46,11 @@ impl Lent {
         after[..targets.len()].copy_from_slice(targets);
         Question {
             function: "boltraven_compute_targets",
-            result_size: 1,
             args: vec![
                 Arg::Number(self.people as u64),
-                Arg::Number(self.slots as u64),
-                Arg::Lent(4, bytes32(&self.starts)),
-                Arg::Lent(4, bytes32(&self.ends)),
+                Arg::Number(self.slots.count as u64),
+                Arg::Lent(4, bytes32(&self.slots.starts)),
+                Arg::Lent(4, bytes32(&self.slots.ends)),
                 Arg::Lent(8, bytes64(&self.avail)),
                 Arg::Lent(8, bytes64(&self.capacities)),
                 Arg::Lent(4, bytes32(&self.priors)),
@@ -69,38 +64,24 @@ impl Lent {
         }
     }
 
-    /// The paper's number, by its table.
+    /// Targets: 1, 2, 6, 7, 9.
     fn number(&self) -> u64 {
-        let figures = |person: usize| {
-            let capacity = f64::from_bits(self.capacities[person]);
-            (0.0..=1000.0).contains(&capacity) && i64::from(self.priors[person]) <= MINUTES_MOST
-        };
-        let mut previous = 0;
-        let mut ordered = true;
-        for (&start, &end) in self.starts.iter().zip(&self.ends).take(self.slots) {
-            ordered &= previous <= start && start < end && i64::from(end) <= MINUTES_MOST;
-            previous = end;
-        }
-        let short = |room: usize, count: usize| room < count;
-        if self.people == 0 || self.people > PEOPLE_MOST || self.slots == 0 || self.slots > SLOTS_MOST {
-            1
-        } else if short(self.starts.len(), self.slots)
-            || short(self.ends.len(), self.slots)
-            || short(self.avail.len(), SET_WORDS * self.people)
-            || short(self.capacities.len(), self.people)
-            || short(self.priors.len(), self.people)
-            || short(self.out.len(), self.people)
-        {
-            2
-        } else if !(0..self.people).all(figures) {
-            6
-        } else if self.fairness > 1 {
-            7
-        } else if !ordered {
-            9
-        } else {
-            0
-        }
+        let room = self.capacities.len().min(self.priors.len()).min(self.out.len());
+        let figures = self.capacities.iter().zip(&self.priors).take(self.people);
+        let mut people = figures.map(|(&capacity, &prior)| Person {
+            capacity: f64::from_bits(capacity),
+            prior,
+        });
+        lowest(&[
+            (1, people_ok(self.people) && self.slots.count_ok()),
+            (
+                2,
+                self.slots.room_ok() && words_ok(self.people, self.avail.len()) && self.people <= room,
+            ),
+            (6, people.all(figures_ok)),
+            (7, self.fairness <= 1),
+            (9, self.slots.ok()),
+        ])
     }
 }
 
@@ -108,7 +89,7 @@ impl Lent {
 pub fn questions(case_seed: u64) -> Vec<Question> {
     let mut seed = Seed::new(case_seed);
     let case = FigureCase::new(&mut seed);
-    let lent = Lent::new(&mut seed, &case);
+    let lent = LentTargets::new(&mut seed, &case);
     vec![lent.question(0, &case.rust())]
 }
 
@@ -116,14 +97,14 @@ pub fn questions(case_seed: u64) -> Vec<Question> {
 pub fn damaged(case_seed: u64) -> Vec<Question> {
     let mut seed = Seed::new(case_seed);
     let case = FigureCase::new(&mut seed);
-    let mut lent = Lent::new(&mut seed, &case);
+    let mut lent = LentTargets::new(&mut seed, &case);
     let person = seed.below(lent.people as u64) as usize;
-    let slot = seed.below(lent.slots as u64) as usize;
+    let slot = seed.below(lent.slots.count as u64) as usize;
     for _ in 0..seed.within(1, 2) {
         match seed.below(12) {
             0 => lent.people = seed.pick(&[0, 33, usize::MAX]),
-            1 => lent.slots = seed.pick(&[0, 1025, usize::MAX]),
-            2 => drop(lent.starts.pop()),
+            1 => lent.slots.count = seed.pick(&[0, 1025, usize::MAX]),
+            2 => drop(lent.slots.starts.pop()),
             3 => lent.avail.truncate((SET_WORDS * lent.people.min(PEOPLE_MOST)).saturating_sub(1)),
             4 => drop(lent.priors.pop()),
             5 => lent.out.truncate(case.people.len() - 1),
@@ -135,9 +116,9 @@ pub fn damaged(case_seed: u64) -> Vec<Question> {
             }
             7 if person < lent.priors.len() => lent.priors[person] = MINUTES_MOST as u32 + 1 + seed.below(1000) as u32,
             8 => lent.fairness = seed.within(2, 255) as u8,
-            9 if slot < lent.starts.len() => lent.starts[slot] = lent.ends[slot],
-            10 if slot > 0 && slot < lent.starts.len() => lent.starts[slot] = lent.ends[slot - 1] - 1,
-            _ => lent.ends[slot] = MINUTES_MOST as u32 + 1,
+            9 if slot < lent.slots.starts.len() => lent.slots.starts[slot] = lent.slots.ends[slot],
+            10 if slot > 0 && slot < lent.slots.starts.len() => lent.slots.starts[slot] = lent.slots.ends[slot - 1] - 1,
+            _ => lent.slots.ends[slot] = MINUTES_MOST as u32 + 1,
         }
     }
     match lent.number() {

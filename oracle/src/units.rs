@@ -5,16 +5,17 @@ use on_call::model::problem::Problem;
 use crate::call::{bytes16, bytes32, bytes64, Arg, Outcome, Question};
 use crate::days::instant;
 use crate::lent_units::{lent, DueUnits, LentUnits};
-use crate::problems::{availability_into, problem_case, put_bit, slots_of, unit_starts_of};
+use crate::limits::{NOTHING, SET_WORDS};
+use crate::problems::{availability_into, problem_within, slots_of, unit_masks_of, unit_starts_of};
 use crate::rotations::settings_args;
 use crate::seed::Seed;
-use crate::sets::{NOTHING, SET_WORDS, SLOTS_MOST};
+use crate::sets::put_bit;
+use crate::table::Slots;
 
 /// A call that is answered by a number alone.
 fn number(function: &'static str, args: Vec<Arg>, result: u64) -> Question {
     Question {
         function,
-        result_size: 8,
         args,
         due: Outcome { result, written: vec![] },
     }
@@ -25,7 +26,6 @@ fn minutes(function: &'static str, mut args: Vec<Arg>, was: u64, due: i64) -> Qu
     args.push(Arg::Out(was));
     Question {
         function,
-        result_size: 1,
         args,
         due: Outcome {
             result: 0,
@@ -37,19 +37,12 @@ fn minutes(function: &'static str, mut args: Vec<Arg>, was: u64, due: i64) -> Qu
 /// Covered days, minutes a day, target and achievable runs, each unit's domain, and freezing at an instant.
 pub fn questions(case_seed: u64) -> Vec<Question> {
     let mut seed = Seed::new(case_seed);
-    let mut case = problem_case(&mut seed);
-    let problem = case.rust();
-    let count = problem.slot_count();
-    if count > SLOTS_MOST {
+    let Some((mut case, problem)) = problem_within(&mut seed) else {
         return vec![];
-    }
+    };
     let people = problem.human_count();
-    let (starts, ends) = slots_of(&problem);
-    let lent_slots = vec![
-        Arg::Number(count as u64),
-        Arg::Lent(4, bytes32(&starts)),
-        Arg::Lent(4, bytes32(&ends)),
-    ];
+    let slots = Slots::of(&problem);
+    let lent_slots = slots.args();
     let mut avail: Vec<u64> = (0..SET_WORDS * people).map(|_| seed.word()).collect();
     availability_into(&problem, &mut avail);
 
@@ -73,13 +66,14 @@ pub fn questions(case_seed: u64) -> Vec<Question> {
         ));
     }
     asked.extend(domains(&mut seed, &problem, &avail));
+    asked.push(all_domains(&mut seed, &problem, &avail));
     asked.extend(freezing(&mut seed, problem, &lent_slots));
 
     // With a shift of one day the target run is the minutes a day; the days themselves are the Rust's private count, seen through it.
     case.settings.days = 1;
     let per_day = case.rust().target_run_minutes;
     asked.push(minutes("boltraven_minutes_per_day", lent_slots.clone(), seed.word(), per_day));
-    let mut dates: Vec<u32> = starts.iter().map(|start| start / 1440).collect();
+    let mut dates: Vec<u32> = slots.starts.iter().map(|start| start / 1440).collect();
     dates.dedup();
     asked.push(number("boltraven_covered_days", lent_slots, dates.len() as u64));
     asked
@@ -100,7 +94,6 @@ fn domains(seed: &mut Seed, problem: &Problem, avail: &[u64]) -> Vec<Question> {
         }
         asked.push(Question {
             function: "boltraven_unit_domain",
-            result_size: 8,
             args: vec![
                 Arg::Lent(8, bytes64(avail)),
                 Arg::Number(people as u64),
@@ -132,6 +125,37 @@ fn domains(seed: &mut Seed, problem: &Problem, avail: &[u64]) -> Vec<Question> {
     asked
 }
 
+/// The domains of all units at once, a mask each, in a list with room for them or a little more.
+fn all_domains(seed: &mut Seed, problem: &Problem, avail: &[u64]) -> Question {
+    let firsts = unit_starts_of(problem);
+    let before: Vec<u32> = (0..firsts.len() + seed.below(2) as usize).map(|_| seed.word() as u32).collect();
+    let args = vec![
+        Arg::Lent(8, bytes64(avail)),
+        Arg::Number(problem.human_count() as u64),
+        Arg::Number(problem.slot_count() as u64),
+        Arg::Number(firsts.len() as u64),
+        Arg::Lent(2, bytes16(&firsts)),
+    ];
+    masks(args, before, 0, &unit_masks_of(problem))
+}
+
+/// A call that writes a mask a unit, or refuses and writes nothing.
+fn masks(mut args: Vec<Arg>, before: Vec<u32>, number: u64, right: &[u32]) -> Question {
+    let mut after = before.clone();
+    if number == 0 {
+        after[..right.len()].copy_from_slice(right);
+    }
+    args.push(Arg::LentMut(4, bytes32(&before)));
+    Question {
+        function: "boltraven_unit_domains",
+        args,
+        due: Outcome {
+            result: number,
+            written: vec![bytes32(&after)],
+        },
+    }
+}
+
 /// Freezing at an instant, over flags that some slots have already, and then whether units are frozen.
 fn freezing(seed: &mut Seed, mut problem: Problem, lent_slots: &[Arg]) -> Vec<Question> {
     let count = problem.slot_count();
@@ -154,7 +178,6 @@ fn freezing(seed: &mut Seed, mut problem: Problem, lent_slots: &[Arg]) -> Vec<Qu
     args.extend([Arg::LentMut(8, bytes64(&before)), Arg::Number(u64::from(at))]);
     let mut asked = vec![Question {
         function: "boltraven_freeze_before",
-        result_size: 8,
         args,
         due: Outcome {
             result: frozen as u64,
@@ -183,11 +206,9 @@ fn freezing(seed: &mut Seed, mut problem: Problem, lent_slots: &[Arg]) -> Vec<Qu
 /// its concern, gives the Rust's answer.
 pub fn damaged(case_seed: u64) -> Vec<Question> {
     let mut seed = Seed::new(case_seed);
-    let case = problem_case(&mut seed);
-    let problem = case.rust();
-    if problem.slot_count() > SLOTS_MOST {
+    let Some((case, problem)) = problem_within(&mut seed) else {
         return vec![];
-    }
+    };
     let (mut asked, due) = lent(&mut seed, &case, problem);
     for _ in 0..seed.within(1, 2) {
         asked.damage(&mut seed);
@@ -195,25 +216,22 @@ pub fn damaged(case_seed: u64) -> Vec<Question> {
     let mut questions = asked.starts_asked(&mut seed, &due);
     questions.extend(asked.units_asked(&mut seed, &due));
     questions.extend(asked.minutes_asked(&mut seed, &due));
+    questions.push(asked.domains_asked(&mut seed, &due));
     questions
 }
 
 impl LentUnits {
-    fn slot_args(&self) -> Vec<Arg> {
-        vec![
-            Arg::Number(self.slots.count as u64),
-            Arg::Lent(4, bytes32(&self.slots.starts)),
-            Arg::Lent(4, bytes32(&self.slots.ends)),
-        ]
-    }
-
-    fn unit_args(&self) -> Vec<Arg> {
+    fn units_args(&self) -> Vec<Arg> {
         vec![
             Arg::Number(self.slots.count as u64),
             Arg::Number(self.units.count as u64),
             Arg::Lent(2, bytes16(&self.units.firsts)),
-            Arg::Number(self.unit as u64),
         ]
+    }
+
+    /// The units, and the one that is asked for.
+    fn unit_args(&self) -> Vec<Arg> {
+        [self.units_args(), vec![Arg::Number(self.unit as u64)]].concat()
     }
 
     /// Rotation and unit starts.
@@ -223,7 +241,7 @@ impl LentUnits {
         let question = |(function, starts): (&'static str, &Vec<u16>)| {
             let before: Vec<u16> = (0..self.starts_room).map(|_| seed.word() as u16).collect();
             let mut args = settings_args(self.settings);
-            args.extend(self.slot_args());
+            args.extend(self.slots.args());
             list(function, args, 2, bytes16(&before), number, starts.len(), &bytes16(starts))
         };
         asked.map(question).into()
@@ -232,10 +250,10 @@ impl LentUnits {
     /// A unit's domain, whether it is frozen, and covered days.
     fn units_asked(&self, seed: &mut Seed, due: &DueUnits) -> Vec<Question> {
         let before: Vec<u8> = (0..self.list_room).map(|_| seed.word() as u8).collect();
-        let mut domain_args = vec![Arg::Lent(8, bytes64(&self.rows)), Arg::Number(self.people as u64)];
+        let mut domain_args = vec![Arg::Lent(8, bytes64(&self.avail)), Arg::Number(self.people as u64)];
         domain_args.extend(self.unit_args());
         let domain = &due.unit_domain;
-        let mut frozen_args = vec![Arg::Lent(8, bytes64(&self.flags))];
+        let mut frozen_args = vec![Arg::Lent(8, bytes64(&self.frozen))];
         frozen_args.extend(self.unit_args());
         vec![
             list(
@@ -247,24 +265,42 @@ impl LentUnits {
                 domain.len(),
                 domain,
             ),
-            number("boltraven_unit_frozen", frozen_args, heard(self.frozen_no(), u64::from(due.frozen))),
-            number("boltraven_covered_days", self.slot_args(), heard(self.days_no(), due.days as u64)),
+            number(
+                "boltraven_unit_frozen",
+                frozen_args,
+                heard(self.frozen_no(), u64::from(due.is_frozen)),
+            ),
+            number("boltraven_covered_days", self.slots.args(), heard(self.days_no(), due.days as u64)),
         ]
+    }
+
+    /// All units' domains, now and then with too little room for them.
+    fn domains_asked(&self, seed: &mut Seed, due: &DueUnits) -> Question {
+        let units = due.unit_masks.len();
+        let room = if seed.one_in(8) {
+            units - 1
+        } else {
+            units + seed.below(2) as usize
+        };
+        let before: Vec<u32> = (0..room).map(|_| seed.word() as u32).collect();
+        let mut args = vec![Arg::Lent(8, bytes64(&self.avail)), Arg::Number(self.people as u64)];
+        args.extend(self.units_args());
+        masks(args, before, self.unit_domains_no(room), &due.unit_masks)
     }
 
     /// Minutes a day, target and achievable run.
     fn minutes_asked(&self, seed: &mut Seed, due: &DueUnits) -> Vec<Question> {
         let mut target_args = settings_args(self.settings);
-        target_args.extend(self.slot_args());
+        target_args.extend(self.slots.args());
         let mut run_args = settings_args(self.settings);
         run_args.extend([
-            Arg::Lent(8, bytes64(&self.rows)),
+            Arg::Lent(8, bytes64(&self.avail)),
             Arg::Number(self.people as u64),
             Arg::Number(self.person as u64),
         ]);
-        run_args.extend(self.slot_args());
+        run_args.extend(self.slots.args());
         let asked = [
-            ("boltraven_minutes_per_day", self.slot_args(), self.days_no(), due.per_day),
+            ("boltraven_minutes_per_day", self.slots.args(), self.days_no(), due.per_day),
             ("boltraven_target_run", target_args, self.target_no(), due.target),
             ("boltraven_achievable_run", run_args, self.achievable_no(), due.achievable),
         ];
@@ -297,7 +333,6 @@ fn list(function: &'static str, mut args: Vec<Arg>, size: usize, before: Vec<u8>
     args.push(Arg::LentMut(size, before));
     Question {
         function,
-        result_size: 8,
         args,
         due: Outcome {
             result: heard(number, count as u64),

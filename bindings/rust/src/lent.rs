@@ -17,8 +17,8 @@
 #![allow(clippy::too_many_arguments)]
 
 use crate::assignment::Draw;
+use crate::exports::{export, exports};
 use crate::refusal::Refusal;
-use crate::sys;
 
 /// Words in a set.
 pub const SET_WORDS: usize = 16;
@@ -28,8 +28,6 @@ pub const SLOTS_MOST: usize = 1024;
 
 /// The owner of a slot that nobody holds.
 pub const NOBODY: u8 = 255;
-
-// Each block marked unsafe below passes what a Rust slice or reference is made of: addresses good for the call, with their lengths.
 
 // ---- answers that came as one number
 
@@ -92,765 +90,242 @@ fn wrote(number: u64) -> Result<bool, Refusal> {
     }
 }
 
-// ---- slot sets, as rows of words: `words` holds 16 words for each of `people`, and `person`'s are meant. A call is short: it is inlined.
-
-/// Whether slot i is a member. Refusals: 1, 2, 11.
-#[inline]
-pub fn contains(words: &[u64], people: usize, person: usize, len: usize, i: usize) -> Result<bool, Refusal> {
-    told(unsafe { sys::boltraven_contains(words.as_ptr(), words.len(), people, person, len, i) })
+/// A number that is the answer itself.
+fn plain(number: u32) -> u32 {
+    number
 }
 
-/// Whether the row has no member. Refusals: 1, 2, 11.
-#[inline]
-pub fn is_empty(words: &[u64], people: usize, person: usize, len: usize) -> Result<bool, Refusal> {
-    told(unsafe { sys::boltraven_is_empty(words.as_ptr(), words.len(), people, person, len) })
-}
+exports! {
+    // ---- slot sets, as rows of words: `words` holds 16 words for each of `people`, and `person`'s are meant. A call is short: it is
+    // inlined.
 
-/// How many members the row has. Refusals: 1, 2, 11.
-#[inline]
-pub fn count(words: &[u64], people: usize, person: usize, len: usize) -> Result<usize, Refusal> {
-    counted(unsafe { sys::boltraven_count(words.as_ptr(), words.len(), people, person, len) })
-}
+    /// Whether slot i is a member. Refusals: 1, 2, 11.
+    #[inline]
+    pub fn contains(words: &[u64], people: usize, person: usize, len: usize, i: usize) -> Result<bool, Refusal> = told(u64);
 
-/// The first member at or after `from`. Refusals: 1, 2, 11.
-#[inline]
-pub fn next_set(words: &[u64], people: usize, person: usize, len: usize, from: usize) -> Result<Option<usize>, Refusal> {
-    found(unsafe { sys::boltraven_next_set(words.as_ptr(), words.len(), people, person, len, from) })
-}
+    /// Whether the row has no member. Refusals: 1, 2, 11.
+    #[inline]
+    pub fn is_empty(words: &[u64], people: usize, person: usize, len: usize) -> Result<bool, Refusal> = told(u64);
 
-/// The last member at or before `from`. Refusals: 1, 2, 11.
-#[inline]
-pub fn prev_set(words: &[u64], people: usize, person: usize, len: usize, from: usize) -> Result<Option<usize>, Refusal> {
-    found(unsafe { sys::boltraven_prev_set(words.as_ptr(), words.len(), people, person, len, from) })
-}
+    /// How many members the row has. Refusals: 1, 2, 11.
+    #[inline]
+    pub fn count(words: &[u64], people: usize, person: usize, len: usize) -> Result<usize, Refusal> = counted(u64);
 
-/// The first slot after `from`, below the length, that is no member. Refusals: 1, 2, 11.
-#[inline]
-pub fn next_unset_after(words: &[u64], people: usize, person: usize, len: usize, from: usize) -> Result<Option<usize>, Refusal> {
-    found(unsafe { sys::boltraven_next_unset_after(words.as_ptr(), words.len(), people, person, len, from) })
-}
+    /// The first member at or after `from`. Refusals: 1, 2, 11.
+    #[inline]
+    pub fn next_set(words: &[u64], people: usize, person: usize, len: usize, from: usize) -> Result<Option<usize>, Refusal> = found(u64);
 
-/// The last slot before `from`, below the length, that is no member. Refusals: 1, 2, 11.
-#[inline]
-pub fn prev_unset_before(words: &[u64], people: usize, person: usize, len: usize, from: usize) -> Result<Option<usize>, Refusal> {
-    found(unsafe { sys::boltraven_prev_unset_before(words.as_ptr(), words.len(), people, person, len, from) })
-}
+    /// The last member at or before `from`. Refusals: 1, 2, 11.
+    #[inline]
+    pub fn prev_set(words: &[u64], people: usize, person: usize, len: usize, from: usize) -> Result<Option<usize>, Refusal> = found(u64);
 
-/// The run that holds slot i: true, with both its ends written; false, where i is no member. Refusals: 1, 2, 11.
-#[inline]
-pub fn run_bounds(
-    words: &[u64],
-    people: usize,
-    person: usize,
-    len: usize,
-    i: usize,
-    first: &mut u64,
-    last: &mut u64,
-) -> Result<bool, Refusal> {
-    wrote(unsafe { sys::boltraven_run_bounds(words.as_ptr(), words.len(), people, person, len, i, first, last) })
-}
+    /// The first slot after `from`, below the length, that is no member. Refusals: 1, 2, 11.
+    #[inline]
+    pub fn next_unset_after(
+        words: &[u64], people: usize, person: usize, len: usize, from: usize
+    ) -> Result<Option<usize>, Refusal> = found(u64);
 
-/// The next run from the cursor on: true, with both its ends and the next cursor written; false at the end. Refusals: 1, 2, 11.
-#[inline]
-pub fn next_run(
-    words: &[u64],
-    people: usize,
-    person: usize,
-    len: usize,
-    cursor: usize,
-    first: &mut u64,
-    last: &mut u64,
-    next: &mut u64,
-) -> Result<bool, Refusal> {
-    wrote(unsafe { sys::boltraven_next_run(words.as_ptr(), words.len(), people, person, len, cursor, first, last, next) })
-}
+    /// The last slot before `from`, below the length, that is no member. Refusals: 1, 2, 11.
+    #[inline]
+    pub fn prev_unset_before(
+        words: &[u64], people: usize, person: usize, len: usize, from: usize
+    ) -> Result<Option<usize>, Refusal> = found(u64);
 
-/// The next member from the cursor on: true, with its index and the next cursor written; false at the end. Refusals: 1, 2, 11.
-#[inline]
-pub fn next_member(
-    words: &[u64],
-    people: usize,
-    person: usize,
-    len: usize,
-    cursor: usize,
-    at: &mut u64,
-    next: &mut u64,
-) -> Result<bool, Refusal> {
-    wrote(unsafe { sys::boltraven_next_member(words.as_ptr(), words.len(), people, person, len, cursor, at, next) })
-}
+    /// The run that holds slot i: true, with both its ends written; false, where i is no member. Refusals: 1, 2, 11.
+    #[inline]
+    pub fn run_bounds(
+        words: &[u64], people: usize, person: usize, len: usize, i: usize, first: &mut u64, last: &mut u64
+    ) -> Result<bool, Refusal> = wrote(u64);
 
-/// Puts slot i into the row. Refusals: 1, 2, 11.
-#[inline]
-pub fn insert(words: &mut [u64], people: usize, person: usize, len: usize, i: usize) -> Result<(), Refusal> {
-    done(unsafe { sys::boltraven_insert(words.as_mut_ptr(), words.len(), people, person, len, i) })
-}
+    /// The next run from the cursor on: true, with both its ends and the next cursor written; false at the end. Refusals: 1, 2, 11.
+    #[inline]
+    pub fn next_run(
+        words: &[u64], people: usize, person: usize, len: usize, cursor: usize, first: &mut u64, last: &mut u64, next: &mut u64
+    ) -> Result<bool, Refusal> = wrote(u64);
 
-/// Takes slot i out of the row. Refusals: 1, 2, 11.
-#[inline]
-pub fn remove(words: &mut [u64], people: usize, person: usize, len: usize, i: usize) -> Result<(), Refusal> {
-    done(unsafe { sys::boltraven_remove(words.as_mut_ptr(), words.len(), people, person, len, i) })
-}
+    /// The next member from the cursor on: true, with its index and the next cursor written; false at the end. Refusals: 1, 2, 11.
+    #[inline]
+    pub fn next_member(
+        words: &[u64], people: usize, person: usize, len: usize, cursor: usize, at: &mut u64, next: &mut u64
+    ) -> Result<bool, Refusal> = wrote(u64);
 
-/// Makes every slot of the row from `from` up to `to`, without `to`, as wanted. Refusals: 1, 2, 11.
-pub fn put_stretch(words: &mut [u64], people: usize, person: usize, len: usize, from: usize, to: usize, want: bool) -> Result<(), Refusal> {
-    done(unsafe { sys::boltraven_put_stretch(words.as_mut_ptr(), words.len(), people, person, len, from, to, want) })
-}
+    /// Puts slot i into the row. Refusals: 1, 2, 11.
+    #[inline]
+    pub fn insert(words: &mut [u64], people: usize, person: usize, len: usize, i: usize) -> Result<(), Refusal> = done(u8);
 
-// ---- ranges merged, base slots split, availability; ranges come as three columns
+    /// Takes slot i out of the row. Refusals: 1, 2, 11.
+    #[inline]
+    pub fn remove(words: &mut [u64], people: usize, person: usize, len: usize, i: usize) -> Result<(), Refusal> = done(u8);
 
-/// Each person's ranges, sorted and merged, in three columns, and how many. Refusals: 1, 2, 4.
-pub fn merged_ranges(
-    people: usize,
-    count: usize,
-    persons: &[u16],
-    starts: &[u32],
-    ends: &[u32],
-    whose: &mut [u16],
-    froms: &mut [u32],
-    tos: &mut [u32],
-) -> Result<usize, Refusal> {
-    counted(unsafe {
-        sys::boltraven_merged_ranges(
-            people,
-            count,
-            persons.as_ptr(),
-            persons.len(),
-            starts.as_ptr(),
-            starts.len(),
-            ends.as_ptr(),
-            ends.len(),
-            whose.as_mut_ptr(),
-            whose.len(),
-            froms.as_mut_ptr(),
-            froms.len(),
-            tos.as_mut_ptr(),
-            tos.len(),
-        )
-    })
-}
+    /// Makes every slot of the row from `from` up to `to`, without `to`, as wanted. Refusals: 1, 2, 11.
+    pub fn put_stretch(
+        words: &mut [u64], people: usize, person: usize, len: usize, from: usize, to: usize, want: bool
+    ) -> Result<(), Refusal> = done(u8);
 
-/// The atomic slots, in two columns, and how many. Refusals: 1 to 5.
-pub fn atomise(
-    slots: usize,
-    starts: &[u32],
-    ends: &[u32],
-    people: usize,
-    count: usize,
-    persons: &[u16],
-    opens: &[u32],
-    shuts: &[u32],
-    froms: &mut [u32],
-    tos: &mut [u32],
-) -> Result<usize, Refusal> {
-    counted(unsafe {
-        sys::boltraven_atomise(
-            slots,
-            starts.as_ptr(),
-            starts.len(),
-            ends.as_ptr(),
-            ends.len(),
-            people,
-            count,
-            persons.as_ptr(),
-            persons.len(),
-            opens.as_ptr(),
-            opens.len(),
-            shuts.as_ptr(),
-            shuts.len(),
-            froms.as_mut_ptr(),
-            froms.len(),
-            tos.as_mut_ptr(),
-            tos.len(),
-        )
-    })
-}
+    // ---- ranges merged, base slots split, availability; ranges come as three columns
 
-/// Who is available for which of the lent slots, as a set a person. Refusals: 1, 2, 4, 9.
-pub fn availability(
-    people: usize,
-    slots: usize,
-    starts: &[u32],
-    ends: &[u32],
-    count: usize,
-    persons: &[u16],
-    opens: &[u32],
-    shuts: &[u32],
-    words: &mut [u64],
-) -> Result<(), Refusal> {
-    done(unsafe {
-        sys::boltraven_availability(
-            people,
-            slots,
-            starts.as_ptr(),
-            starts.len(),
-            ends.as_ptr(),
-            ends.len(),
-            count,
-            persons.as_ptr(),
-            persons.len(),
-            opens.as_ptr(),
-            opens.len(),
-            shuts.as_ptr(),
-            shuts.len(),
-            words.as_mut_ptr(),
-            words.len(),
-        )
-    })
-}
+    /// Each person's ranges, sorted and merged, in three columns, and how many. Refusals: 1, 2, 4.
+    pub fn merged_ranges(
+        people: usize, count: usize, persons: &[u16], starts: &[u32], ends: &[u32], whose: &mut [u16], froms: &mut [u32], tos: &mut [u32]
+    ) -> Result<usize, Refusal> = counted(u64);
 
-// ---- freezing, and the single question of availability
+    /// The atomic slots, in two columns, and how many. Refusals: 1 to 5.
+    pub fn atomise(
+        slots: usize, starts: &[u32], ends: &[u32], people: usize, count: usize, persons: &[u16], opens: &[u32], shuts: &[u32],
+        froms: &mut [u32], tos: &mut [u32]
+    ) -> Result<usize, Refusal> = counted(u64);
 
-/// Marks each slot that ends by the instant, clears no mark, and answers how many end by then. Refusals: 1, 2, 9.
-pub fn freeze_before(slots: usize, starts: &[u32], ends: &[u32], frozen: &mut [u64], instant: u32) -> Result<usize, Refusal> {
-    counted(unsafe {
-        sys::boltraven_freeze_before(
-            slots,
-            starts.as_ptr(),
-            starts.len(),
-            ends.as_ptr(),
-            ends.len(),
-            frozen.as_mut_ptr(),
-            frozen.len(),
-            instant,
-        )
-    })
-}
+    /// Who is available for which of the lent slots, as a set a person. Refusals: 1, 2, 4, 9.
+    pub fn availability(
+        people: usize, slots: usize, starts: &[u32], ends: &[u32], count: usize, persons: &[u16], opens: &[u32], shuts: &[u32],
+        words: &mut [u64]
+    ) -> Result<(), Refusal> = done(u8);
 
-/// Whether a person is available for a slot. Refusals: 1, 2, 11.
-pub fn is_available(people: usize, slots: usize, availability: &[u64], person: usize, slot: usize) -> Result<bool, Refusal> {
-    told(unsafe { sys::boltraven_is_available(people, slots, availability.as_ptr(), availability.len(), person, slot) })
-}
+    // ---- freezing, and the single question of availability
 
-// ---- where rotations and units begin; settings come as their five numbers
+    /// Marks each slot that ends by the instant, clears no mark, and answers how many end by then. Refusals: 1, 2, 9.
+    pub fn freeze_before(
+        slots: usize, starts: &[u32], ends: &[u32], frozen: &mut [u64], instant: u32
+    ) -> Result<usize, Refusal> = counted(u64);
 
-/// The starts of the rotations, and how many. Refusals: 1, 2, 7, 9.
-pub fn rotation_starts(
-    fairness: u8,
-    lock: u8,
-    boundary: u8,
-    value: u16,
-    days: u16,
-    slots: usize,
-    starts: &[u32],
-    ends: &[u32],
-    firsts: &mut [u16],
-) -> Result<usize, Refusal> {
-    counted(unsafe {
-        sys::boltraven_rotation_starts(
-            fairness,
-            lock,
-            boundary,
-            value,
-            days,
-            slots,
-            starts.as_ptr(),
-            starts.len(),
-            ends.as_ptr(),
-            ends.len(),
-            firsts.as_mut_ptr(),
-            firsts.len(),
-        )
-    })
-}
+    /// Whether a person is available for a slot. Refusals: 1, 2, 11.
+    pub fn is_available(people: usize, slots: usize, availability: &[u64], person: usize, slot: usize) -> Result<bool, Refusal> = told(u64);
 
-/// The starts of the units, and how many. Refusals: 1, 2, 7, 9.
-pub fn unit_starts(
-    fairness: u8,
-    lock: u8,
-    boundary: u8,
-    value: u16,
-    days: u16,
-    slots: usize,
-    starts: &[u32],
-    ends: &[u32],
-    firsts: &mut [u16],
-) -> Result<usize, Refusal> {
-    counted(unsafe {
-        sys::boltraven_unit_starts(
-            fairness,
-            lock,
-            boundary,
-            value,
-            days,
-            slots,
-            starts.as_ptr(),
-            starts.len(),
-            ends.as_ptr(),
-            ends.len(),
-            firsts.as_mut_ptr(),
-            firsts.len(),
-        )
-    })
-}
+    // ---- where rotations and units begin; settings come as their five numbers
 
-/// The slots of a unit, or of a rotation: `from` up to `to`, without `to`. Refusals: 1, 2, 9, 11.
-pub fn unit_slots(slots: usize, units: usize, firsts: &[u16], unit: usize, from: &mut u64, to: &mut u64) -> Result<(), Refusal> {
-    done(unsafe { sys::boltraven_unit_slots(slots, units, firsts.as_ptr(), firsts.len(), unit, from, to) })
-}
+    /// The starts of the rotations, and how many. Refusals: 1, 2, 7, 9.
+    pub fn rotation_starts(
+        fairness: u8, lock: u8, boundary: u8, value: u16, days: u16, slots: usize, starts: &[u32], ends: &[u32], firsts: &mut [u16]
+    ) -> Result<usize, Refusal> = counted(u64);
 
-/// The unit, or the rotation, of a slot. Refusals: 1, 2, 9, 11.
-pub fn unit_of_slot(slots: usize, units: usize, firsts: &[u16], slot: usize) -> Result<usize, Refusal> {
-    counted(unsafe { sys::boltraven_unit_of_slot(slots, units, firsts.as_ptr(), firsts.len(), slot) })
-}
+    /// The starts of the units, and how many. Refusals: 1, 2, 7, 9.
+    pub fn unit_starts(
+        fairness: u8, lock: u8, boundary: u8, value: u16, days: u16, slots: usize, starts: &[u32], ends: &[u32], firsts: &mut [u16]
+    ) -> Result<usize, Refusal> = counted(u64);
 
-// ---- days, and how long runs are to be
+    /// The slots of a unit, or of a rotation: `from` up to `to`, without `to`. Refusals: 1, 2, 9, 11.
+    pub fn unit_slots(
+        slots: usize, units: usize, firsts: &[u16], unit: usize, from: &mut u64, to: &mut u64
+    ) -> Result<(), Refusal> = done(u8);
 
-/// The distinct start dates of the slots. Refusals: 1, 2, 9.
-pub fn covered_days(slots: usize, starts: &[u32], ends: &[u32]) -> Result<usize, Refusal> {
-    counted(unsafe { sys::boltraven_covered_days(slots, starts.as_ptr(), starts.len(), ends.as_ptr(), ends.len()) })
-}
+    /// The unit, or the rotation, of a slot. Refusals: 1, 2, 9, 11.
+    pub fn unit_of_slot(slots: usize, units: usize, firsts: &[u16], slot: usize) -> Result<usize, Refusal> = counted(u64);
 
-/// The minutes of all slots. Refusals: 1, 2, 9.
-pub fn demand(slots: usize, starts: &[u32], ends: &[u32], out: &mut u64) -> Result<(), Refusal> {
-    done(unsafe { sys::boltraven_demand(slots, starts.as_ptr(), starts.len(), ends.as_ptr(), ends.len(), out) })
-}
+    // ---- days, and how long runs are to be
 
-/// The minutes of one slot. Refusals: 1, 2, 9, 11.
-pub fn slot_minutes(slots: usize, starts: &[u32], ends: &[u32], slot: usize, out: &mut u64) -> Result<(), Refusal> {
-    done(unsafe { sys::boltraven_slot_minutes(slots, starts.as_ptr(), starts.len(), ends.as_ptr(), ends.len(), slot, out) })
-}
+    /// The distinct start dates of the slots. Refusals: 1, 2, 9.
+    pub fn covered_days(slots: usize, starts: &[u32], ends: &[u32]) -> Result<usize, Refusal> = counted(u64);
 
-/// Minutes a day. Refusals: 1, 2, 9.
-pub fn minutes_per_day(slots: usize, starts: &[u32], ends: &[u32], minutes: &mut u64) -> Result<(), Refusal> {
-    done(unsafe { sys::boltraven_minutes_per_day(slots, starts.as_ptr(), starts.len(), ends.as_ptr(), ends.len(), minutes) })
-}
+    /// The minutes of all slots. Refusals: 1, 2, 9.
+    pub fn demand(slots: usize, starts: &[u32], ends: &[u32], out: &mut u64) -> Result<(), Refusal> = done(u8);
 
-/// The target run, in minutes. Refusals: 1, 2, 7, 9.
-pub fn target_run(
-    fairness: u8,
-    lock: u8,
-    boundary: u8,
-    value: u16,
-    days: u16,
-    slots: usize,
-    starts: &[u32],
-    ends: &[u32],
-    minutes: &mut u64,
-) -> Result<(), Refusal> {
-    done(unsafe {
-        sys::boltraven_target_run(
-            fairness,
-            lock,
-            boundary,
-            value,
-            days,
-            slots,
-            starts.as_ptr(),
-            starts.len(),
-            ends.as_ptr(),
-            ends.len(),
-            minutes,
-        )
-    })
-}
+    /// The minutes of one slot. Refusals: 1, 2, 9, 11.
+    pub fn slot_minutes(slots: usize, starts: &[u32], ends: &[u32], slot: usize, out: &mut u64) -> Result<(), Refusal> = done(u8);
 
-/// A person's achievable run, in minutes. Refusals: 1, 2, 7, 9, 11.
-pub fn achievable_run(
-    fairness: u8,
-    lock: u8,
-    boundary: u8,
-    value: u16,
-    days: u16,
-    avail: &[u64],
-    people: usize,
-    person: usize,
-    slots: usize,
-    starts: &[u32],
-    ends: &[u32],
-    minutes: &mut u64,
-) -> Result<(), Refusal> {
-    done(unsafe {
-        sys::boltraven_achievable_run(
-            fairness,
-            lock,
-            boundary,
-            value,
-            days,
-            avail.as_ptr(),
-            avail.len(),
-            people,
-            person,
-            slots,
-            starts.as_ptr(),
-            starts.len(),
-            ends.as_ptr(),
-            ends.len(),
-            minutes,
-        )
-    })
-}
+    /// Minutes a day. Refusals: 1, 2, 9.
+    pub fn minutes_per_day(slots: usize, starts: &[u32], ends: &[u32], minutes: &mut u64) -> Result<(), Refusal> = done(u8);
 
-// ---- who can cover a unit, and whether it is frozen
+    /// The target run, in minutes. Refusals: 1, 2, 7, 9.
+    pub fn target_run(
+        fairness: u8, lock: u8, boundary: u8, value: u16, days: u16, slots: usize, starts: &[u32], ends: &[u32], minutes: &mut u64
+    ) -> Result<(), Refusal> = done(u8);
 
-/// The people available for all slots of a unit, ascending, and how many. Refusals: 1, 2, 9, 11.
-pub fn unit_domain(
-    avail: &[u64],
-    people: usize,
-    slots: usize,
-    units: usize,
-    firsts: &[u16],
-    unit: usize,
-    list: &mut [u8],
-) -> Result<usize, Refusal> {
-    counted(unsafe {
-        sys::boltraven_unit_domain(
-            avail.as_ptr(),
-            avail.len(),
-            people,
-            slots,
-            units,
-            firsts.as_ptr(),
-            firsts.len(),
-            unit,
-            list.as_mut_ptr(),
-            list.len(),
-        )
-    })
-}
+    /// A person's achievable run, in minutes. Refusals: 1, 2, 7, 9, 11.
+    pub fn achievable_run(
+        fairness: u8, lock: u8, boundary: u8, value: u16, days: u16, avail: &[u64], people: usize, person: usize, slots: usize,
+        starts: &[u32], ends: &[u32], minutes: &mut u64
+    ) -> Result<(), Refusal> = done(u8);
 
-/// The people available for a slot, ascending, and how many. Refusals: 1, 2, 11.
-pub fn slot_domain(avail: &[u64], people: usize, slots: usize, slot: usize, list: &mut [u8]) -> Result<usize, Refusal> {
-    counted(unsafe { sys::boltraven_slot_domain(avail.as_ptr(), avail.len(), people, slots, slot, list.as_mut_ptr(), list.len()) })
-}
+    // ---- who can cover a unit, and whether it is frozen
 
-/// Whether any slot of a unit is frozen. Refusals: 1, 2, 9, 11.
-pub fn unit_frozen(frozen: &[u64], slots: usize, units: usize, firsts: &[u16], unit: usize) -> Result<bool, Refusal> {
-    told(unsafe { sys::boltraven_unit_frozen(frozen.as_ptr(), frozen.len(), slots, units, firsts.as_ptr(), firsts.len(), unit) })
-}
+    /// The people available for all slots of a unit, ascending, and how many. Refusals: 1, 2, 9, 11.
+    pub fn unit_domain(
+        avail: &[u64], people: usize, slots: usize, units: usize, firsts: &[u16], unit: usize, list: &mut [u8]
+    ) -> Result<usize, Refusal> = counted(u64);
 
-// ---- the calendar: minute 0 is Thursday 1970-01-01 00:00
+    /// The people available for all slots of each unit, as a mask a unit: bit p is person p. Refusals: 1, 2, 9.
+    pub fn unit_domains(
+        avail: &[u64], people: usize, slots: usize, units: usize, firsts: &[u16], masks: &mut [u32]
+    ) -> Result<(), Refusal> = done(u8);
 
-/// The date of a minute, in days from 1970-01-01 on.
-pub fn date_of(minute: u32) -> u32 {
-    unsafe { sys::boltraven_date_of(minute) }
-}
+    /// The people available for a slot, ascending, and how many. Refusals: 1, 2, 11.
+    pub fn slot_domain(avail: &[u64], people: usize, slots: usize, slot: usize, list: &mut [u8]) -> Result<usize, Refusal> = counted(u64);
 
-/// The weekday of a date, 0 for Monday.
-pub fn weekday_of(date: u32) -> u32 {
-    unsafe { sys::boltraven_weekday_of(date) }
-}
+    /// Whether any slot of a unit is frozen. Refusals: 1, 2, 9, 11.
+    pub fn unit_frozen(frozen: &[u64], slots: usize, units: usize, firsts: &[u16], unit: usize) -> Result<bool, Refusal> = told(u64);
 
-// ---- targets
+    // ---- the calendar: minute 0 is Thursday 1970-01-01 00:00
 
-/// Each person's target, in `out`. Refusals: 1, 2, 6 to 9.
-pub fn compute_targets(
-    people: usize,
-    slots: usize,
-    starts: &[u32],
-    ends: &[u32],
-    avail: &[u64],
-    capacities: &[f64],
-    priors: &[u32],
-    fairness: u8,
-    out: &mut [i64],
-) -> Result<(), Refusal> {
-    done(unsafe {
-        sys::boltraven_compute_targets(
-            people,
-            slots,
-            starts.as_ptr(),
-            starts.len(),
-            ends.as_ptr(),
-            ends.len(),
-            avail.as_ptr(),
-            avail.len(),
-            capacities.as_ptr(),
-            capacities.len(),
-            priors.as_ptr(),
-            priors.len(),
-            fairness,
-            out.as_mut_ptr(),
-            out.len(),
-        )
-    })
-}
+    /// The date of a minute, in days from 1970-01-01 on.
+    pub fn date_of(minute: u32) -> u32 = plain(u32);
 
-// ---- a rota: its owners, everybody's set of slots and minutes
+    /// The weekday of a date, 0 for Monday.
+    pub fn weekday_of(date: u32) -> u32 = plain(u32);
 
-/// Sets and minutes from owners. Refusals: 1, 2, 9, 11, 12.
-pub fn from_slots(
-    people: usize,
-    slots: usize,
-    starts: &[u32],
-    ends: &[u32],
-    avail: &[u64],
-    owners: &[u8],
-    sets: &mut [u64],
-    minutes: &mut [u64],
-) -> Result<(), Refusal> {
-    done(unsafe {
-        sys::boltraven_from_slots(
-            people,
-            slots,
-            starts.as_ptr(),
-            starts.len(),
-            ends.as_ptr(),
-            ends.len(),
-            avail.as_ptr(),
-            avail.len(),
-            owners.as_ptr(),
-            owners.len(),
-            sets.as_mut_ptr(),
-            sets.len(),
-            minutes.as_mut_ptr(),
-            minutes.len(),
-        )
-    })
-}
+    // ---- targets
 
-/// An empty rota: nobody owns a slot, and sets and minutes are cleared. Refusals: 1, 2.
-pub fn empty(people: usize, slots: usize, owners: &mut [u8], sets: &mut [u64], minutes: &mut [u64]) -> Result<(), Refusal> {
-    done(unsafe {
-        sys::boltraven_empty(
-            people,
-            slots,
-            owners.as_mut_ptr(),
-            owners.len(),
-            sets.as_mut_ptr(),
-            sets.len(),
-            minutes.as_mut_ptr(),
-            minutes.len(),
-        )
-    })
-}
+    /// Each person's target, in `out`. Refusals: 1, 2, 6 to 9.
+    pub fn compute_targets(
+        people: usize, slots: usize, starts: &[u32], ends: &[u32], avail: &[u64], capacities: &[f64], priors: &[u32], fairness: u8,
+        out: &mut [i64]
+    ) -> Result<(), Refusal> = done(u8);
 
-/// A slot assigned to a person, or cleared by 255. Refusals: 1, 2, 9 to 12.
-pub fn assign(
-    people: usize,
-    slots: usize,
-    starts: &[u32],
-    ends: &[u32],
-    avail: &[u64],
-    owners: &mut [u8],
-    sets: &mut [u64],
-    minutes: &mut [u64],
-    slot: usize,
-    owner: u8,
-) -> Result<(), Refusal> {
-    done(unsafe {
-        sys::boltraven_assign(
-            people,
-            slots,
-            starts.as_ptr(),
-            starts.len(),
-            ends.as_ptr(),
-            ends.len(),
-            avail.as_ptr(),
-            avail.len(),
-            owners.as_mut_ptr(),
-            owners.len(),
-            sets.as_mut_ptr(),
-            sets.len(),
-            minutes.as_mut_ptr(),
-            minutes.len(),
-            slot,
-            owner,
-        )
-    })
-}
+    // ---- a rota: its owners, everybody's set of slots and minutes
 
-/// Plays draws, given as three columns: an answer byte each, 0 acted, 1 no move, 2 a choice outside. Refusals: 1, 2, 9, 10.
-pub fn play(
-    people: usize,
-    slots: usize,
-    units: usize,
-    count: usize,
-    starts: &[u32],
-    ends: &[u32],
-    avail: &[u64],
-    firsts: &[u16],
-    frozen: &[u64],
-    owners: &mut [u8],
-    sets: &mut [u64],
-    minutes: &mut [u64],
-    kinds: &[u16],
-    ones: &[u16],
-    twos: &[u16],
-    answers: &mut [u8],
-) -> Result<(), Refusal> {
-    done(unsafe {
-        sys::boltraven_play(
-            people,
-            slots,
-            units,
-            count,
-            starts.as_ptr(),
-            starts.len(),
-            ends.as_ptr(),
-            ends.len(),
-            avail.as_ptr(),
-            avail.len(),
-            firsts.as_ptr(),
-            firsts.len(),
-            frozen.as_ptr(),
-            frozen.len(),
-            owners.as_mut_ptr(),
-            owners.len(),
-            sets.as_mut_ptr(),
-            sets.len(),
-            minutes.as_mut_ptr(),
-            minutes.len(),
-            kinds.as_ptr(),
-            kinds.len(),
-            ones.as_ptr(),
-            ones.len(),
-            twos.as_ptr(),
-            twos.len(),
-            answers.as_mut_ptr(),
-            answers.len(),
-        )
-    })
-}
+    /// Sets and minutes from owners. Refusals: 1, 2, 9, 11, 12.
+    pub fn from_slots(
+        people: usize, slots: usize, starts: &[u32], ends: &[u32], avail: &[u64], owners: &[u8], sets: &mut [u64], minutes: &mut [u64]
+    ) -> Result<(), Refusal> = done(u8);
 
-/// Plays draws as they stand: an answer byte each, 0 acted, 1 no move, 2 a choice outside. Refusals: 1, 2, 9, 10.
-pub fn play_draws(
-    people: usize,
-    slots: usize,
-    units: usize,
-    count: usize,
-    starts: &[u32],
-    ends: &[u32],
-    avail: &[u64],
-    firsts: &[u16],
-    frozen: &[u64],
-    owners: &mut [u8],
-    sets: &mut [u64],
-    minutes: &mut [u64],
-    draws: &[Draw],
-    answers: &mut [u8],
-) -> Result<(), Refusal> {
-    done(unsafe {
-        sys::boltraven_play_draws(
-            people,
-            slots,
-            units,
-            count,
-            starts.as_ptr(),
-            starts.len(),
-            ends.as_ptr(),
-            ends.len(),
-            avail.as_ptr(),
-            avail.len(),
-            firsts.as_ptr(),
-            firsts.len(),
-            frozen.as_ptr(),
-            frozen.len(),
-            owners.as_mut_ptr(),
-            owners.len(),
-            sets.as_mut_ptr(),
-            sets.len(),
-            minutes.as_mut_ptr(),
-            minutes.len(),
-            draws.as_ptr(),
-            draws.len(),
-            answers.as_mut_ptr(),
-            answers.len(),
-        )
-    })
-}
+    /// An empty rota: nobody owns a slot, and sets and minutes are cleared. Refusals: 1, 2.
+    pub fn empty(people: usize, slots: usize, owners: &mut [u8], sets: &mut [u64], minutes: &mut [u64]) -> Result<(), Refusal> = done(u8);
 
-/// Whether owners, units, sets and minutes fit together, as a play asks it first. Refusals: 1, 2, 9, 10.
-pub fn recount(
-    people: usize,
-    slots: usize,
-    units: usize,
-    starts: &[u32],
-    ends: &[u32],
-    avail: &[u64],
-    firsts: &[u16],
-    owners: &[u8],
-    sets: &[u64],
-    minutes: &[u64],
-) -> Result<(), Refusal> {
-    done(unsafe {
-        sys::boltraven_recount(
-            people,
-            slots,
-            units,
-            starts.as_ptr(),
-            starts.len(),
-            ends.as_ptr(),
-            ends.len(),
-            avail.as_ptr(),
-            avail.len(),
-            firsts.as_ptr(),
-            firsts.len(),
-            owners.as_ptr(),
-            owners.len(),
-            sets.as_ptr(),
-            sets.len(),
-            minutes.as_ptr(),
-            minutes.len(),
-        )
-    })
-}
+    /// A slot assigned to a person, or cleared by 255. Refusals: 1, 2, 9 to 12.
+    pub fn assign(
+        people: usize, slots: usize, starts: &[u32], ends: &[u32], avail: &[u64], owners: &mut [u8], sets: &mut [u64], minutes: &mut [u64],
+        slot: usize, owner: u8
+    ) -> Result<(), Refusal> = done(u8);
 
-/// The same without units, as a single assign asks it. Refusals: 1, 2, 9, 10.
-pub fn recount_slots(
-    people: usize,
-    slots: usize,
-    starts: &[u32],
-    ends: &[u32],
-    avail: &[u64],
-    owners: &[u8],
-    sets: &[u64],
-    minutes: &[u64],
-) -> Result<(), Refusal> {
-    done(unsafe {
-        sys::boltraven_recount_slots(
-            people,
-            slots,
-            starts.as_ptr(),
-            starts.len(),
-            ends.as_ptr(),
-            ends.len(),
-            avail.as_ptr(),
-            avail.len(),
-            owners.as_ptr(),
-            owners.len(),
-            sets.as_ptr(),
-            sets.len(),
-            minutes.as_ptr(),
-            minutes.len(),
-        )
-    })
-}
+    /// Plays draws, given as three columns: an answer byte each, 0 acted, 1 no move, 2 a choice outside. Refusals: 1, 2, 9, 10.
+    pub fn play(
+        people: usize, slots: usize, units: usize, count: usize, starts: &[u32], ends: &[u32], avail: &[u64], firsts: &[u16],
+        frozen: &[u64], owners: &mut [u8], sets: &mut [u64], minutes: &mut [u64], kinds: &[u16], ones: &[u16], twos: &[u16],
+        answers: &mut [u8]
+    ) -> Result<(), Refusal> = done(u8);
 
-/// The owner of a slot: a person's number, or 255 for nobody. Refusals: 1, 2, 11.
-pub fn owner_of_slot(people: usize, slots: usize, owners: &[u8], slot: usize, out: &mut u64) -> Result<(), Refusal> {
-    done(unsafe { sys::boltraven_owner_of_slot(people, slots, owners.as_ptr(), owners.len(), slot, out) })
-}
+    /// Plays draws as they stand: an answer byte each, 0 acted, 1 no move, 2 a choice outside. Refusals: 1, 2, 9, 10.
+    pub fn play_draws(
+        people: usize, slots: usize, units: usize, count: usize, starts: &[u32], ends: &[u32], avail: &[u64], firsts: &[u16],
+        frozen: &[u64], owners: &mut [u8], sets: &mut [u64], minutes: &mut [u64], draws: &[Draw], answers: &mut [u8]
+    ) -> Result<(), Refusal> = done(u8);
 
-/// A person's minutes. Refusals: 1, 2, 11.
-pub fn minutes_of(people: usize, minutes: &[u64], person: usize, out: &mut u64) -> Result<(), Refusal> {
-    done(unsafe { sys::boltraven_minutes_of(people, minutes.as_ptr(), minutes.len(), person, out) })
-}
+    /// Whether owners, units, sets and minutes fit together, as a play asks it first. Refusals: 1, 2, 9, 10.
+    pub fn recount(
+        people: usize, slots: usize, units: usize, starts: &[u32], ends: &[u32], avail: &[u64], firsts: &[u16], owners: &[u8], sets: &[u64],
+        minutes: &[u64]
+    ) -> Result<(), Refusal> = done(u8);
 
-/// The slots that nobody owns. Refusals: 1, 2, 11.
-pub fn unassigned_count(people: usize, slots: usize, owners: &[u8], out: &mut u64) -> Result<(), Refusal> {
-    done(unsafe { sys::boltraven_unassigned_count(people, slots, owners.as_ptr(), owners.len(), out) })
-}
+    /// The same without units, as a single assign asks it. Refusals: 1, 2, 9, 10.
+    pub fn recount_slots(
+        people: usize, slots: usize, starts: &[u32], ends: &[u32], avail: &[u64], owners: &[u8], sets: &[u64], minutes: &[u64]
+    ) -> Result<(), Refusal> = done(u8);
 
-/// The minutes of the slots that nobody owns. Refusals: 1, 2, 9, 11.
-pub fn uncovered_minutes(people: usize, slots: usize, starts: &[u32], ends: &[u32], owners: &[u8], out: &mut u64) -> Result<(), Refusal> {
-    done(unsafe {
-        sys::boltraven_uncovered_minutes(
-            people,
-            slots,
-            starts.as_ptr(),
-            starts.len(),
-            ends.as_ptr(),
-            ends.len(),
-            owners.as_ptr(),
-            owners.len(),
-            out,
-        )
-    })
-}
+    /// The owner of a slot: a person's number, or 255 for nobody. Refusals: 1, 2, 11.
+    pub fn owner_of_slot(people: usize, slots: usize, owners: &[u8], slot: usize, out: &mut u64) -> Result<(), Refusal> = done(u8);
 
-// ---- a whole job
+    /// A person's minutes. Refusals: 1, 2, 11.
+    pub fn minutes_of(people: usize, minutes: &[u64], person: usize, out: &mut u64) -> Result<(), Refusal> = done(u8);
 
-/// A whole job: the listing at the front of `out`, and its length. Refusals: 1 to 7, 10 to 13.
-pub fn run_job(file: &[u8], out: &mut [u8], length: &mut u64) -> Result<(), Refusal> {
-    done(unsafe { sys::boltraven_run_job(file.as_ptr(), file.len(), out.as_mut_ptr(), out.len(), length) })
+    /// The slots that nobody owns. Refusals: 1, 2, 11.
+    pub fn unassigned_count(people: usize, slots: usize, owners: &[u8], out: &mut u64) -> Result<(), Refusal> = done(u8);
+
+    /// The minutes of the slots that nobody owns. Refusals: 1, 2, 9, 11.
+    pub fn uncovered_minutes(
+        people: usize, slots: usize, starts: &[u32], ends: &[u32], owners: &[u8], out: &mut u64
+    ) -> Result<(), Refusal> = done(u8);
+
+    // ---- a whole job
+
+    /// A whole job: the listing at the front of `out`, and its length. Refusals: 1 to 7, 10 to 13.
+    pub fn run_job(file: &[u8], out: &mut [u8], length: &mut u64) -> Result<(), Refusal> = done(u8);
 }

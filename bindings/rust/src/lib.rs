@@ -31,6 +31,7 @@
 
 mod assignment;
 mod availability;
+mod exports;
 mod job;
 pub mod lent;
 mod problem;
@@ -38,7 +39,6 @@ mod refusal;
 mod set;
 mod settings;
 mod slots;
-mod sys;
 mod targets;
 mod units;
 

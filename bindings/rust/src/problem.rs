@@ -20,6 +20,7 @@ use crate::units::Units;
 /// let ranges = [Range { person: 0, start: 0, end: 120 }, Range { person: 1, start: 60, end: 180 }];
 /// let mut problem = Problem::build(Settings::default(), &base, &people, &ranges)?;
 /// assert_eq!(problem.unit_domain(1)?, [0, 1]);
+/// assert_eq!(problem.unit_domains(), [vec![0], vec![0, 1]]);
 /// assert_eq!(problem.total_demand(), 120);
 /// assert_eq!(problem.freeze_before(60), 1);
 /// assert!(problem.is_unit_frozen(0)?);
@@ -136,6 +137,11 @@ impl Problem {
     /// The people who can cover a whole unit, ascending. Refusal 11.
     pub fn unit_domain(&self, unit: usize) -> Result<Vec<usize>, Refusal> {
         self.units.domain(&self.availability, unit)
+    }
+
+    /// The people who can cover each unit, ascending.
+    pub fn unit_domains(&self) -> Vec<Vec<usize>> {
+        checked(self.units.domains(&self.availability))
     }
 
     /// Each person's target in minutes.

@@ -9,6 +9,9 @@ use crate::set::SlotSet;
 use crate::settings::Settings;
 use crate::slots::Slots;
 
+/// What `lent` has for the starts of units and of rotations.
+type StartsOf = fn(u8, u8, u8, u16, u16, usize, &[u32], &[u32], &mut [u16]) -> Result<usize, Refusal>;
+
 /// Slots in neighbouring stretches: rotations, or the units that a play moves whole.
 ///
 /// ```
@@ -31,48 +34,34 @@ pub struct Units {
 impl Units {
     /// The units: locked, each rotation is one; otherwise each slot. Refusal 7.
     pub fn new(settings: Settings, slots: &Slots) -> Result<Self, Refusal> {
-        let n = settings.numbers();
-        let mut firsts = vec![0; slots.len()];
-        let (starts, ends) = (slots.starts(), slots.ends());
-        let count = lent::unit_starts(
-            n.fairness,
-            n.lock,
-            n.boundary,
-            n.value,
-            n.days,
-            slots.len(),
-            starts,
-            ends,
-            &mut firsts,
-        )?;
-        Ok(Self::made(firsts, count, slots))
+        Self::begun(lent::unit_starts, settings, slots)
     }
 
     /// The rotations. Refusal 7.
     pub fn rotations(settings: Settings, slots: &Slots) -> Result<Self, Refusal> {
+        Self::begun(lent::rotation_starts, settings, slots)
+    }
+
+    /// Those that begin where `starts_of` says.
+    fn begun(starts_of: StartsOf, settings: Settings, slots: &Slots) -> Result<Self, Refusal> {
         let n = settings.numbers();
         let mut firsts = vec![0; slots.len()];
-        let (starts, ends) = (slots.starts(), slots.ends());
-        let count = lent::rotation_starts(
+        let count = starts_of(
             n.fairness,
             n.lock,
             n.boundary,
             n.value,
             n.days,
             slots.len(),
-            starts,
-            ends,
+            slots.starts(),
+            slots.ends(),
             &mut firsts,
         )?;
-        Ok(Self::made(firsts, count, slots))
-    }
-
-    fn made(mut firsts: Vec<u16>, count: usize, slots: &Slots) -> Self {
         firsts.truncate(count);
-        Self {
+        Ok(Self {
             firsts,
             slots: slots.len(),
-        }
+        })
     }
 
     /// How many there are.
@@ -120,6 +109,25 @@ impl Units {
         let mut list = vec![0; people];
         let count = lent::unit_domain(availability.words(), people, self.slots, self.len(), &self.firsts, unit, &mut list)?;
         Ok(list.iter().take(count).map(|&person| usize::from(person)).collect())
+    }
+
+    /// The people who are available for all slots of each, ascending: one call for all of them. Refusals 2, 9.
+    ///
+    /// ```
+    /// use boltraven::{Availability, Range, Settings, Slot, Slots, Units};
+    ///
+    /// let slots = Slots::new(&[Slot { start: 0, end: 60 }, Slot { start: 60, end: 120 }])?;
+    /// let who = Availability::new(3, &slots, &[0, 2].map(|person| Range { person, start: 0, end: 60 }))?;
+    /// let none: [usize; 0] = [];
+    /// assert_eq!(Units::new(Settings::default(), &slots)?.domains(&who)?, [&[0, 2][..], &none]);
+    /// # Ok::<(), boltraven::Refusal>(())
+    /// ```
+    pub fn domains(&self, availability: &Availability) -> Result<Vec<Vec<usize>>, Refusal> {
+        let people = availability.people();
+        let mut masks = vec![0; self.len()];
+        lent::unit_domains(availability.words(), people, self.slots, self.len(), &self.firsts, &mut masks)?;
+        let domain = |mask: u32| (0..people).filter(|person| mask >> person & 1 == 1).collect();
+        Ok(masks.into_iter().map(domain).collect())
     }
 
     /// Whether any slot of one is frozen. Refusal 11.

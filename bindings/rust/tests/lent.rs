@@ -121,6 +121,20 @@ fn a_rota_keeps_what_lies_past_its_ends() {
 }
 
 #[test]
+fn domains_of_all_units_are_masks_or_refused_whole() {
+    let mut masks = [7; 3];
+    let mut asked = |people: usize, firsts: &[u16], room: usize| {
+        let told = lent::unit_domains(&avail(), people, 2, firsts.len(), firsts, &mut masks[..room]);
+        (told, masks)
+    };
+    assert_eq!(asked(33, &[1], 0), (Err(Refusal::Count), [7; 3]));
+    assert_eq!(asked(2, &[1, 0], 1), (Err(Refusal::ShortBuffer), [7; 3]));
+    assert_eq!(asked(2, &[1], 3), (Err(Refusal::Slots), [7; 3]));
+    assert_eq!(asked(2, &[0, 1], 3), (Ok(()), [0b01, 0b11, 7]));
+    assert_eq!(asked(1, &[0], 1), (Ok(()), [0b1, 0b11, 7]));
+}
+
+#[test]
 fn a_job_is_listed_or_refused_whole() {
     let mut out = vec![7; 44_540];
     let mut length = SPARE;

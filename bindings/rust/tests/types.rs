@@ -124,6 +124,24 @@ fn a_unit_with_two_owners_fails_the_recount() {
 }
 
 #[test]
+fn all_domains_are_those_of_each_unit() {
+    let pairs = Settings {
+        lock: true,
+        boundary: Boundary::EverySlots(2),
+        ..Settings::default()
+    };
+    // Person 31 is there for the first three days, so not for all of the second pair.
+    let some_days = Range {
+        end: 3 * 1440,
+        ..always(31)
+    };
+    let problem = Problem::build(pairs, &days(5), &[ONE; 32], &[always(0), some_days]).expect("it is taken");
+    let each = |unit| problem.unit_domain(unit).expect("there is such a unit");
+    assert_eq!(problem.unit_domains(), (0..3).map(each).collect::<Vec<_>>());
+    assert_eq!(problem.unit_domains(), [vec![0, 31], vec![0], vec![0]]);
+}
+
+#[test]
 fn a_job_says_what_the_rota_does() {
     let mut job = Job {
         base: days(2),

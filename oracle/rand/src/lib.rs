@@ -19,32 +19,30 @@ pub trait RngExt {
 #[derive(Debug, Clone)]
 pub struct Script {
     draw: u32,
-    choices: Vec<usize>,
+    choices: [usize; 2],
     asked: usize,
     outside: bool,
 }
 
 impl Script {
     /// A draw with its choices.
-    pub fn new(draw: u32, choices: &[usize]) -> Self {
+    #[inline]
+    pub fn new(draw: u32, choices: [usize; 2]) -> Self {
         Self {
             draw,
-            choices: choices.to_vec(),
+            choices,
             asked: 0,
             outside: false,
         }
     }
 
     /// Whether some choice was not in the range that it was asked for.
+    #[inline]
     pub fn outside(&self) -> bool {
         self.outside
     }
 
-    /// How many choices were asked for.
-    pub fn asked(&self) -> usize {
-        self.asked
-    }
-
+    #[inline]
     fn next(&mut self) -> usize {
         let choice = self.choices.get(self.asked).copied();
         self.asked += 1;
@@ -53,6 +51,7 @@ impl Script {
 }
 
 impl RngExt for Script {
+    #[inline]
     fn random_range(&mut self, range: Range<usize>) -> usize {
         assert!(range.start < range.end, "an empty range has no number");
         let choice = self.next();
@@ -65,6 +64,7 @@ impl RngExt for Script {
         }
     }
 
+    #[inline]
     fn random_bool(&mut self, _chance: f64) -> bool {
         let choice = self.next();
         if choice > 1 {
@@ -73,6 +73,7 @@ impl RngExt for Script {
         choice == 1
     }
 
+    #[inline]
     fn random_weight(&mut self, total: u32) -> u32 {
         assert!(self.draw < total, "a draw is below the sum of the weights");
         self.draw

@@ -4,13 +4,11 @@ use on_call::model::assignment::SlotSet;
 use on_call::model::problem::Problem;
 
 use crate::days::instant;
-use crate::problems::{availability_into, put_bit, slots_of, unit_starts_of, Person, ProblemCase, Range, Settings};
-use crate::rotas::{Draw, NOBODY};
+use crate::limits::{DRAWS_MOST, NOBODY, PEOPLE_MOST, SET_WORDS, SLOTS_MOST};
+use crate::problems::{slots_of, Person, ProblemCase, Range, Settings};
+use crate::rotas::{Draw, LentRota, RotaCase};
 use crate::seed::Seed;
-use crate::sets::{PEOPLE_MOST, SET_WORDS, SLOTS_MOST};
-
-/// The most draws of a play.
-pub const DRAWS: usize = 1024;
+use crate::sets::put_bit;
 
 /// Minutes of a base slot.
 const BASE: u32 = 720;
@@ -94,98 +92,75 @@ pub fn shuffled(seed: &mut Seed, mut case: ProblemCase) -> ProblemCase {
 
 // ---- rotas
 
-/// A rota as both sides hold it, and draws to play.
+/// A rota as both sides hold it, with draws to play.
 pub struct Rota {
-    pub problem: Problem,
-    pub people: usize,
-    pub starts: Vec<u32>,
-    pub ends: Vec<u32>,
-    pub avail: Vec<u64>,
-    pub firsts: Vec<u16>,
-    pub frozen: Vec<u64>,
-    pub owners: Vec<u8>,
-    pub draws: Vec<Draw>,
+    pub case: RotaCase,
+    pub lent: LentRota,
+    /// The draws, as three columns.
+    pub columns: [Vec<u16>; 3],
 }
 
 impl Rota {
-    /// The rota of a problem with these owners and draws, of which one slot in 16, from the first on, is frozen.
-    fn new(case: &ProblemCase, frozen_part: usize) -> Self {
-        let mut problem = case.rust();
-        let slots = problem.slot_count();
-        let people = problem.human_count();
-        let (starts, ends) = slots_of(&problem);
-        let mut avail = vec![0; SET_WORDS * people];
-        availability_into(&problem, &mut avail);
-        let mut frozen = vec![0; SET_WORDS];
-        if frozen_part > 0 {
-            problem.freeze_before(instant(i64::from(ends[slots / frozen_part - 1])));
-            (0..slots).for_each(|slot| put_bit(&mut frozen, 0, slot, problem.is_frozen(slot)));
-        }
+    fn new(seed: &mut Seed, case: RotaCase) -> Self {
+        let lent = LentRota::new(seed, &case);
         Self {
-            people,
-            starts,
-            ends,
-            avail,
-            firsts: unit_starts_of(&problem),
-            frozen,
-            owners: vec![NOBODY; slots],
-            draws: vec![],
-            problem,
+            columns: lent.columns(),
+            lent,
+            case,
         }
     }
 
-    /// Shifts of about a week for whoever is able, and draws of all five moves as a search makes them: every choice is one that there is.
+    /// Shifts of 3 to 14 units for whoever is able, one slot in 16, from the first on, frozen, and draws of all five moves as a search
+    /// makes them: every choice is one that there is.
     pub fn typical(seed: &mut Seed, case: &ProblemCase) -> Self {
-        let mut rota = Self::new(case, 16);
-        let mut left = 0;
-        let mut owner = None;
-        for (unit, domain) in rota.problem.units.iter().zip(&rota.problem.unit_domains) {
-            if left == 0 || !owner.is_some_and(|person| domain.contains(&person)) {
-                owner = (!domain.is_empty()).then(|| seed.pick(domain));
-                left = seed.within(3, 14);
-            }
-            left -= 1;
-            if let Some(person) = owner {
-                rota.owners[unit.clone()].fill(person as u8);
-            }
-        }
-        rota.draws = (0..DRAWS).map(|_| rota.draw(seed)).collect();
-        rota
-    }
-
-    fn draw(&self, seed: &mut Seed) -> Draw {
-        let units = self.firsts.len() as u64;
-        let draw = seed.below(100);
-        let first = seed.below(units);
-        let second = match draw {
-            0..=34 => seed.below(self.problem.unit_domains[first as usize].len().max(1) as u64),
-            35..=59 | 75..=89 => seed.below(units),
-            60..=74 => seed.below(self.people as u64 - 1),
-            _ => seed.below(2),
-        };
-        (draw as u16, first as u16, second as u16)
+        let mut problem = case.rust();
+        let (_, ends) = slots_of(&problem);
+        problem.freeze_before(instant(i64::from(ends[ends.len() / 16 - 1])));
+        let owners = shifts(seed, &problem);
+        let draws = (0..DRAWS_MOST).map(|_| typical_draw(seed, &problem)).collect();
+        Self::new(seed, RotaCase { problem, owners, draws })
     }
 
     /// One person holds every slot, and the whole run goes to somebody else, again and again.
     pub fn one_run(seed: &mut Seed, case: &ProblemCase) -> Self {
-        let mut rota = Self::new(case, 0);
-        rota.owners.fill(0);
-        let units = rota.firsts.len() as u64;
-        let others = rota.people as u64 - 1;
-        rota.draws = (0..DRAWS)
-            .map(|_| (60, seed.below(units) as u16, seed.below(others) as u16))
-            .collect();
-        rota
+        let problem = case.rust();
+        let (units, others) = (problem.unit_count() as u64, problem.human_count() as u64 - 1);
+        let draw = |_| (60, seed.below(units) as u16, seed.below(others) as u16);
+        let draws = (0..DRAWS_MOST).map(draw).collect();
+        let owners = vec![0; problem.slot_count()];
+        Self::new(seed, RotaCase { problem, owners, draws })
     }
+}
 
-    pub fn slots(&self) -> usize {
-        self.starts.len()
+/// Owners in shifts of 3 to 14 units, each of somebody who can cover them.
+fn shifts(seed: &mut Seed, problem: &Problem) -> Vec<u8> {
+    let mut owners = vec![NOBODY; problem.slot_count()];
+    let mut left = 0;
+    let mut owner = None;
+    for (unit, domain) in problem.units.iter().zip(&problem.unit_domains) {
+        if left == 0 || !owner.is_some_and(|person| domain.contains(&person)) {
+            owner = (!domain.is_empty()).then(|| seed.pick(domain));
+            left = seed.within(3, 14);
+        }
+        left -= 1;
+        if let Some(person) = owner {
+            owners[unit.clone()].fill(person as u8);
+        }
     }
+    owners
+}
 
-    /// A column of the draws.
-    pub fn column(&self, number: fn(&Draw) -> u16) -> Vec<u16> {
-        self.draws.iter().map(number).collect()
-    }
+fn typical_draw(seed: &mut Seed, problem: &Problem) -> Draw {
+    let units = problem.unit_count() as u64;
+    let draw = seed.below(100);
+    let first = seed.below(units);
+    let second = match draw {
+        0..=34 => seed.below(problem.unit_domains[first as usize].len().max(1) as u64),
+        35..=59 | 75..=89 => seed.below(units),
+        60..=74 => seed.below(problem.human_count() as u64 - 1),
+        _ => seed.below(2),
+    };
+    (draw as u16, first as u16, second as u16)
 }
 
 // ---- sets

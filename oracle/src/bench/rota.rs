@@ -1,0 +1,210 @@
+//! Rows of a rota: made of its owners, recounted, played.
+
+use std::hint::black_box;
+use std::ops::Range;
+
+use boltraven::lent;
+use on_call::model::problem::Problem;
+use on_call::model::Assignment;
+
+use super::inputs::Rota;
+use super::{row, Row, Side};
+use crate::limits::NOBODY;
+use crate::rotas::{self, LentRota};
+use crate::sets::has_bit;
+
+/// What is to be seen of a rota.
+#[derive(PartialEq)]
+struct Seen {
+    owners: Vec<u8>,
+    members: Vec<Vec<usize>>,
+    minutes: Vec<u64>,
+    answers: Vec<u8>,
+}
+
+/// What is to be seen of a lent rota, with the answers to its draws.
+fn seen_of_lent(rota: &LentRota) -> Seen {
+    let (people, slots) = (rota.people, rota.starts.len());
+    let members = |person| (0..slots).filter(|&slot| has_bit(&rota.sets, person, slot)).collect();
+    Seen {
+        owners: rota.owners[..slots].to_vec(),
+        members: (0..people).map(members).collect(),
+        minutes: rota.minutes[..people].to_vec(),
+        answers: rota.answers[..rota.count].to_vec(),
+    }
+}
+
+/// What is to be seen of an assignment of the Rust, with the answers to its draws.
+fn seen_of_rust(problem: &Problem, assignment: &Assignment, answers: Vec<u8>) -> Seen {
+    let people = 0..problem.human_count();
+    let owner = |slot: &Option<usize>| slot.map_or(NOBODY, |person| person as u8);
+    Seen {
+        owners: assignment.slots().iter().map(owner).collect(),
+        members: people.clone().map(|person| assignment.slots_of(person).iter().collect()).collect(),
+        minutes: people.map(|person| assignment.assigned_minutes(person) as u64).collect(),
+        answers,
+    }
+}
+
+/// A rota lives as long as the program: both sides of a row read it.
+fn kept(rota: Rota) -> &'static Rota {
+    Box::leak(Box::new(rota))
+}
+
+/// The Rust's assignment before its draws.
+fn begun(rota: &Rota) -> Assignment {
+    rota.case.assignment(&rota.case.owners)
+}
+
+// ---- from_slots
+
+fn lent_from_slots(rota: &mut LentRota) {
+    let done = lent::from_slots(
+        rota.people,
+        rota.starts.len(),
+        &rota.starts,
+        &rota.ends,
+        &rota.avail,
+        &rota.owners,
+        &mut rota.sets,
+        &mut rota.minutes,
+    );
+    done.expect("nothing is refused");
+}
+
+/// A rota made of its owners.
+pub fn from_slots(rota: Rota) -> Row {
+    let rota = kept(rota);
+    let ours = Side {
+        fresh: Box::new(|| {
+            let mut empty = rota.lent.clone();
+            empty.sets.fill(0);
+            empty.minutes.fill(0);
+            empty
+        }),
+        run: Box::new(|rota: &mut LentRota| lent_from_slots(black_box(rota))),
+        seen: Box::new(seen_of_lent),
+    };
+    let rust = Side {
+        fresh: Box::new(|| (Some(begun(rota).slots().to_vec()), None)),
+        run: Box::new(|(owners, made): &mut (Option<Vec<Option<usize>>>, Option<Assignment>)| {
+            let owners = owners.take().expect("it runs once");
+            *made = Some(Assignment::from_slots(black_box(&rota.case.problem), owners));
+        }),
+        seen: Box::new(|(_, made): &(Option<Vec<Option<usize>>>, Option<Assignment>)| {
+            let made = made.as_ref().expect("it was made");
+            seen_of_rust(&rota.case.problem, made, rota.lent.answers[..rota.lent.count].to_vec())
+        }),
+    };
+    row(ours, rust)
+}
+
+// ---- recounts
+
+fn lent_recount(rota: &LentRota) -> bool {
+    let told = lent::recount(
+        rota.people,
+        rota.starts.len(),
+        rota.units,
+        &rota.starts,
+        &rota.ends,
+        &rota.avail,
+        &rota.firsts,
+        &rota.owners,
+        &rota.sets,
+        &rota.minutes,
+    );
+    told.is_ok()
+}
+
+/// The recount in the Rust's terms, which has none: every owner known and available, one owner a unit, and a rota made anew of the owners
+/// with the same sets and minutes.
+fn rust_recount(problem: &Problem, assignment: &Assignment) -> bool {
+    let owners = assignment.slots();
+    let can = |person: usize, slot: usize| person < problem.human_count() && problem.is_available(person, slot);
+    let may_be = |(slot, owner): (usize, &Option<usize>)| owner.map_or(true, |person| can(person, slot));
+    let one_owner = |unit: &Range<usize>| owners[unit.clone()].iter().all(|owner| *owner == owners[unit.start]);
+    owners.iter().enumerate().all(may_be)
+        && problem.units.iter().all(one_owner)
+        && Assignment::from_slots(problem, owners.to_vec()) == *assignment
+}
+
+/// The verdict of each side on its rota: whether it is right.
+fn judged(rota: &'static Rota, ours: fn(&Rota, &mut LentRota) -> bool, rust: fn(&Problem, &Assignment) -> bool) -> Row {
+    let ours = Side {
+        fresh: Box::new(|| (rota.lent.clone(), false)),
+        run: Box::new(move |(lent, is_right): &mut (LentRota, bool)| *is_right = ours(rota, black_box(lent))),
+        seen: Box::new(|(_, is_right): &(LentRota, bool)| *is_right),
+    };
+    let rust = Side {
+        fresh: Box::new(|| (begun(rota), false)),
+        run: Box::new(move |(assignment, is_right): &mut (Assignment, bool)| *is_right = rust(&rota.case.problem, black_box(assignment))),
+        seen: Box::new(|(_, is_right): &(Assignment, bool)| *is_right),
+    };
+    row(ours, rust)
+}
+
+/// The recount, as a play asks it first.
+pub fn recount(rota: Rota) -> Row {
+    judged(kept(rota), |_, lent| lent_recount(lent), rust_recount)
+}
+
+/// Who can cover each unit, as the Rust works it out when a problem is built.
+fn rust_domains(problem: &Problem) -> Vec<Vec<usize>> {
+    let can = |person: usize, unit: &Range<usize>| unit.clone().all(|slot| problem.is_available(person, slot));
+    let domain = |unit| (0..problem.human_count()).filter(|&person| can(person, unit)).collect();
+    problem.units.iter().map(domain).collect()
+}
+
+/// What a play does before its first draw: the recount, and who can cover which unit.
+pub fn no_draws(rota: Rota) -> Row {
+    judged(
+        kept(rota),
+        |rota, lent| lent_play(rota, lent, 0),
+        |problem, assignment| rust_recount(problem, assignment) && rust_domains(problem) == problem.unit_domains,
+    )
+}
+
+// ---- plays
+
+/// The first draws of the list; whether it was accepted.
+fn lent_play(rota: &Rota, lent: &mut LentRota, draws: usize) -> bool {
+    let [kinds, ones, twos] = &rota.columns;
+    let told = lent::play(
+        lent.people,
+        lent.starts.len(),
+        lent.units,
+        draws,
+        &lent.starts,
+        &lent.ends,
+        &lent.avail,
+        &lent.firsts,
+        &lent.frozen,
+        &mut lent.owners,
+        &mut lent.sets,
+        &mut lent.minutes,
+        kinds,
+        ones,
+        twos,
+        &mut lent.answers,
+    );
+    told.is_ok()
+}
+
+/// All draws of a rota.
+pub fn play(rota: Rota) -> Row {
+    let rota = kept(rota);
+    let ours = Side {
+        fresh: Box::new(|| rota.lent.clone()),
+        run: Box::new(|lent: &mut LentRota| assert!(lent_play(rota, black_box(lent), rota.lent.count), "nothing is refused")),
+        seen: Box::new(seen_of_lent),
+    };
+    let rust = Side {
+        fresh: Box::new(|| (begun(rota), vec![])),
+        run: Box::new(|(assignment, answers): &mut (Assignment, Vec<u8>)| {
+            *answers = rotas::play(&rota.case.problem, black_box(assignment), &rota.case.draws);
+        }),
+        seen: Box::new(|(assignment, answers): &(Assignment, Vec<u8>)| seen_of_rust(&rota.case.problem, assignment, answers.clone())),
+    };
+    row(ours, rust)
+}

@@ -1,0 +1,65 @@
+//! Rows of questions of a set.
+
+use std::hint::black_box;
+
+use boltraven::lent;
+use on_call::model::assignment::SlotSet;
+
+use super::inputs::Set;
+use super::{row, Row, Side};
+use crate::limits::SLOTS_MOST;
+
+/// How often a question of a set is asked, at every slot each time.
+const ROUNDS: usize = 16;
+
+/// One side's question of its set, asked at every slot, round after round; what is to be seen are the answers of one round.
+fn side<S: ?Sized, A: 'static>(set: &'static S, ask: impl Fn(&S, usize) -> A + Copy + 'static) -> Side<(), Vec<A>> {
+    Side {
+        fresh: Box::new(|| ()),
+        run: Box::new(move |()| {
+            for slot in (0..ROUNDS).flat_map(|_| 0..SLOTS_MOST) {
+                black_box(ask(black_box(set), black_box(slot)));
+            }
+        }),
+        seen: Box::new(move |()| (0..SLOTS_MOST).map(|slot| ask(set, slot)).collect()),
+    }
+}
+
+/// A question of a set, of each side in its own way, which may be inlined.
+fn asked<A: PartialEq + 'static>(
+    set: Set,
+    ours: impl Fn(&[u64], usize) -> A + Copy + 'static,
+    rust: impl Fn(&SlotSet, usize) -> A + Copy + 'static,
+) -> Row {
+    let set: &'static Set = Box::leak(Box::new(set));
+    row(side(&set.words[..], ours), side(&set.rust, rust))
+}
+
+pub fn next_set(set: Set) -> Row {
+    asked(
+        set,
+        |words, slot| lent::next_set(words, 1, 0, SLOTS_MOST, slot).expect("nothing is refused"),
+        |rust, slot| rust.next_set(slot),
+    )
+}
+
+pub fn run_bounds(set: Set) -> Row {
+    asked(
+        set,
+        |words, slot| {
+            let (mut first, mut last) = (0, 0);
+            let told = lent::run_bounds(words, 1, 0, SLOTS_MOST, slot, &mut first, &mut last);
+            let is_member = told.expect("nothing is refused");
+            is_member.then_some((first as usize, last as usize))
+        },
+        |rust, slot| rust.run_bounds(slot),
+    )
+}
+
+pub fn count(set: Set) -> Row {
+    asked(
+        set,
+        |words, _| lent::count(words, 1, 0, SLOTS_MOST).expect("nothing is refused"),
+        |rust, _| rust.count(),
+    )
+}
