@@ -120,6 +120,7 @@ fn main() -> ExitCode {
             Err(_) => usage(),
         },
         ["limits"] => write_out(&jobs::JobCase::at_every_limit().file()),
+        ["longest"] => ended(jobs::longest()),
         ["time", n] => match n.parse() {
             Ok(n) => ended(jobs::time(n)),
             Err(_) => usage(),

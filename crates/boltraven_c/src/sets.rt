@@ -13,11 +13,12 @@ use slotset::row;
 ghost use mathlib.Core.Path.{_≡_};
 ghost use Rattle.slotset.specs.Slots.{has, size, noMember, valueOf};
 ghost use Rattle.slotset.specs.Search.{nextSet, prevSet, nextUnsetAfter, prevUnsetBefore};
-ghost use Rattle.slotset.specs.Answers.{rowNo, rowStretchNo, rowSlots, foundAs, toldAs, countedAs, rowStretchOf};
+ghost use Rattle.slotset.specs.Answers.{rowNo, rowStretchNo, rowSlots, foundAs, toldAs, countedAs, rowRun, rowNextRun, rowNextMember};
+ghost use Rattle.slotset.specs.Answers.{rowStretchOf};
 ghost use Rattle.boltraven_c.specs.Numbers.{foundNumber, toldNumber, countedNumber, runNumber, runFirst, runLast};
 ghost use Rattle.boltraven_c.specs.Numbers.{nextRunNumber, nextRunFirst, nextRunLast, nextRunCursor};
 ghost use Rattle.boltraven_c.specs.Numbers.{memberNumber, memberAt, memberCursor};
-ghost use Rattle.boltraven_c.specs.Sets.{rowRun, rowNextRun, rowNextMember, rowPutNo, rowPutOf};
+ghost use Rattle.boltraven_c.specs.Sets.{rowPutNo, rowPutOf};
 
 // The answers as numbers.
 fn found_number(found: Found) -> u64

@@ -4,12 +4,8 @@ use Prim.Native.Nat.{ℕ}
 use denote.Ref.{RefT, now}
 use Rattle.slotset.specs.declared.NextRun.{NextRun}
 use Rattle.slotset.specs.declared.NextRun.the-variants.{Span, Done, Refused}
-use Rattle.slotset.specs.Answers.{rowNo, rowSlots, nextRunAs}
+use Rattle.slotset.specs.Answers.{rowNextRun}
 use Rattle.runs.specs.declared.Runs.{Runs}
-
--- the answer of the cursor by value
-abbrev pub runFrom : List ℕ → ℕ → ℕ → ℕ → ℕ → NextRun
-runFrom ws people person len at = nextRunAs (rowNo ws people person len) (rowSlots ws person) len at
 
 -- where a cursor stands after an answer: one past the run given, else where it stood
 abbrev pub cursorAfter : NextRun → ℕ → ℕ
@@ -27,4 +23,4 @@ movedTo d at = record { words = d .words; people = d .people; person = d .person
 
 -- what a reader gives next: that of the cursor by value, at what the reader holds
 abbrev pub nextOf : Runs → NextRun
-nextOf d = runFrom (now (d .words)) (d .people) (d .person) (d .len) (d .at)
+nextOf d = rowNextRun (now (d .words)) (d .people) (d .person) (d .len) (d .at)

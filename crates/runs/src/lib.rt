@@ -7,9 +7,9 @@ use slotset::row;
 ghost use mathlib.Core.Path.{_≡_};
 ghost use Prim.Native.Nat.{_≤_};
 ghost use lib.ListN.{length};
-ghost use Rattle.slotset.specs.Answers.{rowNo};
+ghost use Rattle.slotset.specs.Answers.{rowNo, rowNextRun};
 ghost use Rattle.runs.specs.Listed.{listNo, column, runsOf, allRunsOf};
-ghost use Rattle.runs.specs.Reader.{runFrom, cursorAfter, readerOf, movedTo, nextOf};
+ghost use Rattle.runs.specs.Reader.{cursorAfter, readerOf, movedTo, nextOf};
 
 // The lent words, a set a person; how many people; whose set is read; its length; and where the reader stands.
 pub struct Runs<'a> {
@@ -22,7 +22,7 @@ pub struct Runs<'a> {
 
 // The next run from `at` on.
 fn run_at(words: &[u64], people: usize, person: usize, len: usize, at: usize) -> NextRun
-    ensures { λ r. ⌜ r ≡ runFrom (now (words .entry)) people person len at ⌝ }
+    ensures { λ r. ⌜ r ≡ rowNextRun (now (words .entry)) people person len at ⌝ }
 {
     row::next_run(words, people, person, len, Cursor { at })
 }
@@ -89,7 +89,7 @@ impl<'a> Runs<'a> {
 
 // The next run from `at` on, by a reader made for it. Its parameters are plain, so whoever calls it needs no walk.
 pub fn run_from(words: &[u64], people: usize, person: usize, len: usize, at: usize) -> NextRun
-    ensures { λ r. ⌜ r ≡ runFrom (now (words .entry)) people person len at ⌝ }
+    ensures { λ r. ⌜ r ≡ rowNextRun (now (words .entry)) people person len at ⌝ }
 {
     Runs::new(words, people, person, len).moved(at).next()
 }

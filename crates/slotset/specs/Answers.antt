@@ -89,6 +89,16 @@ memberStep (found.Refused n) = nextMember.Refused n
 unfoldable pub nextMemberAs : ℕ → (ℕ → ℕ) → ℕ → ℕ → NextMember
 nextMemberAs n f len at = cond (eqb n 0) (memberStep (nextSet f len at)) (nextMember.Refused n)
 
+-- of a person's row: the run that holds slot i; the next run and the next member from a cursor on
+abbrev pub rowRun : List ℕ → ℕ → ℕ → ℕ → ℕ → Run
+rowRun ws people person len i = runAs (rowNo ws people person len) (rowSlots ws person) len i
+
+abbrev pub rowNextRun : List ℕ → ℕ → ℕ → ℕ → ℕ → NextRun
+rowNextRun ws people person len at = nextRunAs (rowNo ws people person len) (rowSlots ws person) len at
+
+abbrev pub rowNextMember : List ℕ → ℕ → ℕ → ℕ → ℕ → NextMember
+rowNextMember ws people person len at = nextMemberAs (rowNo ws people person len) (rowSlots ws person) len at
+
 -- ---- a set handed back: changed, or as it was
 
 unfoldable pub changedAs : ℕ → SlotSet → List ℕ → Changed

@@ -15,7 +15,7 @@ ghost use lib.ListN.{length, take, drop};
 ghost use Rattle.slotset.specs.Slots.{has, size, noMember, valueOf};
 ghost use Rattle.slotset.specs.Search.{nextSet, prevSet, nextUnsetAfter, prevUnsetBefore};
 ghost use Rattle.slotset.specs.Answers.{rowNo, rowStretchNo, rowSlots, loadOf, storeOf, rowStretchOf};
-ghost use Rattle.slotset.specs.Answers.{foundAs, toldAs, countedAs, runAs, nextRunAs, nextMemberAs};
+ghost use Rattle.slotset.specs.Answers.{foundAs, toldAs, countedAs, rowRun, rowNextRun, rowNextMember};
 
 // Refusals 1, 2 and 11 of a row, or 0.
 fn row_no(words: &[u64], people: usize, person: usize, len: usize) -> u8
@@ -155,7 +155,7 @@ pub fn prev_unset_before(
 
 // The run that holds slot i.
 pub fn run_bounds(words: &[u64], people: usize, person: usize, len: usize, i: usize) -> Run
-    ensures { λ r. ⌜ r ≡ runAs (rowNo (now (words .entry)) people person len) (rowSlots (now (words .entry)) person) len i ⌝ }
+    ensures { λ r. ⌜ r ≡ rowRun (now (words .entry)) people person len i ⌝ }
 {
     let number = row_no(words, people, person, len);
     if number == 0 {
@@ -166,7 +166,7 @@ pub fn run_bounds(words: &[u64], people: usize, person: usize, len: usize, i: us
 
 // The reader of runs: the next one from the cursor on.
 pub fn next_run(words: &[u64], people: usize, person: usize, len: usize, c: Cursor) -> NextRun
-    ensures { λ r. ⌜ r ≡ nextRunAs (rowNo (now (words .entry)) people person len) (rowSlots (now (words .entry)) person) len (c .at) ⌝ }
+    ensures { λ r. ⌜ r ≡ rowNextRun (now (words .entry)) people person len (c .at) ⌝ }
 {
     let at = c.at;
     let number = row_no(words, people, person, len);
@@ -178,7 +178,7 @@ pub fn next_run(words: &[u64], people: usize, person: usize, len: usize, c: Curs
 
 // The reader of single members: the next one from the cursor on.
 pub fn next_member(words: &[u64], people: usize, person: usize, len: usize, c: Cursor) -> NextMember
-    ensures { λ r. ⌜ r ≡ nextMemberAs (rowNo (now (words .entry)) people person len) (rowSlots (now (words .entry)) person) len (c .at) ⌝ }
+    ensures { λ r. ⌜ r ≡ rowNextMember (now (words .entry)) people person len (c .at) ⌝ }
 {
     let at = c.at;
     let number = row_no(words, people, person, len);
