@@ -73,7 +73,7 @@ const ENOUGH: u64 = 100;
 /// How many differences of a kind are printed.
 const SHOWN: u64 = 20;
 
-const USAGE: &str = "usage: oracle compare N SEED KIND|every | case KIND CASE-SEED | days | time N
+const USAGE: &str = "usage: oracle compare N SEED KIND|every | case KIND CASE-SEED | days | longest | time N
        oracle program N SEED COMMAND.. | rules N SEED | store KIND N SEED FOLDER
        oracle job SEED | listing SEED | limits | listing-of FILE | moves BLOCKS DRAWS SEED FILE
        oracle bench rows | bench SEED [COUNTS] | bench SEED ROW ours|rust TURNS";
