@@ -11,7 +11,7 @@ use borrow.Author.Tests.{eqb-true, eqb-false}
 use lib.Dec.{eqb}
 use lib.ListN.{length, drop, getD, set, length-set, length-append, length-drop, List·getD-append}
 use lib.Seq.{getD-set-same, getD-set-other, getD-append-seam, drop-cons, set-append-seam, append-snoc, ext-getD}
-use Rattle.paper.specs.Count.{all, allIn, some, sum, count, over, fill, onto, among}
+use Rattle.paper.specs.Count.{all, allIn, some, sum, sumIn, count, over, fill, onto, among}
 use Rattle.paper.proofs.Logic.{by-test, below-suc, and-true, both, lt-or-ge, same-test, or-left, or-second, or-either}
 
 -- ---- a test at every number below n
@@ -172,6 +172,28 @@ pub sum-rises : (n d : ℕ) (f : ℕ → ℕ) → sum n f ≤ sum (n + d) f
 unfolding sum
 sum-rises n zero f = let e : n + 0 ≡ n = omega arith in omega (arith, ap (λ (x : ℕ). sum x f) e)
 sum-rises n (suc d) f = let e : n + suc d ≡ suc (n + d) = omega arith in omega (arith, sum-rises n d f, ap (λ (x : ℕ). sum x f) e)
+
+-- from a up to e
+pub sum-in-none : (a : ℕ) (f : ℕ → ℕ) → sumIn a a f ≡ 0
+unfolding sumIn
+sum-in-none a f = let z : a - a ≡ 0 = omega arith in ap (λ (n : ℕ). sum n (λ j. f (a + j))) z ∙ sum-none (λ j. f (a + j))
+
+pub sum-in-more : (a k : ℕ) (f : ℕ → ℕ) → a ≤ k → sumIn a (k + 1) f ≡ sumIn a k f + f k
+unfolding sumIn
+sum-in-more a k f h =
+    let z : k + 1 - a ≡ k - a + 1 = omega arith in
+    let y : a + (k - a) ≡ k = omega arith in
+    ap (λ (n : ℕ). sum n (λ j. f (a + j))) z ∙ sum-more (k - a) (λ j. f (a + j)) ∙ ap (λ (x : ℕ). sumIn a k f + f x) y
+
+pub sum-in-le : (a e : ℕ) (f : ℕ → ℕ) → a ≤ e → sumIn a e f ≤ sum e f
+unfolding sumIn sum
+sum-in-le a e f h =
+    let q : a + (e - a) ≡ e = omega arith in
+    omega (arith, sum-after a (e - a) f, ap (λ (n : ℕ). sum n f) q)
+  where
+    sum-after : (a n : ℕ) (f : ℕ → ℕ) → sum a f + sum n (λ j. f (a + j)) ≡ sum (a + n) f
+    sum-after a zero f = let e : a + 0 ≡ a = omega arith in omega (arith, ap (λ (x : ℕ). sum x f) e)
+    sum-after a (suc n) f = let e : a + suc n ≡ suc (a + n) = omega arith in omega (arith, sum-after a n f, ap (λ (x : ℕ). sum x f) e)
 
 -- ---- a list made anew
 

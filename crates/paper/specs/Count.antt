@@ -23,6 +23,10 @@ unfoldable pub sum : ℕ → (ℕ → ℕ) → ℕ
 sum zero f = 0
 sum (suc n) f = sum n f + f n
 
+-- the sum of f over the numbers from a up to e, without e
+unfoldable pub sumIn : ℕ → ℕ → (ℕ → ℕ) → ℕ
+sumIn a e f = sum (e - a) (λ j. f (a + j))
+
 -- how many numbers below n pass p
 unfoldable pub count : ℕ → (ℕ → Bool) → ℕ
 count n p = sum n (λ k. cond (p k) 1 0)

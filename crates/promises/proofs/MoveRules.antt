@@ -8,7 +8,8 @@ use Rattle.rota.specs.Moves.{firstOf, lastOf}
 use Rattle.rota.specs.Plays.{drawsOf}
 use Rattle.rota.specs.Entries.{Outcome}
 use Rattle.rota.specs.Acts as acts
-use Rattle.rota.proofs.Runs.{run-is, run-only}
+use Rattle.rota.proofs.Runs.{run-only}
+use Rattle.rota.proofs.Acts.{run-of}
 use Rattle.rota.proofs.Drawn.{draw-acts-exactly, handed-exactly}
 use Rattle.rota.proofs.HandsOver.{draw-keeps}
 use Rattle.rota.proofs.Promises.{answers-exactly, next-hands-over}
@@ -26,10 +27,6 @@ play-answers c e i h =
     (sym (ap (λ (y : Outcome). getD (y .answers) i 0) (accepted-is c e)))
     (answers-exactly (boardIn c) (c .owners) (c .kinds) (c .ones) (c .twos) (c .answers) (c .count) i h)
 
-run-found : (B : Board) (o : List ℕ) (u : ℕ) → u < B .units → RunOf (B .units) (ownerOf B o) u (firstOf B o u) (lastOf B o u)
-unfolding firstOf lastOf
-run-found B o u h = run-is (ownerOf B o) (B .units) u h
-
 run-one : (B : Board) (o : List ℕ) (u a b : ℕ) → u < B .units → RunOf (B .units) (ownerOf B o) u a b
     → (a ≡ firstOf B o u) × (b ≡ lastOf B o u)
 unfolding firstOf lastOf
@@ -44,6 +41,6 @@ moves-by-rule = record {
       (c .derived) (c .answers) (asks c e) (drawsOf (c .kinds) (c .ones) (c .twos) i) (drawAt c i) A k h;
   keeps = draw-keeps;
   handed = handed-exactly;
-  run = run-found;
+  run = run-of;
   one-run = run-one;
 }

@@ -6,7 +6,7 @@ use Prim.Native.Nat.{ℕ}
 use borrow.Author.Tests.{ne-eqb, eqb-true}
 use lib.Dec.{ltb, eqb}
 use lib.ListN.{length}
-use Rattle.paper.specs.Count.{onto}
+use Rattle.paper.specs.Count.{onto, over}
 use Rattle.paper.proofs.Logic.{by-test}
 use Rattle.slotset.specs.declared.Told.the-variants as told
 use Rattle.slotset.specs.declared.Counted.the-variants as counted
@@ -27,11 +27,13 @@ use Rattle.units.specs.Answers.{unitOfSlotIs}
 use Rattle.units.specs.Starts.{rotationStarts, unitStarts, startsNo, rotationStartsIs, unitStartsIs}
 use Rattle.units.specs.Days.{durationAs, coveredDaysIs, minutesPerDayIs, targetRunNo, targetRunIs}
 use Rattle.units.specs.Domains.{slotDomain, unitDomain, unitFrozenNo, unitFrozenIs, slotDomainNo, slotDomainIs, unitDomainNo, unitDomainIs}
+use Rattle.units.specs.Domains.{unitMask, unitDomainsNo, unitDomainsIs}
 use Rattle.units.specs.Achievable.{achievableRunNo, achievableRunIs}
 use Rattle.promises.specs.Table.{Row, row, rules, Hears, Refuses, toldNo, countedNo, minutesNo, numberNo, spanNo}
 use Rattle.promises.specs.Table.{durationNo}
 use Rattle.promises.specs.Refusals.{lentTable, mergedTable, atomiseTable, availabilityTable, freezeTable, availableTable, SlotsRefuse}
-use Rattle.promises.specs.Refusals.{unitsTable, startsTable, unitFrozenTable, slotDomainTable, unitDomainTable, targetRunTable}
+use Rattle.promises.specs.Refusals.{unitsTable, startsTable, unitFrozenTable, slotDomainTable, targetRunTable}
+use Rattle.promises.specs.Refusals.{unitDomainTable, unitDomainsTable}
 use Rattle.promises.specs.Refusals.{achievableTable, UnitsRefuse}
 use Rattle.promises.proofs.Table.{chain, rising, chain-heard, heard-as}
 
@@ -218,6 +220,15 @@ unfolding unitDomainIs unitDomainNo
 unit-domain-refuses avail people slots units firsts u list =
     written-refuses (unitDomainTable avail people slots units firsts u list) _ (unitDomain avail people slots units firsts u) list refl refl
 
+unit-domains-refuse : (avail : List ℕ) (people slots units : ℕ) (firsts masks : List ℕ)
+    → Refuses (rules (unitDomainsTable avail people slots units firsts masks)) (unitDomainsNo avail people slots units firsts masks) masks
+    (unitDomainsIs avail people slots units firsts masks)
+unfolding unitDomainsIs unitDomainsNo
+unit-domains-refuse avail people slots units firsts masks = record {
+  heard = chain-heard (unitDomainsTable avail people slots units firsts masks) refl;
+  kept = stays _ (over (unitMask avail people slots units firsts) units masks) masks;
+}
+
 module _ (slots : ℕ) (starts ends : List ℕ) where
   covered-heard : Hears (lentTable slots starts ends []) (numberNo (coveredDaysIs slots starts ends))
   unfolding coveredDaysIs
@@ -250,6 +261,7 @@ units-refuse = record {
   unit-frozen = λ frozen slots units firsts u. unit-frozen-heard slots units firsts frozen u;
   slot-domain = slot-domain-refuses;
   unit-domain = unit-domain-refuses;
+  unit-domains = unit-domains-refuse;
   covered-days = covered-heard;
   minutes-per-day = per-day-heard;
   target-run = target-run-heard;

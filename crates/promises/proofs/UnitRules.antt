@@ -5,13 +5,13 @@ use mathlib.Core.List.{List}
 use mathlib.Core.Logic.{_↔_, _≢_}
 use Prim.Native.Nat.{ℕ, zero, suc, _+_, _*_, _/_, _%_, _≤_, _<_, max, min}
 use native.Mathlib.Omega.{arith}
-use borrow.Author.Tests.{eq-eqb, ne-eqb, eqb-true, eqb-false}
-use lib.Dec.{eqb}
+use borrow.Author.Tests.{eq-eqb, ne-eqb, eqb-true, eqb-false, lt-ltb, ltb-true}
+use lib.Dec.{eqb, ltb}
 use lib.ListN.{length, getD}
 use Rattle.paper.specs.Bits.{bitOf}
 use Rattle.paper.specs.Count.{count, among, onto}
 use Rattle.paper.proofs.Logic.{both, and-true}
-use Rattle.paper.proofs.Count.{some-one, some-here, among-each, among-at, among-rises}
+use Rattle.paper.proofs.Count.{some-one, some-here, in-each, each-in, among-each, among-at, among-rises}
 use Rattle.slotset.specs.Slots.{slot}
 use Rattle.slots.specs.Lent.{minutesAt, demandOf}
 use Rattle.units.specs.declared.Settings.{Settings}
@@ -21,12 +21,13 @@ use Rattle.units.specs.Units.{unitStart, unitEnd, unitsOk, unitOf, InUnit}
 use Rattle.units.specs.Starts.{startDate, everyBegins, dayBegins, rotationBegins, unitBegins, rotationStarts, unitStarts, startsNo}
 use Rattle.units.specs.Starts.{rotationStartsIs, unitStartsIs}
 use Rattle.units.specs.Days.{covers, datesMost, coveredDays, minutesPerDay, targetRun}
-use Rattle.units.specs.Domains.{available, domain, unitDomain, clear, unitFrozen}
+use Rattle.units.specs.Domains.{available, able, domain, unitDomain, inMask, unitDomainsNo, unitDomainsIs, clear, unitFrozen}
 use Rattle.units.specs.Achievable.{Longest, longestRun, achievable, achievableRun}
 use Rattle.units.proofs.Units.{unit-of-in, unit-of-only}
 use Rattle.units.proofs.Rising.{rotation-starts-right, unit-starts-right}
 use Rattle.units.proofs.Begins.{every-multiple, multiple-every, day-first}
-use Rattle.units.proofs.Means.{domain-each, domain-all, domain-rises, clear-each, frozen-any}
+use Rattle.units.proofs.Sets.{unit-domains-say}
+use Rattle.units.proofs.Means.{domain-each, domain-all, domain-rises, masks-at, clear-each, frozen-any}
 use Rattle.units.proofs.Longest.{longest-meets, longest-only}
 use Rattle.promises.specs.SetRules.{TheOne}
 use Rattle.promises.specs.UnitRules.{Listed, Began, UnitsByRule}
@@ -115,6 +116,21 @@ module _ (avail : List ℕ) (people slots units : ℕ) (firsts : List ℕ) (u : 
     domain-rises avail people a e,
   )
 
+  unit-masks : (masks : List ℕ) → unitDomainsNo avail people slots units firsts masks ≡ 0 → u < units
+      → let m = getD (unitDomainsIs avail people slots units firsts masks) u 0 in
+      (p : ℕ) → (bitOf m p ≡ 1) ↔ ((p < people) × ((k : ℕ) → a ≤ k → k < e → slot avail (16 * p) k ≡ 1))
+  unfolding inMask able available
+  unit-masks masks z h p =
+      let R = unit-domains-say avail people slots units firsts masks z in
+      let M = masks-at avail people slots units firsts masks (R .room) z u h .each p in (
+        λ q.
+            let x = both (ltb p people) _ (sym M ∙ eq-eqb _ 1 q) in
+            (ltb-true p people (x .0), λ k l g. eqb-true _ 1 (in-each a e (available avail p) (x .1) k l g)),
+        λ f.
+            eqb-true _ 1 (M ∙ and-true (ltb p people) _ (lt-ltb p people (f .0)) (each-in a e (available avail p)
+            (λ k l g. eq-eqb _ 1 (f .1 k l g)))),
+      )
+
   frozen-if : (fr : List ℕ) (k : ℕ) → a ≤ k → k < e → slot fr 0 k ≡ 1 → unitFrozen fr slots units firsts u ≡ true
   unfolding unitFrozen
   frozen-if fr k l h q = ap not (frozen-any fr a e k l h q)
@@ -176,6 +192,7 @@ units-by-rule = record {
   locked = locked-begins;
   tile = units-tile;
   domain = unit-domain;
+  domains = λ avail people slots units firsts masks z u h. unit-masks avail people slots units firsts u masks z h;
   frozen = λ fr slots units firsts u. frozen-if fr 0 slots units firsts u fr;
   not-frozen = λ fr slots units firsts u. frozen-only-if fr 0 slots units firsts u fr;
   covered = days-counted;

@@ -22,7 +22,7 @@ use Rattle.units.specs.Units.{unitsOk}
 use Rattle.units.specs.Answers.{unitCountIs, unitSlotsIs, unitOfSlotIs}
 use Rattle.units.specs.Starts.{rotationStartsIs, unitStartsIs}
 use Rattle.units.specs.Days.{coveredDaysIs, minutesPerDayIs, targetRunIs}
-use Rattle.units.specs.Domains.{unitFrozenIs, slotDomainIs, unitDomainIs}
+use Rattle.units.specs.Domains.{unitFrozenIs, slotDomainIs, unitDomainIs, unitDomainsNo, unitDomainsIs}
 use Rattle.units.specs.Achievable.{achievableRunIs}
 use Rattle.targets.specs.Figures.{allFiguresOk}
 use Rattle.targets.specs.Passes.{Beyond}
@@ -114,6 +114,11 @@ unitDomainTable avail people slots units firsts u list =
     row 1 (peopleOk people) ∷ row 1 (slotCountOk slots) ∷ row 2 (leb (16 * people) (length avail)) ∷ row 2 (leb units (length firsts))
     ∷ row 2 (leb people (length list)) ∷ row 9 (unitsOk slots units firsts) ∷ row 11 (ltb u units) ∷ []
 
+abbrev pub unitDomainsTable : List ℕ → ℕ → ℕ → ℕ → List ℕ → List ℕ → List Row
+unitDomainsTable avail people slots units firsts masks =
+    row 1 (peopleOk people) ∷ row 1 (slotCountOk slots) ∷ row 2 (leb (16 * people) (length avail)) ∷ row 2 (leb units (length firsts))
+    ∷ row 2 (leb units (length masks)) ∷ row 9 (unitsOk slots units firsts) ∷ []
+
 abbrev pub targetRunTable : Settings → ℕ → List ℕ → List ℕ → List Row
 targetRunTable s slots starts ends =
     row 1 (slotCountOk slots) ∷ row 2 (slotRoomOk slots starts ends) ∷ row 7 (settingsOk s) ∷ row 9 (slotsOk slots starts ends) ∷ []
@@ -144,6 +149,9 @@ pub record UnitsRefuse : Type 0 where
   pub unit-domain : (avail : List ℕ) (people slots units : ℕ) (firsts : List ℕ) (u : ℕ) (list : List ℕ)
       → let x = unitDomainIs avail people slots units firsts u list in
       Refuses (rules (unitDomainTable avail people slots units firsts u list)) (numberNo (x .answer)) list (x .buffer)
+  pub unit-domains : (avail : List ℕ) (people slots units : ℕ) (firsts masks : List ℕ)
+      → Refuses (rules (unitDomainsTable avail people slots units firsts masks)) (unitDomainsNo avail people slots units firsts masks) masks
+      (unitDomainsIs avail people slots units firsts masks)
   pub covered-days : (slots : ℕ) (starts ends : List ℕ)
       → Hears (lentTable slots starts ends []) (numberNo (coveredDaysIs slots starts ends))
   pub minutes-per-day : (slots : ℕ) (starts ends : List ℕ)

@@ -14,7 +14,7 @@ use Rattle.units.specs.Units.{unitStart, unitEnd, unitsOk, InUnit}
 use Rattle.units.specs.Starts.{startDate, everyBegins, dayBegins, rotationBegins, unitBegins, rotationStarts, unitStarts, startsNo}
 use Rattle.units.specs.Starts.{rotationStartsIs, unitStartsIs}
 use Rattle.units.specs.Days.{covers, datesMost, coveredDays, minutesPerDay, targetRun}
-use Rattle.units.specs.Domains.{available, domain, unitDomain, unitFrozen}
+use Rattle.units.specs.Domains.{available, domain, unitDomain, unitDomainsNo, unitDomainsIs, unitFrozen}
 use Rattle.units.specs.Achievable.{Longest, longestRun, achievableRun}
 use Rattle.promises.specs.SetRules.{TheOne}
 
@@ -59,6 +59,12 @@ pub record UnitsByRule : Type 0 where
       ((i : ℕ) → i < length l → (getD l i 0 < people) × ((k : ℕ) → a ≤ k → k < e → slot avail (16 * getD l i 0) k ≡ 1))
       × ((p : ℕ) → p < people → ((k : ℕ) → a ≤ k → k < e → slot avail (16 * p) k ≡ 1) → (i : ℕ) × (i < length l) × (getD l i 0 ≡ p))
       × ((i : ℕ) → suc i < length l → getD l i 0 < getD l (suc i) 0)
+  -- the domains of all units at once: in mask u bit p is 1 exactly when person p is in the domain of unit u
+  pub domains : (avail : List ℕ) (people slots units : ℕ) (firsts masks : List ℕ) → unitDomainsNo avail people slots units firsts masks ≡ 0
+      → (u : ℕ) → u < units
+      → let m = getD (unitDomainsIs avail people slots units firsts masks) u 0 in
+      (p : ℕ) → (bitOf m p ≡ 1)
+      ↔ ((p < people) × ((k : ℕ) → unitStart firsts u ≤ k → k < unitEnd slots units firsts u → slot avail (16 * p) k ≡ 1))
   -- "A unit is frozen if any slot is": if one is, and only if
   pub frozen : (fr : List ℕ) (slots units : ℕ) (firsts : List ℕ) (u k : ℕ) → unitStart firsts u ≤ k → k < unitEnd slots units firsts u
       → slot fr 0 k ≡ 1 → unitFrozen fr slots units firsts u ≡ true

@@ -66,7 +66,7 @@ another-says B w a b p = (
 )
 
 -- the run of a unit
-run-of : (B : Board) (o : List ℕ) (u : ℕ) → u < B .units → RunOf (B .units) (ownerOf B o) u (firstOf B o u) (lastOf B o u)
+pub run-of : (B : Board) (o : List ℕ) (u : ℕ) → u < B .units → RunOf (B .units) (ownerOf B o) u (firstOf B o u) (lastOf B o u)
 unfolding firstOf lastOf
 run-of B o u h = run-is (ownerOf B o) (B .units) u h
 
@@ -75,10 +75,10 @@ module _ (B : Board) (o : List ℕ) (f s : ℕ) where
   unfolding reassigned domainOf anyOf
   reassign-ruled =
       let q : ℕ → Bool = λ p. B .fits p f in
-      no-move-if _ _ _ (B .frozen f ∷ []) _ (λ A. simp (A .free)) (λ C. simp (C .free))
+      no-move-if _ _ _ (B .frozen f ∷ []) _ (λ A. simp (A .unfrozen)) (λ C. simp (C .unfrozen))
       (λ t.
-      let free = none-of (B .frozen f ∷ []) t 0 in
-      picks _ _ _ _ q (B .people) s (λ A. (A .to, A .chosen)) (λ C. C .outside) (λ c. record { free = free; outside = c })
+      let unfrozen = none-of (B .frozen f ∷ []) t 0 in
+      picks _ _ _ _ q (B .people) s (λ A. (A .to, A .chosen)) (λ C. C .outside) (λ c. record { unfrozen = unfrozen; outside = c })
       (λ p c.
       let same : (A : ReassignActs B o f s) → A .to ≡ p = λ A. chosen-one q (B .people) s (A .to) p (A .chosen) c in
       let within = chosen-at q (B .people) s p c in
@@ -86,7 +86,7 @@ module _ (B : Board) (o : List ℕ) (f s : ℕ) where
       no-move-if _ _ _ (eqb p (ownerOf B o f) ∷ []) _ (λ A. simp (ne-eqb p (ownerOf B o f) (λ e. A .other (same A ∙ e))))
       (λ C. absurd (omega (arith, C .outside .beyond, within .0, count)))
       (λ n. moves _ _ _ _ refl
-      record { to = p; free = free; chosen = c; other = eqb-false _ _ (none-of (eqb p (ownerOf B o f) ∷ []) n 0) }
+      record { to = p; unfrozen = unfrozen; chosen = c; other = eqb-false _ _ (none-of (eqb p (ownerOf B o f) ∷ []) n 0) }
       (λ A. ap (give B f f) (sym (same A)))
       (λ C. omega (arith, C .outside .beyond, within .0, count)))))
 
@@ -96,8 +96,8 @@ module _ (B : Board) (o : List ℕ) (f s : ℕ) where
   swap-ruled =
       no-move-if _ _ _ (swapStays B o f s) _
       (λ A. simp (
-        A .first-free,
-        A .second-free,
+        A .first-unfrozen,
+        A .second-unfrozen,
         ne-eqb f s (A .two-units),
         has-owner B o f (A .first-owned),
         has-owner B o s (A .second-owned),
@@ -110,8 +110,8 @@ module _ (B : Board) (o : List ℕ) (f s : ℕ) where
       let t = none-of (swapStays B o f s) n in
       moves _ _ _ _ refl
       record {
-        first-free = t 0;
-        second-free = t 1;
+        first-unfrozen = t 0;
+        second-unfrozen = t 1;
         two-units = eqb-false _ _ (t 2);
         first-owned = owned B o f (t 3);
         second-owned = owned B o s (t 4);
@@ -145,7 +145,7 @@ module _ (B : Board) (o : List ℕ) (f : ℕ) where
 
   moves-said : f < B .units → B .frozen f ≡ false → unowned B o f ≡ false → not (movable B a b) ≡ false → RunMoves B o f a b
   moves-said h z n m =
-      record { free = z; owned = owned B o f n; run = run-of B o f h; clear = span-clear B a b (not-false _ m) }
+      record { unfrozen = z; owned = owned B o f n; run = run-of B o f h; clear = span-clear B a b (not-false _ m) }
 
   module _ (s : ℕ) (hf : f < B .units) where
     pub reassign-run-ruled : Ruled (ReassignRunActs B o f s) (ReassignRunOutside B o f s) (λ A. give B (A .first) (A .last) (A .to))
@@ -155,7 +155,12 @@ module _ (B : Board) (o : List ℕ) (f : ℕ) where
         let w = ownerOf B o f in
         let q = another B w a b in
         let ts : List Bool = B .frozen f ∷ unowned B o f ∷ not (movable B a b) ∷ [] in
-        let may : (x y : ℕ) → RunMoves B o f x y → anyOf ts ≡ false = λ x y M. simp (M .free, has-owner B o f (M .owned), may-move x y M) in
+        let may : (x y : ℕ) → RunMoves B o f x y → anyOf ts ≡ false = λ x y M. simp (
+          M .unfrozen,
+          has-owner B o f
+              (M .owned),
+          may-move x y M,
+        ) in
         let n = among-count q (B .people) in
         let there : ReassignRunOutside B o f s → Outside q (B .people) s = λ C.
         at-ends B o f (C .first) (C .last) (C .moves .run) (λ x y. Outside (another B w x y) (B .people) s) (C .outside) in
@@ -182,9 +187,9 @@ module _ (B : Board) (o : List ℕ) (f : ℕ) where
   boundary-said : f < B .units → (a ≡ 0 → ⊥) → B .frozen f ≡ false → (ownerOf B o f ≡ nobody → ⊥) → Boundary B o f (a - 1) b
   boundary-said h z c n =
       let e : a ≡ suc (a - 1) = omega arith in
-      record { free = c; owned = n; run = subst (λ (v : ℕ). RunOf (B .units) (ownerOf B o) f v b) e (run-of B o f h) }
+      record { unfrozen = c; owned = n; run = subst (λ (v : ℕ). RunOf (B .units) (ownerOf B o) f v b) e (run-of B o f h) }
 
-  module _ (s : ℕ) (hf : f < B .units) (free : B .frozen f ≡ false) (own : ownerOf B o f ≡ nobody → ⊥) where
+  module _ (s : ℕ) (hf : f < B .units) (unfrozen : B .frozen f ≡ false) (own : ownerOf B o f ≡ nobody → ⊥) where
     grow-ruled : s ≡ 1 → Ruled (GrowActs B o f s) ⊥ (λ G. give B (G .before) (G .before) (ownerOf B o f)) (grown B (ownerOf B o f) a)
     unfolding grown anyOf
     grow-ruled c =
@@ -194,7 +199,7 @@ module _ (B : Board) (o : List ℕ) (f : ℕ) where
         no-move-if _ _ _ ts _
         (λ G. simp (
           ne-eqb a 0 (λ z. omega (arith, boundary-at (G .before) (G .last) (G .boundary))),
-          ap (B .frozen) (same G) ∙ G .before-free,
+          ap (B .frozen) (same G) ∙ G .before-unfrozen,
           ap (B .fits w) (same G) ∙ G .fits,
         )) (λ x. absurd x)
         (λ e.
@@ -204,8 +209,8 @@ module _ (B : Board) (o : List ℕ) (f : ℕ) where
           choice = c;
           before = a - 1;
           last = b;
-          boundary = boundary-said hf (eqb-false _ _ (t 0)) free own;
-          before-free = t 1;
+          boundary = boundary-said hf (eqb-false _ _ (t 0)) unfrozen own;
+          before-unfrozen = t 1;
           fits = not-false _ (t 2);
         } (λ G. ap (λ (v : ℕ). give B v v w) (same G)) (λ x. x))
 
@@ -225,7 +230,7 @@ module _ (B : Board) (o : List ℕ) (f : ℕ) where
           ne-eqb a 0 (λ z. omega (arith, at G)),
           ne-eqb a b (λ z. omega (arith, at G, end G, G .more)),
           has-owner B o (a - 1) (λ z. G .before-owned (sym (who G) ∙ z)),
-          ap (B .frozen) (sym (at G)) ∙ G .first-free,
+          ap (B .frozen) (sym (at G)) ∙ G .first-unfrozen,
           ap₂ (B .fits) (who G) (sym (at G)) ∙ G .fits,
         )) (λ x. absurd x)
         (λ e.
@@ -237,10 +242,10 @@ module _ (B : Board) (o : List ℕ) (f : ℕ) where
           choice = c;
           before = a - 1;
           last = b;
-          boundary = boundary-said hf z free own;
+          boundary = boundary-said hf z unfrozen own;
           more = omega (arith, R .from, R .to, eqb-false a b (t 1));
           before-owned = owned B o (a - 1) (t 2);
-          first-free = ap (B .frozen) first ∙ t 3;
+          first-unfrozen = ap (B .frozen) first ∙ t 3;
           fits = ap (B .fits w) first ∙ not-false _ (t 4);
         }
         (λ G. ap₂ (λ (x y : ℕ). give B x x (ownerOf B o y)) (sym (at G)) (same G)) (λ x. x))
@@ -261,17 +266,17 @@ module _ (B : Board) (o : List ℕ) (f s : ℕ) (hf : f < B .units) where
   ruled-by-second : B .frozen f ≡ false → (ownerOf B o f ≡ nobody → ⊥) → s ≤ 1
       → Ruled Sides (ShiftOutside B o f s) (shift-does B o f s)
       (cond (eqb s 1) (grown B (ownerOf B o f) (firstOf B o f)) (shrunk B o (firstOf B o f) (lastOf B o f)))
-  ruled-by-second free own low =
+  ruled-by-second unfrozen own low =
       either _ _ _ (eqb s 1) _ _
       (λ t.
       let c = eqb-true s 1 t in
       said-as _ _ _ _ _ _ _ inl (as-grow c) (as-grow-same c) (λ x. absurd x) (λ C. omega (arith, C .beyond))
-      (grow-ruled B o f s hf free own c))
+      (grow-ruled B o f s hf unfrozen own c))
       (λ t.
       let n = eqb-false s 1 t in
       let c : s ≡ 0 = omega arith in
       said-as _ _ _ _ _ _ _ inr (as-shrink c) (as-shrink-same c) (λ x. absurd x) (λ C. omega (arith, C .beyond))
-      (shrink-ruled B o f s hf free own c))
+      (shrink-ruled B o f s hf unfrozen own c))
     where
       as-grow : s ≡ 1 → Sides → GrowActs B o f s
       as-grow c (inl G) = G
@@ -294,20 +299,20 @@ module _ (B : Board) (o : List ℕ) (f s : ℕ) (hf : f < B .units) where
   unfolding shifted anyOf
   shift-ruled =
       let ts : List Bool = B .frozen f ∷ unowned B o f ∷ [] in
-      no-move-if _ _ _ ts _ (λ x. may (free-of x) (owned-of x)) (λ C. may (C .free) (C .owned))
+      no-move-if _ _ _ ts _ (λ x. may (unfrozen-of x) (owned-of x)) (λ C. may (C .unfrozen) (C .owned))
       (λ e.
       let t = none-of ts e in
       let own = owned B o f (t 1) in
       outside-if _ _ _ (ltb 1 s ∷ []) _ (λ x. simp (low x))
-      (λ u. record { free = t 0; owned = own; beyond = ltb-true 1 s (first-of (ltb 1 s) u) })
+      (λ u. record { unfrozen = t 0; owned = own; beyond = ltb-true 1 s (first-of (ltb 1 s) u) })
       (λ n. ruled-by-second (t 0) own (ltb-false 1 s (none-of (ltb 1 s ∷ []) n 0))))
     where
       may : B .frozen f ≡ false → (ownerOf B o f ≡ nobody → ⊥) → anyOf (B .frozen f ∷ unowned B o f ∷ []) ≡ false
       may c n = simp (c, has-owner B o f n)
 
-      free-of : Sides → B .frozen f ≡ false
-      free-of (inl G) = G .boundary .free
-      free-of (inr G) = G .boundary .free
+      unfrozen-of : Sides → B .frozen f ≡ false
+      unfrozen-of (inl G) = G .boundary .unfrozen
+      unfrozen-of (inr G) = G .boundary .unfrozen
 
       owned-of : Sides → ownerOf B o f ≡ nobody → ⊥
       owned-of (inl G) = G .boundary .owned
@@ -341,8 +346,8 @@ module _ (B : Board) (o : List ℕ) (f s : ℕ) (hf : f < B .units) where
         same-ends B o s (A .first2) (A .last2) (A .moves2 .run) in
         no-move-if _ _ _ ts _
         (λ A. simp (
-          A .moves .free,
-          A .moves2 .free,
+          A .moves .unfrozen,
+          A .moves2 .unfrozen,
           has-owner B o f (A .moves .owned),
           has-owner B o s (A .moves2 .owned),
           ne-eqb a c (λ e. A .two-runs (one A .0 ∙ e ∙ sym (two A .0))),

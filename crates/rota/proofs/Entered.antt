@@ -297,8 +297,8 @@ module _ (P : Plan) (avail : List ℕ) (units : ℕ) (firsts frozen : List ℕ) 
     pub asks-fits : (fits : List ℕ) → fits ≡ unitDomainsIs avail (P .people) (P .slots) units firsts (replicate 1024 0)
         → FitsRight (P .people) (P .slots) units avail firsts fits
     asks-fits fits e =
-        let r = length-replicate {A = ℕ} 1024 0 in
-        fits-right (P .people) (P .slots) units avail firsts fits 1024 asks-few (asks-domains (replicate 1024 0) (omega (arith, asks-few, r))) e
+        let h : units ≤ length (replicate {A = ℕ} 1024 0) = omega (arith, asks-few, length-replicate {A = ℕ} 1024 0) in
+        fits-right (P .people) (P .slots) units avail firsts fits 1024 h (asks-domains (replicate 1024 0) h) e
 
     pub asks-step : InStep P o D
     asks-step = recount-step P avail units firsts o D (A .grounds .on .room) (A .recount)

@@ -91,15 +91,16 @@ module _ (B : Board) (o : List ℕ) (d : Draw) (E : Even B o) where
   -- a draw that acts does so lawfully
   does-lawful : (A : Acts B o d) → Lawful B o (handed B o d) (draw-does B o d A)
   does-lawful (reassigns k hf A) =
-      single B o H (d .first) (A .to) hf (A .chosen .known) (A .free) (A .chosen .passes)
+      single B o H (d .first) (A .to) hf (A .chosen .known) (A .unfrozen) (A .chosen .passes)
       (handed-exactly B o d (reassigns k hf A) (d .first) .1 refl)
   does-lawful (swaps k l hf hs A) =
       let f = d .first in
       let s = d .second in
       let n = handed-exactly B o d (swaps k l hf hs A) in
       record {
-        left = single B o H f (ownerOf B o s) hf (E .manned s hs (A .second-owned) .0) (A .first-free) (A .first-fits) (n f .1 (inl refl));
-        right = single B o H s (ownerOf B o f) hs (E .manned f hf (A .first-owned) .0) (A .second-free) (A .second-fits)
+        left = single B o H f (ownerOf B o s) hf (E .manned s hs (A .second-owned) .0) (A .first-unfrozen) (A .first-fits)
+            (n f .1 (inl refl));
+        right = single B o H s (ownerOf B o f) hs (E .manned f hf (A .first-owned) .0) (A .second-unfrozen) (A .second-fits)
             (n s .1 (inr refl));
         apart = λ u a b c e. A .two-units (omega arith);
       }
@@ -120,11 +121,11 @@ module _ (B : Board) (o : List ℕ) (d : Draw) (E : Even B o) where
       }
   does-lawful (grows k l hf A) =
       single B o H (A .before) (ownerOf B o (d .first)) (omega (arith, A .boundary .run .from)) (E .manned (d .first) hf (A .boundary
-      .owned) .0) (A .before-free) (A .fits) (handed-exactly B o d (grows k l hf A) (A .before) .1 refl)
+      .owned) .0) (A .before-unfrozen) (A .fits) (handed-exactly B o d (grows k l hf A) (A .before) .1 refl)
   does-lawful (shrinks k l hf A) =
       let b : A .before < B .units = omega (arith, A .boundary .run .from) in
       single B o H (suc (A .before)) (ownerOf B o (A .before)) (omega (arith, A .boundary .run .from)) (E .manned (A .before) b (A
-      .before-owned) .0) (A .first-free) (A .fits) (handed-exactly B o d (shrinks k l hf A) (suc (A .before)) .1 refl)
+      .before-owned) .0) (A .first-unfrozen) (A .fits) (handed-exactly B o d (shrinks k l hf A) (suc (A .before)) .1 refl)
 
 -- one that doesn't hands nothing over
 still-lawful : (B : Board) (o : List ℕ) (H : ℕ → Bool) (m : Move) → (answerOf m ≡ 0 → ⊥) → Lawful B o H m

@@ -10,7 +10,7 @@ use lib.Dec.{eqb, ltb}
 use lib.ListN.{length, getD, set}
 use lib.Seq.{getD-set-same, getD-set-other}
 use Rattle.paper.specs.Limits.{nobody}
-use Rattle.paper.specs.Count.{sum, fill}
+use Rattle.paper.specs.Count.{sum, sumIn, fill}
 use Rattle.paper.proofs.Logic.{by-test, or-right, lt-or-ge}
 use Rattle.paper.proofs.Count.{sum-same, sum-add, sum-change, sum-mono, sum-rises, length-fill, getD-fill-out}
 use Rattle.slots.specs.Lent.{demandOf}
@@ -161,5 +161,5 @@ fill-worked P o p a (suc n) old w h r s =
 pub worked-over : (P : Plan) (o : List ℕ) (p a e old w : ℕ) → a ≤ e → e ≤ P .slots → P .slots ≤ length o
     → ((k : ℕ) → a ≤ k → k < e → getD o k 0 ≡ old)
     → worked P (fill w a (e - a) o) p + portion old p (stretchMinutes P a e) ≡ worked P o p + portion w p (stretchMinutes P a e)
-unfolding stretchMinutes
+unfolding stretchMinutes sumIn
 worked-over P o p a e old w h g r s = fill-worked P o p a (e - a) old w (omega arith) r (λ k x y. s k x (omega arith))

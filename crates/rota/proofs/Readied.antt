@@ -5,18 +5,16 @@ use mathlib.Core.Bool.{Bool, true, false, cond, not, _&&_, _||_}
 use mathlib.Core.List.{List}
 use Prim.Native.Nat.{ℕ, _+_, _≤_, _<_}
 use native.Mathlib.Omega.{arith}
-use borrow.Author.Tests.{eq-eqb, eqb-true, eqb-false, lt-ltb, le-ltb}
+use borrow.Author.Tests.{eqb-true, eqb-false, lt-ltb, le-ltb}
 use lib.Dec.{eqb, ltb}
 use lib.ListN.{length, getD, set, replicate, getD-replicate, length-replicate, List·getD-eq-default}
 use lib.Seq.{getD-set-same, getD-set-other}
-use Rattle.paper.specs.Count.{over}
 use Rattle.paper.proofs.Bits.{bit-none}
-use Rattle.paper.proofs.Count.{getD-over, getD-over-out}
 use Rattle.paper.proofs.Logic.{by-test, lt-or-ge}
 use Rattle.units.specs.Units.{unitStart, unitEnd, unitsOk, unitOf}
-use Rattle.units.specs.Domains.{able, clear, clearIn, unitFrozen, inMask, unitMask, unitDomainsNo, unitDomainsIs}
+use Rattle.units.specs.Domains.{able, clear, clearIn, unitFrozen, inMask, unitDomainsNo, unitDomainsIs}
 use Rattle.units.proofs.Sets.{clear-known}
-use Rattle.units.proofs.MaskBits.{mask-is}
+use Rattle.units.proofs.Means.{masks-at, masks-past}
 use Rattle.rota.specs.Board.{Board, BoardSound}
 use Rattle.rota.specs.Ready.{ready, fitsBy, frozenBy}
 use Rattle.rota.specs.Lent.{fitsUnit, frozenUnit, boardOf, markOf, FitsRight, FrozenRight}
@@ -62,73 +60,67 @@ module _ (r g : ℕ → Bool) where
       ∙ ap (λ (b : Bool). b && g u) (sym (below-more u i ∙ ap (λ (x : Bool). ltb u i || x) f ∙ mathlib.Core.Bool.or-false (ltb u i))))
 
 -- the masks of everybody's domains, written over zeros
-pub fits-right : (people slots units : ℕ) (av firsts fits : List ℕ) (n : ℕ) → units ≤ n
-    → unitDomainsNo av people slots units firsts (replicate n 0) ≡ 0 → fits ≡ unitDomainsIs av people slots units firsts (replicate n 0)
-    → FitsRight people slots units av firsts fits
-unfolding fitsBy inMask fitsUnit unitDomainsIs unitMask
-fits-right people slots units av firsts fits n h z e =
+pub fits-right : (people slots units : ℕ) (avail firsts fits : List ℕ) (n : ℕ) → units ≤ length (replicate {A = ℕ} n 0)
+    → unitDomainsNo avail people slots units firsts (replicate n 0) ≡ 0 → fits ≡ unitDomainsIs avail people slots units firsts
+    (replicate n 0)
+    → FitsRight people slots units avail firsts fits
+unfolding fitsBy inMask fitsUnit
+fits-right people slots units avail firsts fits n h z e =
     record {
       each = λ p u.
-          ap (λ (l : List ℕ). inMask (getD l u 0) p) made
+          ap (λ (l : List ℕ). inMask (getD l u 0) p) e
           ∙ ⊎-elim
           (λ (b : u < units).
-          let a = able av (unitStart firsts u) (unitEnd slots units firsts u) in
-          ap (λ (m : ℕ). inMask m p) (getD-over mask units zeros u b (omega (arith, length-replicate {A = ℕ} n 0)))
-          ∙ mask-is a people .each p ∙ sym (ap (λ (t : Bool). t && (ltb p people && a p)) (lt-ltb u units b)))
+          masks-at avail people slots units firsts (replicate n 0) h z u b .each p
+          ∙ sym (ap (λ (t : Bool). t && (ltb p people && able avail (unitStart firsts u) (unitEnd slots units firsts u) p))
+          (lt-ltb u units b)))
           (λ (b : units ≤ u).
-          ap (λ (m : ℕ). inMask m p) (getD-over-out mask units zeros u b ∙ zero-at n u) ∙ nobody-in p
-          ∙ sym (ap (λ (t : Bool). t && (ltb p people && able av (unitStart firsts u) (unitEnd slots units firsts u) p)) (le-ltb u units b)))
+          ap (λ (m : ℕ). inMask m p) (masks-past avail people slots units firsts (replicate n 0) h z u b ∙ zero-at n u)
+          ∙ ap (λ (b : ℕ). eqb b 1) (bit-none p)
+          ∙ sym (ap (λ (t : Bool). t && (ltb p people && able avail (unitStart firsts u) (unitEnd slots units firsts u) p))
+          (le-ltb u units b)))
           (lt-or-ge u units);
     }
-  where
-    mask : ℕ → ℕ
-    mask = unitMask av people slots units firsts
 
-    zeros : List ℕ
-    zeros = replicate n 0
-
-    made : fits ≡ over mask units zeros
-    made = e ∙ simp (eq-eqb (unitDomainsNo av people slots units firsts zeros) 0 z)
-
-    nobody-in : (p : ℕ) → inMask 0 p ≡ false
-    nobody-in p = ap (λ (b : ℕ). eqb b 1) (bit-none p)
-
-module _ (slots units : ℕ) (firsts fr : List ℕ) where
+module _ (slots units : ℕ) (firsts frozen : List ℕ) where
   abbrev MarksTo : ℕ → List ℕ → Type 0
-  MarksTo i flags = (u : ℕ) → frozenBy flags u ≡ ltb u i && unitFrozen fr slots units firsts u
+  MarksTo i flags = (u : ℕ) → frozenBy flags u ≡ ltb u i && unitFrozen frozen slots units firsts u
 
   pub marks-none : (n : ℕ) → MarksTo 0 (replicate n 0)
   unfolding frozenBy
-  marks-none n = read-none (λ m. eqb m 1) (unitFrozen fr slots units firsts) n refl
+  marks-none n = read-none (λ m. eqb m 1) (unitFrozen frozen slots units firsts) n refl
 
   mark-says : (c : Bool) → eqb (cond c 0 1) 1 ≡ not c
   mark-says true = refl
   mark-says false = refl
 
   pub marks-more : (i a e m : ℕ) (flags : List ℕ) → i < length flags → a ≡ unitStart firsts i → e ≡ unitEnd slots units firsts i
-      → m ≡ markOf fr a e → MarksTo i flags → MarksTo (i + 1) (set flags i m)
+      → m ≡ markOf frozen a e → MarksTo i flags → MarksTo (i + 1) (set flags i m)
   unfolding frozenBy markOf unitFrozen
   marks-more i a e m flags h pa pe d F =
-      read-more (λ x. eqb x 1) (unitFrozen fr slots units firsts) i m flags h
-      (ap (λ (x : ℕ). eqb x 1) d ∙ mark-says (clear fr a e) ∙ ap not (ap₂ (clear fr) pa pe)) F
+      read-more (λ x. eqb x 1) (unitFrozen frozen slots units firsts) i m flags h
+      (ap (λ (x : ℕ). eqb x 1) d ∙ mark-says (clear frozen a e) ∙ ap not (ap₂ (clear frozen) pa pe)) F
 
-  pub marks-done : (flags : List ℕ) (i : ℕ) → i ≡ units → MarksTo i flags → FrozenRight slots units firsts fr flags
+  pub marks-done : (flags : List ℕ) (i : ℕ) → i ≡ units → MarksTo i flags → FrozenRight slots units firsts frozen flags
   unfolding frozenUnit
-  marks-done flags i q F = record { each = λ u. F u ∙ ap (λ (n : ℕ). ltb u n && unitFrozen fr slots units firsts u) q }
+  marks-done flags i q F = record { each = λ u. F u ∙ ap (λ (n : ℕ). ltb u n && unitFrozen frozen slots units firsts u) q }
 
-pub mark-clear : (fr : List ℕ) (a e : ℕ) (b : Bool) → e ≤ 1024 → 16 ≤ length fr → b ≡ clearIn fr a e → b ≡ true → 0 ≡ markOf fr a e
+pub mark-clear : (frozen : List ℕ) (a e : ℕ) (b : Bool) → e ≤ 1024 → 16 ≤ length frozen → b ≡ clearIn frozen a e → b ≡ true
+    → 0 ≡ markOf frozen a e
 unfolding markOf
-mark-clear fr a e b l room d t = sym (ap (λ (x : Bool). cond x 0 1) (sym (clear-known fr a e room l) ∙ sym d ∙ t))
+mark-clear frozen a e b l room d t = sym (ap (λ (x : Bool). cond x 0 1) (sym (clear-known frozen a e room l) ∙ sym d ∙ t))
 
-pub mark-set : (fr : List ℕ) (a e : ℕ) (b : Bool) → e ≤ 1024 → 16 ≤ length fr → b ≡ clearIn fr a e → b ≡ false → 1 ≡ markOf fr a e
+pub mark-set : (frozen : List ℕ) (a e : ℕ) (b : Bool) → e ≤ 1024 → 16 ≤ length frozen → b ≡ clearIn frozen a e → b ≡ false
+    → 1 ≡ markOf frozen a e
 unfolding markOf
-mark-set fr a e b l room d t = sym (ap (λ (x : Bool). cond x 0 1) (sym (clear-known fr a e room l) ∙ sym d ∙ t))
+mark-set frozen a e b l room d t = sym (ap (λ (x : Bool). cond x 0 1) (sym (clear-known frozen a e room l) ∙ sym d ∙ t))
 
 -- ---- the board
 
-pub board-is : (people slots units : ℕ) (av firsts fr fits flags : List ℕ) → FitsRight people slots units av firsts fits
-    → FrozenRight slots units firsts fr flags → ready people slots units firsts fits flags ≡ boardOf people slots units av firsts fr
-board-is people slots units av firsts fr fits flags F Z =
+pub board-is : (people slots units : ℕ) (avail firsts frozen fits flags : List ℕ) → FitsRight people slots units avail firsts fits
+    → FrozenRight slots units firsts frozen flags → ready people slots units firsts fits flags ≡ boardOf people slots units avail firsts
+    frozen
+board-is people slots units avail firsts frozen fits flags F Z =
     ap₂ {C = Board} (λ (f : ℕ → ℕ → Bool) (z : ℕ → Bool).
     record {
       people = people;
@@ -142,9 +134,9 @@ board-is people slots units av firsts fr fits flags F Z =
     (fun-ext (λ p. fun-ext (λ u. F .each p u))) (fun-ext (λ u. Z .each u))
 
 -- what the check of the units leaves known
-pub board-sound : (people slots units : ℕ) (av firsts fr : List ℕ) → people ≤ 32 → unitsOk slots units firsts ≡ true
-    → BoardSound (boardOf people slots units av firsts fr)
-board-sound people slots units av firsts fr few ok =
+pub board-sound : (people slots units : ℕ) (avail firsts frozen : List ℕ) → people ≤ 32 → unitsOk slots units firsts ≡ true
+    → BoardSound (boardOf people slots units avail firsts frozen)
+board-sound people slots units avail firsts frozen few ok =
     record {
       few = few;
       rising = λ u h. Rattle.units.proofs.Units.unit-some slots units firsts ok u h;

@@ -12,7 +12,8 @@ use lib.Seq.{getD-set-same, getD-set-other, ext-getD}
 use Rattle.paper.specs.Limits.{nobody}
 use Rattle.paper.specs.Count.{over, fill, sum}
 use Rattle.paper.proofs.Logic.{by-test, lt-or-ge}
-use Rattle.paper.proofs.Count.{sum-rises, over-again, over-right, length-over, getD-over, getD-over-out, length-fill, getD-fill-in, getD-fill-out}
+use Rattle.paper.proofs.Count.{sum-rises, sum-in-none, sum-in-more, sum-in-le, over-again, over-right, length-over, getD-over, getD-over-out}
+use Rattle.paper.proofs.Count.{length-fill, getD-fill-in, getD-fill-out}
 use Rattle.slotset.proofs.Puts.{Fit}
 use Rattle.slots.specs.Lent.{demandOf, minutesAt}
 use Rattle.slotset.specs.Slots.{valueOf}
@@ -242,36 +243,22 @@ pub row-none : (v w a e : ℕ) (ws : List ℕ) → w ≡ nobody → ws ≡ setFo
 unfolding setFor
 row-none v w a e ws h = simp (eq-eqb w nobody h)
 
-sum-after : (a n : ℕ) (f : ℕ → ℕ) → sum a f + sum n (λ j. f (a + j)) ≡ sum (a + n) f
-unfolding sum
-sum-after a zero f = let e : a + 0 ≡ a = omega arith in omega (arith, ap (λ (x : ℕ). sum x f) e)
-sum-after a (suc n) f = let e : a + suc n ≡ suc (a + n) = omega arith in omega (arith, sum-after a n f, ap (λ (x : ℕ). sum x f) e)
-
 pub stretch-le : (P : Plan) (a e : ℕ) → a ≤ e → e ≤ P .slots → stretchMinutes P a e ≤ demandOf (P .slots) (P .starts) (P .ends)
 unfolding stretchMinutes demandOf
 stretch-le P a e h g =
-    let x : a + (e - a) ≡ e = omega arith in
     let y : e + (P .slots - e) ≡ P .slots = omega arith in
     omega (
       arith,
-      sum-after a (e - a) (lengthAt P),
-      ap (λ (z : ℕ). sum z (lengthAt P)) x,
+      sum-in-le a e (lengthAt P) h,
       sum-rises e (P .slots - e) (lengthAt P),
       ap (λ (z : ℕ). sum z (lengthAt P)) y,
     )
 
 pub stretch-none : (P : Plan) (a : ℕ) → 0 ≡ stretchMinutes P a a
-unfolding stretchMinutes sum
-stretch-none P a = let z : a - a ≡ 0 = omega arith in sym (ap (λ (n : ℕ). sum n (λ j. lengthAt P (a + j))) z)
+unfolding stretchMinutes
+stretch-none P a = sym (sum-in-none a (lengthAt P))
 
 pub stretch-more : (P : Plan) (a k t m : ℕ) → a ≤ k → t ≡ stretchMinutes P a k → m ≡ minutesAt (P .starts) (P .ends) k → t + m ≡
     stretchMinutes P a (k + 1)
-unfolding stretchMinutes sum
-stretch-more P a k t m h p q =
-    let z : k + 1 - a ≡ suc (k - a) = omega arith in
-    let y : a + (k - a) ≡ k = omega arith in
-    omega (arith, p, q, ap (λ (n : ℕ). sum n (λ j. lengthAt P (a + j))) z, ap (lengthAt P) y)
-
-pub bit-of : (b : Bool) → valueOf b < 2
-bit-of true = omega arith
-bit-of false = omega arith
+unfolding stretchMinutes
+stretch-more P a k t m h p q = omega (arith, p, q, sum-in-more a k (lengthAt P) h)

@@ -33,19 +33,19 @@ pub record Outside (q : ℕ → Bool) (people choice : ℕ) : Type 0 where
 
 pub record ReassignActs (B : Board) (o : List ℕ) (f s : ℕ) : Type 0 where
   pub to : ℕ
-  pub free : B .frozen f ≡ false
+  pub unfrozen : B .frozen f ≡ false
   pub chosen : Chosen (λ p. B .fits p f) (B .people) s to
   pub other : to ≡ ownerOf B o f → ⊥
 
 pub record ReassignOutside (B : Board) (f s : ℕ) : Type 0 where
-  pub free : B .frozen f ≡ false
+  pub unfrozen : B .frozen f ≡ false
   pub outside : Outside (λ p. B .fits p f) (B .people) s
 
 -- ---- swap units: neither frozen, two units, both owned, by two people, each of whom fits the other's unit
 
 pub record SwapActs (B : Board) (o : List ℕ) (f s : ℕ) : Type 0 where
-  pub first-free : B .frozen f ≡ false
-  pub second-free : B .frozen s ≡ false
+  pub first-unfrozen : B .frozen f ≡ false
+  pub second-unfrozen : B .frozen s ≡ false
   pub two-units : f ≡ s → ⊥
   pub first-owned : ownerOf B o f ≡ nobody → ⊥
   pub second-owned : ownerOf B o s ≡ nobody → ⊥
@@ -57,7 +57,7 @@ pub record SwapActs (B : Board) (o : List ℕ) (f s : ℕ) : Type 0 where
 
 -- unit f is not frozen and is owned, its run is first to last, and no unit of it is frozen
 pub record RunMoves (B : Board) (o : List ℕ) (f first last : ℕ) : Type 0 where
-  pub free : B .frozen f ≡ false
+  pub unfrozen : B .frozen f ≡ false
   pub owned : ownerOf B o f ≡ nobody → ⊥
   pub run : RunOf (B .units) (ownerOf B o) f first last
   pub clear : (u : ℕ) → first ≤ u → u ≤ last → B .frozen u ≡ false
@@ -97,7 +97,7 @@ pub record SwapRunsActs (B : Board) (o : List ℕ) (f s : ℕ) : Type 0 where
 
 -- unit f is not frozen and is owned, and its run doesn't start at unit 0 but after unit `before`
 pub record Boundary (B : Board) (o : List ℕ) (f before last : ℕ) : Type 0 where
-  pub free : B .frozen f ≡ false
+  pub unfrozen : B .frozen f ≡ false
   pub owned : ownerOf B o f ≡ nobody → ⊥
   pub run : RunOf (B .units) (ownerOf B o) f (suc before) last
 
@@ -107,7 +107,7 @@ pub record GrowActs (B : Board) (o : List ℕ) (f s : ℕ) : Type 0 where
   pub before : ℕ
   pub last : ℕ
   pub boundary : Boundary B o f before last
-  pub before-free : B .frozen before ≡ false
+  pub before-unfrozen : B .frozen before ≡ false
   pub fits : B .fits (ownerOf B o f) before ≡ true
 
 -- second 0: the run has more than one unit, the predecessor is owned, the run's first unit is not frozen, and that owner fits it
@@ -118,11 +118,11 @@ pub record ShrinkActs (B : Board) (o : List ℕ) (f s : ℕ) : Type 0 where
   pub boundary : Boundary B o f before last
   pub more : suc before < last
   pub before-owned : ownerOf B o before ≡ nobody → ⊥
-  pub first-free : B .frozen (suc before) ≡ false
+  pub first-unfrozen : B .frozen (suc before) ≡ false
   pub fits : B .fits (ownerOf B o before) (suc before) ≡ true
 
 pub record ShiftOutside (B : Board) (o : List ℕ) (f s : ℕ) : Type 0 where
-  pub free : B .frozen f ≡ false
+  pub unfrozen : B .frozen f ≡ false
   pub owned : ownerOf B o f ≡ nobody → ⊥
   pub beyond : 1 < s
 

@@ -6,7 +6,7 @@ use Prim.Native.Nat.{ℕ, zero, suc, _+_, _-_, _*_, _≤_, _<_}
 use lib.Dec.{eqb, ltb}
 use lib.ListN.{length, getD, set, replicate}
 use Rattle.paper.specs.Limits.{nobody}
-use Rattle.paper.specs.Count.{sum, count, over, fill}
+use Rattle.paper.specs.Count.{sum, sumIn, count, over, fill}
 use Rattle.slotset.specs.Slots.{slot, putSlots}
 use Rattle.slots.specs.Lent.{minutesAt, SlotsSound}
 
@@ -94,7 +94,7 @@ moreAt w n m = cond (eqb w nobody) m (set m w (getD m w 0 + n))
 
 -- the minutes of slots a up to e
 unfoldable pub stretchMinutes : Plan → ℕ → ℕ → ℕ
-stretchMinutes P a e = sum (e - a) (λ j. lengthAt P (a + j))
+stretchMinutes P a e = sumIn a e (lengthAt P)
 
 -- what the checks leave known of the people and the lent slots
 pub record PlanSound (P : Plan) : Type 0 where

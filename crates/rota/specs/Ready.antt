@@ -14,13 +14,13 @@ use Rattle.rota.specs.Board.{Board, BoardSound, Even}
 unfoldable pub fitsBy : List ℕ → ℕ → ℕ → Bool
 fitsBy fits p u = inMask (getD fits u 0) p
 
--- unit u is marked
+-- the flag of unit u is set
 unfoldable pub frozenBy : List ℕ → ℕ → Bool
-frozenBy frozen u = eqb (getD frozen u 0) 1
+frozenBy flags u = eqb (getD flags u 0) 1
 
 -- the board that these make
 abbrev pub ready : ℕ → ℕ → ℕ → List ℕ → List ℕ → List ℕ → Board
-ready people slots units firsts fits frozen =
+ready people slots units firsts fits flags =
     record {
       people = people;
       slots = slots;
@@ -28,15 +28,15 @@ ready people slots units firsts fits frozen =
       from = unitStart firsts;
       upto = unitEnd slots units firsts;
       fits = fitsBy fits;
-      frozen = frozenBy frozen;
+      frozen = frozenBy flags;
     }
 
 -- mask has those who stand in every mask from unit a up to e
 pub record Cover (fits : List ℕ) (a e mask : ℕ) : Type 0 where
   pub each : (p : ℕ) → p < 32 → inMask mask p ≡ allIn a e (fitsBy fits p)
 
--- no unit from a up to e, nor from c up to g, is marked, and each of two people fits the units that they would get
+-- no unit from a up to e, nor from c up to g, is frozen, and each of two people fits the units that they would get
 unfoldable pub runsFit : List ℕ → List ℕ → ℕ → ℕ → ℕ → ℕ → ℕ → ℕ → Bool
-runsFit fits frozen a e to c g to2 =
-    allIn a e (λ u. not (frozenBy frozen u)) && (allIn c g (λ u. not (frozenBy frozen u))
+runsFit fits flags a e to c g to2 =
+    allIn a e (λ u. not (frozenBy flags u)) && (allIn c g (λ u. not (frozenBy flags u))
     && (allIn a e (fitsBy fits to) && allIn c g (fitsBy fits to2)))

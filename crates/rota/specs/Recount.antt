@@ -46,7 +46,7 @@ evenAt slots units firsts o u =
 unfoldable pub setSlotAt : List ℕ → List ℕ → ℕ → ℕ → Bool
 setSlotAt o ws p k = eqb (slot ws (16 * p) k) (held o p k)
 
--- two tests agree
+-- two tests agree: the bit that stands in a set, and the one that is due
 abbrev pub sameBit : Bool → Bool → Bool
 sameBit a true = a
 sameBit a false = not a

@@ -23,11 +23,11 @@ fn owner_of(firsts: &[u16], owners: &[u8], unit: usize) -> u8
 }
 
 // Whether a unit is frozen.
-fn is_frozen(frozen: &[u8], unit: usize) -> bool
-    ensures { λ r. ⌜ r ≡ frozenBy (now (frozen .entry)) unit ⌝ }
+fn is_frozen(flags: &[u8], unit: usize) -> bool
+    ensures { λ r. ⌜ r ≡ frozenBy (now (flags .entry)) unit ⌝ }
 {
-    if unit < frozen.len() {
-        frozen[unit] == 1
+    if unit < flags.len() {
+        flags[unit] == 1
     } else {
         false
     }
@@ -95,13 +95,13 @@ fn run_end(units: usize, firsts: &[u16], owners: &[u8], unit: usize) -> usize
 }
 
 // Whether no unit from a up to e is frozen.
-fn is_movable(frozen: &[u8], a: usize, e: usize) -> bool
+fn is_movable(flags: &[u8], a: usize, e: usize) -> bool
     requires { ⌜ a ≤ e ⌝ }
-    ensures { λ r. ⌜ r ≡ allIn a e (λ u. not (frozenBy (now (frozen .entry)) u)) ⌝ }
+    ensures { λ r. ⌜ r ≡ allIn a e (λ u. not (frozenBy (now (flags .entry)) u)) ⌝ }
 {
     let mut u = a;
     while u < e {
-        if is_frozen(frozen, u) {
+        if is_frozen(flags, u) {
             return false;
         } else {
             u += 1;
@@ -218,16 +218,16 @@ fn reassign(
     units: usize,
     firsts: &[u16],
     fits: &[u32],
-    frozen: &[u8],
+    flags: &[u8],
     owners: &[u8],
     first: usize,
     second: usize,
 ) -> Move
     requires { ⌜ people ≤ 32 ⌝ }
-    ensures { λ r. ⌜ r ≡ reassigned (ready people slots units (now (firsts .entry)) (now (fits .entry)) (now (frozen .entry))) (now
+    ensures { λ r. ⌜ r ≡ reassigned (ready people slots units (now (firsts .entry)) (now (fits .entry)) (now (flags .entry))) (now
         (owners .entry)) first second ⌝ }
 {
-    if is_frozen(frozen, first) {
+    if is_frozen(flags, first) {
         return Move::Stay(1);
     }
     match nth_of(mask_of(fits, first), people, 255, second) {
@@ -250,20 +250,20 @@ fn swap_units(
     units: usize,
     firsts: &[u16],
     fits: &[u32],
-    frozen: &[u8],
+    flags: &[u8],
     owners: &[u8],
     first: usize,
     second: usize,
 ) -> Move
-    ensures { λ r. ⌜ r ≡ swapped (ready people slots units (now (firsts .entry)) (now (fits .entry)) (now (frozen .entry))) (now
+    ensures { λ r. ⌜ r ≡ swapped (ready people slots units (now (firsts .entry)) (now (fits .entry)) (now (flags .entry))) (now
         (owners .entry)) first second ⌝ }
 {
     let left = owner_of(firsts, owners, first);
     let right = owner_of(firsts, owners, second);
-    if is_frozen(frozen, first) {
+    if is_frozen(flags, first) {
         return Move::Stay(1);
     }
-    if is_frozen(frozen, second) {
+    if is_frozen(flags, second) {
         return Move::Stay(1);
     }
     if first == second {
@@ -304,17 +304,17 @@ fn reassign_run(
     units: usize,
     firsts: &[u16],
     fits: &[u32],
-    frozen: &[u8],
+    flags: &[u8],
     owners: &[u8],
     first: usize,
     second: usize,
 ) -> Move
     requires { ⌜ (people ≤ 32) × (first < units) ⌝ }
-    ensures { λ r. ⌜ r ≡ runReassigned (ready people slots units (now (firsts .entry)) (now (fits .entry)) (now (frozen .entry)))
+    ensures { λ r. ⌜ r ≡ runReassigned (ready people slots units (now (firsts .entry)) (now (fits .entry)) (now (flags .entry)))
         (now (owners .entry)) first second ⌝ }
 {
     let owner = owner_of(firsts, owners, first);
-    if is_frozen(frozen, first) {
+    if is_frozen(flags, first) {
         return Move::Stay(1);
     }
     if owner == 255 {
@@ -322,7 +322,7 @@ fn reassign_run(
     }
     let a = run_start(firsts, owners, first);
     let b = run_end(units, firsts, owners, first);
-    if is_movable(frozen, a, b + 1) {
+    if is_movable(flags, a, b + 1) {
         match nth_of(cover_of(fits, a, b + 1), people, owner, second) {
             Pick::Nobody => Move::Stay(1),
             Pick::Beyond => Move::Stay(2),
@@ -340,21 +340,21 @@ fn swap_runs(
     units: usize,
     firsts: &[u16],
     fits: &[u32],
-    frozen: &[u8],
+    flags: &[u8],
     owners: &[u8],
     first: usize,
     second: usize,
 ) -> Move
     requires { ⌜ (first < units) × (second < units) ⌝ }
-    ensures { λ r. ⌜ r ≡ runsSwapped (ready people slots units (now (firsts .entry)) (now (fits .entry)) (now (frozen .entry))) (now
+    ensures { λ r. ⌜ r ≡ runsSwapped (ready people slots units (now (firsts .entry)) (now (fits .entry)) (now (flags .entry))) (now
         (owners .entry)) first second ⌝ }
 {
     let left = owner_of(firsts, owners, first);
     let right = owner_of(firsts, owners, second);
-    if is_frozen(frozen, first) {
+    if is_frozen(flags, first) {
         return Move::Stay(1);
     }
-    if is_frozen(frozen, second) {
+    if is_frozen(flags, second) {
         return Move::Stay(1);
     }
     if left == 255 {
@@ -373,16 +373,16 @@ fn swap_runs(
     if a == c {
         return Move::Stay(1);
     }
-    if runs_fit(fits, frozen, a, b + 1, right, c, d + 1, left) {
+    if runs_fit(fits, flags, a, b + 1, right, c, d + 1, left) {
         return trade(slots, units, firsts, a, b, right, c, d, left);
     }
     Move::Stay(1)
 }
 
-// Whether units a up to e and c up to g are free to move, and each of two people fits the units that they would get.
+// Whether no unit from a up to e, nor from c up to g, is frozen, and each of two people fits the units that they would get.
 fn runs_fit(
     fits: &[u32],
-    frozen: &[u8],
+    flags: &[u8],
     a: usize,
     e: usize,
     to: u8,
@@ -391,10 +391,10 @@ fn runs_fit(
     to2: u8,
 ) -> bool
     requires { ⌜ (a ≤ e) × (c ≤ g) ⌝ }
-    ensures { λ r. ⌜ r ≡ runsFit (now (fits .entry)) (now (frozen .entry)) a e to c g to2 ⌝ }
+    ensures { λ r. ⌜ r ≡ runsFit (now (fits .entry)) (now (flags .entry)) a e to c g to2 ⌝ }
 {
-    if is_movable(frozen, a, e) {
-        if is_movable(frozen, c, g) {
+    if is_movable(flags, a, e) {
+        if is_movable(flags, c, g) {
             if fits_all(fits, a, e, to) {
                 return fits_all(fits, c, g, to2);
             }
@@ -412,17 +412,17 @@ fn grow(
     units: usize,
     firsts: &[u16],
     fits: &[u32],
-    frozen: &[u8],
+    flags: &[u8],
     owner: u8,
     a: usize,
 ) -> Move
-    ensures { λ r. ⌜ r ≡ grown (ready people slots units (now (firsts .entry)) (now (fits .entry)) (now (frozen .entry))) owner a ⌝ }
+    ensures { λ r. ⌜ r ≡ grown (ready people slots units (now (firsts .entry)) (now (fits .entry)) (now (flags .entry))) owner a ⌝ }
 {
     if a == 0 {
         return Move::Stay(1);
     }
     let before = a - 1;
-    if is_frozen(frozen, before) {
+    if is_frozen(flags, before) {
         return Move::Stay(1);
     }
     if fits_unit(fits, owner, before) {
@@ -438,12 +438,12 @@ fn shrink(
     units: usize,
     firsts: &[u16],
     fits: &[u32],
-    frozen: &[u8],
+    flags: &[u8],
     owners: &[u8],
     a: usize,
     b: usize,
 ) -> Move
-    ensures { λ r. ⌜ r ≡ shrunk (ready people slots units (now (firsts .entry)) (now (fits .entry)) (now (frozen .entry))) (now
+    ensures { λ r. ⌜ r ≡ shrunk (ready people slots units (now (firsts .entry)) (now (fits .entry)) (now (flags .entry))) (now
         (owners .entry)) a b ⌝ }
 {
     if a == 0 {
@@ -456,7 +456,7 @@ fn shrink(
     if owner == 255 {
         return Move::Stay(1);
     }
-    if is_frozen(frozen, a) {
+    if is_frozen(flags, a) {
         return Move::Stay(1);
     }
     if fits_unit(fits, owner, a) {
@@ -472,17 +472,17 @@ fn shift_boundary(
     units: usize,
     firsts: &[u16],
     fits: &[u32],
-    frozen: &[u8],
+    flags: &[u8],
     owners: &[u8],
     first: usize,
     second: usize,
 ) -> Move
     requires { ⌜ first < units ⌝ }
-    ensures { λ r. ⌜ r ≡ shifted (ready people slots units (now (firsts .entry)) (now (fits .entry)) (now (frozen .entry))) (now
+    ensures { λ r. ⌜ r ≡ shifted (ready people slots units (now (firsts .entry)) (now (fits .entry)) (now (flags .entry))) (now
         (owners .entry)) first second ⌝ }
 {
     let owner = owner_of(firsts, owners, first);
-    if is_frozen(frozen, first) {
+    if is_frozen(flags, first) {
         return Move::Stay(1);
     }
     if owner == 255 {
@@ -493,10 +493,10 @@ fn shift_boundary(
     }
     let a = run_start(firsts, owners, first);
     if second == 1 {
-        return grow(people, slots, units, firsts, fits, frozen, owner, a);
+        return grow(people, slots, units, firsts, fits, flags, owner, a);
     }
     let b = run_end(units, firsts, owners, first);
-    shrink(people, slots, units, firsts, fits, frozen, owners, a, b)
+    shrink(people, slots, units, firsts, fits, flags, owners, a, b)
 }
 
 // What a draw does. The draw, then the units that it names, are judged before all else.
@@ -506,14 +506,14 @@ pub(crate) fn decide(
     units: usize,
     firsts: &[u16],
     fits: &[u32],
-    frozen: &[u8],
+    flags: &[u8],
     owners: &[u8],
     kind: u16,
     first: u16,
     second: u16,
 ) -> Move
     requires { ⌜ people ≤ 32 ⌝ }
-    ensures { λ r. ⌜ r ≡ decided (ready people slots units (now (firsts .entry)) (now (fits .entry)) (now (frozen .entry))) (now
+    ensures { λ r. ⌜ r ≡ decided (ready people slots units (now (firsts .entry)) (now (fits .entry)) (now (flags .entry))) (now
         (owners .entry)) (draw kind first second) ⌝ }
 {
     let f = first as usize;
@@ -525,22 +525,22 @@ pub(crate) fn decide(
         return Move::Stay(2);
     }
     if kind < 35 {
-        return reassign(people, slots, units, firsts, fits, frozen, owners, f, s);
+        return reassign(people, slots, units, firsts, fits, flags, owners, f, s);
     }
     if kind < 60 {
         if units <= s {
             return Move::Stay(2);
         }
-        return swap_units(people, slots, units, firsts, fits, frozen, owners, f, s);
+        return swap_units(people, slots, units, firsts, fits, flags, owners, f, s);
     }
     if kind < 75 {
-        return reassign_run(people, slots, units, firsts, fits, frozen, owners, f, s);
+        return reassign_run(people, slots, units, firsts, fits, flags, owners, f, s);
     }
     if kind < 90 {
         if units <= s {
             return Move::Stay(2);
         }
-        return swap_runs(people, slots, units, firsts, fits, frozen, owners, f, s);
+        return swap_runs(people, slots, units, firsts, fits, flags, owners, f, s);
     }
-    shift_boundary(people, slots, units, firsts, fits, frozen, owners, f, s)
+    shift_boundary(people, slots, units, firsts, fits, flags, owners, f, s)
 }

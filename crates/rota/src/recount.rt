@@ -137,7 +137,7 @@ fn first_wrong_slot(
 {
     let mut k: usize = 0;
     while k < slots {
-        if is_member(owners[k], person, row_has(sets, people, slots, person, k)) {
+        if same_bit(owners[k], person, row_has(sets, people, slots, person, k)) {
             k += 1;
         } else {
             return k;
@@ -146,8 +146,8 @@ fn first_wrong_slot(
     slots
 }
 
-// Whether a slot of this owner is in the person's set exactly when they own it.
-fn is_member(owner: u8, person: usize, there: bool) -> bool
+// Whether a slot is in a person's set exactly when they own it; `there`: it is in the set.
+fn same_bit(owner: u8, person: usize, there: bool) -> bool
     ensures { λ r. ⌜ r ≡ sameBit there (eqb owner person) ⌝ }
 {
     if owner as usize == person {

@@ -10,6 +10,7 @@ use lib.Dec.{eqb}
 use lib.ListN.{length}
 use Rattle.paper.specs.Limits.{peopleOk}
 use Rattle.paper.specs.Count.{sum}
+use Rattle.paper.proofs.Count.{sum-mono}
 use Rattle.slots.specs.Lent.{minutesAt, slotsOk}
 use Rattle.slots.proofs.LentLaws.{demand-part}
 use Rattle.slotset.specs.declared.Told.{Told}
@@ -19,12 +20,6 @@ use Rattle.slotset.specs.Answers.{rowNo, rowSlots, toldAs}
 use Rattle.targets.specs.Available.{minutesIfAvailable, availableMinutes}
 use Rattle.targets.specs.Code.{RowSound}
 use Rattle.targets.proofs.Loops.{differ}
-
--- a sum of smaller numbers is smaller
-pub sum-mono : (n : ℕ) (f g : ℕ → ℕ) → ((k : ℕ) → k < n → f k ≤ g k) → sum n f ≤ sum n g
-unfolding sum
-sum-mono zero f g h = zero-le
-sum-mono (suc n) f g h = omega (arith, sum-mono n f g (λ k l. h k (omega arith)), h n (omega arith))
 
 pub if-available-le : (starts ends avail : List ℕ) (person k : ℕ)
     → minutesIfAvailable starts ends avail person k ≤ minutesAt starts ends k

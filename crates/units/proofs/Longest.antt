@@ -6,10 +6,10 @@ use Prim.Native.Nat.{ℕ, zero, suc, _+_, _-_, _≤_, _<_, max}
 use native.Mathlib.Nat.{not-suc-le-zero, le-antisymm}
 use native.Mathlib.Numerals.{add-one}
 use native.Mathlib.Omega.{arith}
-use Rattle.paper.specs.Count.{allIn, sum}
+use Rattle.paper.specs.Count.{allIn, sumIn}
 use Rattle.paper.proofs.Logic.{by-test, below-suc, lt-or-ge}
-use Rattle.paper.proofs.Count.{in-none, in-more, in-each, each-in, sum-none, sum-more}
-use Rattle.units.specs.Achievable.{most, sumIn, stretch, longestTo, longest, Longest}
+use Rattle.paper.proofs.Count.{in-none, in-more, in-each, each-in, sum-in-none, sum-in-more}
+use Rattle.units.specs.Achievable.{most, stretch, longestTo, longest, Longest}
 
 -- ---- the greatest
 
@@ -33,18 +33,7 @@ most-one (suc n) f =
     ⊎-elim (λ (h : most (suc n) f < f (suc n)). (suc n, omega arith, omega arith))
     (λ (h : f (suc n) ≤ most (suc n) f). (r .0, omega (arith, r .1), omega (arith, r .2))) (lt-or-ge (most (suc n) f) (f (suc n)))
 
--- ---- sums and tests of stretches
-
-pub sum-in-none : (a : ℕ) (f : ℕ → ℕ) → sumIn a a f ≡ 0
-unfolding sumIn
-sum-in-none a f = let z : a - a ≡ 0 = omega arith in ap (λ (n : ℕ). sum n (λ j. f (a + j))) z ∙ sum-none (λ j. f (a + j))
-
-pub sum-in-more : (a k : ℕ) (f : ℕ → ℕ) → a ≤ k → sumIn a (k + 1) f ≡ sumIn a k f + f k
-unfolding sumIn
-sum-in-more a k f h =
-    let z : k + 1 - a ≡ k - a + 1 = omega arith in
-    let y : a + (k - a) ≡ k = omega arith in
-    ap (λ (n : ℕ). sum n (λ j. f (a + j))) z ∙ sum-more (k - a) (λ j. f (a + j)) ∙ ap (λ (x : ℕ). sumIn a k f + f x) y
+-- ---- tests of stretches
 
 in-less : (a k : ℕ) (p : ℕ → Bool) → a ≤ k → allIn a (k + 1) p ≡ true → (allIn a k p ≡ true) × (p k ≡ true)
 in-less a k p h t =

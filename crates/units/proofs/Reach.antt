@@ -11,7 +11,7 @@ use lib.ListN.{length}
 use Rattle.paper.specs.Limits.{peopleOk, slotCountOk}
 use Rattle.paper.specs.Count.{allIn, sum}
 use Rattle.paper.proofs.Logic.{by-test, cond-zero, slot-count-says}
-use Rattle.paper.proofs.Count.{sum-more}
+use Rattle.paper.proofs.Count.{sum-in-le}
 use Rattle.slotset.specs.declared.Told.{Told}
 use Rattle.slotset.specs.declared.Told.the-variants.{Yes, No, Refused}
 use Rattle.slotset.specs.Slots.{slot, has}
@@ -22,9 +22,9 @@ use Rattle.units.specs.declared.Settings.{Settings}
 use Rattle.units.specs.Settings.{settingsOk}
 use Rattle.units.specs.Days.{minutesPerDay, targetRun}
 use Rattle.units.specs.Domains.{available}
-use Rattle.units.specs.Achievable.{sumIn, stretch, longestTo, longest, achievable, longestRun, achievableRun, RunsSound}
+use Rattle.units.specs.Achievable.{stretch, longestTo, longest, achievable, longestRun, achievableRun, RunsSound}
 use Rattle.units.specs.Achievable.{achievableRunNo}
-use Rattle.units.proofs.Longest.{sum-in-none, sum-in-more, to-below, stretch-free, stretch-broken, to-none, to-in, to-out}
+use Rattle.units.proofs.Longest.{to-below, stretch-free, stretch-broken, to-none, to-in, to-out}
 use Rattle.units.proofs.Longest.{longest-none, longest-more, longest-grows}
 
 -- ---- availability of one slot, as it is told
@@ -38,18 +38,18 @@ yes-if : (b : Bool) → saidYes (cond b Yes No) ≡ b
 yes-if true = refl
 yes-if false = refl
 
-pub available-told : (av : List ℕ) (people p slots : ℕ) (starts ends : List ℕ) → RunsSound av people p slots starts ends
-    → (k : ℕ) → k < slots → saidYes (toldAs (rowNo av people p slots) (has (rowSlots av p) slots k)) ≡ available av p k
+pub available-told : (avail : List ℕ) (people p slots : ℕ) (starts ends : List ℕ) → RunsSound avail people p slots starts ends
+    → (k : ℕ) → k < slots → saidYes (toldAs (rowNo avail people p slots) (has (rowSlots avail p) slots k)) ≡ available avail p k
 unfolding rowNo toldAs has available
-available-told av people p slots starts ends r k h =
+available-told avail people p slots starts ends r k h =
     simp (
       r .counted,
       le-leb slots 1024 (r .short),
-      le-leb (16 * people) (length av) (r .words),
+      le-leb (16 * people) (length avail) (r .words),
       lt-ltb p people (r .known),
       lt-ltb k slots h,
     )
-    (yes-if (eqb (slot av (16 * p) k) 1))
+    (yes-if (eqb (slot avail (16 * p) k) 1))
 
 pub with-slot : (b : Bool) (run m x : ℕ) → b ≡ true → m ≡ x → run + m ≡ cond b (run + x) 0
 with-slot b run m x t e = simp t (ap (λ (y : ℕ). run + y) e)
@@ -59,33 +59,16 @@ without-slot b x f = simp f
 
 -- ---- a run is a part of demand, so that it fits
 
-sum-in-le : (a d : ℕ) (f : ℕ → ℕ) → sumIn a (a + d) f ≤ sum (a + d) f
-sum-in-le a zero f =
-    let e : a + zero ≡ a = omega arith in
-    omega (arith, ap (λ (n : ℕ). sumIn a n f) e, sum-in-none a f)
-sum-in-le a (suc d) f =
-    let e : a + suc d ≡ a + d + 1 = omega arith in
-    omega (
-      arith,
-      ap (λ (n : ℕ). sumIn a n f) e,
-      ap (λ (n : ℕ). sum n f) e,
-      sum-in-more a (a + d) f (omega arith),
-      sum-more (a + d) f,
-      sum-in-le a d f,
-    )
-
 stretch-le : (p : ℕ → Bool) (f : ℕ → ℕ) (a e : ℕ) → a ≤ e → stretch p f a e ≤ sum e f
 stretch-le p f a e h =
-    let q : a + (e - a) ≡ e = omega arith in
-    let l : sumIn a e f ≤ sum e f
-    = omega (arith, sum-in-le a (e - a) f, ap (λ (n : ℕ). sumIn a n f) q, ap (λ (n : ℕ). sum n f) q) in
+    let l = sum-in-le a e f h in
     by-test (allIn a e p) _ (λ t. omega (arith, stretch-free p f a e t)) (λ u. omega (arith, stretch-broken p f a e u))
 
-pub run-bounded : (av : List ℕ) (people p slots : ℕ) (starts ends : List ℕ) → RunsSound av people p slots starts ends
-    → (k run : ℕ) → k ≤ slots → run ≡ longestTo (available av p) (minutesAt starts ends) k → run ≤ 100000000
-run-bounded av people p slots starts ends r k run h e =
+pub run-bounded : (avail : List ℕ) (people p slots : ℕ) (starts ends : List ℕ) → RunsSound avail people p slots starts ends
+    → (k run : ℕ) → k ≤ slots → run ≡ longestTo (available avail p) (minutesAt starts ends) k → run ≤ 100000000
+run-bounded avail people p slots starts ends r k run h e =
     let f = minutesAt starts ends in
-    let b = to-below (available av p) f k (sum k f) (λ a g. stretch-le (available av p) f a k g) in
+    let b = to-below (available avail p) f k (sum k f) (λ a g. stretch-le (available avail p) f a k g) in
     omega (arith, e, b, demand-part slots starts ends (r .lent) k h)
 
 -- ---- the pass
@@ -127,14 +110,14 @@ module _ (p : ℕ → Bool) (f : ℕ → ℕ) (target n : ℕ) where
 
 -- ---- what no refusal says
 
-pub runs-say : (s : Settings) (av : List ℕ) (people p slots : ℕ) (starts ends : List ℕ)
-    → achievableRunNo s av people p slots starts ends ≡ 0 → RunsSound av people p slots starts ends
+pub runs-say : (s : Settings) (avail : List ℕ) (people p slots : ℕ) (starts ends : List ℕ)
+    → achievableRunNo s avail people p slots starts ends ≡ 0 → RunsSound avail people p slots starts ends
 unfolding achievableRunNo
-runs-say s av people p slots starts ends z =
+runs-say s avail people p slots starts ends z =
     let a = cond-zero (peopleOk people) _ 0 z in
     let b = cond-zero (slotCountOk slots) _ 0 (a .1) in
     let c = cond-zero (slotRoomOk slots starts ends) _ 1 (b .1) in
-    let d = cond-zero (leb (16 * people) (length av)) _ 1 (c .1) in
+    let d = cond-zero (leb (16 * people) (length avail)) _ 1 (c .1) in
     let e = cond-zero (settingsOk s) _ 6 (d .1) in
     let f = cond-zero (slotsOk slots starts ends) _ 8 (e .1) in
     let g = cond-zero (ltb p people) _ 10 (f .1) in
@@ -143,7 +126,7 @@ runs-say s av people p slots starts ends z =
       counted = a .0;
       some = n .0;
       short = n .1;
-      words = leb-true (16 * people) (length av) (d .0);
+      words = leb-true (16 * people) (length avail) (d .0);
       lent = f .0;
       known = ltb-true p people (g .0);
     }
@@ -156,7 +139,7 @@ target-some days slots starts ends t e = omega (arith, e, least)
     least : 1 ≤ minutesPerDay slots starts ends * max days 1
     least = mul-le-mul {n₁ = 1} {m₁ = 1} (omega arith) (omega arith)
 
-pub reach-at : (s : Settings) (av : List ℕ) (p slots : ℕ) (starts ends : List ℕ) (t r : ℕ) → t ≡ targetRun (s .days) slots starts ends
-    → r ≡ achievable t (longestRun av p slots starts ends) → r ≡ achievableRun s av p slots starts ends
+pub reach-at : (s : Settings) (avail : List ℕ) (p slots : ℕ) (starts ends : List ℕ) (t r : ℕ) → t ≡ targetRun (s .days) slots starts ends
+    → r ≡ achievable t (longestRun avail p slots starts ends) → r ≡ achievableRun s avail p slots starts ends
 unfolding achievableRun
-reach-at s av p slots starts ends t r e q = q ∙ ap (λ (x : ℕ). achievable x (longestRun av p slots starts ends)) e
+reach-at s avail p slots starts ends t r e q = q ∙ ap (λ (x : ℕ). achievable x (longestRun avail p slots starts ends)) e

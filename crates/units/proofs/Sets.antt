@@ -1,4 +1,4 @@
--- The laws of availability and of frozen flags: what a search of a set says of a stretch. Assumes nothing.
+-- The laws of availability and of frozen flags: what a search of a set says of a stretch, and what no refusal says. Assumes nothing.
 use mathlib.Core.Path.{_≡_, refl, sym, ap, ap₂, _∙_, subst}
 use mathlib.Core.Bool.{Bool, true, false, _&&_, not}
 use mathlib.Core.Logic.{⊎-elim}
@@ -14,10 +14,9 @@ use Rattle.paper.proofs.Logic.{by-test, same-test, cond-zero, people-says, slot
 use Rattle.paper.proofs.Count.{in-none, in-more, in-fails, in-each, each-in, among-same}
 use Rattle.slotset.specs.declared.Found.{Found}
 use Rattle.slotset.specs.declared.Found.the-variants.{At, Nothing, Refused}
-use Rattle.slotset.specs.declared.Told.the-variants as told
 use Rattle.slotset.specs.Slots.{slot}
 use Rattle.slotset.specs.Search.{nextSet, nextUnsetAfter, prevUnsetBefore, First, Last}
-use Rattle.slotset.specs.Answers.{rowNo, rowSlots, foundAs, toldAs}
+use Rattle.slotset.specs.Answers.{rowNo, rowSlots, foundAs}
 use Rattle.slotset.proofs.Meaning.{next-is, next-unique, last-is}
 use Rattle.slotset.proofs.Refusals.{row-says}
 use Rattle.slotset.proofs.Puts.{slot-lt}
@@ -37,48 +36,49 @@ in-one k p =
 
 -- ---- availability
 
-module _ (av : List ℕ) (p : ℕ) where
+module _ (avail : List ℕ) (p : ℕ) where
   -- a slot that is not lacking is had
-  had : (k : ℕ) → (rowSlots av p k ≡ 0 → ⊥) → available av p k ≡ true
+  had : (k : ℕ) → (rowSlots avail p k ≡ 0 → ⊥) → available avail p k ≡ true
   unfolding available
-  had k z = eq-eqb (slot av (16 * p) k) 1 (one-of (slot av (16 * p) k) (slot-lt av (16 * p) k) z)
+  had k z = eq-eqb (slot avail (16 * p) k) 1 (one-of (slot avail (16 * p) k) (slot-lt avail (16 * p) k) z)
 
-  lacking : (k : ℕ) → rowSlots av p k ≡ 0 → available av p k ≡ false
+  lacking : (k : ℕ) → rowSlots avail p k ≡ 0 → available avail p k ≡ false
   unfolding available
-  lacking k z = ne-eqb (slot av (16 * p) k) 1 (λ q. let x : _≡_ {A = ℕ} 0 1 = sym z ∙ q in omega arith)
+  lacking k z = ne-eqb (slot avail (16 * p) k) 1 (λ q. let x : _≡_ {A = ℕ} 0 1 = sym z ∙ q in omega arith)
 
   -- none is lacking from a up to e: by the first that is, or from slot 0 on by the last
-  able-from : (a e : ℕ) (r : Found) → First 0 (rowSlots av p) e a r → isNothing r ≡ able av a e p
+  able-from : (a e : ℕ) (r : Found) → First 0 (rowSlots avail p) e a r → isNothing r ≡ able avail a e p
   unfolding able
-  able-from a e (At i) w = in-fails a i e (available av p) (w .0) (w .1) (lacking i (w .2))
-  able-from a e Nothing w = sym (each-in a e (available av p) (λ k l g. had k (w k l g)))
+  able-from a e (At i) w = in-fails a i e (available avail p) (w .0) (w .1) (lacking i (w .2))
+  able-from a e Nothing w = sym (each-in a e (available avail p) (λ k l g. had k (w k l g)))
   able-from a e (Refused n) w = absurd w
 
-  able-below : (e : ℕ) (r : Found) → Last 0 (rowSlots av p) e e r → isNothing r ≡ able av 0 e p
+  able-below : (e : ℕ) (r : Found) → Last 0 (rowSlots avail p) e e r → isNothing r ≡ able avail 0 e p
   unfolding able
-  able-below e (At i) w = in-fails 0 i e (available av p) (omega arith) (w .0) (lacking i (w .2))
-  able-below e Nothing w = sym (each-in 0 e (available av p) (λ k l g. had k (w k g g)))
+  able-below e (At i) w = in-fails 0 i e (available avail p) (omega arith) (w .0) (lacking i (w .2))
+  able-below e Nothing w = sym (each-in 0 e (available avail p) (λ k l g. had k (w k g g)))
   able-below e (Refused n) w = absurd w
 
 found-none : (n : ℕ) (x : Found) → isNothing (foundAs n x) ≡ eqb n 0 && isNothing x
 unfolding foundAs
 found-none n x = by-test (eqb n 0) _ (λ t. simp t) (λ f. simp f)
 
-pub able-below-law : (av : List ℕ) (people p a e : ℕ) → a ≡ 0
-    → isNothing (foundAs (rowNo av people p e) (prevUnsetBefore (rowSlots av p) e e)) ≡ ableIn av people p a e
+pub able-below-law : (avail : List ℕ) (people p a e : ℕ) → a ≡ 0
+    → isNothing (foundAs (rowNo avail people p e) (prevUnsetBefore (rowSlots avail p) e e)) ≡ ableIn avail people p a e
 unfolding ableIn
-able-below-law av people p a e z =
-    found-none (rowNo av people p e) (prevUnsetBefore (rowSlots av p) e e)
-    ∙ ap (λ (b : Bool). eqb (rowNo av people p e) 0 && b)
-    (able-below av p e (prevUnsetBefore (rowSlots av p) e e) (last-is 0 (rowSlots av p) e e) ∙ ap (λ x. able av x e p) (sym z))
+able-below-law avail people p a e z =
+    found-none (rowNo avail people p e) (prevUnsetBefore (rowSlots avail p) e e)
+    ∙ ap (λ (b : Bool). eqb (rowNo avail people p e) 0 && b)
+    (able-below avail p e (prevUnsetBefore (rowSlots avail p) e e) (last-is 0 (rowSlots avail p) e e) ∙ ap (λ x. able avail x e p) (sym z))
 
-pub able-after-law : (av : List ℕ) (people p a b e : ℕ) → suc b ≡ a
-    → isNothing (foundAs (rowNo av people p e) (nextUnsetAfter (rowSlots av p) e b)) ≡ ableIn av people p a e
+pub able-after-law : (avail : List ℕ) (people p a b e : ℕ) → suc b ≡ a
+    → isNothing (foundAs (rowNo avail people p e) (nextUnsetAfter (rowSlots avail p) e b)) ≡ ableIn avail people p a e
 unfolding ableIn
-able-after-law av people p a b e z =
-    found-none (rowNo av people p e) (nextUnsetAfter (rowSlots av p) e b)
-    ∙ ap (λ (b : Bool). eqb (rowNo av people p e) 0 && b)
-    (able-from av p (suc b) e (nextUnsetAfter (rowSlots av p) e b) (next-is 0 (rowSlots av p) e (suc b)) ∙ ap (λ x. able av x e p) z)
+able-after-law avail people p a b e z =
+    found-none (rowNo avail people p e) (nextUnsetAfter (rowSlots avail p) e b)
+    ∙ ap (λ (b : Bool). eqb (rowNo avail people p e) 0 && b)
+    (able-from avail p (suc b) e (nextUnsetAfter (rowSlots avail p) e b) (next-is 0 (rowSlots avail p) e (suc b)) ∙ ap
+    (λ x. able avail x e p) z)
 
 -- a row that may be asked
 pub row-ok : (ws : List ℕ) (people person len : ℕ) → person < people → people ≤ 32 → len ≤ 1024 → 16 * people ≤ length ws
@@ -94,76 +94,77 @@ row-ok ws people person len h few l room =
     )
 
 -- where the words and the person are known, that is availability itself
-pub able-known : (av : List ℕ) (people e : ℕ) (list : List ℕ) → DomainRoom av people e list
-    → (p a : ℕ) → p < people → ableIn av people p a e ≡ able av a e p
+pub able-known : (avail : List ℕ) (people e : ℕ) (list : List ℕ) → DomainRoom avail people e list
+    → (p a : ℕ) → p < people → ableIn avail people p a e ≡ able avail a e p
 unfolding ableIn
-able-known av people e list r p a h =
-    simp (row-ok av people p e h (people-says people (r .counted) .1) (r .short) (r .words))
+able-known avail people e list r p a h =
+    simp (row-ok avail people p e h (people-says people (r .counted) .1) (r .short) (r .words))
 
 -- ---- the next slot that a person lacks, and the next that they have
 
-module _ (av : List ℕ) (p slots : ℕ) where
-  gap-found : (at : ℕ) (r : Found) → at ≤ slots → First 0 (rowSlots av p) slots at r → FirstNot (available av p) at slots (foundOr slots r)
+module _ (avail : List ℕ) (p slots : ℕ) where
+  gap-found : (at : ℕ) (r : Found) → at ≤ slots → First 0 (rowSlots avail p) slots at r
+      → FirstNot (available avail p) at slots (foundOr slots r)
   gap-found at (At i) h w =
       record {
         from = w .0;
         within = omega (arith, w .1);
-        each = λ k l g. had av p k (w .3 k l g);
-        fails = λ _. lacking av p i (w .2);
+        each = λ k l g. had avail p k (w .3 k l g);
+        fails = λ _. lacking avail p i (w .2);
       }
   gap-found at Nothing h w =
-      record { from = h; within = omega arith; each = λ k l g. had av p k (w k l g); fails = λ l. absurd (omega arith) }
+      record { from = h; within = omega arith; each = λ k l g. had avail p k (w k l g); fails = λ l. absurd (omega arith) }
   gap-found at (Refused n) h w = absurd w
 
-  had-found : (at : ℕ) (r : Found) → at ≤ slots → First 1 (rowSlots av p) slots at r
-      → FirstNot (λ k. not (available av p k)) at slots (foundOr slots r)
+  had-found : (at : ℕ) (r : Found) → at ≤ slots → First 1 (rowSlots avail p) slots at r
+      → FirstNot (λ k. not (available avail p k)) at slots (foundOr slots r)
   unfolding available
   had-found at (At i) h w =
       record {
         from = w .0;
         within = omega (arith, w .1);
-        each = λ k l g. ap not (ne-eqb (slot av (16 * p) k) 1 (w .3 k l g));
-        fails = λ _. ap not (eq-eqb (slot av (16 * p) i) 1 (w .2));
+        each = λ k l g. ap not (ne-eqb (slot avail (16 * p) k) 1 (w .3 k l g));
+        fails = λ _. ap not (eq-eqb (slot avail (16 * p) i) 1 (w .2));
       }
   had-found at Nothing h w =
       record {
         from = h;
         within = omega arith;
-        each = λ k l g. ap not (ne-eqb (slot av (16 * p) k) 1 (w k l g));
+        each = λ k l g. ap not (ne-eqb (slot avail (16 * p) k) 1 (w k l g));
         fails = λ l. absurd (omega arith);
       }
   had-found at (Refused n) h w = absurd w
 
-  module _ (people : ℕ) (ok : rowNo av people p slots ≡ 0) where
-    asked : (x : Found) → foundAs (rowNo av people p slots) x ≡ x
+  module _ (people : ℕ) (ok : rowNo avail people p slots ≡ 0) where
+    asked : (x : Found) → foundAs (rowNo avail people p slots) x ≡ x
     unfolding foundAs
     asked x = simp ok
 
     -- found by a search, from its answer x
-    pub had-law : (at r : ℕ) (x : Found) → at ≤ slots → x ≡ foundAs (rowNo av people p slots) (nextSet (rowSlots av p) slots at)
-        → r ≡ foundOr slots x → FirstNot (λ k. not (available av p k)) at slots r
+    pub had-law : (at r : ℕ) (x : Found) → at ≤ slots → x ≡ foundAs (rowNo avail people p slots) (nextSet (rowSlots avail p) slots at)
+        → r ≡ foundOr slots x → FirstNot (λ k. not (available avail p k)) at slots r
     had-law at r x h e q =
-        subst (FirstNot (λ k. not (available av p k)) at slots)
-        (sym (q ∙ ap (foundOr slots) (e ∙ asked (nextSet (rowSlots av p) slots at))))
-        (had-found at (nextSet (rowSlots av p) slots at) h (next-is 1 (rowSlots av p) slots at))
+        subst (FirstNot (λ k. not (available avail p k)) at slots)
+        (sym (q ∙ ap (foundOr slots) (e ∙ asked (nextSet (rowSlots avail p) slots at))))
+        (had-found at (nextSet (rowSlots avail p) slots at) h (next-is 1 (rowSlots avail p) slots at))
 
     pub gap-law : (at b r : ℕ) (x : Found) → suc b ≡ at → at ≤ slots
-        → x ≡ foundAs (rowNo av people p slots) (nextUnsetAfter (rowSlots av p) slots b) → r ≡ foundOr slots x
-        → FirstNot (available av p) at slots r
+        → x ≡ foundAs (rowNo avail people p slots) (nextUnsetAfter (rowSlots avail p) slots b) → r ≡ foundOr slots x
+        → FirstNot (available avail p) at slots r
     gap-law at b r x z h e q =
-        subst (λ (a : ℕ). FirstNot (available av p) a slots r) z
-        (subst (FirstNot (available av p) (suc b) slots)
-        (sym (q ∙ ap (foundOr slots) (e ∙ asked (nextUnsetAfter (rowSlots av p) slots b))))
-        (gap-found (suc b) (nextUnsetAfter (rowSlots av p) slots b) (omega arith) (next-is 0 (rowSlots av p) slots (suc b))))
+        subst (λ (a : ℕ). FirstNot (available avail p) a slots r) z
+        (subst (FirstNot (available avail p) (suc b) slots)
+        (sym (q ∙ ap (foundOr slots) (e ∙ asked (nextUnsetAfter (rowSlots avail p) slots b))))
+        (gap-found (suc b) (nextUnsetAfter (rowSlots avail p) slots b) (omega arith) (next-is 0 (rowSlots avail p) slots (suc b))))
 
     -- from slot 0 on: that slot is asked first
-    slot-zero : (t : Bool) → t ≡ ableIn av people p 0 1 → t ≡ available av p 0
+    slot-zero : (t : Bool) → t ≡ ableIn avail people p 0 1 → t ≡ available avail p 0
     unfolding ableIn able
     slot-zero t e =
-        let R = row-says av people p slots ok in
-        e ∙ simp (row-ok av people p 1 (R .known) (R .few) (omega arith) (R .room)) (in-one 0 (available av p))
+        let R = row-says avail people p slots ok in
+        e ∙ simp (row-ok avail people p 1 (R .known) (R .few) (omega arith) (R .room)) (in-one 0 (available avail p))
 
-    pub gap-first : (at : ℕ) (t : Bool) → at ≡ 0 → t ≡ ableIn av people p 0 1 → t ≡ false → FirstNot (available av p) at slots 0
+    pub gap-first : (at : ℕ) (t : Bool) → at ≡ 0 → t ≡ ableIn avail people p 0 1 → t ≡ false → FirstNot (available avail p) at slots 0
     gap-first at t z e f =
         record {
           from = omega arith;
@@ -172,11 +173,11 @@ module _ (av : List ℕ) (p slots : ℕ) where
           fails = λ _. sym (slot-zero t e) ∙ f;
         }
 
-    pub gap-later : (at r : ℕ) (t : Bool) (x : Found) → at ≡ 0 → t ≡ ableIn av people p 0 1 → t ≡ true
-        → x ≡ foundAs (rowNo av people p slots) (nextUnsetAfter (rowSlots av p) slots 0) → r ≡ foundOr slots x
-        → FirstNot (available av p) at slots r
+    pub gap-later : (at r : ℕ) (t : Bool) (x : Found) → at ≡ 0 → t ≡ ableIn avail people p 0 1 → t ≡ true
+        → x ≡ foundAs (rowNo avail people p slots) (nextUnsetAfter (rowSlots avail p) slots 0) → r ≡ foundOr slots x
+        → FirstNot (available avail p) at slots r
     gap-later at r t x z e y d q =
-        let zero-had : available av p 0 ≡ true = sym (slot-zero t e) ∙ y in
+        let zero-had : available avail p 0 ≡ true = sym (slot-zero t e) ∙ y in
         ⊎-elim
         (λ (h : 0 < slots).
         let G = gap-law 1 0 r x refl h d q in
@@ -184,13 +185,14 @@ module _ (av : List ℕ) (p slots : ℕ) where
           from = omega (arith, G .from);
           within = G .within;
           each = λ k l g.
-              ⊎-elim (λ (a : 0 < k). G .each k a g) (λ (a : k ≤ 0). let n : k ≡ 0 = omega arith in ap (available av p) n ∙ zero-had)
+              ⊎-elim (λ (a : 0 < k). G .each k a g) (λ (a : k ≤ 0). let n : k ≡ 0 = omega arith in ap (available avail p) n ∙ zero-had)
               (lt-or-ge 0 k);
           fails = G .fails;
         })
         (λ (h : slots ≤ 0).
         let n : slots ≡ 0 = omega arith in
-        let none : r ≡ 0 = q ∙ ap (foundOr slots) (d ∙ asked _ ∙ sym (next-unique 0 (rowSlots av p) slots 1 Nothing (λ k a b. absurd (omega
+        let none : r ≡ 0 = q ∙ ap (foundOr slots) (d ∙ asked _ ∙ sym (next-unique 0 (rowSlots avail p) slots 1 Nothing
+        (λ k a b. absurd (omega
         arith)))) ∙ n in
         record {
           from = omega arith;
@@ -202,31 +204,32 @@ module _ (av : List ℕ) (p slots : ℕ) where
 
 -- ---- frozen flags
 
-clear-answers : (fr : List ℕ) (a e : ℕ) (r : Found) → First 1 (rowSlots fr 0) e a r → isNothing r ≡ clear fr a e
+clear-answers : (frozen : List ℕ) (a e : ℕ) (r : Found) → First 1 (rowSlots frozen 0) e a r → isNothing r ≡ clear frozen a e
 unfolding clear unfrozen
-clear-answers fr a e (At i) w =
-    in-fails a i e (unfrozen fr) (w .0) (w .1) (ap not (eq-eqb (slot fr 0 i) 1 (w .2)))
-clear-answers fr a e Nothing w =
-    sym (each-in a e (unfrozen fr) (λ k l g. ap not (ne-eqb (slot fr 0 k) 1 (w k l g))))
-clear-answers fr a e (Refused n) w = absurd w
+clear-answers frozen a e (At i) w =
+    in-fails a i e (unfrozen frozen) (w .0) (w .1) (ap not (eq-eqb (slot frozen 0 i) 1 (w .2)))
+clear-answers frozen a e Nothing w =
+    sym (each-in a e (unfrozen frozen) (λ k l g. ap not (ne-eqb (slot frozen 0 k) 1 (w k l g))))
+clear-answers frozen a e (Refused n) w = absurd w
 
-pub clear-law : (fr : List ℕ) (a e : ℕ) → isNothing (foundAs (rowNo fr 1 0 e) (nextSet (rowSlots fr 0) e a)) ≡ clearIn fr a e
+pub clear-law : (frozen : List ℕ) (a e : ℕ)
+    → isNothing (foundAs (rowNo frozen 1 0 e) (nextSet (rowSlots frozen 0) e a)) ≡ clearIn frozen a e
 unfolding clearIn
-clear-law fr a e =
-    found-none (rowNo fr 1 0 e) (nextSet (rowSlots fr 0) e a)
-    ∙ ap (λ (b : Bool). eqb (rowNo fr 1 0 e) 0 && b)
-    (clear-answers fr a e (nextSet (rowSlots fr 0) e a) (next-is 1 (rowSlots fr 0) e a))
+clear-law frozen a e =
+    found-none (rowNo frozen 1 0 e) (nextSet (rowSlots frozen 0) e a)
+    ∙ ap (λ (b : Bool). eqb (rowNo frozen 1 0 e) 0 && b)
+    (clear-answers frozen a e (nextSet (rowSlots frozen 0) e a) (next-is 1 (rowSlots frozen 0) e a))
 
-pub clear-known : (fr : List ℕ) (a e : ℕ) → 16 ≤ length fr → e ≤ 1024 → clearIn fr a e ≡ clear fr a e
+pub clear-known : (frozen : List ℕ) (a e : ℕ) → 16 ≤ length frozen → e ≤ 1024 → clearIn frozen a e ≡ clear frozen a e
 unfolding clearIn rowNo peopleOk
-clear-known fr a e h g = simp (le-leb e 1024 g, le-leb 16 (length fr) h)
+clear-known frozen a e h g = simp (le-leb e 1024 g, le-leb 16 (length frozen) h)
 
 -- ---- the domain of a slot
 
-pub slot-domain-same : (av : List ℕ) (people k : ℕ) → domain av people k (k + 1) ≡ slotDomain av people k
+pub slot-domain-same : (avail : List ℕ) (people k : ℕ) → domain avail people k (k + 1) ≡ slotDomain avail people k
 unfolding domain slotDomain able
-slot-domain-same av people k =
-    among-same (able av k (k + 1)) (λ p. available av p k) people (λ p h. in-one k (available av p))
+slot-domain-same avail people k =
+    among-same (able avail k (k + 1)) (λ p. available avail p k) people (λ p h. in-one k (available avail p))
 
 -- ---- rule 2 of lent sets, without the product
 pub words-room : (people n : ℕ) → leb people (n / 16) ≡ leb (16 * people) n
@@ -237,61 +240,61 @@ words-room people n =
 
 -- ---- what no refusal says
 
-pub frozen-says : (fr : List ℕ) (slots units : ℕ) (firsts : List ℕ) (u : ℕ) → unitFrozenNo fr slots units firsts u ≡ 0
-    → (16 ≤ length fr) × (unitEnd slots units firsts u ≤ 1024)
+pub frozen-says : (frozen : List ℕ) (slots units : ℕ) (firsts : List ℕ) (u : ℕ) → unitFrozenNo frozen slots units firsts u ≡ 0
+    → (16 ≤ length frozen) × (unitEnd slots units firsts u ≤ 1024)
 unfolding unitFrozenNo
-frozen-says fr slots units firsts u z =
+frozen-says frozen slots units firsts u z =
     let a = cond-zero (slotCountOk slots) _ 0 z in
     let b = cond-zero (leb units (length firsts)) _ 1 (a .1) in
-    let c = cond-zero (leb 16 (length fr)) _ 1 (b .1) in
+    let c = cond-zero (leb 16 (length frozen)) _ 1 (b .1) in
     let d = cond-zero (unitsOk slots units firsts) _ 8 (c .1) in
     let e = cond-zero (ltb u units) _ 10 (d .1) in
     let h = unit-within slots units firsts (d .0) u (ltb-true u units (e .0)) in
-    (leb-true 16 (length fr) (c .0), omega (arith, h, slot-count-says slots (a .0) .1))
+    (leb-true 16 (length frozen) (c .0), omega (arith, h, slot-count-says slots (a .0) .1))
 
-pub slot-domain-says : (av : List ℕ) (people slots k : ℕ) (list : List ℕ) → slotDomainNo av people slots k list ≡ 0
-    → DomainRoom av people (k + 1) list
+pub slot-domain-says : (avail : List ℕ) (people slots k : ℕ) (list : List ℕ) → slotDomainNo avail people slots k list ≡ 0
+    → DomainRoom avail people (k + 1) list
 unfolding slotDomainNo
-slot-domain-says av people slots k list z =
+slot-domain-says avail people slots k list z =
     let a = cond-zero (peopleOk people) _ 0 z in
     let b = cond-zero (slotCountOk slots) _ 0 (a .1) in
-    let c = cond-zero (leb (16 * people) (length av)) _ 1 (b .1) in
+    let c = cond-zero (leb (16 * people) (length avail)) _ 1 (b .1) in
     let d = cond-zero (leb people (length list)) _ 1 (c .1) in
     let e = cond-zero (ltb k slots) _ 10 (d .1) in
     record {
       counted = a .0;
-      words = leb-true (16 * people) (length av) (c .0);
+      words = leb-true (16 * people) (length avail) (c .0);
       short = omega (arith, ltb-true k slots (e .0), slot-count-says slots (b .0) .1);
       room = leb-true people (length list) (d .0);
     }
 
 -- where the domains of units are not refused: counts, words, the list's room, right units, and nothing after them
-module _ (av : List ℕ) (people slots units : ℕ) (firsts : List ℕ) (room : Bool) (next : ℕ)
-    (z : domainNo av people slots units firsts room next ≡ 0) where
-  pub domain-says : (peopleOk people ≡ true) × (slotCountOk slots ≡ true) × (16 * people ≤ length av) × (room ≡ true)
+module _ (avail : List ℕ) (people slots units : ℕ) (firsts : List ℕ) (room : Bool) (next : ℕ)
+    (z : domainNo avail people slots units firsts room next ≡ 0) where
+  pub domain-says : (peopleOk people ≡ true) × (slotCountOk slots ≡ true) × (16 * people ≤ length avail) × (room ≡ true)
       × (unitsOk slots units firsts ≡ true) × (next ≡ 0)
   domain-says =
       let a = cond-zero (peopleOk people) _ 0 z in
       let b = cond-zero (slotCountOk slots) _ 0 (a .1) in
-      let c = cond-zero (leb (16 * people) (length av)) _ 1 (b .1) in
+      let c = cond-zero (leb (16 * people) (length avail)) _ 1 (b .1) in
       let f = cond-zero (leb units (length firsts)) _ 1 (c .1) in
       let d = cond-zero room _ 1 (f .1) in
       let g = cond-zero (unitsOk slots units firsts) _ 8 (d .1) in
-      (a .0, b .0, leb-true (16 * people) (length av) (c .0), d .0, g .0, g .1)
+      (a .0, b .0, leb-true (16 * people) (length avail) (c .0), d .0, g .0, g .1)
 
 -- the number heard of a unit's domain, where the test of the unit comes last
-pub no-after : (av : List ℕ) (people slots units : ℕ) (firsts : List ℕ) (u : ℕ) (list : List ℕ) (n next : ℕ)
-    → n ≡ domainNo av people slots units firsts (leb people (length list)) next → next ≡ orElse (ltb u units) 11 0
-    → n ≡ unitDomainNo av people slots units firsts u list
+pub no-after : (avail : List ℕ) (people slots units : ℕ) (firsts : List ℕ) (u : ℕ) (list : List ℕ) (n next : ℕ)
+    → n ≡ domainNo avail people slots units firsts (leb people (length list)) next → next ≡ orElse (ltb u units) 11 0
+    → n ≡ unitDomainNo avail people slots units firsts u list
 unfolding unitDomainNo
-no-after av people slots units firsts u list n next e q =
-    e ∙ ap (domainNo av people slots units firsts (leb people (length list))) q
+no-after avail people slots units firsts u list n next e q =
+    e ∙ ap (domainNo avail people slots units firsts (leb people (length list))) q
 
-pub unit-domain-says : (av : List ℕ) (people slots units : ℕ) (firsts : List ℕ) (u : ℕ) (list : List ℕ) (to : ℕ)
-    → unitDomainNo av people slots units firsts u list ≡ 0 → to ≡ unitEnd slots units firsts u → DomainRoom av people to list
+pub unit-domain-says : (avail : List ℕ) (people slots units : ℕ) (firsts : List ℕ) (u : ℕ) (list : List ℕ) (to : ℕ)
+    → unitDomainNo avail people slots units firsts u list ≡ 0 → to ≡ unitEnd slots units firsts u → DomainRoom avail people to list
 unfolding unitDomainNo
-unit-domain-says av people slots units firsts u list to z q =
-    let s = domain-says av people slots units firsts (leb people (length list)) _ z in
+unit-domain-says avail people slots units firsts u list to z q =
+    let s = domain-says avail people slots units firsts (leb people (length list)) _ z in
     let e = cond-zero (ltb u units) _ 10 (s .5) in
     let h = unit-within slots units firsts (s .4) u (ltb-true u units (e .0)) in
     record {
@@ -301,11 +304,11 @@ unit-domain-says av people slots units firsts u list to z q =
       room = leb-true people (length list) (s .3);
     }
 
-pub unit-domains-say : (av : List ℕ) (people slots units : ℕ) (firsts masks : List ℕ)
-    → unitDomainsNo av people slots units firsts masks ≡ 0 → MaskRoom av people slots units firsts masks
+pub unit-domains-say : (avail : List ℕ) (people slots units : ℕ) (firsts masks : List ℕ)
+    → unitDomainsNo avail people slots units firsts masks ≡ 0 → MaskRoom avail people slots units firsts masks
 unfolding unitDomainsNo
-unit-domains-say av people slots units firsts masks z =
-    let s = domain-says av people slots units firsts (leb units (length masks)) 0 z in
+unit-domains-say avail people slots units firsts masks z =
+    let s = domain-says avail people slots units firsts (leb units (length masks)) 0 z in
     record {
       counted = s .0;
       words = s .2;
@@ -315,57 +318,46 @@ unit-domains-say av people slots units firsts masks z =
     }
 
 -- nothing stands against the masks of all units where the counts, the rooms and the units are right
-pub domains-asked : (av : List ℕ) (people slots units : ℕ) (firsts masks : List ℕ) → 1 ≤ people → people ≤ 32 → 1 ≤ slots → slots ≤ 1024
-    → 16 * people ≤ length av → unitsOk slots units firsts ≡ true → units ≤ length masks
-    → unitDomainsNo av people slots units firsts masks ≡ 0
+pub domains-asked : (avail : List ℕ) (people slots units : ℕ) (firsts masks : List ℕ) → 1 ≤ people → people ≤ 32 → 1 ≤ slots → slots ≤ 1024
+    → 16 * people ≤ length avail → unitsOk slots units firsts ≡ true → units ≤ length masks
+    → unitDomainsNo avail people slots units firsts masks ≡ 0
 unfolding unitDomainsNo peopleOk slotCountOk
-domains-asked av people slots units firsts masks a b c d words ok room =
+domains-asked avail people slots units firsts masks a b c d words ok room =
     simp (
       le-leb 1 people a,
       le-leb people 32 b,
       le-leb 1 slots c,
       le-leb slots 1024 d,
-      le-leb (16 * people) (length av) words,
+      le-leb (16 * people) (length avail) words,
       le-leb units (length firsts) (units-room slots units firsts ok),
       le-leb units (length masks) room,
       ok,
     )
 
 -- everybody's masks, by the number
-module _ (av : List ℕ) (people slots units : ℕ) (firsts old : List ℕ) (n : ℕ) (e : n ≡ unitDomainsNo av people slots units firsts old) where
-  pub domains-told : (masks : List ℕ) → n ≡ 0 → masks ≡ over (unitMask av people slots units firsts) units old
-      → (0 ≡ unitDomainsNo av people slots units firsts old) × (masks ≡ unitDomainsIs av people slots units firsts old)
+module _ (avail : List ℕ) (people slots units : ℕ) (firsts old : List ℕ) (n : ℕ)
+    (e : n ≡ unitDomainsNo avail people slots units firsts old) where
+  pub domains-told : (masks : List ℕ) → n ≡ 0 → masks ≡ over (unitMask avail people slots units firsts) units old
+      → (0 ≡ unitDomainsNo avail people slots units firsts old) × (masks ≡ unitDomainsIs avail people slots units firsts old)
   unfolding unitDomainsIs
-  domains-told masks z q = (sym z ∙ e, simp (eq-eqb (unitDomainsNo av people slots units firsts old) 0 (sym e ∙ z)) q)
+  domains-told masks z q = (sym z ∙ e, simp (eq-eqb (unitDomainsNo avail people slots units firsts old) 0 (sym e ∙ z)) q)
 
   pub domains-refused : (n ≡ 0 → ⊥)
-      → (n ≡ unitDomainsNo av people slots units firsts old) × (old ≡ unitDomainsIs av people slots units firsts old)
+      → (n ≡ unitDomainsNo avail people slots units firsts old) × (old ≡ unitDomainsIs avail people slots units firsts old)
   unfolding unitDomainsIs
-  domains-refused z = (e, simp (ne-eqb (unitDomainsNo av people slots units firsts old) 0 (λ q. z (e ∙ q))))
+  domains-refused z = (e, simp (ne-eqb (unitDomainsNo avail people slots units firsts old) 0 (λ q. z (e ∙ q))))
 
--- ---- yes or no, by its number
-
-pub told-yes : (n n′ : ℕ) (b : Bool) → n ≡ n′ → n ≡ 0 → b ≡ true → told.Yes ≡ toldAs n′ b
-unfolding toldAs
-told-yes n n′ b e z t = simp (eq-eqb n′ 0 (sym e ∙ z), t)
-
-pub told-no : (n n′ : ℕ) (b : Bool) → n ≡ n′ → n ≡ 0 → b ≡ false → told.No ≡ toldAs n′ b
-unfolding toldAs
-told-no n n′ b e z f = simp (eq-eqb n′ 0 (sym e ∙ z), f)
-
-pub told-refused : (n n′ : ℕ) (b : Bool) → n ≡ n′ → (n ≡ 0 → ⊥) → told.Refused n ≡ toldAs n′ b
-unfolding toldAs
-told-refused n n′ b e z = simp (ne-eqb n′ 0 (λ q. z (e ∙ q))) (ap told.Refused e)
+-- ---- units, by their starts and ends
 
 -- a unit is frozen where it is not clear
-pub frozen-by : (fr : List ℕ) (slots units : ℕ) (firsts : List ℕ) (u a e : ℕ) (b : Bool)
-    → (16 ≤ length fr) × (unitEnd slots units firsts u ≤ 1024) → a ≡ unitStart firsts u → e ≡ unitEnd slots units firsts u
-    → b ≡ clearIn fr a e → unitFrozen fr slots units firsts u ≡ not b
+pub frozen-by : (frozen : List ℕ) (slots units : ℕ) (firsts : List ℕ) (u a e : ℕ) (b : Bool)
+    → (16 ≤ length frozen) × (unitEnd slots units firsts u ≤ 1024) → a ≡ unitStart firsts u → e ≡ unitEnd slots units firsts u
+    → b ≡ clearIn frozen a e → unitFrozen frozen slots units firsts u ≡ not b
 unfolding unitFrozen
-frozen-by fr slots units firsts u a e b h p q c =
-    ap not (sym (c ∙ ap₂ (clearIn fr) p q ∙ clear-known fr (unitStart firsts u) (unitEnd slots units firsts u) (h .0) (h .1)))
+frozen-by frozen slots units firsts u a e b h p q c =
+    ap not (sym (c ∙ ap₂ (clearIn frozen) p q ∙ clear-known frozen (unitStart firsts u) (unitEnd slots units firsts u) (h .0) (h .1)))
 
-pub domain-at : (av : List ℕ) (people slots units : ℕ) (firsts : List ℕ) (u a e : ℕ) → a ≡ unitStart firsts u
-    → e ≡ unitEnd slots units firsts u → domain av people a e ≡ unitDomain av people slots units firsts u
+pub domain-at : (avail : List ℕ) (people slots units : ℕ) (firsts : List ℕ) (u a e : ℕ) → a ≡ unitStart firsts u
+    → e ≡ unitEnd slots units firsts u → domain avail people a e ≡ unitDomain avail people slots units firsts u
 unfolding unitDomain
-domain-at av people slots units firsts u a e p q = ap₂ (domain av people) p q
+domain-at avail people slots units firsts u a e p q = ap₂ (domain avail people) p q

@@ -54,11 +54,8 @@ module _ (g : ℕ → ℕ → Bool) (people : ℕ) where
           simp (le-ltb q p a, t, lt-ltb v units h, lt-ltb q (p + 1) (omega arith)))
           (λ f.
           let n = eqb-false q p f in
-          simp (le-ltb q p a, f, le-ltb q (p + 1) (above q p a n), le-ltb v 0 (omega arith)) (sym (and-false (eqb q (p + 1))))))
+          simp (le-ltb q p a, f, le-ltb q (p + 1) (omega (arith, n)), le-ltb v 0 (omega arith)) (sym (and-false (eqb q (p + 1))))))
           (lt-or-ge q p)
-        where
-          above : (q p : ℕ) → p ≤ q → (q ≡ p → ⊥) → p + 1 ≤ q
-          above q p a n = omega arith
 
   -- a unit that is judged in both, or in neither
   left-same : (p u w v : ℕ) → ltb v u ≡ ltb v w → left p u v ≡ left p w v
@@ -101,22 +98,19 @@ module _ (g : ℕ → ℕ → Bool) (people : ℕ) where
   left-other p u v n =
       left-same p u (u + 1) v
       (⊎-elim (λ (a : v < u). lt-ltb v u a ∙ sym (lt-ltb v (u + 1) (omega arith)))
-      (λ (a : u ≤ v). le-ltb v u a ∙ sym (le-ltb v (u + 1) (above v u a n))) (lt-or-ge v u))
-    where
-      above : (v u : ℕ) → u ≤ v → (v ≡ u → ⊥) → u + 1 ≤ v
-      above v u a n = omega arith
+      (λ (a : u ≤ v). le-ltb v u a ∙ sym (le-ltb v (u + 1) (omega (arith, n)))) (lt-or-ge v u))
 
 -- ---- the walk over the units, in the lent masks
 
 -- a stretch that begins with a slot that p lacks ends after it
-pub gap-before : (av : List ℕ) (p gap slots had : ℕ) → FirstNot (λ k. not (available av p k)) gap slots had → gap < slots
-    → available av p gap ≡ false → gap < had
-gap-before av p gap slots had F l z =
+pub gap-before : (avail : List ℕ) (p gap slots had : ℕ) → FirstNot (λ k. not (available avail p k)) gap slots had → gap < slots
+    → available avail p gap ≡ false → gap < had
+gap-before avail p gap slots had F l z =
     ⊎-elim (λ (h : gap < had). h)
     (λ (h : had ≤ gap).
     let e : had ≡ gap = omega (arith, F .from) in
-    let o = not-false (available av p had) (F .fails (omega arith)) in
-    absurd (mathlib.Core.Bool.true≢false (sym o ∙ ap (available av p) e ∙ z)))
+    let o = not-false (available avail p had) (F .fails (omega arith)) in
+    absurd (mathlib.Core.Bool.true≢false (sym o ∙ ap (available avail p) e ∙ z)))
     (lt-or-ge gap had)
 
 -- so a unit that starts where it ends, or later, is not the one that holds its first slot
@@ -127,29 +121,31 @@ past firsts v w gap had h s g b =
     (lt-or-ge v w)
 
 -- a unit that starts in a stretch that p lacks, or holds its first slot, is not fit for p
-pub lacks-unit : (av : List ℕ) (slots units : ℕ) (firsts : List ℕ) → unitsOk slots units firsts ≡ true → (p v gap had w : ℕ)
-    → InUnit slots units firsts gap v → available av p gap ≡ false
-    → ((k : ℕ) → gap ≤ k → k < had → not (available av p k) ≡ true) → v ≤ w → w < units → unitStart firsts w < had → able av (unitStart firsts w) (unitEnd slots units firsts w) p ≡ false
+pub lacks-unit : (avail : List ℕ) (slots units : ℕ) (firsts : List ℕ) → unitsOk slots units firsts ≡ true → (p v gap had w : ℕ)
+    → InUnit slots units firsts gap v → available avail p gap ≡ false
+    → ((k : ℕ) → gap ≤ k → k < had → not (available avail p k) ≡ true) → v ≤ w → w < units → unitStart firsts w < had → able avail
+    (unitStart firsts w) (unitEnd slots units firsts w) p ≡ false
 unfolding able
-lacks-unit av slots units firsts ok p v gap had w I z lacks h l b =
+lacks-unit avail slots units firsts ok p v gap had w I z lacks h l b =
     ⊎-elim
     (λ (c : v < w).
     let s = unitStart firsts w in
     let o = lacks s (omega (arith, units-apart slots units firsts ok v w c l, I .to)) b in
-    sym (in-fails s s (unitEnd slots units firsts w) (available av p) (omega arith) (unit-some slots units firsts ok w l) (not-true _ o)))
+    sym (in-fails s s (unitEnd slots units firsts w) (available avail p) (omega arith) (unit-some slots units firsts ok w l)
+    (not-true _ o)))
     (λ (c : w ≤ v).
     let e : v ≡ w = omega arith in
-    let f : able av (unitStart firsts v) (unitEnd slots units firsts v) p ≡ false
-    = sym (in-fails (unitStart firsts v) gap (unitEnd slots units firsts v) (available av p) (I .from) (I .to) z) in
-    ap (λ (x : ℕ). able av (unitStart firsts x) (unitEnd slots units firsts x) p) (sym e) ∙ f)
+    let f : able avail (unitStart firsts v) (unitEnd slots units firsts v) p ≡ false
+    = sym (in-fails (unitStart firsts v) gap (unitEnd slots units firsts v) (available avail p) (I .from) (I .to) z) in
+    ap (λ (x : ℕ). able avail (unitStart firsts x) (unitEnd slots units firsts x) p) (sym e) ∙ f)
     (lt-or-ge v w)
 
-module _ (av : List ℕ) (people slots units : ℕ) (firsts : List ℕ) where
+module _ (avail : List ℕ) (people slots units : ℕ) (firsts : List ℕ) where
   abbrev then : ℕ → ℕ → ℕ → ℕ
-  then p u = maskThen av people slots units firsts p u
+  then p u = maskThen avail people slots units firsts p u
 
   abbrev fits : ℕ → ℕ → Bool
-  fits p v = able av (unitStart firsts v) (unitEnd slots units firsts v) p
+  fits p v = able avail (unitStart firsts v) (unitEnd slots units firsts v) p
 
   -- everybody stands in each mask, nobody is judged
   pub strikes-begin : (masks : List ℕ) → over (λ _. maskOf (λ _. true) people) units masks ≡ over (then 0 0) units masks
@@ -157,11 +153,12 @@ module _ (av : List ℕ) (people slots units : ℕ) (firsts : List ℕ) where
   strikes-begin masks = over-same (λ _. maskOf (λ _. true) people) (then 0 0) units masks (λ v h. sym (left-first fits people v))
 
   -- everybody is judged
-  pub strikes-end : (p : ℕ) (masks : List ℕ) → p ≡ people → over (then p 0) units masks ≡ over (unitMask av people slots units firsts) units masks
+  pub strikes-end : (p : ℕ) (masks : List ℕ) → p ≡ people
+      → over (then p 0) units masks ≡ over (unitMask avail people slots units firsts) units masks
   unfolding maskThen unitMask
   strikes-end p masks e =
       ap (λ (q : ℕ). over (then q 0) units masks) e
-      ∙ over-same (then people 0) (unitMask av people slots units firsts) units masks (λ v h. left-last fits people v)
+      ∙ over-same (then people 0) (unitMask avail people slots units firsts) units masks (λ v h. left-last fits people v)
 
   -- one person is judged for every unit
   pub strikes-next : (p u : ℕ) (masks : List ℕ) → u ≡ units → over (then p u) units masks ≡ over (then (p + 1) 0) units masks
@@ -171,7 +168,8 @@ module _ (av : List ℕ) (people slots units : ℕ) (firsts : List ℕ) where
       ∙ over-same (then p units) (then (p + 1) 0) units masks (λ v h. left-next fits people p units v h)
 
   -- masks hold what they were made anew with, and what they held before does not count
-  pub strikes-held : (p u w : ℕ) (old masks : List ℕ) → masks ≡ over (then p u) units old → over (then p u) units old ≡ over (then p w) units old
+  pub strikes-held : (p u w : ℕ) (old masks : List ℕ) → masks ≡ over (then p u) units old
+      → over (then p u) units old ≡ over (then p w) units old
       → masks ≡ over (then p w) units masks
   strikes-held p u w old masks e s =
       e ∙ s ∙ sym (ap (over (then p w) units) e ∙ over-again (then p u) (then p w) units old)
@@ -182,8 +180,8 @@ module _ (av : List ℕ) (people slots units : ℕ) (firsts : List ℕ) where
       d ∙ ap (over (then q w) units) e ∙ over-again (then p u) (then q w) units old
 
   -- and have the room that they had
-  pub room-kept : (p u : ℕ) (old masks : List ℕ) → masks ≡ over (then p u) units old → MaskRoom av people slots units firsts old
-      → MaskRoom av people slots units firsts masks
+  pub room-kept : (p u : ℕ) (old masks : List ℕ) → masks ≡ over (then p u) units old → MaskRoom avail people slots units firsts old
+      → MaskRoom avail people slots units firsts masks
   room-kept p u old masks e R =
       record {
         counted = R .counted;
@@ -195,17 +193,18 @@ module _ (av : List ℕ) (people slots units : ℕ) (firsts : List ℕ) where
 
   module _ (ok : unitsOk slots units firsts ≡ true) (p : ℕ) where
     -- p has every slot from the start of unit u up to `gap`: the units that end by then are fit for p
-    strikes-skip : (u w gap : ℕ) (masks : List ℕ) → u ≤ w → w ≤ units → ((k : ℕ) → unitStart firsts u ≤ k → k < gap → available av p k ≡ true)
+    strikes-skip : (u w gap : ℕ) (masks : List ℕ) → u ≤ w → w ≤ units → ((k : ℕ) → unitStart firsts u ≤ k → k < gap
+        → available avail p k ≡ true)
         → ((x : ℕ) → x < w → unitEnd slots units firsts x ≤ gap) → over (then p u) units masks ≡ over (then p w) units masks
     unfolding maskThen able
     strikes-skip u w gap masks h l had ends =
         over-same (then p u) (then p w) units masks
         (λ v b. left-skip fits people p u w v h
         (λ x a c.
-        each-in (unitStart firsts x) (unitEnd slots units firsts x) (available av p)
+        each-in (unitStart firsts x) (unitEnd slots units firsts x) (available avail p)
         (λ k d e. had k (omega (arith, starts-far slots units firsts ok u x a (omega arith))) (omega (arith, ends x c)))))
 
-    module _ (u gap : ℕ) (masks : List ℕ) (had : (k : ℕ) → unitStart firsts u ≤ k → k < gap → available av p k ≡ true) where
+    module _ (u gap : ℕ) (masks : List ℕ) (had : (k : ℕ) → unitStart firsts u ≤ k → k < gap → available avail p k ≡ true) where
       -- that is up to the unit that holds the gap; with no gap left, up to the last
       pub skip-to-gap : (v : ℕ) → u ≤ v → InUnit slots units firsts gap v → over (then p u) units masks ≡ over (then p v) units masks
       skip-to-gap v h I =

@@ -6,7 +6,7 @@ use Prim.Native.Nat.{ℕ, zero, suc, _+_, _-_, _*_, _≤_, _<_, max, min}
 use lib.Dec.{ltb, leb}
 use lib.ListN.{length}
 use Rattle.paper.specs.Limits.{peopleOk, slotCountOk, orElse}
-use Rattle.paper.specs.Count.{allIn, sum}
+use Rattle.paper.specs.Count.{allIn, sumIn}
 use Rattle.slots.specs.Lent.{slotRoomOk, slotsOk, minutesAt}
 use Rattle.units.specs.declared.Settings.{Settings}
 use Rattle.units.specs.declared.Duration.{Duration}
@@ -18,10 +18,6 @@ use Rattle.units.specs.Domains.{available}
 unfoldable pub most : ℕ → (ℕ → ℕ) → ℕ
 most zero f = 0
 most (suc n) f = max (most n f) (f n)
-
--- the sum of f over the slots from a up to e
-unfoldable pub sumIn : ℕ → ℕ → (ℕ → ℕ) → ℕ
-sumIn a e f = sum (e - a) (λ j. f (a + j))
 
 -- a stretch counts with its sum if each of its slots passes, else with 0
 unfoldable pub stretch : (ℕ → Bool) → (ℕ → ℕ) → ℕ → ℕ → ℕ
@@ -51,29 +47,29 @@ achievable target m = min (max m 1) target
 -- ---- of a person, in the lent slots
 
 unfoldable pub longestRun : List ℕ → ℕ → ℕ → List ℕ → List ℕ → ℕ
-longestRun av p slots starts ends = longest (available av p) (minutesAt starts ends) slots
+longestRun avail p slots starts ends = longest (available avail p) (minutesAt starts ends) slots
 
 unfoldable pub achievableRun : Settings → List ℕ → ℕ → ℕ → List ℕ → List ℕ → ℕ
-achievableRun s av p slots starts ends = achievable (targetRun (s .days) slots starts ends) (longestRun av p slots starts ends)
+achievableRun s avail p slots starts ends = achievable (targetRun (s .days) slots starts ends) (longestRun avail p slots starts ends)
 
 -- what the checks, passed, leave known
-pub record RunsSound (av : List ℕ) (people p slots : ℕ) (starts ends : List ℕ) : Type 0 where
+pub record RunsSound (avail : List ℕ) (people p slots : ℕ) (starts ends : List ℕ) : Type 0 where
   pub counted : peopleOk people ≡ true
   pub some : 1 ≤ slots
   pub short : slots ≤ 1024
-  pub words : 16 * people ≤ length av
+  pub words : 16 * people ≤ length avail
   pub lent : slotsOk slots starts ends ≡ true
   pub known : p < people
 
 -- 1, 2, 7, 9, 11
 unfoldable pub achievableRunNo : Settings → List ℕ → ℕ → ℕ → ℕ → List ℕ → List ℕ → ℕ
-achievableRunNo s av people p slots starts ends =
+achievableRunNo s avail people p slots starts ends =
     orElse (peopleOk people) 1
     (orElse (slotCountOk slots) 1
     (orElse (slotRoomOk slots starts ends) 2
-    (orElse (leb (16 * people) (length av)) 2
+    (orElse (leb (16 * people) (length avail)) 2
     (orElse (settingsOk s) 7 (orElse (slotsOk slots starts ends) 9 (orElse (ltb p people) 11 0))))))
 
 unfoldable pub achievableRunIs : Settings → List ℕ → ℕ → ℕ → ℕ → List ℕ → List ℕ → Duration
-achievableRunIs s av people p slots starts ends =
-    durationAs (achievableRunNo s av people p slots starts ends) (achievableRun s av p slots starts ends)
+achievableRunIs s avail people p slots starts ends =
+    durationAs (achievableRunNo s avail people p slots starts ends) (achievableRun s avail p slots starts ends)

@@ -20,22 +20,22 @@ use Rattle.units.specs.Answers.{Written, writtenAs}
 
 -- person p is available for slot k
 unfoldable pub available : List ℕ → ℕ → ℕ → Bool
-available av p k = eqb (slot av (16 * p) k) 1
+available avail p k = eqb (slot avail (16 * p) k) 1
 
 -- person p is available for each slot from a up to e
 unfoldable pub able : List ℕ → ℕ → ℕ → ℕ → Bool
-able av a e p = allIn a e (available av p)
+able avail a e p = allIn a e (available avail p)
 
 -- the people available for each slot from a up to e, ascending
 unfoldable pub domain : List ℕ → ℕ → ℕ → ℕ → List ℕ
-domain av people a e = among (able av a e) people
+domain avail people a e = among (able avail a e) people
 
 -- of a slot, and of a unit
 unfoldable pub slotDomain : List ℕ → ℕ → ℕ → List ℕ
-slotDomain av people k = among (λ p. available av p k) people
+slotDomain avail people k = among (λ p. available avail p k) people
 
 unfoldable pub unitDomain : List ℕ → ℕ → ℕ → ℕ → List ℕ → ℕ → List ℕ
-unitDomain av people slots units firsts u = domain av people (unitStart firsts u) (unitEnd slots units firsts u)
+unitDomain avail people slots units firsts u = domain avail people (unitStart firsts u) (unitEnd slots units firsts u)
 
 -- ---- the same as a mask: bit p is 1 exactly when person p is one of them
 
@@ -53,21 +53,21 @@ pub record MaskOf (q : ℕ → Bool) (people mask : ℕ) : Type 0 where
 
 -- the mask of unit u's domain
 unfoldable pub unitMask : List ℕ → ℕ → ℕ → ℕ → List ℕ → ℕ → ℕ
-unitMask av people slots units firsts u = maskOf (able av (unitStart firsts u) (unitEnd slots units firsts u)) people
+unitMask avail people slots units firsts u = maskOf (able avail (unitStart firsts u) (unitEnd slots units firsts u)) people
 
 -- ---- frozen units
 
 -- slot k is not frozen: the flags are one set
 unfoldable pub unfrozen : List ℕ → ℕ → Bool
-unfrozen fr k = not (eqb (slot fr 0 k) 1)
+unfrozen frozen k = not (eqb (slot frozen 0 k) 1)
 
 -- no slot from a up to e is frozen
 unfoldable pub clear : List ℕ → ℕ → ℕ → Bool
-clear fr a e = allIn a e (unfrozen fr)
+clear frozen a e = allIn a e (unfrozen frozen)
 
 -- a unit is frozen if any slot of it is
 unfoldable pub unitFrozen : List ℕ → ℕ → ℕ → List ℕ → ℕ → Bool
-unitFrozen fr slots units firsts u = not (clear fr (unitStart firsts u) (unitEnd slots units firsts u))
+unitFrozen frozen slots units firsts u = not (clear frozen (unitStart firsts u) (unitEnd slots units firsts u))
 
 -- a search found nothing
 abbrev pub isNothing : Found → Bool
@@ -78,15 +78,15 @@ isNothing (Refused n) = false
 -- ---- the same asked of any words: no where they are too short or the person is unknown
 
 unfoldable pub ableIn : List ℕ → ℕ → ℕ → ℕ → ℕ → Bool
-ableIn av people p a e = eqb (rowNo av people p e) 0 && able av a e p
+ableIn avail people p a e = eqb (rowNo avail people p e) 0 && able avail a e p
 
 unfoldable pub clearIn : List ℕ → ℕ → ℕ → Bool
-clearIn fr a e = eqb (rowNo fr 1 0 e) 0 && clear fr a e
+clearIn frozen a e = eqb (rowNo frozen 1 0 e) 0 && clear frozen a e
 
 -- what the checks, passed, leave known to the writing of a domain
-pub record DomainRoom (av : List ℕ) (people e : ℕ) (list : List ℕ) : Type 0 where
+pub record DomainRoom (avail : List ℕ) (people e : ℕ) (list : List ℕ) : Type 0 where
   pub counted : peopleOk people ≡ true
-  pub words : 16 * people ≤ length av
+  pub words : 16 * people ≤ length avail
   pub short : e ≤ 1024
   pub room : people ≤ length list
 
@@ -94,46 +94,46 @@ pub record DomainRoom (av : List ℕ) (people e : ℕ) (list : List ℕ) : Type 
 
 -- 1, 2, 9, 11
 unfoldable pub unitFrozenNo : List ℕ → ℕ → ℕ → List ℕ → ℕ → ℕ
-unitFrozenNo fr slots units firsts u =
+unitFrozenNo frozen slots units firsts u =
     orElse (slotCountOk slots) 1
     (orElse (leb units (length firsts)) 2
-    (orElse (leb 16 (length fr)) 2 (orElse (unitsOk slots units firsts) 9 (orElse (ltb u units) 11 0))))
+    (orElse (leb 16 (length frozen)) 2 (orElse (unitsOk slots units firsts) 9 (orElse (ltb u units) 11 0))))
 
 unfoldable pub unitFrozenIs : List ℕ → ℕ → ℕ → List ℕ → ℕ → Told
-unitFrozenIs fr slots units firsts u = toldAs (unitFrozenNo fr slots units firsts u) (unitFrozen fr slots units firsts u)
+unitFrozenIs frozen slots units firsts u = toldAs (unitFrozenNo frozen slots units firsts u) (unitFrozen frozen slots units firsts u)
 
 -- 1, 2, 11
 unfoldable pub slotDomainNo : List ℕ → ℕ → ℕ → ℕ → List ℕ → ℕ
-slotDomainNo av people slots k list =
+slotDomainNo avail people slots k list =
     orElse (peopleOk people) 1
     (orElse (slotCountOk slots) 1
-    (orElse (leb (16 * people) (length av)) 2 (orElse (leb people (length list)) 2 (orElse (ltb k slots) 11 0))))
+    (orElse (leb (16 * people) (length avail)) 2 (orElse (leb people (length list)) 2 (orElse (ltb k slots) 11 0))))
 
 unfoldable pub slotDomainIs : List ℕ → ℕ → ℕ → ℕ → List ℕ → Written
-slotDomainIs av people slots k list = writtenAs (slotDomainNo av people slots k list) (slotDomain av people k) list
+slotDomainIs avail people slots k list = writtenAs (slotDomainNo avail people slots k list) (slotDomain avail people k) list
 
 -- 1, 2 and 9 of units and the sets of their people, with a list that has room or has none; and then what comes after them
 abbrev pub domainNo : List ℕ → ℕ → ℕ → ℕ → List ℕ → Bool → ℕ → ℕ
-domainNo av people slots units firsts room next =
+domainNo avail people slots units firsts room next =
     orElse (peopleOk people) 1
     (orElse (slotCountOk slots) 1
-    (orElse (leb (16 * people) (length av)) 2
+    (orElse (leb (16 * people) (length avail)) 2
     (orElse (leb units (length firsts)) 2 (orElse room 2 (orElse (unitsOk slots units firsts) 9 next)))))
 
 -- 1, 2, 9, 11
 unfoldable pub unitDomainNo : List ℕ → ℕ → ℕ → ℕ → List ℕ → ℕ → List ℕ → ℕ
-unitDomainNo av people slots units firsts u list =
-    domainNo av people slots units firsts (leb people (length list)) (orElse (ltb u units) 11 0)
+unitDomainNo avail people slots units firsts u list =
+    domainNo avail people slots units firsts (leb people (length list)) (orElse (ltb u units) 11 0)
 
 unfoldable pub unitDomainIs : List ℕ → ℕ → ℕ → ℕ → List ℕ → ℕ → List ℕ → Written
-unitDomainIs av people slots units firsts u list =
-    writtenAs (unitDomainNo av people slots units firsts u list) (unitDomain av people slots units firsts u) list
+unitDomainIs avail people slots units firsts u list =
+    writtenAs (unitDomainNo avail people slots units firsts u list) (unitDomain avail people slots units firsts u) list
 
 -- 1, 2, 9
 unfoldable pub unitDomainsNo : List ℕ → ℕ → ℕ → ℕ → List ℕ → List ℕ → ℕ
-unitDomainsNo av people slots units firsts masks = domainNo av people slots units firsts (leb units (length masks)) 0
+unitDomainsNo avail people slots units firsts masks = domainNo avail people slots units firsts (leb units (length masks)) 0
 
 -- the mask of each unit's domain; entries past the unit count stay, and refused all do
 unfoldable pub unitDomainsIs : List ℕ → ℕ → ℕ → ℕ → List ℕ → List ℕ → List ℕ
-unitDomainsIs av people slots units firsts masks =
-    cond (eqb (unitDomainsNo av people slots units firsts masks) 0) (over (unitMask av people slots units firsts) units masks) masks
+unitDomainsIs avail people slots units firsts masks =
+    cond (eqb (unitDomainsNo avail people slots units firsts masks) 0) (over (unitMask avail people slots units firsts) units masks) masks

@@ -1,4 +1,4 @@
--- How everybody's domains are worked out at once: everybody stands in each unit's mask, and who lacks a slot of it is struck. Assumes nothing.
+-- Everybody at once: they stand in each unit's mask, and who lacks a slot of it is struck. Assumes nothing.
 use mathlib.Core.Path.{_≡_}
 use mathlib.Core.Bool.{Bool, true, false, _&&_, _||_, not}
 use mathlib.Core.List.{List}
@@ -25,9 +25,9 @@ pub record FirstNot (q : ℕ → Bool) (at n r : ℕ) : Type 0 where
   pub fails : r < n → q r ≡ false
 
 -- what the checks, passed, leave known to the writing of masks
-pub record MaskRoom (av : List ℕ) (people slots units : ℕ) (firsts masks : List ℕ) : Type 0 where
+pub record MaskRoom (avail : List ℕ) (people slots units : ℕ) (firsts masks : List ℕ) : Type 0 where
   pub counted : peopleOk people ≡ true
-  pub words : 16 * people ≤ length av
+  pub words : 16 * people ≤ length avail
   pub short : slots ≤ 1024
   pub right : unitsOk slots units firsts ≡ true
   pub room : units ≤ length masks
@@ -38,5 +38,5 @@ judged p u v q = ltb q p || (eqb q p && ltb v u)
 
 -- the mask of unit v then: who was not judged yet still stands in it
 unfoldable pub maskThen : List ℕ → ℕ → ℕ → ℕ → List ℕ → ℕ → ℕ → ℕ → ℕ
-maskThen av people slots units firsts p u v =
-    maskOf (λ q. not (judged p u v q) || able av (unitStart firsts v) (unitEnd slots units firsts v) q) people
+maskThen avail people slots units firsts p u v =
+    maskOf (λ q. not (judged p u v q) || able avail (unitStart firsts v) (unitEnd slots units firsts v) q) people

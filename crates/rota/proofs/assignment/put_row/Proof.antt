@@ -4,7 +4,8 @@ use borrow.Author.Needs.{needs}
 use lib.ListN.{length}
 use Rattle.slotset.specs.Slots.{valueOf}
 use Rattle.rota.proofs.Sets.{length-set-for}
-use Rattle.rota.proofs.Steps.{bit-of, row-put, row-none}
+use Rattle.slotset.proofs.Puts.{value-lt}
+use Rattle.rota.proofs.Steps.{row-put, row-none}
 use Rattle.rota.proofs.assignment.put_row.Statement.{statement}
 use Rattle.rota.proofs.assignment.put_row.Tie as tie
 
@@ -21,7 +22,7 @@ same-length c =
     let at-if1 = c .before .before .before .before .if1 in
     let at-args = c .before .before .before .before .before .before .args in
     ap length ((at-put-stretch .ensures .1) ∙ row-put _ _ _ _ _ _ _ (at-pre .0 .0) (at-pre .0 .1) (at-pre .0 .2) (at-pre .0 .3)
-    (at-pre .1 .0) (at-pre .1 .1) (at-if1 .left)) ∙ length-set-for (valueOf (at-args .want)) _ _ _ _ (bit-of (at-args
+    (at-pre .1 .0) (at-pre .1 .1) (at-if1 .left)) ∙ length-set-for (valueOf (at-args .want)) _ _ _ _ (value-lt (at-args
     .want))
 
 returns-2 : tie.Need-returns-2

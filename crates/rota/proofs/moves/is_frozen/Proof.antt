@@ -17,7 +17,7 @@ returns c = refl
 
 returns-2 : tie.Need-returns-2
 unfolding frozenBy
-returns-2 c = sym (ap (λ (x : ℕ). eqb x 1) (List·getD-eq-default (c .before .args .frozen .now) 0 (c .if1 .left)))
+returns-2 c = sym (ap (λ (x : ℕ). eqb x 1) (List·getD-eq-default (c .before .args .flags .now) 0 (c .if1 .left)))
 
 pub is-frozen-spec : {M : Type 1} → statement M
 is-frozen-spec = tie.close (tie.spec shared-slice-read-result returns returns-2)

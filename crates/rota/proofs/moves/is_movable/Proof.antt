@@ -11,10 +11,10 @@ use Rattle.rota.proofs.moves.is_movable.Statement.{statement}
 use Rattle.rota.proofs.moves.is_movable.Tie as tie
 
 abbrev Inv-loop : tie.InvT-loop
-Inv-loop frozen a e u₀ u = (a ≤ u) × (u ≤ e) × (allIn a u (λ v. not (frozenBy frozen v)) ≡ true)
+Inv-loop flags a e u₀ u = (a ≤ u) × (u ≤ e) × (allIn a u (λ v. not (frozenBy flags v)) ≡ true)
 
 abbrev μ-loop : tie.MeasureT-loop
-μ-loop frozen a e u₀ u = e - u
+μ-loop flags a e u₀ u = e - u
 
 loop-holds : tie.Need-loop-holds Inv-loop μ-loop
 loop-holds c = (search needs, search needs, in-none _ _)

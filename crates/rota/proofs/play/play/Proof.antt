@@ -24,8 +24,10 @@ frozen-of-requires c κs =
     let a = c16 .before .before .before .before .before .args in
     let P = plan (a .people) (a .slots) (a .starts .now) (a .ends .now) in
     let D = derived (a .sets .now) (a .minutes .now) in
-    let A = play-asks P (a .avail .now) (a .units) (a .firsts .now) (a .frozen .now) (a .count) (a .kinds .now) (a .ones .now) (a .twos .now)
-    (a .owners .now) D (a .answers .now) (sym (c .before .before .before .before .play-no .ensures) ∙ c .before .before .before .if1 .taken) in
+    let A = play-asks P (a .avail .now) (a .units) (a .firsts .now) (a .frozen .now) (a .count) (a .kinds .now) (a .ones .now)
+    (a .twos .now)
+    (a .owners .now) D (a .answers .now) (sym (c .before .before .before .before .play-no .ensures)
+    ∙ c .before .before .before .if1 .taken) in
     let G = A .grounds in
     ((G .on .sound .slots-few, asks-few _ _ _ _ _ _ _ _ _ _ _ _ A, G .flags), λ u h. unit-within _ _ _ (G .units-ok) u h)
 
@@ -43,22 +45,32 @@ run-requires c κs =
     let a = c24 .before .before .before .before .args in
     let P = plan (a .people) (a .slots) (a .starts .now) (a .ends .now) in
     let D = derived (a .sets .now) (a .minutes .now) in
-    let A = play-asks P (a .avail .now) (a .units) (a .firsts .now) (a .frozen .now) (a .count) (a .kinds .now) (a .ones .now) (a .twos .now)
+    let A = play-asks P (a .avail .now) (a .units) (a .firsts .now) (a .frozen .now) (a .count) (a .kinds .now) (a .ones .now)
+    (a .twos .now)
     (a .owners .now) D (a .answers .now) (sym (c8 .before .before .before .play-no .ensures) ∙ c8 .before .before .if1 .taken) in
     let F = asks-fits _ _ _ _ _ _ _ _ _ _ _ _ A _ (c8 .unit-domains .ensures .1) in
     let Z = c .before .before .before .before .before .before .frozen-of .ensures in (
       A .grounds .on .sound,
-      (asks-step _ _ _ _ _ _ _ _ _ _ _ _ A, (ready-sound _ _ _ _ _ _ _ _ _ _ _ _ A _ _ F Z, (ready-even _ _ _ _ _ _ _ _ _ _ _ _ A _ _ F Z, A .grounds .draws))),
+      (
+        asks-step _ _ _ _ _ _ _ _ _ _ _ _ A,
+        (
+          ready-sound _ _ _ _ _ _ _ _ _ _ _ _ A _ _ F Z,
+          (ready-even _ _ _ _ _ _ _ _ _ _ _ _ A _ _ F Z, A .grounds .draws),
+        ),
+      ),
     )
 
 same-length : tie.Need-same-length
-same-length c = let r = c .before .before .before .before .before .before .before .before .run in ran-owners _ _ _ _ _ _ _ _ _ _ _ _ (r .ensures)
+same-length c = let r = c .before .before .before .before .before .before .before .before .run in ran-owners _ _ _ _ _ _ _ _ _ _ _ _
+    (r .ensures)
 
 same-length-2 : tie.Need-same-length-2
-same-length-2 c = let r = c .before .before .before .before .before .before .before .before .run in ran-lengths _ _ _ _ _ _ _ _ _ _ _ _ (r .ensures) .0
+same-length-2 c = let r = c .before .before .before .before .before .before .before .before .run in ran-lengths _ _ _ _ _ _ _ _ _ _ _ _
+    (r .ensures) .0
 
 same-length-3 : tie.Need-same-length-3
-same-length-3 c = let r = c .before .before .before .before .before .before .before .before .run in ran-lengths _ _ _ _ _ _ _ _ _ _ _ _ (r .ensures) .1
+same-length-3 c = let r = c .before .before .before .before .before .before .before .before .run in ran-lengths _ _ _ _ _ _ _ _ _ _ _ _
+    (r .ensures) .1
 
 same-length-4 : tie.Need-same-length-4
 same-length-4 c =
@@ -69,8 +81,10 @@ same-length-4 c =
     let a = c32 .before .before .before .before .before .args in
     let P = plan (a .people) (a .slots) (a .starts .now) (a .ends .now) in
     let D = derived (a .sets .now) (a .minutes .now) in
-    let A = play-asks P (a .avail .now) (a .units) (a .firsts .now) (a .frozen .now) (a .count) (a .kinds .now) (a .ones .now) (a .twos .now)
-    (a .owners .now) D (a .answers .now) (sym (c16 .before .before .before .before .play-no .ensures) ∙ c16 .before .before .before .if1 .taken) in
+    let A = play-asks P (a .avail .now) (a .units) (a .firsts .now) (a .frozen .now) (a .count) (a .kinds .now) (a .ones .now)
+    (a .twos .now)
+    (a .owners .now) D (a .answers .now) (sym (c16 .before .before .before .before .play-no .ensures)
+    ∙ c16 .before .before .before .if1 .taken) in
     ran-answers _ _ _ _ _ _ _ _ _ _ _ _ (c8 .run .ensures) (A .grounds .draws .answers)
 
 returns : tie.Need-returns
@@ -82,10 +96,13 @@ returns c =
     let a = c32 .before .before .before .before .before .args in
     let P = plan (a .people) (a .slots) (a .starts .now) (a .ends .now) in
     let D = derived (a .sets .now) (a .minutes .now) in
-    let A = play-asks P (a .avail .now) (a .units) (a .firsts .now) (a .frozen .now) (a .count) (a .kinds .now) (a .ones .now) (a .twos .now)
-    (a .owners .now) D (a .answers .now) (sym (c16 .before .before .before .before .play-no .ensures) ∙ c16 .before .before .before .if1 .taken) in
+    let A = play-asks P (a .avail .now) (a .units) (a .firsts .now) (a .frozen .now) (a .count) (a .kinds .now) (a .ones .now)
+    (a .twos .now)
+    (a .owners .now) D (a .answers .now) (sym (c16 .before .before .before .before .play-no .ensures)
+    ∙ c16 .before .before .before .if1 .taken) in
     let F = asks-fits _ _ _ _ _ _ _ _ _ _ _ _ A _ (c16 .before .unit-domains .ensures .1) in
-    played-yes _ _ _ _ _ _ _ _ _ _ _ _ A _ _ F (c8 .before .before .before .before .before .before .before .frozen-of .ensures) _ (c16 .before .before .before .before .play-no .ensures) (c16 .before .before .before .if1 .taken) _ _ _ (c8 .run .ensures)
+    played-yes _ _ _ _ _ _ _ _ _ _ _ _ A _ _ F (c8 .before .before .before .before .before .before .before .frozen-of .ensures) _
+    (c16 .before .before .before .before .play-no .ensures) (c16 .before .before .before .if1 .taken) _ _ _ (c8 .run .ensures)
 
 same-length-5 : tie.Need-same-length-5
 same-length-5 c = search needs

@@ -20,8 +20,8 @@ abbrev μ-loop : tie.MeasureT-loop
 loop-holds : tie.Need-loop-holds Inv-loop μ-loop
 loop-holds c = (search needs, all-none _)
 
-shared-slice-read-is-member : tie.Need-shared-slice-read-is-member Inv-loop μ-loop
-shared-slice-read-is-member c = search needs
+shared-slice-read-same-bit : tie.Need-shared-slice-read-same-bit Inv-loop μ-loop
+shared-slice-read-same-bit c = search needs
 
 row-has-requires : tie.Need-row-has-requires Inv-loop μ-loop
 row-has-requires c κs =
@@ -29,8 +29,8 @@ row-has-requires c κs =
     let at-loop-test = c .before .loop-test in
     ((at-pre .0), (at-pre .1), (at-pre .2), (at-loop-test .taken), (at-pre .4))
 
-is-member-requires : tie.Need-is-member-requires Inv-loop μ-loop
-is-member-requires c κs = search needs
+same-bit-requires : tie.Need-same-bit-requires Inv-loop μ-loop
+same-bit-requires c κs = search needs
 
 add-k : tie.Need-add-k Inv-loop μ-loop
 add-k c = search needs
@@ -42,9 +42,9 @@ loop-again : tie.Need-loop-again Inv-loop μ-loop
 loop-again c =
     let at-loop = c .before .before .before .before .before .loop in
     let at-row-has = c .before .before .row-has in
-    let at-is-member = c .before .is-member in (
+    let at-same-bit = c .before .same-bit in (
       omega arith,
-      all-more _ _ (at-loop .inv .1) (member-test _ _ _ _ _ _ (at-row-has .ensures) (at-is-member .ensures) ∙ (c
+      all-more _ _ (at-loop .inv .1) (member-test _ _ _ _ _ _ (at-row-has .ensures) (at-same-bit .ensures) ∙ (c
           .if1 .taken)),
     )
 
@@ -53,8 +53,8 @@ returns c =
     let at-loop-test = c .before .before .before .before .loop-test in
     let at-loop = c .before .before .before .before .before .loop in
     let at-row-has = c .before .before .row-has in
-    let at-is-member = c .before .is-member in
-    scan-fails _ _ _ (at-loop-test .taken) (at-loop .inv .1) (member-test _ _ _ _ _ _ (at-row-has .ensures) (at-is-member
+    let at-same-bit = c .before .same-bit in
+    scan-fails _ _ _ (at-loop-test .taken) (at-loop .inv .1) (member-test _ _ _ _ _ _ (at-row-has .ensures) (at-same-bit
     .ensures) ∙ (c .if1 .left))
 
 returns-2 : tie.Need-returns-2 Inv-loop μ-loop
@@ -67,9 +67,9 @@ first-wrong-slot-spec =
     Inv-loop
     μ-loop
     loop-holds
-    shared-slice-read-is-member
+    shared-slice-read-same-bit
     row-has-requires
-    is-member-requires
+    same-bit-requires
     add-k
     loop-less
     loop-again

@@ -47,7 +47,8 @@ returns c =
     (else-same _ 2 _ _ _ _ (c4 .or-else4 .ensures) (c4 .before .words-ok .ensures)
     (else-same _ 2 _ _ column column (c4 .before .before .or-else3 .ensures) refl
     (else-same _ 2 _ _ (a .room) (a .room) (c4 .before .before .before .or-else2 .ensures) refl
-    (else-same _ 9 _ _ _ _ (c4 .before .before .before .before .or-else .ensures) (c4 .before .before .before .before .before .units-ok .ensures)
+    (else-same _ 9 _ _ _ _ (c4 .before .before .before .before .or-else .ensures)
+    (c4 .before .before .before .before .before .units-ok .ensures)
     refl)))))
 
 pub domain-no-spec : {M : Type 1} → statement M

@@ -33,7 +33,8 @@ unfolding unitDomainIs
 returns c =
     let c4 = c .before .before .before .before in
     let w = c .before .before .write-domain .ensures in
-    let n = no-after _ _ _ _ _ _ _ _ _ (c4 .before .before .before .domain-no .ensures) (c4 .before .before .before .before .or-else .ensures) in
+    let n = no-after _ _ _ _ _ _ _ _ _ (c4 .before .before .before .domain-no .ensures)
+    (c4 .before .before .before .before .or-else .ensures) in
     let s = domain-at _ _ _ _ _ _ _ _ (c4 .before .start-of .ensures) (c4 .unit-end .ensures) in
     written-told _ _ _ _ _ _ _ n (c4 .before .before .if1 .taken) (w .0) (w .1) s
 

@@ -38,7 +38,13 @@ slice-write-masks : tie.Need-slice-write-masks Inv-loop μ-loop
 slice-write-masks c =
     let a = c .before .before .args in
     let everybody = maskOf (λ _. true) (a .people) in
-    omega (arith, ap length (c .before .loop .inv .1), length-over (λ _. everybody) (c .before .loop .u) (a .masks .now), c .before .before .pre .2)
+    omega (
+      arith,
+      ap length (c .before .loop .inv .1),
+      length-over (λ _. everybody) (c .before .loop .u)
+          (a .masks .now),
+      c .before .before .pre .2,
+    )
 
 add-u : tie.Need-add-u Inv-loop μ-loop
 add-u c = omega arith

@@ -24,7 +24,8 @@ returns c =
 
 returns-2 : tie.Need-returns-2
 returns-2 c =
-    gap-first _ _ _ _ (c .before .before .before .before .pre .0) _ _ (c .before .before .if1 .taken) (c .before .able .ensures) (c .if2 .left)
+    gap-first _ _ _ _ (c .before .before .before .before .pre .0) _ _ (c .before .before .if1 .taken) (c .before .able .ensures)
+    (c .if2 .left)
 
 sub-next-unset-after : tie.Need-sub-next-unset-after
 sub-next-unset-after c = search needs
@@ -38,7 +39,8 @@ found-or-requires-2 c κs = search needs
 returns-3 : tie.Need-returns-3
 returns-3 c =
     let pre = c .before .before .before .before .pre in
-    gap-law _ _ _ _ (pre .0) _ _ _ _ (omega (arith, c .before .before .if1 .left)) (pre .1) (c .before .next-unset-after2 .ensures) (c .found-or2 .ensures)
+    gap-law _ _ _ _ (pre .0) _ _ _ _ (omega (arith, c .before .before .if1 .left)) (pre .1) (c .before .next-unset-after2 .ensures)
+    (c .found-or2 .ensures)
 
 pub next-gap-spec : {M : Type 1} → statement M
 next-gap-spec =

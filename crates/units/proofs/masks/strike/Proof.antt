@@ -15,7 +15,8 @@ use Rattle.units.proofs.masks.strike.Statement.{statement}
 use Rattle.units.proofs.masks.strike.Tie as tie
 
 abbrev Inv-loop : tie.InvT-loop
-Inv-loop avail people person slots units firsts v gap masks₀ had bit w₀ masks w = (v ≤ w) × (w ≤ units) × (masks ≡ over (maskThen avail people slots units firsts person w) units masks₀)
+Inv-loop avail people person slots units firsts v gap masks₀ had bit w₀ masks w =
+    (v ≤ w) × (w ≤ units) × (masks ≡ over (maskThen avail people slots units firsts person w) units masks₀)
 
 abbrev μ-loop : tie.MeasureT-loop
 μ-loop avail people person slots units firsts v gap masks₀ had bit w₀ masks w = units - w
@@ -52,7 +53,11 @@ cast-if1 c = omega (arith, c .shared-slice-known3 .given (c .before .before .loo
 mul-masks : tie.Need-mul-masks Inv-loop μ-loop
 mul-masks c =
     let pre = c .before .before .before .before .before .before .before .before .pre in
-    omega (arith, strike-room _ _ _ _ _ (pre .0 .right) _ _ _ _ 0 (pre .0 .room) (c .before .before .before .loop .inv .2) (c .before .before .loop-test .taken))
+    omega (
+      arith,
+      strike-room _ _ _ _ _ (pre .0 .right) _ _ _ _ 0 (pre .0 .room) (c .before .before .before .loop .inv .2)
+          (c .before .before .loop-test .taken),
+    )
 
 slice-read-masks : tie.Need-slice-read-masks Inv-loop μ-loop
 slice-read-masks c =
@@ -67,7 +72,8 @@ sub-masks c =
     let R = pre .0 in
     let h = pre .1 .0 .0 in
     let F = b4 .before .next-had .ensures in
-    let f = lacks-unit _ _ _ _ (R .right) _ _ _ _ _ (pre .1 .0 .1) (pre .1 .0 .2) (F .each) (b4 .loop .inv .0) (c .before .before .before .loop-test .taken)
+    let f = lacks-unit _ _ _ _ (R .right) _ _ _ _ _ (pre .1 .0 .1) (pre .1 .0 .2) (F .each) (b4 .loop .inv .0)
+    (c .before .before .before .loop-test .taken)
     (c .before .if1 .taken) in
     let bit = one-bit _ _ h (people-says _ (R .counted) .1) in
     strike-bit _ _ _ _ _ (R .right) _ _ _ _ _ (R .room) (b4 .loop .inv .2) (c .before .before .before .loop-test .taken) h bit f
@@ -91,7 +97,8 @@ loop-again c =
     let R = pre .0 in
     let h = pre .1 .0 .0 in
     let F = b4 .before .next-had .ensures in
-    let f = lacks-unit _ _ _ _ (R .right) _ _ _ _ _ (pre .1 .0 .1) (pre .1 .0 .2) (F .each) (b4 .loop .inv .0) (c .before .before .before .loop-test .taken)
+    let f = lacks-unit _ _ _ _ (R .right) _ _ _ _ _ (pre .1 .0 .1) (pre .1 .0 .2) (F .each) (b4 .loop .inv .0)
+    (c .before .before .before .loop-test .taken)
     (c .before .if1 .taken) in
     let bit = one-bit _ _ h (people-says _ (R .counted) .1) in (
       omega (arith, b4 .loop .inv .0),
@@ -108,7 +115,8 @@ returns c =
     let pre = b4 .before .before .before .before .pre in
     let I = pre .1 .0 .1 in
     let at = c .before .before .before .loop in
-    let g = gap-before _ _ _ _ _ (b4 .next-had .ensures) (omega (arith, I .to, unit-within _ _ _ (pre .0 .right) _ (I .known))) (pre .1 .0 .2) in
+    let g = gap-before _ _ _ _ _ (b4 .next-had .ensures) (omega (arith, I .to, unit-within _ _ _ (pre .0 .right) _ (I .known)))
+    (pre .1 .0 .2) in
     ((past (b4 .before .before .before .before .args .firsts .now) _ _ _ _ (at .inv .0) (I .from) g (c .if1 .left), at .inv .1), at .inv .2)
 
 same-length-2 : tie.Need-same-length-2 Inv-loop μ-loop

@@ -1,7 +1,7 @@
--- `rota::recount::is_member` meets its contract. Assumes nothing.
+-- `rota::recount::same_bit` meets its contract. Assumes nothing.
 use borrow.Author.Tests.{eq-eqb, ne-eqb}
-use Rattle.rota.proofs.recount.is_member.Statement.{statement}
-use Rattle.rota.proofs.recount.is_member.Tie as tie
+use Rattle.rota.proofs.recount.same_bit.Statement.{statement}
+use Rattle.rota.proofs.recount.same_bit.Tie as tie
 
 returns : tie.Need-returns
 returns c = simp (eq-eqb _ _ (c .if1 .taken))
@@ -12,5 +12,5 @@ returns-2 c = simp (ne-eqb _ _ (c .before .if1 .left), (c .if2 .taken))
 returns-3 : tie.Need-returns-3
 returns-3 c = simp (ne-eqb _ _ (c .before .if1 .left), (c .if2 .left))
 
-pub is-member-spec : {M : Type 1} → statement M
-is-member-spec = tie.close (tie.spec returns returns-2 returns-3)
+pub same-bit-spec : {M : Type 1} → statement M
+same-bit-spec = tie.close (tie.spec returns returns-2 returns-3)
