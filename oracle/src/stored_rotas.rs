@@ -23,7 +23,7 @@ const SECTIONS: [(u64, u64, &str); 7] = [
     (32, 5, " of damaged rotas"),
 ];
 
-/// Sections, each with its number of records as u16 before them: plays; twins, which act with no slot frozen; rotas that one assign makes
+/// Sections, each with its number of records as u16 before them: plays; twins, which act with no slot frozen and are stopped by one unit; rotas that one assign makes
 /// uneven; swaps of units of unequal lengths; reassigns that act; single assigns; damaged plays.
 ///
 /// A record is, low byte first: people, slots, units and draws as u16; sixteen starts and sixteen ends as u32; sixteen u16 of the slots at
@@ -188,22 +188,48 @@ fn case_12() -> RotaCase {
     }
 }
 
-/// A swap that acts where nothing is frozen, and answers 1 where the second unit is: the record has the frozen flags, and what is due of
-/// its twin without them. The first is marked case 12.
+/// A draw that acts where nothing is frozen, and answers 1 where a unit is frozen that it doesn't name first: the second of a swap, one
+/// inside a run, the one before a run that grows. The record has the frozen flags, and what is due of its twin without them. The first is
+/// marked case 12.
 fn twin(seed: &mut Seed, made: u64) -> Option<Record> {
     let mut case = if made == 0 { case_12() } else { small(seed)? };
-    let units = case.problem.unit_count();
     if made > 0 {
         case.problem.frozen.fill(false);
-        case.draws = vec![(seed.within(35, 59) as u16, one_of(seed, units), one_of(seed, units))];
+        case.draws = vec![stoppable(seed, case.problem.unit_count(), made)];
     }
     let end = case.play();
-    let second = case.problem.units[usize::from(case.draws[0].2)].clone();
-    case.problem.frozen[second.start + seed.below(second.len() as u64) as usize] = true;
-    let stays = case.play();
-    let tells = end.answers == [0] && stays.answers == [1] && stays.owners == case.owners;
+    let first = usize::from(case.draws[0].1);
+    let others: Vec<usize> = (0..case.problem.unit_count()).filter(|&unit| unit != first).collect();
+    let stopping: Vec<usize> = others.into_iter().filter(|&unit| is_stopped_by(&mut case, unit)).collect();
+    let tells = end.answers == [0] && !stopping.is_empty();
     assert!(made > 0 || tells, "the Rust takes marked case 12 as the paper says");
-    tells.then(|| Record::new(case, end))
+    if !tells {
+        return None;
+    }
+    let unit = case.problem.units[seed.pick(&stopping)].clone();
+    case.problem.frozen[unit.start + seed.below(unit.len() as u64) as usize] = true;
+    Some(Record::new(case, end))
+}
+
+/// A draw of one of the four moves that a frozen unit besides the first can stop, by turns.
+fn stoppable(seed: &mut Seed, units: usize, made: u64) -> Draw {
+    let first = one_of(seed, units);
+    let (draw, second) = match made % 4 {
+        0 => (seed.within(35, 59), one_of(seed, units)),
+        1 => (seed.within(60, 74), seed.below(PEOPLE as u64) as u16),
+        2 => (seed.within(75, 89), one_of(seed, units)),
+        _ => (seed.within(90, 99), seed.below(2) as u16),
+    };
+    (draw as u16, first, second)
+}
+
+/// Whether the draw answers 1 and nothing changes once this unit, and no other, is frozen.
+fn is_stopped_by(case: &mut RotaCase, unit: usize) -> bool {
+    let slot = case.problem.units[unit].start;
+    case.problem.frozen[slot] = true;
+    let stays = case.play();
+    case.problem.frozen[slot] = false;
+    stays.answers == [1] && stays.owners == case.owners
 }
 
 fn one_of(seed: &mut Seed, units: usize) -> u16 {

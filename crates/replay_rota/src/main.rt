@@ -365,7 +365,7 @@ fn first_answer(end: Rota) -> u8 {
     said[0]
 }
 
-// Marked case 12 and its like: with the second unit frozen the swap answers 1 and changes no owner; its unfrozen twin acts.
+// Marked case 12 and its like: with a unit frozen the draw answers 1 and changes no owner; its unfrozen twin acts.
 fn twin_acts(tally: Tally, b: &[u8]) -> Tally {
     let stays = play(b, flags(b), begin(b));
     let who = stays.owners;
