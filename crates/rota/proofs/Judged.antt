@@ -1,6 +1,7 @@
--- The laws of judging a draw: tests in a row, masks of people, picks, and the walks to a run's two ends. Assumes nothing.
+-- The laws of judging a draw: tests in a row, masks of people, picks, owners of units, and the walks to a run's two ends. Assumes nothing.
 use mathlib.Core.Path.{_≡_, refl, sym, ap, ap₂, _∙_}
 use mathlib.Core.Bool.{Bool, true, false, cond, _&&_, _||_}
+use mathlib.Core.Logic.{⊎-elim}
 use mathlib.Core.List.{List, [], _∷_}
 use Prim.Native.Nat.{ℕ, zero, suc, _+_, _-_, _^_, _≤_, _<_, min}
 use native.Mathlib.Nat.{le-antisymm}
@@ -12,13 +13,14 @@ use lib.ListN.{length, getD, length-append}
 use Rattle.paper.specs.Bits.{bitOf}
 use Rattle.paper.specs.Count.{all, allIn, among}
 use Rattle.paper.proofs.Bits.{top-clear, bit-and, bit-ones, bit-lt}
-use Rattle.paper.proofs.Count.{in-none, among-at, among-in}
+use Rattle.paper.proofs.Count.{in-none, in-fails, among-at, among-in}
+use Rattle.paper.proofs.Logic.{lt-or-ge}
 use Rattle.rota.specs.declared.Pick.the-variants.{Nobody, Beyond, Person}
 use Rattle.rota.specs.declared.Move.{Move}
 use Rattle.rota.specs.declared.Move.the-variants.{Stay}
-use Rattle.rota.specs.Board.{runStart, runTo, runEnd}
+use Rattle.rota.specs.Board.{BoardSound, Even, runStart, runTo, runEnd}
 use Rattle.units.specs.Domains.{inMask}
-use Rattle.rota.specs.Ready.{fitsBy, Cover}
+use Rattle.rota.specs.Ready.{ready, fitsBy, Cover, OwnerRoom}
 use Rattle.rota.specs.Moves.{anyOf, stayIf, picked}
 
 -- ---- tests in a row
@@ -66,6 +68,11 @@ in-step a k p h =
     let y : a + (k - a) ≡ k = omega arith in
     ap (λ (n : ℕ). all n (λ j. p (a + j))) z ∙ ap (λ (j : ℕ). all (k - a) (λ i. p (a + i)) && p j) y
 
+-- a test that holds at k changes nothing
+pub in-same : (a k : ℕ) (p : ℕ → Bool) → a ≤ k → p k ≡ true → allIn a (k + 1) p ≡ allIn a k p
+in-same a k p h t =
+    in-step a k p h ∙ ap (λ (b : Bool). allIn a k p && b) t ∙ mathlib.Core.Bool.and-true (allIn a k p)
+
 pub cover-start : (fits : List ℕ) (a : ℕ) → Cover fits a a (2 ^ 32 - 1)
 unfolding inMask
 cover-start fits a =
@@ -81,6 +88,16 @@ cover-more fits a u mask m h q C =
           ∙ ap₂ (λ (b : Bool) (x : ℕ). b && eqb (bitOf x p) 1) (C .each p g) q
           ∙ sym (in-step a u (fitsBy fits p) h);
     }
+
+-- a mask of those who fit every unit tells it of anybody, where there is a unit: who lies past the mask fits none
+pub cover-says : (fits : List ℕ) (a e mask p : ℕ) → a < e → mask < 2 ^ 32 → getD fits a 0 < 2 ^ 32 → Cover fits a e mask
+    → inMask mask p ≡ allIn a e (fitsBy fits p)
+unfolding fitsBy
+cover-says fits a e mask p h m f C =
+    ⊎-elim (λ (l : p < 32). C .each p l)
+    (λ (l : 32 ≤ p).
+    sym (mask-past mask p m l) ∙ in-fails a a e (fitsBy fits p) (omega arith) h (sym (mask-past (getD fits a 0) p f l)))
+    (lt-or-ge p 32)
 
 -- ---- picks
 
@@ -111,6 +128,17 @@ module _ (q : ℕ → Bool) (people k : ℕ) where
         let x : leb (length (among q people)) k ≡ true = le-leb (length (among q people)) k (omega (arith, all-seen)) in
         let y : eqb (length (among q people)) 0 ≡ false = ne-eqb _ _ (λ w. z (sym all-seen ∙ w)) in
         simp (x, y)
+
+-- ---- the owners of units
+
+pub fewer-owned : (n m : ℕ) (firsts owners : List ℕ) → n ≤ m → OwnerRoom m firsts owners → OwnerRoom n firsts owners
+fewer-owned n m firsts owners h R =
+    record { starts = omega (arith, R .starts); owned = λ u l. R .owned u (omega arith) }
+
+pub board-owned : (people slots units : ℕ) (firsts fits flags owners : List ℕ) → BoardSound (ready people slots units firsts fits flags)
+    → Even (ready people slots units firsts fits flags) owners → units ≤ length firsts → OwnerRoom units firsts owners
+board-owned people slots units firsts fits flags owners S E h =
+    record { starts = h; owned = λ u l. omega (arith, S .rising u l, S .within u l, E .room) }
 
 -- ---- the walks to a run's ends
 

@@ -31,6 +31,11 @@ ready people slots units firsts fits flags =
       frozen = frozenBy flags;
     }
 
+-- each of the first n units has its start lent, and an owner at that slot
+pub record OwnerRoom (n : ℕ) (firsts owners : List ℕ) : Type 0 where
+  pub starts : n ≤ length firsts
+  pub owned : (u : ℕ) → u < n → unitStart firsts u < length owners
+
 -- mask has those who stand in every mask from unit a up to e
 pub record Cover (fits : List ℕ) (a e mask : ℕ) : Type 0 where
   pub each : (p : ℕ) → p < 32 → inMask mask p ≡ allIn a e (fitsBy fits p)

@@ -10,7 +10,7 @@ ghost use Rattle.paper.specs.Count.{allIn, among};
 ghost use Rattle.units.specs.Units.{unitStart, unitEnd};
 ghost use Rattle.rota.specs.Board.{ownerOf, runStart, runEnd};
 ghost use Rattle.units.specs.Domains.{inMask};
-ghost use Rattle.rota.specs.Ready.{ready, fitsBy, frozenBy, Cover, runsFit};
+ghost use Rattle.rota.specs.Ready.{ready, fitsBy, frozenBy, Cover, runsFit, OwnerRoom};
 ghost use Rattle.rota.specs.Moves.{draw, movable, firstOf, lastOf, picked, reassigned, swapped, runReassigned, runsSwapped};
 ghost use Rattle.rota.specs.Moves.{grown, shrunk, shifted, decided};
 
@@ -58,15 +58,24 @@ fn fits_unit(fits: &[u32], person: u8, unit: usize) -> bool
     in_mask(mask_of(fits, unit), person as usize)
 }
 
+// The owner of a unit whose start, and the owner there, are known to be lent: nothing is tested.
+fn owner_at(firsts: &[u16], owners: &[u8], unit: usize) -> u8
+    requires { ⌜ (unit < length (now firsts)) × (unitStart (now firsts) unit < length (now owners)) ⌝ }
+    ensures { λ r. ⌜ r ≡ getD (now (owners .entry)) (unitStart (now (firsts .entry)) unit) 0 ⌝ }
+{
+    owners[firsts[unit] as usize]
+}
+
 // The first unit of a unit's run.
 fn run_start(firsts: &[u16], owners: &[u8], unit: usize) -> usize
+    requires { ⌜ OwnerRoom (suc unit) (now firsts) (now owners) ⌝ }
     ensures { λ r. ⌜ r ≡ runStart (λ u. getD (now (owners .entry)) (unitStart (now (firsts .entry)) u) 0) unit ⌝ }
 {
-    let owner = owner_of(firsts, owners, unit);
+    let owner = owner_at(firsts, owners, unit);
     let mut start = unit;
     while 0 < start {
         let before = start - 1;
-        if owner_of(firsts, owners, before) == owner {
+        if owner_at(firsts, owners, before) == owner {
             start = before;
         } else {
             return start;
@@ -78,13 +87,14 @@ fn run_start(firsts: &[u16], owners: &[u8], unit: usize) -> usize
 // The last unit of a unit's run.
 fn run_end(units: usize, firsts: &[u16], owners: &[u8], unit: usize) -> usize
     requires { ⌜ unit < units ⌝ }
+    requires { ⌜ OwnerRoom units (now firsts) (now owners) ⌝ }
     ensures { λ r. ⌜ r ≡ runEnd units (λ u. getD (now (owners .entry)) (unitStart (now (firsts .entry)) u) 0) unit ⌝ }
 {
-    let owner = owner_of(firsts, owners, unit);
+    let owner = owner_at(firsts, owners, unit);
     let mut end = unit;
     let mut next = unit + 1;
     while next < units {
-        if owner_of(firsts, owners, next) == owner {
+        if owner_at(firsts, owners, next) == owner {
             end = next;
             next += 1;
         } else {
@@ -94,31 +104,33 @@ fn run_end(units: usize, firsts: &[u16], owners: &[u8], unit: usize) -> usize
     end
 }
 
-// Whether no unit from a up to e is frozen.
+// Whether no unit from a up to e is frozen. All of them are read: a loop that leaves early reads one at a time.
 fn is_movable(flags: &[u8], a: usize, e: usize) -> bool
-    requires { ⌜ a ≤ e ⌝ }
+    requires { ⌜ (a ≤ e) × (e ≤ length (now flags)) ⌝ }
     ensures { λ r. ⌜ r ≡ allIn a e (λ u. not (frozenBy (now (flags .entry)) u)) ⌝ }
 {
+    let mut free = true;
     let mut u = a;
     while u < e {
-        if is_frozen(flags, u) {
-            return false;
+        if flags[u] == 1 {
+            free = false;
+            u += 1;
         } else {
             u += 1;
         }
     }
-    true
+    free
 }
 
 // The people who fit every unit from a up to e.
 fn cover_of(fits: &[u32], a: usize, e: usize) -> u32
-    requires { ⌜ a ≤ e ⌝ }
+    requires { ⌜ (a ≤ e) × (e ≤ length (now fits)) ⌝ }
     ensures { λ r. ⌜ Cover (now (fits .entry)) a e r ⌝ }
 {
     let mut mask = !0u32;
     let mut u = a;
     while u < e {
-        mask = mask & mask_of(fits, u);
+        mask = mask & fits[u];
         u += 1;
     }
     mask
@@ -126,18 +138,10 @@ fn cover_of(fits: &[u32], a: usize, e: usize) -> u32
 
 // Whether a person fits every unit from a up to e.
 fn fits_all(fits: &[u32], a: usize, e: usize, person: u8) -> bool
-    requires { ⌜ a ≤ e ⌝ }
+    requires { ⌜ (a < e) × (e ≤ length (now fits)) ⌝ }
     ensures { λ r. ⌜ r ≡ allIn a e (fitsBy (now (fits .entry)) person) ⌝ }
 {
-    let mut u = a;
-    while u < e {
-        if fits_unit(fits, person, u) {
-            u += 1;
-        } else {
-            return false;
-        }
-    }
-    true
+    in_mask(cover_of(fits, a, e), person as usize)
 }
 
 // The nth person of a mask, ascending, `skip` left out.
@@ -310,6 +314,8 @@ fn reassign_run(
     second: usize,
 ) -> Move
     requires { ⌜ (people ≤ 32) × (first < units) ⌝ }
+    requires { ⌜ OwnerRoom units (now firsts) (now owners) ⌝ }
+    requires { ⌜ (units ≤ length (now fits)) × (units ≤ length (now flags)) ⌝ }
     ensures { λ r. ⌜ r ≡ runReassigned (ready people slots units (now (firsts .entry)) (now (fits .entry)) (now (flags .entry)))
         (now (owners .entry)) first second ⌝ }
 {
@@ -346,6 +352,8 @@ fn swap_runs(
     second: usize,
 ) -> Move
     requires { ⌜ (first < units) × (second < units) ⌝ }
+    requires { ⌜ OwnerRoom units (now firsts) (now owners) ⌝ }
+    requires { ⌜ (units ≤ length (now fits)) × (units ≤ length (now flags)) ⌝ }
     ensures { λ r. ⌜ r ≡ runsSwapped (ready people slots units (now (firsts .entry)) (now (fits .entry)) (now (flags .entry))) (now
         (owners .entry)) first second ⌝ }
 {
@@ -390,7 +398,8 @@ fn runs_fit(
     g: usize,
     to2: u8,
 ) -> bool
-    requires { ⌜ (a ≤ e) × (c ≤ g) ⌝ }
+    requires { ⌜ (a < e) × (c < g) ⌝ }
+    requires { ⌜ (e ≤ length (now fits)) × (g ≤ length (now fits)) × (e ≤ length (now flags)) × (g ≤ length (now flags)) ⌝ }
     ensures { λ r. ⌜ r ≡ runsFit (now (fits .entry)) (now (flags .entry)) a e to c g to2 ⌝ }
 {
     if is_movable(flags, a, e) {
@@ -478,6 +487,7 @@ fn shift_boundary(
     second: usize,
 ) -> Move
     requires { ⌜ first < units ⌝ }
+    requires { ⌜ OwnerRoom units (now firsts) (now owners) ⌝ }
     ensures { λ r. ⌜ r ≡ shifted (ready people slots units (now (firsts .entry)) (now (fits .entry)) (now (flags .entry))) (now
         (owners .entry)) first second ⌝ }
 {
@@ -513,6 +523,8 @@ pub(crate) fn decide(
     second: u16,
 ) -> Move
     requires { ⌜ people ≤ 32 ⌝ }
+    requires { ⌜ OwnerRoom units (now firsts) (now owners) ⌝ }
+    requires { ⌜ (units ≤ length (now fits)) × (units ≤ length (now flags)) ⌝ }
     ensures { λ r. ⌜ r ≡ decided (ready people slots units (now (firsts .entry)) (now (fits .entry)) (now (flags .entry))) (now
         (owners .entry)) (draw kind first second) ⌝ }
 {

@@ -67,6 +67,7 @@ fn step(
     requires { ⌜ InStep (plan people slots (now starts) (now ends)) (now owners) (derived (now sets) (now minutes)) ⌝ }
     requires { ⌜ BoardSound (ready people slots units (now firsts) (now fits) (now flags)) ⌝ }
     requires { ⌜ Even (ready people slots units (now firsts) (now fits) (now flags)) (now owners) ⌝ }
+    requires { ⌜ (units ≤ length (now firsts)) × (units ≤ length (now fits)) × (units ≤ length (now flags)) ⌝ }
     ensures { λ r. ⌜ Stepped (plan people slots (now (starts .entry)) (now (ends .entry))) (ready people slots units (now (firsts
         .entry)) (now (fits .entry)) (now (flags .entry))) (now (owners .entry)) (derived (now (sets .entry)) (now (minutes
         .entry))) (draw kind first second) r (now (owners .exit)) (derived (now (sets .exit)) (now (minutes .exit))) ⌝ }
@@ -160,6 +161,7 @@ fn run(
     requires { ⌜ BoardSound (ready people slots units (now firsts) (now fits) (now flags)) ⌝ }
     requires { ⌜ Even (ready people slots units (now firsts) (now fits) (now flags)) (now owners) ⌝ }
     requires { ⌜ DrawRoom count (now kinds) (now ones) (now twos) (now answers) ⌝ }
+    requires { ⌜ (units ≤ length (now firsts)) × (units ≤ length (now fits)) × (units ≤ length (now flags)) ⌝ }
     ensures { λ _. ⌜ Ran (plan people slots (now (starts .entry)) (now (ends .entry))) (ready people slots units (now (firsts
         .entry)) (now (fits .entry)) (now (flags .entry))) (now (owners .entry)) (derived (now (sets .entry)) (now (minutes
         .entry))) (now (answers .entry)) (drawsOf (now (kinds .entry)) (now (ones .entry)) (now (twos .entry)) count) (now (owners

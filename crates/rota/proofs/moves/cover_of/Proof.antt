@@ -1,5 +1,5 @@
 -- `rota::moves::cover_of` meets its contract. Assumes nothing.
-use mathlib.Core.Path.{_≡_, sym}
+use mathlib.Core.Path.{_≡_, refl, sym}
 use Prim.Native.Nat.{_-_, _≤_}
 use native.Mathlib.Omega.{arith}
 use borrow.Author.Needs.{needs}
@@ -17,8 +17,11 @@ abbrev μ-loop : tie.MeasureT-loop
 loop-holds : tie.Need-loop-holds Inv-loop μ-loop
 loop-holds c = (search needs, search needs, cover-start _ _)
 
-mask-of-requires : tie.Need-mask-of-requires Inv-loop μ-loop
-mask-of-requires c κs = search needs
+mul-mask : tie.Need-mul-mask Inv-loop μ-loop
+mul-mask c = search needs
+
+shared-slice-read-mask : tie.Need-shared-slice-read-mask Inv-loop μ-loop
+shared-slice-read-mask c = search needs
 
 add-u : tie.Need-add-u Inv-loop μ-loop
 add-u c = search needs
@@ -29,16 +32,16 @@ loop-less c = omega arith
 loop-again : tie.Need-loop-again Inv-loop μ-loop
 loop-again c =
     let at-loop = c .before .before .loop in
-    (omega arith, omega arith, cover-more _ _ _ _ _ (at-loop .inv .0) (c .mask-of .ensures) (at-loop .inv .2))
+    (omega arith, omega arith, cover-more _ _ _ _ _ (at-loop .inv .0) refl (at-loop .inv .2))
 
 returns : tie.Need-returns Inv-loop μ-loop
 returns c =
     let at-loop = c .before .loop in
-    let at-args = c .before .before .before .args in
+    let at-args = c .before .before .args in
     let q : (at-loop .u) ≡ (at-args .e) = omega arith in
     rw (sym q) (at-loop .inv .2)
 
 pub cover-of-spec : {M : Type 1} → statement M
 cover-of-spec =
     tie.close
-    (tie.spec Inv-loop μ-loop loop-holds mask-of-requires add-u loop-less loop-again returns)
+    (tie.spec Inv-loop μ-loop loop-holds mul-mask shared-slice-read-mask add-u loop-less loop-again returns)

@@ -1,33 +1,28 @@
 -- `rota::moves::is_movable` meets its contract. Assumes nothing.
 use mathlib.Core.Path.{_≡_, sym, ap, _∙_}
-use mathlib.Core.Bool.{true, not}
-use Prim.Native.Nat.{_-_, _≤_}
+use mathlib.Core.Bool.{not}
+use Prim.Native.Nat.{ℕ, _-_, _≤_}
 use native.Mathlib.Omega.{arith}
 use borrow.Author.Needs.{needs}
+use borrow.Author.Tests.{eq-eqb, ne-eqb}
 use Rattle.paper.specs.Count.{allIn}
-use Rattle.paper.proofs.Count.{in-none, in-more, in-fails, in-done}
+use Rattle.paper.proofs.Count.{in-none, in-fails}
 use Rattle.rota.specs.Ready.{frozenBy}
+use Rattle.rota.proofs.Judged.{in-same}
 use Rattle.rota.proofs.moves.is_movable.Statement.{statement}
 use Rattle.rota.proofs.moves.is_movable.Tie as tie
 
 abbrev Inv-loop : tie.InvT-loop
-Inv-loop flags a e u₀ u = (a ≤ u) × (u ≤ e) × (allIn a u (λ v. not (frozenBy flags v)) ≡ true)
+Inv-loop flags a e free₀ u₀ free u = (a ≤ u) × (u ≤ e) × (allIn a u (λ v. not (frozenBy flags v)) ≡ free)
 
 abbrev μ-loop : tie.MeasureT-loop
-μ-loop flags a e u₀ u = e - u
+μ-loop flags a e free₀ u₀ free u = e - u
 
 loop-holds : tie.Need-loop-holds Inv-loop μ-loop
 loop-holds c = (search needs, search needs, in-none _ _)
 
-is-frozen-requires : tie.Need-is-frozen-requires Inv-loop μ-loop
-is-frozen-requires c κs = search needs
-
-returns : tie.Need-returns Inv-loop μ-loop
-returns c =
-    let at-loop = c .before .before .before .loop in
-    let at-loop-test = c .before .before .loop-test in
-    let at-is-frozen = c .before .is-frozen in
-    in-fails _ _ _ _ (at-loop .inv .0) (at-loop-test .taken) (ap not (sym (at-is-frozen .ensures) ∙ (c .if1 .taken)))
+shared-slice-read-if1 : tie.Need-shared-slice-read-if1 Inv-loop μ-loop
+shared-slice-read-if1 c = search needs
 
 add-u : tie.Need-add-u Inv-loop μ-loop
 add-u c = search needs
@@ -36,17 +31,35 @@ loop-less : tie.Need-loop-less Inv-loop μ-loop
 loop-less c = omega arith
 
 loop-again : tie.Need-loop-again Inv-loop μ-loop
+unfolding frozenBy
 loop-again c =
-    let at-loop = c .before .before .before .loop in
-    let at-is-frozen = c .before .is-frozen in (
+    let at-loop = c .before .before .before .loop in (
       omega arith,
       omega arith,
-      in-more _ _ _ (at-loop .inv .0) (at-loop .inv .2) (ap not (sym (at-is-frozen .ensures) ∙ (c .if1
-          .left))),
+      sym (in-fails _ _ _ _ (at-loop .inv .0) (omega arith) (ap not (eq-eqb _ _ (c .if1 .taken)))),
     )
 
-returns-2 : tie.Need-returns-2 Inv-loop μ-loop
-returns-2 c = in-done _ _ _ _ (c .before .loop .inv .1) (c .loop-test .left) (c .before .loop .inv .2)
+add-u-2 : tie.Need-add-u-2 Inv-loop μ-loop
+add-u-2 c = search needs
+
+loop-less-2 : tie.Need-loop-less-2 Inv-loop μ-loop
+loop-less-2 c = omega arith
+
+loop-again-2 : tie.Need-loop-again-2 Inv-loop μ-loop
+unfolding frozenBy
+loop-again-2 c =
+    let at-loop = c .before .before .before .loop in (
+      omega arith,
+      omega arith,
+      in-same _ _ _ (at-loop .inv .0) (ap not (ne-eqb _ _ (c .if1 .left))) ∙ at-loop .inv .2,
+    )
+
+returns : tie.Need-returns Inv-loop μ-loop
+returns c =
+    let at-loop = c .before .loop in
+    let at-args = c .before .before .args in
+    let q : (at-loop .u) ≡ (at-args .e) = omega arith in
+    sym (at-loop .inv .2) ∙ ap (λ (n : ℕ). allIn (at-args .a) n (λ v. not (frozenBy (at-args .flags .now) v))) q
 
 pub is-movable-spec : {M : Type 1} → statement M
 is-movable-spec =
@@ -55,9 +68,11 @@ is-movable-spec =
     Inv-loop
     μ-loop
     loop-holds
-    is-frozen-requires
-    returns
+    shared-slice-read-if1
     add-u
     loop-less
     loop-again
-    returns-2)
+    add-u-2
+    loop-less-2
+    loop-again-2
+    returns)

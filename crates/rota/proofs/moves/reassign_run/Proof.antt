@@ -6,6 +6,7 @@ use lib.ListN.{getD}
 use Rattle.units.specs.Units.{unitStart}
 use Rattle.rota.specs.Board.{ownerOf}
 use Rattle.rota.specs.Moves.{firstOf, lastOf}
+use Rattle.rota.proofs.Judged.{fewer-owned}
 use Rattle.rota.proofs.Moved.{run-order, run-frozen, run-unowned, run-stuck, run-nobody, run-beyond, run-given}
 use Rattle.rota.proofs.moves.reassign_run.Statement.{statement}
 use Rattle.rota.proofs.moves.reassign_run.Tie as tie
@@ -28,17 +29,21 @@ unfolding ownerOf
 returns-2 c = run-unowned _ _ _ _ _ (c .before .before .before .owner-of .ensures) (c .if2 .taken)
 
 run-start-requires : tie.Need-run-start-requires
-run-start-requires c κs = search needs
+run-start-requires c κs =
+    let at-pre = c .before .before .before .before .before .before .before .before .pre in
+    fewer-owned _ _ _ _ (at-pre .0 .1) (at-pre .1 .0)
 
 run-end-requires : tie.Need-run-end-requires
-run-end-requires c κs = search needs
+run-end-requires c κs =
+    let at-pre = c .before .before .before .before .before .before .before .before .before .pre in
+    (at-pre .0 .1, at-pre .1 .0)
 
 add-is-movable : tie.Need-add-is-movable
 add-is-movable c =
     let at-args = c .before .before .before .before .before .before .before .before .before .before .args in
     let at-pre = c .before .before .before .before .before .before .before .before .before .before .pre in
     let r = run-order (λ u. getD (at-args .owners .now) (unitStart (at-args .firsts .now) u) 0) (at-args .units) (at-args
-    .first) (at-pre .1) in
+    .first) (at-pre .0 .1) in
     omega (arith, (c .run-end .ensures), r .1)
 
 is-movable-requires : tie.Need-is-movable-requires
@@ -47,8 +52,8 @@ is-movable-requires c κs =
     let at-pre = c .before .before .before .before .before .before .before .before .before .before .pre in
     let at-run-start = c .before .run-start in
     let r = run-order (λ u. getD (at-args .owners .now) (unitStart (at-args .firsts .now) u) 0) (at-args .units) (at-args
-    .first) (at-pre .1) in
-    omega (arith, (c .run-end .ensures), (at-run-start .ensures), r .0)
+    .first) (at-pre .0 .1) in
+    (omega (arith, (c .run-end .ensures), (at-run-start .ensures), r .0), omega (arith, (c .run-end .ensures), r .1, at-pre .1 .1 .1))
 
 add-cover-of : tie.Need-add-cover-of
 add-cover-of c =
@@ -56,7 +61,7 @@ add-cover-of c =
     let at-pre = c .before .before .before .before .before .before .before .before .before .before .before .before .pre in
     let at-run-end = c .before .before .run-end in
     let r = run-order (λ u. getD (at-args .owners .now) (unitStart (at-args .firsts .now) u) 0) (at-args .units) (at-args
-    .first) (at-pre .1) in
+    .first) (at-pre .0 .1) in
     omega (arith, (at-run-end .ensures), r .1)
 
 cover-of-requires : tie.Need-cover-of-requires
@@ -66,8 +71,8 @@ cover-of-requires c κs =
     let at-run-end = c .before .before .run-end in
     let at-run-start = c .before .before .before .run-start in
     let r = run-order (λ u. getD (at-args .owners .now) (unitStart (at-args .firsts .now) u) 0) (at-args .units) (at-args
-    .first) (at-pre .1) in
-    omega (arith, (at-run-end .ensures), (at-run-start .ensures), r .0)
+    .first) (at-pre .0 .1) in
+    (omega (arith, (at-run-end .ensures), (at-run-start .ensures), r .0), omega (arith, (at-run-end .ensures), r .1, at-pre .1 .1 .0))
 
 nth-of-requires : tie.Need-nth-of-requires
 nth-of-requires c κs = search needs
@@ -100,7 +105,7 @@ returns-3 c =
     let at-cover-of = c .before .before .before .cover-of in
     let at-nth-of = c .before .before .nth-of in
     run-nobody _ _ _ _ _ (at-owner-of .ensures) _ _ (at-run-start .ensures) (at-run-end .ensures) _ _ (sym (at-is-frozen
-    .ensures) ∙ (at-if1 .left)) (at-if2 .left) (sym (at-is-movable .ensures) ∙ (at-if3 .taken)) (at-pre .0) ((at-cover-of
+    .ensures) ∙ (at-if1 .left)) (at-if2 .left) (sym (at-is-movable .ensures) ∙ (at-if3 .taken)) (at-pre .0 .0) ((at-cover-of
     .ensures) .each) (at-nth-of .ensures) (c .enum-told .given .1)
 
 returns-4 : tie.Need-returns-4
@@ -119,7 +124,7 @@ returns-4 c =
     let at-cover-of = c .before .before .before .cover-of in
     let at-nth-of = c .before .before .nth-of in
     run-beyond _ _ _ _ _ (at-owner-of .ensures) _ _ (at-run-start .ensures) (at-run-end .ensures) _ _ (sym (at-is-frozen
-    .ensures) ∙ (at-if1 .left)) (at-if2 .left) (sym (at-is-movable .ensures) ∙ (at-if3 .taken)) (at-pre .0) ((at-cover-of
+    .ensures) ∙ (at-if1 .left)) (at-if2 .left) (sym (at-is-movable .ensures) ∙ (at-if3 .taken)) (at-pre .0 .0) ((at-cover-of
     .ensures) .each) (at-nth-of .ensures) (c .enum-told2 .given .1)
 
 returns-5 : tie.Need-returns-5
@@ -141,7 +146,7 @@ returns-5 c =
     let at-nth-of = c .before .before .before .before .nth-of in
     let at-p = c .before .before .p in
     run-given _ _ _ _ _ (at-owner-of .ensures) _ _ (at-run-start .ensures) (at-run-end .ensures) _ _ (sym (at-is-frozen
-    .ensures) ∙ (at-if1 .left)) (at-if2 .left) (sym (at-is-movable .ensures) ∙ (at-if3 .taken)) (at-pre .0) ((at-cover-of
+    .ensures) ∙ (at-if1 .left)) (at-if2 .left) (sym (at-is-movable .ensures) ∙ (at-if3 .taken)) (at-pre .0 .0) ((at-cover-of
     .ensures) .each) (at-nth-of .ensures) _ _ (at-p .given .1) (c .give .ensures)
 
 returns-6 : tie.Need-returns-6

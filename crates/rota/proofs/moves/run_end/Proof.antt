@@ -18,17 +18,23 @@ Inv-loop units firsts owners unit owner end₀ next₀ end next =
 abbrev μ-loop : tie.MeasureT-loop
 μ-loop units firsts owners unit owner end₀ next₀ end next = units - next
 
-owner-of-requires : tie.Need-owner-of-requires Inv-loop μ-loop
-owner-of-requires c κs = search needs
+owner-at-requires : tie.Need-owner-at-requires Inv-loop μ-loop
+owner-at-requires c κs =
+    let at-pre = c .before .before .pre in
+    let at-args = c .before .before .args in
+    (omega (arith, (at-pre .1) .starts), (at-pre .1) .owned (at-args .unit) (at-pre .0))
 
 add-next : tie.Need-add-next Inv-loop μ-loop
 add-next c = search needs
 
 loop-holds : tie.Need-loop-holds Inv-loop μ-loop
-loop-holds c = (refl, refl, (c .owner-of .ensures))
+loop-holds c = (refl, refl, (c .owner-at .ensures))
 
-owner-of-requires-2 : tie.Need-owner-of-requires-2 Inv-loop μ-loop
-owner-of-requires-2 c κs = search needs
+owner-at-requires-2 : tie.Need-owner-at-requires-2 Inv-loop μ-loop
+owner-at-requires-2 c κs =
+    let at-pre = c .before .before .before .before .before .pre in
+    let at-loop = c .before .loop in
+    (omega (arith, (at-pre .1) .starts), (at-pre .1) .owned (at-loop .next) (omega arith))
 
 add-next-2 : tie.Need-add-next-2 Inv-loop μ-loop
 add-next-2 c = search needs
@@ -41,9 +47,9 @@ loop-again c =
     let at-args = c .before .before .before .before .before .before .before .args in
     let at-loop = c .before .before .before .loop in
     let at-loop-test = c .before .before .loop-test in
-    let at-owner-of2 = c .before .owner-of2 in
+    let at-owner-at2 = c .before .owner-at2 in
     let x = end-up (λ u. getD (at-args .owners .now) (unitStart (at-args .firsts .now) u) 0) _ _ _ _ _ _ (at-loop .inv .0)
-    (at-loop .inv .1) (at-loop .inv .2) (at-loop-test .taken) (at-owner-of2 .ensures) (c .if1 .taken) in
+    (at-loop .inv .1) (at-loop .inv .2) (at-loop-test .taken) (at-owner-at2 .ensures) (c .if1 .taken) in
     (refl, x .0, x .1)
 
 returns : tie.Need-returns Inv-loop μ-loop
@@ -51,9 +57,9 @@ returns c =
     let at-args = c .before .before .before .before .before .before .before .args in
     let at-loop = c .before .before .before .loop in
     let at-loop-test = c .before .before .loop-test in
-    let at-owner-of2 = c .before .owner-of2 in
+    let at-owner-at2 = c .before .owner-at2 in
     end-here (λ u. getD (at-args .owners .now) (unitStart (at-args .firsts .now) u) 0) _ _ _ _ _ _ (at-loop .inv .0) (at-loop
-    .inv .1) (at-loop .inv .2) (at-loop-test .taken) (at-owner-of2 .ensures) (c .if1 .left)
+    .inv .1) (at-loop .inv .2) (at-loop-test .taken) (at-owner-at2 .ensures) (c .if1 .left)
 
 returns-2 : tie.Need-returns-2 Inv-loop μ-loop
 returns-2 c =
@@ -68,10 +74,10 @@ run-end-spec =
     (tie.spec
     Inv-loop
     μ-loop
-    owner-of-requires
+    owner-at-requires
     add-next
     loop-holds
-    owner-of-requires-2
+    owner-at-requires-2
     add-next-2
     loop-less
     loop-again

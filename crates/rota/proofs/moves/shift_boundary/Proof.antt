@@ -3,6 +3,7 @@ use mathlib.Core.Path.{sym, _∙_}
 use borrow.Author.Needs.{needs}
 use Rattle.rota.specs.Board.{ownerOf}
 use Rattle.rota.specs.Moves.{firstOf, lastOf}
+use Rattle.rota.proofs.Judged.{fewer-owned}
 use Rattle.rota.proofs.Moved.{shift-frozen, shift-unowned, shift-beyond, shift-grows, shift-shrinks}
 use Rattle.rota.proofs.moves.shift_boundary.Statement.{statement}
 use Rattle.rota.proofs.moves.shift_boundary.Tie as tie
@@ -34,7 +35,9 @@ returns-3 c =
     shift-beyond _ _ _ _ _ (at-owner-of .ensures) (sym (at-is-frozen .ensures) ∙ (at-if1 .left)) (at-if2 .left) (c .if3 .taken)
 
 run-start-requires : tie.Need-run-start-requires
-run-start-requires c κs = search needs
+run-start-requires c κs =
+    let at-pre = c .before .before .before .before .before .before .before .before .before .pre in
+    fewer-owned _ _ _ _ (at-pre .0) (at-pre .1)
 
 grow-requires : tie.Need-grow-requires
 grow-requires c κs = search needs

@@ -8,6 +8,7 @@ use Rattle.units.specs.Units.{unitStart}
 use Rattle.rota.specs.Board.{ownerOf}
 use Rattle.rota.specs.Ready.{runsFit}
 use Rattle.rota.specs.Moves.{firstOf, lastOf}
+use Rattle.rota.proofs.Judged.{fewer-owned}
 use Rattle.rota.proofs.Moved.{run-order, runs-frozen, runs-frozen-2, runs-unowned, runs-unowned-2, runs-owner, runs-same}
 use Rattle.rota.proofs.Moved.{runs-unfit, runs-act}
 use Rattle.rota.proofs.moves.swap_runs.Statement.{statement}
@@ -47,16 +48,28 @@ returns-5 c = runs-owner _ _ _ _ _ _ (c .before .before .before .before .before 
     .before .before .before .before .before .before .before .owner-of2 .ensures) (c .if5 .taken)
 
 run-start-requires : tie.Need-run-start-requires
-run-start-requires c κs = search needs
+run-start-requires c κs =
+    let c8 = c .before .before .before .before .before .before .before .before in
+    let at-pre = c8 .before .before .before .before .before .pre in
+    fewer-owned _ _ _ _ (at-pre .0 .0) (at-pre .1 .0)
 
 run-end-requires : tie.Need-run-end-requires
-run-end-requires c κs = search needs
+run-end-requires c κs =
+    let c8 = c .before .before .before .before .before .before .before .before in
+    let at-pre = c8 .before .before .before .before .before .before .pre in
+    (at-pre .0 .0, at-pre .1 .0)
 
 run-start-requires-2 : tie.Need-run-start-requires-2
-run-start-requires-2 c κs = search needs
+run-start-requires-2 c κs =
+    let c8 = c .before .before .before .before .before .before .before .before in
+    let at-pre = c8 .before .before .before .before .before .before .before .pre in
+    fewer-owned _ _ _ _ (at-pre .0 .1) (at-pre .1 .0)
 
 run-end-requires-2 : tie.Need-run-end-requires-2
-run-end-requires-2 c κs = search needs
+run-end-requires-2 c κs =
+    let c8 = c .before .before .before .before .before .before .before .before in
+    let at-pre = c8 .before .before .before .before .before .before .before .before .pre in
+    (at-pre .0 .1, at-pre .1 .0)
 
 returns-6 : tie.Need-returns-6
 unfolding ownerOf firstOf lastOf
@@ -72,7 +85,7 @@ add-runs-fit c = let r = run-order (λ u. getD (c .before .before .before .befor
     .firsts .now) u) 0) (c .before .before .before .before .before .before .before .before .before .before .before .before .before
     .before .before .before .before .before .args .units) (c .before .before .before .before .before .before .before .before .before
     .before .before .before .before .before .before .before .before .before .args .first) (c .before .before .before .before .before
-    .before .before .before .before .before .before .before .before .before .before .before .before .before .pre .0) in omega
+    .before .before .before .before .before .before .before .before .before .before .before .before .before .pre .0 .0) in omega
     (arith, (c .before .before .before .run-end .ensures), r .1)
 
 add-runs-fit-2 : tie.Need-add-runs-fit-2
@@ -82,37 +95,30 @@ add-runs-fit-2 c = let r = run-order (λ u. getD (c .before .before .before .bef
     .firsts .now) u) 0) (c .before .before .before .before .before .before .before .before .before .before .before .before .before
     .before .before .before .before .before .args .units) (c .before .before .before .before .before .before .before .before .before
     .before .before .before .before .before .before .before .before .before .args .second) (c .before .before .before .before
-    .before .before .before .before .before .before .before .before .before .before .before .before .before .before .pre .1) in
+    .before .before .before .before .before .before .before .before .before .before .before .before .before .before .pre .0 .1) in
     omega (arith, (c .before .run-end2 .ensures), r .1)
 
 runs-fit-requires : tie.Need-runs-fit-requires
-runs-fit-requires c κs = let r = run-order (λ u. getD (c .before .before .before .before .before .before .before .before .before
-    .before .before .before .before .before .before .before .before .before .args .owners .now) (unitStart (c .before .before
-    .before .before .before .before .before .before .before .before .before .before .before .before .before .before .before .before
-    .args .firsts .now) u) 0) (c .before .before .before .before .before .before .before .before .before .before .before .before
-    .before .before .before .before .before .before .args .units) (c .before .before .before .before .before .before .before .before
-    .before .before .before .before .before .before .before .before .before .before .args .first) (c .before .before .before .before
-    .before .before .before .before .before .before .before .before .before .before .before .before .before .before .pre .0) in let
-    q = run-order (λ u. getD (c .before .before .before .before .before .before .before .before .before .before .before .before
-    .before .before .before .before .before .before .args .owners .now) (unitStart (c .before .before .before .before .before
-    .before .before .before .before .before .before .before .before .before .before .before .before .before .args .firsts .now) u)
-    0) (c .before .before .before .before .before .before .before .before .before .before .before .before .before .before .before
-    .before .before .before .args .units) (c .before .before .before .before .before .before .before .before .before .before .before
-    .before .before .before .before .before .before .before .args .second) (c .before .before .before .before .before .before
-    .before .before .before .before .before .before .before .before .before .before .before .before .pre .1) in (
-      omega (
-        arith,
-        (c
-            .before .before .before .run-end .ensures),
-        (c .before .before .before .before .run-start .ensures),
-        r .0,
+runs-fit-requires c κs =
+    let c9 = c .before .before .before .before .before .before .before .before .before in
+    let c18 = c9 .before .before .before .before .before .before .before .before .before in
+    let at-pre = c18 .pre in
+    let at-args = c18 .args in
+    let r = run-order (λ u. getD (at-args .owners .now) (unitStart (at-args .firsts .now) u) 0) (at-args .units) (at-args .first)
+    (at-pre .0 .0) in
+    let q = run-order (λ u. getD (at-args .owners .now) (unitStart (at-args .firsts .now) u) 0) (at-args .units) (at-args .second)
+    (at-pre .0 .1) in
+    let b = c .before .before .before .run-end .ensures in
+    let d = c .before .run-end2 .ensures in (
+      (
+        omega (arith, b, (c .before .before .before .before .run-start .ensures), r .0),
+        omega (arith, d, (c .before .before .run-start2 .ensures), q .0),
       ),
-      omega (
-        arith,
-        (c
-            .before .run-end2 .ensures),
-        (c .before .before .run-start2 .ensures),
-        q .0,
+      (
+        omega (arith, b, r .1, at-pre .1 .1 .0),
+        omega (arith, d, q .1, at-pre .1 .1 .0),
+        omega (arith, b, r .1, at-pre .1 .1 .1),
+        omega (arith, d, q .1, at-pre .1 .1 .1),
       ),
     )
 

@@ -1,7 +1,10 @@
 -- `rota::play::play` meets its contract. Assumes nothing.
-use mathlib.Core.Path.{sym, _∙_}
+use mathlib.Core.Path.{_≡_, sym, _∙_}
+use Prim.Native.Nat.{ℕ}
+use native.Mathlib.Omega.{arith}
 use borrow.Author.Needs.{needs}
-use Rattle.units.proofs.Units.{unit-within}
+use lib.ListN.{length, length-replicate}
+use Rattle.units.proofs.Units.{units-room, unit-within}
 use Rattle.rota.specs.Derived.{plan, derived}
 use Rattle.rota.proofs.Stepping.{ran-owners, ran-answers, ran-lengths}
 use Rattle.rota.proofs.Entered.{play-asks, asks-few, asks-fits, asks-step, ready-sound, ready-even, played-yes, played-no}
@@ -49,13 +52,26 @@ run-requires c κs =
     (a .twos .now)
     (a .owners .now) D (a .answers .now) (sym (c8 .before .before .before .play-no .ensures) ∙ c8 .before .before .if1 .taken) in
     let F = asks-fits _ _ _ _ _ _ _ _ _ _ _ _ A _ (c8 .unit-domains .ensures .1) in
-    let Z = c .before .before .before .before .before .before .frozen-of .ensures in (
+    let frozen-of = c .before .before .before .before .before .before .frozen-of in
+    let Z = frozen-of .ensures in
+    let few = asks-few _ _ _ _ _ _ _ _ _ _ _ _ A in
+    let marks : length (frozen-of .result) ≡ 1024 = search needs in (
       A .grounds .on .sound,
       (
         asks-step _ _ _ _ _ _ _ _ _ _ _ _ A,
         (
           ready-sound _ _ _ _ _ _ _ _ _ _ _ _ A _ _ F Z,
-          (ready-even _ _ _ _ _ _ _ _ _ _ _ _ A _ _ F Z, A .grounds .draws),
+          (
+            ready-even _ _ _ _ _ _ _ _ _ _ _ _ A _ _ F Z,
+            (
+              A .grounds .draws,
+              (
+                units-room _ _ _ (A .grounds .units-ok),
+                omega (arith, few, c8 .unit-domains .kept .1 .1 .1 .1 .1 .0, length-replicate {A = ℕ} 1024 0),
+                omega (arith, few, marks),
+              ),
+            ),
+          ),
         ),
       ),
     )

@@ -37,7 +37,7 @@ shared-slice-read-step : tie.Need-shared-slice-read-step Inv-loop μ-loop
 shared-slice-read-step c =
     let at-pre = c .before .before .before .before .before .before .before .before .before .before .before .before .before
     .before .before .before .before .before .pre in
-    omega (arith, (at-pre .1 .1 .1 .1) .kinds)
+    omega (arith, (at-pre .1 .1 .1 .1 .0) .kinds)
 
 mul-step-2 : tie.Need-mul-step-2 Inv-loop μ-loop
 mul-step-2 c = search needs
@@ -46,7 +46,7 @@ shared-slice-read-step-2 : tie.Need-shared-slice-read-step-2 Inv-loop μ-loop
 shared-slice-read-step-2 c =
     let at-pre = c .before .before .before .before .before .before .before .before .before .before .before .before .before
     .before .before .before .before .before .before .pre in
-    omega (arith, (at-pre .1 .1 .1 .1) .firsts)
+    omega (arith, (at-pre .1 .1 .1 .1 .0) .firsts)
 
 mul-step-3 : tie.Need-mul-step-3 Inv-loop μ-loop
 mul-step-3 c = search needs
@@ -55,7 +55,7 @@ shared-slice-read-step-3 : tie.Need-shared-slice-read-step-3 Inv-loop μ-loop
 shared-slice-read-step-3 c =
     let at-pre = c .before .before .before .before .before .before .before .before .before .before .before .before .before
     .before .before .before .before .before .before .before .pre in
-    omega (arith, (at-pre .1 .1 .1 .1) .seconds)
+    omega (arith, (at-pre .1 .1 .1 .1 .0) .seconds)
 
 step-requires : tie.Need-step-requires Inv-loop μ-loop
 step-requires c κs =
@@ -67,8 +67,10 @@ step-requires c κs =
         (at-loop .inv .1) .in-step,
         (
           (at-pre .1 .1 .0),
-          ran-even _ _ _ _ _ _ _ _ _ _ _ _ (at-loop .inv .1) (at-pre .1
-              .1 .0) (at-pre .1 .1 .1 .0),
+          (
+            ran-even _ _ _ _ _ _ _ _ _ _ _ _ (at-loop .inv .1) (at-pre .1 .1 .0) (at-pre .1 .1 .1 .0),
+            (at-pre .1 .1 .1 .1 .1),
+          ),
         ),
       ),
     )
@@ -81,11 +83,10 @@ slice-write-answers c =
     .before .loop in
     omega (
       arith,
-      (at-pre .1 .1 .1 .1) .answers,
+      (at-pre .1 .1 .1 .1 .0) .answers,
       ran-answers _ _ _ _ _ _ _ _ _ _ _ _ (at-loop .inv .1) (omega (
         arith,
-        (at-pre .1
-            .1 .1 .1) .answers,
+        (at-pre .1 .1 .1 .1 .0) .answers,
       )),
     )
 
@@ -106,7 +107,7 @@ loop-again c =
     let at-step = c .before .before .before .before .before .before .step in (
       omega arith,
       ran-more _ _ _ _ _ _ _ _ _ _ _ _ (at-loop .inv .1) _ _ _ ((at-pre .0) .slots-few) ((at-pre .1 .0) .sets-room)
-          (λ j. omega (arith, (at-slice-known2 .given) j)) (omega (arith, (at-pre .1 .1 .1 .1) .answers)) (at-step .ensures),
+          (λ j. omega (arith, (at-slice-known2 .given) j)) (omega (arith, (at-pre .1 .1 .1 .1 .0) .answers)) (at-step .ensures),
     )
 
 same-length : tie.Need-same-length Inv-loop μ-loop
@@ -123,7 +124,7 @@ same-length-4 c =
     let at-loop = c .before .loop in
     let at-pre = c .before .before .before .before .before .before .before .before .before .before .before .before .before
     .before .pre in
-    ran-answers _ _ _ _ _ _ _ _ _ _ _ _ (at-loop .inv .1) (omega (arith, (at-pre .1 .1 .1 .1) .answers))
+    ran-answers _ _ _ _ _ _ _ _ _ _ _ _ (at-loop .inv .1) (omega (arith, (at-pre .1 .1 .1 .1 .0) .answers))
 
 returns : tie.Need-returns Inv-loop μ-loop
 returns c = ran-end _ _ _ _ _ _ _ _ _ _ _ _ (c .before .loop .inv .1) _ (omega arith)

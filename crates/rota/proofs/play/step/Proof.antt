@@ -3,13 +3,19 @@ use mathlib.Core.Path.{_∙_}
 use native.Mathlib.Omega.{arith}
 use borrow.Author.Needs.{needs}
 use Rattle.rota.specs.Derived.{plan, derived}
+use Rattle.rota.proofs.Judged.{board-owned}
 use Rattle.rota.proofs.Stepping.{stretch-one, stretch-known, second-known, second-after, over-lengths, drawn-lawful, stepped-stay}
 use Rattle.rota.proofs.Stepping.{stepped-give, stepped-trade}
 use Rattle.rota.proofs.play.step.Statement.{statement}
 use Rattle.rota.proofs.play.step.Tie as tie
 
 decide-requires : tie.Need-decide-requires
-decide-requires c κs = (c .before .before .before .before .before .before .before .before .before .pre .0) .people-few
+decide-requires c κs =
+    let at-pre = c .before .before .before .before .before .before .before .before .before .pre in
+    let room = at-pre .1 .1 .1 .1 in (
+      (at-pre .0) .people-few,
+      (board-owned _ _ _ _ _ _ _ (at-pre .1 .1 .0) (at-pre .1 .1 .1 .0) (room .0), (room .1, room .2)),
+    )
 
 enum-known-n : tie.Need-enum-known-n
 enum-known-n c = search needs
@@ -26,14 +32,14 @@ hand-over-requires c κs =
     .before .before .before .pre in
     let at-from = c .before .before .before .before .from in
     let L = drawn-lawful (plan (at-args .people) (at-args .slots) (at-args .starts .now) (at-args .ends .now)) _ _ (derived
-    (at-args .sets .now) (at-args .minutes .now)) _ _ (at-decide .ensures) (at-pre .1 .1 .1) _ (at-from .given .1) in (
+    (at-args .sets .now) (at-args .minutes .now)) _ _ (at-decide .ensures) (at-pre .1 .1 .1 .0) _ (at-from .given .1) in (
       (at-pre .0),
       (
         (at-pre .1 .0),
         (
-          stretch-one _ (at-pre .1 .1 .0) _ (at-pre .1 .1 .1) _ _ _ _ L,
+          stretch-one _ (at-pre .1 .1 .0) _ (at-pre .1 .1 .1 .0) _ _ _ _ L,
           stretch-known _ (at-pre .1 .1
-              .0) _ (at-pre .1 .1 .1) _ _ _ _ L,
+              .0) _ (at-pre .1 .1 .1 .0) _ _ _ _ L,
         ),
       ),
     )
@@ -50,14 +56,14 @@ hand-over-requires-2 c κs =
     .before .before .before .pre in
     let at-from2 = c .before .before .before .before .from2 in
     let L = drawn-lawful (plan (at-args .people) (at-args .slots) (at-args .starts .now) (at-args .ends .now)) _ _ (derived
-    (at-args .sets .now) (at-args .minutes .now)) _ _ (at-decide .ensures) (at-pre .1 .1 .1) _ (at-from2 .given .1) in (
+    (at-args .sets .now) (at-args .minutes .now)) _ _ (at-decide .ensures) (at-pre .1 .1 .1 .0) _ (at-from2 .given .1) in (
       (at-pre .0),
       (
         (at-pre .1 .0),
         (
-          stretch-one _ (at-pre .1 .1 .0) _ (at-pre .1 .1 .1) _ _ _ _ (L .left),
+          stretch-one _ (at-pre .1 .1 .0) _ (at-pre .1 .1 .1 .0) _ _ _ _ (L .left),
           stretch-known _
-              (at-pre .1 .1 .0) _ (at-pre .1 .1 .1) _ _ _ _ (L .left),
+              (at-pre .1 .1 .0) _ (at-pre .1 .1 .1 .0) _ _ _ _ (L .left),
         ),
       ),
     )
@@ -74,14 +80,14 @@ hand-over-requires-3 c κs =
     .before .from2 in
     let at-hand-over2 = c .before .before .before .before .before .before .before .before .before .hand-over2 in
     let L = drawn-lawful (plan (at-args .people) (at-args .slots) (at-args .starts .now) (at-args .ends .now)) _ _ (derived
-    (at-args .sets .now) (at-args .minutes .now)) _ _ (at-decide .ensures) (at-pre .1 .1 .1) _ (at-from2 .given .1) in (
+    (at-args .sets .now) (at-args .minutes .now)) _ _ (at-decide .ensures) (at-pre .1 .1 .1 .0) _ (at-from2 .given .1) in (
       (at-pre .0),
       (
         (at-hand-over2 .ensures) .step,
         (
-          second-after _ (at-pre .1 .1 .0) _ (at-pre .1 .1 .1) _ _ _ _ _ _ _ L _
+          second-after _ (at-pre .1 .1 .0) _ (at-pre .1 .1 .1 .0) _ _ _ _ _ _ _ L _
               ((at-hand-over2 .ensures) .owners),
-          second-known _ (at-pre .1 .1 .0) _ (at-pre .1 .1 .1) _ _ _ _ _ _ _ L,
+          second-known _ (at-pre .1 .1 .0) _ (at-pre .1 .1 .1 .0) _ _ _ _ _ _ _ L,
         ),
       ),
     )
