@@ -1,4 +1,4 @@
-// Everybody's domains at once. Everybody stands in every unit's mask; then each person is struck from the units in which they lack a slot.
+// Everybody's domains at once: everybody stands in each unit's mask, and is then struck from the units of which they lack a slot.
 use crate::domains::able;
 use crate::domains::domain_no;
 use slotset::Found;
@@ -8,7 +8,7 @@ ghost use Prim.Native.Nat.{_+_, _≤_, _<_};
 ghost use lib.ListN.{length};
 ghost use Rattle.paper.specs.Count.{over};
 ghost use Rattle.slotset.specs.Answers.{rowNo};
-ghost use Rattle.units.specs.Units.{unitStart, unitsOk, unitOf, InUnit};
+ghost use Rattle.units.specs.Units.{unitStart, unitsOk, InUnit};
 ghost use Rattle.units.specs.Domains.{available, maskOf, unitMask, unitDomainsNo, unitDomainsIs};
 ghost use Rattle.units.specs.Striking.{foundOr, FirstNot, MaskRoom, maskThen};
 
@@ -70,7 +70,8 @@ fn unit_from(slots: usize, units: usize, firsts: &[u16], u: usize, slot: usize) 
     v
 }
 
-// Strikes a person from the units from v on that lack a slot of the stretch that begins at `gap`, a slot of unit v; the unit after them.
+// A person lacks slot `gap` of unit v: strikes them from it, and from each later unit that starts before a slot that they have again.
+// The answer is the unit after these.
 fn strike(
     avail: &[u64],
     people: usize,
