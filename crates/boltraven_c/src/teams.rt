@@ -51,7 +51,8 @@ pub extern "C" fn boltraven_unit_domains(
     masks: &mut [u32],
 ) -> u8
     ensures { λ r. ⌜ r ≡ unitDomainsNo (now (avail .entry)) people slots units (now (firsts .entry)) (now (masks .entry)) ⌝ }
-    ensures { λ _. ⌜ now (masks .exit) ≡ unitDomainsIs (now (avail .entry)) people slots units (now (firsts .entry)) (now (masks .entry)) ⌝ }
+    ensures { λ _. ⌜ now (masks .exit)
+        ≡ unitDomainsIs (now (avail .entry)) people slots units (now (firsts .entry)) (now (masks .entry)) ⌝ }
 {
     units::unit_domains(avail, people, slots, units, firsts, masks)
 }

@@ -12,8 +12,8 @@ use lib.Seq.{getD-set-same, getD-set-other, ext-getD}
 use Rattle.paper.specs.Limits.{nobody}
 use Rattle.paper.specs.Count.{over, fill, sum}
 use Rattle.paper.proofs.Logic.{by-test, lt-or-ge}
-use Rattle.paper.proofs.Count.{sum-rises, sum-in-none, sum-in-more, sum-in-le, over-again, over-right, length-over, getD-over, getD-over-out}
-use Rattle.paper.proofs.Count.{length-fill, getD-fill-in, getD-fill-out}
+use Rattle.paper.proofs.Count.{sum-rises, sum-in-none, sum-in-more, sum-in-le, over-again, over-right}
+use Rattle.paper.proofs.Count.{length-over, getD-over, getD-over-out, length-fill, getD-fill-in, getD-fill-out}
 use Rattle.slotset.proofs.Puts.{Fit}
 use Rattle.slots.specs.Lent.{demandOf, minutesAt}
 use Rattle.slotset.specs.Answers.{rowNo, rowStretchNo, rowStretchOf, wordsAs}
