@@ -23,7 +23,7 @@ use Rattle.units.proofs.Units.{unit-within}
 use Rattle.targets.specs.Figures.{allFiguresOk}
 use Rattle.targets.specs.Outcome as targets
 use Rattle.rota.specs.declared.Figure.{Figure}
-use Rattle.rota.specs.Recount.{freeAt}
+use Rattle.rota.specs.Recount.{availableAt}
 use Rattle.job.specs.Fields.{le}
 use Rattle.job.specs.File.{jobCounts, jobStarts, fileOk}
 use Rattle.job.specs.Columns.{column, priorsColumn, capacitiesColumn}
@@ -258,9 +258,9 @@ module _ (s : List ℕ) where
     text = listedAs (listingOf (listedOf s)) x
 
     abbrev startTests : List Test
-    startTests = test 12 (all (readyOf s .slots) (freeAt (readyOf s .avail) (ownersOf s))) ∷ []
+    startTests = test 12 (all (readyOf s .slots) (availableAt (readyOf s .avail) (ownersOf s))) ∷ []
 
-    play-told : RotaSound (readyOf s) (drawsOf s) (ownersOf s) → all (readyOf s .slots) (freeAt (readyOf s .avail) (ownersOf s)) ≡ true
+    play-told : RotaSound (readyOf s) (drawsOf s) (ownersOf s) → all (readyOf s .slots) (availableAt (readyOf s .avail) (ownersOf s)) ≡ true
         → playResult (readyOf s) (drawsOf s) (playedOf s) x ≡ listedAs (listingOf (listedOf s)) x
     unfolding playResult textOf listedOf playedOf startedOf
     play-told H free =
@@ -278,7 +278,7 @@ module _ (s : List ℕ) where
         stage startTests [] (lit< tt, tt) (startOf (readyOf s) (ownersOf s) .number) x
         (playResult (readyOf s) (drawsOf s) (playedOf s) x) text
         (start-no (readyOf s) (drawsOf s) (ownersOf s) H)
-        (λ z. play-told H (cond-zero (all (readyOf s .slots) (freeAt (readyOf s .avail) (ownersOf s))) 0 11 z .0))
+        (λ z. play-told H (cond-zero (all (readyOf s .slots) (availableAt (readyOf s .avail) (ownersOf s))) 0 11 z .0))
 
     owners-told : Few → heardOf atomTests ≡ 0 → heardOf figureTests ≡ 0
         → ownersResult s (getD (jobStarts s) 5 0) (getD (jobCounts s) 5 0) (readyOf s) (drawsOf s) x
@@ -358,7 +358,7 @@ module _ (s : List ℕ) (room : ℕ) (A : AllPass (jobTests s room)) where
   unfolding jobTests
   few = A 1 (lit< tt)
 
-  pub free : all (readyOf s .slots) (freeAt (readyOf s .avail) (ownersOf s)) ≡ true
+  pub free : all (readyOf s .slots) (availableAt (readyOf s .avail) (ownersOf s)) ≡ true
   unfolding jobTests
   free = A 10 (lit< tt)
 

@@ -15,7 +15,7 @@ use Rattle.slotset.specs.Slots.{slot}
 use Rattle.slots.specs.Lent.{demandOf}
 use Rattle.rota.specs.declared.Figure.the-variants as figure
 use Rattle.rota.specs.Derived.{Plan, PlanSound, Derived, knownBy, worked, uncovered, afresh}
-use Rattle.rota.specs.Recount.{freeFor, knownAt, recounts}
+use Rattle.rota.specs.Recount.{availableFor, knownAt, recounts}
 use Rattle.rota.specs.Moves.{Draw}
 use Rattle.rota.specs.Plays.{drawsOf, ownersAfter}
 use Rattle.rota.specs.Lent.{boardOf}
@@ -79,7 +79,8 @@ module _ (R : Ready) (d : Draws) (o : List ℕ) (D : Derived) (e : playOf R d o 
 
   -- every owner is nobody, or known and available
   pub owners-fit : (k : ℕ) → k < R .slots
-      → (knownBy (R .people) (getD (playOf R d o D .owners) k 0) ≡ true) × (freeFor (R .avail) (getD (playOf R d o D .owners) k 0) k ≡ true)
+      → (knownBy (R .people) (getD (playOf R d o D .owners) k 0) ≡ true)
+      × (availableFor (R .avail) (getD (playOf R d o D .owners) k 0) k ≡ true)
   owners-fit k h = (right .known k h, right .free k h)
 
   pub minutes-are : (p : ℕ) → p < R .people → getD (playOf R d o D .derived .minutes) p 0 ≡ worked P (playOf R d o D .owners) p

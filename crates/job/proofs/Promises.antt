@@ -18,7 +18,7 @@ use Rattle.slots.proofs.LentLaws.{slots-sound}
 use Rattle.targets.specs.Remainder.{sumℤ}
 use Rattle.rota.specs.declared.Figure.the-variants as figure
 use Rattle.rota.specs.Derived.{knownBy, uncovered}
-use Rattle.rota.specs.Recount.{freeFor}
+use Rattle.rota.specs.Recount.{availableFor}
 use Rattle.rota.specs.Entries as rota
 use Rattle.job.specs.declared.JobAnswer.{JobAnswer}
 use Rattle.job.specs.declared.JobAnswer.the-variants as answer
@@ -241,7 +241,7 @@ module _ (s x : List ℕ) where
     -- every owner is nobody, or known and available
     pub owners-fit : (k : ℕ) → k < listedOf s .slots
         → (knownBy (listedOf s .people) (getD (listedOf s .owners) k 0) ≡ true)
-        × (freeFor (readyOf s .avail) (getD (listedOf s .owners) k 0) k ≡ true)
+        × (availableFor (readyOf s .avail) (getD (listedOf s .owners) k 0) k ≡ true)
     unfolding listedOf playedOf startedOf
     owners-fit k h = plays.owners-fit (readyOf s) (drawsOf s) (ownersOf s) (startedOf s .derived) not-refused k h
 

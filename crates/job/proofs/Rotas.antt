@@ -13,7 +13,7 @@ use Rattle.paper.proofs.Count.{each-all, all-each}
 use Rattle.slots.specs.Lent.{slotsOk, demandOf}
 use Rattle.units.specs.Units.{unitStart, unitEnd, unitsOk}
 use Rattle.rota.specs.Derived.{Plan, Derived, derived, knownBy, uncovered, afresh, InStep}
-use Rattle.rota.specs.Recount.{knownAt, freeAt, recounts}
+use Rattle.rota.specs.Recount.{knownAt, availableAt, recounts}
 use Rattle.rota.specs.Entries as rota
 use Rattle.rota.proofs.Steps.{afresh-step}
 use Rattle.rota.proofs.Entered.{plan-sound, says-recount}
@@ -71,7 +71,7 @@ module _ (R : Ready) (d : Draws) (o : List ℕ) (H : RotaSound R d o) where
 
   -- ---- what is heard is 12 or nothing
 
-  pub start-no : startOf R o .number ≡ orElse (all (R .slots) (freeAt (R .avail) o)) 12 0
+  pub start-no : startOf R o .number ≡ orElse (all (R .slots) (availableAt (R .avail) o)) 12 0
   unfolding startOf rota.fromSlots rota.outcome rota.fromSlotsNo rota.ground
   start-no =
       simp (
@@ -81,7 +81,7 @@ module _ (R : Ready) (d : Draws) (o : List ℕ) (H : RotaSound R d o) where
         all-known,
       )
 
-  module _ (free : all (R .slots) (freeAt (R .avail) o) ≡ true) where
+  module _ (free : all (R .slots) (availableAt (R .avail) o) ≡ true) where
     pub started : startOf R o .derived ≡ afresh P o none
     unfolding startOf rota.fromSlots rota.outcome
     started =
@@ -93,12 +93,12 @@ module _ (R : Ready) (d : Draws) (o : List ℕ) (H : RotaSound R d o) where
         (omega (arith, few, length-replicate {A = ℕ} 32 0)) (H .known)
 
     recounted : recounts P (R .avail) (R .units) (R .firsts) o (afresh P o none) ≡ true
-    unfolding freeAt
+    unfolding availableAt
     recounted =
         says-recount P (R .avail) (R .units) (R .firsts) o (afresh P o none)
         record {
           known = H .known;
-          free = all-each (R .slots) (freeAt (R .avail) o) free;
+          free = all-each (R .slots) (availableAt (R .avail) o) free;
           even = H .even;
           sets = in-step .sets;
           minutes = in-step .minutes;

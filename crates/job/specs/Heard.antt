@@ -13,7 +13,7 @@ use Rattle.slots.specs.Atomic as atomic
 use Rattle.units.specs.Settings.{settingsOk}
 use Rattle.targets.specs.Figures.{allFiguresOk}
 use Rattle.rota.specs.Derived.{uncovered}
-use Rattle.rota.specs.Recount.{freeAt}
+use Rattle.rota.specs.Recount.{availableAt}
 use Rattle.rota.specs.Entries as rota
 use Rattle.job.specs.Fields.{le}
 use Rattle.job.specs.File.{jobCounts, jobStarts, fileOk}
@@ -116,4 +116,4 @@ jobTests s room =
     ∷ test 6 (allFiguresOk (peopleIn c) (capacitiesIn s c b) (priorsIn s c b)) ∷ test 7 (settingsOk (settingsIn s))
     ∷ test 10 (allEven (R .slots) (R .units) (R .firsts) (writtenOf s))
     ∷ test 11 (allKnown s (getD b 5 0) (getD c 5 0) (R .slots) (R .people))
-    ∷ test 12 (all (R .slots) (freeAt (R .avail) (ownersOf s))) ∷ []
+    ∷ test 12 (all (R .slots) (availableAt (R .avail) (ownersOf s))) ∷ []

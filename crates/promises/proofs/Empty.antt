@@ -28,7 +28,7 @@ use Rattle.rota.specs.Lent.{fitsUnit, frozenUnit}
 use Rattle.rota.specs.Moves.{anyOf, decided, swapped, reassigned, picked, domainOf}
 use Rattle.rota.specs.Plays.{step, ownersAfter, drawsOf}
 use Rattle.rota.specs.Derived.{knownBy, portion, worked, held, setsFrom, afresh}
-use Rattle.rota.specs.Recount.{knownAt, freeFor, freeAt, evenAt, setSlotAt, setAt, minutesOkAt, recounts}
+use Rattle.rota.specs.Recount.{knownAt, availableFor, availableAt, evenAt, setSlotAt, setAt, minutesOkAt, recounts}
 use Rattle.rota.specs.Entries as rota
 use Rattle.rota.proofs.Entered.{recount-says}
 use Rattle.promises.specs.Entries.{Call, Component, built, noOf, afreshIn, ownersIn}
@@ -123,7 +123,7 @@ doing-nothing-keeps C f =
       λ c e k h.
           let r = recount-says (c .plan) (c .avail) (c .units) (c .firsts) (c .owners) (c .derived) (accepted-says c e .recount) in (
             ap (knownBy (c .plan .people)) (same c k) ∙ r .known k h,
-            ap (λ (w : ℕ). freeFor (c .avail) w k) (same c k) ∙ r .free k h,
+            ap (λ (w : ℕ). availableFor (c .avail) w k) (same c k) ∙ r .free k h,
           ),
       λ c e k h owned now. owned (sym (same c k) ∙ now),
     )
@@ -184,12 +184,14 @@ abbrev at-rest : Owned → Call
 at-rest r = twoUnits r 0 0 [] [] [] (spare [])
 
 both-accepted : noOf (at-rest both-his) ≡ 0
-unfolding recounts all allIn knownAt knownBy freeAt freeFor available evenAt unitEnd setAt setSlotAt held minutesOkAt worked portion sum
+unfolding recounts all allIn knownAt knownBy availableAt availableFor available evenAt unitEnd setAt setSlotAt held minutesOkAt worked
+    portion sum
     minutesAt slot bitOf
 both-accepted = accepted both-his 0 0 [] [] [] (spare []) refl refl refl refl (omega arith) refl
 
 half-accepted : noOf (at-rest half) ≡ 0
-unfolding recounts all allIn knownAt knownBy freeAt freeFor available evenAt unitEnd setAt setSlotAt held minutesOkAt worked portion sum
+unfolding recounts all allIn knownAt knownBy availableAt availableFor available evenAt unitEnd setAt setSlotAt held minutesOkAt worked
+    portion sum
     minutesAt slot bitOf
 half-accepted = accepted half 0 0 [] [] [] (spare []) refl refl refl refl (omega arith) refl
 

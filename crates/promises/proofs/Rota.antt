@@ -22,7 +22,7 @@ use Rattle.rota.specs.declared.Figure.the-variants.{Is}
 use Rattle.rota.specs.Moves.{Draw}
 use Rattle.rota.specs.Plays.{drawsOf, ownersAfter, answers}
 use Rattle.rota.specs.Derived.{knownBy, uncovered, held, afresh}
-use Rattle.rota.specs.Recount.{freeFor, knownAt, recounts}
+use Rattle.rota.specs.Recount.{availableFor, knownAt, recounts}
 use Rattle.rota.specs.Entries.{Outcome, roomOk, uncoveredIs, figureAs, ground, slotsOfIs}
 use Rattle.rota.proofs.Entered.{PlayAsks, play-asks, recount-says}
 use Rattle.rota.proofs.Plays.{play-length, answers-length, draws-length}
@@ -80,7 +80,7 @@ owners-can c e k h = (
       ∙ owners-known (c .plan) (c .avail) (c .units) (c .firsts) (c .frozen) (c .count) (c .kinds) (c .ones) (c .twos) (c .owners)
       (c .derived)
       (c .answers) (asks c e) (drawsIn c) k h,
-  ap (λ (w : ℕ). freeFor (c .avail) w k) (owner-is c e k)
+  ap (λ (w : ℕ). availableFor (c .avail) w k) (owner-is c e k)
       ∙ owners-available (c .plan) (c .avail) (c .units) (c .firsts) (c .frozen) (c .count) (c .kinds) (c .ones) (c .twos) (c .owners)
       (c .derived) (c .answers) (asks c e) (drawsIn c) k h,
 )

@@ -20,7 +20,7 @@ use Rattle.targets.specs.Outcome as targets
 use Rattle.targets.proofs.Promises.{eight-heard, eight-never, number-is, refused-keeps}
 use Rattle.rota.specs.declared.Figure.the-variants as figure
 use Rattle.rota.specs.Derived.{Plan, Derived, derived, knownBy, afresh, setsFrom, nobodies, unassigned, uncovered}
-use Rattle.rota.specs.Recount.{freeFor, knownAt, freeAt, recounts}
+use Rattle.rota.specs.Recount.{availableFor, knownAt, availableAt, recounts}
 use Rattle.rota.specs.Entries as rota
 use Rattle.rota.specs.Entries.{figureNo}
 use Rattle.promises.specs.Entries.{Call, playOf, afreshIn}
@@ -94,25 +94,25 @@ outcome-refuses t n o D x o′ D′ x′ r e = record {
 from-slots-refuses : (P : Plan) (avail o : List ℕ) (D : Derived)
     → let y = rota.fromSlots P avail o D in
     Refuses {A = Lent}
-    (rules (rotaTable P avail o D (row 11 (all (P .slots) (knownAt (P .people) o)) ∷ row 12 (all (P .slots) (freeAt avail o)) ∷ [])))
+    (rules (rotaTable P avail o D (row 11 (all (P .slots) (knownAt (P .people) o)) ∷ row 12 (all (P .slots) (availableAt avail o)) ∷ [])))
     (y .number) (o, D, []) (left y)
 unfolding rota.fromSlots rota.fromSlotsNo rota.ground
 from-slots-refuses P avail o D =
     outcome-refuses
-    (rotaTable P avail o D (row 11 (all (P .slots) (knownAt (P .people) o)) ∷ row 12 (all (P .slots) (freeAt avail o)) ∷ []))
+    (rotaTable P avail o D (row 11 (all (P .slots) (knownAt (P .people) o)) ∷ row 12 (all (P .slots) (availableAt avail o)) ∷ []))
     _ o D [] o (afresh P o D) [] refl refl
 
 assign-refuses : (P : Plan) (avail o : List ℕ) (D : Derived) (k w : ℕ)
     → let y = rota.assigned P avail o D k w in
     Refuses {A = Lent}
     (rules (rotaTable P avail o D
-    (row 10 (recounts P avail 0 [] o D) ∷ row 11 (ltb k (P .slots) && knownBy (P .people) w) ∷ row 12 (freeFor avail w k) ∷ [])))
+    (row 10 (recounts P avail 0 [] o D) ∷ row 11 (ltb k (P .slots) && knownBy (P .people) w) ∷ row 12 (availableFor avail w k) ∷ [])))
     (y .number) (o, D, []) (left y)
 unfolding rota.assigned rota.assignNo rota.ground
 assign-refuses P avail o D k w =
     outcome-refuses
     (rotaTable P avail o D
-    (row 10 (recounts P avail 0 [] o D) ∷ row 11 (ltb k (P .slots) && knownBy (P .people) w) ∷ row 12 (freeFor avail w k) ∷ []))
+    (row 10 (recounts P avail 0 [] o D) ∷ row 11 (ltb k (P .slots) && knownBy (P .people) w) ∷ row 12 (availableFor avail w k) ∷ []))
     _ o D [] (set o k w) (afresh P (set o k w) D) [] refl refl
 
 recount-heard : (P : Plan) (avail : List ℕ) (units : ℕ) (firsts o : List ℕ) (D : Derived)

@@ -21,7 +21,7 @@ use Rattle.rota.specs.Lent.{fitsUnit, frozenUnit}
 use Rattle.rota.specs.Moves.{anyOf, decided, swapped}
 use Rattle.rota.specs.Plays.{step, ownersAfter, answer, answers, drawsOf}
 use Rattle.rota.specs.Derived.{knownBy, portion, worked, held, setsFrom, afresh}
-use Rattle.rota.specs.Recount.{knownAt, freeFor, freeAt, evenAt, setSlotAt, setAt, minutesOkAt, recounts}
+use Rattle.rota.specs.Recount.{knownAt, availableFor, availableAt, evenAt, setSlotAt, setAt, minutesOkAt, recounts}
 use Rattle.rota.specs.Entries.{roomOk}
 use Rattle.promises.specs.Entries.{Call, noOf, playOf}
 use Rattle.promises.specs.Marked.{Owned, apart, Spare, twoUnits}
@@ -67,7 +67,8 @@ module _ (r : Owned) (frozen count : ℕ) (kinds ones twos : List ℕ) (more : S
 pub apart-recounts : (frozen count : ℕ) (kinds ones twos : List ℕ) (more : Spare)
     → let c = twoUnits apart frozen count kinds ones twos more in
     recounts (c .plan) (c .avail) 2 (c .firsts) (c .owners) (c .derived) ≡ true
-unfolding recounts all allIn knownAt knownBy freeAt freeFor available evenAt unitEnd setAt setSlotAt held minutesOkAt worked portion sum
+unfolding recounts all allIn knownAt knownBy availableAt availableFor available evenAt unitEnd setAt setSlotAt held minutesOkAt worked
+    portion sum
     minutesAt slot bitOf
 apart-recounts frozen count kinds ones twos more = refl
 

@@ -10,7 +10,7 @@ use Rattle.paper.specs.Limits.{nobody}
 use Rattle.paper.specs.Count.{sum}
 use Rattle.targets.specs.Remainder.{sumℤ}
 use Rattle.rota.specs.Derived.{knownBy}
-use Rattle.rota.specs.Recount.{freeFor}
+use Rattle.rota.specs.Recount.{availableFor}
 use Rattle.job.specs.declared.JobAnswer.the-variants as answer
 use Rattle.job.specs.Fields.{Bytes}
 use Rattle.job.specs.File.{jobCounts, jobStarts, fileOk, JobFile}
@@ -35,7 +35,7 @@ pub record Accepted (s x : List ℕ) (n : ℕ) : Type 0 where
   pub covered : (k : ℕ) → k < listedOf s .slots → (getD (ownersOf s) k 0 ≡ nobody → ⊥) → getD (listedOf s .owners) k 0 ≡ nobody → ⊥
   pub owners : (k : ℕ) → k < listedOf s .slots
       → (knownBy (listedOf s .people) (getD (listedOf s .owners) k 0) ≡ true)
-      × (freeFor (readyOf s .avail) (getD (listedOf s .owners) k 0) k ≡ true)
+      × (availableFor (readyOf s .avail) (getD (listedOf s .owners) k 0) k ≡ true)
 
 pub record JobByRule : Type 0 where
   -- "The lowest number wins, but 13 comes before all": n is heard exactly where it is the lowest of those that apply

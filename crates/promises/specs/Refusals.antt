@@ -28,7 +28,7 @@ use Rattle.targets.specs.Figures.{allFiguresOk}
 use Rattle.targets.specs.Passes.{Beyond}
 use Rattle.targets.specs.Outcome as targets
 use Rattle.rota.specs.Derived.{Plan, Derived, knownBy}
-use Rattle.rota.specs.Recount.{freeFor, knownAt, freeAt, recounts}
+use Rattle.rota.specs.Recount.{availableFor, knownAt, availableAt, recounts}
 use Rattle.rota.specs.Entries as rota
 use Rattle.rota.specs.Entries.{figureNo}
 use Rattle.promises.specs.Entries.{Call, playOf}
@@ -221,13 +221,13 @@ pub record RotaRefuses : Type 0 where
   pub from-slots : (P : Plan) (avail o : List ℕ) (D : Derived)
       → let y = rota.fromSlots P avail o D in
       Refuses {A = Lent}
-      (rules (rotaTable P avail o D (row 11 (all (P .slots) (knownAt (P .people) o)) ∷ row 12 (all (P .slots) (freeAt avail o)) ∷ [])))
+      (rules (rotaTable P avail o D (row 11 (all (P .slots) (knownAt (P .people) o)) ∷ row 12 (all (P .slots) (availableAt avail o)) ∷ [])))
       (y .number) (o, D, []) (left y)
   pub assign : (P : Plan) (avail o : List ℕ) (D : Derived) (k w : ℕ)
       → let y = rota.assigned P avail o D k w in
       Refuses {A = Lent}
       (rules (rotaTable P avail o D
-      (row 10 (recounts P avail 0 [] o D) ∷ row 11 (ltb k (P .slots) && knownBy (P .people) w) ∷ row 12 (freeFor avail w k) ∷ [])))
+      (row 10 (recounts P avail 0 [] o D) ∷ row 11 (ltb k (P .slots) && knownBy (P .people) w) ∷ row 12 (availableFor avail w k) ∷ [])))
       (y .number) (o, D, []) (left y)
   pub recount : (P : Plan) (avail : List ℕ) (units : ℕ) (firsts o : List ℕ) (D : Derived)
       → Hears (recountTable P avail units firsts o D) (rota.recountNo P avail units firsts o D)

@@ -14,7 +14,7 @@ use Rattle.units.specs.Units.{unitOf}
 use Rattle.rota.specs.declared.Figure.the-variants.{Is}
 use Rattle.rota.specs.Plays.{touched}
 use Rattle.rota.specs.Derived.{knownBy}
-use Rattle.rota.specs.Recount.{freeFor, recounts}
+use Rattle.rota.specs.Recount.{availableFor, recounts}
 use Rattle.rota.specs.Entries.{Outcome, slotsOfIs}
 use Rattle.promises.specs.Entries.{Call, Component, noOf, afreshIn, boardIn, drawsIn}
 
@@ -38,7 +38,7 @@ FrozenKeep C =
 abbrev pub OwnersAvailable : Component → Type 0
 OwnersAvailable C =
     (c : Call) → noOf c ≡ 0 → (k : ℕ) → k < c .plan .slots
-    → (knownBy (c .plan .people) (after C c k) ≡ true) × (freeFor (c .avail) (after C c k) k ≡ true)
+    → (knownBy (c .plan .people) (after C c k) ≡ true) × (availableFor (c .avail) (after C c k) k ≡ true)
 
 -- "no covered slot becomes uncovered"
 abbrev pub CoveredStays : Component → Type 0

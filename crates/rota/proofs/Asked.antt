@@ -16,7 +16,7 @@ use Rattle.units.specs.Units.{unitsOk}
 use Rattle.rota.specs.declared.Figure.the-variants.{Is, Refused}
 use Rattle.rota.specs.Derived.{Plan, PlanSound, Derived, derived, knownBy, unassigned, afresh, setsFrom}
 use Rattle.rota.specs.Derived.{nobodies, InStep, Makes, HandedOver, OneOwner}
-use Rattle.rota.specs.Recount.{firstFail, freeFor, knownAt, freeAt, recounts}
+use Rattle.rota.specs.Recount.{firstFail, availableFor, knownAt, availableAt, recounts}
 use Rattle.rota.specs.Entries.{roomOk, ground, Ended, fromSlotsNo, fromSlots, assignNo, assigned, recountNo}
 use Rattle.rota.specs.Entries.{recountSlotsNo}
 use Rattle.rota.specs.Entries.{emptyNo, emptied, figureAs}
@@ -57,20 +57,20 @@ module _ (P : Plan) (avail o : List ℕ) (D : Derived) where
       unfolding fromSlotsNo
       from-11 h = ground-goes c1 c2 c9 m _ 11 em z (stops (all (P .slots) (knownAt (P .people) o)) 11 _ (scan-no _ r _ er h))
 
-      module _ (h : P .slots ≤ r) (s : ℕ) (es : s ≡ firstFail (P .slots) (freeAt avail o)) where
+      module _ (h : P .slots ≤ r) (s : ℕ) (es : s ≡ firstFail (P .slots) (availableAt avail o)) where
         pub from-12 : s < P .slots → 12 ≡ fromSlotsNo P avail o D
         unfolding fromSlotsNo
         from-12 l =
             ground-goes c1 c2 c9 m _ 12 em z
             (passes (all (P .slots) (knownAt (P .people) o)) 11 _ 12 (scan-yes _ r _ er h)
-            (stops (all (P .slots) (freeAt avail o)) 12 0 (scan-no _ s _ es l)))
+            (stops (all (P .slots) (availableAt avail o)) 12 0 (scan-no _ s _ es l)))
 
         pub from-0 : P .slots ≤ s → 0 ≡ fromSlotsNo P avail o D
         unfolding fromSlotsNo
         from-0 l =
             ground-goes c1 c2 c9 m _ 0 em z
             (passes (all (P .slots) (knownAt (P .people) o)) 11 _ 0 (scan-yes _ r _ er h)
-            (passes (all (P .slots) (freeAt avail o)) 12 0 0 (scan-yes _ s _ es l) refl))
+            (passes (all (P .slots) (availableAt avail o)) 12 0 0 (scan-yes _ s _ es l) refl))
 
   pub from-asks : fromSlotsNo P avail o D ≡ 0 → PlanSound P × Makes P o D
   unfolding fromSlotsNo knownAt
@@ -141,20 +141,20 @@ module _ (P : Plan) (avail o : List ℕ) (D : Derived) where
               ground-goes c1 c2 c9 m _ 11 em z
               (passes (recounts P avail 0 [] o D) 10 _ 11 (sym (no-units f) ∙ sym eb ∙ t) (stops c11 11 _ (sym ec ∙ s)))
 
-          module _ (s : c ≡ true) (d : Bool) (ed : d ≡ freeFor avail w k) where
+          module _ (s : c ≡ true) (d : Bool) (ed : d ≡ availableFor avail w k) where
             pub assign-12 : d ≡ false → 12 ≡ assignNo P avail o D k w
             unfolding assignNo
             assign-12 q =
                 ground-goes c1 c2 c9 m _ 12 em z
                 (passes (recounts P avail 0 [] o D) 10 _ 12 (sym (no-units f) ∙ sym eb ∙ t)
-                (passes c11 11 _ 12 (sym ec ∙ s) (stops (freeFor avail w k) 12 0 (sym ed ∙ q))))
+                (passes c11 11 _ 12 (sym ec ∙ s) (stops (availableFor avail w k) 12 0 (sym ed ∙ q))))
 
             pub assign-0 : d ≡ true → 0 ≡ assignNo P avail o D k w
             unfolding assignNo
             assign-0 q =
                 ground-goes c1 c2 c9 m _ 0 em z
                 (passes (recounts P avail 0 [] o D) 10 _ 0 (sym (no-units f) ∙ sym eb ∙ t)
-                (passes c11 11 _ 0 (sym ec ∙ s) (passes (freeFor avail w k) 12 0 0 (sym ed ∙ q) refl)))
+                (passes c11 11 _ 0 (sym ec ∙ s) (passes (availableFor avail w k) 12 0 0 (sym ed ∙ q) refl)))
 
     pub named-says : c11 ≡ true → (k < P .slots) × (knownBy (P .people) w ≡ true)
     named-says e = let x = both (ltb k (P .slots)) (knownBy (P .people) w) e in (ltb-true _ _ (x .0), x .1)
@@ -165,7 +165,7 @@ module _ (P : Plan) (avail o : List ℕ) (D : Derived) where
       pub recount : Recounted P avail 0 [] o D
       pub slot : k < P .slots
       pub known : knownBy (P .people) w ≡ true
-      pub free : freeFor avail w k ≡ true
+      pub free : availableFor avail w k ≡ true
 
     pub assign-asks : assignNo P avail o D k w ≡ 0 → Asks
     unfolding assignNo
@@ -173,7 +173,7 @@ module _ (P : Plan) (avail o : List ℕ) (D : Derived) where
         let y = ground-all c1 c2 c9 _ e in
         let a = cond-zero (recounts P avail 0 [] o D) _ 9 (y .3) in
         let b = cond-zero c11 _ 10 (a .1) in
-        let c = cond-zero (freeFor avail w k) 0 11 (b .1) in
+        let c = cond-zero (availableFor avail w k) 0 11 (b .1) in
         let x = named-says (b .0) in
         record {
           on = grounds P avail o D (y .0) (y .1) (y .2);

@@ -23,7 +23,7 @@ use Rattle.rota.specs.Plays.{drawsOf, ownersAfter, answers}
 use Rattle.rota.specs.Ready.{ready}
 use Rattle.rota.specs.Lent.{fitsUnit, boardOf, FitsRight, FrozenRight}
 use Rattle.rota.specs.Derived.{Plan, PlanSound, Derived, derived, knownBy, worked, held, afresh, InStep}
-use Rattle.rota.specs.Recount.{freeFor, knownAt, freeAt, evenAt, setSlotAt, setAt, minutesOkAt, recounts, RotaRoom}
+use Rattle.rota.specs.Recount.{availableFor, knownAt, availableAt, evenAt, setSlotAt, setAt, minutesOkAt, recounts, RotaRoom}
 use Rattle.rota.specs.Stepped.{Ran, DrawRoom}
 use Rattle.rota.specs.Entries.{roomOk, ground, Outcome, outcome, Ended}
 use Rattle.rota.specs.Entries.{playRoomOk, playNo, played}
@@ -113,15 +113,15 @@ grounds P avail o D a b c =
       lent = c;
     }
 
-free-able : (avail : List ℕ) (w k : ℕ) → (w ≡ nobody → ⊥) → freeFor avail w k ≡ true → available avail w k ≡ true
-unfolding freeFor
+free-able : (avail : List ℕ) (w k : ℕ) → (w ≡ nobody → ⊥) → availableFor avail w k ≡ true → available avail w k ≡ true
+unfolding availableFor
 free-able avail w k n t = or-right (eqb w nobody) (available avail w k) t (ne-eqb w nobody n)
 
 -- ---- what the recount leaves known
 
 pub record Recounted (P : Plan) (avail : List ℕ) (units : ℕ) (firsts o : List ℕ) (D : Derived) : Type 0 where
   pub known : (k : ℕ) → k < P .slots → knownBy (P .people) (getD o k 0) ≡ true
-  pub free : (k : ℕ) → k < P .slots → freeFor avail (getD o k 0) k ≡ true
+  pub free : (k : ℕ) → k < P .slots → availableFor avail (getD o k 0) k ≡ true
   pub even : (u k : ℕ) → u < units → unitStart firsts u ≤ k → k < unitEnd (P .slots) units firsts u → getD o k 0 ≡ getD o (unitStart
       firsts u) 0
   pub sets : (p k : ℕ) → p < P .people → k < P .slots → slot (D .sets) (16 * p) k ≡ held o p k
@@ -129,14 +129,14 @@ pub record Recounted (P : Plan) (avail : List ℕ) (units : ℕ) (firsts o : Lis
 
 module _ (P : Plan) (avail : List ℕ) (units : ℕ) (firsts o : List ℕ) (D : Derived) where
   pub recount-says : recounts P avail units firsts o D ≡ true → Recounted P avail units firsts o D
-  unfolding recounts knownAt freeAt evenAt setAt setSlotAt minutesOkAt
+  unfolding recounts knownAt availableAt evenAt setAt setSlotAt minutesOkAt
   recount-says e =
-      let x = five (all (P .slots) (knownAt (P .people) o)) (all (P .slots) (freeAt avail o)) (all units (evenAt (P .slots) units
+      let x = five (all (P .slots) (knownAt (P .people) o)) (all (P .slots) (availableAt avail o)) (all units (evenAt (P .slots) units
       firsts o))
       (all (P .people) (setAt (P .slots) o (D .sets))) (all (P .people) (minutesOkAt P o (D .minutes))) e in
       record {
         known = λ k h. all-each (P .slots) (knownAt (P .people) o) (x .0) k h;
-        free = λ k h. all-each (P .slots) (freeAt avail o) (x .1) k h;
+        free = λ k h. all-each (P .slots) (availableAt avail o) (x .1) k h;
         even = λ u k h a b.
             eqb-true _ _ (in-each _ _ (λ j. eqb (getD o j 0) (getD o (unitStart firsts u) 0)) (all-each units (evenAt (P .slots)
             units firsts o) (x .2) u h) k a b);
@@ -148,10 +148,10 @@ module _ (P : Plan) (avail : List ℕ) (units : ℕ) (firsts o : List ℕ) (D : 
 
   -- a rota of which all that holds passes the recount
   pub says-recount : Recounted P avail units firsts o D → recounts P avail units firsts o D ≡ true
-  unfolding recounts knownAt freeAt evenAt setAt setSlotAt minutesOkAt
+  unfolding recounts knownAt availableAt evenAt setAt setSlotAt minutesOkAt
   says-recount R =
       let k = each-all (P .slots) (knownAt (P .people) o) (R .known) in
-      let f = each-all (P .slots) (freeAt avail o) (R .free) in
+      let f = each-all (P .slots) (availableAt avail o) (R .free) in
       let e = each-all units (evenAt (P .slots) units firsts o) (λ u h. each-in _ _ _ (λ j a b. eq-eqb _ _ (R .even u j h a b))) in
       let s = each-all (P .people) (setAt (P .slots) o (D .sets)) (λ p h. each-all (P .slots) _ (λ j g. eq-eqb _ _ (R .sets p j h g))) in
       let m = each-all (P .people) (minutesOkAt P o (D .minutes)) (λ p h. eq-eqb _ _ (R .minutes p h)) in
@@ -186,7 +186,7 @@ module _ (P : Plan) (avail : List ℕ) (units : ℕ) (firsts o : List ℕ) (D : 
               b,
               and-true _ _ (lt-ltb u units h) (and-true _ _ (lt-ltb w (P .people) b)
                   (each-in a e (available avail w) (λ k x y.
-                  free-able avail w k n (ap (λ (v : ℕ). freeFor avail v k) (sym (C .even u k h x y)) ∙ C .free k (omega arith))))),
+                  free-able avail w k n (ap (λ (v : ℕ). availableFor avail v k) (sym (C .even u k h x y)) ∙ C .free k (omega arith))))),
             );
       }
 

@@ -17,7 +17,7 @@ use Rattle.slotset.proofs.Puts.{Fit}
 use Rattle.rota.specs.declared.Fault.{Fault}
 use Rattle.rota.specs.declared.Fault.the-variants.{Clean, Unknown, Unavailable, Uneven, WrongSet, WrongMinutes}
 use Rattle.rota.specs.Derived.{Plan, PlanSound, Derived, derived, worked, held, setsFrom, afresh, Makes}
-use Rattle.rota.specs.Recount.{firstFail, knownAt, freeAt, evenAt, setSlotAt, setAt, minutesOkAt, faultOf, recounts}
+use Rattle.rota.specs.Recount.{firstFail, knownAt, availableAt, evenAt, setSlotAt, setAt, minutesOkAt, faultOf, recounts}
 use Rattle.rota.proofs.Sets.{sets-in, sets-same, length-sets}
 use Rattle.rota.proofs.Scans.{first-test, first-passes}
 
@@ -28,7 +28,7 @@ module _ (P : Plan) (avail : List ℕ) (units : ℕ) (firsts o : List ℕ) (D : 
   known = knownAt (P .people) o
 
   abbrev free : ℕ → Bool
-  free = freeAt avail o
+  free = availableAt avail o
 
   abbrev even : ℕ → Bool
   even = evenAt (P .slots) units firsts o

@@ -23,7 +23,7 @@ use Rattle.rota.specs.Moves.{Draw, draw}
 use Rattle.rota.specs.Plays.{step, ownersAfter, answer, answers, touched, drawsOf}
 use Rattle.rota.specs.Lent.{fitsUnit, frozenUnit, boardOf}
 use Rattle.rota.specs.Derived.{Plan, PlanSound, Derived, knownBy, worked, uncovered, afresh}
-use Rattle.rota.specs.Recount.{freeFor, knownAt, freeAt, recounts}
+use Rattle.rota.specs.Recount.{availableFor, knownAt, availableAt, recounts}
 use Rattle.rota.specs.Entries.{roomOk, ground, Outcome, outcome, fromSlotsNo, fromSlots, recountNo, recountSlotsNo}
 use Rattle.rota.specs.Acts.{Heard, Acts, ChoiceOutside, ownerThen}
 use Rattle.rota.proofs.Minutes.{known-nobody, known-person, minutes-total}
@@ -108,8 +108,8 @@ module _ (P : Plan) (avail : List ℕ) (units : ℕ) (firsts frozen : List ℕ) 
       let m = after-even .manned (unitOf units firsts k) (in-unit k h .below) (λ q. eqb-false _ _ f (owner-after k h ∙ q)) in
       known-person (P .people) (getD after k 0) (omega (arith, owner-after k h, m .0)))
 
-  pub owners-available : (k : ℕ) → k < P .slots → freeFor avail (getD after k 0) k ≡ true
-  unfolding freeFor
+  pub owners-available : (k : ℕ) → k < P .slots → availableFor avail (getD after k 0) k ≡ true
+  unfolding availableFor
   owners-available k h =
       by-test (eqb (getD after k 0) nobody) _ (λ t. ap (λ (b : Bool). b || available avail (getD after k 0) k) t)
       (λ f.
@@ -221,14 +221,14 @@ module _ (P : Plan) (avail o : List ℕ) (D : Derived) (e : recountSlotsNo P ava
         and-true _ _ (y .0) (and-true _ _ (y .1) (and-true _ _ (y .2) (and-true _ _ (le-leb _ _ rs) (le-leb _ _ rm))))
 
     accepted : fromSlotsNo P avail o E ≡ 0
-    unfolding fromSlotsNo ground knownAt freeAt
+    unfolding fromSlotsNo ground knownAt availableAt
     accepted =
         simp (
           tests .0,
           room-there,
           tests .2,
           each-all (P .slots) (knownAt (P .people) o) (right .known),
-          each-all (P .slots) (freeAt avail o) (right .free),
+          each-all (P .slots) (availableAt avail o) (right .free),
         )
 
     -- whatever columns are lent, it is accepted and leaves what is worked out afresh
@@ -282,7 +282,7 @@ module _ (P : Plan) (avail o : List ℕ) (D : Derived) (k w : ℕ) (A : Asks P a
       record {
         known = set-known;
         free = λ j h.
-            set-at j h (λ v. freeFor avail v j ≡ true) (λ q. ap (freeFor avail w) q ∙ A .free) (A .recount .free j h);
+            set-at j h (λ v. availableFor avail v j ≡ true) (λ q. ap (availableFor avail w) q ∙ A .free) (A .recount .free j h);
         even = λ u j h a b. absurd (omega arith);
         sets = J .sets;
         minutes = J .minutes;

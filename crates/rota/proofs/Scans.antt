@@ -22,7 +22,8 @@ use Rattle.units.specs.Units.{unitStart, unitEnd}
 use Rattle.units.specs.Domains.{available}
 use Rattle.units.proofs.Sets.{row-ok}
 use Rattle.rota.specs.Derived.{Plan, PlanSound, knownBy, portion, worked, held, lengthAt}
-use Rattle.rota.specs.Recount.{firstFail, FirstFault, freeFor, knownAt, freeAt, evenAt, setSlotAt, setAt, sameBit, minutesOkAt}
+use Rattle.rota.specs.Recount.{firstFail, FirstFault, availableFor, knownAt, availableAt, evenAt, setSlotAt, setAt, sameBit}
+use Rattle.rota.specs.Recount.{minutesOkAt}
 use Rattle.rota.proofs.Minutes.{worked-part-le}
 
 -- ---- the first fault
@@ -136,17 +137,18 @@ pub known-test : (people : ℕ) (o : List ℕ) (k : ℕ) (b : Bool) → b ≡ kn
 unfolding knownAt
 known-test people o k b e = sym e
 
-pub free-test : (avail o : List ℕ) (k : ℕ) (b : Bool) → b ≡ freeFor avail (getD o k 0) k → freeAt avail o k ≡ b
-unfolding freeAt
-free-test avail o k b e = sym e
+pub available-test : (avail o : List ℕ) (k : ℕ) (b : Bool) → b ≡ availableFor avail (getD o k 0) k → availableAt avail o k ≡ b
+unfolding availableAt
+available-test avail o k b e = sym e
 
-pub free-nobody : (avail : List ℕ) (w k : ℕ) → w ≡ nobody → true ≡ freeFor avail w k
-unfolding freeFor
-free-nobody avail w k e = simp (eq-eqb w nobody e)
+pub available-nobody : (avail : List ℕ) (w k : ℕ) → w ≡ nobody → true ≡ availableFor avail w k
+unfolding availableFor
+available-nobody avail w k e = simp (eq-eqb w nobody e)
 
-pub free-person : (avail : List ℕ) (w k : ℕ) (b : Bool) → (w ≡ nobody → ⊥) → b ≡ eqb (slot avail (16 * w) k) 1 → b ≡ freeFor avail w k
-unfolding freeFor available
-free-person avail w k b n e = simp (ne-eqb w nobody n) e
+pub available-person : (avail : List ℕ) (w k : ℕ) (b : Bool) → (w ≡ nobody → ⊥) → b ≡ eqb (slot avail (16 * w) k) 1
+    → b ≡ availableFor avail w k
+unfolding availableFor available
+available-person avail w k b n e = simp (ne-eqb w nobody n) e
 
 -- all of a stretch has the owner of its first slot
 module _ (slots units : ℕ) (firsts o : List ℕ) (u a e w : ℕ) (pa : a ≡ unitStart firsts u) (pe : e ≡ unitEnd slots units firsts u)

@@ -15,7 +15,7 @@ use Rattle.rota.specs.declared.Figure.{Figure}
 use Rattle.rota.specs.declared.Figure.the-variants.{Is, Refused}
 use Rattle.rota.specs.Plays.{drawsOf, ownersAfter, answers}
 use Rattle.rota.specs.Derived.{Plan, Derived, derived, knownBy, afresh, setsFrom, nobodies, unassigned, uncovered}
-use Rattle.rota.specs.Recount.{freeFor, knownAt, freeAt, recounts}
+use Rattle.rota.specs.Recount.{availableFor, knownAt, availableAt, recounts}
 use Rattle.rota.specs.Lent.{boardOf}
 
 -- ---- the tests that come first
@@ -60,7 +60,7 @@ pub record Ended (y : Outcome) (n : ℕ) (o : List ℕ) (D : Derived) (x : List 
 unfoldable pub fromSlotsNo : Plan → List ℕ → List ℕ → Derived → ℕ
 fromSlotsNo P avail o D =
     ground (countsOk (P .people) (P .slots)) (roomOk P avail o D) (slotsOk (P .slots) (P .starts) (P .ends))
-    (orElse (all (P .slots) (knownAt (P .people) o)) 11 (orElse (all (P .slots) (freeAt avail o)) 12 0))
+    (orElse (all (P .slots) (knownAt (P .people) o)) 11 (orElse (all (P .slots) (availableAt avail o)) 12 0))
 
 unfoldable pub fromSlots : Plan → List ℕ → List ℕ → Derived → Outcome
 fromSlots P avail o D = outcome (fromSlotsNo P avail o D) o D [] o (afresh P o D) []
@@ -71,7 +71,7 @@ unfoldable pub assignNo : Plan → List ℕ → List ℕ → Derived → ℕ →
 assignNo P avail o D k w =
     ground (countsOk (P .people) (P .slots)) (roomOk P avail o D) (slotsOk (P .slots) (P .starts) (P .ends))
     (orElse (recounts P avail 0 [] o D) 10
-    (orElse (ltb k (P .slots) && knownBy (P .people) w) 11 (orElse (freeFor avail w k) 12 0)))
+    (orElse (ltb k (P .slots) && knownBy (P .people) w) 11 (orElse (availableFor avail w k) 12 0)))
 
 unfoldable pub assigned : Plan → List ℕ → List ℕ → Derived → ℕ → ℕ → Outcome
 assigned P avail o D k w =

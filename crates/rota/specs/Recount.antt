@@ -26,16 +26,16 @@ pub record FirstFault (n : ℕ) (p : ℕ → Bool) (r : ℕ) : Type 0 where
   pub fails : r < n → p r ≡ false
 
 -- nobody, or a person who is available
-unfoldable pub freeFor : List ℕ → ℕ → ℕ → Bool
-freeFor avail w k = eqb w nobody || available avail w k
+unfoldable pub availableFor : List ℕ → ℕ → ℕ → Bool
+availableFor avail w k = eqb w nobody || available avail w k
 
 -- ---- the five tests
 
 unfoldable pub knownAt : ℕ → List ℕ → ℕ → Bool
 knownAt people o k = knownBy people (getD o k 0)
 
-unfoldable pub freeAt : List ℕ → List ℕ → ℕ → Bool
-freeAt avail o k = freeFor avail (getD o k 0) k
+unfoldable pub availableAt : List ℕ → List ℕ → ℕ → Bool
+availableAt avail o k = availableFor avail (getD o k 0) k
 
 -- each slot of unit u has the owner of its first slot
 unfoldable pub evenAt : ℕ → ℕ → List ℕ → List ℕ → ℕ → Bool
@@ -66,7 +66,7 @@ orFault n r f next = cond (ltb r n) (f r) next
 unfoldable pub faultOf : Plan → List ℕ → ℕ → List ℕ → List ℕ → Derived → Fault
 faultOf P avail units firsts o D =
     orFault (P .slots) (firstFail (P .slots) (knownAt (P .people) o)) Unknown
-    (orFault (P .slots) (firstFail (P .slots) (freeAt avail o)) Unavailable
+    (orFault (P .slots) (firstFail (P .slots) (availableAt avail o)) Unavailable
     (orFault units (firstFail units (evenAt (P .slots) units firsts o)) Uneven
     (orFault (P .people) (firstFail (P .people) (setAt (P .slots) o (D .sets)))
     (λ p. WrongSet p (firstFail (P .slots) (setSlotAt o (D .sets) p)))
@@ -76,7 +76,7 @@ faultOf P avail units firsts o D =
 -- the recount passes
 unfoldable pub recounts : Plan → List ℕ → ℕ → List ℕ → List ℕ → Derived → Bool
 recounts P avail units firsts o D =
-    all (P .slots) (knownAt (P .people) o) && (all (P .slots) (freeAt avail o)
+    all (P .slots) (knownAt (P .people) o) && (all (P .slots) (availableAt avail o)
     && (all units (evenAt (P .slots) units firsts o)
     && (all (P .people) (setAt (P .slots) o (D .sets)) && all (P .people) (minutesOkAt P o (D .minutes)))))
 

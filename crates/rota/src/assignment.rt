@@ -4,9 +4,9 @@ use crate::checks::both;
 use crate::checks::ground;
 use crate::checks::room_ok;
 use crate::checks::words_ok;
+use crate::recount::available_for;
 use crate::recount::first_unavailable;
 use crate::recount::first_unknown;
-use crate::recount::free_for;
 use crate::recount::known_by;
 use crate::recount::recount_ok;
 use crate::recount::worked_by;
@@ -314,7 +314,7 @@ fn assign_no(
             minutes,
         ) {
             if both(slot < slots, known_by(people, owner)) {
-                if free_for(avail, people, slots, owner, slot) {
+                if available_for(avail, people, slots, owner, slot) {
                     return 0;
                 }
                 return 12;

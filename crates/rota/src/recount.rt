@@ -14,7 +14,7 @@ ghost use lib.ListN.{length, getD};
 ghost use Rattle.paper.specs.Count.{all, over};
 ghost use Rattle.slotset.specs.Slots.{slot};
 ghost use Rattle.rota.specs.Derived.{plan, derived, knownBy, portion, worked, held, PlanSound, Makes};
-ghost use Rattle.rota.specs.Recount.{firstFail, freeFor, knownAt, freeAt, evenAt, setSlotAt, setAt, minutesOkAt, faultOf};
+ghost use Rattle.rota.specs.Recount.{firstFail, availableFor, knownAt, availableAt, evenAt, setSlotAt, setAt, minutesOkAt, faultOf};
 ghost use Rattle.rota.specs.Recount.{recounts, sameBit, RotaRoom};
 ghost use Rattle.units.specs.Units.{unitStart, unitEnd};
 ghost use Rattle.rota.specs.Entries.{recountNo, recountSlotsNo};
@@ -42,9 +42,9 @@ pub(crate) fn row_has(words: &[u64], people: usize, slots: usize, person: usize,
 }
 
 // Whether an owner is nobody, or a person who is available for slot k.
-pub(crate) fn free_for(avail: &[u64], people: usize, slots: usize, owner: u8, k: usize) -> bool
+pub(crate) fn available_for(avail: &[u64], people: usize, slots: usize, owner: u8, k: usize) -> bool
     requires { ⌜ (knownBy people owner ≡ true) × (people ≤ 32) × (slots ≤ 1024) × (k < slots) × (16 * people ≤ length (now avail)) ⌝ }
-    ensures { λ r. ⌜ r ≡ freeFor (now (avail .entry)) owner k ⌝ }
+    ensures { λ r. ⌜ r ≡ availableFor (now (avail .entry)) owner k ⌝ }
 {
     if owner == 255 {
         return true;
@@ -72,11 +72,11 @@ pub(crate) fn first_unknown(people: usize, slots: usize, owners: &[u8]) -> usize
 pub(crate) fn first_unavailable(people: usize, slots: usize, avail: &[u64], owners: &[u8]) -> usize
     requires { ⌜ (people ≤ 32) × (slots ≤ 1024) × (slots ≤ length (now owners)) × (16 * people ≤ length (now avail)) ⌝ }
     requires { ⌜ all slots (knownAt people (now owners)) ≡ true ⌝ }
-    ensures { λ r. ⌜ r ≡ firstFail slots (freeAt (now (avail .entry)) (now (owners .entry))) ⌝ }
+    ensures { λ r. ⌜ r ≡ firstFail slots (availableAt (now (avail .entry)) (now (owners .entry))) ⌝ }
 {
     let mut k: usize = 0;
     while k < slots {
-        if free_for(avail, people, slots, owners[k], k) {
+        if available_for(avail, people, slots, owners[k], k) {
             k += 1;
         } else {
             return k;

@@ -44,8 +44,8 @@ known-by-requires c κs = search needs
 both-requires : tie.Need-both-requires
 both-requires c κs = search needs
 
-free-for-requires : tie.Need-free-for-requires
-free-for-requires c κs =
+available-for-requires : tie.Need-available-for-requires
+available-for-requires c κs =
     let at-args = c .before .before .before .before .before .before .before .before .before .before .before .before .before
     .before .before .before .before .args in
     let at-ground = c .before .before .before .before .before .before .before .ground in
@@ -79,12 +79,12 @@ returns c =
     let at-both = c .before .before .before .both in
     let at-known-by = c .before .before .before .before .known-by in
     let at-if3 = c .before .before .if3 in
-    let at-free-for = c .before .free-for in
+    let at-available-for = c .before .available-for in
     assign-0 (plan (at-args .people) (at-args .slots) (at-args .starts .now) (at-args .ends .now)) (at-args .avail .now)
     (at-args .owners .now) (derived (at-args .sets .now) (at-args .minutes .now)) (at-args .slot) (at-args .owner) _
     ((at-ground .ensures) ∙ ground-same _ _ _ _ _ _ (at-counts-ok .ensures) (at-room-ok .ensures) (at-slots-ok .ensures))
     (at-if1 .taken) _ _ (at-recount-ok .ensures) (at-if2 .taken) _ ((at-both .ensures) ∙ ap (λ (b : Bool). ltb (at-args
-    .slot) (at-args .slots) && b) (at-known-by .ensures)) (at-if3 .taken) _ (at-free-for .ensures) (c .if4 .taken)
+    .slot) (at-args .slots) && b) (at-known-by .ensures)) (at-if3 .taken) _ (at-available-for .ensures) (c .if4 .taken)
 
 returns-2 : tie.Need-returns-2
 returns-2 c =
@@ -101,12 +101,12 @@ returns-2 c =
     let at-both = c .before .before .before .both in
     let at-known-by = c .before .before .before .before .known-by in
     let at-if3 = c .before .before .if3 in
-    let at-free-for = c .before .free-for in
+    let at-available-for = c .before .available-for in
     assign-12 (plan (at-args .people) (at-args .slots) (at-args .starts .now) (at-args .ends .now)) (at-args .avail .now)
     (at-args .owners .now) (derived (at-args .sets .now) (at-args .minutes .now)) (at-args .slot) (at-args .owner) _
     ((at-ground .ensures) ∙ ground-same _ _ _ _ _ _ (at-counts-ok .ensures) (at-room-ok .ensures) (at-slots-ok .ensures))
     (at-if1 .taken) _ _ (at-recount-ok .ensures) (at-if2 .taken) _ ((at-both .ensures) ∙ ap (λ (b : Bool). ltb (at-args
-    .slot) (at-args .slots) && b) (at-known-by .ensures)) (at-if3 .taken) _ (at-free-for .ensures) (c .if4 .left)
+    .slot) (at-args .slots) && b) (at-known-by .ensures)) (at-if3 .taken) _ (at-available-for .ensures) (c .if4 .left)
 
 returns-3 : tie.Need-returns-3
 returns-3 c =
@@ -166,7 +166,7 @@ assign-no-spec =
     recount-ok-requires
     known-by-requires
     both-requires
-    free-for-requires
+    available-for-requires
     returns
     returns-2
     returns-3

@@ -6,13 +6,13 @@ use native.Mathlib.Omega.{arith}
 use borrow.Author.Needs.{needs}
 use Rattle.paper.specs.Count.{all}
 use Rattle.paper.proofs.Count.{all-none, all-more, all-each}
-use Rattle.rota.specs.Recount.{knownAt, freeAt}
-use Rattle.rota.proofs.Scans.{scan-fails, scan-ends, free-test}
+use Rattle.rota.specs.Recount.{knownAt, availableAt}
+use Rattle.rota.proofs.Scans.{scan-fails, scan-ends, available-test}
 use Rattle.rota.proofs.recount.first_unavailable.Statement.{statement}
 use Rattle.rota.proofs.recount.first_unavailable.Tie as tie
 
 abbrev Inv-loop : tie.InvT-loop
-Inv-loop people slots avail owners k₀ k = (k ≤ slots) × (all k (freeAt avail owners) ≡ true)
+Inv-loop people slots avail owners k₀ k = (k ≤ slots) × (all k (availableAt avail owners) ≡ true)
 
 abbrev μ-loop : tie.MeasureT-loop
 μ-loop people slots avail owners k₀ k = slots - k
@@ -20,12 +20,12 @@ abbrev μ-loop : tie.MeasureT-loop
 loop-holds : tie.Need-loop-holds Inv-loop μ-loop
 loop-holds c = (search needs, all-none _)
 
-shared-slice-read-free-for : tie.Need-shared-slice-read-free-for Inv-loop μ-loop
-shared-slice-read-free-for c = search needs
+shared-slice-read-available-for : tie.Need-shared-slice-read-available-for Inv-loop μ-loop
+shared-slice-read-available-for c = search needs
 
-free-for-requires : tie.Need-free-for-requires Inv-loop μ-loop
+available-for-requires : tie.Need-available-for-requires Inv-loop μ-loop
 unfolding knownAt
-free-for-requires c κs =
+available-for-requires c κs =
     let at-pre = c .before .before .before .before .before .pre in
     let at-loop = c .before .before .loop in
     let at-loop-test = c .before .loop-test in (
@@ -46,15 +46,15 @@ loop-less c = omega arith
 loop-again : tie.Need-loop-again Inv-loop μ-loop
 loop-again c =
     let at-loop = c .before .before .before .before .loop in
-    let at-free-for = c .before .free-for in
-    (omega arith, all-more _ _ (at-loop .inv .1) (free-test _ _ _ _ (at-free-for .ensures) ∙ (c .if1 .taken)))
+    let at-available-for = c .before .available-for in
+    (omega arith, all-more _ _ (at-loop .inv .1) (available-test _ _ _ _ (at-available-for .ensures) ∙ (c .if1 .taken)))
 
 returns : tie.Need-returns Inv-loop μ-loop
 returns c =
     let at-loop-test = c .before .before .before .loop-test in
     let at-loop = c .before .before .before .before .loop in
-    let at-free-for = c .before .free-for in
-    scan-fails _ _ _ (at-loop-test .taken) (at-loop .inv .1) (free-test _ _ _ _ (at-free-for .ensures) ∙ (c .if1 .left))
+    let at-available-for = c .before .available-for in
+    scan-fails _ _ _ (at-loop-test .taken) (at-loop .inv .1) (available-test _ _ _ _ (at-available-for .ensures) ∙ (c .if1 .left))
 
 returns-2 : tie.Need-returns-2 Inv-loop μ-loop
 returns-2 c = scan-ends _ _ _ (c .before .loop .inv .0) (c .loop-test .left) (c .before .loop .inv .1)
@@ -66,8 +66,8 @@ first-unavailable-spec =
     Inv-loop
     μ-loop
     loop-holds
-    shared-slice-read-free-for
-    free-for-requires
+    shared-slice-read-available-for
+    available-for-requires
     add-k
     loop-less
     loop-again
