@@ -66,42 +66,40 @@ fn owner_at(firsts: &[u16], owners: &[u8], unit: usize) -> u8
     owners[firsts[unit] as usize]
 }
 
-// The first unit of a unit's run.
+// The first unit of a unit's run: n units before it have its owner. The loop keeps n alone, whatever is made of its answer.
 fn run_start(firsts: &[u16], owners: &[u8], unit: usize) -> usize
     requires { ⌜ OwnerRoom (suc unit) (now firsts) (now owners) ⌝ }
     ensures { λ r. ⌜ r ≡ runStart (λ u. getD (now (owners .entry)) (unitStart (now (firsts .entry)) u) 0) unit ⌝ }
 {
     let owner = owner_at(firsts, owners, unit);
-    let mut start = unit;
-    while 0 < start {
-        let before = start - 1;
-        if owner_at(firsts, owners, before) == owner {
-            start = before;
+    let mut n: usize = 0;
+    while n < unit {
+        if owner_at(firsts, owners, unit - n - 1) == owner {
+            n += 1;
         } else {
-            return start;
+            return unit - n;
         }
     }
     0
 }
 
-// The last unit of a unit's run.
+// The last unit of a unit's run: n units after it have its owner.
 fn run_end(units: usize, firsts: &[u16], owners: &[u8], unit: usize) -> usize
     requires { ⌜ unit < units ⌝ }
     requires { ⌜ OwnerRoom units (now firsts) (now owners) ⌝ }
     ensures { λ r. ⌜ r ≡ runEnd units (λ u. getD (now (owners .entry)) (unitStart (now (firsts .entry)) u) 0) unit ⌝ }
 {
     let owner = owner_at(firsts, owners, unit);
-    let mut end = unit;
-    let mut next = unit + 1;
-    while next < units {
-        if owner_at(firsts, owners, next) == owner {
-            end = next;
-            next += 1;
+    let after = units - unit - 1;
+    let mut n: usize = 0;
+    while n < after {
+        if owner_at(firsts, owners, unit + n + 1) == owner {
+            n += 1;
         } else {
-            return end;
+            return unit + n;
         }
     }
-    end
+    units - 1
 }
 
 // Whether no unit from a up to e is frozen. All of them are read: a loop that leaves early reads one at a time.

@@ -1,6 +1,6 @@
 -- `rota::moves::run_end` meets its contract. Assumes nothing.
-use mathlib.Core.Path.{_≡_, refl}
-use Prim.Native.Nat.{_+_, _-_}
+use mathlib.Core.Path.{_≡_, refl, ap, _∙_}
+use Prim.Native.Nat.{_+_, _-_, _≤_}
 use native.Mathlib.Omega.{arith}
 use borrow.Author.Needs.{needs}
 use lib.ListN.{getD}
@@ -11,12 +11,12 @@ use Rattle.rota.proofs.moves.run_end.Statement.{statement}
 use Rattle.rota.proofs.moves.run_end.Tie as tie
 
 abbrev Inv-loop : tie.InvT-loop
-Inv-loop units firsts owners unit owner end₀ next₀ end next =
-    (next ≡ end + 1) × (runEnd units (λ u. getD owners (unitStart firsts u) 0) unit ≡ runEnd units (λ u. getD owners (unitStart
-    firsts u) 0) end) × (owner ≡ getD owners (unitStart firsts end) 0)
+Inv-loop units firsts owners unit owner after n₀ n =
+    (unit + n + 1 ≤ units) × (after ≡ units - unit - 1) × (runEnd units (λ u. getD owners (unitStart firsts u) 0) unit ≡ runEnd units
+    (λ u. getD owners (unitStart firsts u) 0) (unit + n)) × (owner ≡ getD owners (unitStart firsts (unit + n)) 0)
 
 abbrev μ-loop : tie.MeasureT-loop
-μ-loop units firsts owners unit owner end₀ next₀ end next = units - next
+μ-loop units firsts owners unit owner after n₀ n = after - n
 
 owner-at-requires : tie.Need-owner-at-requires Inv-loop μ-loop
 owner-at-requires c κs =
@@ -24,20 +24,37 @@ owner-at-requires c κs =
     let at-args = c .before .before .args in
     (omega (arith, (at-pre .1) .starts), (at-pre .1) .owned (at-args .unit) (at-pre .0))
 
-add-next : tie.Need-add-next Inv-loop μ-loop
-add-next c = search needs
+sub-after : tie.Need-sub-after Inv-loop μ-loop
+sub-after c = search needs
+
+sub-after-2 : tie.Need-sub-after-2 Inv-loop μ-loop
+sub-after-2 c = search needs
 
 loop-holds : tie.Need-loop-holds Inv-loop μ-loop
-loop-holds c = (refl, refl, (c .owner-at .ensures))
+loop-holds c =
+    let at-args = c .before .before .before .args in
+    let z : (at-args .unit) ≡ (at-args .unit) + 0 = omega arith in (
+      omega arith,
+      refl,
+      ap (runEnd (at-args .units) (λ u. getD (at-args .owners .now) (unitStart (at-args .firsts .now) u) 0)) z,
+      (c .owner-at .ensures) ∙ ap (λ u. getD (at-args .owners .now) (unitStart (at-args .firsts .now) u) 0) z,
+    )
+
+add-owner-at : tie.Need-add-owner-at Inv-loop μ-loop
+add-owner-at c = search needs
+
+add-owner-at-2 : tie.Need-add-owner-at-2 Inv-loop μ-loop
+add-owner-at-2 c = search needs
 
 owner-at-requires-2 : tie.Need-owner-at-requires-2 Inv-loop μ-loop
 owner-at-requires-2 c κs =
     let at-pre = c .before .before .before .before .before .pre in
+    let at-args = c .before .before .before .before .before .args in
     let at-loop = c .before .loop in
-    (omega (arith, (at-pre .1) .starts), (at-pre .1) .owned (at-loop .next) (omega arith))
+    (omega (arith, (at-pre .1) .starts), (at-pre .1) .owned ((at-args .unit) + (at-loop .n) + 1) (omega arith))
 
-add-next-2 : tie.Need-add-next-2 Inv-loop μ-loop
-add-next-2 c = search needs
+add-n : tie.Need-add-n Inv-loop μ-loop
+add-n c = search needs
 
 loop-less : tie.Need-loop-less Inv-loop μ-loop
 loop-less c = omega arith
@@ -46,27 +63,37 @@ loop-again : tie.Need-loop-again Inv-loop μ-loop
 loop-again c =
     let at-args = c .before .before .before .before .before .before .before .args in
     let at-loop = c .before .before .before .loop in
-    let at-loop-test = c .before .before .loop-test in
     let at-owner-at2 = c .before .owner-at2 in
-    let x = end-up (λ u. getD (at-args .owners .now) (unitStart (at-args .firsts .now) u) 0) _ _ _ _ _ _ (at-loop .inv .0)
-    (at-loop .inv .1) (at-loop .inv .2) (at-loop-test .taken) (at-owner-at2 .ensures) (c .if1 .taken) in
-    (refl, x .0, x .1)
+    let z : (at-args .unit) + (at-loop .n) + 1 ≡ (at-args .unit) + ((at-loop .n) + 1) = omega arith in
+    let x = end-up (λ u. getD (at-args .owners .now) (unitStart (at-args .firsts .now) u) 0) _ _ _ _ _ _ refl (at-loop .inv .2)
+    (at-loop .inv .3) (omega arith) (at-owner-at2 .ensures) (c .if1 .taken) in (
+      omega arith,
+      (at-loop .inv .1),
+      (x .0) ∙ ap (runEnd (at-args .units) (λ u. getD (at-args .owners .now) (unitStart (at-args .firsts .now) u) 0)) z,
+      (x .1) ∙ ap (λ u. getD (at-args .owners .now) (unitStart (at-args .firsts .now) u) 0) z,
+    )
+
+add-result : tie.Need-add-result Inv-loop μ-loop
+add-result c = search needs
 
 returns : tie.Need-returns Inv-loop μ-loop
 returns c =
     let at-args = c .before .before .before .before .before .before .before .args in
     let at-loop = c .before .before .before .loop in
-    let at-loop-test = c .before .before .loop-test in
     let at-owner-at2 = c .before .owner-at2 in
-    end-here (λ u. getD (at-args .owners .now) (unitStart (at-args .firsts .now) u) 0) _ _ _ _ _ _ (at-loop .inv .0) (at-loop
-    .inv .1) (at-loop .inv .2) (at-loop-test .taken) (at-owner-at2 .ensures) (c .if1 .left)
+    end-here (λ u. getD (at-args .owners .now) (unitStart (at-args .firsts .now) u) 0) _ _ _ _ _ _ refl (at-loop .inv .2)
+    (at-loop .inv .3) (omega arith) (at-owner-at2 .ensures) (c .if1 .left)
+
+sub-result : tie.Need-sub-result Inv-loop μ-loop
+sub-result c = search needs
 
 returns-2 : tie.Need-returns-2 Inv-loop μ-loop
 returns-2 c =
     let at-args = c .before .before .before .before .before .args in
     let at-loop = c .before .loop in
-    end-none (λ u. getD (at-args .owners .now) (unitStart (at-args .firsts .now) u) 0) _ _ _ _ _ 0 (at-loop .inv .0) (at-loop
-    .inv .1) (at-loop .inv .2) (c .loop-test .left)
+    let z : (at-args .units) - 1 ≡ (at-args .unit) + (at-loop .n) = omega arith in
+    z ∙ end-none (λ u. getD (at-args .owners .now) (unitStart (at-args .firsts .now) u) 0) _ _ _ ((at-args .unit) + (at-loop .n) + 1) _
+    0 refl (at-loop .inv .2) (at-loop .inv .3) (omega arith)
 
 pub run-end-spec : {M : Type 1} → statement M
 run-end-spec =
@@ -75,11 +102,16 @@ run-end-spec =
     Inv-loop
     μ-loop
     owner-at-requires
-    add-next
+    sub-after
+    sub-after-2
     loop-holds
+    add-owner-at
+    add-owner-at-2
     owner-at-requires-2
-    add-next-2
+    add-n
     loop-less
     loop-again
+    add-result
     returns
+    sub-result
     returns-2)
