@@ -38,7 +38,8 @@ use Rattle.job.specs.declared.Shares.{Shares}
 use Rattle.job.specs.File.{ownerSlot}
 use Rattle.job.proofs.Prepares.{frozen-some}
 use Rattle.job.specs.Stages.{jobCountsOk, frozenIn, noOf, valueOf, unitsNoOf, unitsValueOf, SharesAre, TargetsSound, lowerNo}
-use Rattle.job.specs.Stages.{ownerValue, placed, unitEven, allEven, recordKnown, allKnown, narrowed}
+use Rattle.rota.specs.Recount.{evenAt}
+use Rattle.job.specs.Stages.{ownerValue, placed, allEven, recordKnown, allKnown, narrowed}
 
 -- ---- counts
 
@@ -267,10 +268,10 @@ owners-known s at n slots people few small e k h =
 pub owners-even : (slots units : ℕ) (firsts o : List ℕ) → slots ≤ 1024 → allEven slots units firsts o ≡ true
     → ((u : ℕ) → u < units → unitEnd slots units firsts u ≤ slots) → (u k : ℕ) → u < units → unitStart firsts u ≤ k
     → k < unitEnd slots units firsts u → getD (narrowed o) k 0 ≡ getD (narrowed o) (unitStart firsts u) 0
-unfolding allEven unitEven
+unfolding allEven evenAt
 owners-even slots units firsts o few e within u k h a b =
     let x = in-each (unitStart firsts u) (unitEnd slots units firsts u) (λ j. eqb (getD o j 0) (getD o (unitStart firsts u) 0))
-    (all-each units (unitEven slots units firsts o) e u h) k a b in
+    (all-each units (evenAt slots units firsts o) e u h) k a b in
     let w = within u h in
     narrowed-at o k (omega arith) ∙ ap byteOf (eqb-true (getD o k 0) (getD o (unitStart firsts u) 0) x)
     ∙ sym (narrowed-at o (unitStart firsts u) (omega arith))

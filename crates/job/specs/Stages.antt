@@ -8,7 +8,7 @@ use lib.Dec.{leb, ltb, eqb}
 use lib.IntN.{ℤ, pos, natAbs}
 use lib.ListN.{length, getD, set, take, replicate}
 use Rattle.paper.specs.Limits.{peopleOk, slotCountOk, orElse, rangesMost, drawsMost, nobody}
-use Rattle.paper.specs.Count.{all, allIn, over}
+use Rattle.paper.specs.Count.{all, over}
 use Rattle.slotset.specs.declared.Counted.{Counted}
 use Rattle.slotset.specs.declared.Counted.the-variants as counted
 use Rattle.slots.specs.Atomic as atomic
@@ -17,9 +17,9 @@ use Rattle.units.specs.declared.Settings.{Settings}
 use Rattle.units.specs.declared.Number.{Number}
 use Rattle.units.specs.declared.Number.the-variants as number
 use Rattle.units.specs.Answers.{Written}
-use Rattle.units.specs.Units.{unitStart, unitEnd}
 use Rattle.targets.specs.Remainder.{sumℤ}
 use Rattle.targets.specs.Outcome as targets
+use Rattle.rota.specs.Recount.{evenAt}
 use Rattle.job.specs.declared.Atoms.{Atoms}
 use Rattle.job.specs.declared.Made.{Made}
 use Rattle.job.specs.declared.Shares.{Shares}
@@ -115,12 +115,8 @@ placed s at slots (suc k) =
     cond (ltb (ownerSlot s at k) slots) (set (placed s at slots k) (ownerSlot s at k) (ownerValue s at k)) (placed s at slots k)
 
 -- 10: each unit has one owner, as written
-unfoldable pub unitEven : ℕ → ℕ → List ℕ → List ℕ → ℕ → Bool
-unitEven slots units firsts o u =
-    allIn (unitStart firsts u) (unitEnd slots units firsts u) (λ k. eqb (getD o k 0) (getD o (unitStart firsts u) 0))
-
 unfoldable pub allEven : ℕ → ℕ → List ℕ → List ℕ → Bool
-allEven slots units firsts o = all units (unitEven slots units firsts o)
+allEven slots units firsts o = all units (evenAt slots units firsts o)
 
 -- 11: the slot exists, and the owner is nobody or a known person
 unfoldable pub recordKnown : List ℕ → ℕ → ℕ → ℕ → ℕ → Bool

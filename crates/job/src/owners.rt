@@ -3,7 +3,8 @@ use crate::fields::field;
 ghost use mathlib.Core.Path.{_≡_};
 ghost use Prim.Native.Nat.{_+_, _*_, _≤_};
 ghost use lib.ListN.{length, getD};
-ghost use Rattle.job.specs.Stages.{placed, unitEven, allEven, recordKnown, allKnown, ownersNo, narrowed};
+ghost use Rattle.rota.specs.Recount.{evenAt};
+ghost use Rattle.job.specs.Stages.{placed, allEven, recordKnown, allKnown, ownersNo, narrowed};
 
 // Entry k of a column, or 0 past its end.
 fn entry16(column: &[u16], k: usize) -> u16
@@ -37,7 +38,7 @@ pub(crate) fn placed_by(s: &[u8], at: usize, n: usize, slots: usize) -> [u16; 10
 
 // Whether the slots of unit u have one owner.
 fn unit_even(slots: usize, units: usize, firsts: &[u16], owners: &[u16], u: usize) -> bool
-    ensures { λ r. ⌜ r ≡ unitEven slots units (now (firsts .entry)) (now (owners .entry)) u ⌝ }
+    ensures { λ r. ⌜ r ≡ evenAt slots units (now (firsts .entry)) (now (owners .entry)) u ⌝ }
 {
     let a = units::start_of(firsts, u);
     let e = units::unit_end(slots, units, firsts, u);

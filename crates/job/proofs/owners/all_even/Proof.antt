@@ -6,12 +6,13 @@ use Prim.Native.Nat.{ℕ, _-_, _≤_}
 use native.Mathlib.Omega.{arith}
 use Rattle.paper.specs.Count.{all}
 use Rattle.paper.proofs.Count.{all-none, all-more, all-fails, all-done}
-use Rattle.job.specs.Stages.{unitEven, allEven}
+use Rattle.rota.specs.Recount.{evenAt}
+use Rattle.job.specs.Stages.{allEven}
 use Rattle.job.proofs.owners.all_even.Statement.{statement}
 use Rattle.job.proofs.owners.all_even.Tie as tie
 
 abbrev Inv-loop : tie.InvT-loop
-Inv-loop slots units firsts owners u₀ u = (all u (unitEven slots units firsts owners) ≡ true) × (u ≤ units)
+Inv-loop slots units firsts owners u₀ u = (all u (evenAt slots units firsts owners) ≡ true) × (u ≤ units)
 
 abbrev μ-loop : tie.MeasureT-loop
 μ-loop slots units firsts owners u₀ u = units - u

@@ -9,7 +9,7 @@ use lib.Dec.{eqb}
 use lib.ListN.{getD}
 use Rattle.paper.specs.Count.{allIn}
 use Rattle.paper.proofs.Count.{in-none, in-more}
-use Rattle.job.specs.Stages.{unitEven}
+use Rattle.rota.specs.Recount.{evenAt}
 use Rattle.job.proofs.Prepares.{even-more, even-fails, even-done}
 use Rattle.job.proofs.owners.unit_even.Statement.{statement}
 use Rattle.job.proofs.owners.unit_even.Tie as tie
@@ -51,7 +51,7 @@ loop-again c =
     )
 
 returns : tie.Need-returns Inv-loop μ-loop
-unfolding unitEven
+unfolding evenAt
 returns c =
     let c3 = c .before .before .before in
     let c4 = c3 .before in
@@ -63,7 +63,7 @@ returns c =
     (c6 .start-of .ensures) (c5 .unit-end .ensures) (c4 .entry16 .ensures)
 
 returns-2 : tie.Need-returns-2 Inv-loop μ-loop
-unfolding unitEven
+unfolding evenAt
 returns-2 c =
     let c3 = c .before .before .before in
     let c4 = c3 .before in
