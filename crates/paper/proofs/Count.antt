@@ -4,7 +4,7 @@ use mathlib.Core.Logic.{⊎-elim, _≢_}
 use mathlib.Core.Bool.{Bool, true, false, _&&_, _||_, cond, and-false, or-false}
 use mathlib.Core.List.{List, [], _∷_, _++_}
 use Prim.Native.Nat.{ℕ, zero, suc, _+_, _-_, _*_, _≤_, _<_, zero-le}
-use native.Mathlib.Nat.{le-of-suc-le-suc, not-suc-le-zero, eq-or-lt-of-le, le-antisymm}
+use native.Mathlib.Nat.{not-suc-le-zero, suc-mul, le-antisymm}
 use native.Mathlib.Numerals.{add-one}
 use native.Mathlib.Omega.{arith}
 use borrow.Author.Tests.{eqb-true, eqb-false}
@@ -12,7 +12,7 @@ use lib.Dec.{eqb}
 use lib.ListN.{length, drop, getD, set, length-set, length-append, length-drop, List·getD-append}
 use lib.Seq.{getD-set-same, getD-set-other, getD-append-seam, drop-cons, set-append-seam, append-snoc, ext-getD}
 use Rattle.paper.specs.Count.{all, allIn, some, sum, sumIn, count, over, fill, onto, among}
-use Rattle.paper.proofs.Logic.{by-test, below-suc, and-true, both, lt-or-ge, same-test, or-left, or-second, or-either}
+use Rattle.paper.proofs.Logic.{by-test, below-suc, and-true, both, lt-or-ge, or-left, or-second, or-either}
 
 -- ---- a test at every number below n
 
@@ -132,10 +132,7 @@ sum-done n i t f h k e = e ∙ ap (λ (m : ℕ). sum m f) (le-antisymm h k)
 pub sum-le : (b n : ℕ) (f : ℕ → ℕ) → ((k : ℕ) → k < n → f k ≤ b) → sum n f ≤ n * b
 unfolding sum
 sum-le b zero f h = zero-le
-sum-le b (suc n) f h = omega (arith, sum-le b n f (λ k l. h k (omega arith)), h n (omega arith), suc-times n b)
-  where
-    suc-times : (n b : ℕ) → suc n * b ≡ n * b + b
-    suc-times n b = native.Mathlib.Nat.suc-mul n b
+sum-le b (suc n) f h = omega (arith, sum-le b n f (λ k l. h k (omega arith)), h n (omega arith), suc-mul n b)
 
 pub sum-part : (n j : ℕ) (f : ℕ → ℕ) → j < n → f j ≤ sum n f
 unfolding sum

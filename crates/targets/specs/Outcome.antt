@@ -7,7 +7,7 @@ use lib.Dec.{eqb, leb}
 use lib.IntN.{ℤ}
 use lib.ListN.{length, drop}
 use lib.Ieee.{Float}
-use Rattle.paper.specs.Limits.{peopleOk, slotCountOk, orElse, countsOk}
+use Rattle.paper.specs.Limits.{orElse, countsOk}
 use Rattle.slots.specs.Lent.{slotRoomOk, slotsOk, demandOf}
 use Rattle.targets.specs.declared.Line.{Line}
 use Rattle.targets.specs.Figures.{allFiguresOk, linesOf}
