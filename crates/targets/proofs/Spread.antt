@@ -1,7 +1,7 @@
 -- The rounded targets go past demand by at most 65 minutes in all. So either no target is below 0, or every target is below 100 in size.
 -- Assumes nothing.
 use mathlib.Core.Path.{_≡_, refl, sym, ap, _∙_, subst}
-use mathlib.Core.Bool.{Bool, true, false, not, _&&_, cond, true≢false}
+use mathlib.Core.Bool.{Bool, true, false, cond, true≢false}
 use mathlib.Core.List.{List, [], _∷_, map, foldl}
 use mathlib.Core.Logic.{_⊎_, inl, inr, ⊎-elim}
 use Prim.Native.Nat.{ℕ, zero, suc, _+_, _-_, _*_, _^_, _≤_, _<_, zero-le}
@@ -17,18 +17,20 @@ use lib.Seq.{getD-set-same, take-at}
 use lib.Ieee.{Float, lt}
 use Rattle.paper.proofs.Logic.{by-test, lt-or-ge, neither}
 use Rattle.targets.specs.declared.Line.{Line}
-use Rattle.targets.specs.Figures.{zeroF, whole, pad, personAt, lineOf}
-use Rattle.targets.specs.Passes.{rounded, unrounded, settled, settle, outside, falls, some, withPrior, shareSum, notional}
-use Rattle.targets.specs.Passes.{Passed, again, done, refused, passed, pass, passes, passesLeave}
+use Rattle.targets.specs.Figures.{zeroF, whole, pad}
+use Rattle.targets.specs.Passes.{rounded, unrounded, settle, falls, some, withPrior, shareSum, notional}
+use Rattle.targets.specs.Passes.{Passed, again, done, refused, passed, passesLeave}
 use Rattle.targets.specs.Remainder.{withTarget, totalOf, takerOf, Largest, targetOf, adjusted, are, closed}
-use Rattle.targets.specs.Outcome.{Given, demandIn, baseAt, linesIn, targetsIn, computeTargets}
-use Rattle.targets.specs.Code.{Sound}
-use Rattle.targets.proofs.Loops.{differ, Each, each-upTo}
+use Rattle.targets.specs.Outcome.{Given, demandIn, lineIn, linesIn, targetsIn, computeTargets}
+use Rattle.targets.specs.Code.{Each, Sound}
+use Rattle.targets.proofs.Loops.{differ}
+use Rattle.targets.proofs.Each.{each-upTo, each-both, each-map}
+use Rattle.targets.proofs.Cases.{by-settled, by-passed, passes-keep}
 use Rattle.targets.proofs.Taker.{taker-here, taker-takes}
 use Rattle.targets.proofs.Padding.{Len, len-passes}
 use Rattle.targets.proofs.Floats.{Most, Plain, Under}
-use Rattle.targets.proofs.Guard.{Good, Goods, AllUnder, notional-most}
-use Rattle.targets.proofs.Never.{Fine, fine-pass}
+use Rattle.targets.proofs.Guard.{shareMost, notionalMost, Good, Goods, UnderSum, AllUnder, notional-most}
+use Rattle.targets.proofs.Never.{Fine, fine-passed}
 use Rattle.targets.proofs.Errors.{Units}
 use Rattle.targets.proofs.Shares.{unitsOf, share-units, units-under, units-some, units-none, sharesIn, SumOf, sum-of}
 use Rattle.targets.proofs.Shares.{AtMost, exactParts, roundedParts, person-most}
@@ -76,7 +78,7 @@ line-more t p x q n r R k c L h i =
 
 -- ---- a pass whose sum s is above 0, with N = n
 
-module _ (n k : ℕ) (s : Float) (S : ℕ) (P : Plain s) (M : Most s k 1) (Z : lt zeroF s ≡ true) (N : n ≤ 4000000000) (U : Units s S) where
+module _ (n k : ℕ) (s : Float) (S : ℕ) (P : Plain s) (M : Most s k 1) (Z : lt zeroF s ≡ true) (N : n ≤ notionalMost) (U : Units s S) where
   -- an unpinned person whose unrounded target is not below 0
   line-free : (l : Line) → Good l → Under (l .raw) s → lt (unrounded (whole n) s l) zeroF ≡ false
       → AtMost (rounded (unrounded (whole n) s l)) (l .person .prior) n (unitsOf (l .raw)) S
@@ -86,48 +88,38 @@ module _ (n k : ℕ) (s : Float) (S : ℕ) (P : Plain s) (M : Most s k 1) (Z : l
   parts-some : 0 < S * exactParts
   parts-some = mul-pos (units-some s S P Z U) (lit≤ {m = 1} {n = exactParts} tt)
 
-  settled-kept : (l : Line) → Good l → (l .pinned ≡ false → Under (l .raw) s) → Kept l → Kept (settle (whole n) s l)
-  unfolding settled
-  settled-kept l g u h = go (l .pinned) (lt (unrounded (whole n) s l) zeroF) refl refl
+  settled-kept : (l : Line) → Good l → UnderSum s l → Kept l → Kept (settle (whole n) s l)
+  settled-kept l g u h =
+      by-settled x l Kept (λ e. h) (λ e f. record { pinned-none = λ q. refl; shareless-few = λ q. absurd (true≢false q) })
+      (λ e f. record {
+        pinned-none = λ q. absurd (true≢false (sym q));
+        shareless-few = λ q z.
+            two-left (rounded x) (l .person .prior) n (unitsOf (l .raw)) roundedParts (S * exactParts) parts-some z (line-free l g (u e) f);
+      })
     where
       x : Float
       x = unrounded (whole n) s l
 
-      go : (b c : Bool) → l .pinned ≡ b → lt x zeroF ≡ c
-          → Kept (cond b l
-          (cond c (record { person = l .person; raw = l .raw; target = 0; pinned = true })
-          (record { person = l .person; raw = l .raw; target = rounded x; pinned = false })))
-      go true c e f = h
-      go false true e f = record { pinned-none = λ q. refl; shareless-few = λ q. absurd (true≢false q) }
-      go false false e f = record {
-        pinned-none = λ q. absurd (true≢false (sym q));
-        shareless-few = λ q z.
-            two-left (rounded x) (l .person .prior) n (unitsOf (l .raw)) roundedParts (S * exactParts) parts-some z (line-free l g (u e) f);
-      }
-
   all-kept : (ls : List Line) → Goods ls → AllUnder s ls → AllKept ls → AllKept (map (settle (whole n) s) ls)
-  all-kept [] g u h = tt
-  all-kept (l ∷ ls) g u h = (settled-kept l (g .0) (u .0) (h .0), all-kept ls (g .1) (u .1) (h .1))
+  all-kept ls g u h =
+      each-map (λ (l : Line). Good l × (UnderSum s l × Kept l)) Kept (settle (whole n) s)
+      (λ l k. settled-kept l (k .0) (k .1 .0) (k .1 .1)) ls
+      (each-both Good (λ (l : Line). UnderSum s l × Kept l) ls g (each-both (UnderSum s) Kept ls u h))
 
-  line-most : (l : Line) → Good l → (l .pinned ≡ false → Under (l .raw) s) → Kept l → falls (whole n) s l ≡ false
+  line-most : (l : Line) → Good l → UnderSum s l → Kept l → falls (whole n) s l ≡ false
       → AtMost (settle (whole n) s l .target) (cond (l .pinned) 0 (l .person .prior)) n (cond (l .pinned) 0 (unitsOf (l .raw))) S
-  unfolding settled
-  line-most l g u h e = go (l .pinned) (lt x zeroF) refl refl e
+  line-most l g u h e =
+      by-settled x l
+      (λ (m : Line). AtMost (m .target) (cond (l .pinned) 0 (l .person .prior)) n (cond (l .pinned) 0 (unitsOf (l .raw))) S)
+      (λ p. rw p (none (l .target) (S * exactParts) (n * 0 * roundedParts) (h .pinned-none p)))
+      (λ p f. absurd (true≢false (rw (p, f) at e)))
+      (λ p f. rw p (line-free l g (u p) f))
     where
       x : Float
       x = unrounded (whole n) s l
 
       none : (t c y : ℕ) → t ≡ 0 → (t + 0) * c ≤ y + 2 * c
       none t c y z = le-trans (le-of-eq (ap (λ (k : ℕ). (k + 0) * c) z ∙ zero-mul c)) zero-le
-
-      go : (b c : Bool) → l .pinned ≡ b → lt x zeroF ≡ c → not b && c ≡ false
-          → AtMost (cond {A = Line} b l
-          (cond {A = Line} c (record { person = l .person; raw = l .raw; target = 0; pinned = true })
-          (record { person = l .person; raw = l .raw; target = rounded x; pinned = false })) .target)
-          (cond b 0 (l .person .prior)) n (cond b 0 (unitsOf (l .raw))) S
-      go true c p f w = none (l .target) (S * exactParts) (n * 0 * roundedParts) (h .pinned-none p)
-      go false true p f w = absurd (true≢false w)
-      go false false p f w = line-free l g (u p) f
 
   lines-most : (ls : List Line) → Goods ls → AllUnder s ls → AllKept ls → some (falls (whole n) s) ls ≡ false
       → (addedUp (map (settle (whole n) s) ls) + priorsIn ls) * (S * exactParts)
@@ -181,13 +173,13 @@ parts-off X n M B D P h i j =
     le-of-mul-le-mul-right c P
 
 -- (2 ^ 52 + 1) ^ 3 * (2 ^ 52 + 64) is less than 2 ^ 208 + 2 ^ 163
-total-most : (X n R S k : ℕ) → 0 < S → k ≤ 32 → n ≤ 4000000000
+total-most : (X n R S k : ℕ) → 0 < S → k ≤ 32 → n ≤ notionalMost
     → X * (S * exactParts) ≤ n * R * roundedParts + 2 * (k * (S * exactParts)) → R * 2 ^ 52 ≤ S * 2 ^ 52 + 2 * (k * S) → X ≤ n + 65
 total-most X n R S k P h N i j =
     parts-off X n (roundedParts * (2 ^ 52 + 64)) (exactParts * 2 ^ 52) (2 ^ 163) (lit≤ {m = 1} {n = exactParts * 2 ^ 52} tt)
     (sum-parts X n R S k exactParts roundedParts (2 ^ 52) P h i (shares-most R S k (2 ^ 52) h j))
     (lit≤ {m = roundedParts * (2 ^ 52 + 64)} {n = exactParts * 2 ^ 52 + 2 ^ 163} tt)
-    (le-trans (mul-le-mul-right (2 ^ 163) N) (lit≤ {m = 4000000000 * 2 ^ 163} {n = exactParts * 2 ^ 52} tt))
+    (le-trans (mul-le-mul-right (2 ^ 163) N) (lit≤ {m = notionalMost * 2 ^ 163} {n = exactParts * 2 ^ 52} tt))
 
 -- ---- one pass, and all of them
 
@@ -221,7 +213,8 @@ Spread d refused = Unit
 
 spread-passed : (d : ℕ) (ls : List Line) → d ≤ 100000000 → length ls ≤ 32 → Goods ls → AllKept ls
     → Spread d (passed (whole (notional d ls)) (shareSum ls) ls)
-spread-passed d ls D F g h = go (lt zeroF s) (some (outside (whole n) s) ls) (some (falls (whole n) s) ls) refl refl
+spread-passed d ls D F g h =
+    by-passed (whole n) s ls (Spread d) (λ z. (h, stop z)) (λ z b. tt) (λ z b f. kept z) (λ z b f. (kept z, most z f))
   where
     n : ℕ
     n = notional d ls
@@ -230,12 +223,12 @@ spread-passed d ls D F g h = go (lt zeroF s) (some (outside (whole n) s) ls) (so
     s = shareSum ls
 
     k : ℕ
-    k = length ls * 137438953472
+    k = length ls * shareMost
 
     o : SumOf ls s
     o = sum-of ls F g
 
-    N : n ≤ 4000000000
+    N : n ≤ notionalMost
     N = notional-most d ls D F g
 
     new : List Line
@@ -256,24 +249,6 @@ spread-passed d ls D F g h = go (lt zeroF s) (some (outside (whole n) s) ls) (so
     stop z =
         let u = subst (λ (j : ℕ). Units s j) (units-none s (unitsOf s) (o .plain) z (o .is)) (o .is) in
         omega (arith, few-left s ls u g (o .all) h, F)
-
-    go : (a b c : Bool) → lt zeroF s ≡ a → some (falls (whole n) s) ls ≡ c
-        → Spread d (cond a (cond b refused (cond c (again new) (done new))) (done ls))
-    go false b c z f = (h, stop z)
-    go true true c z f = tt
-    go true false true z f = kept z
-    go true false false z f = (kept z, most z f)
-
-spread-pass : (d : ℕ) (p : Passed) → d ≤ 100000000 → Fine p → Spread d p → Spread d (pass d p)
-unfolding pass
-spread-pass d (again ls) D f h = spread-passed d ls D (f .0) (f .1) h
-spread-pass d (done ls) D f h = h
-spread-pass d refused D f h = tt
-
-spread-passes : (k d : ℕ) (p : Passed) → d ≤ 100000000 → Fine p → Spread d p → Spread d (passes k d p)
-unfolding passes
-spread-passes zero d p D f h = h
-spread-passes (suc k) d p D f h = spread-passes k d (pass d p) D (fine-pass d D p f) (spread-pass d p D f h)
 
 -- a line that is new
 new-kept : (l : Line) → l .target ≡ 0 → Kept l
@@ -380,11 +355,12 @@ pub targets-plain-or-small : (g : Given) → Sound g → (zs : List ℤ) → tar
 targets-plain-or-small g s zs e =
     let d = demandIn g in
     let ls = linesIn g in
-    let line : ℕ → Line = λ (k : ℕ). lineOf (personAt (g .capacities) (g .priors) k) (baseAt g k) in
+    let D = demand-fits g s in
     closed-spread d (g .people) (passesLeave d ls) zs (s .somebody) (len-passes (g .people) (suc (length ls)) d (again ls) (people-in g))
     (never-cut g)
-    (spread-passes (suc (length ls)) d (again ls) (demand-fits g s) (people-few g s, goods-in g s)
-    (each-upTo Kept line (g .people) (λ k h. new-kept (line k) refl)))
+    (passes-keep (λ (p : Passed). Fine p × Spread d p) d
+    (λ ms h. (fine-passed d ms D (h .0), spread-passed d ms D (h .0 .0) (h .0 .1) (h .1))) (suc (length ls)) (again ls)
+    ((people-few g s, goods-in g s), each-upTo Kept (lineIn g) (g .people) (λ k h. new-kept (lineIn g k) refl)) .1)
     e
 
 -- the same of what the buffer holds, accepted

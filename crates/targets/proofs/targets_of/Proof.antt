@@ -1,7 +1,7 @@
 -- `targets::targets_of` meets its contract. Assumes nothing.
 use Prim.Native.Nat.{_+_}
 use Rattle.targets.specs.Passes.{again}
-use Rattle.targets.proofs.Sizes.{small-passes, small-again, small-done}
+use Rattle.targets.proofs.Sizes.{small-passes, small-round}
 use borrow.Author.Needs.{needs}
 use Rattle.targets.proofs.targets_of.Statement.{statement}
 use Rattle.targets.proofs.targets_of.Tie as tie
@@ -19,8 +19,9 @@ adjusted-of-requires : tie.Need-adjusted-of-requires
 adjusted-of-requires c κs =
     let p = c .before .before .before in
     let a = p .before .args in
-    small-again (p .passes-of .result .next) (p .passes-of .result .lines) (p .passes-of .ensures)
-    (small-passes (a .people + 1) (a .demand) (again (a .lines)) (p .before .pre .1)) (c .before .enum-told2 .given .1)
+    rw (c .before .enum-told2 .given .1) at
+    (small-round (p .passes-of .result .next) (p .passes-of .result .lines) (p .passes-of .ensures)
+    (small-passes (a .people + 1) (a .demand) (again (a .lines)) (p .before .pre .1)))
 
 enum-told-3 : tie.Need-enum-told-3
 enum-told-3 c = search needs
@@ -29,8 +30,9 @@ adjusted-of-requires-2 : tie.Need-adjusted-of-requires-2
 adjusted-of-requires-2 c κs =
     let p = c .before .before .before in
     let a = p .before .args in
-    small-done (p .passes-of .result .next) (p .passes-of .result .lines) (p .passes-of .ensures)
-    (small-passes (a .people + 1) (a .demand) (again (a .lines)) (p .before .pre .1)) (c .before .enum-told3 .given .1)
+    rw (c .before .enum-told3 .given .1) at
+    (small-round (p .passes-of .result .next) (p .passes-of .result .lines) (p .passes-of .ensures)
+    (small-passes (a .people + 1) (a .demand) (again (a .lines)) (p .before .pre .1)))
 
 returns : tie.Need-returns
 returns c = rw (← c .before .before .passes-of .ensures, c .enum-told .given .1)
