@@ -7,9 +7,12 @@ use borrow.Author.Tests.{not-true}
 use lib.Ieee.{Float, lt}
 use Rattle.paper.proofs.Logic.{by-cond, both}
 use Rattle.targets.specs.declared.Line.{Line}
+use Rattle.targets.specs.declared.Next.{Next}
+use Rattle.targets.specs.declared.Next.the-variants.{Again, Done, Refused}
 use Rattle.targets.specs.Figures.{zeroF, whole}
 use Rattle.targets.specs.Passes.{within, rounded, unrounded, settled, settle, outside, falls, some, shareSum, notional}
 use Rattle.targets.specs.Passes.{Passed, again, done, refused, passed, pass, passes}
+use Rattle.targets.specs.Code.{roundIs}
 
 -- ---- one person
 
@@ -88,3 +91,11 @@ lines-keep P f k demand =
     let sum = shareSum ls in
     by-passed n sum ls (OfLines P) (λ a. h) (λ a b. tt) (λ a b c. f n sum ls b h) (λ a b c. f n sum ls b h))
     k
+
+-- ---- a round of the code
+
+-- one that is not refused has lines, whether another pass is due or not
+pub by-left : (n : Next) (ls : List Line) (X : Passed → Type 0) → (n ≡ Refused → ⊥) → X (again ls) → X (done ls) → X (roundIs n ls)
+by-left Again ls X f a d = a
+by-left Done ls X f a d = d
+by-left Refused ls X f a d = absurd (f refl)

@@ -1,5 +1,5 @@
 -- Every target stays at most 2 ^ 40, through all passes. Assumes nothing.
-use mathlib.Core.Path.{_≡_, sym, subst}
+use mathlib.Core.Path.{_≡_}
 use mathlib.Core.Bool.{true, false}
 use mathlib.Core.List.{List, _++_, map}
 use Prim.Native.Nat.{ℕ, _+_, _*_, _/_, _≤_, _<_, zero-le}
@@ -9,10 +9,9 @@ use lib.ListN.{replicate}
 use lib.Ieee.{Float, nan, inf, fin, up, down}
 use lib.Ieee.Fits.{down-pos}
 use Rattle.targets.specs.declared.Line.{Line}
-use Rattle.targets.specs.declared.Next.{Next}
 use Rattle.targets.specs.Figures.{upTo, pad}
 use Rattle.targets.specs.Passes.{rounded, within, unrounded, settled, settle, outside, some, Passed, passes}
-use Rattle.targets.specs.Code.{roundIs, SmallTarget, Small}
+use Rattle.targets.specs.Code.{SmallTarget, Small}
 use Rattle.targets.proofs.Nearest.{under}
 use Rattle.targets.proofs.Each.{each-append, each-upTo, each-replicate, each-both, each-map, none-each}
 use Rattle.targets.proofs.Cases.{by-settled, guard-kept, OfLines, lines-keep}
@@ -44,10 +43,6 @@ small-map n sum ls o h =
 
 pub small-passes : (k demand : ℕ) (p : Passed) → OfLines Small p → OfLines Small (passes k demand p)
 small-passes = lines-keep Small small-map
-
--- of what a Round stands for
-pub small-round : (n : Next) (ls : List Line) {p : Passed} → roundIs n ls ≡ p → OfLines Small p → OfLines Small (roundIs n ls)
-small-round n ls e h = subst (OfLines Small) (sym e) h
 
 -- ---- lines that are new, and lines that take no part
 
