@@ -146,9 +146,17 @@ pub positive : (n : ℕ) (d : ℤ) → lt zeroF (fin false n d) ≡ true → 0 <
 unfolding lt
 positive n d h = first-pos n (up d) (first-pos (n * up d) 1 (lt-of-le-of-lt (zero-le) (ltb→lt (0 * down d) (n * up d * 1) (held h))))
 
-pub whole-val : (n : ℕ) → n ≤ 2 ^ 53 → HasValue (whole n) false n 1
+pub whole-val : (n : ℕ) → n ≤ notionalMost → HasValue (whole n) false n 1
 unfolding ofInt
-whole-val n h = round-whole binary64 false n h
+whole-val n h = round-whole binary64 false n (le-trans h (lit≤ {m = notionalMost} {n = 2 ^ 53} tt))
+
+-- what a pass divides by and hands out: the sum of the shares is s, finite and above 0, and N is n
+pub record Basis (n : ℕ) (s : Float) : Type 0 where
+  pub few : n ≤ notionalMost
+  pub plain : Plain s
+  pub bound : ℕ
+  pub most : Most s bound 1
+  pub above : lt zeroF s ≡ true
 
 -- the quotient, the product and the difference of one person are bounded
 pub record Steps (n p : ℕ) (s r : Float) : Type 0 where
@@ -156,35 +164,31 @@ pub record Steps (n p : ℕ) (s r : Float) : Type 0 where
   pub product-most : Most (mul binary64 (whole n) (div binary64 r s)) n 1
   pub difference-most : Most (sub binary64 (mul binary64 (whole n) (div binary64 r s)) (whole p)) (n + p) 1
 
-pub steps : (n p : ℕ) (s r : Float) (k : ℕ) → Plain s → Most s k 1 → lt zeroF s ≡ true → n ≤ notionalMost → p ≤ 100000000 → Under r s
-    → Steps n p s r
-steps n p nan r k q m z N P u = absurd q
-steps n p (inf s) r k q m z N P u = absurd m
-steps n p (fin true v g) r k q m z N P u = absurd (true≢false q)
-steps n p (fin false v g) nan k q m z N P u = absurd u
-steps n p (fin false v g) (inf t) k q m z N P u = absurd u
-steps n p (fin false v g) (fin t r e) k q m z N P u =
-    let a : n ≤ 2 ^ 53 = le-trans N (lit≤ {m = notionalMost} {n = 2 ^ 53} tt) in
-    let b : p ≤ 2 ^ 53 = le-trans P (lit≤ {m = 100000000} {n = 2 ^ 53} tt) in
-    let c : n + p ≤ 2 ^ 53 = le-trans (add-le-add N P) (lit≤ {m = 4100000000} {n = 2 ^ 53} tt) in
+pub steps : (n p : ℕ) (s r : Float) → Basis n s → p ≤ 100000000 → Under r s → Steps n p s r
+steps n p nan r b P u = absurd (b .plain)
+steps n p (inf s) r b P u = absurd (b .most)
+steps n p (fin true v g) r b P u = absurd (true≢false (b .plain))
+steps n p (fin false v g) nan b P u = absurd u
+steps n p (fin false v g) (inf t) b P u = absurd u
+steps n p (fin false v g) (fin t r e) b P u =
+    let N : n ≤ 2 ^ 53 = le-trans (b .few) (lit≤ {m = notionalMost} {n = 2 ^ 53} tt) in
+    let W : n + p ≤ 2 ^ 53 = le-trans (add-le-add (b .few) P) (lit≤ {m = notionalMost + 100000000} {n = 2 ^ 53} tt) in
     let q = div binary64 (fin t r e) (fin false v g) in
     let x = mul binary64 (whole n) q in
-    let i = quotient t r e v g (positive v g z) u in
-    let j = product (whole n) q n (whole-val n a) a i in
-    record { quotient-most = i; product-most = j; difference-most = difference x (whole p) n p j (whole-val p b) c }
+    let i = quotient t r e v g (positive v g (b .above)) u in
+    let j = product (whole n) q n (whole-val n (b .few)) N i in
+    record { quotient-most = i; product-most = j; difference-most = difference x (whole p) n p j (whole-val p (omega arith)) W }
 
-kept : (n : ℕ) (s : Float) (k : ℕ) (l : Line) → Plain s → Most s k 1 → lt zeroF s ≡ true → n ≤ notionalMost → Good l
-    → Under (l .raw) s → within (unrounded (whole n) s l) ≡ true
-kept n s k l p m z h g u =
-    inside (unrounded (whole n) s l) (n + l .person .prior) (steps n (l .person .prior) s (l .raw) k p m z h (g .prior) u .difference-most)
-    (omega (arith, h, g .prior))
+kept : (n : ℕ) (s : Float) (l : Line) → Basis n s → Good l → Under (l .raw) s → within (unrounded (whole n) s l) ≡ true
+kept n s l b g u =
+    inside (unrounded (whole n) s l) (n + l .person .prior) (steps n (l .person .prior) s (l .raw) b (g .prior) u .difference-most)
+    (omega (arith, b .few, g .prior))
 
-none-outside : (n : ℕ) (s : Float) (k : ℕ) (ls : List Line) → Plain s → Most s k 1 → lt zeroF s ≡ true → n ≤ notionalMost
-    → Goods ls → AllUnder s ls → some (outside (whole n) s) ls ≡ false
-none-outside n s k ls p m z h g u =
+none-outside : (n : ℕ) (s : Float) (ls : List Line) → Basis n s → Goods ls → AllUnder s ls → some (outside (whole n) s) ls ≡ false
+none-outside n s ls b g u =
     each-none (outside (whole n) s) ls
     (each-then (λ (l : Line). Good l × UnderSum s l) (λ (l : Line). outside (whole n) s l ≡ false)
-    (λ l x. kept-guard (whole n) s l (λ q. kept n s k l p m z h (x .0) (x .1 q))) ls (each-both Good (UnderSum s) ls g u))
+    (λ l x. kept-guard (whole n) s l (λ q. kept n s l b (x .0) (x .1 q))) ls (each-both Good (UnderSum s) ls g u))
 
 pub zero-acc : Acc 0 zeroF
 unfolding fits
@@ -194,14 +198,17 @@ zero-acc = record { plain = refl; ok = tt; most = le-refl 0 }
 pub summed-all : (ls : List Line) → length ls ≤ 32 → Goods ls → Summed (length ls) zeroF (shareSum ls) ls
 summed-all ls L g = summed ls 0 (length ls) zeroF zero-acc g (sym (zero-add (length ls))) (le-trans L (lit≤ {m = 32} {n = 64} tt))
 
--- N is below 2 ^ 32
 pub notional-most : (d : ℕ) (ls : List Line) → d ≤ 100000000 → length ls ≤ 32 → Goods ls → notional d ls ≤ notionalMost
 notional-most d ls D L g = omega (arith, priors-most ls d g)
+
+pub basis-of : (d : ℕ) (ls : List Line) → d ≤ 100000000 → length ls ≤ 32 → Goods ls → lt zeroF (shareSum ls) ≡ true
+    → Basis (notional d ls) (shareSum ls)
+basis-of d ls D L g z =
+    let r = summed-all ls L g in
+    record { few = notional-most d ls D L g; plain = r .acc .plain; bound = length ls * shareMost; most = r .acc .most; above = z }
 
 -- no pass over such people is refused
 pub never-outside : (d : ℕ) (ls : List Line) → d ≤ 100000000 → length ls ≤ 32 → Goods ls → lt zeroF (shareSum ls) ≡ true
     → some (outside (whole (notional d ls)) (shareSum ls)) ls ≡ false
 never-outside d ls D L g z =
-    let r = summed-all ls L g in
-    none-outside (notional d ls) (shareSum ls) (length ls * shareMost) ls (r .acc .plain) (r .acc .most) z (notional-most d ls D L g) g
-    (r .all)
+    none-outside (notional d ls) (shareSum ls) ls (basis-of d ls D L g z) g (summed-all ls L g .all)

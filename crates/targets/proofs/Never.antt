@@ -117,7 +117,7 @@ unfolding figuresOk
 good-line p b f B =
     let c = p .capacity in
     let h = three (le zeroF c) (le c (whole 1000)) (leb (p .prior) 100000000) f in
-    let v = whole-val b (le-trans B (lit≤ {m = 100000000} {n = 2 ^ 53} tt)) in
+    let v = whole-val b (omega arith) in
     let r = raw-of c (whole b) b B (cap-of c (held (h .0)) (held (h .1))) v in
     record { share = r .share; small = r .small; prior = leb-true (p .prior) 100000000 (h .2) }
 

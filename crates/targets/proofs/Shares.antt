@@ -27,7 +27,7 @@ use Rattle.targets.proofs.Floats.{Most, Plain, Share, Under}
 use Rattle.targets.proofs.Errors.{Units, Near, near, NearUnits, near-units, sum-units, product-units, quotient-units}
 use Rattle.targets.proofs.Errors.{less-units, rounded-units, cross-left, cross-right}
 use Rattle.targets.proofs.Guard.{shareMost, notionalMost, Acc, Goods, AllUnder, with-one, summed, zero-acc, summed-all}
-use Rattle.targets.proofs.Guard.{positive, whole-val, steps}
+use Rattle.targets.proofs.Guard.{positive, whole-val, Basis, steps}
 use Rattle.targets.proofs.Never.{share-plain}
 
 -- ---- a share, in units
@@ -141,7 +141,6 @@ shares-from (l ∷ ls) k n x g S a u o e h v =
 -- of people whose figures pass, all that is known of the sum of their shares
 pub record SumOf (ls : List Line) (s : Float) : Type 0 where
   pub plain : Plain s
-  pub most : Most s (length ls * shareMost) 1
   pub all : AllUnder s ls
   pub is : Units s (unitsOf s)
   pub loss : sharesIn ls * 2 ^ 52 ≤ unitsOf s * 2 ^ 52 + 2 * (length ls * unitsOf s)
@@ -153,7 +152,6 @@ sum-of ls L g =
     let u = share-units s (share-plain s (length ls * shareMost) (r .acc .ok) (r .acc .plain) (r .acc .most)) in
     record {
       plain = r .acc .plain;
-      most = r .acc .most;
       all = r .all;
       is = u;
       loss = subst (λ (k : ℕ). k * 2 ^ 52 ≤ unitsOf s * 2 ^ 52 + 2 * (length ls * unitsOf s)) (zero-add (sharesIn ls))
@@ -271,18 +269,16 @@ quotient-near (fin false n d) (fin t a e) R S p z u w m =
     let P = units-some (fin false n d) S p z w in
     near (div binary64 (fin t a e) (fin false n d)) (unlike t false) R S 1 P (quotient-units t a e n d R S (positive n d z) P u w) m
 
-pub person-most : (n p : ℕ) (s r : Float) (S k : ℕ) → Plain s → Most s k 1 → lt zeroF s ≡ true → n ≤ notionalMost → p ≤ 100000000
-    → Under r s → Share r → Units s S → (x : Float) → x ≡ sub binary64 (mul binary64 (whole n) (div binary64 r s)) (whole p)
-    → lt x zeroF ≡ false → AtMost (rounded x) p n (unitsOf r) S
-person-most n p s r S k q m z N P u h w x e f =
-    let o = steps n p s r k q m z N P u in
+pub person-most : (n p : ℕ) (s r : Float) (S : ℕ) → Basis n s → p ≤ 100000000 → Under r s → Share r → Units s S → (x : Float)
+    → x ≡ sub binary64 (mul binary64 (whole n) (div binary64 r s)) (whole p) → lt x zeroF ≡ false → AtMost (rounded x) p n (unitsOf r) S
+person-most n p s r S b P u h w x e f =
+    let o = steps n p s r b P u in
     let y = mul binary64 (whole n) (div binary64 r s) in
-    let a = quotient-near s r (unitsOf r) S q z (share-units r h) w (o .quotient-most) in
-    let b = product-units (whole n) (div binary64 r s) n (a .units)
-    (whole-val n (le-trans N (lit≤ {m = notionalMost} {n = 2 ^ 53} tt))) (a .is) in
-    let c = near-units y (b .0) (n * a .units) n (b .1) (o .product-most) in
-    let d = less-units y (whole p) (c .units) p (n + p) (c .is)
-    (whole-val p (le-trans P (lit≤ {m = 100000000} {n = 2 ^ 53} tt))) (o .difference-most) (ap (λ (v : Float). lt v zeroF) (sym e) ∙ f) in
+    let q = quotient-near s r (unitsOf r) S (b .plain) (b .above) (share-units r h) w (o .quotient-most) in
+    let m = product-units (whole n) (div binary64 r s) n (q .units) (whole-val n (b .few)) (q .is) in
+    let c = near-units y (m .0) (n * q .units) n (m .1) (o .product-most) in
+    let d = less-units y (whole p) (c .units) p (n + p) (c .is) (whole-val p (omega arith)) (o .difference-most)
+    (ap (λ (v : Float). lt v zeroF) (sym e) ∙ f) in
     let g = rounded-units x (d .units) (subst (λ (v : Float). Units v (d .units)) (sym e) (d .is)) in
-    person-by (rounded x) p n (unitsOf r) S (a .units) (c .units) (d .units) (2 ^ 1074) (2 ^ 52) (2 ^ 52 + 1) (pow-pos 1074)
-    g (d .over) (c .over) (a .over) (few-units n N)
+    person-by (rounded x) p n (unitsOf r) S (q .units) (c .units) (d .units) (2 ^ 1074) (2 ^ 52) (2 ^ 52 + 1) (pow-pos 1074)
+    g (d .over) (c .over) (q .over) (few-units n (b .few))

@@ -28,8 +28,8 @@ use Rattle.targets.proofs.Each.{each-upTo, each-both, each-map}
 use Rattle.targets.proofs.Cases.{by-settled, by-passed, passes-keep}
 use Rattle.targets.proofs.Taker.{taker-here, taker-takes}
 use Rattle.targets.proofs.Padding.{Len, len-passes}
-use Rattle.targets.proofs.Floats.{Most, Plain, Under}
-use Rattle.targets.proofs.Guard.{shareMost, notionalMost, Good, Goods, UnderSum, AllUnder, notional-most}
+use Rattle.targets.proofs.Floats.{Under}
+use Rattle.targets.proofs.Guard.{notionalMost, Good, Goods, UnderSum, AllUnder, Basis, basis-of}
 use Rattle.targets.proofs.Never.{Fine, fine-passed}
 use Rattle.targets.proofs.Errors.{Units}
 use Rattle.targets.proofs.Shares.{unitsOf, share-units, units-under, units-some, units-none, sharesIn, SumOf, sum-of}
@@ -78,15 +78,15 @@ line-more t p x q n r R k c L h i =
 
 -- ---- a pass whose sum s is above 0, with N = n
 
-module _ (n k : ℕ) (s : Float) (S : ℕ) (P : Plain s) (M : Most s k 1) (Z : lt zeroF s ≡ true) (N : n ≤ notionalMost) (U : Units s S) where
+module _ (n : ℕ) (s : Float) (S : ℕ) (B : Basis n s) (U : Units s S) where
   -- an unpinned person whose unrounded target is not below 0
   line-free : (l : Line) → Good l → Under (l .raw) s → lt (unrounded (whole n) s l) zeroF ≡ false
       → AtMost (rounded (unrounded (whole n) s l)) (l .person .prior) n (unitsOf (l .raw)) S
   line-free l g u f =
-      person-most n (l .person .prior) s (l .raw) S k P M Z N (g .prior) u (g .share) U (unrounded (whole n) s l) refl f
+      person-most n (l .person .prior) s (l .raw) S B (g .prior) u (g .share) U (unrounded (whole n) s l) refl f
 
   parts-some : 0 < S * exactParts
-  parts-some = mul-pos (units-some s S P Z U) (lit≤ {m = 1} {n = exactParts} tt)
+  parts-some = mul-pos (units-some s S (B .plain) (B .above) U) (lit≤ {m = 1} {n = exactParts} tt)
 
   settled-kept : (l : Line) → Good l → UnderSum s l → Kept l → Kept (settle (whole n) s l)
   settled-kept l g u h =
@@ -222,26 +222,21 @@ spread-passed d ls D F g h =
     s : Float
     s = shareSum ls
 
-    k : ℕ
-    k = length ls * shareMost
-
     o : SumOf ls s
     o = sum-of ls F g
-
-    N : n ≤ notionalMost
-    N = notional-most d ls D F g
 
     new : List Line
     new = map (settle (whole n) s) ls
 
     kept : lt zeroF s ≡ true → AllKept new
-    kept z = all-kept n k s (unitsOf s) (o .plain) (o .most) z N (o .is) ls g (o .all) h
+    kept z = all-kept n s (unitsOf s) (basis-of d ls D F g z) (o .is) ls g (o .all) h
 
     most : lt zeroF s ≡ true → some (falls (whole n) s) ls ≡ false → addedUp new ≤ d + 65
     most z f =
         let S = unitsOf s in
-        let x = lines-most n k s S (o .plain) (o .most) z N (o .is) ls g (o .all) h f in
-        let t = total-most (addedUp new + priorsIn ls) n (sharesIn ls) S (length ls) (units-some s S (o .plain) z (o .is)) F N x
+        let b = basis-of d ls D F g z in
+        let x = lines-most n s S b (o .is) ls g (o .all) h f in
+        let t = total-most (addedUp new + priorsIn ls) n (sharesIn ls) S (length ls) (units-some s S (o .plain) z (o .is)) F (b .few) x
         (o .loss) in
         omega (arith, t, notional-is ls d)
 
