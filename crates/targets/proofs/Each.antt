@@ -1,9 +1,9 @@
--- What holds of each line, and a test that some line passes. Assumes nothing.
-use mathlib.Core.Path.{_≡_, refl, sym, ap₂}
+-- What holds of each line, a test that some line passes, and a number of each line added up. Assumes nothing.
+use mathlib.Core.Path.{_≡_, refl, sym, ap, ap₂, _∙_}
 use mathlib.Core.Bool.{Bool, true, false, _||_, true≢false}
-use mathlib.Core.List.{List, [], _∷_, _++_, map}
-use Prim.Native.Nat.{ℕ, zero, suc, _<_, suc-le-suc}
-use native.Mathlib.Nat.{not-suc-le-zero, le-of-suc-le-suc, zero-lt-suc}
+use mathlib.Core.List.{List, [], _∷_, _++_, map, foldl}
+use Prim.Native.Nat.{ℕ, zero, suc, _+_, _*_, _≤_, _<_, zero-le, suc-le-suc}
+use native.Mathlib.Nat.{add-zero, add-assoc, mul-suc, not-suc-le-zero, le-of-suc-le-suc, zero-lt-suc}
 use native.Mathlib.Omega.{arith}
 use lib.ListN.{length, getD, replicate}
 use Rattle.paper.proofs.Logic.{by-test, neither, or-right, or-left, or-second}
@@ -72,3 +72,21 @@ module _ (p : Line → Bool) where
   at-some [] j h e = absurd (not-suc-le-zero h)
   at-some (l ∷ ls) zero h e = or-left (p l) (some p ls) e
   at-some (l ∷ ls) (suc j) h e = or-second (p l) (some p ls) (at-some ls j (le-of-suc-le-suc h) e)
+
+-- ---- a number of each line, added up
+
+abbrev pub sumLines : (Line → ℕ) → List Line → ℕ
+sumLines g [] = 0
+sumLines g (l ∷ ls) = g l + sumLines g ls
+
+-- a fold whose turns add it
+pub fold-sum : (f : ℕ → Line → ℕ) (g : Line → ℕ) → ((a : ℕ) (l : Line) → f a l ≡ a + g l) → (ls : List Line) (a : ℕ)
+    → foldl f a ls ≡ a + sumLines g ls
+fold-sum f g e [] a = sym (add-zero a)
+fold-sum f g e (l ∷ ls) a =
+    ap (λ (x : ℕ). foldl f x ls) (e a l) ∙ fold-sum f g e ls (a + g l) ∙ add-assoc a (g l) (sumLines g ls)
+
+-- at most b a line
+pub sum-most : (g : Line → ℕ) (b : ℕ) (ls : List Line) → Each (λ (l : Line). g l ≤ b) ls → sumLines g ls ≤ b * length ls
+sum-most g b [] h = zero-le
+sum-most g b (l ∷ ls) h = omega (arith, h .0, sum-most g b ls (h .1), mul-suc b (length ls))

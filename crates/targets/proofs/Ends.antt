@@ -1,6 +1,6 @@
 -- The bound of people + 1 passes never cuts them short: a pass that asks for another pins somebody. Assumes nothing.
 use mathlib.Core.Path.{_≡_, refl, sym, ap, _∙_}
-use mathlib.Core.Bool.{Bool, true, false, not, _&&_, cond, true≢false}
+use mathlib.Core.Bool.{true, false, not, _&&_, cond, true≢false}
 use mathlib.Core.List.{List, [], _∷_, map}
 use Prim.Native.Nat.{ℕ, zero, suc, _+_, _≤_, _<_, zero-le}
 use native.Mathlib.Nat.{le-refl}
@@ -8,38 +8,36 @@ use native.Mathlib.Omega.{arith}
 use borrow.Author.Tests.{not-true}
 use lib.Ieee.{Float, lt}
 use lib.ListN.{length, length-map}
-use Rattle.paper.proofs.Logic.{by-test, both, or-right}
+use Rattle.paper.proofs.Logic.{by-test, by-cond, both, or-right}
 use Rattle.targets.specs.declared.Line.{Line}
 use Rattle.targets.specs.Figures.{zeroF, whole}
 use Rattle.targets.specs.Passes.{unrounded, settled, settle, falls, some, shareSum, notional}
 use Rattle.targets.specs.Passes.{Passed, again, done, refused, passed, pass, passes, passesLeave}
 use Rattle.targets.proofs.Loops.{differ}
+use Rattle.targets.proofs.Each.{sumLines}
 use Rattle.targets.proofs.Cases.{by-settled, by-passed}
 use Rattle.targets.proofs.Eight.{done-stays, refused-stays}
 
 -- how many are pinned
-abbrev ofOne : Bool → ℕ
-ofOne b = cond b 1 0
+abbrev ofOne : Line → ℕ
+ofOne l = cond (l .pinned) 1 0
 
 abbrev pinnedIn : List Line → ℕ
-pinnedIn [] = 0
-pinnedIn (l ∷ ls) = ofOne (l .pinned) + pinnedIn ls
+pinnedIn = sumLines ofOne
 
 pinned-le : (ls : List Line) → pinnedIn ls ≤ length ls
 pinned-le [] = zero-le
-pinned-le (l ∷ ls) = let h = pinned-le ls in omega (arith, at-most (l .pinned))
-  where
-    at-most : (b : Bool) → ofOne b ≤ 1
-    at-most true = le-refl 1
-    at-most false = zero-le
+pinned-le (l ∷ ls) =
+    let h = by-cond (l .pinned) 1 0 (λ (k : ℕ). k ≤ 1) (λ p. le-refl 1) (λ p. zero-le) in
+    omega (arith, h, pinned-le ls)
 
 -- ---- one person
 
-pin-kept : (x : Float) (l : Line) → ofOne (l .pinned) ≤ ofOne (settled x l .pinned)
+pin-kept : (x : Float) (l : Line) → ofOne l ≤ ofOne (settled x l)
 pin-kept x l =
-    by-settled x l (λ (m : Line). ofOne (l .pinned) ≤ ofOne (m .pinned)) (λ p. le-refl _) (λ p z. rw p zero-le) (λ p z. rw p zero-le)
+    by-settled x l (λ (m : Line). ofOne l ≤ ofOne m) (λ p. le-refl _) (λ p z. rw p zero-le) (λ p z. rw p zero-le)
 
-pin-new : (x : Float) (l : Line) → not (l .pinned) && lt x zeroF ≡ true → ofOne (l .pinned) < ofOne (settled x l .pinned)
+pin-new : (x : Float) (l : Line) → not (l .pinned) && lt x zeroF ≡ true → ofOne l < ofOne (settled x l)
 unfolding settled
 pin-new x l h =
     let b = both (not (l .pinned)) (lt x zeroF) h in

@@ -24,7 +24,7 @@ use Rattle.targets.specs.Code.{Each}
 use Rattle.targets.proofs.Nearest.{held}
 use Rattle.targets.proofs.Floats.{Most, Plain, Share, Under, round-most, round-plain, quotient, product, difference, inside}
 use Rattle.targets.proofs.Floats.{under-round, under-refl, under-trans, add-plain, over-left, over-right}
-use Rattle.targets.proofs.Each.{each-both, each-then, each-none}
+use Rattle.targets.proofs.Each.{each-both, each-then, each-none, sumLines, fold-sum, sum-most}
 use Rattle.targets.proofs.Cases.{kept-guard}
 
 -- no raw share is above 2 ^ 37, and no N above 4,000,000,000
@@ -133,13 +133,19 @@ summed (l ∷ ls) k n x a g e h =
       all = (λ q. under-trans (l .raw) (withShare x l) (foldl withShare x (l ∷ ls)) (w .right q) (r .from), r .all);
     }
 
-priors-most : (ls : List Line) (a : ℕ) → Goods ls → foldl withPrior a ls ≤ a + 100000000 * length ls
-priors-most [] a g = omega arith
-priors-most (l ∷ ls) a g =
-    let h = priors-most ls (withPrior a l) (g .1) in
-    let w : withPrior a l ≤ a + 100000000
-    = by-cond (l .pinned) a (a + l .person .prior) (λ (m : ℕ). m ≤ a + 100000000) (λ p. omega arith) (λ p. omega (arith, g .0 .prior)) in
-    omega arith
+-- the prior minutes of the unpinned
+abbrev priorOf : Line → ℕ
+priorOf l = cond (l .pinned) 0 (l .person .prior)
+
+abbrev pub priorsIn : List Line → ℕ
+priorsIn = sumLines priorOf
+
+pub notional-is : (d : ℕ) (ls : List Line) → notional d ls ≡ d + priorsIn ls
+notional-is d ls = fold-sum withPrior priorOf (λ a l. go (l .pinned) a (l .person .prior)) ls d
+  where
+    go : (b : Bool) (a p : ℕ) → cond b a (a + p) ≡ a + cond b 0 p
+    go true a p = sym (add-zero a)
+    go false a p = refl
 
 -- ---- the guard is kept
 pub positive : (n : ℕ) (d : ℤ) → lt zeroF (fin false n d) ≡ true → 0 < n
@@ -199,7 +205,11 @@ pub summed-all : (ls : List Line) → length ls ≤ 32 → Goods ls → Summed (
 summed-all ls L g = summed ls 0 (length ls) zeroF zero-acc g (sym (zero-add (length ls))) (le-trans L (lit≤ {m = 32} {n = 64} tt))
 
 pub notional-most : (d : ℕ) (ls : List Line) → d ≤ 100000000 → length ls ≤ 32 → Goods ls → notional d ls ≤ notionalMost
-notional-most d ls D L g = omega (arith, priors-most ls d g)
+notional-most d ls D L g =
+    let h = sum-most priorOf 100000000 ls
+    (each-then Good (λ (l : Line). priorOf l ≤ 100000000)
+    (λ l x. by-cond (l .pinned) 0 (l .person .prior) (λ (p : ℕ). p ≤ 100000000) (λ q. zero-le) (λ q. x .prior)) ls g) in
+    omega (arith, notional-is d ls, h)
 
 pub basis-of : (d : ℕ) (ls : List Line) → d ≤ 100000000 → length ls ≤ 32 → Goods ls → lt zeroF (shareSum ls) ≡ true
     → Basis (notional d ls) (shareSum ls)

@@ -29,6 +29,7 @@ use Rattle.targets.proofs.Errors.{less-units, rounded-units, cross-left
 use Rattle.targets.proofs.Guard.{shareMost, notionalMost, Acc, Goods, AllUnder, with-one, summed, zero-acc, summed-all}
 use Rattle.targets.proofs.Guard.{positive, whole-val, Basis, steps}
 use Rattle.targets.proofs.Never.{share-plain}
+use Rattle.targets.proofs.Each.{sumLines}
 
 -- ---- a share, in units
 
@@ -71,8 +72,7 @@ units-under (fin s m e) (fin t n d) g h u p q =
 
 -- the shares of the unpinned, added up with no rounding
 abbrev pub sharesIn : List Line → ℕ
-sharesIn [] = 0
-sharesIn (l ∷ ls) = cond (l .pinned) 0 (unitsOf (l .raw)) + sharesIn ls
+sharesIn = sumLines (λ (l : Line). cond (l .pinned) 0 (unitsOf (l .raw)))
 
 -- g and h units are added: g' come out
 pub record Grown (x : Float) (g h : ℕ) : Type 0 where

@@ -1,13 +1,13 @@
 -- The rounded targets go past demand by at most 65 minutes in all. So either no target is below 0, or every target is below 100 in size.
 -- Assumes nothing.
 use mathlib.Core.Path.{_≡_, refl, sym, ap, _∙_, subst}
-use mathlib.Core.Bool.{Bool, true, false, cond, true≢false}
-use mathlib.Core.List.{List, [], _∷_, map, foldl}
+use mathlib.Core.Bool.{true, false, cond, true≢false}
+use mathlib.Core.List.{List, [], _∷_, map}
 use mathlib.Core.Logic.{_⊎_, inl, inr, ⊎-elim}
 use Prim.Native.Nat.{ℕ, zero, suc, _+_, _-_, _*_, _^_, _≤_, _<_, zero-le}
-use native.Mathlib.Nat.{zero-mul, mul-zero, mul-comm, mul-assoc, mul-left-comm, add-mul, mul-add, suc-mul, add-assoc, add-zero, zero-add}
+use native.Mathlib.Nat.{zero-mul, mul-zero, mul-comm, mul-assoc, mul-left-comm, add-mul, mul-add, suc-mul}
 use native.Mathlib.Nat.{mul-pos, mul-le-mul-right, mul-le-mul-left, le-of-mul-le-mul-right, le-trans, le-of-eq}
-use native.Mathlib.Nat.{lt-of-lt-of-le}
+use native.Mathlib.Nat.{le-antisymm, lt-of-lt-of-le}
 use native.Mathlib.Omega.{arith}
 use borrow.Author.Tests.{eqb-true, eqb-false}
 use lib.Dec.{eqb, lit≤}
@@ -18,18 +18,19 @@ use lib.Ieee.{Float, lt}
 use Rattle.paper.proofs.Logic.{by-test, lt-or-ge, neither}
 use Rattle.targets.specs.declared.Line.{Line}
 use Rattle.targets.specs.Figures.{zeroF, whole, pad}
-use Rattle.targets.specs.Passes.{rounded, unrounded, settle, falls, some, withPrior, shareSum, notional}
+use Rattle.targets.specs.Passes.{rounded, unrounded, settle, falls, some, shareSum, notional}
 use Rattle.targets.specs.Passes.{Passed, again, done, refused, passed, passesLeave}
-use Rattle.targets.specs.Remainder.{withTarget, totalOf, takerOf, Largest, targetOf, adjusted, are, closed}
+use Rattle.targets.specs.Remainder.{totalOf, takerOf, Largest, targetOf, adjusted, are, closed}
 use Rattle.targets.specs.Outcome.{Given, demandIn, lineIn, linesIn, targetsIn, computeTargets}
 use Rattle.targets.specs.Code.{Each, Sound}
 use Rattle.targets.proofs.Loops.{differ}
-use Rattle.targets.proofs.Each.{each-upTo, each-both, each-map}
+use Rattle.targets.proofs.Each.{each-upTo, each-both, each-then, each-map, sum-most}
+use Rattle.targets.proofs.Sums.{addedUp, total-is}
 use Rattle.targets.proofs.Cases.{by-settled, by-passed, passes-keep}
 use Rattle.targets.proofs.Taker.{taker-here, taker-takes}
 use Rattle.targets.proofs.Padding.{Len, len-passes}
 use Rattle.targets.proofs.Floats.{Under}
-use Rattle.targets.proofs.Guard.{notionalMost, Good, Goods, UnderSum, AllUnder, Basis, basis-of}
+use Rattle.targets.proofs.Guard.{notionalMost, Good, Goods, UnderSum, AllUnder, priorsIn, notional-is, Basis, basis-of}
 use Rattle.targets.proofs.Never.{Fine, fine-passed}
 use Rattle.targets.proofs.Errors.{Units}
 use Rattle.targets.proofs.Shares.{unitsOf, share-units, units-under, units-some, units-none, sharesIn, SumOf, sum-of}
@@ -48,14 +49,17 @@ pub record Kept (l : Line) : Type 0 where
 abbrev pub AllKept : List Line → Type 0
 AllKept = Each Kept
 
--- the targets, and the prior minutes of the unpinned
-abbrev pub addedUp : List Line → ℕ
-addedUp [] = 0
-addedUp (l ∷ ls) = l .target + addedUp ls
+-- all that is known of a line where the sum of the shares is s
+pub record Known (s : Float) (l : Line) : Type 0 where
+  pub good : Good l
+  pub under : UnderSum s l
+  pub kept : Kept l
 
-abbrev pub priorsIn : List Line → ℕ
-priorsIn [] = 0
-priorsIn (l ∷ ls) = cond (l .pinned) 0 (l .person .prior) + priorsIn ls
+all-known : (s : Float) (ls : List Line) → Goods ls → AllUnder s ls → AllKept ls → Each (Known s) ls
+all-known s ls g u h =
+    each-then (λ (l : Line). Good l × (UnderSum s l × Kept l)) (Known s)
+    (λ l x. record { good = x .0; under = x .1 .0; kept = x .1 .1 }) ls
+    (each-both Good (λ (l : Line). UnderSum s l × Kept l) ls g (each-both (UnderSum s) Kept ls u h))
 
 two-left : (t p n R L c : ℕ) → 0 < c → R ≡ 0 → (t + p) * c ≤ n * R * L + 2 * c → t ≤ 2
 two-left t p n R L c C z h =
@@ -88,32 +92,30 @@ module _ (n : ℕ) (s : Float) (S : ℕ) (B : Basis n s) (U : Units s S) where
   parts-some : 0 < S * exactParts
   parts-some = mul-pos (units-some s S (B .plain) (B .above) U) (lit≤ {m = 1} {n = exactParts} tt)
 
-  settled-kept : (l : Line) → Good l → UnderSum s l → Kept l → Kept (settle (whole n) s l)
-  settled-kept l g u h =
-      by-settled x l Kept (λ e. h) (λ e f. record { pinned-none = λ q. refl; shareless-few = λ q. absurd (true≢false q) })
+  settled-kept : (l : Line) → Known s l → Kept (settle (whole n) s l)
+  settled-kept l k =
+      by-settled x l Kept (λ e. k .kept) (λ e f. record { pinned-none = λ q. refl; shareless-few = λ q. absurd (true≢false q) })
       (λ e f. record {
         pinned-none = λ q. absurd (true≢false (sym q));
         shareless-few = λ q z.
-            two-left (rounded x) (l .person .prior) n (unitsOf (l .raw)) roundedParts (S * exactParts) parts-some z (line-free l g (u e) f);
+            two-left (rounded x) (l .person .prior) n (unitsOf (l .raw)) roundedParts (S * exactParts) parts-some z
+            (line-free l (k .good) (k .under e) f);
       })
     where
       x : Float
       x = unrounded (whole n) s l
 
-  all-kept : (ls : List Line) → Goods ls → AllUnder s ls → AllKept ls → AllKept (map (settle (whole n) s) ls)
-  all-kept ls g u h =
-      each-map (λ (l : Line). Good l × (UnderSum s l × Kept l)) Kept (settle (whole n) s)
-      (λ l k. settled-kept l (k .0) (k .1 .0) (k .1 .1)) ls
-      (each-both Good (λ (l : Line). UnderSum s l × Kept l) ls g (each-both (UnderSum s) Kept ls u h))
+  all-kept : (ls : List Line) → Each (Known s) ls → AllKept (map (settle (whole n) s) ls)
+  all-kept = each-map (Known s) Kept (settle (whole n) s) settled-kept
 
-  line-most : (l : Line) → Good l → UnderSum s l → Kept l → falls (whole n) s l ≡ false
+  line-most : (l : Line) → Known s l → falls (whole n) s l ≡ false
       → AtMost (settle (whole n) s l .target) (cond (l .pinned) 0 (l .person .prior)) n (cond (l .pinned) 0 (unitsOf (l .raw))) S
-  line-most l g u h e =
+  line-most l k e =
       by-settled x l
       (λ (m : Line). AtMost (m .target) (cond (l .pinned) 0 (l .person .prior)) n (cond (l .pinned) 0 (unitsOf (l .raw))) S)
-      (λ p. rw p (none (l .target) (S * exactParts) (n * 0 * roundedParts) (h .pinned-none p)))
+      (λ p. rw p (none (l .target) (S * exactParts) (n * 0 * roundedParts) (k .kept .pinned-none p)))
       (λ p f. absurd (true≢false (rw (p, f) at e)))
-      (λ p f. rw p (line-free l g (u p) f))
+      (λ p f. rw p (line-free l (k .good) (k .under p) f))
     where
       x : Float
       x = unrounded (whole n) s l
@@ -121,15 +123,15 @@ module _ (n : ℕ) (s : Float) (S : ℕ) (B : Basis n s) (U : Units s S) where
       none : (t c y : ℕ) → t ≡ 0 → (t + 0) * c ≤ y + 2 * c
       none t c y z = le-trans (le-of-eq (ap (λ (k : ℕ). (k + 0) * c) z ∙ zero-mul c)) zero-le
 
-  lines-most : (ls : List Line) → Goods ls → AllUnder s ls → AllKept ls → some (falls (whole n) s) ls ≡ false
+  lines-most : (ls : List Line) → Each (Known s) ls → some (falls (whole n) s) ls ≡ false
       → (addedUp (map (settle (whole n) s) ls) + priorsIn ls) * (S * exactParts)
       ≤ n * sharesIn ls * roundedParts + 2 * (length ls * (S * exactParts))
-  lines-most [] g u h e = le-trans (le-of-eq (zero-mul (S * exactParts))) zero-le
-  lines-most (l ∷ ls) g u h e =
+  lines-most [] k e = le-trans (le-of-eq (zero-mul (S * exactParts))) zero-le
+  lines-most (l ∷ ls) k e =
       let x = neither (falls (whole n) s l) (some (falls (whole n) s) ls) e in
       line-more (settle (whole n) s l .target) (cond (l .pinned) 0 (l .person .prior)) (addedUp (map (settle (whole n) s) ls))
       (priorsIn ls) n (cond (l .pinned) 0 (unitsOf (l .raw))) (sharesIn ls) (length ls) (S * exactParts) roundedParts
-      (line-most l (g .0) (u .0) (h .0) (x .0)) (lines-most ls (g .1) (u .1) (h .1) (x .1))
+      (line-most l (k .0) (x .0)) (lines-most ls (k .1) (x .1))
 
 -- ---- all targets of such a pass
 
@@ -184,26 +186,14 @@ total-most X n R S k P h N i j =
 -- ---- one pass, and all of them
 
 -- where the sum is not above 0 nobody unpinned has a share, so each target is at most 2
-few-left : (s : Float) (ls : List Line) → Units s 0 → Goods ls → AllUnder s ls → AllKept ls → addedUp ls ≤ 2 * length ls
-few-left s [] u g a h = zero-le
-few-left s (l ∷ ls) u g a h = let r = few-left s ls u (g .1) (a .1) (h .1) in omega (arith, r, few (l .pinned) refl)
+few-left : (s : Float) (ls : List Line) → Units s 0 → Each (Known s) ls → addedUp ls ≤ 2 * length ls
+few-left s ls u k = sum-most (λ (l : Line). l .target) 2 ls (each-then (Known s) (λ (l : Line). l .target ≤ 2) few ls k)
   where
-    few : (b : Bool) → l .pinned ≡ b → l .target ≤ 2
-    few true e = le-trans (le-of-eq (h .0 .pinned-none e)) zero-le
-    few false e =
-        h .0 .shareless-few e
-        (zero-only (units-under (l .raw) s (unitsOf (l .raw)) 0 (a .0 e) (share-units (l .raw) (g .0 .share)) u))
-      where
-        zero-only : {x : ℕ} → x ≤ 0 → x ≡ 0
-        zero-only z = omega arith
-
-notional-is : (ls : List Line) (d : ℕ) → notional d ls ≡ d + priorsIn ls
-notional-is [] d = sym (add-zero d)
-notional-is (l ∷ ls) d = notional-is ls (withPrior d l) ∙ ap (λ (z : ℕ). z + priorsIn ls) (go (l .pinned)) ∙ add-assoc d _ (priorsIn ls)
-  where
-    go : (b : Bool) → cond b d (d + l .person .prior) ≡ d + cond b 0 (l .person .prior)
-    go true = sym (add-zero d)
-    go false = refl
+    few : (l : Line) → Known s l → l .target ≤ 2
+    few l k =
+        by-test (l .pinned) (l .target ≤ 2) (λ e. le-trans (le-of-eq (k .kept .pinned-none e)) zero-le)
+        (λ e. k .kept .shareless-few e
+        (le-antisymm (units-under (l .raw) s (unitsOf (l .raw)) 0 (k .under e) (share-units (l .raw) (k .good .share)) u) zero-le))
 
 -- what holds of the passes' lines: kept ones while a pass is due, and in the end also that the targets are at most demand and 65 more
 abbrev Spread : ℕ → Passed → Type 0
@@ -225,35 +215,34 @@ spread-passed d ls D F g h =
     o : SumOf ls s
     o = sum-of ls F g
 
+    known : Each (Known s) ls
+    known = all-known s ls g (o .all) h
+
     new : List Line
     new = map (settle (whole n) s) ls
 
     kept : lt zeroF s ≡ true → AllKept new
-    kept z = all-kept n s (unitsOf s) (basis-of d ls D F g z) (o .is) ls g (o .all) h
+    kept z = all-kept n s (unitsOf s) (basis-of d ls D F g z) (o .is) ls known
 
     most : lt zeroF s ≡ true → some (falls (whole n) s) ls ≡ false → addedUp new ≤ d + 65
     most z f =
         let S = unitsOf s in
         let b = basis-of d ls D F g z in
-        let x = lines-most n s S b (o .is) ls g (o .all) h f in
+        let x = lines-most n s S b (o .is) ls known f in
         let t = total-most (addedUp new + priorsIn ls) n (sharesIn ls) S (length ls) (units-some s S (o .plain) z (o .is)) F (b .few) x
         (o .loss) in
-        omega (arith, t, notional-is ls d)
+        omega (arith, t, notional-is d ls)
 
     stop : lt zeroF s ≡ false → addedUp ls ≤ d + 65
     stop z =
         let u = subst (λ (j : ℕ). Units s j) (units-none s (unitsOf s) (o .plain) z (o .is)) (o .is) in
-        omega (arith, few-left s ls u g (o .all) h, F)
+        omega (arith, few-left s ls u known, F)
 
 -- a line that is new
 new-kept : (l : Line) → l .target ≡ 0 → Kept l
 new-kept l h = record { pinned-none = λ q. h; shareless-few = λ q z. le-trans (le-of-eq h) zero-le }
 
 -- ---- the remainder
-
-total-is : (ls : List Line) (a : ℕ) → foldl withTarget a ls ≡ a + addedUp ls
-total-is [] a = sym (add-zero a)
-total-is (l ∷ ls) a = total-is ls (a + l .target) ∙ add-assoc a (l .target) (addedUp ls)
 
 none-pinned : (ls : List Line) (j : ℕ) → AllKept ls → getD ls j pad .pinned ≡ true → getD ls j pad .target ≡ 0
 none-pinned [] j h e = refl
@@ -326,7 +315,7 @@ plain-or-small : (d : ℕ) (ls : List Line) → 0 < length ls → AllKept ls →
 plain-or-small d ls L h m =
     let top = getD ls (takerOf ls) pad .target in
     let t = totalOf ls in
-    let q : t ≡ addedUp ls = total-is ls 0 ∙ zero-add (addedUp ls) in
+    let q : t ≡ addedUp ls = total-is ls in
     ⊎-elim
     (λ (l : top + d < t).
     inr (each-target d ls (λ (z : ℤ). natAbs z < 100) L
