@@ -1,8 +1,7 @@
 -- Laws of the single bits of numbers: what each operation on words does to a bit. Assumes nothing.
-use mathlib.Core.Path.{_≡_, refl, sym, ap, ap₂, _∙_, subst}
-use mathlib.Core.Logic.{_⊎_, inl, inr}
+use mathlib.Core.Path.{_≡_, refl, sym, ap, _∙_}
 use Prim.Native.Nat.{ℕ, zero, suc, _+_, _-_, _*_, _/_, _%_, _^_, _≤_, _<_, min, max}
-use native.Mathlib.Nat.{mod-lt, mul-assoc, pow-suc, div-one, div-eq-of-lt, lt-of-lt-of-le}
+use native.Mathlib.Nat.{mod-lt, mul-assoc, pow-suc, div-one, div-eq-of-lt, lt-of-lt-of-le, sub-zero}
 use native.Mathlib.Omega.{arith}
 use lib.Dec.{lit<}
 use lib.Bits.{bitAnd, bitOr, and-step, or-step}
@@ -30,6 +29,13 @@ bit-and a b (suc k) =
     let h : bitAnd a b / 2 ≡ bitAnd (a / 2) (b / 2) = omega (arith, and-step a b) in
     simp (bit-suc, h, bit-and (a / 2) (b / 2) k)
 
+-- or: the greater of the two bits
+pub bit-or : (a b k : ℕ) → bitOf (bitOr a b) k ≡ max (bitOf a k) (bitOf b k)
+bit-or a b zero = simp bit-zero (omega (arith, or-step a b))
+bit-or a b (suc k) =
+    let h : bitOr a b / 2 ≡ bitOr (a / 2) (b / 2) = omega (arith, or-step a b) in
+    simp (bit-suc, h, bit-or (a / 2) (b / 2) k)
+
 -- a bit below m is not changed by dropping the bits from m on
 pub bit-mod : (n m k : ℕ) → k < m → bitOf (n % 2 ^ m) k ≡ bitOf n k
 unfolding bitOf
@@ -52,10 +58,18 @@ pub bit-shl-high : (a s k : ℕ) → s ≤ k → bitOf (a * 2 ^ s) k ≡ bitOf a
 unfolding bitOf
 bit-shl-high a s k h =
     let e : k ≡ s + (k - s) = omega arith in
-    ap (λ (x : ℕ). a * 2 ^ s / 2 ^ x % 2) e ∙ ap (λ (x : ℕ). x % 2) (sym (shr-shr (a * 2 ^ s) s (k - s))) ∙ ap (λ (x : ℕ). x / 2 ^ (k - s) % 2)
-    (shl-shr a s)
+    ap (λ (x : ℕ). a * 2 ^ s / 2 ^ x % 2) e ∙ ap (λ (x : ℕ). x % 2) (sym (shr-shr (a * 2 ^ s) s (k - s)))
+    ∙ ap (λ (x : ℕ). x / 2 ^ (k - s) % 2) (shl-shr a s)
 
--- the complement in m bits, and all ones
+-- a number below 2 ^ m has no bit from m on, so 0 has none
+pub top-clear : (a m k : ℕ) → a < 2 ^ m → m ≤ k → bitOf a k ≡ 0
+unfolding bitOf
+top-clear a m k h g = ap (λ (x : ℕ). x % 2) (div-eq-of-lt (lt-of-lt-of-le h (pow-mono g)))
+
+pub bit-none : (k : ℕ) → bitOf 0 k ≡ 0
+bit-none k = top-clear 0 0 k (lit< tt) (omega arith)
+
+-- the complement in m bits, and all ones: the complement of 0
 pub bit-not : (m a k : ℕ) → a < 2 ^ m → k < m → bitOf (2 ^ m - 1 - a) k ≡ 1 - bitOf a k
 bit-not zero a k ha hk = omega arith
 bit-not (suc m) a zero ha hk = simp bit-zero (omega (arith, pow-suc 2 m))
@@ -64,11 +78,7 @@ bit-not (suc m) a (suc k) ha hk =
     simp (bit-suc, e) (bit-not m (a / 2) k (omega (arith, pow-suc 2 m)) (omega arith))
 
 pub bit-ones : (m k : ℕ) → k < m → bitOf (2 ^ m - 1) k ≡ 1
-bit-ones zero k hk = omega arith
-bit-ones (suc m) zero hk = simp bit-zero (omega (arith, pow-suc 2 m, pow-pos m))
-bit-ones (suc m) (suc k) hk =
-    let e : (2 ^ suc m - 1) / 2 ≡ 2 ^ m - 1 = omega (arith, pow-suc 2 m) in
-    simp (bit-suc, e) (bit-ones m k (omega arith))
+bit-ones m k h = omega (arith, ap (λ (x : ℕ). bitOf x k) (sub-zero (2 ^ m - 1)), bit-not m 0 k (pow-pos m) h, bit-none k)
 
 -- the place of the lowest set bit: below it all is clear
 low-clear : (n t d : ℕ) → n % 2 ≡ d → ((k : ℕ) → k < t → bitOf (n / 2) k ≡ 0) → (k : ℕ) → k < under d t → bitOf n k ≡ 0
@@ -90,16 +100,12 @@ unfolding trailingZeros
 trailing-set zero n h = omega arith
 trailing-set (suc m) n h = low-set n (trailingZeros m (n / 2)) (n % 2) m refl (trailing-set m (n / 2)) h
 
--- a number below 2 ^ m has no bit from m on, and one of m + 1 digits has its bit m
-pub top-clear : (a m k : ℕ) → a < 2 ^ m → m ≤ k → bitOf a k ≡ 0
-unfolding bitOf
-top-clear a m k h g = ap (λ (x : ℕ). x % 2) (div-eq-of-lt (lt-of-lt-of-le h (pow-mono g)))
-
+-- a number of m + 1 digits has its bit m
 pub top-set : (a m : ℕ) → a < 2 ^ suc m → 2 ^ m ≤ a → bitOf a m ≡ 1
 top-set a zero h g = bit-zero a ∙ omega arith
 top-set a (suc m) h g = bit-suc a m ∙ top-set (a / 2) m (omega (arith, pow-suc 2 m, pow-suc 2 (suc m))) (omega (arith, pow-suc 2 m))
 
--- the mask of the bits from s on, and the mask of the bits up to s
+-- the mask of the bits from s on
 pub bit-from : (s k : ℕ) → s ≤ k → k < 64 → bitOf ((2 ^ 64 - 1) * 2 ^ s % 2 ^ 64) k ≡ 1
 bit-from s k h g = bit-mod _ 64 k g ∙ bit-shl-high (2 ^ 64 - 1) s k h ∙ bit-ones 64 (k - s) (omega arith)
 
@@ -122,13 +128,6 @@ pub length-set-bit : (a r : ℕ) → 0 < r → a < 2 ^ r → 2 ^ r ≤ 2 * a + 1
 length-set-bit a zero p h g = omega arith
 length-set-bit a (suc m) p h g = let e : suc m - 1 ≡ m = omega arith in rw e (top-set a m h (omega (arith, pow-suc 2 m)))
 
--- or: the greater of the two bits
-pub bit-or : (a b k : ℕ) → bitOf (bitOr a b) k ≡ max (bitOf a k) (bitOf b k)
-bit-or a b zero = simp bit-zero (omega (arith, or-step a b))
-bit-or a b (suc k) =
-    let h : bitOr a b / 2 ≡ bitOr (a / 2) (b / 2) = omega (arith, or-step a b) in
-    simp (bit-suc, h, bit-or (a / 2) (b / 2) k)
-
 -- two numbers below 2 ^ m with the same m bits are equal
 pub bit-ext : (m a b : ℕ) → a < 2 ^ m → b < 2 ^ m → ((k : ℕ) → k < m → bitOf a k ≡ bitOf b k) → a ≡ b
 bit-ext zero a b ha hb f = omega arith
@@ -136,7 +135,3 @@ bit-ext (suc m) a b ha hb f =
     let h = bit-ext m (a / 2) (b / 2) (omega (arith, pow-suc 2 m)) (omega (arith, pow-suc 2 m))
     (λ k g. sym (bit-suc a k) ∙ f (suc k) (omega arith) ∙ bit-suc b k) in
     omega (arith, h, sym (bit-zero a) ∙ f zero (omega arith) ∙ bit-zero b)
-
--- 0 has no bit, and the complement in 64 bits of 0 has every one
-pub bit-none : (k : ℕ) → bitOf 0 k ≡ 0
-bit-none k = top-clear 0 0 k (lit< tt) (omega arith)

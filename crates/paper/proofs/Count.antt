@@ -4,7 +4,7 @@ use mathlib.Core.Logic.{⊎-elim, _≢_}
 use mathlib.Core.Bool.{Bool, true, false, _&&_, _||_, cond, and-false, or-false}
 use mathlib.Core.List.{List, [], _∷_, _++_}
 use Prim.Native.Nat.{ℕ, zero, suc, _+_, _-_, _*_, _≤_, _<_, zero-le}
-use native.Mathlib.Nat.{le-of-suc-le-suc, not-suc-le-zero, eq-or-lt-of-le, le-antisymm}
+use native.Mathlib.Nat.{not-suc-le-zero, suc-mul, le-antisymm}
 use native.Mathlib.Numerals.{add-one}
 use native.Mathlib.Omega.{arith}
 use borrow.Author.Tests.{eqb-true, eqb-false}
@@ -12,7 +12,7 @@ use lib.Dec.{eqb}
 use lib.ListN.{length, drop, getD, set, length-set, length-append, length-drop, List·getD-append}
 use lib.Seq.{getD-set-same, getD-set-other, getD-append-seam, drop-cons, set-append-seam, append-snoc, ext-getD}
 use Rattle.paper.specs.Count.{all, allIn, some, sum, sumIn, count, over, fill, onto, among}
-use Rattle.paper.proofs.Logic.{by-test, below-suc, and-true, both, lt-or-ge, same-test, or-left, or-second, or-either}
+use Rattle.paper.proofs.Logic.{by-test, below-suc, and-true, both, lt-or-ge, or-left, or-second, or-either}
 
 -- ---- a test at every number below n
 
@@ -132,10 +132,7 @@ sum-done n i t f h k e = e ∙ ap (λ (m : ℕ). sum m f) (le-antisymm h k)
 pub sum-le : (b n : ℕ) (f : ℕ → ℕ) → ((k : ℕ) → k < n → f k ≤ b) → sum n f ≤ n * b
 unfolding sum
 sum-le b zero f h = zero-le
-sum-le b (suc n) f h = omega (arith, sum-le b n f (λ k l. h k (omega arith)), h n (omega arith), suc-times n b)
-  where
-    suc-times : (n b : ℕ) → suc n * b ≡ n * b + b
-    suc-times n b = native.Mathlib.Nat.suc-mul n b
+sum-le b (suc n) f h = omega (arith, sum-le b n f (λ k l. h k (omega arith)), h n (omega arith), suc-mul n b)
 
 pub sum-part : (n j : ℕ) (f : ℕ → ℕ) → j < n → f j ≤ sum n f
 unfolding sum
@@ -162,16 +159,20 @@ sum-change (suc n) j f g h e =
     (λ q. omega (arith, ap f q, ap g q, sum-same n f g (λ k l. e k (λ x. omega arith))))
     (λ l. omega (arith, sum-change n j f g l e, e n (λ x. omega arith)))
 
--- greater summands, and more of them
+-- greater summands
 pub sum-mono : (n : ℕ) (f g : ℕ → ℕ) → ((k : ℕ) → k < n → f k ≤ g k) → sum n f ≤ sum n g
 unfolding sum
 sum-mono zero f g h = zero-le
 sum-mono (suc n) f g h = omega (arith, sum-mono n f g (λ k l. h k (omega arith)), h n (omega arith))
 
-pub sum-rises : (n d : ℕ) (f : ℕ → ℕ) → sum n f ≤ sum (n + d) f
+-- the first a summands, and n more
+sum-after : (a n : ℕ) (f : ℕ → ℕ) → sum a f + sum n (λ j. f (a + j)) ≡ sum (a + n) f
 unfolding sum
-sum-rises n zero f = let e : n + 0 ≡ n = omega arith in omega (arith, ap (λ (x : ℕ). sum x f) e)
-sum-rises n (suc d) f = let e : n + suc d ≡ suc (n + d) = omega arith in omega (arith, sum-rises n d f, ap (λ (x : ℕ). sum x f) e)
+sum-after a zero f = let e : a + 0 ≡ a = omega arith in omega (arith, ap (λ (x : ℕ). sum x f) e)
+sum-after a (suc n) f = let e : a + suc n ≡ suc (a + n) = omega arith in omega (arith, sum-after a n f, ap (λ (x : ℕ). sum x f) e)
+
+pub sum-rises : (n d : ℕ) (f : ℕ → ℕ) → sum n f ≤ sum (n + d) f
+sum-rises n d f = omega (arith, sum-after n d f)
 
 -- from a up to e
 pub sum-in-none : (a : ℕ) (f : ℕ → ℕ) → sumIn a a f ≡ 0
@@ -186,14 +187,10 @@ sum-in-more a k f h =
     ap (λ (n : ℕ). sum n (λ j. f (a + j))) z ∙ sum-more (k - a) (λ j. f (a + j)) ∙ ap (λ (x : ℕ). sumIn a k f + f x) y
 
 pub sum-in-le : (a e : ℕ) (f : ℕ → ℕ) → a ≤ e → sumIn a e f ≤ sum e f
-unfolding sumIn sum
+unfolding sumIn
 sum-in-le a e f h =
     let q : a + (e - a) ≡ e = omega arith in
     omega (arith, sum-after a (e - a) f, ap (λ (n : ℕ). sum n f) q)
-  where
-    sum-after : (a n : ℕ) (f : ℕ → ℕ) → sum a f + sum n (λ j. f (a + j)) ≡ sum (a + n) f
-    sum-after a zero f = let e : a + 0 ≡ a = omega arith in omega (arith, ap (λ (x : ℕ). sum x f) e)
-    sum-after a (suc n) f = let e : a + suc n ≡ suc (a + n) = omega arith in omega (arith, sum-after a n f, ap (λ (x : ℕ). sum x f) e)
 
 -- ---- a list made anew
 
@@ -231,44 +228,39 @@ over-same f g zero l h = refl
 over-same f g (suc n) l h =
     ap₂ (λ (x : List ℕ) (y : ℕ). set x n y) (over-same f g n l (λ k b. h k (omega arith))) (h n (omega arith))
 
+-- what has those entries, and as many, is that list
+over-is : (f : ℕ → ℕ) (n : ℕ) (m l : List ℕ) → length l ≡ length m → ((j : ℕ) → j < n → j < length m → getD l j 0 ≡ f j)
+    → ((j : ℕ) → n ≤ j → getD l j 0 ≡ getD m j 0) → l ≡ over f n m
+over-is f n m l long anew old =
+    ext-getD 0 l (over f n m) (long ∙ sym (length-over f n m))
+    (λ j r.
+    let rm : j < length m = omega (arith, long) in
+    ⊎-elim (λ (t : j < n). anew j t rm ∙ sym (getD-over f n m j t rm)) (λ (u : n ≤ j). old j u ∙ sym (getD-over-out f n m j u))
+    (lt-or-ge j n))
+
 -- made anew twice, the second alone counts; and a list that holds its entries already stays
 pub over-again : (f g : ℕ → ℕ) (n : ℕ) (m : List ℕ) → over g n (over f n m) ≡ over g n m
 over-again f g n m =
-    ext-getD 0 (over g n (over f n m)) (over g n m)
-    (length-over g n (over f n m) ∙ length-over f n m ∙ sym (length-over g n m))
-    (λ j r.
-    let rm : j < length m = omega (arith, length-over g n (over f n m), length-over f n m) in
-    ⊎-elim
-    (λ (t : j < n). getD-over g n (over f n m) j t (omega (arith, length-over f n m)) ∙ sym (getD-over g n m j t rm))
-    (λ (u : n ≤ j). getD-over-out g n (over f n m) j u ∙ getD-over-out f n m j u ∙ sym (getD-over-out g n m j u))
-    (lt-or-ge j n))
+    over-is g n m (over g n (over f n m)) (length-over g n (over f n m) ∙ length-over f n m)
+    (λ j t r. getD-over g n (over f n m) j t (omega (arith, length-over f n m)))
+    (λ j u. getD-over-out g n (over f n m) j u ∙ getD-over-out f n m j u)
 
 pub over-right : (f : ℕ → ℕ) (n : ℕ) (m : List ℕ) → ((j : ℕ) → j < n → getD m j 0 ≡ f j) → m ≡ over f n m
-over-right f n m h =
-    ext-getD 0 m (over f n m) (sym (length-over f n m))
-    (λ j r. ⊎-elim (λ (t : j < n). h j t ∙ sym (getD-over f n m j t r)) (λ (u : n ≤ j). sym (getD-over-out f n m j u)) (lt-or-ge j n))
+over-right f n m h = over-is f n m m refl (λ j t r. h j t) (λ j u. refl)
 
 -- one entry changed
 pub over-set : (f g : ℕ → ℕ) (n : ℕ) (m : List ℕ) (k v : ℕ) → k < n → v ≡ g k → ((j : ℕ) → j ≢ k → f j ≡ g j)
     → set (over f n m) k v ≡ over g n m
 over-set f g n m k v h e same =
-    ext-getD 0 (set (over f n m) k v) (over g n m)
-    (length-set (over f n m) k v ∙ length-over f n m ∙ sym (length-over g n m))
-    (λ j r.
-    let rm : j < length m = omega (arith, length-set (over f n m) k v, length-over f n m) in
-    ⊎-elim
-    (λ (t : j < n).
+    over-is g n m (set (over f n m) k v) (length-set (over f n m) k v ∙ length-over f n m)
+    (λ j t r.
     by-test (eqb j k) _
     (λ y.
     let q = eqb-true j k y in
     ap (λ (i : ℕ). getD (set (over f n m) k v) i 0) q
-    ∙ getD-set-same (over f n m) k v 0 (omega (arith, length-over f n m)) ∙ e ∙ ap g (sym q) ∙ sym (getD-over g n m j t rm))
-    (λ y.
-    getD-set-other (over f n m) k j v 0 (eqb-false j k y) ∙ getD-over f n m j t rm ∙ same j (eqb-false j k y)
-    ∙ sym (getD-over g n m j t rm)))
-    (λ (u : n ≤ j).
-    getD-set-other (over f n m) k j v 0 (λ q. omega arith) ∙ getD-over-out f n m j u ∙ sym (getD-over-out g n m j u))
-    (lt-or-ge j n))
+    ∙ getD-set-same (over f n m) k v 0 (omega (arith, length-over f n m)) ∙ e ∙ ap g (sym q))
+    (λ y. getD-set-other (over f n m) k j v 0 (eqb-false j k y) ∙ getD-over f n m j t r ∙ same j (eqb-false j k y)))
+    (λ j u. getD-set-other (over f n m) k j v 0 (λ q. omega arith) ∙ getD-over-out f n m j u)
 
 -- ---- a stretch set to one value
 
@@ -313,15 +305,20 @@ pub among-none : (p : ℕ → Bool) → length (among p 0) ≡ 0
 unfolding among
 among-none p = refl
 
-pub among-in : (p : ℕ → Bool) (i : ℕ) → p i ≡ true → among p (i + 1) ≡ among p i ++ (i ∷ [])
+-- n is listed where it passes
+among-yes : (p : ℕ → Bool) (n : ℕ) → p n ≡ true → among p (suc n) ≡ among p n ++ (n ∷ [])
 unfolding among
-among-in p i t = ap (among p) (add-one i) ∙ ap (λ (b : Bool). among p i ++ cond b (i ∷ []) []) t
+among-yes p n t = ap (λ (b : Bool). among p n ++ cond b (n ∷ []) []) t
+
+among-no : (p : ℕ → Bool) (n : ℕ) → p n ≡ false → among p (suc n) ≡ among p n
+unfolding among
+among-no p n f = ap (λ (b : Bool). among p n ++ cond b (n ∷ []) []) f ∙ mathlib.Core.List.append-nil (among p n)
+
+pub among-in : (p : ℕ → Bool) (i : ℕ) → p i ≡ true → among p (i + 1) ≡ among p i ++ (i ∷ [])
+among-in p i t = ap (among p) (add-one i) ∙ among-yes p i t
 
 pub among-out : (p : ℕ → Bool) (i : ℕ) → p i ≡ false → among p (i + 1) ≡ among p i
-unfolding among
-among-out p i f =
-    ap (among p) (add-one i) ∙ ap (λ (b : Bool). among p i ++ cond b (i ∷ []) []) f
-    ∙ mathlib.Core.List.append-nil (among p i)
+among-out p i f = ap (among p) (add-one i) ∙ among-no p i f
 
 -- as many as n at most
 pub among-le : (p : ℕ → Bool) (n : ℕ) → length (among p n) ≤ n
@@ -329,8 +326,8 @@ unfolding among
 among-le p zero = zero-le
 among-le p (suc n) =
     by-test (p n) _
-    (λ t. omega (arith, ap (λ (b : Bool). length (among p n ++ cond b (n ∷ []) [])) t, length-append (among p n) (n ∷ []), among-le p n))
-    (λ f. omega (arith, ap (λ (b : Bool). length (among p n ++ cond b (n ∷ []) [])) f, length-append (among p n) [], among-le p n))
+    (λ t. omega (arith, ap length (among-yes p n t), length-append (among p n) (n ∷ []), among-le p n))
+    (λ f. omega (arith, ap length (among-no p n f), among-le p n))
 
 -- one that passes stands in the list, after those below it
 pub among-at : (p : ℕ → Bool) (n i : ℕ) → i < n → p i ≡ true
@@ -340,8 +337,7 @@ among-at p zero i h t = absurd (not-suc-le-zero h)
 among-at p (suc n) i h t =
     below-suc _ h
     (λ (q : i ≡ n).
-    let tn : p n ≡ true = ap p (sym q) ∙ t in
-    let l : among p (suc n) ≡ among p n ++ (n ∷ []) = ap (λ (b : Bool). among p n ++ cond b (n ∷ []) []) tn in (
+    let l = among-yes p n (ap p (sym q) ∙ t) in (
       omega (arith, ap length l, length-append (among p n) (n ∷ []), ap (λ (k : ℕ). length (among p k)) q),
       ap (λ (k : ℕ). getD (among p (suc n)) (length (among p k)) 0) q
           ∙ ap (λ (r : List ℕ). getD r (length (among p n)) 0) l ∙ getD-append-seam (among p n) n [] 0 ∙ sym q,
@@ -365,12 +361,12 @@ among-each p (suc n) k h =
     (λ (g : length (among p n) ≤ k).
     by-test (p n) _
     (λ t.
-    let l : among p (suc n) ≡ among p n ++ (n ∷ []) = ap (λ (b : Bool). among p n ++ cond b (n ∷ []) []) t in
+    let l = among-yes p n t in
     let q : k ≡ length (among p n) = omega (arith, ap length l, length-append (among p n) (n ∷ [])) in
     let e : getD (among p (suc n)) k 0 ≡ n = ap (λ (j : ℕ). getD (among p (suc n)) j 0) q
     ∙ ap (λ (r : List ℕ). getD r (length (among p n)) 0) l ∙ getD-append-seam (among p n) n [] 0 in
     (omega (arith, e), ap p e ∙ t))
-    (λ u. absurd (omega (arith, ap (λ (b : Bool). length (among p n ++ cond b (n ∷ []) [])) u, length-append (among p n) []))))
+    (λ u. absurd (omega (arith, ap length (among-no p n u)))))
     (lt-or-ge k (length (among p n)))
 
 pub among-same : (p q : ℕ → Bool) (n : ℕ) → ((k : ℕ) → k < n → p k ≡ q k) → among p n ≡ among q n
@@ -395,15 +391,11 @@ among-rises p (suc n) k h =
     (λ (g : length (among p n) ≤ suc k).
     by-test (p n) _
     (λ t.
-    let l : length (among p (suc n)) ≡ length (among p n) + 1
-    = ap (λ (b : Bool). length (among p n ++ cond b (n ∷ []) [])) t ∙ length-append (among p n) (n ∷ []) in
-    let s : length (among p n) ≡ suc k = omega (arith, l) in
+    let s : length (among p n) ≡ suc k = omega (arith, ap length (among-yes p n t), length-append (among p n) (n ∷ [])) in
     let a = among-at p (suc n) n (omega arith) t .1 in
     let e : getD (among p (suc n)) (suc k) 0 ≡ n = ap (λ (j : ℕ). getD (among p (suc n)) j 0) (sym s) ∙ a in
     omega (arith, e, among-before p n k (omega arith), among-each p n k (omega arith) .0))
-    (λ f.
-    absurd
-    (omega (arith, ap (λ (b : Bool). length (among p n ++ cond b (n ∷ []) [])) f, length-append (among p n) []))))
+    (λ f. absurd (omega (arith, ap length (among-no p n f)))))
     (lt-or-ge (suc k) (length (among p n)))
 
 -- as many are listed as pass

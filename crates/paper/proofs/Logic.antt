@@ -1,11 +1,11 @@
 -- Tests, and chains of them. Assumes nothing.
-use mathlib.Core.Path.{_≡_, refl, sym, ap, _∙_}
-use mathlib.Core.Bool.{Bool, true, false, _&&_, _||_, not, cond}
+use mathlib.Core.Path.{_≡_, refl, sym, _∙_}
+use mathlib.Core.Bool.{Bool, true, false, _&&_, _||_, cond}
 use mathlib.Core.Logic.{_⊎_, inl, inr, ⊎-elim}
 use Prim.Native.Nat.{ℕ, zero, suc, _≤_, _<_, zero-le, suc-le-suc}
 use native.Mathlib.Nat.{le-of-suc-le-suc, eq-or-lt-of-le}
 use native.Mathlib.Omega.{arith}
-use borrow.Author.Tests.{leb-true, le-leb}
+use borrow.Author.Tests.{leb-true}
 use lib.Dec.{leb}
 use Rattle.paper.specs.Limits.{peopleOk, slotCountOk, orElse}
 
@@ -13,6 +13,11 @@ use Rattle.paper.specs.Limits.{peopleOk, slotCountOk, orElse}
 pub by-test {ℓ} : (b : Bool) (X : Type ℓ) → (b ≡ true → X) → (b ≡ false → X) → X
 by-test true X f g = f refl
 by-test false X f g = g refl
+
+-- what holds of each of two values holds of the one that a test picks
+pub by-cond {ℓ} : {A : Type ℓ} (b : Bool) (x y : A) (X : A → Type 0) → (b ≡ true → X x) → (b ≡ false → X y) → X (cond b x y)
+by-cond true x y X f g = f refl
+by-cond false x y X f g = g refl
 
 -- of two numbers one is below the other, or not
 pub lt-or-ge : (a b : ℕ) → (a < b) ⊎ (b ≤ a)
@@ -110,13 +115,16 @@ cond-zero true x y e = (refl, e)
 cond-zero false x y e = absurd (omega arith)
 
 -- what the two tests of rule 1 say
+one-to : (n most : ℕ) → leb 1 n && leb n most ≡ true → (1 ≤ n) × (n ≤ most)
+one-to n most e = let x = both (leb 1 n) (leb n most) e in (leb-true _ _ (x .0), leb-true _ _ (x .1))
+
 pub people-says : (people : ℕ) → peopleOk people ≡ true → (1 ≤ people) × (people ≤ 32)
 unfolding peopleOk
-people-says people e = let x = both (leb 1 people) (leb people 32) e in (leb-true _ _ (x .0), leb-true _ _ (x .1))
+people-says people e = one-to people 32 e
 
 pub slot-count-says : (slots : ℕ) → slotCountOk slots ≡ true → (1 ≤ slots) × (slots ≤ 1024)
 unfolding slotCountOk
-slot-count-says slots e = let x = both (leb 1 slots) (leb slots 1024) e in (leb-true _ _ (x .0), leb-true _ _ (x .1))
+slot-count-says slots e = one-to slots 1024 e
 
 -- only one outcome fits a contract that says `r ≡ x`: what two results that meet it have in common
 pub one-outcome {ℓ} : {A : Type ℓ} (x r s : A) → r ≡ x → s ≡ x → r ≡ s

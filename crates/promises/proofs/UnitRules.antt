@@ -5,7 +5,7 @@ use mathlib.Core.List.{List}
 use mathlib.Core.Logic.{_↔_, _≢_}
 use Prim.Native.Nat.{ℕ, zero, suc, _+_, _*_, _/_, _%_, _≤_, _<_, max, min}
 use native.Mathlib.Omega.{arith}
-use borrow.Author.Tests.{eq-eqb, ne-eqb, eqb-true, eqb-false, lt-ltb, ltb-true}
+use borrow.Author.Tests.{eq-eqb, ne-eqb, eqb-true, eqb-false, lt-ltb, ltb-true, not-true, not-false}
 use lib.Dec.{eqb, ltb}
 use lib.ListN.{length, getD}
 use Rattle.paper.specs.Bits.{bitOf}
@@ -37,10 +37,6 @@ use Rattle.promises.specs.UnitRules.{Listed, Began, UnitsByRule}
 every-begins : (n k : ℕ) → (everyBegins n k ≡ true) ↔ ((m : ℕ) × (k ≡ m * max n 1))
 every-begins n k = (λ t. (k / max n 1, every-multiple n k t), λ x. ap (everyBegins n) (x .1) ∙ multiple-every n (x .0))
 
-not-says : (b : Bool) → not b ≡ true → b ≡ false
-not-says true e = sym e
-not-says false e = refl
-
 day-begins : (mask : ℕ) (starts : List ℕ) (j : ℕ)
     → (dayBegins mask starts (suc j) ≡ true)
     ↔ ((startDate starts (suc j) ≢ startDate starts j) × (bitOf mask ((getD starts (suc j) 0 / 1440 + 3) % 7) ≡ 1))
@@ -48,7 +44,7 @@ unfolding dayBegins listed weekdayOf dateOf
 day-begins mask starts j = (
   λ t.
       let x = both (not (eqb (getD starts (suc j) 0 / 1440) (getD starts j 0 / 1440))) _ t in
-      (eqb-false _ _ (not-says _ (x .0)), eqb-true _ _ (x .1)),
+      (eqb-false _ _ (not-true _ (x .0)), eqb-true _ _ (x .1)),
   λ x. and-true _ _ (ap not (ne-eqb (getD starts (suc j) 0 / 1440) (getD starts j 0 / 1440) (x .0)))
       (eq-eqb (bitOf mask ((getD starts (suc j) 0 / 1440 + 3) % 7)) 1 (x .1)),
 )
@@ -138,10 +134,6 @@ module _ (avail : List ℕ) (people slots units : ℕ) (firsts : List ℕ) (u : 
   frozen-only-if : (fr : List ℕ) → unitFrozen fr slots units firsts u ≡ false → (k : ℕ) → a ≤ k → k < e → slot fr 0 k ≡ 1 → ⊥
   unfolding unitFrozen
   frozen-only-if fr t = clear-each fr a e (not-false (clear fr a e) t)
-    where
-      not-false : (b : Bool) → not b ≡ false → b ≡ true
-      not-false true q = refl
-      not-false false q = sym q
 
 -- ---- days
 

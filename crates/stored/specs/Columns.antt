@@ -7,13 +7,19 @@ use lib.ListN.{getD, length, take}
 use Rattle.paper.specs.Count.{all, over}
 use Rattle.stored.specs.Numbers.{further, littleAt}
 
--- the column with each entry j set to the number of w bytes that stands j numbers after the index
-abbrev pub filled : ℕ → List ℕ → ℕ → List ℕ → List ℕ
-filled w b at out = over (λ j. littleAt w b (further at (w * j))) (length out) out
+-- the number of w bytes that stands j numbers after the index; the byte that stands j bytes after it
+abbrev pub numberAfter : ℕ → List ℕ → ℕ → ℕ → ℕ
+numberAfter w b at j = littleAt w b (further at (w * j))
 
--- the same of bytes
+abbrev pub byteAfter : List ℕ → ℕ → ℕ → ℕ
+byteAfter b at j = getD b (further at j) 0
+
+-- the column with each entry j set to that number, or to that byte
+abbrev pub filled : ℕ → List ℕ → ℕ → List ℕ → List ℕ
+filled w b at out = over (numberAfter w b at) (length out) out
+
 abbrev pub bytesFilled : List ℕ → ℕ → List ℕ → List ℕ
-bytesFilled b at out = over (λ j. getD b (further at j) 0) (length out) out
+bytesFilled b at out = over (byteAfter b at) (length out) out
 
 -- word j of rows of 16 words: the first of each row stands j / 16 words after the index, the others are garbage, always the same
 abbrev pub rowWord : List ℕ → ℕ → ℕ → ℕ
@@ -23,8 +29,11 @@ abbrev pub rowsFilled : List ℕ → ℕ → List ℕ → List ℕ
 rowsFilled b at out = over (rowWord b at) (length out) out
 
 -- as many entries, and each the same
+abbrev pub alike : List ℕ → List ℕ → ℕ → Bool
+alike a b j = eqb (getD a j 0) (getD b j 0)
+
 abbrev pub same : List ℕ → List ℕ → Bool
-same a b = eqb (length a) (length b) && all (length a) (λ j. eqb (getD a j 0) (getD b j 0))
+same a b = eqb (length a) (length b) && all (length a) (alike a b)
 
 -- the first n entries, or all where there are fewer
 abbrev pub front : ℕ → List ℕ → List ℕ

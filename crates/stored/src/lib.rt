@@ -1,7 +1,7 @@
 // Reading stored answers: the numbers of a record, low byte first, and the tally of what was compared. The programs `replay_*` use it.
 ghost use mathlib.Core.Path.{_≡_};
 ghost use mathlib.Core.Bool.{cond, true, false};
-ghost use Prim.Native.Nat.{_+_, _%_, _^_, _<_, _≤_, min};
+ghost use Prim.Native.Nat.{_+_, _<_, _≤_, min};
 ghost use lib.Dec.{eqb};
 ghost use lib.ListN.{getD};
 ghost use Rattle.stored.specs.Numbers.{further, littleAt, fourAfter};

@@ -1,6 +1,6 @@
--- The checks before the work: the number that they give exactly, what they leave known where they find nothing, and that they never
+-- The checks before the work: the number by the first test that fails, what they leave known where they find nothing, and that they never
 -- give 8. Assumes nothing.
-use mathlib.Core.Path.{_≡_, refl}
+use mathlib.Core.Path.{_≡_}
 use mathlib.Core.Bool.{Bool, true, false, cond}
 use Prim.Native.Nat.{ℕ, _*_, _≤_, _<_}
 use native.Mathlib.Omega.{arith}
@@ -36,48 +36,6 @@ chain-not-eight true true false d e h = omega arith
 chain-not-eight true true true false e h = omega arith
 chain-not-eight true true true true false h = omega arith
 chain-not-eight true true true true true h = omega arith
-
--- ---- the table: each number is given exactly where its test is the first that fails
-
-there-one : (a b c d e : Bool) → chain a b c d e ≡ 1 → a ≡ false
-there-one false b c d e h = refl
-there-one true false c d e h = absurd (omega arith)
-there-one true true false d e h = absurd (omega arith)
-there-one true true true false e h = absurd (omega arith)
-there-one true true true true false h = absurd (omega arith)
-there-one true true true true true h = absurd (omega arith)
-
-there-two : (a b c d e : Bool) → chain a b c d e ≡ 2 → (a ≡ true) × (b ≡ false)
-there-two false b c d e h = absurd (omega arith)
-there-two true false c d e h = (refl, refl)
-there-two true true false d e h = absurd (omega arith)
-there-two true true true false e h = absurd (omega arith)
-there-two true true true true false h = absurd (omega arith)
-there-two true true true true true h = absurd (omega arith)
-
-there-six : (a b c d e : Bool) → chain a b c d e ≡ 6 → (a ≡ true) × (b ≡ true) × (c ≡ false)
-there-six false b c d e h = absurd (omega arith)
-there-six true false c d e h = absurd (omega arith)
-there-six true true false d e h = (refl, refl, refl)
-there-six true true true false e h = absurd (omega arith)
-there-six true true true true false h = absurd (omega arith)
-there-six true true true true true h = absurd (omega arith)
-
-there-seven : (a b c d e : Bool) → chain a b c d e ≡ 7 → (a ≡ true) × (b ≡ true) × (c ≡ true) × (d ≡ false)
-there-seven false b c d e h = absurd (omega arith)
-there-seven true false c d e h = absurd (omega arith)
-there-seven true true false d e h = absurd (omega arith)
-there-seven true true true false e h = (refl, refl, refl, refl)
-there-seven true true true true false h = absurd (omega arith)
-there-seven true true true true true h = absurd (omega arith)
-
-there-nine : (a b c d e : Bool) → chain a b c d e ≡ 9 → (a ≡ true) × (b ≡ true) × (c ≡ true) × (d ≡ true) × (e ≡ false)
-there-nine false b c d e h = absurd (omega arith)
-there-nine true false c d e h = absurd (omega arith)
-there-nine true true false d e h = absurd (omega arith)
-there-nine true true true false e h = absurd (omega arith)
-there-nine true true true true false h = (refl, refl, refl, refl, refl)
-there-nine true true true true true h = absurd (omega arith)
 
 -- ---- the number, by the first test that fails
 
@@ -124,38 +82,6 @@ module _ (g : Given) (room : ℕ) where
   pub all-clear : Counts true → SlotRoom true → Room true → Figures true → g .fairness ≤ 1 → Slots true → 0 ≡ checkNo g room
   unfolding checkNo
   all-clear h k l m n o = rw (h, k, l, m, le-leb (g .fairness) 1 n, o)
-
-  -- and the way back: what a number says
-  pub says-one : checkNo g room ≡ 1 → Counts false
-  unfolding checkNo
-  says-one h =
-      there-one (countsOk (g .people) (g .slots)) (roomOk g room) (allFiguresOk (g .people) (g .capacities) (g .priors))
-      (leb (g .fairness) 1) (slotsOk (g .slots) (g .starts) (g .ends)) h
-
-  pub says-two : checkNo g room ≡ 2 → Counts true × (roomOk g room ≡ false)
-  unfolding checkNo
-  says-two h =
-      there-two (countsOk (g .people) (g .slots)) (roomOk g room) (allFiguresOk (g .people) (g .capacities) (g .priors))
-      (leb (g .fairness) 1) (slotsOk (g .slots) (g .starts) (g .ends)) h
-
-  pub says-six : checkNo g room ≡ 6 → Counts true × (roomOk g room ≡ true) × Figures false
-  unfolding checkNo
-  says-six h =
-      there-six (countsOk (g .people) (g .slots)) (roomOk g room) (allFiguresOk (g .people) (g .capacities) (g .priors))
-      (leb (g .fairness) 1) (slotsOk (g .slots) (g .starts) (g .ends)) h
-
-  pub says-seven : checkNo g room ≡ 7 → Counts true × (roomOk g room ≡ true) × Figures true × (leb (g .fairness) 1 ≡ false)
-  unfolding checkNo
-  says-seven h =
-      there-seven (countsOk (g .people) (g .slots)) (roomOk g room) (allFiguresOk (g .people) (g .capacities) (g .priors))
-      (leb (g .fairness) 1) (slotsOk (g .slots) (g .starts) (g .ends)) h
-
-  pub says-nine : checkNo g room ≡ 9
-      → Counts true × (roomOk g room ≡ true) × Figures true × (leb (g .fairness) 1 ≡ true) × Slots false
-  unfolding checkNo
-  says-nine h =
-      there-nine (countsOk (g .people) (g .slots)) (roomOk g room) (allFiguresOk (g .people) (g .capacities) (g .priors))
-      (leb (g .fairness) 1) (slotsOk (g .slots) (g .starts) (g .ends)) h
 
 -- ---- what a check that finds nothing leaves known
 

@@ -1,57 +1,32 @@
 -- Refusal 8 is given exactly when an unrounded target that the passes work out breaks the guard. Assumes nothing.
 use mathlib.Core.Path.{_≡_, refl, sym, ap, _∙_}
-use mathlib.Core.Bool.{Bool, true, false, not, _&&_, cond, true≢false}
-use mathlib.Core.List.{List, [], _∷_, map}
+use mathlib.Core.Bool.{true}
+use mathlib.Core.List.{List}
 use mathlib.Core.Logic.{_↔_}
 use Prim.Native.Nat.{ℕ, zero, suc, _+_, _-_, _<_, suc-le-suc}
 use native.Mathlib.Nat.{zero-add, suc-add, zero-lt-suc, le-of-suc-le-suc}
 use native.Mathlib.Omega.{arith}
 use lib.Ieee.{Float, lt}
 use lib.ListN.{length, getD}
-use Rattle.paper.proofs.Logic.{by-test, or-right}
 use Rattle.targets.specs.declared.Line.{Line}
 use Rattle.targets.specs.Figures.{zeroF, whole, pad}
-use Rattle.targets.specs.Passes.{within, unrounded, settle, outside, falls, some, shareSum, notional}
+use Rattle.targets.specs.Passes.{outside, some, shareSum, notional}
 use Rattle.targets.specs.Passes.{Passed, again, done, refused, passed, pass, passes, passesLeave, Beyond}
 use Rattle.targets.specs.Remainder.{adjusted, beyond, closed, targets}
-use Rattle.targets.proofs.Loops.{differ, none-passes}
+use Rattle.targets.proofs.Loops.{differ}
+use Rattle.targets.proofs.Each.{some-at, at-some}
+use Rattle.targets.proofs.Cases.{by-passed, guard-broken}
 
 -- ---- one pass
 
 passed-refused : (n s : Float) (ls : List Line) → passed n s ls ≡ refused → (lt zeroF s ≡ true) × (some (outside n s) ls ≡ true)
-passed-refused n s ls e = go (lt zeroF s) (some (outside n s) ls) (some (falls n s) ls) e
-  where
-    new : List Line
-    new = map (settle n s) ls
-
-    go : (a b c : Bool) → cond a (cond b refused (cond c (again new) (done new))) (done ls) ≡ refused → (a ≡ true) × (b ≡ true)
-    go true true c e = (refl, refl)
-    go true false true e = let z : _≡_ {A = ℕ} 0 1 = cc in differ z
-    go true false false e = let z : _≡_ {A = ℕ} 0 1 = cc in differ z
-    go false b c e = let z : _≡_ {A = ℕ} 0 1 = cc in differ z
+passed-refused n s ls =
+    by-passed n s ls (λ (p : Passed). p ≡ refused → (lt zeroF s ≡ true) × (some (outside n s) ls ≡ true))
+    (λ a e. let z : _≡_ {A = ℕ} 0 1 = cc in differ z) (λ a b e. (a, b)) (λ a b c e. let z : _≡_ {A = ℕ} 0 1 = cc in differ z)
+    (λ a b c e. let z : _≡_ {A = ℕ} 0 1 = cc in differ z)
 
 refused-passed : (n s : Float) (ls : List Line) → lt zeroF s ≡ true → some (outside n s) ls ≡ true → passed n s ls ≡ refused
 refused-passed n s ls a b = rw (a, b)
-
--- the person
-some-at : (p : Line → Bool) (ls : List Line) → some p ls ≡ true → (j : ℕ) × (j < length ls) × (p (getD ls j pad) ≡ true)
-some-at p [] e = absurd (true≢false (sym e))
-some-at p (l ∷ ls) e =
-    by-test (p l) ((j : ℕ) × (j < suc (length ls)) × (p (getD (l ∷ ls) j pad) ≡ true))
-    (λ q. (0, zero-lt-suc (length ls), q))
-    (λ q. let r = some-at p ls (or-right (p l) (some p ls) e q) in (suc (r .0), suc-le-suc (r .1), r .2))
-
-at-some : (p : Line → Bool) (ls : List Line) (j : ℕ) → j < length ls → p (getD ls j pad) ≡ true → some p ls ≡ true
-at-some p ls j h e = go (some p ls) refl
-  where
-    go : (b : Bool) → some p ls ≡ b → b ≡ true
-    go true q = refl
-    go false q = absurd (true≢false (sym e ∙ none-passes p ls j pad q h))
-
-outside-says : (b w : Bool) → not b && not w ≡ true → (b ≡ false) × (w ≡ false)
-outside-says true w e = absurd (true≢false (sym e))
-outside-says false true e = absurd (true≢false (sym e))
-outside-says false false e = (refl, refl)
 
 -- ---- all passes
 
@@ -116,7 +91,7 @@ found-beyond d ls e =
     let q = passed-refused n s (r .lines) (r .no) in
     let j = some-at (outside n s) (r .lines) (q .1) in
     let l = getD (r .lines) (j .0) pad in
-    let o = outside-says (l .pinned) (within (unrounded n s l)) (j .2) in
+    let o = guard-broken n s l (j .2) in
     record {
       before = r .before;
       lines = r .lines;

@@ -1,60 +1,47 @@
 -- The bound of people + 1 passes never cuts them short: a pass that asks for another pins somebody. Assumes nothing.
 use mathlib.Core.Path.{_≡_, refl, sym, ap, _∙_}
-use mathlib.Core.Bool.{Bool, true, false, not, _&&_, cond, true≢false}
+use mathlib.Core.Bool.{true, false, not, _&&_, cond, true≢false}
 use mathlib.Core.List.{List, [], _∷_, map}
 use Prim.Native.Nat.{ℕ, zero, suc, _+_, _≤_, _<_, zero-le}
 use native.Mathlib.Nat.{le-refl}
 use native.Mathlib.Omega.{arith}
+use borrow.Author.Tests.{not-true}
 use lib.Ieee.{Float, lt}
 use lib.ListN.{length, length-map}
-use Rattle.paper.proofs.Logic.{by-test, both, or-right}
+use Rattle.paper.proofs.Logic.{by-test, by-cond, both, or-right}
 use Rattle.targets.specs.declared.Line.{Line}
 use Rattle.targets.specs.Figures.{zeroF, whole}
-use Rattle.targets.specs.Passes.{rounded, unrounded, settled, settle, outside, falls, some, shareSum, notional}
+use Rattle.targets.specs.Passes.{unrounded, settled, settle, falls, some, shareSum, notional}
 use Rattle.targets.specs.Passes.{Passed, again, done, refused, passed, pass, passes, passesLeave}
 use Rattle.targets.proofs.Loops.{differ}
+use Rattle.targets.proofs.Each.{sumLines}
+use Rattle.targets.proofs.Cases.{by-settled, by-passed}
 use Rattle.targets.proofs.Eight.{done-stays, refused-stays}
 
 -- how many are pinned
-abbrev ofOne : Bool → ℕ
-ofOne b = cond b 1 0
+abbrev ofOne : Line → ℕ
+ofOne l = cond (l .pinned) 1 0
 
 abbrev pinnedIn : List Line → ℕ
-pinnedIn [] = 0
-pinnedIn (l ∷ ls) = ofOne (l .pinned) + pinnedIn ls
+pinnedIn = sumLines ofOne
 
 pinned-le : (ls : List Line) → pinnedIn ls ≤ length ls
 pinned-le [] = zero-le
-pinned-le (l ∷ ls) = let h = pinned-le ls in omega (arith, at-most (l .pinned))
-  where
-    at-most : (b : Bool) → ofOne b ≤ 1
-    at-most true = le-refl 1
-    at-most false = zero-le
+pinned-le (l ∷ ls) =
+    let h = by-cond (l .pinned) 1 0 (λ (k : ℕ). k ≤ 1) (λ p. le-refl 1) (λ p. zero-le) in
+    omega (arith, h, pinned-le ls)
 
 -- ---- one person
 
-pin-kept : (x : Float) (l : Line) → ofOne (l .pinned) ≤ ofOne (settled x l .pinned)
-unfolding settled
-pin-kept x l = go (l .pinned) (lt x zeroF) refl
-  where
-    go : (p z : Bool) → l .pinned ≡ p
-        → ofOne p
-        ≤ ofOne
-        (cond {A = Line} p l
-        (cond {A = Line} z (record { person = l .person; raw = l .raw; target = 0; pinned = true })
-        (record { person = l .person; raw = l .raw; target = rounded x; pinned = false })) .pinned)
-    go true z e = rw e (le-refl 1)
-    go false z e = zero-le
+pin-kept : (x : Float) (l : Line) → ofOne l ≤ ofOne (settled x l)
+pin-kept x l =
+    by-settled x l (λ (m : Line). ofOne l ≤ ofOne m) (λ p. le-refl _) (λ p z. rw p zero-le) (λ p z. rw p zero-le)
 
-pin-new : (x : Float) (l : Line) → not (l .pinned) && lt x zeroF ≡ true → ofOne (l .pinned) < ofOne (settled x l .pinned)
+pin-new : (x : Float) (l : Line) → not (l .pinned) && lt x zeroF ≡ true → ofOne l < ofOne (settled x l)
 unfolding settled
 pin-new x l h =
     let b = both (not (l .pinned)) (lt x zeroF) h in
-    rw (free (l .pinned) (b .0), b .1) (le-refl 1)
-  where
-    free : (p : Bool) → not p ≡ true → p ≡ false
-    free true e = absurd (true≢false (sym e))
-    free false e = refl
+    rw (not-true (l .pinned) (b .0), b .1) (le-refl 1)
 
 -- ---- one pass
 
@@ -70,16 +57,10 @@ more-pinned n s (l ∷ ls) e =
     (λ f. omega (arith, pin-kept (unrounded n s l) l, more-pinned n s ls (or-right (falls n s l) (some (falls n s) ls) e f)))
 
 passed-again : (n s : Float) (ls xs : List Line) → passed n s ls ≡ again xs → (some (falls n s) ls ≡ true) × (map (settle n s) ls ≡ xs)
-passed-again n s ls xs e = go (lt zeroF s) (some (outside n s) ls) (some (falls n s) ls) e
-  where
-    new : List Line
-    new = map (settle n s) ls
-
-    go : (a b c : Bool) → cond a (cond b refused (cond c (again new) (done new))) (done ls) ≡ again xs → (c ≡ true) × (new ≡ xs)
-    go true true c e = let z : _≡_ {A = ℕ} 0 1 = cc in differ z
-    go true false true e = (refl, cc)
-    go true false false e = let z : _≡_ {A = ℕ} 0 1 = cc in differ z
-    go false b c e = let z : _≡_ {A = ℕ} 0 1 = cc in differ z
+passed-again n s ls xs =
+    by-passed n s ls (λ (p : Passed). p ≡ again xs → (some (falls n s) ls ≡ true) × (map (settle n s) ls ≡ xs))
+    (λ a e. let z : _≡_ {A = ℕ} 0 1 = cc in differ z) (λ a b e. let z : _≡_ {A = ℕ} 0 1 = cc in differ z) (λ a b c e. (c, cc))
+    (λ a b c e. let z : _≡_ {A = ℕ} 0 1 = cc in differ z)
 
 pass-grows : (d : ℕ) (ls xs : List Line) → pass d (again ls) ≡ again xs → (pinnedIn ls < pinnedIn xs) × (length xs ≡ length ls)
 unfolding pass

@@ -23,7 +23,7 @@ use lib.Ieee.Scale.{grid, finite, round-same, round-val, round-under}
 use Rattle.paper.proofs.Logic.{lt-or-ge}
 use Rattle.targets.specs.Figures.{zeroF}
 use Rattle.targets.specs.Passes.{rounded}
-use Rattle.targets.proofs.Nearest.{no-sign, rounded-nearest}
+use Rattle.targets.proofs.Nearest.{no-part, no-sign, rounded-nearest}
 use Rattle.targets.proofs.Floats.{Most, Plain, round-neg, round-plain, add-plain}
 
 -- ---- the nearest whole number to n / u is less than 1 away
@@ -208,13 +208,18 @@ near-units x s w k q m =
 
 -- ---- sum, product and quotient, in units
 
--- x / e is g / v
+-- x / e or y / d is g / v: the same over the denominator e * d
+pub cross-left : (x e d v g : ℕ) → x * v ≡ g * e → x * d * v ≡ g * (e * d)
+cross-left x e d v g p = mul-right-comm x d v ∙ ap (λ (z : ℕ). z * d) p ∙ mul-assoc g e d
+
+pub cross-right : (y e d v g : ℕ) → y * v ≡ g * d → y * e * v ≡ g * (e * d)
+cross-right y e d v g p = cross-left y d e v g p ∙ ap (λ (z : ℕ). g * z) (mul-comm d e)
+
 plus-cross : (x y e d v g h : ℕ) → x * v ≡ g * e → y * v ≡ h * d → (x * d + y * e) * v ≡ (g + h) * (e * d)
 plus-cross x y e d v g h p q =
     add-mul (x * d) (y * e) v
-    ∙ ap (λ (z : ℕ). z + y * e * v) (mul-right-comm x d v ∙ ap (λ (z : ℕ). z * d) p ∙ mul-assoc g e d)
-    ∙ ap (λ (z : ℕ). g * (e * d) + z)
-    (mul-right-comm y e v ∙ ap (λ (z : ℕ). z * e) q ∙ mul-assoc h d e ∙ ap (λ (z : ℕ). h * z) (mul-comm d e))
+    ∙ ap (λ (z : ℕ). z + y * e * v) (cross-left x e d v g p)
+    ∙ ap (λ (z : ℕ). g * (e * d) + z) (cross-right y e d v h q)
     ∙ sym (add-mul g h (e * d))
 
 pub sum-units : (m : ℕ) (e : ℤ) (t : Bool) (n : ℕ) (d : ℤ) (g h : ℕ) → (t ≡ true → n ≡ 0) → Units (fin false m e) g → Units (fin t n d) h
@@ -271,9 +276,7 @@ not-below nan g p u h = absurd p
 not-below (inf s) g p u h = absurd u
 not-below (fin true m e) g p u h = absurd (true≢false p)
 not-below (fin false m e) g p u h =
-    let z : m * up e ≡ 0 = omega (arith, no-sign true m e h refl) in
-    eq-of-mul-eq-mul-right (down e) (down-pos e) g 0
-    (sym u ∙ ap (λ (y : ℕ). y * 2 ^ 1074) z ∙ zero-mul (2 ^ 1074) ∙ sym (zero-mul (down e)))
+    no-part g (down e) (m * up e) (2 ^ 1074) (down-pos e) (sym u) (omega (arith, no-sign true m e h refl))
 
 -- g units less w, rounded: by signs and sizes
 pub data Minus (x : Float) (g w : ℕ) : Type 0 where
@@ -322,11 +325,9 @@ minus-units (fin s m e) (inf t) g w u v = absurd v
 minus-units (fin s m e) (fin true n d) g w u v = absurd (true≢false (v .0))
 minus-units (fin s m e) (fin false n d) g w u v =
     minus-is s (m * up e * down d) (n * up d * down e) (down e * down d) g (w * 2 ^ 1074) (mul-pos (down-pos e) (down-pos d))
-    (mul-right-comm (m * up e) (down d) (2 ^ 1074) ∙ ap (λ (z : ℕ). z * down d) u ∙ mul-assoc g (down e) (down d))
-    (ap (λ (z : ℕ). z * down e * 2 ^ 1074) (sym (mul-one (n * up d)) ∙ v .1) ∙ turned w (down d) (down e) (2 ^ 1074))
-  where
-    turned : (w d e v : ℕ) → w * d * e * v ≡ w * v * (e * d)
-    turned w d e v = simp (mul-assoc, mul-comm, mul-left-comm)
+    (cross-left (m * up e) (down e) (down d) (2 ^ 1074) g u)
+    (cross-right (n * up d) (down e) (down d) (2 ^ 1074) (w * 2 ^ 1074)
+    (ap (λ (z : ℕ). z * 2 ^ 1074) (sym (mul-one (n * up d)) ∙ v .1) ∙ mul-right-comm w (down d) (2 ^ 1074)))
 
 -- g units less w: a difference that is not below 0 has lost w, but for one part in 2 ^ 52 and a unit
 pub record Less (x : Float) (g w : ℕ) : Type 0 where

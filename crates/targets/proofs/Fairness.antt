@@ -45,5 +45,5 @@ module _ (people slots : ℕ) (starts ends avail : List ℕ) (capacities : List 
   fairness-agrees out =
       let g = given people slots starts ends avail capacities priors 1 in
       let no = checkNo g (length out) in
-      ap (λ (ls : List Line). cond {A = Outcome} (eqb no 0) (published people (targets (demandIn g) ls) out) (record { number = no; out = out }))
-      same-lines
+      ap (λ (ls : List Line).
+      cond {A = Outcome} (eqb no 0) (published people (targets (demandIn g) ls) out) (record { number = no; out = out })) same-lines

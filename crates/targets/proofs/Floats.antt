@@ -1,24 +1,24 @@
 -- Floats that are bounded: what rounding, quotient, product, difference and sum keep of a bound. Assumes nothing.
 use mathlib.Core.Path.{_≡_, refl, sym, ap, _∙_, subst}
 use mathlib.Core.Bool.{Bool, true, false, _&&_, _||_, cond, true≢false}
-use Prim.Native.Nat.{ℕ, zero, suc, _+_, _-_, _*_, _%_, _^_, _≤_, _<_}
-use native.Mathlib.Nat.{mul-one, one-mul, zero-mul, mul-comm, mul-assoc, add-mul, add-comm, add-le-add}
+use Prim.Native.Nat.{ℕ, zero, suc, _+_, _-_, _*_, _^_, _≤_, _<_}
+use native.Mathlib.Nat.{mul-one, one-mul, zero-mul, mul-comm, mul-assoc, add-mul, add-le-add}
 use native.Mathlib.Nat.{mul-pos, mul-le-mul-right, mul-le-mul-left, mul-lt-mul-of-pos-right}
-use native.Mathlib.Nat.{le-refl, le-trans, le-of-eq, le-of-lt, lt-of-lt-of-le, lt-of-le-of-lt, lt-irrefl, zero-lt-suc}
+use native.Mathlib.Nat.{le-refl, le-trans, le-of-eq, le-of-lt, lt-of-le-of-lt, lt-irrefl, zero-lt-suc}
 use native.Mathlib.Omega.{arith}
 use borrow.Author.Tests.{lt-ltb}
-use lib.Dec.{T, ltb, leb, eqb, eqb·suc-zero, ltb→lt, eqb→eq}
-use lib.Pow.{pow-add, pow-pos, pow-mono, shl-lt}
-use lib.IntN.{ℤ, pos, negsuc}
+use lib.Dec.{T, ltb, eqb, eqb·suc-zero, ltb→lt, eqb→eq}
+use lib.Pow.{pow-pos}
+use lib.IntN.{ℤ}
 use lib.Ieee.{Float, nan, inf, fin, Format, binary64, add, sub, mul, div, neg, le, fits, up, down, low, emax, prec}
 use lib.Ieee.{sum, round, units, odd, unlike}
-use lib.Ieee.Exact.{HasValue, round-exact}
-use lib.Ieee.Fits.{up-pos, down-pos, and-l, and-r}
+use lib.Ieee.Exact.{HasValue}
+use lib.Ieee.Fits.{up-pos, down-pos, and-l}
 use lib.Ieee.Back.{round-whole}
 use lib.Ieee.Order.{round-mono}
 use lib.Ieee.Positive.{through}
 use Rattle.targets.specs.Passes.{within}
-use Rattle.targets.proofs.Nearest.{digits, reach, exponent}
+use Rattle.targets.proofs.Nearest.{fits-says, exact}
 
 -- ---- the size of a float: x is finite, and at most a / c in size
 abbrev pub Most : Float → ℕ → ℕ → Type 0
@@ -133,11 +133,18 @@ product (fin s p g) (fin t m e) k v K h =
     (le-trans (mul-le-mul-left (k * down g) (le-trans (le-of-eq (sym (mul-one (m * up e)))) (le-trans h (le-of-eq (one-mul (down e))))))
     (le-of-eq (mul-assoc k (down g) (down e)))))
 
+-- x / e or x / d is at most w: the same over the denominator e * d
+pub over-left : (x w e d : ℕ) → x * 1 ≤ w * e → x * d ≤ w * (e * d)
+over-left x w e d h = le-trans (mul-le-mul-right d (le-trans (le-of-eq (sym (mul-one x))) h)) (le-of-eq (mul-assoc w e d))
+
+pub over-right : (x w e d : ℕ) → x * 1 ≤ w * d → x * e ≤ w * (e * d)
+over-right x w e d h = le-trans (over-left x w d e h) (le-of-eq (ap (λ (z : ℕ). w * z) (mul-comm d e)))
+
 -- x at most k in size, less p: at most k + p in size
-minus-part : (b : Bool) (a c : ℕ) (w : ℕ) → 0 < c → w ≤ 2 ^ 53 → (s : Bool) (x : ℕ) → x + a ≤ w * c → Most (sum binary64 s x true a c) w 1
+minus-part : (a c w : ℕ) → 0 < c → w ≤ 2 ^ 53 → (s : Bool) (x : ℕ) → x + a ≤ w * c → Most (sum binary64 s x true a c) w 1
 unfolding sum
-minus-part b a c w C W true x h = round-most true (x + a) c w C W h
-minus-part b a c w C W false x h = go (ltb x a)
+minus-part a c w C W true x h = round-most true (x + a) c w C W h
+minus-part a c w C W false x h = go (ltb x a)
   where
     go : (t : Bool) → Most (cond t (round binary64 true (a - x) c) (round binary64 (false && ltb a x) (x - a) c)) w 1
     go true = round-most true (a - x) c w C W (omega arith)
@@ -151,14 +158,8 @@ difference (fin s m e) nan k w h v W = absurd v
 difference (fin s m e) (inf t) k w h v W = absurd v
 difference (fin s m e) (fin true n d) k w h v W = absurd (true≢false (v .0))
 difference (fin s m e) (fin false n d) k w h v W =
-    minus-part true (n * up d * down e) (down e * down d) (k + w) (mul-pos (down-pos e) (down-pos d)) W s (m * up e * down d)
-    (le-trans
-    (add-le-add
-    (le-trans (mul-le-mul-right (down d) (le-trans (le-of-eq (sym (mul-one (m * up e)))) h)) (le-of-eq (mul-assoc k (down e) (down d))))
-    (le-of-eq
-    (ap (λ (z : ℕ). z * down e) (sym (mul-one (n * up d)) ∙ v .1)
-    ∙ mul-assoc w (down d) (down e)
-    ∙ ap (λ (z : ℕ). w * z) (mul-comm (down d) (down e)))))
+    minus-part (n * up d * down e) (down e * down d) (k + w) (mul-pos (down-pos e) (down-pos d)) W s (m * up e * down d)
+    (le-trans (add-le-add (over-left (m * up e) k (down e) (down d) h) (over-right (n * up d) w (down e) (down d) (le-of-eq (v .1))))
     (le-of-eq (sym (add-mul k w (down e * down d)))))
 
 -- below 2 ^ 40 in size: inside the guard
@@ -187,37 +188,11 @@ Under (fin s m e) nan = ⊥
 Under (fin s m e) (inf t) = ⊥
 
 -- a float's own value is rounded to itself
-own-up : (m k l : ℕ) → m * 2 ^ k * 2 ^ l ≡ m * 2 ^ (k + l) * 1
-own-up m k l = simp (mul-one, pow-add, mul-assoc)
-
-own-by : (m k t : ℕ) → m * 1 * 2 ^ (suc k + t) ≡ m * 2 ^ t * 2 ^ suc k
-own-by m k t = simp (mul-one, pow-add, mul-assoc, mul-comm)
-
-pub own-down : (m k l : ℕ) → k < l → m * 1 * 2 ^ l ≡ m * 2 ^ (l - suc k) * 2 ^ suc k
-own-down m k l h =
-    let e : suc k + (l - suc k) ≡ l = omega arith in
-    subst (λ (z : ℕ). m * 1 * 2 ^ z ≡ m * 2 ^ (l - suc k) * 2 ^ suc k) e (own-by m k (l - suc k))
-
-topped : (s : Bool) (m k : ℕ) → T (fits binary64 (fin s m (pos k))) → m * 2 ^ k < 2 ^ 1024
-unfolding fits
-topped s zero k f = lt-of-le-of-lt (le-of-eq (zero-mul (2 ^ k))) (pow-pos 1024)
-topped s (suc m) k f =
-    let top = ltb (suc m * 2 ^ k) (2 ^ 1024 * 1) in
-    ltb→lt (suc m * 2 ^ k) (2 ^ 1024 * 1) (and-r (eqb (suc m % 2) 1 && ltb (suc m) (2 ^ 53) && leb 1 (2 ^ 1074)) top f)
-
 own : (s : Bool) (m : ℕ) (e : ℤ) → T (fits binary64 (fin s m e))
     → HasValue (round binary64 false (m * up e) (down e)) false (m * up e) (down e)
-own s m (pos k) f =
-    round-exact binary64 false (m * 2 ^ k) 1 m (k + 1074) (pow-pos 0) (digits s m (pos k) f)
-    (lt-of-le-of-lt (le-of-eq (sym (mul-one (m * 2 ^ (k + 1074))) ∙ sym (own-up m k 1074)))
-    (lt-of-lt-of-le (shl-lt 1024 1074 (topped s m k f)) (le-of-eq (ap (λ (z : ℕ). 2 ^ z) (add-comm 1024 1074)))))
-    (own-up m k 1074)
-own s m (negsuc k) f =
-    let K : k < 1074 = exponent k 1074 (reach s m (negsuc k) f) in
-    let J : 53 + (1074 - suc k) ≤ 1074 + 1024 = omega arith in
-    round-exact binary64 false (m * 1) (2 ^ suc k) m (1074 - suc k) (pow-pos (suc k)) (digits s m (negsuc k) f)
-    (lt-of-lt-of-le (shl-lt 53 (1074 - suc k) (digits s m (negsuc k) f)) (pow-mono J))
-    (own-down m k 1074 K)
+own s m e f =
+    let o = fits-says s m e f in
+    exact false m e 0 (m * up e) (sym (mul-one (m * up e))) (o .digits) (o .reach) (o .top)
 
 -- x at most a / b: at most a / b rounded, if that is finite
 value-le : (z y : Float) (a c : ℕ) → 0 < c → HasValue z false a c → T (le z y) → Plain y → (k : ℕ) → Most y k 1

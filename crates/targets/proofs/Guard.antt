@@ -2,10 +2,10 @@
 -- The sum of the raw shares, each step rounded, is at least each of them, since rounding keeps the order.
 -- So a quotient is at most 1, and the product at most N.
 use mathlib.Core.Path.{_≡_, refl, sym, ap, _∙_, subst}
-use mathlib.Core.Bool.{Bool, true, false, not, _&&_, _||_, cond, true≢false}
+use mathlib.Core.Bool.{Bool, true, false, cond, true≢false}
 use mathlib.Core.List.{List, [], _∷_, foldl}
 use Prim.Native.Nat.{ℕ, suc, _+_, _*_, _^_, _≤_, _<_, zero-le}
-use native.Mathlib.Nat.{mul-one, mul-comm, mul-assoc, add-mul, suc-mul, add-zero, zero-add, add-le-add}
+use native.Mathlib.Nat.{mul-comm, mul-assoc, add-mul, suc-mul, add-zero, zero-add, add-le-add, le-add-left, le-add-right}
 use native.Mathlib.Nat.{mul-pos, mul-le-mul-right, le-refl, le-trans, le-of-eq, le-suc, lt-of-le-of-lt}
 use native.Mathlib.Omega.{arith}
 use lib.Dec.{T, ltb→lt, lit≤}
@@ -16,35 +16,39 @@ use lib.Ieee.Exact.{HasValue}
 use lib.Ieee.Fits.{down-pos, round-fits}
 use lib.Ieee.Back.{round-whole}
 use lib.Ieee.Positive.{first-pos}
+use Rattle.paper.proofs.Logic.{by-cond}
 use Rattle.targets.specs.declared.Line.{Line}
 use Rattle.targets.specs.Figures.{zeroF, whole}
 use Rattle.targets.specs.Passes.{within, unrounded, outside, some, withShare, shareSum, withPrior, notional}
-use Rattle.targets.proofs.Loops.{Each}
+use Rattle.targets.specs.Code.{Each}
 use Rattle.targets.proofs.Nearest.{held}
 use Rattle.targets.proofs.Floats.{Most, Plain, Share, Under, round-most, round-plain, quotient, product, difference, inside}
-use Rattle.targets.proofs.Floats.{under-round, under-refl, under-trans, add-plain}
+use Rattle.targets.proofs.Floats.{under-round, under-refl, under-trans, add-plain, over-left, over-right}
+use Rattle.targets.proofs.Each.{each-both, each-then, each-none, sumLines, fold-sum, sum-most}
+use Rattle.targets.proofs.Cases.{kept-guard}
 
--- ---- one more raw share. 2 ^ 37 is more than any of them
+-- no raw share is above 2 ^ 37, and no N above 4,000,000,000
+abbrev pub shareMost : ℕ
+shareMost = 137438953472
+
+abbrev pub notionalMost : ℕ
+notionalMost = 4000000000
+
+-- ---- one more raw share
 
 pub record Acc (k : ℕ) (x : Float) : Type 0 where
   pub plain : Plain x
   pub ok : T (fits binary64 x)
-  pub most : Most x (k * 137438953472) 1
+  pub most : Most x (k * shareMost) 1
 
-pub record Added (k : ℕ) (x y z : Float) : Type 0 where
+-- with one person's share, if they are not pinned
+pub record With (k : ℕ) (b : Bool) (x y z : Float) : Type 0 where
   pub acc : Acc k z
   pub left : Under x z
-  pub right : Under y z
+  pub right : b ≡ false → Under y z
 
-room : (m d e k w : ℕ) → m * 1 ≤ k * w * e → m * d ≤ k * w * (e * d)
-room m d e k w h = le-trans (mul-le-mul-right d (le-trans (le-of-eq (sym (mul-one m))) h)) (le-of-eq (mul-assoc (k * w) e d))
-
-swapped : (n e d w : ℕ) → n * 1 ≤ w * d → n * e ≤ w * (e * d)
-swapped n e d w h =
-    le-trans (mul-le-mul-right e (le-trans (le-of-eq (sym (mul-one n))) h))
-    (le-of-eq (mul-assoc w d e ∙ ap (λ (z : ℕ). w * z) (mul-comm d e)))
-
-added : (k : ℕ) (x y : Float) → suc k ≤ 64 → Acc k x → Share y → Most y 137438953472 1 → Added (suc k) x y (add binary64 x y)
+added : (k : ℕ) (x y : Float) → suc k ≤ 64 → Acc k x → Share y → Most y shareMost 1
+    → With (suc k) false x y (add binary64 x y)
 added k nan y K a h l = absurd (a .plain)
 added k (inf s) y K a h l = absurd (a .most)
 added k (fin true m e) y K a h l = absurd (true≢false (a .plain))
@@ -56,65 +60,57 @@ added k (fin false m e) (fin t n d) K a h l =
     let C = down e * down d in
     let c : 0 < C = mul-pos (down-pos e) (down-pos d) in
     let q : add binary64 (fin false m e) (fin t n d) ≡ round binary64 false (A + B) C = add-plain m e t n d (h .1) in
-    let ra : A ≤ k * 137438953472 * C = room (m * up e) (down d) (down e) k 137438953472 (a .most) in
-    let rb : B ≤ 137438953472 * C = swapped (n * up d) (down e) (down d) 137438953472 l in
-    let s : k * 137438953472 * C + 137438953472 * C ≡ suc k * 137438953472 * C
-    = sym (add-mul (k * 137438953472) 137438953472 C) ∙ ap (λ (z : ℕ). z * C) (sym (suc-mul k 137438953472)) in
-    let f : A + B ≤ suc k * 137438953472 * C = le-trans (add-le-add ra rb) (le-of-eq s) in
-    let w : suc k * 137438953472 ≤ 2 ^ 53 = le-trans (mul-le-mul-right 137438953472 K) (lit≤ {m = 64 * 137438953472} {n = 2 ^ 53} tt) in
-    let r = round-most false (A + B) C (suc k * 137438953472) c w f in
-    subst (λ (z : Float). Added (suc k) (fin false m e) (fin t n d) z) (sym q)
+    let ra : A ≤ k * shareMost * C = over-left (m * up e) (k * shareMost) (down e) (down d) (a .most) in
+    let rb : B ≤ shareMost * C = over-right (n * up d) shareMost (down e) (down d) l in
+    let s : k * shareMost * C + shareMost * C ≡ suc k * shareMost * C
+    = sym (add-mul (k * shareMost) shareMost C) ∙ ap (λ (z : ℕ). z * C) (sym (suc-mul k shareMost)) in
+    let f : A + B ≤ suc k * shareMost * C = le-trans (add-le-add ra rb) (le-of-eq s) in
+    let w : suc k * shareMost ≤ 2 ^ 53 = le-trans (mul-le-mul-right shareMost K) (lit≤ {m = 64 * shareMost} {n = 2 ^ 53} tt) in
+    let r = round-most false (A + B) C (suc k * shareMost) c w f in
+    subst (λ (z : Float). With (suc k) false (fin false m e) (fin t n d) z) (sym q)
     (record {
       acc = record { plain = round-plain binary64 (A + B) C; ok = round-fits binary64 false (A + B) C; most = r };
-      left = under-round false m e (A + B) C (suc k * 137438953472) (a .ok) c
+      left = under-round false m e (A + B) C (suc k * shareMost) (a .ok) c
           (le-trans
           (le-of-eq (ap (λ (z : ℕ). m * up e * z) (mul-comm (down e) (down d)) ∙ sym (mul-assoc (m * up e) (down d) (down e))))
-          (mul-le-mul-right (down e) (first A B)))
+          (mul-le-mul-right (down e) (le-add-right A B)))
           r;
-      right = under-round t n d (A + B) C (suc k * 137438953472) (h .0) c
-          (le-trans (le-of-eq (sym (mul-assoc (n * up d) (down e) (down d)))) (mul-le-mul-right (down d) (second A B)))
+      right = λ free. under-round t n d (A + B) C (suc k * shareMost) (h .0) c
+          (le-trans (le-of-eq (sym (mul-assoc (n * up d) (down e) (down d)))) (mul-le-mul-right (down d) (le-add-left B A)))
           r;
     })
-  where
-    first : (a b : ℕ) → a ≤ a + b
-    first a b = omega arith
-
-    second : (a b : ℕ) → b ≤ a + b
-    second a b = omega arith
 
 -- ---- all people
 
 -- a raw share is at most 2 ^ 37 and not below zero, and the prior minutes are at most 100,000,000
 pub record Good (l : Line) : Type 0 where
   pub share : Share (l .raw)
-  pub small : Most (l .raw) 137438953472 1
+  pub small : Most (l .raw) shareMost 1
   pub prior : l .person .prior ≤ 100000000
 
 abbrev pub Goods : List Line → Type 0
 Goods = Each Good
 
-abbrev pub AllUnder : Float → List Line → Type 0
-AllUnder s = Each (λ (l : Line). l .pinned ≡ false → Under (l .raw) s)
+-- who is not pinned has a raw share of at most s
+abbrev pub UnderSum : Float → Line → Type 0
+UnderSum s l = l .pinned ≡ false → Under (l .raw) s
 
-more-room : (k : ℕ) (x : Float) → Most x (k * 137438953472) 1 → Most x (suc k * 137438953472) 1
+abbrev pub AllUnder : Float → List Line → Type 0
+AllUnder s = Each (UnderSum s)
+
+more-room : (k : ℕ) (x : Float) → Most x (k * shareMost) 1 → Most x (suc k * shareMost) 1
 more-room k nan h = h
 more-room k (inf s) h = h
-more-room k (fin s m e) h = le-trans h (mul-le-mul-right (down e) (mul-le-mul-right 137438953472 (le-suc k)))
+more-room k (fin s m e) h = le-trans h (mul-le-mul-right (down e) (mul-le-mul-right shareMost (le-suc k)))
 
--- with one person's share, if they are not pinned
-pub record With (k : ℕ) (b : Bool) (x y z : Float) : Type 0 where
-  pub acc : Acc k z
-  pub left : Under x z
-  pub right : b ≡ false → Under y z
-
-pub with-one : (b : Bool) (k : ℕ) (x y : Float) → suc k ≤ 64 → Acc k x → Share y → Most y 137438953472 1
+pub with-one : (b : Bool) (k : ℕ) (x y : Float) → suc k ≤ 64 → Acc k x → Share y → Most y shareMost 1
     → With (suc k) b x y (cond b x (add binary64 x y))
 with-one true k x y K a h l = record {
   acc = record { plain = a .plain; ok = a .ok; most = more-room k x (a .most) };
-  left = under-refl x (k * 137438953472) 1 (a .most);
+  left = under-refl x (k * shareMost) 1 (a .most);
   right = λ q. absurd (true≢false q);
 }
-with-one false k x y K a h l = let r = added k x y K a h l in record { acc = r .acc; left = r .left; right = λ q. r .right }
+with-one false k x y K a h l = added k x y K a h l
 
 pub record Summed (k : ℕ) (x s : Float) (ls : List Line) : Type 0 where
   pub acc : Acc k s
@@ -124,7 +120,7 @@ pub record Summed (k : ℕ) (x s : Float) (ls : List Line) : Type 0 where
 pub summed : (ls : List Line) (k n : ℕ) (x : Float) → Acc k x → Goods ls → n ≡ k + length ls → n ≤ 64 → Summed n x (foldl withShare x ls) ls
 summed [] k n x a g e h = record {
   acc = subst (λ (j : ℕ). Acc j x) (sym (e ∙ add-zero k)) a;
-  from = under-refl x (k * 137438953472) 1 (a .most);
+  from = under-refl x (k * shareMost) 1 (a .most);
   all = tt;
 }
 summed (l ∷ ls) k n x a g e h =
@@ -137,25 +133,36 @@ summed (l ∷ ls) k n x a g e h =
       all = (λ q. under-trans (l .raw) (withShare x l) (foldl withShare x (l ∷ ls)) (w .right q) (r .from), r .all);
     }
 
-priors-most : (ls : List Line) (a : ℕ) → Goods ls → foldl withPrior a ls ≤ a + 100000000 * length ls
-priors-most [] a g = omega arith
-priors-most (l ∷ ls) a g =
-    let h = priors-most ls (withPrior a l) (g .1) in
-    let w : withPrior a l ≤ a + 100000000 = go (l .pinned) (g .0 .prior) in
-    omega arith
+-- the prior minutes of the unpinned
+abbrev priorOf : Line → ℕ
+priorOf l = cond (l .pinned) 0 (l .person .prior)
+
+abbrev pub priorsIn : List Line → ℕ
+priorsIn = sumLines priorOf
+
+pub notional-is : (d : ℕ) (ls : List Line) → notional d ls ≡ d + priorsIn ls
+notional-is d ls = fold-sum withPrior priorOf (λ a l. go (l .pinned) a (l .person .prior)) ls d
   where
-    go : (b : Bool) → l .person .prior ≤ 100000000 → cond b a (a + l .person .prior) ≤ a + 100000000
-    go true p = omega arith
-    go false p = omega arith
+    go : (b : Bool) (a p : ℕ) → cond b a (a + p) ≡ a + cond b 0 p
+    go true a p = sym (add-zero a)
+    go false a p = refl
 
 -- ---- the guard is kept
 pub positive : (n : ℕ) (d : ℤ) → lt zeroF (fin false n d) ≡ true → 0 < n
 unfolding lt
 positive n d h = first-pos n (up d) (first-pos (n * up d) 1 (lt-of-le-of-lt (zero-le) (ltb→lt (0 * down d) (n * up d * 1) (held h))))
 
-pub whole-val : (n : ℕ) → n ≤ 2 ^ 53 → HasValue (whole n) false n 1
+pub whole-val : (n : ℕ) → n ≤ notionalMost → HasValue (whole n) false n 1
 unfolding ofInt
-whole-val n h = round-whole binary64 false n h
+whole-val n h = round-whole binary64 false n (le-trans h (lit≤ {m = notionalMost} {n = 2 ^ 53} tt))
+
+-- what a pass divides by and hands out: the sum of the shares is s, finite and above 0, and N is n
+pub record Basis (n : ℕ) (s : Float) : Type 0 where
+  pub few : n ≤ notionalMost
+  pub plain : Plain s
+  pub bound : ℕ
+  pub most : Most s bound 1
+  pub above : lt zeroF s ≡ true
 
 -- the quotient, the product and the difference of one person are bounded
 pub record Steps (n p : ℕ) (s r : Float) : Type 0 where
@@ -163,40 +170,31 @@ pub record Steps (n p : ℕ) (s r : Float) : Type 0 where
   pub product-most : Most (mul binary64 (whole n) (div binary64 r s)) n 1
   pub difference-most : Most (sub binary64 (mul binary64 (whole n) (div binary64 r s)) (whole p)) (n + p) 1
 
-pub steps : (n p : ℕ) (s r : Float) (k : ℕ) → Plain s → Most s k 1 → lt zeroF s ≡ true → n ≤ 4000000000 → p ≤ 100000000 → Under r s
-    → Steps n p s r
-steps n p nan r k q m z N P u = absurd q
-steps n p (inf s) r k q m z N P u = absurd m
-steps n p (fin true v g) r k q m z N P u = absurd (true≢false q)
-steps n p (fin false v g) nan k q m z N P u = absurd u
-steps n p (fin false v g) (inf t) k q m z N P u = absurd u
-steps n p (fin false v g) (fin t r e) k q m z N P u =
-    let a : n ≤ 2 ^ 53 = le-trans N (lit≤ {m = 4000000000} {n = 2 ^ 53} tt) in
-    let b : p ≤ 2 ^ 53 = le-trans P (lit≤ {m = 100000000} {n = 2 ^ 53} tt) in
-    let c : n + p ≤ 2 ^ 53 = le-trans (add-le-add N P) (lit≤ {m = 4100000000} {n = 2 ^ 53} tt) in
+pub steps : (n p : ℕ) (s r : Float) → Basis n s → p ≤ 100000000 → Under r s → Steps n p s r
+steps n p nan r b P u = absurd (b .plain)
+steps n p (inf s) r b P u = absurd (b .most)
+steps n p (fin true v g) r b P u = absurd (true≢false (b .plain))
+steps n p (fin false v g) nan b P u = absurd u
+steps n p (fin false v g) (inf t) b P u = absurd u
+steps n p (fin false v g) (fin t r e) b P u =
+    let N : n ≤ 2 ^ 53 = le-trans (b .few) (lit≤ {m = notionalMost} {n = 2 ^ 53} tt) in
+    let W : n + p ≤ 2 ^ 53 = le-trans (add-le-add (b .few) P) (lit≤ {m = notionalMost + 100000000} {n = 2 ^ 53} tt) in
     let q = div binary64 (fin t r e) (fin false v g) in
     let x = mul binary64 (whole n) q in
-    let i = quotient t r e v g (positive v g z) u in
-    let j = product (whole n) q n (whole-val n a) a i in
-    record { quotient-most = i; product-most = j; difference-most = difference x (whole p) n p j (whole-val p b) c }
+    let i = quotient t r e v g (positive v g (b .above)) u in
+    let j = product (whole n) q n (whole-val n (b .few)) N i in
+    record { quotient-most = i; product-most = j; difference-most = difference x (whole p) n p j (whole-val p (omega arith)) W }
 
-kept : (n : ℕ) (s : Float) (k : ℕ) (l : Line) → Plain s → Most s k 1 → lt zeroF s ≡ true → n ≤ 4000000000 → Good l
-    → Under (l .raw) s → within (unrounded (whole n) s l) ≡ true
-kept n s k l p m z h g u =
-    inside (unrounded (whole n) s l) (n + l .person .prior) (steps n (l .person .prior) s (l .raw) k p m z h (g .prior) u .difference-most)
-    (omega (arith, h, g .prior))
+kept : (n : ℕ) (s : Float) (l : Line) → Basis n s → Good l → Under (l .raw) s → within (unrounded (whole n) s l) ≡ true
+kept n s l b g u =
+    inside (unrounded (whole n) s l) (n + l .person .prior) (steps n (l .person .prior) s (l .raw) b (g .prior) u .difference-most)
+    (omega (arith, b .few, g .prior))
 
-none-outside : (n : ℕ) (s : Float) (k : ℕ) (ls : List Line) → Plain s → Most s k 1 → lt zeroF s ≡ true → n ≤ 4000000000
-    → Goods ls → AllUnder s ls → some (outside (whole n) s) ls ≡ false
-none-outside n s k [] p m z h g u = refl
-none-outside n s k (l ∷ ls) p m z h g u =
-    go (l .pinned) (within (unrounded (whole n) s l)) (some (outside (whole n) s) ls)
-    (λ q. kept n s k l p m z h (g .0) (u .0 q)) (none-outside n s k ls p m z h (g .1) (u .1))
-  where
-    go : (b w r : Bool) → (b ≡ false → w ≡ true) → r ≡ false → (not b && not w) || r ≡ false
-    go true w r t e = e
-    go false true r t e = e
-    go false false r t e = absurd (true≢false (sym (t refl)))
+none-outside : (n : ℕ) (s : Float) (ls : List Line) → Basis n s → Goods ls → AllUnder s ls → some (outside (whole n) s) ls ≡ false
+none-outside n s ls b g u =
+    each-none (outside (whole n) s) ls
+    (each-then (λ (l : Line). Good l × UnderSum s l) (λ (l : Line). outside (whole n) s l ≡ false)
+    (λ l x. kept-guard (whole n) s l (λ q. kept n s l b (x .0) (x .1 q))) ls (each-both Good (UnderSum s) ls g u))
 
 pub zero-acc : Acc 0 zeroF
 unfolding fits
@@ -206,14 +204,21 @@ zero-acc = record { plain = refl; ok = tt; most = le-refl 0 }
 pub summed-all : (ls : List Line) → length ls ≤ 32 → Goods ls → Summed (length ls) zeroF (shareSum ls) ls
 summed-all ls L g = summed ls 0 (length ls) zeroF zero-acc g (sym (zero-add (length ls))) (le-trans L (lit≤ {m = 32} {n = 64} tt))
 
--- N is below 2 ^ 32
-pub notional-most : (d : ℕ) (ls : List Line) → d ≤ 100000000 → length ls ≤ 32 → Goods ls → notional d ls ≤ 4000000000
-notional-most d ls D L g = omega (arith, priors-most ls d g)
+pub notional-most : (d : ℕ) (ls : List Line) → d ≤ 100000000 → length ls ≤ 32 → Goods ls → notional d ls ≤ notionalMost
+notional-most d ls D L g =
+    let h = sum-most priorOf 100000000 ls
+    (each-then Good (λ (l : Line). priorOf l ≤ 100000000)
+    (λ l x. by-cond (l .pinned) 0 (l .person .prior) (λ (p : ℕ). p ≤ 100000000) (λ q. zero-le) (λ q. x .prior)) ls g) in
+    omega (arith, notional-is d ls, h)
+
+pub basis-of : (d : ℕ) (ls : List Line) → d ≤ 100000000 → length ls ≤ 32 → Goods ls → lt zeroF (shareSum ls) ≡ true
+    → Basis (notional d ls) (shareSum ls)
+basis-of d ls D L g z =
+    let r = summed-all ls L g in
+    record { few = notional-most d ls D L g; plain = r .acc .plain; bound = length ls * shareMost; most = r .acc .most; above = z }
 
 -- no pass over such people is refused
 pub never-outside : (d : ℕ) (ls : List Line) → d ≤ 100000000 → length ls ≤ 32 → Goods ls → lt zeroF (shareSum ls) ≡ true
     → some (outside (whole (notional d ls)) (shareSum ls)) ls ≡ false
 never-outside d ls D L g z =
-    let r = summed-all ls L g in
-    none-outside (notional d ls) (shareSum ls) (length ls * 137438953472) ls (r .acc .plain) (r .acc .most) z (notional-most d ls D L g) g
-    (r .all)
+    none-outside (notional d ls) (shareSum ls) ls (basis-of d ls D L g z) g (summed-all ls L g .all)

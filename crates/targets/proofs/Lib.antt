@@ -1,5 +1,7 @@
 -- The laws of targets.
 pub mod Loops
+pub mod Each
+pub mod Cases
 pub mod Nearest
 pub mod Signed
 pub mod Sizes

@@ -1,9 +1,9 @@
 -- The steps of the loops: folds over lines, a search among them, arrays filled from the front, the passes counted down. Assumes nothing.
 use mathlib.Core.Path.{_≡_, refl, sym, ap, _∙_}
-use mathlib.Core.Bool.{Bool, true, false, not, _&&_, _||_}
+use mathlib.Core.Bool.{Bool, true, false, _||_}
 use mathlib.Core.List.{List, [], _∷_, _++_, map, foldl, append-nil}
 use Prim.Native.Nat.{ℕ, zero, suc, _+_, _-_, _<_, _≤_}
-use native.Mathlib.Nat.{not-suc-le-zero, le-of-suc-le-suc, le-of-lt}
+use native.Mathlib.Nat.{le-of-lt}
 use native.Mathlib.Numerals.{add-one}
 use native.Mathlib.Omega.{arith}
 use lib.Ieee.{Float, lt}
@@ -11,7 +11,7 @@ use lib.ListN.{length, getD, take, drop, set, replicate, length-append, drop-of-
 use lib.Seq.{drop-cons, take-suc-set, append-snoc, take-all, set-at, take-suc, length-take-le}
 use Rattle.targets.specs.declared.Line.{Line}
 use Rattle.targets.specs.Figures.{zeroF, upTo}
-use Rattle.targets.specs.Passes.{within, settled, rounded, unrounded, outside, some, Passed, pass, passes}
+use Rattle.targets.specs.Passes.{settled, rounded, some, Passed, pass, passes}
 
 -- two constructors are never equal: `cc` turns such an equation into this one
 pub differ : {A : Type 0} → _≡_ {A = ℕ} 0 1 → A
@@ -47,45 +47,7 @@ module _ (p : Line → Bool) {z : Bool} (ls : List Line) (i : ℕ) where
   pub nowhere : some p (drop i ls) ≡ z → length ls ≤ i → false ≡ z
   nowhere h l = rw (drop-of-length-le ls l) at h
 
--- ---- what holds of each line
-
-abbrev pub Each : (Line → Type 0) → List Line → Type 0
-Each P [] = Unit
-Each P (l ∷ ls) = P l × Each P ls
-
-each-append : (P : Line → Type 0) (xs ys : List Line) → Each P xs → Each P ys → Each P (xs ++ ys)
-each-append P [] ys h k = k
-each-append P (x ∷ xs) ys h k = (h .0, each-append P xs ys (h .1) k)
-
-pub each-upTo : (P : Line → Type 0) (f : ℕ → Line) (n : ℕ) → ((k : ℕ) → k < n → P (f k)) → Each P (upTo f n)
-each-upTo P f zero h = tt
-each-upTo P f (suc n) h =
-    each-append P (upTo f n) (f n ∷ []) (each-upTo P f n (λ k l. h k (omega arith))) (h n (omega arith), tt)
-
--- where no line passes, none at any place does
-pub none-passes : (p : Line → Bool) (ls : List Line) (i : ℕ) (d : Line) → some p ls ≡ false → i < length ls → p (getD ls i d) ≡ false
-none-passes p [] i d h l = absurd (not-suc-le-zero l)
-none-passes p (x ∷ ls) zero d h l = first (p x) (some p ls) h
-  where
-    first : (a b : Bool) → a || b ≡ false → a ≡ false
-    first true b e = e
-    first false b e = refl
-none-passes p (x ∷ ls) (suc i) d h l = none-passes p ls i d (second (p x) (some p ls) h) (le-of-suc-le-suc l)
-  where
-    second : (a b : Bool) → a || b ≡ false → b ≡ false
-    second true b e = absurd (mathlib.Core.Bool.true≢false e)
-    second false b e = e
-
 -- ---- one person's step, by the tests that lead to it; y is the unrounded target as the code has it
-
--- an unpinned person who is not outside the guard is inside it
-pub guard-kept : (n sum : Float) (l : Line) → outside n sum l ≡ false → l .pinned ≡ false → within (unrounded n sum l) ≡ true
-guard-kept n sum l o p = go (l .pinned) (within (unrounded n sum l)) o p
-  where
-    go : (a w : Bool) → not a && not w ≡ false → a ≡ false → w ≡ true
-    go true w o p = absurd (mathlib.Core.Bool.true≢false p)
-    go false true o p = refl
-    go false false o p = absurd (mathlib.Core.Bool.true≢false o)
 
 module _ (l : Line) {x y : Float} (e : y ≡ x) where
   pub at-pin : l .pinned ≡ false → lt y zeroF ≡ true

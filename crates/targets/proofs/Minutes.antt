@@ -2,7 +2,7 @@
 use mathlib.Core.Path.{_≡_, refl, sym, ap, ap₂, _∙_}
 use mathlib.Core.Bool.{Bool, true, false, _&&_, cond}
 use mathlib.Core.List.{List}
-use Prim.Native.Nat.{ℕ, zero, suc, _*_, _≤_, _<_, zero-le}
+use Prim.Native.Nat.{ℕ, _*_, _≤_, _<_, zero-le}
 use native.Mathlib.Nat.{le-refl}
 use native.Mathlib.Omega.{arith}
 use borrow.Author.Tests.{le-leb, lt-ltb}
@@ -11,6 +11,7 @@ use lib.ListN.{length}
 use Rattle.paper.specs.Limits.{peopleOk}
 use Rattle.paper.specs.Count.{sum}
 use Rattle.paper.proofs.Count.{sum-mono}
+use Rattle.paper.proofs.Logic.{by-cond}
 use Rattle.slots.specs.Lent.{minutesAt, slotsOk}
 use Rattle.slots.proofs.LentLaws.{demand-part}
 use Rattle.slotset.specs.declared.Told.{Told}
@@ -23,11 +24,9 @@ use Rattle.targets.proofs.Loops.{differ}
 
 pub if-available-le : (starts ends avail : List ℕ) (person k : ℕ)
     → minutesIfAvailable starts ends avail person k ≤ minutesAt starts ends k
-if-available-le starts ends avail person k = go (eqb (rowSlots avail person k) 1) (minutesAt starts ends k)
-  where
-    go : (b : Bool) (m : ℕ) → cond b m 0 ≤ m
-    go true m = le-refl m
-    go false m = zero-le
+if-available-le starts ends avail person k =
+    by-cond (eqb (rowSlots avail person k) 1) (minutesAt starts ends k) 0 (λ (m : ℕ). m ≤ minutesAt starts ends k) (λ t. le-refl _)
+    (λ f. zero-le)
 
 -- the available minutes of the first n slots fit
 pub available-part : (slots : ℕ) (starts ends avail : List ℕ) (person : ℕ) → slotsOk slots starts ends ≡ true → (n : ℕ) → n ≤ slots

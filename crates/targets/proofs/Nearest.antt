@@ -1,22 +1,22 @@
 -- Rounding to whole minutes by way of 2x: x + x is exact, its whole part is that of 2x, and half of that plus one is x rounded, halves up.
 -- Assumes nothing.
 use mathlib.Core.Path.{_≡_, refl, sym, ap, _∙_, subst}
-use mathlib.Core.Bool.{Bool, true, false, not, _&&_, true≢false}
+use mathlib.Core.Bool.{Bool, true, false, not, _&&_, and-true, true≢false}
 use Prim.Native.Nat.{ℕ, zero, suc, _+_, _-_, _*_, _/_, _%_, _^_, _≤_, _<_, min}
-use native.Mathlib.Nat.{mul-one, mul-comm, mul-assoc, mul-left-comm, mul-right-comm, mul-pos, one-mul, zero-mul, pow-suc}
+use native.Mathlib.Nat.{mul-one, mul-comm, mul-assoc, mul-left-comm, mul-right-comm, mul-pos, one-mul, zero-mul}
 use native.Mathlib.Nat.{mul-lt-mul-of-pos-right, lt-of-mul-lt-mul-right, mul-le-mul-right, eq-of-mul-eq-mul-right}
-use native.Mathlib.Nat.{le-of-eq, le-trans, le-of-lt, lt-of-lt-of-le, lt-of-le-of-lt, le-of-suc-le-suc, lt-of-not-le, not-le-of-lt}
+use native.Mathlib.Nat.{le-of-eq, le-trans, lt-of-lt-of-le, lt-of-le-of-lt, le-of-suc-le-suc, lt-of-not-le, not-le-of-lt}
 use native.Mathlib.Nat.{add-div-right, div-div-eq-div-mul, div-lt-iff-lt-mul, zero-div, div-add-mod', mod-lt, le-antisymm}
 use native.Mathlib.Omega.{arith}
 use borrow.Author.Tests.{ltb-true, lt-ltb}
 use lib.Dec.{T, ltb, leb, eqb, lt→ltb, ltb→lt, nltb→le, leb→le, eqb→eq, lit≤}
-use lib.Pow.{pow-add, pow-pos, pow-mono, pow-lt, shl-lt}
+use lib.Pow.{pow-add, pow-pos, pow-lt}
 use lib.IntN.{ℤ, pos, negsuc}
 use lib.Ieee.{Float, nan, inf, fin, binary64, add, sum, round, lt, fits, up, down, low, toUnsigned}
 use lib.Ieee.Exact.{HasValue, round-exact}
 use lib.Ieee.Fits.{up-pos, down-pos, and-l, and-r}
 use lib.Ieee.Nearest.{div-same}
-use Rattle.paper.proofs.Logic.{both, and-true, same-test}
+use lib.Ieee.Scale.{round-same}
 use Rattle.targets.specs.Figures.{zeroF}
 use Rattle.targets.specs.Passes.{rounded, within, NearestWhole}
 
@@ -36,24 +36,14 @@ unfolding lt within
 guard-test nan = refl
 guard-test (inf true) = refl
 guard-test (inf false) = refl
-guard-test (fin true m e) = go (m * up e) (1099511627776 * down e) (omega (arith, down-pos e))
-  where
-    go : (x d : ℕ) → 0 < d → ltb (x * 1) d && ltb 0 (x * 1 + d) ≡ ltb x d
-    go x d D =
-        same-test (ltb (x * 1) d && ltb 0 (x * 1 + d)) (ltb x d)
-        (λ t. let h = ltb-true (x * 1) d (both (ltb (x * 1) d) (ltb 0 (x * 1 + d)) t .0) in lt-ltb x d (omega arith))
-        (λ t.
-        let h = ltb-true x d t in
-        and-true (ltb (x * 1) d) (ltb 0 (x * 1 + d)) (lt-ltb (x * 1) d (omega arith)) (lt-ltb 0 (x * 1 + d) (omega arith)))
-guard-test (fin false m e) = go (m * up e) (1099511627776 * down e) (omega (arith, down-pos e))
-  where
-    go : (x d : ℕ) → 0 < d → ltb 0 (d + x * 1) && ltb (x * 1) d ≡ ltb x d
-    go x d D =
-        same-test (ltb 0 (d + x * 1) && ltb (x * 1) d) (ltb x d)
-        (λ t. let h = ltb-true (x * 1) d (both (ltb 0 (d + x * 1)) (ltb (x * 1) d) t .1) in lt-ltb x d (omega arith))
-        (λ t.
-        let h = ltb-true x d t in
-        and-true (ltb 0 (d + x * 1)) (ltb (x * 1) d) (lt-ltb 0 (d + x * 1) (omega arith)) (lt-ltb (x * 1) d (omega arith)))
+guard-test (fin true m e) =
+    let x = m * up e in
+    let d = 1099511627776 * down e in
+    rw (mul-one x, lt-ltb 0 (x + d) (omega (arith, down-pos e))) (and-true (ltb x d))
+guard-test (fin false m e) =
+    let x = m * up e in
+    let d = 1099511627776 * down e in
+    rw (mul-one x, lt-ltb 0 (d + x) (omega (arith, down-pos e)))
 
 -- ---- the nearest whole number: `rounded` is one, and there is only one
 
@@ -95,14 +85,13 @@ halves x d D = ap (λ (z : ℕ). z / 2) (sym (add-div-right (x * 2) D)) ∙ div-
 capped : (x y : ℕ) → x ≡ y → y < 2199023255552 → min x 18446744073709551615 ≡ y
 capped x y q l = omega arith
 
+-- x / d is a / c, and a is 0
+pub no-part : (x c a d : ℕ) → 0 < c → x * c ≡ a * d → a ≡ 0 → x ≡ 0
+no-part x c a d C h z = eq-of-mul-eq-mul-right c C x 0 (h ∙ ap (λ (k : ℕ). k * d) z ∙ zero-mul d ∙ sym (zero-mul c))
+
 -- ---- what has the value a / c, below 2 ^ 41 and not below zero
 
 module _ (s : Bool) (a c : ℕ) (C : 0 < c) (small : a < 2199023255552 * c) (sign : s ≡ true → a ≡ 0) where
-  zero-of : (m : ℕ) (e : ℤ) → m * up e * c ≡ a * down e → s ≡ true → m * up e ≡ 0
-  zero-of m e h t =
-      eq-of-mul-eq-mul-right c C (m * up e) 0
-      (h ∙ ap (λ (z : ℕ). z * down e) (sign t) ∙ zero-mul (down e) ∙ sym (zero-mul c))
-
   bound : (m : ℕ) (e : ℤ) → m * up e * c ≡ a * down e → m * up e < 2199023255552 * down e
   bound m e h =
       lt-of-mul-lt-mul-right c
@@ -114,7 +103,7 @@ module _ (s : Bool) (a c : ℕ) (C : 0 < c) (small : a < 2199023255552 * c) (sig
   above nan v = absurd v
   above (inf t) v = absurd v
   above (fin true m e) v =
-      lt→ltb (m * up e * 1) (1 * down e) (omega (arith, zero-of m e (v .1) (sym (v .0)), down-pos e))
+      lt→ltb (m * up e * 1) (1 * down e) (omega (arith, no-part (m * up e) c a (down e) C (v .1) (sign (sym (v .0))), down-pos e))
   above (fin false m e) v = lt→ltb 0 (1 * down e + m * up e * 1) (omega (arith, down-pos e))
 
   below : (y : Float) → HasValue y s a c → T (lt y (fin false 1 (pos 64)))
@@ -134,79 +123,70 @@ module _ (s : Bool) (a c : ℕ) (C : 0 < c) (small : a < 2199023255552 * c) (sig
       let l : a / c < 2199023255552 = div-lt-iff-lt-mul C .1 small in
       capped (m * up e / down e) (a / c) q l
 
--- ---- x + x is exact
+-- ---- what fits, and twice it, is exact
 
-twice : (x : ℕ) → x + x ≡ x * 2
-twice x = omega arith
-
-double-up : (m k l : ℕ) → (m * 2 ^ k * 1 + m * 2 ^ k * 1) * 2 ^ l ≡ m * 2 ^ (suc k + l) * (1 * 1)
-double-up m k l = rw twice (simp (mul-one, pow-add, pow-suc, mul-assoc))
-
-double-by : (m k t : ℕ) → (m * 1 * 2 ^ suc k + m * 1 * 2 ^ suc k) * 2 ^ (k + t) ≡ m * 2 ^ t * (2 ^ suc k * 2 ^ suc k)
-double-by m k t = rw twice (simp (mul-one, pow-add, pow-suc, mul-assoc, mul-comm, mul-left-comm))
-
-double-down : (m k l : ℕ) → k ≤ l
-    → (m * 1 * 2 ^ suc k + m * 1 * 2 ^ suc k) * 2 ^ l ≡ m * 2 ^ (l - k) * (2 ^ suc k * 2 ^ suc k)
-double-down m k l h =
-    let e : k + (l - k) ≡ l = omega arith in
-    subst (λ (z : ℕ). (m * 1 * 2 ^ suc k + m * 1 * 2 ^ suc k) * 2 ^ z ≡ m * 2 ^ (l - k) * (2 ^ suc k * 2 ^ suc k)) e
-    (double-by m k (l - k))
-
--- from (a + a) / (d * d), with a = x * d, to 2x / d
-over-den : (y : Float) (s : Bool) (x d : ℕ) → 0 < d → HasValue y s (x * d + x * d) (d * d) → HasValue y s (x * 2) d
-over-den nan s x d D v = v
-over-den (inf t) s x d D v = v
-over-den (fin t m e) s x d D v = (
-  v .0,
-  eq-of-mul-eq-mul-right d D (m * up e * d) (x * 2 * down e)
-      (mul-assoc (m * up e) d d ∙ v .1 ∙ rw twice (simp (mul-assoc, mul-comm, mul-left-comm))),
-)
-
--- what fits: m has at most 53 digits, and the exponent is -1074 at least
 one-apart : (a b : ℕ) → 0 < a → a * b ≡ 1 → b ≤ 1
 one-apart a b A h = le-trans (le-of-eq (sym (one-mul b))) (le-trans (mul-le-mul-right b A) (le-of-eq h))
 
-pub digits : (s : Bool) (m : ℕ) (e : ℤ) → T (fits binary64 (fin s m e)) → m < 2 ^ 53
-unfolding fits
-digits s zero e f = pow-pos 53
-digits s (suc m) e f =
-    let o = eqb (suc m % 2) 1 in
-    let p = ltb (suc m) (2 ^ 53) in
-    let q = leb (down e) (2 ^ 1074) in
-    let r = ltb (suc m * up e) (2 ^ 1024 * down e) in
-    ltb→lt (suc m) (2 ^ 53) (and-r o p (and-l (o && p) q (and-l (o && p && q) r f)))
+-- what fits: m has at most 53 digits, the exponent is -1074 at least, and the size is below 2 ^ 1024
+pub record Fitting (m : ℕ) (e : ℤ) : Type 0 where
+  pub digits : m < 2 ^ 53
+  pub reach : down e ≤ 2 ^ 1074
+  pub top : m * up e < 2 ^ 1024 * down e
 
-pub reach : (s : Bool) (m : ℕ) (e : ℤ) → T (fits binary64 (fin s m e)) → down e ≤ 2 ^ 1074
+pub fits-says : (s : Bool) (m : ℕ) (e : ℤ) → T (fits binary64 (fin s m e)) → Fitting m e
 unfolding fits
-reach s zero e f = le-trans (one-apart (up e) (down e) (up-pos e) (eqb→eq (up e * down e) 1 f)) (pow-pos 1074)
-reach s (suc m) e f =
+fits-says s zero e f = record {
+  digits = pow-pos 53;
+  reach = le-trans (one-apart (up e) (down e) (up-pos e) (eqb→eq (up e * down e) 1 f)) (pow-pos 1074);
+  top = lt-of-le-of-lt (le-of-eq (zero-mul (up e))) (mul-pos (pow-pos 1024) (down-pos e));
+}
+fits-says s (suc m) e f =
     let o = eqb (suc m % 2) 1 in
     let p = ltb (suc m) (2 ^ 53) in
     let q = leb (down e) (2 ^ 1074) in
     let r = ltb (suc m * up e) (2 ^ 1024 * down e) in
-    leb→le (down e) (2 ^ 1074) (and-r (o && p) q (and-l (o && p && q) r f))
+    let x = and-l (o && p && q) r f in
+    record {
+      digits = ltb→lt (suc m) (2 ^ 53) (and-r o p (and-l (o && p) q x));
+      reach = leb→le (down e) (2 ^ 1074) (and-r (o && p) q x);
+      top = ltb→lt (suc m * up e) (2 ^ 1024 * down e) (and-r (o && p && q) r f);
+    }
 
 pub exponent : (k l : ℕ) → 2 ^ suc k ≤ 2 ^ l → k < l
 exponent k l h = le-of-suc-le-suc (lt-of-not-le (λ (g : suc l ≤ suc k). not-le-of-lt (pow-lt g) h))
 
-shift : (m k l : ℕ) → m * 2 ^ (suc k + l) ≡ m * 2 ^ k * 2 ^ suc l
-shift m k l = simp (pow-add, pow-suc, mul-assoc, mul-comm, mul-left-comm)
+-- m / 2 ^ (k + 1), in parts of 2 ^ -l
+pub parts-down : (m k l : ℕ) → k < l → m * 1 * 2 ^ l ≡ m * 2 ^ (l - suc k) * 2 ^ suc k
+parts-down m k l h =
+    let e : suc k + (l - suc k) ≡ l = omega arith in
+    subst (λ (z : ℕ). m * 1 * 2 ^ z ≡ m * 2 ^ (l - suc k) * 2 ^ suc k) e (by-parts m k (l - suc k))
+  where
+    by-parts : (m k t : ℕ) → m * 1 * 2 ^ (suc k + t) ≡ m * 2 ^ t * 2 ^ suc k
+    by-parts m k t = simp (mul-one, pow-add, mul-assoc, mul-comm)
 
-exact : (s : Bool) (m : ℕ) (e : ℤ) → m < 2 ^ 53 → down e ≤ 2 ^ 1074 → m * up e < 1099511627776 * down e
-    → HasValue (round binary64 s (m * up e * down e + m * up e * down e) (down e * down e)) s
-    (m * up e * down e + m * up e * down e) (down e * down e)
-exact s m (pos k) d r h =
-    round-exact binary64 s (m * 2 ^ k * 1 + m * 2 ^ k * 1) (1 * 1) m (suc k + 1074) (pow-pos 0) d
-    (lt-of-le-of-lt (le-of-eq (shift m k 1074))
-    (lt-of-lt-of-le (shl-lt 40 (suc 1074) h) (pow-mono {i = 40 + 1075} {j = 1074 + 1024} (lit≤ tt))))
-    (double-up m k 1074)
-exact s m (negsuc k) d r h =
-    let K : k < 1074 = exponent k 1074 r in
-    let J : 53 + (1074 - k) ≤ 1074 + 1024 = omega arith in
-    round-exact binary64 s (m * 1 * 2 ^ suc k + m * 1 * 2 ^ suc k) (2 ^ suc k * 2 ^ suc k) m (1074 - k)
-    (mul-pos (pow-pos (suc k)) (pow-pos (suc k))) d
-    (lt-of-lt-of-le (shl-lt 53 (1074 - k) d) (pow-mono J))
-    (double-down m k 1074 (le-of-lt K))
+-- a / c is t parts of 2 ^ -1074, and below 2 ^ 1024
+below-top : (a c t : ℕ) → a * 2 ^ 1074 ≡ t * c → a < 2 ^ 1024 * c → t < 2 ^ (1074 + 1024)
+below-top a c t q h =
+    lt-of-mul-lt-mul-right c
+    (lt-of-le-of-lt (le-of-eq (sym q))
+    (lt-of-lt-of-le (mul-lt-mul-of-pos-right h (pow-pos 1074))
+    (le-of-eq
+    (mul-right-comm (2 ^ 1024) c (2 ^ 1074) ∙ ap (λ (z : ℕ). z * c) (mul-comm (2 ^ 1024) (2 ^ 1074) ∙ sym (pow-add 2 1074 1024))))))
+
+-- x is m * 2 ^ j at the exponent e
+pub exact : (s : Bool) (m : ℕ) (e : ℤ) (j x : ℕ) → x ≡ m * up e * 2 ^ j → m < 2 ^ 53 → down e ≤ 2 ^ 1074 → x < 2 ^ 1024 * down e
+    → HasValue (round binary64 s x (down e)) s x (down e)
+exact s m (pos k) j x X d r h =
+    let q : x * 2 ^ 1074 ≡ m * 2 ^ (k + j + 1074) * 1 = ap (λ (z : ℕ). z * 2 ^ 1074) X ∙ simp (mul-one, pow-add, mul-assoc) in
+    round-exact binary64 s x 1 m (k + j + 1074) (pow-pos 0) d (below-top x 1 (m * 2 ^ (k + j + 1074)) q h) q
+exact s m (negsuc k) j x X d r h =
+    let l = 1074 - suc k in
+    let q : x * 2 ^ 1074 ≡ m * 2 ^ (j + l) * 2 ^ suc k
+    = ap (λ (z : ℕ). z * 2 ^ 1074) (X ∙ mul-right-comm m 1 (2 ^ j))
+    ∙ parts-down (m * 2 ^ j) k 1074 (exponent k 1074 r)
+    ∙ ap (λ (z : ℕ). z * 2 ^ suc k) (mul-assoc m (2 ^ j) (2 ^ l) ∙ ap (λ (z : ℕ). m * z) (sym (pow-add 2 j l))) in
+    round-exact binary64 s x (2 ^ suc k) m (j + l) (pow-pos (suc k)) d (below-top x (2 ^ suc k) (m * 2 ^ (j + l)) q h) q
 
 same-sign : (s : Bool) (a c : ℕ) → sum binary64 s a s a c ≡ round binary64 s (a + a) c
 unfolding sum
@@ -219,9 +199,19 @@ unfolding add
 doubled s m e f h =
     let x = m * up e in
     let d = down e in
-    over-den (add binary64 (fin s m e) (fin s m e)) s x d (down-pos e)
-    (subst (λ (z : Float). HasValue z s (x * d + x * d) (d * d)) (sym (same-sign s (x * d) (d * d)))
-    (exact s m e (digits s m e f) (reach s m e f) h))
+    let o = fits-says s m e f in
+    let q : round binary64 s (x * d + x * d) (d * d) ≡ round binary64 s (x * 2) d
+    = round-same binary64 s (x * d + x * d) (d * d) (x * 2) d (mul-pos (down-pos e) (down-pos e)) (down-pos e) (twice x d) in
+    let l : x * 2 < 2199023255552 * d = omega (arith, h) in
+    subst (λ (z : Float). HasValue z s (x * 2) d) (sym (same-sign s (x * d) (d * d) ∙ q))
+    (exact s m e 1 (x * 2) refl (o .digits) (o .reach)
+    (lt-of-lt-of-le l (mul-le-mul-right d (lit≤ {m = 2199023255552} {n = 2 ^ 1024} tt))))
+  where
+    twice : (x d : ℕ) → (x * d + x * d) * d ≡ x * 2 * (d * d)
+    twice x d = ap (λ (z : ℕ). z * d) (sym (mul-two x d)) ∙ mul-assoc (x * 2) d d
+      where
+        mul-two : (x d : ℕ) → x * 2 * d ≡ x * d + x * d
+        mul-two x d = mul-right-comm x 2 d ∙ omega arith
 
 -- ---- of an x that fits, is not below zero and is in the guard: what the cast asks, and what half of its result plus one is
 

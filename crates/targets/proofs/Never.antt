@@ -1,8 +1,8 @@
 -- Refusal 8 is never given: for people whose figures pass, with a demand and minutes of at most 100,000,000, there are targets.
 -- Assumes nothing.
 use mathlib.Core.Path.{_≡_, refl, sym, ap, _∙_}
-use mathlib.Core.Bool.{Bool, true, false, cond, true≢false}
-use mathlib.Core.List.{List, [], _∷_, map}
+use mathlib.Core.Bool.{Bool, true, false, true≢false}
+use mathlib.Core.List.{List, map}
 use Prim.Native.Nat.{ℕ, zero, suc, _*_, _^_, _≤_, _<_, zero-le}
 use native.Mathlib.Nat.{mul-one, zero-mul, mul-mul-mul-comm, mul-pos, mul-le-mul-right, mul-le-mul-left}
 use native.Mathlib.Nat.{le-trans, le-of-eq, zero-lt-suc}
@@ -11,19 +11,20 @@ use borrow.Author.Tests.{leb-true}
 use lib.Dec.{T, leb, eqb, eqb→eq, lit≤}
 use lib.IntN.{ℤ, pos}
 use lib.ListN.{length, length-map}
-use lib.Ieee.{Float, nan, inf, fin, binary64, mul, lt, le, fits, up, down, round, ofInt, unlike}
+use lib.Ieee.{Float, nan, inf, fin, binary64, mul, le, fits, up, down, round, ofInt, unlike}
 use lib.Ieee.Exact.{HasValue}
 use lib.Ieee.Fits.{up-pos, down-pos, and-l, round-fits}
 use Rattle.targets.specs.declared.Line.{Line}
 use Rattle.targets.specs.declared.Person.{Person}
 use Rattle.targets.specs.Figures.{zeroF, whole, lineOf, figuresOk}
-use Rattle.targets.specs.Passes.{rounded, settled, settle, unrounded, outside, falls, some, shareSum, notional}
-use Rattle.targets.specs.Passes.{Passed, again, done, refused, passed, pass, passes, passesLeave}
+use Rattle.targets.specs.Passes.{settled, settle, unrounded, shareSum, notional, Passed, again, done, refused, passed, passesLeave}
 use Rattle.targets.specs.Remainder.{are, closed, targets, adjusted}
 use Rattle.paper.proofs.Logic.{three}
 use Rattle.targets.proofs.Nearest.{held}
 use Rattle.targets.proofs.Floats.{Most, Plain, Share, round-most, round-plain, le-cross}
-use Rattle.targets.proofs.Guard.{Good, Goods, whole-val, never-outside}
+use Rattle.targets.proofs.Guard.{shareMost, Good, Goods, whole-val, never-outside}
+use Rattle.targets.proofs.Each.{each-map}
+use Rattle.targets.proofs.Cases.{by-settled, by-passed, passes-keep}
 
 -- ---- a person's line
 
@@ -64,7 +65,7 @@ share-zero (fin s m e) f h = (f, λ q. no-size m e h)
 
 pub record Raw (x : Float) : Type 0 where
   pub share : Share x
-  pub small : Most x 137438953472 1
+  pub small : Most x shareMost 1
 
 -- capacity times minutes
 times : (s : Bool) (m : ℕ) (e : ℤ) (t : Bool) (n : ℕ) (d : ℤ) (b : ℕ) → b ≤ 100000000 → Cap (fin s m e)
@@ -82,26 +83,26 @@ times s m e false n d b B c v = go s (c .1)
     p : 0 < C
     p = mul-pos (down-pos e) (down-pos d)
 
-    bound : A ≤ 137438953472 * C
+    bound : A ≤ shareMost * C
     bound =
         le-trans (mul-le-mul-right (n * up d) (le-trans (le-of-eq (sym (mul-one (m * up e)))) (c .0)))
         (le-trans (mul-le-mul-left (1000 * down e) (le-trans (le-of-eq (sym (mul-one (n * up d)) ∙ v .1)) (mul-le-mul-right (down d) B)))
         (le-trans (le-of-eq (mul-mul-mul-comm 1000 (down e) 100000000 (down d)))
-        (mul-le-mul-right C (lit≤ {m = 100000000000} {n = 137438953472} tt))))
+        (mul-le-mul-right C (lit≤ {m = 100000000000} {n = shareMost} tt))))
 
-    w : 137438953472 ≤ 2 ^ 53
-    w = lit≤ {m = 137438953472} {n = 2 ^ 53} tt
+    w : shareMost ≤ 2 ^ 53
+    w = lit≤ {m = shareMost} {n = 2 ^ 53} tt
 
     go : (s : Bool) → (s ≡ true → m * up e ≡ 0) → Raw (round binary64 (unlike s false) A C)
     go false z =
         let x = round binary64 false A C in
-        let r = round-most false A C 137438953472 p w bound in
-        record { share = share-plain x 137438953472 (round-fits binary64 false A C) (round-plain binary64 A C) r; small = r }
+        let r = round-most false A C shareMost p w bound in
+        record { share = share-plain x shareMost (round-fits binary64 false A C) (round-plain binary64 A C) r; small = r }
     go true z = record {
       share = share-zero (round binary64 true A C) (round-fits binary64 true A C)
           (round-most true A C 0 p zero-le
           (le-of-eq (ap (λ (k : ℕ). k * (n * up d)) (z refl) ∙ zero-mul (n * up d) ∙ sym (zero-mul C))));
-      small = round-most true A C 137438953472 p w bound;
+      small = round-most true A C shareMost p w bound;
     }
 
 raw-of : (x y : Float) (b : ℕ) → b ≤ 100000000 → Cap x → HasValue y false b 1 → Raw (mul binary64 x y)
@@ -116,27 +117,16 @@ unfolding figuresOk
 good-line p b f B =
     let c = p .capacity in
     let h = three (le zeroF c) (le c (whole 1000)) (leb (p .prior) 100000000) f in
-    let v = whole-val b (le-trans B (lit≤ {m = 100000000} {n = 2 ^ 53} tt)) in
+    let v = whole-val b (omega arith) in
     let r = raw-of c (whole b) b B (cap-of c (held (h .0)) (held (h .1))) v in
     record { share = r .share; small = r .small; prior = leb-true (p .prior) 100000000 (h .2) }
 
 -- ---- the passes
 
 settled-good : (x : Float) (l : Line) → Good l → Good (settled x l)
-unfolding settled
-settled-good x l g = go (l .pinned) (lt x zeroF)
-  where
-    go : (p z : Bool)
-        → Good (cond p l
-        (cond z (record { person = l .person; raw = l .raw; target = 0; pinned = true })
-        (record { person = l .person; raw = l .raw; target = rounded x; pinned = false })))
-    go true z = g
-    go false true = record { share = g .share; small = g .small; prior = g .prior }
-    go false false = record { share = g .share; small = g .small; prior = g .prior }
-
-goods-map : (n s : Float) (ls : List Line) → Goods ls → Goods (map (settle n s) ls)
-goods-map n s [] g = tt
-goods-map n s (l ∷ ls) g = (settled-good (unrounded n s l) l (g .0), goods-map n s ls (g .1))
+settled-good x l g =
+    by-settled x l Good (λ p. g) (λ p z. record { share = g .share; small = g .small; prior = g .prior })
+    (λ p z. record { share = g .share; small = g .small; prior = g .prior })
 
 -- at most 32 people, whose figures pass
 abbrev pub Fine : Passed → Type 0
@@ -144,37 +134,31 @@ Fine (again ls) = (length ls ≤ 32) × Goods ls
 Fine (done ls) = (length ls ≤ 32) × Goods ls
 Fine refused = ⊥
 
-fine-passed : (n s : Float) (ls : List Line) → (lt zeroF s ≡ true → some (outside n s) ls ≡ false) → Fine (again ls) → Fine (passed n s ls)
-fine-passed n s ls o h = go (lt zeroF s) (some (outside n s) ls) (some (falls n s) ls) o
+-- a pass over such people is not refused, and leaves such people
+pub fine-passed : (demand : ℕ) (ls : List Line) → demand ≤ 100000000 → Fine (again ls)
+    → Fine (passed (whole (notional demand ls)) (shareSum ls) ls)
+fine-passed demand ls D h =
+    by-passed n sum ls Fine (λ a. h) (λ a b. absurd (true≢false (sym b ∙ never-outside demand ls D (h .0) (h .1) a)))
+    (λ a b c. new) (λ a b c. new)
   where
-    new : List Line
-    new = map (settle n s) ls
+    n : Float
+    n = whole (notional demand ls)
 
-    fine : Fine (again new)
-    fine = (le-trans (le-of-eq (length-map ls (settle n s))) (h .0), goods-map n s ls (h .1))
+    sum : Float
+    sum = shareSum ls
 
-    go : (a b c : Bool) → (a ≡ true → b ≡ false) → Fine (cond a (cond b refused (cond c (again new) (done new))) (done ls))
-    go false b c q = h
-    go true true c q = absurd (true≢false (q refl))
-    go true false true q = fine
-    go true false false q = fine
+    new : Fine (again (map (settle n sum) ls))
+    new = (
+      le-trans (le-of-eq (length-map ls (settle n sum))) (h .0),
+      each-map Good Good (settle n sum) (λ l g. settled-good (unrounded n sum l) l g) ls (h .1),
+    )
 
-pub fine-pass : (d : ℕ) → d ≤ 100000000 → (p : Passed) → Fine p → Fine (pass d p)
-unfolding pass
-fine-pass d D (again ls) h = fine-passed (whole (notional d ls)) (shareSum ls) ls (never-outside d ls D (h .0) (h .1)) h
-fine-pass d D (done ls) h = h
-fine-pass d D refused h = h
-
-fine-passes : (k d : ℕ) → d ≤ 100000000 → (p : Passed) → Fine p → Fine (passes k d p)
-unfolding passes
-fine-passes zero d D p h = h
-fine-passes (suc k) d D p h = fine-passes k d D (pass d p) (fine-pass d D p h)
-
-given : (d : ℕ) (p : Passed) → Fine p → (zs : List ℤ) × (closed (adjusted d) p ≡ are zs)
-given d (again ls) h = (adjusted d ls, refl)
-given d (done ls) h = (adjusted d ls, refl)
-given d refused h = absurd h
+not-beyond : (d : ℕ) (p : Passed) → Fine p → (zs : List ℤ) × (closed (adjusted d) p ≡ are zs)
+not-beyond d (again ls) h = (adjusted d ls, refl)
+not-beyond d (done ls) h = (adjusted d ls, refl)
+not-beyond d refused h = absurd h
 
 -- there are targets, for any such people
 pub never-refused : (d : ℕ) (ls : List Line) → d ≤ 100000000 → length ls ≤ 32 → Goods ls → (zs : List ℤ) × (targets d ls ≡ are zs)
-never-refused d ls D L g = given d (passesLeave d ls) (fine-passes (suc (length ls)) d D (again ls) (L, g))
+never-refused d ls D L g =
+    not-beyond d (passesLeave d ls) (passes-keep Fine d (λ ms. fine-passed d ms D) (suc (length ls)) (again ls) (L, g))

@@ -20,6 +20,7 @@ use Rattle.targets.specs.Remainder.{withTarget, totalOf, better, best, t
 use Rattle.targets.specs.Remainder.{Targets, beyond, are, closed, targets}
 use Rattle.targets.specs.Code.{answerOf}
 use Rattle.targets.proofs.Loops.{differ}
+use Rattle.targets.proofs.Cases.{OfLines, lines-keep}
 use Rattle.targets.proofs.Taker.{taker-here}
 
 -- ---- folds, searches and maps
@@ -117,32 +118,10 @@ adjusted-padded m d ls h =
 -- ---- the passes keep the people
 
 abbrev pub Len : ℕ → Passed → Type 0
-Len n (again ls) = length ls ≡ n
-Len n (done ls) = length ls ≡ n
-Len n refused = Unit
+Len n = OfLines (λ (ls : List Line). length ls ≡ n)
 
-len-passed : (k : ℕ) (n s : Float) (ls : List Line) → length ls ≡ k → Len k (passed n s ls)
-len-passed k n s ls h = go (lt zeroF s) (some (outside n s) ls) (some (falls n s) ls)
-  where
-    new : List Line
-    new = map (settle n s) ls
-
-    go : (a b c : Bool) → Len k (cond a (cond b refused (cond c (again new) (done new))) (done ls))
-    go false b c = h
-    go true true c = tt
-    go true false true = length-map ls (settle n s) ∙ h
-    go true false false = length-map ls (settle n s) ∙ h
-
-len-pass : (n d : ℕ) (p : Passed) → Len n p → Len n (pass d p)
-unfolding pass
-len-pass n d (again ls) h = len-passed n (whole (notional d ls)) (shareSum ls) ls h
-len-pass n d (done ls) h = h
-len-pass n d refused h = tt
-
-pub len-passes : (n k d : ℕ) (p : Passed) → Len n p → Len n (passes k d p)
-unfolding passes
-len-passes n zero d p h = h
-len-passes n (suc k) d p h = len-passes n k d (pass d p) (len-pass n d p h)
+pub len-passes : (n k demand : ℕ) (p : Passed) → Len n p → Len n (passes k demand p)
+len-passes n = lines-keep (λ (ls : List Line). length ls ≡ n) (λ a sum ls o h. length-map ls (settle a sum) ∙ h)
 
 -- ---- as many targets as people
 
@@ -150,7 +129,7 @@ abbrev pub LenT : ℕ → Targets → Type 0
 LenT n beyond = Unit
 LenT n (are zs) = length zs ≡ n
 
-adjusted-length : (d : ℕ) (ls : List Line) → length (adjusted d ls) ≡ length ls
+pub adjusted-length : (d : ℕ) (ls : List Line) → length (adjusted d ls) ≡ length ls
 unfolding adjusted
 adjusted-length d ls = simp (length-set, length-map)
 

@@ -1,30 +1,30 @@
 -- What the outcome of `compute_targets` promises. Assumes nothing.
 use mathlib.Core.Path.{_≡_, refl, sym, ap, _∙_, subst}
-use mathlib.Core.Bool.{Bool, true, false, cond}
 use mathlib.Core.List.{List, _++_, map}
 use mathlib.Core.Logic.{_↔_, _≢_}
-use Prim.Native.Nat.{ℕ, suc, _≤_, _<_}
+use Prim.Native.Nat.{ℕ, _≤_, _<_}
 use native.Mathlib.Omega.{arith}
 use borrow.Author.Tests.{eq-eqb, ne-eqb, eqb-true, eqb-false}
 use lib.Dec.{eqb}
 use lib.IntN.{ℤ, pos}
 use lib.ListN.{length, getD, take, drop, List·getD-map, List·getD-append}
 use lib.Seq.{take-at, drop-at, getD-set-other}
-use Rattle.paper.proofs.Logic.{by-test, one-outcome}
+use Rattle.paper.proofs.Logic.{by-test, by-cond, one-outcome}
 use Rattle.paper.proofs.Count.{all-each}
 use Rattle.slots.proofs.LentLaws.{slots-sound}
 use Rattle.targets.specs.declared.Line.{Line}
-use Rattle.targets.specs.Figures.{pad, allFiguresOk, figuresOkAt, personAt, lineOf}
+use Rattle.targets.specs.Figures.{pad, allFiguresOk, figuresOkAt, personAt}
 use Rattle.targets.specs.Available.{availableMinutes}
 use Rattle.targets.specs.Passes.{Passed, again, done, refused, passesLeave, Beyond}
 use Rattle.targets.specs.Remainder.{targetOf, adjusted, Targets, beyond, are, closed, takerOf, Takes, sumℤ}
-use Rattle.targets.specs.Outcome.{Given, checkNo, demandIn, baseAt, linesIn, targetsIn, Outcome, published, computeTargets}
+use Rattle.targets.specs.Outcome.{Given, checkNo, demandIn, baseAt, lineIn, linesIn, targetsIn, Outcome, published, computeTargets}
 use Rattle.targets.specs.Outcome.{Meets, linesLeft, leftIn, takerIn}
 use Rattle.targets.specs.Code.{Sound}
-use Rattle.targets.proofs.Loops.{differ, each-upTo, length-upTo}
+use Rattle.targets.proofs.Loops.{differ, length-upTo}
+use Rattle.targets.proofs.Each.{each-upTo}
 use Rattle.targets.proofs.Taker.{taker-takes}
 use Rattle.targets.proofs.Sums.{adds-up}
-use Rattle.targets.proofs.Padding.{Len, len-passes, LenT, len-targets}
+use Rattle.targets.proofs.Padding.{LenT, adjusted-length, len-targets}
 use Rattle.targets.proofs.Eight.{eight-exactly}
 use Rattle.targets.proofs.Ends.{passes-end}
 use Rattle.targets.proofs.Guard.{Good, Goods}
@@ -58,23 +58,19 @@ pub demand-fits : (g : Given) → Sound g → demandIn g ≤ 100000000
 demand-fits g s = slots-sound (g .slots) (g .starts) (g .ends) (s .ordered) .demand-fits
 
 pub people-in : (g : Given) → length (linesIn g) ≡ g .people
-people-in g = length-upTo (λ (k : ℕ). lineOf (personAt (g .capacities) (g .priors) k) (baseAt g k)) (g .people)
+people-in g = length-upTo (lineIn g) (g .people)
 
 base-fits : (g : Given) → Sound g → (k : ℕ) → baseAt g k ≤ 100000000
 base-fits g s k =
-    go (eqb (g .fairness) 1) (demandIn g) (availableMinutes (g .slots) (g .starts) (g .ends) (g .avail) k) (demand-fits g s)
-    (available-fits (g .slots) (g .starts) (g .ends) (g .avail) k (s .ordered))
-  where
-    go : (b : Bool) (x y : ℕ) → x ≤ 100000000 → y ≤ 100000000 → cond b x y ≤ 100000000
-    go true x y h k = h
-    go false x y h k = k
+    by-cond (eqb (g .fairness) 1) (demandIn g) (availableMinutes (g .slots) (g .starts) (g .ends) (g .avail) k) (λ (m : ℕ). m ≤ 100000000)
+    (λ t. demand-fits g s) (λ f. available-fits (g .slots) (g .starts) (g .ends) (g .avail) k (s .ordered))
 
 -- ---- refusal 8: exactly as the table says, and never on accepted figures
 
 pub goods-in : (g : Given) → Sound g → Goods (linesIn g)
 unfolding allFiguresOk
 goods-in g s =
-    each-upTo Good (λ (k : ℕ). lineOf (personAt (g .capacities) (g .priors) k) (baseAt g k)) (g .people)
+    each-upTo Good (lineIn g) (g .people)
     (λ k h. good-line (personAt (g .capacities) (g .priors) k) (baseAt g k)
     (all-each (g .people) (figuresOkAt (g .capacities) (g .priors)) (s .figures) k h) (base-fits g s k))
 
@@ -170,14 +166,16 @@ past-stays g out =
 
 -- ---- the targets add up to demand
 
-closed-sum : (d n : ℕ) (p : Passed) (zs : List ℤ) → 0 < n → Len n p → closed (adjusted d) p ≡ are zs → sumℤ zs ≡ pos d
-closed-sum d n (again ls) zs N h e =
-    let q : adjusted d ls ≡ zs = cc in
-    ap sumℤ (sym q) ∙ adds-up d ls (omega arith)
-closed-sum d n (done ls) zs N h e =
-    let q : adjusted d ls ≡ zs = cc in
-    ap sumℤ (sym q) ∙ adds-up d ls (omega arith)
-closed-sum d n refused zs N h e = let z : _≡_ {A = ℕ} 0 1 = cc in differ z
+-- where there are targets, they are the adjusted ones of the lines that the passes leave
+closed-is : (d : ℕ) (p : Passed) (zs : List ℤ) → closed (adjusted d) p ≡ are zs → adjusted d (linesLeft p) ≡ zs
+closed-is d (again ls) zs e = cc
+closed-is d (done ls) zs e = cc
+closed-is d refused zs e = let z : _≡_ {A = ℕ} 0 1 = cc in differ z
+
+closed-sum : (d : ℕ) (p : Passed) (zs : List ℤ) → 0 < length zs → closed (adjusted d) p ≡ are zs → sumℤ zs ≡ pos d
+closed-sum d p zs h e =
+    let q = closed-is d p zs e in
+    ap sumℤ (sym q) ∙ adds-up d (linesLeft p) (omega (arith, h, ap length q, adjusted-length d (linesLeft p)))
 
 pub targets-add-up : (g : Given) (out : List ℤ) → computeTargets g out .number ≡ 0
     → sumℤ (take (g .people) (computeTargets g out .out)) ≡ pos (demandIn g)
@@ -185,8 +183,7 @@ targets-add-up g out e =
     let s = accepted g (length out) (sym (number-is g out) ∙ e) .sound in
     let h = accepted-holds g out e in
     ap (λ (o : List ℤ). sumℤ (take (g .people) o)) (h .is) ∙ ap sumℤ (take-at (h .zs) (drop (g .people) out) (g .people) (h .count))
-    ∙ closed-sum (demandIn g) (g .people) (passesLeave (demandIn g) (linesIn g)) (h .zs) (s .somebody)
-    (len-passes (g .people) (suc (length (linesIn g))) (demandIn g) (again (linesIn g)) (people-in g)) (h .these)
+    ∙ closed-sum (demandIn g) (passesLeave (demandIn g) (linesIn g)) (h .zs) (omega (arith, s .somebody, h .count)) (h .these)
 
 -- ---- a target below 0 can only be the taker's
 
@@ -200,13 +197,7 @@ other d k ls n = getD-set-other (map targetOf ls) (takerOf ls) k _ (pos 0) n ∙
 
 others : (d k : ℕ) (p : Passed) (zs : List ℤ) → closed (adjusted d) p ≡ are zs → k ≢ takerOf (linesLeft p)
     → getD zs k (pos 0) ≡ pos (getD (linesLeft p) k pad .target)
-others d k (again ls) zs e n =
-    let q : adjusted d ls ≡ zs = cc in
-    ap (λ (x : List ℤ). getD x k (pos 0)) (sym q) ∙ other d k ls n
-others d k (done ls) zs e n =
-    let q : adjusted d ls ≡ zs = cc in
-    ap (λ (x : List ℤ). getD x k (pos 0)) (sym q) ∙ other d k ls n
-others d k refused zs e n = let z : _≡_ {A = ℕ} 0 1 = cc in differ z
+others d k p zs e n = ap (λ (x : List ℤ). getD x k (pos 0)) (sym (closed-is d p zs e)) ∙ other d k (linesLeft p) n
 
 pub others-not-below : (g : Given) (out : List ℤ) (k : ℕ) → computeTargets g out .number ≡ 0 → k < g .people → k ≢ takerIn g
     → getD (computeTargets g out .out) k (pos 0) ≡ pos (getD (leftIn g) k pad .target)

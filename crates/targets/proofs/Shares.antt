@@ -5,7 +5,7 @@ use mathlib.Core.Bool.{Bool, true, false, cond, true≢false}
 use mathlib.Core.List.{List, [], _∷_, foldl}
 use mathlib.Core.Logic.{⊎-elim}
 use Prim.Native.Nat.{ℕ, suc, _+_, _-_, _*_, _/_, _^_, _≤_, _<_}
-use native.Mathlib.Nat.{mul-one, zero-mul, mul-comm, mul-assoc, mul-left-comm, mul-right-comm, add-mul, mul-add, suc-mul}
+use native.Mathlib.Nat.{mul-one, mul-comm, mul-assoc, mul-left-comm, mul-right-comm, add-mul, mul-add, suc-mul}
 use native.Mathlib.Nat.{mul-pos, mul-le-mul-right, mul-le-mul-left, le-of-mul-le-mul-right, mul-div-cancel, div-one}
 use native.Mathlib.Nat.{le-refl, le-trans, le-of-eq, le-add-right, add-le-add, add-assoc, zero-add, add-zero, two-mul}
 use native.Mathlib.Nat.{eq-of-mul-eq-mul-right}
@@ -22,12 +22,14 @@ use Rattle.paper.proofs.Logic.{lt-or-ge}
 use Rattle.targets.specs.declared.Line.{Line}
 use Rattle.targets.specs.Figures.{zeroF, whole}
 use Rattle.targets.specs.Passes.{rounded, withShare, shareSum}
-use Rattle.targets.proofs.Nearest.{reach, exponent}
-use Rattle.targets.proofs.Floats.{Most, Plain, Share, Under, own-down}
+use Rattle.targets.proofs.Nearest.{no-part, fits-says, exponent, parts-down}
+use Rattle.targets.proofs.Floats.{Most, Plain, Share, Under}
 use Rattle.targets.proofs.Errors.{Units, Near, near, NearUnits, near-units, sum-units, product-units, quotient-units}
-use Rattle.targets.proofs.Errors.{less-units, rounded-units}
-use Rattle.targets.proofs.Guard.{Acc, Goods, AllUnder, with-one, summed, zero-acc, summed-all, positive, whole-val, steps}
+use Rattle.targets.proofs.Errors.{less-units, rounded-units, cross-left, cross-right}
+use Rattle.targets.proofs.Guard.{shareMost, notionalMost, Acc, Goods, AllUnder, with-one, summed, zero-acc, summed-all}
+use Rattle.targets.proofs.Guard.{positive, whole-val, Basis, steps}
 use Rattle.targets.proofs.Never.{share-plain}
+use Rattle.targets.proofs.Each.{sumLines}
 
 -- ---- a share, in units
 
@@ -44,7 +46,7 @@ share-units (fin s m (pos k)) h =
     sym (mul-one (n / 1) ∙ div-one n)
 share-units (fin s m (negsuc k)) h =
     let d = 2 ^ suc k in
-    let q = own-down m k 1074 (exponent k 1074 (reach s m (negsuc k) (h .0))) in
+    let q = parts-down m k 1074 (exponent k 1074 (fits-says s m (negsuc k) (h .0) .reach)) in
     let r = m * 2 ^ (1074 - suc k) in
     q ∙ ap (λ (z : ℕ). z * d) (sym (ap (λ (z : ℕ). z / d) q ∙ mul-div-cancel r (pow-pos (suc k))))
 
@@ -60,21 +62,17 @@ units-under nan y g h u p q = absurd u
 units-under (inf s) y g h u p q = absurd u
 units-under (fin s m e) nan g h u p q = absurd u
 units-under (fin s m e) (inf t) g h u p q = absurd u
-units-under (fin s m e) (fin t n d) g h u p q = go (m * up e) (n * up d) (down e) (down d) (2 ^ 1074) (down-pos e) (down-pos d) u p q
-  where
-    go : (x y e d v : ℕ) → 0 < e → 0 < d → x * d ≤ y * e → x * v ≡ g * e → y * v ≡ h * d → g ≤ h
-    go x y e d v P Q l p q =
-        let a : x * d * v ≡ g * (e * d) = mul-right-comm x d v ∙ ap (λ (z : ℕ). z * d) p ∙ mul-assoc g e d in
-        let b : y * e * v ≡ h * (e * d)
-        = mul-right-comm y e v ∙ ap (λ (z : ℕ). z * e) q ∙ mul-assoc h d e ∙ ap (λ (z : ℕ). h * z) (mul-comm d e) in
-        le-of-mul-le-mul-right (le-trans (le-of-eq (sym a)) (le-trans (mul-le-mul-right v l) (le-of-eq b))) (mul-pos P Q)
+units-under (fin s m e) (fin t n d) g h u p q =
+    le-of-mul-le-mul-right
+    (le-trans (le-of-eq (sym (cross-left (m * up e) (down e) (down d) (2 ^ 1074) g p)))
+    (le-trans (mul-le-mul-right (2 ^ 1074) u) (le-of-eq (cross-right (n * up d) (down e) (down d) (2 ^ 1074) h q))))
+    (mul-pos (down-pos e) (down-pos d))
 
 -- ---- the sum of the shares
 
 -- the shares of the unpinned, added up with no rounding
 abbrev pub sharesIn : List Line → ℕ
-sharesIn [] = 0
-sharesIn (l ∷ ls) = cond (l .pinned) 0 (unitsOf (l .raw)) + sharesIn ls
+sharesIn = sumLines (λ (l : Line). cond (l .pinned) 0 (unitsOf (l .raw)))
 
 -- g and h units are added: g' come out
 pub record Grown (x : Float) (g h : ℕ) : Type 0 where
@@ -134,7 +132,7 @@ shares-from [] k n x g S a u o e h v = none g S (2 ^ 52) (units-one x g S u v)
 shares-from (l ∷ ls) k n x g S a u o e h v =
     let K : suc k ≤ 64 = omega arith in
     let w = with-one (l .pinned) k x (l .raw) K a (o .0 .share) (o .0 .small) in
-    let t = grow (l .pinned) x (l .raw) g (suc k * 137438953472) (a .plain) u (o .0 .share) (w .acc .most) in
+    let t = grow (l .pinned) x (l .raw) g (suc k * shareMost) (a .plain) u (o .0 .share) (w .acc .most) in
     let r = summed ls (suc k) n (withShare x l) (w .acc) (o .1) (omega arith) h in
     let q = shares-from ls (suc k) n (withShare x l) (t .units) S (w .acc) (t .is) (o .1) (omega arith) h v in
     lost g (cond (l .pinned) 0 (unitsOf (l .raw))) (t .units) (sharesIn ls) (length ls) S (2 ^ 52) (t .loss)
@@ -143,7 +141,6 @@ shares-from (l ∷ ls) k n x g S a u o e h v =
 -- of people whose figures pass, all that is known of the sum of their shares
 pub record SumOf (ls : List Line) (s : Float) : Type 0 where
   pub plain : Plain s
-  pub most : Most s (length ls * 137438953472) 1
   pub all : AllUnder s ls
   pub is : Units s (unitsOf s)
   pub loss : sharesIn ls * 2 ^ 52 ≤ unitsOf s * 2 ^ 52 + 2 * (length ls * unitsOf s)
@@ -152,10 +149,9 @@ pub sum-of : (ls : List Line) → length ls ≤ 32 → Goods ls → SumOf ls (sh
 sum-of ls L g =
     let r = summed-all ls L g in
     let s = shareSum ls in
-    let u = share-units s (share-plain s (length ls * 137438953472) (r .acc .ok) (r .acc .plain) (r .acc .most)) in
+    let u = share-units s (share-plain s (length ls * shareMost) (r .acc .ok) (r .acc .plain) (r .acc .most)) in
     record {
       plain = r .acc .plain;
-      most = r .acc .most;
       all = r .all;
       is = u;
       loss = subst (λ (k : ℕ). k * 2 ^ 52 ≤ unitsOf s * 2 ^ 52 + 2 * (length ls * unitsOf s)) (zero-add (sharesIn ls))
@@ -238,11 +234,11 @@ roundedParts = (2 ^ 52 + 1) * (2 ^ 52 + 1) * (2 ^ 52 + 1)
 abbrev pub AtMost : (t p n R S : ℕ) → Type 0
 AtMost t p n R S = (t + p) * (S * exactParts) ≤ n * R * roundedParts + 2 * (S * exactParts)
 
-few-units : (n : ℕ) → n ≤ 4000000000
+few-units : (n : ℕ) → n ≤ notionalMost
     → n * ((2 ^ 52 + 1) * (2 ^ 52 + 1)) + (2 ^ 52 * (2 ^ 52 + 1) + 2 ^ 52 * 2 ^ 52) ≤ 2 ^ 1074 * (2 ^ 52 * 2 ^ 52)
 few-units n h =
     le-trans (add-le-add (mul-le-mul-right ((2 ^ 52 + 1) * (2 ^ 52 + 1)) h) (le-refl (2 ^ 52 * (2 ^ 52 + 1) + 2 ^ 52 * 2 ^ 52)))
-    (lit≤ {m = 4000000000 * ((2 ^ 52 + 1) * (2 ^ 52 + 1)) + (2 ^ 52 * (2 ^ 52 + 1) + 2 ^ 52 * 2 ^ 52)} {n = 2 ^ 1074 * (2 ^ 52 * 2 ^ 52)}
+    (lit≤ {m = notionalMost * ((2 ^ 52 + 1) * (2 ^ 52 + 1)) + (2 ^ 52 * (2 ^ 52 + 1) + 2 ^ 52 * 2 ^ 52)} {n = 2 ^ 1074 * (2 ^ 52 * 2 ^ 52)}
     tt)
 
 -- a sum above 0 has units, any other sum has none
@@ -260,9 +256,7 @@ units-none (inf s) S p z u = absurd u
 units-none (fin true n d) S p z u = absurd (true≢false p)
 units-none (fin false n d) S p z u =
     let a : n * up d * 1 ≤ 0 * down d = ltb-false (0 * down d) (n * up d * 1) z in
-    let b : n * up d ≡ 0 = omega (arith, a) in
-    eq-of-mul-eq-mul-right (down d) (down-pos d) S 0
-    (sym u ∙ ap (λ (k : ℕ). k * 2 ^ 1074) b ∙ zero-mul (2 ^ 1074) ∙ sym (zero-mul (down d)))
+    no-part S (down d) (n * up d) (2 ^ 1074) (down-pos d) (sym u) (omega (arith, a))
 
 quotient-near : (s r : Float) (R S : ℕ) → Plain s → lt zeroF s ≡ true → Units r R → Units s S → Most (div binary64 r s) 1 1
     → Near (div binary64 r s) R S
@@ -275,18 +269,16 @@ quotient-near (fin false n d) (fin t a e) R S p z u w m =
     let P = units-some (fin false n d) S p z w in
     near (div binary64 (fin t a e) (fin false n d)) (unlike t false) R S 1 P (quotient-units t a e n d R S (positive n d z) P u w) m
 
-pub person-most : (n p : ℕ) (s r : Float) (S k : ℕ) → Plain s → Most s k 1 → lt zeroF s ≡ true → n ≤ 4000000000 → p ≤ 100000000
-    → Under r s → Share r → Units s S → (x : Float) → x ≡ sub binary64 (mul binary64 (whole n) (div binary64 r s)) (whole p)
-    → lt x zeroF ≡ false → AtMost (rounded x) p n (unitsOf r) S
-person-most n p s r S k q m z N P u h w x e f =
-    let o = steps n p s r k q m z N P u in
+pub person-most : (n p : ℕ) (s r : Float) (S : ℕ) → Basis n s → p ≤ 100000000 → Under r s → Share r → Units s S → (x : Float)
+    → x ≡ sub binary64 (mul binary64 (whole n) (div binary64 r s)) (whole p) → lt x zeroF ≡ false → AtMost (rounded x) p n (unitsOf r) S
+person-most n p s r S b P u h w x e f =
+    let o = steps n p s r b P u in
     let y = mul binary64 (whole n) (div binary64 r s) in
-    let a = quotient-near s r (unitsOf r) S q z (share-units r h) w (o .quotient-most) in
-    let b = product-units (whole n) (div binary64 r s) n (a .units)
-    (whole-val n (le-trans N (lit≤ {m = 4000000000} {n = 2 ^ 53} tt))) (a .is) in
-    let c = near-units y (b .0) (n * a .units) n (b .1) (o .product-most) in
-    let d = less-units y (whole p) (c .units) p (n + p) (c .is)
-    (whole-val p (le-trans P (lit≤ {m = 100000000} {n = 2 ^ 53} tt))) (o .difference-most) (ap (λ (v : Float). lt v zeroF) (sym e) ∙ f) in
+    let q = quotient-near s r (unitsOf r) S (b .plain) (b .above) (share-units r h) w (o .quotient-most) in
+    let m = product-units (whole n) (div binary64 r s) n (q .units) (whole-val n (b .few)) (q .is) in
+    let c = near-units y (m .0) (n * q .units) n (m .1) (o .product-most) in
+    let d = less-units y (whole p) (c .units) p (n + p) (c .is) (whole-val p (omega arith)) (o .difference-most)
+    (ap (λ (v : Float). lt v zeroF) (sym e) ∙ f) in
     let g = rounded-units x (d .units) (subst (λ (v : Float). Units v (d .units)) (sym e) (d .is)) in
-    person-by (rounded x) p n (unitsOf r) S (a .units) (c .units) (d .units) (2 ^ 1074) (2 ^ 52) (2 ^ 52 + 1) (pow-pos 1074)
-    g (d .over) (c .over) (a .over) (few-units n N)
+    person-by (rounded x) p n (unitsOf r) S (q .units) (c .units) (d .units) (2 ^ 1074) (2 ^ 52) (2 ^ 52 + 1) (pow-pos 1074)
+    g (d .over) (c .over) (q .over) (few-units n (b .few))

@@ -1,19 +1,26 @@
 -- The targets add up to the demand, whatever the passes leave. Assumes nothing.
-use mathlib.Core.Path.{_≡_, sym, ap, _∙_}
-use mathlib.Core.List.{List, [], _∷_, map, foldl}
+use mathlib.Core.Path.{_≡_, refl, sym, ap, _∙_}
+use mathlib.Core.List.{List, [], _∷_, map}
 use Prim.Native.Nat.{ℕ, zero, suc, _+_, _<_}
-use native.Mathlib.Nat.{not-suc-le-zero, le-of-suc-le-suc}
-use lib.IntN.{ℤ, pos, negℤ, _+ℤ_, _-ℤ_, +ℤ-assoc, +ℤ-comm, +ℤ-idl, +ℤ-idr, +ℤ-invl}
+use native.Mathlib.Nat.{zero-add, not-suc-le-zero, le-of-suc-le-suc}
+use lib.IntN.{ℤ, pos, negℤ, _+ℤ_, _-ℤ_, +ℤ-assoc, +ℤ-comm, +ℤ-idr, +ℤ-invl}
 use lib.ListN.{length, getD, set}
 use Rattle.targets.specs.declared.Line.{Line}
 use Rattle.targets.specs.Figures.{pad}
 use Rattle.targets.specs.Remainder.{withTarget, totalOf, takerOf, targetOf, adjusted, sumℤ}
+use Rattle.targets.proofs.Each.{sumLines, fold-sum}
 use Rattle.targets.proofs.Taker.{taker-here}
 
--- the total, with what it started from
-total-from : (a : ℕ) (ls : List Line) → pos (foldl withTarget a ls) ≡ pos a +ℤ sumℤ (map targetOf ls)
-total-from a [] = sym (+ℤ-idr (pos a))
-total-from a (l ∷ ls) = total-from (a + l .target) ls ∙ +ℤ-assoc (pos a) (pos (l .target)) (sumℤ (map targetOf ls))
+-- the targets of the lines
+abbrev pub addedUp : List Line → ℕ
+addedUp = sumLines (λ (l : Line). l .target)
+
+pub total-is : (ls : List Line) → totalOf ls ≡ addedUp ls
+total-is ls = fold-sum withTarget (λ (l : Line). l .target) (λ a l. refl) ls 0 ∙ zero-add (addedUp ls)
+
+as-signed : (ls : List Line) → pos (addedUp ls) ≡ sumℤ (map targetOf ls)
+as-signed [] = refl
+as-signed (l ∷ ls) = ap (λ (z : ℤ). pos (l .target) +ℤ z) (as-signed ls)
 
 -- a target that gets r more
 swap : (a b r : ℤ) → (a +ℤ r) +ℤ b ≡ (a +ℤ b) +ℤ r
@@ -33,7 +40,7 @@ adds-up d ls h =
     let t = pos (totalOf ls) in
     let r = pos d -ℤ t in
     moved ls (takerOf ls) r (taker-here ls h)
-    ∙ ap (λ (z : ℤ). z +ℤ r) (sym (total-from 0 ls ∙ +ℤ-idl (sumℤ (map targetOf ls))))
+    ∙ ap (λ (z : ℤ). z +ℤ r) (sym (ap pos (total-is ls) ∙ as-signed ls))
     ∙ +ℤ-comm t r
     ∙ +ℤ-assoc (pos d) (negℤ t) t
     ∙ ap (λ (z : ℤ). pos d +ℤ z) (+ℤ-invl t)

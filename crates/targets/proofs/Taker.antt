@@ -12,7 +12,7 @@ use lib.Dec.{leb}
 use lib.IntN.{ℤ, pos, _+ℤ_, _-ℤ_}
 use lib.ListN.{length, getD, set, length-append, List·getD-append}
 use lib.Seq.{append-snoc, getD-append-seam}
-use Rattle.paper.proofs.Logic.{by-test, lt-or-ge}
+use Rattle.paper.proofs.Logic.{by-test, by-cond, lt-or-ge}
 use Rattle.targets.specs.declared.Line.{Line}
 use Rattle.targets.specs.declared.Best.{Best}
 use Rattle.targets.specs.Figures.{pad}
@@ -22,17 +22,13 @@ use Rattle.targets.specs.Remainder.{totalOf, better, takerOf, Largest, A
 abbrev In : ℕ → ℕ → Best → Type 0
 In n i b = (b .at < n) × (b .next ≡ i)
 
-pick-in : (t : Bool) (x y : Best) {n i : ℕ} → In n i x → In n i y → In n i (cond t x y)
-pick-in true x y h k = h
-pick-in false x y h k = k
-
 best-from : (b : Best) (ls : List Line) (n i : ℕ) → In n i b → i + length ls ≤ n → foldl better b ls .at < n
 best-from b [] n i h k = h .0
 best-from b (l ∷ ls) n i h k =
     best-from (better b l) ls n (i + 1)
-    (pick-in (not (l .pinned) && leb (b .top) (l .target))
+    (by-cond (not (l .pinned) && leb (b .top) (l .target))
     (record { at = b .next; top = l .target; next = b .next + 1 }) (record { at = b .at; top = b .top; next = b .next + 1 })
-    (omega arith, omega arith) (h .0, omega arith))
+    (In n (i + 1)) (λ t. (omega arith, omega arith)) (λ f. (h .0, omega arith)))
     (omega arith)
 
 pub taker-here : (ls : List Line) → 0 < length ls → takerOf ls < length ls
@@ -130,12 +126,9 @@ known-more pre l b n k = go (l .pinned) (leb (b .top) (l .target)) refl refl
 
 next-more : (b : Best) (l : Line) → better b l .next ≡ b .next + 1
 next-more b l =
-    go (not (l .pinned) && leb (b .top) (l .target))
-    (record { at = b .next; top = l .target; next = b .next + 1 }) (record { at = b .at; top = b .top; next = b .next + 1 }) refl refl
-  where
-    go : (t : Bool) (x y : Best) → x .next ≡ b .next + 1 → y .next ≡ b .next + 1 → cond {A = Best} t x y .next ≡ b .next + 1
-    go true x y h k = h
-    go false x y h k = k
+    by-cond (not (l .pinned) && leb (b .top) (l .target))
+    (record { at = b .next; top = l .target; next = b .next + 1 }) (record { at = b .at; top = b .top; next = b .next + 1 })
+    (λ (x : Best). x .next ≡ b .next + 1) (λ t. refl) (λ f. refl)
 
 known-all : (ls pre : List Line) (b : Best) → b .next ≡ length pre → Known pre b → Known (pre ++ ls) (foldl better b ls)
 known-all [] pre b n k = subst (λ (xs : List Line). Known xs b) (sym (append-nil pre)) k

@@ -8,10 +8,10 @@ use lib.ListN.{length, take, drop, replicate}
 use Rattle.slots.specs.Lent.{demandOf, demandWhenOk}
 use Rattle.targets.specs.declared.Line.{Line}
 use Rattle.targets.specs.declared.Answer.{Answer}
-use Rattle.targets.specs.Figures.{personAt, lineOf, pad}
+use Rattle.targets.specs.Figures.{pad}
 use Rattle.targets.specs.Passes.{again, passes}
 use Rattle.targets.specs.Remainder.{Targets, adjusted, closed}
-use Rattle.targets.specs.Outcome.{Given, checkNo, demandIn, baseAt, linesIn, targetsIn, Outcome, published, computeTargets}
+use Rattle.targets.specs.Outcome.{Given, checkNo, demandIn, lineIn, linesIn, targetsIn, Outcome, published, computeTargets}
 use Rattle.targets.specs.Outcome.{Meets}
 use Rattle.targets.specs.Code.{answerOf, Small, Sound}
 use Rattle.targets.proofs.Sizes.{small-lines}
@@ -27,9 +27,7 @@ demand-is g s e =
 
 -- the lines are small
 pub small-in : (g : Given) {ls : List Line} → ls ≡ linesIn g ++ replicate (32 - g .people) pad → Small ls
-small-in g e =
-    rw e
-    (small-lines (λ (k : ℕ). lineOf (personAt (g .capacities) (g .priors) k) (baseAt g k)) (λ k. refl) (g .people) (32 - g .people))
+small-in g e = rw e (small-lines (lineIn g) (λ k. refl) (g .people) (32 - g .people))
 
 -- refused before the work
 pub meets-refused : (g : Given) (out : List ℤ) {n : ℕ} → n ≡ checkNo g (length out) → (n ≡ 0 → ⊥) → Meets g out n out

@@ -28,10 +28,17 @@ passedOf r = roundIs (r .next) (r .lines)
 abbrev pub answerOf : Answer → Targets
 answerOf a = cond (a .refused) beyond (are (a .targets))
 
+-- what holds of each line
+abbrev pub Each : (Line → Type 0) → List Line → Type 0
+Each P [] = Unit
+Each P (l ∷ ls) = P l × Each P ls
+
 -- every target is at most 2 ^ 40, so that no sum of them wraps
+abbrev pub SmallTarget : Line → Type 0
+SmallTarget l = l .target ≤ 1099511627776
+
 abbrev pub Small : List Line → Type 0
-Small [] = Unit
-Small (l ∷ ls) = (l .target ≤ 1099511627776) × Small ls
+Small = Each SmallTarget
 
 -- ---- what the checks, passed, leave known
 

@@ -46,10 +46,6 @@ abbrev pub upTo {ℓ} : {A : Type ℓ} → (ℕ → A) → ℕ → List A
 upTo f zero = []
 upTo f (suc k) = upTo f k ++ (f k ∷ [])
 
--- the people's lines in order, each person's base given
-abbrev pub linesOf : List Float → List ℕ → (ℕ → ℕ) → ℕ → List Line
-linesOf capacities priors baseAt people = upTo (λ (k : ℕ). lineOf (personAt capacities priors k) (baseAt k)) people
-
 -- a line that takes no part: arrays by value are filled up with it
 abbrev pub pad : Line
 pad = record { person = record { capacity = zeroF; prior = 0 }; raw = zeroF; target = 0; pinned = true }

@@ -7,10 +7,10 @@ use lib.Dec.{eqb, leb}
 use lib.IntN.{ℤ}
 use lib.ListN.{length, drop}
 use lib.Ieee.{Float}
-use Rattle.paper.specs.Limits.{peopleOk, slotCountOk, orElse, countsOk}
+use Rattle.paper.specs.Limits.{orElse, countsOk}
 use Rattle.slots.specs.Lent.{slotRoomOk, slotsOk, demandOf}
 use Rattle.targets.specs.declared.Line.{Line}
-use Rattle.targets.specs.Figures.{allFiguresOk, linesOf}
+use Rattle.targets.specs.Figures.{allFiguresOk, personAt, lineOf, upTo}
 use Rattle.targets.specs.Available.{availableMinutes}
 use Rattle.targets.specs.Passes.{Passed, again, done, refused, passesLeave}
 use Rattle.targets.specs.Remainder.{takerOf, Targets, beyond, are, targets}
@@ -69,8 +69,12 @@ demandIn g = demandOf (g .slots) (g .starts) (g .ends)
 abbrev pub baseAt : Given → ℕ → ℕ
 baseAt g k = cond (eqb (g .fairness) 1) (demandIn g) (availableMinutes (g .slots) (g .starts) (g .ends) (g .avail) k)
 
+-- person k's line before the passes, and everybody's in order
+abbrev pub lineIn : Given → ℕ → Line
+lineIn g k = lineOf (personAt (g .capacities) (g .priors) k) (baseAt g k)
+
 abbrev pub linesIn : Given → List Line
-linesIn g = linesOf (g .capacities) (g .priors) (baseAt g) (g .people)
+linesIn g = upTo (lineIn g) (g .people)
 
 abbrev pub targetsIn : Given → Targets
 targetsIn g = targets (demandIn g) (linesIn g)

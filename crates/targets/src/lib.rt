@@ -71,15 +71,7 @@ fn targets_of(lines: [Line; 32], people: usize, demand: u32) -> Answer
                 targets: none,
             }
         }
-        Next::Again => {
-            let left = r.lines;
-            let t = remainder::adjusted_of(left, demand);
-            Answer {
-                refused: false,
-                targets: t,
-            }
-        }
-        Next::Done => {
+        Next::Again | Next::Done => {
             let left = r.lines;
             let t = remainder::adjusted_of(left, demand);
             Answer {

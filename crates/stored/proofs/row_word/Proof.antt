@@ -1,9 +1,9 @@
 -- `stored::row_word` meets its contract. Assumes nothing.
 use borrow.Author.Needs.{needs}
 use borrow.Author.Tests.{eq-eqb, ne-eqb}
-use mathlib.Core.Path.{_≡_, sym, ap, _∙_}
+use mathlib.Core.Path.{sym, ap, _∙_}
 use mathlib.Core.Bool.{Bool, cond}
-use Prim.Native.Nat.{ℕ, _*_, _/_}
+use Prim.Native.Nat.{_*_, _/_}
 use Rattle.stored.specs.Numbers.{further, littleAt}
 use Rattle.stored.proofs.row_word.Statement.{statement}
 use Rattle.stored.proofs.row_word.Tie as tie

@@ -1,24 +1,20 @@
 -- `stored::rows` meets its contract. Assumes nothing.
-use mathlib.Core.Path.{_≡_, refl, sym}
-use Prim.Native.Nat.{_-_, _≤_}
-use native.Mathlib.Omega.{arith}
+use Prim.Native.Nat.{_-_}
 use borrow.Author.Needs.{needs}
-use lib.ListN.{length, length-set}
-use Rattle.paper.specs.Count.{over}
-use Rattle.paper.proofs.Count.{over-none}
+use lib.ListN.{length}
 use Rattle.stored.specs.Columns.{rowWord}
-use Rattle.stored.proofs.Columns.{filled-more, filled-done}
+use Rattle.stored.proofs.Columns.{Filled, filled-none, filled-more, filled-less, filled-done}
 use Rattle.stored.proofs.rows.Statement.{statement}
 use Rattle.stored.proofs.rows.Tie as tie
 
 abbrev Inv-loop : tie.InvT-loop
-Inv-loop b at out₀ j₀ out j = (j ≤ length out₀) × (out ≡ over (rowWord b at) j out₀) × (length out ≡ length out₀)
+Inv-loop b at out₀ j₀ out j = Filled (rowWord b at) out₀ out j
 
 abbrev μ-loop : tie.MeasureT-loop
 μ-loop b at out₀ j₀ out j = length out₀ - j
 
 loop-holds : tie.Need-loop-holds Inv-loop μ-loop
-loop-holds c = (search needs, sym (over-none _ _), refl)
+loop-holds c = filled-none _ _
 
 row-word-requires : tie.Need-row-word-requires Inv-loop μ-loop
 row-word-requires c κs = search needs
@@ -33,26 +29,29 @@ add-j : tie.Need-add-j Inv-loop μ-loop
 add-j c = search needs
 
 loop-less : tie.Need-loop-less Inv-loop μ-loop
-loop-less c = omega (arith, c .before .loop-test .taken, c .before .before .loop .inv .2)
+loop-less c = filled-less (c .before .before .loop .inv) (c .before .loop-test .taken)
 
 loop-again : tie.Need-loop-again Inv-loop μ-loop
-loop-again c =
-    let at-loop = c .before .before .loop in
-    let at-args = c .before .before .before .before .before .args in (
-      omega (arith, c .before .loop-test .taken, at-loop .inv .2),
-      filled-more (rowWord (at-args .b .now) (at-args .at)) _ _ _ _ (at-loop .inv .1) (c .row-word .ensures),
-      simp length-set (at-loop .inv .2),
-    )
+loop-again c = filled-more (c .before .before .loop .inv) (c .before .loop-test .taken) (c .row-word .ensures)
 
 same-length : tie.Need-same-length Inv-loop μ-loop
-same-length c = c .before .loop .inv .2
+same-length c = c .before .loop .inv .long
 
 returns : tie.Need-returns Inv-loop μ-loop
-returns c =
-    let at-loop = c .before .loop in
-    let at-args = c .before .before .before .before .args in
-    filled-done (rowWord (at-args .b .now) (at-args .at)) (at-loop .j) _ _ (at-loop .inv .1)
-    (omega (arith, c .loop-test .left, at-loop .inv .0, at-loop .inv .2))
+returns c = filled-done (c .before .loop .inv) (c .loop-test .left)
 
 pub rows-spec : {M : Type 1} → statement M
-rows-spec = tie.close (tie.spec Inv-loop μ-loop loop-holds row-word-requires mul-out slice-write-out add-j loop-less loop-again same-length returns)
+rows-spec =
+    tie.close
+    (tie.spec
+    Inv-loop
+    μ-loop
+    loop-holds
+    row-word-requires
+    mul-out
+    slice-write-out
+    add-j
+    loop-less
+    loop-again
+    same-length
+    returns)

@@ -1,10 +1,28 @@
 -- `targets::targets_of` meets its contract. Assumes nothing.
+use mathlib.Core.Path.{_≡_, refl, sym, ap, _∙_, subst}
+use mathlib.Core.List.{[], _∷_}
+use mathlib.Core.Logic.{⊎-elim}
 use Prim.Native.Nat.{_+_}
-use Rattle.targets.specs.Passes.{again}
-use Rattle.targets.proofs.Sizes.{small-passes, small-again, small-done}
+use native.Mathlib.Omega.{arith}
 use borrow.Author.Needs.{needs}
+use denote.Enum.Declared.{tagOf}
+use types.Run.{OneOf}
+use Rattle.targets.specs.declared.Next.{Next}
+use Rattle.targets.specs.declared.Next.the-variants.{Refused}
+use Rattle.targets.specs.Passes.{Passed, again}
+use Rattle.targets.specs.Remainder.{are, closed, adjusted}
+use Rattle.targets.specs.Code.{Small}
+use Rattle.targets.proofs.Cases.{OfLines, by-left}
+use Rattle.targets.proofs.Sizes.{small-passes}
+use Rattle.targets.proofs.Next.{the-type}
 use Rattle.targets.proofs.targets_of.Statement.{statement}
 use Rattle.targets.proofs.targets_of.Tie as tie
+
+-- where lines are left, the round is not refused
+not-refused : (n : Next) → OneOf (0 ∷ 1 ∷ []) (tagOf the-type n) → n ≡ Refused → ⊥
+not-refused n t e =
+    ⊎-elim (λ (q : 2 ≡ 0). omega arith) (λ (q : 2 ≡ 1). omega arith)
+    (subst (λ (m : Next). OneOf (0 ∷ 1 ∷ []) (tagOf the-type m)) e t)
 
 passes-of-requires : tie.Need-passes-of-requires
 passes-of-requires c κs = search needs
@@ -12,47 +30,28 @@ passes-of-requires c κs = search needs
 enum-told : tie.Need-enum-told
 enum-told c = search needs
 
-enum-told-2 : tie.Need-enum-told-2
-enum-told-2 c = search needs
-
 adjusted-of-requires : tie.Need-adjusted-of-requires
 adjusted-of-requires c κs =
-    let p = c .before .before .before in
+    let p = c .before .before in
+    let r = p .passes-of .result in
     let a = p .before .args in
-    small-again (p .passes-of .result .next) (p .passes-of .result .lines) (p .passes-of .ensures)
-    (small-passes (a .people + 1) (a .demand) (again (a .lines)) (p .before .pre .1)) (c .before .enum-told2 .given .1)
-
-enum-told-3 : tie.Need-enum-told-3
-enum-told-3 c = search needs
-
-adjusted-of-requires-2 : tie.Need-adjusted-of-requires-2
-adjusted-of-requires-2 c κs =
-    let p = c .before .before .before in
-    let a = p .before .args in
-    small-done (p .passes-of .result .next) (p .passes-of .result .lines) (p .passes-of .ensures)
-    (small-passes (a .people + 1) (a .demand) (again (a .lines)) (p .before .pre .1)) (c .before .enum-told3 .given .1)
+    by-left (r .next) (r .lines) (λ (q : Passed). OfLines Small q → Small (r .lines)) (not-refused (r .next) (c .before .match .keys2))
+    (λ h. h) (λ h. h)
+    (subst (OfLines Small) (sym (p .passes-of .ensures)) (small-passes (a .people + 1) (a .demand) (again (a .lines)) (p .before .pre .1)))
 
 returns : tie.Need-returns
 returns c = rw (← c .before .before .passes-of .ensures, c .enum-told .given .1)
 
 returns-2 : tie.Need-returns-2
 returns-2 c =
-    rw (← c .before .before .before .before .passes-of .ensures, c .before .before .enum-told2 .given .1, c .adjusted-of .ensures)
-
-returns-3 : tie.Need-returns-3
-returns-3 c =
-    rw (← c .before .before .before .before .passes-of .ensures, c .before .before .enum-told3 .given .1, c .adjusted-of2 .ensures)
+    let p = c .before .before .before in
+    let r = p .passes-of .result in
+    let rule = adjusted (p .before .args .demand) in
+    rw (c .adjusted-of .ensures)
+    (sym
+    (by-left (r .next) (r .lines) (λ (q : Passed). closed rule q ≡ are (rule (r .lines)))
+    (not-refused (r .next) (c .before .before .match .keys2)) refl refl)
+    ∙ ap (closed rule) (p .passes-of .ensures))
 
 pub targets-of-spec : {M : Type 1} → statement M
-targets-of-spec =
-    tie.close
-    (tie.spec
-    passes-of-requires
-    enum-told
-    enum-told-2
-    adjusted-of-requires
-    enum-told-3
-    adjusted-of-requires-2
-    returns
-    returns-2
-    returns-3)
+targets-of-spec = tie.close (tie.spec passes-of-requires enum-told adjusted-of-requires returns returns-2)

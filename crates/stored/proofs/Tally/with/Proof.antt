@@ -2,7 +2,6 @@
 use borrow.Author.Needs.{needs}
 use mathlib.Core.Path.{_∙_, ap, sym}
 use mathlib.Core.Bool.{Bool, cond}
-use Prim.Native.Nat.{ℕ}
 use Rattle.stored.specs.Numbers.{further}
 use Rattle.stored.proofs.Tally.with.Statement.{statement}
 use Rattle.stored.proofs.Tally.with.Tie as tie

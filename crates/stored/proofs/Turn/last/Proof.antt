@@ -3,7 +3,6 @@ use borrow.Author.Needs.{needs}
 use borrow.Author.Tests.{eq-eqb, ne-eqb}
 use mathlib.Core.Path.{refl, sym, ap, _∙_}
 use mathlib.Core.Bool.{Bool, cond}
-use Prim.Native.Nat.{ℕ}
 use Rattle.stored.specs.Numbers.{further}
 use Rattle.stored.proofs.Turn.last.Statement.{statement}
 use Rattle.stored.proofs.Turn.last.Tie as tie

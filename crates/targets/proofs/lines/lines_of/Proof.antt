@@ -9,17 +9,12 @@ use borrow.Author.Needs.{needs}
 use lib.Dec.{eqb}
 use lib.Ieee.{ofBits}
 use lib.ListN.{replicate}
-use Rattle.targets.specs.declared.Line.{Line}
 use Rattle.targets.specs.Figures.{personAt, lineOf, upTo, pad}
 use Rattle.targets.specs.Available.{availableMinutes}
-use Rattle.targets.specs.Outcome.{Given, given, baseAt}
+use Rattle.targets.specs.Outcome.{Given, given, lineIn}
 use Rattle.targets.proofs.Loops.{fill}
 use Rattle.targets.proofs.lines.lines_of.Statement.{statement}
 use Rattle.targets.proofs.lines.lines_of.Tie as tie
-
--- person k's line
-abbrev lineIn : Given → ℕ → Line
-lineIn g k = lineOf (personAt (g .capacities) (g .priors) k) (baseAt g k)
 
 abbrev Inv-loop : tie.InvT-loop
 Inv-loop people slots starts ends avail capacities priors fairness demand out₀ i₀ out i =

@@ -3,7 +3,8 @@ use mathlib.Core.Path.{ap, _∙_}
 use lib.Ieee.{ofBits}
 use borrow.Author.Needs.{needs}
 use Rattle.targets.specs.Passes.{settled, within}
-use Rattle.targets.proofs.Loops.{guard-kept, at-pin, at-kept}
+use Rattle.targets.proofs.Loops.{at-pin, at-kept}
+use Rattle.targets.proofs.Cases.{guard-kept}
 use Rattle.targets.proofs.passes.settled_line.Statement.{statement}
 use Rattle.targets.proofs.passes.settled_line.Tie as tie
 

@@ -6,7 +6,10 @@ use mathlib.Core.Path.{_≡_, refl}
 use mathlib.Core.List.{_++_, map}
 use lib.ListN.{length, take, drop, length-set}
 use Rattle.targets.specs.Passes.{outside, settle}
-use Rattle.targets.proofs.Loops.{copied, filled, none-passes}
+use mathlib.Core.Bool.{false}
+use Rattle.targets.specs.declared.Line.{Line}
+use Rattle.targets.proofs.Loops.{copied, filled}
+use Rattle.targets.proofs.Each.{each-at, none-each}
 use Rattle.targets.proofs.passes.settled_lines.Statement.{statement}
 use Rattle.targets.proofs.passes.settled_lines.Tie as tie
 
@@ -28,7 +31,9 @@ array-copy-out-l c = search needs
 settled-line-requires : tie.Need-settled-line-requires Inv-loop μ-loop
 settled-line-requires c κs =
     let a = c .before .before .before .args in
-    none-passes (outside (a .n) (a .sum)) (a .t1) (c .before .before .loop .i) _ (c .before .before .before .pre) (omega arith)
+    let p = outside (a .n) (a .sum) in
+    each-at (λ (l : Line). p l ≡ false) (a .t1) (c .before .before .loop .i) _ (none-each p (a .t1) (c .before .before .before .pre))
+    (omega arith)
 
 mul-out : tie.Need-mul-out Inv-loop μ-loop
 mul-out c = search needs

@@ -6,7 +6,8 @@ use mir.Facts.{toZ-ofZ}
 use Rattle.targets.specs.declared.Best.{Best}
 use Rattle.targets.specs.declared.Line.{Line}
 use Rattle.targets.specs.Figures.{pad}
-use Rattle.targets.proofs.Sizes.{small-at}
+use Rattle.targets.specs.Code.{SmallTarget}
+use Rattle.targets.proofs.Each.{each-at}
 use Rattle.targets.proofs.Taker.{same-line, adjusted-by}
 use borrow.Author.Needs.{needs}
 use Rattle.targets.proofs.remainder.adjusted_of.Statement.{statement}
@@ -30,7 +31,7 @@ array-copy-out-l c = search needs
 with-rest-requires : tie.Need-with-rest-requires
 with-rest-requires c κs =
     let e = c .before .before .before .before in
-    (small-at (e .args .t1) (c .before .best-of .result .at) _ (e .pre) (omega arith), omega arith)
+    (each-at SmallTarget (e .args .t1) (c .before .best-of .result .at) _ (e .pre) (omega arith), omega arith)
 
 mul-out : tie.Need-mul-out
 mul-out c = search needs

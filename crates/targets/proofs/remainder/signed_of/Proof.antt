@@ -9,7 +9,8 @@ use mathlib.Core.List.{_++_, map}
 use lib.ListN.{length, take, drop, length-set}
 use Rattle.targets.specs.Remainder.{targetOf}
 use Rattle.targets.proofs.Loops.{copied, filled}
-use Rattle.targets.proofs.Sizes.{small-at}
+use Rattle.targets.specs.Code.{SmallTarget}
+use Rattle.targets.proofs.Each.{each-at}
 use Rattle.targets.proofs.remainder.signed_of.Statement.{statement}
 use Rattle.targets.proofs.remainder.signed_of.Tie as tie
 
@@ -31,7 +32,7 @@ array-copy-out-l c = search needs
 signed-target-requires : tie.Need-signed-target-requires Inv-loop μ-loop
 signed-target-requires c κs =
     let e = c .before .before .before in
-    small-at (e .args .t1) (c .before .before .loop .i) _ (e .pre) (omega arith)
+    each-at SmallTarget (e .args .t1) (c .before .before .loop .i) _ (e .pre) (omega arith)
 
 mul-out : tie.Need-mul-out Inv-loop μ-loop
 mul-out c = search needs

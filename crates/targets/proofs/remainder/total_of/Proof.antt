@@ -7,7 +7,8 @@ use lib.ListN.{drop}
 use mathlib.Core.List.{foldl}
 use Rattle.targets.specs.Remainder.{withTarget, totalOf}
 use Rattle.targets.proofs.Loops.{turn, over}
-use Rattle.targets.proofs.Sizes.{small-at}
+use Rattle.targets.specs.Code.{SmallTarget}
+use Rattle.targets.proofs.Each.{each-at}
 use Rattle.targets.proofs.remainder.total_of.Statement.{statement}
 use Rattle.targets.proofs.remainder.total_of.Tie as tie
 
@@ -29,7 +30,7 @@ array-copy-out-l c = search needs
 with-target-requires : tie.Need-with-target-requires Inv-loop μ-loop
 with-target-requires c κs =
     let e = c .before .before .before in
-    (omega arith, small-at (e .args .t1) (c .before .before .loop .i) _ (e .pre) (omega arith))
+    (omega arith, each-at SmallTarget (e .args .t1) (c .before .before .loop .i) _ (e .pre) (omega arith))
 
 add-i : tie.Need-add-i Inv-loop μ-loop
 add-i c = search needs
