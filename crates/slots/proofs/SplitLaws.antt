@@ -13,7 +13,7 @@ use lib.ListN.{length, getD, length-append, List·getD-append}
 use lib.Seq.{getD-append-add}
 use Rattle.paper.specs.Count.{sum, among}
 use Rattle.paper.proofs.Logic.{by-test, lt-or-ge, and-true, or-left, or-second}
-use Rattle.paper.proofs.Count.{each-all, sum-same, among-in, among-out, each-in}
+use Rattle.paper.proofs.Count.{each-all, sum-same, sum-after, among-in, among-out, each-in}
 use Rattle.slots.specs.Lent.{slotOk, prevEnd, slotOkAt, slotRoomOk, slotsOk, minutesAt, demandOf}
 use Rattle.slots.specs.Ranges.{Ranges, RangesSound, inRanges, available, startOf, endOf, covers, mergedOf}
 use Rattle.slots.specs.Atomic.{startsOrEnds, isCut, cutAfter, cutsIn, IsCuts, atomStarts, atomEnds}
@@ -231,17 +231,12 @@ atoms-some l (suc n) starts ends =
 
 -- ---- lengths add up
 
-sum-shift : (n m : ℕ) (f : ℕ → ℕ) → sum (n + m) f ≡ sum n f + sum m (λ k. f (n + k))
-unfolding sum
-sum-shift n zero f = let e : n + zero ≡ n = omega arith in omega (arith, ap (λ (k : ℕ). sum k f) e)
-sum-shift n (suc m) f = let e : n + suc m ≡ suc (n + m) = omega arith in omega (arith, ap (λ (k : ℕ). sum k f) e, sum-shift n m f)
-
 pub demand-append : (s e s′ e′ : List ℕ) → length s ≡ length e
     → demandOf (length (s ++ s′)) (s ++ s′) (e ++ e′) ≡ demandOf (length s) s e + demandOf (length s′) s′ e′
 unfolding demandOf minutesAt
 demand-append s e s′ e′ h =
     ap (λ (n : ℕ). sum n (λ k. getD (e ++ e′) k 0 - getD (s ++ s′) k 0)) (length-append s s′)
-    ∙ sum-shift (length s) (length s′) (λ k. getD (e ++ e′) k 0 - getD (s ++ s′) k 0)
+    ∙ sum-after (length s) (length s′) (λ k. getD (e ++ e′) k 0 - getD (s ++ s′) k 0)
     ∙ ap₂ _+_
     (sum-same (length s) (λ k. getD (e ++ e′) k 0 - getD (s ++ s′) k 0) (λ k. getD e k 0 - getD s k 0)
     (λ k g. ap₂ _-_ (List·getD-append e e′ 0 k (omega arith)) (List·getD-append s s′ 0 k g)))

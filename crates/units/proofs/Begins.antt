@@ -9,13 +9,12 @@ use borrow.Author.Tests.{eq-eqb, ne-eqb, leb-true, eqb-true}
 use lib.Dec.{eqb, leb}
 use lib.ListN.{length}
 use Rattle.paper.specs.Count.{among}
-use Rattle.paper.specs.Limits.{slotCountOk}
-use Rattle.paper.proofs.Logic.{by-test, cond-zero, slot-count-says}
+use Rattle.paper.proofs.Logic.{by-test}
 use Rattle.paper.proofs.Count.{among-same}
-use Rattle.slots.specs.Lent.{slotRoomOk}
 use Rattle.units.specs.declared.Settings.{Settings}
 use Rattle.units.specs.Dates.{listed}
 use Rattle.units.specs.Starts.{startDate, everyBegins, dayBegins, rotationBegins, unitBegins, startsNo}
+use Rattle.units.proofs.Answers.{settings-say}
 
 -- ---- one slot
 
@@ -66,11 +65,8 @@ pub starts-say : (s : Settings) (slots : ℕ) (starts ends firsts : List ℕ) �
     → (1 ≤ slots) × (slots ≤ 1024) × (slots ≤ length firsts)
 unfolding startsNo
 starts-say s slots starts ends firsts e =
-    let x = cond-zero (slotCountOk slots) _ 0 e in
-    let y = cond-zero (slotRoomOk slots starts ends) _ 1 (x .1) in
-    let z = cond-zero (leb slots (length firsts)) _ 1 (y .1) in
-    let h = slot-count-says slots (x .0) in
-    (h .0, h .1, leb-true _ _ (z .0))
+    let h = settings-say s slots starts ends (leb slots (length firsts)) 0 e in
+    (h .0, h .1, leb-true _ _ (h .2))
 
 -- ---- the lists of starts: exactly those that begin one (`among-each`, `among-at`), from 0, rising, below the slot count
 

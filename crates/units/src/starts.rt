@@ -3,8 +3,7 @@ use crate::Number;
 use crate::Settings;
 use crate::dates::date_of;
 use crate::dates::listed;
-use crate::refuse::or_else;
-use crate::refuse::settings_ok;
+use crate::refuse::settings_then;
 ghost use mathlib.Core.Path.{_≡_};
 ghost use Prim.Native.Nat.{_≤_};
 ghost use lib.ListN.{length};
@@ -88,11 +87,7 @@ fn write_starts(
 fn starts_no(s: Settings, slots: usize, starts: &[u32], ends: &[u32], firsts: &[u16]) -> u8
     ensures { λ r. ⌜ r ≡ startsNo s slots (now (starts .entry)) (now (ends .entry)) (now (firsts .entry)) ⌝ }
 {
-    let right = or_else(slots::slots_ok(slots, starts, ends), 9, 0);
-    let set = or_else(settings_ok(s), 7, right);
-    let list = or_else(slots <= firsts.len(), 2, set);
-    let room = or_else(slots::slot_room_ok(slots, starts, ends), 2, list);
-    or_else(paper::slot_count_ok(slots), 1, room)
+    settings_then(s, slots, starts, ends, slots <= firsts.len(), 0)
 }
 
 // The starts of the rotations, and how many. Refusals 1, 2, 7, 9.

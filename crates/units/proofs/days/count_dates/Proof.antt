@@ -1,5 +1,5 @@
 -- `units::days::count_dates` meets its contract. Assumes nothing.
-use Rattle.units.proofs.Covered.{count-none, count-in, count-out, count-done}
+use Rattle.paper.proofs.Count.{count-none, count-in, count-out, count-done}
 use mathlib.Core.Path.{_≡_, sym, ap, _∙_}
 use native.Mathlib.Omega.{arith}
 use borrow.Author.Needs.{needs}
