@@ -1,5 +1,5 @@
 -- The next edge of the merged ranges past a place of the line, and the next cut as the nearest of everybody's. Assumes nothing.
-use mathlib.Core.Path.{_≡_, refl, sym, ap, _∙_}
+use mathlib.Core.Path.{_≡_, refl, sym, ap, ap₂, _∙_}
 use mathlib.Core.Bool.{Bool, true, false, _&&_, _||_}
 use mathlib.Core.Logic.{⊎-elim}
 use mathlib.Core.List.{List}
@@ -22,9 +22,6 @@ use Rattle.slots.proofs.Entries.{any-here, any-one}
 use Rattle.slots.proofs.Keys.{start-lt, end-lt}
 use Rattle.slots.proofs.MergedLaws.{held-known}
 use Rattle.slots.proofs.AvailLaws.{filled, apart, front-here, front-none, held-spaced}
-
-or-none : (a b : Bool) → a ≡ false → b ≡ false → a || b ≡ false
-or-none a b f g = simp (f, g)
 
 -- ---- the next edge
 
@@ -89,7 +86,8 @@ module _ (keys : List ℕ) (n : ℕ) (H : HeldMerged keys n) where
           here = λ x. ap (isEdge (take n keys)) e ∙ edge-closes (r - 1) (omega arith);
           before = λ q a b. no-edge q
               (λ k i u.
-              ⊎-elim (λ (g : k < r). omega (arith, O .by k g)) (λ (g : r ≤ k). omega (arith, apart′ (r - 1) k (omega arith) i)) (lt-or-ge k r))
+              ⊎-elim (λ (g : k < r). omega (arith, O .by k g)) (λ (g : r ≤ k). omega (arith, apart′ (r - 1) k (omega arith) i))
+              (lt-or-ge k r))
               (λ k i u.
               ⊎-elim
               (λ (g : k < r - 1). omega (arith, apart′ k (r - 1) g (omega arith)))
@@ -180,7 +178,7 @@ module _ (l : List ℕ) (after end : ℕ) where
         from = x;
         within = omega (arith, N .within);
         here = λ h. or-second (cutBelow l p c) _ (ap (isEdge l) m ∙ E .here (omega (arith, N .within)));
-        before = λ s a g. or-none (cutBelow l p s) _ (N .before s a (omega arith)) (E .before (p * 268435456 + s) (omega arith) (omega arith));
+        before = λ s a g. ap₂ _||_ (N .before s a (omega arith)) (E .before (p * 268435456 + s) (omega arith) (omega arith));
       }))
       (λ f.
       let q : v ≡ b = d ∙ simp f in
@@ -192,7 +190,7 @@ module _ (l : List ℕ) (after end : ℕ) where
         from = N .from;
         within = N .within;
         here = λ h. or-left (cutBelow l p b) _ (N .here h);
-        before = λ s a g. or-none (cutBelow l p s) _ (N .before s a g) (E .before (p * 268435456 + s) (omega arith) (omega arith));
+        before = λ s a g. ap₂ _||_ (N .before s a g) (E .before (p * 268435456 + s) (omega arith) (omega arith));
       }))
 
   pub below-more : (p b e v : ℕ) → p < 32 → end ≤ 100000000 → FirstWhere true (cutBelow l p) (suc after) end b

@@ -85,18 +85,16 @@ one-cuts cut lo (x ∷ c) (y ∷ d) hi s u =
 
 -- ---- the one list: whatever lists of cuts are taken for the slots, if each has exactly the cuts strictly inside its slot
 
-unfoldable pub splitStarts : (ℕ → List ℕ) → ℕ → List ℕ → List ℕ
-splitStarts c zero starts = []
-splitStarts c (suc n) starts = splitStarts c n starts ++ (getD starts n 0 ∷ c n)
-
-unfoldable pub splitEnds : (ℕ → List ℕ) → ℕ → List ℕ → List ℕ
-splitEnds c zero ends = []
-splitEnds c (suc n) ends = splitEnds c n ends ++ (c n ++ (getD ends n 0 ∷ []))
+-- the lists f 0, f 1 and on, n of them, one after another
+unfoldable pub strung : (ℕ → List ℕ) → ℕ → List ℕ
+strung f zero = []
+strung f (suc n) = strung f n ++ f n
 
 pub one-atoms : (l : List ℕ) (n : ℕ) (starts ends : List ℕ) (c : ℕ → List ℕ)
     → ((k : ℕ) → k < n → IsCuts (isCut l) (getD starts k 0) (c k) (getD ends k 0))
-    → (splitStarts c n starts ≡ atomStarts l n starts ends) × (splitEnds c n ends ≡ atomEnds l n starts ends)
-unfolding splitStarts splitEnds atomStarts atomEnds
+    → (strung (λ k. getD starts k 0 ∷ c k) n ≡ atomStarts l n starts ends)
+    × (strung (λ k. c k ++ (getD ends k 0 ∷ [])) n ≡ atomEnds l n starts ends)
+unfolding strung atomStarts atomEnds
 one-atoms l zero starts ends c f = (refl, refl)
 one-atoms l (suc n) starts ends c f =
     let s = getD starts n 0 in

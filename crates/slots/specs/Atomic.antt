@@ -81,20 +81,19 @@ baseCountsOk B = splitCountsOk (B .people) (B .slots) (B .ranges .count)
 abbrev pub baseRoomOk : Base → Bool
 baseRoomOk B = roomOk (B .slots) (B .starts) (B .ends) (B .ranges) (B .outStarts) (B .outEnds)
 
--- 1 to 4, which are known before the work
-unfoldable pub baseNo : Base → ℕ
-baseNo B =
+-- 1 to 4, which are known before the work, and then what comes after them
+abbrev pub baseThen : Base → ℕ → ℕ
+baseThen B next =
     orElse (baseCountsOk B) 1
     (orElse (baseRoomOk B) 2
-    (orElse (slotsOk (B .slots) (B .starts) (B .ends)) 3 (orElse (rangesOk (B .people) (B .ranges)) 4 0)))
+    (orElse (slotsOk (B .slots) (B .starts) (B .ends)) 3 (orElse (rangesOk (B .people) (B .ranges)) 4 next)))
 
--- 1 to 5: more than 1,024 atomic slots
+unfoldable pub baseNo : Base → ℕ
+baseNo B = baseThen B 0
+
+-- 5: more than 1,024 atomic slots
 unfoldable pub atomiseNo : Base → ℕ
-atomiseNo B =
-    orElse (baseCountsOk B) 1
-    (orElse (baseRoomOk B) 2
-    (orElse (slotsOk (B .slots) (B .starts) (B .ends)) 3
-    (orElse (rangesOk (B .people) (B .ranges)) 4 (orElse (leb (length (startsOfAtoms B)) slotsMost) 5 0))))
+atomiseNo B = baseThen B (orElse (leb (length (startsOfAtoms B)) slotsMost) 5 0)
 
 -- the whole outcome: what is heard, and the two columns at exit
 pub record Atoms : Type 0 where

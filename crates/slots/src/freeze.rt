@@ -9,7 +9,7 @@ use slotset::Counted;
 use slotset::Told;
 use slotset::row;
 ghost use mathlib.Core.Path.{_≡_};
-ghost use Prim.Native.Nat.{ℕ, _*_, _≤_, _<_};
+ghost use Prim.Native.Nat.{ℕ, _≤_, _<_};
 ghost use lib.ListN.{length, getD};
 ghost use Rattle.slots.specs.Freeze.{freezeNo, freezeOf, Opening, availableNo, isAvailable};
 

@@ -19,8 +19,8 @@ use Rattle.slots.proofs.LentLaws.{slots-sound, when-ok, lent-says}
 use Rattle.units.specs.declared.Settings.{Settings}
 use Rattle.units.specs.declared.Duration.the-variants as duration
 use Rattle.units.specs.Dates.{dateOf}
-use Rattle.units.specs.Starts.{startDate}
-use Rattle.units.specs.Days.{covers, datesMost, coveredDays, dateBegins, minutesPerDay, targetRun}
+use Rattle.units.specs.Starts.{startDate, dateBegins}
+use Rattle.units.specs.Days.{covers, datesMost, coveredDays, minutesPerDay, targetRun}
 use Rattle.units.specs.Days.{durationAs, targetRunNo}
 use Rattle.units.proofs.Answers.{settings-say}
 

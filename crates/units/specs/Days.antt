@@ -1,7 +1,7 @@
 -- Covered days, minutes a day, target run. What a covered day is stands here alone: `covers` and `coveredDays`. Assumes nothing.
-use mathlib.Core.Bool.{Bool, true, not, cond}
+use mathlib.Core.Bool.{Bool, true, cond}
 use mathlib.Core.List.{List}
-use Prim.Native.Nat.{ℕ, zero, suc, _*_, _/_, max}
+use Prim.Native.Nat.{ℕ, _*_, _/_, max}
 use lib.Dec.{eqb}
 use Rattle.paper.specs.Count.{count, some}
 use Rattle.slots.specs.Lent.{demandOf, lentNo}
@@ -32,13 +32,6 @@ minutesPerDay slots starts ends = max (demandOf slots starts ends / coveredDays 
 -- that times the shift days, at least 1 day
 unfoldable pub targetRun : ℕ → ℕ → List ℕ → List ℕ → ℕ
 targetRun days slots starts ends = minutesPerDay slots starts ends * max days 1
-
--- ---- how they are found: slots are ordered, so a date's slots are neighbours
-
--- slot k is the first of its date: slot 0, or its date differs from the previous slot's
-unfoldable pub dateBegins : List ℕ → ℕ → Bool
-dateBegins starts zero = true
-dateBegins starts (suc j) = not (eqb (startDate starts (suc j)) (startDate starts j))
 
 -- ---- the answers
 

@@ -18,6 +18,11 @@ startDate starts k = dateOf (getD starts k 0)
 unfoldable pub everyBegins : ℕ → ℕ → Bool
 everyBegins n k = eqb (k % max n 1) 0
 
+-- slot k is the first of its date: slot 0, or its date differs from the previous slot's. In ordered slots a date's slots are neighbours
+unfoldable pub dateBegins : List ℕ → ℕ → Bool
+dateBegins starts zero = true
+dateBegins starts (suc j) = not (eqb (startDate starts (suc j)) (startDate starts j))
+
 -- on weekdays: slot 0, and each later slot whose start date differs from the previous slot's and is a listed day
 unfoldable pub dayBegins : ℕ → List ℕ → ℕ → Bool
 dayBegins mask starts zero = true

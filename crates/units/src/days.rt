@@ -3,24 +3,15 @@ use crate::Duration;
 use crate::Number;
 use crate::Settings;
 use crate::refuse::settings_then;
-use crate::starts::start_date;
+use crate::starts::date_begins;
 ghost use mathlib.Core.Path.{_≡_};
 ghost use mathlib.Core.Bool.{true};
 ghost use Prim.Native.Nat.{_≤_, _<_};
 ghost use Rattle.paper.specs.Count.{count};
 ghost use Rattle.slots.specs.Lent.{slotsOk};
-ghost use Rattle.units.specs.Days.{dateBegins, minutesPerDay, targetRun};
+ghost use Rattle.units.specs.Starts.{dateBegins};
+ghost use Rattle.units.specs.Days.{minutesPerDay, targetRun};
 ghost use Rattle.units.specs.Days.{coveredDaysIs, minutesPerDayIs, targetRunIs};
-
-// Whether slot k is the first of its start date.
-fn date_begins(starts: &[u32], k: usize) -> bool
-    ensures { λ r. ⌜ r ≡ dateBegins (now (starts .entry)) k ⌝ }
-{
-    if k == 0 {
-        return true;
-    }
-    start_date(starts, k) != start_date(starts, k - 1)
-}
 
 // How many slots are the first of their start date: of ordered slots, the covered days.
 fn count_dates(slots: usize, starts: &[u32]) -> usize
