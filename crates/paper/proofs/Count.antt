@@ -116,6 +116,16 @@ unfolding allIn
 in-same a e p q f =
     all-same (e - a) (λ j. p (a + j)) (λ j. q (a + j)) (λ j h. f (a + j) (omega arith) (omega arith))
 
+-- of one number, and of one less
+pub in-one : (k : ℕ) (p : ℕ → Bool) → allIn k (k + 1) p ≡ p k
+in-one k p =
+    by-test (p k) _ (λ t. in-more k k p (omega arith) (in-none k p) t ∙ sym t)
+    (λ f. sym (in-fails k k (k + 1) p (omega arith) (omega arith) f) ∙ sym f)
+
+pub in-less : (a k : ℕ) (p : ℕ → Bool) → a ≤ k → allIn a (k + 1) p ≡ true → (allIn a k p ≡ true) × (p k ≡ true)
+in-less a k p h t =
+    (each-in a k p (λ j g l. in-each a (k + 1) p t j g (omega arith)), in-each a (k + 1) p t k h (omega arith))
+
 -- ---- sums
 
 pub sum-none : (f : ℕ → ℕ) → sum 0 f ≡ 0
@@ -166,7 +176,7 @@ sum-mono zero f g h = zero-le
 sum-mono (suc n) f g h = omega (arith, sum-mono n f g (λ k l. h k (omega arith)), h n (omega arith))
 
 -- the first a summands, and n more
-sum-after : (a n : ℕ) (f : ℕ → ℕ) → sum a f + sum n (λ j. f (a + j)) ≡ sum (a + n) f
+pub sum-after : (a n : ℕ) (f : ℕ → ℕ) → sum (a + n) f ≡ sum a f + sum n (λ j. f (a + j))
 unfolding sum
 sum-after a zero f = let e : a + 0 ≡ a = omega arith in omega (arith, ap (λ (x : ℕ). sum x f) e)
 sum-after a (suc n) f = let e : a + suc n ≡ suc (a + n) = omega arith in omega (arith, sum-after a n f, ap (λ (x : ℕ). sum x f) e)
@@ -191,6 +201,64 @@ unfolding sumIn
 sum-in-le a e f h =
     let q : a + (e - a) ≡ e = omega arith in
     omega (arith, sum-after a (e - a) f, ap (λ (n : ℕ). sum n f) q)
+
+-- ---- how many pass a test
+
+-- what a test adds to a count
+abbrev one : Bool → ℕ
+one b = cond b 1 0
+
+pub count-none : (p : ℕ → Bool) → count 0 p ≡ 0
+unfolding count
+count-none p = sum-none (λ k. one (p k))
+
+pub count-in : (k : ℕ) (p : ℕ → Bool) → p k ≡ true → count (k + 1) p ≡ count k p + 1
+unfolding count
+count-in k p t = sum-more k (λ j. one (p j)) ∙ ap (λ (b : Bool). sum k (λ j. one (p j)) + one b) t
+
+pub count-out : (k : ℕ) (p : ℕ → Bool) → p k ≡ false → count (k + 1) p ≡ count k p
+unfolding count
+count-out k p f =
+    sum-more k (λ j. one (p j)) ∙ ap (λ (b : Bool). sum k (λ j. one (p j)) + one b) f ∙ omega arith
+
+pub count-done : (n i t : ℕ) (p : ℕ → Bool) → i ≤ n → n ≤ i → t ≡ count i p → t ≡ count n p
+unfolding count
+count-done n i t p h g e = sum-done n i t (λ k. one (p k)) h g e
+
+pub count-some : (n k : ℕ) (p : ℕ → Bool) → k < n → p k ≡ true → 1 ≤ count n p
+unfolding count
+count-some n k p h t = omega (arith, sum-part n k (λ j. one (p j)) h, ap one t)
+
+-- two counts of tests that differ at j alone, where only the second passes
+pub count-change : (n j : ℕ) (p q : ℕ → Bool) → j < n → ((k : ℕ) → k ≢ j → p k ≡ q k) → p j ≡ false → q j ≡ true
+    → count n q ≡ count n p + 1
+unfolding count
+count-change n j p q h e f t =
+    let s = sum-change n j (λ k. one (p k)) (λ k. one (q k)) h (λ k z. ap one (e k z)) in
+    let a : one (p j) ≡ 0 = ap one f in
+    let b : one (q j) ≡ 1 = ap one t in
+    omega (arith, s, a, b)
+
+pub count-same : (n : ℕ) (p q : ℕ → Bool) → ((k : ℕ) → p k ≡ q k) → count n p ≡ count n q
+unfolding count
+count-same n p q e = sum-same n (λ k. one (p k)) (λ k. one (q k)) (λ k h. ap one (e k))
+
+-- the first r pass, and no others
+pub count-opening : (n r : ℕ) (p : ℕ → Bool) → r ≤ n → ((k : ℕ) → k < r → p k ≡ true) → ((k : ℕ) → r ≤ k → k < n → p k ≡ false)
+    → count n p ≡ r
+unfolding count sum
+count-opening zero r p h f g = omega arith
+count-opening (suc n) r p h f g =
+    ⊎-elim
+    (λ (a : n < r).
+    let e = f n a in
+    let i = count-opening n n p (omega arith) (λ k b. f k (omega arith)) (λ k b d. absurd (omega arith)) in
+    simp e (omega (arith, i)))
+    (λ (a : r ≤ n).
+    let e = g n a (omega arith) in
+    let i = count-opening n r p a f (λ k b d. g k b (omega arith)) in
+    simp e (omega (arith, i)))
+    (lt-or-ge n r)
 
 -- ---- a list made anew
 
@@ -319,6 +387,25 @@ among-in p i t = ap (among p) (add-one i) ∙ among-yes p i t
 
 pub among-out : (p : ℕ → Bool) (i : ℕ) → p i ≡ false → among p (i + 1) ≡ among p i
 among-out p i f = ap (among p) (add-one i) ∙ among-no p i f
+
+-- where none passes, none is listed; and more numbers make no list shorter
+pub among-gap : (p : ℕ → Bool) (a d : ℕ) → ((t : ℕ) → a ≤ t → t < a + d → p t ≡ false) → among p (a + d) ≡ among p a
+among-gap p a zero f = let e : a + zero ≡ a = omega arith in ap (among p) e
+among-gap p a (suc d) f =
+    let e : a + suc d ≡ a + d + 1 = omega arith in
+    ap (among p) e ∙ among-out p (a + d) (f (a + d) (omega arith) (omega arith)) ∙ among-gap p a d (λ t x y. f t x (omega arith))
+
+pub among-longer : (p : ℕ → Bool) (a d : ℕ) → length (among p a) ≤ length (among p (a + d))
+unfolding among
+among-longer p a zero = let e : a + zero ≡ a = omega arith in omega (arith, ap (λ (n : ℕ). length (among p n)) e)
+among-longer p a (suc d) =
+    let e : a + suc d ≡ suc (a + d) = omega arith in
+    omega (
+      arith,
+      ap (λ (n : ℕ). length (among p n)) e,
+      among-longer p a d,
+      length-append (among p (a + d)) (cond (p (a + d)) ((a + d) ∷ []) []),
+    )
 
 -- as many as n at most
 pub among-le : (p : ℕ → Bool) (n : ℕ) → length (among p n) ≤ n

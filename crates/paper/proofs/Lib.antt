@@ -1,4 +1,5 @@
 -- The laws that every crate cites.
 pub mod Logic
+pub mod Refusals
 pub mod Count
 pub mod Bits

@@ -1,7 +1,8 @@
 -- Counting to n: a test at every number, the sum, a list whose first entries are made anew, the numbers that pass a test. Assumes nothing.
-use mathlib.Core.Bool.{Bool, true, false, _&&_, _||_, cond}
+use mathlib.Core.Path.{_≡_}
+use mathlib.Core.Bool.{Bool, true, false, _&&_, _||_, not, cond}
 use mathlib.Core.List.{List, [], _∷_, _++_}
-use Prim.Native.Nat.{ℕ, zero, suc, _+_, _-_}
+use Prim.Native.Nat.{ℕ, zero, suc, _+_, _-_, _≤_, _<_}
 use lib.ListN.{length, drop, set}
 
 -- p holds of every number below n
@@ -49,3 +50,10 @@ onto l old = l ++ drop (length l) old
 unfoldable pub among : (ℕ → Bool) → ℕ → List ℕ
 among p zero = []
 among p (suc n) = among p n ++ cond (p n) (n ∷ []) []
+
+-- r is the first number from a up to e at which p is v; e where there is none
+pub record FirstWhere (v : Bool) (p : ℕ → Bool) (a e r : ℕ) : Type 0 where
+  pub from : a ≤ r
+  pub within : r ≤ e
+  pub here : r < e → p r ≡ v
+  pub before : (k : ℕ) → a ≤ k → k < r → p k ≡ not v

@@ -1,6 +1,10 @@
-// The paper's limits, and the tests of rule 1 that every entry asks first.
+// The paper's limits, the tests of rule 1 that every entry asks first, and how tests are joined.
 ghost use mathlib.Core.Path.{_≡_};
-ghost use Rattle.paper.specs.Limits.{peopleOk, slotCountOk, countsOk};
+ghost use mathlib.Core.Bool.{_&&_};
+ghost use Prim.Native.Nat.{_*_};
+ghost use lib.Dec.{leb};
+ghost use lib.ListN.{length};
+ghost use Rattle.paper.specs.Limits.{setWords, peopleOk, slotCountOk, countsOk, orElse};
 
 pub const PEOPLE_MOST: usize = 32;
 
@@ -44,4 +48,25 @@ pub fn counts_ok(people: usize, slots: usize) -> bool
         return slot_count_ok(slots);
     }
     false
+}
+
+// Whether lent words have room for a set a person (rule 2). The length is divided, since a product could wrap.
+pub fn words_ok(words: &[u64], people: usize) -> bool
+    ensures { λ r. ⌜ r ≡ leb (setWords * people) (length (now (words .entry))) ⌝ }
+{
+    people <= words.len() / SET_WORDS
+}
+
+// Both of two tests.
+pub fn both(a: bool, b: bool) -> bool
+    ensures { λ r. ⌜ r ≡ a && b ⌝ }
+{
+    if a { b } else { false }
+}
+
+// The number that is heard: `number` where the test failed, else what comes after it.
+pub fn or_else(ok: bool, number: u8, next: u8) -> u8
+    ensures { λ r. ⌜ r ≡ orElse ok number next ⌝ }
+{
+    if ok { next } else { number }
 }

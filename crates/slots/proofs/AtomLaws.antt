@@ -11,6 +11,7 @@ use lib.ListN.{length, getD, take}
 use Rattle.paper.specs.Limits.{peopleOk, slotCountOk, orElse}
 use Rattle.paper.specs.Count.{over}
 use Rattle.paper.proofs.Logic.{lt-or-ge, three, cond-zero, slot-count-says}
+use Rattle.paper.proofs.Refusals.{more-after}
 use Rattle.slotset.specs.declared.Counted.the-variants as counted
 use Rattle.slotset.specs.Answers.{countedAs, wordsAs}
 use Rattle.slots.specs.Lent.{slotRoomOk, slotsOk, SlotsSound}
@@ -18,7 +19,7 @@ use Rattle.slots.specs.Ranges.{rangeCountOk, rangeRoomOk, rangesOk, Rang
 use Rattle.slots.specs.Walk.{MergedFrom}
 use Rattle.slots.specs.Atomic.{atomStarts, atomEnds, Base, splitCountsOk, roomOk, baseCountsOk, baseRoomOk, baseNo}
 use Rattle.slots.specs.Atomic.{atomiseNo, atomiseOf, startsOfAtoms, endsOfAtoms, AtomsEnd, orFull, Grown}
-use Rattle.slots.proofs.LentLaws.{room-says, slots-sound, more-after}
+use Rattle.slots.proofs.LentLaws.{room-says, slots-sound}
 use Rattle.slots.proofs.RangeLaws.{ranges-sound}
 use Rattle.slots.proofs.MergedLaws.{front-written}
 use Rattle.slots.proofs.CutLaws.{full-some, full-over}

@@ -13,7 +13,7 @@ use lib.Seq.{getD-take, length-take-le}
 use Rattle.paper.specs.Limits.{peopleOk, slotCountOk}
 use Rattle.paper.specs.Count.{allIn}
 use Rattle.paper.proofs.Logic.{by-test, lt-or-ge, both, three, and-true, or-left, or-second, or-either, same-test}
-use Rattle.paper.proofs.Logic.{cond-zero, people-says, slot-count-says}
+use Rattle.paper.proofs.Logic.{cond-zero, slot-count-says}
 use Rattle.paper.proofs.Count.{in-each, each-in}
 use Rattle.slotset.specs.Slots.{putSlot, putSlots, valueOf}
 use Rattle.slotset.specs.Answers.{rowStretchOf, wordsAs}
@@ -260,11 +260,6 @@ pub record AvailabilitySound (people slots : ℕ) (starts ends : List ℕ) (R : 
   pub few : slots ≤ 1024
   pub people-ok : peopleOk people ≡ true
   pub room : 16 * people ≤ length words
-
-pub counts-people : (people slots count : ℕ) → splitCountsOk people slots count ≡ true → people ≤ 32
-unfolding splitCountsOk
-counts-people people slots count e =
-    people-says people (three (peopleOk people) (slotCountOk slots) (rangeCountOk count) e .0) .1
 
 pub availability-says : (people slots : ℕ) (starts ends : List ℕ) (R : Ranges) (words : List ℕ)
     → availabilityNo people slots starts ends R words ≡ 0 → AvailabilitySound people slots starts ends R words

@@ -1,6 +1,6 @@
 -- Cuts and atomic slots: the pieces of one slot, and of all. Assumes nothing.
 use mathlib.Core.Path.{_≡_, refl, sym, ap, ap₂, _∙_}
-use mathlib.Core.Bool.{Bool, true, false, _&&_, cond, and-false}
+use mathlib.Core.Bool.{Bool, true, false, _&&_, and-false}
 use mathlib.Core.Logic.{⊎-elim}
 use mathlib.Core.List.{List, [], _∷_, _++_, append-assoc, append-nil}
 use Prim.Native.Nat.{ℕ, zero, suc, _+_, _-_, _≤_, _<_}
@@ -12,30 +12,11 @@ use lib.ListN.{length, getD, take, set, length-append, length-set}
 use lib.Seq.{length-take-le}
 use Rattle.paper.specs.Count.{among}
 use Rattle.paper.proofs.Logic.{lt-or-ge, and-true, and-stops}
-use Rattle.paper.proofs.Count.{among-in, among-out}
+use Rattle.paper.proofs.Count.{among-in, among-gap, among-longer}
 use Rattle.slots.specs.Atomic.{isCut, cutAfter, cutsIn, atomStarts, atomEnds, orFull, NextCut, Grown}
 use Rattle.slots.proofs.Entries.{push}
 
 -- ---- the cuts inside one slot
-
--- where none passes, none is listed
-pub among-gap : (p : ℕ → Bool) (a d : ℕ) → ((t : ℕ) → a ≤ t → t < a + d → p t ≡ false) → among p (a + d) ≡ among p a
-among-gap p a zero f = let e : a + zero ≡ a = omega arith in ap (among p) e
-among-gap p a (suc d) f =
-    let e : a + suc d ≡ a + d + 1 = omega arith in
-    ap (among p) e ∙ among-out p (a + d) (f (a + d) (omega arith) (omega arith)) ∙ among-gap p a d (λ t x y. f t x (omega arith))
-
-pub among-longer : (p : ℕ → Bool) (a d : ℕ) → length (among p a) ≤ length (among p (a + d))
-unfolding among
-among-longer p a zero = let e : a + zero ≡ a = omega arith in omega (arith, ap (λ (n : ℕ). length (among p n)) e)
-among-longer p a (suc d) =
-    let e : a + suc d ≡ suc (a + d) = omega arith in
-    omega (
-      arith,
-      ap (λ (n : ℕ). length (among p n)) e,
-      among-longer p a d,
-      length-append (among p (a + d)) (cond (p (a + d)) ((a + d) ∷ []) []),
-    )
 
 module _ (l : List ℕ) (s : ℕ) where
   cut-passes : (t : ℕ) → s < t → isCut l t ≡ true → cutAfter l s t ≡ true
@@ -61,17 +42,17 @@ module _ (l : List ℕ) (s : ℕ) where
     -- up to the next cut there is none
     to-cut : among (cutAfter l s) c ≡ among (cutAfter l s) (prev + 1)
     to-cut =
-        let e : c ≡ prev + 1 + (c - (prev + 1)) = omega (arith, N .later) in
+        let e : c ≡ prev + 1 + (c - (prev + 1)) = omega (arith, N .from) in
         ap (among (cutAfter l s)) e
-        ∙ among-gap (cutAfter l s) (prev + 1) (c - (prev + 1)) (λ t x y. cut-fails t (N .none t (omega arith) (omega (arith, N .later))))
+        ∙ among-gap (cutAfter l s) (prev + 1) (c - (prev + 1)) (λ t x y. cut-fails t (N .before t (omega arith) (omega (arith, N .from))))
 
     pub cuts-next : c < end → among (cutAfter l s) (c + 1) ≡ among (cutAfter l s) (prev + 1) ++ (c ∷ [])
     cuts-next h =
-        among-in (cutAfter l s) c (cut-passes c (omega (arith, N .later)) (N .cut h)) ∙ ap (λ (k : List ℕ). k ++ (c ∷ [])) to-cut
+        among-in (cutAfter l s) c (cut-passes c (omega (arith, N .from)) (N .here h)) ∙ ap (λ (k : List ℕ). k ++ (c ∷ [])) to-cut
 
     pub cuts-last : end ≤ c → cutsIn l s end ≡ among (cutAfter l s) (prev + 1)
     unfolding cutsIn
-    cuts-last h = let e : end ≡ c = omega (arith, N .most) in ap (among (cutAfter l s)) e ∙ to-cut
+    cuts-last h = let e : end ≡ c = omega (arith, N .within) in ap (among (cutAfter l s)) e ∙ to-cut
 
 -- ---- one slot, piece by piece
 
@@ -121,7 +102,7 @@ module _ (l : List ℕ) (s count prev m : ℕ) (S₀ E₀ S E : List ℕ) (I : S
     split-more g =
         let q = cuts-next l s prev end c (I .from) N g in
         record {
-          from = omega (arith, I .from, N .later);
+          from = omega (arith, I .from, N .from);
           few = omega arith;
           room = I .room;
           lengths = (length-set S m prev ∙ I .lengths .0, length-set E m c ∙ I .lengths .1);
@@ -135,7 +116,7 @@ module _ (l : List ℕ) (s count prev m : ℕ) (S₀ E₀ S E : List ℕ) (I : S
         → Grown count S₀ E₀ (s ∷ cutsIn l s end) (cutsIn l s end ++ (end ∷ [])) (m + 1) (set S m prev) (set E m c)
     split-ends few g =
         let q = cuts-last l s prev end c (I .from) N g in
-        let e : c ≡ end = omega (arith, N .most) in
+        let e : c ≡ end = omega (arith, N .within) in
         let a : take (m + 1) (set S m prev) ≡ take count S₀ ++ (s ∷ cutsIn l s end) = new-starts
         ∙ ap (λ (k : List ℕ). take count S₀ ++ (s ∷ k)) (sym q) in
         let n : m + 1 ≡ count + length (s ∷ cutsIn l s end) =

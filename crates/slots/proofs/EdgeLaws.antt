@@ -1,5 +1,5 @@
 -- The next edge of the merged ranges past a place of the line, and the next cut as the nearest of everybody's. Assumes nothing.
-use mathlib.Core.Path.{_≡_, refl, sym, ap, _∙_}
+use mathlib.Core.Path.{_≡_, refl, sym, ap, ap₂, _∙_}
 use mathlib.Core.Bool.{Bool, true, false, _&&_, _||_}
 use mathlib.Core.Logic.{⊎-elim}
 use mathlib.Core.List.{List}
@@ -11,20 +11,17 @@ use lib.Dec.{ltb, eqb}
 use lib.ListN.{length, getD, take}
 use lib.Seq.{getD-take, length-take-le}
 use Rattle.paper.proofs.Count.{some-here, some-one}
-use Rattle.paper.specs.Count.{some}
+use Rattle.paper.specs.Count.{some, FirstWhere}
 use Rattle.paper.proofs.Logic.{by-test, lt-or-ge, both, and-true, or-left, same-test, or-either, or-second}
 use Rattle.slots.specs.Ranges.{Ranges, RangesSound, personOf, startOf, endOf, opens, closes}
 use Rattle.slots.specs.Walk.{MergedFrom}
 use Rattle.slots.specs.Freeze.{Opening}
 use Rattle.slots.specs.Atomic.{startsOrEnds, isCut, NextCut, nearer}
-use Rattle.slots.specs.Atomic.{HeldMerged, opensOrCloses, isEdge, opensFrom, NextEdge}
+use Rattle.slots.specs.Atomic.{HeldMerged, opensOrCloses, isEdge, lineEnd, opensFrom, NextEdge}
 use Rattle.slots.proofs.Entries.{any-here, any-one}
 use Rattle.slots.proofs.Keys.{start-lt, end-lt}
 use Rattle.slots.proofs.MergedLaws.{held-known}
 use Rattle.slots.proofs.AvailLaws.{filled, apart, front-here, front-none, held-spaced}
-
-or-none : (a b : Bool) → a ≡ false → b ≡ false → a || b ≡ false
-or-none a b f g = simp (f, g)
 
 -- ---- the next edge
 
@@ -41,7 +38,7 @@ pub opens-some : (keys : List ℕ) (n r v : ℕ) → r < n → v ≡ opens (getD
 unfolding opensFrom
 opens-some keys n r v h e = simp (lt-ltb r n h) e
 
-pub opens-past : (keys : List ℕ) (n r : ℕ) → n ≤ r → 17179869184 ≡ opensFrom keys n r
+pub opens-past : (keys : List ℕ) (n r : ℕ) → n ≤ r → lineEnd ≡ opensFrom keys n r
 unfolding opensFrom
 opens-past keys n r h = simp (le-ltb r n h)
 
@@ -58,6 +55,13 @@ module _ (keys : List ℕ) (n : ℕ) (H : HeldMerged keys n) where
   edge-closes k h =
       let c = closes (getD keys k 0) in
       front-here keys n (H .fits) (H .spaced) (opensOrCloses c) k h (or-second (eqb (opens (getD keys k 0)) c) _ (eq-eqb c c refl))
+
+  -- and lies before the line's end
+  on-line : (k : ℕ) → k < n → (opens (getD keys k 0) ≤ lineEnd) × (closes (getD keys k 0) ≤ lineEnd)
+  unfolding opens closes
+  on-line k h =
+      let x = getD keys k 0 in
+      (omega (arith, H .known k h, start-lt x), omega (arith, H .known k h, end-lt x))
 
   no-edge : (q : ℕ) → ((k : ℕ) → k < n → opens (getD keys k 0) ≡ q → ⊥) → ((k : ℕ) → k < n → closes (getD keys k 0) ≡ q → ⊥)
       → isEdge (take n keys) q ≡ false
@@ -77,11 +81,13 @@ module _ (keys : List ℕ) (n : ℕ) (H : HeldMerged keys n) where
         let few : r ≤ n = O .few in
         let last : opens (getD keys (r - 1) 0) ≤ place = O .by (r - 1) (omega arith) in
         record {
-          later = h;
-          edge = λ x. ap (isEdge (take n keys)) e ∙ edge-closes (r - 1) (omega arith);
-          none = λ q a b. no-edge q
+          from = h;
+          within = omega (arith, e, on-line (r - 1) (omega arith) .1);
+          here = λ x. ap (isEdge (take n keys)) e ∙ edge-closes (r - 1) (omega arith);
+          before = λ q a b. no-edge q
               (λ k i u.
-              ⊎-elim (λ (g : k < r). omega (arith, O .by k g)) (λ (g : r ≤ k). omega (arith, apart′ (r - 1) k (omega arith) i)) (lt-or-ge k r))
+              ⊎-elim (λ (g : k < r). omega (arith, O .by k g)) (λ (g : r ≤ k). omega (arith, apart′ (r - 1) k (omega arith) i))
+              (lt-or-ge k r))
               (λ k i u.
               ⊎-elim
               (λ (g : k < r - 1). omega (arith, apart′ k (r - 1) g (omega arith)))
@@ -105,7 +111,7 @@ module _ (keys : List ℕ) (n : ℕ) (H : HeldMerged keys n) where
         (lt-or-ge k (r - 1))
 
     -- and so the next one's opening is the next edge
-    pub edge-open : (v : ℕ) → (0 < r → closes (getD keys (r - 1) 0) ≤ place) → place < 17179869184 → v ≡ opensFrom keys n r
+    pub edge-open : (v : ℕ) → (0 < r → closes (getD keys (r - 1) 0) ≤ place) → place < lineEnd → v ≡ opensFrom keys n r
         → NextEdge (take n keys) place v
     unfolding opensFrom
     edge-open v f p e =
@@ -116,9 +122,10 @@ module _ (keys : List ℕ) (n : ℕ) (H : HeldMerged keys n) where
         let h : r < n = ltb-true r n t in
         let s : v ≡ opens (getD keys r 0) = e ∙ simp t in
         record {
-          later = omega (arith, s, O .after r (omega arith) h);
-          edge = λ x. ap (isEdge (take n keys)) s ∙ edge-opens r h;
-          none = λ q a b. no-edge q
+          from = omega (arith, s, O .after r (omega arith) h);
+          within = omega (arith, s, on-line r h .0);
+          here = λ x. ap (isEdge (take n keys)) s ∙ edge-opens r h;
+          before = λ q a b. no-edge q
               (λ k i u.
               ⊎-elim (λ (g : k < r). omega (arith, O .by k g))
               (λ (g : r ≤ k).
@@ -136,48 +143,42 @@ module _ (keys : List ℕ) (n : ℕ) (H : HeldMerged keys n) where
         })
         (λ t.
         let h : n ≤ r = ltb-false r n t in
-        let s : v ≡ 17179869184 = e ∙ simp t in
+        let s : v ≡ lineEnd = e ∙ simp t in
         record {
-          later = omega (arith, s);
-          edge = λ x. absurd (omega (arith, s));
-          none = λ q a b. no-edge q (λ k i u. omega (arith, O .by k (omega arith))) (λ k i u. omega (arith, closed-by f k (omega arith)));
+          from = omega (arith, s);
+          within = omega (arith, s);
+          here = λ x. absurd (omega (arith, s));
+          before = λ q a b. no-edge q (λ k i u. omega (arith, O .by k (omega arith))) (λ k i u. omega (arith, closed-by f k (omega arith)));
         })
 
 -- ---- the next cut, person by person
 
--- r is the first minute that passes p strictly between two minutes, or the later of them
-pub record Near (p : ℕ → Bool) (after end r : ℕ) : Type 0 where
-  pub later : after < r
-  pub most : r ≤ end
-  pub cut : r < end → p r ≡ true
-  pub none : (t : ℕ) → after < t → t < r → p t ≡ false
+-- somebody below p has an edge at that minute
+abbrev pub cutBelow : List ℕ → ℕ → ℕ → Bool
+cutBelow l p t = some p (λ q. isEdge l (q * 268435456 + t))
 
 module _ (l : List ℕ) (after end : ℕ) where
-  -- somebody below p has an edge at that minute
-  abbrev pub cutBelow : ℕ → ℕ → Bool
-  cutBelow p t = some p (λ q. isEdge l (q * 268435456 + t))
-
-  pub below-begin : after < end → Near (cutBelow 0) after end end
+  pub below-begin : after < end → FirstWhere true (cutBelow l 0) (suc after) end end
   unfolding some
-  below-begin h = record { later = h; most = omega arith; cut = λ g. absurd (omega arith); none = λ t a b. refl }
+  below-begin h = record { from = h; within = omega arith; here = λ g. absurd (omega arith); before = λ t a b. refl }
 
-  below-turn : (p b e v : ℕ) → p < 32 → end ≤ 100000000 → Near (cutBelow p) after end b → NextEdge l (p * 268435456 + after) e
-      → v ≡ nearer after b (e - p * 268435456) → Near (cutBelow (suc p)) after end v
+  below-turn : (p b e v : ℕ) → p < 32 → end ≤ 100000000 → FirstWhere true (cutBelow l p) (suc after) end b
+      → NextEdge l (p * 268435456 + after) e → v ≡ nearer after b (e - p * 268435456) → FirstWhere true (cutBelow l (suc p)) (suc after) end v
   unfolding nearer some
   below-turn p b e v few capped N E d =
       let c = e - p * 268435456 in
-      let m : p * 268435456 + c ≡ e = omega (arith, E .later) in
-      let x : after < c = omega (arith, E .later) in
+      let m : p * 268435456 + c ≡ e = omega (arith, E .from) in
+      let x : after < c = omega (arith, E .from) in
       by-test (ltb after c && ltb c b) _
       (λ t.
       let y = ltb-true c b (both (ltb after c) (ltb c b) t .1) in
       let q : v ≡ c = d ∙ simp t in
       rw q
       (record {
-        later = x;
-        most = omega (arith, N .most);
-        cut = λ h. or-second (cutBelow p c) _ (ap (isEdge l) m ∙ E .edge (omega (arith, N .most)));
-        none = λ s a g. or-none (cutBelow p s) _ (N .none s a (omega arith)) (E .none (p * 268435456 + s) (omega arith) (omega arith));
+        from = x;
+        within = omega (arith, N .within);
+        here = λ h. or-second (cutBelow l p c) _ (ap (isEdge l) m ∙ E .here (omega (arith, N .within)));
+        before = λ s a g. ap₂ _||_ (N .before s a (omega arith)) (E .before (p * 268435456 + s) (omega arith) (omega arith));
       }))
       (λ f.
       let q : v ≡ b = d ∙ simp f in
@@ -186,14 +187,14 @@ module _ (l : List ℕ) (after end : ℕ) where
       (lt-or-ge c b) in
       rw q
       (record {
-        later = N .later;
-        most = N .most;
-        cut = λ h. or-left (cutBelow p b) _ (N .cut h);
-        none = λ s a g. or-none (cutBelow p s) _ (N .none s a g) (E .none (p * 268435456 + s) (omega arith) (omega arith));
+        from = N .from;
+        within = N .within;
+        here = λ h. or-left (cutBelow l p b) _ (N .here h);
+        before = λ s a g. ap₂ _||_ (N .before s a g) (E .before (p * 268435456 + s) (omega arith) (omega arith));
       }))
 
-  pub below-more : (p b e v : ℕ) → p < 32 → end ≤ 100000000 → Near (cutBelow p) after end b → NextEdge l (p * 268435456 + after) e
-      → v ≡ nearer after b (e - p * 268435456) → Near (cutBelow (p + 1)) after end v
+  pub below-more : (p b e v : ℕ) → p < 32 → end ≤ 100000000 → FirstWhere true (cutBelow l p) (suc after) end b
+      → NextEdge l (p * 268435456 + after) e → v ≡ nearer after b (e - p * 268435456) → FirstWhere true (cutBelow l (p + 1)) (suc after) end v
   below-more p b e v few capped N E d = rw (add-one p) (below-turn p b e v few capped N E d)
 
   module _ (known : (k : ℕ) → k < length l → personOf (getD l k 0) < 32) where
@@ -218,10 +219,10 @@ module _ (l : List ℕ) (after end : ℕ) where
         (or-either (eqb (personOf x * 268435456 + startOf x) (q * 268435456 + t))
         (eqb (personOf x * 268435456 + endOf x) (q * 268435456 + t)) e)
 
-    all-cuts : (t : ℕ) → t < 268435456 → cutBelow 32 t ≡ isCut l t
+    all-cuts : (t : ℕ) → t < 268435456 → cutBelow l 32 t ≡ isCut l t
     unfolding isCut isEdge
     all-cuts t h =
-        same-test (cutBelow 32 t) (isCut l t)
+        same-test (cutBelow l 32 t) (isCut l t)
         (λ e. some-one 32 (λ q. isEdge l (q * 268435456 + t)) _ e
         (λ q g u. any-one (opensOrCloses (q * 268435456 + t)) l _ u
         (λ k i w. any-here (startsOrEnds t) l k i (edge-own (getD l k 0) q t h w))))
@@ -229,17 +230,17 @@ module _ (l : List ℕ) (after end : ℕ) where
         (λ k i w. some-here 32 (personOf (getD l k 0)) (λ q. isEdge l (q * 268435456 + t)) (known k i)
         (any-here (opensOrCloses (personOf (getD l k 0) * 268435456 + t)) l k i (own-edge (getD l k 0) t w))))
 
-    pub below-end : (b : ℕ) → end ≤ 100000000 → Near (cutBelow 32) after end b → NextCut l after end b
+    pub below-end : (b : ℕ) → end ≤ 100000000 → FirstWhere true (cutBelow l 32) (suc after) end b → NextCut l after end b
     below-end b capped N =
         record {
-          later = N .later;
-          most = N .most;
-          cut = λ h. sym (all-cuts b (omega arith)) ∙ N .cut h;
-          none = λ t a h. sym (all-cuts t (omega (arith, N .most))) ∙ N .none t a h;
+          from = N .from;
+          within = N .within;
+          here = λ h. sym (all-cuts b (omega arith)) ∙ N .here h;
+          before = λ t a h. sym (all-cuts t (omega (arith, N .within))) ∙ N .before t a h;
         }
 
 pub below-done : (keys : List ℕ) (n after end p b : ℕ) → HeldMerged keys n → end ≤ 100000000 → p ≤ 32 → 32 ≤ p
-    → Near (cutBelow (take n keys) after end p) after end b → NextCut (take n keys) after end b
+    → FirstWhere true (cutBelow (take n keys) p) (suc after) end b → NextCut (take n keys) after end b
 below-done keys n after end p b H capped g h N =
     let q : p ≡ 32 = omega arith in
     below-end (take n keys) after end

@@ -1,6 +1,6 @@
 -- The slots that end by an instant open the list: their count, and their marks. Assumes nothing.
 use mathlib.Core.Path.{_≡_, refl, sym, ap, ap₂, _∙_}
-use mathlib.Core.Bool.{Bool, true, false, _&&_}
+use mathlib.Core.Bool.{true, false, _&&_}
 use mathlib.Core.Logic.{⊎-elim}
 use mathlib.Core.List.{List}
 use Prim.Native.Nat.{ℕ, zero, suc, _+_, _-_, _*_, _≤_, _<_}
@@ -9,8 +9,8 @@ use borrow.Author.Tests.{le-leb, lt-leb, leb-true, ltb-true, eq-eqb, ne-eqb}
 use lib.Dec.{leb, ltb, eqb}
 use lib.ListN.{length, getD}
 use Rattle.paper.specs.Limits.{peopleOk, slotCountOk}
-use Rattle.paper.specs.Count.{sum, count}
 use Rattle.paper.proofs.Logic.{lt-or-ge, both, cond-zero, slot-count-says}
+use Rattle.paper.proofs.Count.{count-opening}
 use Rattle.slotset.specs.declared.Counted.the-variants as counted
 use Rattle.slotset.specs.declared.Told.{Told}
 use Rattle.slotset.specs.declared.Told.the-variants as told
@@ -22,21 +22,6 @@ use Rattle.slots.specs.Freeze.{endsBy, endedBy, marked, freezeNo, freeze
 use Rattle.slots.proofs.LentLaws.{slots-sound}
 
 -- ---- an opening stretch
-
-count-opening : (n r : ℕ) (p : ℕ → Bool) → r ≤ n → ((k : ℕ) → k < r → p k ≡ true) → ((k : ℕ) → r ≤ k → k < n → p k ≡ false) → count n p ≡ r
-unfolding count sum
-count-opening zero r p h f g = omega arith
-count-opening (suc n) r p h f g =
-    ⊎-elim
-    (λ (a : n < r).
-    let e = f n a in
-    let i = count-opening n n p (omega arith) (λ k b. f k (omega arith)) (λ k b d. absurd (omega arith)) in
-    simp e (omega (arith, i)))
-    (λ (a : r ≤ n).
-    let e = g n a (omega arith) in
-    let i = count-opening n r p a f (λ k b d. g k b (omega arith)) in
-    simp e (omega (arith, i)))
-    (lt-or-ge n r)
 
 marked-opening : (n r : ℕ) (ends : List ℕ) (instant : ℕ) (ws : List ℕ) → r ≤ n → ((k : ℕ) → k < r → endsBy ends instant k ≡ true)
     → ((k : ℕ) → r ≤ k → k < n → endsBy ends instant k ≡ false) → marked n ends instant ws ≡ putSlots (λ _. 1) 0 0 r ws

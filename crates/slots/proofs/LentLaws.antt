@@ -1,20 +1,20 @@
 -- The laws of lent slots: what the one test says of those that pass, and the steps of its loops. Assumes nothing.
 use mathlib.Core.Path.{_≡_, refl, sym, ap, ap₂, _∙_}
-use mathlib.Core.Bool.{Bool, true, false, cond}
+use mathlib.Core.Bool.{Bool, true}
 use mathlib.Core.List.{List}
 use Prim.Native.Nat.{ℕ, zero, suc, _+_, _-_, _≤_, _<_, zero-le}
 use native.Mathlib.Numerals.{add-one}
 use native.Mathlib.Omega.{arith}
 use borrow.Author.Tests.{ltb-true, leb-true, eq-eqb, ne-eqb}
-use lib.Dec.{leb, ltb, eqb, eqb·suc-zero}
+use lib.Dec.{leb, ltb}
 use lib.ListN.{length, getD}
-use Rattle.paper.specs.Limits.{slotCountOk, orElse}
+use Rattle.paper.specs.Limits.{slotCountOk}
 use Rattle.paper.specs.Count.{all, sum}
 use Rattle.paper.proofs.Logic.{both, three, cond-zero}
 use Rattle.paper.proofs.Count.{all-each, sum-more}
 use Rattle.slots.specs.declared.Minutes.the-variants as minutes
 use Rattle.slots.specs.Lent.{slotOk, prevEnd, slotOkAt, slotRoomOk, slotsOk, minutesAt, demandOf, demandWhenOk, SlotsSound}
-use Rattle.slots.specs.Lent.{lentNo, lentSlotNo, minutesAs}
+use Rattle.slots.specs.Lent.{lentNo, minutesAs}
 
 -- ---- what one slot's test says
 
@@ -122,21 +122,6 @@ lent-says slots starts ends e =
     let y = cond-zero (slotRoomOk slots starts ends) _ 1 (x .1) in
     let z = cond-zero (slotsOk slots starts ends) _ 8 (y .1) in
     (x .0, z .0)
-
--- a chain of refusals with one test more at its end, built up from that end: where the chain gives none, what the last test gives is heard
-pub more-after : (b : Bool) (k n m last : ℕ) → m ≡ cond (eqb n 0) last n
-    → orElse b (suc k) m ≡ cond (eqb (orElse b (suc k) n) 0) last (orElse b (suc k) n)
-more-after true k n m last e = e
-more-after false k n m last e = simp eqb·suc-zero
-
--- a slot's number is that of the lent slots, then 11
-pub lent-slot : (slots : ℕ) (starts ends : List ℕ) (k n : ℕ) → n ≡ lentNo slots starts ends
-    → lentSlotNo slots starts ends k ≡ cond (eqb n 0) (cond (ltb k slots) 0 11) n
-unfolding lentNo lentSlotNo
-lent-slot slots starts ends k n e =
-    more-after (slotCountOk slots) 0 _ _ _
-    (more-after (slotRoomOk slots starts ends) 1 _ _ _ (more-after (slotsOk slots starts ends) 8 0 _ (orElse (ltb k slots) 11 0) refl))
-    ∙ ap (λ (m : ℕ). cond (eqb m 0) (orElse (ltb k slots) 11 0) m) (sym e)
 
 -- one more turn of the sum of the lengths
 module _ (starts ends : List ℕ) (i total m : ℕ) (e : total ≡ sum i (minutesAt starts ends)) (d : m ≡ minutesAt starts ends i) where

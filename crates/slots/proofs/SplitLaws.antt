@@ -13,7 +13,7 @@ use lib.ListN.{length, getD, length-append, List·getD-append}
 use lib.Seq.{getD-append-add}
 use Rattle.paper.specs.Count.{sum, among}
 use Rattle.paper.proofs.Logic.{by-test, lt-or-ge, and-true, or-left, or-second}
-use Rattle.paper.proofs.Count.{each-all, sum-same, among-in, among-out, each-in}
+use Rattle.paper.proofs.Count.{each-all, sum-same, sum-after, among-in, among-out, each-in}
 use Rattle.slots.specs.Lent.{slotOk, prevEnd, slotOkAt, slotRoomOk, slotsOk, minutesAt, demandOf}
 use Rattle.slots.specs.Ranges.{Ranges, RangesSound, inRanges, available, startOf, endOf, covers, mergedOf}
 use Rattle.slots.specs.Atomic.{startsOrEnds, isCut, cutAfter, cutsIn, IsCuts, atomStarts, atomEnds}
@@ -85,18 +85,16 @@ one-cuts cut lo (x ∷ c) (y ∷ d) hi s u =
 
 -- ---- the one list: whatever lists of cuts are taken for the slots, if each has exactly the cuts strictly inside its slot
 
-unfoldable pub splitStarts : (ℕ → List ℕ) → ℕ → List ℕ → List ℕ
-splitStarts c zero starts = []
-splitStarts c (suc n) starts = splitStarts c n starts ++ (getD starts n 0 ∷ c n)
-
-unfoldable pub splitEnds : (ℕ → List ℕ) → ℕ → List ℕ → List ℕ
-splitEnds c zero ends = []
-splitEnds c (suc n) ends = splitEnds c n ends ++ (c n ++ (getD ends n 0 ∷ []))
+-- the lists f 0, f 1 and on, n of them, one after another
+unfoldable pub strung : (ℕ → List ℕ) → ℕ → List ℕ
+strung f zero = []
+strung f (suc n) = strung f n ++ f n
 
 pub one-atoms : (l : List ℕ) (n : ℕ) (starts ends : List ℕ) (c : ℕ → List ℕ)
     → ((k : ℕ) → k < n → IsCuts (isCut l) (getD starts k 0) (c k) (getD ends k 0))
-    → (splitStarts c n starts ≡ atomStarts l n starts ends) × (splitEnds c n ends ≡ atomEnds l n starts ends)
-unfolding splitStarts splitEnds atomStarts atomEnds
+    → (strung (λ k. getD starts k 0 ∷ c k) n ≡ atomStarts l n starts ends)
+    × (strung (λ k. c k ++ (getD ends k 0 ∷ [])) n ≡ atomEnds l n starts ends)
+unfolding strung atomStarts atomEnds
 one-atoms l zero starts ends c f = (refl, refl)
 one-atoms l (suc n) starts ends c f =
     let s = getD starts n 0 in
@@ -231,17 +229,12 @@ atoms-some l (suc n) starts ends =
 
 -- ---- lengths add up
 
-sum-shift : (n m : ℕ) (f : ℕ → ℕ) → sum (n + m) f ≡ sum n f + sum m (λ k. f (n + k))
-unfolding sum
-sum-shift n zero f = let e : n + zero ≡ n = omega arith in omega (arith, ap (λ (k : ℕ). sum k f) e)
-sum-shift n (suc m) f = let e : n + suc m ≡ suc (n + m) = omega arith in omega (arith, ap (λ (k : ℕ). sum k f) e, sum-shift n m f)
-
 pub demand-append : (s e s′ e′ : List ℕ) → length s ≡ length e
     → demandOf (length (s ++ s′)) (s ++ s′) (e ++ e′) ≡ demandOf (length s) s e + demandOf (length s′) s′ e′
 unfolding demandOf minutesAt
 demand-append s e s′ e′ h =
     ap (λ (n : ℕ). sum n (λ k. getD (e ++ e′) k 0 - getD (s ++ s′) k 0)) (length-append s s′)
-    ∙ sum-shift (length s) (length s′) (λ k. getD (e ++ e′) k 0 - getD (s ++ s′) k 0)
+    ∙ sum-after (length s) (length s′) (λ k. getD (e ++ e′) k 0 - getD (s ++ s′) k 0)
     ∙ ap₂ _+_
     (sum-same (length s) (λ k. getD (e ++ e′) k 0 - getD (s ++ s′) k 0) (λ k. getD e k 0 - getD s k 0)
     (λ k g. ap₂ _-_ (List·getD-append e e′ 0 k (omega arith)) (List·getD-append s s′ 0 k g)))

@@ -132,10 +132,3 @@ module _ (keys out : List ℕ) (z n i : ℕ) (inv : take n out ++ walkOn z (drop
     omega (arith, sym (length-append (take n out) (closed z [])) ∙ ap length end-is, length-take-le n out r),
     d ∙ end-is,
   )
-
--- what the two tests of the walk say
-pub told-touch : (x z o e : ℕ) → o ≡ opens x → e ≡ closes z → o ≤ e → opens x ≤ closes z
-told-touch x z o e a b h = omega arith
-
-pub told-apart : (x z o e : ℕ) → o ≡ opens x → e ≡ closes z → e < o → closes z < opens x
-told-apart x z o e a b h = omega arith

@@ -6,7 +6,7 @@ use Prim.Native.Nat.{ℕ, zero, suc, _+_, _≤_, _<_}
 use lib.Dec.{leb, ltb, eqb}
 use lib.ListN.{length, getD, take}
 use Rattle.paper.specs.Limits.{peopleOk, slotCountOk, slotsMost, orElse}
-use Rattle.paper.specs.Count.{among}
+use Rattle.paper.specs.Count.{among, FirstWhere}
 use Rattle.slotset.specs.declared.Counted.{Counted}
 use Rattle.slotset.specs.Answers.{countedAs, wordsAs}
 use Rattle.slots.specs.Lent.{slotRoomOk, slotsOk}
@@ -81,20 +81,19 @@ baseCountsOk B = splitCountsOk (B .people) (B .slots) (B .ranges .count)
 abbrev pub baseRoomOk : Base → Bool
 baseRoomOk B = roomOk (B .slots) (B .starts) (B .ends) (B .ranges) (B .outStarts) (B .outEnds)
 
--- 1 to 4, which are known before the work
-unfoldable pub baseNo : Base → ℕ
-baseNo B =
+-- 1 to 4, which are known before the work, and then what comes after them
+abbrev pub baseThen : Base → ℕ → ℕ
+baseThen B next =
     orElse (baseCountsOk B) 1
     (orElse (baseRoomOk B) 2
-    (orElse (slotsOk (B .slots) (B .starts) (B .ends)) 3 (orElse (rangesOk (B .people) (B .ranges)) 4 0)))
+    (orElse (slotsOk (B .slots) (B .starts) (B .ends)) 3 (orElse (rangesOk (B .people) (B .ranges)) 4 next)))
 
--- 1 to 5: more than 1,024 atomic slots
+unfoldable pub baseNo : Base → ℕ
+baseNo B = baseThen B 0
+
+-- 5: more than 1,024 atomic slots
 unfoldable pub atomiseNo : Base → ℕ
-atomiseNo B =
-    orElse (baseCountsOk B) 1
-    (orElse (baseRoomOk B) 2
-    (orElse (slotsOk (B .slots) (B .starts) (B .ends)) 3
-    (orElse (rangesOk (B .people) (B .ranges)) 4 (orElse (leb (length (startsOfAtoms B)) slotsMost) 5 0))))
+atomiseNo B = baseThen B (orElse (leb (length (startsOfAtoms B)) slotsMost) 5 0)
 
 -- the whole outcome: what is heard, and the two columns at exit
 pub record Atoms : Type 0 where
@@ -124,11 +123,8 @@ unfoldable pub orFull : ℕ → ℕ
 orFull n = cond (leb n slotsMost) n 1025
 
 -- r is the first cut strictly between two minutes, or the later of them
-pub record NextCut (merged : List ℕ) (after end r : ℕ) : Type 0 where
-  pub later : after < r
-  pub most : r ≤ end
-  pub cut : r < end → isCut merged r ≡ true
-  pub none : (t : ℕ) → after < t → t < r → isCut merged t ≡ false
+abbrev pub NextCut : List ℕ → ℕ → ℕ → ℕ → Type 0
+NextCut merged after end r = FirstWhere true (isCut merged) (suc after) end r
 
 -- what is known of the merged ranges where they are held, as the first n of these numbers
 pub record HeldMerged (keys : List ℕ) (n : ℕ) : Type 0 where
@@ -144,15 +140,17 @@ opensOrCloses q x = eqb (opens x) q || eqb (closes x) q
 unfoldable pub isEdge : List ℕ → ℕ → Bool
 isEdge merged q = anyOf (opensOrCloses q) merged
 
--- where the range of number r opens; past the last, 64 people's minutes on
-unfoldable pub opensFrom : List ℕ → ℕ → ℕ → ℕ
-opensFrom keys n r = cond (ltb r n) (opens (getD keys r 0)) 17179869184
+-- a place after everybody's: 64 people's minutes on
+abbrev pub lineEnd : ℕ
+lineEnd = 17179869184
 
--- r is the first edge past a place, or lies far past all
-pub record NextEdge (merged : List ℕ) (place r : ℕ) : Type 0 where
-  pub later : place < r
-  pub edge : r < 17179869184 → isEdge merged r ≡ true
-  pub none : (q : ℕ) → place < q → q < r → isEdge merged q ≡ false
+-- where the range of number r opens; past the last, the line's end
+unfoldable pub opensFrom : List ℕ → ℕ → ℕ → ℕ
+opensFrom keys n r = cond (ltb r n) (opens (getD keys r 0)) lineEnd
+
+-- r is the first edge past a place, or the line's end
+abbrev pub NextEdge : List ℕ → ℕ → ℕ → Type 0
+NextEdge merged place r = FirstWhere true (isEdge merged) (suc place) lineEnd r
 
 -- t, where it lies strictly between two minutes; else the later of them
 unfoldable pub nearer : ℕ → ℕ → ℕ → ℕ

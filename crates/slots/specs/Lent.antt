@@ -52,16 +52,17 @@ pub record SlotsSound (slots : ℕ) (starts ends : List ℕ) : Type 0 where
 
 -- ---- the two questions
 
--- 1, then 2, then 9
-unfoldable pub lentNo : ℕ → List ℕ → List ℕ → ℕ
-lentNo slots starts ends =
-    orElse (slotCountOk slots) 1 (orElse (slotRoomOk slots starts ends) 2 (orElse (slotsOk slots starts ends) 9 0))
+-- 1, then 2, then 9, and then what comes after them
+abbrev pub lentThen : ℕ → List ℕ → List ℕ → ℕ → ℕ
+lentThen slots starts ends next =
+    orElse (slotCountOk slots) 1 (orElse (slotRoomOk slots starts ends) 2 (orElse (slotsOk slots starts ends) 9 next))
 
--- the same, then 11: a slot that is not below its count
+unfoldable pub lentNo : ℕ → List ℕ → List ℕ → ℕ
+lentNo slots starts ends = lentThen slots starts ends 0
+
+-- 11: a slot that is not below its count
 unfoldable pub lentSlotNo : ℕ → List ℕ → List ℕ → ℕ → ℕ
-lentSlotNo slots starts ends k =
-    orElse (slotCountOk slots) 1
-    (orElse (slotRoomOk slots starts ends) 2 (orElse (slotsOk slots starts ends) 9 (orElse (ltb k slots) 11 0)))
+lentSlotNo slots starts ends k = lentThen slots starts ends (orElse (ltb k slots) 11 0)
 
 -- the answer: the number n, or the minutes asked for
 unfoldable pub minutesAs : ℕ → ℕ → Minutes

@@ -2,6 +2,9 @@
 use crate::lent;
 use crate::ranges;
 use crate::split;
+use paper::both;
+use paper::or_else;
+use paper::words_ok;
 use slotset::row;
 ghost use mathlib.Core.Path.{_≡_};
 ghost use mathlib.Core.Bool.{true};
@@ -125,19 +128,14 @@ fn availability_room_ok(
     shuts: &[u32],
     words: &[u64],
 ) -> bool
-    requires { ⌜ people ≤ 32 ⌝ }
     ensures { λ r. ⌜ r ≡ availabilityRoomOk people slots (now (starts .entry)) (now (ends .entry))
         (ranges count (now (persons .entry)) (now (opens .entry)) (now (shuts .entry))) (now (words .entry)) ⌝ }
 {
-    if lent::slot_room_ok(slots, starts, ends) {
-        if ranges::range_room_ok(count, persons, opens, shuts) {
-            paper::SET_WORDS * people <= words.len()
-        } else {
-            false
-        }
-    } else {
-        false
-    }
+    let held = both(
+        ranges::range_room_ok(count, persons, opens, shuts),
+        words_ok(words, people),
+    );
+    both(lent::slot_room_ok(slots, starts, ends), held)
 }
 
 // What is wrong with what availability takes: 1, 2, 4 or 9; 0 for nothing.
@@ -155,33 +153,25 @@ fn availability_no(
     ensures { λ r. ⌜ r ≡ availabilityNo people slots (now (starts .entry)) (now (ends .entry))
         (ranges count (now (persons .entry)) (now (opens .entry)) (now (shuts .entry))) (now (words .entry)) ⌝ }
 {
-    if split::base_counts_ok(people, slots, count) {
-        if availability_room_ok(
-            people,
-            slots,
-            starts,
-            ends,
-            count,
-            persons,
-            opens,
-            shuts,
-            words,
-        ) {
-            if ranges::ranges_ok(people, count, persons, opens, shuts) {
-                if lent::slots_ok(slots, starts, ends) {
-                    0
-                } else {
-                    9
-                }
-            } else {
-                4
-            }
-        } else {
-            2
-        }
-    } else {
-        1
-    }
+    let right = or_else(lent::slots_ok(slots, starts, ends), 9, 0);
+    let held = or_else(
+        ranges::ranges_ok(people, count, persons, opens, shuts),
+        4,
+        right,
+    );
+    let has_room = availability_room_ok(
+        people,
+        slots,
+        starts,
+        ends,
+        count,
+        persons,
+        opens,
+        shuts,
+        words,
+    );
+    let room = or_else(has_room, 2, held);
+    or_else(split::split_counts_ok(people, slots, count), 1, room)
 }
 
 // One set a person: slot k is in it exactly when each of its minutes lies in one of the person's ranges. Refusals 1, 2, 4, 9.

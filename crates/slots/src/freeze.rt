@@ -1,12 +1,15 @@
 // Freezing at an instant, and the single question of lent availability.
 use crate::lent;
-use paper::people_ok;
+use paper::both;
+use paper::counts_ok;
+use paper::or_else;
 use paper::slot_count_ok;
+use paper::words_ok;
 use slotset::Counted;
 use slotset::Told;
 use slotset::row;
 ghost use mathlib.Core.Path.{_≡_};
-ghost use Prim.Native.Nat.{ℕ, _*_, _≤_, _<_};
+ghost use Prim.Native.Nat.{ℕ, _≤_, _<_};
 ghost use lib.ListN.{length, getD};
 ghost use Rattle.slots.specs.Freeze.{freezeNo, freezeOf, Opening, availableNo, isAvailable};
 
@@ -33,21 +36,10 @@ fn ended_by(slots: usize, ends: &[u32], instant: u32) -> usize
 fn freeze_no(slots: usize, starts: &[u32], ends: &[u32], frozen: &[u64]) -> u8
     ensures { λ r. ⌜ r ≡ freezeNo slots (now (starts .entry)) (now (ends .entry)) (now (frozen .entry)) ⌝ }
 {
-    if slot_count_ok(slots) {
-        if lent::slot_room_ok(slots, starts, ends) {
-            if frozen.len() < paper::SET_WORDS {
-                2
-            } else if lent::slots_ok(slots, starts, ends) {
-                0
-            } else {
-                9
-            }
-        } else {
-            2
-        }
-    } else {
-        1
-    }
+    let right = or_else(lent::slots_ok(slots, starts, ends), 9, 0);
+    let has_room = both(lent::slot_room_ok(slots, starts, ends), words_ok(frozen, 1));
+    let room = or_else(has_room, 2, right);
+    or_else(slot_count_ok(slots), 1, room)
 }
 
 // Marks each slot whose end is at or before the instant, clears no mark, and answers how many end by then. Refusals 1, 2, 9.
@@ -74,21 +66,9 @@ pub fn freeze_before(
 fn available_no(people: usize, slots: usize, availability: &[u64], person: usize, slot: usize) -> u8
     ensures { λ r. ⌜ r ≡ availableNo people slots (now (availability .entry)) person slot ⌝ }
 {
-    if people_ok(people) {
-        if slot_count_ok(slots) {
-            if availability.len() < paper::SET_WORDS * people {
-                2
-            } else if person < people {
-                if slot < slots { 0 } else { 11 }
-            } else {
-                11
-            }
-        } else {
-            1
-        }
-    } else {
-        1
-    }
+    let known = or_else(both(person < people, slot < slots), 11, 0);
+    let room = or_else(words_ok(availability, people), 2, known);
+    or_else(counts_ok(people, slots), 1, room)
 }
 
 // May this person cover this slot? Refusals 1, 2, 11.

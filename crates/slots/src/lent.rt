@@ -1,11 +1,12 @@
 // Lent slots: a count, and two columns with each slot's start and end. Rules 3 and 9 are one test, asked here by every crate above.
 use crate::Minutes;
+use paper::or_else;
 use paper::slot_count_ok;
 ghost use mathlib.Core.Path.{_≡_};
 ghost use Prim.Native.Nat.{_-_};
 ghost use lib.ListN.{getD};
 ghost use Rattle.slots.specs.Lent.{slotOk, slotRoomOk, slotsOk, minutesAt, demandWhenOk};
-ghost use Rattle.slots.specs.Lent.{lentNo, lentSlotNo, demandIs, slotMinutesIs};
+ghost use Rattle.slots.specs.Lent.{lentThen, lentNo, demandIs, slotMinutesIs};
 
 // Whether both columns have room for the slots (rule 2).
 pub fn slot_room_ok(slots: usize, starts: &[u32], ends: &[u32]) -> bool
@@ -90,31 +91,20 @@ pub fn demand_of(slots: usize, starts: &[u32], ends: &[u32]) -> u32
     }
 }
 
-// What is wrong with lent slots: 1, 2 or 9; 0 for nothing.
-fn lent_no(slots: usize, starts: &[u32], ends: &[u32]) -> u8
-    ensures { λ r. ⌜ r ≡ lentNo slots (now (starts .entry)) (now (ends .entry)) ⌝ }
+// What is wrong with lent slots: 1, 2 or 9; 0, what comes after them.
+fn lent_then(slots: usize, starts: &[u32], ends: &[u32], next: u8) -> u8
+    ensures { λ r. ⌜ r ≡ lentThen slots (now (starts .entry)) (now (ends .entry)) next ⌝ }
 {
-    if slot_count_ok(slots) {
-        if slot_room_ok(slots, starts, ends) {
-            if slots_ok(slots, starts, ends) { 0 } else { 9 }
-        } else {
-            2
-        }
-    } else {
-        1
-    }
+    let right = or_else(slots_ok(slots, starts, ends), 9, next);
+    let room = or_else(slot_room_ok(slots, starts, ends), 2, right);
+    or_else(slot_count_ok(slots), 1, room)
 }
 
-// The same, then 11 for a slot that is not below its count.
-fn lent_slot_no(slots: usize, starts: &[u32], ends: &[u32], slot: usize) -> u8
-    ensures { λ r. ⌜ r ≡ lentSlotNo slots (now (starts .entry)) (now (ends .entry)) slot ⌝ }
+// What is wrong with lent slots: 1, 2 or 9; 0 for nothing.
+pub fn lent_no(slots: usize, starts: &[u32], ends: &[u32]) -> u8
+    ensures { λ r. ⌜ r ≡ lentNo slots (now (starts .entry)) (now (ends .entry)) ⌝ }
 {
-    let n = lent_no(slots, starts, ends);
-    if n == 0 {
-        if slot < slots { 0 } else { 11 }
-    } else {
-        n
-    }
+    lent_then(slots, starts, ends, 0)
 }
 
 // Demand, the sum of the lent slots' lengths. Refusals 1, 2, 9.
@@ -133,7 +123,7 @@ pub fn demand(slots: usize, starts: &[u32], ends: &[u32]) -> Minutes
 pub fn slot_minutes(slots: usize, starts: &[u32], ends: &[u32], slot: usize) -> Minutes
     ensures { λ r. ⌜ r ≡ slotMinutesIs slots (now (starts .entry)) (now (ends .entry)) slot ⌝ }
 {
-    let n = lent_slot_no(slots, starts, ends, slot);
+    let n = lent_then(slots, starts, ends, or_else(slot < slots, 11, 0));
     if n == 0 {
         Minutes::Are(minutes_at(starts, ends, slot))
     } else {

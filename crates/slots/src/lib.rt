@@ -12,6 +12,7 @@ pub use freeze::is_available;
 pub use lent::demand;
 pub use lent::demand_of;
 pub use lent::entry_of;
+pub use lent::lent_no;
 pub use lent::minutes_at;
 pub use lent::minutes_between;
 pub use lent::slot_minutes;

@@ -1,5 +1,7 @@
 // Merged ranges handed out as columns.
 use crate::ranges;
+use paper::both;
+use paper::or_else;
 use paper::people_ok;
 use slotset::Counted;
 ghost use mathlib.Core.Path.{_≡_};
@@ -22,27 +24,17 @@ fn merged_no(
     ensures { λ r. ⌜ r ≡ mergedNo people (ranges count (now (persons .entry)) (now (starts .entry)) (now (ends .entry)))
         (columns (now (whose .entry)) (now (froms .entry)) (now (tos .entry))) ⌝ }
 {
-    if people_ok(people) {
-        if ranges::range_count_ok(count) {
-            if ranges::range_room_ok(count, persons, starts, ends) {
-                if ranges::range_room_ok(count, whose, froms, tos) {
-                    if ranges::ranges_ok(people, count, persons, starts, ends) {
-                        0
-                    } else {
-                        4
-                    }
-                } else {
-                    2
-                }
-            } else {
-                2
-            }
-        } else {
-            1
-        }
-    } else {
-        1
-    }
+    let right = or_else(
+        ranges::ranges_ok(people, count, persons, starts, ends),
+        4,
+        0,
+    );
+    let room = both(
+        ranges::range_room_ok(count, persons, starts, ends),
+        ranges::range_room_ok(count, whose, froms, tos),
+    );
+    let counts = both(people_ok(people), ranges::range_count_ok(count));
+    or_else(counts, 1, or_else(room, 2, right))
 }
 
 // The first n numbers, taken apart into the columns.

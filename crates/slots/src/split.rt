@@ -2,6 +2,8 @@
 use crate::avail;
 use crate::lent;
 use crate::ranges;
+use paper::both;
+use paper::or_else;
 use paper::people_ok;
 use paper::slot_count_ok;
 use slotset::Counted;
@@ -13,7 +15,7 @@ ghost use Rattle.paper.specs.Count.{over};
 ghost use Rattle.slots.specs.Lent.{SlotsSound};
 ghost use Rattle.slots.specs.Ranges.{ranges};
 ghost use Rattle.slots.specs.Atomic.{cutsIn, atomStarts, atomEnds, NextCut, nearer, Grown};
-ghost use Rattle.slots.specs.Atomic.{HeldMerged, NextEdge, opensFrom};
+ghost use Rattle.slots.specs.Atomic.{HeldMerged, lineEnd, NextEdge, opensFrom};
 ghost use Rattle.slots.specs.Atomic.{splitCountsOk, roomOk, base, baseNo, atomiseOf, AtomsEnd};
 
 // A minute, where it lies strictly between two others; else the later of them.
@@ -28,7 +30,10 @@ fn nearer_of(after: u64, best: u64, t: u64) -> u64
     best
 }
 
-// Where the merged range with number r opens; past the last, 64 people's minutes on, which is after everybody's.
+// A place of the line after everybody's: 64 people's minutes on.
+const LINE_END: u64 = 17_179_869_184;
+
+// Where the merged range with number r opens; past the last, the line's end.
 fn opens_from(keys: &[u64], n: usize, r: usize) -> u64
     requires { ⌜ (n ≤ 1024) × (n ≤ length (now keys)) ⌝ }
     ensures { λ v. ⌜ v ≡ opensFrom (now (keys .entry)) n r ⌝ }
@@ -36,13 +41,13 @@ fn opens_from(keys: &[u64], n: usize, r: usize) -> u64
     if r < n {
         return ranges::opens_at(keys[r]);
     }
-    17_179_869_184
+    LINE_END
 }
 
 // The next edge: the first place of the line, past the given one, at which a merged range opens or closes. Of the ranges that open by the
 // given place only the last can close past it; if it doesn't, the edge is where the next one opens.
 fn next_edge(keys: &[u64], n: usize, place: u64) -> u64
-    requires { ⌜ HeldMerged (now keys) n × (place < 17179869184) ⌝ }
+    requires { ⌜ HeldMerged (now keys) n × (place < lineEnd) ⌝ }
     ensures { λ r. ⌜ NextEdge (take n (now (keys .entry))) place r ⌝ }
 {
     let r = avail::opened_by(keys, n, place);
@@ -166,52 +171,39 @@ fn base_no(
     ensures { λ r. ⌜ r ≡ baseNo (base slots (now (starts .entry)) (now (ends .entry)) people
         (ranges count (now (persons .entry)) (now (opens .entry)) (now (shuts .entry))) (now (froms .entry)) (now (tos .entry))) ⌝ }
 {
-    if base_counts_ok(people, slots, count) {
-        if base_room_ok(
-            slots,
-            starts,
-            ends,
-            count,
-            persons,
-            opens,
-            shuts,
-            froms,
-            tos,
-        ) {
-            if lent::slots_ok(slots, starts, ends) {
-                if ranges::ranges_ok(people, count, persons, opens, shuts) {
-                    0
-                } else {
-                    4
-                }
-            } else {
-                3
-            }
-        } else {
-            2
-        }
-    } else {
-        1
-    }
+    let held = or_else(
+        ranges::ranges_ok(people, count, persons, opens, shuts),
+        4,
+        0,
+    );
+    let right = or_else(lent::slots_ok(slots, starts, ends), 3, held);
+    let has_room = room_ok(
+        slots,
+        starts,
+        ends,
+        count,
+        persons,
+        opens,
+        shuts,
+        froms,
+        tos,
+    );
+    let room = or_else(has_room, 2, right);
+    or_else(split_counts_ok(people, slots, count), 1, room)
 }
 
 // Whether each count is one that is taken (rule 1).
-pub(crate) fn base_counts_ok(people: usize, slots: usize, count: usize) -> bool
+pub(crate) fn split_counts_ok(people: usize, slots: usize, count: usize) -> bool
     ensures { λ r. ⌜ r ≡ splitCountsOk people slots count ⌝ }
 {
-    if people_ok(people) {
-        if slot_count_ok(slots) {
-            ranges::range_count_ok(count)
-        } else {
-            false
-        }
-    } else {
-        false
-    }
+    both(
+        people_ok(people),
+        both(slot_count_ok(slots), ranges::range_count_ok(count)),
+    )
 }
 
 // Whether each column has room (rule 2).
-fn base_room_ok(
+fn room_ok(
     slots: usize,
     starts: &[u32],
     ends: &[u32],
@@ -225,15 +217,9 @@ fn base_room_ok(
     ensures { λ r. ⌜ r ≡ roomOk slots (now (starts .entry)) (now (ends .entry))
         (ranges count (now (persons .entry)) (now (opens .entry)) (now (shuts .entry))) (now (froms .entry)) (now (tos .entry)) ⌝ }
 {
-    if lent::slot_room_ok(slots, starts, ends) {
-        if ranges::range_room_ok(count, persons, opens, shuts) {
-            lent::slot_room_ok(paper::SLOTS_MOST, froms, tos)
-        } else {
-            false
-        }
-    } else {
-        false
-    }
+    let out = lent::slot_room_ok(paper::SLOTS_MOST, froms, tos);
+    let held = both(ranges::range_room_ok(count, persons, opens, shuts), out);
+    both(lent::slot_room_ok(slots, starts, ends), held)
 }
 
 // The base slots split at every start and end of a merged range that lies strictly inside one, with their number. Refusals 1 to 5.

@@ -1,22 +1,44 @@
--- The steps of the checks and of the answers. Assumes nothing.
-use mathlib.Core.Path.{_≡_, refl, sym, ap, ap₂, _∙_}
-use mathlib.Core.Bool.{Bool}
-use mathlib.Core.List.{List, [], _∷_, _++_}
-use Prim.Native.Nat.{ℕ, suc, _+_, _-_, _≤_, _<_}
-use native.Mathlib.Omega.{arith}
+-- What no refusal of slots, settings and units says, and the answers by their numbers. Assumes nothing.
+use mathlib.Core.Path.{_≡_, sym, ap, ap₂, _∙_}
+use mathlib.Core.Bool.{Bool, true}
+use mathlib.Core.List.{List}
+use Prim.Native.Nat.{ℕ, _≤_}
 use borrow.Author.Tests.{eq-eqb, ne-eqb}
-use lib.ListN.{length, drop, getD, set, length-append, length-drop}
-use lib.Seq.{drop-cons, set-append-seam, append-snoc}
+use lib.Dec.{leb}
+use lib.ListN.{length}
 use Rattle.paper.specs.Count.{onto}
-use Rattle.paper.specs.Limits.{orElse}
+use Rattle.paper.specs.Limits.{slotCountOk}
+use Rattle.paper.proofs.Logic.{cond-zero, slot-count-says}
+use Rattle.slots.specs.Lent.{slotRoomOk, slotsOk}
 use Rattle.units.specs.declared.Number.{Number}
 use Rattle.units.specs.declared.Number.the-variants as number
 use Rattle.units.specs.declared.UnitSlots.the-variants as unitSlots
-use Rattle.units.specs.Answers.{numberAs, spanAs, Written, writtenAs, Are}
+use Rattle.units.specs.declared.Settings.{Settings}
+use Rattle.units.specs.Settings.{settingsOk, settingsThen}
+use Rattle.units.specs.Units.{unitsOk}
+use Rattle.units.specs.Answers.{numberAs, spanAs, Written, writtenAs, Are, unitsThen}
 
--- one test of a chain of refusals
-pub else-same : (r n x x′ : ℕ) (b b′ : Bool) → r ≡ orElse b n x → b ≡ b′ → x ≡ x′ → r ≡ orElse b′ n x′
-else-same r n x x′ b b′ e p q = e ∙ ap₂ (λ (t : Bool) (y : ℕ). orElse t n y) p q
+-- ---- what no refusal says
+
+pub settings-say : (s : Settings) (slots : ℕ) (starts ends : List ℕ) (room : Bool) (next : ℕ)
+    → settingsThen s slots starts ends room next ≡ 0
+    → (1 ≤ slots) × (slots ≤ 1024) × (room ≡ true) × (slotsOk slots starts ends ≡ true) × (next ≡ 0)
+settings-say s slots starts ends room next e =
+    let x = cond-zero (slotCountOk slots) _ 0 e in
+    let y = cond-zero (slotRoomOk slots starts ends) _ 1 (x .1) in
+    let z = cond-zero room _ 1 (y .1) in
+    let u = cond-zero (settingsOk s) _ 6 (z .1) in
+    let v = cond-zero (slotsOk slots starts ends) _ 8 (u .1) in
+    let n = slot-count-says slots (x .0) in
+    (n .0, n .1, z .0, v .0, v .1)
+
+pub units-say : (slots units : ℕ) (firsts : List ℕ) (room : Bool) (next : ℕ) → unitsThen slots units firsts room next ≡ 0
+    → (room ≡ true) × (unitsOk slots units firsts ≡ true) × (next ≡ 0)
+units-say slots units firsts room next e =
+    let x = cond-zero (leb units (length firsts)) _ 1 e in
+    let y = cond-zero room _ 1 (x .1) in
+    let z = cond-zero (unitsOk slots units firsts) _ 8 (y .1) in
+    (y .0, z .0, z .1)
 
 -- ---- the answer, by its number
 

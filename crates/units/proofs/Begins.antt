@@ -1,21 +1,20 @@
 -- The laws of rotation and unit starts. Assumes nothing.
-use mathlib.Core.Path.{_≡_, refl, sym, ap, _∙_}
-use mathlib.Core.Bool.{Bool, true, false, _&&_, not}
+use mathlib.Core.Path.{_≡_, refl, ap, _∙_}
+use mathlib.Core.Bool.{true, _&&_}
 use mathlib.Core.List.{List}
 use Prim.Native.Nat.{ℕ, zero, suc, _-_, _*_, _/_, _%_, _≤_, max}
 use native.Mathlib.Nat.{mod-one, zero-mod, mul-mod-left, div-add-mod'}
 use native.Mathlib.Omega.{arith}
-use borrow.Author.Tests.{eq-eqb, ne-eqb, leb-true, eqb-true}
+use borrow.Author.Tests.{eq-eqb, leb-true, eqb-true}
 use lib.Dec.{eqb, leb}
 use lib.ListN.{length}
 use Rattle.paper.specs.Count.{among}
-use Rattle.paper.specs.Limits.{slotCountOk}
-use Rattle.paper.proofs.Logic.{by-test, cond-zero, slot-count-says}
+use Rattle.paper.proofs.Logic.{by-test}
 use Rattle.paper.proofs.Count.{among-same}
-use Rattle.slots.specs.Lent.{slotRoomOk}
 use Rattle.units.specs.declared.Settings.{Settings}
 use Rattle.units.specs.Dates.{listed}
-use Rattle.units.specs.Starts.{startDate, everyBegins, dayBegins, rotationBegins, unitBegins, startsNo}
+use Rattle.units.specs.Starts.{startDate, everyBegins, dateBegins, dayBegins, rotationBegins, unitBegins, startsNo}
+use Rattle.units.proofs.Answers.{settings-say}
 
 -- ---- one slot
 
@@ -34,24 +33,11 @@ unfolding dayBegins
 day-first mask starts zero e = refl
 day-first mask starts (suc k) e = absurd (omega arith)
 
-day-later : (mask : ℕ) (starts : List ℕ) (k : ℕ) → (k ≡ 0 → ⊥)
-    → dayBegins mask starts k ≡ not (eqb (startDate starts k) (startDate starts (k - 1))) && listed mask (startDate starts k)
-unfolding dayBegins
+pub day-later : (mask : ℕ) (starts : List ℕ) (k : ℕ) → (k ≡ 0 → ⊥)
+    → dayBegins mask starts k ≡ dateBegins starts k && listed mask (startDate starts k)
+unfolding dayBegins dateBegins
 day-later mask starts zero z = absurd (z refl)
-day-later mask starts (suc k) z =
-    let e : k ≡ suc k - 1 = omega arith in
-    ap (λ (j : ℕ). not (eqb (startDate starts (suc k)) (startDate starts j)) && listed mask (startDate starts (suc k))) e
-
-module _ (mask : ℕ) (starts : List ℕ) (k d d′ : ℕ) (z : k ≡ 0 → ⊥) (p : d ≡ startDate starts k) (q : d′ ≡ startDate starts (k - 1)) where
-  pub day-same : d ≡ d′ → dayBegins mask starts k ≡ false
-  day-same e =
-      let t : eqb (startDate starts k) (startDate starts (k - 1)) ≡ true = eq-eqb (startDate starts k) _ (sym p ∙ e ∙ q) in
-      day-later mask starts k z ∙ simp t
-
-  pub day-new : (d ≡ d′ → ⊥) → (b : Bool) → b ≡ listed mask d → b ≡ dayBegins mask starts k
-  day-new n b l =
-      let f : eqb (startDate starts k) (startDate starts (k - 1)) ≡ false = ne-eqb (startDate starts k) _ (λ e. n (p ∙ e ∙ sym q)) in
-      l ∙ ap (listed mask) p ∙ sym (day-later mask starts k z ∙ simp f)
+day-later mask starts (suc k) z = refl
 
 -- ---- with the lock, units are rotations
 pub locked-same : (boundary value slots : ℕ) (starts : List ℕ)
@@ -66,11 +52,8 @@ pub starts-say : (s : Settings) (slots : ℕ) (starts ends firsts : List ℕ) �
     → (1 ≤ slots) × (slots ≤ 1024) × (slots ≤ length firsts)
 unfolding startsNo
 starts-say s slots starts ends firsts e =
-    let x = cond-zero (slotCountOk slots) _ 0 e in
-    let y = cond-zero (slotRoomOk slots starts ends) _ 1 (x .1) in
-    let z = cond-zero (leb slots (length firsts)) _ 1 (y .1) in
-    let h = slot-count-says slots (x .0) in
-    (h .0, h .1, leb-true _ _ (z .0))
+    let h = settings-say s slots starts ends (leb slots (length firsts)) 0 e in
+    (h .0, h .1, leb-true _ _ (h .2))
 
 -- ---- the lists of starts: exactly those that begin one (`among-each`, `among-at`), from 0, rising, below the slot count
 

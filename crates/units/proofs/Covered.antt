@@ -1,7 +1,7 @@
 -- The laws of covered days: in ordered slots the distinct start dates are counted at the first slot of each. Assumes nothing.
 use mathlib.Core.Path.{_≡_, refl, sym, ap, ap₂, _∙_}
 use mathlib.Core.Logic.{⊎-elim, _≢_}
-use mathlib.Core.Bool.{Bool, true, false, _&&_, not, cond}
+use mathlib.Core.Bool.{Bool, true, false, not}
 use mathlib.Core.List.{List}
 use Prim.Native.Nat.{ℕ, zero, suc, _+_, _-_, _*_, _/_, _^_, _≤_, _<_, max}
 use native.Mathlib.Nat.{not-suc-le-zero, le-antisymm, div-le-self, mul-one, mul-le-mul}
@@ -9,68 +9,26 @@ use native.Mathlib.Numerals.{add-one}
 use native.Mathlib.Omega.{arith}
 use borrow.Author.Tests.{eq-eqb, ne-eqb, eqb-true, eqb-false}
 use lib.Dec.{eqb}
-use Rattle.paper.specs.Count.{all, sum, count, some}
-use Rattle.paper.specs.Limits.{slotCountOk, lastMinute}
-use Rattle.paper.proofs.Logic.{by-test, lt-or-ge, cond-zero, slot-count-says}
-use Rattle.paper.proofs.Count.{all-fails, each-all, sum-none, sum-more, sum-same, sum-change, sum-part, sum-le, some-here, some-none, some-more}
-use Rattle.slots.specs.Lent.{slotRoomOk, slotsOk, demandOf, demandWhenOk, lentNo}
+use Rattle.paper.specs.Count.{count, some}
+use Rattle.paper.specs.Limits.{lastMinute}
+use Rattle.paper.proofs.Logic.{by-test, lt-or-ge, slot-count-says}
+use Rattle.paper.proofs.Count.{count-none, count-in, count-out, count-some, count-change, count-same, count-opening}
+use Rattle.paper.proofs.Count.{some-here, some-none, some-more}
+use Rattle.slots.specs.Lent.{slotsOk, demandOf, demandWhenOk, lentNo}
 use Rattle.slots.proofs.LentLaws.{slots-sound, when-ok, lent-says}
 use Rattle.units.specs.declared.Settings.{Settings}
 use Rattle.units.specs.declared.Duration.the-variants as duration
-use Rattle.units.specs.Settings.{settingsOk}
 use Rattle.units.specs.Dates.{dateOf}
-use Rattle.units.specs.Starts.{startDate}
-use Rattle.units.specs.Days.{covers, datesMost, coveredDays, dateBegins, minutesPerDay, targetRun}
+use Rattle.units.specs.Starts.{startDate, dateBegins}
+use Rattle.units.specs.Days.{covers, datesMost, coveredDays, minutesPerDay, targetRun}
 use Rattle.units.specs.Days.{durationAs, targetRunNo}
+use Rattle.units.proofs.Answers.{settings-say}
 
--- ---- counting
-
--- what a test adds to a count
-abbrev one : Bool → ℕ
-one b = cond b 1 0
-
-pub count-none : (p : ℕ → Bool) → count 0 p ≡ 0
-unfolding count
-count-none p = sum-none (λ k. one (p k))
-
-pub count-in : (k : ℕ) (p : ℕ → Bool) → p k ≡ true → count (k + 1) p ≡ count k p + 1
-unfolding count
-count-in k p t = sum-more k (λ j. one (p j)) ∙ ap (λ (b : Bool). sum k (λ j. one (p j)) + one b) t
-
-pub count-out : (k : ℕ) (p : ℕ → Bool) → p k ≡ false → count (k + 1) p ≡ count k p
-unfolding count
-count-out k p f =
-    sum-more k (λ j. one (p j)) ∙ ap (λ (b : Bool). sum k (λ j. one (p j)) + one b) f ∙ omega arith
-
-pub count-some : (n k : ℕ) (p : ℕ → Bool) → k < n → p k ≡ true → 1 ≤ count n p
-unfolding count
-count-some n k p h t =
-    omega (arith, sum-part n k (λ j. one (p j)) h, ap one t)
-
--- two counts of tests that differ at j alone, where only the second passes
-count-change : (n j : ℕ) (p q : ℕ → Bool) → j < n → ((k : ℕ) → k ≢ j → p k ≡ q k) → p j ≡ false → q j ≡ true
-    → count n q ≡ count n p + 1
-unfolding count
-count-change n j p q h e f t =
-    let s = sum-change n j (λ k. one (p k)) (λ k. one (q k)) h (λ k z. ap one (e k z)) in
-    let a : one (p j) ≡ 0 = ap one f in
-    let b : one (q j) ≡ 1 = ap one t in
-    omega (arith, s, a, b)
-
-count-same : (n : ℕ) (p q : ℕ → Bool) → ((k : ℕ) → p k ≡ q k) → count n p ≡ count n q
-unfolding count
-count-same n p q e = sum-same n (λ k. one (p k)) (λ k. one (q k)) (λ k h. ap one (e k))
-
-count-zero : (n : ℕ) (p : ℕ → Bool) → ((k : ℕ) → p k ≡ false) → count n p ≡ 0
-unfolding count
-count-zero n p e =
-    omega (arith, sum-le 0 n (λ k. one (p k)) (λ k h. omega (arith, ap one (e k))))
+-- ---- one more slot
 
 covers-none : (starts : List ℕ) (d : ℕ) → covers 0 starts d ≡ false
 unfolding covers
 covers-none starts d = some-none 0 (λ j. eqb (startDate starts j) d) (λ j l. absurd (not-suc-le-zero l))
-
--- ---- one more slot
 
 module _ (starts : List ℕ) (n : ℕ) where
   covers-own : covers (suc n) starts (startDate starts n) ≡ true
@@ -145,7 +103,7 @@ module _ (slots : ℕ) (starts ends : List ℕ) (ok : slotsOk slots starts ends 
   -- so the first slots of their dates are as many as the distinct dates
   dates-counted : (n : ℕ) → n ≤ slots → count n (dateBegins starts) ≡ coveredDays n starts
   unfolding coveredDays
-  dates-counted zero h = count-none (dateBegins starts) ∙ sym (count-zero datesMost (covers 0 starts) (covers-none starts))
+  dates-counted zero h = count-none (dateBegins starts) ∙ sym (count-opening datesMost 0 (covers 0 starts) (omega arith) (λ k h. absurd (omega arith)) (λ k a b. covers-none starts k))
   dates-counted (suc n) h =
       let e = ap (λ (m : ℕ). count m (dateBegins starts)) (sym (add-one n)) in
       let i = dates-counted n (omega arith) in
@@ -177,9 +135,6 @@ date-later starts zero d d′ z p q = absurd (z refl)
 date-later starts (suc k) d d′ z p q =
     let e : suc k - 1 ≡ k = omega arith in
     ap₂ (λ (x y : ℕ). not (eqb x y)) p (q ∙ ap (startDate starts) e)
-
-pub count-done : (n i t : ℕ) (p : ℕ → Bool) → i ≤ n → n ≤ i → t ≡ count i p → t ≡ count n p
-count-done n i t p h g e = e ∙ ap (λ (m : ℕ). count m p) (le-antisymm h g)
 
 -- ---- minutes a day, and the target run
 
@@ -240,12 +195,7 @@ lent-say slots starts ends e = let x = lent-says slots starts ends e in (slot-co
 pub target-says : (s : Settings) (slots : ℕ) (starts ends : List ℕ) → targetRunNo s slots starts ends ≡ 0
     → (1 ≤ slots) × (slotsOk slots starts ends ≡ true)
 unfolding targetRunNo
-target-says s slots starts ends e =
-    let a = cond-zero (slotCountOk slots) _ 0 e in
-    let b = cond-zero (slotRoomOk slots starts ends) _ 1 (a .1) in
-    let d = cond-zero (settingsOk s) _ 6 (b .1) in
-    let f = cond-zero (slotsOk slots starts ends) _ 8 (d .1) in
-    (slot-count-says slots (a .0) .0, f .0)
+target-says s slots starts ends e = let h = settings-say s slots starts ends true 0 e in (h .0, h .3)
 
 -- the dates that there are reach to the last minute
 pub dates-reach : datesMost ≡ dateOf lastMinute + 1

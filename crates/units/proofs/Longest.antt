@@ -8,7 +8,7 @@ use native.Mathlib.Numerals.{add-one}
 use native.Mathlib.Omega.{arith}
 use Rattle.paper.specs.Count.{allIn, sumIn}
 use Rattle.paper.proofs.Logic.{by-test, below-suc, lt-or-ge}
-use Rattle.paper.proofs.Count.{in-none, in-more, in-each, each-in, sum-in-none, sum-in-more}
+use Rattle.paper.proofs.Count.{in-none, in-more, in-less, sum-in-none, sum-in-more}
 use Rattle.units.specs.Achievable.{most, stretch, longestTo, longest, Longest}
 
 -- ---- the greatest
@@ -33,11 +33,7 @@ most-one (suc n) f =
     ⊎-elim (λ (h : most (suc n) f < f (suc n)). (suc n, omega arith, omega arith))
     (λ (h : f (suc n) ≤ most (suc n) f). (r .0, omega (arith, r .1), omega (arith, r .2))) (lt-or-ge (most (suc n) f) (f (suc n)))
 
--- ---- tests of stretches
-
-in-less : (a k : ℕ) (p : ℕ → Bool) → a ≤ k → allIn a (k + 1) p ≡ true → (allIn a k p ≡ true) × (p k ≡ true)
-in-less a k p h t =
-    (each-in a k p (λ j g l. in-each a (k + 1) p t j g (omega arith)), in-each a (k + 1) p t k h (omega arith))
+-- ---- stretches
 
 module _ (p : ℕ → Bool) (f : ℕ → ℕ) where
   pub stretch-free : (a e : ℕ) → allIn a e p ≡ true → stretch p f a e ≡ sumIn a e f

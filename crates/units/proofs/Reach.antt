@@ -2,28 +2,29 @@
 use mathlib.Core.Path.{_≡_, refl, sym, ap, ap₂, _∙_}
 use mathlib.Core.Bool.{Bool, true, false, cond}
 use mathlib.Core.List.{List}
-use Prim.Native.Nat.{ℕ, zero, suc, _+_, _-_, _*_, _≤_, _<_, max}
+use Prim.Native.Nat.{ℕ, _+_, _-_, _*_, _≤_, _<_, max}
 use native.Mathlib.Nat.{le-antisymm, mul-le-mul}
 use native.Mathlib.Omega.{arith}
-use borrow.Author.Tests.{le-leb, lt-ltb, leb-true, ltb-true}
+use borrow.Author.Tests.{lt-ltb, leb-true, ltb-true}
 use lib.Dec.{eqb, ltb, leb}
 use lib.ListN.{length}
-use Rattle.paper.specs.Limits.{peopleOk, slotCountOk}
+use Rattle.paper.specs.Limits.{peopleOk}
 use Rattle.paper.specs.Count.{allIn, sum}
-use Rattle.paper.proofs.Logic.{by-test, cond-zero, slot-count-says}
+use Rattle.paper.proofs.Logic.{by-test, cond-zero}
 use Rattle.paper.proofs.Count.{sum-in-le}
 use Rattle.slotset.specs.declared.Told.{Told}
 use Rattle.slotset.specs.declared.Told.the-variants.{Yes, No, Refused}
 use Rattle.slotset.specs.Slots.{slot, has}
 use Rattle.slotset.specs.Answers.{rowNo, rowSlots, toldAs}
-use Rattle.slots.specs.Lent.{slotRoomOk, slotsOk, minutesAt}
+use Rattle.slotset.proofs.Refusals.{says-row}
+use Rattle.slots.specs.Lent.{minutesAt}
 use Rattle.slots.proofs.LentLaws.{demand-part}
 use Rattle.units.specs.declared.Settings.{Settings}
-use Rattle.units.specs.Settings.{settingsOk}
 use Rattle.units.specs.Days.{minutesPerDay, targetRun}
 use Rattle.units.specs.Domains.{available}
 use Rattle.units.specs.Achievable.{stretch, longestTo, longest, achievable, longestRun, achievableRun, RunsSound}
 use Rattle.units.specs.Achievable.{achievableRunNo}
+use Rattle.units.proofs.Answers.{settings-say}
 use Rattle.units.proofs.Longest.{to-below, stretch-free, stretch-broken, to-none, to-in, to-out}
 use Rattle.units.proofs.Longest.{longest-none, longest-more, longest-grows}
 
@@ -40,15 +41,9 @@ yes-if false = refl
 
 pub available-told : (avail : List ℕ) (people p slots : ℕ) (starts ends : List ℕ) → RunsSound avail people p slots starts ends
     → (k : ℕ) → k < slots → saidYes (toldAs (rowNo avail people p slots) (has (rowSlots avail p) slots k)) ≡ available avail p k
-unfolding rowNo toldAs has available
+unfolding toldAs has available
 available-told avail people p slots starts ends r k h =
-    simp (
-      r .counted,
-      le-leb slots 1024 (r .short),
-      le-leb (16 * people) (length avail) (r .words),
-      lt-ltb p people (r .known),
-      lt-ltb k slots h,
-    )
+    simp (says-row avail people p slots (r .counted) (r .short) (r .words) (r .known), lt-ltb k slots h)
     (yes-if (eqb (slot avail (16 * p) k) 1))
 
 pub with-slot : (b : Bool) (run m x : ℕ) → b ≡ true → m ≡ x → run + m ≡ cond b (run + x) 0
@@ -115,19 +110,14 @@ pub runs-say : (s : Settings) (avail : List ℕ) (people p slots : ℕ) (starts 
 unfolding achievableRunNo
 runs-say s avail people p slots starts ends z =
     let a = cond-zero (peopleOk people) _ 0 z in
-    let b = cond-zero (slotCountOk slots) _ 0 (a .1) in
-    let c = cond-zero (slotRoomOk slots starts ends) _ 1 (b .1) in
-    let d = cond-zero (leb (16 * people) (length avail)) _ 1 (c .1) in
-    let e = cond-zero (settingsOk s) _ 6 (d .1) in
-    let f = cond-zero (slotsOk slots starts ends) _ 8 (e .1) in
-    let g = cond-zero (ltb p people) _ 10 (f .1) in
-    let n = slot-count-says slots (b .0) in
+    let h = settings-say s slots starts ends (leb (16 * people) (length avail)) _ (a .1) in
+    let g = cond-zero (ltb p people) _ 10 (h .4) in
     record {
       counted = a .0;
-      some = n .0;
-      short = n .1;
-      words = leb-true (16 * people) (length avail) (d .0);
-      lent = f .0;
+      some = h .0;
+      short = h .1;
+      words = leb-true (16 * people) (length avail) (h .2);
+      lent = h .3;
       known = ltb-true p people (g .0);
     }
 

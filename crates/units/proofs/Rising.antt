@@ -1,16 +1,14 @@
 -- The numbers below n that pass a test, as starts. Assumes nothing.
-use mathlib.Core.Path.{_≡_, sym, ap, _∙_}
-use mathlib.Core.Logic.{⊎-elim}
-use mathlib.Core.Bool.{Bool, true, cond}
-use mathlib.Core.List.{List, [], _∷_, _++_}
-use Prim.Native.Nat.{ℕ, zero, suc, _+_, _-_, _≤_, _<_}
-use native.Mathlib.Nat.{not-suc-le-zero}
+use mathlib.Core.Path.{_≡_, _∙_}
+use mathlib.Core.Bool.{Bool, true}
+use mathlib.Core.List.{List}
+use Prim.Native.Nat.{ℕ, zero, suc, _≤_, _<_}
 use native.Mathlib.Omega.{arith}
 use borrow.Author.Tests.{lt-ltb, le-leb, eq-eqb}
 use lib.Dec.{leb}
-use lib.ListN.{length, getD, drop, length-append, List·getD-append}
+use lib.ListN.{length, getD, drop, List·getD-append}
 use Rattle.paper.specs.Count.{among, onto}
-use Rattle.paper.proofs.Logic.{by-test, lt-or-ge, and-true}
+use Rattle.paper.proofs.Logic.{and-true}
 use Rattle.paper.proofs.Count.{among-at, among-each, among-rises, among-le, each-all, length-onto}
 use Rattle.units.specs.Units.{unitStart, startRises, startOk, unitsOk}
 use Rattle.units.specs.declared.Settings.{Settings}
@@ -58,19 +56,20 @@ module _ (p : ℕ → Bool) (slots : ℕ) (old : List ℕ) (first : p 0 ≡ true
 
 -- the starts that an accepted call leaves are right: units and rotations tile the slots (the laws of `Units`)
 module _ (s : Settings) (slots : ℕ) (starts ends firsts : List ℕ) (e : startsNo s slots starts ends firsts ≡ 0) where
+  written-right : (p : ℕ → Bool) → p 0 ≡ true
+      → unitsOk slots (length (among p slots)) (writtenAs (startsNo s slots starts ends firsts) (among p slots) firsts .buffer) ≡ true
+  unfolding writtenAs
+  written-right p z =
+      let h = starts-say s slots starts ends firsts e in
+      simp (eq-eqb (startsNo s slots starts ends firsts) 0 e) (among-units-ok p slots firsts z (h .0) (h .2))
+
   pub rotation-starts-right
       : unitsOk slots (length (rotationStarts s slots starts)) (rotationStartsIs s slots starts ends firsts .buffer) ≡ true
-  unfolding rotationStartsIs rotationStarts writtenAs
+  unfolding rotationStartsIs rotationStarts
   rotation-starts-right =
-      let h = starts-say s slots starts ends firsts e in
-      let z = rotation-zero (s .boundary) (s .value) starts in
-      simp (eq-eqb (startsNo s slots starts ends firsts) 0 e)
-      (among-units-ok (rotationBegins (s .boundary) (s .value) starts) slots firsts z (h .0) (h .2))
+      written-right (rotationBegins (s .boundary) (s .value) starts) (rotation-zero (s .boundary) (s .value) starts)
 
   pub unit-starts-right : unitsOk slots (length (unitStarts s slots starts)) (unitStartsIs s slots starts ends firsts .buffer) ≡ true
-  unfolding unitStartsIs unitStarts writtenAs
+  unfolding unitStartsIs unitStarts
   unit-starts-right =
-      let h = starts-say s slots starts ends firsts e in
-      let z = unit-zero (s .lock) (s .boundary) (s .value) starts in
-      simp (eq-eqb (startsNo s slots starts ends firsts) 0 e)
-      (among-units-ok (unitBegins (s .lock) (s .boundary) (s .value) starts) slots firsts z (h .0) (h .2))
+      written-right (unitBegins (s .lock) (s .boundary) (s .value) starts) (unit-zero (s .lock) (s .boundary) (s .value) starts)

@@ -3,36 +3,30 @@ use mathlib.Core.Path.{_≡_, refl, sym, ap, ap₂, _∙_, subst}
 use mathlib.Core.Bool.{Bool, true, false, _&&_, not}
 use mathlib.Core.Logic.{⊎-elim}
 use mathlib.Core.List.{List}
-use Prim.Native.Nat.{ℕ, suc, _+_, _-_, _*_, _/_, _≤_, _<_}
+use Prim.Native.Nat.{ℕ, suc, _+_, _*_, _≤_, _<_}
 use native.Mathlib.Omega.{arith}
-use borrow.Author.Tests.{eq-eqb, ne-eqb, ltb-true, ltb-false, leb-true, le-leb, lt-ltb}
+use borrow.Author.Tests.{eq-eqb, ne-eqb, ltb-true, leb-true, le-leb}
 use lib.Dec.{eqb, ltb, leb}
 use lib.ListN.{length}
 use Rattle.paper.specs.Limits.{peopleOk, slotCountOk, orElse}
-use Rattle.paper.specs.Count.{allIn, over}
-use Rattle.paper.proofs.Logic.{by-test, same-test, cond-zero, people-says, slot-count-says, one-of, lt-or-ge}
-use Rattle.paper.proofs.Count.{in-none, in-more, in-fails, in-each, each-in, among-same}
+use Rattle.paper.specs.Count.{over, FirstWhere}
+use Rattle.paper.proofs.Logic.{by-test, and-true, cond-zero, slot-count-says, one-of, lt-or-ge}
+use Rattle.paper.proofs.Count.{in-one, in-fails, each-in, among-same}
 use Rattle.slotset.specs.declared.Found.{Found}
 use Rattle.slotset.specs.declared.Found.the-variants.{At, Nothing, Refused}
 use Rattle.slotset.specs.Slots.{slot}
 use Rattle.slotset.specs.Search.{nextSet, nextUnsetAfter, prevUnsetBefore, First, Last}
 use Rattle.slotset.specs.Answers.{rowNo, rowSlots, foundAs}
 use Rattle.slotset.proofs.Meaning.{next-is, next-unique, last-is}
-use Rattle.slotset.proofs.Refusals.{row-says}
+use Rattle.slotset.proofs.Refusals.{row-says, says-row}
 use Rattle.slotset.proofs.Puts.{slot-lt}
 use Rattle.units.specs.Units.{unitStart, unitEnd, unitsOk}
 use Rattle.units.specs.Domains.{available, able, domain, slotDomain, unitDomain, unfrozen, clear, unitFrozen}
 use Rattle.units.specs.Domains.{isNothing, ableIn, clearIn, DomainRoom}
-use Rattle.units.specs.Domains.{unitFrozenNo, slotDomainNo, domainNo, unitDomainNo, unitMask, unitDomainsNo, unitDomainsIs}
-use Rattle.units.specs.Striking.{foundOr, FirstNot, MaskRoom}
+use Rattle.units.specs.Domains.{unitFrozenNo, setsThen, slotDomainNo, domainNo, unitDomainNo, unitMask, unitDomainsNo, unitDomainsIs}
+use Rattle.units.specs.Striking.{foundOr, MaskRoom}
 use Rattle.units.proofs.Units.{units-room, unit-within}
-
--- ---- one slot is a stretch
-
-in-one : (k : ℕ) (p : ℕ → Bool) → allIn k (k + 1) p ≡ p k
-in-one k p =
-    same-test (allIn k (k + 1) p) (p k) (λ t. in-each k (k + 1) p t k (omega arith) (omega arith))
-    (λ t. in-more k k p (omega arith) (in-none k p) t)
+use Rattle.units.proofs.Answers.{units-say}
 
 -- ---- availability
 
@@ -83,57 +77,30 @@ able-after-law avail people p a b e z =
 -- a row that may be asked
 pub row-ok : (ws : List ℕ) (people person len : ℕ) → person < people → people ≤ 32 → len ≤ 1024 → 16 * people ≤ length ws
     → rowNo ws people person len ≡ 0
-unfolding rowNo peopleOk
+unfolding peopleOk
 row-ok ws people person len h few l room =
-    simp (
-      le-leb 1 people (omega arith),
-      le-leb people 32 few,
-      le-leb len 1024 l,
-      le-leb (16 * people) (length ws) room,
-      lt-ltb person people h,
-    )
+    says-row ws people person len (and-true _ _ (le-leb 1 people (omega arith)) (le-leb people 32 few)) l room h
 
 -- where the words and the person are known, that is availability itself
 pub able-known : (avail : List ℕ) (people e : ℕ) (list : List ℕ) → DomainRoom avail people e list
     → (p a : ℕ) → p < people → ableIn avail people p a e ≡ able avail a e p
 unfolding ableIn
 able-known avail people e list r p a h =
-    simp (row-ok avail people p e h (people-says people (r .counted) .1) (r .short) (r .words))
+    simp (says-row avail people p e (r .counted) (r .short) (r .words) h)
 
 -- ---- the next slot that a person lacks, and the next that they have
 
 module _ (avail : List ℕ) (p slots : ℕ) where
-  gap-found : (at : ℕ) (r : Found) → at ≤ slots → First 0 (rowSlots avail p) slots at r
-      → FirstNot (available avail p) at slots (foundOr slots r)
-  gap-found at (At i) h w =
-      record {
-        from = w .0;
-        within = omega (arith, w .1);
-        each = λ k l g. had avail p k (w .3 k l g);
-        fails = λ _. lacking avail p i (w .2);
-      }
-  gap-found at Nothing h w =
-      record { from = h; within = omega arith; each = λ k l g. had avail p k (w k l g); fails = λ l. absurd (omega arith) }
-  gap-found at (Refused n) h w = absurd w
-
-  had-found : (at : ℕ) (r : Found) → at ≤ slots → First 1 (rowSlots avail p) slots at r
-      → FirstNot (λ k. not (available avail p k)) at slots (foundOr slots r)
-  unfolding available
-  had-found at (At i) h w =
-      record {
-        from = w .0;
-        within = omega (arith, w .1);
-        each = λ k l g. ap not (ne-eqb (slot avail (16 * p) k) 1 (w .3 k l g));
-        fails = λ _. ap not (eq-eqb (slot avail (16 * p) i) 1 (w .2));
-      }
-  had-found at Nothing h w =
-      record {
-        from = h;
-        within = omega arith;
-        each = λ k l g. ap not (ne-eqb (slot avail (16 * p) k) 1 (w k l g));
-        fails = λ l. absurd (omega arith);
-      }
-  had-found at (Refused n) h w = absurd w
+  -- the slot that a search for v finds is the first where availability is b, if it is b exactly where the set has v
+  found-first : (v : ℕ) (b : Bool) → ((k : ℕ) → rowSlots avail p k ≡ v → available avail p k ≡ b)
+      → ((k : ℕ) → (rowSlots avail p k ≡ v → ⊥) → available avail p k ≡ not b)
+      → (at : ℕ) (r : Found) → at ≤ slots → First v (rowSlots avail p) slots at r
+      → FirstWhere b (available avail p) at slots (foundOr slots r)
+  found-first v b same other at (At i) h w =
+      record { from = w .0; within = omega (arith, w .1); here = λ _. same i (w .2); before = λ k l g. other k (w .3 k l g) }
+  found-first v b same other at Nothing h w =
+      record { from = h; within = omega arith; here = λ l. absurd (omega arith); before = λ k l g. other k (w k l g) }
+  found-first v b same other at (Refused n) h w = absurd w
 
   module _ (people : ℕ) (ok : rowNo avail people p slots ≡ 0) where
     asked : (x : Found) → foundAs (rowNo avail people p slots) x ≡ x
@@ -142,20 +109,23 @@ module _ (avail : List ℕ) (p slots : ℕ) where
 
     -- found by a search, from its answer x
     pub had-law : (at r : ℕ) (x : Found) → at ≤ slots → x ≡ foundAs (rowNo avail people p slots) (nextSet (rowSlots avail p) slots at)
-        → r ≡ foundOr slots x → FirstNot (λ k. not (available avail p k)) at slots r
+        → r ≡ foundOr slots x → FirstWhere true (available avail p) at slots r
+    unfolding available
     had-law at r x h e q =
-        subst (FirstNot (λ k. not (available avail p k)) at slots)
+        subst (FirstWhere true (available avail p) at slots)
         (sym (q ∙ ap (foundOr slots) (e ∙ asked (nextSet (rowSlots avail p) slots at))))
-        (had-found at (nextSet (rowSlots avail p) slots at) h (next-is 1 (rowSlots avail p) slots at))
+        (found-first 1 true (λ k y. eq-eqb (slot avail (16 * p) k) 1 y) (λ k n. ne-eqb (slot avail (16 * p) k) 1 n) at
+        (nextSet (rowSlots avail p) slots at) h (next-is 1 (rowSlots avail p) slots at))
 
     pub gap-law : (at b r : ℕ) (x : Found) → suc b ≡ at → at ≤ slots
         → x ≡ foundAs (rowNo avail people p slots) (nextUnsetAfter (rowSlots avail p) slots b) → r ≡ foundOr slots x
-        → FirstNot (available avail p) at slots r
+        → FirstWhere false (available avail p) at slots r
     gap-law at b r x z h e q =
-        subst (λ (a : ℕ). FirstNot (available avail p) a slots r) z
-        (subst (FirstNot (available avail p) (suc b) slots)
+        subst (λ (a : ℕ). FirstWhere false (available avail p) a slots r) z
+        (subst (FirstWhere false (available avail p) (suc b) slots)
         (sym (q ∙ ap (foundOr slots) (e ∙ asked (nextUnsetAfter (rowSlots avail p) slots b))))
-        (gap-found (suc b) (nextUnsetAfter (rowSlots avail p) slots b) (omega arith) (next-is 0 (rowSlots avail p) slots (suc b))))
+        (found-first 0 false (lacking avail p) (had avail p) (suc b) (nextUnsetAfter (rowSlots avail p) slots b) (omega arith)
+        (next-is 0 (rowSlots avail p) slots (suc b))))
 
     -- from slot 0 on: that slot is asked first
     slot-zero : (t : Bool) → t ≡ ableIn avail people p 0 1 → t ≡ available avail p 0
@@ -164,18 +134,18 @@ module _ (avail : List ℕ) (p slots : ℕ) where
         let R = row-says avail people p slots ok in
         e ∙ simp (row-ok avail people p 1 (R .known) (R .few) (omega arith) (R .room)) (in-one 0 (available avail p))
 
-    pub gap-first : (at : ℕ) (t : Bool) → at ≡ 0 → t ≡ ableIn avail people p 0 1 → t ≡ false → FirstNot (available avail p) at slots 0
+    pub gap-first : (at : ℕ) (t : Bool) → at ≡ 0 → t ≡ ableIn avail people p 0 1 → t ≡ false → FirstWhere false (available avail p) at slots 0
     gap-first at t z e f =
         record {
           from = omega arith;
           within = omega arith;
-          each = λ k l g. absurd (omega arith);
-          fails = λ _. sym (slot-zero t e) ∙ f;
+          here = λ _. sym (slot-zero t e) ∙ f;
+          before = λ k l g. absurd (omega arith);
         }
 
     pub gap-later : (at r : ℕ) (t : Bool) (x : Found) → at ≡ 0 → t ≡ ableIn avail people p 0 1 → t ≡ true
         → x ≡ foundAs (rowNo avail people p slots) (nextUnsetAfter (rowSlots avail p) slots 0) → r ≡ foundOr slots x
-        → FirstNot (available avail p) at slots r
+        → FirstWhere false (available avail p) at slots r
     gap-later at r t x z e y d q =
         let zero-had : available avail p 0 ≡ true = sym (slot-zero t e) ∙ y in
         ⊎-elim
@@ -184,10 +154,10 @@ module _ (avail : List ℕ) (p slots : ℕ) where
         record {
           from = omega (arith, G .from);
           within = G .within;
-          each = λ k l g.
-              ⊎-elim (λ (a : 0 < k). G .each k a g) (λ (a : k ≤ 0). let n : k ≡ 0 = omega arith in ap (available avail p) n ∙ zero-had)
+          here = G .here;
+          before = λ k l g.
+              ⊎-elim (λ (a : 0 < k). G .before k a g) (λ (a : k ≤ 0). let n : k ≡ 0 = omega arith in ap (available avail p) n ∙ zero-had)
               (lt-or-ge 0 k);
-          fails = G .fails;
         })
         (λ (h : slots ≤ 0).
         let n : slots ≡ 0 = omega arith in
@@ -197,8 +167,8 @@ module _ (avail : List ℕ) (p slots : ℕ) where
         record {
           from = omega arith;
           within = omega arith;
-          each = λ k l g. absurd (omega arith);
-          fails = λ g. absurd (omega arith);
+          here = λ g. absurd (omega arith);
+          before = λ k l g. absurd (omega arith);
         })
         (lt-or-ge 0 slots)
 
@@ -221,8 +191,8 @@ clear-law frozen a e =
     (clear-answers frozen a e (nextSet (rowSlots frozen 0) e a) (next-is 1 (rowSlots frozen 0) e a))
 
 pub clear-known : (frozen : List ℕ) (a e : ℕ) → 16 ≤ length frozen → e ≤ 1024 → clearIn frozen a e ≡ clear frozen a e
-unfolding clearIn rowNo peopleOk
-clear-known frozen a e h g = simp (le-leb e 1024 g, le-leb 16 (length frozen) h)
+unfolding clearIn peopleOk
+clear-known frozen a e h g = simp (says-row frozen 1 0 e refl g h (omega arith))
 
 -- ---- the domain of a slot
 
@@ -231,13 +201,6 @@ unfolding domain slotDomain able
 slot-domain-same avail people k =
     among-same (able avail k (k + 1)) (λ p. available avail p k) people (λ p h. in-one k (available avail p))
 
--- ---- rule 2 of lent sets, without the product
-pub words-room : (people n : ℕ) → leb people (n / 16) ≡ leb (16 * people) n
-words-room people n =
-    same-test (leb people (n / 16)) (leb (16 * people) n)
-    (λ t. le-leb (16 * people) n (omega (arith, leb-true people (n / 16) t)))
-    (λ t. le-leb people (n / 16) (omega (arith, leb-true (16 * people) n t)))
-
 -- ---- what no refusal says
 
 pub frozen-says : (frozen : List ℕ) (slots units : ℕ) (firsts : List ℕ) (u : ℕ) → unitFrozenNo frozen slots units firsts u ≡ 0
@@ -245,26 +208,30 @@ pub frozen-says : (frozen : List ℕ) (slots units : ℕ) (firsts : List ℕ) (u
 unfolding unitFrozenNo
 frozen-says frozen slots units firsts u z =
     let a = cond-zero (slotCountOk slots) _ 0 z in
-    let b = cond-zero (leb units (length firsts)) _ 1 (a .1) in
-    let c = cond-zero (leb 16 (length frozen)) _ 1 (b .1) in
-    let d = cond-zero (unitsOk slots units firsts) _ 8 (c .1) in
-    let e = cond-zero (ltb u units) _ 10 (d .1) in
-    let h = unit-within slots units firsts (d .0) u (ltb-true u units (e .0)) in
-    (leb-true 16 (length frozen) (c .0), omega (arith, h, slot-count-says slots (a .0) .1))
+    let s = units-say slots units firsts (leb 16 (length frozen)) _ (a .1) in
+    let e = cond-zero (ltb u units) _ 10 (s .2) in
+    let h = unit-within slots units firsts (s .1) u (ltb-true u units (e .0)) in
+    (leb-true 16 (length frozen) (s .0), omega (arith, h, slot-count-says slots (a .0) .1))
+
+sets-say : (avail : List ℕ) (people slots next : ℕ) → setsThen avail people slots next ≡ 0
+    → (peopleOk people ≡ true) × (slotCountOk slots ≡ true) × (16 * people ≤ length avail) × (next ≡ 0)
+sets-say avail people slots next z =
+    let a = cond-zero (peopleOk people) _ 0 z in
+    let b = cond-zero (slotCountOk slots) _ 0 (a .1) in
+    let c = cond-zero (leb (16 * people) (length avail)) _ 1 (b .1) in
+    (a .0, b .0, leb-true (16 * people) (length avail) (c .0), c .1)
 
 pub slot-domain-says : (avail : List ℕ) (people slots k : ℕ) (list : List ℕ) → slotDomainNo avail people slots k list ≡ 0
     → DomainRoom avail people (k + 1) list
 unfolding slotDomainNo
 slot-domain-says avail people slots k list z =
-    let a = cond-zero (peopleOk people) _ 0 z in
-    let b = cond-zero (slotCountOk slots) _ 0 (a .1) in
-    let c = cond-zero (leb (16 * people) (length avail)) _ 1 (b .1) in
-    let d = cond-zero (leb people (length list)) _ 1 (c .1) in
+    let s = sets-say avail people slots _ z in
+    let d = cond-zero (leb people (length list)) _ 1 (s .3) in
     let e = cond-zero (ltb k slots) _ 10 (d .1) in
     record {
-      counted = a .0;
-      words = leb-true (16 * people) (length avail) (c .0);
-      short = omega (arith, ltb-true k slots (e .0), slot-count-says slots (b .0) .1);
+      counted = s .0;
+      words = s .2;
+      short = omega (arith, ltb-true k slots (e .0), slot-count-says slots (s .1) .1);
       room = leb-true people (length list) (d .0);
     }
 
@@ -274,13 +241,9 @@ module _ (avail : List ℕ) (people slots units : ℕ) (firsts : List ℕ) (room
   pub domain-says : (peopleOk people ≡ true) × (slotCountOk slots ≡ true) × (16 * people ≤ length avail) × (room ≡ true)
       × (unitsOk slots units firsts ≡ true) × (next ≡ 0)
   domain-says =
-      let a = cond-zero (peopleOk people) _ 0 z in
-      let b = cond-zero (slotCountOk slots) _ 0 (a .1) in
-      let c = cond-zero (leb (16 * people) (length avail)) _ 1 (b .1) in
-      let f = cond-zero (leb units (length firsts)) _ 1 (c .1) in
-      let d = cond-zero room _ 1 (f .1) in
-      let g = cond-zero (unitsOk slots units firsts) _ 8 (d .1) in
-      (a .0, b .0, leb-true (16 * people) (length avail) (c .0), d .0, g .0, g .1)
+      let s = sets-say avail people slots _ z in
+      let u = units-say slots units firsts room next (s .3) in
+      (s .0, s .1, s .2, u .0, u .1, u .2)
 
 -- the number heard of a unit's domain, where the test of the unit comes last
 pub no-after : (avail : List ℕ) (people slots units : ℕ) (firsts : List ℕ) (u : ℕ) (list : List ℕ) (n next : ℕ)

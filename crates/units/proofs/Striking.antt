@@ -1,20 +1,20 @@
 -- Striking person by person leads to every unit's mask. Assumes nothing.
-use mathlib.Core.Path.{_≡_, refl, sym, ap, ap₂, _∙_}
+use mathlib.Core.Path.{_≡_, refl, sym, ap, _∙_}
 use mathlib.Core.Logic.{⊎-elim, _≢_}
-use mathlib.Core.Bool.{Bool, true, false, _&&_, _||_, not, cond, and-false}
+use mathlib.Core.Bool.{Bool, true, false, _&&_, _||_, not, cond, and-false, or-true}
 use mathlib.Core.List.{List}
-use Prim.Native.Nat.{ℕ, zero, suc, _+_, _-_, _^_, _≤_, _<_}
+use Prim.Native.Nat.{ℕ, _+_, _-_, _^_, _≤_, _<_}
 use native.Mathlib.Omega.{arith}
-use borrow.Author.Tests.{eq-eqb, ne-eqb, eqb-true, eqb-false, lt-ltb, le-ltb, not-true, not-false}
+use borrow.Author.Tests.{eq-eqb, ne-eqb, eqb-true, eqb-false, lt-ltb, le-ltb}
 use lib.Dec.{eqb, ltb}
 use lib.ListN.{length, getD, set}
-use Rattle.paper.specs.Count.{allIn, sum, over}
+use Rattle.paper.specs.Count.{over, FirstWhere}
 use Rattle.paper.proofs.Logic.{by-test, lt-or-ge}
-use Rattle.paper.proofs.Count.{sum-change, sum-part, in-fails, each-in}
+use Rattle.paper.proofs.Count.{sum-change, in-fails, each-in}
 use Rattle.paper.proofs.Count.{length-over, getD-over, over-set, over-same, over-again}
 use Rattle.units.specs.Units.{unitStart, unitEnd, unitsOk, InUnit}
 use Rattle.units.specs.Domains.{available, able, maskOf, unitMask}
-use Rattle.units.specs.Striking.{FirstNot, MaskRoom, judged, maskThen}
+use Rattle.units.specs.Striking.{MaskRoom, judged, maskThen}
 use Rattle.units.proofs.Units.{unit-some, unit-within, units-apart, starts-far}
 use Rattle.units.proofs.MaskBits.{mask-same}
 
@@ -79,10 +79,6 @@ module _ (g : ℕ → ℕ → Bool) (people : ℕ) where
       (λ f. simp f)))
       (λ (b : w ≤ v). left-same p u w v (le-ltb v u a ∙ sym (le-ltb v w b))) (lt-or-ge v w))
       (lt-or-ge v u)
-    where
-      or-true : (b : Bool) → b || true ≡ true
-      or-true true = refl
-      or-true false = refl
 
   -- person p is struck from unit u, and the other masks stay
   left-strike : (p u : ℕ) → p < people → g p u ≡ false → left p (u + 1) u + 2 ^ p ≡ left p u u
@@ -103,14 +99,13 @@ module _ (g : ℕ → ℕ → Bool) (people : ℕ) where
 -- ---- the walk over the units, in the lent masks
 
 -- a stretch that begins with a slot that p lacks ends after it
-pub gap-before : (avail : List ℕ) (p gap slots had : ℕ) → FirstNot (λ k. not (available avail p k)) gap slots had → gap < slots
+pub gap-before : (avail : List ℕ) (p gap slots had : ℕ) → FirstWhere true (available avail p) gap slots had → gap < slots
     → available avail p gap ≡ false → gap < had
 gap-before avail p gap slots had F l z =
     ⊎-elim (λ (h : gap < had). h)
     (λ (h : had ≤ gap).
     let e : had ≡ gap = omega (arith, F .from) in
-    let o = not-false (available avail p had) (F .fails (omega arith)) in
-    absurd (mathlib.Core.Bool.true≢false (sym o ∙ ap (available avail p) e ∙ z)))
+    absurd (mathlib.Core.Bool.true≢false (sym (F .here (omega arith)) ∙ ap (available avail p) e ∙ z)))
     (lt-or-ge gap had)
 
 -- so a unit that starts where it ends, or later, is not the one that holds its first slot
@@ -123,16 +118,15 @@ past firsts v w gap had h s g b =
 -- a unit that starts in a stretch that p lacks, or holds its first slot, is not fit for p
 pub lacks-unit : (avail : List ℕ) (slots units : ℕ) (firsts : List ℕ) → unitsOk slots units firsts ≡ true → (p v gap had w : ℕ)
     → InUnit slots units firsts gap v → available avail p gap ≡ false
-    → ((k : ℕ) → gap ≤ k → k < had → not (available avail p k) ≡ true) → v ≤ w → w < units → unitStart firsts w < had → able avail
-    (unitStart firsts w) (unitEnd slots units firsts w) p ≡ false
+    → ((k : ℕ) → gap ≤ k → k < had → available avail p k ≡ false) → v ≤ w → w < units → unitStart firsts w < had
+    → able avail (unitStart firsts w) (unitEnd slots units firsts w) p ≡ false
 unfolding able
 lacks-unit avail slots units firsts ok p v gap had w I z lacks h l b =
     ⊎-elim
     (λ (c : v < w).
     let s = unitStart firsts w in
-    let o = lacks s (omega (arith, units-apart slots units firsts ok v w c l, I .to)) b in
     sym (in-fails s s (unitEnd slots units firsts w) (available avail p) (omega arith) (unit-some slots units firsts ok w l)
-    (not-true _ o)))
+    (lacks s (omega (arith, units-apart slots units firsts ok v w c l, I .to)) b)))
     (λ (c : w ≤ v).
     let e : v ≡ w = omega arith in
     let f : able avail (unitStart firsts v) (unitEnd slots units firsts v) p ≡ false

@@ -2,15 +2,15 @@
 use mathlib.Core.Path.{_≡_}
 use mathlib.Core.Bool.{Bool, true, cond}
 use mathlib.Core.List.{List}
-use Prim.Native.Nat.{ℕ, zero, suc, _+_, _-_, _*_, _≤_, _<_, max, min}
+use Prim.Native.Nat.{ℕ, zero, suc, _*_, _≤_, _<_, max, min}
 use lib.Dec.{ltb, leb}
 use lib.ListN.{length}
-use Rattle.paper.specs.Limits.{peopleOk, slotCountOk, orElse}
+use Rattle.paper.specs.Limits.{peopleOk, orElse}
 use Rattle.paper.specs.Count.{allIn, sumIn}
-use Rattle.slots.specs.Lent.{slotRoomOk, slotsOk, minutesAt}
+use Rattle.slots.specs.Lent.{slotsOk, minutesAt}
 use Rattle.units.specs.declared.Settings.{Settings}
 use Rattle.units.specs.declared.Duration.{Duration}
-use Rattle.units.specs.Settings.{settingsOk}
+use Rattle.units.specs.Settings.{settingsThen}
 use Rattle.units.specs.Days.{targetRun, durationAs}
 use Rattle.units.specs.Domains.{available}
 
@@ -64,11 +64,7 @@ pub record RunsSound (avail : List ℕ) (people p slots : ℕ) (starts ends : Li
 -- 1, 2, 7, 9, 11
 unfoldable pub achievableRunNo : Settings → List ℕ → ℕ → ℕ → ℕ → List ℕ → List ℕ → ℕ
 achievableRunNo s avail people p slots starts ends =
-    orElse (peopleOk people) 1
-    (orElse (slotCountOk slots) 1
-    (orElse (slotRoomOk slots starts ends) 2
-    (orElse (leb (16 * people) (length avail)) 2
-    (orElse (settingsOk s) 7 (orElse (slotsOk slots starts ends) 9 (orElse (ltb p people) 11 0))))))
+    orElse (peopleOk people) 1 (settingsThen s slots starts ends (leb (16 * people) (length avail)) (orElse (ltb p people) 11 0))
 
 unfoldable pub achievableRunIs : Settings → List ℕ → ℕ → ℕ → ℕ → List ℕ → List ℕ → Duration
 achievableRunIs s avail people p slots starts ends =

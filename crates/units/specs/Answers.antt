@@ -1,10 +1,10 @@
 -- What a caller hears of units, refused or not. Assumes nothing.
-use mathlib.Core.Bool.{cond}
-use mathlib.Core.List.{List, _++_}
+use mathlib.Core.Bool.{Bool, true, cond}
+use mathlib.Core.List.{List}
 use mathlib.Core.Path.{_≡_}
 use Prim.Native.Nat.{ℕ}
 use lib.Dec.{eqb, ltb, leb}
-use lib.ListN.{length, drop}
+use lib.ListN.{length}
 use Rattle.paper.specs.Count.{onto}
 use Rattle.paper.specs.Limits.{slotCountOk, orElse}
 use Rattle.units.specs.declared.Number.{Number}
@@ -44,10 +44,14 @@ pub record Are (w : Written) (answer : Number) (buffer : List ℕ) : Type 0 wher
 
 -- ---- lent units
 
+-- 2 and 9 of units, with a list that has room or has none; and then what comes after them
+abbrev pub unitsThen : ℕ → ℕ → List ℕ → Bool → ℕ → ℕ
+unitsThen slots units firsts room next =
+    orElse (leb units (length firsts)) 2 (orElse room 2 (orElse (unitsOk slots units firsts) 9 next))
+
 -- 1, 2, 9, and then what comes after them
 unfoldable pub unitsNo : ℕ → ℕ → List ℕ → ℕ → ℕ
-unitsNo slots units firsts next =
-    orElse (slotCountOk slots) 1 (orElse (leb units (length firsts)) 2 (orElse (unitsOk slots units firsts) 9 next))
+unitsNo slots units firsts next = orElse (slotCountOk slots) 1 (unitsThen slots units firsts true next)
 
 -- 11: a unit, or a slot, that is not below its count
 unfoldable pub unitNo : ℕ → ℕ → List ℕ → ℕ → ℕ

@@ -1,16 +1,15 @@
 -- Covered days, minutes a day, target run. What a covered day is stands here alone: `covers` and `coveredDays`. Assumes nothing.
-use mathlib.Core.Bool.{Bool, true, not, cond}
+use mathlib.Core.Bool.{Bool, true, cond}
 use mathlib.Core.List.{List}
-use Prim.Native.Nat.{ℕ, zero, suc, _*_, _/_, max}
+use Prim.Native.Nat.{ℕ, _*_, _/_, max}
 use lib.Dec.{eqb}
-use Rattle.paper.specs.Limits.{slotCountOk, orElse}
-use Rattle.paper.specs.Count.{all, count, some}
-use Rattle.slots.specs.Lent.{slotRoomOk, slotsOk, demandOf, lentNo}
+use Rattle.paper.specs.Count.{count, some}
+use Rattle.slots.specs.Lent.{demandOf, lentNo}
 use Rattle.units.specs.declared.Number.{Number}
 use Rattle.units.specs.declared.Duration.{Duration}
 use Rattle.units.specs.declared.Duration.the-variants as duration
 use Rattle.units.specs.declared.Settings.{Settings}
-use Rattle.units.specs.Settings.{settingsOk}
+use Rattle.units.specs.Settings.{settingsThen}
 use Rattle.units.specs.Answers.{numberAs}
 use Rattle.units.specs.Starts.{startDate}
 
@@ -34,13 +33,6 @@ minutesPerDay slots starts ends = max (demandOf slots starts ends / coveredDays 
 unfoldable pub targetRun : ℕ → ℕ → List ℕ → List ℕ → ℕ
 targetRun days slots starts ends = minutesPerDay slots starts ends * max days 1
 
--- ---- how they are found: slots are ordered, so a date's slots are neighbours
-
--- slot k is the first of its date: slot 0, or its date differs from the previous slot's
-unfoldable pub dateBegins : List ℕ → ℕ → Bool
-dateBegins starts zero = true
-dateBegins starts (suc j) = not (eqb (startDate starts (suc j)) (startDate starts j))
-
 -- ---- the answers
 
 unfoldable pub durationAs : ℕ → ℕ → Duration
@@ -59,9 +51,7 @@ minutesPerDayIs slots starts ends = durationAs (lentNo slots starts ends) (minut
 
 -- 1, 2, 7, 9
 unfoldable pub targetRunNo : Settings → ℕ → List ℕ → List ℕ → ℕ
-targetRunNo s slots starts ends =
-    orElse (slotCountOk slots) 1
-    (orElse (slotRoomOk slots starts ends) 2 (orElse (settingsOk s) 7 (orElse (slotsOk slots starts ends) 9 0)))
+targetRunNo s slots starts ends = settingsThen s slots starts ends true 0
 
 unfoldable pub targetRunIs : Settings → ℕ → List ℕ → List ℕ → Duration
 targetRunIs s slots starts ends = durationAs (targetRunNo s slots starts ends) (targetRun (s .days) slots starts ends)

@@ -13,8 +13,8 @@ use Rattle.slotset.specs.Answers.{rowNo, toldAs}
 use Rattle.slotset.specs.declared.Found.{Found}
 use Rattle.slotset.specs.declared.Found.the-variants.{At, Nothing, Refused}
 use Rattle.slotset.specs.declared.Told.{Told}
-use Rattle.units.specs.Units.{unitStart, unitEnd, unitsOk}
-use Rattle.units.specs.Answers.{Written, writtenAs}
+use Rattle.units.specs.Units.{unitStart, unitEnd}
+use Rattle.units.specs.Answers.{Written, writtenAs, unitsThen}
 
 -- ---- domains
 
@@ -95,30 +95,26 @@ pub record DomainRoom (avail : List ℕ) (people e : ℕ) (list : List ℕ) : Ty
 -- 1, 2, 9, 11
 unfoldable pub unitFrozenNo : List ℕ → ℕ → ℕ → List ℕ → ℕ → ℕ
 unitFrozenNo frozen slots units firsts u =
-    orElse (slotCountOk slots) 1
-    (orElse (leb units (length firsts)) 2
-    (orElse (leb 16 (length frozen)) 2 (orElse (unitsOk slots units firsts) 9 (orElse (ltb u units) 11 0))))
+    orElse (slotCountOk slots) 1 (unitsThen slots units firsts (leb 16 (length frozen)) (orElse (ltb u units) 11 0))
 
 unfoldable pub unitFrozenIs : List ℕ → ℕ → ℕ → List ℕ → ℕ → Told
 unitFrozenIs frozen slots units firsts u = toldAs (unitFrozenNo frozen slots units firsts u) (unitFrozen frozen slots units firsts u)
 
+-- 1 and 2 of the sets of people, and then what comes after them
+abbrev pub setsThen : List ℕ → ℕ → ℕ → ℕ → ℕ
+setsThen avail people slots next =
+    orElse (peopleOk people) 1 (orElse (slotCountOk slots) 1 (orElse (leb (16 * people) (length avail)) 2 next))
+
 -- 1, 2, 11
 unfoldable pub slotDomainNo : List ℕ → ℕ → ℕ → ℕ → List ℕ → ℕ
-slotDomainNo avail people slots k list =
-    orElse (peopleOk people) 1
-    (orElse (slotCountOk slots) 1
-    (orElse (leb (16 * people) (length avail)) 2 (orElse (leb people (length list)) 2 (orElse (ltb k slots) 11 0))))
+slotDomainNo avail people slots k list = setsThen avail people slots (orElse (leb people (length list)) 2 (orElse (ltb k slots) 11 0))
 
 unfoldable pub slotDomainIs : List ℕ → ℕ → ℕ → ℕ → List ℕ → Written
 slotDomainIs avail people slots k list = writtenAs (slotDomainNo avail people slots k list) (slotDomain avail people k) list
 
 -- 1, 2 and 9 of units and the sets of their people, with a list that has room or has none; and then what comes after them
 abbrev pub domainNo : List ℕ → ℕ → ℕ → ℕ → List ℕ → Bool → ℕ → ℕ
-domainNo avail people slots units firsts room next =
-    orElse (peopleOk people) 1
-    (orElse (slotCountOk slots) 1
-    (orElse (leb (16 * people) (length avail)) 2
-    (orElse (leb units (length firsts)) 2 (orElse room 2 (orElse (unitsOk slots units firsts) 9 next)))))
+domainNo avail people slots units firsts room next = setsThen avail people slots (unitsThen slots units firsts room next)
 
 -- 1, 2, 9, 11
 unfoldable pub unitDomainNo : List ℕ → ℕ → ℕ → ℕ → List ℕ → ℕ → List ℕ → ℕ

@@ -4,11 +4,9 @@ use mathlib.Core.List.{List}
 use Prim.Native.Nat.{ℕ, zero, suc, _%_, max}
 use lib.Dec.{eqb, leb}
 use lib.ListN.{length, getD}
-use Rattle.paper.specs.Limits.{slotCountOk, orElse}
 use Rattle.paper.specs.Count.{among}
-use Rattle.slots.specs.Lent.{slotRoomOk, slotsOk}
 use Rattle.units.specs.declared.Settings.{Settings}
-use Rattle.units.specs.Settings.{settingsOk}
+use Rattle.units.specs.Settings.{settingsThen}
 use Rattle.units.specs.Dates.{dateOf, listed}
 use Rattle.units.specs.Answers.{Written, writtenAs}
 
@@ -19,6 +17,11 @@ startDate starts k = dateOf (getD starts k 0)
 -- every n slots: 0, n, 2n and on; 0 counts as 1
 unfoldable pub everyBegins : ℕ → ℕ → Bool
 everyBegins n k = eqb (k % max n 1) 0
+
+-- slot k is the first of its date: slot 0, or its date differs from the previous slot's. In ordered slots a date's slots are neighbours
+unfoldable pub dateBegins : List ℕ → ℕ → Bool
+dateBegins starts zero = true
+dateBegins starts (suc j) = not (eqb (startDate starts (suc j)) (startDate starts j))
 
 -- on weekdays: slot 0, and each later slot whose start date differs from the previous slot's and is a listed day
 unfoldable pub dayBegins : ℕ → List ℕ → ℕ → Bool
@@ -46,10 +49,7 @@ unitStarts s slots starts = begun (s .lock) (s .boundary) (s .value) slots start
 
 -- 1, 2, 7, 9: the list of starts needs room for as many entries as slots
 unfoldable pub startsNo : Settings → ℕ → List ℕ → List ℕ → List ℕ → ℕ
-startsNo s slots starts ends firsts =
-    orElse (slotCountOk slots) 1
-    (orElse (slotRoomOk slots starts ends) 2
-    (orElse (leb slots (length firsts)) 2 (orElse (settingsOk s) 7 (orElse (slotsOk slots starts ends) 9 0))))
+startsNo s slots starts ends firsts = settingsThen s slots starts ends (leb slots (length firsts)) 0
 
 -- the two outcomes
 unfoldable pub rotationStartsIs : Settings → ℕ → List ℕ → List ℕ → List ℕ → Written

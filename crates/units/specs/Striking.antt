@@ -1,8 +1,8 @@
 -- Everybody at once: they stand in each unit's mask, and who lacks a slot of it is struck. Assumes nothing.
 use mathlib.Core.Path.{_≡_}
-use mathlib.Core.Bool.{Bool, true, false, _&&_, _||_, not}
+use mathlib.Core.Bool.{Bool, true, _&&_, _||_, not}
 use mathlib.Core.List.{List}
-use Prim.Native.Nat.{ℕ, _*_, _≤_, _<_}
+use Prim.Native.Nat.{ℕ, _*_, _≤_}
 use lib.Dec.{eqb, ltb}
 use lib.ListN.{length}
 use Rattle.paper.specs.Limits.{peopleOk}
@@ -16,13 +16,6 @@ abbrev pub foundOr : ℕ → Found → ℕ
 foundOr none (At i) = i
 foundOr none Nothing = none
 foundOr none (Refused n) = none
-
--- r is the first number from `at` on, below n, that does not pass q; n where each does
-pub record FirstNot (q : ℕ → Bool) (at n r : ℕ) : Type 0 where
-  pub from : at ≤ r
-  pub within : r ≤ n
-  pub each : (k : ℕ) → at ≤ k → k < r → q k ≡ true
-  pub fails : r < n → q r ≡ false
 
 -- what the checks, passed, leave known to the writing of masks
 pub record MaskRoom (avail : List ℕ) (people slots units : ℕ) (firsts masks : List ℕ) : Type 0 where

@@ -2,27 +2,16 @@
 use crate::Duration;
 use crate::Number;
 use crate::Settings;
-use crate::refuse::lent_no;
-use crate::refuse::or_else;
-use crate::refuse::settings_ok;
-use crate::starts::start_date;
+use crate::refuse::settings_then;
+use crate::starts::date_begins;
 ghost use mathlib.Core.Path.{_≡_};
 ghost use mathlib.Core.Bool.{true};
 ghost use Prim.Native.Nat.{_≤_, _<_};
 ghost use Rattle.paper.specs.Count.{count};
 ghost use Rattle.slots.specs.Lent.{slotsOk};
-ghost use Rattle.units.specs.Days.{dateBegins, minutesPerDay, targetRun};
-ghost use Rattle.units.specs.Days.{coveredDaysIs, minutesPerDayIs, targetRunNo, targetRunIs};
-
-// Whether slot k is the first of its start date.
-fn date_begins(starts: &[u32], k: usize) -> bool
-    ensures { λ r. ⌜ r ≡ dateBegins (now (starts .entry)) k ⌝ }
-{
-    if k == 0 {
-        return true;
-    }
-    start_date(starts, k) != start_date(starts, k - 1)
-}
+ghost use Rattle.units.specs.Starts.{dateBegins};
+ghost use Rattle.units.specs.Days.{minutesPerDay, targetRun};
+ghost use Rattle.units.specs.Days.{coveredDaysIs, minutesPerDayIs, targetRunIs};
 
 // How many slots are the first of their start date: of ordered slots, the covered days.
 fn count_dates(slots: usize, starts: &[u32]) -> usize
@@ -70,7 +59,7 @@ pub(crate) fn run_minutes(days: u16, slots: usize, starts: &[u32], ends: &[u32])
 pub fn covered_days(slots: usize, starts: &[u32], ends: &[u32]) -> Number
     ensures { λ r. ⌜ r ≡ coveredDaysIs slots (now (starts .entry)) (now (ends .entry)) ⌝ }
 {
-    let n = lent_no(slots, starts, ends);
+    let n = slots::lent_no(slots, starts, ends);
     if n == 0 {
         Number::Is(count_dates(slots, starts))
     } else {
@@ -82,7 +71,7 @@ pub fn covered_days(slots: usize, starts: &[u32], ends: &[u32]) -> Number
 pub fn minutes_per_day(slots: usize, starts: &[u32], ends: &[u32]) -> Duration
     ensures { λ r. ⌜ r ≡ minutesPerDayIs slots (now (starts .entry)) (now (ends .entry)) ⌝ }
 {
-    let n = lent_no(slots, starts, ends);
+    let n = slots::lent_no(slots, starts, ends);
     if n == 0 {
         Duration::Minutes(day_minutes(slots, starts, ends))
     } else {
@@ -90,21 +79,11 @@ pub fn minutes_per_day(slots: usize, starts: &[u32], ends: &[u32]) -> Duration
     }
 }
 
-// What stands against a target run: 1, 2, 7 or 9; 0 for nothing.
-fn target_run_no(s: Settings, slots: usize, starts: &[u32], ends: &[u32]) -> u8
-    ensures { λ r. ⌜ r ≡ targetRunNo s slots (now (starts .entry)) (now (ends .entry)) ⌝ }
-{
-    let right = or_else(slots::slots_ok(slots, starts, ends), 9, 0);
-    let set = or_else(settings_ok(s), 7, right);
-    let room = or_else(slots::slot_room_ok(slots, starts, ends), 2, set);
-    or_else(paper::slot_count_ok(slots), 1, room)
-}
-
 // The target run. Refusals 1, 2, 7, 9.
 pub fn target_run(s: Settings, slots: usize, starts: &[u32], ends: &[u32]) -> Duration
     ensures { λ r. ⌜ r ≡ targetRunIs s slots (now (starts .entry)) (now (ends .entry)) ⌝ }
 {
-    let n = target_run_no(s, slots, starts, ends);
+    let n = settings_then(s, slots, starts, ends, true, 0);
     if n == 0 {
         Duration::Minutes(run_minutes(s.days, slots, starts, ends))
     } else {

@@ -2,18 +2,17 @@
 use crate::Number;
 use crate::lent::start_of;
 use crate::lent::unit_end;
-use crate::lent::units_ok;
-use crate::refuse::or_else;
-use crate::refuse::words_ok;
+use crate::lent::units_then;
+use paper::or_else;
+use paper::words_ok;
 use slotset::Found;
 use slotset::Told;
 ghost use mathlib.Core.Path.{_≡_};
-ghost use Prim.Native.Nat.{_*_, _≤_};
 ghost use lib.ListN.{length};
 ghost use Rattle.paper.specs.Count.{onto};
 ghost use Rattle.units.specs.Answers.{Are};
 ghost use Rattle.units.specs.Domains.{isNothing, ableIn, clearIn, domain, DomainRoom, unitFrozenNo, unitFrozenIs};
-ghost use Rattle.units.specs.Domains.{slotDomainNo, slotDomainIs, domainNo, unitDomainIs};
+ghost use Rattle.units.specs.Domains.{setsThen, slotDomainNo, slotDomainIs, domainNo, unitDomainIs};
 
 // Whether a search found nothing.
 fn is_nothing(f: Found) -> bool
@@ -48,10 +47,8 @@ fn unit_frozen_no(frozen: &[u64], slots: usize, units: usize, firsts: &[u16], un
     ensures { λ r. ⌜ r ≡ unitFrozenNo (now (frozen .entry)) slots units (now (firsts .entry)) unit ⌝ }
 {
     let known = or_else(unit < units, 11, 0);
-    let right = or_else(units_ok(slots, units, firsts), 9, known);
-    let flags = or_else(words_ok(frozen, 1), 2, right);
-    let room = or_else(units <= firsts.len(), 2, flags);
-    or_else(paper::slot_count_ok(slots), 1, room)
+    let rest = units_then(slots, units, firsts, words_ok(frozen, 1), known);
+    or_else(paper::slot_count_ok(slots), 1, rest)
 }
 
 // Whether any slot of a unit is frozen. Refusals 1, 2, 9, 11.
@@ -94,15 +91,22 @@ fn write_domain(avail: &[u64], people: usize, a: usize, e: usize, list: &mut [u8
     n
 }
 
+// What is wrong with the sets of people: 1 or 2; 0, what comes after them.
+fn sets_then(avail: &[u64], people: usize, slots: usize, next: u8) -> u8
+    ensures { λ r. ⌜ r ≡ setsThen (now (avail .entry)) people slots next ⌝ }
+{
+    let words = or_else(words_ok(avail, people), 2, next);
+    let count = or_else(paper::slot_count_ok(slots), 1, words);
+    or_else(paper::people_ok(people), 1, count)
+}
+
 // What stands against a slot's domain: 1, 2 or 11; 0 for nothing.
 fn slot_domain_no(avail: &[u64], people: usize, slots: usize, slot: usize, list: &[u8]) -> u8
     ensures { λ r. ⌜ r ≡ slotDomainNo (now (avail .entry)) people slots slot (now (list .entry)) ⌝ }
 {
     let known = or_else(slot < slots, 11, 0);
     let room = or_else(people <= list.len(), 2, known);
-    let words = or_else(words_ok(avail, people), 2, room);
-    let count = or_else(paper::slot_count_ok(slots), 1, words);
-    or_else(paper::people_ok(people), 1, count)
+    sets_then(avail, people, slots, room)
 }
 
 // The people available for a slot, ascending, and how many. Refusals 1, 2, 11.
@@ -135,12 +139,8 @@ pub(crate) fn domain_no(
 ) -> u8
     ensures { λ r. ⌜ r ≡ domainNo (now (avail .entry)) people slots units (now (firsts .entry)) room next ⌝ }
 {
-    let right = or_else(units_ok(slots, units, firsts), 9, next);
-    let list = or_else(room, 2, right);
-    let column = or_else(units <= firsts.len(), 2, list);
-    let words = or_else(words_ok(avail, people), 2, column);
-    let count = or_else(paper::slot_count_ok(slots), 1, words);
-    or_else(paper::people_ok(people), 1, count)
+    let rest = units_then(slots, units, firsts, room, next);
+    sets_then(avail, people, slots, rest)
 }
 
 // The people available for all slots of a unit, ascending, and how many. Refusals 1, 2, 9, 11.

@@ -1,12 +1,12 @@
 // Lent units (or rotations): a count, and a column of starts.
 use crate::Number;
 use crate::UnitSlots;
-use crate::refuse::or_else;
+use paper::or_else;
 ghost use mathlib.Core.Path.{_≡_};
 ghost use Prim.Native.Nat.{_<_};
 ghost use lib.ListN.{length};
 ghost use Rattle.units.specs.Units.{unitStart, unitEnd, startOk, unitsOk, unitOf};
-ghost use Rattle.units.specs.Answers.{unitsNo, unitNo, unitSlotNo, unitCountIs, unitSlotsIs, unitOfSlotIs};
+ghost use Rattle.units.specs.Answers.{unitsThen, unitsNo, unitCountIs, unitSlotsIs, unitOfSlotIs};
 
 // The first slot of unit u; past the column's end, 0.
 pub fn start_of(firsts: &[u16], u: usize) -> usize
@@ -83,13 +83,21 @@ pub fn unit_of(units: usize, firsts: &[u16], slot: usize) -> usize
     0
 }
 
+// What is wrong with lent unit starts, where a list lent beside them has room or has none: 2 or 9; 0, what comes after them.
+pub(crate) fn units_then(slots: usize, units: usize, firsts: &[u16], room: bool, next: u8) -> u8
+    ensures { λ r. ⌜ r ≡ unitsThen slots units (now (firsts .entry)) room next ⌝ }
+{
+    let right = or_else(units_ok(slots, units, firsts), 9, next);
+    let list = or_else(room, 2, right);
+    or_else(units <= firsts.len(), 2, list)
+}
+
 // What is wrong with lent unit starts: 1, 2 or 9; 0, what comes after them.
 fn units_no(slots: usize, units: usize, firsts: &[u16], next: u8) -> u8
     ensures { λ r. ⌜ r ≡ unitsNo slots units (now (firsts .entry)) next ⌝ }
 {
-    let right = or_else(units_ok(slots, units, firsts), 9, next);
-    let room = or_else(units <= firsts.len(), 2, right);
-    or_else(paper::slot_count_ok(slots), 1, room)
+    let rest = units_then(slots, units, firsts, true, next);
+    or_else(paper::slot_count_ok(slots), 1, rest)
 }
 
 // The number of lent units. Refusals 1, 2, 9.

@@ -3,14 +3,14 @@ use crate::domains::able;
 use crate::domains::domain_no;
 use slotset::Found;
 ghost use mathlib.Core.Path.{_≡_};
-ghost use mathlib.Core.Bool.{true, false, not};
+ghost use mathlib.Core.Bool.{true, false};
 ghost use Prim.Native.Nat.{_+_, _≤_, _<_};
 ghost use lib.ListN.{length};
-ghost use Rattle.paper.specs.Count.{over};
+ghost use Rattle.paper.specs.Count.{over, FirstWhere};
 ghost use Rattle.slotset.specs.Answers.{rowNo};
 ghost use Rattle.units.specs.Units.{unitStart, unitsOk, InUnit};
 ghost use Rattle.units.specs.Domains.{available, maskOf, unitMask, unitDomainsNo, unitDomainsIs};
-ghost use Rattle.units.specs.Striking.{foundOr, FirstNot, MaskRoom, maskThen};
+ghost use Rattle.units.specs.Striking.{foundOr, MaskRoom, maskThen};
 
 // The slot found, or what stands for none.
 fn found_or(none: usize, found: Found) -> usize
@@ -26,7 +26,7 @@ fn found_or(none: usize, found: Found) -> usize
 // The first slot from `at` on that a person lacks, or the slot count.
 fn next_gap(avail: &[u64], people: usize, person: usize, slots: usize, at: usize) -> usize
     requires { ⌜ (rowNo (now avail) people person slots ≡ 0) × (at ≤ slots) ⌝ }
-    ensures { λ r. ⌜ FirstNot (available (now (avail .entry)) person) at slots r ⌝ }
+    ensures { λ r. ⌜ FirstWhere false (available (now (avail .entry)) person) at slots r ⌝ }
 {
     if at == 0 {
         if able(avail, people, person, 0, 1) {
@@ -46,7 +46,7 @@ fn next_gap(avail: &[u64], people: usize, person: usize, slots: usize, at: usize
 // The first slot from `at` on that a person has, or the slot count.
 fn next_had(avail: &[u64], people: usize, person: usize, slots: usize, at: usize) -> usize
     requires { ⌜ (rowNo (now avail) people person slots ≡ 0) × (at ≤ slots) ⌝ }
-    ensures { λ r. ⌜ FirstNot (λ k. not (available (now (avail .entry)) person k)) at slots r ⌝ }
+    ensures { λ r. ⌜ FirstWhere true (available (now (avail .entry)) person) at slots r ⌝ }
 {
     found_or(
         slots,

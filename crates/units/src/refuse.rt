@@ -1,19 +1,8 @@
-// Refusals: the settings' one check (rule 7), and the chain of tests in rising order by which the lowest number is heard.
+// The settings' one check (rule 7), and what is wrong with lent slots and settings together.
 use crate::Settings;
+use paper::or_else;
 ghost use mathlib.Core.Path.{_≡_};
-ghost use Prim.Native.Nat.{_*_};
-ghost use lib.Dec.{leb};
-ghost use lib.ListN.{length};
-ghost use Rattle.paper.specs.Limits.{orElse};
-ghost use Rattle.slots.specs.Lent.{lentNo};
-ghost use Rattle.units.specs.Settings.{boundaryOk, settingsOk};
-
-// The number that is heard: `number` where the test failed, else what comes after it.
-pub(crate) fn or_else(ok: bool, number: u8, next: u8) -> u8
-    ensures { λ r. ⌜ r ≡ orElse ok number next ⌝ }
-{
-    if ok { next } else { number }
-}
+ghost use Rattle.units.specs.Settings.{boundaryOk, settingsOk, settingsThen};
 
 // Whether a boundary is every 0 to 1,024 slots, or a mask of weekdays.
 fn boundary_ok(boundary: u8, value: u16) -> bool
@@ -44,18 +33,20 @@ pub fn settings_ok(s: Settings) -> bool
     boundary_ok(s.boundary, s.value)
 }
 
-// What is wrong with lent slots: 1, 2 or 9; 0 for nothing.
-pub(crate) fn lent_no(slots: usize, starts: &[u32], ends: &[u32]) -> u8
-    ensures { λ r. ⌜ r ≡ lentNo slots (now (starts .entry)) (now (ends .entry)) ⌝ }
+// What is wrong with lent slots and settings, where a list lent beside them has room or has none: 1, 2, 7 or 9; 0, what comes after them.
+pub(crate) fn settings_then(
+    s: Settings,
+    slots: usize,
+    starts: &[u32],
+    ends: &[u32],
+    room: bool,
+    next: u8,
+) -> u8
+    ensures { λ r. ⌜ r ≡ settingsThen s slots (now (starts .entry)) (now (ends .entry)) room next ⌝ }
 {
-    let right = or_else(slots::slots_ok(slots, starts, ends), 9, 0);
-    let room = or_else(slots::slot_room_ok(slots, starts, ends), 2, right);
-    or_else(paper::slot_count_ok(slots), 1, room)
-}
-
-// Whether lent words have room for a set a person (rule 2).
-pub(crate) fn words_ok(words: &[u64], people: usize) -> bool
-    ensures { λ r. ⌜ r ≡ leb (16 * people) (length (now (words .entry))) ⌝ }
-{
-    people <= words.len() / 16
+    let right = or_else(slots::slots_ok(slots, starts, ends), 9, next);
+    let set = or_else(settings_ok(s), 7, right);
+    let list = or_else(room, 2, set);
+    let columns = or_else(slots::slot_room_ok(slots, starts, ends), 2, list);
+    or_else(paper::slot_count_ok(slots), 1, columns)
 }

@@ -2,9 +2,9 @@
 use crate::Duration;
 use crate::Settings;
 use crate::days::run_minutes;
-use crate::refuse::or_else;
-use crate::refuse::settings_ok;
-use crate::refuse::words_ok;
+use crate::refuse::settings_then;
+use paper::or_else;
+use paper::words_ok;
 use slotset::Told;
 ghost use mathlib.Core.Path.{_≡_};
 ghost use mathlib.Core.Bool.{cond};
@@ -83,12 +83,8 @@ fn achievable_run_no(
     ensures { λ r. ⌜ r ≡ achievableRunNo s (now (avail .entry)) people person slots (now (starts .entry)) (now (ends .entry)) ⌝ }
 {
     let known = or_else(person < people, 11, 0);
-    let right = or_else(slots::slots_ok(slots, starts, ends), 9, known);
-    let set = or_else(settings_ok(s), 7, right);
-    let words = or_else(words_ok(avail, people), 2, set);
-    let room = or_else(slots::slot_room_ok(slots, starts, ends), 2, words);
-    let count = or_else(paper::slot_count_ok(slots), 1, room);
-    or_else(paper::people_ok(people), 1, count)
+    let rest = settings_then(s, slots, starts, ends, words_ok(avail, people), known);
+    or_else(paper::people_ok(people), 1, rest)
 }
 
 // A person's achievable run. Refusals 1, 2, 7, 9, 11.

@@ -3,14 +3,14 @@ use crate::Number;
 use crate::Settings;
 use crate::dates::date_of;
 use crate::dates::listed;
-use crate::refuse::or_else;
-use crate::refuse::settings_ok;
+use crate::refuse::settings_then;
+use paper::both;
 ghost use mathlib.Core.Path.{_≡_};
 ghost use Prim.Native.Nat.{_≤_};
 ghost use lib.ListN.{length};
 ghost use Rattle.paper.specs.Count.{onto};
 ghost use Rattle.units.specs.Answers.{Are};
-ghost use Rattle.units.specs.Starts.{startDate, everyBegins, dayBegins, unitBegins, begun};
+ghost use Rattle.units.specs.Starts.{startDate, everyBegins, dateBegins, dayBegins, unitBegins, begun};
 ghost use Rattle.units.specs.Starts.{startsNo, rotationStartsIs, unitStartsIs};
 
 // Whether slot k is a multiple of `every`, where 0 counts as 1.
@@ -24,10 +24,20 @@ fn every_begins(every: u16, k: usize) -> bool
 }
 
 // The start date of slot k.
-pub(crate) fn start_date(starts: &[u32], k: usize) -> u32
+fn start_date(starts: &[u32], k: usize) -> u32
     ensures { λ r. ⌜ r ≡ startDate (now (starts .entry)) k ⌝ }
 {
     date_of(slots::entry_of(starts, k))
+}
+
+// Whether slot k is the first of its start date.
+pub(crate) fn date_begins(starts: &[u32], k: usize) -> bool
+    ensures { λ r. ⌜ r ≡ dateBegins (now (starts .entry)) k ⌝ }
+{
+    if k == 0 {
+        return true;
+    }
+    start_date(starts, k) != start_date(starts, k - 1)
 }
 
 // Whether slot k is the first, or starts on a listed day that the slot before it doesn't start on.
@@ -37,11 +47,7 @@ fn day_begins(mask: u16, starts: &[u32], k: usize) -> bool
     if k == 0 {
         return true;
     }
-    let date = start_date(starts, k);
-    if date == start_date(starts, k - 1) {
-        return false;
-    }
-    listed(mask, date)
+    both(date_begins(starts, k), listed(mask, start_date(starts, k)))
 }
 
 // Whether slot k begins a unit.
@@ -88,11 +94,7 @@ fn write_starts(
 fn starts_no(s: Settings, slots: usize, starts: &[u32], ends: &[u32], firsts: &[u16]) -> u8
     ensures { λ r. ⌜ r ≡ startsNo s slots (now (starts .entry)) (now (ends .entry)) (now (firsts .entry)) ⌝ }
 {
-    let right = or_else(slots::slots_ok(slots, starts, ends), 9, 0);
-    let set = or_else(settings_ok(s), 7, right);
-    let list = or_else(slots <= firsts.len(), 2, set);
-    let room = or_else(slots::slot_room_ok(slots, starts, ends), 2, list);
-    or_else(paper::slot_count_ok(slots), 1, room)
+    settings_then(s, slots, starts, ends, slots <= firsts.len(), 0)
 }
 
 // The starts of the rotations, and how many. Refusals 1, 2, 7, 9.

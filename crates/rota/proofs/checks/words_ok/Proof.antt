@@ -1,6 +1,6 @@
 -- `rota::checks::words_ok` meets its contract. Assumes nothing.
 use lib.ListN.{length}
-use Rattle.units.proofs.Sets.{words-room}
+use Rattle.paper.proofs.Refusals.{words-room}
 use Rattle.rota.proofs.checks.words_ok.Statement.{statement}
 use Rattle.rota.proofs.checks.words_ok.Tie as tie
 

@@ -1,40 +1,40 @@
 -- `slots::avail::availability_room_ok` meets its contract. Assumes nothing.
-use mathlib.Core.Path.{sym, _∙_}
-use Rattle.paper.proofs.Logic.{and-stops, and-last}
+use mathlib.Core.Path.{ap₂, _∙_}
+use mathlib.Core.Bool.{_&&_}
 use Rattle.slots.specs.Availability.{availabilityRoomOk}
-use Rattle.slots.proofs.RangeLaws.{two-then}
 use borrow.Author.Needs.{needs}
 use Rattle.slots.proofs.avail.availability_room_ok.Statement.{statement}
 use Rattle.slots.proofs.avail.availability_room_ok.Tie as tie
 
-slot-room-ok-requires : tie.Need-slot-room-ok-requires
-slot-room-ok-requires c κs = search needs
-
 range-room-ok-requires : tie.Need-range-room-ok-requires
 range-room-ok-requires c κs = search needs
 
-mul-result : tie.Need-mul-result
-mul-result c = search needs
+words-ok-requires : tie.Need-words-ok-requires
+words-ok-requires c κs = search needs
+
+both-requires : tie.Need-both-requires
+both-requires c κs = search needs
+
+slot-room-ok-requires : tie.Need-slot-room-ok-requires
+slot-room-ok-requires c κs = search needs
+
+both-requires-2 : tie.Need-both-requires-2
+both-requires-2 c κs = search needs
 
 returns : tie.Need-returns
 unfolding availabilityRoomOk
 returns c =
-    let slot-room-ok = c .before .before .before .slot-room-ok in
-    let if1 = c .before .before .if1 in
-    two-then _ _ _ (sym (slot-room-ok .ensures) ∙ if1 .taken) (sym (c .before .range-room-ok .ensures) ∙ c .if2 .taken)
-
-returns-2 : tie.Need-returns-2
-unfolding availabilityRoomOk
-returns-2 c =
-    let slot-room-ok = c .before .before .before .slot-room-ok in
-    let if1 = c .before .before .if1 in
-    sym (and-last _ _ (sym (slot-room-ok .ensures) ∙ if1 .taken) (and-stops _ _ (sym (c .before .range-room-ok .ensures) ∙ c .if2 .left)))
-
-returns-3 : tie.Need-returns-3
-unfolding availabilityRoomOk
-returns-3 c = sym (and-stops _ _ (sym (c .before .slot-room-ok .ensures) ∙ c .if1 .left))
+    let c4 = c .before .before .before .before in
+    let rest = ap₂ _&&_ (c4 .range-room-ok .ensures) (c .before .before .before .words-ok .ensures) in
+    c .both2 .ensures ∙ ap₂ _&&_ (c .before .slot-room-ok .ensures) (c .before .before .both .ensures ∙ rest)
 
 pub availability-room-ok-spec : {M : Type 1} → statement M
 availability-room-ok-spec =
     tie.close
-    (tie.spec slot-room-ok-requires range-room-ok-requires mul-result returns returns-2 returns-3)
+    (tie.spec
+    range-room-ok-requires
+    words-ok-requires
+    both-requires
+    slot-room-ok-requires
+    both-requires-2
+    returns)

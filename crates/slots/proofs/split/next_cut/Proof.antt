@@ -1,14 +1,17 @@
 -- `slots::split::next_cut` meets its contract. Assumes nothing.
 use borrow.Author.Needs.{needs}
-use Prim.Native.Nat.{_≤_, _-_}
+use mathlib.Core.Bool.{true}
+use Prim.Native.Nat.{suc, _≤_, _-_}
 use native.Mathlib.Omega.{arith}
 use lib.ListN.{take}
-use Rattle.slots.proofs.EdgeLaws.{Near, cutBelow, below-begin, below-more, below-done}
+use Rattle.paper.specs.Count.{FirstWhere}
+use Rattle.slots.proofs.EdgeLaws.{cutBelow, below-begin, below-more, below-done}
 use Rattle.slots.proofs.split.next_cut.Statement.{statement}
 use Rattle.slots.proofs.split.next_cut.Tie as tie
 
 abbrev Inv-loop : tie.InvT-loop
-Inv-loop keys n after end best₀ person₀ best person = (person ≤ 32) × Near (cutBelow (take n keys) after end person) after end best
+Inv-loop keys n after end best₀ person₀ best person =
+    (person ≤ 32) × FirstWhere true (cutBelow (take n keys) person) (suc after) end best
 
 abbrev μ-loop : tie.MeasureT-loop
 μ-loop keys n after end best₀ person₀ best person = 32 - person
@@ -30,7 +33,7 @@ next-edge-requires c κs =
     (pre .0, omega (arith, c .loop-test .taken, pre .1, pre .2))
 
 sub-nearer-of : tie.Need-sub-nearer-of Inv-loop μ-loop
-sub-nearer-of c = omega (arith, c .next-edge .ensures .later)
+sub-nearer-of c = omega (arith, c .next-edge .ensures .from)
 
 nearer-of-requires : tie.Need-nearer-of-requires Inv-loop μ-loop
 nearer-of-requires c κs = search needs

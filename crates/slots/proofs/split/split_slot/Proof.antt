@@ -31,7 +31,7 @@ next-cut-requires c κs =
 cast-cut : tie.Need-cast-cut Inv-loop μ-loop
 cast-cut c =
     let fits = c .before .before .before .before .before .before .fits in
-    omega (arith, c .next-cut .ensures .most, fits .end)
+    omega (arith, c .next-cut .ensures .within, fits .end)
 
 mul-starts : tie.Need-mul-starts Inv-loop μ-loop
 mul-starts c = omega (arith, c .before .loop-test .taken)

@@ -1,5 +1,4 @@
 -- `units::masks::next_gap` meets its contract. Assumes nothing.
-use mathlib.Core.Path.{sym, _∙_}
 use native.Mathlib.Omega.{arith}
 use borrow.Author.Needs.{needs}
 use Rattle.units.proofs.Sets.{gap-law, gap-first, gap-later}

@@ -8,7 +8,7 @@ use Rattle.paper.proofs.Count.{length-over}
 use Rattle.paper.proofs.Logic.{people-says}
 use Rattle.units.specs.Striking.{maskThen}
 use Rattle.units.proofs.Units.{units-room, unit-within}
-use Rattle.units.proofs.Sets.{row-ok}
+use Rattle.slotset.proofs.Refusals.{says-row}
 use Rattle.units.proofs.MaskBits.{one-bit}
 use Rattle.units.proofs.Striking.{lacks-unit, gap-before, past, strike-room, strike-bit, strike-unit}
 use Rattle.units.proofs.masks.strike.Statement.{statement}
@@ -26,7 +26,7 @@ next-had-requires c κs =
     let pre = c .before .before .before .pre in
     let R = pre .0 in
     let I = pre .1 .0 .1 in (
-      row-ok _ _ _ _ (pre .1 .0 .0) (people-says _ (R .counted) .1) (R .short) (R .words),
+      says-row _ _ _ _ (R .counted) (R .short) (R .words) (pre .1 .0 .0),
       omega (arith, I .to, unit-within _ _ _ (R .right) _ (I .known)),
     )
 
@@ -72,7 +72,7 @@ sub-masks c =
     let R = pre .0 in
     let h = pre .1 .0 .0 in
     let F = b4 .before .next-had .ensures in
-    let f = lacks-unit _ _ _ _ (R .right) _ _ _ _ _ (pre .1 .0 .1) (pre .1 .0 .2) (F .each) (b4 .loop .inv .0)
+    let f = lacks-unit _ _ _ _ (R .right) _ _ _ _ _ (pre .1 .0 .1) (pre .1 .0 .2) (F .before) (b4 .loop .inv .0)
     (c .before .before .before .loop-test .taken)
     (c .before .if1 .taken) in
     let bit = one-bit _ _ h (people-says _ (R .counted) .1) in
@@ -97,7 +97,7 @@ loop-again c =
     let R = pre .0 in
     let h = pre .1 .0 .0 in
     let F = b4 .before .next-had .ensures in
-    let f = lacks-unit _ _ _ _ (R .right) _ _ _ _ _ (pre .1 .0 .1) (pre .1 .0 .2) (F .each) (b4 .loop .inv .0)
+    let f = lacks-unit _ _ _ _ (R .right) _ _ _ _ _ (pre .1 .0 .1) (pre .1 .0 .2) (F .before) (b4 .loop .inv .0)
     (c .before .before .before .loop-test .taken)
     (c .before .if1 .taken) in
     let bit = one-bit _ _ h (people-says _ (R .counted) .1) in (

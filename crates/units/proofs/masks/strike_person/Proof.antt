@@ -5,10 +5,9 @@ use native.Mathlib.Omega.{arith}
 use lib.ListN.{length}
 use Rattle.paper.specs.Count.{over}
 use Rattle.paper.proofs.Count.{length-over}
-use Rattle.paper.proofs.Logic.{people-says}
 use Rattle.units.specs.Striking.{maskThen}
 use Rattle.units.proofs.Units.{units-room, starts-below}
-use Rattle.units.proofs.Sets.{row-ok}
+use Rattle.slotset.proofs.Refusals.{says-row}
 use Rattle.units.proofs.Striking.{strikes-next, strikes-held, strikes-again, room-kept, skip-to-gap, skip-rest}
 use Rattle.units.proofs.masks.strike_person.Statement.{statement}
 use Rattle.units.proofs.masks.strike_person.Tie as tie
@@ -36,7 +35,7 @@ next-gap-requires : tie.Need-next-gap-requires Inv-loop μ-loop
 next-gap-requires c κs =
     let pre = c .before .before .before .before .before .before .pre in
     let R = pre .0 in (
-      row-ok _ _ _ _ (pre .1 .0) (people-says _ (R .counted) .1) (R .short) (R .words),
+      says-row _ _ _ _ (R .counted) (R .short) (R .words) (pre .1 .0),
       omega (arith, starts-below _ _ _ (R .right) _ (c .before .loop-test .taken)),
     )
 
@@ -56,9 +55,9 @@ strike-requires c κs =
     let at = b4 .before .before .loop in
     let G = c .before .before .before .next-gap .ensures in
     let U = c .before .unit-from .ensures in
-    let skip = skip-to-gap _ _ _ _ _ (pre .0 .right) _ _ _ _ (G .each) _ (U .1) (U .0) in (
+    let skip = skip-to-gap _ _ _ _ _ (pre .0 .right) _ _ _ _ (G .before) _ (U .1) (U .0) in (
       room-kept _ _ _ _ _ _ _ _ _ (at .inv .1) (pre .0),
-      ((pre .1 .0, U .0, G .fails (c .before .before .if1 .taken)), strikes-held _ _ _ _ _ _ _ _ _ _ (at .inv .1) skip),
+      ((pre .1 .0, U .0, G .here (c .before .before .if1 .taken)), strikes-held _ _ _ _ _ _ _ _ _ _ (at .inv .1) skip),
     )
 
 loop-less : tie.Need-loop-less Inv-loop μ-loop
@@ -81,7 +80,7 @@ returns c =
     let b4 = c .before .before .before .before in
     let R = b4 .before .before .before .before .pre .0 in
     let G = c .before .next-gap .ensures in
-    b4 .loop .inv .1 ∙ skip-rest _ _ _ _ _ (R .right) _ _ _ _ (G .each) (b4 .loop .inv .0) (c .if1 .left)
+    b4 .loop .inv .1 ∙ skip-rest _ _ _ _ _ (R .right) _ _ _ _ (G .before) (b4 .loop .inv .0) (c .if1 .left)
 
 same-length-2 : tie.Need-same-length-2 Inv-loop μ-loop
 same-length-2 c = ap length (c .before .loop .inv .1) ∙ length-over _ _ _

@@ -1,6 +1,8 @@
 -- `units::starts::day_begins` meets its contract. Assumes nothing.
-use mathlib.Core.Path.{sym}
-use Rattle.units.proofs.Begins.{day-first, day-same, day-new}
+use mathlib.Core.Path.{sym, ap, ap₂, _∙_}
+use mathlib.Core.Bool.{_&&_}
+use Rattle.units.specs.Dates.{listed}
+use Rattle.units.proofs.Begins.{day-first, day-later}
 use borrow.Author.Needs.{needs}
 use Rattle.units.proofs.starts.day_begins.Statement.{statement}
 use Rattle.units.proofs.starts.day_begins.Tie as tie
@@ -8,37 +10,24 @@ use Rattle.units.proofs.starts.day_begins.Tie as tie
 returns : tie.Need-returns
 returns c = sym (day-first _ _ _ (c .if1 .taken))
 
+date-begins-requires : tie.Need-date-begins-requires
+date-begins-requires c κs = search needs
+
 start-date-requires : tie.Need-start-date-requires
 start-date-requires c κs = search needs
-
-sub-start-date : tie.Need-sub-start-date
-sub-start-date c = search needs
-
-start-date-requires-2 : tie.Need-start-date-requires-2
-start-date-requires-2 c κs = search needs
-
-returns-2 : tie.Need-returns-2
-returns-2 c =
-    let z = c .before .before .before .if1 .left in
-    sym (day-same _ _ _ _ _ z (c .before .before .start-date .ensures) (c .before .start-date2 .ensures) (c .if2 .taken))
 
 listed-requires : tie.Need-listed-requires
 listed-requires c κs = search needs
 
-returns-3 : tie.Need-returns-3
-returns-3 c =
-    let z = c .before .before .before .before .if1 .left in
-    let p = c .before .before .before .start-date .ensures in
-    day-new _ _ _ _ _ z p (c .before .before .start-date2 .ensures) (c .before .if2 .left) _ (c .listed .ensures)
+both-requires : tie.Need-both-requires
+both-requires c κs = search needs
+
+returns-2 : tie.Need-returns-2
+returns-2 c =
+    let c4 = c .before .before .before .before in
+    let day = c .before .listed .ensures ∙ ap (listed _) (c .before .before .start-date .ensures) in
+    c .both .ensures ∙ ap₂ _&&_ (c .before .before .before .date-begins .ensures) day ∙ sym (day-later _ _ _ (c4 .if1 .left))
 
 pub day-begins-spec : {M : Type 1} → statement M
 day-begins-spec =
-    tie.close
-    (tie.spec
-    returns
-    start-date-requires
-    sub-start-date
-    start-date-requires-2
-    returns-2
-    listed-requires
-    returns-3)
+    tie.close (tie.spec returns date-begins-requires start-date-requires listed-requires both-requires returns-2)

@@ -1,63 +1,15 @@
 -- `units::starts::starts_no` meets its contract. Assumes nothing.
-use mathlib.Core.Path.{refl}
 use Rattle.units.specs.Starts.{startsNo}
-use lib.Dec.{leb}
-use lib.ListN.{length}
-use Rattle.units.proofs.Answers.{else-same}
 use borrow.Author.Needs.{needs}
 use Rattle.units.proofs.starts.starts_no.Statement.{statement}
 use Rattle.units.proofs.starts.starts_no.Tie as tie
 
-slots-ok-requires : tie.Need-slots-ok-requires
-slots-ok-requires c κs = search needs
-
-or-else-requires : tie.Need-or-else-requires
-or-else-requires c κs = search needs
-
-settings-ok-requires : tie.Need-settings-ok-requires
-settings-ok-requires c κs = search needs
-
-or-else-requires-2 : tie.Need-or-else-requires-2
-or-else-requires-2 c κs = search needs
-
-or-else-requires-3 : tie.Need-or-else-requires-3
-or-else-requires-3 c κs = search needs
-
-slot-room-ok-requires : tie.Need-slot-room-ok-requires
-slot-room-ok-requires c κs = search needs
-
-or-else-requires-4 : tie.Need-or-else-requires-4
-or-else-requires-4 c κs = search needs
-
-slot-count-ok-requires : tie.Need-slot-count-ok-requires
-slot-count-ok-requires c κs = search needs
-
-or-else-requires-5 : tie.Need-or-else-requires-5
-or-else-requires-5 c κs = search needs
+settings-then-requires : tie.Need-settings-then-requires
+settings-then-requires c κs = search needs
 
 returns : tie.Need-returns
 unfolding startsNo
-returns c =
-    let a = c .before .before .before .before .before .before .before .before .before .before .before .before .args in
-    let room = leb (a .slots) (length (a .firsts .now)) in
-    let b = c .before .before .before .before in
-    else-same _ 1 _ _ _ _ (c .or-else5 .ensures) (c .before .slot-count-ok .ensures)
-    (else-same _ 2 _ _ _ _ (c .before .before .or-else4 .ensures) (c .before .before .before .slot-room-ok .ensures)
-    (else-same _ 2 _ _ room room (b .or-else3 .ensures) refl
-    (else-same _ 7 _ _ _ _ (b .before .or-else2 .ensures) (b .before .before .settings-ok .ensures)
-    (else-same _ 9 _ _ _ _ (b .before .before .before .or-else .ensures) (b .before .before .before .before .slots-ok .ensures) refl))))
+returns c = c .settings-then .ensures
 
 pub starts-no-spec : {M : Type 1} → statement M
-starts-no-spec =
-    tie.close
-    (tie.spec
-    slots-ok-requires
-    or-else-requires
-    settings-ok-requires
-    or-else-requires-2
-    or-else-requires-3
-    slot-room-ok-requires
-    or-else-requires-4
-    slot-count-ok-requires
-    or-else-requires-5
-    returns)
+starts-no-spec = tie.close (tie.spec settings-then-requires returns)

@@ -1,10 +1,9 @@
--- `units::refuse::lent_no` meets its contract. Assumes nothing.
+-- `slots::lent::lent_then` meets its contract. Assumes nothing.
 use mathlib.Core.Path.{refl}
-use Rattle.slots.specs.Lent.{lentNo}
-use Rattle.units.proofs.Answers.{else-same}
+use Rattle.paper.proofs.Refusals.{else-same}
 use borrow.Author.Needs.{needs}
-use Rattle.units.proofs.refuse.lent_no.Statement.{statement}
-use Rattle.units.proofs.refuse.lent_no.Tie as tie
+use Rattle.slots.proofs.lent.lent_then.Statement.{statement}
+use Rattle.slots.proofs.lent.lent_then.Tie as tie
 
 slots-ok-requires : tie.Need-slots-ok-requires
 slots-ok-requires c κs = search needs
@@ -25,15 +24,14 @@ or-else-requires-3 : tie.Need-or-else-requires-3
 or-else-requires-3 c κs = search needs
 
 returns : tie.Need-returns
-unfolding lentNo
 returns c =
     let b = c .before .before .before .before in
     else-same _ 1 _ _ _ _ (c .or-else3 .ensures) (c .before .slot-count-ok .ensures)
     (else-same _ 2 _ _ _ _ (c .before .before .or-else2 .ensures) (c .before .before .before .slot-room-ok .ensures)
     (else-same _ 9 _ _ _ _ (b .or-else .ensures) (b .before .slots-ok .ensures) refl))
 
-pub lent-no-spec : {M : Type 1} → statement M
-lent-no-spec =
+pub lent-then-spec : {M : Type 1} → statement M
+lent-then-spec =
     tie.close
     (tie.spec
     slots-ok-requires

@@ -1,9 +1,9 @@
--- `units::days::date_begins` meets its contract. Assumes nothing.
+-- `units::starts::date_begins` meets its contract. Assumes nothing.
 use mathlib.Core.Path.{sym}
 use Rattle.units.proofs.Covered.{date-first, date-later}
 use borrow.Author.Needs.{needs}
-use Rattle.units.proofs.days.date_begins.Statement.{statement}
-use Rattle.units.proofs.days.date_begins.Tie as tie
+use Rattle.units.proofs.starts.date_begins.Statement.{statement}
+use Rattle.units.proofs.starts.date_begins.Tie as tie
 
 returns : tie.Need-returns
 returns c = sym (date-first _ _ (c .if1 .taken))
