@@ -165,7 +165,7 @@ module _ (P : Plan) (avail o : List ℕ) (D : Derived) where
       pub recount : Recounted P avail 0 [] o D
       pub slot : k < P .slots
       pub known : knownBy (P .people) w ≡ true
-      pub free : availableFor avail w k ≡ true
+      pub available : availableFor avail w k ≡ true
 
     pub assign-asks : assignNo P avail o D k w ≡ 0 → Asks
     unfolding assignNo
@@ -180,7 +180,7 @@ module _ (P : Plan) (avail o : List ℕ) (D : Derived) where
           recount = recount-says P avail 0 [] o D (a .0);
           slot = x .0;
           known = x .1;
-          free = c .0;
+          available = c .0;
         }
 
     pub asks-one : Asks → OneOwner o (P .slots) k (k + 1)

@@ -1,10 +1,10 @@
 -- The entries: what the first tests leave known, which refusal it is, and that only one outcome fits. Assumes nothing.
 use mathlib.Core.Path.{_≡_, sym, ap, ap₂, _∙_, subst, refl}
-use mathlib.Core.Bool.{Bool, true, false, cond, _&&_}
+use mathlib.Core.Bool.{Bool, true, false, _&&_}
 use mathlib.Core.List.{List}
-use Prim.Native.Nat.{ℕ, _*_, _/_, _≤_, _<_}
+use Prim.Native.Nat.{ℕ, _*_, _≤_, _<_}
 use native.Mathlib.Omega.{arith}
-use borrow.Author.Tests.{eq-eqb, ne-eqb, eqb-true, lt-ltb, leb-true, le-leb}
+use borrow.Author.Tests.{eq-eqb, ne-eqb, eqb-true, lt-ltb, leb-true}
 use lib.Dec.{eqb, leb}
 use lib.ListN.{length, getD, replicate, length-replicate}
 use Rattle.paper.specs.Limits.{nobody, peopleOk, slotCountOk, orElse, countsOk}
@@ -113,15 +113,15 @@ grounds P avail o D a b c =
       lent = c;
     }
 
-free-able : (avail : List ℕ) (w k : ℕ) → (w ≡ nobody → ⊥) → availableFor avail w k ≡ true → available avail w k ≡ true
+owner-available : (avail : List ℕ) (w k : ℕ) → (w ≡ nobody → ⊥) → availableFor avail w k ≡ true → available avail w k ≡ true
 unfolding availableFor
-free-able avail w k n t = or-right (eqb w nobody) (available avail w k) t (ne-eqb w nobody n)
+owner-available avail w k n t = or-right (eqb w nobody) (available avail w k) t (ne-eqb w nobody n)
 
 -- ---- what the recount leaves known
 
 pub record Recounted (P : Plan) (avail : List ℕ) (units : ℕ) (firsts o : List ℕ) (D : Derived) : Type 0 where
   pub known : (k : ℕ) → k < P .slots → knownBy (P .people) (getD o k 0) ≡ true
-  pub free : (k : ℕ) → k < P .slots → availableFor avail (getD o k 0) k ≡ true
+  pub available : (k : ℕ) → k < P .slots → availableFor avail (getD o k 0) k ≡ true
   pub even : (u k : ℕ) → u < units → unitStart firsts u ≤ k → k < unitEnd (P .slots) units firsts u → getD o k 0 ≡ getD o (unitStart
       firsts u) 0
   pub sets : (p k : ℕ) → p < P .people → k < P .slots → slot (D .sets) (16 * p) k ≡ held o p k
@@ -136,7 +136,7 @@ module _ (P : Plan) (avail : List ℕ) (units : ℕ) (firsts o : List ℕ) (D : 
       (all (P .people) (setAt (P .slots) o (D .sets))) (all (P .people) (minutesOkAt P o (D .minutes))) e in
       record {
         known = λ k h. all-each (P .slots) (knownAt (P .people) o) (x .0) k h;
-        free = λ k h. all-each (P .slots) (availableAt avail o) (x .1) k h;
+        available = λ k h. all-each (P .slots) (availableAt avail o) (x .1) k h;
         even = λ u k h a b.
             eqb-true _ _ (in-each _ _ (λ j. eqb (getD o j 0) (getD o (unitStart firsts u) 0)) (all-each units (evenAt (P .slots)
             units firsts o) (x .2) u h) k a b);
@@ -151,7 +151,7 @@ module _ (P : Plan) (avail : List ℕ) (units : ℕ) (firsts o : List ℕ) (D : 
   unfolding recounts knownAt availableAt evenAt setAt setSlotAt minutesOkAt
   says-recount R =
       let k = each-all (P .slots) (knownAt (P .people) o) (R .known) in
-      let f = each-all (P .slots) (availableAt avail o) (R .free) in
+      let f = each-all (P .slots) (availableAt avail o) (R .available) in
       let e = each-all units (evenAt (P .slots) units firsts o) (λ u h. each-in _ _ _ (λ j a b. eq-eqb _ _ (R .even u j h a b))) in
       let s = each-all (P .people) (setAt (P .slots) o (D .sets)) (λ p h. each-all (P .slots) _ (λ j g. eq-eqb _ _ (R .sets p j h g))) in
       let m = each-all (P .people) (minutesOkAt P o (D .minutes)) (λ p h. eq-eqb _ _ (R .minutes p h)) in
@@ -186,7 +186,8 @@ module _ (P : Plan) (avail : List ℕ) (units : ℕ) (firsts o : List ℕ) (D : 
               b,
               and-true _ _ (lt-ltb u units h) (and-true _ _ (lt-ltb w (P .people) b)
                   (each-in a e (available avail w) (λ k x y.
-                  free-able avail w k n (ap (λ (v : ℕ). availableFor avail v k) (sym (C .even u k h x y)) ∙ C .free k (omega arith))))),
+                  owner-available avail w k n
+                  (ap (λ (v : ℕ). availableFor avail v k) (sym (C .even u k h x y)) ∙ C .available k (omega arith))))),
             );
       }
 

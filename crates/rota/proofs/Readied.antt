@@ -13,6 +13,7 @@ use Rattle.paper.proofs.Bits.{bit-none}
 use Rattle.paper.proofs.Logic.{by-test, lt-or-ge}
 use Rattle.units.specs.Units.{unitStart, unitEnd, unitsOk, unitOf}
 use Rattle.units.specs.Domains.{able, clear, clearIn, unitFrozen, inMask, unitDomainsNo, unitDomainsIs}
+use Rattle.units.proofs.Units.{unit-some, units-apart, unit-within, unit-of-in}
 use Rattle.units.proofs.Sets.{clear-known}
 use Rattle.units.proofs.Means.{masks-at, masks-past}
 use Rattle.rota.specs.Board.{Board, BoardSound}
@@ -21,7 +22,8 @@ use Rattle.rota.specs.Lent.{fitsUnit, frozenUnit, boardOf, markOf, FitsR
 
 -- ---- one entry for each unit
 
-zero-at : (n u : ℕ) → _≡_ {A = ℕ} (getD (replicate n 0) u 0) 0
+-- a column of zeros
+pub zero-at : (n u : ℕ) → _≡_ {A = ℕ} (getD (replicate n 0) u 0) 0
 zero-at n u =
     ⊎-elim (λ (h : u < n). getD-replicate n u 0 0 h)
     (λ (h : n ≤ u). List·getD-eq-default {A = ℕ} (replicate n 0) 0 {n = u} (omega (arith, length-replicate {A = ℕ} n 0)))
@@ -34,11 +36,8 @@ below-more p i =
     (λ (h : i ≤ p).
     by-test (eqb p i) _
     (λ t. let q = eqb-true p i t in lt-ltb p (i + 1) (omega arith) ∙ sym (ap₂ _||_ (le-ltb p i h) t))
-    (λ f. le-ltb p (i + 1) (above p i h (eqb-false p i f)) ∙ sym (ap₂ _||_ (le-ltb p i h) f)))
+    (λ f. let n = eqb-false p i f in le-ltb p (i + 1) (omega arith) ∙ sym (ap₂ _||_ (le-ltb p i h) f)))
     (lt-or-ge p i)
-  where
-    above : (p i : ℕ) → i ≤ p → (p ≡ i → ⊥) → i + 1 ≤ p
-    above p i h n = ⊎-elim (λ (l : i < p). omega arith) (λ (l : p ≤ i). absurd (n (omega arith))) (lt-or-ge i p)
 
 -- a column that is made entry by entry: r reads from entry u what g says of unit u, and no from those that are not made yet
 module _ (r g : ℕ → Bool) where
@@ -105,15 +104,11 @@ module _ (slots units : ℕ) (firsts frozen : List ℕ) where
   unfolding frozenUnit
   marks-done flags i q F = record { each = λ u. F u ∙ ap (λ (n : ℕ). ltb u n && unitFrozen frozen slots units firsts u) q }
 
-pub mark-clear : (frozen : List ℕ) (a e : ℕ) (b : Bool) → e ≤ 1024 → 16 ≤ length frozen → b ≡ clearIn frozen a e → b ≡ true
-    → 0 ≡ markOf frozen a e
+-- the mark of a unit, by whether its slots are clear
+pub mark-by : (frozen : List ℕ) (a e : ℕ) (b c : Bool) → e ≤ 1024 → 16 ≤ length frozen → b ≡ clearIn frozen a e → b ≡ c
+    → cond c 0 1 ≡ markOf frozen a e
 unfolding markOf
-mark-clear frozen a e b l room d t = sym (ap (λ (x : Bool). cond x 0 1) (sym (clear-known frozen a e room l) ∙ sym d ∙ t))
-
-pub mark-set : (frozen : List ℕ) (a e : ℕ) (b : Bool) → e ≤ 1024 → 16 ≤ length frozen → b ≡ clearIn frozen a e → b ≡ false
-    → 1 ≡ markOf frozen a e
-unfolding markOf
-mark-set frozen a e b l room d t = sym (ap (λ (x : Bool). cond x 0 1) (sym (clear-known frozen a e room l) ∙ sym d ∙ t))
+mark-by frozen a e b c l room d t = sym (ap (λ (x : Bool). cond x 0 1) (sym (clear-known frozen a e room l) ∙ sym d ∙ t))
 
 -- ---- the board
 
@@ -139,14 +134,8 @@ pub board-sound : (people slots units : ℕ) (avail firsts frozen : List ℕ) �
 board-sound people slots units avail firsts frozen few ok =
     record {
       few = few;
-      rising = λ u h. Rattle.units.proofs.Units.unit-some slots units firsts ok u h;
-      apart = λ u v l h. Rattle.units.proofs.Units.units-apart slots units firsts ok u v l h;
-      within = λ u h. Rattle.units.proofs.Units.unit-within slots units firsts ok u h;
-      whole = λ k h. let I = Rattle.units.proofs.Units.unit-of-in slots units firsts ok k h in (
-        unitOf units firsts k,
-        I .known,
-        I
-            .from,
-        I .to,
-      );
+      rising = unit-some slots units firsts ok;
+      apart = units-apart slots units firsts ok;
+      within = unit-within slots units firsts ok;
+      whole = λ k h. let I = unit-of-in slots units firsts ok k h in (unitOf units firsts k, I .known, I .from, I .to);
     }

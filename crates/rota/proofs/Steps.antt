@@ -1,15 +1,15 @@
 -- A rota stays in step: worked out afresh, and when a stretch of slots changes hands. Assumes nothing.
 use mathlib.Core.Path.{_≡_, sym, ap, ap₂, _∙_, subst}
 use mathlib.Core.Logic.{⊎-elim}
-use mathlib.Core.Bool.{Bool, true, false, cond}
+use mathlib.Core.Bool.{Bool, true, cond}
 use mathlib.Core.List.{List}
-use Prim.Native.Nat.{ℕ, zero, suc, _+_, _-_, _*_, _≤_, _<_}
+use Prim.Native.Nat.{ℕ, _+_, _-_, _*_, _≤_, _<_}
 use native.Mathlib.Omega.{arith}
 use borrow.Author.Tests.{eq-eqb, ne-eqb, eqb-true, eqb-false, lt-ltb, le-leb}
 use lib.Dec.{eqb, leb}
 use lib.ListN.{length, getD, set, length-set}
 use lib.Seq.{getD-set-same, getD-set-other, ext-getD}
-use Rattle.paper.specs.Limits.{nobody}
+use Rattle.paper.specs.Limits.{nobody, peopleOk}
 use Rattle.paper.specs.Count.{over, fill, sum}
 use Rattle.paper.proofs.Logic.{by-test, lt-or-ge}
 use Rattle.paper.proofs.Count.{sum-rises, sum-in-none, sum-in-more, sum-in-le, over-again, over-right}
@@ -17,7 +17,6 @@ use Rattle.paper.proofs.Count.{length-over, getD-over, getD-over-out, length-fi
 use Rattle.slotset.proofs.Puts.{Fit}
 use Rattle.slots.specs.Lent.{demandOf, minutesAt}
 use Rattle.slotset.specs.Answers.{rowNo, rowStretchNo, rowStretchOf, wordsAs}
-use Rattle.paper.specs.Limits.{peopleOk}
 use Rattle.rota.specs.Derived.{Plan, PlanSound, knownBy, portion, worked, Derived, derived, afresh, InStep, setFor}
 use Rattle.rota.specs.Derived.{lessAt, moreAt, stretchMinutes, lengthAt, HandedOver}
 use Rattle.rota.proofs.Minutes.{known-below, portion-own, portion-other, worked-over, worked-le}
@@ -59,6 +58,12 @@ pub afresh-lengths : (P : Plan) (o : List ℕ) (D : Derived)
     → (length (afresh P o D .sets) ≡ length (D .sets)) × (length (afresh P o D .minutes) ≡ length (D .minutes))
 unfolding afresh
 afresh-lengths P o D = (length-sets (P .people) (P .slots) o (D .sets), length-over (worked P o) (P .people) (D .minutes))
+
+pub lengths-kept : (P : Plan) (o : List ℕ) (D D′ : Derived) → D′ ≡ afresh P o D
+    → (length (D′ .sets) ≡ length (D .sets)) × (length (D′ .minutes) ≡ length (D .minutes))
+lengths-kept P o D D′ e =
+    let x = afresh-lengths P o D in
+    (ap (λ (d : Derived). length (d .sets)) e ∙ x .0, ap (λ (d : Derived). length (d .minutes)) e ∙ x .1)
 
 pub afresh-fit : (P : Plan) (o : List ℕ) (D : Derived) → Fit (D .sets) → Fit (afresh P o D .sets)
 unfolding afresh
@@ -123,6 +128,19 @@ module _ (w n : ℕ) (m : List ℕ) where
 
 -- ---- slots a up to e go from old to w
 
+-- an owner that was known, or became one who is, is known
+pub fill-known : (people w a n : ℕ) (o : List ℕ) (k : ℕ) → k < length o → knownBy people w ≡ true → knownBy people (getD o k 0) ≡ true
+    → knownBy people (getD (fill w a n o) k 0) ≡ true
+fill-known people w a n o k l new old =
+    ⊎-elim
+    (λ (x : k < a). ap (knownBy people) (getD-fill-out w a n o k (λ u v. omega arith)) ∙ old)
+    (λ (x : a ≤ k).
+    ⊎-elim
+    (λ (y : k < a + n). ap (knownBy people) (getD-fill-in w a n o k x y l) ∙ new)
+    (λ (y : a + n ≤ k). ap (knownBy people) (getD-fill-out w a n o k (λ u v. omega arith)) ∙ old)
+    (lt-or-ge k (a + n)))
+    (lt-or-ge k a)
+
 pub record Owned (o : List ℕ) (a e old : ℕ) : Type 0 where
   pub each : (k : ℕ) → a ≤ k → k < e → getD o k 0 ≡ old
 
@@ -181,17 +199,6 @@ module _ (P : Plan) (S : PlanSound P) (o : List ℕ) (D : Derived) (J : InStep P
       more-past w t l p (P .people) kw h ∙ less-past old t m p (P .people) ko h ∙ sym (getD-over-out f (P .people) m p h))
       (lt-or-ge p (P .people)))
 
-  pub handed-known : (k : ℕ) → k < P .slots → knownBy (P .people) (getD (fill w a (e - a) o) k 0) ≡ true
-  handed-known k h =
-      ⊎-elim
-      (λ (x : k < a). ap (knownBy (P .people)) (getD-fill-out w a (e - a) o k (λ u v. omega arith)) ∙ J .known k h)
-      (λ (x : a ≤ k).
-      ⊎-elim
-      (λ (y : k < e). ap (knownBy (P .people)) (getD-fill-in w a (e - a) o k x (omega arith) (omega (arith, J .owners-room))) ∙ kw)
-      (λ (y : e ≤ k). ap (knownBy (P .people)) (getD-fill-out w a (e - a) o k (λ u v. omega arith)) ∙ J .known k h)
-      (lt-or-ge k e))
-      (lt-or-ge k a)
-
   -- both columns, after the updates, are those worked out afresh
   pub handed-over : (f : Fit (D .sets)) (s m : List ℕ) → s ≡ setFor 1 w a e (setFor 0 old a e (D .sets)) → m ≡ moreAt w t (lessAt
       old t (D .minutes))
@@ -207,8 +214,7 @@ module _ (P : Plan) (S : PlanSound P) (o : List ℕ) (D : Derived) (J : InStep P
   pub handed-step : InStep P (fill w a (e - a) o) (afresh P (fill w a (e - a) o) D)
   handed-step =
       afresh-step P (fill w a (e - a) o) D (S .slots-few) (omega (arith, J .owners-room, length-fill w a (e - a) o)) (J .sets-room)
-      (J .minutes-room)
-      handed-known
+      (J .minutes-room) (λ k h. fill-known (P .people) w a (e - a) o k (omega (arith, J .owners-room)) kw (J .known k h))
 
   -- the owners and both columns at the end
   pub handed-done : (f : Fit (D .sets)) (o′ s m : List ℕ) → o′ ≡ fill w a (e - a) o → s ≡ setFor 1 w a e (setFor 0 old a e (D .sets))

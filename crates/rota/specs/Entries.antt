@@ -2,7 +2,7 @@
 use mathlib.Core.Path.{_≡_}
 use mathlib.Core.Bool.{Bool, true, cond, _&&_}
 use mathlib.Core.List.{List, []}
-use Prim.Native.Nat.{ℕ, _*_, _≤_}
+use Prim.Native.Nat.{ℕ, _*_}
 use lib.Dec.{eqb, ltb, leb}
 use lib.ListN.{length, set, getD, replicate}
 use Rattle.paper.specs.Limits.{peopleOk, slotCountOk, drawsMost, nobody, orElse, countsOk}

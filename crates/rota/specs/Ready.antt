@@ -2,13 +2,13 @@
 use mathlib.Core.Path.{_≡_}
 use mathlib.Core.Bool.{Bool, not, _&&_}
 use mathlib.Core.List.{List}
-use Prim.Native.Nat.{ℕ, _+_, _≤_, _<_}
+use Prim.Native.Nat.{ℕ, _≤_, _<_}
 use lib.Dec.{eqb}
 use lib.ListN.{length, getD}
 use Rattle.paper.specs.Count.{allIn}
 use Rattle.units.specs.Units.{unitStart, unitEnd}
 use Rattle.units.specs.Domains.{inMask}
-use Rattle.rota.specs.Board.{Board, BoardSound, Even}
+use Rattle.rota.specs.Board.{Board}
 
 -- person p stands in the mask of unit u
 unfoldable pub fitsBy : List ℕ → ℕ → ℕ → Bool

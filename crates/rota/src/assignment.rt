@@ -15,14 +15,14 @@ use slotset::Changed;
 use slotset::SlotSet;
 ghost use mathlib.Core.Path.{_≡_};
 ghost use mathlib.Core.Bool.{true};
-ghost use Prim.Native.Nat.{ℕ, _+_, _-_, _*_, _<_, _≤_};
-ghost use lib.ListN.{length, getD, set};
+ghost use Prim.Native.Nat.{_+_, _-_, _*_, _<_, _≤_};
+ghost use lib.ListN.{length, getD};
 ghost use mathlib.Core.List.{[]};
 ghost use Rattle.rota.specs.Entries.{fromSlotsNo, fromSlots, assignNo, assigned, emptyNo, emptied, Ended, ownerIs, minutesIs};
 ghost use Rattle.rota.specs.Entries.{unassignedIs, uncoveredIs, slotsOfIs};
 ghost use Rattle.paper.specs.Count.{fill, over};
 ghost use Rattle.slotset.specs.Slots.{valueOf};
-ghost use Rattle.rota.specs.Derived.{plan, derived, knownBy, worked, afresh, InStep, PlanSound, setFor, lessAt, moreAt};
+ghost use Rattle.rota.specs.Derived.{plan, derived, knownBy, afresh, InStep, PlanSound, setFor, lessAt, moreAt};
 ghost use Rattle.rota.specs.Derived.{stretchMinutes, HandedOver, OneOwner, setsFrom, nobodies, Makes, unassigned};
 
 // Slots a up to e of a person's set; nobody has no set.

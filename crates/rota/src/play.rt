@@ -9,7 +9,7 @@ use crate::moves::decide;
 use crate::recount::recount_ok;
 use paper::counts_ok;
 ghost use mathlib.Core.Path.{_≡_};
-ghost use Prim.Native.Nat.{ℕ, _+_, _*_, _<_, _≤_};
+ghost use Prim.Native.Nat.{ℕ, _+_, _<_, _≤_};
 ghost use lib.ListN.{length};
 ghost use Rattle.units.specs.Units.{unitEnd};
 ghost use Rattle.rota.specs.Board.{BoardSound, Even};

@@ -13,7 +13,7 @@ ghost use lib.Dec.{eqb};
 ghost use lib.ListN.{length, getD};
 ghost use Rattle.paper.specs.Count.{all, over};
 ghost use Rattle.slotset.specs.Slots.{slot};
-ghost use Rattle.rota.specs.Derived.{plan, derived, knownBy, portion, worked, held, PlanSound, Makes};
+ghost use Rattle.rota.specs.Derived.{plan, derived, knownBy, portion, worked, PlanSound, Makes};
 ghost use Rattle.rota.specs.Recount.{firstFail, availableFor, knownAt, availableAt, evenAt, setSlotAt, setAt, minutesOkAt, faultOf};
 ghost use Rattle.rota.specs.Recount.{recounts, sameBit, RotaRoom};
 ghost use Rattle.units.specs.Units.{unitStart, unitEnd};

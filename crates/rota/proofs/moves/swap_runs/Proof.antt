@@ -9,8 +9,8 @@ use Rattle.rota.specs.Board.{ownerOf}
 use Rattle.rota.specs.Ready.{runsFit}
 use Rattle.rota.specs.Moves.{firstOf, lastOf}
 use Rattle.rota.proofs.Judged.{fewer-owned}
-use Rattle.rota.proofs.Moved.{run-order, runs-frozen, runs-frozen-2, runs-unowned, runs-unowned-2, runs-owner, runs-same}
-use Rattle.rota.proofs.Moved.{runs-unfit, runs-act}
+use Rattle.rota.proofs.Moved.{run-order, runs-first-frozen, runs-second-frozen, runs-first-unowned, runs-second-unowned}
+use Rattle.rota.proofs.Moved.{runs-owner, runs-same, runs-unfit, runs-act}
 use Rattle.rota.proofs.moves.swap_runs.Statement.{statement}
 use Rattle.rota.proofs.moves.swap_runs.Tie as tie
 
@@ -24,22 +24,22 @@ is-frozen-requires : tie.Need-is-frozen-requires
 is-frozen-requires c κs = search needs
 
 returns : tie.Need-returns
-returns c = runs-frozen _ _ _ _ (sym (c .before .is-frozen .ensures) ∙ (c .if1 .taken))
+returns c = runs-first-frozen _ _ _ _ (sym (c .before .is-frozen .ensures) ∙ (c .if1 .taken))
 
 is-frozen-requires-2 : tie.Need-is-frozen-requires-2
 is-frozen-requires-2 c κs = search needs
 
 returns-2 : tie.Need-returns-2
-returns-2 c = runs-frozen-2 _ _ _ _ (sym (c .before .is-frozen2 .ensures) ∙ (c .if2 .taken))
+returns-2 c = runs-second-frozen _ _ _ _ (sym (c .before .is-frozen2 .ensures) ∙ (c .if2 .taken))
 
 returns-3 : tie.Need-returns-3
 unfolding ownerOf
-returns-3 c = runs-unowned _ _ _ _ _ _ (c .before .before .before .before .before .before .owner-of .ensures) (c .before .before
+returns-3 c = runs-first-unowned _ _ _ _ _ _ (c .before .before .before .before .before .before .owner-of .ensures) (c .before .before
     .before .before .before .owner-of2 .ensures) (c .if3 .taken)
 
 returns-4 : tie.Need-returns-4
 unfolding ownerOf
-returns-4 c = runs-unowned-2 _ _ _ _ _ _ (c .before .before .before .before .before .before .before .owner-of .ensures) (c .before
+returns-4 c = runs-second-unowned _ _ _ _ _ _ (c .before .before .before .before .before .before .before .owner-of .ensures) (c .before
     .before .before .before .before .before .owner-of2 .ensures) (c .if4 .taken)
 
 returns-5 : tie.Need-returns-5
