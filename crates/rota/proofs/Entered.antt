@@ -2,14 +2,14 @@
 use mathlib.Core.Path.{_≡_, sym, ap, ap₂, _∙_, subst, refl}
 use mathlib.Core.Bool.{Bool, true, false, _&&_}
 use mathlib.Core.List.{List}
-use Prim.Native.Nat.{ℕ, _*_, _≤_, _<_}
+use Prim.Native.Nat.{ℕ, suc, _*_, _≤_, _<_}
 use native.Mathlib.Omega.{arith}
 use borrow.Author.Tests.{eq-eqb, ne-eqb, eqb-true, lt-ltb, leb-true}
 use lib.Dec.{eqb, leb}
 use lib.ListN.{length, getD, replicate, length-replicate}
 use Rattle.paper.specs.Limits.{nobody, peopleOk, slotCountOk, orElse, countsOk}
 use Rattle.paper.specs.Count.{all, onto}
-use Rattle.paper.proofs.Logic.{by-test, both, five, or-right, and-true, cond-zero, people-says, slot-count-says, passes, stops}
+use Rattle.paper.proofs.Logic.{both, five, or-right, and-true, cond-zero, people-says, slot-count-says, passes, stops}
 use Rattle.paper.proofs.Count.{all-each, each-all, in-each, each-in}
 use Rattle.slotset.specs.Slots.{slot}
 use Rattle.slots.specs.Lent.{slotRoomOk, slotsOk}
@@ -29,6 +29,29 @@ use Rattle.rota.specs.Entries.{roomOk, ground, Outcome, outcome, Ended}
 use Rattle.rota.specs.Entries.{playRoomOk, playNo, played}
 use Rattle.rota.proofs.Minutes.{known-below}
 use Rattle.rota.proofs.Readied.{fits-right, board-is, board-sound}
+
+-- ---- chains of refusals that leave a place for what comes after
+
+-- where the chain gives no number, what comes after is heard
+abbrev pub Chain : (ℕ → ℕ) → Type 0
+Chain f = (x : ℕ) → orElse (eqb (f 0) 0) (f 0) x ≡ f x
+
+pub chain-end : Chain (λ x. x)
+chain-end x = ap (λ (b : Bool). orElse b 0 x) (eq-eqb 0 0 refl)
+
+pub chain-more : (t : Bool) (n : ℕ) (f : ℕ → ℕ) → Chain f → Chain (λ x. orElse t (suc n) (f x))
+chain-more true n f c x = c x
+chain-more false n f c x = ap (λ (b : Bool). orElse b (suc n) x) (ne-eqb (suc n) 0 (λ q. omega arith))
+
+module _ (f : ℕ → ℕ) (c : Chain f) (n x : ℕ) (e : n ≡ f 0) where
+  pub chain-then : (r : ℕ) → r ≡ orElse (eqb n 0) n x → r ≡ f x
+  chain-then r q = q ∙ ap (λ (m : ℕ). orElse (eqb m 0) m x) e ∙ c x
+
+  pub chain-stops : (n ≡ 0 → ⊥) → n ≡ f x
+  chain-stops z = chain-then n (stops (eqb n 0) n x (ne-eqb n 0 z))
+
+  pub chain-goes : (r : ℕ) → n ≡ 0 → r ≡ x → r ≡ f x
+  chain-goes r z q = chain-then r (passes (eqb n 0) n x r (eq-eqb n 0 z) q)
 
 -- ---- 1, 2 and 9
 
@@ -59,21 +82,16 @@ module _ (a b c : Bool) where
       let r = cond-zero c _ 8 (q .1) in
       (p .0, q .0, r .0, r .1)
 
+  pub ground-chain : Chain (ground a b c)
+  unfolding ground
+  ground-chain = chain-more a 0 _ (chain-more b 1 _ (chain-more c 8 _ chain-end))
+
   -- one of the three: what comes after is not asked
   pub ground-stops : (n x : ℕ) → n ≡ ground a b c 0 → (n ≡ 0 → ⊥) → n ≡ ground a b c x
-  unfolding ground
-  ground-stops n x e z =
-      by-test a _
-      (λ p. by-test b _
-      (λ q. by-test c _ (λ r. absurd (z (e ∙ simp (p, q, r)))) (λ r. e ∙ simp (p, q, r)))
-      (λ q. e ∙ simp (p, q)))
-      (λ p. e ∙ simp p)
+  ground-stops n x e z = chain-stops (ground a b c) ground-chain n x e z
 
   pub ground-goes : (n x r : ℕ) → n ≡ ground a b c 0 → n ≡ 0 → r ≡ x → r ≡ ground a b c x
-  unfolding ground
-  ground-goes n x r e z q =
-      let y = ground-all 0 (sym e ∙ z) in
-      simp (y .0, y .1, y .2) q
+  ground-goes n x r e z q = chain-goes (ground a b c) ground-chain n x e r z q
 
 -- ---- what they leave known
 
@@ -252,18 +270,11 @@ module _ (P : Plan) (avail : List ℕ) (units : ℕ) (firsts frozen : List ℕ) 
         };
       }
 
-  module _ (m r : ℕ) (b : Bool) (em : m ≡ ground counts room sound 0) where
-    pub play-stops : (m ≡ 0 → ⊥) → m ≡ playNo P avail units firsts frozen n ks fs ss o D x
-    unfolding playNo
-    play-stops z = ground-stops counts room sound m _ em z
-
-    pub play-10 : m ≡ 0 → b ≡ recounts P avail units firsts o D → b ≡ false → 10 ≡ playNo P avail units firsts frozen n ks fs ss o D x
-    unfolding playNo
-    play-10 z eb t = ground-goes counts room sound m _ 10 em z (stops (recounts P avail units firsts o D) 10 0 (sym eb ∙ t))
-
-    pub play-0 : m ≡ 0 → b ≡ recounts P avail units firsts o D → b ≡ true → 0 ≡ playNo P avail units firsts frozen n ks fs ss o D x
-    unfolding playNo
-    play-0 z eb t = ground-goes counts room sound m _ 0 em z (passes (recounts P avail units firsts o D) 10 0 0 (sym eb ∙ t) refl)
+  -- the three, then the recount
+  pub play-then : (m r : ℕ) → m ≡ ground counts room sound 0 → r ≡ orElse (eqb m 0) m (orElse (recounts P avail units firsts o D) 10 0)
+      → r ≡ playNo P avail units firsts frozen n ks fs ss o D x
+  unfolding playNo
+  play-then m r e q = chain-then (ground counts room sound) (ground-chain counts room sound) m _ e r q
 
   -- where nothing stands against the play
   pub record PlayAsks : Type 0 where

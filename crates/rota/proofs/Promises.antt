@@ -8,7 +8,7 @@ use borrow.Author.Tests.{lt-ltb, le-leb, eqb-true, eqb-false}
 use lib.Dec.{eqb, ltb, leb}
 use lib.ListN.{length, getD, set, drop, length-set}
 use lib.Seq.{getD-drop, getD-set-same, getD-set-other, getD-append-seam, getD-append-add}
-use Rattle.paper.specs.Limits.{nobody, countsOk}
+use Rattle.paper.specs.Limits.{nobody, orElse, countsOk}
 use Rattle.paper.specs.Count.{sum, allIn, onto}
 use Rattle.paper.proofs.Logic.{by-test, both, five, and-true, cond-zero}
 use Rattle.paper.proofs.Count.{in-each, each-all, sum-same, getD-over-out}
@@ -32,10 +32,10 @@ use Rattle.rota.proofs.Plays.{answers-append, answers-length, draws-len
 use Rattle.rota.proofs.Steps.{afresh-same, afresh-again, afresh-step, afresh-lengths}
 use Rattle.rota.proofs.Sets.{Beside, sets-out}
 use Rattle.rota.proofs.Entered.{Recounted, recount-says, says-recount, recount-step, PlayAsks, asks-sound, asks-even}
-use Rattle.rota.proofs.Entered.{Grounds, grounds, ground-all}
+use Rattle.rota.proofs.Entered.{Grounds, ground-all}
 use Rattle.rota.proofs.Drawn.{draw-acts-exactly}
 use Rattle.rota.proofs.HandsOver.{draw-hands-over}
-use Rattle.rota.proofs.Asked.{Asks}
+use Rattle.rota.proofs.Asked.{Asks, slots-asks}
 
 -- ---- a play that is accepted
 
@@ -197,17 +197,15 @@ recount-slots-too P avail units firsts o D e =
 
 module _ (P : Plan) (avail o : List ℕ) (D : Derived) (e : recountSlotsNo P avail o D ≡ 0) where
   tests : (countsOk (P .people) (P .slots) ≡ true) × (roomOk P avail o D ≡ true)
-      × (slotsOk (P .slots) (P .starts) (P .ends) ≡ true) × (recounts P avail 0 [] o D ≡ true)
+      × (slotsOk (P .slots) (P .starts) (P .ends) ≡ true) × (orElse (recounts P avail 0 [] o D) 10 0 ≡ 0)
   unfolding recountSlotsNo
-  tests =
-      let y = ground-all (countsOk (P .people) (P .slots)) (roomOk P avail o D) (slotsOk (P .slots) (P .starts) (P .ends)) _ e in
-      (y .0, y .1, y .2, cond-zero (recounts P avail 0 [] o D) 0 9 (y .3) .0)
+  tests = ground-all (countsOk (P .people) (P .slots)) (roomOk P avail o D) (slotsOk (P .slots) (P .starts) (P .ends)) _ e
 
   on : Grounds P avail o D
-  on = grounds P avail o D (tests .0) (tests .1) (tests .2)
+  on = slots-asks P avail o D e .0
 
   right : Recounted P avail 0 [] o D
-  right = recount-says P avail 0 [] o D (tests .3)
+  right = slots-asks P avail o D e .1
 
   module _ (E : Derived) (rs : 16 * P .people ≤ length (E .sets)) (rm : P .people ≤ length (E .minutes)) where
     room-there : roomOk P avail o E ≡ true

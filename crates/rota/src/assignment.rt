@@ -2,13 +2,13 @@
 use crate::Figure;
 use crate::checks::both;
 use crate::checks::ground;
-use crate::checks::room_ok;
+use crate::checks::rota_ground;
 use crate::checks::words_ok;
 use crate::recount::available_for;
 use crate::recount::first_unavailable;
 use crate::recount::first_unknown;
 use crate::recount::known_by;
-use crate::recount::recount_ok;
+use crate::recount::recount_slots;
 use crate::recount::worked_by;
 use paper::counts_ok;
 use slotset::Changed;
@@ -242,9 +242,7 @@ fn from_slots_no(
     ensures { λ r. ⌜ r ≡ fromSlotsNo (plan people slots (now (starts .entry)) (now (ends .entry))) (now (avail .entry)) (now (owners
         .entry)) (derived (now (sets .entry)) (now (minutes .entry))) ⌝ }
 {
-    let counts = counts_ok(people, slots);
-    let room = room_ok(people, slots, starts, ends, avail, owners, sets, minutes);
-    let n = ground(counts, room, slots::slots_ok(slots, starts, ends));
+    let n = rota_ground(people, slots, starts, ends, avail, owners, sets, minutes);
     if n == 0 {
         if first_unknown(people, slots, owners) < slots {
             return 11;
@@ -296,32 +294,15 @@ fn assign_no(
     ensures { λ r. ⌜ r ≡ assignNo (plan people slots (now (starts .entry)) (now (ends .entry))) (now (avail .entry)) (now (owners
         .entry)) (derived (now (sets .entry)) (now (minutes .entry))) slot owner ⌝ }
 {
-    let counts = counts_ok(people, slots);
-    let room = room_ok(people, slots, starts, ends, avail, owners, sets, minutes);
-    let n = ground(counts, room, slots::slots_ok(slots, starts, ends));
+    let n = recount_slots(people, slots, starts, ends, avail, owners, sets, minutes);
     if n == 0 {
-        let none = [0u16; 1];
-        if recount_ok(
-            people,
-            slots,
-            0,
-            starts,
-            ends,
-            avail,
-            &none,
-            owners,
-            sets,
-            minutes,
-        ) {
-            if both(slot < slots, known_by(people, owner)) {
-                if available_for(avail, people, slots, owner, slot) {
-                    return 0;
-                }
-                return 12;
+        if both(slot < slots, known_by(people, owner)) {
+            if available_for(avail, people, slots, owner, slot) {
+                return 0;
             }
-            return 11;
+            return 12;
         }
-        return 10;
+        return 11;
     }
     n
 }

@@ -6,7 +6,7 @@ use crate::checks::ground;
 use crate::checks::play_room_ok;
 use crate::checks::room_ok;
 use crate::moves::decide;
-use crate::recount::recount_ok;
+use crate::recount::then_recount;
 use paper::counts_ok;
 ghost use mathlib.Core.Path.{_≡_};
 ghost use Prim.Native.Nat.{ℕ, _+_, _<_, _≤_};
@@ -222,24 +222,19 @@ fn play_no(
         units::units_ok(slots, units, firsts),
     );
     let n = ground(counts, room, sound);
-    if n == 0 {
-        if recount_ok(
-            people,
-            slots,
-            units,
-            starts,
-            ends,
-            avail,
-            firsts,
-            owners,
-            sets,
-            minutes,
-        ) {
-            return 0;
-        }
-        return 10;
-    }
-    n
+    then_recount(
+        n,
+        people,
+        slots,
+        units,
+        starts,
+        ends,
+        avail,
+        firsts,
+        owners,
+        sets,
+        minutes,
+    )
 }
 
 // Plays a list of draws, given as three columns; one answer byte a draw: 0 acted, 1 no move, 2 choice outside. Refusals 1, 2, 9, 10.
