@@ -139,25 +139,27 @@ module _ (B : Board) (o : List ℕ) (d : Draw) where
   draw-outside (run-person h g C) = by-first (λ hf. ap answerOf (is-reassign-run hf h g) ∙ reassign-run-ruled B o f s hf .beyond C)
   draw-outside (side h g C) = by-first (λ hf. ap answerOf (is-shift hf h g) ∙ shift-ruled B o f s hf .beyond C)
 
-  -- and what is heard tells them apart
-  pub record Told : Type 0 where
-    pub acted : answerOf (decided B o d) ≡ 0 → Acts B o d
-    pub outside : answerOf (decided B o d) ≡ 2 → ChoiceOutside B o d
-    pub three : answerOf (decided B o d) < 3
+  -- and what is heard tells them apart: a draw follows the rule of its move
+  abbrev DrawRuled : Type 0
+  DrawRuled = Ruled (Acts B o d) (ChoiceOutside B o d) (draw-does B o d) (decided B o d)
 
-  told : (A C : Type 0) (does : A → Move) (m : Move) → decided B o d ≡ m → (A → Acts B o d) → (C → ChoiceOutside B o d)
-      → Ruled A C does m → Told
-  told A C does m e a c J =
+  ruled-as : (A C : Type 0) (does : A → Move) (m : Move) → decided B o d ≡ m → (A → Acts B o d) → (C → ChoiceOutside B o d)
+      → Ruled A C does m → DrawRuled
+  ruled-as A C does m e a c J =
       record {
+        acts = draw-acts;
         acted = λ z. a (J .acted (sym (ap answerOf e) ∙ z));
+        beyond = draw-outside;
         outside = λ z. c (J .outside (sym (ap answerOf e) ∙ z));
         three = omega (arith, ap answerOf e, J .three);
       }
 
-  told-outside : decided B o d ≡ Stay 2 → ChoiceOutside B o d → Told
-  told-outside e c =
+  ruled-outside : decided B o d ≡ Stay 2 → ChoiceOutside B o d → DrawRuled
+  ruled-outside e c =
       record {
+        acts = draw-acts;
         acted = λ z. absurd (omega (arith, ap answerOf e));
+        beyond = draw-outside;
         outside = λ _. c;
         three = omega (arith, ap answerOf e);
       }
@@ -166,41 +168,33 @@ module _ (B : Board) (o : List ℕ) (d : Draw) where
   sides h g hf (inl A) = grows h g hf A
   sides h g hf (inr A) = shrinks h g hf A
 
-  pub draw-told : Told
-  draw-told =
+  pub draw-ruled : DrawRuled
+  draw-ruled =
       ⊎-elim
       (λ (top : k < 100). ⊎-elim
       (λ (hf : f < B .units). ⊎-elim
-      (λ (h : k < 35). told _ _ _ _ (is-reassign hf h) (reassigns h hf) (person h) (reassign-ruled B o f s))
+      (λ (h : k < 35). ruled-as _ _ _ _ (is-reassign hf h) (reassigns h hf) (person h) (reassign-ruled B o f s))
       (λ (a : 35 ≤ k). ⊎-elim
       (λ (h : k < 60). ⊎-elim
-      (λ (hs : s < B .units). told _ _ _ _ (is-swap hf a h hs) (swaps a h hf hs) (λ c. absurd c) (swap-ruled B o f s))
-      (λ (hs : B .units ≤ s). told-outside (out-swap hf a h hs) (swap-unit a h hs)) (lt-or-ge s (B .units)))
+      (λ (hs : s < B .units). ruled-as _ _ _ _ (is-swap hf a h hs) (swaps a h hf hs) (λ c. absurd c) (swap-ruled B o f s))
+      (λ (hs : B .units ≤ s). ruled-outside (out-swap hf a h hs) (swap-unit a h hs)) (lt-or-ge s (B .units)))
       (λ (b : 60 ≤ k). ⊎-elim
       (λ (h : k < 75).
-      told _ _ _ _ (is-reassign-run hf b h) (reassigns-run b h hf) (run-person b h) (reassign-run-ruled B o f s hf))
+      ruled-as _ _ _ _ (is-reassign-run hf b h) (reassigns-run b h hf) (run-person b h) (reassign-run-ruled B o f s hf))
       (λ (c : 75 ≤ k). ⊎-elim
       (λ (h : k < 90). ⊎-elim
       (λ (hs : s < B .units).
-      told _ _ _ _ (is-swap-runs hf c h hs) (swaps-runs c h hf hs) (λ x. absurd x) (swap-runs-ruled B o f s hf hs))
-      (λ (hs : B .units ≤ s). told-outside (out-swap-runs hf c h hs) (swap-run-unit c h hs)) (lt-or-ge s (B .units)))
-      (λ (e : 90 ≤ k). told _ _ _ _ (is-shift hf e top) (sides e top hf) (side e top) (shift-ruled B o f s hf))
+      ruled-as _ _ _ _ (is-swap-runs hf c h hs) (swaps-runs c h hf hs) (λ x. absurd x) (swap-runs-ruled B o f s hf hs))
+      (λ (hs : B .units ≤ s). ruled-outside (out-swap-runs hf c h hs) (swap-run-unit c h hs)) (lt-or-ge s (B .units)))
+      (λ (e : 90 ≤ k). ruled-as _ _ _ _ (is-shift hf e top) (sides e top hf) (side e top) (shift-ruled B o f s hf))
       (lt-or-ge k 90)) (lt-or-ge k 75)) (lt-or-ge k 60)) (lt-or-ge k 35))
-      (λ (hf : B .units ≤ f). told-outside (out-first hf) (first-unit hf)) (lt-or-ge f (B .units)))
-      (λ (h : 100 ≤ k). told-outside (out-number h) (number h)) (lt-or-ge k 100)
+      (λ (hf : B .units ≤ f). ruled-outside (out-first hf) (first-unit hf)) (lt-or-ge f (B .units)))
+      (λ (h : 100 ≤ k). ruled-outside (out-number h) (number h)) (lt-or-ge k 100)
 
   -- a draw acts exactly when the conditions of its move hold, hears 2 exactly when its choice lies outside, and else 1
   pub draw-acts-exactly : Heard (answer B o d) (Acts B o d) (ChoiceOutside B o d)
   unfolding answer
-  draw-acts-exactly =
-      heard _ _ _ (decided B o d) (draw-moves B o d)
-      record {
-        acts = draw-acts;
-        acted = draw-told .acted;
-        beyond = draw-outside;
-        outside = draw-told .outside;
-        three = draw-told .three;
-      }
+  draw-acts-exactly = heard _ _ _ (decided B o d) (draw-moves B o d) draw-ruled
 
 -- ---- the units that it hands over
 

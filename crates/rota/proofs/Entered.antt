@@ -23,7 +23,8 @@ use Rattle.rota.specs.Plays.{drawsOf, ownersAfter, answers}
 use Rattle.rota.specs.Ready.{ready}
 use Rattle.rota.specs.Lent.{fitsUnit, boardOf, FitsRight, FrozenRight}
 use Rattle.rota.specs.Derived.{Plan, PlanSound, Derived, derived, knownBy, worked, held, afresh, InStep}
-use Rattle.rota.specs.Recount.{availableFor, knownAt, availableAt, evenAt, setSlotAt, setAt, minutesOkAt, recounts, RotaRoom}
+use Rattle.rota.specs.Recount.{availableFor, knownAt, availableAt, evenAt, setSlotAt, setAt, minutesOkAt, recounts}
+use Rattle.rota.specs.Recount.{UnitRoom, RotaRoom}
 use Rattle.rota.specs.Stepped.{Ran, DrawRoom}
 use Rattle.rota.specs.Entries.{roomOk, ground, Outcome, outcome, Ended}
 use Rattle.rota.specs.Entries.{playRoomOk, playNo, played}
@@ -108,6 +109,9 @@ plan-sound P a c =
       slots-few = q .1;
       lent = slots-sound (P .slots) (P .starts) (P .ends) c;
     }
+
+pub unit-room : (slots units : ℕ) (firsts : List ℕ) → unitsOk slots units firsts ≡ true → UnitRoom slots units firsts
+unit-room slots units firsts ok = record { some = unit-some slots units firsts ok; within = unit-within slots units firsts ok }
 
 pub record Grounds (P : Plan) (avail o : List ℕ) (D : Derived) : Type 0 where
   pub sound : PlanSound P

@@ -22,7 +22,35 @@ use Rattle.rota.proofs.Sets.{sets-in, sets-same, length-sets}
 use Rattle.rota.proofs.Readied.{zero-at}
 use Rattle.rota.proofs.Scans.{first-test, first-passes}
 
+-- ---- whether there is none
+
+abbrev pub isClean : Fault → Bool
+isClean Clean = true
+isClean (Unknown k) = false
+isClean (Unavailable k) = false
+isClean (Uneven u) = false
+isClean (WrongSet p k) = false
+isClean (WrongMinutes p) = false
+
+five-tests : (a b c d e : Bool) (u v w y : ℕ) (x z : ℕ)
+    → a && (b && (c && (d && e)))
+    ≡ isClean (cond (not a) (Unknown u) (cond (not b) (Unavailable v) (cond (not c) (Uneven w) (cond (not d) (WrongSet x y) (cond
+    (not e) (WrongMinutes z) Clean)))))
+five-tests false b c d e u v w y x z = refl
+five-tests true false c d e u v w y x z = refl
+five-tests true true false d e u v w y x z = refl
+five-tests true true true false e u v w y x z = refl
+five-tests true true true true false u v w y x z = refl
+five-tests true true true true true u v w y x z = refl
+
 -- ---- which fault
+
+-- a scan that ends before n, and one that doesn't
+below : (n r : ℕ) (p : ℕ → Bool) → r ≡ firstFail n p → r < n → ltb (firstFail n p) n ≡ true
+below n r p e h = ap (λ (x : ℕ). ltb x n) (sym e) ∙ lt-ltb r n h
+
+past : (n r : ℕ) (p : ℕ → Bool) → r ≡ firstFail n p → n ≤ r → ltb (firstFail n p) n ≡ false
+past n r p e h = ap (λ (x : ℕ). ltb x n) (sym e) ∙ le-ltb r n h
 
 module _ (P : Plan) (avail : List ℕ) (units : ℕ) (firsts o : List ℕ) (D : Derived) where
   abbrev known : ℕ → Bool
@@ -39,12 +67,6 @@ module _ (P : Plan) (avail : List ℕ) (units : ℕ) (firsts o : List ℕ) (D : 
 
   abbrev minutes : ℕ → Bool
   minutes = minutesOkAt P o (D .minutes)
-
-  below : (n r : ℕ) (p : ℕ → Bool) → r ≡ firstFail n p → r < n → ltb (firstFail n p) n ≡ true
-  below n r p e h = ap (λ (x : ℕ). ltb x n) (sym e) ∙ lt-ltb r n h
-
-  past : (n r : ℕ) (p : ℕ → Bool) → r ≡ firstFail n p → n ≤ r → ltb (firstFail n p) n ≡ false
-  past n r p e h = ap (λ (x : ℕ). ltb x n) (sym e) ∙ le-ltb r n h
 
   module _ (a : ℕ) (ea : a ≡ firstFail (P .slots) known) where
     pub fault-unknown : a < P .slots → Unknown a ≡ faultOf P avail units firsts o D
@@ -101,25 +123,6 @@ module _ (P : Plan) (avail : List ℕ) (units : ℕ) (firsts o : List ℕ) (D : 
                 (ap WrongMinutes em)
 
   -- ---- it passes exactly when there is none
-
-  abbrev pub isClean : Fault → Bool
-  isClean Clean = true
-  isClean (Unknown k) = false
-  isClean (Unavailable k) = false
-  isClean (Uneven u) = false
-  isClean (WrongSet p k) = false
-  isClean (WrongMinutes p) = false
-
-  five-tests : (a b c d e : Bool) (u v w y : ℕ) (x z : ℕ)
-      → a && (b && (c && (d && e)))
-      ≡ isClean (cond (not a) (Unknown u) (cond (not b) (Unavailable v) (cond (not c) (Uneven w) (cond (not d) (WrongSet x y) (cond
-      (not e) (WrongMinutes z) Clean)))))
-  five-tests false b c d e u v w y x z = refl
-  five-tests true false c d e u v w y x z = refl
-  five-tests true true false d e u v w y x z = refl
-  five-tests true true true false e u v w y x z = refl
-  five-tests true true true true false u v w y x z = refl
-  five-tests true true true true true u v w y x z = refl
 
   pub recounts-clean : recounts P avail units firsts o D ≡ isClean (faultOf P avail units firsts o D)
   unfolding recounts faultOf
@@ -226,9 +229,6 @@ module _ (P : Plan) (S : PlanSound P) (o s m : List ℕ) (M : Makes P o (derived
         (λ p h. ap (eqb (getD m p 0)) (ap (λ (x : List ℕ). getD x p 0) made-minutes
         ∙ getD-over (worked P o) (P .people) d p h (omega (arith, copy-minutes, S .people-few))))
 
--- a conjunction whose first part holds, or does not
+-- a conjunction whose first part holds
 pub and-on : (a b r : Bool) → a ≡ true → r ≡ b → r ≡ a && b
 and-on a b r e q = q ∙ ap (λ (x : Bool). x && b) (sym e)
-
-pub and-stop : (a b : Bool) → a ≡ false → false ≡ a && b
-and-stop a b e = ap (λ (x : Bool). x && b) (sym e)

@@ -106,18 +106,18 @@ portion-le : (w p n : ℕ) → portion w p n ≤ n
 unfolding portion
 portion-le w p n = by-test (eqb w p) _ (λ t. simp t (omega arith)) (λ f. simp f zero-le)
 
--- a person's minutes of the first n slots, and of all, are at most the whole
+-- the first n slots have at most the minutes of all
+pub part-le : (P : Plan) (n : ℕ) → n ≤ P .slots → sum n (lengthAt P) ≤ demandOf (P .slots) (P .starts) (P .ends)
+unfolding demandOf
+part-le P n h =
+    let y : n + (P .slots - n) ≡ P .slots = omega arith in
+    omega (arith, sum-rises n (P .slots - n) (lengthAt P), ap (λ (z : ℕ). sum z (lengthAt P)) y)
+
+-- so has what a person owns of them, and of all
 pub worked-part-le : (P : Plan) (o : List ℕ) (p n : ℕ) → n ≤ P .slots
     → sum n (λ k. portion (getD o k 0) p (lengthAt P k)) ≤ demandOf (P .slots) (P .starts) (P .ends)
-unfolding demandOf
 worked-part-le P o p n h =
-    let y : n + (P .slots - n) ≡ P .slots = omega arith in
-    omega (
-      arith,
-      sum-mono n _ (lengthAt P) (λ k l. portion-le (getD o k 0) p (lengthAt P k)),
-      sum-rises n (P .slots - n) (lengthAt P),
-      ap (λ (z : ℕ). sum z (lengthAt P)) y,
-    )
+    omega (arith, part-le P n h, sum-mono n _ (lengthAt P) (λ k l. portion-le (getD o k 0) p (lengthAt P k)))
 
 pub worked-le : (P : Plan) (o : List ℕ) (p : ℕ) → worked P o p ≤ demandOf (P .slots) (P .starts) (P .ends)
 unfolding worked

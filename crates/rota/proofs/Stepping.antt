@@ -84,9 +84,6 @@ module _ (B : Board) (T : BoardSound B) (o : List ℕ) (E : Even B o) (H : ℕ �
           each = λ k x y. second-in k x y ∙ O .each k x y ∙ sym (second-in c (omega arith) (O .some));
         }
 
-    pub second-known : knownBy (B .people) q ≡ true
-    second-known = stretch-known c g q (X .right)
-
     pub second-after : (l : List ℕ) → l ≡ fill p a (e - a) o → OneOwner l (B .slots) c g
     second-after l z = subst (λ (x : List ℕ). OneOwner x (B .slots) c g) (sym z) second-one
 

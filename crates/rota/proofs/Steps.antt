@@ -10,16 +10,16 @@ use lib.Dec.{eqb, leb}
 use lib.ListN.{length, getD, set, length-set}
 use lib.Seq.{getD-set-same, getD-set-other, ext-getD}
 use Rattle.paper.specs.Limits.{nobody, peopleOk}
-use Rattle.paper.specs.Count.{over, fill, sum}
+use Rattle.paper.specs.Count.{over, fill}
 use Rattle.paper.proofs.Logic.{by-test, lt-or-ge}
-use Rattle.paper.proofs.Count.{sum-rises, sum-in-none, sum-in-more, sum-in-le, over-again, over-right}
+use Rattle.paper.proofs.Count.{sum-in-none, sum-in-more, sum-in-le, over-again, over-right}
 use Rattle.paper.proofs.Count.{length-over, getD-over, getD-over-out, length-fill, getD-fill-in, getD-fill-out}
 use Rattle.slotset.proofs.Puts.{Fit}
 use Rattle.slots.specs.Lent.{demandOf, minutesAt}
 use Rattle.slotset.specs.Answers.{rowNo, rowStretchNo, rowStretchOf, wordsAs}
 use Rattle.rota.specs.Derived.{Plan, PlanSound, knownBy, portion, worked, Derived, derived, afresh, InStep, setFor}
 use Rattle.rota.specs.Derived.{lessAt, moreAt, stretchMinutes, lengthAt, HandedOver}
-use Rattle.rota.proofs.Minutes.{known-below, portion-own, portion-other, worked-over, worked-le}
+use Rattle.rota.proofs.Minutes.{known-below, portion-own, portion-other, worked-over, part-le, worked-le}
 use Rattle.rota.proofs.Sets.{length-sets, sets-fit, sets-in, sets-again, sets-same, sets-handed}
 
 -- ---- worked out afresh
@@ -249,15 +249,8 @@ unfolding setFor
 row-none v w a e ws h = simp (eq-eqb w nobody h)
 
 pub stretch-le : (P : Plan) (a e : ℕ) → a ≤ e → e ≤ P .slots → stretchMinutes P a e ≤ demandOf (P .slots) (P .starts) (P .ends)
-unfolding stretchMinutes demandOf
-stretch-le P a e h g =
-    let y : e + (P .slots - e) ≡ P .slots = omega arith in
-    omega (
-      arith,
-      sum-in-le a e (lengthAt P) h,
-      sum-rises e (P .slots - e) (lengthAt P),
-      ap (λ (z : ℕ). sum z (lengthAt P)) y,
-    )
+unfolding stretchMinutes
+stretch-le P a e h g = omega (arith, sum-in-le a e (lengthAt P) h, part-le P e g)
 
 pub stretch-none : (P : Plan) (a : ℕ) → 0 ≡ stretchMinutes P a a
 unfolding stretchMinutes

@@ -6,6 +6,7 @@ use Prim.Native.Nat.{ℕ, zero, suc, _-_, _≤_, _<_}
 use lib.Dec.{eqb}
 use lib.ListN.{length, getD}
 use Rattle.paper.specs.Limits.{nobody}
+use Rattle.units.specs.Units.{unitStart, unitEnd}
 
 pub record Board : Type 0 where
   pub people : ℕ
@@ -18,6 +19,19 @@ pub record Board : Type 0 where
   pub fits : ℕ → ℕ → Bool
   -- some slot of the unit is frozen
   pub frozen : ℕ → Bool
+
+-- units by their starts; whoever fits them, and whichever are frozen
+abbrev pub boardWith : ℕ → ℕ → ℕ → List ℕ → (ℕ → ℕ → Bool) → (ℕ → Bool) → Board
+boardWith people slots units firsts fits frozen =
+    record {
+      people = people;
+      slots = slots;
+      units = units;
+      from = unitStart firsts;
+      upto = unitEnd slots units firsts;
+      fits = fits;
+      frozen = frozen;
+    }
 
 -- what the checks leave known: few people, and units that are stretches in rising order and leave no slot out
 pub record BoardSound (B : Board) : Type 0 where

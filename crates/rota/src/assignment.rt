@@ -25,7 +25,7 @@ ghost use Rattle.slotset.specs.Slots.{valueOf};
 ghost use Rattle.rota.specs.Derived.{plan, derived, knownBy, afresh, InStep, PlanSound, setFor, lessAt, moreAt};
 ghost use Rattle.rota.specs.Derived.{stretchMinutes, HandedOver, OneOwner, setsFrom, nobodies, Makes, unassigned};
 
-// Slots a up to e of a person's set; nobody has no set.
+// Slots a up to e of an owner's set are put in, or out where `want` is false; nobody has no set.
 fn put_row(sets: &mut [u64], people: usize, slots: usize, owner: u8, a: usize, e: usize, want: bool)
     requires { ⌜ (1 ≤ people) × (people ≤ 32) × (slots ≤ 1024) × (e ≤ slots) ⌝ }
     requires { ⌜ (16 * people ≤ length (now sets)) × (knownBy people owner ≡ true) ⌝ }

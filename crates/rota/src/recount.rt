@@ -9,7 +9,7 @@ use paper::counts_ok;
 use slotset::Told;
 ghost use mathlib.Core.Path.{_≡_};
 ghost use mathlib.Core.Bool.{true, _&&_};
-ghost use Prim.Native.Nat.{ℕ, _+_, _-_, _*_, _<_, _≤_};
+ghost use Prim.Native.Nat.{_*_, _<_, _≤_};
 ghost use lib.Dec.{eqb};
 ghost use lib.ListN.{length, getD};
 ghost use Rattle.paper.specs.Limits.{orElse};
@@ -17,7 +17,7 @@ ghost use Rattle.paper.specs.Count.{all, over};
 ghost use Rattle.slotset.specs.Slots.{slot};
 ghost use Rattle.rota.specs.Derived.{plan, derived, knownBy, portion, worked, PlanSound, Makes};
 ghost use Rattle.rota.specs.Recount.{firstFail, availableFor, knownAt, availableAt, evenAt, setSlotAt, setAt, minutesOkAt, faultOf};
-ghost use Rattle.rota.specs.Recount.{recounts, sameBit, RotaRoom};
+ghost use Rattle.rota.specs.Recount.{recounts, sameBit, UnitRoom, RotaRoom};
 ghost use Rattle.units.specs.Units.{unitStart, unitEnd};
 ghost use Rattle.rota.specs.Entries.{recountNo, recountSlotsNo};
 
@@ -109,8 +109,7 @@ fn is_even(slots: usize, units: usize, firsts: &[u16], owners: &[u8], unit: usiz
 
 // The first unit with two owners, or the unit count.
 fn first_uneven(slots: usize, units: usize, firsts: &[u16], owners: &[u8]) -> usize
-    requires { ⌜ ((u : ℕ) → u < units → (unitStart (now firsts) u < unitEnd slots units (now firsts) u) × (unitEnd slots units (now
-        firsts) u ≤ slots)) ⌝ }
+    requires { ⌜ UnitRoom slots units (now firsts) ⌝ }
     requires { ⌜ slots ≤ length (now owners) ⌝ }
     ensures { λ r. ⌜ r ≡ firstFail units (evenAt slots units (now (firsts .entry)) (now (owners .entry))) ⌝ }
 {
@@ -302,8 +301,7 @@ pub(crate) fn fault(
 ) -> Fault
     requires { ⌜ PlanSound (plan people slots (now starts) (now ends)) ⌝ }
     requires { ⌜ RotaRoom people slots (now avail) (now owners) (derived (now sets) (now minutes)) ⌝ }
-    requires { ⌜ ((u : ℕ) → u < units → (unitStart (now firsts) u < unitEnd slots units (now firsts) u) × (unitEnd slots units (now
-        firsts) u ≤ slots)) ⌝ }
+    requires { ⌜ UnitRoom slots units (now firsts) ⌝ }
     ensures { λ r. ⌜ r ≡ faultOf (plan people slots (now (starts .entry)) (now (ends .entry))) (now (avail .entry)) units (now
         (firsts .entry)) (now (owners .entry)) (derived (now (sets .entry)) (now (minutes .entry))) ⌝ }
 {
@@ -345,8 +343,7 @@ fn recount_ok(
 ) -> bool
     requires { ⌜ PlanSound (plan people slots (now starts) (now ends)) ⌝ }
     requires { ⌜ RotaRoom people slots (now avail) (now owners) (derived (now sets) (now minutes)) ⌝ }
-    requires { ⌜ ((u : ℕ) → u < units → (unitStart (now firsts) u < unitEnd slots units (now firsts) u) × (unitEnd slots units (now
-        firsts) u ≤ slots)) ⌝ }
+    requires { ⌜ UnitRoom slots units (now firsts) ⌝ }
     ensures { λ r. ⌜ r ≡ recounts (plan people slots (now (starts .entry)) (now (ends .entry))) (now (avail .entry)) units (now
         (firsts .entry)) (now (owners .entry)) (derived (now (sets .entry)) (now (minutes .entry))) ⌝ }
 {
@@ -386,8 +383,7 @@ pub(crate) fn then_recount(
     minutes: &[u64],
 ) -> u8
     requires { ⌜ (n ≡ 0 → PlanSound (plan people slots (now starts) (now ends)) × RotaRoom people slots (now avail) (now owners)
-        (derived (now sets) (now minutes)) × ((u : ℕ) → u < units → (unitStart (now firsts) u < unitEnd slots units (now firsts) u)
-        × (unitEnd slots units (now firsts) u ≤ slots))) ⌝ }
+        (derived (now sets) (now minutes)) × UnitRoom slots units (now firsts)) ⌝ }
     ensures { λ r. ⌜ r ≡ orElse (eqb n 0) n (orElse (recounts (plan people slots (now (starts .entry)) (now (ends .entry))) (now
         (avail .entry)) units (now (firsts .entry)) (now (owners .entry)) (derived (now (sets .entry)) (now (minutes .entry)))) 10
         0) ⌝ }

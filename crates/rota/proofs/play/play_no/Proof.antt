@@ -3,9 +3,8 @@ use mathlib.Core.Path.{sym, ap, ap₂, _∙_}
 use mathlib.Core.Bool.{Bool, _&&_}
 use borrow.Author.Needs.{needs}
 use lib.Dec.{leb}
-use Rattle.units.proofs.Units.{unit-some, unit-within}
 use Rattle.rota.specs.Derived.{plan, derived}
-use Rattle.rota.proofs.Entered.{ground-same, play-grounds, play-then}
+use Rattle.rota.proofs.Entered.{ground-same, unit-room, play-grounds, play-then}
 use Rattle.rota.proofs.play.play_no.Statement.{statement}
 use Rattle.rota.proofs.play.play_no.Tie as tie
 
@@ -57,7 +56,7 @@ then-recount-requires c κs =
     ((at-both .ensures) ∙ ap (λ (b : Bool). b && leb (at-args .count) 1024) (at-counts-ok .ensures))
     ((at-both2 .ensures) ∙ ap₂ _&&_ (at-room-ok .ensures) (at-play-room-ok .ensures))
     ((at-both3 .ensures) ∙ ap₂ _&&_ (at-slots-ok .ensures) (at-units-ok .ensures))) ∙ z) in
-    (g .on .sound, g .on .room, λ u h. (unit-some _ _ _ (g .units-ok) u h, unit-within _ _ _ (g .units-ok) u h))
+    (g .on .sound, g .on .room, unit-room _ _ _ (g .units-ok))
 
 returns : tie.Need-returns
 returns c =

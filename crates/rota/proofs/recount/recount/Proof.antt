@@ -4,9 +4,8 @@ use mathlib.Core.Bool.{Bool, _&&_}
 use borrow.Author.Needs.{needs}
 use lib.Dec.{leb}
 use lib.ListN.{length}
-use Rattle.units.proofs.Units.{unit-some, unit-within}
 use Rattle.rota.specs.Derived.{plan, derived}
-use Rattle.rota.proofs.Entered.{ground-same}
+use Rattle.rota.proofs.Entered.{ground-same, unit-room}
 use Rattle.rota.proofs.Asked.{recount-grounds, recount-then}
 use Rattle.rota.proofs.recount.recount.Statement.{statement}
 use Rattle.rota.proofs.recount.recount.Tie as tie
@@ -48,7 +47,7 @@ then-recount-requires c κs =
     .ensures) ∙ ground-same _ _ _ _ _ _ (at-counts-ok .ensures) ((at-both .ensures) ∙ ap (λ (b : Bool). b && leb (at-args
     .units) (length (at-args .firsts .now))) (at-room-ok .ensures)) ((at-both2 .ensures) ∙ ap₂ _&&_ (at-slots-ok .ensures)
     (at-units-ok .ensures))) ∙ z) in
-    (g .0 .sound, g .0 .room, λ u h. (unit-some _ _ _ (g .1) u h, unit-within _ _ _ (g .1) u h))
+    (g .0 .sound, g .0 .room, unit-room _ _ _ (g .1))
 
 returns : tie.Need-returns
 returns c =

@@ -20,7 +20,7 @@ then-recount-requires c κs =
     λ z. let g = from-grounds (plan (at-args .people) (at-args .slots) (at-args .starts .now) (at-args .ends .now)) (at-args
     .avail .now)
     (at-args .owners .now) (derived (at-args .sets .now) (at-args .minutes .now)) (sym (at-rota-ground .ensures) ∙ z) in
-    (g .sound, g .room, λ u h. absurd (omega arith))
+    (g .sound, g .room, record { some = λ u h. absurd (omega arith); within = λ u h. absurd (omega arith) })
 
 returns : tie.Need-returns
 returns c =
