@@ -220,27 +220,25 @@ module _ (P : Plan) (avail o : List ℕ) (D : Derived) where
 -- ---- the recount with units
 
 module _ (P : Plan) (avail : List ℕ) (units : ℕ) (firsts o : List ℕ) (D : Derived) where
-  abbrev counts-there : Bool
-  counts-there = countsOk (P .people) (P .slots)
+  abbrev units-room : Bool
+  units-room = roomOk P avail o D && leb units (length firsts)
 
-  abbrev room-there : Bool
-  room-there = roomOk P avail o D && leb units (length firsts)
+  abbrev units-sound : Bool
+  units-sound = slotsOk (P .slots) (P .starts) (P .ends) && unitsOk (P .slots) units firsts
 
-  abbrev sound-there : Bool
-  sound-there = slotsOk (P .slots) (P .starts) (P .ends) && unitsOk (P .slots) units firsts
-
-  pub recount-grounds : ground counts-there room-there sound-there 0 ≡ 0 → Grounds P avail o D × (unitsOk (P .slots) units firsts ≡ true)
+  pub recount-grounds : ground (counts P avail o D) units-room units-sound 0 ≡ 0
+      → Grounds P avail o D × (unitsOk (P .slots) units firsts ≡ true)
   recount-grounds e =
-      let y = ground-all counts-there room-there sound-there 0 e in
+      let y = ground-all (counts P avail o D) units-room units-sound 0 e in
       let b = both (roomOk P avail o D) (leb units (length firsts)) (y .1) in
       let c = both (slotsOk (P .slots) (P .starts) (P .ends)) (unitsOk (P .slots) units firsts) (y .2) in
       (grounds P avail o D (y .0) (b .0) (c .0), c .1)
 
-  pub recount-then : (m r : ℕ) → m ≡ ground counts-there room-there sound-there 0
+  pub recount-then : (m r : ℕ) → m ≡ ground (counts P avail o D) units-room units-sound 0
       → r ≡ orElse (eqb m 0) m (orElse (recounts P avail units firsts o D) 10 0) → r ≡ recountNo P avail units firsts o D
   unfolding recountNo
   recount-then m r e q =
-      chain-then (ground counts-there room-there sound-there) (ground-chain counts-there room-there sound-there) m _ e r q
+      chain-then (ground (counts P avail o D) units-room units-sound) (ground-chain (counts P avail o D) units-room units-sound) m _ e r q
 
 -- ---- an empty rota
 

@@ -21,7 +21,7 @@ use Rattle.rota.specs.Derived.{InStep, setFor, lessAt, moreAt}
 use Rattle.rota.specs.Derived.{stretchMinutes, OneOwner, nobodies, cut, Makes}
 use Rattle.rota.proofs.Minutes.{known-nobody, portion-other, sum-nothing}
 use Rattle.rota.proofs.Sets.{held-same, held-not, length-sets, sets-fit, sets-in, sets-again}
-use Rattle.rota.proofs.Steps.{afresh-again, afresh-same, afresh-step, afresh-fit, fill-known, Owned, new-room, handed-over}
+use Rattle.rota.proofs.Steps.{afresh-again, afresh-same, afresh-step, afresh-fit, fill-known, new-room, handed-over}
 
 -- ---- only the owners below the slot count matter
 
@@ -90,8 +90,8 @@ module _ (P : Plan) (S : PlanSound P) (o : List ℕ) (D₀ : Derived) where
   made-fit i D M = subst (λ (d : Derived). Fit (d .sets)) (sym (M .eq)) (afresh-fit P (cut (P .slots) i o) D₀ (M .fit))
 
   module _ (i : ℕ) (D : Derived) (M : Made P o D₀ i D) (e : ℕ) (O : OneOwner o (P .slots) i e) where
-    one-owned : Owned (cut (P .slots) i o) i e nobody
-    one-owned = record { each = λ k x y. cut-after (P .slots) i o (M .makes .owners-room) k x (omega (arith, O .within)) }
+    one-owned : (k : ℕ) → i ≤ k → k < e → getD (cut (P .slots) i o) k 0 ≡ nobody
+    one-owned k x y = cut-after (P .slots) i o (M .makes .owners-room) k x (omega (arith, O .within))
 
     one-known : knownBy (P .people) (getD o i 0) ≡ true
     one-known = M .makes .known i (omega (arith, O .some, O .within))

@@ -10,6 +10,7 @@ use lib.Dec.{eqb, ltb}
 use lib.ListN.{getD}
 use Rattle.paper.specs.Limits.{nobody}
 use Rattle.paper.specs.Count.{allIn, among}
+use Rattle.paper.proofs.Logic.{four}
 use Rattle.paper.proofs.Count.{among-same}
 use Rattle.rota.specs.declared.Pick.{Pick}
 use Rattle.rota.specs.declared.Pick.the-variants.{Nobody, Beyond, Person}
@@ -122,9 +123,11 @@ module _ (B : Board) (o : List ℕ) (f s : ℕ) where
 
 -- ---- runs
 
--- the ends of a run stand in order, below the unit count
-pub run-order : (w : ℕ → ℕ) (units u : ℕ) → u < units → (runStart w u ≤ runEnd units w u) × (runEnd units w u < units)
-run-order w units u h = let R = run-is w units u h in (omega (arith, R .from, R .to), R .fits)
+-- a run from a to b has a unit, and none past the unit count
+pub run-room : (w : ℕ → ℕ) (units u a b : ℕ) → u < units → a ≡ runStart w u → b ≡ runEnd units w u → (a < b + 1) × (b + 1 ≤ units)
+run-room w units u a b h p q =
+    let R = run-is w units u h in
+    (omega (arith, p, q, R .from, R .to), omega (arith, q, R .fits))
 
 movable-one : (B : Board) (a b : ℕ) → allIn a (b + 1) (λ u. not (B .frozen u)) ≡ movable B a b
 unfolding movable
@@ -256,7 +259,7 @@ module _ (B : Board) (o : List ℕ) (f s : ℕ) where
           → m ≡ Trade (B .from a) (B .upto b) v (B .from c) (B .upto d) w → m ≡ runsSwapped B o f s
       unfolding runsSwapped anyOf
       runs-act m x y h i j k e t =
-          let z = Rattle.paper.proofs.Logic.four first-moves second-moves first-fits second-fits e in
+          let z = four first-moves second-moves first-fits second-fits e in
           goes (runsStay B o f s (firstOf B o f) (lastOf B o f) (firstOf B o s) (lastOf B o s)) 1 _ m
           (simp (
             x,

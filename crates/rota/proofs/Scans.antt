@@ -17,6 +17,7 @@ use Rattle.slotset.specs.Slots.{slot, has}
 use Rattle.slotset.specs.Answers.{rowNo, toldAs, rowSlots}
 use Rattle.slotset.specs.declared.Told.{Told}
 use Rattle.slotset.specs.declared.Told.the-variants as told
+use Rattle.slotset.proofs.Puts.{slot-lt}
 use Rattle.slots.specs.Lent.{minutesAt}
 use Rattle.units.specs.Units.{unitStart, unitEnd}
 use Rattle.units.specs.Domains.{available}
@@ -157,7 +158,7 @@ pub member-test : (o ws : List ℕ) (p k : ℕ) (b there : Bool) → there ≡ e
     → setSlotAt o ws p k ≡ b
 unfolding setSlotAt held
 member-test o ws p k b there e q =
-    bit-eq (slot ws (16 * p) k) (eqb (getD o k 0) p) (Rattle.slotset.proofs.Puts.slot-lt ws (16 * p) k)
+    bit-eq (slot ws (16 * p) k) (eqb (getD o k 0) p) (slot-lt ws (16 * p) k)
     ∙ ap (λ (t : Bool). sameBit t (eqb (getD o k 0) p)) (sym e) ∙ sym q
 
 pub set-passes : (slots : ℕ) (o ws : List ℕ) (p r : ℕ) → r ≡ firstFail slots (setSlotAt o ws p) → r ≡ slots → setAt slots o ws p ≡ true

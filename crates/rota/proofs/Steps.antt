@@ -141,18 +141,15 @@ fill-known people w a n o k l new old =
     (lt-or-ge k (a + n)))
     (lt-or-ge k a)
 
-pub record Owned (o : List ℕ) (a e old : ℕ) : Type 0 where
-  pub each : (k : ℕ) → a ≤ k → k < e → getD o k 0 ≡ old
-
 module _ (P : Plan) (S : PlanSound P) (o : List ℕ) (D : Derived) (J : InStep P o D) (a e old w : ℕ) (le : a ≤ e) (within : e ≤ P .slots)
-    (owned : Owned o a e old) (ko : knownBy (P .people) old ≡ true) (kw : knownBy (P .people) w ≡ true) where
+    (owned : (k : ℕ) → a ≤ k → k < e → getD o k 0 ≡ old) (ko : knownBy (P .people) old ≡ true) (kw : knownBy (P .people) w ≡ true) where
   abbrev t : ℕ
   t = stretchMinutes P a e
 
   -- the old owner has the minutes of the stretch
   pub old-has : (p : ℕ) → (p ≡ nobody → ⊥) → portion old p t ≤ worked P o p
   old-has p n =
-      omega (arith, worked-over P o p a e old nobody le within (J .owners-room) (owned .each), portion-other nobody p t (λ q. n (sym q)))
+      omega (arith, worked-over P o p a e old nobody le within (J .owners-room) owned, portion-other nobody p t (λ q. n (sym q)))
 
   pub old-room : (old ≡ nobody → ⊥) → (old < length (D .minutes)) × (t ≤ getD (D .minutes) old 0)
   old-room n =
@@ -173,7 +170,7 @@ module _ (P : Plan) (S : PlanSound P) (o : List ℕ) (D : Derived) (J : InStep P
           S .lent .demand-fits,
           old-has w n,
           whole,
-          worked-over P o w a e old w le within (J .owners-room) (owned .each),
+          worked-over P o w a e old w le within (J .owners-room) owned,
           portion-own w t,
         ),
       )
@@ -193,7 +190,7 @@ module _ (P : Plan) (S : PlanSound P) (o : List ℕ) (D : Derived) (J : InStep P
       let n : p ≡ nobody → ⊥ = λ q. omega (arith, S .people-few) in
       let x = getD-more w t l p n rl in
       let y = getD-less old t m p n rm in
-      let z = worked-over P o p a e old w le within (J .owners-room) (owned .each) in
+      let z = worked-over P o p a e old w le within (J .owners-room) owned in
       omega (arith, x, y, z, J .minutes p h, old-has p n, getD-over f (P .people) m p h rm))
       (λ (h : P .people ≤ p).
       more-past w t l p (P .people) kw h ∙ less-past old t m p (P .people) ko h ∙ sym (getD-over-out f (P .people) m p h))
@@ -208,7 +205,7 @@ module _ (P : Plan) (S : PlanSound P) (o : List ℕ) (D : Derived) (J : InStep P
       ap₂ {C = Derived} derived
       (p ∙ sets-handed (P .people) (P .slots) a e old w o (D .sets) (S .slots-few) le within (J .owners-room) (S .people-few) (J
       .sets-room) f
-      (J .sets) (owned .each) (known-below (P .people) old ko) (known-below (P .people) w kw))
+      (J .sets) owned (known-below (P .people) old ko) (known-below (P .people) w kw))
       (q ∙ minutes-handed)
 
   pub handed-step : InStep P (fill w a (e - a) o) (afresh P (fill w a (e - a) o) D)

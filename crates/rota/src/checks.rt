@@ -1,10 +1,8 @@
 // The tests that every entry asks first: counts (1), room (2), lent slots and units (9).
 use paper::counts_ok;
+use units::words_ok;
 ghost use mathlib.Core.Path.{_≡_};
 ghost use mathlib.Core.Bool.{_&&_};
-ghost use Prim.Native.Nat.{_*_};
-ghost use lib.Dec.{leb};
-ghost use lib.ListN.{length};
 ghost use Rattle.rota.specs.Derived.{plan, derived};
 ghost use Rattle.rota.specs.Entries.{roomOk, playRoomOk, ground, rotaGround};
 
@@ -13,13 +11,6 @@ pub(crate) fn both(a: bool, b: bool) -> bool
     ensures { λ r. ⌜ r ≡ a && b ⌝ }
 {
     if a { b } else { false }
-}
-
-// Whether words for that many sets are lent.
-pub(crate) fn words_ok(words: &[u64], people: usize) -> bool
-    ensures { λ r. ⌜ r ≡ leb (16 * people) (length (now (words .entry))) ⌝ }
-{
-    people <= words.len() / 16
 }
 
 // Rule 2 of what a rota is lent in.

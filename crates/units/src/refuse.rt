@@ -54,7 +54,7 @@ pub(crate) fn lent_no(slots: usize, starts: &[u32], ends: &[u32]) -> u8
 }
 
 // Whether lent words have room for a set a person (rule 2).
-pub(crate) fn words_ok(words: &[u64], people: usize) -> bool
+pub fn words_ok(words: &[u64], people: usize) -> bool
     ensures { λ r. ⌜ r ≡ leb (16 * people) (length (now (words .entry))) ⌝ }
 {
     people <= words.len() / 16
