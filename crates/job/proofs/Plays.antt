@@ -81,7 +81,7 @@ module _ (R : Ready) (d : Draws) (o : List ℕ) (D : Derived) (e : playOf R d o 
   pub owners-fit : (k : ℕ) → k < R .slots
       → (knownBy (R .people) (getD (playOf R d o D .owners) k 0) ≡ true)
       × (availableFor (R .avail) (getD (playOf R d o D .owners) k 0) k ≡ true)
-  owners-fit k h = (right .known k h, right .free k h)
+  owners-fit k h = (right .known k h, right .available k h)
 
   pub minutes-are : (p : ℕ) → p < R .people → getD (playOf R d o D .derived .minutes) p 0 ≡ worked P (playOf R d o D .owners) p
   minutes-are = right .minutes

@@ -98,7 +98,7 @@ module _ (R : Ready) (d : Draws) (o : List ℕ) (H : RotaSound R d o) where
         says-recount P (R .avail) (R .units) (R .firsts) o (afresh P o none)
         record {
           known = H .known;
-          free = all-each (R .slots) (availableAt (R .avail) o) free;
+          available = all-each (R .slots) (availableAt (R .avail) o) free;
           even = H .even;
           sets = in-step .sets;
           minutes = in-step .minutes;

@@ -123,7 +123,7 @@ doing-nothing-keeps C f =
       λ c e k h.
           let r = recount-says (c .plan) (c .avail) (c .units) (c .firsts) (c .owners) (c .derived) (accepted-says c e .recount) in (
             ap (knownBy (c .plan .people)) (same c k) ∙ r .known k h,
-            ap (λ (w : ℕ). availableFor (c .avail) w k) (same c k) ∙ r .free k h,
+            ap (λ (w : ℕ). availableFor (c .avail) w k) (same c k) ∙ r .available k h,
           ),
       λ c e k h owned now. owned (sym (same c k) ∙ now),
     )

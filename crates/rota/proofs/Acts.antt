@@ -1,6 +1,6 @@
 -- Each move acts exactly when the paper says, and hears 2 exactly when its choice lies outside. Assumes nothing.
 use mathlib.Core.Path.{_≡_, refl, sym, ap, ap₂, _∙_, subst}
-use mathlib.Core.Bool.{Bool, true, false, cond, not, _||_}
+use mathlib.Core.Bool.{Bool, true, false, cond, not}
 use mathlib.Core.List.{List, [], _∷_}
 use mathlib.Core.Logic.{_⊎_, inl, inr, _↔_}
 use Prim.Native.Nat.{ℕ, suc, _-_, _≤_, _<_}
@@ -304,7 +304,7 @@ module _ (B : Board) (o : List ℕ) (f s : ℕ) (hf : f < B .units) where
       let t = none-of ts e in
       let own = owned B o f (t 1) in
       outside-if _ _ _ (ltb 1 s ∷ []) _ (λ x. simp (low x))
-      (λ u. record { unfrozen = t 0; owned = own; beyond = ltb-true 1 s (first-of (ltb 1 s) u) })
+      (λ u. record { unfrozen = t 0; owned = own; beyond = ltb-true 1 s (sym (mathlib.Core.Bool.or-false (ltb 1 s)) ∙ u) })
       (λ n. ruled-by-second (t 0) own (ltb-false 1 s (none-of (ltb 1 s ∷ []) n 0))))
     where
       may : B .frozen f ≡ false → (ownerOf B o f ≡ nobody → ⊥) → anyOf (B .frozen f ∷ unowned B o f ∷ []) ≡ false
@@ -321,10 +321,6 @@ module _ (B : Board) (o : List ℕ) (f s : ℕ) (hf : f < B .units) where
       low : Sides → ltb 1 s ≡ false
       low (inl G) = le-ltb 1 s (omega (arith, G .choice))
       low (inr G) = le-ltb 1 s (omega (arith, G .choice))
-
-      first-of : (x : Bool) → x || false ≡ true → x ≡ true
-      first-of true e = refl
-      first-of false e = e
 
   -- ---- swap runs
 

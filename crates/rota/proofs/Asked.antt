@@ -21,8 +21,20 @@ use Rattle.rota.specs.Entries.{roomOk, ground, Ended, fromSlotsNo, fromS
 use Rattle.rota.specs.Entries.{recountSlotsNo}
 use Rattle.rota.specs.Entries.{emptyNo, emptied, figureAs}
 use Rattle.rota.proofs.Scans.{first-passes, fails-none}
-use Rattle.rota.proofs.Entered.{ground-all, ground-stops, ground-goes, Grounds, grounds, Recounted, recount-says}
-use Rattle.rota.proofs.Entered.{recount-step, ended-no, ended-yes}
+use Rattle.rota.proofs.Entered.{Chain, chain-end, chain-more, chain-then, chain-stops, chain-goes, ground-chain, ground-all}
+use Rattle.rota.proofs.Entered.{ground-stops, ground-goes, Grounds, grounds, Recounted, recount-says, recount-step, ended-no}
+use Rattle.rota.proofs.Entered.{ended-yes}
+
+-- the number n, then the recount
+module _ (n : ℕ) (t : Bool) where
+  pub recount-unasked : (n ≡ 0 → ⊥) → n ≡ orElse (eqb n 0) n (orElse t 10 0)
+  recount-unasked z = stops (eqb n 0) n (orElse t 10 0) (ne-eqb n 0 z)
+
+  pub recount-fails : n ≡ 0 → t ≡ false → 10 ≡ orElse (eqb n 0) n (orElse t 10 0)
+  recount-fails z f = passes (eqb n 0) n (orElse t 10 0) 10 (eq-eqb n 0 z) (stops t 10 0 f)
+
+  pub recount-passes : n ≡ 0 → t ≡ true → 0 ≡ orElse (eqb n 0) n (orElse t 10 0)
+  recount-passes z p = passes (eqb n 0) n (orElse t 10 0) 0 (eq-eqb n 0 z) (passes t 10 0 0 p refl)
 
 -- a scan that ends before n: not all pass
 pub scan-no : (n r : ℕ) (p : ℕ → Bool) → r ≡ firstFail n p → r < n → all n p ≡ false
@@ -35,47 +47,47 @@ scan-yes n r p e h = first-passes n p (omega (arith, e))
 -- ---- from_slots
 
 module _ (P : Plan) (avail o : List ℕ) (D : Derived) where
-  abbrev c1 : Bool
-  c1 = countsOk (P .people) (P .slots)
+  abbrev counts : Bool
+  counts = countsOk (P .people) (P .slots)
 
-  abbrev c2 : Bool
-  c2 = roomOk P avail o D
+  abbrev room : Bool
+  room = roomOk P avail o D
 
-  abbrev c9 : Bool
-  c9 = slotsOk (P .slots) (P .starts) (P .ends)
+  abbrev sound : Bool
+  sound = slotsOk (P .slots) (P .starts) (P .ends)
 
-  pub from-grounds : ground c1 c2 c9 0 ≡ 0 → Grounds P avail o D
-  from-grounds e = let y = ground-all c1 c2 c9 0 e in grounds P avail o D (y .0) (y .1) (y .2)
+  pub from-grounds : ground counts room sound 0 ≡ 0 → Grounds P avail o D
+  from-grounds e = let y = ground-all counts room sound 0 e in grounds P avail o D (y .0) (y .1) (y .2)
 
-  module _ (m : ℕ) (em : m ≡ ground c1 c2 c9 0) where
+  module _ (m : ℕ) (em : m ≡ ground counts room sound 0) where
     pub from-stops : (m ≡ 0 → ⊥) → m ≡ fromSlotsNo P avail o D
     unfolding fromSlotsNo
-    from-stops z = ground-stops c1 c2 c9 m _ em z
+    from-stops z = ground-stops counts room sound m _ em z
 
     module _ (z : m ≡ 0) (r : ℕ) (er : r ≡ firstFail (P .slots) (knownAt (P .people) o)) where
       pub from-11 : r < P .slots → 11 ≡ fromSlotsNo P avail o D
       unfolding fromSlotsNo
-      from-11 h = ground-goes c1 c2 c9 m _ 11 em z (stops (all (P .slots) (knownAt (P .people) o)) 11 _ (scan-no _ r _ er h))
+      from-11 h = ground-goes counts room sound m _ 11 em z (stops (all (P .slots) (knownAt (P .people) o)) 11 _ (scan-no _ r _ er h))
 
       module _ (h : P .slots ≤ r) (s : ℕ) (es : s ≡ firstFail (P .slots) (availableAt avail o)) where
         pub from-12 : s < P .slots → 12 ≡ fromSlotsNo P avail o D
         unfolding fromSlotsNo
         from-12 l =
-            ground-goes c1 c2 c9 m _ 12 em z
+            ground-goes counts room sound m _ 12 em z
             (passes (all (P .slots) (knownAt (P .people) o)) 11 _ 12 (scan-yes _ r _ er h)
             (stops (all (P .slots) (availableAt avail o)) 12 0 (scan-no _ s _ es l)))
 
         pub from-0 : P .slots ≤ s → 0 ≡ fromSlotsNo P avail o D
         unfolding fromSlotsNo
         from-0 l =
-            ground-goes c1 c2 c9 m _ 0 em z
+            ground-goes counts room sound m _ 0 em z
             (passes (all (P .slots) (knownAt (P .people) o)) 11 _ 0 (scan-yes _ r _ er h)
             (passes (all (P .slots) (availableAt avail o)) 12 0 0 (scan-yes _ s _ es l) refl))
 
   pub from-asks : fromSlotsNo P avail o D ≡ 0 → PlanSound P × Makes P o D
   unfolding fromSlotsNo knownAt
   from-asks e =
-      let y = ground-all c1 c2 c9 _ e in
+      let y = ground-all counts room sound _ e in
       let g = grounds P avail o D (y .0) (y .1) (y .2) in
       let k = cond-zero (all (P .slots) (knownAt (P .people) o)) _ 10 (y .3) in
       let R = g .room in (
@@ -84,8 +96,7 @@ module _ (P : Plan) (avail o : List ℕ) (D : Derived) where
           owners-room = R .owners-room;
           sets-room = R .sets-room;
           minutes-room = R .minutes-room;
-          known = all-each (P .slots)
-              (knownAt (P .people) o) (k .0);
+          known = all-each (P .slots) (knownAt (P .people) o) (k .0);
         },
       )
 
@@ -100,63 +111,63 @@ module _ (P : Plan) (avail o : List ℕ) (D : Derived) where
 
   -- ---- the recount without units
 
-  pub no-units : (f : List ℕ) → recounts P avail 0 f o D ≡ recounts P avail 0 [] o D
+  no-units : (f : List ℕ) → recounts P avail 0 f o D ≡ recounts P avail 0 [] o D
   unfolding recounts all
   no-units f = refl
 
-  module _ (m : ℕ) (em : m ≡ ground c1 c2 c9 0) where
-    pub slots-stops : (m ≡ 0 → ⊥) → m ≡ recountSlotsNo P avail o D
-    unfolding recountSlotsNo
-    slots-stops z = ground-stops c1 c2 c9 m _ em z
+  pub slots-then : (m r : ℕ) (f : List ℕ) → m ≡ ground counts room sound 0
+      → r ≡ orElse (eqb m 0) m (orElse (recounts P avail 0 f o D) 10 0) → r ≡ recountSlotsNo P avail o D
+  unfolding recountSlotsNo
+  slots-then m r f e q =
+      chain-then (ground counts room sound) (ground-chain counts room sound) m _ e r
+      (q ∙ ap (λ (b : Bool). orElse (eqb m 0) m (orElse b 10 0)) (no-units f))
 
-    module _ (z : m ≡ 0) (f : List ℕ) (b : Bool) (eb : b ≡ recounts P avail 0 f o D) where
-      pub slots-10 : b ≡ false → 10 ≡ recountSlotsNo P avail o D
-      unfolding recountSlotsNo
-      slots-10 t = ground-goes c1 c2 c9 m _ 10 em z (stops (recounts P avail 0 [] o D) 10 0 (sym (no-units f) ∙ sym eb ∙ t))
-
-      pub slots-0 : b ≡ true → 0 ≡ recountSlotsNo P avail o D
-      unfolding recountSlotsNo
-      slots-0 t = ground-goes c1 c2 c9 m _ 0 em z (passes (recounts P avail 0 [] o D) 10 0 0 (sym (no-units f) ∙ sym eb ∙ t) refl)
+  -- what it leaves known
+  pub slots-asks : recountSlotsNo P avail o D ≡ 0 → Grounds P avail o D × Recounted P avail 0 [] o D
+  unfolding recountSlotsNo
+  slots-asks e =
+      let y = ground-all counts room sound _ e in
+      (grounds P avail o D (y .0) (y .1) (y .2), recount-says P avail 0 [] o D (cond-zero (recounts P avail 0 [] o D) 0 9 (y .3) .0))
 
   -- ---- assign
 
+  -- what the recount without units hears, with a place for what comes after
+  abbrev recounted : ℕ → ℕ
+  recounted x = ground counts room sound (orElse (recounts P avail 0 [] o D) 10 x)
+
+  recounted-chain : Chain recounted
+  unfolding ground
+  recounted-chain =
+      chain-more counts 0 _ (chain-more room 1 _ (chain-more sound 8 _ (chain-more (recounts P avail 0 [] o D) 9 _ chain-end)))
+
   module _ (k w : ℕ) where
-    abbrev c11 : Bool
-    c11 = ltb k (P .slots) && knownBy (P .people) w
+    abbrev named : Bool
+    named = ltb k (P .slots) && knownBy (P .people) w
 
-    module _ (m : ℕ) (em : m ≡ ground c1 c2 c9 0) where
-      pub assign-stops : (m ≡ 0 → ⊥) → m ≡ assignNo P avail o D k w
-      unfolding assignNo
-      assign-stops z = ground-stops c1 c2 c9 m _ em z
+    module _ (n : ℕ) (en : n ≡ recountSlotsNo P avail o D) where
+      pub assign-stops : (n ≡ 0 → ⊥) → n ≡ assignNo P avail o D k w
+      unfolding assignNo recountSlotsNo
+      assign-stops z = chain-stops recounted recounted-chain n _ en z
 
-      module _ (z : m ≡ 0) (f : List ℕ) (b : Bool) (eb : b ≡ recounts P avail 0 f o D) where
-        pub assign-10 : b ≡ false → 10 ≡ assignNo P avail o D k w
-        unfolding assignNo
-        assign-10 t = ground-goes c1 c2 c9 m _ 10 em z (stops (recounts P avail 0 [] o D) 10 _ (sym (no-units f) ∙ sym eb ∙ t))
+      module _ (z : n ≡ 0) (c : Bool) (ec : c ≡ named) where
+        pub assign-11 : c ≡ false → 11 ≡ assignNo P avail o D k w
+        unfolding assignNo recountSlotsNo
+        assign-11 s = chain-goes recounted recounted-chain n _ en 11 z (stops named 11 _ (sym ec ∙ s))
 
-        module _ (t : b ≡ true) (c : Bool) (ec : c ≡ c11) where
-          pub assign-11 : c ≡ false → 11 ≡ assignNo P avail o D k w
-          unfolding assignNo
-          assign-11 s =
-              ground-goes c1 c2 c9 m _ 11 em z
-              (passes (recounts P avail 0 [] o D) 10 _ 11 (sym (no-units f) ∙ sym eb ∙ t) (stops c11 11 _ (sym ec ∙ s)))
+        module _ (s : c ≡ true) (d : Bool) (ed : d ≡ availableFor avail w k) where
+          pub assign-12 : d ≡ false → 12 ≡ assignNo P avail o D k w
+          unfolding assignNo recountSlotsNo
+          assign-12 q =
+              chain-goes recounted recounted-chain n _ en 12 z
+              (passes named 11 _ 12 (sym ec ∙ s) (stops (availableFor avail w k) 12 0 (sym ed ∙ q)))
 
-          module _ (s : c ≡ true) (d : Bool) (ed : d ≡ availableFor avail w k) where
-            pub assign-12 : d ≡ false → 12 ≡ assignNo P avail o D k w
-            unfolding assignNo
-            assign-12 q =
-                ground-goes c1 c2 c9 m _ 12 em z
-                (passes (recounts P avail 0 [] o D) 10 _ 12 (sym (no-units f) ∙ sym eb ∙ t)
-                (passes c11 11 _ 12 (sym ec ∙ s) (stops (availableFor avail w k) 12 0 (sym ed ∙ q))))
+          pub assign-0 : d ≡ true → 0 ≡ assignNo P avail o D k w
+          unfolding assignNo recountSlotsNo
+          assign-0 q =
+              chain-goes recounted recounted-chain n _ en 0 z
+              (passes named 11 _ 0 (sym ec ∙ s) (passes (availableFor avail w k) 12 0 0 (sym ed ∙ q) refl))
 
-            pub assign-0 : d ≡ true → 0 ≡ assignNo P avail o D k w
-            unfolding assignNo
-            assign-0 q =
-                ground-goes c1 c2 c9 m _ 0 em z
-                (passes (recounts P avail 0 [] o D) 10 _ 0 (sym (no-units f) ∙ sym eb ∙ t)
-                (passes c11 11 _ 0 (sym ec ∙ s) (passes (availableFor avail w k) 12 0 0 (sym ed ∙ q) refl)))
-
-    pub named-says : c11 ≡ true → (k < P .slots) × (knownBy (P .people) w ≡ true)
+    pub named-says : named ≡ true → (k < P .slots) × (knownBy (P .people) w ≡ true)
     named-says e = let x = both (ltb k (P .slots)) (knownBy (P .people) w) e in (ltb-true _ _ (x .0), x .1)
 
     -- what assign may do where nothing stands against it
@@ -165,14 +176,14 @@ module _ (P : Plan) (avail o : List ℕ) (D : Derived) where
       pub recount : Recounted P avail 0 [] o D
       pub slot : k < P .slots
       pub known : knownBy (P .people) w ≡ true
-      pub free : availableFor avail w k ≡ true
+      pub available : availableFor avail w k ≡ true
 
     pub assign-asks : assignNo P avail o D k w ≡ 0 → Asks
     unfolding assignNo
     assign-asks e =
-        let y = ground-all c1 c2 c9 _ e in
+        let y = ground-all counts room sound _ e in
         let a = cond-zero (recounts P avail 0 [] o D) _ 9 (y .3) in
-        let b = cond-zero c11 _ 10 (a .1) in
+        let b = cond-zero named _ 10 (a .1) in
         let c = cond-zero (availableFor avail w k) 0 11 (b .1) in
         let x = named-says (b .0) in
         record {
@@ -180,7 +191,7 @@ module _ (P : Plan) (avail o : List ℕ) (D : Derived) where
           recount = recount-says P avail 0 [] o D (a .0);
           slot = x .0;
           known = x .1;
-          free = c .0;
+          available = c .0;
         }
 
     pub asks-one : Asks → OneOwner o (P .slots) k (k + 1)
@@ -209,35 +220,25 @@ module _ (P : Plan) (avail o : List ℕ) (D : Derived) where
 -- ---- the recount with units
 
 module _ (P : Plan) (avail : List ℕ) (units : ℕ) (firsts o : List ℕ) (D : Derived) where
-  abbrev d2 : Bool
-  d2 = roomOk P avail o D && leb units (length firsts)
+  abbrev units-room : Bool
+  units-room = roomOk P avail o D && leb units (length firsts)
 
-  abbrev d9 : Bool
-  d9 = slotsOk (P .slots) (P .starts) (P .ends) && unitsOk (P .slots) units firsts
+  abbrev units-sound : Bool
+  units-sound = slotsOk (P .slots) (P .starts) (P .ends) && unitsOk (P .slots) units firsts
 
-  pub recount-grounds : ground (countsOk (P .people) (P .slots)) d2 d9 0 ≡ 0 → Grounds P avail o D × (unitsOk (P .slots) units
-      firsts ≡ true)
+  pub recount-grounds : ground (counts P avail o D) units-room units-sound 0 ≡ 0
+      → Grounds P avail o D × (unitsOk (P .slots) units firsts ≡ true)
   recount-grounds e =
-      let y = ground-all (countsOk (P .people) (P .slots)) d2 d9 0 e in
+      let y = ground-all (counts P avail o D) units-room units-sound 0 e in
       let b = both (roomOk P avail o D) (leb units (length firsts)) (y .1) in
       let c = both (slotsOk (P .slots) (P .starts) (P .ends)) (unitsOk (P .slots) units firsts) (y .2) in
       (grounds P avail o D (y .0) (b .0) (c .0), c .1)
 
-  module _ (m : ℕ) (em : m ≡ ground (countsOk (P .people) (P .slots)) d2 d9 0) where
-    pub recount-stops : (m ≡ 0 → ⊥) → m ≡ recountNo P avail units firsts o D
-    unfolding recountNo
-    recount-stops z = ground-stops (countsOk (P .people) (P .slots)) d2 d9 m _ em z
-
-    module _ (z : m ≡ 0) (b : Bool) (eb : b ≡ recounts P avail units firsts o D) where
-      pub recount-10 : b ≡ false → 10 ≡ recountNo P avail units firsts o D
-      unfolding recountNo
-      recount-10 t =
-          ground-goes (countsOk (P .people) (P .slots)) d2 d9 m _ 10 em z (stops (recounts P avail units firsts o D) 10 0 (sym eb ∙ t))
-
-      pub recount-0 : b ≡ true → 0 ≡ recountNo P avail units firsts o D
-      unfolding recountNo
-      recount-0 t =
-          ground-goes (countsOk (P .people) (P .slots)) d2 d9 m _ 0 em z (passes (recounts P avail units firsts o D) 10 0 0 (sym eb ∙ t) refl)
+  pub recount-then : (m r : ℕ) → m ≡ ground (counts P avail o D) units-room units-sound 0
+      → r ≡ orElse (eqb m 0) m (orElse (recounts P avail units firsts o D) 10 0) → r ≡ recountNo P avail units firsts o D
+  unfolding recountNo
+  recount-then m r e q =
+      chain-then (ground (counts P avail o D) units-room units-sound) (ground-chain (counts P avail o D) units-room units-sound) m _ e r q
 
 -- ---- an empty rota
 

@@ -1,6 +1,6 @@
 -- A choice among people listed ascending, and moves that follow a rule: when they act, and when the choice lies outside. Assumes nothing.
 use mathlib.Core.Path.{_≡_, refl, sym, ap, _∙_}
-use mathlib.Core.Bool.{Bool, true, false, cond, _||_}
+use mathlib.Core.Bool.{Bool, true, false, cond}
 use mathlib.Core.List.{List, [], _∷_}
 use mathlib.Core.Logic.{⊎-elim}
 use Prim.Native.Nat.{ℕ, zero, suc, _≤_, _<_}
@@ -19,10 +19,7 @@ use Rattle.rota.specs.Acts.{Heard, Chosen, Outside}
 -- ---- chains of tests
 
 -- none of the tests holds
-abbrev pub NoneOf : List Bool → Type 0
-NoneOf ts = (k : ℕ) → getD ts k false ≡ false
-
-pub none-of : (ts : List Bool) → anyOf ts ≡ false → NoneOf ts
+pub none-of : (ts : List Bool) → anyOf ts ≡ false → (k : ℕ) → getD ts k false ≡ false
 unfolding anyOf
 none-of [] e k = refl
 none-of (t ∷ ts) e zero = neither t (anyOf ts) e .0

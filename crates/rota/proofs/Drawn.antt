@@ -1,7 +1,7 @@
 -- A draw acts exactly when the conditions of its move hold, and hears 2 exactly when its choice lies outside. Assumes nothing.
 use mathlib.Core.Path.{_≡_, refl, sym, ap, ap₂, _∙_}
 use mathlib.Core.Bool.{Bool, true, false, _||_}
-use mathlib.Core.List.{List, [], _∷_}
+use mathlib.Core.List.{List}
 use mathlib.Core.Logic.{_⊎_, inl, inr, ⊎-elim, _↔_}
 use Prim.Native.Nat.{ℕ, suc, _≤_, _<_}
 use native.Mathlib.Omega.{arith}
@@ -11,7 +11,7 @@ use Rattle.paper.proofs.Logic.{lt-or-ge, both, and-true}
 use Rattle.rota.specs.declared.Move.{Move}
 use Rattle.rota.specs.declared.Move.the-variants.{Stay}
 use Rattle.rota.specs.Board.{Board}
-use Rattle.rota.specs.Moves.{anyOf, stayIf, give, reassigned, swapped, runReassigned, runsSwapped, shifted, Draw, answerOf, decided}
+use Rattle.rota.specs.Moves.{anyOf, give, reassigned, swapped, runReassigned, runsSwapped, shifted, Draw, answerOf, decided}
 use Rattle.rota.specs.Moves.{firstOf, between, handed}
 use Rattle.rota.specs.Plays.{answer}
 use Rattle.rota.specs.Acts.{Heard, GrowActs, ShrinkActs, Acts, reassigns, swaps, reassigns-run, swaps-runs, grows, shrinks}
@@ -50,32 +50,38 @@ module _ (B : Board) (o : List ℕ) (d : Draw) where
   s = d .second
 
   -- a draw is 2 by its number, or by its first unit
-  out-number : 100 ≤ k → decided B o d ≡ Stay 2
+  pub out-number : 100 ≤ k → decided B o d ≡ Stay 2
   unfolding decided anyOf
   out-number h = simp (le-leb 100 k h)
 
-  out-first : B .units ≤ f → decided B o d ≡ Stay 2
+  pub out-first : B .units ≤ f → decided B o d ≡ Stay 2
   unfolding decided anyOf
   out-first h = simp (le-leb (B .units) f h, mathlib.Core.Bool.or-true (leb 100 k))
 
   -- else its number says which move it is; either swap is 2 by its second unit
   module _ (hf : f < B .units) where
-    is-reassign : k < 35 → decided B o d ≡ reassigned B o f s
+    pub is-reassign : k < 35 → decided B o d ≡ reassigned B o f s
     unfolding decided anyOf
     is-reassign h = simp (lt-leb 100 k (omega arith), lt-leb (B .units) f hf, lt-ltb k 35 h)
 
-    is-swap : 35 ≤ k → k < 60 → decided B o d ≡ stayIf (leb (B .units) s ∷ []) 2 (swapped B o f s)
+    pub is-swap : 35 ≤ k → k < 60 → s < B .units → decided B o d ≡ swapped B o f s
     unfolding decided anyOf
-    is-swap h g = simp (lt-leb 100 k (omega arith), lt-leb (B .units) f hf, le-ltb k 35 h, lt-ltb k 60 g)
+    is-swap h g i =
+        simp (lt-leb 100 k (omega arith), lt-leb (B .units) f hf, le-ltb k 35 h, lt-ltb k 60 g, lt-leb (B .units) s i)
 
-    is-reassign-run : 60 ≤ k → k < 75 → decided B o d ≡ runReassigned B o f s
+    pub out-swap : 35 ≤ k → k < 60 → B .units ≤ s → decided B o d ≡ Stay 2
+    unfolding decided anyOf
+    out-swap h g i =
+        simp (lt-leb 100 k (omega arith), lt-leb (B .units) f hf, le-ltb k 35 h, lt-ltb k 60 g, le-leb (B .units) s i)
+
+    pub is-reassign-run : 60 ≤ k → k < 75 → decided B o d ≡ runReassigned B o f s
     unfolding decided anyOf
     is-reassign-run h g =
         simp (lt-leb 100 k (omega arith), lt-leb (B .units) f hf, le-ltb k 35 (omega arith), le-ltb k 60 h, lt-ltb k 75 g)
 
-    is-swap-runs : 75 ≤ k → k < 90 → decided B o d ≡ stayIf (leb (B .units) s ∷ []) 2 (runsSwapped B o f s)
+    pub is-swap-runs : 75 ≤ k → k < 90 → s < B .units → decided B o d ≡ runsSwapped B o f s
     unfolding decided anyOf
-    is-swap-runs h g =
+    is-swap-runs h g i =
         simp (
           lt-leb 100 k (omega arith),
           lt-leb (B .units) f hf,
@@ -83,9 +89,23 @@ module _ (B : Board) (o : List ℕ) (d : Draw) where
           le-ltb k 60 (omega arith),
           le-ltb k 75 h,
           lt-ltb k 90 g,
+          lt-leb (B .units) s i,
         )
 
-    is-shift : 90 ≤ k → k < 100 → decided B o d ≡ shifted B o f s
+    pub out-swap-runs : 75 ≤ k → k < 90 → B .units ≤ s → decided B o d ≡ Stay 2
+    unfolding decided anyOf
+    out-swap-runs h g i =
+        simp (
+          lt-leb 100 k (omega arith),
+          lt-leb (B .units) f hf,
+          le-ltb k 35 (omega arith),
+          le-ltb k 60 (omega arith),
+          le-ltb k 75 h,
+          lt-ltb k 90 g,
+          le-leb (B .units) s i,
+        )
+
+    pub is-shift : 90 ≤ k → k < 100 → decided B o d ≡ shifted B o f s
     unfolding decided anyOf
     is-shift h g =
         simp (
@@ -97,20 +117,12 @@ module _ (B : Board) (o : List ℕ) (d : Draw) where
           le-ltb k 90 h,
         )
 
-  second-in : (m : Move) → s < B .units → stayIf (leb (B .units) s ∷ []) 2 m ≡ m
-  unfolding anyOf
-  second-in m h = simp (lt-leb (B .units) s h)
-
-  second-out : (m : Move) → B .units ≤ s → stayIf (leb (B .units) s ∷ []) 2 m ≡ Stay 2
-  unfolding anyOf
-  second-out m h = simp (le-leb (B .units) s h)
-
   -- a draw that meets the conditions of its move does what they say
   pub draw-acts : (A : Acts B o d) → decided B o d ≡ draw-does B o d A
   draw-acts (reassigns h hf A) = is-reassign hf h ∙ reassign-ruled B o f s .acts A
-  draw-acts (swaps h g hf hs A) = is-swap hf h g ∙ second-in _ hs ∙ swap-ruled B o f s .acts A
+  draw-acts (swaps h g hf hs A) = is-swap hf h g hs ∙ swap-ruled B o f s .acts A
   draw-acts (reassigns-run h g hf A) = is-reassign-run hf h g ∙ reassign-run-ruled B o f s hf .acts A
-  draw-acts (swaps-runs h g hf hs A) = is-swap-runs hf h g ∙ second-in _ hs ∙ swap-runs-ruled B o f s hf hs .acts A
+  draw-acts (swaps-runs h g hf hs A) = is-swap-runs hf h g hs ∙ swap-runs-ruled B o f s hf hs .acts A
   draw-acts (grows h g hf A) = is-shift hf h g ∙ shift-ruled B o f s hf .acts (inl A)
   draw-acts (shrinks h g hf A) = is-shift hf h g ∙ shift-ruled B o f s hf .acts (inr A)
 
@@ -121,31 +133,33 @@ module _ (B : Board) (o : List ℕ) (d : Draw) where
   draw-outside : ChoiceOutside B o d → answerOf (decided B o d) ≡ 2
   draw-outside (number h) = ap answerOf (out-number h)
   draw-outside (first-unit h) = ap answerOf (out-first h)
-  draw-outside (swap-unit h g hs) = by-first (λ hf. ap answerOf (is-swap hf h g ∙ second-out _ hs))
-  draw-outside (swap-run-unit h g hs) = by-first (λ hf. ap answerOf (is-swap-runs hf h g ∙ second-out _ hs))
+  draw-outside (swap-unit h g hs) = by-first (λ hf. ap answerOf (out-swap hf h g hs))
+  draw-outside (swap-run-unit h g hs) = by-first (λ hf. ap answerOf (out-swap-runs hf h g hs))
   draw-outside (person h C) = by-first (λ hf. ap answerOf (is-reassign hf h) ∙ reassign-ruled B o f s .beyond C)
   draw-outside (run-person h g C) = by-first (λ hf. ap answerOf (is-reassign-run hf h g) ∙ reassign-run-ruled B o f s hf .beyond C)
   draw-outside (side h g C) = by-first (λ hf. ap answerOf (is-shift hf h g) ∙ shift-ruled B o f s hf .beyond C)
 
-  -- and what is heard tells them apart
-  pub record Told : Type 0 where
-    pub acted : answerOf (decided B o d) ≡ 0 → Acts B o d
-    pub outside : answerOf (decided B o d) ≡ 2 → ChoiceOutside B o d
-    pub three : answerOf (decided B o d) < 3
+  -- and what is heard tells them apart: a draw follows the rule of its move
+  abbrev DrawRuled : Type 0
+  DrawRuled = Ruled (Acts B o d) (ChoiceOutside B o d) (draw-does B o d) (decided B o d)
 
-  told : (A C : Type 0) (does : A → Move) (m : Move) → decided B o d ≡ m → (A → Acts B o d) → (C → ChoiceOutside B o d)
-      → Ruled A C does m → Told
-  told A C does m e a c J =
+  ruled-as : (A C : Type 0) (does : A → Move) (m : Move) → decided B o d ≡ m → (A → Acts B o d) → (C → ChoiceOutside B o d)
+      → Ruled A C does m → DrawRuled
+  ruled-as A C does m e a c J =
       record {
+        acts = draw-acts;
         acted = λ z. a (J .acted (sym (ap answerOf e) ∙ z));
+        beyond = draw-outside;
         outside = λ z. c (J .outside (sym (ap answerOf e) ∙ z));
         three = omega (arith, ap answerOf e, J .three);
       }
 
-  told-2 : decided B o d ≡ Stay 2 → ChoiceOutside B o d → Told
-  told-2 e c =
+  ruled-outside : decided B o d ≡ Stay 2 → ChoiceOutside B o d → DrawRuled
+  ruled-outside e c =
       record {
+        acts = draw-acts;
         acted = λ z. absurd (omega (arith, ap answerOf e));
+        beyond = draw-outside;
         outside = λ _. c;
         three = omega (arith, ap answerOf e);
       }
@@ -154,41 +168,33 @@ module _ (B : Board) (o : List ℕ) (d : Draw) where
   sides h g hf (inl A) = grows h g hf A
   sides h g hf (inr A) = shrinks h g hf A
 
-  pub draw-told : Told
-  draw-told =
+  pub draw-ruled : DrawRuled
+  draw-ruled =
       ⊎-elim
       (λ (top : k < 100). ⊎-elim
       (λ (hf : f < B .units). ⊎-elim
-      (λ (h : k < 35). told _ _ _ _ (is-reassign hf h) (reassigns h hf) (person h) (reassign-ruled B o f s))
+      (λ (h : k < 35). ruled-as _ _ _ _ (is-reassign hf h) (reassigns h hf) (person h) (reassign-ruled B o f s))
       (λ (a : 35 ≤ k). ⊎-elim
       (λ (h : k < 60). ⊎-elim
-      (λ (hs : s < B .units). told _ _ _ _ (is-swap hf a h ∙ second-in _ hs) (swaps a h hf hs) (λ c. absurd c) (swap-ruled B o f s))
-      (λ (hs : B .units ≤ s). told-2 (is-swap hf a h ∙ second-out _ hs) (swap-unit a h hs)) (lt-or-ge s (B .units)))
+      (λ (hs : s < B .units). ruled-as _ _ _ _ (is-swap hf a h hs) (swaps a h hf hs) (λ c. absurd c) (swap-ruled B o f s))
+      (λ (hs : B .units ≤ s). ruled-outside (out-swap hf a h hs) (swap-unit a h hs)) (lt-or-ge s (B .units)))
       (λ (b : 60 ≤ k). ⊎-elim
       (λ (h : k < 75).
-      told _ _ _ _ (is-reassign-run hf b h) (reassigns-run b h hf) (run-person b h) (reassign-run-ruled B o f s hf))
+      ruled-as _ _ _ _ (is-reassign-run hf b h) (reassigns-run b h hf) (run-person b h) (reassign-run-ruled B o f s hf))
       (λ (c : 75 ≤ k). ⊎-elim
       (λ (h : k < 90). ⊎-elim
       (λ (hs : s < B .units).
-      told _ _ _ _ (is-swap-runs hf c h ∙ second-in _ hs) (swaps-runs c h hf hs) (λ x. absurd x) (swap-runs-ruled B o f s hf hs))
-      (λ (hs : B .units ≤ s). told-2 (is-swap-runs hf c h ∙ second-out _ hs) (swap-run-unit c h hs)) (lt-or-ge s (B .units)))
-      (λ (e : 90 ≤ k). told _ _ _ _ (is-shift hf e top) (sides e top hf) (side e top) (shift-ruled B o f s hf))
+      ruled-as _ _ _ _ (is-swap-runs hf c h hs) (swaps-runs c h hf hs) (λ x. absurd x) (swap-runs-ruled B o f s hf hs))
+      (λ (hs : B .units ≤ s). ruled-outside (out-swap-runs hf c h hs) (swap-run-unit c h hs)) (lt-or-ge s (B .units)))
+      (λ (e : 90 ≤ k). ruled-as _ _ _ _ (is-shift hf e top) (sides e top hf) (side e top) (shift-ruled B o f s hf))
       (lt-or-ge k 90)) (lt-or-ge k 75)) (lt-or-ge k 60)) (lt-or-ge k 35))
-      (λ (hf : B .units ≤ f). told-2 (out-first hf) (first-unit hf)) (lt-or-ge f (B .units)))
-      (λ (h : 100 ≤ k). told-2 (out-number h) (number h)) (lt-or-ge k 100)
+      (λ (hf : B .units ≤ f). ruled-outside (out-first hf) (first-unit hf)) (lt-or-ge f (B .units)))
+      (λ (h : 100 ≤ k). ruled-outside (out-number h) (number h)) (lt-or-ge k 100)
 
   -- a draw acts exactly when the conditions of its move hold, hears 2 exactly when its choice lies outside, and else 1
   pub draw-acts-exactly : Heard (answer B o d) (Acts B o d) (ChoiceOutside B o d)
   unfolding answer
-  draw-acts-exactly =
-      heard _ _ _ (decided B o d) (draw-moves B o d)
-      record {
-        acts = draw-acts;
-        acted = draw-told .acted;
-        beyond = draw-outside;
-        outside = draw-told .outside;
-        three = draw-told .three;
-      }
+  draw-acts-exactly = heard _ _ _ (decided B o d) (draw-moves B o d) draw-ruled
 
 -- ---- the units that it hands over
 

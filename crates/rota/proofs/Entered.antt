@@ -1,15 +1,15 @@
 -- The entries: what the first tests leave known, which refusal it is, and that only one outcome fits. Assumes nothing.
 use mathlib.Core.Path.{_≡_, sym, ap, ap₂, _∙_, subst, refl}
-use mathlib.Core.Bool.{Bool, true, false, cond, _&&_}
+use mathlib.Core.Bool.{Bool, true, false, _&&_}
 use mathlib.Core.List.{List}
-use Prim.Native.Nat.{ℕ, _*_, _/_, _≤_, _<_}
+use Prim.Native.Nat.{ℕ, suc, _*_, _≤_, _<_}
 use native.Mathlib.Omega.{arith}
-use borrow.Author.Tests.{eq-eqb, ne-eqb, eqb-true, lt-ltb, leb-true, le-leb}
+use borrow.Author.Tests.{eq-eqb, ne-eqb, eqb-true, lt-ltb, leb-true}
 use lib.Dec.{eqb, leb}
 use lib.ListN.{length, getD, replicate, length-replicate}
 use Rattle.paper.specs.Limits.{nobody, peopleOk, slotCountOk, orElse, countsOk}
 use Rattle.paper.specs.Count.{all, onto}
-use Rattle.paper.proofs.Logic.{by-test, both, five, or-right, and-true, cond-zero, people-says, slot-count-says, passes, stops}
+use Rattle.paper.proofs.Logic.{both, five, or-right, and-true, cond-zero, people-says, slot-count-says, passes, stops}
 use Rattle.paper.proofs.Count.{all-each, each-all, in-each, each-in}
 use Rattle.slotset.specs.Slots.{slot}
 use Rattle.slots.specs.Lent.{slotRoomOk, slotsOk}
@@ -23,12 +23,36 @@ use Rattle.rota.specs.Plays.{drawsOf, ownersAfter, answers}
 use Rattle.rota.specs.Ready.{ready}
 use Rattle.rota.specs.Lent.{fitsUnit, boardOf, FitsRight, FrozenRight}
 use Rattle.rota.specs.Derived.{Plan, PlanSound, Derived, derived, knownBy, worked, held, afresh, InStep}
-use Rattle.rota.specs.Recount.{availableFor, knownAt, availableAt, evenAt, setSlotAt, setAt, minutesOkAt, recounts, RotaRoom}
+use Rattle.rota.specs.Recount.{availableFor, knownAt, availableAt, evenAt, setSlotAt, setAt, minutesOkAt, recounts}
+use Rattle.rota.specs.Recount.{UnitRoom, RotaRoom}
 use Rattle.rota.specs.Stepped.{Ran, DrawRoom}
 use Rattle.rota.specs.Entries.{roomOk, ground, Outcome, outcome, Ended}
 use Rattle.rota.specs.Entries.{playRoomOk, playNo, played}
 use Rattle.rota.proofs.Minutes.{known-below}
 use Rattle.rota.proofs.Readied.{fits-right, board-is, board-sound}
+
+-- ---- chains of refusals that leave a place for what comes after
+
+-- where the chain gives no number, what comes after is heard
+abbrev pub Chain : (ℕ → ℕ) → Type 0
+Chain f = (x : ℕ) → orElse (eqb (f 0) 0) (f 0) x ≡ f x
+
+pub chain-end : Chain (λ x. x)
+chain-end x = ap (λ (b : Bool). orElse b 0 x) (eq-eqb 0 0 refl)
+
+pub chain-more : (t : Bool) (n : ℕ) (f : ℕ → ℕ) → Chain f → Chain (λ x. orElse t (suc n) (f x))
+chain-more true n f c x = c x
+chain-more false n f c x = ap (λ (b : Bool). orElse b (suc n) x) (ne-eqb (suc n) 0 (λ q. omega arith))
+
+module _ (f : ℕ → ℕ) (c : Chain f) (n x : ℕ) (e : n ≡ f 0) where
+  pub chain-then : (r : ℕ) → r ≡ orElse (eqb n 0) n x → r ≡ f x
+  chain-then r q = q ∙ ap (λ (m : ℕ). orElse (eqb m 0) m x) e ∙ c x
+
+  pub chain-stops : (n ≡ 0 → ⊥) → n ≡ f x
+  chain-stops z = chain-then n (stops (eqb n 0) n x (ne-eqb n 0 z))
+
+  pub chain-goes : (r : ℕ) → n ≡ 0 → r ≡ x → r ≡ f x
+  chain-goes r z q = chain-then r (passes (eqb n 0) n x r (eq-eqb n 0 z) q)
 
 -- ---- 1, 2 and 9
 
@@ -59,21 +83,16 @@ module _ (a b c : Bool) where
       let r = cond-zero c _ 8 (q .1) in
       (p .0, q .0, r .0, r .1)
 
+  pub ground-chain : Chain (ground a b c)
+  unfolding ground
+  ground-chain = chain-more a 0 _ (chain-more b 1 _ (chain-more c 8 _ chain-end))
+
   -- one of the three: what comes after is not asked
   pub ground-stops : (n x : ℕ) → n ≡ ground a b c 0 → (n ≡ 0 → ⊥) → n ≡ ground a b c x
-  unfolding ground
-  ground-stops n x e z =
-      by-test a _
-      (λ p. by-test b _
-      (λ q. by-test c _ (λ r. absurd (z (e ∙ simp (p, q, r)))) (λ r. e ∙ simp (p, q, r)))
-      (λ q. e ∙ simp (p, q)))
-      (λ p. e ∙ simp p)
+  ground-stops n x e z = chain-stops (ground a b c) ground-chain n x e z
 
   pub ground-goes : (n x r : ℕ) → n ≡ ground a b c 0 → n ≡ 0 → r ≡ x → r ≡ ground a b c x
-  unfolding ground
-  ground-goes n x r e z q =
-      let y = ground-all 0 (sym e ∙ z) in
-      simp (y .0, y .1, y .2) q
+  ground-goes n x r e z q = chain-goes (ground a b c) ground-chain n x e r z q
 
 -- ---- what they leave known
 
@@ -90,6 +109,9 @@ plan-sound P a c =
       slots-few = q .1;
       lent = slots-sound (P .slots) (P .starts) (P .ends) c;
     }
+
+pub unit-room : (slots units : ℕ) (firsts : List ℕ) → unitsOk slots units firsts ≡ true → UnitRoom slots units firsts
+unit-room slots units firsts ok = record { some = unit-some slots units firsts ok; within = unit-within slots units firsts ok }
 
 pub record Grounds (P : Plan) (avail o : List ℕ) (D : Derived) : Type 0 where
   pub sound : PlanSound P
@@ -113,15 +135,15 @@ grounds P avail o D a b c =
       lent = c;
     }
 
-free-able : (avail : List ℕ) (w k : ℕ) → (w ≡ nobody → ⊥) → availableFor avail w k ≡ true → available avail w k ≡ true
+owner-available : (avail : List ℕ) (w k : ℕ) → (w ≡ nobody → ⊥) → availableFor avail w k ≡ true → available avail w k ≡ true
 unfolding availableFor
-free-able avail w k n t = or-right (eqb w nobody) (available avail w k) t (ne-eqb w nobody n)
+owner-available avail w k n t = or-right (eqb w nobody) (available avail w k) t (ne-eqb w nobody n)
 
 -- ---- what the recount leaves known
 
 pub record Recounted (P : Plan) (avail : List ℕ) (units : ℕ) (firsts o : List ℕ) (D : Derived) : Type 0 where
   pub known : (k : ℕ) → k < P .slots → knownBy (P .people) (getD o k 0) ≡ true
-  pub free : (k : ℕ) → k < P .slots → availableFor avail (getD o k 0) k ≡ true
+  pub available : (k : ℕ) → k < P .slots → availableFor avail (getD o k 0) k ≡ true
   pub even : (u k : ℕ) → u < units → unitStart firsts u ≤ k → k < unitEnd (P .slots) units firsts u → getD o k 0 ≡ getD o (unitStart
       firsts u) 0
   pub sets : (p k : ℕ) → p < P .people → k < P .slots → slot (D .sets) (16 * p) k ≡ held o p k
@@ -136,7 +158,7 @@ module _ (P : Plan) (avail : List ℕ) (units : ℕ) (firsts o : List ℕ) (D : 
       (all (P .people) (setAt (P .slots) o (D .sets))) (all (P .people) (minutesOkAt P o (D .minutes))) e in
       record {
         known = λ k h. all-each (P .slots) (knownAt (P .people) o) (x .0) k h;
-        free = λ k h. all-each (P .slots) (availableAt avail o) (x .1) k h;
+        available = λ k h. all-each (P .slots) (availableAt avail o) (x .1) k h;
         even = λ u k h a b.
             eqb-true _ _ (in-each _ _ (λ j. eqb (getD o j 0) (getD o (unitStart firsts u) 0)) (all-each units (evenAt (P .slots)
             units firsts o) (x .2) u h) k a b);
@@ -151,7 +173,7 @@ module _ (P : Plan) (avail : List ℕ) (units : ℕ) (firsts o : List ℕ) (D : 
   unfolding recounts knownAt availableAt evenAt setAt setSlotAt minutesOkAt
   says-recount R =
       let k = each-all (P .slots) (knownAt (P .people) o) (R .known) in
-      let f = each-all (P .slots) (availableAt avail o) (R .free) in
+      let f = each-all (P .slots) (availableAt avail o) (R .available) in
       let e = each-all units (evenAt (P .slots) units firsts o) (λ u h. each-in _ _ _ (λ j a b. eq-eqb _ _ (R .even u j h a b))) in
       let s = each-all (P .people) (setAt (P .slots) o (D .sets)) (λ p h. each-all (P .slots) _ (λ j g. eq-eqb _ _ (R .sets p j h g))) in
       let m = each-all (P .people) (minutesOkAt P o (D .minutes)) (λ p h. eq-eqb _ _ (R .minutes p h)) in
@@ -186,7 +208,8 @@ module _ (P : Plan) (avail : List ℕ) (units : ℕ) (firsts o : List ℕ) (D : 
               b,
               and-true _ _ (lt-ltb u units h) (and-true _ _ (lt-ltb w (P .people) b)
                   (each-in a e (available avail w) (λ k x y.
-                  free-able avail w k n (ap (λ (v : ℕ). availableFor avail v k) (sym (C .even u k h x y)) ∙ C .free k (omega arith))))),
+                  owner-available avail w k n
+                  (ap (λ (v : ℕ). availableFor avail v k) (sym (C .even u k h x y)) ∙ C .available k (omega arith))))),
             );
       }
 
@@ -251,18 +274,11 @@ module _ (P : Plan) (avail : List ℕ) (units : ℕ) (firsts frozen : List ℕ) 
         };
       }
 
-  module _ (m r : ℕ) (b : Bool) (em : m ≡ ground counts room sound 0) where
-    pub play-stops : (m ≡ 0 → ⊥) → m ≡ playNo P avail units firsts frozen n ks fs ss o D x
-    unfolding playNo
-    play-stops z = ground-stops counts room sound m _ em z
-
-    pub play-10 : m ≡ 0 → b ≡ recounts P avail units firsts o D → b ≡ false → 10 ≡ playNo P avail units firsts frozen n ks fs ss o D x
-    unfolding playNo
-    play-10 z eb t = ground-goes counts room sound m _ 10 em z (stops (recounts P avail units firsts o D) 10 0 (sym eb ∙ t))
-
-    pub play-0 : m ≡ 0 → b ≡ recounts P avail units firsts o D → b ≡ true → 0 ≡ playNo P avail units firsts frozen n ks fs ss o D x
-    unfolding playNo
-    play-0 z eb t = ground-goes counts room sound m _ 0 em z (passes (recounts P avail units firsts o D) 10 0 0 (sym eb ∙ t) refl)
+  -- the three, then the recount
+  pub play-then : (m r : ℕ) → m ≡ ground counts room sound 0 → r ≡ orElse (eqb m 0) m (orElse (recounts P avail units firsts o D) 10 0)
+      → r ≡ playNo P avail units firsts frozen n ks fs ss o D x
+  unfolding playNo
+  play-then m r e q = chain-then (ground counts room sound) (ground-chain counts room sound) m _ e r q
 
   -- where nothing stands against the play
   pub record PlayAsks : Type 0 where

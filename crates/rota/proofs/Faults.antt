@@ -7,7 +7,7 @@ use Prim.Native.Nat.{ℕ, _+_, _*_, _/_, _%_, _≤_, _<_}
 use native.Mathlib.Omega.{arith}
 use borrow.Author.Tests.{eq-eqb, eqb-true, lt-ltb, le-ltb}
 use lib.Dec.{eqb, ltb}
-use lib.ListN.{length, getD, replicate, length-replicate, List·getD-eq-default}
+use lib.ListN.{length, getD, replicate, length-replicate}
 use Rattle.paper.specs.Bits.{bitOf}
 use Rattle.paper.specs.Count.{all, over}
 use Rattle.paper.proofs.Logic.{lt-or-ge, same-test, both}
@@ -19,16 +19,45 @@ use Rattle.rota.specs.declared.Fault.the-variants.{Clean, Unknown, Unava
 use Rattle.rota.specs.Derived.{Plan, PlanSound, Derived, derived, worked, held, setsFrom, afresh, Makes}
 use Rattle.rota.specs.Recount.{firstFail, knownAt, availableAt, evenAt, setSlotAt, setAt, minutesOkAt, faultOf, recounts}
 use Rattle.rota.proofs.Sets.{sets-in, sets-same, length-sets}
+use Rattle.rota.proofs.Readied.{zero-at}
 use Rattle.rota.proofs.Scans.{first-test, first-passes}
 
+-- ---- whether there is none
+
+abbrev pub isClean : Fault → Bool
+isClean Clean = true
+isClean (Unknown k) = false
+isClean (Unavailable k) = false
+isClean (Uneven u) = false
+isClean (WrongSet p k) = false
+isClean (WrongMinutes p) = false
+
+five-tests : (a b c d e : Bool) (u v w y : ℕ) (x z : ℕ)
+    → a && (b && (c && (d && e)))
+    ≡ isClean (cond (not a) (Unknown u) (cond (not b) (Unavailable v) (cond (not c) (Uneven w) (cond (not d) (WrongSet x y) (cond
+    (not e) (WrongMinutes z) Clean)))))
+five-tests false b c d e u v w y x z = refl
+five-tests true false c d e u v w y x z = refl
+five-tests true true false d e u v w y x z = refl
+five-tests true true true false e u v w y x z = refl
+five-tests true true true true false u v w y x z = refl
+five-tests true true true true true u v w y x z = refl
+
 -- ---- which fault
+
+-- a scan that ends before n, and one that doesn't
+below : (n r : ℕ) (p : ℕ → Bool) → r ≡ firstFail n p → r < n → ltb (firstFail n p) n ≡ true
+below n r p e h = ap (λ (x : ℕ). ltb x n) (sym e) ∙ lt-ltb r n h
+
+past : (n r : ℕ) (p : ℕ → Bool) → r ≡ firstFail n p → n ≤ r → ltb (firstFail n p) n ≡ false
+past n r p e h = ap (λ (x : ℕ). ltb x n) (sym e) ∙ le-ltb r n h
 
 module _ (P : Plan) (avail : List ℕ) (units : ℕ) (firsts o : List ℕ) (D : Derived) where
   abbrev known : ℕ → Bool
   known = knownAt (P .people) o
 
-  abbrev free : ℕ → Bool
-  free = availableAt avail o
+  abbrev available : ℕ → Bool
+  available = availableAt avail o
 
   abbrev even : ℕ → Bool
   even = evenAt (P .slots) units firsts o
@@ -39,26 +68,20 @@ module _ (P : Plan) (avail : List ℕ) (units : ℕ) (firsts o : List ℕ) (D : 
   abbrev minutes : ℕ → Bool
   minutes = minutesOkAt P o (D .minutes)
 
-  below : (n r : ℕ) (p : ℕ → Bool) → r ≡ firstFail n p → r < n → ltb (firstFail n p) n ≡ true
-  below n r p e h = ap (λ (x : ℕ). ltb x n) (sym e) ∙ lt-ltb r n h
-
-  past : (n r : ℕ) (p : ℕ → Bool) → r ≡ firstFail n p → n ≤ r → ltb (firstFail n p) n ≡ false
-  past n r p e h = ap (λ (x : ℕ). ltb x n) (sym e) ∙ le-ltb r n h
-
   module _ (a : ℕ) (ea : a ≡ firstFail (P .slots) known) where
     pub fault-unknown : a < P .slots → Unknown a ≡ faultOf P avail units firsts o D
     unfolding faultOf
     fault-unknown h = simp (below (P .slots) a known ea h) (ap Unknown ea)
 
-    module _ (ha : P .slots ≤ a) (b : ℕ) (eb : b ≡ firstFail (P .slots) free) where
+    module _ (ha : P .slots ≤ a) (b : ℕ) (eb : b ≡ firstFail (P .slots) available) where
       pub fault-unavailable : b < P .slots → Unavailable b ≡ faultOf P avail units firsts o D
       unfolding faultOf
-      fault-unavailable h = simp (past (P .slots) a known ea ha, below (P .slots) b free eb h) (ap Unavailable eb)
+      fault-unavailable h = simp (past (P .slots) a known ea ha, below (P .slots) b available eb h) (ap Unavailable eb)
 
       module _ (hb : P .slots ≤ b) (c : ℕ) (ec : c ≡ firstFail units even) where
         pub fault-uneven : c < units → Uneven c ≡ faultOf P avail units firsts o D
         unfolding faultOf
-        fault-uneven h = simp (past (P .slots) a known ea ha, past (P .slots) b free eb hb, below units c even ec h) (ap Uneven ec)
+        fault-uneven h = simp (past (P .slots) a known ea ha, past (P .slots) b available eb hb, below units c even ec h) (ap Uneven ec)
 
         module _ (hc : units ≤ c) (r : Bool) (er : r ≡ all (P .people) sets && all (P .people) minutes) where
           pub fault-clean : r ≡ true → Clean ≡ faultOf P avail units firsts o D
@@ -67,14 +90,19 @@ module _ (P : Plan) (avail : List ℕ) (units : ℕ) (firsts o : List ℕ) (D : 
               let x = both (all (P .people) sets) (all (P .people) minutes) (sym er ∙ t) in
               let y : ltb (firstFail (P .people) sets) (P .people) ≡ false = first-test (P .people) sets ∙ ap not (x .0) in
               let z : ltb (firstFail (P .people) minutes) (P .people) ≡ false = first-test (P .people) minutes ∙ ap not (x .1) in
-              simp (past (P .slots) a known ea ha, past (P .slots) b free eb hb, past units c even ec hc, y, z)
+              simp (past (P .slots) a known ea ha, past (P .slots) b available eb hb, past units c even ec hc, y, z)
 
           module _ (p : ℕ) (ep : p ≡ firstFail (P .people) sets) where
             pub fault-set : (k : ℕ) → k ≡ firstFail (P .slots) (setSlotAt o (D .sets) p) → p < P .people
                 → WrongSet p k ≡ faultOf P avail units firsts o D
             unfolding faultOf
             fault-set k ek h =
-                simp (past (P .slots) a known ea ha, past (P .slots) b free eb hb, past units c even ec hc, below (P .people) p sets ep h)
+                simp (
+                  past (P .slots) a known ea ha,
+                  past (P .slots) b available eb hb,
+                  past units c even ec hc,
+                  below (P .people) p sets ep h,
+                )
                 (ap₂ WrongSet ep (ek ∙ ap (λ (q : ℕ). firstFail (P .slots) (setSlotAt o (D .sets) q)) ep))
 
             pub fault-minutes : (m : ℕ) → m ≡ firstFail (P .people) minutes → P .people ≤ p → r ≡ false
@@ -86,7 +114,7 @@ module _ (P : Plan) (avail : List ℕ) (units : ℕ) (firsts o : List ℕ) (D : 
                 let z : ltb (firstFail (P .people) minutes) (P .people) ≡ true = first-test (P .people) minutes ∙ ap not y in
                 simp (
                   past (P .slots) a known ea ha,
-                  past (P .slots) b free eb hb,
+                  past (P .slots) b available eb hb,
                   past units c even ec hc,
                   past (P .people) p sets
                       ep h,
@@ -96,37 +124,18 @@ module _ (P : Plan) (avail : List ℕ) (units : ℕ) (firsts o : List ℕ) (D : 
 
   -- ---- it passes exactly when there is none
 
-  abbrev pub isClean : Fault → Bool
-  isClean Clean = true
-  isClean (Unknown k) = false
-  isClean (Unavailable k) = false
-  isClean (Uneven u) = false
-  isClean (WrongSet p k) = false
-  isClean (WrongMinutes p) = false
-
-  five-tests : (a b c d e : Bool) (u v w y : ℕ) (x z : ℕ)
-      → a && (b && (c && (d && e)))
-      ≡ isClean (cond (not a) (Unknown u) (cond (not b) (Unavailable v) (cond (not c) (Uneven w) (cond (not d) (WrongSet x y) (cond
-      (not e) (WrongMinutes z) Clean)))))
-  five-tests false b c d e u v w y x z = refl
-  five-tests true false c d e u v w y x z = refl
-  five-tests true true false d e u v w y x z = refl
-  five-tests true true true false e u v w y x z = refl
-  five-tests true true true true false u v w y x z = refl
-  five-tests true true true true true u v w y x z = refl
-
   pub recounts-clean : recounts P avail units firsts o D ≡ isClean (faultOf P avail units firsts o D)
   unfolding recounts faultOf
   recounts-clean =
       rw (
         first-test (P .slots) known,
-        first-test (P .slots) free,
+        first-test (P .slots) available,
         first-test units even,
         first-test (P .people) sets,
         first-test (P
             .people) minutes,
       )
-      (five-tests (all (P .slots) known) (all (P .slots) free) (all units even) (all (P .people) sets) (all (P .people) minutes) _ _
+      (five-tests (all (P .slots) known) (all (P .slots) available) (all units even) (all (P .people) sets) (all (P .people) minutes) _ _
       _ _ _ _)
 
   module _ (r : Fault) (er : r ≡ faultOf P avail units firsts o D) where
@@ -164,18 +173,9 @@ module _ (P : Plan) (S : PlanSound P) (o s m : List ℕ) (M : Makes P o (derived
       (λ (h : j < 16 * P .people). rw (copy-word j h) (fit j))
       (λ (h : 16 * P .people ≤ j).
       let e : getD c j 0 ≡ 0 = ap (λ (l : List ℕ). getD l j 0) ec ∙ getD-over-out (λ i. getD s i 0) n (replicate 512 0) j (omega
-      arith) ∙ zeros j in
+      arith) ∙ zero-at 512 j in
       rw e (omega arith))
       (lt-or-ge j (16 * P .people))
-    where
-      zeros : (j : ℕ) → _≡_ {A = ℕ} (getD (replicate 512 0) j 0) 0
-      zeros j =
-          ⊎-elim (λ (h : j < 512). lib.ListN.getD-replicate 512 j 0 0 h)
-          (λ (h : 512 ≤ j). List·getD-eq-default {A = ℕ} (replicate 512 0) 0 {n = j} (omega (
-            arith,
-            length-replicate {A = ℕ} 512
-                0,
-          ))) (lt-or-ge j 512)
 
   same-slot : (x y : List ℕ) → ((j : ℕ) → j < 16 * P .people → getD x j 0 ≡ getD y j 0) → (p k : ℕ) → p < P .people → k < P .slots
       → slot x (16 * p) k ≡ slot y (16 * p) k
@@ -229,9 +229,6 @@ module _ (P : Plan) (S : PlanSound P) (o s m : List ℕ) (M : Makes P o (derived
         (λ p h. ap (eqb (getD m p 0)) (ap (λ (x : List ℕ). getD x p 0) made-minutes
         ∙ getD-over (worked P o) (P .people) d p h (omega (arith, copy-minutes, S .people-few))))
 
--- a conjunction whose first part holds, or does not
+-- a conjunction whose first part holds
 pub and-on : (a b r : Bool) → a ≡ true → r ≡ b → r ≡ a && b
 and-on a b r e q = q ∙ ap (λ (x : Bool). x && b) (sym e)
-
-pub and-stop : (a b : Bool) → a ≡ false → false ≡ a && b
-and-stop a b e = ap (λ (x : Bool). x && b) (sym e)

@@ -1,5 +1,5 @@
 -- The laws of judging a draw: tests in a row, masks of people, picks, owners of units, and the walks to a run's two ends. Assumes nothing.
-use mathlib.Core.Path.{_≡_, refl, sym, ap, ap₂, _∙_}
+use mathlib.Core.Path.{_≡_, sym, ap, ap₂, _∙_}
 use mathlib.Core.Bool.{Bool, true, false, cond, _&&_, _||_}
 use mathlib.Core.Logic.{⊎-elim}
 use mathlib.Core.List.{List, [], _∷_}
@@ -25,7 +25,7 @@ use Rattle.rota.specs.Moves.{anyOf, stayIf, picked}
 
 -- ---- tests in a row
 
--- one of the tests holds
+-- one of the tests, test k, holds
 any-at : (ts : List Bool) (k : ℕ) → getD ts k false ≡ true → anyOf ts ≡ true
 unfolding anyOf
 any-at [] k e = absurd (mathlib.Core.Bool.false≢true e)
@@ -36,19 +36,9 @@ any-at (t ∷ ts) (suc k) e = ap (λ (b : Bool). t || b) (any-at ts k e) ∙ mat
 pub stays : (ts : List Bool) (n : ℕ) (m : Move) (k : ℕ) → getD ts k false ≡ true → Stay n ≡ stayIf ts n m
 stays ts n m k e = sym (ap (λ (b : Bool). cond b (Stay n) m) (any-at ts k e))
 
--- none of them holds
-abbrev pub None : List Bool → Type 0
-None [] = Unit {0}
-None (t ∷ ts) = (t ≡ false) × None ts
-
-none-any : (ts : List Bool) → None ts → anyOf ts ≡ false
-unfolding anyOf
-none-any [] n = refl
-none-any (t ∷ ts) n = ap₂ _||_ (n .0) (none-any ts (n .1))
-
--- so it goes on
-pub goes : (ts : List Bool) (n : ℕ) (m r : Move) → None ts → r ≡ m → r ≡ stayIf ts n m
-goes ts n m r z e = e ∙ sym (ap (λ (b : Bool). cond b (Stay n) m) (none-any ts z))
+-- none of them holds, so it goes on
+pub goes : (ts : List Bool) (n : ℕ) (m r : Move) → anyOf ts ≡ false → r ≡ m → r ≡ stayIf ts n m
+goes ts n m r z e = e ∙ sym (ap (λ (b : Bool). cond b (Stay n) m) z)
 
 -- ---- masks
 
@@ -69,8 +59,8 @@ in-step a k p h =
     ap (λ (n : ℕ). all n (λ j. p (a + j))) z ∙ ap (λ (j : ℕ). all (k - a) (λ i. p (a + i)) && p j) y
 
 -- a test that holds at k changes nothing
-pub in-same : (a k : ℕ) (p : ℕ → Bool) → a ≤ k → p k ≡ true → allIn a (k + 1) p ≡ allIn a k p
-in-same a k p h t =
+pub in-holds : (a k : ℕ) (p : ℕ → Bool) → a ≤ k → p k ≡ true → allIn a (k + 1) p ≡ allIn a k p
+in-holds a k p h t =
     in-step a k p h ∙ ap (λ (b : Bool). allIn a k p && b) t ∙ mathlib.Core.Bool.and-true (allIn a k p)
 
 pub cover-start : (fits : List ℕ) (a : ℕ) → Cover fits a a (2 ^ 32 - 1)

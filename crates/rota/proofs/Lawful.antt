@@ -14,7 +14,7 @@ use Rattle.rota.specs.Board.{Board, Even, ownerOf}
 use Rattle.rota.specs.Moves.{Draw, decided, answerOf, handed}
 use Rattle.rota.specs.Acts.{RunMoves, Acts, reassigns, swaps, reassigns-run, swaps-runs, grows, shrinks}
 use Rattle.rota.proofs.Acts.{another-says}
-use Rattle.rota.proofs.Drawn.{draw-does, draw-acts, draw-told, handed-exactly}
+use Rattle.rota.proofs.Drawn.{draw-does, draw-acts, draw-ruled, handed-exactly}
 
 -- ---- what a decided move hands over
 
@@ -138,6 +138,6 @@ pub decided-lawful : (B : Board) (o : List ℕ) (d : Draw) → Even B o → Lawf
 decided-lawful B o d E =
     by-test (eqb (answerOf (decided B o d)) 0) _
     (λ t.
-    let A = draw-told B o d .acted (eqb-true _ _ t) in
+    let A = draw-ruled B o d .acted (eqb-true _ _ t) in
     subst (Lawful B o (handed B o d)) (sym (draw-acts B o d A)) (does-lawful B o d E A))
     (λ f. still-lawful B o (handed B o d) (decided B o d) (eqb-false _ _ f))

@@ -10,7 +10,7 @@ use borrow.Author.Tests.{le-leb, lt-ltb}
 use lib.Dec.{leb}
 use lib.ListN.{length, getD, getD-replicate}
 use Rattle.paper.specs.Limits.{nobody, peopleOk}
-use Rattle.paper.specs.Count.{sum, over, fill}
+use Rattle.paper.specs.Count.{over, fill}
 use Rattle.paper.proofs.Logic.{lt-or-ge}
 use Rattle.paper.proofs.Count.{sum-same, over-same, over-again, length-over, getD-over, length-fill, getD-fill-in, getD-fill-out}
 use Rattle.slotset.specs.Slots.{slot, putSlots}
@@ -19,10 +19,9 @@ use Rattle.slotset.proofs.Puts.{Fit, puts-same}
 use Rattle.rota.specs.Derived.{Plan, PlanSound, knownBy, portion, worked, lengthAt, held, setsFrom, Derived, derived, afresh}
 use Rattle.rota.specs.Derived.{InStep, setFor, lessAt, moreAt}
 use Rattle.rota.specs.Derived.{stretchMinutes, OneOwner, nobodies, cut, Makes}
-use Rattle.rota.proofs.Minutes.{known-nobody, portion-other}
+use Rattle.rota.proofs.Minutes.{known-nobody, portion-other, sum-nothing}
 use Rattle.rota.proofs.Sets.{held-same, held-not, length-sets, sets-fit, sets-in, sets-again}
-use Rattle.rota.proofs.Steps.{afresh-again, afresh-same, afresh-step, afresh-fit, afresh-lengths, Owned, new-room}
-use Rattle.rota.proofs.Steps.{handed-over}
+use Rattle.rota.proofs.Steps.{afresh-again, afresh-same, afresh-step, afresh-fit, fill-known, new-room, handed-over}
 
 -- ---- only the owners below the slot count matter
 
@@ -63,11 +62,9 @@ module _ (n i : ℕ) (o : List ℕ) (long : n ≤ length o) where
 
 cut-known : (P : Plan) (o : List ℕ) (D : Derived) → Makes P o D → (i k : ℕ) → k < P .slots → knownBy (P .people) (getD (cut (P
     .slots) i o) k 0) ≡ true
+unfolding cut
 cut-known P o D M i k h =
-    ⊎-elim
-    (λ (x : k < i). ap (knownBy (P .people)) (cut-before (P .slots) i o (M .owners-room) k x) ∙ M .known k h)
-    (λ (x : i ≤ k). ap (knownBy (P .people)) (cut-after (P .slots) i o (M .owners-room) k x h) ∙ known-nobody (P .people))
-    (lt-or-ge k i)
+    fill-known (P .people) nobody i (P .slots - i) o k (omega (arith, M .owners-room)) (known-nobody (P .people)) (M .known k h)
 
 -- ---- the loop: the owners below i are in the sets and minutes
 
@@ -92,15 +89,9 @@ module _ (P : Plan) (S : PlanSound P) (o : List ℕ) (D₀ : Derived) where
   pub made-fit : (i : ℕ) (D : Derived) → Made P o D₀ i D → Fit (D .sets)
   made-fit i D M = subst (λ (d : Derived). Fit (d .sets)) (sym (M .eq)) (afresh-fit P (cut (P .slots) i o) D₀ (M .fit))
 
-  pub made-lengths : (i : ℕ) (D : Derived) → Made P o D₀ i D → (length (D .sets) ≡ length (D₀ .sets)) × (length (D .minutes) ≡
-      length (D₀ .minutes))
-  made-lengths i D M =
-      let x = afresh-lengths P (cut (P .slots) i o) D₀ in
-      (ap (λ (d : Derived). length (d .sets)) (M .eq) ∙ x .0, ap (λ (d : Derived). length (d .minutes)) (M .eq) ∙ x .1)
-
   module _ (i : ℕ) (D : Derived) (M : Made P o D₀ i D) (e : ℕ) (O : OneOwner o (P .slots) i e) where
-    one-owned : Owned (cut (P .slots) i o) i e nobody
-    one-owned = record { each = λ k x y. cut-after (P .slots) i o (M .makes .owners-room) k x (omega (arith, O .within)) }
+    one-owned : (k : ℕ) → i ≤ k → k < e → getD (cut (P .slots) i o) k 0 ≡ nobody
+    one-owned k x y = cut-after (P .slots) i o (M .makes .owners-room) k x (omega (arith, O .within))
 
     one-known : knownBy (P .people) (getD o i 0) ≡ true
     one-known = M .makes .known i (omega (arith, O .some, O .within))
@@ -163,10 +154,7 @@ none-worked : (P : Plan) (o : List ℕ) (p : ℕ) → (p ≡ nobody → ⊥) →
 unfolding worked
 none-worked P o p n h =
     sum-same (P .slots) _ (λ _. 0) (λ k l. ap (λ (w : ℕ). portion w p (lengthAt P k)) (h k l) ∙ portion-other nobody p _ (λ q. n (sym q)))
-    ∙ zeros (P .slots)
-  where
-    zeros : (n : ℕ) → sum n (λ _. 0) ≡ 0
-    zeros n = Rattle.rota.proofs.Minutes.sum-nothing n
+    ∙ sum-nothing (P .slots)
 
 module _ (P : Plan) (S : PlanSound P) (o : List ℕ) (s₀ m₀ s m : List ℕ) (M : Makes P o (derived s₀ m₀)) (f : Fit s₀)
     (es : s ≡ setsFrom (P .people) (P .slots) (nobodies (P .slots)) s₀) (em : m ≡ over (λ _. 0) (P .people) m₀) where

@@ -60,13 +60,9 @@ portions w n (suc people) =
     omega (arith, x, y, z, ap (λ (v : ℕ). portion v people n) q, portion-own people n))
     (λ f.
     let q = eqb-false w people f in
-    let r : suc people ≤ w = ne-above w people q h in
-    let z : cond (ltb w (suc people)) n 0 ≡ 0 = ap (λ (b : Bool). cond b n 0) (le-ltb w (suc people) r) in
+    let z : cond (ltb w (suc people)) n 0 ≡ 0 = ap (λ (b : Bool). cond b n 0) (le-ltb w (suc people) (omega arith)) in
     omega (arith, x, y, z, portion-other w people n q)))
     (lt-or-ge w people)
-  where
-    ne-above : (w people : ℕ) → (w ≡ people → ⊥) → people ≤ w → suc people ≤ w
-    ne-above w people q h = ⊎-elim (λ (l : people < w). l) (λ (l : w ≤ people). absurd (q (omega arith))) (lt-or-ge people w)
 
 slot-total : (people w n : ℕ) → people ≤ 32 → knownBy people w ≡ true → sum people (λ p. portion w p n) + portion w nobody n ≡ n
 slot-total people w n h k =
@@ -80,7 +76,7 @@ slot-total people w n h k =
     let y : cond (ltb w people) n 0 ≡ n = ap (λ (b : Bool). cond b n 0) (lt-ltb w people (known-below people w k q)) in
     omega (arith, portions w n people, y, portion-other w nobody n q))
 
-pub sum-nothing : (n : ℕ) → sum n (λ p. 0) ≡ 0
+pub sum-nothing : (n : ℕ) → sum n (λ _. 0) ≡ 0
 unfolding sum
 sum-nothing zero = refl
 sum-nothing (suc n) = omega (arith, sum-nothing n)
@@ -105,27 +101,27 @@ minutes-total P o h k =
     (sum-same (P .people) _ (worked P o) (λ p l. refl)))
     ∙ total-to (P .people) (P .slots) o (lengthAt P) h k
 
--- a person's minutes are at most the whole
+-- what a slot counts for a person is at most its length
 portion-le : (w p n : ℕ) → portion w p n ≤ n
 unfolding portion
 portion-le w p n = by-test (eqb w p) _ (λ t. simp t (omega arith)) (λ f. simp f zero-le)
 
--- so are those of the first n slots
+-- the first n slots have at most the minutes of all
+pub part-le : (P : Plan) (n : ℕ) → n ≤ P .slots → sum n (lengthAt P) ≤ demandOf (P .slots) (P .starts) (P .ends)
+unfolding demandOf
+part-le P n h =
+    let y : n + (P .slots - n) ≡ P .slots = omega arith in
+    omega (arith, sum-rises n (P .slots - n) (lengthAt P), ap (λ (z : ℕ). sum z (lengthAt P)) y)
+
+-- so has what a person owns of them, and of all
 pub worked-part-le : (P : Plan) (o : List ℕ) (p n : ℕ) → n ≤ P .slots
     → sum n (λ k. portion (getD o k 0) p (lengthAt P k)) ≤ demandOf (P .slots) (P .starts) (P .ends)
-unfolding demandOf
 worked-part-le P o p n h =
-    let y : n + (P .slots - n) ≡ P .slots = omega arith in
-    omega (
-      arith,
-      sum-mono n _ (lengthAt P) (λ k l. portion-le (getD o k 0) p (lengthAt P k)),
-      sum-rises n (P .slots - n) (lengthAt P),
-      ap (λ (z : ℕ). sum z (lengthAt P)) y,
-    )
+    omega (arith, part-le P n h, sum-mono n _ (lengthAt P) (λ k l. portion-le (getD o k 0) p (lengthAt P k)))
 
 pub worked-le : (P : Plan) (o : List ℕ) (p : ℕ) → worked P o p ≤ demandOf (P .slots) (P .starts) (P .ends)
-unfolding worked demandOf
-worked-le P o p = sum-mono (P .slots) _ (lengthAt P) (λ k l. portion-le (getD o k 0) p (lengthAt P k))
+unfolding worked
+worked-le P o p = worked-part-le P o p (P .slots) (omega arith)
 
 -- ---- a stretch changes hands
 

@@ -5,11 +5,12 @@ use mathlib.Core.List.{List, [], _∷_}
 use Prim.Native.Nat.{ℕ, _+_, _-_, _≤_, _<_}
 use native.Mathlib.Numerals.{add-one}
 use native.Mathlib.Omega.{arith}
-use borrow.Author.Tests.{eq-eqb, ne-eqb, lt-ltb, le-ltb, le-leb, lt-leb}
-use lib.Dec.{eqb, ltb, leb}
+use borrow.Author.Tests.{eq-eqb, ne-eqb, lt-ltb, le-ltb}
+use lib.Dec.{eqb, ltb}
 use lib.ListN.{getD}
 use Rattle.paper.specs.Limits.{nobody}
 use Rattle.paper.specs.Count.{allIn, among}
+use Rattle.paper.proofs.Logic.{four}
 use Rattle.paper.proofs.Count.{among-same}
 use Rattle.rota.specs.declared.Pick.{Pick}
 use Rattle.rota.specs.declared.Pick.the-variants.{Nobody, Beyond, Person}
@@ -17,9 +18,9 @@ use Rattle.rota.specs.declared.Move.{Move}
 use Rattle.rota.specs.declared.Move.the-variants.{Stay, Trade}
 use Rattle.rota.specs.Board.{Board, ownerOf, unowned, runStart, runEnd}
 use Rattle.units.specs.Domains.{inMask}
-use Rattle.rota.specs.Moves.{stayIf, give, movable, covers, firstOf, lastOf, picked, onPick, domainOf, reassigned, swapStays}
+use Rattle.rota.specs.Moves.{anyOf, stayIf, give, movable, covers, firstOf, lastOf, picked, onPick, domainOf, reassigned, swapStays}
 use Rattle.rota.specs.Moves.{swapped}
-use Rattle.rota.specs.Moves.{others, runReassigned, runsStay, runsSwapped, grown, shrunk, shifted, draw, decided}
+use Rattle.rota.specs.Moves.{others, runReassigned, runsStay, runsSwapped, grown, shrunk, shifted}
 use Rattle.rota.proofs.Runs.{run-is}
 use Rattle.rota.proofs.Acts.{has-owner}
 use Rattle.rota.proofs.Judged.{stays, goes}
@@ -47,9 +48,9 @@ module _ (B : Board) (o : List ℕ) (f s : ℕ) where
 
   module _ (r v : Pick) (z : B .frozen f ≡ false) (d : r ≡ picked (domainOf B f) s) (q : r ≡ v) where
     reassign-as : onPick (λ p. stayIf (eqb p (ownerOf B o f) ∷ []) 1 (give B f f p)) v ≡ reassigned B o f s
-    unfolding reassigned
+    unfolding reassigned anyOf
     reassign-as =
-        goes (B .frozen f ∷ []) 1 _ _ (z, tt)
+        goes (B .frozen f ∷ []) 1 _ _ (simp z)
         (ap (onPick (λ p. stayIf (eqb p (ownerOf B o f) ∷ []) 1 (give B f f p))) (sym q ∙ d))
 
   module _ (r : Pick) (z : B .frozen f ≡ false) (d : r ≡ picked (domainOf B f) s) where
@@ -65,8 +66,10 @@ module _ (B : Board) (o : List ℕ) (f s : ℕ) where
           stays (eqb p (ownerOf B o f) ∷ []) 1 (give B f f p) 0 (eq-eqb _ _ (h ∙ ew)) ∙ reassign-as r (Person p) z d q
 
       pub reassign-given : (m : Move) → (p ≡ w → ⊥) → m ≡ give B f f p → m ≡ reassigned B o f s
+      unfolding anyOf
       reassign-given m h e =
-          goes (eqb p (ownerOf B o f) ∷ []) 1 (give B f f p) m (ne-eqb _ _ (λ x. h (x ∙ sym ew)), tt) e ∙ reassign-as r (Person p) z d q
+          goes (eqb p (ownerOf B o f) ∷ []) 1 (give B f f p) m (simp (ne-eqb p (ownerOf B o f) (λ x. h (x ∙ sym ew)))) e
+          ∙ reassign-as r (Person p) z d q
 
 -- ---- swap units
 
@@ -75,66 +78,56 @@ module _ (B : Board) (o : List ℕ) (f s : ℕ) where
   unfolding swapped
   swap-stays k e = stays (swapStays B o f s) 1 _ k e
 
-  pub swap-frozen : B .frozen f ≡ true → Stay 1 ≡ swapped B o f s
-  swap-frozen e = swap-stays 0 e
+  pub swap-first-frozen : B .frozen f ≡ true → Stay 1 ≡ swapped B o f s
+  swap-first-frozen e = swap-stays 0 e
 
-  pub swap-frozen-2 : B .frozen s ≡ true → Stay 1 ≡ swapped B o f s
-  swap-frozen-2 e = swap-stays 1 e
+  pub swap-second-frozen : B .frozen s ≡ true → Stay 1 ≡ swapped B o f s
+  swap-second-frozen e = swap-stays 1 e
 
   pub swap-same : f ≡ s → Stay 1 ≡ swapped B o f s
   swap-same e = swap-stays 2 (eq-eqb f s e)
 
   module _ (w v : ℕ) (ew : w ≡ ownerOf B o f) (ev : v ≡ ownerOf B o s) where
-    pub swap-unowned : w ≡ nobody → Stay 1 ≡ swapped B o f s
-    swap-unowned e = swap-stays 3 (nobody-owns B o f w ew e)
+    pub swap-first-unowned : w ≡ nobody → Stay 1 ≡ swapped B o f s
+    swap-first-unowned e = swap-stays 3 (nobody-owns B o f w ew e)
 
-    pub swap-unowned-2 : v ≡ nobody → Stay 1 ≡ swapped B o f s
-    swap-unowned-2 e = swap-stays 4 (nobody-owns B o s v ev e)
+    pub swap-second-unowned : v ≡ nobody → Stay 1 ≡ swapped B o f s
+    swap-second-unowned e = swap-stays 4 (nobody-owns B o s v ev e)
 
     pub swap-owner : w ≡ v → Stay 1 ≡ swapped B o f s
     swap-owner e = swap-stays 5 (eq-eqb _ _ (sym ew ∙ e ∙ ev))
 
-    pub swap-unfit : B .fits v f ≡ false → Stay 1 ≡ swapped B o f s
-    swap-unfit e = swap-stays 6 (ap not (ap (λ (x : ℕ). B .fits x f) (sym ev) ∙ e))
+    pub swap-first-unfit : B .fits v f ≡ false → Stay 1 ≡ swapped B o f s
+    swap-first-unfit e = swap-stays 6 (ap not (ap (λ (x : ℕ). B .fits x f) (sym ev) ∙ e))
 
-    pub swap-unfit-2 : B .fits w s ≡ false → Stay 1 ≡ swapped B o f s
-    swap-unfit-2 e = swap-stays 7 (ap not (ap (λ (x : ℕ). B .fits x s) (sym ew) ∙ e))
+    pub swap-second-unfit : B .fits w s ≡ false → Stay 1 ≡ swapped B o f s
+    swap-second-unfit e = swap-stays 7 (ap not (ap (λ (x : ℕ). B .fits x s) (sym ew) ∙ e))
 
     pub swap-acts : (m : Move) → B .frozen f ≡ false → B .frozen s ≡ false → (f ≡ s → ⊥) → (w ≡ nobody → ⊥) → (v ≡ nobody → ⊥) → (w
         ≡ v → ⊥)
         → B .fits v f ≡ true → B .fits w s ≡ true → m ≡ Trade (B .from f) (B .upto f) v (B .from s) (B .upto s) w → m ≡ swapped B o f s
-    unfolding swapped
+    unfolding swapped anyOf
     swap-acts m a b c d e g h i t =
-        goes (swapStays B o f s) 1 _ m (
+        goes (swapStays B o f s) 1 _ m
+        (simp (
           a,
-          (
-            b,
-            (
-              ne-eqb f s c,
-              (
-                somebody-owns B o f w ew d,
-                (
-                  somebody-owns B o s v ev e,
-                  (
-                    ne-eqb _ _ (λ q. g (ew ∙ q ∙ sym ev)),
-                    (
-                      ap
-                          not (ap (λ (x : ℕ). B .fits x f) (sym ev) ∙ h),
-                      (ap not (ap (λ (x : ℕ). B .fits x s) (sym ew) ∙ i), tt),
-                    ),
-                  ),
-                ),
-              ),
-            ),
-          ),
-        )
+          b,
+          ne-eqb f s c,
+          somebody-owns B o f w ew d,
+          somebody-owns B o s v ev e,
+          ne-eqb (ownerOf B o f) (ownerOf B o s) (λ q. g (ew ∙ q ∙ sym ev)),
+          ap (λ (x : ℕ). B .fits x f) (sym ev) ∙ h,
+          ap (λ (x : ℕ). B .fits x s) (sym ew) ∙ i,
+        ))
         (t ∙ ap₂ (λ (x y : ℕ). Trade (B .from f) (B .upto f) x (B .from s) (B .upto s) y) ev ew)
 
 -- ---- runs
 
--- the ends of a run stand in order, below the unit count
-pub run-order : (w : ℕ → ℕ) (units u : ℕ) → u < units → (runStart w u ≤ runEnd units w u) × (runEnd units w u < units)
-run-order w units u h = let R = run-is w units u h in (omega (arith, R .from, R .to), R .fits)
+-- a run from a to b has a unit, and none past the unit count
+pub run-room : (w : ℕ → ℕ) (units u a b : ℕ) → u < units → a ≡ runStart w u → b ≡ runEnd units w u → (a < b + 1) × (b + 1 ≤ units)
+run-room w units u a b h p q =
+    let R = run-is w units u h in
+    (omega (arith, p, q, R .from, R .to), omega (arith, q, R .fits))
 
 movable-one : (B : Board) (a b : ℕ) → allIn a (b + 1) (λ u. not (B .frozen u)) ≡ movable B a b
 unfolding movable
@@ -177,10 +170,10 @@ module _ (B : Board) (o : List ℕ) (f s w : ℕ) (ew : w ≡ ownerOf B o f) whe
           (cover p (omega arith) ∙ covers-one B a b p ∙ ap₂ (λ (x y : ℕ). covers B x y p) ea eb)))
 
       run-as : (v : Pick) → r ≡ v → onPick (give B (firstOf B o f) (lastOf B o f)) v ≡ runReassigned B o f s
-      unfolding runReassigned
+      unfolding runReassigned anyOf
       run-as v q =
           goes (run-tests (firstOf B o f) (lastOf B o f)) 1 _ _
-          (fr, (somebody-owns B o f w ew nw, (ap not (sym (ap₂ (movable B) ea eb) ∙ sym (movable-one B a b) ∙ mv), tt)))
+          (simp (fr, somebody-owns B o f w ew nw, sym (ap₂ (movable B) ea eb) ∙ sym (movable-one B a b) ∙ mv))
           (ap (onPick (give B (firstOf B o f) (lastOf B o f))) (sym q ∙ others-as))
 
       pub run-nobody : r ≡ Nobody → Stay 1 ≡ runReassigned B o f s
@@ -194,24 +187,32 @@ module _ (B : Board) (o : List ℕ) (f s w : ℕ) (ew : w ≡ ownerOf B o f) whe
 
 -- ---- swap runs
 
+-- one of four tests fails
+some-fails : (p q r t : Bool) (X : Type 0) → p && (q && (r && t)) ≡ false → (p ≡ false → X) → (q ≡ false → X) → (r ≡ false → X)
+    → (t ≡ false → X) → X
+some-fails false q r t X e g h i j = g refl
+some-fails true false r t X e g h i j = h refl
+some-fails true true false t X e g h i j = i refl
+some-fails true true true t X e g h i j = j e
+
 module _ (B : Board) (o : List ℕ) (f s : ℕ) where
   runs-stay : (k : ℕ) → getD (runsStay B o f s (firstOf B o f) (lastOf B o f) (firstOf B o s) (lastOf B o s)) k false ≡ true
       → Stay 1 ≡ runsSwapped B o f s
   unfolding runsSwapped
   runs-stay k e = stays (runsStay B o f s (firstOf B o f) (lastOf B o f) (firstOf B o s) (lastOf B o s)) 1 _ k e
 
-  pub runs-frozen : B .frozen f ≡ true → Stay 1 ≡ runsSwapped B o f s
-  runs-frozen e = runs-stay 0 e
+  pub runs-first-frozen : B .frozen f ≡ true → Stay 1 ≡ runsSwapped B o f s
+  runs-first-frozen e = runs-stay 0 e
 
-  pub runs-frozen-2 : B .frozen s ≡ true → Stay 1 ≡ runsSwapped B o f s
-  runs-frozen-2 e = runs-stay 1 e
+  pub runs-second-frozen : B .frozen s ≡ true → Stay 1 ≡ runsSwapped B o f s
+  runs-second-frozen e = runs-stay 1 e
 
   module _ (w v : ℕ) (ew : w ≡ ownerOf B o f) (ev : v ≡ ownerOf B o s) where
-    pub runs-unowned : w ≡ nobody → Stay 1 ≡ runsSwapped B o f s
-    runs-unowned e = runs-stay 2 (nobody-owns B o f w ew e)
+    pub runs-first-unowned : w ≡ nobody → Stay 1 ≡ runsSwapped B o f s
+    runs-first-unowned e = runs-stay 2 (nobody-owns B o f w ew e)
 
-    pub runs-unowned-2 : v ≡ nobody → Stay 1 ≡ runsSwapped B o f s
-    runs-unowned-2 e = runs-stay 3 (nobody-owns B o s v ev e)
+    pub runs-second-unowned : v ≡ nobody → Stay 1 ≡ runsSwapped B o f s
+    runs-second-unowned e = runs-stay 3 (nobody-owns B o s v ev e)
 
     pub runs-owner : w ≡ v → Stay 1 ≡ runsSwapped B o f s
     runs-owner e = runs-stay 5 (eq-eqb _ _ (sym ew ∙ e ∙ ev))
@@ -220,84 +221,58 @@ module _ (B : Board) (o : List ℕ) (f s : ℕ) where
       pub runs-same : a ≡ c → Stay 1 ≡ runsSwapped B o f s
       runs-same e = runs-stay 4 (eq-eqb _ _ (sym ea ∙ e ∙ ec))
 
-      abbrev mf : Bool
-      mf = allIn a (b + 1) (λ u. not (B .frozen u))
+      abbrev first-moves : Bool
+      first-moves = allIn a (b + 1) (λ u. not (B .frozen u))
 
-      abbrev ms : Bool
-      ms = allIn c (d + 1) (λ u. not (B .frozen u))
+      abbrev second-moves : Bool
+      second-moves = allIn c (d + 1) (λ u. not (B .frozen u))
 
-      abbrev cf : Bool
-      cf = allIn a (b + 1) (B .fits v)
+      abbrev first-fits : Bool
+      first-fits = allIn a (b + 1) (B .fits v)
 
-      abbrev cs : Bool
-      cs = allIn c (d + 1) (B .fits w)
+      abbrev second-fits : Bool
+      second-fits = allIn c (d + 1) (B .fits w)
 
-      is-mf : mf ≡ movable B (firstOf B o f) (lastOf B o f)
-      is-mf = movable-one B a b ∙ ap₂ (movable B) ea eb
+      first-moves-is : first-moves ≡ movable B (firstOf B o f) (lastOf B o f)
+      first-moves-is = movable-one B a b ∙ ap₂ (movable B) ea eb
 
-      is-ms : ms ≡ movable B (firstOf B o s) (lastOf B o s)
-      is-ms = movable-one B c d ∙ ap₂ (movable B) ec ed
+      second-moves-is : second-moves ≡ movable B (firstOf B o s) (lastOf B o s)
+      second-moves-is = movable-one B c d ∙ ap₂ (movable B) ec ed
 
-      is-cf : cf ≡ covers B (firstOf B o f) (lastOf B o f) (ownerOf B o s)
-      is-cf = covers-one B a b v ∙ ap₂ (λ (x y : ℕ). covers B x y v) ea eb ∙ ap (covers B (firstOf B o f) (lastOf B o f)) ev
+      first-fits-is : first-fits ≡ covers B (firstOf B o f) (lastOf B o f) (ownerOf B o s)
+      first-fits-is = covers-one B a b v ∙ ap₂ (λ (x y : ℕ). covers B x y v) ea eb ∙ ap (covers B (firstOf B o f) (lastOf B o f)) ev
 
-      is-cs : cs ≡ covers B (firstOf B o s) (lastOf B o s) (ownerOf B o f)
-      is-cs = covers-one B c d w ∙ ap₂ (λ (x y : ℕ). covers B x y w) ec ed ∙ ap (covers B (firstOf B o s) (lastOf B o s)) ew
+      second-fits-is : second-fits ≡ covers B (firstOf B o s) (lastOf B o s) (ownerOf B o f)
+      second-fits-is = covers-one B c d w ∙ ap₂ (λ (x y : ℕ). covers B x y w) ec ed ∙ ap (covers B (firstOf B o s) (lastOf B o s)) ew
 
-      some-fails : (p q r t : Bool) (X : Type 0) → p && (q && (r && t)) ≡ false → (p ≡ false → X) → (q ≡ false → X) → (r ≡ false →
-          X) → (t ≡ false → X) → X
-      some-fails false q r t X e g h i j = g refl
-      some-fails true false r t X e g h i j = h refl
-      some-fails true true false t X e g h i j = i refl
-      some-fails true true true t X e g h i j = j e
-
-      pub runs-unfit : mf && (ms && (cf && cs)) ≡ false → Stay 1 ≡ runsSwapped B o f s
+      pub runs-unfit : first-moves && (second-moves && (first-fits && second-fits)) ≡ false → Stay 1 ≡ runsSwapped B o f s
       runs-unfit e =
-          some-fails mf ms cf cs _ e
-          (λ x. runs-stay 6 (ap not (sym is-mf ∙ x)))
-          (λ x. runs-stay 7 (ap not (sym is-ms ∙ x)))
-          (λ x. runs-stay 8 (ap not (sym is-cf ∙ x)))
-          (λ x. runs-stay 9 (ap not (sym is-cs ∙ x)))
+          some-fails first-moves second-moves first-fits second-fits _ e
+          (λ x. runs-stay 6 (ap not (sym first-moves-is ∙ x)))
+          (λ x. runs-stay 7 (ap not (sym second-moves-is ∙ x)))
+          (λ x. runs-stay 8 (ap not (sym first-fits-is ∙ x)))
+          (λ x. runs-stay 9 (ap not (sym second-fits-is ∙ x)))
 
       pub runs-act : (m : Move) → B .frozen f ≡ false → B .frozen s ≡ false → (w ≡ nobody → ⊥) → (v ≡ nobody → ⊥) → (a ≡ c → ⊥) → (w
           ≡ v → ⊥)
-          → mf && (ms && (cf && cs)) ≡ true → m ≡ Trade (B .from a) (B .upto b) v (B .from c) (B .upto d) w → m ≡ runsSwapped B o f s
-      unfolding runsSwapped
+          → first-moves && (second-moves && (first-fits && second-fits)) ≡ true
+          → m ≡ Trade (B .from a) (B .upto b) v (B .from c) (B .upto d) w → m ≡ runsSwapped B o f s
+      unfolding runsSwapped anyOf
       runs-act m x y h i j k e t =
-          let z = Rattle.paper.proofs.Logic.four mf ms cf cs e in
-          goes (runsStay B o f s (firstOf B o f) (lastOf B o f) (firstOf B o s) (lastOf B o s)) 1 _ m (
+          let z = four first-moves second-moves first-fits second-fits e in
+          goes (runsStay B o f s (firstOf B o f) (lastOf B o f) (firstOf B o s) (lastOf B o s)) 1 _ m
+          (simp (
             x,
-            (
-              y,
-              (
-                somebody-owns B o f w ew h,
-                (
-                  somebody-owns B o s v ev i,
-                  (
-                    ne-eqb _ _ (λ q. j (ea ∙ q ∙ sym ec)),
-                    (
-                      ne-eqb _ _ (λ
-                          q. k (ew ∙ q ∙ sym ev)),
-                      (
-                        ap not (sym is-mf ∙ z .0),
-                        (
-                          ap not (sym is-ms ∙ z .1),
-                          (
-                            ap not (sym is-cf ∙ z .2),
-                            (
-                              ap not
-                                  (sym is-cs ∙ z .3),
-                              tt,
-                            ),
-                          ),
-                        ),
-                      ),
-                    ),
-                  ),
-                ),
-              ),
-            ),
-          )
+            y,
+            somebody-owns B o f w ew h,
+            somebody-owns B o s v ev i,
+            ne-eqb (firstOf B o f) (firstOf B o s) (λ q. j (ea ∙ q ∙ sym ec)),
+            ne-eqb (ownerOf B o f) (ownerOf B o s) (λ q. k (ew ∙ q ∙ sym ev)),
+            sym first-moves-is ∙ z .0,
+            sym second-moves-is ∙ z .1,
+            sym first-fits-is ∙ z .2,
+            sym second-fits-is ∙ z .3,
+          ))
           (t ∙ ap₂ (λ (p q : ℕ). Trade (B .from p) (B .upto q) v (B .from c) (B .upto d) w) ea eb
           ∙ ap₂ (λ (p q : ℕ). Trade (B .from (firstOf B o f)) (B .upto (lastOf B o f)) v (B .from p) (B .upto q) w) ec ed
           ∙ ap₂ (λ (p q : ℕ). Trade (B .from (firstOf B o f)) (B .upto (lastOf B o f)) p (B .from (firstOf B o s)) (B .upto (lastOf
@@ -323,8 +298,8 @@ module _ (B : Board) (w a : ℕ) where
 
   pub grow-acts : (m : Move) → (a ≡ 0 → ⊥) → B .frozen (a - 1) ≡ false → B .fits w (a - 1) ≡ true → m ≡ give B (a - 1) (a - 1) w → m
       ≡ grown B w a
-  unfolding grown
-  grow-acts m x y z e = goes grow-tests 1 _ m (ne-eqb a 0 x, (y, (ap not z, tt))) e
+  unfolding grown anyOf
+  grow-acts m x y z e = goes grow-tests 1 _ m (simp (ne-eqb a 0 x, y, z)) e
 
 module _ (B : Board) (o : List ℕ) (a b : ℕ) where
   abbrev shrink-tests : List Bool
@@ -349,10 +324,10 @@ module _ (B : Board) (o : List ℕ) (a b : ℕ) where
 
     pub shrink-acts : (m : Move) → (a ≡ 0 → ⊥) → (a ≡ b → ⊥) → (w ≡ nobody → ⊥) → B .frozen a ≡ false → B .fits w a ≡ true
         → m ≡ give B a a w → m ≡ shrunk B o a b
-    unfolding shrunk
+    unfolding shrunk anyOf
     shrink-acts m x y n z h e =
         goes shrink-tests 1 _ m
-        (ne-eqb a 0 x, (ne-eqb a b y, (somebody-owns B o (a - 1) w ew n, (z, (ap not (ap (λ (v : ℕ). B .fits v a) (sym ew) ∙ h), tt)))))
+        (simp (ne-eqb a 0 x, ne-eqb a b y, somebody-owns B o (a - 1) w ew n, z, ap (λ (v : ℕ). B .fits v a) (sym ew) ∙ h))
         (e ∙ ap (give B a a) ew)
 
   pub shrink-frozen : B .frozen a ≡ true → Stay 1 ≡ shrunk B o a b
@@ -375,83 +350,25 @@ module _ (B : Board) (o : List ℕ) (f s w : ℕ) (ew : w ≡ ownerOf B o f) whe
     shift-on : (m : Move) → m ≡ stayIf (ltb 1 s ∷ []) 2 (cond (eqb s 1) (grown B (ownerOf B o f) (firstOf B o f)) (shrunk B o
         (firstOf B o f) (lastOf B o f)))
         → m ≡ shifted B o f s
-    unfolding shifted
-    shift-on m e = goes shift-tests 1 _ m (x, (somebody-owns B o f w ew n, tt)) e
+    unfolding shifted anyOf
+    shift-on m e = goes shift-tests 1 _ m (simp (x, somebody-owns B o f w ew n)) e
 
     pub shift-beyond : 1 < s → Stay 2 ≡ shifted B o f s
     shift-beyond h = shift-on (Stay 2) (stays (ltb 1 s ∷ []) 2 _ 0 (lt-ltb 1 s h))
 
     module _ (m : Move) (a : ℕ) (l : s ≤ 1) (ea : a ≡ firstOf B o f) where
       pub shift-grows : s ≡ 1 → m ≡ grown B w a → m ≡ shifted B o f s
+      unfolding anyOf
       shift-grows q e =
           shift-on m
-          (goes (ltb 1 s ∷ []) 2 _ m (le-ltb 1 s l, tt)
+          (goes (ltb 1 s ∷ []) 2 _ m (simp (le-ltb 1 s l))
           (e ∙ ap₂ (grown B) ew ea ∙ sym (ap (λ (t : Bool). cond t (grown B (ownerOf B o f) (firstOf B o f)) (shrunk B o (firstOf B
           o f) (lastOf B o f))) (eq-eqb s 1 q))))
 
       pub shift-shrinks : (b : ℕ) → b ≡ lastOf B o f → (s ≡ 1 → ⊥) → m ≡ shrunk B o a b → m ≡ shifted B o f s
+      unfolding anyOf
       shift-shrinks b eb q e =
           shift-on m
-          (goes (ltb 1 s ∷ []) 2 _ m (le-ltb 1 s l, tt)
+          (goes (ltb 1 s ∷ []) 2 _ m (simp (le-ltb 1 s l))
           (e ∙ ap₂ (shrunk B o) ea eb ∙ sym (ap (λ (t : Bool). cond t (grown B (ownerOf B o f) (firstOf B o f)) (shrunk B o (firstOf
           B o f) (lastOf B o f))) (ne-eqb s 1 q))))
-
--- ---- a draw
-
-module _ (B : Board) (o : List ℕ) (k f s : ℕ) where
-  abbrev draw-tests : List Bool
-  draw-tests = leb 100 k ∷ leb (B .units) f ∷ []
-
-  pub draw-beyond : 100 ≤ k → Stay 2 ≡ decided B o (draw k f s)
-  unfolding decided
-  draw-beyond h = stays draw-tests 2 _ 0 (le-leb 100 k h)
-
-  pub draw-unit : B .units ≤ f → Stay 2 ≡ decided B o (draw k f s)
-  unfolding decided
-  draw-unit h = stays draw-tests 2 _ 1 (le-leb (B .units) f h)
-
-  module _ (m : Move) (hk : k < 100) (hf : f < B .units) where
-    draw-on : {x : Move} → m ≡ x → m ≡ stayIf draw-tests 2 x
-    draw-on {x} e = goes draw-tests 2 x m (lt-leb 100 k hk, (lt-leb (B .units) f hf, tt)) e
-
-    pub draw-reassign : k < 35 → m ≡ reassigned B o f s → m ≡ decided B o (draw k f s)
-    unfolding decided
-    draw-reassign a e = draw-on (let z : ltb k 35 ≡ true = lt-ltb k 35 a in simp z e)
-
-    module _ (a : 35 ≤ k) where
-      pub draw-swap : k < 60 → s < B .units → m ≡ swapped B o f s → m ≡ decided B o (draw k f s)
-      unfolding decided
-      draw-swap b h e =
-          draw-on (simp (le-ltb k 35 a, lt-ltb k 60 b) (goes (leb (B .units) s ∷ []) 2 _ m (lt-leb (B .units) s h, tt) e))
-
-      module _ (b : 60 ≤ k) where
-        pub draw-run : k < 75 → m ≡ runReassigned B o f s → m ≡ decided B o (draw k f s)
-        unfolding decided
-        draw-run c e = draw-on (simp (le-ltb k 35 a, le-ltb k 60 b, lt-ltb k 75 c) e)
-
-        module _ (c : 75 ≤ k) where
-          pub draw-runs : k < 90 → s < B .units → m ≡ runsSwapped B o f s → m ≡ decided B o (draw k f s)
-          unfolding decided
-          draw-runs d h e =
-              draw-on
-              (simp (le-ltb k 35 a, le-ltb k 60 b, le-ltb k 75 c, lt-ltb k 90 d)
-              (goes (leb (B .units) s ∷ []) 2 _ m (lt-leb (B .units) s h, tt) e))
-
-          pub draw-shift : 90 ≤ k → m ≡ shifted B o f s → m ≡ decided B o (draw k f s)
-          unfolding decided
-          draw-shift d e = draw-on (simp (le-ltb k 35 a, le-ltb k 60 b, le-ltb k 75 c, le-ltb k 90 d) e)
-
-  -- a swap that names a unit not below the count
-  module _ (hk : k < 100) (hf : f < B .units) (h : B .units ≤ s) where
-    pub draw-swap-unit : 35 ≤ k → k < 60 → Stay 2 ≡ decided B o (draw k f s)
-    unfolding decided
-    draw-swap-unit a b =
-        goes draw-tests 2 _ (Stay 2) (lt-leb 100 k hk, (lt-leb (B .units) f hf, tt))
-        (simp (le-ltb k 35 a, lt-ltb k 60 b) (stays (leb (B .units) s ∷ []) 2 _ 0 (le-leb (B .units) s h)))
-
-    pub draw-runs-unit : 75 ≤ k → k < 90 → Stay 2 ≡ decided B o (draw k f s)
-    unfolding decided
-    draw-runs-unit c d =
-        goes draw-tests 2 _ (Stay 2) (lt-leb 100 k hk, (lt-leb (B .units) f hf, tt))
-        (simp (le-ltb k 35 (omega arith), le-ltb k 60 (omega arith), le-ltb k 75 c, lt-ltb k 90 d)
-        (stays (leb (B .units) s ∷ []) 2 _ 0 (le-leb (B .units) s h)))

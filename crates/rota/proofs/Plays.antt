@@ -57,14 +57,9 @@ play-length B o (d ∷ ds) = play-length B (step B o d) ds ∙ act-length (decid
 
 module _ (B : Board) (T : BoardSound B) where
   -- units stay even, and each owner fits
-  pub step-even : (o : List ℕ) (d : Draw) → Even B o → Even B (step B o d)
+  step-even : (o : List ℕ) (d : Draw) → Even B o → Even B (step B o d)
   unfolding step
   step-even o d E = act-even B T (handed B o d) o E (decided B o d) (decided-lawful B o d E)
-
-  pub play-even : (o : List ℕ) (ds : List Draw) → Even B o → Even B (ownersAfter B o ds)
-  unfolding ownersAfter
-  play-even o [] E = E
-  play-even o (d ∷ ds) E = play-even (step B o d) ds (step-even o d E)
 
   -- what every draw keeps a play keeps
   play-keeps : (Q : List ℕ → Type 0) → ((o : List ℕ) (d : Draw) → Even B o → Q o → Q (step B o d)) → (o : List ℕ) (ds : List Draw)
@@ -72,6 +67,9 @@ module _ (B : Board) (T : BoardSound B) where
   unfolding ownersAfter
   play-keeps Q f o [] E q = q
   play-keeps Q f o (d ∷ ds) E q = play-keeps Q f (step B o d) ds (step-even o d E) (f o d E q)
+
+  pub play-even : (o : List ℕ) (ds : List Draw) → Even B o → Even B (ownersAfter B o ds)
+  play-even o ds E = play-keeps (Even B) (λ l d e _. step-even l d e) o ds E E
 
   play-owner : (k : ℕ) → ((o : List ℕ) (d : Draw) → Even B o → getD (step B o d) k 0 ≡ getD o k 0) → (o : List ℕ) (ds : List Draw)
       → Even B o → getD (ownersAfter B o ds) k 0 ≡ getD o k 0

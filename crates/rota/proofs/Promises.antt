@@ -1,5 +1,5 @@
 -- What the rota promises, each by name: of lent slots, units, availability and flags, and of a play of any length. Assumes nothing.
-use mathlib.Core.Path.{_≡_, refl, sym, ap, ap₂, _∙_, subst}
+use mathlib.Core.Path.{_≡_, sym, ap, ap₂, _∙_, subst}
 use mathlib.Core.Bool.{Bool, true, false, not, _&&_, _||_}
 use mathlib.Core.List.{List, [], _∷_, _++_, append-assoc, append-nil}
 use Prim.Native.Nat.{ℕ, zero, suc, _+_, _-_, _*_, _≤_, _<_}
@@ -8,8 +8,8 @@ use borrow.Author.Tests.{lt-ltb, le-leb, eqb-true, eqb-false}
 use lib.Dec.{eqb, ltb, leb}
 use lib.ListN.{length, getD, set, drop, length-set}
 use lib.Seq.{getD-drop, getD-set-same, getD-set-other, getD-append-seam, getD-append-add}
-use Rattle.paper.specs.Limits.{nobody, countsOk}
-use Rattle.paper.specs.Count.{sum, all, allIn, onto}
+use Rattle.paper.specs.Limits.{nobody, orElse, countsOk}
+use Rattle.paper.specs.Count.{sum, allIn, onto}
 use Rattle.paper.proofs.Logic.{by-test, both, five, and-true, cond-zero}
 use Rattle.paper.proofs.Count.{in-each, each-all, sum-same, getD-over-out}
 use Rattle.slotset.specs.Slots.{slot}
@@ -32,10 +32,10 @@ use Rattle.rota.proofs.Plays.{answers-append, answers-length, draws-len
 use Rattle.rota.proofs.Steps.{afresh-same, afresh-again, afresh-step, afresh-lengths}
 use Rattle.rota.proofs.Sets.{Beside, sets-out}
 use Rattle.rota.proofs.Entered.{Recounted, recount-says, says-recount, recount-step, PlayAsks, asks-sound, asks-even}
-use Rattle.rota.proofs.Entered.{Grounds, grounds, ground-all}
+use Rattle.rota.proofs.Entered.{Grounds, ground-all}
 use Rattle.rota.proofs.Drawn.{draw-acts-exactly}
 use Rattle.rota.proofs.HandsOver.{draw-hands-over}
-use Rattle.rota.proofs.Asked.{Asks}
+use Rattle.rota.proofs.Asked.{Asks, slots-asks}
 
 -- ---- a play that is accepted
 
@@ -53,10 +53,7 @@ module _ (P : Plan) (avail : List ℕ) (units : ℕ) (firsts frozen : List ℕ) 
   even : Even B o
   even = asks-even P avail units firsts frozen n ks fs ss o D x A
 
-  -- the unit of a slot
-  unit : ℕ → ℕ
-  unit k = unitOf units firsts k
-
+  -- a slot lies in its unit
   in-unit : (k : ℕ) → k < P .slots → InUnit B (unitOf units firsts k) k
   in-unit k h =
       let I = unit-of-in (P .slots) units firsts (A .grounds .units-ok) k h in
@@ -146,7 +143,7 @@ module _ (P : Plan) (avail : List ℕ) (units : ℕ) (firsts frozen : List ℕ) 
       says-recount P avail units firsts after (afresh P after D)
       record {
         known = owners-known;
-        free = owners-available;
+        available = owners-available;
         even = λ u k h a b. after-even .same u k record { below = h; from = a; upto = b };
         sets = J .sets;
         minutes = J .minutes;
@@ -191,7 +188,7 @@ recount-slots-too P avail units firsts o D e =
       says-recount P avail 0 [] o D
           record {
             known = c .known;
-            free = c .free;
+            available = c .available;
             even = λ u j h a b. absurd (omega arith);
             sets = c .sets;
             minutes = c .minutes;
@@ -200,17 +197,15 @@ recount-slots-too P avail units firsts o D e =
 
 module _ (P : Plan) (avail o : List ℕ) (D : Derived) (e : recountSlotsNo P avail o D ≡ 0) where
   tests : (countsOk (P .people) (P .slots) ≡ true) × (roomOk P avail o D ≡ true)
-      × (slotsOk (P .slots) (P .starts) (P .ends) ≡ true) × (recounts P avail 0 [] o D ≡ true)
+      × (slotsOk (P .slots) (P .starts) (P .ends) ≡ true) × (orElse (recounts P avail 0 [] o D) 10 0 ≡ 0)
   unfolding recountSlotsNo
-  tests =
-      let y = ground-all (countsOk (P .people) (P .slots)) (roomOk P avail o D) (slotsOk (P .slots) (P .starts) (P .ends)) _ e in
-      (y .0, y .1, y .2, cond-zero (recounts P avail 0 [] o D) 0 9 (y .3) .0)
+  tests = ground-all (countsOk (P .people) (P .slots)) (roomOk P avail o D) (slotsOk (P .slots) (P .starts) (P .ends)) _ e
 
   on : Grounds P avail o D
-  on = grounds P avail o D (tests .0) (tests .1) (tests .2)
+  on = slots-asks P avail o D e .0
 
   right : Recounted P avail 0 [] o D
-  right = recount-says P avail 0 [] o D (tests .3)
+  right = slots-asks P avail o D e .1
 
   module _ (E : Derived) (rs : 16 * P .people ≤ length (E .sets)) (rm : P .people ≤ length (E .minutes)) where
     room-there : roomOk P avail o E ≡ true
@@ -228,7 +223,7 @@ module _ (P : Plan) (avail o : List ℕ) (D : Derived) (e : recountSlotsNo P ava
           room-there,
           tests .2,
           each-all (P .slots) (knownAt (P .people) o) (right .known),
-          each-all (P .slots) (availableAt avail o) (right .free),
+          each-all (P .slots) (availableAt avail o) (right .available),
         )
 
     -- whatever columns are lent, it is accepted and leaves what is worked out afresh
@@ -281,8 +276,8 @@ module _ (P : Plan) (avail o : List ℕ) (D : Derived) (k w : ℕ) (A : Asks P a
       says-recount P avail 0 [] (set o k w) (afresh P (set o k w) D)
       record {
         known = set-known;
-        free = λ j h.
-            set-at j h (λ v. availableFor avail v j ≡ true) (λ q. ap (availableFor avail w) q ∙ A .free) (A .recount .free j h);
+        available = λ j h.
+            set-at j h (λ v. availableFor avail v j ≡ true) (λ q. ap (availableFor avail w) q ∙ A .available) (A .recount .available j h);
         even = λ u j h a b. absurd (omega arith);
         sets = J .sets;
         minutes = J .minutes;

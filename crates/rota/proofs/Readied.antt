@@ -1,7 +1,7 @@
 -- What is worked out once a call is what the definitions say: masks of people, marks of frozen units, the board. Assumes nothing.
 use mathlib.Core.Path.{_≡_, refl, sym, ap, ap₂, _∙_, fun-ext}
 use mathlib.Core.Logic.{⊎-elim}
-use mathlib.Core.Bool.{Bool, true, false, cond, not, _&&_, _||_}
+use mathlib.Core.Bool.{Bool, true, false, cond, not, _&&_}
 use mathlib.Core.List.{List}
 use Prim.Native.Nat.{ℕ, _+_, _≤_, _<_}
 use native.Mathlib.Omega.{arith}
@@ -13,51 +13,21 @@ use Rattle.paper.proofs.Bits.{bit-none}
 use Rattle.paper.proofs.Logic.{by-test, lt-or-ge}
 use Rattle.units.specs.Units.{unitStart, unitEnd, unitsOk, unitOf}
 use Rattle.units.specs.Domains.{able, clear, clearIn, unitFrozen, inMask, unitDomainsNo, unitDomainsIs}
+use Rattle.units.proofs.Units.{unit-some, units-apart, unit-within, unit-of-in}
 use Rattle.units.proofs.Sets.{clear-known}
 use Rattle.units.proofs.Means.{masks-at, masks-past}
-use Rattle.rota.specs.Board.{Board, BoardSound}
+use Rattle.rota.specs.Board.{Board, boardWith, BoardSound}
 use Rattle.rota.specs.Ready.{ready, fitsBy, frozenBy}
 use Rattle.rota.specs.Lent.{fitsUnit, frozenUnit, boardOf, markOf, FitsRight, FrozenRight}
 
 -- ---- one entry for each unit
 
-zero-at : (n u : ℕ) → _≡_ {A = ℕ} (getD (replicate n 0) u 0) 0
+-- a column of zeros
+pub zero-at : (n u : ℕ) → _≡_ {A = ℕ} (getD (replicate n 0) u 0) 0
 zero-at n u =
     ⊎-elim (λ (h : u < n). getD-replicate n u 0 0 h)
     (λ (h : n ≤ u). List·getD-eq-default {A = ℕ} (replicate n 0) 0 {n = u} (omega (arith, length-replicate {A = ℕ} n 0)))
     (lt-or-ge u n)
-
--- below one more
-below-more : (p i : ℕ) → ltb p (i + 1) ≡ ltb p i || eqb p i
-below-more p i =
-    ⊎-elim (λ (h : p < i). lt-ltb p (i + 1) (omega arith) ∙ sym (ap (λ (b : Bool). b || eqb p i) (lt-ltb p i h)))
-    (λ (h : i ≤ p).
-    by-test (eqb p i) _
-    (λ t. let q = eqb-true p i t in lt-ltb p (i + 1) (omega arith) ∙ sym (ap₂ _||_ (le-ltb p i h) t))
-    (λ f. le-ltb p (i + 1) (above p i h (eqb-false p i f)) ∙ sym (ap₂ _||_ (le-ltb p i h) f)))
-    (lt-or-ge p i)
-  where
-    above : (p i : ℕ) → i ≤ p → (p ≡ i → ⊥) → i + 1 ≤ p
-    above p i h n = ⊎-elim (λ (l : i < p). omega arith) (λ (l : p ≤ i). absurd (n (omega arith))) (lt-or-ge i p)
-
--- a column that is made entry by entry: r reads from entry u what g says of unit u, and no from those that are not made yet
-module _ (r g : ℕ → Bool) where
-  abbrev ReadTo : ℕ → List ℕ → Type 0
-  ReadTo i column = (u : ℕ) → r (getD column u 0) ≡ ltb u i && g u
-
-  read-none : (n : ℕ) → r 0 ≡ false → ReadTo 0 (replicate n 0)
-  read-none n z u = ap r (zero-at n u) ∙ z ∙ sym (ap (λ (b : Bool). b && g u) (le-ltb u 0 (omega arith)))
-
-  read-more : (i v : ℕ) (column : List ℕ) → i < length column → r v ≡ g i → ReadTo i column → ReadTo (i + 1) (set column i v)
-  read-more i v column h e F u =
-      by-test (eqb u i) _
-      (λ t.
-      let q = eqb-true u i t in
-      ap r (ap (λ (j : ℕ). getD (set column i v) j 0) q ∙ getD-set-same column i v 0 h) ∙ e ∙ ap g (sym q)
-      ∙ sym (ap (λ (b : Bool). b && g u) (lt-ltb u (i + 1) (omega arith))))
-      (λ f.
-      ap r (getD-set-other column i u v 0 (eqb-false u i f)) ∙ F u
-      ∙ ap (λ (b : Bool). b && g u) (sym (below-more u i ∙ ap (λ (x : Bool). ltb u i || x) f ∙ mathlib.Core.Bool.or-false (ltb u i))))
 
 -- the masks of everybody's domains, written over zeros
 pub fits-right : (people slots units : ℕ) (avail firsts fits : List ℕ) (n : ℕ) → units ≤ length (replicate {A = ℕ} n 0)
@@ -82,13 +52,24 @@ fits-right people slots units avail firsts fits n h z e =
           (lt-or-ge u units);
     }
 
+-- a number that isn't i is below i + 1 exactly when it is below i
+below-same : (u i : ℕ) → (u ≡ i → ⊥) → ltb u (i + 1) ≡ ltb u i
+below-same u i n =
+    ⊎-elim (λ (h : u < i). lt-ltb u (i + 1) (omega arith) ∙ sym (lt-ltb u i h))
+    (λ (h : i ≤ u). le-ltb u (i + 1) (omega arith) ∙ sym (le-ltb u i h))
+    (lt-or-ge u i)
+
 module _ (slots units : ℕ) (firsts frozen : List ℕ) where
+  abbrev isFrozen : ℕ → Bool
+  isFrozen u = unitFrozen frozen slots units firsts u
+
+  -- the marks of the units below i are made; the others are none yet
   abbrev MarksTo : ℕ → List ℕ → Type 0
   MarksTo i flags = (u : ℕ) → frozenBy flags u ≡ ltb u i && unitFrozen frozen slots units firsts u
 
   pub marks-none : (n : ℕ) → MarksTo 0 (replicate n 0)
   unfolding frozenBy
-  marks-none n = read-none (λ m. eqb m 1) (unitFrozen frozen slots units firsts) n refl
+  marks-none n u = ap (λ (m : ℕ). eqb m 1) (zero-at n u) ∙ sym (ap (λ (b : Bool). b && isFrozen u) (le-ltb u 0 (omega arith)))
 
   mark-says : (c : Bool) → eqb (cond c 0 1) 1 ≡ not c
   mark-says true = refl
@@ -97,23 +78,26 @@ module _ (slots units : ℕ) (firsts frozen : List ℕ) where
   pub marks-more : (i a e m : ℕ) (flags : List ℕ) → i < length flags → a ≡ unitStart firsts i → e ≡ unitEnd slots units firsts i
       → m ≡ markOf frozen a e → MarksTo i flags → MarksTo (i + 1) (set flags i m)
   unfolding frozenBy markOf unitFrozen
-  marks-more i a e m flags h pa pe d F =
-      read-more (λ x. eqb x 1) (unitFrozen frozen slots units firsts) i m flags h
-      (ap (λ (x : ℕ). eqb x 1) d ∙ mark-says (clear frozen a e) ∙ ap not (ap₂ (clear frozen) pa pe)) F
+  marks-more i a e m flags h pa pe d F u =
+      by-test (eqb u i) _
+      (λ t.
+      let q = eqb-true u i t in
+      ap (λ (x : ℕ). eqb x 1) (ap (λ (j : ℕ). getD (set flags i m) j 0) q ∙ getD-set-same flags i m 0 h ∙ d)
+      ∙ mark-says (clear frozen a e) ∙ ap not (ap₂ (clear frozen) pa pe) ∙ ap isFrozen (sym q)
+      ∙ sym (ap (λ (b : Bool). b && isFrozen u) (lt-ltb u (i + 1) (omega arith))))
+      (λ f.
+      let n = eqb-false u i f in
+      ap (λ (x : ℕ). eqb x 1) (getD-set-other flags i u m 0 n) ∙ F u ∙ ap (λ (b : Bool). b && isFrozen u) (sym (below-same u i n)))
 
   pub marks-done : (flags : List ℕ) (i : ℕ) → i ≡ units → MarksTo i flags → FrozenRight slots units firsts frozen flags
   unfolding frozenUnit
   marks-done flags i q F = record { each = λ u. F u ∙ ap (λ (n : ℕ). ltb u n && unitFrozen frozen slots units firsts u) q }
 
-pub mark-clear : (frozen : List ℕ) (a e : ℕ) (b : Bool) → e ≤ 1024 → 16 ≤ length frozen → b ≡ clearIn frozen a e → b ≡ true
-    → 0 ≡ markOf frozen a e
+-- the mark of a unit, by whether its slots are clear
+pub mark-by : (frozen : List ℕ) (a e : ℕ) (b c : Bool) → e ≤ 1024 → 16 ≤ length frozen → b ≡ clearIn frozen a e → b ≡ c
+    → cond c 0 1 ≡ markOf frozen a e
 unfolding markOf
-mark-clear frozen a e b l room d t = sym (ap (λ (x : Bool). cond x 0 1) (sym (clear-known frozen a e room l) ∙ sym d ∙ t))
-
-pub mark-set : (frozen : List ℕ) (a e : ℕ) (b : Bool) → e ≤ 1024 → 16 ≤ length frozen → b ≡ clearIn frozen a e → b ≡ false
-    → 1 ≡ markOf frozen a e
-unfolding markOf
-mark-set frozen a e b l room d t = sym (ap (λ (x : Bool). cond x 0 1) (sym (clear-known frozen a e room l) ∙ sym d ∙ t))
+mark-by frozen a e b c l room d t = sym (ap (λ (x : Bool). cond x 0 1) (sym (clear-known frozen a e room l) ∙ sym d ∙ t))
 
 -- ---- the board
 
@@ -121,16 +105,7 @@ pub board-is : (people slots units : ℕ) (avail firsts frozen fits flags : List
     → FrozenRight slots units firsts frozen flags → ready people slots units firsts fits flags ≡ boardOf people slots units avail firsts
     frozen
 board-is people slots units avail firsts frozen fits flags F Z =
-    ap₂ {C = Board} (λ (f : ℕ → ℕ → Bool) (z : ℕ → Bool).
-    record {
-      people = people;
-      slots = slots;
-      units = units;
-      from = unitStart firsts;
-      upto = unitEnd slots units firsts;
-      fits = f;
-      frozen = z;
-    })
+    ap₂ {C = Board} (boardWith people slots units firsts)
     (fun-ext (λ p. fun-ext (λ u. F .each p u))) (fun-ext (λ u. Z .each u))
 
 -- what the check of the units leaves known
@@ -139,14 +114,8 @@ pub board-sound : (people slots units : ℕ) (avail firsts frozen : List ℕ) �
 board-sound people slots units avail firsts frozen few ok =
     record {
       few = few;
-      rising = λ u h. Rattle.units.proofs.Units.unit-some slots units firsts ok u h;
-      apart = λ u v l h. Rattle.units.proofs.Units.units-apart slots units firsts ok u v l h;
-      within = λ u h. Rattle.units.proofs.Units.unit-within slots units firsts ok u h;
-      whole = λ k h. let I = Rattle.units.proofs.Units.unit-of-in slots units firsts ok k h in (
-        unitOf units firsts k,
-        I .known,
-        I
-            .from,
-        I .to,
-      );
+      rising = unit-some slots units firsts ok;
+      apart = units-apart slots units firsts ok;
+      within = unit-within slots units firsts ok;
+      whole = λ k h. let I = unit-of-in slots units firsts ok k h in (unitOf units firsts k, I .known, I .from, I .to);
     }

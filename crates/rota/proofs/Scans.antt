@@ -6,10 +6,10 @@ use mathlib.Core.Logic.{⊎-elim}
 use Prim.Native.Nat.{ℕ, zero, suc, _+_, _*_, _≤_, _<_}
 use native.Mathlib.Nat.{le-antisymm}
 use native.Mathlib.Omega.{arith}
-use borrow.Author.Tests.{eq-eqb, ne-eqb, lt-ltb, le-ltb, le-leb}
+use borrow.Author.Tests.{eq-eqb, ne-eqb, lt-ltb, le-ltb}
 use lib.Dec.{eqb, ltb}
 use lib.ListN.{length, getD}
-use Rattle.paper.specs.Limits.{nobody, peopleOk}
+use Rattle.paper.specs.Limits.{nobody}
 use Rattle.paper.specs.Count.{all, allIn, sum}
 use Rattle.paper.proofs.Logic.{by-test, lt-or-ge, below-suc, both}
 use Rattle.paper.proofs.Count.{all-each, each-all, all-fails, sum-more}
@@ -17,13 +17,13 @@ use Rattle.slotset.specs.Slots.{slot, has}
 use Rattle.slotset.specs.Answers.{rowNo, toldAs, rowSlots}
 use Rattle.slotset.specs.declared.Told.{Told}
 use Rattle.slotset.specs.declared.Told.the-variants as told
+use Rattle.slotset.proofs.Puts.{slot-lt}
 use Rattle.slots.specs.Lent.{minutesAt}
 use Rattle.units.specs.Units.{unitStart, unitEnd}
 use Rattle.units.specs.Domains.{available}
 use Rattle.units.proofs.Sets.{row-ok}
-use Rattle.rota.specs.Derived.{Plan, PlanSound, knownBy, portion, worked, held, lengthAt}
-use Rattle.rota.specs.Recount.{firstFail, FirstFault, availableFor, knownAt, availableAt, evenAt, setSlotAt, setAt, sameBit}
-use Rattle.rota.specs.Recount.{minutesOkAt}
+use Rattle.rota.specs.Derived.{Plan, PlanSound, portion, held, lengthAt}
+use Rattle.rota.specs.Recount.{firstFail, FirstFault, availableFor, evenAt, setSlotAt, setAt, sameBit}
 use Rattle.rota.proofs.Minutes.{worked-part-le}
 
 -- ---- the first fault
@@ -99,6 +99,15 @@ scan-ends n i p h g a = sym (fails-none n p (ap (λ (m : ℕ). all m p) (le-anti
 
 -- ---- one row of a set
 
+abbrev isYes : Told → Bool
+isYes told.Yes = true
+isYes told.No = false
+isYes (told.Refused n) = false
+
+yes-or-no : (b : Bool) → isYes (cond b told.Yes told.No) ≡ b
+yes-or-no true = refl
+yes-or-no false = refl
+
 has-says : (f : ℕ → ℕ) (len k : ℕ) → k < len → has f len k ≡ eqb (f k) 1
 unfolding has
 has-says f len k h = ap (λ (b : Bool). b && eqb (f k) 1) (lt-ltb k len h)
@@ -113,33 +122,11 @@ module _ (ws : List ℕ) (people person len k : ℕ) (h : person < people) (few 
       (ap (λ (b : Bool). cond b told.Yes told.No) (has-says (rowSlots ws person) len k hk))
 
   module _ (r : Told) (e : r ≡ toldAs (rowNo ws people person len) (has (rowSlots ws person) len k)) where
-    row-by : (b : Bool) → eqb (slot ws (16 * person) k) 1 ≡ b → r ≡ cond b told.Yes told.No
-    row-by b q = e ∙ told-says ∙ ap (λ (t : Bool). cond t told.Yes told.No) q
-
-    pub row-yes : r ≡ told.Yes → true ≡ eqb (slot ws (16 * person) k) 1
-    row-yes q =
-        by-test (eqb (slot ws (16 * person) k) 1) _ (λ t. sym t)
-        (λ f. let z : _≡_ {A = ℕ} 0 1 = cc (row-by false f) in absurd (omega arith))
-
-    pub row-no : r ≡ told.No → false ≡ eqb (slot ws (16 * person) k) 1
-    row-no q =
-        by-test (eqb (slot ws (16 * person) k) 1) _ (λ t. let z : _≡_ {A = ℕ} 0 1 = cc (row-by true t) in absurd (omega arith))
-        (λ f. sym f)
-
-    pub row-refused : (n : ℕ) → r ≡ told.Refused n → false ≡ eqb (slot ws (16 * person) k) 1
-    row-refused n q =
-        by-test (eqb (slot ws (16 * person) k) 1) _ (λ t. let z : _≡_ {A = ℕ} 0 1 = cc (row-by true t) in absurd (omega arith))
-        (λ f. sym f)
+    -- whatever was told, it says whether the slot is in the set
+    pub row-says : (t : Told) → r ≡ t → isYes t ≡ eqb (slot ws (16 * person) k) 1
+    row-says t q = ap isYes (sym q ∙ e ∙ told-says) ∙ yes-or-no (eqb (slot ws (16 * person) k) 1)
 
 -- ---- the tests of the scans
-
-pub known-test : (people : ℕ) (o : List ℕ) (k : ℕ) (b : Bool) → b ≡ knownBy people (getD o k 0) → knownAt people o k ≡ b
-unfolding knownAt
-known-test people o k b e = sym e
-
-pub available-test : (avail o : List ℕ) (k : ℕ) (b : Bool) → b ≡ availableFor avail (getD o k 0) k → availableAt avail o k ≡ b
-unfolding availableAt
-available-test avail o k b e = sym e
 
 pub available-nobody : (avail : List ℕ) (w k : ℕ) → w ≡ nobody → true ≡ availableFor avail w k
 unfolding availableFor
@@ -153,17 +140,11 @@ available-person avail w k b n e = simp (ne-eqb w nobody n) e
 -- all of a stretch has the owner of its first slot
 module _ (slots units : ℕ) (firsts o : List ℕ) (u a e w : ℕ) (pa : a ≡ unitStart firsts u) (pe : e ≡ unitEnd slots units firsts u)
     (pw : w ≡ getD o a 0) where
-  even-as : evenAt slots units firsts o u ≡ allIn a e (λ k. eqb (getD o k 0) w)
+  pub even-as : allIn a e (λ k. eqb (getD o k 0) w) ≡ evenAt slots units firsts o u
   unfolding evenAt
   even-as =
-      ap₂ (λ (x y : ℕ). allIn x y (λ k. eqb (getD o k 0) (getD o x 0))) (sym pa) (sym pe)
-      ∙ ap (λ (v : ℕ). allIn a e (λ k. eqb (getD o k 0) v)) (sym pw)
-
-  pub even-fails : false ≡ allIn a e (λ k. eqb (getD o k 0) w) → false ≡ evenAt slots units firsts o u
-  even-fails q = q ∙ sym even-as
-
-  pub even-holds : true ≡ allIn a e (λ k. eqb (getD o k 0) w) → true ≡ evenAt slots units firsts o u
-  even-holds q = q ∙ sym even-as
+      ap (λ (v : ℕ). allIn a e (λ k. eqb (getD o k 0) v)) pw
+      ∙ ap₂ (λ (x y : ℕ). allIn x y (λ k. eqb (getD o k 0) (getD o x 0))) pa pe
 
 -- slot k of a set, by the owner and by whether it is there
 bit-eq : (x : ℕ) (c : Bool) → x < 2 → eqb x (cond c 1 0) ≡ sameBit (eqb x 1) c
@@ -177,7 +158,7 @@ pub member-test : (o ws : List ℕ) (p k : ℕ) (b there : Bool) → there ≡ e
     → setSlotAt o ws p k ≡ b
 unfolding setSlotAt held
 member-test o ws p k b there e q =
-    bit-eq (slot ws (16 * p) k) (eqb (getD o k 0) p) (Rattle.slotset.proofs.Puts.slot-lt ws (16 * p) k)
+    bit-eq (slot ws (16 * p) k) (eqb (getD o k 0) p) (slot-lt ws (16 * p) k)
     ∙ ap (λ (t : Bool). sameBit t (eqb (getD o k 0) p)) (sym e) ∙ sym q
 
 pub set-passes : (slots : ℕ) (o ws : List ℕ) (p r : ℕ) → r ≡ firstFail slots (setSlotAt o ws p) → r ≡ slots → setAt slots o ws p ≡ true
@@ -198,11 +179,3 @@ module _ (P : Plan) (o : List ℕ) (p k t r m : ℕ) (e : t ≡ sum k (λ j. por
 
   pub worked-fits : PlanSound P → k < P .slots → t + r ≤ 100000000
   worked-fits S h = omega (arith, worked-more, worked-part-le P o p (k + 1) (omega arith), S .lent .demand-fits)
-
-pub minutes-test : (P : Plan) (o m : List ℕ) (p r : ℕ) → r ≡ worked P o p → getD m p 0 ≡ r → minutesOkAt P o m p ≡ true
-unfolding minutesOkAt
-minutes-test P o m p r e q = eq-eqb _ _ (q ∙ e)
-
-pub minutes-fail : (P : Plan) (o m : List ℕ) (p r : ℕ) → r ≡ worked P o p → (getD m p 0 ≡ r → ⊥) → minutesOkAt P o m p ≡ false
-unfolding minutesOkAt
-minutes-fail P o m p r e n = ne-eqb _ _ (λ q. n (q ∙ sym e))

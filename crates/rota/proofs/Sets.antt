@@ -190,6 +190,9 @@ module _ (n slots a e old w : ℕ) (o ws : List ℕ) (few : slots ≤ 1024) (le 
   inner : (p k : ℕ) → p < n → k < slots → slot more (16 * p) k ≡ held (fill w a (e - a) o) p k
   inner p k h g =
       ⊎-elim
+      (λ (x : k < a).
+      stays p k (omega arith) (λ _ u v. omega arith) (λ _ u v. omega arith) ∙ right p k h g
+      ∙ held-same o (fill w a (e - a) o) p k (sym (getD-fill-out w a (e - a) o k (λ u v. omega arith))))
       (λ (x : a ≤ k).
       ⊎-elim
       (λ (y : k < e).
@@ -218,13 +221,7 @@ module _ (n slots a e old w : ℕ) (o ws : List ℕ) (few : slots ≤ 1024) (le 
       stays p k (omega arith) (λ _ u v. omega arith) (λ _ u v. omega arith) ∙ right p k h g
       ∙ held-same o (fill w a (e - a) o) p k (sym (getD-fill-out w a (e - a) o k (λ u v. omega arith))))
       (lt-or-ge k e))
-      (λ (x : k < a).
-      stays p k (omega arith) (λ _ u v. omega arith) (λ _ u v. omega arith) ∙ right p k h g
-      ∙ held-same o (fill w a (e - a) o) p k (sym (getD-fill-out w a (e - a) o k (λ u v. omega arith))))
-      (swap (lt-or-ge k a))
-    where
-      swap : {A B : Type 0} → mathlib.Core.Logic._⊎_ A B → mathlib.Core.Logic._⊎_ B A
-      swap z = ⊎-elim mathlib.Core.Logic.inr mathlib.Core.Logic.inl z
+      (lt-or-ge k a)
 
   pub sets-handed : more ≡ setsFrom n slots (fill w a (e - a) o) ws
   sets-handed =

@@ -22,7 +22,7 @@ use Rattle.rota.proofs.Minutes.{known-person}
 use Rattle.rota.proofs.Lawful.{Stretch, Traded, Lawful, decided-lawful}
 use Rattle.rota.proofs.Kept.{upto-rises, outside}
 use Rattle.rota.proofs.Plays.{play-length, play-even, owners-append, answers-append, answers-length, draws-length}
-use Rattle.rota.proofs.Steps.{afresh-again, afresh-same, afresh-lengths}
+use Rattle.rota.proofs.Steps.{afresh-again, afresh-same, lengths-kept}
 
 -- ---- a lawful stretch has one owner
 
@@ -84,9 +84,6 @@ module _ (B : Board) (T : BoardSound B) (o : List ℕ) (E : Even B o) (H : ℕ �
           each = λ k x y. second-in k x y ∙ O .each k x y ∙ sym (second-in c (omega arith) (O .some));
         }
 
-    pub second-known : knownBy (B .people) q ≡ true
-    second-known = stretch-known c g q (X .right)
-
     pub second-after : (l : List ℕ) → l ≡ fill p a (e - a) o → OneOwner l (B .slots) c g
     second-after l z = subst (λ (x : List ℕ). OneOwner x (B .slots) c g) (sym z) second-one
 
@@ -94,11 +91,8 @@ module _ (B : Board) (T : BoardSound B) (o : List ℕ) (E : Even B o) (H : ℕ �
 pub over-lengths : (P : Plan) (o : List ℕ) (D : Derived) (a e w : ℕ) (o′ : List ℕ) (D′ : Derived) → HandedOver P o D a e w o′ D′
     → (length o′ ≡ length o) × (length (D′ .sets) ≡ length (D .sets)) × (length (D′ .minutes) ≡ length (D .minutes))
 over-lengths P o D a e w o′ D′ O =
-    let y = afresh-lengths P o′ D in (
-      ap length (O .owners) ∙ length-fill w a (e - a) o,
-      ap (λ (d : Derived). length (d .sets)) (O .derived) ∙ y .0,
-      ap (λ (d : Derived). length (d .minutes)) (O .derived) ∙ y .1,
-    )
+    let y = lengths-kept P o′ D D′ (O .derived) in
+    (ap length (O .owners) ∙ length-fill w a (e - a) o, y .0, y .1)
 
 -- ---- one draw
 
@@ -160,9 +154,7 @@ module _ (P : Plan) (B : Board) (o : List ℕ) (D : Derived) (x ks fs ss : List 
   ran-answers h = ap length (R .answers) ∙ length-onto (answers B o (drawsOf ks fs ss i)) x (omega (arith, answers-so-far))
 
   pub ran-lengths : (length (D′ .sets) ≡ length (D .sets)) × (length (D′ .minutes) ≡ length (D .minutes))
-  ran-lengths =
-      let y = afresh-lengths P o′ D in
-      (ap (λ (d : Derived). length (d .sets)) (R .derived) ∙ y .0, ap (λ (d : Derived). length (d .minutes)) (R .derived) ∙ y .1)
+  ran-lengths = lengths-kept P o′ D D′ (R .derived)
 
   pub ran-more : (b : ℕ) (o″ : List ℕ) (D″ : Derived) → P .slots ≤ 1024 → 16 * P .people ≤ length (D .sets) → Fit (D .sets) → i < length x
       → Stepped P B o′ D′ (draw (getD ks i 0) (getD fs i 0) (getD ss i 0)) b o″ D″ → Ran P B o D x (drawsOf ks fs ss (i + 1)) o″ D″

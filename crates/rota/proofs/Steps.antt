@@ -1,26 +1,25 @@
 -- A rota stays in step: worked out afresh, and when a stretch of slots changes hands. Assumes nothing.
 use mathlib.Core.Path.{_≡_, sym, ap, ap₂, _∙_, subst}
 use mathlib.Core.Logic.{⊎-elim}
-use mathlib.Core.Bool.{Bool, true, false, cond}
+use mathlib.Core.Bool.{Bool, true, cond}
 use mathlib.Core.List.{List}
-use Prim.Native.Nat.{ℕ, zero, suc, _+_, _-_, _*_, _≤_, _<_}
+use Prim.Native.Nat.{ℕ, _+_, _-_, _*_, _≤_, _<_}
 use native.Mathlib.Omega.{arith}
 use borrow.Author.Tests.{eq-eqb, ne-eqb, eqb-true, eqb-false, lt-ltb, le-leb}
 use lib.Dec.{eqb, leb}
 use lib.ListN.{length, getD, set, length-set}
 use lib.Seq.{getD-set-same, getD-set-other, ext-getD}
-use Rattle.paper.specs.Limits.{nobody}
-use Rattle.paper.specs.Count.{over, fill, sum}
+use Rattle.paper.specs.Limits.{nobody, peopleOk}
+use Rattle.paper.specs.Count.{over, fill}
 use Rattle.paper.proofs.Logic.{by-test, lt-or-ge}
-use Rattle.paper.proofs.Count.{sum-rises, sum-in-none, sum-in-more, sum-in-le, over-again, over-right}
+use Rattle.paper.proofs.Count.{sum-in-none, sum-in-more, sum-in-le, over-again, over-right}
 use Rattle.paper.proofs.Count.{length-over, getD-over, getD-over-out, length-fill, getD-fill-in, getD-fill-out}
 use Rattle.slotset.proofs.Puts.{Fit}
 use Rattle.slots.specs.Lent.{demandOf, minutesAt}
 use Rattle.slotset.specs.Answers.{rowNo, rowStretchNo, rowStretchOf, wordsAs}
-use Rattle.paper.specs.Limits.{peopleOk}
 use Rattle.rota.specs.Derived.{Plan, PlanSound, knownBy, portion, worked, Derived, derived, afresh, InStep, setFor}
 use Rattle.rota.specs.Derived.{lessAt, moreAt, stretchMinutes, lengthAt, HandedOver}
-use Rattle.rota.proofs.Minutes.{known-below, portion-own, portion-other, worked-over, worked-le}
+use Rattle.rota.proofs.Minutes.{known-below, portion-own, portion-other, worked-over, part-le, worked-le}
 use Rattle.rota.proofs.Sets.{length-sets, sets-fit, sets-in, sets-again, sets-same, sets-handed}
 
 -- ---- worked out afresh
@@ -59,6 +58,12 @@ pub afresh-lengths : (P : Plan) (o : List ℕ) (D : Derived)
     → (length (afresh P o D .sets) ≡ length (D .sets)) × (length (afresh P o D .minutes) ≡ length (D .minutes))
 unfolding afresh
 afresh-lengths P o D = (length-sets (P .people) (P .slots) o (D .sets), length-over (worked P o) (P .people) (D .minutes))
+
+pub lengths-kept : (P : Plan) (o : List ℕ) (D D′ : Derived) → D′ ≡ afresh P o D
+    → (length (D′ .sets) ≡ length (D .sets)) × (length (D′ .minutes) ≡ length (D .minutes))
+lengths-kept P o D D′ e =
+    let x = afresh-lengths P o D in
+    (ap (λ (d : Derived). length (d .sets)) e ∙ x .0, ap (λ (d : Derived). length (d .minutes)) e ∙ x .1)
 
 pub afresh-fit : (P : Plan) (o : List ℕ) (D : Derived) → Fit (D .sets) → Fit (afresh P o D .sets)
 unfolding afresh
@@ -123,18 +128,28 @@ module _ (w n : ℕ) (m : List ℕ) where
 
 -- ---- slots a up to e go from old to w
 
-pub record Owned (o : List ℕ) (a e old : ℕ) : Type 0 where
-  pub each : (k : ℕ) → a ≤ k → k < e → getD o k 0 ≡ old
+-- an owner that was known, or became one who is, is known
+pub fill-known : (people w a n : ℕ) (o : List ℕ) (k : ℕ) → k < length o → knownBy people w ≡ true → knownBy people (getD o k 0) ≡ true
+    → knownBy people (getD (fill w a n o) k 0) ≡ true
+fill-known people w a n o k l new old =
+    ⊎-elim
+    (λ (x : k < a). ap (knownBy people) (getD-fill-out w a n o k (λ u v. omega arith)) ∙ old)
+    (λ (x : a ≤ k).
+    ⊎-elim
+    (λ (y : k < a + n). ap (knownBy people) (getD-fill-in w a n o k x y l) ∙ new)
+    (λ (y : a + n ≤ k). ap (knownBy people) (getD-fill-out w a n o k (λ u v. omega arith)) ∙ old)
+    (lt-or-ge k (a + n)))
+    (lt-or-ge k a)
 
 module _ (P : Plan) (S : PlanSound P) (o : List ℕ) (D : Derived) (J : InStep P o D) (a e old w : ℕ) (le : a ≤ e) (within : e ≤ P .slots)
-    (owned : Owned o a e old) (ko : knownBy (P .people) old ≡ true) (kw : knownBy (P .people) w ≡ true) where
+    (owned : (k : ℕ) → a ≤ k → k < e → getD o k 0 ≡ old) (ko : knownBy (P .people) old ≡ true) (kw : knownBy (P .people) w ≡ true) where
   abbrev t : ℕ
   t = stretchMinutes P a e
 
   -- the old owner has the minutes of the stretch
   pub old-has : (p : ℕ) → (p ≡ nobody → ⊥) → portion old p t ≤ worked P o p
   old-has p n =
-      omega (arith, worked-over P o p a e old nobody le within (J .owners-room) (owned .each), portion-other nobody p t (λ q. n (sym q)))
+      omega (arith, worked-over P o p a e old nobody le within (J .owners-room) owned, portion-other nobody p t (λ q. n (sym q)))
 
   pub old-room : (old ≡ nobody → ⊥) → (old < length (D .minutes)) × (t ≤ getD (D .minutes) old 0)
   old-room n =
@@ -155,7 +170,7 @@ module _ (P : Plan) (S : PlanSound P) (o : List ℕ) (D : Derived) (J : InStep P
           S .lent .demand-fits,
           old-has w n,
           whole,
-          worked-over P o w a e old w le within (J .owners-room) (owned .each),
+          worked-over P o w a e old w le within (J .owners-room) owned,
           portion-own w t,
         ),
       )
@@ -175,22 +190,11 @@ module _ (P : Plan) (S : PlanSound P) (o : List ℕ) (D : Derived) (J : InStep P
       let n : p ≡ nobody → ⊥ = λ q. omega (arith, S .people-few) in
       let x = getD-more w t l p n rl in
       let y = getD-less old t m p n rm in
-      let z = worked-over P o p a e old w le within (J .owners-room) (owned .each) in
+      let z = worked-over P o p a e old w le within (J .owners-room) owned in
       omega (arith, x, y, z, J .minutes p h, old-has p n, getD-over f (P .people) m p h rm))
       (λ (h : P .people ≤ p).
       more-past w t l p (P .people) kw h ∙ less-past old t m p (P .people) ko h ∙ sym (getD-over-out f (P .people) m p h))
       (lt-or-ge p (P .people)))
-
-  pub handed-known : (k : ℕ) → k < P .slots → knownBy (P .people) (getD (fill w a (e - a) o) k 0) ≡ true
-  handed-known k h =
-      ⊎-elim
-      (λ (x : k < a). ap (knownBy (P .people)) (getD-fill-out w a (e - a) o k (λ u v. omega arith)) ∙ J .known k h)
-      (λ (x : a ≤ k).
-      ⊎-elim
-      (λ (y : k < e). ap (knownBy (P .people)) (getD-fill-in w a (e - a) o k x (omega arith) (omega (arith, J .owners-room))) ∙ kw)
-      (λ (y : e ≤ k). ap (knownBy (P .people)) (getD-fill-out w a (e - a) o k (λ u v. omega arith)) ∙ J .known k h)
-      (lt-or-ge k e))
-      (lt-or-ge k a)
 
   -- both columns, after the updates, are those worked out afresh
   pub handed-over : (f : Fit (D .sets)) (s m : List ℕ) → s ≡ setFor 1 w a e (setFor 0 old a e (D .sets)) → m ≡ moreAt w t (lessAt
@@ -201,14 +205,13 @@ module _ (P : Plan) (S : PlanSound P) (o : List ℕ) (D : Derived) (J : InStep P
       ap₂ {C = Derived} derived
       (p ∙ sets-handed (P .people) (P .slots) a e old w o (D .sets) (S .slots-few) le within (J .owners-room) (S .people-few) (J
       .sets-room) f
-      (J .sets) (owned .each) (known-below (P .people) old ko) (known-below (P .people) w kw))
+      (J .sets) owned (known-below (P .people) old ko) (known-below (P .people) w kw))
       (q ∙ minutes-handed)
 
   pub handed-step : InStep P (fill w a (e - a) o) (afresh P (fill w a (e - a) o) D)
   handed-step =
       afresh-step P (fill w a (e - a) o) D (S .slots-few) (omega (arith, J .owners-room, length-fill w a (e - a) o)) (J .sets-room)
-      (J .minutes-room)
-      handed-known
+      (J .minutes-room) (λ k h. fill-known (P .people) w a (e - a) o k (omega (arith, J .owners-room)) kw (J .known k h))
 
   -- the owners and both columns at the end
   pub handed-done : (f : Fit (D .sets)) (o′ s m : List ℕ) → o′ ≡ fill w a (e - a) o → s ≡ setFor 1 w a e (setFor 0 old a e (D .sets))
@@ -243,15 +246,8 @@ unfolding setFor
 row-none v w a e ws h = simp (eq-eqb w nobody h)
 
 pub stretch-le : (P : Plan) (a e : ℕ) → a ≤ e → e ≤ P .slots → stretchMinutes P a e ≤ demandOf (P .slots) (P .starts) (P .ends)
-unfolding stretchMinutes demandOf
-stretch-le P a e h g =
-    let y : e + (P .slots - e) ≡ P .slots = omega arith in
-    omega (
-      arith,
-      sum-in-le a e (lengthAt P) h,
-      sum-rises e (P .slots - e) (lengthAt P),
-      ap (λ (z : ℕ). sum z (lengthAt P)) y,
-    )
+unfolding stretchMinutes
+stretch-le P a e h g = omega (arith, sum-in-le a e (lengthAt P) h, part-le P e g)
 
 pub stretch-none : (P : Plan) (a : ℕ) → 0 ≡ stretchMinutes P a a
 unfolding stretchMinutes

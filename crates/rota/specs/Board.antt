@@ -1,11 +1,12 @@
 -- What a draw looks at besides the owners: the units, who fits them, which are frozen; and runs of units. Assumes nothing.
 use mathlib.Core.Path.{_≡_}
-use mathlib.Core.Bool.{Bool, true, false, cond, not}
+use mathlib.Core.Bool.{Bool, true, cond}
 use mathlib.Core.List.{List}
-use Prim.Native.Nat.{ℕ, zero, suc, _+_, _-_, _≤_, _<_}
+use Prim.Native.Nat.{ℕ, zero, suc, _-_, _≤_, _<_}
 use lib.Dec.{eqb}
 use lib.ListN.{length, getD}
 use Rattle.paper.specs.Limits.{nobody}
+use Rattle.units.specs.Units.{unitStart, unitEnd}
 
 pub record Board : Type 0 where
   pub people : ℕ
@@ -18,6 +19,19 @@ pub record Board : Type 0 where
   pub fits : ℕ → ℕ → Bool
   -- some slot of the unit is frozen
   pub frozen : ℕ → Bool
+
+-- units by their starts; whoever fits them, and whichever are frozen
+abbrev pub boardWith : ℕ → ℕ → ℕ → List ℕ → (ℕ → ℕ → Bool) → (ℕ → Bool) → Board
+boardWith people slots units firsts fits frozen =
+    record {
+      people = people;
+      slots = slots;
+      units = units;
+      from = unitStart firsts;
+      upto = unitEnd slots units firsts;
+      fits = fits;
+      frozen = frozen;
+    }
 
 -- what the checks leave known: few people, and units that are stretches in rising order and leave no slot out
 pub record BoardSound (B : Board) : Type 0 where

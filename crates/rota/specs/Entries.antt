@@ -2,7 +2,7 @@
 use mathlib.Core.Path.{_≡_}
 use mathlib.Core.Bool.{Bool, true, cond, _&&_}
 use mathlib.Core.List.{List, []}
-use Prim.Native.Nat.{ℕ, _*_, _≤_}
+use Prim.Native.Nat.{ℕ, _*_}
 use lib.Dec.{eqb, ltb, leb}
 use lib.ListN.{length, set, getD, replicate}
 use Rattle.paper.specs.Limits.{peopleOk, slotCountOk, drawsMost, nobody, orElse, countsOk}
@@ -29,6 +29,11 @@ roomOk P avail o D =
 -- 1, 2 and 9 in this order, then what comes after
 unfoldable pub ground : Bool → Bool → Bool → ℕ → ℕ
 ground counts room sound next = orElse counts 1 (orElse room 2 (orElse sound 9 next))
+
+-- the three of what a rota is lent in
+abbrev pub rotaGround : Plan → List ℕ → List ℕ → Derived → ℕ → ℕ
+rotaGround P avail o D next =
+    ground (countsOk (P .people) (P .slots)) (roomOk P avail o D) (slotsOk (P .slots) (P .starts) (P .ends)) next
 
 -- ---- an outcome: the number, and the lent columns at exit
 
@@ -59,7 +64,7 @@ pub record Ended (y : Outcome) (n : ℕ) (o : List ℕ) (D : Derived) (x : List 
 
 unfoldable pub fromSlotsNo : Plan → List ℕ → List ℕ → Derived → ℕ
 fromSlotsNo P avail o D =
-    ground (countsOk (P .people) (P .slots)) (roomOk P avail o D) (slotsOk (P .slots) (P .starts) (P .ends))
+    rotaGround P avail o D
     (orElse (all (P .slots) (knownAt (P .people) o)) 11 (orElse (all (P .slots) (availableAt avail o)) 12 0))
 
 unfoldable pub fromSlots : Plan → List ℕ → List ℕ → Derived → Outcome
@@ -69,7 +74,7 @@ fromSlots P avail o D = outcome (fromSlotsNo P avail o D) o D [] o (afresh P o D
 
 unfoldable pub assignNo : Plan → List ℕ → List ℕ → Derived → ℕ → ℕ → ℕ
 assignNo P avail o D k w =
-    ground (countsOk (P .people) (P .slots)) (roomOk P avail o D) (slotsOk (P .slots) (P .starts) (P .ends))
+    rotaGround P avail o D
     (orElse (recounts P avail 0 [] o D) 10
     (orElse (ltb k (P .slots) && knownBy (P .people) w) 11 (orElse (availableFor avail w k) 12 0)))
 
@@ -87,7 +92,7 @@ recountNo P avail units firsts o D =
 
 unfoldable pub recountSlotsNo : Plan → List ℕ → List ℕ → Derived → ℕ
 recountSlotsNo P avail o D =
-    ground (countsOk (P .people) (P .slots)) (roomOk P avail o D) (slotsOk (P .slots) (P .starts) (P .ends))
+    rotaGround P avail o D
     (orElse (recounts P avail 0 [] o D) 10 0)
 
 -- ---- play: 1, 2, 9, 10

@@ -2,11 +2,11 @@
 use mathlib.Core.Path.{_≡_}
 use mathlib.Core.Bool.{Bool, cond, _&&_}
 use mathlib.Core.List.{List}
-use Prim.Native.Nat.{ℕ, _≤_, _<_}
+use Prim.Native.Nat.{ℕ}
 use lib.Dec.{ltb}
 use Rattle.units.specs.Units.{unitStart, unitEnd}
 use Rattle.units.specs.Domains.{able, clear, unitFrozen}
-use Rattle.rota.specs.Board.{Board}
+use Rattle.rota.specs.Board.{Board, boardWith}
 use Rattle.rota.specs.Ready.{fitsBy, frozenBy}
 
 -- a known person is available for every slot of a unit
@@ -20,15 +20,7 @@ frozenUnit slots units firsts frozen u = ltb u units && unitFrozen frozen slots 
 
 abbrev pub boardOf : ℕ → ℕ → ℕ → List ℕ → List ℕ → List ℕ → Board
 boardOf people slots units avail firsts frozen =
-    record {
-      people = people;
-      slots = slots;
-      units = units;
-      from = unitStart firsts;
-      upto = unitEnd slots units firsts;
-      fits = fitsUnit people slots units avail firsts;
-      frozen = frozenUnit slots units firsts frozen;
-    }
+    boardWith people slots units firsts (fitsUnit people slots units avail firsts) (frozenUnit slots units firsts frozen)
 
 -- ---- what is worked out once a call
 

@@ -2,13 +2,13 @@
 use mathlib.Core.Path.{_≡_}
 use mathlib.Core.Bool.{Bool, not, _&&_}
 use mathlib.Core.List.{List}
-use Prim.Native.Nat.{ℕ, _+_, _≤_, _<_}
+use Prim.Native.Nat.{ℕ, _≤_, _<_}
 use lib.Dec.{eqb}
 use lib.ListN.{length, getD}
 use Rattle.paper.specs.Count.{allIn}
-use Rattle.units.specs.Units.{unitStart, unitEnd}
+use Rattle.units.specs.Units.{unitStart}
 use Rattle.units.specs.Domains.{inMask}
-use Rattle.rota.specs.Board.{Board, BoardSound, Even}
+use Rattle.rota.specs.Board.{Board, boardWith}
 
 -- person p stands in the mask of unit u
 unfoldable pub fitsBy : List ℕ → ℕ → ℕ → Bool
@@ -20,16 +20,7 @@ frozenBy flags u = eqb (getD flags u 0) 1
 
 -- the board that these make
 abbrev pub ready : ℕ → ℕ → ℕ → List ℕ → List ℕ → List ℕ → Board
-ready people slots units firsts fits flags =
-    record {
-      people = people;
-      slots = slots;
-      units = units;
-      from = unitStart firsts;
-      upto = unitEnd slots units firsts;
-      fits = fitsBy fits;
-      frozen = frozenBy flags;
-    }
+ready people slots units firsts fits flags = boardWith people slots units firsts (fitsBy fits) (frozenBy flags)
 
 -- each of the first n units has its start lent, and an owner at that slot
 pub record OwnerRoom (n : ℕ) (firsts owners : List ℕ) : Type 0 where

@@ -80,6 +80,11 @@ recounts P avail units firsts o D =
     && (all units (evenAt (P .slots) units firsts o)
     && (all (P .people) (setAt (P .slots) o (D .sets)) && all (P .people) (minutesOkAt P o (D .minutes)))))
 
+-- each unit has a slot, and none past the slot count
+pub record UnitRoom (slots units : ℕ) (firsts : List ℕ) : Type 0 where
+  pub some : (u : ℕ) → u < units → unitStart firsts u < unitEnd slots units firsts u
+  pub within : (u : ℕ) → u < units → unitEnd slots units firsts u ≤ slots
+
 -- what a rota is lent in has room
 pub record RotaRoom (people slots : ℕ) (avail o : List ℕ) (D : Derived) : Type 0 where
   pub avail-room : 16 * people ≤ length avail

@@ -4,7 +4,7 @@ use mathlib.Core.List.{List}
 use Prim.Native.Nat.{ℕ, _≤_}
 use lib.ListN.{length}
 use Rattle.paper.specs.Count.{onto}
-use Rattle.rota.specs.Board.{Board, Even}
+use Rattle.rota.specs.Board.{Board}
 use Rattle.rota.specs.Moves.{Draw}
 use Rattle.rota.specs.Plays.{step, answer, ownersAfter, answers}
 use Rattle.rota.specs.Derived.{Plan, Derived, afresh, InStep}

@@ -1,31 +1,31 @@
 // Owners, with each person's set of slots and minutes kept in step with them.
 use crate::Figure;
-use crate::checks::both;
 use crate::checks::ground;
-use crate::checks::room_ok;
-use crate::checks::words_ok;
+use crate::checks::rota_ground;
 use crate::recount::available_for;
 use crate::recount::first_unavailable;
 use crate::recount::first_unknown;
 use crate::recount::known_by;
-use crate::recount::recount_ok;
+use crate::recount::recount_slots;
 use crate::recount::worked_by;
+use paper::both;
 use paper::counts_ok;
+use paper::words_ok;
 use slotset::Changed;
 use slotset::SlotSet;
 ghost use mathlib.Core.Path.{_≡_};
 ghost use mathlib.Core.Bool.{true};
-ghost use Prim.Native.Nat.{ℕ, _+_, _-_, _*_, _<_, _≤_};
-ghost use lib.ListN.{length, getD, set};
+ghost use Prim.Native.Nat.{_+_, _-_, _*_, _<_, _≤_};
+ghost use lib.ListN.{length, getD};
 ghost use mathlib.Core.List.{[]};
 ghost use Rattle.rota.specs.Entries.{fromSlotsNo, fromSlots, assignNo, assigned, emptyNo, emptied, Ended, ownerIs, minutesIs};
 ghost use Rattle.rota.specs.Entries.{unassignedIs, uncoveredIs, slotsOfIs};
 ghost use Rattle.paper.specs.Count.{fill, over};
 ghost use Rattle.slotset.specs.Slots.{valueOf};
-ghost use Rattle.rota.specs.Derived.{plan, derived, knownBy, worked, afresh, InStep, PlanSound, setFor, lessAt, moreAt};
+ghost use Rattle.rota.specs.Derived.{plan, derived, knownBy, afresh, InStep, PlanSound, setFor, lessAt, moreAt};
 ghost use Rattle.rota.specs.Derived.{stretchMinutes, HandedOver, OneOwner, setsFrom, nobodies, Makes, unassigned};
 
-// Slots a up to e of a person's set; nobody has no set.
+// Slots a up to e of an owner's set are put in, or out where `want` is false; nobody has no set.
 fn put_row(sets: &mut [u64], people: usize, slots: usize, owner: u8, a: usize, e: usize, want: bool)
     requires { ⌜ (1 ≤ people) × (people ≤ 32) × (slots ≤ 1024) × (e ≤ slots) ⌝ }
     requires { ⌜ (16 * people ≤ length (now sets)) × (knownBy people owner ≡ true) ⌝ }
@@ -242,9 +242,7 @@ fn from_slots_no(
     ensures { λ r. ⌜ r ≡ fromSlotsNo (plan people slots (now (starts .entry)) (now (ends .entry))) (now (avail .entry)) (now (owners
         .entry)) (derived (now (sets .entry)) (now (minutes .entry))) ⌝ }
 {
-    let counts = counts_ok(people, slots);
-    let room = room_ok(people, slots, starts, ends, avail, owners, sets, minutes);
-    let n = ground(counts, room, slots::slots_ok(slots, starts, ends));
+    let n = rota_ground(people, slots, starts, ends, avail, owners, sets, minutes);
     if n == 0 {
         if first_unknown(people, slots, owners) < slots {
             return 11;
@@ -296,32 +294,15 @@ fn assign_no(
     ensures { λ r. ⌜ r ≡ assignNo (plan people slots (now (starts .entry)) (now (ends .entry))) (now (avail .entry)) (now (owners
         .entry)) (derived (now (sets .entry)) (now (minutes .entry))) slot owner ⌝ }
 {
-    let counts = counts_ok(people, slots);
-    let room = room_ok(people, slots, starts, ends, avail, owners, sets, minutes);
-    let n = ground(counts, room, slots::slots_ok(slots, starts, ends));
+    let n = recount_slots(people, slots, starts, ends, avail, owners, sets, minutes);
     if n == 0 {
-        let none = [0u16; 1];
-        if recount_ok(
-            people,
-            slots,
-            0,
-            starts,
-            ends,
-            avail,
-            &none,
-            owners,
-            sets,
-            minutes,
-        ) {
-            if both(slot < slots, known_by(people, owner)) {
-                if available_for(avail, people, slots, owner, slot) {
-                    return 0;
-                }
-                return 12;
+        if both(slot < slots, known_by(people, owner)) {
+            if available_for(avail, people, slots, owner, slot) {
+                return 0;
             }
-            return 11;
+            return 12;
         }
-        return 10;
+        return 11;
     }
     n
 }

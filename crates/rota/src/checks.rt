@@ -1,25 +1,10 @@
 // The tests that every entry asks first: counts (1), room (2), lent slots and units (9).
+use paper::both;
+use paper::counts_ok;
+use paper::words_ok;
 ghost use mathlib.Core.Path.{_≡_};
-ghost use mathlib.Core.Bool.{_&&_};
-ghost use Prim.Native.Nat.{_*_};
-ghost use lib.Dec.{leb};
-ghost use lib.ListN.{length};
 ghost use Rattle.rota.specs.Derived.{plan, derived};
-ghost use Rattle.rota.specs.Entries.{roomOk, playRoomOk, ground};
-
-// Both of two tests.
-pub(crate) fn both(a: bool, b: bool) -> bool
-    ensures { λ r. ⌜ r ≡ a && b ⌝ }
-{
-    if a { b } else { false }
-}
-
-// Whether words for that many sets are lent.
-pub(crate) fn words_ok(words: &[u64], people: usize) -> bool
-    ensures { λ r. ⌜ r ≡ leb (16 * people) (length (now (words .entry))) ⌝ }
-{
-    people <= words.len() / 16
-}
+ghost use Rattle.rota.specs.Entries.{roomOk, playRoomOk, ground, rotaGround};
 
 // Rule 2 of what a rota is lent in.
 pub(crate) fn room_ok(
@@ -58,6 +43,25 @@ pub(crate) fn play_room_ok(
     let last = both(count <= twos.len(), count <= answers.len());
     let columns = both(count <= kinds.len(), both(count <= ones.len(), last));
     both(units <= firsts.len(), both(16 <= frozen.len(), columns))
+}
+
+// 1, 2 or 9 of what a rota is lent in, the lowest; 0 for none.
+pub(crate) fn rota_ground(
+    people: usize,
+    slots: usize,
+    starts: &[u32],
+    ends: &[u32],
+    avail: &[u64],
+    owners: &[u8],
+    sets: &[u64],
+    minutes: &[u64],
+) -> u8
+    ensures { λ r. ⌜ r ≡ rotaGround (plan people slots (now (starts .entry)) (now (ends .entry))) (now (avail .entry)) (now (owners
+        .entry)) (derived (now (sets .entry)) (now (minutes .entry))) 0 ⌝ }
+{
+    let counts = counts_ok(people, slots);
+    let room = room_ok(people, slots, starts, ends, avail, owners, sets, minutes);
+    ground(counts, room, slots::slots_ok(slots, starts, ends))
 }
 
 // 1, 2 or 9, the lowest; 0 for none.

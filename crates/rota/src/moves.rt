@@ -3,16 +3,15 @@ use crate::Move;
 use crate::Pick;
 ghost use mathlib.Core.Path.{_≡_};
 ghost use mathlib.Core.Bool.{not, _&&_};
-ghost use Prim.Native.Nat.{ℕ, suc, _+_, _-_, _<_, _≤_};
+ghost use Prim.Native.Nat.{suc, _+_, _-_, _<_, _≤_};
 ghost use lib.Dec.{eqb};
 ghost use lib.ListN.{length, getD};
 ghost use Rattle.paper.specs.Count.{allIn, among};
 ghost use Rattle.units.specs.Units.{unitStart, unitEnd};
-ghost use Rattle.rota.specs.Board.{ownerOf, runStart, runEnd};
+ghost use Rattle.rota.specs.Board.{runStart, runEnd};
 ghost use Rattle.units.specs.Domains.{inMask};
 ghost use Rattle.rota.specs.Ready.{ready, fitsBy, frozenBy, Cover, runsFit, OwnerRoom};
-ghost use Rattle.rota.specs.Moves.{draw, movable, firstOf, lastOf, picked, reassigned, swapped, runReassigned, runsSwapped};
-ghost use Rattle.rota.specs.Moves.{grown, shrunk, shifted, decided};
+ghost use Rattle.rota.specs.Moves.{draw, picked, reassigned, swapped, runReassigned, runsSwapped, grown, shrunk, shifted, decided};
 
 // The owner of a unit: that of its first slot.
 fn owner_of(firsts: &[u16], owners: &[u8], unit: usize) -> u8
@@ -66,7 +65,7 @@ fn owner_at(firsts: &[u16], owners: &[u8], unit: usize) -> u8
     owners[firsts[unit] as usize]
 }
 
-// The first unit of a unit's run: n units before it have its owner. The loop keeps n alone, whatever is made of its answer.
+// The first unit of a unit's run: the n units before it have its owner. The loop counts n alone; the unit is made of it at the end.
 fn run_start(firsts: &[u16], owners: &[u8], unit: usize) -> usize
     requires { ⌜ OwnerRoom (suc unit) (now firsts) (now owners) ⌝ }
     ensures { λ r. ⌜ r ≡ runStart (λ u. getD (now (owners .entry)) (unitStart (now (firsts .entry)) u) 0) unit ⌝ }
@@ -83,7 +82,7 @@ fn run_start(firsts: &[u16], owners: &[u8], unit: usize) -> usize
     0
 }
 
-// The last unit of a unit's run: n units after it have its owner.
+// The last unit of a unit's run: the n units after it have its owner.
 fn run_end(units: usize, firsts: &[u16], owners: &[u8], unit: usize) -> usize
     requires { ⌜ unit < units ⌝ }
     requires { ⌜ OwnerRoom units (now firsts) (now owners) ⌝ }
@@ -107,17 +106,17 @@ fn is_movable(flags: &[u8], a: usize, e: usize) -> bool
     requires { ⌜ (a ≤ e) × (e ≤ length (now flags)) ⌝ }
     ensures { λ r. ⌜ r ≡ allIn a e (λ u. not (frozenBy (now (flags .entry)) u)) ⌝ }
 {
-    let mut free = true;
+    let mut movable = true;
     let mut u = a;
     while u < e {
         if flags[u] == 1 {
-            free = false;
+            movable = false;
             u += 1;
         } else {
             u += 1;
         }
     }
-    free
+    movable
 }
 
 // The people who fit every unit from a up to e.

@@ -1,20 +1,20 @@
 // A play: the draws of a list in order. Who fits which unit, and which units are frozen, are worked out once a call.
 use crate::Move;
 use crate::assignment::hand_over;
-use crate::checks::both;
 use crate::checks::ground;
 use crate::checks::play_room_ok;
 use crate::checks::room_ok;
 use crate::moves::decide;
-use crate::recount::recount_ok;
+use crate::recount::then_recount;
+use paper::both;
 use paper::counts_ok;
 ghost use mathlib.Core.Path.{_≡_};
-ghost use Prim.Native.Nat.{ℕ, _+_, _*_, _<_, _≤_};
+ghost use Prim.Native.Nat.{_≤_};
 ghost use lib.ListN.{length};
-ghost use Rattle.units.specs.Units.{unitEnd};
 ghost use Rattle.rota.specs.Board.{BoardSound, Even};
 ghost use Rattle.rota.specs.Ready.{ready};
 ghost use Rattle.rota.specs.Lent.{FrozenRight, markOf};
+ghost use Rattle.rota.specs.Recount.{UnitRoom};
 ghost use Rattle.rota.specs.Moves.{draw};
 ghost use Rattle.rota.specs.Plays.{drawsOf};
 ghost use Rattle.rota.specs.Derived.{plan, derived, InStep, PlanSound};
@@ -32,7 +32,7 @@ fn mark_of(frozen: &[u64], a: usize, e: usize) -> u8
 // For each unit 1 where it is frozen.
 fn frozen_of(slots: usize, units: usize, firsts: &[u16], frozen: &[u64]) -> [u8; 1024]
     requires { ⌜ (slots ≤ 1024) × (units ≤ 1024) × (16 ≤ length (now frozen)) ⌝ }
-    requires { ⌜ ((u : ℕ) → u < units → unitEnd slots units (now firsts) u ≤ slots) ⌝ }
+    requires { ⌜ UnitRoom slots units (now firsts) ⌝ }
     ensures { λ r. ⌜ FrozenRight slots units (now (firsts .entry)) (now (frozen .entry)) r ⌝ }
 {
     let mut flags = [0u8; 1024];
@@ -222,24 +222,19 @@ fn play_no(
         units::units_ok(slots, units, firsts),
     );
     let n = ground(counts, room, sound);
-    if n == 0 {
-        if recount_ok(
-            people,
-            slots,
-            units,
-            starts,
-            ends,
-            avail,
-            firsts,
-            owners,
-            sets,
-            minutes,
-        ) {
-            return 0;
-        }
-        return 10;
-    }
-    n
+    then_recount(
+        n,
+        people,
+        slots,
+        units,
+        starts,
+        ends,
+        avail,
+        firsts,
+        owners,
+        sets,
+        minutes,
+    )
 }
 
 // Plays a list of draws, given as three columns; one answer byte a draw: 0 acted, 1 no move, 2 choice outside. Refusals 1, 2, 9, 10.

@@ -1,21 +1,23 @@
 // The recount: five scans in the paper's order, each answering its first fault with its place.
 use crate::Fault;
 use crate::assignment::rebuild;
-use crate::checks::both;
 use crate::checks::ground;
 use crate::checks::room_ok;
+use crate::checks::rota_ground;
+use paper::both;
 use paper::counts_ok;
 use slotset::Told;
 ghost use mathlib.Core.Path.{_≡_};
 ghost use mathlib.Core.Bool.{true, _&&_};
-ghost use Prim.Native.Nat.{ℕ, _+_, _-_, _*_, _<_, _≤_};
+ghost use Prim.Native.Nat.{_*_, _<_, _≤_};
 ghost use lib.Dec.{eqb};
 ghost use lib.ListN.{length, getD};
+ghost use Rattle.paper.specs.Limits.{orElse};
 ghost use Rattle.paper.specs.Count.{all, over};
 ghost use Rattle.slotset.specs.Slots.{slot};
-ghost use Rattle.rota.specs.Derived.{plan, derived, knownBy, portion, worked, held, PlanSound, Makes};
+ghost use Rattle.rota.specs.Derived.{plan, derived, knownBy, portion, worked, PlanSound, Makes};
 ghost use Rattle.rota.specs.Recount.{firstFail, availableFor, knownAt, availableAt, evenAt, setSlotAt, setAt, minutesOkAt, faultOf};
-ghost use Rattle.rota.specs.Recount.{recounts, sameBit, RotaRoom};
+ghost use Rattle.rota.specs.Recount.{recounts, sameBit, UnitRoom, RotaRoom};
 ghost use Rattle.units.specs.Units.{unitStart, unitEnd};
 ghost use Rattle.rota.specs.Entries.{recountNo, recountSlotsNo};
 
@@ -107,8 +109,7 @@ fn is_even(slots: usize, units: usize, firsts: &[u16], owners: &[u8], unit: usiz
 
 // The first unit with two owners, or the unit count.
 fn first_uneven(slots: usize, units: usize, firsts: &[u16], owners: &[u8]) -> usize
-    requires { ⌜ ((u : ℕ) → u < units → (unitStart (now firsts) u < unitEnd slots units (now firsts) u) × (unitEnd slots units (now
-        firsts) u ≤ slots)) ⌝ }
+    requires { ⌜ UnitRoom slots units (now firsts) ⌝ }
     requires { ⌜ slots ≤ length (now owners) ⌝ }
     ensures { λ r. ⌜ r ≡ firstFail units (evenAt slots units (now (firsts .entry)) (now (owners .entry))) ⌝ }
 {
@@ -300,8 +301,7 @@ pub(crate) fn fault(
 ) -> Fault
     requires { ⌜ PlanSound (plan people slots (now starts) (now ends)) ⌝ }
     requires { ⌜ RotaRoom people slots (now avail) (now owners) (derived (now sets) (now minutes)) ⌝ }
-    requires { ⌜ ((u : ℕ) → u < units → (unitStart (now firsts) u < unitEnd slots units (now firsts) u) × (unitEnd slots units (now
-        firsts) u ≤ slots)) ⌝ }
+    requires { ⌜ UnitRoom slots units (now firsts) ⌝ }
     ensures { λ r. ⌜ r ≡ faultOf (plan people slots (now (starts .entry)) (now (ends .entry))) (now (avail .entry)) units (now
         (firsts .entry)) (now (owners .entry)) (derived (now (sets .entry)) (now (minutes .entry))) ⌝ }
 {
@@ -329,7 +329,7 @@ pub(crate) fn fault(
 }
 
 // Whether the recount passes.
-pub(crate) fn recount_ok(
+fn recount_ok(
     people: usize,
     slots: usize,
     units: usize,
@@ -343,8 +343,7 @@ pub(crate) fn recount_ok(
 ) -> bool
     requires { ⌜ PlanSound (plan people slots (now starts) (now ends)) ⌝ }
     requires { ⌜ RotaRoom people slots (now avail) (now owners) (derived (now sets) (now minutes)) ⌝ }
-    requires { ⌜ ((u : ℕ) → u < units → (unitStart (now firsts) u < unitEnd slots units (now firsts) u) × (unitEnd slots units (now
-        firsts) u ≤ slots)) ⌝ }
+    requires { ⌜ UnitRoom slots units (now firsts) ⌝ }
     ensures { λ r. ⌜ r ≡ recounts (plan people slots (now (starts .entry)) (now (ends .entry))) (now (avail .entry)) units (now
         (firsts .entry)) (now (owners .entry)) (derived (now (sets .entry)) (now (minutes .entry))) ⌝ }
 {
@@ -367,6 +366,46 @@ pub(crate) fn recount_ok(
         Fault::WrongSet { person: _, slot: _ } => false,
         Fault::WrongMinutes(_) => false,
     }
+}
+
+// The number n, or where it is 0 that of the recount: 10 where it fails.
+pub(crate) fn then_recount(
+    n: u8,
+    people: usize,
+    slots: usize,
+    units: usize,
+    starts: &[u32],
+    ends: &[u32],
+    avail: &[u64],
+    firsts: &[u16],
+    owners: &[u8],
+    sets: &[u64],
+    minutes: &[u64],
+) -> u8
+    requires { ⌜ (n ≡ 0 → PlanSound (plan people slots (now starts) (now ends)) × RotaRoom people slots (now avail) (now owners)
+        (derived (now sets) (now minutes)) × UnitRoom slots units (now firsts)) ⌝ }
+    ensures { λ r. ⌜ r ≡ orElse (eqb n 0) n (orElse (recounts (plan people slots (now (starts .entry)) (now (ends .entry))) (now
+        (avail .entry)) units (now (firsts .entry)) (now (owners .entry)) (derived (now (sets .entry)) (now (minutes .entry)))) 10
+        0) ⌝ }
+{
+    if n == 0 {
+        if recount_ok(
+            people,
+            slots,
+            units,
+            starts,
+            ends,
+            avail,
+            firsts,
+            owners,
+            sets,
+            minutes,
+        ) {
+            return 0;
+        }
+        return 10;
+    }
+    n
 }
 
 // The recount with units. 0 where it passes; refusals 1, 2, 9, 10.
@@ -394,24 +433,19 @@ pub fn recount(
         units::units_ok(slots, units, firsts),
     );
     let n = ground(counts_ok(people, slots), room, sound);
-    if n == 0 {
-        if recount_ok(
-            people,
-            slots,
-            units,
-            starts,
-            ends,
-            avail,
-            firsts,
-            owners,
-            sets,
-            minutes,
-        ) {
-            return 0;
-        }
-        return 10;
-    }
-    n
+    then_recount(
+        n,
+        people,
+        slots,
+        units,
+        starts,
+        ends,
+        avail,
+        firsts,
+        owners,
+        sets,
+        minutes,
+    )
 }
 
 // The recount without units, as a single assign asks it. 0 where it passes; refusals 1, 2, 9, 10.
@@ -428,26 +462,19 @@ pub fn recount_slots(
     ensures { λ r. ⌜ r ≡ recountSlotsNo (plan people slots (now (starts .entry)) (now (ends .entry))) (now (avail .entry)) (now
         (owners .entry)) (derived (now (sets .entry)) (now (minutes .entry))) ⌝ }
 {
-    let counts = counts_ok(people, slots);
-    let room = room_ok(people, slots, starts, ends, avail, owners, sets, minutes);
-    let n = ground(counts, room, slots::slots_ok(slots, starts, ends));
-    if n == 0 {
-        let none = [0u16; 1];
-        if recount_ok(
-            people,
-            slots,
-            0,
-            starts,
-            ends,
-            avail,
-            &none,
-            owners,
-            sets,
-            minutes,
-        ) {
-            return 0;
-        }
-        return 10;
-    }
-    n
+    let n = rota_ground(people, slots, starts, ends, avail, owners, sets, minutes);
+    let none = [0u16; 1];
+    then_recount(
+        n,
+        people,
+        slots,
+        0,
+        starts,
+        ends,
+        avail,
+        &none,
+        owners,
+        sets,
+        minutes,
+    )
 }

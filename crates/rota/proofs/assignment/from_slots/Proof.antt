@@ -1,9 +1,8 @@
 -- `rota::assignment::from_slots` meets its contract. Assumes nothing.
-use mathlib.Core.Path.{sym, ap, _∙_}
+use mathlib.Core.Path.{sym, _∙_}
 use borrow.Author.Needs.{needs}
-use lib.ListN.{length}
-use Rattle.rota.specs.Derived.{plan, Derived, derived}
-use Rattle.rota.proofs.Steps.{afresh-lengths}
+use Rattle.rota.specs.Derived.{plan, derived}
+use Rattle.rota.proofs.Steps.{lengths-kept}
 use Rattle.rota.proofs.Asked.{from-asks, from-no, from-yes}
 use Rattle.rota.proofs.assignment.from_slots.Statement.{statement}
 use Rattle.rota.proofs.assignment.from_slots.Tie as tie
@@ -22,22 +21,10 @@ rebuild-requires c κs =
     (A .0, A .1)
 
 same-length : tie.Need-same-length
-same-length c =
-    let at-rebuild = c .before .before .before .before .rebuild in
-    let at-args = c .before .before .before .before .before .before .before .before .before .before .before .before .before
-    .before .before .before .before .args in
-    ap (λ (d : Derived). length (d .sets)) (at-rebuild .ensures) ∙ afresh-lengths (plan (at-args .people) (at-args .slots)
-    (at-args .starts .now) (at-args .ends .now)) (at-args .owners .now) (derived (at-args .sets .now) (at-args .minutes
-    .now)) .0
+same-length c = lengths-kept _ _ _ _ (c .before .before .before .before .rebuild .ensures) .0
 
 same-length-2 : tie.Need-same-length-2
-same-length-2 c =
-    let at-rebuild = c .before .before .before .before .rebuild in
-    let at-args = c .before .before .before .before .before .before .before .before .before .before .before .before .before
-    .before .before .before .before .args in
-    ap (λ (d : Derived). length (d .minutes)) (at-rebuild .ensures) ∙ afresh-lengths (plan (at-args .people) (at-args .slots)
-    (at-args .starts .now) (at-args .ends .now)) (at-args .owners .now) (derived (at-args .sets .now) (at-args .minutes
-    .now)) .1
+same-length-2 c = lengths-kept _ _ _ _ (c .before .before .before .before .rebuild .ensures) .1
 
 returns : tie.Need-returns
 returns c =

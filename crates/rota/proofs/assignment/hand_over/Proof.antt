@@ -6,7 +6,7 @@ use lib.ListN.{length, getD}
 use Rattle.paper.proofs.Count.{length-fill}
 use Rattle.rota.specs.Derived.{plan, derived, stretchMinutes}
 use Rattle.rota.proofs.Sets.{length-set-for}
-use Rattle.rota.proofs.Steps.{Owned, old-room, new-room, handed-done, length-less, length-more}
+use Rattle.rota.proofs.Steps.{old-room, new-room, handed-done, length-less, length-more}
 use Rattle.rota.proofs.assignment.hand_over.Statement.{statement}
 use Rattle.rota.proofs.assignment.hand_over.Tie as tie
 
@@ -25,11 +25,7 @@ carry-requires c κs =
     let J = (at-pre .1 .0) in
     let O = (at-pre .1 .1 .0) in
     let le : (at-args .a) ≤ (at-args .e) = omega (arith, O .some) in
-    let ko = J .known (at-args .a) (omega (arith, O .some, O .within)) in
-    let W : Owned (at-args .owners .now) (at-args .a) (at-args .e) (getD (at-args .owners .now) (at-args .a) 0) = record {
-      each
-          = O .each;
-    } in (
+    let ko = J .known (at-args .a) (omega (arith, O .some, O .within)) in (
       S,
       (
         (le, O .within, J .sets-room),
@@ -38,10 +34,10 @@ carry-requires c κs =
           (
             old-room P S (at-args .owners .now) (derived (at-args .sets
                 .now) (at-args .minutes .now)) J (at-args .a) (at-args .e) (getD (at-args .owners .now) (at-args .a) 0) (at-args .to) le
-                (O .within) W ko (at-pre .1 .1 .1),
+                (O .within) (O .each) ko (at-pre .1 .1 .1),
             λ n. let x = new-room P S (at-args .owners .now) (derived (at-args .sets .now)
                 (at-args .minutes .now)) J (at-args .a) (at-args .e) (getD (at-args .owners .now) (at-args .a) 0) (at-args .to) le (O
-                .within) W ko (at-pre .1 .1 .1) n in (
+                .within) (O .each) ko (at-pre .1 .1 .1) n in (
                   omega (
                     arith,
                     x .0,
@@ -91,12 +87,8 @@ returns c =
     let O = (at-pre .1 .1 .0) in
     let le : (at-args .a) ≤ (at-args .e) = omega (arith, O .some) in
     let ko = J .known (at-args .a) (omega (arith, O .some, O .within)) in
-    let W : Owned (at-args .owners .now) (at-args .a) (at-args .e) (getD (at-args .owners .now) (at-args .a) 0) = record {
-      each
-          = O .each;
-    } in
     handed-done P S (at-args .owners .now) (derived (at-args .sets .now) (at-args .minutes .now)) J (at-args .a) (at-args .e)
-    (getD (at-args .owners .now) (at-args .a) 0) (at-args .to) le (O .within) W ko (at-pre .1 .1 .1) (λ j. omega (
+    (getD (at-args .owners .now) (at-args .a) 0) (at-args .to) le (O .within) (O .each) ko (at-pre .1 .1 .1) (λ j. omega (
       arith,
       (at-slice-known2 .given) j,
     )) _ _ _ (at-fill-owners .ensures) (at-carry .ensures .0) (at-carry .ensures .1)

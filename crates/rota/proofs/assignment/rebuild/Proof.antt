@@ -6,9 +6,9 @@ use lib.ListN.{length}
 use Rattle.paper.proofs.Count.{length-over}
 use Rattle.rota.specs.Derived.{plan, derived, stretchMinutes}
 use Rattle.rota.proofs.Sets.{length-sets}
-use Rattle.rota.proofs.Steps.{length-less}
+use Rattle.rota.proofs.Steps.{length-less, lengths-kept}
 use Rattle.rota.proofs.Minutes.{known-nobody}
-use Rattle.rota.proofs.Made.{Made, made-step, made-lengths, made-room, made-more, made-end, made-start, cleared-forgotten}
+use Rattle.rota.proofs.Made.{Made, made-step, made-room, made-more, made-end, made-start, cleared-forgotten}
 use Rattle.rota.proofs.assignment.rebuild.Statement.{statement}
 use Rattle.rota.proofs.assignment.rebuild.Tie as tie
 
@@ -108,19 +108,15 @@ loop-again c =
 
 same-length : tie.Need-same-length Inv-loop μ-loop
 same-length c =
-    let at-pre = c .before .before .before .before .before .before .before .before .before .before .before .before .before
-    .before .before .pre in
     let at-loop = c .before .loop in
     let at-clear-sets = c .before .before .before .before .before .before .before .before .clear-sets in
-    made-lengths _ (at-pre .0) _ _ _ _ (at-loop .inv) .0 ∙ ap length (at-clear-sets .ensures) ∙ length-sets _ _ _ _
+    lengths-kept _ _ _ _ (at-loop .inv .eq) .0 ∙ ap length (at-clear-sets .ensures) ∙ length-sets _ _ _ _
 
 same-length-2 : tie.Need-same-length-2 Inv-loop μ-loop
 same-length-2 c =
-    let at-pre = c .before .before .before .before .before .before .before .before .before .before .before .before .before
-    .before .before .pre in
     let at-loop = c .before .loop in
     let at-clear-minutes = c .before .before .before .before .clear-minutes in
-    made-lengths _ (at-pre .0) _ _ _ _ (at-loop .inv) .1 ∙ ap length (at-clear-minutes .ensures) ∙ length-over _ _ _
+    lengths-kept _ _ _ _ (at-loop .inv .eq) .1 ∙ ap length (at-clear-minutes .ensures) ∙ length-over _ _ _
 
 returns : tie.Need-returns Inv-loop μ-loop
 returns c =

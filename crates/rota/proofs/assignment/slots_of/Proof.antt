@@ -1,7 +1,5 @@
 -- `rota::assignment::slots_of` meets its contract. Assumes nothing.
-use mathlib.Core.Path.{_≡_, sym, ap, _∙_}
-use mathlib.Core.Bool.{Bool, cond}
-use Rattle.paper.specs.Limits.{slotCountOk}
+use mathlib.Core.Path.{sym, _∙_}
 use Rattle.rota.specs.Entries.{slotsOfIs}
 use borrow.Author.Needs.{needs}
 use Rattle.rota.proofs.assignment.slots_of.Statement.{statement}

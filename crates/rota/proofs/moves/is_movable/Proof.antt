@@ -8,15 +8,15 @@ use borrow.Author.Tests.{eq-eqb, ne-eqb}
 use Rattle.paper.specs.Count.{allIn}
 use Rattle.paper.proofs.Count.{in-none, in-fails}
 use Rattle.rota.specs.Ready.{frozenBy}
-use Rattle.rota.proofs.Judged.{in-same}
+use Rattle.rota.proofs.Judged.{in-holds}
 use Rattle.rota.proofs.moves.is_movable.Statement.{statement}
 use Rattle.rota.proofs.moves.is_movable.Tie as tie
 
 abbrev Inv-loop : tie.InvT-loop
-Inv-loop flags a e free₀ u₀ free u = (a ≤ u) × (u ≤ e) × (allIn a u (λ v. not (frozenBy flags v)) ≡ free)
+Inv-loop flags a e movable₀ u₀ movable u = (a ≤ u) × (u ≤ e) × (allIn a u (λ v. not (frozenBy flags v)) ≡ movable)
 
 abbrev μ-loop : tie.MeasureT-loop
-μ-loop flags a e free₀ u₀ free u = e - u
+μ-loop flags a e movable₀ u₀ movable u = e - u
 
 loop-holds : tie.Need-loop-holds Inv-loop μ-loop
 loop-holds c = (search needs, search needs, in-none _ _)
@@ -51,7 +51,7 @@ loop-again-2 c =
     let at-loop = c .before .before .before .loop in (
       omega arith,
       omega arith,
-      in-same _ _ _ (at-loop .inv .0) (ap not (ne-eqb _ _ (c .if1 .left))) ∙ at-loop .inv .2,
+      in-holds _ _ _ (at-loop .inv .0) (ap not (ne-eqb _ _ (c .if1 .left))) ∙ at-loop .inv .2,
     )
 
 returns : tie.Need-returns Inv-loop μ-loop

@@ -2,12 +2,10 @@
 use mathlib.Core.Path.{sym, _∙_}
 use native.Mathlib.Omega.{arith}
 use borrow.Author.Needs.{needs}
-use lib.ListN.{getD}
-use Rattle.units.specs.Units.{unitStart}
 use Rattle.rota.specs.Board.{ownerOf}
 use Rattle.rota.specs.Moves.{firstOf, lastOf}
 use Rattle.rota.proofs.Judged.{fewer-owned}
-use Rattle.rota.proofs.Moved.{run-order, run-frozen, run-unowned, run-stuck, run-nobody, run-beyond, run-given}
+use Rattle.rota.proofs.Moved.{run-room, run-frozen, run-unowned, run-stuck, run-nobody, run-beyond, run-given}
 use Rattle.rota.proofs.moves.reassign_run.Statement.{statement}
 use Rattle.rota.proofs.moves.reassign_run.Tie as tie
 
@@ -40,39 +38,29 @@ run-end-requires c κs =
 
 add-is-movable : tie.Need-add-is-movable
 add-is-movable c =
-    let at-args = c .before .before .before .before .before .before .before .before .before .before .args in
     let at-pre = c .before .before .before .before .before .before .before .before .before .before .pre in
-    let r = run-order (λ u. getD (at-args .owners .now) (unitStart (at-args .firsts .now) u) 0) (at-args .units) (at-args
-    .first) (at-pre .0 .1) in
-    omega (arith, (c .run-end .ensures), r .1)
+    let r = run-room _ _ _ _ _ (at-pre .0 .1) (c .before .run-start .ensures) (c .run-end .ensures) in
+    omega (arith, r .1)
 
 is-movable-requires : tie.Need-is-movable-requires
 is-movable-requires c κs =
-    let at-args = c .before .before .before .before .before .before .before .before .before .before .args in
     let at-pre = c .before .before .before .before .before .before .before .before .before .before .pre in
-    let at-run-start = c .before .run-start in
-    let r = run-order (λ u. getD (at-args .owners .now) (unitStart (at-args .firsts .now) u) 0) (at-args .units) (at-args
-    .first) (at-pre .0 .1) in
-    (omega (arith, (c .run-end .ensures), (at-run-start .ensures), r .0), omega (arith, (c .run-end .ensures), r .1, at-pre .1 .1 .1))
+    let r = run-room _ _ _ _ _ (at-pre .0 .1) (c .before .run-start .ensures) (c .run-end .ensures) in
+    (omega (arith, r .0), omega (arith, r .1, at-pre .1 .1 .1))
 
 add-cover-of : tie.Need-add-cover-of
 add-cover-of c =
-    let at-args = c .before .before .before .before .before .before .before .before .before .before .before .before .args in
     let at-pre = c .before .before .before .before .before .before .before .before .before .before .before .before .pre in
-    let at-run-end = c .before .before .run-end in
-    let r = run-order (λ u. getD (at-args .owners .now) (unitStart (at-args .firsts .now) u) 0) (at-args .units) (at-args
-    .first) (at-pre .0 .1) in
-    omega (arith, (at-run-end .ensures), r .1)
+    let r = run-room _ _ _ _ _ (at-pre .0 .1) (c .before .before .before .run-start .ensures) (c .before .before .run-end
+    .ensures) in
+    omega (arith, r .1)
 
 cover-of-requires : tie.Need-cover-of-requires
 cover-of-requires c κs =
-    let at-args = c .before .before .before .before .before .before .before .before .before .before .before .before .args in
     let at-pre = c .before .before .before .before .before .before .before .before .before .before .before .before .pre in
-    let at-run-end = c .before .before .run-end in
-    let at-run-start = c .before .before .before .run-start in
-    let r = run-order (λ u. getD (at-args .owners .now) (unitStart (at-args .firsts .now) u) 0) (at-args .units) (at-args
-    .first) (at-pre .0 .1) in
-    (omega (arith, (at-run-end .ensures), (at-run-start .ensures), r .0), omega (arith, (at-run-end .ensures), r .1, at-pre .1 .1 .0))
+    let r = run-room _ _ _ _ _ (at-pre .0 .1) (c .before .before .before .run-start .ensures) (c .before .before .run-end
+    .ensures) in
+    (omega (arith, r .0), omega (arith, r .1, at-pre .1 .1 .0))
 
 nth-of-requires : tie.Need-nth-of-requires
 nth-of-requires c κs = search needs

@@ -2,8 +2,8 @@
 use mathlib.Core.Path.{sym, _∙_}
 use borrow.Author.Needs.{needs}
 use Rattle.rota.specs.Board.{ownerOf}
-use Rattle.rota.proofs.Moved.{swap-frozen, swap-frozen-2, swap-same, swap-unowned, swap-unowned-2, swap-owner, swap-unfit}
-use Rattle.rota.proofs.Moved.{swap-unfit-2, swap-acts}
+use Rattle.rota.proofs.Moved.{swap-first-frozen, swap-second-frozen, swap-same, swap-first-unowned, swap-second-unowned}
+use Rattle.rota.proofs.Moved.{swap-owner, swap-first-unfit, swap-second-unfit, swap-acts}
 use Rattle.rota.proofs.moves.swap_units.Statement.{statement}
 use Rattle.rota.proofs.moves.swap_units.Tie as tie
 
@@ -17,13 +17,13 @@ is-frozen-requires : tie.Need-is-frozen-requires
 is-frozen-requires c κs = search needs
 
 returns : tie.Need-returns
-returns c = swap-frozen _ _ _ _ (sym (c .before .is-frozen .ensures) ∙ (c .if1 .taken))
+returns c = swap-first-frozen _ _ _ _ (sym (c .before .is-frozen .ensures) ∙ (c .if1 .taken))
 
 is-frozen-requires-2 : tie.Need-is-frozen-requires-2
 is-frozen-requires-2 c κs = search needs
 
 returns-2 : tie.Need-returns-2
-returns-2 c = swap-frozen-2 _ _ _ _ (sym (c .before .is-frozen2 .ensures) ∙ (c .if2 .taken))
+returns-2 c = swap-second-frozen _ _ _ _ (sym (c .before .is-frozen2 .ensures) ∙ (c .if2 .taken))
 
 returns-3 : tie.Need-returns-3
 returns-3 c = swap-same _ _ _ _ (c .if3 .taken)
@@ -33,14 +33,14 @@ unfolding ownerOf
 returns-4 c =
     let at-owner-of = c .before .before .before .before .before .before .before .owner-of in
     let at-owner-of2 = c .before .before .before .before .before .before .owner-of2 in
-    swap-unowned _ _ _ _ _ _ (at-owner-of .ensures) (at-owner-of2 .ensures) (c .if4 .taken)
+    swap-first-unowned _ _ _ _ _ _ (at-owner-of .ensures) (at-owner-of2 .ensures) (c .if4 .taken)
 
 returns-5 : tie.Need-returns-5
 unfolding ownerOf
 returns-5 c =
     let at-owner-of = c .before .before .before .before .before .before .before .before .owner-of in
     let at-owner-of2 = c .before .before .before .before .before .before .before .owner-of2 in
-    swap-unowned-2 _ _ _ _ _ _ (at-owner-of .ensures) (at-owner-of2 .ensures) (c .if5 .taken)
+    swap-second-unowned _ _ _ _ _ _ (at-owner-of .ensures) (at-owner-of2 .ensures) (c .if5 .taken)
 
 returns-6 : tie.Need-returns-6
 unfolding ownerOf
@@ -90,7 +90,7 @@ returns-8 c =
     let at-owner-of2 = c .before .before .before .before .before .before .before .before .before .before .before .before
     .owner-of2 in
     let at-fits-unit2 = c .before .fits-unit2 in
-    swap-unfit-2 _ _ _ _ _ _ (at-owner-of .ensures) (at-owner-of2 .ensures) (sym (at-fits-unit2 .ensures) ∙ (c .if8 .left))
+    swap-second-unfit _ _ _ _ _ _ (at-owner-of .ensures) (at-owner-of2 .ensures) (sym (at-fits-unit2 .ensures) ∙ (c .if8 .left))
 
 returns-9 : tie.Need-returns-9
 unfolding ownerOf
@@ -98,7 +98,7 @@ returns-9 c =
     let at-owner-of = c .before .before .before .before .before .before .before .before .before .before .before .owner-of in
     let at-owner-of2 = c .before .before .before .before .before .before .before .before .before .before .owner-of2 in
     let at-fits-unit = c .before .fits-unit in
-    swap-unfit _ _ _ _ _ _ (at-owner-of .ensures) (at-owner-of2 .ensures) (sym (at-fits-unit .ensures) ∙ (c .if7 .left))
+    swap-first-unfit _ _ _ _ _ _ (at-owner-of .ensures) (at-owner-of2 .ensures) (sym (at-fits-unit .ensures) ∙ (c .if7 .left))
 
 pub swap-units-spec : {M : Type 1} → statement M
 swap-units-spec =

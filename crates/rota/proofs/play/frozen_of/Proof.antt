@@ -39,7 +39,7 @@ mark-of-requires c κs =
     let at-pre = c .before .before .before .before .before .before .pre in
     let at-loop = c .before .before .before .loop in
     let at-loop-test = c .before .before .loop-test in
-    (omega (arith, (c .unit-end .ensures), (at-pre .1) (at-loop .u) (at-loop-test .taken), (at-pre .0 .0)), (at-pre .0 .2))
+    (omega (arith, (c .unit-end .ensures), at-pre .1 .within (at-loop .u) (at-loop-test .taken), (at-pre .0 .0)), (at-pre .0 .2))
 
 array-write-flags : tie.Need-array-write-flags Inv-loop μ-loop
 array-write-flags c = search needs

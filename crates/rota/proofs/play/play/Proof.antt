@@ -4,10 +4,10 @@ use Prim.Native.Nat.{ℕ}
 use native.Mathlib.Omega.{arith}
 use borrow.Author.Needs.{needs}
 use lib.ListN.{length, length-replicate}
-use Rattle.units.proofs.Units.{units-room, unit-within}
+use Rattle.units.proofs.Units.{units-room}
 use Rattle.rota.specs.Derived.{plan, derived}
 use Rattle.rota.proofs.Stepping.{ran-owners, ran-answers, ran-lengths}
-use Rattle.rota.proofs.Entered.{play-asks, asks-few, asks-fits, asks-step, ready-sound, ready-even, played-yes, played-no}
+use Rattle.rota.proofs.Entered.{unit-room, play-asks, asks-few, asks-fits, asks-step, ready-sound, ready-even, played-yes, played-no}
 use Rattle.rota.proofs.play.play.Statement.{statement}
 use Rattle.rota.proofs.play.play.Tie as tie
 
@@ -32,7 +32,7 @@ frozen-of-requires c κs =
     (a .owners .now) D (a .answers .now) (sym (c .before .before .before .before .play-no .ensures)
     ∙ c .before .before .before .if1 .taken) in
     let G = A .grounds in
-    ((G .on .sound .slots-few, asks-few _ _ _ _ _ _ _ _ _ _ _ _ A, G .flags), λ u h. unit-within _ _ _ (G .units-ok) u h)
+    ((G .on .sound .slots-few, asks-few _ _ _ _ _ _ _ _ _ _ _ _ A, G .flags), unit-room _ _ _ (G .units-ok))
 
 slice-aggregate-run : tie.Need-slice-aggregate-run
 slice-aggregate-run c = search needs

@@ -1,11 +1,10 @@
 -- `rota::play::play_no` meets its contract. Assumes nothing.
 use mathlib.Core.Path.{sym, ap, ap₂, _∙_}
-use mathlib.Core.Bool.{Bool, true, _&&_}
+use mathlib.Core.Bool.{Bool, _&&_}
 use borrow.Author.Needs.{needs}
 use lib.Dec.{leb}
-use Rattle.units.proofs.Units.{unit-some, unit-within}
 use Rattle.rota.specs.Derived.{plan, derived}
-use Rattle.rota.proofs.Entered.{ground-same, play-grounds, play-stops, play-10, play-0}
+use Rattle.rota.proofs.Entered.{ground-same, unit-room, play-grounds, play-then}
 use Rattle.rota.proofs.play.play_no.Statement.{statement}
 use Rattle.rota.proofs.play.play_no.Tie as tie
 
@@ -36,97 +35,52 @@ both-requires-3 c κs = search needs
 ground-requires : tie.Need-ground-requires
 ground-requires c κs = search needs
 
-recount-ok-requires : tie.Need-recount-ok-requires
-recount-ok-requires c κs =
+then-recount-requires : tie.Need-then-recount-requires
+then-recount-requires c κs =
     let at-args = c .before .before .before .before .before .before .before .before .before .before .before .before .before
-    .before .before .before .before .before .before .before .before .before .args in
-    let at-ground = c .before .ground in
-    let at-both = c .before .before .before .before .before .before .before .before .both in
-    let at-counts-ok = c .before .before .before .before .before .before .before .before .before .counts-ok in
-    let at-both2 = c .before .before .before .before .before .both2 in
-    let at-room-ok = c .before .before .before .before .before .before .before .room-ok in
-    let at-play-room-ok = c .before .before .before .before .before .before .play-room-ok in
-    let at-both3 = c .before .before .both3 in
-    let at-slots-ok = c .before .before .before .before .slots-ok in
-    let at-units-ok = c .before .before .before .units-ok in
-    let g = play-grounds (plan (at-args .people) (at-args .slots) (at-args .starts .now) (at-args .ends .now)) (at-args .avail
-    .now) (at-args .units) (at-args .firsts .now) (at-args .frozen .now) (at-args .count) (at-args .kinds .now) (at-args
-    .ones .now) (at-args .twos .now) (at-args .owners .now) (derived (at-args .sets .now) (at-args .minutes .now)) (at-args
-    .answers .now) (sym ((at-ground .ensures) ∙ ground-same _ _ _ _ _ _ ((at-both .ensures) ∙ ap (λ (b : Bool). b && leb
-    (at-args .count) 1024) (at-counts-ok .ensures)) ((at-both2 .ensures) ∙ ap₂ _&&_ (at-room-ok .ensures) (at-play-room-ok
-    .ensures)) ((at-both3 .ensures) ∙ ap₂ _&&_ (at-slots-ok .ensures) (at-units-ok .ensures))) ∙ (c .if1 .taken)) in (
-      g .on .sound,
-      (
-        g .on .room,
-        λ u h. (unit-some _ _ _ (g .units-ok) u h, unit-within _ _ _ (g .units-ok) u h),
-      ),
-    )
+    .before .before .before .before .before .before .before .before .args in
+    let at-counts-ok = c .before .before .before .before .before .before .before .before .counts-ok in
+    let at-both = c .before .before .before .before .before .before .before .both in
+    let at-room-ok = c .before .before .before .before .before .before .room-ok in
+    let at-play-room-ok = c .before .before .before .before .before .play-room-ok in
+    let at-both2 = c .before .before .before .before .both2 in
+    let at-slots-ok = c .before .before .before .slots-ok in
+    let at-units-ok = c .before .before .units-ok in
+    let at-both3 = c .before .both3 in
+    λ z. let g = play-grounds (plan (at-args .people) (at-args .slots) (at-args .starts .now) (at-args .ends .now)) (at-args
+    .avail .now) (at-args .units)
+    (at-args .firsts .now) (at-args .frozen .now) (at-args .count) (at-args .kinds .now) (at-args .ones .now) (at-args .twos
+    .now)
+    (at-args .owners .now) (derived (at-args .sets .now) (at-args .minutes .now)) (at-args .answers .now)
+    (sym ((c .ground .ensures) ∙ ground-same _ _ _ _ _ _
+    ((at-both .ensures) ∙ ap (λ (b : Bool). b && leb (at-args .count) 1024) (at-counts-ok .ensures))
+    ((at-both2 .ensures) ∙ ap₂ _&&_ (at-room-ok .ensures) (at-play-room-ok .ensures))
+    ((at-both3 .ensures) ∙ ap₂ _&&_ (at-slots-ok .ensures) (at-units-ok .ensures))) ∙ z) in
+    (g .on .sound, g .on .room, unit-room _ _ _ (g .units-ok))
 
 returns : tie.Need-returns
 returns c =
     let at-args = c .before .before .before .before .before .before .before .before .before .before .before .before .before
-    .before .before .before .before .before .before .before .before .before .before .before .args in
-    let at-ground = c .before .before .before .ground in
-    let at-both = c .before .before .before .before .before .before .before .before .before .before .both in
-    let at-counts-ok = c .before .before .before .before .before .before .before .before .before .before .before .counts-ok in
-    let at-both2 = c .before .before .before .before .before .before .before .both2 in
-    let at-room-ok = c .before .before .before .before .before .before .before .before .before .room-ok in
-    let at-play-room-ok = c .before .before .before .before .before .before .before .before .play-room-ok in
-    let at-both3 = c .before .before .before .before .both3 in
-    let at-slots-ok = c .before .before .before .before .before .before .slots-ok in
-    let at-units-ok = c .before .before .before .before .before .units-ok in
-    let at-if1 = c .before .before .if1 in
-    let at-recount-ok = c .before .recount-ok in
-    play-0 (plan (at-args .people) (at-args .slots) (at-args .starts .now) (at-args .ends .now)) (at-args .avail .now) (at-args
-    .units) (at-args .firsts .now) (at-args .frozen .now) (at-args .count) (at-args .kinds .now) (at-args .ones .now)
-    (at-args .twos .now) (at-args .owners .now) (derived (at-args .sets .now) (at-args .minutes .now)) (at-args .answers
-    .now) _ 0 _ ((at-ground .ensures) ∙ ground-same _ _ _ _ _ _ ((at-both .ensures) ∙ ap (λ (b : Bool). b && leb (at-args
-    .count) 1024) (at-counts-ok .ensures)) ((at-both2 .ensures) ∙ ap₂ _&&_ (at-room-ok .ensures) (at-play-room-ok .ensures))
-    ((at-both3 .ensures) ∙ ap₂ _&&_ (at-slots-ok .ensures) (at-units-ok .ensures))) (at-if1 .taken) (at-recount-ok .ensures)
-    (c .if2 .taken)
-
-returns-2 : tie.Need-returns-2
-returns-2 c =
-    let at-args = c .before .before .before .before .before .before .before .before .before .before .before .before .before
-    .before .before .before .before .before .before .before .before .before .before .before .args in
-    let at-ground = c .before .before .before .ground in
-    let at-both = c .before .before .before .before .before .before .before .before .before .before .both in
-    let at-counts-ok = c .before .before .before .before .before .before .before .before .before .before .before .counts-ok in
-    let at-both2 = c .before .before .before .before .before .before .before .both2 in
-    let at-room-ok = c .before .before .before .before .before .before .before .before .before .room-ok in
-    let at-play-room-ok = c .before .before .before .before .before .before .before .before .play-room-ok in
-    let at-both3 = c .before .before .before .before .both3 in
-    let at-slots-ok = c .before .before .before .before .before .before .slots-ok in
-    let at-units-ok = c .before .before .before .before .before .units-ok in
-    let at-if1 = c .before .before .if1 in
-    let at-recount-ok = c .before .recount-ok in
-    play-10 (plan (at-args .people) (at-args .slots) (at-args .starts .now) (at-args .ends .now)) (at-args .avail .now) (at-args
-    .units) (at-args .firsts .now) (at-args .frozen .now) (at-args .count) (at-args .kinds .now) (at-args .ones .now)
-    (at-args .twos .now) (at-args .owners .now) (derived (at-args .sets .now) (at-args .minutes .now)) (at-args .answers
-    .now) _ 0 _ ((at-ground .ensures) ∙ ground-same _ _ _ _ _ _ ((at-both .ensures) ∙ ap (λ (b : Bool). b && leb (at-args
-    .count) 1024) (at-counts-ok .ensures)) ((at-both2 .ensures) ∙ ap₂ _&&_ (at-room-ok .ensures) (at-play-room-ok .ensures))
-    ((at-both3 .ensures) ∙ ap₂ _&&_ (at-slots-ok .ensures) (at-units-ok .ensures))) (at-if1 .taken) (at-recount-ok .ensures)
-    (c .if2 .left)
-
-returns-3 : tie.Need-returns-3
-returns-3 c =
-    let at-args = c .before .before .before .before .before .before .before .before .before .before .before .before .before
     .before .before .before .before .before .before .before .before .before .args in
-    let at-ground = c .before .ground in
-    let at-both = c .before .before .before .before .before .before .before .before .both in
     let at-counts-ok = c .before .before .before .before .before .before .before .before .before .counts-ok in
-    let at-both2 = c .before .before .before .before .before .both2 in
+    let at-both = c .before .before .before .before .before .before .before .before .both in
     let at-room-ok = c .before .before .before .before .before .before .before .room-ok in
     let at-play-room-ok = c .before .before .before .before .before .before .play-room-ok in
-    let at-both3 = c .before .before .both3 in
+    let at-both2 = c .before .before .before .before .before .both2 in
     let at-slots-ok = c .before .before .before .before .slots-ok in
     let at-units-ok = c .before .before .before .units-ok in
-    play-stops (plan (at-args .people) (at-args .slots) (at-args .starts .now) (at-args .ends .now)) (at-args .avail .now)
-    (at-args .units) (at-args .firsts .now) (at-args .frozen .now) (at-args .count) (at-args .kinds .now) (at-args .ones
-    .now) (at-args .twos .now) (at-args .owners .now) (derived (at-args .sets .now) (at-args .minutes .now)) (at-args
-    .answers .now) _ 0 true ((at-ground .ensures) ∙ ground-same _ _ _ _ _ _ ((at-both .ensures) ∙ ap (λ (b : Bool). b && leb
-    (at-args .count) 1024) (at-counts-ok .ensures)) ((at-both2 .ensures) ∙ ap₂ _&&_ (at-room-ok .ensures) (at-play-room-ok
-    .ensures)) ((at-both3 .ensures) ∙ ap₂ _&&_ (at-slots-ok .ensures) (at-units-ok .ensures))) (c .if1 .left)
+    let at-both3 = c .before .before .both3 in
+    let at-ground = c .before .ground in
+    play-then (plan (at-args .people) (at-args .slots) (at-args .starts .now) (at-args .ends .now)) (at-args .avail .now)
+    (at-args .units)
+    (at-args .firsts .now) (at-args .frozen .now) (at-args .count) (at-args .kinds .now) (at-args .ones .now) (at-args .twos
+    .now)
+    (at-args .owners .now) (derived (at-args .sets .now) (at-args .minutes .now)) (at-args .answers .now) _ _
+    ((at-ground .ensures) ∙ ground-same _ _ _ _ _ _
+    ((at-both .ensures) ∙ ap (λ (b : Bool). b && leb (at-args .count) 1024) (at-counts-ok .ensures))
+    ((at-both2 .ensures) ∙ ap₂ _&&_ (at-room-ok .ensures) (at-play-room-ok .ensures))
+    ((at-both3 .ensures) ∙ ap₂ _&&_ (at-slots-ok .ensures) (at-units-ok .ensures)))
+    (c .then-recount .ensures)
 
 pub play-no-spec : {M : Type 1} → statement M
 play-no-spec =
@@ -141,7 +95,5 @@ play-no-spec =
     units-ok-requires
     both-requires-3
     ground-requires
-    recount-ok-requires
-    returns
-    returns-2
-    returns-3)
+    then-recount-requires
+    returns)

@@ -4,7 +4,7 @@ use native.Mathlib.Omega.{arith}
 use borrow.Author.Needs.{needs}
 use Rattle.rota.specs.Derived.{plan, derived}
 use Rattle.rota.proofs.Judged.{board-owned}
-use Rattle.rota.proofs.Stepping.{stretch-one, stretch-known, second-known, second-after, over-lengths, drawn-lawful, stepped-stay}
+use Rattle.rota.proofs.Stepping.{stretch-one, stretch-known, second-after, over-lengths, drawn-lawful, stepped-stay}
 use Rattle.rota.proofs.Stepping.{stepped-give, stepped-trade}
 use Rattle.rota.proofs.play.step.Statement.{statement}
 use Rattle.rota.proofs.play.step.Tie as tie
@@ -87,7 +87,7 @@ hand-over-requires-3 c κs =
         (
           second-after _ (at-pre .1 .1 .0) _ (at-pre .1 .1 .1 .0) _ _ _ _ _ _ _ L _
               ((at-hand-over2 .ensures) .owners),
-          second-known _ (at-pre .1 .1 .0) _ (at-pre .1 .1 .1 .0) _ _ _ _ _ _ _ L,
+          stretch-known _ (at-pre .1 .1 .0) _ (at-pre .1 .1 .1 .0) _ _ _ _ (L .right),
         ),
       ),
     )

@@ -2,8 +2,9 @@
 use mathlib.Core.Path.{refl, sym, _∙_}
 use native.Mathlib.Omega.{arith}
 use borrow.Author.Needs.{needs}
+use Rattle.paper.proofs.Logic.{and-stops}
 use Rattle.rota.specs.Derived.{plan}
-use Rattle.rota.proofs.Faults.{copy-makes, copy-lengths, right-sets, right-minutes, and-on, and-stop}
+use Rattle.rota.proofs.Faults.{copy-makes, copy-lengths, right-sets, right-minutes, and-on}
 use Rattle.rota.proofs.recount.derived_right.Statement.{statement}
 use Rattle.rota.proofs.recount.derived_right.Tie as tie
 
@@ -131,12 +132,12 @@ returns-2 c =
     let at-copy-words2 = c .before .before .before .before .before .before .before .before .before .copy-words2 in
     let at-rebuild = c .before .before .before .before .before .rebuild in
     let at-same-words = c .before .same-words in
-    and-stop _ _ (sym (right-sets (plan (at-args .people) (at-args .slots) (at-args .starts .now) (at-args .ends .now)) (at-pre
+    sym (and-stops _ _ (sym (right-sets (plan (at-args .people) (at-args .slots) (at-args .starts .now) (at-args .ends .now)) (at-pre
     .0) (at-args .owners .now) (at-args .sets .now) (at-args .minutes .now) (at-pre .1) (λ j. omega (
       arith,
       (at-shared-slice-known4 .given) j,
     )) _ _ _ _ _ refl (at-copy-words .ensures) (at-copy-words2 .ensures) (at-rebuild
-    .ensures)) ∙ sym (at-same-words .ensures) ∙ (c .if1 .left))
+    .ensures)) ∙ sym (at-same-words .ensures) ∙ (c .if1 .left)))
 
 pub derived-right-spec : {M : Type 1} → statement M
 derived-right-spec =

@@ -1,5 +1,5 @@
 -- `rota::recount::first_unavailable` meets its contract. Assumes nothing.
-use mathlib.Core.Path.{_≡_, _∙_}
+use mathlib.Core.Path.{_≡_, sym, _∙_}
 use mathlib.Core.Bool.{true}
 use Prim.Native.Nat.{_-_, _≤_}
 use native.Mathlib.Omega.{arith}
@@ -7,7 +7,7 @@ use borrow.Author.Needs.{needs}
 use Rattle.paper.specs.Count.{all}
 use Rattle.paper.proofs.Count.{all-none, all-more, all-each}
 use Rattle.rota.specs.Recount.{knownAt, availableAt}
-use Rattle.rota.proofs.Scans.{scan-fails, scan-ends, available-test}
+use Rattle.rota.proofs.Scans.{scan-fails, scan-ends}
 use Rattle.rota.proofs.recount.first_unavailable.Statement.{statement}
 use Rattle.rota.proofs.recount.first_unavailable.Tie as tie
 
@@ -44,17 +44,19 @@ loop-less : tie.Need-loop-less Inv-loop μ-loop
 loop-less c = omega arith
 
 loop-again : tie.Need-loop-again Inv-loop μ-loop
+unfolding availableAt
 loop-again c =
     let at-loop = c .before .before .before .before .loop in
     let at-available-for = c .before .available-for in
-    (omega arith, all-more _ _ (at-loop .inv .1) (available-test _ _ _ _ (at-available-for .ensures) ∙ (c .if1 .taken)))
+    (omega arith, all-more _ _ (at-loop .inv .1) (sym (at-available-for .ensures) ∙ (c .if1 .taken)))
 
 returns : tie.Need-returns Inv-loop μ-loop
+unfolding availableAt
 returns c =
     let at-loop-test = c .before .before .before .loop-test in
     let at-loop = c .before .before .before .before .loop in
     let at-available-for = c .before .available-for in
-    scan-fails _ _ _ (at-loop-test .taken) (at-loop .inv .1) (available-test _ _ _ _ (at-available-for .ensures) ∙ (c .if1 .left))
+    scan-fails _ _ _ (at-loop-test .taken) (at-loop .inv .1) (sym (at-available-for .ensures) ∙ (c .if1 .left))
 
 returns-2 : tie.Need-returns-2 Inv-loop μ-loop
 returns-2 c = scan-ends _ _ _ (c .before .loop .inv .0) (c .loop-test .left) (c .before .loop .inv .1)

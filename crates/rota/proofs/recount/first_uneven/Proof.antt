@@ -24,8 +24,9 @@ is-even-requires : tie.Need-is-even-requires Inv-loop μ-loop
 is-even-requires c κs =
     let at-pre = c .before .before .before .before .pre in
     let at-loop = c .before .loop in
-    let x = (at-pre .0) (at-loop .u) (c .loop-test .taken) in
-    (x .0, omega (arith, x .1, (at-pre .1)))
+    let u = at-loop .u in
+    let below = c .loop-test .taken in
+    (at-pre .0 .some u below, omega (arith, at-pre .0 .within u below, at-pre .1))
 
 add-u : tie.Need-add-u Inv-loop μ-loop
 add-u c = search needs

@@ -1,5 +1,5 @@
 -- `rota::recount::first_unknown` meets its contract. Assumes nothing.
-use mathlib.Core.Path.{_≡_, _∙_}
+use mathlib.Core.Path.{_≡_, sym, _∙_}
 use mathlib.Core.Bool.{true}
 use Prim.Native.Nat.{_-_, _≤_}
 use native.Mathlib.Omega.{arith}
@@ -7,7 +7,7 @@ use borrow.Author.Needs.{needs}
 use Rattle.paper.specs.Count.{all}
 use Rattle.paper.proofs.Count.{all-none, all-more}
 use Rattle.rota.specs.Recount.{knownAt}
-use Rattle.rota.proofs.Scans.{scan-fails, scan-ends, known-test}
+use Rattle.rota.proofs.Scans.{scan-fails, scan-ends}
 use Rattle.rota.proofs.recount.first_unknown.Statement.{statement}
 use Rattle.rota.proofs.recount.first_unknown.Tie as tie
 
@@ -33,17 +33,19 @@ loop-less : tie.Need-loop-less Inv-loop μ-loop
 loop-less c = omega arith
 
 loop-again : tie.Need-loop-again Inv-loop μ-loop
+unfolding knownAt
 loop-again c =
     let at-loop = c .before .before .before .before .loop in
     let at-known-by = c .before .known-by in
-    (omega arith, all-more _ _ (at-loop .inv .1) (known-test _ _ _ _ (at-known-by .ensures) ∙ (c .if1 .taken)))
+    (omega arith, all-more _ _ (at-loop .inv .1) (sym (at-known-by .ensures) ∙ (c .if1 .taken)))
 
 returns : tie.Need-returns Inv-loop μ-loop
+unfolding knownAt
 returns c =
     let at-loop-test = c .before .before .before .loop-test in
     let at-loop = c .before .before .before .before .loop in
     let at-known-by = c .before .known-by in
-    scan-fails _ _ _ (at-loop-test .taken) (at-loop .inv .1) (known-test _ _ _ _ (at-known-by .ensures) ∙ (c .if1 .left))
+    scan-fails _ _ _ (at-loop-test .taken) (at-loop .inv .1) (sym (at-known-by .ensures) ∙ (c .if1 .left))
 
 returns-2 : tie.Need-returns-2 Inv-loop μ-loop
 returns-2 c = scan-ends _ _ _ (c .before .loop .inv .0) (c .loop-test .left) (c .before .loop .inv .1)

@@ -1,14 +1,15 @@
 -- `rota::recount::first_wrong_minutes` meets its contract. Assumes nothing.
-use mathlib.Core.Path.{_≡_}
+use mathlib.Core.Path.{_≡_, sym, _∙_}
 use mathlib.Core.Bool.{true}
 use Prim.Native.Nat.{_-_, _≤_}
 use native.Mathlib.Omega.{arith}
 use borrow.Author.Needs.{needs}
+use borrow.Author.Tests.{eq-eqb, ne-eqb}
 use Rattle.paper.specs.Count.{all}
 use Rattle.paper.proofs.Count.{all-none, all-more}
 use Rattle.rota.specs.Derived.{plan}
 use Rattle.rota.specs.Recount.{minutesOkAt}
-use Rattle.rota.proofs.Scans.{scan-fails, scan-ends, minutes-test, minutes-fail}
+use Rattle.rota.proofs.Scans.{scan-fails, scan-ends}
 use Rattle.rota.proofs.recount.first_wrong_minutes.Statement.{statement}
 use Rattle.rota.proofs.recount.first_wrong_minutes.Tie as tie
 
@@ -40,17 +41,19 @@ loop-less : tie.Need-loop-less Inv-loop μ-loop
 loop-less c = omega arith
 
 loop-again : tie.Need-loop-again Inv-loop μ-loop
+unfolding minutesOkAt
 loop-again c =
     let at-loop = c .before .before .before .before .loop in
     let at-worked-by = c .before .worked-by in
-    (omega arith, all-more _ _ (at-loop .inv .1) (minutes-test _ _ _ _ _ (at-worked-by .ensures) (c .if1 .taken)))
+    (omega arith, all-more _ _ (at-loop .inv .1) (eq-eqb _ _ ((c .if1 .taken) ∙ (at-worked-by .ensures))))
 
 returns : tie.Need-returns Inv-loop μ-loop
+unfolding minutesOkAt
 returns c =
     let at-loop-test = c .before .before .before .loop-test in
     let at-loop = c .before .before .before .before .loop in
     let at-worked-by = c .before .worked-by in
-    scan-fails _ _ _ (at-loop-test .taken) (at-loop .inv .1) (minutes-fail _ _ _ _ _ (at-worked-by .ensures) (c .if1 .left))
+    scan-fails _ _ _ (at-loop-test .taken) (at-loop .inv .1) (ne-eqb _ _ (λ q. c .if1 .left (q ∙ sym (at-worked-by .ensures))))
 
 returns-2 : tie.Need-returns-2 Inv-loop μ-loop
 returns-2 c = scan-ends _ _ _ (c .before .loop .inv .0) (c .loop-test .left) (c .before .loop .inv .1)

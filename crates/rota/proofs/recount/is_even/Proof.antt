@@ -1,5 +1,5 @@
 -- `rota::recount::is_even` meets its contract. Assumes nothing.
-use mathlib.Core.Path.{_≡_, refl}
+use mathlib.Core.Path.{_≡_, refl, _∙_}
 use mathlib.Core.Bool.{true}
 use Prim.Native.Nat.{_-_, _≤_}
 use native.Mathlib.Omega.{arith}
@@ -9,7 +9,7 @@ use lib.Dec.{eqb}
 use lib.ListN.{getD}
 use Rattle.paper.specs.Count.{allIn}
 use Rattle.paper.proofs.Count.{in-none, in-more, in-fails, in-done}
-use Rattle.rota.proofs.Scans.{even-fails, even-holds}
+use Rattle.rota.proofs.Scans.{even-as}
 use Rattle.rota.proofs.recount.is_even.Statement.{statement}
 use Rattle.rota.proofs.recount.is_even.Tie as tie
 
@@ -62,16 +62,16 @@ returns c =
     let at-unit-end = c .before .before .before .before .before .unit-end in
     let at-loop = c .before .before .before .loop in
     let at-loop-test = c .before .before .loop-test in
-    even-fails _ _ _ _ _ _ _ _ (at-start-of .ensures) (at-unit-end .ensures) refl (in-fails _ _ _ _ (at-loop .inv .0)
-    (at-loop-test .taken) (ne-eqb _ _ (c .if1 .left)))
+    in-fails _ _ _ _ (at-loop .inv .0) (at-loop-test .taken) (ne-eqb _ _ (c .if1 .left))
+    ∙ even-as _ _ _ _ _ _ _ _ (at-start-of .ensures) (at-unit-end .ensures) refl
 
 returns-2 : tie.Need-returns-2 Inv-loop μ-loop
 returns-2 c =
     let at-start-of = c .before .before .before .before .start-of in
     let at-unit-end = c .before .before .before .unit-end in
     let at-loop = c .before .loop in
-    even-holds _ _ _ _ _ _ _ _ (at-start-of .ensures) (at-unit-end .ensures) refl (in-done _ _ _ _ (at-loop .inv .1) (c
-    .loop-test .left) (at-loop .inv .2))
+    in-done _ _ _ _ (at-loop .inv .1) (c .loop-test .left) (at-loop .inv .2)
+    ∙ even-as _ _ _ _ _ _ _ _ (at-start-of .ensures) (at-unit-end .ensures) refl
 
 pub is-even-spec : {M : Type 1} → statement M
 is-even-spec =

@@ -5,9 +5,8 @@ use borrow.Author.Needs.{needs}
 use lib.Dec.{leb}
 use lib.ListN.{length}
 use Rattle.rota.specs.Derived.{plan, derived}
-use Rattle.rota.proofs.Entered.{ground-same}
-use Rattle.rota.proofs.Asked.{recount-grounds, recount-stops, recount-10, recount-0}
-use Rattle.units.proofs.Units.{unit-some, unit-within}
+use Rattle.rota.proofs.Entered.{ground-same, unit-room}
+use Rattle.rota.proofs.Asked.{recount-grounds, recount-then}
 use Rattle.rota.proofs.recount.recount.Statement.{statement}
 use Rattle.rota.proofs.recount.recount.Tie as tie
 
@@ -32,78 +31,41 @@ counts-ok-requires c κs = search needs
 ground-requires : tie.Need-ground-requires
 ground-requires c κs = search needs
 
-recount-ok-requires : tie.Need-recount-ok-requires
-recount-ok-requires c κs =
+then-recount-requires : tie.Need-then-recount-requires
+then-recount-requires c κs =
     let at-args = c .before .before .before .before .before .before .before .before .before .before .before .before .before
-    .before .before .args in
-    let at-ground = c .before .ground in
-    let at-counts-ok = c .before .before .counts-ok in
-    let at-both = c .before .before .before .before .before .before .both in
-    let at-room-ok = c .before .before .before .before .before .before .before .room-ok in
-    let at-both2 = c .before .before .before .both2 in
-    let at-slots-ok = c .before .before .before .before .before .slots-ok in
-    let at-units-ok = c .before .before .before .before .units-ok in
-    let g = recount-grounds (plan (at-args .people) (at-args .slots) (at-args .starts .now) (at-args .ends .now)) (at-args
-    .avail .now) (at-args .units) (at-args .firsts .now) (at-args .owners .now) (derived (at-args .sets .now) (at-args
-    .minutes .now)) (sym ((at-ground .ensures) ∙ ground-same _ _ _ _ _ _ (at-counts-ok .ensures) ((at-both .ensures) ∙ ap (λ
-    (b : Bool). b && leb (at-args .units) (length (at-args .firsts .now))) (at-room-ok .ensures)) ((at-both2 .ensures) ∙ ap₂
-    _&&_ (at-slots-ok .ensures) (at-units-ok .ensures))) ∙ (c .if1 .taken)) in
-    (g .0 .sound, (g .0 .room, λ u h. (unit-some _ _ _ (g .1) u h, unit-within _ _ _ (g .1) u h)))
+    .before .args in
+    let at-room-ok = c .before .before .before .before .before .before .room-ok in
+    let at-both = c .before .before .before .before .before .both in
+    let at-slots-ok = c .before .before .before .before .slots-ok in
+    let at-units-ok = c .before .before .before .units-ok in
+    let at-both2 = c .before .before .both2 in
+    let at-counts-ok = c .before .counts-ok in
+    λ z. let g = recount-grounds (plan (at-args .people) (at-args .slots) (at-args .starts .now) (at-args .ends .now)) (at-args
+    .avail .now) (at-args .units)
+    (at-args .firsts .now) (at-args .owners .now) (derived (at-args .sets .now) (at-args .minutes .now)) (sym ((c .ground
+    .ensures) ∙ ground-same _ _ _ _ _ _ (at-counts-ok .ensures) ((at-both .ensures) ∙ ap (λ (b : Bool). b && leb (at-args
+    .units) (length (at-args .firsts .now))) (at-room-ok .ensures)) ((at-both2 .ensures) ∙ ap₂ _&&_ (at-slots-ok .ensures)
+    (at-units-ok .ensures))) ∙ z) in
+    (g .0 .sound, g .0 .room, unit-room _ _ _ (g .1))
 
 returns : tie.Need-returns
 returns c =
     let at-args = c .before .before .before .before .before .before .before .before .before .before .before .before .before
-    .before .before .before .before .args in
-    let at-ground = c .before .before .before .ground in
-    let at-counts-ok = c .before .before .before .before .counts-ok in
-    let at-both = c .before .before .before .before .before .before .before .before .both in
-    let at-room-ok = c .before .before .before .before .before .before .before .before .before .room-ok in
-    let at-both2 = c .before .before .before .before .before .both2 in
-    let at-slots-ok = c .before .before .before .before .before .before .before .slots-ok in
-    let at-units-ok = c .before .before .before .before .before .before .units-ok in
-    let at-if1 = c .before .before .if1 in
-    let at-recount-ok = c .before .recount-ok in
-    recount-0 (plan (at-args .people) (at-args .slots) (at-args .starts .now) (at-args .ends .now)) (at-args .avail .now)
-    (at-args .units) (at-args .firsts .now) (at-args .owners .now) (derived (at-args .sets .now) (at-args .minutes .now)) _
-    ((at-ground .ensures) ∙ ground-same _ _ _ _ _ _ (at-counts-ok .ensures) ((at-both .ensures) ∙ ap (λ (b : Bool). b && leb
-    (at-args .units) (length (at-args .firsts .now))) (at-room-ok .ensures)) ((at-both2 .ensures) ∙ ap₂ _&&_ (at-slots-ok
-    .ensures) (at-units-ok .ensures))) (at-if1 .taken) _ (at-recount-ok .ensures) (c .if2 .taken)
-
-returns-2 : tie.Need-returns-2
-returns-2 c =
-    let at-args = c .before .before .before .before .before .before .before .before .before .before .before .before .before
-    .before .before .before .before .args in
-    let at-ground = c .before .before .before .ground in
-    let at-counts-ok = c .before .before .before .before .counts-ok in
-    let at-both = c .before .before .before .before .before .before .before .before .both in
-    let at-room-ok = c .before .before .before .before .before .before .before .before .before .room-ok in
-    let at-both2 = c .before .before .before .before .before .both2 in
-    let at-slots-ok = c .before .before .before .before .before .before .before .slots-ok in
-    let at-units-ok = c .before .before .before .before .before .before .units-ok in
-    let at-if1 = c .before .before .if1 in
-    let at-recount-ok = c .before .recount-ok in
-    recount-10 (plan (at-args .people) (at-args .slots) (at-args .starts .now) (at-args .ends .now)) (at-args .avail .now)
-    (at-args .units) (at-args .firsts .now) (at-args .owners .now) (derived (at-args .sets .now) (at-args .minutes .now)) _
-    ((at-ground .ensures) ∙ ground-same _ _ _ _ _ _ (at-counts-ok .ensures) ((at-both .ensures) ∙ ap (λ (b : Bool). b && leb
-    (at-args .units) (length (at-args .firsts .now))) (at-room-ok .ensures)) ((at-both2 .ensures) ∙ ap₂ _&&_ (at-slots-ok
-    .ensures) (at-units-ok .ensures))) (at-if1 .taken) _ (at-recount-ok .ensures) (c .if2 .left)
-
-returns-3 : tie.Need-returns-3
-returns-3 c =
-    let at-args = c .before .before .before .before .before .before .before .before .before .before .before .before .before
     .before .before .args in
-    let at-ground = c .before .ground in
-    let at-counts-ok = c .before .before .counts-ok in
-    let at-both = c .before .before .before .before .before .before .both in
     let at-room-ok = c .before .before .before .before .before .before .before .room-ok in
-    let at-both2 = c .before .before .before .both2 in
+    let at-both = c .before .before .before .before .before .before .both in
     let at-slots-ok = c .before .before .before .before .before .slots-ok in
     let at-units-ok = c .before .before .before .before .units-ok in
-    recount-stops (plan (at-args .people) (at-args .slots) (at-args .starts .now) (at-args .ends .now)) (at-args .avail .now)
-    (at-args .units) (at-args .firsts .now) (at-args .owners .now) (derived (at-args .sets .now) (at-args .minutes .now)) _
-    ((at-ground .ensures) ∙ ground-same _ _ _ _ _ _ (at-counts-ok .ensures) ((at-both .ensures) ∙ ap (λ (b : Bool). b && leb
-    (at-args .units) (length (at-args .firsts .now))) (at-room-ok .ensures)) ((at-both2 .ensures) ∙ ap₂ _&&_ (at-slots-ok
-    .ensures) (at-units-ok .ensures))) (c .if1 .left)
+    let at-both2 = c .before .before .before .both2 in
+    let at-counts-ok = c .before .before .counts-ok in
+    let at-ground = c .before .ground in
+    recount-then (plan (at-args .people) (at-args .slots) (at-args .starts .now) (at-args .ends .now)) (at-args .avail .now)
+    (at-args .units) (at-args
+    .firsts .now) (at-args .owners .now) (derived (at-args .sets .now) (at-args .minutes .now)) _ _ ((at-ground .ensures) ∙
+    ground-same _ _ _ _ _ _ (at-counts-ok .ensures) ((at-both .ensures) ∙ ap (λ (b : Bool). b && leb (at-args .units)
+    (length (at-args .firsts .now))) (at-room-ok .ensures)) ((at-both2 .ensures) ∙ ap₂ _&&_ (at-slots-ok .ensures)
+    (at-units-ok .ensures))) (c .then-recount .ensures)
 
 pub recount-spec : {M : Type 1} → statement M
 recount-spec =
@@ -116,7 +78,5 @@ recount-spec =
     both-requires-2
     counts-ok-requires
     ground-requires
-    recount-ok-requires
-    returns
-    returns-2
-    returns-3)
+    then-recount-requires
+    returns)

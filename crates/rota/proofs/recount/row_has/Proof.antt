@@ -1,6 +1,6 @@
 -- `rota::recount::row_has` meets its contract. Assumes nothing.
 use borrow.Author.Needs.{needs}
-use Rattle.rota.proofs.Scans.{row-yes, row-no, row-refused}
+use Rattle.rota.proofs.Scans.{row-says}
 use Rattle.rota.proofs.recount.row_has.Statement.{statement}
 use Rattle.rota.proofs.recount.row_has.Tie as tie
 
@@ -20,21 +20,21 @@ returns : tie.Need-returns
 returns c =
     let at-pre = c .before .before .before .before .pre in
     let at-contains = c .before .before .contains in
-    row-yes _ _ _ _ _ (at-pre .0) (at-pre .1) (at-pre .2) (at-pre .3) (at-pre .4) _ (at-contains .ensures) (c .enum-told .given
+    row-says _ _ _ _ _ (at-pre .0) (at-pre .1) (at-pre .2) (at-pre .3) (at-pre .4) _ (at-contains .ensures) _ (c .enum-told .given
     .1)
 
 returns-2 : tie.Need-returns-2
 returns-2 c =
     let at-pre = c .before .before .before .before .pre in
     let at-contains = c .before .before .contains in
-    row-no _ _ _ _ _ (at-pre .0) (at-pre .1) (at-pre .2) (at-pre .3) (at-pre .4) _ (at-contains .ensures) (c .enum-told2 .given
+    row-says _ _ _ _ _ (at-pre .0) (at-pre .1) (at-pre .2) (at-pre .3) (at-pre .4) _ (at-contains .ensures) _ (c .enum-told2 .given
     .1)
 
 returns-3 : tie.Need-returns-3
 returns-3 c =
     let at-pre = c .before .before .before .before .pre in
     let at-contains = c .before .before .contains in
-    row-refused _ _ _ _ _ (at-pre .0) (at-pre .1) (at-pre .2) (at-pre .3) (at-pre .4) _ (at-contains .ensures) _ (c .enum-told3
+    row-says _ _ _ _ _ (at-pre .0) (at-pre .1) (at-pre .2) (at-pre .3) (at-pre .4) _ (at-contains .ensures) _ (c .enum-told3
     .given .1)
 
 pub row-has-spec : {M : Type 1} → statement M
