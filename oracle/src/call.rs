@@ -29,6 +29,21 @@ pub struct Question {
 }
 
 impl Question {
+    /// A call that is answered by a number alone.
+    pub fn number(function: &'static str, args: Vec<Arg>, result: u64) -> Self {
+        let due = Outcome { result, written: vec![] };
+        Self { function, args, due }
+    }
+
+    /// A call that writes numbers through addresses: those due, or where there are none, what stood there stays.
+    pub fn beside(function: &'static str, mut args: Vec<Arg>, was: &[u64], result: u64, due: Option<Vec<u64>>) -> Self {
+        args.extend(was.iter().map(|&n| Arg::Out(n)));
+        let numbers = due.unwrap_or_else(|| was.to_vec());
+        let written = numbers.iter().map(|n| n.to_le_bytes().to_vec()).collect();
+        let due = Outcome { result, written };
+        Self { function, args, due }
+    }
+
     /// What is asked and what is due, short enough for a report.
     pub fn told(&self, got: &Outcome) -> String {
         let numbers: Vec<String> = self

@@ -2,7 +2,7 @@
 
 use chrono::{Datelike, Duration, NaiveDate, NaiveDateTime};
 
-use crate::call::{Arg, Outcome, Question};
+use crate::call::{Arg, Question};
 use crate::limits::MINUTES_MOST;
 use crate::seed::Seed;
 
@@ -36,14 +36,7 @@ fn minutes_of_day(day: i64) -> impl Iterator<Item = i64> {
 
 /// The library's date and weekday of a day.
 fn day_questions(day: i64) -> Vec<Question> {
-    let question = |function, argument: i64, due: i64| Question {
-        function,
-        args: vec![Arg::Number(argument as u64)],
-        due: Outcome {
-            result: due as u64,
-            written: vec![],
-        },
-    };
+    let question = |function, argument: i64, due: i64| Question::number(function, vec![Arg::Number(argument as u64)], due as u64);
     let mut asked: Vec<Question> = minutes_of_day(day)
         .map(|minute| question("boltraven_date_of", minute, date_and_weekday(minute).0))
         .collect();

@@ -56,10 +56,7 @@ impl FigureCase {
             people: self.people.clone(),
             settings: Settings {
                 fairness: self.fairness,
-                lock: 0,
-                boundary: 0,
-                value: 1,
-                days: 1,
+                ..Settings::PLAIN
             },
         }
     }

@@ -3,7 +3,7 @@
 use crate::call::bytes16;
 use crate::job_files::{file_of, numbers, Record, FREEZE, OWNER, SETTINGS};
 use crate::jobs::JobCase;
-use crate::limits::{DRAWS_MOST, FILE_MOST, MINUTES_MOST, NOBODY, PEOPLE_MOST, SLOTS_MOST};
+use crate::limits::{DRAWS_MOST, FILE_MOST, MINUTES_MOST, NOBODY, PEOPLE_MOST, RANGES_MOST, SLOTS_MOST};
 use crate::problems::{Person, Range};
 use crate::rotas::owners;
 use crate::seed::Seed;
@@ -87,7 +87,7 @@ pub const FAULTS: [Fault; 46] = [
     }),
     said(4, "empty range of an unknown person", |_, job| {
         let (person, start, end) = (job.problem.people.len(), 60, 60);
-        job.problem.ranges.truncate(1023);
+        job.problem.ranges.truncate(RANGES_MOST - 1);
         job.problem.ranges.push(Range { person, start, end });
         true
     }),
@@ -118,12 +118,12 @@ pub const FAULTS: [Fault; 46] = [
     said(1, "no people", |_, job| emptied(&mut job.problem.people)),
     said(1, "too many people", |seed, job| {
         let most = PEOPLE_MOST + 1 + seed.below(3) as usize;
-        job.problem.people.resize(most, Person { capacity: 1.0, prior: 0 });
+        job.problem.people.resize(most, Person::PLAIN);
         true
     }),
     said(1, "too many ranges", |seed, job| {
         let range = *a_range(seed, job);
-        job.problem.ranges.resize(1025 + seed.below(3) as usize, range);
+        job.problem.ranges.resize(RANGES_MOST + 1 + seed.below(3) as usize, range);
         true
     }),
     said(1, "too many draws", |seed, job| {

@@ -163,14 +163,8 @@ pub fn numbers(job: &JobCase) -> Vec<u8> {
 /// The same base slots and ranges, with figures and settings that nothing is wrong with.
 fn plain(case: &ProblemCase) -> ProblemCase {
     ProblemCase {
-        people: vec![Person { capacity: 1.0, prior: 0 }; case.people.len()],
-        settings: Settings {
-            fairness: 0,
-            lock: 0,
-            boundary: 0,
-            value: 1,
-            days: 1,
-        },
+        people: vec![Person::PLAIN; case.people.len()],
+        settings: Settings::PLAIN,
         ..case.clone()
     }
 }

@@ -10,7 +10,7 @@ use crate::days::instant;
 use crate::job_faults::{at_the_limit, some_faults, with_faults};
 use crate::job_files::{file_of, listing_of, Record, BASE, DRAW, FREEZE, OWNER, PERSON, RANGE, SETTINGS};
 use crate::library;
-use crate::limits::{DRAWS_MOST, MINUTES_MOST, NOBODY, PEOPLE_MOST, SLOTS_MOST};
+use crate::limits::{DRAWS_MOST, MINUTES_MOST, NOBODY, PEOPLE_MOST, RANGES_MOST, SLOTS_MOST};
 use crate::problems::{problem_case, slots_of, Person, ProblemCase, Range, Settings};
 use crate::rotas::{draws, owners, play, played, Draw, Played};
 use crate::seed::Seed;
@@ -65,7 +65,7 @@ impl JobCase {
         let length = MINUTES_MOST as u32 / SLOTS_MOST as u32;
         let first = MINUTES_MOST as u32 - length * SLOTS_MOST as u32;
         let start = |slot: u32| first + length * slot;
-        let (people, ranges) = (PEOPLE_MOST as u32, 1024);
+        let (people, ranges) = (PEOPLE_MOST as u32, RANGES_MOST as u32);
         let share = ranges / people;
         let stretch = SLOTS_MOST as u32 / share;
         let range = |k: u32| Range {
@@ -126,7 +126,7 @@ impl JobCase {
         };
         let person = |k| Person {
             capacity: if k < 7 { 10.1 } else { 1.012 },
-            prior: 0,
+            ..Person::PLAIN
         };
         Self {
             problem: ProblemCase {
@@ -135,10 +135,7 @@ impl JobCase {
                 people: (0..PEOPLE_MOST).map(person).collect(),
                 settings: Settings {
                     fairness: 1,
-                    lock: 0,
-                    boundary: 0,
-                    value: 1,
-                    days: 1,
+                    ..Settings::PLAIN
                 },
             },
             freeze: None,
@@ -389,13 +386,6 @@ mod tests {
     /// The paper's own job and its listing.
     #[test]
     fn worked_example() {
-        let settings = Settings {
-            fairness: 0,
-            lock: 0,
-            boundary: 0,
-            value: 1,
-            days: 1,
-        };
         let ranges = vec![
             Range {
                 person: 0,
@@ -412,8 +402,8 @@ mod tests {
             problem: ProblemCase {
                 base: vec![(0, 120)],
                 ranges,
-                people: vec![Person { capacity: 1.0, prior: 0 }; 2],
-                settings,
+                people: vec![Person::PLAIN; 2],
+                settings: Settings::PLAIN,
             },
             freeze: None,
             owners: vec![(0, 0), (1, 0)],

@@ -19,9 +19,10 @@ pub struct LentUnits {
     pub person: usize,
     pub slot: usize,
     pub unit: usize,
-    /// Room for starts, and for a list of people.
+    /// Room for starts, for a list of people, and for a mask a unit.
     pub starts_room: usize,
     pub list_room: usize,
+    pub masks_room: usize,
 }
 
 /// The Rust's answers to what is asked.
@@ -68,6 +69,7 @@ pub fn lent(seed: &mut Seed, case: &ProblemCase, mut problem: Problem) -> (LentU
         unit: seed.below(problem.unit_count() as u64) as usize,
         starts_room: count + seed.below(2) as usize,
         list_room: people + seed.below(2) as usize,
+        masks_room: problem.unit_count() + seed.below(2) as usize,
         slots,
     };
     let due = due(case, &problem, &lent);
@@ -100,7 +102,7 @@ fn due(case: &ProblemCase, problem: &Problem, lent: &LentUnits) -> DueUnits {
 impl LentUnits {
     /// Breaks one rule.
     pub fn damage(&mut self, seed: &mut Seed) {
-        match seed.below(12) {
+        match seed.below(13) {
             0 => self.people = seed.pick(&[0, 33, usize::MAX]),
             1 => self.avail.truncate(seed.pick(&[0, self.avail.len().max(1) - 1])),
             2 => self.frozen.truncate(seed.pick(&[0, SET_WORDS - 1])),
@@ -109,8 +111,9 @@ impl LentUnits {
             5 => self.unit = seed.pick(&[self.units.count, usize::MAX]),
             6 => self.starts_room = seed.pick(&[0, self.slots.starts.len().max(1) - 1]),
             7 => self.list_room = seed.pick(&[0, self.people.clamp(1, 32) - 1]),
-            8 => damage_settings(seed, &mut self.settings),
-            9 => self.units.damage(seed, self.slots.starts.len()),
+            8 => self.masks_room = seed.pick(&[0, self.units.firsts.len().max(1) - 1]),
+            9 => damage_settings(seed, &mut self.settings),
+            10 => self.units.damage(seed, self.slots.starts.len()),
             _ => self.slots.damage(seed),
         }
     }
@@ -166,9 +169,9 @@ impl LentUnits {
         ])
     }
 
-    /// The domains of all units, with room for so many: 1, 2, 9.
-    pub fn unit_domains_no(&self, room: usize) -> u64 {
-        let room = words_ok(self.people, self.avail.len()) && self.units.count <= room;
+    /// The domains of all units: 1, 2, 9.
+    pub fn unit_domains_no(&self) -> u64 {
+        let room = words_ok(self.people, self.avail.len()) && self.units.count <= self.masks_room;
         lowest(&[
             (1, people_ok(self.people) && self.slots.count_ok()),
             (2, room && self.units.room_ok()),

@@ -75,7 +75,7 @@ const SHOWN: u64 = 20;
 
 const USAGE: &str = "usage: oracle compare N SEED KIND|every | case KIND CASE-SEED | days | longest | time N
        oracle program N SEED COMMAND.. | rules N SEED | store KIND N SEED FOLDER
-       oracle job SEED | listing SEED | limits | listing-of FILE | moves BLOCKS DRAWS SEED FILE
+       oracle limits | listing-of FILE | moves BLOCKS DRAWS SEED FILE
        oracle bench rows | bench SEED [COUNTS] | bench SEED ROW ours|rust TURNS";
 
 fn main() -> ExitCode {
@@ -110,14 +110,6 @@ fn main() -> ExitCode {
         ["rules", n, seed] => match (n.parse(), seed.parse()) {
             (Ok(n), Ok(seed)) => compare_rules(n, seed),
             _ => usage(),
-        },
-        ["job", seed] => match seed.parse() {
-            Ok(seed) => write_out(&jobs::JobCase::new(&mut Seed::new(seed)).file()),
-            Err(_) => usage(),
-        },
-        ["listing", seed] => match seed.parse() {
-            Ok(seed) => write_out(job_files::text_of(&jobs::JobCase::new(&mut Seed::new(seed)).file()).as_bytes()),
-            Err(_) => usage(),
         },
         ["limits"] => write_out(&jobs::JobCase::at_every_limit().file()),
         ["longest"] => ended(jobs::longest()),

@@ -7,7 +7,7 @@ use on_call::model::problem::Problem;
 use on_call::timerange::TimeRange;
 
 use crate::days::{instant, minute_of};
-use crate::limits::{MINUTES_MOST, PEOPLE_MOST, SLOTS_MOST};
+use crate::limits::{MINUTES_MOST, PEOPLE_MOST, RANGES_MOST, SLOTS_MOST};
 use crate::seed::Seed;
 use crate::sets::put_bit;
 
@@ -36,6 +36,22 @@ pub struct Settings {
     pub boundary: u8,
     pub value: u16,
     pub days: u16,
+}
+
+impl Person {
+    /// Of whom nothing is to be told apart.
+    pub const PLAIN: Self = Self { capacity: 1.0, prior: 0 };
+}
+
+impl Settings {
+    /// Each slot a unit and a rotation, shifts of one day.
+    pub const PLAIN: Self = Self {
+        fairness: 0,
+        lock: 0,
+        boundary: 0,
+        value: 1,
+        days: 1,
+    };
 }
 
 /// What a problem is built from.
@@ -339,7 +355,7 @@ pub fn settings(seed: &mut Seed) -> Settings {
 pub fn problem_case(seed: &mut Seed) -> ProblemCase {
     let base = base_slots(seed, SLOTS_MOST as u64);
     let people = people(seed, PEOPLE_MOST as u64);
-    let ranges = ranges(seed, &base, people.len(), 1024);
+    let ranges = ranges(seed, &base, people.len(), RANGES_MOST as u64);
     ProblemCase {
         base,
         ranges,

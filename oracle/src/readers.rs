@@ -2,7 +2,7 @@
 
 use crate::call::{bytes16, bytes64, Arg, Outcome, Question};
 use crate::limits::{NOBODY, NOTHING};
-use crate::rotas::{LentRota, RotaCase};
+use crate::rotas::{played, LentRota, RotaCase};
 use crate::seed::Seed;
 
 /// The refusal of an index that is not below its count.
@@ -17,23 +17,15 @@ fn index(seed: &mut Seed, count: usize) -> usize {
     }
 }
 
-/// A number beside each of its own words, or a refusal that leaves them.
-fn beside(function: &'static str, mut args: Vec<Arg>, seed: &mut Seed, due: Option<Vec<u64>>, words: usize) -> Question {
-    let was: Vec<u64> = (0..words).map(|_| seed.word()).collect();
-    args.extend(was.iter().map(|&word| Arg::Out(word)));
+/// A question whose answer is so many numbers, written through addresses; or none, where something is unknown.
+fn beside(function: &'static str, args: Vec<Arg>, seed: &mut Seed, due: Option<Vec<u64>>, numbers: usize) -> Question {
+    let was: Vec<u64> = (0..numbers).map(|_| seed.word()).collect();
     let result = if due.is_some() { 0 } else { UNKNOWN };
-    let written = due.unwrap_or(was);
-    Question {
-        function,
-        args,
-        due: Outcome {
-            result,
-            written: written.iter().map(|word| word.to_le_bytes().to_vec()).collect(),
-        },
-    }
+    Question::beside(function, args, &was, result, due)
 }
 
-/// The owner of a slot, a person's minutes, who can cover a slot, a slot's unit, a unit's slots, and minutes of one and of all slots.
+/// The owner of a slot, a person's minutes, who can cover a slot, a slot's unit, a unit's slots, minutes of one and of all slots, and the
+/// slots and minutes that nobody owns.
 pub fn questions(seed: &mut Seed, case: &RotaCase, lent: &LentRota) -> Vec<Question> {
     let problem = &case.problem;
     let assignment = case.assignment(&case.owners);
@@ -49,6 +41,10 @@ pub fn questions(seed: &mut Seed, case: &RotaCase, lent: &LentRota) -> Vec<Quest
         Arg::Lent(1, lent.owners.clone()),
         Arg::Number(slot as u64),
     ];
+    let unassigned = Some(vec![assignment.unassigned_count() as u64]);
+    let unassigned_args = owner_args[..3].to_vec();
+    let uncovered = Some(vec![played(problem, &assignment, vec![]).uncovered]);
+    let uncovered_args = [lent.ground(), vec![Arg::Lent(1, lent.owners.clone())]].concat();
     let minutes = (person < people).then(|| vec![assignment.assigned_minutes(person) as u64]);
     let minutes_args = vec![
         Arg::Number(people as u64),
@@ -71,14 +67,13 @@ pub fn questions(seed: &mut Seed, case: &RotaCase, lent: &LentRota) -> Vec<Quest
         beside("boltraven_unit_slots", one(&units_args, unit), seed, span, 2),
         beside("boltraven_slot_minutes", one(&slots_args, slot), seed, length, 1),
         beside("boltraven_demand", slots_args, seed, Some(vec![problem.total_demand() as u64]), 1),
-        Question {
-            function: "boltraven_unit_of_slot",
-            args: one(&units_args, slot),
-            due: Outcome {
-                result: problem.unit_of_slot.get(slot).map_or(NOTHING + UNKNOWN, |&unit| unit as u64),
-                written: vec![],
-            },
-        },
+        beside("boltraven_unassigned_count", unassigned_args, seed, unassigned, 1),
+        beside("boltraven_uncovered_minutes", uncovered_args, seed, uncovered, 1),
+        Question::number(
+            "boltraven_unit_of_slot",
+            one(&units_args, slot),
+            problem.unit_of_slot.get(slot).map_or(NOTHING + UNKNOWN, |&unit| unit as u64),
+        ),
         slot_domain(seed, case, lent, slot),
     ]
 }

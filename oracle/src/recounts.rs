@@ -5,7 +5,7 @@ use on_call::model::Assignment;
 
 use crate::call::{bytes16, bytes32, bytes64, Arg, Outcome, Question};
 use crate::limits::{NOBODY, SET_WORDS};
-use crate::rotas::{played, sets_into, LentRota, RotaCase};
+use crate::rotas::{played, LentRota, RotaCase};
 use crate::seed::Seed;
 use crate::sets::{has_bit, put_bit};
 
@@ -70,8 +70,7 @@ fn changed(seed: &mut Seed, case: &RotaCase, lent: &LentRota) -> LentRota {
         2 | 3 => {
             rota.owners[slot] = somebody;
             let made = played(&case.problem, &case.assignment(&rota.owners[..slots]), vec![]);
-            sets_into(&mut rota.sets, rota.people, &made.owners);
-            rota.minutes[..rota.people].copy_from_slice(&made.minutes);
+            rota.hold(&made);
         }
         // a slot of somebody's set, to whatever
         4 => put_bit(&mut rota.sets, person, slot, seed.one_in(2)),
@@ -88,7 +87,7 @@ fn changed(seed: &mut Seed, case: &RotaCase, lent: &LentRota) -> LentRota {
 
 /// The recount as a play asks it.
 pub fn with_units(lent: &LentRota, number: u64) -> Question {
-    let args = vec![
+    let mut args = vec![
         Arg::Number(lent.people as u64),
         Arg::Number(lent.starts.len() as u64),
         Arg::Number(lent.units as u64),
@@ -96,54 +95,33 @@ pub fn with_units(lent: &LentRota, number: u64) -> Question {
         Arg::Lent(4, bytes32(&lent.ends)),
         Arg::Lent(8, bytes64(&lent.avail)),
         Arg::Lent(2, bytes16(&lent.firsts)),
-        Arg::Lent(1, lent.owners.clone()),
-        Arg::Lent(8, bytes64(&lent.sets)),
-        Arg::Lent(8, bytes64(&lent.minutes)),
     ];
-    heard("boltraven_recount", args, number)
+    args.extend(lent.rota_args(Arg::Lent));
+    Question::number("boltraven_recount", args, number)
 }
 
 /// The recount as an assign asks it.
 pub fn without_units(lent: &LentRota, number: u64) -> Question {
     let mut args = lent.ground();
-    args.extend([
-        Arg::Lent(8, bytes64(&lent.avail)),
-        Arg::Lent(1, lent.owners.clone()),
-        Arg::Lent(8, bytes64(&lent.sets)),
-        Arg::Lent(8, bytes64(&lent.minutes)),
-    ]);
-    heard("boltraven_recount_slots", args, number)
-}
-
-fn heard(function: &'static str, args: Vec<Arg>, result: u64) -> Question {
-    Question {
-        function,
-        args,
-        due: Outcome { result, written: vec![] },
-    }
+    args.push(Arg::Lent(8, bytes64(&lent.avail)));
+    args.extend(lent.rota_args(Arg::Lent));
+    Question::number("boltraven_recount_slots", args, number)
 }
 
 /// A rota emptied, as the Rust's empty one; or a refusal.
 pub fn empty(case: &RotaCase, lent: &LentRota, number: u64) -> Question {
-    let (mut owners, mut sets, mut minutes) = (lent.owners.clone(), lent.sets.clone(), lent.minutes.clone());
+    let mut after = lent.clone();
     if number == 0 {
-        let made = played(&case.problem, &Assignment::empty(&case.problem), vec![]);
-        owners[..made.owners.len()].copy_from_slice(&made.owners);
-        sets_into(&mut sets, lent.people, &made.owners);
-        minutes[..made.minutes.len()].copy_from_slice(&made.minutes);
+        after.hold(&played(&case.problem, &Assignment::empty(&case.problem), vec![]));
     }
+    let mut args = vec![Arg::Number(lent.people as u64), Arg::Number(lent.starts.len() as u64)];
+    args.extend(lent.rota_args(Arg::LentMut));
     Question {
         function: "boltraven_empty",
-        args: vec![
-            Arg::Number(lent.people as u64),
-            Arg::Number(lent.starts.len() as u64),
-            Arg::LentMut(1, lent.owners.clone()),
-            Arg::LentMut(8, bytes64(&lent.sets)),
-            Arg::LentMut(8, bytes64(&lent.minutes)),
-        ],
+        args,
         due: Outcome {
             result: number,
-            written: vec![owners, bytes64(&sets), bytes64(&minutes)],
+            written: after.buffers(),
         },
     }
 }

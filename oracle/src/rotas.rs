@@ -46,13 +46,13 @@ impl RotaCase {
         let case = ProblemCase {
             base,
             ranges,
-            people: vec![Person { capacity: 1.0, prior: 0 }; people],
+            people: vec![Person::PLAIN; people],
             settings: Settings {
                 fairness: 1,
                 lock: u8::from(locked),
                 boundary: 1,
                 value: 127,
-                days: 1,
+                ..Settings::PLAIN
             },
         };
         let mut problem = case.rust();
@@ -303,21 +303,18 @@ impl LentRota {
 
     /// A play, of draws in three columns and of the same draws as structs: what both leave, or a refusal that leaves everything as it was.
     fn plays(&self, due: Result<&Played, u64>) -> Vec<Question> {
-        let (mut owners, mut sets) = (self.owners.clone(), self.sets.clone());
-        let (mut minutes, mut answers) = (self.minutes.clone(), self.answers.clone());
+        let mut after = self.clone();
         let mut result = 0;
         match due {
             Ok(end) => {
-                owners[..end.owners.len()].copy_from_slice(&end.owners);
-                sets_into(&mut sets, self.people, &end.owners);
-                minutes[..end.minutes.len()].copy_from_slice(&end.minutes);
-                answers[..end.answers.len()].copy_from_slice(&end.answers);
+                after.hold(end);
+                after.answers[..end.answers.len()].copy_from_slice(&end.answers);
             }
             Err(number) => result = number,
         }
         let due = Outcome {
             result,
-            written: vec![owners, bytes64(&sets), bytes64(&minutes), answers],
+            written: [after.buffers(), vec![after.answers]].concat(),
         };
         let columns = self.columns().map(|column| Arg::Lent(2, bytes16(&column))).to_vec();
         let numbers: Vec<u16> = self.draws.iter().flat_map(|draw| [draw.0, draw.1, draw.2]).collect();
@@ -334,7 +331,7 @@ impl LentRota {
 
     /// What a play takes before its draws.
     fn board(&self) -> Vec<Arg> {
-        vec![
+        let mut args = vec![
             Arg::Number(self.people as u64),
             Arg::Number(self.starts.len() as u64),
             Arg::Number(self.units as u64),
@@ -344,10 +341,30 @@ impl LentRota {
             Arg::Lent(8, bytes64(&self.avail)),
             Arg::Lent(2, bytes16(&self.firsts)),
             Arg::Lent(8, bytes64(&self.frozen)),
-            Arg::LentMut(1, self.owners.clone()),
-            Arg::LentMut(8, bytes64(&self.sets)),
-            Arg::LentMut(8, bytes64(&self.minutes)),
+        ];
+        args.extend(self.rota_args(Arg::LentMut));
+        args
+    }
+
+    /// Owners, sets and minutes as they are passed, to be read alone or to be written.
+    pub fn rota_args(&self, lent: fn(usize, Vec<u8>) -> Arg) -> [Arg; 3] {
+        [
+            lent(1, self.owners.clone()),
+            lent(8, bytes64(&self.sets)),
+            lent(8, bytes64(&self.minutes)),
         ]
+    }
+
+    /// Owners, sets and minutes as bytes.
+    pub fn buffers(&self) -> Vec<Vec<u8>> {
+        vec![self.owners.clone(), bytes64(&self.sets), bytes64(&self.minutes)]
+    }
+
+    /// Puts another rota in the place of this one: what lies past its slots and people stays.
+    pub fn hold(&mut self, rota: &Played) {
+        self.owners[..rota.owners.len()].copy_from_slice(&rota.owners);
+        sets_into(&mut self.sets, self.people, &rota.owners);
+        self.minutes[..rota.minutes.len()].copy_from_slice(&rota.minutes);
     }
 }
 
@@ -360,7 +377,7 @@ pub fn sets_into(words: &mut [u64], people: usize, owners: &[u8]) {
     }
 }
 
-/// A play of all draws of a rota; sets and minutes made from its owners; one slot assigned; what is left uncovered; recounts; readers.
+/// A play of all draws of a rota; sets and minutes made from its owners; one slot assigned; recounts; single questions.
 pub fn questions(case_seed: u64) -> Vec<Question> {
     let mut seed = Seed::new(case_seed);
     let case = RotaCase::new(&mut seed);
@@ -370,7 +387,6 @@ pub fn questions(case_seed: u64) -> Vec<Question> {
     for _ in 0..3 {
         asked.push(lent.assign(&mut seed, &case));
     }
-    asked.extend(lent.readers(&mut seed, &case));
     asked.extend(recounts::questions(&mut seed, &case, &lent));
     asked.extend(readers::questions(&mut seed, &case, &lent));
     asked
@@ -389,24 +405,23 @@ impl LentRota {
 
     /// Sets and minutes from owners that are available, over whatever stood there.
     fn from_slots(&self, seed: &mut Seed, case: &RotaCase) -> Question {
-        let mut sets: Vec<u64> = self.sets.iter().map(|_| seed.word()).collect();
-        let mut minutes: Vec<u64> = self.minutes.iter().map(|_| seed.word()).collect();
+        let mut rota = self.clone();
+        rota.sets.fill_with(|| seed.word());
+        rota.minutes.fill_with(|| seed.word());
         let mut args = self.ground();
         args.extend([
             Arg::Lent(8, bytes64(&self.avail)),
             Arg::Lent(1, self.owners.clone()),
-            Arg::LentMut(8, bytes64(&sets)),
-            Arg::LentMut(8, bytes64(&minutes)),
+            Arg::LentMut(8, bytes64(&rota.sets)),
+            Arg::LentMut(8, bytes64(&rota.minutes)),
         ]);
-        let made = played(&case.problem, &case.assignment(&case.owners), vec![]);
-        sets_into(&mut sets, self.people, &made.owners);
-        minutes[..self.people].copy_from_slice(&made.minutes);
+        rota.hold(&played(&case.problem, &case.assignment(&case.owners), vec![]));
         Question {
             function: "boltraven_from_slots",
             args,
             due: Outcome {
                 result: 0,
-                written: vec![bytes64(&sets), bytes64(&minutes)],
+                written: vec![bytes64(&rota.sets), bytes64(&rota.minutes)],
             },
         }
     }
@@ -433,57 +448,23 @@ impl LentRota {
             0
         };
         let mut args = self.ground();
-        args.extend([
-            Arg::Lent(8, bytes64(&self.avail)),
-            Arg::LentMut(1, self.owners.clone()),
-            Arg::LentMut(8, bytes64(&self.sets)),
-            Arg::LentMut(8, bytes64(&self.minutes)),
-            Arg::Number(slot as u64),
-            Arg::Number(u64::from(owner)),
-        ]);
-        let (mut owners, mut sets, mut minutes) = (self.owners.clone(), self.sets.clone(), self.minutes.clone());
+        args.push(Arg::Lent(8, bytes64(&self.avail)));
+        args.extend(self.rota_args(Arg::LentMut));
+        args.extend([Arg::Number(slot as u64), Arg::Number(u64::from(owner))]);
+        let mut after = self.clone();
         if number == 0 {
             let mut assignment = case.assignment(&case.owners);
             assignment.assign(&case.problem, slot, (owner != NOBODY).then_some(person));
-            let made = played(&case.problem, &assignment, vec![]);
-            owners[..slots].copy_from_slice(&made.owners);
-            sets_into(&mut sets, self.people, &made.owners);
-            minutes[..self.people].copy_from_slice(&made.minutes);
+            after.hold(&played(&case.problem, &assignment, vec![]));
         }
         Question {
             function: "boltraven_assign",
             args,
             due: Outcome {
                 result: number,
-                written: vec![owners, bytes64(&sets), bytes64(&minutes)],
+                written: after.buffers(),
             },
         }
-    }
-
-    /// Slots and minutes that nobody owns.
-    fn readers(&self, seed: &mut Seed, case: &RotaCase) -> Vec<Question> {
-        let assignment = case.assignment(&case.owners);
-        let uncovered = played(&case.problem, &assignment, vec![]).uncovered;
-        let mut count_args = vec![
-            Arg::Number(self.people as u64),
-            Arg::Number(self.starts.len() as u64),
-            Arg::Lent(1, self.owners.clone()),
-        ];
-        count_args.push(Arg::Out(seed.word()));
-        let mut minute_args = self.ground();
-        minute_args.extend([Arg::Lent(1, self.owners.clone()), Arg::Out(seed.word())]);
-        let question = |function, args, due: u64| Question {
-            function,
-            args,
-            due: Outcome {
-                result: 0,
-                written: vec![due.to_le_bytes().to_vec()],
-            },
-        };
-        vec![
-            question("boltraven_unassigned_count", count_args, assignment.unassigned_count() as u64),
-            question("boltraven_uncovered_minutes", minute_args, uncovered),
-        ]
     }
 }
 

@@ -1,7 +1,7 @@
 //! Where rotations and units begin: by count and by weekday, across years.
 
 use crate::call::{bytes16, bytes32, Arg, Outcome, Question};
-use crate::limits::NOTHING;
+use crate::limits::{MINUTES_MOST, NOTHING};
 use crate::problems::{problem_case, problem_within, slots_of, unit_starts_of, ProblemCase, Settings};
 use crate::seed::Seed;
 use crate::table::damage_settings;
@@ -72,7 +72,7 @@ pub fn damaged(case_seed: u64) -> Vec<Question> {
     match seed.below(5) {
         0 => base[k].1 = base[k].0,
         1 => base[k] = (base[k].1, base[k].0),
-        2 => base[k].1 = 100_000_001,
+        2 => base[k].1 = MINUTES_MOST as u32 + 1,
         3 if k > 0 => base[k].0 = base[k - 1].1 - 1,
         _ => number = 0,
     }

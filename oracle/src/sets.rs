@@ -210,28 +210,15 @@ impl Row {
     fn number(&self, function: &'static str, more: &[usize], result: u64) -> Question {
         let mut args = self.args(Arg::Lent);
         args.extend(more.iter().map(|&n| Arg::Number(n as u64)));
-        Question {
-            function,
-            args,
-            due: Outcome { result, written: vec![] },
-        }
+        Question::number(function, args, result)
     }
 
     /// A question whose answer is also written through addresses: `due`, or where there is none, what stood there.
     fn numbers(&self, function: &'static str, index: usize, outs: &[u64], due: Option<Vec<u64>>) -> Question {
         let mut args = self.args(Arg::Lent);
         args.push(Arg::Number(index as u64));
-        args.extend(outs.iter().map(|&n| Arg::Out(n)));
         let result = if due.is_some() { 0 } else { NOTHING };
-        let written = due.unwrap_or_else(|| outs.to_vec());
-        Question {
-            function,
-            args,
-            due: Outcome {
-                result,
-                written: written.iter().map(|n| n.to_le_bytes().to_vec()).collect(),
-            },
-        }
+        Question::beside(function, args, outs, result, due)
     }
 
     /// A change: the number, and the words at exit.

@@ -104,7 +104,7 @@ pub fn merged_of(case: &ProblemCase) -> Vec<Range> {
         let alone = ProblemCase {
             base: vec![(0, MINUTES_MOST as u32)],
             ranges: own.map(|range| Range { person: 0, ..*range }).collect(),
-            people: vec![Person { capacity: 1.0, prior: 0 }],
+            people: vec![Person::PLAIN],
             settings: case.settings,
         };
         let problem = alone.rust();

@@ -1,11 +1,11 @@
 //! Records of rotas, in sections: plays, four facts that are easy to get wrong, single assigns, and damaged plays.
 
-use crate::limits::{NOBODY, SET_WORDS};
+use crate::limits::{DRAWS_MOST, NOBODY, SET_WORDS};
 use crate::problems::{unit_starts_of, Person, ProblemCase, Range, Settings};
 use crate::rotas::{played, Draw, Played, RotaCase};
 use crate::seed::Seed;
 use crate::stored::{filled16, filled32, half, records, Stored};
-use crate::table::{lowest, people_ok, Slots, Units};
+use crate::table::{lowest, people_ok, words_ok, Slots, Units};
 
 /// People, slots and draws of a record, at most.
 const PEOPLE: usize = 4;
@@ -23,8 +23,8 @@ const SECTIONS: [(u64, u64, &str); 7] = [
     (32, 5, " of damaged rotas"),
 ];
 
-/// Sections, each with its number of records as u16 before them: plays; twins, which act with no slot frozen and are stopped by one unit; rotas that one assign makes
-/// uneven; swaps of units of unequal lengths; reassigns that act; single assigns; damaged plays.
+/// Sections, each with its number of records as u16 before them: plays; twins, which act with no slot frozen and are stopped by one unit;
+/// rotas that one assign makes uneven; swaps of units of unequal lengths; reassigns that act; single assigns; damaged plays.
 ///
 /// A record is, low byte first: people, slots, units and draws as u16; sixteen starts and sixteen ends as u32; sixteen u16 of the slots at
 /// which units begin; four u16 of slots that a person can cover; a u16 of frozen slots; sixteen owners; the three columns of eight u16 of
@@ -172,14 +172,8 @@ fn case_12() -> RotaCase {
     let case = ProblemCase {
         base,
         ranges: vec![range(0), range(1)],
-        people: vec![Person { capacity: 1.0, prior: 0 }; 2],
-        settings: Settings {
-            fairness: 1,
-            lock: 0,
-            boundary: 0,
-            value: 1,
-            days: 1,
-        },
+        people: vec![Person::PLAIN; 2],
+        settings: Settings::PLAIN,
     };
     RotaCase {
         problem: case.rust(),
@@ -321,9 +315,9 @@ fn damaged(seed: &mut Seed, _: u64) -> Option<Record> {
         record.damage(seed, rule, slot, person);
         recounts &= !(4..=6).contains(&rule);
     }
-    let room = record.slots.count <= record.owners_lent && SET_WORDS * record.people.min(32) <= record.words_lent;
+    let room = record.slots.count <= record.owners_lent && words_ok(record.people, record.words_lent);
     record.number = lowest(&[
-        (1, people_ok(record.people) && record.slots.count_ok() && record.draws <= 1024),
+        (1, people_ok(record.people) && record.slots.count_ok() && record.draws <= DRAWS_MOST),
         (2, room),
         (9, record.slots.ok() && record.units.ok(record.slots.count)),
         (10, recounts),

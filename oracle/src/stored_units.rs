@@ -8,7 +8,7 @@ use crate::lent_units::{lent, DueUnits, LentUnits};
 use crate::problems::{problem_case, ProblemCase};
 use crate::seed::Seed;
 use crate::stored::{filled16, filled32, half, records, words, Stored};
-use crate::stored_slots::{answer, firsts, FILL16};
+use crate::stored_slots::{answer, firsts, FILL16, FILL32};
 
 /// Entries of a record's columns: slots, of which one stays free; rows of people; a list of people.
 const SLOTS: usize = 16;
@@ -22,14 +22,15 @@ const FILL8: u8 = 171;
 const REFUSED_MINUTES: u64 = 1_000_000_000_000_000_000;
 
 /// Answers that a record holds.
-const ANSWERS: u64 = 16;
+const ANSWERS: u64 = 18;
 
 /// Records. A record is, low byte first: people, slots, units, a person, a slot and a unit as u64; fairness, lock and boundary as bytes and
 /// a byte of 0; value and days as u16; u16 of how long each lent column is: starts, ends, unit starts, words of availability, words of
-/// frozen flags, the columns for starts, the lists of people; the columns themselves, of 16, 16 and 16; first words of four rows, and of
-/// the flags; then the answers: rotations, unit starts, units, a unit's first slot and the one past its last, the slot's unit, whether the
-/// unit is frozen, people of the slot's and of the unit's domain, and covered days as u16; minutes a day, target and achievable run as u64;
-/// the two columns of starts of 16 and the two lists of 8 people that come out.
+/// frozen flags, the columns for starts, the lists of people, the column for masks; the columns themselves, of 16, 16 and 16; first words of
+/// four rows, and of the flags; then the answers: rotations, unit starts, units, a unit's first slot and the one past its last, the slot's
+/// unit, whether the unit is frozen, people of the slot's and of the unit's domain, 0 for the domains of all units, and covered days as u16;
+/// minutes a day, target and achievable run as u64; the two columns of starts of 16, the two lists of 8 people and the column of 16 masks as
+/// u32 that come out.
 pub fn units(n: u64, run: u64) -> Stored {
     let mut bytes = Vec::new();
     records(n, run, "stored-units", |seed, made| {
@@ -110,6 +111,7 @@ fn record(bytes: &mut Vec<u8>, asked: &LentUnits, due: &DueUnits) {
     half(bytes, answer(asked.frozen_no(), usize::from(due.is_frozen)));
     half(bytes, answer(asked.slot_domain_no(), due.slot_domain.len()));
     half(bytes, answer(asked.unit_domain_no(), due.unit_domain.len()));
+    half(bytes, answer(asked.unit_domains_no(), 0));
     half(bytes, answer(asked.days_no(), due.days));
     words(
         bytes,
@@ -130,6 +132,8 @@ fn record(bytes: &mut Vec<u8>, asked: &LentUnits, due: &DueUnits) {
         let written = if number == 0 { &list[..] } else { &[] };
         bytes.extend(written.iter().copied().chain(std::iter::repeat(FILL8)).take(LIST));
     }
+    let masks = if asked.unit_domains_no() == 0 { &due.unit_masks[..] } else { &[] };
+    filled32(bytes, SLOTS, masks, FILL32);
 }
 
 /// What is lent and asked, in the record's order.
@@ -155,7 +159,7 @@ fn lent_bytes(bytes: &mut Vec<u8>, asked: &LentUnits) {
         asked.avail.len(),
         asked.frozen.len(),
     ];
-    for length in lengths.into_iter().chain([asked.starts_room, asked.list_room]) {
+    for length in lengths.into_iter().chain([asked.starts_room, asked.list_room, asked.masks_room]) {
         half(bytes, length);
     }
     filled32(bytes, SLOTS, &slots.starts, 0);
@@ -171,6 +175,6 @@ fn lent_bytes(bytes: &mut Vec<u8>, asked: &LentUnits) {
 mod tests {
     #[test]
     fn records_have_one_size() {
-        assert_eq!(super::units(9, 1).bytes.len(), 9 * 394);
+        assert_eq!(super::units(9, 1).bytes.len(), 9 * 462);
     }
 }

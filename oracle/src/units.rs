@@ -12,26 +12,9 @@ use crate::seed::Seed;
 use crate::sets::put_bit;
 use crate::table::Slots;
 
-/// A call that is answered by a number alone.
-fn number(function: &'static str, args: Vec<Arg>, result: u64) -> Question {
-    Question {
-        function,
-        args,
-        due: Outcome { result, written: vec![] },
-    }
-}
-
 /// A call that writes minutes through an address.
-fn minutes(function: &'static str, mut args: Vec<Arg>, was: u64, due: i64) -> Question {
-    args.push(Arg::Out(was));
-    Question {
-        function,
-        args,
-        due: Outcome {
-            result: 0,
-            written: vec![due.to_le_bytes().to_vec()],
-        },
-    }
+fn minutes(function: &'static str, args: Vec<Arg>, was: u64, due: i64) -> Question {
+    Question::beside(function, args, &[was], 0, Some(vec![due as u64]))
 }
 
 /// Covered days, minutes a day, target and achievable runs, each unit's domain, and freezing at an instant.
@@ -75,7 +58,7 @@ pub fn questions(case_seed: u64) -> Vec<Question> {
     asked.push(minutes("boltraven_minutes_per_day", lent_slots.clone(), seed.word(), per_day));
     let mut dates: Vec<u32> = slots.starts.iter().map(|start| start / 1440).collect();
     dates.dedup();
-    asked.push(number("boltraven_covered_days", lent_slots, dates.len() as u64));
+    asked.push(Question::number("boltraven_covered_days", lent_slots, dates.len() as u64));
     asked
 }
 
@@ -110,7 +93,7 @@ fn domains(seed: &mut Seed, problem: &Problem, avail: &[u64]) -> Vec<Question> {
         });
         let slot = seed.below(problem.slot_count() as u64) as usize;
         let person = seed.below(people as u64) as usize;
-        asked.push(number(
+        asked.push(Question::number(
             "boltraven_is_available",
             vec![
                 Arg::Number(people as u64),
@@ -187,7 +170,7 @@ fn freezing(seed: &mut Seed, mut problem: Problem, lent_slots: &[Arg]) -> Vec<Qu
     let firsts = unit_starts_of(&problem);
     for _ in 0..3 {
         let unit = seed.below(firsts.len() as u64) as usize;
-        asked.push(number(
+        asked.push(Question::number(
             "boltraven_unit_frozen",
             vec![
                 Arg::Lent(8, bytes64(&flags)),
@@ -265,27 +248,21 @@ impl LentUnits {
                 domain.len(),
                 domain,
             ),
-            number(
+            Question::number(
                 "boltraven_unit_frozen",
                 frozen_args,
                 heard(self.frozen_no(), u64::from(due.is_frozen)),
             ),
-            number("boltraven_covered_days", self.slots.args(), heard(self.days_no(), due.days as u64)),
+            Question::number("boltraven_covered_days", self.slots.args(), heard(self.days_no(), due.days as u64)),
         ]
     }
 
-    /// All units' domains, now and then with too little room for them.
+    /// All units' domains.
     fn domains_asked(&self, seed: &mut Seed, due: &DueUnits) -> Question {
-        let units = due.unit_masks.len();
-        let room = if seed.one_in(8) {
-            units - 1
-        } else {
-            units + seed.below(2) as usize
-        };
-        let before: Vec<u32> = (0..room).map(|_| seed.word() as u32).collect();
+        let before: Vec<u32> = (0..self.masks_room).map(|_| seed.word() as u32).collect();
         let mut args = vec![Arg::Lent(8, bytes64(&self.avail)), Arg::Number(self.people as u64)];
         args.extend(self.units_args());
-        masks(args, before, self.unit_domains_no(room), &due.unit_masks)
+        masks(args, before, self.unit_domains_no(), &due.unit_masks)
     }
 
     /// Minutes a day, target and achievable run.
@@ -305,11 +282,8 @@ impl LentUnits {
             ("boltraven_achievable_run", run_args, self.achievable_no(), due.achievable),
         ];
         let question = |(function, args, number, right)| {
-            let was = seed.word();
-            // a refusal writes nothing
-            let mut question = minutes(function, args, was, if number == 0 { right } else { was as i64 });
-            question.due.result = number;
-            question
+            let due = (number == 0).then(|| vec![right as u64]);
+            Question::beside(function, args, &[seed.word()], number, due)
         };
         asked.map(question).into()
     }

@@ -1,6 +1,6 @@
 //! A rota: who holds which slot.
 
-use crate::lent::{self, NOBODY, SET_WORDS};
+use crate::lent::{self, written, NOBODY, SET_WORDS};
 use crate::problem::Problem;
 use crate::refusal::{checked, Refusal};
 use crate::set::SlotSet;
@@ -123,8 +123,7 @@ impl Assignment {
 
     /// Who owns a slot. Refusal 11.
     pub fn get(&self, slot: usize) -> Result<Option<usize>, Refusal> {
-        let mut owner = 0;
-        lent::owner_of_slot(self.minutes.len(), self.owners.len(), &self.owners, slot, &mut owner)?;
+        let owner = written(|out| lent::owner_of_slot(self.minutes.len(), self.owners.len(), &self.owners, slot, out))?;
         Ok((owner != u64::from(NOBODY)).then_some(owner as usize))
     }
 
@@ -145,9 +144,7 @@ impl Assignment {
 
     /// The minutes of the slots that a person owns. Refusal 11.
     pub fn assigned_minutes(&self, person: usize) -> Result<u64, Refusal> {
-        let mut minutes = 0;
-        lent::minutes_of(self.minutes.len(), &self.minutes, person, &mut minutes)?;
-        Ok(minutes)
+        written(|out| lent::minutes_of(self.minutes.len(), &self.minutes, person, out))
     }
 
     /// Gives a slot to a person, or to nobody. It asks nothing of units or frozen slots: a rota whose units it makes uneven is refused by
@@ -208,27 +205,13 @@ impl Assignment {
 
     /// How many slots nobody owns.
     pub fn unassigned_count(&self) -> usize {
-        let mut count = 0;
-        checked(lent::unassigned_count(
-            self.minutes.len(),
-            self.owners.len(),
-            &self.owners,
-            &mut count,
-        ));
-        count as usize
+        let (people, slots) = (self.minutes.len(), self.owners.len());
+        checked(written(|out| lent::unassigned_count(people, slots, &self.owners, out))) as usize
     }
 
     /// The minutes of the slots that nobody owns. Refusals 2, 11, where the problem is another one.
     pub fn uncovered_minutes(&self, problem: &Problem) -> Result<u64, Refusal> {
-        let mut minutes = 0;
-        lent::uncovered_minutes(
-            problem.human_count(),
-            problem.slot_count(),
-            problem.slots().starts(),
-            problem.slots().ends(),
-            &self.owners,
-            &mut minutes,
-        )?;
-        Ok(minutes)
+        let (people, slots) = (problem.human_count(), problem.slots());
+        written(|out| lent::uncovered_minutes(people, slots.len(), slots.starts(), slots.ends(), &self.owners, out))
     }
 }

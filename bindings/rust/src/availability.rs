@@ -1,9 +1,9 @@
 //! Who is available for which slot.
 
-use crate::lent::{self, SET_WORDS};
+use crate::lent::{self, written, PEOPLE_MOST, SET_WORDS};
 use crate::refusal::Refusal;
 use crate::set::SlotSet;
-use crate::settings::Settings;
+use crate::settings::{with_settings, Settings};
 use crate::slots::{Columns, Range, Slots};
 
 /// A set of slots for each person: those for which they are available, every minute of the slot in one of their ranges.
@@ -31,7 +31,7 @@ impl Availability {
     pub fn new(people: usize, slots: &Slots, ranges: &[Range]) -> Result<Self, Refusal> {
         let given = Columns::of(ranges);
         // No more words than the most people need: a larger count is refused before its words are looked for.
-        let mut words = vec![0; SET_WORDS * people.min(33)];
+        let mut words = vec![0; SET_WORDS * people.min(PEOPLE_MOST)];
         lent::availability(
             people,
             slots.len(),
@@ -85,22 +85,18 @@ impl Availability {
     /// The longest stretch of neighbouring slots that a person can cover, in minutes: at least 1, at most the target run.
     /// Refusals 1, 2, 7, 11.
     pub fn achievable_run_minutes(&self, settings: Settings, slots: &Slots, person: usize) -> Result<u64, Refusal> {
-        let n = settings.numbers();
-        let mut minutes = 0;
-        lent::achievable_run(
-            n.fairness,
-            n.lock,
-            n.boundary,
-            n.value,
-            n.days,
-            &self.words,
-            self.people,
-            person,
-            slots.len(),
-            slots.starts(),
-            slots.ends(),
-            &mut minutes,
-        )?;
-        Ok(minutes)
+        written(|out| {
+            with_settings!(
+                lent::achievable_run,
+                settings,
+                &self.words,
+                self.people,
+                person,
+                slots.len(),
+                slots.starts(),
+                slots.ends(),
+                out
+            )
+        })
     }
 }

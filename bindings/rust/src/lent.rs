@@ -23,6 +23,9 @@ use crate::refusal::Refusal;
 /// Words in a set.
 pub const SET_WORDS: usize = 16;
 
+/// The most people.
+pub const PEOPLE_MOST: usize = 32;
+
 /// The most slots that a set or a list of atomic slots has.
 pub const SLOTS_MOST: usize = 1024;
 
@@ -93,6 +96,13 @@ fn wrote(number: u64) -> Result<bool, Refusal> {
 /// A number that is the answer itself.
 fn plain(number: u32) -> u32 {
     number
+}
+
+/// The number that a call writes through an address.
+pub(crate) fn written(call: impl FnOnce(&mut u64) -> Result<(), Refusal>) -> Result<u64, Refusal> {
+    let mut number = 0;
+    call(&mut number)?;
+    Ok(number)
 }
 
 exports! {

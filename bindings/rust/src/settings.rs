@@ -70,6 +70,16 @@ pub(crate) struct Numbers {
     pub days: u16,
 }
 
+/// Calls a function of `lent` that takes the settings first, as their five numbers.
+macro_rules! with_settings {
+    ($function:path, $settings:expr, $($rest:expr),*) => {{
+        let n = $settings.numbers();
+        $function(n.fairness, n.lock, n.boundary, n.value, n.days, $($rest),*)
+    }};
+}
+
+pub(crate) use with_settings;
+
 impl Settings {
     pub(crate) fn numbers(self) -> Numbers {
         let (boundary, value) = match self.boundary {

@@ -1,9 +1,9 @@
 //! Slots and ranges: ranges merged, base slots split into atomic ones, days, and freezing.
 
-use crate::lent::{self, SLOTS_MOST};
+use crate::lent::{self, written, SLOTS_MOST};
 use crate::refusal::{checked, Refusal};
 use crate::set::SlotSet;
-use crate::settings::Settings;
+use crate::settings::{with_settings, Settings};
 
 /// A stretch of minutes to be covered, without its end.
 #[derive(Debug, Clone, Copy, PartialEq, Eq)]
@@ -94,11 +94,15 @@ pub struct Slots {
     ends: Vec<u32>,
 }
 
+/// Slots as two columns, their starts and their ends.
+fn columns(slots: &[Slot]) -> (Vec<u32>, Vec<u32>) {
+    slots.iter().map(|slot| (slot.start, slot.end)).unzip()
+}
+
 impl Slots {
     /// These slots as they are. Refusals 1, 9.
     pub fn new(slots: &[Slot]) -> Result<Self, Refusal> {
-        let starts: Vec<u32> = slots.iter().map(|slot| slot.start).collect();
-        let ends: Vec<u32> = slots.iter().map(|slot| slot.end).collect();
+        let (starts, ends) = columns(slots);
         lent::covered_days(starts.len(), &starts, &ends)?;
         Ok(Self { starts, ends })
     }
@@ -113,8 +117,7 @@ impl Slots {
     /// # Ok::<(), boltraven::Refusal>(())
     /// ```
     pub fn atomise(base: &[Slot], people: usize, ranges: &[Range]) -> Result<Self, Refusal> {
-        let starts: Vec<u32> = base.iter().map(|slot| slot.start).collect();
-        let ends: Vec<u32> = base.iter().map(|slot| slot.end).collect();
+        let (starts, ends) = columns(base);
         let given = Columns::of(ranges);
         let (mut froms, mut tos) = (vec![0; SLOTS_MOST], vec![0; SLOTS_MOST]);
         let count = lent::atomise(
@@ -162,16 +165,12 @@ impl Slots {
 
     /// The minutes of all slots.
     pub fn demand(&self) -> u64 {
-        let mut minutes = 0;
-        checked(lent::demand(self.len(), &self.starts, &self.ends, &mut minutes));
-        minutes
+        checked(written(|out| lent::demand(self.len(), &self.starts, &self.ends, out)))
     }
 
     /// The minutes of one slot. Refusal 11.
     pub fn minutes(&self, slot: usize) -> Result<u64, Refusal> {
-        let mut minutes = 0;
-        lent::slot_minutes(self.len(), &self.starts, &self.ends, slot, &mut minutes)?;
-        Ok(minutes)
+        written(|out| lent::slot_minutes(self.len(), &self.starts, &self.ends, slot, out))
     }
 
     /// The distinct dates on which slots start.
@@ -181,27 +180,12 @@ impl Slots {
 
     /// The demand divided by the covered days, at least 1.
     pub fn minutes_per_day(&self) -> u64 {
-        let mut minutes = 0;
-        checked(lent::minutes_per_day(self.len(), &self.starts, &self.ends, &mut minutes));
-        minutes
+        checked(written(|out| lent::minutes_per_day(self.len(), &self.starts, &self.ends, out)))
     }
 
     /// How long a run is to be: minutes a day times the days of a shift. Refusal 7.
     pub fn target_run_minutes(&self, settings: Settings) -> Result<u64, Refusal> {
-        let n = settings.numbers();
-        let mut minutes = 0;
-        lent::target_run(
-            n.fairness,
-            n.lock,
-            n.boundary,
-            n.value,
-            n.days,
-            self.len(),
-            &self.starts,
-            &self.ends,
-            &mut minutes,
-        )?;
-        Ok(minutes)
+        written(|out| with_settings!(lent::target_run, settings, self.len(), &self.starts, &self.ends, out))
     }
 
     /// Marks each slot that ends at or before an instant, and answers how many do. Marks that are there stay. Refusal 2: the set is shorter

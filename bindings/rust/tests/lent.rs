@@ -1,6 +1,6 @@
 //! Refusals, and what lies past the ends, through the lent slices.
 
-use boltraven::{lent, Refusal};
+use boltraven::{lent, Refusal, LISTING_MOST};
 
 const SPARE: u64 = 0xa5a5_a5a5_a5a5_a5a5;
 
@@ -136,7 +136,7 @@ fn domains_of_all_units_are_masks_or_refused_whole() {
 
 #[test]
 fn a_job_is_listed_or_refused_whole() {
-    let mut out = vec![7; 44_540];
+    let mut out = vec![7; LISTING_MOST + 3];
     let mut length = SPARE;
     for (file, refusal) in [(vec![1], Refusal::JobFile), (vec![0; 49_153], Refusal::JobFile)] {
         assert_eq!(lent::run_job(&file, &mut out, &mut length), Err(refusal));

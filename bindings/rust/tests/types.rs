@@ -1,8 +1,18 @@
 //! The types above the lent slices: refusals of what a caller passes, and sizes at their limits.
 
-use boltraven::{Answer, Assignment, Availability, Boundary, Draw, Job, Person, Problem, Range, Refusal, Settings, Slot, SlotSet, Slots};
+use boltraven::{
+    Answer, Assignment, Availability, Boundary, Draw, Fairness, Job, Person, Problem, Range, Refusal, Settings, Slot, SlotSet, Slots,
+};
 
 const ONE: Person = Person { capacity: 1.0, prior: 0 };
+
+/// Two slots a unit.
+const PAIRS: Settings = Settings {
+    fairness: Fairness::Capacity,
+    lock: true,
+    boundary: Boundary::EverySlots(2),
+    days: 1,
+};
 
 /// Days of an hour, one slot each.
 fn days(count: u32) -> Vec<Slot> {
@@ -106,12 +116,7 @@ fn rotas_refuse_and_stay() {
 
 #[test]
 fn a_unit_with_two_owners_fails_the_recount() {
-    let pairs = Settings {
-        lock: true,
-        boundary: Boundary::EverySlots(2),
-        ..Settings::default()
-    };
-    let problem = Problem::build(pairs, &days(4), &[ONE; 2], &[always(0), always(1)]).expect("it is taken");
+    let problem = Problem::build(PAIRS, &days(4), &[ONE; 2], &[always(0), always(1)]).expect("it is taken");
     let mut rota = Assignment::empty(&problem);
     assert_eq!(rota.recount(&problem), Ok(()));
     assert_eq!(rota.assign(&problem, 3, Some(1)), Ok(()));
@@ -125,17 +130,12 @@ fn a_unit_with_two_owners_fails_the_recount() {
 
 #[test]
 fn all_domains_are_those_of_each_unit() {
-    let pairs = Settings {
-        lock: true,
-        boundary: Boundary::EverySlots(2),
-        ..Settings::default()
-    };
     // Person 31 is there for the first three days, so not for all of the second pair.
     let some_days = Range {
         end: 3 * 1440,
         ..always(31)
     };
-    let problem = Problem::build(pairs, &days(5), &[ONE; 32], &[always(0), some_days]).expect("it is taken");
+    let problem = Problem::build(PAIRS, &days(5), &[ONE; 32], &[always(0), some_days]).expect("it is taken");
     let each = |unit| problem.unit_domain(unit).expect("there is such a unit");
     assert_eq!(problem.unit_domains(), (0..3).map(each).collect::<Vec<_>>());
     assert_eq!(problem.unit_domains(), [vec![0, 31], vec![0], vec![0]]);

@@ -2,19 +2,21 @@
 // Answers are numbers: below 65,536 what was asked, 65,536 nothing, 65,536 + n refused by n.
 use crate::NOTHING;
 use crate::refused;
+use slotset::Changed;
 use slotset::Counted;
 use slotset::Cursor;
 use slotset::Found;
 use slotset::NextMember;
 use slotset::NextRun;
 use slotset::Run;
+use slotset::SlotSet;
 use slotset::Told;
 use slotset::row;
 ghost use mathlib.Core.Path.{_≡_};
 ghost use Rattle.slotset.specs.Slots.{has, size, noMember, valueOf};
 ghost use Rattle.slotset.specs.Search.{nextSet, prevSet, nextUnsetAfter, prevUnsetBefore};
 ghost use Rattle.slotset.specs.Answers.{rowNo, rowStretchNo, rowSlots, foundAs, toldAs, countedAs, rowRun, rowNextRun, rowNextMember};
-ghost use Rattle.slotset.specs.Answers.{rowStretchOf};
+ghost use Rattle.slotset.specs.Answers.{putOf, rowStretchOf};
 ghost use Rattle.boltraven_c.specs.Numbers.{foundNumber, toldNumber, countedNumber, runNumber, runFirst, runLast};
 ghost use Rattle.boltraven_c.specs.Numbers.{nextRunNumber, nextRunFirst, nextRunLast, nextRunCursor};
 ghost use Rattle.boltraven_c.specs.Numbers.{memberNumber, memberAt, memberCursor};
@@ -244,7 +246,41 @@ pub extern "C" fn boltraven_next_member(
     }
 }
 
-// The row with slot i, by way of a set by value.
+// The set with slot i as wanted.
+fn changed_set(set: SlotSet, i: usize, want: bool) -> Changed
+    ensures { λ r. ⌜ r ≡ putOf (valueOf want) set i ⌝ }
+{
+    if want { set.insert(i) } else { set.remove(i) }
+}
+
+// The row with slot i as wanted, by way of a set by value.
+fn put_by_value(
+    words: &mut [u64],
+    people: usize,
+    person: usize,
+    len: usize,
+    i: usize,
+    want: bool,
+) -> u8
+    ensures { λ r. ⌜ r ≡ rowPutNo (valueOf want) (now (words .entry)) people person len i ⌝ }
+    ensures { λ _. ⌜ now (words .exit) ≡ rowPutOf (valueOf want) (now (words .entry)) people person len i ⌝ }
+{
+    let loaded = row::load(words, people, person, len);
+    let number = loaded.number;
+    if number == 0 {
+        let set = loaded.set;
+        let changed = changed_set(set, i, want);
+        let refusal = changed.number;
+        if refusal == 0 {
+            let new = changed.set;
+            return row::store(new, words, people, person);
+        }
+        return refusal;
+    }
+    number
+}
+
+// The row with slot i.
 #[no_mangle]
 pub extern "C" fn boltraven_insert(
     words: &mut [u64],
@@ -256,22 +292,10 @@ pub extern "C" fn boltraven_insert(
     ensures { λ r. ⌜ r ≡ rowPutNo 1 (now (words .entry)) people person len i ⌝ }
     ensures { λ _. ⌜ now (words .exit) ≡ rowPutOf 1 (now (words .entry)) people person len i ⌝ }
 {
-    let loaded = row::load(words, people, person, len);
-    let number = loaded.number;
-    if number == 0 {
-        let set = loaded.set;
-        let changed = set.insert(i);
-        let refusal = changed.number;
-        if refusal == 0 {
-            let new = changed.set;
-            return row::store(new, words, people, person);
-        }
-        return refusal;
-    }
-    number
+    put_by_value(words, people, person, len, i, true)
 }
 
-// The row without slot i, by way of a set by value.
+// The row without slot i.
 #[no_mangle]
 pub extern "C" fn boltraven_remove(
     words: &mut [u64],
@@ -283,19 +307,7 @@ pub extern "C" fn boltraven_remove(
     ensures { λ r. ⌜ r ≡ rowPutNo 0 (now (words .entry)) people person len i ⌝ }
     ensures { λ _. ⌜ now (words .exit) ≡ rowPutOf 0 (now (words .entry)) people person len i ⌝ }
 {
-    let loaded = row::load(words, people, person, len);
-    let number = loaded.number;
-    if number == 0 {
-        let set = loaded.set;
-        let changed = set.remove(i);
-        let refusal = changed.number;
-        if refusal == 0 {
-            let new = changed.set;
-            return row::store(new, words, people, person);
-        }
-        return refusal;
-    }
-    number
+    put_by_value(words, people, person, len, i, false)
 }
 
 // Every slot of the row from `from` up to `to`, without `to`, becomes as wanted.

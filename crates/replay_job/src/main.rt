@@ -3,7 +3,9 @@
 use job::JobAnswer;
 use stored::Tally;
 use stored::Turn;
+use stored::at_most;
 use stored::raw;
+use stored::same_raws;
 use stored::short;
 
 // A stored job begins with two u16: the length of its file, and of the text that is due. Both follow.
@@ -14,16 +16,8 @@ const UNWRITTEN: u8 = 165;
 
 // Whether the first n bytes of a buffer are the whole text that is due.
 fn same_text(got: &[u8], n: usize, due: &[u8]) -> bool {
-    if n != due.len() {
-        return false;
-    }
-    let mut same = true;
-    for j in 0..n {
-        if raw(got, j) != raw(due, j) {
-            same = false;
-        }
-    }
-    same
+    let k = at_most(n, got.len());
+    n == k && same_raws(&got[0..k], due)
 }
 
 // Whether nothing was written from an index on.

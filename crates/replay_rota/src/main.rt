@@ -107,12 +107,13 @@ fn answers(b: &[u8]) -> [u8; 8] {
     out
 }
 
-// Four sets, a u16 each, as sets of 16 words.
+// Four people's sets, a u16 each, as sets of 16 words.
 fn sets(b: &[u8], at: usize) -> [u64; 64] {
     let mut out = [0u64; 64];
-    for j in 0..4usize {
-        out[16 * j] = half(b, plus(at, 2 * j)) as u64;
-    }
+    out[0] = half(b, at) as u64;
+    out[16] = half(b, plus(at, 2)) as u64;
+    out[32] = half(b, plus(at, 4)) as u64;
+    out[48] = half(b, plus(at, 6)) as u64;
     out
 }
 

@@ -13,6 +13,7 @@ use stored::quads;
 use stored::raw;
 use stored::raws;
 use stored::rows;
+use stored::same_quads;
 use stored::same_raws;
 use stored::same_shorts;
 use stored::short;
@@ -27,7 +28,7 @@ ghost use Prim.Native.Nat.{_≤_};
 
 // A record: counts and what is asked; settings; how long each lent column is; the columns, rows and flags; the answers; the columns and
 // lists that come out.
-const RECORD: usize = 394;
+const RECORD: usize = 462;
 
 const PEOPLE_AT: usize = 0;
 
@@ -46,54 +47,60 @@ const SETTINGS_AT: usize = 48;
 // Where the lengths of columns stand, then the columns.
 const LONG_AT: usize = 56;
 
-const STARTS_AT: usize = 70;
+const STARTS_AT: usize = 72;
 
-const ENDS_AT: usize = 134;
+const ENDS_AT: usize = 136;
 
-const FIRSTS_AT: usize = 198;
+const FIRSTS_AT: usize = 200;
 
-const ROWS_AT: usize = 230;
+const ROWS_AT: usize = 232;
 
-const FLAGS_AT: usize = 262;
+const FLAGS_AT: usize = 264;
 
-const ROTATIONS_DUE_AT: usize = 270;
+const ROTATIONS_DUE_AT: usize = 272;
 
-const UNIT_STARTS_DUE_AT: usize = 272;
+const UNIT_STARTS_DUE_AT: usize = 274;
 
-const COUNT_DUE_AT: usize = 274;
+const COUNT_DUE_AT: usize = 276;
 
-const FROM_DUE_AT: usize = 276;
+const FROM_DUE_AT: usize = 278;
 
-const TO_DUE_AT: usize = 278;
+const TO_DUE_AT: usize = 280;
 
-const UNIT_OF_SLOT_DUE_AT: usize = 280;
+const UNIT_OF_SLOT_DUE_AT: usize = 282;
 
-const FROZEN_DUE_AT: usize = 282;
+const FROZEN_DUE_AT: usize = 284;
 
-const SLOT_DOMAIN_DUE_AT: usize = 284;
+const SLOT_DOMAIN_DUE_AT: usize = 286;
 
-const UNIT_DOMAIN_DUE_AT: usize = 286;
+const UNIT_DOMAIN_DUE_AT: usize = 288;
 
-const DAYS_DUE_AT: usize = 288;
+const UNIT_DOMAINS_DUE_AT: usize = 290;
 
-const PER_DAY_DUE_AT: usize = 290;
+const DAYS_DUE_AT: usize = 292;
 
-const TARGET_DUE_AT: usize = 298;
+const PER_DAY_DUE_AT: usize = 294;
 
-const ACHIEVABLE_DUE_AT: usize = 306;
+const TARGET_DUE_AT: usize = 302;
 
-const ROTATION_LIST_AT: usize = 314;
+const ACHIEVABLE_DUE_AT: usize = 310;
 
-const UNIT_LIST_AT: usize = 346;
+const ROTATION_LIST_AT: usize = 318;
 
-const SLOT_PEOPLE_AT: usize = 378;
+const UNIT_LIST_AT: usize = 350;
 
-const UNIT_PEOPLE_AT: usize = 386;
+const SLOT_PEOPLE_AT: usize = 382;
 
-// What a lent column of starts, and a lent list of people, holds before a call.
+const UNIT_PEOPLE_AT: usize = 390;
+
+const UNIT_MASKS_AT: usize = 398;
+
+// What a lent column of starts, a lent list of people and a lent column of masks hold before a call.
 const FILL: u16 = 43981;
 
 const FILL_PEOPLE: u8 = 171;
+
+const FILL_MASKS: u32 = 3735928559;
 
 // How long lent column k is.
 fn long(b: &[u8], k: usize) -> usize {
@@ -108,7 +115,7 @@ fn room(b: &[u8], k: usize, most: usize) -> usize
 }
 
 // Sixteen u32, and sixteen u16, at an index.
-fn times(b: &[u8], at: usize) -> [u32; 16] {
+fn sixteen(b: &[u8], at: usize) -> [u32; 16] {
     let mut out = [0u32; 16];
     quads(b, at, &mut out);
     out
@@ -159,6 +166,10 @@ fn is_list(got: &[u8; 8], b: &[u8], at: usize) -> bool {
     same_raws(got, &list(b, at))
 }
 
+fn is_masks(got: &[u32; 16], b: &[u8], at: usize) -> bool {
+    same_quads(got, &sixteen(b, at))
+}
+
 // A refusal, among counts and among minutes.
 fn refused(number: u8) -> usize {
     65000 + number as usize
@@ -168,7 +179,7 @@ fn refused_minutes(number: u8) -> u64 {
     1000000000000000000 + number as u64
 }
 
-// An answer as it is stored: a number, yes or no, minutes.
+// An answer as it is stored: a number, yes or no, a refusal's number alone, minutes.
 fn counted(answer: Number) -> usize {
     match answer {
         Number::Is(k) => k,
@@ -182,6 +193,10 @@ fn told(answer: Told) -> usize {
         Told::No => 0,
         Told::Refused(n) => refused(n),
     }
+}
+
+fn number(n: u8) -> usize {
+    if n == 0 { 0 } else { refused(n) }
 }
 
 fn minutes(answer: Duration) -> u64 {
@@ -206,8 +221,8 @@ fn is_span(answer: UnitSlots, b: &[u8]) -> bool {
 
 // Where rotations begin: how many, and the column.
 fn rotation_answers(tally: Tally, b: &[u8]) -> Tally {
-    let starts = times(b, STARTS_AT);
-    let ends = times(b, ENDS_AT);
+    let starts = sixteen(b, STARTS_AT);
+    let ends = sixteen(b, ENDS_AT);
     let mut out = [FILL; 16];
     let of_out = room(b, 5, 16);
     let got = units::rotation_starts(
@@ -223,8 +238,8 @@ fn rotation_answers(tally: Tally, b: &[u8]) -> Tally {
 
 // Where units begin: how many, and the column.
 fn unit_start_answers(tally: Tally, b: &[u8]) -> Tally {
-    let starts = times(b, STARTS_AT);
-    let ends = times(b, ENDS_AT);
+    let starts = sixteen(b, STARTS_AT);
+    let ends = sixteen(b, ENDS_AT);
     let mut out = [FILL; 16];
     let of_out = room(b, 5, 16);
     let got = units::unit_starts(
@@ -300,10 +315,28 @@ fn unit_domain_answers(tally: Tally, b: &[u8]) -> Tally {
     t1.with(is_list(&out, b, UNIT_PEOPLE_AT))
 }
 
+// Who can cover each unit: the number, and the column of masks.
+fn unit_domains_answers(tally: Tally, b: &[u8]) -> Tally {
+    let able = four_rows(b);
+    let begin = firsts(b, FIRSTS_AT);
+    let mut out = [FILL_MASKS; 16];
+    let of_out = room(b, 7, 16);
+    let got = units::unit_domains(
+        front_words(&able, long(b, 3)),
+        size(b, PEOPLE_AT),
+        size(b, SLOTS_AT),
+        size(b, UNITS_AT),
+        front_shorts(&begin, long(b, 2)),
+        &mut out[0..of_out],
+    );
+    let t1 = tally.with(number(got) == half(b, UNIT_DOMAINS_DUE_AT));
+    t1.with(is_masks(&out, b, UNIT_MASKS_AT))
+}
+
 // Covered days, minutes a day, and the target run.
 fn day_answers(tally: Tally, b: &[u8]) -> Tally {
-    let all_starts = times(b, STARTS_AT);
-    let all_ends = times(b, ENDS_AT);
+    let all_starts = sixteen(b, STARTS_AT);
+    let all_ends = sixteen(b, ENDS_AT);
     let starts = front_quads(&all_starts, long(b, 0));
     let ends = front_quads(&all_ends, long(b, 1));
     let slots = size(b, SLOTS_AT);
@@ -318,8 +351,8 @@ fn day_answers(tally: Tally, b: &[u8]) -> Tally {
 // A person's achievable run.
 fn achievable_answer(tally: Tally, b: &[u8]) -> Tally {
     let able = four_rows(b);
-    let starts = times(b, STARTS_AT);
-    let ends = times(b, ENDS_AT);
+    let starts = sixteen(b, STARTS_AT);
+    let ends = sixteen(b, ENDS_AT);
     let got = units::achievable_run(
         settings(b),
         front_words(&able, long(b, 3)),
@@ -340,8 +373,9 @@ fn record_answers(tally: Tally, b: &[u8]) -> Tally {
     let t4 = frozen_answer(t3, b);
     let t5 = slot_domain_answers(t4, b);
     let t6 = unit_domain_answers(t5, b);
-    let t7 = day_answers(t6, b);
-    achievable_answer(t7, b)
+    let t7 = unit_domains_answers(t6, b);
+    let t8 = day_answers(t7, b);
+    achievable_answer(t8, b)
 }
 
 // Reads one record and compares its answers.
