@@ -1,20 +1,19 @@
 -- Laws of the job file: refusal 13 and the columns. Assumes nothing.
 use mathlib.Core.Path.{_≡_, refl, sym, ap, ap₂, _∙_}
-use mathlib.Core.Bool.{Bool, true, false, not, cond, _&&_}
-use mathlib.Core.List.{List, []}
+use mathlib.Core.Bool.{Bool, true, false, not, cond, _&&_, and-false}
+use mathlib.Core.List.{List, [], _∷_, map}
 use Prim.Native.Nat.{ℕ, zero, suc, _+_, _-_, _*_, _/_, _%_, _≤_, _<_}
-use native.Mathlib.Numerals.{add-one}
 use native.Mathlib.Omega.{arith}
 use borrow.Author.Tests.{le-leb, lt-leb, eq-eqb, ne-eqb, lt-ltb, le-ltb}
-use lib.Dec.{T, leb, ltb, eqb, lit<}
-use lib.IntN.{pos}
-use lib.Ieee.{Float, nan, fin, binary64, ofBits, ofFields, nanBits, div}
-use lib.ListN.{length, getD, set, replicate, length-replicate, length-set}
+use lib.Dec.{T, leb, ltb, eqb}
+use lib.Ieee.{Float, nan, inf, binary64, ofBits, ofFields, nanBits, div}
+use lib.ListN.{length, getD, set, replicate, length-replicate}
 use Rattle.paper.specs.Count.{all, over}
-use Rattle.paper.proofs.Count.{over-more, getD-over, all-more, all-fails, all-done, all-none}
+use Rattle.paper.proofs.Count.{length-over, over-none, over-more, getD-over, all-more, all-fails, all-done, all-none}
+use Rattle.job.specs.Fields.{le}
 use Rattle.job.specs.Records.{blockAt, countOf, walkOk}
 use Rattle.job.specs.File.{jobLayout, fileMost, jobCounts, jobStarts, ownerSlot, rising, restOk, fileOk}
-use Rattle.job.specs.Columns.{overFloats}
+use Rattle.job.specs.Columns.{column, floatColumn}
 use Rattle.job.proofs.Sequences.{block-end}
 
 -- ---- refusal 13
@@ -83,26 +82,55 @@ file-ok s w r settings freezes at owners a b c d e f =
 
 -- ---- columns
 
+-- the turn of a loop that makes the first entries anew, and its end
 pub over-turn : (f : ℕ → ℕ) (l x : List ℕ) (k v : ℕ) → x ≡ over f k l → v ≡ f k → set x k v ≡ over f (k + 1) l
 over-turn f l x k v e g = ap₂ (λ (y : List ℕ) (u : ℕ). set y k u) e g ∙ sym (over-more f k l)
 
-pub floats-none : (f : ℕ → Float) (l : List Float) → l ≡ overFloats f 0 l
-unfolding overFloats
-floats-none f l = refl
+pub over-done : (f : ℕ → ℕ) (l x : List ℕ) (i n : ℕ) → i ≡ n → x ≡ over f i l → x ≡ over f n l
+over-done f l x i n e h = h ∙ ap (λ (k : ℕ). over f k l) e
 
-pub floats-turn : (f : ℕ → Float) (l x : List Float) (k : ℕ) (v : Float) → x ≡ overFloats f k l → v ≡ f k
-    → set x k v ≡ overFloats f (k + 1) l
-unfolding overFloats
-floats-turn f l x k v e g =
-    ap₂ (λ (y : List Float) (u : Float). set y k u) e g ∙ ap (λ (n : ℕ). overFloats f n l) (sym (add-one k))
+-- numbers of any width
+module _ (width : ℕ) (s : List ℕ) (at stride : ℕ) where
+  pub column-none : replicate 1024 0 ≡ column width s at stride 0
+  unfolding column
+  column-none = sym (over-none (λ j. le width s (at + j * stride)) (replicate 1024 0))
 
-pub floats-done : (f : ℕ → Float) (l x : List Float) (k n : ℕ) → k ≡ n → x ≡ overFloats f k l → x ≡ overFloats f n l
-floats-done f l x k n e h = h ∙ ap (λ (m : ℕ). overFloats f m l) e
+  pub column-more : (x : List ℕ) (k v : ℕ) → x ≡ column width s at stride k → v ≡ le width s (at + k * stride)
+      → set x k v ≡ column width s at stride (k + 1)
+  unfolding column
+  column-more x k v e g = over-turn (λ j. le width s (at + j * stride)) (replicate 1024 0) x k v e g
 
-pub length-floats : (f : ℕ → Float) (n : ℕ) (l : List Float) → length (overFloats f n l) ≡ length l
-unfolding overFloats
-length-floats f zero l = refl
-length-floats f (suc n) l = length-set (overFloats f n l) n (f n) ∙ length-floats f n l
+  pub length-column : (n : ℕ) → length (column width s at stride n) ≡ 1024
+  unfolding column
+  length-column n = length-over (λ j. le width s (at + j * stride)) n (replicate 1024 0) ∙ length-replicate {A = ℕ} 1024 0
+
+  pub column-at : (n k : ℕ) → k < n → n ≤ 1024 → getD (column width s at stride n) k 0 ≡ le width s (at + k * stride)
+  unfolding column
+  column-at n k h few =
+      getD-over (λ j. le width s (at + j * stride)) n (replicate 1024 0) k h (omega (arith, length-replicate {A = ℕ} 1024 0))
+
+-- the f64 of each entry
+map-set : {A B : Type 0} (f : A → B) (l : List A) (k : ℕ) (v : A) → map f (set l k v) ≡ set (map f l) k (f v)
+map-set f [] k v = refl
+map-set f (x ∷ l) zero v = refl
+map-set f (x ∷ l) (suc k) v = ap (λ (m : List _). f x ∷ m) (map-set f l k v)
+
+map-replicate : {A B : Type 0} (f : A → B) (n : ℕ) (x : A) → map f (replicate n x) ≡ replicate n (f x)
+map-replicate f zero x = refl
+map-replicate f (suc n) x = ap (λ (m : List _). f x ∷ m) (map-replicate f n x)
+
+module _ (s : List ℕ) (at stride : ℕ) where
+  pub floats-none : replicate 1024 (ofBits binary64 0) ≡ floatColumn s at stride 0
+  unfolding floatColumn
+  floats-none = sym (map-replicate (ofBits binary64) 1024 0) ∙ ap (map (ofBits binary64)) (column-none 8 s at stride)
+
+  pub floats-more : (x : List Float) (k : ℕ) (v : Float) → x ≡ floatColumn s at stride k → v ≡ ofBits binary64 (le 8 s (at + k * stride))
+      → set x k v ≡ floatColumn s at stride (k + 1)
+  unfolding floatColumn
+  floats-more x k v e g =
+      ap₂ (λ (y : List Float) (u : Float). set y k u) e g
+      ∙ sym (map-set (ofBits binary64) (column 8 s at stride k) k (le 8 s (at + k * stride)))
+      ∙ ap (map (ofBits binary64)) (column-more 8 s at stride (column 8 s at stride k) k (le 8 s (at + k * stride)) refl refl)
 
 -- ---- patterns
 
@@ -113,7 +141,7 @@ no-nan-field b h = rw (ne-eqb (b % 9223372036854775808 / 4503599627370496) 2047 
 pub no-nan-digits : (b : ℕ) → b % 4503599627370496 ≡ 0 → T (not (nanBits binary64 b))
 unfolding nanBits
 no-nan-digits b h =
-    rw (eq-eqb (b % 4503599627370496) 0 h) (rw (mathlib.Core.Bool.and-false
+    rw (eq-eqb (b % 4503599627370496) 0 h) (rw (and-false
     (eqb (b % 9223372036854775808 / 4503599627370496) 2047)) tt)
 
 pub nan-pattern : (b : ℕ) → b % 9223372036854775808 / 4503599627370496 ≡ 2047 → (b % 4503599627370496 ≡ 0 → ⊥)
@@ -121,4 +149,4 @@ pub nan-pattern : (b : ℕ) → b % 9223372036854775808 / 4503599627370496 ≡ 2
 unfolding ofBits ofFields div
 nan-pattern b h g =
     sym (ap (λ (x : ℕ). ofFields binary64 (leb 9223372036854775808 b) x (b % 4503599627370496)) h
-    ∙ ap (λ (t : Bool). cond t (lib.Ieee.inf (leb 9223372036854775808 b)) nan) (ne-eqb (b % 4503599627370496) 0 g))
+    ∙ ap (λ (t : Bool). cond t (inf (leb 9223372036854775808 b)) nan) (ne-eqb (b % 4503599627370496) 0 g))

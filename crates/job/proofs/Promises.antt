@@ -1,11 +1,11 @@
 -- What a job promises, each by name, of every file and every lent listing. Assumes nothing.
 use mathlib.Core.Path.{_≡_, refl, sym, ap, ap₂, _∙_}
 use mathlib.Core.Logic.{_↔_}
-use mathlib.Core.Bool.{Bool, true, cond, not, _&&_, _||_}
+use mathlib.Core.Bool.{true, not, _&&_, _||_}
 use mathlib.Core.List.{List, [], _++_}
 use Prim.Native.Nat.{ℕ, zero, suc, _+_, _-_, _*_, _≤_, _<_}
 use native.Mathlib.Omega.{arith}
-use borrow.Author.Tests.{eq-eqb, ne-eqb, eqb-true, eqb-false, leb-false, not-true}
+use borrow.Author.Tests.{eq-eqb, eqb-true, eqb-false, leb-false, not-true}
 use lib.Dec.{eqb, lit<, lit≤}
 use lib.IntN.{pos}
 use lib.ListN.{length, getD, take, drop}
@@ -30,6 +30,7 @@ use Rattle.job.specs.Digits.{readDigits}
 use Rattle.job.specs.Outcome.{Result, refusedAs, listedAs, Ends, planOf, instantIn, jobResult}
 use Rattle.job.specs.Heard.{heardOf, testAt, Lowest, AllPass, readyOf, drawsOf, ownersOf, startedOf, playedOf, listedOf}
 use Rattle.job.specs.Heard.{baseTotal, jobTests}
+use Rattle.job.proofs.Prepares.{when-none, when-some}
 use Rattle.job.proofs.Tests.{heard-none, heard-lowest}
 use Rattle.job.proofs.Heard.{job-told, numbered, rising, free, sound, demand-is, targets-right, frozen-there}
 use Rattle.job.proofs.Digits.{digits-value}
@@ -52,15 +53,11 @@ some (suc n) f = omega arith
 module _ (s x : List ℕ) where
   -- no test fails: the listing
   told-none : heardOf (jobTests s (length x)) ≡ 0 → jobResult s x ≡ listedAs (listingOf (listedOf s)) x
-  told-none e =
-      job-told s x
-      ∙ ap (λ (b : Bool). cond b (listedAs (listingOf (listedOf s)) x) (refusedAs (heardOf (jobTests s (length x))) x)) (eq-eqb _ 0 e)
+  told-none e = job-told s x ∙ sym (when-none _ (listedAs (listingOf (listedOf s)) x) _ e)
 
   -- one fails: its number, and the lent listing as it was
   told-some : (heardOf (jobTests s (length x)) ≡ 0 → ⊥) → jobResult s x ≡ refusedAs (heardOf (jobTests s (length x))) x
-  told-some n =
-      job-told s x
-      ∙ ap (λ (b : Bool). cond b (listedAs (listingOf (listedOf s)) x) (refusedAs (heardOf (jobTests s (length x))) x)) (ne-eqb _ 0 n)
+  told-some n = job-told s x ∙ sym (when-some _ _ (refusedAs (heardOf (jobTests s (length x))) x) n)
 
   -- a refusal is the number of the first test that fails
   refused-heard : (n : ℕ) → jobResult s x .answer ≡ answer.Refused n

@@ -1,13 +1,14 @@
 -- Laws of a signed number's size. Assumes nothing.
 use mathlib.Core.Path.{_≡_, refl, sym, ap, _∙_, subst}
-use mathlib.Core.Bool.{Bool, true, false}
-use Prim.Native.Nat.{ℕ, zero, suc, _+_, _^_, _≤_, _<_}
+use mathlib.Core.Bool.{true, false, true≢false}
+use mathlib.Core.List.{_∷_}
+use Prim.Native.Nat.{ℕ, zero, suc, _+_, _^_, _<_}
 use native.Mathlib.Numerals.{add-one}
 use native.Mathlib.Omega.{arith}
-use lib.Dec.{T, ltb}
-use mathlib.Core.List.{_∷_}
+use borrow.Author.Tests.{ltb-true}
+use lib.Dec.{T}
 use lib.IntN.{ℤ, pos, negsuc, negℤ, natAbs, _+ℤ_, _-ℤ_, +ℤ-one, +ℤ-idl, negℤ-negℤ}
-use lib.Signed.{ltZ, nonNeg, mag}
+use lib.Signed.{ltZ, nonNeg}
 use mir.Syntax.{w64}
 use mir.Val.{Fits, SFits, ofZ, toZ}
 use mir.ValLaws.{toZ-ofZ}
@@ -32,7 +33,7 @@ record Below (z : ℤ) : Type 0 where
   few : size < 2 ^ 63
 
 below-of : (z : ℤ) → SFits w64 z → ltZ z (pos 0) ≡ true → Below z
-below-of (pos n) f e = absurd (omega (arith, borrow.Author.Tests.ltb-true n 0 e))
+below-of (pos n) f e = absurd (omega (arith, ltb-true n 0 e))
 below-of (negsuc n) f e = record { size = n; is = refl; few = f .sfits }
 
 -- the steps of (-(t + 1)) + 1, where t is below 0
@@ -77,7 +78,7 @@ whole-of (pos n) x e f h = (
   subst (λ (y : ℤ). Fits w64 (natAbs y)) (sym e)
       (record { fits = omega (arith, f .sfits) }),
 )
-whole-of (negsuc n) x e f h = absurd (mathlib.Core.Bool.true≢false (ap (λ (y : ℤ). ltZ y (pos 0)) (sym e) ∙ h))
+whole-of (negsuc n) x e f h = absurd (true≢false (ap (λ (y : ℤ). ltZ y (pos 0)) (sym e) ∙ h))
 
 pub whole-fits : (z : ℤ) → SFits w64 z → ltZ (toZ w64 (ofZ w64 z)) (pos 0) ≡ false
     → T (nonNeg (toZ w64 (ofZ w64 z))) × Fits w64 (natAbs (toZ w64 (ofZ w64 z)))
@@ -86,13 +87,13 @@ whole-fits z f h = whole-of z (toZ w64 (ofZ w64 z)) (toZ-ofZ w64 z f) f h
 -- the text of a signed number
 text-below : (z x : ℤ) → x ≡ z → ltZ x (pos 0) ≡ true → signed z ≡ 45 ∷ digits (natAbs z)
 unfolding signed
-text-below (pos n) x e h = absurd (omega (arith, borrow.Author.Tests.ltb-true n 0 (ap (λ (y : ℤ). ltZ y (pos 0)) (sym e) ∙ h)))
+text-below (pos n) x e h = absurd (omega (arith, ltb-true n 0 (ap (λ (y : ℤ). ltZ y (pos 0)) (sym e) ∙ h)))
 text-below (negsuc n) x e h = refl
 
 text-above : (z x : ℤ) → x ≡ z → ltZ x (pos 0) ≡ false → signed z ≡ digits (natAbs z)
 unfolding signed
 text-above (pos n) x e h = refl
-text-above (negsuc n) x e h = absurd (mathlib.Core.Bool.true≢false (ap (λ (y : ℤ). ltZ y (pos 0)) (sym e) ∙ h))
+text-above (negsuc n) x e h = absurd (true≢false (ap (λ (y : ℤ). ltZ y (pos 0)) (sym e) ∙ h))
 
 pub signed-below : (z : ℤ) → SFits w64 z → ltZ (toZ w64 (ofZ w64 z)) (pos 0) ≡ true → (n : ℕ) → n ≡ natAbs (toZ w64 (ofZ w64 z))
     → signed z ≡ 45 ∷ digits n

@@ -1,14 +1,13 @@
 -- `job::file::slots_rise` meets its contract. The invariant: the slots rise up to record k. Assumes nothing.
 -- Below, cN is what is known N places before c.
 use borrow.Author.Needs.{needs}
-use mathlib.Core.Path.{_≡_, sym, ap, _∙_}
+use mathlib.Core.Path.{_≡_}
 use mathlib.Core.Bool.{true}
-use Prim.Native.Nat.{ℕ, _+_, _-_, _*_, _≤_, _<_}
+use Prim.Native.Nat.{_+_, _-_, _≤_}
 use native.Mathlib.Omega.{arith}
 use lib.Dec.{ltb}
-use lib.ListN.{length}
 use Rattle.paper.specs.Count.{all}
-use Rattle.job.specs.File.{ownerSlot, rising}
+use Rattle.job.specs.File.{ownerSlot}
 use Rattle.job.proofs.Files.{rise-none, rise-more, rise-fails, rise-done}
 use Rattle.job.proofs.file.slots_rise.Statement.{statement}
 use Rattle.job.proofs.file.slots_rise.Tie as tie

@@ -1,6 +1,6 @@
 -- `job::listing::put_number` meets its contract: the digits of a tenth, then the last digit. Assumes nothing.
 -- Below, cN is what is known N places before c.
-use mathlib.Core.Path.{_≡_, sym, ap, subst}
+use mathlib.Core.Path.{sym, ap, subst}
 use mathlib.Core.List.{List, [], _∷_}
 use borrow.Author.Needs.{needs}
 use native.Mathlib.Omega.{arith}

@@ -1,9 +1,9 @@
 -- `job::listing::put_head` meets its contract. Assumes nothing.
 -- Below, cN is what is known N places before c.
-use mathlib.Core.List.{List, [], _∷_, _++_}
+use mathlib.Core.List.{[], _∷_, _++_}
 use native.Mathlib.Omega.{arith}
 use Rattle.job.specs.Listing.{digits, headText}
-use Rattle.job.proofs.Texts.{room-first, room-next, wrote-both, wrote-length}
+use Rattle.job.proofs.Texts.{room-next, wrote-both, wrote-length}
 use Rattle.job.proofs.listing.put_head.Statement.{statement}
 use Rattle.job.proofs.listing.put_head.Tie as tie
 

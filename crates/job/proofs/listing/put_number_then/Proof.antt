@@ -1,6 +1,6 @@
 -- `job::listing::put_number_then` meets its contract. Assumes nothing.
 -- Below, cN is what is known N places before c.
-use mathlib.Core.List.{List, [], _∷_}
+use mathlib.Core.List.{[], _∷_}
 use native.Mathlib.Omega.{arith}
 use Rattle.job.specs.Listing.{digits}
 use Rattle.job.proofs.Texts.{room-first, room-next, wrote-both, wrote-length}

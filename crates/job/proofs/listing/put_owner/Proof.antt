@@ -6,7 +6,6 @@ use mathlib.Core.List.{List, [], _∷_, _++_}
 use Prim.Native.Nat.{ℕ, _+_, _≤_}
 use native.Mathlib.Omega.{arith}
 use lib.ListN.{length}
-use Rattle.job.specs.Listing.{digits, ownerText}
 use Rattle.job.proofs.Texts.{room-next, wrote-both, wrote-length, wrote-same, owner-none, owner-some}
 use Rattle.job.proofs.listing.put_owner.Statement.{statement}
 use Rattle.job.proofs.listing.put_owner.Tie as tie

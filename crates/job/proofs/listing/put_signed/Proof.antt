@@ -6,7 +6,7 @@ use mathlib.Core.List.{List, [], _∷_, _++_}
 use Prim.Native.Nat.{ℕ, _+_, _≤_}
 use native.Mathlib.Omega.{arith}
 use lib.ListN.{length}
-use Rattle.job.specs.Listing.{digits, signed}
+use Rattle.job.specs.Listing.{digits}
 use Rattle.job.proofs.Texts.{room-next, wrote-both, wrote-length, wrote-same}
 use Rattle.job.proofs.Signs.{signed-below, signed-above}
 use Rattle.job.proofs.listing.put_signed.Statement.{statement}

@@ -1,8 +1,8 @@
 -- `job::owners::placed_by` meets its contract. The invariant: the first k records are placed. Assumes nothing.
 -- Below, cN is what is known N places before c.
 use borrow.Author.Needs.{needs}
-use mathlib.Core.Path.{_≡_, refl, sym, ap, _∙_}
-use Prim.Native.Nat.{ℕ, _+_, _-_, _*_, _≤_, _<_}
+use mathlib.Core.Path.{_≡_, ap, _∙_}
+use Prim.Native.Nat.{_-_, _≤_}
 use native.Mathlib.Omega.{arith}
 use Rattle.job.specs.File.{ownerSlot}
 use Rattle.job.specs.Stages.{ownerValue, placed}

@@ -1,7 +1,6 @@
 -- `job::run::atoms_stage` meets its contract. Assumes nothing.
 -- Below, cN is what is known N places before c.
 use borrow.Author.Needs.{needs}
-use mathlib.Core.Path.{_≡_, sym}
 use native.Mathlib.Omega.{arith}
 use lib.Dec.{lit<, lit≤}
 use Rattle.job.proofs.Readings.{read-block, read-room, read-few, atoms-is, ranges-same, atoms-few, atoms-refused, atoms-passed}
