@@ -9,7 +9,7 @@ use lib.Dec.{T, leb, ltb, eqb}
 use lib.Ieee.{Float, nan, inf, binary64, ofBits, ofFields, nanBits, div}
 use lib.ListN.{length, getD, set, replicate, length-replicate}
 use Rattle.paper.specs.Count.{all, over}
-use Rattle.paper.proofs.Count.{length-over, over-none, over-more, getD-over, all-more, all-fails, all-done, all-none}
+use Rattle.paper.proofs.Count.{length-over, over-none, over-more, getD-over, all-more, all-fails, all-done}
 use Rattle.job.specs.Fields.{le}
 use Rattle.job.specs.Records.{blockAt, countOf, walkOk}
 use Rattle.job.specs.File.{jobLayout, fileMost, jobCounts, jobStarts, ownerSlot, rising, restOk, fileOk}
@@ -18,10 +18,7 @@ use Rattle.job.proofs.Sequences.{block-end}
 
 -- ---- refusal 13
 
--- the owners' slots, one more, a fall, and all
-pub rise-none : (s : List ℕ) (at : ℕ) → all 0 (λ k. ltb (ownerSlot s at k) (ownerSlot s at (k + 1))) ≡ true
-rise-none s at = all-none _
-
+-- the owners' slots: one more, a fall, and all
 pub rise-more : (s : List ℕ) (at k x y : ℕ) → x ≡ ownerSlot s at k → y ≡ ownerSlot s at (k + 1) → x < y
     → all k (λ j. ltb (ownerSlot s at j) (ownerSlot s at (j + 1))) ≡ true
     → all (k + 1) (λ j. ltb (ownerSlot s at j) (ownerSlot s at (j + 1))) ≡ true

@@ -3,7 +3,8 @@ use mathlib.Core.Path.{_≡_, refl, sym, ap, ap₂, _∙_}
 use mathlib.Core.Logic.{_↔_}
 use mathlib.Core.Bool.{true, not, _&&_, _||_}
 use mathlib.Core.List.{List, [], _++_}
-use Prim.Native.Nat.{ℕ, zero, suc, _+_, _-_, _*_, _≤_, _<_}
+use Prim.Native.Nat.{ℕ, _+_, _-_, _*_, _≤_, _<_}
+use native.Mathlib.Nat.{pos-of-ne-zero}
 use native.Mathlib.Omega.{arith}
 use borrow.Author.Tests.{eq-eqb, eqb-true, eqb-false, leb-false, not-true}
 use lib.Dec.{eqb, lit<, lit≤}
@@ -46,10 +47,6 @@ one-job y r q x z A B = (A .heard ∙ sym (B .heard), A .left ∙ sym (B .left))
 
 -- ---- what is heard
 
-some : (n : ℕ) → (n ≡ 0 → ⊥) → 0 < n
-some zero f = absurd (f refl)
-some (suc n) f = omega arith
-
 module _ (s x : List ℕ) where
   -- no test fails: the listing
   told-none : heardOf (jobTests s (length x)) ≡ 0 → jobResult s x ≡ listedAs (listingOf (listedOf s)) x
@@ -72,7 +69,7 @@ module _ (s x : List ℕ) where
       (λ f.
       let p = ap (λ (y : Result). y .answer) (told-some (eqb-false _ 0 f)) in
       let q : heardOf (jobTests s (length x)) ≡ n = cc in
-      (q, some n (λ z. eqb-false _ 0 f (q ∙ z))))
+      (q, pos-of-ne-zero (λ z. eqb-false _ 0 f (q ∙ z))))
 
   -- a listing comes only where none does
   listed-none : (n : ℕ) → jobResult s x .answer ≡ answer.Length n → heardOf (jobTests s (length x)) ≡ 0

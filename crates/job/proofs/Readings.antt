@@ -49,9 +49,9 @@ module _ {s c b : List ℕ} (K : ReadOk s c b) where
   read-block i h = omega (arith, start-is i h, block-le jobLayout s i)
 
   -- a field of record k of kind i + 1
-  pub read-room : (i k off n : ℕ) → i < 7 → k < getD c i 0 → off + n ≤ getD jobSizes i 0
+  pub read-room : (i off n : ℕ) → i < 7 → off + n ≤ getD jobSizes i 0 → (k : ℕ) → k < getD c i 0
       → getD b i 0 + (4 + off) + k * (4 + getD jobSizes i 0) + n ≤ length s
-  read-room i k off n h g l =
+  read-room i off n h l k g =
       omega (arith, field-room jobLayout s i k off n (omega (arith, count-is i h)) l, start-is i h)
 
   pub read-owners : getD b 5 0 + getD c 5 0 * 8 ≤ length s
@@ -60,7 +60,7 @@ module _ {s c b : List ℕ} (K : ReadOk s c b) where
   pub read-freeze : (getD c 4 0 ≡ 0 → ⊥) → getD b 4 0 + 8 ≤ length s
   read-freeze h =
       ⊎-elim
-      (λ (l : 0 < getD c 4 0). omega (arith, read-room 4 0 0 4 (lit< tt) l (lit≤ tt)))
+      (λ (l : 0 < getD c 4 0). omega (arith, read-room 4 0 4 (lit< tt) (lit≤ tt) 0 l))
       (λ (g : getD c 4 0 ≤ 0). absurd (h (omega arith)))
       (lt-or-ge 0 (getD c 4 0))
 

@@ -7,8 +7,9 @@ use Prim.Native.Nat.{_+_, _-_, _≤_}
 use native.Mathlib.Omega.{arith}
 use lib.Dec.{ltb}
 use Rattle.paper.specs.Count.{all}
+use Rattle.paper.proofs.Count.{all-none}
 use Rattle.job.specs.File.{ownerSlot}
-use Rattle.job.proofs.Files.{rise-none, rise-more, rise-fails, rise-done}
+use Rattle.job.proofs.Files.{rise-more, rise-fails, rise-done}
 use Rattle.job.proofs.file.slots_rise.Statement.{statement}
 use Rattle.job.proofs.file.slots_rise.Tie as tie
 
@@ -19,7 +20,7 @@ abbrev μ-loop : tie.MeasureT-loop
 μ-loop s at n k₀ k = n - k
 
 loop-holds : tie.Need-loop-holds Inv-loop μ-loop
-loop-holds c = (rise-none _ _, omega arith)
+loop-holds c = (all-none _, omega arith)
 
 add-loop : tie.Need-add-loop Inv-loop μ-loop
 add-loop c = search needs

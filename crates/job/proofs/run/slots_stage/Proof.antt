@@ -45,7 +45,7 @@ add-column-f64 c =
 column-f64-requires : tie.Need-column-f64-requires
 column-f64-requires c κs =
     let s = c .before .before .before .before .before .before .before .before in
-    (omega (arith, read-few (s .pre .0) .2), λ k h. omega (arith, read-room (s .pre .0) 2 k 0 8 (lit< tt) h (lit≤ tt)))
+    (omega (arith, read-few (s .pre .0) .2), read-room (s .pre .0) 2 0 8 (lit< tt) (lit≤ tt))
 
 add-column32 : tie.Need-add-column32
 add-column32 c =
@@ -55,7 +55,7 @@ add-column32 c =
 column32-requires : tie.Need-column32-requires
 column32-requires c κs =
     let s = c .before .before .before .before .before .before .before .before .before in
-    (omega (arith, read-few (s .pre .0) .2), λ k h. omega (arith, read-room (s .pre .0) 2 k 8 4 (lit< tt) h (lit≤ tt)))
+    (omega (arith, read-few (s .pre .0) .2), read-room (s .pre .0) 2 8 4 (lit< tt) (lit≤ tt))
 
 settings-in-requires : tie.Need-settings-in-requires
 settings-in-requires c κs = read-settings (c .before .before .before .before .before .before .before .before .before .before .pre .0)
@@ -100,7 +100,7 @@ column16-requires : tie.Need-column16-requires
 column16-requires c κs =
     let s = c .before .before .before .before .before .before .before .before .before .before .before .before .before .before .before
     .before .before .before .before .before in
-    (read-few (s .pre .0) .4, λ k h. omega (arith, read-room (s .pre .0) 6 k 0 2 (lit< tt) h (lit≤ tt)))
+    (read-few (s .pre .0) .4, read-room (s .pre .0) 6 0 2 (lit< tt) (lit≤ tt))
 
 add-column16-2 : tie.Need-add-column16-2
 add-column16-2 c =
@@ -112,7 +112,7 @@ column16-requires-2 : tie.Need-column16-requires-2
 column16-requires-2 c κs =
     let s = c .before .before .before .before .before .before .before .before .before .before .before .before .before .before .before
     .before .before .before .before .before .before in
-    (read-few (s .pre .0) .4, λ k h. omega (arith, read-room (s .pre .0) 6 k 2 2 (lit< tt) h (lit≤ tt)))
+    (read-few (s .pre .0) .4, read-room (s .pre .0) 6 2 2 (lit< tt) (lit≤ tt))
 
 add-column16-3 : tie.Need-add-column16-3
 add-column16-3 c =
@@ -124,7 +124,7 @@ column16-requires-3 : tie.Need-column16-requires-3
 column16-requires-3 c κs =
     let s = c .before .before .before .before .before .before .before .before .before .before .before .before .before .before .before
     .before .before .before .before .before .before .before in
-    (read-few (s .pre .0) .4, λ k h. omega (arith, read-room (s .pre .0) 6 k 4 2 (lit< tt) h (lit≤ tt)))
+    (read-few (s .pre .0) .4, read-room (s .pre .0) 6 4 2 (lit< tt) (lit≤ tt))
 
 array-read-owners-stage : tie.Need-array-read-owners-stage
 array-read-owners-stage c = search needs
