@@ -5,7 +5,7 @@ use mathlib.Core.List.{List, [], _∷_, map}
 use Prim.Native.Nat.{ℕ, zero, suc, _+_, _-_, _*_, _/_, _%_, _≤_, _<_}
 use native.Mathlib.Omega.{arith}
 use borrow.Author.Tests.{le-leb, lt-leb, eq-eqb, ne-eqb, lt-ltb, le-ltb}
-use lib.Dec.{T, leb, ltb, eqb}
+use lib.Dec.{T, leb, ltb, eqb, lit<}
 use lib.Ieee.{Float, nan, inf, binary64, ofBits, ofFields, nanBits, div}
 use lib.ListN.{length, getD, set, replicate, length-replicate}
 use Rattle.paper.specs.Count.{all, over}
@@ -58,24 +58,35 @@ module _ (s : List ℕ) (settings freezes at owners : ℕ) where
   rest-settings p = sym (simp (ne-eqb _ _ p))
 
 -- the counts and the starts of the kinds, read from their arrays
-pub count-at : (s : List ℕ) (i : ℕ) → i < 7 → getD (jobCounts s) i 0 ≡ countOf jobLayout s i
-unfolding jobCounts
-count-at s i h = getD-over (countOf jobLayout s) 7 (replicate 8 0) i h (omega (arith, length-replicate {A = ℕ} 8 0))
+module _ (s c : List ℕ) (counts : c ≡ jobCounts s) where
+  pub count-at : (i : ℕ) → i < 7 → getD c i 0 ≡ countOf jobLayout s i
+  unfolding jobCounts
+  count-at i h =
+      ap (λ (l : List ℕ). getD l i 0) counts
+      ∙ getD-over (countOf jobLayout s) 7 (replicate 8 0) i h (omega (arith, length-replicate {A = ℕ} 8 0))
 
-pub start-at : (s : List ℕ) (i : ℕ) → i < 7 → getD (jobStarts s) i 0 ≡ blockAt jobLayout s i
-unfolding jobStarts
-start-at s i h = getD-over (blockAt jobLayout s) 7 (replicate 8 0) i h (omega (arith, length-replicate {A = ℕ} 8 0))
+module _ (s b : List ℕ) (starts : b ≡ jobStarts s) where
+  pub start-at : (i : ℕ) → i < 7 → getD b i 0 ≡ blockAt jobLayout s i
+  unfolding jobStarts
+  start-at i h =
+      ap (λ (l : List ℕ). getD l i 0) starts
+      ∙ getD-over (blockAt jobLayout s) 7 (replicate 8 0) i h (omega (arith, length-replicate {A = ℕ} 8 0))
 
-pub owners-end : (s : List ℕ) (at n : ℕ) → at ≡ blockAt jobLayout s 5 → n ≡ countOf jobLayout s 5 → at + n * 8 ≤ length s
-owners-end s at n a e = omega (arith, block-end jobLayout s 5, ap (λ (x : ℕ). x * 8) e, a)
+module _ (s c b : List ℕ) (counts : c ≡ jobCounts s) (starts : b ≡ jobStarts s) where
+  -- the owner records lie within the file
+  pub owners-end : getD b 5 0 + getD c 5 0 * 8 ≤ length s
+  owners-end =
+      omega (arith, block-end jobLayout s 5, ap (λ (n : ℕ). n * 8) (count-at s c counts 5 (lit< tt)), start-at s b starts 5 (lit< tt))
 
-pub file-ok : (s : List ℕ) (w r : Bool) (settings freezes at owners : ℕ) → w ≡ walkOk jobLayout fileMost s
-    → settings ≡ countOf jobLayout s 0 → freezes ≡ countOf jobLayout s 4 → at ≡ blockAt jobLayout s 5 → owners ≡ countOf jobLayout s 5
-    → r ≡ restOk s settings freezes at owners → w && r ≡ fileOk s
-unfolding fileOk
-file-ok s w r settings freezes at owners a b c d e f =
-    ap₂ _&&_ a (f ∙ ap₂ (λ (x y : ℕ). restOk s x y at owners) b c
-    ∙ ap₂ (λ (x y : ℕ). restOk s (countOf jobLayout s 0) (countOf jobLayout s 4) x y) d e)
+  -- the walk and the rest together
+  pub file-ok : (w r : Bool) → w ≡ walkOk jobLayout fileMost s → r ≡ restOk s (getD c 0 0) (getD c 4 0) (getD b 5 0) (getD c 5 0)
+      → w && r ≡ fileOk s
+  unfolding fileOk
+  file-ok w r e f =
+      ap₂ _&&_ e (f
+      ∙ ap₂ (λ (x y : ℕ). restOk s x y (getD b 5 0) (getD c 5 0)) (count-at s c counts 0 (lit< tt)) (count-at s c counts 4 (lit< tt))
+      ∙ ap₂ (λ (x y : ℕ). restOk s (countOf jobLayout s 0) (countOf jobLayout s 4) x y) (start-at s b starts 5 (lit< tt))
+      (count-at s c counts 5 (lit< tt)))
 
 -- ---- columns
 

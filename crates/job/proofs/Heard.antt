@@ -27,22 +27,18 @@ use Rattle.rota.specs.Recount.{availableAt}
 use Rattle.job.specs.File.{jobCounts, jobStarts, fileOk}
 use Rattle.job.specs.Columns.{column, floatColumn}
 use Rattle.job.specs.Listing.{listed, listingOf, listingMost}
-use Rattle.job.specs.Stages.{jobCountsOk, countsNo, settingsIn, noOf, valueOf, unitsNoOf, lowerNo}
-use Rattle.job.specs.Stages.{TargetsSound, allEven, allKnown, ownersNo}
-use Rattle.job.specs.Outcome.{Result, startOf, figureValue, textOf, listedAs, refusedAs, orRefused}
-use Rattle.job.specs.Outcome.{baseIn, peopleIn, rangesIn, capacitiesIn, priorsIn, instantIn, atomsIn, availIn}
-use Rattle.job.specs.Outcome.{sharesIn}
-use Rattle.job.specs.Outcome.{unitsIn, readyIn, playResult, rotaResult, ownersResult, slotsResult, atomsResult, countedResult}
-use Rattle.job.specs.Outcome.{jobResult}
+use Rattle.job.specs.Stages.{jobCountsOk, countsNo, settingsIn, noOf, valueOf, unitsNoOf, lowerNo, TargetsSound, allEven, allKnown}
+use Rattle.job.specs.Stages.{ownersNo}
+use Rattle.job.specs.Outcome.{Result, startOf, figureValue, textOf, listedAs, refusedAs, orRefused, baseIn, peopleIn, rangesIn}
+use Rattle.job.specs.Outcome.{capacitiesIn, priorsIn, instantIn, atomsIn, availIn, sharesIn, unitsIn, readyIn, playResult, rotaResult}
+use Rattle.job.specs.Outcome.{ownersResult, slotsResult, atomsResult, countedResult, jobResult}
 use Rattle.job.specs.Heard.{Test, test, heardOf, AllPass, baseOf, readyOf, drawsOf, writtenOf, ownersOf, startedOf, playedOf}
-use Rattle.job.specs.Heard.{listedOf}
-use Rattle.job.specs.Heard.{baseTotal, jobTests}
+use Rattle.job.specs.Heard.{listedOf, baseTotal, jobTests}
 use Rattle.job.proofs.Files.{length-column, column-at}
 use Rattle.job.proofs.Tests.{Numbered, Rising, stage}
 use Rattle.job.proofs.Prepares.{few-says, when-none}
-use Rattle.job.proofs.Passing.{atoms-no, AtomsSound, atoms-sound, avail-length, frozen-length, frozen-at, lent-room}
-use Rattle.job.proofs.Passing.{shares-no, targets-sound, units-no}
-use Rattle.job.proofs.Passing.{units-right, units-fit, lower-is, owners-known, owners-even, narrowed-length}
+use Rattle.job.proofs.Passing.{atoms-no, AtomsSound, atoms-sound, avail-length, frozen-length, frozen-at, lent-room, shares-no}
+use Rattle.job.proofs.Passing.{targets-sound, units-no, units-right, units-fit, lower-is, owners-known, owners-even, narrowed-length}
 use Rattle.job.proofs.Rotas.{RotaSound, start-no, play-no}
 use Rattle.job.proofs.Plays.{uncovered-told}
 

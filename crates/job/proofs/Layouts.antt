@@ -14,8 +14,7 @@ use Rattle.paper.proofs.Logic.{both, four, and-true, lt-or-ge}
 use Rattle.paper.proofs.Count.{all-each, each-all}
 use Rattle.job.specs.Fields.{le, Bytes, Field, bodyOf}
 use Rattle.job.specs.Records.{Rec, fileOf, Laid, LayoutFits, bodies, blockAt, countOf, walkOk}
-use Rattle.job.specs.File.{jobLayout, jobSizes, fileMost, jobCounts, jobStarts, ownerSlot, rising, restOk, fileOk}
-use Rattle.job.specs.File.{JobFile}
+use Rattle.job.specs.File.{jobLayout, jobSizes, fileMost, jobCounts, jobStarts, ownerSlot, rising, restOk, fileOk, JobFile}
 use Rattle.job.specs.Stages.{settingsIn}
 use Rattle.job.specs.Outcome.{columnOf}
 use Rattle.job.proofs.Files.{count-at, start-at, column-at}
@@ -122,13 +121,13 @@ module _ (s : List ℕ) (J : JobFile s) where
 
   -- as many of each kind
   pub counts-read : (i : ℕ) → i < 7 → getD (jobCounts s) i 0 ≡ length (bodies (1 + i) (J .records))
-  counts-read i h = count-at s i h ∙ counts s (J .records) laid-out (J .whole) i h
+  counts-read i h = count-at s (jobCounts s) refl i h ∙ counts s (J .records) laid-out (J .whole) i h
 
   -- and each field of record k of a kind is that of its body
   pub fields-read : (i k off n : ℕ) → i < 7 → k < length (bodies (1 + i) (J .records)) → off + n ≤ getD jobSizes i 0
       → le n s (getD (jobStarts s) i 0 + k * (4 + getD jobSizes i 0) + (4 + off)) ≡ le n (getD (bodies (1 + i) (J .records)) k []) off
   fields-read i k off n h g r =
-      ap (λ (at : ℕ). le n s (at + k * (4 + getD jobSizes i 0) + (4 + off))) (start-at s i h)
+      ap (λ (at : ℕ). le n s (at + k * (4 + getD jobSizes i 0) + (4 + off))) (start-at s (jobStarts s) refl i h)
       ∙ fields s (J .records) laid-out (J .whole) i k off n h g r
 
   pub columns-read : (i k off n : ℕ) → i < 7 → k < length (bodies (1 + i) (J .records)) → length (bodies (1 + i) (J .records)) ≤ 1024

@@ -37,8 +37,8 @@ use Rattle.rota.specs.Recount.{evenAt}
 use Rattle.rota.proofs.Minutes.{known-below, known-nobody}
 use Rattle.job.specs.declared.Shares.{Shares}
 use Rattle.job.specs.File.{ownerSlot}
-use Rattle.job.specs.Stages.{frozenIn, noOf, valueOf, unitsNoOf, unitsValueOf, SharesAre, TargetsSound, lowerNo}
-use Rattle.job.specs.Stages.{ownerValue, placed, allEven, recordKnown, allKnown, byteOf, narrowed}
+use Rattle.job.specs.Stages.{frozenIn, noOf, valueOf, unitsNoOf, unitsValueOf, SharesAre, TargetsSound, lowerNo, ownerValue, placed}
+use Rattle.job.specs.Stages.{allEven, recordKnown, allKnown, byteOf, narrowed}
 use Rattle.job.proofs.Prepares.{frozen-some, byte-small}
 
 -- ---- atomic slots

@@ -29,8 +29,8 @@ use Rattle.job.specs.File.{jobCounts, jobStarts, JobFile}
 use Rattle.job.specs.Listing.{digits, listingOf, listingMost, put}
 use Rattle.job.specs.Digits.{readDigits}
 use Rattle.job.specs.Outcome.{Result, refusedAs, listedAs, Ends, planOf, instantIn, jobResult}
-use Rattle.job.specs.Heard.{heardOf, testAt, Lowest, AllPass, readyOf, drawsOf, ownersOf, startedOf, playedOf, listedOf}
-use Rattle.job.specs.Heard.{baseTotal, jobTests}
+use Rattle.job.specs.Heard.{heardOf, testAt, Lowest, AllPass, readyOf, drawsOf, ownersOf, startedOf, playedOf, listedOf, baseTotal}
+use Rattle.job.specs.Heard.{jobTests}
 use Rattle.job.proofs.Prepares.{when-none, when-some}
 use Rattle.job.proofs.Tests.{heard-none, heard-lowest}
 use Rattle.job.proofs.Heard.{job-told, numbered, rising, free, sound, demand-is, targets-right, frozen-there}

@@ -29,8 +29,7 @@ use Rattle.job.specs.File.{jobLayout, jobSizes, fileMost, jobCounts, job
 use Rattle.job.specs.Stages.{jobCountsOk, countsNo, settingsIn, frozenIn, valueOf, AtomsAre, UnitsAre, SharesAre, unitsNoOf}
 use Rattle.job.specs.Stages.{unitsValueOf, lowerNo}
 use Rattle.job.specs.Outcome.{Result, Ends, Ready, ready, Draws, draws, ReadOk, baseIn, peopleIn, capacitiesIn, priorsIn, drawsIn}
-use Rattle.job.specs.Outcome.{instantIn}
-use Rattle.job.specs.Outcome.{columnOf, rangesIn, atomsIn, atomsResult, availIn, sharesIn, unitsIn, readyIn, ownersResult}
+use Rattle.job.specs.Outcome.{instantIn, columnOf, rangesIn, atomsIn, atomsResult, availIn, sharesIn, unitsIn, readyIn, ownersResult}
 use Rattle.job.specs.Outcome.{slotsResult, refusedAs, countedResult, jobResult}
 use Rattle.job.proofs.Sequences.{counted-at, block-le, field-room}
 use Rattle.job.proofs.Walks.{record-says}
@@ -40,10 +39,10 @@ use Rattle.job.proofs.Results.{refused-is, or-refused, or-passed}
 
 module _ {s c b : List ℕ} (K : ReadOk s c b) where
   count-is : (i : ℕ) → i < 7 → getD c i 0 ≡ countOf jobLayout s i
-  count-is i h = ap (λ (l : List ℕ). getD l i 0) (K .counts) ∙ count-at s i h
+  count-is i h = count-at s c (K .counts) i h
 
   start-is : (i : ℕ) → i < 7 → getD b i 0 ≡ blockAt jobLayout s i
-  start-is i h = ap (λ (l : List ℕ). getD l i 0) (K .starts) ∙ start-at s i h
+  start-is i h = start-at s b (K .starts) i h
 
   pub read-block : (i : ℕ) → i < 7 → getD b i 0 ≤ length s
   read-block i h = omega (arith, start-is i h, block-le jobLayout s i)
@@ -55,7 +54,7 @@ module _ {s c b : List ℕ} (K : ReadOk s c b) where
       omega (arith, field-room jobLayout s i k off n (omega (arith, count-is i h)) l, start-is i h)
 
   pub read-owners : getD b 5 0 + getD c 5 0 * 8 ≤ length s
-  read-owners = owners-end s (getD b 5 0) (getD c 5 0) (start-is 5 (lit< tt)) (count-is 5 (lit< tt))
+  read-owners = owners-end s c b (K .counts) (K .starts)
 
   pub read-freeze : (getD c 4 0 ≡ 0 → ⊥) → getD b 4 0 + 8 ≤ length s
   read-freeze h =

@@ -14,8 +14,8 @@ use Rattle.paper.specs.Count.{all}
 use Rattle.paper.proofs.Logic.{both, and-true, lt-or-ge}
 use Rattle.paper.proofs.Count.{all-each, all-none}
 use Rattle.job.specs.Fields.{le, leBytes, Bytes}
-use Rattle.job.specs.Records.{Layout, Rec, bytesOf, fileOf, Laid, done, next, more, Allowed, recordOf, InOrder, bodies}
-use Rattle.job.specs.Records.{recordAt, blockCount, blockAt, countOf, walkOk, LayoutFits, IsFile}
+use Rattle.job.specs.Records.{Layout, Rec, bytesOf, fileOf, Laid, done, next, more, Allowed, recordOf, InOrder, bodies, recordAt}
+use Rattle.job.specs.Records.{blockCount, blockAt, countOf, walkOk, LayoutFits, IsFile}
 use Rattle.job.proofs.Numbers.{le-front, le-back, le-written, written-le, length-bytes}
 use Rattle.job.proofs.Walks.{lead-all, record-says, record-is, record-short, block-more, block-done, next-at}
 

@@ -12,8 +12,8 @@ use lib.Dec.{eqb, lit<}
 use lib.ListN.{length, set, take, drop, length-append, length-drop, take-append-drop}
 use lib.Seq.{length-take-le, take-at, drop-append-add, set-split, drop-drop}
 use Rattle.paper.proofs.Logic.{below-suc, lt-or-ge}
-use Rattle.job.specs.Listing.{decimal, digits, ownerText, answerLetter, headText, refusalLine, lines, put, Wrote}
-use Rattle.job.specs.Listing.{refusalOut, refusalLength}
+use Rattle.job.specs.Listing.{decimal, digits, ownerText, answerLetter, headText, refusalLine, lines, put, Wrote, refusalOut}
+use Rattle.job.specs.Listing.{refusalLength}
 use Rattle.job.proofs.Numbers.{below-power}
 
 -- ---- bytes in a buffer

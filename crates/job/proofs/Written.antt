@@ -5,8 +5,8 @@ use Prim.Native.Nat.{ℕ, zero, suc, _+_, _^_, _<_}
 use native.Mathlib.Omega.{arith}
 use lib.Dec.{lit<}
 use lib.ListN.{length, getD}
-use Rattle.job.specs.Fields.{le, leBytes, Field, byte, bodyOf}
-use Rattle.job.specs.Fields.{settingsBody, baseBody, personBody, rangeBody, freezeBody, ownerBody, drawBody}
+use Rattle.job.specs.Fields.{le, leBytes, Field, byte, bodyOf, settingsBody, baseBody, personBody, rangeBody, freezeBody, ownerBody}
+use Rattle.job.specs.Fields.{drawBody}
 use Rattle.job.proofs.Numbers.{le-back, le-written, length-bytes}
 
 -- ---- the fields of any body

@@ -11,8 +11,8 @@ use Rattle.job.specs.Stages.{frozenIn}
 use Rattle.job.specs.Outcome.{draws, availIn}
 use Rattle.job.proofs.Prepares.{lower-none}
 use Rattle.job.proofs.Passing.{shares-sound}
-use Rattle.job.proofs.Readings.{read-block, read-room, read-owners, read-freeze, read-settings, read-few}
-use Rattle.job.proofs.Readings.{shares-is, units-is, slots-refused, slots-passed}
+use Rattle.job.proofs.Readings.{read-block, read-room, read-owners, read-freeze, read-settings, read-few, shares-is, units-is}
+use Rattle.job.proofs.Readings.{slots-refused, slots-passed}
 use Rattle.job.proofs.run.slots_stage.Statement.{statement}
 use Rattle.job.proofs.run.slots_stage.Tie as tie
 
