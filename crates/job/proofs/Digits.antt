@@ -6,13 +6,14 @@ use mathlib.Core.List.{List, [], _∷_, _++_}
 use Prim.Native.Nat.{ℕ, zero, suc, _+_, _-_, _*_, _/_, _%_, _^_, _≤_, _<_}
 use native.Mathlib.Nat.{pow-suc}
 use native.Mathlib.Omega.{arith}
-use borrow.Author.Tests.{lt-ltb, le-ltb, ne-eqb}
+use borrow.Author.Tests.{ne-eqb}
 use lib.IntN.{ℤ, pos, negsuc, negℤ, natAbs}
 use lib.ListN.{length, getD, take, length-append, List·getD-append}
 use lib.Seq.{getD-append-seam, getD-take, take-suc, take-length, length-take-le}
 use Rattle.paper.proofs.Logic.{lt-or-ge}
 use Rattle.job.specs.Listing.{decimal, digits, signed}
 use Rattle.job.specs.Digits.{readFrom, readDigits, readSigned, Decimal}
+use Rattle.job.proofs.Texts.{decimal-one, decimal-next}
 
 -- ---- one digit, and one more
 
@@ -20,16 +21,6 @@ read-more : (v : ℕ) (l : List ℕ) (b : ℕ) → readFrom v (l ++ (b ∷ [])) 
 unfolding readFrom
 read-more v [] b = refl
 read-more v (c ∷ l) b = read-more (v * 10 + (c - 48)) l b
-
--- decimal f n is one digit, or digits and one more
-decimal-one : (f n : ℕ) → n < 10 → decimal f n ≡ (48 + n) ∷ []
-unfolding decimal
-decimal-one zero n h = refl
-decimal-one (suc f) n h = ap (λ (b : Bool). cond b ((48 + n) ∷ []) (decimal f (n / 10) ++ ((48 + n % 10) ∷ []))) (lt-ltb n 10 h)
-
-decimal-next : (f n : ℕ) → 10 ≤ n → decimal (suc f) n ≡ decimal f (n / 10) ++ ((48 + n % 10) ∷ [])
-unfolding decimal
-decimal-next f n h = ap (λ (b : Bool). cond b ((48 + n) ∷ []) (decimal f (n / 10) ++ ((48 + n % 10) ∷ []))) (le-ltb n 10 h)
 
 -- ---- the value
 

@@ -2,17 +2,17 @@
 use mathlib.Core.Path.{_≡_, refl, sym, ap, ap₂, _∙_, subst}
 use mathlib.Core.Bool.{Bool, true, false, cond, _&&_}
 use mathlib.Core.List.{List, [], _∷_, _++_}
-use Prim.Native.Nat.{ℕ, zero, _+_, _-_, _*_, _≤_, _<_}
+use Prim.Native.Nat.{ℕ, _+_, _-_, _*_, _≤_, _<_}
 use native.Mathlib.Omega.{arith}
-use borrow.Author.Tests.{le-leb, leb-true, eq-eqb}
+use borrow.Author.Tests.{le-leb, leb-true}
 use lib.Dec.{leb, lit<, lit≤}
-use lib.Ieee.{Float, fin, binary64, ofBits}
+use lib.Ieee.{binary64, ofBits}
 use lib.IntN.{pos}
-use lib.ListN.{length, getD, replicate, length-replicate}
-use Rattle.paper.specs.Limits.{peopleOk, countsOk, orElse}
+use lib.ListN.{length, getD, replicate, length-map, length-replicate}
+use Rattle.paper.specs.Limits.{peopleOk, slotCountOk, countsOk, orElse}
 use Rattle.paper.specs.Count.{all, sum}
 use Rattle.paper.proofs.Logic.{both, and-true, cond-zero, people-says, slot-count-says}
-use Rattle.paper.proofs.Count.{length-over, getD-over, sum-same}
+use Rattle.paper.proofs.Count.{sum-same}
 use Rattle.slotset.specs.Slots.{slot}
 use Rattle.slots.specs.Lent.{slotRoomOk, slotsOk, minutesAt, demandOf}
 use Rattle.slots.specs.Ranges.{rangeCountOk, rangeRoomOk, rangesOk}
@@ -24,49 +24,33 @@ use Rattle.targets.specs.Figures.{allFiguresOk}
 use Rattle.targets.specs.Outcome as targets
 use Rattle.rota.specs.declared.Figure.{Figure}
 use Rattle.rota.specs.Recount.{availableAt}
-use Rattle.job.specs.Fields.{le}
 use Rattle.job.specs.File.{jobCounts, jobStarts, fileOk}
-use Rattle.job.specs.Columns.{column, priorsColumn, capacitiesColumn}
+use Rattle.job.specs.Columns.{column, floatColumn}
 use Rattle.job.specs.Listing.{listed, listingOf, listingMost}
-use Rattle.job.specs.Stages.{jobCountsOk, countsNo, settingsIn, noOf, valueOf, unitsNoOf, lowerNo}
-use Rattle.job.specs.Stages.{TargetsSound, allEven, allKnown, ownersNo}
-use Rattle.job.specs.Outcome.{Result, startOf, figureValue, textOf, listedAs, refusedAs, orRefused}
-use Rattle.job.specs.Outcome.{baseIn, peopleIn, rangesIn, capacitiesIn, priorsIn, instantIn, atomsIn, availIn}
-use Rattle.job.specs.Outcome.{sharesIn}
-use Rattle.job.specs.Outcome.{unitsIn, readyIn, playResult, rotaResult, ownersResult, slotsResult, atomsResult, countedResult}
-use Rattle.job.specs.Outcome.{jobResult}
+use Rattle.job.specs.Stages.{jobCountsOk, countsNo, settingsIn, noOf, valueOf, unitsNoOf, lowerNo, TargetsSound, allEven, allKnown}
+use Rattle.job.specs.Stages.{ownersNo}
+use Rattle.job.specs.Outcome.{Result, startOf, figureValue, textOf, listedAs, refusedAs, orRefused, baseIn, peopleIn, rangesIn}
+use Rattle.job.specs.Outcome.{capacitiesIn, priorsIn, instantIn, atomsIn, availIn, sharesIn, unitsIn, readyIn, playResult, rotaResult}
+use Rattle.job.specs.Outcome.{ownersResult, slotsResult, atomsResult, countedResult, jobResult}
 use Rattle.job.specs.Heard.{Test, test, heardOf, AllPass, baseOf, readyOf, drawsOf, writtenOf, ownersOf, startedOf, playedOf}
-use Rattle.job.specs.Heard.{listedOf}
-use Rattle.job.specs.Heard.{baseTotal, jobTests}
-use Rattle.job.proofs.Files.{length-floats}
+use Rattle.job.specs.Heard.{listedOf, baseTotal, jobTests}
+use Rattle.job.proofs.Files.{length-column, column-at}
 use Rattle.job.proofs.Tests.{Numbered, Rising, stage}
-use Rattle.job.proofs.Passing.{few-says, atoms-no, AtomsSound, atoms-sound, avail-length, frozen-length, frozen-at, lent-room}
-use Rattle.job.proofs.Passing.{shares-no, targets-sound, units-no}
-use Rattle.job.proofs.Passing.{units-right, units-fit, lower-is, owners-known, owners-even, narrowed-length}
+use Rattle.job.proofs.Prepares.{few-says, when-none}
+use Rattle.job.proofs.Passing.{atoms-no, AtomsSound, atoms-sound, avail-length, frozen-length, frozen-at, lent-room, shares-no}
+use Rattle.job.proofs.Passing.{targets-sound, units-no, units-right, units-fit, lower-is, owners-known, owners-even, narrowed-length}
 use Rattle.job.proofs.Rotas.{RotaSound, start-no, play-no}
 use Rattle.job.proofs.Plays.{uncovered-told}
 
 -- ---- columns have the room that their counts may ask for
 
 column-room : (width : ℕ) (s : List ℕ) (at stride n m : ℕ) → m ≤ 1024 → leb m (length (column width s at stride n)) ≡ true
-unfolding column
-column-room width s at stride n m h =
-    le-leb m _ (omega (arith, length-over (λ k. le width s (at + k * stride)) n (replicate 1024 0), length-replicate {A = ℕ} 1024 0))
+column-room width s at stride n m h = le-leb m _ (omega (arith, length-column width s at stride n))
 
-priors-room : (s : List ℕ) (at stride n m : ℕ) → m ≤ 32 → leb m (length (priorsColumn s at stride n)) ≡ true
-unfolding priorsColumn
-priors-room s at stride n m h =
-    le-leb m _ (omega (arith, length-over (λ k. le 4 s (at + k * stride)) n (replicate 32 0), length-replicate {A = ℕ} 32 0))
-
-capacities-room : (s : List ℕ) (at stride n m : ℕ) → m ≤ 32 → leb m (length (capacitiesColumn s at stride n)) ≡ true
-unfolding capacitiesColumn
-capacities-room s at stride n m h =
-    let zero : Float = fin false 0 (pos 0) in
-    le-leb m _ (omega (
-      arith,
-      length-floats (λ k. ofBits binary64 (le 8 s (at + k * stride))) n (replicate 32 zero),
-      length-replicate 32 zero,
-    ))
+floats-room : (s : List ℕ) (at stride n m : ℕ) → m ≤ 1024 → leb m (length (floatColumn s at stride n)) ≡ true
+unfolding floatColumn
+floats-room s at stride n m h =
+    le-leb m _ (omega (arith, length-map (column 8 s at stride n) (ofBits binary64), length-column 8 s at stride n))
 
 -- ---- the stages of a file, from the tests that it has passed
 
@@ -80,16 +64,20 @@ module _ (s : List ℕ) where
   abbrev Few : Type 0
   Few = jobCountsOk (baseIn (jobCounts s)) (peopleIn (jobCounts s)) (getD (jobCounts s) 3 0) (getD (jobCounts s) 6 0) ≡ true
 
+  each-few : Few → (slotCountOk (baseIn (jobCounts s)) ≡ true) × (peopleOk (peopleIn (jobCounts s)) ≡ true)
+      × (leb (getD (jobCounts s) 3 0) 1024 ≡ true) × (leb (getD (jobCounts s) 6 0) 1024 ≡ true)
+  each-few e = few-says (baseIn c) (peopleIn c) (getD c 3 0) (getD c 6 0) e
+
   base-counts : Few → atomic.baseCountsOk (baseOf s) ≡ true
   unfolding baseOf atomic.splitCountsOk rangeCountOk
   base-counts e =
-      let f = few-says (baseIn c) (peopleIn c) (getD c 3 0) (getD c 6 0) e in
+      let f = each-few e in
       and-true _ _ (f .1) (and-true _ _ (f .0) (f .2))
 
   base-room : Few → atomic.baseRoomOk (baseOf s) ≡ true
   unfolding baseOf atomic.roomOk slotRoomOk rangeRoomOk
   base-room e =
-      let f = few-says (baseIn c) (peopleIn c) (getD c 3 0) (getD c 6 0) e in
+      let f = each-few e in
       let n = slot-count-says (baseIn c) (f .0) .1 in
       let r = leb-true (getD c 3 0) 1024 (f .2) in
       let full : leb 1024 (length (replicate {A = ℕ} 1024 0)) ≡ true =
@@ -135,7 +123,7 @@ module _ (s : List ℕ) where
 
   module _ (few : Few) (n : ℕ) (S E : List ℕ) (A : AtomsSound (baseOf s) n S E) where
     people-few : peopleIn (jobCounts s) ≤ 32
-    people-few = people-says (peopleIn c) (few-says (baseIn c) (peopleIn c) (getD c 3 0) (getD c 6 0) few .1) .1
+    people-few = people-says (peopleIn c) (each-few few .1) .1
 
     slots-few : n ≤ length (replicate {A = ℕ} 1024 0)
     slots-few = omega (arith, slot-count-says n (A .count-ok) .1, length-replicate {A = ℕ} 1024 0)
@@ -152,7 +140,7 @@ module _ (s : List ℕ) where
 
     shares-counts : countsOk (peopleIn (jobCounts s)) n ≡ true
     unfolding countsOk
-    shares-counts = and-true _ _ (few-says (baseIn c) (peopleIn c) (getD c 3 0) (getD c 6 0) few .1) (A .count-ok)
+    shares-counts = and-true _ _ (each-few few .1) (A .count-ok)
 
     shares-room : slotRoomOk n S E
         && targets.peopleRoomOk (peopleIn (jobCounts s)) (length (availIn (jobCounts s) (rangesIn s (jobCounts s) (jobStarts s)) n S E))
@@ -161,8 +149,8 @@ module _ (s : List ℕ) where
     unfolding targets.peopleRoomOk
     shares-room =
         and-true _ _ (lent-room n S E (A .lent)) (and-true _ _ (le-leb _ _ words-room)
-        (and-true _ _ (capacities-room s _ 16 (peopleIn c) (peopleIn c) people-few)
-        (and-true _ _ (priors-room s _ 16 (peopleIn c) (peopleIn c) people-few)
+        (and-true _ _ (floats-room s _ 16 (peopleIn c) (peopleIn c) (omega (arith, people-few)))
+        (and-true _ _ (column-room 4 s _ 16 (peopleIn c) (peopleIn c) (omega (arith, people-few)))
         (le-leb (peopleIn c) (length (replicate 32 (pos 0))) (omega (arith, people-few, length-replicate 32 (pos 0)))))))
 
     shares-heard : sharesIn s (jobCounts s) (jobStarts s) (rangesIn s (jobCounts s) (jobStarts s)) n S E .number
@@ -224,7 +212,7 @@ module _ (s : List ℕ) where
   rota-sound few a f o =
       let R = readyOf s in
       let A = atoms-right few a in
-      let x = few-says (baseIn c) (peopleIn c) (getD c 3 0) (getD c 6 0) few in
+      let x = each-few few in
       let slots = slot-count-says (R .slots) (A .count-ok) .1 in
       let ps = people-few few (R .slots) (R .starts) (R .ends) A in
       let ok = cond-zero (settingsOk (settingsIn s)) 0 6 (cond-zero
@@ -267,7 +255,7 @@ module _ (s : List ℕ) where
         let R = readyOf s in
         let y = playedOf s in
         let no = play-no R (drawsOf s) (ownersOf s) H free in
-        ap (λ (t : Bool). cond t (listedAs (textOf R (drawsOf s) y) x) (refusedAs (y .number) x)) (eq-eqb (y .number) 0 no)
+        sym (when-none (y .number) (listedAs (textOf R (drawsOf s) y) x) (refusedAs (y .number) x) no)
         ∙ ap (λ (f : Figure). listedAs (listingOf (listed (R .slots) (R .starts) (R .ends) (y .owners) (R .people) (y .derived .minutes)
         (R .targets) (drawsOf s .count) (y .answers) (figureValue f))) x) (uncovered-told R (drawsOf s) (ownersOf s) _ no)
 
@@ -379,16 +367,12 @@ module _ (s : List ℕ) (room : ℕ) (A : AllPass (jobTests s room)) where
 
   -- the demand of its atomic slots is the total of its base slots
   base-same : demandOf (baseOf s .slots) (baseOf s .starts) (baseOf s .ends) ≡ baseTotal s
-  unfolding demandOf minutesAt baseTotal baseOf column
+  unfolding demandOf minutesAt baseTotal baseOf
   base-same =
       let c = jobCounts s in
       let at = getD (jobStarts s) 1 0 in
-      let n = slot-count-says (baseIn c) (few-says (baseIn c) (peopleIn c) (getD c 3 0) (getD c 6 0) few .0) .1 in
-      let entry : (off k : ℕ) → k < getD c 1 0
-      → getD (column 4 s (at + off) 12 (getD c 1 0)) k 0 ≡ le 4 s (at + off + k * 12) =
-      λ off k h. getD-over (λ j. le 4 s (at + off + j * 12)) (getD c 1 0) (replicate 1024 0) k h
-      (omega (arith, length-replicate {A = ℕ} 1024 0)) in
-      sum-same (getD c 1 0) _ _ (λ k h. ap₂ _-_ (entry 8 k h) (entry 4 k h))
+      let n = slot-count-says (baseIn c) (each-few s few .0) .1 in
+      sum-same (getD c 1 0) _ _ (λ k h. ap₂ _-_ (column-at 4 s (at + 8) 12 (getD c 1 0) k h n) (column-at 4 s (at + 4) 12 (getD c 1 0) k h n))
 
   pub demand-is : demandOf (readyOf s .slots) (readyOf s .starts) (readyOf s .ends) ≡ baseTotal s
   demand-is = atoms-right s few atoms .demand ∙ base-same

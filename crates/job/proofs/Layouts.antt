@@ -8,18 +8,16 @@ use native.Mathlib.Numerals.{add-one}
 use native.Mathlib.Omega.{arith}
 use borrow.Author.Tests.{leb-true, le-leb, eq-eqb, eqb-true, ltb-true, lt-ltb}
 use lib.Dec.{leb, ltb, eqb, lit<, lit≤}
-use lib.ListN.{length, getD, replicate, length-replicate, List·getD-eq-default}
+use lib.ListN.{length, getD, List·getD-eq-default}
 use Rattle.paper.specs.Count.{all}
 use Rattle.paper.proofs.Logic.{both, four, and-true, lt-or-ge}
-use Rattle.paper.proofs.Count.{all-each, each-all, getD-over}
+use Rattle.paper.proofs.Count.{all-each, each-all}
 use Rattle.job.specs.Fields.{le, Bytes, Field, bodyOf}
 use Rattle.job.specs.Records.{Rec, fileOf, Laid, LayoutFits, bodies, blockAt, countOf, walkOk}
-use Rattle.job.specs.File.{jobLayout, jobSizes, fileMost, jobCounts, jobStarts, ownerSlot, rising, restOk, fileOk}
-use Rattle.job.specs.File.{JobFile}
-use Rattle.job.specs.Columns.{column}
+use Rattle.job.specs.File.{jobLayout, jobSizes, fileMost, jobCounts, jobStarts, ownerSlot, rising, restOk, fileOk, JobFile}
 use Rattle.job.specs.Stages.{settingsIn}
 use Rattle.job.specs.Outcome.{columnOf}
-use Rattle.job.proofs.Files.{count-at, start-at}
+use Rattle.job.proofs.Files.{count-at, start-at, column-at}
 use Rattle.job.proofs.Sequences.{accepted-laid, laid-accepted, laid-ordered, laid-count, laid-field}
 
 -- the sizes of the bodies, and the kinds, fit their two bytes
@@ -123,25 +121,23 @@ module _ (s : List ℕ) (J : JobFile s) where
 
   -- as many of each kind
   pub counts-read : (i : ℕ) → i < 7 → getD (jobCounts s) i 0 ≡ length (bodies (1 + i) (J .records))
-  counts-read i h = count-at s i h ∙ counts s (J .records) laid-out (J .whole) i h
+  counts-read i h = count-at s (jobCounts s) refl i h ∙ counts s (J .records) laid-out (J .whole) i h
 
   -- and each field of record k of a kind is that of its body
   pub fields-read : (i k off n : ℕ) → i < 7 → k < length (bodies (1 + i) (J .records)) → off + n ≤ getD jobSizes i 0
       → le n s (getD (jobStarts s) i 0 + k * (4 + getD jobSizes i 0) + (4 + off)) ≡ le n (getD (bodies (1 + i) (J .records)) k []) off
   fields-read i k off n h g r =
-      ap (λ (at : ℕ). le n s (at + k * (4 + getD jobSizes i 0) + (4 + off))) (start-at s i h)
+      ap (λ (at : ℕ). le n s (at + k * (4 + getD jobSizes i 0) + (4 + off))) (start-at s (jobStarts s) refl i h)
       ∙ fields s (J .records) laid-out (J .whole) i k off n h g r
 
   pub columns-read : (i k off n : ℕ) → i < 7 → k < length (bodies (1 + i) (J .records)) → length (bodies (1 + i) (J .records)) ≤ 1024
       → off + n ≤ getD jobSizes i 0
       → getD (columnOf s (jobCounts s) (jobStarts s) i off n) k 0 ≡ le n (getD (bodies (1 + i) (J .records)) k []) off
-  unfolding column
   columns-read i k off n h g few r =
       let w = 4 + getD jobSizes i 0 in
       let at = getD (jobStarts s) i 0 in
       let z : at + (4 + off) + k * w ≡ at + k * w + (4 + off) = omega arith in
-      getD-over (λ j. le n s (at + (4 + off) + j * w)) (getD (jobCounts s) i 0) (replicate 1024 0) k
-      (omega (arith, counts-read i h)) (omega (arith, length-replicate {A = ℕ} 1024 0))
+      column-at n s (at + (4 + off)) w (getD (jobCounts s) i 0) k (omega (arith, counts-read i h)) (omega (arith, counts-read i h))
       ∙ ap (le n s) z ∙ fields-read i k off n h g r
 
   -- so a record that was written field by field is read back, by the laws of `Written`

@@ -1,5 +1,5 @@
 -- The longest listing that can come out: digits, the lines of slots, of people and of draws, and all of them. Assumes nothing.
-use mathlib.Core.Path.{_≡_, refl, sym, ap, ap₂, _∙_}
+use mathlib.Core.Path.{_≡_, refl, sym, ap, _∙_}
 use mathlib.Core.Logic.{⊎-elim, _⊎_, inl, inr}
 use mathlib.Core.Bool.{true, cond, _||_}
 use mathlib.Core.List.{List, [], _∷_, _++_}
@@ -7,22 +7,22 @@ use Prim.Native.Nat.{ℕ, zero, suc, _+_, _-_, _*_, _/_, _≤_, _<_}
 use native.Mathlib.Omega.{arith}
 use borrow.Author.Tests.{ne-eqb, eqb-true, eqb-false, lt-ltb, le-ltb}
 use lib.Dec.{eqb, ltb}
-use lib.IntN.{ℤ, pos, negsuc, natAbs, _+ℤ_, +ℤ-assoc, +ℤ-idl, +ℤ-idr}
+use lib.IntN.{ℤ, pos, negsuc, natAbs}
 use lib.ListN.{length, getD, take, length-append}
-use lib.Seq.{take-suc}
 use Rattle.paper.specs.Limits.{nobody}
 use Rattle.paper.specs.Count.{sum}
 use Rattle.paper.proofs.Logic.{by-test, lt-or-ge, zero-of}
 use Rattle.paper.proofs.Count.{sum-le, sum-part, sum-same}
 use Rattle.slots.specs.Lent.{SlotsSound, minutesAt, demandOf}
-use Rattle.targets.specs.Remainder.{sumℤ}
+use Rattle.targets.specs.Remainder.{AllPlain, AllSmall}
+use Rattle.targets.proofs.Sums.{plain-sum}
 use Rattle.rota.specs.Derived.{Plan, plan, PlanSound, Derived, lengthAt, knownBy, portion, worked, uncovered}
 use Rattle.rota.specs.Entries as rota
 use Rattle.rota.proofs.Minutes.{known-below, portion-own, portion-other, total-to}
 use Rattle.job.specs.Listing.{digits, signed, ownerText, answerLetter, headText, slotLine, personLine, drawLine, uncoveredLine, lines}
 use Rattle.job.specs.Listing.{slotAt, personAt, drawAt, Listed, listed, listingOf, listingMost}
 use Rattle.job.specs.declared.Played.{Played}
-use Rattle.job.specs.Stages.{NoneBelow, AllSmall, TargetsSound}
+use Rattle.job.specs.Stages.{TargetsSound}
 use Rattle.job.specs.Outcome.{Ready, Draws, PlayedAs, planOf, playOf, figureValue, textOf}
 use Rattle.job.proofs.Results.{text-is}
 use Rattle.job.proofs.Plays.{plan-right, draws-few, owners-fit, minutes-are, uncovered-told}
@@ -279,19 +279,6 @@ minutes-under people slots o len few known h =
 
 -- ---- targets
 
-sum-last : (zs : List ℤ) (z : ℤ) → sumℤ (zs ++ (z ∷ [])) ≡ sumℤ zs +ℤ z
-sum-last [] z = +ℤ-idr z ∙ sym (+ℤ-idl z)
-sum-last (y ∷ zs) z = ap (λ (x : ℤ). y +ℤ x) (sum-last zs z) ∙ sym (+ℤ-assoc y (sumℤ zs) z)
-
--- where none is below 0, the sum of the targets is that of their sizes
-sizes-total : (ts : List ℤ) (n : ℕ) → n ≤ length ts → NoneBelow n ts → sumℤ (take n ts) ≡ pos (sum n (λ p. natAbs (getD ts p (pos 0))))
-unfolding sum
-sizes-total ts zero h f = refl
-sizes-total ts (suc n) h f =
-    let z = getD ts n (pos 0) in
-    ap sumℤ (take-suc ts n (pos 0) h) ∙ sum-last (take n ts) z
-    ∙ ap₂ (λ (x y : ℤ). x +ℤ y) (sizes-total ts n (omega arith) (λ p l. f p (omega arith))) (f n (omega arith))
-
 -- a target that is not below 0 is its digits alone; one below 100 in size has three bytes at most
 plain-length : (z : ℤ) → z ≡ pos (natAbs z) → length (signed z) ≡ width (natAbs z)
 unfolding signed
@@ -302,7 +289,7 @@ unfolding signed
 small-length (pos n) h = omega (arith, digits-le 1 n (omega arith) (omega arith))
 small-length (negsuc n) h = omega (arith, digits-le 1 (suc n) (omega arith) (omega arith))
 
-plain-under : (ts : List ℤ) (n : ℕ) → NoneBelow n ts → ((p : ℕ) → p < n → natAbs (getD ts p (pos 0)) ≤ 100000000)
+plain-under : (ts : List ℤ) (n : ℕ) → AllPlain n ts → ((p : ℕ) → p < n → natAbs (getD ts p (pos 0)) ≤ 100000000)
     → 9000000 * sum n (λ p. length (signed (getD ts p (pos 0)))) ≤ 62000000 * n + sum n (λ p. natAbs (getD ts p (pos 0)))
 unfolding sum
 plain-under ts zero f h = omega arith
@@ -320,9 +307,9 @@ targets-under : (people demand : ℕ) (ts : List ℤ) → people ≤ 32 → dema
     ⊎ (sum people (λ p. length (signed (getD ts p (pos 0)))) ≤ 96)
 targets-under people demand ts few h T =
     ⊎-elim
-    (λ (f : NoneBelow people ts).
+    (λ (f : AllPlain people ts).
     let size : ℕ → ℕ = λ p. natAbs (getD ts p (pos 0)) in
-    let e : sum people size ≡ demand = ap natAbs (sym (sizes-total ts people (T .room) f) ∙ T .total) in
+    let e : sum people size ≡ demand = ap natAbs (sym (plain-sum ts people (T .room) f) ∙ T .total) in
     inl (omega (arith, few, e, plain-under ts people f (λ p l. omega (arith, e, sum-part people p size l)))))
     (λ (f : AllSmall people ts).
     inr (omega (arith, few, sum-le 3 people (λ p. length (signed (getD ts p (pos 0)))) (λ p l. small-length (getD ts p (pos 0)) (f p l)))))

@@ -2,20 +2,20 @@
 use mathlib.Core.Path.{_≡_, refl, sym, ap, ap₂, _∙_}
 use mathlib.Core.List.{List, [], _∷_, _++_}
 use Prim.Native.Nat.{ℕ, zero, suc, _+_, _-_, _*_, _/_, _%_, _^_, _≤_, _<_}
-use native.Mathlib.Nat.{pow-suc, pow-le-pow-right, mod-lt, lt-of-lt-of-le}
+use native.Mathlib.Nat.{pow-suc, pow-le-pow-right, lt-of-lt-of-le}
 use native.Mathlib.Omega.{arith}
 use lib.Dec.{lit<}
-use lib.ListN.{length, getD, List·getD-append}
-use lib.Seq.{getD-append-add}
+use lib.ListN.{length, getD, take, drop, List·getD-append}
+use lib.Seq.{drop-cons, getD-append-add}
 use Rattle.job.specs.Fields.{le, leBytes, Bytes}
 
 -- one byte more below a number of n bytes
 pub wider : (v b n : ℕ) → v < 256 ^ n → b < 256 → v * 256 + b < 256 ^ suc n
 wider v b n h g = omega (arith, pow-suc 256 n)
 
--- a number of n bytes is below the bound of m bytes, where n is at most m
-pub narrower : (v n m : ℕ) → v < 256 ^ n → n ≤ m → v < 256 ^ m
-narrower v n m h g = lt-of-lt-of-le h (pow-le-pow-right (lit< tt) g)
+-- what is below a power of b is below a higher one
+pub below-power : (b v n m : ℕ) → 0 < b → v < b ^ n → n ≤ m → v < b ^ m
+below-power b v n m z h g = lt-of-lt-of-le h (pow-le-pow-right z g)
 
 -- the number of n bytes is below 256 ^ n
 pub le-lt : (n : ℕ) (s : List ℕ) (at : ℕ) → Bytes s → le n s at < 256 ^ n
@@ -70,11 +70,11 @@ le-written (suc n) v b h =
 
 -- what is read can be written again
 pub written-le : (n : ℕ) (s : List ℕ) (at : ℕ) → Bytes s → at + n ≤ length s
-    → lib.ListN.take n (lib.ListN.drop at s) ≡ leBytes n (le n s at)
+    → take n (drop at s) ≡ leBytes n (le n s at)
 unfolding le leBytes
 written-le zero s at b h = refl
 written-le (suc n) s at b h =
     let lo : getD s at 0 ≡ (getD s at 0 + 256 * le n s (suc at)) % 256 = omega (arith, b at) in
     let hi : le n s (suc at) ≡ (getD s at 0 + 256 * le n s (suc at)) / 256 = omega (arith, b at) in
-    ap (lib.ListN.take (suc n)) (lib.Seq.drop-cons s at 0 (omega arith))
+    ap (take (suc n)) (drop-cons s at 0 (omega arith))
     ∙ ap₂ _∷_ lo (written-le n s (suc at) b (omega arith) ∙ ap (leBytes n) hi)

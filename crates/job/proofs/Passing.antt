@@ -1,23 +1,22 @@
 -- What each stage of a job hears where those before it heard nothing, and what it leaves known. Assumes nothing.
 use mathlib.Core.Path.{_≡_, refl, sym, ap, _∙_, subst}
-use mathlib.Core.Logic.{⊎-elim, inl, inr}
-use mathlib.Core.Bool.{Bool, true, false, cond, _||_}
+use mathlib.Core.Bool.{Bool, true, false, cond, false≢true}
 use mathlib.Core.List.{List, _++_}
-use Prim.Native.Nat.{ℕ, zero, suc, _+_, _-_, _≤_, _<_}
+use Prim.Native.Nat.{ℕ, zero, suc, _≤_, _<_}
 use native.Mathlib.Omega.{arith}
-use borrow.Author.Tests.{le-leb, leb-true, eq-eqb, eqb-true, eqb-false, lt-ltb, ltb-true}
+use borrow.Author.Tests.{le-leb, leb-true, eq-eqb, eqb-true, eqb-false, ltb-true}
 use lib.Dec.{leb, ltb, eqb}
-use lib.IntN.{ℤ, pos, natAbs}
-use lib.ListN.{length, getD, set, take, drop, replicate, length-append, length-replicate, getD-replicate, length-set}
-use lib.Seq.{getD-set-same, getD-set-other, getD-take}
+use lib.IntN.{ℤ, pos}
+use lib.ListN.{length, getD, set, drop, replicate, length-append, length-replicate, getD-replicate, length-set}
+use lib.Seq.{getD-set-same, getD-set-other}
 use Rattle.paper.specs.Limits.{peopleOk, slotCountOk, countsOk, orElse, nobody}
 use Rattle.paper.specs.Count.{all, onto}
-use Rattle.paper.proofs.Logic.{by-test, both, three, four, slot-count-says}
+use Rattle.paper.proofs.Logic.{by-test, both, three, slot-count-says}
 use Rattle.paper.proofs.Count.{all-each, in-each, length-over, getD-over}
 use Rattle.slotset.specs.Answers.{countedAs, wordsAs}
 use Rattle.slotset.specs.Slots.{slot}
 use Rattle.slots.specs.Lent.{slotRoomOk, slotsOk, slotOkAt, demandOf}
-use Rattle.slots.specs.Ranges.{Ranges, rangeCountOk, rangeRoomOk, rangesOk}
+use Rattle.slots.specs.Ranges.{Ranges, rangeCountOk, rangeRoomOk, rangesOk, mergedOf}
 use Rattle.slots.specs.Atomic as atomic
 use Rattle.slots.specs.Availability.{availabilityOf, availabilityNo, availableBit}
 use Rattle.slots.specs.Freeze.{endsBy, marked, freezeNo, freezeOf}
@@ -32,21 +31,15 @@ use Rattle.units.proofs.Rising.{unit-starts-right}
 use Rattle.targets.specs.Figures.{allFiguresOk}
 use Rattle.targets.specs.Outcome as targets
 use Rattle.targets.proofs.Promises.{number-is, accepted-holds, targets-add-up}
-use Rattle.targets.proofs.Spread.{AllPlain, AllBelow, accepted-plain-or-small}
+use Rattle.targets.proofs.Spread.{accepted-plain-or-small}
 use Rattle.rota.specs.Derived.{knownBy}
+use Rattle.rota.specs.Recount.{evenAt}
+use Rattle.rota.proofs.Minutes.{known-below, known-nobody}
 use Rattle.job.specs.declared.Shares.{Shares}
 use Rattle.job.specs.File.{ownerSlot}
-use Rattle.job.proofs.Prepares.{frozen-some}
-use Rattle.job.specs.Stages.{jobCountsOk, frozenIn, noOf, valueOf, unitsNoOf, unitsValueOf, SharesAre, TargetsSound, lowerNo}
-use Rattle.rota.specs.Recount.{evenAt}
-use Rattle.job.specs.Stages.{ownerValue, placed, allEven, recordKnown, allKnown, narrowed}
-
--- ---- counts
-
-pub few-says : (base people ranges draws : ℕ) → jobCountsOk base people ranges draws ≡ true
-    → (slotCountOk base ≡ true) × (peopleOk people ≡ true) × (leb ranges 1024 ≡ true) × (leb draws 1024 ≡ true)
-unfolding jobCountsOk
-few-says base people ranges draws e = four (slotCountOk base) (peopleOk people) (leb ranges 1024) (leb draws 1024) e
+use Rattle.job.specs.Stages.{frozenIn, noOf, valueOf, unitsNoOf, unitsValueOf, SharesAre, TargetsSound, lowerNo, ownerValue, placed}
+use Rattle.job.specs.Stages.{allEven, recordKnown, allKnown, byteOf, narrowed}
+use Rattle.job.proofs.Prepares.{frozen-some, byte-small}
 
 -- ---- atomic slots
 
@@ -79,7 +72,7 @@ atoms-sound B counts room a b c =
     let rs = three (slotRoomOk (B .slots) (B .starts) (B .ends)) (rangeRoomOk (B .ranges))
     (slotRoomOk 1024 (B .outStarts) (B .outEnds)) room in
     let out = both (leb 1024 (length (B .outStarts))) (leb 1024 (length (B .outEnds))) (rs .2) in
-    let l = Rattle.slots.specs.Ranges.mergedOf (B .ranges) in
+    let l = mergedOf (B .ranges) in
     let x = leb-true 1024 (length (B .outStarts)) (out .0) in
     let y = leb-true 1024 (length (B .outEnds)) (out .1) in
     simp (counts, room, a, b, c)
@@ -137,17 +130,11 @@ pub targets-sound : (g : targets.Given) → targets.computeTargets g (replicate 
     → TargetsSound (g .people) (targets.demandIn g) (targets.computeTargets g (replicate 32 (pos 0)) .out)
 targets-sound g e =
     let out = replicate 32 (pos 0) in
-    let ts = targets.computeTargets g out .out in
     let H = accepted-holds g out e in
-    let at : (p : ℕ) → p < g .people → getD (take (g .people) ts) p (pos 0) ≡ getD ts p (pos 0) =
-    λ p h. getD-take (g .people) ts p (pos 0) h in
     record {
       room = omega (arith, ap length (H .is), length-append (H .zs) (drop (g .people) out), H .count);
       total = targets-add-up g out e;
-      sizes = ⊎-elim
-          (λ (f : AllPlain (take (g .people) ts)). inl (λ p h. sym (at p h) ∙ f p ∙ ap (λ (z : ℤ). pos (natAbs z)) (at p h)))
-          (λ (f : AllBelow 100 (take (g .people) ts)). inr (λ p h. omega (arith, f p, ap natAbs (at p h))))
-          (accepted-plain-or-small g out e);
+      sizes = accepted-plain-or-small g out e;
     }
 
 pub shares-sound : (g : targets.Given) (h : Shares) → SharesAre (targets.computeTargets g (replicate 32 (pos 0))) h → h .no ≡ 0
@@ -189,9 +176,9 @@ module _ (st : Settings) (n : ℕ) (S E firsts : List ℕ) (count-ok : slotCount
     unfolding unitStartsIs writtenAs onto
     units-fit =
         let l = unitStarts st n S in
-        let e : unitStartsIs st n S E firsts .buffer ≡ l ++ lib.ListN.drop (length l) firsts =
+        let e : unitStartsIs st n S E firsts .buffer ≡ l ++ drop (length l) firsts =
         ap (λ (b : Bool). cond b (onto l firsts) firsts) (eq-eqb (startsNo st n S E firsts) 0 none) in
-        omega (arith, units-value, ap length e, length-append l (lib.ListN.drop (length l) firsts))
+        omega (arith, units-value, ap length e, length-append l (drop (length l) firsts))
 
 -- the two of them together: right settings have a right fairness
 pub lower-is : (st : Settings) (figures : Bool) → lowerNo (orElse figures 6 (orElse (leb (st .fairness) 1) 7 0))
@@ -203,7 +190,7 @@ lower-is st figures =
   where
     go : (a b c : Bool) → (c ≡ true → b ≡ true) → lowerNo (orElse a 6 (orElse b 7 0)) (orElse c 7 0) ≡ orElse a 6 (orElse c 7 0)
     go true true c f = refl
-    go true false true f = absurd (mathlib.Core.Bool.false≢true (f refl))
+    go true false true f = absurd (false≢true (f refl))
     go true false false f = refl
     go false b true f = refl
     go false b false f = refl
@@ -213,9 +200,9 @@ lower-is st figures =
 -- what the records leave at a slot: nobody, or the owner that one of them gives
 placed-known : (s : List ℕ) (at slots people n : ℕ) → slots ≤ 1024 → ((j : ℕ) → j < n → recordKnown s at slots people j ≡ true)
     → (length (placed s at slots n) ≡ 1024) × ((k : ℕ) → k < slots → knownBy people (getD (placed s at slots n) k 0) ≡ true)
-unfolding placed recordKnown knownBy
+unfolding placed recordKnown
 placed-known s at slots people zero few f =
-    (length-replicate {A = ℕ} 1024 255, λ k h. simp (getD-replicate {A = ℕ} 1024 k 255 0 (omega arith)))
+    (length-replicate {A = ℕ} 1024 255, λ k h. ap (knownBy people) (getD-replicate {A = ℕ} 1024 k nobody 0 (omega arith)) ∙ known-nobody people)
 placed-known s at slots people (suc n) few f =
     let ih = placed-known s at slots people n few (λ j h. f j (omega arith)) in
     let x = both (ltb (ownerSlot s at n) slots) _ (f n (omega arith)) in
@@ -229,16 +216,11 @@ placed-known s at slots people (suc n) few f =
           (λ t.
           let q : getD (set o i w) k 0 ≡ w =
           ap (λ (j : ℕ). getD (set o i w) j 0) (eqb-true k i t) ∙ getD-set-same o i w 0 (omega (arith, ih .0, ltb-true i slots (x .0))) in
-          ap (λ (v : ℕ). eqb v 255 || ltb v people) q ∙ x .1)
-          (λ t.
-          let q = getD-set-other o i k w 0 (eqb-false k i t) in
-          ap (λ (v : ℕ). eqb v 255 || ltb v people) q ∙ ih .1 k h),
+          ap (knownBy people) q ∙ x .1)
+          (λ t. ap (knownBy people) (getD-set-other o i k w 0 (eqb-false k i t)) ∙ ih .1 k h),
     )
 
 -- as a byte, each is what it was where it is known; and equal ones stay equal
-abbrev byteOf : ℕ → ℕ
-byteOf w = cond (ltb w 256) w nobody
-
 narrowed-at : (o : List ℕ) (k : ℕ) → k < 1024 → getD (narrowed o) k 0 ≡ byteOf (getD o k 0)
 unfolding narrowed
 narrowed-at o k h =
@@ -249,13 +231,10 @@ unfolding narrowed
 narrowed-length o = length-over (λ j. byteOf (getD o j 0)) 1024 (replicate 1024 0) ∙ length-replicate {A = ℕ} 1024 0
 
 byte-known : (people w : ℕ) → people ≤ 32 → knownBy people w ≡ true → byteOf w ≡ w
-unfolding knownBy
 byte-known people w few e =
-    by-test (eqb w 255) _
-    (λ t. let q = eqb-true w 255 t in ap (λ (b : Bool). cond b w 255) (lt-ltb w 256 (omega arith)))
-    (λ f.
-    let q = ltb-true w people (Rattle.paper.proofs.Logic.or-right (eqb w 255) (ltb w people) e f) in
-    ap (λ (b : Bool). cond b w 255) (lt-ltb w 256 (omega arith)))
+    by-test (eqb w nobody) _
+    (λ t. sym (byte-small w (omega (arith, eqb-true w nobody t))))
+    (λ f. sym (byte-small w (omega (arith, known-below people w e (eqb-false w nobody f)))))
 
 pub owners-known : (s : List ℕ) (at n slots people : ℕ) → slots ≤ 1024 → people ≤ 32 → allKnown s at n slots people ≡ true
     → (k : ℕ) → k < slots → knownBy people (getD (narrowed (placed s at slots n)) k 0) ≡ true

@@ -1,10 +1,10 @@
 -- What a play that was not refused leaves: owners known and available, their minutes, and U, which add up. Assumes nothing.
 use mathlib.Core.Path.{_≡_, sym, ap, ap₂, _∙_}
-use mathlib.Core.Bool.{Bool, true, cond, _&&_}
+use mathlib.Core.Bool.{true, _&&_}
 use mathlib.Core.List.{List}
 use Prim.Native.Nat.{ℕ, _+_, _≤_, _<_}
 use native.Mathlib.Omega.{arith}
-use borrow.Author.Tests.{le-leb, eq-eqb}
+use borrow.Author.Tests.{le-leb}
 use lib.Dec.{eqb, leb}
 use lib.ListN.{length, getD, replicate, length-replicate}
 use Rattle.paper.specs.Limits.{countsOk, nobody}
@@ -24,6 +24,7 @@ use Rattle.rota.proofs.Plays.{play-length}
 use Rattle.rota.proofs.Entered.{ground-all, Recounted, recount-says, PlayAsks, play-asks}
 use Rattle.rota.proofs.Promises as promises
 use Rattle.job.specs.Outcome.{Ready, Draws, planOf, playOf}
+use Rattle.job.proofs.Prepares.{when-none}
 use Rattle.job.proofs.Passing.{lent-room}
 
 module _ (R : Ready) (d : Draws) (o : List ℕ) (D : Derived) (e : playOf R d o D .number ≡ 0) where
@@ -61,11 +62,11 @@ module _ (R : Ready) (d : Draws) (o : List ℕ) (D : Derived) (e : playOf R d o 
 
   owners-are : playOf R d o D .owners ≡ after
   unfolding playOf rota.played rota.outcome after
-  owners-are = ap (λ (b : Bool). cond b after o) (eq-eqb _ 0 no)
+  owners-are = sym (when-none _ after o no)
 
   derived-are : playOf R d o D .derived ≡ afresh P after D
   unfolding playOf rota.played rota.outcome after
-  derived-are = ap (λ (b : Bool). cond b (afresh P after D) D) (eq-eqb _ 0 no)
+  derived-are = sym (when-none _ (afresh P after D) D no)
 
   recounted : recounts P (R .avail) (R .units) (R .firsts) (playOf R d o D .owners) (playOf R d o D .derived) ≡ true
   unfolding after

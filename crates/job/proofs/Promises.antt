@@ -1,11 +1,12 @@
 -- What a job promises, each by name, of every file and every lent listing. Assumes nothing.
 use mathlib.Core.Path.{_≡_, refl, sym, ap, ap₂, _∙_}
 use mathlib.Core.Logic.{_↔_}
-use mathlib.Core.Bool.{Bool, true, cond, not, _&&_, _||_}
+use mathlib.Core.Bool.{true, not, _&&_, _||_}
 use mathlib.Core.List.{List, [], _++_}
-use Prim.Native.Nat.{ℕ, zero, suc, _+_, _-_, _*_, _≤_, _<_}
+use Prim.Native.Nat.{ℕ, _+_, _-_, _*_, _≤_, _<_}
+use native.Mathlib.Nat.{pos-of-ne-zero}
 use native.Mathlib.Omega.{arith}
-use borrow.Author.Tests.{eq-eqb, ne-eqb, eqb-true, eqb-false, leb-false, not-true}
+use borrow.Author.Tests.{eq-eqb, eqb-true, eqb-false, leb-false, not-true}
 use lib.Dec.{eqb, lit<, lit≤}
 use lib.IntN.{pos}
 use lib.ListN.{length, getD, take, drop}
@@ -28,8 +29,9 @@ use Rattle.job.specs.File.{jobCounts, jobStarts, JobFile}
 use Rattle.job.specs.Listing.{digits, listingOf, listingMost, put}
 use Rattle.job.specs.Digits.{readDigits}
 use Rattle.job.specs.Outcome.{Result, refusedAs, listedAs, Ends, planOf, instantIn, jobResult}
-use Rattle.job.specs.Heard.{heardOf, testAt, Lowest, AllPass, readyOf, drawsOf, ownersOf, startedOf, playedOf, listedOf}
-use Rattle.job.specs.Heard.{baseTotal, jobTests}
+use Rattle.job.specs.Heard.{heardOf, testAt, Lowest, AllPass, readyOf, drawsOf, ownersOf, startedOf, playedOf, listedOf, baseTotal}
+use Rattle.job.specs.Heard.{jobTests}
+use Rattle.job.proofs.Prepares.{when-none, when-some}
 use Rattle.job.proofs.Tests.{heard-none, heard-lowest}
 use Rattle.job.proofs.Heard.{job-told, numbered, rising, free, sound, demand-is, targets-right, frozen-there}
 use Rattle.job.proofs.Digits.{digits-value}
@@ -45,22 +47,14 @@ one-job y r q x z A B = (A .heard ∙ sym (B .heard), A .left ∙ sym (B .left))
 
 -- ---- what is heard
 
-some : (n : ℕ) → (n ≡ 0 → ⊥) → 0 < n
-some zero f = absurd (f refl)
-some (suc n) f = omega arith
-
 module _ (s x : List ℕ) where
   -- no test fails: the listing
   told-none : heardOf (jobTests s (length x)) ≡ 0 → jobResult s x ≡ listedAs (listingOf (listedOf s)) x
-  told-none e =
-      job-told s x
-      ∙ ap (λ (b : Bool). cond b (listedAs (listingOf (listedOf s)) x) (refusedAs (heardOf (jobTests s (length x))) x)) (eq-eqb _ 0 e)
+  told-none e = job-told s x ∙ sym (when-none _ (listedAs (listingOf (listedOf s)) x) _ e)
 
   -- one fails: its number, and the lent listing as it was
   told-some : (heardOf (jobTests s (length x)) ≡ 0 → ⊥) → jobResult s x ≡ refusedAs (heardOf (jobTests s (length x))) x
-  told-some n =
-      job-told s x
-      ∙ ap (λ (b : Bool). cond b (listedAs (listingOf (listedOf s)) x) (refusedAs (heardOf (jobTests s (length x))) x)) (ne-eqb _ 0 n)
+  told-some n = job-told s x ∙ sym (when-some _ _ (refusedAs (heardOf (jobTests s (length x))) x) n)
 
   -- a refusal is the number of the first test that fails
   refused-heard : (n : ℕ) → jobResult s x .answer ≡ answer.Refused n
@@ -75,7 +69,7 @@ module _ (s x : List ℕ) where
       (λ f.
       let p = ap (λ (y : Result). y .answer) (told-some (eqb-false _ 0 f)) in
       let q : heardOf (jobTests s (length x)) ≡ n = cc in
-      (q, some n (λ z. eqb-false _ 0 f (q ∙ z))))
+      (q, pos-of-ne-zero (λ z. eqb-false _ 0 f (q ∙ z))))
 
   -- a listing comes only where none does
   listed-none : (n : ℕ) → jobResult s x .answer ≡ answer.Length n → heardOf (jobTests s (length x)) ≡ 0

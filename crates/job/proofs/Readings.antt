@@ -1,22 +1,22 @@
 -- What a file whose layout and counts are right leaves known. Assumes nothing.
-use mathlib.Core.Path.{_≡_, refl, sym, ap, ap₂, _∙_, subst}
-use mathlib.Core.Bool.{Bool, true, false, cond, _&&_}
+use mathlib.Core.Path.{_≡_, sym, ap, ap₂, _∙_, subst}
+use mathlib.Core.Logic.{⊎-elim}
+use mathlib.Core.Bool.{Bool, true, false, cond}
 use mathlib.Core.List.{List}
 use Prim.Native.Nat.{ℕ, _+_, _*_, _≤_, _<_}
 use native.Mathlib.Omega.{arith}
 use borrow.Author.Tests.{leb-true, eqb-true}
-use lib.Dec.{leb, eqb, lit<}
+use lib.Dec.{leb, eqb, lit<, lit≤}
 use lib.Ieee.{Float}
 use lib.IntN.{ℤ, pos}
 use lib.ListN.{length, getD, replicate}
-use Rattle.paper.specs.Limits.{peopleOk, slotCountOk}
-use Rattle.paper.proofs.Logic.{by-test, both, four, cond-zero, people-says, slot-count-says}
+use Rattle.paper.proofs.Logic.{by-test, both, cond-zero, lt-or-ge, people-says, slot-count-says}
 use Rattle.slotset.specs.declared.Counted.the-variants as counted
 use Rattle.slots.specs.Lent.{slotsOk}
 use Rattle.slots.specs.Ranges.{Ranges, ranges, rangesOk}
 use Rattle.slots.specs.Atomic as atomic
 use Rattle.units.specs.declared.Settings.{Settings}
-use Rattle.units.specs.Answers.{Written}
+use Rattle.units.specs.Starts.{unitStartsIs}
 use Rattle.targets.specs.Outcome as targets
 use Rattle.job.specs.Listing.{listingMost}
 use Rattle.job.specs.declared.JobAnswer.{JobAnswer}
@@ -25,43 +25,43 @@ use Rattle.job.specs.declared.Atoms.{Atoms}
 use Rattle.job.specs.declared.Made.{Made}
 use Rattle.job.specs.declared.Shares.{Shares}
 use Rattle.job.specs.Records.{blockAt, countOf, walkOk}
-use Rattle.job.specs.File.{jobLayout, jobSizes, fileMost, jobCounts, jobStarts, rising, restOk, fileOk}
-use Rattle.job.specs.Stages.{jobCountsOk, countsNo, settingsIn, frozenIn, noOf, valueOf, AtomsAre, UnitsAre, SharesAre, unitsNoOf}
+use Rattle.job.specs.File.{jobLayout, jobSizes, fileMost, jobCounts, jobStarts, restOk, fileOk}
+use Rattle.job.specs.Stages.{jobCountsOk, countsNo, settingsIn, frozenIn, valueOf, AtomsAre, UnitsAre, SharesAre, unitsNoOf}
 use Rattle.job.specs.Stages.{unitsValueOf, lowerNo}
 use Rattle.job.specs.Outcome.{Result, Ends, Ready, ready, Draws, draws, ReadOk, baseIn, peopleIn, capacitiesIn, priorsIn, drawsIn}
-use Rattle.job.specs.Outcome.{instantIn}
-use Rattle.job.specs.Outcome.{columnOf, rangesIn, atomsIn, atomsResult, availIn, sharesIn, unitsIn, readyIn, ownersResult}
-use Rattle.job.specs.Outcome.{slotsResult, orRefused, refusedAs, countedResult, jobResult}
-use Rattle.job.proofs.Sequences.{counted-at, block-le, block-end, field-room}
+use Rattle.job.specs.Outcome.{instantIn, columnOf, rangesIn, atomsIn, atomsResult, availIn, sharesIn, unitsIn, readyIn, ownersResult}
+use Rattle.job.specs.Outcome.{slotsResult, refusedAs, countedResult, jobResult}
+use Rattle.job.proofs.Sequences.{counted-at, block-le, field-room}
 use Rattle.job.proofs.Walks.{record-says}
-use Rattle.job.proofs.Files.{count-at, start-at}
+use Rattle.job.proofs.Files.{count-at, start-at, owners-end}
+use Rattle.job.proofs.Prepares.{few-says}
 use Rattle.job.proofs.Results.{refused-is, or-refused, or-passed}
 
 module _ {s c b : List ℕ} (K : ReadOk s c b) where
   count-is : (i : ℕ) → i < 7 → getD c i 0 ≡ countOf jobLayout s i
-  count-is i h = ap (λ (l : List ℕ). getD l i 0) (K .counts) ∙ count-at s i h
+  count-is i h = count-at s c (K .counts) i h
 
   start-is : (i : ℕ) → i < 7 → getD b i 0 ≡ blockAt jobLayout s i
-  start-is i h = ap (λ (l : List ℕ). getD l i 0) (K .starts) ∙ start-at s i h
+  start-is i h = start-at s b (K .starts) i h
 
   pub read-block : (i : ℕ) → i < 7 → getD b i 0 ≤ length s
   read-block i h = omega (arith, start-is i h, block-le jobLayout s i)
 
   -- a field of record k of kind i + 1
-  pub read-room : (i k off n : ℕ) → i < 7 → k < getD c i 0 → off + n ≤ getD jobSizes i 0
+  pub read-room : (i off n : ℕ) → i < 7 → off + n ≤ getD jobSizes i 0 → (k : ℕ) → k < getD c i 0
       → getD b i 0 + (4 + off) + k * (4 + getD jobSizes i 0) + n ≤ length s
-  read-room i k off n h g l =
+  read-room i off n h l k g =
       omega (arith, field-room jobLayout s i k off n (omega (arith, count-is i h)) l, start-is i h)
 
   pub read-owners : getD b 5 0 + getD c 5 0 * 8 ≤ length s
-  read-owners =
-      omega (arith, block-end jobLayout s 5, start-is 5 (lit< tt), ap (λ (n : ℕ). n * 8) (count-is 5 (lit< tt)))
+  read-owners = owners-end s c b (K .counts) (K .starts)
 
   pub read-freeze : (getD c 4 0 ≡ 0 → ⊥) → getD b 4 0 + 8 ≤ length s
   read-freeze h =
-      Rattle.paper.proofs.Logic.by-test (lib.Dec.ltb 0 (getD c 4 0)) (getD b 4 0 + 8 ≤ length s)
-      (λ t. omega (arith, read-room 4 0 0 4 (lit< tt) (borrow.Author.Tests.ltb-true 0 (getD c 4 0) t) (lib.Dec.lit≤ tt)))
-      (λ f. absurd (h (omega (arith, borrow.Author.Tests.ltb-false 0 (getD c 4 0) f))))
+      ⊎-elim
+      (λ (l : 0 < getD c 4 0). omega (arith, read-room 4 0 4 (lit< tt) (lit≤ tt) 0 l))
+      (λ (g : getD c 4 0 ≤ 0). absurd (h (omega arith)))
+      (lt-or-ge 0 (getD c 4 0))
 
   one-settings : countOf jobLayout s 0 ≡ 1
   unfolding fileOk restOk
@@ -76,9 +76,8 @@ module _ {s c b : List ℕ} (K : ReadOk s c b) where
       omega (arith, record-says s 1 8 _ (counted-at jobLayout s 0 0 (omega (arith, one-settings))) .0)
 
   pub read-few : (1 ≤ baseIn c) × (baseIn c ≤ 1024) × (peopleIn c ≤ 32) × (getD c 3 0 ≤ 1024) × (getD c 6 0 ≤ 1024)
-  unfolding jobCountsOk
   read-few =
-      let x = four (slotCountOk (baseIn c)) (peopleOk (peopleIn c)) (leb (getD c 3 0) 1024) (leb (getD c 6 0) 1024) (K .few) in
+      let x = few-says (baseIn c) (peopleIn c) (getD c 3 0) (getD c 6 0) (K .few) in
       let y = slot-count-says (baseIn c) (x .0) in
       (y .0, y .1, people-says (peopleIn c) (x .1) .1, leb-true _ _ (x .2), leb-true _ _ (x .3))
 
@@ -97,10 +96,10 @@ shares-is s c b R n starts ends a cp pr st h p q r t w =
     w
 
 pub units-is : (s : List ℕ) (n : ℕ) (starts ends : List ℕ) (st : Settings) (m : Made) → st ≡ settingsIn s
-    → UnitsAre (Rattle.units.specs.Starts.unitStartsIs st n starts ends (replicate 1024 0)) m → UnitsAre (unitsIn s n starts ends) m
+    → UnitsAre (unitStartsIs st n starts ends (replicate 1024 0)) m → UnitsAre (unitsIn s n starts ends) m
 unfolding unitsIn
 units-is s n starts ends st m e w =
-    subst (λ (z : Settings). UnitsAre (Rattle.units.specs.Starts.unitStartsIs z n starts ends (replicate 1024 0)) m) e w
+    subst (λ (z : Settings). UnitsAre (unitStartsIs z n starts ends (replicate 1024 0)) m) e w
 
 module _ (s c b : List ℕ) (R : Ranges) (n : ℕ) (starts ends x : List ℕ) (h : Shares) (m : Made) (no : ℕ)
     (H : SharesAre (sharesIn s c b R n starts ends) h) (M : UnitsAre (unitsIn s n starts ends) m) (N : no ≡ lowerNo (h .no) (m .no)) where

@@ -1,12 +1,8 @@
 -- Laws of what a job comes to, stage by stage. Assumes nothing.
 use mathlib.Core.Path.{_≡_, refl, sym, ap, ap₂, _∙_, subst}
-use mathlib.Core.Bool.{Bool, true, false, cond}
 use mathlib.Core.List.{List}
-use Prim.Native.Nat.{ℕ, _+_, _≤_}
+use Prim.Native.Nat.{ℕ}
 use native.Mathlib.Omega.{arith}
-use borrow.Author.Tests.{eq-eqb, ne-eqb}
-use lib.Dec.{eqb}
-use lib.IntN.{ℤ}
 use lib.ListN.{length}
 use Rattle.rota.specs.Derived.{Derived, derived}
 use Rattle.rota.specs.Entries as rota
@@ -14,10 +10,11 @@ use Rattle.job.specs.declared.JobAnswer.{JobAnswer}
 use Rattle.job.specs.declared.JobAnswer.the-variants as answer
 use Rattle.job.specs.declared.Started.{Started}
 use Rattle.job.specs.declared.Played.{Played}
-use Rattle.job.specs.Listing.{listed, listingOf, put, Wrote}
+use Rattle.job.specs.Listing.{listed, listingOf, Wrote}
 use Rattle.job.specs.Outcome.{Result, refusedAs, listedAs, orRefused, Ends, StartedAs, PlayedAs, figureValue}
 use Rattle.job.specs.Stages.{placed, ownersNo, narrowed}
 use Rattle.job.specs.Outcome.{Ready, Draws, ownersResult, planOf, startOf, playOf, textOf, playResult, rotaResult}
+use Rattle.job.proofs.Prepares.{when-none, when-some}
 
 -- ---- a number, or what comes after it
 
@@ -28,13 +25,13 @@ refused-is n x = record { heard = refl; left = refl }
 pub or-refused : (n k : ℕ) (x : List ℕ) (next : Result) → n ≡ k → (n ≡ 0 → ⊥) → Ends (orRefused k x next) (answer.Refused n) x
 or-refused n k x next e h =
     subst (λ (y : Result). Ends y (answer.Refused n) x)
-    (ap (λ (j : ℕ). refusedAs j x) e ∙ sym (ap (λ (b : Bool). cond b next (refusedAs k x)) (ne-eqb k 0 (λ z. h (e ∙ z)))))
+    (ap (λ (j : ℕ). refusedAs j x) e ∙ when-some k next (refusedAs k x) (λ z. h (e ∙ z)))
     (refused-is n x)
 
 pub or-passed : (n k : ℕ) (x : List ℕ) (next : Result) (r : JobAnswer) (y : List ℕ) → n ≡ k → n ≡ 0 → Ends next r y
     → Ends (orRefused k x next) r y
 or-passed n k x next r y e h w =
-    subst (λ (z : Result). Ends z r y) (sym (ap (λ (b : Bool). cond b next (refusedAs k x)) (eq-eqb k 0 (sym e ∙ h)))) w
+    subst (λ (z : Result). Ends z r y) (when-none k next (refusedAs k x) (sym e ∙ h)) w
 
 -- the listing that was written
 pub listed-is : (l x : List ℕ) (n : ℕ) (y : List ℕ) → Wrote l 0 x n y → Ends (listedAs l x) (answer.Length n) y

@@ -1,10 +1,10 @@
 -- The rota of a job whose owners are known: 12 is the one refusal left, and the play is never refused. Assumes nothing.
-use mathlib.Core.Path.{_≡_, ap, _∙_}
-use mathlib.Core.Bool.{Bool, true, cond}
+use mathlib.Core.Path.{_≡_, sym, ap, _∙_}
+use mathlib.Core.Bool.{Bool, true}
 use mathlib.Core.List.{List}
 use Prim.Native.Nat.{ℕ, _+_, _*_, _≤_, _<_}
 use native.Mathlib.Omega.{arith}
-use borrow.Author.Tests.{le-leb, eq-eqb}
+use borrow.Author.Tests.{le-leb}
 use lib.ListN.{length, getD, replicate, length-replicate}
 use Rattle.paper.specs.Limits.{peopleOk, slotCountOk, countsOk, orElse}
 use Rattle.paper.specs.Count.{sum, all}
@@ -19,6 +19,7 @@ use Rattle.rota.proofs.Steps.{afresh-step}
 use Rattle.rota.proofs.Entered.{plan-sound, says-recount}
 use Rattle.rota.proofs.Promises.{minutes-and-uncovered}
 use Rattle.job.specs.Outcome.{Ready, Draws, planOf, startOf, playOf}
+use Rattle.job.proofs.Prepares.{when-none}
 use Rattle.job.proofs.Passing.{lent-room}
 
 -- what is known of a job before its owners are judged by availability
@@ -85,7 +86,7 @@ module _ (R : Ready) (d : Draws) (o : List ℕ) (H : RotaSound R d o) where
     pub started : startOf R o .derived ≡ afresh P o none
     unfolding startOf rota.fromSlots rota.outcome
     started =
-        ap (λ (b : Bool). cond b (afresh P o none) none) (eq-eqb (startOf R o .number) 0 (start-no ∙ ap (λ (b : Bool). orElse b 12 0) free))
+        sym (when-none (startOf R o .number) (afresh P o none) none (start-no ∙ ap (λ (b : Bool). orElse b 12 0) free))
 
     in-step : InStep P o (afresh P o none)
     in-step =

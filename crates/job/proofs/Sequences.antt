@@ -1,6 +1,6 @@
 -- What the walk accepts is a sequence of whole records that the layout allows, and every such sequence is accepted. Assumes nothing.
 use mathlib.Core.Path.{_≡_, refl, sym, ap, ap₂, _∙_, subst}
-use mathlib.Core.Logic.{_↔_}
+use mathlib.Core.Logic.{_↔_, ⊎-elim}
 use mathlib.Core.Bool.{Bool, true, false, cond, _&&_, and-false}
 use mathlib.Core.List.{List, [], _∷_, _++_, append-assoc}
 use Prim.Native.Nat.{ℕ, zero, suc, _+_, _-_, _*_, _≤_, _<_}
@@ -8,14 +8,14 @@ use native.Mathlib.Nat.{suc-mul, zero-mul}
 use native.Mathlib.Omega.{arith}
 use borrow.Author.Tests.{le-leb, eq-eqb, eqb-true, ne-eqb}
 use lib.Dec.{leb, eqb}
-use lib.ListN.{length, getD, take, drop, length-append, length-drop, take-append-drop}
+use lib.ListN.{length, getD, take, drop, length-append, length-drop, take-append-drop, List·getD-eq-default}
 use lib.Seq.{drop-drop, take-at, drop-at, getD-drop, getD-take, length-take-le, drop-length}
 use Rattle.paper.specs.Count.{all}
-use Rattle.paper.proofs.Logic.{both, and-true}
+use Rattle.paper.proofs.Logic.{both, and-true, lt-or-ge}
 use Rattle.paper.proofs.Count.{all-each, all-none}
 use Rattle.job.specs.Fields.{le, leBytes, Bytes}
-use Rattle.job.specs.Records.{Layout, Rec, bytesOf, fileOf, Laid, done, next, more, Allowed, recordOf, InOrder, bodies}
-use Rattle.job.specs.Records.{recordAt, blockCount, blockAt, countOf, walkOk, LayoutFits, IsFile}
+use Rattle.job.specs.Records.{Layout, Rec, bytesOf, fileOf, Laid, done, next, more, Allowed, recordOf, InOrder, bodies, recordAt}
+use Rattle.job.specs.Records.{blockCount, blockAt, countOf, walkOk, LayoutFits, IsFile}
 use Rattle.job.proofs.Numbers.{le-front, le-back, le-written, written-le, length-bytes}
 use Rattle.job.proofs.Walks.{lead-all, record-says, record-is, record-short, block-more, block-done, next-at}
 
@@ -44,17 +44,13 @@ length-body s size at h = length-take-le size (drop (at + 4) s) (omega (arith, l
 body-bytes : (s : List ℕ) (size at : ℕ) → at + (4 + size) ≤ length s → Bytes s → Bytes (bodyAt s size at)
 unfolding bodyAt
 body-bytes s size at h b k =
-    Rattle.paper.proofs.Logic.by-test (lib.Dec.ltb k size) (getD (take size (drop (at + 4) s)) k 0 < 256)
-    (λ t. omega (
-      arith,
-      getD-take size (drop (at + 4) s) k 0 (borrow.Author.Tests.ltb-true k size t),
-      getD-drop (at + 4) s k 0,
-      b (at + 4 + k),
-    ))
-    (λ f.
-    let l : length (take size (drop (at + 4) s)) ≤ k =
-    omega (arith, length-body s size at h, borrow.Author.Tests.ltb-false k size f) in
-    omega (arith, lib.ListN.List·getD-eq-default (take size (drop (at + 4) s)) 0 l))
+    let body = take size (drop (at + 4) s) in
+    ⊎-elim
+    (λ (l : k < size). omega (arith, getD-take size (drop (at + 4) s) k 0 l, getD-drop (at + 4) s k 0, b (at + 4 + k)))
+    (λ (g : size ≤ k).
+    let past : length body ≤ k = omega (arith, length-body s size at h) in
+    omega (arith, List·getD-eq-default body 0 past))
+    (lt-or-ge k size)
 
 -- a field of that body
 body-field : (s : List ℕ) (size at off n : ℕ) → at + (4 + size) ≤ length s → off + n ≤ size

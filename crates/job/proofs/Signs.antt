@@ -1,13 +1,14 @@
 -- Laws of a signed number's size. Assumes nothing.
 use mathlib.Core.Path.{_≡_, refl, sym, ap, _∙_, subst}
-use mathlib.Core.Bool.{Bool, true, false}
-use Prim.Native.Nat.{ℕ, zero, suc, _+_, _^_, _≤_, _<_}
+use mathlib.Core.Bool.{true, false, true≢false}
+use mathlib.Core.List.{_∷_}
+use Prim.Native.Nat.{ℕ, zero, suc, _+_, _^_, _<_}
 use native.Mathlib.Numerals.{add-one}
 use native.Mathlib.Omega.{arith}
-use lib.Dec.{T, ltb}
-use mathlib.Core.List.{_∷_}
+use borrow.Author.Tests.{ltb-true}
+use lib.Dec.{T}
 use lib.IntN.{ℤ, pos, negsuc, negℤ, natAbs, _+ℤ_, _-ℤ_, +ℤ-one, +ℤ-idl, negℤ-negℤ}
-use lib.Signed.{ltZ, nonNeg, mag}
+use lib.Signed.{ltZ, nonNeg}
 use mir.Syntax.{w64}
 use mir.Val.{Fits, SFits, ofZ, toZ}
 use mir.ValLaws.{toZ-ofZ}
@@ -32,7 +33,7 @@ record Below (z : ℤ) : Type 0 where
   few : size < 2 ^ 63
 
 below-of : (z : ℤ) → SFits w64 z → ltZ z (pos 0) ≡ true → Below z
-below-of (pos n) f e = absurd (omega (arith, borrow.Author.Tests.ltb-true n 0 e))
+below-of (pos n) f e = absurd (omega (arith, ltb-true n 0 e))
 below-of (negsuc n) f e = record { size = n; is = refl; few = f .sfits }
 
 -- the steps of (-(t + 1)) + 1, where t is below 0
@@ -70,35 +71,32 @@ module _ (z : ℤ) (f : SFits w64 z) (lower : ltZ (toZ w64 (ofZ w64 z)) (pos 0) 
   pub size-is : natAbs (toZ w64 (ofZ w64 (pos 0 -ℤ toZ w64 (ofZ w64 (toZ w64 (ofZ w64 z) +ℤ pos 1))))) + 1 ≡ natAbs z
   size-is = ap (λ (n : ℕ). n + 1) turned-size ∙ add-one (found .size) ∙ ap natAbs (sym (found .is))
 
--- where t is not below 0, it is its own size
-whole-of : (z x : ℤ) → x ≡ z → SFits w64 z → ltZ x (pos 0) ≡ false → T (nonNeg x) × Fits w64 (natAbs x)
-whole-of (pos n) x e f h = (
-  subst (λ (y : ℤ). T (nonNeg y)) (sym e) tt,
-  subst (λ (y : ℤ). Fits w64 (natAbs y)) (sym e)
-      (record { fits = omega (arith, f .sfits) }),
-)
-whole-of (negsuc n) x e f h = absurd (mathlib.Core.Bool.true≢false (ap (λ (y : ℤ). ltZ y (pos 0)) (sym e) ∙ h))
+-- a number that is not below 0 is its own size
+whole-is : (z : ℤ) → ltZ z (pos 0) ≡ false → z ≡ pos (natAbs z)
+whole-is (pos n) h = refl
+whole-is (negsuc n) h = absurd (true≢false h)
 
-pub whole-fits : (z : ℤ) → SFits w64 z → ltZ (toZ w64 (ofZ w64 z)) (pos 0) ≡ false
-    → T (nonNeg (toZ w64 (ofZ w64 z))) × Fits w64 (natAbs (toZ w64 (ofZ w64 z)))
-whole-fits z f h = whole-of z (toZ w64 (ofZ w64 z)) (toZ-ofZ w64 z f) f h
+module _ (z : ℤ) (f : SFits w64 z) (whole : ltZ (toZ w64 (ofZ w64 z)) (pos 0) ≡ false) where
+  own-size : z ≡ pos (natAbs z)
+  own-size = whole-is z (ap (λ (x : ℤ). ltZ x (pos 0)) (sym (toZ-ofZ w64 z f)) ∙ whole)
 
--- the text of a signed number
-text-below : (z x : ℤ) → x ≡ z → ltZ x (pos 0) ≡ true → signed z ≡ 45 ∷ digits (natAbs z)
-unfolding signed
-text-below (pos n) x e h = absurd (omega (arith, borrow.Author.Tests.ltb-true n 0 (ap (λ (y : ℤ). ltZ y (pos 0)) (sym e) ∙ h)))
-text-below (negsuc n) x e h = refl
+  own-read : toZ w64 (ofZ w64 z) ≡ pos (natAbs z)
+  own-read = toZ-ofZ w64 z f ∙ own-size
 
-text-above : (z x : ℤ) → x ≡ z → ltZ x (pos 0) ≡ false → signed z ≡ digits (natAbs z)
-unfolding signed
-text-above (pos n) x e h = refl
-text-above (negsuc n) x e h = absurd (mathlib.Core.Bool.true≢false (ap (λ (y : ℤ). ltZ y (pos 0)) (sym e) ∙ h))
+  pub whole-fits : T (nonNeg (toZ w64 (ofZ w64 z))) × Fits w64 (natAbs (toZ w64 (ofZ w64 z)))
+  whole-fits = (
+    subst (λ (x : ℤ). T (nonNeg x)) (sym own-read) tt,
+    subst (λ (x : ℤ). Fits w64 (natAbs x)) (sym own-read) (record { fits = omega (arith, subst (SFits w64) own-size f .sfits) }),
+  )
 
-pub signed-below : (z : ℤ) → SFits w64 z → ltZ (toZ w64 (ofZ w64 z)) (pos 0) ≡ true → (n : ℕ) → n ≡ natAbs (toZ w64 (ofZ w64 z))
+  -- the text of such a number, and of one below 0
+  pub signed-above : (n : ℕ) → n ≡ natAbs (toZ w64 (ofZ w64 z)) → signed z ≡ digits n
+  unfolding signed
+  signed-above n e = ap signed own-size ∙ ap digits (sym (e ∙ ap natAbs (toZ-ofZ w64 z f)))
+
+pub signed-below : (z : ℤ) (f : SFits w64 z) (lower : ltZ (toZ w64 (ofZ w64 z)) (pos 0) ≡ true) (n : ℕ) → n ≡ natAbs (toZ w64 (ofZ w64 z))
     → signed z ≡ 45 ∷ digits n
-signed-below z f h n e = text-below z (toZ w64 (ofZ w64 z)) (toZ-ofZ w64 z f) h
-    ∙ ap (λ (k : ℕ). 45 ∷ digits k) (sym (e ∙ ap natAbs (toZ-ofZ w64 z f)))
-
-pub signed-above : (z : ℤ) → SFits w64 z → ltZ (toZ w64 (ofZ w64 z)) (pos 0) ≡ false → (n : ℕ) → n ≡ natAbs (toZ w64 (ofZ w64 z))
-    → signed z ≡ digits n
-signed-above z f h n e = text-above z (toZ w64 (ofZ w64 z)) (toZ-ofZ w64 z f) h ∙ ap digits (sym (e ∙ ap natAbs (toZ-ofZ w64 z f)))
+unfolding signed
+signed-below z f lower n e =
+    let is = found z f lower .is in
+    ap signed is ∙ ap (λ (k : ℕ). 45 ∷ digits k) (sym (e ∙ ap natAbs (toZ-ofZ w64 z f ∙ is)))

@@ -1,11 +1,11 @@
 -- Laws of a row of tests: the first that fails, and the lowest number. Assumes nothing.
 use mathlib.Core.Path.{_≡_, refl, sym, ap, _∙_, subst}
 use mathlib.Core.Logic.{_↔_}
-use mathlib.Core.Bool.{Bool, true, false, cond}
+use mathlib.Core.Bool.{Bool, true, false, cond, true≢false}
 use mathlib.Core.List.{List, [], _∷_, _++_}
-use Prim.Native.Nat.{ℕ, zero, suc, _+_, _≤_, _<_}
+use Prim.Native.Nat.{ℕ, zero, suc, _≤_, _<_}
 use native.Mathlib.Omega.{arith}
-use borrow.Author.Tests.{eq-eqb, ne-eqb, eqb-true, eqb-false}
+use borrow.Author.Tests.{eq-eqb, ne-eqb, eqb-true}
 use lib.Dec.{eqb}
 use lib.ListN.{length}
 use Rattle.paper.proofs.Logic.{by-test}
@@ -87,7 +87,7 @@ heard-there r (t ∷ ts) R n z e =
     later : (t : Test) (ts : List Test) (n : ℕ) → t .passes ≡ true
         → ((k : ℕ) → k < length ts → testAt ts k .passes ≡ false → rank n ≤ rank (testAt ts k .number))
         → (k : ℕ) → k < suc (length ts) → testAt (t ∷ ts) k .passes ≡ false → rank n ≤ rank (testAt (t ∷ ts) k .number)
-    later t ts n p f zero h g = absurd (mathlib.Core.Bool.true≢false (sym p ∙ g))
+    later t ts n p f zero h g = absurd (true≢false (sym p ∙ g))
     later t ts n p f (suc k) h g = f k (omega arith) g
 
     first : (t : Test) (ts : List Test) → Rising (suc (rank (t .number))) ts → (k : ℕ) → k < suc (length ts)
@@ -104,7 +104,7 @@ heard-back r (t ∷ ts) R n L =
   where
     rest : (t : Test) (ts : List Test) (n : ℕ) → t .passes ≡ true → (L : Lowest (t ∷ ts) n) (k : ℕ) → L .place ≡ k → Lowest ts n
     rest t ts n p L zero e =
-        absurd (mathlib.Core.Bool.true≢false (sym p ∙ sym (ap (λ (k : ℕ). testAt (t ∷ ts) k .passes) e) ∙ L .fails))
+        absurd (true≢false (sym p ∙ sym (ap (λ (k : ℕ). testAt (t ∷ ts) k .passes) e) ∙ L .fails))
     rest t ts n p L (suc k) e =
         record {
           place = k;

@@ -1,5 +1,6 @@
 -- Laws of what is written: bytes in a lent buffer, decimal digits, lines. Assumes nothing.
 use mathlib.Core.Path.{_≡_, refl, sym, ap, ap₂, _∙_, subst}
+use mathlib.Core.Logic.{⊎-elim}
 use mathlib.Core.Bool.{Bool, cond}
 use mathlib.Core.List.{List, [], _∷_, _++_, append-assoc}
 use Prim.Native.Nat.{ℕ, zero, suc, _+_, _/_, _%_, _^_, _≤_, _<_}
@@ -7,12 +8,13 @@ use native.Mathlib.Nat.{pow-suc}
 use native.Mathlib.Numerals.{add-one}
 use native.Mathlib.Omega.{arith}
 use borrow.Author.Tests.{le-leb, lt-leb, lt-ltb, le-ltb, eq-eqb, ne-eqb}
-use lib.Dec.{ltb, eqb, lit<}
+use lib.Dec.{eqb, lit<}
 use lib.ListN.{length, set, take, drop, length-append, length-drop, take-append-drop}
 use lib.Seq.{length-take-le, take-at, drop-append-add, set-split, drop-drop}
-use Rattle.paper.proofs.Logic.{by-test, below-suc}
-use Rattle.job.specs.Listing.{decimal, digits, ownerText, answerLetter, headText, refusalLine, lines, put, Wrote}
-use Rattle.job.specs.Listing.{refusalOut, refusalLength}
+use Rattle.paper.proofs.Logic.{below-suc, lt-or-ge}
+use Rattle.job.specs.Listing.{decimal, digits, ownerText, answerLetter, headText, refusalLine, lines, put, Wrote, refusalOut}
+use Rattle.job.specs.Listing.{refusalLength}
+use Rattle.job.proofs.Numbers.{below-power}
 
 -- ---- bytes in a buffer
 
@@ -93,56 +95,58 @@ wrote-same {at = at} {x} {e} {y} q w = subst (λ (t : List ℕ). Wrote t at x e 
 
 -- ---- decimal digits
 
+-- decimal f n is one digit, or digits and one more
+pub decimal-one : (f n : ℕ) → n < 10 → decimal f n ≡ (48 + n) ∷ []
+unfolding decimal
+decimal-one zero n h = refl
+decimal-one (suc f) n h = ap (λ (b : Bool). cond b ((48 + n) ∷ []) (decimal f (n / 10) ++ ((48 + n % 10) ∷ []))) (lt-ltb n 10 h)
+
+pub decimal-next : (f n : ℕ) → 10 ≤ n → decimal (suc f) n ≡ decimal f (n / 10) ++ ((48 + n % 10) ∷ [])
+unfolding decimal
+decimal-next f n h = ap (λ (b : Bool). cond b ((48 + n) ∷ []) (decimal f (n / 10) ++ ((48 + n % 10) ∷ []))) (le-ltb n 10 h)
+
 -- more room for digits changes nothing
 decimal-fuel : (f g n : ℕ) → n < 10 ^ suc f → n < 10 ^ suc g → decimal f n ≡ decimal g n
-unfolding decimal
-decimal-fuel zero zero n h k = refl
-decimal-fuel zero (suc g) n h k =
-    sym (ap (λ (b : Bool). cond b ((48 + n) ∷ []) (decimal g (n / 10) ++ ((48 + n % 10) ∷ []))) (lt-ltb n 10 h))
-decimal-fuel (suc f) zero n h k =
-    ap (λ (b : Bool). cond b ((48 + n) ∷ []) (decimal f (n / 10) ++ ((48 + n % 10) ∷ []))) (lt-ltb n 10 k)
+decimal-fuel zero g n h k = decimal-one 0 n h ∙ sym (decimal-one g n h)
+decimal-fuel (suc f) zero n h k = decimal-one (suc f) n k ∙ sym (decimal-one 0 n k)
 decimal-fuel (suc f) (suc g) n h k =
-    ap (λ (l : List ℕ). cond (ltb n 10) ((48 + n) ∷ []) (l ++ ((48 + n % 10) ∷ [])))
+    ⊎-elim
+    (λ (l : n < 10). decimal-one (suc f) n l ∙ sym (decimal-one (suc g) n l))
+    (λ (m : 10 ≤ n).
+    decimal-next f n m
+    ∙ ap (λ (l : List ℕ). l ++ ((48 + n % 10) ∷ []))
     (decimal-fuel f g (n / 10) (omega (arith, pow-suc 10 (suc f))) (omega (arith, pow-suc 10 (suc g))))
+    ∙ sym (decimal-next g n m))
+    (lt-or-ge n 10)
 
 pub digits-small : (n : ℕ) → n < 10 → digits n ≡ (48 + n) ∷ []
-unfolding digits decimal
-digits-small n h =
-    ap (λ (b : Bool). cond b ((48 + n) ∷ []) (decimal 18 (n / 10) ++ ((48 + n % 10) ∷ []))) (lt-ltb n 10 h)
+unfolding digits
+digits-small n h = decimal-one 19 n h
 
 pub digits-more : (n : ℕ) → 10 ≤ n → n < 10 ^ 20 → digits n ≡ digits (n / 10) ++ ((48 + n % 10) ∷ [])
-unfolding digits decimal
+unfolding digits
 digits-more n h k =
-    ap (λ (b : Bool). cond b ((48 + n) ∷ []) (decimal 18 (n / 10) ++ ((48 + n % 10) ∷ []))) (le-ltb n 10 h)
-    ∙ ap (λ (l : List ℕ). l ++ ((48 + n % 10) ∷ [])) (decimal-fuel 18 19 (n / 10) (omega arith) (omega arith))
+    decimal-next 18 n h ∙ ap (λ (l : List ℕ). l ++ ((48 + n % 10) ∷ [])) (decimal-fuel 18 19 (n / 10) (omega arith) (omega arith))
 
 decimal-le : (f n : ℕ) → length (decimal f n) ≤ suc f
 unfolding decimal
 decimal-le zero n = omega arith
 decimal-le (suc f) n =
-    by-test (ltb n 10) (length (cond (ltb n 10) ((48 + n) ∷ []) (decimal f (n / 10) ++ ((48 + n % 10) ∷ []))) ≤ suc (suc f))
-    (λ t. omega (arith, ap (λ (b : Bool). length (cond b ((48 + n) ∷ []) (decimal f (n / 10) ++ ((48 + n % 10) ∷ [])))) t))
-    (λ t.
-    omega (
+    ⊎-elim
+    (λ (l : n < 10). omega (arith, ap length (decimal-one (suc f) n l)))
+    (λ (g : 10 ≤ n). omega (
       arith,
-      ap (λ (b : Bool). length (cond b ((48 + n) ∷ []) (decimal f (n / 10) ++ ((48 + n % 10) ∷ [])))) t,
+      ap length (decimal-next f n g),
       length-append (decimal f (n / 10)) ((48 + n % 10) ∷ []),
       decimal-le f (n / 10),
     ))
+    (lt-or-ge n 10)
 
 -- a number below 10 ^ (k + 1) has at most k + 1 digits
 pub digits-le : (k n : ℕ) → n < 10 ^ suc k → k ≤ 19 → length (digits n) ≤ suc k
 unfolding digits
 digits-le k n h g =
-    omega (
-      arith,
-      decimal-le k n,
-      ap length (decimal-fuel 19 k n
-          (below (suc k) 20 h (omega arith)) h),
-    )
-  where
-    below : {n : ℕ} (i j : ℕ) → n < 10 ^ i → i ≤ j → n < 10 ^ j
-    below i j h g = native.Mathlib.Nat.lt-of-lt-of-le h (native.Mathlib.Nat.pow-le-pow-right (lit< tt) g)
+    omega (arith, decimal-le k n, ap length (decimal-fuel 19 k n (below-power 10 n (suc k) 20 (lit< tt) h (omega arith)) h))
 
 -- ---- owners
 

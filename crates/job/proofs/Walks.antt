@@ -1,17 +1,17 @@
 -- Laws of the walk over records. Assumes nothing.
 use mathlib.Core.Path.{_≡_, refl, sym, ap, ap₂, _∙_}
 use mathlib.Core.Bool.{Bool, true, false, cond, _&&_}
-use mathlib.Core.List.{List, [], _∷_, _++_}
-use Prim.Native.Nat.{ℕ, zero, suc, _+_, _-_, _*_, _≤_, _<_}
-use native.Mathlib.Nat.{not-suc-le-zero, suc-mul, le-antisymm}
+use mathlib.Core.List.{List}
+use Prim.Native.Nat.{ℕ, zero, suc, _+_, _*_, _≤_, _<_}
+use native.Mathlib.Nat.{suc-mul}
 use native.Mathlib.Numerals.{add-one}
 use native.Mathlib.Omega.{arith}
-use borrow.Author.Tests.{le-leb, lt-leb, leb-true, eq-eqb, ne-eqb, eqb-true}
+use borrow.Author.Tests.{le-leb, lt-leb, leb-true, leb-false, eq-eqb, ne-eqb, eqb-true}
 use lib.Dec.{leb, eqb}
 use lib.ListN.{length, getD}
-use Rattle.paper.specs.Count.{all, over}
-use Rattle.paper.proofs.Logic.{by-test, both, three, and-true, below-suc}
-use Rattle.paper.proofs.Count.{all-fails, all-each, each-all}
+use Rattle.paper.specs.Count.{all}
+use Rattle.paper.proofs.Logic.{by-test, three, and-true}
+use Rattle.paper.proofs.Count.{all-more, all-fails}
 use Rattle.job.specs.Fields.{le}
 use Rattle.job.specs.Records.{Layout, recordAt, lead, blockCount, blockAt, countOf, walkOk}
 
@@ -27,7 +27,7 @@ lead-is p m (suc n) h a f =
     ap (λ (b : Bool). cond b (suc n) (lead p n)) (all-fails (suc n) m p (omega (arith, leb-true m n t)) f)
     ∙ lead-is p m n (leb-true m n t) a f)
     (λ t.
-    let e : m ≡ suc n = omega (arith, borrow.Author.Tests.leb-false m n t) in
+    let e : m ≡ suc n = omega (arith, leb-false m n t) in
     ap (λ (b : Bool). cond b (suc n) (lead p n)) (ap (λ (k : ℕ). all k p) (sym e) ∙ a) ∙ sym e)
 
 -- all that lead pass
@@ -84,7 +84,7 @@ pub block-more : (s : List ℕ) (kind size at count end : ℕ) → end ≡ at + 
     → all count (λ j. recordAt s kind size (at + j * (4 + size))) ≡ true
     → all (count + 1) (λ j. recordAt s kind size (at + j * (4 + size))) ≡ true
 block-more s kind size at count end e t a =
-    Rattle.paper.proofs.Count.all-more count _ a (ap (recordAt s kind size) (sym e) ∙ t)
+    all-more count _ a (ap (recordAt s kind size) (sym e) ∙ t)
 
 pub block-done : (s : List ℕ) (kind size at count end : ℕ) → end ≡ at + count * (4 + size) → end ≤ length s
     → recordAt s kind size end ≡ false
@@ -126,7 +126,3 @@ walk-short L limit s at a h =
 pub walk-long : (L : Layout) (limit : ℕ) (s : List ℕ) → limit < length s → false ≡ walkOk L limit s
 unfolding walkOk
 walk-long L limit s h = sym (ap (λ (b : Bool). b && eqb (blockAt L s (L .kinds)) (length s)) (lt-leb _ _ h))
-
--- a column filled for n of n entries
-pub over-done : (f : ℕ → ℕ) (l x : List ℕ) (i n : ℕ) → i ≡ n → x ≡ over f i l → x ≡ over f n l
-over-done f l x i n e h = h ∙ ap (λ (k : ℕ). over f k l) e

@@ -1,6 +1,6 @@
 -- The whole outcome of a job: what is heard, and the lent listing, over the bytes of the file. Assumes nothing.
 use mathlib.Core.Path.{_≡_}
-use mathlib.Core.Bool.{Bool, true, cond}
+use mathlib.Core.Bool.{true, cond}
 use mathlib.Core.List.{List}
 use Prim.Native.Nat.{ℕ, _+_}
 use lib.Dec.{eqb}
@@ -10,7 +10,6 @@ use lib.ListN.{length, getD, replicate}
 use Rattle.slots.specs.Ranges.{Ranges, ranges}
 use Rattle.slots.specs.Atomic as atomic
 use Rattle.slots.specs.Availability.{availabilityOf}
-use Rattle.units.specs.declared.Settings.{Settings}
 use Rattle.units.specs.Answers.{Written}
 use Rattle.units.specs.Starts.{unitStartsIs}
 use Rattle.targets.specs.Outcome as targets
@@ -24,7 +23,7 @@ use Rattle.job.specs.declared.Started.{Started}
 use Rattle.job.specs.declared.Played.{Played}
 use Rattle.job.specs.Fields.{le}
 use Rattle.job.specs.File.{jobSizes, jobCounts, jobStarts, fileOk}
-use Rattle.job.specs.Columns.{column, priorsColumn, capacitiesColumn}
+use Rattle.job.specs.Columns.{column, floatColumn}
 use Rattle.job.specs.Listing.{listed, listingOf, put}
 use Rattle.job.specs.Stages.{jobCountsOk, countsNo, settingsIn, frozenIn, noOf, valueOf, unitsNoOf, unitsValueOf, lowerNo, placed}
 use Rattle.job.specs.Stages.{ownersNo, narrowed}
@@ -150,10 +149,10 @@ abbrev pub rangesIn : List ℕ → List ℕ → List ℕ → Ranges
 rangesIn s c b = ranges (getD c 3 0) (columnOf s c b 3 0 2) (columnOf s c b 3 2 4) (columnOf s c b 3 6 4)
 
 abbrev pub capacitiesIn : List ℕ → List ℕ → List ℕ → List Float
-capacitiesIn s c b = capacitiesColumn s (getD b 2 0 + 4) 16 (peopleIn c)
+capacitiesIn s c b = floatColumn s (getD b 2 0 + 4) 16 (peopleIn c)
 
 abbrev pub priorsIn : List ℕ → List ℕ → List ℕ → List ℕ
-priorsIn s c b = priorsColumn s (getD b 2 0 + 12) 16 (peopleIn c)
+priorsIn s c b = columnOf s c b 2 8 4
 
 abbrev pub drawsIn : List ℕ → List ℕ → List ℕ → Draws
 drawsIn s c b = draws (getD c 6 0) (columnOf s c b 6 0 2) (columnOf s c b 6 2 2) (columnOf s c b 6 4 2)

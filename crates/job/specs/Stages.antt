@@ -1,11 +1,11 @@
 -- What the stages of a job hand on, each by the outcome of the crate that does the work. Assumes nothing.
 use mathlib.Core.Path.{_≡_}
-use mathlib.Core.Bool.{Bool, _&&_, _||_, cond}
+use mathlib.Core.Bool.{Bool, _&&_, cond}
 use mathlib.Core.List.{List}
 use mathlib.Core.Logic.{_⊎_}
-use Prim.Native.Nat.{ℕ, zero, suc, _+_, _*_, _≤_, _<_}
+use Prim.Native.Nat.{ℕ, zero, suc, _+_, _*_, _≤_}
 use lib.Dec.{leb, ltb, eqb}
-use lib.IntN.{ℤ, pos, natAbs}
+use lib.IntN.{ℤ, pos}
 use lib.ListN.{length, getD, set, take, replicate}
 use Rattle.paper.specs.Limits.{peopleOk, slotCountOk, orElse, rangesMost, drawsMost, nobody}
 use Rattle.paper.specs.Count.{all, over}
@@ -17,8 +17,9 @@ use Rattle.units.specs.declared.Settings.{Settings}
 use Rattle.units.specs.declared.Number.{Number}
 use Rattle.units.specs.declared.Number.the-variants as number
 use Rattle.units.specs.Answers.{Written}
-use Rattle.targets.specs.Remainder.{sumℤ}
+use Rattle.targets.specs.Remainder.{sumℤ, AllPlain, AllSmall}
 use Rattle.targets.specs.Outcome as targets
+use Rattle.rota.specs.Derived.{knownBy}
 use Rattle.rota.specs.Recount.{evenAt}
 use Rattle.job.specs.declared.Atoms.{Atoms}
 use Rattle.job.specs.declared.Made.{Made}
@@ -87,16 +88,10 @@ pub record SharesAre (x : targets.Outcome) (r : Shares) : Type 0 where
   pub room : length (r .targets) ≡ 32
 
 -- what a play may take for granted of its targets: they add up to demand, and none is below 0, or each is below 100 in size
-abbrev pub NoneBelow : ℕ → List ℤ → Type 0
-NoneBelow people ts = (p : ℕ) → p < people → getD ts p (pos 0) ≡ pos (natAbs (getD ts p (pos 0)))
-
-abbrev pub AllSmall : ℕ → List ℤ → Type 0
-AllSmall people ts = (p : ℕ) → p < people → natAbs (getD ts p (pos 0)) < 100
-
 pub record TargetsSound (people demand : ℕ) (ts : List ℤ) : Type 0 where
   pub room : people ≤ length ts
   pub total : sumℤ (take people ts) ≡ pos demand
-  pub sizes : NoneBelow people ts ⊎ AllSmall people ts
+  pub sizes : AllPlain people ts ⊎ AllSmall people ts
 
 -- the lower of two numbers, where 0 is none
 unfoldable pub lowerNo : ℕ → ℕ → ℕ
@@ -120,8 +115,7 @@ allEven slots units firsts o = all units (evenAt slots units firsts o)
 
 -- 11: the slot exists, and the owner is nobody or a known person
 unfoldable pub recordKnown : List ℕ → ℕ → ℕ → ℕ → ℕ → Bool
-recordKnown s at slots people k =
-    ltb (ownerSlot s at k) slots && (eqb (ownerValue s at k) nobody || ltb (ownerValue s at k) people)
+recordKnown s at slots people k = ltb (ownerSlot s at k) slots && knownBy people (ownerValue s at k)
 
 unfoldable pub allKnown : List ℕ → ℕ → ℕ → ℕ → ℕ → Bool
 allKnown s at n slots people = all n (recordKnown s at slots people)
@@ -132,5 +126,8 @@ ownersNo s at n slots people units firsts o =
     orElse (allEven slots units firsts o) 10 (orElse (allKnown s at n slots people) 11 0)
 
 -- the owners as bytes: a known owner or nobody stays what it is
+unfoldable pub byteOf : ℕ → ℕ
+byteOf w = cond (ltb w 256) w nobody
+
 unfoldable pub narrowed : List ℕ → List ℕ
-narrowed o = over (λ k. cond (ltb (getD o k 0) 256) (getD o k 0) nobody) 1024 (replicate 1024 0)
+narrowed o = over (λ k. byteOf (getD o k 0)) 1024 (replicate 1024 0)

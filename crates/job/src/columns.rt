@@ -4,7 +4,7 @@ ghost use mathlib.Core.Path.{_≡_};
 ghost use Prim.Native.Nat.{ℕ, _+_, _*_, _≤_, _<_};
 ghost use lib.Ieee.{binary64, ofBits};
 ghost use lib.ListN.{length};
-ghost use Rattle.job.specs.Columns.{column, priorsColumn, capacitiesColumn};
+ghost use Rattle.job.specs.Columns.{column, floatColumn};
 
 // The f64 of a pattern; every NaN pattern is a NaN.
 fn float_of(bits: u64) -> f64
@@ -47,26 +47,12 @@ pub(crate) fn column32(s: &[u8], at: usize, stride: usize, n: usize) -> [u32; 10
     out
 }
 
-// The prior minutes of n people.
-pub(crate) fn priors(s: &[u8], at: usize, stride: usize, n: usize) -> [u32; 32]
-    requires { ⌜ (n ≤ 32) × ((k : ℕ) → k < n → at + k * stride + 4 ≤ length (now s)) ⌝ }
-    ensures { λ r. ⌜ r ≡ priorsColumn (now (s .entry)) at stride n ⌝ }
+// n numbers of eight bytes, each the pattern of an f64.
+pub(crate) fn column_f64(s: &[u8], at: usize, stride: usize, n: usize) -> [f64; 1024]
+    requires { ⌜ (n ≤ 1024) × ((k : ℕ) → k < n → at + k * stride + 8 ≤ length (now s)) ⌝ }
+    ensures { λ r. ⌜ r ≡ floatColumn (now (s .entry)) at stride n ⌝ }
 {
-    let mut out = [0u32; 32];
-    let mut k: usize = 0;
-    while k < n {
-        out[k] = field(s, at + k * stride, 4) as u32;
-        k += 1;
-    }
-    out
-}
-
-// The capacities of n people.
-pub(crate) fn capacities(s: &[u8], at: usize, stride: usize, n: usize) -> [f64; 32]
-    requires { ⌜ (n ≤ 32) × ((k : ℕ) → k < n → at + k * stride + 8 ≤ length (now s)) ⌝ }
-    ensures { λ r. ⌜ r ≡ capacitiesColumn (now (s .entry)) at stride n ⌝ }
-{
-    let mut out = [0.0f64; 32];
+    let mut out = [0.0f64; 1024];
     let mut k: usize = 0;
     while k < n {
         out[k] = float_of(field(s, at + k * stride, 8));

@@ -1,5 +1,5 @@
 // Refusal 13: the layout of a job file.
-use crate::fields::field;
+use crate::owners::owner_slot;
 use crate::records::Walked;
 use crate::records::walk;
 ghost use mathlib.Core.Path.{_≡_};
@@ -27,7 +27,7 @@ fn slots_rise(s: &[u8], at: usize, n: usize) -> bool
 {
     let mut k: usize = 0;
     while k + 1 < n {
-        if field(s, at + k * 8 + 4, 2) < field(s, at + (k + 1) * 8 + 4, 2) {
+        if owner_slot(s, at, k) < owner_slot(s, at, k + 1) {
             k += 1;
         } else {
             return false;

@@ -4,7 +4,8 @@ ghost use mathlib.Core.Path.{_≡_};
 ghost use Prim.Native.Nat.{_+_, _*_, _≤_};
 ghost use lib.ListN.{length, getD};
 ghost use Rattle.rota.specs.Recount.{evenAt};
-ghost use Rattle.job.specs.Stages.{placed, allEven, recordKnown, allKnown, ownersNo, narrowed};
+ghost use Rattle.job.specs.File.{ownerSlot};
+ghost use Rattle.job.specs.Stages.{ownerValue, placed, allEven, recordKnown, allKnown, ownersNo, narrowed};
 
 // Entry k of a column, or 0 past its end.
 fn entry16(column: &[u16], k: usize) -> u16
@@ -16,6 +17,22 @@ fn entry16(column: &[u16], k: usize) -> u16
     0
 }
 
+// The slot that owner record k names, of those that begin at `at`.
+pub(crate) fn owner_slot(s: &[u8], at: usize, k: usize) -> usize
+    requires { ⌜ at + k * 8 + 8 ≤ length (now s) ⌝ }
+    ensures { λ r. ⌜ r ≡ ownerSlot (now (s .entry)) at k ⌝ }
+{
+    field(s, at + k * 8 + 4, 2) as usize
+}
+
+// The owner that it gives.
+fn owner_value(s: &[u8], at: usize, k: usize) -> u16
+    requires { ⌜ at + k * 8 + 8 ≤ length (now s) ⌝ }
+    ensures { λ r. ⌜ r ≡ ownerValue (now (s .entry)) at k ⌝ }
+{
+    field(s, at + k * 8 + 6, 2) as u16
+}
+
 // The owners that n records from `at` on give, 255 where none does.
 pub(crate) fn placed_by(s: &[u8], at: usize, n: usize, slots: usize) -> [u16; 1024]
     requires { ⌜ (at + n * 8 ≤ length (now s)) × (slots ≤ 1024) ⌝ }
@@ -24,8 +41,8 @@ pub(crate) fn placed_by(s: &[u8], at: usize, n: usize, slots: usize) -> [u16; 10
     let mut out = [255u16; 1024];
     let mut k: usize = 0;
     while k < n {
-        let slot = field(s, at + k * 8 + 4, 2) as usize;
-        let owner = field(s, at + k * 8 + 6, 2) as u16;
+        let slot = owner_slot(s, at, k);
+        let owner = owner_value(s, at, k);
         if slot < slots {
             out[slot] = owner;
             k += 1;
@@ -74,8 +91,8 @@ fn record_known(s: &[u8], at: usize, slots: usize, people: usize, k: usize) -> b
     requires { ⌜ at + k * 8 + 8 ≤ length (now s) ⌝ }
     ensures { λ r. ⌜ r ≡ recordKnown (now (s .entry)) at slots people k ⌝ }
 {
-    let slot = field(s, at + k * 8 + 4, 2) as usize;
-    let owner = field(s, at + k * 8 + 6, 2) as usize;
+    let slot = owner_slot(s, at, k);
+    let owner = owner_value(s, at, k) as usize;
     if slot < slots {
         if owner == 255 {
             return true;

@@ -1,9 +1,8 @@
 // A whole job: the file in, the listing out.
 use crate::JobAnswer;
-use crate::columns::capacities;
+use crate::columns::column_f64;
 use crate::columns::column16;
 use crate::columns::column32;
-use crate::columns::priors;
 use crate::file::read_file;
 use crate::owners::narrow;
 use crate::owners::owners_no;
@@ -114,8 +113,8 @@ fn slots_stage(
         opens,
         shuts,
     );
-    let figures = capacities(file, at + 4, 16, people);
-    let before = priors(file, at + 12, 16, people);
+    let capacities = column_f64(file, at + 4, 16, people);
+    let priors = column32(file, at + 12, 16, people);
     let settings = settings_in(file);
     let shares = shares_of(
         people,
@@ -123,8 +122,8 @@ fn slots_stage(
         starts,
         ends,
         &avail,
-        &figures,
-        &before,
+        &capacities,
+        &priors,
         settings.fairness,
     );
     let made = units_of(settings, slots, starts, ends);

@@ -12,15 +12,15 @@ use native.Mathlib.Omega.{arith}
 use borrow.Author.Tests.{eqb-true, eqb-false}
 use lib.Dec.{eqb, lit≤}
 use lib.IntN.{ℤ, pos, negℤ, natAbs, _+ℤ_, _-ℤ_, +ℤ-assoc, +ℤ-idl, +ℤ-invr, +ℤ-negℤ-cancel, negℤ-+ℤ}
-use lib.ListN.{length, getD, take, drop, length-map, List·getD-eq-default}
-use lib.Seq.{getD-set-same, take-at}
+use lib.ListN.{length, getD, drop, length-map, List·getD-eq-default, List·getD-append}
+use lib.Seq.{getD-set-same}
 use lib.Ieee.{Float, lt}
 use Rattle.paper.proofs.Logic.{by-test, lt-or-ge, neither}
 use Rattle.targets.specs.declared.Line.{Line}
 use Rattle.targets.specs.Figures.{zeroF, whole, pad}
 use Rattle.targets.specs.Passes.{rounded, unrounded, settle, falls, some, shareSum, notional}
 use Rattle.targets.specs.Passes.{Passed, again, done, refused, passed, passesLeave}
-use Rattle.targets.specs.Remainder.{totalOf, takerOf, Largest, targetOf, adjusted, are, closed}
+use Rattle.targets.specs.Remainder.{totalOf, takerOf, Largest, targetOf, adjusted, are, closed, AllPlain, AllSmall}
 use Rattle.targets.specs.Outcome.{Given, demandIn, lineIn, linesIn, targetsIn, computeTargets}
 use Rattle.targets.specs.Code.{Each, Sound}
 use Rattle.targets.proofs.Loops.{differ}
@@ -288,13 +288,7 @@ size-neg : (r : ℕ) → natAbs (negℤ (pos r)) ≡ r
 size-neg zero = refl
 size-neg (suc r) = refl
 
--- ---- each target is 0 or above; each is below n in size. A place past the people holds 0, so any k may be asked
-
-abbrev pub AllPlain : List ℤ → Type 0
-AllPlain zs = (k : ℕ) → getD zs k (pos 0) ≡ pos (natAbs (getD zs k (pos 0)))
-
-abbrev pub AllBelow : ℕ → List ℤ → Type 0
-AllBelow n zs = (k : ℕ) → natAbs (getD zs k (pos 0)) < n
+-- ---- each target is 0 or above, or each is below 100 in size
 
 -- what holds of the taker's entry and of every other holds of each
 each-target : (d : ℕ) (ls : List Line) (Q : ℤ → Type 0) → 0 < length ls
@@ -310,32 +304,33 @@ each-target d ls Q L t f k =
     t)
     (λ e. subst Q (sym (other d k ls (eqb-false k (takerOf ls) e))) (f k))
 
-plain-or-small : (d : ℕ) (ls : List Line) → 0 < length ls → AllKept ls → addedUp ls ≤ d + 65
-    → AllPlain (adjusted d ls) ⊎ AllBelow 100 (adjusted d ls)
-plain-or-small d ls L h m =
+plain-or-small : (d n : ℕ) (ls : List Line) → 0 < length ls → AllKept ls → addedUp ls ≤ d + 65
+    → AllPlain n (adjusted d ls) ⊎ AllSmall n (adjusted d ls)
+plain-or-small d n ls L h m =
     let top = getD ls (takerOf ls) pad .target in
     let t = totalOf ls in
     let q : t ≡ addedUp ls = total-is ls in
     ⊎-elim
     (λ (l : top + d < t).
-    inr (each-target d ls (λ (z : ℤ). natAbs z < 100) L
+    inr (λ k b. each-target d ls (λ (z : ℤ). natAbs z < 100) L
     (le-trans (le-of-eq (ap suc (ap natAbs (missing top d t l) ∙ size-neg (t - (top + d))))) (omega arith))
-    (λ k. omega (arith, taker-most ls k h, l, q, m))))
+    (λ j. omega (arith, taker-most ls j h, l, q, m)) k))
     (λ (l : t ≤ top + d).
-    inl (each-target d ls (λ (z : ℤ). z ≡ pos (natAbs z)) L
-    (not-missing top d t l ∙ ap (λ (z : ℤ). pos (natAbs z)) (sym (not-missing top d t l))) (λ k. refl)))
+    inl (λ k b. each-target d ls (λ (z : ℤ). z ≡ pos (natAbs z)) L
+    (not-missing top d t l ∙ ap (λ (z : ℤ). pos (natAbs z)) (sym (not-missing top d t l))) (λ j. refl) k))
     (lt-or-ge (top + d) t)
 
 closed-spread : (d n : ℕ) (p : Passed) (zs : List ℤ) → 0 < n → Len n p → ((ms : List Line) → p ≡ again ms → ⊥) → Spread d p
-    → closed (adjusted d) p ≡ are zs → AllPlain zs ⊎ AllBelow 100 zs
+    → closed (adjusted d) p ≡ are zs → AllPlain n zs ⊎ AllSmall n zs
 closed-spread d n (again ls) zs N l c h e = absurd (c ls refl)
 closed-spread d n (done ls) zs N l c h e =
     let q : adjusted d ls ≡ zs = cc in
-    subst (λ (x : List ℤ). AllPlain x ⊎ AllBelow 100 x) q (plain-or-small d ls (omega arith) (h .0) (h .1))
+    subst (λ (x : List ℤ). AllPlain n x ⊎ AllSmall n x) q (plain-or-small d n ls (omega arith) (h .0) (h .1))
 closed-spread d n refused zs N l c h e = let z : _≡_ {A = ℕ} 0 1 = cc in differ z
 
 -- no target is below 0, or all are small
-pub targets-plain-or-small : (g : Given) → Sound g → (zs : List ℤ) → targetsIn g ≡ are zs → AllPlain zs ⊎ AllBelow 100 zs
+pub targets-plain-or-small : (g : Given) → Sound g → (zs : List ℤ) → targetsIn g ≡ are zs
+    → AllPlain (g .people) zs ⊎ AllSmall (g .people) zs
 targets-plain-or-small g s zs e =
     let d = demandIn g in
     let ls = linesIn g in
@@ -349,10 +344,15 @@ targets-plain-or-small g s zs e =
 
 -- the same of what the buffer holds, accepted
 pub accepted-plain-or-small : (g : Given) (out : List ℤ) → computeTargets g out .number ≡ 0
-    → let zs = take (g .people) (computeTargets g out .out) in AllPlain zs ⊎ AllBelow 100 zs
+    → let ts = computeTargets g out .out in AllPlain (g .people) ts ⊎ AllSmall (g .people) ts
 accepted-plain-or-small g out e =
     let h = accepted-holds g out e in
     let s = accepted g (length out) (sym (number-is g out) ∙ e) .sound in
-    subst (λ (x : List ℤ). AllPlain x ⊎ AllBelow 100 x)
-    (sym (ap (take (g .people)) (h .is) ∙ take-at (h .zs) (drop (g .people) out) (g .people) (h .count)))
+    let at : (k : ℕ) → k < g .people → getD (computeTargets g out .out) k (pos 0) ≡ getD (h .zs) k (pos 0) =
+    λ k l.
+    ap (λ (x : List ℤ). getD x k (pos 0)) (h .is)
+    ∙ List·getD-append (h .zs) (drop (g .people) out) (pos 0) k (lt-of-lt-of-le l (le-of-eq (sym (h .count)))) in
+    ⊎-elim
+    (λ (f : AllPlain (g .people) (h .zs)). inl (λ k l. at k l ∙ f k l ∙ ap (λ (z : ℤ). pos (natAbs z)) (sym (at k l))))
+    (λ (f : AllSmall (g .people) (h .zs)). inr (λ k l. le-trans (le-of-eq (ap suc (ap natAbs (at k l)))) (f k l)))
     (targets-plain-or-small g s (h .zs) (h .these))

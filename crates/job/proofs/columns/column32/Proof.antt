@@ -1,26 +1,21 @@
 -- `job::columns::column32` meets its contract. The invariant: the first k numbers are read. Assumes nothing.
 use borrow.Author.Needs.{needs}
-use mathlib.Core.Path.{_≡_, sym, ap, _∙_}
-use Prim.Native.Nat.{ℕ, _+_, _-_, _*_, _≤_, _<_}
+use mathlib.Core.Path.{_≡_, ap, _∙_}
+use Prim.Native.Nat.{_-_, _≤_}
 use native.Mathlib.Omega.{arith}
-use lib.ListN.{length, replicate}
-use Rattle.paper.specs.Count.{over}
-use Rattle.paper.proofs.Count.{over-none}
-use Rattle.job.specs.Fields.{le}
 use Rattle.job.specs.Columns.{column}
-use Rattle.job.proofs.Files.{over-turn}
-use Rattle.job.proofs.Walks.{over-done}
+use Rattle.job.proofs.Files.{column-none, column-more}
 use Rattle.job.proofs.columns.column32.Statement.{statement}
 use Rattle.job.proofs.columns.column32.Tie as tie
 
 abbrev Inv-loop : tie.InvT-loop
-Inv-loop s at stride n out₀ k₀ out k = (out ≡ over (λ (j : ℕ). le 4 s (at + j * stride)) k (replicate 1024 0)) × (k ≤ n)
+Inv-loop s at stride n out₀ k₀ out k = (out ≡ column 4 s at stride k) × (k ≤ n)
 
 abbrev μ-loop : tie.MeasureT-loop
 μ-loop s at stride n out₀ k₀ out k = n - k
 
 loop-holds : tie.Need-loop-holds Inv-loop μ-loop
-loop-holds c = (sym (over-none _ _), omega arith)
+loop-holds c = (column-none _ _ _ _, omega arith)
 
 mul-field : tie.Need-mul-field Inv-loop μ-loop
 mul-field c = let p = c .before .before .before in omega (arith, p .pre .1 (c .before .loop .k) (omega arith))
@@ -47,11 +42,12 @@ loop-less : tie.Need-loop-less Inv-loop μ-loop
 loop-less c = search needs
 
 loop-again : tie.Need-loop-again Inv-loop μ-loop
-loop-again c = (over-turn _ _ _ _ _ (c .before .before .loop .inv .0) (c .field .ensures .0), omega arith)
+loop-again c = (column-more _ _ _ _ _ _ _ (c .before .before .loop .inv .0) (c .field .ensures .0), omega arith)
 
 returns : tie.Need-returns Inv-loop μ-loop
-unfolding column
-returns c = over-done _ _ _ _ _ (omega arith) (c .before .loop .inv .0)
+returns c =
+    let e : c .before .loop .k ≡ c .before .before .before .args .n = omega arith in
+    c .before .loop .inv .0 ∙ ap (column _ _ _ _) e
 
 pub column32-spec : {M : Type 1} → statement M
 column32-spec =

@@ -1,12 +1,12 @@
 -- `job::fields::field` meets its contract. The invariant: the bytes from `left` on are read. Assumes nothing.
 use borrow.Author.Needs.{needs}
-use mathlib.Core.Path.{_≡_, refl, sym, ap₂, _∙_}
-use Prim.Native.Nat.{ℕ, suc, _+_, _-_, _*_, _^_, _≤_, _<_}
+use mathlib.Core.Path.{_≡_, sym, ap₂, _∙_}
+use Prim.Native.Nat.{ℕ, suc, _+_, _-_, _^_, _≤_, _<_}
 use native.Mathlib.Omega.{arith}
 use lib.Dec.{lit<}
-use lib.ListN.{length, getD}
+use lib.ListN.{getD}
 use Rattle.job.specs.Fields.{le}
-use Rattle.job.proofs.Numbers.{wider, narrower, le-turn, le-none}
+use Rattle.job.proofs.Numbers.{wider, below-power, le-turn, le-none}
 use Rattle.job.proofs.fields.field.Statement.{statement}
 use Rattle.job.proofs.fields.field.Tie as tie
 
@@ -28,7 +28,7 @@ sub-left c = search needs
 mul-value : tie.Need-mul-value Inv-loop μ-loop
 mul-value c =
     let l = c .before in
-    omega (arith, narrower _ (l .before .args .width - l .loop .left) 7 (l .loop .inv .1) (omega arith))
+    omega (arith, below-power 256 _ (l .before .args .width - l .loop .left) 7 (lit< tt) (l .loop .inv .1) (omega arith))
 
 add-value : tie.Need-add-value Inv-loop μ-loop
 add-value c = search needs
@@ -44,7 +44,7 @@ add-value-2 c =
     let l = c .before .before in
     omega (
       arith,
-      narrower _ (l .before .args .width - l .loop .left) 7 (l .loop .inv .1) (omega arith),
+      below-power 256 _ (l .before .args .width - l .loop .left) 7 (lit< tt) (l .loop .inv .1) (omega arith),
       c .shared-slice-known .given
           (l .before .args .at + (l .loop .left - 1)),
     )

@@ -1,14 +1,10 @@
 -- `job::file::read_file` meets its contract. Assumes nothing.
 -- Below, cN is what is known N places before c.
 use borrow.Author.Needs.{needs}
-use mathlib.Core.Path.{_≡_, sym, ap, _∙_}
+use mathlib.Core.Path.{sym, ap, _∙_}
 use mathlib.Core.Bool.{Bool, _&&_}
-use lib.ListN.{getD}
-use mathlib.Core.List.{List}
-use Prim.Native.Nat.{ℕ}
-use lib.Dec.{lit<}
 use Rattle.job.specs.File.{jobCounts, jobStarts}
-use Rattle.job.proofs.Files.{count-at, start-at, owners-end, file-ok}
+use Rattle.job.proofs.Files.{owners-end, file-ok}
 use Rattle.job.proofs.file.read_file.Statement.{statement}
 use Rattle.job.proofs.file.read_file.Tie as tie
 
@@ -32,23 +28,16 @@ unfolding jobCounts jobStarts
 rest-ok-requires c κs =
     let c4 = c .before .before .before .before in
     let w = c .before .before .walk .ensures .1 in
-    let s = c4 .args .s .now in
-    owners-end s _ _ (ap (λ (l : List ℕ). getD l 5 0) (w .1) ∙ start-at s 5 (lit< tt))
-    (ap (λ (l : List ℕ). getD l 5 0) (w .0) ∙ count-at s 5 (lit< tt))
+    owners-end (c4 .args .s .now) _ _ (w .0) (w .1)
 
 returns : tie.Need-returns
 unfolding jobCounts jobStarts
 returns c =
     let c4 = c .before .before .before .before in
     let c6 = c4 .before .before in
-    let w = c4 .walk .ensures in
-    let s = c6 .args .s .now in (
-      sym (ap (λ (b : Bool). b && c .before .rest-ok .result) (c .if1 .taken)) ∙ file-ok s _ _ _ _ _ _ (w .0)
-          (ap (λ (l : List ℕ). getD l 0 0) (w .1 .0) ∙ count-at s 0 (lit< tt))
-          (ap (λ (l : List ℕ). getD l 4 0) (w .1 .0) ∙ count-at s 4 (lit< tt))
-          (ap (λ (l : List ℕ). getD l 5 0) (w .1 .1) ∙ start-at s 5 (lit< tt))
-          (ap (λ (l : List ℕ). getD l 5 0) (w .1 .0) ∙ count-at s 5 (lit< tt))
-          (c .before .rest-ok .ensures),
+    let w = c4 .walk .ensures in (
+      sym (ap (λ (b : Bool). b && c .before .rest-ok .result) (c .if1 .taken))
+          ∙ file-ok (c6 .args .s .now) _ _ (w .1 .0) (w .1 .1) _ _ (w .0) (c .before .rest-ok .ensures),
       w .1,
     )
 
@@ -57,14 +46,9 @@ unfolding jobCounts jobStarts
 returns-2 c =
     let c4 = c .before .before .before .before in
     let c6 = c4 .before .before in
-    let w = c4 .walk .ensures in
-    let s = c6 .args .s .now in (
-      sym (ap (λ (b : Bool). b && c .before .rest-ok .result) (c .if1 .left)) ∙ file-ok s _ _ _ _ _ _ (w .0)
-          (ap (λ (l : List ℕ). getD l 0 0) (w .1 .0) ∙ count-at s 0 (lit< tt))
-          (ap (λ (l : List ℕ). getD l 4 0) (w .1 .0) ∙ count-at s 4 (lit< tt))
-          (ap (λ (l : List ℕ). getD l 5 0) (w .1 .1) ∙ start-at s 5 (lit< tt))
-          (ap (λ (l : List ℕ). getD l 5 0) (w .1 .0) ∙ count-at s 5 (lit< tt))
-          (c .before .rest-ok .ensures),
+    let w = c4 .walk .ensures in (
+      sym (ap (λ (b : Bool). b && c .before .rest-ok .result) (c .if1 .left))
+          ∙ file-ok (c6 .args .s .now) _ _ (w .1 .0) (w .1 .1) _ _ (w .0) (c .before .rest-ok .ensures),
       w .1,
     )
 

@@ -1,15 +1,15 @@
 -- `job::file::slots_rise` meets its contract. The invariant: the slots rise up to record k. Assumes nothing.
 -- Below, cN is what is known N places before c.
 use borrow.Author.Needs.{needs}
-use mathlib.Core.Path.{_≡_, sym, ap, _∙_}
+use mathlib.Core.Path.{_≡_}
 use mathlib.Core.Bool.{true}
-use Prim.Native.Nat.{ℕ, _+_, _-_, _*_, _≤_, _<_}
+use Prim.Native.Nat.{_+_, _-_, _≤_}
 use native.Mathlib.Omega.{arith}
 use lib.Dec.{ltb}
-use lib.ListN.{length}
 use Rattle.paper.specs.Count.{all}
-use Rattle.job.specs.File.{ownerSlot, rising}
-use Rattle.job.proofs.Files.{rise-none, rise-more, rise-fails, rise-done}
+use Rattle.paper.proofs.Count.{all-none}
+use Rattle.job.specs.File.{ownerSlot}
+use Rattle.job.proofs.Files.{rise-more, rise-fails, rise-done}
 use Rattle.job.proofs.file.slots_rise.Statement.{statement}
 use Rattle.job.proofs.file.slots_rise.Tie as tie
 
@@ -20,37 +20,19 @@ abbrev μ-loop : tie.MeasureT-loop
 μ-loop s at n k₀ k = n - k
 
 loop-holds : tie.Need-loop-holds Inv-loop μ-loop
-loop-holds c = (rise-none _ _, omega arith)
+loop-holds c = (all-none _, omega arith)
 
 add-loop : tie.Need-add-loop Inv-loop μ-loop
 add-loop c = search needs
 
-mul-field : tie.Need-mul-field Inv-loop μ-loop
-mul-field c = search needs
+owner-slot-requires : tie.Need-owner-slot-requires Inv-loop μ-loop
+owner-slot-requires c κs = search needs
 
-add-field : tie.Need-add-field Inv-loop μ-loop
-add-field c = search needs
+add-owner-slot : tie.Need-add-owner-slot Inv-loop μ-loop
+add-owner-slot c = search needs
 
-add-field-2 : tie.Need-add-field-2 Inv-loop μ-loop
-add-field-2 c = search needs
-
-field-requires : tie.Need-field-requires Inv-loop μ-loop
-field-requires c κs = search needs
-
-add-field-3 : tie.Need-add-field-3 Inv-loop μ-loop
-add-field-3 c = search needs
-
-mul-field-2 : tie.Need-mul-field-2 Inv-loop μ-loop
-mul-field-2 c = search needs
-
-add-field-4 : tie.Need-add-field-4 Inv-loop μ-loop
-add-field-4 c = search needs
-
-add-field-5 : tie.Need-add-field-5 Inv-loop μ-loop
-add-field-5 c = search needs
-
-field-requires-2 : tie.Need-field-requires-2 Inv-loop μ-loop
-field-requires-2 c κs = search needs
+owner-slot-requires-2 : tie.Need-owner-slot-requires-2 Inv-loop μ-loop
+owner-slot-requires-2 c κs = search needs
 
 add-k : tie.Need-add-k Inv-loop μ-loop
 add-k c = search needs
@@ -59,16 +41,14 @@ loop-less : tie.Need-loop-less Inv-loop μ-loop
 loop-less c = search needs
 
 loop-again : tie.Need-loop-again Inv-loop μ-loop
-unfolding ownerSlot
 loop-again c =
     let l = c .before .before .before .before .loop in
-    (rise-more _ _ _ _ _ (c .before .before .field .ensures .0) (c .before .field2 .ensures .0) (c .if1 .taken) (l .inv .0), omega arith)
+    (rise-more _ _ _ _ _ (c .before .before .owner-slot .ensures) (c .before .owner-slot2 .ensures) (c .if1 .taken) (l .inv .0), omega arith)
 
 returns : tie.Need-returns Inv-loop μ-loop
-unfolding ownerSlot
 returns c =
     let c3 = c .before .before .before in
-    rise-fails _ _ _ _ _ _ (c3 .loop-test .taken) (c .before .before .field .ensures .0) (c .before .field2 .ensures .0) (c .if1 .left)
+    rise-fails _ _ _ _ _ _ (c3 .loop-test .taken) (c .before .before .owner-slot .ensures) (c .before .owner-slot2 .ensures) (c .if1 .left)
 
 returns-2 : tie.Need-returns-2 Inv-loop μ-loop
 returns-2 c = rise-done _ _ _ _ (c .before .loop .inv .1) (c .loop-test .left) (c .before .loop .inv .0)
@@ -81,15 +61,9 @@ slots-rise-spec =
     μ-loop
     loop-holds
     add-loop
-    mul-field
-    add-field
-    add-field-2
-    field-requires
-    add-field-3
-    mul-field-2
-    add-field-4
-    add-field-5
-    field-requires-2
+    owner-slot-requires
+    add-owner-slot
+    owner-slot-requires-2
     add-k
     loop-less
     loop-again

@@ -1,6 +1,6 @@
 -- `job::listing::put_number` meets its contract: the digits of a tenth, then the last digit. Assumes nothing.
 -- Below, cN is what is known N places before c.
-use mathlib.Core.Path.{_≡_, sym, ap, subst}
+use mathlib.Core.Path.{sym, ap, subst}
 use mathlib.Core.List.{List, [], _∷_}
 use borrow.Author.Needs.{needs}
 use native.Mathlib.Omega.{arith}
@@ -121,21 +121,6 @@ put-number-put-byte-requires-2 t c κs =
           (subst (λ (l : List ℕ). s .args .at + length l ≤ length (s .args .out .now)) e (s .pre .1)),
     )
 
-put-number-same-length-2 : (t : ℕ) → put-number-lts.Need-same-length-2 (
-  put-byte-reads.Asked,
-  put-byte-reads.Learnt,
-  put-number-below t,
-  put-number.Post,
-) (put-number-at t) put-number.Post
-put-number-same-length-2 t c =
-    let c6 = c .before .before .before .before .before .before in
-    let c8 = c6 .before .before in
-    let s = c8 .before .before in
-    let n = s .args .n in
-    let e = digits-more n (c8 .if1 .left) (omega (arith, s .fits .n)) in
-    let r = subst (λ (l : List ℕ). s .args .at + length l ≤ length (s .args .out .now)) e (s .pre .1) in
-    wrote-length (wrote-both (c6 .put-number .ensures) (c .before .before .put-byte2 .ensures) r) r
-
 put-number-returns-2 : (t : ℕ) → put-number-lts.Need-returns-2 (
   put-byte-reads.Asked,
   put-byte-reads.Learnt,
@@ -150,6 +135,16 @@ put-number-returns-2 t c =
     let e = digits-more n (c8 .if1 .left) (omega (arith, s .fits .n)) in
     let r = subst (λ (l : List ℕ). s .args .at + length l ≤ length (s .args .out .now)) e (s .pre .1) in
     wrote-same (sym e) (wrote-both (c6 .put-number .ensures) (c .before .before .put-byte2 .ensures) r)
+
+put-number-same-length-2 : (t : ℕ) → put-number-lts.Need-same-length-2 (
+  put-byte-reads.Asked,
+  put-byte-reads.Learnt,
+  put-number-below t,
+  put-number.Post,
+) (put-number-at t) put-number.Post
+put-number-same-length-2 t c =
+    let c8 = c .before .before .before .before .before .before .before .before in
+    wrote-length (put-number-returns-2 t c) (c8 .before .before .pre .1)
 
 pub +put-number-spec : {M : Type 1} → statement M
 +put-number-spec = close μ-put-number λ t. put-number-lts.spec (

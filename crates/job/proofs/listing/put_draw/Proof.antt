@@ -1,10 +1,10 @@
 -- `job::listing::put_draw` meets its contract. Assumes nothing.
 -- Below, cN is what is known N places before c.
 use borrow.Author.Needs.{needs}
-use mathlib.Core.List.{List, [], _∷_, _++_}
+use mathlib.Core.List.{[], _∷_, _++_}
 use native.Mathlib.Omega.{arith}
-use lib.ListN.{length, length-append}
-use Rattle.job.proofs.Texts.{room-next, wrote-both, wrote-same}
+use lib.ListN.{length}
+use Rattle.job.proofs.Texts.{room-first, room-next, wrote-both, wrote-same}
 use mathlib.Core.Path.{sym, ap, subst}
 use Prim.Native.Nat.{ℕ, _+_, _≤_}
 use Rattle.job.specs.Listing.{answerLetter, headText, drawLine}
@@ -18,19 +18,14 @@ put-head-requires : tie.Need-put-head-requires
 unfolding drawLine
 put-head-requires c κs =
     let s = c .before .before .before in
-    omega (arith, (s .pre), length-append (headText 68 (s .args .d) 32) (answerLetter (s .args .answer) ∷ [] ++ (10 ∷ [])))
+    room-first (headText 68 (s .args .d) 32) (answerLetter (s .args .answer) ∷ [] ++ (10 ∷ [])) _ (s .pre)
 
 put-byte-requires : tie.Need-put-byte-requires
 unfolding drawLine
 put-byte-requires c κs =
     let c3 = c .before .before .before in
     let s = c3 .before .before .before .before in
-    omega (
-      arith,
-      (room-next (answerLetter (s .args .answer) ∷ [] ++ (10 ∷ [])) (c3 .put-head .ensures) (s .pre)),
-      length-append
-          (answerLetter (s .args .answer) ∷ []) (10 ∷ []),
-    )
+    omega (arith, room-next (answerLetter (s .args .answer) ∷ [] ++ (10 ∷ [])) (c3 .put-head .ensures) (s .pre))
 
 put-byte-requires-2 : tie.Need-put-byte-requires-2
 unfolding drawLine
@@ -38,11 +33,8 @@ put-byte-requires-2 c κs =
     let c3 = c .before .before .before in
     let c7 = c3 .before .before .before .before in
     let s = c7 .before .before .before .before in
-    omega (
-      arith,
-      (room-next (10 ∷ []) (c3 .put-byte .ensures)
-          (room-next (answerLetter (s .args .answer) ∷ [] ++ (10 ∷ [])) (c7 .put-head .ensures) (s .pre))),
-    )
+    let first = room-next (answerLetter (s .args .answer) ∷ [] ++ (10 ∷ [])) (c7 .put-head .ensures) (s .pre) in
+    omega (arith, room-next (10 ∷ []) (c3 .put-byte .ensures) first)
 
 same-length : tie.Need-same-length
 same-length c = search needs

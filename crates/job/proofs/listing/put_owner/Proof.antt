@@ -6,7 +6,6 @@ use mathlib.Core.List.{List, [], _∷_, _++_}
 use Prim.Native.Nat.{ℕ, _+_, _≤_}
 use native.Mathlib.Omega.{arith}
 use lib.ListN.{length}
-use Rattle.job.specs.Listing.{digits, ownerText}
 use Rattle.job.proofs.Texts.{room-next, wrote-both, wrote-length, wrote-same, owner-none, owner-some}
 use Rattle.job.proofs.listing.put_owner.Statement.{statement}
 use Rattle.job.proofs.listing.put_owner.Tie as tie
@@ -25,15 +24,6 @@ put-byte-requires-2 c κs =
     (s .pre) in
     omega (arith, room-next (10 ∷ []) (c3 .put-byte .ensures) r)
 
-same-length : tie.Need-same-length
-same-length c =
-    let c6 = c .before .before .before .before .before .before in
-    let c8 = c6 .before .before in
-    let s = c8 .before .before in
-    let r = subst (λ (l : List ℕ). s .args .at + length (l ++ (10 ∷ [])) ≤ length (s .args .out .now)) (owner-none _ (c8 .if1 .taken))
-    (s .pre) in
-    wrote-length (wrote-both (c6 .put-byte .ensures) (c .before .before .put-byte2 .ensures) r) r
-
 returns : tie.Need-returns
 returns c =
     let c6 = c .before .before .before .before .before .before in
@@ -42,6 +32,11 @@ returns c =
     let e = owner-none _ (c8 .if1 .taken) in
     let r = subst (λ (l : List ℕ). s .args .at + length (l ++ (10 ∷ [])) ≤ length (s .args .out .now)) e (s .pre) in
     wrote-same (ap (λ (l : List ℕ). l ++ (10 ∷ [])) (sym e)) (wrote-both (c6 .put-byte .ensures) (c .before .before .put-byte2 .ensures) r)
+
+same-length : tie.Need-same-length
+same-length c =
+    let c8 = c .before .before .before .before .before .before .before .before in
+    wrote-length (returns c) (c8 .before .before .pre)
 
 put-number-then-requires : tie.Need-put-number-then-requires
 put-number-then-requires c κs =

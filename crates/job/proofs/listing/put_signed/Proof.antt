@@ -6,7 +6,7 @@ use mathlib.Core.List.{List, [], _∷_, _++_}
 use Prim.Native.Nat.{ℕ, _+_, _≤_}
 use native.Mathlib.Omega.{arith}
 use lib.ListN.{length}
-use Rattle.job.specs.Listing.{digits, signed}
+use Rattle.job.specs.Listing.{digits}
 use Rattle.job.proofs.Texts.{room-next, wrote-both, wrote-length, wrote-same}
 use Rattle.job.proofs.Signs.{signed-below, signed-above}
 use Rattle.job.proofs.listing.put_signed.Statement.{statement}
@@ -36,16 +36,6 @@ put-number-then-requires c κs =
     (signed-below (s .args .t) (s .fits .t) (c5 .if1 .taken) (c6 .size-of .result) (c6 .size-of .ensures)) (s .pre) in
     room-next (digits (c6 .size-of .result) ++ (10 ∷ [])) (c3 .put-byte .ensures) r
 
-same-length : tie.Need-same-length
-same-length c =
-    let c6 = c .before .before .before .before .before .before in
-    let c8 = c6 .before .before in
-    let c9 = c8 .before in
-    let s = c9 .before .before in
-    let r = subst (λ (l : List ℕ). s .args .at + length (l ++ (10 ∷ [])) ≤ length (s .args .out .now))
-    (signed-below (s .args .t) (s .fits .t) (c8 .if1 .taken) (c9 .size-of .result) (c9 .size-of .ensures)) (s .pre) in
-    wrote-length (wrote-both (c6 .put-byte .ensures) (c .before .before .put-number-then .ensures) r) r
-
 returns : tie.Need-returns
 returns c =
     let c6 = c .before .before .before .before .before .before in
@@ -56,6 +46,11 @@ returns c =
     let r = subst (λ (l : List ℕ). s .args .at + length (l ++ (10 ∷ [])) ≤ length (s .args .out .now)) e (s .pre) in
     wrote-same (ap (λ (l : List ℕ). l ++ (10 ∷ [])) (sym e)) (wrote-both (c6 .put-byte .ensures)
     (c .before .before .put-number-then .ensures) r)
+
+same-length : tie.Need-same-length
+same-length c =
+    let c9 = c .before .before .before .before .before .before .before .before .before in
+    wrote-length (returns c) (c9 .before .before .pre)
 
 put-number-then-requires-2 : tie.Need-put-number-then-requires-2
 put-number-then-requires-2 c κs =

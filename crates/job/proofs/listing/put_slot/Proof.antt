@@ -3,9 +3,7 @@
 use borrow.Author.Needs.{needs}
 use mathlib.Core.List.{List, [], _∷_, _++_}
 use Prim.Native.Nat.{ℕ}
-use native.Mathlib.Omega.{arith}
-use lib.ListN.{length-append}
-use Rattle.job.proofs.Texts.{room-next, wrote-both}
+use Rattle.job.proofs.Texts.{room-first, room-next, wrote-both}
 use Rattle.job.specs.Listing.{digits, ownerText, headText, slotLine}
 use Rattle.job.proofs.listing.put_slot.Statement.{statement}
 use Rattle.job.proofs.listing.put_slot.Tie as tie
@@ -24,7 +22,7 @@ put-head-requires : tie.Need-put-head-requires
 unfolding slotLine
 put-head-requires c κs =
     let s = c .before .before in
-    omega (arith, s .pre, length-append (headText 83 (s .args .k) 32) (from-start (s .args .start) (s .args .end) (s .args .owner)))
+    room-first (headText 83 (s .args .k) 32) (from-start (s .args .start) (s .args .end) (s .args .owner)) _ (s .pre)
 
 put-number-then-requires : tie.Need-put-number-then-requires
 unfolding slotLine
@@ -32,7 +30,7 @@ put-number-then-requires c κs =
     let c3 = c .before .before .before in
     let s = c3 .before .before .before in
     let first = room-next (from-start (s .args .start) (s .args .end) (s .args .owner)) (c3 .put-head .ensures) (s .pre) in
-    omega (arith, first, length-append (digits (s .args .start) ++ (32 ∷ [])) (from-end (s .args .end) (s .args .owner)))
+    room-first (digits (s .args .start) ++ (32 ∷ [])) (from-end (s .args .end) (s .args .owner)) _ first
 
 put-number-then-requires-2 : tie.Need-put-number-then-requires-2
 unfolding slotLine
@@ -42,7 +40,7 @@ put-number-then-requires-2 c κs =
     let s = c7 .before .before .before in
     let first = room-next (from-start (s .args .start) (s .args .end) (s .args .owner)) (c7 .put-head .ensures) (s .pre) in
     let second = room-next (from-end (s .args .end) (s .args .owner)) (c3 .put-number-then .ensures) first in
-    omega (arith, second, length-append (digits (s .args .end) ++ (32 ∷ [])) (from-owner (s .args .owner)))
+    room-first (digits (s .args .end) ++ (32 ∷ [])) (from-owner (s .args .owner)) _ second
 
 put-owner-requires : tie.Need-put-owner-requires
 unfolding slotLine

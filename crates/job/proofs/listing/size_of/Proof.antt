@@ -1,7 +1,6 @@
 -- `job::listing::size_of` meets its contract. Assumes nothing.
 use borrow.Author.Needs.{needs}
 use native.Mathlib.Omega.{arith}
-use mir.ValLaws.{toZ-ofZ}
 use Rattle.job.proofs.Signs.{next-fits, turned-fits, turned-whole, size-below, size-is, whole-fits}
 use Rattle.job.proofs.listing.size_of.Statement.{statement}
 use Rattle.job.proofs.listing.size_of.Tie as tie

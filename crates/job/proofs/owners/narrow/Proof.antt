@@ -1,24 +1,19 @@
 -- `job::owners::narrow` meets its contract. The invariant: the first k owners are bytes. Assumes nothing.
--- Below, cN is what is known N places before c.
 use borrow.Author.Needs.{needs}
-use mathlib.Core.Path.{_≡_, refl, sym, ap, _∙_}
-use mathlib.Core.Bool.{cond}
-use Prim.Native.Nat.{ℕ, _+_, _-_, _≤_, _<_}
+use mathlib.Core.Path.{_≡_, sym, ap, _∙_}
+use Prim.Native.Nat.{ℕ, _-_, _≤_}
 use native.Mathlib.Omega.{arith}
-use lib.Dec.{ltb}
 use lib.ListN.{getD, replicate}
 use Rattle.paper.specs.Count.{over}
 use Rattle.paper.proofs.Count.{over-none}
-use Rattle.job.specs.Stages.{narrowed}
-use Rattle.job.proofs.Files.{over-turn}
-use Rattle.job.proofs.Walks.{over-done}
-use Rattle.job.proofs.Prepares.{narrow-same, narrow-nobody}
+use Rattle.job.specs.Stages.{byteOf, narrowed}
+use Rattle.job.proofs.Files.{over-turn, over-done}
+use Rattle.job.proofs.Prepares.{byte-small, byte-large}
 use Rattle.job.proofs.owners.narrow.Statement.{statement}
 use Rattle.job.proofs.owners.narrow.Tie as tie
 
 abbrev Inv-loop : tie.InvT-loop
-Inv-loop owners out₀ k₀ out k = (out ≡ over (λ (j : ℕ). cond (ltb (getD owners j 0) 256) (getD owners j 0) 255) k (replicate 1024 0)) ×
-    (k ≤ 1024)
+Inv-loop owners out₀ k₀ out k = (out ≡ over (λ (j : ℕ). byteOf (getD owners j 0)) k (replicate 1024 0)) × (k ≤ 1024)
 
 abbrev μ-loop : tie.MeasureT-loop
 μ-loop owners out₀ k₀ out k = 1024 - k
@@ -43,12 +38,8 @@ loop-less c = search needs
 
 loop-again : tie.Need-loop-again Inv-loop μ-loop
 loop-again c =
-    let c3 = c .before .before .before in
-    let c5 = c3 .before .before in (
-      over-turn _ _ _ _ _ (c3 .loop .inv .0) (narrow-same (c5 .args .owners .now) (c3 .loop .k) _ (c .before .entry16 .ensures)
-          (c .if1 .taken)),
-      omega arith,
-    )
+    let inv = c .before .before .before .loop .inv in
+    (over-turn _ _ _ _ _ (inv .0) (byte-small _ (c .if1 .taken) ∙ ap byteOf (c .before .entry16 .ensures)), omega arith)
 
 array-write-out-2 : tie.Need-array-write-out-2 Inv-loop μ-loop
 array-write-out-2 c = search needs
@@ -61,12 +52,8 @@ loop-less-2 c = search needs
 
 loop-again-2 : tie.Need-loop-again-2 Inv-loop μ-loop
 loop-again-2 c =
-    let c3 = c .before .before .before in
-    let c5 = c3 .before .before in (
-      over-turn _ _ _ _ _ (c3 .loop .inv .0) (narrow-nobody (c5 .args .owners .now) (c3 .loop .k) _ (c .before .entry16 .ensures)
-          (c .if1 .left)),
-      omega arith,
-    )
+    let inv = c .before .before .before .loop .inv in
+    (over-turn _ _ _ _ _ (inv .0) (byte-large _ (c .if1 .left) ∙ ap byteOf (c .before .entry16 .ensures)), omega arith)
 
 returns : tie.Need-returns Inv-loop μ-loop
 unfolding narrowed

@@ -3,7 +3,7 @@
 use borrow.Author.Needs.{needs}
 use mathlib.Core.Path.{sym, _∙_}
 use Rattle.job.specs.Stages.{allKnown, ownersNo}
-use Rattle.job.proofs.Prepares.{owners-link}
+use Rattle.job.proofs.Prepares.{two-tests}
 use Rattle.job.proofs.owners.owners_no.Statement.{statement}
 use Rattle.job.proofs.owners.owners_no.Tie as tie
 
@@ -17,19 +17,19 @@ returns : tie.Need-returns
 unfolding ownersNo
 returns c =
     let c3 = c .before .before .before in
-    owners-link _ _ .0 (sym (c3 .all-even .ensures) ∙ c .before .before .if1 .taken) (sym (c .before .all-known .ensures) ∙ c .if2 .taken)
+    two-tests _ _ _ _ .0 (sym (c3 .all-even .ensures) ∙ c .before .before .if1 .taken) (sym (c .before .all-known .ensures) ∙ c .if2 .taken)
 
 returns-2 : tie.Need-returns-2
 unfolding ownersNo
 returns-2 c =
     let c3 = c .before .before .before in
-    owners-link _ _ .1 (sym (c3 .all-even .ensures) ∙ c .before .before .if1 .taken) (sym (c .before .all-known .ensures) ∙ c .if2 .left)
+    two-tests _ _ _ _ .1 (sym (c3 .all-even .ensures) ∙ c .before .before .if1 .taken) (sym (c .before .all-known .ensures) ∙ c .if2 .left)
 
 returns-3 : tie.Need-returns-3
 unfolding ownersNo
 returns-3 c =
     let s = c .before .before .before .before .before .args in
-    owners-link _ (allKnown (s .s .now) (s .at) (s .n) (s .slots) (s .people)) .2 (sym (c .before .all-even .ensures) ∙ c .if1 .left)
+    two-tests _ (allKnown (s .s .now) (s .at) (s .n) (s .slots) (s .people)) _ 11 .2 (sym (c .before .all-even .ensures) ∙ c .if1 .left)
 
 pub owners-no-spec : {M : Type 1} → statement M
 owners-no-spec =

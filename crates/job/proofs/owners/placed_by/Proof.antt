@@ -1,11 +1,10 @@
 -- `job::owners::placed_by` meets its contract. The invariant: the first k records are placed. Assumes nothing.
 -- Below, cN is what is known N places before c.
 use borrow.Author.Needs.{needs}
-use mathlib.Core.Path.{_≡_, refl, sym, ap, _∙_}
-use Prim.Native.Nat.{ℕ, _+_, _-_, _*_, _≤_, _<_}
+use mathlib.Core.Path.{_≡_, ap, _∙_}
+use Prim.Native.Nat.{_-_, _≤_}
 use native.Mathlib.Omega.{arith}
-use Rattle.job.specs.File.{ownerSlot}
-use Rattle.job.specs.Stages.{ownerValue, placed}
+use Rattle.job.specs.Stages.{placed}
 use Rattle.job.proofs.Prepares.{placed-none, placed-more, placed-not}
 use Rattle.job.proofs.owners.placed_by.Statement.{statement}
 use Rattle.job.proofs.owners.placed_by.Tie as tie
@@ -19,32 +18,11 @@ abbrev μ-loop : tie.MeasureT-loop
 loop-holds : tie.Need-loop-holds Inv-loop μ-loop
 loop-holds c = (placed-none _ _ _, omega arith)
 
-mul-field : tie.Need-mul-field Inv-loop μ-loop
-mul-field c = search needs
+owner-slot-requires : tie.Need-owner-slot-requires Inv-loop μ-loop
+owner-slot-requires c κs = search needs
 
-add-field : tie.Need-add-field Inv-loop μ-loop
-add-field c = search needs
-
-add-field-2 : tie.Need-add-field-2 Inv-loop μ-loop
-add-field-2 c = search needs
-
-field-requires : tie.Need-field-requires Inv-loop μ-loop
-field-requires c κs = search needs
-
-mul-field-2 : tie.Need-mul-field-2 Inv-loop μ-loop
-mul-field-2 c = search needs
-
-add-field-3 : tie.Need-add-field-3 Inv-loop μ-loop
-add-field-3 c = search needs
-
-add-field-4 : tie.Need-add-field-4 Inv-loop μ-loop
-add-field-4 c = search needs
-
-field-requires-2 : tie.Need-field-requires-2 Inv-loop μ-loop
-field-requires-2 c κs = search needs
-
-cast-owner : tie.Need-cast-owner Inv-loop μ-loop
-cast-owner c = search needs
+owner-value-requires : tie.Need-owner-value-requires Inv-loop μ-loop
+owner-value-requires c κs = search needs
 
 mul-out : tie.Need-mul-out Inv-loop μ-loop
 mul-out c = omega (arith, c .before .before .before .before .before .before .pre .1)
@@ -59,10 +37,9 @@ loop-less : tie.Need-loop-less Inv-loop μ-loop
 loop-less c = search needs
 
 loop-again : tie.Need-loop-again Inv-loop μ-loop
-unfolding ownerSlot ownerValue
 loop-again c =
     let c4 = c .before .before .before .before in (
-      placed-more _ _ _ _ _ _ _ (c4 .loop .inv .0) (c .before .before .field .ensures .0) (c .before .field2 .ensures .0)
+      placed-more _ _ _ _ _ _ _ (c4 .loop .inv .0) (c .before .before .owner-slot .ensures) (c .before .owner-value .ensures)
           (c .if1 .taken),
       omega arith,
     )
@@ -74,10 +51,9 @@ loop-less-2 : tie.Need-loop-less-2 Inv-loop μ-loop
 loop-less-2 c = search needs
 
 loop-again-2 : tie.Need-loop-again-2 Inv-loop μ-loop
-unfolding ownerSlot
 loop-again-2 c =
     let c4 = c .before .before .before .before in
-    (placed-not _ _ _ _ _ _ (c4 .loop .inv .0) (c .before .before .field .ensures .0) (c .if1 .left), omega arith)
+    (placed-not _ _ _ _ _ _ (c4 .loop .inv .0) (c .before .before .owner-slot .ensures) (c .if1 .left), omega arith)
 
 returns : tie.Need-returns Inv-loop μ-loop
 returns c =
@@ -91,15 +67,8 @@ placed-by-spec =
     Inv-loop
     μ-loop
     loop-holds
-    mul-field
-    add-field
-    add-field-2
-    field-requires
-    mul-field-2
-    add-field-3
-    add-field-4
-    field-requires-2
-    cast-owner
+    owner-slot-requires
+    owner-value-requires
     mul-out
     array-write-out
     add-k

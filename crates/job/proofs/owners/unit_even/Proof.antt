@@ -5,12 +5,12 @@ use mathlib.Core.Path.{_≡_, sym, _∙_}
 use mathlib.Core.Bool.{true}
 use Prim.Native.Nat.{ℕ, _-_, _≤_}
 use native.Mathlib.Omega.{arith}
+use borrow.Author.Tests.{eq-eqb, ne-eqb}
 use lib.Dec.{eqb}
 use lib.ListN.{getD}
 use Rattle.paper.specs.Count.{allIn}
-use Rattle.paper.proofs.Count.{in-none, in-more}
-use Rattle.rota.specs.Recount.{evenAt}
-use Rattle.job.proofs.Prepares.{even-more, even-fails, even-done}
+use Rattle.paper.proofs.Count.{in-none, in-more, in-fails, in-each, each-in}
+use Rattle.rota.proofs.Scans.{even-fails, even-holds}
 use Rattle.job.proofs.owners.unit_even.Statement.{statement}
 use Rattle.job.proofs.owners.unit_even.Tie as tie
 
@@ -43,33 +43,23 @@ loop-less c = search needs
 
 loop-again : tie.Need-loop-again Inv-loop μ-loop
 loop-again c =
-    let c3 = c .before .before .before in
-    let c9 = c3 .before .before .before .before .before .before in (
-      even-more (c9 .args .owners .now) _ _ _ _ (c3 .loop .inv .1) (c3 .loop .inv .0) (c .before .entry162 .ensures)
-          (c .if1 .taken),
-      omega arith,
-    )
+    let inv = c .before .before .before .loop .inv in
+    (in-more _ _ _ (inv .1) (inv .0) (eq-eqb _ _ (sym (c .before .entry162 .ensures) ∙ c .if1 .taken)), omega arith)
 
 returns : tie.Need-returns Inv-loop μ-loop
-unfolding evenAt
 returns c =
     let c3 = c .before .before .before in
     let c4 = c3 .before in
     let c5 = c4 .before in
-    let c6 = c5 .before in
-    let c9 = c6 .before .before .before in
-    even-fails (c9 .args .owners .now) _ _ _ _ _ _ _ (c3 .loop .inv .1) (c .before .before .loop-test .taken)
-    (c .before .entry162 .ensures) (c .if1 .left)
-    (c6 .start-of .ensures) (c5 .unit-end .ensures) (c4 .entry16 .ensures)
+    even-fails _ _ _ _ _ _ _ _ (c5 .before .start-of .ensures) (c5 .unit-end .ensures) (c4 .entry16 .ensures)
+    (in-fails _ _ _ _ (c3 .loop .inv .1) (c .before .before .loop-test .taken)
+    (ne-eqb _ _ (λ x. c .if1 .left (c .before .entry162 .ensures ∙ x))))
 
 returns-2 : tie.Need-returns-2 Inv-loop μ-loop
-unfolding evenAt
 returns-2 c =
     let c3 = c .before .before .before in
-    let c4 = c3 .before in
-    let c7 = c4 .before .before .before in
-    even-done (c7 .args .owners .now) _ _ _ _ _ _ (c .before .loop .inv .1) (c .loop-test .left) (c .before .loop .inv .0)
-    (c4 .start-of .ensures) (c3 .unit-end .ensures) (c .before .before .entry16 .ensures)
+    even-holds _ _ _ _ _ _ _ _ (c3 .before .start-of .ensures) (c3 .unit-end .ensures) (c .before .before .entry16 .ensures)
+    (sym (each-in _ _ _ (λ j a b. in-each _ _ _ (c .before .loop .inv .0) j a (omega arith))))
 
 pub unit-even-spec : {M : Type 1} → statement M
 unit-even-spec =

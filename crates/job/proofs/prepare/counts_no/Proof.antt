@@ -1,7 +1,11 @@
 -- `job::prepare::counts_no` meets its contract. Assumes nothing.
 use borrow.Author.Needs.{needs}
 use mathlib.Core.Path.{sym, _∙_}
-use Rattle.job.proofs.Prepares.{counts-none, counts-room, counts-fail}
+use borrow.Author.Tests.{le-leb, lt-leb}
+use lib.Dec.{leb}
+use Rattle.job.specs.Listing.{listingMost}
+use Rattle.job.specs.Stages.{countsNo}
+use Rattle.job.proofs.Prepares.{two-tests}
 use Rattle.job.proofs.prepare.counts_no.Statement.{statement}
 use Rattle.job.proofs.prepare.counts_no.Tie as tie
 
@@ -9,13 +13,20 @@ counts-ok-requires : tie.Need-counts-ok-requires
 counts-ok-requires c κs = search needs
 
 returns : tie.Need-returns
-returns c = counts-none _ _ _ _ _ (sym (c .before .before .counts-ok .ensures) ∙ c .before .if1 .taken) (c .if2 .taken)
+unfolding countsNo
+returns c =
+    two-tests _ _ _ _ .0 (sym (c .before .before .counts-ok .ensures) ∙ c .before .if1 .taken) (le-leb _ _ (c .if2 .taken))
 
 returns-2 : tie.Need-returns-2
-returns-2 c = counts-room _ _ _ _ _ (sym (c .before .before .counts-ok .ensures) ∙ c .before .if1 .taken) (c .if2 .left)
+unfolding countsNo
+returns-2 c =
+    two-tests _ _ _ _ .1 (sym (c .before .before .counts-ok .ensures) ∙ c .before .if1 .taken) (lt-leb _ _ (c .if2 .left))
 
 returns-3 : tie.Need-returns-3
-returns-3 c = counts-fail _ _ _ _ _ (sym (c .before .counts-ok .ensures) ∙ c .if1 .left)
+unfolding countsNo
+returns-3 c =
+    let room = c .before .before .args .room in
+    two-tests _ (leb listingMost room) _ 2 .2 (sym (c .before .counts-ok .ensures) ∙ c .if1 .left)
 
 pub counts-no-spec : {M : Type 1} → statement M
 counts-no-spec = tie.close (tie.spec counts-ok-requires returns returns-2 returns-3)

@@ -1,6 +1,6 @@
 -- `job::prepare::frozen_in` meets its contract. Assumes nothing.
 use borrow.Author.Needs.{needs}
-use mathlib.Core.Path.{sym, _∙_}
+use mathlib.Core.Path.{_∙_}
 use Rattle.job.proofs.Prepares.{frozen-none, frozen-some}
 use Rattle.job.proofs.prepare.frozen_in.Statement.{statement}
 use Rattle.job.proofs.prepare.frozen_in.Tie as tie

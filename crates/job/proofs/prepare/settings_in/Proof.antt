@@ -1,7 +1,7 @@
 -- `job::prepare::settings_in` meets its contract. Assumes nothing.
 -- Below, cN is what is known N places before c.
 use borrow.Author.Needs.{needs}
-use mathlib.Core.Path.{_≡_, ap₂}
+use mathlib.Core.Path.{ap₂}
 use Prim.Native.Nat.{ℕ}
 use lib.ListN.{getD}
 use Rattle.units.specs.declared.Settings.{Settings}

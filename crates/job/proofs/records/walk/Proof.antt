@@ -1,16 +1,16 @@
 -- `job::records::walk` meets its contract. The invariant: the first i kinds are counted. Assumes nothing.
 use borrow.Author.Needs.{needs}
-use mathlib.Core.Path.{_≡_, refl, sym, ap, ap₂, _∙_}
-use Prim.Native.Nat.{ℕ, _+_, _-_, _*_, _≤_, _<_}
+use mathlib.Core.Path.{_≡_, sym, ap, _∙_}
+use Prim.Native.Nat.{_-_, _≤_}
 use native.Mathlib.Omega.{arith}
-use mathlib.Core.List.{List}
 use mir.Val.{Fits}
 use mir.Syntax.{w16}
-use lib.ListN.{length, getD, set, replicate}
+use lib.ListN.{length, getD, replicate}
 use Rattle.paper.specs.Count.{over}
-use Rattle.paper.proofs.Count.{over-none, over-more}
+use Rattle.paper.proofs.Count.{over-none}
 use Rattle.job.specs.Records.{layout, blockAt, countOf}
-use Rattle.job.proofs.Walks.{block-next, walk-none, walk-short, walk-long, over-done}
+use Rattle.job.proofs.Walks.{block-next, walk-none, walk-short, walk-long}
+use Rattle.job.proofs.Files.{over-turn, over-done}
 use Rattle.job.proofs.records.walk.Statement.{statement}
 use Rattle.job.proofs.records.walk.Tie as tie
 
@@ -66,8 +66,8 @@ loop-again c =
     let l = c .before .before in
     let b = c .block-from in
     let n = block-next _ _ _ _ _ _ (l .loop .inv .2) (b .ensures .0) (b .ensures .1 .0) in (
-      ap₂ (λ (x : List ℕ) (y : ℕ). set x (l .loop .i) y) (l .loop .inv .0) (n .0) ∙ sym (over-more _ _ _),
-      ap₂ (λ (x : List ℕ) (y : ℕ). set x (l .loop .i) y) (l .loop .inv .1) (l .loop .inv .2) ∙ sym (over-more _ _ _),
+      over-turn _ _ _ _ _ (l .loop .inv .0) (n .0),
+      over-turn _ _ _ _ _ (l .loop .inv .1) (l .loop .inv .2),
       n .1,
       b .ensures .1 .1,
       omega arith,

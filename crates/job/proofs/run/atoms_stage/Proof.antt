@@ -1,7 +1,6 @@
 -- `job::run::atoms_stage` meets its contract. Assumes nothing.
 -- Below, cN is what is known N places before c.
 use borrow.Author.Needs.{needs}
-use mathlib.Core.Path.{_≡_, sym}
 use native.Mathlib.Omega.{arith}
 use lib.Dec.{lit<, lit≤}
 use Rattle.job.proofs.Readings.{read-block, read-room, read-few, atoms-is, ranges-same, atoms-few, atoms-refused, atoms-passed}
@@ -20,7 +19,7 @@ add-column32 c = let s = c .before .before in omega (arith, read-block (s .pre .
 column32-requires : tie.Need-column32-requires
 column32-requires c κs =
     let s = c .before .before in
-    (read-few (s .pre .0) .1, λ k h. omega (arith, read-room (s .pre .0) 1 k 0 4 (lit< tt) h (lit≤ tt)))
+    (read-few (s .pre .0) .1, read-room (s .pre .0) 1 0 4 (lit< tt) (lit≤ tt))
 
 add-column32-2 : tie.Need-add-column32-2
 add-column32-2 c = let s = c .before .before .before in omega (arith, read-block (s .pre .0) 1 (lit< tt), s .good .0)
@@ -28,7 +27,7 @@ add-column32-2 c = let s = c .before .before .before in omega (arith, read-block
 column32-requires-2 : tie.Need-column32-requires-2
 column32-requires-2 c κs =
     let s = c .before .before .before in
-    (read-few (s .pre .0) .1, λ k h. omega (arith, read-room (s .pre .0) 1 k 4 4 (lit< tt) h (lit≤ tt)))
+    (read-few (s .pre .0) .1, read-room (s .pre .0) 1 4 4 (lit< tt) (lit≤ tt))
 
 array-read-range : tie.Need-array-read-range
 array-read-range c = search needs
@@ -42,7 +41,7 @@ add-column16 c = let s = c .before .before .before .before in omega (arith, read
 column16-requires : tie.Need-column16-requires
 column16-requires c κs =
     let s = c .before .before .before .before in
-    (read-few (s .pre .0) .3, λ k h. omega (arith, read-room (s .pre .0) 3 k 0 2 (lit< tt) h (lit≤ tt)))
+    (read-few (s .pre .0) .3, read-room (s .pre .0) 3 0 2 (lit< tt) (lit≤ tt))
 
 add-column32-3 : tie.Need-add-column32-3
 add-column32-3 c = let s = c .before .before .before .before .before in omega (arith, read-block (s .pre .0) 3 (lit< tt), s .good .0)
@@ -50,7 +49,7 @@ add-column32-3 c = let s = c .before .before .before .before .before in omega (a
 column32-requires-3 : tie.Need-column32-requires-3
 column32-requires-3 c κs =
     let s = c .before .before .before .before .before in
-    (read-few (s .pre .0) .3, λ k h. omega (arith, read-room (s .pre .0) 3 k 2 4 (lit< tt) h (lit≤ tt)))
+    (read-few (s .pre .0) .3, read-room (s .pre .0) 3 2 4 (lit< tt) (lit≤ tt))
 
 add-column32-4 : tie.Need-add-column32-4
 add-column32-4 c =
@@ -60,7 +59,7 @@ add-column32-4 c =
 column32-requires-4 : tie.Need-column32-requires-4
 column32-requires-4 c κs =
     let s = c .before .before .before .before .before .before in
-    (read-few (s .pre .0) .3, λ k h. omega (arith, read-room (s .pre .0) 3 k 6 4 (lit< tt) h (lit≤ tt)))
+    (read-few (s .pre .0) .3, read-room (s .pre .0) 3 6 4 (lit< tt) (lit≤ tt))
 
 slice-aggregate-atoms-of : tie.Need-slice-aggregate-atoms-of
 slice-aggregate-atoms-of c = search needs

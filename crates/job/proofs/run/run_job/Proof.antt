@@ -1,7 +1,7 @@
 -- `job::run::run_job` meets its contract. Assumes nothing.
 -- Below, cN is what is known N places before c.
 use borrow.Author.Needs.{needs}
-use mathlib.Core.Path.{_≡_, sym, _∙_}
+use mathlib.Core.Path.{sym, _∙_}
 use Rattle.job.proofs.Readings.{job-counts, job-passed, job-ready, job-layout}
 use Rattle.job.proofs.run.run_job.Statement.{statement}
 use Rattle.job.proofs.run.run_job.Tie as tie

@@ -1,18 +1,18 @@
 -- `job::run::slots_stage` meets its contract. Assumes nothing.
 -- Below, cN is what is known N places before c.
 use borrow.Author.Needs.{needs}
-use mathlib.Core.Path.{_≡_, refl, sym, ap, ap₂, _∙_}
+use mathlib.Core.Path.{sym, ap, ap₂, _∙_}
 use mathlib.Core.List.{List}
 use Prim.Native.Nat.{ℕ}
 use native.Mathlib.Omega.{arith}
 use lib.Dec.{lit<, lit≤}
-use lib.ListN.{length, getD}
+use lib.ListN.{getD}
 use Rattle.job.specs.Stages.{frozenIn}
-use Rattle.job.specs.Outcome.{Draws, draws, availIn}
+use Rattle.job.specs.Outcome.{draws, availIn}
 use Rattle.job.proofs.Prepares.{lower-none}
 use Rattle.job.proofs.Passing.{shares-sound}
-use Rattle.job.proofs.Readings.{read-block, read-room, read-owners, read-freeze, read-settings, read-few}
-use Rattle.job.proofs.Readings.{shares-is, units-is, slots-refused, slots-passed}
+use Rattle.job.proofs.Readings.{read-block, read-room, read-owners, read-freeze, read-settings, read-few, shares-is, units-is}
+use Rattle.job.proofs.Readings.{slots-refused, slots-passed}
 use Rattle.job.proofs.run.slots_stage.Statement.{statement}
 use Rattle.job.proofs.run.slots_stage.Tie as tie
 
@@ -37,25 +37,25 @@ array-read-avail-of c = search needs
 avail-of-requires : tie.Need-avail-of-requires
 avail-of-requires c κs = search needs
 
-add-capacities : tie.Need-add-capacities
-add-capacities c =
+add-column-f64 : tie.Need-add-column-f64
+add-column-f64 c =
     let s = c .before .before .before .before .before .before .before .before in
     omega (arith, read-block (s .pre .0) 2 (lit< tt), s .good .0)
 
-capacities-requires : tie.Need-capacities-requires
-capacities-requires c κs =
+column-f64-requires : tie.Need-column-f64-requires
+column-f64-requires c κs =
     let s = c .before .before .before .before .before .before .before .before in
-    (read-few (s .pre .0) .2, λ k h. omega (arith, read-room (s .pre .0) 2 k 0 8 (lit< tt) h (lit≤ tt)))
+    (omega (arith, read-few (s .pre .0) .2), read-room (s .pre .0) 2 0 8 (lit< tt) (lit≤ tt))
 
-add-priors : tie.Need-add-priors
-add-priors c =
+add-column32 : tie.Need-add-column32
+add-column32 c =
     let s = c .before .before .before .before .before .before .before .before .before in
     omega (arith, read-block (s .pre .0) 2 (lit< tt), s .good .0)
 
-priors-requires : tie.Need-priors-requires
-priors-requires c κs =
+column32-requires : tie.Need-column32-requires
+column32-requires c κs =
     let s = c .before .before .before .before .before .before .before .before .before in
-    (read-few (s .pre .0) .2, λ k h. omega (arith, read-room (s .pre .0) 2 k 8 4 (lit< tt) h (lit≤ tt)))
+    (omega (arith, read-few (s .pre .0) .2), read-room (s .pre .0) 2 8 4 (lit< tt) (lit≤ tt))
 
 settings-in-requires : tie.Need-settings-in-requires
 settings-in-requires c κs = read-settings (c .before .before .before .before .before .before .before .before .before .before .pre .0)
@@ -100,7 +100,7 @@ column16-requires : tie.Need-column16-requires
 column16-requires c κs =
     let s = c .before .before .before .before .before .before .before .before .before .before .before .before .before .before .before
     .before .before .before .before .before in
-    (read-few (s .pre .0) .4, λ k h. omega (arith, read-room (s .pre .0) 6 k 0 2 (lit< tt) h (lit≤ tt)))
+    (read-few (s .pre .0) .4, read-room (s .pre .0) 6 0 2 (lit< tt) (lit≤ tt))
 
 add-column16-2 : tie.Need-add-column16-2
 add-column16-2 c =
@@ -112,7 +112,7 @@ column16-requires-2 : tie.Need-column16-requires-2
 column16-requires-2 c κs =
     let s = c .before .before .before .before .before .before .before .before .before .before .before .before .before .before .before
     .before .before .before .before .before .before in
-    (read-few (s .pre .0) .4, λ k h. omega (arith, read-room (s .pre .0) 6 k 2 2 (lit< tt) h (lit≤ tt)))
+    (read-few (s .pre .0) .4, read-room (s .pre .0) 6 2 2 (lit< tt) (lit≤ tt))
 
 add-column16-3 : tie.Need-add-column16-3
 add-column16-3 c =
@@ -124,7 +124,7 @@ column16-requires-3 : tie.Need-column16-requires-3
 column16-requires-3 c κs =
     let s = c .before .before .before .before .before .before .before .before .before .before .before .before .before .before .before
     .before .before .before .before .before .before .before in
-    (read-few (s .pre .0) .4, λ k h. omega (arith, read-room (s .pre .0) 6 k 4 2 (lit< tt) h (lit≤ tt)))
+    (read-few (s .pre .0) .4, read-room (s .pre .0) 6 4 2 (lit< tt) (lit≤ tt))
 
 array-read-owners-stage : tie.Need-array-read-owners-stage
 array-read-owners-stage c = search needs
@@ -195,7 +195,7 @@ returns c =
     let s = c28 .before .before .before .before .before .before .before .before in
     let st = c25 .settings-in .ensures in
     slots-passed _ _ _ _ _ _ _ _ _ _ _
-    (shares-is _ _ _ _ _ _ _ _ _ _ _ _ (c28 .avail-of .ensures .0) (c27 .capacities .ensures) (c26 .priors .ensures) st
+    (shares-is _ _ _ _ _ _ _ _ _ _ _ _ (c28 .avail-of .ensures .0) (c27 .column-f64 .ensures) (c26 .column32 .ensures) st
     (c21 .shares-of .ensures))
     (units-is _ _ _ _ _ _ st (c20 .units-of .ensures)) (c19 .lower-no .ensures)
     _ _ _ _ _ _ _ (c18 .if1 .taken) (c28 .avail-of .ensures .0)
@@ -215,7 +215,7 @@ returns-2 c =
     let s = c10 .before .before .before .before .before .before .before .before in
     let st = c7 .settings-in .ensures in
     slots-refused _ _ _ _ _ _ _ _ _ _ _
-    (shares-is _ _ _ _ _ _ _ _ _ _ _ _ (c10 .avail-of .ensures .0) (c9 .capacities .ensures) (c8 .priors .ensures) st
+    (shares-is _ _ _ _ _ _ _ _ _ _ _ _ (c10 .avail-of .ensures .0) (c9 .column-f64 .ensures) (c8 .column32 .ensures) st
     (c3 .shares-of .ensures))
     (units-is _ _ _ _ _ _ st (c .before .before .units-of .ensures)) (c .before .lower-no .ensures) (c .if1 .left)
 
@@ -230,10 +230,10 @@ slots-stage-spec =
     array-read-drawn
     array-read-avail-of
     avail-of-requires
-    add-capacities
-    capacities-requires
-    add-priors
-    priors-requires
+    add-column-f64
+    column-f64-requires
+    add-column32
+    column32-requires
     settings-in-requires
     slice-aggregate-shares-of
     slice-aggregate-shares-of-2
