@@ -11,6 +11,7 @@ pub mod UnitRules
 pub mod TargetRules
 pub mod TargetCases
 pub mod Marked
+pub mod RotaRules
 pub mod Rota
 pub mod MoveRules
 pub mod JobRules

@@ -200,18 +200,19 @@ pub past-stays : PastStays built
 past-stays c e =
     let w = accepted-is c e in
     let d = derived-past-stay (c .plan) (c .avail) (c .units) (c .firsts) (c .frozen) (c .count) (c .kinds) (c .ones) (c .twos) (c .owners)
-    (c .derived) (c .answers) (asks c e) (drawsIn c) in
-    record {
-      owners = λ k h.
-          owner-is c e k
-          ∙ owners-past-stay (c .plan) (c .avail) (c .units) (c .firsts) (c .frozen) (c .count) (c .kinds) (c .ones) (c .twos) (c .owners)
-          (c .derived) (c .answers) (asks c e) (drawsIn c) k h;
-      minutes = λ p h. ap (λ (y : Outcome). getD (y .derived .minutes) p 0) w ∙ d .1 p h;
-      answers = λ k h.
+    (c .derived) (c .answers) (asks c e) (drawsIn c) in (
+      record {
+        owners = λ k h.
+            owner-is c e k
+            ∙ owners-past-stay (c .plan) (c .avail) (c .units) (c .firsts) (c .frozen) (c .count) (c .kinds) (c .ones) (c .twos) (c .owners)
+            (c .derived) (c .answers) (asks c e) (drawsIn c) k h;
+        minutes = λ p h. ap (λ (y : Outcome). getD (y .derived .minutes) p 0) w ∙ d .1 p h;
+        sets = λ i b. ap (λ (y : Outcome). slot (y .derived .sets) 0 i) w ∙ d .0 i b;
+      },
+      λ k h.
           ap (λ (y : Outcome). getD (y .answers) k 0) w
-          ∙ answers-past-stay (boardIn c) (c .owners) (c .kinds) (c .ones) (c .twos) (c .answers) (c .count) k h;
-      sets = λ i b. ap (λ (y : Outcome). slot (y .derived .sets) 0 i) w ∙ d .0 i b;
-    }
+          ∙ answers-past-stay (boardIn c) (c .owners) (c .kinds) (c .ones) (c .twos) (c .answers) (c .count) k h,
+    )
 
 -- ---- two calls
 

@@ -66,6 +66,23 @@ drawsIn c = drawsOf (c .kinds) (c .ones) (c .twos) (c .count)
 abbrev pub ownersIn : Call → List ℕ
 ownersIn c = ownersAfter (boardIn c) (c .owners) (drawsIn c)
 
+-- the same call, on another rota
+abbrev pub onRota : Call → List ℕ → Derived → Call
+onRota c o D = record {
+  plan = c .plan;
+  avail = c .avail;
+  units = c .units;
+  firsts = c .firsts;
+  frozen = c .frozen;
+  count = c .count;
+  kinds = c .kinds;
+  ones = c .ones;
+  twos = c .twos;
+  owners = o;
+  derived = D;
+  answers = c .answers;
+}
+
 -- the rota that the rules give, worked out afresh, with an answer a draw
 abbrev pub afreshIn : Call → rota.Outcome
 afreshIn c = record {

@@ -2,7 +2,7 @@
 use mathlib.Core.Path.{_≡_}
 use mathlib.Core.Bool.{true, false}
 use mathlib.Core.List.{List, _++_}
-use Prim.Native.Nat.{ℕ, _+_, _*_, _^_, _≤_, _<_}
+use Prim.Native.Nat.{ℕ, _+_, _^_, _≤_, _<_}
 use lib.Dec.{eqb}
 use lib.ListN.{getD, take, drop}
 use Rattle.paper.specs.Limits.{nobody}
@@ -17,6 +17,7 @@ use Rattle.rota.specs.Derived.{knownBy}
 use Rattle.rota.specs.Recount.{availableFor, recounts}
 use Rattle.rota.specs.Entries.{Outcome, slotsOfIs}
 use Rattle.promises.specs.Entries.{Call, Component, noOf, afreshIn, boardIn, drawsIn}
+use Rattle.promises.specs.RotaRules.{PastKept}
 
 -- "From any rota that passes the recount, any accepted list of draws ends in the rota that the rules give worked out afresh."
 abbrev pub EndsAfresh : Component → Type 0
@@ -71,17 +72,12 @@ AddsUp C =
     × (sum (c .plan .people) (λ p. getD (C .play c .derived .minutes) p 0) + u
     ≡ demandOf (c .plan .slots) (c .plan .starts) (c .plan .ends))
 
--- and of the paper, "Bytes past the list's end or the needed length always stay": owners past the slots, minutes past the people, answers
--- past the draws, and each bit of the sets that is no slot of a person
-pub record PastKept (C : Component) (c : Call) : Type 0 where
-  pub owners : (k : ℕ) → c .plan .slots ≤ k → after C c k ≡ before c k
-  pub minutes : (p : ℕ) → c .plan .people ≤ p → getD (C .play c .derived .minutes) p 0 ≡ getD (c .derived .minutes) p 0
-  pub answers : (k : ℕ) → c .count ≤ k → getD (C .play c .answers) k 0 ≡ getD (c .answers) k 0
-  pub sets : (i : ℕ) → ((p k : ℕ) → p < c .plan .people → k < c .plan .slots → i ≡ 1024 * p + k → ⊥)
-      → slot (C .play c .derived .sets) 0 i ≡ slot (c .derived .sets) 0 i
-
+-- and of the paper, bytes past the list's end or the needed length stay: those of the rota, and answers past the draws
 abbrev pub PastStays : Component → Type 0
-PastStays C = (c : Call) → noOf c ≡ 0 → PastKept C c
+PastStays C =
+    (c : Call) → noOf c ≡ 0
+    → PastKept (c .plan .people) (c .plan .slots) (c .owners) (c .derived) (C .play c)
+    × ((k : ℕ) → c .count ≤ k → getD (C .play c .answers) k 0 ≡ getD (c .answers) k 0)
 
 -- "and a list played in two calls ends as in one"
 
