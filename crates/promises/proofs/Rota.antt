@@ -1,22 +1,22 @@
 -- Demand 3, sentence by sentence, by the laws of rota. Assumes nothing.
 use mathlib.Core.Path.{_≡_, sym, ap, ap₂, _∙_}
 use mathlib.Core.Bool.{Bool, true, cond}
-use mathlib.Core.List.{List, [], _++_, append-assoc}
-use Prim.Native.Nat.{ℕ, _+_, _*_, _/_, _%_, _≤_, _<_}
+use mathlib.Core.List.{List, _++_, append-assoc}
+use Prim.Native.Nat.{ℕ, _+_, _*_, _≤_, _<_}
 use native.Mathlib.Omega.{arith}
-use borrow.Author.Tests.{le-leb, leb-true, lt-ltb}
+use borrow.Author.Tests.{le-leb, leb-true}
 use lib.Dec.{leb, eqb}
-use lib.ListN.{length, getD, take, drop, replicate, length-append, length-drop}
-use lib.Seq.{getD-take, getD-drop, take-at, drop-at, drop-drop}
+use lib.ListN.{length, getD, take, drop, length-append, length-drop}
+use lib.Seq.{take-at, drop-at, drop-drop}
 use Rattle.paper.specs.Count.{all, sum, count, onto}
 use Rattle.paper.specs.Limits.{peopleOk, slotCountOk, orElse, countsOk}
-use Rattle.paper.specs.Bits.{bitOf}
 use Rattle.paper.proofs.Logic.{both, five, and-true, slot-count-says}
 use Rattle.paper.proofs.Count.{each-all, sum-same}
 use Rattle.slotset.specs.declared.SlotSet.{SlotSet}
 use Rattle.slotset.specs.declared.Counted.the-variants as counted
 use Rattle.slotset.specs.Slots.{slot, size}
 use Rattle.slotset.specs.Answers.{lenNo, rowNo, countedAs, loadOf}
+use Rattle.slotset.proofs.Refusals.{says-row}
 use Rattle.slots.specs.Lent.{slotRoomOk, demandOf}
 use Rattle.rota.specs.declared.Figure.the-variants.{Is}
 use Rattle.rota.specs.Moves.{Draw}
@@ -34,8 +34,8 @@ use Rattle.promises.specs.Entries.{Call, built, noOf, playOf, afreshIn, 
 use Rattle.promises.specs.Rota.{EndsAfresh, FrozenKeep, OwnersAvailable, CoveredStays, OnlyHandedOver, Recounts, AddsUp, after}
 use Rattle.promises.specs.Rota.{SizesRecount, PastStays, firstCall, nextCall, secondCall, Words, InTwo, TwoCalls}
 use Rattle.promises.specs.Empty.{ActsByRule}
-use Rattle.promises.specs.SetRefusals.{rowTable}
 use Rattle.promises.proofs.Table.{all-pass}
+use Rattle.promises.proofs.SetRules.{row-slot, load-is}
 use Rattle.promises.proofs.RotaRefusals.{refused-set, uncoveredTable}
 use Rattle.promises.proofs.Calls.{accepted-is, Accepted, accepted-says, says-accepted}
 
@@ -136,15 +136,6 @@ adds-up c e =
 
 -- ---- the count of a person's set
 
--- a person's row as a set by value has its slots
-row-slot : (ws : List ℕ) (p k : ℕ) → k < 1024 → slot (take 16 (drop (16 * p) ws)) 0 k ≡ slot ws (16 * p) k
-unfolding slot
-row-slot ws p k h =
-    let w : 0 + k / 64 < 16 = omega arith in
-    let e : 16 * p + (0 + k / 64) ≡ 16 * p + k / 64 = omega arith in
-    ap (λ (x : ℕ). bitOf x (k % 64))
-    (getD-take 16 (drop (16 * p) ws) (0 + k / 64) 0 w ∙ getD-drop (16 * p) ws (0 + k / 64) 0 ∙ ap (λ (j : ℕ). getD ws j 0) e)
-
 module _ (people slots : ℕ) (ws : List ℕ) (p : ℕ) (e : countsOk people slots ≡ true) (room : 16 * people ≤ length ws) (h : p < people) where
   abbrev row : SlotSet
   row = record { words = take 16 (drop (16 * p) ws); len = slots }
@@ -153,26 +144,20 @@ module _ (people slots : ℕ) (ws : List ℕ) (p : ℕ) (e : countsOk people slo
   unfolding countsOk
   counts = both (peopleOk people) (slotCountOk slots) e
 
-  few : leb slots 1024 ≡ true
-  few = le-leb slots 1024 (slot-count-says slots (counts .1) .1)
+  few : slots ≤ 1024
+  few = slot-count-says slots (counts .1) .1
 
   row-none : rowNo ws people p slots ≡ 0
-  unfolding rowNo
-  row-none =
-      all-pass (rowTable ws people p slots [])
-      (and-true _ _ (counts .0) few, (le-leb (16 * people) (length ws) room, (lt-ltb p people h, tt)))
+  row-none = says-row ws people p slots (counts .0) few room h
 
   row-is : slotsOfIs people slots ws p .set ≡ row
-  unfolding slotsOfIs loadOf
+  unfolding slotsOfIs
   row-is =
-      ap (λ (b : Bool). cond b (loadOf ws people p slots) refused-set .set) (counts .1)
-      ∙ ap {B = SlotSet}
-      (λ (n : ℕ). record { words = cond (eqb n 0) (take 16 (drop (16 * p) ws)) (replicate 16 0); len = cond (eqb n 0) slots 0 })
-      row-none
+      ap (λ (b : Bool). cond b (loadOf ws people p slots) refused-set .set) (counts .1) ∙ load-is ws people p slots row-none
 
   row-size : built .size row ≡ counted.Is (sum slots (slot (take 16 (drop (16 * p) ws)) 0))
   unfolding countedAs lenNo size
-  row-size = ap (λ (b : Bool). countedAs (orElse b 1 0) (sum slots (slot (take 16 (drop (16 * p) ws)) 0))) few
+  row-size = ap (λ (b : Bool). countedAs (orElse b 1 0) (sum slots (slot (take 16 (drop (16 * p) ws)) 0))) (le-leb slots 1024 few)
 
   -- of a rota whose sets are right
   size-is : (o : List ℕ) → ((k : ℕ) → k < slots → slot ws (16 * p) k ≡ held o p k)
@@ -181,7 +166,7 @@ module _ (people slots : ℕ) (ws : List ℕ) (p : ℕ) (e : countsOk people slo
   size-is o right =
       ap (built .size) row-is ∙ row-size
       ∙ ap counted.Is (sum-same slots (slot (take 16 (drop (16 * p) ws)) 0) (held o p)
-      (λ k b. row-slot ws p k (omega (arith, leb-true slots 1024 few)) ∙ right k b))
+      (λ k b. row-slot ws p k (omega (arith, few)) ∙ right k b))
 
 pub sizes-recounted : SizesRecount built
 sizes-recounted c e p h =
