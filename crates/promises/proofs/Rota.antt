@@ -1,5 +1,5 @@
 -- Demand 3, sentence by sentence, by the laws of rota. Assumes nothing.
-use mathlib.Core.Path.{_≡_, sym, ap, ap₂, _∙_}
+use mathlib.Core.Path.{_≡_, refl, sym, ap, ap₂, _∙_}
 use mathlib.Core.Bool.{Bool, true, cond}
 use mathlib.Core.List.{List, _++_, append-assoc}
 use Prim.Native.Nat.{ℕ, _+_, _*_, _≤_, _<_}
@@ -31,7 +31,7 @@ use Rattle.rota.proofs.Promises.{frozen-slots-keep, covered-stays, only-handed-
 use Rattle.rota.proofs.Promises.{owners-past-stay, derived-past-stay, answers-past-stay}
 use Rattle.rota.proofs.Promises.{minutes-and-uncovered, two-calls-owners, two-calls-answers, two-calls-derived}
 use Rattle.promises.specs.Entries.{Call, built, noOf, playOf, afreshIn, boardIn, ownersIn, drawsIn}
-use Rattle.promises.specs.Rota.{EndsAfresh, FrozenKeep, OwnersAvailable, CoveredStays, OnlyHandedOver, Recounts, AddsUp, after}
+use Rattle.promises.specs.Rota.{EndsAfresh, DrawsAlike, FrozenKeep, OwnersAvailable, CoveredStays, OnlyHandedOver, Recounts, AddsUp, after}
 use Rattle.promises.specs.Rota.{SizesRecount, PastStays, firstCall, nextCall, secondCall, Words, InTwo, TwoCalls}
 use Rattle.promises.specs.Empty.{ActsByRule}
 use Rattle.promises.proofs.Table.{all-pass}
@@ -41,6 +41,9 @@ use Rattle.promises.proofs.Calls.{accepted-is, Accepted, accepted-says,
 
 pub ends-afresh : EndsAfresh built
 ends-afresh = accepted-is
+
+pub draws-alike : DrawsAlike
+draws-alike c ds = refl
 
 -- what an accepted call was asked
 module _ (c : Call) (e : noOf c ≡ 0) where

@@ -27,6 +27,9 @@ use Rattle.rota.specs.Moves.{Draw}
 use Rattle.rota.specs.Plays.{drawsOf, ownersAfter, answers}
 use Rattle.rota.specs.Derived.{Plan, Derived, afresh}
 use Rattle.rota.specs.Entries as rota
+use Rattle.draws.specs.declared.Draw as struct
+use Rattle.draws.specs.Columns.{kinds, ones, twos}
+use Rattle.draws.specs.Played.{playedDraws}
 
 -- ---- a call of play
 
@@ -65,6 +68,28 @@ drawsIn c = drawsOf (c .kinds) (c .ones) (c .twos) (c .count)
 
 abbrev pub ownersIn : Call → List ℕ
 ownersIn c = ownersAfter (boardIn c) (c .owners) (drawsIn c)
+
+-- the same call, of a list of draws: its three columns
+abbrev pub ofDraws : Call → List struct.Draw → Call
+ofDraws c ds = record {
+  plan = c .plan;
+  avail = c .avail;
+  units = c .units;
+  firsts = c .firsts;
+  frozen = c .frozen;
+  count = c .count;
+  kinds = kinds ds;
+  ones = ones ds;
+  twos = twos ds;
+  owners = c .owners;
+  derived = c .derived;
+  answers = c .answers;
+}
+
+-- what it comes to by the entry that takes the list
+abbrev pub playDrawsOf : Call → List struct.Draw → rota.Outcome
+playDrawsOf c ds =
+    playedDraws (c .plan) (c .avail) (c .units) (c .firsts) (c .frozen) (c .count) ds (c .owners) (c .derived) (c .answers)
 
 -- the same call, on another rota
 abbrev pub onRota : Call → List ℕ → Derived → Call

@@ -31,7 +31,8 @@ use Rattle.rota.specs.Derived.{Plan, Derived, knownBy}
 use Rattle.rota.specs.Recount.{availableFor, knownAt, availableAt, recounts}
 use Rattle.rota.specs.Entries as rota
 use Rattle.rota.specs.Entries.{figureNo}
-use Rattle.promises.specs.Entries.{Call, playOf}
+use Rattle.draws.specs.declared.Draw.{Draw}
+use Rattle.promises.specs.Entries.{Call, playOf, ofDraws, playDrawsOf}
 use Rattle.promises.specs.Table.{Rule, Row, row, rules, Hears, Refuses, toldNo, countedNo, numberNo}
 
 -- ---- slots
@@ -235,6 +236,10 @@ pub record RotaRefuses : Type 0 where
       → Hears (rotaTable P avail o D (row 10 (recounts P avail 0 [] o D) ∷ [])) (rota.recountSlotsNo P avail o D)
   pub play : (c : Call)
       → let y = playOf c in Refuses {A = Lent} (rules (playTable c)) (y .number) (c .owners, c .derived, c .answers) (left y)
+  -- of draws in a list of structs
+  pub play-draws : (c : Call) (ds : List Draw)
+      → let y = playDrawsOf c ds in
+      Refuses {A = Lent} (rules (playTable (ofDraws c ds))) (y .number) (c .owners, c .derived, c .answers) (left y)
   pub empty : (people slots : ℕ) (o : List ℕ) (D : Derived)
       → let y = rota.emptied people slots o D in Refuses {A = Lent} (rules (emptyTable people slots o D)) (y .number) (o, D, []) (left y)
   pub owner-of-slot : (people slots : ℕ) (o : List ℕ) (k : ℕ)

@@ -16,12 +16,17 @@ use Rattle.rota.specs.Plays.{touched}
 use Rattle.rota.specs.Derived.{knownBy}
 use Rattle.rota.specs.Recount.{availableFor, recounts}
 use Rattle.rota.specs.Entries.{Outcome, slotsOfIs}
-use Rattle.promises.specs.Entries.{Call, Component, noOf, afreshIn, boardIn, drawsIn}
+use Rattle.draws.specs.declared.Draw.{Draw}
+use Rattle.promises.specs.Entries.{Call, Component, noOf, playOf, ofDraws, playDrawsOf, afreshIn, boardIn, drawsIn}
 use Rattle.promises.specs.RotaRules.{PastKept}
 
 -- "From any rota that passes the recount, any accepted list of draws ends in the rota that the rules give worked out afresh."
 abbrev pub EndsAfresh : Component → Type 0
 EndsAfresh C = (c : Call) → noOf c ≡ 0 → C .play c ≡ afreshIn c
+
+-- a list of draws in structs ends as its three columns do, so that each sentence holds of it too
+abbrev pub DrawsAlike : Type 0
+DrawsAlike = (c : Call) (ds : List Draw) → playDrawsOf c ds ≡ playOf (ofDraws c ds)
 
 -- the owner of slot k before the call, and after it
 abbrev pub before : Call → ℕ → ℕ
