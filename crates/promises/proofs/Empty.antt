@@ -27,7 +27,7 @@ use Rattle.rota.specs.Board.{ownerOf, unowned}
 use Rattle.rota.specs.Lent.{fitsUnit, frozenUnit}
 use Rattle.rota.specs.Moves.{anyOf, decided, swapped, reassigned, picked, domainOf}
 use Rattle.rota.specs.Plays.{step, ownersAfter, drawsOf}
-use Rattle.rota.specs.Derived.{knownBy, portion, worked, held, setsFrom, afresh}
+use Rattle.rota.specs.Derived.{Plan, Derived, knownBy, portion, worked, held, setsFrom, afresh}
 use Rattle.rota.specs.Recount.{knownAt, availableFor, availableAt, evenAt, setSlotAt, setAt, minutesOkAt, recounts}
 use Rattle.rota.specs.Entries as rota
 use Rattle.rota.proofs.Entered.{recount-says}
@@ -42,6 +42,7 @@ use Rattle.promises.proofs.Table.{one-heard}
 use Rattle.promises.proofs.Calls.{accepted-is, accepted-says}
 use Rattle.promises.proofs.TwoUnits.{accepted, apart-recounts}
 use Rattle.promises.proofs.RotaRefusals.{rota-refuses}
+use Rattle.promises.proofs.Rota.{asks, told-total}
 
 -- nothing past what is needed, and these answers
 abbrev spare : List ℕ → Spare
@@ -116,9 +117,11 @@ fixed-answer-falls C (fixed-play f) M =
 
 -- ---- doing nothing
 
-pub doing-nothing-keeps : (C : Component) → DoesNothing C → FrozenKeep C × OwnersAvailable C × CoveredStays C
+-- the total too, where the uncovered minutes are told as they are
+pub doing-nothing-keeps : (C : Component) → DoesNothing C
+    → FrozenKeep C × OwnersAvailable C × CoveredStays C × (((P : Plan) (o : List ℕ) → C .uncovered P o ≡ built .uncovered P o) → AddsUp C)
 doing-nothing-keeps C f =
-    let same : (c : Call) (k : ℕ) → after C c k ≡ getD (c .owners) k 0 = λ c k. ap (λ (o : List ℕ). getD o k 0) (f c) in (
+    let same : (c : Call) (k : ℕ) → after C c k ≡ getD (c .owners) k 0 = λ c k. ap (λ (o : List ℕ). getD o k 0) (f .owners c) in (
       λ c e k h z. same c k,
       λ c e k h.
           let r = recount-says (c .plan) (c .avail) (c .units) (c .firsts) (c .owners) (c .derived) (accepted-says c e .recount) in (
@@ -126,6 +129,12 @@ doing-nothing-keeps C f =
             ap (λ (w : ℕ). availableFor (c .avail) w k) (same c k) ∙ r .free k h,
           ),
       λ c e k h owned now. owned (sym (same c k) ∙ now),
+      λ tells c e.
+          let t = told-total c e (c .owners) (c .derived) (asks c e .grounds .on .room .owners-room) (accepted-says c e .recount) in (
+            t .0,
+            tells (c .plan) (C .play c .owners) ∙ ap (built .uncovered (c .plan)) (f .owners c) ∙ t .1,
+            ap (λ (D : Derived). sum (c .plan .people) (λ p. getD (D .minutes) p 0) + t .0) (f .derived c) ∙ t .2,
+          ),
     )
 
 -- owners 0 and 1, nothing frozen, the swap of both units: it acts
@@ -145,7 +154,7 @@ swap-acts = refl
 pub doing-nothing-falls : (C : Component) → DoesNothing C → ActsByRule C → ⊥
 doing-nothing-falls C f g =
     let first : List ℕ → ℕ = λ o. getD o 0 0 in
-    let z : _≡_ {A = ℕ} 0 1 = ap first (sym (f swap) ∙ g swap swap-accepted ∙ swap-acts) in omega arith
+    let z : _≡_ {A = ℕ} 0 1 = ap first (sym (f .owners swap) ∙ g swap swap-accepted ∙ swap-acts) in omega arith
 
 -- ---- playing only the first draw
 

@@ -21,7 +21,7 @@ use Rattle.slots.specs.Lent.{slotRoomOk, demandOf}
 use Rattle.rota.specs.declared.Figure.the-variants.{Is}
 use Rattle.rota.specs.Moves.{Draw}
 use Rattle.rota.specs.Plays.{drawsOf, ownersAfter, answers}
-use Rattle.rota.specs.Derived.{knownBy, uncovered, held, afresh}
+use Rattle.rota.specs.Derived.{Derived, knownBy, uncovered, held, afresh}
 use Rattle.rota.specs.Recount.{availableFor, knownAt, recounts}
 use Rattle.rota.specs.Entries.{Outcome, roomOk, uncoveredIs, figureAs, ground, slotsOfIs}
 use Rattle.rota.proofs.Entered.{PlayAsks, play-asks, recount-says}
@@ -102,39 +102,42 @@ recounted c e =
 
 -- ---- the total
 
-module _ (c : Call) (e : noOf c ≡ 0) where
-  room-after : leb (c .plan .slots) (length (ownersIn c)) ≡ true
-  room-after =
-      le-leb (c .plan .slots) (length (ownersIn c))
-      (omega (arith, asks c e .grounds .on .room .owners-room, play-length (boardIn c) (c .owners) (drawsIn c)))
-
-  known-after : all (c .plan .slots) (knownAt (c .plan .people) (ownersIn c)) ≡ true
+-- of any owners, sets and minutes that pass the recount
+module _ (c : Call) (e : noOf c ≡ 0) (o : List ℕ) (D : Derived) (room : c .plan .slots ≤ length o)
+    (right : recounts (c .plan) (c .avail) (c .units) (c .firsts) o D ≡ true) where
+  all-known : all (c .plan .slots) (knownAt (c .plan .people) o) ≡ true
   unfolding knownAt
-  known-after =
-      each-all (c .plan .slots) (λ k. knownBy (c .plan .people) (getD (ownersIn c) k 0))
-      (recount-says (c .plan) (c .avail) (c .units) (c .firsts) (ownersIn c) (afresh (c .plan) (ownersIn c) (c .derived))
-      (afresh-recounts c e) .known)
+  all-known =
+      each-all (c .plan .slots) (λ k. knownBy (c .plan .people) (getD o k 0))
+      (recount-says (c .plan) (c .avail) (c .units) (c .firsts) o D right .known)
 
-  told : uncoveredIs (c .plan) (ownersIn c) ≡ Is (uncovered (c .plan) (ownersIn c))
+  told : uncoveredIs (c .plan) o ≡ Is (uncovered (c .plan) o)
   unfolding uncoveredIs figureAs roomOk ground
   told =
       let A = accepted-says c e in
       let r = both (slotRoomOk (c .plan .slots) (c .plan .starts) (c .plan .ends)) _ (A .room) in
-      ap (λ (n : ℕ). figureAs n (uncovered (c .plan) (ownersIn c)))
-      (all-pass (uncoveredTable (c .plan) (ownersIn c)) (A .counts, (and-true _ _ (r .0) room-after, (A .slots, (known-after, tt)))))
+      ap (λ (n : ℕ). figureAs n (uncovered (c .plan) o))
+      (all-pass (uncoveredTable (c .plan) o)
+      (A .counts, (and-true _ _ (r .0) (le-leb (c .plan .slots) (length o) room), (A .slots, (all-known, tt)))))
 
-  total : sum (c .plan .people) (λ p. getD (afresh (c .plan) (ownersIn c) (c .derived) .minutes) p 0) + uncovered (c .plan) (ownersIn c)
-      ≡ demandOf (c .plan .slots) (c .plan .starts) (c .plan .ends)
-  total =
-      minutes-and-uncovered (c .plan) (asks c e .grounds .on .sound) (c .avail) (c .units) (c .firsts) (ownersIn c)
-      (afresh (c .plan) (ownersIn c) (c .derived)) (afresh-recounts c e)
+  pub told-total : (u : ℕ) × (uncoveredIs (c .plan) o ≡ Is u)
+      × (sum (c .plan .people) (λ p. getD (D .minutes) p 0) + u ≡ demandOf (c .plan .slots) (c .plan .starts) (c .plan .ends))
+  told-total = (
+    uncovered (c .plan) o,
+    told,
+    minutes-and-uncovered (c .plan) (asks c e .grounds .on .sound) (c .avail) (c .units) (c .firsts) o D right,
+  )
+
+owners-room : (c : Call) → noOf c ≡ 0 → c .plan .slots ≤ length (ownersIn c)
+owners-room c e = omega (arith, asks c e .grounds .on .room .owners-room, play-length (boardIn c) (c .owners) (drawsIn c))
 
 pub adds-up : AddsUp built
 adds-up c e =
-    let q = accepted-is c e in (
-      uncovered (c .plan) (ownersIn c),
-      ap (λ (y : Outcome). uncoveredIs (c .plan) (y .owners)) q ∙ told c e,
-      ap (λ (y : Outcome). sum (c .plan .people) (λ p. getD (y .derived .minutes) p 0) + uncovered (c .plan) (ownersIn c)) q ∙ total c e,
+    let q = accepted-is c e in
+    let t = told-total c e (ownersIn c) (afreshIn c .derived) (owners-room c e) (afresh-recounts c e) in (
+      t .0,
+      ap (λ (y : Outcome). uncoveredIs (c .plan) (y .owners)) q ∙ t .1,
+      ap (λ (y : Outcome). sum (c .plan .people) (λ p. getD (y .derived .minutes) p 0) + t .0) q ∙ t .2,
     )
 
 -- ---- the count of a person's set
@@ -253,7 +256,7 @@ module _ (c : Call) (n m : ℕ) (s : c .count ≡ n + m) (e : noOf c ≡ 0) (f :
       let r = five (slotRoomOk (c .plan .slots) (c .plan .starts) (c .plan .ends)) (leb (16 * c .plan .people) (length (c .avail)))
       (leb (c .plan .slots) (length (c .owners))) (leb (16 * c .plan .people) (length (c .derived .sets)))
       (leb (c .plan .people) (length (c .derived .minutes))) (A .room) in
-      and-true _ _ (r .0) (and-true _ _ (r .1) (and-true _ _ (room-after one first-accepted)
+      and-true _ _ (r .0) (and-true _ _ (r .1) (and-true _ _ (le-leb _ _ (owners-room one first-accepted))
       (and-true _ _ (ap (leb (16 * c .plan .people)) (l .0) ∙ r .3) (ap (leb (c .plan .people)) (l .1) ∙ r .4))))
 
   abbrev said : List ℕ

@@ -2,8 +2,8 @@
 use mathlib.Core.Path.{_≡_, refl, sym, ap, ap₂, _∙_, subst}
 use mathlib.Core.Bool.{Bool, cond}
 use mathlib.Core.List.{List, [], _∷_}
-use mathlib.Core.Logic.{_↔_, ⊎-elim}
-use Prim.Native.Nat.{ℕ, suc, _+_, _-_, _*_, _/_, _%_, _≤_, _<_}
+use mathlib.Core.Logic.{_↔_, inr, ⊎-elim}
+use Prim.Native.Nat.{ℕ, zero, suc, _+_, _-_, _*_, _/_, _%_, _≤_, _<_}
 use native.Mathlib.Omega.{arith}
 use borrow.Author.Tests.{eq-eqb, ne-eqb, le-leb, lt-ltb}
 use lib.Dec.{eqb}
@@ -25,7 +25,7 @@ use Rattle.slotset.specs.declared.NextMember.the-variants as nextMember
 use Rattle.slotset.specs.declared.Counted.the-variants as counted
 use Rattle.slotset.specs.Slots.{slot, putSlot, putSlots, has, Member, size, noMember}
 use Rattle.slotset.specs.Search.{nextWith, lastBelow, nextSet, First, Last}
-use Rattle.slotset.specs.Runs.{firstOfRun, lastOfRun, endOf, Ends, allRuns, AreRuns, InRuns}
+use Rattle.slotset.specs.Runs.{firstOfRun, lastOfRun, endOf, Ends, whenFound, runs, allRuns, AreRuns, InRuns}
 use Rattle.slotset.specs.Answers.{lenNo, slotNo, stretchNo, rowNo, rowStretchNo, slotsOf, rowSlots, foundAs, toldAs, runAs, countedAs}
 use Rattle.slotset.specs.Answers.{runStep, nextRunAs, memberStep, nextMemberAs, changedAs, newOf, putOf, stretchOf, loadOf, wordsAs}
 use Rattle.slotset.specs.Answers.{storeOf, rowStretchOf}
@@ -34,7 +34,9 @@ use Rattle.slotset.proofs.Refusals.{slot-says, stretch-says, row-says, row-stre
 use Rattle.slotset.proofs.Meaning.{next-is, next-unique, last-is, last-unique, next-same, last-same}
 use Rattle.slotset.proofs.Members.{size-members, put-here, put-elsewhere, size-same, none-same, has-same, all-runs-same}
 use Rattle.slotset.proofs.Runs.{has-member, member-has, run-around, around-unique, runs-are, runs-unique, runs-hold, runs-only, run-same}
-use Rattle.promises.specs.SetRules.{TheOne, Bits, RunIs, Put, Changes, firstOf, SameAnswers, SetsByRule}
+use Rattle.runs.specs.Listed.{listNo, column, allRunsOf}
+use Rattle.runs.proofs.Listing.{list-says, column-at, column-stays}
+use Rattle.promises.specs.SetRules.{TheOne, Bits, RunIs, Put, Changes, firstOf, FrontOf, SameAnswers, SetsByRule}
 
 next-found : (v : ℕ) (f : ℕ → ℕ) (len from : ℕ) → TheOne (First v f len from) (foundAs 0 (nextWith v f len from))
 unfolding foundAs
@@ -137,6 +139,48 @@ module _ (f : ℕ → ℕ) (len at : ℕ) where
       run-at (At (r .first)) (x .0, omega (arith, x .1, x .2), x .4 (r .first) (omega arith) (x .1), x .3)
       ∙ ap (λ (e : ℕ). nextRun.Span (r .first) e (record { at = e + 1 }))
       (run-end bits (r .first) (r .last) (x .1) (x .2) (x .4) (x .5))
+
+-- ---- all runs, listed
+
+-- no more runs than were asked for
+runs-few : (f : ℕ → ℕ) (len n at : ℕ) → length (runs n f len at) ≤ n
+unfolding runs
+runs-few f len zero at = omega arith
+runs-few f len (suc n) at = found-few (runs-few f len n) (nextSet f len at)
+  where
+    found-few : ((i : ℕ) → length (runs n f len i) ≤ n) → (x : Found)
+        → length (whenFound x (λ lo. record { first = lo; last = lastOfRun f len lo } ∷ runs n f len (lastOfRun f len lo + 1))) ≤ suc n
+    found-few few (At lo) = omega (arith, few (lastOfRun f len lo + 1))
+    found-few few Nothing = omega arith
+    found-few few (Refused k) = omega arith
+
+front-of : (end : Ends → ℕ) (l : List Ends) (n : ℕ) (c : List ℕ) → n ≡ 0 → length l ≤ length c
+    → FrontOf end l c (wordsAs n c (column end l 0 c))
+unfolding wordsAs
+front-of end l n c e room =
+    let q : cond (eqb n 0) (column end l 0 c) c ≡ column end l 0 c = ap (λ (x : ℕ). cond (eqb x 0) (column end l 0 c) c) e in
+    record {
+      each = λ k none h.
+          let j : k ≡ 0 + k = omega arith in
+          ap₂ (λ (x : List ℕ) (i : ℕ). getD x i 0) q j ∙ column-at end l 0 k c none h (omega arith);
+      past = λ k h. ap (λ (x : List ℕ). getD x k 0) q ∙ column-stays end l 0 k c (inr (omega arith));
+    }
+
+all-runs-listed : (ws : List ℕ) (people person len : ℕ) (firsts lasts : List ℕ)
+    → listNo ws people person len (length firsts) (length lasts) ≡ 0
+    → let x = allRunsOf ws people person len firsts lasts in
+    let l = allRuns (rowSlots ws person) len in
+    (x .answer ≡ counted.Is (length l)) × FrontOf (λ r. r .first) l firsts (x .firsts) × FrontOf (λ r. r .last) l lasts (x .lasts)
+unfolding countedAs
+all-runs-listed ws people person len firsts lasts e =
+    let l = allRuns (rowSlots ws person) len in
+    let n = listNo ws people person len (length firsts) (length lasts) in
+    let few = runs-few (rowSlots ws person) len len 0 in
+    let r = list-says ws people person len (length firsts) (length lasts) e in (
+      ap (λ (x : ℕ). countedAs x (length l)) e,
+      front-of (λ r. r .first) l n firsts e (omega (arith, few, r .1 .0)),
+      front-of (λ r. r .last) l n lasts e (omega (arith, few, r .1 .1)),
+    )
 
 -- ---- writes
 
@@ -334,6 +378,7 @@ sets-by-rule = record {
   next-member = λ f len at i w. member-at f len at (At i) w;
   no-member = λ f len at w. member-at f len at Nothing w;
   runs = runs-found;
+  all-runs = all-runs-listed;
   runs-hold = runs-members;
   count = counted-members;
   new = new-empty;

@@ -38,8 +38,9 @@ pub data FixedAnswer (C : Component) : Type 0 where
   fixed-play : ((c d : Call) → C .play c ≡ C .play d) → FixedAnswer C
 
 -- "Doing nothing keeps the frozen, availability and total parts of demand 3, so those rest on demand 2's rule for when a draw acts."
-abbrev pub DoesNothing : Component → Type 0
-DoesNothing C = (c : Call) → C .play c .owners ≡ c .owners
+pub record DoesNothing (C : Component) : Type 0 where
+  pub owners : (c : Call) → C .play c .owners ≡ c .owners
+  pub derived : (c : Call) → C .play c .derived ≡ c .derived
 
 -- demand 2's rule, of a whole list: its owners are those that the rules of the draws give
 abbrev pub ActsByRule : Component → Type 0

@@ -21,6 +21,7 @@ use Rattle.slotset.specs.Search.{nextWith, lastBelow, nextSet, prevSet, nextUns
 use Rattle.slotset.specs.Runs.{RunAround, Ends, allRuns, AreRuns, InRuns}
 use Rattle.slotset.specs.Answers.{lenNo, slotNo, stretchNo, rowNo, rowStretchNo, slotsOf, rowSlots, foundAs, toldAs, runAs, countedAs}
 use Rattle.slotset.specs.Answers.{nextRunAs, nextMemberAs, newOf, putOf, stretchOf, loadOf, storeOf, rowStretchOf}
+use Rattle.runs.specs.Listed.{listNo, allRunsOf}
 
 -- x meets a statement, and nothing else does
 pub record TheOne {A : Type 0} (Meets : A → Type 0) (x : A) : Type 0 where
@@ -51,6 +52,11 @@ pub record Changes (v : ℕ → ℕ) (from n : ℕ) (s t : SlotSet) : Type 0 whe
 abbrev pub firstOf : List Ends → NextRun
 firstOf [] = nextRun.Done
 firstOf (r ∷ rs) = nextRun.Span (r .first) (r .last) (record { at = r .last + 1 })
+
+-- one end of each run of a list at the front of a column, in order, and past them the column as it was
+pub record FrontOf (end : Ends → ℕ) (l : List Ends) (before after : List ℕ) : Type 0 where
+  pub each : (k : ℕ) (none : Ends) → k < length l → getD after k 0 ≡ end (getD l k none)
+  pub past : (k : ℕ) → length l ≤ k → getD after k 0 ≡ getD before k 0
 
 -- two sets of one length have the same answers
 pub record SameAnswers (f g : ℕ → ℕ) (len : ℕ) : Type 0 where
@@ -91,6 +97,12 @@ pub record SetsByRule : Type 0 where
   pub no-member : (f : ℕ → ℕ) (len at : ℕ) → First 1 f len at Nothing → nextMemberAs 0 f len at ≡ nextMember.Done
   -- "Runs come out ascending": the reader's whole list, which holds every member and nothing else
   pub runs : (f : ℕ → ℕ) → Bits f → (len : ℕ) → TheOne (AreRuns f len 0) (allRuns f len)
+  -- as all_runs lists them: their number, their first and last slots at the front of two columns, the rest of which stays
+  pub all-runs : (ws : List ℕ) (people person len : ℕ) (firsts lasts : List ℕ)
+      → listNo ws people person len (length firsts) (length lasts) ≡ 0
+      → let x = allRunsOf ws people person len firsts lasts in
+      let l = allRuns (rowSlots ws person) len in
+      (x .answer ≡ counted.Is (length l)) × FrontOf (λ r. r .first) l firsts (x .firsts) × FrontOf (λ r. r .last) l lasts (x .lasts)
   pub runs-hold : (f : ℕ → ℕ) → Bits f → (len k : ℕ) → InRuns k (allRuns f len) ↔ Member f len k
   -- the size is the number of members
   pub count : (f : ℕ → ℕ) → Bits f → (len : ℕ) → countedAs 0 (size f len) ≡ counted.Is (length (among (λ k. eqb (f k) 1) len))
