@@ -31,8 +31,8 @@ use Rattle.rota.proofs.Promises.{frozen-slots-keep, covered-stays, only-handed-
 use Rattle.rota.proofs.Promises.{owners-past-stay, derived-past-stay, answers-past-stay}
 use Rattle.rota.proofs.Promises.{minutes-and-uncovered, two-calls-owners, two-calls-answers, two-calls-derived}
 use Rattle.promises.specs.Entries.{Call, built, noOf, playOf, afreshIn, boardIn, ownersIn, drawsIn}
-use Rattle.promises.specs.Rota.{EndsAfresh, DrawsAlike, FrozenKeep, OwnersAvailable, CoveredStays, OnlyHandedOver, Recounts, AddsUp, after}
-use Rattle.promises.specs.Rota.{SizesRecount, PastStays, firstCall, nextCall, secondCall, Words, InTwo, TwoCalls}
+use Rattle.promises.specs.Rota.{EndsAfresh, DrawsAlike, FrozenKeep, OwnersAvailable, CoveredStays, OnlyHandedOver, Recounts}
+use Rattle.promises.specs.Rota.{AddsUp, after, SizesRecount, PastStays, firstCall, nextCall, secondCall, Words, InTwo, TwoCalls}
 use Rattle.promises.specs.Empty.{ActsByRule}
 use Rattle.promises.proofs.Table.{all-pass}
 use Rattle.promises.proofs.SetRules.{row-slot, load-is}

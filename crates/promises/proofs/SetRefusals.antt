@@ -21,8 +21,8 @@ use Rattle.slotset.specs.Answers.{nextMemberAs, changedAs, newOf, putOf, stretc
 use Rattle.slotset.proofs.Meaning.{next-is, last-is}
 use Rattle.runs.specs.Listed.{listNo, column, runsOf, allRunsOf}
 use Rattle.promises.specs.Table.{Row, row, rules, Hears, Refuses, countedNo}
-use Rattle.promises.specs.SetRefusals.{foundNo, runNo, nextRunNo, nextMemberNo, lengthTable, slotTable, stretchTable, rowTable, runsTable}
-use Rattle.promises.specs.SetRefusals.{SetsRefuse}
+use Rattle.promises.specs.SetRefusals.{foundNo, runNo, nextRunNo, nextMemberNo, lengthTable, slotTable, stretchTable}
+use Rattle.promises.specs.SetRefusals.{rowTable, runsTable, SetsRefuse}
 use Rattle.promises.proofs.Table.{chain, rising, chain-heard, heard-as}
 use Rattle.promises.proofs.Refusals.{by-number, told-no, counted-no, stays}
 
