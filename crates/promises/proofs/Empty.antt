@@ -44,10 +44,10 @@ use Rattle.promises.specs.Table.{toldNo, countedNo, numberNo}
 use Rattle.promises.specs.SetRefusals.{foundNo, runNo}
 use Rattle.promises.specs.SetRules.{Bits}
 use Rattle.promises.specs.Rota.{EndsAfresh, FrozenKeep, OwnersAvailable, CoveredStays, AddsUp, SizesRecount, after, firstCall}
-use Rattle.promises.specs.Empty.{RefusesByTable, AlwaysRefuses, refuses-next, refuses-prev, refuses-run, refuses-size, refuses-atomise}
-use Rattle.promises.specs.Empty.{refuses-available, refuses-targets, refuses-rotations, refuses-play, refuses-uncovered, RunsHold}
-use Rattle.promises.specs.Empty.{FixedAnswer, fixed-next, fixed-prev, fixed-run, fixed-atomise, fixed-available, fixed-targets, fixed-rotations}
-use Rattle.promises.specs.Empty.{fixed-play, DoesNothing, ActsByRule, FirstDrawOnly, InventedCount, InventedUncovered}
+use Rattle.promises.specs.Empty.{RefusesByTable, AlwaysRefuses, refuses-next, refuses-prev, refuses-run, refuses-size}
+use Rattle.promises.specs.Empty.{refuses-atomise, refuses-available, refuses-targets, refuses-rotations, refuses-play}
+use Rattle.promises.specs.Empty.{refuses-uncovered, FixedAnswer, fixed-next, fixed-prev, fixed-run, fixed-atomise, fixed-available}
+use Rattle.promises.specs.Empty.{fixed-targets, fixed-rotations, fixed-play, RunsHold, DoesNothing, ActsByRule, FirstDrawOnly, InventedCount, InventedUncovered}
 use Rattle.promises.proofs.Table.{one-heard}
 use Rattle.promises.proofs.Calls.{accepted-is, accepted-says}
 use Rattle.promises.proofs.TwoUnits.{accepted, apart-recounts}

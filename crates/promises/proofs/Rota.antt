@@ -1,16 +1,16 @@
 -- Demand 3, sentence by sentence, by the laws of rota. Assumes nothing.
 use mathlib.Core.Path.{_≡_, refl, sym, ap, ap₂, _∙_}
-use mathlib.Core.Bool.{Bool, true, cond}
-use mathlib.Core.List.{List, _++_, append-assoc}
-use Prim.Native.Nat.{ℕ, _+_, _*_, _≤_, _<_}
+use mathlib.Core.Bool.{Bool, true, false, cond, _&&_, _||_, or-assoc}
+use mathlib.Core.List.{List, [], _∷_, _++_, append-assoc}
+use Prim.Native.Nat.{ℕ, zero, suc, _+_, _*_, _≤_, _<_}
 use native.Mathlib.Omega.{arith}
-use borrow.Author.Tests.{le-leb, leb-true}
+use borrow.Author.Tests.{eqb-true, le-leb, leb-true}
 use lib.Dec.{leb, eqb}
 use lib.ListN.{length, getD, take, drop, length-append, length-drop}
 use lib.Seq.{take-at, drop-at, drop-drop}
 use Rattle.paper.specs.Count.{all, sum, count, onto}
 use Rattle.paper.specs.Limits.{peopleOk, slotCountOk, orElse, countsOk}
-use Rattle.paper.proofs.Logic.{both, five, and-true, slot-count-says}
+use Rattle.paper.proofs.Logic.{by-test, both, five, and-true, slot-count-says}
 use Rattle.paper.proofs.Count.{each-all, sum-same}
 use Rattle.slotset.specs.declared.SlotSet.{SlotSet}
 use Rattle.slotset.specs.declared.Counted.the-variants as counted
@@ -19,20 +19,24 @@ use Rattle.slotset.specs.Answers.{lenNo, rowNo, countedAs, loadOf}
 use Rattle.slotset.proofs.Refusals.{says-row}
 use Rattle.slots.specs.Lent.{slotRoomOk, demandOf}
 use Rattle.rota.specs.declared.Figure.the-variants.{Is}
-use Rattle.rota.specs.Moves.{Draw}
-use Rattle.rota.specs.Plays.{drawsOf, ownersAfter, answers}
+use Rattle.units.specs.Units.{unitOf}
+use Rattle.rota.specs.Board.{Board}
+use Rattle.rota.specs.Moves.{Draw, handed}
+use Rattle.rota.specs.Plays.{step, drawsOf, ownersAfter, answer, answers, touched}
 use Rattle.rota.specs.Derived.{Derived, knownBy, uncovered, held, afresh}
 use Rattle.rota.specs.Recount.{availableFor, knownAt, recounts}
 use Rattle.rota.specs.Entries.{Outcome, roomOk, uncoveredIs, figureAs, ground, slotsOfIs}
 use Rattle.rota.proofs.Entered.{PlayAsks, play-asks, recount-says}
 use Rattle.rota.proofs.Plays.{play-length, answers-length, draws-length}
 use Rattle.rota.proofs.Steps.{afresh-lengths}
+use Rattle.rota.proofs.Drawn.{draw-acts-exactly, handed-exactly}
 use Rattle.rota.proofs.Promises.{frozen-slots-keep, covered-stays, only-handed-over, owners-known, owners-available, played-recounts}
 use Rattle.rota.proofs.Promises.{owners-past-stay, derived-past-stay, answers-past-stay}
 use Rattle.rota.proofs.Promises.{minutes-and-uncovered, two-calls-owners, two-calls-answers, two-calls-derived}
 use Rattle.promises.specs.Entries.{Call, built, noOf, playOf, afreshIn, boardIn, ownersIn, drawsIn}
-use Rattle.promises.specs.Rota.{EndsAfresh, DrawsAlike, FrozenKeep, OwnersAvailable, CoveredStays, OnlyHandedOver, Recounts}
+use Rattle.promises.specs.Rota.{EndsAfresh, DrawsAlike, FrozenKeep, OwnersAvailable, CoveredStays, HandedAt, OnlyHandedOver, Recounts}
 use Rattle.promises.specs.Rota.{AddsUp, after, SizesRecount, PastStays, firstCall, nextCall, secondCall, Words, InTwo, TwoCalls}
+use Rattle.promises.specs.MoveRules.{drawAt, foundAt}
 use Rattle.promises.specs.Empty.{ActsByRule}
 use Rattle.promises.proofs.Table.{all-pass}
 use Rattle.promises.proofs.SetRules.{row-slot, load-is}
@@ -71,8 +75,41 @@ covered-stay c e k h owned now =
     covered-stays (c .plan) (c .avail) (c .units) (c .firsts) (c .frozen) (c .count) (c .kinds) (c .ones) (c .twos) (c .owners)
     (c .derived) (c .answers) (asks c e) (drawsIn c) k h owned (sym (owner-is c e k) ∙ now)
 
+-- ---- only what is handed over
+
+touched-append : (B : Board) (o : List ℕ) (ds es : List Draw) (u : ℕ)
+    → touched B o (ds ++ es) u ≡ touched B o ds u || touched B (ownersAfter B o ds) es u
+unfolding touched ownersAfter
+touched-append B o [] es u = refl
+touched-append B o (d ∷ ds) es u =
+    let a = eqb (answer B o d) 0 && handed B o d u in
+    ap (λ (b : Bool). a || b) (touched-append B (step B o d) ds es u)
+    ∙ sym (or-assoc a (touched B (step B o d) ds u) (touched B (ownersAfter B (step B o d) ds) es u))
+
+-- no draw before n hands unit u over: the list of those draws doesn't touch it
+untouched : (c : Call) (u n : ℕ) → ((i : ℕ) → i < n → HandedAt c i u → ⊥)
+    → touched (boardIn c) (c .owners) (drawsOf (c .kinds) (c .ones) (c .twos) n) u ≡ false
+unfolding drawsOf touched
+untouched c u zero f = refl
+untouched c u (suc n) f =
+    let B = boardIn c in
+    let o = foundAt c n in
+    let d = drawAt c n in
+    let last : touched B o (d ∷ []) u ≡ false =
+    by-test (eqb (answer B o d) 0) _
+    (λ a.
+    by-test (handed B o d u) _
+    (λ t.
+    let A = draw-acts-exactly B o d .acts .0 (eqb-true (answer B o d) 0 a) in
+    absurd (f n (omega arith) record { acting = A; over = handed-exactly B o d A u .0 t }))
+    (λ t. ap₂ (λ (x y : Bool). (x && y) || false) a t))
+    (λ a. ap (λ (x : Bool). (x && handed B o d u) || false) a) in
+    touched-append B (c .owners) (drawsOf (c .kinds) (c .ones) (c .twos) n) (d ∷ []) u
+    ∙ ap₂ _||_ (untouched c u n (λ i h. f i (omega arith))) last
+
 pub only-handed : OnlyHandedOver built
-only-handed c e k h z =
+only-handed c e k h none =
+    let z = untouched c (unitOf (c .units) (c .firsts) k) (c .count) none in
     owner-is c e k
     ∙ only-handed-over (c .plan) (c .avail) (c .units) (c .firsts) (c .frozen) (c .count) (c .kinds) (c .ones) (c .twos) (c .owners)
     (c .derived) (c .answers) (asks c e) (drawsIn c) k h z

@@ -52,15 +52,19 @@ not-says false e = refl
 
 day-begins : (mask : ℕ) (starts : List ℕ) (j : ℕ)
     → (dayBegins mask starts (suc j) ≡ true)
-    ↔ ((startDate starts (suc j) ≢ startDate starts j) × (bitOf mask ((getD starts (suc j) 0 / 1440 + 3) % 7) ≡ 1))
-unfolding dayBegins listed weekdayOf dateOf
+    ↔ ((startDate starts (suc j) ≢ startDate starts j) × (bitOf mask (weekdayOf (startDate starts (suc j))) ≡ 1))
+unfolding dayBegins listed
 day-begins mask starts j = (
   λ t.
-      let x = both (not (eqb (getD starts (suc j) 0 / 1440) (getD starts j 0 / 1440))) _ t in
+      let x = both (not (eqb (startDate starts (suc j)) (startDate starts j))) _ t in
       (eqb-false _ _ (not-says _ (x .0)), eqb-true _ _ (x .1)),
-  λ x. and-true _ _ (ap not (ne-eqb (getD starts (suc j) 0 / 1440) (getD starts j 0 / 1440) (x .0)))
-      (eq-eqb (bitOf mask ((getD starts (suc j) 0 / 1440 + 3) % 7)) 1 (x .1)),
+  λ x. and-true _ _ (ap not (ne-eqb (startDate starts (suc j)) (startDate starts j) (x .0)))
+      (eq-eqb (bitOf mask (weekdayOf (startDate starts (suc j)))) 1 (x .1)),
 )
+
+weekday-of-minute : (minute : ℕ) → weekdayOf (dateOf minute) ≡ (minute / 1440 + 3) % 7
+unfolding weekdayOf dateOf
+weekday-of-minute minute = refl
 
 -- the numbers that pass a test are listed
 listed-among : (p : ℕ → Bool) (n : ℕ) → Listed p n (among p n)
@@ -273,6 +277,7 @@ achievable-told s avail people p slots starts ends e =
 pub units-by-rule : UnitsByRule
 units-by-rule = record {
   every = every-begins;
+  weekday = weekday-of-minute;
   day-0 = λ mask starts. day-first mask starts 0 refl;
   day = day-begins;
   by-count = by-count-begins;

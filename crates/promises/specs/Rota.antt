@@ -1,6 +1,6 @@
 -- Demand 3, a definition a sentence: what holds of every list of draws that a component accepts, whatever its rota. Assumes nothing.
 use mathlib.Core.Path.{_≡_}
-use mathlib.Core.Bool.{true, false}
+use mathlib.Core.Bool.{true}
 use mathlib.Core.List.{List, _++_}
 use Prim.Native.Nat.{ℕ, _+_, _^_, _≤_, _<_}
 use lib.Dec.{eqb}
@@ -12,12 +12,13 @@ use Rattle.slotset.specs.Slots.{slot}
 use Rattle.slots.specs.Lent.{demandOf}
 use Rattle.units.specs.Units.{unitOf}
 use Rattle.rota.specs.declared.Figure.the-variants.{Is}
-use Rattle.rota.specs.Plays.{touched}
+use Rattle.rota.specs.Acts as acts
 use Rattle.rota.specs.Derived.{knownBy}
 use Rattle.rota.specs.Recount.{availableFor, recounts}
 use Rattle.rota.specs.Entries.{Outcome, slotsOfIs}
 use Rattle.draws.specs.declared.Draw.{Draw}
-use Rattle.promises.specs.Entries.{Call, Component, noOf, playOf, ofDraws, playDrawsOf, afreshIn, boardIn, drawsIn}
+use Rattle.promises.specs.Entries.{Call, Component, noOf, playOf, ofDraws, playDrawsOf, afreshIn, boardIn}
+use Rattle.promises.specs.MoveRules.{drawAt, foundAt}
 use Rattle.promises.specs.RotaRules.{PastKept}
 
 -- "From any rota that passes the recount, any accepted list of draws ends in the rota that the rules give worked out afresh."
@@ -50,11 +51,16 @@ OwnersAvailable C =
 abbrev pub CoveredStays : Component → Type 0
 CoveredStays C = (c : Call) → noOf c ≡ 0 → (k : ℕ) → k < c .plan .slots → (before c k ≡ nobody → ⊥) → after C c k ≡ nobody → ⊥
 
--- "only units that an acting draw hands over change owner": by its kind and the runs at its step
+-- draw i of a call acts and hands unit u over, by its kind and the runs at its step
+pub record HandedAt (c : Call) (i u : ℕ) : Type 0 where
+  pub acting : acts.Acts (boardIn c) (foundAt c i) (drawAt c i)
+  pub over : acts.HandsOver (boardIn c) (foundAt c i) (drawAt c i) acting u
+
+-- "only units that an acting draw hands over change owner"
 abbrev pub OnlyHandedOver : Component → Type 0
 OnlyHandedOver C =
     (c : Call) → noOf c ≡ 0 → (k : ℕ) → k < c .plan .slots
-    → touched (boardIn c) (c .owners) (drawsIn c) (unitOf (c .units) (c .firsts) k) ≡ false → after C c k ≡ before c k
+    → ((i : ℕ) → i < c .count → HandedAt c i (unitOf (c .units) (c .firsts) k) → ⊥) → after C c k ≡ before c k
 
 -- "sets and minutes equal a recount": the rota that is left passes it, units too
 abbrev pub Recounts : Component → Type 0

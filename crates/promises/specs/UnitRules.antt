@@ -15,6 +15,7 @@ use Rattle.units.specs.declared.Number.the-variants as number
 use Rattle.units.specs.declared.UnitSlots.the-variants as unitSlots
 use Rattle.units.specs.declared.Duration.the-variants as duration
 use Rattle.units.specs.Answers.{Written, unitNo, unitSlotNo, unitSlotsIs, unitOfSlotIs}
+use Rattle.units.specs.Dates.{dateOf, weekdayOf}
 use Rattle.units.specs.Units.{unitStart, unitEnd, unitsOk, InUnit}
 use Rattle.units.specs.Starts.{startDate, everyBegins, dayBegins, rotationBegins, unitBegins, rotationStarts, unitStarts, startsNo}
 use Rattle.units.specs.Starts.{rotationStartsIs, unitStartsIs}
@@ -40,11 +41,13 @@ pub record Lists (passes : ℕ → Bool) (n : ℕ) (l list : List ℕ) (w : Writ
 pub record UnitsByRule : Type 0 where
   -- "Every-n: starts 0, n, 2n and on, below the slot count; n = 0 counts as 1."
   pub every : (n k : ℕ) → (everyBegins n k ≡ true) ↔ ((m : ℕ) × (k ≡ m * max n 1))
+  -- "minute 0 is Thursday 1970-01-01 00:00", weekday 3 where Monday is 0
+  pub weekday : (minute : ℕ) → weekdayOf (dateOf minute) ≡ (minute / 1440 + 3) % 7
   -- "Weekdays: 0, and each later slot whose start date differs from the previous slot's and is a listed day (mask bit 0 is Monday)."
   pub day-0 : (mask : ℕ) (starts : List ℕ) → dayBegins mask starts 0 ≡ true
   pub day : (mask : ℕ) (starts : List ℕ) (j : ℕ)
       → (dayBegins mask starts (suc j) ≡ true)
-      ↔ ((startDate starts (suc j) ≢ startDate starts j) × (bitOf mask ((getD starts (suc j) 0 / 1440 + 3) % 7) ≡ 1))
+      ↔ ((startDate starts (suc j) ≢ startDate starts j) × (bitOf mask (weekdayOf (startDate starts (suc j))) ≡ 1))
   -- boundary 0 is every, 1 weekdays
   pub by-count : (value : ℕ) (starts : List ℕ) (k : ℕ) → rotationBegins 0 value starts k ≡ everyBegins value k
   pub by-day : (value : ℕ) (starts : List ℕ) (k : ℕ) → rotationBegins 1 value starts k ≡ dayBegins value starts k
