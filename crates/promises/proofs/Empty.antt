@@ -47,7 +47,8 @@ use Rattle.promises.specs.Rota.{EndsAfresh, FrozenKeep, OwnersAvailable,
 use Rattle.promises.specs.Empty.{RefusesByTable, AlwaysRefuses, refuses-next, refuses-prev, refuses-run, refuses-size}
 use Rattle.promises.specs.Empty.{refuses-atomise, refuses-available, refuses-targets, refuses-rotations, refuses-play}
 use Rattle.promises.specs.Empty.{refuses-uncovered, FixedAnswer, fixed-next, fixed-prev, fixed-run, fixed-atomise, fixed-available}
-use Rattle.promises.specs.Empty.{fixed-targets, fixed-rotations, fixed-play, RunsHold, DoesNothing, ActsByRule, FirstDrawOnly, InventedCount, InventedUncovered}
+use Rattle.promises.specs.Empty.{fixed-targets, fixed-rotations, fixed-play, RunsHold, DoesNothing, ActsByRule, FirstDrawOnly}
+use Rattle.promises.specs.Empty.{InventedCount, InventedUncovered}
 use Rattle.promises.proofs.Table.{one-heard}
 use Rattle.promises.proofs.Calls.{accepted-is, accepted-says}
 use Rattle.promises.proofs.TwoUnits.{accepted, apart-recounts}

@@ -1,5 +1,6 @@
 -- The proofs of what is promised.
 pub mod Table
+pub mod Tests
 pub mod Calls
 pub mod TwoUnits
 pub mod Refusals

@@ -2,28 +2,26 @@
 use mathlib.Core.Path.{_≡_, refl, sym, ap, _∙_}
 use mathlib.Core.Bool.{Bool, true, false}
 use mathlib.Core.List.{List, []}
-use mathlib.Core.Logic.{_⊎_, inl, inr, _↔_, _≢_}
+use mathlib.Core.Logic.{inl, _↔_, _≢_}
 use Prim.Native.Nat.{ℕ, _*_, _≤_, _<_, zero-le}
 use native.Mathlib.Omega.{arith}
-use borrow.Author.Tests.{eq-eqb, ne-eqb, eqb-true, eqb-false, leb-true}
+use borrow.Author.Tests.{eqb-true, eqb-false, leb-true}
 use lib.Dec.{eqb, leb}
 use lib.ListN.{length, getD, set, length-set}
 use lib.Seq.{getD-set-same, getD-set-other}
 use Rattle.paper.specs.Limits.{nobody, orElse, peopleOk, slotCountOk, countsOk}
 use Rattle.paper.specs.Count.{all, over, fill}
-use Rattle.paper.proofs.Logic.{by-test, both, three, five, and-true, or-left, or-right, or-second, cond-zero, zero-of}
-use Rattle.paper.proofs.Logic.{people-says, slot-count-says}
+use Rattle.paper.proofs.Logic.{by-test, both, three, five, and-true, cond-zero, zero-of, people-says, slot-count-says}
 use Rattle.paper.proofs.Count.{all-each, sum-same, getD-over, getD-over-out, getD-fill-in, getD-fill-out}
 use Rattle.slotset.specs.Slots.{slot}
 use Rattle.slotset.proofs.Puts.{slot-lt}
 use Rattle.slots.specs.Lent.{slotRoomOk, slotsOk}
 use Rattle.units.specs.Units.{unitStart, unitsOk, InUnit}
-use Rattle.units.specs.Domains.{available}
 use Rattle.units.proofs.Units.{unit-within}
-use Rattle.rota.specs.Derived.{Plan, lengthAt, Derived, derived, knownBy, portion, worked, held, setsFrom, nobodies, afresh}
-use Rattle.rota.specs.Recount.{availableFor, knownAt, availableAt, recounts}
+use Rattle.rota.specs.Derived.{Plan, lengthAt, Derived, derived, portion, worked, held, setsFrom, nobodies, afresh}
+use Rattle.rota.specs.Recount.{knownAt, availableAt, recounts}
 use Rattle.rota.specs.Entries.{roomOk, ground, Outcome, outcome, fromSlotsNo, fromSlots, assigned, playNo, emptyNo, emptied}
-use Rattle.rota.proofs.Minutes.{known-below, known-nobody, known-person, portion-other, sum-nothing}
+use Rattle.rota.proofs.Minutes.{portion-other, sum-nothing}
 use Rattle.rota.proofs.Sets.{held-own, held-not, sets-in, sets-out}
 use Rattle.rota.proofs.Steps.{afresh-step, afresh-lengths}
 use Rattle.rota.proofs.Made.{nobody-at}
@@ -32,27 +30,10 @@ use Rattle.rota.proofs.Asked.{Asks, assign-asks}
 use Rattle.rota.proofs.Promises.{assign-recounts}
 use Rattle.promises.specs.Entries.{Call, noOf, onRota}
 use Rattle.promises.specs.RotaRules.{PassesRecount, PastKept, Made, RotaByRule}
+use Rattle.promises.proofs.Tests.{known-test, available-test}
 use Rattle.promises.proofs.Calls.{accepted-says, play-room}
 
 -- ---- the recount
-
-known-says : (people w : ℕ) → knownBy people w ≡ true → (w ≡ nobody) ⊎ (w < people)
-known-says people w e =
-    by-test (eqb w nobody) _ (λ t. inl (eqb-true w nobody t)) (λ f. inr (known-below people w e (eqb-false w nobody f)))
-
-says-known : (people w : ℕ) → (w ≡ nobody) ⊎ (w < people) → knownBy people w ≡ true
-says-known people w (inl q) = ap (knownBy people) q ∙ known-nobody people
-says-known people w (inr h) = known-person people w h
-
-available-says : (avail : List ℕ) (w k : ℕ) → availableFor avail w k ≡ true → w ≢ nobody → slot avail (16 * w) k ≡ 1
-unfolding availableFor available
-available-says avail w k e n = eqb-true _ 1 (or-right (eqb w nobody) _ e (ne-eqb w nobody n))
-
-says-available : (avail : List ℕ) (w k : ℕ) → (w ≢ nobody → slot avail (16 * w) k ≡ 1) → availableFor avail w k ≡ true
-unfolding availableFor available
-says-available avail w k f =
-    by-test (eqb w nobody) _ (or-left (eqb w nobody) _)
-    (λ n. or-second (eqb w nobody) _ (eq-eqb (slot avail (16 * w) k) 1 (f (eqb-false w nobody n))))
 
 -- a bit is the one that is due exactly when it is set for the owner
 module _ (o ws : List ℕ) (p k : ℕ) where
@@ -78,16 +59,16 @@ recount-by-rule P avail units firsts o D = (
   λ e.
       let r = recount-says P avail units firsts o D e in
       record {
-        known = λ k h. known-says (P .people) (getD o k 0) (r .known k h);
-        available = λ k h. available-says avail (getD o k 0) k (r .free k h);
+        known = λ k h. known-test (P .people) (getD o k 0) .0 (r .known k h);
+        available = λ k h. available-test avail (getD o k 0) k .0 (r .free k h);
         uniform = λ u k i. r .even u k (i .known) (i .from) (i .to);
         sets = λ p k h g. held-says o (D .sets) p k (r .sets p k h g);
         minutes = r .minutes;
       },
   λ x. says-recount P avail units firsts o D
       record {
-        known = λ k h. says-known (P .people) (getD o k 0) (x .known k h);
-        free = λ k h. says-available avail (getD o k 0) k (x .available k h);
+        known = λ k h. known-test (P .people) (getD o k 0) .1 (x .known k h);
+        free = λ k h. available-test avail (getD o k 0) k .1 (x .available k h);
         even = λ u k h a b. x .uniform u k record { known = h; from = a; to = b };
         sets = λ p k h g. says-held o (D .sets) p k (x .sets p k h g);
         minutes = x .minutes;
@@ -184,7 +165,7 @@ module _ (c : Call) (k w : ℕ) (e : noOf c ≡ 0) where
   y = assigned (c .plan) (c .avail) (c .owners) (c .derived) k w
 
   abbrev next : Call
-  next = onRota c (y .owners) (y .derived)
+  next = onRota c (y .owners) (y .derived) (c .answers)
 
   module _ (z : y .number ≡ 0) (u j : ℕ) (i : InUnit (c .plan .slots) (c .units) (c .firsts) j u)
       (differ : getD (y .owners) j 0 ≢ getD (y .owners) (unitStart (c .firsts) u) 0) where

@@ -36,7 +36,7 @@ use Rattle.slotset.proofs.Members.{size-members, put-here, put-elsewhere, size-
 use Rattle.slotset.proofs.Runs.{has-member, member-has, run-around, around-unique, runs-are, runs-unique, runs-hold, runs-only, run-same}
 use Rattle.runs.specs.Listed.{listNo, column, allRunsOf}
 use Rattle.runs.proofs.Listing.{list-says, column-at, column-stays}
-use Rattle.promises.specs.SetRules.{TheOne, Bits, RunIs, Put, Changes, firstOf, FrontOf, SameAnswers, SetsByRule}
+use Rattle.promises.specs.SetRules.{TheOne, Bits, RunIs, Put, Changes, firstAhead, FrontOf, SameAnswers, SetsByRule}
 
 next-found : (v : ℕ) (f : ℕ → ℕ) (len from : ℕ) → TheOne (First v f len from) (foundAs 0 (nextWith v f len from))
 unfolding foundAs
@@ -133,7 +133,7 @@ module _ (f : ℕ → ℕ) (len at : ℕ) where
       ap (endOf len) (sym (next-unique 0 f len (suc first) Nothing w)) ∙ e)
       (lt-or-ge (last + 1) len)
 
-  next-run-is : Bits f → (l : List Ends) → AreRuns f len at l → nextRunAs 0 f len at ≡ firstOf l
+  next-run-is : Bits f → (l : List Ends) → AreRuns f len at l → nextRunAs 0 f len at ≡ firstAhead l
   next-run-is bits [] x = run-at Nothing x
   next-run-is bits (r ∷ rs) x =
       run-at (At (r .first)) (x .0, omega (arith, x .1, x .2), x .4 (r .first) (omega arith) (x .1), x .3)
@@ -378,8 +378,8 @@ sets-by-rule = record {
   next-member = λ f len at i w. member-at f len at (At i) w;
   no-member = λ f len at w. member-at f len at Nothing w;
   runs = runs-found;
-  all-runs = all-runs-listed;
   runs-hold = runs-members;
+  all-runs = all-runs-listed;
   count = counted-members;
   new = new-empty;
   put = put-changes;

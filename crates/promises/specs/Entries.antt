@@ -69,31 +69,26 @@ drawsIn c = drawsOf (c .kinds) (c .ones) (c .twos) (c .count)
 abbrev pub ownersIn : Call → List ℕ
 ownersIn c = ownersAfter (boardIn c) (c .owners) (drawsIn c)
 
--- the same call, of a list of draws: its three columns
-abbrev pub ofDraws : Call → List struct.Draw → Call
-ofDraws c ds = record {
+-- the same call, with other draws
+abbrev pub withDraws : Call → ℕ → List ℕ → List ℕ → List ℕ → Call
+withDraws c count kinds ones twos = record {
   plan = c .plan;
   avail = c .avail;
   units = c .units;
   firsts = c .firsts;
   frozen = c .frozen;
-  count = c .count;
-  kinds = kinds ds;
-  ones = ones ds;
-  twos = twos ds;
+  count = count;
+  kinds = kinds;
+  ones = ones;
+  twos = twos;
   owners = c .owners;
   derived = c .derived;
   answers = c .answers;
 }
 
--- what it comes to by the entry that takes the list
-abbrev pub playDrawsOf : Call → List struct.Draw → rota.Outcome
-playDrawsOf c ds =
-    playedDraws (c .plan) (c .avail) (c .units) (c .firsts) (c .frozen) (c .count) ds (c .owners) (c .derived) (c .answers)
-
--- the same call, on another rota
-abbrev pub onRota : Call → List ℕ → Derived → Call
-onRota c o D = record {
+-- the same call, on another rota and another list of answers
+abbrev pub onRota : Call → List ℕ → Derived → List ℕ → Call
+onRota c owners derived answers = record {
   plan = c .plan;
   avail = c .avail;
   units = c .units;
@@ -103,10 +98,19 @@ onRota c o D = record {
   kinds = c .kinds;
   ones = c .ones;
   twos = c .twos;
-  owners = o;
-  derived = D;
-  answers = c .answers;
+  owners = owners;
+  derived = derived;
+  answers = answers;
 }
+
+-- the same call, of a list of draws in structs: its three columns
+abbrev pub ofDraws : Call → List struct.Draw → Call
+ofDraws c ds = withDraws c (c .count) (kinds ds) (ones ds) (twos ds)
+
+-- what it comes to by the entry that takes the list
+abbrev pub playDrawsOf : Call → List struct.Draw → rota.Outcome
+playDrawsOf c ds =
+    playedDraws (c .plan) (c .avail) (c .units) (c .firsts) (c .frozen) (c .count) ds (c .owners) (c .derived) (c .answers)
 
 -- the rota that the rules give, worked out afresh, with an answer a draw
 abbrev pub afreshIn : Call → rota.Outcome

@@ -17,7 +17,7 @@ use Rattle.rota.specs.Derived.{knownBy}
 use Rattle.rota.specs.Recount.{availableFor, recounts}
 use Rattle.rota.specs.Entries.{Outcome, slotsOfIs}
 use Rattle.draws.specs.declared.Draw.{Draw}
-use Rattle.promises.specs.Entries.{Call, Component, noOf, playOf, ofDraws, playDrawsOf, afreshIn, boardIn}
+use Rattle.promises.specs.Entries.{Call, Component, noOf, playOf, withDraws, onRota, ofDraws, playDrawsOf, afreshIn, boardIn}
 use Rattle.promises.specs.MoveRules.{drawAt, foundAt}
 use Rattle.promises.specs.RotaRules.{PastKept}
 
@@ -94,37 +94,12 @@ PastStays C =
 
 -- the call with its first n draws alone
 abbrev pub firstCall : Call → ℕ → Call
-firstCall c n = record {
-  plan = c .plan;
-  avail = c .avail;
-  units = c .units;
-  firsts = c .firsts;
-  frozen = c .frozen;
-  count = n;
-  kinds = c .kinds;
-  ones = c .ones;
-  twos = c .twos;
-  owners = c .owners;
-  derived = c .derived;
-  answers = c .answers;
-}
+firstCall c n = withDraws c n (c .kinds) (c .ones) (c .twos)
 
 -- the call with the m draws after them, on what an outcome left
 abbrev pub nextCall : Call → Outcome → ℕ → ℕ → Call
-nextCall c y n m = record {
-  plan = c .plan;
-  avail = c .avail;
-  units = c .units;
-  firsts = c .firsts;
-  frozen = c .frozen;
-  count = m;
-  kinds = drop n (c .kinds);
-  ones = drop n (c .ones);
-  twos = drop n (c .twos);
-  owners = y .owners;
-  derived = y .derived;
-  answers = drop n (y .answers);
-}
+nextCall c y n m =
+    onRota (withDraws c m (drop n (c .kinds)) (drop n (c .ones)) (drop n (c .twos))) (y .owners) (y .derived) (drop n (y .answers))
 
 abbrev pub secondCall : Component → Call → ℕ → ℕ → Call
 secondCall C c n m = nextCall c (C .play (firstCall c n)) n m

@@ -7,6 +7,7 @@ use Prim.Native.Nat.{ℕ, _+_, _*_, _≤_, _<_}
 use lib.ListN.{getD}
 use Rattle.paper.specs.Limits.{nobody}
 use Rattle.slotset.specs.Slots.{slot}
+use Rattle.slotset.specs.Answers.{rowSlots}
 use Rattle.units.specs.Units.{unitStart, unitsOk, InUnit}
 use Rattle.rota.specs.Derived.{Plan, Derived, worked}
 use Rattle.rota.specs.Recount.{recounts}
@@ -16,9 +17,9 @@ use Rattle.promises.specs.Entries.{Call, noOf, onRota}
 -- "The recount ..: owners known and available, units uniform, sets and minutes equal to those worked out from owners."
 pub record PassesRecount (P : Plan) (avail : List ℕ) (units : ℕ) (firsts o : List ℕ) (D : Derived) : Type 0 where
   pub known : (k : ℕ) → k < P .slots → (getD o k 0 ≡ nobody) ⊎ (getD o k 0 < P .people)
-  pub available : (k : ℕ) → k < P .slots → getD o k 0 ≢ nobody → slot avail (16 * getD o k 0) k ≡ 1
+  pub available : (k : ℕ) → k < P .slots → getD o k 0 ≢ nobody → rowSlots avail (getD o k 0) k ≡ 1
   pub uniform : (u k : ℕ) → InUnit (P .slots) units firsts k u → getD o k 0 ≡ getD o (unitStart firsts u) 0
-  pub sets : (p k : ℕ) → p < P .people → k < P .slots → (slot (D .sets) (16 * p) k ≡ 1) ↔ (getD o k 0 ≡ p)
+  pub sets : (p k : ℕ) → p < P .people → k < P .slots → (rowSlots (D .sets) p k ≡ 1) ↔ (getD o k 0 ≡ p)
   pub minutes : (p : ℕ) → p < P .people → getD (D .minutes) p 0 ≡ worked P o p
 
 -- "Bytes past the list's end or the needed length always stay": owners past the slots, minutes past the people, and each bit of the sets
@@ -48,7 +49,7 @@ pub record RotaByRule : Type 0 where
   pub uneven : (c : Call) (k w : ℕ) → noOf c ≡ 0
       → let y = assigned (c .plan) (c .avail) (c .owners) (c .derived) k w in y .number ≡ 0
       → (u j : ℕ) → InUnit (c .plan .slots) (c .units) (c .firsts) j u → getD (y .owners) j 0 ≢ getD (y .owners) (unitStart (c .firsts) u) 0
-      → noOf (onRota c (y .owners) (y .derived)) ≡ 10
+      → noOf (onRota c (y .owners) (y .derived) (c .answers)) ≡ 10
   -- an empty rota: nobody owns a slot, and it passes the recount, units too, whatever the slots' times and the availability
   pub empty : (P : Plan) (o : List ℕ) (D : Derived)
       → let y = emptied (P .people) (P .slots) o D in y .number ≡ 0

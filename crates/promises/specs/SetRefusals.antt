@@ -6,7 +6,7 @@ use mathlib.Core.List.{List, [], _∷_}
 use Prim.Native.Nat.{ℕ, _*_}
 use lib.Dec.{leb, ltb}
 use lib.ListN.{length}
-use Rattle.paper.specs.Limits.{peopleOk, slotsMost}
+use Rattle.paper.specs.Limits.{peopleOk, slotsMost, setWords}
 use Rattle.slotset.specs.declared.SlotSet.{SlotSet}
 use Rattle.slotset.specs.declared.Found.{Found}
 use Rattle.slotset.specs.declared.Found.the-variants as found
@@ -57,12 +57,12 @@ stretchTable len a e = lengthTable len (row 11 (leb e a || leb e len) ∷ [])
 
 abbrev pub rowTable : List ℕ → ℕ → ℕ → ℕ → List Row → List Row
 rowTable ws people person len more =
-    row 1 (peopleOk people && leb len slotsMost) ∷ row 2 (leb (16 * people) (length ws)) ∷ row 11 (ltb person people) ∷ more
+    row 1 (peopleOk people && leb len slotsMost) ∷ row 2 (leb (setWords * people) (length ws)) ∷ row 11 (ltb person people) ∷ more
 
 -- all runs, listed in two columns of these lengths
 abbrev pub runsTable : List ℕ → ℕ → ℕ → ℕ → ℕ → ℕ → List Row
 runsTable ws people person len n m =
-    row 1 (peopleOk people && leb len slotsMost) ∷ row 2 (leb (16 * people) (length ws) && leb len n && leb len m)
+    row 1 (peopleOk people && leb len slotsMost) ∷ row 2 (leb (setWords * people) (length ws) && leb len n && leb len m)
     ∷ row 11 (ltb person people) ∷ []
 
 pub record SetsRefuse : Type 0 where

@@ -49,9 +49,9 @@ pub record Changes (v : ℕ → ℕ) (from n : ℕ) (s t : SlotSet) : Type 0 whe
   pub put : Put v from n (slotsOf s) (slotsOf t)
 
 -- what a reader answers that has these runs ahead of it: the first of them, with its cursor one past it
-abbrev pub firstOf : List Ends → NextRun
-firstOf [] = nextRun.Done
-firstOf (r ∷ rs) = nextRun.Span (r .first) (r .last) (record { at = r .last + 1 })
+abbrev pub firstAhead : List Ends → NextRun
+firstAhead [] = nextRun.Done
+firstAhead (r ∷ rs) = nextRun.Span (r .first) (r .last) (record { at = r .last + 1 })
 
 -- one end of each run of a list at the front of a column, in order, and past them the column as it was
 pub record FrontOf (end : Ends → ℕ) (l : List Ends) (before after : List ℕ) : Type 0 where
@@ -91,19 +91,19 @@ pub record SetsByRule : Type 0 where
   pub run : (f : ℕ → ℕ) → Bits f → (len i : ℕ) → Member f len i → (first : ℕ) × (last : ℕ) × RunIs f len i first last
   pub no-run : (f : ℕ → ℕ) (len i : ℕ) → (Member f len i → ⊥) → runAs 0 f len i ≡ Outside
   -- the readers of runs and of members, from any place of their cursor on
-  pub next-run : (f : ℕ → ℕ) → Bits f → (len at : ℕ) (l : List Ends) → AreRuns f len at l → nextRunAs 0 f len at ≡ firstOf l
+  pub next-run : (f : ℕ → ℕ) → Bits f → (len at : ℕ) (l : List Ends) → AreRuns f len at l → nextRunAs 0 f len at ≡ firstAhead l
   pub next-member : (f : ℕ → ℕ) (len at i : ℕ) → First 1 f len at (At i)
       → nextMemberAs 0 f len at ≡ nextMember.Slot i (record { at = i + 1 })
   pub no-member : (f : ℕ → ℕ) (len at : ℕ) → First 1 f len at Nothing → nextMemberAs 0 f len at ≡ nextMember.Done
   -- "Runs come out ascending": the reader's whole list, which holds every member and nothing else
   pub runs : (f : ℕ → ℕ) → Bits f → (len : ℕ) → TheOne (AreRuns f len 0) (allRuns f len)
+  pub runs-hold : (f : ℕ → ℕ) → Bits f → (len k : ℕ) → InRuns k (allRuns f len) ↔ Member f len k
   -- as all_runs lists them: their number, their first and last slots at the front of two columns, the rest of which stays
   pub all-runs : (ws : List ℕ) (people person len : ℕ) (firsts lasts : List ℕ)
       → listNo ws people person len (length firsts) (length lasts) ≡ 0
       → let x = allRunsOf ws people person len firsts lasts in
       let l = allRuns (rowSlots ws person) len in
       (x .answer ≡ counted.Is (length l)) × FrontOf (λ r. r .first) l firsts (x .firsts) × FrontOf (λ r. r .last) l lasts (x .lasts)
-  pub runs-hold : (f : ℕ → ℕ) → Bits f → (len k : ℕ) → InRuns k (allRuns f len) ↔ Member f len k
   -- the size is the number of members
   pub count : (f : ℕ → ℕ) → Bits f → (len : ℕ) → countedAs 0 (size f len) ≡ counted.Is (length (among (λ k. eqb (f k) 1) len))
   -- a new set is empty

@@ -3,12 +3,13 @@ use mathlib.Core.Path.{_≡_}
 use mathlib.Core.Bool.{true, false}
 use mathlib.Core.List.{List}
 use mathlib.Core.Logic.{_↔_}
-use Prim.Native.Nat.{ℕ, _-_, _*_, _≤_, _<_}
+use Prim.Native.Nat.{ℕ, _-_, _≤_, _<_}
 use lib.ListN.{length, getD}
 use Rattle.paper.specs.Count.{sum}
 use Rattle.slotset.specs.declared.Told.the-variants.{Yes}
 use Rattle.slotset.specs.declared.Counted.the-variants as counted
 use Rattle.slotset.specs.Slots.{slot}
+use Rattle.slotset.specs.Answers.{rowSlots}
 use Rattle.slots.specs.declared.Minutes.the-variants as minutes
 use Rattle.slots.specs.Lent.{slotsOk, demandOf, lentNo, lentSlotNo, demandIs, slotMinutesIs}
 use Rattle.slots.specs.Ranges.{Ranges, personOf, startOf, endOf, inRanges, available, mergedOf, IsMerged}
@@ -78,6 +79,6 @@ pub record SlotsByRule : Type 0 where
   -- a bit at or past the slot count, and the sets past the people, stay
   pub past : (people slots : ℕ) (starts ends : List ℕ) (R : Ranges) (words : List ℕ) → availabilityNo people slots starts ends R words ≡ 0
       → (p k : ℕ) → (p < people → slots ≤ k) → k < 1024
-      → slot (availabilityOf people slots starts ends R words) (16 * p) k ≡ slot words (16 * p) k
+      → rowSlots (availabilityOf people slots starts ends R words) p k ≡ rowSlots words p k
   pub frozen : (slots : ℕ) (starts ends frozen : List ℕ) (instant : ℕ) → freezeNo slots starts ends frozen ≡ 0
       → Froze slots starts ends frozen instant

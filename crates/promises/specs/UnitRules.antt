@@ -9,6 +9,7 @@ use Rattle.paper.specs.Bits.{bitOf}
 use Rattle.paper.specs.Count.{count, onto}
 use Rattle.slotset.specs.declared.Told.the-variants.{Yes, No}
 use Rattle.slotset.specs.Slots.{slot}
+use Rattle.slotset.specs.Answers.{rowSlots}
 use Rattle.slots.specs.Lent.{minutesAt, demandOf, lentNo}
 use Rattle.units.specs.declared.Settings.{Settings}
 use Rattle.units.specs.declared.Number.the-variants as number
@@ -72,13 +73,13 @@ pub record UnitsByRule : Type 0 where
       → (a : ℕ) × (e : ℕ) × (unitSlotsIs slots units firsts u ≡ unitSlots.Span a e)
       × ((k : ℕ) → InUnit slots units firsts k u ↔ ((a ≤ k) × (k < e)))
   -- "A unit's domain is the ascending list of people available for all its slots."
-  pub able-for : (avail : List ℕ) (a e p : ℕ) → (able avail a e p ≡ true) ↔ ((k : ℕ) → a ≤ k → k < e → slot avail (16 * p) k ≡ 1)
+  pub able-for : (avail : List ℕ) (a e p : ℕ) → (able avail a e p ≡ true) ↔ ((k : ℕ) → a ≤ k → k < e → rowSlots avail p k ≡ 1)
   pub domain : (avail : List ℕ) (people slots units : ℕ) (firsts : List ℕ) (u : ℕ) (list : List ℕ)
       → unitDomainNo avail people slots units firsts u list ≡ 0
       → Lists (able avail (unitStart firsts u) (unitEnd slots units firsts u)) people (unitDomain avail people slots units firsts u) list
       (unitDomainIs avail people slots units firsts u list)
   -- the same of one slot
-  pub available-for : (avail : List ℕ) (p k : ℕ) → (available avail p k ≡ true) ↔ (slot avail (16 * p) k ≡ 1)
+  pub available-for : (avail : List ℕ) (p k : ℕ) → (available avail p k ≡ true) ↔ (rowSlots avail p k ≡ 1)
   pub slot-domain : (avail : List ℕ) (people slots k : ℕ) (list : List ℕ) → slotDomainNo avail people slots k list ≡ 0
       → Lists (λ p. available avail p k) people (slotDomain avail people k) list (slotDomainIs avail people slots k list)
   -- the domains of all units at once: in mask u bit p is 1 exactly when person p is in the domain of unit u; masks past the units stay
