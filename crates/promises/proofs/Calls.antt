@@ -74,16 +74,22 @@ accepted-says c e =
       recount = z .0;
     }
 
-pub says-accepted : (c : Call) → Accepted c → noOf c ≡ 0
-unfolding playNo playRoomOk ground
-says-accepted c A =
+-- units, flags, draws and answers have room
+pub play-room : (c : Call) → Accepted c
+    → playRoomOk (c .units) (c .firsts) (c .frozen) (c .count) (c .kinds) (c .ones) (c .twos) (c .answers) ≡ true
+unfolding playRoomOk
+play-room c A =
     let n = c .count in
     let k = le-leb n (length (c .kinds)) (A .kinds) in
     let f = le-leb n (length (c .ones)) (A .ones) in
     let s = le-leb n (length (c .twos)) (A .twos) in
     let x = le-leb n (length (c .answers)) (A .answers) in
-    let lent = and-true _ _ (A .starts) (and-true _ _ (A .flags) (and-true _ _ k (and-true _ _ f (and-true _ _ s x)))) in
+    and-true _ _ (A .starts) (and-true _ _ (A .flags) (and-true _ _ k (and-true _ _ f (and-true _ _ s x))))
+
+pub says-accepted : (c : Call) → Accepted c → noOf c ≡ 0
+unfolding playNo ground
+says-accepted c A =
     all-pass (playTable c) (
       and-true _ _ (A .counts) (A .few),
-      (and-true _ _ (A .room) lent, (and-true _ _ (A .slots) (A .units), (A .recount, tt))),
+      (and-true _ _ (A .room) (play-room c A), (and-true _ _ (A .slots) (A .units), (A .recount, tt))),
     )

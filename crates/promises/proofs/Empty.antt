@@ -1,5 +1,6 @@
 -- How empty answers are shut out: each breaks a promise, by a witness. Assumes nothing.
-use mathlib.Core.Path.{_≡_, refl, sym, ap, _∙_}
+use mathlib.Core.Path.{_≡_, refl, sym, ap, ap₂, _∙_}
+use mathlib.Core.Bool.{Bool, true, false, cond}
 use mathlib.Core.List.{List, [], _∷_}
 use Prim.Native.Nat.{ℕ, _+_, _≤_, _<_}
 use native.Mathlib.Omega.{arith}
@@ -8,14 +9,19 @@ use lib.IntN.{ℤ, pos}
 use lib.ListN.{length, getD, replicate, length-replicate}
 use native.Mathlib.Nat.{le-of-eq}
 use Rattle.paper.specs.Bits.{bitOf}
+use Rattle.paper.proofs.Logic.{by-test}
 use Rattle.paper.specs.Count.{all, allIn, sum, count, over, fill, among}
 use Rattle.slotset.specs.declared.Found.the-variants.{At, Nothing}
+use Rattle.slotset.specs.declared.Run.the-variants as run
 use Rattle.slotset.specs.declared.Told.the-variants.{Yes, No}
 use Rattle.slotset.specs.declared.Counted.the-variants as counted
 use Rattle.paper.specs.Limits.{peopleOk, slotCountOk}
 use Rattle.slotset.specs.declared.SlotSet.{SlotSet}
-use Rattle.slotset.specs.Slots.{slot, withBit, putSlot, putSlots}
-use Rattle.slotset.specs.Answers.{rowNo, loadOf}
+use Rattle.slotset.specs.Slots.{slot, withBit, putSlot, putSlots, has}
+use Rattle.slotset.specs.Runs.{firstOfRun, lastOfRun}
+use Rattle.slotset.specs.Answers.{lenNo, rowNo, slotsOf, runAs, loadOf}
+use Rattle.slotset.proofs.Puts.{slot-lt}
+use Rattle.slotset.proofs.Runs.{has-member, run-around}
 use Rattle.slots.specs.Atomic.{Atoms}
 use Rattle.slots.specs.Lent.{minutesAt, demandOf}
 use Rattle.units.specs.Units.{unitEnd}
@@ -27,21 +33,27 @@ use Rattle.rota.specs.Board.{ownerOf, unowned}
 use Rattle.rota.specs.Lent.{fitsUnit, frozenUnit}
 use Rattle.rota.specs.Moves.{anyOf, decided, swapped, reassigned, picked, domainOf}
 use Rattle.rota.specs.Plays.{step, ownersAfter, drawsOf}
-use Rattle.rota.specs.Derived.{knownBy, portion, worked, held, setsFrom, afresh}
+use Rattle.rota.specs.Derived.{Plan, Derived, knownBy, portion, worked, held, setsFrom, afresh}
 use Rattle.rota.specs.Recount.{knownAt, availableFor, availableAt, evenAt, setSlotAt, setAt, minutesOkAt, recounts}
 use Rattle.rota.specs.Entries as rota
+use Rattle.rota.specs.Entries.{figureNo}
 use Rattle.rota.proofs.Entered.{recount-says}
 use Rattle.promises.specs.Entries.{Call, Component, built, noOf, afreshIn, ownersIn}
-use Rattle.promises.specs.Marked.{MarkedCases, Owned, apart, Spare, twoUnits}
-use Rattle.promises.specs.Table.{countedNo, numberNo}
+use Rattle.promises.specs.Marked.{MarkedCases, inWords, Owned, apart, Spare, twoUnits}
+use Rattle.promises.specs.Table.{toldNo, countedNo, numberNo}
+use Rattle.promises.specs.SetRefusals.{foundNo, runNo}
+use Rattle.promises.specs.SetRules.{Bits}
 use Rattle.promises.specs.Rota.{EndsAfresh, FrozenKeep, OwnersAvailable, CoveredStays, AddsUp, SizesRecount, after, firstCall}
-use Rattle.promises.specs.Empty.{RefusesByTable, AlwaysRefuses, refuses-atomise, refuses-targets, refuses-rotations, refuses-play}
-use Rattle.promises.specs.Empty.{FixedAnswer, fixed-next, fixed-prev, fixed-atomise, fixed-available, fixed-targets, fixed-rotations}
-use Rattle.promises.specs.Empty.{fixed-play, DoesNothing, ActsByRule, FirstDrawOnly, InventedCount, InventedUncovered}
+use Rattle.promises.specs.Empty.{RefusesByTable, AlwaysRefuses, refuses-next, refuses-prev, refuses-run, refuses-size}
+use Rattle.promises.specs.Empty.{refuses-atomise, refuses-available, refuses-targets, refuses-rotations, refuses-play}
+use Rattle.promises.specs.Empty.{refuses-uncovered, FixedAnswer, fixed-next, fixed-prev, fixed-run, fixed-atomise, fixed-available}
+use Rattle.promises.specs.Empty.{fixed-targets, fixed-rotations, fixed-play, RunsHold, DoesNothing, ActsByRule, FirstDrawOnly}
+use Rattle.promises.specs.Empty.{InventedCount, InventedUncovered}
 use Rattle.promises.proofs.Table.{one-heard}
 use Rattle.promises.proofs.Calls.{accepted-is, accepted-says}
 use Rattle.promises.proofs.TwoUnits.{accepted, apart-recounts}
 use Rattle.promises.proofs.RotaRefusals.{rota-refuses}
+use Rattle.promises.proofs.Rota.{asks, told-total}
 
 -- nothing past what is needed, and these answers
 abbrev spare : List ℕ → Spare
@@ -65,50 +77,88 @@ room n = le-of-eq (sym (length-replicate n 0))
 pub refuses-by-table : RefusesByTable built
 refuses-by-table c = rota-refuses .play c .heard
 
-pub always-refusing-falls : (C : Component) → AlwaysRefuses C → MarkedCases C → RefusesByTable C → ⊥
-always-refusing-falls C (refuses-atomise f) M T =
-    f _ (ap (λ (x : Atoms). countedNo (x .answer)) (M .case-4 (zeros 1024) (zeros 1024) (room 1024) (room 1024)))
-always-refusing-falls C (refuses-targets f) M T =
-    f _ _ (ap (λ (y : targets.Outcome). y .number) (M .case-9 (zeros 32) (pos 0 ∷ pos 0 ∷ []) (room 32) (omega arith)))
-always-refusing-falls C (refuses-rotations f) M T =
-    f _ _ _ _ _ (ap (λ (w : Written). numberNo (w .answer))
-    (M .case-11 0 0 0 (0 ∷ 0 ∷ 0 ∷ 0 ∷ []) (omega arith) (omega arith) (omega arith) (omega arith)))
-always-refusing-falls C (refuses-play f) M T =
-    f still (one-heard _ _ _ (T still) (rota-refuses .play still .heard)
-    ∙ ap (λ (y : rota.Outcome). y .number) (accepted-is still still-accepted))
+module _ (C : Component) (M : MarkedCases C) (T : RefusesByTable C) (S : SizesRecount C) (U : AddsUp C) where
+  pub always-refusing-falls : AlwaysRefuses C → ⊥
+  always-refusing-falls (refuses-next f) = f _ _ (ap foundNo (M .case-1 [] .0))
+  always-refusing-falls (refuses-prev f) = f _ _ (ap foundNo (M .case-2 [] .0))
+  always-refusing-falls (refuses-run f) = f _ _ (ap runNo (M .case-3 []))
+  always-refusing-falls (refuses-size f) = f _ (ap countedNo (S still still-accepted 0 (omega arith)))
+  always-refusing-falls (refuses-atomise f) =
+      f _ (ap (λ (x : Atoms). countedNo (x .answer)) (M .case-4 (zeros 1024) (zeros 1024) (room 1024) (room 1024)))
+  always-refusing-falls (refuses-available f) = f _ _ _ _ _ (ap toldNo (M .case-6-available (zeros 16) (room 16) .0))
+  always-refusing-falls (refuses-targets f) =
+      f _ _ (ap (λ (y : targets.Outcome). y .number) (M .case-9 (zeros 32) (pos 0 ∷ pos 0 ∷ []) (room 32) (omega arith)))
+  always-refusing-falls (refuses-rotations f) =
+      f _ _ _ _ _ (ap (λ (w : Written). numberNo (w .answer))
+      (M .case-11 0 0 0 (0 ∷ 0 ∷ 0 ∷ 0 ∷ []) (omega arith) (omega arith) (omega arith) (omega arith)))
+  always-refusing-falls (refuses-play f) =
+      f still (one-heard _ _ _ (T still) (rota-refuses .play still .heard)
+      ∙ ap (λ (y : rota.Outcome). y .number) (accepted-is still still-accepted))
+  always-refusing-falls (refuses-uncovered f) = f _ _ (ap figureNo (U still still-accepted .1))
 
 -- ---- one fixed answer
 
-pub fixed-answer-falls : (C : Component) → FixedAnswer C → MarkedCases C → ⊥
-fixed-answer-falls C (fixed-next f) M =
+-- a run that is told is that of a member
+run-told : (f : ℕ → ℕ) → Bits f → (n len i first last : ℕ) → runAs n f len i ≡ run.Span first last → (first ≤ i) × (i ≤ last)
+unfolding runAs
+run-told f bits n len i first last e =
+    by-test (eqb n 0) _
+    (λ t.
+    by-test (has f len i) _
+    (λ m.
+    let r = run-around f bits len i (has-member f len i m) in
+    let q : run.Span (firstOfRun f len i) (lastOfRun f len i) ≡ run.Span first last = sym (by true true t m) ∙ e in
+    let a : firstOfRun f len i ≡ first = cc in
+    let b : lastOfRun f len i ≡ last = cc in
+    (omega (arith, a, r .from), omega (arith, b, r .to)))
+    (λ m. let q : run.Outside ≡ run.Span first last = sym (by true false t m) ∙ e in let z : _≡_ {A = ℕ} 0 1 = cc in absurd (omega arith)))
+    (λ t.
+    let q : run.Refused n ≡ run.Span first last = sym (by false (has f len i) t refl) ∙ e in
+    let z : _≡_ {A = ℕ} 0 1 = cc in
+    absurd (omega arith))
+  where
+    by : (a b : Bool) → eqb n 0 ≡ a → has f len i ≡ b
+        → cond (eqb n 0) (cond (has f len i) (run.Span (firstOfRun f len i) (lastOfRun f len i)) run.Outside) (run.Refused n)
+        ≡ cond a (cond b (run.Span (firstOfRun f len i) (lastOfRun f len i)) run.Outside) (run.Refused n)
+    by a b p q =
+        ap₂ (λ (x y : Bool). cond x (cond y (run.Span (firstOfRun f len i) (lastOfRun f len i)) run.Outside) (run.Refused n)) p q
+
+pub runs-hold : RunsHold built
+runs-hold s i first last e = run-told (slotsOf s) (slot-lt (s .words) 0) (lenNo (s .len)) (s .len) i first last e
+
+pub fixed-answer-falls : (C : Component) → FixedAnswer C → MarkedCases C → RunsHold C → ⊥
+fixed-answer-falls C (fixed-next f) M H =
     let q : At 63 ≡ Nothing = sym (M .case-1 [] .0) ∙ f _ _ _ _ ∙ M .case-1 [] .1 in
     let z : _≡_ {A = ℕ} 0 1 = cc in omega arith
-fixed-answer-falls C (fixed-prev f) M =
+fixed-answer-falls C (fixed-prev f) M H =
     let q : At 64 ≡ At 0 = sym (M .case-2 [] .0) ∙ f _ _ _ _ ∙ M .case-2 [] .1 in
     let z : _≡_ {A = ℕ} 64 0 = cc in omega arith
-fixed-answer-falls C (fixed-atomise f) M =
+fixed-answer-falls C (fixed-run f) M H =
+    let s = inWords 1 [] in
+    omega (arith, H s 0 60 69 (f s _ 0 64 ∙ M .case-3 []) .0)
+fixed-answer-falls C (fixed-atomise f) M H =
     let l = zeros 1024 in
     let q : counted.Is 2 ≡ counted.Is 1 =
     sym (ap (λ (x : Atoms). x .answer) (M .case-4 l l (room 1024) (room 1024))) ∙ ap (λ (x : Atoms). x .answer) (f _ _)
     ∙ ap (λ (x : Atoms). x .answer) (M .case-5 l l (room 1024) (room 1024)) in
     let z : _≡_ {A = ℕ} 2 1 = cc in omega arith
-fixed-answer-falls C (fixed-available f) M =
+fixed-answer-falls C (fixed-available f) M H =
     let x = M .case-6-available (zeros 16) (room 16) in
     let q : No ≡ Yes = sym (x .0) ∙ f _ _ _ _ _ _ _ ∙ x .1 in
     let z : _≡_ {A = ℕ} 0 1 = cc in omega arith
-fixed-answer-falls C (fixed-targets f) M =
+fixed-answer-falls C (fixed-targets f) M H =
     let out = pos 0 ∷ pos 0 ∷ pos 0 ∷ pos 0 ∷ [] in
     let first : targets.Outcome → ℤ = λ y. getD (y .out) 0 (pos 0) in
     let q : pos 33 ≡ pos 1 =
     sym (ap first (M .case-7 (zeros 48) out (room 48) (omega arith))) ∙ ap first (f _ _ out)
     ∙ ap first (M .case-8 (zeros 64) out (room 64) (omega arith)) in
     let z : _≡_ {A = ℕ} 33 1 = cc in omega arith
-fixed-answer-falls C (fixed-rotations f) M =
+fixed-answer-falls C (fixed-rotations f) M H =
     let a = M .case-11 0 0 0 (0 ∷ 0 ∷ 0 ∷ 0 ∷ []) (omega arith) (omega arith) (omega arith) (omega arith) in
     let b = M .case-11 0 0 0 (0 ∷ 0 ∷ 1 ∷ 0 ∷ []) (omega arith) (omega arith) (omega arith) (omega arith) in
     let third : Written → ℕ = λ w. getD (w .buffer) 2 0 in
     let z : _≡_ {A = ℕ} 0 1 = sym (ap third a) ∙ ap third (f _ _ _ _ _ _) ∙ ap third b in omega arith
-fixed-answer-falls C (fixed-play f) M =
+fixed-answer-falls C (fixed-play f) M H =
     let a = M .case-12 (spare (0 ∷ 0 ∷ [])) (omega arith) in
     let b = M .case-12 (spare (0 ∷ 1 ∷ [])) (omega arith) in
     let second : rota.Outcome → ℕ = λ y. getD (y .answers) 1 0 in
@@ -116,9 +166,11 @@ fixed-answer-falls C (fixed-play f) M =
 
 -- ---- doing nothing
 
-pub doing-nothing-keeps : (C : Component) → DoesNothing C → FrozenKeep C × OwnersAvailable C × CoveredStays C
+-- the total too, where the uncovered minutes are told as they are
+pub doing-nothing-keeps : (C : Component) → DoesNothing C
+    → FrozenKeep C × OwnersAvailable C × CoveredStays C × (((P : Plan) (o : List ℕ) → C .uncovered P o ≡ built .uncovered P o) → AddsUp C)
 doing-nothing-keeps C f =
-    let same : (c : Call) (k : ℕ) → after C c k ≡ getD (c .owners) k 0 = λ c k. ap (λ (o : List ℕ). getD o k 0) (f c) in (
+    let same : (c : Call) (k : ℕ) → after C c k ≡ getD (c .owners) k 0 = λ c k. ap (λ (o : List ℕ). getD o k 0) (f .owners c) in (
       λ c e k h z. same c k,
       λ c e k h.
           let r = recount-says (c .plan) (c .avail) (c .units) (c .firsts) (c .owners) (c .derived) (accepted-says c e .recount) in (
@@ -126,6 +178,12 @@ doing-nothing-keeps C f =
             ap (λ (w : ℕ). availableFor (c .avail) w k) (same c k) ∙ r .available k h,
           ),
       λ c e k h owned now. owned (sym (same c k) ∙ now),
+      λ tells c e.
+          let t = told-total c e (c .owners) (c .derived) (asks c e .grounds .on .room .owners-room) (accepted-says c e .recount) in (
+            t .0,
+            tells (c .plan) (C .play c .owners) ∙ ap (built .uncovered (c .plan)) (f .owners c) ∙ t .1,
+            ap (λ (D : Derived). sum (c .plan .people) (λ p. getD (D .minutes) p 0) + t .0) (f .derived c) ∙ t .2,
+          ),
     )
 
 -- owners 0 and 1, nothing frozen, the swap of both units: it acts
@@ -145,7 +203,7 @@ swap-acts = refl
 pub doing-nothing-falls : (C : Component) → DoesNothing C → ActsByRule C → ⊥
 doing-nothing-falls C f g =
     let first : List ℕ → ℕ = λ o. getD o 0 0 in
-    let z : _≡_ {A = ℕ} 0 1 = ap first (sym (f swap) ∙ g swap swap-accepted ∙ swap-acts) in omega arith
+    let z : _≡_ {A = ℕ} 0 1 = ap first (sym (f .owners swap) ∙ g swap swap-accepted ∙ swap-acts) in omega arith
 
 -- ---- playing only the first draw
 
@@ -183,17 +241,13 @@ half = record { first = 0; second = 255; words0 = 1; words1 = 0; minutes0 = 60; 
 abbrev at-rest : Owned → Call
 at-rest r = twoUnits r 0 0 [] [] [] (spare [])
 
-both-accepted : noOf (at-rest both-his) ≡ 0
+rest-accepted : (noOf (at-rest both-his) ≡ 0) × (noOf (at-rest half) ≡ 0)
 unfolding recounts all allIn knownAt knownBy availableAt availableFor available evenAt unitEnd setAt setSlotAt held minutesOkAt worked
-    portion sum
-    minutesAt slot bitOf
-both-accepted = accepted both-his 0 0 [] [] [] (spare []) refl refl refl refl (omega arith) refl
-
-half-accepted : noOf (at-rest half) ≡ 0
-unfolding recounts all allIn knownAt knownBy availableAt availableFor available evenAt unitEnd setAt setSlotAt held minutesOkAt worked
-    portion sum
-    minutesAt slot bitOf
-half-accepted = accepted half 0 0 [] [] [] (spare []) refl refl refl refl (omega arith) refl
+    portion sum minutesAt slot bitOf
+rest-accepted = (
+  accepted both-his 0 0 [] [] [] (spare []) refl refl refl refl (omega arith) refl,
+  accepted half 0 0 [] [] [] (spare []) refl refl refl refl (omega arith) refl,
+)
 
 -- of owners 0 and 0 person 0 has two slots, person 1 none
 counts-differ : (count 2 (λ k. eqb (getD (0 ∷ 0 ∷ []) k 0) 0) ≡ 2) × (count 2 (λ k. eqb (getD (0 ∷ 0 ∷ []) k 0) 1) ≡ 0)
@@ -206,7 +260,7 @@ module _ (C : Component) (g : EndsAfresh C) where
 
   owners-rest : C .play c .owners ≡ 0 ∷ 0 ∷ []
   unfolding drawsOf ownersAfter
-  owners-rest = ap (λ (y : rota.Outcome). y .owners) (g c both-accepted)
+  owners-rest = ap (λ (y : rota.Outcome). y .owners) (g c (rest-accepted .0))
 
   abbrev setOf : rota.Outcome → ℕ → SlotSet
   setOf y p = rota.slotsOfIs 2 2 (y .derived .sets) p .set
@@ -217,13 +271,13 @@ module _ (C : Component) (g : EndsAfresh C) where
 
   same-lengths : setOf (C .play c) 0 .len ≡ setOf (C .play c) 1 .len
   same-lengths =
-      let q = g c both-accepted in
+      let q = g c (rest-accepted .0) in
       ap (λ (y : rota.Outcome). setOf y 0 .len) q ∙ afresh-lengths ∙ sym (ap (λ (y : rota.Outcome). setOf y 1 .len) q)
 
   count-of : SizesRecount C → (p n : ℕ) → p < 2 → count 2 (λ k. eqb (getD (0 ∷ 0 ∷ []) k 0) p) ≡ n
       → C .size (setOf (C .play c) p) ≡ counted.Is n
   count-of f p n h e =
-      f c both-accepted p h ∙ ap (λ (o : List ℕ). counted.Is (count 2 (λ k. eqb (getD o k 0) p))) owners-rest ∙ ap counted.Is e
+      f c (rest-accepted .0) p h ∙ ap (λ (o : List ℕ). counted.Is (count 2 (λ k. eqb (getD o k 0) p))) owners-rest ∙ ap counted.Is e
 
   pub invented-count-falls : InventedCount C → SizesRecount C → ⊥
   invented-count-falls i f =
@@ -251,11 +305,11 @@ module _ (C : Component) (g : EndsAfresh C) where
   pub invented-uncovered-falls : InventedUncovered C → AddsUp C → ⊥
   invented-uncovered-falls i f =
       let a = f (at-rest apart) still-accepted in
-      let b = f (at-rest half) half-accepted in
+      let b = f (at-rest half) (rest-accepted .1) in
       let q : figure.Is (a .0) ≡ figure.Is (b .0) = sym (a .1) ∙ i _ _ _ ∙ b .1 in
       let z : a .0 ≡ b .0 = cc in
       let s : 120 + a .0 ≡ 120 =
       ap (λ (n : ℕ). n + a .0) (sym (ap minutes-in (g (at-rest apart) still-accepted) ∙ covered-sum)) ∙ a .2 ∙ both-hours in
       let t : 60 + b .0 ≡ 120 =
-      ap (λ (n : ℕ). n + b .0) (sym (ap minutes-in (g (at-rest half) half-accepted) ∙ half-sum)) ∙ b .2 ∙ both-hours in
+      ap (λ (n : ℕ). n + b .0) (sym (ap minutes-in (g (at-rest half) (rest-accepted .1)) ∙ half-sum)) ∙ b .2 ∙ both-hours in
       omega arith

@@ -1,10 +1,10 @@
 -- The job, by the laws of job. Assumes nothing.
 use mathlib.Core.Path.{refl, sym}
 use Rattle.job.specs.Outcome.{jobResult}
-use Rattle.job.proofs.Layouts.{rule-13}
-use Rattle.job.proofs.Digits.{digits-value}
+use Rattle.job.proofs.Layouts.{rule-13, counts-read, columns-read, settings-read}
+use Rattle.job.proofs.Digits.{digits-value, signed-value}
 use Rattle.job.proofs.Promises.{lowest-heard, accepted-exactly, refused-keeps, listing-stands, listing-fits, total, targets-total}
-use Rattle.job.proofs.Promises.{frozen-keeps, stays-covered, owners-fit}
+use Rattle.job.proofs.Promises.{frozen-keeps, stays-covered, owners-fit, base-total-read}
 use Rattle.promises.specs.JobRules.{JobByRule}
 
 pub job-by-rule : JobByRule
@@ -13,6 +13,10 @@ job-by-rule = record {
   told = accepted-exactly;
   kept = λ s x n e. refused-keeps s x n (jobResult s x .out) record { heard = sym e; left = refl };
   file = rule-13;
+  counts = counts-read;
+  columns = columns-read;
+  settings = settings-read;
+  base-total = base-total-read;
   accepted = λ s x n e. record {
     listing = listing-stands s x n e;
     fits = listing-fits s x n e;
@@ -23,4 +27,5 @@ job-by-rule = record {
     owners = owners-fit s x n e;
   };
   digits = digits-value;
+  signed = signed-value;
 }

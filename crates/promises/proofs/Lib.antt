@@ -1,5 +1,6 @@
 -- The proofs of what is promised.
 pub mod Table
+pub mod Tests
 pub mod Calls
 pub mod TwoUnits
 pub mod Refusals
@@ -11,6 +12,7 @@ pub mod UnitRules
 pub mod TargetRules
 pub mod TargetCases
 pub mod Marked
+pub mod RotaRules
 pub mod Rota
 pub mod MoveRules
 pub mod JobRules

@@ -40,7 +40,7 @@ use Rattle.promises.specs.Refusals.{atomiseTable, availabilityTable, sta
 use Rattle.promises.proofs.Table.{all-pass}
 use Rattle.promises.proofs.SlotRules.{told-is}
 use Rattle.promises.proofs.TwoUnits.{case-12}
-use Rattle.promises.proofs.TargetCases.{case-7, case-8, case-9, case-10}
+use Rattle.promises.proofs.TargetCases.{cases-7-to-10}
 use Rattle.promises.specs.Entries.{built}
 use Rattle.promises.specs.Marked.{MarkedCases, inWords, onePerson, atoms, mondays}
 
@@ -120,33 +120,23 @@ module _ (B : Base) where
         (front s (B .outStarts) (omega arith))
         (front e (B .outEnds) (omega arith) ∙ ap (λ (n : ℕ). e ++ drop n (B .outEnds)) even)
 
-case-4 : (a b : List ℕ) → 1024 ≤ length a → 1024 ≤ length b
-    → built .atomise (onePerson 1 (0 ∷ []) (120 ∷ []) 1 (60 ∷ []) (180 ∷ []) a b) ≡ atoms 2 (0 ∷ 60 ∷ []) (60 ∷ 120 ∷ []) a b
-unfolding splitCountsOk peopleOk slotCountOk rangeCountOk slotRoomOk rangeRoomOk slotsOk slotOkAt slotOk prevEnd all rangesOk rangeOkAt rangeOk
-    atomStarts atomEnds cutsIn cutAfter isCut startsOrEnds anyOf among mergedOf mergeAll mergeIn keysOf keysTo keyAt keyOf personOf startOf
-    endOf opens closes joined
-case-4 a b =
-    atomised (onePerson 1 (0 ∷ []) (120 ∷ []) 1 (60 ∷ []) (180 ∷ []) a b) (0 ∷ 60 ∷ []) (60 ∷ 120 ∷ [])
-    refl refl refl refl refl refl refl refl refl
-
-case-5 : (a b : List ℕ) → 1024 ≤ length a → 1024 ≤ length b
-    → built .atomise (onePerson 1 (0 ∷ []) (120 ∷ []) 2 (0 ∷ 60 ∷ []) (60 ∷ 120 ∷ []) a b) ≡ atoms 1 (0 ∷ []) (120 ∷ []) a b
-unfolding splitCountsOk peopleOk slotCountOk rangeCountOk slotRoomOk rangeRoomOk slotsOk slotOkAt slotOk prevEnd all rangesOk rangeOkAt rangeOk
-    atomStarts atomEnds cutsIn cutAfter isCut startsOrEnds anyOf among mergedOf mergeAll mergeIn keysOf keysTo keyAt keyOf personOf startOf
-    endOf opens closes joined
-case-5 a b =
-    atomised (onePerson 1 (0 ∷ []) (120 ∷ []) 2 (0 ∷ 60 ∷ []) (60 ∷ 120 ∷ []) a b) (0 ∷ []) (120 ∷ [])
-    refl refl refl refl refl refl refl refl refl
-
-case-6 : (a b : List ℕ) → 1024 ≤ length a → 1024 ≤ length b
-    → built .atomise (onePerson 2 (0 ∷ 60 ∷ []) (60 ∷ 120 ∷ []) 1 (30 ∷ []) (90 ∷ []) a b)
-    ≡ atoms 4 (0 ∷ 30 ∷ 60 ∷ 90 ∷ []) (30 ∷ 60 ∷ 90 ∷ 120 ∷ []) a b
-unfolding splitCountsOk peopleOk slotCountOk rangeCountOk slotRoomOk rangeRoomOk slotsOk slotOkAt slotOk prevEnd all rangesOk rangeOkAt rangeOk
-    atomStarts atomEnds cutsIn cutAfter isCut startsOrEnds anyOf among mergedOf mergeAll mergeIn keysOf keysTo keyAt keyOf personOf startOf
-    endOf opens closes joined
-case-6 a b =
-    atomised (onePerson 2 (0 ∷ 60 ∷ []) (60 ∷ 120 ∷ []) 1 (30 ∷ []) (90 ∷ []) a b) (0 ∷ 30 ∷ 60 ∷ 90 ∷ []) (30 ∷ 60 ∷ 90 ∷ 120 ∷ [])
-    refl refl refl refl refl refl refl refl refl
+-- one person's ranges split base slots
+cases-4-to-6 : (a b : List ℕ) → 1024 ≤ length a → 1024 ≤ length b
+    → (built .atomise (onePerson 1 (0 ∷ []) (120 ∷ []) 1 (60 ∷ []) (180 ∷ []) a b) ≡ atoms 2 (0 ∷ 60 ∷ []) (60 ∷ 120 ∷ []) a b)
+    × (built .atomise (onePerson 1 (0 ∷ []) (120 ∷ []) 2 (0 ∷ 60 ∷ []) (60 ∷ 120 ∷ []) a b) ≡ atoms 1 (0 ∷ []) (120 ∷ []) a b)
+    × (built .atomise (onePerson 2 (0 ∷ 60 ∷ []) (60 ∷ 120 ∷ []) 1 (30 ∷ []) (90 ∷ []) a b)
+    ≡ atoms 4 (0 ∷ 30 ∷ 60 ∷ 90 ∷ []) (30 ∷ 60 ∷ 90 ∷ 120 ∷ []) a b)
+unfolding splitCountsOk peopleOk slotCountOk rangeCountOk slotRoomOk rangeRoomOk slotsOk slotOkAt slotOk prevEnd all rangesOk rangeOkAt
+    rangeOk atomStarts atomEnds cutsIn cutAfter isCut startsOrEnds anyOf among mergedOf mergeAll mergeIn keysOf keysTo keyAt keyOf personOf
+    startOf endOf opens closes joined
+cases-4-to-6 a b l r = (
+  atomised (onePerson 1 (0 ∷ []) (120 ∷ []) 1 (60 ∷ []) (180 ∷ []) a b) (0 ∷ 60 ∷ []) (60 ∷ 120 ∷ [])
+      refl refl refl refl refl refl refl refl refl l r,
+  atomised (onePerson 1 (0 ∷ []) (120 ∷ []) 2 (0 ∷ 60 ∷ []) (60 ∷ 120 ∷ []) a b) (0 ∷ []) (120 ∷ [])
+      refl refl refl refl refl refl refl refl refl l r,
+  atomised (onePerson 2 (0 ∷ 60 ∷ []) (60 ∷ 120 ∷ []) 1 (30 ∷ []) (90 ∷ []) a b) (0 ∷ 30 ∷ 60 ∷ 90 ∷ []) (30 ∷ 60 ∷ 90 ∷ 120 ∷ [])
+      refl refl refl refl refl refl refl refl refl l r,
+)
 
 -- the four slots of case 6, one person with the range 30-90, and any words with room
 module _ (ws : List ℕ) (room : 16 ≤ length ws) where
@@ -211,14 +201,14 @@ marked-cases = record {
   case-1 = case-1;
   case-2 = case-2;
   case-3 = case-3;
-  case-4 = case-4;
-  case-5 = case-5;
-  case-6 = case-6;
+  case-4 = λ a b l r. cases-4-to-6 a b l r .0;
+  case-5 = λ a b l r. cases-4-to-6 a b l r .1;
+  case-6 = λ a b l r. cases-4-to-6 a b l r .2;
   case-6-available = case-6-available;
-  case-7 = case-7;
-  case-8 = case-8;
-  case-9 = case-9;
-  case-10 = case-10;
+  case-7 = cases-7-to-10 .0;
+  case-8 = cases-7-to-10 .1;
+  case-9 = cases-7-to-10 .2;
+  case-10 = cases-7-to-10 .3;
   case-11 = case-11;
   case-12 = case-12;
 }

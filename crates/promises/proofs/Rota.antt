@@ -1,46 +1,53 @@
 -- Demand 3, sentence by sentence, by the laws of rota. Assumes nothing.
-use mathlib.Core.Path.{_≡_, sym, ap, ap₂, _∙_}
-use mathlib.Core.Bool.{Bool, true, cond}
-use mathlib.Core.List.{List, [], _++_, append-assoc}
-use Prim.Native.Nat.{ℕ, _+_, _*_, _/_, _%_, _≤_, _<_}
+use mathlib.Core.Path.{_≡_, refl, sym, ap, ap₂, _∙_}
+use mathlib.Core.Bool.{Bool, true, false, cond, _&&_, _||_, or-assoc}
+use mathlib.Core.List.{List, [], _∷_, _++_, append-assoc}
+use Prim.Native.Nat.{ℕ, zero, suc, _+_, _*_, _≤_, _<_}
 use native.Mathlib.Omega.{arith}
-use borrow.Author.Tests.{le-leb, leb-true, lt-ltb}
+use borrow.Author.Tests.{eqb-true, le-leb, leb-true}
 use lib.Dec.{leb, eqb}
-use lib.ListN.{length, getD, take, drop, replicate, length-append, length-drop}
-use lib.Seq.{getD-take, getD-drop, take-at, drop-at, drop-drop}
+use lib.ListN.{length, getD, take, drop, length-append, length-drop}
+use lib.Seq.{take-at, drop-at, drop-drop}
 use Rattle.paper.specs.Count.{all, sum, count, onto}
 use Rattle.paper.specs.Limits.{peopleOk, slotCountOk, orElse, countsOk}
-use Rattle.paper.specs.Bits.{bitOf}
-use Rattle.paper.proofs.Logic.{both, five, and-true, slot-count-says}
+use Rattle.paper.proofs.Logic.{by-test, both, five, and-true, slot-count-says}
 use Rattle.paper.proofs.Count.{each-all, sum-same}
 use Rattle.slotset.specs.declared.SlotSet.{SlotSet}
 use Rattle.slotset.specs.declared.Counted.the-variants as counted
 use Rattle.slotset.specs.Slots.{slot, size}
 use Rattle.slotset.specs.Answers.{lenNo, rowNo, countedAs, loadOf}
+use Rattle.slotset.proofs.Refusals.{says-row}
 use Rattle.slots.specs.Lent.{slotRoomOk, demandOf}
 use Rattle.rota.specs.declared.Figure.the-variants.{Is}
-use Rattle.rota.specs.Moves.{Draw}
-use Rattle.rota.specs.Plays.{drawsOf, ownersAfter, answers}
-use Rattle.rota.specs.Derived.{knownBy, uncovered, held, afresh}
+use Rattle.units.specs.Units.{unitOf}
+use Rattle.rota.specs.Board.{Board}
+use Rattle.rota.specs.Moves.{Draw, handed}
+use Rattle.rota.specs.Plays.{step, drawsOf, ownersAfter, answer, answers, touched}
+use Rattle.rota.specs.Derived.{Derived, knownBy, uncovered, held, afresh}
 use Rattle.rota.specs.Recount.{availableFor, knownAt, recounts}
 use Rattle.rota.specs.Entries.{Outcome, roomOk, uncoveredIs, figureAs, ground, slotsOfIs}
 use Rattle.rota.proofs.Entered.{PlayAsks, play-asks, recount-says}
 use Rattle.rota.proofs.Plays.{play-length, answers-length, draws-length}
 use Rattle.rota.proofs.Steps.{afresh-lengths}
+use Rattle.rota.proofs.Drawn.{draw-acts-exactly, handed-exactly}
 use Rattle.rota.proofs.Promises.{frozen-slots-keep, covered-stays, only-handed-over, owners-known, owners-available, played-recounts}
 use Rattle.rota.proofs.Promises.{owners-past-stay, derived-past-stay, answers-past-stay}
 use Rattle.rota.proofs.Promises.{minutes-and-uncovered, two-calls-owners, two-calls-answers, two-calls-derived}
 use Rattle.promises.specs.Entries.{Call, built, noOf, playOf, afreshIn, boardIn, ownersIn, drawsIn}
-use Rattle.promises.specs.Rota.{EndsAfresh, FrozenKeep, OwnersAvailable, CoveredStays, OnlyHandedOver, Recounts, AddsUp, after}
-use Rattle.promises.specs.Rota.{SizesRecount, PastStays, firstCall, nextCall, secondCall, Words, InTwo, TwoCalls}
+use Rattle.promises.specs.Rota.{EndsAfresh, DrawsAlike, FrozenKeep, OwnersAvailable, CoveredStays, HandedAt, OnlyHandedOver, Recounts}
+use Rattle.promises.specs.Rota.{AddsUp, after, SizesRecount, PastStays, firstCall, nextCall, secondCall, Words, InTwo, TwoCalls}
+use Rattle.promises.specs.MoveRules.{drawAt, foundAt}
 use Rattle.promises.specs.Empty.{ActsByRule}
-use Rattle.promises.specs.SetRefusals.{rowTable}
 use Rattle.promises.proofs.Table.{all-pass}
+use Rattle.promises.proofs.SetRules.{row-slot, load-is}
 use Rattle.promises.proofs.RotaRefusals.{refused-set, uncoveredTable}
 use Rattle.promises.proofs.Calls.{accepted-is, Accepted, accepted-says, says-accepted}
 
 pub ends-afresh : EndsAfresh built
 ends-afresh = accepted-is
+
+pub draws-alike : DrawsAlike
+draws-alike c ds = refl
 
 -- what an accepted call was asked
 module _ (c : Call) (e : noOf c ≡ 0) where
@@ -68,8 +75,41 @@ covered-stay c e k h owned now =
     covered-stays (c .plan) (c .avail) (c .units) (c .firsts) (c .frozen) (c .count) (c .kinds) (c .ones) (c .twos) (c .owners)
     (c .derived) (c .answers) (asks c e) (drawsIn c) k h owned (sym (owner-is c e k) ∙ now)
 
+-- ---- only what is handed over
+
+touched-append : (B : Board) (o : List ℕ) (ds es : List Draw) (u : ℕ)
+    → touched B o (ds ++ es) u ≡ touched B o ds u || touched B (ownersAfter B o ds) es u
+unfolding touched ownersAfter
+touched-append B o [] es u = refl
+touched-append B o (d ∷ ds) es u =
+    let a = eqb (answer B o d) 0 && handed B o d u in
+    ap (λ (b : Bool). a || b) (touched-append B (step B o d) ds es u)
+    ∙ sym (or-assoc a (touched B (step B o d) ds u) (touched B (ownersAfter B (step B o d) ds) es u))
+
+-- no draw before n hands unit u over: the list of those draws doesn't touch it
+untouched : (c : Call) (u n : ℕ) → ((i : ℕ) → i < n → HandedAt c i u → ⊥)
+    → touched (boardIn c) (c .owners) (drawsOf (c .kinds) (c .ones) (c .twos) n) u ≡ false
+unfolding drawsOf touched
+untouched c u zero f = refl
+untouched c u (suc n) f =
+    let B = boardIn c in
+    let o = foundAt c n in
+    let d = drawAt c n in
+    let last : touched B o (d ∷ []) u ≡ false =
+    by-test (eqb (answer B o d) 0) _
+    (λ a.
+    by-test (handed B o d u) _
+    (λ t.
+    let A = draw-acts-exactly B o d .acts .0 (eqb-true (answer B o d) 0 a) in
+    absurd (f n (omega arith) record { acting = A; over = handed-exactly B o d A u .0 t }))
+    (λ t. ap₂ (λ (x y : Bool). (x && y) || false) a t))
+    (λ a. ap (λ (x : Bool). (x && handed B o d u) || false) a) in
+    touched-append B (c .owners) (drawsOf (c .kinds) (c .ones) (c .twos) n) (d ∷ []) u
+    ∙ ap₂ _||_ (untouched c u n (λ i h. f i (omega arith))) last
+
 pub only-handed : OnlyHandedOver built
-only-handed c e k h z =
+only-handed c e k h none =
+    let z = untouched c (unitOf (c .units) (c .firsts) k) (c .count) none in
     owner-is c e k
     ∙ only-handed-over (c .plan) (c .avail) (c .units) (c .firsts) (c .frozen) (c .count) (c .kinds) (c .ones) (c .twos) (c .owners)
     (c .derived) (c .answers) (asks c e) (drawsIn c) k h z
@@ -99,51 +139,45 @@ recounted c e =
 
 -- ---- the total
 
-module _ (c : Call) (e : noOf c ≡ 0) where
-  room-after : leb (c .plan .slots) (length (ownersIn c)) ≡ true
-  room-after =
-      le-leb (c .plan .slots) (length (ownersIn c))
-      (omega (arith, asks c e .grounds .on .room .owners-room, play-length (boardIn c) (c .owners) (drawsIn c)))
-
-  known-after : all (c .plan .slots) (knownAt (c .plan .people) (ownersIn c)) ≡ true
+-- of any owners, sets and minutes that pass the recount
+module _ (c : Call) (e : noOf c ≡ 0) (o : List ℕ) (D : Derived) (room : c .plan .slots ≤ length o)
+    (right : recounts (c .plan) (c .avail) (c .units) (c .firsts) o D ≡ true) where
+  all-known : all (c .plan .slots) (knownAt (c .plan .people) o) ≡ true
   unfolding knownAt
-  known-after =
-      each-all (c .plan .slots) (λ k. knownBy (c .plan .people) (getD (ownersIn c) k 0))
-      (recount-says (c .plan) (c .avail) (c .units) (c .firsts) (ownersIn c) (afresh (c .plan) (ownersIn c) (c .derived))
-      (afresh-recounts c e) .known)
+  all-known =
+      each-all (c .plan .slots) (λ k. knownBy (c .plan .people) (getD o k 0))
+      (recount-says (c .plan) (c .avail) (c .units) (c .firsts) o D right .known)
 
-  told : uncoveredIs (c .plan) (ownersIn c) ≡ Is (uncovered (c .plan) (ownersIn c))
+  told : uncoveredIs (c .plan) o ≡ Is (uncovered (c .plan) o)
   unfolding uncoveredIs figureAs roomOk ground
   told =
       let A = accepted-says c e in
       let r = both (slotRoomOk (c .plan .slots) (c .plan .starts) (c .plan .ends)) _ (A .room) in
-      ap (λ (n : ℕ). figureAs n (uncovered (c .plan) (ownersIn c)))
-      (all-pass (uncoveredTable (c .plan) (ownersIn c)) (A .counts, (and-true _ _ (r .0) room-after, (A .slots, (known-after, tt)))))
+      ap (λ (n : ℕ). figureAs n (uncovered (c .plan) o))
+      (all-pass (uncoveredTable (c .plan) o)
+      (A .counts, (and-true _ _ (r .0) (le-leb (c .plan .slots) (length o) room), (A .slots, (all-known, tt)))))
 
-  total : sum (c .plan .people) (λ p. getD (afresh (c .plan) (ownersIn c) (c .derived) .minutes) p 0) + uncovered (c .plan) (ownersIn c)
-      ≡ demandOf (c .plan .slots) (c .plan .starts) (c .plan .ends)
-  total =
-      minutes-and-uncovered (c .plan) (asks c e .grounds .on .sound) (c .avail) (c .units) (c .firsts) (ownersIn c)
-      (afresh (c .plan) (ownersIn c) (c .derived)) (afresh-recounts c e)
+  pub told-total : (u : ℕ) × (uncoveredIs (c .plan) o ≡ Is u)
+      × (sum (c .plan .people) (λ p. getD (D .minutes) p 0) + u ≡ demandOf (c .plan .slots) (c .plan .starts) (c .plan .ends))
+  told-total = (
+    uncovered (c .plan) o,
+    told,
+    minutes-and-uncovered (c .plan) (asks c e .grounds .on .sound) (c .avail) (c .units) (c .firsts) o D right,
+  )
+
+owners-room : (c : Call) → noOf c ≡ 0 → c .plan .slots ≤ length (ownersIn c)
+owners-room c e = omega (arith, asks c e .grounds .on .room .owners-room, play-length (boardIn c) (c .owners) (drawsIn c))
 
 pub adds-up : AddsUp built
 adds-up c e =
-    let q = accepted-is c e in (
-      uncovered (c .plan) (ownersIn c),
-      ap (λ (y : Outcome). uncoveredIs (c .plan) (y .owners)) q ∙ told c e,
-      ap (λ (y : Outcome). sum (c .plan .people) (λ p. getD (y .derived .minutes) p 0) + uncovered (c .plan) (ownersIn c)) q ∙ total c e,
+    let q = accepted-is c e in
+    let t = told-total c e (ownersIn c) (afreshIn c .derived) (owners-room c e) (afresh-recounts c e) in (
+      t .0,
+      ap (λ (y : Outcome). uncoveredIs (c .plan) (y .owners)) q ∙ t .1,
+      ap (λ (y : Outcome). sum (c .plan .people) (λ p. getD (y .derived .minutes) p 0) + t .0) q ∙ t .2,
     )
 
 -- ---- the count of a person's set
-
--- a person's row as a set by value has its slots
-row-slot : (ws : List ℕ) (p k : ℕ) → k < 1024 → slot (take 16 (drop (16 * p) ws)) 0 k ≡ slot ws (16 * p) k
-unfolding slot
-row-slot ws p k h =
-    let w : 0 + k / 64 < 16 = omega arith in
-    let e : 16 * p + (0 + k / 64) ≡ 16 * p + k / 64 = omega arith in
-    ap (λ (x : ℕ). bitOf x (k % 64))
-    (getD-take 16 (drop (16 * p) ws) (0 + k / 64) 0 w ∙ getD-drop (16 * p) ws (0 + k / 64) 0 ∙ ap (λ (j : ℕ). getD ws j 0) e)
 
 module _ (people slots : ℕ) (ws : List ℕ) (p : ℕ) (e : countsOk people slots ≡ true) (room : 16 * people ≤ length ws) (h : p < people) where
   abbrev row : SlotSet
@@ -153,26 +187,20 @@ module _ (people slots : ℕ) (ws : List ℕ) (p : ℕ) (e : countsOk people slo
   unfolding countsOk
   counts = both (peopleOk people) (slotCountOk slots) e
 
-  few : leb slots 1024 ≡ true
-  few = le-leb slots 1024 (slot-count-says slots (counts .1) .1)
+  few : slots ≤ 1024
+  few = slot-count-says slots (counts .1) .1
 
   row-none : rowNo ws people p slots ≡ 0
-  unfolding rowNo
-  row-none =
-      all-pass (rowTable ws people p slots [])
-      (and-true _ _ (counts .0) few, (le-leb (16 * people) (length ws) room, (lt-ltb p people h, tt)))
+  row-none = says-row ws people p slots (counts .0) few room h
 
   row-is : slotsOfIs people slots ws p .set ≡ row
-  unfolding slotsOfIs loadOf
+  unfolding slotsOfIs
   row-is =
-      ap (λ (b : Bool). cond b (loadOf ws people p slots) refused-set .set) (counts .1)
-      ∙ ap {B = SlotSet}
-      (λ (n : ℕ). record { words = cond (eqb n 0) (take 16 (drop (16 * p) ws)) (replicate 16 0); len = cond (eqb n 0) slots 0 })
-      row-none
+      ap (λ (b : Bool). cond b (loadOf ws people p slots) refused-set .set) (counts .1) ∙ load-is ws people p slots row-none
 
   row-size : built .size row ≡ counted.Is (sum slots (slot (take 16 (drop (16 * p) ws)) 0))
   unfolding countedAs lenNo size
-  row-size = ap (λ (b : Bool). countedAs (orElse b 1 0) (sum slots (slot (take 16 (drop (16 * p) ws)) 0))) few
+  row-size = ap (λ (b : Bool). countedAs (orElse b 1 0) (sum slots (slot (take 16 (drop (16 * p) ws)) 0))) (le-leb slots 1024 few)
 
   -- of a rota whose sets are right
   size-is : (o : List ℕ) → ((k : ℕ) → k < slots → slot ws (16 * p) k ≡ held o p k)
@@ -181,7 +209,7 @@ module _ (people slots : ℕ) (ws : List ℕ) (p : ℕ) (e : countsOk people slo
   size-is o right =
       ap (built .size) row-is ∙ row-size
       ∙ ap counted.Is (sum-same slots (slot (take 16 (drop (16 * p) ws)) 0) (held o p)
-      (λ k b. row-slot ws p k (omega (arith, leb-true slots 1024 few)) ∙ right k b))
+      (λ k b. row-slot ws p k (omega (arith, few)) ∙ right k b))
 
 pub sizes-recounted : SizesRecount built
 sizes-recounted c e p h =
@@ -200,18 +228,19 @@ pub past-stays : PastStays built
 past-stays c e =
     let w = accepted-is c e in
     let d = derived-past-stay (c .plan) (c .avail) (c .units) (c .firsts) (c .frozen) (c .count) (c .kinds) (c .ones) (c .twos) (c .owners)
-    (c .derived) (c .answers) (asks c e) (drawsIn c) in
-    record {
-      owners = λ k h.
-          owner-is c e k
-          ∙ owners-past-stay (c .plan) (c .avail) (c .units) (c .firsts) (c .frozen) (c .count) (c .kinds) (c .ones) (c .twos) (c .owners)
-          (c .derived) (c .answers) (asks c e) (drawsIn c) k h;
-      minutes = λ p h. ap (λ (y : Outcome). getD (y .derived .minutes) p 0) w ∙ d .1 p h;
-      answers = λ k h.
+    (c .derived) (c .answers) (asks c e) (drawsIn c) in (
+      record {
+        owners = λ k h.
+            owner-is c e k
+            ∙ owners-past-stay (c .plan) (c .avail) (c .units) (c .firsts) (c .frozen) (c .count) (c .kinds) (c .ones) (c .twos) (c .owners)
+            (c .derived) (c .answers) (asks c e) (drawsIn c) k h;
+        minutes = λ p h. ap (λ (y : Outcome). getD (y .derived .minutes) p 0) w ∙ d .1 p h;
+        sets = λ i b. ap (λ (y : Outcome). slot (y .derived .sets) 0 i) w ∙ d .0 i b;
+      },
+      λ k h.
           ap (λ (y : Outcome). getD (y .answers) k 0) w
-          ∙ answers-past-stay (boardIn c) (c .owners) (c .kinds) (c .ones) (c .twos) (c .answers) (c .count) k h;
-      sets = λ i b. ap (λ (y : Outcome). slot (y .derived .sets) 0 i) w ∙ d .0 i b;
-    }
+          ∙ answers-past-stay (boardIn c) (c .owners) (c .kinds) (c .ones) (c .twos) (c .answers) (c .count) k h,
+    )
 
 -- ---- two calls
 
@@ -264,7 +293,7 @@ module _ (c : Call) (n m : ℕ) (s : c .count ≡ n + m) (e : noOf c ≡ 0) (f :
       let r = five (slotRoomOk (c .plan .slots) (c .plan .starts) (c .plan .ends)) (leb (16 * c .plan .people) (length (c .avail)))
       (leb (c .plan .slots) (length (c .owners))) (leb (16 * c .plan .people) (length (c .derived .sets)))
       (leb (c .plan .people) (length (c .derived .minutes))) (A .room) in
-      and-true _ _ (r .0) (and-true _ _ (r .1) (and-true _ _ (room-after one first-accepted)
+      and-true _ _ (r .0) (and-true _ _ (r .1) (and-true _ _ (le-leb _ _ (owners-room one first-accepted))
       (and-true _ _ (ap (leb (16 * c .plan .people)) (l .0) ∙ r .3) (ap (leb (c .plan .people)) (l .1) ∙ r .4))))
 
   abbrev said : List ℕ

@@ -23,7 +23,7 @@ use Rattle.rota.specs.Derived.{Plan, Derived, derived, knownBy, afresh, setsFro
 use Rattle.rota.specs.Recount.{availableFor, knownAt, availableAt, recounts}
 use Rattle.rota.specs.Entries as rota
 use Rattle.rota.specs.Entries.{figureNo}
-use Rattle.promises.specs.Entries.{Call, playOf, afreshIn}
+use Rattle.promises.specs.Entries.{Call, playOf, ofDraws, afreshIn}
 use Rattle.promises.specs.Table.{Row, row, rules, Applies, Heard, Hears, Refuses}
 use Rattle.promises.specs.Refusals.{targetsChecks, guard, TargetsRefuse, rotaTable, recountTable, playTable, emptyTable, ownersTable}
 use Rattle.promises.specs.Refusals.{Lent, left, RotaRefuses}
@@ -206,6 +206,7 @@ rota-refuses = record {
   recount = recount-heard;
   recount-slots = recount-slots-heard;
   play = play-refuses;
+  play-draws = λ c ds. play-refuses (ofDraws c ds);
   empty = empty-refuses;
   owner-of-slot = owner-heard;
   minutes-of = minutes-heard;

@@ -1,5 +1,5 @@
 -- Demand 1 of slot sets. Assumes nothing.
-use mathlib.Core.Path.{_≡_, refl, ap}
+use mathlib.Core.Path.{_≡_, refl, ap, _∙_}
 use mathlib.Core.Bool.{Bool, true, false, cond, _&&_, _||_}
 use mathlib.Core.List.{List, [], _∷_}
 use Prim.Native.Nat.{ℕ, _-_, _*_}
@@ -19,9 +19,10 @@ use Rattle.slotset.specs.Runs.{firstOfRun, lastOfRun}
 use Rattle.slotset.specs.Answers.{lenNo, slotNo, stretchNo, rowNo, rowStretchNo, slotsOf, foundAs, runAs, runStep, nextRunAs, memberStep}
 use Rattle.slotset.specs.Answers.{nextMemberAs, changedAs, newOf, putOf, stretchOf, loadOf, wordsAs, storeOf, rowStretchOf}
 use Rattle.slotset.proofs.Meaning.{next-is, last-is}
-use Rattle.promises.specs.Table.{Row, row, rules, Hears, Refuses}
-use Rattle.promises.specs.SetRefusals.{foundNo, runNo, nextRunNo, nextMemberNo, lengthTable, slotTable, stretchTable, rowTable}
-use Rattle.promises.specs.SetRefusals.{SetsRefuse}
+use Rattle.runs.specs.Listed.{listNo, column, runsOf, allRunsOf}
+use Rattle.promises.specs.Table.{Row, row, rules, Hears, Refuses, countedNo}
+use Rattle.promises.specs.SetRefusals.{foundNo, runNo, nextRunNo, nextMemberNo, lengthTable, slotTable, stretchTable}
+use Rattle.promises.specs.SetRefusals.{rowTable, runsTable, SetsRefuse}
 use Rattle.promises.proofs.Table.{chain, rising, chain-heard, heard-as}
 use Rattle.promises.proofs.Refusals.{by-number, told-no, counted-no, stays}
 
@@ -95,6 +96,23 @@ put-stretch-refuses v ws people person len a e = record {
   kept = stays _ (putSlots (λ _. v) (16 * person) a (e - a) ws) ws;
 }
 
+all-runs-refuse : (ws : List ℕ) (people person len : ℕ) (firsts lasts : List ℕ)
+    → let x = allRunsOf ws people person len firsts lasts in
+    Refuses {A = List ℕ × List ℕ} (rules (runsTable ws people person len (length firsts) (length lasts))) (countedNo (x .answer))
+    (firsts, lasts) (x .firsts, x .lasts)
+unfolding listNo wordsAs
+all-runs-refuse ws people person len firsts lasts =
+    let n = listNo ws people person len (length firsts) (length lasts) in
+    let l = runsOf ws person len in
+    let e = counted-no n (length l) in
+    record {
+      heard = heard-as (runsTable ws people person len (length firsts) (length lasts)) _ refl e;
+      kept = λ h.
+          ap {B = List ℕ × List ℕ}
+          (λ (b : Bool). (cond b (column (λ r. r .first) l 0 firsts) firsts, cond b (column (λ r. r .last) l 0 lasts) lasts))
+          (ne-eqb n 0 (λ z. h (e ∙ z)));
+    }
+
 -- ---- the answers
 
 first-none : (v : ℕ) (f : ℕ → ℕ) (len from : ℕ) (x : Found) → First v f len from x → foundNo x ≡ 0
@@ -161,6 +179,7 @@ sets-refuse = record {
   load = load-heard;
   store = store-refuses;
   put-stretch = put-stretch-refuses;
+  all-runs = all-runs-refuse;
   found-next = next-found;
   found-last = last-found;
   told = told-no;

@@ -1,25 +1,42 @@
 -- Demand 2, slot sets, by the laws of slotset. Assumes nothing.
-use mathlib.Core.Path.{_≡_, refl, ap, _∙_}
+use mathlib.Core.Path.{_≡_, refl, sym, ap, ap₂, _∙_, subst}
 use mathlib.Core.Bool.{Bool, cond}
-use mathlib.Core.Logic.{_↔_}
-use Prim.Native.Nat.{ℕ, suc, _+_, _/_, _<_}
+use mathlib.Core.List.{List, [], _∷_}
+use mathlib.Core.Logic.{_↔_, inr, ⊎-elim}
+use Prim.Native.Nat.{ℕ, zero, suc, _+_, _-_, _*_, _/_, _%_, _≤_, _<_}
 use native.Mathlib.Omega.{arith}
-use borrow.Author.Tests.{leb-true, ltb-true}
-use lib.Dec.{eqb, leb, ltb}
-use lib.ListN.{length}
+use borrow.Author.Tests.{eq-eqb, ne-eqb, le-leb, lt-ltb}
+use lib.Dec.{eqb}
+use lib.ListN.{length, getD, take, drop, replicate, getD-replicate, List·getD-eq-default}
+use lib.Seq.{getD-take, getD-drop}
+use Rattle.paper.specs.Bits.{bitOf}
 use Rattle.paper.specs.Count.{among}
-use Rattle.paper.proofs.Logic.{by-test, cond-zero}
+use Rattle.paper.proofs.Logic.{by-test, and-true, zero-of, lt-or-ge}
+use Rattle.paper.proofs.Count.{each-all, all-fails}
+use Rattle.paper.proofs.Bits.{bit-none}
 use Rattle.slotset.specs.declared.SlotSet.{SlotSet}
+use Rattle.slotset.specs.declared.Found.{Found}
+use Rattle.slotset.specs.declared.Found.the-variants.{At, Nothing, Refused}
 use Rattle.slotset.specs.declared.Run.the-variants as run
+use Rattle.slotset.specs.declared.Told.the-variants.{Yes, No}
+use Rattle.slotset.specs.declared.NextRun.{NextRun}
+use Rattle.slotset.specs.declared.NextRun.the-variants as nextRun
+use Rattle.slotset.specs.declared.NextMember.the-variants as nextMember
 use Rattle.slotset.specs.declared.Counted.the-variants as counted
-use Rattle.slotset.specs.Slots.{putSlot, has, Member, size}
-use Rattle.slotset.specs.Search.{nextWith, lastBelow, First, Last}
-use Rattle.slotset.specs.Runs.{firstOfRun, lastOfRun, allRuns, AreRuns, InRuns}
-use Rattle.slotset.specs.Answers.{slotNo, slotsOf, foundAs, runAs, countedAs, changedAs, putOf}
+use Rattle.slotset.specs.Slots.{slot, putSlot, putSlots, has, Member, size, noMember}
+use Rattle.slotset.specs.Search.{nextWith, lastBelow, nextSet, First, Last}
+use Rattle.slotset.specs.Runs.{firstOfRun, lastOfRun, endOf, Ends, whenFound, runs, allRuns, AreRuns, InRuns}
+use Rattle.slotset.specs.Answers.{lenNo, slotNo, stretchNo, rowNo, rowStretchNo, slotsOf, rowSlots, foundAs, toldAs, runAs, countedAs}
+use Rattle.slotset.specs.Answers.{runStep, nextRunAs, memberStep, nextMemberAs, changedAs, newOf, putOf, stretchOf, loadOf, wordsAs}
+use Rattle.slotset.specs.Answers.{storeOf, rowStretchOf}
+use Rattle.slotset.proofs.Puts.{slot-lt, slot-puts, slot-puts-other, puts-none}
+use Rattle.slotset.proofs.Refusals.{slot-says, stretch-says, row-says, row-stretch-says}
 use Rattle.slotset.proofs.Meaning.{next-is, next-unique, last-is, last-unique, next-same, last-same}
-use Rattle.slotset.proofs.Members.{size-members, put-here, put-elsewhere, size-same, all-runs-same}
-use Rattle.slotset.proofs.Runs.{has-member, member-has, run-around, around-unique, runs-are, runs-unique, runs-hold, runs-only}
-use Rattle.promises.specs.SetRules.{TheOne, Bits, RunIs, Put, SetsByRule}
+use Rattle.slotset.proofs.Members.{size-members, put-here, put-elsewhere, size-same, none-same, has-same, all-runs-same}
+use Rattle.slotset.proofs.Runs.{has-member, member-has, run-around, around-unique, runs-are, runs-unique, runs-hold, runs-only, run-same}
+use Rattle.runs.specs.Listed.{listNo, column, allRunsOf}
+use Rattle.runs.proofs.Listing.{list-says, column-at, column-stays}
+use Rattle.promises.specs.SetRules.{TheOne, Bits, RunIs, Put, Changes, firstAhead, FrontOf, SameAnswers, SetsByRule}
 
 next-found : (v : ℕ) (f : ℕ → ℕ) (len from : ℕ) → TheOne (First v f len from) (foundAs 0 (nextWith v f len from))
 unfolding foundAs
@@ -63,38 +80,312 @@ module _ (f : ℕ → ℕ) (bits : Bits f) (len : ℕ) where
   unfolding countedAs
   counted-members = ap counted.Is (size-members f len bits)
 
-put-found : (v : ℕ) (s : SlotSet) (i : ℕ) → v < 2 → length (s .words) ≡ 16 → slotNo (s .len) i ≡ 0 → Put v s i (putOf v s i .set)
-unfolding putOf changedAs slotNo
-put-found v s i small room e =
-    let a = cond-zero (leb (s .len) 1024) _ 0 e in
-    let b = cond-zero (ltb i (s .len)) 0 10 (a .1) in
-    let l = leb-true (s .len) 1024 (a .0) in
-    let k = ltb-true i (s .len) (b .0) in
-    let w : 0 + i / 64 < length (s .words) = omega arith in
-    let q : putOf v s i .set ≡ record { words = putSlot 0 i v (s .words); len = s .len } =
-    ap {B = SlotSet} (λ (n : ℕ). record { words = cond (eqb n 0) (putSlot 0 i v (s .words)) (s .words); len = s .len }) e in
+-- ---- membership
+
+contains-yes : (f : ℕ → ℕ) (len i : ℕ) → Member f len i → toldAs 0 (has f len i) ≡ Yes
+unfolding toldAs
+contains-yes f len i m = ap (λ (b : Bool). cond b Yes No) (member-has f len i m)
+
+contains-no : (f : ℕ → ℕ) (len i : ℕ) → (Member f len i → ⊥) → toldAs 0 (has f len i) ≡ No
+unfolding toldAs
+contains-no f len i h =
+    by-test (has f len i) _ (λ t. absurd (h (has-member f len i t))) (λ e. ap (λ (b : Bool). cond b Yes No) e)
+
+empty-yes : (f : ℕ → ℕ) → Bits f → (len : ℕ) → ((i : ℕ) → Member f len i → ⊥) → toldAs 0 (noMember f len) ≡ Yes
+unfolding toldAs noMember
+empty-yes f bits len h =
+    ap (λ (b : Bool). cond b Yes No)
+    (each-all len (λ k. eqb (f k) 0) (λ k l. eq-eqb (f k) 0 (zero-of (f k) (bits k) (λ q. h k (l, q)))))
+
+empty-no : (f : ℕ → ℕ) (len i : ℕ) → Member f len i → toldAs 0 (noMember f len) ≡ No
+unfolding toldAs noMember
+empty-no f len i m =
+    ap (λ (b : Bool). cond b Yes No)
+    (all-fails len i (λ k. eqb (f k) 0) (m .0) (ne-eqb (f i) 0 (λ q. omega (arith, q, m .1))))
+
+-- ---- readers
+
+module _ (f : ℕ → ℕ) (len at : ℕ) where
+  -- the answers, by the member that is found
+  run-at : (x : Found) → First 1 f len at x → nextRunAs 0 f len at ≡ runStep f len x
+  unfolding nextRunAs
+  run-at x w = ap (runStep f len) (sym (next-unique 1 f len at x w))
+
+  member-at : (x : Found) → First 1 f len at x → nextMemberAs 0 f len at ≡ memberStep x
+  unfolding nextMemberAs
+  member-at x w = ap memberStep (sym (next-unique 1 f len at x w))
+
+  -- a run that starts at slot `first` ends before the next unset slot
+  run-end : Bits f → (first last : ℕ) → first ≤ last → last < len → ((k : ℕ) → first ≤ k → k ≤ last → f k ≡ 1)
+      → (last + 1 < len → f (last + 1) ≡ 1 → ⊥) → lastOfRun f len first ≡ last
+  run-end bits first last h l all stop =
+      let set-before : (k : ℕ) → suc first ≤ k → k < last + 1 → f k ≡ 0 → ⊥ = λ k a b z.
+      omega (arith, z, all k (omega arith) (omega arith)) in
+      ⊎-elim
+      (λ (g : last + 1 < len).
+      let w : First 0 f len (suc first) (At (last + 1)) =
+      (omega arith, g, zero-of (f (last + 1)) (bits (last + 1)) (stop g), set-before) in
+      let e : last + 1 - 1 ≡ last = omega arith in
+      ap (endOf len) (sym (next-unique 0 f len (suc first) (At (last + 1)) w)) ∙ e)
+      (λ (g : len ≤ last + 1).
+      let w : First 0 f len (suc first) Nothing = λ k a b. set-before k a (omega arith) in
+      let e : len - 1 ≡ last = omega arith in
+      ap (endOf len) (sym (next-unique 0 f len (suc first) Nothing w)) ∙ e)
+      (lt-or-ge (last + 1) len)
+
+  next-run-is : Bits f → (l : List Ends) → AreRuns f len at l → nextRunAs 0 f len at ≡ firstAhead l
+  next-run-is bits [] x = run-at Nothing x
+  next-run-is bits (r ∷ rs) x =
+      run-at (At (r .first)) (x .0, omega (arith, x .1, x .2), x .4 (r .first) (omega arith) (x .1), x .3)
+      ∙ ap (λ (e : ℕ). nextRun.Span (r .first) e (record { at = e + 1 }))
+      (run-end bits (r .first) (r .last) (x .1) (x .2) (x .4) (x .5))
+
+-- ---- all runs, listed
+
+-- no more runs than were asked for
+runs-few : (f : ℕ → ℕ) (len n at : ℕ) → length (runs n f len at) ≤ n
+unfolding runs
+runs-few f len zero at = omega arith
+runs-few f len (suc n) at = found-few (runs-few f len n) (nextSet f len at)
+  where
+    found-few : ((i : ℕ) → length (runs n f len i) ≤ n) → (x : Found)
+        → length (whenFound x (λ lo. record { first = lo; last = lastOfRun f len lo } ∷ runs n f len (lastOfRun f len lo + 1))) ≤ suc n
+    found-few few (At lo) = omega (arith, few (lastOfRun f len lo + 1))
+    found-few few Nothing = omega arith
+    found-few few (Refused k) = omega arith
+
+front-of : (end : Ends → ℕ) (l : List Ends) (n : ℕ) (c : List ℕ) → n ≡ 0 → length l ≤ length c
+    → FrontOf end l c (wordsAs n c (column end l 0 c))
+unfolding wordsAs
+front-of end l n c e room =
+    let q : cond (eqb n 0) (column end l 0 c) c ≡ column end l 0 c = ap (λ (x : ℕ). cond (eqb x 0) (column end l 0 c) c) e in
     record {
-      same-length = refl;
-      here = ap (λ (t : SlotSet). slotsOf t i) q ∙ put-here 0 i v (s .words) small w;
-      elsewhere = λ j n. ap (λ (t : SlotSet). slotsOf t j) q ∙ put-elsewhere 0 i v (s .words) small w j n;
+      each = λ k none h.
+          let j : k ≡ 0 + k = omega arith in
+          ap₂ (λ (x : List ℕ) (i : ℕ). getD x i 0) q j ∙ column-at end l 0 k c none h (omega arith);
+      past = λ k h. ap (λ (x : List ℕ). getD x k 0) q ∙ column-stays end l 0 k c (inr (omega arith));
     }
+
+all-runs-listed : (ws : List ℕ) (people person len : ℕ) (firsts lasts : List ℕ)
+    → listNo ws people person len (length firsts) (length lasts) ≡ 0
+    → let x = allRunsOf ws people person len firsts lasts in
+    let l = allRuns (rowSlots ws person) len in
+    (x .answer ≡ counted.Is (length l)) × FrontOf (λ r. r .first) l firsts (x .firsts) × FrontOf (λ r. r .last) l lasts (x .lasts)
+unfolding countedAs
+all-runs-listed ws people person len firsts lasts e =
+    let l = allRuns (rowSlots ws person) len in
+    let n = listNo ws people person len (length firsts) (length lasts) in
+    let few = runs-few (rowSlots ws person) len len 0 in
+    let r = list-says ws people person len (length firsts) (length lasts) e in (
+      ap (λ (x : ℕ). countedAs x (length l)) e,
+      front-of (λ r. r .first) l n firsts e (omega (arith, few, r .1 .0)),
+      front-of (λ r. r .last) l n lasts e (omega (arith, few, r .1 .1)),
+    )
+
+-- ---- writes
+
+-- what is put into words, among the bits of them all
+puts-put : (g : ℕ → ℕ) (b from n at : ℕ) (ws : List ℕ) → Bits g → b * 64 + (from + n) ≤ length ws * 64 → b * 64 + from ≡ at
+    → Put (λ k. g (from + k)) at n (slot ws 0) (slot (putSlots g b from n ws) 0)
+puts-put g b from n at ws bits room e = record {
+  here = λ k h.
+      let q : 0 * 64 + (at + k) - b * 64 ≡ from + k = omega arith in
+      slot-puts g b from n ws 0 (at + k) bits room
+      ∙ ap (λ (t : Bool). cond t (g (0 * 64 + (at + k) - b * 64)) (slot ws 0 (at + k)))
+      (and-true _ _ (le-leb (b * 64 + from) (0 * 64 + (at + k)) (omega arith))
+      (lt-ltb (0 * 64 + (at + k)) (b * 64 + from + n) (omega arith)))
+      ∙ ap g q;
+  elsewhere = λ i out. slot-puts-other g b from n ws 0 i bits room (λ x y. out (omega arith) (omega arith));
+}
+
+-- one value, from a up to e: a stretch with no slot in it needs no room
+stretch-put : (v b a e at : ℕ) (ws : List ℕ) → v < 2 → (a < e → b * 64 + e ≤ length ws * 64) → b * 64 + a ≡ at
+    → Put (λ _. v) at (e - a) (slot ws 0) (slot (putSlots (λ _. v) b a (e - a) ws) 0)
+stretch-put v b a e at ws small room q =
+    ⊎-elim
+    (λ (h : a < e). puts-put (λ _. v) b a (e - a) at ws (λ k. small) (omega (arith, room h)) q)
+    (λ (h : e ≤ a).
+    let z : e - a ≡ 0 = omega arith in
+    record {
+      here = λ k l. absurd (omega arith);
+      elsewhere = λ i out.
+          ap (λ (n : ℕ). slot (putSlots (λ _. v) b a n ws) 0 i) z ∙ ap (λ (l : List ℕ). slot l 0 i) (puts-none (λ _. v) b a ws);
+    })
+    (lt-or-ge a e)
+
+-- a set handed back by the number 0
+changed-set : (n : ℕ) (s : SlotSet) (ws : List ℕ) → n ≡ 0 → changedAs n s ws .set ≡ record { words = ws; len = s .len }
+unfolding changedAs
+changed-set n s ws e = ap {B = SlotSet} (λ (x : ℕ). record { words = cond (eqb x 0) ws (s .words); len = s .len }) e
+
+put-changes : (v : ℕ) (s : SlotSet) (i : ℕ) → v < 2 → length (s .words) ≡ 16 → slotNo (s .len) i ≡ 0
+    → Changes (λ _. v) i 1 s (putOf v s i .set)
+unfolding putOf
+put-changes v s i small room e =
+    let x = slot-says (s .len) i e in
+    let w : 0 + i / 64 < length (s .words) = omega (arith, x .0, x .1) in
+    let q = changed-set _ s (putSlot 0 i v (s .words)) e in
+    record {
+      same-length = ap (λ (t : SlotSet). t .len) q;
+      put = record {
+        here = λ k h.
+            let j : i + k ≡ i = omega arith in
+            ap₂ (λ (t : SlotSet) (n : ℕ). slotsOf t n) q j ∙ put-here 0 i v (s .words) small w;
+        elsewhere = λ j out.
+            ap (λ (t : SlotSet). slotsOf t j) q ∙ put-elsewhere 0 i v (s .words) small w j (λ z. out (omega arith) (omega arith));
+      };
+    }
+
+stretch-changes : (v : ℕ) (s : SlotSet) (a e : ℕ) → v < 2 → length (s .words) ≡ 16 → stretchNo (s .len) a e ≡ 0
+    → Changes (λ _. v) a (e - a) s (stretchOf v s a e .set)
+unfolding stretchOf
+stretch-changes v s a e small room z =
+    let x = stretch-says (s .len) a e z in
+    let q = changed-set _ s (putSlots (λ _. v) 0 a (e - a) (s .words)) z in
+    record {
+      same-length = ap (λ (t : SlotSet). t .len) q;
+      put =
+          subst (λ (t : SlotSet). Put (λ _. v) a (e - a) (slotsOf s) (slotsOf t)) (sym q)
+          (stretch-put v 0 a e a (s .words) small (λ h. omega (arith, x .0, x .1 h)) (omega arith));
+    }
+
+put-stretch-changes : (v : ℕ) (ws : List ℕ) (people person len a e : ℕ) → v < 2 → rowStretchNo ws people person len a e ≡ 0
+    → Put (λ _. v) (1024 * person + a) (e - a) (slot ws 0) (slot (rowStretchOf v ws people person len a e) 0)
+unfolding rowStretchOf wordsAs
+put-stretch-changes v ws people person len a e small z =
+    let x = row-stretch-says ws people person len a e z in
+    let r = row-says ws people person len (x .0) in
+    let out = putSlots (λ _. v) (16 * person) a (e - a) ws in
+    subst (λ (l : List ℕ). Put (λ _. v) (1024 * person + a) (e - a) (slot ws 0) (slot l 0))
+    (sym (ap (λ (n : ℕ). cond (eqb n 0) out ws) z))
+    (stretch-put v (16 * person) a e (1024 * person + a) ws small (λ h. omega (arith, r .short, r .words, x .1 h)) (omega arith))
+
+store-changes : (s : SlotSet) (ws : List ℕ) (people person : ℕ) → rowNo ws people person (s .len) ≡ 0
+    → Put (slotsOf s) (1024 * person) (s .len) (slot ws 0) (slot (storeOf s ws people person) 0)
+unfolding storeOf wordsAs
+store-changes s ws people person z =
+    let r = row-says ws people person (s .len) z in
+    let out = putSlots (slotsOf s) (16 * person) 0 (s .len) ws in
+    let p = puts-put (slotsOf s) (16 * person) 0 (s .len) (1024 * person) ws (slot-lt (s .words) 0)
+    (omega (arith, r .short, r .words)) (omega arith) in
+    subst (λ (l : List ℕ). Put (slotsOf s) (1024 * person) (s .len) (slot ws 0) (slot l 0))
+    (sym (ap (λ (n : ℕ). cond (eqb n 0) out ws) z)) record {
+      here = λ k h. let e : 0 + k ≡ k = omega arith in p .here k h ∙ ap (slotsOf s) e;
+      elsewhere = p .elsewhere;
+    }
+
+-- a person's row as a set by value has its slots
+pub row-slot : (ws : List ℕ) (p k : ℕ) → k < 1024 → slot (take 16 (drop (16 * p) ws)) 0 k ≡ slot ws (16 * p) k
+unfolding slot
+row-slot ws p k h =
+    let w : 0 + k / 64 < 16 = omega arith in
+    let e : 16 * p + (0 + k / 64) ≡ 16 * p + k / 64 = omega arith in
+    ap (λ (x : ℕ). bitOf x (k % 64))
+    (getD-take 16 (drop (16 * p) ws) (0 + k / 64) 0 w ∙ getD-drop (16 * p) ws (0 + k / 64) 0 ∙ ap (λ (j : ℕ). getD ws j 0) e)
+
+-- what is loaded where nothing is refused
+pub load-is : (ws : List ℕ) (people person len : ℕ) → rowNo ws people person len ≡ 0
+    → loadOf ws people person len .set ≡ record { words = take 16 (drop (16 * person) ws); len = len }
+unfolding loadOf
+load-is ws people person len e =
+    ap {B = SlotSet}
+    (λ (n : ℕ). record { words = cond (eqb n 0) (take 16 (drop (16 * person) ws)) (replicate 16 0); len = cond (eqb n 0) len 0 }) e
+
+load-row : (ws : List ℕ) (people person len : ℕ) → rowNo ws people person len ≡ 0
+    → (loadOf ws people person len .set .len ≡ len)
+    × ((k : ℕ) → k < 1024 → slotsOf (loadOf ws people person len .set) k ≡ rowSlots ws person k)
+load-row ws people person len e =
+    let q = load-is ws people person len e in
+    (ap (λ (s : SlotSet). s .len) q, λ k h. ap (λ (s : SlotSet). slotsOf s k) q ∙ row-slot ws person k h)
+
+zeros-slot : (k : ℕ) → slot (replicate 16 0) 0 k ≡ 0
+unfolding slot
+zeros-slot k =
+    ⊎-elim
+    (λ (h : 0 + k / 64 < 16). ap (λ (w : ℕ). bitOf w (k % 64)) (getD-replicate 16 (0 + k / 64) 0 0 h) ∙ bit-none (k % 64))
+    (λ (h : 16 ≤ 0 + k / 64). ap (λ (w : ℕ). bitOf w (k % 64)) (List·getD-eq-default (replicate 16 0) 0 h) ∙ bit-none (k % 64))
+    (lt-or-ge (0 + k / 64) 16)
+
+new-empty : (len : ℕ) → lenNo len ≡ 0 → (newOf len .set .len ≡ len) × ((k : ℕ) → slotsOf (newOf len .set) k ≡ 0)
+unfolding newOf
+new-empty len e = (ap (λ (n : ℕ). cond (eqb n 0) len 0) e, zeros-slot)
+
+-- ---- places
+
+set-bit : (s : SlotSet) (i : ℕ) → slotsOf s i ≡ bitOf (getD (s .words) (i / 64) 0) (i % 64)
+unfolding slot
+set-bit s i = let e : 0 + i / 64 ≡ i / 64 = omega arith in ap (λ (j : ℕ). bitOf (getD (s .words) j 0) (i % 64)) e
+
+row-bit : (ws : List ℕ) (person i : ℕ) → rowSlots ws person i ≡ bitOf (getD ws (16 * person + i / 64) 0) (i % 64)
+unfolding slot
+row-bit ws person i = refl
+
+-- ---- sets that agree below the length
+
+module _ (f g : ℕ → ℕ) (len : ℕ) (same : (k : ℕ) → k < len → f k ≡ g k) where
+  run-answers : (n i : ℕ) → runAs n f len i ≡ runAs n g len i
+  unfolding runAs
+  run-answers n i =
+      let r = run-same f g len same i in
+      ap₂ (λ (b : Bool) (e : ℕ × ℕ). cond (eqb n 0) (cond b (run.Span (e .0) (e .1)) run.Outside) (run.Refused n))
+      (has-same f g len same i) (ap₂ {C = ℕ × ℕ} (λ (a b : ℕ). (a, b)) (r .0) (r .1))
+
+  steps-same : (x : Found) → runStep f len x ≡ runStep g len x
+  steps-same (At i) =
+      ap (λ (e : ℕ). nextRun.Span i e (record { at = e + 1 })) (run-same f g len same i .1)
+  steps-same Nothing = refl
+  steps-same (Refused n) = refl
+
+  next-run-answers : (n at : ℕ) → nextRunAs n f len at ≡ nextRunAs n g len at
+  unfolding nextRunAs
+  next-run-answers n at =
+      ap (λ (x : NextRun). cond (eqb n 0) x (nextRun.Refused n))
+      (steps-same (nextSet f len at) ∙ ap (runStep g len) (next-same 1 f g len at same))
+
+  next-member-answers : (n at : ℕ) → nextMemberAs n f len at ≡ nextMemberAs n g len at
+  unfolding nextMemberAs
+  next-member-answers n at =
+      ap (λ (x : Found). cond (eqb n 0) (memberStep x) (nextMember.Refused n)) (next-same 1 f g len at same)
+
+  same-answers : SameAnswers f g len
+  same-answers = record {
+    contains = has-same f g len same;
+    is-empty = none-same f g len same;
+    count = size-same f g len same;
+    next = λ v from. next-same v f g len from same;
+    prev = λ v end. last-same v f g len end same;
+    run = run-answers;
+    next-run = next-run-answers;
+    next-member = next-member-answers;
+    runs = all-runs-same f g len same;
+  }
 
 pub sets-by-rule : SetsByRule
 sets-by-rule = record {
+  bit = set-bit;
+  row-bit = row-bit;
+  contains = contains-yes;
+  contains-not = contains-no;
+  empty = empty-yes;
+  empty-not = empty-no;
   next = λ f len from. next-found 1 f len from;
   prev = λ f len from. last-found 1 f len (suc from);
   next-unset = λ f len from. next-found 0 f len (suc from);
   prev-unset = λ f len from. last-found 0 f len from;
   run = run-found;
   no-run = no-run-found;
+  next-run = λ f bits len at l x. next-run-is f len at bits l x;
+  next-member = λ f len at i w. member-at f len at (At i) w;
+  no-member = λ f len at w. member-at f len at Nothing w;
   runs = runs-found;
   runs-hold = runs-members;
+  all-runs = all-runs-listed;
   count = counted-members;
-  put = put-found;
-  ignored = λ f g len same. (
-    λ from. next-same 1 f g len from same,
-    λ from. last-same 1 f g len (suc from) same,
-    size-same f g len same,
-    all-runs-same f g len same,
-  );
+  new = new-empty;
+  put = put-changes;
+  stretch = stretch-changes;
+  put-stretch = put-stretch-changes;
+  store = store-changes;
+  load = load-row;
+  ignored = same-answers;
 }

@@ -3,19 +3,21 @@ use mathlib.Core.Path.{_≡_, refl, sym, ap, ap₂, _∙_}
 use mathlib.Core.Bool.{Bool, true, false, cond, _&&_}
 use mathlib.Core.List.{List, [], _∷_}
 use mathlib.Core.Logic.{_↔_}
-use Prim.Native.Nat.{ℕ, suc, _*_, _≤_, _<_}
+use Prim.Native.Nat.{ℕ, suc, _-_, _*_, _≤_, _<_}
 use native.Mathlib.Omega.{arith}
 use borrow.Author.Tests.{leb-true, le-leb, lt-ltb}
 use lib.Dec.{eqb, leb, ltb}
 use lib.ListN.{length, getD}
 use Rattle.paper.specs.Limits.{peopleOk, slotCountOk, orElse}
+use Rattle.paper.specs.Count.{sum}
 use Rattle.paper.proofs.Logic.{by-test, cond-zero, both, and-true}
 use Rattle.paper.proofs.Count.{in-each, each-in}
 use Rattle.slotset.specs.declared.Told.the-variants.{Yes, No}
 use Rattle.slotset.specs.declared.Counted.the-variants as counted
 use Rattle.slotset.specs.Slots.{slot, has, valueOf}
 use Rattle.slotset.specs.Answers.{countedAs, toldAs, wordsAs}
-use Rattle.slots.specs.Lent.{slotsOk, demandOf}
+use Rattle.slots.specs.declared.Minutes.the-variants as minutes
+use Rattle.slots.specs.Lent.{slotsOk, minutesAt, demandOf, lentNo, lentSlotNo, minutesAs, demandIs, slotMinutesIs}
 use Rattle.slots.specs.Ranges.{Ranges, rangesOk, personOf, startOf, endOf, opens, closes, joined, inRanges, available}
 use Rattle.slots.specs.Ranges.{keysTo, keysOf, mergeIn, mergeAll, mergedOf}
 use Rattle.slots.specs.Merged.{Columns, written, mergedNo, mergedRanges}
@@ -264,8 +266,22 @@ module _ (slots : ℕ) (starts ends frozen : List ℕ) (instant : ℕ) (e : free
         number = answer-is;
       }
 
+-- ---- lengths
+
+slot-minutes-told : (slots : ℕ) (starts ends : List ℕ) (k : ℕ) → lentSlotNo slots starts ends k ≡ 0
+    → slotMinutesIs slots starts ends k ≡ minutes.Are (getD ends k 0 - getD starts k 0)
+unfolding slotMinutesIs minutesAt minutesAs
+slot-minutes-told slots starts ends k e = ap (λ (n : ℕ). minutesAs n (getD ends k 0 - getD starts k 0)) e
+
+demand-told : (slots : ℕ) (starts ends : List ℕ) → lentNo slots starts ends ≡ 0
+    → demandIs slots starts ends ≡ minutes.Are (sum slots (λ k. getD ends k 0 - getD starts k 0))
+unfolding demandIs demandOf minutesAt minutesAs
+demand-told slots starts ends e = ap (λ (n : ℕ). minutesAs n (sum slots (λ k. getD ends k 0 - getD starts k 0))) e
+
 pub slots-by-rule : SlotsByRule
 slots-by-rule = record {
+  slot-minutes = slot-minutes-told;
+  demand = demand-told;
   merged = merged-by-rule;
   split = split-by-rule;
   available = available-by-rule;

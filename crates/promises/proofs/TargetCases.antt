@@ -1,6 +1,6 @@
 -- The marked cases 7 to 10, computed through the outcome of `compute_targets`. Assumes nothing.
 use mathlib.Core.Path.{_≡_, refl, sym, ap, _∙_}
-use mathlib.Core.Bool.{true, false}
+use mathlib.Core.Bool.{true}
 use mathlib.Core.List.{List, [], _∷_}
 use Prim.Native.Nat.{ℕ}
 use native.Mathlib.Nat.{le-refl, le-of-eq}
@@ -35,24 +35,16 @@ module _ (demand : ℕ) (capacities : List Float) (priors : List ℕ) (zs : List
       when-accepted (asked avail) out (sym (all-clear (asked avail) (length out) a b room f (le-refl 1) e))
       ∙ ap (λ (x : Targets). published p x out) (t avail)
 
-pub case-7 : Shared built 100 (one ∷ one ∷ one ∷ []) (0 ∷ 0 ∷ 0 ∷ []) (pos 33 ∷ pos 33 ∷ pos 34 ∷ [])
+pub cases-7-to-10 : Shared built 100 (one ∷ one ∷ one ∷ []) (0 ∷ 0 ∷ 0 ∷ []) (pos 33 ∷ pos 33 ∷ pos 34 ∷ [])
+    × Shared built 2 (one ∷ one ∷ one ∷ one ∷ []) (0 ∷ 0 ∷ 0 ∷ 0 ∷ []) (pos 1 ∷ pos 1 ∷ pos 1 ∷ negsuc 0 ∷ [])
+    × Shared built 100 (one ∷ one ∷ []) (300 ∷ 0 ∷ []) (pos 0 ∷ pos 100 ∷ [])
+    × Shared built 100 (none ∷ none ∷ []) (0 ∷ 0 ∷ []) (pos 0 ∷ pos 100 ∷ [])
 unfolding countsOk peopleOk slotCountOk allFiguresOk all figuresOk le lt eq slotRoomOk slotsOk slotOkAt slotOk prevEnd
     demandOf sum minutesAt ofInt mul add div sub rounded within settled pass passes adjusted
-case-7 = shared 100 (one ∷ one ∷ one ∷ []) (0 ∷ 0 ∷ 0 ∷ []) (pos 33 ∷ pos 33 ∷ pos 34 ∷ []) refl refl refl refl refl (λ avail. refl)
-
-pub case-8 : Shared built 2 (one ∷ one ∷ one ∷ one ∷ []) (0 ∷ 0 ∷ 0 ∷ 0 ∷ []) (pos 1 ∷ pos 1 ∷ pos 1 ∷ negsuc 0 ∷ [])
-unfolding countsOk peopleOk slotCountOk allFiguresOk all figuresOk le lt eq slotRoomOk slotsOk slotOkAt slotOk prevEnd
-    demandOf sum minutesAt ofInt mul add div sub rounded within settled pass passes adjusted
-case-8 =
-    shared 2 (one ∷ one ∷ one ∷ one ∷ []) (0 ∷ 0 ∷ 0 ∷ 0 ∷ []) (pos 1 ∷ pos 1 ∷ pos 1 ∷ negsuc 0 ∷ [])
-    refl refl refl refl refl (λ avail. refl)
-
-pub case-9 : Shared built 100 (one ∷ one ∷ []) (300 ∷ 0 ∷ []) (pos 0 ∷ pos 100 ∷ [])
-unfolding countsOk peopleOk slotCountOk allFiguresOk all figuresOk le lt eq slotRoomOk slotsOk slotOkAt slotOk prevEnd
-    demandOf sum minutesAt ofInt mul add div sub rounded within settled pass passes adjusted
-case-9 = shared 100 (one ∷ one ∷ []) (300 ∷ 0 ∷ []) (pos 0 ∷ pos 100 ∷ []) refl refl refl refl refl (λ avail. refl)
-
-pub case-10 : Shared built 100 (none ∷ none ∷ []) (0 ∷ 0 ∷ []) (pos 0 ∷ pos 100 ∷ [])
-unfolding countsOk peopleOk slotCountOk allFiguresOk all figuresOk le lt eq slotRoomOk slotsOk slotOkAt slotOk prevEnd
-    demandOf sum minutesAt ofInt mul add div sub rounded within settled pass passes adjusted
-case-10 = shared 100 (none ∷ none ∷ []) (0 ∷ 0 ∷ []) (pos 0 ∷ pos 100 ∷ []) refl refl refl refl refl (λ avail. refl)
+cases-7-to-10 = (
+  shared 100 (one ∷ one ∷ one ∷ []) (0 ∷ 0 ∷ 0 ∷ []) (pos 33 ∷ pos 33 ∷ pos 34 ∷ []) refl refl refl refl refl (λ avail. refl),
+  shared 2 (one ∷ one ∷ one ∷ one ∷ []) (0 ∷ 0 ∷ 0 ∷ 0 ∷ []) (pos 1 ∷ pos 1 ∷ pos 1 ∷ negsuc 0 ∷ [])
+      refl refl refl refl refl (λ avail. refl),
+  shared 100 (one ∷ one ∷ []) (300 ∷ 0 ∷ []) (pos 0 ∷ pos 100 ∷ []) refl refl refl refl refl (λ avail. refl),
+  shared 100 (none ∷ none ∷ []) (0 ∷ 0 ∷ []) (pos 0 ∷ pos 100 ∷ []) refl refl refl refl refl (λ avail. refl),
+)

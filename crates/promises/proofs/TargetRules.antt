@@ -1,35 +1,75 @@
 -- Demand 2, targets, by the laws of targets. Assumes nothing.
-use mathlib.Core.Path.{_≡_, refl, ap, ap₂}
+use mathlib.Core.Path.{_≡_, refl, sym, ap, ap₂, _∙_}
 use mathlib.Core.Bool.{Bool, true, false, cond}
-use mathlib.Core.List.{List, map}
-use Prim.Native.Nat.{ℕ}
+use mathlib.Core.List.{List, [], _∷_, _++_, map, foldl, foldl-append}
+use Prim.Native.Nat.{ℕ, zero, suc, _+_, _<_}
+use native.Mathlib.Omega.{arith}
 use borrow.Author.Tests.{eq-eqb}
 use lib.Dec.{eqb}
-use lib.Ieee.{Float, fin, lt}
+use lib.ListN.{getD, List·getD-append}
+use lib.Seq.{getD-append-seam}
+use lib.Ieee.{Float, fin, binary64, add, lt}
+use Rattle.paper.proofs.Logic.{below-suc}
 use Rattle.targets.specs.declared.Line.{Line}
-use Rattle.targets.specs.Figures.{zeroF, whole}
+use Rattle.targets.specs.Figures.{zeroF, whole, personAt, lineOf, upTo, pad}
 use Rattle.targets.specs.Available.{availableMinutes}
 use Rattle.targets.specs.Passes.{rounded, unrounded, settled, settle, outside, falls, shareSum, notional, some}
-use Rattle.targets.specs.Passes.{again, done}
-use Rattle.targets.specs.Passes.{refused, pass}
+use Rattle.targets.specs.Passes.{Passed, again, done, refused, pass}
 use Rattle.targets.specs.Outcome.{Given, demandIn, baseAt, leftIn, takerIn}
+use Rattle.targets.proofs.Loops.{length-upTo}
 use Rattle.targets.proofs.Nearest.{rounded-nearest, nearest-one}
 use Rattle.targets.proofs.Taker.{takes-one}
 use Rattle.targets.proofs.Fairness.{fairness-agrees}
 use Rattle.targets.proofs.Promises.{taker-by-rule, others-not-below, targets-add-up, past-stays, eight-never, never-cut}
-use Rattle.promises.specs.TargetRules.{Settles, TargetsByRule}
+use Rattle.promises.specs.TargetRules.{Settles, OverUnpinned, TargetsByRule}
 
 base-by : (g : Given) (k : ℕ) (b : Bool) → eqb (g .fairness) 1 ≡ b
     → baseAt g k ≡ cond b (demandIn g) (availableMinutes (g .slots) (g .starts) (g .ends) (g .avail) k)
 base-by g k b e = ap (λ (t : Bool). cond t (demandIn g) (availableMinutes (g .slots) (g .starts) (g .ends) (g .avail) k)) e
 
-no-sum : (demand : ℕ) (ls : List Line) → lt zeroF (shareSum ls) ≡ false → pass demand (again ls) ≡ done ls
-unfolding pass
-no-sum demand ls e =
-    let n = whole (notional demand ls) in
-    let s = shareSum ls in
-    ap (λ (b : Bool). cond b (cond (some (outside n s) ls) refused
-    (cond (some (falls n s) ls) (again (map (settle n s) ls)) (done (map (settle n s) ls)))) (done ls)) e
+-- entry k of a list that was made by numbers
+getD-up-to : (f : ℕ → Line) (n k : ℕ) → k < n → getD (upTo f n) k pad ≡ f k
+getD-up-to f zero k h = absurd (omega arith)
+getD-up-to f (suc n) k h =
+    below-suc _ h
+    (λ q.
+    ap (λ (j : ℕ). getD (upTo f n ++ (f n ∷ [])) j pad) (q ∙ sym (length-upTo f n)) ∙ getD-append-seam (upTo f n) (f n) [] pad
+    ∙ ap f (sym q))
+    (λ b. List·getD-append (upTo f n) (f n ∷ []) pad k (omega (arith, length-upTo f n)) ∙ getD-up-to f n k b)
+
+-- a fold that leaves the pinned out
+over-unpinned : {A : Type 0} (start : A) (plus : A → Line → A)
+    → OverUnpinned (foldl (λ (s : A) (l : Line). cond (l .pinned) s (plus s l)) start) start plus
+over-unpinned {A} start plus =
+    let f : A → Line → A = λ s l. cond (l .pinned) s (plus s l) in
+    record {
+      none = refl;
+      unpinned = λ ls l e.
+          foldl-append f start ls (l ∷ []) ∙ ap (λ (b : Bool). cond b (foldl f start ls) (plus (foldl f start ls) l)) e;
+      pinned = λ ls l e.
+          foldl-append f start ls (l ∷ []) ∙ ap (λ (b : Bool). cond b (foldl f start ls) (plus (foldl f start ls) l)) e;
+    }
+
+-- one pass, by whether its sum is above 0 and whether the guard is broken
+module _ (demand : ℕ) (ls : List Line) where
+  abbrev n : Float
+  n = whole (notional demand ls)
+
+  abbrev s : Float
+  s = shareSum ls
+
+  abbrev worked : Passed
+  worked = cond (some (falls n s) ls) (again (map (settle n s) ls)) (done (map (settle n s) ls))
+
+  no-sum : lt zeroF s ≡ false → pass demand (again ls) ≡ done ls
+  unfolding pass
+  no-sum e = ap (λ (b : Bool). cond b (cond (some (outside n s) ls) refused worked) (done ls)) e
+
+  one-pass : lt zeroF s ≡ true → some (outside n s) ls ≡ false → pass demand (again ls) ≡ worked
+  unfolding pass
+  one-pass e f =
+      ap (λ (b : Bool). cond b (cond (some (outside n s) ls) refused worked) (done ls)) e
+      ∙ ap (λ (b : Bool). cond b refused worked) f
 
 -- a line by whether it is pinned, and whether its unrounded target is below 0
 abbrev settledBy : Float → Line → Bool → Bool → Line
@@ -57,10 +97,15 @@ settles-by-rule n sum l =
 
 pub targets-by-rule : TargetsByRule
 targets-by-rule = record {
+  lines = λ g k h. getD-up-to (λ (j : ℕ). lineOf (personAt (g .capacities) (g .priors) j) (baseAt g j)) (g .people) k h;
+  begins = λ p base. (refl, refl);
   share = λ p base. refl;
   base-1 = λ g k e. base-by g k true (eq-eqb (g .fairness) 1 e);
   base-0 = λ g k e. base-by g k false (ap (λ (f : ℕ). eqb f 1) e);
+  sum = over-unpinned zeroF (λ s l. add binary64 s (l .raw));
+  n = λ demand. over-unpinned demand (λ n l. n + l .person .prior);
   stops = no-sum;
+  passes = one-pass;
   works-out = λ n sum l. refl;
   settles = settles-by-rule;
   rounds = λ s m e. record {

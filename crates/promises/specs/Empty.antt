@@ -2,15 +2,18 @@
 -- Assumes nothing.
 use mathlib.Core.Path.{_≡_}
 use mathlib.Core.List.{List}
-use Prim.Native.Nat.{ℕ, _<_}
+use Prim.Native.Nat.{ℕ, _≤_, _<_}
 use lib.IntN.{ℤ}
 use Rattle.slotset.specs.declared.SlotSet.{SlotSet}
+use Rattle.slotset.specs.declared.Run.the-variants.{Span}
 use Rattle.slots.specs.Atomic.{Base}
 use Rattle.units.specs.declared.Settings.{Settings}
 use Rattle.targets.specs.Outcome as targets
 use Rattle.rota.specs.Derived.{Plan}
+use Rattle.rota.specs.Entries.{figureNo}
 use Rattle.promises.specs.Entries.{Call, Component, noOf, ownersIn}
-use Rattle.promises.specs.Table.{Hears, countedNo, numberNo}
+use Rattle.promises.specs.Table.{Hears, toldNo, countedNo, numberNo}
+use Rattle.promises.specs.SetRefusals.{foundNo, runNo}
 use Rattle.promises.specs.Refusals.{playTable}
 use Rattle.promises.specs.Rota.{firstCall}
 
@@ -20,16 +23,23 @@ RefusesByTable C = (c : Call) → Hears (playTable c) (C .play c .number)
 
 -- one of its entries does
 pub data AlwaysRefuses (C : Component) : Type 0 where
+  refuses-next : ((s : SlotSet) (i : ℕ) → foundNo (C .next s i) ≡ 0 → ⊥) → AlwaysRefuses C
+  refuses-prev : ((s : SlotSet) (i : ℕ) → foundNo (C .prev s i) ≡ 0 → ⊥) → AlwaysRefuses C
+  refuses-run : ((s : SlotSet) (i : ℕ) → runNo (C .run s i) ≡ 0 → ⊥) → AlwaysRefuses C
+  refuses-size : ((s : SlotSet) → countedNo (C .size s) ≡ 0 → ⊥) → AlwaysRefuses C
   refuses-atomise : ((B : Base) → countedNo (C .atomise B .answer) ≡ 0 → ⊥) → AlwaysRefuses C
+  refuses-available : ((p n : ℕ) (ws : List ℕ) (i k : ℕ) → toldNo (C .available p n ws i k) ≡ 0 → ⊥) → AlwaysRefuses C
   refuses-targets : ((g : targets.Given) (out : List ℤ) → C .targets g out .number ≡ 0 → ⊥) → AlwaysRefuses C
   refuses-rotations : ((s : Settings) (n : ℕ) (starts ends list : List ℕ) → numberNo (C .rotations s n starts ends list .answer) ≡ 0 → ⊥)
       → AlwaysRefuses C
   refuses-play : ((c : Call) → C .play c .number ≡ 0 → ⊥) → AlwaysRefuses C
+  refuses-uncovered : ((P : Plan) (o : List ℕ) → figureNo (C .uncovered P o) ≡ 0 → ⊥) → AlwaysRefuses C
 
 -- "One fixed answer breaks it by cases 1 to 12": one of its entries gives it, whatever it is asked
 pub data FixedAnswer (C : Component) : Type 0 where
   fixed-next : ((s t : SlotSet) (i j : ℕ) → C .next s i ≡ C .next t j) → FixedAnswer C
   fixed-prev : ((s t : SlotSet) (i j : ℕ) → C .prev s i ≡ C .prev t j) → FixedAnswer C
+  fixed-run : ((s t : SlotSet) (i j : ℕ) → C .run s i ≡ C .run t j) → FixedAnswer C
   fixed-atomise : ((A B : Base) → C .atomise A ≡ C .atomise B) → FixedAnswer C
   fixed-available : ((p n : ℕ) (ws : List ℕ) (i j k l : ℕ) → C .available p n ws i j ≡ C .available p n ws k l) → FixedAnswer C
   fixed-targets : ((g h : targets.Given) (out : List ℤ) → C .targets g out ≡ C .targets h out) → FixedAnswer C
@@ -37,9 +47,14 @@ pub data FixedAnswer (C : Component) : Type 0 where
       → C .rotations s n starts ends list ≡ C .rotations s n starts ends other) → FixedAnswer C
   fixed-play : ((c d : Call) → C .play c ≡ C .play d) → FixedAnswer C
 
+-- case 3 alone asks for a run; beside it: a run that is told holds the slot that was asked for
+abbrev pub RunsHold : Component → Type 0
+RunsHold C = (s : SlotSet) (i first last : ℕ) → C .run s i ≡ Span first last → (first ≤ i) × (i ≤ last)
+
 -- "Doing nothing keeps the frozen, availability and total parts of demand 3, so those rest on demand 2's rule for when a draw acts."
-abbrev pub DoesNothing : Component → Type 0
-DoesNothing C = (c : Call) → C .play c .owners ≡ c .owners
+pub record DoesNothing (C : Component) : Type 0 where
+  pub owners : (c : Call) → C .play c .owners ≡ c .owners
+  pub derived : (c : Call) → C .play c .derived ≡ c .derived
 
 -- demand 2's rule, of a whole list: its owners are those that the rules of the draws give
 abbrev pub ActsByRule : Component → Type 0

@@ -27,6 +27,9 @@ use Rattle.rota.specs.Moves.{Draw}
 use Rattle.rota.specs.Plays.{drawsOf, ownersAfter, answers}
 use Rattle.rota.specs.Derived.{Plan, Derived, afresh}
 use Rattle.rota.specs.Entries as rota
+use Rattle.draws.specs.declared.Draw as struct
+use Rattle.draws.specs.Columns.{kinds, ones, twos}
+use Rattle.draws.specs.Played.{playedDraws}
 
 -- ---- a call of play
 
@@ -65,6 +68,49 @@ drawsIn c = drawsOf (c .kinds) (c .ones) (c .twos) (c .count)
 
 abbrev pub ownersIn : Call → List ℕ
 ownersIn c = ownersAfter (boardIn c) (c .owners) (drawsIn c)
+
+-- the same call, with other draws
+abbrev pub withDraws : Call → ℕ → List ℕ → List ℕ → List ℕ → Call
+withDraws c count kinds ones twos = record {
+  plan = c .plan;
+  avail = c .avail;
+  units = c .units;
+  firsts = c .firsts;
+  frozen = c .frozen;
+  count = count;
+  kinds = kinds;
+  ones = ones;
+  twos = twos;
+  owners = c .owners;
+  derived = c .derived;
+  answers = c .answers;
+}
+
+-- the same call, on another rota and another list of answers
+abbrev pub onRota : Call → List ℕ → Derived → List ℕ → Call
+onRota c owners derived answers = record {
+  plan = c .plan;
+  avail = c .avail;
+  units = c .units;
+  firsts = c .firsts;
+  frozen = c .frozen;
+  count = c .count;
+  kinds = c .kinds;
+  ones = c .ones;
+  twos = c .twos;
+  owners = owners;
+  derived = derived;
+  answers = answers;
+}
+
+-- the same call, of a list of draws in structs: its three columns
+abbrev pub ofDraws : Call → List struct.Draw → Call
+ofDraws c ds = withDraws c (c .count) (kinds ds) (ones ds) (twos ds)
+
+-- what it comes to by the entry that takes the list
+abbrev pub playDrawsOf : Call → List struct.Draw → rota.Outcome
+playDrawsOf c ds =
+    playedDraws (c .plan) (c .avail) (c .units) (c .firsts) (c .frozen) (c .count) ds (c .owners) (c .derived) (c .answers)
 
 -- the rota that the rules give, worked out afresh, with an answer a draw
 abbrev pub afreshIn : Call → rota.Outcome

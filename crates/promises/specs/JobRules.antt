@@ -1,10 +1,10 @@
 -- The job: demand 1 of run_job, whose number 13 comes before all, and what its file and its listing mean. Assumes nothing.
 use mathlib.Core.Path.{_≡_}
 use mathlib.Core.Bool.{true}
-use mathlib.Core.List.{List}
+use mathlib.Core.List.{List, []}
 use mathlib.Core.Logic.{_↔_}
-use Prim.Native.Nat.{ℕ, _+_, _^_, _≤_, _<_}
-use lib.IntN.{pos}
+use Prim.Native.Nat.{ℕ, _+_, _-_, _^_, _≤_, _<_}
+use lib.IntN.{ℤ, pos, natAbs}
 use lib.ListN.{length, getD, take, drop}
 use Rattle.paper.specs.Limits.{nobody}
 use Rattle.paper.specs.Count.{sum}
@@ -12,11 +12,13 @@ use Rattle.targets.specs.Remainder.{sumℤ}
 use Rattle.rota.specs.Derived.{knownBy}
 use Rattle.rota.specs.Recount.{availableFor}
 use Rattle.job.specs.declared.JobAnswer.the-variants as answer
-use Rattle.job.specs.Fields.{Bytes}
-use Rattle.job.specs.File.{jobCounts, jobStarts, fileOk, JobFile}
-use Rattle.job.specs.Listing.{digits, listingOf, listingMost}
-use Rattle.job.specs.Digits.{readDigits}
-use Rattle.job.specs.Outcome.{instantIn, jobResult}
+use Rattle.job.specs.Fields.{le, Bytes}
+use Rattle.job.specs.Records.{bodies}
+use Rattle.job.specs.File.{jobSizes, jobCounts, jobStarts, fileOk, JobFile}
+use Rattle.job.specs.Listing.{digits, signed, listingOf, listingMost}
+use Rattle.job.specs.Digits.{readDigits, readSigned}
+use Rattle.job.specs.Stages.{settingsIn}
+use Rattle.job.specs.Outcome.{columnOf, instantIn, jobResult}
 use Rattle.job.specs.Heard.{Lowest, AllPass, jobTests, readyOf, ownersOf, listedOf, baseTotal}
 
 -- an accepted job, with n bytes of listing
@@ -47,6 +49,18 @@ pub record JobByRule : Type 0 where
   pub kept : (s x : List ℕ) (n : ℕ) → jobResult s x .answer ≡ answer.Refused n → jobResult s x .out ≡ x
   -- 13, both ways: the file is a right sequence of records, and not too long
   pub file : (s : List ℕ) → Bytes s → (fileOk s ≡ true) ↔ JobFile s
+  -- what a job works with stands in that sequence: as many records of each kind, each field in the body of its record, the settings
+  pub counts : (s : List ℕ) (J : JobFile s) (i : ℕ) → i < 7 → getD (jobCounts s) i 0 ≡ length (bodies (1 + i) (J .records))
+  pub columns : (s : List ℕ) (J : JobFile s) (i k off n : ℕ) → i < 7 → k < length (bodies (1 + i) (J .records))
+      → length (bodies (1 + i) (J .records)) ≤ 1024 → off + n ≤ getD jobSizes i 0
+      → getD (columnOf s (jobCounts s) (jobStarts s) i off n) k 0 ≡ le n (getD (bodies (1 + i) (J .records)) k []) off
+  pub settings : (s : List ℕ) (J : JobFile s)
+      → let body = getD (bodies 1 (J .records)) 0 [] in
+      (settingsIn s .fairness ≡ le 1 body 0) × (settingsIn s .lock ≡ le 1 body 1) × (settingsIn s .boundary ≡ le 1 body 2)
+      × (settingsIn s .value ≡ le 2 body 4) × (settingsIn s .days ≡ le 2 body 6)
+  pub base-total : (s : List ℕ) (J : JobFile s)
+      → let base = bodies 2 (J .records) in baseTotal s ≡ sum (length base) (λ k. le 4 (getD base k []) 4 - le 4 (getD base k []) 0)
   pub accepted : (s x : List ℕ) (n : ℕ) → jobResult s x .answer ≡ answer.Length n → Accepted s x n
-  -- the digits of a number have that number as their value
+  -- the digits of a number have that number as their value, with a minus sign for one below 0
   pub digits : (n : ℕ) → n < 10 ^ 20 → readDigits (digits n) ≡ n
+  pub signed : (z : ℤ) → natAbs z < 10 ^ 20 → readSigned (signed z) ≡ z

@@ -1,17 +1,19 @@
--- What is promised. Entries: a component, by what its entries answer. Marked: the twelve marked cases. Demand 1: Table, Refusals,
--- SetRefusals, Outcomes. Demand 2: SetRules, SlotRules, UnitRules, TargetRules, MoveRules. Demand 3: Rota. The job: JobRules.
+-- What is promised. Entries: a component, by what its entries answer. Marked: the twelve marked cases. Demand 1: Table, Tests, Refusals,
+-- SetRefusals, Outcomes. Demand 2: SetRules, SlotRules, UnitRules, TargetRules, MoveRules, RotaRules. Demand 3: Rota. The job: JobRules.
 -- Empty: how empty answers are shut out.
 pub mod Entries
 pub mod Marked
 pub mod Table
+pub mod Tests
 pub mod Refusals
 pub mod SetRefusals
-pub mod Rota
-pub mod Empty
+pub mod Outcomes
 pub mod SetRules
 pub mod SlotRules
 pub mod UnitRules
 pub mod TargetRules
 pub mod MoveRules
+pub mod RotaRules
+pub mod Rota
 pub mod JobRules
-pub mod Outcomes
+pub mod Empty

@@ -7,7 +7,7 @@ use mathlib.Core.List.{List, [], _∷_}
 use Prim.Native.Nat.{ℕ, _*_}
 use lib.Dec.{leb, ltb}
 use lib.IntN.{ℤ}
-use lib.ListN.{length}
+use lib.ListN.{length, getD}
 use Rattle.paper.specs.Limits.{peopleOk, slotCountOk, slotsMost, drawsMost, setWords, countsOk}
 use Rattle.paper.specs.Count.{all}
 use Rattle.slots.specs.Lent.{slotRoomOk, slotsOk, demandIs, slotMinutesIs, minutesNo}
@@ -31,7 +31,8 @@ use Rattle.rota.specs.Derived.{Plan, Derived, knownBy}
 use Rattle.rota.specs.Recount.{availableFor, knownAt, availableAt, recounts}
 use Rattle.rota.specs.Entries as rota
 use Rattle.rota.specs.Entries.{figureNo}
-use Rattle.promises.specs.Entries.{Call, playOf}
+use Rattle.draws.specs.declared.Draw.{Draw}
+use Rattle.promises.specs.Entries.{Call, playOf, ofDraws, playDrawsOf}
 use Rattle.promises.specs.Table.{Rule, Row, row, rules, Hears, Refuses, toldNo, countedNo, numberNo}
 
 -- ---- slots
@@ -101,22 +102,22 @@ startsTable s slots starts ends list =
 
 abbrev pub unitFrozenTable : List ℕ → ℕ → ℕ → List ℕ → ℕ → List Row
 unitFrozenTable frozen slots units firsts u =
-    row 1 (slotCountOk slots) ∷ row 2 (leb units (length firsts)) ∷ row 2 (leb 16 (length frozen)) ∷ row 9 (unitsOk slots units firsts)
-    ∷ row 11 (ltb u units) ∷ []
+    row 1 (slotCountOk slots) ∷ row 2 (leb units (length firsts)) ∷ row 2 (leb setWords (length frozen))
+    ∷ row 9 (unitsOk slots units firsts) ∷ row 11 (ltb u units) ∷ []
 
 abbrev pub slotDomainTable : List ℕ → ℕ → ℕ → ℕ → List ℕ → List Row
 slotDomainTable avail people slots k list =
-    row 1 (peopleOk people) ∷ row 1 (slotCountOk slots) ∷ row 2 (leb (16 * people) (length avail)) ∷ row 2 (leb people (length list))
+    row 1 (peopleOk people) ∷ row 1 (slotCountOk slots) ∷ row 2 (leb (setWords * people) (length avail)) ∷ row 2 (leb people (length list))
     ∷ row 11 (ltb k slots) ∷ []
 
 abbrev pub unitDomainTable : List ℕ → ℕ → ℕ → ℕ → List ℕ → ℕ → List ℕ → List Row
 unitDomainTable avail people slots units firsts u list =
-    row 1 (peopleOk people) ∷ row 1 (slotCountOk slots) ∷ row 2 (leb (16 * people) (length avail)) ∷ row 2 (leb units (length firsts))
+    row 1 (peopleOk people) ∷ row 1 (slotCountOk slots) ∷ row 2 (leb (setWords * people) (length avail)) ∷ row 2 (leb units (length firsts))
     ∷ row 2 (leb people (length list)) ∷ row 9 (unitsOk slots units firsts) ∷ row 11 (ltb u units) ∷ []
 
 abbrev pub unitDomainsTable : List ℕ → ℕ → ℕ → ℕ → List ℕ → List ℕ → List Row
 unitDomainsTable avail people slots units firsts masks =
-    row 1 (peopleOk people) ∷ row 1 (slotCountOk slots) ∷ row 2 (leb (16 * people) (length avail)) ∷ row 2 (leb units (length firsts))
+    row 1 (peopleOk people) ∷ row 1 (slotCountOk slots) ∷ row 2 (leb (setWords * people) (length avail)) ∷ row 2 (leb units (length firsts))
     ∷ row 2 (leb units (length masks)) ∷ row 9 (unitsOk slots units firsts) ∷ []
 
 abbrev pub targetRunTable : Settings → ℕ → List ℕ → List ℕ → List Row
@@ -125,8 +126,8 @@ targetRunTable s slots starts ends =
 
 abbrev pub achievableTable : Settings → List ℕ → ℕ → ℕ → ℕ → List ℕ → List ℕ → List Row
 achievableTable s avail people p slots starts ends =
-    row 1 (peopleOk people) ∷ row 1 (slotCountOk slots) ∷ row 2 (slotRoomOk slots starts ends) ∷ row 2 (leb (16 * people) (length avail))
-    ∷ row 7 (settingsOk s) ∷ row 9 (slotsOk slots starts ends) ∷ row 11 (ltb p people) ∷ []
+    row 1 (peopleOk people) ∷ row 1 (slotCountOk slots) ∷ row 2 (slotRoomOk slots starts ends)
+    ∷ row 2 (leb (setWords * people) (length avail)) ∷ row 7 (settingsOk s) ∷ row 9 (slotsOk slots starts ends) ∷ row 11 (ltb p people) ∷ []
 
 pub record UnitsRefuse : Type 0 where
   pub unit-count : (slots units : ℕ) (firsts : List ℕ)
@@ -204,7 +205,7 @@ playTable c =
 abbrev pub emptyTable : ℕ → ℕ → List ℕ → Derived → List Row
 emptyTable people slots o D =
     row 1 (countsOk people slots)
-    ∷ row 2 (leb slots (length o) && (leb (16 * people) (length (D .sets)) && leb people (length (D .minutes)))) ∷ []
+    ∷ row 2 (leb slots (length o) && (leb (setWords * people) (length (D .sets)) && leb people (length (D .minutes)))) ∷ []
 
 -- readers of owners, and what comes after: 1, 2
 abbrev pub ownersTable : ℕ → ℕ → List ℕ → List Row → List Row
@@ -235,15 +236,19 @@ pub record RotaRefuses : Type 0 where
       → Hears (rotaTable P avail o D (row 10 (recounts P avail 0 [] o D) ∷ [])) (rota.recountSlotsNo P avail o D)
   pub play : (c : Call)
       → let y = playOf c in Refuses {A = Lent} (rules (playTable c)) (y .number) (c .owners, c .derived, c .answers) (left y)
+  -- of draws in a list of structs
+  pub play-draws : (c : Call) (ds : List Draw)
+      → let y = playDrawsOf c ds in
+      Refuses {A = Lent} (rules (playTable (ofDraws c ds))) (y .number) (c .owners, c .derived, c .answers) (left y)
   pub empty : (people slots : ℕ) (o : List ℕ) (D : Derived)
       → let y = rota.emptied people slots o D in Refuses {A = Lent} (rules (emptyTable people slots o D)) (y .number) (o, D, []) (left y)
   pub owner-of-slot : (people slots : ℕ) (o : List ℕ) (k : ℕ)
-      → Hears (ownersTable people slots o (row 11 (ltb k slots && knownBy people (lib.ListN.getD o k 0)) ∷ []))
+      → Hears (ownersTable people slots o (row 11 (ltb k slots && knownBy people (getD o k 0)) ∷ []))
       (figureNo (rota.ownerIs people slots o k))
   pub minutes-of : (people : ℕ) (m : List ℕ) (p : ℕ)
       → Hears (row 1 (peopleOk people) ∷ row 2 (leb people (length m)) ∷ row 11 (ltb p people) ∷ []) (figureNo (rota.minutesIs people m p))
   pub slots-of : (people slots : ℕ) (ws : List ℕ) (p : ℕ)
-      → Hears (row 1 (countsOk people slots) ∷ row 2 (leb (16 * people) (length ws)) ∷ row 11 (ltb p people) ∷ [])
+      → Hears (row 1 (countsOk people slots) ∷ row 2 (leb (setWords * people) (length ws)) ∷ row 11 (ltb p people) ∷ [])
       (rota.slotsOfIs people slots ws p .number)
   pub unassigned-count : (people slots : ℕ) (o : List ℕ)
       → Hears (ownersTable people slots o (row 11 (all slots (knownAt people o)) ∷ [])) (figureNo (rota.unassignedIs people slots o))

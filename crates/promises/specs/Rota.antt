@@ -1,8 +1,8 @@
 -- Demand 3, a definition a sentence: what holds of every list of draws that a component accepts, whatever its rota. Assumes nothing.
 use mathlib.Core.Path.{_≡_}
-use mathlib.Core.Bool.{true, false}
+use mathlib.Core.Bool.{true}
 use mathlib.Core.List.{List, _++_}
-use Prim.Native.Nat.{ℕ, _+_, _*_, _^_, _≤_, _<_}
+use Prim.Native.Nat.{ℕ, _+_, _^_, _≤_, _<_}
 use lib.Dec.{eqb}
 use lib.ListN.{getD, take, drop}
 use Rattle.paper.specs.Limits.{nobody}
@@ -12,15 +12,22 @@ use Rattle.slotset.specs.Slots.{slot}
 use Rattle.slots.specs.Lent.{demandOf}
 use Rattle.units.specs.Units.{unitOf}
 use Rattle.rota.specs.declared.Figure.the-variants.{Is}
-use Rattle.rota.specs.Plays.{touched}
+use Rattle.rota.specs.Acts as acts
 use Rattle.rota.specs.Derived.{knownBy}
 use Rattle.rota.specs.Recount.{availableFor, recounts}
 use Rattle.rota.specs.Entries.{Outcome, slotsOfIs}
-use Rattle.promises.specs.Entries.{Call, Component, noOf, afreshIn, boardIn, drawsIn}
+use Rattle.draws.specs.declared.Draw.{Draw}
+use Rattle.promises.specs.Entries.{Call, Component, noOf, playOf, withDraws, onRota, ofDraws, playDrawsOf, afreshIn, boardIn}
+use Rattle.promises.specs.MoveRules.{drawAt, foundAt}
+use Rattle.promises.specs.RotaRules.{PastKept}
 
 -- "From any rota that passes the recount, any accepted list of draws ends in the rota that the rules give worked out afresh."
 abbrev pub EndsAfresh : Component → Type 0
 EndsAfresh C = (c : Call) → noOf c ≡ 0 → C .play c ≡ afreshIn c
+
+-- a list of draws in structs ends as its three columns do, so that each sentence holds of it too
+abbrev pub DrawsAlike : Type 0
+DrawsAlike = (c : Call) (ds : List Draw) → playDrawsOf c ds ≡ playOf (ofDraws c ds)
 
 -- the owner of slot k before the call, and after it
 abbrev pub before : Call → ℕ → ℕ
@@ -44,11 +51,16 @@ OwnersAvailable C =
 abbrev pub CoveredStays : Component → Type 0
 CoveredStays C = (c : Call) → noOf c ≡ 0 → (k : ℕ) → k < c .plan .slots → (before c k ≡ nobody → ⊥) → after C c k ≡ nobody → ⊥
 
--- "only units that an acting draw hands over change owner": by its kind and the runs at its step
+-- draw i of a call acts and hands unit u over, by its kind and the runs at its step
+pub record HandedAt (c : Call) (i u : ℕ) : Type 0 where
+  pub acting : acts.Acts (boardIn c) (foundAt c i) (drawAt c i)
+  pub over : acts.HandsOver (boardIn c) (foundAt c i) (drawAt c i) acting u
+
+-- "only units that an acting draw hands over change owner"
 abbrev pub OnlyHandedOver : Component → Type 0
 OnlyHandedOver C =
     (c : Call) → noOf c ≡ 0 → (k : ℕ) → k < c .plan .slots
-    → touched (boardIn c) (c .owners) (drawsIn c) (unitOf (c .units) (c .firsts) k) ≡ false → after C c k ≡ before c k
+    → ((i : ℕ) → i < c .count → HandedAt c i (unitOf (c .units) (c .firsts) k) → ⊥) → after C c k ≡ before c k
 
 -- "sets and minutes equal a recount": the rota that is left passes it, units too
 abbrev pub Recounts : Component → Type 0
@@ -71,53 +83,23 @@ AddsUp C =
     × (sum (c .plan .people) (λ p. getD (C .play c .derived .minutes) p 0) + u
     ≡ demandOf (c .plan .slots) (c .plan .starts) (c .plan .ends))
 
--- and of the paper, "Bytes past the list's end or the needed length always stay": owners past the slots, minutes past the people, answers
--- past the draws, and each bit of the sets that is no slot of a person
-pub record PastKept (C : Component) (c : Call) : Type 0 where
-  pub owners : (k : ℕ) → c .plan .slots ≤ k → after C c k ≡ before c k
-  pub minutes : (p : ℕ) → c .plan .people ≤ p → getD (C .play c .derived .minutes) p 0 ≡ getD (c .derived .minutes) p 0
-  pub answers : (k : ℕ) → c .count ≤ k → getD (C .play c .answers) k 0 ≡ getD (c .answers) k 0
-  pub sets : (i : ℕ) → ((p k : ℕ) → p < c .plan .people → k < c .plan .slots → i ≡ 1024 * p + k → ⊥)
-      → slot (C .play c .derived .sets) 0 i ≡ slot (c .derived .sets) 0 i
-
+-- and of the paper, bytes past the list's end or the needed length stay: those of the rota, and answers past the draws
 abbrev pub PastStays : Component → Type 0
-PastStays C = (c : Call) → noOf c ≡ 0 → PastKept C c
+PastStays C =
+    (c : Call) → noOf c ≡ 0
+    → PastKept (c .plan .people) (c .plan .slots) (c .owners) (c .derived) (C .play c)
+    × ((k : ℕ) → c .count ≤ k → getD (C .play c .answers) k 0 ≡ getD (c .answers) k 0)
 
 -- "and a list played in two calls ends as in one"
 
 -- the call with its first n draws alone
 abbrev pub firstCall : Call → ℕ → Call
-firstCall c n = record {
-  plan = c .plan;
-  avail = c .avail;
-  units = c .units;
-  firsts = c .firsts;
-  frozen = c .frozen;
-  count = n;
-  kinds = c .kinds;
-  ones = c .ones;
-  twos = c .twos;
-  owners = c .owners;
-  derived = c .derived;
-  answers = c .answers;
-}
+firstCall c n = withDraws c n (c .kinds) (c .ones) (c .twos)
 
 -- the call with the m draws after them, on what an outcome left
 abbrev pub nextCall : Call → Outcome → ℕ → ℕ → Call
-nextCall c y n m = record {
-  plan = c .plan;
-  avail = c .avail;
-  units = c .units;
-  firsts = c .firsts;
-  frozen = c .frozen;
-  count = m;
-  kinds = drop n (c .kinds);
-  ones = drop n (c .ones);
-  twos = drop n (c .twos);
-  owners = y .owners;
-  derived = y .derived;
-  answers = drop n (y .answers);
-}
+nextCall c y n m =
+    onRota (withDraws c m (drop n (c .kinds)) (drop n (c .ones)) (drop n (c .twos))) (y .owners) (y .derived) (drop n (y .answers))
 
 abbrev pub secondCall : Component → Call → ℕ → ℕ → Call
 secondCall C c n m = nextCall c (C .play (firstCall c n)) n m

@@ -6,7 +6,7 @@ use mathlib.Core.List.{List, [], _∷_}
 use Prim.Native.Nat.{ℕ, _*_}
 use lib.Dec.{leb, ltb}
 use lib.ListN.{length}
-use Rattle.paper.specs.Limits.{peopleOk, slotsMost}
+use Rattle.paper.specs.Limits.{peopleOk, slotsMost, setWords}
 use Rattle.slotset.specs.declared.SlotSet.{SlotSet}
 use Rattle.slotset.specs.declared.Found.{Found}
 use Rattle.slotset.specs.declared.Found.the-variants as found
@@ -19,6 +19,7 @@ use Rattle.slotset.specs.declared.NextMember.the-variants as nextMember
 use Rattle.slotset.specs.Search.{nextWith, lastBelow}
 use Rattle.slotset.specs.Answers.{lenNo, rowNo, rowStretchNo, foundAs, toldAs, countedAs, runAs, nextRunAs, nextMemberAs}
 use Rattle.slotset.specs.Answers.{newOf, putOf, stretchOf, loadOf, storeOf, rowStretchOf}
+use Rattle.runs.specs.Listed.{allRunsOf}
 use Rattle.promises.specs.Table.{Row, row, rules, Hears, Refuses, toldNo, countedNo}
 
 -- the number of an answer, 0 where it is no refusal
@@ -56,7 +57,13 @@ stretchTable len a e = lengthTable len (row 11 (leb e a || leb e len) ∷ [])
 
 abbrev pub rowTable : List ℕ → ℕ → ℕ → ℕ → List Row → List Row
 rowTable ws people person len more =
-    row 1 (peopleOk people && leb len slotsMost) ∷ row 2 (leb (16 * people) (length ws)) ∷ row 11 (ltb person people) ∷ more
+    row 1 (peopleOk people && leb len slotsMost) ∷ row 2 (leb (setWords * people) (length ws)) ∷ row 11 (ltb person people) ∷ more
+
+-- all runs, listed in two columns of these lengths
+abbrev pub runsTable : List ℕ → ℕ → ℕ → ℕ → ℕ → ℕ → List Row
+runsTable ws people person len n m =
+    row 1 (peopleOk people && leb len slotsMost) ∷ row 2 (leb (setWords * people) (length ws) && leb len n && leb len m)
+    ∷ row 11 (ltb person people) ∷ []
 
 pub record SetsRefuse : Type 0 where
   -- the methods that read, and `new`
@@ -74,6 +81,11 @@ pub record SetsRefuse : Type 0 where
   pub put-stretch : (v : ℕ) (ws : List ℕ) (people person len a e : ℕ)
       → Refuses (rules (rowTable ws people person len (row 11 (leb e a || leb e len) ∷ []))) (rowStretchNo ws people person len a e) ws
       (rowStretchOf v ws people person len a e)
+  -- the list of a person's runs
+  pub all-runs : (ws : List ℕ) (people person len : ℕ) (firsts lasts : List ℕ)
+      → let x = allRunsOf ws people person len firsts lasts in
+      Refuses {A = List ℕ × List ℕ} (rules (runsTable ws people person len (length firsts) (length lasts))) (countedNo (x .answer))
+      (firsts, lasts) (x .firsts, x .lasts)
   -- an answer has the number that it was made with, whatever is asked
   pub found-next : (n v : ℕ) (f : ℕ → ℕ) (len from : ℕ) → foundNo (foundAs n (nextWith v f len from)) ≡ n
   pub found-last : (n v : ℕ) (f : ℕ → ℕ) (len end : ℕ) → foundNo (foundAs n (lastBelow v f len end)) ≡ n

@@ -3,12 +3,15 @@ use mathlib.Core.Path.{_≡_}
 use mathlib.Core.Bool.{true, false}
 use mathlib.Core.List.{List}
 use mathlib.Core.Logic.{_↔_}
-use Prim.Native.Nat.{ℕ, _*_, _≤_, _<_}
+use Prim.Native.Nat.{ℕ, _-_, _≤_, _<_}
 use lib.ListN.{length, getD}
+use Rattle.paper.specs.Count.{sum}
 use Rattle.slotset.specs.declared.Told.the-variants.{Yes}
 use Rattle.slotset.specs.declared.Counted.the-variants as counted
 use Rattle.slotset.specs.Slots.{slot}
-use Rattle.slots.specs.Lent.{slotsOk, demandOf}
+use Rattle.slotset.specs.Answers.{rowSlots}
+use Rattle.slots.specs.declared.Minutes.the-variants as minutes
+use Rattle.slots.specs.Lent.{slotsOk, demandOf, lentNo, lentSlotNo, demandIs, slotMinutesIs}
 use Rattle.slots.specs.Ranges.{Ranges, personOf, startOf, endOf, inRanges, available, mergedOf, IsMerged}
 use Rattle.slots.specs.Merged.{Columns, mergedNo, mergedRanges}
 use Rattle.slots.specs.Atomic.{Base, atomiseNo, atomiseOf, startsOfAtoms, endsOfAtoms, isCut, cutsIn, IsCuts}
@@ -60,6 +63,11 @@ pub record Froze (slots : ℕ) (starts ends frozen : List ℕ) (instant : ℕ) :
   pub number : freezeOf slots starts ends frozen instant .answer ≡ counted.Is (endedBy slots ends instant)
 
 pub record SlotsByRule : Type 0 where
+  -- the length of a slot is its end less its start; demand is the sum of all
+  pub slot-minutes : (slots : ℕ) (starts ends : List ℕ) (k : ℕ) → lentSlotNo slots starts ends k ≡ 0
+      → slotMinutesIs slots starts ends k ≡ minutes.Are (getD ends k 0 - getD starts k 0)
+  pub demand : (slots : ℕ) (starts ends : List ℕ) → lentNo slots starts ends ≡ 0
+      → demandIs slots starts ends ≡ minutes.Are (sum slots (λ k. getD ends k 0 - getD starts k 0))
   pub merged : (people : ℕ) (R : Ranges) (out : Columns) → mergedNo people R out ≡ 0 → Merged people R out
   pub split : (B : Base) → atomiseNo B ≡ 0 → Split B
   -- "A person is available for a slot exactly when each of its minutes lies in one of their ranges."
@@ -71,6 +79,6 @@ pub record SlotsByRule : Type 0 where
   -- a bit at or past the slot count, and the sets past the people, stay
   pub past : (people slots : ℕ) (starts ends : List ℕ) (R : Ranges) (words : List ℕ) → availabilityNo people slots starts ends R words ≡ 0
       → (p k : ℕ) → (p < people → slots ≤ k) → k < 1024
-      → slot (availabilityOf people slots starts ends R words) (16 * p) k ≡ slot words (16 * p) k
+      → rowSlots (availabilityOf people slots starts ends R words) p k ≡ rowSlots words p k
   pub frozen : (slots : ℕ) (starts ends frozen : List ℕ) (instant : ℕ) → freezeNo slots starts ends frozen ≡ 0
       → Froze slots starts ends frozen instant

@@ -1,20 +1,19 @@
 -- Demand 2, targets: each step, and the outcome, are what the paper's section says. Every step on a Float is IEEE 754's. Assumes nothing.
 use mathlib.Core.Path.{_≡_}
-use mathlib.Core.Bool.{Bool, true, false}
-use mathlib.Core.List.{List}
+use mathlib.Core.Bool.{Bool, true, false, cond}
+use mathlib.Core.List.{List, [], _∷_, _++_, map}
 use mathlib.Core.Logic.{_≢_}
-use Prim.Native.Nat.{ℕ, _<_}
+use Prim.Native.Nat.{ℕ, _+_, _<_}
 use lib.IntN.{ℤ, pos}
 use lib.ListN.{getD, take, drop}
-use lib.Ieee.{Float, fin, binary64, mul, div, sub, lt}
+use lib.Ieee.{Float, fin, binary64, add, mul, div, sub, lt}
 use Rattle.slotset.specs.Answers.{rowSlots}
 use Rattle.targets.specs.declared.Line.{Line}
 use Rattle.targets.specs.declared.Person.{Person}
-use Rattle.targets.specs.Figures.{zeroF, whole, lineOf, pad}
+use Rattle.targets.specs.Figures.{zeroF, whole, personAt, lineOf, pad}
 use Rattle.targets.specs.Available.{availableMinutes}
-use Rattle.targets.specs.Passes.{rounded, NearestWhole, unrounded, settle, shareSum}
-use Rattle.targets.specs.Passes.{again, done}
-use Rattle.targets.specs.Passes.{pass, passesLeave}
+use Rattle.targets.specs.Passes.{rounded, NearestWhole, unrounded, settle, outside, falls, shareSum, notional, some}
+use Rattle.targets.specs.Passes.{again, done, pass, passesLeave}
 use Rattle.targets.specs.Remainder.{Takes, sumℤ}
 use Rattle.targets.specs.Outcome.{Given, given, computeTargets, demandIn, baseAt, linesIn, leftIn, takerIn}
 use Rattle.promises.specs.SetRules.{TheOne}
@@ -28,19 +27,38 @@ pub record Settles (n sum : Float) (l : Line) : Type 0 where
   pub else-rounds : l .pinned ≡ false → lt (unrounded n sum l) zeroF ≡ false
       → (settle n sum l .pinned ≡ false) × (settle n sum l .target ≡ rounded (unrounded n sum l))
 
+-- a total over people in order: from `start` on, each unpinned one is added, a pinned one is not
+pub record OverUnpinned {A : Type 0} (total : List Line → A) (start : A) (plus : A → Line → A) : Type 0 where
+  pub none : total [] ≡ start
+  pub unpinned : (ls : List Line) (l : Line) → l .pinned ≡ false → total (ls ++ (l ∷ [])) ≡ plus (total ls) l
+  pub pinned : (ls : List Line) (l : Line) → l .pinned ≡ true → total (ls ++ (l ∷ [])) ≡ total ls
+
 pub record TargetsByRule : Type 0 where
+  -- what the passes begin with: a line a person, in person order, target 0 and unpinned
+  pub lines : (g : Given) (k : ℕ) → k < g .people → getD (linesIn g) k pad ≡ lineOf (personAt (g .capacities) (g .priors) k) (baseAt g k)
+  pub begins : (p : Person) (base : ℕ) → (lineOf p base .target ≡ 0) × (lineOf p base .pinned ≡ false)
   -- "Raw share is capacity times demand (fairness 1) or times their available minutes (fairness 0)."
   pub share : (p : Person) (base : ℕ) → lineOf p base .raw ≡ mul binary64 (p .capacity) (whole base)
   pub base-1 : (g : Given) (k : ℕ) → g .fairness ≡ 1 → baseAt g k ≡ demandIn g
   pub base-0 : (g : Given) (k : ℕ) → g .fairness ≡ 0 → baseAt g k ≡ availableMinutes (g .slots) (g .starts) (g .ends) (g .avail) k
+  -- "A pass: add the raw shares of the unpinned, in order", each addition rounded once; "N = demand plus their priors", a whole number
+  pub sum : OverUnpinned shareSum zeroF (λ s l. add binary64 s (l .raw))
+  pub n : (demand : ℕ) → OverUnpinned (notional demand) demand (λ n l. n + l .person .prior)
   -- "stop if the sum is not above 0, keeping the targets"
   pub stops : (demand : ℕ) (ls : List Line) → lt zeroF (shareSum ls) ≡ false → pass demand (again ls) ≡ done ls
+  -- above 0, and within the guard: each person is settled with this N and this sum, and another pass is due exactly where somebody unpinned
+  -- falls below 0: "Repeat while a pass pinned somebody"
+  pub passes : (demand : ℕ) (ls : List Line)
+      → let n = whole (notional demand ls) in
+      let s = shareSum ls in
+      lt zeroF s ≡ true → some (outside n s) ls ≡ false
+      → pass demand (again ls) ≡ cond (some (falls n s) ls) (again (map (settle n s) ls)) (done (map (settle n s) ls))
   -- "for each unpinned person work out N * (raw / sum) - prior": quotient, product and difference are rounded each
   pub works-out : (n sum : Float) (l : Line)
       → unrounded n sum l ≡ sub binary64 (mul binary64 n (div binary64 (l .raw) sum)) (whole (l .person .prior))
   pub settles : (n sum : Float) (l : Line) → Settles n sum l
   pub rounds : (s : Bool) (m : ℕ) (e : ℤ) → TheOne (NearestWhole (fin s m e)) (rounded (fin s m e))
-  -- "Repeat while a pass pinned somebody, at most people + 1 passes": the passes end by themselves, the bound never cuts them short
+  -- "at most people + 1 passes": they end by themselves, the bound never cuts them short
   pub ends : (g : Given) (ls : List Line) → passesLeave (demandIn g) (linesIn g) ≡ again ls → ⊥
   -- "Then demand less the targets goes to the largest unpinned target, the last of equals, or to person 0 if all are pinned."
   pub taker : (g : Given) → TheOne (Takes (leftIn g)) (takerIn g)

@@ -1,0 +1,293 @@
+-- Demand 2, the rota, by the laws of rota. Assumes nothing.
+use mathlib.Core.Path.{_≡_, refl, sym, ap, _∙_}
+use mathlib.Core.Bool.{Bool, true, false}
+use mathlib.Core.List.{List, []}
+use mathlib.Core.Logic.{inl, _↔_, _≢_}
+use Prim.Native.Nat.{ℕ, _*_, _≤_, _<_, zero-le}
+use native.Mathlib.Omega.{arith}
+use borrow.Author.Tests.{eqb-true, eqb-false, leb-true}
+use lib.Dec.{eqb, leb}
+use lib.ListN.{length, getD, set, length-set}
+use lib.Seq.{getD-set-same, getD-set-other}
+use Rattle.paper.specs.Limits.{nobody, orElse, peopleOk, slotCountOk, countsOk}
+use Rattle.paper.specs.Count.{all, over, fill}
+use Rattle.paper.proofs.Logic.{by-test, both, three, five, and-true, cond-zero, zero-of, people-says, slot-count-says}
+use Rattle.paper.proofs.Count.{all-each, sum-same, getD-over, getD-over-out, getD-fill-in, getD-fill-out}
+use Rattle.slotset.specs.Slots.{slot}
+use Rattle.slotset.proofs.Puts.{slot-lt}
+use Rattle.slots.specs.Lent.{slotRoomOk, slotsOk}
+use Rattle.units.specs.Units.{unitStart, unitsOk, InUnit}
+use Rattle.units.proofs.Units.{unit-within}
+use Rattle.rota.specs.Derived.{Plan, lengthAt, Derived, derived, portion, worked, held, setsFrom, nobodies, afresh}
+use Rattle.rota.specs.Recount.{knownAt, availableAt, recounts}
+use Rattle.rota.specs.Entries.{roomOk, ground, Outcome, outcome, fromSlotsNo, fromSlots, assigned, playNo, emptyNo, emptied}
+use Rattle.rota.proofs.Minutes.{portion-other, sum-nothing}
+use Rattle.rota.proofs.Sets.{held-own, held-not, sets-in, sets-out}
+use Rattle.rota.proofs.Steps.{afresh-step, afresh-lengths}
+use Rattle.rota.proofs.Made.{nobody-at}
+use Rattle.rota.proofs.Entered.{ground-all, grounds, Grounds, recount-says, says-recount}
+use Rattle.rota.proofs.Asked.{Asks, assign-asks}
+use Rattle.rota.proofs.Promises.{assign-recounts}
+use Rattle.promises.specs.Entries.{Call, noOf, onRota}
+use Rattle.promises.specs.RotaRules.{PassesRecount, PastKept, Made, RotaByRule}
+use Rattle.promises.proofs.Tests.{known-test, available-test}
+use Rattle.promises.proofs.Calls.{accepted-says, play-room}
+
+-- ---- the recount
+
+-- a bit is the one that is due exactly when it is set for the owner
+module _ (o ws : List ℕ) (p k : ℕ) where
+  held-says : slot ws (16 * p) k ≡ held o p k → (slot ws (16 * p) k ≡ 1) ↔ (getD o k 0 ≡ p)
+  held-says e = (
+    λ q.
+        by-test (eqb (getD o k 0) p) _ (eqb-true (getD o k 0) p)
+        (λ f. absurd (omega (arith, q, e, held-not o p k (eqb-false (getD o k 0) p f)))),
+    λ q. e ∙ held-own o p k q,
+  )
+
+  says-held : (slot ws (16 * p) k ≡ 1) ↔ (getD o k 0 ≡ p) → slot ws (16 * p) k ≡ held o p k
+  says-held x =
+      by-test (eqb (getD o k 0) p) _
+      (λ t. let q = eqb-true (getD o k 0) p t in x .1 q ∙ sym (held-own o p k q))
+      (λ f.
+      let n = eqb-false (getD o k 0) p f in
+      zero-of (slot ws (16 * p) k) (slot-lt ws (16 * p) k) (λ z. n (x .0 z)) ∙ sym (held-not o p k n))
+
+recount-by-rule : (P : Plan) (avail : List ℕ) (units : ℕ) (firsts o : List ℕ) (D : Derived)
+    → (recounts P avail units firsts o D ≡ true) ↔ PassesRecount P avail units firsts o D
+recount-by-rule P avail units firsts o D = (
+  λ e.
+      let r = recount-says P avail units firsts o D e in
+      record {
+        known = λ k h. known-test (P .people) (getD o k 0) .0 (r .known k h);
+        available = λ k h. available-test avail (getD o k 0) k .0 (r .free k h);
+        uniform = λ u k i. r .even u k (i .known) (i .from) (i .to);
+        sets = λ p k h g. held-says o (D .sets) p k (r .sets p k h g);
+        minutes = r .minutes;
+      },
+  λ x. says-recount P avail units firsts o D
+      record {
+        known = λ k h. known-test (P .people) (getD o k 0) .1 (x .known k h);
+        free = λ k h. available-test avail (getD o k 0) k .1 (x .available k h);
+        even = λ u k h a b. x .uniform u k record { known = h; from = a; to = b };
+        sets = λ p k h g. says-held o (D .sets) p k (x .sets p k h g);
+        minutes = x .minutes;
+      },
+)
+
+-- ---- what is made afresh
+
+-- what lies past a rota that was made from owners that keep what lies past the slots
+past-afresh : (P : Plan) (avail o o′ : List ℕ) (D : Derived) (x : List ℕ) → Grounds P avail o D
+    → ((k : ℕ) → P .slots ≤ k → getD o′ k 0 ≡ getD o k 0)
+    → PastKept (P .people) (P .slots) o D record { number = 0; owners = o′; derived = afresh P o′ D; answers = x }
+unfolding afresh
+past-afresh P avail o o′ D x g same = record {
+  owners = same;
+  minutes = λ p h. getD-over-out (worked P o′) (P .people) (D .minutes) p h;
+  sets = λ i b. sets-out (P .slots) o′ (D .sets) (g .sound .slots-few) (P .people) (g .room .sets-room) i b;
+}
+
+-- ---- from_slots
+
+module _ (P : Plan) (avail o : List ℕ) (D : Derived) (e : fromSlots P avail o D .number ≡ 0) where
+  from-is : fromSlots P avail o D ≡ record { number = 0; owners = o; derived = afresh P o D; answers = [] }
+  unfolding fromSlots outcome
+  from-is = ap (λ (n : ℕ). outcome n o D [] o (afresh P o D) []) e
+
+  from-tests : Grounds P avail o D × (all (P .slots) (knownAt (P .people) o) ≡ true) × (all (P .slots) (availableAt avail o) ≡ true)
+  unfolding fromSlots outcome fromSlotsNo
+  from-tests =
+      let y = ground-all (countsOk (P .people) (P .slots)) (roomOk P avail o D) (slotsOk (P .slots) (P .starts) (P .ends)) _ e in
+      let k = cond-zero (all (P .slots) (knownAt (P .people) o)) _ 10 (y .3) in
+      let a = cond-zero (all (P .slots) (availableAt avail o)) 0 11 (k .1) in
+      (grounds P avail o D (y .0) (y .1) (y .2), k .0, a .0)
+
+  from-recounts : recounts P avail 0 [] o (afresh P o D) ≡ true
+  unfolding knownAt availableAt
+  from-recounts =
+      let g = from-tests .0 in
+      let known = all-each (P .slots) (knownAt (P .people) o) (from-tests .1) in
+      let J = afresh-step P o D (g .sound .slots-few) (g .room .owners-room) (g .room .sets-room) (g .room .minutes-room) known in
+      says-recount P avail 0 [] o (afresh P o D)
+      record {
+        known = known;
+        free = all-each (P .slots) (availableAt avail o) (from-tests .2);
+        even = λ u k h a b. absurd (omega arith);
+        sets = J .sets;
+        minutes = J .minutes;
+      }
+
+  from-made : (fromSlots P avail o D .owners ≡ o) × Made P avail o D (fromSlots P avail o D)
+  from-made = rw from-is (
+    refl,
+    record {
+      recount = recount-by-rule P avail 0 [] o (afresh P o D) .0 from-recounts;
+      past = past-afresh P avail o o D [] (from-tests .0) (λ k h. refl);
+    },
+  )
+
+-- ---- assign
+
+module _ (P : Plan) (avail o : List ℕ) (D : Derived) (k w : ℕ) (e : assigned P avail o D k w .number ≡ 0) where
+  asked : Asks P avail o D k w
+  unfolding assigned outcome
+  asked = assign-asks P avail o D k w e
+
+  assigned-is : assigned P avail o D k w
+      ≡ record { number = 0; owners = set o k w; derived = afresh P (set o k w) D; answers = [] }
+  unfolding assigned outcome
+  assigned-is = ap (λ (n : ℕ). outcome n o D [] (set o k w) (afresh P (set o k w) D) []) e
+
+  assign-made : let y = assigned P avail o D k w in
+      (getD (y .owners) k 0 ≡ w) × ((j : ℕ) → j ≢ k → getD (y .owners) j 0 ≡ getD o j 0) × Made P avail o D y
+  assign-made =
+      let A = asked in
+      let other : (j : ℕ) → j ≢ k → getD (set o k w) j 0 ≡ getD o j 0 = λ j n. getD-set-other o k j w 0 n in
+      rw assigned-is (
+        getD-set-same o k w 0 (omega (arith, A .slot, A .on .room .owners-room)),
+        other,
+        record {
+          recount =
+              recount-by-rule P avail 0 [] (set o k w) (afresh P (set o k w) D) .0 (assign-recounts P avail o D k w A);
+          past = past-afresh P avail o (set o k w) D [] (A .on) (λ j h. other j (λ q. omega (arith, q, A .slot)));
+        },
+      )
+
+-- 1, 2 and 9 pass and the recount doesn't
+by-ten : (counts room sound right : Bool) → counts ≡ true → room ≡ true → sound ≡ true → right ≡ false
+    → ground counts room sound (orElse right 10 0) ≡ 10
+unfolding ground
+by-ten counts room sound right a b d f = simp (a, b, d, f)
+
+module _ (c : Call) (k w : ℕ) (e : noOf c ≡ 0) where
+  abbrev y : Outcome
+  y = assigned (c .plan) (c .avail) (c .owners) (c .derived) k w
+
+  abbrev next : Call
+  next = onRota c (y .owners) (y .derived) (c .answers)
+
+  module _ (z : y .number ≡ 0) (u j : ℕ) (i : InUnit (c .plan .slots) (c .units) (c .firsts) j u)
+      (differ : getD (y .owners) j 0 ≢ getD (y .owners) (unitStart (c .firsts) u) 0) where
+    fails : recounts (c .plan) (c .avail) (c .units) (c .firsts) (y .owners) (y .derived) ≡ false
+    fails =
+        by-test (recounts (c .plan) (c .avail) (c .units) (c .firsts) (y .owners) (y .derived)) _
+        (λ t. absurd (differ (recount-by-rule (c .plan) (c .avail) (c .units) (c .firsts) (y .owners) (y .derived) .0 t .uniform u j i)))
+        (λ f. f)
+
+    -- as much room as before
+    lengths : (length (y .owners) ≡ length (c .owners)) × (length (y .derived .sets) ≡ length (c .derived .sets))
+        × (length (y .derived .minutes) ≡ length (c .derived .minutes))
+    lengths =
+        let l = afresh-lengths (c .plan) (set (c .owners) k w) (c .derived) in
+        rw (assigned-is (c .plan) (c .avail) (c .owners) (c .derived) k w z) (length-set (c .owners) k w, l .0, l .1)
+
+    room : roomOk (c .plan) (c .avail) (y .owners) (y .derived) ≡ true
+    unfolding roomOk
+    room =
+        let P = c .plan in
+        let r = five (slotRoomOk (P .slots) (P .starts) (P .ends)) (leb (16 * P .people) (length (c .avail)))
+        (leb (P .slots) (length (c .owners))) (leb (16 * P .people) (length (c .derived .sets)))
+        (leb (P .people) (length (c .derived .minutes))) (accepted-says c e .room) in
+        and-true _ _ (r .0) (and-true _ _ (r .1) (and-true _ _ (ap (leb (P .slots)) (lengths .0) ∙ r .2)
+        (and-true _ _ (ap (leb (16 * P .people)) (lengths .1) ∙ r .3) (ap (leb (P .people)) (lengths .2) ∙ r .4))))
+
+    uneven-refused : noOf next ≡ 10
+    unfolding playNo
+    uneven-refused =
+        let A = accepted-says c e in
+        by-ten _ _ _ _ (and-true _ _ (A .counts) (A .few)) (and-true _ _ room (play-room c A)) (and-true _ _ (A .slots) (A .units)) fails
+
+-- ---- an empty rota
+
+module _ (P : Plan) (o : List ℕ) (D : Derived) (e : emptied (P .people) (P .slots) o D .number ≡ 0) where
+  abbrev owners : List ℕ
+  owners = fill nobody 0 (P .slots) o
+
+  abbrev cleared : Derived
+  cleared = derived (setsFrom (P .people) (P .slots) (nobodies (P .slots)) (D .sets)) (over (λ _. 0) (P .people) (D .minutes))
+
+  emptied-is : emptied (P .people) (P .slots) o D ≡ record { number = 0; owners = owners; derived = cleared; answers = [] }
+  unfolding emptied outcome
+  emptied-is = ap (λ (n : ℕ). outcome n o D [] owners cleared []) e
+
+  -- what its tests say
+  pub record Clears : Type 0 where
+    pub people : P .people ≤ 32
+    pub slots : P .slots ≤ 1024
+    pub owners-room : P .slots ≤ length o
+    pub sets-room : 16 * P .people ≤ length (D .sets)
+    pub minutes-room : P .people ≤ length (D .minutes)
+
+  clears : Clears
+  unfolding emptied outcome emptyNo countsOk
+  clears =
+      let x = ground-all (countsOk (P .people) (P .slots)) _ true 0 e in
+      let c = both (peopleOk (P .people)) (slotCountOk (P .slots)) (x .0) in
+      let r = three (leb (P .slots) (length o)) (leb (16 * P .people) (length (D .sets))) (leb (P .people) (length (D .minutes))) (x .1) in
+      record {
+        people = people-says (P .people) (c .0) .1;
+        slots = slot-count-says (P .slots) (c .1) .1;
+        owners-room = leb-true _ _ (r .0);
+        sets-room = leb-true _ _ (r .1);
+        minutes-room = leb-true _ _ (r .2);
+      }
+
+  nobodys : (k : ℕ) → k < P .slots → getD owners k 0 ≡ nobody
+  nobodys k h = getD-fill-in nobody 0 (P .slots) o k zero-le (omega arith) (omega (arith, clears .owners-room))
+
+  -- nobody of the people is nobody
+  not-nobody : (p : ℕ) → p < P .people → nobody ≢ p
+  not-nobody p h q = omega (arith, q, clears .people)
+
+  no-minutes : (p : ℕ) → p < P .people → worked P owners p ≡ 0
+  unfolding worked
+  no-minutes p h =
+      sum-same (P .slots) (λ k. portion (getD owners k 0) p (lengthAt P k)) (λ _. 0)
+      (λ k g. portion-other (getD owners k 0) p (lengthAt P k) (λ q. not-nobody p h (sym (nobodys k g) ∙ q)))
+      ∙ sum-nothing (P .slots)
+
+  unset : (p k : ℕ) → p < P .people → k < P .slots → slot (cleared .sets) (16 * p) k ≡ 0
+  unset p k h g =
+      sets-in (P .slots) (nobodies (P .slots)) (D .sets) (clears .slots) (P .people) (clears .sets-room) p k h g
+      ∙ held-not (nobodies (P .slots)) p k (λ q. not-nobody p h (sym (nobody-at (P .slots) k g) ∙ q))
+
+  empty-recounts : (avail : List ℕ) (units : ℕ) (firsts : List ℕ) → unitsOk (P .slots) units firsts ≡ true
+      → PassesRecount P avail units firsts owners cleared
+  empty-recounts avail units firsts ok = record {
+    known = λ k h. inl (nobodys k h);
+    available = λ k h n. absurd (n (nobodys k h));
+    uniform = λ u k i.
+        let w = unit-within (P .slots) units firsts ok u (i .known) in
+        nobodys k (omega (arith, i .to, w)) ∙ sym (nobodys (unitStart firsts u) (omega (arith, i .from, i .to, w)));
+    sets = λ p k h g. (
+      λ q. absurd (omega (arith, q, unset p k h g)),
+      λ q. absurd (not-nobody p h (sym (nobodys k g) ∙ q)),
+    );
+    minutes = λ p h.
+        getD-over (λ _. 0) (P .people) (D .minutes) p h (omega (arith, clears .minutes-room)) ∙ sym (no-minutes p h);
+  }
+
+  empty-left : let y = emptied (P .people) (P .slots) o D in
+      ((k : ℕ) → k < P .slots → getD (y .owners) k 0 ≡ nobody)
+      × ((avail : List ℕ) (units : ℕ) (firsts : List ℕ) → unitsOk (P .slots) units firsts ≡ true
+      → PassesRecount P avail units firsts (y .owners) (y .derived))
+      × PastKept (P .people) (P .slots) o D y
+  empty-left = rw emptied-is (
+    nobodys,
+    empty-recounts,
+    record {
+      owners = λ k h. getD-fill-out nobody 0 (P .slots) o k (λ a b. omega arith);
+      minutes = λ p h. getD-over-out (λ _. 0) (P .people) (D .minutes) p h;
+      sets = λ i b. sets-out (P .slots) (nobodies (P .slots)) (D .sets) (clears .slots) (P .people) (clears .sets-room) i b;
+    },
+  )
+
+pub rota-by-rule : RotaByRule
+rota-by-rule = record {
+  recount = recount-by-rule;
+  from-slots = from-made;
+  assign = assign-made;
+  uneven = λ c k w e z u j i differ. uneven-refused c k w e z u j i differ;
+  empty = empty-left;
+}

@@ -1,0 +1,59 @@
+-- Demand 2, the rota: the recount, and what from_slots, assign and empty leave, as the paper says. Assumes nothing.
+use mathlib.Core.Path.{_≡_}
+use mathlib.Core.Bool.{true}
+use mathlib.Core.List.{List, []}
+use mathlib.Core.Logic.{_⊎_, _↔_, _≢_}
+use Prim.Native.Nat.{ℕ, _+_, _*_, _≤_, _<_}
+use lib.ListN.{getD}
+use Rattle.paper.specs.Limits.{nobody}
+use Rattle.slotset.specs.Slots.{slot}
+use Rattle.slotset.specs.Answers.{rowSlots}
+use Rattle.units.specs.Units.{unitStart, unitsOk, InUnit}
+use Rattle.rota.specs.Derived.{Plan, Derived, worked}
+use Rattle.rota.specs.Recount.{recounts}
+use Rattle.rota.specs.Entries.{Outcome, fromSlots, assigned, emptied}
+use Rattle.promises.specs.Entries.{Call, noOf, onRota}
+
+-- "The recount ..: owners known and available, units uniform, sets and minutes equal to those worked out from owners."
+pub record PassesRecount (P : Plan) (avail : List ℕ) (units : ℕ) (firsts o : List ℕ) (D : Derived) : Type 0 where
+  pub known : (k : ℕ) → k < P .slots → (getD o k 0 ≡ nobody) ⊎ (getD o k 0 < P .people)
+  pub available : (k : ℕ) → k < P .slots → getD o k 0 ≢ nobody → rowSlots avail (getD o k 0) k ≡ 1
+  pub uniform : (u k : ℕ) → InUnit (P .slots) units firsts k u → getD o k 0 ≡ getD o (unitStart firsts u) 0
+  pub sets : (p k : ℕ) → p < P .people → k < P .slots → (rowSlots (D .sets) p k ≡ 1) ↔ (getD o k 0 ≡ p)
+  pub minutes : (p : ℕ) → p < P .people → getD (D .minutes) p 0 ≡ worked P o p
+
+-- "Bytes past the list's end or the needed length always stay": owners past the slots, minutes past the people, and each bit of the sets
+-- that is no slot of a person
+pub record PastKept (people slots : ℕ) (o : List ℕ) (D : Derived) (y : Outcome) : Type 0 where
+  pub owners : (k : ℕ) → slots ≤ k → getD (y .owners) k 0 ≡ getD o k 0
+  pub minutes : (p : ℕ) → people ≤ p → getD (y .derived .minutes) p 0 ≡ getD (D .minutes) p 0
+  pub sets : (i : ℕ) → ((p k : ℕ) → p < people → k < slots → i ≡ 1024 * p + k → ⊥) → slot (y .derived .sets) 0 i ≡ slot (D .sets) 0 i
+
+-- what an entry that makes a rota leaves, units aside: it passes the recount, and what lies past it is as it was
+pub record Made (P : Plan) (avail o : List ℕ) (D : Derived) (y : Outcome) : Type 0 where
+  pub recount : PassesRecount P avail 0 [] (y .owners) (y .derived)
+  pub past : PastKept (P .people) (P .slots) o D y
+
+pub record RotaByRule : Type 0 where
+  -- the test that 10 stands for, both ways
+  pub recount : (P : Plan) (avail : List ℕ) (units : ℕ) (firsts o : List ℕ) (D : Derived)
+      → (recounts P avail units firsts o D ≡ true) ↔ PassesRecount P avail units firsts o D
+  -- "`from_slots` makes sets and minutes from owners"
+  pub from-slots : (P : Plan) (avail o : List ℕ) (D : Derived)
+      → let y = fromSlots P avail o D in y .number ≡ 0 → (y .owners ≡ o) × Made P avail o D y
+  -- "Single-slot assign recounts too but asks nothing of units or frozen flags": slot k has the owner, every other slot the one it had
+  pub assign : (P : Plan) (avail o : List ℕ) (D : Derived) (k w : ℕ)
+      → let y = assigned P avail o D k w in y .number ≡ 0
+      → (getD (y .owners) k 0 ≡ w) × ((j : ℕ) → j ≢ k → getD (y .owners) j 0 ≡ getD o j 0) × Made P avail o D y
+  -- "a rota it makes uneven is refused by the next play", whatever the draws
+  pub uneven : (c : Call) (k w : ℕ) → noOf c ≡ 0
+      → let y = assigned (c .plan) (c .avail) (c .owners) (c .derived) k w in y .number ≡ 0
+      → (u j : ℕ) → InUnit (c .plan .slots) (c .units) (c .firsts) j u → getD (y .owners) j 0 ≢ getD (y .owners) (unitStart (c .firsts) u) 0
+      → noOf (onRota c (y .owners) (y .derived) (c .answers)) ≡ 10
+  -- an empty rota: nobody owns a slot, and it passes the recount, units too, whatever the slots' times and the availability
+  pub empty : (P : Plan) (o : List ℕ) (D : Derived)
+      → let y = emptied (P .people) (P .slots) o D in y .number ≡ 0
+      → ((k : ℕ) → k < P .slots → getD (y .owners) k 0 ≡ nobody)
+      × ((avail : List ℕ) (units : ℕ) (firsts : List ℕ) → unitsOk (P .slots) units firsts ≡ true
+      → PassesRecount P avail units firsts (y .owners) (y .derived))
+      × PastKept (P .people) (P .slots) o D y
