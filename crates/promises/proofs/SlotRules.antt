@@ -36,6 +36,7 @@ use Rattle.slots.proofs.Meaning.{written-at, written-past, available-slot, othe
 use Rattle.slots.proofs.Meaning.{frozen-kept, bit-lt-two}
 use Rattle.promises.specs.Refusals.{availableTable}
 use Rattle.promises.proofs.Table.{all-pass}
+use Rattle.promises.proofs.Refusals.{taken}
 use Rattle.promises.specs.SlotRules.{Merged, Split, Froze, SlotsByRule}
 
 -- ---- merged ranges
@@ -69,9 +70,9 @@ module _ (people : ℕ) (R : Ranges) (out : Columns) (e : mergedNo people R out 
       × (wordsAs (mergedNo people R out) (out .ends) (written endOf l (out .ends)) ≡ written endOf l (out .ends))
   unfolding wordsAs
   accepted = (
-    ap (λ (n : ℕ). cond (eqb n 0) (written personOf l (out .persons)) (out .persons)) e,
-    ap (λ (n : ℕ). cond (eqb n 0) (written startOf l (out .starts)) (out .starts)) e,
-    ap (λ (n : ℕ). cond (eqb n 0) (written endOf l (out .ends)) (out .ends)) e,
+    taken _ (written personOf l (out .persons)) (out .persons) e,
+    taken _ (written startOf l (out .starts)) (out .starts) e,
+    taken _ (written endOf l (out .ends)) (out .ends) e,
   )
 
   told : countedAs (mergedNo people R out) (length l) ≡ counted.Is (length l)
@@ -128,11 +129,11 @@ module _ (B : Base) (e : atomiseNo B ≡ 0) where
 
   out-starts : atomiseOf B .starts ≡ written (λ t. t) A (B .outStarts)
   unfolding atomiseOf wordsAs
-  out-starts = ap (λ (n : ℕ). cond (eqb n 0) (written (λ t. t) A (B .outStarts)) (B .outStarts)) e
+  out-starts = taken _ (written (λ t. t) A (B .outStarts)) (B .outStarts) e
 
   out-ends : atomiseOf B .ends ≡ written (λ t. t) E (B .outEnds)
   unfolding atomiseOf wordsAs
-  out-ends = ap (λ (n : ℕ). cond (eqb n 0) (written (λ t. t) E (B .outEnds)) (B .outEnds)) e
+  out-ends = taken _ (written (λ t. t) E (B .outEnds)) (B .outEnds) e
 
   out-number : atomiseOf B .answer ≡ counted.Is (length A)
   unfolding atomiseOf countedAs
@@ -184,7 +185,7 @@ module _ (people slots : ℕ) (starts ends : List ℕ) (R : Ranges) (words : Lis
 
   out-is : out ≡ rows (availableBit R starts ends) slots people words
   unfolding availabilityOf wordsAs
-  out-is = ap (λ (n : ℕ). cond (eqb n 0) (rows (availableBit R starts ends) slots people words) words) e
+  out-is = taken _ (rows (availableBit R starts ends) slots people words) words e
 
   counts : peopleOk people && slotCountOk slots ≡ true
   unfolding availabilityNo splitCountsOk
@@ -238,7 +239,7 @@ past-available : (people slots : ℕ) (starts ends : List ℕ) (R : Ranges) (wor
 unfolding availabilityOf wordsAs
 past-available people slots starts ends R words e p k h l =
     let s = availability-says people slots starts ends R words e in
-    ap (λ (n : ℕ). slot (cond (eqb n 0) (rows (availableBit R starts ends) slots people words) words) (16 * p) k) e
+    ap (λ (l : List ℕ). slot l (16 * p) k) (taken _ (rows (availableBit R starts ends) slots people words) words e)
     ∙ other-slot (availableBit R starts ends) (bit-lt-two R starts ends) slots (s .few) words people (s .room) p k h l
 
 -- ---- freezing
@@ -246,7 +247,7 @@ past-available people slots starts ends R words e p k h l =
 module _ (slots : ℕ) (starts ends frozen : List ℕ) (instant : ℕ) (e : freezeNo slots starts ends frozen ≡ 0) where
   flags-are : freezeOf slots starts ends frozen instant .flags ≡ marked slots ends instant frozen
   unfolding freezeOf wordsAs
-  flags-are = ap (λ (n : ℕ). cond (eqb n 0) (marked slots ends instant frozen) frozen) e
+  flags-are = taken _ (marked slots ends instant frozen) frozen e
 
   answer-is : freezeOf slots starts ends frozen instant .answer ≡ counted.Is (endedBy slots ends instant)
   unfolding freezeOf countedAs
