@@ -23,12 +23,6 @@ accepted-is c e =
     let y = afreshIn c in
     ap (λ (n : ℕ). outcome n (c .owners) (c .derived) (c .answers) (y .owners) (y .derived) (y .answers)) e
 
--- refused, nothing changes
-pub refused-is : (c : Call) → (noOf c ≡ 0 → ⊥)
-    → playOf c ≡ record { number = noOf c; owners = c .owners; derived = c .derived; answers = c .answers }
-unfolding played outcome
-refused-is c h = rw (borrow.Author.Tests.ne-eqb (noOf c) 0 h)
-
 -- the tests that it passes
 pub record Accepted (c : Call) : Type 0 where
   pub counts : countsOk (c .plan .people) (c .plan .slots) ≡ true

@@ -71,7 +71,10 @@ pub told-no : (n : ℕ) (b : Bool) → toldNo (toldAs n b) ≡ n
 unfolding toldAs
 told-no n b = by-number toldNo n (cond b told.Yes told.No) (told.Refused n) (yes-or-no b) refl
 
--- refused, what comes out is what was there
+-- where nothing is refused, what comes out is what was made; refused, it is what was there
+pub taken : {A : Type 0} (n : ℕ) (new old : A) → n ≡ 0 → cond (eqb n 0) new old ≡ new
+taken {A} n new old e = ap (λ (m : ℕ). cond (eqb m 0) new old) e
+
 pub stays : {A : Type 0} (n : ℕ) (new old : A) → (n ≡ 0 → ⊥) → cond (eqb n 0) new old ≡ old
 stays {A} n new old h = ap (λ (b : Bool). cond b new old) (ne-eqb n 0 h)
 

@@ -20,13 +20,13 @@ use Rattle.targets.specs.Outcome as targets
 use Rattle.targets.proofs.Promises.{eight-heard, eight-never, number-is, refused-keeps}
 use Rattle.rota.specs.declared.Figure.the-variants as figure
 use Rattle.rota.specs.Derived.{Plan, Derived, derived, knownBy, afresh, setsFrom, nobodies, unassigned, uncovered}
-use Rattle.rota.specs.Recount.{availableFor, knownAt, availableAt, recounts}
+use Rattle.rota.specs.Recount.{knownAt}
 use Rattle.rota.specs.Entries as rota
 use Rattle.rota.specs.Entries.{figureNo}
 use Rattle.promises.specs.Entries.{Call, playOf, ofDraws, afreshIn}
 use Rattle.promises.specs.Table.{Row, row, rules, Applies, Heard, Hears, Refuses}
-use Rattle.promises.specs.Refusals.{targetsChecks, guard, TargetsRefuse, rotaTable, recountTable, playTable, emptyTable, ownersTable}
-use Rattle.promises.specs.Refusals.{Lent, left, RotaRefuses}
+use Rattle.promises.specs.Refusals.{targetsChecks, guard, TargetsRefuse, fromSlotsTable, assignTable, recountSlotsTable}
+use Rattle.promises.specs.Refusals.{recountTable, playTable, emptyTable, ownersTable, Lent, left, RotaRefuses}
 use Rattle.promises.proofs.Table.{chain, rising, Least, chain-least, least-heard, chain-heard, heard-as}
 use Rattle.promises.proofs.Refusals.{by-number}
 
@@ -92,28 +92,16 @@ outcome-refuses t n o D x o′ D′ x′ r e = record {
 }
 
 from-slots-refuses : (P : Plan) (avail o : List ℕ) (D : Derived)
-    → let y = rota.fromSlots P avail o D in
-    Refuses {A = Lent}
-    (rules (rotaTable P avail o D (row 11 (all (P .slots) (knownAt (P .people) o)) ∷ row 12 (all (P .slots) (availableAt avail o)) ∷ [])))
-    (y .number) (o, D, []) (left y)
+    → let y = rota.fromSlots P avail o D in Refuses {A = Lent} (rules (fromSlotsTable P avail o D)) (y .number) (o, D, []) (left y)
 unfolding rota.fromSlots rota.fromSlotsNo rota.ground
-from-slots-refuses P avail o D =
-    outcome-refuses
-    (rotaTable P avail o D (row 11 (all (P .slots) (knownAt (P .people) o)) ∷ row 12 (all (P .slots) (availableAt avail o)) ∷ []))
-    _ o D [] o (afresh P o D) [] refl refl
+from-slots-refuses P avail o D = outcome-refuses (fromSlotsTable P avail o D) _ o D [] o (afresh P o D) [] refl refl
 
 assign-refuses : (P : Plan) (avail o : List ℕ) (D : Derived) (k w : ℕ)
     → let y = rota.assigned P avail o D k w in
-    Refuses {A = Lent}
-    (rules (rotaTable P avail o D
-    (row 10 (recounts P avail 0 [] o D) ∷ row 11 (ltb k (P .slots) && knownBy (P .people) w) ∷ row 12 (availableFor avail w k) ∷ [])))
-    (y .number) (o, D, []) (left y)
+    Refuses {A = Lent} (rules (assignTable P avail o D k w)) (y .number) (o, D, []) (left y)
 unfolding rota.assigned rota.assignNo rota.ground
 assign-refuses P avail o D k w =
-    outcome-refuses
-    (rotaTable P avail o D
-    (row 10 (recounts P avail 0 [] o D) ∷ row 11 (ltb k (P .slots) && knownBy (P .people) w) ∷ row 12 (availableFor avail w k) ∷ []))
-    _ o D [] (set o k w) (afresh P (set o k w) D) [] refl refl
+    outcome-refuses (assignTable P avail o D k w) _ o D [] (set o k w) (afresh P (set o k w) D) [] refl refl
 
 recount-heard : (P : Plan) (avail : List ℕ) (units : ℕ) (firsts o : List ℕ) (D : Derived)
     → Hears (recountTable P avail units firsts o D) (rota.recountNo P avail units firsts o D)
@@ -121,9 +109,9 @@ unfolding rota.recountNo rota.ground
 recount-heard P avail units firsts o D = chain-heard (recountTable P avail units firsts o D) refl
 
 recount-slots-heard : (P : Plan) (avail o : List ℕ) (D : Derived)
-    → Hears (rotaTable P avail o D (row 10 (recounts P avail 0 [] o D) ∷ [])) (rota.recountSlotsNo P avail o D)
+    → Hears (recountSlotsTable P avail o D) (rota.recountSlotsNo P avail o D)
 unfolding rota.recountSlotsNo rota.ground
-recount-slots-heard P avail o D = chain-heard (rotaTable P avail o D (row 10 (recounts P avail 0 [] o D) ∷ [])) refl
+recount-slots-heard P avail o D = chain-heard (recountSlotsTable P avail o D) refl
 
 play-refuses : (c : Call)
     → let y = playOf c in Refuses {A = Lent} (rules (playTable c)) (y .number) (c .owners, c .derived, c .answers) (left y)

@@ -1,24 +1,24 @@
 -- Demand 2, the rota, by the laws of rota. Assumes nothing.
 use mathlib.Core.Path.{_≡_, refl, sym, ap, _∙_}
-use mathlib.Core.Bool.{Bool, true, false}
+use mathlib.Core.Bool.{Bool, true, false, cond}
 use mathlib.Core.List.{List, []}
 use mathlib.Core.Logic.{inl, _↔_, _≢_}
-use Prim.Native.Nat.{ℕ, _*_, _≤_, _<_, zero-le}
+use Prim.Native.Nat.{ℕ, _-_, _*_, _≤_, _<_, zero-le}
 use native.Mathlib.Omega.{arith}
 use borrow.Author.Tests.{eqb-true, eqb-false, leb-true}
 use lib.Dec.{eqb, leb}
 use lib.ListN.{length, getD, set, length-set}
 use lib.Seq.{getD-set-same, getD-set-other}
 use Rattle.paper.specs.Limits.{nobody, orElse, peopleOk, slotCountOk, countsOk}
-use Rattle.paper.specs.Count.{all, over, fill}
+use Rattle.paper.specs.Count.{all, sum, over, fill}
 use Rattle.paper.proofs.Logic.{by-test, both, three, five, and-true, cond-zero, zero-of, people-says, slot-count-says}
 use Rattle.paper.proofs.Count.{all-each, sum-same, getD-over, getD-over-out, getD-fill-in, getD-fill-out}
 use Rattle.slotset.specs.Slots.{slot}
 use Rattle.slotset.proofs.Puts.{slot-lt}
-use Rattle.slots.specs.Lent.{slotRoomOk, slotsOk}
+use Rattle.slots.specs.Lent.{slotRoomOk, slotsOk, minutesAt}
 use Rattle.units.specs.Units.{unitStart, unitsOk, InUnit}
 use Rattle.units.proofs.Units.{unit-within}
-use Rattle.rota.specs.Derived.{Plan, lengthAt, Derived, derived, portion, worked, held, setsFrom, nobodies, afresh}
+use Rattle.rota.specs.Derived.{Plan, lengthAt, Derived, derived, portion, worked, uncovered, held, setsFrom, nobodies, afresh}
 use Rattle.rota.specs.Recount.{knownAt, availableAt, recounts}
 use Rattle.rota.specs.Entries.{roomOk, ground, Outcome, outcome, fromSlotsNo, fromSlots, assigned, playNo, emptyNo, emptied}
 use Rattle.rota.proofs.Minutes.{portion-other, sum-nothing}
@@ -32,6 +32,17 @@ use Rattle.promises.specs.Entries.{Call, noOf, onRota}
 use Rattle.promises.specs.RotaRules.{PassesRecount, PastKept, Made, RotaByRule}
 use Rattle.promises.proofs.Tests.{known-test, available-test}
 use Rattle.promises.proofs.Calls.{accepted-says, play-room}
+
+-- ---- minutes
+
+minutes-are : (P : Plan) (o : List ℕ) (w : ℕ)
+    → worked P o w ≡ sum (P .slots) (λ k. cond (eqb (getD o k 0) w) (getD (P .ends) k 0 - getD (P .starts) k 0) 0)
+unfolding worked portion minutesAt
+minutes-are P o w = refl
+
+uncovered-are : (P : Plan) (o : List ℕ) → uncovered P o ≡ worked P o nobody
+unfolding uncovered
+uncovered-are P o = refl
 
 -- ---- the recount
 
@@ -285,6 +296,8 @@ module _ (P : Plan) (o : List ℕ) (D : Derived) (e : emptied (P .people) (P .sl
 
 pub rota-by-rule : RotaByRule
 rota-by-rule = record {
+  minutes = minutes-are;
+  uncovered = uncovered-are;
   recount = recount-by-rule;
   from-slots = from-made;
   assign = assign-made;

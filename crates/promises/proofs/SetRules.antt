@@ -37,6 +37,7 @@ use Rattle.slotset.proofs.Runs.{has-member, member-has, run-around, around-uniq
 use Rattle.runs.specs.Listed.{listNo, column, allRunsOf}
 use Rattle.runs.proofs.Listing.{list-says, column-at, column-stays}
 use Rattle.promises.specs.SetRules.{TheOne, Bits, RunIs, Put, Changes, firstAhead, FrontOf, SameAnswers, SetsByRule}
+use Rattle.promises.proofs.Refusals.{taken}
 
 next-found : (v : ℕ) (f : ℕ → ℕ) (len from : ℕ) → TheOne (First v f len from) (foundAs 0 (nextWith v f len from))
 unfolding foundAs
@@ -158,7 +159,7 @@ front-of : (end : Ends → ℕ) (l : List Ends) (n : ℕ) (c : List ℕ) → n �
     → FrontOf end l c (wordsAs n c (column end l 0 c))
 unfolding wordsAs
 front-of end l n c e room =
-    let q : cond (eqb n 0) (column end l 0 c) c ≡ column end l 0 c = ap (λ (x : ℕ). cond (eqb x 0) (column end l 0 c) c) e in
+    let q = taken n (column end l 0 c) c e in
     record {
       each = λ k none h.
           let j : k ≡ 0 + k = omega arith in
@@ -257,7 +258,7 @@ put-stretch-changes v ws people person len a e small z =
     let r = row-says ws people person len (x .0) in
     let out = putSlots (λ _. v) (16 * person) a (e - a) ws in
     subst (λ (l : List ℕ). Put (λ _. v) (1024 * person + a) (e - a) (slot ws 0) (slot l 0))
-    (sym (ap (λ (n : ℕ). cond (eqb n 0) out ws) z))
+    (sym (taken _ out ws z))
     (stretch-put v (16 * person) a e (1024 * person + a) ws small (λ h. omega (arith, r .short, r .words, x .1 h)) (omega arith))
 
 store-changes : (s : SlotSet) (ws : List ℕ) (people person : ℕ) → rowNo ws people person (s .len) ≡ 0
@@ -269,7 +270,7 @@ store-changes s ws people person z =
     let p = puts-put (slotsOf s) (16 * person) 0 (s .len) (1024 * person) ws (slot-lt (s .words) 0)
     (omega (arith, r .short, r .words)) (omega arith) in
     subst (λ (l : List ℕ). Put (slotsOf s) (1024 * person) (s .len) (slot ws 0) (slot l 0))
-    (sym (ap (λ (n : ℕ). cond (eqb n 0) out ws) z)) record {
+    (sym (taken _ out ws z)) record {
       here = λ k h. let e : 0 + k ≡ k = omega arith in p .here k h ∙ ap (slotsOf s) e;
       elsewhere = p .elsewhere;
     }
@@ -308,7 +309,7 @@ zeros-slot k =
 
 new-empty : (len : ℕ) → lenNo len ≡ 0 → (newOf len .set .len ≡ len) × ((k : ℕ) → slotsOf (newOf len .set) k ≡ 0)
 unfolding newOf
-new-empty len e = (ap (λ (n : ℕ). cond (eqb n 0) len 0) e, zeros-slot)
+new-empty len e = (taken _ len 0 e, zeros-slot)
 
 -- ---- places
 

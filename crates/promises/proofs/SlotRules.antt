@@ -2,29 +2,30 @@
 use mathlib.Core.Path.{_≡_, refl, sym, ap, ap₂, _∙_}
 use mathlib.Core.Bool.{Bool, true, false, cond, _&&_}
 use mathlib.Core.List.{List, [], _∷_}
-use mathlib.Core.Logic.{_↔_}
+use mathlib.Core.Logic.{_⊎_, inl, inr, ⊎-elim, _↔_}
 use Prim.Native.Nat.{ℕ, suc, _-_, _*_, _≤_, _<_}
 use native.Mathlib.Omega.{arith}
-use borrow.Author.Tests.{leb-true, le-leb, lt-ltb}
+use borrow.Author.Tests.{eq-eqb, eqb-true, leb-true, le-leb, lt-ltb, ltb-true}
 use lib.Dec.{eqb, leb, ltb}
 use lib.ListN.{length, getD}
 use Rattle.paper.specs.Limits.{peopleOk, slotCountOk, orElse}
 use Rattle.paper.specs.Count.{sum}
-use Rattle.paper.proofs.Logic.{by-test, cond-zero, both, and-true}
-use Rattle.paper.proofs.Count.{in-each, each-in}
+use Rattle.paper.proofs.Logic.{by-test, cond-zero, both, three, and-true, or-left, or-second, or-either}
+use Rattle.paper.proofs.Count.{some-one, some-here, in-each, each-in}
 use Rattle.slotset.specs.declared.Told.the-variants.{Yes, No}
 use Rattle.slotset.specs.declared.Counted.the-variants as counted
 use Rattle.slotset.specs.Slots.{slot, has, valueOf}
 use Rattle.slotset.specs.Answers.{countedAs, toldAs, wordsAs}
 use Rattle.slots.specs.declared.Minutes.the-variants as minutes
 use Rattle.slots.specs.Lent.{slotsOk, minutesAt, demandOf, lentNo, lentSlotNo, minutesAs, demandIs, slotMinutesIs}
-use Rattle.slots.specs.Ranges.{Ranges, rangesOk, personOf, startOf, endOf, opens, closes, joined, inRanges, available}
+use Rattle.slots.specs.Ranges.{Ranges, rangesOk, personOf, startOf, endOf, opens, closes, joined, inRange, inRanges, available}
 use Rattle.slots.specs.Ranges.{keysTo, keysOf, mergeIn, mergeAll, mergedOf}
 use Rattle.slots.specs.Merged.{Columns, written, mergedNo, mergedRanges}
-use Rattle.slots.specs.Atomic.{Base, baseCountsOk, baseRoomOk, baseNo, atomiseNo, atomiseOf, startsOfAtoms, endsOfAtoms, isCut}
-use Rattle.slots.specs.Atomic.{splitCountsOk}
+use Rattle.slots.specs.Atomic.{Base, baseCountsOk, baseRoomOk, baseNo, atomiseNo, atomiseOf, startsOfAtoms, endsOfAtoms, startsOrEnds}
+use Rattle.slots.specs.Atomic.{isCut, splitCountsOk}
 use Rattle.slots.specs.Availability.{availableBit, rows, availabilityNo, availabilityOf}
 use Rattle.slots.specs.Freeze.{endsBy, endedBy, marked, freezeNo, freezeOf, availableNo, isAvailable}
+use Rattle.slots.proofs.Entries.{any-here, any-one}
 use Rattle.slots.proofs.RangeLaws.{length-keys, merged-is}
 use Rattle.slots.proofs.Merging.{one-merged}
 use Rattle.slots.proofs.MergedLaws.{merged-says}
@@ -36,7 +37,45 @@ use Rattle.slots.proofs.Meaning.{written-at, written-past, available-slot, othe
 use Rattle.slots.proofs.Meaning.{frozen-kept, bit-lt-two}
 use Rattle.promises.specs.Refusals.{availableTable}
 use Rattle.promises.proofs.Table.{all-pass}
+use Rattle.promises.proofs.Refusals.{taken}
 use Rattle.promises.specs.SlotRules.{Merged, Split, Froze, SlotsByRule}
+
+-- ---- ranges and cuts
+
+minute-lies : (R : Ranges) (p t : ℕ)
+    → (inRanges R p t ≡ true)
+    ↔ ((k : ℕ) × (k < R .count) × (getD (R .persons) k 0 ≡ p) × (getD (R .starts) k 0 ≤ t) × (t < getD (R .ends) k 0))
+unfolding inRanges inRange
+minute-lies R p t = (
+  λ e.
+      some-one (R .count) (inRange R p t) _ e
+      (λ k h i.
+      let x = three (eqb (getD (R .persons) k 0) p) (leb (getD (R .starts) k 0) t) (ltb t (getD (R .ends) k 0)) i in
+      (k, h, eqb-true _ _ (x .0), leb-true _ _ (x .1), ltb-true _ _ (x .2))),
+  λ x.
+      some-here (R .count) (x .0) (inRange R p t) (x .1)
+      (and-true _ _ (eq-eqb _ _ (x .2)) (and-true _ _ (le-leb _ _ (x .3)) (lt-ltb _ _ (x .4)))),
+)
+
+cut-is : (merged : List ℕ) (t : ℕ)
+    → (isCut merged t ≡ true) ↔ ((k : ℕ) × (k < length merged) × ((startOf (getD merged k 0) ≡ t) ⊎ (endOf (getD merged k 0) ≡ t)))
+unfolding isCut startsOrEnds
+cut-is merged t = (
+  λ e.
+      any-one (startsOrEnds t) merged _ e
+      (λ k h i.
+      let edge : (startOf (getD merged k 0) ≡ t) ⊎ (endOf (getD merged k 0) ≡ t) =
+      ⊎-elim (λ (a : eqb (startOf (getD merged k 0)) t ≡ true). inl (eqb-true _ _ a))
+      (λ (a : eqb (endOf (getD merged k 0)) t ≡ true). inr (eqb-true _ _ a))
+      (or-either (eqb (startOf (getD merged k 0)) t) (eqb (endOf (getD merged k 0)) t) i) in
+      (k, h, edge)),
+  λ x.
+      let a = eqb (startOf (getD merged (x .0) 0)) t in
+      let b = eqb (endOf (getD merged (x .0) 0)) t in
+      any-here (startsOrEnds t) merged (x .0) (x .1)
+      (⊎-elim (λ (q : startOf (getD merged (x .0) 0) ≡ t). or-left a b (eq-eqb _ _ q))
+      (λ (q : endOf (getD merged (x .0) 0) ≡ t). or-second a b (eq-eqb _ _ q)) (x .2)),
+)
 
 -- ---- merged ranges
 
@@ -69,9 +108,9 @@ module _ (people : ℕ) (R : Ranges) (out : Columns) (e : mergedNo people R out 
       × (wordsAs (mergedNo people R out) (out .ends) (written endOf l (out .ends)) ≡ written endOf l (out .ends))
   unfolding wordsAs
   accepted = (
-    ap (λ (n : ℕ). cond (eqb n 0) (written personOf l (out .persons)) (out .persons)) e,
-    ap (λ (n : ℕ). cond (eqb n 0) (written startOf l (out .starts)) (out .starts)) e,
-    ap (λ (n : ℕ). cond (eqb n 0) (written endOf l (out .ends)) (out .ends)) e,
+    taken _ (written personOf l (out .persons)) (out .persons) e,
+    taken _ (written startOf l (out .starts)) (out .starts) e,
+    taken _ (written endOf l (out .ends)) (out .ends) e,
   )
 
   told : countedAs (mergedNo people R out) (length l) ≡ counted.Is (length l)
@@ -128,11 +167,11 @@ module _ (B : Base) (e : atomiseNo B ≡ 0) where
 
   out-starts : atomiseOf B .starts ≡ written (λ t. t) A (B .outStarts)
   unfolding atomiseOf wordsAs
-  out-starts = ap (λ (n : ℕ). cond (eqb n 0) (written (λ t. t) A (B .outStarts)) (B .outStarts)) e
+  out-starts = taken _ (written (λ t. t) A (B .outStarts)) (B .outStarts) e
 
   out-ends : atomiseOf B .ends ≡ written (λ t. t) E (B .outEnds)
   unfolding atomiseOf wordsAs
-  out-ends = ap (λ (n : ℕ). cond (eqb n 0) (written (λ t. t) E (B .outEnds)) (B .outEnds)) e
+  out-ends = taken _ (written (λ t. t) E (B .outEnds)) (B .outEnds) e
 
   out-number : atomiseOf B .answer ≡ counted.Is (length A)
   unfolding atomiseOf countedAs
@@ -184,7 +223,7 @@ module _ (people slots : ℕ) (starts ends : List ℕ) (R : Ranges) (words : Lis
 
   out-is : out ≡ rows (availableBit R starts ends) slots people words
   unfolding availabilityOf wordsAs
-  out-is = ap (λ (n : ℕ). cond (eqb n 0) (rows (availableBit R starts ends) slots people words) words) e
+  out-is = taken _ (rows (availableBit R starts ends) slots people words) words e
 
   counts : peopleOk people && slotCountOk slots ≡ true
   unfolding availabilityNo splitCountsOk
@@ -238,7 +277,7 @@ past-available : (people slots : ℕ) (starts ends : List ℕ) (R : Ranges) (wor
 unfolding availabilityOf wordsAs
 past-available people slots starts ends R words e p k h l =
     let s = availability-says people slots starts ends R words e in
-    ap (λ (n : ℕ). slot (cond (eqb n 0) (rows (availableBit R starts ends) slots people words) words) (16 * p) k) e
+    ap (λ (l : List ℕ). slot l (16 * p) k) (taken _ (rows (availableBit R starts ends) slots people words) words e)
     ∙ other-slot (availableBit R starts ends) (bit-lt-two R starts ends) slots (s .few) words people (s .room) p k h l
 
 -- ---- freezing
@@ -246,7 +285,7 @@ past-available people slots starts ends R words e p k h l =
 module _ (slots : ℕ) (starts ends frozen : List ℕ) (instant : ℕ) (e : freezeNo slots starts ends frozen ≡ 0) where
   flags-are : freezeOf slots starts ends frozen instant .flags ≡ marked slots ends instant frozen
   unfolding freezeOf wordsAs
-  flags-are = ap (λ (n : ℕ). cond (eqb n 0) (marked slots ends instant frozen) frozen) e
+  flags-are = taken _ (marked slots ends instant frozen) frozen e
 
   answer-is : freezeOf slots starts ends frozen instant .answer ≡ counted.Is (endedBy slots ends instant)
   unfolding freezeOf countedAs
@@ -282,6 +321,8 @@ pub slots-by-rule : SlotsByRule
 slots-by-rule = record {
   slot-minutes = slot-minutes-told;
   demand = demand-told;
+  lies = minute-lies;
+  cut = cut-is;
   merged = merged-by-rule;
   split = split-by-rule;
   available = available-by-rule;

@@ -40,6 +40,7 @@ use Rattle.units.proofs.Means.{masks-at, masks-past, frozen-any}
 use Rattle.units.proofs.Longest.{longest-meets, longest-only}
 use Rattle.promises.specs.SetRules.{TheOne}
 use Rattle.promises.specs.UnitRules.{Listed, Lists, UnitsByRule}
+use Rattle.promises.proofs.Refusals.{taken}
 
 -- ---- starts
 
@@ -76,7 +77,7 @@ unfolding writtenAs numberAs
 lists p n list heard e = record {
   listed = listed-among p n;
   number = ap (λ (x : ℕ). numberAs x (length (among p n))) e;
-  written = ap (λ (x : ℕ). cond (eqb x 0) (onto (among p n) list) list) e;
+  written = taken _ (onto (among p n) list) list e;
 }
 
 module _ (s : Settings) (slots : ℕ) (starts ends list : List ℕ) (e : startsNo s slots starts ends list ≡ 0) where

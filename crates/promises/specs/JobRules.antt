@@ -2,8 +2,8 @@
 use mathlib.Core.Path.{_≡_}
 use mathlib.Core.Bool.{true}
 use mathlib.Core.List.{List, []}
-use mathlib.Core.Logic.{_↔_}
-use Prim.Native.Nat.{ℕ, _+_, _-_, _^_, _≤_, _<_}
+use mathlib.Core.Logic.{_↔_, _≢_}
+use Prim.Native.Nat.{ℕ, suc, _+_, _-_, _^_, _≤_, _<_}
 use lib.IntN.{ℤ, pos, natAbs}
 use lib.ListN.{length, getD, take, drop}
 use Rattle.paper.specs.Limits.{nobody}
@@ -14,10 +14,10 @@ use Rattle.rota.specs.Recount.{availableFor}
 use Rattle.job.specs.declared.JobAnswer.the-variants as answer
 use Rattle.job.specs.Fields.{le, Bytes}
 use Rattle.job.specs.Records.{bodies}
-use Rattle.job.specs.File.{jobSizes, jobCounts, jobStarts, fileOk, JobFile}
+use Rattle.job.specs.File.{jobSizes, jobCounts, jobStarts, ownerSlot, fileOk, JobFile}
 use Rattle.job.specs.Listing.{digits, signed, listingOf, listingMost}
 use Rattle.job.specs.Digits.{readDigits, readSigned}
-use Rattle.job.specs.Stages.{settingsIn}
+use Rattle.job.specs.Stages.{settingsIn, ownerValue, placed}
 use Rattle.job.specs.Outcome.{columnOf, instantIn, jobResult}
 use Rattle.job.specs.Heard.{Lowest, AllPass, jobTests, readyOf, ownersOf, listedOf, baseTotal}
 
@@ -60,6 +60,10 @@ pub record JobByRule : Type 0 where
       × (settingsIn s .value ≡ le 2 body 4) × (settingsIn s .days ≡ le 2 body 6)
   pub base-total : (s : List ℕ) (J : JobFile s)
       → let base = bodies 2 (J .records) in baseTotal s ≡ sum (length base) (λ k. le 4 (getD base k []) 4 - le 4 (getD base k []) 0)
+  -- "owner: .. slots rising, the rest 255": a slot has the owner of its record, 255 where none names it
+  pub owners : (s : List ℕ) (at slots n : ℕ) → slots ≤ 1024 → ((k : ℕ) → suc k < n → ownerSlot s at k < ownerSlot s at (suc k))
+      → ((k : ℕ) → k < n → ownerSlot s at k < slots → getD (placed s at slots n) (ownerSlot s at k) 0 ≡ ownerValue s at k)
+      × ((j : ℕ) → j < slots → ((k : ℕ) → k < n → ownerSlot s at k ≢ j) → getD (placed s at slots n) j 0 ≡ nobody)
   pub accepted : (s x : List ℕ) (n : ℕ) → jobResult s x .answer ≡ answer.Length n → Accepted s x n
   -- the digits of a number have that number as their value, with a minus sign for one below 0
   pub digits : (n : ℕ) → n < 10 ^ 20 → readDigits (digits n) ≡ n

@@ -28,6 +28,6 @@ pub record OneOutcome : Type 1 where
   -- rotation_starts, unit_starts, slot_domain, unit_domain
   pub written : (w : Written) → Only (λ (r : Number × List ℕ). Are w (r .0) (r .1))
   pub compute-targets : (g : targets.Given) (out : List ℤ) → Only (λ (r : ℕ × List ℤ). targets.Meets g out (r .0) (r .1))
-  -- from_slots, assign, empty, play
+  -- from_slots, assign, empty, and play, of columns and of structs
   pub rota : (y : rota.Outcome) → Only (λ (r : ℕ × List ℕ × Derived × List ℕ). rota.Ended y (r .0) (r .1) (r .2) (r .3))
   pub run-job : (y : job.Result) → Only (λ (r : JobAnswer × List ℕ). job.Ends y (r .0) (r .1))

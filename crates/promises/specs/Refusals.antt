@@ -189,6 +189,18 @@ abbrev pub rotaTable : Plan → List ℕ → List ℕ → Derived → List Row �
 rotaTable P avail o D more =
     row 1 (countsOk (P .people) (P .slots)) ∷ row 2 (rota.roomOk P avail o D) ∷ row 9 (slotsOk (P .slots) (P .starts) (P .ends)) ∷ more
 
+abbrev pub fromSlotsTable : Plan → List ℕ → List ℕ → Derived → List Row
+fromSlotsTable P avail o D =
+    rotaTable P avail o D (row 11 (all (P .slots) (knownAt (P .people) o)) ∷ row 12 (all (P .slots) (availableAt avail o)) ∷ [])
+
+abbrev pub assignTable : Plan → List ℕ → List ℕ → Derived → ℕ → ℕ → List Row
+assignTable P avail o D k w =
+    rotaTable P avail o D
+    (row 10 (recounts P avail 0 [] o D) ∷ row 11 (ltb k (P .slots) && knownBy (P .people) w) ∷ row 12 (availableFor avail w k) ∷ [])
+
+abbrev pub recountSlotsTable : Plan → List ℕ → List ℕ → Derived → List Row
+recountSlotsTable P avail o D = rotaTable P avail o D (row 10 (recounts P avail 0 [] o D) ∷ [])
+
 abbrev pub recountTable : Plan → List ℕ → ℕ → List ℕ → List ℕ → Derived → List Row
 recountTable P avail units firsts o D =
     row 1 (countsOk (P .people) (P .slots)) ∷ row 2 (rota.roomOk P avail o D && leb units (length firsts))
@@ -220,20 +232,14 @@ left y = (y .owners, y .derived, y .answers)
 
 pub record RotaRefuses : Type 0 where
   pub from-slots : (P : Plan) (avail o : List ℕ) (D : Derived)
-      → let y = rota.fromSlots P avail o D in
-      Refuses {A = Lent}
-      (rules (rotaTable P avail o D (row 11 (all (P .slots) (knownAt (P .people) o)) ∷ row 12 (all (P .slots) (availableAt avail o)) ∷ [])))
-      (y .number) (o, D, []) (left y)
+      → let y = rota.fromSlots P avail o D in Refuses {A = Lent} (rules (fromSlotsTable P avail o D)) (y .number) (o, D, []) (left y)
   pub assign : (P : Plan) (avail o : List ℕ) (D : Derived) (k w : ℕ)
       → let y = rota.assigned P avail o D k w in
-      Refuses {A = Lent}
-      (rules (rotaTable P avail o D
-      (row 10 (recounts P avail 0 [] o D) ∷ row 11 (ltb k (P .slots) && knownBy (P .people) w) ∷ row 12 (availableFor avail w k) ∷ [])))
-      (y .number) (o, D, []) (left y)
+      Refuses {A = Lent} (rules (assignTable P avail o D k w)) (y .number) (o, D, []) (left y)
   pub recount : (P : Plan) (avail : List ℕ) (units : ℕ) (firsts o : List ℕ) (D : Derived)
       → Hears (recountTable P avail units firsts o D) (rota.recountNo P avail units firsts o D)
   pub recount-slots : (P : Plan) (avail o : List ℕ) (D : Derived)
-      → Hears (rotaTable P avail o D (row 10 (recounts P avail 0 [] o D) ∷ [])) (rota.recountSlotsNo P avail o D)
+      → Hears (recountSlotsTable P avail o D) (rota.recountSlotsNo P avail o D)
   pub play : (c : Call)
       → let y = playOf c in Refuses {A = Lent} (rules (playTable c)) (y .number) (c .owners, c .derived, c .answers) (left y)
   -- of draws in a list of structs

@@ -1,15 +1,17 @@
 -- Demand 2, the rota: the recount, and what from_slots, assign and empty leave, as the paper says. Assumes nothing.
 use mathlib.Core.Path.{_≡_}
-use mathlib.Core.Bool.{true}
+use mathlib.Core.Bool.{true, cond}
 use mathlib.Core.List.{List, []}
 use mathlib.Core.Logic.{_⊎_, _↔_, _≢_}
-use Prim.Native.Nat.{ℕ, _+_, _*_, _≤_, _<_}
+use Prim.Native.Nat.{ℕ, _+_, _-_, _*_, _≤_, _<_}
+use lib.Dec.{eqb}
 use lib.ListN.{getD}
 use Rattle.paper.specs.Limits.{nobody}
+use Rattle.paper.specs.Count.{sum}
 use Rattle.slotset.specs.Slots.{slot}
 use Rattle.slotset.specs.Answers.{rowSlots}
 use Rattle.units.specs.Units.{unitStart, unitsOk, InUnit}
-use Rattle.rota.specs.Derived.{Plan, Derived, worked}
+use Rattle.rota.specs.Derived.{Plan, Derived, worked, uncovered}
 use Rattle.rota.specs.Recount.{recounts}
 use Rattle.rota.specs.Entries.{Outcome, fromSlots, assigned, emptied}
 use Rattle.promises.specs.Entries.{Call, noOf, onRota}
@@ -35,6 +37,10 @@ pub record Made (P : Plan) (avail o : List ℕ) (D : Derived) (y : Outcome) : Ty
   pub past : PastKept (P .people) (P .slots) o D y
 
 pub record RotaByRule : Type 0 where
+  -- the minutes of an owner are the lengths of the slots that they own; "Uncovered minutes are the lengths of slots owned by nobody"
+  pub minutes : (P : Plan) (o : List ℕ) (w : ℕ)
+      → worked P o w ≡ sum (P .slots) (λ k. cond (eqb (getD o k 0) w) (getD (P .ends) k 0 - getD (P .starts) k 0) 0)
+  pub uncovered : (P : Plan) (o : List ℕ) → uncovered P o ≡ worked P o nobody
   -- the test that 10 stands for, both ways
   pub recount : (P : Plan) (avail : List ℕ) (units : ℕ) (firsts o : List ℕ) (D : Derived)
       → (recounts P avail units firsts o D ≡ true) ↔ PassesRecount P avail units firsts o D

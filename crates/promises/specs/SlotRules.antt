@@ -2,7 +2,7 @@
 use mathlib.Core.Path.{_≡_}
 use mathlib.Core.Bool.{true, false}
 use mathlib.Core.List.{List}
-use mathlib.Core.Logic.{_↔_}
+use mathlib.Core.Logic.{_⊎_, _↔_}
 use Prim.Native.Nat.{ℕ, _-_, _≤_, _<_}
 use lib.ListN.{length, getD}
 use Rattle.paper.specs.Count.{sum}
@@ -68,6 +68,13 @@ pub record SlotsByRule : Type 0 where
       → slotMinutesIs slots starts ends k ≡ minutes.Are (getD ends k 0 - getD starts k 0)
   pub demand : (slots : ℕ) (starts ends : List ℕ) → lentNo slots starts ends ≡ 0
       → demandIs slots starts ends ≡ minutes.Are (sum slots (λ k. getD ends k 0 - getD starts k 0))
+  -- a minute lies in one of a person's ranges: it is not before its start, and before its end
+  pub lies : (R : Ranges) (p t : ℕ)
+      → (inRanges R p t ≡ true)
+      ↔ ((k : ℕ) × (k < R .count) × (getD (R .persons) k 0 ≡ p) × (getD (R .starts) k 0 ≤ t) × (t < getD (R .ends) k 0))
+  -- "The cuts are all starts and ends of the merged ranges."
+  pub cut : (merged : List ℕ) (t : ℕ)
+      → (isCut merged t ≡ true) ↔ ((k : ℕ) × (k < length merged) × ((startOf (getD merged k 0) ≡ t) ⊎ (endOf (getD merged k 0) ≡ t)))
   pub merged : (people : ℕ) (R : Ranges) (out : Columns) → mergedNo people R out ≡ 0 → Merged people R out
   pub split : (B : Base) → atomiseNo B ≡ 0 → Split B
   -- "A person is available for a slot exactly when each of its minutes lies in one of their ranges."
