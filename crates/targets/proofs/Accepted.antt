@@ -119,6 +119,7 @@ pub few-people : (people slots : ℕ) → countsOk people slots ≡ true → peo
 unfolding countsOk
 few-people people slots h = people-says people (both (peopleOk people) (slotCountOk slots) h .0) .1
 
+-- all of it
 pub record Accepted (g : Given) (room : ℕ) : Type 0 where
   pub sound : Sound g
   pub out-room : g .people ≤ room

@@ -192,7 +192,7 @@ own : (s : Bool) (m : ℕ) (e : ℤ) → T (fits binary64 (fin s m e))
     → HasValue (round binary64 false (m * up e) (down e)) false (m * up e) (down e)
 own s m e f =
     let o = fits-says s m e f in
-    exact false m e 0 (m * up e) (sym (mul-one (m * up e))) (o .digits) (o .reach) (o .top)
+    exact false m e 0 (m * up e) (sym (mul-one (m * up e))) o (o .top)
 
 -- x at most a / b: at most a / b rounded, if that is finite
 value-le : (z y : Float) (a c : ℕ) → 0 < c → HasValue z false a c → T (le z y) → Plain y → (k : ℕ) → Most y k 1

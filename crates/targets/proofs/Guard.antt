@@ -36,6 +36,7 @@ notionalMost = 4000000000
 
 -- ---- one more raw share
 
+-- x is k shares added up: it has no sign, fits, and is at most k times the most
 pub record Acc (k : ℕ) (x : Float) : Type 0 where
   pub plain : Plain x
   pub ok : T (fits binary64 x)
@@ -112,6 +113,7 @@ with-one true k x y K a h l = record {
 }
 with-one false k x y K a h l = added k x y K a h l
 
+-- the shares of ls were added to x: s is at least x and each of them
 pub record Summed (k : ℕ) (x s : Float) (ls : List Line) : Type 0 where
   pub acc : Acc k s
   pub from : Under x s

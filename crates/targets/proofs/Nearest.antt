@@ -175,18 +175,18 @@ below-top a c t q h =
     (mul-right-comm (2 ^ 1024) c (2 ^ 1074) ∙ ap (λ (z : ℕ). z * c) (mul-comm (2 ^ 1024) (2 ^ 1074) ∙ sym (pow-add 2 1074 1024))))))
 
 -- x is m * 2 ^ j at the exponent e
-pub exact : (s : Bool) (m : ℕ) (e : ℤ) (j x : ℕ) → x ≡ m * up e * 2 ^ j → m < 2 ^ 53 → down e ≤ 2 ^ 1074 → x < 2 ^ 1024 * down e
+pub exact : (s : Bool) (m : ℕ) (e : ℤ) (j x : ℕ) → x ≡ m * up e * 2 ^ j → Fitting m e → x < 2 ^ 1024 * down e
     → HasValue (round binary64 s x (down e)) s x (down e)
-exact s m (pos k) j x X d r h =
+exact s m (pos k) j x X o h =
     let q : x * 2 ^ 1074 ≡ m * 2 ^ (k + j + 1074) * 1 = ap (λ (z : ℕ). z * 2 ^ 1074) X ∙ simp (mul-one, pow-add, mul-assoc) in
-    round-exact binary64 s x 1 m (k + j + 1074) (pow-pos 0) d (below-top x 1 (m * 2 ^ (k + j + 1074)) q h) q
-exact s m (negsuc k) j x X d r h =
+    round-exact binary64 s x 1 m (k + j + 1074) (pow-pos 0) (o .digits) (below-top x 1 (m * 2 ^ (k + j + 1074)) q h) q
+exact s m (negsuc k) j x X o h =
     let l = 1074 - suc k in
     let q : x * 2 ^ 1074 ≡ m * 2 ^ (j + l) * 2 ^ suc k
     = ap (λ (z : ℕ). z * 2 ^ 1074) (X ∙ mul-right-comm m 1 (2 ^ j))
-    ∙ parts-down (m * 2 ^ j) k 1074 (exponent k 1074 r)
+    ∙ parts-down (m * 2 ^ j) k 1074 (exponent k 1074 (o .reach))
     ∙ ap (λ (z : ℕ). z * 2 ^ suc k) (mul-assoc m (2 ^ j) (2 ^ l) ∙ ap (λ (z : ℕ). m * z) (sym (pow-add 2 j l))) in
-    round-exact binary64 s x (2 ^ suc k) m (j + l) (pow-pos (suc k)) d (below-top x (2 ^ suc k) (m * 2 ^ (j + l)) q h) q
+    round-exact binary64 s x (2 ^ suc k) m (j + l) (pow-pos (suc k)) (o .digits) (below-top x (2 ^ suc k) (m * 2 ^ (j + l)) q h) q
 
 same-sign : (s : Bool) (a c : ℕ) → sum binary64 s a s a c ≡ round binary64 s (a + a) c
 unfolding sum
@@ -199,12 +199,11 @@ unfolding add
 doubled s m e f h =
     let x = m * up e in
     let d = down e in
-    let o = fits-says s m e f in
     let q : round binary64 s (x * d + x * d) (d * d) ≡ round binary64 s (x * 2) d
     = round-same binary64 s (x * d + x * d) (d * d) (x * 2) d (mul-pos (down-pos e) (down-pos e)) (down-pos e) (twice x d) in
     let l : x * 2 < 2199023255552 * d = omega (arith, h) in
     subst (λ (z : Float). HasValue z s (x * 2) d) (sym (same-sign s (x * d) (d * d) ∙ q))
-    (exact s m e 1 (x * 2) refl (o .digits) (o .reach)
+    (exact s m e 1 (x * 2) refl (fits-says s m e f)
     (lt-of-lt-of-le l (mul-le-mul-right d (lit≤ {m = 2199023255552} {n = 2 ^ 1024} tt))))
   where
     twice : (x d : ℕ) → (x * d + x * d) * d ≡ x * 2 * (d * d)
@@ -221,6 +220,7 @@ unfolding lt
 no-sign true m e z t = omega (arith, nltb→le 0 (m * up e * 1 + 0 * down e) (held (ap not z)))
 no-sign false m e z t = absurd (true≢false (sym t))
 
+-- 2x can be cast, and half of that plus one is x rounded
 pub record Nearest (x : Float) : Type 0 where
   pub low : T (lt (fin true 1 (pos 0)) (add binary64 x x))
   pub high : T (lt (add binary64 x x) (fin false 1 (pos 64)))

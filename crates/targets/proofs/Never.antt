@@ -63,6 +63,7 @@ share-zero nan f h = h
 share-zero (inf s) f h = h
 share-zero (fin s m e) f h = (f, λ q. no-size m e h)
 
+-- what a raw share must be
 pub record Raw (x : Float) : Type 0 where
   pub share : Share x
   pub small : Most x shareMost 1

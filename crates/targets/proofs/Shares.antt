@@ -33,6 +33,7 @@ use Rattle.targets.proofs.Each.{sumLines}
 
 -- ---- a share, in units
 
+-- how many units a float is
 abbrev pub unitsOf : Float → ℕ
 unitsOf nan = 0
 unitsOf (inf s) = 0

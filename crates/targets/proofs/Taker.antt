@@ -1,22 +1,35 @@
 -- Who takes the remainder: `takerOf` gives the largest unpinned target, the last of equals, or person 0; and nobody else fits.
 -- Assumes nothing.
 use mathlib.Core.Path.{_≡_, refl, sym, ap, _∙_, subst}
-use mathlib.Core.Bool.{Bool, true, false, not, _&&_, cond, true≢false}
+use mathlib.Core.Bool.{true, false, not, _&&_, true≢false}
 use mathlib.Core.List.{List, [], _∷_, _++_, map, foldl, append-nil}
 use mathlib.Core.Logic.{_⊎_, inl, inr, ⊎-elim}
 use Prim.Native.Nat.{ℕ, zero, suc, _+_, _≤_, _<_}
 use native.Mathlib.Nat.{not-suc-le-zero, le-of-suc-le-suc, le-of-lt, le-refl, le-antisymm}
 use native.Mathlib.Omega.{arith}
-use borrow.Author.Tests.{leb-true, leb-false}
+use borrow.Author.Tests.{leb-true, leb-false, not-true}
 use lib.Dec.{leb}
 use lib.IntN.{ℤ, pos, _+ℤ_, _-ℤ_}
 use lib.ListN.{length, getD, set, length-append, List·getD-append}
 use lib.Seq.{append-snoc, getD-append-seam}
-use Rattle.paper.proofs.Logic.{by-test, by-cond, lt-or-ge}
+use Rattle.paper.proofs.Logic.{by-test, by-cond, both, lt-or-ge}
 use Rattle.targets.specs.declared.Line.{Line}
 use Rattle.targets.specs.declared.Best.{Best}
 use Rattle.targets.specs.Figures.{pad}
 use Rattle.targets.specs.Remainder.{totalOf, better, takerOf, Largest, AllPinned, Takes, targetOf, adjusted}
+
+-- who comes takes the place if they are unpinned and have as much; else it stays
+by-better : (b : Best) (l : Line) (X : Best → Type 0)
+    → (l .pinned ≡ false → b .top ≤ l .target → X (record { at = b .next; top = l .target; next = b .next + 1 }))
+    → ((l .pinned ≡ false → l .target < b .top) → X (record { at = b .at; top = b .top; next = b .next + 1 }))
+    → X (better b l)
+by-better b l X takes stays =
+    by-cond (not (l .pinned) && leb (b .top) (l .target))
+    (record { at = b .next; top = l .target; next = b .next + 1 }) (record { at = b .at; top = b .top; next = b .next + 1 }) X
+    (λ t.
+    let x = both (not (l .pinned)) (leb (b .top) (l .target)) t in
+    takes (not-true (l .pinned) (x .0)) (leb-true (b .top) (l .target) (x .1)))
+    (λ f. stays (λ p. leb-false (b .top) (l .target) (rw p at f)))
 
 -- the place is a person's
 abbrev In : ℕ → ℕ → Best → Type 0
@@ -26,10 +39,7 @@ best-from : (b : Best) (ls : List Line) (n i : ℕ) → In n i b → i + length 
 best-from b [] n i h k = h .0
 best-from b (l ∷ ls) n i h k =
     best-from (better b l) ls n (i + 1)
-    (by-cond (not (l .pinned) && leb (b .top) (l .target))
-    (record { at = b .next; top = l .target; next = b .next + 1 }) (record { at = b .at; top = b .top; next = b .next + 1 })
-    (In n (i + 1)) (λ t. (omega arith, omega arith)) (λ f. (h .0, omega arith)))
-    (omega arith)
+    (by-better b l (In n (i + 1)) (λ p t. (omega arith, omega arith)) (λ f. (h .0, omega arith))) (omega arith)
 
 pub taker-here : (ls : List Line) → 0 < length ls → takerOf ls < length ls
 taker-here ls h = best-from (record { at = 0; top = 0; next = 0 }) ls (length ls) 0 (h, refl) (omega arith)
@@ -111,24 +121,11 @@ known-new pre l b p h n k =
     most (inr g) j c u = absurd (true≢false (sym (g .0 j c) ∙ u))
 
 known-more : (pre : List Line) (l : Line) (b : Best) → b .next ≡ length pre → Known pre b → Known (pre ++ (l ∷ [])) (better b l)
-known-more pre l b n k = go (l .pinned) (leb (b .top) (l .target)) refl refl
-  where
-    kept : Best
-    kept = record { at = b .at; top = b .top; next = b .next + 1 }
-
-    new : Best
-    new = record { at = b .next; top = l .target; next = b .next + 1 }
-
-    go : (p t : Bool) → l .pinned ≡ p → leb (b .top) (l .target) ≡ t → Known (pre ++ (l ∷ [])) (cond (not p && t) new kept)
-    go true t e f = known-kept pre l b (λ v. absurd (true≢false (sym e ∙ v))) k
-    go false true e f = known-new pre l b e (leb-true (b .top) (l .target) f) n k
-    go false false e f = known-kept pre l b (λ v. leb-false (b .top) (l .target) f) k
+known-more pre l b n k =
+    by-better b l (Known (pre ++ (l ∷ []))) (λ p t. known-new pre l b p t n k) (λ f. known-kept pre l b f k)
 
 next-more : (b : Best) (l : Line) → better b l .next ≡ b .next + 1
-next-more b l =
-    by-cond (not (l .pinned) && leb (b .top) (l .target))
-    (record { at = b .next; top = l .target; next = b .next + 1 }) (record { at = b .at; top = b .top; next = b .next + 1 })
-    (λ (x : Best). x .next ≡ b .next + 1) (λ t. refl) (λ f. refl)
+next-more b l = by-better b l (λ (x : Best). x .next ≡ b .next + 1) (λ p t. refl) (λ f. refl)
 
 known-all : (ls pre : List Line) (b : Best) → b .next ≡ length pre → Known pre b → Known (pre ++ ls) (foldl better b ls)
 known-all [] pre b n k = subst (λ (xs : List Line). Known xs b) (sym (append-nil pre)) k
