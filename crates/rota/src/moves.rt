@@ -65,7 +65,7 @@ fn owner_at(firsts: &[u16], owners: &[u8], unit: usize) -> u8
     owners[firsts[unit] as usize]
 }
 
-// The first unit of a unit's run: the n units before it have its owner. The loop counts n alone; the unit is made of it at the end.
+// The first unit of a unit's run: the n units before it have its owner. The loop changes n alone, and the answer is worked out from it.
 fn run_start(firsts: &[u16], owners: &[u8], unit: usize) -> usize
     requires { ⌜ OwnerRoom (suc unit) (now firsts) (now owners) ⌝ }
     ensures { λ r. ⌜ r ≡ runStart (λ u. getD (now (owners .entry)) (unitStart (now (firsts .entry)) u) 0) unit ⌝ }
