@@ -133,7 +133,7 @@ byteOf w = cond (ltb w 256) w nobody
 unfoldable pub narrowed : List ℕ → List ℕ
 narrowed o = over (λ k. byteOf (getD o k 0)) 1024 (replicate 1024 0)
 
--- both, of the records that were placed
+-- what n owner records come to: their number, and the owners as bytes
 pub record OwnersAre (s : List ℕ) (at n slots people units : ℕ) (firsts : List ℕ) (r : Owned) : Type 0 where
   pub no : r .no ≡ ownersNo s at n slots people units firsts (placed s at slots n)
   pub owners : r .owners ≡ narrowed (placed s at slots n)

@@ -15,7 +15,6 @@ use crate::prepare::lower_no;
 use crate::prepare::settings_in;
 use crate::prepare::shares_of;
 use crate::prepare::units_of;
-ghost use mathlib.Core.Path.{_≡_};
 ghost use Prim.Native.Nat.{_≤_};
 ghost use lib.ListN.{length, getD};
 ghost use Rattle.slots.specs.Ranges.{ranges};
