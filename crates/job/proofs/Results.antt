@@ -8,11 +8,12 @@ use Rattle.rota.specs.Derived.{Derived, derived}
 use Rattle.rota.specs.Entries as rota
 use Rattle.job.specs.declared.JobAnswer.{JobAnswer}
 use Rattle.job.specs.declared.JobAnswer.the-variants as answer
+use Rattle.job.specs.declared.Owned.{Owned}
 use Rattle.job.specs.declared.Started.{Started}
 use Rattle.job.specs.declared.Played.{Played}
 use Rattle.job.specs.Listing.{listed, listingOf, Wrote}
 use Rattle.job.specs.Outcome.{Result, refusedAs, listedAs, orRefused, Ends, StartedAs, PlayedAs, figureValue}
-use Rattle.job.specs.Stages.{placed, ownersNo, narrowed}
+use Rattle.job.specs.Stages.{placed, narrowed, OwnersAre}
 use Rattle.job.specs.Outcome.{Ready, Draws, ownersResult, planOf, startOf, playOf, textOf, playResult, rotaResult}
 use Rattle.job.proofs.Prepares.{when-none, when-some}
 
@@ -90,18 +91,14 @@ module _ (R : Ready) (d : Draws) (o x : List ℕ) (s : Started) (S : StartedAs (
 
 -- ---- the owners as written
 
-module _ (s : List ℕ) (at n : ℕ) (R : Ready) (d : Draws) (x w : List ℕ) (no : ℕ) (placed-is : w ≡ placed s at (R .slots) n)
-    (no-is : no ≡ ownersNo s at n (R .slots) (R .people) (R .units) (R .firsts) w) where
-  no-same : no ≡ ownersNo s at n (R .slots) (R .people) (R .units) (R .firsts) (placed s at (R .slots) n)
-  no-same = no-is ∙ ap (ownersNo s at n (R .slots) (R .people) (R .units) (R .firsts)) placed-is
-
-  pub owners-refused : (no ≡ 0 → ⊥) → Ends (ownersResult s at n R d x) (answer.Refused no) x
+module _ (s : List ℕ) (at n : ℕ) (R : Ready) (d : Draws) (x : List ℕ) (o : Owned)
+    (O : OwnersAre s at n (R .slots) (R .people) (R .units) (R .firsts) o) where
+  pub owners-refused : (o .no ≡ 0 → ⊥) → Ends (ownersResult s at n R d x) (answer.Refused (o .no)) x
   unfolding ownersResult
-  owners-refused h = or-refused no _ x (rotaResult R d (narrowed (placed s at (R .slots) n)) x) no-same h
+  owners-refused h = or-refused (o .no) _ x (rotaResult R d (narrowed (placed s at (R .slots) n)) x) (O .no) h
 
-  pub owners-passed : (o : List ℕ) (r : JobAnswer) (y : List ℕ) → no ≡ 0 → o ≡ narrowed w → Ends (rotaResult R d o x) r y
-      → Ends (ownersResult s at n R d x) r y
+  pub owners-passed : (r : JobAnswer) (y : List ℕ) → o .no ≡ 0 → Ends (rotaResult R d (o .owners) x) r y → Ends (ownersResult s at n R d x) r y
   unfolding ownersResult
-  owners-passed o r y h e z =
-      or-passed no _ x (rotaResult R d (narrowed (placed s at (R .slots) n)) x) r y no-same h
-      (subst (λ (l : List ℕ). Ends (rotaResult R d l x) r y) (e ∙ ap narrowed placed-is) z)
+  owners-passed r y h w =
+      or-passed (o .no) _ x (rotaResult R d (narrowed (placed s at (R .slots) n)) x) r y (O .no) h
+      (subst (λ (l : List ℕ). Ends (rotaResult R d l x) r y) (O .owners) w)

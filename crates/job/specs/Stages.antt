@@ -24,6 +24,7 @@ use Rattle.rota.specs.Recount.{evenAt}
 use Rattle.job.specs.declared.Atoms.{Atoms}
 use Rattle.job.specs.declared.Made.{Made}
 use Rattle.job.specs.declared.Shares.{Shares}
+use Rattle.job.specs.declared.Owned.{Owned}
 use Rattle.job.specs.Fields.{le}
 use Rattle.job.specs.File.{ownerSlot}
 use Rattle.job.specs.Listing.{listingMost}
@@ -131,3 +132,8 @@ byteOf w = cond (ltb w 256) w nobody
 
 unfoldable pub narrowed : List ℕ → List ℕ
 narrowed o = over (λ k. byteOf (getD o k 0)) 1024 (replicate 1024 0)
+
+-- what n owner records come to: their number, and the owners as bytes
+pub record OwnersAre (s : List ℕ) (at n slots people units : ℕ) (firsts : List ℕ) (r : Owned) : Type 0 where
+  pub no : r .no ≡ ownersNo s at n slots people units firsts (placed s at slots n)
+  pub owners : r .owners ≡ narrowed (placed s at slots n)

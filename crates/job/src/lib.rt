@@ -35,6 +35,12 @@ pub struct Shares {
     pub targets: [i64; 32],
 }
 
+// The owners of a job, or the number of a refusal.
+pub struct Owned {
+    pub no: u8,
+    pub owners: [u8; 1024],
+}
+
 // A rota with its sets and minutes, or the number of a refusal.
 pub struct Started {
     pub no: u8,

@@ -1,12 +1,12 @@
 // The listing, written into a lent buffer from its front. Each function takes the place to write at and returns the next.
 ghost use mathlib.Core.Path.{_≡_};
-ghost use mathlib.Core.List.{List, [], _∷_, _++_};
-ghost use Prim.Native.Nat.{ℕ, _+_, _≤_, _<_};
+ghost use mathlib.Core.List.{[], _∷_, _++_};
+ghost use Prim.Native.Nat.{_+_, _≤_, _<_};
 ghost use lib.IntN.{natAbs};
 ghost use lib.ListN.{length};
 ghost use Rattle.job.specs.Listing.{digits, signed, ownerText, answerLetter, headText, slotLine, personLine, drawLine};
 ghost use Rattle.job.specs.Listing.{lines, slotAt, personAt, drawAt};
-ghost use Rattle.job.specs.Listing.{listed, listingOf, refusalLine, refusalLength, refusalOut, Wrote};
+ghost use Rattle.job.specs.Listing.{listed, listingOf, refusalLength, refusalOut, Wrote};
 
 // One byte.
 fn put_byte(out: &mut [u8], at: usize, byte: u8) -> usize

@@ -1,11 +1,12 @@
 // The owner records of a job: who owns which slot, as written, with refusals 10 and 11.
+use crate::Owned;
 use crate::fields::field;
 ghost use mathlib.Core.Path.{_≡_};
 ghost use Prim.Native.Nat.{_+_, _*_, _≤_};
 ghost use lib.ListN.{length, getD};
 ghost use Rattle.rota.specs.Recount.{evenAt};
 ghost use Rattle.job.specs.File.{ownerSlot};
-ghost use Rattle.job.specs.Stages.{ownerValue, placed, allEven, recordKnown, allKnown, ownersNo, narrowed};
+ghost use Rattle.job.specs.Stages.{ownerValue, placed, allEven, recordKnown, allKnown, ownersNo, narrowed, OwnersAre};
 
 // Entry k of a column, or 0 past its end.
 fn entry16(column: &[u16], k: usize) -> u16
@@ -34,7 +35,7 @@ fn owner_value(s: &[u8], at: usize, k: usize) -> u16
 }
 
 // The owners that n records from `at` on give, 255 where none does.
-pub(crate) fn placed_by(s: &[u8], at: usize, n: usize, slots: usize) -> [u16; 1024]
+fn placed_by(s: &[u8], at: usize, n: usize, slots: usize) -> [u16; 1024]
     requires { ⌜ (at + n * 8 ≤ length (now s)) × (slots ≤ 1024) ⌝ }
     ensures { λ r. ⌜ r ≡ placed (now (s .entry)) at slots n ⌝ }
 {
@@ -119,7 +120,7 @@ fn all_known(s: &[u8], at: usize, n: usize, slots: usize, people: usize) -> bool
 }
 
 // 10, then 11; 0 for none.
-pub(crate) fn owners_no(
+fn owners_no(
     s: &[u8],
     at: usize,
     n: usize,
@@ -142,7 +143,7 @@ pub(crate) fn owners_no(
 }
 
 // The owners as bytes.
-pub(crate) fn narrow(owners: &[u16]) -> [u8; 1024]
+fn narrow(owners: &[u16]) -> [u8; 1024]
     ensures { λ r. ⌜ r ≡ narrowed (now (owners .entry)) ⌝ }
 {
     let mut out = [0u8; 1024];
@@ -158,4 +159,23 @@ pub(crate) fn narrow(owners: &[u16]) -> [u8; 1024]
         }
     }
     out
+}
+
+// The owners as bytes, with refusals 10 and 11.
+pub(crate) fn owners_of(
+    s: &[u8],
+    at: usize,
+    n: usize,
+    slots: usize,
+    people: usize,
+    units: usize,
+    firsts: &[u16],
+) -> Owned
+    requires { ⌜ (at + n * 8 ≤ length (now s)) × (slots ≤ 1024) ⌝ }
+    ensures { λ r. ⌜ OwnersAre (now (s .entry)) at n slots people units (now (firsts .entry)) r ⌝ }
+{
+    let written = placed_by(s, at, n, slots);
+    let no = owners_no(s, at, n, slots, people, units, firsts, &written);
+    let owners = narrow(&written);
+    Owned { no, owners }
 }

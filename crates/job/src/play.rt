@@ -5,7 +5,7 @@ use crate::Started;
 use crate::listing::put_listing;
 use rota::Figure;
 ghost use mathlib.Core.Path.{_≡_};
-ghost use Prim.Native.Nat.{ℕ, _+_, _≤_};
+ghost use Prim.Native.Nat.{_≤_};
 ghost use lib.ListN.{length, replicate};
 ghost use Rattle.slots.specs.Lent.{demandOf};
 ghost use Rattle.rota.specs.Derived.{plan, derived};

@@ -4,9 +4,7 @@ use crate::columns::column_f64;
 use crate::columns::column16;
 use crate::columns::column32;
 use crate::file::read_file;
-use crate::owners::narrow;
-use crate::owners::owners_no;
-use crate::owners::placed_by;
+use crate::owners::owners_of;
 use crate::play::play_stage;
 use crate::prepare::atoms_of;
 use crate::prepare::avail_of;
@@ -17,69 +15,13 @@ use crate::prepare::lower_no;
 use crate::prepare::settings_in;
 use crate::prepare::shares_of;
 use crate::prepare::units_of;
-ghost use mathlib.Core.Path.{_≡_};
-ghost use Prim.Native.Nat.{_+_, _*_, _≤_};
+ghost use Prim.Native.Nat.{_≤_};
 ghost use lib.ListN.{length, getD};
-ghost use Rattle.slots.specs.Lent.{demandOf};
 ghost use Rattle.slots.specs.Ranges.{ranges};
 ghost use Rattle.job.specs.Listing.{listingMost};
-ghost use Rattle.job.specs.Stages.{TargetsSound};
-ghost use Rattle.job.specs.Outcome.{Ends, ready, draws, ReadOk, ownersResult, slotsResult, atomsResult, jobResult};
+ghost use Rattle.job.specs.Outcome.{Ends, ReadOk, slotsResult, atomsResult, jobResult};
 
-// The owners as written, then the rota. Refusals 10 and 11.
-fn owners_stage(
-    file: &[u8],
-    at: usize,
-    n: usize,
-    people: usize,
-    slots: usize,
-    starts: &[u32],
-    ends: &[u32],
-    avail: &[u64],
-    units: usize,
-    firsts: &[u16],
-    frozen: &[u64],
-    targets: &[i64],
-    count: usize,
-    kinds: &[u16],
-    ones: &[u16],
-    twos: &[u16],
-    out: &mut [u8],
-) -> JobAnswer
-    requires { ⌜ at + n * 8 ≤ length (now file) ⌝ }
-    requires { ⌜ (slots ≤ 1024) × (slots ≤ length (now starts)) × (slots ≤ length (now ends)) ⌝ }
-    requires { ⌜ (people ≤ 32) × (count ≤ 1024) × (listingMost ≤ length (now out)) ⌝ }
-    requires { ⌜ TargetsSound people (demandOf slots (now starts) (now ends)) (now targets) ⌝ }
-    ensures { λ r. ⌜ Ends (ownersResult (now (file .entry)) at n (ready people slots (now (starts .entry)) (now (ends .entry))
-        (now (avail .entry)) units (now (firsts .entry)) (now (frozen .entry)) (now (targets .entry))) (draws count (now (kinds .entry))
-        (now (ones .entry)) (now (twos .entry))) (now (out .entry))) r (now (out .exit)) ⌝ }
-{
-    let written = placed_by(file, at, n, slots);
-    let no = owners_no(file, at, n, slots, people, units, firsts, &written);
-    if no == 0 {
-        let owners = narrow(&written);
-        return play_stage(
-            people,
-            slots,
-            starts,
-            ends,
-            avail,
-            units,
-            firsts,
-            frozen,
-            targets,
-            count,
-            kinds,
-            ones,
-            twos,
-            owners,
-            out,
-        );
-    }
-    JobAnswer::Refused(no)
-}
-
-// Availability, targets and units of the atomic slots, then the owners. Refusals 6 and 7.
+// Availability, targets, units and owners of the atomic slots, then the rota. Refusals 6, 7, 10 and 11.
 fn slots_stage(
     file: &[u8],
     counts: [usize; 8],
@@ -129,37 +71,49 @@ fn slots_stage(
     let made = units_of(settings, slots, starts, ends);
     let no = lower_no(shares.no, made.no);
     if no == 0 {
-        let frozen = frozen_in(
-            slots,
-            starts,
-            ends,
-            freezes,
-            instant_in(file, freezes, blocks[4]),
-        );
-        let kinds = column16(file, drawn + 4, 10, count);
-        let ones = column16(file, drawn + 6, 10, count);
-        let twos = column16(file, drawn + 8, 10, count);
         let firsts = made.firsts;
-        let targets = shares.targets;
-        return owners_stage(
+        let owned = owners_of(
             file,
             blocks[5],
             counts[5],
-            people,
             slots,
-            starts,
-            ends,
-            &avail,
+            people,
             made.count,
             &firsts,
-            &frozen,
-            &targets,
-            count,
-            &kinds,
-            &ones,
-            &twos,
-            out,
         );
+        let heard = owned.no;
+        if heard == 0 {
+            let frozen = frozen_in(
+                slots,
+                starts,
+                ends,
+                freezes,
+                instant_in(file, freezes, blocks[4]),
+            );
+            let kinds = column16(file, drawn + 4, 10, count);
+            let ones = column16(file, drawn + 6, 10, count);
+            let twos = column16(file, drawn + 8, 10, count);
+            let targets = shares.targets;
+            let owners = owned.owners;
+            return play_stage(
+                people,
+                slots,
+                starts,
+                ends,
+                &avail,
+                made.count,
+                &firsts,
+                &frozen,
+                &targets,
+                count,
+                &kinds,
+                &ones,
+                &twos,
+                owners,
+                out,
+            );
+        }
+        return JobAnswer::Refused(heard);
     }
     JobAnswer::Refused(no)
 }

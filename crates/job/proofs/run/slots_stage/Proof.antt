@@ -1,7 +1,7 @@
 -- `job::run::slots_stage` meets its contract. Assumes nothing.
 -- Below, cN is what is known N places before c.
 use borrow.Author.Needs.{needs}
-use mathlib.Core.Path.{sym, ap, ap₂, _∙_}
+use mathlib.Core.Path.{refl, sym, ap, ap₂, _∙_}
 use mathlib.Core.List.{List}
 use Prim.Native.Nat.{ℕ}
 use native.Mathlib.Omega.{arith}
@@ -11,8 +11,9 @@ use Rattle.job.specs.Stages.{frozenIn}
 use Rattle.job.specs.Outcome.{draws, availIn}
 use Rattle.job.proofs.Prepares.{lower-none}
 use Rattle.job.proofs.Passing.{shares-sound}
-use Rattle.job.proofs.Readings.{read-block, read-room, read-owners, read-freeze, read-settings, read-few, shares-is, units-is}
-use Rattle.job.proofs.Readings.{slots-refused, slots-passed}
+use Rattle.job.proofs.Results.{owners-refused, owners-passed}
+use Rattle.job.proofs.Readings.{read-block, read-room, read-owners, read-freeze, read-settings, read-few}
+use Rattle.job.proofs.Readings.{shares-is, units-is, slots-refused, slots-passed}
 use Rattle.job.proofs.run.slots_stage.Statement.{statement}
 use Rattle.job.proofs.run.slots_stage.Tie as tie
 
@@ -78,99 +79,96 @@ units-of-requires c κs = search needs
 lower-no-requires : tie.Need-lower-no-requires
 lower-no-requires c κs = search needs
 
+array-read-owners-of : tie.Need-array-read-owners-of
+array-read-owners-of c = search needs
+
+array-read-owners-of-2 : tie.Need-array-read-owners-of-2
+array-read-owners-of-2 c = search needs
+
+slice-aggregate-owners-of : tie.Need-slice-aggregate-owners-of
+slice-aggregate-owners-of c = search needs
+
+owners-of-requires : tie.Need-owners-of-requires
+owners-of-requires c κs =
+    let s = c .before .before .before .before .before .before .before .before .before .before .before .before .before .before .before .before .before .before .before .before in
+    (read-owners (s .pre .0), s .pre .1 .0)
+
 array-read-instant-in : tie.Need-array-read-instant-in
 array-read-instant-in c = search needs
 
 instant-in-requires : tie.Need-instant-in-requires
 instant-in-requires c κs =
-    let c18 = c .before .before .before .before .before .before .before .before .before .before .before .before .before .before .before
-    .before .before .before in
-    read-freeze (c18 .pre .0)
+    let s = c .before .before .before .before .before .before .before .before .before .before .before .before .before .before .before .before .before .before .before .before .before .before in
+    read-freeze (s .pre .0)
 
 frozen-in-requires : tie.Need-frozen-in-requires
 frozen-in-requires c κs = search needs
 
 add-column16 : tie.Need-add-column16
 add-column16 c =
-    let s = c .before .before .before .before .before .before .before .before .before .before .before .before .before .before .before
-    .before .before .before .before .before in
+    let s = c .before .before .before .before .before .before .before .before .before .before .before .before .before .before .before .before .before .before .before .before .before .before .before .before in
     omega (arith, read-block (s .pre .0) 6 (lit< tt), s .good .0)
 
 column16-requires : tie.Need-column16-requires
 column16-requires c κs =
-    let s = c .before .before .before .before .before .before .before .before .before .before .before .before .before .before .before
-    .before .before .before .before .before in
+    let s = c .before .before .before .before .before .before .before .before .before .before .before .before .before .before .before .before .before .before .before .before .before .before .before .before in
     (read-few (s .pre .0) .4, read-room (s .pre .0) 6 0 2 (lit< tt) (lit≤ tt))
 
 add-column16-2 : tie.Need-add-column16-2
 add-column16-2 c =
-    let s = c .before .before .before .before .before .before .before .before .before .before .before .before .before .before .before
-    .before .before .before .before .before .before in
+    let s = c .before .before .before .before .before .before .before .before .before .before .before .before .before .before .before .before .before .before .before .before .before .before .before .before .before in
     omega (arith, read-block (s .pre .0) 6 (lit< tt), s .good .0)
 
 column16-requires-2 : tie.Need-column16-requires-2
 column16-requires-2 c κs =
-    let s = c .before .before .before .before .before .before .before .before .before .before .before .before .before .before .before
-    .before .before .before .before .before .before in
+    let s = c .before .before .before .before .before .before .before .before .before .before .before .before .before .before .before .before .before .before .before .before .before .before .before .before .before in
     (read-few (s .pre .0) .4, read-room (s .pre .0) 6 2 2 (lit< tt) (lit≤ tt))
 
 add-column16-3 : tie.Need-add-column16-3
 add-column16-3 c =
-    let s = c .before .before .before .before .before .before .before .before .before .before .before .before .before .before .before
-    .before .before .before .before .before .before .before in
+    let s = c .before .before .before .before .before .before .before .before .before .before .before .before .before .before .before .before .before .before .before .before .before .before .before .before .before .before in
     omega (arith, read-block (s .pre .0) 6 (lit< tt), s .good .0)
 
 column16-requires-3 : tie.Need-column16-requires-3
 column16-requires-3 c κs =
-    let s = c .before .before .before .before .before .before .before .before .before .before .before .before .before .before .before
-    .before .before .before .before .before .before .before in
+    let s = c .before .before .before .before .before .before .before .before .before .before .before .before .before .before .before .before .before .before .before .before .before .before .before .before .before .before in
     (read-few (s .pre .0) .4, read-room (s .pre .0) 6 4 2 (lit< tt) (lit≤ tt))
 
-array-read-owners-stage : tie.Need-array-read-owners-stage
-array-read-owners-stage c = search needs
+slice-aggregate-play-stage : tie.Need-slice-aggregate-play-stage
+slice-aggregate-play-stage c =
+    let c22 = c .before .before .before .before .before .before .before .before .before .before .before .before .before .before .before .before .before .before .before .before .before .before in
+    sym (c22 .avail-of .ensures .1)
 
-array-read-owners-stage-2 : tie.Need-array-read-owners-stage-2
-array-read-owners-stage-2 c = search needs
+slice-aggregate-play-stage-2 : tie.Need-slice-aggregate-play-stage-2
+slice-aggregate-play-stage-2 c = search needs
 
-slice-aggregate-owners-stage : tie.Need-slice-aggregate-owners-stage
-slice-aggregate-owners-stage c =
-    let c18 = c .before .before .before .before .before .before .before .before .before .before .before .before .before .before .before
-    .before .before .before in
-    sym (c18 .avail-of .ensures .1)
+slice-aggregate-play-stage-3 : tie.Need-slice-aggregate-play-stage-3
+slice-aggregate-play-stage-3 c = search needs
 
-slice-aggregate-owners-stage-2 : tie.Need-slice-aggregate-owners-stage-2
-slice-aggregate-owners-stage-2 c =
-    let c11 = c .before .before .before .before .before .before .before .before .before .before .before in
-    sym (c11 .units-of .ensures .room)
+slice-aggregate-play-stage-4 : tie.Need-slice-aggregate-play-stage-4
+slice-aggregate-play-stage-4 c =
+    let c18 = c .before .before .before .before .before .before .before .before .before .before .before .before .before .before .before .before .before .before in
+    sym (c18 .shares-of .ensures .room)
 
-slice-aggregate-owners-stage-3 : tie.Need-slice-aggregate-owners-stage-3
-slice-aggregate-owners-stage-3 c = search needs
+slice-aggregate-play-stage-5 : tie.Need-slice-aggregate-play-stage-5
+slice-aggregate-play-stage-5 c = search needs
 
-slice-aggregate-owners-stage-4 : tie.Need-slice-aggregate-owners-stage-4
-slice-aggregate-owners-stage-4 c = search needs
+slice-aggregate-play-stage-6 : tie.Need-slice-aggregate-play-stage-6
+slice-aggregate-play-stage-6 c = search needs
 
-slice-aggregate-owners-stage-5 : tie.Need-slice-aggregate-owners-stage-5
-slice-aggregate-owners-stage-5 c = search needs
+slice-aggregate-play-stage-7 : tie.Need-slice-aggregate-play-stage-7
+slice-aggregate-play-stage-7 c = search needs
 
-slice-aggregate-owners-stage-6 : tie.Need-slice-aggregate-owners-stage-6
-slice-aggregate-owners-stage-6 c = search needs
-
-slice-aggregate-owners-stage-7 : tie.Need-slice-aggregate-owners-stage-7
-slice-aggregate-owners-stage-7 c = search needs
-
-owners-stage-requires : tie.Need-owners-stage-requires
-owners-stage-requires c κs =
-    let c15 = c .before .before .before .before .before .before .before .before .before .before .before .before .before .before .before in
-    let c16 = c15 .before in
-    let c18 = c16 .before .before in
-    let s = c18 .before .before .before .before .before .before .before .before .before .before .before .before .before .before .before in
+play-stage-requires : tie.Need-play-stage-requires
+play-stage-requires c κs =
+    let c19 = c .before .before .before .before .before .before .before .before .before .before .before .before .before .before .before .before .before .before .before in
+    let c20 = c19 .before in
+    let c22 = c20 .before .before in
+    let s = c22 .before .before .before .before .before .before .before .before .before .before .before .before .before .before .before in
     let w = read-few (s .pre .0) in
-    let no = lower-none _ _ (sym (c16 .lower-no .ensures) ∙ c15 .if1 .taken) in (
-      read-owners (s .pre .0),
-      (
-        (s .pre .1 .0, s .pre .1 .1, s .pre .1 .2),
-        ((w .2, w .4, s .pre .1 .3), shares-sound _ _ (c18 .shares-of .ensures) no),
-      ),
+    let no = lower-none _ _ (sym (c20 .lower-no .ensures) ∙ c19 .if1 .taken) in (
+      (s .pre .1 .0, s .pre .1 .1, s .pre .1 .2),
+      ((w .2, w .4, s .pre .1 .3), shares-sound _ _ (c22 .shares-of .ensures) no),
     )
 
 same-length : tie.Need-same-length
@@ -186,27 +184,48 @@ returns c =
     let c17 = c16 .before in
     let c18 = c17 .before in
     let c19 = c18 .before in
-    let c20 = c19 .before in
-    let c21 = c20 .before in
-    let c25 = c21 .before .before .before .before in
-    let c26 = c25 .before in
-    let c27 = c26 .before in
-    let c28 = c27 .before in
-    let s = c28 .before .before .before .before .before .before .before .before in
-    let st = c25 .settings-in .ensures in
+    let c22 = c19 .before .before .before in
+    let c23 = c22 .before in
+    let c24 = c23 .before in
+    let c25 = c24 .before in
+    let c29 = c25 .before .before .before .before in
+    let c30 = c29 .before in
+    let c31 = c30 .before in
+    let c32 = c31 .before in
+    let s = c32 .before .before .before .before .before .before .before .before in
+    let st = c29 .settings-in .ensures in
     slots-passed _ _ _ _ _ _ _ _ _ _ _
-    (shares-is _ _ _ _ _ _ _ _ _ _ _ _ (c28 .avail-of .ensures .0) (c27 .column-f64 .ensures) (c26 .column32 .ensures) st
-    (c21 .shares-of .ensures))
-    (units-is _ _ _ _ _ _ st (c20 .units-of .ensures)) (c19 .lower-no .ensures)
-    _ _ _ _ _ _ _ (c18 .if1 .taken) (c28 .avail-of .ensures .0)
+    (shares-is _ _ _ _ _ _ _ _ _ _ _ _ (c32 .avail-of .ensures .0) (c31 .column-f64 .ensures) (c30 .column32 .ensures) st
+    (c25 .shares-of .ensures))
+    (units-is _ _ _ _ _ _ st (c24 .units-of .ensures)) (c23 .lower-no .ensures)
+    _ _ _ _ _ _ _ (c22 .if1 .taken) (c32 .avail-of .ensures .0)
     (c16 .frozen-in .ensures ∙ ap (frozenIn _ _ _ _) (c17 .instant-in .ensures))
     (ap₂ (λ (x y : List ℕ). draws (getD (s .args .t2) 6 0) x y (c13 .column163 .result)) (c15 .column16 .ensures) (c14 .column162 .ensures)
     ∙ ap (draws (getD (s .args .t2) 6 0) _ _) (c13 .column163 .ensures))
-    (c .before .before .owners-stage .ensures)
+    (owners-passed _ _ _ _ _ _ _ (c19 .owners-of .ensures) _ _ (c18 .if2 .taken) (c .before .before .play-stage .ensures))
 
 returns-2 : tie.Need-returns-2
 unfolding availIn
 returns-2 c =
+    let c4 = c .before .before .before .before in
+    let c5 = c4 .before in
+    let c6 = c5 .before in
+    let c7 = c6 .before in
+    let c11 = c7 .before .before .before .before in
+    let c12 = c11 .before in
+    let c13 = c12 .before in
+    let c14 = c13 .before in
+    let st = c11 .settings-in .ensures in
+    slots-passed _ _ _ _ _ _ _ _ _ _ _
+    (shares-is _ _ _ _ _ _ _ _ _ _ _ _ (c14 .avail-of .ensures .0) (c13 .column-f64 .ensures) (c12 .column32 .ensures) st
+    (c7 .shares-of .ensures))
+    (units-is _ _ _ _ _ _ st (c6 .units-of .ensures)) (c5 .lower-no .ensures)
+    _ _ _ _ _ _ _ (c4 .if1 .taken) (c14 .avail-of .ensures .0) refl refl
+    (owners-refused _ _ _ _ _ _ _ (c .before .owners-of .ensures) (c .if2 .left))
+
+returns-3 : tie.Need-returns-3
+unfolding availIn
+returns-3 c =
     let c3 = c .before .before .before in
     let c7 = c3 .before .before .before .before in
     let c8 = c7 .before in
@@ -241,6 +260,10 @@ slots-stage-spec =
     shares-of-requires
     units-of-requires
     lower-no-requires
+    array-read-owners-of
+    array-read-owners-of-2
+    slice-aggregate-owners-of
+    owners-of-requires
     array-read-instant-in
     instant-in-requires
     frozen-in-requires
@@ -250,16 +273,15 @@ slots-stage-spec =
     column16-requires-2
     add-column16-3
     column16-requires-3
-    array-read-owners-stage
-    array-read-owners-stage-2
-    slice-aggregate-owners-stage
-    slice-aggregate-owners-stage-2
-    slice-aggregate-owners-stage-3
-    slice-aggregate-owners-stage-4
-    slice-aggregate-owners-stage-5
-    slice-aggregate-owners-stage-6
-    slice-aggregate-owners-stage-7
-    owners-stage-requires
+    slice-aggregate-play-stage
+    slice-aggregate-play-stage-2
+    slice-aggregate-play-stage-3
+    slice-aggregate-play-stage-4
+    slice-aggregate-play-stage-5
+    slice-aggregate-play-stage-6
+    slice-aggregate-play-stage-7
+    play-stage-requires
     same-length
     returns
-    returns-2)
+    returns-2
+    returns-3)
