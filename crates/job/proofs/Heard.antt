@@ -372,7 +372,8 @@ module _ (s : List ℕ) (room : ℕ) (A : AllPass (jobTests s room)) where
       let c = jobCounts s in
       let at = getD (jobStarts s) 1 0 in
       let n = slot-count-says (baseIn c) (each-few s few .0) .1 in
-      sum-same (getD c 1 0) _ _ (λ k h. ap₂ _-_ (column-at 4 s (at + 8) 12 (getD c 1 0) k h n) (column-at 4 s (at + 4) 12 (getD c 1 0) k h n))
+      sum-same (getD c 1 0) _ _
+      (λ k h. ap₂ _-_ (column-at 4 s (at + 8) 12 (getD c 1 0) k h n) (column-at 4 s (at + 4) 12 (getD c 1 0) k h n))
 
   pub demand-is : demandOf (readyOf s .slots) (readyOf s .starts) (readyOf s .ends) ≡ baseTotal s
   demand-is = atoms-right s few atoms .demand ∙ base-same

@@ -201,8 +201,10 @@ lower-is st figures =
 placed-known : (s : List ℕ) (at slots people n : ℕ) → slots ≤ 1024 → ((j : ℕ) → j < n → recordKnown s at slots people j ≡ true)
     → (length (placed s at slots n) ≡ 1024) × ((k : ℕ) → k < slots → knownBy people (getD (placed s at slots n) k 0) ≡ true)
 unfolding placed recordKnown
-placed-known s at slots people zero few f =
-    (length-replicate {A = ℕ} 1024 255, λ k h. ap (knownBy people) (getD-replicate {A = ℕ} 1024 k nobody 0 (omega arith)) ∙ known-nobody people)
+placed-known s at slots people zero few f = (
+  length-replicate {A = ℕ} 1024 255,
+  λ k h. ap (knownBy people) (getD-replicate {A = ℕ} 1024 k nobody 0 (omega arith)) ∙ known-nobody people,
+)
 placed-known s at slots people (suc n) few f =
     let ih = placed-known s at slots people n few (λ j h. f j (omega arith)) in
     let x = both (ltb (ownerSlot s at n) slots) _ (f n (omega arith)) in

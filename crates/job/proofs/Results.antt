@@ -97,7 +97,8 @@ module _ (s : List ℕ) (at n : ℕ) (R : Ready) (d : Draws) (x : List ℕ) (o :
   unfolding ownersResult
   owners-refused h = or-refused (o .no) _ x (rotaResult R d (narrowed (placed s at (R .slots) n)) x) (O .no) h
 
-  pub owners-passed : (r : JobAnswer) (y : List ℕ) → o .no ≡ 0 → Ends (rotaResult R d (o .owners) x) r y → Ends (ownersResult s at n R d x) r y
+  pub owners-passed : (r : JobAnswer) (y : List ℕ) → o .no ≡ 0 → Ends (rotaResult R d (o .owners) x) r y
+      → Ends (ownersResult s at n R d x) r y
   unfolding ownersResult
   owners-passed r y h w =
       or-passed (o .no) _ x (rotaResult R d (narrowed (placed s at (R .slots) n)) x) r y (O .no) h

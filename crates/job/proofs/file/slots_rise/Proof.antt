@@ -42,8 +42,10 @@ loop-less c = search needs
 
 loop-again : tie.Need-loop-again Inv-loop μ-loop
 loop-again c =
-    let l = c .before .before .before .before .loop in
-    (rise-more _ _ _ _ _ (c .before .before .owner-slot .ensures) (c .before .owner-slot2 .ensures) (c .if1 .taken) (l .inv .0), omega arith)
+    let inv = c .before .before .before .before .loop .inv in (
+      rise-more _ _ _ _ _ (c .before .before .owner-slot .ensures) (c .before .owner-slot2 .ensures) (c .if1 .taken) (inv .0),
+      omega arith,
+    )
 
 returns : tie.Need-returns Inv-loop μ-loop
 returns c =

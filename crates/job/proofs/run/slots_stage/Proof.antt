@@ -90,7 +90,8 @@ slice-aggregate-owners-of c = search needs
 
 owners-of-requires : tie.Need-owners-of-requires
 owners-of-requires c κs =
-    let s = c .before .before .before .before .before .before .before .before .before .before .before .before .before .before .before .before .before .before .before .before in
+    let s = c .before .before .before .before .before .before .before .before .before .before .before .before .before .before
+    .before .before .before .before .before .before in
     (read-owners (s .pre .0), s .pre .1 .0)
 
 array-read-instant-in : tie.Need-array-read-instant-in
@@ -98,7 +99,8 @@ array-read-instant-in c = search needs
 
 instant-in-requires : tie.Need-instant-in-requires
 instant-in-requires c κs =
-    let s = c .before .before .before .before .before .before .before .before .before .before .before .before .before .before .before .before .before .before .before .before .before .before in
+    let s = c .before .before .before .before .before .before .before .before .before .before .before .before .before .before
+    .before .before .before .before .before .before .before .before in
     read-freeze (s .pre .0)
 
 frozen-in-requires : tie.Need-frozen-in-requires
@@ -106,37 +108,44 @@ frozen-in-requires c κs = search needs
 
 add-column16 : tie.Need-add-column16
 add-column16 c =
-    let s = c .before .before .before .before .before .before .before .before .before .before .before .before .before .before .before .before .before .before .before .before .before .before .before .before in
+    let s = c .before .before .before .before .before .before .before .before .before .before .before .before .before .before
+    .before .before .before .before .before .before .before .before .before .before in
     omega (arith, read-block (s .pre .0) 6 (lit< tt), s .good .0)
 
 column16-requires : tie.Need-column16-requires
 column16-requires c κs =
-    let s = c .before .before .before .before .before .before .before .before .before .before .before .before .before .before .before .before .before .before .before .before .before .before .before .before in
+    let s = c .before .before .before .before .before .before .before .before .before .before .before .before .before .before
+    .before .before .before .before .before .before .before .before .before .before in
     (read-few (s .pre .0) .4, read-room (s .pre .0) 6 0 2 (lit< tt) (lit≤ tt))
 
 add-column16-2 : tie.Need-add-column16-2
 add-column16-2 c =
-    let s = c .before .before .before .before .before .before .before .before .before .before .before .before .before .before .before .before .before .before .before .before .before .before .before .before .before in
+    let s = c .before .before .before .before .before .before .before .before .before .before .before .before .before .before
+    .before .before .before .before .before .before .before .before .before .before .before in
     omega (arith, read-block (s .pre .0) 6 (lit< tt), s .good .0)
 
 column16-requires-2 : tie.Need-column16-requires-2
 column16-requires-2 c κs =
-    let s = c .before .before .before .before .before .before .before .before .before .before .before .before .before .before .before .before .before .before .before .before .before .before .before .before .before in
+    let s = c .before .before .before .before .before .before .before .before .before .before .before .before .before .before
+    .before .before .before .before .before .before .before .before .before .before .before in
     (read-few (s .pre .0) .4, read-room (s .pre .0) 6 2 2 (lit< tt) (lit≤ tt))
 
 add-column16-3 : tie.Need-add-column16-3
 add-column16-3 c =
-    let s = c .before .before .before .before .before .before .before .before .before .before .before .before .before .before .before .before .before .before .before .before .before .before .before .before .before .before in
+    let s = c .before .before .before .before .before .before .before .before .before .before .before .before .before .before
+    .before .before .before .before .before .before .before .before .before .before .before .before in
     omega (arith, read-block (s .pre .0) 6 (lit< tt), s .good .0)
 
 column16-requires-3 : tie.Need-column16-requires-3
 column16-requires-3 c κs =
-    let s = c .before .before .before .before .before .before .before .before .before .before .before .before .before .before .before .before .before .before .before .before .before .before .before .before .before .before in
+    let s = c .before .before .before .before .before .before .before .before .before .before .before .before .before .before
+    .before .before .before .before .before .before .before .before .before .before .before .before in
     (read-few (s .pre .0) .4, read-room (s .pre .0) 6 4 2 (lit< tt) (lit≤ tt))
 
 slice-aggregate-play-stage : tie.Need-slice-aggregate-play-stage
 slice-aggregate-play-stage c =
-    let c22 = c .before .before .before .before .before .before .before .before .before .before .before .before .before .before .before .before .before .before .before .before .before .before in
+    let c22 = c .before .before .before .before .before .before .before .before .before .before .before .before .before
+    .before .before .before .before .before .before .before .before .before in
     sym (c22 .avail-of .ensures .1)
 
 slice-aggregate-play-stage-2 : tie.Need-slice-aggregate-play-stage-2
@@ -147,7 +156,8 @@ slice-aggregate-play-stage-3 c = search needs
 
 slice-aggregate-play-stage-4 : tie.Need-slice-aggregate-play-stage-4
 slice-aggregate-play-stage-4 c =
-    let c18 = c .before .before .before .before .before .before .before .before .before .before .before .before .before .before .before .before .before .before in
+    let c18 = c .before .before .before .before .before .before .before .before .before .before .before .before .before
+    .before .before .before .before .before in
     sym (c18 .shares-of .ensures .room)
 
 slice-aggregate-play-stage-5 : tie.Need-slice-aggregate-play-stage-5
@@ -161,7 +171,8 @@ slice-aggregate-play-stage-7 c = search needs
 
 play-stage-requires : tie.Need-play-stage-requires
 play-stage-requires c κs =
-    let c19 = c .before .before .before .before .before .before .before .before .before .before .before .before .before .before .before .before .before .before .before in
+    let c19 = c .before .before .before .before .before .before .before .before .before .before .before .before .before
+    .before .before .before .before .before .before in
     let c20 = c19 .before in
     let c22 = c20 .before .before in
     let s = c22 .before .before .before .before .before .before .before .before .before .before .before .before .before .before .before in
