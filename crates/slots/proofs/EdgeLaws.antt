@@ -163,7 +163,8 @@ module _ (l : List ℕ) (after end : ℕ) where
   below-begin h = record { from = h; within = omega arith; here = λ g. absurd (omega arith); before = λ t a b. refl }
 
   below-turn : (p b e v : ℕ) → p < 32 → end ≤ 100000000 → FirstWhere true (cutBelow l p) (suc after) end b
-      → NextEdge l (p * 268435456 + after) e → v ≡ nearer after b (e - p * 268435456) → FirstWhere true (cutBelow l (suc p)) (suc after) end v
+      → NextEdge l (p * 268435456 + after) e → v ≡ nearer after b (e - p * 268435456)
+      → FirstWhere true (cutBelow l (suc p)) (suc after) end v
   unfolding nearer some
   below-turn p b e v few capped N E d =
       let c = e - p * 268435456 in
@@ -194,7 +195,8 @@ module _ (l : List ℕ) (after end : ℕ) where
       }))
 
   pub below-more : (p b e v : ℕ) → p < 32 → end ≤ 100000000 → FirstWhere true (cutBelow l p) (suc after) end b
-      → NextEdge l (p * 268435456 + after) e → v ≡ nearer after b (e - p * 268435456) → FirstWhere true (cutBelow l (p + 1)) (suc after) end v
+      → NextEdge l (p * 268435456 + after) e → v ≡ nearer after b (e - p * 268435456)
+      → FirstWhere true (cutBelow l (p + 1)) (suc after) end v
   below-more p b e v few capped N E d = rw (add-one p) (below-turn p b e v few capped N E d)
 
   module _ (known : (k : ℕ) → k < length l → personOf (getD l k 0) < 32) where

@@ -103,7 +103,9 @@ module _ (slots : ℕ) (starts ends : List ℕ) (ok : slotsOk slots starts ends 
   -- so the first slots of their dates are as many as the distinct dates
   dates-counted : (n : ℕ) → n ≤ slots → count n (dateBegins starts) ≡ coveredDays n starts
   unfolding coveredDays
-  dates-counted zero h = count-none (dateBegins starts) ∙ sym (count-opening datesMost 0 (covers 0 starts) (omega arith) (λ k h. absurd (omega arith)) (λ k a b. covers-none starts k))
+  dates-counted zero h =
+      let none = count-opening datesMost 0 (covers 0 starts) (omega arith) (λ k h. absurd (omega arith)) (λ k a b. covers-none starts k) in
+      count-none (dateBegins starts) ∙ sym none
   dates-counted (suc n) h =
       let e = ap (λ (m : ℕ). count m (dateBegins starts)) (sym (add-one n)) in
       let i = dates-counted n (omega arith) in

@@ -134,7 +134,8 @@ module _ (avail : List ℕ) (p slots : ℕ) where
         let R = row-says avail people p slots ok in
         e ∙ simp (row-ok avail people p 1 (R .known) (R .few) (omega arith) (R .room)) (in-one 0 (available avail p))
 
-    pub gap-first : (at : ℕ) (t : Bool) → at ≡ 0 → t ≡ ableIn avail people p 0 1 → t ≡ false → FirstWhere false (available avail p) at slots 0
+    pub gap-first : (at : ℕ) (t : Bool) → at ≡ 0 → t ≡ ableIn avail people p 0 1 → t ≡ false
+        → FirstWhere false (available avail p) at slots 0
     gap-first at t z e f =
         record {
           from = omega arith;

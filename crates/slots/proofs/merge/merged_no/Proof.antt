@@ -41,7 +41,8 @@ returns : tie.Need-returns
 unfolding mergedNo
 returns c =
     let c4 = c .before .before .before .before in
-    let counts = c .before .before .both2 .ensures ∙ ap₂ _&&_ (c4 .people-ok .ensures) (c .before .before .before .range-count-ok .ensures) in
+    let ranges = c .before .before .before .range-count-ok .ensures in
+    let counts = c .before .before .both2 .ensures ∙ ap₂ _&&_ (c4 .people-ok .ensures) ranges in
     let out = c4 .before .before .range-room-ok2 .ensures in
     let room = c4 .before .both .ensures ∙ ap₂ _&&_ (c4 .before .before .before .range-room-ok .ensures) out in
     let c8 = c4 .before .before .before .before in

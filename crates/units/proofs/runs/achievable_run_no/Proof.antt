@@ -27,9 +27,10 @@ unfolding achievableRunNo
 returns c =
     let c4 = c .before .before .before .before in
     let a = c4 .before .before .before .before .args in
+    let words = c .before .before .before .words-ok .ensures in
     else-same _ 1 _ _ _ _ (c .or-else2 .ensures) (c .before .people-ok .ensures)
     (c .before .before .settings-then .ensures
-    ∙ ap₂ (settingsThen (a .s) (a .slots) (a .starts .now) (a .ends .now)) (c .before .before .before .words-ok .ensures) (c4 .or-else .ensures))
+    ∙ ap₂ (settingsThen (a .s) (a .slots) (a .starts .now) (a .ends .now)) words (c4 .or-else .ensures))
 
 pub achievable-run-no-spec : {M : Type 1} → statement M
 achievable-run-no-spec =
