@@ -26,11 +26,11 @@ const ANSWERS: u64 = 18;
 
 /// Records. A record is, low byte first: people, slots, units, a person, a slot and a unit as u64; fairness, lock and boundary as bytes and
 /// a byte of 0; value and days as u16; u16 of how long each lent column is: starts, ends, unit starts, words of availability, words of
-/// frozen flags, the columns for starts, the lists of people, the column for masks; the columns themselves, of 16, 16 and 16; first words of
-/// four rows, and of the flags; then the answers: rotations, unit starts, units, a unit's first slot and the one past its last, the slot's
-/// unit, whether the unit is frozen, people of the slot's and of the unit's domain, 0 for the domains of all units, and covered days as u16;
-/// minutes a day, target and achievable run as u64; the two columns of starts of 16, the two lists of 8 people and the column of 16 masks as
-/// u32 that come out.
+/// frozen flags, the columns for starts, the lists of people, the column for masks; the columns themselves, of 16, 16 and 16; first words
+/// of four rows, and of the flags; then the answers: rotations, unit starts, units, a unit's first slot and the one past its last, the
+/// slot's unit, whether the unit is frozen, people of the slot's and of the unit's domain, 0 for the domains of all units, and covered days
+/// as u16; minutes a day, target and achievable run as u64; the two columns of starts of 16, the two lists of 8 people and the column of 16
+/// masks as u32 that come out.
 pub fn units(n: u64, run: u64) -> Stored {
     let mut bytes = Vec::new();
     records(n, run, "stored-units", |seed, made| {

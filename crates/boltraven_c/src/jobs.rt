@@ -4,6 +4,7 @@ ghost use mathlib.Core.Path.{_≡_};
 ghost use Rattle.job.specs.Outcome.{jobResult};
 ghost use Rattle.boltraven_c.specs.Jobs.{jobNo, jobLength};
 
+// The number of the refusal, or 0 with the length written.
 fn put_length(answer: JobAnswer, length: &mut u64) -> u8
     ensures { λ r. ⌜ r ≡ jobNo answer ⌝ }
     ensures { λ _. ⌜ now (length .exit) ≡ jobLength (now (length .entry)) answer ⌝ }
