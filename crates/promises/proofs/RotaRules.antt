@@ -71,7 +71,7 @@ recount-by-rule P avail units firsts o D = (
       let r = recount-says P avail units firsts o D e in
       record {
         known = λ k h. known-test (P .people) (getD o k 0) .0 (r .known k h);
-        available = λ k h. available-test avail (getD o k 0) k .0 (r .free k h);
+        available = λ k h. available-test avail (getD o k 0) k .0 (r .available k h);
         uniform = λ u k i. r .even u k (i .known) (i .from) (i .to);
         sets = λ p k h g. held-says o (D .sets) p k (r .sets p k h g);
         minutes = r .minutes;
@@ -79,7 +79,7 @@ recount-by-rule P avail units firsts o D = (
   λ x. says-recount P avail units firsts o D
       record {
         known = λ k h. known-test (P .people) (getD o k 0) .1 (x .known k h);
-        free = λ k h. available-test avail (getD o k 0) k .1 (x .available k h);
+        available = λ k h. available-test avail (getD o k 0) k .1 (x .available k h);
         even = λ u k h a b. x .uniform u k record { known = h; from = a; to = b };
         sets = λ p k h g. says-held o (D .sets) p k (x .sets p k h g);
         minutes = x .minutes;
@@ -123,7 +123,7 @@ module _ (P : Plan) (avail o : List ℕ) (D : Derived) (e : fromSlots P avail o 
       says-recount P avail 0 [] o (afresh P o D)
       record {
         known = known;
-        free = all-each (P .slots) (availableAt avail o) (from-tests .2);
+        available = all-each (P .slots) (availableAt avail o) (from-tests .2);
         even = λ u k h a b. absurd (omega arith);
         sets = J .sets;
         minutes = J .minutes;
