@@ -9,8 +9,8 @@ use lib.Dec.{leb, lit<, lit≤}
 use lib.Ieee.{binary64, ofBits}
 use lib.IntN.{pos}
 use lib.ListN.{length, getD, replicate, length-map, length-replicate}
-use Rattle.paper.specs.Limits.{peopleOk, slotCountOk, countsOk, orElse}
-use Rattle.paper.specs.Count.{all, sum}
+use Rattle.paper.specs.Limits.{peopleOk, slotCountOk, countsOk, orElse, Test, test, heardOf}
+use Rattle.paper.specs.Count.{all}
 use Rattle.paper.proofs.Logic.{both, and-true, cond-zero, people-says, slot-count-says}
 use Rattle.paper.proofs.Count.{sum-same}
 use Rattle.slotset.specs.Slots.{slot}
@@ -32,7 +32,7 @@ use Rattle.job.specs.Stages.{ownersNo}
 use Rattle.job.specs.Outcome.{Result, startOf, figureValue, textOf, listedAs, refusedAs, orRefused, baseIn, peopleIn, rangesIn}
 use Rattle.job.specs.Outcome.{capacitiesIn, priorsIn, instantIn, atomsIn, availIn, sharesIn, unitsIn, readyIn, playResult, rotaResult}
 use Rattle.job.specs.Outcome.{ownersResult, slotsResult, atomsResult, countedResult, jobResult}
-use Rattle.job.specs.Heard.{Test, test, heardOf, AllPass, baseOf, readyOf, drawsOf, writtenOf, ownersOf, startedOf, playedOf}
+use Rattle.job.specs.Heard.{AllPass, baseOf, readyOf, drawsOf, writtenOf, ownersOf, startedOf, playedOf}
 use Rattle.job.specs.Heard.{listedOf, baseTotal, jobTests}
 use Rattle.job.proofs.Files.{length-column, column-at}
 use Rattle.job.proofs.Tests.{Numbered, Rising, stage}

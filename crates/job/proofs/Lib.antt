@@ -12,6 +12,7 @@ pub mod Written
 pub mod Results
 pub mod Readings
 pub mod Tests
+pub mod Placed
 pub mod Passing
 pub mod Rotas
 pub mod Plays

@@ -7,7 +7,7 @@ use native.Mathlib.Omega.{arith}
 use borrow.Author.Tests.{le-leb, leb-true, eq-eqb, eqb-true, eqb-false, ltb-true}
 use lib.Dec.{leb, ltb, eqb}
 use lib.IntN.{ℤ, pos}
-use lib.ListN.{length, getD, set, drop, replicate, length-append, length-replicate, getD-replicate, length-set}
+use lib.ListN.{length, getD, set, drop, replicate, length-append, length-replicate, getD-replicate}
 use lib.Seq.{getD-set-same, getD-set-other}
 use Rattle.paper.specs.Limits.{peopleOk, slotCountOk, countsOk, orElse, nobody}
 use Rattle.paper.specs.Count.{all, onto}
@@ -40,6 +40,7 @@ use Rattle.job.specs.File.{ownerSlot}
 use Rattle.job.specs.Stages.{frozenIn, noOf, valueOf, unitsNoOf, unitsValueOf, SharesAre, TargetsSound, lowerNo, ownerValue, placed}
 use Rattle.job.specs.Stages.{allEven, recordKnown, allKnown, byteOf, narrowed}
 use Rattle.job.proofs.Prepares.{frozen-some, byte-small}
+use Rattle.job.proofs.Placed.{length-placed}
 
 -- ---- atomic slots
 
@@ -199,27 +200,25 @@ lower-is st figures =
 
 -- what the records leave at a slot: nobody, or the owner that one of them gives
 placed-known : (s : List ℕ) (at slots people n : ℕ) → slots ≤ 1024 → ((j : ℕ) → j < n → recordKnown s at slots people j ≡ true)
-    → (length (placed s at slots n) ≡ 1024) × ((k : ℕ) → k < slots → knownBy people (getD (placed s at slots n) k 0) ≡ true)
+    → (k : ℕ) → k < slots → knownBy people (getD (placed s at slots n) k 0) ≡ true
 unfolding placed recordKnown
-placed-known s at slots people zero few f = (
-  length-replicate {A = ℕ} 1024 255,
-  λ k h. ap (knownBy people) (getD-replicate {A = ℕ} 1024 k nobody 0 (omega arith)) ∙ known-nobody people,
-)
-placed-known s at slots people (suc n) few f =
-    let ih = placed-known s at slots people n few (λ j h. f j (omega arith)) in
+placed-known s at slots people zero few f k h =
+    ap (knownBy people) (getD-replicate {A = ℕ} 1024 k nobody 0 (omega arith)) ∙ known-nobody people
+placed-known s at slots people (suc n) few f k h =
+    let long = length-placed s at slots few n in
     let x = both (ltb (ownerSlot s at n) slots) _ (f n (omega arith)) in
     let o = placed s at slots n in
     let i = ownerSlot s at n in
     let w = ownerValue s at n in
     simp (x .0) (
-      length-set o i w ∙ ih .0,
-      λ k h.
-          by-test (eqb k i) _
-          (λ t.
-          let q : getD (set o i w) k 0 ≡ w =
-          ap (λ (j : ℕ). getD (set o i w) j 0) (eqb-true k i t) ∙ getD-set-same o i w 0 (omega (arith, ih .0, ltb-true i slots (x .0))) in
-          ap (knownBy people) q ∙ x .1)
-          (λ t. ap (knownBy people) (getD-set-other o i k w 0 (eqb-false k i t)) ∙ ih .1 k h),
+    by-test (eqb k i) _
+    (λ t.
+    let q : getD (set o i w) k 0 ≡ w =
+    ap (λ (j : ℕ). getD (set o i w) j 0) (eqb-true k i t) ∙ getD-set-same o i w 0 (omega (arith, long, ltb-true i slots (x .0))) in
+    ap (knownBy people) q ∙ x .1)
+    (λ t.
+    ap (knownBy people) (getD-set-other o i k w 0 (eqb-false k i t))
+    ∙ placed-known s at slots people n few (λ j l. f j (omega arith)) k h)
     )
 
 -- as a byte, each is what it was where it is known; and equal ones stay equal
@@ -243,7 +242,7 @@ pub owners-known : (s : List ℕ) (at n slots people : ℕ) → slots ≤ 1024 �
 unfolding allKnown
 owners-known s at n slots people few small e k h =
     let o = placed s at slots n in
-    let q = placed-known s at slots people n few (all-each n (recordKnown s at slots people) e) .1 k h in
+    let q = placed-known s at slots people n few (all-each n (recordKnown s at slots people) e) k h in
     ap (knownBy people) (narrowed-at o k (omega arith) ∙ byte-known people (getD o k 0) small q) ∙ q
 
 pub owners-even : (slots units : ℕ) (firsts o : List ℕ) → slots ≤ 1024 → allEven slots units firsts o ≡ true

@@ -11,7 +11,7 @@ use lib.Dec.{eqb, lit<, lit≤}
 use lib.IntN.{pos}
 use lib.ListN.{length, getD, take, drop}
 use lib.Seq.{take-at, drop-at}
-use Rattle.paper.specs.Limits.{nobody}
+use Rattle.paper.specs.Limits.{nobody, heardOf}
 use Rattle.paper.specs.Count.{sum, all}
 use Rattle.paper.proofs.Logic.{by-test, both, or-right}
 use Rattle.paper.proofs.Count.{all-each, sum-part, sum-same}
@@ -29,7 +29,7 @@ use Rattle.job.specs.File.{jobCounts, jobStarts, JobFile}
 use Rattle.job.specs.Listing.{digits, listingOf, listingMost, put}
 use Rattle.job.specs.Digits.{readDigits}
 use Rattle.job.specs.Outcome.{Result, refusedAs, listedAs, Ends, planOf, instantIn, jobResult}
-use Rattle.job.specs.Heard.{heardOf, testAt, Lowest, AllPass, readyOf, drawsOf, ownersOf, startedOf, playedOf, listedOf, baseTotal}
+use Rattle.job.specs.Heard.{testAt, Lowest, AllPass, readyOf, drawsOf, ownersOf, startedOf, playedOf, listedOf, baseTotal}
 use Rattle.job.specs.Heard.{jobTests}
 use Rattle.job.proofs.Prepares.{when-none, when-some}
 use Rattle.job.proofs.Tests.{heard-none, heard-lowest}

@@ -8,19 +8,11 @@ use native.Mathlib.Omega.{arith}
 use borrow.Author.Tests.{eq-eqb, ne-eqb, eqb-true}
 use lib.Dec.{eqb}
 use lib.ListN.{length}
+use Rattle.paper.specs.Limits.{Test, heardOf}
 use Rattle.paper.proofs.Logic.{by-test}
+use Rattle.paper.proofs.Refusals.{heard-pass, heard-fail}
 use Rattle.job.specs.Outcome.{Result, refusedAs, orRefused}
-use Rattle.job.specs.Heard.{Test, test, heardOf, rank, testAt, Lowest, AllPass}
-
--- ---- one test in front
-
-heard-pass : (t : Test) (ts : List Test) → t .passes ≡ true → heardOf (t ∷ ts) ≡ heardOf ts
-unfolding heardOf
-heard-pass t ts e = ap (λ (b : Bool). cond b (heardOf ts) (t .number)) e
-
-heard-fail : (t : Test) (ts : List Test) → t .passes ≡ false → heardOf (t ∷ ts) ≡ t .number
-unfolding heardOf
-heard-fail t ts e = ap (λ (b : Bool). cond b (heardOf ts) (t .number)) e
+use Rattle.job.specs.Heard.{rank, testAt, Lowest, AllPass}
 
 -- ---- numbers that are not 0, and rise in rank
 

@@ -1,11 +1,11 @@
 -- What a job comes to, said of its file alone: the tests in the order in which they are heard, and what is listed. Assumes nothing.
 use mathlib.Core.Path.{_≡_}
-use mathlib.Core.Bool.{Bool, true, false, cond}
+use mathlib.Core.Bool.{true, false, cond}
 use mathlib.Core.List.{List, [], _∷_}
 use Prim.Native.Nat.{ℕ, _+_, _-_, _*_, _≤_, _<_}
 use lib.Dec.{eqb, leb}
 use lib.ListN.{length, getD, replicate}
-use Rattle.paper.specs.Limits.{orElse, slotsMost}
+use Rattle.paper.specs.Limits.{Test, test, slotsMost}
 use Rattle.paper.specs.Count.{all, sum}
 use Rattle.slots.specs.Lent.{slotsOk}
 use Rattle.slots.specs.Ranges.{rangesOk}
@@ -24,20 +24,7 @@ use Rattle.job.specs.Outcome.{drawsIn, atomsIn, readyIn}
 
 -- ---- a row of tests
 
--- a test, and the number that is heard where it fails
-pub record Test : Type 0 where
-  pub number : ℕ
-  pub passes : Bool
-
-abbrev pub test : ℕ → Bool → Test
-test n b = record { number = n; passes = b }
-
--- the number of the first that fails, 0 where all pass
-unfoldable pub heardOf : List Test → ℕ
-heardOf [] = 0
-heardOf (t ∷ ts) = orElse (t .passes) (t .number) (heardOf ts)
-
--- the same in the paper's words: the lowest number of those that apply, but 13 comes before all
+-- the number heard in the paper's words: the lowest of those that apply, but 13 comes before all
 abbrev pub rank : ℕ → ℕ
 rank n = cond (eqb n 13) 0 n
 

@@ -1,5 +1,6 @@
 -- The numbers of the paper: its limits, and the refusal that is heard. Assumes nothing.
 use mathlib.Core.Bool.{Bool, _&&_, cond}
+use mathlib.Core.List.{List, [], _∷_}
 use Prim.Native.Nat.{ℕ}
 use lib.Dec.{leb}
 
@@ -39,3 +40,16 @@ countsOk people slots = peopleOk people && slotCountOk slots
 -- the number that is heard: n where the test fails, else what comes after it. A chain of these in rising order gives the lowest
 abbrev pub orElse : Bool → ℕ → ℕ → ℕ
 orElse ok n next = cond ok next n
+
+-- a test, and the number that is heard where it fails
+pub record Test : Type 0 where
+  pub number : ℕ
+  pub passes : Bool
+
+abbrev pub test : ℕ → Bool → Test
+test n ok = record { number = n; passes = ok }
+
+-- of a row of tests: the number of the first that fails, 0 where all pass
+unfoldable pub heardOf : List Test → ℕ
+heardOf [] = 0
+heardOf (t ∷ ts) = orElse (t .passes) (t .number) (heardOf ts)

@@ -5,7 +5,7 @@ use Prim.Native.Nat.{ℕ, _≤_}
 use borrow.Author.Tests.{le-leb, leb-true}
 use lib.Dec.{leb}
 use lib.ListN.{length}
-use Rattle.paper.specs.Limits.{drawsMost, countsOk}
+use Rattle.paper.specs.Limits.{drawsMost, countsOk, heardOf}
 use Rattle.paper.proofs.Logic.{both, five, and-true, cond-zero}
 use Rattle.slots.specs.Lent.{slotsOk}
 use Rattle.units.specs.Units.{unitsOk}
@@ -81,7 +81,7 @@ play-room c A =
     and-true _ _ (A .starts) (and-true _ _ (A .flags) (and-true _ _ k (and-true _ _ f (and-true _ _ s x))))
 
 pub says-accepted : (c : Call) → Accepted c → noOf c ≡ 0
-unfolding playNo ground
+unfolding playNo ground heardOf
 says-accepted c A =
     all-pass (playTable c) (
       and-true _ _ (A .counts) (A .few),

@@ -17,7 +17,7 @@ use Rattle.slotset.specs.declared.Told.the-variants.{Yes, No}
 use Rattle.slotset.specs.declared.Counted.the-variants as counted
 use Rattle.paper.specs.Limits.{peopleOk, slotCountOk}
 use Rattle.slotset.specs.declared.SlotSet.{SlotSet}
-use Rattle.slotset.specs.Slots.{slot, withBit, putSlot, putSlots, has}
+use Rattle.slotset.specs.Slots.{Bits, slot, withBit, putSlot, putSlots, has}
 use Rattle.slotset.specs.Runs.{firstOfRun, lastOfRun}
 use Rattle.slotset.specs.Answers.{lenNo, rowNo, slotsOf, runAs, loadOf}
 use Rattle.slotset.proofs.Puts.{slot-lt}
@@ -42,7 +42,6 @@ use Rattle.promises.specs.Entries.{Call, Component, built, noOf, afreshI
 use Rattle.promises.specs.Marked.{MarkedCases, inWords, Owned, apart, Spare, twoUnits}
 use Rattle.promises.specs.Table.{toldNo, countedNo, numberNo}
 use Rattle.promises.specs.SetRefusals.{foundNo, runNo}
-use Rattle.promises.specs.SetRules.{Bits}
 use Rattle.promises.specs.Rota.{EndsAfresh, FrozenKeep, OwnersAvailable, CoveredStays, AddsUp, SizesRecount, after, firstCall}
 use Rattle.promises.specs.Empty.{RefusesByTable, AlwaysRefuses, refuses-next, refuses-prev, refuses-run, refuses-size}
 use Rattle.promises.specs.Empty.{refuses-atomise, refuses-available, refuses-targets, refuses-rotations, refuses-play}

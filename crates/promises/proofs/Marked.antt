@@ -10,7 +10,7 @@ use lib.ListN.{length, drop, getD, length-append, length-drop, List·getD-append
 use lib.Seq.{ext-getD, getD-append-add, getD-drop}
 use mathlib.Core.Logic.{⊎-elim}
 use Rattle.paper.proofs.Logic.{lt-or-ge, and-true}
-use Rattle.paper.specs.Limits.{peopleOk, slotCountOk}
+use Rattle.paper.specs.Limits.{peopleOk, slotCountOk, heardOf}
 use Rattle.paper.specs.Count.{all, allIn, among, onto, some}
 use Rattle.paper.specs.Bits.{bitOf}
 use Rattle.slotset.specs.declared.Found.the-variants.{At, Nothing}
@@ -98,7 +98,7 @@ module _ (B : Base) where
         (and-true _ _ (le-leb 1024 (length (B .outStarts)) a) (le-leb 1024 (length (B .outEnds)) b)))
 
     heard : atomiseNo B ≡ 0
-    unfolding atomiseNo
+    unfolding atomiseNo heardOf
     heard =
         all-pass (atomiseTable B)
         (counts, (room, (slots, (right, (ap (λ (l : List ℕ). leb (length l) 1024) x ∙ few, tt)))))
@@ -155,7 +155,7 @@ module _ (ws : List ℕ) (room : 16 ≤ length ws) where
   -- nothing is refused
   none-refused : availabilityNo 1 4 starts ends theirs ws ≡ 0
   unfolding availabilityNo availabilityRoomOk splitCountsOk peopleOk slotCountOk rangeCountOk slotRoomOk rangeRoomOk slotsOk slotOkAt slotOk
-      prevEnd all rangesOk rangeOkAt rangeOk
+      prevEnd all rangesOk rangeOkAt rangeOk heardOf
   none-refused = all-pass (availabilityTable 1 4 starts ends theirs ws) (refl, (le-leb 16 (length ws) room, (refl, (refl, tt))))
 
   told : (k : ℕ) → k < 4 → isAvailable 1 4 out 0 k ≡ cond (available theirs 0 (getD starts k 0) (getD ends k 0)) Yes No
@@ -181,7 +181,7 @@ module _ (fairness lock days : ℕ) (list : List ℕ) (f : fairness ≤ 1) (l : 
       and-true _ _ (le-leb fairness 1 f) (and-true _ _ (le-leb lock 1 l) (and-true _ _ (le-leb days 366 d) refl))
 
   starts-none : startsNo (mondays fairness lock days) 4 from to list ≡ 0
-  unfolding startsNo slotCountOk slotRoomOk slotsOk slotOkAt slotOk prevEnd all
+  unfolding startsNo slotCountOk slotRoomOk slotsOk slotOkAt slotOk prevEnd all heardOf
   starts-none =
       all-pass (startsTable (mondays fairness lock days) 4 from to list)
       (refl, (refl, (le-leb 4 (length list) room, (set-right, (refl, tt)))))

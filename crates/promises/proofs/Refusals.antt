@@ -1,4 +1,4 @@
--- Demand 1: each entry's chain is heard by its table, and a refusal leaves what was lent as it was. Assumes nothing.
+-- Demand 1: each entry's number is heard by its table, and a refusal leaves what was lent as it was. Assumes nothing.
 use mathlib.Core.Path.{_≡_, refl, sym, ap, _∙_}
 use mathlib.Core.Bool.{Bool, true, false, cond}
 use mathlib.Core.List.{List, [], _∷_}
@@ -6,6 +6,7 @@ use Prim.Native.Nat.{ℕ}
 use borrow.Author.Tests.{ne-eqb, eqb-true}
 use lib.Dec.{ltb, eqb}
 use lib.ListN.{length}
+use Rattle.paper.specs.Limits.{Test, test, heardOf}
 use Rattle.paper.specs.Count.{onto, over}
 use Rattle.paper.proofs.Logic.{by-test}
 use Rattle.slotset.specs.declared.Told.the-variants as told
@@ -29,12 +30,12 @@ use Rattle.units.specs.Days.{durationNo, durationAs, coveredDaysIs, minutesPerD
 use Rattle.units.specs.Domains.{slotDomain, unitDomain, unitFrozenNo, unitFrozenIs, slotDomainNo, slotDomainIs, unitDomainNo, unitDomainIs}
 use Rattle.units.specs.Domains.{unitMask, unitDomainsNo, unitDomainsIs}
 use Rattle.units.specs.Achievable.{achievableRunNo, achievableRunIs}
-use Rattle.promises.specs.Table.{Row, row, rules, Hears, Refuses, toldNo, countedNo, numberNo}
+use Rattle.promises.specs.Table.{rules, Hears, Refuses, toldNo, countedNo, numberNo}
 use Rattle.promises.specs.Refusals.{lentTable, mergedTable, atomiseTable, availabilityTable, freezeTable, availableTable, SlotsRefuse}
 use Rattle.promises.specs.Refusals.{unitsTable, startsTable, unitFrozenTable, slotDomainTable, targetRunTable}
 use Rattle.promises.specs.Refusals.{unitDomainTable, unitDomainsTable}
 use Rattle.promises.specs.Refusals.{achievableTable, UnitsRefuse}
-use Rattle.promises.proofs.Table.{chain, rising, chain-heard, heard-as}
+use Rattle.promises.proofs.Table.{rising, tests-heard, heard-as}
 
 -- ---- the number of an answer is the one that it was made with
 
@@ -82,12 +83,12 @@ stays {A} n new old h = ap (λ (b : Bool). cond b new old) (ne-eqb n 0 h)
 
 module _ (slots : ℕ) (starts ends : List ℕ) where
   lent-heard : (n : ℕ) → n ≡ lentNo slots starts ends → Hears (lentTable slots starts ends []) n
-  unfolding lentNo
+  unfolding lentNo heardOf
   lent-heard n e = heard-as (lentTable slots starts ends []) n refl e
 
-  slot-heard : (k : ℕ) → Hears (lentTable slots starts ends (row 11 (ltb k slots) ∷ [])) (minutesNo (slotMinutesIs slots starts ends k))
-  unfolding slotMinutesIs lentSlotNo
-  slot-heard k = heard-as (lentTable slots starts ends (row 11 (ltb k slots) ∷ [])) _ refl (minutes-no (lentSlotNo slots starts ends k) _)
+  slot-heard : (k : ℕ) → Hears (lentTable slots starts ends (test 11 (ltb k slots) ∷ [])) (minutesNo (slotMinutesIs slots starts ends k))
+  unfolding slotMinutesIs lentSlotNo heardOf
+  slot-heard k = heard-as (lentTable slots starts ends (test 11 (ltb k slots) ∷ [])) _ refl (minutes-no (lentSlotNo slots starts ends k) _)
 
 -- refused, by the number of the answer
 not-none : (m n : ℕ) → m ≡ n → (m ≡ 0 → ⊥) → eqb n 0 ≡ false
@@ -96,7 +97,7 @@ not-none m n e h = ne-eqb n 0 (λ z. h (e ∙ z))
 merged-refuses : (people : ℕ) (R : Ranges) (out : Columns)
     → let x = mergedRanges people R out in
     Refuses (rules (mergedTable people R out)) (countedNo (x .answer)) out (columns (x .persons) (x .starts) (x .ends))
-unfolding mergedRanges mergedNo wordsAs
+unfolding mergedRanges mergedNo wordsAs heardOf
 merged-refuses people R out =
     let n = mergedNo people R out in
     let l = mergedOf R in
@@ -111,7 +112,7 @@ merged-refuses people R out =
 atomise-refuses : (B : atomic.Base)
     → let x = atomic.atomiseOf B in
     Refuses {A = List ℕ × List ℕ} (rules (atomiseTable B)) (countedNo (x .answer)) (B .outStarts, B .outEnds) (x .starts, x .ends)
-unfolding atomic.atomiseOf atomic.atomiseNo wordsAs
+unfolding atomic.atomiseOf atomic.atomiseNo wordsAs heardOf
 atomise-refuses B =
     let n = atomic.atomiseNo B in
     let e = counted-no n (length (atomic.startsOfAtoms B)) in
@@ -127,16 +128,16 @@ atomise-refuses B =
 availability-refuses : (people slots : ℕ) (starts ends : List ℕ) (R : Ranges) (words : List ℕ)
     → Refuses (rules (availabilityTable people slots starts ends R words)) (availabilityNo people slots starts ends R words) words
     (availabilityOf people slots starts ends R words)
-unfolding availabilityOf availabilityNo wordsAs
+unfolding availabilityOf availabilityNo wordsAs heardOf
 availability-refuses people slots starts ends R words = record {
-  heard = chain-heard (availabilityTable people slots starts ends R words) refl;
+  heard = tests-heard (availabilityTable people slots starts ends R words) refl;
   kept = stays _ (rows (availableBit R starts ends) slots people words) words;
 }
 
 freeze-refuses : (slots : ℕ) (starts ends frozen : List ℕ) (instant : ℕ)
     → let x = freezeOf slots starts ends frozen instant in
     Refuses (rules (freezeTable slots starts ends frozen)) (countedNo (x .answer)) frozen (x .flags)
-unfolding freezeOf freezeNo wordsAs
+unfolding freezeOf freezeNo wordsAs heardOf
 freeze-refuses slots starts ends frozen instant =
     let n = freezeNo slots starts ends frozen in
     let e = counted-no n (endedBy slots ends instant) in
@@ -147,7 +148,7 @@ freeze-refuses slots starts ends frozen instant =
 
 available-heard : (people slots : ℕ) (words : List ℕ) (person slot : ℕ)
     → Hears (availableTable people slots words person slot) (toldNo (isAvailable people slots words person slot))
-unfolding isAvailable availableNo
+unfolding isAvailable availableNo heardOf
 available-heard people slots words person slot =
     heard-as (availableTable people slots words person slot) _ refl (told-no (availableNo people slots words person slot) _)
 
@@ -170,27 +171,27 @@ slots-refuse = record {
 
 module _ (slots units : ℕ) (firsts : List ℕ) where
   unit-count-heard : Hears (unitsTable slots units firsts []) (numberNo (unitCountIs slots units firsts))
-  unfolding unitCountIs unitsNo
+  unfolding unitCountIs unitsNo heardOf
   unit-count-heard = heard-as (unitsTable slots units firsts []) _ refl (number-no (unitsNo slots units firsts 0) _)
 
-  unit-slots-heard : (u : ℕ) → Hears (unitsTable slots units firsts (row 11 (ltb u units) ∷ [])) (spanNo (unitSlotsIs slots units firsts u))
-  unfolding unitSlotsIs unitNo unitsNo
+  unit-slots-heard : (u : ℕ) → Hears (unitsTable slots units firsts (test 11 (ltb u units) ∷ [])) (spanNo (unitSlotsIs slots units firsts u))
+  unfolding unitSlotsIs unitNo unitsNo heardOf
   unit-slots-heard u =
-      heard-as (unitsTable slots units firsts (row 11 (ltb u units) ∷ [])) _ refl (span-no (unitNo slots units firsts u) _ _)
+      heard-as (unitsTable slots units firsts (test 11 (ltb u units) ∷ [])) _ refl (span-no (unitNo slots units firsts u) _ _)
 
-  unit-of-heard : (k : ℕ) → Hears (unitsTable slots units firsts (row 11 (ltb k slots) ∷ [])) (numberNo (unitOfSlotIs slots units firsts k))
-  unfolding unitOfSlotIs unitSlotNo unitsNo
+  unit-of-heard : (k : ℕ) → Hears (unitsTable slots units firsts (test 11 (ltb k slots) ∷ [])) (numberNo (unitOfSlotIs slots units firsts k))
+  unfolding unitOfSlotIs unitSlotNo unitsNo heardOf
   unit-of-heard k =
-      heard-as (unitsTable slots units firsts (row 11 (ltb k slots) ∷ [])) _ refl (number-no (unitSlotNo slots units firsts k) _)
+      heard-as (unitsTable slots units firsts (test 11 (ltb k slots) ∷ [])) _ refl (number-no (unitSlotNo slots units firsts k) _)
 
   unit-frozen-heard : (frozen : List ℕ) (u : ℕ)
       → Hears (unitFrozenTable frozen slots units firsts u) (toldNo (unitFrozenIs frozen slots units firsts u))
-  unfolding unitFrozenIs unitFrozenNo
+  unfolding unitFrozenIs unitFrozenNo heardOf
   unit-frozen-heard frozen u =
       heard-as (unitFrozenTable frozen slots units firsts u) _ refl (told-no (unitFrozenNo frozen slots units firsts u) _)
 
 -- a list that is written
-written-refuses : (t : List Row) (n : ℕ) (l old : List ℕ) → rising 1 t ≡ true → n ≡ chain t
+written-refuses : (t : List Test) (n : ℕ) (l old : List ℕ) → rising 1 t ≡ true → n ≡ heardOf t
     → Refuses (rules t) (numberNo (writtenAs n l old .answer)) old (writtenAs n l old .buffer)
 unfolding writtenAs
 written-refuses t n l old r e =
@@ -200,34 +201,34 @@ written-refuses t n l old r e =
 module _ (s : Settings) (slots : ℕ) (starts ends list : List ℕ) where
   rotation-starts-refuses : let x = rotationStartsIs s slots starts ends list in
       Refuses (rules (startsTable s slots starts ends list)) (numberNo (x .answer)) list (x .buffer)
-  unfolding rotationStartsIs startsNo
+  unfolding rotationStartsIs startsNo heardOf
   rotation-starts-refuses = written-refuses (startsTable s slots starts ends list) _ (rotationStarts s slots starts) list refl refl
 
   unit-starts-refuses : let x = unitStartsIs s slots starts ends list in
       Refuses (rules (startsTable s slots starts ends list)) (numberNo (x .answer)) list (x .buffer)
-  unfolding unitStartsIs startsNo
+  unfolding unitStartsIs startsNo heardOf
   unit-starts-refuses = written-refuses (startsTable s slots starts ends list) _ (unitStarts s slots starts) list refl refl
 
 slot-domain-refuses : (avail : List ℕ) (people slots k : ℕ) (list : List ℕ)
     → let x = slotDomainIs avail people slots k list in
     Refuses (rules (slotDomainTable avail people slots k list)) (numberNo (x .answer)) list (x .buffer)
-unfolding slotDomainIs slotDomainNo
+unfolding slotDomainIs slotDomainNo heardOf
 slot-domain-refuses avail people slots k list =
     written-refuses (slotDomainTable avail people slots k list) _ (slotDomain avail people k) list refl refl
 
 unit-domain-refuses : (avail : List ℕ) (people slots units : ℕ) (firsts : List ℕ) (u : ℕ) (list : List ℕ)
     → let x = unitDomainIs avail people slots units firsts u list in
     Refuses (rules (unitDomainTable avail people slots units firsts u list)) (numberNo (x .answer)) list (x .buffer)
-unfolding unitDomainIs unitDomainNo
+unfolding unitDomainIs unitDomainNo heardOf
 unit-domain-refuses avail people slots units firsts u list =
     written-refuses (unitDomainTable avail people slots units firsts u list) _ (unitDomain avail people slots units firsts u) list refl refl
 
 unit-domains-refuse : (avail : List ℕ) (people slots units : ℕ) (firsts masks : List ℕ)
     → Refuses (rules (unitDomainsTable avail people slots units firsts masks)) (unitDomainsNo avail people slots units firsts masks) masks
     (unitDomainsIs avail people slots units firsts masks)
-unfolding unitDomainsIs unitDomainsNo
+unfolding unitDomainsIs unitDomainsNo heardOf
 unit-domains-refuse avail people slots units firsts masks = record {
-  heard = chain-heard (unitDomainsTable avail people slots units firsts masks) refl;
+  heard = tests-heard (unitDomainsTable avail people slots units firsts masks) refl;
   kept = stays _ (over (unitMask avail people slots units firsts) units masks) masks;
 }
 
@@ -242,13 +243,13 @@ module _ (slots : ℕ) (starts ends : List ℕ) where
 
 target-run-heard : (s : Settings) (slots : ℕ) (starts ends : List ℕ)
     → Hears (targetRunTable s slots starts ends) (durationNo (targetRunIs s slots starts ends))
-unfolding targetRunIs targetRunNo
+unfolding targetRunIs targetRunNo heardOf
 target-run-heard s slots starts ends =
     heard-as (targetRunTable s slots starts ends) _ refl (duration-no (targetRunNo s slots starts ends) _)
 
 achievable-heard : (s : Settings) (avail : List ℕ) (people p slots : ℕ) (starts ends : List ℕ)
     → Hears (achievableTable s avail people p slots starts ends) (durationNo (achievableRunIs s avail people p slots starts ends))
-unfolding achievableRunIs achievableRunNo
+unfolding achievableRunIs achievableRunNo heardOf
 achievable-heard s avail people p slots starts ends =
     heard-as (achievableTable s avail people p slots starts ends) _ refl
     (duration-no (achievableRunNo s avail people p slots starts ends) _)

@@ -9,7 +9,7 @@ use lib.Dec.{leb, eqb}
 use lib.ListN.{length, getD, take, drop, length-append, length-drop}
 use lib.Seq.{take-at, drop-at, drop-drop}
 use Rattle.paper.specs.Count.{all, sum, count, onto}
-use Rattle.paper.specs.Limits.{peopleOk, slotCountOk, orElse, countsOk}
+use Rattle.paper.specs.Limits.{peopleOk, slotCountOk, orElse, countsOk, heardOf}
 use Rattle.paper.proofs.Logic.{by-test, both, five, and-true, slot-count-says}
 use Rattle.paper.proofs.Count.{each-all, sum-same}
 use Rattle.slotset.specs.declared.SlotSet.{SlotSet}
@@ -149,7 +149,7 @@ module _ (c : Call) (e : noOf c ≡ 0) (o : List ℕ) (D : Derived) (room : c .p
       (recount-says (c .plan) (c .avail) (c .units) (c .firsts) o D right .known)
 
   told : uncoveredIs (c .plan) o ≡ Is (uncovered (c .plan) o)
-  unfolding uncoveredIs figureAs roomOk ground
+  unfolding uncoveredIs figureAs roomOk ground heardOf
   told =
       let A = accepted-says c e in
       let r = both (slotRoomOk (c .plan .slots) (c .plan .starts) (c .plan .ends)) _ (A .room) in

@@ -9,7 +9,7 @@ use borrow.Author.Tests.{ne-eqb, le-leb}
 use lib.Dec.{leb, ltb}
 use lib.IntN.{ℤ}
 use lib.ListN.{length, getD, set, replicate}
-use Rattle.paper.specs.Limits.{peopleOk, slotCountOk, orElse, nobody, countsOk}
+use Rattle.paper.specs.Limits.{peopleOk, slotCountOk, orElse, Test, test, heardOf, nobody, countsOk}
 use Rattle.paper.specs.Count.{all, fill, over}
 use Rattle.paper.proofs.Logic.{by-test, lt-or-ge, slot-count-says}
 use Rattle.slotset.specs.declared.Changed.{Changed}
@@ -24,10 +24,10 @@ use Rattle.rota.specs.Recount.{knownAt}
 use Rattle.rota.specs.Entries as rota
 use Rattle.rota.specs.Entries.{figureNo}
 use Rattle.promises.specs.Entries.{Call, playOf, ofDraws, afreshIn}
-use Rattle.promises.specs.Table.{Row, row, rules, Applies, Heard, Hears, Refuses}
+use Rattle.promises.specs.Table.{rules, Applies, Heard, Hears, Refuses}
 use Rattle.promises.specs.Refusals.{targetsChecks, guard, TargetsRefuse, fromSlotsTable, assignTable, recountSlotsTable}
 use Rattle.promises.specs.Refusals.{recountTable, playTable, emptyTable, ownersTable, Lent, left, RotaRefuses}
-use Rattle.promises.proofs.Table.{chain, rising, Least, chain-least, least-heard, chain-heard, heard-as}
+use Rattle.promises.proofs.Table.{rising, Least, tests-least, least-heard, tests-heard, heard-as}
 use Rattle.promises.proofs.Refusals.{by-number}
 
 -- ---- targets
@@ -37,8 +37,8 @@ module _ (g : targets.Given) (out : List ℤ) where
   number = targets.checkNo g (length out)
 
   checks : Least (rules (targetsChecks g (length out))) number
-  unfolding targets.checkNo
-  checks = chain-least 1 (targetsChecks g (length out)) (omega arith) refl
+  unfolding targets.checkNo heardOf
+  checks = tests-least 1 (targetsChecks g (length out)) (omega arith) refl
 
   -- a number of the checks other than 9 is below 8
   below-guard : (n : ℕ) → Applies (rules (targetsChecks g (length out))) n → slotsOk (g .slots) (g .starts) (g .ends) ≡ true → n ≤ 8
@@ -81,9 +81,9 @@ figure-no : (n k : ℕ) → figureNo (rota.figureAs n k) ≡ n
 unfolding rota.figureAs
 figure-no n k = by-number figureNo n (figure.Is k) (figure.Refused n) refl refl
 
--- an outcome with the number of a chain
-outcome-refuses : (t : List Row) (n : ℕ) (o : List ℕ) (D : Derived) (x o′ : List ℕ) (D′ : Derived) (x′ : List ℕ) → rising 1 t ≡ true
-    → n ≡ chain t
+-- an outcome with the number of a row of tests
+outcome-refuses : (t : List Test) (n : ℕ) (o : List ℕ) (D : Derived) (x o′ : List ℕ) (D′ : Derived) (x′ : List ℕ) → rising 1 t ≡ true
+    → n ≡ heardOf t
     → Refuses {A = Lent} (rules t) (rota.outcome n o D x o′ D′ x′ .number) (o, D, x) (left (rota.outcome n o D x o′ D′ x′))
 unfolding rota.outcome
 outcome-refuses t n o D x o′ D′ x′ r e = record {
@@ -93,67 +93,67 @@ outcome-refuses t n o D x o′ D′ x′ r e = record {
 
 from-slots-refuses : (P : Plan) (avail o : List ℕ) (D : Derived)
     → let y = rota.fromSlots P avail o D in Refuses {A = Lent} (rules (fromSlotsTable P avail o D)) (y .number) (o, D, []) (left y)
-unfolding rota.fromSlots rota.fromSlotsNo rota.ground
+unfolding rota.fromSlots rota.fromSlotsNo rota.ground heardOf
 from-slots-refuses P avail o D = outcome-refuses (fromSlotsTable P avail o D) _ o D [] o (afresh P o D) [] refl refl
 
 assign-refuses : (P : Plan) (avail o : List ℕ) (D : Derived) (k w : ℕ)
     → let y = rota.assigned P avail o D k w in
     Refuses {A = Lent} (rules (assignTable P avail o D k w)) (y .number) (o, D, []) (left y)
-unfolding rota.assigned rota.assignNo rota.ground
+unfolding rota.assigned rota.assignNo rota.ground heardOf
 assign-refuses P avail o D k w =
     outcome-refuses (assignTable P avail o D k w) _ o D [] (set o k w) (afresh P (set o k w) D) [] refl refl
 
 recount-heard : (P : Plan) (avail : List ℕ) (units : ℕ) (firsts o : List ℕ) (D : Derived)
     → Hears (recountTable P avail units firsts o D) (rota.recountNo P avail units firsts o D)
-unfolding rota.recountNo rota.ground
-recount-heard P avail units firsts o D = chain-heard (recountTable P avail units firsts o D) refl
+unfolding rota.recountNo rota.ground heardOf
+recount-heard P avail units firsts o D = tests-heard (recountTable P avail units firsts o D) refl
 
 recount-slots-heard : (P : Plan) (avail o : List ℕ) (D : Derived)
     → Hears (recountSlotsTable P avail o D) (rota.recountSlotsNo P avail o D)
-unfolding rota.recountSlotsNo rota.ground
-recount-slots-heard P avail o D = chain-heard (recountSlotsTable P avail o D) refl
+unfolding rota.recountSlotsNo rota.ground heardOf
+recount-slots-heard P avail o D = tests-heard (recountSlotsTable P avail o D) refl
 
 play-refuses : (c : Call)
     → let y = playOf c in Refuses {A = Lent} (rules (playTable c)) (y .number) (c .owners, c .derived, c .answers) (left y)
-unfolding rota.played rota.playNo rota.ground
+unfolding rota.played rota.playNo rota.ground heardOf
 play-refuses c =
     let y = afreshIn c in
     outcome-refuses (playTable c) _ (c .owners) (c .derived) (c .answers) (y .owners) (y .derived) (y .answers) refl refl
 
 empty-refuses : (people slots : ℕ) (o : List ℕ) (D : Derived)
     → let y = rota.emptied people slots o D in Refuses {A = Lent} (rules (emptyTable people slots o D)) (y .number) (o, D, []) (left y)
-unfolding rota.emptied rota.emptyNo rota.ground
+unfolding rota.emptied rota.emptyNo rota.ground heardOf
 empty-refuses people slots o D =
     outcome-refuses (emptyTable people slots o D) _ o D [] (fill nobody 0 slots o)
     (derived (setsFrom people slots (nobodies slots) (D .sets)) (over (λ _. 0) people (D .minutes))) [] refl refl
 
 owner-heard : (people slots : ℕ) (o : List ℕ) (k : ℕ)
-    → Hears (ownersTable people slots o (row 11 (ltb k slots && knownBy people (getD o k 0)) ∷ []))
+    → Hears (ownersTable people slots o (test 11 (ltb k slots && knownBy people (getD o k 0)) ∷ []))
     (figureNo (rota.ownerIs people slots o k))
-unfolding rota.ownerIs rota.ground
+unfolding rota.ownerIs rota.ground heardOf
 owner-heard people slots o k =
-    heard-as (ownersTable people slots o (row 11 (ltb k slots && knownBy people (getD o k 0)) ∷ [])) _ refl (figure-no _ (getD o k 0))
+    heard-as (ownersTable people slots o (test 11 (ltb k slots && knownBy people (getD o k 0)) ∷ [])) _ refl (figure-no _ (getD o k 0))
 
 minutes-heard : (people : ℕ) (m : List ℕ) (p : ℕ)
-    → Hears (row 1 (peopleOk people) ∷ row 2 (leb people (length m)) ∷ row 11 (ltb p people) ∷ []) (figureNo (rota.minutesIs people m p))
-unfolding rota.minutesIs rota.ground
+    → Hears (test 1 (peopleOk people) ∷ test 2 (leb people (length m)) ∷ test 11 (ltb p people) ∷ []) (figureNo (rota.minutesIs people m p))
+unfolding rota.minutesIs rota.ground heardOf
 minutes-heard people m p =
-    heard-as (row 1 (peopleOk people) ∷ row 2 (leb people (length m)) ∷ row 11 (ltb p people) ∷ []) _ refl (figure-no _ (getD m p 0))
+    heard-as (test 1 (peopleOk people) ∷ test 2 (leb people (length m)) ∷ test 11 (ltb p people) ∷ []) _ refl (figure-no _ (getD m p 0))
 
 unassigned-heard : (people slots : ℕ) (o : List ℕ)
-    → Hears (ownersTable people slots o (row 11 (all slots (knownAt people o)) ∷ [])) (figureNo (rota.unassignedIs people slots o))
-unfolding rota.unassignedIs rota.ground
+    → Hears (ownersTable people slots o (test 11 (all slots (knownAt people o)) ∷ [])) (figureNo (rota.unassignedIs people slots o))
+unfolding rota.unassignedIs rota.ground heardOf
 unassigned-heard people slots o =
-    heard-as (ownersTable people slots o (row 11 (all slots (knownAt people o)) ∷ [])) _ refl (figure-no _ (unassigned slots o))
+    heard-as (ownersTable people slots o (test 11 (all slots (knownAt people o)) ∷ [])) _ refl (figure-no _ (unassigned slots o))
 
 module _ (P : Plan) (o : List ℕ) where
-  abbrev pub uncoveredTable : List Row
+  abbrev pub uncoveredTable : List Test
   uncoveredTable =
-      row 1 (countsOk (P .people) (P .slots)) ∷ row 2 (slotRoomOk (P .slots) (P .starts) (P .ends) && leb (P .slots) (length o))
-      ∷ row 9 (slotsOk (P .slots) (P .starts) (P .ends)) ∷ row 11 (all (P .slots) (knownAt (P .people) o)) ∷ []
+      test 1 (countsOk (P .people) (P .slots)) ∷ test 2 (slotRoomOk (P .slots) (P .starts) (P .ends) && leb (P .slots) (length o))
+      ∷ test 9 (slotsOk (P .slots) (P .starts) (P .ends)) ∷ test 11 (all (P .slots) (knownAt (P .people) o)) ∷ []
 
   uncovered-heard : Hears uncoveredTable (figureNo (rota.uncoveredIs P o))
-  unfolding rota.uncoveredIs rota.ground
+  unfolding rota.uncoveredIs rota.ground heardOf
   uncovered-heard = heard-as uncoveredTable _ refl (figure-no _ (uncovered P o))
 
 -- the empty set of no slots, refused by 1
@@ -161,20 +161,20 @@ abbrev pub refused-set : Changed
 refused-set = record { set = record { words = replicate 16 0; len = 0 }; number = 1 }
 
 module _ (people slots : ℕ) (ws : List ℕ) (p : ℕ) where
-  abbrev rowTable : List Row
-  rowTable = row 1 (countsOk people slots) ∷ row 2 (leb (16 * people) (length ws)) ∷ row 11 (ltb p people) ∷ []
+  abbrev rowTable : List Test
+  rowTable = test 1 (countsOk people slots) ∷ test 2 (leb (16 * people) (length ws)) ∷ test 11 (ltb p people) ∷ []
 
   abbrev after : ℕ
-  after = chain (row 2 (leb (16 * people) (length ws)) ∷ row 11 (ltb p people) ∷ [])
+  after = heardOf (test 2 (leb (16 * people) (length ws)) ∷ test 11 (ltb p people) ∷ [])
 
   -- a count of slots that passes is a length that does
-  row-number : slotCountOk slots ≡ true → rowNo ws people p slots ≡ chain rowTable
-  unfolding rowNo countsOk
+  row-number : slotCountOk slots ≡ true → rowNo ws people p slots ≡ heardOf rowTable
+  unfolding rowNo countsOk heardOf
   row-number t =
       ap (λ (b : Bool). orElse (peopleOk people && b) 1 after) (le-leb slots 1024 (slot-count-says slots t .1) ∙ sym t)
 
-  slots-of-number : rota.slotsOfIs people slots ws p .number ≡ chain rowTable
-  unfolding rota.slotsOfIs loadOf countsOk
+  slots-of-number : rota.slotsOfIs people slots ws p .number ≡ heardOf rowTable
+  unfolding rota.slotsOfIs loadOf countsOk heardOf
   slots-of-number =
       by-test (slotCountOk slots) _
       (λ t.

@@ -12,19 +12,18 @@ use lib.Seq.{getD-set-same, getD-set-other}
 use Rattle.paper.specs.Limits.{nobody, orElse, peopleOk, slotCountOk, countsOk}
 use Rattle.paper.specs.Count.{all, sum, over, fill}
 use Rattle.paper.proofs.Logic.{by-test, both, three, five, and-true, cond-zero, zero-of, people-says, slot-count-says}
-use Rattle.paper.proofs.Count.{all-each, sum-same, getD-over, getD-over-out, getD-fill-in, getD-fill-out}
+use Rattle.paper.proofs.Count.{all-each, getD-over, getD-over-out, getD-fill-in, getD-fill-out}
 use Rattle.slotset.specs.Slots.{slot}
 use Rattle.slotset.proofs.Puts.{slot-lt}
 use Rattle.slots.specs.Lent.{slotRoomOk, slotsOk, minutesAt}
 use Rattle.units.specs.Units.{unitStart, unitsOk, InUnit}
 use Rattle.units.proofs.Units.{unit-within}
-use Rattle.rota.specs.Derived.{Plan, lengthAt, Derived, derived, portion, worked, uncovered, held, setsFrom, nobodies, afresh}
+use Rattle.rota.specs.Derived.{Plan, Derived, derived, portion, worked, uncovered, held, setsFrom, nobodies, afresh}
 use Rattle.rota.specs.Recount.{knownAt, availableAt, recounts}
 use Rattle.rota.specs.Entries.{roomOk, ground, Outcome, outcome, fromSlotsNo, fromSlots, assigned, playNo, emptyNo, emptied}
-use Rattle.rota.proofs.Minutes.{portion-other, sum-nothing}
 use Rattle.rota.proofs.Sets.{held-own, held-not, sets-in, sets-out}
 use Rattle.rota.proofs.Steps.{afresh-step, afresh-lengths}
-use Rattle.rota.proofs.Made.{nobody-at}
+use Rattle.rota.proofs.Made.{nobody-at, none-worked}
 use Rattle.rota.proofs.Entered.{ground-all, grounds, Grounds, recount-says, says-recount}
 use Rattle.rota.proofs.Asked.{Asks, assign-asks}
 use Rattle.rota.proofs.Promises.{assign-recounts}
@@ -71,7 +70,7 @@ recount-by-rule P avail units firsts o D = (
       let r = recount-says P avail units firsts o D e in
       record {
         known = λ k h. known-test (P .people) (getD o k 0) .0 (r .known k h);
-        available = λ k h. available-test avail (getD o k 0) k .0 (r .free k h);
+        available = λ k h. available-test avail (getD o k 0) k .0 (r .available k h);
         uniform = λ u k i. r .even u k (i .known) (i .from) (i .to);
         sets = λ p k h g. held-says o (D .sets) p k (r .sets p k h g);
         minutes = r .minutes;
@@ -79,7 +78,7 @@ recount-by-rule P avail units firsts o D = (
   λ x. says-recount P avail units firsts o D
       record {
         known = λ k h. known-test (P .people) (getD o k 0) .1 (x .known k h);
-        free = λ k h. available-test avail (getD o k 0) k .1 (x .available k h);
+        available = λ k h. available-test avail (getD o k 0) k .1 (x .available k h);
         even = λ u k h a b. x .uniform u k record { known = h; from = a; to = b };
         sets = λ p k h g. says-held o (D .sets) p k (x .sets p k h g);
         minutes = x .minutes;
@@ -123,7 +122,7 @@ module _ (P : Plan) (avail o : List ℕ) (D : Derived) (e : fromSlots P avail o 
       says-recount P avail 0 [] o (afresh P o D)
       record {
         known = known;
-        free = all-each (P .slots) (availableAt avail o) (from-tests .2);
+        available = all-each (P .slots) (availableAt avail o) (from-tests .2);
         even = λ u k h a b. absurd (omega arith);
         sets = J .sets;
         minutes = J .minutes;
@@ -251,13 +250,6 @@ module _ (P : Plan) (o : List ℕ) (D : Derived) (e : emptied (P .people) (P .sl
   not-nobody : (p : ℕ) → p < P .people → nobody ≢ p
   not-nobody p h q = omega (arith, q, clears .people)
 
-  no-minutes : (p : ℕ) → p < P .people → worked P owners p ≡ 0
-  unfolding worked
-  no-minutes p h =
-      sum-same (P .slots) (λ k. portion (getD owners k 0) p (lengthAt P k)) (λ _. 0)
-      (λ k g. portion-other (getD owners k 0) p (lengthAt P k) (λ q. not-nobody p h (sym (nobodys k g) ∙ q)))
-      ∙ sum-nothing (P .slots)
-
   unset : (p k : ℕ) → p < P .people → k < P .slots → slot (cleared .sets) (16 * p) k ≡ 0
   unset p k h g =
       sets-in (P .slots) (nobodies (P .slots)) (D .sets) (clears .slots) (P .people) (clears .sets-room) p k h g
@@ -276,7 +268,8 @@ module _ (P : Plan) (o : List ℕ) (D : Derived) (e : emptied (P .people) (P .sl
       λ q. absurd (not-nobody p h (sym (nobodys k g) ∙ q)),
     );
     minutes = λ p h.
-        getD-over (λ _. 0) (P .people) (D .minutes) p h (omega (arith, clears .minutes-room)) ∙ sym (no-minutes p h);
+        getD-over (λ _. 0) (P .people) (D .minutes) p h (omega (arith, clears .minutes-room))
+        ∙ sym (none-worked P owners p (λ q. not-nobody p h (sym q)) nobodys);
   }
 
   empty-left : let y = emptied (P .people) (P .slots) o D in

@@ -6,7 +6,7 @@ use Prim.Native.Nat.{ℕ, _-_, _*_}
 use borrow.Author.Tests.{ne-eqb}
 use lib.Dec.{eqb, leb, ltb}
 use lib.ListN.{length}
-use Rattle.paper.specs.Limits.{peopleOk, slotsMost, orElse}
+use Rattle.paper.specs.Limits.{peopleOk, slotsMost, orElse, Test, test, heardOf}
 use Rattle.slotset.specs.declared.SlotSet.{SlotSet}
 use Rattle.slotset.specs.declared.Found.{Found}
 use Rattle.slotset.specs.declared.Found.the-variants as found
@@ -20,32 +20,32 @@ use Rattle.slotset.specs.Answers.{lenNo, slotNo, stretchNo, rowNo, rowStretchNo
 use Rattle.slotset.specs.Answers.{nextMemberAs, changedAs, newOf, putOf, stretchOf, loadOf, wordsAs, storeOf, rowStretchOf}
 use Rattle.slotset.proofs.Meaning.{next-is, last-is}
 use Rattle.runs.specs.Listed.{listNo, column, runsOf, allRunsOf}
-use Rattle.promises.specs.Table.{Row, row, rules, Hears, Refuses, countedNo}
+use Rattle.promises.specs.Table.{rules, Hears, Refuses, countedNo}
 use Rattle.promises.specs.SetRefusals.{foundNo, runNo, nextRunNo, nextMemberNo, lengthTable, slotTable, stretchTable}
 use Rattle.promises.specs.SetRefusals.{rowTable, runsTable, SetsRefuse}
-use Rattle.promises.proofs.Table.{chain, rising, chain-heard, heard-as}
+use Rattle.promises.proofs.Table.{rising, tests-heard, heard-as}
 use Rattle.promises.proofs.Refusals.{by-number, told-no, counted-no, stays}
 
 -- ---- the numbers
 
 length-heard : (len : ℕ) → Hears (lengthTable len []) (lenNo len)
-unfolding lenNo
-length-heard len = chain-heard (lengthTable len []) refl
+unfolding lenNo heardOf
+length-heard len = tests-heard (lengthTable len []) refl
 
 new-heard : (len : ℕ) → Hears (lengthTable len []) (newOf len .number)
 unfolding newOf
 new-heard len = length-heard len
 
 row-heard : (ws : List ℕ) (people person len : ℕ) → Hears (rowTable ws people person len []) (rowNo ws people person len)
-unfolding rowNo
-row-heard ws people person len = chain-heard (rowTable ws people person len []) refl
+unfolding rowNo heardOf
+row-heard ws people person len = tests-heard (rowTable ws people person len []) refl
 
 load-heard : (ws : List ℕ) (people person len : ℕ) → Hears (rowTable ws people person len []) (loadOf ws people person len .number)
 unfolding loadOf
 load-heard ws people person len = row-heard ws people person len
 
--- a set handed back, by the number of a chain
-changed-refuses : (t : List Row) (n : ℕ) (s : SlotSet) (ws : List ℕ) → rising 1 t ≡ true → n ≡ chain t
+-- a set handed back, by the number of a row of tests
+changed-refuses : (t : List Test) (n : ℕ) (s : SlotSet) (ws : List ℕ) → rising 1 t ≡ true → n ≡ heardOf t
     → Refuses (rules t) (changedAs n s ws .number) s (changedAs n s ws .set)
 unfolding changedAs
 changed-refuses t n s ws r e = record {
@@ -54,12 +54,12 @@ changed-refuses t n s ws r e = record {
 }
 
 put-refuses : (v : ℕ) (s : SlotSet) (i : ℕ) → Refuses (rules (slotTable (s .len) i)) (putOf v s i .number) s (putOf v s i .set)
-unfolding putOf slotNo
+unfolding putOf slotNo heardOf
 put-refuses v s i = changed-refuses (slotTable (s .len) i) _ s (putSlot 0 i v (s .words)) refl refl
 
 stretch-refuses : (v : ℕ) (s : SlotSet) (a e : ℕ)
     → Refuses (rules (stretchTable (s .len) a e)) (stretchOf v s a e .number) s (stretchOf v s a e .set)
-unfolding stretchOf stretchNo
+unfolding stretchOf stretchNo heardOf
 stretch-refuses v s a e = changed-refuses (stretchTable (s .len) a e) _ s (putSlots (λ _. v) 0 a (e - a) (s .words)) refl refl
 
 store-refuses : (s : SlotSet) (ws : List ℕ) (people person : ℕ)
@@ -80,18 +80,18 @@ then-more true false c d = refl
 then-more false b c d = refl
 
 row-stretch-number : (ws : List ℕ) (people person len a e : ℕ)
-    → rowStretchNo ws people person len a e ≡ chain (rowTable ws people person len (row 11 (leb e a || leb e len) ∷ []))
-unfolding rowStretchNo rowNo
+    → rowStretchNo ws people person len a e ≡ heardOf (rowTable ws people person len (test 11 (leb e a || leb e len) ∷ []))
+unfolding rowStretchNo rowNo heardOf
 row-stretch-number ws people person len a e =
     then-more (peopleOk people && leb len slotsMost) (leb (16 * people) (length ws)) (ltb person people) (leb e a || leb e len)
 
 put-stretch-refuses : (v : ℕ) (ws : List ℕ) (people person len a e : ℕ)
-    → Refuses (rules (rowTable ws people person len (row 11 (leb e a || leb e len) ∷ []))) (rowStretchNo ws people person len a e) ws
+    → Refuses (rules (rowTable ws people person len (test 11 (leb e a || leb e len) ∷ []))) (rowStretchNo ws people person len a e) ws
     (rowStretchOf v ws people person len a e)
 unfolding rowStretchOf wordsAs
 put-stretch-refuses v ws people person len a e = record {
   heard =
-      heard-as (rowTable ws people person len (row 11 (leb e a || leb e len) ∷ [])) _ refl
+      heard-as (rowTable ws people person len (test 11 (leb e a || leb e len) ∷ [])) _ refl
       (row-stretch-number ws people person len a e);
   kept = stays _ (putSlots (λ _. v) (16 * person) a (e - a) ws) ws;
 }
@@ -100,7 +100,7 @@ all-runs-refuse : (ws : List ℕ) (people person len : ℕ) (firsts lasts : List
     → let x = allRunsOf ws people person len firsts lasts in
     Refuses {A = List ℕ × List ℕ} (rules (runsTable ws people person len (length firsts) (length lasts))) (countedNo (x .answer))
     (firsts, lasts) (x .firsts, x .lasts)
-unfolding listNo wordsAs
+unfolding listNo wordsAs heardOf
 all-runs-refuse ws people person len firsts lasts =
     let n = listNo ws people person len (length firsts) (length lasts) in
     let l = runsOf ws person len in

@@ -23,7 +23,7 @@ use Rattle.slotset.specs.declared.NextRun.{NextRun}
 use Rattle.slotset.specs.declared.NextRun.the-variants as nextRun
 use Rattle.slotset.specs.declared.NextMember.the-variants as nextMember
 use Rattle.slotset.specs.declared.Counted.the-variants as counted
-use Rattle.slotset.specs.Slots.{slot, putSlot, putSlots, has, Member, size, noMember}
+use Rattle.slotset.specs.Slots.{Bits, slot, putSlot, putSlots, has, Member, size, noMember}
 use Rattle.slotset.specs.Search.{nextWith, lastBelow, nextSet, First, Last}
 use Rattle.slotset.specs.Runs.{firstOfRun, lastOfRun, endOf, Ends, whenFound, runs, allRuns, AreRuns, InRuns}
 use Rattle.slotset.specs.Answers.{lenNo, slotNo, stretchNo, rowNo, rowStretchNo, slotsOf, rowSlots, foundAs, toldAs, runAs, countedAs}
@@ -36,7 +36,7 @@ use Rattle.slotset.proofs.Members.{size-members, put-here, put-elsewhere, size-
 use Rattle.slotset.proofs.Runs.{has-member, member-has, run-around, around-unique, runs-are, runs-unique, runs-hold, runs-only, run-same}
 use Rattle.runs.specs.Listed.{listNo, column, allRunsOf}
 use Rattle.runs.proofs.Listing.{list-says, column-at, column-stays}
-use Rattle.promises.specs.SetRules.{TheOne, Bits, RunIs, Put, Changes, firstAhead, FrontOf, SameAnswers, SetsByRule}
+use Rattle.promises.specs.SetRules.{TheOne, RunIs, Put, Changes, firstAhead, FrontOf, SameAnswers, SetsByRule}
 use Rattle.promises.proofs.Refusals.{taken}
 
 next-found : (v : ℕ) (f : ℕ → ℕ) (len from : ℕ) → TheOne (First v f len from) (foundAs 0 (nextWith v f len from))

@@ -8,7 +8,7 @@ use native.Mathlib.Omega.{arith}
 use borrow.Author.Tests.{eq-eqb, eqb-true, leb-true, le-leb, lt-ltb, ltb-true}
 use lib.Dec.{eqb, leb, ltb}
 use lib.ListN.{length, getD}
-use Rattle.paper.specs.Limits.{peopleOk, slotCountOk, orElse}
+use Rattle.paper.specs.Limits.{peopleOk, slotCountOk, orElse, heardOf}
 use Rattle.paper.specs.Count.{sum}
 use Rattle.paper.proofs.Logic.{by-test, cond-zero, both, three, and-true, or-left, or-second, or-either}
 use Rattle.paper.proofs.Count.{some-one, some-here, in-each, each-in}
@@ -233,7 +233,7 @@ module _ (people slots : ℕ) (starts ends : List ℕ) (R : Ranges) (words : Lis
       and-true _ _ (y .0) (both (slotCountOk slots) _ (y .1) .0)
 
   heard : availableNo people slots out p k ≡ 0
-  unfolding availableNo
+  unfolding availableNo heardOf
   heard =
       let r : 16 * people ≤ length out =
       omega (arith, ap length out-is, length-rows (availableBit R starts ends) slots people words, avail .room) in

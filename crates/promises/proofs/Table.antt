@@ -1,32 +1,29 @@
--- A chain of refusals in rising order is heard by its table, and by a table only one number is. Assumes nothing.
-use mathlib.Core.Path.{_≡_, refl, sym, ap, _∙_, subst}
-use mathlib.Core.Bool.{Bool, true, false, cond, _&&_}
+-- A row of tests in rising order is heard by its table, and by a table only one number is. Assumes nothing.
+use mathlib.Core.Path.{_≡_, refl, sym, _∙_, subst}
+use mathlib.Core.Bool.{Bool, true, false, _&&_}
 use mathlib.Core.List.{List, [], _∷_}
 use mathlib.Core.Logic.{inl, inr, ⊎-elim}
 use Prim.Native.Nat.{ℕ, _≤_, _<_}
 use native.Mathlib.Omega.{arith}
 use borrow.Author.Tests.{leb-true}
 use lib.Dec.{leb}
-use Rattle.paper.specs.Limits.{orElse}
+use Rattle.paper.specs.Limits.{Test, heardOf}
 use Rattle.paper.proofs.Logic.{by-test, both, lt-or-ge}
-use Rattle.promises.specs.Table.{Rule, Row, rules, Applies, Heard}
+use Rattle.paper.proofs.Refusals.{heard-pass, heard-fail}
+use Rattle.promises.specs.Table.{Rule, rules, Applies, Heard}
 
--- a chain of tests, as the entries have it
-abbrev pub chain : List Row → ℕ
-chain [] = 0
-chain (t ∷ ts) = orElse (t .passes) (t .number) (chain ts)
-
--- each of its tests passes: nothing is heard
-abbrev pub Pass : List Row → Type 0
+-- each test passes: nothing is heard
+abbrev pub Pass : List Test → Type 0
 Pass [] = Unit
 Pass (t ∷ ts) = (t .passes ≡ true) × Pass ts
 
-pub all-pass : (ts : List Row) → Pass ts → chain ts ≡ 0
+pub all-pass : (ts : List Test) → Pass ts → heardOf ts ≡ 0
+unfolding heardOf
 all-pass [] p = refl
-all-pass (t ∷ ts) p = ap (λ (b : Bool). orElse b (t .number) (chain ts)) (p .0) ∙ all-pass ts (p .1)
+all-pass (t ∷ ts) p = heard-pass t ts (p .0) ∙ all-pass ts (p .1)
 
 -- numbers are at least `low` and never fall
-abbrev pub rising : ℕ → List Row → Bool
+abbrev pub rising : ℕ → List Test → Bool
 rising low [] = true
 rising low (t ∷ ts) = leb low (t .number) && rising (t .number) ts
 
@@ -38,7 +35,7 @@ pub record Least (t : List Rule) (n : ℕ) : Type 0 where
 not-both : (b : Bool) (X : Type 0) → b ≡ true → b ≡ false → X
 not-both b X t f = absurd (mathlib.Core.Bool.true≢false (sym t ∙ f))
 
-applied-low : (low : ℕ) (ts : List Row) → rising low ts ≡ true → (k : ℕ) → Applies (rules ts) k → low ≤ k
+applied-low : (low : ℕ) (ts : List Test) → rising low ts ≡ true → (k : ℕ) → Applies (rules ts) k → low ≤ k
 applied-low low [] h k a = absurd a
 applied-low low (t ∷ ts) h k a =
     let x = both (leb low (t .number)) (rising (t .number) ts) h in
@@ -47,11 +44,12 @@ applied-low low (t ∷ ts) h k a =
     (λ (b : Applies (rules ts) k). omega (arith, applied-low (t .number) ts (x .1) k b)) a
 
 -- one test more in front
-module _ (low : ℕ) (t : Row) (ts : List Row) (pos : 0 < low) (h : rising low (t ∷ ts) ≡ true) (n : ℕ) (l : Least (rules ts) n) where
+module _ (low : ℕ) (t : Test) (ts : List Test) (pos : 0 < low) (h : rising low (t ∷ ts) ≡ true)
+    (l : Least (rules ts) (heardOf ts)) where
   parts : (leb low (t .number) ≡ true) × (rising (t .number) ts ≡ true)
   parts = both (leb low (t .number)) (rising (t .number) ts) h
 
-  passed : t .passes ≡ true → Least (rules (t ∷ ts)) n
+  passed : t .passes ≡ true → Least (rules (t ∷ ts)) (heardOf ts)
   passed e = record {
     here = λ z. inr (l .here z);
     least = λ k a.
@@ -69,18 +67,19 @@ module _ (low : ℕ) (t : Row) (ts : List Row) (pos : 0 < low) (h : rising low (
             (λ (b : Applies (rules ts) k). (omega arith, applied-low (t .number) ts (parts .1) k b)) a;
       }
 
-  one-more : Least (rules (t ∷ ts)) (orElse (t .passes) (t .number) n)
+  one-more : Least (rules (t ∷ ts)) (heardOf (t ∷ ts))
   one-more =
       by-test (t .passes) _
-      (λ e. subst (Least (rules (t ∷ ts))) (sym (ap (λ (b : Bool). cond b n (t .number)) e)) (passed e))
-      (λ e. subst (Least (rules (t ∷ ts))) (sym (ap (λ (b : Bool). cond b n (t .number)) e)) (failed e))
+      (λ e. subst (Least (rules (t ∷ ts))) (sym (heard-pass t ts e)) (passed e))
+      (λ e. subst (Least (rules (t ∷ ts))) (sym (heard-fail t ts e)) (failed e))
 
-pub chain-least : (low : ℕ) (ts : List Row) → 0 < low → rising low ts ≡ true → Least (rules ts) (chain ts)
-chain-least low [] pos h = record { here = λ z. absurd (omega arith); least = λ k a. absurd a }
-chain-least low (t ∷ ts) pos h =
+pub tests-least : (low : ℕ) (ts : List Test) → 0 < low → rising low ts ≡ true → Least (rules ts) (heardOf ts)
+unfolding heardOf
+tests-least low [] pos h = record { here = λ z. absurd (omega arith); least = λ k a. absurd a }
+tests-least low (t ∷ ts) pos h =
     let x = both (leb low (t .number)) (rising (t .number) ts) h in
     let l = leb-true low (t .number) (x .0) in
-    one-more low t ts pos h (chain ts) (chain-least (t .number) ts (omega arith) (x .1))
+    one-more low t ts pos h (tests-least (t .number) ts (omega arith) (x .1))
 
 -- the lowest number that applies is the one that is given
 module _ (t : List Rule) (n : ℕ) (l : Least t n) where
@@ -101,12 +100,12 @@ module _ (t : List Rule) (n : ℕ) (l : Least t n) where
     none = (λ e m a. omega (arith, l .least m a .0), none-back);
   }
 
-pub chain-heard : (ts : List Row) → rising 1 ts ≡ true → Heard (rules ts) (chain ts)
-chain-heard ts h = least-heard (rules ts) (chain ts) (chain-least 1 ts (omega arith) h)
+pub tests-heard : (ts : List Test) → rising 1 ts ≡ true → Heard (rules ts) (heardOf ts)
+tests-heard ts h = least-heard (rules ts) (heardOf ts) (tests-least 1 ts (omega arith) h)
 
--- the same of a number that is that of the chain
-pub heard-as : (ts : List Row) (n : ℕ) → rising 1 ts ≡ true → n ≡ chain ts → Heard (rules ts) n
-heard-as ts n h e = subst (Heard (rules ts)) (sym e) (chain-heard ts h)
+-- the same of a number that is that of the tests
+pub heard-as : (ts : List Test) (n : ℕ) → rising 1 ts ≡ true → n ≡ heardOf ts → Heard (rules ts) n
+heard-as ts n h e = subst (Heard (rules ts)) (sym e) (tests-heard ts h)
 
 -- only one number is heard by a table
 pub one-heard : (t : List Rule) (a b : ℕ) → Heard t a → Heard t b → a ≡ b

@@ -4,8 +4,7 @@ use mathlib.Core.Bool.{Bool, true, false, not, cond}
 use mathlib.Core.List.{List}
 use mathlib.Core.Logic.{_↔_, _≢_}
 use Prim.Native.Nat.{ℕ, suc, _+_, _*_, _/_, _%_, _≤_, _<_, max, min}
-use native.Mathlib.Omega.{arith}
-use borrow.Author.Tests.{eq-eqb, ne-eqb, eqb-true, eqb-false, lt-ltb, ltb-true, not-true, not-false}
+use borrow.Author.Tests.{eq-eqb, ne-eqb, eqb-true, eqb-false, lt-ltb, ltb-true, not-true}
 use lib.Dec.{eqb, leb, ltb}
 use lib.ListN.{length, getD}
 use Rattle.paper.specs.Bits.{bitOf}
@@ -16,8 +15,8 @@ use Rattle.paper.proofs.Count.{some-one, some-here, in-each, each-in, among-eac
 use Rattle.slotset.specs.declared.Told.the-variants.{Yes, No}
 use Rattle.slotset.specs.Slots.{slot}
 use Rattle.slotset.specs.Answers.{toldAs}
-use Rattle.slots.specs.Lent.{slotRoomOk, slotsOk, minutesAt, demandOf, lentNo}
-use Rattle.slots.proofs.LentLaws.{slots-sound}
+use Rattle.slots.specs.Lent.{minutesAt, demandOf, lentNo}
+use Rattle.slots.proofs.LentLaws.{lent-says}
 use Rattle.units.specs.declared.Settings.{Settings}
 use Rattle.units.specs.declared.Number.the-variants as number
 use Rattle.units.specs.declared.UnitSlots.the-variants as unitSlots
@@ -37,6 +36,7 @@ use Rattle.units.proofs.Rising.{rotation-starts-right, unit-starts-right}
 use Rattle.units.proofs.Begins.{every-multiple, multiple-every, day-first}
 use Rattle.units.proofs.Sets.{unit-domains-say}
 use Rattle.units.proofs.Means.{masks-at, masks-past, frozen-any}
+use Rattle.units.proofs.Covered.{date-known}
 use Rattle.units.proofs.Longest.{longest-meets, longest-only}
 use Rattle.promises.specs.SetRules.{TheOne}
 use Rattle.promises.specs.UnitRules.{Listed, Lists, UnitsByRule}
@@ -236,14 +236,6 @@ module _ (slots : ℕ) (starts ends : List ℕ) (e : lentNo slots starts ends �
   unfolding coveredDaysIs coveredDays numberAs
   days-told = ap (λ (n : ℕ). numberAs n (count datesMost (covers slots starts))) e
 
-  date-below : (k : ℕ) → k < slots → startDate starts k < datesMost
-  unfolding lentNo dateOf
-  date-below k h =
-      let a = cond-zero (slotCountOk slots) _ 0 e in
-      let b = cond-zero (slotRoomOk slots starts ends) _ 1 (a .1) in
-      let s = slots-sound slots starts ends (cond-zero (slotsOk slots starts ends) 0 8 (b .1) .0) in
-      omega (arith, s .ordered k h, s .capped k h)
-
   per-day-told : minutesPerDayIs slots starts ends ≡ duration.Minutes (max (demandOf slots starts ends / coveredDays slots starts) 1)
   unfolding minutesPerDayIs minutesPerDay durationAs
   per-day-told = ap (λ (n : ℕ). durationAs n (max (demandOf slots starts ends / coveredDays slots starts) 1)) e
@@ -294,7 +286,7 @@ units-by-rule = record {
   not-frozen = not-frozen-if;
   covered = days-told;
   covers-date = date-covered;
-  dates = date-below;
+  dates = λ slots starts ends e. date-known slots starts ends (lent-says slots starts ends e .1);
   per-day = per-day-told;
   target-run = target-run-told;
   longest = longest-is;

@@ -8,7 +8,7 @@ use Prim.Native.Nat.{ℕ, _*_}
 use lib.Dec.{leb, ltb}
 use lib.IntN.{ℤ}
 use lib.ListN.{length, getD}
-use Rattle.paper.specs.Limits.{peopleOk, slotCountOk, slotsMost, drawsMost, setWords, countsOk}
+use Rattle.paper.specs.Limits.{Test, test, peopleOk, slotCountOk, slotsMost, drawsMost, setWords, countsOk}
 use Rattle.paper.specs.Count.{all}
 use Rattle.slots.specs.Lent.{slotRoomOk, slotsOk, demandIs, slotMinutesIs, minutesNo}
 use Rattle.slots.specs.Ranges.{Ranges, ranges, rangeCountOk, rangeRoomOk, rangesOk}
@@ -33,39 +33,39 @@ use Rattle.rota.specs.Entries as rota
 use Rattle.rota.specs.Entries.{figureNo}
 use Rattle.draws.specs.declared.Draw.{Draw}
 use Rattle.promises.specs.Entries.{Call, playOf, ofDraws, playDrawsOf}
-use Rattle.promises.specs.Table.{Rule, Row, row, rules, Hears, Refuses, toldNo, countedNo, numberNo}
+use Rattle.promises.specs.Table.{Rule, rules, Hears, Refuses, toldNo, countedNo, numberNo}
 
 -- ---- slots
 
 -- lent slots, and what comes after: 1, 2, 9
-abbrev pub lentTable : ℕ → List ℕ → List ℕ → List Row → List Row
+abbrev pub lentTable : ℕ → List ℕ → List ℕ → List Test → List Test
 lentTable slots starts ends more =
-    row 1 (slotCountOk slots) ∷ row 2 (slotRoomOk slots starts ends) ∷ row 9 (slotsOk slots starts ends) ∷ more
+    test 1 (slotCountOk slots) ∷ test 2 (slotRoomOk slots starts ends) ∷ test 9 (slotsOk slots starts ends) ∷ more
 
-abbrev pub mergedTable : ℕ → Ranges → Columns → List Row
+abbrev pub mergedTable : ℕ → Ranges → Columns → List Test
 mergedTable people R out =
-    row 1 (peopleOk people && rangeCountOk (R .count))
-    ∷ row 2 (rangeRoomOk R && rangeRoomOk (ranges (R .count) (out .persons) (out .starts) (out .ends))) ∷ row 4 (rangesOk people R) ∷ []
+    test 1 (peopleOk people && rangeCountOk (R .count))
+    ∷ test 2 (rangeRoomOk R && rangeRoomOk (ranges (R .count) (out .persons) (out .starts) (out .ends))) ∷ test 4 (rangesOk people R) ∷ []
 
-abbrev pub atomiseTable : atomic.Base → List Row
+abbrev pub atomiseTable : atomic.Base → List Test
 atomiseTable B =
-    row 1 (atomic.baseCountsOk B) ∷ row 2 (atomic.baseRoomOk B) ∷ row 3 (slotsOk (B .slots) (B .starts) (B .ends))
-    ∷ row 4 (rangesOk (B .people) (B .ranges)) ∷ row 5 (leb (length (atomic.startsOfAtoms B)) slotsMost) ∷ []
+    test 1 (atomic.baseCountsOk B) ∷ test 2 (atomic.baseRoomOk B) ∷ test 3 (slotsOk (B .slots) (B .starts) (B .ends))
+    ∷ test 4 (rangesOk (B .people) (B .ranges)) ∷ test 5 (leb (length (atomic.startsOfAtoms B)) slotsMost) ∷ []
 
-abbrev pub availabilityTable : ℕ → ℕ → List ℕ → List ℕ → Ranges → List ℕ → List Row
+abbrev pub availabilityTable : ℕ → ℕ → List ℕ → List ℕ → Ranges → List ℕ → List Test
 availabilityTable people slots starts ends R words =
-    row 1 (atomic.splitCountsOk people slots (R .count)) ∷ row 2 (availabilityRoomOk people slots starts ends R words)
-    ∷ row 4 (rangesOk people R) ∷ row 9 (slotsOk slots starts ends) ∷ []
+    test 1 (atomic.splitCountsOk people slots (R .count)) ∷ test 2 (availabilityRoomOk people slots starts ends R words)
+    ∷ test 4 (rangesOk people R) ∷ test 9 (slotsOk slots starts ends) ∷ []
 
-abbrev pub freezeTable : ℕ → List ℕ → List ℕ → List ℕ → List Row
+abbrev pub freezeTable : ℕ → List ℕ → List ℕ → List ℕ → List Test
 freezeTable slots starts ends frozen =
-    row 1 (slotCountOk slots) ∷ row 2 (slotRoomOk slots starts ends && leb setWords (length frozen))
-    ∷ row 9 (slotsOk slots starts ends) ∷ []
+    test 1 (slotCountOk slots) ∷ test 2 (slotRoomOk slots starts ends && leb setWords (length frozen))
+    ∷ test 9 (slotsOk slots starts ends) ∷ []
 
-abbrev pub availableTable : ℕ → ℕ → List ℕ → ℕ → ℕ → List Row
+abbrev pub availableTable : ℕ → ℕ → List ℕ → ℕ → ℕ → List Test
 availableTable people slots words person slot =
-    row 1 (peopleOk people && slotCountOk slots) ∷ row 2 (leb (setWords * people) (length words))
-    ∷ row 11 (ltb person people && ltb slot slots) ∷ []
+    test 1 (peopleOk people && slotCountOk slots) ∷ test 2 (leb (setWords * people) (length words))
+    ∷ test 11 (ltb person people && ltb slot slots) ∷ []
 
 abbrev pub mergedColumns : MergedOut → Columns
 mergedColumns x = columns (x .persons) (x .starts) (x .ends)
@@ -73,7 +73,7 @@ mergedColumns x = columns (x .persons) (x .starts) (x .ends)
 pub record SlotsRefuse : Type 0 where
   pub demand : (slots : ℕ) (starts ends : List ℕ) → Hears (lentTable slots starts ends []) (minutesNo (demandIs slots starts ends))
   pub slot-minutes : (slots : ℕ) (starts ends : List ℕ) (k : ℕ)
-      → Hears (lentTable slots starts ends (row 11 (ltb k slots) ∷ [])) (minutesNo (slotMinutesIs slots starts ends k))
+      → Hears (lentTable slots starts ends (test 11 (ltb k slots) ∷ [])) (minutesNo (slotMinutesIs slots starts ends k))
   pub merged-ranges : (people : ℕ) (R : Ranges) (out : Columns)
       → let x = mergedRanges people R out in Refuses (rules (mergedTable people R out)) (countedNo (x .answer)) out (mergedColumns x)
   pub atomise : (B : atomic.Base)
@@ -91,51 +91,51 @@ pub record SlotsRefuse : Type 0 where
 -- ---- units
 
 -- lent units, and what comes after: 1, 2, 9
-abbrev pub unitsTable : ℕ → ℕ → List ℕ → List Row → List Row
+abbrev pub unitsTable : ℕ → ℕ → List ℕ → List Test → List Test
 unitsTable slots units firsts more =
-    row 1 (slotCountOk slots) ∷ row 2 (leb units (length firsts)) ∷ row 9 (unitsOk slots units firsts) ∷ more
+    test 1 (slotCountOk slots) ∷ test 2 (leb units (length firsts)) ∷ test 9 (unitsOk slots units firsts) ∷ more
 
-abbrev pub startsTable : Settings → ℕ → List ℕ → List ℕ → List ℕ → List Row
+abbrev pub startsTable : Settings → ℕ → List ℕ → List ℕ → List ℕ → List Test
 startsTable s slots starts ends list =
-    row 1 (slotCountOk slots) ∷ row 2 (slotRoomOk slots starts ends) ∷ row 2 (leb slots (length list)) ∷ row 7 (settingsOk s)
-    ∷ row 9 (slotsOk slots starts ends) ∷ []
+    test 1 (slotCountOk slots) ∷ test 2 (slotRoomOk slots starts ends) ∷ test 2 (leb slots (length list)) ∷ test 7 (settingsOk s)
+    ∷ test 9 (slotsOk slots starts ends) ∷ []
 
-abbrev pub unitFrozenTable : List ℕ → ℕ → ℕ → List ℕ → ℕ → List Row
+abbrev pub unitFrozenTable : List ℕ → ℕ → ℕ → List ℕ → ℕ → List Test
 unitFrozenTable frozen slots units firsts u =
-    row 1 (slotCountOk slots) ∷ row 2 (leb units (length firsts)) ∷ row 2 (leb setWords (length frozen))
-    ∷ row 9 (unitsOk slots units firsts) ∷ row 11 (ltb u units) ∷ []
+    test 1 (slotCountOk slots) ∷ test 2 (leb units (length firsts)) ∷ test 2 (leb setWords (length frozen))
+    ∷ test 9 (unitsOk slots units firsts) ∷ test 11 (ltb u units) ∷ []
 
-abbrev pub slotDomainTable : List ℕ → ℕ → ℕ → ℕ → List ℕ → List Row
+abbrev pub slotDomainTable : List ℕ → ℕ → ℕ → ℕ → List ℕ → List Test
 slotDomainTable avail people slots k list =
-    row 1 (peopleOk people) ∷ row 1 (slotCountOk slots) ∷ row 2 (leb (setWords * people) (length avail)) ∷ row 2 (leb people (length list))
-    ∷ row 11 (ltb k slots) ∷ []
+    test 1 (peopleOk people) ∷ test 1 (slotCountOk slots) ∷ test 2 (leb (setWords * people) (length avail)) ∷ test 2 (leb people (length list))
+    ∷ test 11 (ltb k slots) ∷ []
 
-abbrev pub unitDomainTable : List ℕ → ℕ → ℕ → ℕ → List ℕ → ℕ → List ℕ → List Row
+abbrev pub unitDomainTable : List ℕ → ℕ → ℕ → ℕ → List ℕ → ℕ → List ℕ → List Test
 unitDomainTable avail people slots units firsts u list =
-    row 1 (peopleOk people) ∷ row 1 (slotCountOk slots) ∷ row 2 (leb (setWords * people) (length avail)) ∷ row 2 (leb units (length firsts))
-    ∷ row 2 (leb people (length list)) ∷ row 9 (unitsOk slots units firsts) ∷ row 11 (ltb u units) ∷ []
+    test 1 (peopleOk people) ∷ test 1 (slotCountOk slots) ∷ test 2 (leb (setWords * people) (length avail)) ∷ test 2 (leb units (length firsts))
+    ∷ test 2 (leb people (length list)) ∷ test 9 (unitsOk slots units firsts) ∷ test 11 (ltb u units) ∷ []
 
-abbrev pub unitDomainsTable : List ℕ → ℕ → ℕ → ℕ → List ℕ → List ℕ → List Row
+abbrev pub unitDomainsTable : List ℕ → ℕ → ℕ → ℕ → List ℕ → List ℕ → List Test
 unitDomainsTable avail people slots units firsts masks =
-    row 1 (peopleOk people) ∷ row 1 (slotCountOk slots) ∷ row 2 (leb (setWords * people) (length avail)) ∷ row 2 (leb units (length firsts))
-    ∷ row 2 (leb units (length masks)) ∷ row 9 (unitsOk slots units firsts) ∷ []
+    test 1 (peopleOk people) ∷ test 1 (slotCountOk slots) ∷ test 2 (leb (setWords * people) (length avail)) ∷ test 2 (leb units (length firsts))
+    ∷ test 2 (leb units (length masks)) ∷ test 9 (unitsOk slots units firsts) ∷ []
 
-abbrev pub targetRunTable : Settings → ℕ → List ℕ → List ℕ → List Row
+abbrev pub targetRunTable : Settings → ℕ → List ℕ → List ℕ → List Test
 targetRunTable s slots starts ends =
-    row 1 (slotCountOk slots) ∷ row 2 (slotRoomOk slots starts ends) ∷ row 7 (settingsOk s) ∷ row 9 (slotsOk slots starts ends) ∷ []
+    test 1 (slotCountOk slots) ∷ test 2 (slotRoomOk slots starts ends) ∷ test 7 (settingsOk s) ∷ test 9 (slotsOk slots starts ends) ∷ []
 
-abbrev pub achievableTable : Settings → List ℕ → ℕ → ℕ → ℕ → List ℕ → List ℕ → List Row
+abbrev pub achievableTable : Settings → List ℕ → ℕ → ℕ → ℕ → List ℕ → List ℕ → List Test
 achievableTable s avail people p slots starts ends =
-    row 1 (peopleOk people) ∷ row 1 (slotCountOk slots) ∷ row 2 (slotRoomOk slots starts ends)
-    ∷ row 2 (leb (setWords * people) (length avail)) ∷ row 7 (settingsOk s) ∷ row 9 (slotsOk slots starts ends) ∷ row 11 (ltb p people) ∷ []
+    test 1 (peopleOk people) ∷ test 1 (slotCountOk slots) ∷ test 2 (slotRoomOk slots starts ends)
+    ∷ test 2 (leb (setWords * people) (length avail)) ∷ test 7 (settingsOk s) ∷ test 9 (slotsOk slots starts ends) ∷ test 11 (ltb p people) ∷ []
 
 pub record UnitsRefuse : Type 0 where
   pub unit-count : (slots units : ℕ) (firsts : List ℕ)
       → Hears (unitsTable slots units firsts []) (numberNo (unitCountIs slots units firsts))
   pub unit-slots : (slots units : ℕ) (firsts : List ℕ) (u : ℕ)
-      → Hears (unitsTable slots units firsts (row 11 (ltb u units) ∷ [])) (spanNo (unitSlotsIs slots units firsts u))
+      → Hears (unitsTable slots units firsts (test 11 (ltb u units) ∷ [])) (spanNo (unitSlotsIs slots units firsts u))
   pub unit-of-slot : (slots units : ℕ) (firsts : List ℕ) (k : ℕ)
-      → Hears (unitsTable slots units firsts (row 11 (ltb k slots) ∷ [])) (numberNo (unitOfSlotIs slots units firsts k))
+      → Hears (unitsTable slots units firsts (test 11 (ltb k slots) ∷ [])) (numberNo (unitOfSlotIs slots units firsts k))
   pub rotation-starts : (s : Settings) (slots : ℕ) (starts ends list : List ℕ)
       → let x = rotationStartsIs s slots starts ends list in
       Refuses (rules (startsTable s slots starts ends list)) (numberNo (x .answer)) list (x .buffer)
@@ -165,11 +165,11 @@ pub record UnitsRefuse : Type 0 where
 -- ---- targets
 
 -- 8 is judged only where 9 doesn't apply: a target has no meaning on slots that break rule 3
-abbrev pub targetsChecks : targets.Given → ℕ → List Row
+abbrev pub targetsChecks : targets.Given → ℕ → List Test
 targetsChecks g room =
-    row 1 (countsOk (g .people) (g .slots)) ∷ row 2 (targets.roomOk g room)
-    ∷ row 6 (allFiguresOk (g .people) (g .capacities) (g .priors)) ∷ row 7 (leb (g .fairness) 1)
-    ∷ row 9 (slotsOk (g .slots) (g .starts) (g .ends)) ∷ []
+    test 1 (countsOk (g .people) (g .slots)) ∷ test 2 (targets.roomOk g room)
+    ∷ test 6 (allFiguresOk (g .people) (g .capacities) (g .priors)) ∷ test 7 (leb (g .fairness) 1)
+    ∷ test 9 (slotsOk (g .slots) (g .starts) (g .ends)) ∷ []
 
 -- an unrounded target is not finite, or of size 2^40 or more
 abbrev pub guard : targets.Given → Rule
@@ -185,43 +185,43 @@ pub record TargetsRefuse : Type 0 where
 -- ---- rota
 
 -- people and slots, and what comes after: 1, 2, 9
-abbrev pub rotaTable : Plan → List ℕ → List ℕ → Derived → List Row → List Row
+abbrev pub rotaTable : Plan → List ℕ → List ℕ → Derived → List Test → List Test
 rotaTable P avail o D more =
-    row 1 (countsOk (P .people) (P .slots)) ∷ row 2 (rota.roomOk P avail o D) ∷ row 9 (slotsOk (P .slots) (P .starts) (P .ends)) ∷ more
+    test 1 (countsOk (P .people) (P .slots)) ∷ test 2 (rota.roomOk P avail o D) ∷ test 9 (slotsOk (P .slots) (P .starts) (P .ends)) ∷ more
 
-abbrev pub fromSlotsTable : Plan → List ℕ → List ℕ → Derived → List Row
+abbrev pub fromSlotsTable : Plan → List ℕ → List ℕ → Derived → List Test
 fromSlotsTable P avail o D =
-    rotaTable P avail o D (row 11 (all (P .slots) (knownAt (P .people) o)) ∷ row 12 (all (P .slots) (availableAt avail o)) ∷ [])
+    rotaTable P avail o D (test 11 (all (P .slots) (knownAt (P .people) o)) ∷ test 12 (all (P .slots) (availableAt avail o)) ∷ [])
 
-abbrev pub assignTable : Plan → List ℕ → List ℕ → Derived → ℕ → ℕ → List Row
+abbrev pub assignTable : Plan → List ℕ → List ℕ → Derived → ℕ → ℕ → List Test
 assignTable P avail o D k w =
     rotaTable P avail o D
-    (row 10 (recounts P avail 0 [] o D) ∷ row 11 (ltb k (P .slots) && knownBy (P .people) w) ∷ row 12 (availableFor avail w k) ∷ [])
+    (test 10 (recounts P avail 0 [] o D) ∷ test 11 (ltb k (P .slots) && knownBy (P .people) w) ∷ test 12 (availableFor avail w k) ∷ [])
 
-abbrev pub recountSlotsTable : Plan → List ℕ → List ℕ → Derived → List Row
-recountSlotsTable P avail o D = rotaTable P avail o D (row 10 (recounts P avail 0 [] o D) ∷ [])
+abbrev pub recountSlotsTable : Plan → List ℕ → List ℕ → Derived → List Test
+recountSlotsTable P avail o D = rotaTable P avail o D (test 10 (recounts P avail 0 [] o D) ∷ [])
 
-abbrev pub recountTable : Plan → List ℕ → ℕ → List ℕ → List ℕ → Derived → List Row
+abbrev pub recountTable : Plan → List ℕ → ℕ → List ℕ → List ℕ → Derived → List Test
 recountTable P avail units firsts o D =
-    row 1 (countsOk (P .people) (P .slots)) ∷ row 2 (rota.roomOk P avail o D && leb units (length firsts))
-    ∷ row 9 (slotsOk (P .slots) (P .starts) (P .ends) && unitsOk (P .slots) units firsts) ∷ row 10 (recounts P avail units firsts o D) ∷ []
+    test 1 (countsOk (P .people) (P .slots)) ∷ test 2 (rota.roomOk P avail o D && leb units (length firsts))
+    ∷ test 9 (slotsOk (P .slots) (P .starts) (P .ends) && unitsOk (P .slots) units firsts) ∷ test 10 (recounts P avail units firsts o D) ∷ []
 
-abbrev pub playTable : Call → List Row
+abbrev pub playTable : Call → List Test
 playTable c =
-    row 1 (countsOk (c .plan .people) (c .plan .slots) && leb (c .count) drawsMost)
-    ∷ row 2 (rota.roomOk (c .plan) (c .avail) (c .owners) (c .derived)
+    test 1 (countsOk (c .plan .people) (c .plan .slots) && leb (c .count) drawsMost)
+    ∷ test 2 (rota.roomOk (c .plan) (c .avail) (c .owners) (c .derived)
     && rota.playRoomOk (c .units) (c .firsts) (c .frozen) (c .count) (c .kinds) (c .ones) (c .twos) (c .answers))
-    ∷ row 9 (slotsOk (c .plan .slots) (c .plan .starts) (c .plan .ends) && unitsOk (c .plan .slots) (c .units) (c .firsts))
-    ∷ row 10 (recounts (c .plan) (c .avail) (c .units) (c .firsts) (c .owners) (c .derived)) ∷ []
+    ∷ test 9 (slotsOk (c .plan .slots) (c .plan .starts) (c .plan .ends) && unitsOk (c .plan .slots) (c .units) (c .firsts))
+    ∷ test 10 (recounts (c .plan) (c .avail) (c .units) (c .firsts) (c .owners) (c .derived)) ∷ []
 
-abbrev pub emptyTable : ℕ → ℕ → List ℕ → Derived → List Row
+abbrev pub emptyTable : ℕ → ℕ → List ℕ → Derived → List Test
 emptyTable people slots o D =
-    row 1 (countsOk people slots)
-    ∷ row 2 (leb slots (length o) && (leb (setWords * people) (length (D .sets)) && leb people (length (D .minutes)))) ∷ []
+    test 1 (countsOk people slots)
+    ∷ test 2 (leb slots (length o) && (leb (setWords * people) (length (D .sets)) && leb people (length (D .minutes)))) ∷ []
 
 -- readers of owners, and what comes after: 1, 2
-abbrev pub ownersTable : ℕ → ℕ → List ℕ → List Row → List Row
-ownersTable people slots o more = row 1 (countsOk people slots) ∷ row 2 (leb slots (length o)) ∷ more
+abbrev pub ownersTable : ℕ → ℕ → List ℕ → List Test → List Test
+ownersTable people slots o more = test 1 (countsOk people slots) ∷ test 2 (leb slots (length o)) ∷ more
 
 -- owners, sets and minutes, and answers: what the rota's entries are lent to write
 abbrev pub Lent : Type 0
@@ -249,17 +249,17 @@ pub record RotaRefuses : Type 0 where
   pub empty : (people slots : ℕ) (o : List ℕ) (D : Derived)
       → let y = rota.emptied people slots o D in Refuses {A = Lent} (rules (emptyTable people slots o D)) (y .number) (o, D, []) (left y)
   pub owner-of-slot : (people slots : ℕ) (o : List ℕ) (k : ℕ)
-      → Hears (ownersTable people slots o (row 11 (ltb k slots && knownBy people (getD o k 0)) ∷ []))
+      → Hears (ownersTable people slots o (test 11 (ltb k slots && knownBy people (getD o k 0)) ∷ []))
       (figureNo (rota.ownerIs people slots o k))
   pub minutes-of : (people : ℕ) (m : List ℕ) (p : ℕ)
-      → Hears (row 1 (peopleOk people) ∷ row 2 (leb people (length m)) ∷ row 11 (ltb p people) ∷ []) (figureNo (rota.minutesIs people m p))
+      → Hears (test 1 (peopleOk people) ∷ test 2 (leb people (length m)) ∷ test 11 (ltb p people) ∷ []) (figureNo (rota.minutesIs people m p))
   pub slots-of : (people slots : ℕ) (ws : List ℕ) (p : ℕ)
-      → Hears (row 1 (countsOk people slots) ∷ row 2 (leb (setWords * people) (length ws)) ∷ row 11 (ltb p people) ∷ [])
+      → Hears (test 1 (countsOk people slots) ∷ test 2 (leb (setWords * people) (length ws)) ∷ test 11 (ltb p people) ∷ [])
       (rota.slotsOfIs people slots ws p .number)
   pub unassigned-count : (people slots : ℕ) (o : List ℕ)
-      → Hears (ownersTable people slots o (row 11 (all slots (knownAt people o)) ∷ [])) (figureNo (rota.unassignedIs people slots o))
+      → Hears (ownersTable people slots o (test 11 (all slots (knownAt people o)) ∷ [])) (figureNo (rota.unassignedIs people slots o))
   pub uncovered-minutes : (P : Plan) (o : List ℕ)
-      → Hears (row 1 (countsOk (P .people) (P .slots))
-      ∷ row 2 (slotRoomOk (P .slots) (P .starts) (P .ends) && leb (P .slots) (length o))
-      ∷ row 9 (slotsOk (P .slots) (P .starts) (P .ends)) ∷ row 11 (all (P .slots) (knownAt (P .people) o)) ∷ [])
+      → Hears (test 1 (countsOk (P .people) (P .slots))
+      ∷ test 2 (slotRoomOk (P .slots) (P .starts) (P .ends) && leb (P .slots) (length o))
+      ∷ test 9 (slotsOk (P .slots) (P .starts) (P .ends)) ∷ test 11 (all (P .slots) (knownAt (P .people) o)) ∷ [])
       (figureNo (rota.uncoveredIs P o))

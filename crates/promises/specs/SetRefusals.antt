@@ -6,7 +6,7 @@ use mathlib.Core.List.{List, [], _∷_}
 use Prim.Native.Nat.{ℕ, _*_}
 use lib.Dec.{leb, ltb}
 use lib.ListN.{length}
-use Rattle.paper.specs.Limits.{peopleOk, slotsMost, setWords}
+use Rattle.paper.specs.Limits.{Test, test, peopleOk, slotsMost, setWords}
 use Rattle.slotset.specs.declared.SlotSet.{SlotSet}
 use Rattle.slotset.specs.declared.Found.{Found}
 use Rattle.slotset.specs.declared.Found.the-variants as found
@@ -20,7 +20,7 @@ use Rattle.slotset.specs.Search.{nextWith, lastBelow}
 use Rattle.slotset.specs.Answers.{lenNo, rowNo, rowStretchNo, foundAs, toldAs, countedAs, runAs, nextRunAs, nextMemberAs}
 use Rattle.slotset.specs.Answers.{newOf, putOf, stretchOf, loadOf, storeOf, rowStretchOf}
 use Rattle.runs.specs.Listed.{allRunsOf}
-use Rattle.promises.specs.Table.{Row, row, rules, Hears, Refuses, toldNo, countedNo}
+use Rattle.promises.specs.Table.{rules, Hears, Refuses, toldNo, countedNo}
 
 -- the number of an answer, 0 where it is no refusal
 abbrev pub foundNo : Found → ℕ
@@ -45,25 +45,25 @@ nextMemberNo (nextMember.Refused n) = n
 
 -- ---- the tables
 
-abbrev pub lengthTable : ℕ → List Row → List Row
-lengthTable len more = row 1 (leb len slotsMost) ∷ more
+abbrev pub lengthTable : ℕ → List Test → List Test
+lengthTable len more = test 1 (leb len slotsMost) ∷ more
 
 -- an index to insert or remove; each index of a stretch
-abbrev pub slotTable : ℕ → ℕ → List Row
-slotTable len i = lengthTable len (row 11 (ltb i len) ∷ [])
+abbrev pub slotTable : ℕ → ℕ → List Test
+slotTable len i = lengthTable len (test 11 (ltb i len) ∷ [])
 
-abbrev pub stretchTable : ℕ → ℕ → ℕ → List Row
-stretchTable len a e = lengthTable len (row 11 (leb e a || leb e len) ∷ [])
+abbrev pub stretchTable : ℕ → ℕ → ℕ → List Test
+stretchTable len a e = lengthTable len (test 11 (leb e a || leb e len) ∷ [])
 
-abbrev pub rowTable : List ℕ → ℕ → ℕ → ℕ → List Row → List Row
+abbrev pub rowTable : List ℕ → ℕ → ℕ → ℕ → List Test → List Test
 rowTable ws people person len more =
-    row 1 (peopleOk people && leb len slotsMost) ∷ row 2 (leb (setWords * people) (length ws)) ∷ row 11 (ltb person people) ∷ more
+    test 1 (peopleOk people && leb len slotsMost) ∷ test 2 (leb (setWords * people) (length ws)) ∷ test 11 (ltb person people) ∷ more
 
 -- all runs, listed in two columns of these lengths
-abbrev pub runsTable : List ℕ → ℕ → ℕ → ℕ → ℕ → ℕ → List Row
+abbrev pub runsTable : List ℕ → ℕ → ℕ → ℕ → ℕ → ℕ → List Test
 runsTable ws people person len n m =
-    row 1 (peopleOk people && leb len slotsMost) ∷ row 2 (leb (setWords * people) (length ws) && leb len n && leb len m)
-    ∷ row 11 (ltb person people) ∷ []
+    test 1 (peopleOk people && leb len slotsMost) ∷ test 2 (leb (setWords * people) (length ws) && leb len n && leb len m)
+    ∷ test 11 (ltb person people) ∷ []
 
 pub record SetsRefuse : Type 0 where
   -- the methods that read, and `new`
@@ -79,7 +79,7 @@ pub record SetsRefuse : Type 0 where
   pub store : (s : SlotSet) (ws : List ℕ) (people person : ℕ)
       → Refuses (rules (rowTable ws people person (s .len) [])) (rowNo ws people person (s .len)) ws (storeOf s ws people person)
   pub put-stretch : (v : ℕ) (ws : List ℕ) (people person len a e : ℕ)
-      → Refuses (rules (rowTable ws people person len (row 11 (leb e a || leb e len) ∷ []))) (rowStretchNo ws people person len a e) ws
+      → Refuses (rules (rowTable ws people person len (test 11 (leb e a || leb e len) ∷ []))) (rowStretchNo ws people person len a e) ws
       (rowStretchOf v ws people person len a e)
   -- the list of a person's runs
   pub all-runs : (ws : List ℕ) (people person len : ℕ) (firsts lasts : List ℕ)

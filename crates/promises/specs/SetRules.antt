@@ -16,7 +16,7 @@ use Rattle.slotset.specs.declared.Found.the-variants.{At, Nothing}
 use Rattle.slotset.specs.declared.NextRun.{NextRun}
 use Rattle.slotset.specs.declared.NextRun.the-variants as nextRun
 use Rattle.slotset.specs.declared.NextMember.the-variants as nextMember
-use Rattle.slotset.specs.Slots.{Member, has, size, noMember, slot}
+use Rattle.slotset.specs.Slots.{Bits, Member, has, size, noMember, slot}
 use Rattle.slotset.specs.Search.{nextWith, lastBelow, nextSet, prevSet, nextUnsetAfter, prevUnsetBefore, First, Last}
 use Rattle.slotset.specs.Runs.{RunAround, Ends, allRuns, AreRuns, InRuns}
 use Rattle.slotset.specs.Answers.{lenNo, slotNo, stretchNo, rowNo, rowStretchNo, slotsOf, rowSlots, foundAs, toldAs, runAs, countedAs}
@@ -27,10 +27,6 @@ use Rattle.runs.specs.Listed.{listNo, allRunsOf}
 pub record TheOne {A : Type 0} (Meets : A → Type 0) (x : A) : Type 0 where
   pub meets : Meets x
   pub only : (y : A) → Meets y → y ≡ x
-
--- a slot is 0 or 1
-abbrev pub Bits : (ℕ → ℕ) → Type 0
-Bits f = (k : ℕ) → f k < 2
 
 -- the run that holds i, as it is answered
 pub record RunIs (f : ℕ → ℕ) (len i first last : ℕ) : Type 0 where

@@ -1,9 +1,10 @@
 -- The table of what a caller hears, as one entry judges it; and the number that an answer has. Assumes nothing.
 use mathlib.Core.Path.{_≡_}
-use mathlib.Core.Bool.{Bool, false}
+use mathlib.Core.Bool.{false}
 use mathlib.Core.List.{List, [], _∷_}
 use mathlib.Core.Logic.{_⊎_, _↔_}
 use Prim.Native.Nat.{ℕ, _<_}
+use Rattle.paper.specs.Limits.{Test}
 use Rattle.slotset.specs.declared.Told.{Told}
 use Rattle.slotset.specs.declared.Told.the-variants as told
 use Rattle.slotset.specs.declared.Counted.{Counted}
@@ -28,20 +29,13 @@ pub record Heard (t : List Rule) (n : ℕ) : Type 0 where
   pub given : (m : ℕ) → 0 < m → (n ≡ m) ↔ (Applies t m × ((k : ℕ) → k < m → Applies t k → ⊥))
   pub none : (n ≡ 0) ↔ ((m : ℕ) → Applies t m → ⊥)
 
--- a rule that a test decides: its number is due where the test does not pass
-pub record Row : Type 0 where
-  pub number : ℕ
-  pub passes : Bool
-
-abbrev pub row : ℕ → Bool → Row
-row n ok = record { number = n; passes = ok }
-
-abbrev pub rules : List Row → List Rule
+-- the rules that tests decide: a test's number is due where it does not pass
+abbrev pub rules : List Test → List Rule
 rules [] = []
 rules (r ∷ t) = record { number = r .number; Says = r .passes ≡ false } ∷ rules t
 
 -- an entry that reads alone: by the table
-abbrev pub Hears : List Row → ℕ → Type 0
+abbrev pub Hears : List Test → ℕ → Type 0
 Hears t n = Heard (rules t) n
 
 -- an entry that is lent something to write: by the table, and refused it is as it was

@@ -150,7 +150,7 @@ pub nobody-at : (n k : ℕ) → k < n → getD (nobodies n) k 0 ≡ nobody
 unfolding nobodies
 nobody-at n k h = getD-replicate n k nobody 0 h
 
-none-worked : (P : Plan) (o : List ℕ) (p : ℕ) → (p ≡ nobody → ⊥) → ((k : ℕ) → k < P .slots → getD o k 0 ≡ nobody) → worked P o p ≡ 0
+pub none-worked : (P : Plan) (o : List ℕ) (p : ℕ) → (p ≡ nobody → ⊥) → ((k : ℕ) → k < P .slots → getD o k 0 ≡ nobody) → worked P o p ≡ 0
 unfolding worked
 none-worked P o p n h =
     sum-same (P .slots) _ (λ _. 0) (λ k l. ap (λ (w : ℕ). portion w p (lengthAt P k)) (h k l) ∙ portion-other nobody p _ (λ q. n (sym q)))

@@ -17,11 +17,12 @@ use Rattle.slotset.specs.declared.Found.the-variants as found
 use Rattle.slotset.specs.declared.Cursor.{Cursor}
 use Rattle.slotset.specs.declared.NextRun.{NextRun}
 use Rattle.slotset.specs.declared.NextRun.the-variants.{Span, Done, Refused}
+use Rattle.slotset.specs.Slots.{Bits}
 use Rattle.slotset.specs.Search.{First, nextSet}
 use Rattle.slotset.specs.Runs.{Ends, whenFound, lastOfRun, runs, allRuns}
 use Rattle.slotset.specs.Answers.{rowNo, runStep, nextRunAs}
 use Rattle.slotset.proofs.Meaning.{next-is}
-use Rattle.slotset.proofs.Runs.{Bits, run-around}
+use Rattle.slotset.proofs.Runs.{run-around}
 use Rattle.runs.specs.Listed.{listNo, column}
 
 -- where nothing is refused, the row may be read and both columns have room

@@ -11,7 +11,7 @@ use Rattle.paper.proofs.Count.{each-all, all-fails}
 use Rattle.paper.proofs.Logic.{lt-or-ge, zero-of}
 use Rattle.slotset.specs.declared.Found.{Found}
 use Rattle.slotset.specs.declared.Found.the-variants.{At, Nothing, Refused}
-use Rattle.slotset.specs.Slots.{noMember}
+use Rattle.slotset.specs.Slots.{Bits, noMember}
 use Rattle.slotset.specs.Search.{up, nextWith, down, lastBelow, First, Last, Below}
 use Rattle.slotset.proofs.Scans.{next-end, next-hit, next-skip, down-hit, down-skip}
 
@@ -133,7 +133,7 @@ last-same v f g len end same = last-unique v g len end (lastBelow v f len end) (
 
 -- ---- no member
 
-pub none-found : (f : ℕ → ℕ) (len : ℕ) → ((k : ℕ) → f k < 2) → First 1 f len 0 Nothing → true ≡ noMember f len
+pub none-found : (f : ℕ → ℕ) (len : ℕ) → Bits f → First 1 f len 0 Nothing → true ≡ noMember f len
 unfolding noMember
 none-found f len bits w =
     sym (each-all len (λ k. eqb (f k) 0) (λ k h. eq-eqb (f k) 0 (zero-of (f k) (bits k) (w k (omega arith) h))))

@@ -11,13 +11,13 @@ use lib.ListN.{length, length-append}
 use Rattle.paper.specs.Count.{sum, among}
 use Rattle.paper.proofs.Count.{sum-same, all-same}
 use Rattle.paper.proofs.Logic.{by-test, lt-or-ge, zero-of}
-use Rattle.slotset.specs.Slots.{slot, size, has, noMember, putSlot, putSlots, stretched}
+use Rattle.slotset.specs.Slots.{Bits, slot, size, has, noMember, putSlot, putSlots, stretched}
 use Rattle.slotset.specs.Runs.{allRuns}
 use Rattle.slotset.proofs.Puts.{slot-put, slot-puts-here}
 use Rattle.slotset.proofs.Runs.{runs-same}
 
 -- the size is the number of members
-pub size-members : (f : ℕ → ℕ) (len : ℕ) → ((k : ℕ) → f k < 2) → size f len ≡ length (among (λ k. eqb (f k) 1) len)
+pub size-members : (f : ℕ → ℕ) (len : ℕ) → Bits f → size f len ≡ length (among (λ k. eqb (f k) 1) len)
 unfolding size sum among
 size-members f zero bits = refl
 size-members f (suc n) bits =

@@ -16,7 +16,7 @@ use lib.Seq.{getD-set-same, getD-set-other, set-set, set-getD, ext-getD}
 use Rattle.paper.specs.Bits.{bitOf}
 use Rattle.paper.proofs.Bits.{bit-lt, bit-zero, bit-suc, shift-suc, bit-ext}
 use Rattle.paper.proofs.Logic.{lt-or-ge}
-use Rattle.slotset.specs.Slots.{slot, withBit, putSlot, putSlots, valueOf}
+use Rattle.slotset.specs.Slots.{Bits, slot, withBit, putSlot, putSlots, valueOf}
 use Rattle.slotset.specs.Words.{Merged}
 
 -- ---- one bit of a word
@@ -71,7 +71,7 @@ unfoldable withBits : (ℕ → ℕ) → ℕ → ℕ → ℕ → ℕ
 withBits h w s zero = w
 withBits h w s (suc n) = withBit (h (s + n)) (withBits h w s n) (s + n)
 
-bits-lt : (h : ℕ → ℕ) (w s n : ℕ) → ((k : ℕ) → h k < 2) → w < 2 ^ 64 → s + n ≤ 64 → withBits h w s n < 2 ^ 64
+bits-lt : (h : ℕ → ℕ) (w s n : ℕ) → Bits h → w < 2 ^ 64 → s + n ≤ 64 → withBits h w s n < 2 ^ 64
 unfolding withBits
 bits-lt h w s zero hv hw g = hw
 bits-lt h w s (suc n) hv hw g = with-lt (h (s + n)) _ (s + n) (hv (s + n)) (bits-lt h w s n hv hw (omega arith)) (omega arith)
@@ -87,7 +87,7 @@ inside-more s n k ne =
 inside-last : (s n : ℕ) → leb s (s + n) && ltb (s + n) (s + suc n) ≡ true
 inside-last s n = simp (le-leb s (s + n) (omega arith), lt-ltb (s + n) (s + suc n) (omega arith))
 
-bits-bit : (h : ℕ → ℕ) (w s n k : ℕ) → ((k : ℕ) → h k < 2)
+bits-bit : (h : ℕ → ℕ) (w s n k : ℕ) → Bits h
     → bitOf (withBits h w s n) k ≡ cond (leb s k && ltb k (s + n)) (h k) (bitOf w k)
 unfolding withBits
 bits-bit h w s zero k hv =
@@ -103,7 +103,7 @@ bits-bit h w s (suc n) k hv = elim (ℕ-discrete k (s + n)) [
       ∙ rw (ne-eqb k (s + n) m) (bits-bit h w s n k hv ∙ ap (λ (b : Bool). cond b (h k) (bitOf w k)) (inside-more s n k m))
 ]
 
-merged-bits : (h : ℕ → ℕ) (w x s e r : ℕ) → ((k : ℕ) → h k < 2) → w < 2 ^ 64 → r < 2 ^ 64 → s ≤ e → e ≤ 64
+merged-bits : (h : ℕ → ℕ) (w x s e r : ℕ) → Bits h → w < 2 ^ 64 → r < 2 ^ 64 → s ≤ e → e ≤ 64
     → ((k : ℕ) → s ≤ k → k < e → h k ≡ bitOf x k) → Merged w x s e r → r ≡ withBits h w s (e - s)
 merged-bits h w x s e r hv hw hr g l same m =
     let q : s + (e - s) ≡ e = omega arith in
@@ -134,7 +134,7 @@ module _ (g : ℕ → ℕ) (b j s : ℕ) (ws : List ℕ) (room : b + j < length 
       ∙ ap₂ (λ (y z : ℕ). set ws (b + j) (withBit (g z) y (s + n))) (getD-set-same ws (b + j) x 0 room) v)
 
   -- a merged word is its slots written
-  pub word-put : (x e r : ℕ) → ((k : ℕ) → g k < 2) → getD ws (b + j) 0 < 2 ^ 64 → r < 2 ^ 64 → s ≤ e → e ≤ 64
+  pub word-put : (x e r : ℕ) → Bits g → getD ws (b + j) 0 < 2 ^ 64 → r < 2 ^ 64 → s ≤ e → e ≤ 64
       → ((k : ℕ) → s ≤ k → k < e → g (j * 64 + k) ≡ bitOf x k) → Merged (getD ws (b + j) 0) x s e r
       → set ws (b + j) r ≡ putSlots g b (j * 64 + s) (e - s) ws
   word-put x e r hv hw hr h l same m =
@@ -181,7 +181,7 @@ puts-same g h b from (suc n) ws f =
 
 -- one turn of a loop that writes word by word
 pub turn-puts : (g : ℕ → ℕ) (b from j at e r x : ℕ) (ws₀ ws : List ℕ) → from ≤ at → at / 64 ≡ j → at % 64 ≤ e → e ≤ 64 → b + j < length ws
-    → ((k : ℕ) → g k < 2) → getD ws (b + j) 0 < 2 ^ 64 → r < 2 ^ 64
+    → Bits g → getD ws (b + j) 0 < 2 ^ 64 → r < 2 ^ 64
     → ((k : ℕ) → at % 64 ≤ k → k < e → g (j * 64 + k) ≡ bitOf x k) → Merged (getD ws (b + j) 0) x (at % 64) e r
     → ws ≡ putSlots g b from (at - from) ws₀ → set ws (b + j) r ≡ putSlots g b from (j * 64 + e - from) ws₀
 turn-puts g b from j at e r x ws₀ ws h q l t room hv hw hr same m i =

@@ -11,7 +11,7 @@ use lib.Dec.{ltb, eqb}
 use Rattle.paper.proofs.Logic.{lt-or-ge, both, zero-of, one-of}
 use Rattle.slotset.specs.declared.Found.{Found}
 use Rattle.slotset.specs.declared.Found.the-variants.{At, Nothing, Refused}
-use Rattle.slotset.specs.Slots.{Member, has}
+use Rattle.slotset.specs.Slots.{Bits, Member, has}
 use Rattle.slotset.specs.Search.{First, Last, Above, nextSet, nextUnsetAfter, prevUnsetBefore, nextWith}
 use Rattle.slotset.specs.Runs.{startOf, endOf, firstOfRun, lastOfRun, RunAround, Ends, whenFound, runs, AreRuns, InRuns}
 use Rattle.slotset.proofs.Meaning.{next-is, last-is, next-same, last-same}
@@ -46,10 +46,6 @@ pub next-after : (v : ℕ) (f : ℕ → ℕ) (len i : ℕ) → nextWith v f len 
 next-after v f len i = ap (nextWith v f len) (add-one i)
 
 -- ---- the run around a member
-
--- a slot is 0 or 1
-abbrev pub Bits : (ℕ → ℕ) → Type 0
-Bits f = (k : ℕ) → f k < 2
 
 module _ (f : ℕ → ℕ) (bits : Bits f) (len i : ℕ) (m : Member f len i) where
   left-side : (p : Found) → Last 0 f len i p

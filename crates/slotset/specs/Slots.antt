@@ -32,6 +32,10 @@ valueOf false = 0
 
 -- ---- a set is its slots, as a function f from an index to 0 or 1, and a length
 
+-- a slot is 0 or 1
+abbrev pub Bits : (ℕ → ℕ) → Type 0
+Bits f = (k : ℕ) → f k < 2
+
 -- i is in the set
 abbrev pub Member : (ℕ → ℕ) → ℕ → ℕ → Type 0
 Member f len i = (i < len) × (f i ≡ 1)

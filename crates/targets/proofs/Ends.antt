@@ -1,6 +1,6 @@
 -- The bound of people + 1 passes never cuts them short: a pass that asks for another pins somebody. Assumes nothing.
 use mathlib.Core.Path.{_≡_, refl, sym, ap, _∙_}
-use mathlib.Core.Bool.{true, false, not, _&&_, cond, true≢false}
+use mathlib.Core.Bool.{true, not, _&&_, cond, true≢false}
 use mathlib.Core.List.{List, [], _∷_, map}
 use Prim.Native.Nat.{ℕ, zero, suc, _+_, _≤_, _<_, zero-le}
 use native.Mathlib.Nat.{le-refl}

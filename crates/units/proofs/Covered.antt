@@ -69,7 +69,7 @@ module _ (slots : ℕ) (starts ends : List ℕ) (ok : slotsOk slots starts ends 
       let s = slots-sound slots starts ends ok in
       omega (arith, s .ordered k (omega arith), s .ascending k j h l)
 
-  date-known : (k : ℕ) → k < slots → startDate starts k < datesMost
+  pub date-known : (k : ℕ) → k < slots → startDate starts k < datesMost
   unfolding dateOf
   date-known k h =
       let s = slots-sound slots starts ends ok in

@@ -26,7 +26,7 @@ use denote.RattleType.{owns, flat, mirs}
 use denote.Index.{place-is, elem-out, elem-back, looks-slice, shuts-slice}
 use denote.Signature.{typesAt}
 use denote.Slice.{Room}
-use denote.Steps.{nothing, owned}
+use denote.Steps.{owned}
 use denote.Struct.Laws as LL
 use denote.Triple.Entry.{Args, Vals, onEntry}
 use denote.Triple.Spec.{Meets, tripleOf}

@@ -10,7 +10,7 @@ use lib.Dec.{eqb}
 use lib.ListN.{getD}
 use Rattle.paper.specs.Count.{allIn}
 use Rattle.paper.proofs.Count.{in-none, in-more, in-fails, in-each, each-in}
-use Rattle.rota.proofs.Scans.{even-fails, even-holds}
+use Rattle.rota.proofs.Scans.{even-as}
 use Rattle.job.proofs.owners.unit_even.Statement.{statement}
 use Rattle.job.proofs.owners.unit_even.Tie as tie
 
@@ -51,15 +51,15 @@ returns c =
     let c3 = c .before .before .before in
     let c4 = c3 .before in
     let c5 = c4 .before in
-    even-fails _ _ _ _ _ _ _ _ (c5 .before .start-of .ensures) (c5 .unit-end .ensures) (c4 .entry16 .ensures)
-    (in-fails _ _ _ _ (c3 .loop .inv .1) (c .before .before .loop-test .taken)
-    (ne-eqb _ _ (λ x. c .if1 .left (c .before .entry162 .ensures ∙ x))))
+    in-fails _ _ _ _ (c3 .loop .inv .1) (c .before .before .loop-test .taken)
+    (ne-eqb _ _ (λ x. c .if1 .left (c .before .entry162 .ensures ∙ x)))
+    ∙ even-as _ _ _ _ _ _ _ _ (c5 .before .start-of .ensures) (c5 .unit-end .ensures) (c4 .entry16 .ensures)
 
 returns-2 : tie.Need-returns-2 Inv-loop μ-loop
 returns-2 c =
     let c3 = c .before .before .before in
-    even-holds _ _ _ _ _ _ _ _ (c3 .before .start-of .ensures) (c3 .unit-end .ensures) (c .before .before .entry16 .ensures)
-    (sym (each-in _ _ _ (λ j a b. in-each _ _ _ (c .before .loop .inv .0) j a (omega arith))))
+    sym (sym (even-as _ _ _ _ _ _ _ _ (c3 .before .start-of .ensures) (c3 .unit-end .ensures) (c .before .before .entry16 .ensures))
+    ∙ each-in _ _ _ (λ j a b. in-each _ _ _ (c .before .loop .inv .0) j a (omega arith)))
 
 pub unit-even-spec : {M : Type 1} → statement M
 unit-even-spec =
