@@ -180,17 +180,17 @@ uint64_t boltraven_covered_days(size_t slots, const uint32_t *starts, size_t sta
 
 /* Minutes a covered day. */
 uint8_t boltraven_minutes_per_day(size_t slots, const uint32_t *starts, size_t starts_len, const uint32_t *ends, size_t ends_len,
-                                  uint64_t *minutes);
+                                  uint64_t *out);
 
 /* How long a run is to be. */
 uint8_t boltraven_target_run(uint8_t fairness, uint8_t lock, uint8_t boundary, uint16_t value, uint16_t days, size_t slots,
-                             const uint32_t *starts, size_t starts_len, const uint32_t *ends, size_t ends_len, uint64_t *minutes);
+                             const uint32_t *starts, size_t starts_len, const uint32_t *ends, size_t ends_len, uint64_t *out);
 
 /* The longest run that a person can have, up to the target run. */
 uint8_t boltraven_achievable_run(uint8_t fairness, uint8_t lock, uint8_t boundary, uint16_t value, uint16_t days,
                                  const uint64_t *avail, size_t avail_len, size_t people, size_t person, size_t slots,
                                  const uint32_t *starts, size_t starts_len, const uint32_t *ends, size_t ends_len,
-                                 uint64_t *minutes);
+                                 uint64_t *out);
 
 /* ---- Targets. */
 
@@ -219,13 +219,13 @@ uint8_t boltraven_assign(size_t people, size_t slots, const uint32_t *starts, si
                          size_t slot, uint8_t owner);
 
 /* The owner of a slot, 255 for nobody. */
-uint8_t boltraven_owner_of_slot(size_t people, size_t slots, const uint8_t *owners, size_t owners_len, size_t slot, uint64_t *out);
+uint64_t boltraven_owner_of_slot(size_t people, size_t slots, const uint8_t *owners, size_t owners_len, size_t slot);
 
 /* A person's minutes. */
 uint8_t boltraven_minutes_of(size_t people, const uint64_t *minutes, size_t minutes_len, size_t person, uint64_t *out);
 
 /* How many slots nobody owns. */
-uint8_t boltraven_unassigned_count(size_t people, size_t slots, const uint8_t *owners, size_t owners_len, uint64_t *out);
+uint64_t boltraven_unassigned_count(size_t people, size_t slots, const uint8_t *owners, size_t owners_len);
 
 /* The minutes of the slots that nobody owns. */
 uint8_t boltraven_uncovered_minutes(size_t people, size_t slots, const uint32_t *starts, size_t starts_len,

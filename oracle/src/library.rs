@@ -96,9 +96,9 @@ exports! {
     done empty(number, number, slice, slice, slice);
     done recount(number, number, number, slice, slice, slice, slice, slice, slice, slice);
     done recount_slots(number, number, slice, slice, slice, slice, slice, slice);
-    done owner_of_slot(number, number, slice, number, out);
+    counted owner_of_slot(number, number, slice, number);
     done minutes_of(number, slice, number, out);
-    done unassigned_count(number, number, slice, out);
+    counted unassigned_count(number, number, slice);
     done uncovered_minutes(number, number, slice, slice, slice, out);
     done run_job(slice, slice, out);
 }

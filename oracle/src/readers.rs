@@ -24,6 +24,11 @@ fn beside(function: &'static str, args: Vec<Arg>, seed: &mut Seed, due: Option<V
     Question::beside(function, args, &was, result, due)
 }
 
+/// A question whose answer is the number itself; or none, where something is unknown.
+fn plain(function: &'static str, args: Vec<Arg>, due: Option<u64>) -> Question {
+    Question::number(function, args, due.unwrap_or(NOTHING + UNKNOWN))
+}
+
 /// The owner of a slot, a person's minutes, who can cover a slot, a slot's unit, a unit's slots, minutes of one and of all slots, and the
 /// slots and minutes that nobody owns.
 pub fn questions(seed: &mut Seed, case: &RotaCase, lent: &LentRota) -> Vec<Question> {
@@ -34,14 +39,14 @@ pub fn questions(seed: &mut Seed, case: &RotaCase, lent: &LentRota) -> Vec<Quest
     let person = index(seed, people);
     let unit = index(seed, units);
 
-    let owner = (slot < slots).then(|| vec![assignment.get(slot).map_or(u64::from(NOBODY), |person| person as u64)]);
+    let owner = (slot < slots).then(|| assignment.get(slot).map_or(u64::from(NOBODY), |person| person as u64));
     let owner_args = vec![
         Arg::Number(people as u64),
         Arg::Number(slots as u64),
         Arg::Lent(1, lent.owners.clone()),
         Arg::Number(slot as u64),
     ];
-    let unassigned = Some(vec![assignment.unassigned_count() as u64]);
+    let unassigned = Some(assignment.unassigned_count() as u64);
     let unassigned_args = owner_args[..3].to_vec();
     let uncovered = Some(vec![played(problem, &assignment, vec![]).uncovered]);
     let uncovered_args = [lent.ground(), vec![Arg::Lent(1, lent.owners.clone())]].concat();
@@ -62,18 +67,14 @@ pub fn questions(seed: &mut Seed, case: &RotaCase, lent: &LentRota) -> Vec<Quest
     let slots_args = lent.ground()[1..].to_vec();
     let one = |args: &[Arg], k: usize| [args, &[Arg::Number(k as u64)]].concat();
     vec![
-        beside("boltraven_owner_of_slot", owner_args, seed, owner, 1),
+        plain("boltraven_owner_of_slot", owner_args, owner),
         beside("boltraven_minutes_of", minutes_args, seed, minutes, 1),
         beside("boltraven_unit_slots", one(&units_args, unit), seed, span, 2),
         beside("boltraven_slot_minutes", one(&slots_args, slot), seed, length, 1),
         beside("boltraven_demand", slots_args, seed, Some(vec![problem.total_demand() as u64]), 1),
-        beside("boltraven_unassigned_count", unassigned_args, seed, unassigned, 1),
+        plain("boltraven_unassigned_count", unassigned_args, unassigned),
         beside("boltraven_uncovered_minutes", uncovered_args, seed, uncovered, 1),
-        Question::number(
-            "boltraven_unit_of_slot",
-            one(&units_args, slot),
-            problem.unit_of_slot.get(slot).map_or(NOTHING + UNKNOWN, |&unit| unit as u64),
-        ),
+        plain("boltraven_unit_of_slot", one(&units_args, slot), problem.unit_of_slot.get(slot).map(|&unit| unit as u64)),
         slot_domain(seed, case, lent, slot),
     ]
 }

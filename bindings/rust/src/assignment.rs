@@ -123,8 +123,8 @@ impl Assignment {
 
     /// Who owns a slot. Refusal 11.
     pub fn get(&self, slot: usize) -> Result<Option<usize>, Refusal> {
-        let owner = written(|out| lent::owner_of_slot(self.minutes.len(), self.owners.len(), &self.owners, slot, out))?;
-        Ok((owner != u64::from(NOBODY)).then_some(owner as usize))
+        let owner = lent::owner_of_slot(self.minutes.len(), self.owners.len(), &self.owners, slot)?;
+        Ok((owner != usize::from(NOBODY)).then_some(owner))
     }
 
     /// The owner of each slot.
@@ -205,8 +205,7 @@ impl Assignment {
 
     /// How many slots nobody owns.
     pub fn unassigned_count(&self) -> usize {
-        let (people, slots) = (self.minutes.len(), self.owners.len());
-        checked(written(|out| lent::unassigned_count(people, slots, &self.owners, out))) as usize
+        checked(lent::unassigned_count(self.minutes.len(), self.owners.len(), &self.owners))
     }
 
     /// The minutes of the slots that nobody owns. Refusals 2, 11, where the problem is another one.

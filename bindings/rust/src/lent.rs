@@ -233,17 +233,17 @@ exports! {
     pub fn slot_minutes(slots: usize, starts: &[u32], ends: &[u32], slot: usize, out: &mut u64) -> Result<(), Refusal> = done(u8);
 
     /// Minutes a day. Refusals: 1, 2, 9.
-    pub fn minutes_per_day(slots: usize, starts: &[u32], ends: &[u32], minutes: &mut u64) -> Result<(), Refusal> = done(u8);
+    pub fn minutes_per_day(slots: usize, starts: &[u32], ends: &[u32], out: &mut u64) -> Result<(), Refusal> = done(u8);
 
     /// The target run, in minutes. Refusals: 1, 2, 7, 9.
     pub fn target_run(
-        fairness: u8, lock: u8, boundary: u8, value: u16, days: u16, slots: usize, starts: &[u32], ends: &[u32], minutes: &mut u64
+        fairness: u8, lock: u8, boundary: u8, value: u16, days: u16, slots: usize, starts: &[u32], ends: &[u32], out: &mut u64
     ) -> Result<(), Refusal> = done(u8);
 
     /// A person's achievable run, in minutes. Refusals: 1, 2, 7, 9, 11.
     pub fn achievable_run(
         fairness: u8, lock: u8, boundary: u8, value: u16, days: u16, avail: &[u64], people: usize, person: usize, slots: usize,
-        starts: &[u32], ends: &[u32], minutes: &mut u64
+        starts: &[u32], ends: &[u32], out: &mut u64
     ) -> Result<(), Refusal> = done(u8);
 
     // ---- who can cover a unit, and whether it is frozen
@@ -321,13 +321,13 @@ exports! {
     ) -> Result<(), Refusal> = done(u8);
 
     /// The owner of a slot: a person's number, or 255 for nobody. Refusals: 1, 2, 11.
-    pub fn owner_of_slot(people: usize, slots: usize, owners: &[u8], slot: usize, out: &mut u64) -> Result<(), Refusal> = done(u8);
+    pub fn owner_of_slot(people: usize, slots: usize, owners: &[u8], slot: usize) -> Result<usize, Refusal> = counted(u64);
 
     /// A person's minutes. Refusals: 1, 2, 11.
     pub fn minutes_of(people: usize, minutes: &[u64], person: usize, out: &mut u64) -> Result<(), Refusal> = done(u8);
 
     /// The slots that nobody owns. Refusals: 1, 2, 11.
-    pub fn unassigned_count(people: usize, slots: usize, owners: &[u8], out: &mut u64) -> Result<(), Refusal> = done(u8);
+    pub fn unassigned_count(people: usize, slots: usize, owners: &[u8]) -> Result<usize, Refusal> = counted(u64);
 
     /// The minutes of the slots that nobody owns. Refusals: 1, 2, 9, 11.
     pub fn uncovered_minutes(

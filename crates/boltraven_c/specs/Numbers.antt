@@ -4,8 +4,10 @@ use Rattle.slotset.specs.declared.Found.{Found}
 use Rattle.slotset.specs.declared.Found.the-variants as found
 use Rattle.slotset.specs.declared.Told.{Told}
 use Rattle.slotset.specs.declared.Told.the-variants as told
-use Rattle.slotset.specs.declared.Counted.{Counted}
-use Rattle.slotset.specs.declared.Counted.the-variants as counted
+use Rattle.slotset.specs.declared.Number.{Number}
+use Rattle.slotset.specs.declared.Number.the-variants as number
+use Rattle.slots.specs.declared.Minutes.{Minutes}
+use Rattle.slots.specs.declared.Minutes.the-variants as minutes
 use Rattle.slotset.specs.declared.Run.{Run}
 use Rattle.slotset.specs.declared.Run.the-variants as run
 use Rattle.slotset.specs.declared.NextRun.{NextRun}
@@ -25,10 +27,15 @@ toldNumber told.Yes = 1
 toldNumber told.No = 0
 toldNumber (told.Refused n) = 65536 + n
 
--- a count: itself
-abbrev pub countedNumber : Counted → ℕ
-countedNumber (counted.Is k) = k
-countedNumber (counted.Refused n) = 65536 + n
+-- a count or an index: itself
+abbrev pub plainNumber : Number → ℕ
+plainNumber (number.Is k) = k
+plainNumber (number.Refused n) = 65536 + n
+
+-- minutes may be larger: they are written beside the number of the refusal (`minutesNo`); refused, what was lent for them stays
+abbrev pub minutesAre : ℕ → Minutes → ℕ
+minutesAre was (minutes.Are m) = m
+minutesAre was (minutes.Refused n) = was
 
 -- a run: 0, its ends beside it; otherwise those stay as they were lent
 abbrev pub runNumber : Run → ℕ

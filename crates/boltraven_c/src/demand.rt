@@ -1,21 +1,8 @@
 // The minutes of lent slots, written through an address, beside the number of the refusal, or 0.
-use slots::Minutes;
+use crate::answers::put_minutes;
 ghost use mathlib.Core.Path.{_≡_};
 ghost use Rattle.slots.specs.Lent.{demandIs, slotMinutesIs, minutesNo};
-ghost use Rattle.boltraven_c.specs.Demand.{minutesAre};
-
-fn put_minutes(minutes: Minutes, out: &mut u64) -> u8
-    ensures { λ r. ⌜ r ≡ minutesNo minutes ⌝ }
-    ensures { λ _. ⌜ now (out .exit) ≡ minutesAre (now (out .entry)) minutes ⌝ }
-{
-    match minutes {
-        Minutes::Are(m) => {
-            *out = m as u64;
-            0
-        }
-        Minutes::Refused(n) => n,
-    }
-}
+ghost use Rattle.boltraven_c.specs.Numbers.{minutesAre};
 
 // The minutes of all slots.
 #[no_mangle]

@@ -1,9 +1,9 @@
 // Freezing, and the single question of availability.
-use crate::sets::counted_number;
-use crate::sets::told_number;
+use crate::answers::plain_number;
+use crate::answers::told_number;
 ghost use mathlib.Core.Path.{_≡_};
 ghost use Rattle.slots.specs.Freeze.{freezeOf, isAvailable};
-ghost use Rattle.boltraven_c.specs.Numbers.{countedNumber, toldNumber};
+ghost use Rattle.boltraven_c.specs.Numbers.{plainNumber, toldNumber};
 
 // Marks each slot that ends by the instant; how many do.
 #[no_mangle]
@@ -14,12 +14,12 @@ pub extern "C" fn boltraven_freeze_before(
     frozen: &mut [u64],
     instant: u32,
 ) -> u64
-    ensures { λ r. ⌜ r ≡ countedNumber
+    ensures { λ r. ⌜ r ≡ plainNumber
         (freezeOf slots (now (starts .entry)) (now (ends .entry)) (now (frozen .entry)) instant .answer) ⌝ }
     ensures { λ _. ⌜ now (frozen .exit)
         ≡ freezeOf slots (now (starts .entry)) (now (ends .entry)) (now (frozen .entry)) instant .flags ⌝ }
 {
-    counted_number(slots::freeze_before(slots, starts, ends, frozen, instant))
+    plain_number(slots::freeze_before(slots, starts, ends, frozen, instant))
 }
 
 // Whether a person is available for a slot: 1 or 0.

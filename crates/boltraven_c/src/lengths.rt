@@ -1,31 +1,20 @@
 // Days, and how long runs are to be. Minutes are written through an address, beside the number of the refusal, or 0.
-use crate::rotations::count_number;
-use units::Duration;
+use crate::answers::plain_number;
+use crate::answers::put_minutes;
 use units::Settings;
 ghost use mathlib.Core.Path.{_≡_};
-ghost use Rattle.units.specs.Days.{durationNo, coveredDaysIs, minutesPerDayIs, targetRunIs};
+ghost use Rattle.slots.specs.Lent.{minutesNo};
+ghost use Rattle.units.specs.Days.{coveredDaysIs, minutesPerDayIs, targetRunIs};
 ghost use Rattle.units.specs.Achievable.{achievableRunIs};
-ghost use Rattle.boltraven_c.specs.Units.{countNumber, settingsOf, durationMinutes};
-
-fn put_minutes(duration: Duration, minutes: &mut u64) -> u8
-    ensures { λ r. ⌜ r ≡ durationNo duration ⌝ }
-    ensures { λ _. ⌜ now (minutes .exit) ≡ durationMinutes (now (minutes .entry)) duration ⌝ }
-{
-    match duration {
-        Duration::Minutes(m) => {
-            *minutes = m;
-            0
-        }
-        Duration::Refused(n) => n,
-    }
-}
+ghost use Rattle.boltraven_c.specs.Numbers.{plainNumber, minutesAre};
+ghost use Rattle.boltraven_c.specs.Units.{settingsOf};
 
 // The distinct start dates of the slots.
 #[no_mangle]
 pub extern "C" fn boltraven_covered_days(slots: usize, starts: &[u32], ends: &[u32]) -> u64
-    ensures { λ r. ⌜ r ≡ countNumber (coveredDaysIs slots (now (starts .entry)) (now (ends .entry))) ⌝ }
+    ensures { λ r. ⌜ r ≡ plainNumber (coveredDaysIs slots (now (starts .entry)) (now (ends .entry))) ⌝ }
 {
-    count_number(units::covered_days(slots, starts, ends))
+    plain_number(units::covered_days(slots, starts, ends))
 }
 
 // Minutes a day.
@@ -34,14 +23,14 @@ pub extern "C" fn boltraven_minutes_per_day(
     slots: usize,
     starts: &[u32],
     ends: &[u32],
-    minutes: &mut u64,
+    out: &mut u64,
 ) -> u8
-    ensures { λ r. ⌜ r ≡ durationNo (minutesPerDayIs slots (now (starts .entry)) (now (ends .entry))) ⌝ }
-    ensures { λ _. ⌜ now (minutes .exit)
-        ≡ durationMinutes (now (minutes .entry)) (minutesPerDayIs slots (now (starts .entry)) (now (ends .entry))) ⌝ }
+    ensures { λ r. ⌜ r ≡ minutesNo (minutesPerDayIs slots (now (starts .entry)) (now (ends .entry))) ⌝ }
+    ensures { λ _. ⌜ now (out .exit)
+        ≡ minutesAre (now (out .entry)) (minutesPerDayIs slots (now (starts .entry)) (now (ends .entry))) ⌝ }
 {
-    let duration = units::minutes_per_day(slots, starts, ends);
-    put_minutes(duration, minutes)
+    let minutes = units::minutes_per_day(slots, starts, ends);
+    put_minutes(minutes, out)
 }
 
 // The target run.
@@ -55,11 +44,11 @@ pub extern "C" fn boltraven_target_run(
     slots: usize,
     starts: &[u32],
     ends: &[u32],
-    minutes: &mut u64,
+    out: &mut u64,
 ) -> u8
-    ensures { λ r. ⌜ r ≡ durationNo
+    ensures { λ r. ⌜ r ≡ minutesNo
         (targetRunIs (settingsOf fairness lock boundary value days) slots (now (starts .entry)) (now (ends .entry))) ⌝ }
-    ensures { λ _. ⌜ now (minutes .exit) ≡ durationMinutes (now (minutes .entry))
+    ensures { λ _. ⌜ now (out .exit) ≡ minutesAre (now (out .entry))
         (targetRunIs (settingsOf fairness lock boundary value days) slots (now (starts .entry)) (now (ends .entry))) ⌝ }
 {
     let settings = Settings {
@@ -69,8 +58,8 @@ pub extern "C" fn boltraven_target_run(
         value,
         days,
     };
-    let duration = units::target_run(settings, slots, starts, ends);
-    put_minutes(duration, minutes)
+    let minutes = units::target_run(settings, slots, starts, ends);
+    put_minutes(minutes, out)
 }
 
 // A person's achievable run.
@@ -87,12 +76,12 @@ pub extern "C" fn boltraven_achievable_run(
     slots: usize,
     starts: &[u32],
     ends: &[u32],
-    minutes: &mut u64,
+    out: &mut u64,
 ) -> u8
-    ensures { λ r. ⌜ r ≡ durationNo
+    ensures { λ r. ⌜ r ≡ minutesNo
         (achievableRunIs (settingsOf fairness lock boundary value days) (now (avail .entry)) people person slots
         (now (starts .entry)) (now (ends .entry))) ⌝ }
-    ensures { λ _. ⌜ now (minutes .exit) ≡ durationMinutes (now (minutes .entry))
+    ensures { λ _. ⌜ now (out .exit) ≡ minutesAre (now (out .entry))
         (achievableRunIs (settingsOf fairness lock boundary value days) (now (avail .entry)) people person slots
         (now (starts .entry)) (now (ends .entry))) ⌝ }
 {
@@ -103,6 +92,6 @@ pub extern "C" fn boltraven_achievable_run(
         value,
         days,
     };
-    let duration = units::achievable_run(settings, avail, people, person, slots, starts, ends);
-    put_minutes(duration, minutes)
+    let minutes = units::achievable_run(settings, avail, people, person, slots, starts, ends);
+    put_minutes(minutes, out)
 }

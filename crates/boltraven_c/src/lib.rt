@@ -1,6 +1,7 @@
 // The library for C and Rust to link: numbers, flags and slices of numbers, and one slice of structs laid out as C does.
 // A slice is passed as its address and its number of elements.
 // Every function is total, as the one that it calls: what is promised of that one, said in numbers, is promised here.
+mod answers;
 mod calendar;
 mod demand;
 mod drawn;

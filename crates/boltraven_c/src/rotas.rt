@@ -1,24 +1,12 @@
 // A rota: its owners, everybody's set of slots and minutes; single slots assigned, and plays of draws in three columns.
-use rota::Figure;
+use crate::answers::plain_number;
+use crate::answers::put_minutes;
 ghost use mathlib.Core.Path.{_≡_};
 ghost use mathlib.Core.List.{[]};
 ghost use Rattle.rota.specs.Derived.{plan, derived};
-ghost use Rattle.rota.specs.Entries.{figureNo};
+ghost use Rattle.slots.specs.Lent.{minutesNo};
 ghost use Rattle.rota.specs.Entries.{Ended, fromSlots, emptied, assigned, played, ownerIs, minutesIs, unassignedIs, uncoveredIs};
-ghost use Rattle.boltraven_c.specs.Rotas.{figureIs};
-
-fn put_figure(figure: Figure, out: &mut u64) -> u8
-    ensures { λ r. ⌜ r ≡ figureNo figure ⌝ }
-    ensures { λ _. ⌜ now (out .exit) ≡ figureIs (now (out .entry)) figure ⌝ }
-{
-    match figure {
-        Figure::Is(k) => {
-            *out = k;
-            0
-        }
-        Figure::Refused(n) => n,
-    }
-}
+ghost use Rattle.boltraven_c.specs.Numbers.{plainNumber, minutesAre};
 
 // Sets and minutes from owners.
 #[no_mangle]
@@ -142,13 +130,10 @@ pub extern "C" fn boltraven_owner_of_slot(
     slots: usize,
     owners: &[u8],
     slot: usize,
-    out: &mut u64,
-) -> u8
-    ensures { λ r. ⌜ r ≡ figureNo (ownerIs people slots (now (owners .entry)) slot) ⌝ }
-    ensures { λ _. ⌜ now (out .exit) ≡ figureIs (now (out .entry)) (ownerIs people slots (now (owners .entry)) slot) ⌝ }
+) -> u64
+    ensures { λ r. ⌜ r ≡ plainNumber (ownerIs people slots (now (owners .entry)) slot) ⌝ }
 {
-    let figure = rota::assignment::owner_of_slot(people, slots, owners, slot);
-    put_figure(figure, out)
+    plain_number(rota::assignment::owner_of_slot(people, slots, owners, slot))
 }
 
 // A person's minutes.
@@ -159,26 +144,19 @@ pub extern "C" fn boltraven_minutes_of(
     person: usize,
     out: &mut u64,
 ) -> u8
-    ensures { λ r. ⌜ r ≡ figureNo (minutesIs people (now (minutes .entry)) person) ⌝ }
-    ensures { λ _. ⌜ now (out .exit) ≡ figureIs (now (out .entry)) (minutesIs people (now (minutes .entry)) person) ⌝ }
+    ensures { λ r. ⌜ r ≡ minutesNo (minutesIs people (now (minutes .entry)) person) ⌝ }
+    ensures { λ _. ⌜ now (out .exit) ≡ minutesAre (now (out .entry)) (minutesIs people (now (minutes .entry)) person) ⌝ }
 {
-    let figure = rota::assignment::minutes_of(people, minutes, person);
-    put_figure(figure, out)
+    let worked = rota::assignment::minutes_of(people, minutes, person);
+    put_minutes(worked, out)
 }
 
 // The slots that nobody owns.
 #[no_mangle]
-pub extern "C" fn boltraven_unassigned_count(
-    people: usize,
-    slots: usize,
-    owners: &[u8],
-    out: &mut u64,
-) -> u8
-    ensures { λ r. ⌜ r ≡ figureNo (unassignedIs people slots (now (owners .entry))) ⌝ }
-    ensures { λ _. ⌜ now (out .exit) ≡ figureIs (now (out .entry)) (unassignedIs people slots (now (owners .entry))) ⌝ }
+pub extern "C" fn boltraven_unassigned_count(people: usize, slots: usize, owners: &[u8]) -> u64
+    ensures { λ r. ⌜ r ≡ plainNumber (unassignedIs people slots (now (owners .entry))) ⌝ }
 {
-    let figure = rota::assignment::unassigned_count(people, slots, owners);
-    put_figure(figure, out)
+    plain_number(rota::assignment::unassigned_count(people, slots, owners))
 }
 
 // The minutes of the slots that nobody owns.
@@ -191,10 +169,10 @@ pub extern "C" fn boltraven_uncovered_minutes(
     owners: &[u8],
     out: &mut u64,
 ) -> u8
-    ensures { λ r. ⌜ r ≡ figureNo (uncoveredIs (plan people slots (now (starts .entry)) (now (ends .entry))) (now (owners .entry))) ⌝ }
-    ensures { λ _. ⌜ now (out .exit) ≡ figureIs (now (out .entry))
+    ensures { λ r. ⌜ r ≡ minutesNo (uncoveredIs (plan people slots (now (starts .entry)) (now (ends .entry))) (now (owners .entry))) ⌝ }
+    ensures { λ _. ⌜ now (out .exit) ≡ minutesAre (now (out .entry))
         (uncoveredIs (plan people slots (now (starts .entry)) (now (ends .entry))) (now (owners .entry))) ⌝ }
 {
-    let figure = rota::assignment::uncovered_minutes(people, slots, starts, ends, owners);
-    put_figure(figure, out)
+    let uncovered = rota::assignment::uncovered_minutes(people, slots, starts, ends, owners);
+    put_minutes(uncovered, out)
 }

@@ -1,20 +1,12 @@
 // Where rotations and units begin, and what a unit holds. The settings come as their five numbers.
-use units::Number;
+use crate::answers::plain_number;
 use units::Settings;
 use units::UnitSlots;
 ghost use mathlib.Core.Path.{_≡_};
 ghost use Rattle.units.specs.Answers.{unitSlotsIs, unitOfSlotIs, spanNo};
 ghost use Rattle.units.specs.Starts.{rotationStartsIs, unitStartsIs};
-ghost use Rattle.boltraven_c.specs.Units.{countNumber, settingsOf, spanFrom, spanTo};
-
-pub(crate) fn count_number(count: Number) -> u64
-    ensures { λ r. ⌜ r ≡ countNumber count ⌝ }
-{
-    match count {
-        Number::Is(k) => k as u64,
-        Number::Refused(n) => crate::refused(n),
-    }
-}
+ghost use Rattle.boltraven_c.specs.Numbers.{plainNumber};
+ghost use Rattle.boltraven_c.specs.Units.{settingsOf, spanFrom, spanTo};
 
 // The starts of the rotations, and how many.
 #[no_mangle]
@@ -29,7 +21,7 @@ pub extern "C" fn boltraven_rotation_starts(
     ends: &[u32],
     firsts: &mut [u16],
 ) -> u64
-    ensures { λ r. ⌜ r ≡ countNumber
+    ensures { λ r. ⌜ r ≡ plainNumber
         (rotationStartsIs (settingsOf fairness lock boundary value days) slots (now (starts .entry)) (now (ends .entry))
         (now (firsts .entry)) .answer) ⌝ }
     ensures { λ _. ⌜ now (firsts .exit)
@@ -43,7 +35,7 @@ pub extern "C" fn boltraven_rotation_starts(
         value,
         days,
     };
-    count_number(units::rotation_starts(settings, slots, starts, ends, firsts))
+    plain_number(units::rotation_starts(settings, slots, starts, ends, firsts))
 }
 
 // The starts of the units, and how many.
@@ -59,7 +51,7 @@ pub extern "C" fn boltraven_unit_starts(
     ends: &[u32],
     firsts: &mut [u16],
 ) -> u64
-    ensures { λ r. ⌜ r ≡ countNumber
+    ensures { λ r. ⌜ r ≡ plainNumber
         (unitStartsIs (settingsOf fairness lock boundary value days) slots (now (starts .entry)) (now (ends .entry))
         (now (firsts .entry)) .answer) ⌝ }
     ensures { λ _. ⌜ now (firsts .exit)
@@ -73,7 +65,7 @@ pub extern "C" fn boltraven_unit_starts(
         value,
         days,
     };
-    count_number(units::unit_starts(settings, slots, starts, ends, firsts))
+    plain_number(units::unit_starts(settings, slots, starts, ends, firsts))
 }
 
 // The slots of a unit (or of a rotation): `from` up to `to`, without `to`.
@@ -112,7 +104,7 @@ pub extern "C" fn boltraven_unit_of_slot(
     firsts: &[u16],
     slot: usize,
 ) -> u64
-    ensures { λ r. ⌜ r ≡ countNumber (unitOfSlotIs slots units (now (firsts .entry)) slot) ⌝ }
+    ensures { λ r. ⌜ r ≡ plainNumber (unitOfSlotIs slots units (now (firsts .entry)) slot) ⌝ }
 {
-    count_number(units::unit_of_slot(slots, units, firsts, slot))
+    plain_number(units::unit_of_slot(slots, units, firsts, slot))
 }

@@ -3,54 +3,22 @@
 use crate::NOTHING;
 use crate::refused;
 use slotset::Changed;
-use slotset::Counted;
 use slotset::Cursor;
-use slotset::Found;
 use slotset::NextMember;
 use slotset::NextRun;
+use slotset::Number;
 use slotset::Run;
 use slotset::SlotSet;
-use slotset::Told;
 use slotset::row;
 ghost use mathlib.Core.Path.{_≡_};
 ghost use Rattle.slotset.specs.Slots.{has, size, noMember, valueOf};
 ghost use Rattle.slotset.specs.Search.{nextSet, prevSet, nextUnsetAfter, prevUnsetBefore};
-ghost use Rattle.slotset.specs.Answers.{rowNo, rowStretchNo, rowSlots, foundAs, toldAs, countedAs, rowRun, rowNextRun, rowNextMember};
+ghost use Rattle.slotset.specs.Answers.{rowNo, rowStretchNo, rowSlots, foundAs, toldAs, numberAs, rowRun, rowNextRun, rowNextMember};
 ghost use Rattle.slotset.specs.Answers.{putOf, rowStretchOf};
-ghost use Rattle.boltraven_c.specs.Numbers.{foundNumber, toldNumber, countedNumber, runNumber, runFirst, runLast};
+ghost use Rattle.boltraven_c.specs.Numbers.{foundNumber, toldNumber, plainNumber, runNumber, runFirst, runLast};
 ghost use Rattle.boltraven_c.specs.Numbers.{nextRunNumber, nextRunFirst, nextRunLast, nextRunCursor};
 ghost use Rattle.boltraven_c.specs.Numbers.{memberNumber, memberAt, memberCursor};
 ghost use Rattle.boltraven_c.specs.Sets.{rowPutNo, rowPutOf};
-
-// The answers as numbers.
-fn found_number(found: Found) -> u64
-    ensures { λ r. ⌜ r ≡ foundNumber found ⌝ }
-{
-    match found {
-        Found::At(i) => i as u64,
-        Found::Nothing => NOTHING,
-        Found::Refused(n) => refused(n),
-    }
-}
-
-pub(crate) fn told_number(told: Told) -> u64
-    ensures { λ r. ⌜ r ≡ toldNumber told ⌝ }
-{
-    match told {
-        Told::Yes => 1,
-        Told::No => 0,
-        Told::Refused(n) => refused(n),
-    }
-}
-
-pub(crate) fn counted_number(counted: Counted) -> u64
-    ensures { λ r. ⌜ r ≡ countedNumber counted ⌝ }
-{
-    match counted {
-        Counted::Is(k) => k as u64,
-        Counted::Refused(n) => refused(n),
-    }
-}
 
 // Whether slot i is a member: 1 or 0.
 #[no_mangle]
@@ -79,10 +47,10 @@ pub extern "C" fn boltraven_is_empty(words: &[u64], people: usize, person: usize
 // How many members the row has.
 #[no_mangle]
 pub extern "C" fn boltraven_count(words: &[u64], people: usize, person: usize, len: usize) -> u64
-    ensures { λ r. ⌜ r ≡ countedNumber (countedAs (rowNo (now (words .entry)) people person len)
+    ensures { λ r. ⌜ r ≡ plainNumber (numberAs (rowNo (now (words .entry)) people person len)
         (size (rowSlots (now (words .entry)) person) len)) ⌝ }
 {
-    counted_number(row::count(words, people, person, len))
+    plain_number(row::count(words, people, person, len))
 }
 
 // The first member at or after `from`.

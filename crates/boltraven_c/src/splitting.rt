@@ -1,11 +1,11 @@
 // Ranges merged, base slots split at their cuts, and who is available for which slot. Ranges come as three columns.
-use crate::sets::counted_number;
+use crate::answers::plain_number;
 ghost use mathlib.Core.Path.{_≡_};
 ghost use Rattle.slots.specs.Ranges.{ranges};
 ghost use Rattle.slots.specs.Merged.{columns, mergedRanges};
 ghost use Rattle.slots.specs.Atomic.{base, atomiseOf};
 ghost use Rattle.slots.specs.Availability.{availabilityNo, availabilityOf};
-ghost use Rattle.boltraven_c.specs.Numbers.{countedNumber};
+ghost use Rattle.boltraven_c.specs.Numbers.{plainNumber};
 
 // Each person's ranges, sorted and merged, in three columns, and how many.
 #[no_mangle]
@@ -19,7 +19,7 @@ pub extern "C" fn boltraven_merged_ranges(
     froms: &mut [u32],
     tos: &mut [u32],
 ) -> u64
-    ensures { λ r. ⌜ r ≡ countedNumber
+    ensures { λ r. ⌜ r ≡ plainNumber
         (mergedRanges people (ranges count (now (persons .entry)) (now (starts .entry)) (now (ends .entry)))
         (columns (now (whose .entry)) (now (froms .entry)) (now (tos .entry))) .answer) ⌝ }
     ensures { λ _. ⌜ now (whose .exit)
@@ -32,7 +32,7 @@ pub extern "C" fn boltraven_merged_ranges(
         ≡ mergedRanges people (ranges count (now (persons .entry)) (now (starts .entry)) (now (ends .entry)))
         (columns (now (whose .entry)) (now (froms .entry)) (now (tos .entry))) .ends ⌝ }
 {
-    counted_number(slots::merged_ranges(people, count, persons, starts, ends, whose, froms, tos))
+    plain_number(slots::merged_ranges(people, count, persons, starts, ends, whose, froms, tos))
 }
 
 // The atomic slots, in two columns, and how many.
@@ -49,7 +49,7 @@ pub extern "C" fn boltraven_atomise(
     froms: &mut [u32],
     tos: &mut [u32],
 ) -> u64
-    ensures { λ r. ⌜ r ≡ countedNumber
+    ensures { λ r. ⌜ r ≡ plainNumber
         (atomiseOf (base slots (now (starts .entry)) (now (ends .entry)) people
         (ranges count (now (persons .entry)) (now (opens .entry)) (now (shuts .entry))) (now (froms .entry)) (now (tos .entry))) .answer) ⌝ }
     ensures { λ _. ⌜ now (froms .exit)
@@ -59,7 +59,7 @@ pub extern "C" fn boltraven_atomise(
         ≡ atomiseOf (base slots (now (starts .entry)) (now (ends .entry)) people
         (ranges count (now (persons .entry)) (now (opens .entry)) (now (shuts .entry))) (now (froms .entry)) (now (tos .entry))) .ends ⌝ }
 {
-    counted_number(slots::atomise(
+    plain_number(slots::atomise(
         slots,
         starts,
         ends,

@@ -1,10 +1,10 @@
 // Who can cover a slot or a unit, and whether a unit is frozen.
-use crate::rotations::count_number;
-use crate::sets::told_number;
+use crate::answers::plain_number;
+use crate::answers::told_number;
 ghost use mathlib.Core.Path.{_≡_};
 ghost use Rattle.units.specs.Domains.{slotDomainIs, unitDomainIs, unitDomainsNo, unitDomainsIs, unitFrozenIs};
 ghost use Rattle.boltraven_c.specs.Numbers.{toldNumber};
-ghost use Rattle.boltraven_c.specs.Units.{countNumber};
+ghost use Rattle.boltraven_c.specs.Units.{plainNumber};
 
 // The people available for a slot, ascending, and how many.
 #[no_mangle]
@@ -15,10 +15,10 @@ pub extern "C" fn boltraven_slot_domain(
     slot: usize,
     list: &mut [u8],
 ) -> u64
-    ensures { λ r. ⌜ r ≡ countNumber (slotDomainIs (now (avail .entry)) people slots slot (now (list .entry)) .answer) ⌝ }
+    ensures { λ r. ⌜ r ≡ plainNumber (slotDomainIs (now (avail .entry)) people slots slot (now (list .entry)) .answer) ⌝ }
     ensures { λ _. ⌜ now (list .exit) ≡ slotDomainIs (now (avail .entry)) people slots slot (now (list .entry)) .buffer ⌝ }
 {
-    count_number(units::slot_domain(avail, people, slots, slot, list))
+    plain_number(units::slot_domain(avail, people, slots, slot, list))
 }
 
 // The people available for all slots of a unit, ascending, and how many.
@@ -32,12 +32,12 @@ pub extern "C" fn boltraven_unit_domain(
     unit: usize,
     list: &mut [u8],
 ) -> u64
-    ensures { λ r. ⌜ r ≡ countNumber
+    ensures { λ r. ⌜ r ≡ plainNumber
         (unitDomainIs (now (avail .entry)) people slots units (now (firsts .entry)) unit (now (list .entry)) .answer) ⌝ }
     ensures { λ _. ⌜ now (list .exit)
         ≡ unitDomainIs (now (avail .entry)) people slots units (now (firsts .entry)) unit (now (list .entry)) .buffer ⌝ }
 {
-    count_number(units::unit_domain(avail, people, slots, units, firsts, unit, list))
+    plain_number(units::unit_domain(avail, people, slots, units, firsts, unit, list))
 }
 
 // For each unit the mask of the people available for all its slots: bit p is 1 exactly when person p is.

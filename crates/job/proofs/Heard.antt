@@ -22,14 +22,15 @@ use Rattle.units.specs.Units.{unitsOk}
 use Rattle.units.proofs.Units.{unit-within}
 use Rattle.targets.specs.Figures.{allFiguresOk}
 use Rattle.targets.specs.Outcome as targets
-use Rattle.rota.specs.declared.Figure.{Figure}
+use Rattle.slots.specs.declared.Minutes.{Minutes}
 use Rattle.rota.specs.Recount.{availableAt}
 use Rattle.job.specs.File.{jobCounts, jobStarts, fileOk}
 use Rattle.job.specs.Columns.{column, floatColumn}
 use Rattle.job.specs.Listing.{listed, listingOf, listingMost}
-use Rattle.job.specs.Stages.{jobCountsOk, countsNo, settingsIn, noOf, valueOf, unitsNoOf, lowerNo, TargetsSound, allEven, allKnown}
+use Rattle.slotset.specs.Answers.{numberNo}
+use Rattle.job.specs.Stages.{jobCountsOk, countsNo, settingsIn, valueOf, lowerNo, TargetsSound, allEven, allKnown}
 use Rattle.job.specs.Stages.{ownersNo}
-use Rattle.job.specs.Outcome.{Result, startOf, figureValue, textOf, listedAs, refusedAs, orRefused, baseIn, peopleIn, rangesIn}
+use Rattle.job.specs.Outcome.{Result, startOf, minutesValue, textOf, listedAs, refusedAs, orRefused, baseIn, peopleIn, rangesIn}
 use Rattle.job.specs.Outcome.{capacitiesIn, priorsIn, instantIn, atomsIn, availIn, sharesIn, unitsIn, readyIn, playResult, rotaResult}
 use Rattle.job.specs.Outcome.{ownersResult, slotsResult, atomsResult, countedResult, jobResult}
 use Rattle.job.specs.Heard.{AllPass, baseOf, readyOf, drawsOf, writtenOf, ownersOf, startedOf, playedOf}
@@ -99,10 +100,10 @@ module _ (s : List ℕ) where
   unfolding atomsIn baseOf
   atoms-are = refl
 
-  atoms-heard : Few → noOf (atomsIn s (jobCounts s) (jobStarts s) .answer) ≡ heardOf atomTests
+  atoms-heard : Few → numberNo (atomsIn s (jobCounts s) (jobStarts s) .answer) ≡ heardOf atomTests
   unfolding heardOf
   atoms-heard e =
-      ap (λ (a : atomic.Atoms). noOf (a .answer)) atoms-are ∙ atoms-no (baseOf s) (base-counts e) (base-room e)
+      ap (λ (a : atomic.Atoms). numberNo (a .answer)) atoms-are ∙ atoms-no (baseOf s) (base-counts e) (base-room e)
 
   atoms-right : Few → heardOf atomTests ≡ 0
       → AtomsSound (baseOf s) (readyOf s .slots) (readyOf s .starts) (readyOf s .ends)
@@ -161,7 +162,7 @@ module _ (s : List ℕ) where
     shares-heard = shares-no _ (replicate 32 (pos 0)) shares-counts shares-room (A .lent)
 
     figures-heard : lowerNo (sharesIn s (jobCounts s) (jobStarts s) (rangesIn s (jobCounts s) (jobStarts s)) n S E .number)
-        (unitsNoOf (unitsIn s n S E .answer)) ≡ heardOf figureTests
+        (numberNo (unitsIn s n S E .answer)) ≡ heardOf figureTests
     unfolding heardOf unitsIn
     figures-heard =
         ap₂ lowerNo shares-heard
@@ -256,8 +257,8 @@ module _ (s : List ℕ) where
         let y = playedOf s in
         let no = play-no R (drawsOf s) (ownersOf s) H free in
         sym (when-none (y .number) (listedAs (textOf R (drawsOf s) y) x) (refusedAs (y .number) x) no)
-        ∙ ap (λ (f : Figure). listedAs (listingOf (listed (R .slots) (R .starts) (R .ends) (y .owners) (R .people) (y .derived .minutes)
-        (R .targets) (drawsOf s .count) (y .answers) (figureValue f))) x) (uncovered-told R (drawsOf s) (ownersOf s) _ no)
+        ∙ ap (λ (f : Minutes). listedAs (listingOf (listed (R .slots) (R .starts) (R .ends) (y .owners) (R .people) (y .derived .minutes)
+        (R .targets) (drawsOf s .count) (y .answers) (minutesValue f))) x) (uncovered-told R (drawsOf s) (ownersOf s) _ no)
 
     rota-told : RotaSound (readyOf s) (drawsOf s) (ownersOf s)
         → rotaResult (readyOf s) (drawsOf s) (ownersOf s) x ≡ orRefused (heardOf startTests) x text
@@ -286,7 +287,7 @@ module _ (s : List ℕ) where
         let R = readyOf s in
         stage figureTests (ownerTests ++ startTests) (lit< tt, (lit< tt, tt))
         (lowerNo (sharesIn s c b (rangesIn s c b) (R .slots) (R .starts) (R .ends) .number)
-        (unitsNoOf (unitsIn s (R .slots) (R .starts) (R .ends) .answer))) x
+        (numberNo (unitsIn s (R .slots) (R .starts) (R .ends) .answer))) x
         (ownersResult s (getD b 5 0) (getD c 5 0) (readyOf s) (drawsOf s) x) text
         (figures-heard few (R .slots) (R .starts) (R .ends) (atoms-right few a)) (owners-told few a)
 
@@ -295,7 +296,7 @@ module _ (s : List ℕ) where
     unfolding atomsResult readyOf readyIn
     atoms-told few =
         stage atomTests (figureTests ++ (ownerTests ++ startTests)) (lit< tt, (lit< tt, (lit< tt, tt)))
-        (noOf (atomsIn s c b .answer)) x
+        (numberNo (atomsIn s c b .answer)) x
         (slotsResult s c b (rangesIn s c b) (valueOf (atomsIn s c b .answer)) (atomsIn s c b .starts) (atomsIn s c b .ends) x) text
         (atoms-heard few) (slots-told few)
 

@@ -23,7 +23,7 @@ use Rattle.job.specs.Listing.{digits, signed, ownerText, answerLetter, h
 use Rattle.job.specs.Listing.{slotAt, personAt, drawAt, Listed, listed, listingOf, listingMost}
 use Rattle.job.specs.declared.Played.{Played}
 use Rattle.job.specs.Stages.{TargetsSound}
-use Rattle.job.specs.Outcome.{Ready, Draws, PlayedAs, planOf, playOf, figureValue, textOf}
+use Rattle.job.specs.Outcome.{Ready, Draws, PlayedAs, planOf, playOf, minutesValue, textOf}
 use Rattle.job.proofs.Results.{text-is}
 use Rattle.job.proofs.Plays.{plan-right, draws-few, owners-fit, minutes-are, uncovered-told}
 use Rattle.job.proofs.Texts.{digits-le, owner-none, owner-some, head-length}
@@ -450,7 +450,7 @@ play-sound R d o D e T u q =
     }
 
 pub play-fits : (R : Ready) (d : Draws) (o : List ℕ) (D : Derived) (p : Played) (u : ℕ) → PlayedAs (playOf R d o D) p → p .no ≡ 0
-    → u ≡ figureValue (rota.uncoveredIs (planOf R) (p .owners))
+    → u ≡ minutesValue (rota.uncoveredIs (planOf R) (p .owners))
     → TargetsSound (R .people) (demandOf (R .slots) (R .starts) (R .ends)) (R .targets)
     → length (listingOf (listed (R .slots) (R .starts) (R .ends) (p .owners) (R .people) (p .minutes) (R .targets) (d .count) (p .answers)
     u)) ≤ listingMost
@@ -460,5 +460,5 @@ play-fits R d o D p u A e q T =
     omega (
       arith,
       ap length (text-is R d (playOf R d o D) p u A q),
-      listing-fits _ (play-sound R d o D z T _ (ap figureValue (uncovered-told R d o D z))),
+      listing-fits _ (play-sound R d o D z T _ (ap minutesValue (uncovered-told R d o D z))),
     )

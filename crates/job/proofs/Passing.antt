@@ -13,7 +13,8 @@ use Rattle.paper.specs.Limits.{peopleOk, slotCountOk, countsOk, orElse, nobody}
 use Rattle.paper.specs.Count.{all, onto}
 use Rattle.paper.proofs.Logic.{by-test, both, three, slot-count-says}
 use Rattle.paper.proofs.Count.{all-each, in-each, length-over, getD-over}
-use Rattle.slotset.specs.Answers.{countedAs, wordsAs}
+use Rattle.slotset.specs.Answers.{numberAs, numberNo, wordsAs}
+use Rattle.slotset.proofs.Refusals.{number-said}
 use Rattle.slotset.specs.Slots.{slot}
 use Rattle.slots.specs.Lent.{slotRoomOk, slotsOk, slotOkAt, demandOf}
 use Rattle.slots.specs.Ranges.{Ranges, rangeCountOk, rangeRoomOk, rangesOk, mergedOf}
@@ -24,7 +25,7 @@ use Rattle.slots.proofs.AvailLaws.{length-rows}
 use Rattle.slots.proofs.Meaning.{length-marked, frozen-marked, atoms-lent, atoms-lent-demand, atoms-count-ok}
 use Rattle.units.specs.declared.Settings.{Settings}
 use Rattle.units.specs.Settings.{settingsOk}
-use Rattle.units.specs.Answers.{writtenAs, numberAs}
+use Rattle.units.specs.Answers.{writtenAs}
 use Rattle.units.specs.Starts.{unitStarts, unitStartsIs, startsNo}
 use Rattle.units.specs.Units.{unitStart, unitEnd, unitsOk}
 use Rattle.units.proofs.Rising.{unit-starts-right}
@@ -37,24 +38,19 @@ use Rattle.rota.specs.Recount.{evenAt}
 use Rattle.rota.proofs.Minutes.{known-below, known-nobody}
 use Rattle.job.specs.declared.Shares.{Shares}
 use Rattle.job.specs.File.{ownerSlot}
-use Rattle.job.specs.Stages.{frozenIn, noOf, valueOf, unitsNoOf, unitsValueOf, SharesAre, TargetsSound, lowerNo, ownerValue, placed}
+use Rattle.job.specs.Stages.{frozenIn, valueOf, SharesAre, TargetsSound, lowerNo, ownerValue, placed}
 use Rattle.job.specs.Stages.{allEven, recordKnown, allKnown, byteOf, narrowed}
 use Rattle.job.proofs.Prepares.{frozen-some, byte-small}
 use Rattle.job.proofs.Placed.{length-placed}
 
 -- ---- atomic slots
 
-no-counted : (n k : ℕ) → noOf (countedAs n k) ≡ n
-unfolding countedAs
-no-counted n k =
-    by-test (eqb n 0) _ (λ t. simp t (sym (eqb-true n 0 t))) (λ f. simp f)
-
 module _ (B : atomic.Base) (counts : atomic.baseCountsOk B ≡ true) (room : atomic.baseRoomOk B ≡ true) where
-  pub atoms-no : noOf (atomic.atomiseOf B .answer)
+  pub atoms-no : numberNo (atomic.atomiseOf B .answer)
       ≡ orElse (slotsOk (B .slots) (B .starts) (B .ends)) 3
       (orElse (rangesOk (B .people) (B .ranges)) 4 (orElse (leb (length (atomic.startsOfAtoms B)) 1024) 5 0))
   unfolding atomic.atomiseOf atomic.atomiseNo
-  atoms-no = no-counted (atomic.atomiseNo B) (length (atomic.startsOfAtoms B)) ∙ simp (counts, room)
+  atoms-no = number-said (atomic.atomiseNo B) (length (atomic.startsOfAtoms B)) ∙ simp (counts, room)
 
 -- the atomic slots in their columns, of base slots that pass
 pub record AtomsSound (B : atomic.Base) (n : ℕ) (S E : List ℕ) : Type 0 where
@@ -66,7 +62,7 @@ pub atoms-sound : (B : atomic.Base) → atomic.baseCountsOk B ≡ true → atomi
     → slotsOk (B .slots) (B .starts) (B .ends) ≡ true → rangesOk (B .people) (B .ranges) ≡ true
     → leb (length (atomic.startsOfAtoms B)) 1024 ≡ true
     → AtomsSound B (valueOf (atomic.atomiseOf B .answer)) (atomic.atomiseOf B .starts) (atomic.atomiseOf B .ends)
-unfolding atomic.atomiseOf atomic.atomiseNo atomic.splitCountsOk atomic.roomOk countedAs wordsAs slotRoomOk
+unfolding atomic.atomiseOf atomic.atomiseNo atomic.splitCountsOk atomic.roomOk numberAs wordsAs slotRoomOk
 atoms-sound B counts room a b c =
     let few = leb-true (length (atomic.startsOfAtoms B)) 1024 c in
     let cs = three (peopleOk (B .people)) (slotCountOk (B .slots)) (rangeCountOk (B .ranges .count)) counts in
@@ -143,11 +139,7 @@ pub shares-sound : (g : targets.Given) (h : Shares) → SharesAre (targets.compu
 shares-sound g h H e =
     subst (λ (ts : List ℤ). TargetsSound (g .people) (targets.demandIn g) ts) (sym (H .targets)) (targets-sound g (sym (H .no) ∙ e))
 
-no-numbered : (n k : ℕ) → unitsNoOf (numberAs n k) ≡ n
-unfolding numberAs
-no-numbered n k = by-test (eqb n 0) _ (λ t. simp t (sym (eqb-true n 0 t))) (λ f. simp f)
-
-value-numbered : (n k : ℕ) → n ≡ 0 → unitsValueOf (numberAs n k) ≡ k
+value-numbered : (n k : ℕ) → n ≡ 0 → valueOf (numberAs n k) ≡ k
 unfolding numberAs
 value-numbered n k e = simp (eq-eqb n 0 e)
 
@@ -157,23 +149,23 @@ module _ (st : Settings) (n : ℕ) (S E firsts : List ℕ) (count-ok : slotCount
   unfolding startsNo
   starts-no = simp (count-ok, lent-room n S E lent, le-leb n (length firsts) room, lent)
 
-  pub units-no : unitsNoOf (unitStartsIs st n S E firsts .answer) ≡ orElse (settingsOk st) 7 0
+  pub units-no : numberNo (unitStartsIs st n S E firsts .answer) ≡ orElse (settingsOk st) 7 0
   unfolding unitStartsIs writtenAs
-  units-no = no-numbered (startsNo st n S E firsts) (length (unitStarts st n S)) ∙ starts-no
+  units-no = number-said (startsNo st n S E firsts) (length (unitStarts st n S)) ∙ starts-no
 
   module _ (ok : settingsOk st ≡ true) where
     none : startsNo st n S E firsts ≡ 0
     none = starts-no ∙ ap (λ (b : Bool). orElse b 7 0) ok
 
-    units-value : unitsValueOf (unitStartsIs st n S E firsts .answer) ≡ length (unitStarts st n S)
+    units-value : valueOf (unitStartsIs st n S E firsts .answer) ≡ length (unitStarts st n S)
     unfolding unitStartsIs writtenAs
     units-value = value-numbered (startsNo st n S E firsts) (length (unitStarts st n S)) none
 
-    pub units-right : unitsOk n (unitsValueOf (unitStartsIs st n S E firsts .answer)) (unitStartsIs st n S E firsts .buffer) ≡ true
+    pub units-right : unitsOk n (valueOf (unitStartsIs st n S E firsts .answer)) (unitStartsIs st n S E firsts .buffer) ≡ true
     units-right =
         ap (λ (k : ℕ). unitsOk n k (unitStartsIs st n S E firsts .buffer)) units-value ∙ unit-starts-right st n S E firsts none
 
-    pub units-fit : unitsValueOf (unitStartsIs st n S E firsts .answer) ≤ length (unitStartsIs st n S E firsts .buffer)
+    pub units-fit : valueOf (unitStartsIs st n S E firsts .answer) ≤ length (unitStartsIs st n S E firsts .buffer)
     unfolding unitStartsIs writtenAs onto
     units-fit =
         let l = unitStarts st n S in

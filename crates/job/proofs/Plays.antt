@@ -12,8 +12,8 @@ use Rattle.paper.specs.Count.{sum}
 use Rattle.paper.proofs.Logic.{both}
 use Rattle.paper.proofs.Count.{each-all}
 use Rattle.slotset.specs.Slots.{slot}
-use Rattle.slots.specs.Lent.{demandOf}
-use Rattle.rota.specs.declared.Figure.the-variants as figure
+use Rattle.slots.specs.Lent.{demandOf, minutesAs}
+use Rattle.slots.specs.declared.Minutes.the-variants as minutes
 use Rattle.rota.specs.Derived.{Plan, PlanSound, Derived, knownBy, worked, uncovered, afresh}
 use Rattle.rota.specs.Recount.{availableFor, knownAt, recounts}
 use Rattle.rota.specs.Moves.{Draw}
@@ -88,8 +88,8 @@ module _ (R : Ready) (d : Draws) (o : List ℕ) (D : Derived) (e : playOf R d o 
   minutes-are = right .minutes
 
   -- U is a number
-  pub uncovered-told : rota.uncoveredIs P (playOf R d o D .owners) ≡ figure.Is (uncovered P (playOf R d o D .owners))
-  unfolding rota.uncoveredIs rota.figureAs rota.ground knownAt after
+  pub uncovered-told : rota.uncoveredIs P (playOf R d o D .owners) ≡ minutes.Are (uncovered P (playOf R d o D .owners))
+  unfolding rota.uncoveredIs minutesAs rota.ground knownAt after
   uncovered-told =
       let w = playOf R d o D .owners in
       let g = asks .grounds .on in

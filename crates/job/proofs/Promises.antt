@@ -17,7 +17,7 @@ use Rattle.paper.proofs.Logic.{by-test, both, or-right}
 use Rattle.paper.proofs.Count.{all-each, sum-part, sum-same}
 use Rattle.slots.proofs.LentLaws.{slots-sound}
 use Rattle.targets.specs.Remainder.{sumℤ}
-use Rattle.rota.specs.declared.Figure.the-variants as figure
+use Rattle.slots.specs.declared.Minutes.the-variants as minutes
 use Rattle.rota.specs.Derived.{knownBy, uncovered}
 use Rattle.rota.specs.Recount.{availableFor}
 use Rattle.rota.specs.Entries as rota
@@ -161,7 +161,7 @@ module _ (s x : List ℕ) where
     not-refused = rotas.play-no (readyOf s) (drawsOf s) (ownersOf s) (sound s (length x) pass) (free s (length x) pass)
 
     -- U is a number: the reader that answers it is never refused
-    pub uncovered-told : rota.uncoveredIs (planOf (readyOf s)) (playedOf s .owners) ≡ figure.Is (listedOf s .uncovered)
+    pub uncovered-told : rota.uncoveredIs (planOf (readyOf s)) (playedOf s .owners) ≡ minutes.Are (listedOf s .uncovered)
     unfolding listedOf playedOf
     uncovered-told = plays.uncovered-told (readyOf s) (drawsOf s) (ownersOf s) (startedOf s .derived) not-refused
 

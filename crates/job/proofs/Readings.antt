@@ -11,7 +11,7 @@ use lib.Ieee.{Float}
 use lib.IntN.{ℤ, pos}
 use lib.ListN.{length, getD, replicate}
 use Rattle.paper.proofs.Logic.{by-test, both, cond-zero, lt-or-ge, people-says, slot-count-says}
-use Rattle.slotset.specs.declared.Counted.the-variants as counted
+use Rattle.slotset.specs.declared.Number.the-variants as number
 use Rattle.slots.specs.Lent.{slotsOk}
 use Rattle.slots.specs.Ranges.{Ranges, ranges, rangesOk}
 use Rattle.slots.specs.Atomic as atomic
@@ -26,8 +26,8 @@ use Rattle.job.specs.declared.Made.{Made}
 use Rattle.job.specs.declared.Shares.{Shares}
 use Rattle.job.specs.Records.{blockAt, countOf, walkOk}
 use Rattle.job.specs.File.{jobLayout, jobSizes, fileMost, jobCounts, jobStarts, restOk, fileOk}
-use Rattle.job.specs.Stages.{jobCountsOk, countsNo, settingsIn, frozenIn, valueOf, AtomsAre, UnitsAre, SharesAre, unitsNoOf}
-use Rattle.job.specs.Stages.{unitsValueOf, lowerNo}
+use Rattle.slotset.specs.Answers.{numberNo}
+use Rattle.job.specs.Stages.{jobCountsOk, countsNo, settingsIn, frozenIn, valueOf, AtomsAre, UnitsAre, SharesAre, lowerNo}
 use Rattle.job.specs.Outcome.{Result, Ends, Ready, ready, Draws, draws, ReadOk, baseIn, peopleIn, capacitiesIn, priorsIn, drawsIn}
 use Rattle.job.specs.Outcome.{instantIn, columnOf, rangesIn, atomsIn, atomsResult, availIn, sharesIn, unitsIn, readyIn, ownersResult}
 use Rattle.job.specs.Outcome.{slotsResult, refusedAs, countedResult, jobResult}
@@ -103,7 +103,7 @@ units-is s n starts ends st m e w =
 
 module _ (s c b : List ℕ) (R : Ranges) (n : ℕ) (starts ends x : List ℕ) (h : Shares) (m : Made) (no : ℕ)
     (H : SharesAre (sharesIn s c b R n starts ends) h) (M : UnitsAre (unitsIn s n starts ends) m) (N : no ≡ lowerNo (h .no) (m .no)) where
-  no-is : no ≡ lowerNo (sharesIn s c b R n starts ends .number) (unitsNoOf (unitsIn s n starts ends .answer))
+  no-is : no ≡ lowerNo (sharesIn s c b R n starts ends .number) (numberNo (unitsIn s n starts ends .answer))
   no-is = N ∙ ap₂ lowerNo (H .no) (M .no)
 
   pub slots-refused : (no ≡ 0 → ⊥) → Ends (slotsResult s c b R n starts ends x) (answer.Refused no) x
@@ -121,8 +121,8 @@ module _ (s c b : List ℕ) (R : Ranges) (n : ℕ) (starts ends x : List ℕ) (h
       (subst (λ (g : Ready). Ends (ownersResult s (getD b 5 0) (getD c 5 0) g (draws (getD c 6 0) ks os ts) x) r y)
       (ap₂ (λ (u : List ℕ) (v : ℕ). ready (peopleIn c) n starts ends u v (m .firsts) fz (h .targets)) p (M .count)
       ∙ ap₂ (λ (u v : List ℕ). ready (peopleIn c) n starts ends (availIn c R n starts ends)
-      (unitsValueOf (unitsIn s n starts ends .answer)) u v (h .targets)) (M .firsts) q
-      ∙ ap (λ (z : List ℤ). ready (peopleIn c) n starts ends (availIn c R n starts ends) (unitsValueOf (unitsIn s n starts ends .answer))
+      (valueOf (unitsIn s n starts ends .answer)) u v (h .targets)) (M .firsts) q
+      ∙ ap (λ (z : List ℤ). ready (peopleIn c) n starts ends (availIn c R n starts ends) (valueOf (unitsIn s n starts ends .answer))
       (unitsIn s n starts ends .buffer) (frozenIn n starts ends (getD c 4 0) (instantIn s c b)) z) (H .targets)) w))
 
 -- ---- the atomic slots
@@ -146,7 +146,7 @@ atoms-is s c b st en ps os sh a p q r t u w =
     (ranges-same s c b ps os sh r t u)) w
 
 pub atoms-few : (B : atomic.Base) (a : Atoms) → AtomsAre (atomic.atomiseOf B) a → a .count ≤ 1024
-unfolding atomic.atomiseOf atomic.atomiseNo Rattle.slotset.specs.Answers.countedAs
+unfolding atomic.atomiseOf atomic.atomiseNo Rattle.slotset.specs.Answers.numberAs
 atoms-few B a w =
     by-test (eqb (atomic.atomiseNo B) 0) (a .count ≤ 1024)
     (λ t.
@@ -158,13 +158,13 @@ atoms-few B a w =
       arith,
       leb-true (length (atomic.startsOfAtoms B)) 1024 (l .0),
       w .count
-          ∙ ap (λ (q : Bool). valueOf (cond q (counted.Is (length (atomic.startsOfAtoms B))) (counted.Refused (atomic.atomiseNo B)))) t,
+          ∙ ap (λ (q : Bool). valueOf (cond q (number.Is (length (atomic.startsOfAtoms B))) (number.Refused (atomic.atomiseNo B)))) t,
     ))
     (λ f.
     omega (
       arith,
-      w .count ∙ ap (λ (q : Bool). valueOf (cond q (counted.Is (length (atomic.startsOfAtoms B)))
-          (counted.Refused (atomic.atomiseNo B)))) f,
+      w .count ∙ ap (λ (q : Bool). valueOf (cond q (number.Is (length (atomic.startsOfAtoms B)))
+          (number.Refused (atomic.atomiseNo B)))) f,
     ))
 
 module _ (s c b x : List ℕ) (a : Atoms) (A : AtomsAre (atomsIn s c b) a) where

@@ -12,7 +12,7 @@ use Rattle.job.specs.declared.Owned.{Owned}
 use Rattle.job.specs.declared.Started.{Started}
 use Rattle.job.specs.declared.Played.{Played}
 use Rattle.job.specs.Listing.{listed, listingOf, Wrote}
-use Rattle.job.specs.Outcome.{Result, refusedAs, listedAs, orRefused, Ends, StartedAs, PlayedAs, figureValue}
+use Rattle.job.specs.Outcome.{Result, refusedAs, listedAs, orRefused, Ends, StartedAs, PlayedAs, minutesValue}
 use Rattle.job.specs.Stages.{placed, narrowed, OwnersAre}
 use Rattle.job.specs.Outcome.{Ready, Draws, ownersResult, planOf, startOf, playOf, textOf, playResult, rotaResult}
 use Rattle.job.proofs.Prepares.{when-none, when-some}
@@ -45,7 +45,7 @@ listed-is l x n y w =
 
 -- the listing of a play, by what it left
 pub text-is : (R : Ready) (d : Draws) (y : rota.Outcome) (p : Played) (u : ℕ) → PlayedAs y p
-    → u ≡ figureValue (rota.uncoveredIs (planOf R) (p .owners))
+    → u ≡ minutesValue (rota.uncoveredIs (planOf R) (p .owners))
     → listingOf (listed (R .slots) (R .starts) (R .ends) (p .owners) (R .people) (p .minutes) (R .targets) (d .count) (p .answers) u) ≡
     textOf R d y
 unfolding textOf
@@ -55,7 +55,7 @@ text-is R d y p u P e =
     (P .minutes)
     ∙ ap₂ (λ (a : List ℕ) (v : ℕ). listed (R .slots) (R .starts) (R .ends) (y .owners) (R .people) (y .derived .minutes) (R .targets)
     (d .count) a v)
-    (P .answers) (e ∙ ap (λ (o : List ℕ). figureValue (rota.uncoveredIs (planOf R) o)) (P .owners)))
+    (P .answers) (e ∙ ap (λ (o : List ℕ). minutesValue (rota.uncoveredIs (planOf R) o)) (P .owners)))
 
 module _ (R : Ready) (d : Draws) (o x : List ℕ) (s : Started) (S : StartedAs (startOf R o) s) where
   pub start-refused : (s .no ≡ 0 → ⊥) → Ends (rotaResult R d o x) (answer.Refused (s .no)) x
@@ -78,7 +78,7 @@ module _ (R : Ready) (d : Draws) (o x : List ℕ) (s : Started) (S : StartedAs (
         (or-refused (p .no) (playOf R d o (derived (s .sets) (s .minutes)) .number) x
         (listedAs (textOf R d (playOf R d o (derived (s .sets) (s .minutes)))) x) (P .no) g)
 
-    pub play-listed : (u n : ℕ) (y : List ℕ) → s .no ≡ 0 → p .no ≡ 0 → u ≡ figureValue (rota.uncoveredIs (planOf R) (p .owners))
+    pub play-listed : (u n : ℕ) (y : List ℕ) → s .no ≡ 0 → p .no ≡ 0 → u ≡ minutesValue (rota.uncoveredIs (planOf R) (p .owners))
         → Wrote (listingOf (listed (R .slots) (R .starts) (R .ends) (p .owners) (R .people) (p .minutes) (R .targets) (d .count)
         (p .answers) u)) 0 x n y
         → Ends (rotaResult R d o x) (answer.Length n) y

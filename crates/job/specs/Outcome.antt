@@ -13,8 +13,8 @@ use Rattle.slots.specs.Availability.{availabilityOf}
 use Rattle.units.specs.Answers.{Written}
 use Rattle.units.specs.Starts.{unitStartsIs}
 use Rattle.targets.specs.Outcome as targets
-use Rattle.rota.specs.declared.Figure.{Figure}
-use Rattle.rota.specs.declared.Figure.the-variants as figure
+use Rattle.slots.specs.declared.Minutes.{Minutes}
+use Rattle.slots.specs.declared.Minutes.the-variants as minutes
 use Rattle.rota.specs.Derived.{Plan, plan, Derived, derived}
 use Rattle.rota.specs.Entries as rota
 use Rattle.job.specs.declared.JobAnswer.{JobAnswer}
@@ -25,7 +25,8 @@ use Rattle.job.specs.Fields.{le}
 use Rattle.job.specs.File.{jobSizes, jobCounts, jobStarts, fileOk}
 use Rattle.job.specs.Columns.{column, floatColumn}
 use Rattle.job.specs.Listing.{listed, listingOf, put}
-use Rattle.job.specs.Stages.{jobCountsOk, countsNo, settingsIn, frozenIn, noOf, valueOf, unitsNoOf, unitsValueOf, lowerNo, placed}
+use Rattle.slotset.specs.Answers.{numberNo}
+use Rattle.job.specs.Stages.{jobCountsOk, countsNo, settingsIn, frozenIn, valueOf, lowerNo, placed}
 use Rattle.job.specs.Stages.{ownersNo, narrowed}
 
 -- ---- what is heard and left
@@ -111,15 +112,15 @@ playOf R d o D =
     rota.played (planOf R) (R .avail) (R .units) (R .firsts) (R .frozen) (d .count) (d .kinds) (d .ones) (d .twos) o D (replicate 1024 0)
 
 -- minutes that were asked for, 0 where refused
-abbrev pub figureValue : Figure → ℕ
-figureValue (figure.Is n) = n
-figureValue (figure.Refused k) = 0
+abbrev pub minutesValue : Minutes → ℕ
+minutesValue (minutes.Are m) = m
+minutesValue (minutes.Refused k) = 0
 
 -- the listing after the play
 unfoldable pub textOf : Ready → Draws → rota.Outcome → List ℕ
 textOf R d y =
     listingOf (listed (R .slots) (R .starts) (R .ends) (y .owners) (R .people) (y .derived .minutes) (R .targets) (d .count) (y .answers)
-    (figureValue (rota.uncoveredIs (planOf R) (y .owners))))
+    (minutesValue (rota.uncoveredIs (planOf R) (y .owners))))
 
 unfoldable pub playResult : Ready → Draws → rota.Outcome → List ℕ → Result
 playResult R d y x = orRefused (y .number) x (listedAs (textOf R d y) x)
@@ -182,19 +183,19 @@ unitsIn s n starts ends = unitStartsIs (settingsIn s) n starts ends (replicate 1
 -- what the play goes by
 unfoldable pub readyIn : List ℕ → List ℕ → List ℕ → Ranges → ℕ → List ℕ → List ℕ → Ready
 readyIn s c b R n starts ends =
-    ready (peopleIn c) n starts ends (availIn c R n starts ends) (unitsValueOf (unitsIn s n starts ends .answer))
+    ready (peopleIn c) n starts ends (availIn c R n starts ends) (valueOf (unitsIn s n starts ends .answer))
     (unitsIn s n starts ends .buffer) (frozenIn n starts ends (getD c 4 0) (instantIn s c b)) (sharesIn s c b R n starts ends .out)
 
 -- 6 and 7, the lower of them, then the owners
 unfoldable pub slotsResult : List ℕ → List ℕ → List ℕ → Ranges → ℕ → List ℕ → List ℕ → List ℕ → Result
 slotsResult s c b R n starts ends x =
-    orRefused (lowerNo (sharesIn s c b R n starts ends .number) (unitsNoOf (unitsIn s n starts ends .answer))) x
+    orRefused (lowerNo (sharesIn s c b R n starts ends .number) (numberNo (unitsIn s n starts ends .answer))) x
     (ownersResult s (getD b 5 0) (getD c 5 0) (readyIn s c b R n starts ends) (drawsIn s c b) x)
 
 -- 3, 4 and 5, then the rest
 unfoldable pub atomsResult : List ℕ → List ℕ → List ℕ → List ℕ → Result
 atomsResult s c b x =
-    orRefused (noOf (atomsIn s c b .answer)) x
+    orRefused (numberNo (atomsIn s c b .answer)) x
     (slotsResult s c b (rangesIn s c b) (valueOf (atomsIn s c b .answer)) (atomsIn s c b .starts) (atomsIn s c b .ends) x)
 
 -- the whole: 13, then 1, then 2, then the rest

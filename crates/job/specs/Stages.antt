@@ -9,13 +9,12 @@ use lib.IntN.{ℤ, pos}
 use lib.ListN.{length, getD, set, take, replicate}
 use Rattle.paper.specs.Limits.{peopleOk, slotCountOk, orElse, rangesMost, drawsMost, nobody}
 use Rattle.paper.specs.Count.{all, over}
-use Rattle.slotset.specs.declared.Counted.{Counted}
-use Rattle.slotset.specs.declared.Counted.the-variants as counted
+use Rattle.slotset.specs.declared.Number.{Number}
+use Rattle.slotset.specs.declared.Number.the-variants as number
+use Rattle.slotset.specs.Answers.{numberNo}
 use Rattle.slots.specs.Atomic as atomic
 use Rattle.slots.specs.Freeze.{freezeOf}
 use Rattle.units.specs.declared.Settings.{Settings}
-use Rattle.units.specs.declared.Number.{Number}
-use Rattle.units.specs.declared.Number.the-variants as number
 use Rattle.units.specs.Answers.{Written}
 use Rattle.targets.specs.Remainder.{sumℤ, AllPlain, AllSmall}
 use Rattle.targets.specs.Outcome as targets
@@ -50,27 +49,16 @@ unfoldable pub frozenIn : ℕ → List ℕ → List ℕ → ℕ → ℕ → List
 frozenIn slots starts ends freezes instant =
     cond (eqb freezes 0) (replicate 16 0) (freezeOf slots starts ends (replicate 16 0) instant .flags)
 
--- ---- answers taken apart: the number of the refusal, 0 for none, and the value, 0 where refused
+-- ---- what the crates answered, handed on
 
-abbrev pub noOf : Counted → ℕ
-noOf (counted.Is n) = 0
-noOf (counted.Refused k) = k
-
-abbrev pub valueOf : Counted → ℕ
-valueOf (counted.Is n) = n
-valueOf (counted.Refused k) = 0
-
-abbrev pub unitsNoOf : Number → ℕ
-unitsNoOf (number.Is n) = 0
-unitsNoOf (number.Refused k) = k
-
-abbrev pub unitsValueOf : Number → ℕ
-unitsValueOf (number.Is n) = n
-unitsValueOf (number.Refused k) = 0
+-- the number that was asked for, 0 where refused
+abbrev pub valueOf : Number → ℕ
+valueOf (number.Is n) = n
+valueOf (number.Refused k) = 0
 
 -- the atomic slots, the units, the targets, as their crates give them
 pub record AtomsAre (x : atomic.Atoms) (r : Atoms) : Type 0 where
-  pub no : r .no ≡ noOf (x .answer)
+  pub no : r .no ≡ numberNo (x .answer)
   pub count : r .count ≡ valueOf (x .answer)
   pub starts : r .starts ≡ x .starts
   pub ends : r .ends ≡ x .ends
@@ -78,8 +66,8 @@ pub record AtomsAre (x : atomic.Atoms) (r : Atoms) : Type 0 where
   pub ends-room : length (r .ends) ≡ 1024
 
 pub record UnitsAre (w : Written) (r : Made) : Type 0 where
-  pub no : r .no ≡ unitsNoOf (w .answer)
-  pub count : r .count ≡ unitsValueOf (w .answer)
+  pub no : r .no ≡ numberNo (w .answer)
+  pub count : r .count ≡ valueOf (w .answer)
   pub firsts : r .firsts ≡ w .buffer
   pub room : length (r .firsts) ≡ 1024
 

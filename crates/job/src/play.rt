@@ -3,7 +3,7 @@ use crate::JobAnswer;
 use crate::Played;
 use crate::Started;
 use crate::listing::put_listing;
-use rota::Figure;
+use slots::Minutes;
 ghost use mathlib.Core.Path.{_≡_};
 ghost use Prim.Native.Nat.{_≤_};
 ghost use lib.ListN.{length, replicate};
@@ -12,16 +12,16 @@ ghost use Rattle.rota.specs.Derived.{plan, derived};
 ghost use Rattle.rota.specs.Entries.{fromSlots, played, uncoveredIs};
 ghost use Rattle.job.specs.Listing.{listingMost};
 ghost use Rattle.job.specs.Stages.{TargetsSound};
-ghost use Rattle.job.specs.Outcome.{Ends, StartedAs, PlayedAs, figureValue, ready, draws, rotaResult};
+ghost use Rattle.job.specs.Outcome.{Ends, StartedAs, PlayedAs, minutesValue, ready, draws, rotaResult};
 
 // The minutes that nobody owns.
 fn uncovered_of(people: usize, slots: usize, starts: &[u32], ends: &[u32], owners: &[u8]) -> u64
-    ensures { λ r. ⌜ r ≡ figureValue (uncoveredIs (plan people slots (now (starts .entry)) (now (ends .entry))) (now (owners .entry))) ⌝ }
+    ensures { λ r. ⌜ r ≡ minutesValue (uncoveredIs (plan people slots (now (starts .entry)) (now (ends .entry))) (now (owners .entry))) ⌝ }
 {
     let heard = rota::assignment::uncovered_minutes(people, slots, starts, ends, owners);
     match heard {
-        Figure::Is(n) => n,
-        Figure::Refused(_) => 0,
+        Minutes::Are(m) => m,
+        Minutes::Refused(_) => 0,
     }
 }
 

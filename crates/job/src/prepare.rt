@@ -3,8 +3,7 @@ use crate::Atoms;
 use crate::Made;
 use crate::Shares;
 use crate::fields::field;
-use slotset::Counted;
-use units::Number;
+use slotset::Number;
 use units::Settings;
 ghost use mathlib.Core.Path.{_≡_};
 ghost use mathlib.Core.Bool.{cond};
@@ -113,13 +112,13 @@ pub(crate) fn atoms_of(
         &mut tos,
     );
     match heard {
-        Counted::Is(n) => Atoms {
+        Number::Is(n) => Atoms {
             no: 0,
             count: n,
             starts: froms,
             ends: tos,
         },
-        Counted::Refused(k) => Atoms {
+        Number::Refused(k) => Atoms {
             no: k,
             count: 0,
             starts: froms,

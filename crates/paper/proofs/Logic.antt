@@ -1,12 +1,12 @@
 -- Tests, and chains of them. Assumes nothing.
-use mathlib.Core.Path.{_≡_, refl, sym, _∙_}
+use mathlib.Core.Path.{_≡_, refl, sym, ap, _∙_}
 use mathlib.Core.Bool.{Bool, true, false, _&&_, _||_, cond}
 use mathlib.Core.Logic.{_⊎_, inl, inr, ⊎-elim}
 use Prim.Native.Nat.{ℕ, zero, suc, _≤_, _<_, zero-le, suc-le-suc}
 use native.Mathlib.Nat.{le-of-suc-le-suc, eq-or-lt-of-le}
 use native.Mathlib.Omega.{arith}
-use borrow.Author.Tests.{leb-true}
-use lib.Dec.{leb}
+use borrow.Author.Tests.{leb-true, eqb-true}
+use lib.Dec.{leb, eqb}
 use Rattle.paper.specs.Limits.{peopleOk, slotCountOk, orElse}
 
 -- by cases on a test
@@ -18,6 +18,12 @@ by-test false X f g = g refl
 pub by-cond {ℓ} : {A : Type ℓ} (b : Bool) (x y : A) (X : A → Type 0) → (b ≡ true → X x) → (b ≡ false → X y) → X (cond b x y)
 by-cond true x y X f g = f refl
 by-cond false x y X f g = g refl
+
+-- an answer that is made by its number, 0 for none, has that number
+pub number-of-made : {A : Type 0} (num : A → ℕ) (n : ℕ) (told ref : A) → num told ≡ 0 → num ref ≡ n → num (cond (eqb n 0) told ref) ≡ n
+number-of-made {A} num n told ref p q =
+    by-test (eqb n 0) _ (λ t. ap (λ (b : Bool). num (cond b told ref)) t ∙ p ∙ sym (eqb-true n 0 t))
+    (λ f. ap (λ (b : Bool). num (cond b told ref)) f ∙ q)
 
 -- of two numbers one is below the other, or not
 pub lt-or-ge : (a b : ℕ) → (a < b) ⊎ (b ≤ a)

@@ -14,7 +14,7 @@ use Rattle.paper.specs.Count.{all, allIn, sum, count, over, fill, among}
 use Rattle.slotset.specs.declared.Found.the-variants.{At, Nothing}
 use Rattle.slotset.specs.declared.Run.the-variants as run
 use Rattle.slotset.specs.declared.Told.the-variants.{Yes, No}
-use Rattle.slotset.specs.declared.Counted.the-variants as counted
+use Rattle.slotset.specs.declared.Number.the-variants as number
 use Rattle.paper.specs.Limits.{peopleOk, slotCountOk}
 use Rattle.slotset.specs.declared.SlotSet.{SlotSet}
 use Rattle.slotset.specs.Slots.{Bits, slot, withBit, putSlot, putSlots, has}
@@ -28,7 +28,7 @@ use Rattle.units.specs.Units.{unitEnd}
 use Rattle.units.specs.Domains.{available, able, unfrozen, clear, unitFrozen}
 use Rattle.units.specs.Answers.{Written}
 use Rattle.targets.specs.Outcome as targets
-use Rattle.rota.specs.declared.Figure.the-variants as figure
+use Rattle.slots.specs.declared.Minutes.the-variants as minutes
 use Rattle.rota.specs.Board.{ownerOf, unowned}
 use Rattle.rota.specs.Lent.{fitsUnit, frozenUnit}
 use Rattle.rota.specs.Moves.{anyOf, decided, swapped, reassigned, picked, domainOf}
@@ -36,11 +36,11 @@ use Rattle.rota.specs.Plays.{step, ownersAfter, drawsOf}
 use Rattle.rota.specs.Derived.{Plan, Derived, knownBy, portion, worked, held, setsFrom, afresh}
 use Rattle.rota.specs.Recount.{knownAt, availableFor, availableAt, evenAt, setSlotAt, setAt, minutesOkAt, recounts}
 use Rattle.rota.specs.Entries as rota
-use Rattle.rota.specs.Entries.{figureNo}
+use Rattle.slots.specs.Lent.{minutesNo}
 use Rattle.rota.proofs.Entered.{recount-says}
 use Rattle.promises.specs.Entries.{Call, Component, built, noOf, afreshIn, ownersIn}
 use Rattle.promises.specs.Marked.{MarkedCases, inWords, Owned, apart, Spare, twoUnits}
-use Rattle.promises.specs.Table.{toldNo, countedNo, numberNo}
+use Rattle.promises.specs.Table.{toldNo, numberNo, numberNo}
 use Rattle.promises.specs.SetRefusals.{foundNo, runNo}
 use Rattle.promises.specs.Rota.{EndsAfresh, FrozenKeep, OwnersAvailable, CoveredStays, AddsUp, SizesRecount, after, firstCall}
 use Rattle.promises.specs.Empty.{RefusesByTable, AlwaysRefuses, refuses-next, refuses-prev, refuses-run, refuses-size}
@@ -81,9 +81,9 @@ module _ (C : Component) (M : MarkedCases C) (T : RefusesByTable C) (S : SizesRe
   always-refusing-falls (refuses-next f) = f _ _ (ap foundNo (M .case-1 [] .0))
   always-refusing-falls (refuses-prev f) = f _ _ (ap foundNo (M .case-2 [] .0))
   always-refusing-falls (refuses-run f) = f _ _ (ap runNo (M .case-3 []))
-  always-refusing-falls (refuses-size f) = f _ (ap countedNo (S still still-accepted 0 (omega arith)))
+  always-refusing-falls (refuses-size f) = f _ (ap numberNo (S still still-accepted 0 (omega arith)))
   always-refusing-falls (refuses-atomise f) =
-      f _ (ap (λ (x : Atoms). countedNo (x .answer)) (M .case-4 (zeros 1024) (zeros 1024) (room 1024) (room 1024)))
+      f _ (ap (λ (x : Atoms). numberNo (x .answer)) (M .case-4 (zeros 1024) (zeros 1024) (room 1024) (room 1024)))
   always-refusing-falls (refuses-available f) = f _ _ _ _ _ (ap toldNo (M .case-6-available (zeros 16) (room 16) .0))
   always-refusing-falls (refuses-targets f) =
       f _ _ (ap (λ (y : targets.Outcome). y .number) (M .case-9 (zeros 32) (pos 0 ∷ pos 0 ∷ []) (room 32) (omega arith)))
@@ -93,7 +93,7 @@ module _ (C : Component) (M : MarkedCases C) (T : RefusesByTable C) (S : SizesRe
   always-refusing-falls (refuses-play f) =
       f still (one-heard _ _ _ (T still) (rota-refuses .play still .heard)
       ∙ ap (λ (y : rota.Outcome). y .number) (accepted-is still still-accepted))
-  always-refusing-falls (refuses-uncovered f) = f _ _ (ap figureNo (U still still-accepted .1))
+  always-refusing-falls (refuses-uncovered f) = f _ _ (ap minutesNo (U still still-accepted .1))
 
 -- ---- one fixed answer
 
@@ -137,7 +137,7 @@ fixed-answer-falls C (fixed-run f) M H =
     omega (arith, H s 0 60 69 (f s _ 0 64 ∙ M .case-3 []) .0)
 fixed-answer-falls C (fixed-atomise f) M H =
     let l = zeros 1024 in
-    let q : counted.Is 2 ≡ counted.Is 1 =
+    let q : number.Is 2 ≡ number.Is 1 =
     sym (ap (λ (x : Atoms). x .answer) (M .case-4 l l (room 1024) (room 1024))) ∙ ap (λ (x : Atoms). x .answer) (f _ _)
     ∙ ap (λ (x : Atoms). x .answer) (M .case-5 l l (room 1024) (room 1024)) in
     let z : _≡_ {A = ℕ} 2 1 = cc in omega arith
@@ -274,13 +274,13 @@ module _ (C : Component) (g : EndsAfresh C) where
       ap (λ (y : rota.Outcome). setOf y 0 .len) q ∙ afresh-lengths ∙ sym (ap (λ (y : rota.Outcome). setOf y 1 .len) q)
 
   count-of : SizesRecount C → (p n : ℕ) → p < 2 → count 2 (λ k. eqb (getD (0 ∷ 0 ∷ []) k 0) p) ≡ n
-      → C .size (setOf (C .play c) p) ≡ counted.Is n
+      → C .size (setOf (C .play c) p) ≡ number.Is n
   count-of f p n h e =
-      f c (rest-accepted .0) p h ∙ ap (λ (o : List ℕ). counted.Is (count 2 (λ k. eqb (getD o k 0) p))) owners-rest ∙ ap counted.Is e
+      f c (rest-accepted .0) p h ∙ ap (λ (o : List ℕ). number.Is (count 2 (λ k. eqb (getD o k 0) p))) owners-rest ∙ ap number.Is e
 
   pub invented-count-falls : InventedCount C → SizesRecount C → ⊥
   invented-count-falls i f =
-      let q : counted.Is 2 ≡ counted.Is 0 =
+      let q : number.Is 2 ≡ number.Is 0 =
       sym (count-of f 0 2 (omega arith) (counts-differ .0)) ∙ i _ _ same-lengths ∙ count-of f 1 0 (omega arith) (counts-differ .1) in
       let z : _≡_ {A = ℕ} 2 0 = cc in
       omega arith
@@ -305,7 +305,7 @@ module _ (C : Component) (g : EndsAfresh C) where
   invented-uncovered-falls i f =
       let a = f (at-rest apart) still-accepted in
       let b = f (at-rest half) (rest-accepted .1) in
-      let q : figure.Is (a .0) ≡ figure.Is (b .0) = sym (a .1) ∙ i _ _ _ ∙ b .1 in
+      let q : minutes.Are (a .0) ≡ minutes.Are (b .0) = sym (a .1) ∙ i _ _ _ ∙ b .1 in
       let z : a .0 ≡ b .0 = cc in
       let s : 120 + a .0 ≡ 120 =
       ap (λ (n : ℕ). n + a .0) (sym (ap minutes-in (g (at-rest apart) still-accepted) ∙ covered-sum)) ∙ a .2 ∙ both-hours in

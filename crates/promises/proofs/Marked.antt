@@ -19,8 +19,8 @@ use Rattle.slotset.specs.Slots.{slot, has}
 use Rattle.slotset.specs.Search.{up, down, nextWith, lastBelow}
 use Rattle.slotset.specs.Answers.{lenNo, foundAs, runAs}
 use Rattle.slotset.specs.declared.Told.the-variants.{Yes, No}
-use Rattle.slotset.specs.declared.Counted.the-variants as counted
-use Rattle.slotset.specs.Answers.{countedAs, wordsAs}
+use Rattle.slotset.specs.declared.Number.the-variants as number
+use Rattle.slotset.specs.Answers.{numberAs, wordsAs}
 use Rattle.slots.specs.Lent.{slotOk, prevEnd, slotOkAt, slotRoomOk, slotsOk}
 use Rattle.slots.specs.Ranges.{Ranges, ranges, inRange, inRanges, available, rangeCountOk, rangeRoomOk, rangeOk, rangeOkAt, rangesOk}
 use Rattle.slots.specs.Ranges.{anyOf, keyOf, personOf, startOf, endOf, keyAt, keysTo, keysOf, opens, closes, joined, mergeIn, mergeAll}
@@ -31,7 +31,7 @@ use Rattle.slots.specs.Atomic.{startsOfAtoms, endsOfAtoms, baseCountsOk, baseRo
 use Rattle.slots.specs.Availability.{availabilityRoomOk, availabilityNo, availabilityOf}
 use Rattle.slots.specs.Freeze.{isAvailable}
 use Rattle.slots.proofs.Meaning.{written-at, written-past, written-length}
-use Rattle.units.specs.declared.Number.the-variants as number
+use Rattle.slotset.specs.declared.Number.the-variants as number
 use Rattle.units.specs.Settings.{boundaryOk, settingsOk}
 use Rattle.units.specs.Dates.{dateOf, weekdayOf, listed}
 use Rattle.units.specs.Answers.{numberAs, writtenAs}
@@ -82,7 +82,7 @@ front list column room =
 module _ (B : Base) where
   abbrev by : ℕ → List ℕ → List ℕ → Atoms
   by n s e = record {
-    answer = countedAs n (length s);
+    answer = numberAs n (length s);
     starts = wordsAs n (B .outStarts) (written (λ t. t) s (B .outStarts));
     ends = wordsAs n (B .outEnds) (written (λ t. t) e (B .outEnds));
   }
@@ -108,15 +108,15 @@ module _ (B : Base) where
     shape = refl
 
     plain : by 0 s e
-        ≡ record { answer = counted.Is (length s); starts = written (λ t. t) s (B .outStarts); ends = written (λ t. t) e (B .outEnds) }
-    unfolding countedAs wordsAs
+        ≡ record { answer = number.Is (length s); starts = written (λ t. t) s (B .outStarts); ends = written (λ t. t) e (B .outEnds) }
+    unfolding numberAs wordsAs
     plain = refl
 
     atomised : atomiseOf B ≡ atoms (length s) s e (B .outStarts) (B .outEnds)
     atomised =
         let h = leb-true (length s) 1024 few in
         shape ∙ ap (λ (n : ℕ). by n (startsOfAtoms B) (endsOfAtoms B)) heard ∙ ap₂ (by 0) x y ∙ plain
-        ∙ ap₂ {C = Atoms} (λ (p q : List ℕ). record { answer = counted.Is (length s); starts = p; ends = q })
+        ∙ ap₂ {C = Atoms} (λ (p q : List ℕ). record { answer = number.Is (length s); starts = p; ends = q })
         (front s (B .outStarts) (omega arith))
         (front e (B .outEnds) (omega arith) ∙ ap (λ (n : ℕ). e ++ drop n (B .outEnds)) even)
 

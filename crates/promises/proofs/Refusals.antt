@@ -3,74 +3,42 @@ use mathlib.Core.Path.{_≡_, refl, sym, ap, _∙_}
 use mathlib.Core.Bool.{Bool, true, false, cond}
 use mathlib.Core.List.{List, [], _∷_}
 use Prim.Native.Nat.{ℕ}
-use borrow.Author.Tests.{ne-eqb, eqb-true}
+use borrow.Author.Tests.{ne-eqb}
 use lib.Dec.{ltb, eqb}
 use lib.ListN.{length}
 use Rattle.paper.specs.Limits.{Test, test, heardOf}
 use Rattle.paper.specs.Count.{onto, over}
-use Rattle.paper.proofs.Logic.{by-test}
-use Rattle.slotset.specs.declared.Told.the-variants as told
-use Rattle.slotset.specs.declared.Counted.the-variants as counted
-use Rattle.slotset.specs.Answers.{toldAs, countedAs, wordsAs}
-use Rattle.slots.specs.declared.Minutes.the-variants as minutes
+use Rattle.paper.proofs.Logic.{number-of-made}
+use Rattle.slotset.specs.Answers.{toldAs, numberAs, wordsAs, toldNo, numberNo}
+use Rattle.slotset.proofs.Refusals.{number-said, told-said}
 use Rattle.slots.specs.Lent.{lentNo, lentSlotNo, minutesAs, demandIs, slotMinutesIs, minutesNo}
+use Rattle.slots.proofs.LentLaws.{minutes-said}
 use Rattle.slots.specs.Ranges.{Ranges, personOf, startOf, endOf, mergedOf}
 use Rattle.slots.specs.Merged.{Columns, columns, written, mergedNo, mergedRanges}
 use Rattle.slots.specs.Atomic as atomic
 use Rattle.slots.specs.Availability.{availableBit, rows, availabilityNo, availabilityOf}
 use Rattle.slots.specs.Freeze.{endedBy, marked, freezeNo, freezeOf, availableNo, isAvailable}
 use Rattle.units.specs.declared.Settings.{Settings}
-use Rattle.units.specs.declared.Number.the-variants as number
 use Rattle.units.specs.declared.UnitSlots.the-variants as unitSlots
-use Rattle.units.specs.declared.Duration.the-variants as duration
-use Rattle.units.specs.Answers.{numberAs, spanAs, writtenAs, unitsNo, unitNo, unitSlotNo, unitCountIs, unitSlotsIs}
+use Rattle.units.specs.Answers.{spanAs, writtenAs, unitsNo, unitNo, unitSlotNo, unitCountIs, unitSlotsIs}
 use Rattle.units.specs.Answers.{unitOfSlotIs, spanNo}
 use Rattle.units.specs.Starts.{rotationStarts, unitStarts, startsNo, rotationStartsIs, unitStartsIs}
-use Rattle.units.specs.Days.{durationNo, durationAs, coveredDaysIs, minutesPerDayIs, targetRunNo, targetRunIs}
+use Rattle.units.specs.Days.{coveredDaysIs, minutesPerDayIs, targetRunNo, targetRunIs}
 use Rattle.units.specs.Domains.{slotDomain, unitDomain, unitFrozenNo, unitFrozenIs, slotDomainNo, slotDomainIs, unitDomainNo, unitDomainIs}
 use Rattle.units.specs.Domains.{unitMask, unitDomainsNo, unitDomainsIs}
 use Rattle.units.specs.Achievable.{achievableRunNo, achievableRunIs}
-use Rattle.promises.specs.Table.{rules, Hears, Refuses, toldNo, countedNo, numberNo}
+use Rattle.promises.specs.Table.{rules, Hears, Refuses}
 use Rattle.promises.specs.Refusals.{lentTable, mergedTable, atomiseTable, availabilityTable, freezeTable, availableTable, SlotsRefuse}
 use Rattle.promises.specs.Refusals.{unitsTable, startsTable, unitFrozenTable, slotDomainTable, targetRunTable}
 use Rattle.promises.specs.Refusals.{unitDomainTable, unitDomainsTable}
 use Rattle.promises.specs.Refusals.{achievableTable, UnitsRefuse}
 use Rattle.promises.proofs.Table.{rising, tests-heard, heard-as}
 
--- ---- the number of an answer is the one that it was made with
+-- the number of an answer is the one that it was made with
 
-pub by-number : {A : Type 0} (num : A → ℕ) (n : ℕ) (told ref : A) → num told ≡ 0 → num ref ≡ n → num (cond (eqb n 0) told ref) ≡ n
-by-number {A} num n told ref p q =
-    by-test (eqb n 0) _ (λ t. ap (λ (b : Bool). num (cond b told ref)) t ∙ p ∙ sym (eqb-true n 0 t))
-    (λ f. ap (λ (b : Bool). num (cond b told ref)) f ∙ q)
-
-pub counted-no : (n k : ℕ) → countedNo (countedAs n k) ≡ n
-unfolding countedAs
-counted-no n k = by-number countedNo n (counted.Is k) (counted.Refused n) refl refl
-
-pub minutes-no : (n m : ℕ) → minutesNo (minutesAs n m) ≡ n
-unfolding minutesAs
-minutes-no n m = by-number minutesNo n (minutes.Are m) (minutes.Refused n) refl refl
-
-pub number-no : (n k : ℕ) → numberNo (numberAs n k) ≡ n
-unfolding numberAs
-number-no n k = by-number numberNo n (number.Is k) (number.Refused n) refl refl
-
-pub span-no : (n a e : ℕ) → spanNo (spanAs n a e) ≡ n
+pub span-said : (n a e : ℕ) → spanNo (spanAs n a e) ≡ n
 unfolding spanAs
-span-no n a e = by-number spanNo n (unitSlots.Span a e) (unitSlots.Refused n) refl refl
-
-pub duration-no : (n m : ℕ) → durationNo (durationAs n m) ≡ n
-unfolding durationAs
-duration-no n m = by-number durationNo n (duration.Minutes m) (duration.Refused n) refl refl
-
-yes-or-no : (b : Bool) → toldNo (cond b told.Yes told.No) ≡ 0
-yes-or-no true = refl
-yes-or-no false = refl
-
-pub told-no : (n : ℕ) (b : Bool) → toldNo (toldAs n b) ≡ n
-unfolding toldAs
-told-no n b = by-number toldNo n (cond b told.Yes told.No) (told.Refused n) (yes-or-no b) refl
+span-said n a e = number-of-made spanNo n (unitSlots.Span a e) (unitSlots.Refused n) refl refl
 
 -- where nothing is refused, what comes out is what was made; refused, it is what was there
 pub taken : {A : Type 0} (n : ℕ) (new old : A) → n ≡ 0 → cond (eqb n 0) new old ≡ new
@@ -88,7 +56,7 @@ module _ (slots : ℕ) (starts ends : List ℕ) where
 
   slot-heard : (k : ℕ) → Hears (lentTable slots starts ends (test 11 (ltb k slots) ∷ [])) (minutesNo (slotMinutesIs slots starts ends k))
   unfolding slotMinutesIs lentSlotNo heardOf
-  slot-heard k = heard-as (lentTable slots starts ends (test 11 (ltb k slots) ∷ [])) _ refl (minutes-no (lentSlotNo slots starts ends k) _)
+  slot-heard k = heard-as (lentTable slots starts ends (test 11 (ltb k slots) ∷ [])) _ refl (minutes-said (lentSlotNo slots starts ends k) _)
 
 -- refused, by the number of the answer
 not-none : (m n : ℕ) → m ≡ n → (m ≡ 0 → ⊥) → eqb n 0 ≡ false
@@ -96,12 +64,12 @@ not-none m n e h = ne-eqb n 0 (λ z. h (e ∙ z))
 
 merged-refuses : (people : ℕ) (R : Ranges) (out : Columns)
     → let x = mergedRanges people R out in
-    Refuses (rules (mergedTable people R out)) (countedNo (x .answer)) out (columns (x .persons) (x .starts) (x .ends))
+    Refuses (rules (mergedTable people R out)) (numberNo (x .answer)) out (columns (x .persons) (x .starts) (x .ends))
 unfolding mergedRanges mergedNo wordsAs heardOf
 merged-refuses people R out =
     let n = mergedNo people R out in
     let l = mergedOf R in
-    let e = counted-no n (length l) in
+    let e = number-said n (length l) in
     record {
       heard = heard-as (mergedTable people R out) _ refl e;
       kept = λ h.
@@ -111,11 +79,11 @@ merged-refuses people R out =
 
 atomise-refuses : (B : atomic.Base)
     → let x = atomic.atomiseOf B in
-    Refuses {A = List ℕ × List ℕ} (rules (atomiseTable B)) (countedNo (x .answer)) (B .outStarts, B .outEnds) (x .starts, x .ends)
+    Refuses {A = List ℕ × List ℕ} (rules (atomiseTable B)) (numberNo (x .answer)) (B .outStarts, B .outEnds) (x .starts, x .ends)
 unfolding atomic.atomiseOf atomic.atomiseNo wordsAs heardOf
 atomise-refuses B =
     let n = atomic.atomiseNo B in
-    let e = counted-no n (length (atomic.startsOfAtoms B)) in
+    let e = number-said n (length (atomic.startsOfAtoms B)) in
     record {
       heard = heard-as (atomiseTable B) _ refl e;
       kept = λ h.
@@ -136,11 +104,11 @@ availability-refuses people slots starts ends R words = record {
 
 freeze-refuses : (slots : ℕ) (starts ends frozen : List ℕ) (instant : ℕ)
     → let x = freezeOf slots starts ends frozen instant in
-    Refuses (rules (freezeTable slots starts ends frozen)) (countedNo (x .answer)) frozen (x .flags)
+    Refuses (rules (freezeTable slots starts ends frozen)) (numberNo (x .answer)) frozen (x .flags)
 unfolding freezeOf freezeNo wordsAs heardOf
 freeze-refuses slots starts ends frozen instant =
     let n = freezeNo slots starts ends frozen in
-    let e = counted-no n (endedBy slots ends instant) in
+    let e = number-said n (endedBy slots ends instant) in
     record {
       heard = heard-as (freezeTable slots starts ends frozen) _ refl e;
       kept = λ h. stays n (marked slots ends instant frozen) frozen (λ z. h (e ∙ z));
@@ -150,11 +118,11 @@ available-heard : (people slots : ℕ) (words : List ℕ) (person slot : ℕ)
     → Hears (availableTable people slots words person slot) (toldNo (isAvailable people slots words person slot))
 unfolding isAvailable availableNo heardOf
 available-heard people slots words person slot =
-    heard-as (availableTable people slots words person slot) _ refl (told-no (availableNo people slots words person slot) _)
+    heard-as (availableTable people slots words person slot) _ refl (told-said (availableNo people slots words person slot) _)
 
 demand-heard : (slots : ℕ) (starts ends : List ℕ) → Hears (lentTable slots starts ends []) (minutesNo (demandIs slots starts ends))
 unfolding demandIs
-demand-heard slots starts ends = lent-heard slots starts ends _ (minutes-no (lentNo slots starts ends) _)
+demand-heard slots starts ends = lent-heard slots starts ends _ (minutes-said (lentNo slots starts ends) _)
 
 pub slots-refuse : SlotsRefuse
 slots-refuse = record {
@@ -172,30 +140,30 @@ slots-refuse = record {
 module _ (slots units : ℕ) (firsts : List ℕ) where
   unit-count-heard : Hears (unitsTable slots units firsts []) (numberNo (unitCountIs slots units firsts))
   unfolding unitCountIs unitsNo heardOf
-  unit-count-heard = heard-as (unitsTable slots units firsts []) _ refl (number-no (unitsNo slots units firsts 0) _)
+  unit-count-heard = heard-as (unitsTable slots units firsts []) _ refl (number-said (unitsNo slots units firsts 0) _)
 
   unit-slots-heard : (u : ℕ) → Hears (unitsTable slots units firsts (test 11 (ltb u units) ∷ [])) (spanNo (unitSlotsIs slots units firsts u))
   unfolding unitSlotsIs unitNo unitsNo heardOf
   unit-slots-heard u =
-      heard-as (unitsTable slots units firsts (test 11 (ltb u units) ∷ [])) _ refl (span-no (unitNo slots units firsts u) _ _)
+      heard-as (unitsTable slots units firsts (test 11 (ltb u units) ∷ [])) _ refl (span-said (unitNo slots units firsts u) _ _)
 
   unit-of-heard : (k : ℕ) → Hears (unitsTable slots units firsts (test 11 (ltb k slots) ∷ [])) (numberNo (unitOfSlotIs slots units firsts k))
   unfolding unitOfSlotIs unitSlotNo unitsNo heardOf
   unit-of-heard k =
-      heard-as (unitsTable slots units firsts (test 11 (ltb k slots) ∷ [])) _ refl (number-no (unitSlotNo slots units firsts k) _)
+      heard-as (unitsTable slots units firsts (test 11 (ltb k slots) ∷ [])) _ refl (number-said (unitSlotNo slots units firsts k) _)
 
   unit-frozen-heard : (frozen : List ℕ) (u : ℕ)
       → Hears (unitFrozenTable frozen slots units firsts u) (toldNo (unitFrozenIs frozen slots units firsts u))
   unfolding unitFrozenIs unitFrozenNo heardOf
   unit-frozen-heard frozen u =
-      heard-as (unitFrozenTable frozen slots units firsts u) _ refl (told-no (unitFrozenNo frozen slots units firsts u) _)
+      heard-as (unitFrozenTable frozen slots units firsts u) _ refl (told-said (unitFrozenNo frozen slots units firsts u) _)
 
 -- a list that is written
 written-refuses : (t : List Test) (n : ℕ) (l old : List ℕ) → rising 1 t ≡ true → n ≡ heardOf t
     → Refuses (rules t) (numberNo (writtenAs n l old .answer)) old (writtenAs n l old .buffer)
 unfolding writtenAs
 written-refuses t n l old r e =
-    let q = number-no n (length l) in
+    let q = number-said n (length l) in
     record { heard = heard-as t _ r (q ∙ e); kept = λ h. stays n (onto l old) old (λ z. h (q ∙ z)) }
 
 module _ (s : Settings) (slots : ℕ) (starts ends list : List ℕ) where
@@ -235,24 +203,24 @@ unit-domains-refuse avail people slots units firsts masks = record {
 module _ (slots : ℕ) (starts ends : List ℕ) where
   covered-heard : Hears (lentTable slots starts ends []) (numberNo (coveredDaysIs slots starts ends))
   unfolding coveredDaysIs
-  covered-heard = lent-heard slots starts ends _ (number-no (lentNo slots starts ends) _)
+  covered-heard = lent-heard slots starts ends _ (number-said (lentNo slots starts ends) _)
 
-  per-day-heard : Hears (lentTable slots starts ends []) (durationNo (minutesPerDayIs slots starts ends))
+  per-day-heard : Hears (lentTable slots starts ends []) (minutesNo (minutesPerDayIs slots starts ends))
   unfolding minutesPerDayIs
-  per-day-heard = lent-heard slots starts ends _ (duration-no (lentNo slots starts ends) _)
+  per-day-heard = lent-heard slots starts ends _ (minutes-said (lentNo slots starts ends) _)
 
 target-run-heard : (s : Settings) (slots : ℕ) (starts ends : List ℕ)
-    → Hears (targetRunTable s slots starts ends) (durationNo (targetRunIs s slots starts ends))
+    → Hears (targetRunTable s slots starts ends) (minutesNo (targetRunIs s slots starts ends))
 unfolding targetRunIs targetRunNo heardOf
 target-run-heard s slots starts ends =
-    heard-as (targetRunTable s slots starts ends) _ refl (duration-no (targetRunNo s slots starts ends) _)
+    heard-as (targetRunTable s slots starts ends) _ refl (minutes-said (targetRunNo s slots starts ends) _)
 
 achievable-heard : (s : Settings) (avail : List ℕ) (people p slots : ℕ) (starts ends : List ℕ)
-    → Hears (achievableTable s avail people p slots starts ends) (durationNo (achievableRunIs s avail people p slots starts ends))
+    → Hears (achievableTable s avail people p slots starts ends) (minutesNo (achievableRunIs s avail people p slots starts ends))
 unfolding achievableRunIs achievableRunNo heardOf
 achievable-heard s avail people p slots starts ends =
     heard-as (achievableTable s avail people p slots starts ends) _ refl
-    (duration-no (achievableRunNo s avail people p slots starts ends) _)
+    (minutes-said (achievableRunNo s avail people p slots starts ends) _)
 
 pub units-refuse : UnitsRefuse
 units-refuse = record {

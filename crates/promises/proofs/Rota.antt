@@ -13,19 +13,19 @@ use Rattle.paper.specs.Limits.{peopleOk, slotCountOk, orElse, countsOk, heardOf
 use Rattle.paper.proofs.Logic.{by-test, both, five, and-true, slot-count-says}
 use Rattle.paper.proofs.Count.{each-all, sum-same}
 use Rattle.slotset.specs.declared.SlotSet.{SlotSet}
-use Rattle.slotset.specs.declared.Counted.the-variants as counted
+use Rattle.slotset.specs.declared.Number.the-variants as number
 use Rattle.slotset.specs.Slots.{slot, size}
-use Rattle.slotset.specs.Answers.{lenNo, rowNo, countedAs, loadOf}
+use Rattle.slotset.specs.Answers.{lenNo, rowNo, numberAs, loadOf}
 use Rattle.slotset.proofs.Refusals.{says-row}
-use Rattle.slots.specs.Lent.{slotRoomOk, demandOf}
-use Rattle.rota.specs.declared.Figure.the-variants.{Is}
+use Rattle.slots.specs.Lent.{slotRoomOk, demandOf, minutesAs}
+use Rattle.slots.specs.declared.Minutes.the-variants as minutes
 use Rattle.units.specs.Units.{unitOf}
 use Rattle.rota.specs.Board.{Board}
 use Rattle.rota.specs.Moves.{Draw, handed}
 use Rattle.rota.specs.Plays.{step, drawsOf, ownersAfter, answer, answers, touched}
 use Rattle.rota.specs.Derived.{Derived, knownBy, uncovered, held, afresh}
 use Rattle.rota.specs.Recount.{availableFor, knownAt, recounts}
-use Rattle.rota.specs.Entries.{Outcome, roomOk, uncoveredIs, figureAs, ground, slotsOfIs}
+use Rattle.rota.specs.Entries.{Outcome, roomOk, uncoveredIs, ground, slotsOfIs}
 use Rattle.rota.proofs.Entered.{PlayAsks, play-asks, recount-says}
 use Rattle.rota.proofs.Plays.{play-length, answers-length, draws-length}
 use Rattle.rota.proofs.Steps.{afresh-lengths}
@@ -148,16 +148,16 @@ module _ (c : Call) (e : noOf c ≡ 0) (o : List ℕ) (D : Derived) (room : c .p
       each-all (c .plan .slots) (λ k. knownBy (c .plan .people) (getD o k 0))
       (recount-says (c .plan) (c .avail) (c .units) (c .firsts) o D right .known)
 
-  told : uncoveredIs (c .plan) o ≡ Is (uncovered (c .plan) o)
-  unfolding uncoveredIs figureAs roomOk ground heardOf
+  told : uncoveredIs (c .plan) o ≡ minutes.Are (uncovered (c .plan) o)
+  unfolding uncoveredIs minutesAs roomOk ground heardOf
   told =
       let A = accepted-says c e in
       let r = both (slotRoomOk (c .plan .slots) (c .plan .starts) (c .plan .ends)) _ (A .room) in
-      ap (λ (n : ℕ). figureAs n (uncovered (c .plan) o))
+      ap (λ (n : ℕ). minutesAs n (uncovered (c .plan) o))
       (all-pass (uncoveredTable (c .plan) o)
       (A .counts, (and-true _ _ (r .0) (le-leb (c .plan .slots) (length o) room), (A .slots, (all-known, tt)))))
 
-  pub told-total : (u : ℕ) × (uncoveredIs (c .plan) o ≡ Is u)
+  pub told-total : (u : ℕ) × (uncoveredIs (c .plan) o ≡ minutes.Are u)
       × (sum (c .plan .people) (λ p. getD (D .minutes) p 0) + u ≡ demandOf (c .plan .slots) (c .plan .starts) (c .plan .ends))
   told-total = (
     uncovered (c .plan) o,
@@ -198,17 +198,17 @@ module _ (people slots : ℕ) (ws : List ℕ) (p : ℕ) (e : countsOk people slo
   row-is =
       ap (λ (b : Bool). cond b (loadOf ws people p slots) refused-set .set) (counts .1) ∙ load-is ws people p slots row-none
 
-  row-size : built .size row ≡ counted.Is (sum slots (slot (take 16 (drop (16 * p) ws)) 0))
-  unfolding countedAs lenNo size
-  row-size = ap (λ (b : Bool). countedAs (orElse b 1 0) (sum slots (slot (take 16 (drop (16 * p) ws)) 0))) (le-leb slots 1024 few)
+  row-size : built .size row ≡ number.Is (sum slots (slot (take 16 (drop (16 * p) ws)) 0))
+  unfolding numberAs lenNo size
+  row-size = ap (λ (b : Bool). numberAs (orElse b 1 0) (sum slots (slot (take 16 (drop (16 * p) ws)) 0))) (le-leb slots 1024 few)
 
   -- of a rota whose sets are right
   size-is : (o : List ℕ) → ((k : ℕ) → k < slots → slot ws (16 * p) k ≡ held o p k)
-      → built .size (slotsOfIs people slots ws p .set) ≡ counted.Is (count slots (λ k. eqb (getD o k 0) p))
+      → built .size (slotsOfIs people slots ws p .set) ≡ number.Is (count slots (λ k. eqb (getD o k 0) p))
   unfolding count held
   size-is o right =
       ap (built .size) row-is ∙ row-size
-      ∙ ap counted.Is (sum-same slots (slot (take 16 (drop (16 * p) ws)) 0) (held o p)
+      ∙ ap number.Is (sum-same slots (slot (take 16 (drop (16 * p) ws)) 0) (held o p)
       (λ k b. row-slot ws p k (omega (arith, few)) ∙ right k b))
 
 pub sizes-recounted : SizesRecount built
@@ -220,7 +220,7 @@ sizes-recounted c e p h =
     ap (λ (a : Outcome). built .size (slotsOfIs (c .plan .people) (c .plan .slots) (a .derived .sets) p .set)) (accepted-is c e)
     ∙ size-is (c .plan .people) (c .plan .slots) (y .derived .sets) p (A .counts)
     (omega (arith, l .0, asks c e .grounds .on .room .sets-room)) h (ownersIn c) (λ k b. r .sets p k h b)
-    ∙ sym (ap (λ (a : Outcome). counted.Is (count (c .plan .slots) (λ k. eqb (getD (a .owners) k 0) p))) (accepted-is c e))
+    ∙ sym (ap (λ (a : Outcome). number.Is (count (c .plan .slots) (λ k. eqb (getD (a .owners) k 0) p))) (accepted-is c e))
 
 -- ---- what lies past
 

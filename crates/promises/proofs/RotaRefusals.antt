@@ -13,22 +13,21 @@ use Rattle.paper.specs.Limits.{peopleOk, slotCountOk, orElse, Test, test, heard
 use Rattle.paper.specs.Count.{all, fill, over}
 use Rattle.paper.proofs.Logic.{by-test, lt-or-ge, slot-count-says}
 use Rattle.slotset.specs.declared.Changed.{Changed}
-use Rattle.slotset.specs.Answers.{rowNo, loadOf}
-use Rattle.slots.specs.Lent.{slotRoomOk, slotsOk}
+use Rattle.slotset.specs.Answers.{rowNo, loadOf, numberNo}
+use Rattle.slotset.proofs.Refusals.{number-said}
+use Rattle.slots.specs.Lent.{slotRoomOk, slotsOk, minutesNo}
+use Rattle.slots.proofs.LentLaws.{minutes-said}
 use Rattle.targets.specs.Passes.{Beyond}
 use Rattle.targets.specs.Outcome as targets
 use Rattle.targets.proofs.Promises.{eight-heard, eight-never, number-is, refused-keeps}
-use Rattle.rota.specs.declared.Figure.the-variants as figure
 use Rattle.rota.specs.Derived.{Plan, Derived, derived, knownBy, afresh, setsFrom, nobodies, unassigned, uncovered}
 use Rattle.rota.specs.Recount.{knownAt}
 use Rattle.rota.specs.Entries as rota
-use Rattle.rota.specs.Entries.{figureNo}
 use Rattle.promises.specs.Entries.{Call, playOf, ofDraws, afreshIn}
 use Rattle.promises.specs.Table.{rules, Applies, Heard, Hears, Refuses}
 use Rattle.promises.specs.Refusals.{targetsChecks, guard, TargetsRefuse, fromSlotsTable, assignTable, recountSlotsTable}
 use Rattle.promises.specs.Refusals.{recountTable, playTable, emptyTable, ownersTable, Lent, left, RotaRefuses}
 use Rattle.promises.proofs.Table.{rising, Least, tests-least, least-heard, tests-heard, heard-as}
-use Rattle.promises.proofs.Refusals.{by-number}
 
 -- ---- targets
 
@@ -76,10 +75,6 @@ pub targets-refuse : TargetsRefuse
 targets-refuse = record { compute-targets = targets-refuse-here }
 
 -- ---- rota
-
-figure-no : (n k : ℕ) → figureNo (rota.figureAs n k) ≡ n
-unfolding rota.figureAs
-figure-no n k = by-number figureNo n (figure.Is k) (figure.Refused n) refl refl
 
 -- an outcome with the number of a row of tests
 outcome-refuses : (t : List Test) (n : ℕ) (o : List ℕ) (D : Derived) (x o′ : List ℕ) (D′ : Derived) (x′ : List ℕ) → rising 1 t ≡ true
@@ -129,22 +124,22 @@ empty-refuses people slots o D =
 
 owner-heard : (people slots : ℕ) (o : List ℕ) (k : ℕ)
     → Hears (ownersTable people slots o (test 11 (ltb k slots && knownBy people (getD o k 0)) ∷ []))
-    (figureNo (rota.ownerIs people slots o k))
+    (numberNo (rota.ownerIs people slots o k))
 unfolding rota.ownerIs rota.ground heardOf
 owner-heard people slots o k =
-    heard-as (ownersTable people slots o (test 11 (ltb k slots && knownBy people (getD o k 0)) ∷ [])) _ refl (figure-no _ (getD o k 0))
+    heard-as (ownersTable people slots o (test 11 (ltb k slots && knownBy people (getD o k 0)) ∷ [])) _ refl (number-said _ (getD o k 0))
 
 minutes-heard : (people : ℕ) (m : List ℕ) (p : ℕ)
-    → Hears (test 1 (peopleOk people) ∷ test 2 (leb people (length m)) ∷ test 11 (ltb p people) ∷ []) (figureNo (rota.minutesIs people m p))
+    → Hears (test 1 (peopleOk people) ∷ test 2 (leb people (length m)) ∷ test 11 (ltb p people) ∷ []) (minutesNo (rota.minutesIs people m p))
 unfolding rota.minutesIs rota.ground heardOf
 minutes-heard people m p =
-    heard-as (test 1 (peopleOk people) ∷ test 2 (leb people (length m)) ∷ test 11 (ltb p people) ∷ []) _ refl (figure-no _ (getD m p 0))
+    heard-as (test 1 (peopleOk people) ∷ test 2 (leb people (length m)) ∷ test 11 (ltb p people) ∷ []) _ refl (minutes-said _ (getD m p 0))
 
 unassigned-heard : (people slots : ℕ) (o : List ℕ)
-    → Hears (ownersTable people slots o (test 11 (all slots (knownAt people o)) ∷ [])) (figureNo (rota.unassignedIs people slots o))
+    → Hears (ownersTable people slots o (test 11 (all slots (knownAt people o)) ∷ [])) (numberNo (rota.unassignedIs people slots o))
 unfolding rota.unassignedIs rota.ground heardOf
 unassigned-heard people slots o =
-    heard-as (ownersTable people slots o (test 11 (all slots (knownAt people o)) ∷ [])) _ refl (figure-no _ (unassigned slots o))
+    heard-as (ownersTable people slots o (test 11 (all slots (knownAt people o)) ∷ [])) _ refl (number-said _ (unassigned slots o))
 
 module _ (P : Plan) (o : List ℕ) where
   abbrev pub uncoveredTable : List Test
@@ -152,9 +147,9 @@ module _ (P : Plan) (o : List ℕ) where
       test 1 (countsOk (P .people) (P .slots)) ∷ test 2 (slotRoomOk (P .slots) (P .starts) (P .ends) && leb (P .slots) (length o))
       ∷ test 9 (slotsOk (P .slots) (P .starts) (P .ends)) ∷ test 11 (all (P .slots) (knownAt (P .people) o)) ∷ []
 
-  uncovered-heard : Hears uncoveredTable (figureNo (rota.uncoveredIs P o))
+  uncovered-heard : Hears uncoveredTable (minutesNo (rota.uncoveredIs P o))
   unfolding rota.uncoveredIs rota.ground heardOf
-  uncovered-heard = heard-as uncoveredTable _ refl (figure-no _ (uncovered P o))
+  uncovered-heard = heard-as uncoveredTable _ refl (minutes-said _ (uncovered P o))
 
 -- the empty set of no slots, refused by 1
 abbrev pub refused-set : Changed

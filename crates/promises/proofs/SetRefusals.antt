@@ -7,6 +7,7 @@ use borrow.Author.Tests.{ne-eqb}
 use lib.Dec.{eqb, leb, ltb}
 use lib.ListN.{length}
 use Rattle.paper.specs.Limits.{peopleOk, slotsMost, orElse, Test, test, heardOf}
+use Rattle.paper.proofs.Logic.{number-of-made}
 use Rattle.slotset.specs.declared.SlotSet.{SlotSet}
 use Rattle.slotset.specs.declared.Found.{Found}
 use Rattle.slotset.specs.declared.Found.the-variants as found
@@ -18,13 +19,14 @@ use Rattle.slotset.specs.Search.{nextWith, lastBelow, nextSet, First, Last}
 use Rattle.slotset.specs.Runs.{firstOfRun, lastOfRun}
 use Rattle.slotset.specs.Answers.{lenNo, slotNo, stretchNo, rowNo, rowStretchNo, slotsOf, foundAs, runAs, runStep, nextRunAs, memberStep}
 use Rattle.slotset.specs.Answers.{nextMemberAs, changedAs, newOf, putOf, stretchOf, loadOf, wordsAs, storeOf, rowStretchOf}
+use Rattle.slotset.specs.Answers.{foundNo, numberNo, runNo, nextRunNo, nextMemberNo}
 use Rattle.slotset.proofs.Meaning.{next-is, last-is}
+use Rattle.slotset.proofs.Refusals.{number-said, told-said}
 use Rattle.runs.specs.Listed.{listNo, column, runsOf, allRunsOf}
-use Rattle.promises.specs.Table.{rules, Hears, Refuses, countedNo}
-use Rattle.promises.specs.SetRefusals.{foundNo, runNo, nextRunNo, nextMemberNo, lengthTable, slotTable, stretchTable}
-use Rattle.promises.specs.SetRefusals.{rowTable, runsTable, SetsRefuse}
+use Rattle.promises.specs.Table.{rules, Hears, Refuses}
+use Rattle.promises.specs.SetRefusals.{lengthTable, slotTable, stretchTable, rowTable, runsTable, SetsRefuse}
 use Rattle.promises.proofs.Table.{rising, tests-heard, heard-as}
-use Rattle.promises.proofs.Refusals.{by-number, told-no, counted-no, stays}
+use Rattle.promises.proofs.Refusals.{stays}
 
 -- ---- the numbers
 
@@ -98,13 +100,13 @@ put-stretch-refuses v ws people person len a e = record {
 
 all-runs-refuse : (ws : List ℕ) (people person len : ℕ) (firsts lasts : List ℕ)
     → let x = allRunsOf ws people person len firsts lasts in
-    Refuses {A = List ℕ × List ℕ} (rules (runsTable ws people person len (length firsts) (length lasts))) (countedNo (x .answer))
+    Refuses {A = List ℕ × List ℕ} (rules (runsTable ws people person len (length firsts) (length lasts))) (numberNo (x .answer))
     (firsts, lasts) (x .firsts, x .lasts)
 unfolding listNo wordsAs heardOf
 all-runs-refuse ws people person len firsts lasts =
     let n = listNo ws people person len (length firsts) (length lasts) in
     let l = runsOf ws person len in
-    let e = counted-no n (length l) in
+    let e = number-said n (length l) in
     record {
       heard = heard-as (runsTable ws people person len (length firsts) (length lasts)) _ refl e;
       kept = λ h.
@@ -128,17 +130,17 @@ last-none v f len end (found.Refused n) h = absurd h
 next-found : (n v : ℕ) (f : ℕ → ℕ) (len from : ℕ) → foundNo (foundAs n (nextWith v f len from)) ≡ n
 unfolding foundAs
 next-found n v f len from =
-    by-number foundNo n (nextWith v f len from) (found.Refused n)
+    number-of-made foundNo n (nextWith v f len from) (found.Refused n)
     (first-none v f len from (nextWith v f len from) (next-is v f len from)) refl
 
 last-found : (n v : ℕ) (f : ℕ → ℕ) (len end : ℕ) → foundNo (foundAs n (lastBelow v f len end)) ≡ n
 unfolding foundAs
 last-found n v f len end =
-    by-number foundNo n (lastBelow v f len end) (found.Refused n) (last-none v f len end (lastBelow v f len end) (last-is v f len end)) refl
+    number-of-made foundNo n (lastBelow v f len end) (found.Refused n) (last-none v f len end (lastBelow v f len end) (last-is v f len end)) refl
 
 run-told : (n : ℕ) (f : ℕ → ℕ) (len i : ℕ) → runNo (runAs n f len i) ≡ n
 unfolding runAs
-run-told n f len i = by-number runNo n _ (run.Refused n) (inside (has f len i)) refl
+run-told n f len i = number-of-made runNo n _ (run.Refused n) (inside (has f len i)) refl
   where
     inside : (b : Bool) → runNo (cond b (run.Span (firstOfRun f len i) (lastOfRun f len i)) run.Outside) ≡ 0
     inside true = refl
@@ -160,13 +162,13 @@ next-none f len at = first-none 1 f len at (nextSet f len at) (next-is 1 f len a
 next-run-told : (n : ℕ) (f : ℕ → ℕ) (len at : ℕ) → nextRunNo (nextRunAs n f len at) ≡ n
 unfolding nextRunAs
 next-run-told n f len at =
-    by-number nextRunNo n (runStep f len (nextSet f len at)) (nextRun.Refused n)
+    number-of-made nextRunNo n (runStep f len (nextSet f len at)) (nextRun.Refused n)
     (run-step-none f len (nextSet f len at) (next-none f len at)) refl
 
 next-member-told : (n : ℕ) (f : ℕ → ℕ) (len at : ℕ) → nextMemberNo (nextMemberAs n f len at) ≡ n
 unfolding nextMemberAs
 next-member-told n f len at =
-    by-number nextMemberNo n (memberStep (nextSet f len at)) (nextMember.Refused n)
+    number-of-made nextMemberNo n (memberStep (nextSet f len at)) (nextMember.Refused n)
     (member-step-none (nextSet f len at) (next-none f len at)) refl
 
 pub sets-refuse : SetsRefuse
@@ -182,8 +184,8 @@ sets-refuse = record {
   all-runs = all-runs-refuse;
   found-next = next-found;
   found-last = last-found;
-  told = told-no;
-  counted = counted-no;
+  told = told-said;
+  number = number-said;
   run = run-told;
   next-run = next-run-told;
   next-member = next-member-told;

@@ -22,11 +22,11 @@ use Rattle.slotset.specs.declared.Told.the-variants.{Yes, No}
 use Rattle.slotset.specs.declared.NextRun.{NextRun}
 use Rattle.slotset.specs.declared.NextRun.the-variants as nextRun
 use Rattle.slotset.specs.declared.NextMember.the-variants as nextMember
-use Rattle.slotset.specs.declared.Counted.the-variants as counted
+use Rattle.slotset.specs.declared.Number.the-variants as number
 use Rattle.slotset.specs.Slots.{Bits, slot, putSlot, putSlots, has, Member, size, noMember}
 use Rattle.slotset.specs.Search.{nextWith, lastBelow, nextSet, First, Last}
 use Rattle.slotset.specs.Runs.{firstOfRun, lastOfRun, endOf, Ends, whenFound, runs, allRuns, AreRuns, InRuns}
-use Rattle.slotset.specs.Answers.{lenNo, slotNo, stretchNo, rowNo, rowStretchNo, slotsOf, rowSlots, foundAs, toldAs, runAs, countedAs}
+use Rattle.slotset.specs.Answers.{lenNo, slotNo, stretchNo, rowNo, rowStretchNo, slotsOf, rowSlots, foundAs, toldAs, runAs, numberAs}
 use Rattle.slotset.specs.Answers.{runStep, nextRunAs, memberStep, nextMemberAs, changedAs, newOf, putOf, stretchOf, loadOf, wordsAs}
 use Rattle.slotset.specs.Answers.{storeOf, rowStretchOf}
 use Rattle.slotset.proofs.Puts.{slot-lt, slot-puts, slot-puts-other, puts-none}
@@ -77,9 +77,9 @@ module _ (f : ℕ → ℕ) (bits : Bits f) (len : ℕ) where
   runs-members : (k : ℕ) → InRuns k (allRuns f len) ↔ Member f len k
   runs-members k = (runs-only f bits len 0 (allRuns f len) all-are k, runs-hold f bits len 0 (allRuns f len) all-are k (omega arith))
 
-  counted-members : countedAs 0 (size f len) ≡ counted.Is (length (among (λ k. eqb (f k) 1) len))
-  unfolding countedAs
-  counted-members = ap counted.Is (size-members f len bits)
+  counted-members : numberAs 0 (size f len) ≡ number.Is (length (among (λ k. eqb (f k) 1) len))
+  unfolding numberAs
+  counted-members = ap number.Is (size-members f len bits)
 
 -- ---- membership
 
@@ -171,14 +171,14 @@ all-runs-listed : (ws : List ℕ) (people person len : ℕ) (firsts lasts : List
     → listNo ws people person len (length firsts) (length lasts) ≡ 0
     → let x = allRunsOf ws people person len firsts lasts in
     let l = allRuns (rowSlots ws person) len in
-    (x .answer ≡ counted.Is (length l)) × FrontOf (λ r. r .first) l firsts (x .firsts) × FrontOf (λ r. r .last) l lasts (x .lasts)
-unfolding countedAs
+    (x .answer ≡ number.Is (length l)) × FrontOf (λ r. r .first) l firsts (x .firsts) × FrontOf (λ r. r .last) l lasts (x .lasts)
+unfolding numberAs
 all-runs-listed ws people person len firsts lasts e =
     let l = allRuns (rowSlots ws person) len in
     let n = listNo ws people person len (length firsts) (length lasts) in
     let few = runs-few (rowSlots ws person) len len 0 in
     let r = list-says ws people person len (length firsts) (length lasts) e in (
-      ap (λ (x : ℕ). countedAs x (length l)) e,
+      ap (λ (x : ℕ). numberAs x (length l)) e,
       front-of (λ r. r .first) l n firsts e (omega (arith, few, r .1 .0)),
       front-of (λ r. r .last) l n lasts e (omega (arith, few, r .1 .1)),
     )

@@ -13,9 +13,9 @@ use Rattle.paper.specs.Count.{sum}
 use Rattle.paper.proofs.Logic.{by-test, cond-zero, both, three, and-true, or-left, or-second, or-either}
 use Rattle.paper.proofs.Count.{some-one, some-here, in-each, each-in}
 use Rattle.slotset.specs.declared.Told.the-variants.{Yes, No}
-use Rattle.slotset.specs.declared.Counted.the-variants as counted
+use Rattle.slotset.specs.declared.Number.the-variants as number
 use Rattle.slotset.specs.Slots.{slot, has, valueOf}
-use Rattle.slotset.specs.Answers.{countedAs, toldAs, wordsAs}
+use Rattle.slotset.specs.Answers.{numberAs, toldAs, wordsAs}
 use Rattle.slots.specs.declared.Minutes.the-variants as minutes
 use Rattle.slots.specs.Lent.{slotsOk, minutesAt, demandOf, lentNo, lentSlotNo, minutesAs, demandIs, slotMinutesIs}
 use Rattle.slots.specs.Ranges.{Ranges, rangesOk, personOf, startOf, endOf, opens, closes, joined, inRange, inRanges, available}
@@ -113,9 +113,9 @@ module _ (people : ℕ) (R : Ranges) (out : Columns) (e : mergedNo people R out 
     taken _ (written endOf l (out .ends)) (out .ends) e,
   )
 
-  told : countedAs (mergedNo people R out) (length l) ≡ counted.Is (length l)
-  unfolding countedAs
-  told = ap (λ (n : ℕ). cond (eqb n 0) (counted.Is (length l)) (counted.Refused n)) e
+  told : numberAs (mergedNo people R out) (length l) ≡ number.Is (length l)
+  unfolding numberAs
+  told = ap (λ (n : ℕ). cond (eqb n 0) (number.Is (length l)) (number.Refused n)) e
 
   merged-by-rule : Merged people R out
   unfolding mergedRanges
@@ -173,9 +173,9 @@ module _ (B : Base) (e : atomiseNo B ≡ 0) where
   unfolding atomiseOf wordsAs
   out-ends = taken _ (written (λ t. t) E (B .outEnds)) (B .outEnds) e
 
-  out-number : atomiseOf B .answer ≡ counted.Is (length A)
-  unfolding atomiseOf countedAs
-  out-number = ap (λ (n : ℕ). cond (eqb n 0) (counted.Is (length A)) (counted.Refused n)) e
+  out-number : atomiseOf B .answer ≡ number.Is (length A)
+  unfolding atomiseOf numberAs
+  out-number = ap (λ (n : ℕ). cond (eqb n 0) (number.Is (length A)) (number.Refused n)) e
 
   split-by-rule : Split B
   split-by-rule =
@@ -287,9 +287,9 @@ module _ (slots : ℕ) (starts ends frozen : List ℕ) (instant : ℕ) (e : free
   unfolding freezeOf wordsAs
   flags-are = taken _ (marked slots ends instant frozen) frozen e
 
-  answer-is : freezeOf slots starts ends frozen instant .answer ≡ counted.Is (endedBy slots ends instant)
-  unfolding freezeOf countedAs
-  answer-is = ap (λ (n : ℕ). cond (eqb n 0) (counted.Is (endedBy slots ends instant)) (counted.Refused n)) e
+  answer-is : freezeOf slots starts ends frozen instant .answer ≡ number.Is (endedBy slots ends instant)
+  unfolding freezeOf numberAs
+  answer-is = ap (λ (n : ℕ). cond (eqb n 0) (number.Is (endedBy slots ends instant)) (number.Refused n)) e
 
   frozen-by-rule : Froze slots starts ends frozen instant
   unfolding endsBy

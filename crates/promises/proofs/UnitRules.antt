@@ -18,15 +18,15 @@ use Rattle.slotset.specs.Answers.{toldAs}
 use Rattle.slots.specs.Lent.{minutesAt, demandOf, lentNo}
 use Rattle.slots.proofs.LentLaws.{lent-says}
 use Rattle.units.specs.declared.Settings.{Settings}
-use Rattle.units.specs.declared.Number.the-variants as number
+use Rattle.slotset.specs.declared.Number.the-variants as number
 use Rattle.units.specs.declared.UnitSlots.the-variants as unitSlots
-use Rattle.units.specs.declared.Duration.the-variants as duration
+use Rattle.slots.specs.declared.Minutes.the-variants as minutes
 use Rattle.units.specs.Answers.{numberAs, spanAs, writtenAs, unitsNo, unitNo, unitSlotNo, unitSlotsIs, unitOfSlotIs}
 use Rattle.units.specs.Dates.{dateOf, weekdayOf, listed}
 use Rattle.units.specs.Units.{unitStart, unitEnd, unitsOk, unitOf, InUnit}
 use Rattle.units.specs.Starts.{startDate, everyBegins, dayBegins, rotationBegins, unitBegins, rotationStarts, unitStarts, startsNo}
 use Rattle.units.specs.Starts.{rotationStartsIs, unitStartsIs}
-use Rattle.units.specs.Days.{covers, datesMost, coveredDays, minutesPerDay, targetRun, targetRunNo, durationAs}
+use Rattle.units.specs.Days.{covers, datesMost, coveredDays, minutesPerDay, targetRun, targetRunNo, minutesAs}
 use Rattle.units.specs.Days.{coveredDaysIs, minutesPerDayIs, targetRunIs}
 use Rattle.units.specs.Domains.{available, able, domain, slotDomain, unitDomain, inMask, clear, unitFrozen, unitFrozenNo, unitFrozenIs}
 use Rattle.units.specs.Domains.{slotDomainNo, slotDomainIs, unitDomainNo, unitDomainIs, unitDomainsNo, unitDomainsIs, unfrozen}
@@ -236,14 +236,14 @@ module _ (slots : ℕ) (starts ends : List ℕ) (e : lentNo slots starts ends �
   unfolding coveredDaysIs coveredDays numberAs
   days-told = ap (λ (n : ℕ). numberAs n (count datesMost (covers slots starts))) e
 
-  per-day-told : minutesPerDayIs slots starts ends ≡ duration.Minutes (max (demandOf slots starts ends / coveredDays slots starts) 1)
-  unfolding minutesPerDayIs minutesPerDay durationAs
-  per-day-told = ap (λ (n : ℕ). durationAs n (max (demandOf slots starts ends / coveredDays slots starts) 1)) e
+  per-day-told : minutesPerDayIs slots starts ends ≡ minutes.Are (max (demandOf slots starts ends / coveredDays slots starts) 1)
+  unfolding minutesPerDayIs minutesPerDay minutesAs
+  per-day-told = ap (λ (n : ℕ). minutesAs n (max (demandOf slots starts ends / coveredDays slots starts) 1)) e
 
 target-run-told : (s : Settings) (slots : ℕ) (starts ends : List ℕ) → targetRunNo s slots starts ends ≡ 0
-    → targetRunIs s slots starts ends ≡ duration.Minutes (minutesPerDay slots starts ends * max (s .days) 1)
-unfolding targetRunIs targetRun durationAs
-target-run-told s slots starts ends e = ap (λ (n : ℕ). durationAs n (minutesPerDay slots starts ends * max (s .days) 1)) e
+    → targetRunIs s slots starts ends ≡ minutes.Are (minutesPerDay slots starts ends * max (s .days) 1)
+unfolding targetRunIs targetRun minutesAs
+target-run-told s slots starts ends e = ap (λ (n : ℕ). minutesAs n (minutesPerDay slots starts ends * max (s .days) 1)) e
 
 -- ---- runs
 
@@ -258,10 +258,10 @@ longest-is avail p slots starts ends = record {
 achievable-told : (s : Settings) (avail : List ℕ) (people p slots : ℕ) (starts ends : List ℕ)
     → achievableRunNo s avail people p slots starts ends ≡ 0
     → achievableRunIs s avail people p slots starts ends
-    ≡ duration.Minutes (min (max (longestRun avail p slots starts ends) 1) (targetRun (s .days) slots starts ends))
-unfolding achievableRunIs achievableRun achievable durationAs
+    ≡ minutes.Are (min (max (longestRun avail p slots starts ends) 1) (targetRun (s .days) slots starts ends))
+unfolding achievableRunIs achievableRun achievable minutesAs
 achievable-told s avail people p slots starts ends e =
-    ap (λ (n : ℕ). durationAs n (min (max (longestRun avail p slots starts ends) 1) (targetRun (s .days) slots starts ends))) e
+    ap (λ (n : ℕ). minutesAs n (min (max (longestRun avail p slots starts ends) 1) (targetRun (s .days) slots starts ends))) e
 
 pub units-by-rule : UnitsByRule
 units-by-rule = record {

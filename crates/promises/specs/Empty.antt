@@ -10,9 +10,9 @@ use Rattle.slots.specs.Atomic.{Base}
 use Rattle.units.specs.declared.Settings.{Settings}
 use Rattle.targets.specs.Outcome as targets
 use Rattle.rota.specs.Derived.{Plan}
-use Rattle.rota.specs.Entries.{figureNo}
+use Rattle.slots.specs.Lent.{minutesNo}
 use Rattle.promises.specs.Entries.{Call, Component, noOf, ownersIn}
-use Rattle.promises.specs.Table.{Hears, toldNo, countedNo, numberNo}
+use Rattle.promises.specs.Table.{Hears, toldNo, numberNo, numberNo}
 use Rattle.promises.specs.SetRefusals.{foundNo, runNo}
 use Rattle.promises.specs.Refusals.{playTable}
 use Rattle.promises.specs.Rota.{firstCall}
@@ -26,14 +26,14 @@ pub data AlwaysRefuses (C : Component) : Type 0 where
   refuses-next : ((s : SlotSet) (i : ℕ) → foundNo (C .next s i) ≡ 0 → ⊥) → AlwaysRefuses C
   refuses-prev : ((s : SlotSet) (i : ℕ) → foundNo (C .prev s i) ≡ 0 → ⊥) → AlwaysRefuses C
   refuses-run : ((s : SlotSet) (i : ℕ) → runNo (C .run s i) ≡ 0 → ⊥) → AlwaysRefuses C
-  refuses-size : ((s : SlotSet) → countedNo (C .size s) ≡ 0 → ⊥) → AlwaysRefuses C
-  refuses-atomise : ((B : Base) → countedNo (C .atomise B .answer) ≡ 0 → ⊥) → AlwaysRefuses C
+  refuses-size : ((s : SlotSet) → numberNo (C .size s) ≡ 0 → ⊥) → AlwaysRefuses C
+  refuses-atomise : ((B : Base) → numberNo (C .atomise B .answer) ≡ 0 → ⊥) → AlwaysRefuses C
   refuses-available : ((p n : ℕ) (ws : List ℕ) (i k : ℕ) → toldNo (C .available p n ws i k) ≡ 0 → ⊥) → AlwaysRefuses C
   refuses-targets : ((g : targets.Given) (out : List ℤ) → C .targets g out .number ≡ 0 → ⊥) → AlwaysRefuses C
   refuses-rotations : ((s : Settings) (n : ℕ) (starts ends list : List ℕ) → numberNo (C .rotations s n starts ends list .answer) ≡ 0 → ⊥)
       → AlwaysRefuses C
   refuses-play : ((c : Call) → C .play c .number ≡ 0 → ⊥) → AlwaysRefuses C
-  refuses-uncovered : ((P : Plan) (o : List ℕ) → figureNo (C .uncovered P o) ≡ 0 → ⊥) → AlwaysRefuses C
+  refuses-uncovered : ((P : Plan) (o : List ℕ) → minutesNo (C .uncovered P o) ≡ 0 → ⊥) → AlwaysRefuses C
 
 -- "One fixed answer breaks it by cases 1 to 12": one of its entries gives it, whatever it is asked
 pub data FixedAnswer (C : Component) : Type 0 where

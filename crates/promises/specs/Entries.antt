@@ -8,10 +8,10 @@ use Rattle.slotset.specs.declared.SlotSet.{SlotSet}
 use Rattle.slotset.specs.declared.Found.{Found}
 use Rattle.slotset.specs.declared.Run.{Run}
 use Rattle.slotset.specs.declared.Told.{Told}
-use Rattle.slotset.specs.declared.Counted.{Counted}
+use Rattle.slotset.specs.declared.Number.{Number}
 use Rattle.slotset.specs.Slots.{size}
 use Rattle.slotset.specs.Search.{nextSet, prevSet}
-use Rattle.slotset.specs.Answers.{lenNo, slotsOf, foundAs, runAs, countedAs}
+use Rattle.slotset.specs.Answers.{lenNo, slotsOf, foundAs, runAs, numberAs}
 use Rattle.slots.specs.Ranges.{Ranges}
 use Rattle.slots.specs.Atomic.{Base, Atoms, atomiseOf}
 use Rattle.slots.specs.Availability.{availabilityOf}
@@ -20,7 +20,7 @@ use Rattle.units.specs.declared.Settings.{Settings}
 use Rattle.units.specs.Answers.{Written}
 use Rattle.units.specs.Starts.{rotationStartsIs}
 use Rattle.targets.specs.Outcome as targets
-use Rattle.rota.specs.declared.Figure.{Figure}
+use Rattle.slots.specs.declared.Minutes.{Minutes}
 use Rattle.rota.specs.Board.{Board}
 use Rattle.rota.specs.Lent.{boardOf}
 use Rattle.rota.specs.Moves.{Draw}
@@ -128,7 +128,7 @@ pub record Component : Type 0 where
   pub next : SlotSet → ℕ → Found
   pub prev : SlotSet → ℕ → Found
   pub run : SlotSet → ℕ → Run
-  pub size : SlotSet → Counted
+  pub size : SlotSet → Number
   -- atomic slots; the words of availability at exit, of people, slots, starts, ends, ranges and words; one of its bits
   pub atomise : Base → Atoms
   pub availability : ℕ → ℕ → List ℕ → List ℕ → Ranges → List ℕ → List ℕ
@@ -138,14 +138,14 @@ pub record Component : Type 0 where
   pub rotations : Settings → ℕ → List ℕ → List ℕ → List ℕ → Written
   -- a play; the uncovered minutes of owners
   pub play : Call → rota.Outcome
-  pub uncovered : Plan → List ℕ → Figure
+  pub uncovered : Plan → List ℕ → Minutes
 
 abbrev pub built : Component
 built = record {
   next = λ s from. foundAs (lenNo (s .len)) (nextSet (slotsOf s) (s .len) from);
   prev = λ s from. foundAs (lenNo (s .len)) (prevSet (slotsOf s) (s .len) from);
   run = λ s i. runAs (lenNo (s .len)) (slotsOf s) (s .len) i;
-  size = λ s. countedAs (lenNo (s .len)) (size (slotsOf s) (s .len));
+  size = λ s. numberAs (lenNo (s .len)) (size (slotsOf s) (s .len));
   atomise = atomiseOf;
   availability = availabilityOf;
   available = isAvailable;

@@ -11,11 +11,11 @@ use Rattle.slotset.specs.declared.SlotSet.{SlotSet}
 use Rattle.slotset.specs.declared.Found.the-variants.{At, Nothing}
 use Rattle.slotset.specs.declared.Run.the-variants as run
 use Rattle.slotset.specs.declared.Told.the-variants.{Yes, No}
-use Rattle.slotset.specs.declared.Counted.the-variants as counted
+use Rattle.slotset.specs.declared.Number.the-variants as number
 use Rattle.slots.specs.Ranges.{ranges}
 use Rattle.slots.specs.Atomic.{Base, base, Atoms}
 use Rattle.units.specs.declared.Settings.{Settings}
-use Rattle.units.specs.declared.Number.the-variants as number
+use Rattle.slotset.specs.declared.Number.the-variants as number
 use Rattle.targets.specs.Outcome.{given}
 use Rattle.rota.specs.Derived.{plan, derived}
 use Rattle.promises.specs.Entries.{Call, Component}
@@ -32,7 +32,7 @@ onePerson slots starts ends count opens shuts a b = base slots starts ends 1 (ra
 
 -- that many atomic slots, from starts to ends, at the front of two columns
 abbrev pub atoms : ℕ → List ℕ → List ℕ → List ℕ → List ℕ → Atoms
-atoms n starts ends a b = record { answer = counted.Is n; starts = starts ++ drop n a; ends = ends ++ drop n b }
+atoms n starts ends a b = record { answer = number.Is n; starts = starts ++ drop n a; ends = ends ++ drop n b }
 
 -- capacity 1, capacity 0
 abbrev pub one : Float

@@ -4,10 +4,10 @@ use mathlib.Core.Path.{_≡_}
 use mathlib.Core.List.{List}
 use Prim.Native.Nat.{ℕ}
 use lib.IntN.{ℤ}
-use Rattle.slotset.specs.declared.Counted.{Counted}
+use Rattle.slotset.specs.declared.Number.{Number}
 use Rattle.slots.specs.Merged.{MergedOut, MergedEnd}
 use Rattle.slots.specs.Atomic.{Atoms, AtomsEnd}
-use Rattle.units.specs.declared.Number.{Number}
+use Rattle.slotset.specs.declared.Number.{Number}
 use Rattle.units.specs.Answers.{Written, Are}
 use Rattle.targets.specs.Outcome as targets
 use Rattle.rota.specs.Derived.{Derived}
@@ -23,8 +23,8 @@ pub record OneOutcome : Type 1 where
   pub equated : {A : Type 0} (said : A) → Only (λ (r : A). r ≡ said)
   -- a number and one buffer: availability, freeze_before, unit_domains, put_stretch, store, refusal_line
   pub equated-both : {A B : Type 0} (said : A) (left : B) → Only (λ (r : A × B). (r .0 ≡ said) × (r .1 ≡ left))
-  pub merged-ranges : (x : MergedOut) → Only (λ (r : Counted × List ℕ × List ℕ × List ℕ). MergedEnd x (r .0) (r .1) (r .2) (r .3))
-  pub atomise : (x : Atoms) → Only (λ (r : Counted × List ℕ × List ℕ). AtomsEnd x (r .0) (r .1) (r .2))
+  pub merged-ranges : (x : MergedOut) → Only (λ (r : Number × List ℕ × List ℕ × List ℕ). MergedEnd x (r .0) (r .1) (r .2) (r .3))
+  pub atomise : (x : Atoms) → Only (λ (r : Number × List ℕ × List ℕ). AtomsEnd x (r .0) (r .1) (r .2))
   -- rotation_starts, unit_starts, slot_domain, unit_domain
   pub written : (w : Written) → Only (λ (r : Number × List ℕ). Are w (r .0) (r .1))
   pub compute-targets : (g : targets.Given) (out : List ℤ) → Only (λ (r : ℕ × List ℤ). targets.Meets g out (r .0) (r .1))

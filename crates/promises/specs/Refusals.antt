@@ -10,6 +10,7 @@ use lib.IntN.{ℤ}
 use lib.ListN.{length, getD}
 use Rattle.paper.specs.Limits.{Test, test, peopleOk, slotCountOk, slotsMost, drawsMost, setWords, countsOk}
 use Rattle.paper.specs.Count.{all}
+use Rattle.slotset.specs.Answers.{toldNo, numberNo}
 use Rattle.slots.specs.Lent.{slotRoomOk, slotsOk, demandIs, slotMinutesIs, minutesNo}
 use Rattle.slots.specs.Ranges.{Ranges, ranges, rangeCountOk, rangeRoomOk, rangesOk}
 use Rattle.slots.specs.Merged.{Columns, columns, MergedOut, mergedRanges}
@@ -21,7 +22,7 @@ use Rattle.units.specs.Settings.{settingsOk}
 use Rattle.units.specs.Units.{unitsOk}
 use Rattle.units.specs.Answers.{unitCountIs, unitSlotsIs, unitOfSlotIs, spanNo}
 use Rattle.units.specs.Starts.{rotationStartsIs, unitStartsIs}
-use Rattle.units.specs.Days.{coveredDaysIs, minutesPerDayIs, targetRunIs, durationNo}
+use Rattle.units.specs.Days.{coveredDaysIs, minutesPerDayIs, targetRunIs}
 use Rattle.units.specs.Domains.{unitFrozenIs, slotDomainIs, unitDomainIs, unitDomainsNo, unitDomainsIs}
 use Rattle.units.specs.Achievable.{achievableRunIs}
 use Rattle.targets.specs.Figures.{allFiguresOk}
@@ -30,10 +31,9 @@ use Rattle.targets.specs.Outcome as targets
 use Rattle.rota.specs.Derived.{Plan, Derived, knownBy}
 use Rattle.rota.specs.Recount.{availableFor, knownAt, availableAt, recounts}
 use Rattle.rota.specs.Entries as rota
-use Rattle.rota.specs.Entries.{figureNo}
 use Rattle.draws.specs.declared.Draw.{Draw}
 use Rattle.promises.specs.Entries.{Call, playOf, ofDraws, playDrawsOf}
-use Rattle.promises.specs.Table.{Rule, rules, Hears, Refuses, toldNo, countedNo, numberNo}
+use Rattle.promises.specs.Table.{Rule, rules, Hears, Refuses}
 
 -- ---- slots
 
@@ -75,16 +75,16 @@ pub record SlotsRefuse : Type 0 where
   pub slot-minutes : (slots : ℕ) (starts ends : List ℕ) (k : ℕ)
       → Hears (lentTable slots starts ends (test 11 (ltb k slots) ∷ [])) (minutesNo (slotMinutesIs slots starts ends k))
   pub merged-ranges : (people : ℕ) (R : Ranges) (out : Columns)
-      → let x = mergedRanges people R out in Refuses (rules (mergedTable people R out)) (countedNo (x .answer)) out (mergedColumns x)
+      → let x = mergedRanges people R out in Refuses (rules (mergedTable people R out)) (numberNo (x .answer)) out (mergedColumns x)
   pub atomise : (B : atomic.Base)
       → let x = atomic.atomiseOf B in
-      Refuses {A = List ℕ × List ℕ} (rules (atomiseTable B)) (countedNo (x .answer)) (B .outStarts, B .outEnds) (x .starts, x .ends)
+      Refuses {A = List ℕ × List ℕ} (rules (atomiseTable B)) (numberNo (x .answer)) (B .outStarts, B .outEnds) (x .starts, x .ends)
   pub availability : (people slots : ℕ) (starts ends : List ℕ) (R : Ranges) (words : List ℕ)
       → Refuses (rules (availabilityTable people slots starts ends R words)) (availabilityNo people slots starts ends R words) words
       (availabilityOf people slots starts ends R words)
   pub freeze-before : (slots : ℕ) (starts ends frozen : List ℕ) (instant : ℕ)
       → let x = freezeOf slots starts ends frozen instant in
-      Refuses (rules (freezeTable slots starts ends frozen)) (countedNo (x .answer)) frozen (x .flags)
+      Refuses (rules (freezeTable slots starts ends frozen)) (numberNo (x .answer)) frozen (x .flags)
   pub is-available : (people slots : ℕ) (words : List ℕ) (person slot : ℕ)
       → Hears (availableTable people slots words person slot) (toldNo (isAvailable people slots words person slot))
 
@@ -156,11 +156,11 @@ pub record UnitsRefuse : Type 0 where
   pub covered-days : (slots : ℕ) (starts ends : List ℕ)
       → Hears (lentTable slots starts ends []) (numberNo (coveredDaysIs slots starts ends))
   pub minutes-per-day : (slots : ℕ) (starts ends : List ℕ)
-      → Hears (lentTable slots starts ends []) (durationNo (minutesPerDayIs slots starts ends))
+      → Hears (lentTable slots starts ends []) (minutesNo (minutesPerDayIs slots starts ends))
   pub target-run : (s : Settings) (slots : ℕ) (starts ends : List ℕ)
-      → Hears (targetRunTable s slots starts ends) (durationNo (targetRunIs s slots starts ends))
+      → Hears (targetRunTable s slots starts ends) (minutesNo (targetRunIs s slots starts ends))
   pub achievable-run : (s : Settings) (avail : List ℕ) (people p slots : ℕ) (starts ends : List ℕ)
-      → Hears (achievableTable s avail people p slots starts ends) (durationNo (achievableRunIs s avail people p slots starts ends))
+      → Hears (achievableTable s avail people p slots starts ends) (minutesNo (achievableRunIs s avail people p slots starts ends))
 
 -- ---- targets
 
@@ -250,16 +250,16 @@ pub record RotaRefuses : Type 0 where
       → let y = rota.emptied people slots o D in Refuses {A = Lent} (rules (emptyTable people slots o D)) (y .number) (o, D, []) (left y)
   pub owner-of-slot : (people slots : ℕ) (o : List ℕ) (k : ℕ)
       → Hears (ownersTable people slots o (test 11 (ltb k slots && knownBy people (getD o k 0)) ∷ []))
-      (figureNo (rota.ownerIs people slots o k))
+      (numberNo (rota.ownerIs people slots o k))
   pub minutes-of : (people : ℕ) (m : List ℕ) (p : ℕ)
-      → Hears (test 1 (peopleOk people) ∷ test 2 (leb people (length m)) ∷ test 11 (ltb p people) ∷ []) (figureNo (rota.minutesIs people m p))
+      → Hears (test 1 (peopleOk people) ∷ test 2 (leb people (length m)) ∷ test 11 (ltb p people) ∷ []) (minutesNo (rota.minutesIs people m p))
   pub slots-of : (people slots : ℕ) (ws : List ℕ) (p : ℕ)
       → Hears (test 1 (countsOk people slots) ∷ test 2 (leb (setWords * people) (length ws)) ∷ test 11 (ltb p people) ∷ [])
       (rota.slotsOfIs people slots ws p .number)
   pub unassigned-count : (people slots : ℕ) (o : List ℕ)
-      → Hears (ownersTable people slots o (test 11 (all slots (knownAt people o)) ∷ [])) (figureNo (rota.unassignedIs people slots o))
+      → Hears (ownersTable people slots o (test 11 (all slots (knownAt people o)) ∷ [])) (numberNo (rota.unassignedIs people slots o))
   pub uncovered-minutes : (P : Plan) (o : List ℕ)
       → Hears (test 1 (countsOk (P .people) (P .slots))
       ∷ test 2 (slotRoomOk (P .slots) (P .starts) (P .ends) && leb (P .slots) (length o))
       ∷ test 9 (slotsOk (P .slots) (P .starts) (P .ends)) ∷ test 11 (all (P .slots) (knownAt (P .people) o)) ∷ [])
-      (figureNo (rota.uncoveredIs P o))
+      (minutesNo (rota.uncoveredIs P o))

@@ -7,11 +7,11 @@ use lib.Dec.{eqb}
 use lib.ListN.{getD, take, drop}
 use Rattle.paper.specs.Limits.{nobody}
 use Rattle.paper.specs.Count.{sum, count}
-use Rattle.slotset.specs.declared.Counted.the-variants as counted
+use Rattle.slotset.specs.declared.Number.the-variants as number
 use Rattle.slotset.specs.Slots.{slot}
 use Rattle.slots.specs.Lent.{demandOf}
 use Rattle.units.specs.Units.{unitOf}
-use Rattle.rota.specs.declared.Figure.the-variants.{Is}
+use Rattle.slots.specs.declared.Minutes.the-variants as minutes
 use Rattle.rota.specs.Acts as acts
 use Rattle.rota.specs.Derived.{knownBy}
 use Rattle.rota.specs.Recount.{availableFor, recounts}
@@ -73,13 +73,13 @@ abbrev pub SizesRecount : Component → Type 0
 SizesRecount C =
     (c : Call) → noOf c ≡ 0 → (p : ℕ) → p < c .plan .people
     → C .size (slotsOfIs (c .plan .people) (c .plan .slots) (C .play c .derived .sets) p .set)
-    ≡ counted.Is (count (c .plan .slots) (λ k. eqb (after C c k) p))
+    ≡ number.Is (count (c .plan .slots) (λ k. eqb (after C c k) p))
 
 -- "minutes plus uncovered minutes equal the slots' total": the uncovered minutes are told, and this is their sum
 abbrev pub AddsUp : Component → Type 0
 AddsUp C =
     (c : Call) → noOf c ≡ 0
-    → (u : ℕ) × (C .uncovered (c .plan) (C .play c .owners) ≡ Is u)
+    → (u : ℕ) × (C .uncovered (c .plan) (C .play c .owners) ≡ minutes.Are u)
     × (sum (c .plan .people) (λ p. getD (C .play c .derived .minutes) p 0) + u
     ≡ demandOf (c .plan .slots) (c .plan .starts) (c .plan .ends))
 

@@ -8,40 +8,12 @@ use lib.Dec.{leb, ltb}
 use lib.ListN.{length}
 use Rattle.paper.specs.Limits.{Test, test, peopleOk, slotsMost, setWords}
 use Rattle.slotset.specs.declared.SlotSet.{SlotSet}
-use Rattle.slotset.specs.declared.Found.{Found}
-use Rattle.slotset.specs.declared.Found.the-variants as found
-use Rattle.slotset.specs.declared.Run.{Run}
-use Rattle.slotset.specs.declared.Run.the-variants as run
-use Rattle.slotset.specs.declared.NextRun.{NextRun}
-use Rattle.slotset.specs.declared.NextRun.the-variants as nextRun
-use Rattle.slotset.specs.declared.NextMember.{NextMember}
-use Rattle.slotset.specs.declared.NextMember.the-variants as nextMember
 use Rattle.slotset.specs.Search.{nextWith, lastBelow}
-use Rattle.slotset.specs.Answers.{lenNo, rowNo, rowStretchNo, foundAs, toldAs, countedAs, runAs, nextRunAs, nextMemberAs}
+use Rattle.slotset.specs.Answers.{lenNo, rowNo, rowStretchNo, foundAs, toldAs, numberAs, runAs, nextRunAs, nextMemberAs}
+use Rattle.slotset.specs.Answers.{foundNo, toldNo, numberNo, runNo, nextRunNo, nextMemberNo}
 use Rattle.slotset.specs.Answers.{newOf, putOf, stretchOf, loadOf, storeOf, rowStretchOf}
 use Rattle.runs.specs.Listed.{allRunsOf}
-use Rattle.promises.specs.Table.{rules, Hears, Refuses, toldNo, countedNo}
-
--- the number of an answer, 0 where it is no refusal
-abbrev pub foundNo : Found → ℕ
-foundNo (found.At i) = 0
-foundNo found.Nothing = 0
-foundNo (found.Refused n) = n
-
-abbrev pub runNo : Run → ℕ
-runNo (run.Span a b) = 0
-runNo run.Outside = 0
-runNo (run.Refused n) = n
-
-abbrev pub nextRunNo : NextRun → ℕ
-nextRunNo (nextRun.Span a b c) = 0
-nextRunNo nextRun.Done = 0
-nextRunNo (nextRun.Refused n) = n
-
-abbrev pub nextMemberNo : NextMember → ℕ
-nextMemberNo (nextMember.Slot i c) = 0
-nextMemberNo nextMember.Done = 0
-nextMemberNo (nextMember.Refused n) = n
+use Rattle.promises.specs.Table.{rules, Hears, Refuses}
 
 -- ---- the tables
 
@@ -84,13 +56,13 @@ pub record SetsRefuse : Type 0 where
   -- the list of a person's runs
   pub all-runs : (ws : List ℕ) (people person len : ℕ) (firsts lasts : List ℕ)
       → let x = allRunsOf ws people person len firsts lasts in
-      Refuses {A = List ℕ × List ℕ} (rules (runsTable ws people person len (length firsts) (length lasts))) (countedNo (x .answer))
+      Refuses {A = List ℕ × List ℕ} (rules (runsTable ws people person len (length firsts) (length lasts))) (numberNo (x .answer))
       (firsts, lasts) (x .firsts, x .lasts)
   -- an answer has the number that it was made with, whatever is asked
   pub found-next : (n v : ℕ) (f : ℕ → ℕ) (len from : ℕ) → foundNo (foundAs n (nextWith v f len from)) ≡ n
   pub found-last : (n v : ℕ) (f : ℕ → ℕ) (len end : ℕ) → foundNo (foundAs n (lastBelow v f len end)) ≡ n
   pub told : (n : ℕ) (b : Bool) → toldNo (toldAs n b) ≡ n
-  pub counted : (n k : ℕ) → countedNo (countedAs n k) ≡ n
+  pub number : (n k : ℕ) → numberNo (numberAs n k) ≡ n
   pub run : (n : ℕ) (f : ℕ → ℕ) (len i : ℕ) → runNo (runAs n f len i) ≡ n
   pub next-run : (n : ℕ) (f : ℕ → ℕ) (len at : ℕ) → nextRunNo (nextRunAs n f len at) ≡ n
   pub next-member : (n : ℕ) (f : ℕ → ℕ) (len at : ℕ) → nextMemberNo (nextMemberAs n f len at) ≡ n

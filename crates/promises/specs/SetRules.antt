@@ -11,7 +11,7 @@ use Rattle.paper.specs.Count.{among}
 use Rattle.slotset.specs.declared.SlotSet.{SlotSet}
 use Rattle.slotset.specs.declared.Run.the-variants.{Span, Outside}
 use Rattle.slotset.specs.declared.Told.the-variants.{Yes, No}
-use Rattle.slotset.specs.declared.Counted.the-variants as counted
+use Rattle.slotset.specs.declared.Number.the-variants as number
 use Rattle.slotset.specs.declared.Found.the-variants.{At, Nothing}
 use Rattle.slotset.specs.declared.NextRun.{NextRun}
 use Rattle.slotset.specs.declared.NextRun.the-variants as nextRun
@@ -19,7 +19,7 @@ use Rattle.slotset.specs.declared.NextMember.the-variants as nextMember
 use Rattle.slotset.specs.Slots.{Bits, Member, has, size, noMember, slot}
 use Rattle.slotset.specs.Search.{nextWith, lastBelow, nextSet, prevSet, nextUnsetAfter, prevUnsetBefore, First, Last}
 use Rattle.slotset.specs.Runs.{RunAround, Ends, allRuns, AreRuns, InRuns}
-use Rattle.slotset.specs.Answers.{lenNo, slotNo, stretchNo, rowNo, rowStretchNo, slotsOf, rowSlots, foundAs, toldAs, runAs, countedAs}
+use Rattle.slotset.specs.Answers.{lenNo, slotNo, stretchNo, rowNo, rowStretchNo, slotsOf, rowSlots, foundAs, toldAs, runAs, numberAs}
 use Rattle.slotset.specs.Answers.{nextRunAs, nextMemberAs, newOf, putOf, stretchOf, loadOf, storeOf, rowStretchOf}
 use Rattle.runs.specs.Listed.{listNo, allRunsOf}
 
@@ -99,9 +99,9 @@ pub record SetsByRule : Type 0 where
       → listNo ws people person len (length firsts) (length lasts) ≡ 0
       → let x = allRunsOf ws people person len firsts lasts in
       let l = allRuns (rowSlots ws person) len in
-      (x .answer ≡ counted.Is (length l)) × FrontOf (λ r. r .first) l firsts (x .firsts) × FrontOf (λ r. r .last) l lasts (x .lasts)
+      (x .answer ≡ number.Is (length l)) × FrontOf (λ r. r .first) l firsts (x .firsts) × FrontOf (λ r. r .last) l lasts (x .lasts)
   -- the size is the number of members
-  pub count : (f : ℕ → ℕ) → Bits f → (len : ℕ) → countedAs 0 (size f len) ≡ counted.Is (length (among (λ k. eqb (f k) 1) len))
+  pub count : (f : ℕ → ℕ) → Bits f → (len : ℕ) → numberAs 0 (size f len) ≡ number.Is (length (among (λ k. eqb (f k) 1) len))
   -- a new set is empty
   pub new : (len : ℕ) → lenNo len ≡ 0 → (newOf len .set .len ≡ len) × ((k : ℕ) → slotsOf (newOf len .set) k ≡ 0)
   -- insert (v = 1) and remove (v = 0) of a slot, and of each slot of a stretch

@@ -7,7 +7,7 @@ use Prim.Native.Nat.{ℕ, _-_, _≤_, _<_}
 use lib.ListN.{length, getD}
 use Rattle.paper.specs.Count.{sum}
 use Rattle.slotset.specs.declared.Told.the-variants.{Yes}
-use Rattle.slotset.specs.declared.Counted.the-variants as counted
+use Rattle.slotset.specs.declared.Number.the-variants as number
 use Rattle.slotset.specs.Slots.{slot}
 use Rattle.slotset.specs.Answers.{rowSlots}
 use Rattle.slots.specs.declared.Minutes.the-variants as minutes
@@ -23,7 +23,7 @@ use Rattle.promises.specs.SetRules.{TheOne}
 -- person, with gaps, none empty, and has exactly the ranges' minutes; it is told, with its number, at the front of the columns
 pub record Merged (people : ℕ) (R : Ranges) (out : Columns) : Type 0 where
   pub list : TheOne (IsMerged (inRanges R)) (mergedOf R)
-  pub number : mergedRanges people R out .answer ≡ counted.Is (length (mergedOf R))
+  pub number : mergedRanges people R out .answer ≡ number.Is (length (mergedOf R))
   pub persons : (k : ℕ) → k < length (mergedOf R) → getD (mergedRanges people R out .persons) k 0 ≡ personOf (getD (mergedOf R) k 0)
   pub starts : (k : ℕ) → k < length (mergedOf R) → getD (mergedRanges people R out .starts) k 0 ≡ startOf (getD (mergedOf R) k 0)
   pub ends : (k : ℕ) → k < length (mergedOf R) → getD (mergedRanges people R out .ends) k 0 ≡ endOf (getD (mergedOf R) k 0)
@@ -41,7 +41,7 @@ pub record Split (B : Base) : Type 0 where
       → TheOne (λ c. IsCuts (isCut (mergedOf (B .ranges))) (getD (B .starts) k 0) c (getD (B .ends) k 0))
       (cutsIn (mergedOf (B .ranges)) (getD (B .starts) k 0) (getD (B .ends) k 0))
   -- the pieces of all of them, in order, are told with their number at the front of the columns
-  pub number : atomiseOf B .answer ≡ counted.Is (length (startsOfAtoms B))
+  pub number : atomiseOf B .answer ≡ number.Is (length (startsOfAtoms B))
   pub starts : (k : ℕ) → k < length (startsOfAtoms B) → getD (atomiseOf B .starts) k 0 ≡ getD (startsOfAtoms B) k 0
   pub ends : (k : ℕ) → k < length (startsOfAtoms B) → getD (atomiseOf B .ends) k 0 ≡ getD (endsOfAtoms B) k 0
   -- past their end the columns stay
@@ -60,7 +60,7 @@ pub record Froze (slots : ℕ) (starts ends frozen : List ℕ) (instant : ℕ) :
   pub marked : (k : ℕ) → k < slots → getD ends k 0 ≤ instant → slot (freezeOf slots starts ends frozen instant .flags) 0 k ≡ 1
   pub kept : (k : ℕ) → (k < slots → getD ends k 0 ≤ instant → ⊥)
       → slot (freezeOf slots starts ends frozen instant .flags) 0 k ≡ slot frozen 0 k
-  pub number : freezeOf slots starts ends frozen instant .answer ≡ counted.Is (endedBy slots ends instant)
+  pub number : freezeOf slots starts ends frozen instant .answer ≡ number.Is (endedBy slots ends instant)
 
 pub record SlotsByRule : Type 0 where
   -- the length of a slot is its end less its start; demand is the sum of all

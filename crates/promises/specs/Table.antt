@@ -1,16 +1,10 @@
--- The table of what a caller hears, as one entry judges it; and the number that an answer has. Assumes nothing.
+-- The table of what a caller hears, as one entry judges it. Assumes nothing.
 use mathlib.Core.Path.{_≡_}
 use mathlib.Core.Bool.{false}
 use mathlib.Core.List.{List, [], _∷_}
 use mathlib.Core.Logic.{_⊎_, _↔_}
 use Prim.Native.Nat.{ℕ, _<_}
 use Rattle.paper.specs.Limits.{Test}
-use Rattle.slotset.specs.declared.Told.{Told}
-use Rattle.slotset.specs.declared.Told.the-variants as told
-use Rattle.slotset.specs.declared.Counted.{Counted}
-use Rattle.slotset.specs.declared.Counted.the-variants as counted
-use Rattle.units.specs.declared.Number.{Number}
-use Rattle.units.specs.declared.Number.the-variants as number
 
 -- ---- the table
 
@@ -42,18 +36,3 @@ Hears t n = Heard (rules t) n
 pub record Refuses {A : Type 0} (t : List Rule) (n : ℕ) (entry exit : A) : Type 0 where
   pub heard : Heard t n
   pub kept : (n ≡ 0 → ⊥) → exit ≡ entry
-
--- ---- the number of an answer, 0 where it is no refusal. Those of minutes, spans, durations and figures stand in their crates
-
-abbrev pub toldNo : Told → ℕ
-toldNo told.Yes = 0
-toldNo told.No = 0
-toldNo (told.Refused n) = n
-
-abbrev pub countedNo : Counted → ℕ
-countedNo (counted.Is k) = 0
-countedNo (counted.Refused n) = n
-
-abbrev pub numberNo : Number → ℕ
-numberNo (number.Is k) = 0
-numberNo (number.Refused n) = n

@@ -12,9 +12,9 @@ use Rattle.slotset.specs.Slots.{slot}
 use Rattle.slotset.specs.Answers.{rowSlots}
 use Rattle.slots.specs.Lent.{minutesAt, demandOf, lentNo}
 use Rattle.units.specs.declared.Settings.{Settings}
-use Rattle.units.specs.declared.Number.the-variants as number
+use Rattle.slotset.specs.declared.Number.the-variants as number
 use Rattle.units.specs.declared.UnitSlots.the-variants as unitSlots
-use Rattle.units.specs.declared.Duration.the-variants as duration
+use Rattle.slots.specs.declared.Minutes.the-variants as minutes
 use Rattle.units.specs.Answers.{Written, unitNo, unitSlotNo, unitSlotsIs, unitOfSlotIs}
 use Rattle.units.specs.Dates.{dateOf, weekdayOf}
 use Rattle.units.specs.Units.{unitStart, unitEnd, unitsOk, InUnit}
@@ -101,13 +101,13 @@ pub record UnitsByRule : Type 0 where
   pub dates : (slots : ℕ) (starts ends : List ℕ) → lentNo slots starts ends ≡ 0 → (k : ℕ) → k < slots → startDate starts k < datesMost
   -- "Minutes a day are demand div covered days, at least 1. Target run is that times the shift days, at least 1 day."
   pub per-day : (slots : ℕ) (starts ends : List ℕ) → lentNo slots starts ends ≡ 0
-      → minutesPerDayIs slots starts ends ≡ duration.Minutes (max (demandOf slots starts ends / coveredDays slots starts) 1)
+      → minutesPerDayIs slots starts ends ≡ minutes.Are (max (demandOf slots starts ends / coveredDays slots starts) 1)
   pub target-run : (s : Settings) (slots : ℕ) (starts ends : List ℕ) → targetRunNo s slots starts ends ≡ 0
-      → targetRunIs s slots starts ends ≡ duration.Minutes (minutesPerDay slots starts ends * max (s .days) 1)
+      → targetRunIs s slots starts ends ≡ minutes.Are (minutesPerDay slots starts ends * max (s .days) 1)
   -- "Achievable run: the longest sum over neighbouring available slots (gaps in time don't break it), at least 1, at most the target run."
   pub longest : (avail : List ℕ) (p slots : ℕ) (starts ends : List ℕ)
       → TheOne (Longest (available avail p) (minutesAt starts ends) slots) (longestRun avail p slots starts ends)
   pub achievable : (s : Settings) (avail : List ℕ) (people p slots : ℕ) (starts ends : List ℕ)
       → achievableRunNo s avail people p slots starts ends ≡ 0
       → achievableRunIs s avail people p slots starts ends
-      ≡ duration.Minutes (min (max (longestRun avail p slots starts ends) 1) (targetRun (s .days) slots starts ends))
+      ≡ minutes.Are (min (max (longestRun avail p slots starts ends) 1) (targetRun (s .days) slots starts ends))

@@ -1,7 +1,7 @@
 // Replays stored answers of the Rust on slots: reads records from standard input, asks the library the same, refusals included, and tells
 // how many answers it compared and how many differ. `oracle/store` writes the records (oracle/src/stored_slots.rs has their layout).
 use slots::Minutes;
-use slotset::Counted;
+use slotset::Number;
 use slotset::Told;
 use stored::Tally;
 use stored::Turn;
@@ -182,15 +182,15 @@ fn refused(number: u8) -> usize {
     65000 + number as usize
 }
 
-fn refused_minutes(number: u8) -> u32 {
-    4000000000 + number as u32
+fn refused_minutes(number: u8) -> u64 {
+    4000000000 + number as u64
 }
 
 // An answer as it is stored: a count, yes or no, a number alone, minutes.
-fn counted(answer: Counted) -> usize {
+fn counted(answer: Number) -> usize {
     match answer {
-        Counted::Is(k) => k,
-        Counted::Refused(n) => refused(n),
+        Number::Is(k) => k,
+        Number::Refused(n) => refused(n),
     }
 }
 
@@ -206,7 +206,7 @@ fn number(n: u8) -> usize {
     if n == 0 { 0 } else { refused(n) }
 }
 
-fn minutes(answer: Minutes) -> u32 {
+fn minutes(answer: Minutes) -> u64 {
     match answer {
         Minutes::Are(m) => m,
         Minutes::Refused(n) => refused_minutes(n),
@@ -345,8 +345,8 @@ fn length_answers(tally: Tally, b: &[u8]) -> Tally {
         of_sixteen(&ends, long(b, 6)),
         size(b, SLOT_AT),
     );
-    let t1 = tally.with(minutes(all) == quad(b, DEMAND_DUE_AT));
-    t1.with(minutes(one) == quad(b, MINUTES_DUE_AT))
+    let t1 = tally.with(minutes(all) == quad(b, DEMAND_DUE_AT) as u64);
+    t1.with(minutes(one) == quad(b, MINUTES_DUE_AT) as u64)
 }
 
 // All answers of a record.

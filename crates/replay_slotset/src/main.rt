@@ -52,10 +52,10 @@ fn told(answer: Told) -> usize {
     }
 }
 
-fn counted(answer: slotset::Counted) -> usize {
+fn counted(answer: slotset::Number) -> usize {
     match answer {
-        slotset::Counted::Is(k) => k,
-        slotset::Counted::Refused(_) => REFUSED,
+        slotset::Number::Is(k) => k,
+        slotset::Number::Refused(_) => REFUSED,
     }
 }
 

@@ -1,5 +1,7 @@
 // Replays stored answers of the Rust on units: reads records from standard input, asks the library the same, refusals included, and tells
 // how many answers it compared and how many differ. `oracle/store` writes the records (oracle/src/stored_units.rs has their layout).
+use slots::Minutes;
+use slotset::Number;
 use slotset::Told;
 use stored::Tally;
 use stored::Turn;
@@ -20,8 +22,6 @@ use stored::short;
 use stored::shorts;
 use stored::size;
 use stored::word;
-use units::Duration;
-use units::Number;
 use units::Settings;
 use units::UnitSlots;
 ghost use Prim.Native.Nat.{_≤_};
@@ -199,10 +199,10 @@ fn number(n: u8) -> usize {
     if n == 0 { 0 } else { refused(n) }
 }
 
-fn minutes(answer: Duration) -> u64 {
+fn minutes(answer: Minutes) -> u64 {
     match answer {
-        Duration::Minutes(m) => m,
-        Duration::Refused(n) => refused_minutes(n),
+        Minutes::Are(m) => m,
+        Minutes::Refused(n) => refused_minutes(n),
     }
 }
 

@@ -13,13 +13,12 @@ use Rattle.paper.proofs.Logic.{by-test, both, three, cond-zero, people-says, sl
 use Rattle.paper.proofs.Count.{all-each, fill-none, fill-more, sum-more}
 use Rattle.slots.specs.Lent.{slotsOk}
 use Rattle.units.specs.Units.{unitsOk}
-use Rattle.rota.specs.declared.Figure.the-variants.{Is, Refused}
 use Rattle.rota.specs.Derived.{Plan, PlanSound, Derived, derived, knownBy, unassigned, afresh, setsFrom}
 use Rattle.rota.specs.Derived.{nobodies, InStep, Makes, HandedOver, OneOwner}
 use Rattle.rota.specs.Recount.{firstFail, availableFor, knownAt, availableAt, recounts}
 use Rattle.rota.specs.Entries.{roomOk, ground, Ended, fromSlotsNo, fromSlots, assignNo, assigned, recountNo}
 use Rattle.rota.specs.Entries.{recountSlotsNo}
-use Rattle.rota.specs.Entries.{emptyNo, emptied, figureAs}
+use Rattle.rota.specs.Entries.{emptyNo, emptied}
 use Rattle.rota.proofs.Scans.{first-passes, fails-none}
 use Rattle.rota.proofs.Entered.{Chain, chain-end, chain-more, chain-then, chain-stops, chain-goes, ground-chain, ground-all}
 use Rattle.rota.proofs.Entered.{ground-stops, ground-goes, Grounds, grounds, Recounted, recount-says, recount-step, ended-no}
@@ -269,26 +268,24 @@ module _ (people slots : ℕ) (o : List ℕ) (D : Derived) where
 
 -- ---- readers
 
--- a figure, where nothing stands against it and where something does
-module _ (n m : ℕ) (e : n ≡ m) where
-  pub figure-is : (x y : ℕ) → n ≡ 0 → x ≡ y → Is x ≡ figureAs m y
-  unfolding figureAs
-  figure-is x y z q = let t : eqb m 0 ≡ true = eq-eqb m 0 (sym e ∙ z) in simp t (ap Is q)
+-- three tests, then one more for 11, whatever kind of answer is made by the number
+module _ {A : Type 0} (is refused : ℕ → A) (a b c t : Bool) (m x : ℕ) (em : m ≡ ground a b c 0) where
+  abbrev n : ℕ
+  n = ground a b c (orElse t 11 0)
 
-  pub figure-no : (y : ℕ) → (n ≡ 0 → ⊥) → Refused n ≡ figureAs m y
-  unfolding figureAs
-  figure-no y z = let t : eqb m 0 ≡ false = ne-eqb m 0 (λ q. z (e ∙ q)) in simp t (ap Refused e)
+  by-no : (k : ℕ) → k ≡ n → (k ≡ 0 → ⊥) → refused k ≡ cond (eqb n 0) (is x) (refused n)
+  by-no k e z = simp (ne-eqb n 0 (λ q. z (e ∙ q))) (ap refused e)
 
--- three tests, then one more for 11
-module _ (a b c t : Bool) (m x : ℕ) (em : m ≡ ground a b c 0) where
-  pub figure-stops : (m ≡ 0 → ⊥) → Refused m ≡ figureAs (ground a b c (orElse t 11 0)) x
-  figure-stops z = figure-no m (ground a b c (orElse t 11 0)) (ground-stops a b c m _ em z) x z
+  pub read-stops : (m ≡ 0 → ⊥) → refused m ≡ cond (eqb n 0) (is x) (refused n)
+  read-stops z = by-no m (ground-stops a b c m _ em z) z
 
-  pub figure-11 : m ≡ 0 → t ≡ false → Refused 11 ≡ figureAs (ground a b c (orElse t 11 0)) x
-  figure-11 z f = figure-no 11 (ground a b c (orElse t 11 0)) (ground-goes a b c m _ 11 em z (stops t 11 0 f)) x (λ q. omega arith)
+  pub read-11 : m ≡ 0 → t ≡ false → refused 11 ≡ cond (eqb n 0) (is x) (refused n)
+  read-11 z f = by-no 11 (ground-goes a b c m _ 11 em z (stops t 11 0 f)) (λ q. omega arith)
 
-  pub figure-told : (y : ℕ) → m ≡ 0 → t ≡ true → y ≡ x → Is y ≡ figureAs (ground a b c (orElse t 11 0)) x
-  figure-told y z f q = figure-is 0 (ground a b c (orElse t 11 0)) (ground-goes a b c m _ 0 em z (passes t 11 0 0 f refl)) y x refl q
+  pub read-told : (y : ℕ) → m ≡ 0 → t ≡ true → y ≡ x → is y ≡ cond (eqb n 0) (is x) (refused n)
+  read-told y z f q =
+      let e : 0 ≡ n = ground-goes a b c m _ 0 em z (passes t 11 0 0 f refl) in
+      simp (eq-eqb n 0 (sym e)) (ap is q)
 
 -- how many nobody owns, slot by slot
 pub nobody-more : (o : List ℕ) (k n : ℕ) → n ≡ unassigned k o → getD o k 0 ≡ nobody → n + 1 ≡ unassigned (k + 1) o

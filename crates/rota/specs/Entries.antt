@@ -8,11 +8,11 @@ use lib.ListN.{length, set, getD, replicate}
 use Rattle.paper.specs.Limits.{peopleOk, slotCountOk, drawsMost, nobody, orElse, countsOk}
 use Rattle.paper.specs.Count.{all, fill, over, onto}
 use Rattle.slotset.specs.declared.Changed.{Changed}
-use Rattle.slotset.specs.Answers.{loadOf}
-use Rattle.slots.specs.Lent.{slotRoomOk, slotsOk}
+use Rattle.slotset.specs.declared.Number.{Number}
+use Rattle.slotset.specs.Answers.{loadOf, numberAs}
+use Rattle.slots.specs.declared.Minutes.{Minutes}
+use Rattle.slots.specs.Lent.{slotRoomOk, slotsOk, minutesAs}
 use Rattle.units.specs.Units.{unitsOk}
-use Rattle.rota.specs.declared.Figure.{Figure}
-use Rattle.rota.specs.declared.Figure.the-variants.{Is, Refused}
 use Rattle.rota.specs.Plays.{drawsOf, ownersAfter, answers}
 use Rattle.rota.specs.Derived.{Plan, Derived, derived, knownBy, afresh, setsFrom, nobodies, unassigned, uncovered}
 use Rattle.rota.specs.Recount.{availableFor, knownAt, availableAt, recounts}
@@ -130,36 +130,28 @@ emptied people slots o D =
     outcome (emptyNo people slots o D) o D [] (fill nobody 0 slots o)
     (derived (setsFrom people slots (nobodies slots) (D .sets)) (over (λ _. 0) people (D .minutes))) []
 
--- ---- readers: the number n, or the figure
-
-unfoldable pub figureAs : ℕ → ℕ → Figure
-figureAs n x = cond (eqb n 0) (Is x) (Refused n)
-
--- the number of the refusal, or 0
-abbrev pub figureNo : Figure → ℕ
-figureNo (Is x) = 0
-figureNo (Refused n) = n
+-- ---- readers: the number of the refusal, or what was asked
 
 -- the owner of a slot: 1, 2, 11
-unfoldable pub ownerIs : ℕ → ℕ → List ℕ → ℕ → Figure
+unfoldable pub ownerIs : ℕ → ℕ → List ℕ → ℕ → Number
 ownerIs people slots o k =
-    figureAs (ground (countsOk people slots) (leb slots (length o)) true (orElse (ltb k slots && knownBy people (getD o k 0)) 11 0))
+    numberAs (ground (countsOk people slots) (leb slots (length o)) true (orElse (ltb k slots && knownBy people (getD o k 0)) 11 0))
     (getD o k 0)
 
 -- a person's minutes: 1, 2, 11
-unfoldable pub minutesIs : ℕ → List ℕ → ℕ → Figure
-minutesIs people m p = figureAs (ground (peopleOk people) (leb people (length m)) true (orElse (ltb p people) 11 0)) (getD m p 0)
+unfoldable pub minutesIs : ℕ → List ℕ → ℕ → Minutes
+minutesIs people m p = minutesAs (ground (peopleOk people) (leb people (length m)) true (orElse (ltb p people) 11 0)) (getD m p 0)
 
 -- how many slots nobody owns: 1, 2, 11 for an unknown owner
-unfoldable pub unassignedIs : ℕ → ℕ → List ℕ → Figure
+unfoldable pub unassignedIs : ℕ → ℕ → List ℕ → Number
 unassignedIs people slots o =
-    figureAs (ground (countsOk people slots) (leb slots (length o)) true (orElse (all slots (knownAt people o)) 11 0)) (unassigned
+    numberAs (ground (countsOk people slots) (leb slots (length o)) true (orElse (all slots (knownAt people o)) 11 0)) (unassigned
     slots o)
 
 -- the minutes that nobody owns: 1, 2, 9, 11
-unfoldable pub uncoveredIs : Plan → List ℕ → Figure
+unfoldable pub uncoveredIs : Plan → List ℕ → Minutes
 uncoveredIs P o =
-    figureAs (ground (countsOk (P .people) (P .slots)) (slotRoomOk (P .slots) (P .starts) (P .ends) && leb (P .slots) (length o))
+    minutesAs (ground (countsOk (P .people) (P .slots)) (slotRoomOk (P .slots) (P .starts) (P .ends) && leb (P .slots) (length o))
     (slotsOk (P .slots) (P .starts) (P .ends)) (orElse (all (P .slots) (knownAt (P .people) o)) 11 0)) (uncovered P o)
 
 -- a person's slots, as a set by value: 1, 2, 11; refused, the empty set of no slots

@@ -1,5 +1,4 @@
 // Owners, with each person's set of slots and minutes kept in step with them.
-use crate::Figure;
 use crate::checks::ground;
 use crate::checks::rota_ground;
 use crate::recount::available_for;
@@ -11,7 +10,9 @@ use crate::recount::worked_by;
 use paper::both;
 use paper::counts_ok;
 use paper::words_ok;
+use slots::Minutes;
 use slotset::Changed;
+use slotset::Number;
 use slotset::SlotSet;
 ghost use mathlib.Core.Path.{_≡_};
 ghost use mathlib.Core.Bool.{true};
@@ -388,7 +389,7 @@ pub fn empty(
 }
 
 // The owner of a slot, 255 for nobody. Refusals 1, 2, 11.
-pub fn owner_of_slot(people: usize, slots: usize, owners: &[u8], slot: usize) -> Figure
+pub fn owner_of_slot(people: usize, slots: usize, owners: &[u8], slot: usize) -> Number
     ensures { λ r. ⌜ r ≡ ownerIs people slots (now (owners .entry)) slot ⌝ }
 {
     let n = ground(counts_ok(people, slots), slots <= owners.len(), true);
@@ -396,27 +397,27 @@ pub fn owner_of_slot(people: usize, slots: usize, owners: &[u8], slot: usize) ->
         if slot < slots {
             let owner = owners[slot];
             if known_by(people, owner) {
-                return Figure::Is(owner as u64);
+                return Number::Is(owner as usize);
             }
-            return Figure::Refused(11);
+            return Number::Refused(11);
         }
-        return Figure::Refused(11);
+        return Number::Refused(11);
     }
-    Figure::Refused(n)
+    Number::Refused(n)
 }
 
 // A person's minutes. Refusals 1, 2, 11.
-pub fn minutes_of(people: usize, minutes: &[u64], person: usize) -> Figure
+pub fn minutes_of(people: usize, minutes: &[u64], person: usize) -> Minutes
     ensures { λ r. ⌜ r ≡ minutesIs people (now (minutes .entry)) person ⌝ }
 {
     let n = ground(paper::people_ok(people), people <= minutes.len(), true);
     if n == 0 {
         if person < people {
-            return Figure::Is(minutes[person]);
+            return Minutes::Are(minutes[person]);
         }
-        return Figure::Refused(11);
+        return Minutes::Refused(11);
     }
-    Figure::Refused(n)
+    Minutes::Refused(n)
 }
 
 // A person's slots, as a set by value. Refusals 1, 2, 11.
@@ -437,11 +438,11 @@ pub fn slots_of(people: usize, slots: usize, sets: &[u64], person: usize) -> Cha
 }
 
 // How many of the slots nobody owns.
-fn count_nobody(owners: &[u8], slots: usize) -> u64
+fn count_nobody(owners: &[u8], slots: usize) -> usize
     requires { ⌜ slots ≤ length (now owners) ⌝ }
     ensures { λ r. ⌜ r ≡ unassigned slots (now (owners .entry)) ⌝ }
 {
-    let mut n: u64 = 0;
+    let mut n: usize = 0;
     let mut k: usize = 0;
     while k < slots {
         if owners[k] == 255 {
@@ -455,17 +456,17 @@ fn count_nobody(owners: &[u8], slots: usize) -> u64
 }
 
 // How many slots nobody owns. Refusals 1, 2, 11 (unknown owner).
-pub fn unassigned_count(people: usize, slots: usize, owners: &[u8]) -> Figure
+pub fn unassigned_count(people: usize, slots: usize, owners: &[u8]) -> Number
     ensures { λ r. ⌜ r ≡ unassignedIs people slots (now (owners .entry)) ⌝ }
 {
     let n = ground(counts_ok(people, slots), slots <= owners.len(), true);
     if n == 0 {
         if first_unknown(people, slots, owners) < slots {
-            return Figure::Refused(11);
+            return Number::Refused(11);
         }
-        return Figure::Is(count_nobody(owners, slots));
+        return Number::Is(count_nobody(owners, slots));
     }
-    Figure::Refused(n)
+    Number::Refused(n)
 }
 
 // The minutes that nobody owns. Refusals 1, 2, 9, 11 (unknown owner).
@@ -475,7 +476,7 @@ pub fn uncovered_minutes(
     starts: &[u32],
     ends: &[u32],
     owners: &[u8],
-) -> Figure
+) -> Minutes
     ensures { λ r. ⌜ r ≡ uncoveredIs (plan people slots (now (starts .entry)) (now (ends .entry))) (now (owners .entry)) ⌝ }
 {
     let room = both(
@@ -489,9 +490,9 @@ pub fn uncovered_minutes(
     );
     if n == 0 {
         if first_unknown(people, slots, owners) < slots {
-            return Figure::Refused(11);
+            return Minutes::Refused(11);
         }
-        return Figure::Is(worked_by(people, slots, starts, ends, owners, 255));
+        return Minutes::Are(worked_by(people, slots, starts, ends, owners, 255));
     }
-    Figure::Refused(n)
+    Minutes::Refused(n)
 }

@@ -40,9 +40,3 @@ pub enum Fault {
     WrongSet { person: usize, slot: usize },
     WrongMinutes(usize),
 }
-
-// A figure that was asked for.
-pub enum Figure {
-    Is(u64),
-    Refused(u8),
-}

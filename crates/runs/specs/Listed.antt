@@ -6,8 +6,8 @@ use lib.Dec.{ltb, leb}
 use lib.ListN.{length, set}
 use Rattle.paper.specs.Limits.{slotsMost, peopleOk, orElse}
 use Rattle.slotset.specs.Runs.{Ends, allRuns}
-use Rattle.slotset.specs.declared.Counted.{Counted}
-use Rattle.slotset.specs.Answers.{rowSlots, countedAs, wordsAs}
+use Rattle.slotset.specs.declared.Number.{Number}
+use Rattle.slotset.specs.Answers.{rowSlots, numberAs, wordsAs}
 
 -- 1, 2 and 11 of a row, where 2 is also a column with room for fewer entries than slots
 unfoldable pub listNo : List ℕ → ℕ → ℕ → ℕ → ℕ → ℕ → ℕ
@@ -27,7 +27,7 @@ runsOf ws person len = allRuns (rowSlots ws person) len
 
 -- the whole outcome: what is answered, and the two columns at exit
 pub record Outcome : Type 0 where
-  pub answer : Counted
+  pub answer : Number
   pub firsts : List ℕ
   pub lasts : List ℕ
 
@@ -36,7 +36,7 @@ abbrev pub allRunsOf : List ℕ → ℕ → ℕ → ℕ → List ℕ → List �
 allRunsOf ws people person len fs ls =
     let n = listNo ws people person len (length fs) (length ls) in
     record {
-      answer = countedAs n (length (runsOf ws person len));
+      answer = numberAs n (length (runsOf ws person len));
       firsts = wordsAs n fs (column (λ e. e .first) (runsOf ws person len) 0 fs);
       lasts = wordsAs n ls (column (λ e. e .last) (runsOf ws person len) 0 ls);
     }

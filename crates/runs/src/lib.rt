@@ -1,8 +1,8 @@
 // A reader of a person's runs that holds the lent words, as an iterator does. Each answer is that of the cursor by value.
 // The functions over `Runs` are few and thin: each takes it apart and calls a function over plain parameters.
-use slotset::Counted;
 use slotset::Cursor;
 use slotset::NextRun;
+use slotset::Number;
 use slotset::row;
 ghost use mathlib.Core.Path.{_≡_};
 ghost use Prim.Native.Nat.{_≤_};
@@ -163,14 +163,14 @@ pub fn all_runs(
     len: usize,
     firsts: &mut [u16],
     lasts: &mut [u16],
-) -> Counted
+) -> Number
     ensures { λ r. ⌜ (r ≡ allRunsOf (now (words .entry)) people person len (now (firsts .entry)) (now (lasts .entry)) .answer)
         × ((now (firsts .exit) ≡ allRunsOf (now (words .entry)) people person len (now (firsts .entry)) (now (lasts .entry)) .firsts)
         × (now (lasts .exit) ≡ allRunsOf (now (words .entry)) people person len (now (firsts .entry)) (now (lasts .entry)) .lasts)) ⌝ }
 {
     let number = list_no(words, people, person, len, firsts.len(), lasts.len());
     if number == 0 {
-        return Counted::Is(list_runs(words, people, person, len, firsts, lasts));
+        return Number::Is(list_runs(words, people, person, len, firsts, lasts));
     }
-    Counted::Refused(number)
+    Number::Refused(number)
 }

@@ -12,8 +12,8 @@ use Rattle.paper.specs.Limits.{peopleOk, slotCountOk, orElse}
 use Rattle.paper.specs.Count.{over}
 use Rattle.paper.proofs.Logic.{lt-or-ge, three, cond-zero, slot-count-says}
 use Rattle.paper.proofs.Refusals.{more-after}
-use Rattle.slotset.specs.declared.Counted.the-variants as counted
-use Rattle.slotset.specs.Answers.{countedAs, wordsAs}
+use Rattle.slotset.specs.declared.Number.the-variants as number
+use Rattle.slotset.specs.Answers.{numberAs, wordsAs}
 use Rattle.slots.specs.Lent.{slotRoomOk, slotsOk, SlotsSound}
 use Rattle.slots.specs.Ranges.{rangeCountOk, rangeRoomOk, rangesOk, RangesSound}
 use Rattle.slots.specs.Walk.{MergedFrom}
@@ -75,13 +75,13 @@ module _ (B : Base) (number : ℕ) (e : number ≡ baseNo B) where
 -- ---- refused, and done
 
 pub atoms-refused : (B : Base) (n : ℕ) → atomiseNo B ≡ n → (n ≡ 0 → ⊥)
-    → AtomsEnd (atomiseOf B) (counted.Refused n) (B .outStarts) (B .outEnds)
-unfolding atomiseOf countedAs wordsAs
+    → AtomsEnd (atomiseOf B) (number.Refused n) (B .outStarts) (B .outEnds)
+unfolding atomiseOf numberAs wordsAs
 atoms-refused B n e h =
     let z : eqb (atomiseNo B) 0 ≡ false = ne-eqb _ _ (λ q. h (sym e ∙ q)) in
-    record { heard = simp z (ap counted.Refused (sym e)); starts = simp z; ends = simp z }
+    record { heard = simp z (ap number.Refused (sym e)); starts = simp z; ends = simp z }
 
-module _ (B : Base) (number : ℕ) (e : number ≡ baseNo B) (z : number ≡ 0) (keys : List ℕ) (n : ℕ) (M : MergedFrom (B .ranges) keys n)
+module _ (B : Base) (no : ℕ) (e : no ≡ baseNo B) (z : no ≡ 0) (keys : List ℕ) (n : ℕ) (M : MergedFrom (B .ranges) keys n)
     (S E S′ E′ : List ℕ) (r : ℕ)
     (G : Grown 0 S E (atomStarts (take n keys) (B .slots) (B .starts) (B .ends)) (atomEnds (take n keys) (B .slots) (B .starts)
     (B .ends)) r S′ E′) where
@@ -98,12 +98,12 @@ module _ (B : Base) (number : ℕ) (e : number ≡ baseNo B) (z : number ≡ 0) 
       G .number ∙ ap orFull q
 
   -- more than 1,024
-  pub atoms-full : 1024 < r → AtomsEnd (atomiseOf B) (counted.Refused 5) (B .outStarts) (B .outEnds)
+  pub atoms-full : 1024 < r → AtomsEnd (atomiseOf B) (number.Refused 5) (B .outStarts) (B .outEnds)
   atoms-full h =
       let over : 1024 < length (startsOfAtoms B) =
       ⊎-elim (λ x. x) (λ (x : length (startsOfAtoms B) ≤ 1024). absurd (omega (arith, number-is, full-some (length (startsOfAtoms B)) x)))
       (lt-or-ge 1024 (length (startsOfAtoms B))) in
-      atoms-refused B 5 (after-none B number e z ∙ simp (lt-leb (length (startsOfAtoms B)) 1024 over)) (λ q. omega arith)
+      atoms-refused B 5 (after-none B no e z ∙ simp (lt-leb (length (startsOfAtoms B)) 1024 over)) (λ q. omega arith)
 
   module _ (h : r ≤ 1024) where
     few-atoms : length (startsOfAtoms B) ≤ 1024
@@ -120,13 +120,13 @@ module _ (B : Base) (number : ℕ) (e : number ≡ baseNo B) (z : number ≡ 0) 
 
     pub atoms-done : 1024 ≤ length S′ → 1024 ≤ length E′ → (F T : List ℕ)
         → F ≡ over (λ k. getD S′ k 0) r (B .outStarts) → T ≡ over (λ k. getD E′ k 0) r (B .outEnds)
-        → AtomsEnd (atomiseOf B) (counted.Is r) F T
-    unfolding atomiseOf countedAs wordsAs
+        → AtomsEnd (atomiseOf B) (number.Is r) F T
+    unfolding atomiseOf numberAs wordsAs
     atoms-done a b F T p q =
-        let none : eqb (atomiseNo B) 0 ≡ true = eq-eqb _ _ (after-none B number e z
+        let none : eqb (atomiseNo B) 0 ≡ true = eq-eqb _ _ (after-none B no e z
         ∙ simp (le-leb (length (startsOfAtoms B)) 1024 few-atoms)) in
         record {
-          heard = simp none (ap counted.Is count-is);
+          heard = simp none (ap number.Is count-is);
           starts = simp none (p ∙ front-written (λ t. t) S′ (startsOfAtoms B) (B .outStarts) r (G .starts fits
               ∙ same-starts) (omega arith));
           ends = simp none (q ∙ front-written (λ t. t) E′ (endsOfAtoms B) (B .outEnds) r (G .ends fits ∙ same-ends) (omega arith));

@@ -11,11 +11,11 @@ use lib.ListN.{length, getD}
 use Rattle.paper.specs.Limits.{peopleOk, slotCountOk}
 use Rattle.paper.proofs.Logic.{lt-or-ge, both, cond-zero, slot-count-says}
 use Rattle.paper.proofs.Count.{count-opening}
-use Rattle.slotset.specs.declared.Counted.the-variants as counted
+use Rattle.slotset.specs.declared.Number.the-variants as number
 use Rattle.slotset.specs.declared.Told.{Told}
 use Rattle.slotset.specs.declared.Told.the-variants as told
 use Rattle.slotset.specs.Slots.{putSlot, putSlots, has}
-use Rattle.slotset.specs.Answers.{rowNo, rowStretchOf, rowSlots, countedAs, toldAs, wordsAs}
+use Rattle.slotset.specs.Answers.{rowNo, rowStretchOf, rowSlots, numberAs, toldAs, wordsAs}
 use Rattle.slotset.proofs.Refusals.{says-row, stretch-puts}
 use Rattle.slots.specs.Lent.{slotRoomOk, slotsOk, SlotsSound}
 use Rattle.slots.specs.Freeze.{endsBy, endedBy, marked, freezeNo, freezeOf, Opening, availableNo, isAvailable}
@@ -125,29 +125,29 @@ stretch-put slots n ws a b h =
     stretch-puts 1 ws 1 0 slots 0 n (says-row ws 1 0 slots refl a b (omega arith)) h ∙ ap (λ (m : ℕ). putSlots (λ _. 1) 0 0 m ws) z
 
 -- the two outcomes
-module _ (slots : ℕ) (starts ends frozen : List ℕ) (instant number : ℕ) (e : number ≡ freezeNo slots starts ends frozen) where
-  pub freeze-refused : (number ≡ 0 → ⊥)
-      → (counted.Refused number ≡ freezeOf slots starts ends frozen instant .answer) ×
+module _ (slots : ℕ) (starts ends frozen : List ℕ) (instant no : ℕ) (e : no ≡ freezeNo slots starts ends frozen) where
+  pub freeze-refused : (no ≡ 0 → ⊥)
+      → (number.Refused no ≡ freezeOf slots starts ends frozen instant .answer) ×
       (frozen ≡ freezeOf slots starts ends frozen instant .flags)
-  unfolding freezeOf countedAs wordsAs
+  unfolding freezeOf numberAs wordsAs
   freeze-refused h =
       let z : eqb (freezeNo slots starts ends frozen) 0 ≡ false = ne-eqb _ _ (λ q. h (e ∙ q)) in
-      (simp z (ap counted.Refused e), simp z)
+      (simp z (ap number.Refused e), simp z)
 
-  pub freeze-done : number ≡ 0 → (n : ℕ) → Opening slots (λ k. getD ends k 0) instant n → (ws : List ℕ)
+  pub freeze-done : no ≡ 0 → (n : ℕ) → Opening slots (λ k. getD ends k 0) instant n → (ws : List ℕ)
       → ws ≡ rowStretchOf 1 frozen 1 0 slots 0 n
-      → (counted.Is n ≡ freezeOf slots starts ends frozen instant .answer) × (ws ≡ freezeOf slots starts ends frozen instant .flags)
-  unfolding freezeOf countedAs wordsAs
+      → (number.Is n ≡ freezeOf slots starts ends frozen instant .answer) × (ws ≡ freezeOf slots starts ends frozen instant .flags)
+  unfolding freezeOf numberAs wordsAs
   freeze-done h n O ws w =
       let z : eqb (freezeNo slots starts ends frozen) 0 ≡ true = eq-eqb _ _ (sym e ∙ h) in
       let k = freeze-says slots starts ends frozen (sym e ∙ h) in (
-        simp z (ap counted.Is (sym (opening-count slots ends instant n O))),
+        simp z (ap number.Is (sym (opening-count slots ends instant n O))),
         simp z (w ∙ stretch-put slots n frozen (k .0) (k .1) (O .few) ∙ sym (opening-marked slots ends instant n O frozen)),
       )
 
 -- ---- may this person cover this slot
-module _ (slots : ℕ) (words : List ℕ) (people person slot number : ℕ) (e : number ≡ availableNo people slots words person slot) where
-  pub available-refused : (number ≡ 0 → ⊥) → told.Refused number ≡ isAvailable people slots words person slot
+module _ (slots : ℕ) (words : List ℕ) (people person slot no : ℕ) (e : no ≡ availableNo people slots words person slot) where
+  pub available-refused : (no ≡ 0 → ⊥) → told.Refused no ≡ isAvailable people slots words person slot
   unfolding isAvailable toldAs
   available-refused h =
       let z : eqb (availableNo people slots words person slot) 0 ≡ false = ne-eqb _ _ (λ q. h (e ∙ q)) in
@@ -163,7 +163,7 @@ module _ (slots : ℕ) (words : List ℕ) (people person slot number : ℕ) (e :
       let v = both (ltb person people) (ltb slot slots) (w .0) in
       says-row words people person slots (u .0) (slot-count-says slots (u .1) .1) (leb-true _ _ (y .0)) (ltb-true _ _ (v .0))
 
-  pub available-told : number ≡ 0 → (r : Told) → r ≡ toldAs (rowNo words people person slots) (has (rowSlots words person) slots slot)
+  pub available-told : no ≡ 0 → (r : Told) → r ≡ toldAs (rowNo words people person slots) (has (rowSlots words person) slots slot)
       → r ≡ isAvailable people slots words person slot
   unfolding isAvailable
   available-told h r d =

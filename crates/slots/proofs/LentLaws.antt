@@ -10,11 +10,11 @@ use lib.Dec.{leb, ltb}
 use lib.ListN.{length, getD}
 use Rattle.paper.specs.Limits.{slotCountOk}
 use Rattle.paper.specs.Count.{all, sum}
-use Rattle.paper.proofs.Logic.{both, three, cond-zero}
+use Rattle.paper.proofs.Logic.{number-of-made, both, three, cond-zero}
 use Rattle.paper.proofs.Count.{all-each, sum-more}
 use Rattle.slots.specs.declared.Minutes.the-variants as minutes
 use Rattle.slots.specs.Lent.{slotOk, prevEnd, slotOkAt, slotRoomOk, slotsOk, minutesAt, demandOf, demandWhenOk, SlotsSound}
-use Rattle.slots.specs.Lent.{lentNo, minutesAs}
+use Rattle.slots.specs.Lent.{lentNo, minutesAs, minutesNo}
 
 -- ---- what one slot's test says
 
@@ -133,13 +133,18 @@ module _ (starts ends : List ℕ) (i total m : ℕ) (e : total ≡ sum i (minute
 
 -- ---- the answer, by its number
 
-pub minutes-told : (n n′ m x : ℕ) → n ≡ n′ → n ≡ 0 → m ≡ x → minutes.Are m ≡ minutesAs n′ x
+pub minutes-is : (n m : ℕ) → n ≡ m → n ≡ 0 → (k k′ : ℕ) → k ≡ k′ → minutes.Are k ≡ minutesAs m k′
 unfolding minutesAs
-minutes-told n n′ m x e z q = simp (eq-eqb n′ 0 (sym e ∙ z)) (ap minutes.Are q)
+minutes-is n m e z k k′ q = simp (eq-eqb m 0 (sym e ∙ z)) (ap minutes.Are q)
 
-pub minutes-refused : (n n′ x : ℕ) → n ≡ n′ → (n ≡ 0 → ⊥) → minutes.Refused n ≡ minutesAs n′ x
+pub minutes-no : (n m : ℕ) → n ≡ m → (n ≡ 0 → ⊥) → (k : ℕ) → minutes.Refused n ≡ minutesAs m k
 unfolding minutesAs
-minutes-refused n n′ x e z = simp (ne-eqb n′ 0 (λ q. z (e ∙ q))) (ap minutes.Refused e)
+minutes-no n m e z k = simp (ne-eqb m 0 (λ q. z (e ∙ q))) (ap minutes.Refused e)
+
+-- an answer has the number that it was made with
+pub minutes-said : (n m : ℕ) → minutesNo (minutesAs n m) ≡ n
+unfolding minutesAs
+minutes-said n m = number-of-made minutesNo n (minutes.Are m) (minutes.Refused n) refl refl
 
 -- demand of slots that pass
 pub when-ok : (slots : ℕ) (starts ends : List ℕ) → slotsOk slots starts ends ≡ true

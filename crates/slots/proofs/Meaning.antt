@@ -13,7 +13,7 @@ use Rattle.paper.specs.Limits.{slotCountOk}
 use Rattle.paper.specs.Count.{all}
 use Rattle.paper.proofs.Logic.{by-test, lt-or-ge, below-suc, and-true, both, slot-count-says}
 use Rattle.paper.proofs.Count.{all-same, sum-same, getD-over, getD-over-out, length-over}
-use Rattle.slotset.specs.declared.Counted.{Counted}
+use Rattle.slotset.specs.declared.Number.{Number}
 use Rattle.slotset.specs.Slots.{slot, putSlot, putSlots, valueOf}
 use Rattle.slotset.proofs.Puts.{slot-put, slot-puts-here, slot-puts-other, value-lt}
 use Rattle.slots.specs.Lent.{slotOk, prevEnd, slotOkAt, slotRoomOk, slotsOk, minutesAt, demandOf}
@@ -202,12 +202,12 @@ atoms-count-ok l slots starts ends ok few =
 -- ---- only one outcome fits
 
 -- merged_ranges
-pub one-merged-end : (x : MergedOut) (r r′ : Counted) (p p′ s s′ e e′ : List ℕ) → MergedEnd x r p s e → MergedEnd x r′ p′ s′ e′
+pub one-merged-end : (x : MergedOut) (r r′ : Number) (p p′ s s′ e e′ : List ℕ) → MergedEnd x r p s e → MergedEnd x r′ p′ s′ e′
     → (r ≡ r′) × (p ≡ p′) × (s ≡ s′) × (e ≡ e′)
 one-merged-end x r r′ p p′ s s′ e e′ a b =
     (a .heard ∙ sym (b .heard), a .persons ∙ sym (b .persons), a .starts ∙ sym (b .starts), a .ends ∙ sym (b .ends))
 
 -- atomise
-pub one-atoms-end : (x : Atoms) (r r′ : Counted) (s s′ e e′ : List ℕ) → AtomsEnd x r s e → AtomsEnd x r′ s′ e′
+pub one-atoms-end : (x : Atoms) (r r′ : Number) (s s′ e e′ : List ℕ) → AtomsEnd x r s e → AtomsEnd x r′ s′ e′
     → (r ≡ r′) × (s ≡ s′) × (e ≡ e′)
 one-atoms-end x r r′ s s′ e e′ a b = (a .heard ∙ sym (b .heard), a .starts ∙ sym (b .starts), a .ends ∙ sym (b .ends))

@@ -12,8 +12,8 @@ use Rattle.paper.specs.Limits.{peopleOk}
 use Rattle.paper.specs.Count.{over}
 use Rattle.paper.proofs.Logic.{both, three, cond-zero}
 use Rattle.paper.proofs.Count.{over-more, over-same, length-over, some-one}
-use Rattle.slotset.specs.declared.Counted.the-variants as counted
-use Rattle.slotset.specs.Answers.{countedAs, wordsAs}
+use Rattle.slotset.specs.declared.Number.the-variants as number
+use Rattle.slotset.specs.Answers.{numberAs, wordsAs}
 use Rattle.slots.specs.Ranges.{Ranges, ranges, rangeCountOk, rangeRoomOk, rangesOk, RangesSound, inRange, inRanges}
 use Rattle.slots.specs.Ranges.{personOf, startOf, endOf, covers, opens, closes, mergedOf}
 use Rattle.slots.specs.Walk.{MergedFrom}
@@ -82,22 +82,22 @@ merged-says people R out e =
     let w = range-room-says O (both (rangeRoomOk R) (rangeRoomOk O) (y .0) .1) in
     (ranges-sound people R (u .0) (u .1) (z .0), w .0, w .1, w .2)
 
-module _ (people : ℕ) (R : Ranges) (out : Columns) (number : ℕ) (e : number ≡ mergedNo people R out) where
-  pub merged-refused : (number ≡ 0 → ⊥)
-      → MergedEnd (mergedRanges people R out) (counted.Refused number) (out .persons) (out .starts) (out .ends)
-  unfolding mergedRanges countedAs wordsAs
+module _ (people : ℕ) (R : Ranges) (out : Columns) (no : ℕ) (e : no ≡ mergedNo people R out) where
+  pub merged-refused : (no ≡ 0 → ⊥)
+      → MergedEnd (mergedRanges people R out) (number.Refused no) (out .persons) (out .starts) (out .ends)
+  unfolding mergedRanges numberAs wordsAs
   merged-refused h =
       let z : eqb (mergedNo people R out) 0 ≡ false = ne-eqb _ _ (λ q. h (e ∙ q)) in
-      record { heard = simp z (ap counted.Refused e); persons = simp z; starts = simp z; ends = simp z }
+      record { heard = simp z (ap number.Refused e); persons = simp z; starts = simp z; ends = simp z }
 
-  pub merged-done : number ≡ 0 → (keys : List ℕ) (n : ℕ) → MergedFrom R keys n → (p s f : List ℕ)
-      → TakenApart n keys (out .persons) (out .starts) (out .ends) p s f → MergedEnd (mergedRanges people R out) (counted.Is n) p s f
-  unfolding mergedRanges countedAs wordsAs
+  pub merged-done : no ≡ 0 → (keys : List ℕ) (n : ℕ) → MergedFrom R keys n → (p s f : List ℕ)
+      → TakenApart n keys (out .persons) (out .starts) (out .ends) p s f → MergedEnd (mergedRanges people R out) (number.Is n) p s f
+  unfolding mergedRanges numberAs wordsAs
   merged-done h keys n M p s f T =
       let z : eqb (mergedNo people R out) 0 ≡ true = eq-eqb _ _ (sym e ∙ h) in
       let S = merged-says people R out (sym e ∙ h) .0 in
       record {
-        heard = simp z (ap counted.Is (sym (held-length R S keys n M)));
+        heard = simp z (ap number.Is (sym (held-length R S keys n M)));
         persons = simp z (T .persons ∙ held-written R S keys n M personOf (out .persons));
         starts = simp z (T .starts ∙ held-written R S keys n M startOf (out .starts));
         ends = simp z (T .ends ∙ held-written R S keys n M endOf (out .ends));

@@ -7,8 +7,8 @@ use lib.Dec.{leb, ltb, eqb}
 use lib.ListN.{length, getD, take}
 use Rattle.paper.specs.Limits.{peopleOk, slotCountOk, slotsMost, orElse}
 use Rattle.paper.specs.Count.{among, FirstWhere}
-use Rattle.slotset.specs.declared.Counted.{Counted}
-use Rattle.slotset.specs.Answers.{countedAs, wordsAs}
+use Rattle.slotset.specs.declared.Number.{Number}
+use Rattle.slotset.specs.Answers.{numberAs, wordsAs}
 use Rattle.slots.specs.Lent.{slotRoomOk, slotsOk}
 use Rattle.slots.specs.Ranges.{anyOf, Ranges, rangeCountOk, rangeRoomOk, rangesOk}
 use Rattle.slots.specs.Ranges.{personOf, startOf, endOf, opens, closes, mergedOf, Spaced}
@@ -97,7 +97,7 @@ atomiseNo B = baseThen B (orElse (leb (length (startsOfAtoms B)) slotsMost) 5 0)
 
 -- the whole outcome: what is heard, and the two columns at exit
 pub record Atoms : Type 0 where
-  pub answer : Counted
+  pub answer : Number
   pub starts : List ℕ
   pub ends : List ℕ
 
@@ -105,13 +105,13 @@ unfoldable pub atomiseOf : Base → Atoms
 atomiseOf B =
     let n = atomiseNo B in
     record {
-      answer = countedAs n (length (startsOfAtoms B));
+      answer = numberAs n (length (startsOfAtoms B));
       starts = wordsAs n (B .outStarts) (written (λ t. t) (startsOfAtoms B) (B .outStarts));
       ends = wordsAs n (B .outEnds) (written (λ t. t) (endsOfAtoms B) (B .outEnds));
     }
 
 -- what is heard and what is left in the lent columns are those of the outcome
-pub record AtomsEnd (x : Atoms) (r : Counted) (s e : List ℕ) : Type 0 where
+pub record AtomsEnd (x : Atoms) (r : Number) (s e : List ℕ) : Type 0 where
   pub heard : r ≡ x .answer
   pub starts : s ≡ x .starts
   pub ends : e ≡ x .ends

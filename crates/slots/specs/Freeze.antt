@@ -6,10 +6,10 @@ use lib.Dec.{leb, ltb}
 use lib.ListN.{length, getD}
 use Rattle.paper.specs.Limits.{peopleOk, slotCountOk, setWords, orElse}
 use Rattle.paper.specs.Count.{count}
-use Rattle.slotset.specs.declared.Counted.{Counted}
+use Rattle.slotset.specs.declared.Number.{Number}
 use Rattle.slotset.specs.declared.Told.{Told}
 use Rattle.slotset.specs.Slots.{putSlot, has}
-use Rattle.slotset.specs.Answers.{rowSlots, countedAs, toldAs, wordsAs}
+use Rattle.slotset.specs.Answers.{rowSlots, numberAs, toldAs, wordsAs}
 use Rattle.slots.specs.Lent.{slotRoomOk, slotsOk}
 
 -- slot k ends at the instant or before it
@@ -34,13 +34,13 @@ freezeNo slots starts ends frozen =
 
 -- the whole outcome: what is heard, and the flags at exit
 pub record Frozen : Type 0 where
-  pub answer : Counted
+  pub answer : Number
   pub flags : List ℕ
 
 unfoldable pub freezeOf : ℕ → List ℕ → List ℕ → List ℕ → ℕ → Frozen
 freezeOf slots starts ends frozen instant =
     let n = freezeNo slots starts ends frozen in
-    record { answer = countedAs n (endedBy slots ends instant); flags = wordsAs n frozen (marked slots ends instant frozen) }
+    record { answer = numberAs n (endedBy slots ends instant); flags = wordsAs n frozen (marked slots ends instant frozen) }
 
 -- of n places with rising values the first r are at most the bound, and no others are
 pub record Opening (n : ℕ) (f : ℕ → ℕ) (bound r : ℕ) : Type 0 where

@@ -6,8 +6,8 @@ use Prim.Native.Nat.{ℕ}
 use lib.ListN.{length, getD}
 use Rattle.paper.specs.Limits.{peopleOk, orElse}
 use Rattle.paper.specs.Count.{over}
-use Rattle.slotset.specs.declared.Counted.{Counted}
-use Rattle.slotset.specs.Answers.{countedAs, wordsAs}
+use Rattle.slotset.specs.declared.Number.{Number}
+use Rattle.slotset.specs.Answers.{numberAs, wordsAs}
 use Rattle.slots.specs.Ranges.{Ranges, ranges, rangeCountOk, rangeRoomOk, rangesOk, personOf, startOf, endOf, mergedOf}
 
 -- a column with f of each entry of the list at its front; what lies past the list's end stays
@@ -31,7 +31,7 @@ mergedNo people R out =
 
 -- the whole outcome: what is heard, and the columns at exit
 pub record MergedOut : Type 0 where
-  pub answer : Counted
+  pub answer : Number
   pub persons : List ℕ
   pub starts : List ℕ
   pub ends : List ℕ
@@ -41,14 +41,14 @@ mergedRanges people R out =
     let n = mergedNo people R out in
     let list = mergedOf R in
     record {
-      answer = countedAs n (length list);
+      answer = numberAs n (length list);
       persons = wordsAs n (out .persons) (written personOf list (out .persons));
       starts = wordsAs n (out .starts) (written startOf list (out .starts));
       ends = wordsAs n (out .ends) (written endOf list (out .ends));
     }
 
 -- what is heard and what is left in the lent columns are those of the outcome
-pub record MergedEnd (x : MergedOut) (r : Counted) (p s e : List ℕ) : Type 0 where
+pub record MergedEnd (x : MergedOut) (r : Number) (p s e : List ℕ) : Type 0 where
   pub heard : r ≡ x .answer
   pub persons : p ≡ x .persons
   pub starts : s ≡ x .starts

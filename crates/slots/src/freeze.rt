@@ -5,7 +5,7 @@ use paper::counts_ok;
 use paper::or_else;
 use paper::slot_count_ok;
 use paper::words_ok;
-use slotset::Counted;
+use slotset::Number;
 use slotset::Told;
 use slotset::row;
 ghost use mathlib.Core.Path.{_≡_};
@@ -49,7 +49,7 @@ pub fn freeze_before(
     ends: &[u32],
     frozen: &mut [u64],
     instant: u32,
-) -> Counted
+) -> Number
     ensures { λ r. ⌜ (r ≡ freezeOf slots (now (starts .entry)) (now (ends .entry)) (now (frozen .entry)) instant .answer)
         × (now (frozen .exit) ≡ freezeOf slots (now (starts .entry)) (now (ends .entry)) (now (frozen .entry)) instant .flags) ⌝ }
 {
@@ -57,9 +57,9 @@ pub fn freeze_before(
     if number == 0 {
         let n = ended_by(slots, ends, instant);
         row::put_stretch(frozen, 1, 0, slots, 0, n, true);
-        return Counted::Is(n);
+        return Number::Is(n);
     }
-    Counted::Refused(number)
+    Number::Refused(number)
 }
 
 // What is wrong with the question: 1, 2 or 11; 0 for nothing.

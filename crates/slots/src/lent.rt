@@ -113,7 +113,7 @@ pub fn demand(slots: usize, starts: &[u32], ends: &[u32]) -> Minutes
 {
     let n = lent_no(slots, starts, ends);
     if n == 0 {
-        Minutes::Are(demand_of(slots, starts, ends))
+        Minutes::Are(demand_of(slots, starts, ends) as u64)
     } else {
         Minutes::Refused(n)
     }
@@ -125,7 +125,7 @@ pub fn slot_minutes(slots: usize, starts: &[u32], ends: &[u32], slot: usize) -> 
 {
     let n = lent_then(slots, starts, ends, or_else(slot < slots, 11, 0));
     if n == 0 {
-        Minutes::Are(minutes_at(starts, ends, slot))
+        Minutes::Are(minutes_at(starts, ends, slot) as u64)
     } else {
         Minutes::Refused(n)
     }

@@ -26,6 +26,6 @@ pub use split::atomise;
 
 // Minutes that were asked for.
 pub enum Minutes {
-    Are(u32),
+    Are(u64),
     Refused(u8),
 }

@@ -3,7 +3,7 @@ use crate::ranges;
 use paper::both;
 use paper::or_else;
 use paper::people_ok;
-use slotset::Counted;
+use slotset::Number;
 ghost use mathlib.Core.Path.{_≡_};
 ghost use Prim.Native.Nat.{ℕ, _≤_, _<_};
 ghost use lib.ListN.{length, getD};
@@ -65,7 +65,7 @@ pub fn merged_ranges(
     whose: &mut [u16],
     froms: &mut [u32],
     tos: &mut [u32],
-) -> Counted
+) -> Number
     ensures { λ r. ⌜ MergedEnd
         (mergedRanges people (ranges count (now (persons .entry)) (now (starts .entry)) (now (ends .entry)))
         (columns (now (whose .entry)) (now (froms .entry)) (now (tos .entry))))
@@ -77,7 +77,7 @@ pub fn merged_ranges(
         let keys = list.keys;
         let n = list.count;
         take_apart(&keys, n, whose, froms, tos);
-        return Counted::Is(n);
+        return Number::Is(n);
     }
-    Counted::Refused(number)
+    Number::Refused(number)
 }

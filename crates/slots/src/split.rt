@@ -6,7 +6,7 @@ use paper::both;
 use paper::or_else;
 use paper::people_ok;
 use paper::slot_count_ok;
-use slotset::Counted;
+use slotset::Number;
 ghost use mathlib.Core.Path.{_≡_};
 ghost use mathlib.Core.List.{_∷_, [], _++_};
 ghost use Prim.Native.Nat.{_≤_, _<_};
@@ -234,7 +234,7 @@ pub fn atomise(
     shuts: &[u32],
     froms: &mut [u32],
     tos: &mut [u32],
-) -> Counted
+) -> Number
     ensures { λ r. ⌜ AtomsEnd
         (atomiseOf (base slots (now (starts .entry)) (now (ends .entry)) people
         (ranges count (now (persons .entry)) (now (opens .entry)) (now (shuts .entry))) (now (froms .entry)) (now (tos .entry))))
@@ -262,9 +262,9 @@ pub fn atomise(
         if atoms <= 1024 {
             copy_column(&s, atoms, froms);
             copy_column(&e, atoms, tos);
-            return Counted::Is(atoms);
+            return Number::Is(atoms);
         }
-        return Counted::Refused(5);
+        return Number::Refused(5);
     }
-    Counted::Refused(number)
+    Number::Refused(number)
 }

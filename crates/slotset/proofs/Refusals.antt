@@ -8,19 +8,20 @@ use borrow.Author.Tests.{leb-true, ltb-true, eq-eqb, ne-eqb, le-leb, lt-leb, lt-
 use lib.Dec.{eqb, ltb, leb}
 use lib.ListN.{length}
 use Rattle.paper.specs.Limits.{peopleOk}
-use Rattle.paper.proofs.Logic.{both, cond-zero, or-right, or-second, people-says}
+use Rattle.paper.proofs.Logic.{number-of-made, both, cond-zero, or-right, or-second, people-says}
 use Rattle.slotset.specs.declared.SlotSet.{SlotSet}
 use Rattle.slotset.specs.declared.Changed.{Changed}
 use Rattle.slotset.specs.declared.Found.{Found}
 use Rattle.slotset.specs.declared.Found.the-variants as found
 use Rattle.slotset.specs.declared.Told.the-variants as told
-use Rattle.slotset.specs.declared.Counted.the-variants as counted
+use Rattle.slotset.specs.declared.Number.the-variants as number
 use Rattle.slotset.specs.declared.Run.the-variants as run
 use Rattle.slotset.specs.declared.NextRun.the-variants as nextRun
 use Rattle.slotset.specs.declared.NextMember.the-variants as nextMember
 use Rattle.slotset.specs.Slots.{putSlots}
 use Rattle.slotset.specs.Answers.{lenNo, slotNo, stretchNo, rowNo, rowStretchNo}
-use Rattle.slotset.specs.Answers.{foundAs, toldAs, countedAs, runAs, nextRunAs, nextMemberAs, changedAs, wordsAs, rowStretchOf}
+use Rattle.slotset.specs.Answers.{foundAs, toldAs, numberAs, runAs, nextRunAs, nextMemberAs, changedAs, wordsAs, rowStretchOf}
+use Rattle.slotset.specs.Answers.{toldNo, numberNo}
 
 -- ---- where nothing is refused
 
@@ -117,9 +118,9 @@ module _ (n m : ℕ) (e : n ≡ m) where
     pub told-is : (b b′ : Bool) → b ≡ b′ → toldAs 0 b ≡ toldAs m b′
     told-is b b′ q = ap₂ toldAs (sym z ∙ e) q
 
-    pub counted-is : (k k′ : ℕ) → k ≡ k′ → counted.Is k ≡ countedAs m k′
-    unfolding countedAs
-    counted-is k k′ q = simp is-none (ap counted.Is q)
+    pub number-is : (k k′ : ℕ) → k ≡ k′ → number.Is k ≡ numberAs m k′
+    unfolding numberAs
+    number-is k k′ q = simp is-none (ap number.Is q)
 
     pub run-is : (f : ℕ → ℕ) (len i : ℕ) → runAs 0 f len i ≡ runAs m f len i
     run-is f len i = ap (λ (x : ℕ). runAs x f len i) (sym z ∙ e)
@@ -163,9 +164,9 @@ module _ (n m : ℕ) (e : n ≡ m) where
     unfolding toldAs
     told-no b = simp is-one (ap told.Refused e)
 
-    pub counted-no : (k : ℕ) → counted.Refused n ≡ countedAs m k
-    unfolding countedAs
-    counted-no k = simp is-one (ap counted.Refused e)
+    pub number-no : (k : ℕ) → number.Refused n ≡ numberAs m k
+    unfolding numberAs
+    number-no k = simp is-one (ap number.Refused e)
 
     pub run-no : (f : ℕ → ℕ) (len i : ℕ) → run.Refused n ≡ runAs m f len i
     unfolding runAs
@@ -197,3 +198,17 @@ module _ (n m : ℕ) (e : n ≡ m) where
         → _≡_ {A = Changed} (record { set = record { words = ws; len = 0 }; number = n })
         (record { set = record { words = ws; len = cond (eqb m 0) len 0 }; number = m })
     new-no ws len = simp is-one (ap {B = Changed} (λ (k : ℕ). record { set = record { words = ws; len = 0 }; number = k }) e)
+
+-- ---- an answer has the number that it was made with
+
+pub number-said : (n k : ℕ) → numberNo (numberAs n k) ≡ n
+unfolding numberAs
+number-said n k = number-of-made numberNo n (number.Is k) (number.Refused n) refl refl
+
+yes-or-no : (b : Bool) → toldNo (cond b told.Yes told.No) ≡ 0
+yes-or-no true = refl
+yes-or-no false = refl
+
+pub told-said : (n : ℕ) (b : Bool) → toldNo (toldAs n b) ≡ n
+unfolding toldAs
+told-said n b = number-of-made toldNo n (cond b told.Yes told.No) (told.Refused n) (yes-or-no b) refl

@@ -11,8 +11,8 @@ use Rattle.slotset.specs.declared.Found.{Found}
 use Rattle.slotset.specs.declared.Found.the-variants as found
 use Rattle.slotset.specs.declared.Told.{Told}
 use Rattle.slotset.specs.declared.Told.the-variants as told
-use Rattle.slotset.specs.declared.Counted.{Counted}
-use Rattle.slotset.specs.declared.Counted.the-variants as counted
+use Rattle.slotset.specs.declared.Number.{Number}
+use Rattle.slotset.specs.declared.Number.the-variants as number
 use Rattle.slotset.specs.declared.Run.{Run}
 use Rattle.slotset.specs.declared.Run.the-variants as run
 use Rattle.slotset.specs.declared.NextRun.{NextRun}
@@ -63,8 +63,8 @@ foundAs n x = cond (eqb n 0) x (found.Refused n)
 unfoldable pub toldAs : ℕ → Bool → Told
 toldAs n b = cond (eqb n 0) (cond b told.Yes told.No) (told.Refused n)
 
-unfoldable pub countedAs : ℕ → ℕ → Counted
-countedAs n k = cond (eqb n 0) (counted.Is k) (counted.Refused n)
+unfoldable pub numberAs : ℕ → ℕ → Number
+numberAs n k = cond (eqb n 0) (number.Is k) (number.Refused n)
 
 -- the run that holds i, of a set with the slots f
 unfoldable pub runAs : ℕ → (ℕ → ℕ) → ℕ → ℕ → Run
@@ -98,6 +98,37 @@ rowNextRun ws people person len at = nextRunAs (rowNo ws people person len) (row
 
 abbrev pub rowNextMember : List ℕ → ℕ → ℕ → ℕ → ℕ → NextMember
 rowNextMember ws people person len at = nextMemberAs (rowNo ws people person len) (rowSlots ws person) len at
+
+-- ---- the number of an answer, 0 where it is no refusal
+
+abbrev pub foundNo : Found → ℕ
+foundNo (found.At i) = 0
+foundNo found.Nothing = 0
+foundNo (found.Refused n) = n
+
+abbrev pub toldNo : Told → ℕ
+toldNo told.Yes = 0
+toldNo told.No = 0
+toldNo (told.Refused n) = n
+
+abbrev pub numberNo : Number → ℕ
+numberNo (number.Is k) = 0
+numberNo (number.Refused n) = n
+
+abbrev pub runNo : Run → ℕ
+runNo (run.Span a b) = 0
+runNo run.Outside = 0
+runNo (run.Refused n) = n
+
+abbrev pub nextRunNo : NextRun → ℕ
+nextRunNo (nextRun.Span a b c) = 0
+nextRunNo nextRun.Done = 0
+nextRunNo (nextRun.Refused n) = n
+
+abbrev pub nextMemberNo : NextMember → ℕ
+nextMemberNo (nextMember.Slot i c) = 0
+nextMemberNo nextMember.Done = 0
+nextMemberNo (nextMember.Refused n) = n
 
 -- ---- a set handed back: changed, or as it was
 

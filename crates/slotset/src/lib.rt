@@ -9,7 +9,7 @@ ghost use Prim.Native.Nat.{suc};
 ghost use Rattle.slotset.specs.Slots.{has, size, noMember, valueOf};
 ghost use Rattle.slotset.specs.Search.{nextSet, prevSet, nextUnsetAfter, prevUnsetBefore};
 ghost use Rattle.slotset.specs.Answers.{lenNo, slotNo, stretchNo, slotsOf, newOf, putOf, stretchOf};
-ghost use Rattle.slotset.specs.Answers.{foundAs, toldAs, countedAs, runAs, nextRunAs, nextMemberAs};
+ghost use Rattle.slotset.specs.Answers.{foundAs, toldAs, numberAs, runAs, nextRunAs, nextMemberAs};
 
 // A set: its words, and how many slots it has.
 pub struct SlotSet {
@@ -37,8 +37,8 @@ pub enum Told {
     Refused(u8),
 }
 
-// A number of slots.
-pub enum Counted {
+// A number that was asked for: a count or an index.
+pub enum Number {
     Is(usize),
     Refused(u8),
 }
@@ -136,15 +136,15 @@ impl SlotSet {
     }
 
     // How many slots the set ranges over.
-    pub fn len(self) -> Counted
-        ensures { λ r. ⌜ r ≡ countedAs (lenNo (self .len)) (self .len) ⌝ }
+    pub fn len(self) -> Number
+        ensures { λ r. ⌜ r ≡ numberAs (lenNo (self .len)) (self .len) ⌝ }
     {
         let len = self.len;
         let number = len_no(len);
         if number == 0 {
-            return Counted::Is(len);
+            return Number::Is(len);
         }
-        Counted::Refused(number)
+        Number::Refused(number)
     }
 
     // Whether slot i is a member; at or past the length it is not.
@@ -236,16 +236,16 @@ impl SlotSet {
     }
 
     // How many members the set has.
-    pub fn count(self) -> Counted
-        ensures { λ r. ⌜ r ≡ countedAs (lenNo (self .len)) (size (slotsOf self) (self .len)) ⌝ }
+    pub fn count(self) -> Number
+        ensures { λ r. ⌜ r ≡ numberAs (lenNo (self .len)) (size (slotsOf self) (self .len)) ⌝ }
     {
         let len = self.len;
         let number = len_no(len);
         if number == 0 {
             let words = self.words;
-            return Counted::Is(scan::count(&words, 0, len));
+            return Number::Is(scan::count(&words, 0, len));
         }
-        Counted::Refused(number)
+        Number::Refused(number)
     }
 
     // The first member at or after `from`.

@@ -1,10 +1,10 @@
 // A person's row: the 16 words of one set among lent ones, a set a person, in person order. Nothing is copied to answer a question.
 use crate::Changed;
-use crate::Counted;
 use crate::Cursor;
 use crate::Found;
 use crate::NextMember;
 use crate::NextRun;
+use crate::Number;
 use crate::Run;
 use crate::SlotSet;
 use crate::Told;
@@ -15,7 +15,7 @@ ghost use lib.ListN.{length, take, drop};
 ghost use Rattle.slotset.specs.Slots.{has, size, noMember, valueOf};
 ghost use Rattle.slotset.specs.Search.{nextSet, prevSet, nextUnsetAfter, prevUnsetBefore};
 ghost use Rattle.slotset.specs.Answers.{rowNo, rowStretchNo, rowSlots, loadOf, storeOf, rowStretchOf};
-ghost use Rattle.slotset.specs.Answers.{foundAs, toldAs, countedAs, rowRun, rowNextRun, rowNextMember};
+ghost use Rattle.slotset.specs.Answers.{foundAs, toldAs, numberAs, rowRun, rowNextRun, rowNextMember};
 
 // Refusals 1, 2 and 11 of a row, or 0.
 fn row_no(words: &[u64], people: usize, person: usize, len: usize) -> u8
@@ -83,14 +83,14 @@ pub fn is_empty(words: &[u64], people: usize, person: usize, len: usize) -> Told
 }
 
 // How many members the row has.
-pub fn count(words: &[u64], people: usize, person: usize, len: usize) -> Counted
-    ensures { λ r. ⌜ r ≡ countedAs (rowNo (now (words .entry)) people person len) (size (rowSlots (now (words .entry)) person) len) ⌝ }
+pub fn count(words: &[u64], people: usize, person: usize, len: usize) -> Number
+    ensures { λ r. ⌜ r ≡ numberAs (rowNo (now (words .entry)) people person len) (size (rowSlots (now (words .entry)) person) len) ⌝ }
 {
     let number = row_no(words, people, person, len);
     if number == 0 {
-        return Counted::Is(scan::count(words, 16 * person, len));
+        return Number::Is(scan::count(words, 16 * person, len));
     }
-    Counted::Refused(number)
+    Number::Refused(number)
 }
 
 // The first member at or after `from`.

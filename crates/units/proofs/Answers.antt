@@ -10,13 +10,14 @@ use Rattle.paper.specs.Count.{onto}
 use Rattle.paper.specs.Limits.{slotCountOk}
 use Rattle.paper.proofs.Logic.{cond-zero, slot-count-says}
 use Rattle.slots.specs.Lent.{slotRoomOk, slotsOk}
-use Rattle.units.specs.declared.Number.{Number}
-use Rattle.units.specs.declared.Number.the-variants as number
+use Rattle.slotset.specs.declared.Number.{Number}
+use Rattle.slotset.specs.declared.Number.the-variants as number
 use Rattle.units.specs.declared.UnitSlots.the-variants as unitSlots
 use Rattle.units.specs.declared.Settings.{Settings}
 use Rattle.units.specs.Settings.{settingsOk, settingsThen}
 use Rattle.units.specs.Units.{unitsOk}
-use Rattle.units.specs.Answers.{numberAs, spanAs, Written, writtenAs, Are, unitsThen}
+use Rattle.slotset.proofs.Refusals.{number-is, number-no}
+use Rattle.units.specs.Answers.{spanAs, Written, writtenAs, Are, unitsThen}
 
 -- ---- what no refusal says
 
@@ -42,14 +43,6 @@ units-say slots units firsts room next e =
 
 -- ---- the answer, by its number
 
-pub number-told : (n n′ k x : ℕ) → n ≡ n′ → n ≡ 0 → k ≡ x → number.Is k ≡ numberAs n′ x
-unfolding numberAs
-number-told n n′ k x e z q = simp (eq-eqb n′ 0 (sym e ∙ z)) (ap number.Is q)
-
-pub number-refused : (n n′ x : ℕ) → n ≡ n′ → (n ≡ 0 → ⊥) → number.Refused n ≡ numberAs n′ x
-unfolding numberAs
-number-refused n n′ x e z = simp (ne-eqb n′ 0 (λ q. z (e ∙ q))) (ap number.Refused e)
-
 pub span-told : (n n′ a x b y : ℕ) → n ≡ n′ → n ≡ 0 → a ≡ x → b ≡ y → unitSlots.Span a b ≡ spanAs n′ x y
 unfolding spanAs
 span-told n n′ a x b y e z p q = simp (eq-eqb n′ 0 (sym e ∙ z)) (ap₂ unitSlots.Span p q)
@@ -64,7 +57,7 @@ pub written-told : (n n′ k : ℕ) (l l′ old b : List ℕ) → n ≡ n′ →
     → Are (writtenAs n′ l′ old) (number.Is k) b
 unfolding writtenAs
 written-told n n′ k l l′ old b e z q p s = record {
-  said = number-told n n′ k (length l′) e z (q ∙ ap length s);
+  said = number-is n n′ e z k (length l′) (q ∙ ap length s);
   left = simp (eq-eqb n′ 0 (sym e ∙ z)) (p ∙ ap (λ (x : List ℕ). onto x old) s);
 }
 
@@ -72,7 +65,7 @@ pub written-refused : (n n′ : ℕ) (l old b : List ℕ) → n ≡ n′ → (n 
     → Are (writtenAs n′ l old) (number.Refused n) b
 unfolding writtenAs
 written-refused n n′ l old b e z p =
-    record { said = number-refused n n′ (length l) e z; left = simp (ne-eqb n′ 0 (λ q. z (e ∙ q))) p }
+    record { said = number-no n n′ e z (length l); left = simp (ne-eqb n′ 0 (λ q. z (e ∙ q))) p }
 
 -- only one answer with one buffer fits
 pub one-written : (w : Written) (r r′ : Number) (b b′ : List ℕ) → Are w r b → Are w r′ b′ → (r ≡ r′) × (b ≡ b′)

@@ -17,11 +17,9 @@ use Rattle.paper.proofs.Count.{some-here, some-none, some-more}
 use Rattle.slots.specs.Lent.{slotsOk, demandOf, demandWhenOk, lentNo}
 use Rattle.slots.proofs.LentLaws.{slots-sound, when-ok, lent-says}
 use Rattle.units.specs.declared.Settings.{Settings}
-use Rattle.units.specs.declared.Duration.the-variants as duration
 use Rattle.units.specs.Dates.{dateOf}
 use Rattle.units.specs.Starts.{startDate, dateBegins}
-use Rattle.units.specs.Days.{covers, datesMost, coveredDays, minutesPerDay, targetRun}
-use Rattle.units.specs.Days.{durationAs, targetRunNo}
+use Rattle.units.specs.Days.{covers, datesMost, coveredDays, minutesPerDay, targetRun, targetRunNo}
 use Rattle.units.proofs.Answers.{settings-say}
 
 -- ---- one more slot
@@ -180,17 +178,7 @@ run-fits m days h g =
     let p : m * days ≤ 100000000 * 65536 = mul-le-mul h d in
     omega arith
 
--- ---- the answer, by its number
-
-pub duration-told : (n n′ m x : ℕ) → n ≡ n′ → n ≡ 0 → m ≡ x → duration.Minutes m ≡ durationAs n′ x
-unfolding durationAs
-duration-told n n′ m x e z q = simp (eq-eqb n′ 0 (sym e ∙ z)) (ap duration.Minutes q)
-
-pub duration-refused : (n n′ x : ℕ) → n ≡ n′ → (n ≡ 0 → ⊥) → duration.Refused n ≡ durationAs n′ x
-unfolding durationAs
-duration-refused n n′ x e z = simp (ne-eqb n′ 0 (λ q. z (e ∙ q))) (ap duration.Refused e)
-
--- what no refusal says
+-- ---- what no refusal says
 pub lent-say : (slots : ℕ) (starts ends : List ℕ) → lentNo slots starts ends ≡ 0 → (1 ≤ slots) × (slotsOk slots starts ends ≡ true)
 lent-say slots starts ends e = let x = lent-says slots starts ends e in (slot-count-says slots (x .0) .0, x .1)
 

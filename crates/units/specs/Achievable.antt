@@ -7,11 +7,11 @@ use lib.Dec.{ltb, leb}
 use lib.ListN.{length}
 use Rattle.paper.specs.Limits.{peopleOk, orElse}
 use Rattle.paper.specs.Count.{allIn, sumIn}
-use Rattle.slots.specs.Lent.{slotsOk, minutesAt}
+use Rattle.slots.specs.declared.Minutes.{Minutes}
+use Rattle.slots.specs.Lent.{slotsOk, minutesAt, minutesAs}
 use Rattle.units.specs.declared.Settings.{Settings}
-use Rattle.units.specs.declared.Duration.{Duration}
 use Rattle.units.specs.Settings.{settingsThen}
-use Rattle.units.specs.Days.{targetRun, durationAs}
+use Rattle.units.specs.Days.{targetRun}
 use Rattle.units.specs.Domains.{available}
 
 -- the greatest of f over the numbers below n; 0 of none
@@ -66,6 +66,6 @@ unfoldable pub achievableRunNo : Settings → List ℕ → ℕ → ℕ → ℕ �
 achievableRunNo s avail people p slots starts ends =
     orElse (peopleOk people) 1 (settingsThen s slots starts ends (leb (16 * people) (length avail)) (orElse (ltb p people) 11 0))
 
-unfoldable pub achievableRunIs : Settings → List ℕ → ℕ → ℕ → ℕ → List ℕ → List ℕ → Duration
+unfoldable pub achievableRunIs : Settings → List ℕ → ℕ → ℕ → ℕ → List ℕ → List ℕ → Minutes
 achievableRunIs s avail people p slots starts ends =
-    durationAs (achievableRunNo s avail people p slots starts ends) (achievableRun s avail p slots starts ends)
+    minutesAs (achievableRunNo s avail people p slots starts ends) (achievableRun s avail p slots starts ends)

@@ -7,16 +7,13 @@ use lib.Dec.{eqb, ltb, leb}
 use lib.ListN.{length}
 use Rattle.paper.specs.Count.{onto}
 use Rattle.paper.specs.Limits.{slotCountOk, orElse}
-use Rattle.units.specs.declared.Number.{Number}
-use Rattle.units.specs.declared.Number.the-variants as number
+use Rattle.slotset.specs.declared.Number.{Number}
+use Rattle.slotset.specs.Answers.{numberAs}
 use Rattle.units.specs.declared.UnitSlots.{UnitSlots}
 use Rattle.units.specs.declared.UnitSlots.the-variants as unitSlots
 use Rattle.units.specs.Units.{unitStart, unitEnd, unitsOk, unitOf}
 
 -- ---- the answers: the number n of a refusal, or what was asked
-
-unfoldable pub numberAs : ℕ → ℕ → Number
-numberAs n k = cond (eqb n 0) (number.Is k) (number.Refused n)
 
 unfoldable pub spanAs : ℕ → ℕ → ℕ → UnitSlots
 spanAs n a e = cond (eqb n 0) (unitSlots.Span a e) (unitSlots.Refused n)

@@ -4,13 +4,12 @@ use mathlib.Core.List.{List}
 use Prim.Native.Nat.{ℕ, _*_, _/_, max}
 use lib.Dec.{eqb}
 use Rattle.paper.specs.Count.{count, some}
-use Rattle.slots.specs.Lent.{demandOf, lentNo}
-use Rattle.units.specs.declared.Number.{Number}
-use Rattle.units.specs.declared.Duration.{Duration}
-use Rattle.units.specs.declared.Duration.the-variants as duration
+use Rattle.slots.specs.Lent.{demandOf, lentNo, minutesAs}
+use Rattle.slotset.specs.declared.Number.{Number}
+use Rattle.slotset.specs.Answers.{numberAs}
+use Rattle.slots.specs.declared.Minutes.{Minutes}
 use Rattle.units.specs.declared.Settings.{Settings}
 use Rattle.units.specs.Settings.{settingsThen}
-use Rattle.units.specs.Answers.{numberAs}
 use Rattle.units.specs.Starts.{startDate}
 
 -- date d is covered: one of the slots starts on it
@@ -35,23 +34,15 @@ targetRun days slots starts ends = minutesPerDay slots starts ends * max days 1
 
 -- ---- the answers
 
-unfoldable pub durationAs : ℕ → ℕ → Duration
-durationAs n m = cond (eqb n 0) (duration.Minutes m) (duration.Refused n)
-
--- the number of the refusal, or 0
-abbrev pub durationNo : Duration → ℕ
-durationNo (duration.Minutes m) = 0
-durationNo (duration.Refused n) = n
-
 unfoldable pub coveredDaysIs : ℕ → List ℕ → List ℕ → Number
 coveredDaysIs slots starts ends = numberAs (lentNo slots starts ends) (coveredDays slots starts)
 
-unfoldable pub minutesPerDayIs : ℕ → List ℕ → List ℕ → Duration
-minutesPerDayIs slots starts ends = durationAs (lentNo slots starts ends) (minutesPerDay slots starts ends)
+unfoldable pub minutesPerDayIs : ℕ → List ℕ → List ℕ → Minutes
+minutesPerDayIs slots starts ends = minutesAs (lentNo slots starts ends) (minutesPerDay slots starts ends)
 
 -- 1, 2, 7, 9
 unfoldable pub targetRunNo : Settings → ℕ → List ℕ → List ℕ → ℕ
 targetRunNo s slots starts ends = settingsThen s slots starts ends true 0
 
-unfoldable pub targetRunIs : Settings → ℕ → List ℕ → List ℕ → Duration
-targetRunIs s slots starts ends = durationAs (targetRunNo s slots starts ends) (targetRun (s .days) slots starts ends)
+unfoldable pub targetRunIs : Settings → ℕ → List ℕ → List ℕ → Minutes
+targetRunIs s slots starts ends = minutesAs (targetRunNo s slots starts ends) (targetRun (s .days) slots starts ends)

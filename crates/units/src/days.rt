@@ -1,9 +1,9 @@
 // Covered days, minutes a day, target run.
-use crate::Duration;
-use crate::Number;
 use crate::Settings;
 use crate::refuse::settings_then;
 use crate::starts::date_begins;
+use slots::Minutes;
+use slotset::Number;
 ghost use mathlib.Core.Path.{_≡_};
 ghost use mathlib.Core.Bool.{true};
 ghost use Prim.Native.Nat.{_≤_, _<_};
@@ -68,25 +68,25 @@ pub fn covered_days(slots: usize, starts: &[u32], ends: &[u32]) -> Number
 }
 
 // Minutes a day. Refusals 1, 2, 9.
-pub fn minutes_per_day(slots: usize, starts: &[u32], ends: &[u32]) -> Duration
+pub fn minutes_per_day(slots: usize, starts: &[u32], ends: &[u32]) -> Minutes
     ensures { λ r. ⌜ r ≡ minutesPerDayIs slots (now (starts .entry)) (now (ends .entry)) ⌝ }
 {
     let n = slots::lent_no(slots, starts, ends);
     if n == 0 {
-        Duration::Minutes(day_minutes(slots, starts, ends))
+        Minutes::Are(day_minutes(slots, starts, ends))
     } else {
-        Duration::Refused(n)
+        Minutes::Refused(n)
     }
 }
 
 // The target run. Refusals 1, 2, 7, 9.
-pub fn target_run(s: Settings, slots: usize, starts: &[u32], ends: &[u32]) -> Duration
+pub fn target_run(s: Settings, slots: usize, starts: &[u32], ends: &[u32]) -> Minutes
     ensures { λ r. ⌜ r ≡ targetRunIs s slots (now (starts .entry)) (now (ends .entry)) ⌝ }
 {
     let n = settings_then(s, slots, starts, ends, true, 0);
     if n == 0 {
-        Duration::Minutes(run_minutes(s.days, slots, starts, ends))
+        Minutes::Are(run_minutes(s.days, slots, starts, ends))
     } else {
-        Duration::Refused(n)
+        Minutes::Refused(n)
     }
 }

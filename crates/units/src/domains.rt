@@ -1,11 +1,11 @@
 // Who is available for a slot or a unit, and whether a unit is frozen. The sets are read only through slotset.
-use crate::Number;
 use crate::lent::start_of;
 use crate::lent::unit_end;
 use crate::lent::units_then;
 use paper::or_else;
 use paper::words_ok;
 use slotset::Found;
+use slotset::Number;
 use slotset::Told;
 ghost use mathlib.Core.Path.{_≡_};
 ghost use lib.ListN.{length};

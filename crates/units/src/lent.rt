@@ -1,7 +1,7 @@
 // Lent units (or rotations): a count, and a column of starts.
-use crate::Number;
 use crate::UnitSlots;
 use paper::or_else;
+use slotset::Number;
 ghost use mathlib.Core.Path.{_≡_};
 ghost use Prim.Native.Nat.{_<_};
 ghost use lib.ListN.{length};

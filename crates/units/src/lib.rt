@@ -41,20 +41,8 @@ pub struct Settings {
     pub days: u16,
 }
 
-// A number that was asked for.
-pub enum Number {
-    Is(usize),
-    Refused(u8),
-}
-
 // The slots of a unit: `from` up to `to`, without `to`.
 pub enum UnitSlots {
     Span { from: usize, to: usize },
-    Refused(u8),
-}
-
-// Minutes that were asked for.
-pub enum Duration {
-    Minutes(u64),
     Refused(u8),
 }

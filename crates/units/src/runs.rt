@@ -1,10 +1,10 @@
 // Each person's achievable run: the longest sum over neighbouring available slots, at least 1, at most the target run.
-use crate::Duration;
 use crate::Settings;
 use crate::days::run_minutes;
 use crate::refuse::settings_then;
 use paper::or_else;
 use paper::words_ok;
+use slots::Minutes;
 use slotset::Told;
 ghost use mathlib.Core.Path.{_≡_};
 ghost use mathlib.Core.Bool.{cond};
@@ -96,14 +96,14 @@ pub fn achievable_run(
     slots: usize,
     starts: &[u32],
     ends: &[u32],
-) -> Duration
+) -> Minutes
     ensures { λ r. ⌜ r ≡ achievableRunIs s (now (avail .entry)) people person slots (now (starts .entry)) (now (ends .entry)) ⌝ }
 {
     let n = achievable_run_no(s, avail, people, person, slots, starts, ends);
     if n == 0 {
         let target = run_minutes(s.days, slots, starts, ends);
-        Duration::Minutes(longest_run(target, avail, people, person, slots, starts, ends))
+        Minutes::Are(longest_run(target, avail, people, person, slots, starts, ends))
     } else {
-        Duration::Refused(n)
+        Minutes::Refused(n)
     }
 }

@@ -1,10 +1,10 @@
 // Where rotations and units begin.
-use crate::Number;
 use crate::Settings;
 use crate::dates::date_of;
 use crate::dates::listed;
 use crate::refuse::settings_then;
 use paper::both;
+use slotset::Number;
 ghost use mathlib.Core.Path.{_≡_};
 ghost use Prim.Native.Nat.{_≤_};
 ghost use lib.ListN.{length};

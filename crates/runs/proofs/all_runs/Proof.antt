@@ -1,7 +1,7 @@
 -- `runs::all_runs` meets its contract. Assumes nothing.
 use borrow.Author.Needs.{needs}
 use mathlib.Core.Path.{sym, _∙_}
-use Rattle.slotset.proofs.Refusals.{counted-is, counted-no, words-is, words-no}
+use Rattle.slotset.proofs.Refusals.{number-is, number-no, words-is, words-no}
 use Rattle.runs.proofs.Listing.{list-says}
 use Rattle.runs.proofs.all_runs.Statement.{statement}
 use Rattle.runs.proofs.all_runs.Tie as tie
@@ -28,13 +28,13 @@ returns c =
     let n = k .before .list-no .ensures in
     let z = k .if1 .taken in
     let e = l .list-runs .ensures in
-    (counted-is _ _ n z _ _ (e .0), (words-is _ _ n z _ _ _ (e .1 .0), words-is _ _ n z _ _ _ (e .1 .1)))
+    (number-is _ _ n z _ _ (e .0), (words-is _ _ n z _ _ _ (e .1 .0), words-is _ _ n z _ _ _ (e .1 .1)))
 
 returns-2 : tie.Need-returns-2
 returns-2 c =
     let n = c .before .list-no .ensures in
     let z = c .if1 .left in
-    (counted-no _ _ n z _, (words-no _ _ n z _ _, words-no _ _ n z _ _))
+    (number-no _ _ n z _, (words-no _ _ n z _ _, words-no _ _ n z _ _))
 
 pub all-runs-spec : {M : Type 1} → statement M
 all-runs-spec = tie.close (tie.spec list-no-requires list-runs-requires same-length same-length-2 returns returns-2)

@@ -2,7 +2,7 @@
 use borrow.Author.Needs.{needs}
 use mathlib.Core.Path.{ap, _∙_}
 use Rattle.slots.specs.Lent.{minutesNo}
-use Rattle.boltraven_c.specs.Demand.{minutesAre}
+use Rattle.boltraven_c.specs.Numbers.{minutesAre}
 use Rattle.boltraven_c.proofs.demand.boltraven_slot_minutes.Statement.{statement}
 use Rattle.boltraven_c.proofs.demand.boltraven_slot_minutes.Tie as tie
 

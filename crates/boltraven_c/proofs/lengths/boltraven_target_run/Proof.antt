@@ -1,8 +1,8 @@
 -- `boltraven_c::lengths::boltraven_target_run` meets its contract. Assumes nothing.
 use borrow.Author.Needs.{needs}
 use mathlib.Core.Path.{ap, _∙_}
-use Rattle.units.specs.Days.{durationNo}
-use Rattle.boltraven_c.specs.Units.{durationMinutes}
+use Rattle.slots.specs.Lent.{minutesNo}
+use Rattle.boltraven_c.specs.Numbers.{minutesAre}
 use Rattle.boltraven_c.proofs.lengths.boltraven_target_run.Statement.{statement}
 use Rattle.boltraven_c.proofs.lengths.boltraven_target_run.Tie as tie
 
@@ -15,7 +15,7 @@ put-minutes-requires c κs = search needs
 returns : tie.Need-returns
 returns c =
     let e = c .before .before .target-run .ensures in
-    (c .put-minutes .ensures .0 ∙ ap durationNo e, c .put-minutes .ensures .1 ∙ ap (durationMinutes _) e)
+    (c .put-minutes .ensures .0 ∙ ap minutesNo e, c .put-minutes .ensures .1 ∙ ap (minutesAre _) e)
 
 pub boltraven-target-run-spec : {M : Type 1} → statement M
 boltraven-target-run-spec = tie.close (tie.spec target-run-requires put-minutes-requires returns)

@@ -1,15 +1,15 @@
 -- `boltraven_c::rotations::boltraven_rotation_starts` meets its contract. Assumes nothing.
 use borrow.Author.Needs.{needs}
 use mathlib.Core.Path.{ap, _∙_}
-use Rattle.boltraven_c.specs.Units.{countNumber}
+use Rattle.boltraven_c.specs.Numbers.{plainNumber}
 use Rattle.boltraven_c.proofs.rotations.boltraven_rotation_starts.Statement.{statement}
 use Rattle.boltraven_c.proofs.rotations.boltraven_rotation_starts.Tie as tie
 
 rotation-starts-requires : tie.Need-rotation-starts-requires
 rotation-starts-requires c κs = search needs
 
-count-number-requires : tie.Need-count-number-requires
-count-number-requires c κs = search needs
+plain-number-requires : tie.Need-plain-number-requires
+plain-number-requires c κs = search needs
 
 same-length : tie.Need-same-length
 same-length c = search needs
@@ -17,8 +17,8 @@ same-length c = search needs
 returns : tie.Need-returns
 returns c =
     let told = c .before .before .before .rotation-starts .ensures in
-    (c .count-number .ensures ∙ ap countNumber (told .said), told .left)
+    (c .plain-number .ensures ∙ ap plainNumber (told .said), told .left)
 
 pub boltraven-rotation-starts-spec : {M : Type 1} → statement M
 boltraven-rotation-starts-spec =
-    tie.close (tie.spec rotation-starts-requires count-number-requires same-length returns)
+    tie.close (tie.spec rotation-starts-requires plain-number-requires same-length returns)

@@ -1,15 +1,15 @@
 -- `boltraven_c::rotations::boltraven_unit_starts` meets its contract. Assumes nothing.
 use borrow.Author.Needs.{needs}
 use mathlib.Core.Path.{ap, _∙_}
-use Rattle.boltraven_c.specs.Units.{countNumber}
+use Rattle.boltraven_c.specs.Numbers.{plainNumber}
 use Rattle.boltraven_c.proofs.rotations.boltraven_unit_starts.Statement.{statement}
 use Rattle.boltraven_c.proofs.rotations.boltraven_unit_starts.Tie as tie
 
 unit-starts-requires : tie.Need-unit-starts-requires
 unit-starts-requires c κs = search needs
 
-count-number-requires : tie.Need-count-number-requires
-count-number-requires c κs = search needs
+plain-number-requires : tie.Need-plain-number-requires
+plain-number-requires c κs = search needs
 
 same-length : tie.Need-same-length
 same-length c = search needs
@@ -17,8 +17,8 @@ same-length c = search needs
 returns : tie.Need-returns
 returns c =
     let told = c .before .before .before .unit-starts .ensures in
-    (c .count-number .ensures ∙ ap countNumber (told .said), told .left)
+    (c .plain-number .ensures ∙ ap plainNumber (told .said), told .left)
 
 pub boltraven-unit-starts-spec : {M : Type 1} → statement M
 boltraven-unit-starts-spec =
-    tie.close (tie.spec unit-starts-requires count-number-requires same-length returns)
+    tie.close (tie.spec unit-starts-requires plain-number-requires same-length returns)

@@ -1,18 +1,18 @@
 -- `boltraven_c::sets::boltraven_count` meets its contract. Assumes nothing.
 use borrow.Author.Needs.{needs}
 use mathlib.Core.Path.{ap, _∙_}
-use Rattle.boltraven_c.specs.Numbers.{countedNumber}
+use Rattle.boltraven_c.specs.Numbers.{plainNumber}
 use Rattle.boltraven_c.proofs.sets.boltraven_count.Statement.{statement}
 use Rattle.boltraven_c.proofs.sets.boltraven_count.Tie as tie
 
 count-requires : tie.Need-count-requires
 count-requires c κs = search needs
 
-counted-number-requires : tie.Need-counted-number-requires
-counted-number-requires c κs = search needs
+plain-number-requires : tie.Need-plain-number-requires
+plain-number-requires c κs = search needs
 
 returns : tie.Need-returns
-returns c = c .counted-number .ensures ∙ ap countedNumber (c .before .count .ensures)
+returns c = c .plain-number .ensures ∙ ap plainNumber (c .before .count .ensures)
 
 pub boltraven-count-spec : {M : Type 1} → statement M
-boltraven-count-spec = tie.close (tie.spec count-requires counted-number-requires returns)
+boltraven-count-spec = tie.close (tie.spec count-requires plain-number-requires returns)

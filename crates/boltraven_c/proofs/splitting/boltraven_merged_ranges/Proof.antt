@@ -1,15 +1,15 @@
 -- `boltraven_c::splitting::boltraven_merged_ranges` meets its contract. Assumes nothing.
 use borrow.Author.Needs.{needs}
 use mathlib.Core.Path.{ap, _∙_}
-use Rattle.boltraven_c.specs.Numbers.{countedNumber}
+use Rattle.boltraven_c.specs.Numbers.{plainNumber}
 use Rattle.boltraven_c.proofs.splitting.boltraven_merged_ranges.Statement.{statement}
 use Rattle.boltraven_c.proofs.splitting.boltraven_merged_ranges.Tie as tie
 
 merged-ranges-requires : tie.Need-merged-ranges-requires
 merged-ranges-requires c κs = search needs
 
-counted-number-requires : tie.Need-counted-number-requires
-counted-number-requires c κs = search needs
+plain-number-requires : tie.Need-plain-number-requires
+plain-number-requires c κs = search needs
 
 same-length : tie.Need-same-length
 same-length c = search needs
@@ -23,14 +23,14 @@ same-length-3 c = search needs
 returns : tie.Need-returns
 returns c =
     let told = c .before .before .before .before .before .before .before .merged-ranges .ensures in
-    (c .counted-number .ensures ∙ ap countedNumber (told .heard), (told .persons, (told .starts, told .ends)))
+    (c .plain-number .ensures ∙ ap plainNumber (told .heard), (told .persons, (told .starts, told .ends)))
 
 pub boltraven-merged-ranges-spec : {M : Type 1} → statement M
 boltraven-merged-ranges-spec =
     tie.close
     (tie.spec
     merged-ranges-requires
-    counted-number-requires
+    plain-number-requires
     same-length
     same-length-2
     same-length-3

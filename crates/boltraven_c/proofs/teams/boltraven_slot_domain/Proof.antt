@@ -1,15 +1,15 @@
 -- `boltraven_c::teams::boltraven_slot_domain` meets its contract. Assumes nothing.
 use borrow.Author.Needs.{needs}
 use mathlib.Core.Path.{ap, _∙_}
-use Rattle.boltraven_c.specs.Units.{countNumber}
+use Rattle.boltraven_c.specs.Numbers.{plainNumber}
 use Rattle.boltraven_c.proofs.teams.boltraven_slot_domain.Statement.{statement}
 use Rattle.boltraven_c.proofs.teams.boltraven_slot_domain.Tie as tie
 
 slot-domain-requires : tie.Need-slot-domain-requires
 slot-domain-requires c κs = search needs
 
-count-number-requires : tie.Need-count-number-requires
-count-number-requires c κs = search needs
+plain-number-requires : tie.Need-plain-number-requires
+plain-number-requires c κs = search needs
 
 same-length : tie.Need-same-length
 same-length c = search needs
@@ -17,8 +17,8 @@ same-length c = search needs
 returns : tie.Need-returns
 returns c =
     let told = c .before .before .before .slot-domain .ensures in
-    (c .count-number .ensures ∙ ap countNumber (told .said), told .left)
+    (c .plain-number .ensures ∙ ap plainNumber (told .said), told .left)
 
 pub boltraven-slot-domain-spec : {M : Type 1} → statement M
 boltraven-slot-domain-spec =
-    tie.close (tie.spec slot-domain-requires count-number-requires same-length returns)
+    tie.close (tie.spec slot-domain-requires plain-number-requires same-length returns)

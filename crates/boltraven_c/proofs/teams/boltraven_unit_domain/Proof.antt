@@ -1,15 +1,15 @@
 -- `boltraven_c::teams::boltraven_unit_domain` meets its contract. Assumes nothing.
 use borrow.Author.Needs.{needs}
 use mathlib.Core.Path.{ap, _∙_}
-use Rattle.boltraven_c.specs.Units.{countNumber}
+use Rattle.boltraven_c.specs.Numbers.{plainNumber}
 use Rattle.boltraven_c.proofs.teams.boltraven_unit_domain.Statement.{statement}
 use Rattle.boltraven_c.proofs.teams.boltraven_unit_domain.Tie as tie
 
 unit-domain-requires : tie.Need-unit-domain-requires
 unit-domain-requires c κs = search needs
 
-count-number-requires : tie.Need-count-number-requires
-count-number-requires c κs = search needs
+plain-number-requires : tie.Need-plain-number-requires
+plain-number-requires c κs = search needs
 
 same-length : tie.Need-same-length
 same-length c = search needs
@@ -17,8 +17,8 @@ same-length c = search needs
 returns : tie.Need-returns
 returns c =
     let told = c .before .before .before .unit-domain .ensures in
-    (c .count-number .ensures ∙ ap countNumber (told .said), told .left)
+    (c .plain-number .ensures ∙ ap plainNumber (told .said), told .left)
 
 pub boltraven-unit-domain-spec : {M : Type 1} → statement M
 boltraven-unit-domain-spec =
-    tie.close (tie.spec unit-domain-requires count-number-requires same-length returns)
+    tie.close (tie.spec unit-domain-requires plain-number-requires same-length returns)

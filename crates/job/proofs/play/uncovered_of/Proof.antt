@@ -1,7 +1,7 @@
 -- `job::play::uncovered_of` meets its contract. Assumes nothing.
 use borrow.Author.Needs.{needs}
 use mathlib.Core.Path.{sym, ap, _∙_}
-use Rattle.job.specs.Outcome.{figureValue}
+use Rattle.job.specs.Outcome.{minutesValue}
 use Rattle.job.proofs.play.uncovered_of.Statement.{statement}
 use Rattle.job.proofs.play.uncovered_of.Tie as tie
 
@@ -15,10 +15,10 @@ enum-told : tie.Need-enum-told
 enum-told c = search needs
 
 returns : tie.Need-returns
-returns c = sym (ap figureValue (sym (c .before .before .before .uncovered-minutes .ensures) ∙ c .before .heard .given .1))
+returns c = sym (ap minutesValue (sym (c .before .before .before .uncovered-minutes .ensures) ∙ c .before .heard .given .1))
 
 returns-2 : tie.Need-returns-2
-returns-2 c = sym (ap figureValue (sym (c .before .before .uncovered-minutes .ensures) ∙ c .enum-told .given .1))
+returns-2 c = sym (ap minutesValue (sym (c .before .before .uncovered-minutes .ensures) ∙ c .enum-told .given .1))
 
 pub uncovered-of-spec : {M : Type 1} → statement M
 uncovered-of-spec =

@@ -2,7 +2,8 @@
 -- Below, cN is what is known N places before c.
 use borrow.Author.Needs.{needs}
 use mathlib.Core.Path.{sym, ap, _∙_}
-use Rattle.job.specs.Stages.{noOf, valueOf}
+use Rattle.slotset.specs.Answers.{numberNo}
+use Rattle.job.specs.Stages.{valueOf}
 use Rattle.job.proofs.prepare.atoms_of.Statement.{statement}
 use Rattle.job.proofs.prepare.atoms_of.Tie as tie
 
@@ -27,7 +28,7 @@ returns c =
     let w = c5 .atomise .ensures in
     let e = sym (w .heard) ∙ c .before .heard .given .1 in
     record {
-      no = sym (ap noOf e);
+      no = sym (ap numberNo e);
       count = sym (ap valueOf e);
       starts = w .starts;
       ends = w .ends;
@@ -41,7 +42,7 @@ returns-2 c =
     let w = c5 .atomise .ensures in
     let e = sym (w .heard) ∙ c .before .heard2 .given .1 in
     record {
-      no = sym (ap noOf e);
+      no = sym (ap numberNo e);
       count = sym (ap valueOf e);
       starts = w .starts;
       ends = w .ends;

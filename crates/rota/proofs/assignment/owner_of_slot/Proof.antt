@@ -7,11 +7,13 @@ use borrow.Author.Tests.{le-ltb, lt-ltb, leb-true}
 use lib.Dec.{ltb, leb}
 use lib.ListN.{length, getD}
 use Rattle.paper.specs.Limits.{countsOk}
+use Rattle.slotset.specs.declared.Number.the-variants as number
+use Rattle.slotset.specs.Answers.{numberAs}
 use Rattle.rota.specs.Derived.{knownBy}
 use Rattle.rota.specs.Entries.{ownerIs}
 use Rattle.rota.proofs.Entered.{ground-same, ground-all}
 use Rattle.paper.proofs.Logic.{and-true}
-use Rattle.rota.proofs.Asked.{figure-stops, figure-11, figure-told}
+use Rattle.rota.proofs.Asked.{read-stops, read-11, read-told}
 use Rattle.rota.proofs.assignment.owner_of_slot.Statement.{statement}
 use Rattle.rota.proofs.assignment.owner_of_slot.Tie as tie
 
@@ -42,7 +44,7 @@ cast-t14 c =
     omega (arith, (at-shared-slice-known2 .given) (at-args .slot))
 
 returns : tie.Need-returns
-unfolding ownerIs
+unfolding ownerIs numberAs
 returns c =
     let at-args = c .before .before .before .before .before .before .before .before .args in
     let at-ground = c .before .before .before .before .before .ground in
@@ -50,13 +52,14 @@ returns c =
     let at-if1 = c .before .before .before .before .if1 in
     let at-if2 = c .before .before .before .if2 in
     let at-known-by = c .before .known-by in
-    figure-told (countsOk (at-args .people) (at-args .slots)) (leb (at-args .slots) (length (at-args .owners .now))) true (ltb
+    read-told number.Is number.Refused
+    (countsOk (at-args .people) (at-args .slots)) (leb (at-args .slots) (length (at-args .owners .now))) true (ltb
     (at-args .slot) (at-args .slots) && knownBy (at-args .people) (getD (at-args .owners .now) (at-args .slot) 0)) _ _
     ((at-ground .ensures) ∙ ground-same _ _ _ _ _ _ (at-counts-ok .ensures) refl refl) _ (at-if1 .taken) (and-true _ _
     (lt-ltb _ _ (at-if2 .taken)) (sym (at-known-by .ensures) ∙ (c .if3 .taken))) refl
 
 returns-2 : tie.Need-returns-2
-unfolding ownerIs
+unfolding ownerIs numberAs
 returns-2 c =
     let at-args = c .before .before .before .before .before .before .before .before .args in
     let at-ground = c .before .before .before .before .before .ground in
@@ -64,30 +67,33 @@ returns-2 c =
     let at-if1 = c .before .before .before .before .if1 in
     let at-if2 = c .before .before .before .if2 in
     let at-known-by = c .before .known-by in
-    figure-11 (countsOk (at-args .people) (at-args .slots)) (leb (at-args .slots) (length (at-args .owners .now))) true (ltb
+    read-11 number.Is number.Refused
+    (countsOk (at-args .people) (at-args .slots)) (leb (at-args .slots) (length (at-args .owners .now))) true (ltb
     (at-args .slot) (at-args .slots) && knownBy (at-args .people) (getD (at-args .owners .now) (at-args .slot) 0)) _ _
     ((at-ground .ensures) ∙ ground-same _ _ _ _ _ _ (at-counts-ok .ensures) refl refl) (at-if1 .taken) (ap₂ _&&_ (lt-ltb _ _
     (at-if2 .taken)) (sym (at-known-by .ensures) ∙ (c .if3 .left)))
 
 returns-3 : tie.Need-returns-3
-unfolding ownerIs
+unfolding ownerIs numberAs
 returns-3 c =
     let at-args = c .before .before .before .before .before .args in
     let at-ground = c .before .before .ground in
     let at-counts-ok = c .before .before .before .counts-ok in
     let at-if1 = c .before .if1 in
-    figure-11 (countsOk (at-args .people) (at-args .slots)) (leb (at-args .slots) (length (at-args .owners .now))) true (ltb
+    read-11 number.Is number.Refused
+    (countsOk (at-args .people) (at-args .slots)) (leb (at-args .slots) (length (at-args .owners .now))) true (ltb
     (at-args .slot) (at-args .slots) && knownBy (at-args .people) (getD (at-args .owners .now) (at-args .slot) 0)) _ _
     ((at-ground .ensures) ∙ ground-same _ _ _ _ _ _ (at-counts-ok .ensures) refl refl) (at-if1 .taken) (ap (λ (b : Bool). b
     && knownBy (at-args .people) (getD (at-args .owners .now) (at-args .slot) 0)) (le-ltb _ _ (c .if2 .left)))
 
 returns-4 : tie.Need-returns-4
-unfolding ownerIs
+unfolding ownerIs numberAs
 returns-4 c =
     let at-args = c .before .before .before .before .args in
     let at-ground = c .before .ground in
     let at-counts-ok = c .before .before .counts-ok in
-    figure-stops (countsOk (at-args .people) (at-args .slots)) (leb (at-args .slots) (length (at-args .owners .now))) true (ltb
+    read-stops number.Is number.Refused
+    (countsOk (at-args .people) (at-args .slots)) (leb (at-args .slots) (length (at-args .owners .now))) true (ltb
     (at-args .slot) (at-args .slots) && knownBy (at-args .people) (getD (at-args .owners .now) (at-args .slot) 0)) _ _
     ((at-ground .ensures) ∙ ground-same _ _ _ _ _ _ (at-counts-ok .ensures) refl refl) (c .if1 .left)
 

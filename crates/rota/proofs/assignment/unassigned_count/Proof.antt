@@ -7,10 +7,12 @@ use lib.Dec.{leb}
 use lib.ListN.{length}
 use Rattle.paper.specs.Limits.{countsOk}
 use Rattle.paper.specs.Count.{all}
+use Rattle.slotset.specs.declared.Number.the-variants as number
+use Rattle.slotset.specs.Answers.{numberAs}
 use Rattle.rota.specs.Recount.{knownAt}
 use Rattle.rota.specs.Entries.{unassignedIs}
 use Rattle.rota.proofs.Entered.{ground-same, ground-all}
-use Rattle.rota.proofs.Asked.{scan-no, scan-yes, figure-stops, figure-11, figure-told}
+use Rattle.rota.proofs.Asked.{scan-no, scan-yes, read-stops, read-11, read-told}
 use Rattle.rota.proofs.assignment.unassigned_count.Statement.{statement}
 use Rattle.rota.proofs.assignment.unassigned_count.Tie as tie
 
@@ -30,14 +32,15 @@ first-unknown-requires c κs =
     .taken)) .1)
 
 returns : tie.Need-returns
-unfolding unassignedIs
+unfolding unassignedIs numberAs
 returns c =
     let at-args = c .before .before .before .before .before .before .args in
     let at-ground = c .before .before .before .ground in
     let at-counts-ok = c .before .before .before .before .counts-ok in
     let at-if1 = c .before .before .if1 in
     let at-first-unknown = c .before .first-unknown in
-    figure-11 (countsOk (at-args .people) (at-args .slots)) (leb (at-args .slots) (length (at-args .owners .now))) true (all
+    read-11 number.Is number.Refused
+    (countsOk (at-args .people) (at-args .slots)) (leb (at-args .slots) (length (at-args .owners .now))) true (all
     (at-args .slots) (knownAt (at-args .people) (at-args .owners .now))) _ _ ((at-ground .ensures) ∙ ground-same _ _ _ _ _ _
     (at-counts-ok .ensures) refl refl) (at-if1 .taken) (scan-no _ _ _ (at-first-unknown .ensures) (c .if2 .taken))
 
@@ -52,7 +55,7 @@ count-nobody-requires c κs =
     .taken)) .1)
 
 returns-2 : tie.Need-returns-2
-unfolding unassignedIs
+unfolding unassignedIs numberAs
 returns-2 c =
     let at-args = c .before .before .before .before .before .before .before .args in
     let at-ground = c .before .before .before .before .ground in
@@ -61,18 +64,20 @@ returns-2 c =
     let at-first-unknown = c .before .before .first-unknown in
     let at-if2 = c .before .if2 in
     let at-count-nobody = c .count-nobody in
-    figure-told (countsOk (at-args .people) (at-args .slots)) (leb (at-args .slots) (length (at-args .owners .now))) true (all
+    read-told number.Is number.Refused
+    (countsOk (at-args .people) (at-args .slots)) (leb (at-args .slots) (length (at-args .owners .now))) true (all
     (at-args .slots) (knownAt (at-args .people) (at-args .owners .now))) _ _ ((at-ground .ensures) ∙ ground-same _ _ _ _ _ _
     (at-counts-ok .ensures) refl refl) _ (at-if1 .taken) (scan-yes _ _ _ (at-first-unknown .ensures) (at-if2 .left))
     (at-count-nobody .ensures)
 
 returns-3 : tie.Need-returns-3
-unfolding unassignedIs
+unfolding unassignedIs numberAs
 returns-3 c =
     let at-args = c .before .before .before .before .args in
     let at-ground = c .before .ground in
     let at-counts-ok = c .before .before .counts-ok in
-    figure-stops (countsOk (at-args .people) (at-args .slots)) (leb (at-args .slots) (length (at-args .owners .now))) true (all
+    read-stops number.Is number.Refused
+    (countsOk (at-args .people) (at-args .slots)) (leb (at-args .slots) (length (at-args .owners .now))) true (all
     (at-args .slots) (knownAt (at-args .people) (at-args .owners .now))) _ _ ((at-ground .ensures) ∙ ground-same _ _ _ _ _ _
     (at-counts-ok .ensures) refl refl) (c .if1 .left)
 

@@ -7,13 +7,15 @@ use lib.Dec.{leb}
 use lib.ListN.{length}
 use Rattle.paper.specs.Limits.{countsOk}
 use Rattle.paper.specs.Count.{all}
+use Rattle.slots.specs.declared.Minutes.the-variants as minutes
+use Rattle.slots.specs.Lent.{minutesAs}
 use Rattle.rota.specs.Derived.{plan, uncovered}
 use Rattle.rota.specs.Recount.{knownAt}
 use Rattle.slots.specs.Lent.{slotRoomOk, slotsOk}
 use Rattle.rota.specs.Entries.{uncoveredIs}
 use Rattle.rota.proofs.Entered.{ground-same, ground-all, plan-sound}
 use Rattle.paper.proofs.Logic.{both}
-use Rattle.rota.proofs.Asked.{scan-no, scan-yes, figure-stops, figure-11, figure-told}
+use Rattle.rota.proofs.Asked.{scan-no, scan-yes, read-stops, read-11, read-told}
 use Rattle.rota.proofs.assignment.uncovered_minutes.Statement.{statement}
 use Rattle.rota.proofs.assignment.uncovered_minutes.Tie as tie
 
@@ -48,7 +50,7 @@ first-unknown-requires c κs =
     (at-slot-room-ok .ensures)) (at-slots-ok .ensures)) ∙ (c .if1 .taken)) .1) .1)
 
 returns : tie.Need-returns
-unfolding uncoveredIs
+unfolding uncoveredIs minutesAs
 returns c =
     let at-args = c .before .before .before .before .before .before .before .before .before .before .before .args in
     let at-ground = c .before .before .before .ground in
@@ -58,7 +60,8 @@ returns c =
     let at-slots-ok = c .before .before .before .before .slots-ok in
     let at-if1 = c .before .before .if1 in
     let at-first-unknown = c .before .first-unknown in
-    figure-11 (countsOk (at-args .people) (at-args .slots)) (slotRoomOk (at-args .slots) (at-args .starts .now) (at-args .ends
+    read-11 minutes.Are minutes.Refused
+    (countsOk (at-args .people) (at-args .slots)) (slotRoomOk (at-args .slots) (at-args .starts .now) (at-args .ends
     .now) && leb (at-args .slots) (length (at-args .owners .now))) (slotsOk (at-args .slots) (at-args .starts .now) (at-args
     .ends .now)) (all (at-args .slots) (knownAt (at-args .people) (at-args .owners .now))) _ _ ((at-ground .ensures) ∙
     ground-same _ _ _ _ _ _ (at-counts-ok .ensures) ((at-both .ensures) ∙ ap (λ (b : Bool). b && leb (at-args .slots)
@@ -86,7 +89,7 @@ worked-by-requires c κs =
     )
 
 returns-2 : tie.Need-returns-2
-unfolding uncoveredIs uncovered
+unfolding uncoveredIs uncovered minutesAs
 returns-2 c =
     let at-args = c .before .before .before .before .before .before .before .before .before .before .before .before .args in
     let at-ground = c .before .before .before .before .ground in
@@ -97,7 +100,8 @@ returns-2 c =
     let at-if1 = c .before .before .before .if1 in
     let at-first-unknown = c .before .before .first-unknown in
     let at-if2 = c .before .if2 in
-    figure-told (countsOk (at-args .people) (at-args .slots)) (slotRoomOk (at-args .slots) (at-args .starts .now) (at-args .ends
+    read-told minutes.Are minutes.Refused
+    (countsOk (at-args .people) (at-args .slots)) (slotRoomOk (at-args .slots) (at-args .starts .now) (at-args .ends
     .now) && leb (at-args .slots) (length (at-args .owners .now))) (slotsOk (at-args .slots) (at-args .starts .now) (at-args
     .ends .now)) (all (at-args .slots) (knownAt (at-args .people) (at-args .owners .now))) _ _ ((at-ground .ensures) ∙
     ground-same _ _ _ _ _ _ (at-counts-ok .ensures) ((at-both .ensures) ∙ ap (λ (b : Bool). b && leb (at-args .slots)
@@ -105,7 +109,7 @@ returns-2 c =
     (at-first-unknown .ensures) (at-if2 .left)) (c .worked-by .ensures)
 
 returns-3 : tie.Need-returns-3
-unfolding uncoveredIs
+unfolding uncoveredIs minutesAs
 returns-3 c =
     let at-args = c .before .before .before .before .before .before .before .before .before .args in
     let at-ground = c .before .ground in
@@ -113,7 +117,8 @@ returns-3 c =
     let at-both = c .before .before .before .before .both in
     let at-slot-room-ok = c .before .before .before .before .before .slot-room-ok in
     let at-slots-ok = c .before .before .slots-ok in
-    figure-stops (countsOk (at-args .people) (at-args .slots)) (slotRoomOk (at-args .slots) (at-args .starts .now) (at-args
+    read-stops minutes.Are minutes.Refused
+    (countsOk (at-args .people) (at-args .slots)) (slotRoomOk (at-args .slots) (at-args .starts .now) (at-args
     .ends .now) && leb (at-args .slots) (length (at-args .owners .now))) (slotsOk (at-args .slots) (at-args .starts .now)
     (at-args .ends .now)) (all (at-args .slots) (knownAt (at-args .people) (at-args .owners .now))) _ _ ((at-ground
     .ensures) ∙ ground-same _ _ _ _ _ _ (at-counts-ok .ensures) ((at-both .ensures) ∙ ap (λ (b : Bool). b && leb (at-args

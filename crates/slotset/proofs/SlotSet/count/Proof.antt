@@ -3,7 +3,7 @@ use borrow.Author.Needs.{needs}
 use mathlib.Core.Path.{_≡_, sym, _∙_}
 use native.Mathlib.Omega.{arith}
 use lib.ListN.{length}
-use Rattle.slotset.proofs.Refusals.{len-says, counted-is, counted-no}
+use Rattle.slotset.proofs.Refusals.{len-says, number-is, number-no}
 use Rattle.slotset.proofs.SlotSet.count.Statement.{statement}
 use Rattle.slotset.proofs.SlotSet.count.Tie as tie
 
@@ -22,10 +22,10 @@ count-requires c κs =
 returns : tie.Need-returns
 returns c =
     let k = c .before .before .before in
-    counted-is _ _ (k .before .len-no .ensures) (k .if1 .taken) _ _ (c .count .ensures)
+    number-is _ _ (k .before .len-no .ensures) (k .if1 .taken) _ _ (c .count .ensures)
 
 returns-2 : tie.Need-returns-2
-returns-2 c = counted-no _ _ (c .before .len-no .ensures) (c .if1 .left) _
+returns-2 c = number-no _ _ (c .before .len-no .ensures) (c .if1 .left) _
 
 pub count-spec : {M : Type 1} → statement M
 count-spec =

@@ -2,7 +2,7 @@
 use borrow.Author.Needs.{needs}
 use mathlib.Core.Path.{sym, _∙_}
 use native.Mathlib.Omega.{arith}
-use Rattle.slotset.proofs.Refusals.{row-says, counted-is, counted-no}
+use Rattle.slotset.proofs.Refusals.{row-says, number-is, number-no}
 use Rattle.slotset.proofs.row.count.Statement.{statement}
 use Rattle.slotset.proofs.row.count.Tie as tie
 
@@ -20,10 +20,10 @@ count-requires c κs =
     (r .words, r .short)
 
 returns : tie.Need-returns
-returns c = counted-is _ _ (c .before .before .row-no .ensures) (c .before .if1 .taken) _ _ (c .count .ensures)
+returns c = number-is _ _ (c .before .before .row-no .ensures) (c .before .if1 .taken) _ _ (c .count .ensures)
 
 returns-2 : tie.Need-returns-2
-returns-2 c = counted-no _ _ (c .before .row-no .ensures) (c .if1 .left) _
+returns-2 c = number-no _ _ (c .before .row-no .ensures) (c .if1 .left) _
 
 pub count-spec : {M : Type 1} → statement M
 count-spec =

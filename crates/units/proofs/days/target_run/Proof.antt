@@ -1,7 +1,8 @@
 -- `units::days::target_run` meets its contract. Assumes nothing.
 use mathlib.Core.Path.{sym, _∙_}
 use Rattle.units.specs.Days.{targetRunNo, targetRunIs}
-use Rattle.units.proofs.Covered.{duration-told, duration-refused, target-says}
+use Rattle.slots.proofs.LentLaws.{minutes-is, minutes-no}
+use Rattle.units.proofs.Covered.{target-says}
 use borrow.Author.Needs.{needs}
 use Rattle.units.proofs.days.target_run.Statement.{statement}
 use Rattle.units.proofs.days.target_run.Tie as tie
@@ -15,11 +16,11 @@ run-minutes-requires c κs = target-says _ _ _ _ (sym (c .before .settings-then 
 
 returns : tie.Need-returns
 unfolding targetRunIs targetRunNo
-returns c = duration-told _ _ _ _ (c .before .before .settings-then .ensures) (c .before .if1 .taken) (c .run-minutes .ensures)
+returns c = minutes-is _ _ (c .before .before .settings-then .ensures) (c .before .if1 .taken) _ _ (c .run-minutes .ensures)
 
 returns-2 : tie.Need-returns-2
 unfolding targetRunIs targetRunNo
-returns-2 c = duration-refused _ _ _ (c .before .settings-then .ensures) (c .if1 .left)
+returns-2 c = minutes-no _ _ (c .before .settings-then .ensures) (c .if1 .left) _
 
 pub target-run-spec : {M : Type 1} → statement M
 target-run-spec =

@@ -1,7 +1,7 @@
 -- `units::lent::unit_count` meets its contract. Assumes nothing.
 use mathlib.Core.Path.{refl}
 use Rattle.units.specs.Answers.{unitCountIs}
-use Rattle.units.proofs.Answers.{number-told, number-refused}
+use Rattle.slotset.proofs.Refusals.{number-is, number-no}
 use borrow.Author.Needs.{needs}
 use Rattle.units.proofs.lent.unit_count.Statement.{statement}
 use Rattle.units.proofs.lent.unit_count.Tie as tie
@@ -11,11 +11,11 @@ units-no-requires c κs = search needs
 
 returns : tie.Need-returns
 unfolding unitCountIs
-returns c = number-told _ _ _ _ (c .before .units-no .ensures) (c .if1 .taken) refl
+returns c = number-is _ _ (c .before .units-no .ensures) (c .if1 .taken) _ _ refl
 
 returns-2 : tie.Need-returns-2
 unfolding unitCountIs
-returns-2 c = number-refused _ _ _ (c .before .units-no .ensures) (c .if1 .left)
+returns-2 c = number-no _ _ (c .before .units-no .ensures) (c .if1 .left) _
 
 pub unit-count-spec : {M : Type 1} → statement M
 unit-count-spec = tie.close (tie.spec units-no-requires returns returns-2)

@@ -1,7 +1,7 @@
 -- `units::lent::unit_of_slot` meets its contract. Assumes nothing.
 use mathlib.Core.Path.{ap, _∙_}
 use Rattle.units.specs.Answers.{unitsNo, unitSlotNo, unitOfSlotIs}
-use Rattle.units.proofs.Answers.{number-told, number-refused}
+use Rattle.slotset.proofs.Refusals.{number-is, number-no}
 use borrow.Author.Needs.{needs}
 use Rattle.units.proofs.lent.unit_of_slot.Statement.{statement}
 use Rattle.units.proofs.lent.unit_of_slot.Tie as tie
@@ -19,11 +19,11 @@ returns : tie.Need-returns
 unfolding unitOfSlotIs unitSlotNo
 returns c =
     let n = c .before .before .units-no .ensures ∙ ap (unitsNo _ _ _) (c .before .before .before .or-else .ensures) in
-    number-told _ _ _ _ n (c .before .if1 .taken) (c .unit-of .ensures)
+    number-is _ _ n (c .before .if1 .taken) _ _ (c .unit-of .ensures)
 
 returns-2 : tie.Need-returns-2
 unfolding unitOfSlotIs unitSlotNo
-returns-2 c = number-refused _ _ _ (c .before .units-no .ensures ∙ ap (unitsNo _ _ _) (c .before .before .or-else .ensures)) (c .if1 .left)
+returns-2 c = number-no _ _ (c .before .units-no .ensures ∙ ap (unitsNo _ _ _) (c .before .before .or-else .ensures)) (c .if1 .left) _
 
 pub unit-of-slot-spec : {M : Type 1} → statement M
 unit-of-slot-spec =

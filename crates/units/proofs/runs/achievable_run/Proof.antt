@@ -2,7 +2,7 @@
 use mathlib.Core.Path.{sym, _∙_}
 use Rattle.units.specs.Achievable.{achievableRunIs}
 use Rattle.units.proofs.Reach.{runs-say, target-some, reach-at}
-use Rattle.units.proofs.Covered.{duration-told, duration-refused}
+use Rattle.slots.proofs.LentLaws.{minutes-is, minutes-no}
 use borrow.Author.Needs.{needs}
 use Rattle.units.proofs.runs.achievable_run.Statement.{statement}
 use Rattle.units.proofs.runs.achievable_run.Tie as tie
@@ -24,11 +24,11 @@ returns : tie.Need-returns
 unfolding achievableRunIs
 returns c =
     let m = reach-at _ _ _ _ _ _ _ _ (c .before .run-minutes .ensures) (c .longest-run .ensures) in
-    duration-told _ _ _ _ (c .before .before .before .achievable-run-no .ensures) (c .before .before .if1 .taken) m
+    minutes-is _ _ (c .before .before .before .achievable-run-no .ensures) (c .before .before .if1 .taken) _ _ m
 
 returns-2 : tie.Need-returns-2
 unfolding achievableRunIs
-returns-2 c = duration-refused _ _ _ (c .before .achievable-run-no .ensures) (c .if1 .left)
+returns-2 c = minutes-no _ _ (c .before .achievable-run-no .ensures) (c .if1 .left) _
 
 pub achievable-run-spec : {M : Type 1} → statement M
 achievable-run-spec =

@@ -1,9 +1,9 @@
--- `boltraven_c::sets::found_number` meets its contract. Assumes nothing.
+-- `boltraven_c::answers::found_number` meets its contract. Assumes nothing.
 use borrow.Author.Needs.{needs}
 use mathlib.Core.Path.{sym, ap, _∙_}
 use Rattle.boltraven_c.specs.Numbers.{foundNumber}
-use Rattle.boltraven_c.proofs.sets.found_number.Statement.{statement}
-use Rattle.boltraven_c.proofs.sets.found_number.Tie as tie
+use Rattle.boltraven_c.proofs.answers.found_number.Statement.{statement}
+use Rattle.boltraven_c.proofs.answers.found_number.Tie as tie
 
 enum-known-found : tie.Need-enum-known-found
 enum-known-found c = search needs

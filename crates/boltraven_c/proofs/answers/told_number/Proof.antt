@@ -1,9 +1,9 @@
--- `boltraven_c::sets::told_number` meets its contract. Assumes nothing.
+-- `boltraven_c::answers::told_number` meets its contract. Assumes nothing.
 use borrow.Author.Needs.{needs}
 use mathlib.Core.Path.{sym, ap, _∙_}
 use Rattle.boltraven_c.specs.Numbers.{toldNumber}
-use Rattle.boltraven_c.proofs.sets.told_number.Statement.{statement}
-use Rattle.boltraven_c.proofs.sets.told_number.Tie as tie
+use Rattle.boltraven_c.proofs.answers.told_number.Statement.{statement}
+use Rattle.boltraven_c.proofs.answers.told_number.Tie as tie
 
 enum-told : tie.Need-enum-told
 enum-told c = search needs

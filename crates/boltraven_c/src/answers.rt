@@ -1,0 +1,53 @@
+// The library's answers as numbers: below 65,536 what was asked, 65,536 nothing, 65,536 + n refused by n. Minutes may be larger: they are
+// written through an address, beside the number of the refusal, or 0.
+use crate::NOTHING;
+use crate::refused;
+use slots::Minutes;
+use slotset::Found;
+use slotset::Number;
+use slotset::Told;
+ghost use mathlib.Core.Path.{_≡_};
+ghost use Rattle.slots.specs.Lent.{minutesNo};
+ghost use Rattle.boltraven_c.specs.Numbers.{foundNumber, toldNumber, plainNumber, minutesAre};
+
+pub(crate) fn found_number(found: Found) -> u64
+    ensures { λ r. ⌜ r ≡ foundNumber found ⌝ }
+{
+    match found {
+        Found::At(i) => i as u64,
+        Found::Nothing => NOTHING,
+        Found::Refused(n) => refused(n),
+    }
+}
+
+pub(crate) fn told_number(told: Told) -> u64
+    ensures { λ r. ⌜ r ≡ toldNumber told ⌝ }
+{
+    match told {
+        Told::Yes => 1,
+        Told::No => 0,
+        Told::Refused(n) => refused(n),
+    }
+}
+
+pub(crate) fn plain_number(number: Number) -> u64
+    ensures { λ r. ⌜ r ≡ plainNumber number ⌝ }
+{
+    match number {
+        Number::Is(k) => k as u64,
+        Number::Refused(n) => refused(n),
+    }
+}
+
+pub(crate) fn put_minutes(minutes: Minutes, out: &mut u64) -> u8
+    ensures { λ r. ⌜ r ≡ minutesNo minutes ⌝ }
+    ensures { λ _. ⌜ now (out .exit) ≡ minutesAre (now (out .entry)) minutes ⌝ }
+{
+    match minutes {
+        Minutes::Are(m) => {
+            *out = m;
+            0
+        }
+        Minutes::Refused(n) => n,
+    }
+}
