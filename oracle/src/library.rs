@@ -56,7 +56,7 @@ macro_rules! exports {
 exports! {
     told contains(slice, number, number, number, number);
     told is_empty(slice, number, number, number);
-    counted count(slice, number, number, number);
+    number count(slice, number, number, number);
     found next_set(slice, number, number, number, number);
     found prev_set(slice, number, number, number, number);
     found next_unset_after(slice, number, number, number, number);
@@ -67,24 +67,24 @@ exports! {
     done insert(slice, number, number, number, number);
     done remove(slice, number, number, number, number);
     done put_stretch(slice, number, number, number, number, number, number);
-    counted merged_ranges(number, number, slice, slice, slice, slice, slice, slice);
-    counted atomise(number, slice, slice, number, number, slice, slice, slice, slice, slice);
+    number merged_ranges(number, number, slice, slice, slice, slice, slice, slice);
+    number atomise(number, slice, slice, number, number, slice, slice, slice, slice, slice);
     done availability(number, number, slice, slice, number, slice, slice, slice, slice);
-    counted freeze_before(number, slice, slice, slice, number);
+    number freeze_before(number, slice, slice, slice, number);
     told is_available(number, number, slice, number, number);
-    counted rotation_starts(number, number, number, number, number, number, slice, slice, slice);
-    counted unit_starts(number, number, number, number, number, number, slice, slice, slice);
+    number rotation_starts(number, number, number, number, number, number, slice, slice, slice);
+    number unit_starts(number, number, number, number, number, number, slice, slice, slice);
     done unit_slots(number, number, slice, number, out, out);
-    counted unit_of_slot(number, number, slice, number);
-    counted covered_days(number, slice, slice);
+    number unit_of_slot(number, number, slice, number);
+    number covered_days(number, slice, slice);
     done demand(number, slice, slice, out);
     done slot_minutes(number, slice, slice, number, out);
     done minutes_per_day(number, slice, slice, out);
     done target_run(number, number, number, number, number, number, slice, slice, out);
     done achievable_run(number, number, number, number, number, slice, number, number, number, slice, slice, out);
-    counted unit_domain(slice, number, number, number, slice, number, slice);
+    number unit_domain(slice, number, number, number, slice, number, slice);
     done unit_domains(slice, number, number, number, slice, slice);
-    counted slot_domain(slice, number, number, number, slice);
+    number slot_domain(slice, number, number, number, slice);
     told unit_frozen(slice, number, number, slice, number);
     plain date_of(number);
     plain weekday_of(number);
@@ -96,9 +96,9 @@ exports! {
     done empty(number, number, slice, slice, slice);
     done recount(number, number, number, slice, slice, slice, slice, slice, slice, slice);
     done recount_slots(number, number, slice, slice, slice, slice, slice, slice);
-    counted owner_of_slot(number, number, slice, number);
+    number owner_of_slot(number, number, slice, number);
     done minutes_of(number, slice, number, out);
-    counted unassigned_count(number, number, slice);
+    number unassigned_count(number, number, slice);
     done uncovered_minutes(number, number, slice, slice, slice, out);
     done run_job(slice, slice, out);
 }
@@ -113,16 +113,16 @@ fn done(answer: Result<(), Refusal>) -> u64 {
     answer.map_or_else(number_of, |()| 0)
 }
 
-fn counted(answer: Result<usize, Refusal>) -> u64 {
+fn number(answer: Result<usize, Refusal>) -> u64 {
     answer.map_or_else(|refusal| NOTHING + number_of(refusal), |count| count as u64)
 }
 
 fn found(answer: Result<Option<usize>, Refusal>) -> u64 {
-    counted(answer.map(|slot| slot.unwrap_or(NOTHING as usize)))
+    number(answer.map(|slot| slot.unwrap_or(NOTHING as usize)))
 }
 
 fn told(answer: Result<bool, Refusal>) -> u64 {
-    counted(answer.map(usize::from))
+    number(answer.map(usize::from))
 }
 
 fn wrote(answer: Result<bool, Refusal>) -> u64 {

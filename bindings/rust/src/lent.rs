@@ -55,10 +55,10 @@ fn done(number: u8) -> Result<(), Refusal> {
     }
 }
 
-/// A count, or a refusal.
+/// A count or an index, or a refusal.
 #[inline]
-fn counted(number: u64) -> Result<usize, Refusal> {
-    match number {
+fn number(answer: u64) -> Result<usize, Refusal> {
+    match answer {
         k if k < NOTHING => Ok(k as usize),
         n => Err(refused(n - NOTHING)),
     }
@@ -69,7 +69,7 @@ fn counted(number: u64) -> Result<usize, Refusal> {
 fn found(number: u64) -> Result<Option<usize>, Refusal> {
     match number {
         NOTHING => Ok(None),
-        n => counted(n).map(Some),
+        n => number(n).map(Some),
     }
 }
 
@@ -119,7 +119,7 @@ exports! {
 
     /// How many members the row has. Refusals: 1, 2, 11.
     #[inline]
-    pub fn count(words: &[u64], people: usize, person: usize, len: usize) -> Result<usize, Refusal> = counted(u64);
+    pub fn count(words: &[u64], people: usize, person: usize, len: usize) -> Result<usize, Refusal> = number(u64);
 
     /// The first member at or after `from`. Refusals: 1, 2, 11.
     #[inline]
@@ -177,13 +177,13 @@ exports! {
     /// Each person's ranges, sorted and merged, in three columns, and how many. Refusals: 1, 2, 4.
     pub fn merged_ranges(
         people: usize, count: usize, persons: &[u16], starts: &[u32], ends: &[u32], whose: &mut [u16], froms: &mut [u32], tos: &mut [u32]
-    ) -> Result<usize, Refusal> = counted(u64);
+    ) -> Result<usize, Refusal> = number(u64);
 
     /// The atomic slots, in two columns, and how many. Refusals: 1 to 5.
     pub fn atomise(
         slots: usize, starts: &[u32], ends: &[u32], people: usize, count: usize, persons: &[u16], opens: &[u32], shuts: &[u32],
         froms: &mut [u32], tos: &mut [u32]
-    ) -> Result<usize, Refusal> = counted(u64);
+    ) -> Result<usize, Refusal> = number(u64);
 
     /// Who is available for which of the lent slots, as a set a person. Refusals: 1, 2, 4, 9.
     pub fn availability(
@@ -196,7 +196,7 @@ exports! {
     /// Marks each slot that ends by the instant, clears no mark, and answers how many end by then. Refusals: 1, 2, 9.
     pub fn freeze_before(
         slots: usize, starts: &[u32], ends: &[u32], frozen: &mut [u64], instant: u32
-    ) -> Result<usize, Refusal> = counted(u64);
+    ) -> Result<usize, Refusal> = number(u64);
 
     /// Whether a person is available for a slot. Refusals: 1, 2, 11.
     pub fn is_available(people: usize, slots: usize, availability: &[u64], person: usize, slot: usize) -> Result<bool, Refusal> = told(u64);
@@ -206,12 +206,12 @@ exports! {
     /// The starts of the rotations, and how many. Refusals: 1, 2, 7, 9.
     pub fn rotation_starts(
         fairness: u8, lock: u8, boundary: u8, value: u16, days: u16, slots: usize, starts: &[u32], ends: &[u32], firsts: &mut [u16]
-    ) -> Result<usize, Refusal> = counted(u64);
+    ) -> Result<usize, Refusal> = number(u64);
 
     /// The starts of the units, and how many. Refusals: 1, 2, 7, 9.
     pub fn unit_starts(
         fairness: u8, lock: u8, boundary: u8, value: u16, days: u16, slots: usize, starts: &[u32], ends: &[u32], firsts: &mut [u16]
-    ) -> Result<usize, Refusal> = counted(u64);
+    ) -> Result<usize, Refusal> = number(u64);
 
     /// The slots of a unit, or of a rotation: `from` up to `to`, without `to`. Refusals: 1, 2, 9, 11.
     pub fn unit_slots(
@@ -219,12 +219,12 @@ exports! {
     ) -> Result<(), Refusal> = done(u8);
 
     /// The unit, or the rotation, of a slot. Refusals: 1, 2, 9, 11.
-    pub fn unit_of_slot(slots: usize, units: usize, firsts: &[u16], slot: usize) -> Result<usize, Refusal> = counted(u64);
+    pub fn unit_of_slot(slots: usize, units: usize, firsts: &[u16], slot: usize) -> Result<usize, Refusal> = number(u64);
 
     // ---- days, and how long runs are to be
 
     /// The distinct start dates of the slots. Refusals: 1, 2, 9.
-    pub fn covered_days(slots: usize, starts: &[u32], ends: &[u32]) -> Result<usize, Refusal> = counted(u64);
+    pub fn covered_days(slots: usize, starts: &[u32], ends: &[u32]) -> Result<usize, Refusal> = number(u64);
 
     /// The minutes of all slots. Refusals: 1, 2, 9.
     pub fn demand(slots: usize, starts: &[u32], ends: &[u32], out: &mut u64) -> Result<(), Refusal> = done(u8);
@@ -251,7 +251,7 @@ exports! {
     /// The people available for all slots of a unit, ascending, and how many. Refusals: 1, 2, 9, 11.
     pub fn unit_domain(
         avail: &[u64], people: usize, slots: usize, units: usize, firsts: &[u16], unit: usize, list: &mut [u8]
-    ) -> Result<usize, Refusal> = counted(u64);
+    ) -> Result<usize, Refusal> = number(u64);
 
     /// The people available for all slots of each unit, as a mask a unit: bit p is person p. Refusals: 1, 2, 9.
     pub fn unit_domains(
@@ -259,7 +259,7 @@ exports! {
     ) -> Result<(), Refusal> = done(u8);
 
     /// The people available for a slot, ascending, and how many. Refusals: 1, 2, 11.
-    pub fn slot_domain(avail: &[u64], people: usize, slots: usize, slot: usize, list: &mut [u8]) -> Result<usize, Refusal> = counted(u64);
+    pub fn slot_domain(avail: &[u64], people: usize, slots: usize, slot: usize, list: &mut [u8]) -> Result<usize, Refusal> = number(u64);
 
     /// Whether any slot of a unit is frozen. Refusals: 1, 2, 9, 11.
     pub fn unit_frozen(frozen: &[u64], slots: usize, units: usize, firsts: &[u16], unit: usize) -> Result<bool, Refusal> = told(u64);
@@ -321,13 +321,13 @@ exports! {
     ) -> Result<(), Refusal> = done(u8);
 
     /// The owner of a slot: a person's number, or 255 for nobody. Refusals: 1, 2, 11.
-    pub fn owner_of_slot(people: usize, slots: usize, owners: &[u8], slot: usize) -> Result<usize, Refusal> = counted(u64);
+    pub fn owner_of_slot(people: usize, slots: usize, owners: &[u8], slot: usize) -> Result<usize, Refusal> = number(u64);
 
     /// A person's minutes. Refusals: 1, 2, 11.
     pub fn minutes_of(people: usize, minutes: &[u64], person: usize, out: &mut u64) -> Result<(), Refusal> = done(u8);
 
     /// The slots that nobody owns. Refusals: 1, 2, 11.
-    pub fn unassigned_count(people: usize, slots: usize, owners: &[u8]) -> Result<usize, Refusal> = counted(u64);
+    pub fn unassigned_count(people: usize, slots: usize, owners: &[u8]) -> Result<usize, Refusal> = number(u64);
 
     /// The minutes of the slots that nobody owns. Refusals: 1, 2, 9, 11.
     pub fn uncovered_minutes(

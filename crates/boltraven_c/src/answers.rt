@@ -10,6 +10,7 @@ ghost use mathlib.Core.Path.{_≡_};
 ghost use Rattle.slots.specs.Lent.{minutesNo};
 ghost use Rattle.boltraven_c.specs.Numbers.{foundNumber, toldNumber, plainNumber, minutesAre};
 
+// A slot, or nothing.
 pub(crate) fn found_number(found: Found) -> u64
     ensures { λ r. ⌜ r ≡ foundNumber found ⌝ }
 {
@@ -20,6 +21,7 @@ pub(crate) fn found_number(found: Found) -> u64
     }
 }
 
+// Yes is 1, no is 0.
 pub(crate) fn told_number(told: Told) -> u64
     ensures { λ r. ⌜ r ≡ toldNumber told ⌝ }
 {
@@ -30,6 +32,7 @@ pub(crate) fn told_number(told: Told) -> u64
     }
 }
 
+// A count or an index: itself.
 pub(crate) fn plain_number(number: Number) -> u64
     ensures { λ r. ⌜ r ≡ plainNumber number ⌝ }
 {
@@ -39,6 +42,7 @@ pub(crate) fn plain_number(number: Number) -> u64
     }
 }
 
+// Minutes, written where they were asked for; refused, what was lent for them stays.
 pub(crate) fn put_minutes(minutes: Minutes, out: &mut u64) -> u8
     ensures { λ r. ⌜ r ≡ minutesNo minutes ⌝ }
     ensures { λ _. ⌜ now (out .exit) ≡ minutesAre (now (out .entry)) minutes ⌝ }

@@ -4,6 +4,7 @@
 mod answers;
 mod calendar;
 mod demand;
+mod domains;
 mod drawn;
 mod freezing;
 mod jobs;
@@ -14,7 +15,6 @@ mod rotations;
 mod sets;
 mod shares;
 mod splitting;
-mod teams;
 
 ghost use mathlib.Core.Path.{_≡_};
 ghost use Prim.Native.Nat.{_+_};

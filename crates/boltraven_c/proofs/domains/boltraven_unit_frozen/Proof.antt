@@ -1,9 +1,9 @@
--- `boltraven_c::teams::boltraven_unit_frozen` meets its contract. Assumes nothing.
+-- `boltraven_c::domains::boltraven_unit_frozen` meets its contract. Assumes nothing.
 use borrow.Author.Needs.{needs}
 use mathlib.Core.Path.{ap, _∙_}
 use Rattle.boltraven_c.specs.Numbers.{toldNumber}
-use Rattle.boltraven_c.proofs.teams.boltraven_unit_frozen.Statement.{statement}
-use Rattle.boltraven_c.proofs.teams.boltraven_unit_frozen.Tie as tie
+use Rattle.boltraven_c.proofs.domains.boltraven_unit_frozen.Statement.{statement}
+use Rattle.boltraven_c.proofs.domains.boltraven_unit_frozen.Tie as tie
 
 unit-frozen-requires : tie.Need-unit-frozen-requires
 unit-frozen-requires c κs = search needs

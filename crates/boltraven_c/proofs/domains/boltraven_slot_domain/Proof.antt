@@ -1,9 +1,9 @@
--- `boltraven_c::teams::boltraven_slot_domain` meets its contract. Assumes nothing.
+-- `boltraven_c::domains::boltraven_slot_domain` meets its contract. Assumes nothing.
 use borrow.Author.Needs.{needs}
 use mathlib.Core.Path.{ap, _∙_}
 use Rattle.boltraven_c.specs.Numbers.{plainNumber}
-use Rattle.boltraven_c.proofs.teams.boltraven_slot_domain.Statement.{statement}
-use Rattle.boltraven_c.proofs.teams.boltraven_slot_domain.Tie as tie
+use Rattle.boltraven_c.proofs.domains.boltraven_slot_domain.Statement.{statement}
+use Rattle.boltraven_c.proofs.domains.boltraven_slot_domain.Tie as tie
 
 slot-domain-requires : tie.Need-slot-domain-requires
 slot-domain-requires c κs = search needs
