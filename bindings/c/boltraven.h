@@ -125,7 +125,7 @@ uint8_t boltraven_availability(size_t people, size_t slots, const uint32_t *star
                                uint64_t *words, size_t words_len);
 
 /* Whether a person is available for a slot: 1 or 0. */
-uint64_t boltraven_is_available(size_t people, size_t slots, const uint64_t *availability, size_t availability_len, size_t person,
+uint64_t boltraven_is_available(size_t people, size_t slots, const uint64_t *avail, size_t avail_len, size_t person,
                                 size_t slot);
 
 /* The people available for a slot, ascending, and how many. */

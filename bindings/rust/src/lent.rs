@@ -199,7 +199,7 @@ exports! {
     ) -> Result<usize, Refusal> = number(u64);
 
     /// Whether a person is available for a slot. Refusals: 1, 2, 11.
-    pub fn is_available(people: usize, slots: usize, availability: &[u64], person: usize, slot: usize) -> Result<bool, Refusal> = told(u64);
+    pub fn is_available(people: usize, slots: usize, avail: &[u64], person: usize, slot: usize) -> Result<bool, Refusal> = told(u64);
 
     // ---- where rotations and units begin; settings come as their five numbers
 

@@ -27,11 +27,11 @@ pub extern "C" fn boltraven_freeze_before(
 pub extern "C" fn boltraven_is_available(
     people: usize,
     slots: usize,
-    availability: &[u64],
+    avail: &[u64],
     person: usize,
     slot: usize,
 ) -> u64
-    ensures { λ r. ⌜ r ≡ toldNumber (isAvailable people slots (now (availability .entry)) person slot) ⌝ }
+    ensures { λ r. ⌜ r ≡ toldNumber (isAvailable people slots (now (avail .entry)) person slot) ⌝ }
 {
-    told_number(slots::is_available(people, slots, availability, person, slot))
+    told_number(slots::is_available(people, slots, avail, person, slot))
 }

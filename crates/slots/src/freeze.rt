@@ -63,27 +63,21 @@ pub fn freeze_before(
 }
 
 // What is wrong with the question: 1, 2 or 11; 0 for nothing.
-fn available_no(people: usize, slots: usize, availability: &[u64], person: usize, slot: usize) -> u8
-    ensures { λ r. ⌜ r ≡ availableNo people slots (now (availability .entry)) person slot ⌝ }
+fn available_no(people: usize, slots: usize, avail: &[u64], person: usize, slot: usize) -> u8
+    ensures { λ r. ⌜ r ≡ availableNo people slots (now (avail .entry)) person slot ⌝ }
 {
     let known = or_else(both(person < people, slot < slots), 11, 0);
-    let room = or_else(words_ok(availability, people), 2, known);
+    let room = or_else(words_ok(avail, people), 2, known);
     or_else(counts_ok(people, slots), 1, room)
 }
 
 // May this person cover this slot? Refusals 1, 2, 11.
-pub fn is_available(
-    people: usize,
-    slots: usize,
-    availability: &[u64],
-    person: usize,
-    slot: usize,
-) -> Told
-    ensures { λ r. ⌜ r ≡ isAvailable people slots (now (availability .entry)) person slot ⌝ }
+pub fn is_available(people: usize, slots: usize, avail: &[u64], person: usize, slot: usize) -> Told
+    ensures { λ r. ⌜ r ≡ isAvailable people slots (now (avail .entry)) person slot ⌝ }
 {
-    let number = available_no(people, slots, availability, person, slot);
+    let number = available_no(people, slots, avail, person, slot);
     if number == 0 {
-        return row::contains(availability, people, person, slots, slot);
+        return row::contains(avail, people, person, slots, slot);
     }
     Told::Refused(number)
 }
