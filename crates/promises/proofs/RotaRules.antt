@@ -10,17 +10,24 @@ use lib.Dec.{eqb, leb}
 use lib.ListN.{length, getD, set, length-set}
 use lib.Seq.{getD-set-same, getD-set-other}
 use Rattle.paper.specs.Limits.{nobody, orElse, peopleOk, slotCountOk, countsOk}
-use Rattle.paper.specs.Count.{all, sum, over, fill}
+use Rattle.paper.specs.Count.{all, sum, count, over, fill}
 use Rattle.paper.proofs.Logic.{by-test, both, three, five, and-true, cond-zero, zero-of, people-says, slot-count-says}
 use Rattle.paper.proofs.Count.{all-each, getD-over, getD-over-out, getD-fill-in, getD-fill-out}
+use Rattle.slotset.specs.declared.Changed.{Changed}
+use Rattle.slotset.specs.declared.Number.the-variants as number
 use Rattle.slotset.specs.Slots.{slot}
+use Rattle.slotset.specs.Answers.{rowNo, rowSlots, slotsOf, numberAs, numberNo, loadOf}
+use Rattle.slotset.proofs.Refusals.{number-said}
 use Rattle.slotset.proofs.Puts.{slot-lt}
-use Rattle.slots.specs.Lent.{slotRoomOk, slotsOk, minutesAt}
+use Rattle.slots.specs.declared.Minutes.the-variants as minutes
+use Rattle.slots.specs.Lent.{slotRoomOk, slotsOk, minutesAt, minutesAs, minutesNo}
+use Rattle.slots.proofs.LentLaws.{minutes-said}
 use Rattle.units.specs.Units.{unitStart, unitsOk, InUnit}
 use Rattle.units.proofs.Units.{unit-within}
-use Rattle.rota.specs.Derived.{Plan, Derived, derived, portion, worked, uncovered, held, setsFrom, nobodies, afresh}
+use Rattle.rota.specs.Derived.{Plan, Derived, derived, portion, worked, unassigned, uncovered, held, setsFrom, nobodies, afresh}
 use Rattle.rota.specs.Recount.{knownAt, availableAt, recounts}
 use Rattle.rota.specs.Entries.{roomOk, ground, Outcome, outcome, fromSlotsNo, fromSlots, assigned, playNo, emptyNo, emptied}
+use Rattle.rota.specs.Entries.{ownerIs, minutesIs, unassignedIs, uncoveredIs, slotsOfIs}
 use Rattle.rota.proofs.Sets.{held-own, held-not, sets-in, sets-out}
 use Rattle.rota.proofs.Steps.{afresh-step, afresh-lengths}
 use Rattle.rota.proofs.Made.{nobody-at, none-worked}
@@ -30,6 +37,7 @@ use Rattle.rota.proofs.Promises.{assign-recounts}
 use Rattle.promises.specs.Entries.{Call, noOf, onRota}
 use Rattle.promises.specs.RotaRules.{PassesRecount, PastKept, Made, RotaByRule}
 use Rattle.promises.proofs.Tests.{known-test, available-test}
+use Rattle.promises.proofs.SetRules.{load-row}
 use Rattle.promises.proofs.Calls.{accepted-says, play-room}
 
 -- ---- minutes
@@ -287,6 +295,60 @@ module _ (P : Plan) (o : List ℕ) (D : Derived) (e : emptied (P .people) (P .sl
     },
   )
 
+-- ---- the readers
+
+number-told : (n k : ℕ) → numberNo (numberAs n k) ≡ 0 → numberAs n k ≡ number.Is k
+unfolding numberAs
+number-told n k e = ap (λ (m : ℕ). numberAs m k) (sym (number-said n k) ∙ e)
+
+minutes-given : (n m : ℕ) → minutesNo (minutesAs n m) ≡ 0 → minutesAs n m ≡ minutes.Are m
+unfolding minutesAs
+minutes-given n m e = ap (λ (x : ℕ). minutesAs x m) (sym (minutes-said n m) ∙ e)
+
+owner-is : (people slots : ℕ) (o : List ℕ) (k : ℕ) → numberNo (ownerIs people slots o k) ≡ 0
+    → ownerIs people slots o k ≡ number.Is (getD o k 0)
+unfolding ownerIs
+owner-is people slots o k e = number-told _ (getD o k 0) e
+
+minutes-of-is : (people : ℕ) (m : List ℕ) (p : ℕ) → minutesNo (minutesIs people m p) ≡ 0 → minutesIs people m p ≡ minutes.Are (getD m p 0)
+unfolding minutesIs
+minutes-of-is people m p e = minutes-given _ (getD m p 0) e
+
+unassigned-is : (people slots : ℕ) (o : List ℕ) → numberNo (unassignedIs people slots o) ≡ 0
+    → unassignedIs people slots o ≡ number.Is (count slots (λ k. eqb (getD o k 0) nobody))
+unfolding unassignedIs unassigned
+unassigned-is people slots o e = number-told _ (unassigned slots o) e
+
+uncovered-is : (P : Plan) (o : List ℕ) → minutesNo (uncoveredIs P o) ≡ 0 → uncoveredIs P o ≡ minutes.Are (uncovered P o)
+unfolding uncoveredIs
+uncovered-is P o e = minutes-given _ (uncovered P o) e
+
+module _ (people slots : ℕ) (ws : List ℕ) (p : ℕ) where
+  loaded : slotCountOk slots ≡ true → slotsOfIs people slots ws p ≡ loadOf ws people p slots
+  unfolding slotsOfIs
+  loaded t = simp t
+
+  not-loaded : slotCountOk slots ≡ false → slotsOfIs people slots ws p .number ≡ 1
+  unfolding slotsOfIs
+  not-loaded f = simp f
+
+  load-number : loadOf ws people p slots .number ≡ rowNo ws people p slots
+  unfolding loadOf
+  load-number = refl
+
+  slots-of-is : slotsOfIs people slots ws p .number ≡ 0
+      → (slotsOfIs people slots ws p .set .len ≡ slots)
+      × ((k : ℕ) → k < slots → slotsOf (slotsOfIs people slots ws p .set) k ≡ rowSlots ws p k)
+  slots-of-is e =
+      by-test (slotCountOk slots) _
+      (λ t.
+      let q = loaded t in
+      let r = load-row ws people p slots (sym load-number ∙ ap (λ (y : Changed). y .number) (sym q) ∙ e) in (
+        ap (λ (y : Changed). y .set .len) q ∙ r .0,
+        λ k h. ap (λ (y : Changed). slotsOf (y .set) k) q ∙ r .1 k (omega (arith, slot-count-says slots t .1)),
+      ))
+      (λ f. absurd (omega (arith, e, not-loaded f)))
+
 pub rota-by-rule : RotaByRule
 rota-by-rule = record {
   minutes = minutes-are;
@@ -296,4 +358,9 @@ rota-by-rule = record {
   assign = assign-made;
   uneven = λ c k w e z u j i differ. uneven-refused c k w e z u j i differ;
   empty = empty-left;
+  owner-told = owner-is;
+  minutes-told = minutes-of-is;
+  unassigned-told = unassigned-is;
+  uncovered-told = uncovered-is;
+  slots-told = slots-of-is;
 }

@@ -292,7 +292,7 @@ load-is ws people person len e =
     ap {B = SlotSet}
     (λ (n : ℕ). record { words = cond (eqb n 0) (take 16 (drop (16 * person) ws)) (replicate 16 0); len = cond (eqb n 0) len 0 }) e
 
-load-row : (ws : List ℕ) (people person len : ℕ) → rowNo ws people person len ≡ 0
+pub load-row : (ws : List ℕ) (people person len : ℕ) → rowNo ws people person len ≡ 0
     → (loadOf ws people person len .set .len ≡ len)
     × ((k : ℕ) → k < 1024 → slotsOf (loadOf ws people person len .set) k ≡ rowSlots ws person k)
 load-row ws people person len e =

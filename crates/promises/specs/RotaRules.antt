@@ -7,13 +7,16 @@ use Prim.Native.Nat.{ℕ, _+_, _-_, _*_, _≤_, _<_}
 use lib.Dec.{eqb}
 use lib.ListN.{getD}
 use Rattle.paper.specs.Limits.{nobody}
-use Rattle.paper.specs.Count.{sum}
+use Rattle.paper.specs.Count.{sum, count}
 use Rattle.slotset.specs.Slots.{slot}
-use Rattle.slotset.specs.Answers.{rowSlots}
+use Rattle.slotset.specs.declared.Number.the-variants as number
+use Rattle.slotset.specs.Answers.{rowSlots, slotsOf, numberNo}
+use Rattle.slots.specs.declared.Minutes.the-variants as minutes
+use Rattle.slots.specs.Lent.{minutesNo}
 use Rattle.units.specs.Units.{unitStart, unitsOk, InUnit}
 use Rattle.rota.specs.Derived.{Plan, Derived, worked, uncovered}
 use Rattle.rota.specs.Recount.{recounts}
-use Rattle.rota.specs.Entries.{Outcome, fromSlots, assigned, emptied}
+use Rattle.rota.specs.Entries.{Outcome, fromSlots, assigned, emptied, ownerIs, minutesIs, unassignedIs, uncoveredIs, slotsOfIs}
 use Rattle.promises.specs.Entries.{Call, noOf, onRota}
 
 -- "The recount ..: owners known and available, units uniform, sets and minutes equal to those worked out from owners."
@@ -63,3 +66,15 @@ pub record RotaByRule : Type 0 where
       × ((avail : List ℕ) (units : ℕ) (firsts : List ℕ) → unitsOk (P .slots) units firsts ≡ true
       → PassesRecount P avail units firsts (y .owners) (y .derived))
       × PastKept (P .people) (P .slots) o D y
+  -- what is told: a slot's owner, a person's minutes, how many slots nobody owns, and their minutes
+  pub owner-told : (people slots : ℕ) (o : List ℕ) (k : ℕ) → numberNo (ownerIs people slots o k) ≡ 0
+      → ownerIs people slots o k ≡ number.Is (getD o k 0)
+  pub minutes-told : (people : ℕ) (m : List ℕ) (p : ℕ) → minutesNo (minutesIs people m p) ≡ 0
+      → minutesIs people m p ≡ minutes.Are (getD m p 0)
+  pub unassigned-told : (people slots : ℕ) (o : List ℕ) → numberNo (unassignedIs people slots o) ≡ 0
+      → unassignedIs people slots o ≡ number.Is (count slots (λ k. eqb (getD o k 0) nobody))
+  pub uncovered-told : (P : Plan) (o : List ℕ) → minutesNo (uncoveredIs P o) ≡ 0 → uncoveredIs P o ≡ minutes.Are (uncovered P o)
+  -- a person's slots, as a set by value: as many as there are slots, and each as in the person's row
+  pub slots-told : (people slots : ℕ) (ws : List ℕ) (p : ℕ)
+      → let y = slotsOfIs people slots ws p in y .number ≡ 0
+      → (y .set .len ≡ slots) × ((k : ℕ) → k < slots → slotsOf (y .set) k ≡ rowSlots ws p k)
