@@ -40,8 +40,7 @@ use Rattle.slots.specs.Lent.{minutesNo}
 use Rattle.rota.proofs.Entered.{recount-says}
 use Rattle.promises.specs.Entries.{Call, Component, built, noOf, afreshIn, ownersIn}
 use Rattle.promises.specs.Marked.{MarkedCases, inWords, Owned, apart, Spare, twoUnits}
-use Rattle.slotset.specs.Answers.{toldNo, numberNo}
-use Rattle.promises.specs.SetRefusals.{foundNo, runNo}
+use Rattle.slotset.specs.Answers.{foundNo, toldNo, numberNo, runNo}
 use Rattle.promises.specs.Rota.{EndsAfresh, FrozenKeep, OwnersAvailable, CoveredStays, AddsUp, SizesRecount, after, firstCall}
 use Rattle.promises.specs.Empty.{RefusesByTable, AlwaysRefuses, refuses-next, refuses-prev, refuses-run, refuses-size}
 use Rattle.promises.specs.Empty.{refuses-atomise, refuses-available, refuses-targets, refuses-rotations, refuses-play}
