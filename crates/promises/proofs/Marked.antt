@@ -31,10 +31,9 @@ use Rattle.slots.specs.Atomic.{startsOfAtoms, endsOfAtoms, baseCountsOk, baseRo
 use Rattle.slots.specs.Availability.{availabilityRoomOk, availabilityNo, availabilityOf}
 use Rattle.slots.specs.Freeze.{isAvailable}
 use Rattle.slots.proofs.Meaning.{written-at, written-past, written-length}
-use Rattle.slotset.specs.declared.Number.the-variants as number
 use Rattle.units.specs.Settings.{boundaryOk, settingsOk}
 use Rattle.units.specs.Dates.{dateOf, weekdayOf, listed}
-use Rattle.units.specs.Answers.{numberAs, writtenAs}
+use Rattle.units.specs.Answers.{writtenAs}
 use Rattle.units.specs.Starts.{dayBegins, rotationBegins, rotationStarts, startsNo, rotationStartsIs}
 use Rattle.promises.specs.Refusals.{atomiseTable, availabilityTable, startsTable}
 use Rattle.promises.proofs.Table.{all-pass}

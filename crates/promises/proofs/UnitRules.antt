@@ -14,19 +14,19 @@ use Rattle.paper.proofs.Logic.{both, and-true, cond-zero}
 use Rattle.paper.proofs.Count.{some-one, some-here, in-each, each-in, among-each, among-at, among-rises}
 use Rattle.slotset.specs.declared.Told.the-variants.{Yes, No}
 use Rattle.slotset.specs.Slots.{slot}
-use Rattle.slotset.specs.Answers.{toldAs}
-use Rattle.slots.specs.Lent.{minutesAt, demandOf, lentNo}
+use Rattle.slotset.specs.Answers.{toldAs, numberAs}
+use Rattle.slots.specs.Lent.{minutesAt, demandOf, lentNo, minutesAs}
 use Rattle.slots.proofs.LentLaws.{lent-says}
 use Rattle.units.specs.declared.Settings.{Settings}
 use Rattle.slotset.specs.declared.Number.the-variants as number
 use Rattle.units.specs.declared.UnitSlots.the-variants as unitSlots
 use Rattle.slots.specs.declared.Minutes.the-variants as minutes
-use Rattle.units.specs.Answers.{numberAs, spanAs, writtenAs, unitsNo, unitNo, unitSlotNo, unitSlotsIs, unitOfSlotIs}
+use Rattle.units.specs.Answers.{spanAs, writtenAs, unitsNo, unitNo, unitSlotNo, unitSlotsIs, unitOfSlotIs}
 use Rattle.units.specs.Dates.{dateOf, weekdayOf, listed}
 use Rattle.units.specs.Units.{unitStart, unitEnd, unitsOk, unitOf, InUnit}
 use Rattle.units.specs.Starts.{startDate, everyBegins, dayBegins, rotationBegins, unitBegins, rotationStarts, unitStarts, startsNo}
 use Rattle.units.specs.Starts.{rotationStartsIs, unitStartsIs}
-use Rattle.units.specs.Days.{covers, datesMost, coveredDays, minutesPerDay, targetRun, targetRunNo, minutesAs}
+use Rattle.units.specs.Days.{covers, datesMost, coveredDays, minutesPerDay, targetRun, targetRunNo}
 use Rattle.units.specs.Days.{coveredDaysIs, minutesPerDayIs, targetRunIs}
 use Rattle.units.specs.Domains.{available, able, domain, slotDomain, unitDomain, inMask, clear, unitFrozen, unitFrozenNo, unitFrozenIs}
 use Rattle.units.specs.Domains.{slotDomainNo, slotDomainIs, unitDomainNo, unitDomainIs, unitDomainsNo, unitDomainsIs, unfrozen}

@@ -15,7 +15,6 @@ use Rattle.slotset.specs.declared.Number.the-variants as number
 use Rattle.slots.specs.Ranges.{ranges}
 use Rattle.slots.specs.Atomic.{Base, base, Atoms}
 use Rattle.units.specs.declared.Settings.{Settings}
-use Rattle.slotset.specs.declared.Number.the-variants as number
 use Rattle.targets.specs.Outcome.{given}
 use Rattle.rota.specs.Derived.{plan, derived}
 use Rattle.promises.specs.Entries.{Call, Component}

@@ -7,7 +7,6 @@ use lib.IntN.{ℤ}
 use Rattle.slotset.specs.declared.Number.{Number}
 use Rattle.slots.specs.Merged.{MergedOut, MergedEnd}
 use Rattle.slots.specs.Atomic.{Atoms, AtomsEnd}
-use Rattle.slotset.specs.declared.Number.{Number}
 use Rattle.units.specs.Answers.{Written, Are}
 use Rattle.targets.specs.Outcome as targets
 use Rattle.rota.specs.Derived.{Derived}
