@@ -297,9 +297,9 @@ module _ (P : Plan) (o : List ℕ) (D : Derived) (e : emptied (P .people) (P .sl
 
 -- ---- the readers
 
-number-told : (n k : ℕ) → numberNo (numberAs n k) ≡ 0 → numberAs n k ≡ number.Is k
+number-given : (n k : ℕ) → numberNo (numberAs n k) ≡ 0 → numberAs n k ≡ number.Is k
 unfolding numberAs
-number-told n k e = ap (λ (m : ℕ). numberAs m k) (sym (number-said n k) ∙ e)
+number-given n k e = ap (λ (m : ℕ). numberAs m k) (sym (number-said n k) ∙ e)
 
 minutes-given : (n m : ℕ) → minutesNo (minutesAs n m) ≡ 0 → minutesAs n m ≡ minutes.Are m
 unfolding minutesAs
@@ -308,7 +308,7 @@ minutes-given n m e = ap (λ (x : ℕ). minutesAs x m) (sym (minutes-said n m) �
 owner-is : (people slots : ℕ) (o : List ℕ) (k : ℕ) → numberNo (ownerIs people slots o k) ≡ 0
     → ownerIs people slots o k ≡ number.Is (getD o k 0)
 unfolding ownerIs
-owner-is people slots o k e = number-told _ (getD o k 0) e
+owner-is people slots o k e = number-given _ (getD o k 0) e
 
 minutes-of-is : (people : ℕ) (m : List ℕ) (p : ℕ) → minutesNo (minutesIs people m p) ≡ 0 → minutesIs people m p ≡ minutes.Are (getD m p 0)
 unfolding minutesIs
@@ -317,7 +317,7 @@ minutes-of-is people m p e = minutes-given _ (getD m p 0) e
 unassigned-is : (people slots : ℕ) (o : List ℕ) → numberNo (unassignedIs people slots o) ≡ 0
     → unassignedIs people slots o ≡ number.Is (count slots (λ k. eqb (getD o k 0) nobody))
 unfolding unassignedIs unassigned
-unassigned-is people slots o e = number-told _ (unassigned slots o) e
+unassigned-is people slots o e = number-given _ (unassigned slots o) e
 
 uncovered-is : (P : Plan) (o : List ℕ) → minutesNo (uncoveredIs P o) ≡ 0 → uncoveredIs P o ≡ minutes.Are (uncovered P o)
 unfolding uncoveredIs
