@@ -4,7 +4,6 @@ use mathlib.Core.Path.{_≡_, refl, sym, ap, _∙_}
 use mathlib.Core.Bool.{Bool, cond}
 use mathlib.Core.List.{List}
 use Prim.Native.Nat.{ℕ}
-use lib.Dec.{eqb}
 use borrow.Author.Tests.{eq-eqb, ne-eqb}
 use Rattle.slotset.specs.declared.Changed.{Changed}
 use Rattle.slotset.specs.Answers.{rowNo, loadOf, putOf, storeOf, wordsAs, changedAs}
