@@ -142,12 +142,14 @@ module _ (slots units : ℕ) (firsts : List ℕ) where
   unfolding unitCountIs unitsNo heardOf
   unit-count-heard = heard-as (unitsTable slots units firsts []) _ refl (number-said (unitsNo slots units firsts 0) _)
 
-  unit-slots-heard : (u : ℕ) → Hears (unitsTable slots units firsts (test 11 (ltb u units) ∷ [])) (spanNo (unitSlotsIs slots units firsts u))
+  unit-slots-heard : (u : ℕ)
+      → Hears (unitsTable slots units firsts (test 11 (ltb u units) ∷ [])) (spanNo (unitSlotsIs slots units firsts u))
   unfolding unitSlotsIs unitNo unitsNo heardOf
   unit-slots-heard u =
       heard-as (unitsTable slots units firsts (test 11 (ltb u units) ∷ [])) _ refl (span-said (unitNo slots units firsts u) _ _)
 
-  unit-of-heard : (k : ℕ) → Hears (unitsTable slots units firsts (test 11 (ltb k slots) ∷ [])) (numberNo (unitOfSlotIs slots units firsts k))
+  unit-of-heard : (k : ℕ)
+      → Hears (unitsTable slots units firsts (test 11 (ltb k slots) ∷ [])) (numberNo (unitOfSlotIs slots units firsts k))
   unfolding unitOfSlotIs unitSlotNo unitsNo heardOf
   unit-of-heard k =
       heard-as (unitsTable slots units firsts (test 11 (ltb k slots) ∷ [])) _ refl (number-said (unitSlotNo slots units firsts k) _)

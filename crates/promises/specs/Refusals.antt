@@ -107,18 +107,18 @@ unitFrozenTable frozen slots units firsts u =
 
 abbrev pub slotDomainTable : List ℕ → ℕ → ℕ → ℕ → List ℕ → List Test
 slotDomainTable avail people slots k list =
-    test 1 (peopleOk people) ∷ test 1 (slotCountOk slots) ∷ test 2 (leb (setWords * people) (length avail)) ∷ test 2 (leb people (length list))
-    ∷ test 11 (ltb k slots) ∷ []
+    test 1 (peopleOk people) ∷ test 1 (slotCountOk slots) ∷ test 2 (leb (setWords * people) (length avail))
+    ∷ test 2 (leb people (length list)) ∷ test 11 (ltb k slots) ∷ []
 
 abbrev pub unitDomainTable : List ℕ → ℕ → ℕ → ℕ → List ℕ → ℕ → List ℕ → List Test
 unitDomainTable avail people slots units firsts u list =
-    test 1 (peopleOk people) ∷ test 1 (slotCountOk slots) ∷ test 2 (leb (setWords * people) (length avail)) ∷ test 2 (leb units (length firsts))
-    ∷ test 2 (leb people (length list)) ∷ test 9 (unitsOk slots units firsts) ∷ test 11 (ltb u units) ∷ []
+    test 1 (peopleOk people) ∷ test 1 (slotCountOk slots) ∷ test 2 (leb (setWords * people) (length avail))
+    ∷ test 2 (leb units (length firsts)) ∷ test 2 (leb people (length list)) ∷ test 9 (unitsOk slots units firsts) ∷ test 11 (ltb u units) ∷ []
 
 abbrev pub unitDomainsTable : List ℕ → ℕ → ℕ → ℕ → List ℕ → List ℕ → List Test
 unitDomainsTable avail people slots units firsts masks =
-    test 1 (peopleOk people) ∷ test 1 (slotCountOk slots) ∷ test 2 (leb (setWords * people) (length avail)) ∷ test 2 (leb units (length firsts))
-    ∷ test 2 (leb units (length masks)) ∷ test 9 (unitsOk slots units firsts) ∷ []
+    test 1 (peopleOk people) ∷ test 1 (slotCountOk slots) ∷ test 2 (leb (setWords * people) (length avail))
+    ∷ test 2 (leb units (length firsts)) ∷ test 2 (leb units (length masks)) ∷ test 9 (unitsOk slots units firsts) ∷ []
 
 abbrev pub targetRunTable : Settings → ℕ → List ℕ → List ℕ → List Test
 targetRunTable s slots starts ends =
@@ -127,7 +127,8 @@ targetRunTable s slots starts ends =
 abbrev pub achievableTable : Settings → List ℕ → ℕ → ℕ → ℕ → List ℕ → List ℕ → List Test
 achievableTable s avail people p slots starts ends =
     test 1 (peopleOk people) ∷ test 1 (slotCountOk slots) ∷ test 2 (slotRoomOk slots starts ends)
-    ∷ test 2 (leb (setWords * people) (length avail)) ∷ test 7 (settingsOk s) ∷ test 9 (slotsOk slots starts ends) ∷ test 11 (ltb p people) ∷ []
+    ∷ test 2 (leb (setWords * people) (length avail)) ∷ test 7 (settingsOk s) ∷ test 9 (slotsOk slots starts ends)
+    ∷ test 11 (ltb p people) ∷ []
 
 pub record UnitsRefuse : Type 0 where
   pub unit-count : (slots units : ℕ) (firsts : List ℕ)
@@ -204,7 +205,8 @@ recountSlotsTable P avail o D = rotaTable P avail o D (test 10 (recounts P avail
 abbrev pub recountTable : Plan → List ℕ → ℕ → List ℕ → List ℕ → Derived → List Test
 recountTable P avail units firsts o D =
     test 1 (countsOk (P .people) (P .slots)) ∷ test 2 (rota.roomOk P avail o D && leb units (length firsts))
-    ∷ test 9 (slotsOk (P .slots) (P .starts) (P .ends) && unitsOk (P .slots) units firsts) ∷ test 10 (recounts P avail units firsts o D) ∷ []
+    ∷ test 9 (slotsOk (P .slots) (P .starts) (P .ends) && unitsOk (P .slots) units firsts)
+    ∷ test 10 (recounts P avail units firsts o D) ∷ []
 
 abbrev pub playTable : Call → List Test
 playTable c =
@@ -252,7 +254,8 @@ pub record RotaRefuses : Type 0 where
       → Hears (ownersTable people slots o (test 11 (ltb k slots && knownBy people (getD o k 0)) ∷ []))
       (numberNo (rota.ownerIs people slots o k))
   pub minutes-of : (people : ℕ) (m : List ℕ) (p : ℕ)
-      → Hears (test 1 (peopleOk people) ∷ test 2 (leb people (length m)) ∷ test 11 (ltb p people) ∷ []) (minutesNo (rota.minutesIs people m p))
+      → Hears (test 1 (peopleOk people) ∷ test 2 (leb people (length m)) ∷ test 11 (ltb p people) ∷ [])
+      (minutesNo (rota.minutesIs people m p))
   pub slots-of : (people slots : ℕ) (ws : List ℕ) (p : ℕ)
       → Hears (test 1 (countsOk people slots) ∷ test 2 (leb (setWords * people) (length ws)) ∷ test 11 (ltb p people) ∷ [])
       (rota.slotsOfIs people slots ws p .number)
