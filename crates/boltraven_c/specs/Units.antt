@@ -1,5 +1,5 @@
 -- Settings of five numbers, and a unit's slots beside the number of the refusal. Assumes nothing.
-use Prim.Native.Nat.{ℕ, _+_}
+use Prim.Native.Nat.{ℕ}
 use Rattle.units.specs.declared.Settings.{Settings}
 use Rattle.units.specs.declared.UnitSlots.{UnitSlots}
 use Rattle.units.specs.declared.UnitSlots.the-variants as unitSlots

@@ -51,7 +51,8 @@ pub extern "C" fn boltraven_atomise(
 ) -> u64
     ensures { λ r. ⌜ r ≡ plainNumber
         (atomiseOf (base slots (now (starts .entry)) (now (ends .entry)) people
-        (ranges count (now (persons .entry)) (now (opens .entry)) (now (shuts .entry))) (now (froms .entry)) (now (tos .entry))) .answer) ⌝ }
+        (ranges count (now (persons .entry)) (now (opens .entry)) (now (shuts .entry))) (now (froms .entry)) (now (tos .entry)))
+        .answer) ⌝ }
     ensures { λ _. ⌜ now (froms .exit)
         ≡ atomiseOf (base slots (now (starts .entry)) (now (ends .entry)) people
         (ranges count (now (persons .entry)) (now (opens .entry)) (now (shuts .entry))) (now (froms .entry)) (now (tos .entry))) .starts ⌝ }

@@ -1,5 +1,5 @@
 -- Demand 1: each entry's number is heard by its table, and a refusal leaves what was lent as it was. Assumes nothing.
-use mathlib.Core.Path.{_≡_, refl, sym, ap, _∙_}
+use mathlib.Core.Path.{_≡_, refl, ap, _∙_}
 use mathlib.Core.Bool.{Bool, true, false, cond}
 use mathlib.Core.List.{List, [], _∷_}
 use Prim.Native.Nat.{ℕ}
@@ -9,9 +9,9 @@ use lib.ListN.{length}
 use Rattle.paper.specs.Limits.{Test, test, heardOf}
 use Rattle.paper.specs.Count.{onto, over}
 use Rattle.paper.proofs.Logic.{number-of-made}
-use Rattle.slotset.specs.Answers.{toldAs, numberAs, wordsAs, toldNo, numberNo}
+use Rattle.slotset.specs.Answers.{wordsAs, toldNo, numberNo}
 use Rattle.slotset.proofs.Refusals.{number-said, told-said}
-use Rattle.slots.specs.Lent.{lentNo, lentSlotNo, minutesAs, demandIs, slotMinutesIs, minutesNo}
+use Rattle.slots.specs.Lent.{lentNo, lentSlotNo, demandIs, slotMinutesIs, minutesNo}
 use Rattle.slots.proofs.LentLaws.{minutes-said}
 use Rattle.slots.specs.Ranges.{Ranges, personOf, startOf, endOf, mergedOf}
 use Rattle.slots.specs.Merged.{Columns, columns, written, mergedNo, mergedRanges}
@@ -56,7 +56,8 @@ module _ (slots : ℕ) (starts ends : List ℕ) where
 
   slot-heard : (k : ℕ) → Hears (lentTable slots starts ends (test 11 (ltb k slots) ∷ [])) (minutesNo (slotMinutesIs slots starts ends k))
   unfolding slotMinutesIs lentSlotNo heardOf
-  slot-heard k = heard-as (lentTable slots starts ends (test 11 (ltb k slots) ∷ [])) _ refl (minutes-said (lentSlotNo slots starts ends k) _)
+  slot-heard k =
+      heard-as (lentTable slots starts ends (test 11 (ltb k slots) ∷ [])) _ refl (minutes-said (lentSlotNo slots starts ends k) _)
 
 -- refused, by the number of the answer
 not-none : (m n : ℕ) → m ≡ n → (m ≡ 0 → ⊥) → eqb n 0 ≡ false

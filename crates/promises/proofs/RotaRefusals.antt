@@ -130,7 +130,8 @@ owner-heard people slots o k =
     heard-as (ownersTable people slots o (test 11 (ltb k slots && knownBy people (getD o k 0)) ∷ [])) _ refl (number-said _ (getD o k 0))
 
 minutes-heard : (people : ℕ) (m : List ℕ) (p : ℕ)
-    → Hears (test 1 (peopleOk people) ∷ test 2 (leb people (length m)) ∷ test 11 (ltb p people) ∷ []) (minutesNo (rota.minutesIs people m p))
+    → Hears (test 1 (peopleOk people) ∷ test 2 (leb people (length m)) ∷ test 11 (ltb p people) ∷ [])
+    (minutesNo (rota.minutesIs people m p))
 unfolding rota.minutesIs rota.ground heardOf
 minutes-heard people m p =
     heard-as (test 1 (peopleOk people) ∷ test 2 (leb people (length m)) ∷ test 11 (ltb p people) ∷ []) _ refl (minutes-said _ (getD m p 0))

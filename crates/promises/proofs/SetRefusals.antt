@@ -136,7 +136,8 @@ next-found n v f len from =
 last-found : (n v : ℕ) (f : ℕ → ℕ) (len end : ℕ) → foundNo (foundAs n (lastBelow v f len end)) ≡ n
 unfolding foundAs
 last-found n v f len end =
-    number-of-made foundNo n (lastBelow v f len end) (found.Refused n) (last-none v f len end (lastBelow v f len end) (last-is v f len end)) refl
+    number-of-made foundNo n (lastBelow v f len end) (found.Refused n)
+    (last-none v f len end (lastBelow v f len end) (last-is v f len end)) refl
 
 run-told : (n : ℕ) (f : ℕ → ℕ) (len i : ℕ) → runNo (runAs n f len i) ≡ n
 unfolding runAs

@@ -113,7 +113,8 @@ slotDomainTable avail people slots k list =
 abbrev pub unitDomainTable : List ℕ → ℕ → ℕ → ℕ → List ℕ → ℕ → List ℕ → List Test
 unitDomainTable avail people slots units firsts u list =
     test 1 (peopleOk people) ∷ test 1 (slotCountOk slots) ∷ test 2 (leb (setWords * people) (length avail))
-    ∷ test 2 (leb units (length firsts)) ∷ test 2 (leb people (length list)) ∷ test 9 (unitsOk slots units firsts) ∷ test 11 (ltb u units) ∷ []
+    ∷ test 2 (leb units (length firsts)) ∷ test 2 (leb people (length list)) ∷ test 9 (unitsOk slots units firsts)
+    ∷ test 11 (ltb u units) ∷ []
 
 abbrev pub unitDomainsTable : List ℕ → ℕ → ℕ → ℕ → List ℕ → List ℕ → List Test
 unitDomainsTable avail people slots units firsts masks =

@@ -5,7 +5,6 @@ mod scan;
 mod word;
 
 ghost use mathlib.Core.Path.{_≡_};
-ghost use Prim.Native.Nat.{suc};
 ghost use Rattle.slotset.specs.Slots.{has, size, noMember, valueOf};
 ghost use Rattle.slotset.specs.Search.{nextSet, prevSet, nextUnsetAfter, prevUnsetBefore};
 ghost use Rattle.slotset.specs.Answers.{lenNo, slotNo, stretchNo, slotsOf, newOf, putOf, stretchOf};

@@ -1,6 +1,5 @@
 // One word of a set: shifts and masks, and the counts of ones and of zeros.
 ghost use mathlib.Core.Path.{_≡_};
-ghost use mathlib.Core.Bool.{_&&_, cond};
 ghost use Prim.Native.Nat.{_≤_, _<_};
 ghost use lib.Dec.{eqb};
 ghost use Rattle.paper.specs.Bits.{bitOf};

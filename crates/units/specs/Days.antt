@@ -1,5 +1,5 @@
 -- Covered days, minutes a day, target run. What a covered day is stands here alone: `covers` and `coveredDays`. Assumes nothing.
-use mathlib.Core.Bool.{Bool, true, cond}
+use mathlib.Core.Bool.{Bool, true}
 use mathlib.Core.List.{List}
 use Prim.Native.Nat.{ℕ, _*_, _/_, max}
 use lib.Dec.{eqb}
