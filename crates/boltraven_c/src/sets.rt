@@ -1,12 +1,14 @@
 // Slot sets, as rows of words: 16 words of u64 a person.
 // Answers are numbers: below 65,536 what was asked, 65,536 nothing, 65,536 + n refused by n.
 use crate::NOTHING;
+use crate::answers::found_number;
+use crate::answers::plain_number;
+use crate::answers::told_number;
 use crate::refused;
 use slotset::Changed;
 use slotset::Cursor;
 use slotset::NextMember;
 use slotset::NextRun;
-use slotset::Number;
 use slotset::Run;
 use slotset::SlotSet;
 use slotset::row;

@@ -319,9 +319,9 @@ unassigned-is : (people slots : ℕ) (o : List ℕ) → numberNo (unassignedIs p
 unfolding unassignedIs unassigned
 unassigned-is people slots o e = number-given _ (unassigned slots o) e
 
-uncovered-is : (P : Plan) (o : List ℕ) → minutesNo (uncoveredIs P o) ≡ 0 → uncoveredIs P o ≡ minutes.Are (uncovered P o)
-unfolding uncoveredIs
-uncovered-is P o e = minutes-given _ (uncovered P o) e
+uncovered-is : (P : Plan) (o : List ℕ) → minutesNo (uncoveredIs P o) ≡ 0 → uncoveredIs P o ≡ minutes.Are (worked P o nobody)
+unfolding uncoveredIs uncovered
+uncovered-is P o e = minutes-given _ (worked P o nobody) e
 
 module _ (people slots : ℕ) (ws : List ℕ) (p : ℕ) where
   loaded : slotCountOk slots ≡ true → slotsOfIs people slots ws p ≡ loadOf ws people p slots

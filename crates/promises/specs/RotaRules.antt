@@ -11,7 +11,7 @@ use Rattle.paper.specs.Count.{sum, count}
 use Rattle.slotset.specs.Slots.{slot}
 use Rattle.slotset.specs.declared.Number.the-variants as number
 use Rattle.slotset.specs.Answers.{rowSlots, slotsOf, numberNo}
-use Rattle.slots.specs.declared.Minutes.the-variants as minutes
+use Rattle.slots.specs.declared.Minutes.the-variants.{Are}
 use Rattle.slots.specs.Lent.{minutesNo}
 use Rattle.units.specs.Units.{unitStart, unitsOk, InUnit}
 use Rattle.rota.specs.Derived.{Plan, Derived, worked, uncovered}
@@ -70,10 +70,10 @@ pub record RotaByRule : Type 0 where
   pub owner-told : (people slots : ℕ) (o : List ℕ) (k : ℕ) → numberNo (ownerIs people slots o k) ≡ 0
       → ownerIs people slots o k ≡ number.Is (getD o k 0)
   pub minutes-told : (people : ℕ) (m : List ℕ) (p : ℕ) → minutesNo (minutesIs people m p) ≡ 0
-      → minutesIs people m p ≡ minutes.Are (getD m p 0)
+      → minutesIs people m p ≡ Are (getD m p 0)
   pub unassigned-told : (people slots : ℕ) (o : List ℕ) → numberNo (unassignedIs people slots o) ≡ 0
       → unassignedIs people slots o ≡ number.Is (count slots (λ k. eqb (getD o k 0) nobody))
-  pub uncovered-told : (P : Plan) (o : List ℕ) → minutesNo (uncoveredIs P o) ≡ 0 → uncoveredIs P o ≡ minutes.Are (uncovered P o)
+  pub uncovered-told : (P : Plan) (o : List ℕ) → minutesNo (uncoveredIs P o) ≡ 0 → uncoveredIs P o ≡ Are (worked P o nobody)
   -- a person's slots, as a set by value: as many as there are slots, and each as in the person's row
   pub slots-told : (people slots : ℕ) (ws : List ℕ) (p : ℕ)
       → let y = slotsOfIs people slots ws p in y .number ≡ 0
