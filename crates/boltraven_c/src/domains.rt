@@ -3,8 +3,7 @@ use crate::answers::plain_number;
 use crate::answers::told_number;
 ghost use mathlib.Core.Path.{_≡_};
 ghost use Rattle.units.specs.Domains.{slotDomainIs, unitDomainIs, unitDomainsNo, unitDomainsIs, unitFrozenIs};
-ghost use Rattle.boltraven_c.specs.Numbers.{toldNumber};
-ghost use Rattle.boltraven_c.specs.Units.{plainNumber};
+ghost use Rattle.boltraven_c.specs.Numbers.{toldNumber, plainNumber};
 
 // The people available for a slot, ascending, and how many.
 #[no_mangle]
