@@ -48,8 +48,8 @@ fn refused(number: u64) -> Refusal {
 
 /// 0, or a refusal.
 #[inline]
-fn done(number: u8) -> Result<(), Refusal> {
-    match number {
+fn done(answer: u8) -> Result<(), Refusal> {
+    match answer {
         0 => Ok(()),
         n => Err(refused(u64::from(n))),
     }
@@ -66,8 +66,8 @@ fn number(answer: u64) -> Result<usize, Refusal> {
 
 /// A slot, nothing, or a refusal.
 #[inline]
-fn found(number: u64) -> Result<Option<usize>, Refusal> {
-    match number {
+fn found(answer: u64) -> Result<Option<usize>, Refusal> {
+    match answer {
         NOTHING => Ok(None),
         n => number(n).map(Some),
     }
@@ -75,8 +75,8 @@ fn found(number: u64) -> Result<Option<usize>, Refusal> {
 
 /// Yes is 1, no is 0, or a refusal.
 #[inline]
-fn told(number: u64) -> Result<bool, Refusal> {
-    match number {
+fn told(answer: u64) -> Result<bool, Refusal> {
+    match answer {
         0 => Ok(false),
         1 => Ok(true),
         n => Err(refused(n.wrapping_sub(NOTHING))),
@@ -85,8 +85,8 @@ fn told(number: u64) -> Result<bool, Refusal> {
 
 /// 0 where the numbers beside it were written, nothing, or a refusal.
 #[inline]
-fn wrote(number: u64) -> Result<bool, Refusal> {
-    match number {
+fn wrote(answer: u64) -> Result<bool, Refusal> {
+    match answer {
         0 => Ok(true),
         NOTHING => Ok(false),
         n => Err(refused(n.wrapping_sub(NOTHING))),
@@ -94,8 +94,8 @@ fn wrote(number: u64) -> Result<bool, Refusal> {
 }
 
 /// A number that is the answer itself.
-fn plain(number: u32) -> u32 {
-    number
+fn plain(answer: u32) -> u32 {
+    answer
 }
 
 /// The number that a call writes through an address.
