@@ -21,6 +21,24 @@ choose_compiler() {
     fi
 }
 
+# A tool that stands beside the compiler that was chosen.
+beside_compiler() { # TOOL
+    if [ -n "${RUSTC:-}" ]; then echo "$(dirname "$RUSTC")/$1"; else echo "$1"; fi
+}
+
+# Whether that compiler's rustfmt and clippy are there.
+has_linters() {
+    "$(beside_compiler rustfmt)" --version >/dev/null 2>&1 && "$(beside_compiler cargo-clippy)" --version >/dev/null 2>&1
+}
+
+# Whether everything is there that setup would install to build and run.
+is_set_up() (
+    {
+        [ "$(uname -m)" = x86_64 ] || command -v qemu-x86_64 || return 1
+        command -v cargo && command -v x86_64-linux-gnu-gcc && choose_compiler
+    } >/dev/null
+)
+
 if [ "$(uname -m)" != x86_64 ]; then
     export CARGO_TARGET_X86_64_UNKNOWN_LINUX_GNU_LINKER=x86_64-linux-gnu-gcc
     export CARGO_TARGET_X86_64_UNKNOWN_LINUX_GNU_RUNNER="qemu-x86_64 -L /usr/x86_64-linux-gnu"

@@ -137,8 +137,12 @@ pub const FAULTS: [Fault; 46] = [
     laid("settings twice", |_, records| twice(records, SETTINGS)),
     laid("freeze twice", |_, records| twice(records, FREEZE)),
     laid("owner slot twice", |_, records| twice(records, OWNER)),
-    laid("owner slots fall", owner_slots_fall),
-    laid("kinds fall", kinds_fall),
+    laid("owner slots fall", |seed, records| {
+        exchange(seed, records, |first, second| first == OWNER && second == OWNER)
+    }),
+    laid("kinds fall", |seed, records| {
+        exchange(seed, records, |first, second| first != second)
+    }),
     laid("zero byte", |seed, records| put(&mut records[0].1[3], seed.within(1, 255) as u8)),
     laid("kind 0", |seed, records| {
         records.insert(0, (0, some_bytes(seed)));
@@ -349,16 +353,7 @@ fn twice(records: &mut Vec<Record>, kind: u16) -> bool {
     place.is_some()
 }
 
-/// Two neighbouring owner records exchanged.
-fn owner_slots_fall(seed: &mut Seed, records: &mut Vec<Record>) -> bool {
-    exchange(seed, records, |first, second| first == OWNER && second == OWNER)
-}
-
-/// Two neighbouring records of different kinds exchanged.
-fn kinds_fall(seed: &mut Seed, records: &mut Vec<Record>) -> bool {
-    exchange(seed, records, |first, second| first != second)
-}
-
+/// Two neighbouring records of the wanted kinds exchanged.
 fn exchange(seed: &mut Seed, records: &mut [Record], wanted: fn(u16, u16) -> bool) -> bool {
     let places: Vec<usize> = (1..records.len()).filter(|&k| wanted(records[k - 1].0, records[k].0)).collect();
     if places.is_empty() {

@@ -94,7 +94,7 @@ pub fn read(file: &[u8]) -> Option<JobCase> {
     if owners.windows(2).any(|pair| pair[0].0 >= pair[1].0) {
         return None;
     }
-    let settings = of(SETTINGS).map(|body| Settings {
+    let mut settings = of(SETTINGS).map(|body| Settings {
         fairness: body[0],
         lock: body[1],
         boundary: body[2],
@@ -106,9 +106,9 @@ pub fn read(file: &[u8]) -> Option<JobCase> {
             base: of(BASE).map(|body| (four(body, 0), four(body, 4))).collect(),
             ranges: of(RANGE).map(range).collect(),
             people: of(PERSON).map(person).collect(),
-            settings: settings.last()?,
+            settings: settings.next_back()?,
         },
-        freeze: of(FREEZE).map(|body| four(body, 0)).last(),
+        freeze: of(FREEZE).map(|body| four(body, 0)).next_back(),
         owners,
         draws: of(DRAW).map(|body| (two(body, 0), two(body, 2), two(body, 4))).collect(),
     })

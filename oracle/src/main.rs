@@ -136,7 +136,7 @@ fn main() -> ExitCode {
     }
 }
 
-/// Writes stored answers of a kind into the folder of the program that replays them: what it reads, and what it must then write.
+/// Writes stored answers of a kind into the folder of the program that compares them: what it reads, and what it must then write.
 fn store(kind: &str, n: u64, seed: u64, folder: &Path) -> ExitCode {
     let made = match kind {
         "jobs" => stored_jobs::jobs(n, seed),

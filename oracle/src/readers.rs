@@ -74,7 +74,11 @@ pub fn questions(seed: &mut Seed, case: &RotaCase, lent: &LentRota) -> Vec<Quest
         beside("boltraven_demand", slots_args, seed, Some(vec![problem.total_demand() as u64]), 1),
         plain("boltraven_unassigned_count", unassigned_args, unassigned),
         beside("boltraven_uncovered_minutes", uncovered_args, seed, uncovered, 1),
-        plain("boltraven_unit_of_slot", one(&units_args, slot), problem.unit_of_slot.get(slot).map(|&unit| unit as u64)),
+        plain(
+            "boltraven_unit_of_slot",
+            one(&units_args, slot),
+            problem.unit_of_slot.get(slot).map(|&unit| unit as u64),
+        ),
         slot_domain(seed, case, lent, slot),
     ]
 }

@@ -383,7 +383,7 @@ pub fn questions(case_seed: u64) -> Vec<Question> {
     let case = RotaCase::new(&mut seed);
     let lent = LentRota::new(&mut seed, &case);
     let mut asked = lent.plays(Ok(&case.play()));
-    asked.push(lent.from_slots(&mut seed, &case));
+    asked.push(lent.made_from_slots(&mut seed, &case));
     for _ in 0..3 {
         asked.push(lent.assign(&mut seed, &case));
     }
@@ -404,7 +404,7 @@ impl LentRota {
     }
 
     /// Sets and minutes from owners that are available, over whatever stood there.
-    fn from_slots(&self, seed: &mut Seed, case: &RotaCase) -> Question {
+    fn made_from_slots(&self, seed: &mut Seed, case: &RotaCase) -> Question {
         let mut rota = self.clone();
         rota.sets.fill_with(|| seed.word());
         rota.minutes.fill_with(|| seed.word());

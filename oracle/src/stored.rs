@@ -1,4 +1,4 @@
-//! Stored answers: records of the Rust's answers, which the `replay_*` programs of the library compare with no Rust at hand.
+//! Stored answers: records of the Rust's answers, which the `stored_*` programs of the library compare with no Rust at hand.
 
 use crate::figures::{targets_by, FigureCase, WRONG};
 use crate::limits::SLOTS_MOST;

@@ -1,4 +1,4 @@
-//! Stored jobs: small job files with the texts that are due for them, which `replay_job` runs with no Rust at hand. They cover every fault
+//! Stored jobs: small job files with the texts that are due for them, which `stored_job` runs with no Rust at hand. They cover every fault
 //! of a job file, every two numbers together, and every move with every answer, or they are not written.
 
 use std::collections::BTreeMap;

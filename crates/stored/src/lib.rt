@@ -1,4 +1,4 @@
-// Reading stored answers: the numbers of a record, low byte first, and the tally of what was compared. The programs `replay_*` use it.
+// Reading stored answers: the numbers of a record, low byte first, and the tally of what was compared. The programs `stored_*` use it.
 ghost use mathlib.Core.Path.{_≡_};
 ghost use mathlib.Core.Bool.{cond, true, false};
 ghost use Prim.Native.Nat.{_+_, _<_, _≤_, min};
@@ -42,7 +42,7 @@ impl Tally {
     }
 }
 
-// The tally after a turn of a replay, and whether the input may go on.
+// The tally after a turn of a comparison, and whether the input may go on.
 pub struct Turn {
     pub tally: Tally,
     pub more: bool,
