@@ -14,7 +14,7 @@ use crate::set::SlotSet;
 /// | 60 to 74 | the run of unit `first` goes to person `second` of those others who can cover it |
 /// | 75 to 89 | the runs of the units `first` and `second` are swapped |
 /// | 90 to 99 | the run of unit `first` starts one unit earlier (`second` 1) or later (0) |
-#[derive(Debug, Clone, Copy, PartialEq, Eq)]
+#[derive(Debug, Clone, Copy, PartialEq, Eq, Hash)]
 #[repr(C)]
 pub struct Draw {
     /// Which move, below 100.
@@ -26,7 +26,7 @@ pub struct Draw {
 }
 
 /// What became of a draw.
-#[derive(Debug, Clone, Copy, PartialEq, Eq)]
+#[derive(Debug, Clone, Copy, PartialEq, Eq, Hash)]
 pub enum Answer {
     /// The rota changed.
     Acted,
@@ -67,7 +67,7 @@ impl Answer {
 /// assert_eq!(rota.uncovered_minutes(&problem)?, 60);
 /// # Ok::<(), Refusal>(())
 /// ```
-#[derive(Debug, Clone, PartialEq, Eq)]
+#[derive(Debug, Clone, PartialEq, Eq, Hash)]
 pub struct Assignment {
     owners: Vec<u8>,
     sets: Vec<u64>,

@@ -19,7 +19,7 @@ use crate::slots::{Columns, Range, Slots};
 /// assert_eq!(who.is_available(2, 0), Err(Refusal::Unknown));
 /// # Ok::<(), Refusal>(())
 /// ```
-#[derive(Debug, Clone, PartialEq, Eq)]
+#[derive(Debug, Clone, PartialEq, Eq, Hash)]
 pub struct Availability {
     people: usize,
     slots: usize,

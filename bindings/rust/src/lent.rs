@@ -334,6 +334,11 @@ exports! {
         people: usize, slots: usize, starts: &[u32], ends: &[u32], owners: &[u8], out: &mut u64
     ) -> Result<(), Refusal> = done(u8);
 
+    // ---- the library itself
+
+    /// The library's version: ten thousand times the major number, a hundred times the minor one, and the patch.
+    pub fn version() -> u32 = plain(u32);
+
     // ---- a whole job
 
     /// A whole job: the listing at the front of `out`, and its length. Refusals: 1 to 7, 10 to 13.

@@ -29,7 +29,7 @@ use crate::units::Units;
 /// assert_eq!(Problem::build(Settings::default(), &base, &people, &unknown).err(), Some(Refusal::Range));
 /// # Ok::<(), Refusal>(())
 /// ```
-#[derive(Debug, Clone, PartialEq, Eq)]
+#[derive(Debug, Clone, PartialEq, Eq, Hash)]
 pub struct Problem {
     settings: Settings,
     slots: Slots,

@@ -83,7 +83,7 @@ impl TryFrom<u8> for Refusal {
 }
 
 /// A number that is no refusal's.
-#[derive(Debug, Clone, Copy, PartialEq, Eq)]
+#[derive(Debug, Clone, Copy, PartialEq, Eq, Hash)]
 pub struct NoRefusal(pub u8);
 
 impl fmt::Display for NoRefusal {

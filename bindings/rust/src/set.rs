@@ -20,7 +20,7 @@ use crate::refusal::{checked, Refusal};
 /// assert_eq!(SlotSet::new(1025).err(), Some(Refusal::Count));
 /// # Ok::<(), Refusal>(())
 /// ```
-#[derive(Clone, PartialEq, Eq)]
+#[derive(Clone, PartialEq, Eq, Hash)]
 pub struct SlotSet {
     words: [u64; SET_WORDS],
     len: usize,

@@ -6,7 +6,7 @@ use crate::set::SlotSet;
 use crate::settings::{with_settings, Settings};
 
 /// A stretch of minutes to be covered, without its end.
-#[derive(Debug, Clone, Copy, PartialEq, Eq)]
+#[derive(Debug, Clone, Copy, PartialEq, Eq, Hash)]
 pub struct Slot {
     /// Its first minute.
     pub start: u32,
@@ -15,7 +15,7 @@ pub struct Slot {
 }
 
 /// A stretch of minutes for which a person is available, without its end.
-#[derive(Debug, Clone, Copy, PartialEq, Eq)]
+#[derive(Debug, Clone, Copy, PartialEq, Eq, Hash)]
 pub struct Range {
     /// The person's number.
     pub person: usize,
@@ -88,7 +88,7 @@ pub fn merged_ranges(people: usize, ranges: &[Range]) -> Result<Vec<Range>, Refu
 /// assert_eq!(Slots::new(&[Slot { start: 5, end: 5 }]).err(), Some(Refusal::Slots));
 /// # Ok::<(), Refusal>(())
 /// ```
-#[derive(Debug, Clone, PartialEq, Eq)]
+#[derive(Debug, Clone, PartialEq, Eq, Hash)]
 pub struct Slots {
     starts: Vec<u32>,
     ends: Vec<u32>,

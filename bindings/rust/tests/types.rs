@@ -59,7 +59,7 @@ fn figures_and_settings_are_refused() {
         ..ONE
     };
     let far = Settings {
-        boundary: Boundary::DayOfWeek(128),
+        boundary: Boundary::EverySlots(1025),
         ..Settings::default()
     };
     let long = Settings {
