@@ -38,6 +38,7 @@ pub enum Boundary {
 /// // Whole weeks from Monday on, each held by one person.
 /// let weeks = Settings { lock: true, boundary: Boundary::DayOfWeek(Weekday::Monday.into()), days: 7, ..Settings::default() };
 /// assert_eq!(weeks.fairness, Fairness::Capacity);
+/// assert_eq!(Settings::default().boundary, Boundary::EverySlots(1));
 /// ```
 #[derive(Debug, Clone, Copy, PartialEq, Eq, Hash)]
 pub struct Settings {
