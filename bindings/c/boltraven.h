@@ -16,8 +16,6 @@
    capacity or prior; 7 a bad setting; 8 a target past its guard, which no accepted figures reach; 9 bad slots or units; 10 the recount
    fails; 11 an unknown slot, unit, person or index; 12 a person who is not available; 13 a job file that breaks its layout.
 
-   Stack. A call needs at most 256 KiB of the caller's stack (boltraven_run_job the most); docs/STACK.md has the figure of each function.
-
    Settings go as five numbers: fairness 0 or 1; lock 0 or 1; boundary 0 (a rotation every `value` slots) or 1 (on the weekdays of the mask
    `value`, bit 0 Monday); days, the length of a shift. */
 #ifndef BOLTRAVEN_H
@@ -34,6 +32,8 @@
 #ifdef __cplusplus
 extern "C" {
 #endif
+
+/* A call needs at most 256 KiB of the caller's stack (boltraven_run_job the most); docs/STACK.md has the figure of each function. */
 
 /* The version of this header; boltraven_version() answers the library's, which is to be the same. */
 #define BOLTRAVEN_VERSION 100
