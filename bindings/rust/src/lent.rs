@@ -5,6 +5,8 @@
 //! A set is 16 words of u64; sets of several people stand one after the other ([`SET_WORDS`]). An owner is a person's number or [`NOBODY`].
 //! Numbers that come out beside a result are written through `&mut u64`, and stay as they were where the call is refused or finds nothing.
 //!
+//! A call needs at most 256 KiB of stack, [`run_job`] the most; docs/STACK.md has the figure of each.
+//!
 //! Sets: a person's row of words.
 //!
 //! ```
