@@ -21,17 +21,23 @@
 #ifndef BOLTRAVEN_H
 #define BOLTRAVEN_H
 
+#if !defined(__x86_64__) || defined(__ILP32__)
+#error "Boltraven's library is for x86-64 Linux alone: build for that processor, and run under an emulator elsewhere"
+#endif
+
 #include <stdbool.h>
 #include <stddef.h>
 #include <stdint.h>
 
-#if SIZE_MAX != UINT64_MAX
-#error "the library is for x86-64"
-#endif
-
 #ifdef __cplusplus
 extern "C" {
 #endif
+
+/* A call needs at most 256 KiB of the caller's stack (boltraven_run_job the most); docs/STACK.md has the figure of each function. */
+
+/* The version of this header; boltraven_version() answers the library's, which is to be the same. */
+#define BOLTRAVEN_VERSION 100
+#define BOLTRAVEN_VERSION_TEXT "0.1.0"
 
 #define BOLTRAVEN_NOTHING 65536
 #define BOLTRAVEN_NOBODY 255
@@ -49,6 +55,29 @@ struct boltraven_draw {
     uint16_t first;
     uint16_t second;
 };
+
+/* What a refusal's number says, as a sentence; of another number NULL. */
+static inline const char *boltraven_refusal_text(uint8_t number) {
+    switch (number) {
+    case 1: return "A count is outside its limits, or a set is longer than 1,024 slots.";
+    case 2: return "A lent buffer is shorter than needed.";
+    case 3: return "A base slot is empty or reversed, ends after minute 100,000,000, or starts before the previous one ends.";
+    case 4: return "A range starts after its end, ends after minute 100,000,000, or names an unknown person.";
+    case 5: return "More than 1,024 atomic slots result.";
+    case 6: return "A capacity is no number from 0 to 1,000, or prior minutes are above 100,000,000.";
+    case 7: return "Fairness, lock, boundary, every-count, weekday mask or shift days are outside their limits.";
+    case 8: return "An unrounded target is not finite, or of size 2^40 or more.";
+    case 9: return "Lent slots are empty, reversed, too late or overlap, or unit starts don't rise from 0 below the slot count.";
+    case 10: return "The recount fails: owners, units, sets and minutes don't fit together.";
+    case 11: return "A slot, unit, person or index is not below its count.";
+    case 12: return "A person is to get a slot for which they aren't available.";
+    case 13: return "The job file breaks its layout or is too long.";
+    default: return NULL;
+    }
+}
+
+/* The library's version: ten thousand times the major number, a hundred times the minor one, and the patch. */
+uint32_t boltraven_version(void);
 
 /* ---- Sets: a row of words a person, of `len` slots. */
 

@@ -22,7 +22,7 @@ static int64_t targets[PEOPLE];
 /* Ends the program where something is refused that should not be. */
 static void done(const char *what, uint64_t refusal) {
     if (refusal == 0) return;
-    fprintf(stderr, "%s: refused by %" PRIu64 "\n", what, refusal);
+    fprintf(stderr, "%s: refused by %" PRIu64 ": %s\n", what, refusal, boltraven_refusal_text((uint8_t)refusal));
     exit(1);
 }
 
@@ -70,10 +70,15 @@ static void list(uint8_t answered) {
 }
 
 int main(void) {
+    if (boltraven_version() != BOLTRAVEN_VERSION) {
+        fprintf(stderr, "the library is not of this header's version, %s\n", BOLTRAVEN_VERSION_TEXT);
+        return 1;
+    }
     prepare();
     list(play());
     /* person 1 is not there for slot 0 */
-    printf("R %d\n", boltraven_assign(PEOPLE, slots, starts, SLOTS, ends, SLOTS, avail, WORDS, owners, SLOTS, sets, WORDS, minutes, PEOPLE,
-                                      0, 1));
+    const uint8_t refusal =
+        boltraven_assign(PEOPLE, slots, starts, SLOTS, ends, SLOTS, avail, WORDS, owners, SLOTS, sets, WORDS, minutes, PEOPLE, 0, 1);
+    printf("R %d: %s\n", refusal, boltraven_refusal_text(refusal));
     return 0;
 }

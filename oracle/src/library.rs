@@ -37,7 +37,8 @@ pub fn ask(question: &Question) -> io::Result<Outcome> {
 pub fn exports() -> impl Iterator<Item = String> {
     let declared = include_str!("../../bindings/rust/src/lent.rs").lines();
     let names = declared.filter_map(|line| line.strip_prefix("    pub fn ")?.split('(').next());
-    names.map(|name| format!("boltraven_{name}"))
+    // The Rust has no version to compare.
+    names.filter(|name| *name != "version").map(|name| format!("boltraven_{name}"))
 }
 
 /// Every function, one after the other: how its answer is said as a number, its name, and what each of its arguments is.

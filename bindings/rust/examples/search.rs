@@ -8,7 +8,7 @@
 use std::error::Error;
 use std::str::{FromStr, SplitWhitespace};
 
-use boltraven::{Answer, Assignment, Boundary, Draw, Fairness, Person, Problem, Range, Refusal, Settings, Slot};
+use boltraven::{Answer, Assignment, Boundary, Draw, Fairness, Person, Problem, Range, Refusal, Settings, Slot, Weekdays};
 
 const MOVES: &str = include_str!("nights.moves");
 
@@ -201,7 +201,7 @@ fn settings(words: SplitWhitespace) -> Result<Settings, Box<dyn Error>> {
         fairness: if fairness == 1 { Fairness::Equal } else { Fairness::Capacity },
         lock: lock == 1,
         boundary: if boundary == 1 {
-            Boundary::DayOfWeek(value)
+            Boundary::DayOfWeek(Weekdays::from_mask(value).ok_or("a mask is below 128")?)
         } else {
             Boundary::EverySlots(value)
         },

@@ -14,7 +14,7 @@ use crate::set::SlotSet;
 /// | 60 to 74 | the run of unit `first` goes to person `second` of those others who can cover it |
 /// | 75 to 89 | the runs of the units `first` and `second` are swapped |
 /// | 90 to 99 | the run of unit `first` starts one unit earlier (`second` 1) or later (0) |
-#[derive(Debug, Clone, Copy, PartialEq, Eq)]
+#[derive(Debug, Clone, Copy, PartialEq, Eq, Hash)]
 #[repr(C)]
 pub struct Draw {
     /// Which move, below 100.
@@ -26,7 +26,7 @@ pub struct Draw {
 }
 
 /// What became of a draw.
-#[derive(Debug, Clone, Copy, PartialEq, Eq)]
+#[derive(Debug, Clone, Copy, PartialEq, Eq, Hash)]
 pub enum Answer {
     /// The rota changed.
     Acted,
@@ -52,7 +52,7 @@ impl Answer {
 /// slots and people of that one.
 ///
 /// ```
-/// use boltraven::{Assignment, Person, Problem, Range, Refusal, Settings, Slot};
+/// use boltraven::{Answer, Assignment, Draw, Person, Problem, Range, Refusal, Settings, Slot};
 ///
 /// let base = [Slot { start: 0, end: 60 }, Slot { start: 60, end: 120 }];
 /// let people = [Person { capacity: 1.0, prior: 0 }; 2];
@@ -62,12 +62,19 @@ impl Answer {
 /// let mut rota = Assignment::empty(&problem);
 /// rota.assign(&problem, 0, Some(0))?;
 /// assert_eq!(rota.assign(&problem, 0, Some(1)), Err(Refusal::Unavailable));
-/// assert_eq!(rota.slots(), [Some(0), None]);
+/// assert_eq!((rota.slots(), rota.owners()), (vec![Some(0), None], &[0, 255][..]));
 /// assert_eq!(rota.slots_of(0)?.iter().collect::<Vec<_>>(), [0]);
-/// assert_eq!(rota.uncovered_minutes(&problem)?, 60);
+/// assert_eq!((rota.unassigned_count(), rota.uncovered_minutes(&problem)?), (1, 60));
+///
+/// // Both slots of person 0; then the second unit goes to the second of those who can cover it, and there is no tenth.
+/// let mut rota = Assignment::from_slots(&problem, &[Some(0), Some(0)])?;
+/// let draws = [Draw { draw: 0, first: 1, second: 1 }, Draw { draw: 0, first: 1, second: 9 }];
+/// assert_eq!(rota.play(&problem, &draws)?, [Answer::Acted, Answer::Outside]);
+/// assert_eq!((rota.get(1)?, rota.assigned_minutes(1)?), (Some(1), 60));
+/// assert_eq!(rota.recount(&problem), Ok(()));
 /// # Ok::<(), Refusal>(())
 /// ```
-#[derive(Debug, Clone, PartialEq, Eq)]
+#[derive(Debug, Clone, PartialEq, Eq, Hash)]
 pub struct Assignment {
     owners: Vec<u8>,
     sets: Vec<u64>,

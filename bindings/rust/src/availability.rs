@@ -9,7 +9,7 @@ use crate::slots::{Columns, Range, Slots};
 /// A set of slots for each person: those for which they are available, every minute of the slot in one of their ranges.
 ///
 /// ```
-/// use boltraven::{Availability, Range, Refusal, Slot, Slots};
+/// use boltraven::{Availability, Range, Refusal, Settings, Slot, Slots};
 ///
 /// let slots = Slots::new(&[Slot { start: 0, end: 60 }, Slot { start: 60, end: 120 }])?;
 /// let who = Availability::new(2, &slots, &[Range { person: 1, start: 30, end: 120 }])?;
@@ -17,9 +17,12 @@ use crate::slots::{Columns, Range, Slots};
 /// assert!(who.is_available(1, 1)?);
 /// assert_eq!((who.domain(0)?, who.domain(1)?), (vec![], vec![1]));
 /// assert_eq!(who.is_available(2, 0), Err(Refusal::Unknown));
+/// assert_eq!((who.people(), who.slots(), who.words().len()), (2, 2, 32));
+/// assert_eq!(who.of(1)?.iter().collect::<Vec<_>>(), [1]);
+/// assert_eq!(who.achievable_run_minutes(Settings::default(), &slots, 1)?, 60);
 /// # Ok::<(), Refusal>(())
 /// ```
-#[derive(Debug, Clone, PartialEq, Eq)]
+#[derive(Debug, Clone, PartialEq, Eq, Hash)]
 pub struct Availability {
     people: usize,
     slots: usize,

@@ -39,7 +39,7 @@ macro_rules! export {
     // None is left.
     (
         { $(#[$attribute:meta])* $name:ident, $answer:ty, $reader:ident, $number:ty }
-        [$($taken:tt)*] [$($declared:ty,)*] [$($passed:expr,)*]
+        [$($taken:tt)*] [$($declared:ty,)*] [$($passed:expr,)*] $(,)?
     ) => {
         $(#[$attribute])*
         pub fn $name($($taken)*) -> $answer {

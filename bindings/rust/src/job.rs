@@ -11,6 +11,10 @@ use crate::targets::Person;
 pub const LISTING_MOST: usize = 36_343;
 
 /// The listing of a job file: a line for each slot, person and draw, and one for the uncovered minutes. Refusals 1, 3 to 7, 10 to 13.
+///
+/// ```
+/// assert_eq!(boltraven::run_job(b"no job"), Err(boltraven::Refusal::JobFile));
+/// ```
 pub fn run_job(file: &[u8]) -> Result<String, Refusal> {
     let mut listing = vec![0; LISTING_MOST];
     let mut length = 0;
@@ -22,7 +26,7 @@ pub fn run_job(file: &[u8]) -> Result<String, Refusal> {
 /// What a job file says.
 ///
 /// ```
-/// use boltraven::{Draw, Job, Person, Range, Slot};
+/// use boltraven::{Draw, Job, Person, Range, Slot, LISTING_MOST};
 ///
 /// let job = Job {
 ///     base: vec![Slot { start: 0, end: 120 }],
@@ -32,7 +36,9 @@ pub fn run_job(file: &[u8]) -> Result<String, Refusal> {
 ///     draws: vec![Draw { draw: 0, first: 1, second: 1 }],
 ///     ..Job::default()
 /// };
+/// assert_eq!(job.file()[..4], [8, 0, 1, 0]); // the settings: a body of 8 bytes, kind 1
 /// assert_eq!(job.run()?, "S 0 0 60 0\nS 1 60 120 1\nP 0 60 80\nP 1 60 40\nD 0 A\nU 0\n");
+/// assert!(job.run()?.len() <= LISTING_MOST);
 /// # Ok::<(), boltraven::Refusal>(())
 /// ```
 #[derive(Debug, Clone, PartialEq, Default)]

@@ -5,14 +5,136 @@
 //! A set is 16 words of u64; sets of several people stand one after the other ([`SET_WORDS`]). An owner is a person's number or [`NOBODY`].
 //! Numbers that come out beside a result are written through `&mut u64`, and stay as they were where the call is refused or finds nothing.
 //!
+//! A call needs at most 256 KiB of stack, [`run_job`] the most; docs/STACK.md has the figure of each.
+//!
+//! Sets: a person's row of words.
+//!
 //! ```
 //! use boltraven::{lent, Refusal};
 //!
-//! let words = [0b1110_u64; 16];
-//! let (mut first, mut last) = (0, 0);
-//! assert_eq!(lent::run_bounds(&words, 1, 0, 64, 2, &mut first, &mut last), Ok(true));
+//! let mut words = [0; lent::SET_WORDS];
+//! lent::put_stretch(&mut words, 1, 0, 64, 0, 4, true)?;
+//! lent::remove(&mut words, 1, 0, 64, 0)?;
+//! lent::insert(&mut words, 1, 0, 64, 9)?;
+//! assert_eq!(words[0], 0b10_0000_1110);
+//! assert_eq!((lent::contains(&words, 1, 0, 64, 9)?, lent::is_empty(&words, 1, 0, 64)?, lent::count(&words, 1, 0, 64)?), (true, false, 4));
+//! assert_eq!((lent::next_set(&words, 1, 0, 64, 4)?, lent::prev_set(&words, 1, 0, 64, 4)?), (Some(9), Some(3)));
+//! assert_eq!((lent::next_unset_after(&words, 1, 0, 64, 1)?, lent::prev_unset_before(&words, 1, 0, 64, 3)?), (Some(4), Some(0)));
+//!
+//! let (mut first, mut last, mut next) = (0, 0, 0);
+//! assert!(lent::run_bounds(&words, 1, 0, 64, 2, &mut first, &mut last)?);
 //! assert_eq!((first, last), (1, 3));
+//! assert!(lent::next_run(&words, 1, 0, 64, 4, &mut first, &mut last, &mut next)?);
+//! assert_eq!((first, last, next), (9, 9, 10));
+//! assert!(!lent::next_member(&words, 1, 0, 64, 10, &mut first, &mut next)?);
+//! assert_eq!(lent::count(&words, lent::PEOPLE_MOST + 1, 0, 64), Err(Refusal::Count));
 //! assert_eq!(lent::count(&words[..15], 1, 0, 64), Err(Refusal::ShortBuffer));
+//! # Ok::<(), Refusal>(())
+//! ```
+//!
+//! Slots: two hours of which person 1 can do the second.
+//!
+//! ```
+//! use boltraven::lent;
+//!
+//! let (mut whose, mut froms, mut tos) = ([0; 2], [0; lent::SLOTS_MOST], [0; lent::SLOTS_MOST]);
+//! assert_eq!(lent::merged_ranges(2, 2, &[1, 1], &[60, 90], &[90, 180], &mut whose, &mut froms, &mut tos)?, 1);
+//! assert_eq!((whose[0], froms[0], tos[0]), (1, 60, 180));
+//! let slots = lent::atomise(1, &[0], &[120], 2, 2, &[0, 1], &[0, 60], &[120, 180], &mut froms, &mut tos)?;
+//! assert_eq!((slots, &froms[..2], &tos[..2]), (2, &[0, 60][..], &[60, 120][..]));
+//!
+//! let (mut avail, mut frozen, mut list, mut out) = ([0; 32], [0; 16], [0; 2], 0);
+//! lent::availability(2, slots, &froms, &tos, 2, &[0, 1], &[0, 60], &[120, 180], &mut avail)?;
+//! assert_eq!((avail[0], avail[16]), (0b11, 0b10));
+//! assert!(!lent::is_available(2, slots, &avail, 1, 0)?);
+//! assert_eq!((lent::slot_domain(&avail, 2, slots, 1, &mut list)?, list), (2, [0, 1]));
+//! assert_eq!((lent::freeze_before(slots, &froms, &tos, &mut frozen, 60)?, frozen[0]), (1, 0b1));
+//! lent::demand(slots, &froms, &tos, &mut out)?;
+//! assert_eq!(out, 120);
+//! lent::slot_minutes(slots, &froms, &tos, 1, &mut out)?;
+//! assert_eq!(out, 60);
+//!
+//! let mut targets = [0; 2];
+//! lent::compute_targets(2, slots, &froms, &tos, &avail, &[1.0, 1.0], &[0, 0], 0, &mut targets)?;
+//! assert_eq!(targets, [80, 40]);
+//! # Ok::<(), boltraven::Refusal>(())
+//! ```
+//!
+//! Units: a Sunday and a Monday, in weeks from Monday on (boundary 1, mask 1), held whole (lock 1).
+//!
+//! ```
+//! use boltraven::lent;
+//!
+//! let (starts, ends) = ([4320, 5760], [4380, 5820]);
+//! assert_eq!(lent::weekday_of(lent::date_of(starts[1])), 0);
+//! let mut firsts = [0; 2];
+//! assert_eq!(lent::rotation_starts(0, 1, 1, 1, 7, 2, &starts, &ends, &mut firsts)?, 2);
+//! let units = lent::unit_starts(0, 1, 1, 1, 7, 2, &starts, &ends, &mut firsts)?;
+//! assert_eq!((units, firsts), (2, [0, 1]));
+//! assert_eq!(lent::unit_of_slot(2, units, &firsts, 1)?, 1);
+//! let (mut from, mut to) = (0, 0);
+//! lent::unit_slots(2, units, &firsts, 1, &mut from, &mut to)?;
+//! assert_eq!((from, to), (1, 2));
+//!
+//! // Person 0 is there for both, person 1 for the first; the first is frozen.
+//! let (mut avail, mut frozen) = ([0; 32], [0; 16]);
+//! (avail[0], avail[16], frozen[0]) = (0b11, 0b01, 0b1);
+//! let (mut list, mut masks) = ([0; 2], [0; 2]);
+//! assert_eq!((lent::unit_domain(&avail, 2, 2, units, &firsts, 1, &mut list)?, list[0]), (1, 0));
+//! lent::unit_domains(&avail, 2, 2, units, &firsts, &mut masks)?;
+//! assert_eq!(masks, [0b11, 0b01]);
+//! assert!(lent::unit_frozen(&frozen, 2, units, &firsts, 0)?);
+//!
+//! assert_eq!(lent::covered_days(2, &starts, &ends)?, 2);
+//! let mut out = 0;
+//! lent::minutes_per_day(2, &starts, &ends, &mut out)?;
+//! assert_eq!(out, 60);
+//! lent::target_run(0, 1, 1, 1, 7, 2, &starts, &ends, &mut out)?;
+//! assert_eq!(out, 420);
+//! lent::achievable_run(0, 1, 1, 1, 7, &avail, 2, 1, 2, &starts, &ends, &mut out)?;
+//! assert_eq!(out, 60);
+//! # Ok::<(), boltraven::Refusal>(())
+//! ```
+//!
+//! A rota: its owners, sets and minutes; and a whole job.
+//!
+//! ```
+//! use boltraven::{lent, Draw, Refusal, LISTING_MOST};
+//!
+//! let (starts, ends, firsts, frozen) = ([0, 60], [60, 120], [0, 1], [0; 16]);
+//! let (mut avail, mut owners, mut sets, mut minutes) = ([0; 32], [0; 2], [0; 32], [0; 2]);
+//! (avail[0], avail[16]) = (0b11, 0b10);
+//! lent::empty(2, 2, &mut owners, &mut sets, &mut minutes)?;
+//! assert_eq!((owners, lent::unassigned_count(2, 2, &owners)?), ([lent::NOBODY; 2], 2));
+//! lent::assign(2, 2, &starts, &ends, &avail, &mut owners, &mut sets, &mut minutes, 0, 0)?;
+//! let mut out = 0;
+//! lent::uncovered_minutes(2, 2, &starts, &ends, &owners, &mut out)?;
+//! assert_eq!(out, 60);
+//!
+//! owners = [0, 0];
+//! lent::from_slots(2, 2, &starts, &ends, &avail, &owners, &mut sets, &mut minutes)?;
+//! let mut answers = [9; 1];
+//! lent::play(
+//!     2, 2, 2, 1, &starts, &ends, &avail, &firsts, &frozen, &mut owners, &mut sets, &mut minutes, &[0], &[1], &[1], &mut answers
+//! )?;
+//! assert_eq!((answers, owners, lent::owner_of_slot(2, 2, &owners, 1)?), ([0], [0, 1], 1));
+//! let draws = [Draw { draw: 0, first: 1, second: 0 }];
+//! lent::play_draws(
+//!     2, 2, 2, 1, &starts, &ends, &avail, &firsts, &frozen, &mut owners, &mut sets, &mut minutes, &draws, &mut answers
+//! )?;
+//! assert_eq!((answers, owners), ([0], [0, 0]));
+//! lent::minutes_of(2, &minutes, 0, &mut out)?;
+//! assert_eq!(out, 120);
+//!
+//! minutes[0] = 7;
+//! let units = lent::recount(2, 2, 2, &starts, &ends, &avail, &firsts, &owners, &sets, &minutes);
+//! let slots = lent::recount_slots(2, 2, &starts, &ends, &avail, &owners, &sets, &minutes);
+//! assert_eq!((units, slots), (Err(Refusal::Recount), Err(Refusal::Recount)));
+//!
+//! let mut listing = vec![0; LISTING_MOST];
+//! assert_eq!(lent::run_job(b"no job", &mut listing, &mut out), Err(Refusal::JobFile));
+//! assert!(lent::version() >= 100);
+//! # Ok::<(), Refusal>(())
 //! ```
 #![allow(clippy::too_many_arguments)]
 
@@ -333,6 +455,11 @@ exports! {
     pub fn uncovered_minutes(
         people: usize, slots: usize, starts: &[u32], ends: &[u32], owners: &[u8], out: &mut u64
     ) -> Result<(), Refusal> = done(u8);
+
+    // ---- the library itself
+
+    /// The library's version: ten thousand times the major number, a hundred times the minor one, and the patch.
+    pub fn version() -> u32 = plain(u32);
 
     // ---- a whole job
 

@@ -33,6 +33,7 @@ mod assignment;
 mod availability;
 mod exports;
 mod job;
+mod job_text;
 pub mod lent;
 mod problem;
 mod refusal;
@@ -41,10 +42,12 @@ mod settings;
 mod slots;
 mod targets;
 mod units;
+mod weekdays;
 
 pub use assignment::{Answer, Assignment, Draw};
 pub use availability::Availability;
 pub use job::{run_job, Job, LISTING_MOST};
+pub use job_text::JobTextError;
 pub use problem::Problem;
 pub use refusal::{NoRefusal, Refusal};
 pub use set::{Members, Runs, SlotSet};
@@ -52,17 +55,31 @@ pub use settings::{Boundary, Fairness, Settings};
 pub use slots::{merged_ranges, Range, Slot, Slots};
 pub use targets::{compute_targets, Person};
 pub use units::Units;
+pub use weekdays::{NoWeekday, Weekday, Weekdays};
+
+/// The version of this package. The library's own is [`lent::version`], which is to be the same.
+///
+/// ```
+/// let numbers: Vec<u32> = boltraven::VERSION.split('.').map(str::parse).collect::<Result<_, _>>()?;
+/// assert_eq!(boltraven::lent::version(), numbers[0] * 10_000 + numbers[1] * 100 + numbers[2]);
+/// # Ok::<(), std::num::ParseIntError>(())
+/// ```
+pub const VERSION: &str = env!("CARGO_PKG_VERSION");
 
 /// The date of a minute, in days from 1970-01-01 on.
+///
+/// ```
+/// assert_eq!((boltraven::date_of(1439), boltraven::date_of(1440)), (0, 1));
+/// ```
 pub fn date_of(minute: u32) -> u32 {
     lent::date_of(minute)
 }
 
-/// The weekday of a date, 0 for Monday.
+/// The weekday of a date.
 ///
 /// ```
-/// assert_eq!(boltraven::weekday_of(boltraven::date_of(0)), 3);
+/// assert_eq!(boltraven::weekday_of(4), boltraven::Weekday::Monday);
 /// ```
-pub fn weekday_of(date: u32) -> u32 {
-    lent::weekday_of(date)
+pub fn weekday_of(date: u32) -> Weekday {
+    Weekday::of_number(lent::weekday_of(date))
 }

@@ -19,17 +19,28 @@ use crate::units::Units;
 /// let people = [Person { capacity: 1.0, prior: 0 }; 2];
 /// let ranges = [Range { person: 0, start: 0, end: 120 }, Range { person: 1, start: 60, end: 180 }];
 /// let mut problem = Problem::build(Settings::default(), &base, &people, &ranges)?;
-/// assert_eq!(problem.unit_domain(1)?, [0, 1]);
+/// assert_eq!((problem.slot_count(), problem.human_count(), problem.settings()), (2, 2, Settings::default()));
+/// assert_eq!((problem.slots().get(1), problem.slot_minutes(1)?), (Some(Slot { start: 60, end: 120 }), 60));
+/// assert_eq!((problem.total_demand(), problem.targets()), (120, &[80, 40][..]));
+/// assert_eq!((problem.is_available(1, 0)?, problem.availability().people()), (false, 2));
+/// assert_eq!((problem.domain(0)?, problem.unit_domain(1)?), (vec![0], vec![0, 1]));
 /// assert_eq!(problem.unit_domains(), [vec![0], vec![0, 1]]);
-/// assert_eq!(problem.total_demand(), 120);
+///
+/// // Unlocked, each slot is a unit; every slot begins a rotation.
+/// assert_eq!((problem.unit_count(), problem.units().len(), problem.unit_of_slot(1)?), (2, 2, 1));
+/// assert_eq!((problem.rotation_count(), problem.rotations().len(), problem.rotation_slots(1)?), (2, 2, 1..2));
+/// assert_eq!((problem.target_run_minutes(), problem.achievable_run_minutes(1)?), (120, 60));
+///
 /// assert_eq!(problem.freeze_before(60), 1);
-/// assert!(problem.is_unit_frozen(0)?);
+/// assert!(problem.is_unit_frozen(0)? && !problem.is_frozen(1));
+/// problem.freeze(1)?;
+/// assert_eq!(problem.frozen().count(), 2);
 ///
 /// let unknown = [Range { person: 2, start: 0, end: 1 }];
 /// assert_eq!(Problem::build(Settings::default(), &base, &people, &unknown).err(), Some(Refusal::Range));
 /// # Ok::<(), Refusal>(())
 /// ```
-#[derive(Debug, Clone, PartialEq, Eq)]
+#[derive(Debug, Clone, PartialEq, Eq, Hash)]
 pub struct Problem {
     settings: Settings,
     slots: Slots,

@@ -13,8 +13,9 @@ macro_rules! refusals {
         /// use boltraven::Refusal;
         ///
         /// assert_eq!(Refusal::Unavailable.number(), 12);
+        /// assert_eq!(Refusal::Unavailable.sentence(), "A person is to get a slot for which they aren't available.");
         /// assert_eq!(Refusal::try_from(12), Ok(Refusal::Unavailable));
-        /// assert!(Refusal::try_from(14).is_err());
+        /// assert_eq!((Refusal::ALL.len(), Refusal::ALL[0]), (13, Refusal::Count));
         /// ```
         #[derive(Debug, Clone, Copy, PartialEq, Eq, PartialOrd, Ord, Hash)]
         #[repr(u8)]
@@ -83,7 +84,13 @@ impl TryFrom<u8> for Refusal {
 }
 
 /// A number that is no refusal's.
-#[derive(Debug, Clone, Copy, PartialEq, Eq)]
+///
+/// ```
+/// use boltraven::{NoRefusal, Refusal};
+///
+/// assert_eq!(Refusal::try_from(14), Err(NoRefusal(14)));
+/// ```
+#[derive(Debug, Clone, Copy, PartialEq, Eq, Hash)]
 pub struct NoRefusal(pub u8);
 
 impl fmt::Display for NoRefusal {

@@ -15,12 +15,21 @@ use crate::refusal::{checked, Refusal};
 ///     set.insert(slot)?;
 /// }
 /// assert_eq!(set.run_bounds(64), Some((60, 69)));
-/// assert_eq!(set.runs().collect::<Vec<_>>(), [(60, 69)]);
 /// assert_eq!(set.insert(70), Err(Refusal::Unknown));
+/// set.remove(65)?;
+/// assert_eq!((set.len(), set.count(), set.is_empty(), set.contains(65)), (70, 9, false, false));
+/// assert_eq!((set.next_set(65), set.prev_set(65)), (Some(66), Some(64)));
+/// assert_eq!((set.next_unset_after(60), set.prev_unset_before(69)), (Some(65), Some(65)));
+/// assert_eq!(set.words()[1], 0b11_1101);
+///
+/// set.remove_stretch(60..68)?;
+/// set.insert_stretch(0..2)?;
+/// assert_eq!(set, SlotSet::from_members(70, [0, 1, 68, 69])?);
+/// assert_eq!(SlotSet::from_row(set.words(), 1, 0, 70)?, set);
 /// assert_eq!(SlotSet::new(1025).err(), Some(Refusal::Count));
 /// # Ok::<(), Refusal>(())
 /// ```
-#[derive(Clone, PartialEq, Eq)]
+#[derive(Clone, PartialEq, Eq, Hash)]
 pub struct SlotSet {
     words: [u64; SET_WORDS],
     len: usize,
@@ -156,6 +165,15 @@ impl<'a> IntoIterator for &'a SlotSet {
 }
 
 /// A reader of a set's runs.
+///
+/// ```
+/// use boltraven::{Runs, SlotSet};
+///
+/// let set = SlotSet::from_members(9, [0, 1, 8])?;
+/// let runs: Runs = set.runs();
+/// assert_eq!(runs.collect::<Vec<_>>(), [(0, 1), (8, 8)]);
+/// # Ok::<(), boltraven::Refusal>(())
+/// ```
 #[derive(Debug, Clone)]
 pub struct Runs<'a> {
     set: &'a SlotSet,
@@ -184,6 +202,15 @@ impl Iterator for Runs<'_> {
 }
 
 /// A reader of a set's members.
+///
+/// ```
+/// use boltraven::{Members, SlotSet};
+///
+/// let set = SlotSet::from_members(9, [8, 1])?;
+/// let members: Members = set.iter();
+/// assert_eq!(members.collect::<Vec<_>>(), [1, 8]);
+/// # Ok::<(), boltraven::Refusal>(())
+/// ```
 #[derive(Debug, Clone)]
 pub struct Members<'a> {
     set: &'a SlotSet,

@@ -1,7 +1,9 @@
 //! The settings of a problem.
 
+use crate::weekdays::Weekdays;
+
 /// What a person's fair share is measured by.
-#[derive(Debug, Clone, Copy, PartialEq, Eq, Default)]
+#[derive(Debug, Clone, Copy, PartialEq, Eq, Hash, Default)]
 pub enum Fairness {
     /// Capacity times the minutes for which the person is available.
     #[default]
@@ -20,24 +22,25 @@ impl Fairness {
 }
 
 /// Where a new rotation begins.
-#[derive(Debug, Clone, Copy, PartialEq, Eq)]
+#[derive(Debug, Clone, Copy, PartialEq, Eq, Hash)]
 pub enum Boundary {
     /// Every so many slots, at most 1,024; 0 counts as 1.
     EverySlots(u16),
-    /// At a slot that starts on another date than the one before it, on a weekday of this mask; bit 0 is Monday, at most 127.
-    DayOfWeek(u16),
+    /// At a slot that starts on another date than the one before it, on one of these weekdays.
+    DayOfWeek(Weekdays),
 }
 
 /// Fairness, units and rotations, and the length of a shift.
 ///
 /// ```
-/// use boltraven::{Boundary, Fairness, Settings};
+/// use boltraven::{Boundary, Fairness, Settings, Weekday};
 ///
 /// // Whole weeks from Monday on, each held by one person.
-/// let weeks = Settings { lock: true, boundary: Boundary::DayOfWeek(0b1), days: 7, ..Settings::default() };
+/// let weeks = Settings { lock: true, boundary: Boundary::DayOfWeek(Weekday::Monday.into()), days: 7, ..Settings::default() };
 /// assert_eq!(weeks.fairness, Fairness::Capacity);
+/// assert_eq!(Settings::default().boundary, Boundary::EverySlots(1));
 /// ```
-#[derive(Debug, Clone, Copy, PartialEq, Eq)]
+#[derive(Debug, Clone, Copy, PartialEq, Eq, Hash)]
 pub struct Settings {
     /// What a fair share is measured by.
     pub fairness: Fairness,
@@ -84,7 +87,7 @@ impl Settings {
     pub(crate) fn numbers(self) -> Numbers {
         let (boundary, value) = match self.boundary {
             Boundary::EverySlots(count) => (0, count),
-            Boundary::DayOfWeek(mask) => (1, mask),
+            Boundary::DayOfWeek(days) => (1, days.mask()),
         };
         Numbers {
             fairness: self.fairness.number(),

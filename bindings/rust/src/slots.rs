@@ -6,7 +6,7 @@ use crate::set::SlotSet;
 use crate::settings::{with_settings, Settings};
 
 /// A stretch of minutes to be covered, without its end.
-#[derive(Debug, Clone, Copy, PartialEq, Eq)]
+#[derive(Debug, Clone, Copy, PartialEq, Eq, Hash)]
 pub struct Slot {
     /// Its first minute.
     pub start: u32,
@@ -15,7 +15,7 @@ pub struct Slot {
 }
 
 /// A stretch of minutes for which a person is available, without its end.
-#[derive(Debug, Clone, Copy, PartialEq, Eq)]
+#[derive(Debug, Clone, Copy, PartialEq, Eq, Hash)]
 pub struct Range {
     /// The person's number.
     pub person: usize,
@@ -79,16 +79,18 @@ pub fn merged_ranges(people: usize, ranges: &[Range]) -> Result<Vec<Range>, Refu
 /// Slots that keep the rule of slots: none empty or reversed, none after minute 100,000,000, none before the previous one's end.
 ///
 /// ```
-/// use boltraven::{Refusal, Slot, Slots};
+/// use boltraven::{Refusal, Settings, Slot, Slots};
 ///
 /// let slots = Slots::new(&[Slot { start: 0, end: 60 }, Slot { start: 1440, end: 1500 }])?;
 /// assert_eq!((slots.demand(), slots.minutes(1)), (120, Ok(60)));
-/// assert_eq!(slots.covered_days(), 2);
-/// assert_eq!(slots.minutes_per_day(), 60);
+/// assert_eq!((slots.len(), slots.get(1)), (2, Some(Slot { start: 1440, end: 1500 })));
+/// assert_eq!((slots.starts(), slots.ends()), (&[0, 1440][..], &[60, 1500][..]));
+/// assert_eq!((slots.covered_days(), slots.minutes_per_day()), (2, 60));
+/// assert_eq!(slots.target_run_minutes(Settings { days: 7, ..Settings::default() })?, 420);
 /// assert_eq!(Slots::new(&[Slot { start: 5, end: 5 }]).err(), Some(Refusal::Slots));
 /// # Ok::<(), Refusal>(())
 /// ```
-#[derive(Debug, Clone, PartialEq, Eq)]
+#[derive(Debug, Clone, PartialEq, Eq, Hash)]
 pub struct Slots {
     starts: Vec<u32>,
     ends: Vec<u32>,

@@ -15,17 +15,22 @@ type StartsOf = fn(u8, u8, u8, u16, u16, usize, &[u32], &[u32], &mut [u16]) -> R
 /// Slots in neighbouring stretches: rotations, or the units that a play moves whole.
 ///
 /// ```
-/// use boltraven::{Boundary, Settings, Slot, Slots, Units};
+/// use boltraven::{Boundary, Settings, Slot, SlotSet, Slots, Units, Weekday};
 ///
 /// // Two shifts of Sunday and two of Monday, in weeks from Monday on.
 /// let shifts = [4320, 5040, 5760, 6480].map(|start| Slot { start, end: start + 720 });
-/// let weeks = Settings { lock: true, boundary: Boundary::DayOfWeek(1), ..Settings::default() };
+/// let weeks = Settings { lock: true, boundary: Boundary::DayOfWeek(Weekday::Monday.into()), ..Settings::default() };
 /// let units = Units::new(weeks, &Slots::new(&shifts)?)?;
 /// assert_eq!(units.iter().collect::<Vec<_>>(), [0..2, 2..4]);
+/// assert_eq!((units.len(), units.firsts()), (2, &[0, 2][..]));
 /// assert_eq!((units.slots(1)?, units.of_slot(3)?), (2..4, 1));
+/// assert_eq!(Units::rotations(weeks, &Slots::new(&shifts)?)?, units);
+///
+/// let frozen = SlotSet::from_members(4, [0])?;
+/// assert!(units.is_frozen(&frozen, 0)? && !units.is_frozen(&frozen, 1)?);
 /// # Ok::<(), boltraven::Refusal>(())
 /// ```
-#[derive(Debug, Clone, PartialEq, Eq)]
+#[derive(Debug, Clone, PartialEq, Eq, Hash)]
 pub struct Units {
     firsts: Vec<u16>,
     slots: usize,

@@ -27,6 +27,11 @@ fn every_refusal_has_its_number_and_sentence() {
     }
     assert!(Refusal::try_from(0).is_err());
     assert!(Refusal::try_from(14).is_err());
+    let row = |refusal: &Refusal| format!("{}\t{refusal:?}\t{}\n", refusal.number(), refusal.sentence());
+    assert_eq!(
+        Refusal::ALL.iter().map(row).collect::<String>(),
+        include_str!("../../../tools/refusals.txt")
+    );
 }
 
 #[test]

@@ -2,6 +2,7 @@
 
 use boltraven::{
     Answer, Assignment, Availability, Boundary, Draw, Fairness, Job, Person, Problem, Range, Refusal, Settings, Slot, SlotSet, Slots,
+    Weekday,
 };
 
 const ONE: Person = Person { capacity: 1.0, prior: 0 };
@@ -59,7 +60,7 @@ fn figures_and_settings_are_refused() {
         ..ONE
     };
     let far = Settings {
-        boundary: Boundary::DayOfWeek(128),
+        boundary: Boundary::EverySlots(1025),
         ..Settings::default()
     };
     let long = Settings {
@@ -185,4 +186,80 @@ fn sets_end_at_their_length() {
     assert!(set.is_empty());
     let none = SlotSet::new(0).expect("a set of no slots");
     assert_eq!((none.next_set(0), none.prev_set(0), none.run_bounds(0)), (None, None, None));
+}
+
+#[test]
+fn jobs_from_text_are_listed_as_the_examples_are() {
+    let folder = std::path::Path::new(env!("CARGO_MANIFEST_DIR")).join("../../examples");
+    let mut count = 0;
+    for entry in std::fs::read_dir(folder).expect("the examples are there") {
+        let path = entry.expect("a file").path();
+        if path.extension().is_some_and(|kind| kind == "txt") {
+            let job: Job = std::fs::read_to_string(&path)
+                .expect("it can be read")
+                .parse()
+                .expect("a job's text");
+            let due = std::fs::read_to_string(path.with_extension("listing")).expect("its listing is there");
+            let listing = job.run().unwrap_or_else(|refusal| format!("R {}\n", refusal.number()));
+            assert_eq!(listing, due, "{}", path.display());
+            count += 1;
+        }
+    }
+    assert!(count >= 3, "{count} examples were found");
+}
+
+#[test]
+fn text_that_is_no_job_is_told_by_its_line() {
+    const SETTINGS: &str = "\u{feff}settings fairness 1 lock 1 weekdays mon,thu days 7 # weeks\n";
+    let wrong = |lines: &str| {
+        let text = format!("{SETTINGS}\n{lines}");
+        text.parse::<Job>().expect_err("it is no job's text").to_string()
+    };
+    let job: Job = SETTINGS.parse().expect("settings alone are a text");
+    assert_eq!(
+        job.settings.boundary,
+        Boundary::DayOfWeek([Weekday::Monday, Weekday::Thursday].into())
+    );
+    assert_eq!(
+        "base 0 1".parse::<Job>().unwrap_err().to_string(),
+        "line 1: a job begins with its settings"
+    );
+    assert_eq!("# nothing\n".parse::<Job>().unwrap_err().line, 1);
+    assert_eq!(
+        wrong("settings fairness 1 lock 1 every 1 days 1"),
+        "line 3: 'settings' is given twice"
+    );
+    assert_eq!(wrong("person 1 0\nbase 0 1"), "line 4: 'base' stands after 'person'");
+    assert_eq!(wrong("freeze 1\nfreeze 1"), "line 4: 'freeze' is given twice");
+    assert_eq!(wrong("base 0 1 2"), "line 3: '2' is too much");
+    assert_eq!(wrong("base 0"), "line 3: a time is missing");
+    assert_eq!(wrong("base 0 4294967296"), "line 3: a time is too large: 4294967296");
+    assert_eq!(
+        wrong("base 0 1970-02-29T00:00"),
+        "line 3: '1970-02-29T00:00' is no date like 1970-01-04T22:00"
+    );
+    assert_eq!(wrong("shift 0 1"), "line 3: no record of a job is called 'shift'");
+    let settings = |words: &str| format!("settings {words}").parse::<Job>().unwrap_err().what;
+    assert_eq!(settings("fairness 2 lock 0 every 1 days 1"), "fairness is to be 0 or 1, not '2'");
+    assert_eq!(
+        settings("fairness 0 lock 0 every 1 weekdays mon days 1"),
+        "every or weekdays is given twice"
+    );
+    assert_eq!(settings("fairness 0 lock 0 days 1"), "settings lack every or weekdays");
+    assert_eq!(
+        settings("fairness 0 lock 0 weekdays 128 days 1"),
+        "the weekdays are to be below 128, not 128"
+    );
+
+    // A leap day, a hexadecimal number, a capacity by its bits, and nobody.
+    let lines = "base 1972-02-29T00:30 0x112b20\nperson bits 0x3fe0000000000000 0\nowner 0 -\nowner 1 255\n";
+    let job: Job = format!("{SETTINGS}{lines}").parse().expect("a job's text");
+    assert_eq!(
+        job.base,
+        [Slot {
+            start: (365 * 2 + 59) * 1440 + 30,
+            end: 0x0011_2b20
+        }]
+    );
+    assert_eq!((job.people[0].capacity, job.owners), (0.5, vec![(0, None), (1, None)]));
 }

@@ -15,6 +15,10 @@ use Rattle.slotset.specs.declared.NextRun.the-variants as nextRun
 use Rattle.slotset.specs.declared.NextMember.{NextMember}
 use Rattle.slotset.specs.declared.NextMember.the-variants as nextMember
 
+-- the version 0.1.0: ten thousand times 0, a hundred times 1, and 0
+abbrev pub versionNumber : ℕ
+versionNumber = 100
+
 -- a slot: its index
 abbrev pub foundNumber : Found → ℕ
 foundNumber (found.At i) = i

@@ -15,6 +15,7 @@ mod rotations;
 mod sets;
 mod shares;
 mod splitting;
+mod version;
 
 ghost use mathlib.Core.Path.{_≡_};
 ghost use Prim.Native.Nat.{_+_};

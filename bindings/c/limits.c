@@ -1,0 +1,313 @@
+/* Every exported function, called with a problem at the component's limits.
+   limits names: their names, a line each.
+   limits stack: how deep each goes on the stack, in bytes, measured on a stack that is painted before the call.
+   limits threads: eight threads of 512 KiB at a time, each calling all of them, and answering as one alone does. */
+#define _GNU_SOURCE
+#include <pthread.h>
+#include <stdio.h>
+#include <stdlib.h>
+#include <string.h>
+
+#include "boltraven.h"
+
+enum {
+    PEOPLE = BOLTRAVEN_PEOPLE_MOST,
+    SLOTS = BOLTRAVEN_SLOTS_MOST,
+    RANGES = BOLTRAVEN_RANGES_MOST,
+    DRAWS = BOLTRAVEN_DRAWS_MOST,
+    SET = BOLTRAVEN_SET_WORDS,
+    WORDS = PEOPLE * SET,
+    BASES = 992,
+    LENT_STACK = 4 << 20,
+    THREAD_STACK = 512 << 10,
+    THREADS = 8,
+    ROUNDS = 3
+};
+
+/* All that is lent, read or written: each thread has its own. */
+struct room {
+    uint32_t base_starts[BASES], base_ends[BASES], opens[RANGES], shuts[RANGES], starts[SLOTS], ends[SLOTS], froms[SLOTS], tos[SLOTS];
+    uint32_t priors[PEOPLE], masks[SLOTS];
+    uint64_t avail[WORDS], sets[WORDS], frozen[SET], minutes[PEOPLE], first, last, next, slots, units;
+    int64_t targets[PEOPLE];
+    double capacities[PEOPLE];
+    struct boltraven_draw draws[DRAWS];
+    uint16_t persons[RANGES], whose[RANGES], firsts[SLOTS], kinds[DRAWS], ones[DRAWS], twos[DRAWS];
+    uint8_t owners[SLOTS], list[PEOPLE], answers[DRAWS], file[BOLTRAVEN_FILE_MOST], listing[BOLTRAVEN_LISTING_MOST];
+    size_t file_len;
+};
+
+/* ---- a call of each: weeks held whole, person 31, the last slot or unit */
+
+#define CALL(name) static uint64_t call_##name(struct room *r)
+
+CALL(version) { (void)r; return boltraven_version(); }
+CALL(contains) { return boltraven_contains(r->avail, WORDS, PEOPLE, PEOPLE - 1, r->slots, r->slots - 2); }
+CALL(is_empty) { return boltraven_is_empty(r->avail, WORDS, PEOPLE, PEOPLE - 1, r->slots); }
+CALL(count) { return boltraven_count(r->avail, WORDS, PEOPLE, PEOPLE - 1, r->slots); }
+CALL(next_set) { return boltraven_next_set(r->avail, WORDS, PEOPLE, PEOPLE - 1, r->slots, 0); }
+CALL(prev_set) { return boltraven_prev_set(r->avail, WORDS, PEOPLE, PEOPLE - 1, r->slots, r->slots); }
+CALL(next_unset_after) { return boltraven_next_unset_after(r->avail, WORDS, PEOPLE, PEOPLE - 1, r->slots, 0); }
+CALL(prev_unset_before) { return boltraven_prev_unset_before(r->avail, WORDS, PEOPLE, PEOPLE - 1, r->slots, r->slots); }
+CALL(run_bounds) { return boltraven_run_bounds(r->avail, WORDS, PEOPLE, PEOPLE - 1, r->slots, 500, &r->first, &r->last); }
+CALL(next_run) { return boltraven_next_run(r->avail, WORDS, PEOPLE, PEOPLE - 1, r->slots, 500, &r->first, &r->last, &r->next); }
+CALL(next_member) { return boltraven_next_member(r->avail, WORDS, PEOPLE, PEOPLE - 1, r->slots, 500, &r->first, &r->next); }
+CALL(insert) { return boltraven_insert(r->sets, WORDS, PEOPLE, PEOPLE - 1, r->slots, r->slots - 1); }
+CALL(remove) { return boltraven_remove(r->avail, WORDS, PEOPLE, PEOPLE - 1, r->slots, 0); }
+CALL(put_stretch) { return boltraven_put_stretch(r->sets, WORDS, PEOPLE, PEOPLE - 1, r->slots, 1, r->slots, true); }
+CALL(date_of) { return boltraven_date_of(r->starts[1000]); }
+CALL(weekday_of) { return boltraven_weekday_of(r->starts[1000] / 1440); }
+CALL(merged_ranges) {
+    return boltraven_merged_ranges(PEOPLE, RANGES, r->persons, RANGES, r->opens, RANGES, r->shuts, RANGES, r->whose, RANGES, r->froms,
+                                   RANGES, r->tos, RANGES);
+}
+CALL(atomise) {
+    return boltraven_atomise(BASES, r->base_starts, BASES, r->base_ends, BASES, PEOPLE, RANGES, r->persons, RANGES, r->opens, RANGES,
+                             r->shuts, RANGES, r->froms, SLOTS, r->tos, SLOTS);
+}
+CALL(availability) {
+    return boltraven_availability(PEOPLE, r->slots, r->starts, SLOTS, r->ends, SLOTS, RANGES, r->persons, RANGES, r->opens, RANGES,
+                                  r->shuts, RANGES, r->sets, WORDS);
+}
+CALL(is_available) { return boltraven_is_available(PEOPLE, r->slots, r->avail, WORDS, PEOPLE - 1, r->slots - 1); }
+CALL(slot_domain) { return boltraven_slot_domain(r->avail, WORDS, PEOPLE, r->slots, r->slots - 2, r->list, PEOPLE); }
+CALL(slot_minutes) { return boltraven_slot_minutes(r->slots, r->starts, SLOTS, r->ends, SLOTS, r->slots - 1, &r->first); }
+CALL(demand) { return boltraven_demand(r->slots, r->starts, SLOTS, r->ends, SLOTS, &r->first); }
+CALL(freeze_before) { return boltraven_freeze_before(r->slots, r->starts, SLOTS, r->ends, SLOTS, r->frozen, SET, 1440 * 500); }
+CALL(rotation_starts) { return boltraven_rotation_starts(0, 1, 1, 1, 7, r->slots, r->starts, SLOTS, r->ends, SLOTS, r->firsts, SLOTS); }
+CALL(unit_starts) { return boltraven_unit_starts(0, 1, 1, 1, 7, r->slots, r->starts, SLOTS, r->ends, SLOTS, r->firsts, SLOTS); }
+CALL(unit_slots) { return boltraven_unit_slots(r->slots, r->units, r->firsts, SLOTS, r->units - 1, &r->first, &r->last); }
+CALL(unit_of_slot) { return boltraven_unit_of_slot(r->slots, r->units, r->firsts, SLOTS, r->slots - 1); }
+CALL(unit_domain) { return boltraven_unit_domain(r->avail, WORDS, PEOPLE, r->slots, r->units, r->firsts, SLOTS, 1, r->list, PEOPLE); }
+CALL(unit_domains) { return boltraven_unit_domains(r->avail, WORDS, PEOPLE, r->slots, r->units, r->firsts, SLOTS, r->masks, SLOTS); }
+CALL(unit_frozen) { return boltraven_unit_frozen(r->frozen, SET, r->slots, r->units, r->firsts, SLOTS, r->units - 1); }
+CALL(covered_days) { return boltraven_covered_days(r->slots, r->starts, SLOTS, r->ends, SLOTS); }
+CALL(minutes_per_day) { return boltraven_minutes_per_day(r->slots, r->starts, SLOTS, r->ends, SLOTS, &r->first); }
+CALL(target_run) { return boltraven_target_run(0, 1, 1, 1, 7, r->slots, r->starts, SLOTS, r->ends, SLOTS, &r->first); }
+CALL(achievable_run) {
+    return boltraven_achievable_run(0, 1, 1, 1, 7, r->avail, WORDS, PEOPLE, PEOPLE - 1, r->slots, r->starts, SLOTS, r->ends, SLOTS,
+                                    &r->first);
+}
+CALL(compute_targets) {
+    return boltraven_compute_targets(PEOPLE, r->slots, r->starts, SLOTS, r->ends, SLOTS, r->avail, WORDS, r->capacities, PEOPLE, r->priors,
+                                     PEOPLE, 0, r->targets, PEOPLE);
+}
+CALL(empty) { return boltraven_empty(PEOPLE, r->slots, r->owners, SLOTS, r->sets, WORDS, r->minutes, PEOPLE); }
+CALL(from_slots) {
+    return boltraven_from_slots(PEOPLE, r->slots, r->starts, SLOTS, r->ends, SLOTS, r->avail, WORDS, r->owners, SLOTS, r->sets, WORDS,
+                                r->minutes, PEOPLE);
+}
+CALL(assign) {
+    return boltraven_assign(PEOPLE, r->slots, r->starts, SLOTS, r->ends, SLOTS, r->avail, WORDS, r->owners, SLOTS, r->sets, WORDS,
+                            r->minutes, PEOPLE, r->slots - 3, PEOPLE - 1);
+}
+CALL(owner_of_slot) { return boltraven_owner_of_slot(PEOPLE, r->slots, r->owners, SLOTS, r->slots - 1); }
+CALL(minutes_of) { return boltraven_minutes_of(PEOPLE, r->minutes, PEOPLE, PEOPLE - 1, &r->first); }
+CALL(unassigned_count) { return boltraven_unassigned_count(PEOPLE, r->slots, r->owners, SLOTS); }
+CALL(uncovered_minutes) {
+    return boltraven_uncovered_minutes(PEOPLE, r->slots, r->starts, SLOTS, r->ends, SLOTS, r->owners, SLOTS, &r->first);
+}
+CALL(recount) {
+    return boltraven_recount(PEOPLE, r->slots, r->units, r->starts, SLOTS, r->ends, SLOTS, r->avail, WORDS, r->firsts, SLOTS, r->owners,
+                             SLOTS, r->sets, WORDS, r->minutes, PEOPLE);
+}
+CALL(recount_slots) {
+    return boltraven_recount_slots(PEOPLE, r->slots, r->starts, SLOTS, r->ends, SLOTS, r->avail, WORDS, r->owners, SLOTS, r->sets, WORDS,
+                                   r->minutes, PEOPLE);
+}
+CALL(play) {
+    return boltraven_play(PEOPLE, r->slots, r->units, DRAWS, r->starts, SLOTS, r->ends, SLOTS, r->avail, WORDS, r->firsts, SLOTS,
+                          r->frozen, SET, r->owners, SLOTS, r->sets, WORDS, r->minutes, PEOPLE, r->kinds, DRAWS, r->ones, DRAWS, r->twos,
+                          DRAWS, r->answers, DRAWS);
+}
+CALL(play_draws) {
+    return boltraven_play_draws(PEOPLE, r->slots, r->units, DRAWS, r->starts, SLOTS, r->ends, SLOTS, r->avail, WORDS, r->firsts, SLOTS,
+                                r->frozen, SET, r->owners, SLOTS, r->sets, WORDS, r->minutes, PEOPLE, r->draws, DRAWS, r->answers, DRAWS);
+}
+CALL(run_job) { return boltraven_run_job(r->file, r->file_len, r->listing, BOLTRAVEN_LISTING_MOST, &r->first); }
+
+/* Each by its name. None may be refused, since the deepest way goes through the work: `most` is the largest answer that is no refusal. */
+static const struct {
+    const char *name;
+    uint64_t (*call)(struct room *);
+    uint64_t most;
+} calls[] = {
+#define NUMBER(name) {"boltraven_" #name, call_##name, BOLTRAVEN_NOTHING - 1}
+#define DONE(name) {"boltraven_" #name, call_##name, 0}
+    NUMBER(version), NUMBER(contains), NUMBER(is_empty), NUMBER(count), NUMBER(next_set), NUMBER(prev_set), NUMBER(next_unset_after),
+    NUMBER(prev_unset_before), DONE(run_bounds), DONE(next_run), DONE(next_member), DONE(insert), DONE(remove), DONE(put_stretch),
+    NUMBER(date_of), NUMBER(weekday_of), NUMBER(merged_ranges), NUMBER(atomise), DONE(availability), NUMBER(is_available),
+    NUMBER(slot_domain), DONE(slot_minutes), DONE(demand), NUMBER(freeze_before), NUMBER(rotation_starts), NUMBER(unit_starts),
+    DONE(unit_slots), NUMBER(unit_of_slot), NUMBER(unit_domain), DONE(unit_domains), NUMBER(unit_frozen), NUMBER(covered_days),
+    DONE(minutes_per_day), DONE(target_run), DONE(achievable_run), DONE(compute_targets), DONE(empty), DONE(from_slots), DONE(assign),
+    NUMBER(owner_of_slot), DONE(minutes_of), NUMBER(unassigned_count), DONE(uncovered_minutes), DONE(recount), DONE(recount_slots),
+    DONE(play), DONE(play_draws), DONE(run_job)};
+
+enum { CALLS = sizeof calls / sizeof calls[0] };
+
+/* Ends the program with what is wrong. */
+static void must(int holds, const char *what) {
+    if (holds) return;
+    fprintf(stderr, "limits: %s\n", what);
+    exit(1);
+}
+
+/* ---- the problem: an hour a day, everybody there for all but half an hour in 32 days, which splits a slot */
+
+static struct room made;
+
+static void add(uint16_t kind, const void *body, uint16_t len) {
+    const uint16_t head[2] = {len, kind};
+    must(made.file_len + sizeof head + len <= sizeof made.file, "the file is too long");
+    memcpy(made.file + made.file_len, head, sizeof head);
+    memcpy(made.file + made.file_len + sizeof head, body, len);
+    made.file_len += sizeof head + len;
+}
+
+static void make_file(void) {
+    const uint8_t settings[8] = {0, 1, 1, 0, 1, 0, 7, 0};
+    const uint32_t freeze = 1440 * 100;
+    add(1, settings, sizeof settings);
+    for (size_t k = 0; k < BASES; k++) add(2, (uint32_t[]){made.base_starts[k], made.base_ends[k]}, 8);
+    for (size_t p = 0; p < PEOPLE; p++) {
+        uint8_t body[12];
+        memcpy(body, &made.capacities[p], 8);
+        memcpy(body + 8, &made.priors[p], 4);
+        add(3, body, sizeof body);
+    }
+    for (size_t k = 0; k < RANGES; k++) {
+        uint8_t body[10];
+        memcpy(body, &made.persons[k], 2);
+        memcpy(body + 2, &made.opens[k], 4);
+        memcpy(body + 6, &made.shuts[k], 4);
+        add(4, body, sizeof body);
+    }
+    add(5, &freeze, sizeof freeze);
+    for (uint16_t k = 0; k < made.slots; k++) add(6, (uint16_t[]){k, made.owners[k]}, 4);
+    for (size_t k = 0; k < DRAWS; k++) add(7, &made.draws[k], 6);
+}
+
+static void make(void) {
+    for (uint32_t k = 0; k < BASES; k++) made.base_starts[k] = 1440 * k, made.base_ends[k] = 1440 * k + 60;
+    for (uint32_t k = 0; k < RANGES; k++) {
+        made.persons[k] = k % PEOPLE;
+        made.opens[k] = 1440 * 32 * (k / PEOPLE);
+        made.shuts[k] = made.opens[k] + 1440 * 31 + 30;
+    }
+    for (size_t p = 0; p < PEOPLE; p++) made.capacities[p] = 0.5 + 0.1 * p, made.priors[p] = 100 * p;
+    struct room *r = &made;
+    made.slots = call_atomise(r);
+    must(made.slots == 1023, "the split makes another number of slots");
+    memcpy(made.starts, made.froms, sizeof made.starts);
+    memcpy(made.ends, made.tos, sizeof made.ends);
+    must(call_availability(r) == 0, "availability is refused");
+    memcpy(made.avail, made.sets, sizeof made.avail);
+    made.units = call_unit_starts(r);
+    must(made.units < BOLTRAVEN_NOTHING && call_unit_domains(r) == 0, "units are refused");
+    for (size_t u = 0, k = 0; u < made.units; u++) {
+        const size_t end = u + 1 < made.units ? made.firsts[u + 1] : made.slots;
+        for (; k < end; k++) made.owners[k] = made.masks[u] ? u % PEOPLE : BOLTRAVEN_NOBODY;
+    }
+    must(call_from_slots(r) == 0, "owners are refused");
+    for (uint16_t k = 0; k < DRAWS; k++) {
+        made.kinds[k] = k % 100, made.ones[k] = 7 * k % made.units, made.twos[k] = k % 3;
+        made.draws[k] = (struct boltraven_draw){made.kinds[k], made.ones[k], made.twos[k]};
+    }
+    make_file();
+}
+
+/* The answer of a call and all that it leaves, as one number. */
+static uint64_t outcome(size_t k, struct room *room) {
+    memcpy(room, &made, sizeof made);
+    uint64_t sum = calls[k].call(room) + 14695981039346656037u;
+    for (size_t at = 0; at + 8 <= sizeof *room; at += 8) {
+        uint64_t word;
+        memcpy(&word, (const uint8_t *)room + at, 8);
+        sum = (sum ^ word) * 1099511628211u;
+    }
+    return sum;
+}
+
+/* ---- the stack */
+
+struct painted {
+    size_t call;
+    uint8_t *stack;
+    struct room room;
+    uint64_t answer;
+    size_t depth;
+};
+
+enum { PAINT = 0xa5, SPARED = 512 };
+
+/* Paints the stack below itself but for a little, calls, and looks how far the paint is gone. */
+static void *on_painted(void *given) {
+    struct painted *job = given;
+    volatile uint8_t *const here = (volatile uint8_t *)__builtin_frame_address(0);
+    volatile uint8_t *at;
+    uint64_t (*const call)(struct room *) = calls[job->call].call;
+    for (at = job->stack; at < here - SPARED; at++) *at = PAINT;
+    job->answer = call(&job->room);
+    for (at = job->stack; *at == PAINT; at++) continue;
+    job->depth = (size_t)(here - at);
+    return NULL;
+}
+
+static void stack(void) {
+    struct painted *job = malloc(sizeof *job);
+    pthread_attr_t attr;
+    must(job != NULL && posix_memalign((void **)&job->stack, 4096, LENT_STACK) == 0 && pthread_attr_init(&attr) == 0, "no memory");
+    must(pthread_attr_setstack(&attr, job->stack, LENT_STACK) == 0, "the stack isn't taken");
+    for (job->call = 0; job->call < CALLS; job->call++) {
+        pthread_t thread;
+        memcpy(&job->room, &made, sizeof made);
+        must(pthread_create(&thread, &attr, on_painted, job) == 0 && pthread_join(thread, NULL) == 0, "no thread");
+        must(job->answer <= calls[job->call].most, calls[job->call].name);
+        printf("%s %zu\n", calls[job->call].name, job->depth);
+    }
+    free(job->stack);
+    free(job);
+}
+
+/* ---- threads */
+
+static uint64_t alone[CALLS];
+
+static void *on_thread(void *given) {
+    struct room *room = given;
+    size_t wrong = 0;
+    for (size_t round = 0; round < ROUNDS; round++)
+        for (size_t k = 0; k < CALLS; k++) wrong += outcome(k, room) != alone[k];
+    return (void *)wrong;
+}
+
+static void threads(void) {
+    pthread_t all[THREADS];
+    pthread_attr_t attr;
+    struct room *rooms = calloc(THREADS, sizeof *rooms);
+    must(rooms != NULL && pthread_attr_init(&attr) == 0 && pthread_attr_setstacksize(&attr, THREAD_STACK) == 0, "no memory");
+    for (size_t k = 0; k < CALLS; k++) alone[k] = outcome(k, rooms);
+    for (size_t t = 0; t < THREADS; t++) must(pthread_create(&all[t], &attr, on_thread, &rooms[t]) == 0, "no thread");
+    size_t wrong = 0;
+    for (size_t t = 0; t < THREADS; t++) {
+        void *of;
+        must(pthread_join(all[t], &of) == 0, "a thread is lost");
+        wrong += (size_t)of;
+    }
+    free(rooms);
+    must(wrong == 0, "threads answer otherwise than one alone");
+    printf("%d threads of %d KiB at a time: %d calls each, of %d functions, answered as alone\n", THREADS, THREAD_STACK >> 10,
+           ROUNDS * CALLS, CALLS);
+}
+
+int main(int count, char **words) {
+    must(count == 2, "usage: limits names | stack | threads");
+    make();
+    if (strcmp(words[1], "names") == 0)
+        for (size_t k = 0; k < CALLS; k++) puts(calls[k].name);
+    else if (strcmp(words[1], "stack") == 0)
+        stack();
+    else
+        threads();
+    return 0;
+}
