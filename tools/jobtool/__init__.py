@@ -1,0 +1,1 @@
+"""What tools/job is made of: the text form of a job, the file's layout, the program's listing, and a picture of it."""
