@@ -1,7 +1,7 @@
 """A rota as one SVG that a planner reads at a glance: people down, time across.
 
-Each run of slots is a row of blocks with its minutes above it; hatched is where somebody is away, grey what is frozen, red what nobody
-holds; minutes stand beside the published targets at the right.
+Each run of slots is a row of blocks with its minutes above it, as far as there is room; hatched is where somebody is away, grey what is
+frozen, red what nobody holds; minutes stand beside the published targets at the right. A browser tells of each block when asked.
 """
 from xml.sax.saxutils import escape
 
@@ -9,9 +9,10 @@ from jobtool import rota, times
 from jobtool.listing import ANSWERS
 from jobtool.times import DAY
 
-LEFT, RIGHT, TOP, ROW, HEAD = 130, 250, 64, 46, 40
-NARROWEST, WIDEST, DAY_WIDTH = 560, 1400, 44
-LETTER = 6.4  # the width of a letter of a run's minutes, at most
+RIGHT, TOP, ROW, HEAD = 250, 64, 46, 40
+NARROWEST, WIDEST, DAY_WIDTH = 560, 1400, 44  # of the time's part; a day's width where that is between the two
+LEAST_DAY, LONGEST = 12, 5000  # a long time is drawn wider, so that days stay apart up to a year and more
+LETTER, SMALL, BOLD = 6.4, 6.2, 8.2  # the width of a letter at most: of a run's minutes, of small text, of a name
 
 STYLE = """
 text { font: 12px "DejaVu Sans", "Segoe UI", Arial, sans-serif; fill: #1d2733; }
@@ -30,6 +31,7 @@ text { font: 12px "DejaVu Sans", "Segoe UI", Arial, sans-serif; fill: #1d2733; }
 .join.hole { stroke: #c8321f; }
 .slot { fill: #2f6fb5; stroke: #ffffff; stroke-width: 0.6; }
 .slot.frozen { fill: #7b8796; }
+.slot.thin { stroke: none; }
 .slot.hole { fill: #fde7e4; stroke: #c8321f; stroke-width: 1.4; }
 .unit { fill: #d9a441; }
 .past { fill: #7b8796; opacity: 0.13; }
@@ -52,12 +54,27 @@ def grouped(n):
 def long_date(minute):
     """As Mon 5 Jan 1970, 22:00."""
     at = times.moment(minute)
+    if at is None:
+        return "minute %s" % grouped(minute)
     return "%s %d %s, %s" % (at.strftime("%a"), at.day, at.strftime("%b %Y"), at.strftime("%H:%M"))
+
+
+def label_of(job, person, names):
+    """What a row says of its person: name, and figures."""
+    capacity, prior = job.people[person]
+    name = names[person] if person < len(names) else "Person %d" % person
+    return name, "capacity %g" % capacity + (", prior %s" % grouped(prior) if prior else "")
+
+
+def counted(n, one, many):
+    return "%s %s" % (grouped(n), one if n == 1 else many)
 
 
 class Picture:
     def __init__(self, name, job, listing, names):
-        self.name, self.job, self.listing, self.names = name, job, listing, names
+        self.name, self.job, self.listing = name, job, listing
+        self.labels = [label_of(job, person.number, names) for person in listing.people]
+        self.left = max([126.0] + [28 + max(BOLD * len(who), SMALL * len(figures)) for who, figures in self.labels])
         slots = listing.slots
         # whole days, or whole hours where all is within a day
         span = slots[-1].end - slots[0].start
@@ -65,14 +82,14 @@ class Picture:
         self.first = slots[0].start // self.step * self.step
         self.last = -(-slots[-1].end // self.step) * self.step
         days = (self.last - self.first) / DAY
-        self.width = min(WIDEST, max(NARROWEST, days * DAY_WIDTH))
+        self.width = max(min(WIDEST, max(NARROWEST, days * DAY_WIDTH)), min(LONGEST, days * LEAST_DAY))
         self.rows = len(listing.people) + (listing.uncovered > 0)
         self.bottom = TOP + HEAD + self.rows * ROW
         self.parts = []
         self.labelled = {}  # up to where each row has a run's minutes, so that no two stand on each other
 
     def svg(self):
-        width, height = LEFT + self.width + RIGHT, self.bottom + 64
+        width, height = self.left + self.width + RIGHT, self.bottom + 64
         self.heading()
         self.calendar()
         for person in self.listing.people:
@@ -89,7 +106,7 @@ class Picture:
     # ---- small parts
 
     def x(self, minute):
-        return LEFT + (min(max(minute, self.first), self.last) - self.first) * self.width / (self.last - self.first)
+        return self.left + (min(max(minute, self.first), self.last) - self.first) * self.width / (self.last - self.first)
 
     def row_top(self, row):
         return TOP + HEAD + row * ROW
@@ -102,7 +119,7 @@ class Picture:
 
     def box(self, kind, start, end, y, height, tip=""):
         """A box over a stretch of time, with what a pointer that rests on it is told."""
-        x, width = self.x(start), max(self.x(end) - self.x(start), 0.8)
+        x, width = self.x(start), max(self.x(end) - self.x(start), 1.5)
         tip = "<title>%s</title>" % escape(tip) if tip else ""
         self.parts.append('<rect class="%s" x="%.2f" y="%.2f" width="%.2f" height="%.2f">%s</rect>' % (kind, x, y, width, height, tip))
 
@@ -115,9 +132,9 @@ class Picture:
     def heading(self):
         slots, answers = self.listing.slots, self.listing.answers
         self.text("title", 14, 26, self.title())
-        told = "%s slots, %d people" % (grouped(len(slots)), len(self.listing.people))
+        told = "%s, %s" % (counted(len(slots), "slot", "slots"), counted(len(self.listing.people), "person", "people"))
         if self.job.lock:
-            told += ", %d units held whole" % len(self.job.unit_starts(slots))
+            told += ", " + counted(len(self.job.unit_starts(slots)), "unit", "units") + " held whole"
         if answers:
             told += "; draws: " + ", ".join("%d %s" % (answers.count(one), one) for one in ANSWERS.values())
         self.text("small", 14, 44, told)
@@ -130,27 +147,33 @@ class Picture:
                 if times.weekday_of(day) in ("sat", "sun"):
                     self.box("weekend", day, day + DAY, TOP + HEAD, self.bottom - TOP - HEAD)
         for row in range(self.rows + 1):
-            self.line("row", 10, self.row_top(row), LEFT + self.width + RIGHT - 14, self.row_top(row))
+            self.line("row", 10, self.row_top(row), self.left + self.width + RIGHT - 14, self.row_top(row))
         if self.step == DAY:
             self.days(per_day)
         else:
             self.hours()
         if self.job.lock:
             self.units()
-        self.line("week", LEFT, TOP + 4, LEFT, self.bottom)
-        self.line("week", LEFT + self.width, TOP + 4, LEFT + self.width, self.bottom)
+        self.line("week", self.left, TOP + 4, self.left, self.bottom)
+        self.line("week", self.left + self.width, TOP + 4, self.left + self.width, self.bottom)
         for x, words in ((75, "minutes"), (145, "target"), (220, "difference")):
-            self.text("small end", LEFT + self.width + x, TOP + HEAD - 8, words)
+            self.text("small end", self.left + self.width + x, TOP + HEAD - 8, words)
 
     def days(self, per_day):
-        named = LEFT - 100.0  # where the last name of a week stands
+        """A line a day and a stronger one a week; months and years where these would stand too close."""
+        named = self.left - 100.0  # where the last name stands
         for day in range(self.first, self.last, DAY):
             x, at = self.x(day), times.moment(day)
-            is_monday = times.weekday_of(day) == "mon"
-            if is_monday or per_day >= 3:
-                self.line("week" if is_monday else "day", x, TOP + (4 if is_monday else 22), x, self.bottom)
-            if (is_monday or day == self.first) and x - named >= 84 and LEFT + self.width - x >= 60:
-                self.text("bold", x + 4, TOP + 16, "%d %s" % (at.day, at.strftime("%b %Y")))
+            if per_day >= 3:
+                is_mark, name = times.weekday_of(day) == "mon", "%d %s" % (at.day, at.strftime("%b %Y"))
+            elif per_day >= 0.5:
+                is_mark, name = at.day == 1, at.strftime("%b %Y")
+            else:
+                is_mark, name = at.day == 1 and at.month == 1, at.strftime("%Y")
+            if is_mark or per_day >= 3:
+                self.line("week" if is_mark else "day", x, TOP + (4 if is_mark else 22), x, self.bottom)
+            if (is_mark or day == self.first) and x - named >= 94 and self.left + self.width - x >= 60:
+                self.text("bold", x + 4, TOP + 16, name)
                 named = x
             if per_day >= 40:
                 self.text("small mid", x + per_day / 2, TOP + HEAD - 8, at.strftime("%a ") + str(at.day))
@@ -158,7 +181,7 @@ class Picture:
                 self.text("small mid", x + per_day / 2, TOP + HEAD - 8, str(at.day))
 
     def hours(self):
-        self.text("bold", LEFT + 4, TOP + 16, times.moment(self.first).strftime("%a %d %b %Y"))
+        self.text("bold", self.left + 4, TOP + 16, times.moment(self.first).strftime("%a %d %b %Y"))
         per_hour = self.width * 60 / (self.last - self.first)
         each = next(n for n in (1, 2, 3, 6, 12, 24) if n * per_hour >= 44 or n == 24)
         for hour in range(self.first, self.last, 60):
@@ -180,18 +203,16 @@ class Picture:
         self.box("past", self.first, at, TOP + HEAD, self.bottom - TOP - HEAD)
         self.line("now", self.x(at), TOP + HEAD, self.x(at), self.bottom + 8)
         words = "frozen before %s" % long_date(self.job.freeze)
-        room = self.x(at) - LEFT > 100
+        room = self.x(at) - self.left > 100
         self.text("small end" if room else "small", self.x(at) + (4 if room else -4), self.bottom + 20, words)
 
     # ---- the rows
 
     def person(self, person):
-        top, job = self.row_top(person.number), self.job
-        name = self.names[person.number] if person.number < len(self.names) else "Person %d" % person.number
-        capacity, prior = job.people[person.number]
+        top, (name, figures) = self.row_top(person.number), self.labels[person.number]
         self.text("bold", 14, top + 20, name)
-        self.text("small", 14, top + 35, "capacity %g" % capacity + (", prior %s" % grouped(prior) if prior else ""))
-        for start, end in job.away(person.number, self.first, self.last):
+        self.text("small", 14, top + 35, figures)
+        for start, end in self.job.away(person.number, self.first, self.last):
             tip = "%s is away from %s to %s" % (name, long_date(start), long_date(end))
             self.box("away", start, end, top + 1, ROW - 2, tip)
         for run in rota.runs(self.listing.slots):
@@ -208,14 +229,15 @@ class Picture:
         self.line(("join " + (kind or "frozen" * is_past)).strip(), self.x(start), top + 30, self.x(end), top + 30)
         for slot in run:
             look = kind or "frozen" * self.job.is_frozen(slot)
+            look += " thin" * (self.x(slot.end) - self.x(slot.start) < 5)
             tip = "%s: slot %d, %s to %s, %s minutes; the run has %s" % (
                 name, slot.number, long_date(slot.start), long_date(slot.end), grouped(slot.minutes), grouped(minutes))
             self.box(("slot " + look).strip(), slot.start, slot.end, top + 20, 20, tip)
         words = grouped(minutes)
         middle, half = (self.x(start) + self.x(end)) / 2, len(words) * LETTER / 2
-        if middle - half >= self.labelled.get(top, LEFT - 4):
-            self.text("run " + kind, min(max(middle, LEFT + half), LEFT + self.width - half), top + 15, words)
-            self.labelled[top] = middle + half + 4
+        if middle - half >= self.labelled.get(top, self.left - 4):
+            self.text("run " + kind, min(max(middle, self.left + half), self.left + self.width - half), top + 15, words)
+            self.labelled[top] = middle + half + 7
 
     def holes(self):
         top = self.row_top(len(self.listing.people))
@@ -223,11 +245,11 @@ class Picture:
         for run in rota.runs(self.listing.slots):
             if run[0].owner is None:
                 self.run(run, top, "Nobody")
-        self.text("end bold hole", LEFT + self.width + 75, top + 20, grouped(self.listing.uncovered))
+        self.text("end bold hole", self.left + self.width + 75, top + 20, grouped(self.listing.uncovered))
 
     def figures(self, person, top):
         """Minutes, target and the difference; below them the minutes as a bar, with the target as a mark on it."""
-        x, more = LEFT + self.width, person.minutes - person.target
+        x, more = self.left + self.width, person.minutes - person.target
         self.text("end bold", x + 75, top + 20, grouped(person.minutes))
         self.text("end", x + 145, top + 20, grouped(person.target))
         self.text("end", x + 220, top + 20, "%s%s" % ("+" if more > 0 else "−" if more < 0 else "", grouped(abs(more))))
