@@ -6,6 +6,9 @@ import sys
 from jobtool import forms, layout, listing, picture, program, refusals, rota, text, times
 from jobtool.wrong import Wrong
 
+# A job file has at most 6,144 records, of 8 bytes at least: their text is far shorter than this.
+INPUT_MOST = 2**20
+
 STATUS = """status: 0 done; 1 the job is refused (its sentence is on standard error); 2 something can't be read or isn't there.
 A file name of - is standard input. A file whose name begins with - is given as ./-NAME."""
 
@@ -47,11 +50,12 @@ def parser():
 
 
 def content(name):
-    """The bytes of a file, but of a longer one than any job's text has no more than tells so."""
-    if name == "-":
-        return sys.stdin.buffer.read(text.TEXT_MOST + 1)
-    with open(name, "rb") as file:
-        return file.read(text.TEXT_MOST + 1)
+    """The bytes of a file, or of standard input. One that is too long is read no further than tells so."""
+    with sys.stdin.buffer if name == "-" else open(name, "rb") as file:
+        data = file.read(INPUT_MOST + 1)
+    if len(data) > INPUT_MOST:
+        raise Wrong("more than %d bytes, which no job has" % INPUT_MOST)
+    return data
 
 
 def records_of(name):
@@ -115,12 +119,17 @@ def main(words):
         sys.stdout.flush()
         return status
     except BrokenPipeError:
-        # whoever reads has seen enough: nothing more is written, not even at the end
-        os.dup2(os.open(os.devnull, os.O_WRONLY), sys.stdout.fileno())
+        silence()  # whoever reads has seen enough
         return 0
     except OSError as e:
-        print("job: %s: %s" % (e.filename, e.strerror), file=sys.stderr)
+        silence()
+        print("job: %s: %s" % (e.filename or "standard output", e.strerror), file=sys.stderr)
         return 2
     except Wrong as e:
         print("job: %s" % e, file=sys.stderr)
         return 2
+
+
+def silence():
+    """Nothing more is written to standard output, not even what is still held back when the program ends."""
+    os.dup2(os.open(os.devnull, os.O_WRONLY), sys.stdout.fileno())

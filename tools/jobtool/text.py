@@ -21,8 +21,6 @@ from jobtool import layout, times
 from jobtool.layout import BASE, DRAW, FREEZE, NOBODY, OWNER, PERSON, RANGE, SETTINGS
 from jobtool.wrong import Wrong
 
-# A job file has at most 6,144 records, of 8 bytes at least: their text is far shorter than this.
-TEXT_MOST = 2**20
 U16, U32, U64 = 2**16 - 1, 2**32 - 1, 2**64 - 1
 
 
@@ -155,8 +153,6 @@ def decoded(line):
 
 def records_of(data):
     """The records of a text, given as bytes."""
-    if len(data) > TEXT_MOST:
-        raise Wrong("more than %d bytes, which no job's text has" % TEXT_MOST)
     records = []
     for at, line in enumerate(data.removeprefix(b"\xef\xbb\xbf").splitlines(), 1):
         try:
