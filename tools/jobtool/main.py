@@ -3,7 +3,7 @@ import argparse
 import os
 import sys
 
-from jobtool import forms, layout, listing, picture, program, refusals, rota, text, times
+from jobtool import VERSION, forms, layout, listing, picture, program, refusals, rota, text, times
 from jobtool.wrong import Wrong
 
 # A job file has at most 6,144 records, of 8 bytes at least: their text is far shorter than this.
@@ -22,6 +22,7 @@ def parser():
     plain = argparse.RawDescriptionHelpFormatter
     top = Parser(prog="job", formatter_class=plain, description="A job as text, as a file, as its listing and as a picture.",
                  epilog="The text of a job:\n" + text.__doc__.partition("\n")[2] + "\n" + STATUS)
+    top.add_argument("--version", action="version", version="job %s" % VERSION)
     subs = top.add_subparsers(dest="what", required=True, metavar="pack | show | run | picture", parser_class=Parser)
 
     one = subs.add_parser("pack", help="make a job file of a text", epilog=STATUS, formatter_class=plain)
