@@ -6,12 +6,12 @@ import json
 from jobtool import refusals, times
 
 
-def as_lines(text, listing, job, wants):
+def as_lines(lines, listing, job, wants):
     """The program's own lines; of the slots, times as dates, the unit and 'frozen' where asked."""
     if listing.refusal is not None:
-        return text
+        return lines
     units = job.units(listing.slots)
-    lines = text.splitlines()
+    lines = lines.splitlines()
     for i, slot in enumerate(listing.slots):
         owner = "-" if slot.owner is None else slot.owner
         lines[i] = "S %d %s %s %s" % (slot.number, shown(slot.start, wants), shown(slot.end, wants), owner)
@@ -41,7 +41,7 @@ def slot_rows(listing, job, wants):
         yield row
 
 
-def as_json(text, listing, job, wants):
+def as_json(lines, listing, job, wants):
     if listing.refusal is not None:
         whole = {"refused": listing.refusal, "sentence": refusals.sentence_of(listing.refusal)}
         return json.dumps(whole, indent=1) + "\n"
@@ -55,7 +55,7 @@ def as_json(text, listing, job, wants):
     return "{\n%s,\n\"uncovered\": %d\n}\n" % (",\n".join(whole), listing.uncovered)
 
 
-def as_csv(text, listing, job, wants):
+def as_csv(lines, listing, job, wants):
     """One table of all lines: `line` says which, `number` is the slot's, the person's, the draw's or the refusal's."""
     days = ["start_day", "end_day"] if wants.dates else []
     extra = [name for name in ("unit", "frozen") if getattr(wants, "units" if name == "unit" else name)]

@@ -83,9 +83,9 @@ def show(words):
 def ran(name):
     """The listing of a text, as the program wrote it and as records; and the job, of one that is accepted."""
     records = records_of(name)
-    told = program.listing_of(layout.file_of(records))
-    read = listing.read(told)
-    return told, read, rota.Job(records) if read.refusal is None else None
+    lines = program.listing_of(layout.file_of(records))
+    read = listing.read(lines)
+    return lines, read, rota.Job(records) if read.refusal is None else None
 
 
 def refused(number):
@@ -94,8 +94,8 @@ def refused(number):
 
 
 def run(words):
-    told, read, job = ran(words.text)
-    sys.stdout.write(words.form(told, read, job, words))
+    lines, read, job = ran(words.text)
+    sys.stdout.write(words.form(lines, read, job, words))
     return refused(read.refusal) if read.refusal is not None else 0
 
 

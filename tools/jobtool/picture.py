@@ -118,7 +118,7 @@ class Picture:
         self.parts.append('<text class="%s" x="%.2f" y="%.2f">%s</text>' % (kind, x, y, escape(words)))
 
     def box(self, kind, start, end, y, height, tip=""):
-        """A box over a stretch of time, with what a pointer that rests on it is told."""
+        """A box over a stretch of time, with what a pointer that rests on it is shown."""
         x, width = self.x(start), max(self.x(end) - self.x(start), 1.5)
         tip = "<title>%s</title>" % escape(tip) if tip else ""
         self.parts.append('<rect class="%s" x="%.2f" y="%.2f" width="%.2f" height="%.2f">%s</rect>' % (kind, x, y, width, height, tip))
@@ -132,12 +132,12 @@ class Picture:
     def heading(self):
         slots, answers = self.listing.slots, self.listing.answers
         self.text("title", 14, 26, self.title())
-        told = "%s, %s" % (counted(len(slots), "slot", "slots"), counted(len(self.listing.people), "person", "people"))
+        words = "%s, %s" % (counted(len(slots), "slot", "slots"), counted(len(self.listing.people), "person", "people"))
         if self.job.lock:
-            told += ", " + counted(len(self.job.unit_starts(slots)), "unit", "units") + " held whole"
+            words += ", " + counted(len(self.job.unit_starts(slots)), "unit", "units") + " held whole"
         if answers:
-            told += "; draws: " + ", ".join("%d %s" % (answers.count(one), one) for one in ANSWERS.values())
-        self.text("small", 14, 44, told)
+            words += "; draws: " + ", ".join("%d %s" % (answers.count(one), one) for one in ANSWERS.values())
+        self.text("small", 14, 44, words)
 
     def calendar(self):
         """Weekends, the lines of days and weeks (or hours), and their names."""

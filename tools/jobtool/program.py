@@ -24,6 +24,7 @@ def listing_of(file):
     """What the program writes of a job file."""
     done = subprocess.run(command(), input=file, capture_output=True)
     if done.returncode or done.stderr or not done.stdout:
-        why = done.stderr.decode("utf-8", "replace").strip() or "nothing was written"
-        raise Wrong("the program ended with status %d: %s" % (done.returncode, why))
+        why = done.stderr.decode("utf-8", "replace").strip() or "it wrote nothing"
+        hint = " (bindings/setup installs what the emulator needs)" if len(command()) > 1 and done.returncode else ""
+        raise Wrong("the program ended with status %d: %s%s" % (done.returncode, why, hint))
     return done.stdout.decode("ascii")

@@ -1,4 +1,4 @@
-"""The refusals, by tools/refusals.txt: number, name and sentence, which the library's callers are told in the same words."""
+"""The refusals, by tools/refusals.txt: number, name and sentence, the same for every caller."""
 import os
 
 TABLE = os.path.join(os.path.dirname(os.path.dirname(os.path.abspath(__file__))), "refusals.txt")
