@@ -234,9 +234,10 @@ class Picture:
                 name, slot.number, long_date(slot.start), long_date(slot.end), grouped(slot.minutes), grouped(minutes))
             self.box(("slot " + look).strip(), slot.start, slot.end, top + 20, 20, tip)
         words = grouped(minutes)
-        middle, half = (self.x(start) + self.x(end)) / 2, len(words) * LETTER / 2
-        if middle - half >= self.labelled.get(top, self.left - 4):
-            self.text("run " + kind, min(max(middle, self.left + half), self.left + self.width - half), top + 15, words)
+        half = len(words) * LETTER / 2
+        middle = min(max((self.x(start) + self.x(end)) / 2, self.left + half), self.left + self.width - half)
+        if middle - half >= self.labelled.get(top, 0):
+            self.text(("run " + kind).strip(), middle, top + 15, words)
             self.labelled[top] = middle + half + 7
 
     def holes(self):
