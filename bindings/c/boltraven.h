@@ -12,12 +12,36 @@
    and behind the addresses (`uint64_t *out`), which stay as they were where it refuses. One that returns uint64_t gives what was asked
    (below 65,536), or BOLTRAVEN_NOTHING, or BOLTRAVEN_NOTHING + n for the refusal n. A date and a weekday are plain numbers.
 
-   Refusals. 1 a count out of range; 2 a list too short; 3 a bad base slot; 4 a bad range; 5 more than 1,024 slots after the split; 6 a bad
-   capacity or prior; 7 a bad setting; 8 a target past its guard, which no accepted figures reach; 9 bad slots or units; 10 the recount
-   fails; 11 an unknown slot, unit, person or index; 12 a person who is not available; 13 a job file that breaks its layout.
+   Refusals. Where several apply the lowest number is given, but 13 before all.
+      1  A count is outside its limits, or a set is longer than 1,024 slots.
+      2  A lent buffer is shorter than needed.
+      3  A base slot is empty or reversed, ends after minute 100,000,000, or starts before the previous one ends.
+      4  A range starts after its end, ends after minute 100,000,000, or names an unknown person.
+      5  More than 1,024 atomic slots result.
+      6  A capacity is no number from 0 to 1,000, or prior minutes are above 100,000,000.
+      7  Fairness, lock, boundary, every-count, weekday mask or shift days are outside their limits.
+      8  An unrounded target is not finite, or of size 2^40 or more.
+      9  Lent slots are empty, reversed, too late or overlap, or unit starts don't rise from 0 below the slot count.
+     10  The recount fails: owners, units, sets and minutes don't fit together.
+     11  A slot, unit, person or index is not below its count.
+     12  A person is to get a slot for which they aren't available.
+     13  The job file breaks its layout or is too long.
 
-   Settings go as five numbers: fairness 0 or 1; lock 0 or 1; boundary 0 (a rotation every `value` slots) or 1 (on the weekdays of the mask
-   `value`, bit 0 Monday); days, the length of a shift. */
+   Settings go as five numbers.
+     fairness  what a share is measured by: 0 capacity times the minutes a person is available for, 1 capacity times demand
+     lock      0 each slot is a unit, 1 each rotation is, and changes hands whole
+     boundary  how rotations begin: 0 every `value` slots (at most 1,024, 0 counts as 1), 1 on the weekdays of the mask `value`, bit 0 Monday
+     days      the length of a shift, at most 366, 0 counts as 1; it serves the two run lengths alone
+
+   Draws, by the number drawn. One that names an unknown unit, or is 100 or more, chooses outside.
+      0 to 34  unit `first` to person number `second` of those available for it
+     35 to 59  units `first` and `second` change hands
+     60 to 74  the run of unit `first` to person number `second` of the others available for it
+     75 to 89  the runs of units `first` and `second` change hands
+     90 to 99  the run of unit `first` takes the unit before it (`second` 1), or gives its first unit to that one's owner (`second` 0)
+
+   Times are minutes of one plain count, with no zone: docs/TIME.md. All of this at length, with every check of a draw, the job file byte by
+   byte and the listing: docs/REFERENCE.md. */
 #ifndef BOLTRAVEN_H
 #define BOLTRAVEN_H
 

@@ -56,13 +56,15 @@ fn told(got: &Output) -> String {
 }
 
 /// Inputs that can't be read.
-const UNREADABLE: usize = 3;
+const UNREADABLE: usize = 4;
 
-/// A file that is not there, a folder, and two arguments: a report on standard error and nothing on standard output, or they are counted.
+/// A file that is not there, a folder, two arguments, and a word that begins with `-`: a report on standard error and nothing on standard
+/// output, or they are counted.
 fn unreadable(command: &[String], name: &Path) -> io::Result<u64> {
     let missing = name.with_extension("missing");
     let folder = std::env::temp_dir();
-    let asked: [&[&Path]; UNREADABLE] = [&[&missing], &[&folder], &[name, name]];
+    let option = Path::new("-x");
+    let asked: [&[&Path]; UNREADABLE] = [&[&missing], &[&folder], &[name, name], &[option]];
     let mut differing = 0;
     for words in asked {
         let got = started(command, words).stdin(Stdio::null()).output()?;

@@ -7,7 +7,8 @@
 //! caller passes: what the library doesn't take is a [`Refusal`], and it changes nothing.
 //!
 //! Times are whole minutes from 1970-01-01 00:00 (a Thursday) to 100,000,000; there are 1 to 32 people and at most 1,024 slots, ranges and
-//! draws.
+//! draws. The count has no zone, and which one it stands for decides who holds which minute: docs/TIME.md of the repository. What settings,
+//! draws and refusals mean is docs/REFERENCE.md there.
 //!
 //! ```
 //! use boltraven::{Answer, Assignment, Draw, Person, Problem, Range, Settings, Slot};

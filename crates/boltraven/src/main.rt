@@ -1,5 +1,5 @@
-// boltraven FILE: the listing of a job file on standard output, or the line of its refusal. With no argument it reads standard input.
-// What can't be read is reported on standard error, with nothing on standard output.
+// boltraven JOB: the listing of a job file on standard output, or the line of its refusal. With no argument it reads standard input.
+// What can't be read is reported on standard error, with nothing on standard output. --help and --version tell of the program itself.
 use job::JobAnswer;
 use libc::STDERR_FILENO;
 use libc::STDIN_FILENO;
@@ -99,32 +99,93 @@ fn print_listing(fd: i32, what: &[u8]) {
     }
 }
 
-// The file that the one argument names.
-fn print_named() {
-    let mut path = io::buffer();
-    let n = os::arg(1, &mut path);
+// The listing of the file of that name.
+fn print_file(name: &[u8]) {
+    let fd = os::open_read(name);
+    if fd < 0 {
+        os::fail(name);
+        return;
+    }
+    print_listing(fd, name);
+    libc::close(fd);
+}
+
+// How the program is called.
+fn print_help() {
+    io::write_all(
+        STDOUT_FILENO,
+        b"boltraven JOB     writes the listing of a job file; without JOB, of standard input\n",
+    );
+    io::write_all(STDOUT_FILENO, b"boltraven --help, boltraven --version\n");
+    io::write_all(
+        STDOUT_FILENO,
+        b"\nA job that is refused gives one line, R and the refusal's number; docs/REFERENCE.md has the numbers.\n",
+    );
+    io::write_all(
+        STDOUT_FILENO,
+        b"What can't be read is reported on standard error, with nothing on standard output.\n",
+    );
+    io::write_all(
+        STDOUT_FILENO,
+        b"The exit status is 0 in every case: read the first line, or run tools/job, which has a status.\n",
+    );
+    io::write_all(
+        STDOUT_FILENO,
+        b"A file whose name begins with - is given as ./-NAME.\n",
+    );
+}
+
+// Whether a word begins with -.
+fn is_option(word: &[u8]) -> bool {
+    if word.len() == 0 {
+        return false;
+    }
+    word[0] == b'-'
+}
+
+// What a word asks for: help, the version, or the listing of the file that it names.
+fn print_asked(word: &[u8]) {
+    if stored::same_raws(word, b"--help") {
+        print_help();
+        return;
+    }
+    if stored::same_raws(word, b"--version") {
+        io::write_all(STDOUT_FILENO, b"boltraven 0.1.0\n");
+        return;
+    }
+    if is_option(word) {
+        io::write_all(
+            STDERR_FILENO,
+            b"boltraven: a file whose name begins with - is given as ./-NAME; --help tells more\n",
+        );
+        return;
+    }
+    print_file(word);
+}
+
+// What the one argument asks for.
+fn print_first() {
+    let mut word = io::buffer();
+    let n = os::arg(1, &mut word);
     if os::errno() != 0 {
         os::fail(b"the argument");
         return;
     }
-    let fd = os::open_read(&path[..n]);
-    if fd < 0 {
-        os::fail(&path[..n]);
-        return;
-    }
-    print_listing(fd, &path[..n]);
-    libc::close(fd);
+    print_asked(&word[..n]);
 }
 
 fn main() {
     let count = os::arg_count();
     if count > 2 {
-        io::write_all(STDERR_FILENO, b"boltraven: more than one argument\n");
+        io::write_all(
+            STDERR_FILENO,
+            b"boltraven: more than one argument; --help tells more\n",
+        );
         return;
     }
     if count < 2 {
         print_listing(STDIN_FILENO, b"standard input");
         return;
     }
-    print_named();
+    print_first();
 }
