@@ -15,6 +15,7 @@ pub mod Marked
 pub mod RotaRules
 pub mod Rota
 pub mod MoveRules
+pub mod PlayRule
 pub mod JobRules
 pub mod Empty
 pub mod Outcomes

@@ -13,6 +13,7 @@ pub mod SlotRules
 pub mod UnitRules
 pub mod TargetRules
 pub mod MoveRules
+pub mod PlayRule
 pub mod RotaRules
 pub mod Rota
 pub mod JobRules
