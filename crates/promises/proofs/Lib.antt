@@ -16,6 +16,7 @@ pub mod RotaRules
 pub mod Rota
 pub mod MoveRules
 pub mod PlayRule
+pub mod ManyCalls
 pub mod JobRules
 pub mod Empty
 pub mod Outcomes

@@ -16,5 +16,6 @@ pub mod MoveRules
 pub mod PlayRule
 pub mod RotaRules
 pub mod Rota
+pub mod ManyCalls
 pub mod JobRules
 pub mod Empty
