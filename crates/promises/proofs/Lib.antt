@@ -8,6 +8,7 @@ pub mod SetRefusals
 pub mod RotaRefusals
 pub mod SetRules
 pub mod SlotRules
+pub mod Listed
 pub mod UnitRules
 pub mod TargetRules
 pub mod TargetCases
