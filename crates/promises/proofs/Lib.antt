@@ -7,6 +7,7 @@ pub mod Refusals
 pub mod SetRefusals
 pub mod RotaRefusals
 pub mod SetRules
+pub mod ReaderRule
 pub mod SlotRules
 pub mod Listed
 pub mod UnitRules

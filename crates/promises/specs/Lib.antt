@@ -9,6 +9,7 @@ pub mod Refusals
 pub mod SetRefusals
 pub mod Outcomes
 pub mod SetRules
+pub mod ReaderRule
 pub mod SlotRules
 pub mod UnitRules
 pub mod TargetRules
