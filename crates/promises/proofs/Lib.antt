@@ -9,6 +9,7 @@ pub mod RotaRefusals
 pub mod SetRules
 pub mod ReaderRule
 pub mod SlotRules
+pub mod SplitRule
 pub mod Listed
 pub mod UnitRules
 pub mod TargetRules

@@ -11,6 +11,7 @@ pub mod Outcomes
 pub mod SetRules
 pub mod ReaderRule
 pub mod SlotRules
+pub mod SplitRule
 pub mod UnitRules
 pub mod TargetRules
 pub mod MoveRules
