@@ -61,24 +61,30 @@ module _ (demand : ℕ) (ls : List Line) where
   abbrev worked : Passed
   worked = cond (some (falls n s) ls) (again (map (settle n s) ls)) (done (map (settle n s) ls))
 
-  no-sum : lt zeroF s ≡ false → pass demand (again ls) ≡ done ls
+  pub no-sum : lt zeroF s ≡ false → pass demand (again ls) ≡ done ls
   unfolding pass
   no-sum e = ap (λ (b : Bool). cond b (cond (some (outside n s) ls) refused worked) (done ls)) e
 
-  one-pass : lt zeroF s ≡ true → some (outside n s) ls ≡ false → pass demand (again ls) ≡ worked
+  pub refused-pass : lt zeroF s ≡ true → some (outside n s) ls ≡ true → pass demand (again ls) ≡ refused
+  unfolding pass
+  refused-pass e f =
+      ap (λ (b : Bool). cond b (cond (some (outside n s) ls) refused worked) (done ls)) e
+      ∙ ap (λ (b : Bool). cond b refused worked) f
+
+  pub one-pass : lt zeroF s ≡ true → some (outside n s) ls ≡ false → pass demand (again ls) ≡ worked
   unfolding pass
   one-pass e f =
       ap (λ (b : Bool). cond b (cond (some (outside n s) ls) refused worked) (done ls)) e
       ∙ ap (λ (b : Bool). cond b refused worked) f
 
 -- a line by whether it is pinned, and whether its unrounded target is below 0
-abbrev settledBy : Float → Line → Bool → Bool → Line
+abbrev pub settledBy : Float → Line → Bool → Bool → Line
 settledBy x l pinned below =
     cond pinned l
     (cond below (record { person = l .person; raw = l .raw; target = 0; pinned = true })
     (record { person = l .person; raw = l .raw; target = rounded x; pinned = false }))
 
-settled-is : (x : Float) (l : Line) (a b : Bool) → l .pinned ≡ a → lt x zeroF ≡ b → settled x l ≡ settledBy x l a b
+pub settled-is : (x : Float) (l : Line) (a b : Bool) → l .pinned ≡ a → lt x zeroF ≡ b → settled x l ≡ settledBy x l a b
 unfolding settled
 settled-is x l a b p q = ap₂ (settledBy x l) p q
 

@@ -14,6 +14,7 @@ pub mod SlotRules
 pub mod SplitRule
 pub mod UnitRules
 pub mod TargetRules
+pub mod PassesRule
 pub mod MoveRules
 pub mod PlayRule
 pub mod RotaRules
