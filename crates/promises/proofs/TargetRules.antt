@@ -2,7 +2,7 @@
 use mathlib.Core.Path.{_≡_, refl, sym, ap, ap₂, _∙_}
 use mathlib.Core.Bool.{Bool, true, false, cond}
 use mathlib.Core.List.{List, [], _∷_, _++_, map, foldl, foldl-append}
-use Prim.Native.Nat.{ℕ, zero, suc, _+_, _<_}
+use Prim.Native.Nat.{ℕ, zero, suc, _+_, _-_, _<_}
 use native.Mathlib.Omega.{arith}
 use borrow.Author.Tests.{eq-eqb}
 use lib.Dec.{eqb}
@@ -10,6 +10,9 @@ use lib.ListN.{getD, List·getD-append}
 use lib.Seq.{getD-append-seam}
 use lib.Ieee.{Float, fin, binary64, add, lt}
 use Rattle.paper.proofs.Logic.{below-suc}
+use Rattle.paper.specs.Count as Σ
+use Rattle.slotset.specs.Answers.{rowSlots}
+use Rattle.slots.specs.Lent.{minutesAt}
 use Rattle.targets.specs.declared.Line.{Line}
 use Rattle.targets.specs.Figures.{zeroF, whole, personAt, lineOf, upTo, pad}
 use Rattle.targets.specs.Available.{availableMinutes}
@@ -26,6 +29,11 @@ use Rattle.promises.specs.TargetRules.{Settles, OverUnpinned, TargetsByR
 base-by : (g : Given) (k : ℕ) (b : Bool) → eqb (g .fairness) 1 ≡ b
     → baseAt g k ≡ cond b (demandIn g) (availableMinutes (g .slots) (g .starts) (g .ends) (g .avail) k)
 base-by g k b e = ap (λ (t : Bool). cond t (demandIn g) (availableMinutes (g .slots) (g .starts) (g .ends) (g .avail) k)) e
+
+base-0-is : (g : Given) (k : ℕ) → g .fairness ≡ 0
+    → baseAt g k ≡ Σ.sum (g .slots) (λ j. cond (eqb (rowSlots (g .avail) k j) 1) (getD (g .ends) j 0 - getD (g .starts) j 0) 0)
+unfolding availableMinutes minutesAt
+base-0-is g k e = base-by g k false (ap (λ (f : ℕ). eqb f 1) e)
 
 -- entry k of a list that was made by numbers
 getD-up-to : (f : ℕ → Line) (n k : ℕ) → k < n → getD (upTo f n) k pad ≡ f k
@@ -61,24 +69,30 @@ module _ (demand : ℕ) (ls : List Line) where
   abbrev worked : Passed
   worked = cond (some (falls n s) ls) (again (map (settle n s) ls)) (done (map (settle n s) ls))
 
-  no-sum : lt zeroF s ≡ false → pass demand (again ls) ≡ done ls
+  pub no-sum : lt zeroF s ≡ false → pass demand (again ls) ≡ done ls
   unfolding pass
   no-sum e = ap (λ (b : Bool). cond b (cond (some (outside n s) ls) refused worked) (done ls)) e
 
-  one-pass : lt zeroF s ≡ true → some (outside n s) ls ≡ false → pass demand (again ls) ≡ worked
+  pub refused-pass : lt zeroF s ≡ true → some (outside n s) ls ≡ true → pass demand (again ls) ≡ refused
+  unfolding pass
+  refused-pass e f =
+      ap (λ (b : Bool). cond b (cond (some (outside n s) ls) refused worked) (done ls)) e
+      ∙ ap (λ (b : Bool). cond b refused worked) f
+
+  pub one-pass : lt zeroF s ≡ true → some (outside n s) ls ≡ false → pass demand (again ls) ≡ worked
   unfolding pass
   one-pass e f =
       ap (λ (b : Bool). cond b (cond (some (outside n s) ls) refused worked) (done ls)) e
       ∙ ap (λ (b : Bool). cond b refused worked) f
 
 -- a line by whether it is pinned, and whether its unrounded target is below 0
-abbrev settledBy : Float → Line → Bool → Bool → Line
+abbrev pub settledBy : Float → Line → Bool → Bool → Line
 settledBy x l pinned below =
     cond pinned l
     (cond below (record { person = l .person; raw = l .raw; target = 0; pinned = true })
     (record { person = l .person; raw = l .raw; target = rounded x; pinned = false }))
 
-settled-is : (x : Float) (l : Line) (a b : Bool) → l .pinned ≡ a → lt x zeroF ≡ b → settled x l ≡ settledBy x l a b
+pub settled-is : (x : Float) (l : Line) (a b : Bool) → l .pinned ≡ a → lt x zeroF ≡ b → settled x l ≡ settledBy x l a b
 unfolding settled
 settled-is x l a b p q = ap₂ (settledBy x l) p q
 
@@ -101,7 +115,7 @@ targets-by-rule = record {
   begins = λ p base. (refl, refl);
   share = λ p base. refl;
   base-1 = λ g k e. base-by g k true (eq-eqb (g .fairness) 1 e);
-  base-0 = λ g k e. base-by g k false (ap (λ (f : ℕ). eqb f 1) e);
+  base-0 = base-0-is;
   sum = over-unpinned zeroF (λ s l. add binary64 s (l .raw));
   n = λ demand. over-unpinned demand (λ n l. n + l .person .prior);
   stops = no-sum;

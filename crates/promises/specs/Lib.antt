@@ -9,11 +9,16 @@ pub mod Refusals
 pub mod SetRefusals
 pub mod Outcomes
 pub mod SetRules
+pub mod ReaderRule
 pub mod SlotRules
+pub mod SplitRule
 pub mod UnitRules
 pub mod TargetRules
+pub mod PassesRule
 pub mod MoveRules
+pub mod PlayRule
 pub mod RotaRules
 pub mod Rota
+pub mod ManyCalls
 pub mod JobRules
 pub mod Empty

@@ -4,8 +4,9 @@ use mathlib.Core.Bool.{true, false}
 use mathlib.Core.List.{List}
 use mathlib.Core.Logic.{_⊎_, _↔_}
 use Prim.Native.Nat.{ℕ, _-_, _≤_, _<_}
+use lib.Dec.{leb}
 use lib.ListN.{length, getD}
-use Rattle.paper.specs.Count.{sum}
+use Rattle.paper.specs.Count.{sum, count}
 use Rattle.slotset.specs.declared.Told.the-variants.{Yes}
 use Rattle.slotset.specs.declared.Number.the-variants as number
 use Rattle.slotset.specs.Slots.{slot}
@@ -16,7 +17,7 @@ use Rattle.slots.specs.Ranges.{Ranges, personOf, startOf, endOf, inRanges, avai
 use Rattle.slots.specs.Merged.{Columns, mergedNo, mergedRanges}
 use Rattle.slots.specs.Atomic.{Base, atomiseNo, atomiseOf, startsOfAtoms, endsOfAtoms, isCut, cutsIn, IsCuts}
 use Rattle.slots.specs.Availability.{availabilityNo, availabilityOf}
-use Rattle.slots.specs.Freeze.{endedBy, freezeNo, freezeOf, isAvailable}
+use Rattle.slots.specs.Freeze.{freezeNo, freezeOf, isAvailable}
 use Rattle.promises.specs.SetRules.{TheOne}
 
 -- "Each person's ranges are sorted, empty ones dropped, and touching or overlapping ones merged": the one list that is ascending person by
@@ -60,7 +61,7 @@ pub record Froze (slots : ℕ) (starts ends frozen : List ℕ) (instant : ℕ) :
   pub marked : (k : ℕ) → k < slots → getD ends k 0 ≤ instant → slot (freezeOf slots starts ends frozen instant .flags) 0 k ≡ 1
   pub kept : (k : ℕ) → (k < slots → getD ends k 0 ≤ instant → ⊥)
       → slot (freezeOf slots starts ends frozen instant .flags) 0 k ≡ slot frozen 0 k
-  pub number : freezeOf slots starts ends frozen instant .answer ≡ number.Is (endedBy slots ends instant)
+  pub number : freezeOf slots starts ends frozen instant .answer ≡ number.Is (count slots (λ k. leb (getD ends k 0) instant))
 
 pub record SlotsByRule : Type 0 where
   -- the length of a slot is its end less its start; demand is the sum of all

@@ -3,15 +3,16 @@ use mathlib.Core.Path.{_≡_}
 use mathlib.Core.Bool.{Bool, true, false, cond}
 use mathlib.Core.List.{List, [], _∷_, _++_, map}
 use mathlib.Core.Logic.{_≢_}
-use Prim.Native.Nat.{ℕ, _+_, _<_}
+use Prim.Native.Nat.{ℕ, _+_, _-_, _<_}
+use lib.Dec.{eqb}
 use lib.IntN.{ℤ, pos}
 use lib.ListN.{getD, take, drop}
 use lib.Ieee.{Float, fin, binary64, add, mul, div, sub, lt}
+use Rattle.paper.specs.Count as Σ
 use Rattle.slotset.specs.Answers.{rowSlots}
 use Rattle.targets.specs.declared.Line.{Line}
 use Rattle.targets.specs.declared.Person.{Person}
 use Rattle.targets.specs.Figures.{zeroF, whole, personAt, lineOf, pad}
-use Rattle.targets.specs.Available.{availableMinutes}
 use Rattle.targets.specs.Passes.{rounded, NearestWhole, unrounded, settle, outside, falls, shareSum, notional, some}
 use Rattle.targets.specs.Passes.{again, done, pass, passesLeave}
 use Rattle.targets.specs.Remainder.{Takes, sumℤ}
@@ -40,7 +41,9 @@ pub record TargetsByRule : Type 0 where
   -- "Raw share is capacity times demand (fairness 1) or times their available minutes (fairness 0)."
   pub share : (p : Person) (base : ℕ) → lineOf p base .raw ≡ mul binary64 (p .capacity) (whole base)
   pub base-1 : (g : Given) (k : ℕ) → g .fairness ≡ 1 → baseAt g k ≡ demandIn g
-  pub base-0 : (g : Given) (k : ℕ) → g .fairness ≡ 0 → baseAt g k ≡ availableMinutes (g .slots) (g .starts) (g .ends) (g .avail) k
+  -- .. which are the lengths of all slots that they are available for
+  pub base-0 : (g : Given) (k : ℕ) → g .fairness ≡ 0
+      → baseAt g k ≡ Σ.sum (g .slots) (λ j. cond (eqb (rowSlots (g .avail) k j) 1) (getD (g .ends) j 0 - getD (g .starts) j 0) 0)
   -- "A pass: add the raw shares of the unpinned, in order", each addition rounded once; "N = demand plus their priors", a whole number
   pub sum : OverUnpinned shareSum zeroF (λ s l. add binary64 s (l .raw))
   pub n : (demand : ℕ) → OverUnpinned (notional demand) demand (λ n l. n + l .person .prior)
