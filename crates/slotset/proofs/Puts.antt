@@ -203,6 +203,14 @@ pub slot-lt : (ws : List ℕ) (b i : ℕ) → slot ws b i < 2
 unfolding slot
 slot-lt ws b i = bit-lt _ _
 
+-- slot k of person p, by its place among all bits
+pub place : (ws : List ℕ) (p k : ℕ) → slot ws (16 * p) k ≡ slot ws 0 (1024 * p + k)
+unfolding slot
+place ws p k =
+    let q : 16 * p + k / 64 ≡ 0 + (1024 * p + k) / 64 = omega arith in
+    let m : k % 64 ≡ (1024 * p + k) % 64 = omega arith in
+    ap₂ (λ (x y : ℕ). bitOf (getD ws x 0) y) q m
+
 -- bits of one word, by where they stand among all bits
 same-place : (b c i k : ℕ) → b + i / 64 ≡ c + k / 64 → eqb (k % 64) (i % 64) ≡ eqb (c * 64 + k) (b * 64 + i)
 same-place b c i k e = elim (ℕ-discrete (k % 64) (i % 64)) [

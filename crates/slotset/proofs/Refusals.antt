@@ -7,7 +7,8 @@ use native.Mathlib.Omega.{arith}
 use borrow.Author.Tests.{leb-true, ltb-true, eq-eqb, ne-eqb, le-leb, lt-leb, lt-ltb}
 use lib.Dec.{eqb, ltb, leb}
 use lib.ListN.{length}
-use Rattle.paper.specs.Limits.{peopleOk}
+use Rattle.paper.specs.Limits.{peopleOk, heardOf}
+use Rattle.paper.proofs.Rows.{passed, all-pass}
 use Rattle.paper.proofs.Logic.{number-of-made, both, cond-zero, or-right, or-second, people-says}
 use Rattle.slotset.specs.declared.SlotSet.{SlotSet}
 use Rattle.slotset.specs.declared.Changed.{Changed}
@@ -19,7 +20,7 @@ use Rattle.slotset.specs.declared.Run.the-variants as run
 use Rattle.slotset.specs.declared.NextRun.the-variants as nextRun
 use Rattle.slotset.specs.declared.NextMember.the-variants as nextMember
 use Rattle.slotset.specs.Slots.{putSlots}
-use Rattle.slotset.specs.Answers.{lenNo, slotNo, stretchNo, rowNo, rowStretchNo}
+use Rattle.slotset.specs.Answers.{lenNo, slotNo, stretchNo, rowNo, rowStretchNo, setsRow, sameSetsRow}
 use Rattle.slotset.specs.Answers.{foundAs, toldAs, numberAs, runAs, nextRunAs, nextMemberAs, changedAs, wordsAs, rowStretchOf}
 use Rattle.slotset.specs.Answers.{toldNo, numberNo}
 
@@ -103,6 +104,20 @@ unfolding rowStretchOf rowStretchNo wordsAs
 stretch-puts v ws people person len a e z h =
     let t : leb e a || leb e len ≡ true = or-second (leb e a) (leb e len) (le-leb e len h) in
     simp (z, t)
+
+-- everybody's sets in two columns of words
+pub says-same : (ws vs : List ℕ) (people len : ℕ) → peopleOk people ≡ true → len ≤ 1024 → 16 * people ≤ length ws → 16 * people ≤ length vs
+    → heardOf (sameSetsRow ws vs people len) ≡ 0
+unfolding sameSetsRow setsRow
+says-same ws vs people len ok short room more =
+    all-pass (sameSetsRow ws vs people len) (ok, (le-leb len 1024 short, (le-leb _ _ room, (le-leb _ _ more, tt))))
+
+pub same-says : (ws vs : List ℕ) (people len : ℕ) → heardOf (sameSetsRow ws vs people len) ≡ 0
+    → (people ≤ 32) × (len ≤ 1024) × (16 * people ≤ length ws) × (16 * people ≤ length vs)
+unfolding sameSetsRow setsRow
+same-says ws vs people len z =
+    let h = passed (sameSetsRow ws vs people len) refl z in
+    (people-says people (h 0) .1, leb-true _ _ (h 1), leb-true _ _ (h 2), leb-true _ _ (h 3))
 
 -- ---- the answer where the number is none, and where it is one
 

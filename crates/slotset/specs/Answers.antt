@@ -1,10 +1,11 @@
 -- What a caller hears and is handed back, refused or not. Assumes nothing.
 use mathlib.Core.Bool.{Bool, _&&_, _||_, cond}
-use mathlib.Core.List.{List}
+use mathlib.Core.List.{List, [], _∷_, _++_}
 use Prim.Native.Nat.{ℕ, _+_, _-_, _*_}
 use lib.Dec.{eqb, ltb, leb}
 use lib.ListN.{length, take, drop, replicate}
-use Rattle.paper.specs.Limits.{slotsMost, peopleOk, orElse}
+use Rattle.paper.specs.Count.{all}
+use Rattle.paper.specs.Limits.{slotsMost, setWords, peopleOk, orElse, Test, test}
 use Rattle.slotset.specs.declared.SlotSet.{SlotSet}
 use Rattle.slotset.specs.declared.Changed.{Changed}
 use Rattle.slotset.specs.declared.Found.{Found}
@@ -19,7 +20,7 @@ use Rattle.slotset.specs.declared.NextRun.{NextRun}
 use Rattle.slotset.specs.declared.NextRun.the-variants as nextRun
 use Rattle.slotset.specs.declared.NextMember.{NextMember}
 use Rattle.slotset.specs.declared.NextMember.the-variants as nextMember
-use Rattle.slotset.specs.Slots.{slot, putSlot, putSlots, has}
+use Rattle.slotset.specs.Slots.{slot, putSlot, putSlots, has, sameSlots}
 use Rattle.slotset.specs.Search.{nextSet}
 use Rattle.slotset.specs.Runs.{firstOfRun, lastOfRun}
 
@@ -47,6 +48,14 @@ unfoldable pub rowStretchNo : List ℕ → ℕ → ℕ → ℕ → ℕ → ℕ �
 rowStretchNo ws people person len a e =
     cond (eqb (rowNo ws people person len) 0) (orElse (leb e a || leb e len) 11 0) (rowNo ws people person len)
 
+-- everybody's sets among lent words: 1, then 2: words for fewer sets than people
+unfoldable pub setsRow : List ℕ → ℕ → ℕ → List Test
+setsRow ws people len = test 1 (peopleOk people) ∷ test 1 (leb len slotsMost) ∷ test 2 (leb (setWords * people) (length ws)) ∷ []
+
+-- two such columns of words
+unfoldable pub sameSetsRow : List ℕ → List ℕ → ℕ → ℕ → List Test
+sameSetsRow ws vs people len = setsRow ws people len ++ (test 2 (leb (setWords * people) (length vs)) ∷ [])
+
 -- ---- the slots of a set by value, and of a person's row
 
 abbrev pub slotsOf : SlotSet → ℕ → ℕ
@@ -54,6 +63,10 @@ slotsOf s = slot (s .words) 0
 
 abbrev pub rowSlots : List ℕ → ℕ → ℕ → ℕ
 rowSlots ws person = slot ws (16 * person)
+
+-- everybody's sets are the same in two columns of lent words
+unfoldable pub sameSets : List ℕ → List ℕ → ℕ → ℕ → Bool
+sameSets ws vs people len = all people (λ p. sameSlots (rowSlots ws p) (rowSlots vs p) len)
 
 -- ---- the answers: the number n, or what was asked
 

@@ -9,13 +9,26 @@ use crate::Run;
 use crate::SlotSet;
 use crate::Told;
 use crate::scan;
+use paper::Fault;
 ghost use mathlib.Core.Path.{_≡_};
 ghost use Prim.Native.Nat.{_+_, _*_, _≤_};
 ghost use lib.ListN.{length, take, drop};
+ghost use Rattle.paper.specs.Limits.{heardOf};
+ghost use Rattle.paper.specs.Rows.{firstOf};
 ghost use Rattle.slotset.specs.Slots.{has, size, noMember, valueOf};
 ghost use Rattle.slotset.specs.Search.{nextSet, prevSet, nextUnsetAfter, prevUnsetBefore};
 ghost use Rattle.slotset.specs.Answers.{rowNo, rowStretchNo, rowSlots, loadOf, storeOf, rowStretchOf};
+ghost use Rattle.slotset.specs.Answers.{setsRow, sameSetsRow, sameSets};
 ghost use Rattle.slotset.specs.Answers.{foundAs, toldAs, numberAs, rowRun, rowNextRun, rowNextMember};
+
+// What stands against everybody's sets among lent words: 1 or 2.
+pub fn sets_no(words: &[u64], people: usize, len: usize) -> Fault
+    ensures { λ r. ⌜ r ≡ firstOf (setsRow (now (words .entry)) people len) ⌝ }
+{
+    let f = paper::heard_people(paper::nothing(), people);
+    let f = paper::heard(f, len <= paper::SLOTS_MOST, 1);
+    paper::heard_words(f, words, people)
+}
 
 // Refusals 1, 2 and 11 of a row, or 0.
 fn row_no(words: &[u64], people: usize, person: usize, len: usize) -> u8
@@ -258,4 +271,39 @@ pub fn store(set: SlotSet, words: &mut [u64], people: usize, person: usize) -> u
         return 0;
     }
     number
+}
+
+// What stands against comparing everybody's sets in two columns of words: 1 or 2.
+fn same_sets_no(a: &[u64], b: &[u64], people: usize, len: usize) -> Fault
+    ensures { λ r. ⌜ r ≡ firstOf (sameSetsRow (now (a .entry)) (now (b .entry)) people len) ⌝ }
+{
+    paper::heard_words(sets_no(a, people, len), b, people)
+}
+
+// Whether each person's set is the same in both.
+fn all_same(a: &[u64], b: &[u64], people: usize, len: usize) -> bool
+    requires { ⌜ (people ≤ 32) × (len ≤ 1024) × (16 * people ≤ length (now a)) × (16 * people ≤ length (now b)) ⌝ }
+    ensures { λ r. ⌜ r ≡ sameSets (now (a .entry)) (now (b .entry)) people len ⌝ }
+{
+    let mut p = 0;
+    while p < people {
+        if scan::same(a, b, 16 * p, len) {
+            p += 1;
+        } else {
+            return false;
+        }
+    }
+    true
+}
+
+// Whether everybody's sets are the same below the length in two columns of words. Refusals 1, 2.
+pub fn same_sets(a: &[u64], b: &[u64], people: usize, len: usize) -> Told
+    ensures { λ r. ⌜ r ≡ toldAs (heardOf (sameSetsRow (now (a .entry)) (now (b .entry)) people len))
+        (sameSets (now (a .entry)) (now (b .entry)) people len) ⌝ }
+{
+    let number = same_sets_no(a, b, people, len).number;
+    if number == 0 {
+        return crate::yes_or_no(all_same(a, b, people, len));
+    }
+    Told::Refused(number)
 }
