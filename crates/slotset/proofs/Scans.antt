@@ -15,8 +15,8 @@ use Rattle.paper.proofs.Count.{all-each, each-all}
 use Rattle.paper.proofs.Logic.{by-test, lt-or-ge}
 use Rattle.slotset.specs.declared.Found.the-variants.{At, Nothing}
 use Rattle.slotset.specs.Slots.{slot, sameSlots}
-use Rattle.slotset.specs.Words.{FirstBit, LastBit}
-use Rattle.slotset.specs.Search.{up, nextWith, down, foundBelow}
+use Rattle.slotset.specs.Inside.{FirstBit, LastBit, foundBelow}
+use Rattle.slotset.specs.Search.{up, nextWith, down}
 
 module _ (v : ℕ) (f : ℕ → ℕ) (len : ℕ) where
   pub next-end : (at : ℕ) → len ≤ at → nextWith v f len at ≡ Nothing

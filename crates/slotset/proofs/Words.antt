@@ -16,7 +16,7 @@ use Rattle.paper.proofs.Bits.{bit-lt, bit-and, bit-or, bit-not, bit-from, bit-b
 use Rattle.paper.proofs.Bits.{trailing-clear, trailing-set, top-clear, length-set-bit, bit-ext}
 use Rattle.paper.proofs.Count.{all-each, each-all}
 use Rattle.paper.proofs.Logic.{lt-or-ge, same-test}
-use Rattle.slotset.specs.Words.{Wanted, FirstBit, LastBit, onesBelow, Merged}
+use Rattle.slotset.specs.Inside.{Wanted, FirstBit, LastBit, onesBelow, Merged}
 
 abbrev from-mask : ℕ → ℕ
 from-mask s = (2 ^ 64 - 1) * 2 ^ s % 2 ^ 64
@@ -134,7 +134,8 @@ module _ (a b k : ℕ) (some : 0 < k) (few : k ≤ 64) (ha : a < 2 ^ 64) (hb : b
       let d : 64 - k ≡ 63 - (k - 1) = omega arith in
       ap (λ (x : ℕ). bitOf ((2 ^ 64 - 1) / 2 ^ x) i) d ∙ bit-past (k - 1) i (omega arith)
 
-  pub same-law : eqb (bitAnd a ((2 ^ 64 - 1) / 2 ^ (64 - k))) (bitAnd b ((2 ^ 64 - 1) / 2 ^ (64 - k))) ≡ all k (λ i. eqb (bitOf a i) (bitOf b i))
+  pub same-law : eqb (bitAnd a ((2 ^ 64 - 1) / 2 ^ (64 - k))) (bitAnd b ((2 ^ 64 - 1) / 2 ^ (64 - k)))
+      ≡ all k (λ i. eqb (bitOf a i) (bitOf b i))
   same-law =
       let m = (2 ^ 64 - 1) / 2 ^ (64 - k) in
       let small : m < 2 ^ 64 = lt-of-le-of-lt (shr-le (2 ^ 64 - 1) (64 - k)) (lit< tt) in
@@ -152,6 +153,8 @@ module _ (a b k : ℕ) (some : 0 < k) (few : k ≤ 64) (ha : a < 2 ^ 64) (hb : b
       ))))
       (λ t. eq-eqb (bitAnd a m) (bitAnd b m) (bit-ext 64 (bitAnd a m) (bitAnd b m) (and-lt 64 a m ha small) (and-lt 64 b m hb small) (λ i h.
       ⊎-elim
-      (λ (x : i < k). omega (arith, bit-and a m i, bit-and b m i, eqb-true (bitOf a i) (bitOf b i) (all-each k (λ i. eqb (bitOf a i) (bitOf b i)) t i x)))
+      (λ (x : i < k).
+      let same = eqb-true (bitOf a i) (bitOf b i) (all-each k (λ i. eqb (bitOf a i) (bitOf b i)) t i x) in
+      omega (arith, bit-and a m i, bit-and b m i))
       (λ (x : k ≤ i). omega (arith, bit-and a m i, bit-and b m i, low-out i x))
       (lt-or-ge i k))))

@@ -9,7 +9,8 @@ ghost use mathlib.Core.Path.{_≡_};
 ghost use Prim.Native.Nat.{_+_, _-_, _*_, _≤_, _<_, min};
 ghost use lib.ListN.{length};
 ghost use Rattle.slotset.specs.Slots.{slot, valueOf, has, size, noMember, sameSlots, putSlots};
-ghost use Rattle.slotset.specs.Search.{foundBelow, nextWith, down, lastBelow, prevSet, nextUnsetAfter, Below, Above};
+ghost use Rattle.slotset.specs.Search.{nextWith, down, lastBelow, prevSet, nextUnsetAfter};
+ghost use Rattle.slotset.specs.Inside.{foundBelow, Below, Above};
 ghost use Rattle.slotset.specs.Runs.{startOf, endOf};
 ghost use Rattle.slotset.specs.Answers.{runAs, nextRunAs, nextMemberAs, memberStep};
 

@@ -5,7 +5,7 @@ ghost use lib.Dec.{eqb};
 ghost use Rattle.paper.specs.Bits.{bitOf};
 ghost use Rattle.paper.specs.Count.{all};
 ghost use Rattle.slotset.specs.Slots.{valueOf};
-ghost use Rattle.slotset.specs.Words.{Wanted, FirstBit, LastBit, onesBelow, Merged, Every};
+ghost use Rattle.slotset.specs.Inside.{Wanted, FirstBit, LastBit, onesBelow, Merged, Every};
 
 // Whether bit k of w is set.
 pub(crate) fn bit(w: u64, k: usize) -> bool
