@@ -1,17 +1,16 @@
 -- The list of all runs, filled run by run: what the reader gives is the next of the list. Assumes nothing.
 use mathlib.Core.Path.{_≡_, refl, sym, ap, ap₂, _∙_}
-use mathlib.Core.Bool.{_&&_}
 use mathlib.Core.List.{List, [], _∷_}
 use mathlib.Core.Logic.{_⊎_, inl, inr, ⊎-elim}
 use Prim.Native.Nat.{ℕ, zero, suc, _+_, _-_, _*_, _≤_, _<_}
 use native.Mathlib.Nat.{not-suc-le-zero, le-of-suc-le-suc}
 use native.Mathlib.Omega.{arith}
 use borrow.Author.Tests.{leb-true}
-use lib.Dec.{ltb, leb}
 use lib.ListN.{length, set, getD, length-set}
 use lib.Seq.{getD-set-same, getD-set-other}
-use Rattle.paper.specs.Limits.{slotsMost, peopleOk}
-use Rattle.paper.proofs.Logic.{both, cond-zero}
+use Rattle.paper.specs.Limits.{heardOf}
+use Rattle.paper.specs.Rows.{unless}
+use Rattle.paper.proofs.Rows.{passed, all-pass}
 use Rattle.slotset.specs.declared.Found.{Found}
 use Rattle.slotset.specs.declared.Found.the-variants as found
 use Rattle.slotset.specs.declared.Cursor.{Cursor}
@@ -19,23 +18,19 @@ use Rattle.slotset.specs.declared.NextRun.{NextRun}
 use Rattle.slotset.specs.declared.NextRun.the-variants.{Span, Done, Refused}
 use Rattle.slotset.specs.Slots.{Bits}
 use Rattle.slotset.specs.Search.{First, nextSet}
-use Rattle.slotset.specs.Runs.{Ends, whenFound, lastOfRun, runs, allRuns}
-use Rattle.slotset.specs.Answers.{rowNo, runStep, nextRunAs}
+use Rattle.slotset.specs.Runs.{Ends, whenFound, lastAround, runs, allRuns}
+use Rattle.slotset.specs.Answers.{setsRow, personRow, runStep, nextRunAs}
 use Rattle.slotset.proofs.Meaning.{next-is}
 use Rattle.slotset.proofs.Runs.{run-around}
-use Rattle.runs.specs.Listed.{listNo, column}
+use Rattle.runs.specs.Listed.{runsRow, column}
 
 -- where nothing is refused, the row may be read and both columns have room
-pub list-says : (ws : List ℕ) (people person len n m : ℕ) → listNo ws people person len n m ≡ 0
-    → (rowNo ws people person len ≡ 0) × ((len ≤ n) × (len ≤ m))
-unfolding listNo rowNo
-list-says ws people person len n m e =
-    let a = cond-zero (peopleOk people && leb len slotsMost) _ 0 e in
-    let b = cond-zero (leb (16 * people) (length ws) && leb len n && leb len m) _ 1 (a .1) in
-    let c = cond-zero (ltb person people) _ 10 (b .1) in
-    let p = both (leb (16 * people) (length ws) && leb len n) (leb len m) (b .0) in
-    let q = both (leb (16 * people) (length ws)) (leb len n) (p .0) in
-    (simp (a .0, q .0, c .0), (leb-true len n (q .1), leb-true len m (p .1)))
+pub list-says : (ws : List ℕ) (people person len n m : ℕ) → heardOf (runsRow ws people person len n m) ≡ 0
+    → (heardOf (personRow ws people person len) ≡ 0) × ((len ≤ n) × (len ≤ m))
+unfolding runsRow personRow setsRow
+list-says ws people person len n m z =
+    let h = passed (runsRow ws people person len n m) refl z in
+    (all-pass (personRow ws people person len) (h 0, (h 1, (h 2, (h 5, tt)))), (leb-true len n (h 3), leb-true len m (h 4)))
 
 -- ---- what an answer of the reader tells
 
@@ -70,13 +65,13 @@ pub record Given (f : ℕ → ℕ) (len m at first last next : ℕ) : Type 0 whe
 module _ (f : ℕ → ℕ) (bits : Bits f) (len m at : ℕ) where
   given-by : (r : Found) → First 1 f len at r → (first last : ℕ) (next : Cursor) → runStep f len r ≡ Span first last next
       → (at ≤ first) × ((first ≤ last) × ((last < len) × ((next .at ≡ last + 1)
-      × (whenFound r (λ lo. record { first = lo; last = lastOfRun f len lo } ∷ runs m f len (lastOfRun f len lo + 1))
+      × (whenFound r (λ lo. record { first = lo; last = lastAround 1 f len lo } ∷ runs m f len (lastAround 1 f len lo + 1))
       ≡ record { first = first; last = last } ∷ runs m f len (next .at)))))
   given-by (found.At lo) w first last next e =
       let r = run-around f bits len lo (w .1, w .2) in
       let a : lo ≡ first = ap firstIn e in
-      let b : lastOfRun f len lo ≡ last = ap lastIn e in
-      let c : lastOfRun f len lo + 1 ≡ next .at = ap nextIn e in (
+      let b : lastAround 1 f len lo ≡ last = ap lastIn e in
+      let c : lastAround 1 f len lo + 1 ≡ next .at = ap nextIn e in (
         omega (arith, w .0),
         (
           omega (arith, r .to),
@@ -84,7 +79,7 @@ module _ (f : ℕ → ℕ) (bits : Bits f) (len m at : ℕ) where
             omega (arith, r .fits),
             (
               omega arith,
-              ap₂ {C = List Ends} (λ (x y : ℕ). record { first = x; last = y } ∷ runs m f len (lastOfRun f len lo + 1)) a b
+              ap₂ {C = List Ends} (λ (x y : ℕ). record { first = x; last = y } ∷ runs m f len (lastAround 1 f len lo + 1)) a b
                   ∙ ap (λ (z : ℕ). record { first = first; last = last } ∷ runs m f len z) c,
             ),
           ),
@@ -94,7 +89,7 @@ module _ (f : ℕ → ℕ) (bits : Bits f) (len m at : ℕ) where
   given-by (found.Refused n) w first last next e = absurd w
 
   pub given : (first last : ℕ) (next : Cursor) → nextRunAs 0 f len at ≡ Span first last next → Given f len m at first last (next .at)
-  unfolding nextRunAs runs
+  unfolding nextRunAs unless runs
   given first last next e =
       let g = given-by (nextSet f len at) (next-is 1 f len at) first last next e in
       record { from = g .0; to = g .1 .0; fits = g .1 .1 .0; past = g .1 .1 .1 .0; head = g .1 .1 .1 .1 }
@@ -168,7 +163,7 @@ module _ (f : ℕ → ℕ) (bits : Bits f) (len : ℕ) (fs ls : List ℕ) where
     listing-past h = listing-whole (by-found (len - n))
       where
         none : (m : ℕ) (r : Found) → First 1 f len at r
-            → whenFound r (λ lo. record { first = lo; last = lastOfRun f len lo } ∷ runs m f len (lastOfRun f len lo + 1)) ≡ []
+            → whenFound r (λ lo. record { first = lo; last = lastAround 1 f len lo } ∷ runs m f len (lastAround 1 f len lo + 1)) ≡ []
         none m (found.At lo) w = let z : ⊥ = omega (arith, w .0, w .1) in absurd z
         none m found.Nothing w = refl
         none m (found.Refused k) w = absurd w
@@ -178,11 +173,11 @@ module _ (f : ℕ → ℕ) (bits : Bits f) (len : ℕ) (fs ls : List ℕ) where
         by-found (suc m) = none m (nextSet f len at) (next-is 1 f len at)
 
     pub listing-done : nextRunAs 0 f len at ≡ Done → Listed f len fs ls n fs′ ls′
-    unfolding nextRunAs runs
+    unfolding nextRunAs unless runs
     listing-done e = listing-whole (by-found (len - n))
       where
         none : (m : ℕ) (r : Found) → runStep f len r ≡ Done → First 1 f len at r
-            → whenFound r (λ lo. record { first = lo; last = lastOfRun f len lo } ∷ runs m f len (lastOfRun f len lo + 1)) ≡ []
+            → whenFound r (λ lo. record { first = lo; last = lastAround 1 f len lo } ∷ runs m f len (lastAround 1 f len lo + 1)) ≡ []
         none m (found.At lo) q w = let z : _≡_ {A = ℕ} 0 1 = ap kindOf q in let x : ⊥ = omega (arith, z) in absurd x
         none m found.Nothing q w = refl
         none m (found.Refused k) q w = absurd w
@@ -193,7 +188,7 @@ module _ (f : ℕ → ℕ) (bits : Bits f) (len : ℕ) (fs ls : List ℕ) where
 
     -- a row that may be read is not refused
     pub listing-refused : (k : ℕ) → nextRunAs 0 f len at ≡ Refused k → Listed f len fs ls n fs′ ls′
-    unfolding nextRunAs
+    unfolding nextRunAs unless
     listing-refused k e = absurd (none (nextSet f len at) e (next-is 1 f len at))
       where
         none : (r : Found) → runStep f len r ≡ Refused k → First 1 f len at r → ⊥

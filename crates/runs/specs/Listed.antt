@@ -1,20 +1,18 @@
 -- All runs of a person in two lent columns, the first slots and the last slots. Assumes nothing.
-use mathlib.Core.Bool.{_&&_}
-use mathlib.Core.List.{List, [], _∷_}
-use Prim.Native.Nat.{ℕ, _+_, _*_}
+use mathlib.Core.List.{List, [], _∷_, _++_}
+use Prim.Native.Nat.{ℕ, _+_}
 use lib.Dec.{ltb, leb}
 use lib.ListN.{length, set}
-use Rattle.paper.specs.Limits.{slotsMost, peopleOk, orElse}
+use Rattle.paper.specs.Limits.{Test, test, heardOf}
+use Rattle.paper.specs.Rows.{unless}
 use Rattle.slotset.specs.Runs.{Ends, allRuns}
 use Rattle.slotset.specs.declared.Number.{Number}
-use Rattle.slotset.specs.Answers.{rowSlots, numberAs, wordsAs}
+use Rattle.slotset.specs.Answers.{setsRow, rowSlots, numberAs}
 
--- 1, 2 and 11 of a row, where 2 is also a column with room for fewer entries than slots
-unfoldable pub listNo : List ℕ → ℕ → ℕ → ℕ → ℕ → ℕ → ℕ
-listNo ws people person len n m =
-    orElse (peopleOk people && leb len slotsMost) 1
-    (orElse (leb (16 * people) (length ws) && leb len n && leb len m) 2
-    (orElse (ltb person people) 11 0))
+-- 1, 2 and 11 of a person's row, where 2 is also a column with room for fewer entries than slots
+unfoldable pub runsRow : List ℕ → ℕ → ℕ → ℕ → ℕ → ℕ → List Test
+runsRow ws people person len n m =
+    setsRow ws people len ++ (test 2 (leb len n) ∷ test 2 (leb len m) ∷ test 11 (ltb person people) ∷ [])
 
 -- l with one end of each run, in order, from entry n on
 unfoldable pub column : (Ends → ℕ) → List Ends → ℕ → List ℕ → List ℕ
@@ -34,9 +32,9 @@ pub record Outcome : Type 0 where
 -- how many runs there are, their first and their last slots in order, and the rest of each column as it was; refused, all of it as it was
 abbrev pub allRunsOf : List ℕ → ℕ → ℕ → ℕ → List ℕ → List ℕ → Outcome
 allRunsOf ws people person len fs ls =
-    let n = listNo ws people person len (length fs) (length ls) in
+    let n = heardOf (runsRow ws people person len (length fs) (length ls)) in
     record {
       answer = numberAs n (length (runsOf ws person len));
-      firsts = wordsAs n fs (column (λ e. e .first) (runsOf ws person len) 0 fs);
-      lasts = wordsAs n ls (column (λ e. e .last) (runsOf ws person len) 0 ls);
+      firsts = unless n fs (column (λ e. e .first) (runsOf ws person len) 0 fs);
+      lasts = unless n ls (column (λ e. e .last) (runsOf ws person len) 0 ls);
     }

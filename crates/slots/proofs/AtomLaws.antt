@@ -10,6 +10,7 @@ use lib.Dec.{leb, eqb}
 use lib.ListN.{length, getD, take}
 use Rattle.paper.specs.Limits.{peopleOk, slotCountOk, orElse}
 use Rattle.paper.specs.Count.{over}
+use Rattle.paper.specs.Rows.{unless}
 use Rattle.paper.proofs.Logic.{lt-or-ge, three, cond-zero, slot-count-says}
 use Rattle.paper.proofs.Refusals.{more-after}
 use Rattle.slotset.specs.declared.Number.the-variants as number
@@ -76,7 +77,7 @@ module _ (B : Base) (number : ℕ) (e : number ≡ baseNo B) where
 
 pub atoms-refused : (B : Base) (n : ℕ) → atomiseNo B ≡ n → (n ≡ 0 → ⊥)
     → AtomsEnd (atomiseOf B) (number.Refused n) (B .outStarts) (B .outEnds)
-unfolding atomiseOf numberAs wordsAs
+unfolding atomiseOf numberAs wordsAs unless
 atoms-refused B n e h =
     let z : eqb (atomiseNo B) 0 ≡ false = ne-eqb _ _ (λ q. h (sym e ∙ q)) in
     record { heard = simp z (ap number.Refused (sym e)); starts = simp z; ends = simp z }
@@ -121,7 +122,7 @@ module _ (B : Base) (no : ℕ) (e : no ≡ baseNo B) (z : no ≡ 0) (keys : List
     pub atoms-done : 1024 ≤ length S′ → 1024 ≤ length E′ → (F T : List ℕ)
         → F ≡ over (λ k. getD S′ k 0) r (B .outStarts) → T ≡ over (λ k. getD E′ k 0) r (B .outEnds)
         → AtomsEnd (atomiseOf B) (number.Is r) F T
-    unfolding atomiseOf numberAs wordsAs
+    unfolding atomiseOf numberAs wordsAs unless
     atoms-done a b F T p q =
         let none : eqb (atomiseNo B) 0 ≡ true = eq-eqb _ _ (after-none B no e z
         ∙ simp (le-leb (length (startsOfAtoms B)) 1024 few-atoms)) in

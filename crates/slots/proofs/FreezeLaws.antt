@@ -9,6 +9,7 @@ use borrow.Author.Tests.{le-leb, lt-leb, leb-true, ltb-true, eq-eqb, ne-eqb}
 use lib.Dec.{leb, ltb, eqb}
 use lib.ListN.{length, getD}
 use Rattle.paper.specs.Limits.{peopleOk, slotCountOk}
+use Rattle.paper.specs.Rows.{unless}
 use Rattle.paper.proofs.Logic.{lt-or-ge, both, cond-zero, slot-count-says}
 use Rattle.paper.proofs.Count.{count-opening}
 use Rattle.slotset.specs.declared.Number.the-variants as number
@@ -129,7 +130,7 @@ module _ (slots : ℕ) (starts ends frozen : List ℕ) (instant no : ℕ) (e : n
   pub freeze-refused : (no ≡ 0 → ⊥)
       → (number.Refused no ≡ freezeOf slots starts ends frozen instant .answer) ×
       (frozen ≡ freezeOf slots starts ends frozen instant .flags)
-  unfolding freezeOf numberAs wordsAs
+  unfolding freezeOf numberAs wordsAs unless
   freeze-refused h =
       let z : eqb (freezeNo slots starts ends frozen) 0 ≡ false = ne-eqb _ _ (λ q. h (e ∙ q)) in
       (simp z (ap number.Refused e), simp z)
@@ -137,7 +138,7 @@ module _ (slots : ℕ) (starts ends frozen : List ℕ) (instant no : ℕ) (e : n
   pub freeze-done : no ≡ 0 → (n : ℕ) → Opening slots (λ k. getD ends k 0) instant n → (ws : List ℕ)
       → ws ≡ rowStretchOf 1 frozen 1 0 slots 0 n
       → (number.Is n ≡ freezeOf slots starts ends frozen instant .answer) × (ws ≡ freezeOf slots starts ends frozen instant .flags)
-  unfolding freezeOf numberAs wordsAs
+  unfolding freezeOf numberAs wordsAs unless
   freeze-done h n O ws w =
       let z : eqb (freezeNo slots starts ends frozen) 0 ≡ true = eq-eqb _ _ (sym e ∙ h) in
       let k = freeze-says slots starts ends frozen (sym e ∙ h) in (
@@ -148,7 +149,7 @@ module _ (slots : ℕ) (starts ends frozen : List ℕ) (instant no : ℕ) (e : n
 -- ---- may this person cover this slot
 module _ (slots : ℕ) (words : List ℕ) (people person slot no : ℕ) (e : no ≡ availableNo people slots words person slot) where
   pub available-refused : (no ≡ 0 → ⊥) → told.Refused no ≡ isAvailable people slots words person slot
-  unfolding isAvailable toldAs
+  unfolding isAvailable toldAs unless
   available-refused h =
       let z : eqb (availableNo people slots words person slot) 0 ≡ false = ne-eqb _ _ (λ q. h (e ∙ q)) in
       simp z (ap told.Refused e)

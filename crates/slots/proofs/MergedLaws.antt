@@ -10,6 +10,7 @@ use lib.ListN.{length, getD, take, set}
 use lib.Seq.{length-take-le, getD-take}
 use Rattle.paper.specs.Limits.{peopleOk}
 use Rattle.paper.specs.Count.{over}
+use Rattle.paper.specs.Rows.{unless}
 use Rattle.paper.proofs.Logic.{both, three, cond-zero}
 use Rattle.paper.proofs.Count.{over-more, over-same, length-over, some-one}
 use Rattle.slotset.specs.declared.Number.the-variants as number
@@ -85,14 +86,14 @@ merged-says people R out e =
 module _ (people : ℕ) (R : Ranges) (out : Columns) (no : ℕ) (e : no ≡ mergedNo people R out) where
   pub merged-refused : (no ≡ 0 → ⊥)
       → MergedEnd (mergedRanges people R out) (number.Refused no) (out .persons) (out .starts) (out .ends)
-  unfolding mergedRanges numberAs wordsAs
+  unfolding mergedRanges numberAs wordsAs unless
   merged-refused h =
       let z : eqb (mergedNo people R out) 0 ≡ false = ne-eqb _ _ (λ q. h (e ∙ q)) in
       record { heard = simp z (ap number.Refused e); persons = simp z; starts = simp z; ends = simp z }
 
   pub merged-done : no ≡ 0 → (keys : List ℕ) (n : ℕ) → MergedFrom R keys n → (p s f : List ℕ)
       → TakenApart n keys (out .persons) (out .starts) (out .ends) p s f → MergedEnd (mergedRanges people R out) (number.Is n) p s f
-  unfolding mergedRanges numberAs wordsAs
+  unfolding mergedRanges numberAs wordsAs unless
   merged-done h keys n M p s f T =
       let z : eqb (mergedNo people R out) 0 ≡ true = eq-eqb _ _ (sym e ∙ h) in
       let S = merged-says people R out (sym e ∙ h) .0 in

@@ -7,7 +7,7 @@ use lib.ListN.{getD}
 use Rattle.paper.specs.Bits.{bitOf}
 use Rattle.paper.specs.Count.{sum}
 use Rattle.slotset.specs.Slots.{slot, size}
-use Rattle.slotset.specs.Words.{onesBelow}
+use Rattle.slotset.specs.Inside.{onesBelow}
 
 -- the slots below word j, and those of its k lowest bits
 pub count-add : (ws : List ℕ) (b j k : ℕ) → k ≤ 64

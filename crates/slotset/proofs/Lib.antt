@@ -8,3 +8,4 @@ pub mod Meaning
 pub mod Refusals
 pub mod Runs
 pub mod Members
+pub mod OneSlot

@@ -12,7 +12,8 @@ use Rattle.paper.proofs.Logic.{lt-or-ge, zero-of}
 use Rattle.slotset.specs.declared.Found.{Found}
 use Rattle.slotset.specs.declared.Found.the-variants.{At, Nothing, Refused}
 use Rattle.slotset.specs.Slots.{Bits, noMember}
-use Rattle.slotset.specs.Search.{up, nextWith, down, lastBelow, First, Last, Below}
+use Rattle.slotset.specs.Search.{up, nextWith, down, lastBelow, First, Last}
+use Rattle.slotset.specs.Inside.{Below}
 use Rattle.slotset.proofs.Scans.{next-end, next-hit, next-skip, down-hit, down-skip}
 
 module _ (v : ℕ) (f : ℕ → ℕ) (len : ℕ) where

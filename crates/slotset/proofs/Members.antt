@@ -6,14 +6,15 @@ use mathlib.Core.Logic.{⊎-elim, _≢_}
 use Prim.Native.Nat.{ℕ, zero, suc, _+_, _-_, _*_, _/_, _≤_, _<_}
 use native.Mathlib.Omega.{arith}
 use borrow.Author.Tests.{eq-eqb, ne-eqb, le-ltb}
-use lib.Dec.{eqb, leb, ltb}
+use lib.Dec.{eqb, ltb}
 use lib.ListN.{length, length-append}
-use Rattle.paper.specs.Count.{sum, among}
+use Rattle.paper.specs.Count.{all, sum, among}
 use Rattle.paper.proofs.Count.{sum-same, all-same}
 use Rattle.paper.proofs.Logic.{by-test, lt-or-ge, zero-of}
-use Rattle.slotset.specs.Slots.{Bits, slot, size, has, noMember, putSlot, putSlots, stretched}
+use Rattle.slotset.specs.Slots.{Bits, slot, size, has, noMember, putSlot, sameSlots}
 use Rattle.slotset.specs.Runs.{allRuns}
-use Rattle.slotset.proofs.Puts.{slot-put, slot-puts-here}
+use Rattle.slotset.specs.Answers.{sameSets}
+use Rattle.slotset.proofs.Puts.{slot-put}
 use Rattle.slotset.proofs.Runs.{runs-same}
 
 -- the size is the number of members
@@ -47,15 +48,6 @@ module _ (b i v : ℕ) (ws : List ℕ) (small : v < 2) (room : b + i / 64 < leng
       slot-put b i v ws b k small room
       ∙ ap (λ (t : Bool). cond t v (slot ws b k)) (ne-eqb (b * 64 + k) (b * 64 + i) (λ q. n (omega arith)))
 
--- after a stretch was put at v: the slots of `stretched`
-pub stretch-slots : (v b a e : ℕ) (ws : List ℕ) (k : ℕ) → v < 2 → a ≤ e → b * 64 + e ≤ length ws * 64
-    → slot (putSlots (λ _. v) b a (e - a) ws) b k ≡ stretched v a e (slot ws b) k
-unfolding stretched
-stretch-slots v b a e ws k small h room =
-    let q : a + (e - a) ≡ e = omega arith in
-    slot-puts-here (λ _. v) b a (e - a) ws k (λ i. small) (omega arith)
-    ∙ ap (λ (x : ℕ). cond (leb a k && ltb k x) v (slot ws b k)) q
-
 -- sets that agree below the length have the same members, size and runs, whatever their other bits
 module _ (f g : ℕ → ℕ) (len : ℕ) (same : (k : ℕ) → k < len → f k ≡ g k) where
   pub size-same : size f len ≡ size g len
@@ -76,3 +68,10 @@ module _ (f g : ℕ → ℕ) (len : ℕ) (same : (k : ℕ) → k < len → f k �
 
   pub all-runs-same : allRuns f len ≡ allRuns g len
   all-runs-same = runs-same f g len same len 0
+
+-- everybody's sets compared with some whose slots are known
+pub same-sets-by : (ws vs : List ℕ) (people len : ℕ) (g : ℕ → ℕ → ℕ) → ((p k : ℕ) → p < people → k < len → slot vs (16 * p) k ≡ g p k)
+    → sameSets ws vs people len ≡ all people (λ p. all len (λ k. eqb (slot ws (16 * p) k) (g p k)))
+unfolding sameSets sameSlots
+same-sets-by ws vs people len g is =
+    all-same people _ _ (λ p h. all-same len _ _ (λ k l. ap (eqb (slot ws (16 * p) k)) (is p k h l)))

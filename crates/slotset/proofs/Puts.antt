@@ -11,13 +11,13 @@ use borrow.Author.Tests.{eq-eqb, ne-eqb, lt-ltb, le-ltb, le-leb, lt-leb}
 use lib.Bits.{bitAnd, bitOr, and-high, and-le-l, or-add-and, or-lt}
 use lib.Pow.{pow-add, pow-lt}
 use lib.Dec.{eqb, leb, ltb, eqb·zero-suc, eqb·suc-zero, eqb·suc-suc}
-use lib.ListN.{length, getD, set, length-set, List·getD-eq-default}
-use lib.Seq.{getD-set-same, getD-set-other, set-set, set-getD, ext-getD}
+use lib.ListN.{length, getD, set, take, drop, replicate, getD-replicate, length-replicate, length-set, List·getD-eq-default}
+use lib.Seq.{getD-set-same, getD-set-other, getD-take, getD-drop, set-set, set-getD, ext-getD}
 use Rattle.paper.specs.Bits.{bitOf}
-use Rattle.paper.proofs.Bits.{bit-lt, bit-zero, bit-suc, shift-suc, bit-ext}
+use Rattle.paper.proofs.Bits.{bit-lt, bit-none, bit-zero, bit-suc, shift-suc, bit-ext}
 use Rattle.paper.proofs.Logic.{lt-or-ge}
 use Rattle.slotset.specs.Slots.{Bits, slot, withBit, putSlot, putSlots, valueOf}
-use Rattle.slotset.specs.Words.{Merged}
+use Rattle.slotset.specs.Inside.{Merged}
 
 -- ---- one bit of a word
 
@@ -153,12 +153,14 @@ unfolding putSlots
 puts-none g b from ws = refl
 
 -- one slot
-pub puts-one : (v b i : ℕ) (ws : List ℕ) → putSlots (λ _. v) b i (i + 1 - i) ws ≡ putSlot b i v ws
+puts-first : (g : ℕ → ℕ) (b i : ℕ) (ws : List ℕ) → putSlots g b i (suc 0) ws ≡ putSlot b i (g i) ws
 unfolding putSlots
+puts-first g b i ws = let z : i + 0 ≡ i = omega arith in ap (λ (x : ℕ). putSlot b x (g x) ws) z
+
+pub puts-one : (v b i : ℕ) (ws : List ℕ) → putSlots (λ _. v) b i (i + 1 - i) ws ≡ putSlot b i v ws
 puts-one v b i ws =
     let n : i + 1 - i ≡ suc 0 = omega arith in
-    let z : i + 0 ≡ i = omega arith in
-    ap (λ (x : ℕ). putSlots (λ _. v) b i x ws) n ∙ ap (λ (x : ℕ). putSlot b x v ws) z
+    ap (λ (x : ℕ). putSlots (λ _. v) b i x ws) n ∙ puts-first (λ _. v) b i ws
 
 -- first some, then those after them
 pub puts-add : (g : ℕ → ℕ) (b from n m : ℕ) (ws : List ℕ)
@@ -202,6 +204,14 @@ value-lt false = omega arith
 pub slot-lt : (ws : List ℕ) (b i : ℕ) → slot ws b i < 2
 unfolding slot
 slot-lt ws b i = bit-lt _ _
+
+-- slot k of person p, by its place among all bits
+pub place : (ws : List ℕ) (p k : ℕ) → slot ws (16 * p) k ≡ slot ws 0 (1024 * p + k)
+unfolding slot
+place ws p k =
+    let q : 16 * p + k / 64 ≡ 0 + (1024 * p + k) / 64 = omega arith in
+    let m : k % 64 ≡ (1024 * p + k) % 64 = omega arith in
+    ap₂ (λ (x y : ℕ). bitOf (getD ws x 0) y) q m
 
 -- bits of one word, by where they stand among all bits
 same-place : (b c i k : ℕ) → b + i / 64 ≡ c + k / 64 → eqb (k % 64) (i % 64) ≡ eqb (c * 64 + k) (b * 64 + i)
@@ -334,3 +344,67 @@ slots-ext ws vs e hw hv f =
     let q : 0 + (j * 64 + k) / 64 ≡ j = omega arith in
     let m : (j * 64 + k) % 64 ≡ k = omega arith in
     ap₂ (λ (x y : ℕ). bitOf (getD ws x 0) y) (sym q) (sym m) ∙ f (j * 64 + k) ∙ ap₂ (λ (x y : ℕ). bitOf (getD vs x 0) y) q m))
+
+-- ---- a row as a set by value
+
+-- sixteen words taken out of a row have its slots
+pub slot-loaded : (ws : List ℕ) (p k : ℕ) → k < 1024 → slot (take 16 (drop (16 * p) ws)) 0 k ≡ slot ws (16 * p) k
+unfolding slot
+slot-loaded ws p k h =
+    let w : 0 + k / 64 < 16 = omega arith in
+    let e : 16 * p + (0 + k / 64) ≡ 16 * p + k / 64 = omega arith in
+    ap (λ (x : ℕ). bitOf x (k % 64))
+    (getD-take 16 (drop (16 * p) ws) (0 + k / 64) 0 w ∙ getD-drop (16 * p) ws (0 + k / 64) 0 ∙ ap (λ (j : ℕ). getD ws j 0) e)
+
+-- words of 0 have no member
+pub slot-none : (n b k : ℕ) → slot (replicate n 0) b k ≡ 0
+unfolding slot
+slot-none n b k =
+    ⊎-elim
+    (λ (h : b + k / 64 < n). ap (λ (w : ℕ). bitOf w (k % 64)) (getD-replicate n (b + k / 64) 0 0 h) ∙ bit-none (k % 64))
+    (λ (h : n ≤ b + k / 64).
+    let q : length (replicate n 0) ≤ b + k / 64 = omega (arith, length-replicate {A = ℕ} n 0) in
+    ap (λ (w : ℕ). bitOf w (k % 64)) (List·getD-eq-default (replicate n 0) 0 {n = b + k / 64} q)
+    ∙ bit-none (k % 64))
+    (lt-or-ge (b + k / 64) n)
+
+-- a slot put at the value that it has
+with-same : (w k : ℕ) → withBit (bitOf w k) w k ≡ w
+unfolding withBit
+with-same w k = omega (arith, bit-mul-le w k)
+
+pub put-same : (b i : ℕ) (ws : List ℕ) → putSlot b i (slot ws b i) ws ≡ ws
+unfolding putSlot slot
+put-same b i ws = ap (set ws (b + i / 64)) (with-same (getD ws (b + i / 64) 0) (i % 64)) ∙ set-getD ws (b + i / 64) 0
+
+pub puts-again : (b from n : ℕ) (ws : List ℕ) → putSlots (slot ws b) b from n ws ≡ ws
+unfolding putSlots
+puts-again b from zero ws = refl
+puts-again b from (suc n) ws =
+    ap (putSlot b (from + n) (slot ws b (from + n))) (puts-again b from n ws) ∙ put-same b (from + n) ws
+
+-- a set that is the row but for slot i, stored: slot i is put
+pub stored-put : (g : ℕ → ℕ) (b i len v : ℕ) (ws : List ℕ) → i < len → b * 64 + len ≤ length ws * 64 → v < 2 → g i ≡ v
+    → ((k : ℕ) → k < len → (k ≡ i → ⊥) → g k ≡ slot ws b k) → putSlots g b 0 len ws ≡ putSlot b i v ws
+stored-put g b i len v ws h room small e same =
+    let n : len ≡ i + (suc 0 + (len - suc i)) = omega arith in
+    let z : 0 + i ≡ i = omega arith in
+    ap (λ (x : ℕ). putSlots g b 0 x ws) n ∙ puts-add g b 0 i (suc 0 + (len - suc i)) ws
+    ∙ ap₂ (λ (a : ℕ) (l : List ℕ). putSlots g b a (suc 0 + (len - suc i)) l) z below
+    ∙ puts-add g b i (suc 0) (len - suc i) ws ∙ ap (putSlots g b (i + suc 0) (len - suc i)) here
+    ∙ puts-same g (slot new b) b (i + suc 0) (len - suc i) new above ∙ puts-again b (i + suc 0) (len - suc i) new
+  where
+    new : List ℕ
+    new = putSlot b i v ws
+
+    below : putSlots g b 0 i ws ≡ ws
+    below = puts-same g (slot ws b) b 0 i ws (λ k x y. same k (omega arith) (λ q. omega arith)) ∙ puts-again b 0 i ws
+
+    here : putSlots g b i (suc 0) ws ≡ new
+    here = puts-first g b i ws ∙ ap (λ (x : ℕ). putSlot b i x ws) e
+
+    above : (k : ℕ) → i + suc 0 ≤ k → k < i + suc 0 + (len - suc i) → g k ≡ slot new b k
+    above k x y =
+        same k (omega arith) (λ q. omega arith)
+        ∙ sym (slot-put b i v ws b k small (omega arith)
+        ∙ ap (λ (t : Bool). cond t v (slot ws b k)) (ne-eqb (b * 64 + k) (b * 64 + i) (λ q. omega arith)))

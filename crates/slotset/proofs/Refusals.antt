@@ -1,14 +1,16 @@
--- What each refusal number says where it is none, and how an answer follows from the number. Assumes nothing.
+-- What each row of tests says where nothing is heard, and how an answer follows from the number. Assumes nothing.
 use mathlib.Core.Path.{_≡_, refl, sym, ap, ap₂, _∙_}
-use mathlib.Core.Bool.{Bool, true, false, _&&_, _||_, cond}
+use mathlib.Core.Bool.{Bool, true, false, _||_, cond}
 use mathlib.Core.List.{List}
 use Prim.Native.Nat.{ℕ, _+_, _-_, _*_, _≤_, _<_}
 use native.Mathlib.Omega.{arith}
-use borrow.Author.Tests.{leb-true, ltb-true, eq-eqb, ne-eqb, le-leb, lt-leb, lt-ltb}
-use lib.Dec.{eqb, ltb, leb}
+use borrow.Author.Tests.{leb-true, ltb-true, le-leb, lt-leb, lt-ltb}
+use lib.Dec.{leb}
 use lib.ListN.{length}
-use Rattle.paper.specs.Limits.{peopleOk}
-use Rattle.paper.proofs.Logic.{number-of-made, both, cond-zero, or-right, or-second, people-says}
+use Rattle.paper.specs.Limits.{peopleOk, heardOf}
+use Rattle.paper.specs.Rows.{unless}
+use Rattle.paper.proofs.Rows.{passed, all-pass, worked, kept}
+use Rattle.paper.proofs.Logic.{number-of-made, or-right, or-second, people-says}
 use Rattle.slotset.specs.declared.SlotSet.{SlotSet}
 use Rattle.slotset.specs.declared.Changed.{Changed}
 use Rattle.slotset.specs.declared.Found.{Found}
@@ -19,33 +21,32 @@ use Rattle.slotset.specs.declared.Run.the-variants as run
 use Rattle.slotset.specs.declared.NextRun.the-variants as nextRun
 use Rattle.slotset.specs.declared.NextMember.the-variants as nextMember
 use Rattle.slotset.specs.Slots.{putSlots}
-use Rattle.slotset.specs.Answers.{lenNo, slotNo, stretchNo, rowNo, rowStretchNo}
-use Rattle.slotset.specs.Answers.{foundAs, toldAs, numberAs, runAs, nextRunAs, nextMemberAs, changedAs, wordsAs, rowStretchOf}
+use Rattle.slotset.specs.Answers.{lengthRow, slotRow, stretchOk, stretchRow, setsRow, sameSetsRow, personRow, personStretchRow}
+use Rattle.slotset.specs.Answers.{foundAs, toldAs, numberAs, runAs, nextRunAs, nextMemberAs, changedAs, rowStretchOf}
 use Rattle.slotset.specs.Answers.{toldNo, numberNo}
 
 -- ---- where nothing is refused
 
-pub len-says : (len : ℕ) → lenNo len ≡ 0 → len ≤ 1024
-unfolding lenNo
-len-says len e = leb-true len 1024 (cond-zero (leb len 1024) 0 0 e .0)
+pub len-says : (len : ℕ) → heardOf (lengthRow len) ≡ 0 → len ≤ 1024
+unfolding lengthRow
+len-says len z = leb-true len 1024 (passed (lengthRow len) refl z 0)
 
-pub slot-says : (len i : ℕ) → slotNo len i ≡ 0 → (len ≤ 1024) × (i < len)
-unfolding slotNo
-slot-says len i e =
-    let a = cond-zero (leb len 1024) _ 0 e in
-    let b = cond-zero (ltb i len) _ 10 (a .1) in
-    (leb-true len 1024 (a .0), ltb-true i len (b .0))
+pub slot-says : (len i : ℕ) → heardOf (slotRow len i) ≡ 0 → (len ≤ 1024) × (i < len)
+unfolding slotRow
+slot-says len i z =
+    let h = passed (slotRow len i) refl z in
+    (leb-true len 1024 (h 0), ltb-true i len (h 1))
 
 -- a stretch with an index in it ends within the length
-within : (len a e : ℕ) → leb e a || leb e len ≡ true → a < e → e ≤ len
+within : (len a e : ℕ) → stretchOk len a e ≡ true → a < e → e ≤ len
+unfolding stretchOk
 within len a e t h = leb-true e len (or-right (leb e a) (leb e len) t (lt-leb e a h))
 
-pub stretch-says : (len a e : ℕ) → stretchNo len a e ≡ 0 → (len ≤ 1024) × (a < e → e ≤ len)
-unfolding stretchNo
+pub stretch-says : (len a e : ℕ) → heardOf (stretchRow len a e) ≡ 0 → (len ≤ 1024) × (a < e → e ≤ len)
+unfolding stretchRow
 stretch-says len a e z =
-    let x = cond-zero (leb len 1024) _ 0 z in
-    let y = cond-zero (leb e a || leb e len) _ 10 (x .1) in
-    (leb-true len 1024 (x .0), within len a e (y .0))
+    let h = passed (stretchRow len a e) refl z in
+    (leb-true len 1024 (h 0), within len a e (h 1))
 
 -- a row that may be asked
 pub record Row (ws : List ℕ) (people person len : ℕ) : Type 0 where
@@ -55,18 +56,15 @@ pub record Row (ws : List ℕ) (people person len : ℕ) : Type 0 where
   pub known : person < people
   pub words : 16 * person + 16 ≤ length ws
 
-pub row-says : (ws : List ℕ) (people person len : ℕ) → rowNo ws people person len ≡ 0 → Row ws people person len
-unfolding rowNo
-row-says ws people person len e =
-    let a = cond-zero (peopleOk people && leb len 1024) _ 0 e in
-    let p = both (peopleOk people) (leb len 1024) (a .0) in
-    let b = cond-zero (leb (16 * people) (length ws)) _ 1 (a .1) in
-    let c = cond-zero (ltb person people) _ 10 (b .1) in
-    let room : 16 * people ≤ length ws = leb-true _ _ (b .0) in
-    let known : person < people = ltb-true _ _ (c .0) in
+pub row-says : (ws : List ℕ) (people person len : ℕ) → heardOf (personRow ws people person len) ≡ 0 → Row ws people person len
+unfolding personRow setsRow
+row-says ws people person len z =
+    let h = passed (personRow ws people person len) refl z in
+    let room : 16 * people ≤ length ws = leb-true _ _ (h 2) in
+    let known : person < people = ltb-true _ _ (h 3) in
     record {
-      few = people-says people (p .0) .1;
-      short = leb-true _ _ (p .1);
+      few = people-says people (h 0) .1;
+      short = leb-true _ _ (h 1);
       room = room;
       known = known;
       words = omega arith;
@@ -74,53 +72,66 @@ row-says ws people person len e =
 
 -- and the other way round: a row that passes each test is not refused
 pub says-row : (ws : List ℕ) (people person len : ℕ) → peopleOk people ≡ true → len ≤ 1024 → 16 * people ≤ length ws → person < people
-    → rowNo ws people person len ≡ 0
-unfolding rowNo
+    → heardOf (personRow ws people person len) ≡ 0
+unfolding personRow setsRow
 says-row ws people person len ok short room known =
-    simp (ok, le-leb len 1024 short, le-leb (16 * people) (length ws) room, lt-ltb person people known)
+    all-pass (personRow ws people person len) (ok, (le-leb _ _ short, (le-leb _ _ room, (lt-ltb _ _ known, tt))))
 
-pub row-stretch-says : (ws : List ℕ) (people person len a e : ℕ) → rowStretchNo ws people person len a e ≡ 0
-    → (rowNo ws people person len ≡ 0) × (a < e → e ≤ len)
-unfolding rowStretchNo
-row-stretch-says ws people person len a e z =
-    by (eqb n 0) refl
-  where
-    n : ℕ
-    n = rowNo ws people person len
+-- a stretch of it
+module _ (ws : List ℕ) (people person len a e : ℕ) where
+  pub row-stretch-says : heardOf (personStretchRow ws people person len a e) ≡ 0
+      → (heardOf (personRow ws people person len) ≡ 0) × (a < e → e ≤ len)
+  unfolding personStretchRow personRow setsRow
+  row-stretch-says z =
+      let h = passed (personStretchRow ws people person len a e) refl z in
+      (all-pass (personRow ws people person len) (h 0, (h 1, (h 2, (h 3, tt)))), within len a e (h 4))
 
-    by : (b : Bool) → eqb n 0 ≡ b → (rowNo ws people person len ≡ 0) × (a < e → e ≤ len)
-    by true t = (
-      borrow.Author.Tests.eqb-true n 0 t,
-      within len a e
-          (cond-zero (leb e a || leb e len) 0 10 (sym (ap (λ (x : Bool). cond x (cond (leb e a || leb e len) 0 11) n) t) ∙ z) .0),
-    )
-    by false f = absurd (borrow.Author.Tests.eqb-false n 0 f (sym (ap (λ (x : Bool). cond x (cond (leb e a || leb e len) 0 11) n) f) ∙ z))
+  pub says-stretch : heardOf (personRow ws people person len) ≡ 0 → stretchOk len a e ≡ true
+      → heardOf (personStretchRow ws people person len a e) ≡ 0
+  unfolding personStretchRow personRow setsRow
+  says-stretch z t =
+      let h = passed (personRow ws people person len) refl z in
+      all-pass (personStretchRow ws people person len a e) (h 0, (h 1, (h 2, (h 3, (t, tt)))))
 
 -- a stretch of a row that is not refused, and that ends within the length, is put
-pub stretch-puts : (v : ℕ) (ws : List ℕ) (people person len a e : ℕ) → rowNo ws people person len ≡ 0 → e ≤ len
+pub stretch-puts : (v : ℕ) (ws : List ℕ) (people person len a e : ℕ) → heardOf (personRow ws people person len) ≡ 0 → e ≤ len
     → rowStretchOf v ws people person len a e ≡ putSlots (λ _. v) (16 * person) a (e - a) ws
-unfolding rowStretchOf rowStretchNo wordsAs
+unfolding rowStretchOf stretchOk
 stretch-puts v ws people person len a e z h =
-    let t : leb e a || leb e len ≡ true = or-second (leb e a) (leb e len) (le-leb e len h) in
-    simp (z, t)
+    worked _ ws _ (says-stretch ws people person len a e z (or-second (leb e a) (leb e len) (le-leb e len h)))
+
+-- everybody's sets in two columns of words
+pub says-same : (ws vs : List ℕ) (people len : ℕ) → peopleOk people ≡ true → len ≤ 1024 → 16 * people ≤ length ws → 16 * people ≤ length vs
+    → heardOf (sameSetsRow ws vs people len) ≡ 0
+unfolding sameSetsRow setsRow
+says-same ws vs people len ok short room more =
+    all-pass (sameSetsRow ws vs people len) (ok, (le-leb len 1024 short, (le-leb _ _ room, (le-leb _ _ more, tt))))
+
+pub same-says : (ws vs : List ℕ) (people len : ℕ) → heardOf (sameSetsRow ws vs people len) ≡ 0
+    → (people ≤ 32) × (len ≤ 1024) × (16 * people ≤ length ws) × (16 * people ≤ length vs)
+unfolding sameSetsRow setsRow
+same-says ws vs people len z =
+    let h = passed (sameSetsRow ws vs people len) refl z in
+    (people-says people (h 0) .1, leb-true _ _ (h 1), leb-true _ _ (h 2), leb-true _ _ (h 3))
 
 -- ---- the answer where the number is none, and where it is one
 
 module _ (n m : ℕ) (e : n ≡ m) where
   module _ (z : n ≡ 0) where
-    is-none : eqb m 0 ≡ true
-    is-none = eq-eqb m 0 (sym e ∙ z)
+    -- what was worked out, in place of what was there
+    pub work-is : {A : Type 0} (old new x : A) → x ≡ new → x ≡ unless m old new
+    work-is old new x q = q ∙ sym (worked m old new (sym e ∙ z))
 
     pub found-is : (x y : Found) → x ≡ y → x ≡ foundAs m y
     unfolding foundAs
-    found-is x y q = simp is-none q
+    found-is x y q = work-is (found.Refused m) y x q
 
     pub told-is : (b b′ : Bool) → b ≡ b′ → toldAs 0 b ≡ toldAs m b′
     told-is b b′ q = ap₂ toldAs (sym z ∙ e) q
 
     pub number-is : (k k′ : ℕ) → k ≡ k′ → number.Is k ≡ numberAs m k′
     unfolding numberAs
-    number-is k k′ q = simp is-none (ap number.Is q)
+    number-is k k′ q = work-is (number.Refused m) (number.Is k′) (number.Is k) (ap number.Is q)
 
     pub run-is : (f : ℕ → ℕ) (len i : ℕ) → runAs 0 f len i ≡ runAs m f len i
     run-is f len i = ap (λ (x : ℕ). runAs x f len i) (sym z ∙ e)
@@ -131,78 +142,55 @@ module _ (n m : ℕ) (e : n ≡ m) where
     pub next-member-is : (f : ℕ → ℕ) (len at : ℕ) → nextMemberAs 0 f len at ≡ nextMemberAs m f len at
     next-member-is f len at = ap (λ (x : ℕ). nextMemberAs x f len at) (sym z ∙ e)
 
-    pub words-is : (old new l : List ℕ) → l ≡ new → l ≡ wordsAs m old new
-    unfolding wordsAs
-    words-is old new l q = simp is-none q
-
-    pub changed-is : (s : SlotSet) (ws vs : List ℕ) → ws ≡ vs
-        → _≡_ {A = Changed} (record { set = record { words = ws; len = s .len }; number = n }) (changedAs m s vs)
+    pub changed-is : (old : SlotSet) (ws vs : List ℕ) (len : ℕ) → ws ≡ vs
+        → _≡_ {A = Changed} (record { set = record { words = ws; len = len }; number = n })
+        (changedAs m old (record { words = vs; len = len }))
     unfolding changedAs
-    changed-is s ws vs q =
-        simp is-none (ap₂ {C = Changed} (λ (l : List ℕ) (k : ℕ). record { set = record { words = l; len = s .len }; number = k }) q e)
-
-    pub loaded-is : (ws vs none : List ℕ) (len : ℕ) → ws ≡ vs
-        → _≡_ {A = Changed} (record { set = record { words = ws; len = len }; number = n })
-        (record { set = record { words = cond (eqb m 0) vs none; len = cond (eqb m 0) len 0 }; number = m })
-    loaded-is ws vs none len q =
-        simp is-none (ap₂ {C = Changed} (λ (l : List ℕ) (k : ℕ). record { set = record { words = l; len = len }; number = k }) q e)
-
-    pub new-is : (ws : List ℕ) (len : ℕ)
-        → _≡_ {A = Changed} (record { set = record { words = ws; len = len }; number = n })
-        (record { set = record { words = ws; len = cond (eqb m 0) len 0 }; number = m })
-    new-is ws len = simp is-none (ap {B = Changed} (λ (k : ℕ). record { set = record { words = ws; len = len }; number = k }) e)
+    changed-is old ws vs len q =
+        ap₂ {C = Changed} (λ (s : SlotSet) (k : ℕ). record { set = s; number = k })
+        (work-is old (record { words = vs; len = len }) (record { words = ws; len = len })
+        (ap {B = SlotSet} (λ (l : List ℕ). record { words = l; len = len }) q)) e
 
   module _ (z : n ≡ 0 → ⊥) where
-    is-one : eqb m 0 ≡ false
-    is-one = ne-eqb m 0 (λ q. z (e ∙ q))
+    -- what was there stays
+    pub old-is : {A : Type 0} (old new : A) → old ≡ unless m old new
+    old-is old new = sym (kept m old new (λ q. z (e ∙ q)))
+
+    refusal-is : {A : Type 0} (refused : ℕ → A) (new : A) → refused n ≡ unless m (refused m) new
+    refusal-is refused new = ap refused e ∙ old-is (refused m) new
 
     pub found-no : (y : Found) → found.Refused n ≡ foundAs m y
     unfolding foundAs
-    found-no y = simp is-one (ap found.Refused e)
+    found-no y = refusal-is found.Refused y
 
     pub told-no : (b : Bool) → told.Refused n ≡ toldAs m b
     unfolding toldAs
-    told-no b = simp is-one (ap told.Refused e)
+    told-no b = refusal-is told.Refused (cond b told.Yes told.No)
 
     pub number-no : (k : ℕ) → number.Refused n ≡ numberAs m k
     unfolding numberAs
-    number-no k = simp is-one (ap number.Refused e)
+    number-no k = refusal-is number.Refused (number.Is k)
 
     pub run-no : (f : ℕ → ℕ) (len i : ℕ) → run.Refused n ≡ runAs m f len i
     unfolding runAs
-    run-no f len i = simp is-one (ap run.Refused e)
+    run-no f len i = refusal-is run.Refused _
 
     pub next-run-no : (f : ℕ → ℕ) (len at : ℕ) → nextRun.Refused n ≡ nextRunAs m f len at
     unfolding nextRunAs
-    next-run-no f len at = simp is-one (ap nextRun.Refused e)
+    next-run-no f len at = refusal-is nextRun.Refused _
 
     pub next-member-no : (f : ℕ → ℕ) (len at : ℕ) → nextMember.Refused n ≡ nextMemberAs m f len at
     unfolding nextMemberAs
-    next-member-no f len at = simp is-one (ap nextMember.Refused e)
+    next-member-no f len at = refusal-is nextMember.Refused _
 
-    pub words-no : (old new : List ℕ) → old ≡ wordsAs m old new
-    unfolding wordsAs
-    words-no old new = simp is-one
-
-    pub changed-no : (s : SlotSet) (vs : List ℕ) → _≡_ {A = Changed} (record { set = s; number = n }) (changedAs m s vs)
+    pub changed-no : (s new : SlotSet) → _≡_ {A = Changed} (record { set = s; number = n }) (changedAs m s new)
     unfolding changedAs
-    changed-no s vs = simp is-one (ap {B = Changed} (λ (k : ℕ). record { set = s; number = k }) e)
-
-    pub loaded-no : (vs none : List ℕ) (len : ℕ)
-        → _≡_ {A = Changed} (record { set = record { words = none; len = 0 }; number = n })
-        (record { set = record { words = cond (eqb m 0) vs none; len = cond (eqb m 0) len 0 }; number = m })
-    loaded-no vs none len =
-        simp is-one (ap {B = Changed} (λ (k : ℕ). record { set = record { words = none; len = 0 }; number = k }) e)
-
-    pub new-no : (ws : List ℕ) (len : ℕ)
-        → _≡_ {A = Changed} (record { set = record { words = ws; len = 0 }; number = n })
-        (record { set = record { words = ws; len = cond (eqb m 0) len 0 }; number = m })
-    new-no ws len = simp is-one (ap {B = Changed} (λ (k : ℕ). record { set = record { words = ws; len = 0 }; number = k }) e)
+    changed-no s new = ap₂ {C = Changed} (λ (t : SlotSet) (k : ℕ). record { set = t; number = k }) (old-is s new) e
 
 -- ---- an answer has the number that it was made with
 
 pub number-said : (n k : ℕ) → numberNo (numberAs n k) ≡ n
-unfolding numberAs
+unfolding numberAs unless
 number-said n k = number-of-made numberNo n (number.Is k) (number.Refused n) refl refl
 
 yes-or-no : (b : Bool) → toldNo (cond b told.Yes told.No) ≡ 0
@@ -210,5 +198,5 @@ yes-or-no true = refl
 yes-or-no false = refl
 
 pub told-said : (n : ℕ) (b : Bool) → toldNo (toldAs n b) ≡ n
-unfolding toldAs
+unfolding toldAs unless
 told-said n b = number-of-made toldNo n (cond b told.Yes told.No) (told.Refused n) (yes-or-no b) refl

@@ -8,12 +8,13 @@ use native.Mathlib.Numerals.{add-one}
 use native.Mathlib.Omega.{arith}
 use borrow.Author.Tests.{lt-ltb, eq-eqb, ltb-true, eqb-true}
 use lib.Dec.{ltb, eqb}
-use Rattle.paper.proofs.Logic.{lt-or-ge, both, zero-of, one-of}
+use Rattle.paper.proofs.Logic.{lt-or-ge, both, zero-of}
 use Rattle.slotset.specs.declared.Found.{Found}
 use Rattle.slotset.specs.declared.Found.the-variants.{At, Nothing, Refused}
 use Rattle.slotset.specs.Slots.{Bits, Member, has}
-use Rattle.slotset.specs.Search.{First, Last, Above, nextSet, nextUnsetAfter, prevUnsetBefore, nextWith}
-use Rattle.slotset.specs.Runs.{startOf, endOf, firstOfRun, lastOfRun, RunAround, Ends, whenFound, runs, AreRuns, InRuns}
+use Rattle.slotset.specs.Search.{First, Last, nextSet, nextWith, lastBelow}
+use Rattle.slotset.specs.Inside.{Above}
+use Rattle.slotset.specs.Runs.{startOf, endOf, firstAround, lastAround, Around, Ends, whenFound, runs, AreRuns, InRuns}
 use Rattle.slotset.proofs.Meaning.{next-is, last-is, next-same, last-same}
 
 -- membership, as a fact and as a test
@@ -47,35 +48,39 @@ next-after v f len i = ap (nextWith v f len) (add-one i)
 
 -- ---- the run around a member
 
-module _ (f : ℕ → ℕ) (bits : Bits f) (len i : ℕ) (m : Member f len i) where
-  left-side : (p : Found) → Last 0 f len i p
-      → (startOf p ≤ i) × ((k : ℕ) → startOf p ≤ k → k ≤ i → f k ≡ 1) × (0 < startOf p → f (startOf p - 1) ≡ 0)
+-- a bit that is not the other one
+is-bit : (v x : ℕ) → v < 2 → x < 2 → (x ≡ 1 - v → ⊥) → x ≡ v
+is-bit v x small bit other = omega (arith, other)
+
+module _ (v : ℕ) (small : v < 2) (f : ℕ → ℕ) (bits : Bits f) (len i : ℕ) (m : (i < len) × (f i ≡ v)) where
+  left-side : (p : Found) → Last (1 - v) f len i p
+      → (startOf p ≤ i) × ((k : ℕ) → startOf p ≤ k → k ≤ i → f k ≡ v) × (0 < startOf p → f (startOf p - 1) ≡ 1 - v)
   left-side (At p) l =
       let q : p + 1 - 1 ≡ p = omega arith in (
         omega (arith, l .0),
         λ k a b. ⊎-elim
-            (λ (x : k < i). one-of _ (bits k) (l .3 k (omega arith) x (omega (arith, m .0))))
+            (λ (x : k < i). is-bit v (f k) small (bits k) (l .3 k (omega arith) x (omega (arith, m .0))))
             (λ (x : i ≤ k). let e : k ≡ i = omega arith in ap f e ∙ m .1) (lt-or-ge k i),
         λ h. ap f q ∙ l .2,
       )
   left-side Nothing l = (
     omega arith,
     λ k a b. ⊎-elim
-        (λ (x : k < i). one-of _ (bits k) (l k x (omega (arith, m .0))))
+        (λ (x : k < i). is-bit v (f k) small (bits k) (l k x (omega (arith, m .0))))
         (λ (x : i ≤ k). let e : k ≡ i = omega arith in ap f e ∙ m .1) (lt-or-ge k i),
     λ h. let z : ⊥ = omega arith in absurd z,
   )
   left-side (Refused n) l = absurd l
 
-  right-side : (n : Found) → First 0 f len (suc i) n
-      → (i ≤ endOf len n) × (endOf len n < len) × ((k : ℕ) → i ≤ k → k ≤ endOf len n → f k ≡ 1)
-      × (endOf len n + 1 < len → f (endOf len n + 1) ≡ 0)
+  right-side : (n : Found) → First (1 - v) f len (suc i) n
+      → (i ≤ endOf len n) × (endOf len n < len) × ((k : ℕ) → i ≤ k → k ≤ endOf len n → f k ≡ v)
+      × (endOf len n + 1 < len → f (endOf len n + 1) ≡ 1 - v)
   right-side (At n) w =
       let q : n - 1 + 1 ≡ n = omega (arith, w .0) in (
         omega (arith, w .0),
         omega (arith, w .1),
         λ k a b. ⊎-elim
-            (λ (x : i < k). one-of _ (bits k) (w .3 k x (omega (arith, w .0))))
+            (λ (x : i < k). is-bit v (f k) small (bits k) (w .3 k x (omega (arith, w .0))))
             (λ (x : k ≤ i). let e : k ≡ i = omega arith in ap f e ∙ m .1) (lt-or-ge i k),
         λ h. ap f q ∙ w .2,
       )
@@ -83,17 +88,17 @@ module _ (f : ℕ → ℕ) (bits : Bits f) (len i : ℕ) (m : Member f len i) wh
     omega (arith, m .0),
     omega (arith, m .0),
     λ k a b. ⊎-elim
-        (λ (x : i < k). one-of _ (bits k) (w k x (omega (arith, m .0))))
+        (λ (x : i < k). is-bit v (f k) small (bits k) (w k x (omega (arith, m .0))))
         (λ (x : k ≤ i). let e : k ≡ i = omega arith in ap f e ∙ m .1) (lt-or-ge i k),
     λ h. let z : ⊥ = omega (arith, m .0) in absurd z,
   )
   right-side (Refused n) w = absurd w
 
-  -- the run of a member is a maximal stretch around it
-  pub run-around : RunAround f len i (firstOfRun f len i) (lastOfRun f len i)
-  run-around =
-      let l = left-side (prevUnsetBefore f len i) (last-is 0 f len i) in
-      let r = right-side (nextUnsetAfter f len i) (next-is 0 f len (suc i)) in
+  -- what lies between the nearest slots of the other value is a maximal stretch
+  pub stretch-around : Around v f len i (firstAround v f len i) (lastAround v f len i)
+  stretch-around =
+      let l = left-side (lastBelow (1 - v) f len i) (last-is (1 - v) f len i) in
+      let r = right-side (nextWith (1 - v) f len (suc i)) (next-is (1 - v) f len (suc i)) in
       record {
         from = l .0;
         to = r .0;
@@ -103,17 +108,21 @@ module _ (f : ℕ → ℕ) (bits : Bits f) (len i : ℕ) (m : Member f len i) wh
         right = r .3;
       }
 
--- only one stretch is the whole run around i
-module _ (f : ℕ → ℕ) (len i a b c d : ℕ) (x : RunAround f len i a b) (y : RunAround f len i c d) where
+-- the run of a member
+pub run-around : (f : ℕ → ℕ) → Bits f → (len i : ℕ) → Member f len i → Around 1 f len i (firstAround 1 f len i) (lastAround 1 f len i)
+run-around f bits len i m = stretch-around 1 (omega arith) f bits len i m
+
+-- only one stretch is the whole one around i
+module _ (v : ℕ) (f : ℕ → ℕ) (len i a b c d : ℕ) (x : Around v f len i a b) (y : Around v f len i c d) where
   same-first : a ≡ c
   same-first =
       ⊎-elim
       (λ (h : a < c).
-      let z : _≡_ {A = ℕ} 0 1 = sym (y .left (omega arith)) ∙ x .all (c - 1) (omega arith) (omega (arith, x .to, y .from)) in
+      let z : 1 - v ≡ v = sym (y .left (omega arith)) ∙ x .all (c - 1) (omega arith) (omega (arith, x .to, y .from)) in
       omega arith)
       (λ (h : c ≤ a). ⊎-elim
       (λ (g : c < a).
-      let z : _≡_ {A = ℕ} 0 1 = sym (x .left (omega arith)) ∙ y .all (a - 1) (omega arith) (omega (arith, y .to, x .from)) in
+      let z : 1 - v ≡ v = sym (x .left (omega arith)) ∙ y .all (a - 1) (omega arith) (omega (arith, y .to, x .from)) in
       omega arith)
       (λ (g : a ≤ c). omega arith) (lt-or-ge c a))
       (lt-or-ge a c)
@@ -121,10 +130,10 @@ module _ (f : ℕ → ℕ) (len i a b c d : ℕ) (x : RunAround f len i a b) (y 
   same-last : b ≡ d
   same-last =
       ⊎-elim
-      (λ (h : b < d). let z : _≡_ {A = ℕ} 0 1 = sym (x .right (omega (arith, y .fits))) ∙ y .all (b + 1) (omega (arith, y .from, x .to))
+      (λ (h : b < d). let z : 1 - v ≡ v = sym (x .right (omega (arith, y .fits))) ∙ y .all (b + 1) (omega (arith, y .from, x .to))
       (omega arith) in omega arith)
       (λ (h : d ≤ b). ⊎-elim
-      (λ (g : d < b). let z : _≡_ {A = ℕ} 0 1 = sym (y .right (omega (arith, x .fits))) ∙ x .all (d + 1) (omega (arith, x .from, y .to))
+      (λ (g : d < b). let z : 1 - v ≡ v = sym (y .right (omega (arith, x .fits))) ∙ x .all (d + 1) (omega (arith, x .from, y .to))
       (omega arith) in omega arith)
       (λ (g : b ≤ d). omega arith) (lt-or-ge d b))
       (lt-or-ge b d)
@@ -137,7 +146,7 @@ module _ (f : ℕ → ℕ) (len i a b c d : ℕ) (x : RunAround f len i a b) (y 
 module _ (f : ℕ → ℕ) (bits : Bits f) (len : ℕ) where
   are-step : (n at : ℕ) (r : Found) → ((at′ : ℕ) → len < n + at′ + 1 → AreRuns f len at′ (runs n f len at′)) → len < suc n + at + 1
       → First 1 f len at r → AreRuns f len at
-      (whenFound r (λ lo. record { first = lo; last = lastOfRun f len lo } ∷ runs n f len (lastOfRun f len lo + 1)))
+      (whenFound r (λ lo. record { first = lo; last = lastAround 1 f len lo } ∷ runs n f len (lastAround 1 f len lo + 1)))
   are-step n at (At lo) ih h w =
       let r = run-around f bits len lo (w .1, w .2) in (
         w .0,
@@ -146,7 +155,7 @@ module _ (f : ℕ → ℕ) (bits : Bits f) (len : ℕ) where
         w .3,
         λ k a b. r .all k (omega (arith, r .from)) b,
         λ g e. let z : _≡_ {A = ℕ} 0 1 = sym (r .right g) ∙ e in omega arith,
-        ih (lastOfRun f len lo + 1) (omega (arith, r .to, w .0)),
+        ih (lastAround 1 f len lo + 1) (omega (arith, r .to, w .0)),
       )
   are-step n at Nothing ih h w = w
   are-step n at (Refused k) ih h w = absurd w
@@ -202,7 +211,7 @@ Among a b (r ∷ rs) = ((r .first ≡ a) × (r .last ≡ b)) ⊎ Among a b rs
 module _ (f : ℕ → ℕ) (bits : Bits f) (len i : ℕ) (m : Member f len i) where
   -- the run of a member is the one of the list that holds it
   pub run-among : (at : ℕ) (l : List Ends) → AreRuns f len at l → at ≤ i → (0 < at → at < len → f (at - 1) ≡ 1 → f at ≡ 1 → ⊥)
-      → Among (firstOfRun f len i) (lastOfRun f len i) l
+      → Among (firstAround 1 f len i) (lastAround 1 f len i) l
   run-among at [] x h apart = x i h (m .0) (m .1)
   run-among at (r ∷ l) x h apart =
       ⊎-elim
@@ -210,7 +219,7 @@ module _ (f : ℕ → ℕ) (bits : Bits f) (len i : ℕ) (m : Member f len i) wh
       (λ (a : r .first ≤ i). ⊎-elim
       (λ (b : r .last < i). inr (run-among (r .last + 1) l (x .6) (omega arith) (λ p q u v. x .5 q v)))
       (λ (b : i ≤ r .last).
-      let whole : RunAround f len i (r .first) (r .last) = record {
+      let whole : Around 1 f len i (r .first) (r .last) = record {
         from = a;
         to = b;
         fits = x .2;
@@ -224,29 +233,29 @@ module _ (f : ℕ → ℕ) (bits : Bits f) (len i : ℕ) (m : Member f len i) wh
             (lt-or-ge (r .first - 1) at));
         right = λ p. zero-of (f (r .last + 1)) (bits _) (x .5 p);
       } in
-      let u = around-unique f len i (r .first) (r .last) _ _ whole (run-around f bits len i m) in
+      let u = around-unique 1 f len i (r .first) (r .last) _ _ whole (run-around f bits len i m) in
       inl (u .0, u .1)) (lt-or-ge (r .last) i))
       (lt-or-ge i (r .first))
 
 -- ---- sets that agree below the length have the same runs
 
 module _ (f g : ℕ → ℕ) (len : ℕ) (same : (k : ℕ) → k < len → f k ≡ g k) where
-  pub run-same : (i : ℕ) → (firstOfRun f len i ≡ firstOfRun g len i) × (lastOfRun f len i ≡ lastOfRun g len i)
+  pub run-same : (i : ℕ) → (firstAround 1 f len i ≡ firstAround 1 g len i) × (lastAround 1 f len i ≡ lastAround 1 g len i)
   run-same i = (ap startOf (last-same 0 f g len i same), ap (endOf len) (next-same 0 f g len (suc i) same))
 
   pub runs-same : (n at : ℕ) → runs n f len at ≡ runs n g len at
   unfolding runs
   runs-same zero at = refl
   runs-same (suc n) at =
-      ap (λ (r : Found). whenFound r (λ lo. record { first = lo; last = lastOfRun f len lo } ∷ runs n f len (lastOfRun f len lo + 1)))
+      ap (λ (r : Found). whenFound r (λ lo. record { first = lo; last = lastAround 1 f len lo } ∷ runs n f len (lastAround 1 f len lo + 1)))
       (next-same 1 f g len at same)
       ∙ step (nextSet g len at) (runs-same n)
     where
       step : (r : Found) → ((at′ : ℕ) → runs n f len at′ ≡ runs n g len at′)
-          → whenFound r (λ lo. record { first = lo; last = lastOfRun f len lo } ∷ runs n f len (lastOfRun f len lo + 1))
-          ≡ whenFound r (λ lo. record { first = lo; last = lastOfRun g len lo } ∷ runs n g len (lastOfRun g len lo + 1))
+          → whenFound r (λ lo. record { first = lo; last = lastAround 1 f len lo } ∷ runs n f len (lastAround 1 f len lo + 1))
+          ≡ whenFound r (λ lo. record { first = lo; last = lastAround 1 g len lo } ∷ runs n g len (lastAround 1 g len lo + 1))
       step (At lo) ih =
           ap (λ (z : ℕ). record { first = lo; last = z } ∷ runs n f len (z + 1)) (run-same lo .1)
-          ∙ ap (λ (t : List Ends). record { first = lo; last = lastOfRun g len lo } ∷ t) (ih (lastOfRun g len lo + 1))
+          ∙ ap (λ (t : List Ends). record { first = lo; last = lastAround 1 g len lo } ∷ t) (ih (lastAround 1 g len lo + 1))
       step Nothing ih = refl
       step (Refused k) ih = refl

@@ -1,19 +1,22 @@
 -- The scans: one skips slots that are not wanted, and stops at the first that is. Assumes nothing.
-use mathlib.Core.Path.{_≡_, refl, sym, ap, _∙_}
-use mathlib.Core.Bool.{Bool, cond}
+use mathlib.Core.Path.{_≡_, refl, sym, ap, ap₂, _∙_}
+use mathlib.Core.Bool.{Bool, true, false, cond}
 use mathlib.Core.List.{List}
 use mathlib.Core.Logic.{⊎-elim, _≢_}
-use Prim.Native.Nat.{ℕ, zero, suc, _+_, _-_, _*_, _/_, _%_, _≤_, _<_}
+use Prim.Native.Nat.{ℕ, zero, suc, _+_, _-_, _*_, _/_, _%_, _≤_, _<_, min}
 use native.Mathlib.Nat.{lt-irrefl}
 use native.Mathlib.Omega.{arith}
 use borrow.Author.Tests.{eq-eqb, ne-eqb, lt-ltb, le-ltb}
+use lib.Dec.{eqb}
 use lib.ListN.{getD}
 use Rattle.paper.specs.Bits.{bitOf}
-use Rattle.paper.proofs.Logic.{lt-or-ge}
+use Rattle.paper.specs.Count.{all}
+use Rattle.paper.proofs.Count.{all-each, each-all}
+use Rattle.paper.proofs.Logic.{by-test, lt-or-ge}
 use Rattle.slotset.specs.declared.Found.the-variants.{At, Nothing}
-use Rattle.slotset.specs.Slots.{slot}
-use Rattle.slotset.specs.Words.{FirstBit, LastBit}
-use Rattle.slotset.specs.Search.{up, nextWith, down, foundBelow}
+use Rattle.slotset.specs.Slots.{slot, sameSlots}
+use Rattle.slotset.specs.Inside.{FirstBit, LastBit, foundBelow}
+use Rattle.slotset.specs.Search.{up, nextWith, down}
 
 module _ (v : ℕ) (f : ℕ → ℕ) (len : ℕ) where
   pub next-end : (at : ℕ) → len ≤ at → nextWith v f len at ≡ Nothing
@@ -112,3 +115,46 @@ module _ (v : ℕ) (ws : List ℕ) (b j s r : ℕ) (low : s < 64) (f : LastBit v
       let q : (j * 64 + r - 1) / 64 ≡ j = omega (arith, f .to, h) in
       let m : (j * 64 + r - 1) % 64 ≡ r - 1 = omega (arith, f .to, h) in
       word-drop ∙ down-hit v (slot ws b) _ (omega (arith, h)) (simp (q, m) (f .hit (omega (arith, h))))
+
+-- ---- two sets compared
+
+pub same-none : (f g : ℕ → ℕ) (n len : ℕ) → n ≡ 0 → sameSlots f g (min n len) ≡ true
+unfolding sameSlots all
+same-none f g n len e = let q : min n len ≡ 0 = omega arith in ap (sameSlots f g) q
+
+-- word j of two sets, of which the e lowest bits are the same or not, as r says
+module _ (ws vs : List ℕ) (b j e : ℕ) (few : e ≤ 64) (r : Bool)
+    (is : r ≡ all e (λ i. eqb (bitOf (getD ws (b + j) 0) i) (bitOf (getD vs (b + j) 0) i))) where
+  word-same : r ≡ true → (k : ℕ) → j * 64 ≤ k → k < j * 64 + e → eqb (slot ws b k) (slot vs b k) ≡ true
+  unfolding slot
+  word-same t k h g =
+      let q : j ≡ k / 64 = omega arith in
+      ap (λ (x : ℕ). eqb (bitOf (getD ws (b + x) 0) (k % 64)) (bitOf (getD vs (b + x) 0) (k % 64))) (sym q)
+      ∙ all-each e (λ i. eqb (bitOf (getD ws (b + j) 0) i) (bitOf (getD vs (b + j) 0) i)) (sym is ∙ t) (k % 64) (omega arith)
+
+  same-word : ((k : ℕ) → k < j * 64 + e → eqb (slot ws b k) (slot vs b k) ≡ true) → r ≡ true
+  unfolding slot
+  same-word f =
+      is ∙ each-all e (λ i. eqb (bitOf (getD ws (b + j) 0) i) (bitOf (getD vs (b + j) 0) i)) (λ i h.
+      let q : (j * 64 + i) / 64 ≡ j = omega arith in
+      let m : (j * 64 + i) % 64 ≡ i = omega arith in
+      ap₂ (λ (x y : ℕ). eqb (bitOf (getD ws (b + x) 0) y) (bitOf (getD vs (b + x) 0) y)) (sym q) (sym m) ∙ f (j * 64 + i) (omega arith))
+
+  -- the same so far, and one word more
+  pub same-more : (len : ℕ) → e ≡ min 64 (len - j * 64) → r ≡ true → sameSlots (slot ws b) (slot vs b) (min (j * 64) len) ≡ true
+      → sameSlots (slot ws b) (slot vs b) (min ((j + 1) * 64) len) ≡ true
+  unfolding sameSlots
+  same-more len q t f =
+      each-all (min ((j + 1) * 64) len) (λ i. eqb (slot ws b i) (slot vs b i)) (λ k h.
+      ⊎-elim
+      (λ (x : k < j * 64). all-each (min (j * 64) len) (λ i. eqb (slot ws b i) (slot vs b i)) f k (omega arith))
+      (λ (x : j * 64 ≤ k). word-same t k x (omega arith))
+      (lt-or-ge k (j * 64)))
+
+  -- a word that differs below the length
+  pub same-off : (len : ℕ) → j * 64 + e ≤ len → r ≡ false → false ≡ sameSlots (slot ws b) (slot vs b) len
+  unfolding sameSlots
+  same-off len h f =
+      by-test (all len (λ k. eqb (slot ws b k) (slot vs b k))) _
+      (λ t. sym f ∙ same-word (λ k g. all-each len (λ i. eqb (slot ws b i) (slot vs b i)) t k (omega arith)) ∙ sym t)
+      (λ g. sym g)

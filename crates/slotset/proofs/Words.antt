@@ -5,16 +5,18 @@ use mathlib.Core.Logic.{⊎-elim}
 use Prim.Native.Nat.{ℕ, zero, suc, _+_, _-_, _*_, _/_, _%_, _^_, _≤_, _<_, min, max}
 use native.Mathlib.Nat.{mod-lt, mod-one, one-mul, lt-of-le-of-lt}
 use native.Mathlib.Omega.{arith}
-use borrow.Author.Tests.{lt-ltb, le-ltb, le-leb, lt-leb}
+use borrow.Author.Tests.{lt-ltb, le-ltb, le-leb, lt-leb, eq-eqb, eqb-true}
 use lib.Bits.{bitAnd, bitOr, and-mask, and-lt}
 use lib.Count.{ones, ones-cat, trailingZeros, trailing-le}
-use lib.Dec.{lit<, leb, ltb}
+use lib.Dec.{lit<, eqb, leb, ltb}
 use lib.Pow.{pow-pos, mod-pow-add, shl-exact, shr-le}
 use Rattle.paper.specs.Bits.{bitOf}
+use Rattle.paper.specs.Count.{all}
 use Rattle.paper.proofs.Bits.{bit-lt, bit-and, bit-or, bit-not, bit-from, bit-before, bit-upto, bit-past}
-use Rattle.paper.proofs.Bits.{trailing-clear, trailing-set, top-clear, length-set-bit}
-use Rattle.paper.proofs.Logic.{lt-or-ge}
-use Rattle.slotset.specs.Words.{Wanted, FirstBit, LastBit, onesBelow, Merged}
+use Rattle.paper.proofs.Bits.{trailing-clear, trailing-set, top-clear, length-set-bit, bit-ext}
+use Rattle.paper.proofs.Count.{all-each, each-all}
+use Rattle.paper.proofs.Logic.{lt-or-ge, same-test}
+use Rattle.slotset.specs.Inside.{Wanted, FirstBit, LastBit, onesBelow, Merged}
 
 abbrev from-mask : ℕ → ℕ
 from-mask s = (2 ^ 64 - 1) * 2 ^ s % 2 ^ 64
@@ -119,3 +121,40 @@ merge-law w x s e h g k l =
     bit-or (bitAnd w (2 ^ 64 - 1 - m)) (bitAnd x m) k
     ∙ ap₂ (λ (a b : ℕ). max a b) (bit-and w (2 ^ 64 - 1 - m) k ∙ ap (λ (a : ℕ). min (bitOf w k) a) (bit-not 64 m k small l)) (bit-and x m k)
     ∙ merge-pick (leb s k && ltb k e) (bitOf x k) (bitOf w k) (bitOf m k) (bit-lt x k) (bit-lt w k) (mask-bit s e k h g l)
+
+-- the lowest bits of two words, by the words under a mask
+module _ (a b k : ℕ) (some : 0 < k) (few : k ≤ 64) (ha : a < 2 ^ 64) (hb : b < 2 ^ 64) where
+  low-in : (i : ℕ) → i < k → bitOf ((2 ^ 64 - 1) / 2 ^ (64 - k)) i ≡ 1
+  low-in i h =
+      let d : 64 - k ≡ 63 - (k - 1) = omega arith in
+      ap (λ (x : ℕ). bitOf ((2 ^ 64 - 1) / 2 ^ x) i) d ∙ bit-upto (k - 1) i (omega arith) (omega arith)
+
+  low-out : (i : ℕ) → k ≤ i → bitOf ((2 ^ 64 - 1) / 2 ^ (64 - k)) i ≡ 0
+  low-out i h =
+      let d : 64 - k ≡ 63 - (k - 1) = omega arith in
+      ap (λ (x : ℕ). bitOf ((2 ^ 64 - 1) / 2 ^ x) i) d ∙ bit-past (k - 1) i (omega arith)
+
+  pub same-law : eqb (bitAnd a ((2 ^ 64 - 1) / 2 ^ (64 - k))) (bitAnd b ((2 ^ 64 - 1) / 2 ^ (64 - k)))
+      ≡ all k (λ i. eqb (bitOf a i) (bitOf b i))
+  same-law =
+      let m = (2 ^ 64 - 1) / 2 ^ (64 - k) in
+      let small : m < 2 ^ 64 = lt-of-le-of-lt (shr-le (2 ^ 64 - 1) (64 - k)) (lit< tt) in
+      same-test _ _
+      (λ t.
+      let q : bitAnd a m ≡ bitAnd b m = eqb-true (bitAnd a m) (bitAnd b m) t in
+      each-all k (λ i. eqb (bitOf a i) (bitOf b i)) (λ i h. eq-eqb (bitOf a i) (bitOf b i) (omega (
+        arith,
+        bit-and a m i,
+        bit-and b m i,
+        low-in i h,
+        ap (λ (x : ℕ). bitOf x i) q,
+        bit-lt a i,
+        bit-lt b i,
+      ))))
+      (λ t. eq-eqb (bitAnd a m) (bitAnd b m) (bit-ext 64 (bitAnd a m) (bitAnd b m) (and-lt 64 a m ha small) (and-lt 64 b m hb small) (λ i h.
+      ⊎-elim
+      (λ (x : i < k).
+      let same = eqb-true (bitOf a i) (bitOf b i) (all-each k (λ i. eqb (bitOf a i) (bitOf b i)) t i x) in
+      omega (arith, bit-and a m i, bit-and b m i))
+      (λ (x : k ≤ i). omega (arith, bit-and a m i, bit-and b m i, low-out i x))
+      (lt-or-ge i k))))

@@ -1,6 +1,7 @@
--- What the contracts of slotset cite: the slots of words, the searches and runs over them, and the answers that a caller hears.
+-- What the contracts of slotset cite: the slots of words, the searches and runs over them, the answers that a caller hears;
+-- Inside is of private functions alone.
 pub mod Slots
-pub mod Words
 pub mod Search
 pub mod Runs
 pub mod Answers
+pub mod Inside

@@ -1,11 +1,11 @@
--- Runs: maximal stretches of set slots, both ends named. Assumes nothing.
+-- Runs: maximal stretches of slots of one value, both ends named. Assumes nothing.
 use mathlib.Core.Path.{_≡_}
 use mathlib.Core.List.{List, [], _∷_}
 use mathlib.Core.Logic.{_⊎_}
 use Prim.Native.Nat.{ℕ, zero, suc, _+_, _-_, _≤_, _<_}
 use Rattle.slotset.specs.declared.Found.{Found}
 use Rattle.slotset.specs.declared.Found.the-variants.{At, Nothing, Refused}
-use Rattle.slotset.specs.Search.{nextSet, nextUnsetAfter, prevUnsetBefore}
+use Rattle.slotset.specs.Search.{nextSet, nextWith, lastBelow}
 
 -- one past the slot found, or 0: where a run starts after the unset slot before it
 abbrev pub startOf : Found → ℕ
@@ -19,21 +19,21 @@ endOf len (At k) = k - 1
 endOf len Nothing = len - 1
 endOf len (Refused n) = 0
 
--- the ends of the run of a member i
-abbrev pub firstOfRun : (ℕ → ℕ) → ℕ → ℕ → ℕ
-firstOfRun f len i = startOf (prevUnsetBefore f len i)
+-- the ends of the stretch around slot i of slots that are v, as it is: at v = 1 the run of a member
+abbrev pub firstAround : ℕ → (ℕ → ℕ) → ℕ → ℕ → ℕ
+firstAround v f len i = startOf (lastBelow (1 - v) f len i)
 
-abbrev pub lastOfRun : (ℕ → ℕ) → ℕ → ℕ → ℕ
-lastOfRun f len i = endOf len (nextUnsetAfter f len i)
+abbrev pub lastAround : ℕ → (ℕ → ℕ) → ℕ → ℕ → ℕ
+lastAround v f len i = endOf len (nextWith (1 - v) f len (suc i))
 
--- first to last is the whole run of set slots around i
-pub record RunAround (f : ℕ → ℕ) (len i first last : ℕ) : Type 0 where
+-- first to last is the whole stretch around i of slots that are v
+pub record Around (v : ℕ) (f : ℕ → ℕ) (len i first last : ℕ) : Type 0 where
   pub from : first ≤ i
   pub to : i ≤ last
   pub fits : last < len
-  pub all : (k : ℕ) → first ≤ k → k ≤ last → f k ≡ 1
-  pub left : 0 < first → f (first - 1) ≡ 0
-  pub right : last + 1 < len → f (last + 1) ≡ 0
+  pub all : (k : ℕ) → first ≤ k → k ≤ last → f k ≡ v
+  pub left : 0 < first → f (first - 1) ≡ 1 - v
+  pub right : last + 1 < len → f (last + 1) ≡ 1 - v
 
 -- ---- all runs, as the reader gives them: each from the cursor on, the cursor then one past it
 
@@ -53,7 +53,7 @@ unfoldable pub runs : ℕ → (ℕ → ℕ) → ℕ → ℕ → List Ends
 runs zero f len at = []
 runs (suc n) f len at =
     whenFound (nextSet f len at)
-    (λ lo. record { first = lo; last = lastOfRun f len lo } ∷ runs n f len (lastOfRun f len lo + 1))
+    (λ lo. record { first = lo; last = lastAround 1 f len lo } ∷ runs n f len (lastAround 1 f len lo + 1))
 
 -- all of them: a set of len slots has at most len runs
 abbrev pub allRuns : (ℕ → ℕ) → ℕ → List Ends

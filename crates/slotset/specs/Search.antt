@@ -2,7 +2,7 @@
 use mathlib.Core.Path.{_≡_}
 use mathlib.Core.Bool.{cond}
 use Prim.Native.Nat.{ℕ, zero, suc, _-_, _≤_, _<_, min}
-use lib.Dec.{eqb, ltb}
+use lib.Dec.{eqb}
 use Rattle.slotset.specs.declared.Found.{Found}
 use Rattle.slotset.specs.declared.Found.the-variants.{At, Nothing, Refused}
 
@@ -23,10 +23,6 @@ nextWith v f len from = up v f (len - from) from
 -- the last slot below `end` that is v; an end past the length is lowered to it
 unfoldable pub lastBelow : ℕ → (ℕ → ℕ) → ℕ → ℕ → Found
 lastBelow v f len end = down v f (min end len)
-
--- the slot i as found, if it is below the length
-unfoldable pub foundBelow : ℕ → ℕ → Found
-foundBelow len i = cond (ltb i len) (At i) Nothing
 
 abbrev pub nextSet : (ℕ → ℕ) → ℕ → ℕ → Found
 nextSet f len from = nextWith 1 f len from
@@ -53,14 +49,3 @@ abbrev pub Last : ℕ → (ℕ → ℕ) → ℕ → ℕ → Found → Type 0
 Last v f len end (At i) = (i < end) × (i < len) × (f i ≡ v) × ((k : ℕ) → i < k → k < end → k < len → f k ≡ v → ⊥)
 Last v f len end Nothing = (k : ℕ) → k < end → k < len → f k ≡ v → ⊥
 Last v f len end (Refused n) = ⊥
-
--- what is found is below n, or at or above n
-abbrev pub Below : ℕ → Found → Type 0
-Below n (At i) = i < n
-Below n Nothing = Unit
-Below n (Refused k) = Unit
-
-abbrev pub Above : ℕ → Found → Type 0
-Above n (At i) = n < i
-Above n Nothing = Unit
-Above n (Refused k) = Unit

@@ -1,9 +1,9 @@
 -- Slots in words: slot i of a set is bit i mod 64 of word i div 64. The set's words stand in a list from word b on. Assumes nothing.
 use mathlib.Core.Path.{_≡_}
-use mathlib.Core.Bool.{Bool, true, false, _&&_, cond}
+use mathlib.Core.Bool.{Bool, true, false, _&&_}
 use mathlib.Core.List.{List}
 use Prim.Native.Nat.{ℕ, zero, suc, _+_, _-_, _*_, _/_, _%_, _^_, _<_}
-use lib.Dec.{eqb, ltb, leb}
+use lib.Dec.{eqb, ltb}
 use lib.ListN.{getD, set}
 use Rattle.paper.specs.Bits.{bitOf}
 use Rattle.paper.specs.Count.{all, sum}
@@ -52,6 +52,6 @@ size f len = sum len f
 unfoldable pub noMember : (ℕ → ℕ) → ℕ → Bool
 noMember f len = all len (λ k. eqb (f k) 0)
 
--- the slots of f, with those from a up to e (without e) at v
-unfoldable pub stretched : ℕ → ℕ → ℕ → (ℕ → ℕ) → ℕ → ℕ
-stretched v a e f k = cond (leb a k && ltb k e) v (f k)
+-- two sets of len slots have the same members
+unfoldable pub sameSlots : (ℕ → ℕ) → (ℕ → ℕ) → ℕ → Bool
+sameSlots f g len = all len (λ k. eqb (f k) (g k))

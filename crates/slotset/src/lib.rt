@@ -4,10 +4,13 @@ pub mod row;
 mod scan;
 mod word;
 
+use paper::Fault;
 ghost use mathlib.Core.Path.{_≡_};
+ghost use Rattle.paper.specs.Limits.{test, heardOf};
+ghost use Rattle.paper.specs.Rows.{firstOf, next};
 ghost use Rattle.slotset.specs.Slots.{has, size, noMember, valueOf};
 ghost use Rattle.slotset.specs.Search.{nextSet, prevSet, nextUnsetAfter, prevUnsetBefore};
-ghost use Rattle.slotset.specs.Answers.{lenNo, slotNo, stretchNo, slotsOf, newOf, putOf, stretchOf};
+ghost use Rattle.slotset.specs.Answers.{lengthRow, slotRow, stretchOk, stretchRow, slotsOf, newOf, putOf, stretchOf};
 ghost use Rattle.slotset.specs.Answers.{foundAs, toldAs, numberAs, runAs, nextRunAs, nextMemberAs};
 
 // A set: its words, and how many slots it has.
@@ -72,40 +75,44 @@ pub enum NextMember {
     Refused(u8),
 }
 
-// Refusal 1 of a set's length, or 0.
-pub(crate) fn len_no(len: usize) -> u8
-    ensures { λ r. ⌜ r ≡ lenNo len ⌝ }
+// What stands against a length: 1.
+fn len_no(len: usize) -> Fault
+    ensures { λ r. ⌜ r ≡ firstOf (lengthRow len) ⌝ }
 {
-    if len <= paper::SLOTS_MOST { 0 } else { 1 }
+    paper::heard(paper::nothing(), len <= paper::SLOTS_MOST, 1)
 }
 
-// Refusal 1 of a set's length, 11 of an index, or 0.
-fn slot_no(len: usize, i: usize) -> u8
-    ensures { λ r. ⌜ r ≡ slotNo len i ⌝ }
+// What stands against an index to insert or remove: 1 or 11.
+fn slot_no(len: usize, i: usize) -> Fault
+    ensures { λ r. ⌜ r ≡ firstOf (slotRow len i) ⌝ }
 {
-    if len <= paper::SLOTS_MOST {
-        if i < len {
-            return 0;
-        }
-        return 11;
-    }
-    1
+    let f = paper::heard(paper::nothing(), len <= paper::SLOTS_MOST, 1);
+    paper::heard(f, i < len, 11)
 }
 
-// Refusal 1 of a set's length, 11 of a stretch, or 0.
-fn stretch_no(len: usize, from: usize, to: usize) -> u8
-    ensures { λ r. ⌜ r ≡ stretchNo len from to ⌝ }
+// Whether each slot from `from` up to `to` is below the length; a stretch with none in it is.
+fn stretch_ok(len: usize, from: usize, to: usize) -> bool
+    ensures { λ r. ⌜ r ≡ stretchOk len from to ⌝ }
 {
-    if len <= paper::SLOTS_MOST {
-        if to <= from {
-            return 0;
-        }
-        if to <= len {
-            return 0;
-        }
-        return 11;
+    if to <= from {
+        return true;
     }
-    1
+    to <= len
+}
+
+// Rule 11 of a stretch.
+pub(crate) fn heard_stretch(before: Fault, len: usize, from: usize, to: usize) -> Fault
+    ensures { λ r. ⌜ r ≡ next before (test 11 (stretchOk len from to)) ⌝ }
+{
+    paper::heard(before, stretch_ok(len, from, to), 11)
+}
+
+// What stands against a stretch: 1 or 11.
+fn stretch_no(len: usize, from: usize, to: usize) -> Fault
+    ensures { λ r. ⌜ r ≡ firstOf (stretchRow len from to) ⌝ }
+{
+    let f = paper::heard(paper::nothing(), len <= paper::SLOTS_MOST, 1);
+    heard_stretch(f, len, from, to)
 }
 
 // A test as an answer.
@@ -121,7 +128,7 @@ impl SlotSet {
         ensures { λ r. ⌜ r ≡ newOf len ⌝ }
     {
         let words = [0u64; 16];
-        let number = len_no(len);
+        let number = len_no(len).number;
         if number == 0 {
             return Changed {
                 set: SlotSet { words, len },
@@ -136,10 +143,10 @@ impl SlotSet {
 
     // How many slots the set ranges over.
     pub fn len(self) -> Number
-        ensures { λ r. ⌜ r ≡ numberAs (lenNo (self .len)) (self .len) ⌝ }
+        ensures { λ r. ⌜ r ≡ numberAs (heardOf (lengthRow (self .len))) (self .len) ⌝ }
     {
         let len = self.len;
-        let number = len_no(len);
+        let number = len_no(len).number;
         if number == 0 {
             return Number::Is(len);
         }
@@ -148,10 +155,10 @@ impl SlotSet {
 
     // Whether slot i is a member; at or past the length it is not.
     pub fn contains(self, i: usize) -> Told
-        ensures { λ r. ⌜ r ≡ toldAs (lenNo (self .len)) (has (slotsOf self) (self .len) i) ⌝ }
+        ensures { λ r. ⌜ r ≡ toldAs (heardOf (lengthRow (self .len))) (has (slotsOf self) (self .len) i) ⌝ }
     {
         let len = self.len;
-        let number = len_no(len);
+        let number = len_no(len).number;
         if number == 0 {
             let words = self.words;
             return yes_or_no(scan::contains(&words, 0, len, i));
@@ -192,7 +199,7 @@ impl SlotSet {
         ensures { λ r. ⌜ r ≡ putOf (valueOf want) self i ⌝ }
     {
         let len = self.len;
-        let number = slot_no(len, i);
+        let number = slot_no(len, i).number;
         if number == 0 {
             let mut words = self.words;
             scan::put_slots(&mut words, 0, want, i, i + 1);
@@ -209,7 +216,7 @@ impl SlotSet {
         ensures { λ r. ⌜ r ≡ stretchOf (valueOf want) self from to ⌝ }
     {
         let len = self.len;
-        let number = stretch_no(len, from, to);
+        let number = stretch_no(len, from, to).number;
         if number == 0 {
             let mut words = self.words;
             scan::put_slots(&mut words, 0, want, from, to);
@@ -223,10 +230,10 @@ impl SlotSet {
 
     // Whether the set has no member.
     pub fn is_empty(self) -> Told
-        ensures { λ r. ⌜ r ≡ toldAs (lenNo (self .len)) (noMember (slotsOf self) (self .len)) ⌝ }
+        ensures { λ r. ⌜ r ≡ toldAs (heardOf (lengthRow (self .len))) (noMember (slotsOf self) (self .len)) ⌝ }
     {
         let len = self.len;
-        let number = len_no(len);
+        let number = len_no(len).number;
         if number == 0 {
             let words = self.words;
             return yes_or_no(scan::is_empty(&words, 0, len));
@@ -236,10 +243,10 @@ impl SlotSet {
 
     // How many members the set has.
     pub fn count(self) -> Number
-        ensures { λ r. ⌜ r ≡ numberAs (lenNo (self .len)) (size (slotsOf self) (self .len)) ⌝ }
+        ensures { λ r. ⌜ r ≡ numberAs (heardOf (lengthRow (self .len))) (size (slotsOf self) (self .len)) ⌝ }
     {
         let len = self.len;
-        let number = len_no(len);
+        let number = len_no(len).number;
         if number == 0 {
             let words = self.words;
             return Number::Is(scan::count(&words, 0, len));
@@ -249,10 +256,10 @@ impl SlotSet {
 
     // The first member at or after `from`.
     pub fn next_set(self, from: usize) -> Found
-        ensures { λ r. ⌜ r ≡ foundAs (lenNo (self .len)) (nextSet (slotsOf self) (self .len) from) ⌝ }
+        ensures { λ r. ⌜ r ≡ foundAs (heardOf (lengthRow (self .len))) (nextSet (slotsOf self) (self .len) from) ⌝ }
     {
         let len = self.len;
-        let number = len_no(len);
+        let number = len_no(len).number;
         if number == 0 {
             let words = self.words;
             return scan::next_with(&words, 0, len, true, from);
@@ -262,10 +269,10 @@ impl SlotSet {
 
     // The last member at or before `from`.
     pub fn prev_set(self, from: usize) -> Found
-        ensures { λ r. ⌜ r ≡ foundAs (lenNo (self .len)) (prevSet (slotsOf self) (self .len) from) ⌝ }
+        ensures { λ r. ⌜ r ≡ foundAs (heardOf (lengthRow (self .len))) (prevSet (slotsOf self) (self .len) from) ⌝ }
     {
         let len = self.len;
-        let number = len_no(len);
+        let number = len_no(len).number;
         if number == 0 {
             let words = self.words;
             return scan::prev_set(&words, 0, len, from);
@@ -275,10 +282,10 @@ impl SlotSet {
 
     // The first slot after `from`, below the length, that is no member.
     pub fn next_unset_after(self, from: usize) -> Found
-        ensures { λ r. ⌜ r ≡ foundAs (lenNo (self .len)) (nextUnsetAfter (slotsOf self) (self .len) from) ⌝ }
+        ensures { λ r. ⌜ r ≡ foundAs (heardOf (lengthRow (self .len))) (nextUnsetAfter (slotsOf self) (self .len) from) ⌝ }
     {
         let len = self.len;
-        let number = len_no(len);
+        let number = len_no(len).number;
         if number == 0 {
             let words = self.words;
             return scan::next_unset_after(&words, 0, len, from);
@@ -288,10 +295,10 @@ impl SlotSet {
 
     // The last slot before `from`, below the length, that is no member.
     pub fn prev_unset_before(self, from: usize) -> Found
-        ensures { λ r. ⌜ r ≡ foundAs (lenNo (self .len)) (prevUnsetBefore (slotsOf self) (self .len) from) ⌝ }
+        ensures { λ r. ⌜ r ≡ foundAs (heardOf (lengthRow (self .len))) (prevUnsetBefore (slotsOf self) (self .len) from) ⌝ }
     {
         let len = self.len;
-        let number = len_no(len);
+        let number = len_no(len).number;
         if number == 0 {
             let words = self.words;
             return scan::last_below(&words, 0, len, false, from);
@@ -301,10 +308,10 @@ impl SlotSet {
 
     // The run that holds slot i.
     pub fn run_bounds(self, i: usize) -> Run
-        ensures { λ r. ⌜ r ≡ runAs (lenNo (self .len)) (slotsOf self) (self .len) i ⌝ }
+        ensures { λ r. ⌜ r ≡ runAs (heardOf (lengthRow (self .len))) (slotsOf self) (self .len) i ⌝ }
     {
         let len = self.len;
-        let number = len_no(len);
+        let number = len_no(len).number;
         if number == 0 {
             let words = self.words;
             return scan::run_bounds(&words, 0, len, i);
@@ -314,11 +321,11 @@ impl SlotSet {
 
     // The reader of runs: the next one from the cursor on.
     pub fn next_run(self, c: Cursor) -> NextRun
-        ensures { λ r. ⌜ r ≡ nextRunAs (lenNo (self .len)) (slotsOf self) (self .len) (c .at) ⌝ }
+        ensures { λ r. ⌜ r ≡ nextRunAs (heardOf (lengthRow (self .len))) (slotsOf self) (self .len) (c .at) ⌝ }
     {
         let len = self.len;
         let at = c.at;
-        let number = len_no(len);
+        let number = len_no(len).number;
         if number == 0 {
             let words = self.words;
             return scan::next_run(&words, 0, len, at);
@@ -328,11 +335,11 @@ impl SlotSet {
 
     // The reader of single members: the next one from the cursor on.
     pub fn next_member(self, c: Cursor) -> NextMember
-        ensures { λ r. ⌜ r ≡ nextMemberAs (lenNo (self .len)) (slotsOf self) (self .len) (c .at) ⌝ }
+        ensures { λ r. ⌜ r ≡ nextMemberAs (heardOf (lengthRow (self .len))) (slotsOf self) (self .len) (c .at) ⌝ }
     {
         let len = self.len;
         let at = c.at;
-        let number = len_no(len);
+        let number = len_no(len).number;
         if number == 0 {
             let words = self.words;
             return scan::next_member(&words, 0, len, at);

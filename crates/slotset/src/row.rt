@@ -9,34 +9,56 @@ use crate::Run;
 use crate::SlotSet;
 use crate::Told;
 use crate::scan;
+use paper::Fault;
 ghost use mathlib.Core.Path.{_≡_};
+ghost use mathlib.Core.Bool.{_&&_};
 ghost use Prim.Native.Nat.{_+_, _*_, _≤_};
+ghost use lib.Dec.{leb, ltb};
 ghost use lib.ListN.{length, take, drop};
+ghost use Rattle.paper.specs.Limits.{slotsMost, setWords, peopleOk, heardOf};
+ghost use Rattle.paper.specs.Rows.{firstOf};
 ghost use Rattle.slotset.specs.Slots.{has, size, noMember, valueOf};
 ghost use Rattle.slotset.specs.Search.{nextSet, prevSet, nextUnsetAfter, prevUnsetBefore};
-ghost use Rattle.slotset.specs.Answers.{rowNo, rowStretchNo, rowSlots, loadOf, storeOf, rowStretchOf};
+ghost use Rattle.slotset.specs.Answers.{personRow, personStretchRow, rowSlots, loadOf, storeOf, rowStretchOf};
+ghost use Rattle.slotset.specs.Answers.{setsRow, sameSetsRow, sameSets};
 ghost use Rattle.slotset.specs.Answers.{foundAs, toldAs, numberAs, rowRun, rowNextRun, rowNextMember};
 
-// Refusals 1, 2 and 11 of a row, or 0.
-fn row_no(words: &[u64], people: usize, person: usize, len: usize) -> u8
-    ensures { λ r. ⌜ r ≡ rowNo (now (words .entry)) people person len ⌝ }
+// What stands against everybody's sets among lent words: 1 or 2.
+pub fn sets_no(words: &[u64], people: usize, len: usize) -> Fault
+    ensures { λ r. ⌜ r ≡ firstOf (setsRow (now (words .entry)) people len) ⌝ }
 {
-    if paper::people_ok(people) {
-        if len <= paper::SLOTS_MOST {
-            if words.len() < paper::SET_WORDS * people {
-                return 2;
-            }
-            if person < people {
-                return 0;
-            }
-            return 11;
-        }
-        return 1;
-    }
-    1
+    let f = paper::heard_people(paper::nothing(), people);
+    let f = paper::heard(f, len <= paper::SLOTS_MOST, 1);
+    paper::heard_words(f, words, people)
 }
 
-// Refusals 1, 2 and 11 of a row, 11 of a stretch, or 0.
+// Whether nothing stands against a person's row.
+fn row_ok(words: &[u64], people: usize, person: usize, len: usize) -> bool
+    ensures { λ r. ⌜ r ≡ peopleOk people && (leb (setWords * people) (length (now (words .entry)))
+        && (leb len slotsMost && ltb person people)) ⌝ }
+{
+    let counted = paper::people_ok(people);
+    let roomy = paper::words_ok(words, people);
+    paper::both(
+        counted,
+        paper::both(
+            roomy,
+            paper::both(len <= paper::SLOTS_MOST, person < people),
+        ),
+    )
+}
+
+// What stands against a person's row: 1, 2 or 11. Every question asks it, so a row that passes is let in before tests are heard one by one.
+fn row_no(words: &[u64], people: usize, person: usize, len: usize) -> Fault
+    ensures { λ r. ⌜ r ≡ firstOf (personRow (now (words .entry)) people person len) ⌝ }
+{
+    if row_ok(words, people, person, len) {
+        return paper::nothing();
+    }
+    paper::heard(sets_no(words, people, len), person < people, 11)
+}
+
+// What stands against a stretch of a row: 1, 2 or 11.
 fn row_stretch_no(
     words: &[u64],
     people: usize,
@@ -44,27 +66,18 @@ fn row_stretch_no(
     len: usize,
     from: usize,
     to: usize,
-) -> u8
-    ensures { λ r. ⌜ r ≡ rowStretchNo (now (words .entry)) people person len from to ⌝ }
+) -> Fault
+    ensures { λ r. ⌜ r ≡ firstOf (personStretchRow (now (words .entry)) people person len from to) ⌝ }
 {
-    let number = row_no(words, people, person, len);
-    if number == 0 {
-        if to <= from {
-            return 0;
-        }
-        if to <= len {
-            return 0;
-        }
-        return 11;
-    }
-    number
+    crate::heard_stretch(row_no(words, people, person, len), len, from, to)
 }
 
 // Whether slot i is a member; at or past the length it is not.
 pub fn contains(words: &[u64], people: usize, person: usize, len: usize, i: usize) -> Told
-    ensures { λ r. ⌜ r ≡ toldAs (rowNo (now (words .entry)) people person len) (has (rowSlots (now (words .entry)) person) len i) ⌝ }
+    ensures { λ r. ⌜ r ≡ toldAs (heardOf (personRow (now (words .entry)) people person len))
+        (has (rowSlots (now (words .entry)) person) len i) ⌝ }
 {
-    let number = row_no(words, people, person, len);
+    let number = row_no(words, people, person, len).number;
     if number == 0 {
         return crate::yes_or_no(scan::contains(words, 16 * person, len, i));
     }
@@ -73,9 +86,10 @@ pub fn contains(words: &[u64], people: usize, person: usize, len: usize, i: usiz
 
 // Whether the row has no member.
 pub fn is_empty(words: &[u64], people: usize, person: usize, len: usize) -> Told
-    ensures { λ r. ⌜ r ≡ toldAs (rowNo (now (words .entry)) people person len) (noMember (rowSlots (now (words .entry)) person) len) ⌝ }
+    ensures { λ r. ⌜ r ≡ toldAs (heardOf (personRow (now (words .entry)) people person len))
+        (noMember (rowSlots (now (words .entry)) person) len) ⌝ }
 {
-    let number = row_no(words, people, person, len);
+    let number = row_no(words, people, person, len).number;
     if number == 0 {
         return crate::yes_or_no(scan::is_empty(words, 16 * person, len));
     }
@@ -84,9 +98,10 @@ pub fn is_empty(words: &[u64], people: usize, person: usize, len: usize) -> Told
 
 // How many members the row has.
 pub fn count(words: &[u64], people: usize, person: usize, len: usize) -> Number
-    ensures { λ r. ⌜ r ≡ numberAs (rowNo (now (words .entry)) people person len) (size (rowSlots (now (words .entry)) person) len) ⌝ }
+    ensures { λ r. ⌜ r ≡ numberAs (heardOf (personRow (now (words .entry)) people person len))
+        (size (rowSlots (now (words .entry)) person) len) ⌝ }
 {
-    let number = row_no(words, people, person, len);
+    let number = row_no(words, people, person, len).number;
     if number == 0 {
         return Number::Is(scan::count(words, 16 * person, len));
     }
@@ -95,10 +110,10 @@ pub fn count(words: &[u64], people: usize, person: usize, len: usize) -> Number
 
 // The first member at or after `from`.
 pub fn next_set(words: &[u64], people: usize, person: usize, len: usize, from: usize) -> Found
-    ensures { λ r. ⌜ r ≡ foundAs (rowNo (now (words .entry)) people person len)
+    ensures { λ r. ⌜ r ≡ foundAs (heardOf (personRow (now (words .entry)) people person len))
         (nextSet (rowSlots (now (words .entry)) person) len from) ⌝ }
 {
-    let number = row_no(words, people, person, len);
+    let number = row_no(words, people, person, len).number;
     if number == 0 {
         return scan::next_with(words, 16 * person, len, true, from);
     }
@@ -107,10 +122,10 @@ pub fn next_set(words: &[u64], people: usize, person: usize, len: usize, from: u
 
 // The last member at or before `from`.
 pub fn prev_set(words: &[u64], people: usize, person: usize, len: usize, from: usize) -> Found
-    ensures { λ r. ⌜ r ≡ foundAs (rowNo (now (words .entry)) people person len)
+    ensures { λ r. ⌜ r ≡ foundAs (heardOf (personRow (now (words .entry)) people person len))
         (prevSet (rowSlots (now (words .entry)) person) len from) ⌝ }
 {
-    let number = row_no(words, people, person, len);
+    let number = row_no(words, people, person, len).number;
     if number == 0 {
         return scan::prev_set(words, 16 * person, len, from);
     }
@@ -125,10 +140,10 @@ pub fn next_unset_after(
     len: usize,
     from: usize,
 ) -> Found
-    ensures { λ r. ⌜ r ≡ foundAs (rowNo (now (words .entry)) people person len)
+    ensures { λ r. ⌜ r ≡ foundAs (heardOf (personRow (now (words .entry)) people person len))
         (nextUnsetAfter (rowSlots (now (words .entry)) person) len from) ⌝ }
 {
-    let number = row_no(words, people, person, len);
+    let number = row_no(words, people, person, len).number;
     if number == 0 {
         return scan::next_unset_after(words, 16 * person, len, from);
     }
@@ -143,10 +158,10 @@ pub fn prev_unset_before(
     len: usize,
     from: usize,
 ) -> Found
-    ensures { λ r. ⌜ r ≡ foundAs (rowNo (now (words .entry)) people person len)
+    ensures { λ r. ⌜ r ≡ foundAs (heardOf (personRow (now (words .entry)) people person len))
         (prevUnsetBefore (rowSlots (now (words .entry)) person) len from) ⌝ }
 {
-    let number = row_no(words, people, person, len);
+    let number = row_no(words, people, person, len).number;
     if number == 0 {
         return scan::last_below(words, 16 * person, len, false, from);
     }
@@ -157,7 +172,7 @@ pub fn prev_unset_before(
 pub fn run_bounds(words: &[u64], people: usize, person: usize, len: usize, i: usize) -> Run
     ensures { λ r. ⌜ r ≡ rowRun (now (words .entry)) people person len i ⌝ }
 {
-    let number = row_no(words, people, person, len);
+    let number = row_no(words, people, person, len).number;
     if number == 0 {
         return scan::run_bounds(words, 16 * person, len, i);
     }
@@ -169,7 +184,7 @@ pub fn next_run(words: &[u64], people: usize, person: usize, len: usize, c: Curs
     ensures { λ r. ⌜ r ≡ rowNextRun (now (words .entry)) people person len (c .at) ⌝ }
 {
     let at = c.at;
-    let number = row_no(words, people, person, len);
+    let number = row_no(words, people, person, len).number;
     if number == 0 {
         return scan::next_run(words, 16 * person, len, at);
     }
@@ -181,7 +196,7 @@ pub fn next_member(words: &[u64], people: usize, person: usize, len: usize, c: C
     ensures { λ r. ⌜ r ≡ rowNextMember (now (words .entry)) people person len (c .at) ⌝ }
 {
     let at = c.at;
-    let number = row_no(words, people, person, len);
+    let number = row_no(words, people, person, len).number;
     if number == 0 {
         return scan::next_member(words, 16 * person, len, at);
     }
@@ -198,10 +213,10 @@ pub fn put_stretch(
     to: usize,
     want: bool,
 ) -> u8
-    ensures { λ r. ⌜ (r ≡ rowStretchNo (now (words .entry)) people person len from to)
+    ensures { λ r. ⌜ (r ≡ heardOf (personStretchRow (now (words .entry)) people person len from to))
         × (now (words .exit) ≡ rowStretchOf (valueOf want) (now (words .entry)) people person len from to) ⌝ }
 {
-    let number = row_stretch_no(words, people, person, len, from, to);
+    let number = row_stretch_no(words, people, person, len, from, to).number;
     if number == 0 {
         scan::put_slots(words, 16 * person, want, from, to);
         return 0;
@@ -227,7 +242,7 @@ fn words_at(words: &[u64], base: usize) -> [u64; 16]
 pub fn load(words: &[u64], people: usize, person: usize, len: usize) -> Changed
     ensures { λ r. ⌜ r ≡ loadOf (now (words .entry)) people person len ⌝ }
 {
-    let number = row_no(words, people, person, len);
+    let number = row_no(words, people, person, len).number;
     if number == 0 {
         let read = words_at(words, 16 * person);
         return Changed {
@@ -247,15 +262,50 @@ pub fn load(words: &[u64], people: usize, person: usize, len: usize) -> Changed
 
 // The slots of a set below its length go into the row; the bits past them stay.
 pub fn store(set: SlotSet, words: &mut [u64], people: usize, person: usize) -> u8
-    ensures { λ r. ⌜ (r ≡ rowNo (now (words .entry)) people person (set .len))
+    ensures { λ r. ⌜ (r ≡ heardOf (personRow (now (words .entry)) people person (set .len)))
         × (now (words .exit) ≡ storeOf set (now (words .entry)) people person) ⌝ }
 {
     let len = set.len;
-    let number = row_no(words, people, person, len);
+    let number = row_no(words, people, person, len).number;
     if number == 0 {
         let read = set.words;
         scan::copy_slots(&read, len, words, 16 * person);
         return 0;
     }
     number
+}
+
+// What stands against comparing everybody's sets in two columns of words: 1 or 2.
+fn same_sets_no(a: &[u64], b: &[u64], people: usize, len: usize) -> Fault
+    ensures { λ r. ⌜ r ≡ firstOf (sameSetsRow (now (a .entry)) (now (b .entry)) people len) ⌝ }
+{
+    paper::heard_words(sets_no(a, people, len), b, people)
+}
+
+// Whether each person's set is the same in both.
+fn all_same(a: &[u64], b: &[u64], people: usize, len: usize) -> bool
+    requires { ⌜ (people ≤ 32) × (len ≤ 1024) × (16 * people ≤ length (now a)) × (16 * people ≤ length (now b)) ⌝ }
+    ensures { λ r. ⌜ r ≡ sameSets (now (a .entry)) (now (b .entry)) people len ⌝ }
+{
+    let mut p = 0;
+    while p < people {
+        if scan::same(a, b, 16 * p, len) {
+            p += 1;
+        } else {
+            return false;
+        }
+    }
+    true
+}
+
+// Whether everybody's sets are the same below the length in two columns of words. Refusals 1, 2.
+pub fn same_sets(a: &[u64], b: &[u64], people: usize, len: usize) -> Told
+    ensures { λ r. ⌜ r ≡ toldAs (heardOf (sameSetsRow (now (a .entry)) (now (b .entry)) people len))
+        (sameSets (now (a .entry)) (now (b .entry)) people len) ⌝ }
+{
+    let number = same_sets_no(a, b, people, len).number;
+    if number == 0 {
+        return crate::yes_or_no(all_same(a, b, people, len));
+    }
+    Told::Refused(number)
 }

@@ -8,8 +8,9 @@ use crate::word;
 ghost use mathlib.Core.Path.{_≡_};
 ghost use Prim.Native.Nat.{_+_, _-_, _*_, _≤_, _<_, min};
 ghost use lib.ListN.{length};
-ghost use Rattle.slotset.specs.Slots.{slot, valueOf, has, size, noMember, putSlots};
-ghost use Rattle.slotset.specs.Search.{foundBelow, nextWith, down, lastBelow, prevSet, nextUnsetAfter, Below, Above};
+ghost use Rattle.slotset.specs.Slots.{slot, valueOf, has, size, noMember, sameSlots, putSlots};
+ghost use Rattle.slotset.specs.Search.{nextWith, down, lastBelow, prevSet, nextUnsetAfter};
+ghost use Rattle.slotset.specs.Inside.{foundBelow, Below, Above};
 ghost use Rattle.slotset.specs.Runs.{startOf, endOf};
 ghost use Rattle.slotset.specs.Answers.{runAs, nextRunAs, nextMemberAs, memberStep};
 
@@ -138,6 +139,23 @@ fn count_words(words: &[u64], base: usize, whole: usize) -> usize
         j += 1;
     }
     n
+}
+
+// Whether two sets of one length have the same slots: word by word, of the last one the bits below the length.
+pub(crate) fn same(a: &[u64], b: &[u64], base: usize, len: usize) -> bool
+    requires { ⌜ (base + 16 ≤ length (now a)) × (base + 16 ≤ length (now b)) × (len ≤ 1024) ⌝ }
+    ensures { λ r. ⌜ r ≡ sameSlots (slot (now (a .entry)) base) (slot (now (b .entry)) base) len ⌝ }
+{
+    let mut j = 0;
+    while j * 64 < len {
+        let e = least(64, len - j * 64);
+        if word::same_below(a[base + j], b[base + j], e) {
+            j += 1;
+        } else {
+            return false;
+        }
+    }
+    true
 }
 
 // Each slot from `from` up to `to` becomes as wanted.

@@ -3,8 +3,9 @@ ghost use mathlib.Core.Path.{_≡_};
 ghost use Prim.Native.Nat.{_≤_, _<_};
 ghost use lib.Dec.{eqb};
 ghost use Rattle.paper.specs.Bits.{bitOf};
+ghost use Rattle.paper.specs.Count.{all};
 ghost use Rattle.slotset.specs.Slots.{valueOf};
-ghost use Rattle.slotset.specs.Words.{Wanted, FirstBit, LastBit, onesBelow, Merged, Every};
+ghost use Rattle.slotset.specs.Inside.{Wanted, FirstBit, LastBit, onesBelow, Merged, Every};
 
 // Whether bit k of w is set.
 pub(crate) fn bit(w: u64, k: usize) -> bool
@@ -65,4 +66,13 @@ pub(crate) fn every(want: bool) -> u64
     ensures { λ r. ⌜ Every (valueOf want) r ⌝ }
 {
     if want { !0u64 } else { 0 }
+}
+
+// Whether the k lowest bits of two words are the same.
+pub(crate) fn same_below(a: u64, b: u64, k: usize) -> bool
+    requires { ⌜ (0 < k) × (k ≤ 64) ⌝ }
+    ensures { λ r. ⌜ r ≡ all k (λ i. eqb (bitOf a i) (bitOf b i)) ⌝ }
+{
+    let mask = !0u64 >> (64 - k);
+    a & mask == b & mask
 }

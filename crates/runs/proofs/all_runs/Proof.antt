@@ -1,7 +1,8 @@
 -- `runs::all_runs` meets its contract. Assumes nothing.
 use borrow.Author.Needs.{needs}
 use mathlib.Core.Path.{sym, _∙_}
-use Rattle.slotset.proofs.Refusals.{number-is, number-no, words-is, words-no}
+use Rattle.paper.proofs.Rows.{said}
+use Rattle.slotset.proofs.Refusals.{number-is, number-no, work-is, old-is}
 use Rattle.runs.proofs.Listing.{list-says}
 use Rattle.runs.proofs.all_runs.Statement.{statement}
 use Rattle.runs.proofs.all_runs.Tie as tie
@@ -12,7 +13,7 @@ list-no-requires c κs = search needs
 list-runs-requires : tie.Need-list-runs-requires
 list-runs-requires c κs =
     let k = c .before .before in
-    let s = list-says _ _ _ _ _ _ (sym (k .before .list-no .ensures) ∙ k .if1 .taken) in
+    let s = list-says _ _ _ _ _ _ (sym (said _ (k .before .list-no .ensures)) ∙ k .if1 .taken) in
     (s .0, s .1)
 
 same-length : tie.Need-same-length
@@ -25,16 +26,16 @@ returns : tie.Need-returns
 returns c =
     let l = c .before .before .before .before in
     let k = l .before .before .before in
-    let n = k .before .list-no .ensures in
+    let n = said _ (k .before .list-no .ensures) in
     let z = k .if1 .taken in
     let e = l .list-runs .ensures in
-    (number-is _ _ n z _ _ (e .0), (words-is _ _ n z _ _ _ (e .1 .0), words-is _ _ n z _ _ _ (e .1 .1)))
+    (number-is _ _ n z _ _ (e .0), (work-is _ _ n z _ _ _ (e .1 .0), work-is _ _ n z _ _ _ (e .1 .1)))
 
 returns-2 : tie.Need-returns-2
 returns-2 c =
-    let n = c .before .list-no .ensures in
+    let n = said _ (c .before .list-no .ensures) in
     let z = c .if1 .left in
-    (number-no _ _ n z _, (words-no _ _ n z _ _, words-no _ _ n z _ _))
+    (number-no _ _ n z _, (old-is _ _ n z _ _, old-is _ _ n z _ _))
 
 pub all-runs-spec : {M : Type 1} → statement M
 all-runs-spec = tie.close (tie.spec list-no-requires list-runs-requires same-length same-length-2 returns returns-2)

@@ -3,6 +3,7 @@ use borrow.Author.Needs.{needs}
 use mathlib.Core.Path.{_≡_, sym, _∙_}
 use native.Mathlib.Omega.{arith}
 use lib.ListN.{length}
+use Rattle.paper.proofs.Rows.{said}
 use Rattle.slotset.proofs.Refusals.{len-says, told-is, told-no}
 use Rattle.slotset.proofs.SlotSet.contains.Statement.{statement}
 use Rattle.slotset.proofs.SlotSet.contains.Tie as tie
@@ -17,7 +18,7 @@ contains-requires : tie.Need-contains-requires
 contains-requires c κs =
     let k = c .before .before in
     let n : length (k .before .before .args .self .words) ≡ 16 = search needs in
-    (omega (arith, n), len-says _ (sym (k .before .len-no .ensures) ∙ k .if1 .taken))
+    (omega (arith, n), len-says _ (sym (said _ (k .before .len-no .ensures)) ∙ k .if1 .taken))
 
 yes-or-no-requires : tie.Need-yes-or-no-requires
 yes-or-no-requires c κs = search needs
@@ -25,10 +26,10 @@ yes-or-no-requires c κs = search needs
 returns : tie.Need-returns
 returns c =
     let k = c .before .before .before .before in
-    c .yes-or-no .ensures ∙ told-is _ _ (k .before .len-no .ensures) (k .if1 .taken) _ _ (c .before .contains .ensures)
+    c .yes-or-no .ensures ∙ told-is _ _ (said _ (k .before .len-no .ensures)) (k .if1 .taken) _ _ (c .before .contains .ensures)
 
 returns-2 : tie.Need-returns-2
-returns-2 c = told-no _ _ (c .before .len-no .ensures) (c .if1 .left) _
+returns-2 c = told-no _ _ (said _ (c .before .len-no .ensures)) (c .if1 .left) _
 
 pub contains-spec : {M : Type 1} → statement M
 contains-spec =

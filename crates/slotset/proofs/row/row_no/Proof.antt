@@ -1,57 +1,25 @@
 -- `slotset::row::row_no` meets its contract. Assumes nothing.
+use mathlib.Core.Path.{refl, sym, _∙_}
+use Rattle.paper.proofs.Logic.{four}
+use Rattle.paper.proofs.Rows.{next-pass, link, ends, asked, asked-more}
+use Rattle.slotset.specs.Answers.{setsRow, personRow}
 use borrow.Author.Needs.{needs}
-use mathlib.Core.Path.{sym, _∙_}
-use native.Mathlib.Omega.{arith}
-use borrow.Author.Tests.{le-leb, lt-leb, lt-ltb, le-ltb}
-use Rattle.paper.proofs.Logic.{people-says}
-use Rattle.slotset.specs.Answers.{rowNo}
 use Rattle.slotset.proofs.row.row_no.Statement.{statement}
 use Rattle.slotset.proofs.row.row_no.Tie as tie
 
-people-ok-requires : tie.Need-people-ok-requires
-people-ok-requires c κs = search needs
-
-mul-if3 : tie.Need-mul-if3
-mul-if3 c = omega (arith, people-says _ (sym (c .before .before .people-ok .ensures) ∙ c .before .if1 .taken) .1)
-
 returns : tie.Need-returns
-unfolding rowNo
+unfolding personRow setsRow
 returns c =
-    let p = c .before .before in
-    simp (sym (p .before .people-ok .ensures) ∙ p .if1 .taken, le-leb _ 1024 (c .before .if2 .taken), lt-leb _ _ (c .if3 .taken))
+    let h = four _ _ _ _ (sym (c .before .before .row-ok .ensures) ∙ c .before .if1 .taken) in
+    asked _ refl (c .nothing .ensures)
+    (link (sym (next-pass _ _ (h .0))) (link (sym (next-pass _ _ (h .2))) (link (sym (next-pass _ _ (h .1)))
+    (link (sym (next-pass _ _ (h .3))) ends))))
 
 returns-2 : tie.Need-returns-2
-unfolding rowNo
-returns-2 c =
-    let p = c .before .before .before in
-    simp (
-      sym (p .before .people-ok .ensures) ∙ p .if1 .taken,
-      le-leb _ 1024 (c .before .before .if2 .taken),
-      le-leb _ _ (c .before .if3 .left),
-      lt-ltb _ _ (c .if4 .taken),
-    )
-
-returns-3 : tie.Need-returns-3
-unfolding rowNo
-returns-3 c =
-    let p = c .before .before .before in
-    simp (
-      sym (p .before .people-ok .ensures) ∙ p .if1 .taken,
-      le-leb _ 1024 (c .before .before .if2 .taken),
-      le-leb _ _ (c .before .if3 .left),
-      le-ltb _ _ (c .if4 .left),
-    )
-
-returns-4 : tie.Need-returns-4
-unfolding rowNo
-returns-4 c =
-    let p = c .before in
-    simp (sym (p .before .people-ok .ensures) ∙ p .if1 .taken, lt-leb _ 1024 (c .if2 .left))
-
-returns-5 : tie.Need-returns-5
-unfolding rowNo
-returns-5 c = simp (sym (c .before .people-ok .ensures) ∙ c .if1 .left)
+unfolding personRow setsRow
+returns-2 c = asked-more _ _ refl (c .before .sets-no .ensures) (link (c .heard .ensures) ends)
 
 pub row-no-spec : {M : Type 1} → statement M
 row-no-spec =
-    tie.close (tie.spec people-ok-requires mul-if3 returns returns-2 returns-3 returns-4 returns-5)
+    tie.close
+    (tie.spec (λ c κs. search needs) (λ c κs. search needs) returns (λ c κs. search needs) (λ c κs. search needs) returns-2)

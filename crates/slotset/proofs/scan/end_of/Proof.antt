@@ -3,7 +3,7 @@ use borrow.Author.Needs.{needs}
 use mathlib.Core.Path.{sym, ap, subst}
 use native.Mathlib.Omega.{arith}
 use Rattle.slotset.specs.Runs.{endOf}
-use Rattle.slotset.specs.Search.{Above}
+use Rattle.slotset.specs.Inside.{Above}
 use Rattle.slotset.proofs.scan.end_of.Statement.{statement}
 use Rattle.slotset.proofs.scan.end_of.Tie as tie
 

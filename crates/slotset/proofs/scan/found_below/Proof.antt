@@ -1,7 +1,7 @@
 -- `slotset::scan::found_below` meets its contract. Assumes nothing.
 use mathlib.Core.Path.{refl}
 use borrow.Author.Tests.{lt-ltb, le-ltb}
-use Rattle.slotset.specs.Search.{foundBelow}
+use Rattle.slotset.specs.Inside.{foundBelow}
 use Rattle.slotset.proofs.scan.found_below.Statement.{statement}
 use Rattle.slotset.proofs.scan.found_below.Tie as tie
 

@@ -2,7 +2,7 @@
 use borrow.Author.Needs.{needs}
 use mathlib.Core.Path.{sym, ap, subst}
 use native.Mathlib.Omega.{arith}
-use Rattle.slotset.specs.Search.{Below}
+use Rattle.slotset.specs.Inside.{Below}
 use Rattle.slotset.specs.Answers.{memberStep}
 use Rattle.slotset.proofs.scan.member_step.Statement.{statement}
 use Rattle.slotset.proofs.scan.member_step.Tie as tie

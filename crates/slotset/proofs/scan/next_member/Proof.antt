@@ -1,6 +1,7 @@
 -- `slotset::scan::next_member` meets its contract. Assumes nothing.
 use borrow.Author.Needs.{needs}
 use mathlib.Core.Path.{ap, _∙_}
+use Rattle.paper.specs.Rows.{unless}
 use Rattle.slotset.specs.Slots.{slot}
 use Rattle.slotset.specs.Search.{nextSet}
 use Rattle.slotset.specs.Answers.{memberStep, nextMemberAs}
@@ -20,7 +21,7 @@ member-step-requires c κs =
     (first-below 1 f (s .len) (s .at) (nextSet f (s .len) (s .at)) (next-is 1 f (s .len) (s .at))))
 
 returns : tie.Need-returns
-unfolding nextMemberAs
+unfolding nextMemberAs unless
 returns c = c .member-step .ensures ∙ ap memberStep (c .before .next-with .ensures)
 
 pub next-member-spec : {M : Type 1} → statement M

@@ -3,6 +3,7 @@ use borrow.Author.Needs.{needs}
 use mathlib.Core.Path.{sym, ap, _∙_, subst}
 use Prim.Native.Nat.{ℕ, _+_}
 use native.Mathlib.Omega.{arith}
+use Rattle.paper.specs.Rows.{unless}
 use Rattle.slotset.specs.declared.NextRun.{NextRun}
 use Rattle.slotset.specs.declared.NextRun.the-variants.{Span}
 use Rattle.slotset.specs.Slots.{slot}
@@ -67,7 +68,7 @@ enum-known-found-2 : tie.Need-enum-known-found-2
 enum-known-found-2 c = search needs
 
 returns : tie.Need-returns
-unfolding nextRunAs
+unfolding nextRunAs unless
 returns c =
     let k = c .before .before .before in
     let n = k .before .before in
@@ -78,14 +79,14 @@ returns c =
     ∙ sym (ap (runStep f (s .len)) (sym (n .next-with .ensures) ∙ k .found .given .1))
 
 returns-2 : tie.Need-returns-2
-unfolding nextRunAs
+unfolding nextRunAs unless
 returns-2 c =
     let n = c .before .before in
     let s = n .before .before .args in
     sym (ap (runStep (slot (s .words .now) (s .base)) (s .len)) (sym (n .next-with .ensures) ∙ c .enum-told .given .1))
 
 returns-3 : tie.Need-returns-3
-unfolding nextRunAs
+unfolding nextRunAs unless
 returns-3 c =
     let n = c .before .before .before in
     let s = n .before .before .args in

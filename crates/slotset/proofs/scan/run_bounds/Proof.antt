@@ -4,6 +4,7 @@ use mathlib.Core.Path.{sym, ap, ap₂, _∙_}
 use Prim.Native.Nat.{_+_}
 use native.Mathlib.Nat.{le-trans}
 use native.Mathlib.Omega.{arith}
+use Rattle.paper.specs.Rows.{unless}
 use Rattle.slotset.specs.declared.Run.the-variants.{Span}
 use Rattle.slotset.specs.Slots.{slot}
 use Rattle.slotset.specs.Search.{nextWith, lastBelow}
@@ -52,7 +53,7 @@ end-of-requires c κs =
     )
 
 returns : tie.Need-returns
-unfolding runAs
+unfolding runAs unless
 returns c =
     let h = c .before .before .before .before .before in
     rw (sym (h .contains .ensures) ∙ c .before .before .before .before .if1 .taken)
@@ -60,7 +61,7 @@ returns c =
     (c .end-of .ensures ∙ ap (endOf _) (c .before .next-with .ensures ∙ next-after 0 _ _ _)))
 
 returns-2 : tie.Need-returns-2
-unfolding runAs
+unfolding runAs unless
 returns-2 c = rw (sym (c .before .contains .ensures) ∙ c .if1 .left)
 
 pub run-bounds-spec : {M : Type 1} → statement M

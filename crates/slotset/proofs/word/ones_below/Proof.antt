@@ -6,7 +6,7 @@ use native.Mathlib.Omega.{arith}
 use mir.Facts.{fits-le, fits-lit}
 use lib.Count.{ones, ones-le}
 use lib.Pow.{pow-pos}
-use Rattle.slotset.specs.Words.{onesBelow}
+use Rattle.slotset.specs.Inside.{onesBelow}
 use Rattle.slotset.proofs.Words.{ones-mod, ones-masked, one-shl, bits-le}
 use Rattle.slotset.proofs.word.ones_below.Statement.{statement}
 use Rattle.slotset.proofs.word.ones_below.Tie as tie

@@ -1,10 +1,12 @@
--- What is asked of one word of a set. Assumes nothing.
+-- What only contracts of private functions cite: what one word of a set answers, and what a search came to. Assumes nothing.
 use mathlib.Core.Path.{_≡_}
 use mathlib.Core.Bool.{_&&_, cond}
 use mathlib.Core.Logic.{_↔_}
 use Prim.Native.Nat.{ℕ, zero, suc, _+_, _-_, _≤_, _<_}
 use lib.Dec.{ltb, leb}
 use Rattle.paper.specs.Bits.{bitOf}
+use Rattle.slotset.specs.declared.Found.{Found}
+use Rattle.slotset.specs.declared.Found.the-variants.{At, Nothing, Refused}
 
 -- the bits of r are set where those of w are v
 abbrev pub Wanted : ℕ → ℕ → ℕ → Type 0
@@ -35,3 +37,18 @@ onesBelow w (suc k) = bitOf w k + onesBelow w k
 -- r has the bits of x from s up to e, and those of w elsewhere
 abbrev pub Merged : ℕ → ℕ → ℕ → ℕ → ℕ → Type 0
 Merged w x s e r = (k : ℕ) → k < 64 → bitOf r k ≡ cond (leb s k && ltb k e) (bitOf x k) (bitOf w k)
+
+-- the slot i as found, if it is below the length
+unfoldable pub foundBelow : ℕ → ℕ → Found
+foundBelow len i = cond (ltb i len) (At i) Nothing
+
+-- what is found is below n, or above n
+abbrev pub Below : ℕ → Found → Type 0
+Below n (At i) = i < n
+Below n Nothing = Unit
+Below n (Refused k) = Unit
+
+abbrev pub Above : ℕ → Found → Type 0
+Above n (At i) = n < i
+Above n Nothing = Unit
+Above n (Refused k) = Unit
