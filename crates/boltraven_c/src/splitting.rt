@@ -1,10 +1,11 @@
 // Ranges merged, base slots split at their cuts, and who is available for which slot. Ranges come as three columns.
 use crate::answers::plain_number;
 ghost use mathlib.Core.Path.{_≡_};
+ghost use Rattle.paper.specs.Limits.{heardOf};
 ghost use Rattle.slots.specs.Ranges.{ranges};
 ghost use Rattle.slots.specs.Merged.{columns, mergedRanges};
 ghost use Rattle.slots.specs.Atomic.{base, atomiseOf};
-ghost use Rattle.slots.specs.Availability.{availabilityNo, availabilityOf};
+ghost use Rattle.slots.specs.Availability.{availabilityRow, availabilityOf};
 ghost use Rattle.boltraven_c.specs.Numbers.{plainNumber};
 
 // Each person's ranges, sorted and merged, in three columns, and how many.
@@ -87,8 +88,8 @@ pub extern "C" fn boltraven_availability(
     shuts: &[u32],
     words: &mut [u64],
 ) -> u8
-    ensures { λ r. ⌜ r ≡ availabilityNo people slots (now (starts .entry)) (now (ends .entry))
-        (ranges count (now (persons .entry)) (now (opens .entry)) (now (shuts .entry))) (now (words .entry)) ⌝ }
+    ensures { λ r. ⌜ r ≡ heardOf (availabilityRow people slots (now (starts .entry)) (now (ends .entry))
+        (ranges count (now (persons .entry)) (now (opens .entry)) (now (shuts .entry))) (now (words .entry))) ⌝ }
     ensures { λ _. ⌜ now (words .exit) ≡ availabilityOf people slots (now (starts .entry)) (now (ends .entry))
         (ranges count (now (persons .entry)) (now (opens .entry)) (now (shuts .entry))) (now (words .entry)) ⌝ }
 {

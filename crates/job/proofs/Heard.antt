@@ -17,6 +17,7 @@ use Rattle.slotset.specs.Slots.{slot}
 use Rattle.slots.specs.Lent.{slotRoomOk, slotsOk, minutesAt, demandOf}
 use Rattle.slots.specs.Ranges.{rangeCountOk, rangeRoomOk, rangesOk}
 use Rattle.slots.specs.Atomic as atomic
+use Rattle.slots.proofs.AtomLaws.{BaseFits}
 use Rattle.units.specs.Settings.{settingsOk}
 use Rattle.units.specs.Units.{unitsOk}
 use Rattle.units.proofs.Units.{unit-within}
@@ -69,25 +70,24 @@ module _ (s : List ℕ) where
       × (leb (getD (jobCounts s) 3 0) 1024 ≡ true) × (leb (getD (jobCounts s) 6 0) 1024 ≡ true)
   each-few e = few-says (baseIn c) (peopleIn c) (getD c 3 0) (getD c 6 0) e
 
-  base-counts : Few → atomic.baseCountsOk (baseOf s) ≡ true
-  unfolding baseOf atomic.splitCountsOk rangeCountOk
-  base-counts e =
-      let f = each-few e in
-      and-true _ _ (f .1) (and-true _ _ (f .0) (f .2))
-
-  base-room : Few → atomic.baseRoomOk (baseOf s) ≡ true
-  unfolding baseOf atomic.roomOk slotRoomOk rangeRoomOk
-  base-room e =
+  base-fits : Few → BaseFits (baseOf s)
+  unfolding baseOf rangeCountOk slotRoomOk rangeRoomOk
+  base-fits e =
       let f = each-few e in
       let n = slot-count-says (baseIn c) (f .0) .1 in
       let r = leb-true (getD c 3 0) 1024 (f .2) in
       let full : leb 1024 (length (replicate {A = ℕ} 1024 0)) ≡ true =
       le-leb 1024 (length (replicate {A = ℕ} 1024 0)) (omega (arith, length-replicate {A = ℕ} 1024 0)) in
-      and-true _ _ (and-true _ _ (column-room 4 s _ _ _ (baseIn c) n) (column-room 4 s _ _ _ (baseIn c) n))
-      (and-true _ _
-      (and-true _ _ (column-room 2 s _ _ _ (getD c 3 0) r) (and-true _ _ (column-room 4 s _ _ _ (getD c 3 0) r)
-      (column-room 4 s _ _ _ (getD c 3 0) r)))
-      (and-true _ _ full full))
+      record {
+        people = f .1;
+        slots = f .0;
+        ranges = f .2;
+        lent = and-true _ _ (column-room 4 s _ _ _ (baseIn c) n) (column-room 4 s _ _ _ (baseIn c) n);
+        lent-ranges =
+            and-true _ _ (column-room 2 s _ _ _ (getD c 3 0) r)
+            (and-true _ _ (column-room 4 s _ _ _ (getD c 3 0) r) (column-room 4 s _ _ _ (getD c 3 0) r));
+        out = and-true _ _ full full;
+      }
 
   -- 3, 4 and 5
 
@@ -103,7 +103,7 @@ module _ (s : List ℕ) where
   atoms-heard : Few → numberNo (atomsIn s (jobCounts s) (jobStarts s) .answer) ≡ heardOf atomTests
   unfolding heardOf
   atoms-heard e =
-      ap (λ (a : atomic.Atoms). numberNo (a .answer)) atoms-are ∙ atoms-no (baseOf s) (base-counts e) (base-room e)
+      ap (λ (a : atomic.Atoms). numberNo (a .answer)) atoms-are ∙ atoms-no (baseOf s) (base-fits e)
 
   atoms-right : Few → heardOf atomTests ≡ 0
       → AtomsSound (baseOf s) (readyOf s .slots) (readyOf s .starts) (readyOf s .ends)
@@ -113,7 +113,7 @@ module _ (s : List ℕ) where
       let q = cond-zero (rangesOk (baseOf s .people) (baseOf s .ranges)) _ 3 (p .1) in
       let r = cond-zero (leb (length (atomic.startsOfAtoms (baseOf s))) 1024) 0 4 (q .1) in
       subst (λ (a : atomic.Atoms). AtomsSound (baseOf s) (valueOf (a .answer)) (a .starts) (a .ends)) (sym atoms-are)
-      (atoms-sound (baseOf s) (base-counts e) (base-room e) (p .0) (q .0) (r .0))
+      (atoms-sound (baseOf s) (base-fits e) (p .0) (q .0) (r .0))
 
   -- 6 and 7
 

@@ -1,5 +1,5 @@
 -- What a file whose layout and counts are right leaves known. Assumes nothing.
-use mathlib.Core.Path.{_≡_, sym, ap, ap₂, _∙_, subst}
+use mathlib.Core.Path.{_≡_, refl, sym, ap, ap₂, _∙_, subst}
 use mathlib.Core.Logic.{⊎-elim}
 use mathlib.Core.Bool.{Bool, true, false, cond}
 use mathlib.Core.List.{List}
@@ -10,10 +10,12 @@ use lib.Dec.{leb, eqb, lit<, lit≤}
 use lib.Ieee.{Float}
 use lib.IntN.{ℤ, pos}
 use lib.ListN.{length, getD, replicate}
+use Rattle.paper.specs.Limits.{heardOf}
+use Rattle.paper.proofs.Rows.{passed}
 use Rattle.paper.proofs.Logic.{by-test, both, cond-zero, lt-or-ge, people-says, slot-count-says}
 use Rattle.slotset.specs.declared.Number.the-variants as number
 use Rattle.slots.specs.Lent.{slotsOk}
-use Rattle.slots.specs.Ranges.{Ranges, ranges, rangesOk}
+use Rattle.slots.specs.Ranges.{Ranges, ranges}
 use Rattle.slots.specs.Atomic as atomic
 use Rattle.units.specs.declared.Settings.{Settings}
 use Rattle.units.specs.Starts.{unitStartsIs}
@@ -146,25 +148,23 @@ atoms-is s c b st en ps os sh a p q r t u w =
     (ranges-same s c b ps os sh r t u)) w
 
 pub atoms-few : (B : atomic.Base) (a : Atoms) → AtomsAre (atomic.atomiseOf B) a → a .count ≤ 1024
-unfolding atomic.atomiseOf atomic.atomiseNo Rattle.slotset.specs.Answers.numberAs
+unfolding atomic.atomiseOf atomic.atomiseRow atomic.baseRow Rattle.slotset.specs.Answers.numberAs
 atoms-few B a w =
-    by-test (eqb (atomic.atomiseNo B) 0) (a .count ≤ 1024)
+    by-test (eqb (heardOf (atomic.atomiseRow B)) 0) (a .count ≤ 1024)
     (λ t.
-    let z = eqb-true (atomic.atomiseNo B) 0 t in
-    let l = cond-zero (leb (length (atomic.startsOfAtoms B)) 1024) 0 4
-    (cond-zero (rangesOk (B .people) (B .ranges)) _ 3 (cond-zero (slotsOk (B .slots) (B .starts) (B .ends)) _ 2
-    (cond-zero (atomic.baseRoomOk B) _ 1 (cond-zero (atomic.baseCountsOk B) _ 0 z .1) .1) .1) .1) in
+    let z = eqb-true (heardOf (atomic.atomiseRow B)) 0 t in
+    let l = passed (atomic.atomiseRow B) refl z 8 in
     omega (
       arith,
-      leb-true (length (atomic.startsOfAtoms B)) 1024 (l .0),
+      leb-true (length (atomic.startsOfAtoms B)) 1024 l,
       w .count
-          ∙ ap (λ (q : Bool). valueOf (cond q (number.Is (length (atomic.startsOfAtoms B))) (number.Refused (atomic.atomiseNo B)))) t,
+          ∙ ap (λ (q : Bool). valueOf (cond q (number.Is (length (atomic.startsOfAtoms B))) (number.Refused (heardOf (atomic.atomiseRow B))))) t,
     ))
     (λ f.
     omega (
       arith,
       w .count ∙ ap (λ (q : Bool). valueOf (cond q (number.Is (length (atomic.startsOfAtoms B)))
-          (number.Refused (atomic.atomiseNo B)))) f,
+          (number.Refused (heardOf (atomic.atomiseRow B))))) f,
     ))
 
 module _ (s c b x : List ℕ) (a : Atoms) (A : AtomsAre (atomsIn s c b) a) where

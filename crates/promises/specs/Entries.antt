@@ -14,8 +14,7 @@ use Rattle.slotset.specs.Search.{nextSet, prevSet}
 use Rattle.slotset.specs.Answers.{lenNo, slotsOf, foundAs, runAs, numberAs}
 use Rattle.slots.specs.Ranges.{Ranges}
 use Rattle.slots.specs.Atomic.{Base, Atoms, atomiseOf}
-use Rattle.slots.specs.Availability.{availabilityOf}
-use Rattle.slots.specs.Freeze.{isAvailable}
+use Rattle.slots.specs.Availability.{availabilityOf, isAvailable}
 use Rattle.units.specs.declared.Settings.{Settings}
 use Rattle.units.specs.Answers.{Written}
 use Rattle.units.specs.Starts.{rotationStartsIs}

@@ -6,18 +6,19 @@ use mathlib.Core.Logic.{_⊎_, _↔_}
 use Prim.Native.Nat.{ℕ, _-_, _≤_, _<_}
 use lib.Dec.{leb}
 use lib.ListN.{length, getD}
+use Rattle.paper.specs.Limits.{heardOf}
 use Rattle.paper.specs.Count.{sum, count}
 use Rattle.slotset.specs.declared.Told.the-variants.{Yes}
 use Rattle.slotset.specs.declared.Number.the-variants as number
 use Rattle.slotset.specs.Slots.{slot}
 use Rattle.slotset.specs.Answers.{rowSlots}
 use Rattle.slots.specs.declared.Minutes.the-variants as minutes
-use Rattle.slots.specs.Lent.{slotsOk, demandOf, lentNo, lentSlotNo, demandIs, slotMinutesIs}
+use Rattle.slots.specs.Lent.{slotsOk, demandOf, lentRow, slotMinutesRow, demandIs, slotMinutesIs}
 use Rattle.slots.specs.Ranges.{Ranges, personOf, startOf, endOf, inRanges, available, mergedOf, IsMerged}
-use Rattle.slots.specs.Merged.{Columns, mergedNo, mergedRanges}
-use Rattle.slots.specs.Atomic.{Base, atomiseNo, atomiseOf, startsOfAtoms, endsOfAtoms, isCut, cutsIn, IsCuts}
-use Rattle.slots.specs.Availability.{availabilityNo, availabilityOf}
-use Rattle.slots.specs.Freeze.{freezeNo, freezeOf, isAvailable}
+use Rattle.slots.specs.Merged.{Columns, mergedRow, mergedRanges}
+use Rattle.slots.specs.Atomic.{Base, atomiseRow, atomiseOf, startsOfAtoms, endsOfAtoms, isCut, cutsIn, IsCuts}
+use Rattle.slots.specs.Availability.{availabilityRow, availabilityOf, isAvailable}
+use Rattle.slots.specs.Freeze.{freezeRow, freezeOf}
 use Rattle.promises.specs.SetRules.{TheOne}
 
 -- "Each person's ranges are sorted, empty ones dropped, and touching or overlapping ones merged": the one list that is ascending person by
@@ -65,9 +66,9 @@ pub record Froze (slots : ℕ) (starts ends frozen : List ℕ) (instant : ℕ) :
 
 pub record SlotsByRule : Type 0 where
   -- the length of a slot is its end less its start; demand is the sum of all
-  pub slot-minutes : (slots : ℕ) (starts ends : List ℕ) (k : ℕ) → lentSlotNo slots starts ends k ≡ 0
+  pub slot-minutes : (slots : ℕ) (starts ends : List ℕ) (k : ℕ) → heardOf (slotMinutesRow slots starts ends k) ≡ 0
       → slotMinutesIs slots starts ends k ≡ minutes.Are (getD ends k 0 - getD starts k 0)
-  pub demand : (slots : ℕ) (starts ends : List ℕ) → lentNo slots starts ends ≡ 0
+  pub demand : (slots : ℕ) (starts ends : List ℕ) → heardOf (lentRow slots starts ends) ≡ 0
       → demandIs slots starts ends ≡ minutes.Are (sum slots (λ k. getD ends k 0 - getD starts k 0))
   -- a minute lies in one of a person's ranges: it is not before its start, and before its end
   pub lies : (R : Ranges) (p t : ℕ)
@@ -76,17 +77,17 @@ pub record SlotsByRule : Type 0 where
   -- "The cuts are all starts and ends of the merged ranges."
   pub cut : (merged : List ℕ) (t : ℕ)
       → (isCut merged t ≡ true) ↔ ((k : ℕ) × (k < length merged) × ((startOf (getD merged k 0) ≡ t) ⊎ (endOf (getD merged k 0) ≡ t)))
-  pub merged : (people : ℕ) (R : Ranges) (out : Columns) → mergedNo people R out ≡ 0 → Merged people R out
-  pub split : (B : Base) → atomiseNo B ≡ 0 → Split B
+  pub merged : (people : ℕ) (R : Ranges) (out : Columns) → heardOf (mergedRow people R out) ≡ 0 → Merged people R out
+  pub split : (B : Base) → heardOf (atomiseRow B) ≡ 0 → Split B
   -- "A person is available for a slot exactly when each of its minutes lies in one of their ranges."
   pub available : (people slots : ℕ) (starts ends : List ℕ) (R : Ranges) (words : List ℕ)
-      → availabilityNo people slots starts ends R words ≡ 0
+      → heardOf (availabilityRow people slots starts ends R words) ≡ 0
       → (p k : ℕ) → p < people → k < slots
       → (isAvailable people slots (availabilityOf people slots starts ends R words) p k ≡ Yes)
       ↔ ((t : ℕ) → getD starts k 0 ≤ t → t < getD ends k 0 → inRanges R p t ≡ true)
   -- a bit at or past the slot count, and the sets past the people, stay
-  pub past : (people slots : ℕ) (starts ends : List ℕ) (R : Ranges) (words : List ℕ) → availabilityNo people slots starts ends R words ≡ 0
+  pub past : (people slots : ℕ) (starts ends : List ℕ) (R : Ranges) (words : List ℕ) → heardOf (availabilityRow people slots starts ends R words) ≡ 0
       → (p k : ℕ) → (p < people → slots ≤ k) → k < 1024
       → rowSlots (availabilityOf people slots starts ends R words) p k ≡ rowSlots words p k
-  pub frozen : (slots : ℕ) (starts ends frozen : List ℕ) (instant : ℕ) → freezeNo slots starts ends frozen ≡ 0
+  pub frozen : (slots : ℕ) (starts ends frozen : List ℕ) (instant : ℕ) → heardOf (freezeRow slots starts ends frozen) ≡ 0
       → Froze slots starts ends frozen instant

@@ -1,25 +1,26 @@
 -- The outcome of splitting. Assumes nothing.
 use mathlib.Core.Path.{_≡_, refl, sym, ap, _∙_}
-use mathlib.Core.Bool.{true, false, _&&_, cond}
+use mathlib.Core.Bool.{true, false}
 use mathlib.Core.Logic.{⊎-elim}
-use mathlib.Core.List.{List}
+use mathlib.Core.List.{List, [], _∷_}
 use Prim.Native.Nat.{ℕ, _+_, _≤_, _<_}
 use native.Mathlib.Omega.{arith}
-use borrow.Author.Tests.{le-leb, lt-leb, eq-eqb, ne-eqb}
+use borrow.Author.Tests.{le-leb, lt-leb, leb-true, eq-eqb, ne-eqb}
 use lib.Dec.{leb, eqb}
 use lib.ListN.{length, getD, take}
-use Rattle.paper.specs.Limits.{peopleOk, slotCountOk, orElse}
+use Rattle.paper.specs.Limits.{peopleOk, slotCountOk, orElse, Test, test, heardOf}
+use Rattle.paper.specs.Rows.{unless, firstOf, next}
+use Rattle.paper.specs.declared.Fault.{Fault}
 use Rattle.paper.specs.Count.{over}
-use Rattle.paper.specs.Rows.{unless}
-use Rattle.paper.proofs.Logic.{lt-or-ge, three, cond-zero, slot-count-says}
-use Rattle.paper.proofs.Refusals.{more-after}
+use Rattle.paper.proofs.Logic.{lt-or-ge, slot-count-says}
+use Rattle.paper.proofs.Rows.{passed, said, asked-more, link, ends, next-pass, next-fail, next-kept}
 use Rattle.slotset.specs.declared.Number.the-variants as number
-use Rattle.slotset.specs.Answers.{numberAs, wordsAs}
+use Rattle.slotset.specs.Answers.{numberAs}
 use Rattle.slots.specs.Lent.{slotRoomOk, slotsOk, SlotsSound}
 use Rattle.slots.specs.Ranges.{rangeCountOk, rangeRoomOk, rangesOk, RangesSound}
 use Rattle.slots.specs.Walk.{MergedFrom}
-use Rattle.slots.specs.Atomic.{atomStarts, atomEnds, Base, splitCountsOk, roomOk, baseCountsOk, baseRoomOk, baseNo}
-use Rattle.slots.specs.Atomic.{atomiseNo, atomiseOf, startsOfAtoms, endsOfAtoms, AtomsEnd, orFull, Grown}
+use Rattle.slots.specs.Atomic.{atomStarts, atomEnds, Base, baseRow}
+use Rattle.slots.specs.Atomic.{atomiseRow, atomiseOf, startsOfAtoms, endsOfAtoms, AtomsEnd, orFull, Grown}
 use Rattle.slots.proofs.LentLaws.{room-says, slots-sound}
 use Rattle.slots.proofs.RangeLaws.{ranges-sound}
 use Rattle.slots.proofs.MergedLaws.{front-written}
@@ -33,56 +34,74 @@ pub record BaseSound (B : Base) : Type 0 where
   pub few : B .slots ≤ 1024
   pub room : (1024 ≤ length (B .outStarts)) × (1024 ≤ length (B .outEnds))
 
-pub base-says : (B : Base) → baseNo B ≡ 0 → BaseSound B
-unfolding baseNo splitCountsOk roomOk
-base-says B e =
-    let p = peopleOk (B .people) in
-    let s = slotCountOk (B .slots) in
-    let c = rangeCountOk (B .ranges .count) in
-    let room = slotRoomOk (B .slots) (B .starts) (B .ends) in
-    let held = rangeRoomOk (B .ranges) in
-    let out = slotRoomOk 1024 (B .outStarts) (B .outEnds) in
-    let x = cond-zero (p && (s && c)) _ 0 e in
-    let y = cond-zero (room && (held && out)) _ 1 (x .1) in
-    let z = cond-zero (slotsOk (B .slots) (B .starts) (B .ends)) _ 2 (y .1) in
-    let w = cond-zero (rangesOk (B .people) (B .ranges)) _ 3 (z .1) in
-    let u = three p s c (x .0) in
-    let v = three room held out (y .0) in
-    record {
-      slots = slots-sound (B .slots) (B .starts) (B .ends) (z .0);
-      ranges = ranges-sound (B .people) (B .ranges) (u .0) (u .2) (w .0);
-      few = slot-count-says (B .slots) (u .1) .1;
-      room = room-says 1024 (B .outStarts) (B .outEnds) (v .2);
-    }
+module _ (B : Base) where
+  sound-of : peopleOk (B .people) ≡ true → slotCountOk (B .slots) ≡ true → rangeCountOk (B .ranges .count) ≡ true
+      → slotRoomOk 1024 (B .outStarts) (B .outEnds) ≡ true → slotsOk (B .slots) (B .starts) (B .ends) ≡ true
+      → rangesOk (B .people) (B .ranges) ≡ true → BaseSound B
+  sound-of p s c o t r = record {
+    slots = slots-sound (B .slots) (B .starts) (B .ends) t;
+    ranges = ranges-sound (B .people) (B .ranges) p c r;
+    few = slot-count-says (B .slots) s .1;
+    room = room-says 1024 (B .outStarts) (B .outEnds) o;
+  }
+
+  pub base-says : heardOf (baseRow B) ≡ 0 → BaseSound B
+  unfolding baseRow
+  base-says e = let h = passed (baseRow B) refl e in sound-of (h 0) (h 1) (h 2) (h 5) (h 6) (h 7)
+
+  -- and where nothing is refused after it
+  pub atoms-say : heardOf (atomiseRow B) ≡ 0
+      → BaseSound B × (slotsOk (B .slots) (B .starts) (B .ends) ≡ true) × (length (startsOfAtoms B) ≤ 1024)
+  unfolding baseRow atomiseRow
+  atoms-say e =
+      let h = passed (atomiseRow B) refl e in
+      (sound-of (h 0) (h 1) (h 2) (h 5) (h 6) (h 7), h 6, leb-true _ _ (h 8))
+
+-- ---- where 1 and 2 are none
+
+pub record BaseFits (B : Base) : Type 0 where
+  pub people : peopleOk (B .people) ≡ true
+  pub slots : slotCountOk (B .slots) ≡ true
+  pub ranges : rangeCountOk (B .ranges .count) ≡ true
+  pub lent : slotRoomOk (B .slots) (B .starts) (B .ends) ≡ true
+  pub lent-ranges : rangeRoomOk (B .ranges) ≡ true
+  pub out : slotRoomOk 1024 (B .outStarts) (B .outEnds) ≡ true
+
+pub fits-heard : (B : Base) → BaseFits B
+    → heardOf (atomiseRow B) ≡ orElse (slotsOk (B .slots) (B .starts) (B .ends)) 3
+    (orElse (rangesOk (B .people) (B .ranges)) 4 (orElse (leb (length (startsOfAtoms B)) 1024) 5 0))
+unfolding baseRow atomiseRow heardOf
+fits-heard B F = simp (F .people, F .slots, F .ranges, F .lent, F .lent-ranges, F .out)
 
 -- ---- 5 comes after the others
 
-module _ (B : Base) (number : ℕ) (e : number ≡ baseNo B) where
-  then-five : atomiseNo B ≡ cond (eqb number 0) (orElse (leb (length (startsOfAtoms B)) 1024) 5 0) number
-  unfolding baseNo atomiseNo
-  then-five =
-      more-after (baseCountsOk B) 0 _ _ _
-      (more-after (baseRoomOk B) 1 _ _ _
-      (more-after (slotsOk (B .slots) (B .starts) (B .ends)) 2 _ _ _
-      (more-after (rangesOk (B .people) (B .ranges)) 3 0 _ (orElse (leb (length (startsOfAtoms B)) 1024) 5 0) refl)))
-      ∙ ap (λ (n : ℕ). cond (eqb n 0) (orElse (leb (length (startsOfAtoms B)) 1024) 5 0) n) (sym e)
+module _ (B : Base) (f : Fault) (e : f ≡ firstOf (baseRow B)) where
+  abbrev five : Test
+  five = test 5 (leb (length (startsOfAtoms B)) 1024)
 
-  pub after-none : number ≡ 0 → atomiseNo B ≡ orElse (leb (length (startsOfAtoms B)) 1024) 5 0
-  after-none z = then-five ∙ simp (eq-eqb number 0 z)
+  with-five : next f five .number ≡ heardOf (atomiseRow B)
+  unfolding atomiseRow baseRow
+  with-five = said _ (asked-more (baseRow B) (five ∷ []) refl e (link refl ends))
 
-  pub after-some : (number ≡ 0 → ⊥) → atomiseNo B ≡ number
-  after-some z = then-five ∙ simp (ne-eqb number 0 z)
+  pub after-none : f .number ≡ 0 → leb (length (startsOfAtoms B)) 1024 ≡ true → heardOf (atomiseRow B) ≡ 0
+  after-none z p = sym with-five ∙ ap (λ (g : Fault). g .number) (next-pass f five p) ∙ z
+
+  pub after-five : f .number ≡ 0 → leb (length (startsOfAtoms B)) 1024 ≡ false → heardOf (atomiseRow B) ≡ 5
+  after-five z p = sym with-five ∙ ap (λ (g : Fault). g .number) (next-fail f five p z)
+
+  pub after-some : (f .number ≡ 0 → ⊥) → heardOf (atomiseRow B) ≡ f .number
+  after-some h = sym with-five ∙ ap (λ (g : Fault). g .number) (next-kept f five h)
 
 -- ---- refused, and done
 
-pub atoms-refused : (B : Base) (n : ℕ) → atomiseNo B ≡ n → (n ≡ 0 → ⊥)
+pub atoms-refused : (B : Base) (n : ℕ) → heardOf (atomiseRow B) ≡ n → (n ≡ 0 → ⊥)
     → AtomsEnd (atomiseOf B) (number.Refused n) (B .outStarts) (B .outEnds)
-unfolding atomiseOf numberAs wordsAs unless
+unfolding atomiseOf numberAs unless
 atoms-refused B n e h =
-    let z : eqb (atomiseNo B) 0 ≡ false = ne-eqb _ _ (λ q. h (sym e ∙ q)) in
+    let z : eqb (heardOf (atomiseRow B)) 0 ≡ false = ne-eqb _ _ (λ q. h (sym e ∙ q)) in
     record { heard = simp z (ap number.Refused (sym e)); starts = simp z; ends = simp z }
 
-module _ (B : Base) (no : ℕ) (e : no ≡ baseNo B) (z : no ≡ 0) (keys : List ℕ) (n : ℕ) (M : MergedFrom (B .ranges) keys n)
+module _ (B : Base) (fault : Fault) (e : fault ≡ firstOf (baseRow B)) (z : fault .number ≡ 0) (keys : List ℕ) (n : ℕ) (M : MergedFrom (B .ranges) keys n)
     (S E S′ E′ : List ℕ) (r : ℕ)
     (G : Grown 0 S E (atomStarts (take n keys) (B .slots) (B .starts) (B .ends)) (atomEnds (take n keys) (B .slots) (B .starts)
     (B .ends)) r S′ E′) where
@@ -104,7 +123,7 @@ module _ (B : Base) (no : ℕ) (e : no ≡ baseNo B) (z : no ≡ 0) (keys : List
       let over : 1024 < length (startsOfAtoms B) =
       ⊎-elim (λ x. x) (λ (x : length (startsOfAtoms B) ≤ 1024). absurd (omega (arith, number-is, full-some (length (startsOfAtoms B)) x)))
       (lt-or-ge 1024 (length (startsOfAtoms B))) in
-      atoms-refused B 5 (after-none B no e z ∙ simp (lt-leb (length (startsOfAtoms B)) 1024 over)) (λ q. omega arith)
+      atoms-refused B 5 (after-five B fault e z (lt-leb (length (startsOfAtoms B)) 1024 over)) (λ q. omega arith)
 
   module _ (h : r ≤ 1024) where
     few-atoms : length (startsOfAtoms B) ≤ 1024
@@ -122,10 +141,10 @@ module _ (B : Base) (no : ℕ) (e : no ≡ baseNo B) (z : no ≡ 0) (keys : List
     pub atoms-done : 1024 ≤ length S′ → 1024 ≤ length E′ → (F T : List ℕ)
         → F ≡ over (λ k. getD S′ k 0) r (B .outStarts) → T ≡ over (λ k. getD E′ k 0) r (B .outEnds)
         → AtomsEnd (atomiseOf B) (number.Is r) F T
-    unfolding atomiseOf numberAs wordsAs unless
+    unfolding atomiseOf numberAs unless
     atoms-done a b F T p q =
-        let none : eqb (atomiseNo B) 0 ≡ true = eq-eqb _ _ (after-none B no e z
-        ∙ simp (le-leb (length (startsOfAtoms B)) 1024 few-atoms)) in
+        let none : eqb (heardOf (atomiseRow B)) 0 ≡ true = eq-eqb _ _
+        (after-none B fault e z (le-leb (length (startsOfAtoms B)) 1024 few-atoms)) in
         record {
           heard = simp none (ap number.Is count-is);
           starts = simp none (p ∙ front-written (λ t. t) S′ (startsOfAtoms B) (B .outStarts) r (G .starts fits

@@ -1,6 +1,6 @@
 -- A slot is available exactly where one merged range holds it whole; and the sets, row by row. Assumes nothing.
 use mathlib.Core.Path.{_≡_, refl, sym, ap, _∙_}
-use mathlib.Core.Bool.{Bool, true, false, _&&_}
+use mathlib.Core.Bool.{Bool, true, false}
 use mathlib.Core.Logic.{⊎-elim}
 use mathlib.Core.List.{List, [], _∷_}
 use Prim.Native.Nat.{ℕ, zero, suc, _+_, _-_, _*_, _≤_, _<_}
@@ -10,22 +10,25 @@ use borrow.Author.Tests.{leb-true, ltb-true, ltb-false, le-leb, lt-ltb, le-ltb, 
 use lib.Dec.{leb, ltb, eqb}
 use lib.ListN.{length, getD, take}
 use lib.Seq.{getD-take, length-take-le}
-use Rattle.paper.specs.Limits.{peopleOk, slotCountOk}
+use Rattle.paper.specs.Limits.{peopleOk, heardOf}
+use Rattle.paper.specs.Rows.{unless}
 use Rattle.paper.specs.Count.{allIn}
-use Rattle.paper.proofs.Logic.{by-test, lt-or-ge, both, three, and-true, or-left, or-second, or-either, same-test}
-use Rattle.paper.proofs.Logic.{cond-zero, slot-count-says}
+use Rattle.paper.proofs.Logic.{by-test, lt-or-ge, both, and-true, or-left, or-second, or-either, same-test}
+use Rattle.paper.proofs.Logic.{slot-count-says}
+use Rattle.paper.proofs.Rows.{passed}
 use Rattle.paper.proofs.Count.{in-each, each-in}
-use Rattle.slotset.specs.Slots.{putSlot, putSlots, valueOf}
-use Rattle.slotset.specs.Answers.{rowStretchOf, wordsAs}
+use Rattle.slotset.specs.declared.Told.{Told}
+use Rattle.slotset.specs.declared.Told.the-variants as told
+use Rattle.slotset.specs.Slots.{putSlot, putSlots, valueOf, has}
+use Rattle.slotset.specs.Answers.{rowNo, rowSlots, rowStretchOf, toldAs}
 use Rattle.slotset.proofs.Puts.{length-puts, puts-one, puts-same}
 use Rattle.slotset.proofs.Refusals.{says-row, stretch-puts}
-use Rattle.slots.specs.Lent.{slotRoomOk, slotsOk, SlotsSound}
-use Rattle.slots.specs.Ranges.{anyOf, Ranges, rangeCountOk, rangeRoomOk, rangesOk, RangesSound, inRanges, available}
+use Rattle.slots.specs.Lent.{SlotsSound}
+use Rattle.slots.specs.Ranges.{anyOf, Ranges, RangesSound, inRanges, available}
 use Rattle.slots.specs.Ranges.{opens, closes, mergedOf, Spaced}
 use Rattle.slots.specs.Walk.{MergedFrom}
 use Rattle.slots.specs.Freeze.{Opening}
-use Rattle.slots.specs.Atomic.{splitCountsOk}
-use Rattle.slots.specs.Availability.{availableBit, rows, availabilityRoomOk, availabilityNo, availabilityOf, spans, reaches, heldBit}
+use Rattle.slots.specs.Availability.{availableBit, rows, availabilityRow, availabilityOf, availableRow, isAvailable, spans, reaches, heldBit}
 use Rattle.slots.proofs.Entries.{any-here, any-one}
 use Rattle.slots.proofs.Keys.{inLine, in-line, line-in}
 use Rattle.slots.proofs.LentLaws.{slots-sound}
@@ -262,27 +265,16 @@ pub record AvailabilitySound (people slots : ℕ) (starts ends : List ℕ) (R : 
   pub room : 16 * people ≤ length words
 
 pub availability-says : (people slots : ℕ) (starts ends : List ℕ) (R : Ranges) (words : List ℕ)
-    → availabilityNo people slots starts ends R words ≡ 0 → AvailabilitySound people slots starts ends R words
-unfolding availabilityNo availabilityRoomOk splitCountsOk
+    → heardOf (availabilityRow people slots starts ends R words) ≡ 0 → AvailabilitySound people slots starts ends R words
+unfolding availabilityRow
 availability-says people slots starts ends R words e =
-    let p = peopleOk people in
-    let s = slotCountOk slots in
-    let c = rangeCountOk (R .count) in
-    let a = slotRoomOk slots starts ends in
-    let b = rangeRoomOk R in
-    let d = leb (16 * people) (length words) in
-    let x = cond-zero (p && (s && c)) _ 0 e in
-    let y = cond-zero (a && (b && d)) _ 1 (x .1) in
-    let z = cond-zero (rangesOk people R) _ 3 (y .1) in
-    let w = cond-zero (slotsOk slots starts ends) _ 8 (z .1) in
-    let u = three p s c (x .0) in
-    let v = three a b d (y .0) in
+    let h = passed (availabilityRow people slots starts ends R words) refl e in
     record {
-      slots-sound = slots-sound slots starts ends (w .0);
-      ranges-sound = ranges-sound people R (u .0) (u .2) (z .0);
-      few = slot-count-says slots (u .1) .1;
-      people-ok = u .0;
-      room = leb-true (16 * people) (length words) (v .2);
+      slots-sound = slots-sound slots starts ends (h 7);
+      ranges-sound = ranges-sound people R (h 0) (h 2) (h 6);
+      few = slot-count-says slots (h 1) .1;
+      people-ok = h 0;
+      room = leb-true (16 * people) (length words) (h 5);
     }
 
 -- the marks of the merged list are those over minutes
@@ -293,21 +285,21 @@ marks-same R S slots starts ends T p k h =
     ap valueOf (held-available R S p (getD starts k 0) (getD ends k 0) (T .ordered k h) (T .capped k h))
 
 module _ (people slots : ℕ) (starts ends : List ℕ) (R : Ranges) (words : List ℕ) (number : ℕ)
-    (e : number ≡ availabilityNo people slots starts ends R words) where
-  pub availability-refused : (number ≡ 0 → ⊥) → (number ≡ availabilityNo people slots starts ends R words) ×
+    (e : number ≡ heardOf (availabilityRow people slots starts ends R words)) where
+  pub availability-refused : (number ≡ 0 → ⊥) → (number ≡ heardOf (availabilityRow people slots starts ends R words)) ×
       (words ≡ availabilityOf people slots starts ends R words)
-  unfolding availabilityOf wordsAs
+  unfolding availabilityOf unless
   availability-refused h =
-      let z : eqb (availabilityNo people slots starts ends R words) 0 ≡ false = ne-eqb _ _ (λ q. h (e ∙ q)) in
+      let z : eqb (heardOf (availabilityRow people slots starts ends R words)) 0 ≡ false = ne-eqb _ _ (λ q. h (e ∙ q)) in
       (e, simp z)
 
   pub availability-done : number ≡ 0 → (keys : List ℕ) (n : ℕ) → MergedFrom R keys n → (next : List ℕ)
       → next ≡ rows (heldBit (take n keys) starts ends) slots people words
-      → (0 ≡ availabilityNo people slots starts ends R words) × (next ≡ availabilityOf people slots starts ends R words)
-  unfolding availabilityOf wordsAs
+      → (0 ≡ heardOf (availabilityRow people slots starts ends R words)) × (next ≡ availabilityOf people slots starts ends R words)
+  unfolding availabilityOf unless
   availability-done h keys n M next d =
       let none = sym e ∙ h in
-      let z : eqb (availabilityNo people slots starts ends R words) 0 ≡ true = eq-eqb _ _ none in
+      let z : eqb (heardOf (availabilityRow people slots starts ends R words)) 0 ≡ true = eq-eqb _ _ none in
       let S = availability-says people slots starts ends R words none in (
         sym none,
         simp z (d ∙ ap (λ (l : List ℕ). rows (heldBit l starts ends) slots people words) (M .list)
@@ -336,3 +328,24 @@ row-turn l starts ends people person slots base k ws₀ ws next want ok few know
           (16 * person) k ws₀ ws e,
     )) k (valueOf want) h
     ∙ ap (λ (v : ℕ). putSlot (16 * person) k v ws) mark)
+
+-- ---- may this person cover this slot
+
+module _ (slots : ℕ) (words : List ℕ) (people person slot no : ℕ) (e : no ≡ heardOf (availableRow people slots words person slot)) where
+  pub available-refused : (no ≡ 0 → ⊥) → told.Refused no ≡ isAvailable people slots words person slot
+  unfolding isAvailable toldAs
+  available-refused h =
+      let z : eqb (heardOf (availableRow people slots words person slot)) 0 ≡ false = ne-eqb _ _ (λ q. h (e ∙ q)) in
+      simp z (ap told.Refused e)
+
+  row-none : heardOf (availableRow people slots words person slot) ≡ 0 → rowNo words people person slots ≡ 0
+  unfolding availableRow
+  row-none z =
+      let h = passed (availableRow people slots words person slot) refl z in
+      says-row words people person slots (h 0) (slot-count-says slots (h 1) .1) (leb-true _ _ (h 2)) (ltb-true _ _ (h 3))
+
+  pub available-told : no ≡ 0 → (r : Told) → r ≡ toldAs (rowNo words people person slots) (has (rowSlots words person) slots slot)
+      → r ≡ isAvailable people slots words person slot
+  unfolding isAvailable
+  available-told h r d =
+      d ∙ ap (λ (n : ℕ). toldAs n (has (rowSlots words person) slots slot)) (row-none (sym e ∙ h) ∙ sym (sym e ∙ h))

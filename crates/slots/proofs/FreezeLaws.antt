@@ -1,25 +1,24 @@
 -- The slots that end by an instant open the list: their count, and their marks. Assumes nothing.
 use mathlib.Core.Path.{_≡_, refl, sym, ap, ap₂, _∙_}
-use mathlib.Core.Bool.{true, false, _&&_}
+use mathlib.Core.Bool.{true, false}
 use mathlib.Core.Logic.{⊎-elim}
 use mathlib.Core.List.{List}
-use Prim.Native.Nat.{ℕ, zero, suc, _+_, _-_, _*_, _≤_, _<_}
+use Prim.Native.Nat.{ℕ, zero, suc, _+_, _-_, _≤_, _<_}
 use native.Mathlib.Omega.{arith}
-use borrow.Author.Tests.{le-leb, lt-leb, leb-true, ltb-true, eq-eqb, ne-eqb}
-use lib.Dec.{leb, ltb, eqb}
+use borrow.Author.Tests.{le-leb, lt-leb, leb-true, eq-eqb, ne-eqb}
+use lib.Dec.{eqb}
 use lib.ListN.{length, getD}
-use Rattle.paper.specs.Limits.{peopleOk, slotCountOk}
+use Rattle.paper.specs.Limits.{peopleOk, heardOf}
 use Rattle.paper.specs.Rows.{unless}
-use Rattle.paper.proofs.Logic.{lt-or-ge, both, cond-zero, slot-count-says}
+use Rattle.paper.proofs.Logic.{lt-or-ge, slot-count-says}
+use Rattle.paper.proofs.Rows.{passed}
 use Rattle.paper.proofs.Count.{count-opening}
 use Rattle.slotset.specs.declared.Number.the-variants as number
-use Rattle.slotset.specs.declared.Told.{Told}
-use Rattle.slotset.specs.declared.Told.the-variants as told
-use Rattle.slotset.specs.Slots.{putSlot, putSlots, has}
-use Rattle.slotset.specs.Answers.{rowNo, rowStretchOf, rowSlots, numberAs, toldAs, wordsAs}
+use Rattle.slotset.specs.Slots.{putSlot, putSlots}
+use Rattle.slotset.specs.Answers.{rowStretchOf, numberAs}
 use Rattle.slotset.proofs.Refusals.{says-row, stretch-puts}
-use Rattle.slots.specs.Lent.{slotRoomOk, slotsOk, SlotsSound}
-use Rattle.slots.specs.Freeze.{endsBy, endedBy, marked, freezeNo, freezeOf, Opening, availableNo, isAvailable}
+use Rattle.slots.specs.Lent.{SlotsSound}
+use Rattle.slots.specs.Freeze.{endsBy, endedBy, marked, freezeRow, freezeOf, Opening}
 use Rattle.slots.proofs.LentLaws.{slots-sound}
 
 -- ---- an opening stretch
@@ -107,15 +106,12 @@ module _ (n : ℕ) (f : ℕ → ℕ) (bound : ℕ) where
 -- ---- the numbers
 
 -- what no refusal leaves known
-pub freeze-says : (slots : ℕ) (starts ends frozen : List ℕ) → freezeNo slots starts ends frozen ≡ 0
+pub freeze-says : (slots : ℕ) (starts ends frozen : List ℕ) → heardOf (freezeRow slots starts ends frozen) ≡ 0
     → (slots ≤ 1024) × (16 ≤ length frozen) × SlotsSound slots starts ends
-unfolding freezeNo
+unfolding freezeRow
 freeze-says slots starts ends frozen e =
-    let x = cond-zero (slotCountOk slots) _ 0 e in
-    let y = cond-zero (slotRoomOk slots starts ends && leb 16 (length frozen)) _ 1 (x .1) in
-    let z = cond-zero (slotsOk slots starts ends) _ 8 (y .1) in
-    let w = both (slotRoomOk slots starts ends) (leb 16 (length frozen)) (y .0) in
-    (slot-count-says slots (x .0) .1, leb-true 16 (length frozen) (w .1), slots-sound slots starts ends (z .0))
+    let h = passed (freezeRow slots starts ends frozen) refl e in
+    (slot-count-says slots (h 0) .1, leb-true 16 (length frozen) (h 2), slots-sound slots starts ends (h 3))
 
 -- the flags are one set, of which any opening stretch may be put
 stretch-put : (slots n : ℕ) (ws : List ℕ) → slots ≤ 1024 → 16 ≤ length ws → n ≤ slots
@@ -126,46 +122,22 @@ stretch-put slots n ws a b h =
     stretch-puts 1 ws 1 0 slots 0 n (says-row ws 1 0 slots refl a b (omega arith)) h ∙ ap (λ (m : ℕ). putSlots (λ _. 1) 0 0 m ws) z
 
 -- the two outcomes
-module _ (slots : ℕ) (starts ends frozen : List ℕ) (instant no : ℕ) (e : no ≡ freezeNo slots starts ends frozen) where
+module _ (slots : ℕ) (starts ends frozen : List ℕ) (instant no : ℕ) (e : no ≡ heardOf (freezeRow slots starts ends frozen)) where
   pub freeze-refused : (no ≡ 0 → ⊥)
       → (number.Refused no ≡ freezeOf slots starts ends frozen instant .answer) ×
       (frozen ≡ freezeOf slots starts ends frozen instant .flags)
-  unfolding freezeOf numberAs wordsAs unless
+  unfolding freezeOf numberAs unless
   freeze-refused h =
-      let z : eqb (freezeNo slots starts ends frozen) 0 ≡ false = ne-eqb _ _ (λ q. h (e ∙ q)) in
+      let z : eqb (heardOf (freezeRow slots starts ends frozen)) 0 ≡ false = ne-eqb _ _ (λ q. h (e ∙ q)) in
       (simp z (ap number.Refused e), simp z)
 
   pub freeze-done : no ≡ 0 → (n : ℕ) → Opening slots (λ k. getD ends k 0) instant n → (ws : List ℕ)
       → ws ≡ rowStretchOf 1 frozen 1 0 slots 0 n
       → (number.Is n ≡ freezeOf slots starts ends frozen instant .answer) × (ws ≡ freezeOf slots starts ends frozen instant .flags)
-  unfolding freezeOf numberAs wordsAs unless
+  unfolding freezeOf numberAs unless
   freeze-done h n O ws w =
-      let z : eqb (freezeNo slots starts ends frozen) 0 ≡ true = eq-eqb _ _ (sym e ∙ h) in
+      let z : eqb (heardOf (freezeRow slots starts ends frozen)) 0 ≡ true = eq-eqb _ _ (sym e ∙ h) in
       let k = freeze-says slots starts ends frozen (sym e ∙ h) in (
         simp z (ap number.Is (sym (opening-count slots ends instant n O))),
         simp z (w ∙ stretch-put slots n frozen (k .0) (k .1) (O .few) ∙ sym (opening-marked slots ends instant n O frozen)),
       )
-
--- ---- may this person cover this slot
-module _ (slots : ℕ) (words : List ℕ) (people person slot no : ℕ) (e : no ≡ availableNo people slots words person slot) where
-  pub available-refused : (no ≡ 0 → ⊥) → told.Refused no ≡ isAvailable people slots words person slot
-  unfolding isAvailable toldAs unless
-  available-refused h =
-      let z : eqb (availableNo people slots words person slot) 0 ≡ false = ne-eqb _ _ (λ q. h (e ∙ q)) in
-      simp z (ap told.Refused e)
-
-  row-none : availableNo people slots words person slot ≡ 0 → rowNo words people person slots ≡ 0
-  unfolding availableNo
-  row-none z =
-      let x = cond-zero (peopleOk people && slotCountOk slots) _ 0 z in
-      let y = cond-zero (leb (16 * people) (length words)) _ 1 (x .1) in
-      let w = cond-zero (ltb person people && ltb slot slots) _ 10 (y .1) in
-      let u = both (peopleOk people) (slotCountOk slots) (x .0) in
-      let v = both (ltb person people) (ltb slot slots) (w .0) in
-      says-row words people person slots (u .0) (slot-count-says slots (u .1) .1) (leb-true _ _ (y .0)) (ltb-true _ _ (v .0))
-
-  pub available-told : no ≡ 0 → (r : Told) → r ≡ toldAs (rowNo words people person slots) (has (rowSlots words person) slots slot)
-      → r ≡ isAvailable people slots words person slot
-  unfolding isAvailable
-  available-told h r d =
-      d ∙ ap (λ (n : ℕ). toldAs n (has (rowSlots words person) slots slot)) (row-none (sym e ∙ h) ∙ sym (sym e ∙ h))

@@ -8,13 +8,14 @@ use native.Mathlib.Omega.{arith}
 use borrow.Author.Tests.{ltb-true, leb-true, eq-eqb, ne-eqb}
 use lib.Dec.{leb, ltb}
 use lib.ListN.{length, getD}
-use Rattle.paper.specs.Limits.{slotCountOk}
+use Rattle.paper.specs.Limits.{slotCountOk, heardOf}
 use Rattle.paper.specs.Count.{all, sum}
-use Rattle.paper.proofs.Logic.{number-of-made, both, three, cond-zero}
+use Rattle.paper.proofs.Logic.{number-of-made, both, three}
+use Rattle.paper.proofs.Rows.{passed}
 use Rattle.paper.proofs.Count.{all-each, sum-more}
 use Rattle.slots.specs.declared.Minutes.the-variants as minutes
 use Rattle.slots.specs.Lent.{slotOk, prevEnd, slotOkAt, slotRoomOk, slotsOk, minutesAt, demandOf, demandWhenOk, SlotsSound}
-use Rattle.slots.specs.Lent.{lentNo, minutesAs, minutesNo}
+use Rattle.slots.specs.Lent.{lentRow, minutesAs, minutesNo}
 
 -- ---- what one slot's test says
 
@@ -114,14 +115,10 @@ prev-more ends i = sym (ap (prevEnd ends) (add-one i))
 -- ---- the numbers
 
 -- 1, 2 and 9 are what they are, as tests
-pub lent-says : (slots : ℕ) (starts ends : List ℕ) → lentNo slots starts ends ≡ 0
+pub lent-says : (slots : ℕ) (starts ends : List ℕ) → heardOf (lentRow slots starts ends) ≡ 0
     → (slotCountOk slots ≡ true) × (slotsOk slots starts ends ≡ true)
-unfolding lentNo
-lent-says slots starts ends e =
-    let x = cond-zero (slotCountOk slots) _ 0 e in
-    let y = cond-zero (slotRoomOk slots starts ends) _ 1 (x .1) in
-    let z = cond-zero (slotsOk slots starts ends) _ 8 (y .1) in
-    (x .0, z .0)
+unfolding lentRow
+lent-says slots starts ends e = let h = passed (lentRow slots starts ends) refl e in (h 0, h 2)
 
 -- one more turn of the sum of the lengths
 module _ (starts ends : List ℕ) (i total m : ℕ) (e : total ≡ sum i (minutesAt starts ends)) (d : m ≡ minutesAt starts ends i) where

@@ -1,6 +1,6 @@
 -- Merged ranges handed out: the columns written, and the outcome. Assumes nothing.
 use mathlib.Core.Path.{_≡_, refl, sym, ap, ap₂, _∙_}
-use mathlib.Core.Bool.{true, false, _&&_}
+use mathlib.Core.Bool.{true, false}
 use mathlib.Core.List.{List}
 use Prim.Native.Nat.{ℕ, _+_, _≤_, _<_}
 use native.Mathlib.Omega.{arith}
@@ -8,17 +8,18 @@ use borrow.Author.Tests.{lt-ltb, ltb-true, eq-eqb, eqb-true, ne-eqb}
 use lib.Dec.{leb, ltb, eqb}
 use lib.ListN.{length, getD, take, set}
 use lib.Seq.{length-take-le, getD-take}
-use Rattle.paper.specs.Limits.{peopleOk}
-use Rattle.paper.specs.Count.{over}
+use Rattle.paper.specs.Limits.{heardOf}
 use Rattle.paper.specs.Rows.{unless}
-use Rattle.paper.proofs.Logic.{both, three, cond-zero}
+use Rattle.paper.specs.Count.{over}
+use Rattle.paper.proofs.Logic.{three}
+use Rattle.paper.proofs.Rows.{passed}
 use Rattle.paper.proofs.Count.{over-more, over-same, length-over, some-one}
 use Rattle.slotset.specs.declared.Number.the-variants as number
-use Rattle.slotset.specs.Answers.{numberAs, wordsAs}
-use Rattle.slots.specs.Ranges.{Ranges, ranges, rangeCountOk, rangeRoomOk, rangesOk, RangesSound, inRange, inRanges}
+use Rattle.slotset.specs.Answers.{numberAs}
+use Rattle.slots.specs.Ranges.{Ranges, ranges, RangesSound, inRange, inRanges}
 use Rattle.slots.specs.Ranges.{personOf, startOf, endOf, covers, opens, closes, mergedOf}
 use Rattle.slots.specs.Walk.{MergedFrom}
-use Rattle.slots.specs.Merged.{written, Columns, mergedNo, mergedRanges, MergedEnd, TakenApart}
+use Rattle.slots.specs.Merged.{written, Columns, mergedRow, mergedRanges, MergedEnd, TakenApart}
 use Rattle.slots.proofs.Entries.{any-here}
 use Rattle.slots.proofs.Keys.{empty-line, says-covers}
 use Rattle.slots.proofs.Merging.{spaced-filled}
@@ -71,31 +72,27 @@ module _ (R : Ranges) (S : RangesSound R) (keys : List ℕ) (n : ℕ) (M : Merge
 
 -- ---- the outcome
 
-pub merged-says : (people : ℕ) (R : Ranges) (out : Columns) → mergedNo people R out ≡ 0
+pub merged-says : (people : ℕ) (R : Ranges) (out : Columns) → heardOf (mergedRow people R out) ≡ 0
     → RangesSound R × (R .count ≤ length (out .persons)) × (R .count ≤ length (out .starts)) × (R .count ≤ length (out .ends))
-unfolding mergedNo
+unfolding mergedRow
 merged-says people R out e =
-    let x = cond-zero (peopleOk people && rangeCountOk (R .count)) _ 0 e in
-    let O = ranges (R .count) (out .persons) (out .starts) (out .ends) in
-    let y = cond-zero (rangeRoomOk R && rangeRoomOk O) _ 1 (x .1) in
-    let z = cond-zero (rangesOk people R) _ 3 (y .1) in
-    let u = both (peopleOk people) (rangeCountOk (R .count)) (x .0) in
-    let w = range-room-says O (both (rangeRoomOk R) (rangeRoomOk O) (y .0) .1) in
-    (ranges-sound people R (u .0) (u .1) (z .0), w .0, w .1, w .2)
+    let h = passed (mergedRow people R out) refl e in
+    let w = range-room-says (ranges (R .count) (out .persons) (out .starts) (out .ends)) (h 3) in
+    (ranges-sound people R (h 0) (h 1) (h 4), w .0, w .1, w .2)
 
-module _ (people : ℕ) (R : Ranges) (out : Columns) (no : ℕ) (e : no ≡ mergedNo people R out) where
+module _ (people : ℕ) (R : Ranges) (out : Columns) (no : ℕ) (e : no ≡ heardOf (mergedRow people R out)) where
   pub merged-refused : (no ≡ 0 → ⊥)
       → MergedEnd (mergedRanges people R out) (number.Refused no) (out .persons) (out .starts) (out .ends)
-  unfolding mergedRanges numberAs wordsAs unless
+  unfolding mergedRanges numberAs unless
   merged-refused h =
-      let z : eqb (mergedNo people R out) 0 ≡ false = ne-eqb _ _ (λ q. h (e ∙ q)) in
+      let z : eqb (heardOf (mergedRow people R out)) 0 ≡ false = ne-eqb _ _ (λ q. h (e ∙ q)) in
       record { heard = simp z (ap number.Refused e); persons = simp z; starts = simp z; ends = simp z }
 
   pub merged-done : no ≡ 0 → (keys : List ℕ) (n : ℕ) → MergedFrom R keys n → (p s f : List ℕ)
       → TakenApart n keys (out .persons) (out .starts) (out .ends) p s f → MergedEnd (mergedRanges people R out) (number.Is n) p s f
-  unfolding mergedRanges numberAs wordsAs unless
+  unfolding mergedRanges numberAs unless
   merged-done h keys n M p s f T =
-      let z : eqb (mergedNo people R out) 0 ≡ true = eq-eqb _ _ (sym e ∙ h) in
+      let z : eqb (heardOf (mergedRow people R out)) 0 ≡ true = eq-eqb _ _ (sym e ∙ h) in
       let S = merged-says people R out (sym e ∙ h) .0 in
       record {
         heard = simp z (ap number.Is (sym (held-length R S keys n M)));
@@ -119,7 +116,7 @@ pub column-room : (f : ℕ → ℕ) (i n : ℕ) (old now : List ℕ) → now ≡
 column-room f i n old now e a b = omega (arith, column-length f i old now e)
 
 -- what taking the list apart asks
-pub merged-work : (people : ℕ) (R : Ranges) (out : Columns) → mergedNo people R out ≡ 0 → (keys : List ℕ) (n : ℕ) → MergedFrom R keys n
+pub merged-work : (people : ℕ) (R : Ranges) (out : Columns) → heardOf (mergedRow people R out) ≡ 0 → (keys : List ℕ) (n : ℕ) → MergedFrom R keys n
     → ((n ≤ 1024) × (n ≤ length keys) × ((k : ℕ) → k < n → personOf (getD keys k 0) < 32))
     × ((n ≤ length (out .persons)) × (n ≤ length (out .starts)) × (n ≤ length (out .ends)))
 merged-work people R out e keys n M =

@@ -5,10 +5,11 @@ use mathlib.Core.List.{List, [], _∷_, _++_}
 use Prim.Native.Nat.{ℕ, zero, suc, _+_, _≤_, _<_}
 use lib.Dec.{leb, ltb, eqb}
 use lib.ListN.{length, getD, take}
-use Rattle.paper.specs.Limits.{peopleOk, slotCountOk, slotsMost, orElse}
+use Rattle.paper.specs.Limits.{peopleOk, slotCountOk, slotsMost, Test, test, heardOf}
+use Rattle.paper.specs.Rows.{unless}
 use Rattle.paper.specs.Count.{among, FirstWhere}
 use Rattle.slotset.specs.declared.Number.{Number}
-use Rattle.slotset.specs.Answers.{numberAs, wordsAs}
+use Rattle.slotset.specs.Answers.{numberAs}
 use Rattle.slots.specs.Lent.{slotRoomOk, slotsOk}
 use Rattle.slots.specs.Ranges.{anyOf, Ranges, rangeCountOk, rangeRoomOk, rangesOk}
 use Rattle.slots.specs.Ranges.{personOf, startOf, endOf, opens, closes, mergedOf, Spaced}
@@ -66,34 +67,17 @@ startsOfAtoms B = atomStarts (mergedOf (B .ranges)) (B .slots) (B .starts) (B .e
 abbrev pub endsOfAtoms : Base → List ℕ
 endsOfAtoms B = atomEnds (mergedOf (B .ranges)) (B .slots) (B .starts) (B .ends)
 
--- rule 1
-unfoldable pub splitCountsOk : ℕ → ℕ → ℕ → Bool
-splitCountsOk people slots count = peopleOk people && (slotCountOk slots && rangeCountOk count)
+-- 1 to 4, which are known before the work: the columns to write need room for 1,024 atomic slots
+unfoldable pub baseRow : Base → List Test
+baseRow B =
+    test 1 (peopleOk (B .people)) ∷ test 1 (slotCountOk (B .slots)) ∷ test 1 (rangeCountOk (B .ranges .count))
+    ∷ test 2 (slotRoomOk (B .slots) (B .starts) (B .ends)) ∷ test 2 (rangeRoomOk (B .ranges))
+    ∷ test 2 (slotRoomOk slotsMost (B .outStarts) (B .outEnds)) ∷ test 3 (slotsOk (B .slots) (B .starts) (B .ends))
+    ∷ test 4 (rangesOk (B .people) (B .ranges)) ∷ []
 
--- rule 2: the columns to write need room for 1,024 atomic slots
-unfoldable pub roomOk : ℕ → List ℕ → List ℕ → Ranges → List ℕ → List ℕ → Bool
-roomOk slots starts ends R outStarts outEnds =
-    slotRoomOk slots starts ends && (rangeRoomOk R && slotRoomOk slotsMost outStarts outEnds)
-
-abbrev pub baseCountsOk : Base → Bool
-baseCountsOk B = splitCountsOk (B .people) (B .slots) (B .ranges .count)
-
-abbrev pub baseRoomOk : Base → Bool
-baseRoomOk B = roomOk (B .slots) (B .starts) (B .ends) (B .ranges) (B .outStarts) (B .outEnds)
-
--- 1 to 4, which are known before the work, and then what comes after them
-abbrev pub baseThen : Base → ℕ → ℕ
-baseThen B next =
-    orElse (baseCountsOk B) 1
-    (orElse (baseRoomOk B) 2
-    (orElse (slotsOk (B .slots) (B .starts) (B .ends)) 3 (orElse (rangesOk (B .people) (B .ranges)) 4 next)))
-
-unfoldable pub baseNo : Base → ℕ
-baseNo B = baseThen B 0
-
--- 5: more than 1,024 atomic slots
-unfoldable pub atomiseNo : Base → ℕ
-atomiseNo B = baseThen B (orElse (leb (length (startsOfAtoms B)) slotsMost) 5 0)
+-- and then 5: more than 1,024 atomic slots
+unfoldable pub atomiseRow : Base → List Test
+atomiseRow B = baseRow B ++ (test 5 (leb (length (startsOfAtoms B)) slotsMost) ∷ [])
 
 -- the whole outcome: what is heard, and the two columns at exit
 pub record Atoms : Type 0 where
@@ -103,11 +87,11 @@ pub record Atoms : Type 0 where
 
 unfoldable pub atomiseOf : Base → Atoms
 atomiseOf B =
-    let n = atomiseNo B in
+    let n = heardOf (atomiseRow B) in
     record {
       answer = numberAs n (length (startsOfAtoms B));
-      starts = wordsAs n (B .outStarts) (written (λ t. t) (startsOfAtoms B) (B .outStarts));
-      ends = wordsAs n (B .outEnds) (written (λ t. t) (endsOfAtoms B) (B .outEnds));
+      starts = unless n (B .outStarts) (written (λ t. t) (startsOfAtoms B) (B .outStarts));
+      ends = unless n (B .outEnds) (written (λ t. t) (endsOfAtoms B) (B .outEnds));
     }
 
 -- what is heard and what is left in the lent columns are those of the outcome

@@ -1,15 +1,16 @@
--- Availability of lent slots: one set a person. Assumes nothing.
+-- Availability of lent slots, one set a person; and its single question. Assumes nothing.
 use mathlib.Core.Bool.{Bool, _&&_}
-use mathlib.Core.List.{List}
+use mathlib.Core.List.{List, [], _∷_}
 use Prim.Native.Nat.{ℕ, zero, suc, _+_, _-_, _*_}
 use lib.Dec.{leb, ltb}
 use lib.ListN.{length, getD}
-use Rattle.paper.specs.Limits.{setWords, orElse}
-use Rattle.slotset.specs.Slots.{putSlots, valueOf}
-use Rattle.slotset.specs.Answers.{wordsAs}
+use Rattle.paper.specs.Limits.{setWords, peopleOk, slotCountOk, Test, test, heardOf}
+use Rattle.paper.specs.Rows.{unless}
+use Rattle.slotset.specs.declared.Told.{Told}
+use Rattle.slotset.specs.Slots.{putSlots, valueOf, has}
+use Rattle.slotset.specs.Answers.{rowSlots, toldAs}
 use Rattle.slots.specs.Lent.{slotRoomOk, slotsOk}
-use Rattle.slots.specs.Ranges.{anyOf, Ranges, rangeRoomOk, rangesOk, available, opens, closes}
-use Rattle.slots.specs.Atomic.{splitCountsOk}
+use Rattle.slots.specs.Ranges.{anyOf, Ranges, rangeCountOk, rangeRoomOk, rangesOk, available, opens, closes}
 
 -- the mark of slot k in a person's set: each minute of the slot lies in one of the person's ranges
 unfoldable pub availableBit : Ranges → List ℕ → List ℕ → ℕ → ℕ → ℕ
@@ -20,22 +21,29 @@ unfoldable pub rows : (ℕ → ℕ → ℕ) → ℕ → ℕ → List ℕ → Lis
 rows g slots zero ws = ws
 rows g slots (suc p) ws = putSlots (g p) (setWords * p) 0 slots (rows g slots p ws)
 
--- rule 2
-unfoldable pub availabilityRoomOk : ℕ → ℕ → List ℕ → List ℕ → Ranges → List ℕ → Bool
-availabilityRoomOk people slots starts ends R words =
-    slotRoomOk slots starts ends && (rangeRoomOk R && leb (setWords * people) (length words))
-
--- 1, then 2, then 4, then 9
-unfoldable pub availabilityNo : ℕ → ℕ → List ℕ → List ℕ → Ranges → List ℕ → ℕ
-availabilityNo people slots starts ends R words =
-    orElse (splitCountsOk people slots (R .count)) 1
-    (orElse (availabilityRoomOk people slots starts ends R words) 2
-    (orElse (rangesOk people R) 4 (orElse (slotsOk slots starts ends) 9 0)))
+-- 1, 2, 4, 9
+unfoldable pub availabilityRow : ℕ → ℕ → List ℕ → List ℕ → Ranges → List ℕ → List Test
+availabilityRow people slots starts ends R words =
+    test 1 (peopleOk people) ∷ test 1 (slotCountOk slots) ∷ test 1 (rangeCountOk (R .count)) ∷ test 2 (slotRoomOk slots starts ends)
+    ∷ test 2 (rangeRoomOk R) ∷ test 2 (leb (setWords * people) (length words)) ∷ test 4 (rangesOk people R)
+    ∷ test 9 (slotsOk slots starts ends) ∷ []
 
 -- the words at exit
 unfoldable pub availabilityOf : ℕ → ℕ → List ℕ → List ℕ → Ranges → List ℕ → List ℕ
 availabilityOf people slots starts ends R words =
-    wordsAs (availabilityNo people slots starts ends R words) words (rows (availableBit R starts ends) slots people words)
+    unless (heardOf (availabilityRow people slots starts ends R words)) words (rows (availableBit R starts ends) slots people words)
+
+-- ---- may this person cover this slot
+
+-- 1, 2, and 11: an unknown person or slot
+unfoldable pub availableRow : ℕ → ℕ → List ℕ → ℕ → ℕ → List Test
+availableRow people slots words person slot =
+    test 1 (peopleOk people) ∷ test 1 (slotCountOk slots) ∷ test 2 (leb (setWords * people) (length words)) ∷ test 11 (ltb person people)
+    ∷ test 11 (ltb slot slots) ∷ []
+
+unfoldable pub isAvailable : ℕ → ℕ → List ℕ → ℕ → ℕ → Told
+isAvailable people slots words person slot =
+    toldAs (heardOf (availableRow people slots words person slot)) (has (rowSlots words person) slots slot)
 
 -- ---- what the work goes by
 

@@ -1,13 +1,13 @@
 -- Merged ranges handed out: in person order and ascending. Assumes nothing.
 use mathlib.Core.Path.{_≡_}
-use mathlib.Core.Bool.{_&&_}
-use mathlib.Core.List.{List}
+use mathlib.Core.List.{List, [], _∷_}
 use Prim.Native.Nat.{ℕ}
 use lib.ListN.{length, getD}
-use Rattle.paper.specs.Limits.{peopleOk, orElse}
+use Rattle.paper.specs.Limits.{peopleOk, Test, test, heardOf}
+use Rattle.paper.specs.Rows.{unless}
 use Rattle.paper.specs.Count.{over}
 use Rattle.slotset.specs.declared.Number.{Number}
-use Rattle.slotset.specs.Answers.{numberAs, wordsAs}
+use Rattle.slotset.specs.Answers.{numberAs}
 use Rattle.slots.specs.Ranges.{Ranges, ranges, rangeCountOk, rangeRoomOk, rangesOk, personOf, startOf, endOf, mergedOf}
 
 -- a column with f of each entry of the list at its front; what lies past the list's end stays
@@ -23,11 +23,11 @@ pub record Columns : Type 0 where
 abbrev pub columns : List ℕ → List ℕ → List ℕ → Columns
 columns p s e = record { persons = p; starts = s; ends = e }
 
--- 1, then 2: the lent columns, and those to write, which need room for as many entries; then 4
-unfoldable pub mergedNo : ℕ → Ranges → Columns → ℕ
-mergedNo people R out =
-    orElse (peopleOk people && rangeCountOk (R .count)) 1
-    (orElse (rangeRoomOk R && rangeRoomOk (ranges (R .count) (out .persons) (out .starts) (out .ends))) 2 (orElse (rangesOk people R) 4 0))
+-- 1; 2: the lent columns, and those to write, which need room for as many entries; 4
+unfoldable pub mergedRow : ℕ → Ranges → Columns → List Test
+mergedRow people R out =
+    test 1 (peopleOk people) ∷ test 1 (rangeCountOk (R .count)) ∷ test 2 (rangeRoomOk R)
+    ∷ test 2 (rangeRoomOk (ranges (R .count) (out .persons) (out .starts) (out .ends))) ∷ test 4 (rangesOk people R) ∷ []
 
 -- the whole outcome: what is heard, and the columns at exit
 pub record MergedOut : Type 0 where
@@ -38,13 +38,13 @@ pub record MergedOut : Type 0 where
 
 unfoldable pub mergedRanges : ℕ → Ranges → Columns → MergedOut
 mergedRanges people R out =
-    let n = mergedNo people R out in
+    let n = heardOf (mergedRow people R out) in
     let list = mergedOf R in
     record {
       answer = numberAs n (length list);
-      persons = wordsAs n (out .persons) (written personOf list (out .persons));
-      starts = wordsAs n (out .starts) (written startOf list (out .starts));
-      ends = wordsAs n (out .ends) (written endOf list (out .ends));
+      persons = unless n (out .persons) (written personOf list (out .persons));
+      starts = unless n (out .starts) (written startOf list (out .starts));
+      ends = unless n (out .ends) (written endOf list (out .ends));
     }
 
 -- what is heard and what is left in the lent columns are those of the outcome

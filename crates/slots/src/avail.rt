@@ -1,39 +1,20 @@
-// Availability of lent slots, any that pass rule 3: one set a person.
+// Availability of lent slots, any that pass rule 3: one set a person; and its single question.
 use crate::lent;
 use crate::ranges;
-use crate::split;
-use paper::both;
-use paper::or_else;
-use paper::words_ok;
+use paper::Fault;
+use slotset::Told;
 use slotset::row;
 ghost use mathlib.Core.Path.{_≡_};
 ghost use mathlib.Core.Bool.{true};
 ghost use Prim.Native.Nat.{ℕ, _+_, _*_, _≤_, _<_};
 ghost use lib.ListN.{length, getD, take};
-ghost use Rattle.paper.specs.Limits.{peopleOk};
+ghost use Rattle.paper.specs.Limits.{peopleOk, heardOf};
+ghost use Rattle.paper.specs.Rows.{firstOf};
 ghost use Rattle.slotset.specs.Slots.{putSlots};
 ghost use Rattle.slots.specs.Lent.{SlotsSound};
 ghost use Rattle.slots.specs.Ranges.{ranges, opens, Spaced};
 ghost use Rattle.slots.specs.Freeze.{Opening};
-ghost use Rattle.slots.specs.Availability.{availabilityRoomOk, availabilityNo, availabilityOf, reaches, heldBit, rows};
-
-// How many of the merged ranges open at a place of the line or before it.
-pub(crate) fn opened_by(keys: &[u64], n: usize, place: u64) -> usize
-    requires { ⌜ (n ≤ 1024) × (n ≤ length (now keys)) × Spaced 0 (take n (now keys)) ⌝ }
-    ensures { λ r. ⌜ Opening n (λ k. opens (getD (now (keys .entry)) k 0)) place r ⌝ }
-{
-    let mut low: usize = 0;
-    let mut high = n;
-    while low < high {
-        let middle = (low + high) / 2;
-        if ranges::opens_at(keys[middle]) <= place {
-            low = middle + 1;
-        } else {
-            high = middle;
-        }
-    }
-    low
-}
+ghost use Rattle.slots.specs.Availability.{availabilityRow, availabilityOf, availableRow, isAvailable, reaches, heldBit, rows};
 
 // How many of the merged ranges open at a place of the line or before it, where the first `low` do: a walk on from there.
 fn opened_on(keys: &[u64], n: usize, low: usize, place: u64) -> usize
@@ -116,29 +97,7 @@ fn fill_rows(
     }
 }
 
-// Whether each column and the sets have room (rule 2).
-fn availability_room_ok(
-    people: usize,
-    slots: usize,
-    starts: &[u32],
-    ends: &[u32],
-    count: usize,
-    persons: &[u16],
-    opens: &[u32],
-    shuts: &[u32],
-    words: &[u64],
-) -> bool
-    ensures { λ r. ⌜ r ≡ availabilityRoomOk people slots (now (starts .entry)) (now (ends .entry))
-        (ranges count (now (persons .entry)) (now (opens .entry)) (now (shuts .entry))) (now (words .entry)) ⌝ }
-{
-    let held = both(
-        ranges::range_room_ok(count, persons, opens, shuts),
-        words_ok(words, people),
-    );
-    both(lent::slot_room_ok(slots, starts, ends), held)
-}
-
-// What is wrong with what availability takes: 1, 2, 4 or 9; 0 for nothing.
+// What is wrong with what availability takes: 1, 2, 4 or 9.
 fn availability_no(
     people: usize,
     slots: usize,
@@ -149,29 +108,18 @@ fn availability_no(
     opens: &[u32],
     shuts: &[u32],
     words: &[u64],
-) -> u8
-    ensures { λ r. ⌜ r ≡ availabilityNo people slots (now (starts .entry)) (now (ends .entry))
-        (ranges count (now (persons .entry)) (now (opens .entry)) (now (shuts .entry))) (now (words .entry)) ⌝ }
+) -> Fault
+    ensures { λ r. ⌜ r ≡ firstOf (availabilityRow people slots (now (starts .entry)) (now (ends .entry))
+        (ranges count (now (persons .entry)) (now (opens .entry)) (now (shuts .entry))) (now (words .entry))) ⌝ }
 {
-    let right = or_else(lent::slots_ok(slots, starts, ends), 9, 0);
-    let held = or_else(
-        ranges::ranges_ok(people, count, persons, opens, shuts),
-        4,
-        right,
-    );
-    let has_room = availability_room_ok(
-        people,
-        slots,
-        starts,
-        ends,
-        count,
-        persons,
-        opens,
-        shuts,
-        words,
-    );
-    let room = or_else(has_room, 2, held);
-    or_else(split::split_counts_ok(people, slots, count), 1, room)
+    let f = paper::heard_people(paper::nothing(), people);
+    let f = paper::heard_slots(f, slots);
+    let f = ranges::heard_range_count(f, count);
+    let f = lent::heard_room(f, slots, starts, ends);
+    let f = ranges::heard_range_room(f, count, persons, opens, shuts);
+    let f = paper::heard_words(f, words, people);
+    let f = ranges::heard_ranges(f, people, count, persons, opens, shuts);
+    lent::heard_order(f, slots, starts, ends, 9)
 }
 
 // One set a person: slot k is in it exactly when each of its minutes lies in one of the person's ranges. Refusals 1, 2, 4, 9.
@@ -186,8 +134,8 @@ pub fn availability(
     shuts: &[u32],
     words: &mut [u64],
 ) -> u8
-    ensures { λ r. ⌜ (r ≡ availabilityNo people slots (now (starts .entry)) (now (ends .entry))
-        (ranges count (now (persons .entry)) (now (opens .entry)) (now (shuts .entry))) (now (words .entry)))
+    ensures { λ r. ⌜ (r ≡ heardOf (availabilityRow people slots (now (starts .entry)) (now (ends .entry))
+        (ranges count (now (persons .entry)) (now (opens .entry)) (now (shuts .entry))) (now (words .entry))))
         × (now (words .exit) ≡ availabilityOf people slots (now (starts .entry)) (now (ends .entry))
         (ranges count (now (persons .entry)) (now (opens .entry)) (now (shuts .entry))) (now (words .entry))) ⌝ }
 {
@@ -201,7 +149,7 @@ pub fn availability(
         opens,
         shuts,
         words,
-    );
+    ).number;
     if number == 0 {
         let list = ranges::merged_keys(count, persons, opens, shuts);
         let keys = list.keys;
@@ -210,4 +158,26 @@ pub fn availability(
         return 0;
     }
     number
+}
+
+// What is wrong with the question: 1, 2 or 11.
+fn available_no(people: usize, slots: usize, avail: &[u64], person: usize, slot: usize) -> Fault
+    ensures { λ r. ⌜ r ≡ firstOf (availableRow people slots (now (avail .entry)) person slot) ⌝ }
+{
+    let f = paper::heard_people(paper::nothing(), people);
+    let f = paper::heard_slots(f, slots);
+    let f = paper::heard_words(f, avail, people);
+    let f = paper::heard(f, person < people, 11);
+    paper::heard(f, slot < slots, 11)
+}
+
+// May this person cover this slot? Refusals 1, 2, 11.
+pub fn is_available(people: usize, slots: usize, avail: &[u64], person: usize, slot: usize) -> Told
+    ensures { λ r. ⌜ r ≡ isAvailable people slots (now (avail .entry)) person slot ⌝ }
+{
+    let number = available_no(people, slots, avail, person, slot).number;
+    if number == 0 {
+        return row::contains(avail, people, person, slots, slot);
+    }
+    Told::Refused(number)
 }

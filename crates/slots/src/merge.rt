@@ -1,16 +1,15 @@
 // Merged ranges handed out as columns.
 use crate::ranges;
-use paper::both;
-use paper::or_else;
-use paper::people_ok;
+use paper::Fault;
 use slotset::Number;
 ghost use mathlib.Core.Path.{_≡_};
 ghost use Prim.Native.Nat.{ℕ, _≤_, _<_};
 ghost use lib.ListN.{length, getD};
+ghost use Rattle.paper.specs.Rows.{firstOf};
 ghost use Rattle.slots.specs.Ranges.{ranges, personOf};
-ghost use Rattle.slots.specs.Merged.{columns, mergedNo, mergedRanges, MergedEnd, TakenApart};
+ghost use Rattle.slots.specs.Merged.{columns, mergedRow, mergedRanges, MergedEnd, TakenApart};
 
-// What is wrong with what merging takes: 1, 2 or 4; 0 for nothing.
+// What is wrong with what merging takes: 1, 2 or 4.
 fn merged_no(
     people: usize,
     count: usize,
@@ -20,21 +19,15 @@ fn merged_no(
     whose: &[u16],
     froms: &[u32],
     tos: &[u32],
-) -> u8
-    ensures { λ r. ⌜ r ≡ mergedNo people (ranges count (now (persons .entry)) (now (starts .entry)) (now (ends .entry)))
-        (columns (now (whose .entry)) (now (froms .entry)) (now (tos .entry))) ⌝ }
+) -> Fault
+    ensures { λ r. ⌜ r ≡ firstOf (mergedRow people (ranges count (now (persons .entry)) (now (starts .entry)) (now (ends .entry)))
+        (columns (now (whose .entry)) (now (froms .entry)) (now (tos .entry)))) ⌝ }
 {
-    let right = or_else(
-        ranges::ranges_ok(people, count, persons, starts, ends),
-        4,
-        0,
-    );
-    let room = both(
-        ranges::range_room_ok(count, persons, starts, ends),
-        ranges::range_room_ok(count, whose, froms, tos),
-    );
-    let counts = both(people_ok(people), ranges::range_count_ok(count));
-    or_else(counts, 1, or_else(room, 2, right))
+    let f = paper::heard_people(paper::nothing(), people);
+    let f = ranges::heard_range_count(f, count);
+    let f = ranges::heard_range_room(f, count, persons, starts, ends);
+    let f = ranges::heard_range_room(f, count, whose, froms, tos);
+    ranges::heard_ranges(f, people, count, persons, starts, ends)
 }
 
 // The first n numbers, taken apart into the columns.
@@ -71,7 +64,7 @@ pub fn merged_ranges(
         (columns (now (whose .entry)) (now (froms .entry)) (now (tos .entry))))
         r (now (whose .exit)) (now (froms .exit)) (now (tos .exit)) ⌝ }
 {
-    let number = merged_no(people, count, persons, starts, ends, whose, froms, tos);
+    let number = merged_no(people, count, persons, starts, ends, whose, froms, tos).number;
     if number == 0 {
         let list = ranges::merged_keys(count, persons, starts, ends);
         let keys = list.keys;

@@ -1,22 +1,19 @@
 // Atomic slots: each base slot split at every cut strictly inside it. Cuts are the starts and ends of merged ranges.
-use crate::avail;
 use crate::lent;
 use crate::ranges;
-use paper::both;
-use paper::or_else;
-use paper::people_ok;
-use paper::slot_count_ok;
+use paper::Fault;
 use slotset::Number;
 ghost use mathlib.Core.Path.{_≡_};
 ghost use mathlib.Core.List.{_∷_, [], _++_};
 ghost use Prim.Native.Nat.{_≤_, _<_};
 ghost use lib.ListN.{length, getD, take};
 ghost use Rattle.paper.specs.Count.{over};
+ghost use Rattle.paper.specs.Rows.{firstOf};
 ghost use Rattle.slots.specs.Lent.{SlotsSound};
 ghost use Rattle.slots.specs.Ranges.{ranges};
 ghost use Rattle.slots.specs.Atomic.{cutsIn, atomStarts, atomEnds, NextCut, nearer, Grown};
 ghost use Rattle.slots.specs.Atomic.{HeldMerged, lineEnd, NextEdge, opensFrom};
-ghost use Rattle.slots.specs.Atomic.{splitCountsOk, roomOk, base, baseNo, atomiseOf, AtomsEnd};
+ghost use Rattle.slots.specs.Atomic.{base, baseRow, atomiseOf, AtomsEnd};
 
 // A minute, where it lies strictly between two others; else the later of them.
 fn nearer_of(after: u64, best: u64, t: u64) -> u64
@@ -50,7 +47,7 @@ fn next_edge(keys: &[u64], n: usize, place: u64) -> u64
     requires { ⌜ HeldMerged (now keys) n × (place < lineEnd) ⌝ }
     ensures { λ r. ⌜ NextEdge (take n (now (keys .entry))) place r ⌝ }
 {
-    let r = avail::opened_by(keys, n, place);
+    let r = ranges::opened_by(keys, n, place);
     if 0 < r {
         let close = ranges::closes_at(keys[r - 1]);
         if place < close {
@@ -155,7 +152,7 @@ fn blank_column() -> [u32; 1024] {
     [0u32; 1024]
 }
 
-// What is wrong with what splitting takes: 1 to 4; 0 for nothing.
+// What is wrong with what splitting takes: 1 to 4.
 fn base_no(
     slots: usize,
     starts: &[u32],
@@ -167,59 +164,18 @@ fn base_no(
     shuts: &[u32],
     froms: &[u32],
     tos: &[u32],
-) -> u8
-    ensures { λ r. ⌜ r ≡ baseNo (base slots (now (starts .entry)) (now (ends .entry)) people
-        (ranges count (now (persons .entry)) (now (opens .entry)) (now (shuts .entry))) (now (froms .entry)) (now (tos .entry))) ⌝ }
+) -> Fault
+    ensures { λ r. ⌜ r ≡ firstOf (baseRow (base slots (now (starts .entry)) (now (ends .entry)) people
+        (ranges count (now (persons .entry)) (now (opens .entry)) (now (shuts .entry))) (now (froms .entry)) (now (tos .entry)))) ⌝ }
 {
-    let held = or_else(
-        ranges::ranges_ok(people, count, persons, opens, shuts),
-        4,
-        0,
-    );
-    let right = or_else(lent::slots_ok(slots, starts, ends), 3, held);
-    let has_room = room_ok(
-        slots,
-        starts,
-        ends,
-        count,
-        persons,
-        opens,
-        shuts,
-        froms,
-        tos,
-    );
-    let room = or_else(has_room, 2, right);
-    or_else(split_counts_ok(people, slots, count), 1, room)
-}
-
-// Whether each count is one that is taken (rule 1).
-pub(crate) fn split_counts_ok(people: usize, slots: usize, count: usize) -> bool
-    ensures { λ r. ⌜ r ≡ splitCountsOk people slots count ⌝ }
-{
-    both(
-        people_ok(people),
-        both(slot_count_ok(slots), ranges::range_count_ok(count)),
-    )
-}
-
-// Whether each column has room (rule 2).
-fn room_ok(
-    slots: usize,
-    starts: &[u32],
-    ends: &[u32],
-    count: usize,
-    persons: &[u16],
-    opens: &[u32],
-    shuts: &[u32],
-    froms: &[u32],
-    tos: &[u32],
-) -> bool
-    ensures { λ r. ⌜ r ≡ roomOk slots (now (starts .entry)) (now (ends .entry))
-        (ranges count (now (persons .entry)) (now (opens .entry)) (now (shuts .entry))) (now (froms .entry)) (now (tos .entry)) ⌝ }
-{
-    let out = lent::slot_room_ok(paper::SLOTS_MOST, froms, tos);
-    let held = both(ranges::range_room_ok(count, persons, opens, shuts), out);
-    both(lent::slot_room_ok(slots, starts, ends), held)
+    let f = paper::heard_people(paper::nothing(), people);
+    let f = paper::heard_slots(f, slots);
+    let f = ranges::heard_range_count(f, count);
+    let f = lent::heard_room(f, slots, starts, ends);
+    let f = ranges::heard_range_room(f, count, persons, opens, shuts);
+    let f = lent::heard_room(f, paper::SLOTS_MOST, froms, tos);
+    let f = lent::heard_order(f, slots, starts, ends, 3);
+    ranges::heard_ranges(f, people, count, persons, opens, shuts)
 }
 
 // The base slots split at every start and end of a merged range that lies strictly inside one, with their number. Refusals 1 to 5.
@@ -251,7 +207,7 @@ pub fn atomise(
         shuts,
         froms,
         tos,
-    );
+    ).number;
     if number == 0 {
         let list = ranges::merged_keys(count, persons, opens, shuts);
         let keys = list.keys;

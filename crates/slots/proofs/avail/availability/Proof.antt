@@ -2,6 +2,7 @@
 use borrow.Author.Needs.{needs}
 use mathlib.Core.Path.{sym, _∙_}
 use native.Mathlib.Omega.{arith}
+use Rattle.paper.proofs.Rows.{said}
 use Rattle.slots.proofs.AvailLaws.{availability-says, availability-refused, availability-done, held-spaced}
 use Rattle.slots.proofs.avail.availability.Statement.{statement}
 use Rattle.slots.proofs.avail.availability.Tie as tie
@@ -10,7 +11,7 @@ availability-no-requires : tie.Need-availability-no-requires
 availability-no-requires c κs = search needs
 
 merged-keys-requires : tie.Need-merged-keys-requires
-merged-keys-requires c κs = availability-says _ _ _ _ _ _ (sym (c .before .availability-no .ensures) ∙ c .if1 .taken) .ranges-sound
+merged-keys-requires c κs = availability-says _ _ _ _ _ _ (sym (said _ (c .before .availability-no .ensures)) ∙ c .if1 .taken) .ranges-sound
 
 slice-aggregate-fill-rows : tie.Need-slice-aggregate-fill-rows
 slice-aggregate-fill-rows c = search needs
@@ -20,7 +21,7 @@ fill-rows-requires c κs =
     let availability-no = c .before .before .before .before .before .availability-no in
     let if1 = c .before .before .before .before .if1 in
     let merged-keys = c .before .before .before .merged-keys in
-    let S = availability-says _ _ _ _ _ _ (sym (availability-no .ensures) ∙ if1 .taken) in
+    let S = availability-says _ _ _ _ _ _ (sym (said _ (availability-no .ensures)) ∙ if1 .taken) in
     let M = merged-keys .ensures in (
       (omega (arith, M .few, S .ranges-sound .few), M .fits, held-spaced _ (S .ranges-sound) (merged-keys .result .keys) _ M),
       ((S .few, S .slots-sound), (S .people-ok, S .room)),
@@ -35,14 +36,14 @@ returns c =
     let if1 = c .before .before .before .before .before .before .before .if1 in
     let merged-keys = c .before .before .before .before .before .before .merged-keys in
     let fill-rows = c .before .before .fill-rows in
-    availability-done _ _ _ _ _ _ _ (availability-no .ensures) (if1 .taken) (merged-keys .result .keys) _ (merged-keys .ensures) _
+    availability-done _ _ _ _ _ _ _ (said _ (availability-no .ensures)) (if1 .taken) (merged-keys .result .keys) _ (merged-keys .ensures) _
     (fill-rows .ensures)
 
 same-length-2 : tie.Need-same-length-2
 same-length-2 c = search needs
 
 returns-2 : tie.Need-returns-2
-returns-2 c = availability-refused _ _ _ _ _ _ _ (c .before .availability-no .ensures) (c .if1 .left)
+returns-2 c = availability-refused _ _ _ _ _ _ _ (said _ (c .before .availability-no .ensures)) (c .if1 .left)
 
 pub availability-spec : {M : Type 1} → statement M
 availability-spec =

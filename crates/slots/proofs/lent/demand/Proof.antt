@@ -1,30 +1,23 @@
 -- `slots::lent::demand` meets its contract. Assumes nothing.
 use mathlib.Core.Path.{sym, _∙_}
 use Rattle.slots.specs.Lent.{demandIs}
+use Rattle.paper.proofs.Rows.{said}
 use Rattle.slots.proofs.LentLaws.{minutes-is, minutes-no, lent-says, when-ok}
 use borrow.Author.Needs.{needs}
 use Rattle.slots.proofs.lent.demand.Statement.{statement}
 use Rattle.slots.proofs.lent.demand.Tie as tie
 
-lent-no-requires : tie.Need-lent-no-requires
-lent-no-requires c κs = search needs
-
-demand-of-requires : tie.Need-demand-of-requires
-demand-of-requires c κs = search needs
-
-cast-t8 : tie.Need-cast-t8
-cast-t8 c = search needs
-
 returns : tie.Need-returns
 unfolding demandIs
 returns c =
-    let e = c .before .before .lent-no .ensures in
+    let e = said _ (c .before .before .lent-no .ensures) in
     let z = c .before .if1 .taken in
     minutes-is _ _ e z _ _ (c .demand-of .ensures ∙ when-ok _ _ _ (lent-says _ _ _ (sym e ∙ z) .1))
 
 returns-2 : tie.Need-returns-2
 unfolding demandIs
-returns-2 c = minutes-no _ _ (c .before .lent-no .ensures) (c .if1 .left) _
+returns-2 c = minutes-no _ _ (said _ (c .before .lent-no .ensures)) (c .if1 .left) _
 
 pub demand-spec : {M : Type 1} → statement M
-demand-spec = tie.close (tie.spec lent-no-requires demand-of-requires cast-t8 returns returns-2)
+demand-spec =
+    tie.close (tie.spec (λ c κs. search needs) (λ c κs. search needs) (λ c. search needs) returns returns-2)

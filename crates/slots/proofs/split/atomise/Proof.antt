@@ -2,6 +2,7 @@
 use mathlib.Core.Path.{_≡_, sym, _∙_}
 use native.Mathlib.Omega.{arith}
 use lib.ListN.{length}
+use Rattle.paper.proofs.Rows.{said}
 use Rattle.slots.proofs.EdgeLaws.{held-merged}
 use Rattle.slots.proofs.AtomLaws.{base-says, after-some, atoms-refused, atoms-full, atoms-done}
 use borrow.Author.Needs.{needs}
@@ -12,7 +13,7 @@ base-no-requires : tie.Need-base-no-requires
 base-no-requires c κs = search needs
 
 merged-keys-requires : tie.Need-merged-keys-requires
-merged-keys-requires c κs = base-says _ (sym (c .before .base-no .ensures) ∙ c .if1 .taken) .ranges
+merged-keys-requires c κs = base-says _ (sym (said _ (c .before .base-no .ensures)) ∙ c .if1 .taken) .ranges
 
 blank-column-requires : tie.Need-blank-column-requires
 blank-column-requires c κs = search needs
@@ -36,7 +37,7 @@ split-all-requires c κs =
     let merged-keys = c .before .before .before .before .before .before .merged-keys in
     let blank-column = c .before .before .before .before .blank-column in
     let blank-column2 = c .before .before .before .blank-column2 in
-    let S = base-says _ (sym (base-no .ensures) ∙ if1 .taken) in
+    let S = base-says _ (sym (said _ (base-no .ensures)) ∙ if1 .taken) in
     let M = merged-keys .ensures in
     let s : length (blank-column .result) ≡ 1024 = search needs in
     let e : length (blank-column2 .result) ≡ 1024 = search needs in
@@ -53,7 +54,7 @@ copy-column-requires c κs =
     let blank-column = c .before .before .before .before .before .before .before .before .before .before .blank-column in
     let if2 = c .before .before .if2 in
     let split-all = c .before .before .before .before .before .split-all in
-    let S = base-says _ (sym (base-no .ensures) ∙ if1 .taken) in
+    let S = base-says _ (sym (said _ (base-no .ensures)) ∙ if1 .taken) in
     let s : length (blank-column .result) ≡ 1024 = search needs in
     (if2 .taken, omega (arith, if2 .taken, s, split-all .kept .1 .1 .1 .1 .1 .0), omega (arith, if2 .taken, S .room .0))
 
@@ -70,7 +71,7 @@ copy-column-requires-2 c κs =
     .before .blank-column2 in
     let if2 = c .before .before .before .before .before .before .before .if2 in
     let split-all = c .before .before .before .before .before .before .before .before .before .before .split-all in
-    let S = base-says _ (sym (base-no .ensures) ∙ if1 .taken) in
+    let S = base-says _ (sym (said _ (base-no .ensures)) ∙ if1 .taken) in
     let e : length (blank-column2 .result) ≡ 1024 = search needs in
     (if2 .taken, omega (arith, if2 .taken, e, split-all .kept .1 .1 .1 .1 .1 .1 .0), omega (arith, if2 .taken, S .room .1))
 
