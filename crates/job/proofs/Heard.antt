@@ -9,7 +9,7 @@ use lib.Dec.{leb, lit<, lit≤}
 use lib.Ieee.{binary64, ofBits}
 use lib.IntN.{pos}
 use lib.ListN.{length, getD, replicate, length-map, length-replicate}
-use Rattle.paper.specs.Limits.{peopleOk, slotCountOk, countsOk, orElse, Test, test, heardOf}
+use Rattle.paper.specs.Limits.{peopleOk, slotCountOk, orElse, Test, test, heardOf}
 use Rattle.paper.specs.Count.{all}
 use Rattle.paper.proofs.Logic.{both, and-true, cond-zero, people-says, slot-count-says}
 use Rattle.paper.proofs.Count.{sum-same}
@@ -23,6 +23,7 @@ use Rattle.units.specs.Units.{unitsOk}
 use Rattle.units.proofs.Units.{unit-within}
 use Rattle.targets.specs.Figures.{allFiguresOk}
 use Rattle.targets.specs.Outcome as targets
+use Rattle.targets.proofs.Accepted.{Lent}
 use Rattle.slots.specs.declared.Minutes.{Minutes}
 use Rattle.rota.specs.Recount.{availableAt}
 use Rattle.job.specs.File.{jobCounts, jobStarts, fileOk}
@@ -139,27 +140,25 @@ module _ (s : List ℕ) where
           length-replicate {A = ℕ} 512 0,
         )
 
-    shares-counts : countsOk (peopleIn (jobCounts s)) n ≡ true
-    unfolding countsOk
-    shares-counts = and-true _ _ (each-few few .1) (A .count-ok)
-
-    shares-room : slotRoomOk n S E
-        && targets.peopleRoomOk (peopleIn (jobCounts s)) (length (availIn (jobCounts s) (rangesIn s (jobCounts s) (jobStarts s)) n S E))
-        (length (capacitiesIn s (jobCounts s) (jobStarts s))) (length (priorsIn s (jobCounts s) (jobStarts s)))
-        (length (replicate 32 (pos 0))) ≡ true
-    unfolding targets.peopleRoomOk
-    shares-room =
-        and-true _ _ (lent-room n S E (A .lent)) (and-true _ _ (le-leb _ _ words-room)
-        (and-true _ _ (floats-room s _ 16 (peopleIn c) (peopleIn c) (omega (arith, people-few)))
-        (and-true _ _ (column-room 4 s _ 16 (peopleIn c) (peopleIn c) (omega (arith, people-few)))
-        (le-leb (peopleIn c) (length (replicate 32 (pos 0))) (omega (arith, people-few, length-replicate 32 (pos 0)))))))
+    shares-lent : Lent (targets.given (peopleIn (jobCounts s)) n S E (availIn (jobCounts s) (rangesIn s (jobCounts s) (jobStarts s)) n S E)
+        (capacitiesIn s (jobCounts s) (jobStarts s)) (priorsIn s (jobCounts s) (jobStarts s)) (settingsIn s .fairness))
+        (length (replicate 32 (pos 0)))
+    shares-lent = record {
+      people-ok = each-few few .1;
+      slots-ok = A .count-ok;
+      columns = lent-room n S E (A .lent);
+      words = words-room;
+      capacities-room = leb-true _ _ (floats-room s _ 16 (peopleIn c) (peopleIn c) (omega (arith, people-few)));
+      priors-room = leb-true _ _ (column-room 4 s _ 16 (peopleIn c) (peopleIn c) (omega (arith, people-few)));
+      out-room = omega (arith, people-few, length-replicate 32 (pos 0));
+    }
 
     shares-heard : sharesIn s (jobCounts s) (jobStarts s) (rangesIn s (jobCounts s) (jobStarts s)) n S E .number
         ≡ orElse (allFiguresOk (peopleIn (jobCounts s)) (capacitiesIn s (jobCounts s) (jobStarts s))
         (priorsIn s (jobCounts s) (jobStarts s))) 6
         (orElse (leb (settingsIn s .fairness) 1) 7 0)
     unfolding sharesIn
-    shares-heard = shares-no _ (replicate 32 (pos 0)) shares-counts shares-room (A .lent)
+    shares-heard = shares-no _ (replicate 32 (pos 0)) shares-lent (A .lent)
 
     figures-heard : lowerNo (sharesIn s (jobCounts s) (jobStarts s) (rangesIn s (jobCounts s) (jobStarts s)) n S E .number)
         (numberNo (unitsIn s n S E .answer)) ≡ heardOf figureTests

@@ -1,78 +1,43 @@
 -- Demand 1 of targets and rota: heard by the table, and a refusal leaves what was lent as it was. Assumes nothing.
-use mathlib.Core.Path.{_≡_, refl, sym, ap, _∙_, subst}
+use mathlib.Core.Path.{_≡_, refl, sym, ap, _∙_}
 use mathlib.Core.Bool.{Bool, true, _&&_, cond, and-false}
 use mathlib.Core.List.{List, [], _∷_}
-use mathlib.Core.Logic.{inl, inr, ⊎-elim}
-use Prim.Native.Nat.{ℕ, _*_, _≤_, _<_}
-use native.Mathlib.Omega.{arith}
+use Prim.Native.Nat.{ℕ, _*_}
 use borrow.Author.Tests.{ne-eqb, le-leb}
 use lib.Dec.{leb, ltb}
 use lib.IntN.{ℤ}
 use lib.ListN.{length, getD, set, replicate}
 use Rattle.paper.specs.Limits.{peopleOk, slotCountOk, orElse, Test, test, heardOf, nobody, countsOk}
 use Rattle.paper.specs.Count.{all, fill, over}
-use Rattle.paper.proofs.Logic.{by-test, lt-or-ge, slot-count-says}
+use Rattle.paper.proofs.Logic.{by-test, slot-count-says}
 use Rattle.slotset.specs.declared.Changed.{Changed}
 use Rattle.slotset.specs.Answers.{rowNo, loadOf, numberNo}
 use Rattle.slotset.proofs.Refusals.{number-said}
 use Rattle.slots.specs.Lent.{slotRoomOk, slotsOk, minutesNo}
 use Rattle.slots.proofs.LentLaws.{minutes-said}
-use Rattle.targets.specs.Passes.{Beyond}
 use Rattle.targets.specs.Outcome as targets
-use Rattle.targets.proofs.Promises.{eight-heard, eight-never, number-is, refused-keeps}
+use Rattle.targets.proofs.Promises.{number-row, refused-keeps, eight-says}
 use Rattle.rota.specs.Derived.{Plan, Derived, derived, knownBy, afresh, setsFrom, nobodies, unassigned, uncovered}
 use Rattle.rota.specs.Recount.{knownAt}
 use Rattle.rota.specs.Entries as rota
 use Rattle.promises.specs.Entries.{Call, playOf, ofDraws, afreshIn}
-use Rattle.promises.specs.Table.{rules, Applies, Heard, Hears, Refuses}
-use Rattle.promises.specs.Refusals.{targetsChecks, guard, TargetsRefuse, fromSlotsTable, assignTable, recountSlotsTable}
+use Rattle.promises.specs.Table.{rules, Hears, Refuses}
+use Rattle.promises.specs.Refusals.{TargetsRefuse, fromSlotsTable, assignTable, recountSlotsTable}
 use Rattle.promises.specs.Refusals.{recountTable, playTable, emptyTable, ownersTable, Lent, left, RotaRefuses}
-use Rattle.promises.proofs.Table.{rising, Least, tests-least, least-heard, tests-heard, heard-as}
+use Rattle.promises.proofs.Table.{rising, tests-heard, heard-as}
 
 -- ---- targets
 
-module _ (g : targets.Given) (out : List ℤ) where
-  abbrev number : ℕ
-  number = targets.checkNo g (length out)
-
-  checks : Least (rules (targetsChecks g (length out))) number
-  unfolding targets.checkNo heardOf
-  checks = tests-least 1 (targetsChecks g (length out)) (omega arith) refl
-
-  -- a number of the checks other than 9 is below 8
-  below-guard : (n : ℕ) → Applies (rules (targetsChecks g (length out))) n → slotsOk (g .slots) (g .starts) (g .ends) ≡ true → n ≤ 8
-  below-guard n (inl p) ok = omega (arith, p .0)
-  below-guard n (inr (inl p)) ok = omega (arith, p .0)
-  below-guard n (inr (inr (inl p))) ok = omega (arith, p .0)
-  below-guard n (inr (inr (inr (inl p)))) ok = omega (arith, p .0)
-  below-guard n (inr (inr (inr (inr (inl p))))) ok = absurd (mathlib.Core.Bool.true≢false (sym ok ∙ p .1))
-  below-guard n (inr (inr (inr (inr (inr p))))) ok = absurd p
-
-  by-guard : slotsOk (g .slots) (g .starts) (g .ends) ≡ true → Beyond (targets.demandIn g) (targets.linesIn g) → (0 < number) × (number ≤ 8)
-  by-guard ok b =
-      let pos : 0 < number =
-      ⊎-elim (λ (h : 0 < number). h)
-      (λ (h : number ≤ 0). let z : number ≡ 0 = omega arith in absurd (eight-never g out (eight-heard g out .1 (z, b))))
-      (lt-or-ge 0 number) in
-      (pos, below-guard number (checks .here pos) ok)
-
-  with-guard : Least (guard g ∷ rules (targetsChecks g (length out))) number
-  with-guard = record {
-    here = λ z. inr (checks .here z);
-    least = λ k a.
-        ⊎-elim (λ (p : (8 ≡ k) × (guard g .Says)). let x = by-guard (p .1 .0) (p .1 .1) in (x .0, omega (arith, p .0, x .1)))
-        (λ (b : Applies (rules (targetsChecks g (length out))) k). checks .least k b) a;
-  }
-
-  targets-refuse-here : let x = targets.computeTargets g out in
-      Refuses (guard g ∷ rules (targetsChecks g (length out))) (x .number) out (x .out)
-  targets-refuse-here = record {
-    heard = subst (Heard (guard g ∷ rules (targetsChecks g (length out)))) (sym (number-is g out)) (least-heard _ number with-guard);
-    kept = refused-keeps g out;
-  }
+targets-heard : (g : targets.Given) (out : List ℤ)
+    → let x = targets.computeTargets g out in Refuses (rules (targets.targetsRow g (length out))) (x .number) out (x .out)
+unfolding targets.targetsRow targets.roomRow
+targets-heard g out = record {
+  heard = heard-as (targets.targetsRow g (length out)) _ refl (number-row g out);
+  kept = refused-keeps g out;
+}
 
 pub targets-refuse : TargetsRefuse
-targets-refuse = record { compute-targets = targets-refuse-here }
+targets-refuse = record { compute-targets = targets-heard; guard = eight-says }
 
 -- ---- rota
 

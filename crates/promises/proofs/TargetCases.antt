@@ -1,21 +1,24 @@
 -- The marked cases 7 to 10, computed through the outcome of `compute_targets`. Assumes nothing.
-use mathlib.Core.Path.{_≡_, refl, sym, ap, _∙_}
+use mathlib.Core.Path.{_≡_, refl, sym, ap, ap₂, _∙_}
 use mathlib.Core.Bool.{true}
-use mathlib.Core.List.{List, [], _∷_}
+use mathlib.Core.List.{List, [], _∷_, _++_}
 use Prim.Native.Nat.{ℕ}
 use native.Mathlib.Nat.{le-refl, le-of-eq}
 use lib.IntN.{ℤ, pos, negsuc}
-use lib.ListN.{length}
+use borrow.Author.Tests.{le-leb}
+use lib.ListN.{length, drop}
 use lib.Ieee.{Float, add, sub, mul, div, lt, eq, le, ofInt}
 use Rattle.paper.specs.Limits.{peopleOk, slotCountOk, countsOk}
 use Rattle.paper.specs.Count.{all, sum}
+use Rattle.paper.proofs.Logic.{both}
+use Rattle.paper.proofs.Rows.{all-pass}
 use Rattle.slots.specs.Lent.{slotOk, prevEnd, slotOkAt, slotRoomOk, slotsOk, minutesAt, demandOf}
 use Rattle.targets.specs.Figures.{figuresOk, allFiguresOk}
 use Rattle.targets.specs.Passes.{rounded, within, settled, pass, passes}
-use Rattle.targets.specs.Remainder.{adjusted, Targets, are}
-use Rattle.targets.specs.Outcome.{Given, given, targetsIn, published}
-use Rattle.targets.proofs.Accepted.{all-clear, people-room}
-use Rattle.targets.proofs.Promises.{when-accepted}
+use Rattle.targets.specs.Remainder.{adjusted}
+use Rattle.targets.specs.Outcome.{Given, given, targetsIn}
+use Rattle.targets.proofs.Accepted.{Lent}
+use Rattle.targets.proofs.Promises.{number-lent, when-accepted}
 use Rattle.promises.specs.Entries.{built}
 use Rattle.promises.specs.Marked.{one, none, Shared}
 
@@ -26,14 +29,24 @@ module _ (demand : ℕ) (capacities : List Float) (priors : List ℕ) (zs : List
 
   shared : countsOk (length capacities) 1 ≡ true → length priors ≡ length capacities
       → allFiguresOk (length capacities) capacities priors ≡ true → slotRoomOk 1 (0 ∷ []) (demand ∷ []) ≡ true
-      → slotsOk 1 (0 ∷ []) (demand ∷ []) ≡ true → ((avail : List ℕ) → targetsIn (asked avail) ≡ are zs)
+      → slotsOk 1 (0 ∷ []) (demand ∷ []) ≡ true → ((avail : List ℕ) → targetsIn (asked avail) ≡ zs)
       → Shared built demand capacities priors zs
+  unfolding countsOk
   shared a n f b e t avail out w r =
       let p = length capacities in
-      let room = people-room p (length avail) p (length priors) (length out)
-      (record { words-room = w; capacities-room = le-refl p; priors-room = le-of-eq (sym n); out-room = r }) in
-      when-accepted (asked avail) out (sym (all-clear (asked avail) (length out) a b room f (le-refl 1) e))
-      ∙ ap (λ (x : Targets). published p x out) (t avail)
+      let c = both (peopleOk p) (slotCountOk 1) a in
+      let l : Lent (asked avail) (length out) = record {
+        people-ok = c .0;
+        slots-ok = c .1;
+        columns = b;
+        words = w;
+        capacities-room = le-refl p;
+        priors-room = le-of-eq (sym n);
+        out-room = r;
+      } in
+      let z = number-lent (asked avail) out l e ∙ all-pass _ (f, (le-leb 1 1 (le-refl 1), tt)) in
+      ap₂ (λ (k : ℕ) (o : List ℤ). record { number = k; out = o }) z
+      (when-accepted (asked avail) out z ∙ ap (λ (x : List ℤ). x ++ drop p out) (t avail))
 
 pub cases-7-to-10 : Shared built 100 (one ∷ one ∷ one ∷ []) (0 ∷ 0 ∷ 0 ∷ []) (pos 33 ∷ pos 33 ∷ pos 34 ∷ [])
     × Shared built 2 (one ∷ one ∷ one ∷ one ∷ []) (0 ∷ 0 ∷ 0 ∷ 0 ∷ []) (pos 1 ∷ pos 1 ∷ pos 1 ∷ negsuc 0 ∷ [])

@@ -1,157 +1,175 @@
--- The checks before the work: the number by the first test that fails, what they leave known where they find nothing, and that they never
--- give 8. Assumes nothing.
-use mathlib.Core.Path.{_≡_}
-use mathlib.Core.Bool.{Bool, true, false, cond}
+-- The checks before the work: what they leave known where nothing is heard of them, and what the whole row says then. Assumes nothing.
+use mathlib.Core.Path.{_≡_, refl, sym, ap, _∙_}
+use mathlib.Core.Bool.{Bool, true, false, not, _&&_, _||_}
+use mathlib.Core.List.{List, [], _∷_, _++_}
 use Prim.Native.Nat.{ℕ, _*_, _≤_, _<_}
 use native.Mathlib.Omega.{arith}
-use borrow.Author.Tests.{leb-true, le-leb, lt-leb}
-use lib.Dec.{leb}
+use borrow.Author.Tests.{leb-true, le-leb, ltb-true, eqb-true, eqb-false, not-true, not-false}
+use lib.Dec.{eqb, leb, ltb}
 use lib.ListN.{length}
-use Rattle.paper.specs.Limits.{peopleOk, slotCountOk, orElse, countsOk}
-use Rattle.paper.proofs.Logic.{both, four, cond-zero, people-says, slot-count-says}
+use Rattle.paper.specs.Limits.{peopleOk, slotCountOk, Test, test, heardOf}
+use Rattle.paper.specs.Rows.{unless}
+use Rattle.paper.proofs.Logic.{by-test, both, neither, or-second, people-says, slot-count-says}
+use Rattle.paper.proofs.Refusals.{heard-pass, heard-fail}
+use Rattle.paper.proofs.Rows.{worked, kept, numbered, passed, Pass, all-pass}
 use Rattle.slots.specs.Lent.{slotRoomOk, slotsOk}
 use Rattle.targets.specs.Figures.{allFiguresOk}
-use Rattle.targets.specs.Outcome.{Given, peopleRoomOk, roomOk, checkNo}
-use Rattle.targets.specs.Code.{Sound}
+use Rattle.targets.specs.Passes.{guarded}
+use Rattle.targets.specs.Outcome.{Given, passedIn, guardOk, roomRow, targetsRow}
+use Rattle.targets.specs.Inside.{checksRow, Sound}
 
--- ---- the chain, over plain tests
+-- ---- rows
 
-abbrev chain : Bool → Bool → Bool → Bool → Bool → ℕ
-chain a b c d e = orElse a 1 (orElse b 2 (orElse c 6 (orElse d 7 (orElse e 9 0))))
+-- first tests that pass say nothing
+after-pass : (ts us : List Test) → Pass ts → heardOf (ts ++ us) ≡ heardOf us
+after-pass [] us p = refl
+after-pass (t ∷ ts) us p = heard-pass t (ts ++ us) (p .0) ∙ after-pass ts us (p .1)
 
-chain-zero : (a b c d e : Bool) → chain a b c d e ≡ 0
-    → (a ≡ true) × (b ≡ true) × (c ≡ true) × (d ≡ true) × (e ≡ true)
-chain-zero a b c d e h =
-    let p = cond-zero a (cond b (cond c (cond d (cond e 0 9) 7) 6) 2) 0 h in
-    let q = cond-zero b (cond c (cond d (cond e 0 9) 7) 6) 1 (p .1) in
-    let r = cond-zero c (cond d (cond e 0 9) 7) 5 (q .1) in
-    let s = cond-zero d (cond e 0 9) 6 (r .1) in
-    let t = cond-zero e 0 8 (s .1) in
-    (p .0, q .0, r .0, s .0, t .0)
+-- a test that passes says nothing, wherever it stands
+pub says-nothing : (ts : List Test) (t : Test) (us : List Test) → t .passes ≡ true → heardOf (ts ++ (t ∷ us)) ≡ heardOf (ts ++ us)
+says-nothing [] t us e = heard-pass t us e
+says-nothing (s ∷ ts) t us e =
+    by-test (s .passes) _
+    (λ q. heard-pass s (ts ++ (t ∷ us)) q ∙ says-nothing ts t us e ∙ sym (heard-pass s (ts ++ us) q))
+    (λ q. heard-fail s (ts ++ (t ∷ us)) q ∙ sym (heard-fail s (ts ++ us) q))
 
-chain-not-eight : (a b c d e : Bool) → chain a b c d e ≡ 8 → ⊥
-chain-not-eight false b c d e h = omega arith
-chain-not-eight true false c d e h = omega arith
-chain-not-eight true true false d e h = omega arith
-chain-not-eight true true true false e h = omega arith
-chain-not-eight true true true true false h = omega arith
-chain-not-eight true true true true true h = omega arith
+-- one that fails, before tests that pass, is heard where nothing else is
+says-else : (ts : List Test) (t : Test) (us : List Test) → numbered ts ≡ true → t .passes ≡ false → Pass us
+    → heardOf (ts ++ (t ∷ us)) ≡ unless (heardOf (ts ++ us)) (heardOf (ts ++ us)) (t .number)
+says-else [] t us h e p = heard-fail t us e ∙ sym (worked (heardOf us) (heardOf us) (t .number) (all-pass us p))
+says-else (s ∷ ts) t us h e p =
+    let x = both (ltb 0 (s .number)) (numbered ts) h in
+    let l = ltb-true 0 (s .number) (x .0) in
+    by-test (s .passes) _
+    (λ q.
+    heard-pass s (ts ++ (t ∷ us)) q ∙ says-else ts t us (x .1) e p
+    ∙ sym (ap (λ (n : ℕ). unless n n (t .number)) (heard-pass s (ts ++ us) q)))
+    (λ q.
+    let f = heard-fail s (ts ++ us) q in
+    heard-fail s (ts ++ (t ∷ us)) q ∙ sym f ∙ sym (kept _ _ (t .number) (λ z. omega (arith, f, z, l))))
 
--- ---- the number, by the first test that fails
+-- a number that no test has is not heard
+abbrev pub unlisted : ℕ → List Test → Bool
+unlisted k [] = true
+unlisted k (t ∷ ts) = not (eqb (t .number) k) && unlisted k ts
+
+pub unlisted-unheard : (k : ℕ) (ts : List Test) → unlisted k ts ≡ true → 0 < k → heardOf ts ≡ k → ⊥
+unfolding heardOf
+unlisted-unheard k [] h l e = omega arith
+unlisted-unheard k (t ∷ ts) h l e =
+    let x = both (not (eqb (t .number) k)) (unlisted k ts) h in
+    by-test (t .passes) _ (λ q. unlisted-unheard k ts (x .1) l (sym (heard-pass t ts q) ∙ e))
+    (λ q. eqb-false (t .number) k (not-true _ (x .0)) (sym (heard-fail t ts q) ∙ e))
+
+-- ---- what the whole row says, by the checks: 8 is heard where nothing else is
 
 module _ (g : Given) (room : ℕ) where
-  abbrev Counts : Bool → Type 0
-  Counts b = countsOk (g .people) (g .slots) ≡ b
+  abbrev whole : ℕ
+  whole = heardOf (targetsRow g room)
 
-  abbrev SlotRoom : Bool → Type 0
-  SlotRoom b = slotRoomOk (g .slots) (g .starts) (g .ends) ≡ b
+  abbrev checks : ℕ
+  checks = heardOf (checksRow g room)
 
-  abbrev Room : Bool → Type 0
-  Room b = peopleRoomOk (g .people) (length (g .avail)) (length (g .capacities)) (length (g .priors)) room ≡ b
+  abbrev ordered : Bool
+  ordered = slotsOk (g .slots) (g .starts) (g .ends)
 
-  abbrev Figures : Bool → Type 0
-  Figures b = allFiguresOk (g .people) (g .capacities) (g .priors) ≡ b
+  -- the row up to 8
+  abbrev front : List Test
+  front = roomRow g room ++ (test 6 (allFiguresOk (g .people) (g .capacities) (g .priors)) ∷ test 7 (leb (g .fairness) 1) ∷ [])
 
-  abbrev Slots : Bool → Type 0
-  Slots b = slotsOk (g .slots) (g .starts) (g .ends) ≡ b
+  pub with-guard : guardOk g ≡ true → whole ≡ checks
+  unfolding targetsRow checksRow roomRow
+  with-guard e = says-nothing front (test 8 (guardOk g)) (test 9 ordered ∷ []) e
 
-  pub no-counts : Counts false → 1 ≡ checkNo g room
-  unfolding checkNo
-  no-counts h = rw h
+  pub guard-broken : guardOk g ≡ false → (ordered ≡ true) × (guarded (passedIn g) ≡ false)
+  unfolding guardOk
+  guard-broken e = let x = neither (not ordered) (guarded (passedIn g)) e in (not-false ordered (x .0), x .1)
 
-  pub no-slot-room : Counts true → SlotRoom false → 2 ≡ checkNo g room
-  unfolding checkNo
-  no-slot-room h k = rw (h, k)
+  pub breaks-guard : ordered ≡ true → guarded (passedIn g) ≡ false → guardOk g ≡ false
+  unfolding guardOk
+  breaks-guard o e = rw (o, e)
 
-  pub no-people-room : Counts true → SlotRoom true → Room false → 2 ≡ checkNo g room
-  unfolding checkNo
-  no-people-room h k l = rw (h, k, l)
+  pub keeps-guard : guarded (passedIn g) ≡ true → guardOk g ≡ true
+  unfolding guardOk
+  keeps-guard e = or-second (not ordered) (guarded (passedIn g)) e
 
-  pub no-figures : Counts true → SlotRoom true → Room true → Figures false → 6 ≡ checkNo g room
-  unfolding checkNo
-  no-figures h k l m = rw (h, k, l, m)
+  no-guard : guardOk g ≡ false → whole ≡ unless checks checks 8
+  unfolding targetsRow checksRow roomRow
+  no-guard e = says-else front (test 8 (guardOk g)) (test 9 ordered ∷ []) refl e (guard-broken e .0, tt)
 
-  pub no-fairness : Counts true → SlotRoom true → Room true → Figures true → 1 < g .fairness → 7 ≡ checkNo g room
-  unfolding checkNo
-  no-fairness h k l m n = rw (h, k, l, m, lt-leb (g .fairness) 1 n)
+  -- refused by the checks
+  pub row-refused : (checks ≡ 0 → ⊥) → whole ≡ checks
+  row-refused h = by-test (guardOk g) _ with-guard (λ e. no-guard e ∙ kept checks checks 8 h)
 
-  pub no-slots : Counts true → SlotRoom true → Room true → Figures true → g .fairness ≤ 1 → Slots false → 9 ≡ checkNo g room
-  unfolding checkNo
-  no-slots h k l m n o = rw (h, k, l, m, le-leb (g .fairness) 1 n, o)
+  -- refused by the work
+  pub row-eight : checks ≡ 0 → guardOk g ≡ false → whole ≡ 8
+  row-eight z e = no-guard e ∙ worked checks checks 8 z
 
-  pub all-clear : Counts true → SlotRoom true → Room true → Figures true → g .fairness ≤ 1 → Slots true → 0 ≡ checkNo g room
-  unfolding checkNo
-  all-clear h k l m n o = rw (h, k, l, m, le-leb (g .fairness) 1 n, o)
+  -- nothing is heard of the checks where nothing is of the row
+  pub row-clear : whole ≡ 0 → checks ≡ 0
+  row-clear z =
+      by-test (eqb checks 0) _ (eqb-true checks 0) (λ f. sym (row-refused (eqb-false checks 0 f)) ∙ z)
 
--- ---- what a check that finds nothing leaves known
+-- ---- what checks that find nothing leave known
 
-pub record PeopleRoom (people words capacities priors room : ℕ) : Type 0 where
-  pub words-room : 16 * people ≤ words
-  pub capacities-room : people ≤ capacities
-  pub priors-room : people ≤ priors
-  pub out-room : people ≤ room
-
-pub people-room-says : (people words capacities priors room : ℕ) → peopleRoomOk people words capacities priors room ≡ true
-    → PeopleRoom people words capacities priors room
-unfolding peopleRoomOk
-people-room-says people words capacities priors room h =
-    let x = four (leb (16 * people) words) (leb people capacities) (leb people priors) (leb people room) h in
-    record {
-      words-room = leb-true _ _ (x .0);
-      capacities-room = leb-true _ _ (x .1);
-      priors-room = leb-true _ _ (x .2);
-      out-room = leb-true _ _ (x .3);
-    }
-
--- and the way back
-pub people-room : (people words capacities priors room : ℕ) → PeopleRoom people words capacities priors room
-    → peopleRoomOk people words capacities priors room ≡ true
-unfolding peopleRoomOk
-people-room people words capacities priors room r =
-    rw (
-      le-leb (16 * people) words (r .words-room),
-      le-leb people capacities (r .capacities-room),
-      le-leb people priors (r .priors-room),
-      le-leb people room (r .out-room),
-    )
-
-pub few-people : (people slots : ℕ) → countsOk people slots ≡ true → people ≤ 32
-unfolding countsOk
-few-people people slots h = people-says people (both (peopleOk people) (slotCountOk slots) h .0) .1
-
--- all of it
 pub record Accepted (g : Given) (room : ℕ) : Type 0 where
   pub sound : Sound g
   pub out-room : g .people ≤ room
 
-pub accepted : (g : Given) (room : ℕ) → checkNo g room ≡ 0 → Accepted g room
-unfolding checkNo countsOk
-accepted g room h =
-    let q = slotRoomOk (g .slots) (g .starts) (g .ends) in
-    let r = peopleRoomOk (g .people) (length (g .avail)) (length (g .capacities)) (length (g .priors)) room in
-    let c = chain-zero (countsOk (g .people) (g .slots)) (roomOk g room) (allFiguresOk (g .people) (g .capacities) (g .priors))
-    (leb (g .fairness) 1) (slotsOk (g .slots) (g .starts) (g .ends)) h in
-    let n = both (peopleOk (g .people)) (slotCountOk (g .slots)) (c .0) in
-    let p = people-says (g .people) (n .0) in
-    let s = slot-count-says (g .slots) (n .1) in
-    let m = people-room-says (g .people) (length (g .avail)) (length (g .capacities)) (length (g .priors)) room (both q r (c .1) .1) in
+pub accepted : (g : Given) (room : ℕ) → heardOf (checksRow g room) ≡ 0 → Accepted g room
+unfolding checksRow roomRow
+accepted g room z =
+    let h = passed (checksRow g room) refl z in
+    let p = people-says (g .people) (h 0) in
     record {
       sound = record {
         somebody = p .0;
         few = p .1;
-        slots-few = s .1;
-        words = m .words-room;
-        capacities-room = m .capacities-room;
-        priors-room = m .priors-room;
-        figures = c .2;
-        flag = leb-true (g .fairness) 1 (c .3);
-        ordered = c .4;
+        slots-few = slot-count-says (g .slots) (h 1) .1;
+        words = leb-true _ _ (h 3);
+        capacities-room = leb-true _ _ (h 4);
+        priors-room = leb-true _ _ (h 5);
+        figures = h 7;
+        flag = leb-true _ _ (h 8);
+        ordered = h 9;
       };
-      out-room = m .out-room;
+      out-room = leb-true _ _ (h 6);
     }
 
-pub check-not-eight : (g : Given) (room : ℕ) → checkNo g room ≡ 8 → ⊥
-unfolding checkNo
-check-not-eight g room h =
-    chain-not-eight (countsOk (g .people) (g .slots)) (roomOk g room) (allFiguresOk (g .people) (g .capacities) (g .priors))
-    (leb (g .fairness) 1) (slotsOk (g .slots) (g .starts) (g .ends)) h
+-- ---- and the way back
+
+-- counts and room pass
+pub record Lent (g : Given) (room : ℕ) : Type 0 where
+  pub people-ok : peopleOk (g .people) ≡ true
+  pub slots-ok : slotCountOk (g .slots) ≡ true
+  pub columns : slotRoomOk (g .slots) (g .starts) (g .ends) ≡ true
+  pub words : 16 * g .people ≤ length (g .avail)
+  pub capacities-room : g .people ≤ length (g .capacities)
+  pub priors-room : g .people ≤ length (g .priors)
+  pub out-room : g .people ≤ room
+
+-- then 6, 7 and 9 are heard
+pub lent-checks : (g : Given) (room : ℕ) → Lent g room
+    → heardOf (checksRow g room) ≡ heardOf (test 6 (allFiguresOk (g .people) (g .capacities) (g .priors)) ∷ test 7 (leb (g .fairness) 1)
+    ∷ test 9 (slotsOk (g .slots) (g .starts) (g .ends)) ∷ [])
+unfolding checksRow roomRow
+lent-checks g room l =
+    after-pass (roomRow g room) _ (
+      l .people-ok,
+      (
+        l .slots-ok,
+        (
+          l .columns,
+          (
+            le-leb _ _ (l .words),
+            (
+              le-leb _ _ (l .capacities-room),
+              (
+                le-leb _ _ (l .priors-room),
+                (le-leb _ _ (l .out-room), tt),
+              ),
+            ),
+          ),
+        ),
+      ),
+    )

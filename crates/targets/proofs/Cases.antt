@@ -12,7 +12,7 @@ use Rattle.targets.specs.declared.Next.the-variants.{Again, Done, Refuse
 use Rattle.targets.specs.Figures.{zeroF, whole}
 use Rattle.targets.specs.Passes.{within, rounded, unrounded, settled, settle, outside, falls, some, shareSum, notional}
 use Rattle.targets.specs.Passes.{Passed, again, done, refused, passed, pass, passes}
-use Rattle.targets.specs.Code.{roundIs}
+use Rattle.targets.specs.Inside.{roundIs}
 
 -- ---- one person
 

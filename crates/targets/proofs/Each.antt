@@ -10,7 +10,7 @@ use Rattle.paper.proofs.Logic.{by-test, neither, or-right, or-left, or-second}
 use Rattle.targets.specs.declared.Line.{Line}
 use Rattle.targets.specs.Figures.{upTo, pad}
 use Rattle.targets.specs.Passes.{some}
-use Rattle.targets.specs.Code.{Each}
+use Rattle.targets.specs.Inside.{Each}
 
 -- ---- what holds of each line
 

@@ -1,6 +1,6 @@
 -- Refusal 8 is given exactly when an unrounded target that the passes work out breaks the guard. Assumes nothing.
 use mathlib.Core.Path.{_≡_, refl, sym, ap, _∙_}
-use mathlib.Core.Bool.{true}
+use mathlib.Core.Bool.{true, false, true≢false}
 use mathlib.Core.List.{List}
 use mathlib.Core.Logic.{_↔_}
 use Prim.Native.Nat.{ℕ, zero, suc, _+_, _-_, _<_, suc-le-suc}
@@ -11,8 +11,7 @@ use lib.ListN.{length, getD}
 use Rattle.targets.specs.declared.Line.{Line}
 use Rattle.targets.specs.Figures.{zeroF, whole, pad}
 use Rattle.targets.specs.Passes.{outside, some, shareSum, notional}
-use Rattle.targets.specs.Passes.{Passed, again, done, refused, passed, pass, passes, passesLeave, Beyond}
-use Rattle.targets.specs.Remainder.{adjusted, beyond, closed, targets}
+use Rattle.targets.specs.Passes.{Passed, again, done, refused, passed, pass, passes, passesLeave, guarded, Beyond}
 use Rattle.targets.proofs.Loops.{differ}
 use Rattle.targets.proofs.Each.{some-at, at-some}
 use Rattle.targets.proofs.Cases.{by-passed, guard-broken}
@@ -75,17 +74,17 @@ refused-at (suc n) d ls e = go (pass d (again ls)) refl e (refused-at n d)
         differ z
     go refused h e f = record { before = 0; lines = ls; few = zero-lt-suc n; due = refl; no = h }
 
-closed-beyond : (d : ℕ) (p : Passed) → closed (adjusted d) p ≡ beyond → p ≡ refused
-closed-beyond d (again ls) e = let z : _≡_ {A = ℕ} 0 1 = cc in differ z
-closed-beyond d (done ls) e = let z : _≡_ {A = ℕ} 0 1 = cc in differ z
-closed-beyond d refused e = refl
+not-guarded : (p : Passed) → guarded p ≡ false → p ≡ refused
+not-guarded (again ls) e = absurd (true≢false e)
+not-guarded (done ls) e = absurd (true≢false e)
+not-guarded refused e = refl
 
 -- ---- exactly
 
-found-beyond : (d : ℕ) (ls : List Line) → targets d ls ≡ beyond → Beyond d ls
+found-beyond : (d : ℕ) (ls : List Line) → guarded (passesLeave d ls) ≡ false → Beyond d ls
 unfolding pass
 found-beyond d ls e =
-    let r = refused-at (suc (length ls)) d ls (closed-beyond d (passesLeave d ls) e) in
+    let r = refused-at (suc (length ls)) d ls (not-guarded (passesLeave d ls) e) in
     let n = whole (notional d (r .lines)) in
     let s = shareSum (r .lines) in
     let q = passed-refused n s (r .lines) (r .no) in
@@ -104,7 +103,7 @@ found-beyond d ls e =
       breaks = o .1;
     }
 
-beyond-found : (d : ℕ) (ls : List Line) → Beyond d ls → targets d ls ≡ beyond
+beyond-found : (d : ℕ) (ls : List Line) → Beyond d ls → guarded (passesLeave d ls) ≡ false
 unfolding pass passes
 beyond-found d ls b =
     let n = whole (notional d (b .lines)) in
@@ -115,9 +114,9 @@ beyond-found d ls b =
     let p : pass d (again (b .lines)) ≡ refused = refused-passed n s (b .lines) (b .above) t in
     let k = length ls - b .before in
     let c : suc (length ls) ≡ b .before + suc k = omega (arith, b .few) in
-    ap (closed (adjusted d))
+    ap guarded
     (ap (λ (i : ℕ). passes i d (again ls)) c ∙ passes-add (b .before) (suc k) d (again ls)
     ∙ ap (λ (q : Passed). passes (suc k) d q) (b .due) ∙ ap (passes k d) p ∙ refused-stays k d)
 
-pub eight-exactly : (d : ℕ) (ls : List Line) → (targets d ls ≡ beyond) ↔ Beyond d ls
+pub eight-exactly : (d : ℕ) (ls : List Line) → (guarded (passesLeave d ls) ≡ false) ↔ Beyond d ls
 eight-exactly d ls = (found-beyond d ls, beyond-found d ls)

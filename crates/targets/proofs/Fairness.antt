@@ -1,22 +1,24 @@
 -- Where everybody is available for every slot, fairness 0 and fairness 1 come to the same. Assumes nothing.
 use mathlib.Core.Path.{_≡_, refl, ap, ap₂}
-use mathlib.Core.Bool.{Bool, cond}
+use mathlib.Core.Bool.{Bool, true, not, _||_, cond}
 use mathlib.Core.List.{List, [], _∷_, _++_}
 use Prim.Native.Nat.{ℕ, zero, suc, _<_}
 use native.Mathlib.Omega.{arith}
 use borrow.Author.Tests.{eq-eqb}
-use lib.Dec.{eqb}
 use lib.IntN.{ℤ}
-use lib.ListN.{length}
+use lib.ListN.{length, drop}
 use lib.Ieee.{Float}
+use Rattle.paper.specs.Limits.{test, heardOf}
+use Rattle.paper.specs.Rows.{unless}
 use Rattle.paper.proofs.Count.{sum-same}
 use Rattle.slotset.specs.Answers.{rowSlots}
-use Rattle.slots.specs.Lent.{minutesAt, demandOf}
+use Rattle.slots.specs.Lent.{minutesAt, demandOf, slotsOk}
 use Rattle.targets.specs.declared.Line.{Line}
-use Rattle.targets.specs.Figures.{personAt, lineOf, upTo}
+use Rattle.targets.specs.Figures.{allFiguresOk, personAt, lineOf, upTo}
 use Rattle.targets.specs.Available.{minutesIfAvailable, availableMinutes}
-use Rattle.targets.specs.Remainder.{targets}
-use Rattle.targets.specs.Outcome.{given, checkNo, demandIn, linesIn, Outcome, published, computeTargets}
+use Rattle.targets.specs.Passes.{passesLeave, linesLeft, guarded}
+use Rattle.targets.specs.Remainder.{adjusted}
+use Rattle.targets.specs.Outcome.{given, linesIn, guardOk, roomRow, targetsRow, Outcome, computeTargets}
 
 upTo-same : {A : Type 0} (f g : ℕ → A) (n : ℕ) → ((k : ℕ) → k < n → f k ≡ g k) → upTo f n ≡ upTo g n
 upTo-same f g zero h = refl
@@ -39,11 +41,17 @@ module _ (people slots : ℕ) (starts ends avail : List ℕ) (capacities : List 
       (λ (k : ℕ). lineOf (personAt capacities priors k) (demandOf slots starts ends)) people
       (λ k h. ap (lineOf (personAt capacities priors k)) (all-available k h))
 
+  -- the outcome, by the lines
+  abbrev byLines : List ℤ → List Line → Outcome
+  byLines out ls =
+      let demand = demandOf slots starts ends in
+      let p = passesLeave demand ls in
+      let ok = slotsOk slots starts ends in
+      let row = roomRow (given people slots starts ends avail capacities priors 1) (length out)
+      ++ (test 6 (allFiguresOk people capacities priors) ∷ test 7 true ∷ test 8 (not ok || guarded p) ∷ test 9 ok ∷ []) in
+      record { number = heardOf row; out = unless (heardOf row) out (adjusted demand (linesLeft p) ++ drop people out) }
+
   pub fairness-agrees : (out : List ℤ) → computeTargets (given people slots starts ends avail capacities priors 0) out
       ≡ computeTargets (given people slots starts ends avail capacities priors 1) out
-  unfolding computeTargets checkNo
-  fairness-agrees out =
-      let g = given people slots starts ends avail capacities priors 1 in
-      let no = checkNo g (length out) in
-      ap (λ (ls : List Line).
-      cond {A = Outcome} (eqb no 0) (published people (targets (demandIn g) ls) out) (record { number = no; out = out })) same-lines
+  unfolding computeTargets targetsRow roomRow guardOk
+  fairness-agrees out = ap (byLines out) same-lines

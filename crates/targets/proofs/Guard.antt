@@ -20,7 +20,7 @@ use Rattle.paper.proofs.Logic.{by-cond}
 use Rattle.targets.specs.declared.Line.{Line}
 use Rattle.targets.specs.Figures.{zeroF, whole}
 use Rattle.targets.specs.Passes.{within, unrounded, outside, some, withShare, shareSum, withPrior, notional}
-use Rattle.targets.specs.Code.{Each}
+use Rattle.targets.specs.Inside.{Each}
 use Rattle.targets.proofs.Nearest.{held}
 use Rattle.targets.proofs.Floats.{Most, Plain, Share, Under, round-most, round-plain, quotient, product, difference, inside}
 use Rattle.targets.proofs.Floats.{under-round, under-refl, under-trans, add-plain, over-left, over-right}

@@ -21,7 +21,7 @@ use Rattle.slotset.specs.Slots.{has}
 use Rattle.slotset.specs.Answers.{rowNo, rowSlots, toldAs}
 use Rattle.slotset.proofs.Refusals.{says-row}
 use Rattle.targets.specs.Available.{minutesIfAvailable, availableMinutes}
-use Rattle.targets.specs.Code.{RowSound}
+use Rattle.targets.specs.Inside.{RowSound}
 use Rattle.targets.proofs.Loops.{differ}
 
 pub if-available-le : (starts ends avail : List ℕ) (person k : ℕ)

@@ -17,8 +17,8 @@ use lib.Ieee.Fits.{up-pos, down-pos, and-l, round-fits}
 use Rattle.targets.specs.declared.Line.{Line}
 use Rattle.targets.specs.declared.Person.{Person}
 use Rattle.targets.specs.Figures.{zeroF, whole, lineOf, figuresOk}
-use Rattle.targets.specs.Passes.{settled, settle, unrounded, shareSum, notional, Passed, again, done, refused, passed, passesLeave}
-use Rattle.targets.specs.Remainder.{are, closed, targets, adjusted}
+use Rattle.targets.specs.Passes.{settled, settle, unrounded, shareSum, notional, Passed, again, done, refused, passed}
+use Rattle.targets.specs.Passes.{passesLeave, guarded}
 use Rattle.paper.proofs.Logic.{three}
 use Rattle.targets.proofs.Nearest.{held}
 use Rattle.targets.proofs.Floats.{Most, Plain, Share, round-most, round-plain, le-cross}
@@ -154,12 +154,12 @@ fine-passed demand ls D h =
       each-map Good Good (settle n sum) (λ l g. settled-good (unrounded n sum l) l g) ls (h .1),
     )
 
-not-beyond : (d : ℕ) (p : Passed) → Fine p → (zs : List ℤ) × (closed (adjusted d) p ≡ are zs)
-not-beyond d (again ls) h = (adjusted d ls, refl)
-not-beyond d (done ls) h = (adjusted d ls, refl)
-not-beyond d refused h = absurd h
+fine-guarded : (p : Passed) → Fine p → guarded p ≡ true
+fine-guarded (again ls) h = refl
+fine-guarded (done ls) h = refl
+fine-guarded refused h = absurd h
 
--- there are targets, for any such people
-pub never-refused : (d : ℕ) (ls : List Line) → d ≤ 100000000 → length ls ≤ 32 → Goods ls → (zs : List ℤ) × (targets d ls ≡ are zs)
+-- the guard is kept, of any such people
+pub never-refused : (d : ℕ) (ls : List Line) → d ≤ 100000000 → length ls ≤ 32 → Goods ls → guarded (passesLeave d ls) ≡ true
 never-refused d ls D L g =
-    not-beyond d (passesLeave d ls) (passes-keep Fine d (λ ms. fine-passed d ms D) (suc (length ls)) (again ls) (L, g))
+    fine-guarded (passesLeave d ls) (passes-keep Fine d (λ ms. fine-passed d ms D) (suc (length ls)) (again ls) (L, g))

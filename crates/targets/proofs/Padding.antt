@@ -1,6 +1,6 @@
 -- Lines that take no part change nothing: the targets of the people are those of the people alone. Assumes nothing.
 use mathlib.Core.Path.{_≡_, refl, sym, ap, ap₂, _∙_}
-use mathlib.Core.Bool.{Bool, true, false, _||_, cond}
+use mathlib.Core.Bool.{Bool, true, false, not, _||_, cond, true≢false}
 use mathlib.Core.List.{List, [], _∷_, _++_, map, foldl, foldl-append}
 use Prim.Native.Nat.{ℕ, zero, suc, _+_, _<_}
 use native.Mathlib.Nat.{add-zero}
@@ -15,11 +15,9 @@ use Rattle.targets.specs.declared.Best.{Best}
 use Rattle.targets.specs.declared.Answer.{Answer}
 use Rattle.targets.specs.Figures.{zeroF, whole, pad}
 use Rattle.targets.specs.Passes.{settled, settle, outside, falls, some, withShare, shareSum, withPrior, notional}
-use Rattle.targets.specs.Passes.{Passed, again, done, refused, passed, pass, passes, passesLeave}
+use Rattle.targets.specs.Passes.{Passed, again, done, refused, passed, pass, passes, passesLeave, linesLeft, guarded}
 use Rattle.targets.specs.Remainder.{withTarget, totalOf, better, best, takerOf, targetOf, adjusted}
-use Rattle.targets.specs.Remainder.{Targets, beyond, are, closed, targets}
-use Rattle.targets.specs.Code.{answerOf}
-use Rattle.targets.proofs.Loops.{differ}
+use Rattle.targets.specs.Inside.{AnswerOf}
 use Rattle.targets.proofs.Cases.{OfLines, lines-keep}
 use Rattle.targets.proofs.Taker.{taker-here}
 
@@ -123,60 +121,47 @@ Len n = OfLines (λ (ls : List Line). length ls ≡ n)
 pub len-passes : (n k demand : ℕ) (p : Passed) → Len n p → Len n (passes k demand p)
 len-passes n = lines-keep (λ (ls : List Line). length ls ≡ n) (λ a sum ls o h. length-map ls (settle a sum) ∙ h)
 
--- ---- as many targets as people
-
-abbrev pub LenT : ℕ → Targets → Type 0
-LenT n beyond = Unit
-LenT n (are zs) = length zs ≡ n
-
 pub adjusted-length : (d : ℕ) (ls : List Line) → length (adjusted d ls) ≡ length ls
 unfolding adjusted
 adjusted-length d ls = simp (length-set, length-map)
 
-len-closed : (n d : ℕ) (p : Passed) → Len n p → LenT n (closed (adjusted d) p)
-len-closed n d (again ls) h = adjusted-length d ls ∙ h
-len-closed n d (done ls) h = adjusted-length d ls ∙ h
-len-closed n d refused h = tt
+-- as many lines are left as there were people, if any are
+len-left : (n : ℕ) (p : Passed) → Len n p → guarded p ≡ true → length (linesLeft p) ≡ n
+len-left n (again ls) h e = h
+len-left n (done ls) h e = h
+len-left n refused h e = absurd (true≢false (sym e))
 
-pub len-targets : (n d : ℕ) (ls : List Line) → length ls ≡ n → LenT n (targets d ls)
-len-targets n d ls N = len-closed n d (passesLeave d ls) (len-passes n (suc (length ls)) d (again ls) N)
+pub left-count : (n d : ℕ) (ls : List Line) → length ls ≡ n → guarded (passesLeave d ls) ≡ true → length (linesLeft (passesLeave d ls)) ≡ n
+left-count n d ls N = len-left n (passesLeave d ls) (len-passes n (suc (length ls)) d (again ls) N)
 
 -- ---- from the answer for the padded lines to the targets of the people
 
-abbrev padT : ℕ → Targets → Targets
-padT m beyond = beyond
-padT m (are zs) = are (zs ++ replicate m (pos 0))
+guarded-padded : (m : ℕ) (p : Passed) → guarded (padP m p) ≡ guarded p
+guarded-padded m (again ls) = refl
+guarded-padded m (done ls) = refl
+guarded-padded m refused = refl
 
-closed-padded : (n m d : ℕ) (p : Passed) → 0 < n → Len n p → closed (adjusted d) (padP m p) ≡ padT m (closed (adjusted d) p)
-closed-padded n m d (again ls) N h = ap are (adjusted-padded m d ls (omega arith))
-closed-padded n m d (done ls) N h = ap are (adjusted-padded m d ls (omega arith))
-closed-padded n m d refused N h = refl
-
-padded : (k m d : ℕ) (ls : List Line) → 0 < length ls
-    → closed (adjusted d) (passes k d (again (ls ++ replicate m pad))) ≡ padT m (closed (adjusted d) (passes k d (again ls)))
-padded k m d ls h =
-    ap (closed (adjusted d)) (passes-padded k m d (again ls))
-    ∙ closed-padded (length ls) m d (passes k d (again ls)) h (len-passes (length ls) k d (again ls) refl)
-
-unpad-no : (t : Targets) (m : ℕ) → beyond ≡ padT m t → t ≡ beyond
-unpad-no beyond m e = refl
-unpad-no (are zs) m e = let z : _≡_ {A = ℕ} 0 1 = cc in differ z
-
-unpad-yes : (t : Targets) (m n : ℕ) (x : List ℤ) → LenT n t → are x ≡ padT m t → t ≡ are (take n x)
-unpad-yes beyond m n x l e = let z : _≡_ {A = ℕ} 0 1 = cc in differ z
-unpad-yes (are zs) m n x l e =
-    let h : x ≡ zs ++ replicate m (pos 0) = cc in
-    rw (h, take-at zs (replicate m (pos 0)) n l)
+left-padded : (m : ℕ) (p : Passed) → guarded p ≡ true → linesLeft (padP m p) ≡ linesLeft p ++ replicate m pad
+left-padded m (again ls) e = refl
+left-padded m (done ls) e = refl
+left-padded m refused e = absurd (true≢false (sym e))
 
 module _ (n m d : ℕ) (ls : List Line) (N : length ls ≡ n) (P : 0 < n) (a : Answer)
-    (e : answerOf a ≡ closed (adjusted d) (passes (n + 1) d (again (ls ++ replicate m pad)))) where
-  same : answerOf a ≡ padT m (targets d ls)
+    (A : AnswerOf d (passes (n + 1) d (again (ls ++ replicate m pad))) a) where
+  same : passes (n + 1) d (again (ls ++ replicate m pad)) ≡ padP m (passesLeave d ls)
   same =
-      e ∙ padded (n + 1) m d ls (omega arith)
-      ∙ ap (λ (k : ℕ). padT m (closed (adjusted d) (passes k d (again ls)))) (add-one n ∙ ap suc (sym N))
+      passes-padded (n + 1) m d (again ls)
+      ∙ ap (λ (k : ℕ). padP m (passes k d (again ls))) (add-one n ∙ ap suc (sym N))
 
-  pub if-refused : a .refused ≡ true → targets d ls ≡ beyond
-  if-refused r = unpad-no (targets d ls) m (rw r at same)
+  pub answer-guarded : not (a .refused) ≡ guarded (passesLeave d ls)
+  answer-guarded = A .kept ∙ ap guarded same ∙ guarded-padded m (passesLeave d ls)
 
-  pub if-given : a .refused ≡ false → targets d ls ≡ are (take n (a .targets))
-  if-given r = unpad-yes (targets d ls) m n (a .targets) (len-targets n d ls N) (rw r at same)
+  pub answer-targets : a .refused ≡ false → take n (a .targets) ≡ adjusted d (linesLeft (passesLeave d ls))
+  answer-targets r =
+      let g : guarded (passesLeave d ls) ≡ true = sym answer-guarded ∙ ap not r in
+      let left = linesLeft (passesLeave d ls) in
+      let L = left-count n d ls N g in
+      ap (take n)
+      (A .given r ∙ ap (λ (p : Passed). adjusted d (linesLeft p)) same ∙ ap (adjusted d) (left-padded m (passesLeave d ls) g)
+      ∙ adjusted-padded m d left (omega (arith, L)))
+      ∙ take-at (adjusted d left) (replicate m (pos 0)) n (adjusted-length d left ∙ L)

@@ -11,7 +11,7 @@ use lib.Ieee.Fits.{down-pos}
 use Rattle.targets.specs.declared.Line.{Line}
 use Rattle.targets.specs.Figures.{upTo, pad}
 use Rattle.targets.specs.Passes.{rounded, within, unrounded, settled, settle, outside, some, Passed, passes}
-use Rattle.targets.specs.Code.{SmallTarget, Small}
+use Rattle.targets.specs.Inside.{SmallTarget, Small}
 use Rattle.targets.proofs.Nearest.{under}
 use Rattle.targets.proofs.Each.{each-append, each-upTo, each-replicate, each-both, each-map, none-each}
 use Rattle.targets.proofs.Cases.{by-settled, guard-kept, OfLines, lines-keep}

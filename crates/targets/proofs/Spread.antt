@@ -19,10 +19,10 @@ use Rattle.paper.proofs.Logic.{by-test, lt-or-ge, neither}
 use Rattle.targets.specs.declared.Line.{Line}
 use Rattle.targets.specs.Figures.{zeroF, whole, pad}
 use Rattle.targets.specs.Passes.{rounded, unrounded, settle, falls, some, shareSum, notional}
-use Rattle.targets.specs.Passes.{Passed, again, done, refused, passed, passesLeave}
-use Rattle.targets.specs.Remainder.{totalOf, takerOf, Largest, targetOf, adjusted, are, closed, AllPlain, AllSmall}
+use Rattle.targets.specs.Passes.{Passed, again, done, refused, passed, passesLeave, linesLeft, guarded}
+use Rattle.targets.specs.Remainder.{totalOf, takerOf, Largest, targetOf, adjusted, AllPlain, AllSmall}
 use Rattle.targets.specs.Outcome.{Given, demandIn, lineIn, linesIn, targetsIn, computeTargets}
-use Rattle.targets.specs.Code.{Each, Sound}
+use Rattle.targets.specs.Inside.{Each, Sound}
 use Rattle.targets.proofs.Loops.{differ}
 use Rattle.targets.proofs.Each.{each-upTo, each-both, each-then, each-map, sum-most}
 use Rattle.targets.proofs.Sums.{addedUp, total-is}
@@ -31,13 +31,12 @@ use Rattle.targets.proofs.Taker.{taker-here, taker-takes}
 use Rattle.targets.proofs.Padding.{Len, len-passes}
 use Rattle.targets.proofs.Floats.{Under}
 use Rattle.targets.proofs.Guard.{notionalMost, Good, Goods, UnderSum, AllUnder, priorsIn, notional-is, Basis, basis-of}
-use Rattle.targets.proofs.Never.{Fine, fine-passed}
+use Rattle.targets.proofs.Never.{Fine, fine-passed, never-refused}
 use Rattle.targets.proofs.Errors.{Units}
 use Rattle.targets.proofs.Shares.{unitsOf, share-units, units-under, units-some, units-none, sharesIn, SumOf, sum-of}
 use Rattle.targets.proofs.Shares.{AtMost, exactParts, roundedParts, person-most}
 use Rattle.targets.proofs.Promises.{demand-fits, people-in, people-few, goods-in, never-cut, other}
-use Rattle.targets.proofs.Promises.{number-is, accepted-holds}
-use Rattle.targets.proofs.Accepted.{accepted}
+use Rattle.targets.proofs.Promises.{accepted-sound, accepted-holds}
 
 -- ---- what a pass keeps of each line
 
@@ -320,39 +319,35 @@ plain-or-small d n ls L h m =
     (not-missing top d t l ∙ ap (λ (z : ℤ). pos (natAbs z)) (sym (not-missing top d t l))) (λ j. refl) k))
     (lt-or-ge (top + d) t)
 
-closed-spread : (d n : ℕ) (p : Passed) (zs : List ℤ) → 0 < n → Len n p → ((ms : List Line) → p ≡ again ms → ⊥) → Spread d p
-    → closed (adjusted d) p ≡ are zs → AllPlain n zs ⊎ AllSmall n zs
-closed-spread d n (again ls) zs N l c h e = absurd (c ls refl)
-closed-spread d n (done ls) zs N l c h e =
-    let q : adjusted d ls ≡ zs = cc in
-    subst (λ (x : List ℤ). AllPlain n x ⊎ AllSmall n x) q (plain-or-small d n ls (omega arith) (h .0) (h .1))
-closed-spread d n refused zs N l c h e = let z : _≡_ {A = ℕ} 0 1 = cc in differ z
+left-spread : (d n : ℕ) (p : Passed) → 0 < n → Len n p → ((ms : List Line) → p ≡ again ms → ⊥) → Spread d p → guarded p ≡ true
+    → let zs = adjusted d (linesLeft p) in AllPlain n zs ⊎ AllSmall n zs
+left-spread d n (again ls) N l c h e = absurd (c ls refl)
+left-spread d n (done ls) N l c h e = plain-or-small d n ls (omega arith) (h .0) (h .1)
+left-spread d n refused N l c h e = absurd (true≢false (sym e))
 
 -- no target is below 0, or all are small
-pub targets-plain-or-small : (g : Given) → Sound g → (zs : List ℤ) → targetsIn g ≡ are zs
-    → AllPlain (g .people) zs ⊎ AllSmall (g .people) zs
-targets-plain-or-small g s zs e =
+pub targets-plain-or-small : (g : Given) → Sound g → AllPlain (g .people) (targetsIn g) ⊎ AllSmall (g .people) (targetsIn g)
+targets-plain-or-small g s =
     let d = demandIn g in
     let ls = linesIn g in
     let D = demand-fits g s in
-    closed-spread d (g .people) (passesLeave d ls) zs (s .somebody) (len-passes (g .people) (suc (length ls)) d (again ls) (people-in g))
+    left-spread d (g .people) (passesLeave d ls) (s .somebody) (len-passes (g .people) (suc (length ls)) d (again ls) (people-in g))
     (never-cut g)
     (passes-keep (λ (p : Passed). Fine p × Spread d p) d
     (λ ms h. (fine-passed d ms D (h .0), spread-passed d ms D (h .0 .0) (h .0 .1) (h .1))) (suc (length ls)) (again ls)
     ((people-few g s, goods-in g s), each-upTo Kept (lineIn g) (g .people) (λ k h. new-kept (lineIn g k) refl)) .1)
-    e
+    (never-refused d ls D (people-few g s) (goods-in g s))
 
 -- the same of what the buffer holds, accepted
 pub accepted-plain-or-small : (g : Given) (out : List ℤ) → computeTargets g out .number ≡ 0
     → let ts = computeTargets g out .out in AllPlain (g .people) ts ⊎ AllSmall (g .people) ts
 accepted-plain-or-small g out e =
     let h = accepted-holds g out e in
-    let s = accepted g (length out) (sym (number-is g out) ∙ e) .sound in
-    let at : (k : ℕ) → k < g .people → getD (computeTargets g out .out) k (pos 0) ≡ getD (h .zs) k (pos 0) =
+    let at : (k : ℕ) → k < g .people → getD (computeTargets g out .out) k (pos 0) ≡ getD (targetsIn g) k (pos 0) =
     λ k l.
     ap (λ (x : List ℤ). getD x k (pos 0)) (h .is)
-    ∙ List·getD-append (h .zs) (drop (g .people) out) (pos 0) k (lt-of-lt-of-le l (le-of-eq (sym (h .count)))) in
+    ∙ List·getD-append (targetsIn g) (drop (g .people) out) (pos 0) k (lt-of-lt-of-le l (le-of-eq (sym (h .count)))) in
     ⊎-elim
-    (λ (f : AllPlain (g .people) (h .zs)). inl (λ k l. at k l ∙ f k l ∙ ap (λ (z : ℤ). pos (natAbs z)) (sym (at k l))))
-    (λ (f : AllSmall (g .people) (h .zs)). inr (λ k l. le-trans (le-of-eq (ap suc (ap natAbs (at k l)))) (f k l)))
-    (targets-plain-or-small g s (h .zs) (h .these))
+    (λ (f : AllPlain (g .people) (targetsIn g)). inl (λ k l. at k l ∙ f k l ∙ ap (λ (z : ℤ). pos (natAbs z)) (sym (at k l))))
+    (λ (f : AllSmall (g .people) (targetsIn g)). inr (λ k l. le-trans (le-of-eq (ap suc (ap natAbs (at k l)))) (f k l)))
+    (targets-plain-or-small g (accepted-sound g out e))

@@ -1,23 +1,24 @@
 -- The work behind the checks: what its calls give is the outcome. Assumes nothing.
-use mathlib.Core.Path.{_≡_, refl, sym, ap, ap₂, _∙_}
-use mathlib.Core.Bool.{Bool, true, false, cond}
+use mathlib.Core.Path.{_≡_, refl, sym, ap, _∙_, subst}
+use mathlib.Core.Bool.{Bool, true, false, not, cond}
 use mathlib.Core.List.{List, _++_}
 use Prim.Native.Nat.{ℕ, _+_, _-_, _<_}
+use native.Mathlib.Omega.{arith}
 use lib.IntN.{ℤ}
 use lib.ListN.{length, take, drop, replicate}
+use Rattle.paper.specs.Limits.{heardOf}
+use Rattle.paper.proofs.Rows.{worked, kept}
 use Rattle.slots.specs.Lent.{demandOf, demandWhenOk}
 use Rattle.targets.specs.declared.Line.{Line}
 use Rattle.targets.specs.declared.Answer.{Answer}
 use Rattle.targets.specs.Figures.{pad}
-use Rattle.targets.specs.Passes.{again, passes}
-use Rattle.targets.specs.Remainder.{Targets, adjusted, closed}
-use Rattle.targets.specs.Outcome.{Given, checkNo, demandIn, lineIn, linesIn, targetsIn, Outcome, published, computeTargets}
-use Rattle.targets.specs.Outcome.{Meets}
-use Rattle.targets.specs.Code.{answerOf, Small, Sound}
+use Rattle.targets.specs.Passes.{again, passes, guarded}
+use Rattle.targets.specs.Outcome.{Given, demandIn, lineIn, linesIn, passedIn, targetsIn, guardOk, targetsRow, computeTargets, Meets}
+use Rattle.targets.specs.Inside.{AnswerOf, Small, checksRow, Sound}
+use Rattle.targets.proofs.Loops.{length-upTo}
 use Rattle.targets.proofs.Sizes.{small-lines}
-use Rattle.targets.proofs.Padding.{if-refused, if-given}
-use Rattle.targets.proofs.Accepted.{accepted}
-use Rattle.targets.proofs.Promises.{when-refused, when-accepted, people-in}
+use Rattle.targets.proofs.Padding.{answer-guarded, answer-targets}
+use Rattle.targets.proofs.Accepted.{accepted, with-guard, keeps-guard, breaks-guard, row-refused, row-eight}
 
 -- demand, of slots that pass
 pub demand-is : (g : Given) → Sound g → {d : ℕ} → d ≡ demandWhenOk (g .slots) (g .starts) (g .ends) → d ≡ demandIn g
@@ -29,36 +30,43 @@ demand-is g s e =
 pub small-in : (g : Given) {ls : List Line} → ls ≡ linesIn g ++ replicate (32 - g .people) pad → Small ls
 small-in g e = rw e (small-lines (lineIn g) (λ k. refl) (g .people) (32 - g .people))
 
+-- a number that is heard, and the buffer as it was
+meets-no : (g : Given) (out : List ℤ) {n : ℕ} → n ≡ heardOf (targetsRow g (length out)) → (n ≡ 0 → ⊥) → Meets g out n out
+unfolding computeTargets
+meets-no g out e h = (e, sym (kept _ out (targetsIn g ++ drop (g .people) out) (λ z. h (e ∙ z))))
+
 -- refused before the work
-pub meets-refused : (g : Given) (out : List ℤ) {n : ℕ} → n ≡ checkNo g (length out) → (n ≡ 0 → ⊥) → Meets g out n out
-meets-refused g out e h =
-    let r = when-refused g out (λ z. h (e ∙ z)) in
-    (e ∙ sym (ap (λ (o : Outcome). o .number) r), sym (ap (λ (o : Outcome). o .out) r))
+pub meets-refused : (g : Given) (out : List ℤ) {n : ℕ} → n ≡ heardOf (checksRow g (length out)) → (n ≡ 0 → ⊥) → Meets g out n out
+meets-refused g out e h = meets-no g out (e ∙ sym (row-refused g (length out) (λ z. h (e ∙ z)))) h
 
-module _ (g : Given) (out : List ℤ) (h : checkNo g (length out) ≡ 0) {d : ℕ} {ls : List Line} (a : Answer) (D : d ≡ demandIn g)
+module _ (g : Given) (out : List ℤ) (h : heardOf (checksRow g (length out)) ≡ 0) {d : ℕ} {ls : List Line} (a : Answer) (D : d ≡ demandIn g)
     (L : ls ≡ linesIn g ++ replicate (32 - g .people) pad)
-    (A : answerOf a ≡ closed (adjusted d) (passes (g .people + 1) d (again ls))) where
+    (A : AnswerOf d (passes (g .people + 1) d (again ls)) a) where
   -- the answer, of what is lent
-  answer : answerOf a
-      ≡ closed (adjusted (demandIn g)) (passes (g .people + 1) (demandIn g) (again (linesIn g ++ replicate (32 - g .people) pad)))
-  answer = A ∙ ap₂ (λ (d : ℕ) (ls : List Line). closed (adjusted d) (passes (g .people + 1) d (again ls))) D L
+  abbrev people-in : length (linesIn g) ≡ g .people
+  people-in = length-upTo (lineIn g) (g .people)
 
-  somebody : 0 < g .people
-  somebody = accepted g (length out) h .sound .somebody
+  answer : AnswerOf (demandIn g) (passes (g .people + 1) (demandIn g) (again (linesIn g ++ replicate (32 - g .people) pad))) a
+  answer =
+      subst (λ (x : ℕ). AnswerOf x (passes (g .people + 1) x (again (linesIn g ++ replicate (32 - g .people) pad))) a) D
+      (subst (λ (x : List Line). AnswerOf d (passes (g .people + 1) d (again x)) a) L A)
 
-  as-published : {t : Targets} → targetsIn g ≡ t → computeTargets g out ≡ published (g .people) t out
-  as-published e = when-accepted g out h ∙ ap (λ (t : Targets). published (g .people) t out) e
+  sound : Sound g
+  sound = accepted g (length out) h .sound
+
+  by-guard : not (a .refused) ≡ guarded (passedIn g)
+  by-guard = answer-guarded (g .people) (32 - g .people) (demandIn g) (linesIn g) people-in (sound .somebody) a answer
 
   -- refused by the work
   pub meets-eight : a .refused ≡ true → Meets g out 8 out
   meets-eight r =
-      let t = if-refused (g .people) (32 - g .people) (demandIn g) (linesIn g) (people-in g) somebody a answer r in
-      let o = as-published t in
-      (sym (ap (λ (o : Outcome). o .number) o), sym (ap (λ (o : Outcome). o .out) o))
+      let b = breaks-guard g (length out) (sound .ordered) (sym by-guard ∙ ap not r) in
+      meets-no g out (sym (row-eight g (length out) h b)) (λ z. omega arith)
 
   -- done
   pub meets-done : a .refused ≡ false → {o : List ℤ} → o ≡ take (g .people) (a .targets) ++ drop (g .people) out → Meets g out 0 o
+  unfolding computeTargets
   meets-done r e =
-      let t = if-given (g .people) (32 - g .people) (demandIn g) (linesIn g) (people-in g) somebody a answer r in
-      let o = as-published t in
-      (sym (ap (λ (o : Outcome). o .number) o), e ∙ sym (ap (λ (o : Outcome). o .out) o))
+      let t = answer-targets (g .people) (32 - g .people) (demandIn g) (linesIn g) people-in (sound .somebody) a answer r in
+      let z = with-guard g (length out) (keeps-guard g (length out) (sym by-guard ∙ ap not r)) ∙ h in
+      (sym z, e ∙ ap (λ (x : List ℤ). x ++ drop (g .people) out) t ∙ sym (worked _ out (targetsIn g ++ drop (g .people) out) z))

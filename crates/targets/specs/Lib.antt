@@ -4,4 +4,4 @@ pub mod Passes
 pub mod Remainder
 pub mod Available
 pub mod Outcome
-pub mod Code
+pub mod Inside

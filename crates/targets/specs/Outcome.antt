@@ -1,19 +1,20 @@
--- The whole outcome of a call: the number that is heard, and what the lent buffer holds then. Assumes nothing.
+-- The whole outcome of a call: the row of its refusals, and what the lent buffer holds then. Assumes nothing.
 use mathlib.Core.Path.{_≡_}
-use mathlib.Core.Bool.{Bool, _&&_, cond}
-use mathlib.Core.List.{List, [], _++_}
+use mathlib.Core.Bool.{Bool, not, _||_, cond}
+use mathlib.Core.List.{List, [], _∷_, _++_}
 use Prim.Native.Nat.{ℕ, _*_}
 use lib.Dec.{eqb, leb}
 use lib.IntN.{ℤ}
 use lib.ListN.{length, drop}
 use lib.Ieee.{Float}
-use Rattle.paper.specs.Limits.{orElse, countsOk}
+use Rattle.paper.specs.Limits.{setWords, peopleOk, slotCountOk, Test, test, heardOf}
+use Rattle.paper.specs.Rows.{unless}
 use Rattle.slots.specs.Lent.{slotRoomOk, slotsOk, demandOf}
 use Rattle.targets.specs.declared.Line.{Line}
 use Rattle.targets.specs.Figures.{allFiguresOk, personAt, lineOf, upTo}
 use Rattle.targets.specs.Available.{availableMinutes}
-use Rattle.targets.specs.Passes.{Passed, again, done, refused, passesLeave}
-use Rattle.targets.specs.Remainder.{takerOf, Targets, beyond, are, targets}
+use Rattle.targets.specs.Passes.{Passed, passesLeave, linesLeft, guarded}
+use Rattle.targets.specs.Remainder.{takerOf, adjusted}
 
 -- what is lent to be read: two counts, the slots' starts and ends, 16 words of availability a person, each person's capacity and prior
 -- minutes, and the fairness flag
@@ -39,27 +40,6 @@ given people slots starts ends avail capacities priors fairness = record {
   fairness = fairness;
 }
 
--- ---- the checks that come before the work, 0 for none: the lowest number wins. 8 is judged only where 9 doesn't apply, so it comes after
-
--- 2: the slots' columns; then 16 words a person, the figures, and room for as many targets as people
-unfoldable pub peopleRoomOk : ℕ → ℕ → ℕ → ℕ → ℕ → Bool
-peopleRoomOk people words capacities priors room =
-    leb (16 * people) words && (leb people capacities && (leb people priors && leb people room))
-
-abbrev pub roomOk : Given → ℕ → Bool
-roomOk g room =
-    slotRoomOk (g .slots) (g .starts) (g .ends)
-    && peopleRoomOk (g .people) (length (g .avail)) (length (g .capacities)) (length (g .priors)) room
-
--- then 6: somebody's figures; 7: fairness is not 0 or 1; 9: the lent slots
-unfoldable pub checkNo : Given → ℕ → ℕ
-checkNo g room =
-    orElse (countsOk (g .people) (g .slots)) 1
-    (orElse (roomOk g room) 2
-    (orElse (allFiguresOk (g .people) (g .capacities) (g .priors)) 6
-    (orElse (leb (g .fairness) 1) 7
-    (orElse (slotsOk (g .slots) (g .starts) (g .ends)) 9 0))))
-
 -- ---- the targets
 
 abbrev pub demandIn : Given → ℕ
@@ -76,8 +56,38 @@ lineIn g k = lineOf (personAt (g .capacities) (g .priors) k) (baseAt g k)
 abbrev pub linesIn : Given → List Line
 linesIn g = upTo (lineIn g) (g .people)
 
-abbrev pub targetsIn : Given → Targets
-targetsIn g = targets (demandIn g) (linesIn g)
+-- how the passes stand after all of them, the lines that they leave, and the person to whom the remainder goes
+abbrev pub passedIn : Given → Passed
+passedIn g = passesLeave (demandIn g) (linesIn g)
+
+abbrev pub leftIn : Given → List Line
+leftIn g = linesLeft (passedIn g)
+
+abbrev pub takerIn : Given → ℕ
+takerIn g = takerOf (leftIn g)
+
+abbrev pub targetsIn : Given → List ℤ
+targetsIn g = adjusted (demandIn g) (leftIn g)
+
+-- ---- what is heard
+
+-- 8 is judged only where 9 doesn't apply: a target has no meaning on slots that break rule 3
+unfoldable pub guardOk : Given → Bool
+guardOk g = not (slotsOk (g .slots) (g .starts) (g .ends)) || guarded (passedIn g)
+
+-- 1, 2: the slots' columns, a set a person, the figures, and room for as many targets as people
+unfoldable pub roomRow : Given → ℕ → List Test
+roomRow g room =
+    test 1 (peopleOk (g .people)) ∷ test 1 (slotCountOk (g .slots)) ∷ test 2 (slotRoomOk (g .slots) (g .starts) (g .ends))
+    ∷ test 2 (leb (setWords * g .people) (length (g .avail))) ∷ test 2 (leb (g .people) (length (g .capacities)))
+    ∷ test 2 (leb (g .people) (length (g .priors))) ∷ test 2 (leb (g .people) room) ∷ []
+
+-- and then 6, 7, 8, 9
+unfoldable pub targetsRow : Given → ℕ → List Test
+targetsRow g room =
+    roomRow g room
+    ++ (test 6 (allFiguresOk (g .people) (g .capacities) (g .priors)) ∷ test 7 (leb (g .fairness) 1) ∷ test 8 (guardOk g)
+    ∷ test 9 (slotsOk (g .slots) (g .starts) (g .ends)) ∷ [])
 
 -- ---- the outcome
 
@@ -85,30 +95,12 @@ pub record Outcome : Type 0 where
   pub number : ℕ
   pub out : List ℤ
 
--- a refusal changes nothing; entries past the people stay
-abbrev pub published : ℕ → Targets → List ℤ → Outcome
-published people beyond out = record { number = 8; out = out }
-published people (are zs) out = record { number = 0; out = zs ++ drop people out }
-
+-- the targets, and entries past the people stay; refused, all do
 unfoldable pub computeTargets : Given → List ℤ → Outcome
 computeTargets g out =
-    cond (eqb (checkNo g (length out)) 0) (published (g .people) (targetsIn g) out)
-    (record { number = checkNo g (length out); out = out })
+    let n = heardOf (targetsRow g (length out)) in
+    record { number = n; out = unless n out (targetsIn g ++ drop (g .people) out) }
 
 -- the contract: the number heard, and the buffer at exit
 abbrev pub Meets : Given → List ℤ → ℕ → List ℤ → Type 0
 Meets g out r exit = (r ≡ computeTargets g out .number) × (exit ≡ computeTargets g out .out)
-
--- ---- who took the remainder
-
-abbrev pub linesLeft : Passed → List Line
-linesLeft (again ls) = ls
-linesLeft (done ls) = ls
-linesLeft refused = []
-
--- the lines that the passes leave, and the person to whom the remainder went
-abbrev pub leftIn : Given → List Line
-leftIn g = linesLeft (passesLeave (demandIn g) (linesIn g))
-
-abbrev pub takerIn : Given → ℕ
-takerIn g = takerOf (leftIn g)

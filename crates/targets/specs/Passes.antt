@@ -102,6 +102,17 @@ passes (suc k) demand p = passes k demand (pass demand p)
 abbrev pub passesLeave : ℕ → List Line → Passed
 passesLeave demand ls = passes (suc (length ls)) demand (again ls)
 
+-- the lines that they leave, and whether refusal 8's guard was kept in all of them
+abbrev pub linesLeft : Passed → List Line
+linesLeft (again ls) = ls
+linesLeft (done ls) = ls
+linesLeft refused = []
+
+abbrev pub guarded : Passed → Bool
+guarded (again ls) = true
+guarded (done ls) = true
+guarded refused = false
+
 -- ---- refusal 8, said of the unrounded targets: one that is worked out breaks the guard
 
 pub record Beyond (demand : ℕ) (ls : List Line) : Type 0 where

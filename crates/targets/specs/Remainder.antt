@@ -10,7 +10,6 @@ use lib.ListN.{length, getD, set}
 use Rattle.targets.specs.declared.Line.{Line}
 use Rattle.targets.specs.declared.Best.{Best}
 use Rattle.targets.specs.Figures.{pad}
-use Rattle.targets.specs.Passes.{Passed, again, done, refused, passesLeave}
 
 abbrev pub withTarget : ℕ → Line → ℕ
 withTarget sum l = sum + l .target
@@ -57,20 +56,6 @@ unfoldable pub adjusted : ℕ → List Line → List ℤ
 adjusted demand ls =
     let k = takerOf ls in
     set (map targetOf ls) k (pos (getD ls k pad .target) +ℤ (pos demand -ℤ pos (totalOf ls)))
-
--- the targets, or refusal 8
-pub data Targets : Type 0 where
-  beyond : Targets
-  are : List ℤ → Targets
-
--- by what the passes leave, and by a rule for the remainder
-abbrev pub closed : (List Line → List ℤ) → Passed → Targets
-closed rule (again ls) = are (rule ls)
-closed rule (done ls) = are (rule ls)
-closed rule refused = beyond
-
-abbrev pub targets : ℕ → List Line → Targets
-targets demand ls = closed (adjusted demand) (passesLeave demand ls)
 
 -- the targets, added up
 abbrev pub sumℤ : List ℤ → ℤ

@@ -1,36 +1,12 @@
 // The checks that come before the work: rules 1, 2, 6, 7 and 9.
 use crate::Person;
-use paper::counts_ok;
-use slots::slot_room_ok;
-use slots::slots_ok;
+use paper::Fault;
 ghost use mathlib.Core.Path.{_≡_};
-ghost use Prim.Native.Nat.{_≤_};
-ghost use lib.ListN.{length};
+ghost use Rattle.paper.specs.Limits.{test};
+ghost use Rattle.paper.specs.Rows.{firstOf, next};
 ghost use Rattle.targets.specs.Figures.{figuresOk, allFiguresOk};
-ghost use Rattle.targets.specs.Outcome.{given, peopleRoomOk, checkNo};
-
-// Whether what is lent for the people has room for them (rule 2).
-fn people_room_ok(
-    people: usize,
-    words: usize,
-    capacities: usize,
-    priors: usize,
-    room: usize,
-) -> bool
-    requires { ⌜ people ≤ 32 ⌝ }
-    ensures { λ r. ⌜ r ≡ peopleRoomOk people words capacities priors room ⌝ }
-{
-    if words < paper::SET_WORDS * people {
-        return false;
-    }
-    if capacities < people {
-        return false;
-    }
-    if priors < people {
-        return false;
-    }
-    people <= room
-}
+ghost use Rattle.targets.specs.Outcome.{given};
+ghost use Rattle.targets.specs.Inside.{checksRow};
 
 // Whether a person's figures pass rule 6.
 fn figures_ok(p: Person) -> bool
@@ -45,16 +21,18 @@ fn figures_ok(p: Person) -> bool
     false
 }
 
-// Whether everybody's do.
+// Whether everybody's do; a column of capacities that is too short doesn't.
 fn all_figures_ok(people: usize, capacities: &[f64], priors: &[u32]) -> bool
-    requires { ⌜ (people ≤ length (now capacities)) × (people ≤ length (now priors)) ⌝ }
     ensures { λ r. ⌜ r ≡ allFiguresOk people (now (capacities .entry)) (now (priors .entry)) ⌝ }
 {
+    if capacities.len() < people {
+        return false;
+    }
     let mut i = 0;
     while i < people {
         let p = Person {
             capacity: capacities[i],
-            prior: priors[i],
+            prior: slots::entry_of(priors, i),
         };
         if figures_ok(p) {
             i += 1;
@@ -65,8 +43,18 @@ fn all_figures_ok(people: usize, capacities: &[f64], priors: &[u32]) -> bool
     true
 }
 
-// What is wrong with what is lent: 1, 2, 6, 7 or 9, the lowest; 0 for nothing.
-pub(crate) fn check_no(
+// Rule 6 of everybody. Where something was heard before, nobody is asked.
+fn heard_figures(before: Fault, people: usize, capacities: &[f64], priors: &[u32]) -> Fault
+    ensures { λ r. ⌜ r ≡ next before (test 6 (allFiguresOk people (now (capacities .entry)) (now (priors .entry)))) ⌝ }
+{
+    if before.number == 0 {
+        return paper::heard(before, all_figures_ok(people, capacities, priors), 6);
+    }
+    before
+}
+
+// What stands against working out targets: 1, 2, 6, 7 or 9. 8 comes out of the work.
+pub(crate) fn checks_no(
     people: usize,
     slots: usize,
     starts: &[u32],
@@ -76,29 +64,18 @@ pub(crate) fn check_no(
     priors: &[u32],
     fairness: u8,
     room: usize,
-) -> u8
-    ensures { λ r. ⌜ r ≡ checkNo (given people slots (now (starts .entry)) (now (ends .entry)) (now (avail .entry))
-        (now (capacities .entry)) (now (priors .entry)) fairness) room ⌝ }
+) -> Fault
+    ensures { λ r. ⌜ r ≡ firstOf (checksRow (given people slots (now (starts .entry)) (now (ends .entry)) (now (avail .entry))
+        (now (capacities .entry)) (now (priors .entry)) fairness) room) ⌝ }
 {
-    if counts_ok(people, slots) {
-        if slot_room_ok(slots, starts, ends) {
-            if people_room_ok(people, avail.len(), capacities.len(), priors.len(), room) {
-                if all_figures_ok(people, capacities, priors) {
-                    if fairness <= 1 {
-                        if slots_ok(slots, starts, ends) { 0 } else { 9 }
-                    } else {
-                        7
-                    }
-                } else {
-                    6
-                }
-            } else {
-                2
-            }
-        } else {
-            2
-        }
-    } else {
-        1
-    }
+    let f = paper::heard_people(paper::nothing(), people);
+    let f = paper::heard_slots(f, slots);
+    let f = slots::heard_room(f, slots, starts, ends);
+    let f = paper::heard_words(f, avail, people);
+    let f = paper::heard(f, people <= capacities.len(), 2);
+    let f = paper::heard(f, people <= priors.len(), 2);
+    let f = paper::heard(f, people <= room, 2);
+    let f = heard_figures(f, people, capacities, priors);
+    let f = paper::heard(f, fairness <= 1, 7);
+    slots::heard_order(f, slots, starts, ends, 9)
 }

@@ -12,9 +12,8 @@ ghost use mathlib.Core.List.{_++_};
 ghost use Prim.Native.Nat.{_+_, _≤_};
 ghost use lib.ListN.{length, take, drop};
 ghost use Rattle.targets.specs.Passes.{passes, again};
-ghost use Rattle.targets.specs.Remainder.{adjusted, closed};
 ghost use Rattle.targets.specs.Outcome.{given, Meets};
-ghost use Rattle.targets.specs.Code.{answerOf, Small};
+ghost use Rattle.targets.specs.Inside.{AnswerOf, Small};
 
 // A person's figures.
 pub struct Person {
@@ -59,7 +58,7 @@ pub struct Answer {
 // The targets of the lines: what the passes leave, and then the remainder.
 fn targets_of(lines: [Line; 32], people: usize, demand: u32) -> Answer
     requires { ⌜ (people ≤ 32) × Small lines ⌝ }
-    ensures { λ r. ⌜ answerOf r ≡ closed (adjusted demand) (passes (people + 1) demand (again lines)) ⌝ }
+    ensures { λ r. ⌜ AnswerOf demand (passes (people + 1) demand (again lines)) r ⌝ }
 {
     let r = passes::passes_of(lines, people, demand);
     let k = r.next;
@@ -111,7 +110,7 @@ pub fn compute_targets(
         (now (capacities .entry)) (now (priors .entry)) fairness)
         (now (out .entry)) r (now (out .exit)) ⌝ }
 {
-    let number = checks::check_no(
+    let n = checks::checks_no(
         people,
         slots,
         starts,
@@ -121,8 +120,8 @@ pub fn compute_targets(
         priors,
         fairness,
         out.len(),
-    );
-    if number == 0 {
+    ).number;
+    if n == 0 {
         let demand = demand_of(slots, starts, ends);
         let lines = lines::lines_of(
             people,
@@ -143,5 +142,5 @@ pub fn compute_targets(
         put_targets(t, people, out);
         return 0;
     }
-    number
+    n
 }

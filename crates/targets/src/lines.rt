@@ -14,7 +14,7 @@ ghost use Rattle.slots.specs.Lent.{slotsOk, demandOf};
 ghost use Rattle.targets.specs.Figures.{lineOf, pad};
 ghost use Rattle.targets.specs.Available.{minutesIfAvailable, availableMinutes};
 ghost use Rattle.targets.specs.Outcome.{given, linesIn};
-ghost use Rattle.targets.specs.Code.{Sound, RowSound};
+ghost use Rattle.targets.specs.Inside.{Sound, RowSound};
 
 // The minutes of slot k, if the person is available for it.
 fn minutes_if_available(

@@ -9,7 +9,7 @@ ghost use mathlib.Core.List.{map};
 ghost use Prim.Native.Nat.{_+_, _≤_};
 ghost use Rattle.targets.specs.Passes.{unrounded, outside, falls, settle, withShare, shareSum, withPrior, notional};
 ghost use Rattle.targets.specs.Passes.{some, passed, pass, passes, again};
-ghost use Rattle.targets.specs.Code.{passedOf};
+ghost use Rattle.targets.specs.Inside.{passedOf};
 
 // N * (raw / sum) - prior.
 fn unrounded_of(l: Line, n: f64, sum: f64) -> f64

@@ -6,7 +6,7 @@ ghost use mathlib.Core.List.{map};
 ghost use Prim.Native.Nat.{_+_, _≤_, _<_};
 ghost use lib.IntN.{pos, _+ℤ_, _-ℤ_};
 ghost use Rattle.targets.specs.Remainder.{withTarget, totalOf, better, best, targetOf, adjusted};
-ghost use Rattle.targets.specs.Code.{Small};
+ghost use Rattle.targets.specs.Inside.{Small};
 
 fn with_target(sum: u64, l: Line) -> u64
     requires { ⌜ (sum ≤ 35184372088832) × (l .target ≤ 1099511627776) ⌝ }

@@ -13,7 +13,11 @@ use Rattle.paper.specs.Count.{sum}
 use Rattle.paper.proofs.Logic.{by-test, lt-or-ge}
 use Rattle.paper.proofs.Bits.{bit-lt, bit-mod, bit-ext, top-clear, top-set}
 use Rattle.paper.proofs.Count.{sum-same}
-use Rattle.units.specs.Domains.{maskOf, inMask, MaskOf}
+use Rattle.units.specs.Domains.{maskOf, inMask}
+
+-- bit p of a mask is 1 exactly where person p is below `people` and passes q
+pub record MaskOf (q : ℕ → Bool) (people mask : ℕ) : Type 0 where
+  pub each : (p : ℕ) → inMask mask p ≡ ltb p people && q p
 
 -- one person more
 mask-suc : (q : ℕ → Bool) (n : ℕ) → maskOf q (suc n) ≡ maskOf q n + cond (q n) (2 ^ n) 0

@@ -14,7 +14,7 @@ use Rattle.paper.proofs.Count.{sum-change, in-fails, each-in}
 use Rattle.paper.proofs.Count.{length-over, getD-over, over-set, over-same, over-again}
 use Rattle.units.specs.Units.{unitStart, unitEnd, unitsOk, InUnit}
 use Rattle.units.specs.Domains.{available, able, maskOf, unitMask}
-use Rattle.units.specs.Striking.{MaskRoom, judged, maskThen}
+use Rattle.units.specs.Inside.{MaskRoom, judged, maskThen}
 use Rattle.units.proofs.Units.{unit-some, unit-within, units-apart, starts-far}
 use Rattle.units.proofs.MaskBits.{mask-same}
 

@@ -6,5 +6,5 @@ pub mod Dates
 pub mod Starts
 pub mod Days
 pub mod Domains
-pub mod Striking
 pub mod Achievable
+pub mod Inside

@@ -17,7 +17,7 @@ pub fn weekday_of(date: u32) -> u32
 }
 
 // Whether a date is one of the days of a mask, bit 0 Monday.
-pub fn listed(mask: u16, date: u32) -> bool
+pub(crate) fn listed(mask: u16, date: u32) -> bool
     ensures { λ r. ⌜ r ≡ listed mask date ⌝ }
 {
     let day = weekday_of(date);

@@ -2,7 +2,10 @@
 use mathlib.Core.Path.{_≡_, sym, _∙_}
 use borrow.Author.Needs.{needs}
 use lib.ListN.{length}
-use Rattle.targets.specs.Outcome.{Given, given, checkNo}
+use Rattle.paper.specs.Limits.{heardOf}
+use Rattle.paper.proofs.Rows.{said}
+use Rattle.targets.specs.Outcome.{Given, given}
+use Rattle.targets.specs.Inside.{checksRow}
 use Rattle.targets.proofs.Accepted.{Accepted, accepted}
 use Rattle.targets.proofs.Work.{demand-is, small-in, meets-refused, meets-eight, meets-done}
 use Rattle.targets.proofs.compute_targets.Statement.{statement}
@@ -18,17 +21,11 @@ lent s =
 abbrev start : tie.Then1 → tie.Start
 start c = c .before .before .before .before .before .before .before
 
-clear : (c : tie.Then1) → checkNo (lent (start c)) (length (start c .args .out .now)) ≡ 0
-clear c = sym (c .before .check-no .ensures) ∙ c .if1 .taken
+clear : (c : tie.Then1) → heardOf (checksRow (lent (start c)) (length (start c .args .out .now))) ≡ 0
+clear c = sym (said _ (c .before .checks-no .ensures)) ∙ c .if1 .taken
 
 fine : (c : tie.Then1) → Accepted (lent (start c)) (length (start c .args .out .now))
 fine c = accepted (lent (start c)) (length (start c .args .out .now)) (clear c)
-
-check-no-requires : tie.Need-check-no-requires
-check-no-requires c κs = search needs
-
-demand-of-requires : tie.Need-demand-of-requires
-demand-of-requires c κs = search needs
 
 lines-of-requires : tie.Need-lines-of-requires
 lines-of-requires c κs =
@@ -53,9 +50,6 @@ put-targets-requires c κs =
     let b = c .before .before .before .before .before .before in
     (fine b .sound .few, fine b .out-room)
 
-same-length : tie.Need-same-length
-same-length c = search needs
-
 returns-2 : tie.Need-returns-2
 returns-2 c =
     let t = c .before .before .before .before .before in
@@ -68,18 +62,10 @@ returns-2 c =
 returns-3 : tie.Need-returns-3
 returns-3 c =
     let e = c .before .before .before .before .before .before .before in
-    meets-refused (lent e) (e .args .out .now) (c .before .check-no .ensures) (c .if1 .left)
+    meets-refused (lent e) (e .args .out .now) (said _ (c .before .checks-no .ensures)) (c .if1 .left)
 
 pub compute-targets-spec : {M : Type 1} → statement M
 compute-targets-spec =
     tie.close
-    (tie.spec
-    check-no-requires
-    demand-of-requires
-    lines-of-requires
-    targets-of-requires
-    returns
-    put-targets-requires
-    same-length
-    returns-2
-    returns-3)
+    (tie.spec (λ c κs. search needs) (λ c κs. search needs) lines-of-requires targets-of-requires returns put-targets-requires
+    (λ c. search needs) returns-2 returns-3)

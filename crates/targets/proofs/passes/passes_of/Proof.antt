@@ -5,7 +5,7 @@ use native.Mathlib.Omega.{arith}
 use borrow.Author.Needs.{needs}
 use mathlib.Core.Path.{_≡_}
 use Rattle.targets.specs.Passes.{passes}
-use Rattle.targets.specs.Code.{passedOf}
+use Rattle.targets.specs.Inside.{passedOf}
 use Rattle.targets.proofs.Loops.{more, no-more}
 use Rattle.targets.proofs.passes.passes_of.Statement.{statement}
 use Rattle.targets.proofs.passes.passes_of.Tie as tie

@@ -6,7 +6,7 @@ use mir.Facts.{toZ-ofZ}
 use Rattle.targets.specs.declared.Best.{Best}
 use Rattle.targets.specs.declared.Line.{Line}
 use Rattle.targets.specs.Figures.{pad}
-use Rattle.targets.specs.Code.{SmallTarget}
+use Rattle.targets.specs.Inside.{SmallTarget}
 use Rattle.targets.proofs.Each.{each-at}
 use Rattle.targets.proofs.Taker.{same-line, adjusted-by}
 use borrow.Author.Needs.{needs}

@@ -9,7 +9,7 @@ use mathlib.Core.List.{_++_, map}
 use lib.ListN.{length, take, drop, length-set}
 use Rattle.targets.specs.Remainder.{targetOf}
 use Rattle.targets.proofs.Loops.{copied, filled}
-use Rattle.targets.specs.Code.{SmallTarget}
+use Rattle.targets.specs.Inside.{SmallTarget}
 use Rattle.targets.proofs.Each.{each-at}
 use Rattle.targets.proofs.remainder.signed_of.Statement.{statement}
 use Rattle.targets.proofs.remainder.signed_of.Tie as tie

@@ -7,7 +7,7 @@ use lib.ListN.{drop}
 use mathlib.Core.List.{foldl}
 use Rattle.targets.specs.Remainder.{withTarget, totalOf}
 use Rattle.targets.proofs.Loops.{turn, over}
-use Rattle.targets.specs.Code.{SmallTarget}
+use Rattle.targets.specs.Inside.{SmallTarget}
 use Rattle.targets.proofs.Each.{each-at}
 use Rattle.targets.proofs.remainder.total_of.Statement.{statement}
 use Rattle.targets.proofs.remainder.total_of.Tie as tie

@@ -3,7 +3,7 @@ use Rattle.paper.proofs.Count.{count-none, count-in, count-out, count-done}
 use mathlib.Core.Path.{_≡_, sym, ap, _∙_}
 use native.Mathlib.Omega.{arith}
 use borrow.Author.Needs.{needs}
-use Rattle.units.specs.Starts.{dateBegins}
+use Rattle.units.specs.Inside.{dateBegins}
 use Prim.Native.Nat.{ℕ, _+_, _-_, _≤_}
 use Rattle.paper.specs.Count.{count}
 use Rattle.units.proofs.days.count_dates.Statement.{statement}

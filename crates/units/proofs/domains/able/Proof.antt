@@ -2,7 +2,7 @@
 use mathlib.Core.Path.{ap, _∙_}
 use native.Mathlib.Omega.{arith}
 use borrow.Author.Needs.{needs}
-use Rattle.units.specs.Domains.{isNothing}
+use Rattle.units.specs.Inside.{isNothing}
 use Rattle.units.proofs.Sets.{able-below-law, able-after-law}
 use Rattle.units.proofs.domains.able.Statement.{statement}
 use Rattle.units.proofs.domains.able.Tie as tie

@@ -1,7 +1,7 @@
 -- `units::domains::clear` meets its contract. Assumes nothing.
 use mathlib.Core.Path.{ap, _∙_}
 use borrow.Author.Needs.{needs}
-use Rattle.units.specs.Domains.{isNothing}
+use Rattle.units.specs.Inside.{isNothing}
 use Rattle.units.proofs.Sets.{clear-law}
 use Rattle.units.proofs.domains.clear.Statement.{statement}
 use Rattle.units.proofs.domains.clear.Tie as tie

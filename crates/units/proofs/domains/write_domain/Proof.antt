@@ -6,7 +6,7 @@ use native.Mathlib.Omega.{arith}
 use borrow.Author.Needs.{needs}
 use Prim.Native.Nat.{_-_}
 use Rattle.paper.proofs.Logic.{people-says}
-use Rattle.units.specs.Domains.{DomainRoom}
+use Rattle.units.specs.Inside.{DomainRoom}
 use Rattle.units.proofs.Collect.{Collecting, collect-none, collect-few, collect-length}
 use Rattle.units.proofs.Collect.{collect-room, collect-in, collect-out, collect-end}
 use Rattle.units.proofs.domains.write_domain.Statement.{statement}

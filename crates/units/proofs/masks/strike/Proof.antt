@@ -6,7 +6,7 @@ use lib.ListN.{length}
 use Rattle.paper.specs.Count.{over}
 use Rattle.paper.proofs.Count.{length-over}
 use Rattle.paper.proofs.Logic.{people-says}
-use Rattle.units.specs.Striking.{maskThen}
+use Rattle.units.specs.Inside.{maskThen}
 use Rattle.units.proofs.Units.{units-room, unit-within}
 use Rattle.slotset.proofs.Refusals.{says-row}
 use Rattle.units.proofs.MaskBits.{one-bit}

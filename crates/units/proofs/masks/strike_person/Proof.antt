@@ -5,7 +5,7 @@ use native.Mathlib.Omega.{arith}
 use lib.ListN.{length}
 use Rattle.paper.specs.Count.{over}
 use Rattle.paper.proofs.Count.{length-over}
-use Rattle.units.specs.Striking.{maskThen}
+use Rattle.units.specs.Inside.{maskThen}
 use Rattle.units.proofs.Units.{units-room, starts-below}
 use Rattle.slotset.proofs.Refusals.{says-row}
 use Rattle.units.proofs.Striking.{strikes-next, strikes-held, strikes-again, room-kept, skip-to-gap, skip-rest}

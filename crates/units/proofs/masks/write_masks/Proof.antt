@@ -6,7 +6,7 @@ use lib.ListN.{length}
 use Rattle.paper.specs.Count.{over}
 use Rattle.paper.proofs.Count.{length-over}
 use Rattle.paper.proofs.Logic.{people-says}
-use Rattle.units.specs.Striking.{maskThen}
+use Rattle.units.specs.Inside.{maskThen}
 use Rattle.units.proofs.Striking.{strikes-begin, strikes-end, strikes-held, strikes-again, room-kept}
 use Rattle.units.proofs.masks.write_masks.Statement.{statement}
 use Rattle.units.proofs.masks.write_masks.Tie as tie

@@ -1,9 +1,11 @@
--- What the code's own values stand for, and what the work behind the checks asks. Assumes nothing.
+-- What contracts of private functions cite, and no public one: what the code's own values stand for, what the work asks. Assumes nothing.
 use mathlib.Core.Path.{_≡_}
-use mathlib.Core.Bool.{true, cond}
-use mathlib.Core.List.{List, [], _∷_}
+use mathlib.Core.Bool.{true, false, not}
+use mathlib.Core.List.{List, [], _∷_, _++_}
 use Prim.Native.Nat.{ℕ, _*_, _≤_, _<_}
+use lib.Dec.{leb}
 use lib.ListN.{length}
+use Rattle.paper.specs.Limits.{Test, test}
 use Rattle.slots.specs.Lent.{slotsOk}
 use Rattle.targets.specs.declared.Line.{Line}
 use Rattle.targets.specs.declared.Next.{Next}
@@ -11,9 +13,9 @@ use Rattle.targets.specs.declared.Next.the-variants.{Again, Done, Refuse
 use Rattle.targets.specs.declared.Round.{Round}
 use Rattle.targets.specs.declared.Answer.{Answer}
 use Rattle.targets.specs.Figures.{allFiguresOk}
-use Rattle.targets.specs.Passes.{Passed, again, done, refused}
-use Rattle.targets.specs.Remainder.{Targets, beyond, are}
-use Rattle.targets.specs.Outcome.{Given}
+use Rattle.targets.specs.Passes.{Passed, again, done, refused, linesLeft, guarded}
+use Rattle.targets.specs.Remainder.{adjusted}
+use Rattle.targets.specs.Outcome.{Given, roomRow}
 
 -- ---- the code's values
 
@@ -25,8 +27,10 @@ roundIs Refused ls = refused
 abbrev pub passedOf : Round → Passed
 passedOf r = roundIs (r .next) (r .lines)
 
-abbrev pub answerOf : Answer → Targets
-answerOf a = cond (a .refused) beyond (are (a .targets))
+-- the targets of what the passes leave, or none where they are refused
+pub record AnswerOf (demand : ℕ) (p : Passed) (a : Answer) : Type 0 where
+  pub kept : not (a .refused) ≡ guarded p
+  pub given : a .refused ≡ false → a .targets ≡ adjusted demand (linesLeft p)
 
 -- what holds of each line
 abbrev pub Each : (Line → Type 0) → List Line → Type 0
@@ -40,7 +44,16 @@ SmallTarget l = l .target ≤ 1099511627776
 abbrev pub Small : List Line → Type 0
 Small = Each SmallTarget
 
--- ---- what the checks, passed, leave known
+-- ---- the checks that come before the work
+
+-- 1, 2, 6, 7, 9: 8 comes out of the work
+unfoldable pub checksRow : Given → ℕ → List Test
+checksRow g room =
+    roomRow g room
+    ++ (test 6 (allFiguresOk (g .people) (g .capacities) (g .priors)) ∷ test 7 (leb (g .fairness) 1)
+    ∷ test 9 (slotsOk (g .slots) (g .starts) (g .ends)) ∷ [])
+
+-- what they leave known
 
 pub record Sound (g : Given) : Type 0 where
   pub somebody : 0 < g .people
