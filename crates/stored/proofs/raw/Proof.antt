@@ -6,16 +6,10 @@ use lib.ListN.{List·getD-eq-default}
 use Rattle.stored.proofs.raw.Statement.{statement}
 use Rattle.stored.proofs.raw.Tie as tie
 
-shared-slice-read-result : tie.Need-shared-slice-read-result
-shared-slice-read-result c = search needs
-
-returns : tie.Need-returns
-returns c = search needs
-
 returns-2 : tie.Need-returns-2
 returns-2 c =
     let a = c .before .args in
     sym (List·getD-eq-default (a .b .now) 0 {n = a .at} (omega (arith, c .if1 .left)))
 
 pub raw-spec : {M : Type 1} → statement M
-raw-spec = tie.close (tie.spec shared-slice-read-result returns returns-2)
+raw-spec = tie.close (tie.spec (λ c. search needs) (λ c. search needs) returns-2)

@@ -8,15 +8,6 @@ use Rattle.stored.specs.Numbers.{further, littleAt}
 use Rattle.stored.proofs.row_word.Statement.{statement}
 use Rattle.stored.proofs.row_word.Tie as tie
 
-mul-plus : tie.Need-mul-plus
-mul-plus c = search needs
-
-plus-requires : tie.Need-plus-requires
-plus-requires c κs = search needs
-
-word-requires : tie.Need-word-requires
-word-requires c κs = search needs
-
 returns : tie.Need-returns
 returns c =
     let a = c .before .before .before .before .args in
@@ -31,4 +22,4 @@ returns-2 c =
     sym (ap (λ (t : Bool). cond t stored 11936128518282651045) (ne-eqb _ _ (c .if1 .left)))
 
 pub row-word-spec : {M : Type 1} → statement M
-row-word-spec = tie.close (tie.spec mul-plus plus-requires word-requires returns returns-2)
+row-word-spec = tie.close (tie.spec (λ c. search needs) (λ c κs. search needs) (λ c κs. search needs) returns returns-2)

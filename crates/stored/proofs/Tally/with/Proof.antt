@@ -6,12 +6,6 @@ use Rattle.stored.specs.Numbers.{further}
 use Rattle.stored.proofs.Tally.with.Statement.{statement}
 use Rattle.stored.proofs.Tally.with.Tie as tie
 
-wrapping-add-u64-requires : tie.Need-wrapping-add-u64-requires
-wrapping-add-u64-requires c κs = search needs
-
-wrapping-add-u64-requires-2 : tie.Need-wrapping-add-u64-requires-2
-wrapping-add-u64-requires-2 c κs = search needs
-
 returns : tie.Need-returns
 returns c =
     let k = c .before in
@@ -19,9 +13,6 @@ returns c =
       k .before .wrapping-add-u64 .ensures,
       c .wrapping-add-u642 .ensures ∙ sym (ap (λ (b : Bool). further (s .differing) (cond b 0 1)) (k .if1 .taken)),
     )
-
-wrapping-add-u64-requires-3 : tie.Need-wrapping-add-u64-requires-3
-wrapping-add-u64-requires-3 c κs = search needs
 
 returns-2 : tie.Need-returns-2
 returns-2 c =
@@ -35,8 +26,8 @@ pub with-spec : {M : Type 1} → statement M
 with-spec =
     tie.close
     (tie.spec
-    wrapping-add-u64-requires
-    wrapping-add-u64-requires-2
+    (λ c κs. search needs)
+    (λ c κs. search needs)
     returns
-    wrapping-add-u64-requires-3
+    (λ c κs. search needs)
     returns-2)

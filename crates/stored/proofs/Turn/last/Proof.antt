@@ -10,9 +10,6 @@ use Rattle.stored.proofs.Turn.last.Tie as tie
 returns : tie.Need-returns
 returns c = let none = eq-eqb _ 0 (c .if1 .taken) in (simp none, (simp none, refl))
 
-with-requires : tie.Need-with-requires
-with-requires c κs = search needs
-
 returns-2 : tie.Need-returns-2
 returns-2 c =
     let part = ne-eqb _ 0 (c .before .if1 .left) in
@@ -22,4 +19,4 @@ returns-2 c =
     )
 
 pub last-spec : {M : Type 1} → statement M
-last-spec = tie.close (tie.spec returns with-requires returns-2)
+last-spec = tie.close (tie.spec returns (λ c κs. search needs) returns-2)
