@@ -333,7 +333,7 @@ row-turn l starts ends people person slots base k ws₀ ws next want ok few know
 
 module _ (slots : ℕ) (words : List ℕ) (people person slot no : ℕ) (e : no ≡ heardOf (availableRow people slots words person slot)) where
   pub available-refused : (no ≡ 0 → ⊥) → told.Refused no ≡ isAvailable people slots words person slot
-  unfolding isAvailable toldAs
+  unfolding isAvailable toldAs unless
   available-refused h =
       let z : eqb (heardOf (availableRow people slots words person slot)) 0 ≡ false = ne-eqb _ _ (λ q. h (e ∙ q)) in
       simp z (ap told.Refused e)
