@@ -6,16 +6,16 @@ use mathlib.Core.List.{List}
 use Prim.Native.Nat.{ℕ, zero, suc, _+_, _-_, _*_, _≤_, _<_, zero-le}
 use native.Mathlib.Numerals.{add-one}
 use native.Mathlib.Omega.{arith}
-use borrow.Author.Tests.{le-leb, lt-ltb}
-use lib.Dec.{leb}
 use lib.ListN.{length, getD, getD-replicate}
-use Rattle.paper.specs.Limits.{nobody, peopleOk}
+use Rattle.paper.specs.Limits.{nobody}
 use Rattle.paper.specs.Count.{over, fill}
 use Rattle.paper.proofs.Logic.{lt-or-ge}
 use Rattle.paper.proofs.Count.{sum-same, over-same, over-again, length-over, getD-over, length-fill, getD-fill-in, getD-fill-out}
 use Rattle.slotset.specs.Slots.{slot, putSlots}
-use Rattle.slotset.specs.Answers.{rowNo, rowStretchNo, rowStretchOf, wordsAs}
+use Rattle.slotset.specs.Answers.{rowStretchOf}
 use Rattle.slotset.proofs.Puts.{Fit, puts-same}
+use Rattle.slotset.proofs.Refusals.{stretch-puts}
+use Rattle.units.proofs.Sets.{row-ok}
 use Rattle.rota.specs.Derived.{Plan, PlanSound, knownBy, portion, worked, lengthAt, held, setsFrom, Derived, derived, afresh}
 use Rattle.rota.specs.Derived.{InStep, setFor, lessAt, moreAt}
 use Rattle.rota.specs.Derived.{stretchMinutes, OneOwner, nobodies, cut, Makes}
@@ -221,15 +221,6 @@ cleared p slots ws s₀ g q =
 
 pub clear-one : (people p slots : ℕ) (ws s₀ : List ℕ) → p < people → people ≤ 32 → slots ≤ 1024 → 16 * people ≤ length ws
     → ws ≡ setsFrom p slots (nobodies slots) s₀ → rowStretchOf 0 ws people p slots 0 slots ≡ setsFrom (p + 1) slots (nobodies slots) s₀
-unfolding rowStretchOf wordsAs rowStretchNo rowNo peopleOk
 clear-one people p slots ws s₀ h few l room e =
-    simp (
-      le-leb 1 people (omega arith),
-      le-leb people 32 few,
-      le-leb slots 1024 l,
-      le-leb (16 * people) (length ws) room,
-      lt-ltb p people h,
-      le-leb slots slots (omega arith),
-      mathlib.Core.Bool.or-true (leb slots 0),
-    )
-    (cleared p slots ws s₀ (omega arith) e ∙ sym (ap (λ (n : ℕ). setsFrom n slots (nobodies slots) s₀) (add-one p)))
+    stretch-puts 0 ws people p slots 0 slots (row-ok ws people p slots h few l room) (omega arith)
+    ∙ cleared p slots ws s₀ (omega arith) e ∙ sym (ap (λ (n : ℕ). setsFrom n slots (nobodies slots) s₀) (add-one p))

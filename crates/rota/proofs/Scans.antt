@@ -11,6 +11,7 @@ use lib.Dec.{eqb, ltb}
 use lib.ListN.{length, getD}
 use Rattle.paper.specs.Limits.{nobody}
 use Rattle.paper.specs.Count.{all, allIn, sum}
+use Rattle.paper.specs.Rows.{unless}
 use Rattle.paper.proofs.Logic.{by-test, lt-or-ge, below-suc, both}
 use Rattle.paper.proofs.Count.{all-each, each-all, all-fails, sum-more}
 use Rattle.slotset.specs.Slots.{slot, has}
@@ -116,7 +117,7 @@ module _ (ws : List ℕ) (people person len k : ℕ) (h : person < people) (few 
     16 * people ≤ length ws) where
   told-says : toldAs (rowNo ws people person len) (has (rowSlots ws person) len k) ≡ cond (eqb (slot ws (16 * person) k) 1) told.Yes
       told.No
-  unfolding toldAs
+  unfolding toldAs unless
   told-says =
       simp (row-ok ws people person len h few l room)
       (ap (λ (b : Bool). cond b told.Yes told.No) (has-says (rowSlots ws person) len k hk))

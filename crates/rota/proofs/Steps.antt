@@ -5,18 +5,20 @@ use mathlib.Core.Bool.{Bool, true, cond}
 use mathlib.Core.List.{List}
 use Prim.Native.Nat.{ℕ, _+_, _-_, _*_, _≤_, _<_}
 use native.Mathlib.Omega.{arith}
-use borrow.Author.Tests.{eq-eqb, ne-eqb, eqb-true, eqb-false, lt-ltb, le-leb}
-use lib.Dec.{eqb, leb}
+use borrow.Author.Tests.{eq-eqb, ne-eqb, eqb-true, eqb-false}
+use lib.Dec.{eqb}
 use lib.ListN.{length, getD, set, length-set}
 use lib.Seq.{getD-set-same, getD-set-other, ext-getD}
-use Rattle.paper.specs.Limits.{nobody, peopleOk}
+use Rattle.paper.specs.Limits.{nobody}
 use Rattle.paper.specs.Count.{over, fill}
 use Rattle.paper.proofs.Logic.{by-test, lt-or-ge}
 use Rattle.paper.proofs.Count.{sum-in-none, sum-in-more, sum-in-le, over-again, over-right}
 use Rattle.paper.proofs.Count.{length-over, getD-over, getD-over-out, length-fill, getD-fill-in, getD-fill-out}
 use Rattle.slotset.proofs.Puts.{Fit}
+use Rattle.slotset.proofs.Refusals.{stretch-puts}
+use Rattle.units.proofs.Sets.{row-ok}
 use Rattle.slots.specs.Lent.{demandOf, minutesAt}
-use Rattle.slotset.specs.Answers.{rowNo, rowStretchNo, rowStretchOf, wordsAs}
+use Rattle.slotset.specs.Answers.{rowStretchOf}
 use Rattle.rota.specs.Derived.{Plan, PlanSound, knownBy, portion, worked, Derived, derived, afresh, InStep, setFor}
 use Rattle.rota.specs.Derived.{lessAt, moreAt, stretchMinutes, lengthAt, HandedOver}
 use Rattle.rota.proofs.Minutes.{known-below, portion-own, portion-other, worked-over, part-le, worked-le}
@@ -228,18 +230,9 @@ module _ (P : Plan) (S : PlanSound P) (o : List ℕ) (D : Derived) (J : InStep P
 
 pub row-put : (v w a e people len : ℕ) (ws : List ℕ) → 1 ≤ people → people ≤ 32 → len ≤ 1024 → e ≤ len → 16 * people ≤ length ws
     → knownBy people w ≡ true → (w ≡ nobody → ⊥) → rowStretchOf v ws people w len a e ≡ setFor v w a e ws
-unfolding rowStretchOf wordsAs rowStretchNo rowNo peopleOk setFor
+unfolding setFor
 row-put v w a e people len ws h1 h2 h3 h4 h5 k n =
-    simp (
-      le-leb 1 people h1,
-      le-leb people 32 h2,
-      le-leb len 1024 h3,
-      le-leb (16 * people) (length ws) h5,
-      lt-ltb w people (known-below people w k n),
-      le-leb e len h4,
-      mathlib.Core.Bool.or-true (leb e a),
-      ne-eqb w nobody n,
-    )
+    simp (ne-eqb w nobody n) (stretch-puts v ws people w len a e (row-ok ws people w len (known-below people w k n) h2 h3 h5) h4)
 
 pub row-none : (v w a e : ℕ) (ws : List ℕ) → w ≡ nobody → ws ≡ setFor v w a e ws
 unfolding setFor

@@ -7,6 +7,7 @@ use borrow.Author.Tests.{le-ltb, lt-ltb, leb-true}
 use lib.Dec.{ltb, leb}
 use lib.ListN.{length, getD}
 use Rattle.paper.specs.Limits.{countsOk}
+use Rattle.paper.specs.Rows.{unless}
 use Rattle.slotset.specs.declared.Number.the-variants as number
 use Rattle.slotset.specs.Answers.{numberAs}
 use Rattle.rota.specs.Derived.{knownBy}
@@ -44,7 +45,7 @@ cast-t14 c =
     omega (arith, (at-shared-slice-known2 .given) (at-args .slot))
 
 returns : tie.Need-returns
-unfolding ownerIs numberAs
+unfolding ownerIs numberAs unless
 returns c =
     let at-args = c .before .before .before .before .before .before .before .before .args in
     let at-ground = c .before .before .before .before .before .ground in
@@ -59,7 +60,7 @@ returns c =
     (lt-ltb _ _ (at-if2 .taken)) (sym (at-known-by .ensures) ∙ (c .if3 .taken))) refl
 
 returns-2 : tie.Need-returns-2
-unfolding ownerIs numberAs
+unfolding ownerIs numberAs unless
 returns-2 c =
     let at-args = c .before .before .before .before .before .before .before .before .args in
     let at-ground = c .before .before .before .before .before .ground in
@@ -74,7 +75,7 @@ returns-2 c =
     (at-if2 .taken)) (sym (at-known-by .ensures) ∙ (c .if3 .left)))
 
 returns-3 : tie.Need-returns-3
-unfolding ownerIs numberAs
+unfolding ownerIs numberAs unless
 returns-3 c =
     let at-args = c .before .before .before .before .before .args in
     let at-ground = c .before .before .ground in
@@ -87,7 +88,7 @@ returns-3 c =
     && knownBy (at-args .people) (getD (at-args .owners .now) (at-args .slot) 0)) (le-ltb _ _ (c .if2 .left)))
 
 returns-4 : tie.Need-returns-4
-unfolding ownerIs numberAs
+unfolding ownerIs numberAs unless
 returns-4 c =
     let at-args = c .before .before .before .before .args in
     let at-ground = c .before .ground in

@@ -7,6 +7,7 @@ use lib.Dec.{leb}
 use lib.ListN.{length}
 use Rattle.paper.specs.Limits.{countsOk}
 use Rattle.paper.specs.Count.{all}
+use Rattle.paper.specs.Rows.{unless}
 use Rattle.slotset.specs.declared.Number.the-variants as number
 use Rattle.slotset.specs.Answers.{numberAs}
 use Rattle.rota.specs.Recount.{knownAt}
@@ -32,7 +33,7 @@ first-unknown-requires c κs =
     .taken)) .1)
 
 returns : tie.Need-returns
-unfolding unassignedIs numberAs
+unfolding unassignedIs numberAs unless
 returns c =
     let at-args = c .before .before .before .before .before .before .args in
     let at-ground = c .before .before .before .ground in
@@ -55,7 +56,7 @@ count-nobody-requires c κs =
     .taken)) .1)
 
 returns-2 : tie.Need-returns-2
-unfolding unassignedIs numberAs
+unfolding unassignedIs numberAs unless
 returns-2 c =
     let at-args = c .before .before .before .before .before .before .before .args in
     let at-ground = c .before .before .before .before .ground in
@@ -71,7 +72,7 @@ returns-2 c =
     (at-count-nobody .ensures)
 
 returns-3 : tie.Need-returns-3
-unfolding unassignedIs numberAs
+unfolding unassignedIs numberAs unless
 returns-3 c =
     let at-args = c .before .before .before .before .args in
     let at-ground = c .before .ground in
