@@ -6,10 +6,10 @@ use on_call::constraints::Constraint;
 use on_call::model::problem::Problem;
 use on_call::timerange::TimeRange;
 
+use crate::bits::put_bit;
 use crate::days::{instant, minute_of};
 use crate::limits::{MINUTES_MOST, PEOPLE_MOST, RANGES_MOST, SLOTS_MOST};
 use crate::seed::Seed;
-use crate::sets::put_bit;
 
 /// A range of one person.
 #[derive(Debug, Clone, Copy, PartialEq, Eq)]

@@ -1,6 +1,6 @@
 //! A whole job: what a rota is made of and the draws to be played, in one file; and its listing.
 
-use crate::assignment::Draw;
+use crate::draw::Draw;
 use crate::lent;
 use crate::refusal::Refusal;
 use crate::settings::Settings;

@@ -31,6 +31,7 @@
 
 mod assignment;
 mod availability;
+mod draw;
 mod exports;
 mod job;
 pub mod lent;
@@ -42,8 +43,9 @@ mod slots;
 mod targets;
 mod units;
 
-pub use assignment::{Answer, Assignment, Draw};
+pub use assignment::{Answer, Assignment};
 pub use availability::Availability;
+pub use draw::Draw;
 pub use job::{run_job, Job, LISTING_MOST};
 pub use problem::Problem;
 pub use refusal::{NoRefusal, Refusal};
