@@ -3,6 +3,7 @@
 use super::inputs::{all_able, partly_able, shuffled, Rota, Set};
 use super::job::job;
 use super::prepare::{prepare, prepare_all};
+use super::refused::{refused, Lent};
 use super::rota::{from_slots, no_draws, play, recount};
 use super::set::{count, next_set, run_bounds};
 use super::Row;
@@ -49,6 +50,13 @@ pub const ROWS: &[Named] = &[
     ("run_bounds, full", |_| run_bounds(full())),
     ("count, sparse", |_| count(sparse())),
     ("count, full", |_| count(full())),
+    ("1 for a million slots, demand", |_| refused(Lent::demand)),
+    ("1 for a million slots, availability", |_| refused(Lent::availability)),
+    ("1 for a million slots, freeze_before", |_| refused(Lent::freeze_before)),
+    ("1 for a million slots, covered_days", |_| refused(Lent::covered_days)),
+    ("1 for a million slots, from_slots", |_| refused(Lent::made_from_slots)),
+    ("1 for a million slots, play", |_| refused(Lent::play)),
+    ("1 for a million slots, uncovered_minutes", |_| refused(Lent::uncovered_minutes)),
     ("a whole job at every limit", |_| job(JobCase::at_every_limit())),
 ];
 
