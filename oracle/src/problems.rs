@@ -374,13 +374,14 @@ pub fn problem_within(seed: &mut Seed) -> Option<(ProblemCase, Problem)> {
 #[cfg(test)]
 mod tests {
     use super::problem_case;
+    use crate::limits::SLOTS_MOST;
     use crate::seed::Seed;
 
     /// The generators make problems that the Rust builds, most of them within the library's limits.
     #[test]
     fn problems_are_built() {
         let built = (0..300).map(|k| problem_case(&mut Seed::new(k)).rust());
-        let within = built.filter(|problem| problem.slot_count() <= 1024).count();
+        let within = built.filter(|problem| problem.slot_count() <= SLOTS_MOST).count();
         assert!((200..300).contains(&within), "{within}");
     }
 }
