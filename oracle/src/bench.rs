@@ -3,6 +3,7 @@
 mod inputs;
 mod job;
 mod prepare;
+mod refused;
 mod rota;
 mod rows;
 mod set;

@@ -289,7 +289,7 @@ fn uneven_unit(seed: &mut Seed, job: &mut JobCase) -> bool {
     let unit = problem.units[seed.pick(&wide)].clone();
     let slot = seed.within(unit.start as u64, unit.end as u64 - 1) as usize;
     let people = problem.human_count() as u64;
-    let other = seed.pick(&[0, people - 1, people, 255, 256, 511]) as u16;
+    let other = seed.pick(&[0, people - 1, people, u64::from(NOBODY), 256, 511]) as u16;
     if other == owner_of(job, slot) {
         return false;
     }
@@ -302,8 +302,8 @@ fn slot_past_the_end(seed: &mut Seed, job: &mut JobCase) -> bool {
         return false;
     };
     let count = problem.slot_count();
-    let slot = seed.pick(&[count, count + 1, 1024, 65_535]).max(count);
-    let owner = seed.pick(&[0, 255, 65_535]);
+    let slot = seed.pick(&[count, count + 1, SLOTS_MOST, 65_535]).max(count);
+    let owner = seed.pick(&[0, u16::from(NOBODY), 65_535]);
     give(job, slot..slot + 1, owner);
     true
 }

@@ -2,10 +2,10 @@
 
 use on_call::model::problem::Problem;
 
+use crate::bits::put_bit;
 use crate::limits::SET_WORDS;
 use crate::problems::{availability_into, unit_masks_of, unit_starts_of, ProblemCase, Settings};
 use crate::seed::Seed;
-use crate::sets::put_bit;
 use crate::table::{damage_settings, lowest, people_ok, settings_ok, words_ok, Slots, Units};
 
 /// What is lent and asked. Availability and frozen slots have any bits past the last slot.

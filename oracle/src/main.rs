@@ -1,6 +1,7 @@
 //! The Rust as oracle. `oracle/compare` builds both sides and runs `oracle compare`.
 
 mod bench;
+mod bits;
 mod call;
 mod days;
 mod figures;
@@ -14,6 +15,7 @@ mod problems;
 mod program;
 mod readers;
 mod recounts;
+mod rota_questions;
 mod rotas;
 mod rotations;
 mod search;
@@ -61,8 +63,8 @@ const KINDS: [Kind; 15] = [
     kind("units-damaged", units::damaged),
     kind("targets", targets::questions),
     kind("targets-damaged", targets::damaged),
-    kind("rotas", rotas::questions),
-    kind("rotas-damaged", rotas::damaged),
+    kind("rotas", rota_questions::questions),
+    kind("rotas-damaged", rota_questions::damaged),
     kind("jobs", jobs::questions),
     kind("jobs-damaged", jobs::damaged),
 ];
@@ -139,8 +141,13 @@ fn main() -> ExitCode {
 /// Writes stored answers of a kind into the folder of the program that compares them: what it reads, and what it must then write.
 fn store(kind: &str, n: u64, seed: u64, folder: &Path) -> ExitCode {
     let made = match kind {
+        "slot-sets" => Ok(stored::slot_sets(n, seed)),
+        "targets" => Ok(stored::targets(n, seed)),
+        "slots" => Ok(stored_slots::slots(n, seed)),
+        "units" => Ok(stored_units::units(n, seed)),
+        "rotas" => Ok(stored_rotas::rotas(n, seed)),
         "jobs" => stored_jobs::jobs(n, seed),
-        _ => stored::of_kind(kind, n, seed).ok_or_else(|| format!("no kind {kind}")),
+        _ => Err(format!("no kind {kind}")),
     };
     let stored = match made {
         Ok(stored) => stored,

@@ -6,10 +6,10 @@ use on_call::constraints::Constraint;
 use on_call::model::problem::Problem;
 use on_call::timerange::TimeRange;
 
+use crate::bits::put_bit;
 use crate::days::{instant, minute_of};
 use crate::limits::{MINUTES_MOST, PEOPLE_MOST, RANGES_MOST, SLOTS_MOST};
 use crate::seed::Seed;
-use crate::sets::put_bit;
 
 /// A range of one person.
 #[derive(Debug, Clone, Copy, PartialEq, Eq)]
@@ -374,13 +374,14 @@ pub fn problem_within(seed: &mut Seed) -> Option<(ProblemCase, Problem)> {
 #[cfg(test)]
 mod tests {
     use super::problem_case;
+    use crate::limits::SLOTS_MOST;
     use crate::seed::Seed;
 
     /// The generators make problems that the Rust builds, most of them within the library's limits.
     #[test]
     fn problems_are_built() {
         let built = (0..300).map(|k| problem_case(&mut Seed::new(k)).rust());
-        let within = built.filter(|problem| problem.slot_count() <= 1024).count();
+        let within = built.filter(|problem| problem.slot_count() <= SLOTS_MOST).count();
         assert!((200..300).contains(&within), "{within}");
     }
 }

@@ -3,11 +3,11 @@
 use on_call::model::problem::Problem;
 use on_call::model::Assignment;
 
+use crate::bits::{has_bit, put_bit};
 use crate::call::{bytes16, bytes32, bytes64, Arg, Outcome, Question};
 use crate::limits::{NOBODY, SET_WORDS};
 use crate::rotas::{played, LentRota, RotaCase};
 use crate::seed::Seed;
-use crate::sets::{has_bit, put_bit};
 
 /// Recounts of some rotas that are changed in one place, where it may matter or not; and an empty rota.
 pub fn questions(seed: &mut Seed, case: &RotaCase, lent: &LentRota) -> Vec<Question> {

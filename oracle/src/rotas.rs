@@ -6,13 +6,11 @@ use on_call::model::Assignment;
 use on_call::search::moves::MoveGenerator;
 use rand::Script;
 
+use crate::bits::put_bit;
 use crate::call::{bytes16, bytes32, bytes64, Arg, Outcome, Question};
 use crate::limits::{DRAWS_MOST, MINUTES_MOST, NOBODY, PEOPLE_MOST, SET_WORDS, SLOTS_MOST};
 use crate::problems::{availability_into, slots_of, unit_starts_of, Person, ProblemCase, Range, Settings};
-use crate::readers;
-use crate::recounts;
 use crate::seed::Seed;
-use crate::sets::put_bit;
 
 /// Three numbers a draw.
 pub type Draw = (u16, u16, u16);
@@ -302,7 +300,7 @@ impl LentRota {
     }
 
     /// A play, of draws in three columns and of the same draws as structs: what both leave, or a refusal that leaves everything as it was.
-    fn plays(&self, due: Result<&Played, u64>) -> Vec<Question> {
+    pub fn plays(&self, due: Result<&Played, u64>) -> Vec<Question> {
         let mut after = self.clone();
         let mut result = 0;
         match due {
@@ -377,21 +375,6 @@ pub fn sets_into(words: &mut [u64], people: usize, owners: &[u8]) {
     }
 }
 
-/// A play of all draws of a rota; sets and minutes made from its owners; one slot assigned; recounts; single questions.
-pub fn questions(case_seed: u64) -> Vec<Question> {
-    let mut seed = Seed::new(case_seed);
-    let case = RotaCase::new(&mut seed);
-    let lent = LentRota::new(&mut seed, &case);
-    let mut asked = lent.plays(Ok(&case.play()));
-    asked.push(lent.made_from_slots(&mut seed, &case));
-    for _ in 0..3 {
-        asked.push(lent.assign(&mut seed, &case));
-    }
-    asked.extend(recounts::questions(&mut seed, &case, &lent));
-    asked.extend(readers::questions(&mut seed, &case, &lent));
-    asked
-}
-
 impl LentRota {
     /// What every entry on a rota takes first.
     pub fn ground(&self) -> Vec<Arg> {
@@ -404,7 +387,7 @@ impl LentRota {
     }
 
     /// Sets and minutes from owners that are available, over whatever stood there.
-    fn made_from_slots(&self, seed: &mut Seed, case: &RotaCase) -> Question {
+    pub fn made_from_slots(&self, seed: &mut Seed, case: &RotaCase) -> Question {
         let mut rota = self.clone();
         rota.sets.fill_with(|| seed.word());
         rota.minutes.fill_with(|| seed.word());
@@ -427,7 +410,7 @@ impl LentRota {
     }
 
     /// A slot assigned to somebody or cleared. The Rust has no answer for one who is not available, or an unknown one or slot: 12, 11.
-    fn assign(&self, seed: &mut Seed, case: &RotaCase) -> Question {
+    pub fn assign(&self, seed: &mut Seed, case: &RotaCase) -> Question {
         let slots = self.starts.len();
         let slot = if seed.one_in(12) {
             slots + seed.below(3) as usize
@@ -466,78 +449,6 @@ impl LentRota {
             },
         }
     }
-}
-
-/// Rotas with one fault: in what was lent, or of the recount. The numbers are the paper's, each the only one that is due: of a play, of the
-/// recount, of the recount without units, and of an empty rota. An entry that doesn't take the damaged thing has none.
-pub fn damaged(case_seed: u64) -> Vec<Question> {
-    let mut seed = Seed::new(case_seed);
-    let case = RotaCase::new(&mut seed);
-    let mut lent = LentRota::new(&mut seed, &case);
-    let slots = case.problem.slot_count();
-    let slot = seed.below(slots as u64) as usize;
-    let person = seed.below(lent.people as u64) as usize;
-    let [play, recount, recount_slots, empty] = match seed.below(13) {
-        0 => {
-            lent.people = seed.pick(&[0, 33, usize::MAX]);
-            [1, 1, 1, 1]
-        }
-        1 => {
-            lent.owners.truncate(slots - 1);
-            [2, 2, 2, 2]
-        }
-        2 => {
-            lent.sets.truncate(SET_WORDS * lent.people - 1);
-            [2, 2, 2, 2]
-        }
-        3 => {
-            lent.ends[slot] = lent.starts[slot];
-            [9, 9, 9, 0]
-        }
-        4 => {
-            lent.firsts[0] = 1;
-            [9, 9, 0, 0]
-        }
-        5 => {
-            lent.units = 0;
-            [9, 9, 0, 0]
-        }
-        6 => {
-            lent.owners[slot] = lent.people as u8 + seed.below(254 - lent.people as u64) as u8;
-            [10, 10, 10, 0]
-        }
-        7 => {
-            let word = &mut lent.sets[SET_WORDS * person + slot / 64];
-            *word ^= 1 << (slot % 64);
-            [10, 10, 10, 0]
-        }
-        8 => {
-            lent.minutes[person] ^= 1 << seed.below(64);
-            [10, 10, 10, 0]
-        }
-        9 => {
-            lent.count = seed.pick(&[DRAWS_MOST + 1, usize::MAX]);
-            [1, 0, 0, 0]
-        }
-        10 => {
-            lent.count = (lent.count + 1).min(DRAWS_MOST);
-            lent.draws.truncate(lent.count - 1);
-            [2, 0, 0, 0]
-        }
-        11 => {
-            lent.firsts.truncate(lent.units - 1);
-            [2, 2, 0, 0]
-        }
-        _ => {
-            lent.starts.clear();
-            [1, 1, 1, 1]
-        }
-    };
-    let mut asked = lent.plays(Err(play));
-    asked.push(recounts::with_units(&lent, recount));
-    asked.push(recounts::without_units(&lent, recount_slots));
-    asked.push(recounts::empty(&case, &lent, empty));
-    asked
 }
 
 #[cfg(test)]

@@ -2,6 +2,7 @@
 
 use on_call::model::assignment::SlotSet;
 
+use crate::bits::{has_bit, put_bit};
 use crate::call::{bytes64, Arg, Outcome, Question};
 use crate::limits::{NOTHING, PEOPLE_MOST, SET_WORDS, SLOTS_MOST};
 use crate::seed::Seed;
@@ -57,22 +58,6 @@ impl SetCase {
             put_bit(&mut words, 0, i, set.contains(i));
         }
         words
-    }
-}
-
-/// Whether a slot is in a person's row.
-pub fn has_bit(words: &[u64], person: usize, slot: usize) -> bool {
-    words[SET_WORDS * person + slot / 64] >> (slot % 64) & 1 == 1
-}
-
-/// Puts a slot into a person's row, or takes it out.
-pub fn put_bit(words: &mut [u64], person: usize, slot: usize, value: bool) {
-    let mask = 1u64 << (slot % 64);
-    let word = &mut words[SET_WORDS * person + slot / 64];
-    if value {
-        *word |= mask;
-    } else {
-        *word &= !mask;
     }
 }
 

@@ -4,9 +4,6 @@ use crate::figures::{targets_by, FigureCase, WRONG};
 use crate::limits::SLOTS_MOST;
 use crate::seed::Seed;
 use crate::sets::{index, next_run, next_unset_after, prev_unset_before, SetCase};
-use crate::stored_rotas;
-use crate::stored_slots;
-use crate::stored_units;
 
 /// Nothing found, in a record.
 const NOTHING: usize = 65_535;
@@ -29,18 +26,6 @@ impl Stored {
     }
 }
 
-/// The records of a kind, by its name.
-pub fn of_kind(kind: &str, n: u64, run: u64) -> Option<Stored> {
-    match kind {
-        "slot-sets" => Some(slot_sets(n, run)),
-        "targets" => Some(targets(n, run)),
-        "slots" => Some(stored_slots::slots(n, run)),
-        "units" => Some(stored_units::units(n, run)),
-        "rotas" => Some(stored_rotas::rotas(n, run)),
-        _ => None,
-    }
-}
-
 /// Tries seed after seed of this name until n records are made. `make` has the seed and how many there are by then, and answers whether it
 /// made one.
 pub fn records(n: u64, run: u64, name: &str, mut make: impl FnMut(&mut Seed, u64) -> bool) {
@@ -56,7 +41,7 @@ pub fn records(n: u64, run: u64, name: &str, mut make: impl FnMut(&mut Seed, u64
 /// index with contains, next_set, prev_set, next_unset_after, prev_unset_before, and the ends of the run that holds it and of the next run
 /// from it on; then, each with all words after it, the index of an insert and of a remove, and the two ends of a stretch put in and of one
 /// taken out. Nothing is 65,535.
-fn slot_sets(n: u64, run: u64) -> Stored {
+pub fn slot_sets(n: u64, run: u64) -> Stored {
     let mut bytes = Vec::new();
     records(n, run, "stored-slot-sets", |seed, _| {
         let case = SetCase::new(seed);
@@ -72,7 +57,7 @@ fn slot_sets(n: u64, run: u64) -> Stored {
 /// Records of targets, of at most eight people and six slots. A record is, low byte first: people, slots and fairness as u16; six starts
 /// and six ends as u32; eight u16 of slots that a person can cover; eight capacities as one u32 divided by another; eight prior minutes as
 /// u32; eight targets as u32, with 2 ^ 31 added. Some of the cases are looked for: those that tell a wrong rule from the Rust's.
-fn targets(n: u64, run: u64) -> Stored {
+pub fn targets(n: u64, run: u64) -> Stored {
     let mut bytes = Vec::new();
     let mut told = [0u64; WRONG.len()];
     let mut plain = n - TELLING * WRONG.len() as u64;

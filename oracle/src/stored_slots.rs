@@ -3,11 +3,11 @@
 
 use on_call::model::problem::Problem;
 
+use crate::bits::put_bit;
 use crate::days::instant;
 use crate::limits::{MINUTES_MOST, SET_WORDS, SLOTS_MOST};
 use crate::problems::{availability_into, problem_case, slots_of, ProblemCase, Range};
 use crate::seed::Seed;
-use crate::sets::put_bit;
 use crate::splitting::{merged_of, LentProblem};
 use crate::stored::{filled16, filled32, half, records, words, Stored};
 use crate::table::{lowest, people_ok, words_ok, Ranges, Slots};

@@ -1,11 +1,11 @@
 //! Targets through the library: people's figures, availability and slots, and the Rust's targets.
 
+use crate::bits::put_bit;
 use crate::call::{bytes32, bytes64, bytes_i64, Arg, Outcome, Question};
 use crate::figures::FigureCase;
 use crate::limits::{MINUTES_MOST, PEOPLE_MOST, SET_WORDS};
 use crate::problems::Person;
 use crate::seed::Seed;
-use crate::sets::put_bit;
 use crate::table::{figures_ok, lowest, people_ok, words_ok, Slots};
 
 /// What is lent to work out targets.

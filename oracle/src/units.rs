@@ -2,6 +2,7 @@
 
 use on_call::model::problem::Problem;
 
+use crate::bits::put_bit;
 use crate::call::{bytes16, bytes32, bytes64, Arg, Outcome, Question};
 use crate::days::instant;
 use crate::lent_units::{lent, DueUnits, LentUnits};
@@ -9,7 +10,6 @@ use crate::limits::{NOTHING, SET_WORDS};
 use crate::problems::{availability_into, problem_within, slots_of, unit_masks_of, unit_starts_of};
 use crate::rotations::settings_args;
 use crate::seed::Seed;
-use crate::sets::put_bit;
 use crate::table::Slots;
 
 /// A call that writes minutes through an address.

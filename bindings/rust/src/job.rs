@@ -1,7 +1,7 @@
 //! A whole job: what a rota is made of and the draws to be played, in one file; and its listing.
 
-use crate::assignment::Draw;
-use crate::lent;
+use crate::draw::Draw;
+use crate::lent::{self, NOBODY};
 use crate::refusal::Refusal;
 use crate::settings::Settings;
 use crate::slots::{Range, Slot};
@@ -67,8 +67,8 @@ fn narrow(number: usize) -> u16 {
 /// An owner as the file has it: 255 is nobody, so person 255, who is unknown, is written as another unknown one.
 fn owner_number(owner: Option<usize>) -> u16 {
     match owner.map(narrow) {
-        None => 255,
-        Some(255) => 256,
+        None => u16::from(NOBODY),
+        Some(person) if person == u16::from(NOBODY) => person + 1,
         Some(person) => person,
     }
 }

@@ -138,7 +138,7 @@
 //! ```
 #![allow(clippy::too_many_arguments)]
 
-use crate::assignment::Draw;
+use crate::draw::Draw;
 use crate::exports::{export, exports};
 use crate::refusal::Refusal;
 

@@ -32,6 +32,7 @@
 
 mod assignment;
 mod availability;
+mod draw;
 mod exports;
 mod job;
 mod job_text;
@@ -45,8 +46,9 @@ mod targets;
 mod units;
 mod weekdays;
 
-pub use assignment::{Answer, Assignment, Draw};
+pub use assignment::{Answer, Assignment};
 pub use availability::Availability;
+pub use draw::Draw;
 pub use job::{run_job, Job, LISTING_MOST};
 pub use job_text::JobTextError;
 pub use problem::Problem;

@@ -1,5 +1,6 @@
 //! Refusals, and what lies past the ends, through the lent slices.
 
+use boltraven::lent::{SET_WORDS, SLOTS_MOST};
 use boltraven::{lent, Refusal, LISTING_MOST};
 
 const SPARE: u64 = 0xa5a5_a5a5_a5a5_a5a5;
@@ -11,7 +12,7 @@ const ENDS: [u32; 2] = [60, 120];
 fn avail() -> Vec<u64> {
     let mut words = vec![SPARE; 33];
     words[0] = SPARE | 0b11;
-    words[16] = (SPARE | 0b10) & !0b01;
+    words[SET_WORDS] = (SPARE | 0b10) & !0b01;
     words
 }
 
@@ -36,7 +37,7 @@ fn every_refusal_has_its_number_and_sentence() {
 
 #[test]
 fn the_lowest_number_is_heard() {
-    let words = [0; 16];
+    let words = [0; SET_WORDS];
     assert_eq!(lent::contains(&words, 0, 0, 2000, 0), Err(Refusal::Count));
     assert_eq!(lent::contains(&words[..3], 1, 9, 64, 0), Err(Refusal::ShortBuffer));
     assert_eq!(lent::contains(&words, 1, 1, 64, 0), Err(Refusal::Unknown));
@@ -47,7 +48,7 @@ fn the_lowest_number_is_heard() {
 
 #[test]
 fn each_number_of_slots_and_targets_comes_through() {
-    let (mut froms, mut tos) = (vec![7; 1024], vec![7; 1024]);
+    let (mut froms, mut tos) = (vec![7; SLOTS_MOST], vec![7; SLOTS_MOST]);
     let mut atomise = |starts: &[u32], ends: &[u32], person: u16| {
         lent::atomise(starts.len(), starts, ends, 1, 1, &[person], &[30], &[90], &mut froms, &mut tos)
     };
@@ -57,9 +58,9 @@ fn each_number_of_slots_and_targets_comes_through() {
     assert_eq!(froms[..5], [0, 30, 60, 90, 7]);
     assert_eq!(tos[..5], [30, 60, 90, 120, 7]);
 
-    let bases: Vec<u32> = (0..1024).map(|k| 10 * k).collect();
+    let bases: Vec<u32> = (0..SLOTS_MOST as u32).map(|k| 10 * k).collect();
     let ends: Vec<u32> = bases.iter().map(|start| start + 10).collect();
-    let many = lent::atomise(1024, &bases, &ends, 1, 1, &[0], &[5], &[6], &mut froms, &mut tos);
+    let many = lent::atomise(SLOTS_MOST, &bases, &ends, 1, 1, &[0], &[5], &[6], &mut froms, &mut tos);
     assert_eq!(many, Err(Refusal::TooManySlots));
     assert_eq!(froms[..5], [0, 30, 60, 90, 7]);
 
@@ -82,8 +83,8 @@ fn a_rota_keeps_what_lies_past_its_ends() {
     let made = lent::from_slots(2, 2, &STARTS, &ENDS, &avail(), &owners, &mut sets, &mut minutes);
     assert_eq!(made, Ok(()));
     assert_eq!(minutes, [120, 0, SPARE]);
-    assert_eq!((sets[0], sets[16]), (SPARE | 0b11, SPARE & !0b11));
-    assert!(sets.iter().enumerate().all(|(k, &word)| k == 0 || k == 16 || word == SPARE));
+    assert_eq!((sets[0], sets[SET_WORDS]), (SPARE | 0b11, SPARE & !0b11));
+    assert!(sets.iter().enumerate().all(|(k, &word)| k == 0 || k == SET_WORDS || word == SPARE));
 
     // Person 1 can't have slot 0, and there is no slot 2: nothing changes.
     let before = (owners.clone(), sets.clone(), minutes.clone());
@@ -94,7 +95,7 @@ fn a_rota_keeps_what_lies_past_its_ends() {
     }
 
     let mut answers = [9; 4];
-    let frozen = [SPARE & !0b11; 16];
+    let frozen = [SPARE & !0b11; SET_WORDS];
     let mut play = |owners: &mut [u8], minutes: &mut [u64]| {
         let (kinds, ones, twos) = ([0, 100, 35], [1, 0, 0], [1, 0, 9]);
         lent::play(
@@ -164,7 +165,7 @@ fn a_job_is_listed_or_refused_whole() {
 
 #[test]
 fn numbers_beside_a_result_stay_where_there_is_none() {
-    let words = [0; 16];
+    let words = [0; SET_WORDS];
     let (mut first, mut last, mut next) = (SPARE, SPARE, SPARE);
     assert_eq!(lent::run_bounds(&words, 1, 0, 64, 3, &mut first, &mut last), Ok(false));
     assert_eq!(lent::next_run(&words, 1, 0, 64, 0, &mut first, &mut last, &mut next), Ok(false));

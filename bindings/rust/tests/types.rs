@@ -1,5 +1,6 @@
 //! The types above the lent slices: refusals of what a caller passes, and sizes at their limits.
 
+use boltraven::lent::SLOTS_MOST;
 use boltraven::{
     Answer, Assignment, Availability, Boundary, Draw, Fairness, Job, Person, Problem, Range, Refusal, Settings, Slot, SlotSet, Slots,
     Weekday,
@@ -174,15 +175,15 @@ fn a_rota_of_another_problem_is_refused() {
 
 #[test]
 fn sets_end_at_their_length() {
-    let mut set = SlotSet::new(1024).expect("the longest set");
-    assert_eq!(set.insert_stretch(1000..1024), Ok(()));
+    let mut set = SlotSet::new(SLOTS_MOST).expect("the longest set");
+    assert_eq!(set.insert_stretch(1000..SLOTS_MOST), Ok(()));
     assert_eq!(set.insert_stretch(1000..1025), Err(Refusal::Unknown));
     assert_eq!(set.remove(1010), Ok(()));
     assert_eq!(set.runs().collect::<Vec<_>>(), [(1000, 1009), (1011, 1023)]);
     assert_eq!(set.iter().count(), set.count());
-    assert_eq!((set.next_set(1024), set.prev_set(usize::MAX)), (None, Some(1023)));
+    assert_eq!((set.next_set(SLOTS_MOST), set.prev_set(usize::MAX)), (None, Some(SLOTS_MOST - 1)));
     assert_eq!((set.next_unset_after(1011), set.prev_unset_before(1011)), (None, Some(1010)));
-    assert_eq!(set.remove_stretch(0..1024), Ok(()));
+    assert_eq!(set.remove_stretch(0..SLOTS_MOST), Ok(()));
     assert!(set.is_empty());
     let none = SlotSet::new(0).expect("a set of no slots");
     assert_eq!((none.next_set(0), none.prev_set(0), none.run_bounds(0)), (None, None, None));

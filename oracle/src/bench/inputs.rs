@@ -3,12 +3,12 @@
 use on_call::model::assignment::SlotSet;
 use on_call::model::problem::Problem;
 
+use crate::bits::put_bit;
 use crate::days::instant;
 use crate::limits::{DRAWS_MOST, NOBODY, PEOPLE_MOST, SET_WORDS, SLOTS_MOST};
 use crate::problems::{slots_of, Person, ProblemCase, Range, Settings};
 use crate::rotas::{Draw, LentRota, RotaCase};
 use crate::seed::Seed;
-use crate::sets::put_bit;
 
 /// Minutes of a base slot.
 const BASE: u32 = 720;

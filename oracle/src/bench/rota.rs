@@ -9,9 +9,9 @@ use on_call::model::Assignment;
 
 use super::inputs::Rota;
 use super::{row, Row, Side};
+use crate::bits::has_bit;
 use crate::limits::NOBODY;
 use crate::rotas::{self, LentRota};
-use crate::sets::has_bit;
 
 /// What is to be seen of a rota.
 #[derive(PartialEq)]

@@ -3,10 +3,12 @@
 use super::inputs::{all_able, partly_able, shuffled, Rota, Set};
 use super::job::job;
 use super::prepare::{prepare, prepare_all};
+use super::refused::{refused, Lent};
 use super::rota::{from_slots, no_draws, play, recount};
 use super::set::{count, next_set, run_bounds};
 use super::Row;
 use crate::jobs::JobCase;
+use crate::limits::SLOTS_MOST;
 use crate::seed::Seed;
 
 /// A row by its name.
@@ -16,39 +18,48 @@ pub type Named = (&'static str, fn(u64) -> Row);
 pub const ROWS: &[Named] = &[
     ("prepare, 64 slots", |seed| prepare(&partly_able(&mut Seed::new(seed), 64))),
     ("prepare, 256 slots", |seed| prepare(&partly_able(&mut Seed::new(seed), 256))),
-    ("prepare, 1,024 slots", |seed| prepare(&partly_able(&mut Seed::new(seed), 1024))),
+    ("prepare, 1,024 slots", |seed| {
+        prepare(&partly_able(&mut Seed::new(seed), SLOTS_MOST))
+    }),
     ("prepare, 1,024 slots, ranges in any order", |seed| {
-        let case = partly_able(&mut Seed::new(seed), 1024);
+        let case = partly_able(&mut Seed::new(seed), SLOTS_MOST);
         prepare(&shuffled(&mut Seed::new(seed), case))
     }),
     ("prepare, 1,024 slots, all figures", |seed| {
-        prepare_all(&partly_able(&mut Seed::new(seed), 1024))
+        prepare_all(&partly_able(&mut Seed::new(seed), SLOTS_MOST))
     }),
     ("play, 64 slots", |seed| play(typical(seed, 64, 0, 1))),
     ("play, 256 slots", |seed| play(typical(seed, 256, 0, 1))),
-    ("play, 1,024 slots", |seed| play(typical(seed, 1024, 0, 1))),
-    ("play, 128 locked units of 8 slots", |seed| play(typical(seed, 1024, 1, 8))),
+    ("play, 1,024 slots", |seed| play(typical(seed, SLOTS_MOST, 0, 1))),
+    ("play, 128 locked units of 8 slots", |seed| play(typical(seed, SLOTS_MOST, 1, 8))),
     ("play, partial availability", |seed| {
         let mut seed = Seed::new(seed);
-        let case = partly_able(&mut seed, 1024);
+        let case = partly_able(&mut seed, SLOTS_MOST);
         play(Rota::typical(&mut seed, &case))
     }),
     ("play, one run of 1,024 slots", |seed| {
         let mut seed = Seed::new(seed);
-        let case = all_able(&mut seed, 1024, 0, 1);
+        let case = all_able(&mut seed, SLOTS_MOST, 0, 1);
         play(Rota::one_run(&mut seed, &case))
     }),
     ("recount, 64 slots", |seed| recount(typical(seed, 64, 0, 1))),
     ("recount, 256 slots", |seed| recount(typical(seed, 256, 0, 1))),
-    ("recount, 1,024 slots", |seed| recount(typical(seed, 1024, 0, 1))),
-    ("play, no draws, 1,024 slots", |seed| no_draws(typical(seed, 1024, 0, 1))),
-    ("from_slots, 1,024 slots", |seed| from_slots(typical(seed, 1024, 0, 1))),
+    ("recount, 1,024 slots", |seed| recount(typical(seed, SLOTS_MOST, 0, 1))),
+    ("play, no draws, 1,024 slots", |seed| no_draws(typical(seed, SLOTS_MOST, 0, 1))),
+    ("from_slots, 1,024 slots", |seed| from_slots(typical(seed, SLOTS_MOST, 0, 1))),
     ("next_set, sparse", |_| next_set(sparse())),
     ("next_set, full", |_| next_set(full())),
     ("run_bounds, sparse", |_| run_bounds(sparse())),
     ("run_bounds, full", |_| run_bounds(full())),
     ("count, sparse", |_| count(sparse())),
     ("count, full", |_| count(full())),
+    ("1 for a million slots, demand", |_| refused(Lent::demand)),
+    ("1 for a million slots, availability", |_| refused(Lent::availability)),
+    ("1 for a million slots, freeze_before", |_| refused(Lent::freeze_before)),
+    ("1 for a million slots, covered_days", |_| refused(Lent::covered_days)),
+    ("1 for a million slots, from_slots", |_| refused(Lent::made_from_slots)),
+    ("1 for a million slots, play", |_| refused(Lent::play)),
+    ("1 for a million slots, uncovered_minutes", |_| refused(Lent::uncovered_minutes)),
     ("a whole job at every limit", |_| job(JobCase::at_every_limit())),
 ];
 
