@@ -11,6 +11,8 @@ pub mod SlotRules
 pub mod UnitRules
 pub mod TargetRules
 pub mod TargetCases
+pub mod TargetFairness
+pub mod TargetGuard
 pub mod Marked
 pub mod RotaRules
 pub mod Rota

@@ -2,23 +2,24 @@
 use mathlib.Core.Path.{_≡_, refl, sym, ap, ap₂, _∙_}
 use mathlib.Core.Bool.{Bool, true, false, _&&_, cond}
 use mathlib.Core.List.{List}
-use Prim.Native.Nat.{ℕ, _*_, _≤_, _<_, zero-le}
+use Prim.Native.Nat.{ℕ, _≤_, _<_, zero-le}
 use native.Mathlib.Nat.{le-refl}
 use native.Mathlib.Omega.{arith}
 use borrow.Author.Tests.{le-leb, lt-ltb}
 use lib.Dec.{eqb}
-use lib.ListN.{length}
 use Rattle.paper.specs.Limits.{peopleOk}
+use Rattle.paper.specs.Rows.{unless}
 use Rattle.paper.specs.Count.{sum}
 use Rattle.paper.proofs.Count.{sum-mono}
-use Rattle.paper.proofs.Logic.{by-cond}
+use Rattle.paper.proofs.Logic.{by-cond, and-true}
 use Rattle.slots.specs.Lent.{minutesAt, slotsOk}
 use Rattle.slots.proofs.LentLaws.{demand-part}
 use Rattle.slotset.specs.declared.Told.{Told}
 use Rattle.slotset.specs.declared.Told.the-variants as told
 use Rattle.slotset.specs.Slots.{has}
 use Rattle.slotset.specs.Answers.{rowNo, rowSlots, toldAs}
-use Rattle.targets.specs.Available.{minutesIfAvailable, availableMinutes}
+use Rattle.slotset.proofs.Refusals.{says-row}
+use Rattle.targets.specs.Figures.{minutesIfAvailable, availableMinutes}
 use Rattle.targets.specs.Inside.{RowSound}
 use Rattle.targets.proofs.Loops.{differ}
 
@@ -47,15 +48,10 @@ available-fits slots starts ends avail person o = available-part slots starts en
 
 -- a row that can be asked is not refused
 row-asked : (people person slots : ℕ) (avail : List ℕ) → RowSound people person slots avail → rowNo avail people person slots ≡ 0
-unfolding rowNo peopleOk
+unfolding peopleOk
 row-asked people person slots avail s =
-    rw (
-      le-leb 1 people (s .somebody),
-      le-leb people 32 (s .few),
-      le-leb slots 1024 (s .slots-few),
-      le-leb (16 * people) (length avail) (s .words),
-      lt-ltb person people (s .known),
-    )
+    says-row avail people person slots (and-true _ _ (le-leb 1 people (s .somebody)) (le-leb people 32 (s .few))) (s .slots-few) (s .words)
+    (s .known)
 
 module _ (people person slots : ℕ) (starts ends avail : List ℕ) (k : ℕ) (s : RowSound people person slots avail) (h : k < slots)
     (t : Told) (e : t ≡ toldAs (rowNo avail people person slots) (has (rowSlots avail person) slots k)) where
@@ -68,7 +64,7 @@ module _ (people person slots : ℕ) (starts ends avail : List ℕ) (k : ℕ) (s
       (ap (λ (b : Bool). b && eqb (rowSlots avail person k) 1) (lt-ltb k slots h))
 
   pub told-yes : t ≡ told.Yes → {m : ℕ} → m ≡ minutesAt starts ends k → m ≡ minutesIfAvailable starts ends avail person k
-  unfolding toldAs
+  unfolding toldAs unless
   told-yes y q = q ∙ go (eqb (rowSlots avail person k) 1) (sym by-bit ∙ y)
     where
       go : (b : Bool) → toldAs 0 b ≡ told.Yes → minutesAt starts ends k ≡ cond b (minutesAt starts ends k) 0
@@ -76,7 +72,7 @@ module _ (people person slots : ℕ) (starts ends avail : List ℕ) (k : ℕ) (s
       go false w = let z : _≡_ {A = ℕ} 0 1 = cc in differ z
 
   pub told-no : t ≡ told.No → 0 ≡ minutesIfAvailable starts ends avail person k
-  unfolding toldAs
+  unfolding toldAs unless
   told-no y = go (eqb (rowSlots avail person k) 1) (sym by-bit ∙ y)
     where
       go : (b : Bool) → toldAs 0 b ≡ told.No → 0 ≡ cond b (minutesAt starts ends k) 0
@@ -84,7 +80,7 @@ module _ (people person slots : ℕ) (starts ends avail : List ℕ) (k : ℕ) (s
       go false w = refl
 
   pub told-refused : {n : ℕ} → t ≡ told.Refused n → ⊥
-  unfolding toldAs
+  unfolding toldAs unless
   told-refused {n} y = go (eqb (rowSlots avail person k) 1) (sym by-bit ∙ y)
     where
       go : (b : Bool) → toldAs 0 b ≡ told.Refused n → ⊥
