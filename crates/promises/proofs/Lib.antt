@@ -15,6 +15,8 @@ pub mod UnitRules
 pub mod TargetRules
 pub mod PassesRule
 pub mod TargetCases
+pub mod TargetFairness
+pub mod TargetGuard
 pub mod Marked
 pub mod RotaRules
 pub mod Rota

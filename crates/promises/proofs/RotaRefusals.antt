@@ -16,7 +16,7 @@ use Rattle.slotset.proofs.Refusals.{number-said}
 use Rattle.slots.specs.Lent.{slotRoomOk, slotsOk, minutesNo}
 use Rattle.slots.proofs.LentLaws.{minutes-said}
 use Rattle.targets.specs.Outcome as targets
-use Rattle.targets.proofs.Promises.{number-row, refused-keeps, eight-says}
+use Rattle.targets.proofs.Promises.{number-row, refused-keeps}
 use Rattle.rota.specs.Derived.{Plan, Derived, derived, knownBy, afresh, setsFrom, nobodies, unassigned, uncovered}
 use Rattle.rota.specs.Recount.{knownAt}
 use Rattle.rota.specs.Entries as rota
@@ -25,6 +25,7 @@ use Rattle.promises.specs.Table.{rules, Hears, Refuses}
 use Rattle.promises.specs.Refusals.{TargetsRefuse, fromSlotsTable, assignTable, recountSlotsTable}
 use Rattle.promises.specs.Refusals.{recountTable, playTable, emptyTable, ownersTable, Lent, left, RotaRefuses}
 use Rattle.promises.proofs.Table.{rising, tests-heard, heard-as}
+use Rattle.promises.proofs.TargetGuard.{eight-says}
 
 -- ---- targets
 

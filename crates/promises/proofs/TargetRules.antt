@@ -14,17 +14,16 @@ use Rattle.paper.specs.Count as Σ
 use Rattle.slotset.specs.Answers.{rowSlots}
 use Rattle.slots.specs.Lent.{minutesAt}
 use Rattle.targets.specs.declared.Line.{Line}
-use Rattle.targets.specs.Figures.{zeroF, whole, personAt, lineOf, upTo, pad}
-use Rattle.targets.specs.Available.{availableMinutes}
+use Rattle.targets.specs.Figures.{zeroF, whole, personAt, lineOf, upTo, pad, availableMinutes}
 use Rattle.targets.specs.Passes.{rounded, unrounded, settled, settle, outside, falls, shareSum, notional, some}
 use Rattle.targets.specs.Passes.{Passed, again, done, refused, pass}
 use Rattle.targets.specs.Outcome.{Given, demandIn, baseAt, leftIn, takerIn}
 use Rattle.targets.proofs.Loops.{length-upTo}
 use Rattle.targets.proofs.Nearest.{rounded-nearest, nearest-one}
 use Rattle.targets.proofs.Taker.{takes-one}
-use Rattle.targets.proofs.Fairness.{fairness-agrees}
 use Rattle.targets.proofs.Promises.{taker-by-rule, others-not-below, targets-add-up, past-stays, eight-never, never-cut}
 use Rattle.promises.specs.TargetRules.{Settles, OverUnpinned, TargetsByRule}
+use Rattle.promises.proofs.TargetFairness.{fairness-agrees}
 
 base-by : (g : Given) (k : ℕ) (b : Bool) → eqb (g .fairness) 1 ≡ b
     → baseAt g k ≡ cond b (demandIn g) (availableMinutes (g .slots) (g .starts) (g .ends) (g .avail) k)

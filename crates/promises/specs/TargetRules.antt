@@ -3,10 +3,10 @@ use mathlib.Core.Path.{_≡_}
 use mathlib.Core.Bool.{Bool, true, false, cond}
 use mathlib.Core.List.{List, [], _∷_, _++_, map}
 use mathlib.Core.Logic.{_≢_}
-use Prim.Native.Nat.{ℕ, _+_, _-_, _<_}
+use Prim.Native.Nat.{ℕ, _+_, _-_, _≤_, _<_}
 use lib.Dec.{eqb}
 use lib.IntN.{ℤ, pos}
-use lib.ListN.{getD, take, drop}
+use lib.ListN.{length, getD, take, drop}
 use lib.Ieee.{Float, fin, binary64, add, mul, div, sub, lt}
 use Rattle.paper.specs.Count as Σ
 use Rattle.slotset.specs.Answers.{rowSlots}
@@ -14,7 +14,7 @@ use Rattle.targets.specs.declared.Line.{Line}
 use Rattle.targets.specs.declared.Person.{Person}
 use Rattle.targets.specs.Figures.{zeroF, whole, personAt, lineOf, pad}
 use Rattle.targets.specs.Passes.{rounded, NearestWhole, unrounded, settle, outside, falls, shareSum, notional, some}
-use Rattle.targets.specs.Passes.{again, done, pass, passesLeave}
+use Rattle.targets.specs.Passes.{within, again, done, pass, passes, passesLeave}
 use Rattle.targets.specs.Remainder.{Takes, sumℤ}
 use Rattle.targets.specs.Outcome.{Given, given, computeTargets, demandIn, baseAt, linesIn, leftIn, takerIn}
 use Rattle.promises.specs.SetRules.{TheOne}
@@ -33,6 +33,20 @@ pub record OverUnpinned {A : Type 0} (total : List Line → A) (start : A) (plus
   pub none : total [] ≡ start
   pub unpinned : (ls : List Line) (l : Line) → l .pinned ≡ false → total (ls ++ (l ∷ [])) ≡ plus (total ls) l
   pub pinned : (ls : List Line) (l : Line) → l .pinned ≡ true → total (ls ++ (l ∷ [])) ≡ total ls
+
+-- refusal 8, said of the unrounded targets: one that is worked out breaks the guard
+pub record Beyond (demand : ℕ) (ls : List Line) : Type 0 where
+  -- how many passes went before, and the lines that they gave to this one
+  pub before : ℕ
+  pub lines : List Line
+  -- the person
+  pub at : ℕ
+  pub few : before ≤ length ls
+  pub due : passes before demand (again ls) ≡ again lines
+  pub above : lt zeroF (shareSum lines) ≡ true
+  pub here : at < length lines
+  pub free : getD lines at pad .pinned ≡ false
+  pub breaks : within (unrounded (whole (notional demand lines)) (shareSum lines) (getD lines at pad)) ≡ false
 
 pub record TargetsByRule : Type 0 where
   -- what the passes begin with: a line a person, in person order, target 0 and unpinned

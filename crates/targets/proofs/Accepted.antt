@@ -81,9 +81,9 @@ module _ (g : Given) (room : ℕ) where
   unfolding targetsRow checksRow roomRow
   with-guard e = says-nothing front (test 8 (guardOk g)) (test 9 ordered ∷ []) e
 
-  pub guard-broken : guardOk g ≡ false → (ordered ≡ true) × (guarded (passedIn g) ≡ false)
+  pub guard-says : guardOk g ≡ false → (ordered ≡ true) × (guarded (passedIn g) ≡ false)
   unfolding guardOk
-  guard-broken e = let x = neither (not ordered) (guarded (passedIn g)) e in (not-false ordered (x .0), x .1)
+  guard-says e = let x = neither (not ordered) (guarded (passedIn g)) e in (not-false ordered (x .0), x .1)
 
   pub breaks-guard : ordered ≡ true → guarded (passedIn g) ≡ false → guardOk g ≡ false
   unfolding guardOk
@@ -95,7 +95,7 @@ module _ (g : Given) (room : ℕ) where
 
   no-guard : guardOk g ≡ false → whole ≡ unless checks checks 8
   unfolding targetsRow checksRow roomRow
-  no-guard e = says-else front (test 8 (guardOk g)) (test 9 ordered ∷ []) refl e (guard-broken e .0, tt)
+  no-guard e = says-else front (test 8 (guardOk g)) (test 9 ordered ∷ []) refl e (guard-says e .0, tt)
 
   -- refused by the checks
   pub row-refused : (checks ≡ 0 → ⊥) → whole ≡ checks

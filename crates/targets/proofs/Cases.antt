@@ -74,6 +74,17 @@ passes-keep X demand f (suc k) (again ls) h = passes-keep X demand f k (passed (
 passes-keep X demand f (suc k) (done ls) h = passes-keep X demand f k (done ls) h
 passes-keep X demand f (suc k) refused h = passes-keep X demand f k refused h
 
+-- once none is due, none is
+pub done-stays : (k d : ℕ) (ls : List Line) → passes k d (done ls) ≡ done ls
+unfolding passes pass
+done-stays zero d ls = refl
+done-stays (suc k) d ls = done-stays k d ls
+
+pub refused-stays : (k d : ℕ) → passes k d refused ≡ refused
+unfolding passes pass
+refused-stays zero d = refl
+refused-stays (suc k) d = refused-stays k d
+
 -- what holds of the lines, if there are any
 abbrev pub OfLines : (List Line → Type 0) → Passed → Type 0
 OfLines P (again ls) = P ls

@@ -15,8 +15,7 @@ use Rattle.targets.specs.Passes.{unrounded, settled, settle, falls, some
 use Rattle.targets.specs.Passes.{Passed, again, done, refused, passed, pass, passes, passesLeave}
 use Rattle.targets.proofs.Loops.{differ}
 use Rattle.targets.proofs.Each.{sumLines}
-use Rattle.targets.proofs.Cases.{by-settled, by-passed}
-use Rattle.targets.proofs.Eight.{done-stays, refused-stays}
+use Rattle.targets.proofs.Cases.{by-settled, by-passed, done-stays, refused-stays}
 
 -- how many are pinned
 abbrev ofOne : Line → ℕ

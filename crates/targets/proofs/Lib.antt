@@ -13,11 +13,9 @@ pub mod Errors
 pub mod Guard
 pub mod Never
 pub mod Shares
-pub mod Eight
 pub mod Ends
 pub mod Minutes
 pub mod Accepted
 pub mod Promises
 pub mod Spread
-pub mod Fairness
 pub mod Work

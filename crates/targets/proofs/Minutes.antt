@@ -2,15 +2,14 @@
 use mathlib.Core.Path.{_≡_, refl, sym, ap, ap₂, _∙_}
 use mathlib.Core.Bool.{Bool, true, false, _&&_, cond}
 use mathlib.Core.List.{List}
-use Prim.Native.Nat.{ℕ, _*_, _≤_, _<_, zero-le}
+use Prim.Native.Nat.{ℕ, _≤_, _<_, zero-le}
 use native.Mathlib.Nat.{le-refl}
 use native.Mathlib.Omega.{arith}
 use borrow.Author.Tests.{le-leb, lt-ltb}
 use lib.Dec.{eqb}
-use lib.ListN.{length}
 use Rattle.paper.specs.Limits.{peopleOk}
-use Rattle.paper.specs.Count.{sum}
 use Rattle.paper.specs.Rows.{unless}
+use Rattle.paper.specs.Count.{sum}
 use Rattle.paper.proofs.Count.{sum-mono}
 use Rattle.paper.proofs.Logic.{by-cond, and-true}
 use Rattle.slots.specs.Lent.{minutesAt, slotsOk}
@@ -20,7 +19,7 @@ use Rattle.slotset.specs.declared.Told.the-variants as told
 use Rattle.slotset.specs.Slots.{has}
 use Rattle.slotset.specs.Answers.{rowNo, rowSlots, toldAs}
 use Rattle.slotset.proofs.Refusals.{says-row}
-use Rattle.targets.specs.Available.{minutesIfAvailable, availableMinutes}
+use Rattle.targets.specs.Figures.{minutesIfAvailable, availableMinutes}
 use Rattle.targets.specs.Inside.{RowSound}
 use Rattle.targets.proofs.Loops.{differ}
 
@@ -51,8 +50,8 @@ available-fits slots starts ends avail person o = available-part slots starts en
 row-asked : (people person slots : ℕ) (avail : List ℕ) → RowSound people person slots avail → rowNo avail people person slots ≡ 0
 unfolding peopleOk
 row-asked people person slots avail s =
-    says-row avail people person slots (and-true _ _ (le-leb 1 people (s .somebody)) (le-leb people 32 (s .few))) (s .slots-few)
-    (s .words) (s .known)
+    says-row avail people person slots (and-true _ _ (le-leb 1 people (s .somebody)) (le-leb people 32 (s .few))) (s .slots-few) (s .words)
+    (s .known)
 
 module _ (people person slots : ℕ) (starts ends avail : List ℕ) (k : ℕ) (s : RowSound people person slots avail) (h : k < slots)
     (t : Told) (e : t ≡ toldAs (rowNo avail people person slots) (has (rowSlots avail person) slots k)) where

@@ -1,8 +1,8 @@
 -- What the outcome of `compute_targets` promises. Assumes nothing.
 use mathlib.Core.Path.{_≡_, refl, sym, ap, _∙_}
-use mathlib.Core.Bool.{true, false}
+use mathlib.Core.Bool.{true}
 use mathlib.Core.List.{List, [], _∷_, _++_, map}
-use mathlib.Core.Logic.{_↔_, _≢_}
+use mathlib.Core.Logic.{_≢_}
 use Prim.Native.Nat.{ℕ, _≤_, _<_}
 use native.Mathlib.Omega.{arith}
 use borrow.Author.Tests.{eqb-true, eqb-false}
@@ -17,11 +17,10 @@ use Rattle.paper.proofs.Rows.{worked, kept}
 use Rattle.slots.specs.Lent.{slotsOk}
 use Rattle.slots.proofs.LentLaws.{slots-sound}
 use Rattle.targets.specs.declared.Line.{Line}
-use Rattle.targets.specs.Figures.{pad, allFiguresOk, figuresOkAt, personAt}
-use Rattle.targets.specs.Available.{availableMinutes}
-use Rattle.targets.specs.Passes.{again, passesLeave, guarded, Beyond}
+use Rattle.targets.specs.Figures.{pad, allFiguresOk, figuresOkAt, personAt, availableMinutes}
+use Rattle.targets.specs.Passes.{again, passesLeave, guarded}
 use Rattle.targets.specs.Remainder.{targetOf, adjusted, takerOf, Takes, sumℤ}
-use Rattle.targets.specs.Outcome.{Given, demandIn, baseAt, lineIn, linesIn, passedIn, leftIn, takerIn, targetsIn, guardOk, roomRow}
+use Rattle.targets.specs.Outcome.{Given, demandIn, baseAt, lineIn, linesIn, passedIn, leftIn, takerIn, targetsIn, roomRow}
 use Rattle.targets.specs.Outcome.{targetsRow, computeTargets, Meets}
 use Rattle.targets.specs.Inside.{checksRow, Sound}
 use Rattle.targets.proofs.Loops.{length-upTo}
@@ -29,12 +28,11 @@ use Rattle.targets.proofs.Each.{each-upTo}
 use Rattle.targets.proofs.Taker.{taker-takes}
 use Rattle.targets.proofs.Sums.{adds-up}
 use Rattle.targets.proofs.Padding.{adjusted-length, left-count}
-use Rattle.targets.proofs.Eight.{eight-exactly}
 use Rattle.targets.proofs.Ends.{passes-end}
 use Rattle.targets.proofs.Guard.{Good, Goods}
 use Rattle.targets.proofs.Never.{good-line, never-refused}
 use Rattle.targets.proofs.Minutes.{available-fits}
-use Rattle.targets.proofs.Accepted.{says-nothing, unlisted-unheard, with-guard, guard-broken, breaks-guard, keeps-guard, row-refused}
+use Rattle.targets.proofs.Accepted.{says-nothing, unlisted-unheard, with-guard, keeps-guard, row-refused}
 use Rattle.targets.proofs.Accepted.{accepted, Lent, lent-checks}
 
 -- ---- only one outcome fits
@@ -73,7 +71,7 @@ base-fits g s k =
     by-cond (eqb (g .fairness) 1) (demandIn g) (availableMinutes (g .slots) (g .starts) (g .ends) (g .avail) k) (λ (m : ℕ). m ≤ 100000000)
     (λ t. demand-fits g s) (λ f. available-fits (g .slots) (g .starts) (g .ends) (g .avail) k (s .ordered))
 
--- ---- refusal 8: exactly as the table says, and never on accepted figures
+-- ---- refusal 8: never on accepted figures
 
 pub goods-in : (g : Given) → Sound g → Goods (linesIn g)
 unfolding allFiguresOk
@@ -88,15 +86,7 @@ people-few g s = omega (arith, people-in g, s .few)
 guard-kept : (g : Given) → Sound g → guarded (passedIn g) ≡ true
 guard-kept g s = never-refused (demandIn g) (linesIn g) (demand-fits g s) (people-few g s) (goods-in g s)
 
--- 8's test fails exactly where 9's passes and an unrounded target breaks the guard
-pub eight-says : (g : Given)
-    → (guardOk g ≡ false) ↔ ((slotsOk (g .slots) (g .starts) (g .ends) ≡ true) × Beyond (demandIn g) (linesIn g))
-eight-says g = (
-  λ e. let b = guard-broken g 0 e in (b .0, eight-exactly (demandIn g) (linesIn g) .0 (b .1)),
-  λ b. breaks-guard g 0 (b .0) (eight-exactly (demandIn g) (linesIn g) .1 (b .1)),
-)
-
--- and that is never: what is heard is what the checks say
+-- so what is heard is what the checks say
 pub number-is : (g : Given) (out : List ℤ) → computeTargets g out .number ≡ heardOf (checksRow g (length out))
 number-is g out =
     let n = heardOf (checksRow g (length out)) in

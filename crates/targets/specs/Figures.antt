@@ -1,13 +1,15 @@
--- A person's figures, rule 6 of them, and the line that the passes keep of each person. Assumes nothing.
-use mathlib.Core.Bool.{Bool, true, false, _&&_}
+-- A person's figures, rule 6 of them, their available minutes, and the line that the passes keep of each person. Assumes nothing.
+use mathlib.Core.Bool.{Bool, true, false, _&&_, cond}
 use mathlib.Core.List.{List, [], _∷_, _++_}
 use Prim.Native.Nat.{ℕ, zero, suc}
-use lib.Dec.{leb}
+use lib.Dec.{eqb, leb}
 use lib.IntN.{pos}
 use lib.ListN.{getD}
 use lib.Ieee.{Float, nan, fin, binary64, mul, le, ofInt}
 use Rattle.paper.specs.Limits.{lastMinute}
-use Rattle.paper.specs.Count.{all}
+use Rattle.paper.specs.Count.{all, sum}
+use Rattle.slotset.specs.Answers.{rowSlots}
+use Rattle.slots.specs.Lent.{minutesAt}
 use Rattle.targets.specs.declared.Person.{Person}
 use Rattle.targets.specs.declared.Line.{Line}
 
@@ -34,6 +36,16 @@ figuresOkAt capacities priors k = figuresOk (personAt capacities priors k)
 
 unfoldable pub allFiguresOk : ℕ → List Float → List ℕ → Bool
 allFiguresOk people capacities priors = all people (figuresOkAt capacities priors)
+
+-- ---- available minutes: a person's availability is a slot set, always 16 words, in person order
+
+-- the minutes of slot k, if the person is available for it
+abbrev pub minutesIfAvailable : List ℕ → List ℕ → List ℕ → ℕ → ℕ → ℕ
+minutesIfAvailable starts ends avail person k = cond (eqb (rowSlots avail person k) 1) (minutesAt starts ends k) 0
+
+-- a person's available minutes: the lengths of the slots that they are available for
+unfoldable pub availableMinutes : ℕ → List ℕ → List ℕ → List ℕ → ℕ → ℕ
+availableMinutes slots starts ends avail person = sum slots (minutesIfAvailable starts ends avail person)
 
 -- ---- lines
 

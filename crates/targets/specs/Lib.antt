@@ -2,6 +2,5 @@
 pub mod Figures
 pub mod Passes
 pub mod Remainder
-pub mod Available
 pub mod Outcome
 pub mod Inside

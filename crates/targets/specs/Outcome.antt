@@ -11,8 +11,7 @@ use Rattle.paper.specs.Limits.{setWords, peopleOk, slotCountOk, Test, test, hea
 use Rattle.paper.specs.Rows.{unless}
 use Rattle.slots.specs.Lent.{slotRoomOk, slotsOk, demandOf}
 use Rattle.targets.specs.declared.Line.{Line}
-use Rattle.targets.specs.Figures.{allFiguresOk, personAt, lineOf, upTo}
-use Rattle.targets.specs.Available.{availableMinutes}
+use Rattle.targets.specs.Figures.{allFiguresOk, personAt, lineOf, upTo, availableMinutes}
 use Rattle.targets.specs.Passes.{Passed, passesLeave, linesLeft, guarded}
 use Rattle.targets.specs.Remainder.{takerOf, adjusted}
 

@@ -1,13 +1,12 @@
 -- The passes, over the people's lines in order. Every step on a Float is IEEE 754's at binary64, rounded once. Assumes nothing.
-use mathlib.Core.Path.{_≡_}
 use mathlib.Core.Bool.{Bool, true, false, not, _&&_, _||_, cond}
 use mathlib.Core.List.{List, [], _∷_, map, foldl}
 use Prim.Native.Nat.{ℕ, zero, suc, _+_, _*_, _/_, _≤_, _<_}
 use lib.Dec.{ltb}
-use lib.ListN.{length, getD}
+use lib.ListN.{length}
 use lib.Ieee.{Float, nan, inf, fin, binary64, add, sub, mul, div, lt, up, down}
 use Rattle.targets.specs.declared.Line.{Line}
-use Rattle.targets.specs.Figures.{zeroF, whole, pad}
+use Rattle.targets.specs.Figures.{zeroF, whole}
 
 -- ---- one number
 
@@ -112,18 +111,3 @@ abbrev pub guarded : Passed → Bool
 guarded (again ls) = true
 guarded (done ls) = true
 guarded refused = false
-
--- ---- refusal 8, said of the unrounded targets: one that is worked out breaks the guard
-
-pub record Beyond (demand : ℕ) (ls : List Line) : Type 0 where
-  -- how many passes went before, and the lines that they gave to this one
-  pub before : ℕ
-  pub lines : List Line
-  -- the person
-  pub at : ℕ
-  pub few : before ≤ length ls
-  pub due : passes before demand (again ls) ≡ again lines
-  pub above : lt zeroF (shareSum lines) ≡ true
-  pub here : at < length lines
-  pub free : getD lines at pad .pinned ≡ false
-  pub breaks : within (unrounded (whole (notional demand lines)) (shareSum lines) (getD lines at pad)) ≡ false

@@ -11,8 +11,7 @@ ghost use Prim.Native.Nat.{_-_, _<_};
 ghost use lib.Dec.{eqb};
 ghost use lib.ListN.{replicate};
 ghost use Rattle.slots.specs.Lent.{slotsOk, demandOf};
-ghost use Rattle.targets.specs.Figures.{lineOf, pad};
-ghost use Rattle.targets.specs.Available.{minutesIfAvailable, availableMinutes};
+ghost use Rattle.targets.specs.Figures.{lineOf, pad, minutesIfAvailable, availableMinutes};
 ghost use Rattle.targets.specs.Outcome.{given, linesIn};
 ghost use Rattle.targets.specs.Inside.{Sound, RowSound};
 

@@ -5,7 +5,7 @@ use native.Mathlib.Omega.{arith}
 use borrow.Author.Needs.{needs}
 use Rattle.paper.specs.Count.{sum}
 use Rattle.paper.proofs.Count.{sum-none, sum-more, sum-done}
-use Rattle.targets.specs.Available.{minutesIfAvailable, availableMinutes}
+use Rattle.targets.specs.Figures.{minutesIfAvailable, availableMinutes}
 use Rattle.targets.proofs.Minutes.{available-part}
 use Rattle.targets.proofs.lines.available_minutes.Statement.{statement}
 use Rattle.targets.proofs.lines.available_minutes.Tie as tie

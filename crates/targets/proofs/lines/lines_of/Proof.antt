@@ -9,8 +9,7 @@ use borrow.Author.Needs.{needs}
 use lib.Dec.{eqb}
 use lib.Ieee.{ofBits}
 use lib.ListN.{replicate}
-use Rattle.targets.specs.Figures.{personAt, lineOf, upTo, pad}
-use Rattle.targets.specs.Available.{availableMinutes}
+use Rattle.targets.specs.Figures.{personAt, lineOf, upTo, pad, availableMinutes}
 use Rattle.targets.specs.Outcome.{Given, given, lineIn}
 use Rattle.targets.proofs.Loops.{fill}
 use Rattle.targets.proofs.lines.lines_of.Statement.{statement}

@@ -1,4 +1,4 @@
--- Refusal 8 is given exactly when an unrounded target that the passes work out breaks the guard. Assumes nothing.
+-- 8 of the targets: its test fails exactly where an unrounded target that the passes work out breaks the guard. Assumes nothing.
 use mathlib.Core.Path.{_≡_, refl, sym, ap, _∙_}
 use mathlib.Core.Bool.{true, false, true≢false}
 use mathlib.Core.List.{List}
@@ -8,13 +8,17 @@ use native.Mathlib.Nat.{zero-add, suc-add, zero-lt-suc, le-of-suc-le-suc}
 use native.Mathlib.Omega.{arith}
 use lib.Ieee.{Float, lt}
 use lib.ListN.{length, getD}
+use Rattle.slots.specs.Lent.{slotsOk}
 use Rattle.targets.specs.declared.Line.{Line}
 use Rattle.targets.specs.Figures.{zeroF, whole, pad}
 use Rattle.targets.specs.Passes.{outside, some, shareSum, notional}
-use Rattle.targets.specs.Passes.{Passed, again, done, refused, passed, pass, passes, passesLeave, guarded, Beyond}
+use Rattle.targets.specs.Passes.{Passed, again, done, refused, passed, pass, passes, passesLeave, guarded}
+use Rattle.targets.specs.Outcome.{Given, demandIn, linesIn, guardOk}
 use Rattle.targets.proofs.Loops.{differ}
 use Rattle.targets.proofs.Each.{some-at, at-some}
-use Rattle.targets.proofs.Cases.{by-passed, guard-broken}
+use Rattle.targets.proofs.Cases.{by-passed, guard-broken, done-stays, refused-stays}
+use Rattle.targets.proofs.Accepted.{guard-says, breaks-guard}
+use Rattle.promises.specs.TargetRules.{Beyond}
 
 -- ---- one pass
 
@@ -29,23 +33,13 @@ refused-passed n s ls a b = rw (a, b)
 
 -- ---- all passes
 
-pub done-stays : (k d : ℕ) (ls : List Line) → passes k d (done ls) ≡ done ls
-unfolding passes pass
-done-stays zero d ls = refl
-done-stays (suc k) d ls = done-stays k d ls
-
-pub refused-stays : (k d : ℕ) → passes k d refused ≡ refused
-unfolding passes pass
-refused-stays zero d = refl
-refused-stays (suc k) d = refused-stays k d
-
 passes-add : (a b d : ℕ) (p : Passed) → passes (a + b) d p ≡ passes b d (passes a d p)
 unfolding passes
 passes-add zero b d p = ap (λ (k : ℕ). passes k d p) (zero-add b)
 passes-add (suc a) b d p = ap (λ (k : ℕ). passes k d p) (suc-add a b) ∙ passes-add a b d (pass d p)
 
 -- the pass that is refused, of n
-pub record At (n d : ℕ) (ls : List Line) : Type 0 where
+record At (n d : ℕ) (ls : List Line) : Type 0 where
   pub before : ℕ
   pub lines : List Line
   pub few : before < n
@@ -118,5 +112,13 @@ beyond-found d ls b =
     (ap (λ (i : ℕ). passes i d (again ls)) c ∙ passes-add (b .before) (suc k) d (again ls)
     ∙ ap (λ (q : Passed). passes (suc k) d q) (b .due) ∙ ap (passes k d) p ∙ refused-stays k d)
 
-pub eight-exactly : (d : ℕ) (ls : List Line) → (guarded (passesLeave d ls) ≡ false) ↔ Beyond d ls
+eight-exactly : (d : ℕ) (ls : List Line) → (guarded (passesLeave d ls) ≡ false) ↔ Beyond d ls
 eight-exactly d ls = (found-beyond d ls, beyond-found d ls)
+
+-- 8's test fails exactly where 9's passes and an unrounded target breaks the guard
+pub eight-says : (g : Given)
+    → (guardOk g ≡ false) ↔ ((slotsOk (g .slots) (g .starts) (g .ends) ≡ true) × Beyond (demandIn g) (linesIn g))
+eight-says g = (
+  λ e. let b = guard-says g 0 e in (b .0, eight-exactly (demandIn g) (linesIn g) .0 (b .1)),
+  λ b. breaks-guard g 0 (b .0) (eight-exactly (demandIn g) (linesIn g) .1 (b .1)),
+)

@@ -13,12 +13,11 @@ use Rattle.paper.specs.Rows.{unless}
 use Rattle.paper.proofs.Count.{sum-same}
 use Rattle.slotset.specs.Answers.{rowSlots}
 use Rattle.slots.specs.Lent.{minutesAt, demandOf, slotsOk}
 use Rattle.targets.specs.declared.Line.{Line}
-use Rattle.targets.specs.Figures.{allFiguresOk, personAt, lineOf, upTo}
-use Rattle.targets.specs.Available.{minutesIfAvailable, availableMinutes}
+use Rattle.targets.specs.Figures.{allFiguresOk, personAt, lineOf, upTo, minutesIfAvailable, availableMinutes}
 use Rattle.targets.specs.Passes.{passesLeave, linesLeft, guarded}
 use Rattle.targets.specs.Remainder.{adjusted}
 use Rattle.targets.specs.Outcome.{given, linesIn, guardOk, roomRow, targetsRow, Outcome, computeTargets}
 
 upTo-same : {A : Type 0} (f g : ℕ → A) (n : ℕ) → ((k : ℕ) → k < n → f k ≡ g k) → upTo f n ≡ upTo g n
 upTo-same f g zero h = refl
