@@ -13,6 +13,7 @@ use lib.ListN.{length, getD, replicate}
 use Rattle.paper.specs.Limits.{heardOf}
 use Rattle.paper.proofs.Rows.{passed}
 use Rattle.paper.proofs.Logic.{by-test, both, cond-zero, lt-or-ge, people-says, slot-count-says}
+use Rattle.paper.specs.Rows.{unless}
 use Rattle.slotset.specs.declared.Number.the-variants as number
 use Rattle.slots.specs.Lent.{slotsOk}
 use Rattle.slots.specs.Ranges.{Ranges, ranges}
@@ -148,7 +149,7 @@ atoms-is s c b st en ps os sh a p q r t u w =
     (ranges-same s c b ps os sh r t u)) w
 
 pub atoms-few : (B : atomic.Base) (a : Atoms) → AtomsAre (atomic.atomiseOf B) a → a .count ≤ 1024
-unfolding atomic.atomiseOf atomic.atomiseRow atomic.baseRow Rattle.slotset.specs.Answers.numberAs
+unfolding atomic.atomiseOf atomic.atomiseRow atomic.baseRow Rattle.slotset.specs.Answers.numberAs unless
 atoms-few B a w =
     by-test (eqb (heardOf (atomic.atomiseRow B)) 0) (a .count ≤ 1024)
     (λ t.

@@ -15,11 +15,12 @@ use Rattle.slotset.specs.declared.Found.the-variants.{At, Nothing}
 use Rattle.slotset.specs.declared.Run.the-variants as run
 use Rattle.slotset.specs.declared.Told.the-variants.{Yes, No}
 use Rattle.slotset.specs.declared.Number.the-variants as number
-use Rattle.paper.specs.Limits.{peopleOk, slotCountOk}
+use Rattle.paper.specs.Limits.{peopleOk, slotCountOk, heardOf}
+use Rattle.paper.specs.Rows.{unless}
 use Rattle.slotset.specs.declared.SlotSet.{SlotSet}
 use Rattle.slotset.specs.Slots.{Bits, slot, withBit, putSlot, putSlots, has}
-use Rattle.slotset.specs.Runs.{firstOfRun, lastOfRun}
-use Rattle.slotset.specs.Answers.{lenNo, rowNo, slotsOf, runAs, loadOf}
+use Rattle.slotset.specs.Runs.{firstAround, lastAround}
+use Rattle.slotset.specs.Answers.{lengthRow, setsRow, personRow, slotsOf, runAs, changedAs, loadOf}
 use Rattle.slotset.proofs.Puts.{slot-lt}
 use Rattle.slotset.proofs.Runs.{has-member, run-around}
 use Rattle.slots.specs.Atomic.{Atoms}
@@ -40,7 +41,8 @@ use Rattle.slots.specs.Lent.{minutesNo}
 use Rattle.rota.proofs.Entered.{recount-says}
 use Rattle.promises.specs.Entries.{Call, Component, built, noOf, afreshIn, ownersIn}
 use Rattle.promises.specs.Marked.{MarkedCases, inWords, Owned, apart, Spare, twoUnits}
-use Rattle.slotset.specs.Answers.{foundNo, toldNo, numberNo, runNo}
+use Rattle.slotset.specs.Answers.{toldNo, numberNo}
+use Rattle.promises.specs.SetRefusals.{foundNo, runNo}
 use Rattle.promises.specs.Rota.{EndsAfresh, FrozenKeep, OwnersAvailable, CoveredStays, AddsUp, SizesRecount, after, firstCall}
 use Rattle.promises.specs.Empty.{RefusesByTable, AlwaysRefuses, refuses-next, refuses-prev, refuses-run, refuses-size}
 use Rattle.promises.specs.Empty.{refuses-atomise, refuses-available, refuses-targets, refuses-rotations, refuses-play}
@@ -98,16 +100,16 @@ module _ (C : Component) (M : MarkedCases C) (T : RefusesByTable C) (S : SizesRe
 
 -- a run that is told is that of a member
 run-told : (f : ℕ → ℕ) → Bits f → (n len i first last : ℕ) → runAs n f len i ≡ run.Span first last → (first ≤ i) × (i ≤ last)
-unfolding runAs
+unfolding runAs unless
 run-told f bits n len i first last e =
     by-test (eqb n 0) _
     (λ t.
     by-test (has f len i) _
     (λ m.
     let r = run-around f bits len i (has-member f len i m) in
-    let q : run.Span (firstOfRun f len i) (lastOfRun f len i) ≡ run.Span first last = sym (by true true t m) ∙ e in
-    let a : firstOfRun f len i ≡ first = cc in
-    let b : lastOfRun f len i ≡ last = cc in
+    let q : run.Span (firstAround 1 f len i) (lastAround 1 f len i) ≡ run.Span first last = sym (by true true t m) ∙ e in
+    let a : firstAround 1 f len i ≡ first = cc in
+    let b : lastAround 1 f len i ≡ last = cc in
     (omega (arith, a, r .from), omega (arith, b, r .to)))
     (λ m. let q : run.Outside ≡ run.Span first last = sym (by true false t m) ∙ e in let z : _≡_ {A = ℕ} 0 1 = cc in absurd (omega arith)))
     (λ t.
@@ -116,13 +118,13 @@ run-told f bits n len i first last e =
     absurd (omega arith))
   where
     by : (a b : Bool) → eqb n 0 ≡ a → has f len i ≡ b
-        → cond (eqb n 0) (cond (has f len i) (run.Span (firstOfRun f len i) (lastOfRun f len i)) run.Outside) (run.Refused n)
-        ≡ cond a (cond b (run.Span (firstOfRun f len i) (lastOfRun f len i)) run.Outside) (run.Refused n)
+        → cond (eqb n 0) (cond (has f len i) (run.Span (firstAround 1 f len i) (lastAround 1 f len i)) run.Outside) (run.Refused n)
+        ≡ cond a (cond b (run.Span (firstAround 1 f len i) (lastAround 1 f len i)) run.Outside) (run.Refused n)
     by a b p q =
-        ap₂ (λ (x y : Bool). cond x (cond y (run.Span (firstOfRun f len i) (lastOfRun f len i)) run.Outside) (run.Refused n)) p q
+        ap₂ (λ (x y : Bool). cond x (cond y (run.Span (firstAround 1 f len i) (lastAround 1 f len i)) run.Outside) (run.Refused n)) p q
 
 pub runs-hold : RunsHold built
-runs-hold s i first last e = run-told (slotsOf s) (slot-lt (s .words) 0) (lenNo (s .len)) (s .len) i first last e
+runs-hold s i first last e = run-told (slotsOf s) (slot-lt (s .words) 0) (heardOf (lengthRow (s .len))) (s .len) i first last e
 
 pub fixed-answer-falls : (C : Component) → FixedAnswer C → MarkedCases C → RunsHold C → ⊥
 fixed-answer-falls C (fixed-next f) M H =
@@ -264,7 +266,8 @@ module _ (C : Component) (g : EndsAfresh C) where
   setOf y p = rota.slotsOfIs 2 2 (y .derived .sets) p .set
 
   afresh-lengths : setOf (afreshIn c) 0 .len ≡ setOf (afreshIn c) 1 .len
-  unfolding rota.slotsOfIs loadOf rowNo slotCountOk peopleOk drawsOf ownersAfter afresh setsFrom putSlots putSlot withBit held slot bitOf
+  unfolding rota.slotsOfIs loadOf changedAs unless personRow setsRow heardOf
+      slotCountOk peopleOk drawsOf ownersAfter afresh setsFrom putSlots putSlot withBit held slot bitOf
   afresh-lengths = refl
 
   same-lengths : setOf (C .play c) 0 .len ≡ setOf (C .play c) 1 .len

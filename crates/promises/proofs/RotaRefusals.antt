@@ -11,7 +11,7 @@ use Rattle.paper.specs.Limits.{peopleOk, slotCountOk, orElse, Test, test, heard
 use Rattle.paper.specs.Count.{all, fill, over}
 use Rattle.paper.proofs.Logic.{by-test, slot-count-says}
 use Rattle.slotset.specs.declared.Changed.{Changed}
-use Rattle.slotset.specs.Answers.{rowNo, loadOf, numberNo}
+use Rattle.slotset.specs.Answers.{setsRow, personRow, changedAs, loadOf, numberNo}
 use Rattle.slotset.proofs.Refusals.{number-said}
 use Rattle.slots.specs.Lent.{slotRoomOk, slotsOk, minutesNo}
 use Rattle.slots.proofs.LentLaws.{minutes-said}
@@ -130,13 +130,13 @@ module _ (people slots : ℕ) (ws : List ℕ) (p : ℕ) where
   after = heardOf (test 2 (leb (16 * people) (length ws)) ∷ test 11 (ltb p people) ∷ [])
 
   -- a count of slots that passes is a length that does
-  row-number : slotCountOk slots ≡ true → rowNo ws people p slots ≡ heardOf rowTable
-  unfolding rowNo countsOk heardOf
+  row-number : slotCountOk slots ≡ true → heardOf (personRow ws people p slots) ≡ heardOf rowTable
+  unfolding personRow setsRow countsOk heardOf
   row-number t =
-      ap (λ (b : Bool). orElse (peopleOk people && b) 1 after) (le-leb slots 1024 (slot-count-says slots t .1) ∙ sym t)
+      by-test (peopleOk people) _ (λ e. simp (e, le-leb slots 1024 (slot-count-says slots t .1), t)) (λ e. simp e)
 
   slots-of-number : rota.slotsOfIs people slots ws p .number ≡ heardOf rowTable
-  unfolding rota.slotsOfIs loadOf countsOk heardOf
+  unfolding rota.slotsOfIs loadOf changedAs countsOk heardOf
   slots-of-number =
       by-test (slotCountOk slots) _
       (λ t.

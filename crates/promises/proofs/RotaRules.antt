@@ -9,14 +9,15 @@ use borrow.Author.Tests.{eqb-true, eqb-false, leb-true}
 use lib.Dec.{eqb, leb}
 use lib.ListN.{length, getD, set, length-set}
 use lib.Seq.{getD-set-same, getD-set-other}
-use Rattle.paper.specs.Limits.{nobody, orElse, peopleOk, slotCountOk, countsOk}
+use Rattle.paper.specs.Limits.{nobody, orElse, peopleOk, slotCountOk, countsOk, heardOf}
+use Rattle.paper.specs.Rows.{unless}
 use Rattle.paper.specs.Count.{all, sum, count, over, fill}
 use Rattle.paper.proofs.Logic.{by-test, both, three, five, and-true, cond-zero, zero-of, people-says, slot-count-says}
 use Rattle.paper.proofs.Count.{all-each, getD-over, getD-over-out, getD-fill-in, getD-fill-out}
 use Rattle.slotset.specs.declared.Changed.{Changed}
 use Rattle.slotset.specs.declared.Number.the-variants as number
 use Rattle.slotset.specs.Slots.{slot}
-use Rattle.slotset.specs.Answers.{rowNo, rowSlots, slotsOf, numberAs, numberNo, loadOf}
+use Rattle.slotset.specs.Answers.{personRow, rowSlots, slotsOf, numberAs, numberNo, changedAs, loadOf}
 use Rattle.slotset.proofs.Refusals.{number-said}
 use Rattle.slotset.proofs.Puts.{slot-lt}
 use Rattle.slots.specs.declared.Minutes.the-variants as minutes
@@ -298,7 +299,7 @@ module _ (P : Plan) (o : List ℕ) (D : Derived) (e : emptied (P .people) (P .sl
 -- ---- the readers
 
 number-given : (n k : ℕ) → numberNo (numberAs n k) ≡ 0 → numberAs n k ≡ number.Is k
-unfolding numberAs
+unfolding numberAs unless
 number-given n k e = ap (λ (m : ℕ). numberAs m k) (sym (number-said n k) ∙ e)
 
 minutes-given : (n m : ℕ) → minutesNo (minutesAs n m) ≡ 0 → minutesAs n m ≡ minutes.Are m
@@ -332,8 +333,8 @@ module _ (people slots : ℕ) (ws : List ℕ) (p : ℕ) where
   unfolding slotsOfIs
   not-loaded f = simp f
 
-  load-number : loadOf ws people p slots .number ≡ rowNo ws people p slots
-  unfolding loadOf
+  load-number : loadOf ws people p slots .number ≡ heardOf (personRow ws people p slots)
+  unfolding loadOf changedAs
   load-number = refl
 
   slots-of-is : slotsOfIs people slots ws p .number ≡ 0

@@ -5,15 +5,16 @@ use mathlib.Core.List.{List, [], _∷_}
 use mathlib.Core.Logic.{_↔_, inr, ⊎-elim}
 use Prim.Native.Nat.{ℕ, zero, suc, _+_, _-_, _*_, _/_, _%_, _≤_, _<_}
 use native.Mathlib.Omega.{arith}
-use borrow.Author.Tests.{eq-eqb, ne-eqb, le-leb, lt-ltb}
+use borrow.Author.Tests.{eq-eqb, eqb-true, ne-eqb, le-leb, lt-ltb}
 use lib.Dec.{eqb}
-use lib.ListN.{length, getD, take, drop, replicate, getD-replicate, List·getD-eq-default}
-use lib.Seq.{getD-take, getD-drop}
+use lib.ListN.{length, getD}
+use Rattle.paper.specs.Rows.{unless}
 use Rattle.paper.specs.Bits.{bitOf}
-use Rattle.paper.specs.Count.{among}
+use Rattle.paper.specs.Count.{all, among}
+use Rattle.paper.specs.Limits.{heardOf}
 use Rattle.paper.proofs.Logic.{by-test, and-true, zero-of, lt-or-ge}
-use Rattle.paper.proofs.Count.{each-all, all-fails}
-use Rattle.paper.proofs.Bits.{bit-none}
+use Rattle.paper.proofs.Count.{each-all, all-each, all-fails}
+use Rattle.paper.proofs.Rows.{worked}
 use Rattle.slotset.specs.declared.SlotSet.{SlotSet}
 use Rattle.slotset.specs.declared.Found.{Found}
 use Rattle.slotset.specs.declared.Found.the-variants.{At, Nothing, Refused}
@@ -23,49 +24,50 @@ use Rattle.slotset.specs.declared.NextRun.{NextRun}
 use Rattle.slotset.specs.declared.NextRun.the-variants as nextRun
 use Rattle.slotset.specs.declared.NextMember.the-variants as nextMember
 use Rattle.slotset.specs.declared.Number.the-variants as number
-use Rattle.slotset.specs.Slots.{Bits, slot, putSlot, putSlots, has, Member, size, noMember}
+use Rattle.slotset.specs.Slots.{Bits, slot, putSlot, putSlots, has, Member, size, noMember, sameSlots}
 use Rattle.slotset.specs.Search.{nextWith, lastBelow, nextSet, First, Last}
-use Rattle.slotset.specs.Runs.{firstOfRun, lastOfRun, endOf, Ends, whenFound, runs, allRuns, AreRuns, InRuns}
-use Rattle.slotset.specs.Answers.{lenNo, slotNo, stretchNo, rowNo, rowStretchNo, slotsOf, rowSlots, foundAs, toldAs, runAs, numberAs}
-use Rattle.slotset.specs.Answers.{runStep, nextRunAs, memberStep, nextMemberAs, changedAs, newOf, putOf, stretchOf, loadOf, wordsAs}
+use Rattle.slotset.specs.Runs.{firstAround, lastAround, endOf, Ends, whenFound, runs, allRuns, AreRuns, InRuns}
+use Rattle.slotset.specs.Answers.{lengthRow, slotRow, stretchRow, personRow, personStretchRow, slotsOf, rowSlots, sameSets}
+use Rattle.slotset.specs.Answers.{foundAs, toldAs, runAs, numberAs, emptySet}
+use Rattle.slotset.specs.Answers.{runStep, nextRunAs, memberStep, nextMemberAs, changedAs, newOf, putOf, stretchOf, loadOf}
 use Rattle.slotset.specs.Answers.{storeOf, rowStretchOf}
-use Rattle.slotset.proofs.Puts.{slot-lt, slot-puts, slot-puts-other, puts-none}
+use Rattle.slotset.proofs.Puts.{slot-lt, slot-puts, slot-puts-other, puts-none, slot-loaded, slot-none}
 use Rattle.slotset.proofs.Refusals.{slot-says, stretch-says, row-says, row-stretch-says}
+use Rattle.slotset.proofs.OneSlot.{load-is}
 use Rattle.slotset.proofs.Meaning.{next-is, next-unique, last-is, last-unique, next-same, last-same}
 use Rattle.slotset.proofs.Members.{size-members, put-here, put-elsewhere, size-same, none-same, has-same, all-runs-same}
 use Rattle.slotset.proofs.Runs.{has-member, member-has, run-around, around-unique, runs-are, runs-unique, runs-hold, runs-only, run-same}
-use Rattle.runs.specs.Listed.{listNo, column, allRunsOf}
+use Rattle.runs.specs.Listed.{runsRow, column, allRunsOf}
 use Rattle.runs.proofs.Listing.{list-says, column-at, column-stays}
 use Rattle.promises.specs.SetRules.{TheOne, RunIs, Put, Changes, firstAhead, FrontOf, SameAnswers, SetsByRule}
-use Rattle.promises.proofs.Refusals.{taken}
 
 next-found : (v : ℕ) (f : ℕ → ℕ) (len from : ℕ) → TheOne (First v f len from) (foundAs 0 (nextWith v f len from))
-unfolding foundAs
+unfolding foundAs unless
 next-found v f len from = record { meets = next-is v f len from; only = next-unique v f len from }
 
 last-found : (v : ℕ) (f : ℕ → ℕ) (len end : ℕ) → TheOne (Last v f len end) (foundAs 0 (lastBelow v f len end))
-unfolding foundAs
+unfolding foundAs unless
 last-found v f len end = record { meets = last-is v f len end; only = last-unique v f len end }
 
 module _ (f : ℕ → ℕ) (bits : Bits f) (len i : ℕ) (m : Member f len i) where
   run-found : (first : ℕ) × (last : ℕ) × RunIs f len i first last
-  unfolding runAs
+  unfolding runAs unless
   run-found =
       let r = run-around f bits len i m in (
-        firstOfRun f len i,
-        lastOfRun f len i,
+        firstAround 1 f len i,
+        lastAround 1 f len i,
         record {
-          answer = ap (λ (b : Bool). cond b (run.Span (firstOfRun f len i) (lastOfRun f len i)) run.Outside) (member-has f len i m);
+          answer = ap (λ (b : Bool). cond b (run.Span (firstAround 1 f len i) (lastAround 1 f len i)) run.Outside) (member-has f len i m);
           around = r;
-          only = λ a b x. around-unique f len i a b (firstOfRun f len i) (lastOfRun f len i) x r;
+          only = λ a b x. around-unique 1 f len i a b (firstAround 1 f len i) (lastAround 1 f len i) x r;
         },
       )
 
 no-run-found : (f : ℕ → ℕ) (len i : ℕ) → (Member f len i → ⊥) → runAs 0 f len i ≡ run.Outside
-unfolding runAs
+unfolding runAs unless
 no-run-found f len i h =
     by-test (has f len i) _ (λ t. absurd (h (has-member f len i t)))
-    (λ e. ap (λ (b : Bool). cond b (run.Span (firstOfRun f len i) (lastOfRun f len i)) run.Outside) e)
+    (λ e. ap (λ (b : Bool). cond b (run.Span (firstAround 1 f len i) (lastAround 1 f len i)) run.Outside) e)
 
 module _ (f : ℕ → ℕ) (bits : Bits f) (len : ℕ) where
   all-are : AreRuns f len 0 (allRuns f len)
@@ -78,28 +80,28 @@ module _ (f : ℕ → ℕ) (bits : Bits f) (len : ℕ) where
   runs-members k = (runs-only f bits len 0 (allRuns f len) all-are k, runs-hold f bits len 0 (allRuns f len) all-are k (omega arith))
 
   counted-members : numberAs 0 (size f len) ≡ number.Is (length (among (λ k. eqb (f k) 1) len))
-  unfolding numberAs
+  unfolding numberAs unless
   counted-members = ap number.Is (size-members f len bits)
 
 -- ---- membership
 
 contains-yes : (f : ℕ → ℕ) (len i : ℕ) → Member f len i → toldAs 0 (has f len i) ≡ Yes
-unfolding toldAs
+unfolding toldAs unless
 contains-yes f len i m = ap (λ (b : Bool). cond b Yes No) (member-has f len i m)
 
 contains-no : (f : ℕ → ℕ) (len i : ℕ) → (Member f len i → ⊥) → toldAs 0 (has f len i) ≡ No
-unfolding toldAs
+unfolding toldAs unless
 contains-no f len i h =
     by-test (has f len i) _ (λ t. absurd (h (has-member f len i t))) (λ e. ap (λ (b : Bool). cond b Yes No) e)
 
 empty-yes : (f : ℕ → ℕ) → Bits f → (len : ℕ) → ((i : ℕ) → Member f len i → ⊥) → toldAs 0 (noMember f len) ≡ Yes
-unfolding toldAs noMember
+unfolding toldAs noMember unless
 empty-yes f bits len h =
     ap (λ (b : Bool). cond b Yes No)
     (each-all len (λ k. eqb (f k) 0) (λ k l. eq-eqb (f k) 0 (zero-of (f k) (bits k) (λ q. h k (l, q)))))
 
 empty-no : (f : ℕ → ℕ) (len i : ℕ) → Member f len i → toldAs 0 (noMember f len) ≡ No
-unfolding toldAs noMember
+unfolding toldAs noMember unless
 empty-no f len i m =
     ap (λ (b : Bool). cond b Yes No)
     (all-fails len i (λ k. eqb (f k) 0) (m .0) (ne-eqb (f i) 0 (λ q. omega (arith, q, m .1))))
@@ -109,16 +111,16 @@ empty-no f len i m =
 module _ (f : ℕ → ℕ) (len at : ℕ) where
   -- the answers, by the member that is found
   run-at : (x : Found) → First 1 f len at x → nextRunAs 0 f len at ≡ runStep f len x
-  unfolding nextRunAs
+  unfolding nextRunAs unless
   run-at x w = ap (runStep f len) (sym (next-unique 1 f len at x w))
 
   member-at : (x : Found) → First 1 f len at x → nextMemberAs 0 f len at ≡ memberStep x
-  unfolding nextMemberAs
+  unfolding nextMemberAs unless
   member-at x w = ap memberStep (sym (next-unique 1 f len at x w))
 
   -- a run that starts at slot `first` ends before the next unset slot
   run-end : Bits f → (first last : ℕ) → first ≤ last → last < len → ((k : ℕ) → first ≤ k → k ≤ last → f k ≡ 1)
-      → (last + 1 < len → f (last + 1) ≡ 1 → ⊥) → lastOfRun f len first ≡ last
+      → (last + 1 < len → f (last + 1) ≡ 1 → ⊥) → lastAround 1 f len first ≡ last
   run-end bits first last h l all stop =
       let set-before : (k : ℕ) → suc first ≤ k → k < last + 1 → f k ≡ 0 → ⊥ = λ k a b z.
       omega (arith, z, all k (omega arith) (omega arith)) in
@@ -150,16 +152,16 @@ runs-few f len zero at = omega arith
 runs-few f len (suc n) at = found-few (runs-few f len n) (nextSet f len at)
   where
     found-few : ((i : ℕ) → length (runs n f len i) ≤ n) → (x : Found)
-        → length (whenFound x (λ lo. record { first = lo; last = lastOfRun f len lo } ∷ runs n f len (lastOfRun f len lo + 1))) ≤ suc n
-    found-few few (At lo) = omega (arith, few (lastOfRun f len lo + 1))
+        → length
+        (whenFound x (λ lo. record { first = lo; last = lastAround 1 f len lo } ∷ runs n f len (lastAround 1 f len lo + 1))) ≤ suc n
+    found-few few (At lo) = omega (arith, few (lastAround 1 f len lo + 1))
     found-few few Nothing = omega arith
     found-few few (Refused k) = omega arith
 
 front-of : (end : Ends → ℕ) (l : List Ends) (n : ℕ) (c : List ℕ) → n ≡ 0 → length l ≤ length c
-    → FrontOf end l c (wordsAs n c (column end l 0 c))
-unfolding wordsAs
+    → FrontOf end l c (unless n c (column end l 0 c))
 front-of end l n c e room =
-    let q = taken n (column end l 0 c) c e in
+    let q = worked n c (column end l 0 c) e in
     record {
       each = λ k none h.
           let j : k ≡ 0 + k = omega arith in
@@ -168,14 +170,14 @@ front-of end l n c e room =
     }
 
 all-runs-listed : (ws : List ℕ) (people person len : ℕ) (firsts lasts : List ℕ)
-    → listNo ws people person len (length firsts) (length lasts) ≡ 0
+    → heardOf (runsRow ws people person len (length firsts) (length lasts)) ≡ 0
     → let x = allRunsOf ws people person len firsts lasts in
     let l = allRuns (rowSlots ws person) len in
     (x .answer ≡ number.Is (length l)) × FrontOf (λ r. r .first) l firsts (x .firsts) × FrontOf (λ r. r .last) l lasts (x .lasts)
-unfolding numberAs
+unfolding numberAs unless
 all-runs-listed ws people person len firsts lasts e =
     let l = allRuns (rowSlots ws person) len in
-    let n = listNo ws people person len (length firsts) (length lasts) in
+    let n = heardOf (runsRow ws people person len (length firsts) (length lasts)) in
     let few = runs-few (rowSlots ws person) len len 0 in
     let r = list-says ws people person len (length firsts) (length lasts) e in (
       ap (λ (x : ℕ). numberAs x (length l)) e,
@@ -215,17 +217,17 @@ stretch-put v b a e at ws small room q =
     (lt-or-ge a e)
 
 -- a set handed back by the number 0
-changed-set : (n : ℕ) (s : SlotSet) (ws : List ℕ) → n ≡ 0 → changedAs n s ws .set ≡ record { words = ws; len = s .len }
+changed-set : (n : ℕ) (old new : SlotSet) → n ≡ 0 → changedAs n old new .set ≡ new
 unfolding changedAs
-changed-set n s ws e = ap {B = SlotSet} (λ (x : ℕ). record { words = cond (eqb x 0) ws (s .words); len = s .len }) e
+changed-set n old new e = worked n old new e
 
-put-changes : (v : ℕ) (s : SlotSet) (i : ℕ) → v < 2 → length (s .words) ≡ 16 → slotNo (s .len) i ≡ 0
+put-changes : (v : ℕ) (s : SlotSet) (i : ℕ) → v < 2 → length (s .words) ≡ 16 → heardOf (slotRow (s .len) i) ≡ 0
     → Changes (λ _. v) i 1 s (putOf v s i .set)
 unfolding putOf
 put-changes v s i small room e =
     let x = slot-says (s .len) i e in
     let w : 0 + i / 64 < length (s .words) = omega (arith, x .0, x .1) in
-    let q = changed-set _ s (putSlot 0 i v (s .words)) e in
+    let q = changed-set _ s (record { words = putSlot 0 i v (s .words); len = s .len }) e in
     record {
       same-length = ap (λ (t : SlotSet). t .len) q;
       put = record {
@@ -237,12 +239,12 @@ put-changes v s i small room e =
       };
     }
 
-stretch-changes : (v : ℕ) (s : SlotSet) (a e : ℕ) → v < 2 → length (s .words) ≡ 16 → stretchNo (s .len) a e ≡ 0
+stretch-changes : (v : ℕ) (s : SlotSet) (a e : ℕ) → v < 2 → length (s .words) ≡ 16 → heardOf (stretchRow (s .len) a e) ≡ 0
     → Changes (λ _. v) a (e - a) s (stretchOf v s a e .set)
 unfolding stretchOf
 stretch-changes v s a e small room z =
     let x = stretch-says (s .len) a e z in
-    let q = changed-set _ s (putSlots (λ _. v) 0 a (e - a) (s .words)) z in
+    let q = changed-set _ s (record { words = putSlots (λ _. v) 0 a (e - a) (s .words); len = s .len }) z in
     record {
       same-length = ap (λ (t : SlotSet). t .len) q;
       put =
@@ -250,66 +252,44 @@ stretch-changes v s a e small room z =
           (stretch-put v 0 a e a (s .words) small (λ h. omega (arith, x .0, x .1 h)) (omega arith));
     }
 
-put-stretch-changes : (v : ℕ) (ws : List ℕ) (people person len a e : ℕ) → v < 2 → rowStretchNo ws people person len a e ≡ 0
+put-stretch-changes : (v : ℕ) (ws : List ℕ) (people person len a e : ℕ) → v < 2 → heardOf (personStretchRow ws people person len a e) ≡ 0
     → Put (λ _. v) (1024 * person + a) (e - a) (slot ws 0) (slot (rowStretchOf v ws people person len a e) 0)
-unfolding rowStretchOf wordsAs
+unfolding rowStretchOf
 put-stretch-changes v ws people person len a e small z =
     let x = row-stretch-says ws people person len a e z in
     let r = row-says ws people person len (x .0) in
     let out = putSlots (λ _. v) (16 * person) a (e - a) ws in
     subst (λ (l : List ℕ). Put (λ _. v) (1024 * person + a) (e - a) (slot ws 0) (slot l 0))
-    (sym (taken _ out ws z))
+    (sym (worked _ ws out z))
     (stretch-put v (16 * person) a e (1024 * person + a) ws small (λ h. omega (arith, r .short, r .words, x .1 h)) (omega arith))
 
-store-changes : (s : SlotSet) (ws : List ℕ) (people person : ℕ) → rowNo ws people person (s .len) ≡ 0
+store-changes : (s : SlotSet) (ws : List ℕ) (people person : ℕ) → heardOf (personRow ws people person (s .len)) ≡ 0
     → Put (slotsOf s) (1024 * person) (s .len) (slot ws 0) (slot (storeOf s ws people person) 0)
-unfolding storeOf wordsAs
+unfolding storeOf
 store-changes s ws people person z =
     let r = row-says ws people person (s .len) z in
     let out = putSlots (slotsOf s) (16 * person) 0 (s .len) ws in
     let p = puts-put (slotsOf s) (16 * person) 0 (s .len) (1024 * person) ws (slot-lt (s .words) 0)
     (omega (arith, r .short, r .words)) (omega arith) in
     subst (λ (l : List ℕ). Put (slotsOf s) (1024 * person) (s .len) (slot ws 0) (slot l 0))
-    (sym (taken _ out ws z)) record {
+    (sym (worked _ ws out z)) record {
       here = λ k h. let e : 0 + k ≡ k = omega arith in p .here k h ∙ ap (slotsOf s) e;
       elsewhere = p .elsewhere;
     }
 
 -- a person's row as a set by value has its slots
-pub row-slot : (ws : List ℕ) (p k : ℕ) → k < 1024 → slot (take 16 (drop (16 * p) ws)) 0 k ≡ slot ws (16 * p) k
-unfolding slot
-row-slot ws p k h =
-    let w : 0 + k / 64 < 16 = omega arith in
-    let e : 16 * p + (0 + k / 64) ≡ 16 * p + k / 64 = omega arith in
-    ap (λ (x : ℕ). bitOf x (k % 64))
-    (getD-take 16 (drop (16 * p) ws) (0 + k / 64) 0 w ∙ getD-drop (16 * p) ws (0 + k / 64) 0 ∙ ap (λ (j : ℕ). getD ws j 0) e)
-
--- what is loaded where nothing is refused
-pub load-is : (ws : List ℕ) (people person len : ℕ) → rowNo ws people person len ≡ 0
-    → loadOf ws people person len .set ≡ record { words = take 16 (drop (16 * person) ws); len = len }
-unfolding loadOf
-load-is ws people person len e =
-    ap {B = SlotSet}
-    (λ (n : ℕ). record { words = cond (eqb n 0) (take 16 (drop (16 * person) ws)) (replicate 16 0); len = cond (eqb n 0) len 0 }) e
-
-pub load-row : (ws : List ℕ) (people person len : ℕ) → rowNo ws people person len ≡ 0
+pub load-row : (ws : List ℕ) (people person len : ℕ) → heardOf (personRow ws people person len) ≡ 0
     → (loadOf ws people person len .set .len ≡ len)
     × ((k : ℕ) → k < 1024 → slotsOf (loadOf ws people person len .set) k ≡ rowSlots ws person k)
 load-row ws people person len e =
     let q = load-is ws people person len e in
-    (ap (λ (s : SlotSet). s .len) q, λ k h. ap (λ (s : SlotSet). slotsOf s k) q ∙ row-slot ws person k h)
+    (ap (λ (s : SlotSet). s .len) q, λ k h. ap (λ (s : SlotSet). slotsOf s k) q ∙ slot-loaded ws person k h)
 
-zeros-slot : (k : ℕ) → slot (replicate 16 0) 0 k ≡ 0
-unfolding slot
-zeros-slot k =
-    ⊎-elim
-    (λ (h : 0 + k / 64 < 16). ap (λ (w : ℕ). bitOf w (k % 64)) (getD-replicate 16 (0 + k / 64) 0 0 h) ∙ bit-none (k % 64))
-    (λ (h : 16 ≤ 0 + k / 64). ap (λ (w : ℕ). bitOf w (k % 64)) (List·getD-eq-default (replicate 16 0) 0 h) ∙ bit-none (k % 64))
-    (lt-or-ge (0 + k / 64) 16)
-
-new-empty : (len : ℕ) → lenNo len ≡ 0 → (newOf len .set .len ≡ len) × ((k : ℕ) → slotsOf (newOf len .set) k ≡ 0)
+new-empty : (len : ℕ) → heardOf (lengthRow len) ≡ 0 → (newOf len .set .len ≡ len) × ((k : ℕ) → slotsOf (newOf len .set) k ≡ 0)
 unfolding newOf
-new-empty len e = (taken _ len 0 e, zeros-slot)
+new-empty len e =
+    let q = changed-set _ (emptySet 0) (emptySet len) e in
+    (ap (λ (s : SlotSet). s .len) q, λ k. ap (λ (s : SlotSet). slotsOf s k) q ∙ slot-none 16 0 k)
 
 -- ---- places
 
@@ -321,14 +301,30 @@ row-bit : (ws : List ℕ) (person i : ℕ) → rowSlots ws person i ≡ bitOf (g
 unfolding slot
 row-bit ws person i = refl
 
+-- ---- everybody's sets compared
+
+same-told : (ws vs : List ℕ) (people len : ℕ)
+    → (toldAs 0 (sameSets ws vs people len) ≡ Yes) ↔ ((p k : ℕ) → p < people → k < len → rowSlots ws p k ≡ rowSlots vs p k)
+unfolding toldAs unless sameSets sameSlots
+same-told ws vs people len = (
+  λ e p k h l. by-test (all people same) _
+      (λ t. eqb-true _ _ (all-each len (λ i. eqb (rowSlots ws p i) (rowSlots vs p i)) (all-each people same t p h) k l))
+      (λ f. let q : No ≡ Yes = sym (ap (λ (b : Bool). cond b Yes No) f) ∙ e in let z : _≡_ {A = ℕ} 0 1 = cc in absurd (omega arith)),
+  λ f. ap (λ (b : Bool). cond b Yes No)
+      (each-all people same (λ p h. each-all len (λ i. eqb (rowSlots ws p i) (rowSlots vs p i)) (λ k l. eq-eqb _ _ (f p k h l)))),
+)
+  where
+    same : ℕ → Bool
+    same p = all len (λ k. eqb (rowSlots ws p k) (rowSlots vs p k))
+
 -- ---- sets that agree below the length
 
 module _ (f g : ℕ → ℕ) (len : ℕ) (same : (k : ℕ) → k < len → f k ≡ g k) where
   run-answers : (n i : ℕ) → runAs n f len i ≡ runAs n g len i
-  unfolding runAs
+  unfolding runAs unless
   run-answers n i =
       let r = run-same f g len same i in
-      ap₂ (λ (b : Bool) (e : ℕ × ℕ). cond (eqb n 0) (cond b (run.Span (e .0) (e .1)) run.Outside) (run.Refused n))
+      ap₂ (λ (b : Bool) (e : ℕ × ℕ). unless n (run.Refused n) (cond b (run.Span (e .0) (e .1)) run.Outside))
       (has-same f g len same i) (ap₂ {C = ℕ × ℕ} (λ (a b : ℕ). (a, b)) (r .0) (r .1))
 
   steps-same : (x : Found) → runStep f len x ≡ runStep g len x
@@ -338,15 +334,15 @@ module _ (f g : ℕ → ℕ) (len : ℕ) (same : (k : ℕ) → k < len → f k �
   steps-same (Refused n) = refl
 
   next-run-answers : (n at : ℕ) → nextRunAs n f len at ≡ nextRunAs n g len at
-  unfolding nextRunAs
+  unfolding nextRunAs unless
   next-run-answers n at =
-      ap (λ (x : NextRun). cond (eqb n 0) x (nextRun.Refused n))
+      ap (λ (x : NextRun). unless n (nextRun.Refused n) x)
       (steps-same (nextSet f len at) ∙ ap (runStep g len) (next-same 1 f g len at same))
 
   next-member-answers : (n at : ℕ) → nextMemberAs n f len at ≡ nextMemberAs n g len at
-  unfolding nextMemberAs
+  unfolding nextMemberAs unless
   next-member-answers n at =
-      ap (λ (x : Found). cond (eqb n 0) (memberStep x) (nextMember.Refused n)) (next-same 1 f g len at same)
+      ap (λ (x : Found). unless n (nextMember.Refused n) (memberStep x)) (next-same 1 f g len at same)
 
   same-answers : SameAnswers f g len
   same-answers = record {
@@ -388,5 +384,6 @@ sets-by-rule = record {
   put-stretch = put-stretch-changes;
   store = store-changes;
   load = load-row;
+  same-sets = same-told;
   ignored = same-answers;
 }

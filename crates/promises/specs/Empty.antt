@@ -12,7 +12,8 @@ use Rattle.targets.specs.Outcome as targets
 use Rattle.rota.specs.Derived.{Plan}
 use Rattle.slots.specs.Lent.{minutesNo}
 use Rattle.promises.specs.Entries.{Call, Component, noOf, ownersIn}
-use Rattle.slotset.specs.Answers.{foundNo, toldNo, numberNo, runNo}
+use Rattle.slotset.specs.Answers.{toldNo, numberNo}
+use Rattle.promises.specs.SetRefusals.{foundNo, runNo}
 use Rattle.promises.specs.Table.{Hears}
 use Rattle.promises.specs.Refusals.{playTable}
 use Rattle.promises.specs.Rota.{firstCall}

@@ -11,7 +11,8 @@ use Rattle.slotset.specs.declared.Told.{Told}
 use Rattle.slotset.specs.declared.Number.{Number}
 use Rattle.slotset.specs.Slots.{size}
 use Rattle.slotset.specs.Search.{nextSet, prevSet}
-use Rattle.slotset.specs.Answers.{lenNo, slotsOf, foundAs, runAs, numberAs}
+use Rattle.paper.specs.Limits.{heardOf}
+use Rattle.slotset.specs.Answers.{lengthRow, slotsOf, foundAs, runAs, numberAs}
 use Rattle.slots.specs.Ranges.{Ranges}
 use Rattle.slots.specs.Atomic.{Base, Atoms, atomiseOf}
 use Rattle.slots.specs.Availability.{availabilityOf, isAvailable}
@@ -141,10 +142,10 @@ pub record Component : Type 0 where
 
 abbrev pub built : Component
 built = record {
-  next = λ s from. foundAs (lenNo (s .len)) (nextSet (slotsOf s) (s .len) from);
-  prev = λ s from. foundAs (lenNo (s .len)) (prevSet (slotsOf s) (s .len) from);
-  run = λ s i. runAs (lenNo (s .len)) (slotsOf s) (s .len) i;
-  size = λ s. numberAs (lenNo (s .len)) (size (slotsOf s) (s .len));
+  next = λ s from. foundAs (heardOf (lengthRow (s .len))) (nextSet (slotsOf s) (s .len) from);
+  prev = λ s from. foundAs (heardOf (lengthRow (s .len))) (prevSet (slotsOf s) (s .len) from);
+  run = λ s i. runAs (heardOf (lengthRow (s .len))) (slotsOf s) (s .len) i;
+  size = λ s. numberAs (heardOf (lengthRow (s .len))) (size (slotsOf s) (s .len));
   atomise = atomiseOf;
   availability = availabilityOf;
   available = isAvailable;
