@@ -2,8 +2,8 @@
 use crate::answers::plain_number;
 use crate::answers::told_number;
 ghost use mathlib.Core.Path.{_≡_};
-ghost use Rattle.slots.specs.Freeze.{freezeOf};
 ghost use Rattle.slots.specs.Availability.{isAvailable};
+ghost use Rattle.slots.specs.Freeze.{freezeOf};
 ghost use Rattle.boltraven_c.specs.Numbers.{plainNumber, toldNumber};
 
 // Marks each slot that ends by the instant; how many do.

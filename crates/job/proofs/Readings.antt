@@ -15,7 +15,6 @@ use Rattle.paper.proofs.Rows.{passed}
 use Rattle.paper.proofs.Logic.{by-test, both, cond-zero, lt-or-ge, people-says, slot-count-says}
 use Rattle.paper.specs.Rows.{unless}
 use Rattle.slotset.specs.declared.Number.the-variants as number
-use Rattle.slots.specs.Lent.{slotsOk}
 use Rattle.slots.specs.Ranges.{Ranges, ranges}
 use Rattle.slots.specs.Atomic as atomic
 use Rattle.units.specs.declared.Settings.{Settings}
@@ -159,7 +158,8 @@ atoms-few B a w =
       arith,
       leb-true (length (atomic.startsOfAtoms B)) 1024 l,
       w .count
-          ∙ ap (λ (q : Bool). valueOf (cond q (number.Is (length (atomic.startsOfAtoms B))) (number.Refused (heardOf (atomic.atomiseRow B))))) t,
+          ∙ ap (λ (q : Bool). valueOf (cond q (number.Is (length (atomic.startsOfAtoms B)))
+          (number.Refused (heardOf (atomic.atomiseRow B))))) t,
     ))
     (λ f.
     omega (

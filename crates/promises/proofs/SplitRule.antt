@@ -7,7 +7,6 @@ use native.Mathlib.Omega.{arith}
 use lib.ListN.{length, getD}
 use Rattle.paper.specs.Limits.{heardOf}
 use Rattle.slotset.specs.declared.Number.the-variants as number
-use Rattle.slots.specs.Ranges.{mergedOf}
 use Rattle.slots.specs.Atomic.{Base, atomiseOf, atomiseRow, isCut, IsCuts, startsOfAtoms, endsOfAtoms}
 use Rattle.slots.proofs.SplitLaws as laws
 use Rattle.promises.specs.SplitRule.{strung, CutsOf, lengths, LeavesPieces, SplitAtCuts}
@@ -30,10 +29,10 @@ pieces-add cut lo (a ∷ c) hi x = omega (arith, pieces-add cut a c hi (x .3), x
 
 module _ (B : Base) (e : heardOf (atomiseRow B) ≡ 0) (c : ℕ → List ℕ) (x : (k : ℕ) → k < B .slots → CutsOf B k (c k)) where
   starts-are : strung (λ k. getD (B .starts) k 0 ∷ c k) (B .slots) ≡ startsOfAtoms B
-  starts-are = strung-is _ (B .slots) ∙ laws.one-atoms (mergedOf (B .ranges)) (B .slots) (B .starts) (B .ends) c x .0
+  starts-are = strung-is _ (B .slots) ∙ laws.one-atoms (isCut (B .people) (B .ranges)) (B .slots) (B .starts) (B .ends) c x .0
 
   ends-are : strung (λ k. c k ++ (getD (B .ends) k 0 ∷ [])) (B .slots) ≡ endsOfAtoms B
-  ends-are = strung-is _ (B .slots) ∙ laws.one-atoms (mergedOf (B .ranges)) (B .slots) (B .starts) (B .ends) c x .1
+  ends-are = strung-is _ (B .slots) ∙ laws.one-atoms (isCut (B .people) (B .ranges)) (B .slots) (B .starts) (B .ends) c x .1
 
   leaves-pieces : LeavesPieces B c
   leaves-pieces =
@@ -49,5 +48,5 @@ module _ (B : Base) (e : heardOf (atomiseRow B) ≡ 0) (c : ℕ → List ℕ) (x
 pub split-at-cuts : SplitAtCuts
 split-at-cuts = record {
   pieces = leaves-pieces;
-  add-up = λ B k c x. pieces-add (isCut (mergedOf (B .ranges))) (getD (B .starts) k 0) c (getD (B .ends) k 0) x;
+  add-up = λ B k c x. pieces-add (isCut (B .people) (B .ranges)) (getD (B .starts) k 0) c (getD (B .ends) k 0) x;
 }

@@ -14,8 +14,8 @@ use Rattle.slotset.specs.Slots.{slot}
 use Rattle.slotset.specs.Answers.{rowSlots}
 use Rattle.slots.specs.declared.Minutes.the-variants as minutes
 use Rattle.slots.specs.Lent.{slotsOk, demandOf, lentRow, slotMinutesRow, demandIs, slotMinutesIs}
-use Rattle.slots.specs.Ranges.{Ranges, personOf, startOf, endOf, inRanges, available, mergedOf, IsMerged}
-use Rattle.slots.specs.Merged.{Columns, mergedRow, mergedRanges}
+use Rattle.slots.specs.Ranges.{Ranges, inRanges, available}
+use Rattle.slots.specs.Merged.{mergedOf, IsMerged, personsOf, startsOf, endsOf, Columns, mergedRow, mergedRanges}
 use Rattle.slots.specs.Atomic.{Base, atomiseRow, atomiseOf, startsOfAtoms, endsOfAtoms, isCut, cutsIn, IsCuts}
 use Rattle.slots.specs.Availability.{availabilityRow, availabilityOf, isAvailable}
 use Rattle.slots.specs.Freeze.{freezeRow, freezeOf}
@@ -26,9 +26,9 @@ use Rattle.promises.specs.SetRules.{TheOne}
 pub record Merged (people : ℕ) (R : Ranges) (out : Columns) : Type 0 where
   pub list : TheOne (IsMerged (inRanges R)) (mergedOf R)
   pub number : mergedRanges people R out .answer ≡ number.Is (length (mergedOf R))
-  pub persons : (k : ℕ) → k < length (mergedOf R) → getD (mergedRanges people R out .persons) k 0 ≡ personOf (getD (mergedOf R) k 0)
-  pub starts : (k : ℕ) → k < length (mergedOf R) → getD (mergedRanges people R out .starts) k 0 ≡ startOf (getD (mergedOf R) k 0)
-  pub ends : (k : ℕ) → k < length (mergedOf R) → getD (mergedRanges people R out .ends) k 0 ≡ endOf (getD (mergedOf R) k 0)
+  pub persons : (k : ℕ) → k < length (mergedOf R) → getD (mergedRanges people R out .persons) k 0 ≡ getD (personsOf (mergedOf R)) k 0
+  pub starts : (k : ℕ) → k < length (mergedOf R) → getD (mergedRanges people R out .starts) k 0 ≡ getD (startsOf (mergedOf R)) k 0
+  pub ends : (k : ℕ) → k < length (mergedOf R) → getD (mergedRanges people R out .ends) k 0 ≡ getD (endsOf (mergedOf R)) k 0
   -- past its end the columns stay
   pub past : (k : ℕ) → length (mergedOf R) ≤ k
       → (getD (mergedRanges people R out .persons) k 0 ≡ getD (out .persons) k 0)
@@ -38,10 +38,15 @@ pub record Merged (people : ℕ) (R : Ranges) (out : Columns) : Type 0 where
 -- "The cuts are all starts and ends of the merged ranges. Each base slot is split at every cut strictly inside it; a cut equal to its start
 -- or end does nothing." .. "Atomic lengths add up to base lengths."
 pub record Split (B : Base) : Type 0 where
+  -- a minute at which some person's coverage differs from the minute before is a start or an end of a merged range, and the other way round
+  pub cut : (t : ℕ)
+      → (isCut (B .people) (B .ranges) t ≡ true)
+      ↔ ((k : ℕ) × (k < length (mergedOf (B .ranges)))
+      × ((getD (startsOf (mergedOf (B .ranges))) k 0 ≡ t) ⊎ (getD (endsOf (mergedOf (B .ranges))) k 0 ≡ t)))
   -- of each base slot, the one list of the cuts strictly inside it; its pieces follow each other from its start to its end
   pub cuts : (k : ℕ) → k < B .slots
-      → TheOne (λ c. IsCuts (isCut (mergedOf (B .ranges))) (getD (B .starts) k 0) c (getD (B .ends) k 0))
-      (cutsIn (mergedOf (B .ranges)) (getD (B .starts) k 0) (getD (B .ends) k 0))
+      → TheOne (λ c. IsCuts (isCut (B .people) (B .ranges)) (getD (B .starts) k 0) c (getD (B .ends) k 0))
+      (cutsIn (isCut (B .people) (B .ranges)) (getD (B .starts) k 0) (getD (B .ends) k 0))
   -- the pieces of all of them, in order, are told with their number at the front of the columns
   pub number : atomiseOf B .answer ≡ number.Is (length (startsOfAtoms B))
   pub starts : (k : ℕ) → k < length (startsOfAtoms B) → getD (atomiseOf B .starts) k 0 ≡ getD (startsOfAtoms B) k 0
@@ -74,9 +79,6 @@ pub record SlotsByRule : Type 0 where
   pub lies : (R : Ranges) (p t : ℕ)
       → (inRanges R p t ≡ true)
       ↔ ((k : ℕ) × (k < R .count) × (getD (R .persons) k 0 ≡ p) × (getD (R .starts) k 0 ≤ t) × (t < getD (R .ends) k 0))
-  -- "The cuts are all starts and ends of the merged ranges."
-  pub cut : (merged : List ℕ) (t : ℕ)
-      → (isCut merged t ≡ true) ↔ ((k : ℕ) × (k < length merged) × ((startOf (getD merged k 0) ≡ t) ⊎ (endOf (getD merged k 0) ≡ t)))
   pub merged : (people : ℕ) (R : Ranges) (out : Columns) → heardOf (mergedRow people R out) ≡ 0 → Merged people R out
   pub split : (B : Base) → heardOf (atomiseRow B) ≡ 0 → Split B
   -- "A person is available for a slot exactly when each of its minutes lies in one of their ranges."
@@ -86,7 +88,8 @@ pub record SlotsByRule : Type 0 where
       → (isAvailable people slots (availabilityOf people slots starts ends R words) p k ≡ Yes)
       ↔ ((t : ℕ) → getD starts k 0 ≤ t → t < getD ends k 0 → inRanges R p t ≡ true)
   -- a bit at or past the slot count, and the sets past the people, stay
-  pub past : (people slots : ℕ) (starts ends : List ℕ) (R : Ranges) (words : List ℕ) → heardOf (availabilityRow people slots starts ends R words) ≡ 0
+  pub past : (people slots : ℕ) (starts ends : List ℕ) (R : Ranges) (words : List ℕ)
+      → heardOf (availabilityRow people slots starts ends R words) ≡ 0
       → (p k : ℕ) → (p < people → slots ≤ k) → k < 1024
       → rowSlots (availabilityOf people slots starts ends R words) p k ≡ rowSlots words p k
   pub frozen : (slots : ℕ) (starts ends frozen : List ℕ) (instant : ℕ) → heardOf (freezeRow slots starts ends frozen) ≡ 0

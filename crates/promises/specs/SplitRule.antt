@@ -6,7 +6,6 @@ use Prim.Native.Nat.{ℕ, zero, suc, _+_, _-_, _<_}
 use lib.ListN.{length, getD}
 use Rattle.paper.specs.Limits.{heardOf}
 use Rattle.slotset.specs.declared.Number.the-variants as number
-use Rattle.slots.specs.Ranges.{mergedOf}
 use Rattle.slots.specs.Atomic.{Base, atomiseOf, atomiseRow, isCut, IsCuts}
 
 -- the lists of 0, 1 and on, below n, one after the other
@@ -16,7 +15,7 @@ strung f (suc n) = strung f n ++ f n
 
 -- c is the ascending list of all cuts strictly inside base slot k
 abbrev pub CutsOf : Base → ℕ → List ℕ → Type 0
-CutsOf B k c = IsCuts (isCut (mergedOf (B .ranges))) (getD (B .starts) k 0) c (getD (B .ends) k 0)
+CutsOf B k c = IsCuts (isCut (B .people) (B .ranges)) (getD (B .starts) k 0) c (getD (B .ends) k 0)
 
 -- the lengths of pieces, by their starts and their ends, added up
 unfoldable pub lengths : List ℕ → List ℕ → ℕ

@@ -17,14 +17,16 @@ use Rattle.paper.proofs.Rows.{passed, said, asked-more, link, ends, next-pass, 
 use Rattle.slotset.specs.declared.Number.the-variants as number
 use Rattle.slotset.specs.Answers.{numberAs}
 use Rattle.slots.specs.Lent.{slotRoomOk, slotsOk, SlotsSound}
-use Rattle.slots.specs.Ranges.{rangeCountOk, rangeRoomOk, rangesOk, RangesSound}
-use Rattle.slots.specs.Walk.{MergedFrom}
-use Rattle.slots.specs.Atomic.{atomStarts, atomEnds, Base, baseRow}
-use Rattle.slots.specs.Atomic.{atomiseRow, atomiseOf, startsOfAtoms, endsOfAtoms, AtomsEnd, orFull, Grown}
+use Rattle.slots.specs.Ranges.{rangeCountOk, rangeRoomOk, rangesOk}
+use Rattle.slots.specs.Atomic.{isCut, atomStarts, atomEnds, Base, baseRow, atomiseRow, atomiseOf, startsOfAtoms, endsOfAtoms}
+use Rattle.slots.specs.Atomic.{AtomsEnd}
+use Rattle.slots.specs.Inside.{RangesSound, MergedFrom, keyCut, orFull, Grown}
 use Rattle.slots.proofs.LentLaws.{room-says, slots-sound}
-use Rattle.slots.proofs.RangeLaws.{ranges-sound}
-use Rattle.slots.proofs.MergedLaws.{front-written}
+use Rattle.slots.proofs.RangeLaws.{ranges-sound, ranges-known}
+use Rattle.slots.proofs.MergedLaws.{front-onto, held-list}
 use Rattle.slots.proofs.CutLaws.{full-some, full-over}
+use Rattle.slots.proofs.CutMinutes.{cut-is}
+use Rattle.slots.proofs.SplitLaws.{starts-same, ends-same}
 
 -- ---- what no refusal before the work leaves known
 
@@ -52,10 +54,11 @@ module _ (B : Base) where
   -- and where nothing is refused after it
   pub atoms-say : heardOf (atomiseRow B) ≡ 0
       → BaseSound B × (slotsOk (B .slots) (B .starts) (B .ends) ≡ true) × (length (startsOfAtoms B) ≤ 1024)
+      × ((k : ℕ) → k < B .ranges .count → getD (B .ranges .persons) k 0 < B .people)
   unfolding baseRow atomiseRow
   atoms-say e =
       let h = passed (atomiseRow B) refl e in
-      (sound-of (h 0) (h 1) (h 2) (h 5) (h 6) (h 7), h 6, leb-true _ _ (h 8))
+      (sound-of (h 0) (h 1) (h 2) (h 5) (h 6) (h 7), h 6, leb-true _ _ (h 8), ranges-known (B .people) (B .ranges) (h 7))
 
 -- ---- where 1 and 2 are none
 
@@ -101,19 +104,28 @@ atoms-refused B n e h =
     let z : eqb (heardOf (atomiseRow B)) 0 ≡ false = ne-eqb _ _ (λ q. h (sym e ∙ q)) in
     record { heard = simp z (ap number.Refused (sym e)); starts = simp z; ends = simp z }
 
-module _ (B : Base) (fault : Fault) (e : fault ≡ firstOf (baseRow B)) (z : fault .number ≡ 0) (keys : List ℕ) (n : ℕ) (M : MergedFrom (B .ranges) keys n)
+module _ (B : Base) (fault : Fault) (e : fault ≡ firstOf (baseRow B)) (z : fault .number ≡ 0)
+    (keys : List ℕ) (n : ℕ) (M : MergedFrom (B .ranges) keys n)
     (S E S′ E′ : List ℕ) (r : ℕ)
-    (G : Grown 0 S E (atomStarts (take n keys) (B .slots) (B .starts) (B .ends)) (atomEnds (take n keys) (B .slots) (B .starts)
-    (B .ends)) r S′ E′) where
-  same-starts : atomStarts (take n keys) (B .slots) (B .starts) (B .ends) ≡ startsOfAtoms B
-  same-starts = ap (λ (l : List ℕ). atomStarts l (B .slots) (B .starts) (B .ends)) (M .list)
+    (G : Grown 0 S E (atomStarts (keyCut (take n keys)) (B .slots) (B .starts) (B .ends))
+    (atomEnds (keyCut (take n keys)) (B .slots) (B .starts) (B .ends)) r S′ E′) where
+  by-minutes : (t : ℕ) → keyCut (take n keys) t ≡ isCut (B .people) (B .ranges) t
+  unfolding baseRow
+  by-minutes t =
+      let none = sym (said _ e) ∙ z in
+      let known = ranges-known (B .people) (B .ranges) (passed (baseRow B) refl none 7) in
+      let S = base-says B none .ranges in
+      ap (λ (l : List ℕ). keyCut l t) (held-list (B .ranges) S keys n M) ∙ sym (cut-is (B .ranges) S (B .people) known t)
 
-  same-ends : atomEnds (take n keys) (B .slots) (B .starts) (B .ends) ≡ endsOfAtoms B
-  same-ends = ap (λ (l : List ℕ). atomEnds l (B .slots) (B .starts) (B .ends)) (M .list)
+  same-starts : atomStarts (keyCut (take n keys)) (B .slots) (B .starts) (B .ends) ≡ startsOfAtoms B
+  same-starts = starts-same _ _ by-minutes (B .starts) (B .ends) (B .slots)
+
+  same-ends : atomEnds (keyCut (take n keys)) (B .slots) (B .starts) (B .ends) ≡ endsOfAtoms B
+  same-ends = ends-same _ _ by-minutes (B .starts) (B .ends) (B .slots)
 
   number-is : r ≡ orFull (length (startsOfAtoms B))
   number-is =
-      let q : 0 + length (atomStarts (take n keys) (B .slots) (B .starts) (B .ends)) ≡ length (startsOfAtoms B) = omega
+      let q : 0 + length (atomStarts (keyCut (take n keys)) (B .slots) (B .starts) (B .ends)) ≡ length (startsOfAtoms B) = omega
       (arith, ap length same-starts) in
       G .number ∙ ap orFull q
 
@@ -135,7 +147,7 @@ module _ (B : Base) (fault : Fault) (e : fault ≡ firstOf (baseRow B)) (z : fau
     count-is : r ≡ length (startsOfAtoms B)
     count-is = number-is ∙ full-some (length (startsOfAtoms B)) few-atoms
 
-    fits : 0 + length (atomStarts (take n keys) (B .slots) (B .starts) (B .ends)) ≤ 1024
+    fits : 0 + length (atomStarts (keyCut (take n keys)) (B .slots) (B .starts) (B .ends)) ≤ 1024
     fits = omega (arith, ap length same-starts, few-atoms)
 
     pub atoms-done : 1024 ≤ length S′ → 1024 ≤ length E′ → (F T : List ℕ)
@@ -145,9 +157,12 @@ module _ (B : Base) (fault : Fault) (e : fault ≡ firstOf (baseRow B)) (z : fau
     atoms-done a b F T p q =
         let none : eqb (heardOf (atomiseRow B)) 0 ≡ true = eq-eqb _ _
         (after-none B fault e z (le-leb (length (startsOfAtoms B)) 1024 few-atoms)) in
+        let room = base-says B (sym (said _ e) ∙ z) .room in
+        let room-starts : r ≤ length (B .outStarts) = omega (arith, room .0) in
+        let room-ends : r ≤ length (B .outEnds) = omega (arith, room .1) in
         record {
           heard = simp none (ap number.Is count-is);
-          starts = simp none (p ∙ front-written (λ t. t) S′ (startsOfAtoms B) (B .outStarts) r (G .starts fits
-              ∙ same-starts) (omega arith));
-          ends = simp none (q ∙ front-written (λ t. t) E′ (endsOfAtoms B) (B .outEnds) r (G .ends fits ∙ same-ends) (omega arith));
+          starts =
+              simp none (p ∙ front-onto S′ (startsOfAtoms B) (B .outStarts) r (G .starts fits ∙ same-starts) (omega arith) room-starts);
+          ends = simp none (q ∙ front-onto E′ (endsOfAtoms B) (B .outEnds) r (G .ends fits ∙ same-ends) (omega arith) room-ends);
         }

@@ -24,16 +24,16 @@ use Rattle.slotset.specs.Answers.{rowNo, rowSlots, rowStretchOf, toldAs}
 use Rattle.slotset.proofs.Puts.{length-puts, puts-one, puts-same}
 use Rattle.slotset.proofs.Refusals.{says-row, stretch-puts}
 use Rattle.slots.specs.Lent.{SlotsSound}
-use Rattle.slots.specs.Ranges.{anyOf, Ranges, RangesSound, inRanges, available}
-use Rattle.slots.specs.Ranges.{opens, closes, mergedOf, Spaced}
-use Rattle.slots.specs.Walk.{MergedFrom}
-use Rattle.slots.specs.Freeze.{Opening}
-use Rattle.slots.specs.Availability.{availableBit, rows, availabilityRow, availabilityOf, availableRow, isAvailable, spans, reaches, heldBit}
+use Rattle.slots.specs.Ranges.{Ranges, inRanges, available}
+use Rattle.slots.specs.Availability.{availableBit, rows, availabilityRow, availabilityOf, availableRow, isAvailable}
+use Rattle.slots.specs.Inside.{anyOf, opens, closes, SpacedKeys, RangesSound, MergedFrom, Opening, spans, reaches, heldBit}
+use Rattle.slots.proofs.Keys.{mergedKeys}
 use Rattle.slots.proofs.Entries.{any-here, any-one}
 use Rattle.slots.proofs.Keys.{inLine, in-line, line-in}
 use Rattle.slots.proofs.LentLaws.{slots-sound}
 use Rattle.slots.proofs.Merging.{before-none, spaced-filled, spaced-apart, any-minutes}
 use Rattle.slots.proofs.RangeLaws.{ranges-sound, merged-is}
+use Rattle.slots.proofs.MergedLaws.{held-list}
 
 -- ---- spaced lists, place by place
 
@@ -57,7 +57,7 @@ held-all a b (x ∷ l) e q h g =
     (or-either (spans a b x) (anyOf (spans a b) l) e)
 
 -- where each place is held, one range holds all of them: there is a gap after each
-all-held : (from a b : ℕ) (l : List ℕ) → Spaced from l → a < b → ((q : ℕ) → a ≤ q → q < b → anyOf (inLine q) l ≡ true)
+all-held : (from a b : ℕ) (l : List ℕ) → SpacedKeys from l → a < b → ((q : ℕ) → a ≤ q → q < b → anyOf (inLine q) l ≡ true)
     → anyOf (spans a b) l ≡ true
 unfolding anyOf
 all-held from a b [] s h f = f a (omega arith) h
@@ -83,11 +83,11 @@ all-held from a b (x ∷ l) s h f =
 
 -- available, over minutes, exactly where one merged range holds the whole slot
 pub held-available : (R : Ranges) → RangesSound R → (p s e : ℕ) → s < e → e ≤ 100000000
-    → anyOf (spans (p * 268435456 + s) (p * 268435456 + e)) (mergedOf R) ≡ available R p s e
+    → anyOf (spans (p * 268435456 + s) (p * 268435456 + e)) (mergedKeys R) ≡ available R p s e
 unfolding available
 held-available R S p s e h g =
     let M = merged-is R S in
-    let l = mergedOf R in
+    let l = mergedKeys R in
     same-test (anyOf (spans (p * 268435456 + s) (p * 268435456 + e)) l) (allIn s e (inRanges R p))
     (λ t. each-in s e (inRanges R p)
     (λ k a b.
@@ -103,7 +103,7 @@ held-available R S p s e h g =
 -- ---- the one candidate
 
 -- the merged ranges as the code holds them: the first n of the keys
-module _ (keys : List ℕ) (n : ℕ) (fits : n ≤ length keys) (s : Spaced 0 (take n keys)) where
+module _ (keys : List ℕ) (n : ℕ) (fits : n ≤ length keys) (s : SpacedKeys 0 (take n keys)) where
   pub at-front : (k : ℕ) → k < n → (k < length (take n keys)) × (getD (take n keys) k 0 ≡ getD keys k 0)
   at-front k h = (omega (arith, length-take-le n keys fits), getD-take n keys k 0 h)
 
@@ -279,7 +279,7 @@ availability-says people slots starts ends R words e =
 
 -- the marks of the merged list are those over minutes
 marks-same : (R : Ranges) → RangesSound R → (slots : ℕ) (starts ends : List ℕ) → SlotsSound slots starts ends → (p k : ℕ) → k < slots
-    → heldBit (mergedOf R) starts ends p k ≡ availableBit R starts ends p k
+    → heldBit (mergedKeys R) starts ends p k ≡ availableBit R starts ends p k
 unfolding heldBit availableBit
 marks-same R S slots starts ends T p k h =
     ap valueOf (held-available R S p (getD starts k 0) (getD ends k 0) (T .ordered k h) (T .capped k h))
@@ -302,14 +302,14 @@ module _ (people slots : ℕ) (starts ends : List ℕ) (R : Ranges) (words : Lis
       let z : eqb (heardOf (availabilityRow people slots starts ends R words)) 0 ≡ true = eq-eqb _ _ none in
       let S = availability-says people slots starts ends R words none in (
         sym none,
-        simp z (d ∙ ap (λ (l : List ℕ). rows (heldBit l starts ends) slots people words) (M .list)
-            ∙ rows-same (heldBit (mergedOf R) starts ends) (availableBit R starts ends) slots people words
+        simp z (d ∙ ap (λ (l : List ℕ). rows (heldBit l starts ends) slots people words) (held-list R (S .ranges-sound) keys n M)
+            ∙ rows-same (heldBit (mergedKeys R) starts ends) (availableBit R starts ends) slots people words
             (marks-same R (S .ranges-sound) slots starts ends (S .slots-sound))),
       )
 
 -- the merged list as the code holds it is spaced
-pub held-spaced : (R : Ranges) → RangesSound R → (keys : List ℕ) (n : ℕ) → MergedFrom R keys n → Spaced 0 (take n keys)
-held-spaced R S keys n M = rw (M .list) (merged-is R S .spaced)
+pub held-spaced : (R : Ranges) → RangesSound R → (keys : List ℕ) (n : ℕ) → MergedFrom R keys n → SpacedKeys 0 (take n keys)
+held-spaced R S keys n M = rw (held-list R S keys n M) (merged-is R S .spaced)
 
 -- one turn of the loop that fills a row
 pub row-turn : (l starts ends : List ℕ) (people person slots base k : ℕ) (ws₀ ws next : List ℕ) (want : Bool)

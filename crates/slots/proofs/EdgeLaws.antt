@@ -13,11 +13,9 @@ use lib.Seq.{getD-take, length-take-le}
 use Rattle.paper.proofs.Count.{some-here, some-one}
 use Rattle.paper.specs.Count.{some, FirstWhere}
 use Rattle.paper.proofs.Logic.{by-test, lt-or-ge, both, and-true, or-left, same-test, or-either, or-second}
-use Rattle.slots.specs.Ranges.{Ranges, RangesSound, personOf, startOf, endOf, opens, closes}
-use Rattle.slots.specs.Walk.{MergedFrom}
-use Rattle.slots.specs.Freeze.{Opening}
-use Rattle.slots.specs.Atomic.{startsOrEnds, isCut, NextCut, nearer}
-use Rattle.slots.specs.Atomic.{HeldMerged, opensOrCloses, isEdge, lineEnd, opensFrom, NextEdge}
+use Rattle.slots.specs.Ranges.{Ranges}
+use Rattle.slots.specs.Inside.{personOf, startOf, endOf, opens, closes, RangesSound, MergedFrom, Opening, startsOrEnds, keyCut}
+use Rattle.slots.specs.Inside.{NextCut, nearer, HeldMerged, opensOrCloses, isEdge, lineEnd, opensFrom, NextEdge}
 use Rattle.slots.proofs.Entries.{any-here, any-one}
 use Rattle.slots.proofs.Keys.{start-lt, end-lt}
 use Rattle.slots.proofs.MergedLaws.{held-known}
@@ -221,10 +219,10 @@ module _ (l : List ℕ) (after end : ℕ) where
         (or-either (eqb (personOf x * 268435456 + startOf x) (q * 268435456 + t))
         (eqb (personOf x * 268435456 + endOf x) (q * 268435456 + t)) e)
 
-    all-cuts : (t : ℕ) → t < 268435456 → cutBelow l 32 t ≡ isCut l t
-    unfolding isCut isEdge
+    all-cuts : (t : ℕ) → t < 268435456 → cutBelow l 32 t ≡ keyCut l t
+    unfolding keyCut isEdge
     all-cuts t h =
-        same-test (cutBelow l 32 t) (isCut l t)
+        same-test (cutBelow l 32 t) (keyCut l t)
         (λ e. some-one 32 (λ q. isEdge l (q * 268435456 + t)) _ e
         (λ q g u. any-one (opensOrCloses (q * 268435456 + t)) l _ u
         (λ k i w. any-here (startsOrEnds t) l k i (edge-own (getD l k 0) q t h w))))
@@ -232,7 +230,7 @@ module _ (l : List ℕ) (after end : ℕ) where
         (λ k i w. some-here 32 (personOf (getD l k 0)) (λ q. isEdge l (q * 268435456 + t)) (known k i)
         (any-here (opensOrCloses (personOf (getD l k 0) * 268435456 + t)) l k i (own-edge (getD l k 0) t w))))
 
-    pub below-end : (b : ℕ) → end ≤ 100000000 → FirstWhere true (cutBelow l 32) (suc after) end b → NextCut l after end b
+    pub below-end : (b : ℕ) → end ≤ 100000000 → FirstWhere true (cutBelow l 32) (suc after) end b → NextCut (keyCut l) after end b
     below-end b capped N =
         record {
           from = N .from;
@@ -242,7 +240,7 @@ module _ (l : List ℕ) (after end : ℕ) where
         }
 
 pub below-done : (keys : List ℕ) (n after end p b : ℕ) → HeldMerged keys n → end ≤ 100000000 → p ≤ 32 → 32 ≤ p
-    → FirstWhere true (cutBelow (take n keys) p) (suc after) end b → NextCut (take n keys) after end b
+    → FirstWhere true (cutBelow (take n keys) p) (suc after) end b → NextCut (keyCut (take n keys)) after end b
 below-done keys n after end p b H capped g h N =
     let q : p ≡ 32 = omega arith in
     below-end (take n keys) after end

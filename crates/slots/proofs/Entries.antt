@@ -10,7 +10,7 @@ use native.Mathlib.Omega.{arith}
 use lib.ListN.{length, getD, take, set}
 use lib.Seq.{take-suc-set}
 use Rattle.paper.proofs.Logic.{or-second, or-either, neither}
-use Rattle.slots.specs.Ranges.{anyOf}
+use Rattle.slots.specs.Inside.{anyOf}
 
 pub or-swap : (a b c : Bool) → a || (b || c) ≡ b || (a || c)
 or-swap true true c = refl

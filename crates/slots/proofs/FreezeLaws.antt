@@ -18,7 +18,8 @@ use Rattle.slotset.specs.Slots.{putSlot, putSlots}
 use Rattle.slotset.specs.Answers.{rowStretchOf, numberAs}
 use Rattle.slotset.proofs.Refusals.{says-row, stretch-puts}
 use Rattle.slots.specs.Lent.{SlotsSound}
-use Rattle.slots.specs.Freeze.{endsBy, endedBy, marked, freezeRow, freezeOf, Opening}
+use Rattle.slots.specs.Freeze.{endsBy, endedBy, marked, freezeRow, freezeOf}
+use Rattle.slots.specs.Inside.{Opening}
 use Rattle.slots.proofs.LentLaws.{slots-sound}
 
 -- ---- an opening stretch

@@ -2,26 +2,27 @@
 use mathlib.Core.Path.{_≡_, refl, sym, ap, ap₂, _∙_}
 use mathlib.Core.Bool.{Bool, true, _&&_, cond}
 use mathlib.Core.Logic.{⊎-elim}
-use mathlib.Core.List.{List}
+use mathlib.Core.List.{List, _++_}
 use Prim.Native.Nat.{ℕ, zero, suc, _+_, _-_, _*_, _≤_, _<_}
 use native.Mathlib.Nat.{not-suc-le-zero}
 use native.Mathlib.Omega.{arith}
 use borrow.Author.Tests.{le-leb, lt-ltb, eq-eqb, ne-eqb}
 use lib.Dec.{leb, ltb, eqb}
-use lib.ListN.{length, getD, length-set}
+use lib.ListN.{length, getD, drop, length-set, List·getD-append}
+use lib.Seq.{getD-append-add, getD-drop}
 use Rattle.paper.specs.Limits.{slotCountOk}
-use Rattle.paper.specs.Count.{all}
+use Rattle.paper.specs.Count.{all, onto}
 use Rattle.paper.proofs.Logic.{by-test, lt-or-ge, below-suc, and-true, both, slot-count-says}
-use Rattle.paper.proofs.Count.{all-same, sum-same, getD-over, getD-over-out, length-over}
+use Rattle.paper.proofs.Count.{all-same, sum-same, length-onto}
 use Rattle.slotset.specs.declared.Number.{Number}
 use Rattle.slotset.specs.Slots.{slot, putSlot, putSlots, valueOf}
 use Rattle.slotset.proofs.Puts.{slot-put, slot-puts-here, slot-puts-other, value-lt}
 use Rattle.slots.specs.Lent.{slotOk, prevEnd, slotOkAt, slotRoomOk, slotsOk, minutesAt, demandOf}
 use Rattle.slots.specs.Ranges.{Ranges, available}
-use Rattle.slots.specs.Freeze.{endsBy, marked}
-use Rattle.slots.specs.Merged.{written, MergedOut, MergedEnd}
+use Rattle.slots.specs.Merged.{MergedOut, MergedEnd}
 use Rattle.slots.specs.Atomic.{atomStarts, atomEnds, Atoms, AtomsEnd}
 use Rattle.slots.specs.Availability.{availableBit, rows}
+use Rattle.slots.specs.Freeze.{endsBy, marked}
 use Rattle.slots.proofs.LentLaws.{slots-each}
 use Rattle.slots.proofs.AvailLaws.{length-rows}
 use Rattle.slots.proofs.SplitLaws.{atoms-ok, atoms-even, atoms-some, atoms-demand}
@@ -121,21 +122,21 @@ unfolding availableBit
 available-slot R starts ends slots people ws few room p k h l =
     set-slot (availableBit R starts ends) (bit-lt-two R starts ends) slots few ws people room p k h l
 
--- ---- atomic slots in the columns that they were written to
+-- ---- a list at the front of a column
 
-pub written-at : (f : ℕ → ℕ) (list column : List ℕ) (k : ℕ) → k < length list → length list ≤ length column
-    → getD (written f list column) k 0 ≡ f (getD list k 0)
-unfolding written
-written-at f list column k h r = getD-over (λ k. f (getD list k 0)) (length list) column k h (omega arith)
+pub onto-at : (l old : List ℕ) (k : ℕ) → k < length l → getD (onto l old) k 0 ≡ getD l k 0
+unfolding onto
+onto-at l old k h = List·getD-append l (drop (length l) old) 0 k h
 
 -- what lies past the list's end stays
-pub written-past : (f : ℕ → ℕ) (list column : List ℕ) (k : ℕ) → length list ≤ k → getD (written f list column) k 0 ≡ getD column k 0
-unfolding written
-written-past f list column k h = getD-over-out (λ k. f (getD list k 0)) (length list) column k h
+pub onto-past : (l old : List ℕ) (k : ℕ) → length l ≤ k → getD (onto l old) k 0 ≡ getD old k 0
+unfolding onto
+onto-past l old k h =
+    let e : length l + (k - length l) ≡ k = omega arith in
+    ap (λ (j : ℕ). getD (l ++ drop (length l) old) j 0) (sym e) ∙ getD-append-add l (drop (length l) old) (k - length l) 0
+    ∙ getD-drop (length l) old (k - length l) 0 ∙ ap (λ (j : ℕ). getD old j 0) e
 
-pub written-length : (f : ℕ → ℕ) (list column : List ℕ) → length (written f list column) ≡ length column
-unfolding written
-written-length f list column = length-over (λ k. f (getD list k 0)) (length list) column
+-- ---- atomic slots in the columns that they were written to
 
 -- columns that agree on the slots give the same test and the same demand
 module _ (n : ℕ) (s e s′ e′ : List ℕ) (a : (k : ℕ) → k < n → getD s k 0 ≡ getD s′ k 0) (b : (k : ℕ) → k < n
@@ -155,49 +156,49 @@ module _ (n : ℕ) (s e s′ e′ : List ℕ) (a : (k : ℕ) → k < n → getD 
   demand-same = sum-same n (λ k. getD e k 0 - getD s k 0) (λ k. getD e′ k 0 - getD s′ k 0) (λ k h. ap₂ _-_ (b k h) (a k h))
 
 -- the atomic slots of base slots that pass, in columns s and e with room for them
-module _ (l : List ℕ) (slots : ℕ) (starts ends s e : List ℕ) (ok : slotsOk slots starts ends ≡ true)
-    (rs : length (atomStarts l slots starts ends) ≤ length s) (re : length (atomStarts l slots starts ends) ≤ length e) where
-  at-starts : (k : ℕ) → k < length (atomStarts l slots starts ends)
-      → getD (written (λ t. t) (atomStarts l slots starts ends) s) k 0 ≡ getD (atomStarts l slots starts ends) k 0
-  at-starts k h = written-at (λ t. t) (atomStarts l slots starts ends) s k h rs
+module _ (cut : ℕ → Bool) (slots : ℕ) (starts ends s e : List ℕ) (ok : slotsOk slots starts ends ≡ true)
+    (rs : length (atomStarts cut slots starts ends) ≤ length s) (re : length (atomStarts cut slots starts ends) ≤ length e) where
+  abbrev A : List ℕ
+  A = atomStarts cut slots starts ends
 
-  at-ends : (k : ℕ) → k < length (atomStarts l slots starts ends)
-      → getD (written (λ t. t) (atomEnds l slots starts ends) e) k 0 ≡ getD (atomEnds l slots starts ends) k 0
-  at-ends k h =
-      let same = atoms-even l slots starts ends in
-      written-at (λ t. t) (atomEnds l slots starts ends) e k (omega arith) (omega arith)
+  abbrev E : List ℕ
+  E = atomEnds cut slots starts ends
+
+  at-starts : (k : ℕ) → k < length A → getD (onto A s) k 0 ≡ getD A k 0
+  at-starts k h = onto-at A s k h
+
+  at-ends : (k : ℕ) → k < length A → getD (onto E e) k 0 ≡ getD E k 0
+  at-ends k h = onto-at E e k (omega (arith, atoms-even cut slots starts ends))
 
   -- they pass the test of lent slots
-  pub atoms-lent : slotsOk (length (atomStarts l slots starts ends)) (written (λ t. t) (atomStarts l slots starts ends) s)
-      (written (λ t. t) (atomEnds l slots starts ends) e) ≡ true
+  pub atoms-lent : slotsOk (length (atomStarts cut slots starts ends)) (onto (atomStarts cut slots starts ends) s)
+      (onto (atomEnds cut slots starts ends) e) ≡ true
   unfolding slotsOk slotRoomOk
   atoms-lent =
-      let A = atomStarts l slots starts ends in
-      let E = atomEnds l slots starts ends in
-      let w = both (slotRoomOk (length A) A E) (all (length A) (slotOkAt A E)) (atoms-ok l slots starts ends ok) in
+      let w = both (slotRoomOk (length A) A E) (all (length A) (slotOkAt A E)) (atoms-ok cut slots starts ends ok) in
+      let q = atoms-even cut slots starts ends in
       and-true _ _
-      (and-true _ _ (le-leb (length A) (length (written (λ t. t) A s)) (omega (arith, written-length (λ t. t) A s)))
-      (le-leb (length A) (length (written (λ t. t) E e)) (omega (arith, written-length (λ t. t) E e))))
-      (all-same (length A) (slotOkAt (written (λ t. t) A s) (written (λ t. t) E e)) (slotOkAt A E)
-      (tests-same (length A) (written (λ t. t) A s) (written (λ t. t) E e) A E at-starts at-ends) ∙ w .1)
+      (and-true _ _ (le-leb (length A) (length (onto A s)) (omega (arith, length-onto A s rs)))
+      (le-leb (length A) (length (onto E e)) (omega (arith, length-onto E e (omega (arith, q))))))
+      (all-same (length A) (slotOkAt (onto A s) (onto E e)) (slotOkAt A E)
+      (tests-same (length A) (onto A s) (onto E e) A E at-starts at-ends)
+      ∙ w .1)
 
   -- and their demand is that of the base slots
-  pub atoms-lent-demand : demandOf (length (atomStarts l slots starts ends)) (written (λ t. t) (atomStarts l slots starts ends) s)
-      (written (λ t. t) (atomEnds l slots starts ends) e) ≡ demandOf slots starts ends
+  pub atoms-lent-demand : demandOf (length (atomStarts cut slots starts ends)) (onto (atomStarts cut slots starts ends) s)
+      (onto (atomEnds cut slots starts ends) e) ≡ demandOf slots starts ends
   atoms-lent-demand =
-      let A = atomStarts l slots starts ends in
-      let E = atomEnds l slots starts ends in
-      demand-same (length A) (written (λ t. t) A s) (written (λ t. t) E e) A E at-starts at-ends
-      ∙ atoms-demand l slots starts ends (slots-each slots starts ends ok) slots (omega arith)
+      demand-same (length A) (onto A s) (onto E e) A E at-starts at-ends
+      ∙ atoms-demand cut slots starts ends (slots-each slots starts ends ok) slots (omega arith)
 
 -- where they are not refused, their number is one of 1 to 1,024
-pub atoms-count-ok : (l : List ℕ) (slots : ℕ) (starts ends : List ℕ) → slotCountOk slots ≡ true
-    → length (atomStarts l slots starts ends) ≤ 1024 → slotCountOk (length (atomStarts l slots starts ends)) ≡ true
+pub atoms-count-ok : (cut : ℕ → Bool) (slots : ℕ) (starts ends : List ℕ) → slotCountOk slots ≡ true
+    → length (atomStarts cut slots starts ends) ≤ 1024 → slotCountOk (length (atomStarts cut slots starts ends)) ≡ true
 unfolding slotCountOk
-atoms-count-ok l slots starts ends ok few =
+atoms-count-ok cut slots starts ends ok few =
     let one = slot-count-says slots ok .0 in
-    let n = length (atomStarts l slots starts ends) in
-    and-true _ _ (le-leb 1 n (omega (arith, atoms-some l slots starts ends))) (le-leb n 1024 few)
+    let n = length (atomStarts cut slots starts ends) in
+    and-true _ _ (le-leb 1 n (omega (arith, atoms-some cut slots starts ends))) (le-leb n 1024 few)
 
 -- ---- only one outcome fits
 

@@ -11,8 +11,8 @@ use borrow.Author.Tests.{ltb-true, ltb-false, leb-true, leb-false}
 use lib.Dec.{leb, ltb}
 use lib.ListN.{length, getD}
 use Rattle.paper.proofs.Logic.{by-test, lt-or-ge, same-test, or-left, or-either, or-second}
-use Rattle.slots.specs.Ranges.{anyOf, personOf, startOf, endOf, opens, closes, joined, covers, mergeIn, mergeAll, Spaced, IsMerged}
-use Rattle.slots.specs.Walk.{extended, closed, walkOn}
+use Rattle.slots.specs.Inside.{anyOf, personOf, startOf, endOf, opens, closes, SpacedKeys, extended, closed, walkOn}
+use Rattle.slots.proofs.Keys.{joinedKeys, keyCovers, mergeKeyIn, mergeKeys, AreMerged}
 use Rattle.slots.proofs.Keys.{inLine, in-line, line-in, opens-joined, closes-joined, empty-line, same-range}
 use Rattle.slots.proofs.Entries.{or-swap, any-same, any-none}
 use Rattle.slots.proofs.Keys.{covers-line, covers-far, opens-is, end-lt, touch-person, parts-of, end-of}
@@ -20,7 +20,7 @@ use Rattle.slots.proofs.Keys.{covers-line, covers-far, opens-is, end-lt
 -- ---- spaced lists
 
 -- nothing of a list lies before where it may begin
-pub before-none : (from q : ℕ) (l : List ℕ) → Spaced from l → q < from → anyOf (inLine q) l ≡ true → ⊥
+pub before-none : (from q : ℕ) (l : List ℕ) → SpacedKeys from l → q < from → anyOf (inLine q) l ≡ true → ⊥
 unfolding anyOf
 before-none from q [] s h e = mathlib.Core.Bool.false≢true e
 before-none from q (x ∷ l) s h e =
@@ -29,22 +29,22 @@ before-none from q (x ∷ l) s h e =
     (λ i. before-none (suc (closes x)) q l (s .2) (omega (arith, s .0, s .1)) i)
     (or-either (inLine q x) (anyOf (inLine q) l) e)
 
-pub spaced-from : (from to : ℕ) (l : List ℕ) → to ≤ from → Spaced from l → Spaced to l
+pub spaced-from : (from to : ℕ) (l : List ℕ) → to ≤ from → SpacedKeys from l → SpacedKeys to l
 spaced-from from to [] h s = tt
 spaced-from from to (x ∷ l) h s = (omega (arith, s .0), s .1, s .2)
 
 -- no entry is empty, and each closes before any later one opens
-pub spaced-filled : (from : ℕ) (l : List ℕ) → Spaced from l → (k : ℕ) → k < length l → opens (getD l k 0) < closes (getD l k 0)
+pub spaced-filled : (from : ℕ) (l : List ℕ) → SpacedKeys from l → (k : ℕ) → k < length l → opens (getD l k 0) < closes (getD l k 0)
 spaced-filled from [] s k h = absurd (not-suc-le-zero h)
 spaced-filled from (x ∷ l) s zero h = s .1
 spaced-filled from (x ∷ l) s (suc k) h = spaced-filled (suc (closes x)) l (s .2) k (omega arith)
 
-spaced-after : (from : ℕ) (l : List ℕ) → Spaced from l → (k : ℕ) → k < length l → from ≤ opens (getD l k 0)
+spaced-after : (from : ℕ) (l : List ℕ) → SpacedKeys from l → (k : ℕ) → k < length l → from ≤ opens (getD l k 0)
 spaced-after from [] s k h = absurd (not-suc-le-zero h)
 spaced-after from (x ∷ l) s zero h = s .0
 spaced-after from (x ∷ l) s (suc k) h = omega (arith, spaced-after (suc (closes x)) l (s .2) k (omega arith), s .0, s .1)
 
-pub spaced-apart : (from : ℕ) (l : List ℕ) → Spaced from l → (k j : ℕ) → k < j → j < length l → closes (getD l k 0) < opens (getD l j 0)
+pub spaced-apart : (from : ℕ) (l : List ℕ) → SpacedKeys from l → (k j : ℕ) → k < j → j < length l → closes (getD l k 0) < opens (getD l j 0)
 spaced-apart from [] s k j h g = absurd (not-suc-le-zero g)
 spaced-apart from (x ∷ l) s k zero h g = absurd (not-suc-le-zero h)
 spaced-apart from (x ∷ l) s zero (suc j) h g = spaced-after (suc (closes x)) l (s .2) j (omega arith)
@@ -72,8 +72,8 @@ union-test q x y z a b c d =
     (or-either (inLine q x) (inLine q y) e))
 
 -- the list has the range's places as well, and no others
-pub put-places : (q x : ℕ) (l : List ℕ) → anyOf (inLine q) (mergeIn x l) ≡ inLine q x || anyOf (inLine q) l
-unfolding mergeIn anyOf
+pub put-places : (q x : ℕ) (l : List ℕ) → anyOf (inLine q) (mergeKeyIn x l) ≡ inLine q x || anyOf (inLine q) l
+unfolding mergeKeyIn anyOf
 put-places q x [] = refl
 put-places q x (y ∷ l) =
     by-test (ltb (closes x) (opens y)) _
@@ -83,12 +83,12 @@ put-places q x (y ∷ l) =
     (λ g. simp (f, g)
     (let c = ltb-false (closes x) (opens y) f in
     let d = ltb-false (closes y) (opens x) g in
-    put-places q (joined x y) l
-    ∙ ap (λ (b : Bool). b || anyOf (inLine q) l) (union-test q x y (joined x y) (opens-joined x y c d) (closes-joined x y c d) c d)
+    put-places q (joinedKeys x y) l
+    ∙ ap (λ (b : Bool). b || anyOf (inLine q) l) (union-test q x y (joinedKeys x y) (opens-joined x y c d) (closes-joined x y c d) c d)
     ∙ or-assoc (inLine q x) (inLine q y) (anyOf (inLine q) l))))
 
-pub put-spaced : (from x : ℕ) (l : List ℕ) → from ≤ opens x → opens x < closes x → Spaced from l → Spaced from (mergeIn x l)
-unfolding mergeIn
+pub put-spaced : (from x : ℕ) (l : List ℕ) → from ≤ opens x → opens x < closes x → SpacedKeys from l → SpacedKeys from (mergeKeyIn x l)
+unfolding mergeKeyIn
 put-spaced from x [] a b s = (a, b, tt)
 put-spaced from x (y ∷ l) a b s =
     by-test (ltb (closes x) (opens y)) _
@@ -100,7 +100,7 @@ put-spaced from x (y ∷ l) a b s =
     let d = ltb-false (closes y) (opens x) g in
     let o = opens-joined x y c d in
     let e = closes-joined x y c d in
-    put-spaced from (joined x y) l (omega (arith, s .0)) (omega arith) (spaced-from (suc (closes y)) from l (omega (arith, s .0, s .1))
+    put-spaced from (joinedKeys x y) l (omega (arith, s .0)) (omega arith) (spaced-from (suc (closes y)) from l (omega (arith, s .0, s .1))
     (s .2)))))
 
 -- an empty range has no place
@@ -110,25 +110,25 @@ empty-none q x f =
     (λ e. let w = in-line q x e in let g = ltb-false (opens x) (closes x) (sym (empty-line x) ∙ f) in absurd (omega arith))
     (λ e. absurd (mathlib.Core.Bool.false≢true e))
 
-pub all-places : (q : ℕ) (l : List ℕ) → anyOf (inLine q) (mergeAll l) ≡ anyOf (inLine q) l
-unfolding mergeAll anyOf
+pub all-places : (q : ℕ) (l : List ℕ) → anyOf (inLine q) (mergeKeys l) ≡ anyOf (inLine q) l
+unfolding mergeKeys anyOf
 all-places q [] = refl
 all-places q (x ∷ l) =
     by-test (ltb (startOf x) (endOf x)) _
-    (λ t. simp t (put-places q x (mergeAll l) ∙ ap (λ (b : Bool). inLine q x || b) (all-places q l)))
+    (λ t. simp t (put-places q x (mergeKeys l) ∙ ap (λ (b : Bool). inLine q x || b) (all-places q l)))
     (λ f. simp (f, empty-none q x f) (all-places q l))
 
-pub all-spaced : (l : List ℕ) → Spaced 0 (mergeAll l)
-unfolding mergeAll
+pub all-spaced : (l : List ℕ) → SpacedKeys 0 (mergeKeys l)
+unfolding mergeKeys
 all-spaced [] = tt
 all-spaced (x ∷ l) =
     by-test (ltb (startOf x) (endOf x)) _
-    (λ t. simp t (put-spaced 0 x (mergeAll l) (omega arith) (ltb-true (opens x) (closes x) (sym (empty-line x) ∙ t)) (all-spaced l)))
+    (λ t. simp t (put-spaced 0 x (mergeKeys l) (omega arith) (ltb-true (opens x) (closes x) (sym (empty-line x) ∙ t)) (all-spaced l)))
     (λ f. simp f (all-spaced l))
 
 -- ---- only one list has these places
 
-module _ (x y : ℕ) (k l : List ℕ) (from : ℕ) (s : Spaced from (x ∷ k)) (u : Spaced from (y ∷ l))
+module _ (x y : ℕ) (k l : List ℕ) (from : ℕ) (s : SpacedKeys from (x ∷ k)) (u : SpacedKeys from (y ∷ l))
     (same : (q : ℕ) → inLine q x || anyOf (inLine q) k ≡ inLine q y || anyOf (inLine q) l) where
   head-opens : opens y ≤ opens x
   head-opens =
@@ -154,7 +154,7 @@ module _ (x y : ℕ) (k l : List ℕ) (from : ℕ) (s : Spaced from (x ∷ k)) (
       (lt-or-ge (closes x) (closes y))
 
 -- a place of the rest is one of the whole, past the first entry's close
-rest-places : (x y : ℕ) (k l : List ℕ) → x ≡ y → Spaced (suc (closes x)) k → Spaced (suc (closes y)) l
+rest-places : (x y : ℕ) (k l : List ℕ) → x ≡ y → SpacedKeys (suc (closes x)) k → SpacedKeys (suc (closes y)) l
     → ((q : ℕ) → inLine q x || anyOf (inLine q) k ≡ inLine q y || anyOf (inLine q) l)
     → (q : ℕ) → anyOf (inLine q) k ≡ true → anyOf (inLine q) l ≡ true
 rest-places x y k l e s u same q i =
@@ -167,7 +167,8 @@ rest-places x y k l e s u same q i =
     (or-either (inLine q y) (anyOf (inLine q) l) (sym (same q) ∙ or-second (inLine q x) _ i)))
     (lt-or-ge q (suc (closes x)))
 
-pub one-spaced : (from : ℕ) (k l : List ℕ) → Spaced from k → Spaced from l → ((q : ℕ) → anyOf (inLine q) k ≡ anyOf (inLine q) l) → k ≡ l
+pub one-spaced : (from : ℕ) (k l : List ℕ) → SpacedKeys from k → SpacedKeys from l
+    → ((q : ℕ) → anyOf (inLine q) k ≡ anyOf (inLine q) l) → k ≡ l
 unfolding anyOf
 one-spaced from [] [] s u same = refl
 one-spaced from [] (y ∷ l) s u same =
@@ -242,14 +243,15 @@ walk-places q z (x ∷ l) s =
     ∙ or-assoc (inLine q z) (inLine q x) (anyOf (inLine q) l)))
     (λ f. simp f (closed-places q z (walkOn x l) ∙ ap (λ (b : Bool). inLine q z || b) (walk-places q x l (s .2))))
 
-closed-spaced : (from z : ℕ) (l : List ℕ) → from ≤ opens z → opens z ≤ closes z → Spaced (suc (closes z)) l → Spaced from (closed z l)
+closed-spaced : (from z : ℕ) (l : List ℕ) → from ≤ opens z → opens z ≤ closes z → SpacedKeys (suc (closes z)) l
+    → SpacedKeys from (closed z l)
 unfolding closed
 closed-spaced from z l h g s =
     by-test (ltb (startOf z) (endOf z)) _
     (λ t. simp t (h, ltb-true (opens z) (closes z) (sym (empty-line z) ∙ t), s))
     (λ f. simp f (spaced-from (suc (closes z)) from l (omega arith) s))
 
-pub walk-spaced : (from z : ℕ) (l : List ℕ) → Rising (opens z) l → from ≤ opens z → opens z ≤ closes z → Spaced from (walkOn z l)
+pub walk-spaced : (from z : ℕ) (l : List ℕ) → Rising (opens z) l → from ≤ opens z → opens z ≤ closes z → SpacedKeys from (walkOn z l)
 unfolding walkOn
 walk-spaced from z [] s h g = closed-spaced from z [] h g tt
 walk-spaced from z (x ∷ l) s h g =
@@ -267,20 +269,21 @@ walk-spaced from z (x ∷ l) s h g =
 
 -- ---- in minutes
 
-pub any-minutes : (p t : ℕ) (l : List ℕ) → t < 268435456 → anyOf (covers p t) l ≡ anyOf (inLine (p * 268435456 + t)) l
-any-minutes p t l h = any-same (covers p t) (inLine (p * 268435456 + t)) l (λ x. covers-line p t x h)
+pub any-minutes : (p t : ℕ) (l : List ℕ) → t < 268435456 → anyOf (keyCovers p t) l ≡ anyOf (inLine (p * 268435456 + t)) l
+any-minutes p t l h = any-same (keyCovers p t) (inLine (p * 268435456 + t)) l (λ x. covers-line p t x h)
 
 -- lists with the same places have the same minutes
 pub places-minutes : (k l : List ℕ) → ((q : ℕ) → anyOf (inLine q) k ≡ anyOf (inLine q) l) → (p t : ℕ)
-    → anyOf (covers p t) k ≡ anyOf (covers p t) l
+    → anyOf (keyCovers p t) k ≡ anyOf (keyCovers p t) l
 places-minutes k l f p t =
     ⊎-elim
     (λ (h : t < 268435456). any-minutes p t k h ∙ f (p * 268435456 + t) ∙ sym (any-minutes p t l h))
-    (λ (h : 268435456 ≤ t). any-none (covers p t) k (λ x. covers-far p t x h) ∙ sym (any-none (covers p t) l (λ x. covers-far p t x h)))
+    (λ (h : 268435456 ≤ t). any-none (keyCovers p t) k (λ x. covers-far p t x h)
+    ∙ sym (any-none (keyCovers p t) l (λ x. covers-far p t x h)))
     (lt-or-ge t 268435456)
 
 -- and the other way round
-pub minutes-places : (k l : List ℕ) → ((p t : ℕ) → anyOf (covers p t) k ≡ anyOf (covers p t) l) → (q : ℕ)
+pub minutes-places : (k l : List ℕ) → ((p t : ℕ) → anyOf (keyCovers p t) k ≡ anyOf (keyCovers p t) l) → (q : ℕ)
     → anyOf (inLine q) k ≡ anyOf (inLine q) l
 minutes-places k l f q =
     let p = q / 268435456 in
@@ -291,6 +294,6 @@ minutes-places k l f q =
     ∙ ap (λ (x : ℕ). anyOf (inLine x) l) e
 
 -- only one list is the merged list of these minutes
-pub one-merged : (lies : ℕ → ℕ → Bool) (k l : List ℕ) → IsMerged lies k → IsMerged lies l → k ≡ l
+pub one-merged : (lies : ℕ → ℕ → Bool) (k l : List ℕ) → AreMerged lies k → AreMerged lies l → k ≡ l
 one-merged lies k l a b =
     one-spaced 0 k l (a .spaced) (b .spaced) (minutes-places k l (λ p t. a .minutes p t ∙ sym (b .minutes p t)))

@@ -7,17 +7,19 @@ use native.Mathlib.Nat.{le-antisymm}
 use native.Mathlib.Numerals.{add-one}
 use native.Mathlib.Omega.{arith}
 use borrow.Author.Tests.{ltb-true, ltb-false, leb-true, le-ltb}
-use lib.Dec.{leb, ltb}
+use lib.Dec.{leb, ltb, eqb}
 use lib.ListN.{length, getD, take, drop, set, length-append}
 use lib.Seq.{take-at, length-take-le}
 use Rattle.paper.specs.Limits.{peopleOk}
 use Rattle.paper.specs.Count.{all, some}
 use Rattle.paper.proofs.Logic.{both, three, people-says}
-use Rattle.paper.proofs.Count.{all-each}
-use Rattle.slots.specs.Ranges.{anyOf, Ranges, rangeCountOk, rangeRoomOk, rangeOk, rangeOkAt, rangesOk, RangesSound}
-use Rattle.slots.specs.Ranges.{inRange, inRanges, keyOf, personOf, startOf, endOf, keyAt, keysTo, keysOf, covers, opens, closes}
-use Rattle.slots.specs.Ranges.{mergeAll, mergedOf, IsMerged}
-use Rattle.slots.specs.Walk.{SortedTo, SameEntries, walkOn, MergedFrom}
+use Rattle.paper.proofs.Count.{all-each, some-one}
+use Rattle.slots.specs.Ranges.{rangeAt, Range, Ranges, rangeCountOk, rangeRoomOk, rangeOk, rangeOkAt, rangesOk, covers, inRanges}
+use Rattle.slots.specs.Merged.{mergedOf, IsMerged}
+use Rattle.slots.specs.Inside.{anyOf, keyOf, personOf, startOf, endOf, keyAt, keysTo, keysOf, opens, closes, packedAll}
+use Rattle.slots.specs.Inside.{RangesSound, SortedTo, SameEntries, walkOn, MergedFrom}
+use Rattle.slots.proofs.Keys.{keyCovers, mergeKeys, mergedKeys, AreMerged}
+use Rattle.slots.proofs.Packed.{small-merged, merged-packed, lies-packed, spaced-ranges, spaced-packed, unpacked-same, small-of}
 use Rattle.slots.proofs.WalkLaws.{walk-few}
 use Rattle.slots.proofs.Keys.{person-key, start-key, end-key, inLine, opens-mono}
 use Rattle.slots.proofs.Entries.{any-append, any-not, push}
@@ -60,6 +62,13 @@ ranges-sound people R a b e =
       capped = λ k h. range-says people R k (f k h) .1;
     }
 
+-- each is a known person's
+pub ranges-known : (people : ℕ) (R : Ranges) → rangesOk people R ≡ true → (k : ℕ) → k < R .count → getD (R .persons) k 0 < people
+unfolding rangesOk
+ranges-known people R e k h =
+    let x = both (rangeRoomOk R) (all (R .count) (rangeOkAt people R)) e in
+    range-says people R k (all-each (R .count) (rangeOkAt people R) (x .1) k h) .2
+
 -- ---- the ranges as numbers
 
 pub length-keys : (R : Ranges) (n : ℕ) → length (keysTo R n) ≡ n
@@ -88,18 +97,18 @@ module _ (R : Ranges) (S : RangesSound R) (k : ℕ) (h : k < R .count) where
   unfolding keyAt
   end-at = end-key _ _ _ (omega (arith, S .capped k h))
 
-  pub covers-at : (p t : ℕ) → covers p t (keyAt R k) ≡ inRange R p t k
-  unfolding covers inRange
+  pub covers-at : (p t : ℕ) → keyCovers p t (keyAt R k) ≡ covers p t (rangeAt R k)
+  unfolding keyCovers covers
   covers-at p t = simp (person-at, start-at, end-at)
 
 -- the numbers have the minutes of the ranges
 pub keys-minutes : (R : Ranges) → RangesSound R → (n : ℕ) → n ≤ R .count → (p t : ℕ)
-    → anyOf (covers p t) (keysTo R n) ≡ some n (inRange R p t)
+    → anyOf (keyCovers p t) (keysTo R n) ≡ some n (λ k. covers p t (rangeAt R k))
 unfolding anyOf keysTo some
 keys-minutes R S zero h p t = refl
 keys-minutes R S (suc n) h p t =
-    any-append (covers p t) (keysTo R n) (keyAt R n ∷ [])
-    ∙ ap₂ _||_ (keys-minutes R S n (omega arith) p t) (or-false (covers p t (keyAt R n)) ∙ covers-at R S n (omega arith) p t)
+    any-append (keyCovers p t) (keysTo R n) (keyAt R n ∷ [])
+    ∙ ap₂ _||_ (keys-minutes R S n (omega arith) p t) (or-false (keyCovers p t (keyAt R n)) ∙ covers-at R S n (omega arith) p t)
 
 proper-at : (R : Ranges) → RangesSound R → (k : ℕ) → k < R .count → ltb (closes (keyAt R k)) (opens (keyAt R k)) ≡ false
 unfolding closes opens
@@ -117,15 +126,45 @@ keys-proper R S (suc n) h =
 
 -- ---- the merged list
 
-pub merged-is : (R : Ranges) → RangesSound R → IsMerged (inRanges R) (mergedOf R)
-unfolding mergedOf keysOf inRanges
+pub merged-is : (R : Ranges) → RangesSound R → AreMerged (inRanges R) (mergedKeys R)
+unfolding mergedKeys keysOf inRanges
 merged-is R S =
     record {
       spaced = all-spaced (keysTo R (R .count));
       minutes = λ p t.
-          places-minutes (mergeAll (keysTo R (R .count))) (keysTo R (R .count)) (λ q. all-places q (keysTo R (R .count))) p t
+          places-minutes (mergeKeys (keysTo R (R .count))) (keysTo R (R .count)) (λ q. all-places q (keysTo R (R .count))) p t
           ∙ keys-minutes R S (R .count) (omega arith) p t;
     }
+
+-- the merged ranges meet the statement over minutes, and only they do
+module _ (R : Ranges) (S : RangesSound R) where
+  pub merged-ranges-are : IsMerged (inRanges R) (mergedOf R)
+  merged-ranges-are =
+      let M = merged-is R S in
+      let a = small-merged R S in
+      record {
+        spaced = spaced-ranges 0 (mergedOf R) a (rw (merged-packed R S) (M .spaced));
+        minutes = λ p t. lies-packed p t (mergedOf R) a ∙ ap (anyOf (keyCovers p t)) (merged-packed R S) ∙ M .minutes p t;
+      }
+
+  -- no minute of the ranges is past the last
+  lies-below : (p t : ℕ) → inRanges R p t ≡ true → t < 100000000
+  unfolding inRanges covers
+  lies-below p t e =
+      some-one (R .count) (λ k. covers p t (rangeAt R k)) _ e
+      (λ k h i.
+      let w = three (eqb (getD (R .persons) k 0) p) (leb (getD (R .starts) k 0) t) (ltb t (getD (R .ends) k 0)) i in
+      omega (arith, ltb-true t (getD (R .ends) k 0) (w .2), S .capped k h))
+
+  pub one-merged-ranges : (l : List Range) → IsMerged (inRanges R) l → l ≡ mergedOf R
+  one-merged-ranges l M =
+      let a = small-of l (λ p t i. lies-below p t (sym (M .minutes p t) ∙ i)) (M .spaced) in
+      let packs : AreMerged (inRanges R) (packedAll l) = record {
+        spaced = spaced-packed l a (M .spaced);
+        minutes = λ p t. sym (lies-packed p t l a) ∙ M .minutes p t;
+      } in
+      unpacked-same l (mergedOf R) a (small-merged R S)
+      (one-merged (inRanges R) (packedAll l) (mergedKeys R) packs (merged-is R S) ∙ sym (merged-packed R S))
 
 -- ---- numbers in order
 
@@ -153,19 +192,19 @@ rising-of from (x ∷ l) s f g = (
 )
 
 -- the walk over the ranges in order gives the merged list
-pub walk-merged : (R : Ranges) → RangesSound R → (l : List ℕ) → SortedTo (length l) l → SameEntries l (keysOf R) → walkOn 0 l ≡ mergedOf R
+pub walk-merged : (R : Ranges) → RangesSound R → (l : List ℕ) → SortedTo (length l) l → SameEntries l (keysOf R) → walkOn 0 l ≡ mergedKeys R
 unfolding keysOf inRanges
 walk-merged R S l s e =
     let g : (k : ℕ) → k < length l → opens (getD l k 0) ≤ closes (getD l k 0) = λ k h.
     ltb-false _ _ (any-not (λ x. ltb (closes x) (opens x)) l (e (λ x. ltb (closes x) (opens x))
     ∙ keys-proper R S (R .count) (omega arith)) k h) in
     let r : Rising (opens 0) l = rising-of (opens 0) l s (λ k h. opens-mono 0 (getD l k 0) (omega arith)) g in
-    one-merged (inRanges R) (walkOn 0 l) (mergedOf R)
+    one-merged (inRanges R) (walkOn 0 l) (mergedKeys R)
     (record {
       spaced = walk-spaced 0 0 l r (omega arith) (zero-line .0);
       minutes = λ p t.
           places-minutes (walkOn 0 l) l (λ q. walk-places q 0 l r ∙ ap (λ (b : Bool). b || anyOf (inLine q) l) (zero-line .1 q)) p t
-          ∙ e (covers p t) ∙ keys-minutes R S (R .count) (omega arith) p t;
+          ∙ e (keyCovers p t) ∙ keys-minutes R S (R .count) (omega arith) p t;
     })
     (merged-is R S)
 
@@ -210,7 +249,7 @@ module _ (n : ℕ) (keys sorted : List ℕ) (few : n ≤ length keys) (kept : le
       → m ≡ length (walkOn 0 (take n (sorted ++ drop n keys))) → take m out ≡ walkOn 0 (take n (sorted ++ drop n keys))
       → MergedFrom R out m
   front-merged R S e k s same m out f a b =
-      let w : walkOn 0 (take n (sorted ++ drop n keys)) ≡ mergedOf R =
+      let w : walkOn 0 (take n (sorted ++ drop n keys)) ≡ mergedKeys R =
       ap (walkOn 0) front-sorted ∙ walk-merged R S sorted (λ i j x y. s i j x (omega (arith, kept))) (λ p. same p ∙ ap (anyOf p) k) in
       let few : m ≤ n = omega (arith, walk-few (take n (sorted ++ drop n keys)), front-length) in
-      record { fits = omega arith; few = omega arith; list = b ∙ w }
+      record { fits = omega arith; few = omega arith; list = b ∙ w ∙ sym (merged-packed R S) }

@@ -1,27 +1,30 @@
 -- Atomic slots are the one list that splits each base slot at every cut strictly inside it and nowhere else. They pass the test of
 -- lent slots, their lengths add up slot by slot and in all, and each is wholly available to a person or not at all. Assumes nothing.
 use mathlib.Core.Path.{_≡_, refl, sym, ap, ap₂, _∙_}
-use mathlib.Core.Bool.{Bool, true, false}
+use mathlib.Core.Bool.{Bool, true, false, _&&_, cond}
 use mathlib.Core.Logic.{_⊎_, inl, inr, ⊎-elim}
 use mathlib.Core.List.{List, [], _∷_, _++_}
 use Prim.Native.Nat.{ℕ, zero, suc, _+_, _-_, _≤_, _<_}
 use native.Mathlib.Nat.{not-suc-le-zero}
 use native.Mathlib.Omega.{arith}
 use borrow.Author.Tests.{lt-ltb, le-leb, eq-eqb}
-use lib.Dec.{eqb}
+use lib.Dec.{ltb, eqb}
 use lib.ListN.{length, getD, length-append, List·getD-append}
 use lib.Seq.{getD-append-add}
 use Rattle.paper.specs.Count.{sum, among}
 use Rattle.paper.proofs.Logic.{by-test, lt-or-ge, and-true, or-left, or-second}
 use Rattle.paper.proofs.Count.{each-all, sum-same, sum-after, among-in, among-out, each-in}
 use Rattle.slots.specs.Lent.{slotOk, prevEnd, slotOkAt, slotRoomOk, slotsOk, minutesAt, demandOf}
-use Rattle.slots.specs.Ranges.{Ranges, RangesSound, inRanges, available, startOf, endOf, covers, mergedOf}
-use Rattle.slots.specs.Atomic.{startsOrEnds, isCut, cutAfter, cutsIn, IsCuts, atomStarts, atomEnds}
+use Rattle.slots.specs.Ranges.{Ranges, inRanges, available}
+use Rattle.slots.specs.Atomic.{isCut, cutAfter, cutsIn, IsCuts, atomStarts, atomEnds}
+use Rattle.slots.specs.Inside.{startOf, endOf, RangesSound, startsOrEnds, keyCut}
+use Rattle.slots.proofs.Keys.{keyCovers, mergedKeys}
 use Rattle.slots.proofs.Entries.{any-here, any-one}
 use Rattle.slots.proofs.Keys.{covers-says, says-covers}
 use Rattle.slots.proofs.LentLaws.{slot-says, slots-each, prev-capped}
 use Rattle.slots.proofs.RangeLaws.{merged-is}
 use Rattle.slots.proofs.CutLaws.{cuts-none}
+use Rattle.slots.proofs.CutMinutes.{cut-is}
 
 -- ---- the cuts of one slot
 
@@ -41,26 +44,26 @@ cuts-join : (cut : ℕ → Bool) (lo : ℕ) (c : List ℕ) (hi : ℕ) → IsCuts
 cuts-join cut lo [] hi s e = (s .0, e, s .1, (omega arith, λ t a b. absurd (omega arith)))
 cuts-join cut lo (x ∷ c) hi s e = (s .0, s .1, s .2, cuts-join cut x c hi (s .3) e)
 
-module _ (l : List ℕ) (s : ℕ) where
-  cut-after : (t : ℕ) → s < t → cutAfter l s t ≡ isCut l t
+module _ (cut : ℕ → Bool) (s : ℕ) where
+  cut-after : (t : ℕ) → s < t → cutAfter cut s t ≡ cut t
   unfolding cutAfter
   cut-after t h = simp (lt-ltb s t h)
 
-  cuts-upto : (d : ℕ) → IsCuts (isCut l) s (among (cutAfter l s) (s + 1 + d)) (s + 1 + d)
+  cuts-upto : (d : ℕ) → IsCuts cut s (among (cutAfter cut s) (s + 1 + d)) (s + 1 + d)
   cuts-upto zero =
       let e : s + 1 + zero ≡ s + 1 = omega arith in
-      rw (e, cuts-none l s) (omega arith, λ t a b. absurd (omega arith))
+      rw (e, cuts-none cut s) (omega arith, λ t a b. absurd (omega arith))
   cuts-upto (suc d) =
       let n = s + 1 + d in
       let e : s + 1 + suc d ≡ n + 1 = omega arith in
       let h : s < n = omega arith in
       rw e
-      (by-test (isCut l n) _
-      (λ t. rw (among-in (cutAfter l s) n (cut-after n h ∙ t)) (cuts-join (isCut l) s (among (cutAfter l s) n) n (cuts-upto d) t))
-      (λ f. rw (among-out (cutAfter l s) n (cut-after n h ∙ f)) (cuts-extend (isCut l) s (among (cutAfter l s) n) n (cuts-upto d) f)))
+      (by-test (cut n) _
+      (λ t. rw (among-in (cutAfter cut s) n (cut-after n h ∙ t)) (cuts-join cut s (among (cutAfter cut s) n) n (cuts-upto d) t))
+      (λ f. rw (among-out (cutAfter cut s) n (cut-after n h ∙ f)) (cuts-extend cut s (among (cutAfter cut s) n) n (cuts-upto d) f)))
 
   -- the cuts strictly inside a slot are all those that the definition lists
-  pub cuts-are : (e : ℕ) → s < e → IsCuts (isCut l) s (cutsIn l s e) e
+  pub cuts-are : (e : ℕ) → s < e → IsCuts cut s (cutsIn cut s e) e
   unfolding cutsIn
   cuts-are e h = let q : s + 1 + (e - (s + 1)) ≡ e = omega arith in rw q at (cuts-upto (e - (s + 1)))
 
@@ -83,6 +86,30 @@ one-cuts cut lo (x ∷ c) (y ∷ d) hi s u =
     (lt-or-ge y x))
     (lt-or-ge x y)
 
+-- tests that agree have the same cuts, and the same pieces
+
+among-same : (p q : ℕ → Bool) → ((t : ℕ) → p t ≡ q t) → (n : ℕ) → among p n ≡ among q n
+unfolding among
+among-same p q f zero = refl
+among-same p q f (suc n) = ap₂ (λ (a : List ℕ) (b : Bool). a ++ cond b (n ∷ []) []) (among-same p q f n) (f n)
+
+module _ (p q : ℕ → Bool) (same : (t : ℕ) → p t ≡ q t) (starts ends : List ℕ) where
+  cuts-same : (s e : ℕ) → cutsIn p s e ≡ cutsIn q s e
+  unfolding cutsIn cutAfter
+  cuts-same s e = among-same (λ t. ltb s t && p t) (λ t. ltb s t && q t) (λ t. ap (λ (b : Bool). ltb s t && b) (same t)) e
+
+  pub starts-same : (n : ℕ) → atomStarts p n starts ends ≡ atomStarts q n starts ends
+  unfolding atomStarts
+  starts-same zero = refl
+  starts-same (suc n) =
+      ap₂ (λ (a b : List ℕ). a ++ (getD starts n 0 ∷ b)) (starts-same n) (cuts-same (getD starts n 0) (getD ends n 0))
+
+  pub ends-same : (n : ℕ) → atomEnds p n starts ends ≡ atomEnds q n starts ends
+  unfolding atomEnds
+  ends-same zero = refl
+  ends-same (suc n) =
+      ap₂ (λ (a b : List ℕ). a ++ (b ++ (getD ends n 0 ∷ []))) (ends-same n) (cuts-same (getD starts n 0) (getD ends n 0))
+
 -- ---- the one list: whatever lists of cuts are taken for the slots, if each has exactly the cuts strictly inside its slot
 
 -- the lists f 0, f 1 and on, n of them, one after another
@@ -90,18 +117,18 @@ unfoldable pub strung : (ℕ → List ℕ) → ℕ → List ℕ
 strung f zero = []
 strung f (suc n) = strung f n ++ f n
 
-pub one-atoms : (l : List ℕ) (n : ℕ) (starts ends : List ℕ) (c : ℕ → List ℕ)
-    → ((k : ℕ) → k < n → IsCuts (isCut l) (getD starts k 0) (c k) (getD ends k 0))
-    → (strung (λ k. getD starts k 0 ∷ c k) n ≡ atomStarts l n starts ends)
-    × (strung (λ k. c k ++ (getD ends k 0 ∷ [])) n ≡ atomEnds l n starts ends)
+pub one-atoms : (cut : ℕ → Bool) (n : ℕ) (starts ends : List ℕ) (c : ℕ → List ℕ)
+    → ((k : ℕ) → k < n → IsCuts cut (getD starts k 0) (c k) (getD ends k 0))
+    → (strung (λ k. getD starts k 0 ∷ c k) n ≡ atomStarts cut n starts ends)
+    × (strung (λ k. c k ++ (getD ends k 0 ∷ [])) n ≡ atomEnds cut n starts ends)
 unfolding strung atomStarts atomEnds
-one-atoms l zero starts ends c f = (refl, refl)
-one-atoms l (suc n) starts ends c f =
+one-atoms cut zero starts ends c f = (refl, refl)
+one-atoms cut (suc n) starts ends c f =
     let s = getD starts n 0 in
     let e = getD ends n 0 in
-    let r = one-atoms l n starts ends c (λ k h. f k (omega arith)) in
+    let r = one-atoms cut n starts ends c (λ k h. f k (omega arith)) in
     let own = f n (omega arith) in
-    let q : c n ≡ cutsIn l s e = one-cuts (isCut l) s (c n) (cutsIn l s e) e own (cuts-are l s e (cuts-order (isCut l) s (c n) e own)) in (
+    let q : c n ≡ cutsIn cut s e = one-cuts cut s (c n) (cutsIn cut s e) e own (cuts-are cut s e (cuts-order cut s (c n) e own)) in (
       ap₂ (λ (a b : List ℕ). a ++ (s ∷ b)) (r .0) q,
       ap₂ (λ (a b : List ℕ). a ++ (b ++ (e ∷ []))) (r .1) q,
     )
@@ -145,19 +172,20 @@ chain-pieces cut lo [] hi s = (omega arith, s .0, omega arith)
 chain-pieces cut lo (x ∷ c) hi s = (omega arith, s .0, chain-pieces cut x c hi (s .3))
 
 -- all pieces
-pub chain-atoms : (l : List ℕ) (slots : ℕ) (starts ends : List ℕ) → ((k : ℕ) → k < slots → slotOkAt starts ends k ≡ true) → (n : ℕ)
+pub chain-atoms : (cut : ℕ → Bool) (slots : ℕ) (starts ends : List ℕ) → ((k : ℕ) → k < slots → slotOkAt starts ends k ≡ true) → (n : ℕ)
     → n ≤ slots
-    → Chain 0 (atomStarts l n starts ends) (atomEnds l n starts ends) (prevEnd ends n)
+    → Chain 0 (atomStarts cut n starts ends) (atomEnds cut n starts ends) (prevEnd ends n)
 unfolding atomStarts atomEnds prevEnd
-chain-atoms l slots starts ends each zero h = omega arith
-chain-atoms l slots starts ends each (suc n) h =
+chain-atoms cut slots starts ends each zero h = omega arith
+chain-atoms cut slots starts ends each (suc n) h =
     let s = getD starts n 0 in
     let e = getD ends n 0 in
     let w = slot-says starts ends n (each n (omega arith)) in
-    chain-append 0 (atomStarts l n starts ends) (atomEnds l n starts ends) (prevEnd ends n) (s ∷ cutsIn l s e) (cutsIn l s e ++ (e ∷ [])) e
-    (chain-atoms l slots starts ends each n (omega arith))
-    (chain-from s (prevEnd ends n) (s ∷ cutsIn l s e) (cutsIn l s e ++ (e ∷ [])) e (w .0) (chain-pieces (isCut l) s (cutsIn l s e) e
-    (cuts-are l s e (w .1))))
+    chain-append 0 (atomStarts cut n starts ends) (atomEnds cut n starts ends) (prevEnd ends n) (s ∷ cutsIn cut s e)
+    (cutsIn cut s e ++ (e ∷ [])) e
+    (chain-atoms cut slots starts ends each n (omega arith))
+    (chain-from s (prevEnd ends n) (s ∷ cutsIn cut s e) (cutsIn cut s e ++ (e ∷ [])) e (w .0) (chain-pieces cut s (cutsIn cut s e) e
+    (cuts-are cut s e (w .1))))
 
 -- ---- a chain passes the test of lent slots
 
@@ -196,36 +224,37 @@ chain-ok s e hi c h =
     (and-true _ _ (lt-ltb (getD s k 0) (getD e k 0) (w .1)) (le-leb (getD e k 0) 100000000 (omega (arith, w .2))))))
 
 -- atomic slots of base slots that pass, pass
-pub atoms-ok : (l : List ℕ) (slots : ℕ) (starts ends : List ℕ) → slotsOk slots starts ends ≡ true
-    → slotsOk (length (atomStarts l slots starts ends)) (atomStarts l slots starts ends) (atomEnds l slots starts ends) ≡ true
-atoms-ok l slots starts ends e =
+pub atoms-ok : (cut : ℕ → Bool) (slots : ℕ) (starts ends : List ℕ) → slotsOk slots starts ends ≡ true
+    → slotsOk (length (atomStarts cut slots starts ends)) (atomStarts cut slots starts ends) (atomEnds cut slots starts ends) ≡ true
+atoms-ok cut slots starts ends e =
     let f = slots-each slots starts ends e in
-    chain-ok (atomStarts l slots starts ends) (atomEnds l slots starts ends) (prevEnd ends slots)
-    (chain-atoms l slots starts ends f slots (omega arith))
+    chain-ok (atomStarts cut slots starts ends) (atomEnds cut slots starts ends) (prevEnd ends slots)
+    (chain-atoms cut slots starts ends f slots (omega arith))
     (prev-capped slots starts ends f slots (omega arith))
 
 -- as many ends as starts, and at least one of each for a base slot
-pub atoms-even : (l : List ℕ) (n : ℕ) (starts ends : List ℕ) → length (atomStarts l n starts ends) ≡ length (atomEnds l n starts ends)
+pub atoms-even : (cut : ℕ → Bool) (n : ℕ) (starts ends : List ℕ)
+    → length (atomStarts cut n starts ends) ≡ length (atomEnds cut n starts ends)
 unfolding atomStarts atomEnds
-atoms-even l zero starts ends = refl
-atoms-even l (suc n) starts ends =
+atoms-even cut zero starts ends = refl
+atoms-even cut (suc n) starts ends =
     let s = getD starts n 0 in
     let e = getD ends n 0 in
     omega (
       arith,
-      length-append (atomStarts l n starts ends) (s ∷ cutsIn l s e),
-      length-append (cutsIn l s e) (e ∷ []),
-      length-append (atomEnds l n starts ends) (cutsIn l s e ++ (e ∷ [])),
-      atoms-even l n starts ends,
+      length-append (atomStarts cut n starts ends) (s ∷ cutsIn cut s e),
+      length-append (cutsIn cut s e) (e ∷ []),
+      length-append (atomEnds cut n starts ends) (cutsIn cut s e ++ (e ∷ [])),
+      atoms-even cut n starts ends,
     )
 
-pub atoms-some : (l : List ℕ) (n : ℕ) (starts ends : List ℕ) → n ≤ length (atomStarts l n starts ends)
+pub atoms-some : (cut : ℕ → Bool) (n : ℕ) (starts ends : List ℕ) → n ≤ length (atomStarts cut n starts ends)
 unfolding atomStarts
-atoms-some l zero starts ends = omega arith
-atoms-some l (suc n) starts ends =
+atoms-some cut zero starts ends = omega arith
+atoms-some cut (suc n) starts ends =
     let s = getD starts n 0 in
     let e = getD ends n 0 in
-    omega (arith, length-append (atomStarts l n starts ends) (s ∷ cutsIn l s e), atoms-some l n starts ends)
+    omega (arith, length-append (atomStarts cut n starts ends) (s ∷ cutsIn cut s e), atoms-some cut n starts ends)
 
 -- ---- lengths add up
 
@@ -253,23 +282,24 @@ pieces-demand cut lo (x ∷ c) hi s =
     ∙ omega (arith, one-demand lo x, pieces-demand cut x c hi (s .3), s .0, cuts-order cut x c hi (s .3))
 
 -- slot by slot
-pub slot-adds : (l : List ℕ) (s e : ℕ) → s < e → demandOf (length (s ∷ cutsIn l s e)) (s ∷ cutsIn l s e) (cutsIn l s e ++ (e ∷ [])) ≡ e - s
-slot-adds l s e h = pieces-demand (isCut l) s (cutsIn l s e) e (cuts-are l s e h)
+pub slot-adds : (cut : ℕ → Bool) (s e : ℕ) → s < e
+    → demandOf (length (s ∷ cutsIn cut s e)) (s ∷ cutsIn cut s e) (cutsIn cut s e ++ (e ∷ [])) ≡ e - s
+slot-adds cut s e h = pieces-demand cut s (cutsIn cut s e) e (cuts-are cut s e h)
 
 -- and in all: demand is that of the base slots
-pub atoms-demand : (l : List ℕ) (slots : ℕ) (starts ends : List ℕ) → ((k : ℕ) → k < slots → slotOkAt starts ends k ≡ true) → (n : ℕ)
+pub atoms-demand : (cut : ℕ → Bool) (slots : ℕ) (starts ends : List ℕ) → ((k : ℕ) → k < slots → slotOkAt starts ends k ≡ true) → (n : ℕ)
     → n ≤ slots
-    → demandOf (length (atomStarts l n starts ends)) (atomStarts l n starts ends) (atomEnds l n starts ends) ≡ demandOf n starts ends
+    → demandOf (length (atomStarts cut n starts ends)) (atomStarts cut n starts ends) (atomEnds cut n starts ends) ≡ demandOf n starts ends
 unfolding atomStarts atomEnds demandOf sum minutesAt
-atoms-demand l slots starts ends each zero h = refl
-atoms-demand l slots starts ends each (suc n) h =
+atoms-demand cut slots starts ends each zero h = refl
+atoms-demand cut slots starts ends each (suc n) h =
     let s = getD starts n 0 in
     let e = getD ends n 0 in
     let w = slot-says starts ends n (each n (omega arith)) in
-    demand-append (atomStarts l n starts ends) (atomEnds l n starts ends) (s ∷ cutsIn l s e) (cutsIn l s e ++ (e ∷ []))
-    (chain-length 0 (atomStarts l n starts ends) (atomEnds l n starts ends) (prevEnd ends n) (chain-atoms l slots starts ends each n
+    demand-append (atomStarts cut n starts ends) (atomEnds cut n starts ends) (s ∷ cutsIn cut s e) (cutsIn cut s e ++ (e ∷ []))
+    (chain-length 0 (atomStarts cut n starts ends) (atomEnds cut n starts ends) (prevEnd ends n) (chain-atoms cut slots starts ends each n
     (omega arith)))
-    ∙ ap₂ _+_ (atoms-demand l slots starts ends each n (omega arith)) (slot-adds l s e (w .1))
+    ∙ ap₂ _+_ (atoms-demand cut slots starts ends each n (omega arith)) (slot-adds cut s e (w .1))
 
 -- ---- no atomic slot has a cut strictly inside it
 
@@ -289,18 +319,19 @@ free-pieces : (cut : ℕ → Bool) (lo : ℕ) (c : List ℕ) (hi : ℕ) → IsCu
 free-pieces cut lo [] hi s = (s .1, tt)
 free-pieces cut lo (x ∷ c) hi s = (s .2, free-pieces cut x c hi (s .3))
 
-free-atoms : (l : List ℕ) (slots : ℕ) (starts ends : List ℕ) → ((k : ℕ) → k < slots → slotOkAt starts ends k ≡ true) → (n : ℕ) → n ≤ slots
-    → AllFree (isCut l) (atomStarts l n starts ends) (atomEnds l n starts ends)
+free-atoms : (cut : ℕ → Bool) (slots : ℕ) (starts ends : List ℕ) → ((k : ℕ) → k < slots → slotOkAt starts ends k ≡ true)
+    → (n : ℕ) → n ≤ slots
+    → AllFree cut (atomStarts cut n starts ends) (atomEnds cut n starts ends)
 unfolding atomStarts atomEnds
-free-atoms l slots starts ends each zero h = tt
-free-atoms l slots starts ends each (suc n) h =
+free-atoms cut slots starts ends each zero h = tt
+free-atoms cut slots starts ends each (suc n) h =
     let s = getD starts n 0 in
     let e = getD ends n 0 in
     let w = slot-says starts ends n (each n (omega arith)) in
-    free-append (isCut l) (atomStarts l n starts ends) (atomEnds l n starts ends) (s ∷ cutsIn l s e) (cutsIn l s e ++ (e ∷ []))
-    (chain-length 0 (atomStarts l n starts ends) (atomEnds l n starts ends) (prevEnd ends n) (chain-atoms l slots starts ends each n
+    free-append cut (atomStarts cut n starts ends) (atomEnds cut n starts ends) (s ∷ cutsIn cut s e) (cutsIn cut s e ++ (e ∷ []))
+    (chain-length 0 (atomStarts cut n starts ends) (atomEnds cut n starts ends) (prevEnd ends n) (chain-atoms cut slots starts ends each n
     (omega arith)))
-    (free-atoms l slots starts ends each n (omega arith)) (free-pieces (isCut l) s (cutsIn l s e) e (cuts-are l s e (w .1)))
+    (free-atoms cut slots starts ends each n (omega arith)) (free-pieces cut s (cutsIn cut s e) e (cuts-are cut s e (w .1)))
 
 free-at : (cut : ℕ → Bool) (s e : List ℕ) → AllFree cut s e → (k : ℕ) → k < length s → k < length e
     → (t : ℕ) → getD s k 0 < t → t < getD e k 0 → cut t ≡ false
@@ -311,21 +342,21 @@ free-at cut (x ∷ s) (f ∷ e) a (suc k) h g = free-at cut s e (a .1) k (omega 
 
 -- ---- wholly available, or not at all
 
-ends-cut : (l : List ℕ) (k t : ℕ) → k < length l → (startOf (getD l k 0) ≡ t) ⊎ (endOf (getD l k 0) ≡ t) → isCut l t ≡ true
-unfolding isCut startsOrEnds
+ends-cut : (l : List ℕ) (k t : ℕ) → k < length l → (startOf (getD l k 0) ≡ t) ⊎ (endOf (getD l k 0) ≡ t) → keyCut l t ≡ true
+unfolding keyCut startsOrEnds
 ends-cut l k t h w =
     any-here (startsOrEnds t) l k h
     (⊎-elim (λ q. or-left (eqb (startOf (getD l k 0)) t) _ (eq-eqb _ _ q)) (λ q. or-second (eqb (startOf (getD l k 0)) t) _
     (eq-eqb _ _ q)) w)
 
 -- a slot with no cut strictly inside it, one minute of which lies in a person's ranges, is available to them
-pub whole-or-none : (R : Ranges) → RangesSound R → (p a e t : ℕ) → ((u : ℕ) → a < u → u < e → isCut (mergedOf R) u ≡ false)
+pub whole-or-none : (R : Ranges) → RangesSound R → (p a e t : ℕ) → ((u : ℕ) → a < u → u < e → keyCut (mergedKeys R) u ≡ false)
     → a ≤ t → t < e → inRanges R p t ≡ true → available R p a e ≡ true
 unfolding available
 whole-or-none R S p a e t free h g i =
     let M = merged-is R S in
-    let l = mergedOf R in
-    any-one (covers p t) l _ (M .minutes p t ∙ i)
+    let l = mergedKeys R in
+    any-one (keyCovers p t) l _ (M .minutes p t ∙ i)
     (λ k r c.
     let x = getD l k 0 in
     let w = covers-says p t x c in
@@ -340,21 +371,24 @@ whole-or-none R S p a e t free h g i =
     absurd (mathlib.Core.Bool.false≢true (sym (free (endOf x) (omega (arith, w .2)) z) ∙ ends-cut l k (endOf x) r (inr refl))))
     (λ z. z) (lt-or-ge (endOf x) e) in
     each-in a e (inRanges R p)
-    (λ u y z. sym (M .minutes p u) ∙ any-here (covers p u) l k r (says-covers p u x (w .0) (omega arith) (omega arith))))
+    (λ u y z. sym (M .minutes p u) ∙ any-here (keyCovers p u) l k r (says-covers p u x (w .0) (omega arith) (omega arith))))
 
 -- an atomic slot of a split by these ranges is available, or none of its minutes lies in the person's ranges
-pub atom-whole : (R : Ranges) → RangesSound R → (slots : ℕ) (starts ends : List ℕ) → slotsOk slots starts ends ≡ true
-    → (k : ℕ) → k < length (atomStarts (mergedOf R) slots starts ends) → (p : ℕ)
-    → available R p (getD (atomStarts (mergedOf R) slots starts ends) k 0) (getD (atomEnds (mergedOf R) slots starts ends) k 0) ≡ false
-    → (t : ℕ) → getD (atomStarts (mergedOf R) slots starts ends) k 0 ≤ t → t < getD (atomEnds (mergedOf R) slots starts ends) k 0
+pub atom-whole : (people : ℕ) (R : Ranges) → RangesSound R → ((k : ℕ) → k < R .count → getD (R .persons) k 0 < people)
+    → (slots : ℕ) (starts ends : List ℕ) → slotsOk slots starts ends ≡ true
+    → (k : ℕ) → k < length (atomStarts (isCut people R) slots starts ends) → (p : ℕ)
+    → available R p (getD (atomStarts (isCut people R) slots starts ends) k 0)
+    (getD (atomEnds (isCut people R) slots starts ends) k 0) ≡ false
+    → (t : ℕ) → getD (atomStarts (isCut people R) slots starts ends) k 0 ≤ t → t < getD (atomEnds (isCut people R) slots starts ends) k 0
     → inRanges R p t ≡ false
-atom-whole R S slots starts ends ok k h p f t a b =
+atom-whole people R S known slots starts ends ok k h p f t a b =
     let each = slots-each slots starts ends ok in
-    let A = atomStarts (mergedOf R) slots starts ends in
-    let E = atomEnds (mergedOf R) slots starts ends in
-    let same = chain-length 0 A E (prevEnd ends slots) (chain-atoms (mergedOf R) slots starts ends each slots (omega arith)) in
+    let cut = isCut people R in
+    let A = atomStarts cut slots starts ends in
+    let E = atomEnds cut slots starts ends in
+    let same = chain-length 0 A E (prevEnd ends slots) (chain-atoms cut slots starts ends each slots (omega arith)) in
+    let free = free-at cut A E (free-atoms cut slots starts ends each slots (omega arith)) k h (omega arith) in
     by-test (inRanges R p t) _
     (λ i. absurd (mathlib.Core.Bool.true≢false
-    (sym (whole-or-none R S p (getD A k 0) (getD E k 0) t
-    (free-at (isCut (mergedOf R)) A E (free-atoms (mergedOf R) slots starts ends each slots (omega arith)) k h (omega arith)) a b i) ∙ f)))
+    (sym (whole-or-none R S p (getD A k 0) (getD E k 0) t (λ u y z. sym (cut-is R S people known u) ∙ free u y z) a b i) ∙ f)))
     (λ i. i)

@@ -9,8 +9,7 @@ use lib.Dec.{leb, ltb}
 use lib.ListN.{length, getD, take, drop, set, length-append}
 use lib.Seq.{drop-cons, drop-length, length-take-le}
 use Rattle.paper.proofs.Logic.{by-test}
-use Rattle.slots.specs.Ranges.{startOf, endOf, opens, closes}
-use Rattle.slots.specs.Walk.{extended, closed, walkOn}
+use Rattle.slots.specs.Inside.{startOf, endOf, opens, closes, extended, closed, walkOn}
 use Rattle.slots.proofs.Entries.{push}
 
 -- ---- one range more

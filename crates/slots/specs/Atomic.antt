@@ -1,45 +1,50 @@
--- Atomic slots: each base slot split at every cut strictly inside it. Assumes nothing.
+-- Cuts, over minutes; and atomic slots: each base slot split at every cut strictly inside it. Assumes nothing.
 use mathlib.Core.Path.{_≡_}
-use mathlib.Core.Bool.{Bool, true, false, _&&_, _||_, cond}
+use mathlib.Core.Bool.{Bool, true, false, _&&_, not}
 use mathlib.Core.List.{List, [], _∷_, _++_}
-use Prim.Native.Nat.{ℕ, zero, suc, _+_, _≤_, _<_}
-use lib.Dec.{leb, ltb, eqb}
-use lib.ListN.{length, getD, take}
+use Prim.Native.Nat.{ℕ, zero, suc, _<_}
+use lib.Dec.{leb, ltb}
+use lib.ListN.{length, getD}
 use Rattle.paper.specs.Limits.{peopleOk, slotCountOk, slotsMost, Test, test, heardOf}
 use Rattle.paper.specs.Rows.{unless}
-use Rattle.paper.specs.Count.{among, FirstWhere}
+use Rattle.paper.specs.Count.{some, among, onto}
 use Rattle.slotset.specs.declared.Number.{Number}
 use Rattle.slotset.specs.Answers.{numberAs}
 use Rattle.slots.specs.Lent.{slotRoomOk, slotsOk}
-use Rattle.slots.specs.Ranges.{anyOf, Ranges, rangeCountOk, rangeRoomOk, rangesOk}
-use Rattle.slots.specs.Ranges.{personOf, startOf, endOf, opens, closes, mergedOf, Spaced}
-use Rattle.slots.specs.Merged.{written}
+use Rattle.slots.specs.Ranges.{Ranges, rangeCountOk, rangeRoomOk, rangesOk, inRanges}
 
--- minute t is a start or an end of a merged range
-unfoldable pub startsOrEnds : ℕ → ℕ → Bool
-startsOrEnds t x = eqb (startOf x) t || eqb (endOf x) t
+-- yes of one, no of the other
+abbrev pub differ : Bool → Bool → Bool
+differ true b = not b
+differ false b = b
 
-unfoldable pub isCut : List ℕ → ℕ → Bool
-isCut merged t = anyOf (startsOrEnds t) merged
+-- whether the minute before t lies in one of the person's ranges; minute 0 has none before it
+unfoldable pub liesBefore : Ranges → ℕ → ℕ → Bool
+liesBefore R person zero = false
+liesBefore R person (suc t) = inRanges R person t
+
+-- minute t is a cut: some person's coverage differs between the minute before and this one
+unfoldable pub isCut : ℕ → Ranges → ℕ → Bool
+isCut people R t = some people (λ p. differ (liesBefore R p t) (inRanges R p t))
 
 -- a cut past a slot's start
-unfoldable pub cutAfter : List ℕ → ℕ → ℕ → Bool
-cutAfter merged start t = ltb start t && isCut merged t
+unfoldable pub cutAfter : (ℕ → Bool) → ℕ → ℕ → Bool
+cutAfter cut start t = ltb start t && cut t
 
 -- the cuts strictly inside a slot, ascending
-unfoldable pub cutsIn : List ℕ → ℕ → ℕ → List ℕ
-cutsIn merged start end = among (cutAfter merged start) end
+unfoldable pub cutsIn : (ℕ → Bool) → ℕ → ℕ → List ℕ
+cutsIn cut start end = among (cutAfter cut start) end
 
 -- where the atomic slots of the first n base slots start, and where they end
-unfoldable pub atomStarts : List ℕ → ℕ → List ℕ → List ℕ → List ℕ
-atomStarts merged zero starts ends = []
-atomStarts merged (suc n) starts ends =
-    atomStarts merged n starts ends ++ (getD starts n 0 ∷ cutsIn merged (getD starts n 0) (getD ends n 0))
+unfoldable pub atomStarts : (ℕ → Bool) → ℕ → List ℕ → List ℕ → List ℕ
+atomStarts cut zero starts ends = []
+atomStarts cut (suc n) starts ends =
+    atomStarts cut n starts ends ++ (getD starts n 0 ∷ cutsIn cut (getD starts n 0) (getD ends n 0))
 
-unfoldable pub atomEnds : List ℕ → ℕ → List ℕ → List ℕ → List ℕ
-atomEnds merged zero starts ends = []
-atomEnds merged (suc n) starts ends =
-    atomEnds merged n starts ends ++ (cutsIn merged (getD starts n 0) (getD ends n 0) ++ (getD ends n 0 ∷ []))
+unfoldable pub atomEnds : (ℕ → Bool) → ℕ → List ℕ → List ℕ → List ℕ
+atomEnds cut zero starts ends = []
+atomEnds cut (suc n) starts ends =
+    atomEnds cut n starts ends ++ (cutsIn cut (getD starts n 0) (getD ends n 0) ++ (getD ends n 0 ∷ []))
 
 -- the same, said of every minute: c is the ascending list of all cuts strictly between lo and hi, and of nothing else
 abbrev pub IsCuts : (ℕ → Bool) → ℕ → List ℕ → ℕ → Type 0
@@ -62,10 +67,10 @@ abbrev pub base : ℕ → List ℕ → List ℕ → ℕ → Ranges → List ℕ 
 base n s e p R a b = record { slots = n; starts = s; ends = e; people = p; ranges = R; outStarts = a; outEnds = b }
 
 abbrev pub startsOfAtoms : Base → List ℕ
-startsOfAtoms B = atomStarts (mergedOf (B .ranges)) (B .slots) (B .starts) (B .ends)
+startsOfAtoms B = atomStarts (isCut (B .people) (B .ranges)) (B .slots) (B .starts) (B .ends)
 
 abbrev pub endsOfAtoms : Base → List ℕ
-endsOfAtoms B = atomEnds (mergedOf (B .ranges)) (B .slots) (B .starts) (B .ends)
+endsOfAtoms B = atomEnds (isCut (B .people) (B .ranges)) (B .slots) (B .starts) (B .ends)
 
 -- 1 to 4, which are known before the work: the columns to write need room for 1,024 atomic slots
 unfoldable pub baseRow : Base → List Test
@@ -90,8 +95,8 @@ atomiseOf B =
     let n = heardOf (atomiseRow B) in
     record {
       answer = numberAs n (length (startsOfAtoms B));
-      starts = unless n (B .outStarts) (written (λ t. t) (startsOfAtoms B) (B .outStarts));
-      ends = unless n (B .outEnds) (written (λ t. t) (endsOfAtoms B) (B .outEnds));
+      starts = unless n (B .outStarts) (onto (startsOfAtoms B) (B .outStarts));
+      ends = unless n (B .outEnds) (onto (endsOfAtoms B) (B .outEnds));
     }
 
 -- what is heard and what is left in the lent columns are those of the outcome
@@ -99,49 +104,3 @@ pub record AtomsEnd (x : Atoms) (r : Number) (s e : List ℕ) : Type 0 where
   pub heard : r ≡ x .answer
   pub starts : s ≡ x .starts
   pub ends : e ≡ x .ends
-
--- ---- what the work goes by
-
--- a number of atomic slots, or one too many
-unfoldable pub orFull : ℕ → ℕ
-orFull n = cond (leb n slotsMost) n 1025
-
--- r is the first cut strictly between two minutes, or the later of them
-abbrev pub NextCut : List ℕ → ℕ → ℕ → ℕ → Type 0
-NextCut merged after end r = FirstWhere true (isCut merged) (suc after) end r
-
--- what is known of the merged ranges where they are held, as the first n of these numbers
-pub record HeldMerged (keys : List ℕ) (n : ℕ) : Type 0 where
-  pub few : n ≤ 1024
-  pub fits : n ≤ length keys
-  pub spaced : Spaced 0 (take n keys)
-  pub known : (k : ℕ) → k < n → personOf (getD keys k 0) < 32
-
--- a range opens or closes at that place of the line of everybody's minutes
-unfoldable pub opensOrCloses : ℕ → ℕ → Bool
-opensOrCloses q x = eqb (opens x) q || eqb (closes x) q
-
-unfoldable pub isEdge : List ℕ → ℕ → Bool
-isEdge merged q = anyOf (opensOrCloses q) merged
-
--- a place after everybody's: 64 people's minutes on
-abbrev pub lineEnd : ℕ
-lineEnd = 17179869184
-
--- where the range of number r opens; past the last, the line's end
-unfoldable pub opensFrom : List ℕ → ℕ → ℕ → ℕ
-opensFrom keys n r = cond (ltb r n) (opens (getD keys r 0)) lineEnd
-
--- r is the first edge past a place, or the line's end
-abbrev pub NextEdge : List ℕ → ℕ → ℕ → Type 0
-NextEdge merged place r = FirstWhere true (isEdge merged) (suc place) lineEnd r
-
--- t, where it lies strictly between two minutes; else the later of them
-unfoldable pub nearer : ℕ → ℕ → ℕ → ℕ
-nearer after best t = cond (ltb after t && ltb t best) t best
-
--- lists that grew from s and e by the pieces a and b, where these fit
-pub record Grown (count : ℕ) (s e a b : List ℕ) (r : ℕ) (s′ e′ : List ℕ) : Type 0 where
-  pub number : r ≡ orFull (count + length a)
-  pub starts : count + length a ≤ slotsMost → take r s′ ≡ take count s ++ a
-  pub ends : count + length a ≤ slotsMost → take r e′ ≡ take count e ++ b

@@ -1,7 +1,6 @@
 -- Availability of lent slots, one set a person; and its single question. Assumes nothing.
-use mathlib.Core.Bool.{Bool, _&&_}
 use mathlib.Core.List.{List, [], _∷_}
-use Prim.Native.Nat.{ℕ, zero, suc, _+_, _-_, _*_}
+use Prim.Native.Nat.{ℕ, zero, suc, _*_}
 use lib.Dec.{leb, ltb}
 use lib.ListN.{length, getD}
 use Rattle.paper.specs.Limits.{setWords, peopleOk, slotCountOk, Test, test, heardOf}
@@ -10,7 +9,7 @@ use Rattle.slotset.specs.declared.Told.{Told}
 use Rattle.slotset.specs.Slots.{putSlots, valueOf, has}
 use Rattle.slotset.specs.Answers.{rowSlots, toldAs}
 use Rattle.slots.specs.Lent.{slotRoomOk, slotsOk}
-use Rattle.slots.specs.Ranges.{anyOf, Ranges, rangeCountOk, rangeRoomOk, rangesOk, available, opens, closes}
+use Rattle.slots.specs.Ranges.{Ranges, rangeCountOk, rangeRoomOk, rangesOk, available}
 
 -- the mark of slot k in a person's set: each minute of the slot lies in one of the person's ranges
 unfoldable pub availableBit : Ranges → List ℕ → List ℕ → ℕ → ℕ → ℕ
@@ -44,18 +43,3 @@ availableRow people slots words person slot =
 unfoldable pub isAvailable : ℕ → ℕ → List ℕ → ℕ → ℕ → Told
 isAvailable people slots words person slot =
     toldAs (heardOf (availableRow people slots words person slot)) (has (rowSlots words person) slots slot)
-
--- ---- what the work goes by
-
--- the range x holds all places of the line from a up to b
-unfoldable pub spans : ℕ → ℕ → ℕ → Bool
-spans a b x = leb (opens x) a && leb b (closes x)
-
--- the last of the first r ranges closes at a place or past it
-unfoldable pub reaches : List ℕ → ℕ → ℕ → Bool
-reaches keys r place = ltb 0 r && leb place (closes (getD keys (r - 1) 0))
-
--- one of the merged ranges holds the whole slot
-unfoldable pub heldBit : List ℕ → List ℕ → List ℕ → ℕ → ℕ → ℕ
-heldBit merged starts ends person k =
-    valueOf (anyOf (spans (person * 268435456 + getD starts k 0) (person * 268435456 + getD ends k 0)) merged)

@@ -1,7 +1,7 @@
 -- Freezing at an instant. Assumes nothing.
 use mathlib.Core.Bool.{Bool, cond}
 use mathlib.Core.List.{List, [], _∷_}
-use Prim.Native.Nat.{ℕ, zero, suc, _≤_, _<_}
+use Prim.Native.Nat.{ℕ, zero, suc}
 use lib.Dec.{leb}
 use lib.ListN.{length, getD}
 use Rattle.paper.specs.Limits.{slotCountOk, setWords, Test, test, heardOf}
@@ -41,9 +41,3 @@ unfoldable pub freezeOf : ℕ → List ℕ → List ℕ → List ℕ → ℕ →
 freezeOf slots starts ends frozen instant =
     let n = heardOf (freezeRow slots starts ends frozen) in
     record { answer = numberAs n (endedBy slots ends instant); flags = unless n frozen (marked slots ends instant frozen) }
-
--- of n places with rising values the first r are at most the bound, and no others are
-pub record Opening (n : ℕ) (f : ℕ → ℕ) (bound r : ℕ) : Type 0 where
-  pub few : r ≤ n
-  pub by : (k : ℕ) → k < r → f k ≤ bound
-  pub after : (k : ℕ) → r ≤ k → k < n → bound < f k

@@ -1,18 +1,69 @@
--- Merged ranges handed out: in person order and ascending. Assumes nothing.
+-- Merged ranges: each person's sorted, empty ones dropped, touching or overlapping ones merged; in person order. Assumes nothing.
 use mathlib.Core.Path.{_≡_}
-use mathlib.Core.List.{List, [], _∷_}
-use Prim.Native.Nat.{ℕ}
-use lib.ListN.{length, getD}
+use mathlib.Core.Bool.{Bool, true, false, _&&_, _||_, cond}
+use mathlib.Core.List.{List, [], _∷_, _++_, map}
+use Prim.Native.Nat.{ℕ, zero, suc, _<_, min, max}
+use lib.Dec.{ltb, eqb}
+use lib.ListN.{length}
 use Rattle.paper.specs.Limits.{peopleOk, Test, test, heardOf}
 use Rattle.paper.specs.Rows.{unless}
-use Rattle.paper.specs.Count.{over}
+use Rattle.paper.specs.Count.{onto}
 use Rattle.slotset.specs.declared.Number.{Number}
 use Rattle.slotset.specs.Answers.{numberAs}
-use Rattle.slots.specs.Ranges.{Ranges, ranges, rangeCountOk, rangeRoomOk, rangesOk, personOf, startOf, endOf, mergedOf}
+use Rattle.slots.specs.Ranges.{Range, Ranges, ranges, rangeAt, rangeCountOk, rangeRoomOk, rangesOk, covers}
 
--- a column with f of each entry of the list at its front; what lies past the list's end stays
-unfoldable pub written : (ℕ → ℕ) → List ℕ → List ℕ → List ℕ
-written f list column = over (λ k. f (getD list k 0)) (length list) column
+-- minute t of the person lies in one of a list of ranges
+unfoldable pub liesIn : List Range → ℕ → ℕ → Bool
+liesIn [] person t = false
+liesIn (x ∷ l) person t = covers person t x || liesIn l person t
+
+-- x comes before y, with a gap: it is an earlier person's, or ends before y starts
+unfoldable pub before : Range → Range → Bool
+before x y = ltb (x .person) (y .person) || (eqb (x .person) (y .person) && ltb (x .end) (y .start))
+
+-- of two that touch or overlap, the range from the first start to the last end
+unfoldable pub joined : Range → Range → Range
+joined x y = record { person = x .person; start = min (x .start) (y .start); end = max (x .end) (y .end) }
+
+-- a range put into a merged list: before the first that it doesn't touch, or joined with each that it touches
+unfoldable pub mergeIn : Range → List Range → List Range
+mergeIn x [] = x ∷ []
+mergeIn x (y ∷ l) = cond (before x y) (x ∷ y ∷ l) (cond (before y x) (y ∷ mergeIn x l) (mergeIn (joined x y) l))
+
+-- the ranges merged, empty ones dropped
+unfoldable pub mergeAll : List Range → List Range
+mergeAll [] = []
+mergeAll (x ∷ l) = cond (ltb (x .start) (x .end)) (mergeIn x (mergeAll l)) (mergeAll l)
+
+-- the first n of the lent ranges
+unfoldable pub rangesTo : Ranges → ℕ → List Range
+rangesTo R zero = []
+rangesTo R (suc n) = rangesTo R n ++ (rangeAt R n ∷ [])
+
+unfoldable pub mergedOf : Ranges → List Range
+mergedOf R = mergeAll (rangesTo R (R .count))
+
+-- the same, said of every minute: person by person ascending, with gaps, none empty, and exactly these minutes
+abbrev pub Spaced : List Range → Type 0
+Spaced [] = Unit
+Spaced (x ∷ []) = x .start < x .end
+Spaced (x ∷ y ∷ l) = (x .start < x .end) × (before x y ≡ true) × Spaced (y ∷ l)
+
+pub record IsMerged (lies : ℕ → ℕ → Bool) (l : List Range) : Type 0 where
+  pub spaced : Spaced l
+  pub minutes : (person t : ℕ) → liesIn l person t ≡ lies person t
+
+-- ---- the outcome
+
+-- a list's three columns
+abbrev pub personsOf : List Range → List ℕ
+personsOf l = map (λ (x : Range). x .person) l
+
+abbrev pub startsOf : List Range → List ℕ
+startsOf l = map (λ (x : Range). x .start) l
+
+abbrev pub endsOf : List Range → List ℕ
+endsOf l = map (λ (x : Range). x .end) l
 
 -- the columns that are written
 pub record Columns : Type 0 where
@@ -42,9 +93,9 @@ mergedRanges people R out =
     let list = mergedOf R in
     record {
       answer = numberAs n (length list);
-      persons = unless n (out .persons) (written personOf list (out .persons));
-      starts = unless n (out .starts) (written startOf list (out .starts));
-      ends = unless n (out .ends) (written endOf list (out .ends));
+      persons = unless n (out .persons) (onto (personsOf list) (out .persons));
+      starts = unless n (out .starts) (onto (startsOf list) (out .starts));
+      ends = unless n (out .ends) (onto (endsOf list) (out .ends));
     }
 
 -- what is heard and what is left in the lent columns are those of the outcome
@@ -53,9 +104,3 @@ pub record MergedEnd (x : MergedOut) (r : Number) (p s e : List ℕ) : Type 0 wh
   pub persons : p ≡ x .persons
   pub starts : s ≡ x .starts
   pub ends : e ≡ x .ends
-
--- the columns after n numbers were taken apart into them
-pub record TakenApart (n : ℕ) (keys p s e p′ s′ e′ : List ℕ) : Type 0 where
-  pub persons : p′ ≡ over (λ k. personOf (getD keys k 0)) n p
-  pub starts : s′ ≡ over (λ k. startOf (getD keys k 0)) n s
-  pub ends : e′ ≡ over (λ k. endOf (getD keys k 0)) n e

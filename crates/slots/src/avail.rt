@@ -12,13 +12,13 @@ ghost use Rattle.paper.specs.Limits.{peopleOk, heardOf};
 ghost use Rattle.paper.specs.Rows.{firstOf};
 ghost use Rattle.slotset.specs.Slots.{putSlots};
 ghost use Rattle.slots.specs.Lent.{SlotsSound};
-ghost use Rattle.slots.specs.Ranges.{ranges, opens, Spaced};
-ghost use Rattle.slots.specs.Freeze.{Opening};
-ghost use Rattle.slots.specs.Availability.{availabilityRow, availabilityOf, availableRow, isAvailable, reaches, heldBit, rows};
+ghost use Rattle.slots.specs.Ranges.{ranges};
+ghost use Rattle.slots.specs.Availability.{availabilityRow, availabilityOf, availableRow, isAvailable, rows};
+ghost use Rattle.slots.specs.Inside.{opens, SpacedKeys, Opening, reaches, heldBit};
 
 // How many of the merged ranges open at a place of the line or before it, where the first `low` do: a walk on from there.
 fn opened_on(keys: &[u64], n: usize, low: usize, place: u64) -> usize
-    requires { ⌜ (n ≤ 1024) × (n ≤ length (now keys)) × Spaced 0 (take n (now keys)) ⌝ }
+    requires { ⌜ (n ≤ 1024) × (n ≤ length (now keys)) × SpacedKeys 0 (take n (now keys)) ⌝ }
     requires { ⌜ (low ≤ n) × ((k : ℕ) → k < low → opens (getD (now keys) k 0) ≤ place) ⌝ }
     ensures { λ r. ⌜ Opening n (λ k. opens (getD (now (keys .entry)) k 0)) place r ⌝ }
 {
@@ -57,7 +57,7 @@ fn fill_row(
     people: usize,
     person: usize,
 )
-    requires { ⌜ (n ≤ 1024) × (n ≤ length (now keys)) × Spaced 0 (take n (now keys)) ⌝ }
+    requires { ⌜ (n ≤ 1024) × (n ≤ length (now keys)) × SpacedKeys 0 (take n (now keys)) ⌝ }
     requires { ⌜ (slots ≤ 1024) × SlotsSound slots (now starts) (now ends) ⌝ }
     requires { ⌜ (peopleOk people ≡ true) × (16 * people ≤ length (now words)) × (person < people) ⌝ }
     ensures { λ _. ⌜ now (words .exit) ≡ putSlots (heldBit (take n (now (keys .entry))) (now (starts .entry)) (now (ends .entry)) person)
@@ -84,7 +84,7 @@ fn fill_rows(
     words: &mut [u64],
     people: usize,
 )
-    requires { ⌜ (n ≤ 1024) × (n ≤ length (now keys)) × Spaced 0 (take n (now keys)) ⌝ }
+    requires { ⌜ (n ≤ 1024) × (n ≤ length (now keys)) × SpacedKeys 0 (take n (now keys)) ⌝ }
     requires { ⌜ (slots ≤ 1024) × SlotsSound slots (now starts) (now ends) ⌝ }
     requires { ⌜ (peopleOk people ≡ true) × (16 * people ≤ length (now words)) ⌝ }
     ensures { λ _. ⌜ now (words .exit) ≡ rows (heldBit (take n (now (keys .entry))) (now (starts .entry)) (now (ends .entry)))

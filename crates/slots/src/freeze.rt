@@ -7,7 +7,8 @@ ghost use mathlib.Core.Path.{_≡_};
 ghost use Prim.Native.Nat.{ℕ, _≤_, _<_};
 ghost use lib.ListN.{length, getD};
 ghost use Rattle.paper.specs.Rows.{firstOf};
-ghost use Rattle.slots.specs.Freeze.{freezeRow, freezeOf, Opening};
+ghost use Rattle.slots.specs.Freeze.{freezeRow, freezeOf};
+ghost use Rattle.slots.specs.Inside.{Opening};
 
 // How many slots end at the instant or before it: they open the list, since ends ascend.
 fn ended_by(slots: usize, ends: &[u32], instant: u32) -> usize

@@ -6,8 +6,9 @@ ghost use mathlib.Core.Path.{_≡_};
 ghost use Prim.Native.Nat.{ℕ, _≤_, _<_};
 ghost use lib.ListN.{length, getD};
 ghost use Rattle.paper.specs.Rows.{firstOf};
-ghost use Rattle.slots.specs.Ranges.{ranges, personOf};
-ghost use Rattle.slots.specs.Merged.{columns, mergedRow, mergedRanges, MergedEnd, TakenApart};
+ghost use Rattle.slots.specs.Ranges.{ranges};
+ghost use Rattle.slots.specs.Merged.{columns, mergedRow, mergedRanges, MergedEnd};
+ghost use Rattle.slots.specs.Inside.{personOf, TakenApart};
 
 // What is wrong with what merging takes: 1, 2 or 4.
 fn merged_no(

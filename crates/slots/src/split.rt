@@ -1,4 +1,4 @@
-// Atomic slots: each base slot split at every cut strictly inside it. Cuts are the starts and ends of merged ranges.
+// Atomic slots: each base slot split at every cut strictly inside it. Cuts are found as the starts and ends of merged ranges.
 use crate::lent;
 use crate::ranges;
 use paper::Fault;
@@ -11,9 +11,8 @@ ghost use Rattle.paper.specs.Count.{over};
 ghost use Rattle.paper.specs.Rows.{firstOf};
 ghost use Rattle.slots.specs.Lent.{SlotsSound};
 ghost use Rattle.slots.specs.Ranges.{ranges};
-ghost use Rattle.slots.specs.Atomic.{cutsIn, atomStarts, atomEnds, NextCut, nearer, Grown};
-ghost use Rattle.slots.specs.Atomic.{HeldMerged, lineEnd, NextEdge, opensFrom};
-ghost use Rattle.slots.specs.Atomic.{base, baseRow, atomiseOf, AtomsEnd};
+ghost use Rattle.slots.specs.Atomic.{cutsIn, atomStarts, atomEnds, base, baseRow, atomiseOf, AtomsEnd};
+ghost use Rattle.slots.specs.Inside.{NextCut, keyCut, nearer, Grown, HeldMerged, lineEnd, NextEdge, opensFrom};
 
 // A minute, where it lies strictly between two others; else the later of them.
 fn nearer_of(after: u64, best: u64, t: u64) -> u64
@@ -61,7 +60,7 @@ fn next_edge(keys: &[u64], n: usize, place: u64) -> u64
 // The first cut strictly between two minutes, or the later of them: the nearest of everybody's.
 fn next_cut(keys: &[u64], n: usize, after: u64, end: u64) -> u64
     requires { ⌜ HeldMerged (now keys) n × (after < end) × (end ≤ 100000000) ⌝ }
-    ensures { λ r. ⌜ NextCut (take n (now (keys .entry))) after end r ⌝ }
+    ensures { λ r. ⌜ NextCut (keyCut (take n (now (keys .entry)))) after end r ⌝ }
 {
     let mut best = end;
     let mut person: u64 = 0;
@@ -87,7 +86,8 @@ fn split_slot(
     requires { ⌜ HeldMerged (now keys) n × (start < end) × (end ≤ 100000000) ⌝ }
     requires { ⌜ (count ≤ 1024) × (1024 ≤ length (now starts)) × (1024 ≤ length (now ends)) ⌝ }
     ensures { λ r. ⌜ Grown count (now (starts .entry)) (now (ends .entry))
-        (start ∷ cutsIn (take n (now (keys .entry))) start end) (cutsIn (take n (now (keys .entry))) start end ++ (end ∷ []))
+        (start ∷ cutsIn (keyCut (take n (now (keys .entry)))) start end)
+        (cutsIn (keyCut (take n (now (keys .entry)))) start end ++ (end ∷ []))
         r (now (starts .exit)) (now (ends .exit)) ⌝ }
 {
     let mut prev = start;
@@ -119,8 +119,8 @@ fn split_all(
     requires { ⌜ HeldMerged (now keys) n × SlotsSound slots (now starts) (now ends) ⌝ }
     requires { ⌜ (slots ≤ 1024) × (1024 ≤ length (now froms)) × (1024 ≤ length (now tos)) ⌝ }
     ensures { λ r. ⌜ Grown 0 (now (froms .entry)) (now (tos .entry))
-        (atomStarts (take n (now (keys .entry))) slots (now (starts .entry)) (now (ends .entry)))
-        (atomEnds (take n (now (keys .entry))) slots (now (starts .entry)) (now (ends .entry)))
+        (atomStarts (keyCut (take n (now (keys .entry)))) slots (now (starts .entry)) (now (ends .entry)))
+        (atomEnds (keyCut (take n (now (keys .entry)))) slots (now (starts .entry)) (now (ends .entry)))
         r (now (froms .exit)) (now (tos .exit)) ⌝ }
 {
     let mut i: usize = 0;

@@ -6,8 +6,7 @@ use native.Mathlib.Omega.{arith}
 use lib.ListN.{getD, take}
 use Rattle.paper.proofs.Logic.{people-says}
 use Rattle.slotset.specs.Slots.{putSlots}
-use Rattle.slots.specs.Ranges.{opens}
-use Rattle.slots.specs.Availability.{heldBit}
+use Rattle.slots.specs.Inside.{opens, heldBit}
 use Rattle.slotset.proofs.Puts.{puts-none}
 use Rattle.slots.proofs.AvailLaws.{covered-by, row-length, row-done, row-turn}
 use Rattle.slots.proofs.avail.fill_row.Statement.{statement}

@@ -5,7 +5,8 @@ use Prim.Native.Nat.{_≤_, _-_}
 use native.Mathlib.Omega.{arith}
 use lib.ListN.{take}
 use Rattle.paper.proofs.Logic.{people-says}
-use Rattle.slots.specs.Availability.{heldBit, rows}
+use Rattle.slots.specs.Availability.{rows}
+use Rattle.slots.specs.Inside.{heldBit}
 use Rattle.slots.proofs.AvailLaws.{rows-none, rows-more, rows-length, rows-done}
 use Rattle.slots.proofs.avail.fill_rows.Statement.{statement}
 use Rattle.slots.proofs.avail.fill_rows.Tie as tie

@@ -3,7 +3,7 @@ use borrow.Author.Needs.{needs}
 use Prim.Native.Nat.{ℕ, _-_, _≤_, _<_}
 use native.Mathlib.Omega.{arith}
 use lib.ListN.{getD}
-use Rattle.slots.specs.Ranges.{opens}
+use Rattle.slots.specs.Inside.{opens}
 use Rattle.slots.proofs.AvailLaws.{opens-rise, opened-more, opened-stops, opened-ends}
 use Rattle.slots.proofs.avail.opened_on.Statement.{statement}
 use Rattle.slots.proofs.avail.opened_on.Tie as tie

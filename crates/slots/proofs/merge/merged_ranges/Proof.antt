@@ -38,7 +38,8 @@ returns c =
     let if1 = c .before .before .before .before .before .before .before .before .before .before .before .before .before .if1 in
     let merged-keys = c .before .before .before .before .before .before .before .before .before .before .before .before .merged-keys in
     let take-apart = c .before .before .before .before .before .before .take-apart in
-    merged-done _ _ _ _ (said _ (merged-no .ensures)) (if1 .taken) (merged-keys .result .keys) _ (merged-keys .ensures) _ _ _ (take-apart .ensures)
+    merged-done _ _ _ _ (said _ (merged-no .ensures)) (if1 .taken) (merged-keys .result .keys) _ (merged-keys .ensures) _ _ _
+    (take-apart .ensures)
 
 same-length-4 : tie.Need-same-length-4
 same-length-4 c = search needs

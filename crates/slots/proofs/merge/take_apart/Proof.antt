@@ -6,7 +6,7 @@ use native.Mathlib.Omega.{arith}
 use lib.ListN.{getD}
 use Rattle.paper.specs.Count.{over}
 use Rattle.paper.proofs.Count.{over-none}
-use Rattle.slots.specs.Ranges.{personOf, startOf, endOf}
+use Rattle.slots.specs.Inside.{personOf, startOf, endOf}
 use Rattle.slots.proofs.Keys.{start-lt, end-lt}
 use Rattle.slots.proofs.MergedLaws.{column-more, column-room, column-length, column-done}
 use Rattle.slots.proofs.merge.take_apart.Statement.{statement}

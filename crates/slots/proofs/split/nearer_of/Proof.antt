@@ -1,6 +1,6 @@
 -- `slots::split::nearer_of` meets its contract. Assumes nothing.
 use borrow.Author.Tests.{lt-ltb, le-ltb}
-use Rattle.slots.specs.Atomic.{nearer}
+use Rattle.slots.specs.Inside.{nearer}
 use Rattle.slots.proofs.split.nearer_of.Statement.{statement}
 use Rattle.slots.proofs.split.nearer_of.Tie as tie
 

@@ -3,13 +3,14 @@ use borrow.Author.Needs.{needs}
 use Prim.Native.Nat.{_≤_, _-_}
 use native.Mathlib.Omega.{arith}
 use lib.ListN.{take}
+use Rattle.slots.specs.Inside.{keyCut}
 use Rattle.slots.proofs.CutLaws.{Growing, grow-starts, grow-more, grow-full, grow-ends}
 use Rattle.slots.proofs.split.split_all.Statement.{statement}
 use Rattle.slots.proofs.split.split_all.Tie as tie
 
 abbrev Inv-loop : tie.InvT-loop
 Inv-loop keys n slots starts ends froms₀ tos₀ i₀ count₀ froms tos i count = (i ≤ slots) × Growing
-    (take n keys) i starts ends count froms₀ tos₀ froms tos
+    (keyCut (take n keys)) i starts ends count froms₀ tos₀ froms tos
 
 abbrev μ-loop : tie.MeasureT-loop
 μ-loop keys n slots starts ends froms₀ tos₀ i₀ count₀ froms tos i count = slots - i

@@ -2,13 +2,14 @@
 use Prim.Native.Nat.{_<_, _-_}
 use native.Mathlib.Omega.{arith}
 use lib.ListN.{take, length-set}
+use Rattle.slots.specs.Inside.{keyCut}
 use Rattle.slots.proofs.CutLaws.{Splitting, split-starts, split-room, split-more, split-ends, split-full}
 use Rattle.slots.proofs.split.split_slot.Statement.{statement}
 use Rattle.slots.proofs.split.split_slot.Tie as tie
 
 abbrev Inv-loop : tie.InvT-loop
 Inv-loop keys n start end starts₀ ends₀ count prev₀ m₀ starts ends prev m = Splitting
-    (take n keys) start count prev m starts₀ ends₀ starts ends × (prev < end)
+    (keyCut (take n keys)) start count prev m starts₀ ends₀ starts ends × (prev < end)
 
 abbrev μ-loop : tie.MeasureT-loop
 μ-loop keys n start end starts₀ ends₀ count prev₀ m₀ starts ends prev m = 1024 - m
