@@ -2,13 +2,14 @@
 use mathlib.Core.Path.{_≡_, refl, sym, ap, ap₂, _∙_, subst}
 use mathlib.Core.Bool.{Bool, true, false, cond, _&&_}
 use mathlib.Core.List.{List, [], _∷_, _++_}
-use Prim.Native.Nat.{ℕ, _+_, _-_, _*_, _≤_, _<_}
+use Prim.Native.Nat.{ℕ, _+_, _-_, _*_, _^_, _≤_, _<_}
 use native.Mathlib.Omega.{arith}
 use borrow.Author.Tests.{le-leb, leb-true}
 use lib.Dec.{leb, lit<, lit≤}
 use lib.Ieee.{binary64, ofBits}
 use lib.IntN.{pos}
-use lib.ListN.{length, getD, replicate, length-map, length-replicate}
+use lib.Signed.{mag}
+use lib.ListN.{length, getD, take, replicate, length-map, length-replicate}
 use Rattle.paper.specs.Limits.{peopleOk, slotCountOk, countsOk, orElse, Test, test, heardOf}
 use Rattle.paper.specs.Count.{all}
 use Rattle.paper.proofs.Logic.{both, and-true, cond-zero, people-says, slot-count-says}
@@ -22,13 +23,16 @@ use Rattle.units.specs.Units.{unitsOk}
 use Rattle.units.proofs.Units.{unit-within}
 use Rattle.targets.specs.Figures.{allFiguresOk}
 use Rattle.targets.specs.Outcome as targets
+use Rattle.targets.specs.Remainder.{sumℤ}
+use Rattle.targets.proofs.Promises.{targets-add-up}
+use Rattle.targets.proofs.Sized.{accepted-sized}
 use Rattle.slots.specs.declared.Minutes.{Minutes}
 use Rattle.rota.specs.Recount.{availableAt}
 use Rattle.job.specs.File.{jobCounts, jobStarts, fileOk}
 use Rattle.job.specs.Columns.{column, floatColumn}
 use Rattle.job.specs.Listing.{listed, listingOf, listingMost}
 use Rattle.slotset.specs.Answers.{numberNo}
-use Rattle.job.specs.Stages.{jobCountsOk, countsNo, settingsIn, valueOf, lowerNo, TargetsSound, allEven, allKnown}
+use Rattle.job.specs.Stages.{jobCountsOk, countsNo, settingsIn, valueOf, lowerNo, allEven, allKnown}
 use Rattle.job.specs.Stages.{ownersNo}
 use Rattle.job.specs.Outcome.{Result, startOf, minutesValue, textOf, listedAs, refusedAs, orRefused, baseIn, peopleIn, rangesIn}
 use Rattle.job.specs.Outcome.{capacitiesIn, priorsIn, instantIn, atomsIn, availIn, sharesIn, unitsIn, readyIn, playResult, rotaResult}
@@ -39,7 +43,7 @@ use Rattle.job.proofs.Files.{length-column, column-at}
 use Rattle.job.proofs.Tests.{Numbered, Rising, stage}
 use Rattle.job.proofs.Prepares.{few-says, when-none}
 use Rattle.job.proofs.Passing.{atoms-no, AtomsSound, atoms-sound, avail-length, frozen-length, frozen-at, lent-room, shares-no}
-use Rattle.job.proofs.Passing.{targets-sound, units-no, units-right, units-fit, lower-is, owners-known, owners-even, narrowed-length}
+use Rattle.job.proofs.Passing.{units-no, units-right, units-fit, lower-is, owners-known, owners-even, narrowed-length}
 use Rattle.job.proofs.Rotas.{RotaSound, start-no, play-no}
 use Rattle.job.proofs.Plays.{uncovered-told}
 
@@ -388,10 +392,11 @@ module _ (s : List ℕ) (room : ℕ) (A : AllPass (jobTests s room)) where
       let f = both (leb (settingsIn s .fairness) 1) _ (A 7 (lit< tt)) .0 in
       shares-heard s few (R .slots) (R .starts) (R .ends) (atoms-right s few atoms) ∙ simp (A 6 (lit< tt), f)
 
-  pub targets-right : TargetsSound (readyOf s .people) (demandOf (readyOf s .slots) (readyOf s .starts) (readyOf s .ends))
-      (readyOf s .targets)
+  pub targets-right : (sumℤ (take (readyOf s .people) (readyOf s .targets))
+      ≡ pos (demandOf (readyOf s .slots) (readyOf s .starts) (readyOf s .ends)))
+      × ((p : ℕ) → p < readyOf s .people → mag (getD (readyOf s .targets) p (pos 0)) < 2 ^ 63)
   unfolding readyOf readyIn sharesIn
-  targets-right = targets-sound _ shares-none
+  targets-right = (targets-add-up _ _ shares-none, accepted-sized _ _ shares-none)
 
   -- slots that end by the instant of the freeze record are frozen
   pub frozen-there : (getD (jobCounts s) 4 0 ≡ 0 → ⊥) → (k : ℕ) → k < readyOf s .slots

@@ -5,6 +5,7 @@ pub mod Sequences
 pub mod Files
 pub mod Layouts
 pub mod Texts
+pub mod Lengths
 pub mod Digits
 pub mod Signs
 pub mod Prepares
@@ -16,6 +17,5 @@ pub mod Placed
 pub mod Passing
 pub mod Rotas
 pub mod Plays
-pub mod Longest
 pub mod Heard
 pub mod Promises

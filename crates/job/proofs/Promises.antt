@@ -3,7 +3,7 @@ use mathlib.Core.Path.{_≡_, refl, sym, ap, ap₂, _∙_}
 use mathlib.Core.Logic.{_↔_}
 use mathlib.Core.Bool.{true, not, _&&_, _||_}
 use mathlib.Core.List.{List, [], _++_}
-use Prim.Native.Nat.{ℕ, _+_, _-_, _*_, _≤_, _<_}
+use Prim.Native.Nat.{ℕ, _+_, _-_, _*_, _^_, _≤_, _<_}
 use native.Mathlib.Nat.{pos-of-ne-zero}
 use native.Mathlib.Omega.{arith}
 use borrow.Author.Tests.{eq-eqb, eqb-true, eqb-false, leb-false, not-true}
@@ -19,6 +19,7 @@ use Rattle.slots.proofs.LentLaws.{slots-sound}
 use Rattle.targets.specs.Remainder.{sumℤ}
 use Rattle.slots.specs.declared.Minutes.the-variants as minutes
 use Rattle.rota.specs.Derived.{knownBy, uncovered}
+use Rattle.rota.proofs.Minutes.{known-below}
 use Rattle.rota.specs.Recount.{availableFor}
 use Rattle.rota.specs.Entries as rota
 use Rattle.job.specs.declared.JobAnswer.{JobAnswer}
@@ -38,7 +39,14 @@ use Rattle.job.proofs.Digits.{digits-value}
 use Rattle.job.proofs.Layouts.{counts-read, fields-read}
 use Rattle.job.proofs.Rotas as rotas
 use Rattle.job.proofs.Plays as plays
-use Rattle.job.proofs.Longest as longest
+use Rattle.job.proofs.Lengths as lengths
+use Rattle.job.proofs.Lengths.{Fields}
+
+-- a known owner is a byte
+known-byte : (people w : ℕ) → people ≤ 32 → knownBy people w ≡ true → w < 2 ^ 8
+known-byte people w few k =
+    by-test (eqb w nobody) _ (λ t. omega (arith, eqb-true w nobody t))
+    (λ f. omega (arith, known-below people w k (eqb-false w nobody f)))
 
 -- ---- only one outcome fits
 
@@ -203,19 +211,32 @@ module _ (s x : List ℕ) where
     -- the targets that are listed add up to it too
     pub targets-total : sumℤ (take (listedOf s .people) (listedOf s .targets)) ≡ pos (baseTotal s)
     unfolding listedOf
-    targets-total = targets-right s (length x) pass .total ∙ ap pos (demand-is s (length x) pass)
+    targets-total = targets-right s (length x) pass .0 ∙ ap pos (demand-is s (length x) pass)
 
-    -- no listing is longer than the longest that 2 asks room for
+    -- no listing is longer than the room that 2 asks for
+    fields : Fields (listedOf s)
+    unfolding listedOf playedOf startedOf
+    fields =
+        let R = readyOf s in
+        let D = startedOf s .derived in
+        let no = not-refused in
+        let P = plays.plan-right R (drawsOf s) (ownersOf s) D no in
+        let start : (k : ℕ) → k < R .slots → getD (R .starts) k 0 < 2 ^ 32 =
+        λ k h. omega (arith, P .lent .ordered k h, P .lent .capped k h) in
+        record {
+          slots-few = P .slots-few;
+          people-few = P .people-few;
+          draws-few = plays.draws-few R (drawsOf s) (ownersOf s) D no;
+          starts = start;
+          ends = λ k h. omega (arith, P .lent .capped k h);
+          owners = λ k h. known-byte (R .people) _ (P .people-few) (plays.owners-fit R (drawsOf s) (ownersOf s) D no k h .0);
+          minutes = λ p h. omega (arith, total, total-small, sum-part (R .people) p (λ q. getD (listedOf s .minutes) q 0) h);
+          targets = targets-right s (length x) pass .1;
+          uncovered = omega (arith, total, total-small);
+        }
+
     pub listing-fits : n ≤ listingMost
-    unfolding listedOf playedOf
-    listing-fits =
-        omega (
-          arith,
-          accepted-exactly n .0 e .1,
-          longest.listing-fits (listedOf s)
-              (longest.play-sound (readyOf s) (drawsOf s) (ownersOf s) (startedOf s .derived) not-refused (targets-right s (length x) pass)
-              _ refl),
-        )
+    listing-fits = omega (arith, accepted-exactly n .0 e .1, lengths.listing-fits (listedOf s) fields)
 
     -- ---- what the draws keep, slot by slot: the owners listed, beside those of the file's records
 

@@ -116,9 +116,9 @@ pub record Wrote (l : List ℕ) (at : ℕ) (x : List ℕ) (end : ℕ) (y : List 
   pub ends : end ≡ at + length l
   pub text : y ≡ put l at x
 
--- how long the longest listing is that can come out (`proofs.Longest.listing-fits`; a job that has it is made by oracle/src/jobs.rs)
+-- the room that 2 asks for: a round number above 44,535, all that the widths of the fields allow (`proofs.Lengths.listing-fits`)
 abbrev pub listingMost : ℕ
-listingMost = 36343
+listingMost = 65536
 
 -- the line of a refusal in a lent buffer; nothing where there is no room for six bytes
 unfoldable pub refusalOut : ℕ → List ℕ → List ℕ

@@ -2,11 +2,9 @@
 use mathlib.Core.Path.{_≡_}
 use mathlib.Core.Bool.{Bool, _&&_, cond}
 use mathlib.Core.List.{List}
-use mathlib.Core.Logic.{_⊎_}
 use Prim.Native.Nat.{ℕ, zero, suc, _+_, _*_, _≤_}
 use lib.Dec.{leb, ltb, eqb}
-use lib.IntN.{ℤ, pos}
-use lib.ListN.{length, getD, set, take, replicate}
+use lib.ListN.{length, getD, set, replicate}
 use Rattle.paper.specs.Limits.{peopleOk, slotCountOk, orElse, rangesMost, drawsMost, nobody}
 use Rattle.paper.specs.Count.{all, over}
 use Rattle.slotset.specs.declared.Number.{Number}
@@ -16,7 +14,6 @@ use Rattle.slots.specs.Atomic as atomic
 use Rattle.slots.specs.Freeze.{freezeOf}
 use Rattle.units.specs.declared.Settings.{Settings}
 use Rattle.units.specs.Answers.{Written}
-use Rattle.targets.specs.Remainder.{sumℤ, AllPlain, AllSmall}
 use Rattle.targets.specs.Outcome as targets
 use Rattle.rota.specs.Derived.{knownBy}
 use Rattle.rota.specs.Recount.{evenAt}
@@ -75,12 +72,6 @@ pub record SharesAre (x : targets.Outcome) (r : Shares) : Type 0 where
   pub no : r .no ≡ x .number
   pub targets : r .targets ≡ x .out
   pub room : length (r .targets) ≡ 32
-
--- what a play may take for granted of its targets: they add up to demand, and none is below 0, or each is below 100 in size
-pub record TargetsSound (people demand : ℕ) (ts : List ℤ) : Type 0 where
-  pub room : people ≤ length ts
-  pub total : sumℤ (take people ts) ≡ pos demand
-  pub sizes : AllPlain people ts ⊎ AllSmall people ts
 
 -- the lower of two numbers, where 0 is none
 unfoldable pub lowerNo : ℕ → ℕ → ℕ

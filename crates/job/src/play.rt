@@ -5,13 +5,13 @@ use crate::Started;
 use crate::listing::put_listing;
 use slots::Minutes;
 ghost use mathlib.Core.Path.{_≡_};
-ghost use Prim.Native.Nat.{_≤_};
-ghost use lib.ListN.{length, replicate};
-ghost use Rattle.slots.specs.Lent.{demandOf};
+ghost use Prim.Native.Nat.{ℕ, _≤_, _<_, _^_};
+ghost use lib.IntN.{pos};
+ghost use lib.Signed.{mag};
+ghost use lib.ListN.{length, getD, replicate};
 ghost use Rattle.rota.specs.Derived.{plan, derived};
 ghost use Rattle.rota.specs.Entries.{fromSlots, played, uncoveredIs};
 ghost use Rattle.job.specs.Listing.{listingMost};
-ghost use Rattle.job.specs.Stages.{TargetsSound};
 ghost use Rattle.job.specs.Outcome.{Ends, StartedAs, PlayedAs, minutesValue, ready, draws, rotaResult};
 
 // The minutes that nobody owns.
@@ -123,8 +123,8 @@ pub(crate) fn play_stage(
     out: &mut [u8],
 ) -> JobAnswer
     requires { ⌜ (slots ≤ 1024) × (slots ≤ length (now starts)) × (slots ≤ length (now ends)) ⌝ }
-    requires { ⌜ (people ≤ 32) × (count ≤ 1024) × (listingMost ≤ length (now out)) ⌝ }
-    requires { ⌜ TargetsSound people (demandOf slots (now starts) (now ends)) (now targets) ⌝ }
+    requires { ⌜ (people ≤ 32) × (people ≤ length (now targets)) × (count ≤ 1024) × (listingMost ≤ length (now out)) ⌝ }
+    requires { ⌜ ((p : ℕ) → p < people → mag (getD (now targets) p (pos 0)) < 2 ^ 63) ⌝ }
     ensures { λ r. ⌜ Ends (rotaResult (ready people slots (now (starts .entry)) (now (ends .entry)) (now (avail .entry)) units
         (now (firsts .entry)) (now (frozen .entry)) (now (targets .entry))) (draws count (now (kinds .entry)) (now (ones .entry))
         (now (twos .entry))) owners (now (out .entry))) r (now (out .exit)) ⌝ }

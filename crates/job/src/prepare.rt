@@ -19,8 +19,8 @@ ghost use Rattle.targets.specs.Outcome.{given, computeTargets};
 ghost use Rattle.job.specs.Fields.{le};
 ghost use Rattle.job.specs.Stages.{jobCountsOk, countsNo, settingsIn, frozenIn, AtomsAre, UnitsAre, SharesAre, lowerNo};
 
-// The bytes of the longest listing that can come out.
-pub const LISTING_MOST: usize = 36343;
+// The room that a listing is asked for: above all that the widths of its fields allow.
+pub const LISTING_MOST: usize = 65536;
 
 // Whether the counts are within the paper's (rule 1).
 fn counts_ok(base: usize, people: usize, ranges: usize, draws: usize) -> bool

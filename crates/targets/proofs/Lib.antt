@@ -9,15 +9,13 @@ pub mod Taker
 pub mod Sums
 pub mod Padding
 pub mod Floats
-pub mod Errors
 pub mod Guard
 pub mod Never
-pub mod Shares
 pub mod Eight
 pub mod Ends
 pub mod Minutes
 pub mod Accepted
 pub mod Promises
-pub mod Spread
+pub mod Sized
 pub mod Fairness
 pub mod Work

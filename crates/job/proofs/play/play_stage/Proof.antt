@@ -3,9 +3,7 @@
 use borrow.Author.Needs.{needs}
 use mathlib.Core.Path.{sym}
 use native.Mathlib.Omega.{arith}
-use Rattle.rota.specs.Derived.{derived}
-use Rattle.job.specs.Outcome.{ready, draws, startOf, playOf}
-use Rattle.job.proofs.Longest.{play-fits}
+use Rattle.job.specs.Outcome.{startOf, playOf}
 use Rattle.job.proofs.Results.{start-refused, play-refused, play-listed}
 use Rattle.job.proofs.play.play_stage.Statement.{statement}
 use Rattle.job.proofs.play.play_stage.Tie as tie
@@ -37,21 +35,17 @@ slice-aggregate-put-listing-3 c =
     sym (c10 .play-draws .ensures .answers-room)
 
 put-listing-requires : tie.Need-put-listing-requires
-unfolding playOf
 put-listing-requires c κs =
-    let c4 = c .before .before .before .before in
-    let c9 = c4 .before .before .before .before .before in
-    let c10 = c9 .before in
-    let c14 = c10 .before .before .before .before in
-    let s = c14 .before .before .before .before .before .before .before .before .before .before .before in
-    let a = s .args in
+    let c10 = c .before .before .before .before .before .before .before .before .before .before in
+    let s = c10 .before .before .before .before .before .before .before .before .before .before .before .before .before .before .before in
     let p = c10 .play-draws .ensures in
-    let R = ready (a .people) (a .slots) (a .starts .now) (a .ends .now) (a .avail .now) (a .units) (a .firsts .now) (a .frozen .now)
-    (a .targets .now) in
-    let d = draws (a .count) (a .kinds .now) (a .ones .now) (a .twos .now) in
-    let D = derived (c14 .start-rota .result .sets) (c14 .start-rota .result .minutes) in
-    let fits = play-fits R d (a .t14) D _ _ p (c9 .if2 .taken) (c4 .uncovered-of .ensures) (s .pre .1 .1) in
-    omega (arith, fits, s .pre .0, s .pre .1 .0, s .pre .1 .1 .room, p .owners-room, p .minutes-room, p .answers-room)
+    let w = s .pre .1 .0 in (
+      (s .pre .0 .0, w .0, w .2, w .3),
+      (
+        (s .pre .0 .1, s .pre .0 .2, omega (arith, s .pre .0 .0, p .owners-room)),
+        ((omega (arith, w .0, p .minutes-room), w .1, omega (arith, w .2, p .answers-room)), s .pre .1 .1),
+      ),
+    )
 
 same-length : tie.Need-same-length
 same-length c = search needs

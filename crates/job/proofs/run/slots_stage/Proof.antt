@@ -10,7 +10,7 @@ use lib.ListN.{getD}
 use Rattle.job.specs.Stages.{frozenIn}
 use Rattle.job.specs.Outcome.{draws, availIn}
 use Rattle.job.proofs.Prepares.{lower-none}
-use Rattle.job.proofs.Passing.{shares-sound}
+use Rattle.job.proofs.Passing.{targets-sized}
 use Rattle.job.proofs.Results.{owners-refused, owners-passed}
 use Rattle.job.proofs.Readings.{read-block, read-room, read-owners, read-freeze, read-settings, read-few}
 use Rattle.job.proofs.Readings.{shares-is, units-is, slots-refused, slots-passed}
@@ -177,9 +177,10 @@ play-stage-requires c κs =
     let c22 = c20 .before .before in
     let s = c22 .before .before .before .before .before .before .before .before .before .before .before .before .before .before .before in
     let w = read-few (s .pre .0) in
+    let t = c22 .shares-of .ensures in
     let no = lower-none _ _ (sym (c20 .lower-no .ensures) ∙ c19 .if1 .taken) in (
       (s .pre .1 .0, s .pre .1 .1, s .pre .1 .2),
-      ((w .2, w .4, s .pre .1 .3), shares-sound _ _ (c22 .shares-of .ensures) no),
+      ((w .2, omega (arith, w .2, t .room), w .4, s .pre .1 .3), targets-sized _ _ t no),
     )
 
 same-length : tie.Need-same-length
