@@ -1,7 +1,4 @@
 -- Laws that belong to no one function.
-pub mod Numbers
-pub mod Walks
-pub mod Sequences
 pub mod Files
 pub mod Layouts
 pub mod Texts

@@ -24,10 +24,11 @@ use Rattle.rota.specs.Recount.{availableFor}
 use Rattle.rota.specs.Entries as rota
 use Rattle.job.specs.declared.JobAnswer.{JobAnswer}
 use Rattle.job.specs.declared.JobAnswer.the-variants as answer
-use Rattle.job.specs.Fields.{le}
-use Rattle.job.specs.Records.{bodies}
+use Rattle.records.specs.Fields.{le}
+use Rattle.records.specs.Records.{bodies}
 use Rattle.job.specs.File.{jobCounts, jobStarts, JobFile}
-use Rattle.job.specs.Listing.{digits, listingOf, listingMost, put}
+use Rattle.records.specs.Puts.{put}
+use Rattle.job.specs.Listing.{digits, listingOf, listingMost}
 use Rattle.job.specs.Digits.{readDigits}
 use Rattle.job.specs.Outcome.{Result, refusedAs, listedAs, Ends, planOf, instantIn, jobResult}
 use Rattle.job.specs.Heard.{testAt, Lowest, AllPass, readyOf, drawsOf, ownersOf, startedOf, playedOf, listedOf, baseTotal}

@@ -24,15 +24,15 @@ use Rattle.job.specs.declared.JobAnswer.the-variants as answer
 use Rattle.job.specs.declared.Atoms.{Atoms}
 use Rattle.job.specs.declared.Made.{Made}
 use Rattle.job.specs.declared.Shares.{Shares}
-use Rattle.job.specs.Records.{blockAt, countOf, walkOk}
+use Rattle.records.specs.Records.{blockAt, countOf, walkOk}
 use Rattle.job.specs.File.{jobLayout, jobSizes, fileMost, jobCounts, jobStarts, restOk, fileOk}
 use Rattle.slotset.specs.Answers.{numberNo}
 use Rattle.job.specs.Stages.{jobCountsOk, countsNo, settingsIn, frozenIn, valueOf, AtomsAre, UnitsAre, SharesAre, lowerNo}
 use Rattle.job.specs.Outcome.{Result, Ends, Ready, ready, Draws, draws, ReadOk, baseIn, peopleIn, capacitiesIn, priorsIn, drawsIn}
 use Rattle.job.specs.Outcome.{instantIn, columnOf, rangesIn, atomsIn, atomsResult, availIn, sharesIn, unitsIn, readyIn, ownersResult}
 use Rattle.job.specs.Outcome.{slotsResult, refusedAs, countedResult, jobResult}
-use Rattle.job.proofs.Sequences.{counted-at, block-le, field-room}
-use Rattle.job.proofs.Walks.{record-says}
+use Rattle.records.proofs.Sequences.{counted-at, block-le, field-room}
+use Rattle.records.proofs.Walks.{record-says}
 use Rattle.job.proofs.Files.{count-at, start-at, owners-end}
 use Rattle.job.proofs.Prepares.{few-says}
 use Rattle.job.proofs.Results.{refused-is, or-refused, or-passed}

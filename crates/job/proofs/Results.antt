@@ -11,7 +11,8 @@ use Rattle.job.specs.declared.JobAnswer.the-variants as answer
 use Rattle.job.specs.declared.Owned.{Owned}
 use Rattle.job.specs.declared.Started.{Started}
 use Rattle.job.specs.declared.Played.{Played}
-use Rattle.job.specs.Listing.{listed, listingOf, Wrote}
+use Rattle.records.specs.Puts.{Wrote}
+use Rattle.job.specs.Listing.{listed, listingOf}
 use Rattle.job.specs.Outcome.{Result, refusedAs, listedAs, orRefused, Ends, StartedAs, PlayedAs, minutesValue}
 use Rattle.job.specs.Stages.{placed, narrowed, OwnersAre}
 use Rattle.job.specs.Outcome.{Ready, Draws, ownersResult, planOf, startOf, playOf, textOf, playResult, rotaResult}

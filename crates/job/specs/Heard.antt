@@ -15,7 +15,7 @@ use Rattle.targets.specs.Figures.{allFiguresOk}
 use Rattle.rota.specs.Derived.{uncovered}
 use Rattle.rota.specs.Recount.{availableAt}
 use Rattle.rota.specs.Entries as rota
-use Rattle.job.specs.Fields.{le}
+use Rattle.records.specs.Fields.{le}
 use Rattle.job.specs.File.{jobCounts, jobStarts, fileOk}
 use Rattle.job.specs.Listing.{Listed, listed, listingMost}
 use Rattle.job.specs.Stages.{jobCountsOk, settingsIn, valueOf, placed, allEven, allKnown, narrowed}

@@ -1,6 +1,4 @@
 -- What the contracts of job cite.
-pub mod Fields
-pub mod Records
 pub mod File
 pub mod Columns
 pub mod Listing

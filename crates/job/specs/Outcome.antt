@@ -21,10 +21,11 @@ use Rattle.job.specs.declared.JobAnswer.{JobAnswer}
 use Rattle.job.specs.declared.JobAnswer.the-variants as answer
 use Rattle.job.specs.declared.Started.{Started}
 use Rattle.job.specs.declared.Played.{Played}
-use Rattle.job.specs.Fields.{le}
+use Rattle.records.specs.Fields.{le}
 use Rattle.job.specs.File.{jobSizes, jobCounts, jobStarts, fileOk}
 use Rattle.job.specs.Columns.{column, floatColumn}
-use Rattle.job.specs.Listing.{listed, listingOf, put}
+use Rattle.records.specs.Puts.{put}
+use Rattle.job.specs.Listing.{listed, listingOf}
 use Rattle.slotset.specs.Answers.{numberNo}
 use Rattle.job.specs.Stages.{jobCountsOk, countsNo, settingsIn, frozenIn, valueOf, lowerNo, placed}
 use Rattle.job.specs.Stages.{ownersNo, narrowed}

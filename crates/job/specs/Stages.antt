@@ -21,7 +21,7 @@ use Rattle.job.specs.declared.Atoms.{Atoms}
 use Rattle.job.specs.declared.Made.{Made}
 use Rattle.job.specs.declared.Shares.{Shares}
 use Rattle.job.specs.declared.Owned.{Owned}
-use Rattle.job.specs.Fields.{le}
+use Rattle.records.specs.Fields.{le}
 use Rattle.job.specs.File.{ownerSlot}
 use Rattle.job.specs.Listing.{listingMost}
 

@@ -6,7 +6,6 @@ mod listing;
 mod owners;
 mod play;
 mod prepare;
-mod records;
 mod run;
 
 pub use file::FILE_MOST;

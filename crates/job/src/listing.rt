@@ -7,7 +7,8 @@ ghost use lib.Signed.{mag};
 ghost use lib.ListN.{length, getD};
 ghost use Rattle.job.specs.Listing.{digits, signed, ownerText, answerLetter, headText, slotLine, personLine, drawLine};
 ghost use Rattle.job.specs.Listing.{lines, slotAt, personAt, drawAt};
-ghost use Rattle.job.specs.Listing.{listed, listingOf, listingMost, refusalLength, refusalOut, Wrote};
+ghost use Rattle.records.specs.Puts.{Wrote};
+ghost use Rattle.job.specs.Listing.{listed, listingOf, listingMost, refusalLength, refusalOut};
 
 // One byte.
 fn put_byte(out: &mut [u8], at: usize, byte: u8) -> usize

@@ -16,7 +16,7 @@ ghost use Rattle.slots.specs.Atomic.{base, atomiseOf};
 ghost use Rattle.slots.specs.Availability.{availabilityOf};
 ghost use Rattle.units.specs.Starts.{unitStartsIs};
 ghost use Rattle.targets.specs.Outcome.{given, computeTargets};
-ghost use Rattle.job.specs.Fields.{le};
+ghost use Rattle.records.specs.Fields.{le};
 ghost use Rattle.job.specs.Stages.{jobCountsOk, countsNo, settingsIn, frozenIn, AtomsAre, UnitsAre, SharesAre, lowerNo};
 
 // The room that a listing is asked for: above all that the widths of its fields allow.

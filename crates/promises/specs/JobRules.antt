@@ -12,8 +12,8 @@ use Rattle.targets.specs.Remainder.{sumℤ}
 use Rattle.rota.specs.Derived.{knownBy}
 use Rattle.rota.specs.Recount.{availableFor}
 use Rattle.job.specs.declared.JobAnswer.the-variants as answer
-use Rattle.job.specs.Fields.{le, Bytes}
-use Rattle.job.specs.Records.{bodies}
+use Rattle.records.specs.Fields.{le, Bytes}
+use Rattle.records.specs.Records.{bodies}
 use Rattle.job.specs.File.{jobSizes, jobCounts, jobStarts, ownerSlot, fileOk, JobFile}
 use Rattle.job.specs.Listing.{digits, signed, listingOf, listingMost}
 use Rattle.job.specs.Digits.{readDigits, readSigned}

@@ -6,7 +6,7 @@ use Prim.Native.Nat.{ℕ, _+_, _≤_}
 use lib.IntN.{ℤ}
 use native.Mathlib.Omega.{arith}
 use Rattle.job.specs.Listing.{lines, slotAt, personAt, drawAt, listingOf, uncoveredLine}
-use Rattle.job.proofs.Texts.{room-first, room-next, wrote-both}
+use Rattle.records.proofs.Puts.{room-first, room-next, wrote-both}
 use Rattle.job.proofs.listing.put_lines.Statement.{statement}
 use Rattle.job.proofs.listing.put_lines.Tie as tie
 

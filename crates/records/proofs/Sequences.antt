@@ -13,11 +13,11 @@ use lib.Seq.{drop-drop, take-at, drop-at, getD-drop, getD-take, length-take-le, 
 use Rattle.paper.specs.Count.{all}
 use Rattle.paper.proofs.Logic.{both, and-true, lt-or-ge}
 use Rattle.paper.proofs.Count.{all-each, all-none}
-use Rattle.job.specs.Fields.{le, leBytes, Bytes}
-use Rattle.job.specs.Records.{Layout, Rec, bytesOf, fileOf, Laid, done, next, more, Allowed, recordOf, InOrder, bodies, recordAt}
-use Rattle.job.specs.Records.{blockCount, blockAt, countOf, walkOk, LayoutFits, IsFile}
-use Rattle.job.proofs.Numbers.{le-front, le-back, le-written, written-le, length-bytes}
-use Rattle.job.proofs.Walks.{lead-all, record-says, record-is, record-short, block-more, block-done, next-at}
+use Rattle.records.specs.Fields.{le, leBytes, Bytes}
+use Rattle.records.specs.Records.{Layout, Rec, bytesOf, fileOf, Laid, done, next, more, Allowed, recordOf, InOrder, bodies, recordAt}
+use Rattle.records.specs.Records.{blockCount, blockAt, countOf, walkOk, LayoutFits, IsFile}
+use Rattle.records.proofs.Numbers.{le-front, le-back, le-written, written-le, length-bytes}
+use Rattle.records.proofs.Walks.{lead-all, record-says, record-is, record-short, block-more, block-done, next-at}
 
 -- ---- a record and what follows it
 

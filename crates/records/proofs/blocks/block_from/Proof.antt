@@ -1,4 +1,4 @@
--- `job::records::block_from` meets its contract. The invariant: `count` whole records stand between `at` and `end`. Assumes nothing.
+-- `records::blocks::block_from` meets its contract. The invariant: `count` whole records stand between `at` and `end`. Assumes nothing.
 use mathlib.Core.Path.{_≡_, sym, _∙_}
 use mathlib.Core.Bool.{true}
 use Prim.Native.Nat.{_+_, _-_, _*_, _≤_}
@@ -7,10 +7,10 @@ use native.Mathlib.Nat.{zero-mul}
 use lib.ListN.{length}
 use Rattle.paper.specs.Count.{all}
 use Rattle.paper.proofs.Count.{all-none}
-use Rattle.job.specs.Records.{recordAt}
-use Rattle.job.proofs.Walks.{record-says, next-at, block-more, block-done}
-use Rattle.job.proofs.records.block_from.Statement.{statement}
-use Rattle.job.proofs.records.block_from.Tie as tie
+use Rattle.records.specs.Records.{recordAt}
+use Rattle.records.proofs.Walks.{record-says, next-at, block-more, block-done}
+use Rattle.records.proofs.blocks.block_from.Statement.{statement}
+use Rattle.records.proofs.blocks.block_from.Tie as tie
 
 abbrev Inv-loop : tie.InvT-loop
 Inv-loop s kind size at count₀ end₀ count end = (end ≡ at + count * (4 + size)) × (end ≤ length s) × (count ≤ end) ×

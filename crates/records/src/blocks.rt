@@ -1,10 +1,10 @@
 // The walk over records. A record is: body length u16, kind u16, body. Kinds never fall, so the records of a kind stand together.
-use crate::fields::field;
+use crate::fields::number_at;
 ghost use mathlib.Core.Path.{_≡_};
 ghost use Prim.Native.Nat.{_+_, _*_, _≤_, _<_};
 ghost use lib.ListN.{length, replicate};
 ghost use Rattle.paper.specs.Count.{over};
-ghost use Rattle.job.specs.Records.{layout, recordAt, blockCount, blockAt, countOf, walkOk};
+ghost use Rattle.records.specs.Records.{layout, kindsMost, recordAt, blockCount, blockAt, countOf, walkOk};
 
 // How many records of one kind stand together, and where they end.
 pub(crate) struct Block {
@@ -13,7 +13,7 @@ pub(crate) struct Block {
 }
 
 // What a file has: whether it is laid out as it must be, and for each kind how many records, and where they begin.
-pub(crate) struct Walked {
+pub struct Walked {
     pub ok: bool,
     pub counts: [usize; 8],
     pub starts: [usize; 8],
@@ -27,8 +27,8 @@ fn record_at(s: &[u8], kind: usize, size: usize, at: usize) -> bool
     if s.len() - at < 4 + size {
         return false;
     }
-    if field(s, at, 2) == size as u64 {
-        return field(s, at + 2, 2) == kind as u64;
+    if number_at(s, at, 2) == size as u64 {
+        return number_at(s, at + 2, 2) == kind as u64;
     }
     false
 }
@@ -49,7 +49,7 @@ fn block_from(s: &[u8], kind: usize, size: usize, at: usize) -> Block
 }
 
 // The walk: kinds first, first + 1 and on, `kinds` of them, kind first + i with a body of sizes[i] bytes; at most `limit` bytes.
-pub(crate) fn walk(s: &[u8], first: u16, kinds: usize, sizes: [u16; 8], limit: usize) -> Walked
+fn walk_kinds(s: &[u8], first: u16, kinds: usize, sizes: [u16; 8], limit: usize) -> Walked
     requires { ⌜ kinds ≤ 8 ⌝ }
     ensures { λ r. ⌜ r .ok ≡ walkOk (layout first kinds sizes) limit (now (s .entry)) ⌝ }
     ensures { λ r. ⌜ r .counts ≡ over (countOf (layout first kinds sizes) (now (s .entry))) kinds (replicate 8 0) ⌝ }
@@ -79,4 +79,16 @@ pub(crate) fn walk(s: &[u8], first: u16, kinds: usize, sizes: [u16; 8], limit: u
         counts,
         starts,
     }
+}
+
+// The same; kinds past the eighth are not counted.
+pub fn walk(s: &[u8], first: u16, kinds: usize, sizes: [u16; 8], limit: usize) -> Walked
+    ensures { λ r. ⌜ r .ok ≡ walkOk (layout first (kindsMost kinds) sizes) limit (now (s .entry)) ⌝ }
+    ensures { λ r. ⌜ r .counts ≡ over (countOf (layout first (kindsMost kinds) sizes) (now (s .entry))) (kindsMost kinds) (replicate 8 0) ⌝ }
+    ensures { λ r. ⌜ r .starts ≡ over (blockAt (layout first (kindsMost kinds) sizes) (now (s .entry))) (kindsMost kinds) (replicate 8 0) ⌝ }
+{
+    if kinds <= 8 {
+        return walk_kinds(s, first, kinds, sizes, limit);
+    }
+    walk_kinds(s, first, 8, sizes, limit)
 }

@@ -6,7 +6,7 @@ use Prim.Native.Nat.{ℕ, zero, suc, _+_, _-_, _*_, _≤_, _<_}
 use lib.Dec.{leb, eqb}
 use lib.ListN.{length, getD}
 use Rattle.paper.specs.Count.{all}
-use Rattle.job.specs.Fields.{le, leBytes, Bytes}
+use Rattle.records.specs.Fields.{le, leBytes, Bytes}
 
 -- ---- what may stand in a file
 
@@ -18,6 +18,10 @@ pub record Layout : Type 0 where
 
 abbrev pub layout : ℕ → ℕ → List ℕ → Layout
 layout f n s = record { first = f; kinds = n; sizes = s }
+
+-- no more kinds than a walk counts
+abbrev pub kindsMost : ℕ → ℕ
+kindsMost n = cond (leb n 8) n 8
 
 pub record Rec : Type 0 where
   pub kind : ℕ

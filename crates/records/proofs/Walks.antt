@@ -8,12 +8,12 @@ use native.Mathlib.Numerals.{add-one}
 use native.Mathlib.Omega.{arith}
 use borrow.Author.Tests.{le-leb, lt-leb, leb-true, leb-false, eq-eqb, ne-eqb, eqb-true}
 use lib.Dec.{leb, eqb}
-use lib.ListN.{length, getD}
-use Rattle.paper.specs.Count.{all}
+use lib.ListN.{length, getD, set}
+use Rattle.paper.specs.Count.{all, over}
 use Rattle.paper.proofs.Logic.{by-test, three, and-true}
-use Rattle.paper.proofs.Count.{all-more, all-fails}
-use Rattle.job.specs.Fields.{le}
-use Rattle.job.specs.Records.{Layout, recordAt, lead, blockCount, blockAt, countOf, walkOk}
+use Rattle.paper.proofs.Count.{all-more, all-fails, over-more}
+use Rattle.records.specs.Fields.{le}
+use Rattle.records.specs.Records.{Layout, kindsMost, recordAt, lead, blockCount, blockAt, countOf, walkOk}
 
 -- ---- the leading numbers that pass a test
 
@@ -126,3 +126,19 @@ walk-short L limit s at a h =
 pub walk-long : (L : Layout) (limit : ℕ) (s : List ℕ) → limit < length s → false ≡ walkOk L limit s
 unfolding walkOk
 walk-long L limit s h = sym (ap (λ (b : Bool). b && eqb (blockAt L s (L .kinds)) (length s)) (lt-leb _ _ h))
+
+-- ---- a column that a loop fills
+
+-- the turn of a loop that makes the first entries anew, and its end
+pub over-turn : (f : ℕ → ℕ) (l x : List ℕ) (k v : ℕ) → x ≡ over f k l → v ≡ f k → set x k v ≡ over f (k + 1) l
+over-turn f l x k v e g = ap₂ (λ (y : List ℕ) (u : ℕ). set y k u) e g ∙ sym (over-more f k l)
+
+pub over-done : (f : ℕ → ℕ) (l x : List ℕ) (i n : ℕ) → i ≡ n → x ≡ over f i l → x ≡ over f n l
+over-done f l x i n e h = h ∙ ap (λ (k : ℕ). over f k l) e
+
+-- no more kinds than a walk counts
+pub kinds-few : (n : ℕ) → n ≤ 8 → kindsMost n ≡ n
+kinds-few n h = simp (le-leb n 8 h)
+
+pub kinds-many : (n : ℕ) → 8 < n → kindsMost n ≡ 8
+kinds-many n h = simp (lt-leb n 8 h)

@@ -1,12 +1,18 @@
 -- Numbers in bytes, lowest byte first. Assumes nothing.
+use mathlib.Core.Bool.{_&&_, cond}
 use mathlib.Core.List.{List, [], _∷_, _++_}
 use Prim.Native.Nat.{ℕ, zero, suc, _+_, _*_, _/_, _%_, _<_}
-use lib.ListN.{getD}
+use lib.Dec.{leb}
+use lib.ListN.{length, getD}
 
 -- the number in the n bytes of s from `at` on
 unfoldable pub le : ℕ → List ℕ → ℕ → ℕ
 le zero s at = 0
 le (suc n) s at = getD s at 0 + 256 * le n s (suc at)
+
+-- the same of at most eight bytes that all stand in s, else 0
+unfoldable pub fieldAt : ℕ → List ℕ → ℕ → ℕ
+fieldAt n s at = cond (leb n 8 && leb (at + n) (length s)) (le n s at) 0
 
 -- the n bytes of a number
 unfoldable pub leBytes : ℕ → ℕ → List ℕ
@@ -39,25 +45,3 @@ eight v = record { width = 8; value = v }
 unfoldable pub bodyOf : List Field → List ℕ
 bodyOf [] = []
 bodyOf (f ∷ fs) = leBytes (f .width) (f .value) ++ bodyOf fs
-
--- the bodies of the seven kinds
-abbrev pub settingsBody : ℕ → ℕ → ℕ → ℕ → ℕ → List Field
-settingsBody fairness lock boundary value days = byte fairness ∷ byte lock ∷ byte boundary ∷ byte 0 ∷ two value ∷ two days ∷ []
-
-abbrev pub baseBody : ℕ → ℕ → List Field
-baseBody start end = four start ∷ four end ∷ []
-
-abbrev pub personBody : ℕ → ℕ → List Field
-personBody capacity prior = eight capacity ∷ four prior ∷ []
-
-abbrev pub rangeBody : ℕ → ℕ → ℕ → List Field
-rangeBody person start end = two person ∷ four start ∷ four end ∷ []
-
-abbrev pub freezeBody : ℕ → List Field
-freezeBody instant = four instant ∷ []
-
-abbrev pub ownerBody : ℕ → ℕ → List Field
-ownerBody slot owner = two slot ∷ two owner ∷ []
-
-abbrev pub drawBody : ℕ → ℕ → ℕ → List Field
-drawBody draw first second = two draw ∷ two first ∷ two second ∷ []

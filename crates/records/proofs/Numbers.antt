@@ -1,13 +1,16 @@
 -- Laws of numbers in bytes, each over any width. Assumes nothing.
 use mathlib.Core.Path.{_≡_, refl, sym, ap, ap₂, _∙_}
+use mathlib.Core.Logic.{_⊎_, ⊎-elim}
 use mathlib.Core.List.{List, [], _∷_, _++_}
 use Prim.Native.Nat.{ℕ, zero, suc, _+_, _-_, _*_, _/_, _%_, _^_, _≤_, _<_}
 use native.Mathlib.Nat.{pow-suc, pow-le-pow-right, lt-of-lt-of-le}
 use native.Mathlib.Omega.{arith}
+use borrow.Author.Tests.{le-leb, lt-leb}
 use lib.Dec.{lit<}
 use lib.ListN.{length, getD, take, drop, List·getD-append}
 use lib.Seq.{drop-cons, getD-append-add}
-use Rattle.job.specs.Fields.{le, leBytes, Bytes}
+use Rattle.paper.proofs.Logic.{lt-or-ge}
+use Rattle.records.specs.Fields.{le, leBytes, Bytes, fieldAt}
 
 -- one byte more below a number of n bytes
 pub wider : (v b n : ℕ) → v < 256 ^ n → b < 256 → v * 256 + b < 256 ^ suc n
@@ -78,3 +81,21 @@ written-le (suc n) s at b h =
     let hi : le n s (suc at) ≡ (getD s at 0 + 256 * le n s (suc at)) / 256 = omega (arith, b at) in
     ap (take (suc n)) (drop-cons s at 0 (omega arith))
     ∙ ap₂ _∷_ lo (written-le n s (suc at) b (omega arith) ∙ ap (leBytes n) hi)
+
+-- ---- a field of a buffer
+
+field-wide : (n : ℕ) (s : List ℕ) (at : ℕ) → 8 < n → 0 ≡ fieldAt n s at
+unfolding fieldAt
+field-wide n s at h = sym (simp (lt-leb n 8 h))
+
+pub field-none : (n : ℕ) (s : List ℕ) (at : ℕ) → (8 < n) ⊎ (length s < at + n) → (0 ≡ fieldAt n s at) × (0 < 256 ^ n)
+unfolding fieldAt
+field-none n s at h = (
+  ⊎-elim (field-wide n s at)
+      (λ (l : length s < at + n). ⊎-elim (field-wide n s at) (λ (w : n ≤ 8). sym (simp (le-leb n 8 w, lt-leb _ _ l))) (lt-or-ge 8 n)) h,
+  below-power 256 0 0 n (lit< tt) (lit< tt) (omega arith),
+)
+
+pub field-is : (n : ℕ) (s : List ℕ) (at : ℕ) → n ≤ 8 → at + n ≤ length s → fieldAt n s at ≡ le n s at
+unfolding fieldAt
+field-is n s at w h = simp (le-leb n 8 w, le-leb _ _ h)

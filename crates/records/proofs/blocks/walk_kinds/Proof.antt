@@ -1,4 +1,4 @@
--- `job::records::walk` meets its contract. The invariant: the first i kinds are counted. Assumes nothing.
+-- `records::blocks::walk_kinds` meets its contract. The invariant: the first i kinds are counted. Assumes nothing.
 use borrow.Author.Needs.{needs}
 use mathlib.Core.Path.{_≡_, sym, ap, _∙_}
 use Prim.Native.Nat.{_-_, _≤_}
@@ -8,11 +8,11 @@ use mir.Syntax.{w16}
 use lib.ListN.{length, getD, replicate}
 use Rattle.paper.specs.Count.{over}
 use Rattle.paper.proofs.Count.{over-none}
-use Rattle.job.specs.Records.{layout, blockAt, countOf}
-use Rattle.job.proofs.Walks.{block-next, walk-none, walk-short, walk-long}
-use Rattle.job.proofs.Files.{over-turn, over-done}
-use Rattle.job.proofs.records.walk.Statement.{statement}
-use Rattle.job.proofs.records.walk.Tie as tie
+use Rattle.records.specs.Records.{layout, blockAt, countOf}
+use Rattle.records.proofs.Walks.{block-next, walk-none, walk-short, walk-long}
+use Rattle.records.proofs.Walks.{over-turn, over-done}
+use Rattle.records.proofs.blocks.walk_kinds.Statement.{statement}
+use Rattle.records.proofs.blocks.walk_kinds.Tie as tie
 
 abbrev Inv-loop : tie.InvT-loop
 Inv-loop s first kinds limit sizes counts₀ starts₀ at₀ i₀ counts starts at
@@ -87,8 +87,8 @@ returns-2 c =
     let e : l .loop .i ≡ l .before .before .args .kinds = omega arith in
     (walk-long _ _ _ (omega arith), (over-done _ _ _ _ _ e (l .loop .inv .0), over-done _ _ _ _ _ e (l .loop .inv .1)))
 
-pub walk-spec : {M : Type 1} → statement M
-walk-spec =
+pub walk-kinds-spec : {M : Type 1} → statement M
+walk-kinds-spec =
     tie.close
     (tie.spec
     Inv-loop

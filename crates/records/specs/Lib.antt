@@ -1,0 +1,4 @@
+-- What the contracts of records cite.
+pub mod Fields
+pub mod Records
+pub mod Puts
