@@ -5,4 +5,4 @@ pub mod Listing
 pub mod Digits
 pub mod Stages
 pub mod Outcome
-pub mod Heard
+pub mod Inside

@@ -3,3 +3,4 @@ pub mod Numbers
 pub mod Walks
 pub mod Sequences
 pub mod Puts
+pub mod Writes

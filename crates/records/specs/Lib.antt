@@ -2,3 +2,4 @@
 pub mod Fields
 pub mod Records
 pub mod Puts
+pub mod Writes

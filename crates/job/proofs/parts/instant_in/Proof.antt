@@ -1,9 +1,9 @@
--- `job::prepare::instant_in` meets its contract. Assumes nothing.
+-- `job::parts::instant_in` meets its contract. Assumes nothing.
 use mathlib.Core.Path.{_∙_}
 use native.Mathlib.Omega.{arith}
 use Rattle.job.proofs.Prepares.{when-none, when-some}
-use Rattle.job.proofs.prepare.instant_in.Statement.{statement}
-use Rattle.job.proofs.prepare.instant_in.Tie as tie
+use Rattle.job.proofs.parts.instant_in.Statement.{statement}
+use Rattle.job.proofs.parts.instant_in.Tie as tie
 
 returns : tie.Need-returns
 returns c = when-none _ _ _ (c .if1 .taken)

@@ -1,10 +1,10 @@
--- `job::prepare::counts_ok` meets its contract. Assumes nothing.
+-- `job::run::counts_ok` meets its contract. Assumes nothing.
 -- Below, cN is what is known N places before c.
 use borrow.Author.Needs.{needs}
 use mathlib.Core.Path.{sym, _∙_}
 use Rattle.job.proofs.Prepares.{counts-draws, counts-ranges, counts-people, counts-base}
-use Rattle.job.proofs.prepare.counts_ok.Statement.{statement}
-use Rattle.job.proofs.prepare.counts_ok.Tie as tie
+use Rattle.job.proofs.run.counts_ok.Statement.{statement}
+use Rattle.job.proofs.run.counts_ok.Tie as tie
 
 slot-count-ok-requires : tie.Need-slot-count-ok-requires
 slot-count-ok-requires c κs = search needs

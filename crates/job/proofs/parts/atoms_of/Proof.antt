@@ -1,11 +1,11 @@
--- `job::prepare::atoms_of` meets its contract. Assumes nothing.
+-- `job::parts::atoms_of` meets its contract. Assumes nothing.
 -- Below, cN is what is known N places before c.
 use borrow.Author.Needs.{needs}
 use mathlib.Core.Path.{sym, ap, _∙_}
 use Rattle.slotset.specs.Answers.{numberNo}
 use Rattle.job.specs.Stages.{valueOf}
-use Rattle.job.proofs.prepare.atoms_of.Statement.{statement}
-use Rattle.job.proofs.prepare.atoms_of.Tie as tie
+use Rattle.job.proofs.parts.atoms_of.Statement.{statement}
+use Rattle.job.proofs.parts.atoms_of.Tie as tie
 
 slice-aggregate-atomise : tie.Need-slice-aggregate-atomise
 slice-aggregate-atomise c = search needs

@@ -1,10 +1,10 @@
--- `job::prepare::units_of` meets its contract. Assumes nothing.
+-- `job::parts::units_of` meets its contract. Assumes nothing.
 use borrow.Author.Needs.{needs}
 use mathlib.Core.Path.{sym, ap, _∙_}
 use Rattle.slotset.specs.Answers.{numberNo}
 use Rattle.job.specs.Stages.{valueOf}
-use Rattle.job.proofs.prepare.units_of.Statement.{statement}
-use Rattle.job.proofs.prepare.units_of.Tie as tie
+use Rattle.job.proofs.parts.units_of.Statement.{statement}
+use Rattle.job.proofs.parts.units_of.Tie as tie
 
 slice-aggregate-unit-starts : tie.Need-slice-aggregate-unit-starts
 slice-aggregate-unit-starts c = search needs

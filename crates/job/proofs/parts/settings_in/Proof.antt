@@ -1,4 +1,4 @@
--- `job::prepare::settings_in` meets its contract. Assumes nothing.
+-- `job::parts::settings_in` meets its contract. Assumes nothing.
 -- Below, cN is what is known N places before c.
 use borrow.Author.Needs.{needs}
 use mathlib.Core.Path.{ap₂}
@@ -6,8 +6,8 @@ use Prim.Native.Nat.{ℕ}
 use lib.ListN.{getD}
 use Rattle.units.specs.declared.Settings.{Settings}
 use Rattle.job.specs.Stages.{settingsIn}
-use Rattle.job.proofs.prepare.settings_in.Statement.{statement}
-use Rattle.job.proofs.prepare.settings_in.Tie as tie
+use Rattle.job.proofs.parts.settings_in.Statement.{statement}
+use Rattle.job.proofs.parts.settings_in.Tie as tie
 
 field-requires : tie.Need-field-requires
 field-requires c κs = search needs

@@ -1,9 +1,9 @@
--- `job::prepare::frozen_in` meets its contract. Assumes nothing.
+-- `job::parts::frozen_in` meets its contract. Assumes nothing.
 use borrow.Author.Needs.{needs}
 use mathlib.Core.Path.{_∙_}
 use Rattle.job.proofs.Prepares.{frozen-none, frozen-some}
-use Rattle.job.proofs.prepare.frozen_in.Statement.{statement}
-use Rattle.job.proofs.prepare.frozen_in.Tie as tie
+use Rattle.job.proofs.parts.frozen_in.Statement.{statement}
+use Rattle.job.proofs.parts.frozen_in.Tie as tie
 
 returns : tie.Need-returns
 returns c = frozen-none _ _ _ _ _ (c .if1 .taken)
