@@ -8,8 +8,8 @@ use borrow.Author.Tests.{le-leb, lt-leb, eq-eqb, ne-eqb, lt-ltb, le-ltb}
 use lib.Dec.{T, leb, ltb, eqb, lit<}
 use lib.Ieee.{Float, nan, inf, binary64, ofBits, ofFields, nanBits, div}
 use lib.ListN.{length, getD, set, replicate, length-replicate}
-use Rattle.paper.specs.Count.{all, over}
-use Rattle.paper.proofs.Count.{length-over, over-none, over-more, getD-over, all-more, all-fails, all-done}
+use Rattle.paper.specs.Count.{all}
+use Rattle.paper.proofs.Count.{length-over, over-none, getD-over, all-more, all-fails, all-done}
 use Rattle.records.specs.Fields.{le}
 use Rattle.records.specs.Records.{blockAt, countOf, walkOk}
 use Rattle.job.specs.File.{jobLayout, fileMost, jobCounts, jobStarts, ownerSlot, rising, restOk, fileOk}

@@ -1,6 +1,6 @@
 -- What a job hears, and what it lists: the whole outcome by the row of its tests. Assumes nothing.
 use mathlib.Core.Path.{_≡_, refl, sym, ap, ap₂, _∙_, subst}
-use mathlib.Core.Bool.{Bool, true, false, cond, _&&_}
+use mathlib.Core.Bool.{true, _&&_}
 use mathlib.Core.List.{List, [], _∷_, _++_}
 use Prim.Native.Nat.{ℕ, _+_, _-_, _*_, _^_, _≤_, _<_}
 use native.Mathlib.Omega.{arith}
@@ -32,7 +32,7 @@ use Rattle.slotset.specs.Answers.{numberNo}
 use Rattle.job.specs.Columns.{column, floatColumn}
 use Rattle.job.specs.Stages.{counted, begins, peopleOf, jobCountsOk, rangesOf, capacitiesOf, priorsOf, settingsIn, instantOf, drawsOf}
 use Rattle.job.specs.Stages.{baseTotal, valueOf, baseOf, atomsOf, availIn, targetsIn, unitsIn, readyIn, readyOf, allEven, allKnown}
-use Rattle.job.specs.Stages.{writtenOf, ownersOf, startOf, startedOf}
+use Rattle.job.specs.Stages.{writtenOf, ownersOf, startedOf}
 use Rattle.job.specs.Outcome.{AllPass, readRow, prepareRow, jobTests}
 use Rattle.job.proofs.Files.{length-column, column-at}
 use Rattle.job.proofs.Tests.{Numbered, Rising, step}

@@ -12,10 +12,12 @@ use lib.ListN.{length, getD, List·getD-eq-default}
 use Rattle.paper.specs.Count.{all}
 use Rattle.paper.proofs.Logic.{both, four, and-true, lt-or-ge}
 use Rattle.paper.proofs.Count.{all-each, each-all}
-use Rattle.records.specs.Fields.{le, Bytes, Field, bodyOf}
-use Rattle.records.specs.Records.{Rec, fileOf, Laid, LayoutFits, bodies, blockAt, countOf, walkOk}
+use Rattle.records.specs.Fields.{le, Bytes}
+use Rattle.records.specs.Records.{Rec, fileOf, bodies, blockAt, countOf, walkOk}
+use Rattle.records.proofs.Laid.{Laid, LayoutFits}
 use Rattle.job.specs.File.{jobLayout, jobSizes, fileMost, jobCounts, jobStarts, ownerSlot, rising, restOk, fileOk, JobFile}
 use Rattle.job.specs.Stages.{columnOf, settingsIn}
+use Rattle.job.proofs.Written.{Field, bodyOf}
 use Rattle.job.proofs.Files.{count-at, start-at, column-at}
 use Rattle.records.proofs.Sequences.{accepted-laid, laid-accepted, laid-ordered, laid-count, laid-field}
 

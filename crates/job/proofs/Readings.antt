@@ -1,7 +1,7 @@
 -- What a file whose layout and counts are right leaves known, and the parts that the stages return. Assumes nothing.
 use mathlib.Core.Path.{_≡_, refl, sym, ap, ap₂, _∙_, subst}
 use mathlib.Core.Logic.{⊎-elim}
-use mathlib.Core.Bool.{Bool, true, cond}
+use mathlib.Core.Bool.{Bool, cond}
 use mathlib.Core.List.{List}
 use Prim.Native.Nat.{ℕ, _+_, _*_, _≤_, _<_}
 use native.Mathlib.Omega.{arith}
@@ -22,7 +22,7 @@ use Rattle.slots.specs.Availability.{availabilityOf}
 use Rattle.units.specs.declared.Settings.{Settings}
 use Rattle.units.specs.Starts.{unitStartsIs}
 use Rattle.targets.specs.Outcome as targets
-use Rattle.rota.specs.Derived.{Derived, plan, derived}
+use Rattle.rota.specs.Derived.{plan, derived}
 use Rattle.rota.specs.Entries as rota
 use Rattle.records.specs.Fields.{le}
 use Rattle.records.specs.Records.{blockAt, countOf, walkOk}
@@ -38,8 +38,8 @@ use Rattle.job.specs.File.{jobLayout, jobSizes, fileMost, jobCounts, job
 use Rattle.job.specs.Listing.{listingMost}
 use Rattle.job.specs.Columns.{column, floatColumn}
 use Rattle.slotset.specs.Answers.{numberNo}
-use Rattle.job.specs.Stages.{jobCountsOk}
-use Rattle.job.specs.Stages.{counted, begins, peopleOf, columnOf, rangesOf, capacitiesOf, priorsOf, settingsIn, instantOf, Draws, draws}
+use Rattle.job.specs.Stages.{jobCountsOk, instantOf}
+use Rattle.job.specs.Stages.{counted, begins, peopleOf, columnOf, rangesOf, capacitiesOf, priorsOf, settingsIn, draws}
 use Rattle.job.specs.Stages.{drawsOf, valueOf, baseOf, atomsOf, availIn, targetsIn, unitsIn, frozenIn, Ready, ready, readyIn, readyOf}
 use Rattle.job.specs.Stages.{placed, narrowed, writtenOf, ownersOf, startOf, startedOf}
 use Rattle.job.specs.Outcome.{readRow, ownersRow, prepareRow}

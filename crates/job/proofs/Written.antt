@@ -5,8 +5,31 @@ use Prim.Native.Nat.{ℕ, zero, suc, _+_, _^_, _<_}
 use native.Mathlib.Omega.{arith}
 use lib.Dec.{lit<}
 use lib.ListN.{length, getD}
-use Rattle.records.specs.Fields.{le, leBytes, Field, byte, two, four, eight, bodyOf}
+use Rattle.records.specs.Fields.{le, leBytes}
 use Rattle.records.proofs.Numbers.{le-back, le-written, length-bytes}
+
+-- ---- a body as it is written: fields one after the other
+
+pub record Field : Type 0 where
+  pub width : ℕ
+  pub value : ℕ
+
+-- a byte, two bytes, four and eight
+abbrev pub byte : ℕ → Field
+byte v = record { width = 1; value = v }
+
+abbrev pub two : ℕ → Field
+two v = record { width = 2; value = v }
+
+abbrev pub four : ℕ → Field
+four v = record { width = 4; value = v }
+
+abbrev pub eight : ℕ → Field
+eight v = record { width = 8; value = v }
+
+unfoldable pub bodyOf : List Field → List ℕ
+bodyOf [] = []
+bodyOf (f ∷ fs) = leBytes (f .width) (f .value) ++ bodyOf fs
 
 -- the bodies of the seven kinds
 abbrev pub settingsBody : ℕ → ℕ → ℕ → ℕ → ℕ → List Field

@@ -6,7 +6,7 @@ use lib.Dec.{leb, ltb, eqb}
 use lib.Ieee.{Float}
 use lib.IntN.{ℤ, pos}
 use lib.ListN.{getD, set, replicate}
-use Rattle.paper.specs.Limits.{peopleOk, slotCountOk, Test, test, rangesMost, drawsMost, nobody}
+use Rattle.paper.specs.Limits.{peopleOk, slotCountOk, rangesMost, drawsMost, nobody}
 use Rattle.paper.specs.Count.{all, over, sum}
 use Rattle.slotset.specs.declared.Number.{Number}
 use Rattle.slotset.specs.declared.Number.the-variants as number

@@ -14,8 +14,9 @@ use Rattle.paper.specs.Count.{all}
 use Rattle.paper.proofs.Logic.{both, and-true, lt-or-ge}
 use Rattle.paper.proofs.Count.{all-each, all-none}
 use Rattle.records.specs.Fields.{le, leBytes, Bytes}
-use Rattle.records.specs.Records.{Layout, Rec, bytesOf, fileOf, Laid, done, next, more, Allowed, recordOf, InOrder, bodies, recordAt}
-use Rattle.records.specs.Records.{blockCount, blockAt, countOf, walkOk, LayoutFits, IsFile}
+use Rattle.records.specs.Records.{Layout, Rec, bytesOf, fileOf, Allowed, recordOf, InOrder, bodies, recordAt}
+use Rattle.records.specs.Records.{blockCount, blockAt, countOf, walkOk}
+use Rattle.records.proofs.Laid.{Laid, done, next, more, LayoutFits, IsFile}
 use Rattle.records.proofs.Numbers.{le-front, le-back, le-written, written-le, length-bytes}
 use Rattle.records.proofs.Walks.{lead-all, record-says, record-is, record-short, block-more, block-done, next-at}
 

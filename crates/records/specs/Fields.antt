@@ -1,6 +1,6 @@
 -- Numbers in bytes, lowest byte first. Assumes nothing.
 use mathlib.Core.Bool.{_&&_, cond}
-use mathlib.Core.List.{List, [], _∷_, _++_}
+use mathlib.Core.List.{List, [], _∷_}
 use Prim.Native.Nat.{ℕ, zero, suc, _+_, _*_, _/_, _%_, _<_}
 use lib.Dec.{leb}
 use lib.ListN.{length, getD}
@@ -22,26 +22,3 @@ leBytes (suc n) v = v % 256 ∷ leBytes n (v / 256)
 -- a list of bytes: no entry is above 255
 abbrev pub Bytes : List ℕ → Type 0
 Bytes s = (k : ℕ) → getD s k 0 < 256
-
--- ---- a body as it is written: fields one after the other
-
-pub record Field : Type 0 where
-  pub width : ℕ
-  pub value : ℕ
-
--- a byte, two bytes, four and eight
-abbrev pub byte : ℕ → Field
-byte v = record { width = 1; value = v }
-
-abbrev pub two : ℕ → Field
-two v = record { width = 2; value = v }
-
-abbrev pub four : ℕ → Field
-four v = record { width = 4; value = v }
-
-abbrev pub eight : ℕ → Field
-eight v = record { width = 8; value = v }
-
-unfoldable pub bodyOf : List Field → List ℕ
-bodyOf [] = []
-bodyOf (f ∷ fs) = leBytes (f .width) (f .value) ++ bodyOf fs

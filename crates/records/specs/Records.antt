@@ -35,14 +35,7 @@ unfoldable pub fileOf : List Rec → List ℕ
 fileOf [] = []
 fileOf (r ∷ rs) = bytesOf r ++ fileOf rs
 
--- Laid L i rs: rs is a sequence of whole records, of kind first + i at least, that never fall, each body of its kind's size
-pub data Laid (L : Layout) : ℕ → List Rec → Type 0 where
-  done : Laid L (L .kinds) []
-  next : {i : ℕ} {rs : List Rec} → i < L .kinds → Laid L (suc i) rs → Laid L i rs
-  more : {i : ℕ} {rs : List Rec} (body : List ℕ) → i < L .kinds → length body ≡ getD (L .sizes) i 0 → Bytes body → Laid L i rs
-      → Laid L i (record { kind = L .first + i; body = body } ∷ rs)
-
--- the same, record by record: a kind of the layout with a body of its size, and no kind below the one before it
+-- what a layout allows: records of its kinds, each with a body of its size, and no kind below the one before it
 pub record Allowed (L : Layout) (r : Rec) : Type 0 where
   pub least : L .first ≤ r .kind
   pub most : r .kind < L .first + L .kinds
@@ -88,16 +81,3 @@ countOf L s i = blockCount s (L .first + i) (getD (L .sizes) i 0) (blockAt L s i
 -- not too long, and nothing is left over after the last kind
 unfoldable pub walkOk : Layout → ℕ → List ℕ → Bool
 walkOk L limit s = leb (length s) limit && eqb (blockAt L s (L .kinds)) (length s)
-
--- ---- both together
-
--- what a layout must be for its records to be read back: sizes and kinds fit their two bytes
-pub record LayoutFits (L : Layout) : Type 0 where
-  pub sizes : (i : ℕ) → getD (L .sizes) i 0 < 65536
-  pub kinds : L .first + L .kinds ≤ 65536
-
--- s is the file of a sequence that the layout allows
-pub record IsFile (L : Layout) (s : List ℕ) : Type 0 where
-  pub records : List Rec
-  pub laid : Laid L 0 records
-  pub whole : s ≡ fileOf records

@@ -84,8 +84,10 @@ fn walk_kinds(s: &[u8], first: u16, kinds: usize, sizes: [u16; 8], limit: usize)
 // The same; kinds past the eighth are not counted.
 pub fn walk(s: &[u8], first: u16, kinds: usize, sizes: [u16; 8], limit: usize) -> Walked
     ensures { λ r. ⌜ r .ok ≡ walkOk (layout first (kindsMost kinds) sizes) limit (now (s .entry)) ⌝ }
-    ensures { λ r. ⌜ r .counts ≡ over (countOf (layout first (kindsMost kinds) sizes) (now (s .entry))) (kindsMost kinds) (replicate 8 0) ⌝ }
-    ensures { λ r. ⌜ r .starts ≡ over (blockAt (layout first (kindsMost kinds) sizes) (now (s .entry))) (kindsMost kinds) (replicate 8 0) ⌝ }
+    ensures { λ r. ⌜ r .counts ≡ over (countOf (layout first (kindsMost kinds) sizes) (now (s .entry))) (kindsMost kinds)
+        (replicate 8 0) ⌝ }
+    ensures { λ r. ⌜ r .starts ≡ over (blockAt (layout first (kindsMost kinds) sizes) (now (s .entry))) (kindsMost kinds)
+        (replicate 8 0) ⌝ }
 {
     if kinds <= 8 {
         return walk_kinds(s, first, kinds, sizes, limit);

@@ -23,7 +23,7 @@ use Rattle.targets.proofs.Each.{each-upTo, each-at, sum-most}
 use Rattle.targets.proofs.Cases.{OfLines}
 use Rattle.targets.proofs.Signed.{mag-sub}
 use Rattle.targets.proofs.Sizes.{small-passes}
-use Rattle.targets.proofs.Sums.{addedUp, total-is}
+use Rattle.targets.proofs.Sums.{total-is}
 use Rattle.targets.proofs.Taker.{taker-here}
 use Rattle.targets.proofs.Padding.{Len, len-passes}
 use Rattle.targets.proofs.Promises.{demand-fits, people-in, other, number-is, accepted-holds}

@@ -1,12 +1,10 @@
 -- The targets add up to the demand, whatever the passes leave. Assumes nothing.
-use mathlib.Core.Path.{_≡_, refl, sym, ap, ap₂, _∙_}
-use mathlib.Core.List.{List, [], _∷_, _++_, map}
-use Prim.Native.Nat.{ℕ, zero, suc, _+_, _≤_, _<_}
+use mathlib.Core.Path.{_≡_, refl, sym, ap, _∙_}
+use mathlib.Core.List.{List, [], _∷_, map}
+use Prim.Native.Nat.{ℕ, zero, suc, _+_, _<_}
 use native.Mathlib.Nat.{zero-add, not-suc-le-zero, le-of-suc-le-suc}
-use native.Mathlib.Omega.{arith}
-use lib.IntN.{ℤ, pos, negℤ, natAbs, _+ℤ_, _-ℤ_, +ℤ-assoc, +ℤ-comm, +ℤ-idl, +ℤ-idr, +ℤ-invl}
-use lib.ListN.{length, getD, set, take}
-use lib.Seq.{take-suc}
+use lib.IntN.{ℤ, pos, negℤ, _+ℤ_, _-ℤ_, +ℤ-assoc, +ℤ-comm, +ℤ-idr, +ℤ-invl}
+use lib.ListN.{length, getD, set}
 use Rattle.targets.specs.declared.Line.{Line}
 use Rattle.targets.specs.Figures.{pad}
 use Rattle.targets.specs.Remainder.{withTarget, totalOf, takerOf, targetOf, adjusted, sumℤ}

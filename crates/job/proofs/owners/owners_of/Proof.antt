@@ -30,7 +30,9 @@ returns c =
     let a = c .before .before .before .before .before .before .before .args in
     let placed-is = c .before .before .before .before .placed-by .ensures in
     record {
-      no = said _ (c .before .before .owners-no .ensures) ∙ ap (λ (o : List ℕ). heardOf (ownersRow (a .s .now) (a .at) (a .n) (a .slots) (a .people) (a .units) (a .firsts .now) o)) placed-is;
+      no = said _ (c .before .before .owners-no .ensures)
+          ∙ ap (λ (o : List ℕ). heardOf (ownersRow (a .s .now) (a .at) (a .n) (a .slots) (a .people) (a .units)
+          (a .firsts .now) o)) placed-is;
       owners = c .narrow .ensures ∙ ap narrowed placed-is;
     }
 

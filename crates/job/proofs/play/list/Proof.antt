@@ -11,12 +11,14 @@ use Rattle.job.proofs.play.list.Tie as tie
 
 slice-aggregate-put-listing-5 : tie.Need-slice-aggregate-put-listing-5
 slice-aggregate-put-listing-5 c =
-    let c17 = c .before .before .before .before .before .before .before .before .before .before .before .before .before .before .before .before .before in
+    let c17 = c .before .before .before .before .before .before .before .before .before .before .before .before .before
+    .before .before .before .before in
     sym (c17 .pre .1 .0 .2)
 
 put-listing-requires : tie.Need-put-listing-requires
 put-listing-requires c κs =
-    let c18 = c .before .before .before .before .before .before .before .before .before .before .before .before .before .before .before .before .before .before in
+    let c18 = c .before .before .before .before .before .before .before .before .before .before .before .before .before
+    .before .before .before .before .before in
     let f = c18 .pre .0 in
     let p = c18 .pre .1 .0 in
     let y = c18 .pre .1 .1 .0 in (

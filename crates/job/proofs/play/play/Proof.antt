@@ -39,33 +39,39 @@ column16-requires-3 c κs =
 
 slice-aggregate-play-draws-4 : tie.Need-slice-aggregate-play-draws-4
 slice-aggregate-play-draws-4 c =
-    let c16 = c .before .before .before .before .before .before .before .before .before .before .before .before .before .before .before .before in
+    let c16 = c .before .before .before .before .before .before .before .before .before .before .before .before .before
+    .before .before .before in
     sym (c16 .pre .1 .0)
 
 slice-aggregate-play-draws-5 : tie.Need-slice-aggregate-play-draws-5
 slice-aggregate-play-draws-5 c =
-    let c17 = c .before .before .before .before .before .before .before .before .before .before .before .before .before .before .before .before .before in
+    let c17 = c .before .before .before .before .before .before .before .before .before .before .before .before .before
+    .before .before .before .before in
     sym (c17 .pre .1 .1)
 
 slice-aggregate-play-draws-6 : tie.Need-slice-aggregate-play-draws-6
 slice-aggregate-play-draws-6 c =
-    let c16 = c .before .before .before .before .before .before .before .before .before .before .before .before .before .before .before .before in
+    let c16 = c .before .before .before .before .before .before .before .before .before .before .before .before .before
+    .before .before .before in
     sym (ap length (c16 .column16 .ensures) ∙ length-column 2 _ _ _ _)
 
 slice-aggregate-play-draws-7 : tie.Need-slice-aggregate-play-draws-7
 slice-aggregate-play-draws-7 c =
-    let c16 = c .before .before .before .before .before .before .before .before .before .before .before .before .before .before .before .before in
+    let c16 = c .before .before .before .before .before .before .before .before .before .before .before .before .before
+    .before .before .before in
     sym (ap length (c16 .column162 .ensures) ∙ length-column 2 _ _ _ _)
 
 slice-aggregate-play-draws-8 : tie.Need-slice-aggregate-play-draws-8
 slice-aggregate-play-draws-8 c =
-    let c16 = c .before .before .before .before .before .before .before .before .before .before .before .before .before .before .before .before in
+    let c16 = c .before .before .before .before .before .before .before .before .before .before .before .before .before
+    .before .before .before in
     sym (ap length (c16 .column163 .ensures) ∙ length-column 2 _ _ _ _)
 
 returns : tie.Need-returns
 unfolding playOf
 returns c =
-    let c17 = c .before .before .before .before .before .before .before .before .before .before .before .before .before .before .before .before .before in
+    let c17 = c .before .before .before .before .before .before .before .before .before .before .before .before .before
+    .before .before .before .before in
     let c18 = c17 .before in
     let c19 = c18 .before in
     let c21 = c19 .before .before in

@@ -23,32 +23,38 @@ owners-of-requires c κs =
 
 slice-aggregate-start-rota : tie.Need-slice-aggregate-start-rota
 slice-aggregate-start-rota c =
-    let c16 = c .before .before .before .before .before .before .before .before .before .before .before .before .before .before .before .before in
+    let c16 = c .before .before .before .before .before .before .before .before .before .before .before .before .before
+    .before .before .before in
     sym (c16 .slots-in .ensures .starts-room)
 
 slice-aggregate-start-rota-2 : tie.Need-slice-aggregate-start-rota-2
 slice-aggregate-start-rota-2 c =
-    let c17 = c .before .before .before .before .before .before .before .before .before .before .before .before .before .before .before .before .before in
+    let c17 = c .before .before .before .before .before .before .before .before .before .before .before .before .before
+    .before .before .before .before in
     sym (c17 .slots-in .ensures .ends-room)
 
 slice-aggregate-start-rota-3 : tie.Need-slice-aggregate-start-rota-3
 slice-aggregate-start-rota-3 c =
-    let c18 = c .before .before .before .before .before .before .before .before .before .before .before .before .before .before .before .before .before .before in
+    let c18 = c .before .before .before .before .before .before .before .before .before .before .before .before .before
+    .before .before .before .before .before in
     sym (c18 .slots-in .ensures .avail-room)
 
 slice-aggregate-frozen-of : tie.Need-slice-aggregate-frozen-of
 slice-aggregate-frozen-of c =
-    let c21 = c .before .before .before .before .before .before .before .before .before .before .before .before .before .before .before .before .before .before .before .before .before in
+    let c21 = c .before .before .before .before .before .before .before .before .before .before .before .before .before
+    .before .before .before .before .before .before .before .before in
     sym (c21 .slots-in .ensures .starts-room)
 
 slice-aggregate-frozen-of-2 : tie.Need-slice-aggregate-frozen-of-2
 slice-aggregate-frozen-of-2 c =
-    let c22 = c .before .before .before .before .before .before .before .before .before .before .before .before .before .before .before .before .before .before .before .before .before .before in
+    let c22 = c .before .before .before .before .before .before .before .before .before .before .before .before .before
+    .before .before .before .before .before .before .before .before .before in
     sym (c22 .slots-in .ensures .ends-room)
 
 frozen-of-requires : tie.Need-frozen-of-requires
 frozen-of-requires c κs =
-    let c24 = c .before .before .before .before .before .before .before .before .before .before .before .before .before .before .before .before .before .before .before .before .before .before .before .before in
+    let c24 = c .before .before .before .before .before .before .before .before .before .before .before .before .before
+    .before .before .before .before .before .before .before .before .before .before .before in
     c24 .pre
 
 returns : tie.Need-returns

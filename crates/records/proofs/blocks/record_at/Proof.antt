@@ -25,7 +25,8 @@ number-at-requires-2 : tie.Need-number-at-requires-2
 number-at-requires-2 c κs = search needs
 
 returns-2 : tie.Need-returns-2
-returns-2 c = record-kind _ _ _ _ _ _ (omega arith) (c .before .before .number-at .ensures .0) (c .number-at2 .ensures .0) (c .before .if2 .taken)
+returns-2 c =
+    record-kind _ _ _ _ _ _ (omega arith) (c .before .before .number-at .ensures .0) (c .number-at2 .ensures .0) (c .before .if2 .taken)
 
 returns-3 : tie.Need-returns-3
 returns-3 c = record-size _ _ _ _ _ (omega arith) (c .before .number-at .ensures .0) (c .if2 .left)

@@ -1,11 +1,5 @@
 -- `records::blocks::walk` meets its contract. Assumes nothing.
 use borrow.Author.Needs.{needs}
-use mathlib.Core.Path.{_≡_, sym, subst}
-use Prim.Native.Nat.{ℕ}
-use native.Mathlib.Omega.{arith}
-use lib.ListN.{replicate}
-use Rattle.paper.specs.Count.{over}
-use Rattle.records.specs.Records.{layout, blockAt, countOf, walkOk}
 use Rattle.records.proofs.Walks.{kinds-few, kinds-many}
 use Rattle.records.proofs.blocks.walk.Statement.{statement}
 use Rattle.records.proofs.blocks.walk.Tie as tie

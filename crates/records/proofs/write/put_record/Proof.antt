@@ -1,10 +1,10 @@
 -- `records::write::put_record` meets its contract. Assumes nothing.
 -- Below, cN is what is known N places before c.
 use borrow.Author.Needs.{needs}
-use mathlib.Core.Path.{_≡_, refl}
+use mathlib.Core.Path.{refl}
 use mathlib.Core.Logic.{inl, inr}
 use mathlib.Core.List.{[], _∷_}
-use Prim.Native.Nat.{_+_, _/_, _%_, _≤_}
+use Prim.Native.Nat.{_/_, _%_}
 use native.Mathlib.Omega.{arith}
 use lib.ListN.{length}
 use Rattle.records.proofs.Writes.{record-none, record-put}
@@ -16,7 +16,9 @@ returns : tie.Need-returns
 returns c = let a = c .before .before .before .args in record-none (a .kind) (a .body .now) (a .at) _ (inl (omega arith))
 
 returns-2 : tie.Need-returns-2
-returns-2 c = let a = c .before .before .before .before .args in record-none (a .kind) (a .body .now) (a .at) (a .area .now) (inr (omega arith))
+returns-2 c =
+    let a = c .before .before .before .before .args in
+    record-none (a .kind) (a .body .now) (a .at) (a .area .now) (inr (omega arith))
 
 returns-3 : tie.Need-returns-3
 returns-3 c =
