@@ -71,7 +71,7 @@ extern "C" {
 #define BOLTRAVEN_RANGES_MOST 1024
 #define BOLTRAVEN_DRAWS_MOST 1024
 #define BOLTRAVEN_FILE_MOST 49152
-#define BOLTRAVEN_LISTING_MOST 36343
+#define BOLTRAVEN_LISTING_MOST 65536
 
 /* A draw: the number drawn, and the two numbers that choose. */
 struct boltraven_draw {

@@ -15,11 +15,11 @@ use crate::problems::{problem_case, slots_of, Person, ProblemCase, Range, Settin
 use crate::rotas::{draws, owners, play, played, Draw, Played};
 use crate::seed::Seed;
 
-/// The bytes of the longest listing that can come out, `with_the_longest_listing`'s: the lines of slots, with times of eight digits and
-/// owners of two, and a ninth digit of the last end; those of people and of draws, and U, without their figures; 33 amounts of minutes and
-/// 32 targets, seven of each with eight digits and the others with seven; less a byte for each of the eleven owners who have one digit or
-/// are nobody, and one for the first start, which has seven digits. The numbers up to 1,023 have 2,986 digits, those up to 31 have 54.
-const LISTING_MOST: usize = (1024 * 24 + 2986 + 1) + (32 * 5 + 54) + (1024 * 5 + 2986) + 3 + (33 * 7 + 7) + (32 * 7 + 7) - 11 - 1;
+/// The room that a listing is asked for, in bytes.
+const LISTING_MOST: usize = 65_536;
+
+/// The bytes of `with_a_long_listing`'s.
+const LISTING_LONG: usize = 36_343;
 
 /// What a job file says.
 #[derive(Debug, Clone)]
@@ -97,10 +97,10 @@ impl JobCase {
         }
     }
 
-    /// A job whose listing is the longest: 1,024 slots without a gap from minute 1,000,000 to the last, and 32 people who are available
+    /// A job with a long listing: 1,024 slots without a gap from minute 1,000,000 to the last, and 32 people who are available
     /// for all of them. Nobody and people 0 to 9 own a slot each, the first eleven, people 10 to 31 own the others by turns. Of the 33
     /// amounts of minutes seven have eight digits and the others seven; so have the 32 targets. No draw does anything.
-    pub fn with_the_longest_listing() -> Self {
+    pub fn with_a_long_listing() -> Self {
         let (first, last, few) = (1_000_000, MINUTES_MOST as u32, 24_679);
         let mut base = Vec::new();
         let mut start = first;
@@ -225,17 +225,17 @@ impl JobCase {
 
 // ---- files, and the calls
 
-/// The longest listing: as long as it is said to be, in a buffer of its own length; with a byte less room it is refused with 2.
-pub fn longest() -> io::Result<u64> {
-    let file = JobCase::with_the_longest_listing().file();
+/// A long listing: as long as it is said to be, with the room that is asked for; with a byte less room it is refused with 2.
+pub fn long_listing() -> io::Result<u64> {
+    let file = JobCase::with_a_long_listing().file();
     let length = listing_of(&file).map_or(0, |text| text.len());
-    let mut differing = u64::from(length != LISTING_MOST);
+    let mut differing = u64::from(length != LISTING_LONG);
     for (room, number) in [(LISTING_MOST, 0), (LISTING_MOST - 1, 2)] {
         let question = question(&mut Seed::new(0), file.clone(), room);
         let told = library::ask(&question)?;
         differing += u64::from(told != question.due || told.result != number);
     }
-    println!("jobs: the longest listing has {length} bytes, and {differing} of 3 answers to it differ");
+    println!("jobs: a long listing has {length} bytes, and {differing} of 3 answers to it differ");
     Ok(differing)
 }
 
@@ -296,7 +296,7 @@ pub fn damaged_file(seed: &mut Seed) -> Vec<u8> {
     file
 }
 
-/// A job, run into a buffer with room for the longest listing or a little more: what lies past the listing stays, and a refusal leaves all.
+/// A job, run into a buffer with the room that is asked for or a little more: what lies past the listing stays, and a refusal leaves all.
 fn question(seed: &mut Seed, file: Vec<u8>, room: usize) -> Question {
     let before: Vec<u8> = vec![seed.word() as u8; room];
     let (mut after, was) = (before.clone(), seed.word());
@@ -346,7 +346,7 @@ pub fn damaged(case_seed: u64) -> Vec<Question> {
 
 #[cfg(test)]
 mod tests {
-    use super::{damaged_file, JobCase, LISTING_MOST};
+    use super::{damaged_file, JobCase, LISTING_LONG};
     use crate::job_files::listing_of;
     use crate::problems::{Person, ProblemCase, Range, Settings};
     use crate::seed::Seed;
@@ -376,11 +376,11 @@ mod tests {
         assert_eq!(job.file().len(), 45_588);
     }
 
-    /// The longest listing is as long as it is said to be.
+    /// A long listing is as long as it is said to be.
     #[test]
-    fn the_longest_is_met() {
-        let longest = listing_of(&JobCase::with_the_longest_listing().file()).expect("it is accepted");
-        assert_eq!((longest.len(), LISTING_MOST), (36_343, 36_343));
+    fn a_long_listing_is_met() {
+        let long = listing_of(&JobCase::with_a_long_listing().file()).expect("it is accepted");
+        assert_eq!(long.len(), LISTING_LONG);
     }
 
     /// The paper's own job and its listing.

@@ -75,7 +75,7 @@ const ENOUGH: u64 = 100;
 /// How many differences of a kind are printed.
 const SHOWN: u64 = 20;
 
-const USAGE: &str = "usage: oracle compare N SEED KIND|every | case KIND CASE-SEED | days | longest | time N
+const USAGE: &str = "usage: oracle compare N SEED KIND|every | case KIND CASE-SEED | days | long_listing | time N
        oracle program N SEED COMMAND.. | rules N SEED | store KIND N SEED FOLDER
        oracle limits | listing-of FILE | moves BLOCKS DRAWS SEED FILE
        oracle bench rows | bench SEED [COUNTS] | bench SEED ROW ours|rust TURNS";
@@ -114,7 +114,7 @@ fn main() -> ExitCode {
             _ => usage(),
         },
         ["limits"] => write_out(&jobs::JobCase::at_every_limit().file()),
-        ["longest"] => ended(jobs::longest()),
+        ["long_listing"] => ended(jobs::long_listing()),
         ["time", n] => match n.parse() {
             Ok(n) => ended(jobs::time(n)),
             Err(_) => usage(),

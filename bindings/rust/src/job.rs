@@ -7,8 +7,8 @@ use crate::settings::Settings;
 use crate::slots::{Range, Slot};
 use crate::targets::Person;
 
-/// Room for the longest listing, in bytes.
-pub const LISTING_MOST: usize = 36_343;
+/// The room that a listing is asked for, in bytes.
+pub const LISTING_MOST: usize = 65_536;
 
 /// The listing of a job file: a line for each slot, person and draw, and one for the uncovered minutes. Refusals 1, 3 to 7, 10 to 13.
 ///

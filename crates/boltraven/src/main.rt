@@ -88,7 +88,7 @@ fn print_listing(fd: i32, what: &[u8]) {
         return;
     }
     let n = within(input.count, &file);
-    let mut out = [0u8; 36343];
+    let mut out = [0u8; 65536];
     let heard = job::run_job(&file[..n], &mut out);
     match heard {
         JobAnswer::Length(k) => {

@@ -8,13 +8,14 @@ use borrow.Author.Tests.{le-leb, lt-leb, eq-eqb, ne-eqb, lt-ltb, le-ltb}
 use lib.Dec.{T, leb, ltb, eqb, lit<}
 use lib.Ieee.{Float, nan, inf, binary64, ofBits, ofFields, nanBits, div}
 use lib.ListN.{length, getD, set, replicate, length-replicate}
-use Rattle.paper.specs.Count.{all, over}
-use Rattle.paper.proofs.Count.{length-over, over-none, over-more, getD-over, all-more, all-fails, all-done}
-use Rattle.job.specs.Fields.{le}
-use Rattle.job.specs.Records.{blockAt, countOf, walkOk}
+use Rattle.paper.specs.Count.{all}
+use Rattle.paper.proofs.Count.{length-over, over-none, getD-over, all-more, all-fails, all-done}
+use Rattle.records.specs.Fields.{le}
+use Rattle.records.specs.Records.{blockAt, countOf, walkOk}
 use Rattle.job.specs.File.{jobLayout, fileMost, jobCounts, jobStarts, ownerSlot, rising, restOk, fileOk}
 use Rattle.job.specs.Columns.{column, floatColumn}
-use Rattle.job.proofs.Sequences.{block-end}
+use Rattle.records.proofs.Sequences.{block-end}
+use Rattle.records.proofs.Walks.{over-turn}
 
 -- ---- refusal 13
 
@@ -90,14 +91,8 @@ module _ (s c b : List ℕ) (counts : c ≡ jobCounts s) (starts : b ≡ jobStar
 
 -- ---- columns
 
--- the turn of a loop that makes the first entries anew, and its end
-pub over-turn : (f : ℕ → ℕ) (l x : List ℕ) (k v : ℕ) → x ≡ over f k l → v ≡ f k → set x k v ≡ over f (k + 1) l
-over-turn f l x k v e g = ap₂ (λ (y : List ℕ) (u : ℕ). set y k u) e g ∙ sym (over-more f k l)
-
-pub over-done : (f : ℕ → ℕ) (l x : List ℕ) (i n : ℕ) → i ≡ n → x ≡ over f i l → x ≡ over f n l
-over-done f l x i n e h = h ∙ ap (λ (k : ℕ). over f k l) e
-
 -- numbers of any width
+
 module _ (width : ℕ) (s : List ℕ) (at stride : ℕ) where
   pub column-none : replicate 1024 0 ≡ column width s at stride 0
   unfolding column

@@ -12,13 +12,14 @@ use lib.ListN.{length, getD, List·getD-eq-default}
 use Rattle.paper.specs.Count.{all}
 use Rattle.paper.proofs.Logic.{both, four, and-true, lt-or-ge}
 use Rattle.paper.proofs.Count.{all-each, each-all}
-use Rattle.job.specs.Fields.{le, Bytes, Field, bodyOf}
-use Rattle.job.specs.Records.{Rec, fileOf, Laid, LayoutFits, bodies, blockAt, countOf, walkOk}
+use Rattle.records.specs.Fields.{le, Bytes}
+use Rattle.records.specs.Records.{Rec, fileOf, bodies, blockAt, countOf, walkOk}
+use Rattle.records.proofs.Laid.{Laid, LayoutFits}
 use Rattle.job.specs.File.{jobLayout, jobSizes, fileMost, jobCounts, jobStarts, ownerSlot, rising, restOk, fileOk, JobFile}
-use Rattle.job.specs.Stages.{settingsIn}
-use Rattle.job.specs.Outcome.{columnOf}
+use Rattle.job.specs.Stages.{columnOf, settingsIn}
+use Rattle.job.proofs.Written.{Field, bodyOf}
 use Rattle.job.proofs.Files.{count-at, start-at, column-at}
-use Rattle.job.proofs.Sequences.{accepted-laid, laid-accepted, laid-ordered, laid-count, laid-field}
+use Rattle.records.proofs.Sequences.{accepted-laid, laid-accepted, laid-ordered, laid-count, laid-field}
 
 -- the sizes of the bodies, and the kinds, fit their two bytes
 layout-fits : LayoutFits jobLayout
@@ -132,7 +133,7 @@ module _ (s : List ℕ) (J : JobFile s) where
 
   pub columns-read : (i k off n : ℕ) → i < 7 → k < length (bodies (1 + i) (J .records)) → length (bodies (1 + i) (J .records)) ≤ 1024
       → off + n ≤ getD jobSizes i 0
-      → getD (columnOf s (jobCounts s) (jobStarts s) i off n) k 0 ≡ le n (getD (bodies (1 + i) (J .records)) k []) off
+      → getD (columnOf s i off n) k 0 ≡ le n (getD (bodies (1 + i) (J .records)) k []) off
   columns-read i k off n h g few r =
       let w = 4 + getD jobSizes i 0 in
       let at = getD (jobStarts s) i 0 in

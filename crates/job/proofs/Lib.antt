@@ -1,10 +1,8 @@
 -- Laws that belong to no one function.
-pub mod Numbers
-pub mod Walks
-pub mod Sequences
 pub mod Files
 pub mod Layouts
 pub mod Texts
+pub mod Lengths
 pub mod Digits
 pub mod Signs
 pub mod Prepares
@@ -16,6 +14,5 @@ pub mod Placed
 pub mod Passing
 pub mod Rotas
 pub mod Plays
-pub mod Longest
 pub mod Heard
 pub mod Promises

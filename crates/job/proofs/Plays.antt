@@ -23,7 +23,7 @@ use Rattle.rota.specs.Entries as rota
 use Rattle.rota.proofs.Plays.{play-length}
 use Rattle.rota.proofs.Entered.{ground-all, Recounted, recount-says, PlayAsks, play-asks}
 use Rattle.rota.proofs.Promises as promises
-use Rattle.job.specs.Outcome.{Ready, Draws, planOf, playOf}
+use Rattle.job.specs.Stages.{Ready, Draws, planOf, playOf}
 use Rattle.job.proofs.Prepares.{when-none}
 use Rattle.job.proofs.Passing.{lent-room}
 

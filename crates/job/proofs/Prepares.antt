@@ -5,15 +5,15 @@ use mathlib.Core.List.{List}
 use Prim.Native.Nat.{ℕ, _+_, _≤_, _<_}
 use native.Mathlib.Omega.{arith}
 use native.Mathlib.Numerals.{add-one}
-use borrow.Author.Tests.{le-leb, lt-leb, lt-ltb, le-ltb, eq-eqb, ne-eqb, eqb-true, eqb-false, leb-true, leb-false}
+use borrow.Author.Tests.{le-leb, lt-leb, lt-ltb, le-ltb, eq-eqb, ne-eqb}
 use lib.Dec.{leb, eqb}
 use lib.ListN.{set, replicate}
-use Rattle.paper.specs.Limits.{peopleOk, slotCountOk, orElse, nobody}
-use Rattle.paper.proofs.Logic.{by-test, four, passes, stops}
+use Rattle.paper.specs.Limits.{peopleOk, slotCountOk, nobody}
+use Rattle.paper.proofs.Logic.{four}
 use Rattle.slots.specs.Freeze.{freezeOf}
 use Rattle.rota.specs.Derived.{knownBy}
 use Rattle.job.specs.File.{ownerSlot}
-use Rattle.job.specs.Stages.{jobCountsOk, frozenIn, lowerNo, ownerValue, placed, recordKnown, byteOf}
+use Rattle.job.specs.Stages.{jobCountsOk, frozenIn, ownerValue, placed, recordKnown, byteOf}
 
 -- ---- a choice by whether a number is 0
 
@@ -22,45 +22,6 @@ when-none n x y e = sym (simp (eq-eqb n 0 e))
 
 pub when-some : {A : Type 0} (n : ℕ) (x y : A) → (n ≡ 0 → ⊥) → y ≡ cond (eqb n 0) x y
 when-some n x y h = sym (simp (ne-eqb n 0 h))
-
--- two tests with their numbers: none is heard, the second is, the first is
-pub two-tests : (a b : Bool) (n m : ℕ) → (a ≡ true → b ≡ true → 0 ≡ orElse a n (orElse b m 0))
-    × (a ≡ true → b ≡ false → m ≡ orElse a n (orElse b m 0)) × (a ≡ false → n ≡ orElse a n (orElse b m 0))
-two-tests a b n m = (
-  λ p q. passes a n (orElse b m 0) 0 p (passes b m 0 0 q refl),
-  λ p q. passes a n (orElse b m 0) m p (stops b m 0 q),
-  λ p. stops a n (orElse b m 0) p,
-)
-
--- ---- the lower of two numbers
-
-pub lower-first : (a b : ℕ) → a ≡ 0 → b ≡ lowerNo a b
-unfolding lowerNo
-lower-first a b e = when-none a b _ e
-
-pub lower-second : (a b : ℕ) → (a ≡ 0 → ⊥) → b ≡ 0 → a ≡ lowerNo a b
-unfolding lowerNo
-lower-second a b n e = when-none b a _ e ∙ when-some a b _ n
-
-lower-both : (a b : ℕ) → (a ≡ 0 → ⊥) → (b ≡ 0 → ⊥) → cond (leb a b) a b ≡ lowerNo a b
-unfolding lowerNo
-lower-both a b n m = when-some b a _ m ∙ when-some a b _ n
-
-pub lower-less : (a b : ℕ) → (a ≡ 0 → ⊥) → (b ≡ 0 → ⊥) → a ≤ b → a ≡ lowerNo a b
-lower-less a b n m h = sym (ap (λ (t : Bool). cond t a b) (le-leb a b h)) ∙ lower-both a b n m
-
-pub lower-more : (a b : ℕ) → (a ≡ 0 → ⊥) → (b ≡ 0 → ⊥) → b < a → b ≡ lowerNo a b
-lower-more a b n m h = sym (ap (λ (t : Bool). cond t a b) (lt-leb a b h)) ∙ lower-both a b n m
-
--- where it is none, so is the first
-pub lower-none : (a b : ℕ) → lowerNo a b ≡ 0 → a ≡ 0
-lower-none a b e =
-    by-test (eqb a 0) _ (λ t. eqb-true a 0 t)
-    (λ f.
-    let n = eqb-false a 0 f in
-    by-test (eqb b 0) _ (λ t. lower-second a b n (eqb-true b 0 t) ∙ e)
-    (λ g. by-test (leb a b) _ (λ t. lower-less a b n (eqb-false b 0 g) (leb-true a b t) ∙ e)
-    (λ t. absurd (eqb-false b 0 g (lower-more a b n (eqb-false b 0 g) (leb-false a b t) ∙ e)))))
 
 -- ---- the counts, link by link
 

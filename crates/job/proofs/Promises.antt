@@ -3,7 +3,7 @@ use mathlib.Core.Path.{_≡_, refl, sym, ap, ap₂, _∙_}
 use mathlib.Core.Logic.{_↔_}
 use mathlib.Core.Bool.{true, not, _&&_, _||_}
 use mathlib.Core.List.{List, [], _++_}
-use Prim.Native.Nat.{ℕ, _+_, _-_, _*_, _≤_, _<_}
+use Prim.Native.Nat.{ℕ, _+_, _-_, _*_, _^_, _≤_, _<_}
 use native.Mathlib.Nat.{pos-of-ne-zero}
 use native.Mathlib.Omega.{arith}
 use borrow.Author.Tests.{eq-eqb, eqb-true, eqb-false, leb-false, not-true}
@@ -19,26 +19,34 @@ use Rattle.slots.proofs.LentLaws.{slots-sound}
 use Rattle.targets.specs.Remainder.{sumℤ}
 use Rattle.slots.specs.declared.Minutes.the-variants as minutes
 use Rattle.rota.specs.Derived.{knownBy, uncovered}
+use Rattle.rota.proofs.Minutes.{known-below}
 use Rattle.rota.specs.Recount.{availableFor}
 use Rattle.rota.specs.Entries as rota
 use Rattle.job.specs.declared.JobAnswer.{JobAnswer}
 use Rattle.job.specs.declared.JobAnswer.the-variants as answer
-use Rattle.job.specs.Fields.{le}
-use Rattle.job.specs.Records.{bodies}
-use Rattle.job.specs.File.{jobCounts, jobStarts, JobFile}
-use Rattle.job.specs.Listing.{digits, listingOf, listingMost, put}
+use Rattle.records.specs.Fields.{le}
+use Rattle.records.specs.Records.{bodies}
+use Rattle.records.specs.Puts.{put}
+use Rattle.job.specs.Listing.{digits, listingOf, listingMost}
 use Rattle.job.specs.Digits.{readDigits}
-use Rattle.job.specs.Outcome.{Result, refusedAs, listedAs, Ends, planOf, instantIn, jobResult}
-use Rattle.job.specs.Heard.{testAt, Lowest, AllPass, readyOf, drawsOf, ownersOf, startedOf, playedOf, listedOf, baseTotal}
-use Rattle.job.specs.Heard.{jobTests}
-use Rattle.job.proofs.Prepares.{when-none, when-some}
+use Rattle.job.specs.File.{JobFile}
+use Rattle.job.specs.Stages.{counted, begins, instantOf, drawsOf, baseTotal, readyOf, ownersOf, planOf, startedOf, playedOf, listedOf}
+use Rattle.job.specs.Outcome.{readRow, prepareRow, jobTests, testAt, Lowest, AllPass, Result, refusedAs, listedAs, Ends, jobResult}
 use Rattle.job.proofs.Tests.{heard-none, heard-lowest}
-use Rattle.job.proofs.Heard.{job-told, numbered, rising, free, sound, demand-is, targets-right, frozen-there}
+use Rattle.job.proofs.Heard.{numbered, rising, free, sound, demand-is, targets-right, frozen-there}
+use Rattle.job.proofs.Results.{told-none, told-some}
 use Rattle.job.proofs.Digits.{digits-value}
 use Rattle.job.proofs.Layouts.{counts-read, fields-read}
 use Rattle.job.proofs.Rotas as rotas
 use Rattle.job.proofs.Plays as plays
-use Rattle.job.proofs.Longest as longest
+use Rattle.job.proofs.Lengths as lengths
+use Rattle.job.proofs.Lengths.{Fields}
+
+-- a known owner is a byte
+known-byte : (people w : ℕ) → people ≤ 32 → knownBy people w ≡ true → w < 2 ^ 8
+known-byte people w few k =
+    by-test (eqb w nobody) _ (λ t. omega (arith, eqb-true w nobody t))
+    (λ f. omega (arith, known-below people w k (eqb-false w nobody f)))
 
 -- ---- only one outcome fits
 
@@ -48,14 +56,6 @@ one-job y r q x z A B = (A .heard ∙ sym (B .heard), A .left ∙ sym (B .left))
 -- ---- what is heard
 
 module _ (s x : List ℕ) where
-  -- no test fails: the listing
-  told-none : heardOf (jobTests s (length x)) ≡ 0 → jobResult s x ≡ listedAs (listingOf (listedOf s)) x
-  told-none e = job-told s x ∙ sym (when-none _ (listedAs (listingOf (listedOf s)) x) _ e)
-
-  -- one fails: its number, and the lent listing as it was
-  told-some : (heardOf (jobTests s (length x)) ≡ 0 → ⊥) → jobResult s x ≡ refusedAs (heardOf (jobTests s (length x))) x
-  told-some n = job-told s x ∙ sym (when-some _ _ (refusedAs (heardOf (jobTests s (length x))) x) n)
-
   -- a refusal is the number of the first test that fails
   refused-heard : (n : ℕ) → jobResult s x .answer ≡ answer.Refused n
       → (heardOf (jobTests s (length x)) ≡ n) × (0 < n)
@@ -63,11 +63,11 @@ module _ (s x : List ℕ) where
   refused-heard n e =
       by-test (eqb (heardOf (jobTests s (length x))) 0) _
       (λ t.
-      let p = ap (λ (y : Result). y .answer) (told-none (eqb-true _ 0 t)) in
+      let p = ap (λ (y : Result). y .answer) (told-none s x (eqb-true _ 0 t)) in
       let z : _≡_ {A = ℕ} 0 1 = cc in
       absurd (omega arith))
       (λ f.
-      let p = ap (λ (y : Result). y .answer) (told-some (eqb-false _ 0 f)) in
+      let p = ap (λ (y : Result). y .answer) (told-some s x (eqb-false _ 0 f)) in
       let q : heardOf (jobTests s (length x)) ≡ n = cc in
       (q, pos-of-ne-zero (λ z. eqb-false _ 0 f (q ∙ z))))
 
@@ -77,7 +77,7 @@ module _ (s x : List ℕ) where
   listed-none n e =
       by-test (eqb (heardOf (jobTests s (length x))) 0) _ (λ t. eqb-true _ 0 t)
       (λ f.
-      let p = ap (λ (y : Result). y .answer) (told-some (eqb-false _ 0 f)) in
+      let p = ap (λ (y : Result). y .answer) (told-some s x (eqb-false _ 0 f)) in
       let z : _≡_ {A = ℕ} 0 1 = cc in
       absurd (omega arith))
 
@@ -86,7 +86,7 @@ module _ (s x : List ℕ) where
   unfolding refusedAs
   refused-keeps n out E =
       let h = refused-heard n (sym (E .heard)) in
-      E .left ∙ ap (λ (y : Result). y .out) (told-some (λ z. omega (arith, h .0, h .1)))
+      E .left ∙ ap (λ (y : Result). y .out) (told-some s x (λ z. omega (arith, h .0, h .1)))
 
   -- the lowest number is heard, 13 before all: n is heard exactly where it is the lowest of the tests that fail
   pub lowest-heard : (n : ℕ) → (jobResult s x .answer ≡ answer.Refused n) ↔ Lowest (jobTests s (length x)) n
@@ -96,7 +96,7 @@ module _ (s x : List ℕ) where
         λ e. law .0 (refused-heard n e),
         λ L.
             let h = law .1 L in
-            ap (λ (y : Result). y .answer) (told-some (λ z. omega (arith, h .0, h .1))) ∙ ap answer.Refused (h .0),
+            ap (λ (y : Result). y .answer) (told-some s x (λ z. omega (arith, h .0, h .1))) ∙ ap answer.Refused (h .0),
       )
 
   -- and a listing is given exactly where all pass, with its length
@@ -107,14 +107,14 @@ module _ (s x : List ℕ) where
       let law = heard-none (jobTests s (length x)) (numbered s (length x)) in (
         λ e.
             let h = listed-none n e in
-            let p = ap (λ (y : Result). y .answer) (told-none h) in
+            let p = ap (λ (y : Result). y .answer) (told-none s x h) in
             (law .0 h, cc),
-        λ A. ap (λ (y : Result). y .answer) (told-none (law .1 (A .0))) ∙ ap answer.Length (sym (A .1)),
+        λ A. ap (λ (y : Result). y .answer) (told-none s x (law .1 (A .0))) ∙ ap answer.Length (sym (A .1)),
       )
 
   -- 8 and 9 are never heard
   pub eight-nine-never : (n : ℕ) → jobResult s x .answer ≡ answer.Refused n → (n ≡ 8 → ⊥) × (n ≡ 9 → ⊥)
-  unfolding jobTests all
+  unfolding jobTests readRow prepareRow all
   eight-nine-never n e =
       let L = lowest-heard n .0 e in
       let ts = jobTests s (length x) in
@@ -126,7 +126,7 @@ module _ (s x : List ℕ) where
 
   -- 2 is heard only where the lent listing is too short
   pub two-short : jobResult s x .answer ≡ answer.Refused 2 → length x < listingMost
-  unfolding jobTests all
+  unfolding jobTests readRow prepareRow all
   two-short e =
       let L = lowest-heard 2 .0 e in
       let ts = jobTests s (length x) in
@@ -140,7 +140,7 @@ module _ (s x : List ℕ) where
   module _ (n : ℕ) (e : jobResult s x .answer ≡ answer.Length n) where
     -- the listing, by the file alone
     pub listing-is : jobResult s x ≡ listedAs (listingOf (listedOf s)) x
-    listing-is = told-none (listed-none n e)
+    listing-is = told-none s x (listed-none n e)
 
     -- it stands at the front of the lent listing, n bytes of it, and what lies past them is as it was
     pub listing-stands : (take n (jobResult s x .out) ≡ listingOf (listedOf s)) × (drop n (jobResult s x .out) ≡ drop n x)
@@ -203,25 +203,38 @@ module _ (s x : List ℕ) where
     -- the targets that are listed add up to it too
     pub targets-total : sumℤ (take (listedOf s .people) (listedOf s .targets)) ≡ pos (baseTotal s)
     unfolding listedOf
-    targets-total = targets-right s (length x) pass .total ∙ ap pos (demand-is s (length x) pass)
+    targets-total = targets-right s (length x) pass .0 ∙ ap pos (demand-is s (length x) pass)
 
-    -- no listing is longer than the longest that 2 asks room for
+    -- no listing is longer than the room that 2 asks for
+    fields : Fields (listedOf s)
+    unfolding listedOf playedOf startedOf
+    fields =
+        let R = readyOf s in
+        let D = startedOf s .derived in
+        let no = not-refused in
+        let P = plays.plan-right R (drawsOf s) (ownersOf s) D no in
+        let start : (k : ℕ) → k < R .slots → getD (R .starts) k 0 < 2 ^ 32 =
+        λ k h. omega (arith, P .lent .ordered k h, P .lent .capped k h) in
+        record {
+          slots-few = P .slots-few;
+          people-few = P .people-few;
+          draws-few = plays.draws-few R (drawsOf s) (ownersOf s) D no;
+          starts = start;
+          ends = λ k h. omega (arith, P .lent .capped k h);
+          owners = λ k h. known-byte (R .people) _ (P .people-few) (plays.owners-fit R (drawsOf s) (ownersOf s) D no k h .0);
+          minutes = λ p h. omega (arith, total, total-small, sum-part (R .people) p (λ q. getD (listedOf s .minutes) q 0) h);
+          targets = targets-right s (length x) pass .1;
+          uncovered = omega (arith, total, total-small);
+        }
+
     pub listing-fits : n ≤ listingMost
-    unfolding listedOf playedOf
-    listing-fits =
-        omega (
-          arith,
-          accepted-exactly n .0 e .1,
-          longest.listing-fits (listedOf s)
-              (longest.play-sound (readyOf s) (drawsOf s) (ownersOf s) (startedOf s .derived) not-refused (targets-right s (length x) pass)
-              _ refl),
-        )
+    listing-fits = omega (arith, accepted-exactly n .0 e .1, lengths.listing-fits (listedOf s) fields)
 
     -- ---- what the draws keep, slot by slot: the owners listed, beside those of the file's records
 
     -- a slot that ends by the instant of the freeze record keeps its owner
-    pub frozen-keeps : (getD (jobCounts s) 4 0 ≡ 0 → ⊥) → (k : ℕ) → k < listedOf s .slots
-        → getD (listedOf s .ends) k 0 ≤ instantIn s (jobCounts s) (jobStarts s) → getD (listedOf s .owners) k 0 ≡ getD (ownersOf s) k 0
+    pub frozen-keeps : (counted s 4 ≡ 0 → ⊥) → (k : ℕ) → k < listedOf s .slots
+        → getD (listedOf s .ends) k 0 ≤ instantOf s → getD (listedOf s .owners) k 0 ≡ getD (ownersOf s) k 0
     unfolding listedOf playedOf startedOf
     frozen-keeps some k h b =
         plays.frozen-keeps (readyOf s) (drawsOf s) (ownersOf s) (startedOf s .derived) not-refused k h
@@ -245,13 +258,13 @@ pub base-total-read : (s : List ℕ) (J : JobFile s)
     ≡ sum (length (bodies 2 (J .records))) (λ k. le 4 (getD (bodies 2 (J .records)) k []) 4 - le 4 (getD (bodies 2 (J .records)) k []) 0)
 unfolding baseTotal
 base-total-read s J =
-    let at = getD (jobStarts s) 1 0 in
+    let at = begins s 1 in
     let n = counts-read s J 1 (lit< tt) in
-    let entry : (off k : ℕ) → off + 4 ≤ 8 → k < getD (jobCounts s) 1 0
+    let entry : (off k : ℕ) → off + 4 ≤ 8 → k < counted s 1
     → le 4 s (at + (4 + off) + k * 12) ≡ le 4 (getD (bodies 2 (J .records)) k []) off =
     λ off k r h.
     let z : at + (4 + off) + k * 12 ≡ at + k * 12 + (4 + off) = omega arith in
     ap (le 4 s) z ∙ fields-read s J 1 k off 4 (lit< tt) (omega (arith, n)) r in
-    sum-same (getD (jobCounts s) 1 0) _ (λ k. le 4 (getD (bodies 2 (J .records)) k []) 4 - le 4 (getD (bodies 2 (J .records)) k []) 0)
+    sum-same (counted s 1) _ (λ k. le 4 (getD (bodies 2 (J .records)) k []) 4 - le 4 (getD (bodies 2 (J .records)) k []) 0)
     (λ k h. ap₂ _-_ (entry 4 k (lit≤ tt) h) (entry 0 k (lit≤ tt) h))
     ∙ ap (λ (m : ℕ). sum m (λ k. le 4 (getD (bodies 2 (J .records)) k []) 4 - le 4 (getD (bodies 2 (J .records)) k []) 0)) n

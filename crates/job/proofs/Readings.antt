@@ -1,7 +1,7 @@
--- What a file whose layout and counts are right leaves known. Assumes nothing.
+-- What a file whose layout and counts are right leaves known, and the parts that the stages return. Assumes nothing.
 use mathlib.Core.Path.{_≡_, refl, sym, ap, ap₂, _∙_, subst}
 use mathlib.Core.Logic.{⊎-elim}
-use mathlib.Core.Bool.{Bool, true, false, cond}
+use mathlib.Core.Bool.{Bool, cond}
 use mathlib.Core.List.{List}
 use Prim.Native.Nat.{ℕ, _+_, _*_, _≤_, _<_}
 use native.Mathlib.Omega.{arith}
@@ -17,27 +17,36 @@ use Rattle.paper.specs.Rows.{unless}
 use Rattle.slotset.specs.declared.Number.the-variants as number
 use Rattle.slots.specs.Ranges.{Ranges, ranges}
 use Rattle.slots.specs.Atomic as atomic
+use Rattle.slots.specs.Availability.{availabilityOf}
 use Rattle.units.specs.declared.Settings.{Settings}
 use Rattle.units.specs.Starts.{unitStartsIs}
 use Rattle.targets.specs.Outcome as targets
-use Rattle.job.specs.Listing.{listingMost}
-use Rattle.job.specs.declared.JobAnswer.{JobAnswer}
-use Rattle.job.specs.declared.JobAnswer.the-variants as answer
+use Rattle.rota.specs.Derived.{plan, derived}
+use Rattle.rota.specs.Entries as rota
+use Rattle.records.specs.Fields.{le}
+use Rattle.records.specs.Records.{blockAt, countOf, walkOk}
+use Rattle.records.proofs.Sequences.{counted-at, block-le, field-room}
+use Rattle.records.proofs.Walks.{record-says}
 use Rattle.job.specs.declared.Atoms.{Atoms}
-use Rattle.job.specs.declared.Made.{Made}
-use Rattle.job.specs.declared.Shares.{Shares}
-use Rattle.job.specs.Records.{blockAt, countOf, walkOk}
+use Rattle.job.specs.declared.JobSlots.{JobSlots}
+use Rattle.job.specs.declared.JobUnits.{JobUnits}
+use Rattle.job.specs.declared.JobTargets.{JobTargets}
+use Rattle.job.specs.declared.JobOwners.{JobOwners}
+use Rattle.job.specs.declared.Started.{Started}
 use Rattle.job.specs.File.{jobLayout, jobSizes, fileMost, jobCounts, jobStarts, restOk, fileOk}
+use Rattle.job.specs.Listing.{listingMost}
+use Rattle.job.specs.Columns.{column, floatColumn}
 use Rattle.slotset.specs.Answers.{numberNo}
-use Rattle.job.specs.Stages.{jobCountsOk, countsNo, settingsIn, frozenIn, valueOf, AtomsAre, UnitsAre, SharesAre, lowerNo}
-use Rattle.job.specs.Outcome.{Result, Ends, Ready, ready, Draws, draws, ReadOk, baseIn, peopleIn, capacitiesIn, priorsIn, drawsIn}
-use Rattle.job.specs.Outcome.{instantIn, columnOf, rangesIn, atomsIn, atomsResult, availIn, sharesIn, unitsIn, readyIn, ownersResult}
-use Rattle.job.specs.Outcome.{slotsResult, refusedAs, countedResult, jobResult}
-use Rattle.job.proofs.Sequences.{counted-at, block-le, field-room}
-use Rattle.job.proofs.Walks.{record-says}
+use Rattle.job.specs.Stages.{jobCountsOk, instantOf}
+use Rattle.job.specs.Stages.{counted, begins, peopleOf, columnOf, rangesOf, capacitiesOf, priorsOf, settingsIn, draws}
+use Rattle.job.specs.Stages.{drawsOf, valueOf, baseOf, atomsOf, availIn, targetsIn, unitsIn, frozenIn, Ready, ready, readyIn, readyOf}
+use Rattle.job.specs.Stages.{placed, narrowed, writtenOf, ownersOf, startOf, startedOf}
+use Rattle.job.specs.Outcome.{readRow, ownersRow, prepareRow}
+use Rattle.job.specs.Inside.{ReadOk, AtomsAre, SlotsAre, UnitsAre, TargetsAre, OwnersAre, StartedAs, PreparedAs}
 use Rattle.job.proofs.Files.{count-at, start-at, owners-end}
 use Rattle.job.proofs.Prepares.{few-says}
-use Rattle.job.proofs.Results.{refused-is, or-refused, or-passed}
+use Rattle.job.proofs.Passing.{frozen-length}
+use Rattle.job.proofs.Heard.{prepare-heard}
 
 module _ {s c b : List ℕ} (K : ReadOk s c b) where
   count-is : (i : ℕ) → i < 7 → getD c i 0 ≡ countOf jobLayout s i
@@ -77,75 +86,13 @@ module _ {s c b : List ℕ} (K : ReadOk s c b) where
   read-settings =
       omega (arith, record-says s 1 8 _ (counted-at jobLayout s 0 0 (omega (arith, one-settings))) .0)
 
-  pub read-few : (1 ≤ baseIn c) × (baseIn c ≤ 1024) × (peopleIn c ≤ 32) × (getD c 3 0 ≤ 1024) × (getD c 6 0 ≤ 1024)
+  pub read-few : (1 ≤ getD c 1 0) × (getD c 1 0 ≤ 1024) × (getD c 2 0 ≤ 32) × (getD c 3 0 ≤ 1024) × (getD c 6 0 ≤ 1024)
   read-few =
-      let x = few-says (baseIn c) (peopleIn c) (getD c 3 0) (getD c 6 0) (K .few) in
-      let y = slot-count-says (baseIn c) (x .0) in
-      (y .0, y .1, people-says (peopleIn c) (x .1) .1, leb-true _ _ (x .2), leb-true _ _ (x .3))
+      let x = few-says (getD c 1 0) (getD c 2 0) (getD c 3 0) (getD c 6 0) (K .few) in
+      let y = slot-count-says (getD c 1 0) (x .0) in
+      (y .0, y .1, people-says (getD c 2 0) (x .1) .1, leb-true _ _ (x .2), leb-true _ _ (x .3))
 
--- ---- the targets and units of the atomic slots
-
-pub shares-is : (s c b : List ℕ) (R : Ranges) (n : ℕ) (starts ends a : List ℕ) (cp : List Float) (pr : List ℕ) (st : Settings) (h : Shares)
-    → a ≡ availIn c R n starts ends → cp ≡ capacitiesIn s c b → pr ≡ priorsIn s c b → st ≡ settingsIn s
-    → SharesAre (targets.computeTargets (targets.given (peopleIn c) n starts ends a cp pr (st .fairness)) (replicate 32 (pos 0))) h
-    → SharesAre (sharesIn s c b R n starts ends) h
-unfolding sharesIn
-shares-is s c b R n starts ends a cp pr st h p q r t w =
-    subst (λ (g : targets.Given). SharesAre (targets.computeTargets g (replicate 32 (pos 0))) h)
-    (ap₂ (λ (x : List ℕ) (y : List Float). targets.given (peopleIn c) n starts ends x y pr (st .fairness)) p q
-    ∙ ap₂ (λ (y : List ℕ) (z : Settings). targets.given (peopleIn c) n starts ends (availIn c R n starts ends) (capacitiesIn s c b) y
-    (z .fairness)) r t)
-    w
-
-pub units-is : (s : List ℕ) (n : ℕ) (starts ends : List ℕ) (st : Settings) (m : Made) → st ≡ settingsIn s
-    → UnitsAre (unitStartsIs st n starts ends (replicate 1024 0)) m → UnitsAre (unitsIn s n starts ends) m
-unfolding unitsIn
-units-is s n starts ends st m e w =
-    subst (λ (z : Settings). UnitsAre (unitStartsIs z n starts ends (replicate 1024 0)) m) e w
-
-module _ (s c b : List ℕ) (R : Ranges) (n : ℕ) (starts ends x : List ℕ) (h : Shares) (m : Made) (no : ℕ)
-    (H : SharesAre (sharesIn s c b R n starts ends) h) (M : UnitsAre (unitsIn s n starts ends) m) (N : no ≡ lowerNo (h .no) (m .no)) where
-  no-is : no ≡ lowerNo (sharesIn s c b R n starts ends .number) (numberNo (unitsIn s n starts ends .answer))
-  no-is = N ∙ ap₂ lowerNo (H .no) (M .no)
-
-  pub slots-refused : (no ≡ 0 → ⊥) → Ends (slotsResult s c b R n starts ends x) (answer.Refused no) x
-  unfolding slotsResult
-  slots-refused e = or-refused no _ x _ no-is e
-
-  pub slots-passed : (a fz ks os ts : List ℕ) (r : JobAnswer) (y : List ℕ) → no ≡ 0 → a ≡ availIn c R n starts ends
-      → fz ≡ frozenIn n starts ends (getD c 4 0) (instantIn s c b) → draws (getD c 6 0) ks os ts ≡ drawsIn s c b
-      → Ends (ownersResult s (getD b 5 0) (getD c 5 0) (ready (peopleIn c) n starts ends a (m .count) (m .firsts) fz (h .targets))
-      (draws (getD c 6 0) ks os ts) x) r y → Ends (slotsResult s c b R n starts ends x) r y
-  unfolding slotsResult readyIn
-  slots-passed a fz ks os ts r y e p q t w =
-      or-passed no _ x _ r y no-is e
-      (subst (λ (d : Draws). Ends (ownersResult s (getD b 5 0) (getD c 5 0) (readyIn s c b R n starts ends) d x) r y) t
-      (subst (λ (g : Ready). Ends (ownersResult s (getD b 5 0) (getD c 5 0) g (draws (getD c 6 0) ks os ts) x) r y)
-      (ap₂ (λ (u : List ℕ) (v : ℕ). ready (peopleIn c) n starts ends u v (m .firsts) fz (h .targets)) p (M .count)
-      ∙ ap₂ (λ (u v : List ℕ). ready (peopleIn c) n starts ends (availIn c R n starts ends)
-      (valueOf (unitsIn s n starts ends .answer)) u v (h .targets)) (M .firsts) q
-      ∙ ap (λ (z : List ℤ). ready (peopleIn c) n starts ends (availIn c R n starts ends) (valueOf (unitsIn s n starts ends .answer))
-      (unitsIn s n starts ends .buffer) (frozenIn n starts ends (getD c 4 0) (instantIn s c b)) z) (H .targets)) w))
-
--- ---- the atomic slots
-
-pub ranges-same : (s c b : List ℕ) (ps os sh : List ℕ) → ps ≡ columnOf s c b 3 0 2 → os ≡ columnOf s c b 3 2 4 → sh ≡ columnOf s c b 3 6 4
-    → ranges (getD c 3 0) ps os sh ≡ rangesIn s c b
-ranges-same s c b ps os sh r t u = ap₂ (λ (x y : List ℕ). ranges (getD c 3 0) x y sh) r t ∙ ap (ranges (getD c 3 0) _ _) u
-
-pub atoms-is : (s c b : List ℕ) (st en ps os sh : List ℕ) (a : Atoms) → st ≡ columnOf s c b 1 0 4 → en ≡ columnOf s c b 1 4 4
-    → ps ≡ columnOf s c b 3 0 2 → os ≡ columnOf s c b 3 2 4 → sh ≡ columnOf s c b 3 6 4
-    → AtomsAre (atomic.atomiseOf (atomic.base (baseIn c) st en (peopleIn c) (ranges (getD c 3 0) ps os sh) (replicate 1024 0)
-    (replicate 1024 0))) a
-    → AtomsAre (atomsIn s c b) a
-unfolding atomsIn
-atoms-is s c b st en ps os sh a p q r t u w =
-    subst (λ (B : atomic.Base). AtomsAre (atomic.atomiseOf B) a)
-    (ap₂ (λ (x y : List ℕ). atomic.base (baseIn c) x y (peopleIn c) (ranges (getD c 3 0) ps os sh) (replicate 1024 0)
-    (replicate 1024 0)) p q
-    ∙ ap (λ (R : Ranges). atomic.base (baseIn c) (columnOf s c b 1 0 4) (columnOf s c b 1 4 4) (peopleIn c) R (replicate 1024 0)
-    (replicate 1024 0))
-    (ranges-same s c b ps os sh r t u)) w
+-- ---- the atomic slots are not too many
 
 pub atoms-few : (B : atomic.Base) (a : Atoms) → AtomsAre (atomic.atomiseOf B) a → a .count ≤ 1024
 unfolding atomic.atomiseOf atomic.atomiseRow atomic.baseRow Rattle.slotset.specs.Answers.numberAs unless
@@ -168,51 +115,200 @@ atoms-few B a w =
           (number.Refused (heardOf (atomic.atomiseRow B))))) f,
     ))
 
-module _ (s c b x : List ℕ) (a : Atoms) (A : AtomsAre (atomsIn s c b) a) where
-  pub atoms-refused : (a .no ≡ 0 → ⊥) → Ends (atomsResult s c b x) (answer.Refused (a .no)) x
-  unfolding atomsResult
-  atoms-refused h = or-refused (a .no) _ x _ (A .no) h
+-- ---- the columns of a file that was read
 
-  pub atoms-passed : (R : Ranges) (r : JobAnswer) (y : List ℕ) → a .no ≡ 0 → R ≡ rangesIn s c b
-      → Ends (slotsResult s c b R (a .count) (a .starts) (a .ends) x) r y → Ends (atomsResult s c b x) r y
-  unfolding atomsResult
-  atoms-passed R r y h e w =
-      or-passed (a .no) _ x _ r y (A .no) h
-      (subst (λ (n : ℕ). Ends (slotsResult s c b (rangesIn s c b) n (atomsIn s c b .starts) (atomsIn s c b .ends) x) r y) (A .count)
-      (subst (λ (l : List ℕ). Ends (slotsResult s c b (rangesIn s c b) (a .count) l (atomsIn s c b .ends) x) r y) (A .starts)
-      (subst (λ (l : List ℕ). Ends (slotsResult s c b (rangesIn s c b) (a .count) (a .starts) l x) r y) (A .ends)
-      (subst (λ (Q : Ranges). Ends (slotsResult s c b Q (a .count) (a .starts) (a .ends) x) r y) e w))))
+module _ {s c b : List ℕ} (K : ReadOk s c b) where
+  -- where the counts and places that were read stand, those of the file do
+  pub read-as : {A : Type 0} (f : List ℕ → List ℕ → A) → f c b ≡ f (jobCounts s) (jobStarts s)
+  read-as f = ap₂ f (K .counts) (K .starts)
 
--- ---- the whole
+  pub read-column : (i off n : ℕ) → column n s (getD b i 0 + (4 + off)) (4 + getD jobSizes i 0) (getD c i 0) ≡ columnOf s i off n
+  read-column i off n =
+      read-as (λ (d e : List ℕ). column n s (getD e i 0 + (4 + off)) (4 + getD jobSizes i 0) (getD d i 0))
 
-module _ (s x c b : List ℕ) (no : ℕ) (ok : fileOk s ≡ true) (C : c ≡ jobCounts s) (B : b ≡ jobStarts s)
-    (N : no ≡ countsNo (baseIn c) (peopleIn c) (getD c 3 0) (getD c 6 0) (length x)) where
-  counted-then : (r : JobAnswer) (y : List ℕ) → Ends (countedResult s c b x) r y → Ends (jobResult s x) r y
-  unfolding jobResult
-  counted-then r y w =
-      subst (λ (z : Result). Ends z r y) (sym (ap (λ (t : Bool). cond t (countedResult s (jobCounts s) (jobStarts s) x)
-      (refusedAs 13 x)) ok))
-      (subst (λ (l : List ℕ). Ends (countedResult s (jobCounts s) l x) r y) B
-      (subst (λ (l : List ℕ). Ends (countedResult s l b x) r y) C w))
+  pub read-floats : floatColumn s (getD b 2 0 + 4) 16 (getD c 2 0) ≡ capacitiesOf s
+  read-floats = read-as (λ (d e : List ℕ). floatColumn s (getD e 2 0 + 4) 16 (getD d 2 0))
 
-  pub job-counts : (no ≡ 0 → ⊥) → Ends (jobResult s x) (answer.Refused no) x
-  unfolding countedResult
-  job-counts h = counted-then (answer.Refused no) x (or-refused no _ x _ N h)
+  pub read-count : (i : ℕ) → getD c i 0 ≡ counted s i
+  read-count i = ap (λ (d : List ℕ). getD d i 0) (K .counts)
 
-  pub job-passed : (r : JobAnswer) (y : List ℕ) → no ≡ 0 → Ends (atomsResult s c b x) r y → Ends (jobResult s x) r y
-  unfolding countedResult
-  job-passed r y h w = counted-then r y (or-passed no _ x _ r y N h w)
+  pub read-start : (i : ℕ) → getD b i 0 ≡ begins s i
+  read-start i = ap (λ (e : List ℕ). getD e i 0) (K .starts)
 
-  pub job-ready : no ≡ 0 → ReadOk s c b × (listingMost ≤ length x)
-  unfolding countsNo
-  job-ready h =
-      let room = leb listingMost (length x) in
-      let y = cond-zero (jobCountsOk (baseIn c) (peopleIn c) (getD c 3 0) (getD c 6 0)) (cond room 0 2) 0 (sym N ∙ h) in
-      (record { ok = ok; counts = C; starts = B; few = y .0 }, leb-true listingMost (length x) (cond-zero room 0 1 (y .1) .0))
+  pub read-instant : cond (eqb (getD c 4 0) 0) 0 (le 4 s (getD b 4 0 + 4)) ≡ instantOf s
+  read-instant = read-as (λ (d e : List ℕ). cond (eqb (getD d 4 0) 0) 0 (le 4 s (getD e 4 0 + 4)))
 
-pub job-layout : (s x : List ℕ) → fileOk s ≡ false → Ends (jobResult s x) (answer.Refused 13) x
-unfolding jobResult
-job-layout s x f =
-    subst (λ (z : Result). Ends z (answer.Refused 13) x) (sym
-    (ap (λ (t : Bool). cond t (countedResult s (jobCounts s) (jobStarts s) x) (refusedAs 13 x)) f))
-    (refused-is 13 x)
+  ranges-is : {ps os sh : List ℕ} → ps ≡ columnOf s 3 0 2 → os ≡ columnOf s 3 2 4 → sh ≡ columnOf s 3 6 4
+      → ranges (getD c 3 0) ps os sh ≡ rangesOf s
+  ranges-is {ps} {os} {sh} p o h =
+      ap₂ (λ (n : ℕ) (x : List ℕ). ranges n x os sh) (read-count 3) p
+      ∙ ap₂ (λ (y z : List ℕ). ranges (counted s 3) (columnOf s 3 0 2) y z) o h
+
+  pub draws-is : {k o t : List ℕ} → k ≡ columnOf s 6 0 2 → o ≡ columnOf s 6 2 2 → t ≡ columnOf s 6 4 2
+      → draws (getD c 6 0) k o t ≡ drawsOf s
+  unfolding drawsOf
+  draws-is {k} {o} {t} p q r =
+      ap₂ (λ (n : ℕ) (x : List ℕ). draws n x o t) (read-count 6) p
+      ∙ ap₂ (λ (y z : List ℕ). draws (counted s 6) (columnOf s 6 0 2) y z) q r
+
+  -- ---- the stages
+
+  pub slots-are : (st en ps os sh av : List ℕ) (a : Atoms) → st ≡ columnOf s 1 0 4 → en ≡ columnOf s 1 4 4 → ps ≡ columnOf s 3 0 2
+      → os ≡ columnOf s 3 2 4 → sh ≡ columnOf s 3 6 4
+      → AtomsAre (atomic.atomiseOf (atomic.base (getD c 1 0) st en (getD c 2 0) (ranges (getD c 3 0) ps os sh) (replicate 1024 0)
+      (replicate 1024 0))) a
+      → av ≡ availabilityOf (getD c 2 0) (a .count) (a .starts) (a .ends) (ranges (getD c 3 0) ps os sh) (replicate 512 0)
+      → length av ≡ 512
+      → SlotsAre s (record { no = a .no; count = a .count; starts = a .starts; ends = a .ends; avail = av })
+  unfolding atomsOf baseOf availIn
+  slots-are st en ps os sh av a p q r t u A v l =
+      let R = ranges-is r t u in
+      let X : AtomsAre (atomsOf s) a =
+      subst (λ (B : atomic.Base). AtomsAre (atomic.atomiseOf B) a)
+      (ap₂ (λ (n : ℕ) (Q : Ranges). atomic.base n st en (getD c 2 0) Q (replicate 1024 0) (replicate 1024 0)) (read-count 1) R
+      ∙ ap₂ (λ (x y : List ℕ). atomic.base (counted s 1) x y (getD c 2 0) (rangesOf s) (replicate 1024 0) (replicate 1024 0)) p q
+      ∙ ap (λ (n : ℕ). atomic.base (counted s 1) (columnOf s 1 0 4) (columnOf s 1 4 4) n (rangesOf s) (replicate 1024 0)
+      (replicate 1024 0)) (read-count 2)) A in
+      record {
+        no = X .no;
+        count = X .count;
+        starts = X .starts;
+        ends = X .ends;
+        avail = v ∙ ap₂ (λ (n : ℕ) (Q : Ranges). availabilityOf n (a .count) (a .starts) (a .ends) Q (replicate 512 0)) (read-count 2) R;
+        few = atoms-few (baseOf s) a X;
+        starts-room = X .starts-room;
+        ends-room = X .ends-room;
+        avail-room = l;
+      }
+
+  pub targets-are : (n : ℕ) (S E av : List ℕ) (cp : List Float) (pr : List ℕ) (st : Settings) (h : JobTargets) → cp ≡ capacitiesOf s
+      → pr ≡ priorsOf s → st ≡ settingsIn s
+      → TargetsAre (targets.computeTargets (targets.given (getD c 2 0) n S E av cp pr (st .fairness)) (replicate 32 (pos 0))) h
+      → TargetsAre (targetsIn s n S E av) h
+  unfolding targetsIn
+  targets-are n S E av cp pr st h p q t w =
+      subst (λ (g : targets.Given). TargetsAre (targets.computeTargets g (replicate 32 (pos 0))) h)
+      (ap₂ (λ (m : ℕ) (x : List Float). targets.given m n S E av x pr (st .fairness)) (read-count 2) p
+      ∙ ap₂ (λ (y : List ℕ) (z : Settings). targets.given (peopleOf s) n S E av (capacitiesOf s) y (z .fairness)) q t)
+      w
+
+  pub frozen-are : (n : ℕ) (S E fz : List ℕ) (i : ℕ) → i ≡ cond (eqb (getD c 4 0) 0) 0 (le 4 s (getD b 4 0 + 4))
+      → fz ≡ frozenIn n S E (getD c 4 0) i → fz ≡ frozenIn n S E (counted s 4) (instantOf s)
+  frozen-are n S E fz i e w = w ∙ ap₂ (λ (k j : ℕ). frozenIn n S E k j) (read-count 4) (e ∙ read-instant)
+
+  -- ---- all that was prepared
+
+  module _ (S : JobSlots) (T : JobTargets) (U : JobUnits) (O : JobOwners) (W : Started) (st : Settings) (fz : List ℕ) (A : SlotsAre s S)
+      (B : TargetsAre (targetsIn s (S .count) (S .starts) (S .ends) (S .avail)) T) (C : st ≡ settingsIn s)
+      (D : UnitsAre (unitStartsIs st (S .count) (S .starts) (S .ends) (replicate 1024 0)) U)
+      (E : OwnersAre s (getD b 5 0) (getD c 5 0) (S .count) (getD c 2 0) (U .count) (U .firsts) O)
+      (F : StartedAs (rota.fromSlots (plan (getD c 2 0) (S .count) (S .starts) (S .ends)) (S .avail) (O .owners)
+      (derived (replicate 512 0) (replicate 32 0))) W)
+      (G : fz ≡ frozenIn (S .count) (S .starts) (S .ends) (counted s 4) (instantOf s)) where
+    abbrev got : Ready
+    got = ready (getD c 2 0) (S .count) (S .starts) (S .ends) (S .avail) (U .count) (U .firsts) fz (T .targets)
+
+    units-are : UnitsAre (unitsIn s (S .count) (S .starts) (S .ends)) U
+    unfolding unitsIn
+    units-are = subst (λ (z : Settings). UnitsAre (unitStartsIs z (S .count) (S .starts) (S .ends) (replicate 1024 0)) U) C D
+
+    got-in : got ≡ readyIn s (S .count) (S .starts) (S .ends) (S .avail)
+    unfolding readyIn
+    got-in =
+        ap₂ (λ (p u : ℕ). ready p (S .count) (S .starts) (S .ends) (S .avail) u (U .firsts) fz (T .targets)) (read-count 2)
+        (units-are .count)
+        ∙ ap₂ (λ (f z : List ℕ). ready (peopleOf s) (S .count) (S .starts) (S .ends) (S .avail)
+        (valueOf (unitsIn s (S .count) (S .starts) (S .ends) .answer)) f z (T .targets)) (units-are .firsts) G
+        ∙ ap (λ (t : List ℤ). ready (peopleOf s) (S .count) (S .starts) (S .ends) (S .avail)
+        (valueOf (unitsIn s (S .count) (S .starts) (S .ends) .answer)) (unitsIn s (S .count) (S .starts) (S .ends) .buffer)
+        (frozenIn (S .count) (S .starts) (S .ends) (counted s 4) (instantOf s)) t) (B .targets)
+
+    got-ready : got ≡ readyOf s
+    unfolding readyOf
+    got-ready =
+        got-in ∙ ap (readyIn s (S .count) (S .starts) (S .ends)) (A .avail)
+        ∙ ap₂ (λ (n : ℕ) (x : List ℕ). readyIn s n x (S .ends) (availIn s n x (S .ends))) (A .count) (A .starts)
+        ∙ ap (λ (y : List ℕ). readyIn s (valueOf (atomsOf s .answer)) (atomsOf s .starts) y
+        (availIn s (valueOf (atomsOf s .answer)) (atomsOf s .starts) y)) (A .ends)
+
+    written-is : placed s (getD b 5 0) (S .count) (getD c 5 0) ≡ writtenOf s
+    unfolding writtenOf
+    written-is =
+        ap₂ (λ (i j : ℕ). placed s i (S .count) j) (read-start 5) (read-count 5)
+        ∙ ap (λ (R : Ready). placed s (begins s 5) (R .slots) (counted s 5)) got-ready
+
+    owners-is : O .owners ≡ ownersOf s
+    unfolding ownersOf
+    owners-is = E .owners ∙ ap narrowed written-is
+
+    started-is : rota.fromSlots (plan (getD c 2 0) (S .count) (S .starts) (S .ends)) (S .avail) (O .owners)
+        (derived (replicate 512 0) (replicate 32 0)) ≡ startedOf s
+    unfolding startedOf startOf
+    started-is = ap₂ (λ (R : Ready) (o : List ℕ). startOf R o) got-ready owners-is
+
+    owners-heard : O .no ≡ heardOf (ownersRow s (begins s 5) (counted s 5) (readyOf s .slots) (readyOf s .people) (readyOf s .units)
+        (readyOf s .firsts) (writtenOf s))
+    owners-heard =
+        E .no
+        ∙ ap₂ (λ (i j : ℕ). heardOf (ownersRow s i j (S .count) (getD c 2 0) (U .count) (U .firsts)
+        (placed s (getD b 5 0) (S .count) (getD c 5 0)))) (read-start 5) (read-count 5)
+        ∙ ap₂ (λ (R : Ready) (o : List ℕ). heardOf (ownersRow s (begins s 5) (counted s 5) (R .slots) (R .people) (R .units) (R .firsts) o))
+        got-ready written-is
+
+    number-is : {figures rota rest no : ℕ} → figures ≡ unless (T .no) (T .no) (U .no) → rota ≡ unless (O .no) (O .no) (W .no)
+        → rest ≡ unless figures figures rota → no ≡ unless (S .no) (S .no) rest → no ≡ heardOf (prepareRow s)
+    unfolding ownersRow
+    number-is f g h i =
+        let few = sym (read-as (λ (d e : List ℕ). jobCountsOk (getD d 1 0) (getD d 2 0) (getD d 3 0) (getD d 6 0))) ∙ K .few in
+        i ∙ ap (λ (k : ℕ). unless (S .no) (S .no) k) (h ∙ ap₂ (λ (x y : ℕ). unless x x y) f g)
+        ∙ prepare-heard s few (S .no) (T .no) (U .no) (O .no) (W .no) (A .no)
+        (B .no ∙ ap (λ (R : Ready). targetsIn s (R .slots) (R .starts) (R .ends) (R .avail) .number) got-ready)
+        (units-are .no ∙ ap (λ (R : Ready). numberNo (unitsIn s (R .slots) (R .starts) (R .ends) .answer)) got-ready)
+        owners-heard (F .no ∙ ap (λ (y : rota.Outcome). y .number) started-is)
+
+    pub prepared-are : {figures rota rest no : ℕ} → figures ≡ unless (T .no) (T .no) (U .no) → rota ≡ unless (O .no) (O .no) (W .no)
+        → rest ≡ unless figures figures rota → no ≡ unless (S .no) (S .no) rest
+        → PreparedAs s (record {
+          no = no;
+          people = getD c 2 0;
+          slots = S .count;
+          starts = S .starts;
+          ends = S .ends;
+          avail = S .avail;
+          units = U .count;
+          firsts = U .firsts;
+          frozen = fz;
+          targets = T .targets;
+          owners = O .owners;
+          sets = W .sets;
+          minutes = W .minutes;
+        })
+    prepared-are f g h i =
+        record {
+          no = number-is f g h i;
+          ready = got-ready;
+          owners = owners-is;
+          derived = F .derived ∙ ap (λ (y : rota.Outcome). y .derived) started-is;
+          slots-few = A .few;
+          people-few = read-few K .2;
+          starts-room = A .starts-room;
+          ends-room = A .ends-room;
+          firsts-room = D .room;
+          frozen-room = ap length G ∙ frozen-length _ _ _ _ _;
+          targets-room = B .room;
+        }
+
+-- ---- the whole file
+
+pub read-heard : (s c : List ℕ) (ok : Bool) (room : ℕ) → ok ≡ fileOk s → c ≡ jobCounts s
+    → heardOf (readRow ok (getD c 1 0) (getD c 2 0) (getD c 3 0) (getD c 6 0) room)
+    ≡ heardOf (readRow (fileOk s) (counted s 1) (peopleOf s) (counted s 3) (counted s 6) room)
+read-heard s c ok room p q =
+    ap₂ (λ (k : Bool) (d : List ℕ). heardOf (readRow k (getD d 1 0) (getD d 2 0) (getD d 3 0) (getD d 6 0) room)) p q
+
+pub read-ok : (s c b : List ℕ) (ok : Bool) (room : ℕ) → ok ≡ fileOk s → c ≡ jobCounts s → b ≡ jobStarts s
+    → heardOf (readRow ok (getD c 1 0) (getD c 2 0) (getD c 3 0) (getD c 6 0) room) ≡ 0 → ReadOk s c b × (listingMost ≤ room)
+unfolding readRow
+read-ok s c b ok room p q r z =
+    let h = passed (readRow ok (getD c 1 0) (getD c 2 0) (getD c 3 0) (getD c 6 0) room) refl z in
+    (record { ok = sym p ∙ h 0; counts = q; starts = r; few = h 1 }, leb-true listingMost room (h 2))

@@ -1,105 +1,122 @@
--- Laws of what a job comes to, stage by stage. Assumes nothing.
-use mathlib.Core.Path.{_≡_, refl, sym, ap, ap₂, _∙_, subst}
+-- What a job comes to, by what its stages returned. Assumes nothing.
+use mathlib.Core.Path.{_≡_, sym, ap, ap₂, _∙_, subst}
 use mathlib.Core.List.{List}
-use Prim.Native.Nat.{ℕ}
+use Prim.Native.Nat.{ℕ, _^_, _<_}
 use native.Mathlib.Omega.{arith}
-use lib.ListN.{length}
+use lib.Dec.{lit<}
+use lib.IntN.{pos}
+use lib.Signed.{mag}
+use lib.ListN.{length, getD}
+use Rattle.paper.specs.Limits.{heardOf}
+use Rattle.paper.proofs.Rows.{worked, kept}
+use Rattle.slots.specs.declared.Minutes.{Minutes}
 use Rattle.rota.specs.Derived.{Derived, derived}
 use Rattle.rota.specs.Entries as rota
-use Rattle.job.specs.declared.JobAnswer.{JobAnswer}
+use Rattle.records.specs.Puts.{Wrote}
 use Rattle.job.specs.declared.JobAnswer.the-variants as answer
-use Rattle.job.specs.declared.Owned.{Owned}
-use Rattle.job.specs.declared.Started.{Started}
+use Rattle.job.specs.declared.Prepared.{Prepared}
 use Rattle.job.specs.declared.Played.{Played}
-use Rattle.job.specs.Listing.{listed, listingOf, Wrote}
-use Rattle.job.specs.Outcome.{Result, refusedAs, listedAs, orRefused, Ends, StartedAs, PlayedAs, minutesValue}
-use Rattle.job.specs.Stages.{placed, narrowed, OwnersAre}
-use Rattle.job.specs.Outcome.{Ready, Draws, ownersResult, planOf, startOf, playOf, textOf, playResult, rotaResult}
-use Rattle.job.proofs.Prepares.{when-none, when-some}
+use Rattle.job.specs.File.{fileOk}
+use Rattle.job.specs.Listing.{Listed, listed, listingOf}
+use Rattle.job.specs.Stages.{counted, peopleOf, drawsOf, Ready, readyOf, ownersOf, planOf, playOf, startedOf, playedOf, listedOf}
+use Rattle.job.specs.Outcome.{AllPass, readRow, prepareRow, jobTests, Result, refusedAs, listedAs, jobResult, Ends}
+use Rattle.job.specs.Inside.{PlayedAs, readyBy, PreparedAs, minutesValue}
+use Rattle.job.proofs.Tests.{Numbered, heard-none, front-heard, rest-heard}
+use Rattle.job.proofs.Heard.{numbered, free, sound, targets-right}
+use Rattle.job.proofs.Rotas.{play-no}
+use Rattle.job.proofs.Plays.{uncovered-told}
 
--- ---- a number, or what comes after it
+-- ---- what is heard
 
-pub refused-is : (n : ℕ) (x : List ℕ) → Ends (refusedAs n x) (answer.Refused n) x
-unfolding refusedAs
-refused-is n x = record { heard = refl; left = refl }
+module _ (s x : List ℕ) where
+  -- no test fails: the listing
+  pub told-none : heardOf (jobTests s (length x)) ≡ 0 → jobResult s x ≡ listedAs (listingOf (listedOf s)) x
+  unfolding jobResult
+  told-none e = worked _ _ (listedAs (listingOf (listedOf s)) x) e
 
-pub or-refused : (n k : ℕ) (x : List ℕ) (next : Result) → n ≡ k → (n ≡ 0 → ⊥) → Ends (orRefused k x next) (answer.Refused n) x
-or-refused n k x next e h =
-    subst (λ (y : Result). Ends y (answer.Refused n) x)
-    (ap (λ (j : ℕ). refusedAs j x) e ∙ when-some k next (refusedAs k x) (λ z. h (e ∙ z)))
-    (refused-is n x)
+  -- one fails: its number, and the lent listing as it was
+  pub told-some : (heardOf (jobTests s (length x)) ≡ 0 → ⊥) → jobResult s x ≡ refusedAs (heardOf (jobTests s (length x))) x
+  unfolding jobResult
+  told-some n = kept _ (refusedAs (heardOf (jobTests s (length x))) x) _ n
 
-pub or-passed : (n k : ℕ) (x : List ℕ) (next : Result) (r : JobAnswer) (y : List ℕ) → n ≡ k → n ≡ 0 → Ends next r y
-    → Ends (orRefused k x next) r y
-or-passed n k x next r y e h w =
-    subst (λ (z : Result). Ends z r y) (when-none k next (refusedAs k x) (sym e ∙ h)) w
+  refused-is : (n : ℕ) → n ≡ heardOf (jobTests s (length x)) → (n ≡ 0 → ⊥) → Ends (jobResult s x) (answer.Refused n) x
+  unfolding refusedAs
+  refused-is n e h =
+      let t = told-some (λ z. h (e ∙ z)) in
+      record {
+        heard = ap answer.Refused e ∙ sym (ap (λ (y : Result). y .answer) t);
+        left = sym (ap (λ (y : Result). y .out) t);
+      }
 
--- the listing that was written
-pub listed-is : (l x : List ℕ) (n : ℕ) (y : List ℕ) → Wrote l 0 x n y → Ends (listedAs l x) (answer.Length n) y
-unfolding listedAs
-listed-is l x n y w =
-    let z : n ≡ length l = omega (arith, w .ends) in
-    record { heard = ap answer.Length z; left = w .text }
+  abbrev readTests : ℕ
+  readTests = heardOf (readRow (fileOk s) (counted s 1) (peopleOf s) (counted s 3) (counted s 6) (length x))
 
--- ---- the rota
+  read-numbered : Numbered (readRow (fileOk s) (counted s 1) (peopleOf s) (counted s 3) (counted s 6) (length x))
+  unfolding readRow
+  read-numbered = (lit< tt, (lit< tt, (lit< tt, tt)))
 
--- the listing of a play, by what it left
-pub text-is : (R : Ready) (d : Draws) (y : rota.Outcome) (p : Played) (u : ℕ) → PlayedAs y p
-    → u ≡ minutesValue (rota.uncoveredIs (planOf R) (p .owners))
-    → listingOf (listed (R .slots) (R .starts) (R .ends) (p .owners) (R .people) (p .minutes) (R .targets) (d .count) (p .answers) u) ≡
-    textOf R d y
-unfolding textOf
-text-is R d y p u P e =
-    ap listingOf
-    (ap₂ (λ (o m : List ℕ). listed (R .slots) (R .starts) (R .ends) o (R .people) m (R .targets) (d .count) (p .answers) u) (P .owners)
-    (P .minutes)
-    ∙ ap₂ (λ (a : List ℕ) (v : ℕ). listed (R .slots) (R .starts) (R .ends) (y .owners) (R .people) (y .derived .minutes) (R .targets)
-    (d .count) a v)
-    (P .answers) (e ∙ ap (λ (o : List ℕ). minutesValue (rota.uncoveredIs (planOf R) o)) (P .owners)))
+  -- a refusal before the file is worked on, and one of what stands in it
+  pub read-refused : (n : ℕ) → n ≡ readTests → (n ≡ 0 → ⊥) → Ends (jobResult s x) (answer.Refused n) x
+  unfolding jobTests
+  read-refused n e h = refused-is n (e ∙ front-heard _ (prepareRow s) read-numbered (λ z. h (e ∙ z))) h
 
-module _ (R : Ready) (d : Draws) (o x : List ℕ) (s : Started) (S : StartedAs (startOf R o) s) where
-  pub start-refused : (s .no ≡ 0 → ⊥) → Ends (rotaResult R d o x) (answer.Refused (s .no)) x
-  unfolding rotaResult
-  start-refused h = or-refused (s .no) (startOf R o .number) x (playResult R d (playOf R d o (startOf R o .derived)) x) (S .no) h
+  pub prepare-refused : (n : ℕ) → readTests ≡ 0 → n ≡ heardOf (prepareRow s) → (n ≡ 0 → ⊥) → Ends (jobResult s x) (answer.Refused n) x
+  unfolding jobTests
+  prepare-refused n z e h = refused-is n (e ∙ rest-heard _ (prepareRow s) read-numbered z) h
 
-  -- the play goes from the sets and minutes that were made
-  play-then : (r : JobAnswer) (y : List ℕ) → s .no ≡ 0 → Ends (playResult R d (playOf R d o (derived (s .sets) (s .minutes))) x) r y
-      → Ends (rotaResult R d o x) r y
-  unfolding rotaResult
-  play-then r y h w =
-      or-passed (s .no) (startOf R o .number) x (playResult R d (playOf R d o (startOf R o .derived)) x) r y (S .no) h
-      (subst (λ (D : Derived). Ends (playResult R d (playOf R d o D) x) r y) (S .derived) w)
+  -- ---- the listing
 
-  module _ (p : Played) (P : PlayedAs (playOf R d o (derived (s .sets) (s .minutes))) p) where
-    pub play-refused : s .no ≡ 0 → (p .no ≡ 0 → ⊥) → Ends (rotaResult R d o x) (answer.Refused (p .no)) x
-    unfolding playResult
-    play-refused h g =
-        play-then (answer.Refused (p .no)) x h
-        (or-refused (p .no) (playOf R d o (derived (s .sets) (s .minutes)) .number) x
-        (listedAs (textOf R d (playOf R d o (derived (s .sets) (s .minutes)))) x) (P .no) g)
+  module _ (p : Prepared) (z : readTests ≡ 0) (P : PreparedAs s p) (e : p .no ≡ 0) where
+    none : heardOf (jobTests s (length x)) ≡ 0
+    unfolding jobTests
+    none = sym (rest-heard _ (prepareRow s) read-numbered z) ∙ sym (P .no) ∙ e
 
-    pub play-listed : (u n : ℕ) (y : List ℕ) → s .no ≡ 0 → p .no ≡ 0 → u ≡ minutesValue (rota.uncoveredIs (planOf R) (p .owners))
-        → Wrote (listingOf (listed (R .slots) (R .starts) (R .ends) (p .owners) (R .people) (p .minutes) (R .targets) (d .count)
-        (p .answers) u)) 0 x n y
-        → Ends (rotaResult R d o x) (answer.Length n) y
-    unfolding playResult
-    play-listed u n y h g e w =
-        let z = playOf R d o (derived (s .sets) (s .minutes)) in
-        play-then (answer.Length n) y h
-        (or-passed (p .no) (z .number) x (listedAs (textOf R d z) x) (answer.Length n) y (P .no) g
-        (listed-is (textOf R d z) x n y (subst (λ (l : List ℕ). Wrote l 0 x n y) (text-is R d z p u P e) w)))
+    pass : AllPass (jobTests s (length x))
+    pass = heard-none (jobTests s (length x)) (numbered s (length x)) .0 none
 
--- ---- the owners as written
+    pub targets-fit : (k : ℕ) → k < p .people → mag (getD (p .targets) k (pos 0)) < 2 ^ 63
+    targets-fit =
+        subst (λ (R : Ready). (k : ℕ) → k < R .people → mag (getD (R .targets) k (pos 0)) < 2 ^ 63) (sym (P .ready))
+        (targets-right s (length x) pass .1)
 
-module _ (s : List ℕ) (at n : ℕ) (R : Ready) (d : Draws) (x : List ℕ) (o : Owned)
-    (O : OwnersAre s at n (R .slots) (R .people) (R .units) (R .firsts) o) where
-  pub owners-refused : (o .no ≡ 0 → ⊥) → Ends (ownersResult s at n R d x) (answer.Refused (o .no)) x
-  unfolding ownersResult
-  owners-refused h = or-refused (o .no) _ x (rotaResult R d (narrowed (placed s at (R .slots) n)) x) (O .no) h
+    module _ (y : Played) (Y : PlayedAs (playOf (readyBy p) (drawsOf s) (p .owners) (derived (p .sets) (p .minutes))) y) where
+      played-is : playOf (readyBy p) (drawsOf s) (p .owners) (derived (p .sets) (p .minutes)) ≡ playedOf s
+      unfolding playedOf
+      played-is =
+          ap₂ (λ (R : Ready) (o : List ℕ). playOf R (drawsOf s) o (derived (p .sets) (p .minutes))) (P .ready) (P .owners)
+          ∙ ap (λ (D : Derived). playOf (readyOf s) (drawsOf s) (ownersOf s) D) (P .derived)
 
-  pub owners-passed : (r : JobAnswer) (y : List ℕ) → o .no ≡ 0 → Ends (rotaResult R d (o .owners) x) r y
-      → Ends (ownersResult s at n R d x) r y
-  unfolding ownersResult
-  owners-passed r y h w =
-      or-passed (o .no) _ x (rotaResult R d (narrowed (placed s at (R .slots) n)) x) r y (O .no) h
-      (subst (λ (l : List ℕ). Ends (rotaResult R d l x) r y) (O .owners) w)
+      Z : PlayedAs (playedOf s) y
+      Z = subst (λ (r : rota.Outcome). PlayedAs r y) played-is Y
+
+      -- what is listed, by what a play goes by and what it left
+      abbrev listedBy : Ready → List ℕ → List ℕ → List ℕ → Listed
+      listedBy R o m a =
+          listed (R .slots) (R .starts) (R .ends) o (R .people) m (R .targets) (drawsOf s .count) a
+          (minutesValue (rota.uncoveredIs (planOf R) o))
+
+      listed-is : listedBy (readyBy p) (y .owners) (y .minutes) (y .answers) ≡ listedOf s
+      unfolding listedOf playedOf startedOf
+      listed-is =
+          let R = readyOf s in
+          let r = playedOf s in
+          let no = play-no R (drawsOf s) (ownersOf s) (sound s (length x) pass) (free s (length x) pass) in
+          ap₂ (λ (Q : Ready) (o : List ℕ). listedBy Q o (y .minutes) (y .answers)) (P .ready) (Z .owners)
+          ∙ ap₂ (λ (m a : List ℕ). listedBy R (r .owners) m a) (Z .minutes) (Z .answers)
+          ∙ ap (λ (f : Minutes). listed (R .slots) (R .starts) (R .ends) (r .owners) (R .people) (r .derived .minutes) (R .targets)
+          (drawsOf s .count) (r .answers) (minutesValue f)) (uncovered-told R (drawsOf s) (ownersOf s) _ no)
+
+      pub job-listed : (d n : ℕ) (out : List ℕ) → d ≡ counted s 6
+          → Wrote (listingOf (listed (p .slots) (p .starts) (p .ends) (y .owners) (p .people) (y .minutes) (p .targets) d (y .answers)
+          (minutesValue (rota.uncoveredIs (planOf (readyBy p)) (y .owners))))) 0 x n out → Ends (jobResult s x) (answer.Length n) out
+      unfolding listedAs drawsOf
+      job-listed d n out q w =
+          let l = ap (λ (c : ℕ). listingOf (listed (p .slots) (p .starts) (p .ends) (y .owners) (p .people) (y .minutes) (p .targets) c
+          (y .answers) (minutesValue (rota.uncoveredIs (planOf (readyBy p)) (y .owners))))) q ∙ ap listingOf listed-is in
+          let v = subst (λ (t : List ℕ). Wrote t 0 x n out) l w in
+          let t = told-none none in
+          let m : n ≡ length (listingOf (listedOf s)) = omega (arith, v .ends) in
+          record {
+            heard = ap answer.Length m ∙ sym (ap (λ (r : Result). r .answer) t);
+            left = v .text ∙ sym (ap (λ (r : Result). r .out) t);
+          }

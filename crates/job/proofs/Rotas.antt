@@ -18,7 +18,7 @@ use Rattle.rota.specs.Entries as rota
 use Rattle.rota.proofs.Steps.{afresh-step}
 use Rattle.rota.proofs.Entered.{plan-sound, says-recount}
 use Rattle.rota.proofs.Promises.{minutes-and-uncovered}
-use Rattle.job.specs.Outcome.{Ready, Draws, planOf, startOf, playOf}
+use Rattle.job.specs.Stages.{Ready, Draws, planOf, startOf, playOf}
 use Rattle.job.proofs.Prepares.{when-none}
 use Rattle.job.proofs.Passing.{lent-room}
 

@@ -9,10 +9,10 @@ use borrow.Author.Tests.{eq-eqb, ne-eqb, eqb-true}
 use lib.Dec.{eqb}
 use lib.ListN.{length}
 use Rattle.paper.specs.Limits.{Test, heardOf}
+use Rattle.paper.specs.Rows.{unless}
 use Rattle.paper.proofs.Logic.{by-test}
 use Rattle.paper.proofs.Refusals.{heard-pass, heard-fail}
-use Rattle.job.specs.Outcome.{Result, refusedAs, orRefused}
-use Rattle.job.specs.Heard.{rank, testAt, Lowest, AllPass}
+use Rattle.job.specs.Outcome.{rank, testAt, Lowest, AllPass}
 
 -- ---- numbers that are not 0, and rise in rank
 
@@ -125,7 +125,7 @@ heard-lowest r ts R N n = (
   λ L. (heard-back r ts R n L, omega (arith, numbered-at ts N (L .place) (L .within), L .number)),
 )
 
--- ---- a stage that hears the first tests of a row, and goes on with the others
+-- ---- the first tests of a row, and then the others
 
 heard-append : (ts us : List Test) → Numbered ts → heardOf (ts ++ us) ≡ cond (eqb (heardOf ts) 0) (heardOf us) (heardOf ts)
 unfolding heardOf
@@ -135,16 +135,23 @@ heard-append (t ∷ ts) us N =
     (λ p. simp p (heard-append ts us (N .1)))
     (λ f. let n = N .0 in simp (f, ne-eqb (t .number) 0 (λ e. omega arith)))
 
-pub stage : (ts us : List Test) → Numbered ts → (k : ℕ) (x : List ℕ) (next y : Result) → k ≡ heardOf ts
-    → (heardOf ts ≡ 0 → next ≡ orRefused (heardOf us) x y) → orRefused k x next ≡ orRefused (heardOf (ts ++ us)) x y
-stage ts us N k x next y e f =
+pub step : (ts us : List Test) → Numbered ts → (k m : ℕ) → k ≡ heardOf ts → (heardOf ts ≡ 0 → m ≡ heardOf us)
+    → unless k k m ≡ heardOf (ts ++ us)
+unfolding unless
+step ts us N k m e f =
     let h = heardOf ts in
     by-test (eqb h 0) _
     (λ t.
     let z = eqb-true h 0 t in
-    ap (λ (b : Bool). cond b next (refusedAs k x)) (eq-eqb k 0 (e ∙ z)) ∙ f z
-    ∙ sym (ap (λ (n : ℕ). orRefused n x y) (heard-append ts us N ∙ ap (λ (b : Bool). cond b (heardOf us) h) t)))
+    ap (λ (b : Bool). cond b m k) (eq-eqb k 0 (e ∙ z)) ∙ f z
+    ∙ sym (heard-append ts us N ∙ ap (λ (b : Bool). cond b (heardOf us) h) t))
     (λ t.
-    ap (λ (n : ℕ). orRefused n x next) e ∙ ap (λ (b : Bool). cond b next (refusedAs h x)) t
-    ∙ sym (ap (λ (n : ℕ). orRefused n x y) (heard-append ts us N ∙ ap (λ (b : Bool). cond b (heardOf us) h) t)
-    ∙ ap (λ (b : Bool). cond b y (refusedAs h x)) t))
+    ap (λ (j : ℕ). cond (eqb j 0) m j) e ∙ ap (λ (b : Bool). cond b m h) t
+    ∙ sym (heard-append ts us N ∙ ap (λ (b : Bool). cond b (heardOf us) h) t))
+
+-- the first tests of a row that is heard where the others are not reached
+pub front-heard : (ts us : List Test) → Numbered ts → (heardOf ts ≡ 0 → ⊥) → heardOf ts ≡ heardOf (ts ++ us)
+front-heard ts us N h = sym (heard-append ts us N ∙ ap (λ (b : Bool). cond b (heardOf us) (heardOf ts)) (ne-eqb (heardOf ts) 0 h))
+
+pub rest-heard : (ts us : List Test) → Numbered ts → heardOf ts ≡ 0 → heardOf us ≡ heardOf (ts ++ us)
+rest-heard ts us N h = sym (heard-append ts us N ∙ ap (λ (b : Bool). cond b (heardOf us) (heardOf ts)) (eq-eqb (heardOf ts) 0 h))

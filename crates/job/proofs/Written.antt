@@ -5,9 +5,53 @@ use Prim.Native.Nat.{ℕ, zero, suc, _+_, _^_, _<_}
 use native.Mathlib.Omega.{arith}
 use lib.Dec.{lit<}
 use lib.ListN.{length, getD}
-use Rattle.job.specs.Fields.{le, leBytes, Field, byte, bodyOf, settingsBody, baseBody, personBody, rangeBody, freezeBody, ownerBody}
-use Rattle.job.specs.Fields.{drawBody}
-use Rattle.job.proofs.Numbers.{le-back, le-written, length-bytes}
+use Rattle.records.specs.Fields.{le, leBytes}
+use Rattle.records.proofs.Numbers.{le-back, le-written, length-bytes}
+
+-- ---- a body as it is written: fields one after the other
+
+pub record Field : Type 0 where
+  pub width : ℕ
+  pub value : ℕ
+
+-- a byte, two bytes, four and eight
+abbrev pub byte : ℕ → Field
+byte v = record { width = 1; value = v }
+
+abbrev pub two : ℕ → Field
+two v = record { width = 2; value = v }
+
+abbrev pub four : ℕ → Field
+four v = record { width = 4; value = v }
+
+abbrev pub eight : ℕ → Field
+eight v = record { width = 8; value = v }
+
+unfoldable pub bodyOf : List Field → List ℕ
+bodyOf [] = []
+bodyOf (f ∷ fs) = leBytes (f .width) (f .value) ++ bodyOf fs
+
+-- the bodies of the seven kinds
+abbrev pub settingsBody : ℕ → ℕ → ℕ → ℕ → ℕ → List Field
+settingsBody fairness lock boundary value days = byte fairness ∷ byte lock ∷ byte boundary ∷ byte 0 ∷ two value ∷ two days ∷ []
+
+abbrev pub baseBody : ℕ → ℕ → List Field
+baseBody start end = four start ∷ four end ∷ []
+
+abbrev pub personBody : ℕ → ℕ → List Field
+personBody capacity prior = eight capacity ∷ four prior ∷ []
+
+abbrev pub rangeBody : ℕ → ℕ → ℕ → List Field
+rangeBody person start end = two person ∷ four start ∷ four end ∷ []
+
+abbrev pub freezeBody : ℕ → List Field
+freezeBody instant = four instant ∷ []
+
+abbrev pub ownerBody : ℕ → ℕ → List Field
+ownerBody slot owner = two slot ∷ two owner ∷ []
+
+abbrev pub drawBody : ℕ → ℕ → ℕ → List Field
+drawBody draw first second = two draw ∷ two first ∷ two second ∷ []
 
 -- ---- the fields of any body
 

@@ -4,7 +4,7 @@ use Prim.Native.Nat.{ℕ, _+_, _*_}
 use lib.Ieee.{Float, binary64, ofBits}
 use lib.ListN.{replicate}
 use Rattle.paper.specs.Count.{over}
-use Rattle.job.specs.Fields.{le}
+use Rattle.records.specs.Fields.{le}
 
 -- n numbers of `width` bytes, the first at `at`, each `stride` bytes after the one before; room for 1,024
 unfoldable pub column : ℕ → List ℕ → ℕ → ℕ → ℕ → List ℕ

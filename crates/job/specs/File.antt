@@ -6,8 +6,8 @@ use Prim.Native.Nat.{ℕ, suc, _+_, _-_, _*_, _≤_, _<_}
 use lib.Dec.{leb, ltb, eqb}
 use lib.ListN.{length, getD, replicate}
 use Rattle.paper.specs.Count.{all, over}
-use Rattle.job.specs.Fields.{le}
-use Rattle.job.specs.Records.{Layout, layout, Rec, fileOf, InOrder, bodies, blockAt, countOf, walkOk}
+use Rattle.records.specs.Fields.{le}
+use Rattle.records.specs.Records.{Layout, layout, Rec, fileOf, InOrder, bodies, blockAt, countOf, walkOk}
 
 -- the most bytes of a job file
 abbrev pub fileMost : ℕ

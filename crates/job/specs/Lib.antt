@@ -1,10 +1,8 @@
 -- What the contracts of job cite.
-pub mod Fields
-pub mod Records
 pub mod File
 pub mod Columns
 pub mod Listing
 pub mod Digits
 pub mod Stages
 pub mod Outcome
-pub mod Heard
+pub mod Inside

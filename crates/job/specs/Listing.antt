@@ -1,12 +1,12 @@
 -- The listing: decimal numbers, spaces and newlines, as bytes. Assumes nothing.
-use mathlib.Core.Path.{_≡_}
 use mathlib.Core.Bool.{cond}
 use mathlib.Core.List.{List, [], _∷_, _++_}
 use Prim.Native.Nat.{ℕ, zero, suc, _+_, _/_, _%_}
 use lib.Dec.{leb, ltb, eqb}
 use lib.IntN.{ℤ, pos, negsuc}
-use lib.ListN.{length, getD, take, drop}
+use lib.ListN.{length, getD}
 use Rattle.paper.specs.Limits.{nobody}
+use Rattle.records.specs.Puts.{put}
 
 -- ---- numbers
 
@@ -105,20 +105,9 @@ listingOf l =
     lines (slotAt (l .starts) (l .ends) (l .owners)) (l .slots) ++ (lines (personAt (l .minutes) (l .targets)) (l .people)
     ++ (lines (drawAt (l .answers)) (l .draws) ++ uncoveredLine (l .uncovered)))
 
--- ---- bytes in a lent buffer
-
--- x with l written from `at` on
-unfoldable pub put : List ℕ → ℕ → List ℕ → List ℕ
-put l at x = take at x ++ (l ++ drop (at + length l) x)
-
--- l was written from `at` on: where it ends, and the buffer then
-pub record Wrote (l : List ℕ) (at : ℕ) (x : List ℕ) (end : ℕ) (y : List ℕ) : Type 0 where
-  pub ends : end ≡ at + length l
-  pub text : y ≡ put l at x
-
--- how long the longest listing is that can come out (`proofs.Longest.listing-fits`; a job that has it is made by oracle/src/jobs.rs)
+-- the room that 2 asks for: a round number above 44,535, all that the widths of the fields allow (`proofs.Lengths.listing-fits`)
 abbrev pub listingMost : ℕ
-listingMost = 36343
+listingMost = 65536
 
 -- the line of a refusal in a lent buffer; nothing where there is no room for six bytes
 unfoldable pub refusalOut : ℕ → List ℕ → List ℕ

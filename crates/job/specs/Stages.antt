@@ -1,92 +1,154 @@
--- What the stages of a job hand on, each by the outcome of the crate that does the work. Assumes nothing.
-use mathlib.Core.Path.{_≡_}
+-- What stands in a job's file, part by part, each by the outcome of the crate that works it out. Assumes nothing.
 use mathlib.Core.Bool.{Bool, _&&_, cond}
 use mathlib.Core.List.{List}
-use mathlib.Core.Logic.{_⊎_}
-use Prim.Native.Nat.{ℕ, zero, suc, _+_, _*_, _≤_}
+use Prim.Native.Nat.{ℕ, zero, suc, _+_, _-_, _*_}
 use lib.Dec.{leb, ltb, eqb}
+use lib.Ieee.{Float}
 use lib.IntN.{ℤ, pos}
-use lib.ListN.{length, getD, set, take, replicate}
-use Rattle.paper.specs.Limits.{peopleOk, slotCountOk, orElse, rangesMost, drawsMost, nobody}
-use Rattle.paper.specs.Count.{all, over}
+use lib.ListN.{getD, set, replicate}
+use Rattle.paper.specs.Limits.{peopleOk, slotCountOk, rangesMost, drawsMost, nobody}
+use Rattle.paper.specs.Count.{all, over, sum}
 use Rattle.slotset.specs.declared.Number.{Number}
 use Rattle.slotset.specs.declared.Number.the-variants as number
-use Rattle.slotset.specs.Answers.{numberNo}
+use Rattle.slots.specs.Ranges.{Ranges, ranges}
 use Rattle.slots.specs.Atomic as atomic
+use Rattle.slots.specs.Availability.{availabilityOf}
 use Rattle.slots.specs.Freeze.{freezeOf}
 use Rattle.units.specs.declared.Settings.{Settings}
 use Rattle.units.specs.Answers.{Written}
-use Rattle.targets.specs.Remainder.{sumℤ, AllPlain, AllSmall}
+use Rattle.units.specs.Starts.{unitStartsIs}
 use Rattle.targets.specs.Outcome as targets
-use Rattle.rota.specs.Derived.{knownBy}
+use Rattle.rota.specs.Derived.{Plan, plan, Derived, derived, knownBy, uncovered}
 use Rattle.rota.specs.Recount.{evenAt}
-use Rattle.job.specs.declared.Atoms.{Atoms}
-use Rattle.job.specs.declared.Made.{Made}
-use Rattle.job.specs.declared.Shares.{Shares}
-use Rattle.job.specs.declared.Owned.{Owned}
-use Rattle.job.specs.Fields.{le}
-use Rattle.job.specs.File.{ownerSlot}
-use Rattle.job.specs.Listing.{listingMost}
+use Rattle.rota.specs.Entries as rota
+use Rattle.records.specs.Fields.{le}
+use Rattle.job.specs.File.{jobSizes, jobCounts, jobStarts, ownerSlot}
+use Rattle.job.specs.Columns.{column, floatColumn}
+use Rattle.job.specs.Listing.{Listed, listed}
 
--- ---- counts and room
+-- ---- counts and columns
 
--- 1: base slots, people, ranges and draws; 2: room for the listing
+-- how many records of kind i + 1 a file has, and where they begin
+abbrev pub counted : List ℕ → ℕ → ℕ
+counted s i = getD (jobCounts s) i 0
+
+abbrev pub begins : List ℕ → ℕ → ℕ
+begins s i = getD (jobStarts s) i 0
+
+abbrev pub peopleOf : List ℕ → ℕ
+peopleOf s = counted s 2
+
+-- 1: base slots, people, ranges and draws
 unfoldable pub jobCountsOk : ℕ → ℕ → ℕ → ℕ → Bool
 jobCountsOk base people ranges draws =
     slotCountOk base && (peopleOk people && (leb ranges rangesMost && leb draws drawsMost))
 
-unfoldable pub countsNo : ℕ → ℕ → ℕ → ℕ → ℕ → ℕ
-countsNo base people ranges draws room = orElse (jobCountsOk base people ranges draws) 1 (orElse (leb listingMost room) 2 0)
+-- the field at `off` of each record of kind i + 1, `width` bytes wide
+abbrev pub columnOf : List ℕ → ℕ → ℕ → ℕ → List ℕ
+columnOf s i off width = column width s (begins s i + (4 + off)) (4 + getD jobSizes i 0) (counted s i)
 
--- ---- settings and the instant of freezing
+abbrev pub rangesOf : List ℕ → Ranges
+rangesOf s = ranges (counted s 3) (columnOf s 3 0 2) (columnOf s 3 2 4) (columnOf s 3 6 4)
 
--- the body of the settings record, which is the first
+abbrev pub capacitiesOf : List ℕ → List Float
+capacitiesOf s = floatColumn s (begins s 2 + 4) 16 (peopleOf s)
+
+abbrev pub priorsOf : List ℕ → List ℕ
+priorsOf s = columnOf s 2 8 4
+
+-- the body of the settings record, which is the first; the instant of the freeze record
 unfoldable pub settingsIn : List ℕ → Settings
 settingsIn s = record { fairness = getD s 4 0; lock = getD s 5 0; boundary = getD s 6 0; value = le 2 s 8; days = le 2 s 10 }
 
--- the frozen flags: none without a freeze record, else those of its instant
-unfoldable pub frozenIn : ℕ → List ℕ → List ℕ → ℕ → ℕ → List ℕ
-frozenIn slots starts ends freezes instant =
-    cond (eqb freezes 0) (replicate 16 0) (freezeOf slots starts ends (replicate 16 0) instant .flags)
+abbrev pub instantOf : List ℕ → ℕ
+instantOf s = cond (eqb (counted s 4) 0) 0 (le 4 s (begins s 4 + 4))
 
--- ---- what the crates answered, handed on
+pub record Draws : Type 0 where
+  pub count : ℕ
+  pub kinds : List ℕ
+  pub ones : List ℕ
+  pub twos : List ℕ
+
+abbrev pub draws : ℕ → List ℕ → List ℕ → List ℕ → Draws
+draws n k a b = record { count = n; kinds = k; ones = a; twos = b }
+
+unfoldable pub drawsOf : List ℕ → Draws
+drawsOf s = draws (counted s 6) (columnOf s 6 0 2) (columnOf s 6 2 2) (columnOf s 6 4 2)
+
+-- the total of the file's base slots: end less start of each base record
+unfoldable pub baseTotal : List ℕ → ℕ
+baseTotal s =
+    let at = begins s 1 in
+    sum (counted s 1) (λ k. le 4 s (at + 8 + k * 12) - le 4 s (at + 4 + k * 12))
+
+-- ---- slots, units and targets
 
 -- the number that was asked for, 0 where refused
 abbrev pub valueOf : Number → ℕ
 valueOf (number.Is n) = n
 valueOf (number.Refused k) = 0
 
--- the atomic slots, the units, the targets, as their crates give them
-pub record AtomsAre (x : atomic.Atoms) (r : Atoms) : Type 0 where
-  pub no : r .no ≡ numberNo (x .answer)
-  pub count : r .count ≡ valueOf (x .answer)
-  pub starts : r .starts ≡ x .starts
-  pub ends : r .ends ≡ x .ends
-  pub starts-room : length (r .starts) ≡ 1024
-  pub ends-room : length (r .ends) ≡ 1024
+-- the base slots, the people and their ranges; the atomic slots (3, 4, 5)
+unfoldable pub baseOf : List ℕ → atomic.Base
+baseOf s =
+    atomic.base (counted s 1) (columnOf s 1 0 4) (columnOf s 1 4 4) (peopleOf s) (rangesOf s) (replicate 1024 0) (replicate 1024 0)
 
-pub record UnitsAre (w : Written) (r : Made) : Type 0 where
-  pub no : r .no ≡ numberNo (w .answer)
-  pub count : r .count ≡ valueOf (w .answer)
-  pub firsts : r .firsts ≡ w .buffer
-  pub room : length (r .firsts) ≡ 1024
+unfoldable pub atomsOf : List ℕ → atomic.Atoms
+atomsOf s = atomic.atomiseOf (baseOf s)
 
-pub record SharesAre (x : targets.Outcome) (r : Shares) : Type 0 where
-  pub no : r .no ≡ x .number
-  pub targets : r .targets ≡ x .out
-  pub room : length (r .targets) ≡ 32
+-- of n slots from starts to ends: availability, targets (6, 7, 8), units (7) and the frozen flags, of which there are none without a freeze
+unfoldable pub availIn : List ℕ → ℕ → List ℕ → List ℕ → List ℕ
+availIn s n starts ends = availabilityOf (peopleOf s) n starts ends (rangesOf s) (replicate 512 0)
 
--- what a play may take for granted of its targets: they add up to demand, and none is below 0, or each is below 100 in size
-pub record TargetsSound (people demand : ℕ) (ts : List ℤ) : Type 0 where
-  pub room : people ≤ length ts
-  pub total : sumℤ (take people ts) ≡ pos demand
-  pub sizes : AllPlain people ts ⊎ AllSmall people ts
+unfoldable pub targetsIn : List ℕ → ℕ → List ℕ → List ℕ → List ℕ → targets.Outcome
+targetsIn s n starts ends avail =
+    targets.computeTargets (targets.given (peopleOf s) n starts ends avail (capacitiesOf s) (priorsOf s) (settingsIn s .fairness))
+    (replicate 32 (pos 0))
 
--- the lower of two numbers, where 0 is none
-unfoldable pub lowerNo : ℕ → ℕ → ℕ
-lowerNo a b = cond (eqb a 0) b (cond (eqb b 0) a (cond (leb a b) a b))
+unfoldable pub unitsIn : List ℕ → ℕ → List ℕ → List ℕ → Written
+unitsIn s n starts ends = unitStartsIs (settingsIn s) n starts ends (replicate 1024 0)
 
--- ---- owners as written
+unfoldable pub frozenIn : ℕ → List ℕ → List ℕ → ℕ → ℕ → List ℕ
+frozenIn slots starts ends freezes instant =
+    cond (eqb freezes 0) (replicate 16 0) (freezeOf slots starts ends (replicate 16 0) instant .flags)
+
+-- what a play goes by
+pub record Ready : Type 0 where
+  pub people : ℕ
+  pub slots : ℕ
+  pub starts : List ℕ
+  pub ends : List ℕ
+  pub avail : List ℕ
+  pub units : ℕ
+  pub firsts : List ℕ
+  pub frozen : List ℕ
+  pub targets : List ℤ
+
+abbrev pub ready : ℕ → ℕ → List ℕ → List ℕ → List ℕ → ℕ → List ℕ → List ℕ → List ℤ → Ready
+ready people slots starts ends avail units firsts frozen targets = record {
+  people = people;
+  slots = slots;
+  starts = starts;
+  ends = ends;
+  avail = avail;
+  units = units;
+  firsts = firsts;
+  frozen = frozen;
+  targets = targets;
+}
+
+unfoldable pub readyIn : List ℕ → ℕ → List ℕ → List ℕ → List ℕ → Ready
+readyIn s n starts ends avail =
+    ready (peopleOf s) n starts ends avail (valueOf (unitsIn s n starts ends .answer)) (unitsIn s n starts ends .buffer)
+    (frozenIn n starts ends (counted s 4) (instantOf s)) (targetsIn s n starts ends avail .out)
+
+unfoldable pub readyOf : List ℕ → Ready
+readyOf s =
+    let a = atomsOf s in
+    let n = valueOf (a .answer) in
+    readyIn s n (a .starts) (a .ends) (availIn s n (a .starts) (a .ends))
+
+-- ---- owners
 
 -- the owner that record k gives
 unfoldable pub ownerValue : List ℕ → ℕ → ℕ → ℕ
@@ -109,11 +171,6 @@ recordKnown s at slots people k = ltb (ownerSlot s at k) slots && knownBy people
 unfoldable pub allKnown : List ℕ → ℕ → ℕ → ℕ → ℕ → Bool
 allKnown s at n slots people = all n (recordKnown s at slots people)
 
--- 10, then 11; 0 for none
-unfoldable pub ownersNo : List ℕ → ℕ → ℕ → ℕ → ℕ → ℕ → List ℕ → List ℕ → ℕ
-ownersNo s at n slots people units firsts o =
-    orElse (allEven slots units firsts o) 10 (orElse (allKnown s at n slots people) 11 0)
-
 -- the owners as bytes: a known owner or nobody stays what it is
 unfoldable pub byteOf : ℕ → ℕ
 byteOf w = cond (ltb w 256) w nobody
@@ -121,7 +178,36 @@ byteOf w = cond (ltb w 256) w nobody
 unfoldable pub narrowed : List ℕ → List ℕ
 narrowed o = over (λ k. byteOf (getD o k 0)) 1024 (replicate 1024 0)
 
--- what n owner records come to: their number, and the owners as bytes
-pub record OwnersAre (s : List ℕ) (at n slots people units : ℕ) (firsts : List ℕ) (r : Owned) : Type 0 where
-  pub no : r .no ≡ ownersNo s at n slots people units firsts (placed s at slots n)
-  pub owners : r .owners ≡ narrowed (placed s at slots n)
+-- the owners as written, and as bytes
+unfoldable pub writtenOf : List ℕ → List ℕ
+writtenOf s = placed s (begins s 5) (readyOf s .slots) (counted s 5)
+
+unfoldable pub ownersOf : List ℕ → List ℕ
+ownersOf s = narrowed (writtenOf s)
+
+-- ---- the rota before the draws, and after them
+
+abbrev pub planOf : Ready → Plan
+planOf R = plan (R .people) (R .slots) (R .starts) (R .ends)
+
+-- sets and minutes from the owners (12), and the play of the draws
+unfoldable pub startOf : Ready → List ℕ → rota.Outcome
+startOf R o = rota.fromSlots (planOf R) (R .avail) o (derived (replicate 512 0) (replicate 32 0))
+
+unfoldable pub playOf : Ready → Draws → List ℕ → Derived → rota.Outcome
+playOf R d o D =
+    rota.played (planOf R) (R .avail) (R .units) (R .firsts) (R .frozen) (d .count) (d .kinds) (d .ones) (d .twos) o D (replicate 1024 0)
+
+unfoldable pub startedOf : List ℕ → rota.Outcome
+startedOf s = startOf (readyOf s) (ownersOf s)
+
+unfoldable pub playedOf : List ℕ → rota.Outcome
+playedOf s = playOf (readyOf s) (drawsOf s) (ownersOf s) (startedOf s .derived)
+
+-- what is listed: P minutes and U are those of the owners after the draws
+unfoldable pub listedOf : List ℕ → Listed
+listedOf s =
+    let R = readyOf s in
+    let y = playedOf s in
+    listed (R .slots) (R .starts) (R .ends) (y .owners) (R .people) (y .derived .minutes) (R .targets) (drawsOf s .count) (y .answers)
+    (uncovered (planOf R) (y .owners))

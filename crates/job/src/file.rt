@@ -1,7 +1,7 @@
 // Refusal 13: the layout of a job file.
 use crate::owners::owner_slot;
-use crate::records::Walked;
-use crate::records::walk;
+use records::Walked;
+use records::walk;
 ghost use mathlib.Core.Path.{_≡_};
 ghost use Prim.Native.Nat.{_+_, _*_, _≤_};
 ghost use lib.ListN.{length, getD};

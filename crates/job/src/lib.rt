@@ -4,17 +4,17 @@ mod fields;
 mod file;
 mod listing;
 mod owners;
+mod parts;
 mod play;
 mod prepare;
-mod records;
 mod run;
 
 pub use file::FILE_MOST;
 pub use listing::refusal_line;
-pub use prepare::LISTING_MOST;
+pub use run::LISTING_MOST;
 pub use run::run_job;
 
-// The atomic slots of a job, or the number of a refusal.
+// The atomic slots, or the number of a refusal.
 pub struct Atoms {
     pub no: u8,
     pub count: usize,
@@ -22,28 +22,54 @@ pub struct Atoms {
     pub ends: [u32; 1024],
 }
 
+// The atomic slots of a job with everybody's availability, or the number of a refusal.
+pub struct JobSlots {
+    pub no: u8,
+    pub count: usize,
+    pub starts: [u32; 1024],
+    pub ends: [u32; 1024],
+    pub avail: [u64; 512],
+}
+
 // The units of a job, or the number of a refusal.
-pub struct Made {
+pub struct JobUnits {
     pub no: u8,
     pub count: usize,
     pub firsts: [u16; 1024],
 }
 
 // The targets of a job, or the number of a refusal.
-pub struct Shares {
+pub struct JobTargets {
     pub no: u8,
     pub targets: [i64; 32],
 }
 
 // The owners of a job, or the number of a refusal.
-pub struct Owned {
+pub struct JobOwners {
     pub no: u8,
     pub owners: [u8; 1024],
 }
 
-// A rota with its sets and minutes, or the number of a refusal.
+// Sets and minutes from the owners, or the number of a refusal.
 pub struct Started {
     pub no: u8,
+    pub sets: [u64; 512],
+    pub minutes: [u64; 32],
+}
+
+// What a play goes by, and the rota before the draws; or the number of a refusal.
+pub struct Prepared {
+    pub no: u8,
+    pub people: usize,
+    pub slots: usize,
+    pub starts: [u32; 1024],
+    pub ends: [u32; 1024],
+    pub avail: [u64; 512],
+    pub units: usize,
+    pub firsts: [u16; 1024],
+    pub frozen: [u64; 16],
+    pub targets: [i64; 32],
+    pub owners: [u8; 1024],
     pub sets: [u64; 512],
     pub minutes: [u64; 32],
 }

@@ -1,12 +1,14 @@
 // The listing, written into a lent buffer from its front. Each function takes the place to write at and returns the next.
 ghost use mathlib.Core.Path.{_≡_};
 ghost use mathlib.Core.List.{[], _∷_, _++_};
-ghost use Prim.Native.Nat.{_+_, _≤_, _<_};
-ghost use lib.IntN.{natAbs};
-ghost use lib.ListN.{length};
+ghost use Prim.Native.Nat.{ℕ, _+_, _≤_, _<_, _^_};
+ghost use lib.IntN.{pos, natAbs};
+ghost use lib.Signed.{mag};
+ghost use lib.ListN.{length, getD};
 ghost use Rattle.job.specs.Listing.{digits, signed, ownerText, answerLetter, headText, slotLine, personLine, drawLine};
 ghost use Rattle.job.specs.Listing.{lines, slotAt, personAt, drawAt};
-ghost use Rattle.job.specs.Listing.{listed, listingOf, refusalLength, refusalOut, Wrote};
+ghost use Rattle.records.specs.Puts.{Wrote};
+ghost use Rattle.job.specs.Listing.{listed, listingOf, listingMost, refusalLength, refusalOut};
 
 // One byte.
 fn put_byte(out: &mut [u8], at: usize, byte: u8) -> usize
@@ -182,8 +184,8 @@ fn put_draws(out: &mut [u8], at: usize, n: usize, answers: &[u8]) -> usize
     next
 }
 
-// The whole listing, from the front of out; its length.
-pub(crate) fn put_listing(
+// The lines of the whole listing, from the front of out; its length.
+fn put_lines(
     out: &mut [u8],
     slots: usize,
     starts: &[u32],
@@ -207,6 +209,42 @@ pub(crate) fn put_listing(
     let second = put_people(out, first, people, minutes, targets);
     let third = put_draws(out, second, draws, answers);
     put_head(out, third, b'U', uncovered, b'\n')
+}
+
+// The whole listing, from the front of out, which has room for any; its length.
+pub(crate) fn put_listing(
+    out: &mut [u8],
+    slots: usize,
+    starts: &[u32],
+    ends: &[u32],
+    owners: &[u8],
+    people: usize,
+    minutes: &[u64],
+    targets: &[i64],
+    draws: usize,
+    answers: &[u8],
+    uncovered: u64,
+) -> usize
+    requires { ⌜ (slots ≤ 1024) × (people ≤ 32) × (draws ≤ 1024) × (listingMost ≤ length (now out)) ⌝ }
+    requires { ⌜ (slots ≤ length (now starts)) × (slots ≤ length (now ends)) × (slots ≤ length (now owners)) ⌝ }
+    requires { ⌜ (people ≤ length (now minutes)) × (people ≤ length (now targets)) × (draws ≤ length (now answers)) ⌝ }
+    requires { ⌜ ((p : ℕ) → p < people → mag (getD (now targets) p (pos 0)) < 2 ^ 63) ⌝ }
+    ensures { λ r. ⌜ Wrote (listingOf (listed slots (now (starts .entry)) (now (ends .entry)) (now (owners .entry)) people
+        (now (minutes .entry)) (now (targets .entry)) draws (now (answers .entry)) uncovered)) 0 (now (out .entry)) r (now (out .exit)) ⌝ }
+{
+    put_lines(
+        out,
+        slots,
+        starts,
+        ends,
+        owners,
+        people,
+        minutes,
+        targets,
+        draws,
+        answers,
+        uncovered,
+    )
 }
 
 // The line of a refusal, at the front of line; its length, or 0 where there is no room for six bytes.

@@ -1,12 +1,16 @@
 // The owner records of a job: who owns which slot, as written, with refusals 10 and 11.
-use crate::Owned;
+use crate::JobOwners;
 use crate::fields::field;
+use paper::Fault;
 ghost use mathlib.Core.Path.{_≡_};
 ghost use Prim.Native.Nat.{_+_, _*_, _≤_};
 ghost use lib.ListN.{length, getD};
+ghost use Rattle.paper.specs.Rows.{firstOf};
 ghost use Rattle.rota.specs.Recount.{evenAt};
 ghost use Rattle.job.specs.File.{ownerSlot};
-ghost use Rattle.job.specs.Stages.{ownerValue, placed, allEven, recordKnown, allKnown, ownersNo, narrowed, OwnersAre};
+ghost use Rattle.job.specs.Stages.{ownerValue, placed, allEven, recordKnown, allKnown, narrowed};
+ghost use Rattle.job.specs.Outcome.{ownersRow};
+ghost use Rattle.job.specs.Inside.{OwnersAre};
 
 // Entry k of a column, or 0 past its end.
 fn entry16(column: &[u16], k: usize) -> u16
@@ -119,7 +123,7 @@ fn all_known(s: &[u8], at: usize, n: usize, slots: usize, people: usize) -> bool
     true
 }
 
-// 10, then 11; 0 for none.
+// 10, then 11.
 fn owners_no(
     s: &[u8],
     at: usize,
@@ -129,17 +133,14 @@ fn owners_no(
     units: usize,
     firsts: &[u16],
     owners: &[u16],
-) -> u8
+) -> Fault
     requires { ⌜ at + n * 8 ≤ length (now s) ⌝ }
-    ensures { λ r. ⌜ r ≡ ownersNo (now (s .entry)) at n slots people units (now (firsts .entry)) (now (owners .entry)) ⌝ }
+    ensures { λ r. ⌜ r ≡ firstOf (ownersRow (now (s .entry)) at n slots people units (now (firsts .entry)) (now (owners .entry))) ⌝ }
 {
-    if all_even(slots, units, firsts, owners) {
-        if all_known(s, at, n, slots, people) {
-            return 0;
-        }
-        return 11;
-    }
-    10
+    let even = all_even(slots, units, firsts, owners);
+    let known = all_known(s, at, n, slots, people);
+    let f = paper::heard(paper::nothing(), even, 10);
+    paper::heard(f, known, 11)
 }
 
 // The owners as bytes.
@@ -170,12 +171,12 @@ pub(crate) fn owners_of(
     people: usize,
     units: usize,
     firsts: &[u16],
-) -> Owned
+) -> JobOwners
     requires { ⌜ (at + n * 8 ≤ length (now s)) × (slots ≤ 1024) ⌝ }
     ensures { λ r. ⌜ OwnersAre (now (s .entry)) at n slots people units (now (firsts .entry)) r ⌝ }
 {
     let written = placed_by(s, at, n, slots);
-    let no = owners_no(s, at, n, slots, people, units, firsts, &written);
+    let no = owners_no(s, at, n, slots, people, units, firsts, &written).number;
     let owners = narrow(&written);
-    Owned { no, owners }
+    JobOwners { no, owners }
 }

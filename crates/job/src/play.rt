@@ -1,18 +1,21 @@
 // Playing a job: sets and minutes from the owners, the draws, and the listing of what comes out.
-use crate::JobAnswer;
 use crate::Played;
+use crate::Prepared;
 use crate::Started;
+use crate::columns::column16;
 use crate::listing::put_listing;
 use slots::Minutes;
 ghost use mathlib.Core.Path.{_≡_};
-ghost use Prim.Native.Nat.{_≤_};
-ghost use lib.ListN.{length, replicate};
-ghost use Rattle.slots.specs.Lent.{demandOf};
+ghost use Prim.Native.Nat.{ℕ, _≤_, _<_, _^_};
+ghost use lib.IntN.{pos};
+ghost use lib.Signed.{mag};
+ghost use lib.ListN.{length, getD, replicate};
 ghost use Rattle.rota.specs.Derived.{plan, derived};
 ghost use Rattle.rota.specs.Entries.{fromSlots, played, uncoveredIs};
-ghost use Rattle.job.specs.Listing.{listingMost};
-ghost use Rattle.job.specs.Stages.{TargetsSound};
-ghost use Rattle.job.specs.Outcome.{Ends, StartedAs, PlayedAs, minutesValue, ready, draws, rotaResult};
+ghost use Rattle.records.specs.Puts.{Wrote};
+ghost use Rattle.job.specs.Listing.{listed, listingOf, listingMost};
+ghost use Rattle.job.specs.Stages.{drawsOf, planOf, playOf};
+ghost use Rattle.job.specs.Inside.{ReadOk, StartedAs, PlayedAs, readyBy, minutesValue};
 
 // The minutes that nobody owns.
 fn uncovered_of(people: usize, slots: usize, starts: &[u32], ends: &[u32], owners: &[u8]) -> u64
@@ -26,7 +29,7 @@ fn uncovered_of(people: usize, slots: usize, starts: &[u32], ends: &[u32], owner
 }
 
 // Sets and minutes from the owners. Refusal 12.
-fn start_rota(
+pub(crate) fn start_rota(
     people: usize,
     slots: usize,
     starts: &[u32],
@@ -104,75 +107,71 @@ fn play_draws(
     }
 }
 
-// Sets and minutes from the owners, then the draws, then the listing. Refusals 12, and what the play gives.
-pub(crate) fn play_stage(
-    people: usize,
-    slots: usize,
-    starts: &[u32],
-    ends: &[u32],
-    avail: &[u64],
-    units: usize,
-    firsts: &[u16],
-    frozen: &[u64],
-    targets: &[i64],
-    count: usize,
-    kinds: &[u16],
-    ones: &[u16],
-    twos: &[u16],
-    owners: [u8; 1024],
-    out: &mut [u8],
-) -> JobAnswer
-    requires { ⌜ (slots ≤ 1024) × (slots ≤ length (now starts)) × (slots ≤ length (now ends)) ⌝ }
-    requires { ⌜ (people ≤ 32) × (count ≤ 1024) × (listingMost ≤ length (now out)) ⌝ }
-    requires { ⌜ TargetsSound people (demandOf slots (now starts) (now ends)) (now targets) ⌝ }
-    ensures { λ r. ⌜ Ends (rotaResult (ready people slots (now (starts .entry)) (now (ends .entry)) (now (avail .entry)) units
-        (now (firsts .entry)) (now (frozen .entry)) (now (targets .entry))) (draws count (now (kinds .entry)) (now (ones .entry))
-        (now (twos .entry))) owners (now (out .entry))) r (now (out .exit)) ⌝ }
+// The draws of a file, played on what was prepared from it.
+pub(crate) fn play(file: &[u8], counts: [usize; 8], blocks: [usize; 8], p: Prepared) -> Played
+    requires { ⌜ ReadOk (now file) counts blocks ⌝ }
+    requires { ⌜ (length (p .firsts) ≡ 1024) × (length (p .frozen) ≡ 16) ⌝ }
+    ensures { λ r. ⌜ PlayedAs (playOf (readyBy p) (drawsOf (now (file .entry))) (p .owners) (derived (p .sets) (p .minutes))) r ⌝ }
 {
-    let s = start_rota(people, slots, starts, ends, avail, &owners);
-    let first = s.no;
-    if first == 0 {
-        let sets = s.sets;
-        let minutes = s.minutes;
-        let p = play_draws(
-            people,
-            slots,
-            units,
-            count,
-            starts,
-            ends,
-            avail,
-            firsts,
-            frozen,
-            owners,
-            sets,
-            minutes,
-            kinds,
-            ones,
-            twos,
-        );
-        let second = p.no;
-        if second == 0 {
-            let last = p.owners;
-            let worked = p.minutes;
-            let answers = p.answers;
-            let uncovered = uncovered_of(people, slots, starts, ends, &last);
-            let n = put_listing(
-                out,
-                slots,
-                starts,
-                ends,
-                &last,
-                people,
-                &worked,
-                targets,
-                count,
-                &answers,
-                uncovered,
-            );
-            return JobAnswer::Length(n);
-        }
-        return JobAnswer::Refused(second);
-    }
-    JobAnswer::Refused(first)
+    let at = blocks[6];
+    let n = counts[6];
+    let kinds = column16(file, at + 4, 10, n);
+    let ones = column16(file, at + 6, 10, n);
+    let twos = column16(file, at + 8, 10, n);
+    let starts = p.starts;
+    let ends = p.ends;
+    let avail = p.avail;
+    let firsts = p.firsts;
+    let frozen = p.frozen;
+    let owners = p.owners;
+    let sets = p.sets;
+    let minutes = p.minutes;
+    play_draws(
+        p.people,
+        p.slots,
+        p.units,
+        n,
+        &starts,
+        &ends,
+        &avail,
+        &firsts,
+        &frozen,
+        owners,
+        sets,
+        minutes,
+        &kinds,
+        &ones,
+        &twos,
+    )
+}
+
+// The listing of what was prepared and played, from the front of out; its length.
+pub(crate) fn list(out: &mut [u8], draws: usize, p: Prepared, y: Played) -> usize
+    requires { ⌜ (p .slots ≤ 1024) × (p .people ≤ 32) × (draws ≤ 1024) × (listingMost ≤ length (now out)) ⌝ }
+    requires { ⌜ (length (p .starts) ≡ 1024) × (length (p .ends) ≡ 1024) × (length (p .targets) ≡ 32) ⌝ }
+    requires { ⌜ (length (y .owners) ≡ 1024) × (length (y .minutes) ≡ 32) × (length (y .answers) ≡ 1024) ⌝ }
+    requires { ⌜ ((k : ℕ) → k < p .people → mag (getD (p .targets) k (pos 0)) < 2 ^ 63) ⌝ }
+    ensures { λ r. ⌜ Wrote (listingOf (listed (p .slots) (p .starts) (p .ends) (y .owners) (p .people) (y .minutes) (p .targets) draws
+        (y .answers) (minutesValue (uncoveredIs (planOf (readyBy p)) (y .owners))))) 0 (now (out .entry)) r (now (out .exit)) ⌝ }
+{
+    let starts = p.starts;
+    let ends = p.ends;
+    let targets = p.targets;
+    let owners = y.owners;
+    let minutes = y.minutes;
+    let answers = y.answers;
+    let uncovered = uncovered_of(p.people, p.slots, &starts, &ends, &owners);
+    put_listing(
+        out,
+        p.slots,
+        &starts,
+        &ends,
+        &owners,
+        p.people,
+        &minutes,
+        &targets,
+        draws,
+        &answers,
+        uncovered,
+    )
 }

@@ -1,238 +1,158 @@
-// Preparing a job: settings, atomic slots, units, targets and frozen flags by value, each by the crate that works it out.
-use crate::Atoms;
-use crate::Made;
-use crate::Shares;
-use crate::fields::field;
-use slotset::Number;
-use units::Settings;
+// Preparing a job: all that a play goes by, from a file whose layout and counts are right, with refusals 3 to 12.
+use crate::JobSlots;
+use crate::JobTargets;
+use crate::Prepared;
+use crate::columns::column_f64;
+use crate::columns::column16;
+use crate::columns::column32;
+use crate::owners::owners_of;
+use crate::parts::atoms_of;
+use crate::parts::avail_of;
+use crate::parts::frozen_in;
+use crate::parts::instant_in;
+use crate::parts::settings_in;
+use crate::parts::targets_of;
+use crate::parts::units_of;
+use crate::play::start_rota;
 ghost use mathlib.Core.Path.{_≡_};
-ghost use mathlib.Core.Bool.{cond};
-ghost use Prim.Native.Nat.{_+_, _≤_};
-ghost use lib.Dec.{eqb};
-ghost use lib.IntN.{pos};
-ghost use lib.ListN.{length, replicate};
-ghost use Rattle.slots.specs.Ranges.{ranges};
-ghost use Rattle.slots.specs.Atomic.{base, atomiseOf};
-ghost use Rattle.slots.specs.Availability.{availabilityOf};
-ghost use Rattle.units.specs.Starts.{unitStartsIs};
-ghost use Rattle.targets.specs.Outcome.{given, computeTargets};
-ghost use Rattle.job.specs.Fields.{le};
-ghost use Rattle.job.specs.Stages.{jobCountsOk, countsNo, settingsIn, frozenIn, AtomsAre, UnitsAre, SharesAre, lowerNo};
+ghost use Rattle.paper.specs.Rows.{unless};
+ghost use Rattle.job.specs.Stages.{counted, instantOf, targetsIn, frozenIn};
+ghost use Rattle.job.specs.Inside.{ReadOk, SlotsAre, TargetsAre, PreparedAs};
 
-// The bytes of the longest listing that can come out.
-pub const LISTING_MOST: usize = 36343;
-
-// Whether the counts are within the paper's (rule 1).
-fn counts_ok(base: usize, people: usize, ranges: usize, draws: usize) -> bool
-    ensures { λ r. ⌜ r ≡ jobCountsOk base people ranges draws ⌝ }
+// The atomic slots and everybody's availability. Refusals 3, 4 and 5.
+fn slots_in(file: &[u8], counts: [usize; 8], blocks: [usize; 8]) -> JobSlots
+    requires { ⌜ ReadOk (now file) counts blocks ⌝ }
+    ensures { λ r. ⌜ SlotsAre (now (file .entry)) r ⌝ }
 {
-    if paper::slot_count_ok(base) {
-        if paper::people_ok(people) {
-            if ranges <= paper::RANGES_MOST {
-                return draws <= paper::DRAWS_MOST;
-            }
-            return false;
-        }
-        return false;
-    }
-    false
-}
-
-// 1, then 2; 0 for none.
-pub(crate) fn counts_no(base: usize, people: usize, ranges: usize, draws: usize, room: usize) -> u8
-    ensures { λ r. ⌜ r ≡ countsNo base people ranges draws room ⌝ }
-{
-    if counts_ok(base, people, ranges, draws) {
-        if LISTING_MOST <= room {
-            return 0;
-        }
-        return 2;
-    }
-    1
-}
-
-// The lower of two numbers, where 0 is none.
-pub(crate) fn lower_no(a: u8, b: u8) -> u8
-    ensures { λ r. ⌜ r ≡ lowerNo a b ⌝ }
-{
-    if a == 0 {
-        return b;
-    }
-    if b == 0 {
-        return a;
-    }
-    if a <= b {
-        return a;
-    }
-    b
-}
-
-// The settings.
-pub(crate) fn settings_in(s: &[u8]) -> Settings
-    requires { ⌜ 12 ≤ length (now s) ⌝ }
-    ensures { λ r. ⌜ r ≡ settingsIn (now (s .entry)) ⌝ }
-{
-    let value = field(s, 8, 2) as u16;
-    let days = field(s, 10, 2) as u16;
-    Settings {
-        fairness: s[4],
-        lock: s[5],
-        boundary: s[6],
-        value,
-        days,
-    }
-}
-
-// The atomic slots. Refusals 3, 4 and 5 (1 and 2 are ruled out by the counts).
-pub(crate) fn atoms_of(
-    slots: usize,
-    starts: &[u32],
-    ends: &[u32],
-    people: usize,
-    count: usize,
-    persons: &[u16],
-    opens: &[u32],
-    shuts: &[u32],
-) -> Atoms
-    ensures { λ r. ⌜ AtomsAre (atomiseOf (base slots (now (starts .entry)) (now (ends .entry)) people
-        (ranges count (now (persons .entry)) (now (opens .entry)) (now (shuts .entry))) (replicate 1024 0) (replicate 1024 0))) r ⌝ }
-{
-    let mut froms = [0u32; 1024];
-    let mut tos = [0u32; 1024];
-    let heard = slots::atomise(
-        slots,
-        starts,
-        ends,
+    let base = blocks[1];
+    let n = counts[1];
+    let starts = column32(file, base + 4, 12, n);
+    let ends = column32(file, base + 8, 12, n);
+    let range = blocks[3];
+    let m = counts[3];
+    let persons = column16(file, range + 4, 14, m);
+    let opens = column32(file, range + 6, 14, m);
+    let shuts = column32(file, range + 10, 14, m);
+    let people = counts[2];
+    let atoms = atoms_of(n, &starts, &ends, people, m, &persons, &opens, &shuts);
+    let froms = atoms.starts;
+    let tos = atoms.ends;
+    let avail = avail_of(
         people,
-        count,
-        persons,
-        opens,
-        shuts,
-        &mut froms,
-        &mut tos,
+        atoms.count,
+        &froms,
+        &tos,
+        m,
+        &persons,
+        &opens,
+        &shuts,
     );
-    match heard {
-        Number::Is(n) => Atoms {
-            no: 0,
-            count: n,
-            starts: froms,
-            ends: tos,
-        },
-        Number::Refused(k) => Atoms {
-            no: k,
-            count: 0,
-            starts: froms,
-            ends: tos,
-        },
+    JobSlots {
+        no: atoms.no,
+        count: atoms.count,
+        starts: froms,
+        ends: tos,
+        avail,
     }
 }
 
-// The frozen flags.
-pub(crate) fn frozen_in(
-    slots: usize,
-    starts: &[u32],
-    ends: &[u32],
-    freezes: usize,
-    instant: u32,
-) -> [u64; 16]
-    ensures { λ r. ⌜ r ≡ frozenIn slots (now (starts .entry)) (now (ends .entry)) freezes instant ⌝ }
-{
-    let mut flags = [0u64; 16];
-    if freezes == 0 {
-        return flags;
-    }
-    slots::freeze_before(slots, starts, ends, &mut flags, instant);
-    flags
-}
-
-// The units. Refusal 7.
-pub(crate) fn units_of(settings: Settings, slots: usize, starts: &[u32], ends: &[u32]) -> Made
-    ensures { λ r. ⌜ UnitsAre (unitStartsIs settings slots (now (starts .entry)) (now (ends .entry)) (replicate 1024 0)) r ⌝ }
-{
-    let mut firsts = [0u16; 1024];
-    let heard = units::unit_starts(settings, slots, starts, ends, &mut firsts);
-    match heard {
-        Number::Is(n) => Made {
-            no: 0,
-            count: n,
-            firsts,
-        },
-        Number::Refused(k) => Made {
-            no: k,
-            count: 0,
-            firsts,
-        },
-    }
-}
-
-// The targets. Refusals 6 and 7 (8 is never given on accepted figures).
-pub(crate) fn shares_of(
-    people: usize,
+// The targets of n slots. Refusals 6 and 7.
+fn targets_in(
+    file: &[u8],
+    counts: [usize; 8],
+    blocks: [usize; 8],
     slots: usize,
     starts: &[u32],
     ends: &[u32],
     avail: &[u64],
-    capacities: &[f64],
-    priors: &[u32],
-    fairness: u8,
-) -> Shares
-    ensures { λ r. ⌜ SharesAre (computeTargets (given people slots (now (starts .entry)) (now (ends .entry)) (now (avail .entry))
-        (now (capacities .entry)) (now (priors .entry)) fairness) (replicate 32 (pos 0))) r ⌝ }
+) -> JobTargets
+    requires { ⌜ ReadOk (now file) counts blocks ⌝ }
+    ensures { λ r. ⌜ TargetsAre (targetsIn (now (file .entry)) slots (now (starts .entry)) (now (ends .entry)) (now (avail .entry))) r ⌝ }
 {
-    let mut out = [0i64; 32];
-    let number = targets::compute_targets(
+    let people = counts[2];
+    let at = blocks[2];
+    let capacities = column_f64(file, at + 4, 16, people);
+    let priors = column32(file, at + 12, 16, people);
+    let settings = settings_in(file);
+    targets_of(
         people,
         slots,
         starts,
         ends,
         avail,
-        capacities,
-        priors,
-        fairness,
-        &mut out,
-    );
-    Shares {
-        no: number,
-        targets: out,
-    }
+        &capacities,
+        &priors,
+        settings.fairness,
+    )
 }
 
-// Everybody's availability, a set a person.
-pub(crate) fn avail_of(
-    people: usize,
+// The flags of the slots that the freeze record freezes.
+fn frozen_of(
+    file: &[u8],
+    counts: [usize; 8],
+    blocks: [usize; 8],
     slots: usize,
     starts: &[u32],
     ends: &[u32],
-    count: usize,
-    persons: &[u16],
-    opens: &[u32],
-    shuts: &[u32],
-) -> [u64; 512]
-    ensures { λ r. ⌜ (r ≡ availabilityOf people slots (now (starts .entry)) (now (ends .entry))
-        (ranges count (now (persons .entry)) (now (opens .entry)) (now (shuts .entry))) (replicate 512 0)) × (length r ≡ 512) ⌝ }
+) -> [u64; 16]
+    requires { ⌜ ReadOk (now file) counts blocks ⌝ }
+    ensures { λ r. ⌜ r ≡ frozenIn slots (now (starts .entry)) (now (ends .entry)) (counted (now (file .entry)) 4)
+        (instantOf (now (file .entry))) ⌝ }
 {
-    let mut words = [0u64; 512];
-    slots::availability(
+    let freezes = counts[4];
+    let instant = instant_in(file, freezes, blocks[4]);
+    frozen_in(slots, starts, ends, freezes, instant)
+}
+
+// What was heard before, else what is heard now.
+fn first_no(before: u8, next: u8) -> u8
+    ensures { λ r. ⌜ r ≡ unless before before next ⌝ }
+{
+    if before == 0 {
+        return next;
+    }
+    before
+}
+
+// Slots, targets, units and owners, and the rota that they make. Refusals 3 to 7 and 10 to 12.
+pub(crate) fn prepare(file: &[u8], counts: [usize; 8], blocks: [usize; 8]) -> Prepared
+    requires { ⌜ ReadOk (now file) counts blocks ⌝ }
+    ensures { λ r. ⌜ PreparedAs (now (file .entry)) r ⌝ }
+{
+    let people = counts[2];
+    let s = slots_in(file, counts, blocks);
+    let slots = s.count;
+    let starts = s.starts;
+    let ends = s.ends;
+    let avail = s.avail;
+    let t = targets_in(file, counts, blocks, slots, &starts, &ends, &avail);
+    let settings = settings_in(file);
+    let u = units_of(settings, slots, &starts, &ends);
+    let firsts = u.firsts;
+    let o = owners_of(file, blocks[5], counts[5], slots, people, u.count, &firsts);
+    let owners = o.owners;
+    let r = start_rota(people, slots, &starts, &ends, &avail, &owners);
+    let frozen = frozen_of(file, counts, blocks, slots, &starts, &ends);
+    let targets = t.targets;
+    let sets = r.sets;
+    let minutes = r.minutes;
+    let figures = first_no(t.no, u.no);
+    let rota = first_no(o.no, r.no);
+    let rest = first_no(figures, rota);
+    let no = first_no(s.no, rest);
+    Prepared {
+        no,
         people,
         slots,
         starts,
         ends,
-        count,
-        persons,
-        opens,
-        shuts,
-        &mut words,
-    );
-    words
-}
-
-// The instant of the freeze record, which stands at `at`; 0 where there is none.
-pub(crate) fn instant_in(s: &[u8], freezes: usize, at: usize) -> u32
-    requires { ⌜ ((freezes ≡ 0 → ⊥) → at + 8 ≤ length (now s)) ⌝ }
-    ensures { λ r. ⌜ r ≡ cond (eqb freezes 0) 0 (le 4 (now (s .entry)) (at + 4)) ⌝ }
-{
-    if freezes == 0 {
-        return 0;
+        avail,
+        units: u.count,
+        firsts,
+        frozen,
+        targets,
+        owners,
+        sets,
+        minutes,
     }
-    field(s, at + 4, 4) as u32
 }

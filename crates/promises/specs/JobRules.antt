@@ -12,14 +12,13 @@ use Rattle.targets.specs.Remainder.{sumℤ}
 use Rattle.rota.specs.Derived.{knownBy}
 use Rattle.rota.specs.Recount.{availableFor}
 use Rattle.job.specs.declared.JobAnswer.the-variants as answer
-use Rattle.job.specs.Fields.{le, Bytes}
-use Rattle.job.specs.Records.{bodies}
-use Rattle.job.specs.File.{jobSizes, jobCounts, jobStarts, ownerSlot, fileOk, JobFile}
+use Rattle.records.specs.Fields.{le, Bytes}
+use Rattle.records.specs.Records.{bodies}
+use Rattle.job.specs.File.{jobSizes, ownerSlot, fileOk, JobFile}
 use Rattle.job.specs.Listing.{digits, signed, listingOf, listingMost}
 use Rattle.job.specs.Digits.{readDigits, readSigned}
-use Rattle.job.specs.Stages.{settingsIn, ownerValue, placed}
-use Rattle.job.specs.Outcome.{columnOf, instantIn, jobResult}
-use Rattle.job.specs.Heard.{Lowest, AllPass, jobTests, readyOf, ownersOf, listedOf, baseTotal}
+use Rattle.job.specs.Stages.{counted, columnOf, settingsIn, instantOf, baseTotal, readyOf, ownerValue, placed, ownersOf, listedOf}
+use Rattle.job.specs.Outcome.{Lowest, AllPass, jobTests, jobResult}
 
 -- an accepted job, with n bytes of listing
 pub record Accepted (s x : List ℕ) (n : ℕ) : Type 0 where
@@ -32,8 +31,8 @@ pub record Accepted (s x : List ℕ) (n : ℕ) : Type 0 where
   pub targets : sumℤ (take (listedOf s .people) (listedOf s .targets)) ≡ pos (baseTotal s)
   -- demand 3 of the owners listed, beside those of the file's records: a slot that ends by the freeze record's instant keeps its owner, no
   -- covered slot becomes uncovered, every owner is nobody or known and available
-  pub frozen : (getD (jobCounts s) 4 0 ≡ 0 → ⊥) → (k : ℕ) → k < listedOf s .slots
-      → getD (listedOf s .ends) k 0 ≤ instantIn s (jobCounts s) (jobStarts s) → getD (listedOf s .owners) k 0 ≡ getD (ownersOf s) k 0
+  pub frozen : (counted s 4 ≡ 0 → ⊥) → (k : ℕ) → k < listedOf s .slots
+      → getD (listedOf s .ends) k 0 ≤ instantOf s → getD (listedOf s .owners) k 0 ≡ getD (ownersOf s) k 0
   pub covered : (k : ℕ) → k < listedOf s .slots → (getD (ownersOf s) k 0 ≡ nobody → ⊥) → getD (listedOf s .owners) k 0 ≡ nobody → ⊥
   pub owners : (k : ℕ) → k < listedOf s .slots
       → (knownBy (listedOf s .people) (getD (listedOf s .owners) k 0) ≡ true)
@@ -50,10 +49,10 @@ pub record JobByRule : Type 0 where
   -- 13, both ways: the file is a right sequence of records, and not too long
   pub file : (s : List ℕ) → Bytes s → (fileOk s ≡ true) ↔ JobFile s
   -- what a job works with stands in that sequence: as many records of each kind, each field in the body of its record, the settings
-  pub counts : (s : List ℕ) (J : JobFile s) (i : ℕ) → i < 7 → getD (jobCounts s) i 0 ≡ length (bodies (1 + i) (J .records))
+  pub counts : (s : List ℕ) (J : JobFile s) (i : ℕ) → i < 7 → counted s i ≡ length (bodies (1 + i) (J .records))
   pub columns : (s : List ℕ) (J : JobFile s) (i k off n : ℕ) → i < 7 → k < length (bodies (1 + i) (J .records))
       → length (bodies (1 + i) (J .records)) ≤ 1024 → off + n ≤ getD jobSizes i 0
-      → getD (columnOf s (jobCounts s) (jobStarts s) i off n) k 0 ≡ le n (getD (bodies (1 + i) (J .records)) k []) off
+      → getD (columnOf s i off n) k 0 ≡ le n (getD (bodies (1 + i) (J .records)) k []) off
   pub settings : (s : List ℕ) (J : JobFile s)
       → let body = getD (bodies 1 (J .records)) 0 [] in
       (settingsIn s .fairness ≡ le 1 body 0) × (settingsIn s .lock ≡ le 1 body 1) × (settingsIn s .boundary ≡ le 1 body 2)

@@ -40,7 +40,7 @@ fn same_line(number: u8, due: &[u8]) -> bool {
 
 // Whether a job has the listing that is due, or is refused by the line that is due, and writes nothing besides.
 fn as_due(file: &[u8], due: &[u8]) -> bool {
-    let mut out = [UNWRITTEN; 36343];
+    let mut out = [UNWRITTEN; 65536];
     let heard = job::run_job(file, &mut out);
     match heard {
         JobAnswer::Length(n) => same_text(&out, n, due) && unwritten(&out, n),

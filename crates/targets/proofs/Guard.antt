@@ -166,13 +166,9 @@ pub record Basis (n : ℕ) (s : Float) : Type 0 where
   pub most : Most s bound 1
   pub above : lt zeroF s ≡ true
 
--- the quotient, the product and the difference of one person are bounded
-pub record Steps (n p : ℕ) (s r : Float) : Type 0 where
-  pub quotient-most : Most (div binary64 r s) 1 1
-  pub product-most : Most (mul binary64 (whole n) (div binary64 r s)) n 1
-  pub difference-most : Most (sub binary64 (mul binary64 (whole n) (div binary64 r s)) (whole p)) (n + p) 1
-
-pub steps : (n p : ℕ) (s r : Float) → Basis n s → p ≤ 100000000 → Under r s → Steps n p s r
+-- what one person is handed is bounded
+steps : (n p : ℕ) (s r : Float) → Basis n s → p ≤ 100000000 → Under r s
+    → Most (sub binary64 (mul binary64 (whole n) (div binary64 r s)) (whole p)) (n + p) 1
 steps n p nan r b P u = absurd (b .plain)
 steps n p (inf s) r b P u = absurd (b .most)
 steps n p (fin true v g) r b P u = absurd (true≢false (b .plain))
@@ -183,13 +179,12 @@ steps n p (fin false v g) (fin t r e) b P u =
     let W : n + p ≤ 2 ^ 53 = le-trans (add-le-add (b .few) P) (lit≤ {m = notionalMost + 100000000} {n = 2 ^ 53} tt) in
     let q = div binary64 (fin t r e) (fin false v g) in
     let x = mul binary64 (whole n) q in
-    let i = quotient t r e v g (positive v g (b .above)) u in
-    let j = product (whole n) q n (whole-val n (b .few)) N i in
-    record { quotient-most = i; product-most = j; difference-most = difference x (whole p) n p j (whole-val p (omega arith)) W }
+    let j = product (whole n) q n (whole-val n (b .few)) N (quotient t r e v g (positive v g (b .above)) u) in
+    difference x (whole p) n p j (whole-val p (omega arith)) W
 
 kept : (n : ℕ) (s : Float) (l : Line) → Basis n s → Good l → Under (l .raw) s → within (unrounded (whole n) s l) ≡ true
 kept n s l b g u =
-    inside (unrounded (whole n) s l) (n + l .person .prior) (steps n (l .person .prior) s (l .raw) b (g .prior) u .difference-most)
+    inside (unrounded (whole n) s l) (n + l .person .prior) (steps n (l .person .prior) s (l .raw) b (g .prior) u)
     (omega (arith, b .few, g .prior))
 
 none-outside : (n : ℕ) (s : Float) (ls : List Line) → Basis n s → Goods ls → AllUnder s ls → some (outside (whole n) s) ls ≡ false

@@ -9,13 +9,11 @@ pub mod Taker
 pub mod Sums
 pub mod Padding
 pub mod Floats
-pub mod Errors
 pub mod Guard
 pub mod Never
-pub mod Shares
 pub mod Ends
 pub mod Minutes
 pub mod Accepted
 pub mod Promises
-pub mod Spread
+pub mod Sized
 pub mod Work

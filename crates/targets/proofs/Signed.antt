@@ -11,7 +11,7 @@ use mir.Val.{SFits, toZ, ofZ}
 use mir.Facts.{toZ-ofZ, toZ-pos}
 
 -- a - b is at most a + b in size
-mag-sub : (a b : ℕ) → mag (pos a -ℤ pos b) ≤ a + b
+pub mag-sub : (a b : ℕ) → mag (pos a -ℤ pos b) ≤ a + b
 mag-sub a zero = omega arith
 mag-sub a (suc b) = go (ltb a (suc b))
   where

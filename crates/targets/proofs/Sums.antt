@@ -1,16 +1,13 @@
 -- The targets add up to the demand, whatever the passes leave. Assumes nothing.
-use mathlib.Core.Path.{_≡_, refl, sym, ap, ap₂, _∙_}
-use mathlib.Core.List.{List, [], _∷_, _++_, map}
-use Prim.Native.Nat.{ℕ, zero, suc, _+_, _≤_, _<_}
+use mathlib.Core.Path.{_≡_, refl, sym, ap, _∙_}
+use mathlib.Core.List.{List, [], _∷_, map}
+use Prim.Native.Nat.{ℕ, zero, suc, _+_, _<_}
 use native.Mathlib.Nat.{zero-add, not-suc-le-zero, le-of-suc-le-suc}
-use native.Mathlib.Omega.{arith}
-use lib.IntN.{ℤ, pos, negℤ, natAbs, _+ℤ_, _-ℤ_, +ℤ-assoc, +ℤ-comm, +ℤ-idl, +ℤ-idr, +ℤ-invl}
-use lib.ListN.{length, getD, set, take}
-use lib.Seq.{take-suc}
-use Rattle.paper.specs.Count.{sum}
+use lib.IntN.{ℤ, pos, negℤ, _+ℤ_, _-ℤ_, +ℤ-assoc, +ℤ-comm, +ℤ-idr, +ℤ-invl}
+use lib.ListN.{length, getD, set}
 use Rattle.targets.specs.declared.Line.{Line}
 use Rattle.targets.specs.Figures.{pad}
-use Rattle.targets.specs.Remainder.{withTarget, totalOf, takerOf, targetOf, adjusted, sumℤ, AllPlain}
+use Rattle.targets.specs.Remainder.{withTarget, totalOf, takerOf, targetOf, adjusted, sumℤ}
 use Rattle.targets.proofs.Each.{sumLines, fold-sum}
 use Rattle.targets.proofs.Taker.{taker-here}
 
@@ -48,15 +45,3 @@ adds-up d ls h =
     ∙ +ℤ-assoc (pos d) (negℤ t) t
     ∙ ap (λ (z : ℤ). pos d +ℤ z) (+ℤ-invl t)
     ∙ +ℤ-idr (pos d)
-
--- where none is below 0, the sum of the first n is that of their sizes
-sum-last : (zs : List ℤ) (z : ℤ) → sumℤ (zs ++ (z ∷ [])) ≡ sumℤ zs +ℤ z
-sum-last [] z = +ℤ-idr z ∙ sym (+ℤ-idl z)
-sum-last (y ∷ zs) z = ap (λ (x : ℤ). y +ℤ x) (sum-last zs z) ∙ sym (+ℤ-assoc y (sumℤ zs) z)
-
-pub plain-sum : (zs : List ℤ) (n : ℕ) → n ≤ length zs → AllPlain n zs → sumℤ (take n zs) ≡ pos (sum n (λ k. natAbs (getD zs k (pos 0))))
-unfolding sum
-plain-sum zs zero h f = refl
-plain-sum zs (suc n) h f =
-    ap sumℤ (take-suc zs n (pos 0) h) ∙ sum-last (take n zs) (getD zs n (pos 0))
-    ∙ ap₂ (λ (x y : ℤ). x +ℤ y) (plain-sum zs n (omega arith) (λ k l. f k (omega arith))) (f n (omega arith))

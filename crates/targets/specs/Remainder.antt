@@ -5,7 +5,7 @@ use mathlib.Core.List.{List, [], _∷_, map, foldl}
 use mathlib.Core.Logic.{_⊎_}
 use Prim.Native.Nat.{ℕ, _+_, _≤_, _<_}
 use lib.Dec.{leb}
-use lib.IntN.{ℤ, pos, natAbs, _+ℤ_, _-ℤ_}
+use lib.IntN.{ℤ, pos, _+ℤ_, _-ℤ_}
 use lib.ListN.{length, getD, set}
 use Rattle.targets.specs.declared.Line.{Line}
 use Rattle.targets.specs.declared.Best.{Best}
@@ -61,10 +61,3 @@ adjusted demand ls =
 abbrev pub sumℤ : List ℤ → ℤ
 sumℤ [] = pos 0
 sumℤ (z ∷ zs) = z +ℤ sumℤ zs
-
--- each of the first n targets is 0 or above; each is below 100 in size
-abbrev pub AllPlain : ℕ → List ℤ → Type 0
-AllPlain n zs = (k : ℕ) → k < n → getD zs k (pos 0) ≡ pos (natAbs (getD zs k (pos 0)))
-
-abbrev pub AllSmall : ℕ → List ℤ → Type 0
-AllSmall n zs = (k : ℕ) → k < n → natAbs (getD zs k (pos 0)) < 100

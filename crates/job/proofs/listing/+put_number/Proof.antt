@@ -5,7 +5,8 @@ use mathlib.Core.List.{List, [], _∷_}
 use borrow.Author.Needs.{needs}
 use native.Mathlib.Omega.{arith}
 use lib.ListN.{length, length-append}
-use Rattle.job.proofs.Texts.{digits-small, digits-more, wrote-same, wrote-both, wrote-length, room-next}
+use Rattle.records.proofs.Puts.{wrote-same, wrote-both, wrote-length, room-next}
+use Rattle.job.proofs.Texts.{digits-small, digits-more}
 use Rattle.job.specs.Listing.{digits}
 use Prim.Native.Nat.{ℕ, _+_, _/_, _%_, _<_, _≤_}
 use borrow.Fn.Kinds.{In}

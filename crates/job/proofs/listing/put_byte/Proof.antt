@@ -1,6 +1,6 @@
 -- `job::listing::put_byte` meets its contract. Assumes nothing.
 use borrow.Author.Needs.{needs}
-use Rattle.job.proofs.Texts.{wrote-one}
+use Rattle.records.proofs.Puts.{wrote-one}
 use Rattle.job.proofs.listing.put_byte.Statement.{statement}
 use Rattle.job.proofs.listing.put_byte.Tie as tie
 

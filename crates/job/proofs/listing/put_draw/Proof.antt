@@ -4,7 +4,7 @@ use borrow.Author.Needs.{needs}
 use mathlib.Core.List.{[], _∷_, _++_}
 use native.Mathlib.Omega.{arith}
 use lib.ListN.{length}
-use Rattle.job.proofs.Texts.{room-first, room-next, wrote-both, wrote-same}
+use Rattle.records.proofs.Puts.{room-first, room-next, wrote-both, wrote-same}
 use mathlib.Core.Path.{sym, ap, subst}
 use Prim.Native.Nat.{ℕ, _+_, _≤_}
 use Rattle.job.specs.Listing.{answerLetter, headText, drawLine}

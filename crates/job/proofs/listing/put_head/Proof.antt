@@ -3,7 +3,7 @@
 use mathlib.Core.List.{[], _∷_, _++_}
 use native.Mathlib.Omega.{arith}
 use Rattle.job.specs.Listing.{digits, headText}
-use Rattle.job.proofs.Texts.{room-next, wrote-both, wrote-length}
+use Rattle.records.proofs.Puts.{room-next, wrote-both, wrote-length}
 use Rattle.job.proofs.listing.put_head.Statement.{statement}
 use Rattle.job.proofs.listing.put_head.Tie as tie
 

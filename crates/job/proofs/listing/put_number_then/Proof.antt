@@ -3,7 +3,7 @@
 use mathlib.Core.List.{[], _∷_}
 use native.Mathlib.Omega.{arith}
 use Rattle.job.specs.Listing.{digits}
-use Rattle.job.proofs.Texts.{room-first, room-next, wrote-both, wrote-length}
+use Rattle.records.proofs.Puts.{room-first, room-next, wrote-both, wrote-length}
 use Rattle.job.proofs.listing.put_number_then.Statement.{statement}
 use Rattle.job.proofs.listing.put_number_then.Tie as tie
 

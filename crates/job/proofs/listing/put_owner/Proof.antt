@@ -6,7 +6,8 @@ use mathlib.Core.List.{List, [], _∷_, _++_}
 use Prim.Native.Nat.{ℕ, _+_, _≤_}
 use native.Mathlib.Omega.{arith}
 use lib.ListN.{length}
-use Rattle.job.proofs.Texts.{room-next, wrote-both, wrote-length, wrote-same, owner-none, owner-some}
+use Rattle.records.proofs.Puts.{room-next, wrote-both, wrote-length, wrote-same}
+use Rattle.job.proofs.Texts.{owner-none, owner-some}
 use Rattle.job.proofs.listing.put_owner.Statement.{statement}
 use Rattle.job.proofs.listing.put_owner.Tie as tie
 

@@ -10,7 +10,8 @@ use mir.Syntax.{w64}
 use mir.Val.{SFits}
 use mir.ValLaws.{toZ-ofZ}
 use Rattle.job.specs.Listing.{personLine, personAt}
-use Rattle.job.proofs.Texts.{wrote-same, Going, going-start, going-room, going-more, going-end}
+use Rattle.records.proofs.Puts.{wrote-same}
+use Rattle.job.proofs.Texts.{Going, going-start, going-room, going-more, going-end}
 use Rattle.job.proofs.listing.put_people.Statement.{statement}
 use Rattle.job.proofs.listing.put_people.Tie as tie
 

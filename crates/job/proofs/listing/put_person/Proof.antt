@@ -9,7 +9,7 @@ use lib.IntN.{ℤ}
 use mathlib.Core.Path.{ap}
 use mir.Syntax.{w64}
 use mir.ValLaws.{toZ-ofZ}
-use Rattle.job.proofs.Texts.{room-first, room-next, wrote-both, wrote-same}
+use Rattle.records.proofs.Puts.{room-first, room-next, wrote-both, wrote-same}
 use Rattle.job.specs.Listing.{digits, signed, headText, personLine}
 use Rattle.job.proofs.listing.put_person.Statement.{statement}
 use Rattle.job.proofs.listing.put_person.Tie as tie

@@ -7,7 +7,7 @@ use Prim.Native.Nat.{ℕ, _+_, _≤_}
 use native.Mathlib.Omega.{arith}
 use lib.ListN.{length}
 use Rattle.job.specs.Listing.{digits}
-use Rattle.job.proofs.Texts.{room-next, wrote-both, wrote-length, wrote-same}
+use Rattle.records.proofs.Puts.{room-next, wrote-both, wrote-length, wrote-same}
 use Rattle.job.proofs.Signs.{signed-below, signed-above}
 use Rattle.job.proofs.listing.put_signed.Statement.{statement}
 use Rattle.job.proofs.listing.put_signed.Tie as tie

@@ -3,7 +3,7 @@
 use borrow.Author.Needs.{needs}
 use mathlib.Core.List.{List, [], _∷_, _++_}
 use Prim.Native.Nat.{ℕ}
-use Rattle.job.proofs.Texts.{room-first, room-next, wrote-both}
+use Rattle.records.proofs.Puts.{room-first, room-next, wrote-both}
 use Rattle.job.specs.Listing.{digits, ownerText, headText, slotLine}
 use Rattle.job.proofs.listing.put_slot.Statement.{statement}
 use Rattle.job.proofs.listing.put_slot.Tie as tie

@@ -7,7 +7,7 @@ use lib.ListN.{getD, replicate}
 use Rattle.paper.specs.Count.{over}
 use Rattle.paper.proofs.Count.{over-none}
 use Rattle.job.specs.Stages.{byteOf, narrowed}
-use Rattle.job.proofs.Files.{over-turn, over-done}
+use Rattle.records.proofs.Walks.{over-turn, over-done}
 use Rattle.job.proofs.Prepares.{byte-small, byte-large}
 use Rattle.job.proofs.owners.narrow.Statement.{statement}
 use Rattle.job.proofs.owners.narrow.Tie as tie

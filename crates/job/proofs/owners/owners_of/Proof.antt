@@ -1,7 +1,12 @@
 -- `job::owners::owners_of` meets its contract. Assumes nothing.
 use borrow.Author.Needs.{needs}
 use mathlib.Core.Path.{ap, _∙_}
-use Rattle.job.specs.Stages.{ownersNo, narrowed}
+use mathlib.Core.List.{List}
+use Prim.Native.Nat.{ℕ}
+use Rattle.paper.specs.Limits.{heardOf}
+use Rattle.paper.proofs.Rows.{said}
+use Rattle.job.specs.Stages.{narrowed}
+use Rattle.job.specs.Outcome.{ownersRow}
 use Rattle.job.proofs.owners.owners_of.Statement.{statement}
 use Rattle.job.proofs.owners.owners_of.Tie as tie
 
@@ -22,9 +27,12 @@ narrow-requires c κs = search needs
 
 returns : tie.Need-returns
 returns c =
+    let a = c .before .before .before .before .before .before .before .args in
     let placed-is = c .before .before .before .before .placed-by .ensures in
     record {
-      no = c .before .before .owners-no .ensures ∙ ap (ownersNo _ _ _ _ _ _ _) placed-is;
+      no = said _ (c .before .before .owners-no .ensures)
+          ∙ ap (λ (o : List ℕ). heardOf (ownersRow (a .s .now) (a .at) (a .n) (a .slots) (a .people) (a .units)
+          (a .firsts .now) o)) placed-is;
       owners = c .narrow .ensures ∙ ap narrowed placed-is;
     }
 

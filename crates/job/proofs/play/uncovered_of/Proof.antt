@@ -1,7 +1,7 @@
 -- `job::play::uncovered_of` meets its contract. Assumes nothing.
 use borrow.Author.Needs.{needs}
 use mathlib.Core.Path.{sym, ap, _∙_}
-use Rattle.job.specs.Outcome.{minutesValue}
+use Rattle.job.specs.Inside.{minutesValue}
 use Rattle.job.proofs.play.uncovered_of.Statement.{statement}
 use Rattle.job.proofs.play.uncovered_of.Tie as tie
 

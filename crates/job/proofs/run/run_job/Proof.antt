@@ -2,74 +2,98 @@
 -- Below, cN is what is known N places before c.
 use borrow.Author.Needs.{needs}
 use mathlib.Core.Path.{sym, _∙_}
-use Rattle.job.proofs.Readings.{job-counts, job-passed, job-ready, job-layout}
+use Rattle.paper.proofs.Rows.{said}
+use Rattle.job.proofs.Readings.{read-few, read-count, read-heard, read-ok}
+use Rattle.job.proofs.Results.{read-refused, prepare-refused, targets-fit, job-listed}
 use Rattle.job.proofs.run.run_job.Statement.{statement}
 use Rattle.job.proofs.run.run_job.Tie as tie
 
-read-file-requires : tie.Need-read-file-requires
-read-file-requires c κs = search needs
+prepare-requires : tie.Need-prepare-requires
+prepare-requires c κs =
+    let c1 = c .before in
+    let c4 = c1 .before .before .before in
+    let r = c4 .read-file .ensures in
+    read-ok _ _ _ _ _ (r .0) (r .1 .0) (r .1 .1) (sym (said _ (c1 .read-no .ensures)) ∙ c .if1 .taken) .0
 
-array-read-counts-no : tie.Need-array-read-counts-no
-array-read-counts-no c = search needs
-
-array-read-counts-no-2 : tie.Need-array-read-counts-no-2
-array-read-counts-no-2 c = search needs
-
-array-read-counts-no-3 : tie.Need-array-read-counts-no-3
-array-read-counts-no-3 c = search needs
-
-array-read-counts-no-4 : tie.Need-array-read-counts-no-4
-array-read-counts-no-4 c = search needs
-
-counts-no-requires : tie.Need-counts-no-requires
-counts-no-requires c κs = search needs
-
-atoms-stage-requires : tie.Need-atoms-stage-requires
-atoms-stage-requires c κs =
-    let c5 = c .before .before .before .before .before in
-    let c6 = c5 .before in
-    let c9 = c6 .before .before .before in
+play-requires : tie.Need-play-requires
+play-requires c κs =
+    let c2 = c .before .before in
+    let c3 = c2 .before in
+    let c6 = c3 .before .before .before in
     let r = c6 .read-file .ensures in
-    job-ready _ (c9 .args .out .now) _ _ _ (sym (r .0) ∙ c5 .if1 .taken) (r .1 .0) (r .1 .1) (c .before .before .counts-no .ensures)
-    (c .before .if2 .taken)
+    let P = c .before .prepare .ensures in
+    let K = read-ok _ _ _ _ _ (r .0) (r .1 .0) (r .1 .1) (sym (said _ (c3 .read-no .ensures)) ∙ c2 .if1 .taken) .0 in
+    (K, (P .firsts-room, P .frozen-room))
 
-same-length : tie.Need-same-length
-same-length c = search needs
+list-requires : tie.Need-list-requires
+list-requires c κs =
+    let c2 = c .before .before in
+    let c3 = c2 .before in
+    let c4 = c3 .before in
+    let c5 = c4 .before in
+    let c8 = c5 .before .before .before in
+    let r = c8 .read-file .ensures in
+    let P = c3 .prepare .ensures in
+    let Y = c .before .play .ensures in
+    let z = sym (said _ (c5 .read-no .ensures)) ∙ c4 .if1 .taken in
+    let K = read-ok _ _ _ _ _ (r .0) (r .1 .0) (r .1 .1) z in (
+      (P .slots-few, P .people-few, read-few (K .0) .4, K .1),
+      (
+        (P .starts-room, P .ends-room, P .targets-room),
+        (
+          (Y .owners-room, Y .minutes-room, Y .answers-room),
+          targets-fit _ (c8 .before .before .before .args .out .now) _ (sym (read-heard _ _ _ _ (r .0) (r .1 .0)) ∙ z) P (c2 .if2 .taken),
+        ),
+      ),
+    )
 
 returns : tie.Need-returns
 returns c =
-    let c4 = c .before .before .before .before in
+    let c2 = c .before .before in
+    let c4 = c2 .before .before in
     let c5 = c4 .before in
-    let c8 = c5 .before .before .before in
-    let c9 = c8 .before in
-    let r = c9 .read-file .ensures in
-    job-passed _ _ _ _ _ (sym (r .0) ∙ c8 .if1 .taken) (r .1 .0) (r .1 .1) (c5 .counts-no .ensures) _ _ (c4 .if2 .taken)
-    (c .before .before .atoms-stage .ensures)
+    let c6 = c5 .before in
+    let c7 = c6 .before in
+    let c8 = c7 .before in
+    let c11 = c8 .before .before .before in
+    let r = c11 .read-file .ensures in
+    let z = sym (said _ (c8 .read-no .ensures)) ∙ c7 .if1 .taken in
+    let K = read-ok _ _ _ _ _ (r .0) (r .1 .0) (r .1 .1) z in
+    job-listed _ _ _ (sym (read-heard _ _ _ _ (r .0) (r .1 .0)) ∙ z) (c6 .prepare .ensures) (c5 .if2 .taken) _ (c4 .play .ensures) _ _ _
+    (read-count (K .0) 6) (c2 .list .ensures)
 
 returns-2 : tie.Need-returns-2
 returns-2 c =
-    let c4 = c .before .before .before .before in
-    let c5 = c4 .before in
-    let r = c5 .read-file .ensures in
-    job-counts _ _ _ _ _ (sym (r .0) ∙ c4 .if1 .taken) (r .1 .0) (r .1 .1) (c .before .counts-no .ensures) (c .if2 .left)
+    let c1 = c .before in
+    let c2 = c1 .before in
+    let c3 = c2 .before in
+    let c6 = c3 .before .before .before in
+    let r = c6 .read-file .ensures in
+    let z = sym (said _ (c3 .read-no .ensures)) ∙ c2 .if1 .taken in
+    prepare-refused _ _ _ (sym (read-heard _ _ _ _ (r .0) (r .1 .0)) ∙ z) (c1 .prepare .ensures .no) (c .if2 .left)
 
 returns-3 : tie.Need-returns-3
 returns-3 c =
-    let r = c .before .read-file .ensures in
-    job-layout _ _ (sym (r .0) ∙ c .if1 .left)
+    let c1 = c .before in
+    let c4 = c1 .before .before .before in
+    let r = c4 .read-file .ensures in
+    read-refused _ _ _ (said _ (c1 .read-no .ensures) ∙ read-heard _ _ _ _ (r .0) (r .1 .0)) (c .if1 .left)
 
 pub run-job-spec : {M : Type 1} → statement M
 run-job-spec =
     tie.close
     (tie.spec
-    read-file-requires
-    array-read-counts-no
-    array-read-counts-no-2
-    array-read-counts-no-3
-    array-read-counts-no-4
-    counts-no-requires
-    atoms-stage-requires
-    same-length
+    (λ c κs. search needs)
+    (λ c. search needs)
+    (λ c. search needs)
+    (λ c. search needs)
+    (λ c. search needs)
+    (λ c κs. search needs)
+    prepare-requires
+    play-requires
+    (λ c. search needs)
+    list-requires
+    (λ c. search needs)
     returns
     returns-2
     returns-3)

@@ -1,0 +1,63 @@
+-- `job::parts::atoms_of` meets its contract. Assumes nothing.
+-- Below, cN is what is known N places before c.
+use borrow.Author.Needs.{needs}
+use mathlib.Core.Path.{sym, ap, _∙_}
+use Rattle.slotset.specs.Answers.{numberNo}
+use Rattle.job.specs.Stages.{valueOf}
+use Rattle.job.proofs.parts.atoms_of.Statement.{statement}
+use Rattle.job.proofs.parts.atoms_of.Tie as tie
+
+slice-aggregate-atomise : tie.Need-slice-aggregate-atomise
+slice-aggregate-atomise c = search needs
+
+slice-aggregate-atomise-2 : tie.Need-slice-aggregate-atomise-2
+slice-aggregate-atomise-2 c = search needs
+
+atomise-requires : tie.Need-atomise-requires
+atomise-requires c κs = search needs
+
+enum-known-heard : tie.Need-enum-known-heard
+enum-known-heard c = search needs
+
+enum-known-heard-2 : tie.Need-enum-known-heard-2
+enum-known-heard-2 c = search needs
+
+returns : tie.Need-returns
+returns c =
+    let c5 = c .before .before .before .before .before in
+    let w = c5 .atomise .ensures in
+    let e = sym (w .heard) ∙ c .before .heard .given .1 in
+    record {
+      no = sym (ap numberNo e);
+      count = sym (ap valueOf e);
+      starts = w .starts;
+      ends = w .ends;
+      starts-room = search needs;
+      ends-room = search needs;
+    }
+
+returns-2 : tie.Need-returns-2
+returns-2 c =
+    let c5 = c .before .before .before .before .before in
+    let w = c5 .atomise .ensures in
+    let e = sym (w .heard) ∙ c .before .heard2 .given .1 in
+    record {
+      no = sym (ap numberNo e);
+      count = sym (ap valueOf e);
+      starts = w .starts;
+      ends = w .ends;
+      starts-room = search needs;
+      ends-room = search needs;
+    }
+
+pub atoms-of-spec : {M : Type 1} → statement M
+atoms-of-spec =
+    tie.close
+    (tie.spec
+    slice-aggregate-atomise
+    slice-aggregate-atomise-2
+    atomise-requires
+    enum-known-heard
+    enum-known-heard-2
+    returns
+    returns-2)

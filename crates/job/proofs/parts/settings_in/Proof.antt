@@ -1,0 +1,60 @@
+-- `job::parts::settings_in` meets its contract. Assumes nothing.
+-- Below, cN is what is known N places before c.
+use borrow.Author.Needs.{needs}
+use mathlib.Core.Path.{ap₂}
+use Prim.Native.Nat.{ℕ}
+use lib.ListN.{getD}
+use Rattle.units.specs.declared.Settings.{Settings}
+use Rattle.job.specs.Stages.{settingsIn}
+use Rattle.job.proofs.parts.settings_in.Statement.{statement}
+use Rattle.job.proofs.parts.settings_in.Tie as tie
+
+field-requires : tie.Need-field-requires
+field-requires c κs = search needs
+
+cast-value : tie.Need-cast-value
+cast-value c = search needs
+
+field-requires-2 : tie.Need-field-requires-2
+field-requires-2 c κs = search needs
+
+cast-days : tie.Need-cast-days
+cast-days c = search needs
+
+shared-slice-read-t6 : tie.Need-shared-slice-read-t6
+shared-slice-read-t6 c = search needs
+
+shared-slice-read-t8 : tie.Need-shared-slice-read-t8
+shared-slice-read-t8 c = search needs
+
+shared-slice-read-t10 : tie.Need-shared-slice-read-t10
+shared-slice-read-t10 c = search needs
+
+returns : tie.Need-returns
+unfolding settingsIn
+returns c =
+    let c3 = c .before .before .before in
+    let c4 = c3 .before in
+    let c6 = c4 .before .before in
+    let s = c6 .args .s .now in
+    ap₂ {A = ℕ} {B = ℕ} {C = Settings} (λ (v d : ℕ). record {
+      fairness = getD s 4 0;
+      lock = getD s 5 0;
+      boundary = getD s 6 0;
+      value = v;
+      days = d;
+    })
+    (c4 .field .ensures .0) (c3 .field2 .ensures .0)
+
+pub settings-in-spec : {M : Type 1} → statement M
+settings-in-spec =
+    tie.close
+    (tie.spec
+    field-requires
+    cast-value
+    field-requires-2
+    cast-days
+    shared-slice-read-t6
+    shared-slice-read-t8
+    shared-slice-read-t10
+    returns)

@@ -1,0 +1,106 @@
+-- What only job's own functions cite: what each stage returns, and what it may take for granted. Assumes nothing.
+use mathlib.Core.Path.{_≡_}
+use mathlib.Core.Bool.{true}
+use mathlib.Core.List.{List}
+use Prim.Native.Nat.{ℕ, _≤_}
+use lib.ListN.{length, getD}
+use Rattle.paper.specs.Limits.{heardOf}
+use Rattle.slotset.specs.Answers.{numberNo}
+use Rattle.slots.specs.Atomic as atomic
+use Rattle.slots.specs.declared.Minutes.{Minutes}
+use Rattle.slots.specs.declared.Minutes.the-variants as minutes
+use Rattle.units.specs.Answers.{Written}
+use Rattle.targets.specs.Outcome as targets
+use Rattle.rota.specs.Derived.{derived}
+use Rattle.rota.specs.Entries as rota
+use Rattle.job.specs.declared.Atoms.{Atoms}
+use Rattle.job.specs.declared.JobSlots.{JobSlots}
+use Rattle.job.specs.declared.JobUnits.{JobUnits}
+use Rattle.job.specs.declared.JobTargets.{JobTargets}
+use Rattle.job.specs.declared.JobOwners.{JobOwners}
+use Rattle.job.specs.declared.Started.{Started}
+use Rattle.job.specs.declared.Prepared.{Prepared}
+use Rattle.job.specs.declared.Played.{Played}
+use Rattle.job.specs.File.{jobCounts, jobStarts, fileOk}
+use Rattle.job.specs.Stages.{jobCountsOk, valueOf, atomsOf, availIn, Ready, ready, readyOf, placed, narrowed, ownersOf, startedOf}
+use Rattle.job.specs.Outcome.{ownersRow, prepareRow}
+
+-- a file whose layout and counts are right
+pub record ReadOk (s c b : List ℕ) : Type 0 where
+  pub ok : fileOk s ≡ true
+  pub counts : c ≡ jobCounts s
+  pub starts : b ≡ jobStarts s
+  pub few : jobCountsOk (getD c 1 0) (getD c 2 0) (getD c 3 0) (getD c 6 0) ≡ true
+
+-- the atomic slots, with availability, the units, the targets, as their crates give them
+pub record AtomsAre (x : atomic.Atoms) (r : Atoms) : Type 0 where
+  pub no : r .no ≡ numberNo (x .answer)
+  pub count : r .count ≡ valueOf (x .answer)
+  pub starts : r .starts ≡ x .starts
+  pub ends : r .ends ≡ x .ends
+  pub starts-room : length (r .starts) ≡ 1024
+  pub ends-room : length (r .ends) ≡ 1024
+
+pub record SlotsAre (s : List ℕ) (r : JobSlots) : Type 0 where
+  pub no : r .no ≡ numberNo (atomsOf s .answer)
+  pub count : r .count ≡ valueOf (atomsOf s .answer)
+  pub starts : r .starts ≡ atomsOf s .starts
+  pub ends : r .ends ≡ atomsOf s .ends
+  pub avail : r .avail ≡ availIn s (r .count) (r .starts) (r .ends)
+  pub few : r .count ≤ 1024
+  pub starts-room : length (r .starts) ≡ 1024
+  pub ends-room : length (r .ends) ≡ 1024
+  pub avail-room : length (r .avail) ≡ 512
+
+pub record UnitsAre (w : Written) (r : JobUnits) : Type 0 where
+  pub no : r .no ≡ numberNo (w .answer)
+  pub count : r .count ≡ valueOf (w .answer)
+  pub firsts : r .firsts ≡ w .buffer
+  pub room : length (r .firsts) ≡ 1024
+
+pub record TargetsAre (x : targets.Outcome) (r : JobTargets) : Type 0 where
+  pub no : r .no ≡ x .number
+  pub targets : r .targets ≡ x .out
+  pub room : length (r .targets) ≡ 32
+
+-- what n owner records come to: their number, and the owners as bytes
+pub record OwnersAre (s : List ℕ) (at n slots people units : ℕ) (firsts : List ℕ) (r : JobOwners) : Type 0 where
+  pub no : r .no ≡ heardOf (ownersRow s at n slots people units firsts (placed s at slots n))
+  pub owners : r .owners ≡ narrowed (placed s at slots n)
+
+-- sets and minutes, and the play, as the rota gives them
+pub record StartedAs (y : rota.Outcome) (r : Started) : Type 0 where
+  pub no : r .no ≡ y .number
+  pub derived : derived (r .sets) (r .minutes) ≡ y .derived
+
+pub record PlayedAs (y : rota.Outcome) (r : Played) : Type 0 where
+  pub no : r .no ≡ y .number
+  pub owners : r .owners ≡ y .owners
+  pub minutes : r .minutes ≡ y .derived .minutes
+  pub answers : r .answers ≡ y .answers
+  pub owners-room : length (r .owners) ≡ 1024
+  pub minutes-room : length (r .minutes) ≡ 32
+  pub answers-room : length (r .answers) ≡ 1024
+
+-- what a play goes by, of a prepared job; and that it was prepared from the file s
+abbrev pub readyBy : Prepared → Ready
+readyBy r =
+    ready (r .people) (r .slots) (r .starts) (r .ends) (r .avail) (r .units) (r .firsts) (r .frozen) (r .targets)
+
+pub record PreparedAs (s : List ℕ) (r : Prepared) : Type 0 where
+  pub no : r .no ≡ heardOf (prepareRow s)
+  pub ready : readyBy r ≡ readyOf s
+  pub owners : r .owners ≡ ownersOf s
+  pub derived : derived (r .sets) (r .minutes) ≡ startedOf s .derived
+  pub slots-few : r .slots ≤ 1024
+  pub people-few : r .people ≤ 32
+  pub starts-room : length (r .starts) ≡ 1024
+  pub ends-room : length (r .ends) ≡ 1024
+  pub firsts-room : length (r .firsts) ≡ 1024
+  pub frozen-room : length (r .frozen) ≡ 16
+  pub targets-room : length (r .targets) ≡ 32
+
+-- minutes that were asked for, 0 where refused
+abbrev pub minutesValue : Minutes → ℕ
+minutesValue (minutes.Are m) = m
+minutesValue (minutes.Refused k) = 0

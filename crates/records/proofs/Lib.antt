@@ -1,0 +1,7 @@
+-- Laws that belong to no one function.
+pub mod Numbers
+pub mod Walks
+pub mod Laid
+pub mod Sequences
+pub mod Puts
+pub mod Writes

@@ -1,0 +1,5 @@
+-- What the contracts of records cite.
+pub mod Fields
+pub mod Records
+pub mod Puts
+pub mod Writes

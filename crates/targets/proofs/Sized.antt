@@ -1,0 +1,79 @@
+-- Every target that is given is an i64, far from its ends. Assumes nothing.
+use mathlib.Core.Path.{_≡_, sym, ap, _∙_, subst}
+use mathlib.Core.List.{List, map}
+use mathlib.Core.Logic.{⊎-elim}
+use Prim.Native.Nat.{ℕ, suc, _+_, _≤_, _<_, _^_}
+use native.Mathlib.Nat.{lt-of-lt-of-le, le-of-eq}
+use native.Mathlib.Omega.{arith}
+use borrow.Author.Tests.{eqb-true, eqb-false}
+use lib.Dec.{eqb}
+use lib.IntN.{ℤ, pos, negℤ, +ℤ-assoc}
+use lib.Signed.{mag}
+use lib.ListN.{length, getD, drop, length-map, List·getD-eq-default, List·getD-append}
+use lib.Seq.{getD-set-same}
+use Rattle.paper.proofs.Logic.{by-test, lt-or-ge}
+use Rattle.targets.specs.declared.Line.{Line}
+use Rattle.targets.specs.Figures.{pad}
+use Rattle.targets.specs.Passes.{Passed, again, done, refused, passesLeave}
+use Rattle.targets.specs.Remainder.{totalOf, takerOf, targetOf, adjusted, are, closed}
+use Rattle.targets.specs.Outcome.{Given, demandIn, lineIn, linesIn, computeTargets}
+use Rattle.targets.specs.Code.{SmallTarget, Small}
+use Rattle.targets.proofs.Loops.{differ}
+use Rattle.targets.proofs.Each.{each-upTo, each-at, sum-most}
+use Rattle.targets.proofs.Cases.{OfLines}
+use Rattle.targets.proofs.Signed.{mag-sub}
+use Rattle.targets.proofs.Sizes.{small-passes}
+use Rattle.targets.proofs.Sums.{total-is}
+use Rattle.targets.proofs.Taker.{taker-here}
+use Rattle.targets.proofs.Padding.{Len, len-passes}
+use Rattle.targets.proofs.Promises.{demand-fits, people-in, other, number-is, accepted-holds}
+use Rattle.targets.proofs.Accepted.{accepted}
+
+-- a target of a line, whichever
+small-at : (ls : List Line) → Small ls → (k : ℕ) → getD ls k pad .target ≤ 1099511627776
+small-at ls h k =
+    ⊎-elim (λ (l : k < length ls). each-at SmallTarget ls k pad h l)
+    (λ (l : length ls ≤ k). omega (arith, ap (λ (x : Line). x .target) (List·getD-eq-default ls pad l)))
+    (lt-or-ge k (length ls))
+
+-- 32 lines of at most 2 ^ 40, and demand
+adjusted-sized : (d : ℕ) (ls : List Line) → 0 < length ls → length ls ≤ 32 → d ≤ 100000000 → Small ls → (k : ℕ)
+    → mag (getD (adjusted d ls) k (pos 0)) < 2 ^ 63
+unfolding adjusted
+adjusted-sized d ls some few D h k =
+    let j = takerOf ls in
+    let a = getD ls j pad .target in
+    let m = sum-most (λ (l : Line). l .target) 1099511627776 ls h in
+    by-test (eqb k j) _
+    (λ e.
+    let q = ap (λ (i : ℕ). getD (adjusted d ls) i (pos 0)) (eqb-true k j e)
+    ∙ getD-set-same (map targetOf ls) j _ (pos 0) (lt-of-lt-of-le (taker-here ls some) (le-of-eq (sym (length-map ls targetOf))))
+    ∙ sym (+ℤ-assoc (pos a) (pos d) (negℤ (pos (totalOf ls)))) in
+    omega (arith, ap mag q, mag-sub (a + d) (totalOf ls), total-is ls, m, small-at ls h j))
+    (λ e. omega (arith, ap mag (other d k ls (eqb-false k j e)), small-at ls h k))
+
+closed-sized : (d n : ℕ) (p : Passed) (zs : List ℤ) → 0 < n → n ≤ 32 → d ≤ 100000000 → Len n p → OfLines Small p
+    → closed (adjusted d) p ≡ are zs → (k : ℕ) → mag (getD zs k (pos 0)) < 2 ^ 63
+closed-sized d n (again ls) zs some few D l h e k =
+    let q : adjusted d ls ≡ zs = cc in
+    subst (λ (x : List ℤ). mag (getD x k (pos 0)) < 2 ^ 63) q (adjusted-sized d ls (omega arith) (omega arith) D h k)
+closed-sized d n (done ls) zs some few D l h e k =
+    let q : adjusted d ls ≡ zs = cc in
+    subst (λ (x : List ℤ). mag (getD x k (pos 0)) < 2 ^ 63) q (adjusted-sized d ls (omega arith) (omega arith) D h k)
+closed-sized d n refused zs some few D l h e k = let z : _≡_ {A = ℕ} 0 1 = cc in differ z
+
+pub accepted-sized : (g : Given) (out : List ℤ) → computeTargets g out .number ≡ 0
+    → (k : ℕ) → k < g .people → mag (getD (computeTargets g out .out) k (pos 0)) < 2 ^ 63
+accepted-sized g out e k l =
+    let H = accepted-holds g out e in
+    let s = accepted g (length out) (sym (number-is g out) ∙ e) .sound in
+    let d = demandIn g in
+    let ls = linesIn g in
+    let small = small-passes (suc (length ls)) d (again ls) (each-upTo SmallTarget (lineIn g) (g .people) (λ j h. omega arith)) in
+    omega (
+      arith,
+      ap (λ (x : List ℤ). mag (getD x k (pos 0))) (H .is),
+      ap mag (List·getD-append (H .zs) (drop (g .people) out) (pos 0) k (omega (arith, H .count))),
+      closed-sized d (g .people) (passesLeave d ls) (H .zs) (s .somebody) (s .few) (demand-fits g s)
+          (len-passes (g .people) (suc (length ls)) d (again ls) (people-in g)) small (H .these) k,
+    )
