@@ -1,5 +1,5 @@
 -- Every target that is given is an i64, far from its ends. Assumes nothing.
-use mathlib.Core.Path.{_≡_, sym, ap, _∙_, subst}
+use mathlib.Core.Path.{_≡_, sym, ap, _∙_}
 use mathlib.Core.List.{List, map}
 use mathlib.Core.Logic.{⊎-elim}
 use Prim.Native.Nat.{ℕ, suc, _+_, _≤_, _<_, _^_}
@@ -14,20 +14,18 @@ use lib.Seq.{getD-set-same}
 use Rattle.paper.proofs.Logic.{by-test, lt-or-ge}
 use Rattle.targets.specs.declared.Line.{Line}
 use Rattle.targets.specs.Figures.{pad}
-use Rattle.targets.specs.Passes.{Passed, again, done, refused, passesLeave}
-use Rattle.targets.specs.Remainder.{totalOf, takerOf, targetOf, adjusted, are, closed}
-use Rattle.targets.specs.Outcome.{Given, demandIn, lineIn, linesIn, computeTargets}
-use Rattle.targets.specs.Code.{SmallTarget, Small}
-use Rattle.targets.proofs.Loops.{differ}
+use Rattle.targets.specs.Passes.{Passed, again, done, refused, linesLeft}
+use Rattle.targets.specs.Remainder.{totalOf, takerOf, targetOf, adjusted}
+use Rattle.targets.specs.Outcome.{Given, demandIn, lineIn, linesIn, passedIn, leftIn, targetsIn, computeTargets}
+use Rattle.targets.specs.Inside.{SmallTarget, Small}
 use Rattle.targets.proofs.Each.{each-upTo, each-at, sum-most}
 use Rattle.targets.proofs.Cases.{OfLines}
 use Rattle.targets.proofs.Signed.{mag-sub}
 use Rattle.targets.proofs.Sizes.{small-passes}
 use Rattle.targets.proofs.Sums.{total-is}
+use Rattle.targets.proofs.Padding.{adjusted-length}
 use Rattle.targets.proofs.Taker.{taker-here}
-use Rattle.targets.proofs.Padding.{Len, len-passes}
-use Rattle.targets.proofs.Promises.{demand-fits, people-in, other, number-is, accepted-holds}
-use Rattle.targets.proofs.Accepted.{accepted}
+use Rattle.targets.proofs.Promises.{demand-fits, other, accepted-sound, accepted-holds}
 
 -- a target of a line, whichever
 small-at : (ls : List Line) → Small ls → (k : ℕ) → getD ls k pad .target ≤ 1099511627776
@@ -52,28 +50,25 @@ adjusted-sized d ls some few D h k =
     omega (arith, ap mag q, mag-sub (a + d) (totalOf ls), total-is ls, m, small-at ls h j))
     (λ e. omega (arith, ap mag (other d k ls (eqb-false k j e)), small-at ls h k))
 
-closed-sized : (d n : ℕ) (p : Passed) (zs : List ℤ) → 0 < n → n ≤ 32 → d ≤ 100000000 → Len n p → OfLines Small p
-    → closed (adjusted d) p ≡ are zs → (k : ℕ) → mag (getD zs k (pos 0)) < 2 ^ 63
-closed-sized d n (again ls) zs some few D l h e k =
-    let q : adjusted d ls ≡ zs = cc in
-    subst (λ (x : List ℤ). mag (getD x k (pos 0)) < 2 ^ 63) q (adjusted-sized d ls (omega arith) (omega arith) D h k)
-closed-sized d n (done ls) zs some few D l h e k =
-    let q : adjusted d ls ≡ zs = cc in
-    subst (λ (x : List ℤ). mag (getD x k (pos 0)) < 2 ^ 63) q (adjusted-sized d ls (omega arith) (omega arith) D h k)
-closed-sized d n refused zs some few D l h e k = let z : _≡_ {A = ℕ} 0 1 = cc in differ z
+-- the lines that the passes leave
+left-small : (p : Passed) → OfLines Small p → Small (linesLeft p)
+left-small (again ls) h = h
+left-small (done ls) h = h
+left-small refused h = tt
 
 pub accepted-sized : (g : Given) (out : List ℤ) → computeTargets g out .number ≡ 0
     → (k : ℕ) → k < g .people → mag (getD (computeTargets g out .out) k (pos 0)) < 2 ^ 63
 accepted-sized g out e k l =
     let H = accepted-holds g out e in
-    let s = accepted g (length out) (sym (number-is g out) ∙ e) .sound in
+    let s = accepted-sound g out e in
     let d = demandIn g in
     let ls = linesIn g in
-    let small = small-passes (suc (length ls)) d (again ls) (each-upTo SmallTarget (lineIn g) (g .people) (λ j h. omega arith)) in
+    let n = adjusted-length d (leftIn g) in
+    let small = left-small (passedIn g) (small-passes (suc (length ls)) d (again ls)
+    (each-upTo SmallTarget (lineIn g) (g .people) (λ j h. omega arith))) in
     omega (
       arith,
       ap (λ (x : List ℤ). mag (getD x k (pos 0))) (H .is),
-      ap mag (List·getD-append (H .zs) (drop (g .people) out) (pos 0) k (omega (arith, H .count))),
-      closed-sized d (g .people) (passesLeave d ls) (H .zs) (s .somebody) (s .few) (demand-fits g s)
-          (len-passes (g .people) (suc (length ls)) d (again ls) (people-in g)) small (H .these) k,
+      ap mag (List·getD-append (targetsIn g) (drop (g .people) out) (pos 0) k (omega (arith, H .count))),
+      adjusted-sized d (leftIn g) (omega (arith, s .somebody, n, H .count)) (omega (arith, s .few, n, H .count)) (demand-fits g s) small k,
     )
