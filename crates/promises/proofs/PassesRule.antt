@@ -11,12 +11,11 @@ use Rattle.paper.proofs.Logic.{by-test, or-either, or-left, or-second, both}
 use Rattle.targets.specs.declared.Line.{Line}
 use Rattle.targets.specs.Figures.{zeroF, whole}
 use Rattle.targets.specs.Passes.{unrounded, settle, outside, falls, shareSum, notional, some}
-use Rattle.targets.specs.Passes.{Passed, again, done, refused, pass, passes, passesLeave}
-use Rattle.targets.specs.Remainder.{Targets, are, beyond, closed, adjusted}
-use Rattle.targets.specs.Outcome.{Given, computeTargets, demandIn, linesIn, leftIn, linesLeft}
+use Rattle.targets.specs.Passes.{Passed, again, done, refused, pass, passes, passesLeave, linesLeft, guarded}
+use Rattle.targets.specs.Outcome.{Given, computeTargets, demandIn, linesIn, leftIn}
 use Rattle.targets.proofs.Loops.{differ}
-use Rattle.targets.proofs.Eight.{done-stays, refused-stays}
-use Rattle.targets.proofs.Promises.{never-cut, accepted-holds, people-in}
+use Rattle.targets.proofs.Cases.{done-stays, refused-stays}
+use Rattle.targets.proofs.Promises.{never-cut, accepted-sound, guard-kept, people-in}
 use Rattle.promises.specs.PassesRule.{Settled, EachSettled, PinsSomebody, PassOver, Passing, PassesByRule}
 use Rattle.promises.proofs.TargetRules.{no-sum, one-pass, refused-pass, settled-is}
 
@@ -137,6 +136,4 @@ passes-by-rule g out e =
         (passing (suc (g .people)) (demandIn g) (linesIn g) ls
         (ap (λ (k : ℕ). passes (suc k) (demandIn g) (again (linesIn g))) (sym (people-in g)) ∙ w))
     go refused w =
-        let h = accepted-holds g out e in
-        let z : beyond ≡ are (h .zs) = sym (ap (closed (adjusted (demandIn g))) w) ∙ h .these in
-        let y : _≡_ {A = ℕ} 0 1 = cc in absurd (differ y)
+        absurd (mathlib.Core.Bool.true≢false (sym (guard-kept g (accepted-sound g out e)) ∙ ap guarded w))

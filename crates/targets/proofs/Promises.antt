@@ -83,7 +83,7 @@ goods-in g s =
 pub people-few : (g : Given) → Sound g → length (linesIn g) ≤ 32
 people-few g s = omega (arith, people-in g, s .few)
 
-guard-kept : (g : Given) → Sound g → guarded (passedIn g) ≡ true
+pub guard-kept : (g : Given) → Sound g → guarded (passedIn g) ≡ true
 guard-kept g s = never-refused (demandIn g) (linesIn g) (demand-fits g s) (people-few g s) (goods-in g s)
 
 -- so what is heard is what the checks say
