@@ -1,96 +1,83 @@
--- A slot put by way of a set by value: what is heard, and the words at exit, done and refused.
--- Assumes nothing.
+-- A slot put by way of a set by value is a stretch of one: what is heard, and the words at exit, done and refused. Assumes nothing.
 use mathlib.Core.Path.{_≡_, refl, sym, ap, _∙_}
-use mathlib.Core.Bool.{Bool, cond}
-use mathlib.Core.List.{List}
-use Prim.Native.Nat.{ℕ}
-use borrow.Author.Tests.{eq-eqb, ne-eqb}
+use mathlib.Core.List.{List, [], _∷_, _++_}
+use Prim.Native.Nat.{ℕ, _+_, _-_, _*_, _<_}
+use lib.ListN.{take, drop}
+use Rattle.paper.specs.Limits.{Test, heardOf}
+use Rattle.paper.proofs.Logic.{by-test}
+use Rattle.paper.proofs.Refusals.{heard-pass, heard-fail}
+use Rattle.paper.proofs.Rows.{worked, kept}
+use Rattle.slotset.specs.declared.SlotSet.{SlotSet}
 use Rattle.slotset.specs.declared.Changed.{Changed}
-use Rattle.slotset.specs.Answers.{rowNo, loadOf, putOf, storeOf, wordsAs, changedAs}
-use Rattle.boltraven_c.specs.Sets.{putLoaded, rowPutNo, rowPutOf}
+use Rattle.slotset.specs.Slots.{putSlot, putSlots}
+use Rattle.slotset.specs.Answers.{slotRow, personRow, personStretchRow, changedAs, loadOf, putOf, storeOf, rowStretchOf}
+use Rattle.slotset.proofs.OneSlot.{load-is, one-heard, one-stored}
 
--- written where the number is 0
-written : (n : ℕ) (old new : List ℕ) → n ≡ 0 → new ≡ wordsAs n old new
-unfolding wordsAs
-written n old new zero = sym (ap (λ (t : Bool). cond t new old) (eq-eqb n 0 zero))
+-- what is heard of the first tests of a row is heard of it all
+front-heard : (ts us : List Test) → (heardOf ts ≡ 0 → ⊥) → heardOf ts ≡ heardOf (ts ++ us)
+unfolding heardOf
+front-heard [] us h = absurd (h refl)
+front-heard (t ∷ ts) us h =
+    by-test (t .passes) _
+    (λ e. heard-pass t ts e ∙ front-heard ts us (λ z. h (heard-pass t ts e ∙ z)) ∙ sym (heard-pass t (ts ++ us) e))
+    (λ e. heard-fail t ts e ∙ sym (heard-fail t (ts ++ us) e))
 
--- as they were where it is not
-kept : (n : ℕ) (old new : List ℕ) → (n ≡ 0 → ⊥) → old ≡ wordsAs n old new
-unfolding wordsAs
-kept n old new some = sym (ap (λ (t : Bool). cond t new old) (ne-eqb n 0 some))
+module _ (v : ℕ) (ws : List ℕ) (people person len i : ℕ) (small : v < 2)
+    (loaded : Changed) (is-loaded : loaded ≡ loadOf ws people person len)
+  where
+    abbrev row : SlotSet
+    row = record { words = take 16 (drop (16 * person) ws); len = len }
 
-module _ (v : ℕ) (ws : List ℕ) (people person len i : ℕ) where
-  -- the loaded set has the row's number
-  row-number : loadOf ws people person len .number ≡ rowNo ws people person len
-  unfolding loadOf
-  row-number = refl
+    load-number : loadOf ws people person len .number ≡ heardOf (personRow ws people person len)
+    unfolding loadOf changedAs
+    load-number = refl
 
-  -- and its length, where it is not refused; a put keeps that
-  length-kept : rowNo ws people person len ≡ 0 → putLoaded v ws people person len i .set .len ≡ len
-  unfolding loadOf putOf changedAs
-  length-kept fine = ap (λ (t : Bool). cond t len 0) (eq-eqb (rowNo ws people person len) 0 fine)
+    row-is : loaded .number ≡ heardOf (personRow ws people person len)
+    row-is = ap (λ (l : Changed). l .number) is-loaded ∙ load-number
 
-  -- a sound row's number is the put's; a refused row's is its own
-  of-put : rowNo ws people person len ≡ 0 → putLoaded v ws people person len i .number ≡ rowPutNo v ws people person len i
-  unfolding rowPutNo
-  of-put fine =
-      sym (ap (λ (t : Bool). cond t (putLoaded v ws people person len i .number) (rowNo ws people person len))
-      (eq-eqb (rowNo ws people person len) 0 fine))
+    module _ (changed : Changed) (is-changed : changed ≡ putOf v (loaded .set) i) (fine : loaded .number ≡ 0) where
+      sound : heardOf (personRow ws people person len) ≡ 0
+      sound = sym row-is ∙ fine
 
-  of-row : (rowNo ws people person len ≡ 0 → ⊥) → rowNo ws people person len ≡ rowPutNo v ws people person len i
-  unfolding rowPutNo
-  of-row bad =
-      sym (ap (λ (t : Bool). cond t (putLoaded v ws people person len i .number) (rowNo ws people person len))
-      (ne-eqb (rowNo ws people person len) 0 bad))
-
-  module _
-      (loaded changed : Changed)
-      (is-loaded : loaded ≡ loadOf ws people person len)
-      (is-changed : changed ≡ putOf v (loaded .set) i)
-    where
-      row-is : loaded .number ≡ rowNo ws people person len
-      row-is = ap (λ (l : Changed). l .number) is-loaded ∙ row-number
-
-      put-is : changed ≡ putLoaded v ws people person len i
+      put-is : changed ≡ putOf v (loadOf ws people person len .set) i
       put-is = is-changed ∙ ap (λ (l : Changed). putOf v (l .set) i) is-loaded
 
-      number-is : changed .number ≡ putLoaded v ws people person len i .number
-      number-is = ap (λ (l : Changed). l .number) put-is
+      by-row : changed ≡ putOf v row i
+      by-row = put-is ∙ ap (λ (s : SlotSet). putOf v s i) (load-is ws people person len sound)
+
+      slot-number : changed .number ≡ heardOf (slotRow len i)
+      unfolding putOf changedAs
+      slot-number = ap (λ (l : Changed). l .number) by-row
 
       -- done: the set is stored
-      pub done : (r : ℕ) (words : List ℕ) → loaded .number ≡ 0 → changed .number ≡ 0
-          → (r ≡ rowNo ws people person (changed .set .len)) × (words ≡ storeOf (changed .set) ws people person)
-          → (r ≡ rowPutNo v ws people person len i) × (words ≡ rowPutOf v ws people person len i)
-      unfolding rowPutOf
-      done r words fine fine2 stored =
-          let sound : rowNo ws people person len ≡ 0 = sym row-is ∙ fine in
-          let zero : rowPutNo v ws people person len i ≡ 0 = sym (of-put sound) ∙ sym number-is ∙ fine2 in
-          let same-len : changed .set .len ≡ len = ap (λ (l : Changed). l .set .len) put-is ∙ length-kept sound in (
-            stored .0 ∙ ap (rowNo ws people person) same-len ∙ sound ∙ sym zero,
-            stored .1 ∙ ap (λ (l : Changed). storeOf (l .set) ws people person) put-is
-                ∙ written (rowPutNo v ws people person len i) ws (storeOf (putLoaded v ws people person len i .set) ws people person) zero,
+      pub done : (r : ℕ) (words : List ℕ) → changed .number ≡ 0
+          → (r ≡ heardOf (personRow ws people person (changed .set .len))) × (words ≡ storeOf (changed .set) ws people person)
+          → (r ≡ heardOf (personStretchRow ws people person len i (i + 1))) × (words ≡ rowStretchOf v ws people person len i (i + 1))
+      unfolding putOf changedAs
+      done r words fine2 stored =
+          let y : heardOf (slotRow len i) ≡ 0 = sym slot-number ∙ fine2 in
+          let zero = sym (one-heard ws people person len i sound) ∙ y in
+          let new : SlotSet = record { words = putSlot 0 i v (row .words); len = len } in
+          let same-len : changed .set .len ≡ len =
+          ap (λ (l : Changed). l .set .len) by-row ∙ ap (λ (s : SlotSet). s .len) (worked (heardOf (slotRow len i)) row new y) in (
+            stored .0 ∙ ap (λ (n : ℕ). heardOf (personRow ws people person n)) same-len ∙ sound ∙ sym zero,
+            stored .1 ∙ ap (λ (l : Changed). storeOf (l .set) ws people person) put-is ∙ one-stored v ws people person len i small sound y,
           )
 
       -- the slot is refused: its number, and the words as they were
-      pub slot-refused : loaded .number ≡ 0 → (changed .number ≡ 0 → ⊥)
-          → (changed .number ≡ rowPutNo v ws people person len i) × (ws ≡ rowPutOf v ws people person len i)
-      unfolding rowPutOf
-      slot-refused fine bad =
-          let sound : rowNo ws people person len ≡ 0 = sym row-is ∙ fine in
-          let same : changed .number ≡ rowPutNo v ws people person len i = number-is ∙ of-put sound in (
-            same,
-            kept (rowPutNo v ws people person len i) ws (storeOf (putLoaded v ws people person len i .set) ws people person)
-                (λ zero. bad (same ∙ zero)),
-          )
+      pub slot-refused : (changed .number ≡ 0 → ⊥)
+          → (changed .number ≡ heardOf (personStretchRow ws people person len i (i + 1)))
+          × (ws ≡ rowStretchOf v ws people person len i (i + 1))
+      unfolding rowStretchOf
+      slot-refused bad =
+          let same = slot-number ∙ one-heard ws people person len i sound in
+          (same, sym (kept _ ws (putSlots (λ _. v) (16 * person) i (i + 1 - i) ws) (λ z. bad (same ∙ z))))
 
-  -- the row is refused: its number, and the words as they were
-  pub row-refused : (loaded : Changed) → loaded ≡ loadOf ws people person len → (loaded .number ≡ 0 → ⊥)
-      → (loaded .number ≡ rowPutNo v ws people person len i) × (ws ≡ rowPutOf v ws people person len i)
-  unfolding rowPutOf
-  row-refused loaded is-loaded bad =
-      let number : loaded .number ≡ rowNo ws people person len = ap (λ (l : Changed). l .number) is-loaded ∙ row-number in
-      let same : loaded .number ≡ rowPutNo v ws people person len i = number ∙ of-row (λ zero. bad (number ∙ zero)) in (
-        same,
-        kept (rowPutNo v ws people person len i) ws (storeOf (putLoaded v ws people person len i .set) ws people person)
-            (λ zero. bad (same ∙ zero)),
-      )
+    -- the row is refused: its number, and the words as they were
+    pub row-refused : (loaded .number ≡ 0 → ⊥)
+        → (loaded .number ≡ heardOf (personStretchRow ws people person len i (i + 1)))
+        × (ws ≡ rowStretchOf v ws people person len i (i + 1))
+    unfolding rowStretchOf personStretchRow
+    row-refused bad =
+        let same = row-is ∙ front-heard (personRow ws people person len) _ (λ z. bad (row-is ∙ z)) in
+        (same, sym (kept _ ws (putSlots (λ _. v) (16 * person) i (i + 1 - i) ws) (λ z. bad (same ∙ z))))

@@ -1,5 +1,4 @@
--- What the contracts of boltraven_c cite: answers as numbers, and the changes of a row that go through a set by value.
+-- What the contracts of boltraven_c cite: answers as numbers.
 pub mod Numbers
-pub mod Sets
 pub mod Units
 pub mod Jobs

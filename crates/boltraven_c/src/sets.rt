@@ -13,14 +13,15 @@ use slotset::Run;
 use slotset::SlotSet;
 use slotset::row;
 ghost use mathlib.Core.Path.{_≡_};
+ghost use Prim.Native.Nat.{_+_};
+ghost use Rattle.paper.specs.Limits.{heardOf};
 ghost use Rattle.slotset.specs.Slots.{has, size, noMember, valueOf};
 ghost use Rattle.slotset.specs.Search.{nextSet, prevSet, nextUnsetAfter, prevUnsetBefore};
-ghost use Rattle.slotset.specs.Answers.{rowNo, rowStretchNo, rowSlots, foundAs, toldAs, numberAs, rowRun, rowNextRun, rowNextMember};
-ghost use Rattle.slotset.specs.Answers.{putOf, rowStretchOf};
+ghost use Rattle.slotset.specs.Answers.{personRow, personStretchRow, rowSlots, foundAs, toldAs, numberAs};
+ghost use Rattle.slotset.specs.Answers.{rowRun, rowNextRun, rowNextMember, putOf, rowStretchOf};
 ghost use Rattle.boltraven_c.specs.Numbers.{foundNumber, toldNumber, plainNumber, runNumber, runFirst, runLast};
 ghost use Rattle.boltraven_c.specs.Numbers.{nextRunNumber, nextRunFirst, nextRunLast, nextRunCursor};
 ghost use Rattle.boltraven_c.specs.Numbers.{memberNumber, memberAt, memberCursor};
-ghost use Rattle.boltraven_c.specs.Sets.{rowPutNo, rowPutOf};
 
 // Whether slot i is a member: 1 or 0.
 #[no_mangle]
@@ -31,7 +32,7 @@ pub extern "C" fn boltraven_contains(
     len: usize,
     i: usize,
 ) -> u64
-    ensures { λ r. ⌜ r ≡ toldNumber (toldAs (rowNo (now (words .entry)) people person len)
+    ensures { λ r. ⌜ r ≡ toldNumber (toldAs (heardOf (personRow (now (words .entry)) people person len))
         (has (rowSlots (now (words .entry)) person) len i)) ⌝ }
 {
     told_number(row::contains(words, people, person, len, i))
@@ -40,7 +41,7 @@ pub extern "C" fn boltraven_contains(
 // Whether the row has no member: 1 or 0.
 #[no_mangle]
 pub extern "C" fn boltraven_is_empty(words: &[u64], people: usize, person: usize, len: usize) -> u64
-    ensures { λ r. ⌜ r ≡ toldNumber (toldAs (rowNo (now (words .entry)) people person len)
+    ensures { λ r. ⌜ r ≡ toldNumber (toldAs (heardOf (personRow (now (words .entry)) people person len))
         (noMember (rowSlots (now (words .entry)) person) len)) ⌝ }
 {
     told_number(row::is_empty(words, people, person, len))
@@ -49,7 +50,7 @@ pub extern "C" fn boltraven_is_empty(words: &[u64], people: usize, person: usize
 // How many members the row has.
 #[no_mangle]
 pub extern "C" fn boltraven_count(words: &[u64], people: usize, person: usize, len: usize) -> u64
-    ensures { λ r. ⌜ r ≡ plainNumber (numberAs (rowNo (now (words .entry)) people person len)
+    ensures { λ r. ⌜ r ≡ plainNumber (numberAs (heardOf (personRow (now (words .entry)) people person len))
         (size (rowSlots (now (words .entry)) person) len)) ⌝ }
 {
     plain_number(row::count(words, people, person, len))
@@ -64,7 +65,7 @@ pub extern "C" fn boltraven_next_set(
     len: usize,
     from: usize,
 ) -> u64
-    ensures { λ r. ⌜ r ≡ foundNumber (foundAs (rowNo (now (words .entry)) people person len)
+    ensures { λ r. ⌜ r ≡ foundNumber (foundAs (heardOf (personRow (now (words .entry)) people person len))
         (nextSet (rowSlots (now (words .entry)) person) len from)) ⌝ }
 {
     found_number(row::next_set(words, people, person, len, from))
@@ -79,7 +80,7 @@ pub extern "C" fn boltraven_prev_set(
     len: usize,
     from: usize,
 ) -> u64
-    ensures { λ r. ⌜ r ≡ foundNumber (foundAs (rowNo (now (words .entry)) people person len)
+    ensures { λ r. ⌜ r ≡ foundNumber (foundAs (heardOf (personRow (now (words .entry)) people person len))
         (prevSet (rowSlots (now (words .entry)) person) len from)) ⌝ }
 {
     found_number(row::prev_set(words, people, person, len, from))
@@ -94,7 +95,7 @@ pub extern "C" fn boltraven_next_unset_after(
     len: usize,
     from: usize,
 ) -> u64
-    ensures { λ r. ⌜ r ≡ foundNumber (foundAs (rowNo (now (words .entry)) people person len)
+    ensures { λ r. ⌜ r ≡ foundNumber (foundAs (heardOf (personRow (now (words .entry)) people person len))
         (nextUnsetAfter (rowSlots (now (words .entry)) person) len from)) ⌝ }
 {
     found_number(row::next_unset_after(words, people, person, len, from))
@@ -109,7 +110,7 @@ pub extern "C" fn boltraven_prev_unset_before(
     len: usize,
     from: usize,
 ) -> u64
-    ensures { λ r. ⌜ r ≡ foundNumber (foundAs (rowNo (now (words .entry)) people person len)
+    ensures { λ r. ⌜ r ≡ foundNumber (foundAs (heardOf (personRow (now (words .entry)) people person len))
         (prevUnsetBefore (rowSlots (now (words .entry)) person) len from)) ⌝ }
 {
     found_number(row::prev_unset_before(words, people, person, len, from))
@@ -232,8 +233,8 @@ fn put_by_value(
     i: usize,
     want: bool,
 ) -> u8
-    ensures { λ r. ⌜ r ≡ rowPutNo (valueOf want) (now (words .entry)) people person len i ⌝ }
-    ensures { λ _. ⌜ now (words .exit) ≡ rowPutOf (valueOf want) (now (words .entry)) people person len i ⌝ }
+    ensures { λ r. ⌜ r ≡ heardOf (personStretchRow (now (words .entry)) people person len i (i + 1)) ⌝ }
+    ensures { λ _. ⌜ now (words .exit) ≡ rowStretchOf (valueOf want) (now (words .entry)) people person len i (i + 1) ⌝ }
 {
     let loaded = row::load(words, people, person, len);
     let number = loaded.number;
@@ -259,8 +260,8 @@ pub extern "C" fn boltraven_insert(
     len: usize,
     i: usize,
 ) -> u8
-    ensures { λ r. ⌜ r ≡ rowPutNo 1 (now (words .entry)) people person len i ⌝ }
-    ensures { λ _. ⌜ now (words .exit) ≡ rowPutOf 1 (now (words .entry)) people person len i ⌝ }
+    ensures { λ r. ⌜ r ≡ heardOf (personStretchRow (now (words .entry)) people person len i (i + 1)) ⌝ }
+    ensures { λ _. ⌜ now (words .exit) ≡ rowStretchOf 1 (now (words .entry)) people person len i (i + 1) ⌝ }
 {
     put_by_value(words, people, person, len, i, true)
 }
@@ -274,8 +275,8 @@ pub extern "C" fn boltraven_remove(
     len: usize,
     i: usize,
 ) -> u8
-    ensures { λ r. ⌜ r ≡ rowPutNo 0 (now (words .entry)) people person len i ⌝ }
-    ensures { λ _. ⌜ now (words .exit) ≡ rowPutOf 0 (now (words .entry)) people person len i ⌝ }
+    ensures { λ r. ⌜ r ≡ heardOf (personStretchRow (now (words .entry)) people person len i (i + 1)) ⌝ }
+    ensures { λ _. ⌜ now (words .exit) ≡ rowStretchOf 0 (now (words .entry)) people person len i (i + 1) ⌝ }
 {
     put_by_value(words, people, person, len, i, false)
 }
@@ -291,7 +292,7 @@ pub extern "C" fn boltraven_put_stretch(
     to: usize,
     want: bool,
 ) -> u8
-    ensures { λ r. ⌜ r ≡ rowStretchNo (now (words .entry)) people person len from to ⌝ }
+    ensures { λ r. ⌜ r ≡ heardOf (personStretchRow (now (words .entry)) people person len from to) ⌝ }
     ensures { λ _. ⌜ now (words .exit) ≡ rowStretchOf (valueOf want) (now (words .entry)) people person len from to ⌝ }
 {
     row::put_stretch(words, people, person, len, from, to, want)

@@ -1,6 +1,7 @@
 -- `boltraven_c::sets::put_by_value` meets its contract. Assumes nothing.
 use borrow.Author.Needs.{needs}
 use Rattle.slotset.specs.Slots.{valueOf}
+use Rattle.slotset.proofs.Puts.{value-lt}
 use Rattle.boltraven_c.proofs.Puts.{done, slot-refused, row-refused}
 use Rattle.boltraven_c.proofs.sets.put_by_value.Statement.{statement}
 use Rattle.boltraven_c.proofs.sets.put_by_value.Tie as tie
@@ -24,9 +25,9 @@ returns c =
     let at-if1 = at-change .before .before in
     let at-load = at-if1 .before in
     let at = at-load .before .before .before .args in
-    done (valueOf (at .want)) (at .words .now) (at .people) (at .person) (at .len) (at .i)
-    (at-load .load .result) (at-change .changed-set .result) (at-load .load .ensures) (at-change .changed-set .ensures) _ _
-    (at-if1 .if1 .taken) (at-if2 .if2 .taken) (c .before .before .store .ensures)
+    done (valueOf (at .want)) (at .words .now) (at .people) (at .person) (at .len) (at .i) (value-lt (at .want))
+    (at-load .load .result) (at-load .load .ensures) (at-change .changed-set .result) (at-change .changed-set .ensures)
+    (at-if1 .if1 .taken) _ _ (at-if2 .if2 .taken) (c .before .before .store .ensures)
 
 same-length-2 : tie.Need-same-length-2
 same-length-2 c = search needs
@@ -37,8 +38,8 @@ returns-2 c =
     let at-if1 = at-change .before .before in
     let at-load = at-if1 .before in
     let at = at-load .before .before .before .args in
-    slot-refused (valueOf (at .want)) (at .words .now) (at .people) (at .person) (at .len) (at .i)
-    (at-load .load .result) (at-change .changed-set .result) (at-load .load .ensures) (at-change .changed-set .ensures)
+    slot-refused (valueOf (at .want)) (at .words .now) (at .people) (at .person) (at .len) (at .i) (value-lt (at .want))
+    (at-load .load .result) (at-load .load .ensures) (at-change .changed-set .result) (at-change .changed-set .ensures)
     (at-if1 .if1 .taken) (c .if2 .left)
 
 same-length-3 : tie.Need-same-length-3
@@ -48,7 +49,7 @@ returns-3 : tie.Need-returns-3
 returns-3 c =
     let at-load = c .before in
     let at = at-load .before .before .before .args in
-    row-refused (valueOf (at .want)) (at .words .now) (at .people) (at .person) (at .len) (at .i)
+    row-refused (valueOf (at .want)) (at .words .now) (at .people) (at .person) (at .len) (at .i) (value-lt (at .want))
     (at-load .load .result) (at-load .load .ensures) (c .if1 .left)
 
 pub put-by-value-spec : {M : Type 1} → statement M
