@@ -23,7 +23,7 @@ use Rattle.units.proofs.Units.{unit-within}
 use Rattle.targets.specs.Figures.{allFiguresOk}
 use Rattle.targets.specs.Outcome as targets
 use Rattle.slots.specs.declared.Minutes.{Minutes}
-use Rattle.rota.specs.Recount.{availableAt}
+use Rattle.owners.specs.Recount.{availableAt}
 use Rattle.job.specs.File.{jobCounts, jobStarts, fileOk}
 use Rattle.job.specs.Columns.{column, floatColumn}
 use Rattle.job.specs.Listing.{listed, listingOf, listingMost}

@@ -16,9 +16,10 @@ use Rattle.paper.proofs.Count.{sum-le, sum-part, sum-same}
 use Rattle.slots.specs.Lent.{SlotsSound, minutesAt, demandOf}
 use Rattle.targets.specs.Remainder.{AllPlain, AllSmall}
 use Rattle.targets.proofs.Sums.{plain-sum}
-use Rattle.rota.specs.Derived.{Plan, plan, PlanSound, Derived, lengthAt, knownBy, portion, worked, uncovered}
-use Rattle.rota.specs.Entries as rota
-use Rattle.rota.proofs.Minutes.{known-below, portion-own, portion-other, total-to}
+use Rattle.owners.specs.Derived.{Plan, plan, Derived, lengthAt, knownBy, portion, worked, uncovered}
+use Rattle.owners.specs.Inside.{PlanSound}
+use Rattle.owners.specs.Entries as state
+use Rattle.owners.proofs.Minutes.{known-below, portion-own, portion-other, total-to}
 use Rattle.job.specs.Listing.{digits, signed, ownerText, answerLetter, headText, slotLine, personLine, drawLine, uncoveredLine, lines}
 use Rattle.job.specs.Listing.{slotAt, personAt, drawAt, Listed, listed, listingOf, listingMost}
 use Rattle.job.specs.declared.Played.{Played}
@@ -450,7 +451,7 @@ play-sound R d o D e T u q =
     }
 
 pub play-fits : (R : Ready) (d : Draws) (o : List ℕ) (D : Derived) (p : Played) (u : ℕ) → PlayedAs (playOf R d o D) p → p .no ≡ 0
-    → u ≡ minutesValue (rota.uncoveredIs (planOf R) (p .owners))
+    → u ≡ minutesValue (state.uncoveredIs (planOf R) (p .owners))
     → TargetsSound (R .people) (demandOf (R .slots) (R .starts) (R .ends)) (R .targets)
     → length (listingOf (listed (R .slots) (R .starts) (R .ends) (p .owners) (R .people) (p .minutes) (R .targets) (d .count) (p .answers)
     u)) ≤ listingMost

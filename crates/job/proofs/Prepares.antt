@@ -11,7 +11,7 @@ use lib.ListN.{set, replicate}
 use Rattle.paper.specs.Limits.{peopleOk, slotCountOk, orElse, nobody}
 use Rattle.paper.proofs.Logic.{by-test, four, passes, stops}
 use Rattle.slots.specs.Freeze.{freezeOf}
-use Rattle.rota.specs.Derived.{knownBy}
+use Rattle.owners.specs.Derived.{knownBy}
 use Rattle.job.specs.File.{ownerSlot}
 use Rattle.job.specs.Stages.{jobCountsOk, frozenIn, lowerNo, ownerValue, placed, recordKnown, byteOf}
 

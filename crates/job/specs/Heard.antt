@@ -12,9 +12,9 @@ use Rattle.slots.specs.Ranges.{rangesOk}
 use Rattle.slots.specs.Atomic as atomic
 use Rattle.units.specs.Settings.{settingsOk}
 use Rattle.targets.specs.Figures.{allFiguresOk}
-use Rattle.rota.specs.Derived.{uncovered}
-use Rattle.rota.specs.Recount.{availableAt}
-use Rattle.rota.specs.Entries as rota
+use Rattle.owners.specs.Derived.{uncovered}
+use Rattle.owners.specs.Recount.{availableAt}
+use Rattle.owners.specs.Entries as state
 use Rattle.job.specs.Fields.{le}
 use Rattle.job.specs.File.{jobCounts, jobStarts, fileOk}
 use Rattle.job.specs.Listing.{Listed, listed, listingMost}
@@ -69,10 +69,10 @@ unfoldable pub ownersOf : List ℕ → List ℕ
 ownersOf s = narrowed (writtenOf s)
 
 -- the rota before the draws, and after them
-unfoldable pub startedOf : List ℕ → rota.Outcome
+unfoldable pub startedOf : List ℕ → state.Outcome
 startedOf s = startOf (readyOf s) (ownersOf s)
 
-unfoldable pub playedOf : List ℕ → rota.Outcome
+unfoldable pub playedOf : List ℕ → state.Outcome
 playedOf s = playOf (readyOf s) (drawsOf s) (ownersOf s) (startedOf s .derived)
 
 -- what is listed: P minutes and U are those of the owners after the draws

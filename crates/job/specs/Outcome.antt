@@ -15,7 +15,8 @@ use Rattle.units.specs.Starts.{unitStartsIs}
 use Rattle.targets.specs.Outcome as targets
 use Rattle.slots.specs.declared.Minutes.{Minutes}
 use Rattle.slots.specs.declared.Minutes.the-variants as minutes
-use Rattle.rota.specs.Derived.{Plan, plan, Derived, derived}
+use Rattle.owners.specs.Derived.{Plan, plan, Derived, derived}
+use Rattle.owners.specs.Entries as state
 use Rattle.rota.specs.Entries as rota
 use Rattle.job.specs.declared.JobAnswer.{JobAnswer}
 use Rattle.job.specs.declared.JobAnswer.the-variants as answer
@@ -51,11 +52,11 @@ pub record Ends (y : Result) (r : JobAnswer) (out : List ℕ) : Type 0 where
   pub left : out ≡ y .out
 
 -- sets and minutes, and the play, as the rota gives them
-pub record StartedAs (y : rota.Outcome) (r : Started) : Type 0 where
+pub record StartedAs (y : state.Outcome) (r : Started) : Type 0 where
   pub no : r .no ≡ y .number
   pub derived : derived (r .sets) (r .minutes) ≡ y .derived
 
-pub record PlayedAs (y : rota.Outcome) (r : Played) : Type 0 where
+pub record PlayedAs (y : state.Outcome) (r : Played) : Type 0 where
   pub no : r .no ≡ y .number
   pub owners : r .owners ≡ y .owners
   pub minutes : r .minutes ≡ y .derived .minutes
@@ -104,10 +105,10 @@ abbrev pub planOf : Ready → Plan
 planOf R = plan (R .people) (R .slots) (R .starts) (R .ends)
 
 -- sets and minutes from the owners (12), and the play of the draws
-unfoldable pub startOf : Ready → List ℕ → rota.Outcome
-startOf R o = rota.fromSlots (planOf R) (R .avail) o (derived (replicate 512 0) (replicate 32 0))
+unfoldable pub startOf : Ready → List ℕ → state.Outcome
+startOf R o = state.fromSlots (planOf R) (R .avail) o (derived (replicate 512 0) (replicate 32 0))
 
-unfoldable pub playOf : Ready → Draws → List ℕ → Derived → rota.Outcome
+unfoldable pub playOf : Ready → Draws → List ℕ → Derived → state.Outcome
 playOf R d o D =
     rota.played (planOf R) (R .avail) (R .units) (R .firsts) (R .frozen) (d .count) (d .kinds) (d .ones) (d .twos) o D (replicate 1024 0)
 
@@ -117,12 +118,12 @@ minutesValue (minutes.Are m) = m
 minutesValue (minutes.Refused k) = 0
 
 -- the listing after the play
-unfoldable pub textOf : Ready → Draws → rota.Outcome → List ℕ
+unfoldable pub textOf : Ready → Draws → state.Outcome → List ℕ
 textOf R d y =
     listingOf (listed (R .slots) (R .starts) (R .ends) (y .owners) (R .people) (y .derived .minutes) (R .targets) (d .count) (y .answers)
-    (minutesValue (rota.uncoveredIs (planOf R) (y .owners))))
+    (minutesValue (state.uncoveredIs (planOf R) (y .owners))))
 
-unfoldable pub playResult : Ready → Draws → rota.Outcome → List ℕ → Result
+unfoldable pub playResult : Ready → Draws → state.Outcome → List ℕ → Result
 playResult R d y x = orRefused (y .number) x (listedAs (textOf R d y) x)
 
 unfoldable pub rotaResult : Ready → Draws → List ℕ → List ℕ → Result

@@ -18,8 +18,8 @@ use Rattle.units.specs.declared.Settings.{Settings}
 use Rattle.units.specs.Answers.{Written}
 use Rattle.targets.specs.Remainder.{sumℤ, AllPlain, AllSmall}
 use Rattle.targets.specs.Outcome as targets
-use Rattle.rota.specs.Derived.{knownBy}
-use Rattle.rota.specs.Recount.{evenAt}
+use Rattle.owners.specs.Derived.{knownBy}
+use Rattle.owners.specs.Recount.{evenAt}
 use Rattle.job.specs.declared.Atoms.{Atoms}
 use Rattle.job.specs.declared.Made.{Made}
 use Rattle.job.specs.declared.Shares.{Shares}

@@ -8,8 +8,9 @@ ghost use mathlib.Core.Path.{_≡_};
 ghost use Prim.Native.Nat.{_≤_};
 ghost use lib.ListN.{length, replicate};
 ghost use Rattle.slots.specs.Lent.{demandOf};
-ghost use Rattle.rota.specs.Derived.{plan, derived};
-ghost use Rattle.rota.specs.Entries.{fromSlots, played, uncoveredIs};
+ghost use Rattle.owners.specs.Derived.{plan, derived};
+ghost use Rattle.owners.specs.Entries.{fromSlots, uncoveredIs};
+ghost use Rattle.rota.specs.Entries.{played};
 ghost use Rattle.job.specs.Listing.{listingMost};
 ghost use Rattle.job.specs.Stages.{TargetsSound};
 ghost use Rattle.job.specs.Outcome.{Ends, StartedAs, PlayedAs, minutesValue, ready, draws, rotaResult};
@@ -18,7 +19,7 @@ ghost use Rattle.job.specs.Outcome.{Ends, StartedAs, PlayedAs, minutesVa
 fn uncovered_of(people: usize, slots: usize, starts: &[u32], ends: &[u32], owners: &[u8]) -> u64
     ensures { λ r. ⌜ r ≡ minutesValue (uncoveredIs (plan people slots (now (starts .entry)) (now (ends .entry))) (now (owners .entry))) ⌝ }
 {
-    let heard = rota::assignment::uncovered_minutes(people, slots, starts, ends, owners);
+    let heard = owners::uncovered_minutes(people, slots, starts, ends, owners);
     match heard {
         Minutes::Are(m) => m,
         Minutes::Refused(_) => 0,
@@ -39,7 +40,7 @@ fn start_rota(
 {
     let mut sets = [0u64; 512];
     let mut minutes = [0u64; 32];
-    let no = rota::assignment::from_slots(
+    let no = owners::from_slots(
         people,
         slots,
         starts,

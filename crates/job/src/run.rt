@@ -4,7 +4,7 @@ use crate::columns::column_f64;
 use crate::columns::column16;
 use crate::columns::column32;
 use crate::file::read_file;
-use crate::owners::owners_of;
+use crate::owning::owners_of;
 use crate::play::play_stage;
 use crate::prepare::atoms_of;
 use crate::prepare::avail_of;

@@ -3,7 +3,7 @@
 use borrow.Author.Needs.{needs}
 use mathlib.Core.Path.{sym}
 use native.Mathlib.Omega.{arith}
-use Rattle.rota.specs.Derived.{derived}
+use Rattle.owners.specs.Derived.{derived}
 use Rattle.job.specs.Outcome.{ready, draws, startOf, playOf}
 use Rattle.job.proofs.Longest.{play-fits}
 use Rattle.job.proofs.Results.{start-refused, play-refused, play-listed}
