@@ -1,7 +1,7 @@
 // A play over a lent list of draws, three numbers each, held together as structs.
 use draws::Draw;
-ghost use Rattle.rota.specs.Derived.{plan, derived};
-ghost use Rattle.rota.specs.Entries.{Ended};
+ghost use Rattle.owners.specs.Derived.{plan, derived};
+ghost use Rattle.owners.specs.Entries.{Ended};
 ghost use Rattle.draws.specs.Played.{playedDraws};
 
 // A play of draws: an answer byte each.

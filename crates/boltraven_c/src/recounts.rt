@@ -1,7 +1,11 @@
 // The recount: whether owners, sets and minutes fit together, with units and without.
 ghost use mathlib.Core.Path.{_≡_};
-ghost use Rattle.rota.specs.Derived.{plan, derived};
-ghost use Rattle.rota.specs.Entries.{recountNo, recountSlotsNo};
+ghost use mathlib.Core.Bool.{true};
+ghost use lib.Dec.{leb};
+ghost use lib.ListN.{length};
+ghost use Rattle.paper.specs.Limits.{heardOf};
+ghost use Rattle.owners.specs.Derived.{plan, derived};
+ghost use Rattle.owners.specs.Entries.{recountRow, recountSlotsRow};
 
 // 0 where the rota passes the recount, as a play asks it.
 #[no_mangle]
@@ -17,10 +21,11 @@ pub extern "C" fn boltraven_recount(
     sets: &[u64],
     minutes: &[u64],
 ) -> u8
-    ensures { λ r. ⌜ r ≡ recountNo (plan people slots (now (starts .entry)) (now (ends .entry))) (now (avail .entry)) units
-        (now (firsts .entry)) (now (owners .entry)) (derived (now (sets .entry)) (now (minutes .entry))) ⌝ }
+    ensures { λ r. ⌜ r ≡ heardOf (recountRow true (leb units (length (now (firsts .entry)))) (plan people slots (now (starts .entry))
+        (now (ends .entry))) (now (avail .entry)) units (now (firsts .entry)) (now (owners .entry)) (derived (now (sets .entry))
+        (now (minutes .entry)))) ⌝ }
 {
-    rota::recount::recount(
+    owners::recount(
         people,
         slots,
         units,
@@ -46,8 +51,8 @@ pub extern "C" fn boltraven_recount_slots(
     sets: &[u64],
     minutes: &[u64],
 ) -> u8
-    ensures { λ r. ⌜ r ≡ recountSlotsNo (plan people slots (now (starts .entry)) (now (ends .entry))) (now (avail .entry))
-        (now (owners .entry)) (derived (now (sets .entry)) (now (minutes .entry))) ⌝ }
+    ensures { λ r. ⌜ r ≡ heardOf (recountSlotsRow (plan people slots (now (starts .entry)) (now (ends .entry))) (now (avail .entry))
+        (now (owners .entry)) (derived (now (sets .entry)) (now (minutes .entry)))) ⌝ }
 {
-    rota::recount::recount_slots(people, slots, starts, ends, avail, owners, sets, minutes)
+    owners::recount_slots(people, slots, starts, ends, avail, owners, sets, minutes)
 }

@@ -3,9 +3,10 @@ use crate::answers::plain_number;
 use crate::answers::put_minutes;
 ghost use mathlib.Core.Path.{_≡_};
 ghost use mathlib.Core.List.{[]};
-ghost use Rattle.rota.specs.Derived.{plan, derived};
+ghost use Rattle.owners.specs.Derived.{plan, derived};
 ghost use Rattle.slots.specs.Lent.{minutesNo};
-ghost use Rattle.rota.specs.Entries.{Ended, fromSlots, emptied, assigned, played, ownerIs, minutesIs, unassignedIs, uncoveredIs};
+ghost use Rattle.owners.specs.Entries.{Ended, fromSlots, emptied, ownerIs, minutesIs, unassignedIs, uncoveredIs};
+ghost use Rattle.rota.specs.Entries.{assigned, played};
 ghost use Rattle.boltraven_c.specs.Numbers.{plainNumber, minutesAre};
 
 // Sets and minutes from owners.
@@ -25,7 +26,7 @@ pub extern "C" fn boltraven_from_slots(
         (derived (now (sets .entry)) (now (minutes .entry))))
         r (now (owners .entry)) (derived (now (sets .exit)) (now (minutes .exit))) [] ⌝ }
 {
-    rota::assignment::from_slots(people, slots, starts, ends, avail, owners, sets, minutes)
+    owners::from_slots(people, slots, starts, ends, avail, owners, sets, minutes)
 }
 
 // An empty rota: nobody owns a slot, and sets and minutes are cleared.
@@ -41,7 +42,7 @@ pub extern "C" fn boltraven_empty(
         (emptied people slots (now (owners .entry)) (derived (now (sets .entry)) (now (minutes .entry))))
         r (now (owners .exit)) (derived (now (sets .exit)) (now (minutes .exit))) [] ⌝ }
 {
-    rota::assignment::empty(people, slots, owners, sets, minutes)
+    owners::empty(people, slots, owners, sets, minutes)
 }
 
 // A slot assigned to a person, or cleared by 255.
@@ -133,7 +134,7 @@ pub extern "C" fn boltraven_owner_of_slot(
 ) -> u64
     ensures { λ r. ⌜ r ≡ plainNumber (ownerIs people slots (now (owners .entry)) slot) ⌝ }
 {
-    plain_number(rota::assignment::owner_of_slot(people, slots, owners, slot))
+    plain_number(owners::owner_of_slot(people, slots, owners, slot))
 }
 
 // A person's minutes.
@@ -147,7 +148,7 @@ pub extern "C" fn boltraven_minutes_of(
     ensures { λ r. ⌜ r ≡ minutesNo (minutesIs people (now (minutes .entry)) person) ⌝ }
     ensures { λ _. ⌜ now (out .exit) ≡ minutesAre (now (out .entry)) (minutesIs people (now (minutes .entry)) person) ⌝ }
 {
-    let worked = rota::assignment::minutes_of(people, minutes, person);
+    let worked = owners::minutes_of(people, minutes, person);
     put_minutes(worked, out)
 }
 
@@ -156,7 +157,7 @@ pub extern "C" fn boltraven_minutes_of(
 pub extern "C" fn boltraven_unassigned_count(people: usize, slots: usize, owners: &[u8]) -> u64
     ensures { λ r. ⌜ r ≡ plainNumber (unassignedIs people slots (now (owners .entry))) ⌝ }
 {
-    plain_number(rota::assignment::unassigned_count(people, slots, owners))
+    plain_number(owners::unassigned_count(people, slots, owners))
 }
 
 // The minutes of the slots that nobody owns.
@@ -173,6 +174,6 @@ pub extern "C" fn boltraven_uncovered_minutes(
     ensures { λ _. ⌜ now (out .exit) ≡ minutesAre (now (out .entry))
         (uncoveredIs (plan people slots (now (starts .entry)) (now (ends .entry))) (now (owners .entry))) ⌝ }
 {
-    let uncovered = rota::assignment::uncovered_minutes(people, slots, starts, ends, owners);
+    let uncovered = owners::uncovered_minutes(people, slots, starts, ends, owners);
     put_minutes(uncovered, out)
 }

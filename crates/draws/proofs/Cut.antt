@@ -1,6 +1,6 @@
 -- A play reads no more than 1,024 entries of a column: one that is cut there has the same outcome. Assumes nothing.
 use mathlib.Core.Path.{_≡_, refl, sym, ap, ap₂, subst, _∙_}
-use mathlib.Core.Bool.{true, false, cond, and-false}
+use mathlib.Core.Bool.{true, false, cond}
 use mathlib.Core.List.{List, [], _∷_, _++_, map}
 use Prim.Native.Nat.{ℕ, zero, suc, _≤_, _<_}
 use native.Mathlib.Omega.{arith}
@@ -8,12 +8,14 @@ use borrow.Author.Tests.{le-leb, leb-true, leb-false}
 use lib.Dec.{leb}
 use lib.ListN.{length, getD, take, length-map}
 use lib.Seq.{take-all, length-take-le, getD-take}
-use Rattle.paper.specs.Limits.{countsOk}
+use Rattle.paper.specs.Limits.{peopleOk, slotCountOk, heardOf}
+use Rattle.paper.specs.Rows.{unless}
 use Rattle.paper.proofs.Logic.{by-test}
-use Rattle.rota.specs.Derived.{Plan, Derived}
+use Rattle.owners.specs.Derived.{Plan, Derived}
 use Rattle.rota.specs.Moves.{Draw, draw}
 use Rattle.rota.specs.Plays.{drawsOf}
-use Rattle.rota.specs.Entries.{Outcome, Ended, outcome, ground, playRoomOk, playNo, played}
+use Rattle.owners.specs.Entries.{Outcome, Ended, outcome, lentRow, recountRow}
+use Rattle.rota.specs.Entries.{playRoomOk, playRow, played}
 use Rattle.draws.specs.declared.Draw.{Draw as Drawn}
 use Rattle.draws.specs.declared.Columns.{Columns}
 use Rattle.draws.specs.Columns.{kinds, ones, twos, most, Unpacked}
@@ -39,16 +41,22 @@ module _ (P : Plan) (avail : List ℕ) (units : ℕ) (firsts frozen : List ℕ) 
   abbrev play : List ℕ → List ℕ → List ℕ → Outcome
   play ks os ts = played P avail units firsts frozen n ks os ts o D x
 
-  -- too many draws: the columns are not looked at
+  -- too many draws: 1, and the columns are not looked at
+  many : leb n 1024 ≡ false → (ks os ts : List ℕ) → heardOf (playRow P avail units firsts frozen n ks os ts o D x) ≡ 1
+  unfolding recountRow lentRow heardOf
+  many f ks os ts =
+      by-test (peopleOk (P .people)) _
+      (λ p. by-test (slotCountOk (P .slots)) _ (λ q. simp (p, q, f)) (λ q. simp (p, q))) (λ p. simp p)
+
   too-many : leb n 1024 ≡ false → (ks os ts ks′ os′ ts′ : List ℕ) → play ks os ts ≡ play ks′ os′ ts′
-  unfolding played playNo ground outcome
-  too-many f ks os ts ks′ os′ ts′ = simp (f, and-false (countsOk (P .people) (P .slots)))
+  unfolding played outcome unless
+  too-many f ks os ts ks′ os′ ts′ = simp (many f ks os ts, many f ks′ os′ ts′)
 
   -- few enough: only their room and the first n entries count
   enough : (ks os ts ks′ os′ ts′ : List ℕ)
       → (leb n (length ks) ≡ leb n (length ks′)) → (leb n (length os) ≡ leb n (length os′)) → (leb n (length ts) ≡ leb n (length ts′))
       → drawsOf ks os ts n ≡ drawsOf ks′ os′ ts′ n → play ks os ts ≡ play ks′ os′ ts′
-  unfolding played playNo playRoomOk
+  unfolding played playRoomOk
   enough ks os ts ks′ os′ ts′ a b c d = simp (a, b, c, d)
 
   -- a column cut at 1,024 entries

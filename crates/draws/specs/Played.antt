@@ -1,8 +1,9 @@
 -- A play of a list of draws. Assumes nothing.
 use mathlib.Core.List.{List}
 use Prim.Native.Nat.{ℕ}
-use Rattle.rota.specs.Derived.{Plan, Derived}
-use Rattle.rota.specs.Entries.{Outcome, played}
+use Rattle.owners.specs.Derived.{Plan, Derived}
+use Rattle.owners.specs.Entries.{Outcome}
+use Rattle.rota.specs.Entries.{played}
 use Rattle.draws.specs.declared.Draw.{Draw}
 use Rattle.draws.specs.Columns.{kinds, ones, twos}
 

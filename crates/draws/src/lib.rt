@@ -2,8 +2,9 @@
 ghost use mathlib.Core.Path.{_≡_};
 ghost use Prim.Native.Nat.{_<_};
 ghost use lib.ListN.{length, take};
-ghost use Rattle.rota.specs.Derived.{plan, derived};
-ghost use Rattle.rota.specs.Entries.{Ended, played};
+ghost use Rattle.owners.specs.Derived.{plan, derived};
+ghost use Rattle.owners.specs.Entries.{Ended};
+ghost use Rattle.rota.specs.Entries.{played};
 ghost use Rattle.draws.specs.Columns.{drawAt, Roomy, putAt, most, Unpacked};
 ghost use Rattle.draws.specs.Played.{playedDraws};
 

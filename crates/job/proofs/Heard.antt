@@ -30,7 +30,7 @@ use Rattle.targets.proofs.Accepted.{Lent}
 use Rattle.targets.specs.Remainder.{sumℤ}
 use Rattle.targets.proofs.Promises.{targets-add-up}
 use Rattle.targets.proofs.Sized.{accepted-sized}
-use Rattle.rota.specs.Recount.{availableAt}
+use Rattle.owners.specs.Recount.{availableAt}
 use Rattle.slotset.specs.Answers.{numberNo}
 use Rattle.job.specs.Columns.{column, floatColumn}
 use Rattle.job.specs.Stages.{counted, begins, peopleOf, jobCountsOk, rangesOf, capacitiesOf, priorsOf, settingsIn, instantOf, drawsOf}

@@ -1,27 +1,31 @@
 -- What a play that was not refused leaves: owners known and available, their minutes, and U, which add up. Assumes nothing.
 use mathlib.Core.Path.{_≡_, sym, ap, ap₂, _∙_}
-use mathlib.Core.Bool.{true, _&&_}
+use mathlib.Core.Bool.{true}
 use mathlib.Core.List.{List}
 use Prim.Native.Nat.{ℕ, _+_, _≤_, _<_}
 use native.Mathlib.Omega.{arith}
 use borrow.Author.Tests.{le-leb}
-use lib.Dec.{eqb, leb}
+use lib.Dec.{eqb}
 use lib.ListN.{length, getD, replicate, length-replicate}
-use Rattle.paper.specs.Limits.{countsOk, nobody}
+use Rattle.paper.specs.Limits.{nobody, heardOf}
+use Rattle.paper.proofs.Rows.{all-pass}
+use Rattle.paper.specs.Rows.{unless}
 use Rattle.paper.specs.Count.{sum}
-use Rattle.paper.proofs.Logic.{both}
 use Rattle.paper.proofs.Count.{each-all}
 use Rattle.slotset.specs.Slots.{slot}
 use Rattle.slots.specs.Lent.{demandOf, minutesAs}
 use Rattle.slots.specs.declared.Minutes.the-variants as minutes
-use Rattle.rota.specs.Derived.{Plan, PlanSound, Derived, knownBy, worked, uncovered, afresh}
-use Rattle.rota.specs.Recount.{availableFor, knownAt, recounts}
+use Rattle.owners.specs.Derived.{Plan, Derived, knownBy, worked, uncovered, afresh}
+use Rattle.owners.specs.Inside.{PlanSound}
+use Rattle.owners.specs.Recount.{availableFor, knownAt, recounts}
 use Rattle.rota.specs.Moves.{Draw}
 use Rattle.rota.specs.Plays.{drawsOf, ownersAfter}
 use Rattle.rota.specs.Lent.{boardOf}
+use Rattle.owners.specs.Entries as state
 use Rattle.rota.specs.Entries as rota
 use Rattle.rota.proofs.Plays.{play-length}
-use Rattle.rota.proofs.Entered.{ground-all, Recounted, recount-says, PlayAsks, play-asks}
+use Rattle.rota.proofs.Entered.{PlayAsks, play-asks}
+use Rattle.owners.proofs.Entered.{Recounted, recount-says}
 use Rattle.rota.proofs.Promises as promises
 use Rattle.job.specs.Stages.{Ready, Draws, planOf, playOf}
 use Rattle.job.proofs.Prepares.{when-none}
@@ -31,8 +35,9 @@ module _ (R : Ready) (d : Draws) (o : List ℕ) (D : Derived) (e : playOf R d o 
   abbrev P : Plan
   P = planOf R
 
-  no : rota.playNo P (R .avail) (R .units) (R .firsts) (R .frozen) (d .count) (d .kinds) (d .ones) (d .twos) o D (replicate 1024 0) ≡ 0
-  unfolding playOf rota.played rota.outcome
+  no : heardOf (rota.playRow P (R .avail) (R .units) (R .firsts) (R .frozen) (d .count) (d .kinds) (d .ones) (d .twos) o D (replicate 1024
+      0)) ≡ 0
+  unfolding playOf rota.played state.outcome
   no = e
 
   asks : PlayAsks P (R .avail) (R .units) (R .firsts) (R .frozen) (d .count) (d .kinds) (d .ones) (d .twos) o D (replicate 1024 0)
@@ -46,12 +51,6 @@ module _ (R : Ready) (d : Draws) (o : List ℕ) (D : Derived) (e : playOf R d o 
   pub draws-few : d .count ≤ 1024
   draws-few = omega (arith, asks .grounds .draws .answers, length-replicate {A = ℕ} 1024 0)
 
-  counts-ok : countsOk (R .people) (R .slots) ≡ true
-  unfolding rota.playNo
-  counts-ok =
-      both (countsOk (R .people) (R .slots)) (leb (d .count) 1024)
-      (ground-all (countsOk (R .people) (R .slots) && leb (d .count) 1024) _ _ _ no .0) .0
-
   -- ---- the owners after the draws, and what is worked out from them
 
   abbrev drawn : List Draw
@@ -61,11 +60,11 @@ module _ (R : Ready) (d : Draws) (o : List ℕ) (D : Derived) (e : playOf R d o 
   after = ownersAfter (boardOf (R .people) (R .slots) (R .units) (R .avail) (R .firsts) (R .frozen)) o drawn
 
   owners-are : playOf R d o D .owners ≡ after
-  unfolding playOf rota.played rota.outcome after
+  unfolding playOf rota.played state.outcome unless after
   owners-are = sym (when-none _ after o no)
 
   derived-are : playOf R d o D .derived ≡ afresh P after D
-  unfolding playOf rota.played rota.outcome after
+  unfolding playOf rota.played state.outcome unless after
   derived-are = sym (when-none _ (afresh P after D) D no)
 
   recounted : recounts P (R .avail) (R .units) (R .firsts) (playOf R d o D .owners) (playOf R d o D .derived) ≡ true
@@ -88,19 +87,26 @@ module _ (R : Ready) (d : Draws) (o : List ℕ) (D : Derived) (e : playOf R d o 
   minutes-are = right .minutes
 
   -- U is a number
-  pub uncovered-told : rota.uncoveredIs P (playOf R d o D .owners) ≡ minutes.Are (uncovered P (playOf R d o D .owners))
-  unfolding rota.uncoveredIs minutesAs rota.ground knownAt after
+  pub uncovered-told : state.uncoveredIs P (playOf R d o D .owners) ≡ minutes.Are (uncovered P (playOf R d o D .owners))
+  unfolding state.uncoveredIs state.uncoveredRow minutesAs knownAt after
   uncovered-told =
       let w = playOf R d o D .owners in
       let g = asks .grounds .on in
       let l = play-length (boardOf (R .people) (R .slots) (R .units) (R .avail) (R .firsts) (R .frozen)) o drawn in
-      simp (
-        counts-ok,
-        lent-room (R .slots) (R .starts) (R .ends) (g .lent),
-        le-leb (R .slots) (length w) (omega (arith, ap length owners-are, l, g .room .owners-room)),
-        g .lent,
-        each-all (R .slots) (λ k. knownBy (R .people) (getD w k 0)) (right .known),
-      )
+      ap (λ (n : ℕ). minutesAs n (uncovered P w))
+      (all-pass (state.uncoveredRow P w) (
+        g .people,
+        (
+          g .count,
+          (
+            lent-room (R .slots) (R .starts) (R .ends) (g .lent),
+            (
+              le-leb (R .slots) (length w) (omega (arith, ap length owners-are, l, g .room .owners-room)),
+              (g .lent, (each-all (R .slots) (λ k. knownBy (R .people) (getD w k 0)) (right .known), tt)),
+            ),
+          ),
+        ),
+      ))
 
   -- all persons' minutes and U are the total of the slots
   pub total-after : sum (R .people) (λ p. getD (playOf R d o D .derived .minutes) p 0) + uncovered P (playOf R d o D .owners)

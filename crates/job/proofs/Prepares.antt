@@ -11,7 +11,7 @@ use lib.ListN.{set, replicate}
 use Rattle.paper.specs.Limits.{peopleOk, slotCountOk, nobody}
 use Rattle.paper.proofs.Logic.{four}
 use Rattle.slots.specs.Freeze.{freezeOf}
-use Rattle.rota.specs.Derived.{knownBy}
+use Rattle.owners.specs.Derived.{knownBy}
 use Rattle.job.specs.File.{ownerSlot}
 use Rattle.job.specs.Stages.{jobCountsOk, frozenIn, ownerValue, placed, recordKnown, byteOf}
 

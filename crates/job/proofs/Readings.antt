@@ -21,8 +21,8 @@ use Rattle.slots.specs.Availability.{availabilityOf}
 use Rattle.units.specs.declared.Settings.{Settings}
 use Rattle.units.specs.Starts.{unitStartsIs}
 use Rattle.targets.specs.Outcome as targets
-use Rattle.rota.specs.Derived.{plan, derived}
-use Rattle.rota.specs.Entries as rota
+use Rattle.owners.specs.Derived.{plan, derived}
+use Rattle.owners.specs.Entries as state
 use Rattle.records.specs.Fields.{le}
 use Rattle.records.specs.Records.{blockAt, countOf, walkOk}
 use Rattle.records.proofs.Sequences.{counted-at, block-le, field-room}
@@ -202,7 +202,7 @@ module _ {s c b : List ℕ} (K : ReadOk s c b) where
       (B : TargetsAre (targetsIn s (S .count) (S .starts) (S .ends) (S .avail)) T) (C : st ≡ settingsIn s)
       (D : UnitsAre (unitStartsIs st (S .count) (S .starts) (S .ends) (replicate 1024 0)) U)
       (E : OwnersAre s (getD b 5 0) (getD c 5 0) (S .count) (getD c 2 0) (U .count) (U .firsts) O)
-      (F : StartedAs (rota.fromSlots (plan (getD c 2 0) (S .count) (S .starts) (S .ends)) (S .avail) (O .owners)
+      (F : StartedAs (state.fromSlots (plan (getD c 2 0) (S .count) (S .starts) (S .ends)) (S .avail) (O .owners)
       (derived (replicate 512 0) (replicate 32 0))) W)
       (G : fz ≡ frozenIn (S .count) (S .starts) (S .ends) (counted s 4) (instantOf s)) where
     abbrev got : Ready
@@ -241,7 +241,7 @@ module _ {s c b : List ℕ} (K : ReadOk s c b) where
     unfolding ownersOf
     owners-is = E .owners ∙ ap narrowed written-is
 
-    started-is : rota.fromSlots (plan (getD c 2 0) (S .count) (S .starts) (S .ends)) (S .avail) (O .owners)
+    started-is : state.fromSlots (plan (getD c 2 0) (S .count) (S .starts) (S .ends)) (S .avail) (O .owners)
         (derived (replicate 512 0) (replicate 32 0)) ≡ startedOf s
     unfolding startedOf startOf
     started-is = ap₂ (λ (R : Ready) (o : List ℕ). startOf R o) got-ready owners-is
@@ -264,7 +264,7 @@ module _ {s c b : List ℕ} (K : ReadOk s c b) where
         ∙ prepare-heard s few (S .no) (T .no) (U .no) (O .no) (W .no) (A .no)
         (B .no ∙ ap (λ (R : Ready). targetsIn s (R .slots) (R .starts) (R .ends) (R .avail) .number) got-ready)
         (units-are .no ∙ ap (λ (R : Ready). numberNo (unitsIn s (R .slots) (R .starts) (R .ends) .answer)) got-ready)
-        owners-heard (F .no ∙ ap (λ (y : rota.Outcome). y .number) started-is)
+        owners-heard (F .no ∙ ap (λ (y : state.Outcome). y .number) started-is)
 
     pub prepared-are : {figures rota rest no : ℕ} → figures ≡ unless (T .no) (T .no) (U .no) → rota ≡ unless (O .no) (O .no) (W .no)
         → rest ≡ unless figures figures rota → no ≡ unless (S .no) (S .no) rest
@@ -288,7 +288,7 @@ module _ {s c b : List ℕ} (K : ReadOk s c b) where
           no = number-is f g h i;
           ready = got-ready;
           owners = owners-is;
-          derived = F .derived ∙ ap (λ (y : rota.Outcome). y .derived) started-is;
+          derived = F .derived ∙ ap (λ (y : state.Outcome). y .derived) started-is;
           slots-few = A .few;
           people-few = read-few K .2;
           starts-room = A .starts-room;

@@ -10,8 +10,8 @@ use lib.ListN.{length, getD}
 use Rattle.paper.specs.Limits.{heardOf}
 use Rattle.paper.proofs.Rows.{worked, kept}
 use Rattle.slots.specs.declared.Minutes.{Minutes}
-use Rattle.rota.specs.Derived.{Derived, derived}
-use Rattle.rota.specs.Entries as rota
+use Rattle.owners.specs.Derived.{Derived, derived}
+use Rattle.owners.specs.Entries as state
 use Rattle.records.specs.Puts.{Wrote}
 use Rattle.job.specs.declared.JobAnswer.the-variants as answer
 use Rattle.job.specs.declared.Prepared.{Prepared}
@@ -87,13 +87,13 @@ module _ (s x : List ℕ) where
           ∙ ap (λ (D : Derived). playOf (readyOf s) (drawsOf s) (ownersOf s) D) (P .derived)
 
       Z : PlayedAs (playedOf s) y
-      Z = subst (λ (r : rota.Outcome). PlayedAs r y) played-is Y
+      Z = subst (λ (r : state.Outcome). PlayedAs r y) played-is Y
 
       -- what is listed, by what a play goes by and what it left
       abbrev listedBy : Ready → List ℕ → List ℕ → List ℕ → Listed
       listedBy R o m a =
           listed (R .slots) (R .starts) (R .ends) o (R .people) m (R .targets) (drawsOf s .count) a
-          (minutesValue (rota.uncoveredIs (planOf R) o))
+          (minutesValue (state.uncoveredIs (planOf R) o))
 
       listed-is : listedBy (readyBy p) (y .owners) (y .minutes) (y .answers) ≡ listedOf s
       unfolding listedOf playedOf startedOf
@@ -108,11 +108,11 @@ module _ (s x : List ℕ) where
 
       pub job-listed : (d n : ℕ) (out : List ℕ) → d ≡ counted s 6
           → Wrote (listingOf (listed (p .slots) (p .starts) (p .ends) (y .owners) (p .people) (y .minutes) (p .targets) d (y .answers)
-          (minutesValue (rota.uncoveredIs (planOf (readyBy p)) (y .owners))))) 0 x n out → Ends (jobResult s x) (answer.Length n) out
+          (minutesValue (state.uncoveredIs (planOf (readyBy p)) (y .owners))))) 0 x n out → Ends (jobResult s x) (answer.Length n) out
       unfolding listedAs drawsOf
       job-listed d n out q w =
           let l = ap (λ (c : ℕ). listingOf (listed (p .slots) (p .starts) (p .ends) (y .owners) (p .people) (y .minutes) (p .targets) c
-          (y .answers) (minutesValue (rota.uncoveredIs (planOf (readyBy p)) (y .owners))))) q ∙ ap listingOf listed-is in
+          (y .answers) (minutesValue (state.uncoveredIs (planOf (readyBy p)) (y .owners))))) q ∙ ap listingOf listed-is in
           let v = subst (λ (t : List ℕ). Wrote t 0 x n out) l w in
           let t = told-none none in
           let m : n ≡ length (listingOf (listedOf s)) = omega (arith, v .ends) in

@@ -1,22 +1,25 @@
 -- The rota of a job whose owners are known: 12 is the one refusal left, and the play is never refused. Assumes nothing.
 use mathlib.Core.Path.{_≡_, sym, ap, _∙_}
-use mathlib.Core.Bool.{Bool, true}
+use mathlib.Core.Bool.{Bool, true, cond}
 use mathlib.Core.List.{List}
 use Prim.Native.Nat.{ℕ, _+_, _*_, _≤_, _<_}
 use native.Mathlib.Omega.{arith}
 use borrow.Author.Tests.{le-leb}
 use lib.ListN.{length, getD, replicate, length-replicate}
-use Rattle.paper.specs.Limits.{peopleOk, slotCountOk, countsOk, orElse}
+use Rattle.paper.specs.Limits.{peopleOk, slotCountOk, orElse, heardOf}
+use Rattle.paper.specs.Rows.{unless}
 use Rattle.paper.specs.Count.{sum, all}
 use Rattle.paper.proofs.Logic.{and-true, people-says, slot-count-says}
 use Rattle.paper.proofs.Count.{each-all, all-each}
 use Rattle.slots.specs.Lent.{slotsOk, demandOf}
 use Rattle.units.specs.Units.{unitStart, unitEnd, unitsOk}
-use Rattle.rota.specs.Derived.{Plan, Derived, derived, knownBy, uncovered, afresh, InStep}
-use Rattle.rota.specs.Recount.{knownAt, availableAt, recounts}
+use Rattle.owners.specs.Derived.{Plan, Derived, derived, knownBy, uncovered, afresh}
+use Rattle.owners.specs.Inside.{InStep}
+use Rattle.owners.specs.Recount.{knownAt, availableAt, recounts}
+use Rattle.owners.specs.Entries as state
 use Rattle.rota.specs.Entries as rota
-use Rattle.rota.proofs.Steps.{afresh-step}
-use Rattle.rota.proofs.Entered.{plan-sound, says-recount}
+use Rattle.owners.proofs.Steps.{afresh-step}
+use Rattle.owners.proofs.Entered.{plan-sound, says-recount, recount-number}
 use Rattle.rota.proofs.Promises.{minutes-and-uncovered}
 use Rattle.job.specs.Stages.{Ready, Draws, planOf, startOf, playOf}
 use Rattle.job.proofs.Prepares.{when-none}
@@ -56,16 +59,6 @@ module _ (R : Ready) (d : Draws) (o : List ℕ) (H : RotaSound R d o) where
 
   -- ---- the tests that come before 12
 
-  counts-ok : countsOk (R .people) (R .slots) ≡ true
-  unfolding countsOk
-  counts-ok = and-true _ _ (H .people-ok) (H .count-ok)
-
-  room-ok : (D : Derived) → 16 * R .people ≤ length (D .sets) → R .people ≤ length (D .minutes) → rota.roomOk P (R .avail) o D ≡ true
-  unfolding rota.roomOk
-  room-ok D a b =
-      and-true _ _ (lent-room (R .slots) (R .starts) (R .ends) (H .lent)) (and-true _ _ (le-leb _ _ (H .avail-room))
-      (and-true _ _ (le-leb _ _ (H .owners-room)) (and-true _ _ (le-leb _ _ a) (le-leb _ _ b))))
-
   all-known : all (R .slots) (knownAt (R .people) o) ≡ true
   unfolding knownAt
   all-known = each-all (R .slots) (λ k. knownBy (R .people) (getD o k 0)) (H .known)
@@ -73,18 +66,23 @@ module _ (R : Ready) (d : Draws) (o : List ℕ) (H : RotaSound R d o) where
   -- ---- what is heard is 12 or nothing
 
   pub start-no : startOf R o .number ≡ orElse (all (R .slots) (availableAt (R .avail) o)) 12 0
-  unfolding startOf rota.fromSlots rota.outcome rota.fromSlotsNo rota.ground
+  unfolding startOf state.fromSlots state.outcome state.fromSlotsRow state.lentRow heardOf
   start-no =
       simp (
-        counts-ok,
-        room-ok none (omega (arith, few, length-replicate {A = ℕ} 512 0)) (omega (arith, few, length-replicate {A = ℕ} 32 0)),
+        H .people-ok,
+        H .count-ok,
+        lent-room (R .slots) (R .starts) (R .ends) (H .lent),
+        le-leb (16 * R .people) (length (R .avail)) (H .avail-room),
+        le-leb (R .slots) (length o) (H .owners-room),
+        le-leb (16 * R .people) (length (replicate {A = ℕ} 512 0)) (omega (arith, few, length-replicate {A = ℕ} 512 0)),
+        le-leb (R .people) (length (replicate {A = ℕ} 32 0)) (omega (arith, few, length-replicate {A = ℕ} 32 0)),
         H .lent,
         all-known,
       )
 
   module _ (free : all (R .slots) (availableAt (R .avail) o) ≡ true) where
     pub started : startOf R o .derived ≡ afresh P o none
-    unfolding startOf rota.fromSlots rota.outcome
+    unfolding startOf state.fromSlots state.outcome unless
     started =
         sym (when-none (startOf R o .number) (afresh P o none) none (start-no ∙ ap (λ (b : Bool). orElse b 12 0) free))
 
@@ -109,8 +107,8 @@ module _ (R : Ready) (d : Draws) (o : List ℕ) (H : RotaSound R d o) where
 
     abbrev no : ℕ
     no =
-        rota.playNo P (R .avail) (R .units) (R .firsts) (R .frozen) (d .count) (d .kinds) (d .ones) (d .twos) o (afresh P o none)
-        (replicate 1024 0)
+        heardOf (rota.playRow P (R .avail) (R .units) (R .firsts) (R .frozen) (d .count) (d .kinds) (d .ones) (d .twos) o (afresh P o none)
+        (replicate 1024 0))
 
     play-room : rota.playRoomOk (R .units) (R .firsts) (R .frozen) (d .count) (d .kinds) (d .ones) (d .twos) (replicate 1024 0) ≡ true
     unfolding rota.playRoomOk
@@ -120,20 +118,26 @@ module _ (R : Ready) (d : Draws) (o : List ℕ) (H : RotaSound R d o) where
         (le-leb (d .count) (length (replicate {A = ℕ} 1024 0)) (omega (arith, H .draws-few, length-replicate {A = ℕ} 1024 0)))))))
 
     play-none : no ≡ 0
-    unfolding rota.playNo rota.ground
+    unfolding state.recountRow state.lentRow heardOf
     play-none =
+        let E = afresh P o none in
         simp (
-          counts-ok,
+          H .people-ok,
+          H .count-ok,
           le-leb (d .count) 1024 (H .draws-few),
-          room-ok (afresh P o none) (in-step .sets-room) (in-step .minutes-room),
+          lent-room (R .slots) (R .starts) (R .ends) (H .lent),
+          le-leb (16 * R .people) (length (R .avail)) (H .avail-room),
+          le-leb (R .slots) (length o) (H .owners-room),
+          le-leb (16 * R .people) (length (E .sets)) (in-step .sets-room),
+          le-leb (R .people) (length (E .minutes)) (in-step .minutes-room),
           play-room,
           H .lent,
           H .units-ok,
-          recounted,
         )
+        (recount-number P (R .avail) (R .units) (R .firsts) o E ∙ ap (λ (b : Bool). cond b 0 10) recounted)
 
     pub play-no : playOf R d o (startOf R o .derived) .number ≡ 0
-    unfolding playOf rota.played rota.outcome
+    unfolding playOf rota.played state.outcome
     play-no = ap (λ (E : Derived). playOf R d o E .number) started ∙ play-none
 
     -- all persons' minutes and the uncovered ones are the total of the slots
@@ -141,4 +145,4 @@ module _ (R : Ready) (d : Draws) (o : List ℕ) (H : RotaSound R d o) where
         ≡ demandOf (R .slots) (R .starts) (R .ends)
     total-before =
         ap (λ (E : Derived). sum (R .people) (λ p. getD (E .minutes) p 0) + uncovered P o) started
-        ∙ minutes-and-uncovered P (plan-sound P counts-ok (H .lent)) (R .avail) (R .units) (R .firsts) o (afresh P o none) recounted
+        ∙ minutes-and-uncovered P (plan-sound P (H .people-ok) (H .count-ok) (H .lent)) (R .avail) (R .units) (R .firsts) o (afresh P o none) recounted

@@ -11,8 +11,8 @@ use Rattle.slots.specs.declared.Minutes.{Minutes}
 use Rattle.slots.specs.declared.Minutes.the-variants as minutes
 use Rattle.units.specs.Answers.{Written}
 use Rattle.targets.specs.Outcome as targets
-use Rattle.rota.specs.Derived.{derived}
-use Rattle.rota.specs.Entries as rota
+use Rattle.owners.specs.Derived.{derived}
+use Rattle.owners.specs.Entries as state
 use Rattle.job.specs.declared.Atoms.{Atoms}
 use Rattle.job.specs.declared.JobSlots.{JobSlots}
 use Rattle.job.specs.declared.JobUnits.{JobUnits}
@@ -69,11 +69,11 @@ pub record OwnersAre (s : List ℕ) (at n slots people units : ℕ) (firsts : Li
   pub owners : r .owners ≡ narrowed (placed s at slots n)
 
 -- sets and minutes, and the play, as the rota gives them
-pub record StartedAs (y : rota.Outcome) (r : Started) : Type 0 where
+pub record StartedAs (y : state.Outcome) (r : Started) : Type 0 where
   pub no : r .no ≡ y .number
   pub derived : derived (r .sets) (r .minutes) ≡ y .derived
 
-pub record PlayedAs (y : rota.Outcome) (r : Played) : Type 0 where
+pub record PlayedAs (y : state.Outcome) (r : Played) : Type 0 where
   pub no : r .no ≡ y .number
   pub owners : r .owners ≡ y .owners
   pub minutes : r .minutes ≡ y .derived .minutes

@@ -13,7 +13,7 @@ use Rattle.slots.specs.Ranges.{rangesOk}
 use Rattle.slots.specs.Atomic as atomic
 use Rattle.units.specs.Settings.{settingsOk}
 use Rattle.targets.specs.Figures.{allFiguresOk}
-use Rattle.rota.specs.Recount.{availableAt}
+use Rattle.owners.specs.Recount.{availableAt}
 use Rattle.records.specs.Puts.{put}
 use Rattle.job.specs.declared.JobAnswer.{JobAnswer}
 use Rattle.job.specs.declared.JobAnswer.the-variants as answer

@@ -18,8 +18,9 @@ use Rattle.units.specs.declared.Settings.{Settings}
 use Rattle.units.specs.Answers.{Written}
 use Rattle.units.specs.Starts.{unitStartsIs}
 use Rattle.targets.specs.Outcome as targets
-use Rattle.rota.specs.Derived.{Plan, plan, Derived, derived, knownBy, uncovered}
-use Rattle.rota.specs.Recount.{evenAt}
+use Rattle.owners.specs.Derived.{Plan, plan, Derived, derived, knownBy, uncovered}
+use Rattle.owners.specs.Recount.{evenAt}
+use Rattle.owners.specs.Entries as state
 use Rattle.rota.specs.Entries as rota
 use Rattle.records.specs.Fields.{le}
 use Rattle.job.specs.File.{jobSizes, jobCounts, jobStarts, ownerSlot}
@@ -191,17 +192,17 @@ abbrev pub planOf : Ready → Plan
 planOf R = plan (R .people) (R .slots) (R .starts) (R .ends)
 
 -- sets and minutes from the owners (12), and the play of the draws
-unfoldable pub startOf : Ready → List ℕ → rota.Outcome
-startOf R o = rota.fromSlots (planOf R) (R .avail) o (derived (replicate 512 0) (replicate 32 0))
+unfoldable pub startOf : Ready → List ℕ → state.Outcome
+startOf R o = state.fromSlots (planOf R) (R .avail) o (derived (replicate 512 0) (replicate 32 0))
 
-unfoldable pub playOf : Ready → Draws → List ℕ → Derived → rota.Outcome
+unfoldable pub playOf : Ready → Draws → List ℕ → Derived → state.Outcome
 playOf R d o D =
     rota.played (planOf R) (R .avail) (R .units) (R .firsts) (R .frozen) (d .count) (d .kinds) (d .ones) (d .twos) o D (replicate 1024 0)
 
-unfoldable pub startedOf : List ℕ → rota.Outcome
+unfoldable pub startedOf : List ℕ → state.Outcome
 startedOf s = startOf (readyOf s) (ownersOf s)
 
-unfoldable pub playedOf : List ℕ → rota.Outcome
+unfoldable pub playedOf : List ℕ → state.Outcome
 playedOf s = playOf (readyOf s) (drawsOf s) (ownersOf s) (startedOf s .derived)
 
 -- what is listed: P minutes and U are those of the owners after the draws

@@ -1,5 +1,5 @@
 // Refusal 13: the layout of a job file.
-use crate::owners::owner_slot;
+use crate::owning::owner_slot;
 use records::Walked;
 use records::walk;
 ghost use mathlib.Core.Path.{_≡_};

@@ -3,7 +3,7 @@ mod columns;
 mod fields;
 mod file;
 mod listing;
-mod owners;
+mod owning;
 mod parts;
 mod play;
 mod prepare;

@@ -10,8 +10,9 @@ ghost use Prim.Native.Nat.{ℕ, _≤_, _<_, _^_};
 ghost use lib.IntN.{pos};
 ghost use lib.Signed.{mag};
 ghost use lib.ListN.{length, getD, replicate};
-ghost use Rattle.rota.specs.Derived.{plan, derived};
-ghost use Rattle.rota.specs.Entries.{fromSlots, played, uncoveredIs};
+ghost use Rattle.owners.specs.Derived.{plan, derived};
+ghost use Rattle.owners.specs.Entries.{fromSlots, uncoveredIs};
+ghost use Rattle.rota.specs.Entries.{played};
 ghost use Rattle.records.specs.Puts.{Wrote};
 ghost use Rattle.job.specs.Listing.{listed, listingOf, listingMost};
 ghost use Rattle.job.specs.Stages.{drawsOf, planOf, playOf};
@@ -21,7 +22,7 @@ ghost use Rattle.job.specs.Inside.{ReadOk, StartedAs, PlayedAs, readyBy,
 fn uncovered_of(people: usize, slots: usize, starts: &[u32], ends: &[u32], owners: &[u8]) -> u64
     ensures { λ r. ⌜ r ≡ minutesValue (uncoveredIs (plan people slots (now (starts .entry)) (now (ends .entry))) (now (owners .entry))) ⌝ }
 {
-    let heard = rota::assignment::uncovered_minutes(people, slots, starts, ends, owners);
+    let heard = owners::uncovered_minutes(people, slots, starts, ends, owners);
     match heard {
         Minutes::Are(m) => m,
         Minutes::Refused(_) => 0,
@@ -42,7 +43,7 @@ pub(crate) fn start_rota(
 {
     let mut sets = [0u64; 512];
     let mut minutes = [0u64; 32];
-    let no = rota::assignment::from_slots(
+    let no = owners::from_slots(
         people,
         slots,
         starts,

@@ -5,7 +5,7 @@ use crate::Prepared;
 use crate::columns::column_f64;
 use crate::columns::column16;
 use crate::columns::column32;
-use crate::owners::owners_of;
+use crate::owning::owners_of;
 use crate::parts::atoms_of;
 use crate::parts::avail_of;
 use crate::parts::frozen_in;

@@ -34,11 +34,11 @@ use Rattle.rota.specs.Board.{ownerOf, unowned}
 use Rattle.rota.specs.Lent.{fitsUnit, frozenUnit}
 use Rattle.rota.specs.Moves.{anyOf, decided, swapped, reassigned, picked, domainOf}
 use Rattle.rota.specs.Plays.{step, ownersAfter, drawsOf}
-use Rattle.rota.specs.Derived.{Plan, Derived, knownBy, portion, worked, held, setsFrom, afresh}
-use Rattle.rota.specs.Recount.{knownAt, availableFor, availableAt, evenAt, setSlotAt, setAt, minutesOkAt, recounts}
-use Rattle.rota.specs.Entries as rota
+use Rattle.owners.specs.Derived.{Plan, Derived, knownBy, portion, worked, held, setsFrom, afresh}
+use Rattle.owners.specs.Recount.{knownAt, availableFor, availableAt, evenAt, setSlotAt, setAt, minutesOkAt, recounts}
+use Rattle.owners.specs.Entries as state
 use Rattle.slots.specs.Lent.{minutesNo}
-use Rattle.rota.proofs.Entered.{recount-says}
+use Rattle.owners.proofs.Entered.{recount-says}
 use Rattle.promises.specs.Entries.{Call, Component, built, noOf, afreshIn, ownersIn}
 use Rattle.promises.specs.Marked.{MarkedCases, inWords, Owned, apart, Spare, twoUnits}
 use Rattle.slotset.specs.Answers.{toldNo, numberNo}
@@ -93,7 +93,7 @@ module _ (C : Component) (M : MarkedCases C) (T : RefusesByTable C) (S : SizesRe
       (M .case-11 0 0 0 (0 ∷ 0 ∷ 0 ∷ 0 ∷ []) (omega arith) (omega arith) (omega arith) (omega arith)))
   always-refusing-falls (refuses-play f) =
       f still (one-heard _ _ _ (T still) (rota-refuses .play still .heard)
-      ∙ ap (λ (y : rota.Outcome). y .number) (accepted-is still still-accepted))
+      ∙ ap (λ (y : state.Outcome). y .number) (accepted-is still still-accepted))
   always-refusing-falls (refuses-uncovered f) = f _ _ (ap minutesNo (U still still-accepted .1))
 
 -- ---- one fixed answer
@@ -161,7 +161,7 @@ fixed-answer-falls C (fixed-rotations f) M H =
 fixed-answer-falls C (fixed-play f) M H =
     let a = M .case-12 (spare (0 ∷ 0 ∷ [])) (omega arith) in
     let b = M .case-12 (spare (0 ∷ 1 ∷ [])) (omega arith) in
-    let second : rota.Outcome → ℕ = λ y. getD (y .answers) 1 0 in
+    let second : state.Outcome → ℕ = λ y. getD (y .answers) 1 0 in
     let z : _≡_ {A = ℕ} 0 1 = sym (ap second a) ∙ ap second (f _ _) ∙ ap second b in omega arith
 
 -- ---- doing nothing
@@ -226,7 +226,7 @@ first-draw-only-falls C f g =
     let second : List ℕ → ℕ = λ o. getD o 1 0 in
     let z : _≡_ {A = ℕ} 1 0 =
     ap second (sym (both-draws .1) ∙ sym (f twice twice-accepted (omega arith))
-    ∙ ap (λ (y : rota.Outcome). y .owners) (g twice twice-accepted) ∙ both-draws .0) in
+    ∙ ap (λ (y : state.Outcome). y .owners) (g twice twice-accepted) ∙ both-draws .0) in
     omega arith
 
 -- ---- an invented count, or uncovered total
@@ -260,20 +260,20 @@ module _ (C : Component) (g : EndsAfresh C) where
 
   owners-rest : C .play c .owners ≡ 0 ∷ 0 ∷ []
   unfolding drawsOf ownersAfter
-  owners-rest = ap (λ (y : rota.Outcome). y .owners) (g c (rest-accepted .0))
+  owners-rest = ap (λ (y : state.Outcome). y .owners) (g c (rest-accepted .0))
 
-  abbrev setOf : rota.Outcome → ℕ → SlotSet
-  setOf y p = rota.slotsOfIs 2 2 (y .derived .sets) p .set
+  abbrev setOf : state.Outcome → ℕ → SlotSet
+  setOf y p = state.slotsOfIs 2 2 (y .derived .sets) p .set
 
   afresh-lengths : setOf (afreshIn c) 0 .len ≡ setOf (afreshIn c) 1 .len
-  unfolding rota.slotsOfIs loadOf changedAs unless personRow setsRow heardOf
+  unfolding state.slotsOfIs loadOf changedAs unless personRow setsRow heardOf
       slotCountOk peopleOk drawsOf ownersAfter afresh setsFrom putSlots putSlot withBit held slot bitOf
   afresh-lengths = refl
 
   same-lengths : setOf (C .play c) 0 .len ≡ setOf (C .play c) 1 .len
   same-lengths =
       let q = g c (rest-accepted .0) in
-      ap (λ (y : rota.Outcome). setOf y 0 .len) q ∙ afresh-lengths ∙ sym (ap (λ (y : rota.Outcome). setOf y 1 .len) q)
+      ap (λ (y : state.Outcome). setOf y 0 .len) q ∙ afresh-lengths ∙ sym (ap (λ (y : state.Outcome). setOf y 1 .len) q)
 
   count-of : SizesRecount C → (p n : ℕ) → p < 2 → count 2 (λ k. eqb (getD (0 ∷ 0 ∷ []) k 0) p) ≡ n
       → C .size (setOf (C .play c) p) ≡ number.Is n
@@ -300,7 +300,7 @@ module _ (C : Component) (g : EndsAfresh C) where
   unfolding demandOf sum minutesAt
   both-hours = refl
 
-  abbrev minutes-in : rota.Outcome → ℕ
+  abbrev minutes-in : state.Outcome → ℕ
   minutes-in y = sum 2 (λ p. getD (y .derived .minutes) p 0)
 
   pub invented-uncovered-falls : InventedUncovered C → AddsUp C → ⊥

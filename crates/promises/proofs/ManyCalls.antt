@@ -11,10 +11,10 @@ use Rattle.paper.specs.Count.{onto}
 use Rattle.rota.specs.Board.{Board}
 use Rattle.rota.specs.Moves.{Draw, draw}
 use Rattle.rota.specs.Plays.{drawsOf, ownersAfter, answers}
-use Rattle.rota.specs.Derived.{Derived, afresh}
+use Rattle.owners.specs.Derived.{Derived, afresh}
 use Rattle.rota.specs.Entries.{Outcome, outcome, played}
 use Rattle.rota.proofs.Plays.{owners-append, answers-append, answers-length, draws-length}
-use Rattle.rota.proofs.Steps.{afresh-again, afresh-fit}
+use Rattle.owners.proofs.Steps.{afresh-again, afresh-fit}
 use Rattle.draws.specs.declared.Draw as struct
 use Rattle.draws.specs.Columns.{kinds, ones, twos}
 use Rattle.promises.specs.Entries.{Call, built, noOf, playOf, afreshIn, boardIn, ownersIn, drawsIn}

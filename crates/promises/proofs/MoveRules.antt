@@ -6,7 +6,7 @@ use lib.ListN.{getD}
 use Rattle.rota.specs.Board.{Board, ownerOf, RunOf}
 use Rattle.rota.specs.Moves.{firstOf, lastOf}
 use Rattle.rota.specs.Plays.{drawsOf}
-use Rattle.rota.specs.Entries.{Outcome}
+use Rattle.owners.specs.Entries.{Outcome}
 use Rattle.rota.specs.Acts as acts
 use Rattle.rota.proofs.Runs.{run-only}
 use Rattle.rota.proofs.Acts.{run-of}

@@ -4,7 +4,7 @@ use Rattle.paper.proofs.Logic.{one-outcome}
 use Rattle.slots.proofs.Meaning.{one-merged-end, one-atoms-end}
 use Rattle.units.proofs.Answers as units
 use Rattle.targets.proofs.Promises.{only-one}
-use Rattle.rota.proofs.Entered as rota
+use Rattle.owners.proofs.Entered as state
 use Rattle.promises.specs.Outcomes.{OneOutcome}
 
 pair : {A B : Type 0} (x y : A × B) → x .0 ≡ y .0 → x .1 ≡ y .1 → x ≡ y
@@ -30,6 +30,6 @@ one-outcome-fits = record {
   written = λ w r s p q. let e = units.one-written w (r .0) (s .0) (r .1) (s .1) p q in pair r s (e .0) (e .1);
   compute-targets = λ g out r s p q. let e = only-one g out (r .0) (s .0) (r .1) (s .1) p q in pair r s (e .0) (e .1);
   rota = λ y r s p q.
-      let e = rota.one-outcome y (r .0) (s .0) (r .1) (s .1) (r .2) (s .2) (r .3) (s .3) p q in four r s (e .0) (e .1) (e .2) (e .3);
+      let e = state.one-outcome y (r .0) (s .0) (r .1) (s .1) (r .2) (s .2) (r .3) (s .3) p q in four r s (e .0) (e .1) (e .2) (e .3);
   run-job = λ y r s p q. pair r s (p .heard ∙ sym (q .heard)) (p .left ∙ sym (q .left));
 }

@@ -9,23 +9,26 @@ use lib.IntN.{ℤ}
 use lib.ListN.{length, getD, set, replicate}
 use Rattle.paper.specs.Limits.{peopleOk, slotCountOk, orElse, Test, test, heardOf, nobody, countsOk}
 use Rattle.paper.specs.Count.{all, fill, over}
-use Rattle.paper.proofs.Logic.{by-test, slot-count-says}
+use Rattle.paper.proofs.Logic.{by-test, slot-count-says, lt-or-ge}
+use Rattle.paper.specs.Rows.{unless}
 use Rattle.slotset.specs.declared.Changed.{Changed}
 use Rattle.slotset.specs.Answers.{setsRow, personRow, changedAs, loadOf, numberNo}
 use Rattle.slotset.proofs.Refusals.{number-said}
-use Rattle.slots.specs.Lent.{slotRoomOk, slotsOk, minutesNo}
+use Rattle.slots.specs.Lent.{slotsOk, minutesNo}
 use Rattle.slots.proofs.LentLaws.{minutes-said}
 use Rattle.targets.specs.Outcome as targets
-use Rattle.targets.proofs.Promises.{number-row, refused-keeps}
-use Rattle.rota.specs.Derived.{Plan, Derived, derived, knownBy, afresh, setsFrom, nobodies, unassigned, uncovered}
-use Rattle.rota.specs.Recount.{knownAt}
+use Rattle.targets.proofs.Promises.{number-row, refused-keeps, eight-heard, eight-never, number-is}
+use Rattle.owners.specs.Derived.{Plan, Derived, derived, knownBy, afresh, setsFrom, nobodies, unassigned, uncovered}
+use Rattle.owners.specs.Recount.{knownAt}
 use Rattle.rota.specs.Entries as rota
-use Rattle.promises.specs.Entries.{Call, playOf, ofDraws, afreshIn}
-use Rattle.promises.specs.Table.{rules, Hears, Refuses}
-use Rattle.promises.specs.Refusals.{TargetsRefuse, fromSlotsTable, assignTable, recountSlotsTable}
-use Rattle.promises.specs.Refusals.{recountTable, playTable, emptyTable, ownersTable, Lent, left, RotaRefuses}
-use Rattle.promises.proofs.Table.{rising, tests-heard, heard-as}
+use Rattle.promises.specs.Entries.{Call, playOf, ofDraws, afreshIn, rowOf}
+use Rattle.promises.specs.Table.{rules, Hears, Refuses, Applies, Heard}
+use Rattle.promises.specs.Refusals.{TargetsRefuse, fromSlotsTable, assignTable, recountSlotsTable, recountTable, playTable, emptyTable, ownersTable, Lent, left, RotaRefuses, targetsChecks, guard}
+use Rattle.promises.proofs.Table.{rising, tests-heard, heard-as, Least, tests-least, least-heard}
 use Rattle.promises.proofs.TargetGuard.{eight-says}
+use Rattle.owners.specs.Derived.{Plan, Derived, derived, afresh, setsFrom, nobodies, unassigned, uncovered}
+use Rattle.owners.specs.Recount.{recountTests}
+use Rattle.owners.specs.Entries as state
 
 -- ---- targets
 
@@ -43,80 +46,69 @@ targets-refuse = record { compute-targets = targets-heard; guard = eight-says }
 -- ---- rota
 
 -- an outcome with the number of a row of tests
-outcome-refuses : (t : List Test) (n : ℕ) (o : List ℕ) (D : Derived) (x o′ : List ℕ) (D′ : Derived) (x′ : List ℕ) → rising 1 t ≡ true
-    → n ≡ heardOf t
-    → Refuses {A = Lent} (rules t) (rota.outcome n o D x o′ D′ x′ .number) (o, D, x) (left (rota.outcome n o D x o′ D′ x′))
-unfolding rota.outcome
-outcome-refuses t n o D x o′ D′ x′ r e = record {
-  heard = heard-as t n r e;
-  kept = λ h. ap {B = Lent} (λ (b : Bool). (cond b o′ o, cond b D′ D, cond b x′ x)) (ne-eqb n 0 h);
+outcome-refuses : (t : List Test) (o : List ℕ) (D : Derived) (x o′ : List ℕ) (D′ : Derived) (x′ : List ℕ) → rising 1 t ≡ true
+    → let y = state.outcome (heardOf t) o D x o′ D′ x′ in Refuses {A = Lent} (rules t) (y .number) (o, D, x) (left y)
+unfolding state.outcome unless
+outcome-refuses t o D x o′ D′ x′ r = record {
+  heard = heard-as t (heardOf t) r refl;
+  kept = λ h. ap {B = Lent} (λ (b : Bool). (cond b o′ o, cond b D′ D, cond b x′ x)) (ne-eqb (heardOf t) 0 h);
 }
 
 from-slots-refuses : (P : Plan) (avail o : List ℕ) (D : Derived)
-    → let y = rota.fromSlots P avail o D in Refuses {A = Lent} (rules (fromSlotsTable P avail o D)) (y .number) (o, D, []) (left y)
-unfolding rota.fromSlots rota.fromSlotsNo rota.ground heardOf
-from-slots-refuses P avail o D = outcome-refuses (fromSlotsTable P avail o D) _ o D [] o (afresh P o D) [] refl refl
+    → let y = state.fromSlots P avail o D in
+    Refuses {A = Lent} (rules (state.fromSlotsRow P avail o D)) (y .number) (o, D, []) (left y)
+unfolding state.fromSlots state.fromSlotsRow state.lentRow
+from-slots-refuses P avail o D = outcome-refuses (state.fromSlotsRow P avail o D) o D [] o (afresh P o D) [] refl
 
 assign-refuses : (P : Plan) (avail o : List ℕ) (D : Derived) (k w : ℕ)
     → let y = rota.assigned P avail o D k w in
-    Refuses {A = Lent} (rules (assignTable P avail o D k w)) (y .number) (o, D, []) (left y)
-unfolding rota.assigned rota.assignNo rota.ground heardOf
+    Refuses {A = Lent} (rules (rota.assignRow P avail o D k w)) (y .number) (o, D, []) (left y)
+unfolding rota.assigned rota.assignRow state.recountSlotsRow state.lentRow recountTests
 assign-refuses P avail o D k w =
-    outcome-refuses (assignTable P avail o D k w) _ o D [] (set o k w) (afresh P (set o k w) D) [] refl refl
+    outcome-refuses (rota.assignRow P avail o D k w) o D [] (set o k w) (afresh P (set o k w) D) [] refl
 
-recount-heard : (P : Plan) (avail : List ℕ) (units : ℕ) (firsts o : List ℕ) (D : Derived)
-    → Hears (recountTable P avail units firsts o D) (rota.recountNo P avail units firsts o D)
-unfolding rota.recountNo rota.ground heardOf
-recount-heard P avail units firsts o D = tests-heard (recountTable P avail units firsts o D) refl
+recount-heard : (counts room : Bool) (P : Plan) (avail : List ℕ) (units : ℕ) (firsts o : List ℕ) (D : Derived)
+    → Hears (state.recountRow counts room P avail units firsts o D) (heardOf (state.recountRow counts room P avail units firsts o D))
+unfolding state.recountRow state.lentRow recountTests
+recount-heard counts room P avail units firsts o D = tests-heard (state.recountRow counts room P avail units firsts o D) refl
 
 recount-slots-heard : (P : Plan) (avail o : List ℕ) (D : Derived)
-    → Hears (recountSlotsTable P avail o D) (rota.recountSlotsNo P avail o D)
-unfolding rota.recountSlotsNo rota.ground heardOf
-recount-slots-heard P avail o D = tests-heard (recountSlotsTable P avail o D) refl
+    → Hears (state.recountSlotsRow P avail o D) (heardOf (state.recountSlotsRow P avail o D))
+unfolding state.recountSlotsRow state.lentRow recountTests
+recount-slots-heard P avail o D = tests-heard (state.recountSlotsRow P avail o D) refl
 
 play-refuses : (c : Call)
-    → let y = playOf c in Refuses {A = Lent} (rules (playTable c)) (y .number) (c .owners, c .derived, c .answers) (left y)
-unfolding rota.played rota.playNo rota.ground heardOf
+    → let y = playOf c in Refuses {A = Lent} (rules (rowOf c)) (y .number) (c .owners, c .derived, c .answers) (left y)
+unfolding rota.played state.recountRow state.lentRow recountTests
 play-refuses c =
     let y = afreshIn c in
-    outcome-refuses (playTable c) _ (c .owners) (c .derived) (c .answers) (y .owners) (y .derived) (y .answers) refl refl
+    outcome-refuses (rowOf c) (c .owners) (c .derived) (c .answers) (y .owners) (y .derived) (y .answers) refl
 
 empty-refuses : (people slots : ℕ) (o : List ℕ) (D : Derived)
-    → let y = rota.emptied people slots o D in Refuses {A = Lent} (rules (emptyTable people slots o D)) (y .number) (o, D, []) (left y)
-unfolding rota.emptied rota.emptyNo rota.ground heardOf
+    → let y = state.emptied people slots o D in
+    Refuses {A = Lent} (rules (state.emptyRow people slots o D)) (y .number) (o, D, []) (left y)
+unfolding state.emptied state.emptyRow
 empty-refuses people slots o D =
-    outcome-refuses (emptyTable people slots o D) _ o D [] (fill nobody 0 slots o)
-    (derived (setsFrom people slots (nobodies slots) (D .sets)) (over (λ _. 0) people (D .minutes))) [] refl refl
+    outcome-refuses (state.emptyRow people slots o D) o D [] (fill nobody 0 slots o)
+    (derived (setsFrom people slots (nobodies slots) (D .sets)) (over (λ _. 0) people (D .minutes))) [] refl
 
 owner-heard : (people slots : ℕ) (o : List ℕ) (k : ℕ)
-    → Hears (ownersTable people slots o (test 11 (ltb k slots && knownBy people (getD o k 0)) ∷ []))
-    (numberNo (rota.ownerIs people slots o k))
-unfolding rota.ownerIs rota.ground heardOf
-owner-heard people slots o k =
-    heard-as (ownersTable people slots o (test 11 (ltb k slots && knownBy people (getD o k 0)) ∷ [])) _ refl (number-said _ (getD o k 0))
+    → Hears (state.ownerRow people slots o k) (numberNo (state.ownerIs people slots o k))
+unfolding state.ownerIs state.ownerRow
+owner-heard people slots o k = heard-as (state.ownerRow people slots o k) _ refl (number-said _ (getD o k 0))
 
-minutes-heard : (people : ℕ) (m : List ℕ) (p : ℕ)
-    → Hears (test 1 (peopleOk people) ∷ test 2 (leb people (length m)) ∷ test 11 (ltb p people) ∷ [])
-    (minutesNo (rota.minutesIs people m p))
-unfolding rota.minutesIs rota.ground heardOf
-minutes-heard people m p =
-    heard-as (test 1 (peopleOk people) ∷ test 2 (leb people (length m)) ∷ test 11 (ltb p people) ∷ []) _ refl (minutes-said _ (getD m p 0))
+minutes-heard : (people : ℕ) (m : List ℕ) (p : ℕ) → Hears (state.minutesRow people m p) (minutesNo (state.minutesIs people m p))
+unfolding state.minutesIs state.minutesRow
+minutes-heard people m p = heard-as (state.minutesRow people m p) _ refl (minutes-said _ (getD m p 0))
 
 unassigned-heard : (people slots : ℕ) (o : List ℕ)
-    → Hears (ownersTable people slots o (test 11 (all slots (knownAt people o)) ∷ [])) (numberNo (rota.unassignedIs people slots o))
-unfolding rota.unassignedIs rota.ground heardOf
-unassigned-heard people slots o =
-    heard-as (ownersTable people slots o (test 11 (all slots (knownAt people o)) ∷ [])) _ refl (number-said _ (unassigned slots o))
+    → Hears (state.unassignedRow people slots o) (numberNo (state.unassignedIs people slots o))
+unfolding state.unassignedIs state.unassignedRow
+unassigned-heard people slots o = heard-as (state.unassignedRow people slots o) _ refl (number-said _ (unassigned slots o))
 
-module _ (P : Plan) (o : List ℕ) where
-  abbrev pub uncoveredTable : List Test
-  uncoveredTable =
-      test 1 (countsOk (P .people) (P .slots)) ∷ test 2 (slotRoomOk (P .slots) (P .starts) (P .ends) && leb (P .slots) (length o))
-      ∷ test 9 (slotsOk (P .slots) (P .starts) (P .ends)) ∷ test 11 (all (P .slots) (knownAt (P .people) o)) ∷ []
-
-  uncovered-heard : Hears uncoveredTable (minutesNo (rota.uncoveredIs P o))
-  unfolding rota.uncoveredIs rota.ground heardOf
-  uncovered-heard = heard-as uncoveredTable _ refl (minutes-said _ (uncovered P o))
+uncovered-heard : (P : Plan) (o : List ℕ) → Hears (state.uncoveredRow P o) (minutesNo (state.uncoveredIs P o))
+unfolding state.uncoveredIs state.uncoveredRow
+uncovered-heard P o = heard-as (state.uncoveredRow P o) _ refl (minutes-said _ (uncovered P o))
 
 -- the empty set of no slots, refused by 1
 abbrev pub refused-set : Changed
@@ -135,8 +127,8 @@ module _ (people slots : ℕ) (ws : List ℕ) (p : ℕ) where
   row-number t =
       by-test (peopleOk people) _ (λ e. simp (e, le-leb slots 1024 (slot-count-says slots t .1), t)) (λ e. simp e)
 
-  slots-of-number : rota.slotsOfIs people slots ws p .number ≡ heardOf rowTable
-  unfolding rota.slotsOfIs loadOf changedAs countsOk heardOf
+  slots-of-number : state.slotsOfIs people slots ws p .number ≡ heardOf rowTable
+  unfolding state.slotsOfIs loadOf changedAs countsOk heardOf
   slots-of-number =
       by-test (slotCountOk slots) _
       (λ t.
@@ -146,7 +138,7 @@ module _ (people slots : ℕ) (ws : List ℕ) (p : ℕ) where
       ap (λ (b : Bool). cond b (loadOf ws people p slots) refused-set .number) f
       ∙ sym (ap (λ (b : Bool). orElse b 1 after) (ap (λ (b : Bool). peopleOk people && b) f ∙ and-false (peopleOk people))))
 
-  slots-of-heard : Hears rowTable (rota.slotsOfIs people slots ws p .number)
+  slots-of-heard : Hears rowTable (state.slotsOfIs people slots ws p .number)
   slots-of-heard = heard-as rowTable _ refl slots-of-number
 
 pub rota-refuses : RotaRefuses

@@ -5,14 +5,15 @@ use mathlib.Core.List.{List, []}
 use mathlib.Core.Logic.{inl, _↔_, _≢_}
 use Prim.Native.Nat.{ℕ, _-_, _*_, _≤_, _<_, zero-le}
 use native.Mathlib.Omega.{arith}
-use borrow.Author.Tests.{eqb-true, eqb-false, leb-true}
+use borrow.Author.Tests.{eqb-true, eqb-false}
 use lib.Dec.{eqb, leb}
 use lib.ListN.{length, getD, set, length-set}
 use lib.Seq.{getD-set-same, getD-set-other}
 use Rattle.paper.specs.Limits.{nobody, orElse, peopleOk, slotCountOk, countsOk, heardOf}
+use Rattle.paper.proofs.Rows.{passed}
 use Rattle.paper.specs.Rows.{unless}
 use Rattle.paper.specs.Count.{all, sum, count, over, fill}
-use Rattle.paper.proofs.Logic.{by-test, both, three, five, and-true, cond-zero, zero-of, people-says, slot-count-says}
+use Rattle.paper.proofs.Logic.{by-test, five, and-true, zero-of, slot-count-says}
 use Rattle.paper.proofs.Count.{all-each, getD-over, getD-over-out, getD-fill-in, getD-fill-out}
 use Rattle.slotset.specs.declared.Changed.{Changed}
 use Rattle.slotset.specs.declared.Number.the-variants as number
@@ -21,25 +22,26 @@ use Rattle.slotset.specs.Answers.{personRow, rowSlots, slotsOf, numberAs, numbe
 use Rattle.slotset.proofs.Refusals.{number-said}
 use Rattle.slotset.proofs.Puts.{slot-lt}
 use Rattle.slots.specs.declared.Minutes.the-variants as minutes
-use Rattle.slots.specs.Lent.{slotRoomOk, slotsOk, minutesAt, minutesAs, minutesNo}
+use Rattle.slots.specs.Lent.{slotRoomOk, minutesAt, minutesAs, minutesNo}
 use Rattle.slots.proofs.LentLaws.{minutes-said}
 use Rattle.units.specs.Units.{unitStart, unitsOk, InUnit}
 use Rattle.units.proofs.Units.{unit-within}
-use Rattle.rota.specs.Derived.{Plan, Derived, derived, portion, worked, unassigned, uncovered, held, setsFrom, nobodies, afresh}
-use Rattle.rota.specs.Recount.{knownAt, availableAt, recounts}
-use Rattle.rota.specs.Entries.{roomOk, ground, Outcome, outcome, fromSlotsNo, fromSlots, assigned, playNo, emptyNo, emptied}
-use Rattle.rota.specs.Entries.{ownerIs, minutesIs, unassignedIs, uncoveredIs, slotsOfIs}
-use Rattle.rota.proofs.Sets.{held-own, held-not, sets-in, sets-out}
-use Rattle.rota.proofs.Steps.{afresh-step, afresh-lengths}
-use Rattle.rota.proofs.Made.{nobody-at, none-worked}
-use Rattle.rota.proofs.Entered.{ground-all, grounds, Grounds, recount-says, says-recount}
+use Rattle.owners.specs.Derived.{Plan, Derived, derived, portion, worked, unassigned, uncovered, held, setsFrom, nobodies, afresh}
+use Rattle.owners.specs.Recount.{knownAt, availableAt, recounts}
+use Rattle.rota.specs.Entries.{assigned}
+use Rattle.owners.specs.Entries.{Outcome, outcome, lentRow, fromSlotsRow, fromSlots, emptied}
+use Rattle.owners.specs.Entries.{ownerIs, minutesIs, unassignedIs, uncoveredIs, slotsOfIs}
+use Rattle.owners.proofs.Sets.{held-own, held-not, sets-in, sets-out}
+use Rattle.owners.proofs.Steps.{afresh-step, afresh-lengths}
+use Rattle.owners.proofs.Made.{nobody-at, none-worked}
+use Rattle.owners.proofs.Entered.{grounds, Grounds, recount-says, says-recount, empty-says}
 use Rattle.rota.proofs.Asked.{Asks, assign-asks}
 use Rattle.rota.proofs.Promises.{assign-recounts}
 use Rattle.promises.specs.Entries.{Call, noOf, onRota}
 use Rattle.promises.specs.RotaRules.{PassesRecount, PastKept, Made, RotaByRule}
 use Rattle.promises.proofs.Tests.{known-test, available-test}
 use Rattle.promises.proofs.SetRules.{load-row}
-use Rattle.promises.proofs.Calls.{accepted-says, play-room}
+use Rattle.promises.proofs.Calls.{roomOk, accepted-says, play-room, rooms, number-of}
 
 -- ---- minutes
 
@@ -111,16 +113,14 @@ past-afresh P avail o o′ D x g same = record {
 
 module _ (P : Plan) (avail o : List ℕ) (D : Derived) (e : fromSlots P avail o D .number ≡ 0) where
   from-is : fromSlots P avail o D ≡ record { number = 0; owners = o; derived = afresh P o D; answers = [] }
-  unfolding fromSlots outcome
+  unfolding fromSlots outcome unless
   from-is = ap (λ (n : ℕ). outcome n o D [] o (afresh P o D) []) e
 
   from-tests : Grounds P avail o D × (all (P .slots) (knownAt (P .people) o) ≡ true) × (all (P .slots) (availableAt avail o) ≡ true)
-  unfolding fromSlots outcome fromSlotsNo
+  unfolding fromSlots outcome fromSlotsRow lentRow
   from-tests =
-      let y = ground-all (countsOk (P .people) (P .slots)) (roomOk P avail o D) (slotsOk (P .slots) (P .starts) (P .ends)) _ e in
-      let k = cond-zero (all (P .slots) (knownAt (P .people) o)) _ 10 (y .3) in
-      let a = cond-zero (all (P .slots) (availableAt avail o)) 0 11 (k .1) in
-      (grounds P avail o D (y .0) (y .1) (y .2), k .0, a .0)
+      let h = passed (fromSlotsRow P avail o D) refl e in
+      (grounds P avail o D (h 0) (h 1) (h 4) (h 5) (h 6) (h 7) (h 9), h 10, h 11)
 
   from-recounts : recounts P avail 0 [] o (afresh P o D) ≡ true
   unfolding knownAt availableAt
@@ -155,7 +155,7 @@ module _ (P : Plan) (avail o : List ℕ) (D : Derived) (k w : ℕ) (e : assigned
 
   assigned-is : assigned P avail o D k w
       ≡ record { number = 0; owners = set o k w; derived = afresh P (set o k w) D; answers = [] }
-  unfolding assigned outcome
+  unfolding assigned outcome unless
   assigned-is = ap (λ (n : ℕ). outcome n o D [] (set o k w) (afresh P (set o k w) D) []) e
 
   assign-made : let y = assigned P avail o D k w in
@@ -172,12 +172,6 @@ module _ (P : Plan) (avail o : List ℕ) (D : Derived) (k w : ℕ) (e : assigned
           past = past-afresh P avail o (set o k w) D [] (A .on) (λ j h. other j (λ q. omega (arith, q, A .slot)));
         },
       )
-
--- 1, 2 and 9 pass and the recount doesn't
-by-ten : (counts room sound right : Bool) → counts ≡ true → room ≡ true → sound ≡ true → right ≡ false
-    → ground counts room sound (orElse right 10 0) ≡ 10
-unfolding ground
-by-ten counts room sound right a b d f = simp (a, b, d, f)
 
 module _ (c : Call) (k w : ℕ) (e : noOf c ≡ 0) where
   abbrev y : Outcome
@@ -212,10 +206,10 @@ module _ (c : Call) (k w : ℕ) (e : noOf c ≡ 0) where
         (and-true _ _ (ap (leb (16 * P .people)) (lengths .1) ∙ r .3) (ap (leb (P .people)) (lengths .2) ∙ r .4))))
 
     uneven-refused : noOf next ≡ 10
-    unfolding playNo
     uneven-refused =
         let A = accepted-says c e in
-        by-ten _ _ _ _ (and-true _ _ (A .counts) (A .few)) (and-true _ _ room (play-room c A)) (and-true _ _ (A .slots) (A .units)) fails
+        number-of next (A .few) (play-room c A) (rooms (c .plan) (c .avail) (y .owners) (y .derived) (A .counts) room) (A .slots) (A .units)
+        ∙ ap (λ (b : Bool). cond b 0 10) fails
 
 -- ---- an empty rota
 
@@ -227,7 +221,7 @@ module _ (P : Plan) (o : List ℕ) (D : Derived) (e : emptied (P .people) (P .sl
   cleared = derived (setsFrom (P .people) (P .slots) (nobodies (P .slots)) (D .sets)) (over (λ _. 0) (P .people) (D .minutes))
 
   emptied-is : emptied (P .people) (P .slots) o D ≡ record { number = 0; owners = owners; derived = cleared; answers = [] }
-  unfolding emptied outcome
+  unfolding emptied outcome unless
   emptied-is = ap (λ (n : ℕ). outcome n o D [] owners cleared []) e
 
   -- what its tests say
@@ -239,18 +233,10 @@ module _ (P : Plan) (o : List ℕ) (D : Derived) (e : emptied (P .people) (P .sl
     pub minutes-room : P .people ≤ length (D .minutes)
 
   clears : Clears
-  unfolding emptied outcome emptyNo countsOk
+  unfolding emptied outcome
   clears =
-      let x = ground-all (countsOk (P .people) (P .slots)) _ true 0 e in
-      let c = both (peopleOk (P .people)) (slotCountOk (P .slots)) (x .0) in
-      let r = three (leb (P .slots) (length o)) (leb (16 * P .people) (length (D .sets))) (leb (P .people) (length (D .minutes))) (x .1) in
-      record {
-        people = people-says (P .people) (c .0) .1;
-        slots = slot-count-says (P .slots) (c .1) .1;
-        owners-room = leb-true _ _ (r .0);
-        sets-room = leb-true _ _ (r .1);
-        minutes-room = leb-true _ _ (r .2);
-      }
+      let x = empty-says (P .people) (P .slots) o D e in
+      record { people = x .1; slots = x .2; owners-room = x .3; sets-room = x .4; minutes-room = x .5 }
 
   nobodys : (k : ℕ) → k < P .slots → getD owners k 0 ≡ nobody
   nobodys k h = getD-fill-in nobody 0 (P .slots) o k zero-le (omega arith) (omega (arith, clears .owners-room))

@@ -21,9 +21,9 @@ use Rattle.units.specs.Settings.{boundaryOk, settingsOk}
 use Rattle.units.specs.Units.{startRises, startOk, unitsOk}
 use Rattle.units.specs.Domains.{available}
 use Rattle.targets.specs.Figures.{zeroF, whole, figuresOk, figuresOkAt, allFiguresOk}
-use Rattle.rota.specs.Derived.{knownBy}
-use Rattle.rota.specs.Recount.{availableFor}
-use Rattle.rota.proofs.Minutes.{known-below, known-nobody, known-person}
+use Rattle.owners.specs.Derived.{knownBy}
+use Rattle.owners.specs.Recount.{availableFor}
+use Rattle.owners.proofs.Minutes.{known-below, known-nobody, known-person}
 use Rattle.promises.specs.Tests.{SlotsRight, RangesRight, FiguresRight, SettingsRight, UnitsRight, TestsByRule}
 
 -- a test of two

@@ -20,12 +20,11 @@ use Rattle.rota.specs.Board.{ownerOf, unowned}
 use Rattle.rota.specs.Lent.{fitsUnit, frozenUnit}
 use Rattle.rota.specs.Moves.{anyOf, decided, swapped}
 use Rattle.rota.specs.Plays.{step, ownersAfter, answer, answers, drawsOf}
-use Rattle.rota.specs.Derived.{knownBy, portion, worked, held, setsFrom, afresh}
-use Rattle.rota.specs.Recount.{knownAt, availableFor, availableAt, evenAt, setSlotAt, setAt, minutesOkAt, recounts}
-use Rattle.rota.specs.Entries.{roomOk}
+use Rattle.owners.specs.Derived.{knownBy, portion, worked, held, setsFrom, afresh}
+use Rattle.owners.specs.Recount.{knownAt, availableFor, availableAt, evenAt, setSlotAt, setAt, minutesOkAt, recounts}
 use Rattle.promises.specs.Entries.{Call, noOf, playOf}
 use Rattle.promises.specs.Marked.{Owned, apart, Spare, twoUnits}
-use Rattle.promises.proofs.Calls.{Accepted, says-accepted, accepted-is}
+use Rattle.promises.proofs.Calls.{roomOk, Accepted, says-accepted, accepted-is}
 
 -- with as many draws as there are numbers for, and room for the answers, it is accepted
 module _ (r : Owned) (frozen count : ℕ) (kinds ones twos : List ℕ) (more : Spare) (few : leb count 1024 ≡ true)

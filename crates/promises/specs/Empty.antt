@@ -9,18 +9,17 @@ use Rattle.slotset.specs.declared.Run.the-variants.{Span}
 use Rattle.slots.specs.Atomic.{Base}
 use Rattle.units.specs.declared.Settings.{Settings}
 use Rattle.targets.specs.Outcome as targets
-use Rattle.rota.specs.Derived.{Plan}
+use Rattle.owners.specs.Derived.{Plan}
 use Rattle.slots.specs.Lent.{minutesNo}
-use Rattle.promises.specs.Entries.{Call, Component, noOf, ownersIn}
-use Rattle.slotset.specs.Answers.{toldNo, numberNo}
+use Rattle.promises.specs.Entries.{Call, Component, noOf, ownersIn, rowOf}
+use Rattle.slotset.specs.Answers.{toldNo, numberNo, foundNo, runNo}
 use Rattle.promises.specs.SetRefusals.{foundNo, runNo}
 use Rattle.promises.specs.Table.{Hears}
-use Rattle.promises.specs.Refusals.{playTable}
 use Rattle.promises.specs.Rota.{firstCall}
 
 -- "A component that always refuses breaks demand 2: refusals come exactly by the table."
 abbrev pub RefusesByTable : Component → Type 0
-RefusesByTable C = (c : Call) → Hears (playTable c) (C .play c .number)
+RefusesByTable C = (c : Call) → Hears (rowOf c) (C .play c .number)
 
 -- one of its entries does
 pub data AlwaysRefuses (C : Component) : Type 0 where

@@ -25,7 +25,9 @@ use Rattle.rota.specs.Board.{Board}
 use Rattle.rota.specs.Lent.{boardOf}
 use Rattle.rota.specs.Moves.{Draw}
 use Rattle.rota.specs.Plays.{drawsOf, ownersAfter, answers}
-use Rattle.rota.specs.Derived.{Plan, Derived, afresh}
+use Rattle.paper.specs.Limits.{Test, heardOf}
+use Rattle.owners.specs.Derived.{Plan, Derived, afresh}
+use Rattle.owners.specs.Entries as state
 use Rattle.rota.specs.Entries as rota
 use Rattle.draws.specs.declared.Draw as struct
 use Rattle.draws.specs.Columns.{kinds, ones, twos}
@@ -48,13 +50,16 @@ pub record Call : Type 0 where
   pub derived : Derived
   pub answers : List ℕ
 
--- the number that it hears, and its whole outcome
-abbrev pub noOf : Call → ℕ
-noOf c =
-    rota.playNo (c .plan) (c .avail) (c .units) (c .firsts) (c .frozen) (c .count) (c .kinds) (c .ones) (c .twos) (c .owners) (c .derived)
+-- its tests, the number that it hears, and its whole outcome
+abbrev pub rowOf : Call → List Test
+rowOf c =
+    rota.playRow (c .plan) (c .avail) (c .units) (c .firsts) (c .frozen) (c .count) (c .kinds) (c .ones) (c .twos) (c .owners) (c .derived)
     (c .answers)
 
-abbrev pub playOf : Call → rota.Outcome
+abbrev pub noOf : Call → ℕ
+noOf c = heardOf (rowOf c)
+
+abbrev pub playOf : Call → state.Outcome
 playOf c =
     rota.played (c .plan) (c .avail) (c .units) (c .firsts) (c .frozen) (c .count) (c .kinds) (c .ones) (c .twos) (c .owners) (c .derived)
     (c .answers)
@@ -108,12 +113,12 @@ abbrev pub ofDraws : Call → List struct.Draw → Call
 ofDraws c ds = withDraws c (c .count) (kinds ds) (ones ds) (twos ds)
 
 -- what it comes to by the entry that takes the list
-abbrev pub playDrawsOf : Call → List struct.Draw → rota.Outcome
+abbrev pub playDrawsOf : Call → List struct.Draw → state.Outcome
 playDrawsOf c ds =
     playedDraws (c .plan) (c .avail) (c .units) (c .firsts) (c .frozen) (c .count) ds (c .owners) (c .derived) (c .answers)
 
 -- the rota that the rules give, worked out afresh, with an answer a draw
-abbrev pub afreshIn : Call → rota.Outcome
+abbrev pub afreshIn : Call → state.Outcome
 afreshIn c = record {
   number = 0;
   owners = ownersIn c;
@@ -137,7 +142,7 @@ pub record Component : Type 0 where
   pub targets : targets.Given → List ℤ → targets.Outcome
   pub rotations : Settings → ℕ → List ℕ → List ℕ → List ℕ → Written
   -- a play; the uncovered minutes of owners
-  pub play : Call → rota.Outcome
+  pub play : Call → state.Outcome
   pub uncovered : Plan → List ℕ → Minutes
 
 abbrev pub built : Component
@@ -152,5 +157,5 @@ built = record {
   targets = targets.computeTargets;
   rotations = rotationStartsIs;
   play = playOf;
-  uncovered = rota.uncoveredIs;
+  uncovered = state.uncoveredIs;
 }

@@ -9,8 +9,8 @@ use lib.ListN.{length, getD, take, drop}
 use Rattle.paper.specs.Limits.{nobody}
 use Rattle.paper.specs.Count.{sum}
 use Rattle.targets.specs.Remainder.{sumℤ}
-use Rattle.rota.specs.Derived.{knownBy}
-use Rattle.rota.specs.Recount.{availableFor}
+use Rattle.owners.specs.Derived.{knownBy}
+use Rattle.owners.specs.Recount.{availableFor}
 use Rattle.job.specs.declared.JobAnswer.the-variants as answer
 use Rattle.records.specs.Fields.{le, Bytes}
 use Rattle.records.specs.Records.{bodies}

@@ -7,7 +7,7 @@ use lib.ListN.{length, take}
 use Rattle.paper.specs.Limits.{drawsMost}
 use Rattle.rota.specs.Moves.{Draw}
 use Rattle.rota.specs.Plays.{drawsOf, ownersAfter, answers}
-use Rattle.rota.specs.Derived.{Derived, afresh}
+use Rattle.owners.specs.Derived.{Derived, afresh}
 use Rattle.draws.specs.declared.Draw as struct
 use Rattle.draws.specs.Columns.{kinds, ones, twos}
 use Rattle.promises.specs.Entries.{Call, Component, withDraws, onRota, boardIn, drawsIn}

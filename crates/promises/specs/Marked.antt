@@ -16,7 +16,7 @@ use Rattle.slots.specs.Ranges.{ranges}
 use Rattle.slots.specs.Atomic.{Base, base, Atoms}
 use Rattle.units.specs.declared.Settings.{Settings}
 use Rattle.targets.specs.Outcome.{given}
-use Rattle.rota.specs.Derived.{plan, derived}
+use Rattle.owners.specs.Derived.{plan, derived}
 use Rattle.promises.specs.Entries.{Call, Component}
 
 -- ---- what the cases give

@@ -9,8 +9,8 @@ use Rattle.slots.specs.Merged.{MergedOut, MergedEnd}
 use Rattle.slots.specs.Atomic.{Atoms, AtomsEnd}
 use Rattle.units.specs.Answers.{Written, Are}
 use Rattle.targets.specs.Outcome as targets
-use Rattle.rota.specs.Derived.{Derived}
-use Rattle.rota.specs.Entries as rota
+use Rattle.owners.specs.Derived.{Derived}
+use Rattle.owners.specs.Entries as state
 use Rattle.job.specs.declared.JobAnswer.{JobAnswer}
 use Rattle.job.specs.Outcome as job
 
@@ -28,5 +28,5 @@ pub record OneOutcome : Type 1 where
   pub written : (w : Written) → Only (λ (r : Number × List ℕ). Are w (r .0) (r .1))
   pub compute-targets : (g : targets.Given) (out : List ℤ) → Only (λ (r : ℕ × List ℤ). targets.Meets g out (r .0) (r .1))
   -- from_slots, assign, empty, and play, of columns and of structs
-  pub rota : (y : rota.Outcome) → Only (λ (r : ℕ × List ℕ × Derived × List ℕ). rota.Ended y (r .0) (r .1) (r .2) (r .3))
+  pub rota : (y : state.Outcome) → Only (λ (r : ℕ × List ℕ × Derived × List ℕ). state.Ended y (r .0) (r .1) (r .2) (r .3))
   pub run-job : (y : job.Result) → Only (λ (r : JobAnswer × List ℕ). job.Ends y (r .0) (r .1))

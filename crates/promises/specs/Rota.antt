@@ -13,9 +13,9 @@ use Rattle.slots.specs.Lent.{demandOf}
 use Rattle.units.specs.Units.{unitOf}
 use Rattle.slots.specs.declared.Minutes.the-variants as minutes
 use Rattle.rota.specs.Acts as acts
-use Rattle.rota.specs.Derived.{knownBy}
-use Rattle.rota.specs.Recount.{availableFor, recounts}
-use Rattle.rota.specs.Entries.{Outcome, slotsOfIs}
+use Rattle.owners.specs.Derived.{knownBy}
+use Rattle.owners.specs.Recount.{availableFor, recounts}
+use Rattle.owners.specs.Entries.{Outcome, slotsOfIs}
 use Rattle.draws.specs.declared.Draw.{Draw}
 use Rattle.promises.specs.Entries.{Call, Component, noOf, playOf, withDraws, onRota, ofDraws, playDrawsOf, afreshIn, boardIn}
 use Rattle.promises.specs.MoveRules.{drawAt, foundAt}

@@ -14,9 +14,10 @@ use Rattle.slotset.specs.Answers.{rowSlots, slotsOf, numberNo}
 use Rattle.slots.specs.declared.Minutes.the-variants.{Are}
 use Rattle.slots.specs.Lent.{minutesNo}
 use Rattle.units.specs.Units.{unitStart, unitsOk, InUnit}
-use Rattle.rota.specs.Derived.{Plan, Derived, worked, uncovered}
-use Rattle.rota.specs.Recount.{recounts}
-use Rattle.rota.specs.Entries.{Outcome, fromSlots, assigned, emptied, ownerIs, minutesIs, unassignedIs, uncoveredIs, slotsOfIs}
+use Rattle.owners.specs.Derived.{Plan, Derived, worked, uncovered}
+use Rattle.owners.specs.Recount.{recounts}
+use Rattle.owners.specs.Entries.{Outcome, fromSlots, emptied, ownerIs, minutesIs, unassignedIs, uncoveredIs, slotsOfIs}
+use Rattle.rota.specs.Entries.{assigned}
 use Rattle.promises.specs.Entries.{Call, noOf, onRota}
 
 -- "The recount ..: owners known and available, units uniform, sets and minutes equal to those worked out from owners."

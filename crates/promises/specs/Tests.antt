@@ -15,8 +15,8 @@ use Rattle.units.specs.declared.Settings.{Settings}
 use Rattle.units.specs.Settings.{settingsOk}
 use Rattle.units.specs.Units.{unitsOk}
 use Rattle.targets.specs.Figures.{zeroF, whole, allFiguresOk}
-use Rattle.rota.specs.Derived.{knownBy}
-use Rattle.rota.specs.Recount.{availableFor}
+use Rattle.owners.specs.Derived.{knownBy}
+use Rattle.owners.specs.Recount.{availableFor}
 
 -- 3 and 9: not "a base slot is empty or reversed, ends after 100,000,000, or starts before the previous one ends"
 pub record SlotsRight (slots : ℕ) (starts ends : List ℕ) : Type 0 where

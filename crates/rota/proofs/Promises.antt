@@ -1,20 +1,22 @@
 -- What the rota promises, each by name: of lent slots, units, availability and flags, and of a play of any length. Assumes nothing.
-use mathlib.Core.Path.{_≡_, sym, ap, ap₂, _∙_, subst}
+use mathlib.Core.Path.{_≡_, refl, sym, ap, ap₂, _∙_, subst}
 use mathlib.Core.Bool.{Bool, true, false, not, _&&_, _||_}
 use mathlib.Core.List.{List, [], _∷_, _++_, append-assoc, append-nil}
 use Prim.Native.Nat.{ℕ, zero, suc, _+_, _-_, _*_, _≤_, _<_}
 use native.Mathlib.Omega.{arith}
 use borrow.Author.Tests.{lt-ltb, le-leb, eqb-true, eqb-false}
-use lib.Dec.{eqb, ltb, leb}
+use lib.Dec.{eqb, ltb}
 use lib.ListN.{length, getD, set, drop, length-set}
 use lib.Seq.{getD-drop, getD-set-same, getD-set-other, getD-append-seam, getD-append-add}
-use Rattle.paper.specs.Limits.{nobody, orElse, countsOk}
-use Rattle.paper.specs.Count.{sum, allIn, onto}
-use Rattle.paper.proofs.Logic.{by-test, both, five, and-true, cond-zero}
-use Rattle.paper.proofs.Count.{in-each, each-all, sum-same, getD-over-out}
+use Rattle.paper.specs.Limits.{nobody, heardOf}
+use Rattle.paper.specs.Rows.{unless}
+use Rattle.paper.proofs.Rows.{passed, all-pass}
+use Rattle.paper.specs.Count.{sum, all, allIn, onto}
+use Rattle.paper.proofs.Logic.{by-test, both}
+use Rattle.paper.proofs.Count.{in-each, sum-same, getD-over-out}
 use Rattle.slotset.specs.Slots.{slot}
 use Rattle.slotset.proofs.Puts.{Fit}
-use Rattle.slots.specs.Lent.{demandOf, slotRoomOk, slotsOk}
+use Rattle.slots.specs.Lent.{demandOf}
 use Rattle.units.specs.Units.{unitStart, unitEnd, unitOf}
 use Rattle.units.specs.Domains.{available, able, unfrozen, clear, unitFrozen}
 use Rattle.units.proofs.Units.{unit-of-in}
@@ -22,20 +24,21 @@ use Rattle.rota.specs.Board.{Board, BoardSound, InUnit, Even, ownerOf}
 use Rattle.rota.specs.Moves.{Draw, draw}
 use Rattle.rota.specs.Plays.{step, ownersAfter, answer, answers, touched, drawsOf}
 use Rattle.rota.specs.Lent.{fitsUnit, frozenUnit, boardOf}
-use Rattle.rota.specs.Derived.{Plan, PlanSound, Derived, knownBy, worked, uncovered, afresh}
-use Rattle.rota.specs.Recount.{availableFor, knownAt, availableAt, recounts}
-use Rattle.rota.specs.Entries.{roomOk, ground, Outcome, outcome, fromSlotsNo, fromSlots, recountNo, recountSlotsNo}
+use Rattle.owners.specs.Derived.{Plan, Derived, knownBy, worked, uncovered, afresh}
+use Rattle.owners.specs.Inside.{PlanSound}
+use Rattle.owners.specs.Recount.{availableFor, recountTests, recounts}
+use Rattle.owners.specs.Entries.{Outcome, outcome, lentRow, recountRow, recountSlotsRow, fromSlotsRow, fromSlots}
 use Rattle.rota.specs.Acts.{Heard, Acts, ChoiceOutside, ownerThen}
-use Rattle.rota.proofs.Minutes.{known-nobody, known-person, minutes-total}
+use Rattle.owners.proofs.Minutes.{known-nobody, known-person, minutes-total}
 use Rattle.rota.proofs.Plays.{play-even, play-frozen, play-covered, play-only, play-length, play-past, owners-append}
 use Rattle.rota.proofs.Plays.{answers-append, answers-length, draws-length}
-use Rattle.rota.proofs.Steps.{afresh-same, afresh-again, afresh-step, afresh-lengths}
-use Rattle.rota.proofs.Sets.{Beside, sets-out}
-use Rattle.rota.proofs.Entered.{Recounted, recount-says, says-recount, recount-step, PlayAsks, asks-sound, asks-even}
-use Rattle.rota.proofs.Entered.{Grounds, ground-all}
+use Rattle.owners.proofs.Steps.{afresh-same, afresh-again, afresh-step, afresh-lengths}
+use Rattle.owners.proofs.Sets.{Beside, sets-out}
+use Rattle.owners.proofs.Entered.{Grounds, Recounted, recount-says, says-recount, recount-step, slots-asks}
+use Rattle.rota.proofs.Entered.{PlayAsks, asks-sound, asks-even}
 use Rattle.rota.proofs.Drawn.{draw-acts-exactly}
 use Rattle.rota.proofs.HandsOver.{draw-hands-over}
-use Rattle.rota.proofs.Asked.{Asks, slots-asks}
+use Rattle.rota.proofs.Asked.{Asks}
 
 -- ---- a play that is accepted
 
@@ -173,62 +176,32 @@ pub record Copied (P : Plan) (D E D′ : Derived) : Type 0 where
   pub lengths : (length (D′ .sets) ≡ length (E .sets)) × (length (D′ .minutes) ≡ length (E .minutes))
 
 -- a rota that passes with units passes without
-pub recount-slots-too : (P : Plan) (avail : List ℕ) (units : ℕ) (firsts o : List ℕ) (D : Derived)
-    → recountNo P avail units firsts o D ≡ 0 → recountSlotsNo P avail o D ≡ 0
-unfolding recountNo recountSlotsNo ground
-recount-slots-too P avail units firsts o D e =
-    let y = ground-all (countsOk (P .people) (P .slots)) _ _ _ e in
-    let r = both (roomOk P avail o D) _ (y .1) in
-    let l = both (slotsOk (P .slots) (P .starts) (P .ends)) _ (y .2) in
-    let c = recount-says P avail units firsts o D (cond-zero (recounts P avail units firsts o D) 0 9 (y .3) .0) in
-    simp (
-      y .0,
-      r .0,
-      l .0,
-      says-recount P avail 0 [] o D
-          record {
-            known = c .known;
-            available = c .available;
-            even = λ u j h a b. absurd (omega arith);
-            sets = c .sets;
-            minutes = c .minutes;
-          },
-    )
+pub recount-slots-too : (counts room : Bool) (P : Plan) (avail : List ℕ) (units : ℕ) (firsts o : List ℕ) (D : Derived)
+    → heardOf (recountRow counts room P avail units firsts o D) ≡ 0 → heardOf (recountSlotsRow P avail o D) ≡ 0
+unfolding recountRow recountSlotsRow lentRow recountTests all
+recount-slots-too counts room P avail units firsts o D e =
+    let h = passed (recountRow counts room P avail units firsts o D) refl e in
+    all-pass (recountSlotsRow P avail o D)
+    (h 0, (h 1, (refl, (h 3, (h 4, (h 5, (h 6, (h 7, (refl, (h 9, (h 11, (h 12, (refl, (h 14, (h 15, tt)))))))))))))))
 
-module _ (P : Plan) (avail o : List ℕ) (D : Derived) (e : recountSlotsNo P avail o D ≡ 0) where
-  tests : (countsOk (P .people) (P .slots) ≡ true) × (roomOk P avail o D ≡ true)
-      × (slotsOk (P .slots) (P .starts) (P .ends) ≡ true) × (orElse (recounts P avail 0 [] o D) 10 0 ≡ 0)
-  unfolding recountSlotsNo
-  tests = ground-all (countsOk (P .people) (P .slots)) (roomOk P avail o D) (slotsOk (P .slots) (P .starts) (P .ends)) _ e
-
+module _ (P : Plan) (avail o : List ℕ) (D : Derived) (e : heardOf (recountSlotsRow P avail o D) ≡ 0) where
   on : Grounds P avail o D
   on = slots-asks P avail o D e .0
 
   right : Recounted P avail 0 [] o D
-  right = slots-asks P avail o D e .1
+  right = recount-says P avail 0 [] o D (slots-asks P avail o D e .1)
 
   module _ (E : Derived) (rs : 16 * P .people ≤ length (E .sets)) (rm : P .people ≤ length (E .minutes)) where
-    room-there : roomOk P avail o E ≡ true
-    unfolding roomOk
-    room-there =
-        let y = five (slotRoomOk (P .slots) (P .starts) (P .ends)) (leb (16 * P .people) (length avail)) (leb (P .slots) (length o))
-        (leb (16 * P .people) (length (D .sets))) (leb (P .people) (length (D .minutes))) (tests .1) in
-        and-true _ _ (y .0) (and-true _ _ (y .1) (and-true _ _ (y .2) (and-true _ _ (le-leb _ _ rs) (le-leb _ _ rm))))
-
-    accepted : fromSlotsNo P avail o E ≡ 0
-    unfolding fromSlotsNo ground knownAt availableAt
+    accepted : heardOf (fromSlotsRow P avail o E) ≡ 0
+    unfolding fromSlotsRow recountSlotsRow lentRow recountTests
     accepted =
-        simp (
-          tests .0,
-          room-there,
-          tests .2,
-          each-all (P .slots) (knownAt (P .people) o) (right .known),
-          each-all (P .slots) (availableAt avail o) (right .available),
-        )
+        let h = passed (recountSlotsRow P avail o D) refl e in
+        all-pass (fromSlotsRow P avail o E)
+        (h 0, (h 1, (refl, (h 3, (h 4, (h 5, (le-leb _ _ rs, (le-leb _ _ rm, (refl, (h 9, (h 10, (h 11, tt))))))))))))
 
     -- whatever columns are lent, it is accepted and leaves what is worked out afresh
     made : fromSlots P avail o E ≡ record { number = 0; owners = o; derived = afresh P o E; answers = [] }
-    unfolding fromSlots outcome
+    unfolding fromSlots outcome unless
     made = simp accepted
 
     -- in any columns with room: the rota's sets and minutes, and what lies beside or past them as it was lent

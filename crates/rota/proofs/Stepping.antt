@@ -16,13 +16,14 @@ use Rattle.rota.specs.declared.Move.the-variants.{Stay, Give, Trade}
 use Rattle.rota.specs.Board.{Board, BoardSound, InUnit, Even, ownerOf}
 use Rattle.rota.specs.Moves.{Draw, draw, decided, answerOf, act, handed}
 use Rattle.rota.specs.Plays.{step, answer, ownersAfter, answers, drawsOf}
-use Rattle.rota.specs.Derived.{Plan, knownBy, Derived, derived, afresh, InStep, HandedOver, OneOwner}
+use Rattle.owners.specs.Derived.{Plan, knownBy, Derived, derived, afresh}
+use Rattle.owners.specs.Inside.{InStep, HandedOver, OneOwner}
 use Rattle.rota.specs.Stepped.{Stepped, Ran}
-use Rattle.rota.proofs.Minutes.{known-person}
+use Rattle.owners.proofs.Minutes.{known-person}
 use Rattle.rota.proofs.Lawful.{Stretch, Traded, Lawful, decided-lawful}
 use Rattle.rota.proofs.Kept.{upto-rises, outside}
 use Rattle.rota.proofs.Plays.{play-length, play-even, owners-append, answers-append, answers-length, draws-length}
-use Rattle.rota.proofs.Steps.{afresh-again, afresh-same, lengths-kept}
+use Rattle.owners.proofs.Steps.{afresh-again, afresh-same, lengths-kept}
 
 -- ---- a lawful stretch has one owner
 

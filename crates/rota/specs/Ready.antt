@@ -6,7 +6,7 @@ use Prim.Native.Nat.{ℕ, _≤_, _<_}
 use lib.Dec.{eqb}
 use lib.ListN.{length, getD}
 use Rattle.paper.specs.Count.{allIn}
-use Rattle.units.specs.Units.{unitStart}
+use Rattle.units.specs.Units.{unitStart, unitEnd}
 use Rattle.units.specs.Domains.{inMask}
 use Rattle.rota.specs.Board.{Board, boardWith}
 
@@ -21,6 +21,11 @@ frozenBy flags u = eqb (getD flags u 0) 1
 -- the board that these make
 abbrev pub ready : ℕ → ℕ → ℕ → List ℕ → List ℕ → List ℕ → Board
 ready people slots units firsts fits flags = boardWith people slots units firsts (fitsBy fits) (frozenBy flags)
+
+-- each unit has a slot, and none past the slot count
+pub record UnitRoom (slots units : ℕ) (firsts : List ℕ) : Type 0 where
+  pub some : (u : ℕ) → u < units → unitStart firsts u < unitEnd slots units firsts u
+  pub within : (u : ℕ) → u < units → unitEnd slots units firsts u ≤ slots
 
 -- each of the first n units has its start lent, and an owner at that slot
 pub record OwnerRoom (n : ℕ) (firsts owners : List ℕ) : Type 0 where

@@ -7,7 +7,8 @@ use Rattle.paper.specs.Count.{onto}
 use Rattle.rota.specs.Board.{Board}
 use Rattle.rota.specs.Moves.{Draw}
 use Rattle.rota.specs.Plays.{step, answer, ownersAfter, answers}
-use Rattle.rota.specs.Derived.{Plan, Derived, afresh, InStep}
+use Rattle.owners.specs.Derived.{Plan, Derived, afresh}
+use Rattle.owners.specs.Inside.{InStep}
 
 -- one draw: its answer, its owners, and sets and minutes worked out afresh from them
 pub record Stepped (P : Plan) (B : Board) (o : List ℕ) (D : Derived) (d : Draw) (r : ℕ) (o′ : List ℕ) (D′ : Derived) : Type 0 where

@@ -1,10 +1,9 @@
-// A rota: who owns which slot, with each person's set of slots and minutes; the five moves, and a play of many draws.
+// What changes a rota: a single assign, the five moves, and a play of many draws.
 
 pub mod assignment;
 mod checks;
 mod moves;
 pub mod play;
-pub mod recount;
 
 // One of a list of people: nobody is on it, the choice lies beyond it, or this person.
 pub enum Pick {
@@ -29,14 +28,4 @@ pub enum Move {
         upto2: usize,
         to2: u8,
     },
-}
-
-// What the recount finds, and where: the lowest slot, unit or person at fault, and for a set that person's lowest slot.
-pub enum Fault {
-    Clean,
-    Unknown(usize),
-    Unavailable(usize),
-    Uneven(usize),
-    WrongSet { person: usize, slot: usize },
-    WrongMinutes(usize),
 }

@@ -1,25 +1,24 @@
 // A play: the draws of a list in order. Who fits which unit, and which units are frozen, are worked out once a call.
 use crate::Move;
 use crate::assignment::hand_over;
-use crate::checks::ground;
 use crate::checks::play_room_ok;
-use crate::checks::room_ok;
 use crate::moves::decide;
-use crate::recount::then_recount;
-use paper::both;
-use paper::counts_ok;
+use paper::Fault;
 ghost use mathlib.Core.Path.{_≡_};
 ghost use Prim.Native.Nat.{_≤_};
 ghost use lib.ListN.{length};
+ghost use Rattle.paper.specs.Rows.{firstOf};
 ghost use Rattle.rota.specs.Board.{BoardSound, Even};
 ghost use Rattle.rota.specs.Ready.{ready};
 ghost use Rattle.rota.specs.Lent.{FrozenRight, markOf};
-ghost use Rattle.rota.specs.Recount.{UnitRoom};
+ghost use Rattle.rota.specs.Ready.{UnitRoom};
 ghost use Rattle.rota.specs.Moves.{draw};
 ghost use Rattle.rota.specs.Plays.{drawsOf};
-ghost use Rattle.rota.specs.Derived.{plan, derived, InStep, PlanSound};
+ghost use Rattle.owners.specs.Derived.{plan, derived};
+ghost use Rattle.owners.specs.Inside.{InStep, PlanSound};
 ghost use Rattle.rota.specs.Stepped.{Stepped, Ran, DrawRoom};
-ghost use Rattle.rota.specs.Entries.{playNo, played, Ended};
+ghost use Rattle.rota.specs.Entries.{playRow, played};
+ghost use Rattle.owners.specs.Entries.{Ended};
 
 // 0 where no slot from a up to e is frozen, else 1.
 fn mark_of(frozen: &[u64], a: usize, e: usize) -> u8
@@ -189,7 +188,7 @@ fn run(
     }
 }
 
-// What stands against a play: 1, 2, 9 or 10; 0 for nothing.
+// What stands against a play: 1, 2, 9 or 10.
 fn play_no(
     people: usize,
     slots: usize,
@@ -207,23 +206,14 @@ fn play_no(
     ones: &[u16],
     twos: &[u16],
     answers: &[u8],
-) -> u8
-    ensures { λ r. ⌜ r ≡ playNo (plan people slots (now (starts .entry)) (now (ends .entry))) (now (avail .entry)) units (now
+) -> Fault
+    ensures { λ r. ⌜ r ≡ firstOf (playRow (plan people slots (now (starts .entry)) (now (ends .entry))) (now (avail .entry)) units (now
         (firsts .entry)) (now (frozen .entry)) count (now (kinds .entry)) (now (ones .entry)) (now (twos .entry)) (now (owners
-        .entry)) (derived (now (sets .entry)) (now (minutes .entry))) (now (answers .entry)) ⌝ }
+        .entry)) (derived (now (sets .entry)) (now (minutes .entry))) (now (answers .entry))) ⌝ }
 {
-    let counts = both(counts_ok(people, slots), count <= paper::DRAWS_MOST);
-    let room = both(
-        room_ok(people, slots, starts, ends, avail, owners, sets, minutes),
+    owners::recounted(
+        count <= paper::DRAWS_MOST,
         play_room_ok(units, count, firsts, frozen, kinds, ones, twos, answers),
-    );
-    let sound = both(
-        slots::slots_ok(slots, starts, ends),
-        units::units_ok(slots, units, firsts),
-    );
-    let n = ground(counts, room, sound);
-    then_recount(
-        n,
         people,
         slots,
         units,
@@ -278,7 +268,7 @@ pub fn play(
         ones,
         twos,
         answers,
-    );
+    ).number;
     if n == 0 {
         let mut fits = [0u32; 1024];
         units::unit_domains(avail, people, slots, units, firsts, &mut fits);

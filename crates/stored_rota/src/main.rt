@@ -165,7 +165,7 @@ fn begin(b: &[u8]) -> Rota {
     let who = owners(b, OWNERS_AT);
     let mut own = [0u64; 64];
     let mut worked = [0u64; 4];
-    let number = rota::assignment::from_slots(
+    let number = owners::from_slots(
         half(b, 0),
         half(b, 2),
         &starts,

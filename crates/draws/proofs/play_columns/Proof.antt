@@ -3,7 +3,7 @@ use borrow.Author.Needs.{needs}
 use mathlib.Core.Path.{_≡_}
 use Prim.Native.Nat.{ℕ}
 use lib.ListN.{length, take}
-use Rattle.rota.specs.Derived.{plan, derived}
+use Rattle.owners.specs.Derived.{plan, derived}
 use Rattle.rota.specs.Entries.{played}
 use Rattle.draws.proofs.Cut.{ended-same}
 use Rattle.draws.proofs.Unpacking.{prefix-fits}

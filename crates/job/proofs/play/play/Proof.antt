@@ -5,7 +5,7 @@ use mathlib.Core.Path.{sym, ap, _∙_, subst}
 use native.Mathlib.Omega.{arith}
 use lib.Dec.{lit<, lit≤}
 use lib.ListN.{length}
-use Rattle.rota.specs.Derived.{derived}
+use Rattle.owners.specs.Derived.{derived}
 use Rattle.job.specs.Stages.{Draws, playOf}
 use Rattle.job.specs.Inside.{PlayedAs, readyBy}
 use Rattle.job.proofs.Files.{length-column}

@@ -1,7 +1,7 @@
 -- `job::play::play_draws` meets its contract. Assumes nothing.
 use borrow.Author.Needs.{needs}
 use mathlib.Core.Path.{ap}
-use Rattle.rota.specs.Derived.{Derived}
+use Rattle.owners.specs.Derived.{Derived}
 use Rattle.job.proofs.play.play_draws.Statement.{statement}
 use Rattle.job.proofs.play.play_draws.Tie as tie
 

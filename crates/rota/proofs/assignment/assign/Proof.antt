@@ -2,7 +2,8 @@
 use mathlib.Core.Path.{sym, _∙_}
 use native.Mathlib.Omega.{arith}
 use borrow.Author.Needs.{needs}
-use Rattle.rota.specs.Derived.{plan, derived}
+use Rattle.paper.proofs.Rows.{said}
+use Rattle.owners.specs.Derived.{plan, derived}
 use Rattle.rota.proofs.Stepping.{over-lengths}
 use Rattle.rota.proofs.Asked.{assign-asks, asks-one, asks-in-step, assigned-no, assigned-yes}
 use Rattle.rota.proofs.assignment.assign.Statement.{statement}
@@ -19,7 +20,7 @@ add-hand-over c =
     let at-if1 = c .before .before .before .if1 in
     let A = assign-asks (plan (at-args .people) (at-args .slots) (at-args .starts .now) (at-args .ends .now)) (at-args .avail
     .now) (at-args .owners .now) (derived (at-args .sets .now) (at-args .minutes .now)) (at-args .slot) (at-args .owner)
-    (sym (at-assign-no .ensures) ∙ (at-if1 .taken)) in
+    (sym (said _ (at-assign-no .ensures)) ∙ (at-if1 .taken)) in
     omega (arith, A .slot, A .on .sound .slots-few)
 
 hand-over-requires : tie.Need-hand-over-requires
@@ -30,7 +31,7 @@ hand-over-requires c κs =
     let at-if1 = c .before .before .before .if1 in
     let A = assign-asks (plan (at-args .people) (at-args .slots) (at-args .starts .now) (at-args .ends .now)) (at-args .avail
     .now) (at-args .owners .now) (derived (at-args .sets .now) (at-args .minutes .now)) (at-args .slot) (at-args .owner)
-    (sym (at-assign-no .ensures) ∙ (at-if1 .taken)) in (
+    (sym (said _ (at-assign-no .ensures)) ∙ (at-if1 .taken)) in (
       A .on .sound,
       (
         asks-in-step (plan (at-args .people) (at-args .slots) (at-args .starts .now) (at-args .ends .now)) (at-args
@@ -63,7 +64,7 @@ returns c =
     let at-hand-over = c .before .before .before .before .before .before .hand-over in
     assigned-yes (plan (at-args .people) (at-args .slots) (at-args .starts .now) (at-args .ends .now)) (at-args .avail .now)
     (at-args .owners .now) (derived (at-args .sets .now) (at-args .minutes .now)) (at-args .slot) (at-args .owner) _
-    (at-assign-no .ensures) _ _ (at-if1 .taken) (at-hand-over .ensures)
+    (said _ (at-assign-no .ensures)) _ _ (at-if1 .taken) (at-hand-over .ensures)
 
 same-length-4 : tie.Need-same-length-4
 same-length-4 c = search needs
@@ -80,7 +81,7 @@ returns-2 c =
     let at-assign-no = c .before .assign-no in
     assigned-no (plan (at-args .people) (at-args .slots) (at-args .starts .now) (at-args .ends .now)) (at-args .avail .now)
     (at-args .owners .now) (derived (at-args .sets .now) (at-args .minutes .now)) (at-args .slot) (at-args .owner) _
-    (at-assign-no .ensures) (c .if1 .left)
+    (said _ (at-assign-no .ensures)) (c .if1 .left)
 
 pub assign-spec : {M : Type 1} → statement M
 assign-spec =

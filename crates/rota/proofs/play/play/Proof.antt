@@ -3,9 +3,10 @@ use mathlib.Core.Path.{_≡_, sym, _∙_}
 use Prim.Native.Nat.{ℕ}
 use native.Mathlib.Omega.{arith}
 use borrow.Author.Needs.{needs}
+use Rattle.paper.proofs.Rows.{said}
 use lib.ListN.{length, length-replicate}
 use Rattle.units.proofs.Units.{units-room}
-use Rattle.rota.specs.Derived.{plan, derived}
+use Rattle.owners.specs.Derived.{plan, derived}
 use Rattle.rota.proofs.Stepping.{ran-owners, ran-answers, ran-lengths}
 use Rattle.rota.proofs.Entered.{unit-room, play-asks, asks-few, asks-fits, asks-step, ready-sound, ready-even, played-yes, played-no}
 use Rattle.rota.proofs.play.play.Statement.{statement}
@@ -29,7 +30,7 @@ frozen-of-requires c κs =
     let D = derived (a .sets .now) (a .minutes .now) in
     let A = play-asks P (a .avail .now) (a .units) (a .firsts .now) (a .frozen .now) (a .count) (a .kinds .now) (a .ones .now)
     (a .twos .now)
-    (a .owners .now) D (a .answers .now) (sym (c .before .before .before .before .play-no .ensures)
+    (a .owners .now) D (a .answers .now) (sym (said _ (c .before .before .before .before .play-no .ensures))
     ∙ c .before .before .before .if1 .taken) in
     let G = A .grounds in
     ((G .on .sound .slots-few, asks-few _ _ _ _ _ _ _ _ _ _ _ _ A, G .flags), unit-room _ _ _ (G .units-ok))
@@ -50,7 +51,7 @@ run-requires c κs =
     let D = derived (a .sets .now) (a .minutes .now) in
     let A = play-asks P (a .avail .now) (a .units) (a .firsts .now) (a .frozen .now) (a .count) (a .kinds .now) (a .ones .now)
     (a .twos .now)
-    (a .owners .now) D (a .answers .now) (sym (c8 .before .before .before .play-no .ensures) ∙ c8 .before .before .if1 .taken) in
+    (a .owners .now) D (a .answers .now) (sym (said _ (c8 .before .before .before .play-no .ensures)) ∙ c8 .before .before .if1 .taken) in
     let F = asks-fits _ _ _ _ _ _ _ _ _ _ _ _ A _ (c8 .unit-domains .ensures .1) in
     let frozen-of = c .before .before .before .before .before .before .frozen-of in
     let Z = frozen-of .ensures in
@@ -99,7 +100,7 @@ same-length-4 c =
     let D = derived (a .sets .now) (a .minutes .now) in
     let A = play-asks P (a .avail .now) (a .units) (a .firsts .now) (a .frozen .now) (a .count) (a .kinds .now) (a .ones .now)
     (a .twos .now)
-    (a .owners .now) D (a .answers .now) (sym (c16 .before .before .before .before .play-no .ensures)
+    (a .owners .now) D (a .answers .now) (sym (said _ (c16 .before .before .before .before .play-no .ensures))
     ∙ c16 .before .before .before .if1 .taken) in
     ran-answers _ _ _ _ _ _ _ _ _ _ _ _ (c8 .run .ensures) (A .grounds .draws .answers)
 
@@ -114,11 +115,11 @@ returns c =
     let D = derived (a .sets .now) (a .minutes .now) in
     let A = play-asks P (a .avail .now) (a .units) (a .firsts .now) (a .frozen .now) (a .count) (a .kinds .now) (a .ones .now)
     (a .twos .now)
-    (a .owners .now) D (a .answers .now) (sym (c16 .before .before .before .before .play-no .ensures)
+    (a .owners .now) D (a .answers .now) (sym (said _ (c16 .before .before .before .before .play-no .ensures))
     ∙ c16 .before .before .before .if1 .taken) in
     let F = asks-fits _ _ _ _ _ _ _ _ _ _ _ _ A _ (c16 .before .unit-domains .ensures .1) in
     played-yes _ _ _ _ _ _ _ _ _ _ _ _ A _ _ F (c8 .before .before .before .before .before .before .before .frozen-of .ensures) _
-    (c16 .before .before .before .before .play-no .ensures) (c16 .before .before .before .if1 .taken) _ _ _ (c8 .run .ensures)
+    (said _ (c16 .before .before .before .before .play-no .ensures)) (c16 .before .before .before .if1 .taken) _ _ _ (c8 .run .ensures)
 
 same-length-5 : tie.Need-same-length-5
 same-length-5 c = search needs
@@ -139,7 +140,7 @@ returns-2 c =
     let a = c16 .before .before .args in
     played-no (plan (a .people) (a .slots) (a .starts .now) (a .ends .now)) (a .avail .now) (a .units) (a .firsts .now) (a .frozen .now)
     (a .count) (a .kinds .now) (a .ones .now) (a .twos .now) (a .owners .now) (derived (a .sets .now) (a .minutes .now)) (a .answers .now) _
-    (c .before .play-no .ensures) (c .if1 .left)
+    (said _ (c .before .play-no .ensures)) (c .if1 .left)
 
 pub play-spec : {M : Type 1} → statement M
 play-spec =

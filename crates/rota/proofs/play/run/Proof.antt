@@ -3,7 +3,7 @@ use Prim.Native.Nat.{_-_, _≤_}
 use native.Mathlib.Omega.{arith}
 use borrow.Author.Needs.{needs}
 use Rattle.rota.specs.Ready.{ready}
-use Rattle.rota.specs.Derived.{plan, derived}
+use Rattle.owners.specs.Derived.{plan, derived}
 use Rattle.rota.specs.Plays.{drawsOf, answers}
 use Rattle.rota.specs.Stepped.{Ran}
 use Rattle.rota.proofs.Stepping.{ran-owners, ran-start, ran-even, ran-answers, ran-lengths, ran-more, ran-end}

@@ -2,7 +2,7 @@
 use mathlib.Core.Path.{_∙_}
 use native.Mathlib.Omega.{arith}
 use borrow.Author.Needs.{needs}
-use Rattle.rota.specs.Derived.{plan, derived}
+use Rattle.owners.specs.Derived.{plan, derived}
 use Rattle.rota.proofs.Judged.{board-owned}
 use Rattle.rota.proofs.Stepping.{stretch-one, stretch-known, second-after, over-lengths, drawn-lawful, stepped-stay}
 use Rattle.rota.proofs.Stepping.{stepped-give, stepped-trade}

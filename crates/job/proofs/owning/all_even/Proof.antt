@@ -1,0 +1,55 @@
+-- `job::owning::all_even` meets its contract. The invariant: the first u units are even. Assumes nothing.
+use borrow.Author.Needs.{needs}
+use mathlib.Core.Path.{_≡_, sym, _∙_}
+use mathlib.Core.Bool.{true}
+use Prim.Native.Nat.{_-_, _≤_}
+use native.Mathlib.Omega.{arith}
+use Rattle.paper.specs.Count.{all}
+use Rattle.paper.proofs.Count.{all-none, all-more, all-fails, all-done}
+use Rattle.owners.specs.Recount.{evenAt}
+use Rattle.job.specs.Stages.{allEven}
+use Rattle.job.proofs.owning.all_even.Statement.{statement}
+use Rattle.job.proofs.owning.all_even.Tie as tie
+
+abbrev Inv-loop : tie.InvT-loop
+Inv-loop slots units firsts owners u₀ u = (all u (evenAt slots units firsts owners) ≡ true) × (u ≤ units)
+
+abbrev μ-loop : tie.MeasureT-loop
+μ-loop slots units firsts owners u₀ u = units - u
+
+loop-holds : tie.Need-loop-holds Inv-loop μ-loop
+loop-holds c = (all-none _, omega arith)
+
+unit-even-requires : tie.Need-unit-even-requires Inv-loop μ-loop
+unit-even-requires c κs = search needs
+
+add-u : tie.Need-add-u Inv-loop μ-loop
+add-u c = search needs
+
+loop-less : tie.Need-loop-less Inv-loop μ-loop
+loop-less c = search needs
+
+loop-again : tie.Need-loop-again Inv-loop μ-loop
+loop-again c = (all-more _ _ (c .before .before .before .loop .inv .0) (sym (c .before .unit-even .ensures) ∙ c .if1 .taken), omega arith)
+
+returns : tie.Need-returns Inv-loop μ-loop
+unfolding allEven
+returns c = sym (all-fails _ _ _ (c .before .before .loop-test .taken) (sym (c .before .unit-even .ensures) ∙ c .if1 .left))
+
+returns-2 : tie.Need-returns-2 Inv-loop μ-loop
+unfolding allEven
+returns-2 c = all-done _ _ _ (c .before .loop .inv .1) (c .loop-test .left) (c .before .loop .inv .0)
+
+pub all-even-spec : {M : Type 1} → statement M
+all-even-spec =
+    tie.close
+    (tie.spec
+    Inv-loop
+    μ-loop
+    loop-holds
+    unit-even-requires
+    add-u
+    loop-less
+    loop-again
+    returns
+    returns-2)

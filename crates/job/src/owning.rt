@@ -1,0 +1,182 @@
+// The owner records of a job: who owns which slot, as written, with refusals 10 and 11.
+use crate::JobOwners;
+use crate::fields::field;
+use paper::Fault;
+ghost use mathlib.Core.Path.{_≡_};
+ghost use Prim.Native.Nat.{_+_, _*_, _≤_};
+ghost use lib.ListN.{length, getD};
+ghost use Rattle.paper.specs.Rows.{firstOf};
+ghost use Rattle.owners.specs.Recount.{evenAt};
+ghost use Rattle.job.specs.File.{ownerSlot};
+ghost use Rattle.job.specs.Stages.{ownerValue, placed, allEven, recordKnown, allKnown, narrowed};
+ghost use Rattle.job.specs.Outcome.{ownersRow};
+ghost use Rattle.job.specs.Inside.{OwnersAre};
+
+// Entry k of a column, or 0 past its end.
+fn entry16(column: &[u16], k: usize) -> u16
+    ensures { λ r. ⌜ r ≡ getD (now (column .entry)) k 0 ⌝ }
+{
+    if k < column.len() {
+        return column[k];
+    }
+    0
+}
+
+// The slot that owner record k names, of those that begin at `at`.
+pub(crate) fn owner_slot(s: &[u8], at: usize, k: usize) -> usize
+    requires { ⌜ at + k * 8 + 8 ≤ length (now s) ⌝ }
+    ensures { λ r. ⌜ r ≡ ownerSlot (now (s .entry)) at k ⌝ }
+{
+    field(s, at + k * 8 + 4, 2) as usize
+}
+
+// The owner that it gives.
+fn owner_value(s: &[u8], at: usize, k: usize) -> u16
+    requires { ⌜ at + k * 8 + 8 ≤ length (now s) ⌝ }
+    ensures { λ r. ⌜ r ≡ ownerValue (now (s .entry)) at k ⌝ }
+{
+    field(s, at + k * 8 + 6, 2) as u16
+}
+
+// The owners that n records from `at` on give, 255 where none does.
+fn placed_by(s: &[u8], at: usize, n: usize, slots: usize) -> [u16; 1024]
+    requires { ⌜ (at + n * 8 ≤ length (now s)) × (slots ≤ 1024) ⌝ }
+    ensures { λ r. ⌜ r ≡ placed (now (s .entry)) at slots n ⌝ }
+{
+    let mut out = [255u16; 1024];
+    let mut k: usize = 0;
+    while k < n {
+        let slot = owner_slot(s, at, k);
+        let owner = owner_value(s, at, k);
+        if slot < slots {
+            out[slot] = owner;
+            k += 1;
+        } else {
+            k += 1;
+        }
+    }
+    out
+}
+
+// Whether the slots of unit u have one owner.
+fn unit_even(slots: usize, units: usize, firsts: &[u16], owners: &[u16], u: usize) -> bool
+    ensures { λ r. ⌜ r ≡ evenAt slots units (now (firsts .entry)) (now (owners .entry)) u ⌝ }
+{
+    let a = units::start_of(firsts, u);
+    let e = units::unit_end(slots, units, firsts, u);
+    let owner = entry16(owners, a);
+    let mut k = a;
+    while k < e {
+        if entry16(owners, k) == owner {
+            k += 1;
+        } else {
+            return false;
+        }
+    }
+    true
+}
+
+// Whether the slots of each unit do.
+fn all_even(slots: usize, units: usize, firsts: &[u16], owners: &[u16]) -> bool
+    ensures { λ r. ⌜ r ≡ allEven slots units (now (firsts .entry)) (now (owners .entry)) ⌝ }
+{
+    let mut u: usize = 0;
+    while u < units {
+        if unit_even(slots, units, firsts, owners, u) {
+            u += 1;
+        } else {
+            return false;
+        }
+    }
+    true
+}
+
+// Whether record k names a slot that exists, and nobody or a known person.
+fn record_known(s: &[u8], at: usize, slots: usize, people: usize, k: usize) -> bool
+    requires { ⌜ at + k * 8 + 8 ≤ length (now s) ⌝ }
+    ensures { λ r. ⌜ r ≡ recordKnown (now (s .entry)) at slots people k ⌝ }
+{
+    let slot = owner_slot(s, at, k);
+    let owner = owner_value(s, at, k) as usize;
+    if slot < slots {
+        if owner == 255 {
+            return true;
+        }
+        return owner < people;
+    }
+    false
+}
+
+// Whether each of n records does.
+fn all_known(s: &[u8], at: usize, n: usize, slots: usize, people: usize) -> bool
+    requires { ⌜ at + n * 8 ≤ length (now s) ⌝ }
+    ensures { λ r. ⌜ r ≡ allKnown (now (s .entry)) at n slots people ⌝ }
+{
+    let mut k: usize = 0;
+    while k < n {
+        if record_known(s, at, slots, people, k) {
+            k += 1;
+        } else {
+            return false;
+        }
+    }
+    true
+}
+
+// 10, then 11.
+fn owners_no(
+    s: &[u8],
+    at: usize,
+    n: usize,
+    slots: usize,
+    people: usize,
+    units: usize,
+    firsts: &[u16],
+    owners: &[u16],
+) -> Fault
+    requires { ⌜ at + n * 8 ≤ length (now s) ⌝ }
+    ensures { λ r. ⌜ r ≡ firstOf (ownersRow (now (s .entry)) at n slots people units (now (firsts .entry)) (now (owners .entry))) ⌝ }
+{
+    let even = all_even(slots, units, firsts, owners);
+    let known = all_known(s, at, n, slots, people);
+    let f = paper::heard(paper::nothing(), even, 10);
+    paper::heard(f, known, 11)
+}
+
+// The owners as bytes.
+fn narrow(owners: &[u16]) -> [u8; 1024]
+    ensures { λ r. ⌜ r ≡ narrowed (now (owners .entry)) ⌝ }
+{
+    let mut out = [0u8; 1024];
+    let mut k: usize = 0;
+    while k < 1024 {
+        let owner = entry16(owners, k);
+        if owner < 256 {
+            out[k] = owner as u8;
+            k += 1;
+        } else {
+            out[k] = 255;
+            k += 1;
+        }
+    }
+    out
+}
+
+// The owners as bytes, with refusals 10 and 11.
+pub(crate) fn owners_of(
+    s: &[u8],
+    at: usize,
+    n: usize,
+    slots: usize,
+    people: usize,
+    units: usize,
+    firsts: &[u16],
+) -> JobOwners
+    requires { ⌜ (at + n * 8 ≤ length (now s)) × (slots ≤ 1024) ⌝ }
+    ensures { λ r. ⌜ OwnersAre (now (s .entry)) at n slots people units (now (firsts .entry)) r ⌝ }
+{
+    let written = placed_by(s, at, n, slots);
+    let no = owners_no(s, at, n, slots, people, units, firsts, &written).number;
+    let owners = narrow(&written);
+    JobOwners { no, owners }
+}

@@ -1,0 +1,8 @@
+-- The laws of owners.
+pub mod Minutes
+pub mod Sets
+pub mod Steps
+pub mod Made
+pub mod Scans
+pub mod Faults
+pub mod Entered

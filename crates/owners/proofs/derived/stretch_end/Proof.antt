@@ -1,0 +1,77 @@
+-- `owners::derived::stretch_end` meets its contract. Assumes nothing.
+use mathlib.Core.Path.{_≡_, ap, _∙_}
+use mathlib.Core.Logic.{⊎-elim}
+use Prim.Native.Nat.{ℕ, _-_, _≤_, _<_}
+use native.Mathlib.Omega.{arith}
+use borrow.Author.Needs.{needs}
+use lib.ListN.{getD}
+use Rattle.paper.proofs.Logic.{lt-or-ge}
+use Rattle.owners.proofs.derived.stretch_end.Statement.{statement}
+use Rattle.owners.proofs.derived.stretch_end.Tie as tie
+
+abbrev Inv-loop : tie.InvT-loop
+Inv-loop owners slots i owner e₀ e = (i < e) × (e ≤ slots) × ((k : ℕ) → i ≤ k → k < e → getD owners k 0 ≡ owner)
+
+abbrev μ-loop : tie.MeasureT-loop
+μ-loop owners slots i owner e₀ e = slots - e
+
+shared-slice-read-owner : tie.Need-shared-slice-read-owner Inv-loop μ-loop
+shared-slice-read-owner c = search needs
+
+add-e : tie.Need-add-e Inv-loop μ-loop
+add-e c = search needs
+
+loop-holds : tie.Need-loop-holds Inv-loop μ-loop
+loop-holds c =
+    let at-args = c .before .args in (
+      omega arith,
+      omega arith,
+      λ k x y. let q : k ≡ (at-args .i) = omega arith in ap (λ (j : ℕ). getD (at-args .owners .now) j
+          0) q,
+    )
+
+shared-slice-read-if1 : tie.Need-shared-slice-read-if1 Inv-loop μ-loop
+shared-slice-read-if1 c = search needs
+
+add-e-2 : tie.Need-add-e-2 Inv-loop μ-loop
+add-e-2 c = search needs
+
+loop-less : tie.Need-loop-less Inv-loop μ-loop
+loop-less c = omega arith
+
+loop-again : tie.Need-loop-again Inv-loop μ-loop
+loop-again c =
+    let at-loop = c .before .before .before .loop in
+    let at-args = c .before .before .before .before .before .args in (
+      omega arith,
+      omega arith,
+      λ k x y. ⊎-elim (λ (z : k < (at-loop .e)). (at-loop .inv .2) k x z) (λ (z : (at-loop .e) ≤ k).
+          let q : k ≡ (at-loop .e) = omega arith in ap (λ (j : ℕ). getD (at-args .owners .now) j 0) q ∙ (c .if1 .taken)) (lt-or-ge
+          k (at-loop .e)),
+    )
+
+returns : tie.Need-returns Inv-loop μ-loop
+returns c =
+    let at-loop = c .before .before .before .loop in
+    record { some = (at-loop .inv .0); within = (at-loop .inv .1); each = (at-loop .inv .2) }
+
+returns-2 : tie.Need-returns-2 Inv-loop μ-loop
+returns-2 c =
+    let at-loop = c .before .loop in
+    record { some = (at-loop .inv .0); within = (at-loop .inv .1); each = (at-loop .inv .2) }
+
+pub stretch-end-spec : {M : Type 1} → statement M
+stretch-end-spec =
+    tie.close
+    (tie.spec
+    Inv-loop
+    μ-loop
+    shared-slice-read-owner
+    add-e
+    loop-holds
+    shared-slice-read-if1
+    add-e-2
+    loop-less
+    loop-again
+    returns
+    returns-2)

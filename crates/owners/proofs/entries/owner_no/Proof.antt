@@ -1,0 +1,21 @@
+-- `owners::entries::owner_no` meets its contract. Assumes nothing.
+use mathlib.Core.Path.{refl}
+use Rattle.paper.proofs.Rows.{link, ends, asked}
+use Rattle.owners.specs.Entries.{ownerRow}
+use borrow.Author.Needs.{needs}
+use Rattle.owners.proofs.entries.owner_no.Statement.{statement}
+use Rattle.owners.proofs.entries.owner_no.Tie as tie
+
+returns : tie.Need-returns
+unfolding ownerRow
+returns c =
+    let b = c .before .before .before .before in
+    asked _ refl (b .before .nothing .ensures)
+    (link (b .heard-people .ensures) (link (c .before .before .before .heard-slots .ensures) (link (c .before .before .heard .ensures)
+    (link (c .before .heard2 .ensures) (link (c .heard-owner .ensures) ends)))))
+
+pub owner-no-spec : {M : Type 1} → statement M
+owner-no-spec =
+    tie.close
+    (tie.spec (λ c κs. search needs) (λ c κs. search needs) (λ c κs. search needs) (λ c κs. search needs) (λ c κs. search needs)
+    (λ c κs. search needs) returns)

@@ -1,0 +1,23 @@
+-- `owners::entries::slots_of` meets its contract. Assumes nothing.
+use mathlib.Core.Path.{sym, _∙_}
+use Rattle.owners.specs.Entries.{slotsOfIs}
+use borrow.Author.Needs.{needs}
+use Rattle.owners.proofs.entries.slots_of.Statement.{statement}
+use Rattle.owners.proofs.entries.slots_of.Tie as tie
+
+slot-count-ok-requires : tie.Need-slot-count-ok-requires
+slot-count-ok-requires c κs = search needs
+
+load-requires : tie.Need-load-requires
+load-requires c κs = search needs
+
+returns : tie.Need-returns
+unfolding slotsOfIs
+returns c = simp (sym (c .before .before .slot-count-ok .ensures) ∙ c .before .if1 .taken) (c .load .ensures)
+
+returns-2 : tie.Need-returns-2
+unfolding slotsOfIs
+returns-2 c = simp (sym (c .before .slot-count-ok .ensures) ∙ c .if1 .left)
+
+pub slots-of-spec : {M : Type 1} → statement M
+slots-of-spec = tie.close (tie.spec slot-count-ok-requires load-requires returns returns-2)

@@ -1,0 +1,26 @@
+-- `owners::recounting::recounted_slots` meets its contract. Assumes nothing.
+use mathlib.Core.Path.{sym, _∙_}
+use borrow.Author.Needs.{needs}
+use Rattle.paper.proofs.Rows.{said}
+use Rattle.owners.specs.Derived.{plan, derived}
+use Rattle.owners.proofs.Entered.{lent-grounds, slots-on, slots-stop}
+use Rattle.owners.proofs.recounting.recounted_slots.Statement.{statement}
+use Rattle.owners.proofs.recounting.recounted_slots.Tie as tie
+
+fault-requires : tie.Need-fault-requires
+fault-requires c κs =
+    let x = c .before .before .before .before .before .before .before .before .before .before .args in
+    let g = lent-grounds _ _ (plan (x .people) (x .slots) (x .starts .now) (x .ends .now)) (x .avail .now) (x .owners .now)
+    (derived (x .sets .now) (x .minutes .now)) (sym (said _ (c .before .before .before .lent-no .ensures)) ∙ c .before .if1 .taken) in
+    (g .sound, g .room)
+
+returns : tie.Need-returns
+returns c =
+    let b = c .before .before in
+    slots-on _ _ _ _ _ (b .before .before .lent-no .ensures) _ _ (b .if1 .taken) (c .fault .ensures)
+
+returns-2 : tie.Need-returns-2
+returns-2 c = slots-stop _ _ _ _ _ (c .before .before .lent-no .ensures) (c .if1 .left)
+
+pub recounted-slots-spec : {M : Type 1} → statement M
+recounted-slots-spec = tie.close (tie.spec (λ c κs. search needs) (λ c. search needs) fault-requires returns returns-2)

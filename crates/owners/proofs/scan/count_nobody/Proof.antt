@@ -1,0 +1,69 @@
+-- `owners::scan::count_nobody` meets its contract. Assumes nothing.
+use mathlib.Core.Path.{_≡_, sym, ap, _∙_}
+use Prim.Native.Nat.{ℕ, _-_, _≤_}
+use native.Mathlib.Omega.{arith}
+use borrow.Author.Needs.{needs}
+use Rattle.owners.specs.Derived.{unassigned}
+use Rattle.owners.proofs.Entered.{nobody-more, nobody-same, nobody-none, nobody-le}
+use Rattle.owners.proofs.scan.count_nobody.Statement.{statement}
+use Rattle.owners.proofs.scan.count_nobody.Tie as tie
+
+abbrev Inv-loop : tie.InvT-loop
+Inv-loop owners slots n₀ k₀ n k = (k ≤ slots) × (n ≡ unassigned k owners)
+
+abbrev μ-loop : tie.MeasureT-loop
+μ-loop owners slots n₀ k₀ n k = slots - k
+
+loop-holds : tie.Need-loop-holds Inv-loop μ-loop
+loop-holds c = (search needs, nobody-none _)
+
+owner-at-requires : tie.Need-owner-at-requires Inv-loop μ-loop
+owner-at-requires c κs = search needs
+
+add-n : tie.Need-add-n Inv-loop μ-loop
+add-n c =
+    let at-args = c .before .before .before .before .before .args in
+    let at-loop = c .before .before .before .loop in
+    omega (arith, nobody-le (at-args .owners .now) (at-loop .k), (at-loop .inv .1))
+
+add-k : tie.Need-add-k Inv-loop μ-loop
+add-k c = search needs
+
+loop-less : tie.Need-loop-less Inv-loop μ-loop
+loop-less c = omega arith
+
+loop-again : tie.Need-loop-again Inv-loop μ-loop
+loop-again c = (omega arith, nobody-more _ _ _ (c .before .before .before .loop .inv .1) (sym (c .before .owner-at .ensures) ∙ c .if1 .taken))
+
+add-k-2 : tie.Need-add-k-2 Inv-loop μ-loop
+add-k-2 c = search needs
+
+loop-less-2 : tie.Need-loop-less-2 Inv-loop μ-loop
+loop-less-2 c = omega arith
+
+loop-again-2 : tie.Need-loop-again-2 Inv-loop μ-loop
+loop-again-2 c = (omega arith, nobody-same _ _ _ (c .before .before .before .loop .inv .1) (λ q. c .if1 .left (c .before .owner-at .ensures ∙ q)))
+
+returns : tie.Need-returns Inv-loop μ-loop
+returns c =
+    let at-loop = c .before .loop in
+    let at-args = c .before .before .before .args in
+    let q : (at-loop .k) ≡ (at-args .slots) = omega arith in
+    (at-loop .inv .1) ∙ ap (λ (j : ℕ). unassigned j (at-args .owners .now)) q
+
+pub count-nobody-spec : {M : Type 1} → statement M
+count-nobody-spec =
+    tie.close
+    (tie.spec
+    Inv-loop
+    μ-loop
+    loop-holds
+    owner-at-requires
+    add-n
+    add-k
+    loop-less
+    loop-again
+    add-k-2
+    loop-less-2
+    loop-again-2
+    returns)

@@ -1,0 +1,60 @@
+-- `owners::scan::first_uneven` meets its contract. Assumes nothing.
+use mathlib.Core.Path.{_≡_, sym, _∙_}
+use mathlib.Core.Bool.{true}
+use Prim.Native.Nat.{_-_, _≤_}
+use native.Mathlib.Omega.{arith}
+use borrow.Author.Needs.{needs}
+use Rattle.paper.specs.Count.{all}
+use Rattle.paper.proofs.Count.{all-none, all-more}
+use Rattle.owners.specs.Recount.{evenAt}
+use Rattle.owners.proofs.Scans.{scan-fails, scan-ends}
+use Rattle.owners.proofs.scan.first_uneven.Statement.{statement}
+use Rattle.owners.proofs.scan.first_uneven.Tie as tie
+
+abbrev Inv-loop : tie.InvT-loop
+Inv-loop slots units firsts owners u₀ u = (u ≤ units) × (all u (evenAt slots units firsts owners) ≡ true)
+
+abbrev μ-loop : tie.MeasureT-loop
+μ-loop slots units firsts owners u₀ u = units - u
+
+loop-holds : tie.Need-loop-holds Inv-loop μ-loop
+loop-holds c = (search needs, all-none _)
+
+is-even-requires : tie.Need-is-even-requires Inv-loop μ-loop
+is-even-requires c κs = search needs
+
+add-u : tie.Need-add-u Inv-loop μ-loop
+add-u c = search needs
+
+loop-less : tie.Need-loop-less Inv-loop μ-loop
+loop-less c = omega arith
+
+loop-again : tie.Need-loop-again Inv-loop μ-loop
+loop-again c =
+    let at-loop = c .before .before .before .loop in
+    let at-is-even = c .before .is-even in
+    (omega arith, all-more _ _ (at-loop .inv .1) (sym (at-is-even .ensures) ∙ (c .if1 .taken)))
+
+returns : tie.Need-returns Inv-loop μ-loop
+returns c =
+    let at-loop-test = c .before .before .loop-test in
+    let at-loop = c .before .before .before .loop in
+    let at-is-even = c .before .is-even in
+    scan-fails _ _ _ (at-loop-test .taken) (at-loop .inv .1) (sym (at-is-even .ensures) ∙ (c .if1 .left))
+
+returns-2 : tie.Need-returns-2 Inv-loop μ-loop
+returns-2 c = scan-ends _ _ _ (c .before .loop .inv .0) (c .loop-test .left) (c .before .loop .inv .1)
+
+pub first-uneven-spec : {M : Type 1} → statement M
+first-uneven-spec =
+    tie.close
+    (tie.spec
+    Inv-loop
+    μ-loop
+    loop-holds
+    is-even-requires
+    add-u
+    loop-less
+    loop-again
+    returns
+    returns-2)

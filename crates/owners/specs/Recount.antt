@@ -1,0 +1,62 @@
+-- The recount: owners known and available, units uniform, sets and minutes as worked out from owners. Assumes nothing.
+use mathlib.Core.Bool.{Bool, cond, _&&_, _||_}
+use mathlib.Core.List.{List, [], _∷_}
+use Prim.Native.Nat.{ℕ, zero, suc, _*_}
+use lib.Dec.{eqb}
+use lib.ListN.{getD}
+use Rattle.paper.specs.Limits.{nobody, Test, testIn}
+use Rattle.paper.specs.Count.{all, allIn}
+use Rattle.slotset.specs.Slots.{slot}
+use Rattle.units.specs.Units.{unitStart, unitEnd}
+use Rattle.units.specs.Domains.{available}
+use Rattle.owners.specs.Derived.{Plan, Derived, knownBy, worked, held}
+
+-- of the numbers below n the first at which p fails, or n
+unfoldable pub firstFail : ℕ → (ℕ → Bool) → ℕ
+firstFail zero p = 0
+firstFail (suc n) p = cond (all n p) (cond (p n) (suc n) n) (firstFail n p)
+
+-- nobody, or a person who is available
+unfoldable pub availableFor : List ℕ → ℕ → ℕ → Bool
+availableFor avail w k = eqb w nobody || available avail w k
+
+-- ---- the five tests
+
+unfoldable pub knownAt : ℕ → List ℕ → ℕ → Bool
+knownAt people o k = knownBy people (getD o k 0)
+
+unfoldable pub availableAt : List ℕ → List ℕ → ℕ → Bool
+availableAt avail o k = availableFor avail (getD o k 0) k
+
+-- each slot of unit u has the owner of its first slot
+unfoldable pub evenAt : ℕ → ℕ → List ℕ → List ℕ → ℕ → Bool
+evenAt slots units firsts o u =
+    allIn (unitStart firsts u) (unitEnd slots units firsts u) (λ k. eqb (getD o k 0) (getD o (unitStart firsts u) 0))
+
+-- slot k of person p's set is as worked out; so is each of its slots
+unfoldable pub setSlotAt : List ℕ → List ℕ → ℕ → ℕ → Bool
+setSlotAt o ws p k = eqb (slot ws (16 * p) k) (held o p k)
+
+unfoldable pub setAt : ℕ → List ℕ → List ℕ → ℕ → Bool
+setAt slots o ws p = all slots (setSlotAt o ws p)
+
+unfoldable pub minutesOkAt : Plan → List ℕ → List ℕ → ℕ → Bool
+minutesOkAt P o m p = eqb (getD m p 0) (worked P o p)
+
+-- 10 by its parts, each with the lowest place at fault: slot, slot, unit, person and that person's slot, person
+unfoldable pub recountTests : Plan → List ℕ → ℕ → List ℕ → List ℕ → Derived → List Test
+recountTests P avail units firsts o D =
+    let p = firstFail (P .people) (setAt (P .slots) o (D .sets)) in
+    testIn 10 (all (P .slots) (knownAt (P .people) o)) 1 (firstFail (P .slots) (knownAt (P .people) o)) 0
+    ∷ testIn 10 (all (P .slots) (availableAt avail o)) 2 (firstFail (P .slots) (availableAt avail o)) 0
+    ∷ testIn 10 (all units (evenAt (P .slots) units firsts o)) 3 (firstFail units (evenAt (P .slots) units firsts o)) 0
+    ∷ testIn 10 (all (P .people) (setAt (P .slots) o (D .sets))) 4 p (firstFail (P .slots) (setSlotAt o (D .sets) p))
+    ∷ testIn 10 (all (P .people) (minutesOkAt P o (D .minutes))) 5 (firstFail (P .people) (minutesOkAt P o (D .minutes))) 0
+    ∷ []
+
+-- the recount passes
+unfoldable pub recounts : Plan → List ℕ → ℕ → List ℕ → List ℕ → Derived → Bool
+recounts P avail units firsts o D =
+    all (P .slots) (knownAt (P .people) o) && (all (P .slots) (availableAt avail o)
+    && (all units (evenAt (P .slots) units firsts o)
+    && (all (P .people) (setAt (P .slots) o (D .sets)) && all (P .people) (minutesOkAt P o (D .minutes)))))
