@@ -12,7 +12,8 @@ use Rattle.rota.specs.Board.{Board}
 use Rattle.rota.specs.Moves.{Draw, draw}
 use Rattle.rota.specs.Plays.{drawsOf, ownersAfter, answers}
 use Rattle.owners.specs.Derived.{Derived, afresh}
-use Rattle.rota.specs.Entries.{Outcome, outcome, played}
+use Rattle.owners.specs.Entries.{Outcome, outcome}
+use Rattle.rota.specs.Entries.{played}
 use Rattle.rota.proofs.Plays.{owners-append, answers-append, answers-length, draws-length}
 use Rattle.owners.proofs.Steps.{afresh-again, afresh-fit}
 use Rattle.draws.specs.declared.Draw as struct

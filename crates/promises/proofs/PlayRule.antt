@@ -21,7 +21,7 @@ use Rattle.rota.specs.Moves.{Draw}
 use Rattle.rota.specs.Plays.{step, answer, ownersAfter, drawsOf}
 use Rattle.rota.specs.Lent.{fitsUnit, frozenUnit}
 use Rattle.rota.specs.Acts as acts
-use Rattle.rota.specs.Entries.{Outcome}
+use Rattle.owners.specs.Entries.{Outcome}
 use Rattle.rota.proofs.Entered.{asks-sound, asks-even}
 use Rattle.rota.proofs.Plays.{owners-append, play-even, play-length, play-past}
 use Rattle.rota.proofs.Drawn.{draw-acts-exactly}
