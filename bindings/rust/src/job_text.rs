@@ -4,7 +4,7 @@ use std::error::Error;
 use std::fmt;
 use std::str::{FromStr, SplitWhitespace};
 
-use crate::assignment::Draw;
+use crate::draw::Draw;
 use crate::job::Job;
 use crate::settings::{Boundary, Fairness, Settings};
 use crate::slots::{Range, Slot};
