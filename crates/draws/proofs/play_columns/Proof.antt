@@ -10,9 +10,6 @@ use Rattle.draws.proofs.Unpacking.{prefix-fits}
 use Rattle.draws.proofs.play_columns.Statement.{statement}
 use Rattle.draws.proofs.play_columns.Tie as tie
 
-at-most-requires : tie.Need-at-most-requires
-at-most-requires c κs = search needs
-
 array-share-prefix-kinds : tie.Need-array-share-prefix-kinds
 array-share-prefix-kinds c =
     let m = c .before .before .before .before .before .before in
@@ -55,21 +52,6 @@ slice-aggregate-play-3 c =
     let n : length (s .args .c .twos) ≡ 1024 = search (needs, s .good .1 .1 .1 .1 .1 .1 .1 .1 .1 .1 .1 .1 .0) in
     prefix-fits _ _ (s .args .c .twos) (m .at-most .ensures) n .1
 
-play-requires : tie.Need-play-requires
-play-requires c κs = search needs
-
-same-length : tie.Need-same-length
-same-length c = search needs
-
-same-length-2 : tie.Need-same-length-2
-same-length-2 c = search needs
-
-same-length-3 : tie.Need-same-length-3
-same-length-3 c = search needs
-
-same-length-4 : tie.Need-same-length-4
-same-length-4 c = search needs
-
 returns : tie.Need-returns
 returns c =
     let p = c .before .before .before .before .before .before .before .before in
@@ -85,16 +67,16 @@ pub play-columns-spec : {M : Type 1} → statement M
 play-columns-spec =
     tie.close
     (tie.spec
-    at-most-requires
+    (λ c κs. search needs)
     array-share-prefix-kinds
     slice-aggregate-play
     array-share-prefix-ones
     slice-aggregate-play-2
     array-share-prefix-twos
     slice-aggregate-play-3
-    play-requires
-    same-length
-    same-length-2
-    same-length-3
-    same-length-4
+    (λ c κs. search needs)
+    (λ c. search needs)
+    (λ c. search needs)
+    (λ c. search needs)
+    (λ c. search needs)
     returns)

@@ -10,24 +10,6 @@ Inv-loop out from same₀ j₀ j-end same j = Unit
 abbrev μ-loop : tie.MeasureT-loop
 μ-loop out from same₀ j₀ j-end same j = j-end - j
 
-loop-holds : tie.Need-loop-holds Inv-loop μ-loop
-loop-holds c = search needs
-
-raw-requires : tie.Need-raw-requires Inv-loop μ-loop
-raw-requires c κs = search needs
-
-add-j : tie.Need-add-j Inv-loop μ-loop
-add-j c = search needs
-
-loop-less : tie.Need-loop-less Inv-loop μ-loop
-loop-less c = search needs
-
-loop-again : tie.Need-loop-again Inv-loop μ-loop
-loop-again c = search needs
-
-returns : tie.Need-returns Inv-loop μ-loop
-returns c = search needs
-
 pub unwritten-spec : {M : Type 1} → statement M
 unwritten-spec =
-    tie.close (tie.spec Inv-loop μ-loop loop-holds raw-requires add-j loop-less loop-again returns)
+    tie.close (tie.spec Inv-loop μ-loop (λ c. search needs) (λ c κs. search needs) (λ c. search needs) (λ c. search needs) (λ c. search needs) (λ c. search needs))

@@ -5,21 +5,9 @@ use Rattle.boltraven_c.specs.Numbers.{plainNumber}
 use Rattle.boltraven_c.proofs.answers.plain_number.Statement.{statement}
 use Rattle.boltraven_c.proofs.answers.plain_number.Tie as tie
 
-enum-known-number : tie.Need-enum-known-number
-enum-known-number c = search needs
-
-enum-known-number-2 : tie.Need-enum-known-number-2
-enum-known-number-2 c = search needs
-
-refused-requires : tie.Need-refused-requires
-refused-requires c κs = search needs
-
-returns : tie.Need-returns
-returns c = search needs
-
 returns-2 : tie.Need-returns-2
 returns-2 c = c .refused .ensures ∙ sym (ap plainNumber (c .before .before .number2 .given .1))
 
 pub plain-number-spec : {M : Type 1} → statement M
 plain-number-spec =
-    tie.close (tie.spec enum-known-number enum-known-number-2 refused-requires returns returns-2)
+    tie.close (tie.spec (λ c. search needs) (λ c. search needs) (λ c κs. search needs) (λ c. search needs) returns-2)

@@ -6,16 +6,10 @@ use Rattle.boltraven_c.specs.Numbers.{minutesAre}
 use Rattle.boltraven_c.proofs.demand.boltraven_demand.Statement.{statement}
 use Rattle.boltraven_c.proofs.demand.boltraven_demand.Tie as tie
 
-demand-requires : tie.Need-demand-requires
-demand-requires c κs = search needs
-
-put-minutes-requires : tie.Need-put-minutes-requires
-put-minutes-requires c κs = search needs
-
 returns : tie.Need-returns
 returns c =
     let e = c .before .before .demand .ensures in
     (c .put-minutes .ensures .0 ∙ ap minutesNo e, c .put-minutes .ensures .1 ∙ ap (minutesAre _) e)
 
 pub boltraven-demand-spec : {M : Type 1} → statement M
-boltraven-demand-spec = tie.close (tie.spec demand-requires put-minutes-requires returns)
+boltraven-demand-spec = tie.close (tie.spec (λ c κs. search needs) (λ c κs. search needs) returns)

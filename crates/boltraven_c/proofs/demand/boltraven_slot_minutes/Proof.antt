@@ -6,12 +6,6 @@ use Rattle.boltraven_c.specs.Numbers.{minutesAre}
 use Rattle.boltraven_c.proofs.demand.boltraven_slot_minutes.Statement.{statement}
 use Rattle.boltraven_c.proofs.demand.boltraven_slot_minutes.Tie as tie
 
-slot-minutes-requires : tie.Need-slot-minutes-requires
-slot-minutes-requires c κs = search needs
-
-put-minutes-requires : tie.Need-put-minutes-requires
-put-minutes-requires c κs = search needs
-
 returns : tie.Need-returns
 returns c =
     let e = c .before .before .slot-minutes .ensures in
@@ -19,4 +13,4 @@ returns c =
 
 pub boltraven-slot-minutes-spec : {M : Type 1} → statement M
 boltraven-slot-minutes-spec =
-    tie.close (tie.spec slot-minutes-requires put-minutes-requires returns)
+    tie.close (tie.spec (λ c κs. search needs) (λ c κs. search needs) returns)

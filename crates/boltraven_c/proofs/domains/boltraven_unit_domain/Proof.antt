@@ -5,15 +5,6 @@ use Rattle.boltraven_c.specs.Numbers.{plainNumber}
 use Rattle.boltraven_c.proofs.domains.boltraven_unit_domain.Statement.{statement}
 use Rattle.boltraven_c.proofs.domains.boltraven_unit_domain.Tie as tie
 
-unit-domain-requires : tie.Need-unit-domain-requires
-unit-domain-requires c κs = search needs
-
-plain-number-requires : tie.Need-plain-number-requires
-plain-number-requires c κs = search needs
-
-same-length : tie.Need-same-length
-same-length c = search needs
-
 returns : tie.Need-returns
 returns c =
     let told = c .before .before .before .unit-domain .ensures in
@@ -21,4 +12,4 @@ returns c =
 
 pub boltraven-unit-domain-spec : {M : Type 1} → statement M
 boltraven-unit-domain-spec =
-    tie.close (tie.spec unit-domain-requires plain-number-requires same-length returns)
+    tie.close (tie.spec (λ c κs. search needs) (λ c κs. search needs) (λ c. search needs) returns)

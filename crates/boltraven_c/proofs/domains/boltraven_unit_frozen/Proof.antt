@@ -5,14 +5,8 @@ use Rattle.boltraven_c.specs.Numbers.{toldNumber}
 use Rattle.boltraven_c.proofs.domains.boltraven_unit_frozen.Statement.{statement}
 use Rattle.boltraven_c.proofs.domains.boltraven_unit_frozen.Tie as tie
 
-unit-frozen-requires : tie.Need-unit-frozen-requires
-unit-frozen-requires c κs = search needs
-
-told-number-requires : tie.Need-told-number-requires
-told-number-requires c κs = search needs
-
 returns : tie.Need-returns
 returns c = c .told-number .ensures ∙ ap toldNumber (c .before .unit-frozen .ensures)
 
 pub boltraven-unit-frozen-spec : {M : Type 1} → statement M
-boltraven-unit-frozen-spec = tie.close (tie.spec unit-frozen-requires told-number-requires returns)
+boltraven-unit-frozen-spec = tie.close (tie.spec (λ c κs. search needs) (λ c κs. search needs) returns)

@@ -5,15 +5,6 @@ use Rattle.boltraven_c.specs.Numbers.{plainNumber}
 use Rattle.boltraven_c.proofs.freezing.boltraven_freeze_before.Statement.{statement}
 use Rattle.boltraven_c.proofs.freezing.boltraven_freeze_before.Tie as tie
 
-freeze-before-requires : tie.Need-freeze-before-requires
-freeze-before-requires c κs = search needs
-
-plain-number-requires : tie.Need-plain-number-requires
-plain-number-requires c κs = search needs
-
-same-length : tie.Need-same-length
-same-length c = search needs
-
 returns : tie.Need-returns
 returns c =
     let told = c .before .before .before .freeze-before .ensures in
@@ -21,4 +12,4 @@ returns c =
 
 pub boltraven-freeze-before-spec : {M : Type 1} → statement M
 boltraven-freeze-before-spec =
-    tie.close (tie.spec freeze-before-requires plain-number-requires same-length returns)
+    tie.close (tie.spec (λ c κs. search needs) (λ c κs. search needs) (λ c. search needs) returns)

@@ -5,15 +5,9 @@ use Rattle.boltraven_c.specs.Numbers.{toldNumber}
 use Rattle.boltraven_c.proofs.freezing.boltraven_is_available.Statement.{statement}
 use Rattle.boltraven_c.proofs.freezing.boltraven_is_available.Tie as tie
 
-is-available-requires : tie.Need-is-available-requires
-is-available-requires c κs = search needs
-
-told-number-requires : tie.Need-told-number-requires
-told-number-requires c κs = search needs
-
 returns : tie.Need-returns
 returns c = c .told-number .ensures ∙ ap toldNumber (c .before .is-available .ensures)
 
 pub boltraven-is-available-spec : {M : Type 1} → statement M
 boltraven-is-available-spec =
-    tie.close (tie.spec is-available-requires told-number-requires returns)
+    tie.close (tie.spec (λ c κs. search needs) (λ c κs. search needs) returns)

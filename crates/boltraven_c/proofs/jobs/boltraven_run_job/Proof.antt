@@ -5,15 +5,6 @@ use Rattle.boltraven_c.specs.Jobs.{jobNo, jobLength}
 use Rattle.boltraven_c.proofs.jobs.boltraven_run_job.Statement.{statement}
 use Rattle.boltraven_c.proofs.jobs.boltraven_run_job.Tie as tie
 
-run-job-requires : tie.Need-run-job-requires
-run-job-requires c κs = search needs
-
-put-length-requires : tie.Need-put-length-requires
-put-length-requires c κs = search needs
-
-same-length : tie.Need-same-length
-same-length c = search needs
-
 returns : tie.Need-returns
 returns c =
     let told = c .before .before .before .before .run-job .ensures in
@@ -21,4 +12,4 @@ returns c =
 
 pub boltraven-run-job-spec : {M : Type 1} → statement M
 boltraven-run-job-spec =
-    tie.close (tie.spec run-job-requires put-length-requires same-length returns)
+    tie.close (tie.spec (λ c κs. search needs) (λ c κs. search needs) (λ c. search needs) returns)

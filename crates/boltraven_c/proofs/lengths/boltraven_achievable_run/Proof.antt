@@ -6,12 +6,6 @@ use Rattle.boltraven_c.specs.Numbers.{minutesAre}
 use Rattle.boltraven_c.proofs.lengths.boltraven_achievable_run.Statement.{statement}
 use Rattle.boltraven_c.proofs.lengths.boltraven_achievable_run.Tie as tie
 
-achievable-run-requires : tie.Need-achievable-run-requires
-achievable-run-requires c κs = search needs
-
-put-minutes-requires : tie.Need-put-minutes-requires
-put-minutes-requires c κs = search needs
-
 returns : tie.Need-returns
 returns c =
     let e = c .before .before .achievable-run .ensures in
@@ -19,4 +13,4 @@ returns c =
 
 pub boltraven-achievable-run-spec : {M : Type 1} → statement M
 boltraven-achievable-run-spec =
-    tie.close (tie.spec achievable-run-requires put-minutes-requires returns)
+    tie.close (tie.spec (λ c κs. search needs) (λ c κs. search needs) returns)

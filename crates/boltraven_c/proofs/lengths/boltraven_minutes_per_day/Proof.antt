@@ -6,12 +6,6 @@ use Rattle.boltraven_c.specs.Numbers.{minutesAre}
 use Rattle.boltraven_c.proofs.lengths.boltraven_minutes_per_day.Statement.{statement}
 use Rattle.boltraven_c.proofs.lengths.boltraven_minutes_per_day.Tie as tie
 
-minutes-per-day-requires : tie.Need-minutes-per-day-requires
-minutes-per-day-requires c κs = search needs
-
-put-minutes-requires : tie.Need-put-minutes-requires
-put-minutes-requires c κs = search needs
-
 returns : tie.Need-returns
 returns c =
     let e = c .before .before .minutes-per-day .ensures in
@@ -19,4 +13,4 @@ returns c =
 
 pub boltraven-minutes-per-day-spec : {M : Type 1} → statement M
 boltraven-minutes-per-day-spec =
-    tie.close (tie.spec minutes-per-day-requires put-minutes-requires returns)
+    tie.close (tie.spec (λ c κs. search needs) (λ c κs. search needs) returns)

@@ -6,16 +6,10 @@ use Rattle.boltraven_c.specs.Numbers.{minutesAre}
 use Rattle.boltraven_c.proofs.lengths.boltraven_target_run.Statement.{statement}
 use Rattle.boltraven_c.proofs.lengths.boltraven_target_run.Tie as tie
 
-target-run-requires : tie.Need-target-run-requires
-target-run-requires c κs = search needs
-
-put-minutes-requires : tie.Need-put-minutes-requires
-put-minutes-requires c κs = search needs
-
 returns : tie.Need-returns
 returns c =
     let e = c .before .before .target-run .ensures in
     (c .put-minutes .ensures .0 ∙ ap minutesNo e, c .put-minutes .ensures .1 ∙ ap (minutesAre _) e)
 
 pub boltraven-target-run-spec : {M : Type 1} → statement M
-boltraven-target-run-spec = tie.close (tie.spec target-run-requires put-minutes-requires returns)
+boltraven-target-run-spec = tie.close (tie.spec (λ c κs. search needs) (λ c κs. search needs) returns)

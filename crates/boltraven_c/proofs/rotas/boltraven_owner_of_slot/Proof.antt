@@ -5,14 +5,8 @@ use Rattle.boltraven_c.specs.Numbers.{plainNumber}
 use Rattle.boltraven_c.proofs.rotas.boltraven_owner_of_slot.Statement.{statement}
 use Rattle.boltraven_c.proofs.rotas.boltraven_owner_of_slot.Tie as tie
 
-owner-of-slot-requires : tie.Need-owner-of-slot-requires
-owner-of-slot-requires c κs = search needs
-
-plain-number-requires : tie.Need-plain-number-requires
-plain-number-requires c κs = search needs
-
 returns : tie.Need-returns
 returns c = c .plain-number .ensures ∙ ap plainNumber (c .before .owner-of-slot .ensures)
 
 pub boltraven-owner-of-slot-spec : {M : Type 1} → statement M
-boltraven-owner-of-slot-spec = tie.close (tie.spec owner-of-slot-requires plain-number-requires returns)
+boltraven-owner-of-slot-spec = tie.close (tie.spec (λ c κs. search needs) (λ c κs. search needs) returns)

@@ -6,12 +6,6 @@ use Rattle.boltraven_c.specs.Numbers.{minutesAre}
 use Rattle.boltraven_c.proofs.rotas.boltraven_uncovered_minutes.Statement.{statement}
 use Rattle.boltraven_c.proofs.rotas.boltraven_uncovered_minutes.Tie as tie
 
-uncovered-minutes-requires : tie.Need-uncovered-minutes-requires
-uncovered-minutes-requires c κs = search needs
-
-put-minutes-requires : tie.Need-put-minutes-requires
-put-minutes-requires c κs = search needs
-
 returns : tie.Need-returns
 returns c =
     let e = c .before .before .uncovered-minutes .ensures in
@@ -19,4 +13,4 @@ returns c =
 
 pub boltraven-uncovered-minutes-spec : {M : Type 1} → statement M
 boltraven-uncovered-minutes-spec =
-    tie.close (tie.spec uncovered-minutes-requires put-minutes-requires returns)
+    tie.close (tie.spec (λ c κs. search needs) (λ c κs. search needs) returns)

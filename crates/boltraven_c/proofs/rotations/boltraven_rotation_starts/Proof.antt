@@ -5,15 +5,6 @@ use Rattle.boltraven_c.specs.Numbers.{plainNumber}
 use Rattle.boltraven_c.proofs.rotations.boltraven_rotation_starts.Statement.{statement}
 use Rattle.boltraven_c.proofs.rotations.boltraven_rotation_starts.Tie as tie
 
-rotation-starts-requires : tie.Need-rotation-starts-requires
-rotation-starts-requires c κs = search needs
-
-plain-number-requires : tie.Need-plain-number-requires
-plain-number-requires c κs = search needs
-
-same-length : tie.Need-same-length
-same-length c = search needs
-
 returns : tie.Need-returns
 returns c =
     let told = c .before .before .before .rotation-starts .ensures in
@@ -21,4 +12,4 @@ returns c =
 
 pub boltraven-rotation-starts-spec : {M : Type 1} → statement M
 boltraven-rotation-starts-spec =
-    tie.close (tie.spec rotation-starts-requires plain-number-requires same-length returns)
+    tie.close (tie.spec (λ c κs. search needs) (λ c κs. search needs) (λ c. search needs) returns)

@@ -5,15 +5,9 @@ use Rattle.boltraven_c.specs.Numbers.{plainNumber}
 use Rattle.boltraven_c.proofs.rotations.boltraven_unit_of_slot.Statement.{statement}
 use Rattle.boltraven_c.proofs.rotations.boltraven_unit_of_slot.Tie as tie
 
-unit-of-slot-requires : tie.Need-unit-of-slot-requires
-unit-of-slot-requires c κs = search needs
-
-plain-number-requires : tie.Need-plain-number-requires
-plain-number-requires c κs = search needs
-
 returns : tie.Need-returns
 returns c = c .plain-number .ensures ∙ ap plainNumber (c .before .unit-of-slot .ensures)
 
 pub boltraven-unit-of-slot-spec : {M : Type 1} → statement M
 boltraven-unit-of-slot-spec =
-    tie.close (tie.spec unit-of-slot-requires plain-number-requires returns)
+    tie.close (tie.spec (λ c κs. search needs) (λ c κs. search needs) returns)

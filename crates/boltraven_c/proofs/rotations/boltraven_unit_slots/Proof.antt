@@ -6,15 +6,6 @@ use Rattle.boltraven_c.specs.Units.{spanFrom, spanTo}
 use Rattle.boltraven_c.proofs.rotations.boltraven_unit_slots.Statement.{statement}
 use Rattle.boltraven_c.proofs.rotations.boltraven_unit_slots.Tie as tie
 
-unit-slots-requires : tie.Need-unit-slots-requires
-unit-slots-requires c κs = search needs
-
-enum-known-span : tie.Need-enum-known-span
-enum-known-span c = search needs
-
-enum-known-span-2 : tie.Need-enum-known-span-2
-enum-known-span-2 c = search needs
-
 returns : tie.Need-returns
 returns c =
     let e = sym (c .before .before .before .unit-slots .ensures) ∙ c .before .span .given .1 in
@@ -27,4 +18,4 @@ returns-2 c =
 
 pub boltraven-unit-slots-spec : {M : Type 1} → statement M
 boltraven-unit-slots-spec =
-    tie.close (tie.spec unit-slots-requires enum-known-span enum-known-span-2 returns returns-2)
+    tie.close (tie.spec (λ c κs. search needs) (λ c. search needs) (λ c. search needs) returns returns-2)

@@ -5,14 +5,8 @@ use Rattle.boltraven_c.specs.Numbers.{plainNumber}
 use Rattle.boltraven_c.proofs.sets.boltraven_count.Statement.{statement}
 use Rattle.boltraven_c.proofs.sets.boltraven_count.Tie as tie
 
-count-requires : tie.Need-count-requires
-count-requires c κs = search needs
-
-plain-number-requires : tie.Need-plain-number-requires
-plain-number-requires c κs = search needs
-
 returns : tie.Need-returns
 returns c = c .plain-number .ensures ∙ ap plainNumber (c .before .count .ensures)
 
 pub boltraven-count-spec : {M : Type 1} → statement M
-boltraven-count-spec = tie.close (tie.spec count-requires plain-number-requires returns)
+boltraven-count-spec = tie.close (tie.spec (λ c κs. search needs) (λ c κs. search needs) returns)

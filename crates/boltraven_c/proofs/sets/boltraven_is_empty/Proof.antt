@@ -5,14 +5,8 @@ use Rattle.boltraven_c.specs.Numbers.{toldNumber}
 use Rattle.boltraven_c.proofs.sets.boltraven_is_empty.Statement.{statement}
 use Rattle.boltraven_c.proofs.sets.boltraven_is_empty.Tie as tie
 
-is-empty-requires : tie.Need-is-empty-requires
-is-empty-requires c κs = search needs
-
-told-number-requires : tie.Need-told-number-requires
-told-number-requires c κs = search needs
-
 returns : tie.Need-returns
 returns c = c .told-number .ensures ∙ ap toldNumber (c .before .is-empty .ensures)
 
 pub boltraven-is-empty-spec : {M : Type 1} → statement M
-boltraven-is-empty-spec = tie.close (tie.spec is-empty-requires told-number-requires returns)
+boltraven-is-empty-spec = tie.close (tie.spec (λ c κs. search needs) (λ c κs. search needs) returns)

@@ -5,21 +5,6 @@ use Rattle.boltraven_c.specs.Numbers.{memberNumber, memberAt, memberCurs
 use Rattle.boltraven_c.proofs.sets.boltraven_next_member.Statement.{statement}
 use Rattle.boltraven_c.proofs.sets.boltraven_next_member.Tie as tie
 
-next-member-requires : tie.Need-next-member-requires
-next-member-requires c κs = search needs
-
-enum-known-member : tie.Need-enum-known-member
-enum-known-member c = search needs
-
-enum-told : tie.Need-enum-told
-enum-told c = search needs
-
-enum-known-member-2 : tie.Need-enum-known-member-2
-enum-known-member-2 c = search needs
-
-refused-requires : tie.Need-refused-requires
-refused-requires c κs = search needs
-
 returns : tie.Need-returns
 returns c =
     let e = sym (c .before .before .before .next-member .ensures) ∙ c .before .member .given .1 in
@@ -39,11 +24,11 @@ pub boltraven-next-member-spec : {M : Type 1} → statement M
 boltraven-next-member-spec =
     tie.close
     (tie.spec
-    next-member-requires
-    enum-known-member
-    enum-told
-    enum-known-member-2
-    refused-requires
+    (λ c κs. search needs)
+    (λ c. search needs)
+    (λ c. search needs)
+    (λ c. search needs)
+    (λ c κs. search needs)
     returns
     returns-2
     returns-3)

@@ -5,21 +5,6 @@ use Rattle.boltraven_c.specs.Numbers.{nextRunNumber, nextRunFirst, nextR
 use Rattle.boltraven_c.proofs.sets.boltraven_next_run.Statement.{statement}
 use Rattle.boltraven_c.proofs.sets.boltraven_next_run.Tie as tie
 
-next-run-requires : tie.Need-next-run-requires
-next-run-requires c κs = search needs
-
-enum-known-run : tie.Need-enum-known-run
-enum-known-run c = search needs
-
-enum-told : tie.Need-enum-told
-enum-told c = search needs
-
-enum-known-run-2 : tie.Need-enum-known-run-2
-enum-known-run-2 c = search needs
-
-refused-requires : tie.Need-refused-requires
-refused-requires c κs = search needs
-
 returns : tie.Need-returns
 returns c =
     let e = sym (c .before .before .before .next-run .ensures) ∙ c .before .run .given .1 in
@@ -41,11 +26,11 @@ pub boltraven-next-run-spec : {M : Type 1} → statement M
 boltraven-next-run-spec =
     tie.close
     (tie.spec
-    next-run-requires
-    enum-known-run
-    enum-told
-    enum-known-run-2
-    refused-requires
+    (λ c κs. search needs)
+    (λ c. search needs)
+    (λ c. search needs)
+    (λ c. search needs)
+    (λ c κs. search needs)
     returns
     returns-2
     returns-3)

@@ -5,14 +5,8 @@ use Rattle.boltraven_c.specs.Numbers.{foundNumber}
 use Rattle.boltraven_c.proofs.sets.boltraven_next_set.Statement.{statement}
 use Rattle.boltraven_c.proofs.sets.boltraven_next_set.Tie as tie
 
-next-set-requires : tie.Need-next-set-requires
-next-set-requires c κs = search needs
-
-found-number-requires : tie.Need-found-number-requires
-found-number-requires c κs = search needs
-
 returns : tie.Need-returns
 returns c = c .found-number .ensures ∙ ap foundNumber (c .before .next-set .ensures)
 
 pub boltraven-next-set-spec : {M : Type 1} → statement M
-boltraven-next-set-spec = tie.close (tie.spec next-set-requires found-number-requires returns)
+boltraven-next-set-spec = tie.close (tie.spec (λ c κs. search needs) (λ c κs. search needs) returns)

@@ -5,15 +5,9 @@ use Rattle.boltraven_c.specs.Numbers.{foundNumber}
 use Rattle.boltraven_c.proofs.sets.boltraven_next_unset_after.Statement.{statement}
 use Rattle.boltraven_c.proofs.sets.boltraven_next_unset_after.Tie as tie
 
-next-unset-after-requires : tie.Need-next-unset-after-requires
-next-unset-after-requires c κs = search needs
-
-found-number-requires : tie.Need-found-number-requires
-found-number-requires c κs = search needs
-
 returns : tie.Need-returns
 returns c = c .found-number .ensures ∙ ap foundNumber (c .before .next-unset-after .ensures)
 
 pub boltraven-next-unset-after-spec : {M : Type 1} → statement M
 boltraven-next-unset-after-spec =
-    tie.close (tie.spec next-unset-after-requires found-number-requires returns)
+    tie.close (tie.spec (λ c κs. search needs) (λ c κs. search needs) returns)

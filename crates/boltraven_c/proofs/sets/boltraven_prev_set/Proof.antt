@@ -5,14 +5,8 @@ use Rattle.boltraven_c.specs.Numbers.{foundNumber}
 use Rattle.boltraven_c.proofs.sets.boltraven_prev_set.Statement.{statement}
 use Rattle.boltraven_c.proofs.sets.boltraven_prev_set.Tie as tie
 
-prev-set-requires : tie.Need-prev-set-requires
-prev-set-requires c κs = search needs
-
-found-number-requires : tie.Need-found-number-requires
-found-number-requires c κs = search needs
-
 returns : tie.Need-returns
 returns c = c .found-number .ensures ∙ ap foundNumber (c .before .prev-set .ensures)
 
 pub boltraven-prev-set-spec : {M : Type 1} → statement M
-boltraven-prev-set-spec = tie.close (tie.spec prev-set-requires found-number-requires returns)
+boltraven-prev-set-spec = tie.close (tie.spec (λ c κs. search needs) (λ c κs. search needs) returns)

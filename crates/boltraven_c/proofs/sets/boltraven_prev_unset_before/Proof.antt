@@ -5,15 +5,9 @@ use Rattle.boltraven_c.specs.Numbers.{foundNumber}
 use Rattle.boltraven_c.proofs.sets.boltraven_prev_unset_before.Statement.{statement}
 use Rattle.boltraven_c.proofs.sets.boltraven_prev_unset_before.Tie as tie
 
-prev-unset-before-requires : tie.Need-prev-unset-before-requires
-prev-unset-before-requires c κs = search needs
-
-found-number-requires : tie.Need-found-number-requires
-found-number-requires c κs = search needs
-
 returns : tie.Need-returns
 returns c = c .found-number .ensures ∙ ap foundNumber (c .before .prev-unset-before .ensures)
 
 pub boltraven-prev-unset-before-spec : {M : Type 1} → statement M
 boltraven-prev-unset-before-spec =
-    tie.close (tie.spec prev-unset-before-requires found-number-requires returns)
+    tie.close (tie.spec (λ c κs. search needs) (λ c κs. search needs) returns)

@@ -5,21 +5,6 @@ use Rattle.boltraven_c.specs.Numbers.{runNumber, runFirst, runLast}
 use Rattle.boltraven_c.proofs.sets.boltraven_run_bounds.Statement.{statement}
 use Rattle.boltraven_c.proofs.sets.boltraven_run_bounds.Tie as tie
 
-run-bounds-requires : tie.Need-run-bounds-requires
-run-bounds-requires c κs = search needs
-
-enum-known-run : tie.Need-enum-known-run
-enum-known-run c = search needs
-
-enum-told : tie.Need-enum-told
-enum-told c = search needs
-
-enum-known-run-2 : tie.Need-enum-known-run-2
-enum-known-run-2 c = search needs
-
-refused-requires : tie.Need-refused-requires
-refused-requires c κs = search needs
-
 returns : tie.Need-returns
 returns c =
     let e = sym (c .before .before .before .run-bounds .ensures) ∙ c .before .run .given .1 in
@@ -39,11 +24,11 @@ pub boltraven-run-bounds-spec : {M : Type 1} → statement M
 boltraven-run-bounds-spec =
     tie.close
     (tie.spec
-    run-bounds-requires
-    enum-known-run
-    enum-told
-    enum-known-run-2
-    refused-requires
+    (λ c κs. search needs)
+    (λ c. search needs)
+    (λ c. search needs)
+    (λ c. search needs)
+    (λ c κs. search needs)
     returns
     returns-2
     returns-3)

@@ -7,12 +7,6 @@ use Rattle.slotset.specs.Answers.{putOf}
 use Rattle.boltraven_c.proofs.sets.changed_set.Statement.{statement}
 use Rattle.boltraven_c.proofs.sets.changed_set.Tie as tie
 
-insert-requires : tie.Need-insert-requires
-insert-requires c κs = search needs
-
-remove-requires : tie.Need-remove-requires
-remove-requires c κs = search needs
-
 returns : tie.Need-returns
 returns c =
     let a = c .before .before .args in
@@ -24,4 +18,4 @@ returns-2 c =
     c .remove .ensures ∙ sym (ap (λ (w : Bool). putOf (valueOf w) (a .set) (a .i)) (c .before .if1 .left))
 
 pub changed-set-spec : {M : Type 1} → statement M
-changed-set-spec = tie.close (tie.spec insert-requires remove-requires returns returns-2)
+changed-set-spec = tie.close (tie.spec (λ c κs. search needs) (λ c κs. search needs) returns returns-2)

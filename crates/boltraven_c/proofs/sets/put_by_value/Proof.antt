@@ -6,18 +6,6 @@ use Rattle.boltraven_c.proofs.Puts.{done, slot-refused, row-refused}
 use Rattle.boltraven_c.proofs.sets.put_by_value.Statement.{statement}
 use Rattle.boltraven_c.proofs.sets.put_by_value.Tie as tie
 
-load-requires : tie.Need-load-requires
-load-requires c κs = search needs
-
-changed-set-requires : tie.Need-changed-set-requires
-changed-set-requires c κs = search needs
-
-store-requires : tie.Need-store-requires
-store-requires c κs = search needs
-
-same-length : tie.Need-same-length
-same-length c = search needs
-
 returns : tie.Need-returns
 returns c =
     let at-if2 = c .before .before .before .before .before in
@@ -29,9 +17,6 @@ returns c =
     (at-load .load .result) (at-load .load .ensures) (at-change .changed-set .result) (at-change .changed-set .ensures)
     (at-if1 .if1 .taken) _ _ (at-if2 .if2 .taken) (c .before .before .store .ensures)
 
-same-length-2 : tie.Need-same-length-2
-same-length-2 c = search needs
-
 returns-2 : tie.Need-returns-2
 returns-2 c =
     let at-change = c .before in
@@ -41,9 +26,6 @@ returns-2 c =
     slot-refused (valueOf (at .want)) (at .words .now) (at .people) (at .person) (at .len) (at .i) (value-lt (at .want))
     (at-load .load .result) (at-load .load .ensures) (at-change .changed-set .result) (at-change .changed-set .ensures)
     (at-if1 .if1 .taken) (c .if2 .left)
-
-same-length-3 : tie.Need-same-length-3
-same-length-3 c = search needs
 
 returns-3 : tie.Need-returns-3
 returns-3 c =
@@ -56,12 +38,12 @@ pub put-by-value-spec : {M : Type 1} → statement M
 put-by-value-spec =
     tie.close
     (tie.spec
-    load-requires
-    changed-set-requires
-    store-requires
-    same-length
+    (λ c κs. search needs)
+    (λ c κs. search needs)
+    (λ c κs. search needs)
+    (λ c. search needs)
     returns
-    same-length-2
+    (λ c. search needs)
     returns-2
-    same-length-3
+    (λ c. search needs)
     returns-3)

@@ -35,12 +35,6 @@ mul-out c = omega (arith, c .before .before .before .before .pre .0)
 array-write-out : tie.Need-array-write-out Inv-loop μ-loop
 array-write-out c = omega (arith, c .before .before .before .before .pre .0)
 
-add-k : tie.Need-add-k Inv-loop μ-loop
-add-k c = search needs
-
-loop-less : tie.Need-loop-less Inv-loop μ-loop
-loop-less c = search needs
-
 loop-again : tie.Need-loop-again Inv-loop μ-loop
 loop-again c = (column-more _ _ _ _ _ _ _ (c .before .before .loop .inv .0) (c .field .ensures .0), omega arith)
 
@@ -62,7 +56,7 @@ column16-spec =
     cast-out
     mul-out
     array-write-out
-    add-k
-    loop-less
+    (λ c. search needs)
+    (λ c. search needs)
     loop-again
     returns)

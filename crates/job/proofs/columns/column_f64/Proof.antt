@@ -28,20 +28,11 @@ add-field c = let p = c .before .before .before in omega (arith, p .pre .1 (c .b
 field-requires : tie.Need-field-requires Inv-loop μ-loop
 field-requires c κs = let p = c .before .before .before in omega (arith, p .pre .1 (c .before .loop .k) (omega arith))
 
-float-of-requires : tie.Need-float-of-requires Inv-loop μ-loop
-float-of-requires c κs = search needs
-
 mul-out : tie.Need-mul-out Inv-loop μ-loop
 mul-out c = omega (arith, c .before .before .before .before .before .pre .0)
 
 array-write-out : tie.Need-array-write-out Inv-loop μ-loop
 array-write-out c = omega (arith, c .before .before .before .before .before .pre .0)
-
-add-k : tie.Need-add-k Inv-loop μ-loop
-add-k c = search needs
-
-loop-less : tie.Need-loop-less Inv-loop μ-loop
-loop-less c = search needs
 
 loop-again : tie.Need-loop-again Inv-loop μ-loop
 loop-again c =
@@ -63,10 +54,10 @@ column-f64-spec =
     mul-field
     add-field
     field-requires
-    float-of-requires
+    (λ c κs. search needs)
     mul-out
     array-write-out
-    add-k
-    loop-less
+    (λ c. search needs)
+    (λ c. search needs)
     loop-again
     returns)

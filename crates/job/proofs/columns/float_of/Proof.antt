@@ -7,19 +7,13 @@ use Rattle.job.proofs.columns.float_of.Tie as tie
 float-from-bits-result : tie.Need-float-from-bits-result
 float-from-bits-result c = no-nan-digits _ (c .if2 .taken)
 
-returns : tie.Need-returns
-returns c = search needs
-
 returns-2 : tie.Need-returns-2
 returns-2 c = nan-pattern _ (c .before .if1 .taken) (c .if2 .left)
 
 float-from-bits-result-2 : tie.Need-float-from-bits-result-2
 float-from-bits-result-2 c = no-nan-field _ (c .if1 .left)
 
-returns-3 : tie.Need-returns-3
-returns-3 c = search needs
-
 pub float-of-spec : {M : Type 1} → statement M
 float-of-spec =
     tie.close
-    (tie.spec float-from-bits-result returns returns-2 float-from-bits-result-2 returns-3)
+    (tie.spec float-from-bits-result (λ c. search needs) returns-2 float-from-bits-result-2 (λ c. search needs))

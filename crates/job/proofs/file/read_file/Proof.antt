@@ -8,21 +8,6 @@ use Rattle.job.proofs.Files.{owners-end, file-ok}
 use Rattle.job.proofs.file.read_file.Statement.{statement}
 use Rattle.job.proofs.file.read_file.Tie as tie
 
-walk-requires : tie.Need-walk-requires
-walk-requires c κs = search needs
-
-array-read-rest-ok : tie.Need-array-read-rest-ok
-array-read-rest-ok c = search needs
-
-array-read-rest-ok-2 : tie.Need-array-read-rest-ok-2
-array-read-rest-ok-2 c = search needs
-
-array-read-rest-ok-3 : tie.Need-array-read-rest-ok-3
-array-read-rest-ok-3 c = search needs
-
-array-read-rest-ok-4 : tie.Need-array-read-rest-ok-4
-array-read-rest-ok-4 c = search needs
-
 rest-ok-requires : tie.Need-rest-ok-requires
 unfolding jobCounts jobStarts
 rest-ok-requires c κs =
@@ -56,11 +41,11 @@ pub read-file-spec : {M : Type 1} → statement M
 read-file-spec =
     tie.close
     (tie.spec
-    walk-requires
-    array-read-rest-ok
-    array-read-rest-ok-2
-    array-read-rest-ok-3
-    array-read-rest-ok-4
+    (λ c κs. search needs)
+    (λ c. search needs)
+    (λ c. search needs)
+    (λ c. search needs)
+    (λ c. search needs)
     rest-ok-requires
     returns
     returns-2)

@@ -6,12 +6,6 @@ use Rattle.job.proofs.Files.{rest-last, rest-byte, rest-freezes, rest-s
 use Rattle.job.proofs.file.rest_ok.Statement.{statement}
 use Rattle.job.proofs.file.rest_ok.Tie as tie
 
-byte-at-requires : tie.Need-byte-at-requires
-byte-at-requires c κs = search needs
-
-slots-rise-requires : tie.Need-slots-rise-requires
-slots-rise-requires c κs = search needs
-
 returns : tie.Need-returns
 returns c =
     let c3 = c .before .before .before in
@@ -32,4 +26,4 @@ returns-4 c = rest-settings _ _ _ _ _ (c .if1 .left)
 
 pub rest-ok-spec : {M : Type 1} → statement M
 rest-ok-spec =
-    tie.close (tie.spec byte-at-requires slots-rise-requires returns returns-2 returns-3 returns-4)
+    tie.close (tie.spec (λ c κs. search needs) (λ c κs. search needs) returns returns-2 returns-3 returns-4)

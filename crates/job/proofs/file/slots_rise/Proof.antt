@@ -22,24 +22,6 @@ abbrev μ-loop : tie.MeasureT-loop
 loop-holds : tie.Need-loop-holds Inv-loop μ-loop
 loop-holds c = (all-none _, omega arith)
 
-add-loop : tie.Need-add-loop Inv-loop μ-loop
-add-loop c = search needs
-
-owner-slot-requires : tie.Need-owner-slot-requires Inv-loop μ-loop
-owner-slot-requires c κs = search needs
-
-add-owner-slot : tie.Need-add-owner-slot Inv-loop μ-loop
-add-owner-slot c = search needs
-
-owner-slot-requires-2 : tie.Need-owner-slot-requires-2 Inv-loop μ-loop
-owner-slot-requires-2 c κs = search needs
-
-add-k : tie.Need-add-k Inv-loop μ-loop
-add-k c = search needs
-
-loop-less : tie.Need-loop-less Inv-loop μ-loop
-loop-less c = search needs
-
 loop-again : tie.Need-loop-again Inv-loop μ-loop
 loop-again c =
     let inv = c .before .before .before .before .loop .inv in (
@@ -62,12 +44,12 @@ slots-rise-spec =
     Inv-loop
     μ-loop
     loop-holds
-    add-loop
-    owner-slot-requires
-    add-owner-slot
-    owner-slot-requires-2
-    add-k
-    loop-less
+    (λ c. search needs)
+    (λ c κs. search needs)
+    (λ c. search needs)
+    (λ c κs. search needs)
+    (λ c. search needs)
+    (λ c. search needs)
     loop-again
     returns
     returns-2)

@@ -11,9 +11,6 @@ use Rattle.job.specs.Listing.{answerLetter, headText, drawLine}
 use Rattle.job.proofs.listing.put_draw.Statement.{statement}
 use Rattle.job.proofs.listing.put_draw.Tie as tie
 
-letter-of-requires : tie.Need-letter-of-requires
-letter-of-requires c κs = search needs
-
 put-head-requires : tie.Need-put-head-requires
 unfolding drawLine
 put-head-requires c κs =
@@ -36,9 +33,6 @@ put-byte-requires-2 c κs =
     let first = room-next (answerLetter (s .args .answer) ∷ [] ++ (10 ∷ [])) (c7 .put-head .ensures) (s .pre) in
     omega (arith, room-next (10 ∷ []) (c3 .put-byte .ensures) first)
 
-same-length : tie.Need-same-length
-same-length c = search needs
-
 returns : tie.Need-returns
 unfolding drawLine
 returns c =
@@ -58,9 +52,9 @@ pub put-draw-spec : {M : Type 1} → statement M
 put-draw-spec =
     tie.close
     (tie.spec
-    letter-of-requires
+    (λ c κs. search needs)
     put-head-requires
     put-byte-requires
     put-byte-requires-2
-    same-length
+    (λ c. search needs)
     returns)

@@ -27,12 +27,6 @@ put-draw-requires c κs =
     let s = c3 .before .before .before in
     going-room (c3 .loop .inv .0) (s .args .n) (omega arith) (s .pre .1)
 
-add-k : tie.Need-add-k Inv-loop μ-loop
-add-k c = search needs
-
-loop-less : tie.Need-loop-less Inv-loop μ-loop
-loop-less c = search needs
-
 loop-again : tie.Need-loop-again Inv-loop μ-loop
 unfolding drawAt
 loop-again c =
@@ -56,8 +50,8 @@ put-draws-spec =
     loop-holds
     shared-slice-read-put-draw
     put-draw-requires
-    add-k
-    loop-less
+    (λ c. search needs)
+    (λ c. search needs)
     loop-again
     same-length
     returns)

@@ -69,9 +69,6 @@ put-head-requires c κs =
     let second = room-next (from-draws (a .draws) (a .answers .now) (a .uncovered)) (c7 .put-people .ensures) first in
     room-next (uncoveredLine (a .uncovered)) (c3 .put-draws .ensures) second
 
-same-length : tie.Need-same-length
-same-length c = search needs
-
 returns : tie.Need-returns
 unfolding listingOf uncoveredLine
 returns c =
@@ -95,5 +92,5 @@ put-lines-spec =
     put-people-requires
     put-draws-requires
     put-head-requires
-    same-length
+    (λ c. search needs)
     returns)

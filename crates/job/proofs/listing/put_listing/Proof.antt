@@ -30,11 +30,5 @@ put-lines-requires c κs =
     } in
     (s .pre .1 .0, (s .pre .1 .1 .0, omega (arith, listing-fits L F, s .pre .0)))
 
-same-length : tie.Need-same-length
-same-length c = search needs
-
-returns : tie.Need-returns
-returns c = search needs
-
 pub put-listing-spec : {M : Type 1} → statement M
-put-listing-spec = tie.close (tie.spec put-lines-requires same-length returns)
+put-listing-spec = tie.close (tie.spec put-lines-requires (λ c. search needs) (λ c. search needs))

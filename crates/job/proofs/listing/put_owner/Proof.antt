@@ -45,9 +45,6 @@ put-number-then-requires c κs =
     subst (λ (l : List ℕ). s .args .at + length (l ++ (10 ∷ [])) ≤ length (s .args .out .now)) (owner-some _ (c .before .if1 .left))
     (s .pre)
 
-same-length-2 : tie.Need-same-length-2
-same-length-2 c = search needs
-
 returns-2 : tie.Need-returns-2
 returns-2 c =
     let c4 = c .before .before .before .before in
@@ -62,5 +59,5 @@ put-owner-spec =
     same-length
     returns
     put-number-then-requires
-    same-length-2
+    (λ c. search needs)
     returns-2)

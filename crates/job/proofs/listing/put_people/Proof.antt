@@ -47,12 +47,6 @@ put-person-requires c κs =
     let r = going-room (c4 .loop .inv .0) (s .args .n) (omega arith) (s .pre .1) in
     omega (arith, r, ap (λ (y : ℤ). length (personLine k (getD (s .args .minutes .now) k 0) y)) (toZ-ofZ w64 z f))
 
-add-k : tie.Need-add-k Inv-loop μ-loop
-add-k c = search needs
-
-loop-less : tie.Need-loop-less Inv-loop μ-loop
-loop-less c = search needs
-
 loop-again : tie.Need-loop-again Inv-loop μ-loop
 unfolding personAt
 loop-again c =
@@ -86,8 +80,8 @@ put-people-spec =
     mul-put-person
     shared-slice-read-put-person
     put-person-requires
-    add-k
-    loop-less
+    (λ c. search needs)
+    (λ c. search needs)
     loop-again
     same-length
     returns)

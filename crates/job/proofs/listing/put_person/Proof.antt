@@ -48,9 +48,6 @@ put-signed-requires c κs =
       ap (λ (z : ℤ). length (from-target z)) (toZ-ofZ w64 (s .args .target) (s .fits .target)),
     )
 
-same-length : tie.Need-same-length
-same-length c = search needs
-
 returns : tie.Need-returns
 unfolding personLine
 returns c =
@@ -64,4 +61,4 @@ returns c =
 pub put-person-spec : {M : Type 1} → statement M
 put-person-spec =
     tie.close
-    (tie.spec put-head-requires put-number-then-requires put-signed-requires same-length returns)
+    (tie.spec put-head-requires put-number-then-requires put-signed-requires (λ c. search needs) returns)

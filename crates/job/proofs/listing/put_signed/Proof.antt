@@ -12,9 +12,6 @@ use Rattle.job.proofs.Signs.{signed-below, signed-above}
 use Rattle.job.proofs.listing.put_signed.Statement.{statement}
 use Rattle.job.proofs.listing.put_signed.Tie as tie
 
-size-of-requires : tie.Need-size-of-requires
-size-of-requires c κs = search needs
-
 put-byte-requires : tie.Need-put-byte-requires
 put-byte-requires c κs =
     let s = c .before .before .before .before in
@@ -59,9 +56,6 @@ put-number-then-requires-2 c κs =
     (signed-above (s .args .t) (s .fits .t) (c .before .if1 .left) (c .before .before .size-of .result)
     (c .before .before .size-of .ensures)) (s .pre)
 
-same-length-2 : tie.Need-same-length-2
-same-length-2 c = search needs
-
 returns-2 : tie.Need-returns-2
 returns-2 c =
     let c4 = c .before .before .before .before in
@@ -74,11 +68,11 @@ pub put-signed-spec : {M : Type 1} → statement M
 put-signed-spec =
     tie.close
     (tie.spec
-    size-of-requires
+    (λ c κs. search needs)
     put-byte-requires
     put-number-then-requires
     same-length
     returns
     put-number-then-requires-2
-    same-length-2
+    (λ c. search needs)
     returns-2)

@@ -53,9 +53,6 @@ put-owner-requires c κs =
     let second = room-next (from-end (s .args .end) (s .args .owner)) (c7 .put-number-then .ensures) first in
     room-next (from-owner (s .args .owner)) (c3 .put-number-then2 .ensures) second
 
-same-length : tie.Need-same-length
-same-length c = search needs
-
 returns : tie.Need-returns
 unfolding slotLine
 returns c =
@@ -77,5 +74,5 @@ put-slot-spec =
     put-number-then-requires
     put-number-then-requires-2
     put-owner-requires
-    same-length
+    (λ c. search needs)
     returns)

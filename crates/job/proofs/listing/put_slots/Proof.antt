@@ -17,14 +17,8 @@ abbrev μ-loop : tie.MeasureT-loop
 loop-holds : tie.Need-loop-holds Inv-loop μ-loop
 loop-holds c = (going-start _ _ _, omega arith)
 
-mul-put-slot : tie.Need-mul-put-slot Inv-loop μ-loop
-mul-put-slot c = search needs
-
 shared-slice-read-put-slot : tie.Need-shared-slice-read-put-slot Inv-loop μ-loop
 shared-slice-read-put-slot c = omega (arith, c .before .before .before .before .before .before .before .before .pre .0)
-
-mul-put-slot-2 : tie.Need-mul-put-slot-2 Inv-loop μ-loop
-mul-put-slot-2 c = search needs
 
 shared-slice-read-put-slot-2 : tie.Need-shared-slice-read-put-slot-2 Inv-loop μ-loop
 shared-slice-read-put-slot-2 c = omega (arith, c .before .before .before .before .before .before .before .before .before .pre .0)
@@ -38,12 +32,6 @@ put-slot-requires c κs =
     let c5 = c .before .before .before .before .before in
     let s = c5 .before .before .before .before .before in
     going-room (c5 .loop .inv .0) (s .args .n) (omega arith) (s .pre .1)
-
-add-k : tie.Need-add-k Inv-loop μ-loop
-add-k c = search needs
-
-loop-less : tie.Need-loop-less Inv-loop μ-loop
-loop-less c = search needs
 
 loop-again : tie.Need-loop-again Inv-loop μ-loop
 unfolding slotAt
@@ -67,14 +55,14 @@ put-slots-spec =
     Inv-loop
     μ-loop
     loop-holds
-    mul-put-slot
+    (λ c. search needs)
     shared-slice-read-put-slot
-    mul-put-slot-2
+    (λ c. search needs)
     shared-slice-read-put-slot-2
     shared-slice-read-put-slot-3
     put-slot-requires
-    add-k
-    loop-less
+    (λ c. search needs)
+    (λ c. search needs)
     loop-again
     same-length
     returns)

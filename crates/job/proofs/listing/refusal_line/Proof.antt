@@ -15,12 +15,9 @@ put-head-requires c κs =
     let s = c .before .before .before in
     omega (arith, refusal-le (s .args .number) (s .fits .number .fits), c .before .if1 .left)
 
-same-length : tie.Need-same-length
-same-length c = search needs
-
 returns-2 : tie.Need-returns-2
 unfolding refusalLine
 returns-2 c = refusal-written _ _ _ _ (c .before .before .before .before .if1 .left) (c .before .before .put-head .ensures)
 
 pub refusal-line-spec : {M : Type 1} → statement M
-refusal-line-spec = tie.close (tie.spec returns put-head-requires same-length returns-2)
+refusal-line-spec = tie.close (tie.spec returns put-head-requires (λ c. search needs) returns-2)

@@ -27,10 +27,7 @@ returns c = size-is (c .before .args .t) (c .before .fits .t) (c .if1 .taken)
 cast-result-2 : tie.Need-cast-result-2
 cast-result-2 c = whole-fits (c .before .args .t) (c .before .fits .t) (c .if1 .left)
 
-returns-2 : tie.Need-returns-2
-returns-2 c = search needs
-
 pub size-of-spec : {M : Type 1} → statement M
 size-of-spec =
     tie.close
-    (tie.spec add-result sub-result cast-result add-result-2 returns cast-result-2 returns-2)
+    (tie.spec add-result sub-result cast-result add-result-2 returns cast-result-2 (λ c. search needs))

@@ -20,15 +20,6 @@ abbrev μ-loop : tie.MeasureT-loop
 loop-holds : tie.Need-loop-holds Inv-loop μ-loop
 loop-holds c = (all-none _, omega arith)
 
-unit-even-requires : tie.Need-unit-even-requires Inv-loop μ-loop
-unit-even-requires c κs = search needs
-
-add-u : tie.Need-add-u Inv-loop μ-loop
-add-u c = search needs
-
-loop-less : tie.Need-loop-less Inv-loop μ-loop
-loop-less c = search needs
-
 loop-again : tie.Need-loop-again Inv-loop μ-loop
 loop-again c = (all-more _ _ (c .before .before .before .loop .inv .0) (sym (c .before .unit-even .ensures) ∙ c .if1 .taken), omega arith)
 
@@ -47,9 +38,9 @@ all-even-spec =
     Inv-loop
     μ-loop
     loop-holds
-    unit-even-requires
-    add-u
-    loop-less
+    (λ c κs. search needs)
+    (λ c. search needs)
+    (λ c. search needs)
     loop-again
     returns
     returns-2)

@@ -10,21 +10,6 @@ use Rattle.job.specs.Outcome.{ownersRow}
 use Rattle.job.proofs.owning.owners_of.Statement.{statement}
 use Rattle.job.proofs.owning.owners_of.Tie as tie
 
-placed-by-requires : tie.Need-placed-by-requires
-placed-by-requires c κs = search needs
-
-slice-aggregate-owners-no : tie.Need-slice-aggregate-owners-no
-slice-aggregate-owners-no c = search needs
-
-owners-no-requires : tie.Need-owners-no-requires
-owners-no-requires c κs = search needs
-
-slice-aggregate-narrow : tie.Need-slice-aggregate-narrow
-slice-aggregate-narrow c = search needs
-
-narrow-requires : tie.Need-narrow-requires
-narrow-requires c κs = search needs
-
 returns : tie.Need-returns
 returns c =
     let a = c .before .before .before .before .before .before .before .args in
@@ -40,9 +25,9 @@ pub owners-of-spec : {M : Type 1} → statement M
 owners-of-spec =
     tie.close
     (tie.spec
-    placed-by-requires
-    slice-aggregate-owners-no
-    owners-no-requires
-    slice-aggregate-narrow
-    narrow-requires
+    (λ c κs. search needs)
+    (λ c. search needs)
+    (λ c κs. search needs)
+    (λ c. search needs)
+    (λ c κs. search needs)
     returns)

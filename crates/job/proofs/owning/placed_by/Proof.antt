@@ -18,23 +18,11 @@ abbrev μ-loop : tie.MeasureT-loop
 loop-holds : tie.Need-loop-holds Inv-loop μ-loop
 loop-holds c = (placed-none _ _ _, omega arith)
 
-owner-slot-requires : tie.Need-owner-slot-requires Inv-loop μ-loop
-owner-slot-requires c κs = search needs
-
-owner-value-requires : tie.Need-owner-value-requires Inv-loop μ-loop
-owner-value-requires c κs = search needs
-
 mul-out : tie.Need-mul-out Inv-loop μ-loop
 mul-out c = omega (arith, c .before .before .before .before .before .before .pre .1)
 
 array-write-out : tie.Need-array-write-out Inv-loop μ-loop
 array-write-out c = omega (arith, c .before .before .before .before .before .before .pre .1)
-
-add-k : tie.Need-add-k Inv-loop μ-loop
-add-k c = search needs
-
-loop-less : tie.Need-loop-less Inv-loop μ-loop
-loop-less c = search needs
 
 loop-again : tie.Need-loop-again Inv-loop μ-loop
 loop-again c =
@@ -43,12 +31,6 @@ loop-again c =
           (c .if1 .taken),
       omega arith,
     )
-
-add-k-2 : tie.Need-add-k-2 Inv-loop μ-loop
-add-k-2 c = search needs
-
-loop-less-2 : tie.Need-loop-less-2 Inv-loop μ-loop
-loop-less-2 c = search needs
 
 loop-again-2 : tie.Need-loop-again-2 Inv-loop μ-loop
 loop-again-2 c =
@@ -67,14 +49,14 @@ placed-by-spec =
     Inv-loop
     μ-loop
     loop-holds
-    owner-slot-requires
-    owner-value-requires
+    (λ c κs. search needs)
+    (λ c κs. search needs)
     mul-out
     array-write-out
-    add-k
-    loop-less
+    (λ c. search needs)
+    (λ c. search needs)
     loop-again
-    add-k-2
-    loop-less-2
+    (λ c. search needs)
+    (λ c. search needs)
     loop-again-2
     returns)

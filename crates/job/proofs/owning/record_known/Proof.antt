@@ -9,15 +9,6 @@ use Rattle.job.proofs.Prepares.{record-owner, record-slot}
 use Rattle.job.proofs.owning.record_known.Statement.{statement}
 use Rattle.job.proofs.owning.record_known.Tie as tie
 
-owner-slot-requires : tie.Need-owner-slot-requires
-owner-slot-requires c κs = search needs
-
-owner-value-requires : tie.Need-owner-value-requires
-owner-value-requires c κs = search needs
-
-cast-owner : tie.Need-cast-owner
-cast-owner c = search needs
-
 returns : tie.Need-returns
 returns c =
     let c3 = c .before .before .before in
@@ -37,4 +28,4 @@ returns-3 c = record-slot _ _ _ _ _ _ (c .before .before .owner-slot .ensures) (
 pub record-known-spec : {M : Type 1} → statement M
 record-known-spec =
     tie.close
-    (tie.spec owner-slot-requires owner-value-requires cast-owner returns returns-2 returns-3)
+    (tie.spec (λ c κs. search needs) (λ c κs. search needs) (λ c. search needs) returns returns-2 returns-3)

@@ -20,26 +20,8 @@ Inv-loop slots units firsts owners u a e owner k₀ k = (allIn a k (λ (j : ℕ)
 abbrev μ-loop : tie.MeasureT-loop
 μ-loop slots units firsts owners u a e owner k₀ k = e - k
 
-start-of-requires : tie.Need-start-of-requires Inv-loop μ-loop
-start-of-requires c κs = search needs
-
-unit-end-requires : tie.Need-unit-end-requires Inv-loop μ-loop
-unit-end-requires c κs = search needs
-
-entry16-requires : tie.Need-entry16-requires Inv-loop μ-loop
-entry16-requires c κs = search needs
-
 loop-holds : tie.Need-loop-holds Inv-loop μ-loop
 loop-holds c = (in-none _ _, omega arith)
-
-entry16-requires-2 : tie.Need-entry16-requires-2 Inv-loop μ-loop
-entry16-requires-2 c κs = search needs
-
-add-k : tie.Need-add-k Inv-loop μ-loop
-add-k c = search needs
-
-loop-less : tie.Need-loop-less Inv-loop μ-loop
-loop-less c = search needs
 
 loop-again : tie.Need-loop-again Inv-loop μ-loop
 loop-again c =
@@ -67,13 +49,13 @@ unit-even-spec =
     (tie.spec
     Inv-loop
     μ-loop
-    start-of-requires
-    unit-end-requires
-    entry16-requires
+    (λ c κs. search needs)
+    (λ c κs. search needs)
+    (λ c κs. search needs)
     loop-holds
-    entry16-requires-2
-    add-k
-    loop-less
+    (λ c κs. search needs)
+    (λ c. search needs)
+    (λ c. search needs)
     loop-again
     returns
     returns-2)

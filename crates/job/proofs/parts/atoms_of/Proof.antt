@@ -7,21 +7,6 @@ use Rattle.job.specs.Stages.{valueOf}
 use Rattle.job.proofs.parts.atoms_of.Statement.{statement}
 use Rattle.job.proofs.parts.atoms_of.Tie as tie
 
-slice-aggregate-atomise : tie.Need-slice-aggregate-atomise
-slice-aggregate-atomise c = search needs
-
-slice-aggregate-atomise-2 : tie.Need-slice-aggregate-atomise-2
-slice-aggregate-atomise-2 c = search needs
-
-atomise-requires : tie.Need-atomise-requires
-atomise-requires c κs = search needs
-
-enum-known-heard : tie.Need-enum-known-heard
-enum-known-heard c = search needs
-
-enum-known-heard-2 : tie.Need-enum-known-heard-2
-enum-known-heard-2 c = search needs
-
 returns : tie.Need-returns
 returns c =
     let c5 = c .before .before .before .before .before in
@@ -54,10 +39,10 @@ pub atoms-of-spec : {M : Type 1} → statement M
 atoms-of-spec =
     tie.close
     (tie.spec
-    slice-aggregate-atomise
-    slice-aggregate-atomise-2
-    atomise-requires
-    enum-known-heard
-    enum-known-heard-2
+    (λ c. search needs)
+    (λ c. search needs)
+    (λ c κs. search needs)
+    (λ c. search needs)
+    (λ c. search needs)
     returns
     returns-2)

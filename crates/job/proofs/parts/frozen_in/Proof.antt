@@ -8,15 +8,9 @@ use Rattle.job.proofs.parts.frozen_in.Tie as tie
 returns : tie.Need-returns
 returns c = frozen-none _ _ _ _ _ (c .if1 .taken)
 
-slice-aggregate-freeze-before : tie.Need-slice-aggregate-freeze-before
-slice-aggregate-freeze-before c = search needs
-
-freeze-before-requires : tie.Need-freeze-before-requires
-freeze-before-requires c κs = search needs
-
 returns-2 : tie.Need-returns-2
 returns-2 c = c .before .freeze-before .ensures .1 ∙ frozen-some _ _ _ _ _ (c .before .before .before .if1 .left)
 
 pub frozen-in-spec : {M : Type 1} → statement M
 frozen-in-spec =
-    tie.close (tie.spec returns slice-aggregate-freeze-before freeze-before-requires returns-2)
+    tie.close (tie.spec returns (λ c. search needs) (λ c κs. search needs) returns-2)

@@ -9,27 +9,6 @@ use Rattle.job.specs.Stages.{settingsIn}
 use Rattle.job.proofs.parts.settings_in.Statement.{statement}
 use Rattle.job.proofs.parts.settings_in.Tie as tie
 
-field-requires : tie.Need-field-requires
-field-requires c κs = search needs
-
-cast-value : tie.Need-cast-value
-cast-value c = search needs
-
-field-requires-2 : tie.Need-field-requires-2
-field-requires-2 c κs = search needs
-
-cast-days : tie.Need-cast-days
-cast-days c = search needs
-
-shared-slice-read-t6 : tie.Need-shared-slice-read-t6
-shared-slice-read-t6 c = search needs
-
-shared-slice-read-t8 : tie.Need-shared-slice-read-t8
-shared-slice-read-t8 c = search needs
-
-shared-slice-read-t10 : tie.Need-shared-slice-read-t10
-shared-slice-read-t10 c = search needs
-
 returns : tie.Need-returns
 unfolding settingsIn
 returns c =
@@ -50,11 +29,11 @@ pub settings-in-spec : {M : Type 1} → statement M
 settings-in-spec =
     tie.close
     (tie.spec
-    field-requires
-    cast-value
-    field-requires-2
-    cast-days
-    shared-slice-read-t6
-    shared-slice-read-t8
-    shared-slice-read-t10
+    (λ c κs. search needs)
+    (λ c. search needs)
+    (λ c κs. search needs)
+    (λ c. search needs)
+    (λ c. search needs)
+    (λ c. search needs)
+    (λ c. search needs)
     returns)

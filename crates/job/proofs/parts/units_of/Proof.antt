@@ -6,18 +6,6 @@ use Rattle.job.specs.Stages.{valueOf}
 use Rattle.job.proofs.parts.units_of.Statement.{statement}
 use Rattle.job.proofs.parts.units_of.Tie as tie
 
-slice-aggregate-unit-starts : tie.Need-slice-aggregate-unit-starts
-slice-aggregate-unit-starts c = search needs
-
-unit-starts-requires : tie.Need-unit-starts-requires
-unit-starts-requires c κs = search needs
-
-enum-known-heard : tie.Need-enum-known-heard
-enum-known-heard c = search needs
-
-enum-known-heard-2 : tie.Need-enum-known-heard-2
-enum-known-heard-2 c = search needs
-
 returns : tie.Need-returns
 returns c =
     let w = c .before .before .before .before .unit-starts .ensures in
@@ -34,9 +22,9 @@ pub units-of-spec : {M : Type 1} → statement M
 units-of-spec =
     tie.close
     (tie.spec
-    slice-aggregate-unit-starts
-    unit-starts-requires
-    enum-known-heard
-    enum-known-heard-2
+    (λ c. search needs)
+    (λ c κs. search needs)
+    (λ c. search needs)
+    (λ c. search needs)
     returns
     returns-2)

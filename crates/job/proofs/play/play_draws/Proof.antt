@@ -5,21 +5,6 @@ use Rattle.owners.specs.Derived.{Derived}
 use Rattle.job.proofs.play.play_draws.Statement.{statement}
 use Rattle.job.proofs.play.play_draws.Tie as tie
 
-slice-aggregate-play : tie.Need-slice-aggregate-play
-slice-aggregate-play c = search needs
-
-slice-aggregate-play-2 : tie.Need-slice-aggregate-play-2
-slice-aggregate-play-2 c = search needs
-
-slice-aggregate-play-3 : tie.Need-slice-aggregate-play-3
-slice-aggregate-play-3 c = search needs
-
-slice-aggregate-play-4 : tie.Need-slice-aggregate-play-4
-slice-aggregate-play-4 c = search needs
-
-play-requires : tie.Need-play-requires
-play-requires c κs = search needs
-
 returns : tie.Need-returns
 returns c =
     let e = c .before .before .before .before .play .ensures in
@@ -37,9 +22,9 @@ pub play-draws-spec : {M : Type 1} → statement M
 play-draws-spec =
     tie.close
     (tie.spec
-    slice-aggregate-play
-    slice-aggregate-play-2
-    slice-aggregate-play-3
-    slice-aggregate-play-4
-    play-requires
+    (λ c. search needs)
+    (λ c. search needs)
+    (λ c. search needs)
+    (λ c. search needs)
+    (λ c κs. search needs)
     returns)

@@ -5,15 +5,6 @@ use Rattle.job.specs.Inside.{minutesValue}
 use Rattle.job.proofs.play.uncovered_of.Statement.{statement}
 use Rattle.job.proofs.play.uncovered_of.Tie as tie
 
-uncovered-minutes-requires : tie.Need-uncovered-minutes-requires
-uncovered-minutes-requires c κs = search needs
-
-enum-known-heard : tie.Need-enum-known-heard
-enum-known-heard c = search needs
-
-enum-told : tie.Need-enum-told
-enum-told c = search needs
-
 returns : tie.Need-returns
 returns c = sym (ap minutesValue (sym (c .before .before .before .uncovered-minutes .ensures) ∙ c .before .heard .given .1))
 
@@ -22,4 +13,4 @@ returns-2 c = sym (ap minutesValue (sym (c .before .before .uncovered-minutes .e
 
 pub uncovered-of-spec : {M : Type 1} → statement M
 uncovered-of-spec =
-    tie.close (tie.spec uncovered-minutes-requires enum-known-heard enum-told returns returns-2)
+    tie.close (tie.spec (λ c κs. search needs) (λ c. search needs) (λ c. search needs) returns returns-2)

@@ -6,12 +6,6 @@ use Rattle.job.proofs.Prepares.{counts-draws, counts-ranges, counts-peo
 use Rattle.job.proofs.run.counts_ok.Statement.{statement}
 use Rattle.job.proofs.run.counts_ok.Tie as tie
 
-slot-count-ok-requires : tie.Need-slot-count-ok-requires
-slot-count-ok-requires c κs = search needs
-
-people-ok-requires : tie.Need-people-ok-requires
-people-ok-requires c κs = search needs
-
 returns : tie.Need-returns
 returns c =
     let c3 = c .before .before .before in
@@ -38,4 +32,4 @@ returns-4 c = counts-base _ _ _ _ (sym (c .before .slot-count-ok .ensures) ∙ c
 pub counts-ok-spec : {M : Type 1} → statement M
 counts-ok-spec =
     tie.close
-    (tie.spec slot-count-ok-requires people-ok-requires returns returns-2 returns-3 returns-4)
+    (tie.spec (λ c κs. search needs) (λ c κs. search needs) returns returns-2 returns-3 returns-4)

@@ -19,17 +19,8 @@ abbrev μ-loop : tie.MeasureT-loop
 loop-holds : tie.Need-loop-holds Inv-loop μ-loop
 loop-holds c = (search needs, sym (over-none _ _), refl)
 
-mul-minutes : tie.Need-mul-minutes Inv-loop μ-loop
-mul-minutes c = search needs
-
 slice-write-minutes : tie.Need-slice-write-minutes Inv-loop μ-loop
 slice-write-minutes c = omega (arith, (c .before .loop .inv .2))
-
-add-p : tie.Need-add-p Inv-loop μ-loop
-add-p c = search needs
-
-loop-less : tie.Need-loop-less Inv-loop μ-loop
-loop-less c = omega arith
 
 loop-again : tie.Need-loop-again Inv-loop μ-loop
 loop-again c =
@@ -57,10 +48,10 @@ clear-minutes-spec =
     Inv-loop
     μ-loop
     loop-holds
-    mul-minutes
+    (λ c. search needs)
     slice-write-minutes
-    add-p
-    loop-less
+    (λ c. search needs)
+    (λ c. omega arith)
     loop-again
     same-length
     returns)

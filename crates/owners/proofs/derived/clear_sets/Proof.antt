@@ -21,15 +21,6 @@ loop-holds : tie.Need-loop-holds Inv-loop μ-loop
 unfolding setsFrom
 loop-holds c = (search needs, refl, refl)
 
-put-stretch-requires : tie.Need-put-stretch-requires Inv-loop μ-loop
-put-stretch-requires c κs = search needs
-
-add-p : tie.Need-add-p Inv-loop μ-loop
-add-p c = search needs
-
-loop-less : tie.Need-loop-less Inv-loop μ-loop
-loop-less c = omega arith
-
 loop-again : tie.Need-loop-again Inv-loop μ-loop
 loop-again c =
     let at-put-stretch = c .before .before .put-stretch in
@@ -60,9 +51,9 @@ clear-sets-spec =
     Inv-loop
     μ-loop
     loop-holds
-    put-stretch-requires
-    add-p
-    loop-less
+    (λ c κs. search needs)
+    (λ c. search needs)
+    (λ c. omega arith)
     loop-again
     same-length
     returns)

@@ -21,12 +21,6 @@ abbrev μ-loop : tie.MeasureT-loop
 loop-holds : tie.Need-loop-holds Inv-loop μ-loop
 loop-holds c = (search needs, omega arith, sym (fill-none _ _ _), refl)
 
-slice-write-owners : tie.Need-slice-write-owners Inv-loop μ-loop
-slice-write-owners c = search needs
-
-loop-less : tie.Need-loop-less Inv-loop μ-loop
-loop-less c = omega arith
-
 loop-again : tie.Need-loop-again Inv-loop μ-loop
 loop-again c =
     let at-loop = c .before .before .loop in
@@ -36,9 +30,6 @@ loop-again c =
       ap (λ (l : List ℕ). set l (at-loop .k) (at-args .owner)) (at-loop .inv .2) ∙ sym (fill-more _ _ _ _ (at-loop .inv .0)),
       simp length-set (at-loop .inv .3),
     )
-
-loop-less-2 : tie.Need-loop-less-2 Inv-loop μ-loop
-loop-less-2 c = omega arith
 
 -- a slot that isn't lent: nothing is written, and nothing would be
 loop-again-2 : tie.Need-loop-again-2 Inv-loop μ-loop
@@ -65,4 +56,4 @@ returns c =
 pub fill-owners-spec : {M : Type 1} → statement M
 fill-owners-spec =
     tie.close
-    (tie.spec Inv-loop μ-loop loop-holds slice-write-owners (λ c. search needs) loop-less loop-again (λ c. search needs) loop-less-2 loop-again-2 same-length returns)
+    (tie.spec Inv-loop μ-loop loop-holds (λ c. search needs) (λ c. search needs) (λ c. omega arith) loop-again (λ c. search needs) (λ c. omega arith) loop-again-2 same-length returns)

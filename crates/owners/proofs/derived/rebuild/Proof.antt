@@ -51,9 +51,6 @@ shared-slice-read-carry c =
     .before .before .before .before .before .before .pre in
     omega (arith, (at-pre .1) .owners-room)
 
-carry-requires : tie.Need-carry-requires Inv-loop μ-loop
-carry-requires c κs = search needs
-
 loop-less : tie.Need-loop-less Inv-loop μ-loop
 loop-less c =
     let at-stretch-end = c .before .before .before .before .before .before .before .before .stretch-end in
@@ -107,7 +104,7 @@ rebuild-spec =
     loop-holds
     stretch-end-requires
     shared-slice-read-carry
-    carry-requires
+    (λ c κs. search needs)
     loop-less
     loop-again
     same-length

@@ -15,12 +15,6 @@ Inv-loop owners slots i owner e₀ e = (i < e) × (e ≤ slots) × ((k : ℕ) �
 abbrev μ-loop : tie.MeasureT-loop
 μ-loop owners slots i owner e₀ e = slots - e
 
-shared-slice-read-owner : tie.Need-shared-slice-read-owner Inv-loop μ-loop
-shared-slice-read-owner c = search needs
-
-add-e : tie.Need-add-e Inv-loop μ-loop
-add-e c = search needs
-
 loop-holds : tie.Need-loop-holds Inv-loop μ-loop
 loop-holds c =
     let at-args = c .before .args in (
@@ -29,15 +23,6 @@ loop-holds c =
       λ k x y. let q : k ≡ (at-args .i) = omega arith in ap (λ (j : ℕ). getD (at-args .owners .now) j
           0) q,
     )
-
-shared-slice-read-if1 : tie.Need-shared-slice-read-if1 Inv-loop μ-loop
-shared-slice-read-if1 c = search needs
-
-add-e-2 : tie.Need-add-e-2 Inv-loop μ-loop
-add-e-2 c = search needs
-
-loop-less : tie.Need-loop-less Inv-loop μ-loop
-loop-less c = omega arith
 
 loop-again : tie.Need-loop-again Inv-loop μ-loop
 loop-again c =
@@ -66,12 +51,12 @@ stretch-end-spec =
     (tie.spec
     Inv-loop
     μ-loop
-    shared-slice-read-owner
-    add-e
+    (λ c. search needs)
+    (λ c. search needs)
     loop-holds
-    shared-slice-read-if1
-    add-e-2
-    loop-less
+    (λ c. search needs)
+    (λ c. search needs)
+    (λ c. omega arith)
     loop-again
     returns
     returns-2)

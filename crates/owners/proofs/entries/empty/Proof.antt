@@ -10,12 +10,6 @@ use Rattle.owners.proofs.Entered.{empty-says, emptied-no, emptied-yes}
 use Rattle.owners.proofs.entries.empty.Statement.{statement}
 use Rattle.owners.proofs.entries.empty.Tie as tie
 
-empty-no-requires : tie.Need-empty-no-requires
-empty-no-requires c κs = search needs
-
-fill-owners-requires : tie.Need-fill-owners-requires
-fill-owners-requires c κs = search needs
-
 clear-sets-requires : tie.Need-clear-sets-requires
 clear-sets-requires c κs =
     let at-args = c .before .before .before .before .before .before .before .before .before .before .before .before .before
@@ -61,15 +55,6 @@ returns c =
     _ (said _ (at-empty-no .ensures)) _ _ _ (at-if1 .taken) (at-fill-owners .ensures) (at-clear-sets .ensures) (at-clear-minutes
     .ensures)
 
-same-length-4 : tie.Need-same-length-4
-same-length-4 c = search needs
-
-same-length-5 : tie.Need-same-length-5
-same-length-5 c = search needs
-
-same-length-6 : tie.Need-same-length-6
-same-length-6 c = search needs
-
 returns-2 : tie.Need-returns-2
 returns-2 c =
     let at-args = c .before .before .before .before .before .before .before .before .args in
@@ -81,15 +66,15 @@ pub empty-spec : {M : Type 1} → statement M
 empty-spec =
     tie.close
     (tie.spec
-    empty-no-requires
-    fill-owners-requires
+    (λ c κs. search needs)
+    (λ c κs. search needs)
     clear-sets-requires
     clear-minutes-requires
     same-length
     same-length-2
     same-length-3
     returns
-    same-length-4
-    same-length-5
-    same-length-6
+    (λ c. search needs)
+    (λ c. search needs)
+    (λ c. search needs)
     returns-2)

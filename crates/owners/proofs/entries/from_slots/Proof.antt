@@ -8,9 +8,6 @@ use Rattle.owners.proofs.Entered.{from-asks, from-no, from-yes}
 use Rattle.owners.proofs.entries.from_slots.Statement.{statement}
 use Rattle.owners.proofs.entries.from_slots.Tie as tie
 
-from-slots-no-requires : tie.Need-from-slots-no-requires
-from-slots-no-requires c κs = search needs
-
 rebuild-requires : tie.Need-rebuild-requires
 rebuild-requires c κs =
     let at-args = c .before .before .before .before .before .before .before .before .before .before .before .before .args in
@@ -38,12 +35,6 @@ returns c =
     (at-args .owners .now) (derived (at-args .sets .now) (at-args .minutes .now)) _ (said _ (at-from-slots-no .ensures)) _ (at-if1
     .taken) (at-rebuild .ensures)
 
-same-length-3 : tie.Need-same-length-3
-same-length-3 c = search needs
-
-same-length-4 : tie.Need-same-length-4
-same-length-4 c = search needs
-
 returns-2 : tie.Need-returns-2
 returns-2 c =
     let at-args = c .before .before .before .before .before .before .before .before .before .before .args in
@@ -55,11 +46,11 @@ pub from-slots-spec : {M : Type 1} → statement M
 from-slots-spec =
     tie.close
     (tie.spec
-    from-slots-no-requires
+    (λ c κs. search needs)
     rebuild-requires
     same-length
     same-length-2
     returns
-    same-length-3
-    same-length-4
+    (λ c. search needs)
+    (λ c. search needs)
     returns-2)

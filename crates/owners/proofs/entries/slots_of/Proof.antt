@@ -5,12 +5,6 @@ use borrow.Author.Needs.{needs}
 use Rattle.owners.proofs.entries.slots_of.Statement.{statement}
 use Rattle.owners.proofs.entries.slots_of.Tie as tie
 
-slot-count-ok-requires : tie.Need-slot-count-ok-requires
-slot-count-ok-requires c κs = search needs
-
-load-requires : tie.Need-load-requires
-load-requires c κs = search needs
-
 returns : tie.Need-returns
 unfolding slotsOfIs
 returns c = simp (sym (c .before .before .slot-count-ok .ensures) ∙ c .before .if1 .taken) (c .load .ensures)
@@ -20,4 +14,4 @@ unfolding slotsOfIs
 returns-2 c = simp (sym (c .before .slot-count-ok .ensures) ∙ c .if1 .left)
 
 pub slots-of-spec : {M : Type 1} → statement M
-slots-of-spec = tie.close (tie.spec slot-count-ok-requires load-requires returns returns-2)
+slots-of-spec = tie.close (tie.spec (λ c κs. search needs) (λ c κs. search needs) returns returns-2)

@@ -8,27 +8,6 @@ use Rattle.owners.proofs.Faults.{copy-makes, copy-lengths, right-sets, 
 use Rattle.owners.proofs.recounting.derived_right.Statement.{statement}
 use Rattle.owners.proofs.recounting.derived_right.Tie as tie
 
-mul-n : tie.Need-mul-n
-mul-n c = search needs
-
-slice-aggregate-copy-words : tie.Need-slice-aggregate-copy-words
-slice-aggregate-copy-words c = search needs
-
-copy-words-requires : tie.Need-copy-words-requires
-copy-words-requires c κs = search needs
-
-slice-aggregate-copy-words-2 : tie.Need-slice-aggregate-copy-words-2
-slice-aggregate-copy-words-2 c = search needs
-
-copy-words-requires-2 : tie.Need-copy-words-requires-2
-copy-words-requires-2 c κs = search needs
-
-slice-aggregate-rebuild : tie.Need-slice-aggregate-rebuild
-slice-aggregate-rebuild c = search needs
-
-slice-aggregate-rebuild-2 : tie.Need-slice-aggregate-rebuild-2
-slice-aggregate-rebuild-2 c = search needs
-
 rebuild-requires : tie.Need-rebuild-requires
 rebuild-requires c κs =
     let at-pre = c .before .before .before .before .before .before .before .before .before .before .before .before .before .pre
@@ -48,9 +27,6 @@ rebuild-requires c κs =
           (at-copy-words2 .ensures),
     )
 
-slice-aggregate-same-words : tie.Need-slice-aggregate-same-words
-slice-aggregate-same-words c = search needs
-
 same-words-requires : tie.Need-same-words-requires
 same-words-requires c κs =
     let at-args = c .before .before .before .before .before .before .before .before .before .before .before .before .before
@@ -69,9 +45,6 @@ same-words-requires c κs =
     )) _ _ _ _ _ refl (at-copy-words .ensures) (at-copy-words2 .ensures) (at-rebuild
     .ensures) in
     ((at-pre .1) .sets-room, omega (arith, x .0, (at-pre .0) .people-few))
-
-slice-aggregate-same-words-2 : tie.Need-slice-aggregate-same-words-2
-slice-aggregate-same-words-2 c = search needs
 
 same-words-requires-2 : tie.Need-same-words-requires-2
 same-words-requires-2 c κs =
@@ -143,17 +116,17 @@ pub derived-right-spec : {M : Type 1} → statement M
 derived-right-spec =
     tie.close
     (tie.spec
-    mul-n
-    slice-aggregate-copy-words
-    copy-words-requires
-    slice-aggregate-copy-words-2
-    copy-words-requires-2
-    slice-aggregate-rebuild
-    slice-aggregate-rebuild-2
+    (λ c. search needs)
+    (λ c. search needs)
+    (λ c κs. search needs)
+    (λ c. search needs)
+    (λ c κs. search needs)
+    (λ c. search needs)
+    (λ c. search needs)
     rebuild-requires
-    slice-aggregate-same-words
+    (λ c. search needs)
     same-words-requires
-    slice-aggregate-same-words-2
+    (λ c. search needs)
     same-words-requires-2
     returns
     returns-2)

@@ -8,14 +8,8 @@ use Rattle.owners.proofs.Faults.{fault-unknown, fault-unavailable, faul
 use Rattle.owners.proofs.recounting.fault.Statement.{statement}
 use Rattle.owners.proofs.recounting.fault.Tie as tie
 
-first-unknown-requires : tie.Need-first-unknown-requires
-first-unknown-requires c κs = search needs
-
 returns : tie.Need-returns
 returns c = fault-unknown _ _ _ _ _ _ _ _ (c .before .before .first-unknown .ensures) (c .before .if1 .taken) (c .fault-in .ensures)
-
-first-unavailable-requires : tie.Need-first-unavailable-requires
-first-unavailable-requires c κs = search needs
 
 returns-2 : tie.Need-returns-2
 returns-2 c =
@@ -23,9 +17,6 @@ returns-2 c =
     let at-if1 = c .before .before .before .if1 in
     let at-first-unavailable = c .before .before .first-unavailable in
     fault-unavailable _ _ _ _ _ _ _ _ (at-first-unknown .ensures) (at-if1 .left) _ (at-first-unavailable .ensures) (c .before .if2 .taken) (c .fault-in2 .ensures)
-
-first-uneven-requires : tie.Need-first-uneven-requires
-first-uneven-requires c κs = search needs
 
 returns-3 : tie.Need-returns-3
 returns-3 c =
@@ -126,6 +117,6 @@ returns-6 c =
 pub fault-spec : {M : Type 1} → statement M
 fault-spec =
     tie.close
-    (tie.spec first-unknown-requires (λ c κs. search needs) returns first-unavailable-requires (λ c κs. search needs) returns-2 first-uneven-requires (λ c κs. search needs) returns-3
+    (tie.spec (λ c κs. search needs) (λ c κs. search needs) returns (λ c κs. search needs) (λ c κs. search needs) returns-2 (λ c κs. search needs) (λ c κs. search needs) returns-3
     derived-right-requires (λ c κs. search needs) returns-4 first-wrong-set-requires first-wrong-slot-requires (λ c κs. search needs) returns-5 first-wrong-minutes-requires (λ c κs. search needs)
     returns-6)

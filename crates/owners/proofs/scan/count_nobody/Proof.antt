@@ -17,29 +17,14 @@ abbrev μ-loop : tie.MeasureT-loop
 loop-holds : tie.Need-loop-holds Inv-loop μ-loop
 loop-holds c = (search needs, nobody-none _)
 
-owner-at-requires : tie.Need-owner-at-requires Inv-loop μ-loop
-owner-at-requires c κs = search needs
-
 add-n : tie.Need-add-n Inv-loop μ-loop
 add-n c =
     let at-args = c .before .before .before .before .before .args in
     let at-loop = c .before .before .before .loop in
     omega (arith, nobody-le (at-args .owners .now) (at-loop .k), (at-loop .inv .1))
 
-add-k : tie.Need-add-k Inv-loop μ-loop
-add-k c = search needs
-
-loop-less : tie.Need-loop-less Inv-loop μ-loop
-loop-less c = omega arith
-
 loop-again : tie.Need-loop-again Inv-loop μ-loop
 loop-again c = (omega arith, nobody-more _ _ _ (c .before .before .before .loop .inv .1) (sym (c .before .owner-at .ensures) ∙ c .if1 .taken))
-
-add-k-2 : tie.Need-add-k-2 Inv-loop μ-loop
-add-k-2 c = search needs
-
-loop-less-2 : tie.Need-loop-less-2 Inv-loop μ-loop
-loop-less-2 c = omega arith
 
 loop-again-2 : tie.Need-loop-again-2 Inv-loop μ-loop
 loop-again-2 c = (omega arith, nobody-same _ _ _ (c .before .before .before .loop .inv .1) (λ q. c .if1 .left (c .before .owner-at .ensures ∙ q)))
@@ -58,12 +43,12 @@ count-nobody-spec =
     Inv-loop
     μ-loop
     loop-holds
-    owner-at-requires
+    (λ c κs. search needs)
     add-n
-    add-k
-    loop-less
+    (λ c. search needs)
+    (λ c. omega arith)
     loop-again
-    add-k-2
-    loop-less-2
+    (λ c. search needs)
+    (λ c. omega arith)
     loop-again-2
     returns)

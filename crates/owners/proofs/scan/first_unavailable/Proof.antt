@@ -20,18 +20,6 @@ abbrev μ-loop : tie.MeasureT-loop
 loop-holds : tie.Need-loop-holds Inv-loop μ-loop
 loop-holds c = (search needs, all-none _)
 
-owner-at-requires : tie.Need-owner-at-requires Inv-loop μ-loop
-owner-at-requires c κs = search needs
-
-available-for-requires : tie.Need-available-for-requires Inv-loop μ-loop
-available-for-requires c κs = search needs
-
-add-k : tie.Need-add-k Inv-loop μ-loop
-add-k c = search needs
-
-loop-less : tie.Need-loop-less Inv-loop μ-loop
-loop-less c = omega arith
-
 loop-again : tie.Need-loop-again Inv-loop μ-loop
 loop-again c =
     let at-loop = c .before .before .before .before .loop in
@@ -57,10 +45,10 @@ first-unavailable-spec =
     Inv-loop
     μ-loop
     loop-holds
-    owner-at-requires
-    available-for-requires
-    add-k
-    loop-less
+    (λ c κs. search needs)
+    (λ c κs. search needs)
+    (λ c. search needs)
+    (λ c. omega arith)
     loop-again
     returns
     returns-2)

@@ -23,22 +23,10 @@ abbrev μ-loop : tie.MeasureT-loop
 loop-holds : tie.Need-loop-holds Inv-loop μ-loop
 loop-holds c = (search needs, all-none _)
 
-mul-if1 : tie.Need-mul-if1 Inv-loop μ-loop
-mul-if1 c = search needs
-
-shared-slice-read-if1 : tie.Need-shared-slice-read-if1 Inv-loop μ-loop
-shared-slice-read-if1 c = search needs
-
 worked-by-requires : tie.Need-worked-by-requires Inv-loop μ-loop
 worked-by-requires c κs =
     let at-pre = c .before .before .before .before .before .before .before .pre in
     ((at-pre .0), (at-pre .1 .0))
-
-add-p : tie.Need-add-p Inv-loop μ-loop
-add-p c = search needs
-
-loop-less : tie.Need-loop-less Inv-loop μ-loop
-loop-less c = omega arith
 
 loop-again : tie.Need-loop-again Inv-loop μ-loop
 unfolding minutesOkAt
@@ -65,11 +53,11 @@ first-wrong-minutes-spec =
     Inv-loop
     μ-loop
     loop-holds
-    mul-if1
-    shared-slice-read-if1
+    (λ c. search needs)
+    (λ c. search needs)
     worked-by-requires
-    add-p
-    loop-less
+    (λ c. search needs)
+    (λ c. omega arith)
     loop-again
     returns
     returns-2)

@@ -20,15 +20,6 @@ abbrev μ-loop : tie.MeasureT-loop
 loop-holds : tie.Need-loop-holds Inv-loop μ-loop
 loop-holds c = (search needs, all-none _)
 
-first-wrong-slot-requires : tie.Need-first-wrong-slot-requires Inv-loop μ-loop
-first-wrong-slot-requires c κs = omega arith
-
-add-p : tie.Need-add-p Inv-loop μ-loop
-add-p c = search needs
-
-loop-less : tie.Need-loop-less Inv-loop μ-loop
-loop-less c = omega arith
-
 loop-again : tie.Need-loop-again Inv-loop μ-loop
 loop-again c =
     let at-loop = c .before .before .before .loop in
@@ -52,9 +43,9 @@ first-wrong-set-spec =
     Inv-loop
     μ-loop
     loop-holds
-    first-wrong-slot-requires
-    add-p
-    loop-less
+    (λ c κs. omega arith)
+    (λ c. search needs)
+    (λ c. omega arith)
     loop-again
     returns
     returns-2)

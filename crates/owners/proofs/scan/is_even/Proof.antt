@@ -22,9 +22,6 @@ abbrev μ-loop : tie.MeasureT-loop
 loop-holds : tie.Need-loop-holds Inv-loop μ-loop
 loop-holds c = (omega arith, omega arith, in-none _ _)
 
-loop-less : tie.Need-loop-less Inv-loop μ-loop
-loop-less c = omega arith
-
 loop-again : tie.Need-loop-again Inv-loop μ-loop
 loop-again c =
     let at-loop = c .before .before .before .loop in (
@@ -56,4 +53,4 @@ pub is-even-spec : {M : Type 1} → statement M
 is-even-spec =
     tie.close
     (tie.spec Inv-loop μ-loop (λ c κs. search needs) (λ c κs. search needs) (λ c κs. search needs) loop-holds (λ c κs. search needs)
-    (λ c. search needs) loop-less loop-again returns returns-2)
+    (λ c. search needs) (λ c. omega arith) loop-again returns returns-2)

@@ -22,15 +22,6 @@ abbrev μ-loop : tie.MeasureT-loop
 loop-holds : tie.Need-loop-holds Inv-loop μ-loop
 loop-holds c = (search needs, sym (sum-none _))
 
-shared-slice-read-portion-of : tie.Need-shared-slice-read-portion-of Inv-loop μ-loop
-shared-slice-read-portion-of c = search needs
-
-minutes-at-requires : tie.Need-minutes-at-requires Inv-loop μ-loop
-minutes-at-requires c κs = search needs
-
-portion-of-requires : tie.Need-portion-of-requires Inv-loop μ-loop
-portion-of-requires c κs = search needs
-
 add-total : tie.Need-add-total Inv-loop μ-loop
 add-total c =
     let at-args = c .before .before .before .before .before .before .before .before .args in
@@ -42,12 +33,6 @@ add-total c =
     .now) (at-args .person) (at-loop .k) (at-loop .total) (c .portion-of .result) (at-minutes-at .result) (at-loop .inv .1)
     (at-minutes-at .ensures) (c .portion-of .ensures) (at-pre .0) (at-loop-test .taken) in
     omega arith
-
-add-k : tie.Need-add-k Inv-loop μ-loop
-add-k c = search needs
-
-loop-less : tie.Need-loop-less Inv-loop μ-loop
-loop-less c = omega arith
 
 loop-again : tie.Need-loop-again Inv-loop μ-loop
 loop-again c =
@@ -71,11 +56,11 @@ worked-by-spec =
     Inv-loop
     μ-loop
     loop-holds
-    shared-slice-read-portion-of
-    minutes-at-requires
-    portion-of-requires
+    (λ c. search needs)
+    (λ c κs. search needs)
+    (λ c κs. search needs)
     add-total
-    add-k
-    loop-less
+    (λ c. search needs)
+    (λ c. omega arith)
     loop-again
     returns)

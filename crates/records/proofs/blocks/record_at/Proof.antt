@@ -6,23 +6,8 @@ use Rattle.records.proofs.Walks.{record-short, record-kind, record-size
 use Rattle.records.proofs.blocks.record_at.Statement.{statement}
 use Rattle.records.proofs.blocks.record_at.Tie as tie
 
-sub-if1 : tie.Need-sub-if1
-sub-if1 c = search needs
-
-add-if1 : tie.Need-add-if1
-add-if1 c = search needs
-
 returns : tie.Need-returns
 returns c = sym (record-short _ _ _ _ (omega arith))
-
-number-at-requires : tie.Need-number-at-requires
-number-at-requires c κs = search needs
-
-add-number-at : tie.Need-add-number-at
-add-number-at c = search needs
-
-number-at-requires-2 : tie.Need-number-at-requires-2
-number-at-requires-2 c κs = search needs
 
 returns-2 : tie.Need-returns-2
 returns-2 c =
@@ -35,11 +20,11 @@ pub record-at-spec : {M : Type 1} → statement M
 record-at-spec =
     tie.close
     (tie.spec
-    sub-if1
-    add-if1
+    (λ c. search needs)
+    (λ c. search needs)
     returns
-    number-at-requires
-    add-number-at
-    number-at-requires-2
+    (λ c κs. search needs)
+    (λ c. search needs)
+    (λ c κs. search needs)
     returns-2
     returns-3)

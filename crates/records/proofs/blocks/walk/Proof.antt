@@ -4,17 +4,11 @@ use Rattle.records.proofs.Walks.{kinds-few, kinds-many}
 use Rattle.records.proofs.blocks.walk.Statement.{statement}
 use Rattle.records.proofs.blocks.walk.Tie as tie
 
-walk-kinds-requires : tie.Need-walk-kinds-requires
-walk-kinds-requires c κs = search needs
-
 returns : tie.Need-returns
 returns c = rw (kinds-few _ (c .before .if1 .taken)) (c .walk-kinds .ensures)
-
-walk-kinds-requires-2 : tie.Need-walk-kinds-requires-2
-walk-kinds-requires-2 c κs = search needs
 
 returns-2 : tie.Need-returns-2
 returns-2 c = rw (kinds-many _ (c .before .if1 .left)) (c .walk-kinds2 .ensures)
 
 pub walk-spec : {M : Type 1} → statement M
-walk-spec = tie.close (tie.spec walk-kinds-requires returns walk-kinds-requires-2 returns-2)
+walk-spec = tie.close (tie.spec (λ c κs. search needs) returns (λ c κs. search needs) returns-2)

@@ -26,40 +26,10 @@ abbrev μ-loop : tie.MeasureT-loop
 loop-holds : tie.Need-loop-holds Inv-loop μ-loop
 loop-holds c = (sym (over-none _ _), sym (over-none _ _), walk-none _ _, omega arith, omega arith)
 
-add-block-from : tie.Need-add-block-from Inv-loop μ-loop
-add-block-from c = search needs
-
-mul-block-from : tie.Need-mul-block-from Inv-loop μ-loop
-mul-block-from c = search needs
-
-array-read-block-from : tie.Need-array-read-block-from Inv-loop μ-loop
-array-read-block-from c = search needs
-
-cast-block-from : tie.Need-cast-block-from Inv-loop μ-loop
-cast-block-from c = search needs
-
 block-from-requires : tie.Need-block-from-requires Inv-loop μ-loop
 block-from-requires c κs =
     let f : Fits w16 (getD (c .before .before .before .args .t4) (c .before .loop .i) 0) = search needs in
     (c .before .loop .inv .3, f .fits)
-
-mul-counts : tie.Need-mul-counts Inv-loop μ-loop
-mul-counts c = search needs
-
-array-write-counts : tie.Need-array-write-counts Inv-loop μ-loop
-array-write-counts c = search needs
-
-mul-starts : tie.Need-mul-starts Inv-loop μ-loop
-mul-starts c = search needs
-
-array-write-starts : tie.Need-array-write-starts Inv-loop μ-loop
-array-write-starts c = search needs
-
-add-i : tie.Need-add-i Inv-loop μ-loop
-add-i c = search needs
-
-loop-less : tie.Need-loop-less Inv-loop μ-loop
-loop-less c = search needs
 
 loop-again : tie.Need-loop-again Inv-loop μ-loop
 loop-again c =
@@ -94,17 +64,17 @@ walk-kinds-spec =
     Inv-loop
     μ-loop
     loop-holds
-    add-block-from
-    mul-block-from
-    array-read-block-from
-    cast-block-from
+    (λ c. search needs)
+    (λ c. search needs)
+    (λ c. search needs)
+    (λ c. search needs)
     block-from-requires
-    mul-counts
-    array-write-counts
-    mul-starts
-    array-write-starts
-    add-i
-    loop-less
+    (λ c. search needs)
+    (λ c. search needs)
+    (λ c. search needs)
+    (λ c. search needs)
+    (λ c. search needs)
+    (λ c. search needs)
     loop-again
     returns
     returns-2)

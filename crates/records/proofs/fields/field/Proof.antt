@@ -13,9 +13,6 @@ returns c = field-none _ _ _ (inl (omega arith))
 returns-2 : tie.Need-returns-2
 returns-2 c = field-none _ _ _ (inr (omega arith))
 
-sub-if3 : tie.Need-sub-if3
-sub-if3 c = search needs
-
 returns-3 : tie.Need-returns-3
 returns-3 c = field-none _ _ _ (inr (omega arith))
 
@@ -26,4 +23,4 @@ returns-4 : tie.Need-returns-4
 returns-4 c = (c .number-at .ensures .0 ∙ sym (field-is _ _ _ (omega arith) (omega arith)), c .number-at .ensures .1)
 
 pub field-spec : {M : Type 1} → statement M
-field-spec = tie.close (tie.spec returns returns-2 sub-if3 returns-3 number-at-requires returns-4)
+field-spec = tie.close (tie.spec returns returns-2 (λ c. search needs) returns-3 number-at-requires returns-4)

@@ -22,19 +22,10 @@ loop-holds c =
     let z : a .width - a .width ≡ 0 = omega arith in
     (sym (le-none _ _ _ z), rw z (lit< tt), omega arith)
 
-sub-left : tie.Need-sub-left Inv-loop μ-loop
-sub-left c = search needs
-
 mul-value : tie.Need-mul-value Inv-loop μ-loop
 mul-value c =
     let l = c .before in
     omega (arith, below-power 256 _ (l .before .args .width - l .loop .left) 7 (lit< tt) (l .loop .inv .1) (omega arith))
-
-add-value : tie.Need-add-value Inv-loop μ-loop
-add-value c = search needs
-
-shared-slice-read-value : tie.Need-shared-slice-read-value Inv-loop μ-loop
-shared-slice-read-value c = search needs
 
 cast-value : tie.Need-cast-value Inv-loop μ-loop
 cast-value c = omega (arith, c .shared-slice-known .given (c .before .before .before .args .at + (c .before .before .loop .left - 1)))
@@ -48,9 +39,6 @@ add-value-2 c =
       c .shared-slice-known .given
           (l .before .args .at + (l .loop .left - 1)),
     )
-
-loop-less : tie.Need-loop-less Inv-loop μ-loop
-loop-less c = search needs
 
 loop-again : tie.Need-loop-again Inv-loop μ-loop
 loop-again c =
@@ -76,12 +64,12 @@ number-at-spec =
     Inv-loop
     μ-loop
     loop-holds
-    sub-left
+    (λ c. search needs)
     mul-value
-    add-value
-    shared-slice-read-value
+    (λ c. search needs)
+    (λ c. search needs)
     cast-value
     add-value-2
-    loop-less
+    (λ c. search needs)
     loop-again
     returns)

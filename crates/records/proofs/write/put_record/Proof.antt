@@ -25,9 +25,6 @@ returns-3 c =
     let a = c .before .before .before .before .before .args in
     record-none (a .kind) (a .body .now) (a .at) (a .area .now) (inr (omega arith))
 
-put-bytes-requires : tie.Need-put-bytes-requires
-put-bytes-requires c κs = omega arith
-
 put-bytes-requires-2 : tie.Need-put-bytes-requires-2
 put-bytes-requires-2 c κs =
     let c3 = c .before .before .before in
@@ -60,7 +57,7 @@ put-record-spec =
     (λ c. search needs)
     (λ c. search needs)
     (λ c. search needs)
-    put-bytes-requires
+    (λ c κs. omega arith)
     (λ c. search needs)
     put-bytes-requires-2
     (λ c. search needs)

@@ -9,9 +9,6 @@ use Rattle.rota.proofs.Asked.{assign-asks, asks-one, asks-in-step, assi
 use Rattle.rota.proofs.assignment.assign.Statement.{statement}
 use Rattle.rota.proofs.assignment.assign.Tie as tie
 
-assign-no-requires : tie.Need-assign-no-requires
-assign-no-requires c κs = search needs
-
 add-hand-over : tie.Need-add-hand-over
 add-hand-over c =
     let at-args = c .before .before .before .before .before .before .before .before .before .before .before .before .before
@@ -66,15 +63,6 @@ returns c =
     (at-args .owners .now) (derived (at-args .sets .now) (at-args .minutes .now)) (at-args .slot) (at-args .owner) _
     (said _ (at-assign-no .ensures)) _ _ (at-if1 .taken) (at-hand-over .ensures)
 
-same-length-4 : tie.Need-same-length-4
-same-length-4 c = search needs
-
-same-length-5 : tie.Need-same-length-5
-same-length-5 c = search needs
-
-same-length-6 : tie.Need-same-length-6
-same-length-6 c = search needs
-
 returns-2 : tie.Need-returns-2
 returns-2 c =
     let at-args = c .before .before .before .before .before .before .before .before .before .before .before .args in
@@ -87,14 +75,14 @@ pub assign-spec : {M : Type 1} → statement M
 assign-spec =
     tie.close
     (tie.spec
-    assign-no-requires
+    (λ c κs. search needs)
     add-hand-over
     hand-over-requires
     same-length
     same-length-2
     same-length-3
     returns
-    same-length-4
-    same-length-5
-    same-length-6
+    (λ c. search needs)
+    (λ c. search needs)
+    (λ c. search needs)
     returns-2)

@@ -8,21 +8,6 @@ use Rattle.rota.specs.Entries.{playRoomOk}
 use Rattle.rota.proofs.checks.play_room_ok.Statement.{statement}
 use Rattle.rota.proofs.checks.play_room_ok.Tie as tie
 
-both-requires : tie.Need-both-requires
-both-requires c κs = search needs
-
-both-requires-2 : tie.Need-both-requires-2
-both-requires-2 c κs = search needs
-
-both-requires-3 : tie.Need-both-requires-3
-both-requires-3 c κs = search needs
-
-both-requires-4 : tie.Need-both-requires-4
-both-requires-4 c κs = search needs
-
-both-requires-5 : tie.Need-both-requires-5
-both-requires-5 c κs = search needs
-
 returns : tie.Need-returns
 unfolding playRoomOk
 returns c =
@@ -40,9 +25,9 @@ pub play-room-ok-spec : {M : Type 1} → statement M
 play-room-ok-spec =
     tie.close
     (tie.spec
-    both-requires
-    both-requires-2
-    both-requires-3
-    both-requires-4
-    both-requires-5
+    (λ c κs. search needs)
+    (λ c κs. search needs)
+    (λ c κs. search needs)
+    (λ c κs. search needs)
+    (λ c κs. search needs)
     returns)

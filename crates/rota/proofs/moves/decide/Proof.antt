@@ -12,9 +12,6 @@ returns c = sym (out-number _ _ _ (c .if1 .taken))
 returns-2 : tie.Need-returns-2
 returns-2 c = sym (out-first _ _ _ (c .if2 .taken))
 
-reassign-requires : tie.Need-reassign-requires
-reassign-requires c κs = search needs
-
 returns-3 : tie.Need-returns-3
 returns-3 c =
     let at-if2 = c .before .before .if2 in
@@ -28,9 +25,6 @@ returns-4 c =
     let at-if4 = c .before .if4 in
     sym (out-swap _ _ _ (at-if2 .left) (at-if3 .left) (at-if4 .taken) (c .if5 .taken))
 
-swap-units-requires : tie.Need-swap-units-requires
-swap-units-requires c κs = search needs
-
 returns-5 : tie.Need-returns-5
 returns-5 c =
     let at-if2 = c .before .before .before .before .if2 in
@@ -38,9 +32,6 @@ returns-5 c =
     let at-if4 = c .before .before .if4 in
     let at-if5 = c .before .if5 in
     (c .swap-units .ensures) ∙ sym (is-swap _ _ _ (at-if2 .left) (at-if3 .left) (at-if4 .taken) (at-if5 .left))
-
-reassign-run-requires : tie.Need-reassign-run-requires
-reassign-run-requires c κs = search needs
 
 returns-6 : tie.Need-returns-6
 returns-6 c =
@@ -56,9 +47,6 @@ returns-7 c =
     let at-if7 = c .before .if7 in
     sym (out-swap-runs _ _ _ (at-if2 .left) (at-if6 .left) (at-if7 .taken) (c .if8 .taken))
 
-swap-runs-requires : tie.Need-swap-runs-requires
-swap-runs-requires c κs = search needs
-
 returns-8 : tie.Need-returns-8
 returns-8 c =
     let at-if2 = c .before .before .before .before .before .before .if2 in
@@ -66,9 +54,6 @@ returns-8 c =
     let at-if7 = c .before .before .if7 in
     let at-if8 = c .before .if8 in
     (c .swap-runs .ensures) ∙ sym (is-swap-runs _ _ _ (at-if2 .left) (at-if6 .left) (at-if7 .taken) (at-if8 .left))
-
-shift-boundary-requires : tie.Need-shift-boundary-requires
-shift-boundary-requires c κs = search needs
 
 returns-9 : tie.Need-returns-9
 returns-9 c =
@@ -83,15 +68,15 @@ decide-spec =
     (tie.spec
     returns
     returns-2
-    reassign-requires
+    (λ c κs. search needs)
     returns-3
     returns-4
-    swap-units-requires
+    (λ c κs. search needs)
     returns-5
-    reassign-run-requires
+    (λ c κs. search needs)
     returns-6
     returns-7
-    swap-runs-requires
+    (λ c κs. search needs)
     returns-8
-    shift-boundary-requires
+    (λ c κs. search needs)
     returns-9)

@@ -10,12 +10,6 @@ use Rattle.rota.proofs.Judged.{cover-says}
 use Rattle.rota.proofs.moves.fits_all.Statement.{statement}
 use Rattle.rota.proofs.moves.fits_all.Tie as tie
 
-cover-of-requires : tie.Need-cover-of-requires
-cover-of-requires c κs = search needs
-
-in-mask-requires : tie.Need-in-mask-requires
-in-mask-requires c κs = search needs
-
 returns : tie.Need-returns
 returns c =
     let at-args = c .before .before .before .args in
@@ -27,4 +21,4 @@ returns c =
     (c .in-mask .ensures) ∙ cover-says _ _ _ _ _ (at-pre .0) (m .fits) f (at-cover-of .ensures)
 
 pub fits-all-spec : {M : Type 1} → statement M
-fits-all-spec = tie.close (tie.spec cover-of-requires in-mask-requires returns)
+fits-all-spec = tie.close (tie.spec (λ c κs. search needs) (λ c κs. search needs) returns)

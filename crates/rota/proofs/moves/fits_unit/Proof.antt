@@ -7,12 +7,6 @@ use Rattle.rota.specs.Ready.{fitsBy}
 use Rattle.rota.proofs.moves.fits_unit.Statement.{statement}
 use Rattle.rota.proofs.moves.fits_unit.Tie as tie
 
-mask-of-requires : tie.Need-mask-of-requires
-mask-of-requires c κs = search needs
-
-in-mask-requires : tie.Need-in-mask-requires
-in-mask-requires c κs = search needs
-
 returns : tie.Need-returns
 unfolding fitsBy
 returns c =
@@ -21,4 +15,4 @@ returns c =
     (c .in-mask .ensures) ∙ ap (λ (m : ℕ). inMask m (at-args .person)) (at-mask-of .ensures)
 
 pub fits-unit-spec : {M : Type 1} → statement M
-fits-unit-spec = tie.close (tie.spec mask-of-requires in-mask-requires returns)
+fits-unit-spec = tie.close (tie.spec (λ c κs. search needs) (λ c κs. search needs) returns)

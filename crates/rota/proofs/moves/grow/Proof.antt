@@ -9,20 +9,8 @@ use Rattle.rota.proofs.moves.grow.Tie as tie
 returns : tie.Need-returns
 returns c = grow-none _ _ _ (c .if1 .taken)
 
-sub-before : tie.Need-sub-before
-sub-before c = omega arith
-
-is-frozen-requires : tie.Need-is-frozen-requires
-is-frozen-requires c κs = search needs
-
 returns-2 : tie.Need-returns-2
 returns-2 c = grow-frozen _ _ _ (sym (c .before .is-frozen .ensures) ∙ (c .if2 .taken))
-
-fits-unit-requires : tie.Need-fits-unit-requires
-fits-unit-requires c κs = search needs
-
-give-requires : tie.Need-give-requires
-give-requires c κs = search needs
 
 returns-3 : tie.Need-returns-3
 returns-3 c =
@@ -42,10 +30,10 @@ grow-spec =
     tie.close
     (tie.spec
     returns
-    sub-before
-    is-frozen-requires
+    (λ c. omega arith)
+    (λ c κs. search needs)
     returns-2
-    fits-unit-requires
-    give-requires
+    (λ c κs. search needs)
+    (λ c κs. search needs)
     returns-3
     returns-4)

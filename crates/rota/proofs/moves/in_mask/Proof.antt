@@ -9,12 +9,6 @@ use Rattle.rota.proofs.Judged.{mask-past}
 use Rattle.rota.proofs.moves.in_mask.Statement.{statement}
 use Rattle.rota.proofs.moves.in_mask.Tie as tie
 
-cast-result : tie.Need-cast-result
-cast-result c = search needs
-
-shr-result : tie.Need-shr-result
-shr-result c = search needs
-
 returns : tie.Need-returns
 unfolding inMask bitOf
 returns c = refl
@@ -23,4 +17,4 @@ returns-2 : tie.Need-returns-2
 returns-2 c = mask-past _ _ (let f : (c .before .args .mask) < 2 ^ 32 = omega arith in f) (c .if1 .left)
 
 pub in-mask-spec : {M : Type 1} → statement M
-in-mask-spec = tie.close (tie.spec cast-result shr-result returns returns-2)
+in-mask-spec = tie.close (tie.spec (λ c. search needs) (λ c. search needs) returns returns-2)

@@ -8,9 +8,6 @@ use Rattle.rota.specs.Ready.{frozenBy}
 use Rattle.rota.proofs.moves.is_frozen.Statement.{statement}
 use Rattle.rota.proofs.moves.is_frozen.Tie as tie
 
-shared-slice-read-result : tie.Need-shared-slice-read-result
-shared-slice-read-result c = search needs
-
 returns : tie.Need-returns
 unfolding frozenBy
 returns c = refl
@@ -20,4 +17,4 @@ unfolding frozenBy
 returns-2 c = sym (ap (λ (x : ℕ). eqb x 1) (List·getD-eq-default (c .before .args .flags .now) 0 (c .if1 .left)))
 
 pub is-frozen-spec : {M : Type 1} → statement M
-is-frozen-spec = tie.close (tie.spec shared-slice-read-result returns returns-2)
+is-frozen-spec = tie.close (tie.spec (λ c. search needs) returns returns-2)

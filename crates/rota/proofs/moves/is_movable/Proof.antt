@@ -21,15 +21,6 @@ abbrev μ-loop : tie.MeasureT-loop
 loop-holds : tie.Need-loop-holds Inv-loop μ-loop
 loop-holds c = (search needs, search needs, in-none _ _)
 
-shared-slice-read-if1 : tie.Need-shared-slice-read-if1 Inv-loop μ-loop
-shared-slice-read-if1 c = search needs
-
-add-u : tie.Need-add-u Inv-loop μ-loop
-add-u c = search needs
-
-loop-less : tie.Need-loop-less Inv-loop μ-loop
-loop-less c = omega arith
-
 loop-again : tie.Need-loop-again Inv-loop μ-loop
 unfolding frozenBy
 loop-again c =
@@ -38,12 +29,6 @@ loop-again c =
       omega arith,
       sym (in-fails _ _ _ _ (at-loop .inv .0) (omega arith) (ap not (eq-eqb _ _ (c .if1 .taken)))),
     )
-
-add-u-2 : tie.Need-add-u-2 Inv-loop μ-loop
-add-u-2 c = search needs
-
-loop-less-2 : tie.Need-loop-less-2 Inv-loop μ-loop
-loop-less-2 c = omega arith
 
 loop-again-2 : tie.Need-loop-again-2 Inv-loop μ-loop
 unfolding frozenBy
@@ -68,11 +53,11 @@ is-movable-spec =
     Inv-loop
     μ-loop
     loop-holds
-    shared-slice-read-if1
-    add-u
-    loop-less
+    (λ c. search needs)
+    (λ c. search needs)
+    (λ c. omega arith)
     loop-again
-    add-u-2
-    loop-less-2
+    (λ c. search needs)
+    (λ c. omega arith)
     loop-again-2
     returns)

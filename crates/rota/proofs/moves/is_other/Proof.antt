@@ -7,11 +7,8 @@ use Rattle.rota.proofs.moves.is_other.Tie as tie
 returns : tie.Need-returns
 returns c = simp (eq-eqb _ _ (c .if1 .taken))
 
-in-mask-requires : tie.Need-in-mask-requires
-in-mask-requires c κs = search needs
-
 returns-2 : tie.Need-returns-2
 returns-2 c = simp (ne-eqb _ _ (c .before .if1 .left)) (c .in-mask .ensures)
 
 pub is-other-spec : {M : Type 1} → statement M
-is-other-spec = tie.close (tie.spec returns in-mask-requires returns-2)
+is-other-spec = tie.close (tie.spec returns (λ c κs. search needs) returns-2)

@@ -23,12 +23,6 @@ abbrev μ-loop : tie.MeasureT-loop
 loop-holds : tie.Need-loop-holds Inv-loop μ-loop
 loop-holds c = (search needs, sym (among-none _), search needs)
 
-is-other-requires : tie.Need-is-other-requires Inv-loop μ-loop
-is-other-requires c κs = search needs
-
-cast-t10 : tie.Need-cast-t10 Inv-loop μ-loop
-cast-t10 c = search needs
-
 returns : tie.Need-returns Inv-loop μ-loop
 returns c =
     let at-loop-test = c .before .before .before .loop-test in
@@ -37,15 +31,6 @@ returns c =
     let at-loop = c .before .before .before .before .loop in
     picked-found _ _ _ _ _ (at-loop-test .taken) (sym (at-is-other .ensures) ∙ (at-if1 .taken)) (at-loop .inv .1) (c .if2
     .taken)
-
-add-seen : tie.Need-add-seen Inv-loop μ-loop
-add-seen c = search needs
-
-add-p : tie.Need-add-p Inv-loop μ-loop
-add-p c = search needs
-
-loop-less : tie.Need-loop-less Inv-loop μ-loop
-loop-less c = omega arith
 
 loop-again : tie.Need-loop-again Inv-loop μ-loop
 loop-again c =
@@ -56,12 +41,6 @@ loop-again c =
       ap (λ (n : ℕ). n + 1) (at-loop .inv .1) ∙ picked-more _ _ (sym (at-is-other .ensures) ∙ (at-if1 .taken)),
       omega arith,
     )
-
-add-p-2 : tie.Need-add-p-2 Inv-loop μ-loop
-add-p-2 c = search needs
-
-loop-less-2 : tie.Need-loop-less-2 Inv-loop μ-loop
-loop-less-2 c = omega arith
 
 loop-again-2 : tie.Need-loop-again-2 Inv-loop μ-loop
 loop-again-2 c =
@@ -92,15 +71,15 @@ nth-of-spec =
     Inv-loop
     μ-loop
     loop-holds
-    is-other-requires
-    cast-t10
+    (λ c κs. search needs)
+    (λ c. search needs)
     returns
-    add-seen
-    add-p
-    loop-less
+    (λ c. search needs)
+    (λ c. search needs)
+    (λ c. omega arith)
     loop-again
-    add-p-2
-    loop-less-2
+    (λ c. search needs)
+    (λ c. omega arith)
     loop-again-2
     returns-2
     returns-3)

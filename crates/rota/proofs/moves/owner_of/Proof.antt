@@ -6,12 +6,6 @@ use lib.ListN.{getD, List·getD-eq-default}
 use Rattle.rota.proofs.moves.owner_of.Statement.{statement}
 use Rattle.rota.proofs.moves.owner_of.Tie as tie
 
-start-of-requires : tie.Need-start-of-requires
-start-of-requires c κs = search needs
-
-shared-slice-read-result : tie.Need-shared-slice-read-result
-shared-slice-read-result c = search needs
-
 returns : tie.Need-returns
 returns c =
     let at-args = c .before .before .before .before .before .args in
@@ -26,4 +20,4 @@ returns-2 c =
     .now) 0 (c .if1 .left))
 
 pub owner-of-spec : {M : Type 1} → statement M
-owner-of-spec = tie.close (tie.spec start-of-requires shared-slice-read-result returns returns-2)
+owner-of-spec = tie.close (tie.spec (λ c κs. search needs) (λ c. search needs) returns returns-2)

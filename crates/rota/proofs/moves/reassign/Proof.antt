@@ -11,32 +11,8 @@ use Rattle.rota.proofs.Moved.{pick-all, reassign-frozen, reassign-nobod
 use Rattle.rota.proofs.moves.reassign.Statement.{statement}
 use Rattle.rota.proofs.moves.reassign.Tie as tie
 
-is-frozen-requires : tie.Need-is-frozen-requires
-is-frozen-requires c κs = search needs
-
 returns : tie.Need-returns
 returns c = reassign-frozen _ _ _ _ (sym (c .before .is-frozen .ensures) ∙ (c .if1 .taken))
-
-mask-of-requires : tie.Need-mask-of-requires
-mask-of-requires c κs = search needs
-
-nth-of-requires : tie.Need-nth-of-requires
-nth-of-requires c κs = search needs
-
-enum-told : tie.Need-enum-told
-enum-told c = search needs
-
-enum-told-2 : tie.Need-enum-told-2
-enum-told-2 c = search needs
-
-enum-known-p : tie.Need-enum-known-p
-enum-known-p c = search needs
-
-owner-of-requires : tie.Need-owner-of-requires
-owner-of-requires c κs = search needs
-
-give-requires : tie.Need-give-requires
-give-requires c κs = search needs
 
 returns-2 : tie.Need-returns-2
 unfolding domainOf fitsBy
@@ -103,15 +79,15 @@ pub reassign-spec : {M : Type 1} → statement M
 reassign-spec =
     tie.close
     (tie.spec
-    is-frozen-requires
+    (λ c κs. search needs)
     returns
-    mask-of-requires
-    nth-of-requires
-    enum-told
-    enum-told-2
-    enum-known-p
-    owner-of-requires
-    give-requires
+    (λ c κs. search needs)
+    (λ c κs. search needs)
+    (λ c. search needs)
+    (λ c. search needs)
+    (λ c. search needs)
+    (λ c κs. search needs)
+    (λ c κs. search needs)
     returns-2
     returns-3
     returns-4

@@ -9,12 +9,6 @@ use Rattle.rota.proofs.Moved.{run-room, run-frozen, run-unowned, run-st
 use Rattle.rota.proofs.moves.reassign_run.Statement.{statement}
 use Rattle.rota.proofs.moves.reassign_run.Tie as tie
 
-owner-of-requires : tie.Need-owner-of-requires
-owner-of-requires c κs = search needs
-
-is-frozen-requires : tie.Need-is-frozen-requires
-is-frozen-requires c κs = search needs
-
 returns : tie.Need-returns
 unfolding ownerOf
 returns c =
@@ -61,21 +55,6 @@ cover-of-requires c κs =
     let r = run-room _ _ _ _ _ (at-pre .0 .1) (c .before .before .before .run-start .ensures) (c .before .before .run-end
     .ensures) in
     (omega (arith, r .0), omega (arith, r .1, at-pre .1 .1 .0))
-
-nth-of-requires : tie.Need-nth-of-requires
-nth-of-requires c κs = search needs
-
-enum-told : tie.Need-enum-told
-enum-told c = search needs
-
-enum-told-2 : tie.Need-enum-told-2
-enum-told-2 c = search needs
-
-enum-known-p : tie.Need-enum-known-p
-enum-known-p c = search needs
-
-give-requires : tie.Need-give-requires
-give-requires c κs = search needs
 
 returns-3 : tie.Need-returns-3
 unfolding ownerOf firstOf lastOf
@@ -151,8 +130,8 @@ pub reassign-run-spec : {M : Type 1} → statement M
 reassign-run-spec =
     tie.close
     (tie.spec
-    owner-of-requires
-    is-frozen-requires
+    (λ c κs. search needs)
+    (λ c κs. search needs)
     returns
     returns-2
     run-start-requires
@@ -161,11 +140,11 @@ reassign-run-spec =
     is-movable-requires
     add-cover-of
     cover-of-requires
-    nth-of-requires
-    enum-told
-    enum-told-2
-    enum-known-p
-    give-requires
+    (λ c κs. search needs)
+    (λ c. search needs)
+    (λ c. search needs)
+    (λ c. search needs)
+    (λ c κs. search needs)
     returns-3
     returns-4
     returns-5

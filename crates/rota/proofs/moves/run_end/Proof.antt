@@ -24,12 +24,6 @@ owner-at-requires c κs =
     let at-args = c .before .before .args in
     (omega (arith, (at-pre .1) .starts), (at-pre .1) .owned (at-args .unit) (at-pre .0))
 
-sub-after : tie.Need-sub-after Inv-loop μ-loop
-sub-after c = search needs
-
-sub-after-2 : tie.Need-sub-after-2 Inv-loop μ-loop
-sub-after-2 c = search needs
-
 loop-holds : tie.Need-loop-holds Inv-loop μ-loop
 loop-holds c =
     let at-args = c .before .before .before .args in
@@ -40,24 +34,12 @@ loop-holds c =
       (c .owner-at .ensures) ∙ ap (λ u. getD (at-args .owners .now) (unitStart (at-args .firsts .now) u) 0) z,
     )
 
-add-owner-at : tie.Need-add-owner-at Inv-loop μ-loop
-add-owner-at c = search needs
-
-add-owner-at-2 : tie.Need-add-owner-at-2 Inv-loop μ-loop
-add-owner-at-2 c = search needs
-
 owner-at-requires-2 : tie.Need-owner-at-requires-2 Inv-loop μ-loop
 owner-at-requires-2 c κs =
     let at-pre = c .before .before .before .before .before .pre in
     let at-args = c .before .before .before .before .before .args in
     let at-loop = c .before .loop in
     (omega (arith, (at-pre .1) .starts), (at-pre .1) .owned ((at-args .unit) + (at-loop .n) + 1) (omega arith))
-
-add-n : tie.Need-add-n Inv-loop μ-loop
-add-n c = search needs
-
-loop-less : tie.Need-loop-less Inv-loop μ-loop
-loop-less c = omega arith
 
 loop-again : tie.Need-loop-again Inv-loop μ-loop
 loop-again c =
@@ -73,9 +55,6 @@ loop-again c =
       (x .1) ∙ ap (λ u. getD (at-args .owners .now) (unitStart (at-args .firsts .now) u) 0) z,
     )
 
-add-result : tie.Need-add-result Inv-loop μ-loop
-add-result c = search needs
-
 returns : tie.Need-returns Inv-loop μ-loop
 returns c =
     let at-args = c .before .before .before .before .before .before .before .args in
@@ -83,9 +62,6 @@ returns c =
     let at-owner-at2 = c .before .owner-at2 in
     end-here (λ u. getD (at-args .owners .now) (unitStart (at-args .firsts .now) u) 0) _ _ _ _ _ _ refl (at-loop .inv .2)
     (at-loop .inv .3) (omega arith) (at-owner-at2 .ensures) (c .if1 .left)
-
-sub-result : tie.Need-sub-result Inv-loop μ-loop
-sub-result c = search needs
 
 returns-2 : tie.Need-returns-2 Inv-loop μ-loop
 returns-2 c =
@@ -102,16 +78,16 @@ run-end-spec =
     Inv-loop
     μ-loop
     owner-at-requires
-    sub-after
-    sub-after-2
+    (λ c. search needs)
+    (λ c. search needs)
     loop-holds
-    add-owner-at
-    add-owner-at-2
+    (λ c. search needs)
+    (λ c. search needs)
     owner-at-requires-2
-    add-n
-    loop-less
+    (λ c. search needs)
+    (λ c. omega arith)
     loop-again
-    add-result
+    (λ c. search needs)
     returns
-    sub-result
+    (λ c. search needs)
     returns-2)

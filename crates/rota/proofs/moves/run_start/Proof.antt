@@ -33,24 +33,12 @@ loop-holds c =
       (c .owner-at .ensures) ∙ ap (λ u. getD (at-args .owners .now) (unitStart (at-args .firsts .now) u) 0) z,
     )
 
-sub-owner-at : tie.Need-sub-owner-at Inv-loop μ-loop
-sub-owner-at c = search needs
-
-sub-owner-at-2 : tie.Need-sub-owner-at-2 Inv-loop μ-loop
-sub-owner-at-2 c = search needs
-
 owner-at-requires-2 : tie.Need-owner-at-requires-2 Inv-loop μ-loop
 owner-at-requires-2 c κs =
     let at-pre = c .before .before .before .before .before .pre in
     let at-args = c .before .before .before .before .before .args in
     let at-loop = c .before .loop in
     (omega (arith, at-pre .starts), at-pre .owned ((at-args .unit) - (at-loop .n) - 1) (omega arith))
-
-add-n : tie.Need-add-n Inv-loop μ-loop
-add-n c = search needs
-
-loop-less : tie.Need-loop-less Inv-loop μ-loop
-loop-less c = omega arith
 
 loop-again : tie.Need-loop-again Inv-loop μ-loop
 loop-again c =
@@ -64,9 +52,6 @@ loop-again c =
       (x .0) ∙ ap (runStart (λ u. getD (at-args .owners .now) (unitStart (at-args .firsts .now) u) 0)) z,
       (x .1) ∙ ap (λ u. getD (at-args .owners .now) (unitStart (at-args .firsts .now) u) 0) z,
     )
-
-sub-result : tie.Need-sub-result Inv-loop μ-loop
-sub-result c = search needs
 
 returns : tie.Need-returns Inv-loop μ-loop
 returns c =
@@ -91,12 +76,12 @@ run-start-spec =
     μ-loop
     owner-at-requires
     loop-holds
-    sub-owner-at
-    sub-owner-at-2
+    (λ c. search needs)
+    (λ c. search needs)
     owner-at-requires-2
-    add-n
-    loop-less
+    (λ c. search needs)
+    (λ c. omega arith)
     loop-again
-    sub-result
+    (λ c. search needs)
     returns
     returns-2)

@@ -5,18 +5,6 @@ use Rattle.rota.specs.Ready.{runsFit}
 use Rattle.rota.proofs.moves.runs_fit.Statement.{statement}
 use Rattle.rota.proofs.moves.runs_fit.Tie as tie
 
-is-movable-requires : tie.Need-is-movable-requires
-is-movable-requires c κs = search needs
-
-is-movable-requires-2 : tie.Need-is-movable-requires-2
-is-movable-requires-2 c κs = search needs
-
-fits-all-requires : tie.Need-fits-all-requires
-fits-all-requires c κs = search needs
-
-fits-all-requires-2 : tie.Need-fits-all-requires-2
-fits-all-requires-2 c κs = search needs
-
 returns : tie.Need-returns
 unfolding runsFit
 returns c =
@@ -64,10 +52,10 @@ pub runs-fit-spec : {M : Type 1} → statement M
 runs-fit-spec =
     tie.close
     (tie.spec
-    is-movable-requires
-    is-movable-requires-2
-    fits-all-requires
-    fits-all-requires-2
+    (λ c κs. search needs)
+    (λ c κs. search needs)
+    (λ c κs. search needs)
+    (λ c κs. search needs)
     returns
     returns-2
     returns-3

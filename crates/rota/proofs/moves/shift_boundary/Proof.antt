@@ -8,12 +8,6 @@ use Rattle.rota.proofs.Moved.{shift-frozen, shift-unowned, shift-beyond
 use Rattle.rota.proofs.moves.shift_boundary.Statement.{statement}
 use Rattle.rota.proofs.moves.shift_boundary.Tie as tie
 
-owner-of-requires : tie.Need-owner-of-requires
-owner-of-requires c κs = search needs
-
-is-frozen-requires : tie.Need-is-frozen-requires
-is-frozen-requires c κs = search needs
-
 returns : tie.Need-returns
 unfolding ownerOf
 returns c =
@@ -39,9 +33,6 @@ run-start-requires c κs =
     let at-pre = c .before .before .before .before .before .before .before .before .before .pre in
     fewer-owned _ _ _ _ (at-pre .0) (at-pre .1)
 
-grow-requires : tie.Need-grow-requires
-grow-requires c κs = search needs
-
 returns-4 : tie.Need-returns-4
 unfolding ownerOf firstOf
 returns-4 c =
@@ -54,12 +45,6 @@ returns-4 c =
     let at-if4 = c .before .if4 in
     shift-grows _ _ _ _ _ (at-owner-of .ensures) (sym (at-is-frozen .ensures) ∙ (at-if1 .left)) (at-if2 .left) _ _ (at-if3
     .left) (at-run-start .ensures) (at-if4 .taken) (c .grow .ensures)
-
-run-end-requires : tie.Need-run-end-requires
-run-end-requires c κs = search needs
-
-shrink-requires : tie.Need-shrink-requires
-shrink-requires c κs = search needs
 
 returns-5 : tie.Need-returns-5
 unfolding ownerOf firstOf lastOf
@@ -79,14 +64,14 @@ pub shift-boundary-spec : {M : Type 1} → statement M
 shift-boundary-spec =
     tie.close
     (tie.spec
-    owner-of-requires
-    is-frozen-requires
+    (λ c κs. search needs)
+    (λ c κs. search needs)
     returns
     returns-2
     returns-3
     run-start-requires
-    grow-requires
+    (λ c κs. search needs)
     returns-4
-    run-end-requires
-    shrink-requires
+    (λ c κs. search needs)
+    (λ c κs. search needs)
     returns-5)

@@ -13,27 +13,12 @@ returns c = shrink-none _ _ _ _ (c .if1 .taken)
 returns-2 : tie.Need-returns-2
 returns-2 c = shrink-one _ _ _ _ (c .if2 .taken)
 
-sub-owner-of : tie.Need-sub-owner-of
-sub-owner-of c = omega arith
-
-owner-of-requires : tie.Need-owner-of-requires
-owner-of-requires c κs = search needs
-
 returns-3 : tie.Need-returns-3
 unfolding ownerOf
 returns-3 c = shrink-unowned _ _ _ _ _ (c .before .owner-of .ensures) (c .if3 .taken)
 
-is-frozen-requires : tie.Need-is-frozen-requires
-is-frozen-requires c κs = search needs
-
 returns-4 : tie.Need-returns-4
 returns-4 c = shrink-frozen _ _ _ _ (sym (c .before .is-frozen .ensures) ∙ (c .if4 .taken))
-
-fits-unit-requires : tie.Need-fits-unit-requires
-fits-unit-requires c κs = search needs
-
-give-requires : tie.Need-give-requires
-give-requires c κs = search needs
 
 returns-5 : tie.Need-returns-5
 unfolding ownerOf
@@ -62,12 +47,12 @@ shrink-spec =
     (tie.spec
     returns
     returns-2
-    sub-owner-of
-    owner-of-requires
+    (λ c. omega arith)
+    (λ c κs. search needs)
     returns-3
-    is-frozen-requires
+    (λ c κs. search needs)
     returns-4
-    fits-unit-requires
-    give-requires
+    (λ c κs. search needs)
+    (λ c κs. search needs)
     returns-5
     returns-6)

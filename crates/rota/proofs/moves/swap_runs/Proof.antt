@@ -11,20 +11,8 @@ use Rattle.rota.proofs.Moved.{runs-owner, runs-same, runs-unfit, runs-a
 use Rattle.rota.proofs.moves.swap_runs.Statement.{statement}
 use Rattle.rota.proofs.moves.swap_runs.Tie as tie
 
-owner-of-requires : tie.Need-owner-of-requires
-owner-of-requires c κs = search needs
-
-owner-of-requires-2 : tie.Need-owner-of-requires-2
-owner-of-requires-2 c κs = search needs
-
-is-frozen-requires : tie.Need-is-frozen-requires
-is-frozen-requires c κs = search needs
-
 returns : tie.Need-returns
 returns c = runs-first-frozen _ _ _ _ (sym (c .before .is-frozen .ensures) ∙ (c .if1 .taken))
-
-is-frozen-requires-2 : tie.Need-is-frozen-requires-2
-is-frozen-requires-2 c κs = search needs
 
 returns-2 : tie.Need-returns-2
 returns-2 c = runs-second-frozen _ _ _ _ (sym (c .before .is-frozen2 .ensures) ∙ (c .if2 .taken))
@@ -121,9 +109,6 @@ runs-fit-requires c κs =
       ),
     )
 
-trade-requires : tie.Need-trade-requires
-trade-requires c κs = search needs
-
 returns-7 : tie.Need-returns-7
 unfolding ownerOf firstOf lastOf runsFit
 returns-7 c =
@@ -174,11 +159,11 @@ pub swap-runs-spec : {M : Type 1} → statement M
 swap-runs-spec =
     tie.close
     (tie.spec
-    owner-of-requires
-    owner-of-requires-2
-    is-frozen-requires
+    (λ c κs. search needs)
+    (λ c κs. search needs)
+    (λ c κs. search needs)
     returns
-    is-frozen-requires-2
+    (λ c κs. search needs)
     returns-2
     returns-3
     returns-4
@@ -191,6 +176,6 @@ swap-runs-spec =
     add-runs-fit
     add-runs-fit-2
     runs-fit-requires
-    trade-requires
+    (λ c κs. search needs)
     returns-7
     returns-8)

@@ -7,20 +7,8 @@ use Rattle.rota.proofs.Moved.{swap-owner, swap-first-unfit, swap-second
 use Rattle.rota.proofs.moves.swap_units.Statement.{statement}
 use Rattle.rota.proofs.moves.swap_units.Tie as tie
 
-owner-of-requires : tie.Need-owner-of-requires
-owner-of-requires c κs = search needs
-
-owner-of-requires-2 : tie.Need-owner-of-requires-2
-owner-of-requires-2 c κs = search needs
-
-is-frozen-requires : tie.Need-is-frozen-requires
-is-frozen-requires c κs = search needs
-
 returns : tie.Need-returns
 returns c = swap-first-frozen _ _ _ _ (sym (c .before .is-frozen .ensures) ∙ (c .if1 .taken))
-
-is-frozen-requires-2 : tie.Need-is-frozen-requires-2
-is-frozen-requires-2 c κs = search needs
 
 returns-2 : tie.Need-returns-2
 returns-2 c = swap-second-frozen _ _ _ _ (sym (c .before .is-frozen2 .ensures) ∙ (c .if2 .taken))
@@ -48,15 +36,6 @@ returns-6 c =
     let at-owner-of = c .before .before .before .before .before .before .before .before .before .owner-of in
     let at-owner-of2 = c .before .before .before .before .before .before .before .before .owner-of2 in
     swap-owner _ _ _ _ _ _ (at-owner-of .ensures) (at-owner-of2 .ensures) (c .if6 .taken)
-
-fits-unit-requires : tie.Need-fits-unit-requires
-fits-unit-requires c κs = search needs
-
-fits-unit-requires-2 : tie.Need-fits-unit-requires-2
-fits-unit-requires-2 c κs = search needs
-
-trade-requires : tie.Need-trade-requires
-trade-requires c κs = search needs
 
 returns-7 : tie.Need-returns-7
 unfolding ownerOf
@@ -104,19 +83,19 @@ pub swap-units-spec : {M : Type 1} → statement M
 swap-units-spec =
     tie.close
     (tie.spec
-    owner-of-requires
-    owner-of-requires-2
-    is-frozen-requires
+    (λ c κs. search needs)
+    (λ c κs. search needs)
+    (λ c κs. search needs)
     returns
-    is-frozen-requires-2
+    (λ c κs. search needs)
     returns-2
     returns-3
     returns-4
     returns-5
     returns-6
-    fits-unit-requires
-    fits-unit-requires-2
-    trade-requires
+    (λ c κs. search needs)
+    (λ c κs. search needs)
+    (λ c κs. search needs)
     returns-7
     returns-8
     returns-9)

@@ -28,27 +28,12 @@ loop-holds c =
           1024,
     )
 
-start-of-requires : tie.Need-start-of-requires Inv-loop μ-loop
-start-of-requires c κs = search needs
-
-unit-end-requires : tie.Need-unit-end-requires Inv-loop μ-loop
-unit-end-requires c κs = search needs
-
 mark-of-requires : tie.Need-mark-of-requires Inv-loop μ-loop
 mark-of-requires c κs =
     let at-pre = c .before .before .before .before .before .before .pre in
     let at-loop = c .before .before .before .loop in
     let at-loop-test = c .before .before .loop-test in
     (omega (arith, (c .unit-end .ensures), at-pre .1 .within (at-loop .u) (at-loop-test .taken), (at-pre .0 .0)), (at-pre .0 .2))
-
-array-write-flags : tie.Need-array-write-flags Inv-loop μ-loop
-array-write-flags c = search needs
-
-add-u : tie.Need-add-u Inv-loop μ-loop
-add-u c = search needs
-
-loop-less : tie.Need-loop-less Inv-loop μ-loop
-loop-less c = omega arith
 
 loop-again : tie.Need-loop-again Inv-loop μ-loop
 loop-again c =
@@ -78,11 +63,11 @@ frozen-of-spec =
     Inv-loop
     μ-loop
     loop-holds
-    start-of-requires
-    unit-end-requires
+    (λ c κs. search needs)
+    (λ c κs. search needs)
     mark-of-requires
-    array-write-flags
-    add-u
-    loop-less
+    (λ c. search needs)
+    (λ c. search needs)
+    (λ c. omega arith)
     loop-again
     returns)

@@ -4,9 +4,6 @@ use Rattle.rota.proofs.Readied.{mark-by}
 use Rattle.rota.proofs.play.mark_of.Statement.{statement}
 use Rattle.rota.proofs.play.mark_of.Tie as tie
 
-clear-requires : tie.Need-clear-requires
-clear-requires c κs = search needs
-
 returns : tie.Need-returns
 returns c =
     let at-pre = c .before .before .before .pre in
@@ -20,4 +17,4 @@ returns-2 c =
     mark-by _ _ _ _ _ (at-pre .0) (at-pre .1) (at-clear .ensures) (c .if1 .left)
 
 pub mark-of-spec : {M : Type 1} → statement M
-mark-of-spec = tie.close (tie.spec clear-requires returns returns-2)
+mark-of-spec = tie.close (tie.spec (λ c κs. search needs) returns returns-2)

@@ -12,15 +12,6 @@ use Rattle.rota.proofs.Entered.{unit-room, play-asks, asks-few, asks-fi
 use Rattle.rota.proofs.play.play.Statement.{statement}
 use Rattle.rota.proofs.play.play.Tie as tie
 
-play-no-requires : tie.Need-play-no-requires
-play-no-requires c κs = search needs
-
-slice-aggregate-unit-domains : tie.Need-slice-aggregate-unit-domains
-slice-aggregate-unit-domains c = search needs
-
-unit-domains-requires : tie.Need-unit-domains-requires
-unit-domains-requires c κs = search needs
-
 frozen-of-requires : tie.Need-frozen-of-requires
 frozen-of-requires c κs =
     let c8 = c .before .before .before .before .before .before .before .before in
@@ -34,12 +25,6 @@ frozen-of-requires c κs =
     ∙ c .before .before .before .if1 .taken) in
     let G = A .grounds in
     ((G .on .sound .slots-few, asks-few _ _ _ _ _ _ _ _ _ _ _ _ A, G .flags), unit-room _ _ _ (G .units-ok))
-
-slice-aggregate-run : tie.Need-slice-aggregate-run
-slice-aggregate-run c = search needs
-
-slice-aggregate-run-2 : tie.Need-slice-aggregate-run-2
-slice-aggregate-run-2 c = search needs
 
 run-requires : tie.Need-run-requires
 run-requires c κs =
@@ -121,18 +106,6 @@ returns c =
     played-yes _ _ _ _ _ _ _ _ _ _ _ _ A _ _ F (c8 .before .before .before .before .before .before .before .frozen-of .ensures) _
     (said _ (c16 .before .before .before .before .play-no .ensures)) (c16 .before .before .before .if1 .taken) _ _ _ (c8 .run .ensures)
 
-same-length-5 : tie.Need-same-length-5
-same-length-5 c = search needs
-
-same-length-6 : tie.Need-same-length-6
-same-length-6 c = search needs
-
-same-length-7 : tie.Need-same-length-7
-same-length-7 c = search needs
-
-same-length-8 : tie.Need-same-length-8
-same-length-8 c = search needs
-
 returns-2 : tie.Need-returns-2
 returns-2 c =
     let c8 = c .before .before .before .before .before .before .before .before in
@@ -146,20 +119,20 @@ pub play-spec : {M : Type 1} → statement M
 play-spec =
     tie.close
     (tie.spec
-    play-no-requires
-    slice-aggregate-unit-domains
-    unit-domains-requires
+    (λ c κs. search needs)
+    (λ c. search needs)
+    (λ c κs. search needs)
     frozen-of-requires
-    slice-aggregate-run
-    slice-aggregate-run-2
+    (λ c. search needs)
+    (λ c. search needs)
     run-requires
     same-length
     same-length-2
     same-length-3
     same-length-4
     returns
-    same-length-5
-    same-length-6
-    same-length-7
-    same-length-8
+    (λ c. search needs)
+    (λ c. search needs)
+    (λ c. search needs)
+    (λ c. search needs)
     returns-2)

@@ -30,26 +30,17 @@ loop-holds c =
           .1 .0),
     )
 
-mul-step : tie.Need-mul-step Inv-loop μ-loop
-mul-step c = search needs
-
 shared-slice-read-step : tie.Need-shared-slice-read-step Inv-loop μ-loop
 shared-slice-read-step c =
     let at-pre = c .before .before .before .before .before .before .before .before .before .before .before .before .before
     .before .before .before .before .before .pre in
     omega (arith, (at-pre .1 .1 .1 .1 .0) .kinds)
 
-mul-step-2 : tie.Need-mul-step-2 Inv-loop μ-loop
-mul-step-2 c = search needs
-
 shared-slice-read-step-2 : tie.Need-shared-slice-read-step-2 Inv-loop μ-loop
 shared-slice-read-step-2 c =
     let at-pre = c .before .before .before .before .before .before .before .before .before .before .before .before .before
     .before .before .before .before .before .before .pre in
     omega (arith, (at-pre .1 .1 .1 .1 .0) .firsts)
-
-mul-step-3 : tie.Need-mul-step-3 Inv-loop μ-loop
-mul-step-3 c = search needs
 
 shared-slice-read-step-3 : tie.Need-shared-slice-read-step-3 Inv-loop μ-loop
 shared-slice-read-step-3 c =
@@ -89,12 +80,6 @@ slice-write-answers c =
         (at-pre .1 .1 .1 .1 .0) .answers,
       )),
     )
-
-add-i : tie.Need-add-i Inv-loop μ-loop
-add-i c = search needs
-
-loop-less : tie.Need-loop-less Inv-loop μ-loop
-loop-less c = omega arith
 
 loop-again : tie.Need-loop-again Inv-loop μ-loop
 loop-again c =
@@ -136,16 +121,16 @@ run-spec =
     Inv-loop
     μ-loop
     loop-holds
-    mul-step
+    (λ c. search needs)
     shared-slice-read-step
-    mul-step-2
+    (λ c. search needs)
     shared-slice-read-step-2
-    mul-step-3
+    (λ c. search needs)
     shared-slice-read-step-3
     step-requires
     slice-write-answers
-    add-i
-    loop-less
+    (λ c. search needs)
+    (λ c. omega arith)
     loop-again
     same-length
     same-length-2

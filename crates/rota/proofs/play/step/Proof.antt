@@ -17,12 +17,6 @@ decide-requires c κs =
       (board-owned _ _ _ _ _ _ _ (at-pre .1 .1 .0) (at-pre .1 .1 .1 .0) (room .0), (room .1, room .2)),
     )
 
-enum-known-n : tie.Need-enum-known-n
-enum-known-n c = search needs
-
-enum-known-from : tie.Need-enum-known-from
-enum-known-from c = search needs
-
 hand-over-requires : tie.Need-hand-over-requires
 hand-over-requires c κs =
     let at-args = c .before .before .before .before .before .before .before .before .before .before .before .before .before
@@ -43,9 +37,6 @@ hand-over-requires c κs =
         ),
       ),
     )
-
-enum-known-from-2 : tie.Need-enum-known-from-2
-enum-known-from-2 c = search needs
 
 hand-over-requires-2 : tie.Need-hand-over-requires-2
 hand-over-requires-2 c κs =
@@ -91,9 +82,6 @@ hand-over-requires-3 c κs =
         ),
       ),
     )
-
-same-length : tie.Need-same-length
-same-length c = search needs
 
 returns : tie.Need-returns
 returns c =
@@ -167,13 +155,13 @@ step-spec =
     tie.close
     (tie.spec
     decide-requires
-    enum-known-n
-    enum-known-from
+    (λ c. search needs)
+    (λ c. search needs)
     hand-over-requires
-    enum-known-from-2
+    (λ c. search needs)
     hand-over-requires-2
     hand-over-requires-3
-    same-length
+    (λ c. search needs)
     returns
     same-length-2
     same-length-3
