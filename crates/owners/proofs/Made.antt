@@ -13,14 +13,11 @@ use Rattle.paper.proofs.Logic.{lt-or-ge}
 use Rattle.paper.proofs.Count.{sum-same, over-same, over-again, length-over, getD-over, length-fill, getD-fill-in, getD-fill-out}
 use Rattle.slotset.specs.Slots.{slot, putSlots}
 use Rattle.slotset.specs.Answers.{rowStretchOf}
-use Rattle.slotset.proofs.Puts.{Fit, puts-same}
 use Rattle.slotset.proofs.Refusals.{stretch-puts}
 use Rattle.units.proofs.Sets.{row-ok}
-use Rattle.rota.specs.Derived.{Plan, PlanSound, knownBy, portion, worked, lengthAt, held, setsFrom, Derived, derived, afresh, InStep, setFor, lessAt, moreAt, stretchMinutes, OneOwner, nobodies, cut, Makes}
-use Rattle.rota.proofs.Minutes.{known-nobody, portion-other, sum-nothing}
-use Rattle.rota.proofs.Sets.{held-same, held-not, length-sets, sets-fit, sets-in, sets-again}
-use Rattle.rota.proofs.Steps.{afresh-again, afresh-same, afresh-step, afresh-fit, fill-known, new-room, handed-over}
-use Rattle.owners.specs.Derived.{Plan, knownBy, portion, worked, lengthAt, held, setsFrom, Derived, derived, afresh, nobodies, carried}
+use Rattle.slotset.proofs.Puts.{Fit, puts-same}
+use Rattle.owners.specs.Derived.{Plan, knownBy, portion, worked, lengthAt, held, setsFrom, Derived, derived, afresh}
+use Rattle.owners.specs.Derived.{nobodies, carried}
 use Rattle.owners.specs.Inside.{PlanSound, InStep, OneOwner, Makes}
 use Rattle.owners.proofs.Minutes.{known-nobody, portion-other, sum-nothing}
 use Rattle.owners.proofs.Sets.{held-same, held-not, length-sets, sets-fit, sets-in, sets-again}

@@ -11,7 +11,6 @@ use lib.Dec.{eqb, ltb}
 use lib.ListN.{length, getD}
 use Rattle.paper.specs.Limits.{nobody}
 use Rattle.paper.specs.Count.{all, allIn, sum}
-use Rattle.paper.specs.Rows.{unless}
 use Rattle.paper.proofs.Logic.{by-test, lt-or-ge, below-suc, both}
 use Rattle.paper.proofs.Count.{all-each, each-all, all-fails, sum-more}
 use Rattle.slotset.specs.Slots.{slot}

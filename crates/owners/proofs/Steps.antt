@@ -6,23 +6,23 @@ use mathlib.Core.List.{List}
 use Prim.Native.Nat.{ℕ, _+_, _-_, _*_, _^_, _≤_, _<_}
 use native.Mathlib.Nat.{mod-eq-of-lt, mod-add-mod}
 use native.Mathlib.Omega.{arith}
-use borrow.Author.Tests.{eq-eqb, ne-eqb, eqb-true, eqb-false}
+use borrow.Author.Tests.{eqb-true, eqb-false}
 use lib.Dec.{eqb}
 use lib.ListN.{length, getD, set, length-set}
 use lib.Seq.{getD-set-same, getD-set-other, ext-getD}
 use Rattle.paper.specs.Limits.{nobody}
-use Rattle.paper.specs.Count.{over, fill, sum, sumIn}
+use Rattle.paper.specs.Count.{sum, sumIn, over, fill}
 use Rattle.paper.proofs.Logic.{by-test, lt-or-ge}
-use Rattle.paper.proofs.Count.{sum-in-none, sum-in-more, sum-in-le, over-again, over-right, length-over, getD-over, getD-over-out, length-fill, getD-fill-in, getD-fill-out}
+use Rattle.paper.proofs.Count.{sum-in-none, sum-in-more, sum-in-le, over-again, over-right}
+use Rattle.paper.proofs.Count.{length-over, getD-over, getD-over-out, length-fill, getD-fill-in, getD-fill-out}
 use Rattle.slotset.proofs.Puts.{Fit, length-puts}
+use Rattle.slots.specs.Lent.{demandOf, minutesAt}
+use Rattle.paper.specs.Rows.{unless}
+use Rattle.slotset.specs.Answers.{rowStretchNo, rowStretchOf}
 use Rattle.slotset.proofs.Refusals.{stretch-puts}
 use Rattle.units.proofs.Sets.{row-ok}
-use Rattle.slots.specs.Lent.{demandOf, minutesAt}
-use Rattle.slotset.specs.Answers.{rowStretchOf, rowStretchNo, wordsAs}
-use Rattle.rota.specs.Derived.{Plan, PlanSound, knownBy, portion, worked, Derived, derived, afresh, InStep, setFor, lessAt, moreAt, stretchMinutes, lengthAt, HandedOver}
-use Rattle.rota.proofs.Minutes.{known-below, portion-own, portion-other, worked-over, part-le, worked-le}
-use Rattle.rota.proofs.Sets.{length-sets, sets-fit, sets-in, sets-again, sets-same, sets-handed}
-use Rattle.owners.specs.Derived.{Plan, knownBy, portion, worked, Derived, derived, afresh, setFor, lessAt, moreAt, stretchMinutes, wrapped, carried, lengthAt}
+use Rattle.owners.specs.Derived.{Plan, knownBy, portion, worked, Derived, derived, afresh, setFor, lessAt, moreAt, stretchMinutes}
+use Rattle.owners.specs.Derived.{wrapped, carried, lengthAt}
 use Rattle.owners.specs.Inside.{PlanSound, InStep, OneOwner, HandedOver}
 use Rattle.owners.proofs.Minutes.{minutesIn, known-below, portion-own, portion-other, worked-over, part-le, worked-le}
 use Rattle.owners.proofs.Sets.{length-sets, sets-fit, sets-in, sets-again, sets-same, stretchFor, length-set-for, sets-handed}
@@ -132,7 +132,7 @@ set-stretch v w a e people slots ws few short within room k =
 
 -- whatever is lent, lengths stay
 length-row : (v w a e people slots : ℕ) (ws : List ℕ) → length (setFor v people slots w a e ws) ≡ length ws
-unfolding setFor rowStretchOf wordsAs
+unfolding setFor rowStretchOf unless
 length-row v w a e people slots ws =
     by-test (eqb w nobody) _ (λ t. simp t)
     (λ f. simp f
