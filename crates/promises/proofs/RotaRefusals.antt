@@ -8,25 +8,23 @@ use lib.Dec.{leb, ltb}
 use lib.IntN.{ℤ}
 use lib.ListN.{length, getD, set, replicate}
 use Rattle.paper.specs.Limits.{peopleOk, slotCountOk, orElse, Test, test, heardOf, nobody, countsOk}
-use Rattle.paper.specs.Count.{all, fill, over}
-use Rattle.paper.proofs.Logic.{by-test, slot-count-says, lt-or-ge}
+use Rattle.paper.specs.Count.{fill, over}
+use Rattle.paper.proofs.Logic.{by-test, slot-count-says}
 use Rattle.paper.specs.Rows.{unless}
 use Rattle.slotset.specs.declared.Changed.{Changed}
 use Rattle.slotset.specs.Answers.{setsRow, personRow, changedAs, loadOf, numberNo}
 use Rattle.slotset.proofs.Refusals.{number-said}
-use Rattle.slots.specs.Lent.{slotsOk, minutesNo}
+use Rattle.slots.specs.Lent.{minutesNo}
 use Rattle.slots.proofs.LentLaws.{minutes-said}
 use Rattle.targets.specs.Outcome as targets
-use Rattle.targets.proofs.Promises.{number-row, refused-keeps, eight-heard, eight-never, number-is}
-use Rattle.owners.specs.Derived.{Plan, Derived, derived, knownBy, afresh, setsFrom, nobodies, unassigned, uncovered}
-use Rattle.owners.specs.Recount.{knownAt}
+use Rattle.targets.proofs.Promises.{number-row, refused-keeps}
+use Rattle.owners.specs.Derived.{Plan, Derived, derived, afresh, setsFrom, nobodies, unassigned, uncovered}
 use Rattle.rota.specs.Entries as rota
 use Rattle.promises.specs.Entries.{Call, playOf, ofDraws, afreshIn, rowOf}
-use Rattle.promises.specs.Table.{rules, Hears, Refuses, Applies, Heard}
-use Rattle.promises.specs.Refusals.{TargetsRefuse, fromSlotsTable, assignTable, recountSlotsTable, recountTable, playTable, emptyTable, ownersTable, Lent, left, RotaRefuses, targetsChecks, guard}
-use Rattle.promises.proofs.Table.{rising, tests-heard, heard-as, Least, tests-least, least-heard}
+use Rattle.promises.specs.Table.{rules, Hears, Refuses}
+use Rattle.promises.specs.Refusals.{TargetsRefuse, Lent, left, RotaRefuses}
+use Rattle.promises.proofs.Table.{rising, tests-heard, heard-as}
 use Rattle.promises.proofs.TargetGuard.{eight-says}
-use Rattle.owners.specs.Derived.{Plan, Derived, derived, afresh, setsFrom, nobodies, unassigned, uncovered}
 use Rattle.owners.specs.Recount.{recountTests}
 use Rattle.owners.specs.Entries as state
 

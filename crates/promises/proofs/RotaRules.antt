@@ -9,7 +9,7 @@ use borrow.Author.Tests.{eqb-true, eqb-false}
 use lib.Dec.{eqb, leb}
 use lib.ListN.{length, getD, set, length-set}
 use lib.Seq.{getD-set-same, getD-set-other}
-use Rattle.paper.specs.Limits.{nobody, orElse, peopleOk, slotCountOk, countsOk, heardOf}
+use Rattle.paper.specs.Limits.{nobody, slotCountOk, heardOf}
 use Rattle.paper.proofs.Rows.{passed}
 use Rattle.paper.specs.Rows.{unless}
 use Rattle.paper.specs.Count.{all, sum, count, over, fill}

@@ -12,7 +12,7 @@ use Rattle.targets.specs.Outcome as targets
 use Rattle.owners.specs.Derived.{Plan}
 use Rattle.slots.specs.Lent.{minutesNo}
 use Rattle.promises.specs.Entries.{Call, Component, noOf, ownersIn, rowOf}
-use Rattle.slotset.specs.Answers.{toldNo, numberNo, foundNo, runNo}
+use Rattle.slotset.specs.Answers.{toldNo, numberNo}
 use Rattle.promises.specs.SetRefusals.{foundNo, runNo}
 use Rattle.promises.specs.Table.{Hears}
 use Rattle.promises.specs.Rota.{firstCall}
