@@ -9,6 +9,13 @@
 /// | 60 to 74 | the run of unit `first` goes to person `second` of those others who can cover it |
 /// | 75 to 89 | the runs of the units `first` and `second` are swapped |
 /// | 90 to 99 | the run of unit `first` starts one unit earlier (`second` 1) or later (0) |
+///
+/// ```
+/// use boltraven::Draw;
+///
+/// let swap = Draw { draw: 35, first: 0, second: 1 };
+/// assert_ne!(swap, Draw { second: 2, ..swap });
+/// ```
 #[derive(Debug, Clone, Copy, PartialEq, Eq, Hash)]
 #[repr(C)]
 pub struct Draw {
