@@ -4,12 +4,6 @@ use Rattle.paper.specs.Limits.{countsOk}
 use Rattle.paper.proofs.counts_ok.Statement.{statement}
 use Rattle.paper.proofs.counts_ok.Tie as tie
 
-people-ok-requires : tie.Need-people-ok-requires
-people-ok-requires c κs = search needs
-
-slot-count-ok-requires : tie.Need-slot-count-ok-requires
-slot-count-ok-requires c κs = search needs
-
 returns : tie.Need-returns
 unfolding countsOk
 returns c = rw (← c .before .before .people-ok .ensures, c .before .if1 .taken) (c .slot-count-ok .ensures)
@@ -19,4 +13,4 @@ unfolding countsOk
 returns-2 c = rw (← c .before .people-ok .ensures, c .if1 .left)
 
 pub counts-ok-spec : {M : Type 1} → statement M
-counts-ok-spec = tie.close (tie.spec people-ok-requires slot-count-ok-requires returns returns-2)
+counts-ok-spec = tie.close (tie.spec (λ c κs. search needs) (λ c κs. search needs) returns returns-2)

@@ -7,20 +7,11 @@ use Rattle.runs.proofs.Listing.{list-says}
 use Rattle.runs.proofs.all_runs.Statement.{statement}
 use Rattle.runs.proofs.all_runs.Tie as tie
 
-list-no-requires : tie.Need-list-no-requires
-list-no-requires c κs = search needs
-
 list-runs-requires : tie.Need-list-runs-requires
 list-runs-requires c κs =
     let k = c .before .before in
     let s = list-says _ _ _ _ _ _ (sym (said _ (k .before .list-no .ensures)) ∙ k .if1 .taken) in
     (s .0, s .1)
-
-same-length : tie.Need-same-length
-same-length c = search needs
-
-same-length-2 : tie.Need-same-length-2
-same-length-2 c = search needs
 
 returns : tie.Need-returns
 returns c =
@@ -38,4 +29,4 @@ returns-2 c =
     (number-no _ _ n z _, (old-is _ _ n z _ _, old-is _ _ n z _ _))
 
 pub all-runs-spec : {M : Type 1} → statement M
-all-runs-spec = tie.close (tie.spec list-no-requires list-runs-requires same-length same-length-2 returns returns-2)
+all-runs-spec = tie.close (tie.spec (λ c κs. search needs) list-runs-requires (λ c. search needs) (λ c. search needs) returns returns-2)

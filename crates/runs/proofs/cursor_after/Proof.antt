@@ -3,24 +3,6 @@ use borrow.Author.Needs.{needs}
 use Rattle.runs.proofs.cursor_after.Statement.{statement}
 use Rattle.runs.proofs.cursor_after.Tie as tie
 
-enum-known-answer : tie.Need-enum-known-answer
-enum-known-answer c = search needs
-
-enum-told : tie.Need-enum-told
-enum-told c = search needs
-
-enum-told-2 : tie.Need-enum-told-2
-enum-told-2 c = search needs
-
-returns : tie.Need-returns
-returns c = search needs
-
-returns-2 : tie.Need-returns-2
-returns-2 c = search needs
-
-returns-3 : tie.Need-returns-3
-returns-3 c = search needs
-
 pub cursor-after-spec : {M : Type 1} → statement M
 cursor-after-spec =
-    tie.close (tie.spec enum-known-answer enum-told enum-told-2 returns returns-2 returns-3)
+    tie.close (tie.spec (λ c. search needs) (λ c. search needs) (λ c. search needs) (λ c. search needs) (λ c. search needs) (λ c. search needs))

@@ -28,12 +28,6 @@ loop-holds c =
     let f = rowSlots (a .words .now) (a .person) in
     (s .pre .0, (s .pre .1, listing-starts f (slot-lt (a .words .now) (16 * a .person)) (a .len) (a .firsts .now) (a .lasts .now)))
 
-run-from-requires : tie.Need-run-from-requires Inv-loop μ-loop
-run-from-requires c κs = search needs
-
-enum-known-first : tie.Need-enum-known-first Inv-loop μ-loop
-enum-known-first c = search needs
-
 cast-firsts : tie.Need-cast-firsts Inv-loop μ-loop
 cast-firsts c =
     let l = c .before .before .before .before .before in
@@ -42,12 +36,6 @@ cast-firsts c =
     let g = listing-given _ (slot-lt _ _) _ _ _ _ _ _ _ (i .1 .1) (c .before .before .before .before .loop-test .taken) _ _ _ e in
     record { fits = omega (arith, g .to, g .fits, row-says _ _ _ _ (i .0) .short) }
 
-mul-firsts : tie.Need-mul-firsts Inv-loop μ-loop
-mul-firsts c = search needs
-
-slice-write-firsts : tie.Need-slice-write-firsts Inv-loop μ-loop
-slice-write-firsts c = search needs
-
 cast-lasts : tie.Need-cast-lasts Inv-loop μ-loop
 cast-lasts c =
     let l = c .before .before .before .before .before in
@@ -55,15 +43,6 @@ cast-lasts c =
     let e = answered _ _ _ _ _ _ (i .0) (c .before .before .before .run-from .ensures) (c .before .first .given .1) in
     let g = listing-given _ (slot-lt _ _) _ _ _ _ _ _ _ (i .1 .1) (c .before .before .before .before .loop-test .taken) _ _ _ e in
     record { fits = omega (arith, g .fits, row-says _ _ _ _ (i .0) .short) }
-
-mul-lasts : tie.Need-mul-lasts Inv-loop μ-loop
-mul-lasts c = search needs
-
-slice-write-lasts : tie.Need-slice-write-lasts Inv-loop μ-loop
-slice-write-lasts c = search needs
-
-add-n : tie.Need-add-n Inv-loop μ-loop
-add-n c = search needs
 
 loop-less : tie.Need-loop-less Inv-loop μ-loop
 loop-less c =
@@ -81,15 +60,6 @@ loop-again c =
     let m = listing-more _ (slot-lt _ _) _ _ _ _ _ _ _ (i .1 .1) (c .before .before .before .before .loop-test .taken) _ _ _ e in
     (i .0, (i .1 .0, m))
 
-enum-told : tie.Need-enum-told Inv-loop μ-loop
-enum-told c = search needs
-
-same-length : tie.Need-same-length Inv-loop μ-loop
-same-length c = search needs
-
-same-length-2 : tie.Need-same-length-2 Inv-loop μ-loop
-same-length-2 c = search needs
-
 returns : tie.Need-returns Inv-loop μ-loop
 returns c =
     let l = c .before .before .before .before in
@@ -97,27 +67,12 @@ returns c =
     let e = answered _ _ _ _ _ _ (i .0) (c .before .before .run-from .ensures) (c .enum-told .given .1) in
     listing-done _ (slot-lt _ _) _ _ _ _ _ _ _ (i .1 .1) e
 
-enum-told-2 : tie.Need-enum-told-2 Inv-loop μ-loop
-enum-told-2 c = search needs
-
-same-length-3 : tie.Need-same-length-3 Inv-loop μ-loop
-same-length-3 c = search needs
-
-same-length-4 : tie.Need-same-length-4 Inv-loop μ-loop
-same-length-4 c = search needs
-
 returns-2 : tie.Need-returns-2 Inv-loop μ-loop
 returns-2 c =
     let l = c .before .before .before .before in
     let i = l .loop .inv in
     let e = answered _ _ _ _ _ _ (i .0) (c .before .before .run-from .ensures) (c .enum-told2 .given .1) in
     listing-refused _ (slot-lt _ _) _ _ _ _ _ _ _ (i .1 .1) _ e
-
-same-length-5 : tie.Need-same-length-5 Inv-loop μ-loop
-same-length-5 c = search needs
-
-same-length-6 : tie.Need-same-length-6 Inv-loop μ-loop
-same-length-6 c = search needs
 
 returns-3 : tie.Need-returns-3 Inv-loop μ-loop
 returns-3 c =
@@ -130,25 +85,25 @@ list-runs-spec =
     Inv-loop
     μ-loop
     loop-holds
-    run-from-requires
-    enum-known-first
+    (λ c κs. search needs)
+    (λ c. search needs)
     cast-firsts
-    mul-firsts
-    slice-write-firsts
+    (λ c. search needs)
+    (λ c. search needs)
     cast-lasts
-    mul-lasts
-    slice-write-lasts
-    add-n
+    (λ c. search needs)
+    (λ c. search needs)
+    (λ c. search needs)
     loop-less
     loop-again
-    enum-told
-    same-length
-    same-length-2
+    (λ c. search needs)
+    (λ c. search needs)
+    (λ c. search needs)
     returns
-    enum-told-2
-    same-length-3
-    same-length-4
+    (λ c. search needs)
+    (λ c. search needs)
+    (λ c. search needs)
     returns-2
-    same-length-5
-    same-length-6
+    (λ c. search needs)
+    (λ c. search needs)
     returns-3)

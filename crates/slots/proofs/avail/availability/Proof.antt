@@ -7,14 +7,8 @@ use Rattle.slots.proofs.AvailLaws.{availability-says, availability-refu
 use Rattle.slots.proofs.avail.availability.Statement.{statement}
 use Rattle.slots.proofs.avail.availability.Tie as tie
 
-availability-no-requires : tie.Need-availability-no-requires
-availability-no-requires c κs = search needs
-
 merged-keys-requires : tie.Need-merged-keys-requires
 merged-keys-requires c κs = availability-says _ _ _ _ _ _ (sym (said _ (c .before .availability-no .ensures)) ∙ c .if1 .taken) .ranges-sound
-
-slice-aggregate-fill-rows : tie.Need-slice-aggregate-fill-rows
-slice-aggregate-fill-rows c = search needs
 
 fill-rows-requires : tie.Need-fill-rows-requires
 fill-rows-requires c κs =
@@ -27,9 +21,6 @@ fill-rows-requires c κs =
       ((S .few, S .slots-sound), (S .people-ok, S .room)),
     )
 
-same-length : tie.Need-same-length
-same-length c = search needs
-
 returns : tie.Need-returns
 returns c =
     let availability-no = c .before .before .before .before .before .before .before .before .availability-no in
@@ -39,9 +30,6 @@ returns c =
     availability-done _ _ _ _ _ _ _ (said _ (availability-no .ensures)) (if1 .taken) (merged-keys .result .keys) _ (merged-keys .ensures) _
     (fill-rows .ensures)
 
-same-length-2 : tie.Need-same-length-2
-same-length-2 c = search needs
-
 returns-2 : tie.Need-returns-2
 returns-2 c = availability-refused _ _ _ _ _ _ _ (said _ (c .before .availability-no .ensures)) (c .if1 .left)
 
@@ -49,11 +37,11 @@ pub availability-spec : {M : Type 1} → statement M
 availability-spec =
     tie.close
     (tie.spec
-    availability-no-requires
+    (λ c κs. search needs)
     merged-keys-requires
-    slice-aggregate-fill-rows
+    (λ c. search needs)
     fill-rows-requires
-    same-length
+    (λ c. search needs)
     returns
-    same-length-2
+    (λ c. search needs)
     returns-2)

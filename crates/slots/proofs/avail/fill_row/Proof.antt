@@ -101,9 +101,6 @@ add-put-stretch c =
     let pre = c .before .before .before .before .before .before .before .before .before .before .before .pre in
     omega (arith, loop-test .taken, pre .1 .0 .0)
 
-put-stretch-requires : tie.Need-put-stretch-requires Inv-loop μ-loop
-put-stretch-requires c κs = search needs
-
 add-k : tie.Need-add-k Inv-loop μ-loop
 add-k c =
     let loop-test = c .before .before .before .before .before .before .before .before .loop-test in
@@ -164,7 +161,7 @@ fill-row-spec =
     add-reaches
     reaches-requires
     add-put-stretch
-    put-stretch-requires
+    (λ c κs. search needs)
     add-k
     loop-less
     loop-again

@@ -5,12 +5,6 @@ use borrow.Author.Needs.{needs}
 use Rattle.slots.proofs.avail.is_available.Statement.{statement}
 use Rattle.slots.proofs.avail.is_available.Tie as tie
 
-available-no-requires : tie.Need-available-no-requires
-available-no-requires c κs = search needs
-
-contains-requires : tie.Need-contains-requires
-contains-requires c κs = search needs
-
 returns : tie.Need-returns
 returns c =
     let available-no = c .before .before .available-no in
@@ -20,4 +14,4 @@ returns-2 : tie.Need-returns-2
 returns-2 c = available-refused _ _ _ _ _ _ (said _ (c .before .available-no .ensures)) (c .if1 .left)
 
 pub is-available-spec : {M : Type 1} → statement M
-is-available-spec = tie.close (tie.spec available-no-requires contains-requires returns returns-2)
+is-available-spec = tie.close (tie.spec (λ c κs. search needs) (λ c κs. search needs) returns returns-2)

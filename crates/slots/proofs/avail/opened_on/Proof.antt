@@ -27,9 +27,6 @@ shared-slice-read-opens-at c =
     let pre = c .before .before .before .before .pre in
     omega (arith, c .before .loop-test .taken, pre .0 .1)
 
-opens-at-requires : tie.Need-opens-at-requires Inv-loop μ-loop
-opens-at-requires c κs = search needs
-
 add-r : tie.Need-add-r Inv-loop μ-loop
 add-r c =
     let pre = c .before .before .before .before .before .before .pre in
@@ -69,7 +66,7 @@ opened-on-spec =
     loop-holds
     mul-opens-at
     shared-slice-read-opens-at
-    opens-at-requires
+    (λ c κs. search needs)
     add-r
     loop-less
     loop-again

@@ -5,9 +5,6 @@ use borrow.Author.Needs.{needs}
 use Rattle.slots.proofs.avail.reaches.Statement.{statement}
 use Rattle.slots.proofs.avail.reaches.Tie as tie
 
-sub-closes-at : tie.Need-sub-closes-at
-sub-closes-at c = search needs
-
 mul-closes-at : tie.Need-mul-closes-at
 mul-closes-at c =
     let pre = c .before .before .pre in
@@ -17,9 +14,6 @@ shared-slice-read-closes-at : tie.Need-shared-slice-read-closes-at
 shared-slice-read-closes-at c =
     let pre = c .before .before .before .pre in
     omega (arith, c .before .if1 .taken, pre .1)
-
-closes-at-requires : tie.Need-closes-at-requires
-closes-at-requires c κs = search needs
 
 returns : tie.Need-returns
 returns c = reaches-some _ _ _ _ (c .before .before .if1 .taken) (c .closes-at .ensures)
@@ -31,9 +25,9 @@ pub reaches-spec : {M : Type 1} → statement M
 reaches-spec =
     tie.close
     (tie.spec
-    sub-closes-at
+    (λ c. search needs)
     mul-closes-at
     shared-slice-read-closes-at
-    closes-at-requires
+    (λ c κs. search needs)
     returns
     returns-2)

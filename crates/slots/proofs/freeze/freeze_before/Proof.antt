@@ -7,21 +7,12 @@ use borrow.Author.Needs.{needs}
 use Rattle.slots.proofs.freeze.freeze_before.Statement.{statement}
 use Rattle.slots.proofs.freeze.freeze_before.Tie as tie
 
-freeze-no-requires : tie.Need-freeze-no-requires
-freeze-no-requires c κs = search needs
-
 ended-by-requires : tie.Need-ended-by-requires
 ended-by-requires c κs =
     let args = c .before .before .before .before .before .before .args in
     let k = freeze-says _ (now (args .starts)) (now (args .ends)) (now (args .frozen)) (sym (said _ (c .before .freeze-no .ensures))
     ∙ c .if1 .taken) in
     (k .0, k .2 .ends-room, ends-rise _ (now (args .starts)) (now (args .ends)) (k .2))
-
-put-stretch-requires : tie.Need-put-stretch-requires
-put-stretch-requires c κs = search needs
-
-same-length : tie.Need-same-length
-same-length c = search needs
 
 returns : tie.Need-returns
 returns c =
@@ -31,9 +22,6 @@ returns c =
     let put-stretch = c .before .before .put-stretch in
     freeze-done _ _ _ _ _ _ (said _ (freeze-no .ensures)) (if1 .taken) _ (ended-by .ensures) _ (put-stretch .ensures .1)
 
-same-length-2 : tie.Need-same-length-2
-same-length-2 c = search needs
-
 returns-2 : tie.Need-returns-2
 returns-2 c = freeze-refused _ _ _ _ _ _ (said _ (c .before .freeze-no .ensures)) (c .if1 .left)
 
@@ -41,10 +29,10 @@ pub freeze-before-spec : {M : Type 1} → statement M
 freeze-before-spec =
     tie.close
     (tie.spec
-    freeze-no-requires
+    (λ c κs. search needs)
     ended-by-requires
-    put-stretch-requires
-    same-length
+    (λ c κs. search needs)
+    (λ c. search needs)
     returns
-    same-length-2
+    (λ c. search needs)
     returns-2)

@@ -17,25 +17,13 @@ Inv-loop slots starts ends i₀ total₀ i total = (slotsOk slots starts ends �
 abbrev μ-loop : tie.MeasureT-loop
 μ-loop slots starts ends i₀ total₀ i total = slots - i
 
-slots-ok-requires : tie.Need-slots-ok-requires Inv-loop μ-loop
-slots-ok-requires c κs = search needs
-
 loop-holds : tie.Need-loop-holds Inv-loop μ-loop
 loop-holds c = (sym (c .before .slots-ok .ensures) ∙ c .if1 .taken, search needs, sym (sum-none _))
-
-minutes-at-requires : tie.Need-minutes-at-requires Inv-loop μ-loop
-minutes-at-requires c κs = search needs
 
 add-total : tie.Need-add-total Inv-loop μ-loop
 add-total c =
     let inv = c .before .before .loop .inv in
     omega (arith, turn-fits _ _ _ _ _ (inv .2) (c .minutes-at .ensures) _ (inv .0) (c .before .loop-test .taken))
-
-add-i : tie.Need-add-i Inv-loop μ-loop
-add-i c = omega arith
-
-loop-less : tie.Need-loop-less Inv-loop μ-loop
-loop-less c = omega arith
 
 loop-again : tie.Need-loop-again Inv-loop μ-loop
 loop-again c =
@@ -58,12 +46,12 @@ demand-of-spec =
     (tie.spec
     Inv-loop
     μ-loop
-    slots-ok-requires
+    (λ c κs. search needs)
     loop-holds
-    minutes-at-requires
+    (λ c κs. search needs)
     add-total
-    add-i
-    loop-less
+    (λ c. omega arith)
+    (λ c. omega arith)
     loop-again
     returns
     returns-2)

@@ -6,19 +6,10 @@ use borrow.Author.Needs.{needs}
 use Rattle.slots.proofs.lent.minutes_at.Statement.{statement}
 use Rattle.slots.proofs.lent.minutes_at.Tie as tie
 
-entry-of-requires : tie.Need-entry-of-requires
-entry-of-requires c κs = search needs
-
-entry-of-requires-2 : tie.Need-entry-of-requires-2
-entry-of-requires-2 c κs = search needs
-
-minutes-between-requires : tie.Need-minutes-between-requires
-minutes-between-requires c κs = search needs
-
 returns : tie.Need-returns
 unfolding minutesAt
 returns c = c .minutes-between .ensures ∙ ap₂ _-_ (c .before .entry-of2 .ensures) (c .before .before .entry-of .ensures)
 
 pub minutes-at-spec : {M : Type 1} → statement M
 minutes-at-spec =
-    tie.close (tie.spec entry-of-requires entry-of-requires-2 minutes-between-requires returns)
+    tie.close (tie.spec (λ c κs. search needs) (λ c κs. search needs) (λ c κs. search needs) returns)

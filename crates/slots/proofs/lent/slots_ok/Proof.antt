@@ -20,35 +20,11 @@ Inv-loop slots starts ends i₀ prev₀ i prev =
 abbrev μ-loop : tie.MeasureT-loop
 μ-loop slots starts ends i₀ prev₀ i prev = slots - i
 
-slot-room-ok-requires : tie.Need-slot-room-ok-requires Inv-loop μ-loop
-slot-room-ok-requires c κs = search needs
-
 loop-holds : tie.Need-loop-holds Inv-loop μ-loop
 loop-holds c =
     let t = sym (c .before .slot-room-ok .ensures) ∙ c .if1 .taken in
     let r = room-says _ _ _ t in
     (t, r .0, r .1, search needs, all-none _, prev-none _)
-
-mul-end : tie.Need-mul-end Inv-loop μ-loop
-mul-end c = omega arith
-
-shared-slice-read-end : tie.Need-shared-slice-read-end Inv-loop μ-loop
-shared-slice-read-end c = omega arith
-
-mul-slot-ok : tie.Need-mul-slot-ok Inv-loop μ-loop
-mul-slot-ok c = omega arith
-
-shared-slice-read-slot-ok : tie.Need-shared-slice-read-slot-ok Inv-loop μ-loop
-shared-slice-read-slot-ok c = omega arith
-
-slot-ok-requires : tie.Need-slot-ok-requires Inv-loop μ-loop
-slot-ok-requires c κs = search needs
-
-add-i : tie.Need-add-i Inv-loop μ-loop
-add-i c = omega arith
-
-loop-less : tie.Need-loop-less Inv-loop μ-loop
-loop-less c = omega arith
 
 loop-again : tie.Need-loop-again Inv-loop μ-loop
 loop-again c =
@@ -79,15 +55,15 @@ slots-ok-spec =
     (tie.spec
     Inv-loop
     μ-loop
-    slot-room-ok-requires
+    (λ c κs. search needs)
     loop-holds
-    mul-end
-    shared-slice-read-end
-    mul-slot-ok
-    shared-slice-read-slot-ok
-    slot-ok-requires
-    add-i
-    loop-less
+    (λ c. omega arith)
+    (λ c. omega arith)
+    (λ c. omega arith)
+    (λ c. omega arith)
+    (λ c κs. search needs)
+    (λ c. omega arith)
+    (λ c. omega arith)
     loop-again
     returns
     returns-2

@@ -33,9 +33,6 @@ shared-slice-read-key c =
     let pre = c .before .before .before .before .before .before .before .pre in
     omega (arith, c .before .loop-test .taken, pre .0 .1)
 
-person-of-requires : tie.Need-person-of-requires Inv-loop μ-loop
-person-of-requires c κs = search needs
-
 cast-persons : tie.Need-cast-persons Inv-loop μ-loop
 cast-persons c =
     let pre = c .before .before .before .before .before .before .before .before .pre in
@@ -55,9 +52,6 @@ slice-write-persons c =
     let loop-test = c .before .before .loop-test in
     column-room _ _ _ _ _ (loop .inv .1) (pre .1 .0) (loop-test .taken)
 
-start-of-requires : tie.Need-start-of-requires Inv-loop μ-loop
-start-of-requires c κs = search needs
-
 cast-starts : tie.Need-cast-starts Inv-loop μ-loop
 cast-starts c =
     let args = c .before .before .before .before .before .before .before .before .before .args in
@@ -76,9 +70,6 @@ slice-write-starts c =
     let pre = c .before .before .before .before .before .before .before .before .before .pre in
     let loop-test = c .before .before .before .loop-test in
     column-room _ _ _ _ _ (loop .inv .2) (pre .1 .1) (loop-test .taken)
-
-end-of-requires : tie.Need-end-of-requires Inv-loop μ-loop
-end-of-requires c κs = search needs
 
 cast-ends : tie.Need-cast-ends Inv-loop μ-loop
 cast-ends c =
@@ -149,15 +140,15 @@ take-apart-spec =
     loop-holds
     mul-key
     shared-slice-read-key
-    person-of-requires
+    (λ c κs. search needs)
     cast-persons
     mul-persons
     slice-write-persons
-    start-of-requires
+    (λ c κs. search needs)
     cast-starts
     mul-starts
     slice-write-starts
-    end-of-requires
+    (λ c κs. search needs)
     cast-ends
     mul-ends
     slice-write-ends

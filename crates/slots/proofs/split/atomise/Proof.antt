@@ -9,26 +9,8 @@ use borrow.Author.Needs.{needs}
 use Rattle.slots.proofs.split.atomise.Statement.{statement}
 use Rattle.slots.proofs.split.atomise.Tie as tie
 
-base-no-requires : tie.Need-base-no-requires
-base-no-requires c κs = search needs
-
 merged-keys-requires : tie.Need-merged-keys-requires
 merged-keys-requires c κs = base-says _ (sym (said _ (c .before .base-no .ensures)) ∙ c .if1 .taken) .ranges
-
-blank-column-requires : tie.Need-blank-column-requires
-blank-column-requires c κs = search needs
-
-blank-column-requires-2 : tie.Need-blank-column-requires-2
-blank-column-requires-2 c κs = search needs
-
-slice-aggregate-split-all : tie.Need-slice-aggregate-split-all
-slice-aggregate-split-all c = search needs
-
-slice-aggregate-split-all-2 : tie.Need-slice-aggregate-split-all-2
-slice-aggregate-split-all-2 c = search needs
-
-slice-aggregate-split-all-3 : tie.Need-slice-aggregate-split-all-3
-slice-aggregate-split-all-3 c = search needs
 
 split-all-requires : tie.Need-split-all-requires
 split-all-requires c κs =
@@ -43,9 +25,6 @@ split-all-requires c κs =
     let e : length (blank-column2 .result) ≡ 1024 = search needs in
     ((held-merged _ (S .ranges) _ _ M, S .slots), (S .few, omega (arith, s), omega (arith, e)))
 
-slice-aggregate-copy-column : tie.Need-slice-aggregate-copy-column
-slice-aggregate-copy-column c = search needs
-
 copy-column-requires : tie.Need-copy-column-requires
 copy-column-requires c κs =
     let base-no = c .before .before .before .before .before .before .before .before .before .before .before .before .before
@@ -57,9 +36,6 @@ copy-column-requires c κs =
     let S = base-says _ (sym (said _ (base-no .ensures)) ∙ if1 .taken) in
     let s : length (blank-column .result) ≡ 1024 = search needs in
     (if2 .taken, omega (arith, if2 .taken, s, split-all .kept .1 .1 .1 .1 .1 .0), omega (arith, if2 .taken, S .room .0))
-
-slice-aggregate-copy-column-2 : tie.Need-slice-aggregate-copy-column-2
-slice-aggregate-copy-column-2 c = search needs
 
 copy-column-requires-2 : tie.Need-copy-column-requires-2
 copy-column-requires-2 c κs =
@@ -74,12 +50,6 @@ copy-column-requires-2 c κs =
     let S = base-says _ (sym (said _ (base-no .ensures)) ∙ if1 .taken) in
     let e : length (blank-column2 .result) ≡ 1024 = search needs in
     (if2 .taken, omega (arith, if2 .taken, e, split-all .kept .1 .1 .1 .1 .1 .1 .0), omega (arith, if2 .taken, S .room .1))
-
-same-length : tie.Need-same-length
-same-length c = search needs
-
-same-length-2 : tie.Need-same-length-2
-same-length-2 c = search needs
 
 returns : tie.Need-returns
 returns c =
@@ -104,12 +74,6 @@ returns c =
     (omega (arith, s, split-all .kept .1 .1 .1 .1 .1 .0)) (omega (arith, e, split-all .kept .1 .1 .1 .1 .1 .1 .0))
     _ _ (copy-column .ensures) (copy-column2 .ensures)
 
-same-length-3 : tie.Need-same-length-3
-same-length-3 c = search needs
-
-same-length-4 : tie.Need-same-length-4
-same-length-4 c = search needs
-
 returns-2 : tie.Need-returns-2
 returns-2 c =
     let base-no = c .before .before .before .before .before .before .before .before .before .before .before .before .base-no in
@@ -119,12 +83,6 @@ returns-2 c =
     atoms-full _ _ (base-no .ensures) (if1 .taken) (merged-keys .result .keys) _ (merged-keys .ensures) _ _ _ _ _ (split-all .ensures)
     (c .if2 .left)
 
-same-length-5 : tie.Need-same-length-5
-same-length-5 c = search needs
-
-same-length-6 : tie.Need-same-length-6
-same-length-6 c = search needs
-
 returns-3 : tie.Need-returns-3
 returns-3 c = atoms-refused _ _ (after-some _ _ (c .before .base-no .ensures) (c .if1 .left)) (c .if1 .left)
 
@@ -132,24 +90,24 @@ pub atomise-spec : {M : Type 1} → statement M
 atomise-spec =
     tie.close
     (tie.spec
-    base-no-requires
+    (λ c κs. search needs)
     merged-keys-requires
-    blank-column-requires
-    blank-column-requires-2
-    slice-aggregate-split-all
-    slice-aggregate-split-all-2
-    slice-aggregate-split-all-3
+    (λ c κs. search needs)
+    (λ c κs. search needs)
+    (λ c. search needs)
+    (λ c. search needs)
+    (λ c. search needs)
     split-all-requires
-    slice-aggregate-copy-column
+    (λ c. search needs)
     copy-column-requires
-    slice-aggregate-copy-column-2
+    (λ c. search needs)
     copy-column-requires-2
-    same-length
-    same-length-2
+    (λ c. search needs)
+    (λ c. search needs)
     returns
-    same-length-3
-    same-length-4
+    (λ c. search needs)
+    (λ c. search needs)
     returns-2
-    same-length-5
-    same-length-6
+    (λ c. search needs)
+    (λ c. search needs)
     returns-3)

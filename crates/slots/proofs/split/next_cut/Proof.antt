@@ -35,9 +35,6 @@ next-edge-requires c κs =
 sub-nearer-of : tie.Need-sub-nearer-of Inv-loop μ-loop
 sub-nearer-of c = omega (arith, c .next-edge .ensures .from)
 
-nearer-of-requires : tie.Need-nearer-of-requires Inv-loop μ-loop
-nearer-of-requires c κs = search needs
-
 add-person : tie.Need-add-person Inv-loop μ-loop
 add-person c = omega (arith, c .before .before .loop-test .taken)
 
@@ -71,7 +68,7 @@ next-cut-spec =
     add-next-edge
     next-edge-requires
     sub-nearer-of
-    nearer-of-requires
+    (λ c κs. search needs)
     add-person
     loop-less
     loop-again

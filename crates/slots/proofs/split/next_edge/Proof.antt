@@ -9,9 +9,6 @@ opened-by-requires : tie.Need-opened-by-requires
 opened-by-requires c κs =
     let H = c .before .pre .0 in (H .few, H .fits, H .spaced)
 
-sub-closes-at : tie.Need-sub-closes-at
-sub-closes-at c = search needs
-
 mul-closes-at : tie.Need-mul-closes-at
 mul-closes-at c =
     let H = c .before .before .before .pre .0 in
@@ -22,9 +19,6 @@ shared-slice-read-closes-at c =
     let opened-by = c .before .before .opened-by in
     let H = c .before .before .before .before .pre .0 in
     omega (arith, c .before .if1 .taken, opened-by .ensures .few, H .fits)
-
-closes-at-requires : tie.Need-closes-at-requires
-closes-at-requires c κs = search needs
 
 returns : tie.Need-returns
 returns c =
@@ -64,10 +58,10 @@ next-edge-spec =
     tie.close
     (tie.spec
     opened-by-requires
-    sub-closes-at
+    (λ c. search needs)
     mul-closes-at
     shared-slice-read-closes-at
-    closes-at-requires
+    (λ c κs. search needs)
     returns
     opens-from-requires
     returns-2

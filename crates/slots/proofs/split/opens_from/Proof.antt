@@ -15,9 +15,6 @@ shared-slice-read-opens-at c =
     let pre = c .before .before .before .pre in
     omega (arith, c .before .if1 .taken, pre .1)
 
-opens-at-requires : tie.Need-opens-at-requires
-opens-at-requires c κs = search needs
-
 returns : tie.Need-returns
 returns c = opens-some _ _ _ _ (c .before .before .if1 .taken) (c .opens-at .ensures)
 
@@ -27,4 +24,4 @@ returns-2 c = opens-past _ _ _ (c .if1 .left)
 pub opens-from-spec : {M : Type 1} → statement M
 opens-from-spec =
     tie.close
-    (tie.spec mul-opens-at shared-slice-read-opens-at opens-at-requires returns returns-2)
+    (tie.spec mul-opens-at shared-slice-read-opens-at (λ c κs. search needs) returns returns-2)

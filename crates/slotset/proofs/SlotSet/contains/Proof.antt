@@ -8,20 +8,11 @@ use Rattle.slotset.proofs.Refusals.{len-says, told-is, told-no}
 use Rattle.slotset.proofs.SlotSet.contains.Statement.{statement}
 use Rattle.slotset.proofs.SlotSet.contains.Tie as tie
 
-len-no-requires : tie.Need-len-no-requires
-len-no-requires c κs = search needs
-
-slice-aggregate-contains : tie.Need-slice-aggregate-contains
-slice-aggregate-contains c = search needs
-
 contains-requires : tie.Need-contains-requires
 contains-requires c κs =
     let k = c .before .before in
     let n : length (k .before .before .args .self .words) ≡ 16 = search needs in
     (omega (arith, n), len-says _ (sym (said _ (k .before .len-no .ensures)) ∙ k .if1 .taken))
-
-yes-or-no-requires : tie.Need-yes-or-no-requires
-yes-or-no-requires c κs = search needs
 
 returns : tie.Need-returns
 returns c =
@@ -35,9 +26,9 @@ pub contains-spec : {M : Type 1} → statement M
 contains-spec =
     tie.close
     (tie.spec
-    len-no-requires
-    slice-aggregate-contains
+    (λ c κs. search needs)
+    (λ c. search needs)
     contains-requires
-    yes-or-no-requires
+    (λ c κs. search needs)
     returns
     returns-2)

@@ -8,12 +8,6 @@ use Rattle.slotset.proofs.Refusals.{len-says, number-is, number-no}
 use Rattle.slotset.proofs.SlotSet.count.Statement.{statement}
 use Rattle.slotset.proofs.SlotSet.count.Tie as tie
 
-len-no-requires : tie.Need-len-no-requires
-len-no-requires c κs = search needs
-
-slice-aggregate-count : tie.Need-slice-aggregate-count
-slice-aggregate-count c = search needs
-
 count-requires : tie.Need-count-requires
 count-requires c κs =
     let k = c .before .before in
@@ -31,4 +25,4 @@ returns-2 c = number-no _ _ (said _ (c .before .len-no .ensures)) (c .if1 .left)
 pub count-spec : {M : Type 1} → statement M
 count-spec =
     tie.close
-    (tie.spec len-no-requires slice-aggregate-count count-requires returns returns-2)
+    (tie.spec (λ c κs. search needs) (λ c. search needs) count-requires returns returns-2)

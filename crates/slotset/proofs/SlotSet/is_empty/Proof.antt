@@ -8,20 +8,11 @@ use Rattle.slotset.proofs.Refusals.{len-says, told-is, told-no}
 use Rattle.slotset.proofs.SlotSet.is_empty.Statement.{statement}
 use Rattle.slotset.proofs.SlotSet.is_empty.Tie as tie
 
-len-no-requires : tie.Need-len-no-requires
-len-no-requires c κs = search needs
-
-slice-aggregate-is-empty : tie.Need-slice-aggregate-is-empty
-slice-aggregate-is-empty c = search needs
-
 is-empty-requires : tie.Need-is-empty-requires
 is-empty-requires c κs =
     let k = c .before .before in
     let n : length (k .before .before .args .self .words) ≡ 16 = search needs in
     (omega (arith, n), len-says _ (sym (said _ (k .before .len-no .ensures)) ∙ k .if1 .taken))
-
-yes-or-no-requires : tie.Need-yes-or-no-requires
-yes-or-no-requires c κs = search needs
 
 returns : tie.Need-returns
 returns c =
@@ -35,9 +26,9 @@ pub is-empty-spec : {M : Type 1} → statement M
 is-empty-spec =
     tie.close
     (tie.spec
-    len-no-requires
-    slice-aggregate-is-empty
+    (λ c κs. search needs)
+    (λ c. search needs)
     is-empty-requires
-    yes-or-no-requires
+    (λ c κs. search needs)
     returns
     returns-2)

@@ -6,9 +6,6 @@ use mathlib.Core.Path.{refl}
 use Rattle.slotset.proofs.SlotSet.len.Statement.{statement}
 use Rattle.slotset.proofs.SlotSet.len.Tie as tie
 
-len-no-requires : tie.Need-len-no-requires
-len-no-requires c κs = search needs
-
 returns : tie.Need-returns
 returns c = number-is _ _ (said _ (c .before .len-no .ensures)) (c .if1 .taken) _ _ refl
 
@@ -16,4 +13,4 @@ returns-2 : tie.Need-returns-2
 returns-2 c = number-no _ _ (said _ (c .before .len-no .ensures)) (c .if1 .left) _
 
 pub len-spec : {M : Type 1} → statement M
-len-spec = tie.close (tie.spec len-no-requires returns returns-2)
+len-spec = tie.close (tie.spec (λ c κs. search needs) returns returns-2)

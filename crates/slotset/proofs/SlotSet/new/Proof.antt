@@ -7,9 +7,6 @@ use Rattle.slotset.proofs.Refusals.{changed-is, changed-no}
 use Rattle.slotset.proofs.SlotSet.new.Statement.{statement}
 use Rattle.slotset.proofs.SlotSet.new.Tie as tie
 
-len-no-requires : tie.Need-len-no-requires
-len-no-requires c κs = search needs
-
 returns : tie.Need-returns
 unfolding newOf
 returns c = changed-is _ _ (said _ (c .before .len-no .ensures)) (c .if1 .taken) _ _ _ _ refl
@@ -19,4 +16,4 @@ unfolding newOf
 returns-2 c = changed-no _ _ (said _ (c .before .len-no .ensures)) (c .if1 .left) _ _
 
 pub new-spec : {M : Type 1} → statement M
-new-spec = tie.close (tie.spec len-no-requires returns returns-2)
+new-spec = tie.close (tie.spec (λ c κs. search needs) returns returns-2)

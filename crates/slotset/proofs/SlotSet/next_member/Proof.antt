@@ -8,12 +8,6 @@ use Rattle.slotset.proofs.Refusals.{len-says, next-member-is, next-memb
 use Rattle.slotset.proofs.SlotSet.next_member.Statement.{statement}
 use Rattle.slotset.proofs.SlotSet.next_member.Tie as tie
 
-len-no-requires : tie.Need-len-no-requires
-len-no-requires c κs = search needs
-
-slice-aggregate-next-member : tie.Need-slice-aggregate-next-member
-slice-aggregate-next-member c = search needs
-
 next-member-requires : tie.Need-next-member-requires
 next-member-requires c κs =
     let k = c .before .before in
@@ -32,8 +26,8 @@ pub next-member-spec : {M : Type 1} → statement M
 next-member-spec =
     tie.close
     (tie.spec
-    len-no-requires
-    slice-aggregate-next-member
+    (λ c κs. search needs)
+    (λ c. search needs)
     next-member-requires
     returns
     returns-2)

@@ -8,12 +8,6 @@ use Rattle.slotset.proofs.Refusals.{len-says, next-run-is, next-run-no}
 use Rattle.slotset.proofs.SlotSet.next_run.Statement.{statement}
 use Rattle.slotset.proofs.SlotSet.next_run.Tie as tie
 
-len-no-requires : tie.Need-len-no-requires
-len-no-requires c κs = search needs
-
-slice-aggregate-next-run : tie.Need-slice-aggregate-next-run
-slice-aggregate-next-run c = search needs
-
 next-run-requires : tie.Need-next-run-requires
 next-run-requires c κs =
     let k = c .before .before in
@@ -32,8 +26,8 @@ pub next-run-spec : {M : Type 1} → statement M
 next-run-spec =
     tie.close
     (tie.spec
-    len-no-requires
-    slice-aggregate-next-run
+    (λ c κs. search needs)
+    (λ c. search needs)
     next-run-requires
     returns
     returns-2)

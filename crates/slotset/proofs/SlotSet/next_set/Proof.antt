@@ -8,12 +8,6 @@ use Rattle.slotset.proofs.Refusals.{len-says, found-is, found-no}
 use Rattle.slotset.proofs.SlotSet.next_set.Statement.{statement}
 use Rattle.slotset.proofs.SlotSet.next_set.Tie as tie
 
-len-no-requires : tie.Need-len-no-requires
-len-no-requires c κs = search needs
-
-slice-aggregate-next-with : tie.Need-slice-aggregate-next-with
-slice-aggregate-next-with c = search needs
-
 next-with-requires : tie.Need-next-with-requires
 next-with-requires c κs =
     let k = c .before .before in
@@ -31,4 +25,4 @@ returns-2 c = found-no _ _ (said _ (c .before .len-no .ensures)) (c .if1 .left) 
 pub next-set-spec : {M : Type 1} → statement M
 next-set-spec =
     tie.close
-    (tie.spec len-no-requires slice-aggregate-next-with next-with-requires returns returns-2)
+    (tie.spec (λ c κs. search needs) (λ c. search needs) next-with-requires returns returns-2)

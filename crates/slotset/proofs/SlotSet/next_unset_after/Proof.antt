@@ -8,12 +8,6 @@ use Rattle.slotset.proofs.Refusals.{len-says, found-is, found-no}
 use Rattle.slotset.proofs.SlotSet.next_unset_after.Statement.{statement}
 use Rattle.slotset.proofs.SlotSet.next_unset_after.Tie as tie
 
-len-no-requires : tie.Need-len-no-requires
-len-no-requires c κs = search needs
-
-slice-aggregate-next-unset-after : tie.Need-slice-aggregate-next-unset-after
-slice-aggregate-next-unset-after c = search needs
-
 next-unset-after-requires : tie.Need-next-unset-after-requires
 next-unset-after-requires c κs =
     let k = c .before .before in
@@ -32,8 +26,8 @@ pub next-unset-after-spec : {M : Type 1} → statement M
 next-unset-after-spec =
     tie.close
     (tie.spec
-    len-no-requires
-    slice-aggregate-next-unset-after
+    (λ c κs. search needs)
+    (λ c. search needs)
     next-unset-after-requires
     returns
     returns-2)

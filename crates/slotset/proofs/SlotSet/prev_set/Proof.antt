@@ -8,12 +8,6 @@ use Rattle.slotset.proofs.Refusals.{len-says, found-is, found-no}
 use Rattle.slotset.proofs.SlotSet.prev_set.Statement.{statement}
 use Rattle.slotset.proofs.SlotSet.prev_set.Tie as tie
 
-len-no-requires : tie.Need-len-no-requires
-len-no-requires c κs = search needs
-
-slice-aggregate-prev-set : tie.Need-slice-aggregate-prev-set
-slice-aggregate-prev-set c = search needs
-
 prev-set-requires : tie.Need-prev-set-requires
 prev-set-requires c κs =
     let k = c .before .before in
@@ -32,8 +26,8 @@ pub prev-set-spec : {M : Type 1} → statement M
 prev-set-spec =
     tie.close
     (tie.spec
-    len-no-requires
-    slice-aggregate-prev-set
+    (λ c κs. search needs)
+    (λ c. search needs)
     prev-set-requires
     returns
     returns-2)

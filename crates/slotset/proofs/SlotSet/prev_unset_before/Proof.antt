@@ -8,12 +8,6 @@ use Rattle.slotset.proofs.Refusals.{len-says, found-is, found-no}
 use Rattle.slotset.proofs.SlotSet.prev_unset_before.Statement.{statement}
 use Rattle.slotset.proofs.SlotSet.prev_unset_before.Tie as tie
 
-len-no-requires : tie.Need-len-no-requires
-len-no-requires c κs = search needs
-
-slice-aggregate-last-below : tie.Need-slice-aggregate-last-below
-slice-aggregate-last-below c = search needs
-
 last-below-requires : tie.Need-last-below-requires
 last-below-requires c κs =
     let k = c .before .before in
@@ -31,4 +25,4 @@ returns-2 c = found-no _ _ (said _ (c .before .len-no .ensures)) (c .if1 .left) 
 pub prev-unset-before-spec : {M : Type 1} → statement M
 prev-unset-before-spec =
     tie.close
-    (tie.spec len-no-requires slice-aggregate-last-below last-below-requires returns returns-2)
+    (tie.spec (λ c κs. search needs) (λ c. search needs) last-below-requires returns returns-2)

@@ -12,12 +12,6 @@ use Rattle.slotset.proofs.Refusals.{slot-says, changed-is, changed-no}
 use Rattle.slotset.proofs.SlotSet.put.Statement.{statement}
 use Rattle.slotset.proofs.SlotSet.put.Tie as tie
 
-slot-no-requires : tie.Need-slot-no-requires
-slot-no-requires c κs = search needs
-
-slice-aggregate-put-slots : tie.Need-slice-aggregate-put-slots
-slice-aggregate-put-slots c = search needs
-
 add-put-slots : tie.Need-add-put-slots
 add-put-slots c =
     let k = c .before .before in
@@ -47,8 +41,8 @@ pub put-spec : {M : Type 1} → statement M
 put-spec =
     tie.close
     (tie.spec
-    slot-no-requires
-    slice-aggregate-put-slots
+    (λ c κs. search needs)
+    (λ c. search needs)
     add-put-slots
     put-slots-requires
     returns

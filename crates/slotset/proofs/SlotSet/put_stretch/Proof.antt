@@ -9,12 +9,6 @@ use Rattle.slotset.proofs.Refusals.{stretch-says, changed-is, changed-n
 use Rattle.slotset.proofs.SlotSet.put_stretch.Statement.{statement}
 use Rattle.slotset.proofs.SlotSet.put_stretch.Tie as tie
 
-stretch-no-requires : tie.Need-stretch-no-requires
-stretch-no-requires c κs = search needs
-
-slice-aggregate-put-slots : tie.Need-slice-aggregate-put-slots
-slice-aggregate-put-slots c = search needs
-
 put-slots-requires : tie.Need-put-slots-requires
 put-slots-requires c κs =
     let k = c .before .before in
@@ -35,4 +29,4 @@ returns-2 c = changed-no _ _ (said _ (c .before .stretch-no .ensures)) (c .if1 .
 pub put-stretch-spec : {M : Type 1} → statement M
 put-stretch-spec =
     tie.close
-    (tie.spec stretch-no-requires slice-aggregate-put-slots put-slots-requires returns returns-2)
+    (tie.spec (λ c κs. search needs) (λ c. search needs) put-slots-requires returns returns-2)

@@ -3,11 +3,8 @@ use borrow.Author.Needs.{needs}
 use Rattle.slotset.proofs.SlotSet.remove.Statement.{statement}
 use Rattle.slotset.proofs.SlotSet.remove.Tie as tie
 
-put-requires : tie.Need-put-requires
-put-requires c κs = search needs
-
 returns : tie.Need-returns
 returns c = c .put .ensures
 
 pub remove-spec : {M : Type 1} → statement M
-remove-spec = tie.close (tie.spec put-requires returns)
+remove-spec = tie.close (tie.spec (λ c κs. search needs) returns)

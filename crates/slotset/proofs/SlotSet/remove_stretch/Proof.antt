@@ -3,11 +3,8 @@ use borrow.Author.Needs.{needs}
 use Rattle.slotset.proofs.SlotSet.remove_stretch.Statement.{statement}
 use Rattle.slotset.proofs.SlotSet.remove_stretch.Tie as tie
 
-put-stretch-requires : tie.Need-put-stretch-requires
-put-stretch-requires c κs = search needs
-
 returns : tie.Need-returns
 returns c = c .put-stretch .ensures
 
 pub remove-stretch-spec : {M : Type 1} → statement M
-remove-stretch-spec = tie.close (tie.spec put-stretch-requires returns)
+remove-stretch-spec = tie.close (tie.spec (λ c κs. search needs) returns)

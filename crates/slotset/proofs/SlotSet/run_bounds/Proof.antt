@@ -8,12 +8,6 @@ use Rattle.slotset.proofs.Refusals.{len-says, run-is, run-no}
 use Rattle.slotset.proofs.SlotSet.run_bounds.Statement.{statement}
 use Rattle.slotset.proofs.SlotSet.run_bounds.Tie as tie
 
-len-no-requires : tie.Need-len-no-requires
-len-no-requires c κs = search needs
-
-slice-aggregate-run-bounds : tie.Need-slice-aggregate-run-bounds
-slice-aggregate-run-bounds c = search needs
-
 run-bounds-requires : tie.Need-run-bounds-requires
 run-bounds-requires c κs =
     let k = c .before .before in
@@ -30,4 +24,4 @@ returns-2 c = run-no _ _ (said _ (c .before .len-no .ensures)) (c .if1 .left) _ 
 
 pub run-bounds-spec : {M : Type 1} → statement M
 run-bounds-spec =
-    tie.close (tie.spec len-no-requires slice-aggregate-run-bounds run-bounds-requires returns returns-2)
+    tie.close (tie.spec (λ c κs. search needs) (λ c. search needs) run-bounds-requires returns returns-2)

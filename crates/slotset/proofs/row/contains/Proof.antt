@@ -7,9 +7,6 @@ use Rattle.slotset.proofs.Refusals.{row-says, told-is, told-no}
 use Rattle.slotset.proofs.row.contains.Statement.{statement}
 use Rattle.slotset.proofs.row.contains.Tie as tie
 
-row-no-requires : tie.Need-row-no-requires
-row-no-requires c κs = search needs
-
 mul-contains : tie.Need-mul-contains
 mul-contains c =
     let r = row-says _ _ _ _ (sym (said _ (c .before .row-no .ensures)) ∙ c .if1 .taken) in
@@ -19,9 +16,6 @@ contains-requires : tie.Need-contains-requires
 contains-requires c κs =
     let r = row-says _ _ _ _ (sym (said _ (c .before .row-no .ensures)) ∙ c .if1 .taken) in
     (r .words, r .short)
-
-yes-or-no-requires : tie.Need-yes-or-no-requires
-yes-or-no-requires c κs = search needs
 
 returns : tie.Need-returns
 returns c =
@@ -34,4 +28,4 @@ returns-2 c = told-no _ _ (said _ (c .before .row-no .ensures)) (c .if1 .left) _
 pub contains-spec : {M : Type 1} → statement M
 contains-spec =
     tie.close
-    (tie.spec row-no-requires mul-contains contains-requires yes-or-no-requires returns returns-2)
+    (tie.spec (λ c κs. search needs) mul-contains contains-requires (λ c κs. search needs) returns returns-2)

@@ -7,9 +7,6 @@ use Rattle.slotset.proofs.Refusals.{row-says, number-is, number-no}
 use Rattle.slotset.proofs.row.count.Statement.{statement}
 use Rattle.slotset.proofs.row.count.Tie as tie
 
-row-no-requires : tie.Need-row-no-requires
-row-no-requires c κs = search needs
-
 mul-count : tie.Need-mul-count
 mul-count c =
     let r = row-says _ _ _ _ (sym (said _ (c .before .row-no .ensures)) ∙ c .if1 .taken) in
@@ -28,4 +25,4 @@ returns-2 c = number-no _ _ (said _ (c .before .row-no .ensures)) (c .if1 .left)
 
 pub count-spec : {M : Type 1} → statement M
 count-spec =
-    tie.close (tie.spec row-no-requires mul-count count-requires returns returns-2)
+    tie.close (tie.spec (λ c κs. search needs) mul-count count-requires returns returns-2)

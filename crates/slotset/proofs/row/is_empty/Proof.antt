@@ -7,9 +7,6 @@ use Rattle.slotset.proofs.Refusals.{row-says, told-is, told-no}
 use Rattle.slotset.proofs.row.is_empty.Statement.{statement}
 use Rattle.slotset.proofs.row.is_empty.Tie as tie
 
-row-no-requires : tie.Need-row-no-requires
-row-no-requires c κs = search needs
-
 mul-is-empty : tie.Need-mul-is-empty
 mul-is-empty c =
     let r = row-says _ _ _ _ (sym (said _ (c .before .row-no .ensures)) ∙ c .if1 .taken) in
@@ -19,9 +16,6 @@ is-empty-requires : tie.Need-is-empty-requires
 is-empty-requires c κs =
     let r = row-says _ _ _ _ (sym (said _ (c .before .row-no .ensures)) ∙ c .if1 .taken) in
     (r .words, r .short)
-
-yes-or-no-requires : tie.Need-yes-or-no-requires
-yes-or-no-requires c κs = search needs
 
 returns : tie.Need-returns
 returns c =
@@ -35,9 +29,9 @@ pub is-empty-spec : {M : Type 1} → statement M
 is-empty-spec =
     tie.close
     (tie.spec
-    row-no-requires
+    (λ c κs. search needs)
     mul-is-empty
     is-empty-requires
-    yes-or-no-requires
+    (λ c κs. search needs)
     returns
     returns-2)

@@ -8,9 +8,6 @@ use Rattle.slotset.proofs.Refusals.{row-says, changed-is, changed-no}
 use Rattle.slotset.proofs.row.load.Statement.{statement}
 use Rattle.slotset.proofs.row.load.Tie as tie
 
-row-no-requires : tie.Need-row-no-requires
-row-no-requires c κs = search needs
-
 mul-words-at : tie.Need-mul-words-at
 mul-words-at c =
     let r = row-says _ _ _ _ (sym (said _ (c .before .row-no .ensures)) ∙ c .if1 .taken) in
@@ -29,4 +26,4 @@ unfolding loadOf
 returns-2 c = changed-no _ _ (said _ (c .before .row-no .ensures)) (c .if1 .left) _ _
 
 pub load-spec : {M : Type 1} → statement M
-load-spec = tie.close (tie.spec row-no-requires mul-words-at words-at-requires returns returns-2)
+load-spec = tie.close (tie.spec (λ c κs. search needs) mul-words-at words-at-requires returns returns-2)

@@ -7,9 +7,6 @@ use Rattle.slotset.proofs.Refusals.{row-says, next-member-is, next-memb
 use Rattle.slotset.proofs.row.next_member.Statement.{statement}
 use Rattle.slotset.proofs.row.next_member.Tie as tie
 
-row-no-requires : tie.Need-row-no-requires
-row-no-requires c κs = search needs
-
 mul-next-member : tie.Need-mul-next-member
 mul-next-member c =
     let r = row-says _ _ _ _ (sym (said _ (c .before .row-no .ensures)) ∙ c .if1 .taken) in
@@ -29,4 +26,4 @@ returns-2 c = next-member-no _ _ (said _ (c .before .row-no .ensures)) (c .if1 .
 pub next-member-spec : {M : Type 1} → statement M
 next-member-spec =
     tie.close
-    (tie.spec row-no-requires mul-next-member next-member-requires returns returns-2)
+    (tie.spec (λ c κs. search needs) mul-next-member next-member-requires returns returns-2)

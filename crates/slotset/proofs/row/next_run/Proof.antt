@@ -7,9 +7,6 @@ use Rattle.slotset.proofs.Refusals.{row-says, next-run-is, next-run-no}
 use Rattle.slotset.proofs.row.next_run.Statement.{statement}
 use Rattle.slotset.proofs.row.next_run.Tie as tie
 
-row-no-requires : tie.Need-row-no-requires
-row-no-requires c κs = search needs
-
 mul-next-run : tie.Need-mul-next-run
 mul-next-run c =
     let r = row-says _ _ _ _ (sym (said _ (c .before .row-no .ensures)) ∙ c .if1 .taken) in
@@ -28,4 +25,4 @@ returns-2 c = next-run-no _ _ (said _ (c .before .row-no .ensures)) (c .if1 .lef
 
 pub next-run-spec : {M : Type 1} → statement M
 next-run-spec =
-    tie.close (tie.spec row-no-requires mul-next-run next-run-requires returns returns-2)
+    tie.close (tie.spec (λ c κs. search needs) mul-next-run next-run-requires returns returns-2)

@@ -7,9 +7,6 @@ use Rattle.slotset.proofs.Refusals.{row-says, found-is, found-no}
 use Rattle.slotset.proofs.row.next_unset_after.Statement.{statement}
 use Rattle.slotset.proofs.row.next_unset_after.Tie as tie
 
-row-no-requires : tie.Need-row-no-requires
-row-no-requires c κs = search needs
-
 mul-next-unset-after : tie.Need-mul-next-unset-after
 mul-next-unset-after c =
     let r = row-says _ _ _ _ (sym (said _ (c .before .row-no .ensures)) ∙ c .if1 .taken) in
@@ -29,4 +26,4 @@ returns-2 c = found-no _ _ (said _ (c .before .row-no .ensures)) (c .if1 .left) 
 pub next-unset-after-spec : {M : Type 1} → statement M
 next-unset-after-spec =
     tie.close
-    (tie.spec row-no-requires mul-next-unset-after next-unset-after-requires returns returns-2)
+    (tie.spec (λ c κs. search needs) mul-next-unset-after next-unset-after-requires returns returns-2)

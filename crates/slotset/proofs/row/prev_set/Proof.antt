@@ -7,9 +7,6 @@ use Rattle.slotset.proofs.Refusals.{row-says, found-is, found-no}
 use Rattle.slotset.proofs.row.prev_set.Statement.{statement}
 use Rattle.slotset.proofs.row.prev_set.Tie as tie
 
-row-no-requires : tie.Need-row-no-requires
-row-no-requires c κs = search needs
-
 mul-prev-set : tie.Need-mul-prev-set
 mul-prev-set c =
     let r = row-says _ _ _ _ (sym (said _ (c .before .row-no .ensures)) ∙ c .if1 .taken) in
@@ -28,4 +25,4 @@ returns-2 c = found-no _ _ (said _ (c .before .row-no .ensures)) (c .if1 .left) 
 
 pub prev-set-spec : {M : Type 1} → statement M
 prev-set-spec =
-    tie.close (tie.spec row-no-requires mul-prev-set prev-set-requires returns returns-2)
+    tie.close (tie.spec (λ c κs. search needs) mul-prev-set prev-set-requires returns returns-2)

@@ -7,9 +7,6 @@ use Rattle.slotset.proofs.Refusals.{row-says, found-is, found-no}
 use Rattle.slotset.proofs.row.prev_unset_before.Statement.{statement}
 use Rattle.slotset.proofs.row.prev_unset_before.Tie as tie
 
-row-no-requires : tie.Need-row-no-requires
-row-no-requires c κs = search needs
-
 mul-last-below : tie.Need-mul-last-below
 mul-last-below c =
     let r = row-says _ _ _ _ (sym (said _ (c .before .row-no .ensures)) ∙ c .if1 .taken) in
@@ -28,4 +25,4 @@ returns-2 c = found-no _ _ (said _ (c .before .row-no .ensures)) (c .if1 .left) 
 
 pub prev-unset-before-spec : {M : Type 1} → statement M
 prev-unset-before-spec =
-    tie.close (tie.spec row-no-requires mul-last-below last-below-requires returns returns-2)
+    tie.close (tie.spec (λ c κs. search needs) mul-last-below last-below-requires returns returns-2)

@@ -8,9 +8,6 @@ use Rattle.slotset.proofs.Refusals.{row-says, row-stretch-says, work-is
 use Rattle.slotset.proofs.row.put_stretch.Statement.{statement}
 use Rattle.slotset.proofs.row.put_stretch.Tie as tie
 
-row-stretch-no-requires : tie.Need-row-stretch-no-requires
-row-stretch-no-requires c κs = search needs
-
 mul-put-slots : tie.Need-mul-put-slots
 mul-put-slots c =
     let k = c .before in
@@ -24,9 +21,6 @@ put-slots-requires c κs =
     let r = row-says _ _ _ _ (x .0) in
     (r .words, λ h. omega (arith, r .short, x .1 h))
 
-same-length : tie.Need-same-length
-same-length c = search needs
-
 returns : tie.Need-returns
 unfolding rowStretchOf
 returns c =
@@ -34,9 +28,6 @@ returns c =
       sym (k .if1 .taken) ∙ said _ (k .before .row-stretch-no .ensures),
       work-is _ _ (said _ (k .before .row-stretch-no .ensures)) (k .if1 .taken) _ _ _ (c .before .before .put-slots .ensures),
     )
-
-same-length-2 : tie.Need-same-length-2
-same-length-2 c = search needs
 
 returns-2 : tie.Need-returns-2
 unfolding rowStretchOf
@@ -47,10 +38,10 @@ pub put-stretch-spec : {M : Type 1} → statement M
 put-stretch-spec =
     tie.close
     (tie.spec
-    row-stretch-no-requires
+    (λ c κs. search needs)
     mul-put-slots
     put-slots-requires
-    same-length
+    (λ c. search needs)
     returns
-    same-length-2
+    (λ c. search needs)
     returns-2)

@@ -7,9 +7,6 @@ use Rattle.slotset.proofs.Refusals.{row-says, run-is, run-no}
 use Rattle.slotset.proofs.row.run_bounds.Statement.{statement}
 use Rattle.slotset.proofs.row.run_bounds.Tie as tie
 
-row-no-requires : tie.Need-row-no-requires
-row-no-requires c κs = search needs
-
 mul-run-bounds : tie.Need-mul-run-bounds
 mul-run-bounds c =
     let r = row-says _ _ _ _ (sym (said _ (c .before .row-no .ensures)) ∙ c .if1 .taken) in
@@ -27,4 +24,4 @@ returns-2 : tie.Need-returns-2
 returns-2 c = run-no _ _ (said _ (c .before .row-no .ensures)) (c .if1 .left) _ _ _
 
 pub run-bounds-spec : {M : Type 1} → statement M
-run-bounds-spec = tie.close (tie.spec row-no-requires mul-run-bounds run-bounds-requires returns returns-2)
+run-bounds-spec = tie.close (tie.spec (λ c κs. search needs) mul-run-bounds run-bounds-requires returns returns-2)

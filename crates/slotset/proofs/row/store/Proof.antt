@@ -9,12 +9,6 @@ use Rattle.slotset.proofs.Refusals.{row-says, work-is, old-is}
 use Rattle.slotset.proofs.row.store.Statement.{statement}
 use Rattle.slotset.proofs.row.store.Tie as tie
 
-row-no-requires : tie.Need-row-no-requires
-row-no-requires c κs = search needs
-
-slice-aggregate-copy-slots : tie.Need-slice-aggregate-copy-slots
-slice-aggregate-copy-slots c = search needs
-
 mul-copy-slots : tie.Need-mul-copy-slots
 mul-copy-slots c =
     let k = c .before .before .before in
@@ -28,9 +22,6 @@ copy-slots-requires c κs =
     let r = row-says _ _ _ _ (sym (said _ (k .before .row-no .ensures)) ∙ k .if1 .taken) in
     (r .words, r .short, n)
 
-same-length : tie.Need-same-length
-same-length c = search needs
-
 returns : tie.Need-returns
 unfolding storeOf
 returns c =
@@ -38,9 +29,6 @@ returns c =
       sym (k .if1 .taken) ∙ said _ (k .before .row-no .ensures),
       work-is _ _ (said _ (k .before .row-no .ensures)) (k .if1 .taken) _ _ _ (c .before .before .copy-slots .ensures),
     )
-
-same-length-2 : tie.Need-same-length-2
-same-length-2 c = search needs
 
 returns-2 : tie.Need-returns-2
 unfolding storeOf
@@ -50,11 +38,11 @@ pub store-spec : {M : Type 1} → statement M
 store-spec =
     tie.close
     (tie.spec
-    row-no-requires
-    slice-aggregate-copy-slots
+    (λ c κs. search needs)
+    (λ c. search needs)
     mul-copy-slots
     copy-slots-requires
-    same-length
+    (λ c. search needs)
     returns
-    same-length-2
+    (λ c. search needs)
     returns-2)

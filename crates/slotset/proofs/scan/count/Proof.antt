@@ -8,24 +8,6 @@ use Rattle.slotset.proofs.Counts.{count-add}
 use Rattle.slotset.proofs.scan.count.Statement.{statement}
 use Rattle.slotset.proofs.scan.count.Tie as tie
 
-count-words-requires : tie.Need-count-words-requires
-count-words-requires c κs = search needs
-
-add-ones-below : tie.Need-add-ones-below
-add-ones-below c = search needs
-
-mul-ones-below : tie.Need-mul-ones-below
-mul-ones-below c = search needs
-
-shared-slice-read-ones-below : tie.Need-shared-slice-read-ones-below
-shared-slice-read-ones-below c = search needs
-
-ones-below-requires : tie.Need-ones-below-requires
-ones-below-requires c κs = search needs
-
-add-result : tie.Need-add-result
-add-result c = search needs
-
 returns : tie.Need-returns
 returns c =
     let b = c .before .before .before in
@@ -45,11 +27,11 @@ pub count-spec : {M : Type 1} → statement M
 count-spec =
     tie.close
     (tie.spec
-    count-words-requires
-    add-ones-below
-    mul-ones-below
-    shared-slice-read-ones-below
-    ones-below-requires
-    add-result
+    (λ c κs. search needs)
+    (λ c. search needs)
+    (λ c. search needs)
+    (λ c. search needs)
+    (λ c κs. search needs)
+    (λ c. search needs)
     returns
     returns-2)

@@ -19,27 +19,6 @@ loop-holds : tie.Need-loop-holds Inv-loop μ-loop
 unfolding size sum
 loop-holds c = (omega arith, refl, omega arith)
 
-add-ones-below : tie.Need-add-ones-below Inv-loop μ-loop
-add-ones-below c = search needs
-
-mul-ones-below : tie.Need-mul-ones-below Inv-loop μ-loop
-mul-ones-below c = search needs
-
-shared-slice-read-ones-below : tie.Need-shared-slice-read-ones-below Inv-loop μ-loop
-shared-slice-read-ones-below c = search needs
-
-ones-below-requires : tie.Need-ones-below-requires Inv-loop μ-loop
-ones-below-requires c κs = search needs
-
-add-n : tie.Need-add-n Inv-loop μ-loop
-add-n c = search needs
-
-add-j : tie.Need-add-j Inv-loop μ-loop
-add-j c = search needs
-
-loop-less : tie.Need-loop-less Inv-loop μ-loop
-loop-less c = search needs
-
 loop-again : tie.Need-loop-again Inv-loop μ-loop
 loop-again c =
     let l = c .before .before .before in
@@ -65,12 +44,12 @@ count-words-spec =
     Inv-loop
     μ-loop
     loop-holds
-    add-ones-below
-    mul-ones-below
-    shared-slice-read-ones-below
-    ones-below-requires
-    add-n
-    add-j
-    loop-less
+    (λ c. search needs)
+    (λ c. search needs)
+    (λ c. search needs)
+    (λ c κs. search needs)
+    (λ c. search needs)
+    (λ c. search needs)
+    (λ c. search needs)
     loop-again
     returns)

@@ -8,18 +8,6 @@ use Rattle.slotset.proofs.Puts.{slot-lt}
 use Rattle.slotset.proofs.scan.is_empty.Statement.{statement}
 use Rattle.slotset.proofs.scan.is_empty.Tie as tie
 
-next-with-requires : tie.Need-next-with-requires
-next-with-requires c κs = search needs
-
-enum-told : tie.Need-enum-told
-enum-told c = search needs
-
-enum-told-2 : tie.Need-enum-told-2
-enum-told-2 c = search needs
-
-enum-told-3 : tie.Need-enum-told-3
-enum-told-3 c = search needs
-
 returns : tie.Need-returns
 returns c =
     let s = c .before .before .before .before .args in
@@ -43,4 +31,4 @@ returns-3 c =
 pub is-empty-spec : {M : Type 1} → statement M
 is-empty-spec =
     tie.close
-    (tie.spec next-with-requires enum-told enum-told-2 enum-told-3 returns returns-2 returns-3)
+    (tie.spec (λ c κs. search needs) (λ c. search needs) (λ c. search needs) (λ c. search needs) returns returns-2 returns-3)

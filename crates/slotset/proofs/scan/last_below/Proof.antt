@@ -7,27 +7,6 @@ use Rattle.slotset.proofs.Scans.{word-before, word-last}
 use Rattle.slotset.proofs.scan.last_below.Statement.{statement}
 use Rattle.slotset.proofs.scan.last_below.Tie as tie
 
-least-requires : tie.Need-least-requires
-least-requires c κs = search needs
-
-sub-last : tie.Need-sub-last
-sub-last c = search needs
-
-add-last-bit : tie.Need-add-last-bit
-add-last-bit c = search needs
-
-mul-last-bit : tie.Need-mul-last-bit
-mul-last-bit c = search needs
-
-shared-slice-read-last-bit : tie.Need-shared-slice-read-last-bit
-shared-slice-read-last-bit c = search needs
-
-last-bit-requires : tie.Need-last-bit-requires
-last-bit-requires c κs = search needs
-
-last-in-words-requires : tie.Need-last-in-words-requires
-last-in-words-requires c κs = search needs
-
 returns : tie.Need-returns
 unfolding lastBelow
 returns c =
@@ -36,15 +15,6 @@ returns c =
     c .last-in-words .ensures
     ∙ sym (ap (down _ _) (sym (end .ensures))
     ∙ word-before _ _ _ _ _ _ (omega arith) (b .last-bit .ensures) (end .result) (omega arith) (c .before .if2 .taken))
-
-mul-t11 : tie.Need-mul-t11
-mul-t11 c = search needs
-
-add-t12 : tie.Need-add-t12
-add-t12 c = search needs
-
-sub-t15 : tie.Need-sub-t15
-sub-t15 c = search needs
 
 returns-2 : tie.Need-returns-2
 unfolding lastBelow
@@ -64,16 +34,16 @@ pub last-below-spec : {M : Type 1} → statement M
 last-below-spec =
     tie.close
     (tie.spec
-    least-requires
-    sub-last
-    add-last-bit
-    mul-last-bit
-    shared-slice-read-last-bit
-    last-bit-requires
-    last-in-words-requires
+    (λ c κs. search needs)
+    (λ c. search needs)
+    (λ c. search needs)
+    (λ c. search needs)
+    (λ c. search needs)
+    (λ c κs. search needs)
+    (λ c κs. search needs)
     returns
-    mul-t11
-    add-t12
-    sub-t15
+    (λ c. search needs)
+    (λ c. search needs)
+    (λ c. search needs)
     returns-2
     returns-3)

@@ -20,37 +20,10 @@ abbrev μ-loop : tie.MeasureT-loop
 loop-holds : tie.Need-loop-holds Inv-loop μ-loop
 loop-holds c = (search needs, refl)
 
-sub-j : tie.Need-sub-j Inv-loop μ-loop
-sub-j c = search needs
-
-add-last-bit : tie.Need-add-last-bit Inv-loop μ-loop
-add-last-bit c = search needs
-
-mul-last-bit : tie.Need-mul-last-bit Inv-loop μ-loop
-mul-last-bit c = search needs
-
-shared-slice-read-last-bit : tie.Need-shared-slice-read-last-bit Inv-loop μ-loop
-shared-slice-read-last-bit c = search needs
-
-last-bit-requires : tie.Need-last-bit-requires Inv-loop μ-loop
-last-bit-requires c κs = search needs
-
-loop-less : tie.Need-loop-less Inv-loop μ-loop
-loop-less c = search needs
-
 loop-again : tie.Need-loop-again Inv-loop μ-loop
 loop-again c =
     let l = c .before .before .before .before in
     (search needs, l .loop .inv .1 ∙ word-before _ _ _ _ 63 _ (omega arith) (c .before .last-bit .ensures) _ (omega arith) (c .if1 .taken))
-
-mul-t13 : tie.Need-mul-t13 Inv-loop μ-loop
-mul-t13 c = search needs
-
-add-t14 : tie.Need-add-t14 Inv-loop μ-loop
-add-t14 c = search needs
-
-sub-t15 : tie.Need-sub-t15 Inv-loop μ-loop
-sub-t15 c = search needs
 
 returns : tie.Need-returns Inv-loop μ-loop
 returns c =
@@ -70,15 +43,15 @@ last-in-words-spec =
     Inv-loop
     μ-loop
     loop-holds
-    sub-j
-    add-last-bit
-    mul-last-bit
-    shared-slice-read-last-bit
-    last-bit-requires
-    loop-less
+    (λ c. search needs)
+    (λ c. search needs)
+    (λ c. search needs)
+    (λ c. search needs)
+    (λ c κs. search needs)
+    (λ c. search needs)
     loop-again
-    mul-t13
-    add-t14
-    sub-t15
+    (λ c. search needs)
+    (λ c. search needs)
+    (λ c. search needs)
     returns
     returns-2)

@@ -20,40 +20,10 @@ abbrev μ-loop : tie.MeasureT-loop
 loop-holds : tie.Need-loop-holds Inv-loop μ-loop
 loop-holds c = (search needs, refl)
 
-mul-loop : tie.Need-mul-loop Inv-loop μ-loop
-mul-loop c = search needs
-
-add-first-bit : tie.Need-add-first-bit Inv-loop μ-loop
-add-first-bit c = search needs
-
-mul-first-bit : tie.Need-mul-first-bit Inv-loop μ-loop
-mul-first-bit c = search needs
-
-shared-slice-read-first-bit : tie.Need-shared-slice-read-first-bit Inv-loop μ-loop
-shared-slice-read-first-bit c = search needs
-
-first-bit-requires : tie.Need-first-bit-requires Inv-loop μ-loop
-first-bit-requires c κs = search needs
-
-add-j : tie.Need-add-j Inv-loop μ-loop
-add-j c = search needs
-
-loop-less : tie.Need-loop-less Inv-loop μ-loop
-loop-less c = search needs
-
 loop-again : tie.Need-loop-again Inv-loop μ-loop
 loop-again c =
     let l = c .before .before .before .before in
     (search needs, l .loop .inv .1 ∙ word-next _ _ _ _ _ _ _ (c .before .first-bit .ensures) _ (omega arith) (c .if1 .taken))
-
-mul-found-below : tie.Need-mul-found-below Inv-loop μ-loop
-mul-found-below c = search needs
-
-add-found-below : tie.Need-add-found-below Inv-loop μ-loop
-add-found-below c = search needs
-
-found-below-requires : tie.Need-found-below-requires Inv-loop μ-loop
-found-below-requires c κs = search needs
 
 returns : tie.Need-returns Inv-loop μ-loop
 returns c =
@@ -72,16 +42,16 @@ next-in-words-spec =
     Inv-loop
     μ-loop
     loop-holds
-    mul-loop
-    add-first-bit
-    mul-first-bit
-    shared-slice-read-first-bit
-    first-bit-requires
-    add-j
-    loop-less
+    (λ c. search needs)
+    (λ c. search needs)
+    (λ c. search needs)
+    (λ c. search needs)
+    (λ c κs. search needs)
+    (λ c. search needs)
+    (λ c. search needs)
     loop-again
-    mul-found-below
-    add-found-below
-    found-below-requires
+    (λ c. search needs)
+    (λ c. search needs)
+    (λ c κs. search needs)
     returns
     returns-2)

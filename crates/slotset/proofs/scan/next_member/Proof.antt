@@ -9,9 +9,6 @@ use Rattle.slotset.proofs.Meaning.{next-is, first-below, below-more}
 use Rattle.slotset.proofs.scan.next_member.Statement.{statement}
 use Rattle.slotset.proofs.scan.next_member.Tie as tie
 
-next-with-requires : tie.Need-next-with-requires
-next-with-requires c κs = search needs
-
 member-step-requires : tie.Need-member-step-requires
 member-step-requires c κs =
     let s = c .before .before .args in
@@ -25,4 +22,4 @@ unfolding nextMemberAs unless
 returns c = c .member-step .ensures ∙ ap memberStep (c .before .next-with .ensures)
 
 pub next-member-spec : {M : Type 1} → statement M
-next-member-spec = tie.close (tie.spec next-with-requires member-step-requires returns)
+next-member-spec = tie.close (tie.spec (λ c κs. search needs) member-step-requires returns)

@@ -15,12 +15,6 @@ use Rattle.slotset.proofs.Runs.{first-above, end-lt, next-after}
 use Rattle.slotset.proofs.scan.next_run.Statement.{statement}
 use Rattle.slotset.proofs.scan.next_run.Tie as tie
 
-next-with-requires : tie.Need-next-with-requires
-next-with-requires c κs = search needs
-
-enum-known-found : tie.Need-enum-known-found
-enum-known-found c = search needs
-
 add-next-with : tie.Need-add-next-with
 add-next-with c =
     let n = c .before .before .before in
@@ -28,9 +22,6 @@ add-next-with c =
     let f = slot (s .words .now) (s .base) in
     let w = subst (First 1 f (s .len) (s .at)) (sym (n .next-with .ensures) ∙ c .before .found .given .1) (next-is 1 f (s .len) (s .at)) in
     omega (arith, w .1, n .before .before .pre .1)
-
-next-with-requires-2 : tie.Need-next-with-requires-2
-next-with-requires-2 c κs = search needs
 
 end-of-requires : tie.Need-end-of-requires
 end-of-requires c κs =
@@ -61,12 +52,6 @@ add-t11 c =
       n .before .before .pre .1,
     )
 
-enum-told : tie.Need-enum-told
-enum-told c = search needs
-
-enum-known-found-2 : tie.Need-enum-known-found-2
-enum-known-found-2 c = search needs
-
 returns : tie.Need-returns
 unfolding nextRunAs unless
 returns c =
@@ -96,14 +81,14 @@ pub next-run-spec : {M : Type 1} → statement M
 next-run-spec =
     tie.close
     (tie.spec
-    next-with-requires
-    enum-known-found
+    (λ c κs. search needs)
+    (λ c. search needs)
     add-next-with
-    next-with-requires-2
+    (λ c κs. search needs)
     end-of-requires
     add-t11
-    enum-told
-    enum-known-found-2
+    (λ c. search needs)
+    (λ c. search needs)
     returns
     returns-2
     returns-3)

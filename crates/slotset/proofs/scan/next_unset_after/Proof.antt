@@ -7,12 +7,6 @@ use Rattle.slotset.proofs.Runs.{next-after}
 use Rattle.slotset.proofs.scan.next_unset_after.Statement.{statement}
 use Rattle.slotset.proofs.scan.next_unset_after.Tie as tie
 
-add-next-with : tie.Need-add-next-with
-add-next-with c = search needs
-
-next-with-requires : tie.Need-next-with-requires
-next-with-requires c κs = search needs
-
 returns : tie.Need-returns
 returns c = c .next-with .ensures ∙ next-after 0 _ _ _
 
@@ -20,4 +14,4 @@ returns-2 : tie.Need-returns-2
 returns-2 c = sym (next-end 0 _ _ _ (omega (arith, c .if1 .left)))
 
 pub next-unset-after-spec : {M : Type 1} → statement M
-next-unset-after-spec = tie.close (tie.spec add-next-with next-with-requires returns returns-2)
+next-unset-after-spec = tie.close (tie.spec (λ c. search needs) (λ c κs. search needs) returns returns-2)

@@ -9,15 +9,6 @@ use Rattle.slotset.proofs.Meaning.{last-lowered}
 use Rattle.slotset.proofs.scan.prev_set.Statement.{statement}
 use Rattle.slotset.proofs.scan.prev_set.Tie as tie
 
-add-last-below : tie.Need-add-last-below
-add-last-below c = search needs
-
-last-below-requires : tie.Need-last-below-requires
-last-below-requires c κs = search needs
-
-last-below-requires-2 : tie.Need-last-below-requires-2
-last-below-requires-2 c κs = search needs
-
 returns : tie.Need-returns
 returns c =
     let s = c .before .before .before .args in
@@ -28,4 +19,4 @@ returns-2 c = c .last-below2 .ensures ∙ last-lowered 1 _ _ _ (omega (arith, c 
 
 pub prev-set-spec : {M : Type 1} → statement M
 prev-set-spec =
-    tie.close (tie.spec add-last-below last-below-requires last-below-requires-2 returns returns-2)
+    tie.close (tie.spec (λ c. search needs) (λ c κs. search needs) (λ c κs. search needs) returns returns-2)

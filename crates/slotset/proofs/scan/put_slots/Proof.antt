@@ -19,9 +19,6 @@ Inv-loop words₀ base want from to x at₀ words at =
 abbrev μ-loop : tie.MeasureT-loop
 μ-loop words₀ base want from to x at₀ words at = to - at
 
-every-requires : tie.Need-every-requires Inv-loop μ-loop
-every-requires c κs = search needs
-
 loop-holds : tie.Need-loop-holds Inv-loop μ-loop
 loop-holds c =
     let a = c .before .before .args in
@@ -33,48 +30,15 @@ loop-holds c =
       refl,
     )
 
-mul-least : tie.Need-mul-least Inv-loop μ-loop
-mul-least c = search needs
-
-sub-least : tie.Need-sub-least Inv-loop μ-loop
-sub-least c = search needs
-
-least-requires : tie.Need-least-requires Inv-loop μ-loop
-least-requires c κs = search needs
-
-add-merge : tie.Need-add-merge Inv-loop μ-loop
-add-merge c = search needs
-
-mul-merge : tie.Need-mul-merge Inv-loop μ-loop
-mul-merge c = search needs
-
 slice-read-merge : tie.Need-slice-read-merge Inv-loop μ-loop
 slice-read-merge c =
     let l = c .before .before .before in
     omega (arith, l .before .before .before .pre .1 (omega arith), l .loop .inv .4)
 
-merge-requires : tie.Need-merge-requires Inv-loop μ-loop
-merge-requires c κs = search needs
-
-add-words : tie.Need-add-words Inv-loop μ-loop
-add-words c = search needs
-
-mul-words : tie.Need-mul-words Inv-loop μ-loop
-mul-words c = search needs
-
 slice-write-words : tie.Need-slice-write-words Inv-loop μ-loop
 slice-write-words c =
     let l = c .before .before .before .before in
     omega (arith, l .before .before .before .pre .1 (omega arith), l .loop .inv .4)
-
-mul-at : tie.Need-mul-at Inv-loop μ-loop
-mul-at c = search needs
-
-add-at : tie.Need-add-at Inv-loop μ-loop
-add-at c = search needs
-
-loop-less : tie.Need-loop-less Inv-loop μ-loop
-loop-less c = search needs
 
 loop-again : tie.Need-loop-again Inv-loop μ-loop
 loop-again c =
@@ -112,21 +76,21 @@ put-slots-spec =
     (tie.spec
     Inv-loop
     μ-loop
-    every-requires
+    (λ c κs. search needs)
     loop-holds
-    mul-least
-    sub-least
-    least-requires
-    add-merge
-    mul-merge
+    (λ c. search needs)
+    (λ c. search needs)
+    (λ c κs. search needs)
+    (λ c. search needs)
+    (λ c. search needs)
     slice-read-merge
-    merge-requires
-    add-words
-    mul-words
+    (λ c κs. search needs)
+    (λ c. search needs)
+    (λ c. search needs)
     slice-write-words
-    mul-at
-    add-at
-    loop-less
+    (λ c. search needs)
+    (λ c. search needs)
+    (λ c. search needs)
     loop-again
     same-length
     returns)

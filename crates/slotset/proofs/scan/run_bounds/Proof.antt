@@ -15,12 +15,6 @@ use Rattle.slotset.proofs.Runs.{has-member, start-le, first-above, next
 use Rattle.slotset.proofs.scan.run_bounds.Statement.{statement}
 use Rattle.slotset.proofs.scan.run_bounds.Tie as tie
 
-contains-requires : tie.Need-contains-requires
-contains-requires c κs = search needs
-
-last-below-requires : tie.Need-last-below-requires
-last-below-requires c κs = search needs
-
 start-of-requires : tie.Need-start-of-requires
 start-of-requires c κs =
     let b = c .before .before .before .before in
@@ -36,9 +30,6 @@ add-next-with c =
     let m = has-member (slot (s .words .now) (s .base)) (s .len) (s .i)
     (sym (c .before .before .before .contains .ensures) ∙ c .before .before .if1 .taken) in
     omega (arith, m .0, b .pre .1)
-
-next-with-requires : tie.Need-next-with-requires
-next-with-requires c κs = search needs
 
 end-of-requires : tie.Need-end-of-requires
 end-of-requires c κs =
@@ -68,11 +59,11 @@ pub run-bounds-spec : {M : Type 1} → statement M
 run-bounds-spec =
     tie.close
     (tie.spec
-    contains-requires
-    last-below-requires
+    (λ c κs. search needs)
+    (λ c κs. search needs)
     start-of-requires
     add-next-with
-    next-with-requires
+    (λ c κs. search needs)
     end-of-requires
     returns
     returns-2)

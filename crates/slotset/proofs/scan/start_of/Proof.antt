@@ -6,17 +6,8 @@ use Rattle.slotset.specs.Runs.{startOf}
 use Rattle.slotset.proofs.scan.start_of.Statement.{statement}
 use Rattle.slotset.proofs.scan.start_of.Tie as tie
 
-enum-known-f : tie.Need-enum-known-f
-enum-known-f c = search needs
-
 add-result : tie.Need-add-result
 add-result c = omega (arith, ap startOf (c .before .f .given .1), c .before .before .before .pre)
-
-enum-told : tie.Need-enum-told
-enum-told c = search needs
-
-enum-told-2 : tie.Need-enum-told-2
-enum-told-2 c = search needs
 
 returns : tie.Need-returns
 returns c = sym (ap startOf (c .before .f .given .1))
@@ -29,4 +20,4 @@ returns-3 c = sym (ap startOf (c .enum-told2 .given .1))
 
 pub start-of-spec : {M : Type 1} → statement M
 start-of-spec =
-    tie.close (tie.spec enum-known-f add-result enum-told enum-told-2 returns returns-2 returns-3)
+    tie.close (tie.spec (λ c. search needs) add-result (λ c. search needs) (λ c. search needs) returns returns-2 returns-3)

@@ -8,12 +8,9 @@ use Rattle.paper.specs.Bits.{bitOf}
 use Rattle.slotset.proofs.word.bit.Statement.{statement}
 use Rattle.slotset.proofs.word.bit.Tie as tie
 
-shr-result : tie.Need-shr-result
-shr-result c = search needs
-
 returns : tie.Need-returns
 unfolding bitOf
 returns c = ap (λ (x : ℕ). eqb x 1) (and-mask (c .args .w / 2 ^ c .args .k) 1)
 
 pub bit-spec : {M : Type 1} → statement M
-bit-spec = tie.close (tie.spec shr-result returns)
+bit-spec = tie.close (tie.spec (λ c. search needs) returns)

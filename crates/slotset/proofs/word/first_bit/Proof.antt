@@ -6,12 +6,6 @@ use Rattle.slotset.proofs.Words.{first-law}
 use Rattle.slotset.proofs.word.first_bit.Statement.{statement}
 use Rattle.slotset.proofs.word.first_bit.Tie as tie
 
-wanted-requires : tie.Need-wanted-requires
-wanted-requires c κs = search needs
-
-shl-x : tie.Need-shl-x
-shl-x c = search needs
-
 cast-result : tie.Need-cast-result
 cast-result c = fits-le (trailing-le 64 _) (fits-lit tt)
 
@@ -19,4 +13,4 @@ returns : tie.Need-returns
 returns c = first-law _ _ _ _ (c .wanted .ensures) (search needs)
 
 pub first-bit-spec : {M : Type 1} → statement M
-first-bit-spec = tie.close (tie.spec wanted-requires shl-x cast-result returns)
+first-bit-spec = tie.close (tie.spec (λ c κs. search needs) (λ c. search needs) cast-result returns)

@@ -11,15 +11,6 @@ use Rattle.slotset.proofs.Words.{last-law}
 use Rattle.slotset.proofs.word.last_bit.Statement.{statement}
 use Rattle.slotset.proofs.word.last_bit.Tie as tie
 
-wanted-requires : tie.Need-wanted-requires
-wanted-requires c κs = search needs
-
-sub-x : tie.Need-sub-x
-sub-x c = search needs
-
-shr-x : tie.Need-shr-x
-shr-x c = search needs
-
 cast-result : tie.Need-cast-result
 cast-result c = fits-le (leading-le 64 _) (fits-lit tt)
 
@@ -35,4 +26,4 @@ returns c =
     rw e (last-law _ _ _ _ _ (c .wanted .ensures) (c .before .pre) (t .2) (t .3))
 
 pub last-bit-spec : {M : Type 1} → statement M
-last-bit-spec = tie.close (tie.spec wanted-requires sub-x shr-x cast-result sub-result returns)
+last-bit-spec = tie.close (tie.spec (λ c κs. search needs) (λ c. search needs) (λ c. search needs) cast-result sub-result returns)

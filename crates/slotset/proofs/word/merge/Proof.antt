@@ -4,17 +4,8 @@ use Rattle.slotset.proofs.Words.{merge-law}
 use Rattle.slotset.proofs.word.merge.Statement.{statement}
 use Rattle.slotset.proofs.word.merge.Tie as tie
 
-shl-mask : tie.Need-shl-mask
-shl-mask c = search needs
-
-sub-mask : tie.Need-sub-mask
-sub-mask c = search needs
-
-shr-mask : tie.Need-shr-mask
-shr-mask c = search needs
-
 returns : tie.Need-returns
 returns c = merge-law _ _ _ _ (c .pre .0) (c .pre .1)
 
 pub merge-spec : {M : Type 1} → statement M
-merge-spec = tie.close (tie.spec shl-mask sub-mask shr-mask returns)
+merge-spec = tie.close (tie.spec (λ c. search needs) (λ c. search needs) (λ c. search needs) returns)

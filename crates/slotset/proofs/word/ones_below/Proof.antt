@@ -11,9 +11,6 @@ use Rattle.slotset.proofs.Words.{ones-mod, ones-masked, one-shl, bits-l
 use Rattle.slotset.proofs.word.ones_below.Statement.{statement}
 use Rattle.slotset.proofs.word.ones_below.Tie as tie
 
-shl-result : tie.Need-shl-result
-shl-result c = search needs
-
 sub-result : tie.Need-sub-result
 sub-result c = omega (arith, one-shl (c .before .args .k) (c .if1 .taken), pow-pos (c .before .args .k))
 
@@ -42,4 +39,4 @@ returns-2 c =
 
 pub ones-below-spec : {M : Type 1} → statement M
 ones-below-spec =
-    tie.close (tie.spec shl-result sub-result cast-result cast-result-2 returns returns-2)
+    tie.close (tie.spec (λ c. search needs) sub-result cast-result cast-result-2 returns returns-2)

@@ -46,12 +46,6 @@ add-total c =
     let h = available-part (a .slots) (a .starts .now) (a .ends .now) (a .avail .now) (a .person) (e .pre .1) (p .loop .k + 1) n in
     omega (arith, more c, h)
 
-add-k : tie.Need-add-k Inv-loop μ-loop
-add-k c = omega arith
-
-loop-less : tie.Need-loop-less Inv-loop μ-loop
-loop-less c = omega arith
-
 loop-again : tie.Need-loop-again Inv-loop μ-loop
 loop-again c = (omega arith, more c)
 
@@ -72,7 +66,7 @@ available-minutes-spec =
     loop-holds
     minutes-if-available-requires
     add-total
-    add-k
-    loop-less
+    (λ c. omega arith)
+    (λ c. omega arith)
     loop-again
     returns)

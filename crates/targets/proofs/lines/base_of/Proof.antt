@@ -7,12 +7,9 @@ use Rattle.targets.proofs.lines.base_of.Tie as tie
 returns : tie.Need-returns
 returns c = rw (eq-eqb (c .before .before .before .before .args .fairness) 1 (c .if1 .taken))
 
-available-minutes-requires : tie.Need-available-minutes-requires
-available-minutes-requires c κs = search needs
-
 returns-2 : tie.Need-returns-2
 returns-2 c =
     rw (ne-eqb (c .before .before .before .before .before .args .fairness) 1 (c .before .if1 .left)) (c .available-minutes .ensures)
 
 pub base-of-spec : {M : Type 1} → statement M
-base-of-spec = tie.close (tie.spec returns available-minutes-requires returns-2)
+base-of-spec = tie.close (tie.spec returns (λ c κs. search needs) returns-2)

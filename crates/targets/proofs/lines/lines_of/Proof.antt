@@ -33,16 +33,10 @@ loop-holds : tie.Need-loop-holds Inv-loop μ-loop
 unfolding ofBits
 loop-holds c = (search needs, refl)
 
-mul-t18 : tie.Need-mul-t18 Inv-loop μ-loop
-mul-t18 c = omega arith
-
 shared-slice-read-t20 : tie.Need-shared-slice-read-t20 Inv-loop μ-loop
 shared-slice-read-t20 c =
     let s = c .before .before .before .before .before .before .before .before .pre .0 in
     omega (arith, s .capacities-room)
-
-mul-t21 : tie.Need-mul-t21 Inv-loop μ-loop
-mul-t21 c = omega arith
 
 shared-slice-read-t23 : tie.Need-shared-slice-read-t23 Inv-loop μ-loop
 shared-slice-read-t23 c =
@@ -56,22 +50,10 @@ base-of-requires c κs =
       s .ordered,
     )
 
-line-of-requires : tie.Need-line-of-requires Inv-loop μ-loop
-line-of-requires c κs = search needs
-
-mul-out : tie.Need-mul-out Inv-loop μ-loop
-mul-out c = omega arith
-
 array-set-from-out : tie.Need-array-set-from-out Inv-loop μ-loop
 array-set-from-out c =
     let s = c .before .before .before .before .before .before .before .before .before .before .before .pre .0 in
     omega (arith, s .few)
-
-add-i : tie.Need-add-i Inv-loop μ-loop
-add-i c = omega arith
-
-loop-less : tie.Need-loop-less Inv-loop μ-loop
-loop-less c = omega arith
 
 loop-again : tie.Need-loop-again Inv-loop μ-loop
 loop-again c =
@@ -97,15 +79,15 @@ lines-of-spec =
     Inv-loop
     μ-loop
     loop-holds
-    mul-t18
+    (λ c. omega arith)
     shared-slice-read-t20
-    mul-t21
+    (λ c. omega arith)
     shared-slice-read-t23
     base-of-requires
-    line-of-requires
-    mul-out
+    (λ c κs. search needs)
+    (λ c. omega arith)
     array-set-from-out
-    add-i
-    loop-less
+    (λ c. omega arith)
+    (λ c. omega arith)
     loop-again
     returns)

@@ -4,21 +4,6 @@ use Rattle.targets.proofs.Minutes.{told-yes, told-no, told-refused}
 use Rattle.targets.proofs.lines.minutes_if_available.Statement.{statement}
 use Rattle.targets.proofs.lines.minutes_if_available.Tie as tie
 
-contains-requires : tie.Need-contains-requires
-contains-requires c κs = search needs
-
-enum-told : tie.Need-enum-told
-enum-told c = search needs
-
-minutes-at-requires : tie.Need-minutes-at-requires
-minutes-at-requires c κs = search needs
-
-enum-told-2 : tie.Need-enum-told-2
-enum-told-2 c = search needs
-
-enum-told-3 : tie.Need-enum-told-3
-enum-told-3 c = search needs
-
 returns : tie.Need-returns
 returns c =
     let p = c .before .before .before in
@@ -48,11 +33,11 @@ pub minutes-if-available-spec : {M : Type 1} → statement M
 minutes-if-available-spec =
     tie.close
     (tie.spec
-    contains-requires
-    enum-told
-    minutes-at-requires
-    enum-told-2
-    enum-told-3
+    (λ c κs. search needs)
+    (λ c. search needs)
+    (λ c κs. search needs)
+    (λ c. search needs)
+    (λ c. search needs)
     returns
     returns-2
     returns-3)

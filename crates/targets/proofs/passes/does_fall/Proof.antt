@@ -4,15 +4,9 @@ use borrow.Author.Needs.{needs}
 use Rattle.targets.proofs.passes.does_fall.Statement.{statement}
 use Rattle.targets.proofs.passes.does_fall.Tie as tie
 
-returns : tie.Need-returns
-returns c = search needs
-
-unrounded-of-requires : tie.Need-unrounded-of-requires
-unrounded-of-requires c κs = search needs
-
 returns-2 : tie.Need-returns-2
 unfolding ofBits
 returns-2 c = rw (c .before .if1 .left, c .unrounded-of .ensures)
 
 pub does-fall-spec : {M : Type 1} → statement M
-does-fall-spec = tie.close (tie.spec returns unrounded-of-requires returns-2)
+does-fall-spec = tie.close (tie.spec (λ c. search needs) (λ c κs. search needs) returns-2)

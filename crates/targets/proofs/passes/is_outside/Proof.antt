@@ -3,15 +3,6 @@ use borrow.Author.Needs.{needs}
 use Rattle.targets.proofs.passes.is_outside.Statement.{statement}
 use Rattle.targets.proofs.passes.is_outside.Tie as tie
 
-returns : tie.Need-returns
-returns c = search needs
-
-unrounded-of-requires : tie.Need-unrounded-of-requires
-unrounded-of-requires c κs = search needs
-
-is-within-requires : tie.Need-is-within-requires
-is-within-requires c κs = search needs
-
 returns-2 : tie.Need-returns-2
 returns-2 c =
     rw (c .before .before .before .if1 .left, ← c .before .before .unrounded-of .ensures, ← c .before .is-within .ensures, c .if2 .taken)
@@ -21,4 +12,4 @@ returns-3 c =
     rw (c .before .before .before .if1 .left, ← c .before .before .unrounded-of .ensures, ← c .before .is-within .ensures, c .if2 .left)
 
 pub is-outside-spec : {M : Type 1} → statement M
-is-outside-spec = tie.close (tie.spec returns unrounded-of-requires is-within-requires returns-2 returns-3)
+is-outside-spec = tie.close (tie.spec (λ c. search needs) (λ c κs. search needs) (λ c κs. search needs) returns-2 returns-3)

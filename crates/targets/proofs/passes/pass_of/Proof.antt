@@ -4,27 +4,6 @@ use borrow.Author.Needs.{needs}
 use Rattle.targets.proofs.passes.pass_of.Statement.{statement}
 use Rattle.targets.proofs.passes.pass_of.Tie as tie
 
-enum-told : tie.Need-enum-told
-enum-told c = search needs
-
-notional-of-requires : tie.Need-notional-of-requires
-notional-of-requires c κs = search needs
-
-nearest-u64-to-f64-requires : tie.Need-nearest-u64-to-f64-requires
-nearest-u64-to-f64-requires c κs = search needs
-
-share-sum-requires : tie.Need-share-sum-requires
-share-sum-requires c κs = search needs
-
-passed-over-requires : tie.Need-passed-over-requires
-passed-over-requires c κs = search needs
-
-enum-told-2 : tie.Need-enum-told-2
-enum-told-2 c = search needs
-
-enum-told-3 : tie.Need-enum-told-3
-enum-told-3 c = search needs
-
 returns : tie.Need-returns
 unfolding pass
 returns c =
@@ -45,13 +24,13 @@ pub pass-of-spec : {M : Type 1} → statement M
 pass-of-spec =
     tie.close
     (tie.spec
-    enum-told
-    notional-of-requires
-    nearest-u64-to-f64-requires
-    share-sum-requires
-    passed-over-requires
-    enum-told-2
-    enum-told-3
+    (λ c. search needs)
+    (λ c κs. search needs)
+    (λ c κs. search needs)
+    (λ c κs. search needs)
+    (λ c κs. search needs)
+    (λ c. search needs)
+    (λ c. search needs)
     returns
     returns-2
     returns-3)

@@ -5,18 +5,12 @@ use borrow.Author.Needs.{needs}
 use Rattle.targets.proofs.passes.passed_over.Statement.{statement}
 use Rattle.targets.proofs.passes.passed_over.Tie as tie
 
-some-outside-requires : tie.Need-some-outside-requires
-some-outside-requires c κs = search needs
-
 returns : tie.Need-returns
 unfolding ofBits
 returns c = rw (c .before .before .if1 .taken, ← c .before .some-outside .ensures, c .if2 .taken)
 
 settled-lines-requires : tie.Need-settled-lines-requires
 settled-lines-requires c κs = sym (c .before .some-outside .ensures) ∙ c .if2 .left
-
-some-fall-requires : tie.Need-some-fall-requires
-some-fall-requires c κs = search needs
 
 returns-2 : tie.Need-returns-2
 unfolding ofBits
@@ -52,10 +46,10 @@ pub passed-over-spec : {M : Type 1} → statement M
 passed-over-spec =
     tie.close
     (tie.spec
-    some-outside-requires
+    (λ c κs. search needs)
     returns
     settled-lines-requires
-    some-fall-requires
+    (λ c κs. search needs)
     returns-2
     returns-3
     returns-4)

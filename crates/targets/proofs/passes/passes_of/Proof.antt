@@ -20,15 +20,6 @@ abbrev μ-loop : tie.MeasureT-loop
 loop-holds : tie.Need-loop-holds Inv-loop μ-loop
 loop-holds c = (search needs, simp sub-zero)
 
-pass-of-requires : tie.Need-pass-of-requires Inv-loop μ-loop
-pass-of-requires c κs = search needs
-
-add-k : tie.Need-add-k Inv-loop μ-loop
-add-k c = search needs
-
-loop-less : tie.Need-loop-less Inv-loop μ-loop
-loop-less c = search needs
-
 loop-again : tie.Need-loop-again Inv-loop μ-loop
 loop-again c =
     let a = c .before .before .before .args in
@@ -43,4 +34,4 @@ returns c =
 pub passes-of-spec : {M : Type 1} → statement M
 passes-of-spec =
     tie.close
-    (tie.spec Inv-loop μ-loop loop-holds pass-of-requires add-k loop-less loop-again returns)
+    (tie.spec Inv-loop μ-loop loop-holds (λ c κs. search needs) (λ c. search needs) (λ c. search needs) loop-again returns)

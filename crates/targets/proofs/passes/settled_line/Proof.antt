@@ -12,9 +12,6 @@ returns : tie.Need-returns
 unfolding settled
 returns c = rw (c .if1 .taken)
 
-unrounded-of-requires : tie.Need-unrounded-of-requires
-unrounded-of-requires c κs = search needs
-
 returns-2 : tie.Need-returns-2
 unfolding ofBits
 returns-2 c =
@@ -36,4 +33,4 @@ returns-3 c =
     at-kept (e .before .args .l) (c .before .before .unrounded-of .ensures) (e .if1 .left) (c .before .if2 .left) (c .nearest .ensures .0)
 
 pub settled-line-spec : {M : Type 1} → statement M
-settled-line-spec = tie.close (tie.spec returns unrounded-of-requires returns-2 nearest-requires returns-3)
+settled-line-spec = tie.close (tie.spec returns (λ c κs. search needs) returns-2 nearest-requires returns-3)

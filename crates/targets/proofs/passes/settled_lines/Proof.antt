@@ -22,30 +22,12 @@ abbrev μ-loop : tie.MeasureT-loop
 loop-holds : tie.Need-loop-holds Inv-loop μ-loop
 loop-holds c = (search needs, omega arith, refl)
 
-mul-l : tie.Need-mul-l Inv-loop μ-loop
-mul-l c = search needs
-
-array-copy-out-l : tie.Need-array-copy-out-l Inv-loop μ-loop
-array-copy-out-l c = search needs
-
 settled-line-requires : tie.Need-settled-line-requires Inv-loop μ-loop
 settled-line-requires c κs =
     let a = c .before .before .before .args in
     let p = outside (a .n) (a .sum) in
     each-at (λ (l : Line). p l ≡ false) (a .t1) (c .before .before .loop .i) _ (none-each p (a .t1) (c .before .before .before .pre))
     (omega arith)
-
-mul-out : tie.Need-mul-out Inv-loop μ-loop
-mul-out c = search needs
-
-array-set-from-out : tie.Need-array-set-from-out Inv-loop μ-loop
-array-set-from-out c = search needs
-
-add-i : tie.Need-add-i Inv-loop μ-loop
-add-i c = search needs
-
-loop-less : tie.Need-loop-less Inv-loop μ-loop
-loop-less c = search needs
 
 loop-again : tie.Need-loop-again Inv-loop μ-loop
 loop-again c =
@@ -69,12 +51,12 @@ settled-lines-spec =
     Inv-loop
     μ-loop
     loop-holds
-    mul-l
-    array-copy-out-l
+    (λ c. search needs)
+    (λ c. search needs)
     settled-line-requires
-    mul-out
-    array-set-from-out
-    add-i
-    loop-less
+    (λ c. search needs)
+    (λ c. search needs)
+    (λ c. search needs)
+    (λ c. search needs)
     loop-again
     returns)

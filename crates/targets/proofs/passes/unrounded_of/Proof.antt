@@ -4,11 +4,8 @@ use borrow.Author.Needs.{needs}
 use Rattle.targets.proofs.passes.unrounded_of.Statement.{statement}
 use Rattle.targets.proofs.passes.unrounded_of.Tie as tie
 
-int-to-float-result : tie.Need-int-to-float-result
-int-to-float-result c = search needs
-
 returns : tie.Need-returns
 returns c = refl
 
 pub unrounded-of-spec : {M : Type 1} → statement M
-unrounded-of-spec = tie.close (tie.spec int-to-float-result returns)
+unrounded-of-spec = tie.close (tie.spec (λ c. search needs) returns)

@@ -5,17 +5,8 @@ use borrow.Author.Needs.{needs}
 use Rattle.targets.proofs.passes.with_prior.Statement.{statement}
 use Rattle.targets.proofs.passes.with_prior.Tie as tie
 
-returns : tie.Need-returns
-returns c = search needs
-
-cast-result : tie.Need-cast-result
-cast-result c = search needs
-
-add-result : tie.Need-add-result
-add-result c = search needs
-
 returns-2 : tie.Need-returns-2
 returns-2 c = rw (c .before .if1 .left) (refl, omega arith)
 
 pub with-prior-spec : {M : Type 1} → statement M
-with-prior-spec = tie.close (tie.spec returns cast-result add-result returns-2)
+with-prior-spec = tie.close (tie.spec (λ c. search needs) (λ c. search needs) (λ c. search needs) returns-2)

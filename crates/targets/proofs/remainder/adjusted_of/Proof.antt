@@ -13,31 +13,10 @@ use borrow.Author.Needs.{needs}
 use Rattle.targets.proofs.remainder.adjusted_of.Statement.{statement}
 use Rattle.targets.proofs.remainder.adjusted_of.Tie as tie
 
-signed-of-requires : tie.Need-signed-of-requires
-signed-of-requires c κs = search needs
-
-total-of-requires : tie.Need-total-of-requires
-total-of-requires c κs = search needs
-
-best-of-requires : tie.Need-best-of-requires
-best-of-requires c κs = search needs
-
-mul-l : tie.Need-mul-l
-mul-l c = search needs
-
-array-copy-out-l : tie.Need-array-copy-out-l
-array-copy-out-l c = search needs
-
 with-rest-requires : tie.Need-with-rest-requires
 with-rest-requires c κs =
     let e = c .before .before .before .before in
     (each-at SmallTarget (e .args .t1) (c .before .best-of .result .at) _ (e .pre) (omega arith), omega arith)
-
-mul-out : tie.Need-mul-out
-mul-out c = search needs
-
-array-set-from-out : tie.Need-array-set-from-out
-array-set-from-out c = search needs
 
 returns : tie.Need-returns
 returns c =
@@ -54,12 +33,12 @@ pub adjusted-of-spec : {M : Type 1} → statement M
 adjusted-of-spec =
     tie.close
     (tie.spec
-    signed-of-requires
-    total-of-requires
-    best-of-requires
-    mul-l
-    array-copy-out-l
+    (λ c κs. search needs)
+    (λ c κs. search needs)
+    (λ c κs. search needs)
+    (λ c. search needs)
+    (λ c. search needs)
     with-rest-requires
-    mul-out
-    array-set-from-out
+    (λ c. search needs)
+    (λ c. search needs)
     returns)

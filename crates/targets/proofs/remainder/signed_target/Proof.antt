@@ -6,11 +6,8 @@ use borrow.Author.Needs.{needs}
 use Rattle.targets.proofs.remainder.signed_target.Statement.{statement}
 use Rattle.targets.proofs.remainder.signed_target.Tie as tie
 
-cast-result : tie.Need-cast-result
-cast-result c = search needs
-
 returns : tie.Need-returns
 returns c = toZ-pos w64 (omega arith)
 
 pub signed-target-spec : {M : Type 1} → statement M
-signed-target-spec = tie.close (tie.spec cast-result returns)
+signed-target-spec = tie.close (tie.spec (λ c. search needs) returns)

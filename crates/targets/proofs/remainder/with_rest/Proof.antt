@@ -8,15 +8,6 @@ use borrow.Author.Needs.{needs}
 use Rattle.targets.proofs.remainder.with_rest.Statement.{statement}
 use Rattle.targets.proofs.remainder.with_rest.Tie as tie
 
-add-result : tie.Need-add-result
-add-result c = search needs
-
-cast-result : tie.Need-cast-result
-cast-result c = search needs
-
-cast-result-2 : tie.Need-cast-result-2
-cast-result-2 c = search needs
-
 sub-result : tie.Need-sub-result
 sub-result c = rest-fits (c .args .target + c .args .demand) (c .args .total) (omega arith) (omega arith)
 
@@ -27,4 +18,4 @@ returns c =
     ∙ +ℤ-assoc (pos (a .target)) (pos (a .demand)) (negℤ (pos (a .total)))
 
 pub with-rest-spec : {M : Type 1} → statement M
-with-rest-spec = tie.close (tie.spec add-result cast-result cast-result-2 sub-result returns)
+with-rest-spec = tie.close (tie.spec (λ c. search needs) (λ c. search needs) (λ c. search needs) sub-result returns)

@@ -9,9 +9,6 @@ use borrow.Author.Needs.{needs}
 use Rattle.units.proofs.dates.listed.Statement.{statement}
 use Rattle.units.proofs.dates.listed.Tie as tie
 
-weekday-of-requires : tie.Need-weekday-of-requires
-weekday-of-requires c κs = search needs
-
 cast-result : tie.Need-cast-result
 unfolding weekdayOf
 cast-result c = omega (arith, c .weekday-of .ensures)
@@ -25,4 +22,4 @@ unfolding listed bitOf
 returns c = ap (λ (k : ℕ). eqb (c .before .args .mask / 2 ^ k % 2) 1) (c .weekday-of .ensures)
 
 pub listed-spec : {M : Type 1} → statement M
-listed-spec = tie.close (tie.spec weekday-of-requires cast-result shr-result returns)
+listed-spec = tie.close (tie.spec (λ c κs. search needs) cast-result shr-result returns)

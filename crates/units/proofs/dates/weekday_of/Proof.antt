@@ -5,12 +5,9 @@ use borrow.Author.Needs.{needs}
 use Rattle.units.proofs.dates.weekday_of.Statement.{statement}
 use Rattle.units.proofs.dates.weekday_of.Tie as tie
 
-add-result : tie.Need-add-result
-add-result c = search needs
-
 returns : tie.Need-returns
 unfolding weekdayOf
 returns c = omega arith
 
 pub weekday-of-spec : {M : Type 1} → statement M
-weekday-of-spec = tie.close (tie.spec add-result returns)
+weekday-of-spec = tie.close (tie.spec (λ c. search needs) returns)

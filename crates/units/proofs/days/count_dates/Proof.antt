@@ -18,29 +18,11 @@ abbrev μ-loop : tie.MeasureT-loop
 loop-holds : tie.Need-loop-holds Inv-loop μ-loop
 loop-holds c = (search needs, sym (count-none _), search needs)
 
-date-begins-requires : tie.Need-date-begins-requires Inv-loop μ-loop
-date-begins-requires c κs = search needs
-
-add-days : tie.Need-add-days Inv-loop μ-loop
-add-days c = omega arith
-
-add-k : tie.Need-add-k Inv-loop μ-loop
-add-k c = omega arith
-
-loop-less : tie.Need-loop-less Inv-loop μ-loop
-loop-less c = omega arith
-
 loop-again : tie.Need-loop-again Inv-loop μ-loop
 loop-again c =
     let at = c .before .before .before .loop in
     let t = sym (c .before .date-begins .ensures) ∙ c .if1 .taken in
     (search needs, ap (λ (x : ℕ). x + 1) (at .inv .1) ∙ sym (count-in _ _ t), search needs)
-
-add-k-2 : tie.Need-add-k-2 Inv-loop μ-loop
-add-k-2 c = omega arith
-
-loop-less-2 : tie.Need-loop-less-2 Inv-loop μ-loop
-loop-less-2 c = omega arith
 
 loop-again-2 : tie.Need-loop-again-2 Inv-loop μ-loop
 loop-again-2 c =
@@ -60,12 +42,12 @@ count-dates-spec =
     Inv-loop
     μ-loop
     loop-holds
-    date-begins-requires
-    add-days
-    add-k
-    loop-less
+    (λ c κs. search needs)
+    (λ c. omega arith)
+    (λ c. omega arith)
+    (λ c. omega arith)
     loop-again
-    add-k-2
-    loop-less-2
+    (λ c. omega arith)
+    (λ c. omega arith)
     loop-again-2
     returns)

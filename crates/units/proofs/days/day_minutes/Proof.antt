@@ -4,15 +4,6 @@ use borrow.Author.Needs.{needs}
 use Rattle.units.proofs.days.day_minutes.Statement.{statement}
 use Rattle.units.proofs.days.day_minutes.Tie as tie
 
-count-dates-requires : tie.Need-count-dates-requires
-count-dates-requires c κs = search needs
-
-demand-of-requires : tie.Need-demand-of-requires
-demand-of-requires c κs = search needs
-
-cast-minutes : tie.Need-cast-minutes
-cast-minutes c = search needs
-
 div-minutes : tie.Need-div-minutes
 div-minutes c =
     let pre = c .before .before .before .before .pre in
@@ -31,4 +22,4 @@ returns-2 c =
 pub day-minutes-spec : {M : Type 1} → statement M
 day-minutes-spec =
     tie.close
-    (tie.spec count-dates-requires demand-of-requires cast-minutes div-minutes returns returns-2)
+    (tie.spec (λ c κs. search needs) (λ c κs. search needs) (λ c. search needs) div-minutes returns returns-2)

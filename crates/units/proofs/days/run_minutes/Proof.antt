@@ -5,9 +5,6 @@ use borrow.Author.Needs.{needs}
 use Rattle.units.proofs.days.run_minutes.Statement.{statement}
 use Rattle.units.proofs.days.run_minutes.Tie as tie
 
-day-minutes-requires : tie.Need-day-minutes-requires
-day-minutes-requires c κs = search needs
-
 returns : tie.Need-returns
 returns c = run-one _ _ _ _ _ (c .before .day-minutes .ensures .0) (c .if1 .taken)
 
@@ -20,4 +17,4 @@ returns-2 : tie.Need-returns-2
 returns-2 c = run-more _ _ _ _ _ (c .before .day-minutes .ensures .0) (c .if1 .left)
 
 pub run-minutes-spec : {M : Type 1} → statement M
-run-minutes-spec = tie.close (tie.spec day-minutes-requires returns mul-result returns-2)
+run-minutes-spec = tie.close (tie.spec (λ c κs. search needs) returns mul-result returns-2)

@@ -6,14 +6,8 @@ use Rattle.units.proofs.Sets.{clear-law}
 use Rattle.units.proofs.domains.clear.Statement.{statement}
 use Rattle.units.proofs.domains.clear.Tie as tie
 
-next-set-requires : tie.Need-next-set-requires
-next-set-requires c κs = search needs
-
-is-nothing-requires : tie.Need-is-nothing-requires
-is-nothing-requires c κs = search needs
-
 returns : tie.Need-returns
 returns c = c .is-nothing .ensures ∙ ap isNothing (c .before .next-set .ensures) ∙ clear-law _ _ _
 
 pub clear-spec : {M : Type 1} → statement M
-clear-spec = tie.close (tie.spec next-set-requires is-nothing-requires returns)
+clear-spec = tie.close (tie.spec (λ c κs. search needs) (λ c κs. search needs) returns)

@@ -21,9 +21,6 @@ abbrev μ-loop : tie.MeasureT-loop
 loop-holds : tie.Need-loop-holds Inv-loop μ-loop
 loop-holds c = (collect-none _ _ _ (c .before .before .pre .room), c .before .before .pre)
 
-able-requires : tie.Need-able-requires Inv-loop μ-loop
-able-requires c κs = search needs
-
 cast-list : tie.Need-cast-list Inv-loop μ-loop
 cast-list c = omega (arith, people-says _ (c .before .before .before .loop .inv .1 .counted) .1)
 
@@ -33,24 +30,12 @@ slice-write-list c = collect-room _ _ _ _ _ _ (c .before .before .before .loop .
 add-n : tie.Need-add-n Inv-loop μ-loop
 add-n c = omega (arith, collect-few _ _ _ _ _ _ (c .before .before .before .loop .inv .0))
 
-add-p : tie.Need-add-p Inv-loop μ-loop
-add-p c = omega arith
-
-loop-less : tie.Need-loop-less Inv-loop μ-loop
-loop-less c = omega arith
-
 loop-again : tie.Need-loop-again Inv-loop μ-loop
 loop-again c =
     let at = c .before .before .before .loop in
     let k = able-known _ _ _ _ (at .inv .1) _ _ (c .before .before .loop-test .taken) in
     let t = sym k ∙ sym (c .before .able .ensures) ∙ c .if1 .taken in
     (collect-in _ _ _ _ _ _ (at .inv .0) (c .before .before .loop-test .taken) t, at .inv .1)
-
-add-p-2 : tie.Need-add-p-2 Inv-loop μ-loop
-add-p-2 c = omega arith
-
-loop-less-2 : tie.Need-loop-less-2 Inv-loop μ-loop
-loop-less-2 c = omega arith
 
 loop-again-2 : tie.Need-loop-again-2 Inv-loop μ-loop
 loop-again-2 c =
@@ -73,15 +58,15 @@ write-domain-spec =
     Inv-loop
     μ-loop
     loop-holds
-    able-requires
+    (λ c κs. search needs)
     cast-list
     slice-write-list
     add-n
-    add-p
-    loop-less
+    (λ c. omega arith)
+    (λ c. omega arith)
     loop-again
-    add-p-2
-    loop-less-2
+    (λ c. omega arith)
+    (λ c. omega arith)
     loop-again-2
     same-length
     returns)

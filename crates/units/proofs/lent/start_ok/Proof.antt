@@ -6,12 +6,6 @@ use Rattle.units.proofs.Units.{rises-first, rises-later, start-past, st
 use Rattle.units.proofs.lent.start_ok.Statement.{statement}
 use Rattle.units.proofs.lent.start_ok.Tie as tie
 
-mul-first : tie.Need-mul-first
-mul-first c = search needs
-
-shared-slice-read-first : tie.Need-shared-slice-read-first
-shared-slice-read-first c = search needs
-
 cast-if1 : tie.Need-cast-if1
 cast-if1 c = omega (arith, c .shared-slice-known .given (c .before .args .u))
 
@@ -21,15 +15,6 @@ returns c = sym (start-past _ _ _ (c .if1 .taken))
 returns-2 : tie.Need-returns-2
 returns-2 c = sym (start-within _ _ _ _ (c .before .if1 .left) (rises-first _ _ (c .if2 .taken)))
 
-sub-result : tie.Need-sub-result
-sub-result c = search needs
-
-mul-result : tie.Need-mul-result
-mul-result c = search needs
-
-shared-slice-read-result : tie.Need-shared-slice-read-result
-shared-slice-read-result c = search needs
-
 returns-3 : tie.Need-returns-3
 returns-3 c = sym (start-within _ _ _ _ (c .before .before .if1 .left) (rises-later _ _ (c .before .if2 .left)))
 
@@ -37,12 +22,12 @@ pub start-ok-spec : {M : Type 1} → statement M
 start-ok-spec =
     tie.close
     (tie.spec
-    mul-first
-    shared-slice-read-first
+    (λ c. search needs)
+    (λ c. search needs)
     cast-if1
     returns
     returns-2
-    sub-result
-    mul-result
-    shared-slice-read-result
+    (λ c. search needs)
+    (λ c. search needs)
+    (λ c. search needs)
     returns-3)

@@ -7,12 +7,6 @@ use borrow.Author.Needs.{needs}
 use Rattle.units.proofs.lent.unit_end.Statement.{statement}
 use Rattle.units.proofs.lent.unit_end.Tie as tie
 
-add-next : tie.Need-add-next
-add-next c = search needs
-
-start-of-requires : tie.Need-start-of-requires
-start-of-requires c κs = search needs
-
 returns : tie.Need-returns
 unfolding unitEnd
 returns c = simp (lt-ltb _ _ (c .before .if2 .taken)) (c .start-of .ensures)
@@ -30,4 +24,4 @@ returns-3 c =
     simp (le-ltb (u + 1) units h)
 
 pub unit-end-spec : {M : Type 1} → statement M
-unit-end-spec = tie.close (tie.spec add-next start-of-requires returns returns-2 returns-3)
+unit-end-spec = tie.close (tie.spec (λ c. search needs) (λ c κs. search needs) returns returns-2 returns-3)

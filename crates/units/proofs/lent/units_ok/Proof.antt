@@ -29,15 +29,6 @@ returns-2 c = simp (le-leb 1 _ (c .before .if1 .left), lt-leb _ _ (c .if2 .taken
 loop-holds : tie.Need-loop-holds Inv-loop μ-loop
 loop-holds c = (search needs, all-none _, search needs, search needs)
 
-start-ok-requires : tie.Need-start-ok-requires Inv-loop μ-loop
-start-ok-requires c κs = omega arith
-
-add-u : tie.Need-add-u Inv-loop μ-loop
-add-u c = omega arith
-
-loop-less : tie.Need-loop-less Inv-loop μ-loop
-loop-less c = omega arith
-
 loop-again : tie.Need-loop-again Inv-loop μ-loop
 loop-again c =
     let at = c .before .before .before .loop in
@@ -65,9 +56,9 @@ units-ok-spec =
     returns
     returns-2
     loop-holds
-    start-ok-requires
-    add-u
-    loop-less
+    (λ c κs. omega arith)
+    (λ c. omega arith)
+    (λ c. omega arith)
     loop-again
     returns-3
     returns-4)

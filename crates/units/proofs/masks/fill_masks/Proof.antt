@@ -19,20 +19,8 @@ Inv-loop people units masks₀ everybody u₀ masks u = (u ≤ units) × (masks 
 abbrev μ-loop : tie.MeasureT-loop
 μ-loop people units masks₀ everybody u₀ masks u = units - u
 
-sub-everybody : tie.Need-sub-everybody Inv-loop μ-loop
-sub-everybody c = omega arith
-
-cast-everybody : tie.Need-cast-everybody Inv-loop μ-loop
-cast-everybody c = search needs
-
-shr-everybody : tie.Need-shr-everybody Inv-loop μ-loop
-shr-everybody c = omega arith
-
 loop-holds : tie.Need-loop-holds Inv-loop μ-loop
 loop-holds c = (omega arith, sym (over-none _ _))
-
-mul-masks : tie.Need-mul-masks Inv-loop μ-loop
-mul-masks c = search needs
 
 slice-write-masks : tie.Need-slice-write-masks Inv-loop μ-loop
 slice-write-masks c =
@@ -45,12 +33,6 @@ slice-write-masks c =
           (a .masks .now),
       c .before .before .pre .2,
     )
-
-add-u : tie.Need-add-u Inv-loop μ-loop
-add-u c = omega arith
-
-loop-less : tie.Need-loop-less Inv-loop μ-loop
-loop-less c = omega arith
 
 loop-again : tie.Need-loop-again Inv-loop μ-loop
 loop-again c =
@@ -74,14 +56,14 @@ fill-masks-spec =
     (tie.spec
     Inv-loop
     μ-loop
-    sub-everybody
-    cast-everybody
-    shr-everybody
+    (λ c. omega arith)
+    (λ c. search needs)
+    (λ c. omega arith)
     loop-holds
-    mul-masks
+    (λ c. search needs)
     slice-write-masks
-    add-u
-    loop-less
+    (λ c. omega arith)
+    (λ c. omega arith)
     loop-again
     same-length
     returns)

@@ -4,16 +4,10 @@ use Rattle.units.proofs.Sets.{had-law}
 use Rattle.units.proofs.masks.next_had.Statement.{statement}
 use Rattle.units.proofs.masks.next_had.Tie as tie
 
-next-set-requires : tie.Need-next-set-requires
-next-set-requires c κs = search needs
-
-found-or-requires : tie.Need-found-or-requires
-found-or-requires c κs = search needs
-
 returns : tie.Need-returns
 returns c =
     let pre = c .before .before .before .pre in
     had-law _ _ _ _ (pre .0) _ _ _ (pre .1) (c .before .next-set .ensures) (c .found-or .ensures)
 
 pub next-had-spec : {M : Type 1} → statement M
-next-had-spec = tie.close (tie.spec next-set-requires found-or-requires returns)
+next-had-spec = tie.close (tie.spec (λ c κs. search needs) (λ c κs. search needs) returns)

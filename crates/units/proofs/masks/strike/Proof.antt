@@ -84,12 +84,6 @@ slice-write-masks c =
     let pre = b4 .before .before .before .before .before .pre in
     strike-room _ _ _ _ _ (pre .0 .right) _ _ _ _ 0 (pre .0 .room) (b4 .loop .inv .2) (c .before .before .before .loop-test .taken)
 
-add-w : tie.Need-add-w Inv-loop μ-loop
-add-w c = omega arith
-
-loop-less : tie.Need-loop-less Inv-loop μ-loop
-loop-less c = omega arith
-
 loop-again : tie.Need-loop-again Inv-loop μ-loop
 loop-again c =
     let b4 = c .before .before .before .before in
@@ -145,8 +139,8 @@ strike-spec =
     slice-read-masks
     sub-masks
     slice-write-masks
-    add-w
-    loop-less
+    (λ c. omega arith)
+    (λ c. omega arith)
     loop-again
     same-length
     returns

@@ -39,12 +39,6 @@ strike-person-requires c κs =
       (c .before .loop-test .taken, strikes-held _ _ _ _ _ _ _ _ _ _ e refl),
     )
 
-add-p : tie.Need-add-p Inv-loop μ-loop
-add-p c = omega arith
-
-loop-less : tie.Need-loop-less Inv-loop μ-loop
-loop-less c = omega arith
-
 loop-again : tie.Need-loop-again Inv-loop μ-loop
 loop-again c =
     let e = c .before .before .before .before .before .loop .inv .1 in
@@ -70,8 +64,8 @@ write-masks-spec =
     fill-masks-requires
     loop-holds
     strike-person-requires
-    add-p
-    loop-less
+    (λ c. omega arith)
+    (λ c. omega arith)
     loop-again
     same-length
     returns)

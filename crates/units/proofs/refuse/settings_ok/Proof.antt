@@ -22,9 +22,6 @@ returns-3 c =
       lt-leb _ 366 (c .if3 .taken),
     )
 
-boundary-ok-requires : tie.Need-boundary-ok-requires
-boundary-ok-requires c κs = search needs
-
 returns-4 : tie.Need-returns-4
 unfolding settingsOk
 returns-4 c = simp (
@@ -35,4 +32,4 @@ returns-4 c = simp (
     (c .boundary-ok .ensures)
 
 pub settings-ok-spec : {M : Type 1} → statement M
-settings-ok-spec = tie.close (tie.spec returns returns-2 returns-3 boundary-ok-requires returns-4)
+settings-ok-spec = tie.close (tie.spec returns returns-2 returns-3 (λ c κs. search needs) returns-4)

@@ -26,9 +26,6 @@ run-with-requires c κs =
     let pre = c4 .before .pre in
     (pre .0, (c .loop-test .taken, run-bounded _ _ _ _ _ _ (pre .0) _ _ (at .inv .upto) (at .inv .running)))
 
-greater-requires : tie.Need-greater-requires Inv-loop μ-loop
-greater-requires c κs = search needs
-
 returns : tie.Need-returns Inv-loop μ-loop
 unfolding longestRun
 returns c =
@@ -37,21 +34,12 @@ returns c =
     let run = c .before .before .run-with .ensures in
     pass-reached _ _ _ _ _ _ _ _ _ (c4 .loop .inv) test run (c .before .greater .ensures) (c .if1 .taken)
 
-add-k : tie.Need-add-k Inv-loop μ-loop
-add-k c = omega arith
-
-loop-less : tie.Need-loop-less Inv-loop μ-loop
-loop-less c = omega arith
-
 loop-again : tie.Need-loop-again Inv-loop μ-loop
 loop-again c =
     let c4 = c .before .before .before .before in
     let test = c .before .before .before .loop-test .taken in
     let run = c .before .before .run-with .ensures in
     pass-more _ _ _ _ _ _ _ _ _ (c4 .loop .inv) test run (c .before .greater .ensures) (c .if1 .left)
-
-greater-requires-2 : tie.Need-greater-requires-2 Inv-loop μ-loop
-greater-requires-2 c κs = search needs
 
 returns-2 : tie.Need-returns-2 Inv-loop μ-loop
 unfolding longestRun
@@ -65,10 +53,10 @@ longest-run-spec =
     μ-loop
     loop-holds
     run-with-requires
-    greater-requires
+    (λ c κs. search needs)
     returns
-    add-k
-    loop-less
+    (λ c. omega arith)
+    (λ c. omega arith)
     loop-again
-    greater-requires-2
+    (λ c κs. search needs)
     returns-2)

@@ -8,15 +8,6 @@ use Rattle.units.proofs.starts.date_begins.Tie as tie
 returns : tie.Need-returns
 returns c = sym (date-first _ _ (c .if1 .taken))
 
-start-date-requires : tie.Need-start-date-requires
-start-date-requires c κs = search needs
-
-sub-start-date : tie.Need-sub-start-date
-sub-start-date c = search needs
-
-start-date-requires-2 : tie.Need-start-date-requires-2
-start-date-requires-2 c κs = search needs
-
 returns-2 : tie.Need-returns-2
 returns-2 c =
     let z = c .before .before .if1 .left in
@@ -24,4 +15,4 @@ returns-2 c =
 
 pub date-begins-spec : {M : Type 1} → statement M
 date-begins-spec =
-    tie.close (tie.spec returns start-date-requires sub-start-date start-date-requires-2 returns-2)
+    tie.close (tie.spec returns (λ c κs. search needs) (λ c. search needs) (λ c κs. search needs) returns-2)

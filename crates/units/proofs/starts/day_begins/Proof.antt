@@ -10,18 +10,6 @@ use Rattle.units.proofs.starts.day_begins.Tie as tie
 returns : tie.Need-returns
 returns c = sym (day-first _ _ _ (c .if1 .taken))
 
-date-begins-requires : tie.Need-date-begins-requires
-date-begins-requires c κs = search needs
-
-start-date-requires : tie.Need-start-date-requires
-start-date-requires c κs = search needs
-
-listed-requires : tie.Need-listed-requires
-listed-requires c κs = search needs
-
-both-requires : tie.Need-both-requires
-both-requires c κs = search needs
-
 returns-2 : tie.Need-returns-2
 returns-2 c =
     let c4 = c .before .before .before .before in
@@ -30,4 +18,4 @@ returns-2 c =
 
 pub day-begins-spec : {M : Type 1} → statement M
 day-begins-spec =
-    tie.close (tie.spec returns date-begins-requires start-date-requires listed-requires both-requires returns-2)
+    tie.close (tie.spec returns (λ c κs. search needs) (λ c κs. search needs) (λ c κs. search needs) (λ c κs. search needs) returns-2)

@@ -8,11 +8,8 @@ use Rattle.units.proofs.starts.every_begins.Tie as tie
 returns : tie.Need-returns
 returns c = sym (every-one _ _ (c .if1 .taken))
 
-rem-result : tie.Need-rem-result
-rem-result c = search needs
-
 returns-2 : tie.Need-returns-2
 returns-2 c = sym (every-more _ _ (c .if1 .left))
 
 pub every-begins-spec : {M : Type 1} → statement M
-every-begins-spec = tie.close (tie.spec returns rem-result returns-2)
+every-begins-spec = tie.close (tie.spec returns (λ c. search needs) returns-2)

@@ -5,14 +5,8 @@ use borrow.Author.Needs.{needs}
 use Rattle.units.proofs.starts.start_date.Statement.{statement}
 use Rattle.units.proofs.starts.start_date.Tie as tie
 
-entry-of-requires : tie.Need-entry-of-requires
-entry-of-requires c κs = search needs
-
-date-of-requires : tie.Need-date-of-requires
-date-of-requires c κs = search needs
-
 returns : tie.Need-returns
 returns c = c .date-of .ensures ∙ ap dateOf (c .before .entry-of .ensures)
 
 pub start-date-spec : {M : Type 1} → statement M
-start-date-spec = tie.close (tie.spec entry-of-requires date-of-requires returns)
+start-date-spec = tie.close (tie.spec (λ c κs. search needs) (λ c κs. search needs) returns)

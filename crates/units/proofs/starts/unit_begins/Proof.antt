@@ -9,15 +9,9 @@ returns : tie.Need-returns
 unfolding unitBegins
 returns c = simp (eq-eqb _ 0 (c .if1 .taken))
 
-every-begins-requires : tie.Need-every-begins-requires
-every-begins-requires c κs = search needs
-
 returns-2 : tie.Need-returns-2
 unfolding unitBegins rotationBegins
 returns-2 c = simp (ne-eqb _ 0 (c .before .before .if1 .left), eq-eqb _ 0 (c .before .if2 .taken)) (c .every-begins .ensures)
-
-day-begins-requires : tie.Need-day-begins-requires
-day-begins-requires c κs = search needs
 
 returns-3 : tie.Need-returns-3
 unfolding unitBegins rotationBegins
@@ -25,4 +19,4 @@ returns-3 c = simp (ne-eqb _ 0 (c .before .before .if1 .left), ne-eqb _ 0 (c .be
 
 pub unit-begins-spec : {M : Type 1} → statement M
 unit-begins-spec =
-    tie.close (tie.spec returns every-begins-requires returns-2 day-begins-requires returns-3)
+    tie.close (tie.spec returns (λ c κs. search needs) returns-2 (λ c κs. search needs) returns-3)

@@ -19,12 +19,6 @@ abbrev μ-loop : tie.MeasureT-loop
 loop-holds : tie.Need-loop-holds Inv-loop μ-loop
 loop-holds c = (collect-none _ _ _ (c .before .before .pre .1), c .before .before .pre .0)
 
-unit-begins-requires : tie.Need-unit-begins-requires Inv-loop μ-loop
-unit-begins-requires c κs = search needs
-
-cast-firsts : tie.Need-cast-firsts Inv-loop μ-loop
-cast-firsts c = omega arith
-
 mul-firsts : tie.Need-mul-firsts Inv-loop μ-loop
 mul-firsts c =
     let at = c .before .before .before .loop in
@@ -38,23 +32,11 @@ add-n c =
     let at = c .before .before .before .loop in
     omega (arith, collect-few _ _ _ _ _ _ (at .inv .0))
 
-add-k : tie.Need-add-k Inv-loop μ-loop
-add-k c = omega arith
-
-loop-less : tie.Need-loop-less Inv-loop μ-loop
-loop-less c = omega arith
-
 loop-again : tie.Need-loop-again Inv-loop μ-loop
 loop-again c =
     let at = c .before .before .before .loop in
     let t = sym (c .before .unit-begins .ensures) ∙ c .if1 .taken in
     (collect-in _ _ _ _ _ _ (at .inv .0) (c .before .before .loop-test .taken) t, at .inv .1)
-
-add-k-2 : tie.Need-add-k-2 Inv-loop μ-loop
-add-k-2 c = omega arith
-
-loop-less-2 : tie.Need-loop-less-2 Inv-loop μ-loop
-loop-less-2 c = omega arith
 
 loop-again-2 : tie.Need-loop-again-2 Inv-loop μ-loop
 loop-again-2 c =
@@ -75,16 +57,16 @@ write-starts-spec =
     Inv-loop
     μ-loop
     loop-holds
-    unit-begins-requires
-    cast-firsts
+    (λ c κs. search needs)
+    (λ c. omega arith)
     mul-firsts
     slice-write-firsts
     add-n
-    add-k
-    loop-less
+    (λ c. omega arith)
+    (λ c. omega arith)
     loop-again
-    add-k-2
-    loop-less-2
+    (λ c. omega arith)
+    (λ c. omega arith)
     loop-again-2
     same-length
     returns)
