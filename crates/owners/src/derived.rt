@@ -52,8 +52,29 @@ fn give_to(minutes: &mut [u64], owner: u8, n: u64)
     }
 }
 
-// The minutes of slots a up to e.
-fn stretch_minutes(starts: &[u32], ends: &[u32], a: usize, e: usize) -> u64
+// A number of 32 bits as one of 64.
+fn wide(x: u32) -> u64
+    ensures { λ r. ⌜ r ≡ x ⌝ }
+{
+    x as u64
+}
+
+// The minutes of slots a up to e, all of them lent: none is tested by itself.
+fn lent_minutes(starts: &[u32], ends: &[u32], a: usize, e: usize) -> u64
+    requires { ⌜ (e ≤ length (now starts)) × (e ≤ length (now ends)) ⌝ }
+    ensures { λ r. ⌜ r ≡ wrapped (stretchMinutes (now (starts .entry)) (now (ends .entry)) a e) ⌝ }
+{
+    let mut total: u64 = 0;
+    let mut k = a;
+    while k < e {
+        total = std::num::wrapping_add_u64(total, less(wide(ends[k]), wide(starts[k])));
+        k += 1;
+    }
+    total
+}
+
+// The minutes of slots a up to e; those that aren't lent have none.
+fn any_minutes(starts: &[u32], ends: &[u32], a: usize, e: usize) -> u64
     ensures { λ r. ⌜ r ≡ wrapped (stretchMinutes (now (starts .entry)) (now (ends .entry)) a e) ⌝ }
 {
     let mut total: u64 = 0;
@@ -65,8 +86,33 @@ fn stretch_minutes(starts: &[u32], ends: &[u32], a: usize, e: usize) -> u64
     total
 }
 
+// The same, by whether they are all lent.
+fn stretch_minutes(starts: &[u32], ends: &[u32], a: usize, e: usize) -> u64
+    ensures { λ r. ⌜ r ≡ wrapped (stretchMinutes (now (starts .entry)) (now (ends .entry)) a e) ⌝ }
+{
+    if e <= starts.len() {
+        if e <= ends.len() {
+            return lent_minutes(starts, ends, a, e);
+        }
+        return any_minutes(starts, ends, a, e);
+    }
+    any_minutes(starts, ends, a, e)
+}
+
+// Slots a up to e, all of them lent, get an owner: none is tested by itself.
+fn fill_lent(owners: &mut [u8], a: usize, e: usize, owner: u8)
+    requires { ⌜ e ≤ length (now owners) ⌝ }
+    ensures { λ _. ⌜ now (owners .exit) ≡ fill owner a (e - a) (now (owners .entry)) ⌝ }
+{
+    let mut k = a;
+    while k < e {
+        owners[k] = owner;
+        k += 1;
+    }
+}
+
 // Slots a up to e get an owner; those that aren't lent get none.
-pub fn fill_owners(owners: &mut [u8], a: usize, e: usize, owner: u8)
+fn fill_any(owners: &mut [u8], a: usize, e: usize, owner: u8)
     ensures { λ _. ⌜ now (owners .exit) ≡ fill owner a (e - a) (now (owners .entry)) ⌝ }
 {
     let mut k = a;
@@ -77,6 +123,17 @@ pub fn fill_owners(owners: &mut [u8], a: usize, e: usize, owner: u8)
         } else {
             k += 1;
         }
+    }
+}
+
+// The same, by whether they are all lent.
+pub fn fill_owners(owners: &mut [u8], a: usize, e: usize, owner: u8)
+    ensures { λ _. ⌜ now (owners .exit) ≡ fill owner a (e - a) (now (owners .entry)) ⌝ }
+{
+    if e <= owners.len() {
+        fill_lent(owners, a, e, owner);
+    } else {
+        fill_any(owners, a, e, owner);
     }
 }
 

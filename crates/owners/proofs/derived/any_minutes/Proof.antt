@@ -1,12 +1,12 @@
--- `owners::derived::stretch_minutes` meets its contract. Assumes nothing.
+-- `owners::derived::any_minutes` meets its contract. Assumes nothing.
 use mathlib.Core.Path.{_≡_, _∙_}
 use Prim.Native.Nat.{_-_, _≤_}
 use native.Mathlib.Omega.{arith}
 use borrow.Author.Needs.{needs}
 use Rattle.owners.specs.Derived.{stretchMinutes, wrapped}
 use Rattle.owners.proofs.Steps.{stretch-none, stretch-more, stretch-end}
-use Rattle.owners.proofs.derived.stretch_minutes.Statement.{statement}
-use Rattle.owners.proofs.derived.stretch_minutes.Tie as tie
+use Rattle.owners.proofs.derived.any_minutes.Statement.{statement}
+use Rattle.owners.proofs.derived.any_minutes.Tie as tie
 
 abbrev Inv-loop : tie.InvT-loop
 Inv-loop starts ends a e total₀ k₀ total k =
@@ -29,7 +29,7 @@ loop-again c =
 returns : tie.Need-returns Inv-loop μ-loop
 returns c = c .before .loop .inv .2 ∙ stretch-end _ _ _ _ _ (c .before .loop .inv .1) (c .loop-test .left)
 
-pub stretch-minutes-spec : {M : Type 1} → statement M
-stretch-minutes-spec =
+pub any-minutes-spec : {M : Type 1} → statement M
+any-minutes-spec =
     tie.close
     (tie.spec Inv-loop μ-loop loop-holds (λ c κs. search needs) (λ c. search needs) (λ c κs. search needs) (λ c. search needs) (λ c. omega arith) loop-again returns)
