@@ -2,20 +2,13 @@
 //! out from the file's bytes alone, as the paper says them; nothing of the library is asked.
 
 use on_call::model::problem::Problem;
-
-use crate::jobs::JobCase;
+use crate::job_cases::JobCase;
 use crate::limits::{DRAWS_MOST, FILE_MOST, NOBODY, RANGES_MOST, SLOTS_MOST};
 use crate::problems::{Person, ProblemCase, Range, Settings};
 use crate::table::{figures_ok, people_ok, range_ok, settings_ok, slots_ok};
+use crate::job_records::{BASE, DRAW, FREEZE, OWNER, PERSON, RANGE, Record, SETTINGS};
 
 /// The kinds: their numbers, and the size of a body.
-pub const SETTINGS: u16 = 1;
-pub const BASE: u16 = 2;
-pub const PERSON: u16 = 3;
-pub const RANGE: u16 = 4;
-pub const FREEZE: u16 = 5;
-pub const OWNER: u16 = 6;
-pub const DRAW: u16 = 7;
 
 fn body_size(kind: u16) -> Option<usize> {
     match kind {
@@ -28,19 +21,7 @@ fn body_size(kind: u16) -> Option<usize> {
     }
 }
 
-/// A record: its kind and its body.
-pub type Record = (u16, Vec<u8>);
 
-/// The bytes of records, each with the length of its body before it.
-pub fn file_of(records: &[Record]) -> Vec<u8> {
-    let mut file = Vec::new();
-    for (kind, body) in records {
-        file.extend((body.len() as u16).to_le_bytes());
-        file.extend(kind.to_le_bytes());
-        file.extend(body);
-    }
-    file
-}
 
 /// The listing of a job file, or the number of its refusal.
 pub fn listing_of(file: &[u8]) -> Result<String, u8> {
@@ -207,7 +188,7 @@ fn owners_numbers(job: &JobCase, problem: &Problem) -> Vec<u8> {
 #[cfg(test)]
 mod tests {
     use super::{listing_of, read};
-    use crate::jobs::JobCase;
+    use crate::job_cases::JobCase;
     use crate::seed::Seed;
 
     /// What a job's file says is the job again, and its listing is the job's.

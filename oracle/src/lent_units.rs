@@ -3,7 +3,7 @@
 use on_call::model::problem::Problem;
 
 use crate::bits::put_bit;
-use crate::limits::SET_WORDS;
+use crate::limits::{SET_WORDS, SLOTS_MOST};
 use crate::problems::{availability_into, unit_masks_of, unit_starts_of, ProblemCase, Settings};
 use crate::seed::Seed;
 use crate::table::{damage_settings, lowest, people_ok, settings_ok, words_ok, Slots, Units};
@@ -113,7 +113,8 @@ impl LentUnits {
             7 => self.list_room = seed.pick(&[0, self.people.clamp(1, 32) - 1]),
             8 => self.masks_room = seed.pick(&[0, self.units.firsts.len().max(1) - 1]),
             9 => damage_settings(seed, &mut self.settings),
-            10 => self.units.damage(seed, self.slots.starts.len()),
+            // by the count, which other damage leaves or makes 1: a start at a shortened column's length would be right
+            10 => self.units.damage(seed, self.slots.count.min(SLOTS_MOST)),
             _ => self.slots.damage(seed),
         }
     }

@@ -5,8 +5,10 @@ mod bits;
 mod call;
 mod days;
 mod figures;
+mod job_cases;
 mod job_faults;
 mod job_files;
+mod job_records;
 mod jobs;
 mod lent_units;
 mod library;
@@ -113,7 +115,7 @@ fn main() -> ExitCode {
             (Ok(n), Ok(seed)) => compare_rules(n, seed),
             _ => usage(),
         },
-        ["limits"] => write_out(&jobs::JobCase::at_every_limit().file()),
+        ["limits"] => write_out(&job_cases::JobCase::at_every_limit().file()),
         ["long_listing"] => ended(jobs::long_listing()),
         ["time", n] => match n.parse() {
             Ok(n) => ended(jobs::time(n)),

@@ -8,7 +8,7 @@ use on_call::model::Assignment;
 use on_call::search::moves::MoveGenerator;
 use rand::RngExt;
 
-use crate::jobs::JobCase;
+use crate::job_cases::JobCase;
 use crate::limits::NOBODY;
 use crate::rotas::{played, Draw};
 use crate::seed::Seed;

@@ -5,7 +5,7 @@ use std::hint::black_box;
 use boltraven::{lent, LISTING_MOST};
 
 use super::{row, Row, Side};
-use crate::jobs::JobCase;
+use crate::job_cases::JobCase;
 
 /// A job file as it is lent, with room for its listing.
 struct LentJob {

@@ -7,7 +7,7 @@ use super::refused::{refused, Lent};
 use super::rota::{from_slots, no_draws, play, recount};
 use super::set::{count, next_set, run_bounds};
 use super::Row;
-use crate::jobs::JobCase;
+use crate::job_cases::JobCase;
 use crate::limits::SLOTS_MOST;
 use crate::seed::Seed;
 
