@@ -1,7 +1,5 @@
 //! A job: its case, its file, and what the Rust makes of it.
 
-use on_call::model::problem::Problem;
-use on_call::model::Assignment;
 use crate::call::{bytes16, bytes32, bytes64};
 use crate::days::instant;
 use crate::job_records::{file_of, Record, BASE, DRAW, FREEZE, OWNER, PERSON, RANGE, SETTINGS};
@@ -9,6 +7,8 @@ use crate::limits::{DRAWS_MOST, MINUTES_MOST, NOBODY, PEOPLE_MOST, RANGES_MOST, 
 use crate::problems::{problem_case, slots_of, Person, ProblemCase, Range, Settings};
 use crate::rotas::{draws, owners, play, played, Draw, Played};
 use crate::seed::Seed;
+use on_call::model::problem::Problem;
+use on_call::model::Assignment;
 
 /// What a job file says.
 #[derive(Debug, Clone)]

@@ -1,9 +1,9 @@
 //! Jobs that must be refused: every way to earn a number of the paper's table by a job file, alone or two together.
 
 use crate::call::bytes16;
+use crate::job_cases::JobCase;
 use crate::job_files::numbers;
 use crate::job_records::{file_of, Record, FREEZE, OWNER, SETTINGS};
-use crate::job_cases::JobCase;
 use crate::limits::{DRAWS_MOST, FILE_MOST, MINUTES_MOST, NOBODY, PEOPLE_MOST, RANGES_MOST, SLOTS_MOST};
 use crate::problems::{Person, Range};
 use crate::rotas::owners;
@@ -459,8 +459,8 @@ fn a_fault(seed: &mut Seed) -> usize {
 #[cfg(test)]
 mod tests {
     use super::{with_faults, FAULTS};
-    use crate::job_files::listing_of;
     use crate::job_cases::JobCase;
+    use crate::job_files::listing_of;
     use crate::seed::Seed;
 
     /// Every fault alone is refused by its own number, in several jobs.

@@ -1,15 +1,14 @@
 //! What is due for a job file: the listing that the Rust's answers make, or the number of its refusal by the paper's table. It is worked
 //! out from the file's bytes alone, as the paper says them; nothing of the library is asked.
 
-use on_call::model::problem::Problem;
 use crate::job_cases::JobCase;
+use crate::job_records::{Record, BASE, DRAW, FREEZE, OWNER, PERSON, RANGE, SETTINGS};
 use crate::limits::{DRAWS_MOST, FILE_MOST, NOBODY, RANGES_MOST, SLOTS_MOST};
 use crate::problems::{Person, ProblemCase, Range, Settings};
 use crate::table::{figures_ok, people_ok, range_ok, settings_ok, slots_ok};
-use crate::job_records::{BASE, DRAW, FREEZE, OWNER, PERSON, RANGE, Record, SETTINGS};
+use on_call::model::problem::Problem;
 
-/// The kinds: their numbers, and the size of a body.
-
+/// The size of a body of a kind.
 fn body_size(kind: u16) -> Option<usize> {
     match kind {
         SETTINGS | BASE => Some(8),
@@ -20,8 +19,6 @@ fn body_size(kind: u16) -> Option<usize> {
         _ => None,
     }
 }
-
-
 
 /// The listing of a job file, or the number of its refusal.
 pub fn listing_of(file: &[u8]) -> Result<String, u8> {

@@ -1,12 +1,12 @@
 //! Whole jobs: a job file, and the listing that the Rust's answers make.
 
-use crate::job_cases::JobCase;
-use std::{fs, io};
 use crate::call::{bytes64, Arg, Outcome, Question};
+use crate::job_cases::JobCase;
 use crate::job_faults::{at_the_limit, some_faults, with_faults};
 use crate::job_files::listing_of;
 use crate::library;
 use crate::seed::Seed;
+use std::{fs, io};
 
 /// The room that a listing is asked for, in bytes.
 const LISTING_MOST: usize = 65_536;

@@ -3,9 +3,9 @@
 
 use std::collections::BTreeMap;
 
+use crate::job_cases::JobCase;
 use crate::job_faults::{with_faults, Fault, FAULTS, NUMBERS};
 use crate::job_files::{listing_of, text_of};
-use crate::job_cases::JobCase;
 use crate::seed::Seed;
 use crate::stored::Stored;
 
