@@ -1,8 +1,8 @@
 -- The laws of judging a draw: tests in a row, masks of people, picks, owners of units, and the walks to a run's two ends. Assumes nothing.
 use mathlib.Core.Path.{_≡_, sym, ap, ap₂, _∙_}
-use mathlib.Core.Bool.{Bool, true, false, cond, _&&_, _||_}
+use mathlib.Core.Bool.{Bool, true, false, cond, _&&_, _||_, or-false, or-assoc}
 use mathlib.Core.Logic.{⊎-elim}
-use mathlib.Core.List.{List, [], _∷_}
+use mathlib.Core.List.{List, [], _∷_, _++_}
 use Prim.Native.Nat.{ℕ, zero, suc, _+_, _-_, _^_, _≤_, _<_, min}
 use native.Mathlib.Nat.{le-antisymm}
 use native.Mathlib.Omega.{arith}
@@ -35,6 +35,23 @@ any-at (t ∷ ts) (suc k) e = ap (λ (b : Bool). t || b) (any-at ts k e) ∙ mat
 -- so the draw stays
 pub stays : (ts : List Bool) (n : ℕ) (m : Move) (k : ℕ) → getD ts k false ≡ true → Stay n ≡ stayIf ts n m
 stays ts n m k e = sym (ap (λ (b : Bool). cond b (Stay n) m) (any-at ts k e))
+
+-- tests asked one after the other: one of two; one of some, or one test more
+pub ask-two : (a b : Bool) {r p q : Bool} → r ≡ p || q → p ≡ a → q ≡ b → r ≡ anyOf (a ∷ b ∷ [])
+unfolding anyOf
+ask-two a b e f g = e ∙ ap₂ _||_ f g ∙ ap (λ (x : Bool). a || x) (sym (or-false b))
+
+any-more : (ts : List Bool) (t : Bool) → anyOf ts || t ≡ anyOf (ts ++ (t ∷ []))
+unfolding anyOf
+any-more [] t = sym (or-false t)
+any-more (u ∷ ts) t = or-assoc u (anyOf ts) t ∙ ap (λ (x : Bool). u || x) (any-more ts t)
+
+pub ask-more : (ts : List Bool) (t : Bool) {r p q : Bool} → r ≡ p || q → p ≡ anyOf ts → q ≡ t → r ≡ anyOf (ts ++ (t ∷ []))
+ask-more ts t e f g = e ∙ ap₂ _||_ f g ∙ any-more ts t
+
+-- one of them holds, so it stays
+pub stays-by : (ts : List Bool) (n : ℕ) (m : Move) → anyOf ts ≡ true → Stay n ≡ stayIf ts n m
+stays-by ts n m e = sym (ap (λ (b : Bool). cond b (Stay n) m) e)
 
 -- none of them holds, so it goes on
 pub goes : (ts : List Bool) (n : ℕ) (m r : Move) → anyOf ts ≡ false → r ≡ m → r ≡ stayIf ts n m

@@ -18,12 +18,13 @@ use Rattle.rota.specs.declared.Move.{Move}
 use Rattle.rota.specs.declared.Move.the-variants.{Stay, Trade}
 use Rattle.rota.specs.Board.{Board, ownerOf, unowned, runStart, runEnd}
 use Rattle.units.specs.Domains.{inMask}
+use Rattle.rota.specs.Ready.{fitsBy}
 use Rattle.rota.specs.Moves.{anyOf, stayIf, give, movable, covers, firstOf, lastOf, picked, onPick, domainOf, reassigned, swapStays}
 use Rattle.rota.specs.Moves.{swapped}
 use Rattle.rota.specs.Moves.{others, runReassigned, runsStay, runsSwapped, grown, shrunk, shifted}
 use Rattle.rota.proofs.Runs.{run-is}
 use Rattle.rota.proofs.Acts.{has-owner}
-use Rattle.rota.proofs.Judged.{stays, goes}
+use Rattle.rota.proofs.Judged.{stays, stays-by, goes}
 
 nobody-owns : (B : Board) (o : List ℕ) (u w : ℕ) → w ≡ ownerOf B o u → w ≡ nobody → unowned B o u ≡ true
 unfolding unowned
@@ -71,55 +72,23 @@ module _ (B : Board) (o : List ℕ) (f s : ℕ) where
           goes (eqb p (ownerOf B o f) ∷ []) 1 (give B f f p) m (simp (ne-eqb p (ownerOf B o f) (λ x. h (x ∙ sym ew)))) e
           ∙ reassign-as r (Person p) z d q
 
+-- a person who is somebody by another name doesn't fit
+pub unfit : (fits : List ℕ) (u w v : ℕ) {r : Bool} → r ≡ fitsBy fits w u → w ≡ v → not r ≡ not (fitsBy fits v u)
+unfit fits u w v e q = ap not (e ∙ ap (λ (x : ℕ). fitsBy fits x u) q)
+
 -- ---- swap units
 
 module _ (B : Board) (o : List ℕ) (f s : ℕ) where
-  swap-stays : (k : ℕ) → getD (swapStays B o f s) k false ≡ true → Stay 1 ≡ swapped B o f s
+  pub swap-stays : anyOf (swapStays B o f s) ≡ true → Stay 1 ≡ swapped B o f s
   unfolding swapped
-  swap-stays k e = stays (swapStays B o f s) 1 _ k e
+  swap-stays e = stays-by (swapStays B o f s) 1 _ e
 
-  pub swap-first-frozen : B .frozen f ≡ true → Stay 1 ≡ swapped B o f s
-  swap-first-frozen e = swap-stays 0 e
-
-  pub swap-second-frozen : B .frozen s ≡ true → Stay 1 ≡ swapped B o f s
-  swap-second-frozen e = swap-stays 1 e
-
-  pub swap-same : f ≡ s → Stay 1 ≡ swapped B o f s
-  swap-same e = swap-stays 2 (eq-eqb f s e)
-
-  module _ (w v : ℕ) (ew : w ≡ ownerOf B o f) (ev : v ≡ ownerOf B o s) where
-    pub swap-first-unowned : w ≡ nobody → Stay 1 ≡ swapped B o f s
-    swap-first-unowned e = swap-stays 3 (nobody-owns B o f w ew e)
-
-    pub swap-second-unowned : v ≡ nobody → Stay 1 ≡ swapped B o f s
-    swap-second-unowned e = swap-stays 4 (nobody-owns B o s v ev e)
-
-    pub swap-owner : w ≡ v → Stay 1 ≡ swapped B o f s
-    swap-owner e = swap-stays 5 (eq-eqb _ _ (sym ew ∙ e ∙ ev))
-
-    pub swap-first-unfit : B .fits v f ≡ false → Stay 1 ≡ swapped B o f s
-    swap-first-unfit e = swap-stays 6 (ap not (ap (λ (x : ℕ). B .fits x f) (sym ev) ∙ e))
-
-    pub swap-second-unfit : B .fits w s ≡ false → Stay 1 ≡ swapped B o f s
-    swap-second-unfit e = swap-stays 7 (ap not (ap (λ (x : ℕ). B .fits x s) (sym ew) ∙ e))
-
-    pub swap-acts : (m : Move) → B .frozen f ≡ false → B .frozen s ≡ false → (f ≡ s → ⊥) → (w ≡ nobody → ⊥) → (v ≡ nobody → ⊥) → (w
-        ≡ v → ⊥)
-        → B .fits v f ≡ true → B .fits w s ≡ true → m ≡ Trade (B .from f) (B .upto f) v (B .from s) (B .upto s) w → m ≡ swapped B o f s
-    unfolding swapped anyOf
-    swap-acts m a b c d e g h i t =
-        goes (swapStays B o f s) 1 _ m
-        (simp (
-          a,
-          b,
-          ne-eqb f s c,
-          somebody-owns B o f w ew d,
-          somebody-owns B o s v ev e,
-          ne-eqb (ownerOf B o f) (ownerOf B o s) (λ q. g (ew ∙ q ∙ sym ev)),
-          ap (λ (x : ℕ). B .fits x f) (sym ev) ∙ h,
-          ap (λ (x : ℕ). B .fits x s) (sym ew) ∙ i,
-        ))
-        (t ∙ ap₂ (λ (x y : ℕ). Trade (B .from f) (B .upto f) x (B .from s) (B .upto s) y) ev ew)
+  pub swap-acts : (m : Move) (w v : ℕ) → w ≡ ownerOf B o f → v ≡ ownerOf B o s → anyOf (swapStays B o f s) ≡ false
+      → m ≡ Trade (B .from f) (B .upto f) v (B .from s) (B .upto s) w → m ≡ swapped B o f s
+  unfolding swapped
+  swap-acts m w v ew ev e t =
+      goes (swapStays B o f s) 1 _ m e
+      (t ∙ ap₂ (λ (x y : ℕ). Trade (B .from f) (B .upto f) x (B .from s) (B .upto s) y) ev ew)
 
 -- ---- runs
 

@@ -1,8 +1,9 @@
 // The five moves: each judges a draw and says what to do; nothing is written here.
 use crate::Move;
 use crate::Pick;
+use paper::NOBODY;
 ghost use mathlib.Core.Path.{_≡_};
-ghost use mathlib.Core.Bool.{not, _&&_};
+ghost use mathlib.Core.Bool.{not, _&&_, _||_};
 ghost use Prim.Native.Nat.{suc, _+_, _-_, _<_, _≤_};
 ghost use lib.Dec.{eqb};
 ghost use lib.ListN.{length, getD};
@@ -12,6 +13,7 @@ ghost use Rattle.rota.specs.Board.{runStart, runEnd};
 ghost use Rattle.units.specs.Domains.{inMask};
 ghost use Rattle.rota.specs.Ready.{ready, fitsBy, frozenBy, Cover, runsFit, OwnerRoom};
 ghost use Rattle.rota.specs.Moves.{draw, picked, reassigned, swapped, runReassigned, runsSwapped, grown, shrunk, shifted, decided};
+ghost use Rattle.rota.specs.Moves.{anyOf, swapStays};
 
 // The owner of a unit: that of its first slot.
 fn owner_of(firsts: &[u16], owners: &[u8], unit: usize) -> u8
@@ -244,6 +246,39 @@ fn reassign(
     }
 }
 
+// Either of two tests.
+fn either(a: bool, b: bool) -> bool
+    ensures { λ r. ⌜ r ≡ a || b ⌝ }
+{
+    if a { true } else { b }
+}
+
+// Whether two units keep their owners.
+fn swap_stays(
+    people: usize,
+    slots: usize,
+    units: usize,
+    firsts: &[u16],
+    fits: &[u32],
+    flags: &[u8],
+    owners: &[u8],
+    first: usize,
+    second: usize,
+) -> bool
+    ensures { λ r. ⌜ r ≡ anyOf (swapStays (ready people slots units (now (firsts .entry)) (now (fits .entry)) (now (flags .entry))) (now
+        (owners .entry)) first second) ⌝ }
+{
+    let left = owner_of(firsts, owners, first);
+    let right = owner_of(firsts, owners, second);
+    let stays = either(is_frozen(flags, first), is_frozen(flags, second));
+    let stays = either(stays, first == second);
+    let stays = either(stays, left == NOBODY);
+    let stays = either(stays, right == NOBODY);
+    let stays = either(stays, left == right);
+    let stays = either(stays, !fits_unit(fits, right, first));
+    either(stays, !fits_unit(fits, left, second))
+}
+
 // 35 to 59: two units change owners.
 fn swap_units(
     people: usize,
@@ -261,41 +296,30 @@ fn swap_units(
 {
     let left = owner_of(firsts, owners, first);
     let right = owner_of(firsts, owners, second);
-    if is_frozen(flags, first) {
+    if swap_stays(
+        people,
+        slots,
+        units,
+        firsts,
+        fits,
+        flags,
+        owners,
+        first,
+        second,
+    ) {
         return Move::Stay(1);
     }
-    if is_frozen(flags, second) {
-        return Move::Stay(1);
-    }
-    if first == second {
-        return Move::Stay(1);
-    }
-    if left == 255 {
-        return Move::Stay(1);
-    }
-    if right == 255 {
-        return Move::Stay(1);
-    }
-    if left == right {
-        return Move::Stay(1);
-    }
-    if fits_unit(fits, right, first) {
-        if fits_unit(fits, left, second) {
-            return trade(
-                slots,
-                units,
-                firsts,
-                first,
-                first,
-                right,
-                second,
-                second,
-                left,
-            );
-        }
-        return Move::Stay(1);
-    }
-    Move::Stay(1)
+    trade(
+        slots,
+        units,
+        firsts,
+        first,
+        first,
+        right,
+        second,
+        second,
+        left,
+    )
 }
 
 // 60 to 74: the run of a unit to somebody else who fits it all.
