@@ -5,7 +5,7 @@ use mathlib.Core.Bool.{Bool, true}
 use mathlib.Core.List.{List, [], _∷_, _++_}
 use Prim.Native.Nat.{ℕ, _+_, _-_, _*_, _≤_, _<_}
 use native.Mathlib.Omega.{arith}
-use lib.ListN.{length, getD, set, length-set}
+use lib.ListN.{length, getD, set}
 use Rattle.paper.specs.Count.{fill, onto}
 use Rattle.paper.proofs.Logic.{lt-or-ge}
 use Rattle.paper.proofs.Count.{length-fill, length-onto, onto-more}
@@ -140,19 +140,6 @@ at-answer P B o D d i x r o′ D′ S =
       stepped = subst (λ (k : ℕ). Stepped P B o D d k o′ D′) (S .answer) S;
       answers = ap (set x i) (S .answer);
     }
-
--- lengths stay
-pub at-lengths : (P : Plan) (B : Board) (o : List ℕ) (D : Derived) (d : Draw) (i : ℕ) (x o′ : List ℕ) (D′ : Derived) (x′ : List ℕ)
-    → SteppedAt P B o D d i x o′ D′ x′
-    → (length o′ ≡ length o) × (length (D′ .sets) ≡ length (D .sets)) × (length (D′ .minutes) ≡ length (D .minutes)) × (length x′ ≡ length x)
-unfolding ownersAfter
-at-lengths P B o D d i x o′ D′ x′ S =
-    let y = lengths-kept P o′ D D′ (S .stepped .derived) in (
-      ap length (S .stepped .owners) ∙ play-length B o (d ∷ []),
-      y .0,
-      y .1,
-      ap length (S .answers) ∙ length-set x i (answer B o d),
-    )
 
 -- ---- a list of draws
 

@@ -12,7 +12,8 @@ use base.Fml.{Lft, Share, GName, Fml, ftrue, fsep, feq, flft, flent, fobor, fobs
 use prog.Wp.{Heap}
 use ghost.Atoms.{Atoms, sem}
 use contract.Monad.{fact, factI}
-use types.Kit.{Given, Item, ‵, raw, _⊛_, some, later, _$_, _∵_, !, qed, move, keep, drop, use0, use1, use2, use3, rewrite, split, join, pick}
+use types.Kit.{Given, Item, ‵, raw, _⊛_, some, later, _$_, _∵_, !, qed, move, keep}
+use types.Kit.{drop, use0, use1, use2, use3, rewrite, split, join, pick}
 use types.Kit.{fsplit, fjoin, feqL, feqI, frame, await, updating, now as at-once, show, done, mean, ⋆, push, pop, Goal, Step, step}
 use types.SemTy.{cells, Arr}
 use types.Tokens.{lft-new, lft-end, lent-back, name-done}
@@ -96,12 +97,14 @@ module _ {M : Type 1} (𝓤 : URA M) (H : Heap 𝓤) (A : Atoms 𝓤) (W : Given
       → ent 𝓤 (Has 𝓤 H A s l) (H .⇛ (ex 𝓤 (λ (g : Loan). sep 𝓤 (sep 𝓤 (A .lft (g .0 ∷ []) fullShare) (mean 𝓤 H A (Lent 𝓤 H A s l g)))
       (Kept 𝓤 H A s l g))))
   lends-one l room e =
-      qed W (raw (Has 𝓤 H A s l) ∷ []) ∵ updating ! $ use1 W (later (‵ (Elements s l) ⊛ ‵ (Opened s l))) (takes-out l) $ await ! tt $ split ! $
+      qed W (raw (Has 𝓤 H A s l) ∷ []) ∵ updating ! $ use1 W (later (‵ (Elements s l) ⊛ ‵ (Opened s l))) (takes-out l) $ await ! tt $
+      split ! $
       use1 W (‵ (cells (mem (s .R)) l (s .x .ptr .0) (s .x .ptr .1))) (whole-in 𝓤 H A W (s .R) l (s .x .ptr .0) (s .x .ptr .1)) $
       lft-new ! tt (λ ν. move ! (1 ∷ []) $
       use1 W (later (some (λ (δ : GName). ‵ (MutSlice erased (ν ∷ []) (s .R) .own (at s δ l) (sliceVal (s .x .ptr) (length l) ∷ []))
       ⊛ ‵ (flent (ν ∷ []) (Held (s .R) (length l) (s .x .ptr .0) (s .x .ptr .1) δ)))))
-      (lends-slice 𝓤 H A W (s .R) erased (ν ∷ []) l (s .x .ptr .0) (s .x .ptr .1) (subst (Room (s .R)) (sym e) room)) $ await ! tt $ pick ! (λ δ.
+      (lends-slice 𝓤 H A W (s .R) erased (ν ∷ []) l (s .x .ptr .0) (s .x .ptr .1) (subst (Room (s .R)) (sym e) room)) $ await ! tt $
+      pick ! (λ δ.
       split ! $ rewrite ! 0 (λ (n : ℕ). ‵ (MutSlice erased (ν ∷ []) (s .R) .own (at s δ l) (sliceVal (s .x .ptr) n ∷ []))) e refl $
       -- [the slice; the lender's part; the loan's token; the open borrow]
       at-once ! $ show ! (λ (g : Loan). sep 𝓤 (sep 𝓤 (A .lft (g .0 ∷ []) fullShare) (mean 𝓤 H A (Lent 𝓤 H A s l g))) (Kept 𝓤 H A s l g))
@@ -126,7 +129,8 @@ module _ {M : Type 1} (𝓤 : URA M) (H : Heap 𝓤) (A : Atoms 𝓤) (W : Given
       → ent 𝓤 (Has 𝓤 H A s l) (H .⇛ (ex 𝓤 (λ (g : Loan). sep 𝓤 (sep 𝓤 (A .lft (g .0 ∷ []) fullShare) (mean 𝓤 H A (Shown 𝓤 H A s l g)))
       (KeptShown 𝓤 H A s l g))))
   shows-one l room e =
-      qed W (raw (Has 𝓤 H A s l) ∷ []) ∵ updating ! $ use1 W (later (‵ (Elements s l) ⊛ ‵ (Opened s l))) (takes-out l) $ await ! tt $ split ! $
+      qed W (raw (Has 𝓤 H A s l) ∷ []) ∵ updating ! $ use1 W (later (‵ (Elements s l) ⊛ ‵ (Opened s l))) (takes-out l) $ await ! tt $
+      split ! $
       feqI ! ℕ (length l) (length l) refl $ fjoin ! $ lft-new ! tt (λ ν. move ! (1 ∷ []) $
       use1 W (later (some (λ (δ : GName). ‵ (ShrSlice erased (ν ∷ []) (s .R) .own (at s δ l) (sliceVal (s .x .ptr) (length l) ∷ []))
       ⊛ ‵ (flent (ν ∷ []) (arr-parts (shares (s .R)) (length l) .part fullShare l (s .x .ptr .0) (s .x .ptr .1))))))
@@ -151,7 +155,8 @@ module _ {M : Type 1} (𝓤 : URA M) (H : Heap 𝓤) (A : Atoms 𝓤) (W : Given
       qed W (‵ (MutSlice erased (s .κ) (s .R) .own (at s (s .x .name) l) (slice-vals (s .x))) ∷ ‵ (flft (s .κ) (s .q)) ∷ []) ∵ updating ! $
       fsplit ! $ drop ! $ fsplit ! $ name-done ! tt $
       use1 W (‵ (finally (s .R) (s .x .name) l)) (res-finally 𝓤 H A W erased (s .κ) (s .R) (s .x .name) l) $
-      keep ! (0 ∷ 2 ∷ []) $ feqI ! ℕ (length l) (length (s .x .now)) e $ move ! (1 ∷ 0 ∷ []) $ fjoin ! $ at-once ! $ move ! (1 ∷ 0 ∷ []) $ done !
+      keep ! (0 ∷ 2 ∷ []) $ feqI ! ℕ (length l) (length (s .x .now)) e $ move ! (1 ∷ 0 ∷ []) $ fjoin ! $ at-once ! $
+      move ! (1 ∷ 0 ∷ []) $ done !
 
 -- ---- any number of them
 abbrev pub Lists : List Slice → Type 0
@@ -233,7 +238,8 @@ module _ {M : Type 1} {𝓤 : URA M} {H : Heap 𝓤} {A : Atoms 𝓤} {K : Type 
 module _ {M : Type 1} (𝓤 : URA M) (H : Heap 𝓤) (A : Atoms 𝓤) (W : Given 𝓤 H A) where
   -- all are lent, each as `one` lends it
   module _ (lent : (s : Slice) → List (s .R .Denot) → Loan → Item 𝓤) (kept : (s : Slice) → List (s .R .Denot) → Loan → SProp 𝓤)
-      (one : (s : Slice) (l : List (s .R .Denot)) → Room (s .R) (length (s .x .now)) → length l ≡ length (s .x .now) → ent 𝓤 (Has 𝓤 H A s l) (H .⇛ (ex 𝓤 (λ (g : Loan).
+      (one : (s : Slice) (l : List (s .R .Denot)) → Room (s .R) (length (s .x .now)) → length l ≡ length (s .x .now) → ent 𝓤
+      (Has 𝓤 H A s l) (H .⇛ (ex 𝓤 (λ (g : Loan).
       sep 𝓤 (sep 𝓤 (A .lft (g .0 ∷ []) fullShare) (mean 𝓤 H A (lent s l g))) (kept s l g))))) where
     each-lent : (ss : List Slice) (ls : Lists ss) → Rooms ss → AsLong ss ls
         → ent 𝓤 (HasAll 𝓤 H A ss ls) (H .⇛ (ex 𝓤 (λ (g : Loans ss). sep 𝓤 (LentAll 𝓤 H A lent ss ls g) (KeptAll 𝓤 H A kept ss ls g))))

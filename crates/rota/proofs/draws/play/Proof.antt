@@ -30,7 +30,8 @@ use contract.Running.{givenOf, tables, tablesOf}
 use types.Kit.{Given, Item, ‵, raw, _⊛_, some, later, runs, anyQ, atRet, Sq, _$_, _∵_, !, qed, by, move, keep, drop, put, use0, use1, use2}
 use types.Kit.{use3, mean, split, join, pick, rewrite, fsplit, fjoin, frame, await, updating, now as at-once, show, done}
 use types.Part.{agg, whole, sub, look-in}
-use types.Run.{look, look-raw, init, store, forget, stop, hop, fld, from, load, of-opd, bin, lit, addr, and-then, no-more, assigns, assigns-last}
+use types.Run.{look, look-raw, init, store, forget, stop, hop, fld, from, load, of-opd}
+use types.Run.{bin, lit, addr, and-then, no-more, assigns, assigns-last}
 use types.Run.{land, first, blocks, stays, leaves-loop, exec, Below, again, loops, returns}
 use sound.WpLaws.{fmOf}
 use denote.Array.{Array, array-lawful}
@@ -41,7 +42,7 @@ use denote.Builtin.{u8, u16, u32, u64, usize, bool}
 use denote.Index.{place-is, elem-out, elem-back, looks-slice, shuts-slice}
 use denote.Ref.{RefT}
 use denote.Signature.{typesAt}
-use denote.Slice.{sliceVal, slice-vals, ShrSlice, Room, shr-slice-copy}
+use denote.Slice.{sliceVal, slice-vals, ShrSlice, shr-slice-copy}
 use denote.Steps.{only, nothing, owned, heard}
 use denote.Struct.Laws as LL
 use denote.Triple.Clauses.{Lasts, lasts}
@@ -54,7 +55,7 @@ use Rattle.walks.proofs.Arrays.{ShownArray, KeptArray, InLocal, lends-array, ar
 use Rattle.walks.proofs.Calls.{asks, ends as ends-with}
 use Rattle.walks.proofs.Contexts.{sink, place-at}
 use Rattle.walks.proofs.Entries.{_&_, valuesOf, meets-by}
-use Rattle.walks.proofs.Loans.{Slice, Loan, Lists, Loans, AsLong, Rooms, Lent, Kept, Shown, KeptShown, HasAll, LentAll, KeptAll, SaidAll}
+use Rattle.walks.proofs.Loans.{Slice, Loan, Lists, Loans, AsLong, Rooms, Lent, Kept, Shown, KeptShown, HasAll, LentAll, KeptAll}
 use Rattle.walks.proofs.Loans.{SaidLast, OwnTokens, lent-out, lends-all, shows-all, back-all, hides-all, ends-all}
 use Rattle.walks.proofs.Locals.{Homes, envAt, localsAs, enters, leaves-each, copies}
 use Rattle.walks.proofs.Parts.{tokens-out, tokens-in, owns-out, owns-in, Copies, owns-twice}
@@ -328,15 +329,18 @@ module _ {M : Type 1} (𝓤 : URA M) (H : Heap 𝓤) (A : Atoms 𝓤) (W : Given
       → ent 𝓤 (sep 𝓤 (sem 𝓤 H A DrawsToken) (sep 𝓤 (toks 𝓤 A 5 k5 q5) (HasAll 𝓤 H A ss ls))) (Entry 𝓤 H A mem run .post y (vint w8 r))
   finish r ls long fits said =
       qed W (‵ DrawsToken ∷ raw (toks 𝓤 A 5 k5 q5) ∷ raw (HasAll 𝓤 H A ss ls) ∷ []) ∵ updating ! $
-      move ! (2 ∷ []) $ use1 W (later (raw (OwnTokens 𝓤 H A ss) ⊛ ‵ (SaidLast ss ls))) (ends-all 𝓤 H A W ss ls long) $ await ! tt $ split ! $
+      move ! (2 ∷ []) $ use1 W (later (raw (OwnTokens 𝓤 H A ss) ⊛ ‵ (SaidLast ss ls))) (ends-all 𝓤 H A W ss ls long) $ await ! tt $
+      split ! $
       move ! (3 ∷ []) $ tokens-out ! 5 k5 q5 $ move ! (5 ∷ []) $
-      tokens-out ! 4 ((κs .1 .1 .1 .1 .1 .0) & (κs .1 .1 .1 .1 .1 .1 .0) & (κs .1 .1 .1 .1 .1 .1 .1 .0) & (κs .1 .1 .1 .1 .1 .1 .1 .1 .1 .0) & tt)
+      tokens-out ! 4 ((κs .1 .1 .1 .1 .1 .0) & (κs .1 .1 .1 .1 .1 .1 .0) & (κs .1 .1 .1 .1 .1 .1 .1 .0) &
+      (κs .1 .1 .1 .1 .1 .1 .1 .1 .1 .0) & tt)
       ((qs .1 .1 .1 .1 .1 .0) & (qs .1 .1 .1 .1 .1 .1 .0) & (qs .1 .1 .1 .1 .1 .1 .1 .0) & (qs .1 .1 .1 .1 .1 .1 .1 .1 .1 .0) & tt) $
       move ! (4 ∷ 5 ∷ 6 ∷ 7 ∷ 8 ∷ 0 ∷ 1 ∷ 2 ∷ 10 ∷ 3 ∷ []) $ tokens-in ! 10 κs qs _ refl $
       -- [the tokens; what is said of the four]
       move ! (1 ∷ []) $ fsplit ! $ move ! (1 ∷ []) $ fsplit ! $ move ! (1 ∷ []) $ fsplit ! $ move ! (1 ∷ []) $
       nothing ! $ fjoin ! $ move ! (1 ∷ 0 ∷ []) $ fjoin ! $ move ! (1 ∷ 0 ∷ []) $ fjoin ! $ move ! (1 ∷ 0 ∷ []) $ fjoin ! $
-      nothing ! $ fjoin ! $ nothing ! $ fjoin ! $ nothing ! $ fjoin ! $ nothing ! $ fjoin ! $ nothing ! $ fjoin ! $ nothing ! $ fjoin ! $ nothing ! $ fjoin ! $ nothing ! $ fjoin ! $ nothing ! $ fjoin ! $
+      nothing ! $ fjoin ! $ nothing ! $ fjoin ! $ nothing ! $ fjoin ! $ nothing ! $ fjoin ! $ nothing ! $ fjoin ! $ nothing ! $ fjoin ! $
+      nothing ! $ fjoin ! $ nothing ! $ fjoin ! $ nothing ! $ fjoin ! $
       keep ! (1 ∷ 0 ∷ []) $ owned ! u8 (Is u8) (uint-makes 𝓤 H A W w8) r _ (refl, fits) $
       by ! (ends-with 𝓤 H A W entry.ended (entry.clauses 𝓤 H A mem run) y (vint w8 r) r
       (tt & tt & tt & tt & tt & tt & tt & tt & tt & ls .0 & ls .1 .0 & ls .1 .1 .0 & tt & ls .1 .1 .1 .0 & tt) _ (id⊢ 𝓤 _) said)
@@ -359,7 +363,8 @@ module _ {M : Type 1} (𝓤 : URA M) (H : Heap 𝓤) (A : Atoms 𝓤) (W : Given
 
     is-fits : Is (Array u32 1024) (b .fits) (fits-val ∷ [])
     is-fits =
-        subst (λ (l : List ℕ). Is (Array u32 1024) l (fits-val ∷ [])) (same-list (b .fits)) (LL.owed S.the-type S′.the-laws b _ is-b .1 .1 .0)
+        subst (λ (l : List ℕ). Is (Array u32 1024) l (fits-val ∷ [])) (same-list (b .fits))
+        (LL.owed S.the-type S′.the-laws b _ is-b .1 .1 .0)
 
     is-flags : Is (Array u8 1024) (b .flags) (flags-val ∷ [])
     is-flags =
@@ -438,7 +443,8 @@ module _ {M : Type 1} (𝓤 : URA M) (H : Heap 𝓤) (A : Atoms 𝓤) (W : Given
           qed W ((raw (toks 𝓤 A 5 k5 q5) ⊛ ‵ (owns Rs5 a5 v5)) ∷ FitsLoan ∷ FlagsLoan ∷ []) ∵ split ! $ tokens-out ! 5 k5 q5 $
           move ! (5 ∷ []) $ owns-out ! Rs5 a5 v5 $ move ! (10 ∷ []) $ split ! $ move ! (12 ∷ []) $ split ! $
           -- [token and slice of the flags; token and slice of the masks; what the five own; tokens 0 to 4]
-          move ! (11 ∷ 13 ∷ []) $ tokens-in ! 2 ((κs .1 .1 .0) & (κs .1 .1 .1 .1 .0) & tt) ((qs .1 .1 .0) & (qs .1 .1 .1 .1 .0) & tt) _ refl $ frame ! $
+          move ! (11 ∷ 13 ∷ []) $
+          tokens-in ! 2 ((κs .1 .1 .0) & (κs .1 .1 .1 .1 .0) & tt) ((qs .1 .1 .0) & (qs .1 .1 .1 .1 .0) & tt) _ refl $ frame ! $
           move ! (9 ∷ 10 ∷ 11 ∷ 2 ∷ 0 ∷ []) $ tokens-in ! 5 kr qr _ refl $ frame ! $
           keep ! (2 ∷ 3 ∷ 5 ∷ 1 ∷ 0 ∷ []) $ owns-in ! Rr ar vr _ refl $ done !
 
@@ -508,7 +514,8 @@ module _ {M : Type 1} (𝓤 : URA M) (H : Heap 𝓤) (A : Atoms 𝓤) (W : Given
         Left-lists = Lasts step-at.ended (ks ls g) (to-step ls g i d .0 .3)
 
         abbrev left-lists : Left-lists → Lists ss
-        left-lists ws = ws .1 .1 .1 .1 .1 .1 .1 .1 .0 & ws .1 .1 .1 .1 .1 .1 .1 .1 .1 .0 & ws .1 .1 .1 .1 .1 .1 .1 .1 .1 .1 .0 & ws .1 .1 .1 .1 .1 .1 .1 .1 .1 .1 .1 .1 .1 .1 .1 .0 & tt
+        left-lists ws = ws .1 .1 .1 .1 .1 .1 .1 .1 .0 & ws .1 .1 .1 .1 .1 .1 .1 .1 .1 .0 & ws .1 .1 .1 .1 .1 .1 .1 .1 .1 .1 .0
+            & ws .1 .1 .1 .1 .1 .1 .1 .1 .1 .1 .1 .1 .1 .1 .1 .0 & tt
 
         back-step : AsLong ss ls → (ws : Left-lists)
             → ent 𝓤 (sep 𝓤 (toks 𝓤 A 9 (ks ls g) (qs9 ls g))
@@ -519,8 +526,10 @@ module _ {M : Type 1} (𝓤 : URA M) (H : Heap 𝓤) (A : Atoms 𝓤) (W : Given
             ∷ ‵ (owns Rr ar vr) ∷ raw (KeptAll 𝓤 H A (Kept 𝓤 H A) ss ls g) ∷ []) ∵ updating ! $
             tokens-out ! 9 (ks ls g) (qs9 ls g) $ tokens-in ! 5 kr qr _ refl $ move ! (0 ∷ 6 ∷ []) $ join ! $
             -- [what is read, with its tokens; the loans' tokens; what is said; what is kept]
-            move ! (5 ∷ []) $ fsplit ! $ drop ! $ fsplit ! $ drop ! $ fsplit ! $ drop ! $ fsplit ! $ drop ! $ fsplit ! $ drop ! $ fsplit ! $ drop ! $ fsplit ! $ drop ! $ fsplit ! $ drop ! $
-            fsplit ! $ move ! (1 ∷ []) $ fsplit ! $ move ! (1 ∷ []) $ fsplit ! $ move ! (1 ∷ []) $ fsplit ! $ drop ! $ fsplit ! $ drop ! $ fsplit ! $ drop ! $ fsplit ! $ drop ! $
+            move ! (5 ∷ []) $ fsplit ! $ drop ! $ fsplit ! $ drop ! $ fsplit ! $ drop ! $ fsplit ! $ drop ! $ fsplit ! $ drop ! $
+            fsplit ! $ drop ! $ fsplit ! $ drop ! $ fsplit ! $ drop ! $
+            fsplit ! $ move ! (1 ∷ []) $ fsplit ! $ move ! (1 ∷ []) $ fsplit ! $ move ! (1 ∷ []) $ fsplit ! $ drop ! $ fsplit ! $
+            drop ! $ fsplit ! $ drop ! $ fsplit ! $ drop ! $
             move ! (1 ∷ 0 ∷ []) $ fjoin ! $ move ! (1 ∷ 0 ∷ []) $ fjoin ! $ move ! (1 ∷ 0 ∷ []) $ fjoin ! $
             move ! (2 ∷ 3 ∷ 4 ∷ 5 ∷ []) $ tokens-in ! 4 (k4 ls g) q4 _ refl $ move ! (0 ∷ 3 ∷ 1 ∷ []) $
             use3 W (later (raw (fact 𝓤 (AsLong ss (left-lists ws))) ⊛ raw (HasAll 𝓤 H A ss (left-lists ws))))
@@ -600,7 +609,8 @@ module _ {M : Type 1} (𝓤 : URA M) (H : Heap 𝓤) (A : Atoms 𝓤) (W : Given
             (filled (vbool false))) _ tt refl $
             -- [the list's token; what it owns; the four; the five tokens]
             keep ! (0 ∷ 3 ∷ 2 ∷ []) $ by ! (finish (b .number) (t .ls) (t .long) number-fits
-            (playing-ends P (avail .now) units (firsts .now) (frozen .now) count (owners .now) (derived (sets .now) (minutes .now)) (answers .now)
+            (playing-ends P (avail .now) units (firsts .now) (frozen .now) count (owners .now) (derived (sets .now) (minutes .now))
+            (answers .now)
             (draws .now) b w (t .i) _ _ _ (t .plays) is-n))
 
         -- a turn that plays one draw
@@ -634,17 +644,20 @@ module _ {M : Type 1} (𝓤 : URA M) (H : Heap 𝓤) (A : Atoms 𝓤) (W : Given
             shuts-slice ! tt T.the-row q′ (draws .now) (draws .ptr .0) (draws .ptr .1) $ move ! (1 ∷ []) $ drop ! $ sink ! 2 $
             -- [the locals; two tokens; what is read; the four; the list's token; what it owns]
             assigns ! (addr ! (from ! (stop !))) (from ! (stop !)) (init ! 72 refl (tt, tt)) $
-            assigns ! (agg ! (and-then ! (load ! (from ! (stop !)) (look ! 72 refl)) (and-then ! (counted ! (record { fits = lit< tt })) (no-more !)))) (from ! (stop !))
+            assigns ! (agg ! (and-then ! (load ! (from ! (stop !)) (look ! 72 refl)) (and-then ! (counted ! (record { fits = lit< tt }))
+            (no-more !)))) (from ! (stop !))
             (init ! 74 refl (tt, (tt, (record { fits = lit< tt }, tt)))) $
             assigns ! (addr ! (from ! (stop !))) (from ! (stop !)) (init ! 76 refl (tt, tt)) $
-            assigns ! (agg ! (and-then ! (load ! (from ! (stop !)) (look ! 76 refl)) (and-then ! (counted ! (record { fits = lit< tt })) (no-more !)))) (from ! (stop !))
+            assigns ! (agg ! (and-then ! (load ! (from ! (stop !)) (look ! 76 refl)) (and-then ! (counted ! (record { fits = lit< tt }))
+            (no-more !)))) (from ! (stop !))
             (init ! 78 refl (tt, (tt, (record { fits = lit< tt }, tt)))) $
             lends ! 0 10 40 41 refl refl refl tt refl refl refl (tt, typed .1 .1 .1 .1 .1 .1 .1 .1 .1 .0 .1) $
             lends ! 0 11 42 43 refl refl refl tt refl refl refl (tt, typed .1 .1 .1 .1 .1 .1 .1 .1 .1 .1 .0 .1) $
             lends ! 0 12 44 45 refl refl refl tt refl refl refl (tt, typed .1 .1 .1 .1 .1 .1 .1 .1 .1 .1 .1 .0 .1) $
             lends ! 0 14 46 47 refl refl refl tt refl refl refl (tt, typed .1 .1 .1 .1 .1 .1 .1 .1 .1 .1 .1 .1 .1 .0 .1) $
             -- `step_at`
-            move ! (97 ∷ 98 ∷ []) $ use2 W (later (some (λ (g : Loans ss). raw (StepAt 𝓤 H A mem run .pre (to-step p₁ p₂ g₁ g₂ (t .ls) g (t .i) d))
+            move ! (97 ∷ 98 ∷ []) $
+            use2 W (later (some (λ (g : Loans ss). raw (StepAt 𝓤 H A mem run .pre (to-step p₁ p₂ g₁ g₂ (t .ls) g (t .i) d))
             ⊛ raw (Left-step p₁ p₂ g₁ g₂ (t .ls) g)))) (out-step p₁ p₂ g₁ g₂ (t .ls) (t .long) (t .i) d i-fits (numbers-fit is) asked) $
             await ! tt $ pick ! (λ g. split ! $
             asks ! (fmOf 𝓤 H (W .laws) 𝓣) step-at.ended (step-at.clauses 𝓤 H A mem run) met-step (to-step p₁ p₂ g₁ g₂ (t .ls) g (t .i) d)
@@ -657,7 +670,8 @@ module _ {M : Type 1} (𝓤 : URA M) (H : Heap 𝓤) (A : Atoms 𝓤) (W : Given
             (and-then ! (load ! (from ! (fld ! refl (stop !))) (look-in ! 42 (sub ! 0 refl (whole !))))
             (and-then ! (load ! (from ! (fld ! refl (stop !))) (look-in ! 42 (sub ! 1 refl (whole !))))
             (and-then ! (load ! (from ! (fld ! refl (stop !))) (look-in ! 42 (sub ! 2 refl (whole !))))
-            (and-then ! (load ! (from ! (stop !)) (look ! 40 refl)) (and-then ! (load ! (from ! (stop !)) (look ! 96 refl)) (no-more !))))))))))))))))) _
+            (and-then ! (load ! (from ! (stop !)) (look ! 40 refl)) (and-then ! (load ! (from ! (stop !)) (look ! 96 refl))
+            (no-more !))))))))))))))))) _
             (λ r ws. id⊢ 𝓤 _) (λ z r ws e is′. drop ! $
             use3 W (later (raw (fact 𝓤 (AsLong ss (left-lists p₁ p₂ g₁ g₂ (t .ls) g (t .i) d ws)))
             ⊛ (raw (Read p₁ p₂ g₁ g₂) ⊛ raw (HasAll 𝓤 H A ss (left-lists p₁ p₂ g₁ g₂ (t .ls) g (t .i) d ws)))))
@@ -666,12 +680,15 @@ module _ {M : Type 1} (𝓤 : URA M) (H : Heap 𝓤) (A : Atoms 𝓤) (W : Given
             land ! (from ! (stop !)) (init ! 72 refl (nothing-lawful 𝓤 H A W .typed r _ is′ .0)) $ sink ! 2 $
             assigns-last ! (bin ! (load ! (from ! (stop !)) (look ! 38 refl)) (lit ! tt) (record { fits = next-fits })) (from ! (stop !))
             (store ! 38 refl (tt, record { fits = next-fits })) $
-            forget ! 40 refl $ forget ! 62 refl $ forget ! 64 refl $ forget ! 66 refl $ forget ! 68 refl $ forget ! 70 refl $ forget ! 72 refl $ forget ! 74 refl $ forget ! 76 refl $ forget ! 78 refl $ forget ! 80 refl $ forget ! 82 refl $ forget ! 84 refl $ forget ! 86 refl $ forget ! 88 refl $ forget ! 90 refl $ forget ! 92 refl $ forget ! 94 refl $
+            forget ! 40 refl $ forget ! 62 refl $ forget ! 64 refl $ forget ! 66 refl $ forget ! 68 refl $ forget ! 70 refl $
+            forget ! 72 refl $ forget ! 74 refl $ forget ! 76 refl $ forget ! 78 refl $ forget ! 80 refl $ forget ! 82 refl $
+            forget ! 84 refl $ forget ! 86 refl $ forget ! 88 refl $ forget ! 90 refl $ forget ! 92 refl $ forget ! 94 refl $
             again ! Nearer At t (record {
               i = t .i + 1;
               ls = left-lists p₁ p₂ g₁ g₂ (t .ls) g (t .i) d ws;
               long = long′;
-              plays = playing-more P (avail .now) units (firsts .now) (frozen .now) count (owners .now) (derived (sets .now) (minutes .now)) (answers .now)
+              plays = playing-more P (avail .now) units (firsts .now) (frozen .now) count (owners .now) (derived (sets .now)
+                  (minutes .now)) (answers .now)
                   (draws .now) b w (t .i) _ _ _ (t .plays) less _ _ _ e;
             }) (omega (arith, less)))))))
           where
@@ -679,7 +696,8 @@ module _ {M : Type 1} (𝓤 : URA M) (H : Heap 𝓤) (A : Atoms 𝓤) (W : Given
             d = drawAt (draws .now) (t .i)
 
             within : t .i < length (draws .now)
-            within = next-within P (avail .now) units (firsts .now) (frozen .now) count (owners .now) (derived (sets .now) (minutes .now)) (answers .now)
+            within = next-within P (avail .now) units (firsts .now) (frozen .now) count (owners .now) (derived (sets .now)
+                (minutes .now)) (answers .now)
                 (draws .now) b w (t .i) _ _ _ (t .plays) less
 
             small-i : t .i * 6 < 2 ^ 64
@@ -698,7 +716,8 @@ module _ {M : Type 1} (𝓤 : URA M) (H : Heap 𝓤) (A : Atoms 𝓤) (W : Given
                 (o .0 .1, (o .1 .0 .1, o .1 .1 .0 .1))
 
             asked : Asked (t .i) (t .ls)
-            asked = next-asks P (avail .now) units (firsts .now) (frozen .now) count (owners .now) (derived (sets .now) (minutes .now)) (answers .now)
+            asked = next-asks P (avail .now) units (firsts .now) (frozen .now) count (owners .now) (derived (sets .now) (minutes .now))
+                (answers .now)
                 (draws .now) b w (t .i) _ _ _ (t .plays) less
 
         turns : (t : Upto) → Sq W (At t) (runs C Λ En body.turn-1 (anyQ (Turned t)))
@@ -733,12 +752,14 @@ module _ {M : Type 1} (𝓤 : URA M) (H : Heap 𝓤) (A : Atoms 𝓤) (W : Given
           assigns ! (of-opd ! (load ! (from ! (fld ! refl (stop !))) (look-in ! 30 (sub ! 1 refl (whole !))))) (from ! (stop !))
           (init ! 36 refl (tt, record { fits = todo-fits })) $
           assigns ! (of-opd ! (lit ! tt)) (from ! (stop !)) (init ! 38 refl (tt, record { fits = lit< tt })) $
-          move ! (32 ∷ []) $ use1 W (later (some (λ (g : Loan). (‵ (flft (g .0 ∷ []) fullShare) ⊛ ShownArray 𝓤 H A W u32 1024 p₁ (b .fits) g)
+          move ! (32 ∷ []) $ use1 W (later (some (λ (g : Loan). (‵ (flft (g .0 ∷ []) fullShare) ⊛ ShownArray 𝓤 H A W u32 1024 p₁
+          (b .fits) g)
           ⊛ KeptArray 𝓤 H A W u32 1024 p₁ (b .fits) g)))
           (lends-array 𝓤 H A W u32 1024 p₁ (b .fits) tt (uint-makes 𝓤 H A W w32) fits-val is-fits (lit< tt, lit< tt)) $ await ! tt $
           pick ! (λ g₁. split ! $ move ! (1 ∷ []) $ place-at ! 33 $
           -- [the masks' loan; the locals]
-          move ! (35 ∷ []) $ use1 W (later (some (λ (g : Loan). (‵ (flft (g .0 ∷ []) fullShare) ⊛ ShownArray 𝓤 H A W u8 1024 p₂ (b .flags) g)
+          move ! (35 ∷ []) $ use1 W (later (some (λ (g : Loan). (‵ (flft (g .0 ∷ []) fullShare) ⊛ ShownArray 𝓤 H A W u8 1024 p₂
+          (b .flags) g)
           ⊛ KeptArray 𝓤 H A W u8 1024 p₂ (b .flags) g)))
           (lends-array 𝓤 H A W u8 1024 p₂ (b .flags) tt (uint-makes 𝓤 H A W w8) flags-val is-flags (lit< tt, lit< tt)) $ await ! tt $
           pick ! (λ g₂. split ! $ move ! (1 ∷ []) $ place-at ! 36 $ sink ! 2 $
@@ -749,7 +770,8 @@ module _ {M : Type 1} (𝓤 : URA M) (H : Heap 𝓤) (A : Atoms 𝓤) (W : Given
             i = 0;
             ls = ls₀;
             long = long₀;
-            plays = playing-starts P (avail .now) units (firsts .now) (frozen .now) count (owners .now) (derived (sets .now) (minutes .now)) (answers .now)
+            plays = playing-starts P (avail .now) units (firsts .now) (frozen .now) count (owners .now) (derived (sets .now)
+                (minutes .now)) (answers .now)
                 (draws .now) b w;
           })))
 
@@ -772,7 +794,8 @@ module _ {M : Type 1} (𝓤 : URA M) (H : Heap 𝓤) (A : Atoms 𝓤) (W : Given
         (init ! 56 refl (tt, tt)) $
         lends ! 0 14 29 30 refl refl refl tt refl refl refl (tt, typed .1 .1 .1 .1 .1 .1 .1 .1 .1 .1 .1 .1 .1 .0 .1) $
         -- `begin`
-        move ! (96 ∷ 97 ∷ []) $ use2 W (later (some (λ (g : Loans ss). raw (Begin 𝓤 H A mem run .pre (to-begin ls₀ g)) ⊛ raw (Left-begin ls₀ g))))
+        move ! (96 ∷ 97 ∷ []) $
+        use2 W (later (some (λ (g : Loans ss). raw (Begin 𝓤 H A mem run .pre (to-begin ls₀ g)) ⊛ raw (Left-begin ls₀ g))))
         (out-begin ls₀ long₀) $ await ! tt $ pick ! (λ g. split ! $
         asks ! (fmOf 𝓤 H (W .laws) 𝓣) begin.ended (begin.clauses 𝓤 H A mem run) met-begin (to-begin ls₀ g)
         (copies ! 2 (1 ∷ 2 ∷ 3 ∷ 4 ∷ 5 ∷ 6 ∷ 7 ∷ 8 ∷ 9 ∷ 22 ∷ 24 ∷ 26 ∷ 28 ∷ 30 ∷ []) refl) _ (λ r ws. id⊢ 𝓤 _) (λ u b ws e is. drop ! $
