@@ -1,8 +1,8 @@
 // A play over a lent list of draws, three numbers each, held together as structs.
-use draws::Draw;
+use rota::draws::Draw;
 ghost use Rattle.owners.specs.Derived.{plan, derived};
 ghost use Rattle.owners.specs.Entries.{Ended};
-ghost use Rattle.draws.specs.Played.{playedDraws};
+ghost use Rattle.rota.specs.Draws.{playedDraws};
 
 // A play of draws: an answer byte each.
 #[no_mangle]
@@ -28,7 +28,7 @@ pub extern "C" fn boltraven_play_draws(
         (now (answers .entry)))
         r (now (owners .exit)) (derived (now (sets .exit)) (now (minutes .exit))) (now (answers .exit)) ⌝ }
 {
-    draws::play(
+    rota::draws::play(
         people,
         slots,
         units,

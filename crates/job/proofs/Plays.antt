@@ -1,6 +1,6 @@
 -- What a play that was not refused leaves: owners known and available, their minutes, and U, which add up. Assumes nothing.
 use mathlib.Core.Path.{_≡_, sym, ap, ap₂, _∙_}
-use mathlib.Core.Bool.{true}
+use mathlib.Core.Bool.{Bool, true}
 use mathlib.Core.List.{List}
 use Prim.Native.Nat.{ℕ, _+_, _≤_, _<_}
 use native.Mathlib.Omega.{arith}
@@ -35,13 +35,15 @@ module _ (R : Ready) (d : Draws) (o : List ℕ) (D : Derived) (e : playOf R d o 
   abbrev P : Plan
   P = planOf R
 
-  no : heardOf (rota.playRow P (R .avail) (R .units) (R .firsts) (R .frozen) (d .count) (d .kinds) (d .ones) (d .twos) o D (replicate 1024
-      0)) ≡ 0
-  unfolding playOf rota.played state.outcome
+  abbrev enough : Bool
+  enough = rota.columnsEnough (d .count) (d .kinds) (d .ones) (d .twos)
+
+  no : heardOf (rota.playRow P (R .avail) (R .units) (R .firsts) (R .frozen) (d .count) enough o D (replicate 1024 0)) ≡ 0
+  unfolding playOf rota.playedList state.outcome
   no = e
 
-  asks : PlayAsks P (R .avail) (R .units) (R .firsts) (R .frozen) (d .count) (d .kinds) (d .ones) (d .twos) o D (replicate 1024 0)
-  asks = play-asks P (R .avail) (R .units) (R .firsts) (R .frozen) (d .count) (d .kinds) (d .ones) (d .twos) o D (replicate 1024 0) no
+  asks : PlayAsks P (R .avail) (R .units) (R .firsts) (R .frozen) (d .count) enough o D (replicate 1024 0)
+  asks = play-asks P (R .avail) (R .units) (R .firsts) (R .frozen) (d .count) enough o D (replicate 1024 0) no
 
   -- ---- what the play asked
 
@@ -49,7 +51,7 @@ module _ (R : Ready) (d : Draws) (o : List ℕ) (D : Derived) (e : playOf R d o 
   plan-right = asks .grounds .on .sound
 
   pub draws-few : d .count ≤ 1024
-  draws-few = omega (arith, asks .grounds .draws .answers, length-replicate {A = ℕ} 1024 0)
+  draws-few = omega (arith, asks .grounds .answers, length-replicate {A = ℕ} 1024 0)
 
   -- ---- the owners after the draws, and what is worked out from them
 
@@ -60,19 +62,19 @@ module _ (R : Ready) (d : Draws) (o : List ℕ) (D : Derived) (e : playOf R d o 
   after = ownersAfter (boardOf (R .people) (R .slots) (R .units) (R .avail) (R .firsts) (R .frozen)) o drawn
 
   owners-are : playOf R d o D .owners ≡ after
-  unfolding playOf rota.played state.outcome unless after
+  unfolding playOf rota.playedList state.outcome unless after
   owners-are = sym (when-none _ after o no)
 
   derived-are : playOf R d o D .derived ≡ afresh P after D
-  unfolding playOf rota.played state.outcome unless after
+  unfolding playOf rota.playedList state.outcome unless after
   derived-are = sym (when-none _ (afresh P after D) D no)
 
   recounted : recounts P (R .avail) (R .units) (R .firsts) (playOf R d o D .owners) (playOf R d o D .derived) ≡ true
   unfolding after
   recounted =
       ap₂ (λ (w : List ℕ) (E : Derived). recounts P (R .avail) (R .units) (R .firsts) w E) owners-are derived-are
-      ∙ promises.played-recounts P (R .avail) (R .units) (R .firsts) (R .frozen) (d .count) (d .kinds) (d .ones) (d .twos) o D
-      (replicate 1024 0) asks drawn
+      ∙ promises.played-recounts P (R .avail) (R .units) (R .firsts) (R .frozen) (d .count) enough o D (replicate 1024 0)
+      asks drawn
 
   right : Recounted P (R .avail) (R .units) (R .firsts) (playOf R d o D .owners) (playOf R d o D .derived)
   right = recount-says P (R .avail) (R .units) (R .firsts) (playOf R d o D .owners) (playOf R d o D .derived) recounted
@@ -122,12 +124,12 @@ module _ (R : Ready) (d : Draws) (o : List ℕ) (D : Derived) (e : playOf R d o 
   unfolding after
   frozen-keeps k h z =
       ap (λ (w : List ℕ). getD w k 0) owners-are
-      ∙ promises.frozen-slots-keep P (R .avail) (R .units) (R .firsts) (R .frozen) (d .count) (d .kinds) (d .ones) (d .twos) o D
-      (replicate 1024 0) asks drawn k h z
+      ∙ promises.frozen-slots-keep P (R .avail) (R .units) (R .firsts) (R .frozen) (d .count) enough o D (replicate 1024 0)
+      asks drawn k h z
 
   -- a covered slot stays covered
   pub stays-covered : (k : ℕ) → k < R .slots → (getD o k 0 ≡ nobody → ⊥) → getD (playOf R d o D .owners) k 0 ≡ nobody → ⊥
   unfolding after
   stays-covered k h n z =
-      promises.covered-stays P (R .avail) (R .units) (R .firsts) (R .frozen) (d .count) (d .kinds) (d .ones) (d .twos) o D
-      (replicate 1024 0) asks drawn k h n (ap (λ (w : List ℕ). getD w k 0) (sym owners-are) ∙ z)
+      promises.covered-stays P (R .avail) (R .units) (R .firsts) (R .frozen) (d .count) enough o D (replicate 1024 0)
+      asks drawn k h n (ap (λ (w : List ℕ). getD w k 0) (sym owners-are) ∙ z)

@@ -105,17 +105,19 @@ module _ (R : Ready) (d : Draws) (o : List ℕ) (H : RotaSound R d o) where
 
     -- ---- the play is never refused
 
+    abbrev enough : Bool
+    enough = rota.columnsEnough (d .count) (d .kinds) (d .ones) (d .twos)
+
     abbrev no : ℕ
     no =
-        heardOf (rota.playRow P (R .avail) (R .units) (R .firsts) (R .frozen) (d .count) (d .kinds) (d .ones) (d .twos) o (afresh P o none)
-        (replicate 1024 0))
+        heardOf (rota.playRow P (R .avail) (R .units) (R .firsts) (R .frozen) (d .count) enough o (afresh P o none) (replicate 1024 0))
 
-    play-room : rota.playRoomOk (R .units) (R .firsts) (R .frozen) (d .count) (d .kinds) (d .ones) (d .twos) (replicate 1024 0) ≡ true
-    unfolding rota.playRoomOk
+    play-room : rota.playRoomOk (R .units) (R .firsts) (R .frozen) (d .count) enough (replicate 1024 0) ≡ true
+    unfolding rota.playRoomOk rota.columnsEnough
     play-room =
         and-true _ _ (le-leb _ _ (H .units-room)) (and-true _ _ (le-leb _ _ (H .flags-room))
-        (and-true _ _ (le-leb _ _ (H .kinds-room)) (and-true _ _ (le-leb _ _ (H .ones-room)) (and-true _ _ (le-leb _ _ (H .twos-room))
-        (le-leb (d .count) (length (replicate {A = ℕ} 1024 0)) (omega (arith, H .draws-few, length-replicate {A = ℕ} 1024 0)))))))
+        (and-true _ _ (and-true _ _ (le-leb _ _ (H .kinds-room)) (and-true _ _ (le-leb _ _ (H .ones-room)) (le-leb _ _ (H .twos-room))))
+        (le-leb (d .count) (length (replicate {A = ℕ} 1024 0)) (omega (arith, H .draws-few, length-replicate {A = ℕ} 1024 0)))))
 
     play-none : no ≡ 0
     unfolding state.recountRow state.lentRow heardOf
@@ -137,7 +139,7 @@ module _ (R : Ready) (d : Draws) (o : List ℕ) (H : RotaSound R d o) where
         (recount-number P (R .avail) (R .units) (R .firsts) o E ∙ ap (λ (b : Bool). cond b 0 10) recounted)
 
     pub play-no : playOf R d o (startOf R o .derived) .number ≡ 0
-    unfolding playOf rota.played state.outcome
+    unfolding playOf rota.playedList state.outcome
     play-no = ap (λ (E : Derived). playOf R d o E .number) started ∙ play-none
 
     -- all persons' minutes and the uncovered ones are the total of the slots

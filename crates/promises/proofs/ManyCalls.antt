@@ -1,23 +1,24 @@
 -- Draws played in any number of calls end as in one. Assumes nothing.
 use mathlib.Core.Path.{_≡_, refl, sym, ap, ap₂, subst, _∙_}
 use mathlib.Core.List.{List, [], _∷_, _++_, map, append-nil}
-use Prim.Native.Nat.{ℕ, zero, suc, _+_, _*_, _≤_}
+use Prim.Native.Nat.{ℕ, suc, _+_, _*_, _≤_}
 use native.Mathlib.Omega.{arith}
 use borrow.Author.Tests.{le-leb}
-use lib.ListN.{length, getD, take, drop, length-append}
-use lib.Seq.{take-at}
+use lib.ListN.{length, take, drop, length-append}
+use lib.Seq.{take-at, take-length}
 use Rattle.paper.specs.Limits.{drawsMost}
 use Rattle.paper.specs.Count.{onto}
 use Rattle.rota.specs.Board.{Board}
-use Rattle.rota.specs.Moves.{Draw, draw}
+use Rattle.rota.specs.Moves.{Draw}
 use Rattle.rota.specs.Plays.{drawsOf, ownersAfter, answers}
 use Rattle.owners.specs.Derived.{Derived, afresh}
 use Rattle.owners.specs.Entries.{Outcome, outcome}
-use Rattle.rota.specs.Entries.{played}
+use Rattle.rota.specs.Entries.{playedList}
 use Rattle.rota.proofs.Plays.{owners-append, answers-append, answers-length, draws-length}
 use Rattle.owners.proofs.Steps.{afresh-again, afresh-fit}
-use Rattle.draws.specs.declared.Draw as struct
-use Rattle.draws.specs.Columns.{kinds, ones, twos}
+use Rattle.rota.specs.declared.draws.Draw as struct
+use Rattle.rota.specs.Draws.{numbers, kinds, ones, twos}
+use Rattle.rota.proofs.Alike.{draws-same}
 use Rattle.promises.specs.Entries.{Call, built, noOf, playOf, afreshIn, boardIn, ownersIn, drawsIn}
 use Rattle.promises.specs.Rota.{Words}
 use Rattle.promises.specs.ManyCalls.{Part, partCall, drawsOfParts, AllAccepted, lastOwners, lastDerived, allAnswers, EndsAsOne}
@@ -34,7 +35,7 @@ said c e =
     (answers-length (boardIn c) (c .owners) (drawsIn c) ∙ draws-length (c .kinds) (c .ones) (c .twos) (c .count))
 
 accepted-number : (c : Call) → playOf c .number ≡ 0 → noOf c ≡ 0
-unfolding played outcome
+unfolding playedList outcome
 accepted-number c e = e
 
 ends-one : (c : Call) (o : List ℕ) (D : Derived) (p : Part) (ps : List Part) → Words (D .sets) → AllAccepted built c o D (p ∷ ps)
@@ -115,21 +116,8 @@ many-calls c o D p ps f A w W =
 
 -- ---- lists of structs
 
-abbrev numbers : struct.Draw → Draw
-numbers d = draw (d .draw) (d .first) (d .second)
-
-draws-cons : (k f s : ℕ) (ks fs ss : List ℕ) (n : ℕ) → drawsOf (k ∷ ks) (f ∷ fs) (s ∷ ss) (suc n) ≡ draw k f s ∷ drawsOf ks fs ss n
-unfolding drawsOf
-draws-cons k f s ks fs ss zero = refl
-draws-cons k f s ks fs ss (suc n) =
-    ap (λ (l : List Draw). l ++ (draw (getD ks n 0) (getD fs n 0) (getD ss n 0) ∷ [])) (draws-cons k f s ks fs ss n)
-
 struct-draws : (ds : List struct.Draw) → drawsOf (kinds ds) (ones ds) (twos ds) (length ds) ≡ map numbers ds
-unfolding kinds ones twos drawsOf
-struct-draws [] = refl
-struct-draws (d ∷ ds) =
-    draws-cons (d .draw) (d .first) (d .second) (kinds ds) (ones ds) (twos ds) (length ds)
-    ∙ ap (λ (l : List Draw). numbers d ∷ l) (struct-draws ds)
+struct-draws ds = sym (draws-same ds (length ds) (omega arith)) ∙ ap (map numbers) (take-length ds)
 
 map-both : (ds es : List struct.Draw) → map numbers (ds ++ es) ≡ map numbers ds ++ map numbers es
 map-both [] es = refl

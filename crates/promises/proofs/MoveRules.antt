@@ -13,7 +13,7 @@ use Rattle.rota.proofs.Acts.{run-of}
 use Rattle.rota.proofs.Drawn.{draw-acts-exactly, handed-exactly}
 use Rattle.rota.proofs.HandsOver.{draw-keeps}
 use Rattle.rota.proofs.Promises.{answers-exactly, next-hands-over}
-use Rattle.promises.specs.Entries.{Call, noOf, playOf, boardIn}
+use Rattle.promises.specs.Entries.{Call, enoughIn, noOf, playOf, boardIn}
 use Rattle.promises.specs.MoveRules.{drawAt, foundAt, MovesByRule}
 use Rattle.promises.proofs.Calls.{accepted-is}
 use Rattle.promises.proofs.Rota.{asks}
@@ -37,7 +37,7 @@ moves-by-rule = record {
   answers = draw-acts-exactly;
   play = play-answers;
   hands-over = λ c e i A k h.
-      next-hands-over (c .plan) (c .avail) (c .units) (c .firsts) (c .frozen) (c .count) (c .kinds) (c .ones) (c .twos) (c .owners)
+      next-hands-over (c .plan) (c .avail) (c .units) (c .firsts) (c .frozen) (c .count) (enoughIn c) (c .owners)
       (c .derived) (c .answers) (asks c e) (drawsOf (c .kinds) (c .ones) (c .twos) i) (drawAt c i) A k h;
   keeps = draw-keeps;
   handed = handed-exactly;

@@ -26,7 +26,7 @@ use Rattle.rota.proofs.Entered.{asks-sound, asks-even}
 use Rattle.rota.proofs.Plays.{owners-append, play-even, play-length, play-past}
 use Rattle.rota.proofs.Drawn.{draw-acts-exactly}
 use Rattle.rota.proofs.HandsOver.{draw-hands-over, draw-keeps}
-use Rattle.promises.specs.Entries.{Call, built, noOf, boardIn, drawsIn}
+use Rattle.promises.specs.Entries.{Call, built, enoughIn, noOf, boardIn, drawsIn}
 use Rattle.promises.specs.MoveRules.{drawAt, foundAt}
 use Rattle.promises.specs.PlayRule.{Turn, History, PlayedBy, PlaysByRule, OneHistory, InSlots, BoardInSlots, BoardsInSlots}
 use Rattle.promises.proofs.Calls.{accepted-is, accepted-says}
@@ -58,12 +58,12 @@ module _ (c : Call) (e : noOf c ≡ 0) where
 
   sound : BoardSound B
   sound =
-      asks-sound (c .plan) (c .avail) (c .units) (c .firsts) (c .frozen) (c .count) (c .kinds) (c .ones) (c .twos) (c .owners) (c .derived)
+      asks-sound (c .plan) (c .avail) (c .units) (c .firsts) (c .frozen) (c .count) (enoughIn c) (c .owners) (c .derived)
       (c .answers) (asks c e)
 
   even : Even B (c .owners)
   even =
-      asks-even (c .plan) (c .avail) (c .units) (c .firsts) (c .frozen) (c .count) (c .kinds) (c .ones) (c .twos) (c .owners) (c .derived)
+      asks-even (c .plan) (c .avail) (c .units) (c .firsts) (c .frozen) (c .count) (enoughIn c) (c .owners) (c .derived)
       (c .answers) (asks c e)
 
   abbrev first : ℕ → List Draw

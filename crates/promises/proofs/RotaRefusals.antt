@@ -1,5 +1,5 @@
 -- Demand 1 of targets and rota: heard by the table, and a refusal leaves what was lent as it was. Assumes nothing.
-use mathlib.Core.Path.{_≡_, refl, sym, ap, _∙_}
+use mathlib.Core.Path.{_≡_, refl, sym, ap, subst, _∙_}
 use mathlib.Core.Bool.{Bool, true, _&&_, cond, and-false}
 use mathlib.Core.List.{List, [], _∷_}
 use Prim.Native.Nat.{ℕ, _*_}
@@ -20,7 +20,9 @@ use Rattle.targets.specs.Outcome as targets
 use Rattle.targets.proofs.Promises.{number-row, refused-keeps}
 use Rattle.owners.specs.Derived.{Plan, Derived, derived, afresh, setsFrom, nobodies, unassigned, uncovered}
 use Rattle.rota.specs.Entries as rota
-use Rattle.promises.specs.Entries.{Call, playOf, ofDraws, afreshIn, rowOf}
+use Rattle.rota.specs.declared.draws.Draw.{Draw}
+use Rattle.rota.proofs.Alike.{played-same}
+use Rattle.promises.specs.Entries.{Call, playOf, ofDraws, playDrawsOf, afreshIn, rowOf}
 use Rattle.promises.specs.Table.{rules, Hears, Refuses}
 use Rattle.promises.specs.Refusals.{TargetsRefuse, Lent, left, RotaRefuses}
 use Rattle.promises.proofs.Table.{rising, tests-heard, heard-as}
@@ -77,10 +79,18 @@ recount-slots-heard P avail o D = tests-heard (state.recountSlotsRow P avail o D
 
 play-refuses : (c : Call)
     → let y = playOf c in Refuses {A = Lent} (rules (rowOf c)) (y .number) (c .owners, c .derived, c .answers) (left y)
-unfolding rota.played state.recountRow state.lentRow recountTests
+unfolding rota.playedList state.recountRow state.lentRow recountTests
 play-refuses c =
     let y = afreshIn c in
     outcome-refuses (rowOf c) (c .owners) (c .derived) (c .answers) (y .owners) (y .derived) (y .answers) refl
+
+play-draws-refuses : (c : Call) (ds : List Draw)
+    → let y = playDrawsOf c ds in
+    Refuses {A = Lent} (rules (rowOf (ofDraws c ds))) (y .number) (c .owners, c .derived, c .answers) (left y)
+play-draws-refuses c ds =
+    let same = played-same (c .plan) (c .avail) (c .units) (c .firsts) (c .frozen) (c .count) (c .owners) (c .derived) (c .answers) ds in
+    subst (λ (y : state.Outcome). Refuses {A = Lent} (rules (rowOf (ofDraws c ds))) (y .number) (c .owners, c .derived, c .answers) (left y))
+    (sym same) (play-refuses (ofDraws c ds))
 
 empty-refuses : (people slots : ℕ) (o : List ℕ) (D : Derived)
     → let y = state.emptied people slots o D in
@@ -146,7 +156,7 @@ rota-refuses = record {
   recount = recount-heard;
   recount-slots = recount-slots-heard;
   play = play-refuses;
-  play-draws = λ c ds. play-refuses (ofDraws c ds);
+  play-draws = play-draws-refuses;
   empty = empty-refuses;
   owner-of-slot = owner-heard;
   minutes-of = minutes-heard;

@@ -1,5 +1,6 @@
 -- A component, by what its entries answer: anything of these types may be judged by the promises. The one that is built answers by the
 -- definitions that the contracts cite. Assumes nothing.
+use mathlib.Core.Bool.{Bool}
 use mathlib.Core.List.{List}
 use Prim.Native.Nat.{ℕ}
 use lib.IntN.{ℤ}
@@ -29,9 +30,8 @@ use Rattle.paper.specs.Limits.{Test, heardOf}
 use Rattle.owners.specs.Derived.{Plan, Derived, afresh}
 use Rattle.owners.specs.Entries as state
 use Rattle.rota.specs.Entries as rota
-use Rattle.draws.specs.declared.Draw as struct
-use Rattle.draws.specs.Columns.{kinds, ones, twos}
-use Rattle.draws.specs.Played.{playedDraws}
+use Rattle.rota.specs.declared.draws.Draw as struct
+use Rattle.rota.specs.Draws.{kinds, ones, twos, playedDraws}
 
 -- ---- a call of play
 
@@ -50,11 +50,13 @@ pub record Call : Type 0 where
   pub derived : Derived
   pub answers : List ℕ
 
--- its tests, the number that it hears, and its whole outcome
+-- whether its columns have enough draws, its tests, the number that it hears, and its whole outcome
+abbrev pub enoughIn : Call → Bool
+enoughIn c = rota.columnsEnough (c .count) (c .kinds) (c .ones) (c .twos)
+
 abbrev pub rowOf : Call → List Test
 rowOf c =
-    rota.playRow (c .plan) (c .avail) (c .units) (c .firsts) (c .frozen) (c .count) (c .kinds) (c .ones) (c .twos) (c .owners) (c .derived)
-    (c .answers)
+    rota.playRow (c .plan) (c .avail) (c .units) (c .firsts) (c .frozen) (c .count) (enoughIn c) (c .owners) (c .derived) (c .answers)
 
 abbrev pub noOf : Call → ℕ
 noOf c = heardOf (rowOf c)

@@ -8,8 +8,8 @@ use Rattle.paper.specs.Limits.{drawsMost}
 use Rattle.rota.specs.Moves.{Draw}
 use Rattle.rota.specs.Plays.{drawsOf, ownersAfter, answers}
 use Rattle.owners.specs.Derived.{Derived, afresh}
-use Rattle.draws.specs.declared.Draw as struct
-use Rattle.draws.specs.Columns.{kinds, ones, twos}
+use Rattle.rota.specs.declared.draws.Draw as struct
+use Rattle.rota.specs.Draws.{kinds, ones, twos}
 use Rattle.promises.specs.Entries.{Call, Component, withDraws, onRota, boardIn, drawsIn}
 use Rattle.promises.specs.Rota.{Words}
 

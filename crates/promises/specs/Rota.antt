@@ -16,7 +16,7 @@ use Rattle.rota.specs.Acts as acts
 use Rattle.owners.specs.Derived.{knownBy}
 use Rattle.owners.specs.Recount.{availableFor, recounts}
 use Rattle.owners.specs.Entries.{Outcome, slotsOfIs}
-use Rattle.draws.specs.declared.Draw.{Draw}
+use Rattle.rota.specs.declared.draws.Draw.{Draw}
 use Rattle.promises.specs.Entries.{Call, Component, noOf, playOf, withDraws, onRota, ofDraws, playDrawsOf, afreshIn, boardIn}
 use Rattle.promises.specs.MoveRules.{drawAt, foundAt}
 use Rattle.promises.specs.RotaRules.{PastKept}

@@ -12,5 +12,9 @@ pub mod Moved
 pub mod Readied
 pub mod Stepping
 pub mod Entered
+pub mod Beginning
+pub mod Alike
+pub mod Listed
+pub mod Passed
 pub mod Asked
 pub mod Promises

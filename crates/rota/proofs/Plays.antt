@@ -2,7 +2,8 @@
 use mathlib.Core.Path.{_≡_, refl, sym, ap, _∙_}
 use mathlib.Core.Bool.{Bool, true, false, _&&_}
 use mathlib.Core.List.{List, [], _∷_, _++_}
-use Prim.Native.Nat.{ℕ, zero, suc, _-_, _≤_}
+use Prim.Native.Nat.{ℕ, zero, suc, _+_, _-_, _≤_}
+use native.Mathlib.Numerals.{add-one}
 use native.Mathlib.Omega.{arith}
 use borrow.Author.Tests.{eq-eqb}
 use lib.Dec.{eqb}
@@ -14,7 +15,7 @@ use Rattle.paper.proofs.Count.{length-fill}
 use Rattle.rota.specs.declared.Move.{Move}
 use Rattle.rota.specs.declared.Move.the-variants.{Stay, Give, Trade}
 use Rattle.rota.specs.Board.{Board, BoardSound, InUnit, Even}
-use Rattle.rota.specs.Moves.{Draw, decided, answerOf, act, handed}
+use Rattle.rota.specs.Moves.{Draw, draw, decided, answerOf, act, handed}
 use Rattle.rota.specs.Plays.{step, ownersAfter, answer, answers, touched, drawsOf}
 use Rattle.rota.proofs.Lawful.{decided-lawful}
 use Rattle.rota.proofs.Kept.{act-even, act-covered, act-frozen, act-only, act-past}
@@ -42,6 +43,11 @@ pub draws-length : (ks fs ss : List ℕ) (n : ℕ) → length (drawsOf ks fs ss 
 unfolding drawsOf
 draws-length ks fs ss zero = refl
 draws-length ks fs ss (suc n) = length-append (drawsOf ks fs ss n) _ ∙ omega (arith, draws-length ks fs ss n)
+
+pub draws-next : (ks fs ss : List ℕ) (i : ℕ) → drawsOf ks fs ss (i + 1) ≡ drawsOf ks fs ss i ++ (draw (getD ks i 0) (getD fs i 0)
+    (getD ss i 0) ∷ [])
+unfolding drawsOf
+draws-next ks fs ss i = ap (drawsOf ks fs ss) (add-one i)
 
 -- ---- what a play keeps
 

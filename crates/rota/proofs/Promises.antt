@@ -42,8 +42,8 @@ use Rattle.rota.proofs.Asked.{Asks}
 
 -- ---- a play that is accepted
 
-module _ (P : Plan) (avail : List ℕ) (units : ℕ) (firsts frozen : List ℕ) (n : ℕ) (ks fs ss o : List ℕ) (D : Derived) (x : List ℕ)
-    (A : PlayAsks P avail units firsts frozen n ks fs ss o D x) (ds : List Draw) where
+module _ (P : Plan) (avail : List ℕ) (units : ℕ) (firsts frozen : List ℕ) (n : ℕ) (enough : Bool) (o : List ℕ) (D : Derived) (x :
+    List ℕ) (A : PlayAsks P avail units firsts frozen n enough o D x) (ds : List Draw) where
   abbrev B : Board
   B = boardOf (P .people) (P .slots) units avail firsts frozen
 
@@ -51,10 +51,10 @@ module _ (P : Plan) (avail : List ℕ) (units : ℕ) (firsts frozen : List ℕ) 
   after = ownersAfter B o ds
 
   sound : BoardSound B
-  sound = asks-sound P avail units firsts frozen n ks fs ss o D x A
+  sound = asks-sound P avail units firsts frozen n enough o D x A
 
   even : Even B o
-  even = asks-even P avail units firsts frozen n ks fs ss o D x A
+  even = asks-even P avail units firsts frozen n enough o D x A
 
   -- a slot lies in its unit
   in-unit : (k : ℕ) → k < P .slots → InUnit B (unitOf units firsts k) k

@@ -4,7 +4,6 @@ use mathlib.Core.Logic.{⊎-elim}
 use mathlib.Core.Bool.{Bool, true}
 use mathlib.Core.List.{List, [], _∷_, _++_}
 use Prim.Native.Nat.{ℕ, _+_, _-_, _*_, _≤_, _<_}
-use native.Mathlib.Numerals.{add-one}
 use native.Mathlib.Omega.{arith}
 use lib.ListN.{length, getD, set}
 use Rattle.paper.specs.Count.{fill, onto}
@@ -18,11 +17,11 @@ use Rattle.rota.specs.Moves.{Draw, draw, decided, answerOf, act, handed}
 use Rattle.rota.specs.Plays.{step, answer, ownersAfter, answers, drawsOf}
 use Rattle.owners.specs.Derived.{Plan, knownBy, Derived, derived, afresh}
 use Rattle.owners.specs.Inside.{InStep, HandedOver, OneOwner}
-use Rattle.rota.specs.Stepped.{Stepped, Ran}
+use Rattle.rota.specs.Stepped.{Stepped, SteppedAt, Ran}
 use Rattle.owners.proofs.Minutes.{known-person}
 use Rattle.rota.proofs.Lawful.{Stretch, Traded, Lawful, decided-lawful}
 use Rattle.rota.proofs.Kept.{upto-rises, outside}
-use Rattle.rota.proofs.Plays.{play-length, play-even, owners-append, answers-append, answers-length, draws-length}
+use Rattle.rota.proofs.Plays.{play-length, play-even, owners-append, answers-append, answers-length, draws-length, draws-next}
 use Rattle.owners.proofs.Steps.{afresh-again, afresh-same, lengths-kept}
 
 -- ---- a lawful stretch has one owner
@@ -133,52 +132,55 @@ module _ (P : Plan) (B : Board) (o : List ℕ) (D : Derived) (d : Draw) (r : Mov
         in-step = G .step;
       }
 
+-- the same, with its answer at i of a list
+pub at-answer : (P : Plan) (B : Board) (o : List ℕ) (D : Derived) (d : Draw) (i : ℕ) (x : List ℕ) (r : ℕ) (o′ : List ℕ) (D′ : Derived)
+    → Stepped P B o D d r o′ D′ → SteppedAt P B o D d i x o′ D′ (set x i r)
+at-answer P B o D d i x r o′ D′ S =
+    record {
+      stepped = subst (λ (k : ℕ). Stepped P B o D d k o′ D′) (S .answer) S;
+      answers = ap (set x i) (S .answer);
+    }
+
 -- ---- a list of draws
 
-pub ran-start : (P : Plan) (B : Board) (o : List ℕ) (D : Derived) (x ks fs ss : List ℕ) → P .slots ≤ 1024 → Fit (D .sets) → InStep P o D
-    → Ran P B o D x (drawsOf ks fs ss 0) o D x
-unfolding drawsOf ownersAfter answers onto
-ran-start P B o D x ks fs ss few f J = record { owners = refl; derived = afresh-same P o D few f J; answers = refl; in-step = J }
+pub ran-start : (P : Plan) (B : Board) (o : List ℕ) (D : Derived) (x : List ℕ) → P .slots ≤ 1024 → Fit (D .sets) → InStep P o D
+    → Ran P B o D x [] o D x
+unfolding ownersAfter answers onto
+ran-start P B o D x few f J = record { owners = refl; derived = afresh-same P o D few f J; answers = refl; in-step = J }
 
-module _ (P : Plan) (B : Board) (o : List ℕ) (D : Derived) (x ks fs ss : List ℕ) (i : ℕ) (o′ : List ℕ) (D′ : Derived) (x′ : List ℕ)
-    (R : Ran P B o D x (drawsOf ks fs ss i) o′ D′ x′) where
+module _ (P : Plan) (B : Board) (o : List ℕ) (D : Derived) (x : List ℕ) (ds : List Draw) (o′ : List ℕ) (D′ : Derived) (x′ : List ℕ)
+    (R : Ran P B o D x ds o′ D′ x′) where
   pub ran-even : BoardSound B → Even B o → Even B o′
-  ran-even T E = subst (Even B) (sym (R .owners)) (play-even B T o (drawsOf ks fs ss i) E)
+  ran-even T E = subst (Even B) (sym (R .owners)) (play-even B T o ds E)
 
   pub ran-owners : length o′ ≡ length o
-  ran-owners = ap length (R .owners) ∙ play-length B o (drawsOf ks fs ss i)
+  ran-owners = ap length (R .owners) ∙ play-length B o ds
 
-  answers-so-far : length (answers B o (drawsOf ks fs ss i)) ≡ i
-  answers-so-far = answers-length B o (drawsOf ks fs ss i) ∙ draws-length ks fs ss i
-
-  pub ran-answers : i ≤ length x → length x′ ≡ length x
-  ran-answers h = ap length (R .answers) ∙ length-onto (answers B o (drawsOf ks fs ss i)) x (omega (arith, answers-so-far))
+  pub ran-answers : length ds ≤ length x → length x′ ≡ length x
+  ran-answers h = ap length (R .answers) ∙ length-onto (answers B o ds) x (omega (arith, answers-length B o ds))
 
   pub ran-lengths : (length (D′ .sets) ≡ length (D .sets)) × (length (D′ .minutes) ≡ length (D .minutes))
   ran-lengths = lengths-kept P o′ D D′ (R .derived)
 
-  pub ran-more : (b : ℕ) (o″ : List ℕ) (D″ : Derived) → P .slots ≤ 1024 → 16 * P .people ≤ length (D .sets) → Fit (D .sets) → i < length x
-      → Stepped P B o′ D′ (draw (getD ks i 0) (getD fs i 0) (getD ss i 0)) b o″ D″ → Ran P B o D x (drawsOf ks fs ss (i + 1)) o″ D″
-      (set x′ i b)
-  unfolding drawsOf ownersAfter answers
-  ran-more b o″ D″ few room f h S =
-      let ds = drawsOf ks fs ss i in
-      let d = draw (getD ks i 0) (getD fs i 0) (getD ss i 0) in
-      let next : drawsOf ks fs ss (i + 1) ≡ ds ++ (d ∷ []) = ap (drawsOf ks fs ss) (add-one i) in
+  pub ran-more : (i : ℕ) → length ds ≡ i → (d : Draw) (o″ : List ℕ) (D″ : Derived) (x″ : List ℕ) → P .slots ≤ 1024
+      → 16 * P .people ≤ length (D .sets) → Fit (D .sets) → i < length x → SteppedAt P B o′ D′ d i x′ o″ D″ x″
+      → Ran P B o D x (ds ++ (d ∷ [])) o″ D″ x″
+  unfolding ownersAfter answers
+  ran-more i e d o″ D″ x″ few room f h S =
       let l = answers B o ds in
+      let so-far : length l ≡ i = answers-length B o ds ∙ e in
       record {
         owners =
-            S .owners ∙ ap (λ (z : List ℕ). step B z d) (R .owners) ∙ one-step B (ownersAfter B o ds) d
-            ∙ sym (owners-append B o ds (d ∷ [])) ∙ ap (ownersAfter B o) (sym next);
-        derived = S .derived ∙ ap (afresh P o″) (R .derived) ∙ afresh-again P o′ o″ D few room f;
+            S .stepped .owners ∙ ap (λ (z : List ℕ). step B z d) (R .owners) ∙ one-step B (ownersAfter B o ds) d
+            ∙ sym (owners-append B o ds (d ∷ []));
+        derived = S .stepped .derived ∙ ap (afresh P o″) (R .derived) ∙ afresh-again P o′ o″ D few room f;
         answers =
-            ap₂ (λ (z : List ℕ) (c : ℕ). set z i c) (R .answers) (S .answer ∙ ap (λ (z : List ℕ). answer B z d) (R .owners))
-            ∙ ap (λ (j : ℕ). set (onto l x) j (answer B (ownersAfter B o ds) d)) (sym answers-so-far)
-            ∙ onto-more l x (answer B (ownersAfter B o ds) d) (omega (arith, answers-so-far))
+            S .answers ∙ ap₂ (λ (z : List ℕ) (c : ℕ). set z i c) (R .answers) (ap (λ (z : List ℕ). answer B z d) (R .owners))
+            ∙ ap (λ (j : ℕ). set (onto l x) j (answer B (ownersAfter B o ds) d)) (sym so-far)
+            ∙ onto-more l x (answer B (ownersAfter B o ds) d) (omega (arith, so-far))
             ∙ ap (λ (z : List ℕ). onto z x) (ap (λ (z : List ℕ). l ++ z) (one-answer B (ownersAfter B o ds) d) ∙ sym
-            (answers-append B o ds (d ∷ [])))
-            ∙ ap (λ (z : List Draw). onto (answers B o z) x) (sym next);
-        in-step = S .in-step;
+            (answers-append B o ds (d ∷ [])));
+        in-step = S .stepped .in-step;
       }
     where
       one-step : (B : Board) (o : List ℕ) (d : Draw) → step B o d ≡ ownersAfter B o (d ∷ [])
@@ -187,5 +189,18 @@ module _ (P : Plan) (B : Board) (o : List ℕ) (D : Derived) (x ks fs ss : List 
       one-answer : (B : Board) (o : List ℕ) (d : Draw) → answer B o d ∷ [] ≡ answers B o (d ∷ [])
       one-answer B o d = refl
 
-  pub ran-end : (n : ℕ) → i ≡ n → Ran P B o D x (drawsOf ks fs ss n) o′ D′ x′
-  ran-end n q = subst (λ (j : ℕ). Ran P B o D x (drawsOf ks fs ss j) o′ D′ x′) q R
+-- the draws of three columns
+module _ (P : Plan) (B : Board) (o : List ℕ) (D : Derived) (x ks fs ss : List ℕ) (i : ℕ) (o′ : List ℕ) (D′ : Derived) (x′ : List ℕ)
+    (R : Ran P B o D x (drawsOf ks fs ss i) o′ D′ x′) where
+  pub columns-answers : i ≤ length x → length x′ ≡ length x
+  columns-answers h = ran-answers P B o D x (drawsOf ks fs ss i) o′ D′ x′ R (omega (arith, draws-length ks fs ss i))
+
+  pub columns-more : (o″ : List ℕ) (D″ : Derived) (x″ : List ℕ) → P .slots ≤ 1024 → 16 * P .people ≤ length (D .sets) → Fit (D .sets)
+      → i < length x → SteppedAt P B o′ D′ (draw (getD ks i 0) (getD fs i 0) (getD ss i 0)) i x′ o″ D″ x″
+      → Ran P B o D x (drawsOf ks fs ss (i + 1)) o″ D″ x″
+  columns-more o″ D″ x″ few room f h S =
+      subst (λ (ds : List Draw). Ran P B o D x ds o″ D″ x″) (sym (draws-next ks fs ss i))
+      (ran-more P B o D x (drawsOf ks fs ss i) o′ D′ x′ R i (draws-length ks fs ss i) _ o″ D″ x″ few room f h S)
+
+  pub columns-end : (n : ℕ) → i ≡ n → Ran P B o D x (drawsOf ks fs ss n) o′ D′ x′
+  columns-end n q = subst (λ (j : ℕ). Ran P B o D x (drawsOf ks fs ss j) o′ D′ x′) q R

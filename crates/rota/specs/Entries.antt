@@ -9,6 +9,7 @@ use Rattle.paper.specs.Count.{onto}
 use Rattle.owners.specs.Derived.{Plan, Derived, knownBy, afresh}
 use Rattle.owners.specs.Recount.{availableFor}
 use Rattle.owners.specs.Entries.{Outcome, outcome, recountRow, recountSlotsRow}
+use Rattle.rota.specs.Moves.{Draw}
 use Rattle.rota.specs.Plays.{drawsOf, ownersAfter, answers}
 use Rattle.rota.specs.Lent.{boardOf}
 
@@ -25,21 +26,26 @@ assigned P avail o D k w =
 
 -- ---- play: 1, 2, 9, 10
 
--- rule 2 of the units, the flags and the columns of draws and answers
-unfoldable pub playRoomOk : ℕ → List ℕ → List ℕ → ℕ → List ℕ → List ℕ → List ℕ → List ℕ → Bool
-playRoomOk units firsts frozen n ks fs ss x =
-    leb units (length firsts) && (leb 16 (length frozen) && (leb n (length ks)
-    && (leb n (length fs) && (leb n (length ss) && leb n (length x)))))
+-- rule 2 of the units, the flags and the answers, and of the draws: `enough` says that as many are lent as are played
+unfoldable pub playRoomOk : ℕ → List ℕ → List ℕ → ℕ → Bool → List ℕ → Bool
+playRoomOk units firsts frozen n enough x = leb units (length firsts) && (leb 16 (length frozen) && (enough && leb n (length x)))
 
 -- the recount's row, with the number of draws and their room
-abbrev pub playRow : Plan → List ℕ → ℕ → List ℕ → List ℕ → ℕ → List ℕ → List ℕ → List ℕ → List ℕ → Derived → List ℕ → List Test
-playRow P avail units firsts frozen n ks fs ss o D x =
-    recountRow (leb n drawsMost) (playRoomOk units firsts frozen n ks fs ss x) P avail units firsts o D
+abbrev pub playRow : Plan → List ℕ → ℕ → List ℕ → List ℕ → ℕ → Bool → List ℕ → Derived → List ℕ → List Test
+playRow P avail units firsts frozen n enough o D x =
+    recountRow (leb n drawsMost) (playRoomOk units firsts frozen n enough x) P avail units firsts o D
 
 -- the draws as one list: owners by the rule, sets and minutes worked out afresh, one answer a draw
-unfoldable pub played : Plan → List ℕ → ℕ → List ℕ → List ℕ → ℕ → List ℕ → List ℕ → List ℕ → List ℕ → Derived → List ℕ → Outcome
-played P avail units firsts frozen n ks fs ss o D x =
+unfoldable pub playedList : Plan → List ℕ → ℕ → List ℕ → List ℕ → ℕ → Bool → List Draw → List ℕ → Derived → List ℕ → Outcome
+playedList P avail units firsts frozen n enough ds o D x =
     let B = boardOf (P .people) (P .slots) units avail firsts frozen in
-    let ds = drawsOf ks fs ss n in
-    outcome (heardOf (playRow P avail units firsts frozen n ks fs ss o D x)) o D x
+    outcome (heardOf (playRow P avail units firsts frozen n enough o D x)) o D x
     (ownersAfter B o ds) (afresh P (ownersAfter B o ds) D) (onto (answers B o ds) x)
+
+-- of draws in three columns: each has n entries, and the first n of each are the draws
+unfoldable pub columnsEnough : ℕ → List ℕ → List ℕ → List ℕ → Bool
+columnsEnough n ks fs ss = leb n (length ks) && (leb n (length fs) && leb n (length ss))
+
+abbrev pub played : Plan → List ℕ → ℕ → List ℕ → List ℕ → ℕ → List ℕ → List ℕ → List ℕ → List ℕ → Derived → List ℕ → Outcome
+played P avail units firsts frozen n ks fs ss o D x =
+    playedList P avail units firsts frozen n (columnsEnough n ks fs ss) (drawsOf ks fs ss n) o D x

@@ -7,3 +7,5 @@ pub mod Ready
 pub mod Lent
 pub mod Stepped
 pub mod Entries
+pub mod Draws
+pub mod Begins

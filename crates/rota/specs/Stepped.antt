@@ -1,14 +1,14 @@
 -- What one draw, and a list of draws, leave in the lent columns. Assumes nothing.
 use mathlib.Core.Path.{_≡_}
 use mathlib.Core.List.{List}
-use Prim.Native.Nat.{ℕ, _≤_}
-use lib.ListN.{length}
+use Prim.Native.Nat.{ℕ, _≤_, _<_}
+use lib.ListN.{length, set}
 use Rattle.paper.specs.Count.{onto}
-use Rattle.rota.specs.Board.{Board}
+use Rattle.rota.specs.Board.{Board, BoardSound, Even}
 use Rattle.rota.specs.Moves.{Draw}
 use Rattle.rota.specs.Plays.{step, answer, ownersAfter, answers}
 use Rattle.owners.specs.Derived.{Plan, Derived, afresh}
-use Rattle.owners.specs.Inside.{InStep}
+use Rattle.owners.specs.Inside.{InStep, PlanSound}
 
 -- one draw: its answer, its owners, and sets and minutes worked out afresh from them
 pub record Stepped (P : Plan) (B : Board) (o : List ℕ) (D : Derived) (d : Draw) (r : ℕ) (o′ : List ℕ) (D′ : Derived) : Type 0 where
@@ -16,6 +16,21 @@ pub record Stepped (P : Plan) (B : Board) (o : List ℕ) (D : Derived) (d : Draw
   pub owners : o′ ≡ step B o d
   pub derived : D′ ≡ afresh P o′ D
   pub in-step : InStep P o′ D′
+
+-- what one draw asks, with its answer at i of x
+pub record StepAsks (P : Plan) (B : Board) (o : List ℕ) (D : Derived) (firsts fits flags : List ℕ) (i : ℕ) (x : List ℕ) : Type 0 where
+  pub sound : PlanSound P
+  pub in-step : InStep P o D
+  pub board : BoardSound B
+  pub even : Even B o
+  pub room : (B .units ≤ length firsts) × (B .units ≤ length fits) × (B .units ≤ length flags)
+  pub answers : i < length x
+
+-- what it leaves
+pub record SteppedAt (P : Plan) (B : Board) (o : List ℕ) (D : Derived) (d : Draw) (i : ℕ) (x o′ : List ℕ) (D′ : Derived) (x′ :
+    List ℕ) : Type 0 where
+  pub stepped : Stepped P B o D d (answer B o d) o′ D′
+  pub answers : x′ ≡ set x i (answer B o d)
 
 -- a list of draws
 pub record Ran (P : Plan) (B : Board) (o : List ℕ) (D : Derived) (x : List ℕ) (ds : List Draw) (o′ : List ℕ) (D′ : Derived) (x′ :

@@ -2,6 +2,7 @@
 
 pub mod assignment;
 mod checks;
+pub mod draws;
 mod moves;
 pub mod play;
 

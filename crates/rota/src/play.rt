@@ -1,6 +1,7 @@
 // A play: the draws of a list in order. Who fits which unit, and which units are frozen, are worked out once a call.
 use crate::Move;
 use crate::assignment::hand_over;
+use crate::checks::columns_enough;
 use crate::checks::play_room_ok;
 use crate::moves::decide;
 use paper::Fault;
@@ -16,9 +17,18 @@ ghost use Rattle.rota.specs.Moves.{draw};
 ghost use Rattle.rota.specs.Plays.{drawsOf};
 ghost use Rattle.owners.specs.Derived.{plan, derived};
 ghost use Rattle.owners.specs.Inside.{InStep, PlanSound};
-ghost use Rattle.rota.specs.Stepped.{Stepped, Ran, DrawRoom};
+ghost use Rattle.rota.specs.Stepped.{Stepped, StepAsks, SteppedAt, Ran, DrawRoom};
+ghost use Rattle.rota.specs.Begins.{Begins};
 ghost use Rattle.rota.specs.Entries.{playRow, played};
 ghost use Rattle.owners.specs.Entries.{Ended};
+
+// A play that has begun: its refusal, how many draws are to be played, who fits which unit, and which units are frozen.
+pub(crate) struct Begun {
+    pub(crate) number: u8,
+    pub(crate) todo: usize,
+    pub(crate) fits: [u32; 1024],
+    pub(crate) flags: [u8; 1024],
+}
 
 // 0 where no slot from a up to e is frozen, else 1.
 fn mark_of(frozen: &[u64], a: usize, e: usize) -> u8
@@ -136,6 +146,50 @@ fn step(
     }
 }
 
+// One draw, and its answer at i.
+pub(crate) fn step_at(
+    people: usize,
+    slots: usize,
+    units: usize,
+    starts: &[u32],
+    ends: &[u32],
+    firsts: &[u16],
+    fits: &[u32],
+    flags: &[u8],
+    owners: &mut [u8],
+    sets: &mut [u64],
+    minutes: &mut [u64],
+    kind: u16,
+    first: u16,
+    second: u16,
+    i: usize,
+    answers: &mut [u8],
+)
+    requires { ⌜ StepAsks (plan people slots (now starts) (now ends)) (ready people slots units (now firsts) (now fits) (now flags))
+        (now owners) (derived (now sets) (now minutes)) (now firsts) (now fits) (now flags) i (now answers) ⌝ }
+    ensures { λ _. ⌜ SteppedAt (plan people slots (now (starts .entry)) (now (ends .entry))) (ready people slots units (now (firsts
+        .entry)) (now (fits .entry)) (now (flags .entry))) (now (owners .entry)) (derived (now (sets .entry)) (now (minutes
+        .entry))) (draw kind first second) i (now (answers .entry)) (now (owners .exit)) (derived (now (sets .exit)) (now (minutes
+        .exit))) (now (answers .exit)) ⌝ }
+{
+    answers[i] = step(
+        people,
+        slots,
+        units,
+        starts,
+        ends,
+        firsts,
+        fits,
+        flags,
+        owners,
+        sets,
+        minutes,
+        kind,
+        first,
+        second,
+    );
+}
+
 // The draws in order, each with its answer.
 fn run(
     people: usize,
@@ -168,7 +222,7 @@ fn run(
 {
     let mut i: usize = 0;
     while i < count {
-        answers[i] = step(
+        step_at(
             people,
             slots,
             units,
@@ -183,6 +237,8 @@ fn run(
             kinds[i],
             ones[i],
             twos[i],
+            i,
+            answers,
         );
         i += 1;
     }
@@ -202,18 +258,16 @@ fn play_no(
     owners: &[u8],
     sets: &[u64],
     minutes: &[u64],
-    kinds: &[u16],
-    ones: &[u16],
-    twos: &[u16],
+    enough: bool,
     answers: &[u8],
 ) -> Fault
     ensures { λ r. ⌜ r ≡ firstOf (playRow (plan people slots (now (starts .entry)) (now (ends .entry))) (now (avail .entry)) units (now
-        (firsts .entry)) (now (frozen .entry)) count (now (kinds .entry)) (now (ones .entry)) (now (twos .entry)) (now (owners
-        .entry)) (derived (now (sets .entry)) (now (minutes .entry))) (now (answers .entry))) ⌝ }
+        (firsts .entry)) (now (frozen .entry)) count enough (now (owners .entry)) (derived (now (sets .entry)) (now (minutes .entry)))
+        (now (answers .entry))) ⌝ }
 {
     owners::recounted(
         count <= paper::DRAWS_MOST,
-        play_room_ok(units, count, firsts, frozen, kinds, ones, twos, answers),
+        play_room_ok(units, count, firsts, frozen, enough, answers),
         people,
         slots,
         units,
@@ -225,6 +279,62 @@ fn play_no(
         sets,
         minutes,
     )
+}
+
+// Begins a play: judged, and what it works out once. `enough` says whether as many draws are lent as are played.
+pub(crate) fn begin(
+    people: usize,
+    slots: usize,
+    units: usize,
+    count: usize,
+    starts: &[u32],
+    ends: &[u32],
+    avail: &[u64],
+    firsts: &[u16],
+    frozen: &[u64],
+    owners: &[u8],
+    sets: &[u64],
+    minutes: &[u64],
+    enough: bool,
+    answers: &[u8],
+) -> Begun
+    ensures { λ r. ⌜ Begins (plan people slots (now (starts .entry)) (now (ends .entry))) (now (avail .entry)) units (now (firsts
+        .entry)) (now (frozen .entry)) count enough (now (owners .entry)) (derived (now (sets .entry)) (now (minutes .entry))) (now
+        (answers .entry)) r ⌝ }
+{
+    let number = play_no(
+        people,
+        slots,
+        units,
+        count,
+        starts,
+        ends,
+        avail,
+        firsts,
+        frozen,
+        owners,
+        sets,
+        minutes,
+        enough,
+        answers,
+    ).number;
+    if number == 0 {
+        let mut fits = [0u32; 1024];
+        units::unit_domains(avail, people, slots, units, firsts, &mut fits);
+        let flags = frozen_of(slots, units, firsts, frozen);
+        return Begun {
+            number,
+            todo: count,
+            fits,
+            flags,
+        };
+    }
+    Begun {
+        number,
+        todo: 0,
+        fits: [0; 1024],
+        flags: [0; 1024],
+    }
 }
 
 // Plays a list of draws, given as three columns; one answer byte a draw: 0 acted, 1 no move, 2 choice outside. Refusals 1, 2, 9, 10.
@@ -251,7 +361,7 @@ pub fn play(
         .entry)) (derived (now (sets .entry)) (now (minutes .entry))) (now (answers .entry))) r (now (owners .exit)) (derived (now
         (sets .exit)) (now (minutes .exit))) (now (answers .exit)) ⌝ }
 {
-    let n = play_no(
+    let b = begin(
         people,
         slots,
         units,
@@ -264,15 +374,12 @@ pub fn play(
         owners,
         sets,
         minutes,
-        kinds,
-        ones,
-        twos,
+        columns_enough(count, kinds, ones, twos),
         answers,
-    ).number;
-    if n == 0 {
-        let mut fits = [0u32; 1024];
-        units::unit_domains(avail, people, slots, units, firsts, &mut fits);
-        let flags = frozen_of(slots, units, firsts, frozen);
+    );
+    if b.number == 0 {
+        let fits = b.fits;
+        let flags = b.flags;
         run(
             people,
             slots,
@@ -293,5 +400,5 @@ pub fn play(
         );
         return 0;
     }
-    n
+    b.number
 }

@@ -62,6 +62,13 @@ module _ {M : Type 1} (𝓤 : URA M) (H : Heap 𝓤) where
   localsAs (e ∷ E) [] = []
   localsAs (e ∷ E) (v ∷ vs) = localAs (e .0) (e .1) v ∷ ‵ (fdies (e .0) (e .1)) ∷ localsAs E vs
 
+  -- as many as there are locals
+  abbrev pub Each : Env 𝓤 H → List (Option Val) → Type 0
+  Each [] [] = Unit {0}
+  Each [] (v ∷ vs) = ⊥
+  Each (e ∷ E) [] = ⊥
+  Each (e ∷ E) (v ∷ vs) = Each E vs
+
   -- a value for each local, and locals that hold them
   abbrev pub Held : Env 𝓤 H → Type 0
   Held [] = Unit {0}
@@ -153,6 +160,23 @@ module _ {M : Type 1} (𝓤 : URA M) (H : Heap 𝓤) (A : Atoms 𝓤) (W : Given
       (via 𝓤 _ (assoc′ 𝓤 (H .room (e .0) (e .1) zero) (H .dies (e .0) (e .1)) (⋆ 𝓤 H A (holding 𝓤 H E (vs .1) ++ Γ)))
       (monoR 𝓤 (sep 𝓤 (H .room (e .0) (e .1) zero) (H .dies (e .0) (e .1))) (frees-all E (vs .1) Γ P k))))
 
+  -- the same of locals of which some hold nothing
+  frees-one : (τ : Ty) (b : ℕ) (Γ : List (Item 𝓤)) (P : SProp 𝓤) → ent 𝓤 (⋆ 𝓤 H A Γ) P
+      → ent 𝓤 (⋆ 𝓤 H A (‵ (froom τ b zero) ∷ ‵ (fdies τ b) ∷ Γ)) (sep 𝓤 (sep 𝓤 (H .room τ b zero) (H .dies τ b)) P)
+  frees-one τ b Γ P k =
+      via 𝓤 _ (monoR 𝓤 (H .room τ b zero) (pop 𝓤 H A (‵ (fdies τ b)) Γ))
+      (via 𝓤 _ (assoc′ 𝓤 (H .room τ b zero) (H .dies τ b) (⋆ 𝓤 H A Γ)) (monoR 𝓤 (sep 𝓤 (H .room τ b zero) (H .dies τ b)) k))
+
+  frees-each : (E : Env 𝓤 H) (vs : List (Option Val)) (Γ : List (Item 𝓤)) (P : SProp 𝓤) → Each 𝓤 H E vs → ent 𝓤 (⋆ 𝓤 H A Γ) P
+      → ent 𝓤 (⋆ 𝓤 H A (localsAs 𝓤 H E vs ++ Γ)) (release 𝓤 H E P)
+  frees-each [] [] Γ P z k = k
+  frees-each [] (v ∷ vs) Γ P z k = absurd z
+  frees-each (e ∷ E) [] Γ P z k = absurd z
+  frees-each (e ∷ E) (none ∷ vs) Γ P z k = frees-one (e .0) (e .1) (localsAs 𝓤 H E vs ++ Γ) (release 𝓤 H E P) (frees-each E vs Γ P z k)
+  frees-each (e ∷ E) (some v ∷ vs) Γ P z k =
+      via 𝓤 _ (monoL 𝓤 (⋆ 𝓤 H A (‵ (fdies (e .0) (e .1)) ∷ (localsAs 𝓤 H E vs ++ Γ))) (W .laws .at-room (e .0) (e .1) zero v))
+      (frees-one (e .0) (e .1) (localsAs 𝓤 H E vs ++ Γ) (release 𝓤 H E P) (frees-each E vs Γ P z k))
+
 module _ {M : Type 1} {𝓤 : URA M} {H : Heap 𝓤} {A : Atoms 𝓤} {K : Type 0} {W : Given 𝓤 H A} {Γ : List (Item 𝓤)} where
   -- its locals are allocated and its arguments stored
   pub enters : K → (C : Calls 𝓤 H) (Λ : Loops 𝓤 H) (f : Fn) (vs : List Val) (Kf : Val → SProp 𝓤)
@@ -171,6 +195,12 @@ module _ {M : Type 1} {𝓤 : URA M} {H : Heap 𝓤} {A : Atoms 𝓤} {K : Type 
       → Step K W Γ′ (prop P) Γ (frees E (prop P))
   leaves t {E} {P} vs Γ′ e = step (λ s. record {
     prf = subst (λ (Δ : List (Item 𝓤)). ent 𝓤 (⋆ 𝓤 H A Δ) (release 𝓤 H E P)) (sym e) (frees-all 𝓤 H A W E vs Γ′ P (s .prf));
+  })
+
+  pub leaves-each : K → {E : Env 𝓤 H} {P : SProp 𝓤} (vs : List (Option Val)) (Γ′ : List (Item 𝓤)) → Each 𝓤 H E vs
+      → Γ ≡ localsAs 𝓤 H E vs ++ Γ′ → Step K W Γ′ (prop P) Γ (frees E (prop P))
+  leaves-each t {E} {P} vs Γ′ z e = step (λ s. record {
+    prf = subst (λ (Δ : List (Item 𝓤)). ent 𝓤 (⋆ 𝓤 H A Δ) (release 𝓤 H E P)) (sym e) (frees-each 𝓤 H A W E vs Γ′ P z (s .prf));
   })
 
   -- locals as operands, where the context holds them from entry k on

@@ -96,15 +96,18 @@ pub fn shuffled(seed: &mut Seed, mut case: ProblemCase) -> ProblemCase {
 pub struct Rota {
     pub case: RotaCase,
     pub lent: LentRota,
-    /// The draws, as three columns.
+    /// The draws, as three columns and as structs.
     pub columns: [Vec<u16>; 3],
+    pub structs: Vec<boltraven::Draw>,
 }
 
 impl Rota {
     fn new(seed: &mut Seed, case: RotaCase) -> Self {
         let lent = LentRota::new(seed, &case);
+        let as_struct = |&(draw, first, second): &Draw| boltraven::Draw { draw, first, second };
         Self {
             columns: lent.columns(),
+            structs: lent.draws.iter().map(as_struct).collect(),
             lent,
             case,
         }

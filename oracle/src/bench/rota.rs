@@ -191,14 +191,39 @@ fn lent_play(rota: &Rota, lent: &mut LentRota, draws: usize) -> bool {
     told.is_ok()
 }
 
+/// The same draws, lent as structs.
+fn lent_play_structs(rota: &Rota, lent: &mut LentRota, draws: usize) -> bool {
+    let told = lent::play_draws(
+        lent.people,
+        lent.starts.len(),
+        lent.units,
+        draws,
+        &lent.starts,
+        &lent.ends,
+        &lent.avail,
+        &lent.firsts,
+        &lent.frozen,
+        &mut lent.owners,
+        &mut lent.sets,
+        &mut lent.minutes,
+        &rota.structs,
+        &mut lent.answers,
+    );
+    told.is_ok()
+}
+
+/// All draws of a rota, played in one of our ways.
+fn lent_side(rota: &'static Rota, play: fn(&Rota, &mut LentRota, usize) -> bool) -> Side<LentRota, Seen> {
+    Side {
+        fresh: Box::new(|| rota.lent.clone()),
+        run: Box::new(move |lent: &mut LentRota| assert!(play(rota, black_box(lent), rota.lent.count), "nothing is refused")),
+        seen: Box::new(seen_of_lent),
+    }
+}
+
 /// All draws of a rota.
 pub fn play(rota: Rota) -> Row {
     let rota = kept(rota);
-    let ours = Side {
-        fresh: Box::new(|| rota.lent.clone()),
-        run: Box::new(|lent: &mut LentRota| assert!(lent_play(rota, black_box(lent), rota.lent.count), "nothing is refused")),
-        seen: Box::new(seen_of_lent),
-    };
     let rust = Side {
         fresh: Box::new(|| (begun(rota), vec![])),
         run: Box::new(|(assignment, answers): &mut (Assignment, Vec<u8>)| {
@@ -206,5 +231,11 @@ pub fn play(rota: Rota) -> Row {
         }),
         seen: Box::new(|(assignment, answers): &(Assignment, Vec<u8>)| seen_of_rust(&rota.case.problem, assignment, answers.clone())),
     };
-    row(ours, rust)
+    row(lent_side(rota, lent_play), rust)
+}
+
+/// All draws of a rota as structs; in the Rust's place the same draws as columns.
+pub fn structs(rota: Rota) -> Row {
+    let rota = kept(rota);
+    row(lent_side(rota, lent_play_structs), lent_side(rota, lent_play))
 }

@@ -4,7 +4,7 @@ use super::inputs::{all_able, partly_able, shuffled, Rota, Set};
 use super::job::job;
 use super::prepare::{prepare, prepare_all};
 use super::refused::{refused, Lent};
-use super::rota::{from_slots, no_draws, play, recount};
+use super::rota::{from_slots, no_draws, play, recount, structs};
 use super::set::{count, next_set, run_bounds};
 use super::Row;
 use crate::job_cases::JobCase;
@@ -41,6 +41,9 @@ pub const ROWS: &[Named] = &[
         let mut seed = Seed::new(seed);
         let case = all_able(&mut seed, SLOTS_MOST, 0, 1);
         play(Rota::one_run(&mut seed, &case))
+    }),
+    ("play of structs, beside one of columns, 1,024 slots", |seed| {
+        structs(typical(seed, SLOTS_MOST, 0, 1))
     }),
     ("recount, 64 slots", |seed| recount(typical(seed, 64, 0, 1))),
     ("recount, 256 slots", |seed| recount(typical(seed, 256, 0, 1))),

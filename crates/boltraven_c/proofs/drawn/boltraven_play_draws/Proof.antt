@@ -1,4 +1,4 @@
--- `boltraven_c::drawn::boltraven_play_draws` meets its contract: a walk of its MIR, by hand, with no loop and no branch. `draws::play` is
+-- `boltraven_c::drawn::boltraven_play_draws` meets its contract: a walk of its MIR, by hand, with no loop and no branch. `rota::draws::play` is
 -- called on all that was passed, and what it says is what is due. All that the proof knows of it is that it meets its contract.
 -- Assumes nothing.
 use mathlib.Core.Path.{refl}
@@ -29,11 +29,11 @@ use Rattle.walks.proofs.Contexts.{sink}
 use Rattle.walks.proofs.Entries.{valuesOf, meets-by}
 use Rattle.walks.proofs.Locals.{enters, leaves, copies}
 use Rattle.walks.proofs.Slices.{lends}
-use Rattle.draws.proofs.Lent.{known}
-use Rattle.draws.proofs.play as play
-use Rattle.draws.proofs.play.Symbol as play-def
-use Rattle.draws.proofs.play.Symbol.{name as #draws·play}
-use Rattle.draws.proofs.play.Met as play-thm
+use Rattle.rota.proofs.Passed.{known}
+use Rattle.rota.proofs.draws.play as play
+use Rattle.rota.proofs.draws.play.Symbol as play-def
+use Rattle.rota.proofs.draws.play.Symbol.{name as #rota·draws·play}
+use Rattle.rota.proofs.draws.play.Met as play-thm
 use Rattle.boltraven_c.proofs.drawn.boltraven_play_draws.Key.{name as #entry}
 use Rattle.boltraven_c.proofs.drawn.boltraven_play_draws as entry
 use Rattle.boltraven_c.proofs.drawn.boltraven_play_draws.Statement as stated
@@ -53,7 +53,7 @@ module _ {M : Type 1} (𝓤 : URA M) (H : Heap 𝓤) (A : Atoms 𝓤) (W : Given
   abbrev y : Entry 𝓤 H A mem run .Ghost
   y = ((κs, qs, tt, a, valuesOf 𝓤 H A entry.ended (entry.clauses 𝓤 H A mem run) (known 𝓤 H A W) κs a), tt)
 
-  module _ (C : Calls 𝓤 H) (Λ : Loops 𝓤 H) (fm : FmC 𝓤 H (W .laws) C) (met : Triple 𝓤 (C #draws·play) (Play 𝓤 H A mem run)) where
+  module _ (C : Calls 𝓤 H) (Λ : Loops 𝓤 H) (fm : FmC 𝓤 H (W .laws) C) (met : Triple 𝓤 (C #rota·draws·play) (Play 𝓤 H A mem run)) where
     walk : Typed (mirs (typesAt (entry.signature .params) κs)) (Entry 𝓤 H A mem run .args y)
         → ent 𝓤 (Entry 𝓤 H A mem run .pre y) (WpFn 𝓤 H C Λ code.function (Entry 𝓤 H A mem run .args y) (Entry 𝓤 H A mem run .post y))
     walk typed =
@@ -73,7 +73,7 @@ module _ {M : Type 1} (𝓤 : URA M) (H : Heap 𝓤) (A : Atoms 𝓤) (W : Given
         by ! (ends 𝓤 H A W entry.ended (entry.clauses 𝓤 H A mem run) y u r ws _ (id⊢ 𝓤 _) said)))
 
 module _ {M : Type 1} (𝓤 : URA M) (H : Heap 𝓤) (A : Atoms 𝓤) (W : Given 𝓤 H A) (mem : Memory → SProp 𝓤) (run : Routine → Fun 𝓤) where
-  entry-meets : (𝓣 : Tables 𝓤 H) → Triple 𝓤 (𝓣 .C #draws·play) (Play 𝓤 H A mem run)
+  entry-meets : (𝓣 : Tables 𝓤 H) → Triple 𝓤 (𝓣 .C #rota·draws·play) (Play 𝓤 H A mem run)
       → Meets 𝓤 H A entry.signature (WpFn 𝓤 H (𝓣 .C) (𝓣 .Λ) code.function) (entry.spec 𝓤 H A mem run)
   entry-meets 𝓣 met =
       meets-by 𝓤 H A entry.ended (entry.clauses 𝓤 H A mem run) (known 𝓤 H A W) (WpFn 𝓤 H (𝓣 .C) (𝓣 .Λ) code.function)
@@ -85,5 +85,5 @@ boltraven-play-draws-spec 𝓤 H 𝓜 𝓖 𝓡 =
     entered 𝓤 H (Entry 𝓤 H (𝓖 .A) (𝓜 .mem) (𝓡 .run)) (tables 𝓤 H 𝓜 𝓡 code.env .C) (tables 𝓤 H 𝓜 𝓡 code.env .Λ) #entry code.function
     (code.unfolded 𝓤 H 𝓜 𝓡)
     (entry-meets 𝓤 H (𝓖 .A) (givenOf 𝓤 H 𝓜 𝓖) (𝓜 .mem) (𝓡 .run) (tablesOf 𝓤 H 𝓜 (tables 𝓤 H 𝓜 𝓡 code.env))
-    (cited 𝓤 H (Play 𝓤 H (𝓖 .A) (𝓜 .mem) (𝓡 .run)) 𝓜 𝓡 code.env #draws·play play-def.routine code.calls-draws·play
+    (cited 𝓤 H (Play 𝓤 H (𝓖 .A) (𝓜 .mem) (𝓡 .run)) 𝓜 𝓡 code.env #rota·draws·play play-def.routine code.calls-rota·draws·play
     (play-thm.met 𝓤 H 𝓜 𝓖 𝓡)))

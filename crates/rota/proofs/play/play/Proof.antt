@@ -1,30 +1,24 @@
 -- `rota::play::play` meets its contract. Assumes nothing.
-use mathlib.Core.Path.{_≡_, sym, _∙_}
+use mathlib.Core.Path.{_≡_, subst}
+use mathlib.Core.Bool.{Bool}
+use mathlib.Core.List.{List}
 use Prim.Native.Nat.{ℕ}
-use native.Mathlib.Omega.{arith}
 use borrow.Author.Needs.{needs}
-use Rattle.paper.proofs.Rows.{said}
-use lib.ListN.{length, length-replicate}
-use Rattle.units.proofs.Units.{units-room}
 use Rattle.owners.specs.Derived.{plan, derived}
-use Rattle.rota.proofs.Stepping.{ran-owners, ran-answers, ran-lengths}
-use Rattle.rota.proofs.Entered.{unit-room, play-asks, asks-few, asks-fits, asks-step, ready-sound, ready-even, played-yes, played-no}
+use Rattle.rota.specs.declared.play.Begun.{Begun}
+use Rattle.rota.specs.Entries.{columnsEnough}
+use Rattle.rota.specs.Begins.{Begins}
+use Rattle.rota.proofs.Entered.{asks-step, columns-room}
+use Rattle.rota.proofs.Beginning.{begun-asks, begun-board, begun-even, begun-room, begun-yes, begun-no}
 use Rattle.rota.proofs.play.play.Statement.{statement}
 use Rattle.rota.proofs.play.play.Tie as tie
 
-frozen-of-requires : tie.Need-frozen-of-requires
-frozen-of-requires c κs =
-    let c8 = c .before .before .before .before .before .before .before .before in
-    let c16 = c8 .before .before .before .before .before .before .before .before in
-    let a = c16 .before .before .before .before .before .args in
-    let P = plan (a .people) (a .slots) (a .starts .now) (a .ends .now) in
-    let D = derived (a .sets .now) (a .minutes .now) in
-    let A = play-asks P (a .avail .now) (a .units) (a .firsts .now) (a .frozen .now) (a .count) (a .kinds .now) (a .ones .now)
-    (a .twos .now)
-    (a .owners .now) D (a .answers .now) (sym (said _ (c .before .before .before .before .play-no .ensures))
-    ∙ c .before .before .before .if1 .taken) in
-    let G = A .grounds in
-    ((G .on .sound .slots-few, asks-few _ _ _ _ _ _ _ _ _ _ _ _ A, G .flags), unit-room _ _ _ (G .units-ok))
+-- the play has begun, with columns that have enough draws or not
+begun-of : (people slots units n : ℕ) (starts ends avail firsts frozen o sets minutes ks fs ss x : List ℕ) (b : Begun) (e : Bool)
+    → Begins (plan people slots starts ends) avail units firsts frozen n e o (derived sets minutes) x b → e ≡ columnsEnough n ks fs ss
+    → Begins (plan people slots starts ends) avail units firsts frozen n (columnsEnough n ks fs ss) o (derived sets minutes) x b
+begun-of people slots units n starts ends avail firsts frozen o sets minutes ks fs ss x b e w q =
+    subst (λ (t : Bool). Begins (plan people slots starts ends) avail units firsts frozen n t o (derived sets minutes) x b) q w
 
 run-requires : tie.Need-run-requires
 run-requires c κs =
@@ -32,62 +26,24 @@ run-requires c κs =
     let c16 = c8 .before .before .before .before .before .before .before .before in
     let c24 = c16 .before .before .before .before .before .before .before .before in
     let a = c24 .before .before .before .before .args in
-    let P = plan (a .people) (a .slots) (a .starts .now) (a .ends .now) in
-    let D = derived (a .sets .now) (a .minutes .now) in
-    let A = play-asks P (a .avail .now) (a .units) (a .firsts .now) (a .frozen .now) (a .count) (a .kinds .now) (a .ones .now)
-    (a .twos .now)
-    (a .owners .now) D (a .answers .now) (sym (said _ (c8 .before .before .before .play-no .ensures)) ∙ c8 .before .before .if1 .taken) in
-    let F = asks-fits _ _ _ _ _ _ _ _ _ _ _ _ A _ (c8 .unit-domains .ensures .1) in
-    let frozen-of = c .before .before .before .before .before .before .frozen-of in
-    let Z = frozen-of .ensures in
-    let few = asks-few _ _ _ _ _ _ _ _ _ _ _ _ A in
-    let marks : length (frozen-of .result) ≡ 1024 = search needs in (
+    let b = c8 .before .before .begin in
+    let w = begun-of (a .people) (a .slots) (a .units) (a .count) (a .starts .now) (a .ends .now) (a .avail .now) (a .firsts .now)
+    (a .frozen .now) (a .owners .now) (a .sets .now) (a .minutes .now) (a .kinds .now) (a .ones .now) (a .twos .now) (a .answers .now)
+    (b .result) _ (b .ensures) (c8 .before .before .before .before .columns-enough .ensures) in
+    let z = c8 .if1 .taken in
+    let A = begun-asks _ _ _ _ _ _ _ _ _ _ _ w z in (
       A .grounds .on .sound,
       (
-        asks-step _ _ _ _ _ _ _ _ _ _ _ _ A,
+        asks-step _ _ _ _ _ _ _ _ _ _ A,
         (
-          ready-sound _ _ _ _ _ _ _ _ _ _ _ _ A _ _ F Z,
+          begun-board _ _ _ _ _ _ _ _ _ _ _ w z,
           (
-            ready-even _ _ _ _ _ _ _ _ _ _ _ _ A _ _ F Z,
-            (
-              A .grounds .draws,
-              (
-                units-room _ _ _ (A .grounds .units-ok),
-                omega (arith, few, c8 .unit-domains .kept .1 .1 .1 .1 .1 .0, length-replicate {A = ℕ} 1024 0),
-                omega (arith, few, marks),
-              ),
-            ),
+            begun-even _ _ _ _ _ _ _ _ _ _ _ w z,
+            (columns-room _ _ _ _ _ (A .grounds .draws) (A .grounds .answers), begun-room _ _ _ _ _ _ _ _ _ _ _ w z),
           ),
         ),
       ),
     )
-
-same-length : tie.Need-same-length
-same-length c = let r = c .before .before .before .before .before .before .before .before .run in ran-owners _ _ _ _ _ _ _ _ _ _ _ _
-    (r .ensures)
-
-same-length-2 : tie.Need-same-length-2
-same-length-2 c = let r = c .before .before .before .before .before .before .before .before .run in ran-lengths _ _ _ _ _ _ _ _ _ _ _ _
-    (r .ensures) .0
-
-same-length-3 : tie.Need-same-length-3
-same-length-3 c = let r = c .before .before .before .before .before .before .before .before .run in ran-lengths _ _ _ _ _ _ _ _ _ _ _ _
-    (r .ensures) .1
-
-same-length-4 : tie.Need-same-length-4
-same-length-4 c =
-    let c8 = c .before .before .before .before .before .before .before .before in
-    let c16 = c8 .before .before .before .before .before .before .before .before in
-    let c24 = c16 .before .before .before .before .before .before .before .before in
-    let c32 = c24 .before .before .before .before .before .before .before .before in
-    let a = c32 .before .before .before .before .before .args in
-    let P = plan (a .people) (a .slots) (a .starts .now) (a .ends .now) in
-    let D = derived (a .sets .now) (a .minutes .now) in
-    let A = play-asks P (a .avail .now) (a .units) (a .firsts .now) (a .frozen .now) (a .count) (a .kinds .now) (a .ones .now)
-    (a .twos .now)
-    (a .owners .now) D (a .answers .now) (sym (said _ (c16 .before .before .before .before .play-no .ensures))
-    ∙ c16 .before .before .before .if1 .taken) in
-    ran-answers _ _ _ _ _ _ _ _ _ _ _ _ (c8 .run .ensures) (A .grounds .draws .answers)
 
 returns : tie.Need-returns
 returns c =
@@ -96,40 +52,36 @@ returns c =
     let c24 = c16 .before .before .before .before .before .before .before .before in
     let c32 = c24 .before .before .before .before .before .before .before .before in
     let a = c32 .before .before .before .before .before .args in
-    let P = plan (a .people) (a .slots) (a .starts .now) (a .ends .now) in
-    let D = derived (a .sets .now) (a .minutes .now) in
-    let A = play-asks P (a .avail .now) (a .units) (a .firsts .now) (a .frozen .now) (a .count) (a .kinds .now) (a .ones .now)
-    (a .twos .now)
-    (a .owners .now) D (a .answers .now) (sym (said _ (c16 .before .before .before .before .play-no .ensures))
-    ∙ c16 .before .before .before .if1 .taken) in
-    let F = asks-fits _ _ _ _ _ _ _ _ _ _ _ _ A _ (c16 .before .unit-domains .ensures .1) in
-    played-yes _ _ _ _ _ _ _ _ _ _ _ _ A _ _ F (c8 .before .before .before .before .before .before .before .frozen-of .ensures) _
-    (said _ (c16 .before .before .before .before .play-no .ensures)) (c16 .before .before .before .if1 .taken) _ _ _ (c8 .run .ensures)
+    let b = c16 .before .before .before .begin in
+    let w = begun-of (a .people) (a .slots) (a .units) (a .count) (a .starts .now) (a .ends .now) (a .avail .now) (a .firsts .now)
+    (a .frozen .now) (a .owners .now) (a .sets .now) (a .minutes .now) (a .kinds .now) (a .ones .now) (a .twos .now) (a .answers .now)
+    (b .result) _ (b .ensures) (c16 .before .before .before .before .before .columns-enough .ensures) in
+    begun-yes _ _ _ _ _ _ _ _ _ _ _ w (c16 .before .if1 .taken) _ _ _ _ (c8 .run .ensures)
 
 returns-2 : tie.Need-returns-2
 returns-2 c =
     let c8 = c .before .before .before .before .before .before .before .before in
     let c16 = c8 .before .before .before .before .before .before .before .before in
-    let a = c16 .before .before .args in
-    played-no (plan (a .people) (a .slots) (a .starts .now) (a .ends .now)) (a .avail .now) (a .units) (a .firsts .now) (a .frozen .now)
-    (a .count) (a .kinds .now) (a .ones .now) (a .twos .now) (a .owners .now) (derived (a .sets .now) (a .minutes .now)) (a .answers .now) _
-    (said _ (c .before .play-no .ensures)) (c .if1 .left)
+    let a = c16 .before .before .before .before .args in
+    let b = c .before .before .begin in
+    let w = begun-of (a .people) (a .slots) (a .units) (a .count) (a .starts .now) (a .ends .now) (a .avail .now) (a .firsts .now)
+    (a .frozen .now) (a .owners .now) (a .sets .now) (a .minutes .now) (a .kinds .now) (a .ones .now) (a .twos .now) (a .answers .now)
+    (b .result) _ (b .ensures) (c .before .before .before .before .columns-enough .ensures) in
+    begun-no _ _ _ _ _ _ _ _ _ _ _ w (c .if1 .left) _
 
 pub play-spec : {M : Type 1} → statement M
 play-spec =
     tie.close
     (tie.spec
     (λ c κs. search needs)
-    (λ c. search needs)
     (λ c κs. search needs)
-    frozen-of-requires
     (λ c. search needs)
     (λ c. search needs)
     run-requires
-    same-length
-    same-length-2
-    same-length-3
-    same-length-4
+    (λ c. search needs)
+    (λ c. search needs)
+    (λ c. search needs)
+    (λ c. search needs)
     returns
     (λ c. search needs)
     (λ c. search needs)

@@ -4,9 +4,9 @@ use native.Mathlib.Omega.{arith}
 use borrow.Author.Needs.{needs}
 use Rattle.rota.specs.Ready.{ready}
 use Rattle.owners.specs.Derived.{plan, derived}
-use Rattle.rota.specs.Plays.{drawsOf, answers}
+use Rattle.rota.specs.Plays.{drawsOf}
 use Rattle.rota.specs.Stepped.{Ran}
-use Rattle.rota.proofs.Stepping.{ran-owners, ran-start, ran-even, ran-answers, ran-lengths, ran-more, ran-end}
+use Rattle.rota.proofs.Stepping.{ran-start, ran-owners, ran-even, ran-lengths, columns-answers, columns-more, columns-end}
 use Rattle.rota.proofs.play.run.Statement.{statement}
 use Rattle.rota.proofs.play.run.Tie as tie
 
@@ -22,97 +22,86 @@ abbrev μ-loop : tie.MeasureT-loop
     count - i
 
 loop-holds : tie.Need-loop-holds Inv-loop μ-loop
+unfolding drawsOf
 loop-holds c =
-    let at-pre = c .before .before .before .before .before .before .before .before .before .before .before .before .pre in
-    let at-slice-known2 = c .before .before .before .before .before .slice-known2 in (
-      search needs,
-      ran-start _ _ _ _ _ _ _ _ ((at-pre .0) .slots-few) (λ j. omega (arith, (at-slice-known2 .given) j)) (at-pre
-          .1 .0),
-    )
+    let c8 = c .before .before .before .before .before .before .before .before in
+    let p = c8 .before .before .before .before .pre in
+    let words = c .before .before .before .before .before .slice-known2 in
+    (search needs, ran-start _ _ _ _ _ (p .0 .slots-few) (λ j. omega (arith, (words .given) j)) (p .1 .0))
 
-shared-slice-read-step : tie.Need-shared-slice-read-step Inv-loop μ-loop
-shared-slice-read-step c =
-    let at-pre = c .before .before .before .before .before .before .before .before .before .before .before .before .before
-    .before .before .before .before .before .pre in
-    omega (arith, (at-pre .1 .1 .1 .1 .0) .kinds)
+shared-slice-read-step-at : tie.Need-shared-slice-read-step-at Inv-loop μ-loop
+shared-slice-read-step-at c =
+    let c8 = c .before .before .before .before .before .before .before .before in
+    let c16 = c8 .before .before .before .before .before .before .before .before in
+    omega (arith, c16 .before .before .pre .1 .1 .1 .1 .0 .kinds)
 
-shared-slice-read-step-2 : tie.Need-shared-slice-read-step-2 Inv-loop μ-loop
-shared-slice-read-step-2 c =
-    let at-pre = c .before .before .before .before .before .before .before .before .before .before .before .before .before
-    .before .before .before .before .before .before .pre in
-    omega (arith, (at-pre .1 .1 .1 .1 .0) .firsts)
+shared-slice-read-step-at-2 : tie.Need-shared-slice-read-step-at-2 Inv-loop μ-loop
+shared-slice-read-step-at-2 c =
+    let c8 = c .before .before .before .before .before .before .before .before in
+    let c16 = c8 .before .before .before .before .before .before .before .before in
+    omega (arith, c16 .before .before .before .pre .1 .1 .1 .1 .0 .firsts)
 
-shared-slice-read-step-3 : tie.Need-shared-slice-read-step-3 Inv-loop μ-loop
-shared-slice-read-step-3 c =
-    let at-pre = c .before .before .before .before .before .before .before .before .before .before .before .before .before
-    .before .before .before .before .before .before .before .pre in
-    omega (arith, (at-pre .1 .1 .1 .1 .0) .seconds)
+shared-slice-read-step-at-3 : tie.Need-shared-slice-read-step-at-3 Inv-loop μ-loop
+shared-slice-read-step-at-3 c =
+    let c8 = c .before .before .before .before .before .before .before .before in
+    let c16 = c8 .before .before .before .before .before .before .before .before in
+    omega (arith, c16 .before .before .before .before .pre .1 .1 .1 .1 .0 .seconds)
 
-step-requires : tie.Need-step-requires Inv-loop μ-loop
-step-requires c κs =
-    let at-pre = c .before .before .before .before .before .before .before .before .before .before .before .before .before
-    .before .before .before .before .before .before .before .pre in
-    let at-loop = c .before .before .before .before .before .before .before .loop in (
-      (at-pre .0),
-      (
-        (at-loop .inv .1) .in-step,
-        (
-          (at-pre .1 .1 .0),
-          (
-            ran-even _ _ _ _ _ _ _ _ _ _ _ _ (at-loop .inv .1) (at-pre .1 .1 .0) (at-pre .1 .1 .1 .0),
-            (at-pre .1 .1 .1 .1 .1),
-          ),
-        ),
-      ),
-    )
+step-at-requires : tie.Need-step-at-requires Inv-loop μ-loop
+step-at-requires c κs =
+    let c8 = c .before .before .before .before .before .before .before .before in
+    let c16 = c8 .before .before .before .before .before .before .before .before in
+    let p = c16 .before .before .before .before .before .pre in
+    let R = c8 .loop .inv .1 in
+    let room = p .1 .1 .1 .1 .0 .answers in
+    let long = columns-answers _ _ _ _ _ _ _ _ _ _ _ _ R (omega (arith, room, c8 .loop .inv .0)) in
+    record {
+      sound = p .0;
+      in-step = R .in-step;
+      board = p .1 .1 .0;
+      even = ran-even _ _ _ _ _ _ _ _ _ R (p .1 .1 .0) (p .1 .1 .1 .0);
+      room = p .1 .1 .1 .1 .1;
+      answers = omega (arith, room, long);
+    }
 
-slice-write-answers : tie.Need-slice-write-answers Inv-loop μ-loop
-slice-write-answers c =
-    let at-pre = c .before .before .before .before .before .before .before .before .before .before .before .before .before
-    .before .before .before .before .before .before .before .before .before .before .before .before .before .before .pre in
-    let at-loop = c .before .before .before .before .before .before .before .before .before .before .before .before .before
-    .before .loop in
-    omega (
-      arith,
-      (at-pre .1 .1 .1 .1 .0) .answers,
-      ran-answers _ _ _ _ _ _ _ _ _ _ _ _ (at-loop .inv .1) (omega (
-        arith,
-        (at-pre .1 .1 .1 .1 .0) .answers,
-      )),
-    )
+add-i : tie.Need-add-i Inv-loop μ-loop
+add-i c =
+    let c8 = c .before .before .before .before .before .before .before .before in
+    let c16 = c8 .before .before .before .before .before .before .before .before in
+    let c24 = c16 .before .before .before .before .before .before .before .before in
+    record {
+      fits = omega (arith, c16 .loop-test .taken, c24 .before .before .before .before .before .before .fits .count .fits);
+    }
 
 loop-again : tie.Need-loop-again Inv-loop μ-loop
 loop-again c =
-    let at-loop = c .before .before .before .before .before .before .before .before .before .before .before .before .before
-    .before .loop in
-    let at-pre = c .before .before .before .before .before .before .before .before .before .before .before .before .before
-    .before .before .before .before .before .before .before .before .before .before .before .before .before .before .pre in
-    let at-slice-known2 = c .before .before .before .before .before .before .before .before .before .before .before .before
-    .before .before .before .before .before .before .before .before .slice-known2 in
-    let at-step = c .before .before .before .before .before .before .step in (
+    let c8 = c .before .before .before .before .before .before .before .before in
+    let c16 = c8 .before .before .before .before .before .before .before .before in
+    let c24 = c16 .before .before .before .before .before .before .before .before in
+    let p = c24 .before .before .before .before .before .before .pre in
+    let words = c16 .before .before .before .before .before .before .before .slice-known2 in (
       omega arith,
-      ran-more _ _ _ _ _ _ _ _ _ _ _ _ (at-loop .inv .1) _ _ _ ((at-pre .0) .slots-few) ((at-pre .1 .0) .sets-room)
-          (λ j. omega (arith, (at-slice-known2 .given) j)) (omega (arith, (at-pre .1 .1 .1 .1 .0) .answers)) (at-step .ensures),
+      columns-more _ _ _ _ _ _ _ _ _ _ _ _ (c16 .before .loop .inv .1) _ _ _ (p .0 .slots-few) (p .1 .0 .sets-room)
+          (λ j. omega (arith, (words .given) j)) (omega (arith, p .1 .1 .1 .1 .0 .answers)) (c8 .step-at .ensures),
     )
 
 same-length : tie.Need-same-length Inv-loop μ-loop
-same-length c = ran-owners _ _ _ _ _ _ _ _ _ _ _ _ (c .before .loop .inv .1)
+same-length c = ran-owners _ _ _ _ _ _ _ _ _ (c .before .loop .inv .1)
 
 same-length-2 : tie.Need-same-length-2 Inv-loop μ-loop
-same-length-2 c = ran-lengths _ _ _ _ _ _ _ _ _ _ _ _ (c .before .loop .inv .1) .0
+same-length-2 c = ran-lengths _ _ _ _ _ _ _ _ _ (c .before .loop .inv .1) .0
 
 same-length-3 : tie.Need-same-length-3 Inv-loop μ-loop
-same-length-3 c = ran-lengths _ _ _ _ _ _ _ _ _ _ _ _ (c .before .loop .inv .1) .1
+same-length-3 c = ran-lengths _ _ _ _ _ _ _ _ _ (c .before .loop .inv .1) .1
 
 same-length-4 : tie.Need-same-length-4 Inv-loop μ-loop
 same-length-4 c =
-    let at-loop = c .before .loop in
-    let at-pre = c .before .before .before .before .before .before .before .before .before .before .before .before .before
-    .before .pre in
-    ran-answers _ _ _ _ _ _ _ _ _ _ _ _ (at-loop .inv .1) (omega (arith, (at-pre .1 .1 .1 .1 .0) .answers))
+    let c8 = c .before .before .before .before .before .before .before .before in
+    let p = c8 .before .before .before .before .before .before .pre in
+    columns-answers _ _ _ _ _ _ _ _ _ _ _ _ (c .before .loop .inv .1) (omega (arith, p .1 .1 .1 .1 .0 .answers))
 
 returns : tie.Need-returns Inv-loop μ-loop
-returns c = ran-end _ _ _ _ _ _ _ _ _ _ _ _ (c .before .loop .inv .1) _ (omega arith)
+returns c = columns-end _ _ _ _ _ _ _ _ _ _ _ _ (c .before .loop .inv .1) _ (omega arith)
 
 pub run-spec : {M : Type 1} → statement M
 run-spec =
@@ -122,14 +111,13 @@ run-spec =
     μ-loop
     loop-holds
     (λ c. search needs)
-    shared-slice-read-step
+    shared-slice-read-step-at
     (λ c. search needs)
-    shared-slice-read-step-2
+    shared-slice-read-step-at-2
     (λ c. search needs)
-    shared-slice-read-step-3
-    step-requires
-    slice-write-answers
-    (λ c. search needs)
+    shared-slice-read-step-at-3
+    step-at-requires
+    add-i
     (λ c. omega arith)
     loop-again
     same-length

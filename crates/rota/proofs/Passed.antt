@@ -8,8 +8,8 @@ use types.Kit.{Given}
 use denote.Builtin.{u16, u32, u64, u8}
 use denote.Signature.{typesAt}
 use Rattle.walks.proofs.Entries.{Knowns, number, lent, lent-mut, _&_}
-use Rattle.draws.proofs.Draw as draw
-use Rattle.draws.proofs.play as play
+use Rattle.rota.proofs.draws.Draw as draw
+use Rattle.rota.proofs.draws.play as play
 
 module _ {M : Type 1} (𝓤 : URA M) (H : Heap 𝓤) (A : Atoms 𝓤) (W : Given 𝓤 H A) where
   abbrev pub known : (κs : Lfts 10) → Knowns 𝓤 H A (typesAt (play.signature .params) κs)

@@ -1,0 +1,120 @@
+-- A play of a lent list of draws, over plain values: it begins, goes on draw by draw, and ends. Assumes nothing.
+use mathlib.Core.Path.{_≡_, refl, sym, ap, subst, _∙_}
+use mathlib.Core.Bool.{cond}
+use mathlib.Core.List.{List, map}
+use Prim.Native.Nat.{ℕ, _+_, _≤_, _<_}
+use native.Mathlib.Numerals.{add-one}
+use native.Mathlib.Omega.{arith}
+use borrow.Author.Tests.{eq-eqb, eqb-true, eqb-false, leb-true}
+use lib.Dec.{eqb, leb}
+use lib.ListN.{length, take, length-map}
+use lib.Seq.{length-take-le}
+use Rattle.paper.specs.Rows.{unless}
+use Rattle.paper.proofs.Logic.{by-test}
+use Rattle.owners.specs.Derived.{Plan, Derived}
+use Rattle.owners.specs.Entries.{Ended}
+use Rattle.rota.specs.declared.draws.Draw as struct
+use Rattle.rota.specs.declared.play.Begun.{Begun}
+use Rattle.rota.specs.Board.{Board}
+use Rattle.rota.specs.Moves.{Draw}
+use Rattle.rota.specs.Ready.{ready}
+use Rattle.rota.specs.Stepped.{StepAsks, SteppedAt, Ran}
+use Rattle.rota.specs.Begins.{Begins}
+use Rattle.rota.specs.Draws.{numbers, drawAt, playedDraws}
+use Rattle.rota.proofs.Alike.{draws-suc}
+use Rattle.rota.proofs.Stepping.{ran-start, ran-even, ran-answers, ran-more}
+use Rattle.rota.proofs.Entered.{PlayAsks, asks-step}
+use Rattle.rota.proofs.Beginning.{begun-asks, begun-board, begun-even, begun-room, begun-yes, begun-no}
+
+module _ (P : Plan) (avail : List ℕ) (units : ℕ) (firsts frozen : List ℕ) (n : ℕ) (o : List ℕ) (D : Derived) (x : List ℕ)
+    (ds : List struct.Draw) (b : Begun) (w : Begins P avail units firsts frozen n (leb n (length ds)) o D x b) where
+  abbrev B : Board
+  B = ready (P .people) (P .slots) units firsts (b .fits) (b .flags)
+
+  abbrev first : ℕ → List Draw
+  first i = map numbers (take i ds)
+
+  asks : b .number ≡ 0 → PlayAsks P avail units firsts frozen n (leb n (length ds)) o D x
+  asks = begun-asks P avail units firsts frozen n (leb n (length ds)) o D x b w
+
+  todo-all : b .number ≡ 0 → b .todo ≡ n
+  unfolding unless
+  todo-all z = w .todo ∙ ap (λ t. cond t n 0) (eq-eqb (b .number) 0 z)
+
+  listed : b .number ≡ 0 → n ≤ length ds
+  listed z = leb-true n (length ds) (asks z .grounds .draws)
+
+  -- a draw is to be played: nothing stands against the play
+  goes : (i : ℕ) → i < b .todo → b .number ≡ 0
+  unfolding unless
+  goes i h =
+      by-test (eqb (b .number) 0) _ (eqb-true (b .number) 0)
+      (λ f. let e : b .todo ≡ 0 = w .todo ∙ ap (λ t. cond t n 0) f in absurd (omega (arith, e, h)))
+
+  -- while i draws are played
+  pub record Playing (i : ℕ) (o′ : List ℕ) (D′ : Derived) (x′ : List ℕ) : Type 0 where
+    pub within : i ≤ b .todo
+    pub going : b .number ≡ 0 → Ran P B o D x (first i) o′ D′ x′
+    pub still : (b .number ≡ 0 → ⊥) → (o′ ≡ o) × ((D′ ≡ D) × (x′ ≡ x))
+
+  pub playing-starts : Playing 0 o D x
+  playing-starts =
+      record {
+        within = omega arith;
+        going = λ z.
+            ran-start P B o D x (asks z .grounds .on .sound .slots-few) (w .words) (asks-step _ _ _ _ _ _ _ _ _ _ (asks z));
+        still = λ _. (refl, (refl, refl));
+      }
+
+  module _ (i : ℕ) (o′ : List ℕ) (D′ : Derived) (x′ : List ℕ) (p : Playing i o′ D′ x′) where
+    played-so-far : b .number ≡ 0 → length (first i) ≡ i
+    played-so-far z =
+        length-map (take i ds) numbers ∙ length-take-le i ds (omega (arith, p .within, todo-all z, listed z))
+
+    -- the next draw is in the list, and has what it asks
+    pub next-within : i < b .todo → i < length ds
+    next-within h = let z = goes i h in omega (arith, h, todo-all z, listed z)
+
+    pub next-asks : i < b .todo → StepAsks P B o′ D′ firsts (b .fits) (b .flags) i x′
+    next-asks h =
+        let z = goes i h in
+        let R = p .going z in
+        let room = asks z .grounds .answers in
+        let board = begun-board P avail units firsts frozen n _ o D x b w z in
+        let l = ran-answers _ _ _ _ _ _ _ _ _ R (omega (arith, room, todo-all z, h, played-so-far z)) in
+        record {
+          sound = asks z .grounds .on .sound;
+          in-step = R .in-step;
+          board = board;
+          even = ran-even _ _ _ _ _ _ _ _ _ R board (begun-even P avail units firsts frozen n _ o D x b w z);
+          room = begun-room P avail units firsts frozen n _ o D x b w z;
+          answers = omega (arith, room, todo-all z, h, l);
+        }
+
+    pub playing-more : i < b .todo → (o″ : List ℕ) (D″ : Derived) (x″ : List ℕ)
+        → SteppedAt P B o′ D′ (numbers (drawAt ds i)) i x′ o″ D″ x″ → Playing (i + 1) o″ D″ x″
+    playing-more h o″ D″ x″ S =
+        record {
+          within = omega (arith, h);
+          going = λ z.
+              let G = asks z .grounds in
+              subst (λ (l : List Draw). Ran P B o D x l o″ D″ x″)
+              (sym (ap first (add-one i) ∙ draws-suc ds i (next-within h)))
+              (ran-more P B o D x (first i) o′ D′ x′ (p .going z) i (played-so-far z) (numbers (drawAt ds i)) o″ D″ x″
+              (G .on .sound .slots-few) (G .on .room .sets-room) (w .words) (omega (arith, G .answers, todo-all z, h)) S);
+          still = λ q. absurd (q (goes i h));
+        }
+
+    pub playing-ends : i ≡ b .todo → Ended (playedDraws P avail units firsts frozen n ds o D x) (b .number) o′ D′ x′
+    playing-ends e =
+        by-test (eqb (b .number) 0) _
+        (λ t.
+        let z = eqb-true (b .number) 0 t in
+        subst (λ (m : ℕ). Ended (playedDraws P avail units firsts frozen n ds o D x) m o′ D′ x′) (sym z)
+        (begun-yes P avail units firsts frozen n _ o D x b w z (first n) o′ D′ x′
+        (subst (λ (j : ℕ). Ran P B o D x (first j) o′ D′ x′) (e ∙ todo-all z) (p .going z))))
+        (λ f.
+        let z = eqb-false (b .number) 0 f in
+        let q = p .still z in
+        let y = begun-no P avail units firsts frozen n _ o D x b w z (first n) in
+        record { heard = y .heard; owners = q .0 ∙ y .owners; derived = q .1 .0 ∙ y .derived; answers = q .1 .1 ∙ y .answers })

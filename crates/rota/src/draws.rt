@@ -1,0 +1,81 @@
+// A play over a lent list of `Draw` structs: begun as a play of columns is, then module `play`'s step on the numbers of each.
+use crate::play::begin;
+use crate::play::step_at;
+ghost use Rattle.owners.specs.Derived.{plan, derived};
+ghost use Rattle.owners.specs.Entries.{Ended};
+ghost use Rattle.rota.specs.Draws.{playedDraws};
+
+// A draw: the number drawn, and the two numbers that choose; laid out as C does, so that an exported function can be lent a list of them.
+#[repr(C)]
+pub struct Draw {
+    pub draw: u16,
+    pub first: u16,
+    pub second: u16,
+}
+
+// Plays a list of draws; the refusals, answers and outcome of `play::play`.
+pub fn play(
+    people: usize,
+    slots: usize,
+    units: usize,
+    count: usize,
+    starts: &[u32],
+    ends: &[u32],
+    avail: &[u64],
+    firsts: &[u16],
+    frozen: &[u64],
+    owners: &mut [u8],
+    sets: &mut [u64],
+    minutes: &mut [u64],
+    draws: &[Draw],
+    answers: &mut [u8],
+) -> u8
+    ensures { λ r. ⌜ Ended (playedDraws (plan people slots (now (starts .entry)) (now (ends .entry))) (now (avail .entry)) units
+        (now (firsts .entry)) (now (frozen .entry)) count (now (draws .entry)) (now (owners .entry)) (derived (now (sets .entry))
+        (now (minutes .entry))) (now (answers .entry))) r (now (owners .exit)) (derived (now (sets .exit)) (now (minutes .exit)))
+        (now (answers .exit)) ⌝ }
+{
+    let b = begin(
+        people,
+        slots,
+        units,
+        count,
+        starts,
+        ends,
+        avail,
+        firsts,
+        frozen,
+        owners,
+        sets,
+        minutes,
+        count <= draws.len(),
+        answers,
+    );
+    let fits = b.fits;
+    let flags = b.flags;
+    let n = b.todo;
+    let mut i: usize = 0;
+    while i < n {
+        let d = draws[i];
+        step_at(
+            people,
+            slots,
+            units,
+            starts,
+            ends,
+            firsts,
+            &fits,
+            &flags,
+            owners,
+            sets,
+            minutes,
+            d.draw,
+            d.first,
+            d.second,
+            i,
+            answers,
+        );
+        i = i + 1;
+    }
+    b.number
+}
