@@ -57,7 +57,7 @@ fn put_owner(out: &mut [u8], at: usize, owner: u8) -> usize
     requires { ⌜ at + length (ownerText owner ++ (10 ∷ [])) ≤ length (now out) ⌝ }
     ensures { λ r. ⌜ Wrote (ownerText owner ++ (10 ∷ [])) at (now (out .entry)) r (now (out .exit)) ⌝ }
 {
-    if owner == 255 {
+    if owner == paper::NOBODY {
         let next = put_byte(out, at, b'-');
         return put_byte(out, next, b'\n');
     }

@@ -112,12 +112,13 @@ abbrev to : List ℕ
 to = 60 ∷ 120 ∷ drop 2 zeros
 
 avail-is : availabilityOf 2 2 from to (G .ranges) (replicate 512 0) ≡ set (set (replicate 512 0) 0 3) 16 2
-unfolding availabilityOf availabilityRow heardOf unless peopleOk slotCountOk rangeCountOk slotRoomOk rangeRoomOk slotsOk slotOkAt slotOk prevEnd all
-    rangesOk rangeOkAt rangeOk rows availableBit available allIn inRanges covers some putSlots putSlot withBit bitOf
+unfolding availabilityOf availabilityRow heardOf unless peopleOk slotCountOk rangeCountOk slotRoomOk rangeRoomOk slotsOk slotOkAt slotOk
+    prevEnd all rangesOk rangeOkAt rangeOk rows availableBit available allIn inRanges covers some putSlots putSlot withBit bitOf
 avail-is = refl
 
 units-are : unitStartsIs (G .settings) 2 from to zeros ≡ writtenAs 0 (0 ∷ 1 ∷ []) zeros
-unfolding unitStartsIs startsRow heardOf slotCountOk slotRoomOk slotsOk slotOkAt slotOk prevEnd all settingsOk boundaryOk unitStarts unitBegins among
+unfolding unitStartsIs startsRow heardOf slotCountOk slotRoomOk slotsOk slotOkAt slotOk prevEnd all settingsOk boundaryOk unitStarts
+    unitBegins among
 units-are = refl
 
 abbrev avail : List ℕ
@@ -176,7 +177,8 @@ before = derived (set (replicate 512 0) 0 3) (120 ∷ 0 ∷ replicate 30 0)
 
 start-is : fromSlots (plan 2 2 from to) avail owners (derived (replicate 512 0) (replicate 32 0)) .derived ≡ before
 unfolding fromSlots fromSlotsRow lentRow outcome heardOf unless peopleOk slotCountOk slotRoomOk slotsOk slotOkAt slotOk prevEnd all knownAt
-    knownBy availableAt availableFor domains.available slot bitOf afresh setsFrom putSlots putSlot withBit held over worked portion sum minutesAt
+    knownBy availableAt availableFor domains.available slot bitOf afresh setsFrom putSlots putSlot withBit held over worked portion sum
+    minutesAt
 start-is = refl
 
 abbrev call : Call
@@ -219,16 +221,17 @@ after : playOf call ≡ record {
   derived = derived (set (set (replicate 512 0) 0 1) 16 2) (60 ∷ 60 ∷ replicate 30 0);
   answers = 0 ∷ drop 1 zeros;
 }
-unfolding drawsOf ownersAfter answers answer step onto decided anyOf reassigned picked domainOf unowned ownerOf frozenUnit domains.unitFrozen
-    domains.clear domains.unfrozen allIn all among slot bitOf unitEnd fitsUnit domains.able domains.available afresh setsFrom putSlots putSlot
-    withBit held over fill worked portion sum minutesAt
+unfolding drawsOf ownersAfter answers answer step onto decided anyOf reassigned picked domainOf unowned ownerOf frozenUnit
+    domains.unitFrozen domains.clear domains.unfrozen allIn all among slot bitOf unitEnd fitsUnit domains.able domains.available afresh
+    setsFrom putSlots putSlot withBit held over fill worked portion sum minutesAt
 after = accepted-is call (says-accepted call call-accepted)
 
 -- ---- the listing
 
 abbrev L : Listed
 L =
-    listed 2 from to (0 ∷ 1 ∷ replicate 1022 255) 2 (60 ∷ 60 ∷ replicate 30 0) (pos 80 ∷ pos 40 ∷ replicate 30 (pos 0)) 1 (0 ∷ drop 1 zeros) 0
+    listed 2 from to (0 ∷ 1 ∷ replicate 1022 255) 2 (60 ∷ 60 ∷ replicate 30 0) (pos 80 ∷ pos 40 ∷ replicate 30 (pos 0)) 1
+    (0 ∷ drop 1 zeros) 0
 
 text-is : textOf (linesOf L) ≡ exampleText
 unfolding textOf lineOf each digits decimal signed
@@ -251,17 +254,20 @@ listedOn Q D =
       derived = D;
       answers = zeros;
     } in
-    listed (Q .slots) (Q .starts) (Q .ends) (y .owners) (Q .people) (y .derived .minutes) (Q .targets) 1 (y .answers) (uncovered P (y .owners))
+    listed (Q .slots) (Q .starts) (Q .ends) (y .owners) (Q .people) (y .derived .minutes) (Q .targets) 1 (y .answers)
+    (uncovered P (y .owners))
 
 abbrev startOn : Ready → Derived
-startOn Q = fromSlots (plan (Q .people) (Q .slots) (Q .starts) (Q .ends)) (Q .avail) owners (derived (replicate 512 0) (replicate 32 0)) .derived
+startOn Q =
+    let P = plan (Q .people) (Q .slots) (Q .starts) (Q .ends) in
+    fromSlots P (Q .avail) owners (derived (replicate 512 0) (replicate 32 0)) .derived
 
 listed-is : listedFrom G owners ≡ L
 unfolding uncovered worked portion sum minutesAt
 listed-is =
     ap (λ (Q : Ready). listedOn Q (startOn Q)) ready-is ∙ ap (listedOn R) start-is
-    ∙ ap (λ (y : Outcome). listed 2 from to (y .owners) 2 (y .derived .minutes) (R .targets) 1 (y .answers) (uncovered (plan 2 2 from to) (y .owners)))
-    after
+    ∙ ap (λ (y : Outcome). listed 2 from to (y .owners) 2 (y .derived .minutes) (R .targets) 1 (y .answers)
+    (uncovered (plan 2 2 from to) (y .owners))) after
 
 -- ---- its file
 

@@ -149,8 +149,8 @@ module _ (s : List ℕ) (J : JobFile s) where
 
     past-owner : (j : ℕ) → readyOf s .slots ≤ j → ownerIn own j ≡ nobody
     past-owner j h =
-        ⊎-elim (λ (N : Named own j). absurd (omega (arith, N .names, record-known (N .place) (N .within) .0))) (λ (U : Unnamed own j). U .gives)
-        (named-or-not own j)
+        ⊎-elim (λ (N : Named own j). absurd (omega (arith, N .names, record-known (N .place) (N .within) .0)))
+        (λ (U : Unnamed own j). U .gives) (named-or-not own j)
 
     owner-byte : (j : ℕ) → j < 1024 → byteOf (getD (writtenOf s) j 0) ≡ ownerIn own j
     unfolding writtenOf

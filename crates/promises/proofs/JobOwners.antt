@@ -39,7 +39,8 @@ named-or-not (b ∷ bs) j =
     (λ t. inl record { place = 0; within = omega arith; names = eqb-true _ j t; gives = by t })
     (λ f.
     ⊎-elim
-    (λ (N : Named bs j). inl record { place = suc (N .place); within = omega (arith, N .within); names = N .names; gives = by f ∙ N .gives })
+    (λ (N : Named bs j).
+    inl record { place = suc (N .place); within = omega (arith, N .within); names = N .names; gives = by f ∙ N .gives })
     (λ (U : Unnamed bs j). inr record { none = after (eqb-false _ j f) (U .none); gives = by f ∙ U .gives })
     (named-or-not bs j))
   where

@@ -32,7 +32,7 @@ use Rattle.job.proofs.Passing.{AtomsSound}
 use Rattle.job.proofs.Heard.{Few, each-few, base-fits, atomTests, atoms-right, units-there}
 use Rattle.promises.specs.Tests.{SlotsRight, RangesRight, FiguresRight, SettingsRight}
 use Rattle.promises.specs.JobFields.{Given, givenBy, ownerIn, baseFrom}
-use Rattle.promises.specs.JobTests.{PassesWhen, PassBefore, CountsRight, OwnersEven, OwnersKnown, OwnersAble, JobTests, JobTestsByRule}
+use Rattle.promises.specs.JobTests.{PassesWhen, PassBefore, CountsRight, OwnersEven, OwnersKnown, OwnersAble, JobTestsByRule}
 use Rattle.promises.proofs.Tests.{tests-by-rule, known-test, available-test}
 use Rattle.promises.proofs.JobOwners.{record-says, written-at}
 use Rattle.promises.proofs.JobFields.{givenOf, ready-shape, given-same, ready-same, owners-same}
@@ -64,7 +64,8 @@ counts-test s J =
       λ C.
           and-true _ _ (tests-by-rule .slot-count (counted s 1) .1 (omega (arith, b, C .base-least), omega (arith, b, C .base-most)))
           (and-true _ _ (tests-by-rule .people (peopleOf s) .1 (omega (arith, p, C .people-least), omega (arith, p, C .people-most)))
-          (and-true _ _ (le-leb (counted s 3) 1024 (omega (arith, r, C .ranges))) (le-leb (counted s 6) 1024 (omega (arith, d, C .draws))))),
+          (and-true _ _ (le-leb (counted s 3) 1024 (omega (arith, r, C .ranges)))
+          (le-leb (counted s 6) 1024 (omega (arith, d, C .draws))))),
     )
 
 -- ---- 3 to 7, where the counts are right
@@ -74,10 +75,12 @@ module _ (s : List ℕ) (J : JobFile s) (few : Few s) where
       ↔ let G = givenBy (J .records) in SlotsRight (G .base) (G .starts) (G .ends)
   unfolding baseOf
   slots-test =
-      subst (λ (G : Given). (slotsOk (counted s 1) (columnOf s 1 0 4) (columnOf s 1 4 4) ≡ true) ↔ SlotsRight (G .base) (G .starts) (G .ends))
-      (given-same s J) (tests-by-rule .slots (counted s 1) (columnOf s 1 0 4) (columnOf s 1 4 4) (base-fits s few .lent))
+      let test = slotsOk (counted s 1) (columnOf s 1 0 4) (columnOf s 1 4 4) in
+      subst (λ (G : Given). (test ≡ true) ↔ SlotsRight (G .base) (G .starts) (G .ends)) (given-same s J)
+      (tests-by-rule .slots (counted s 1) (columnOf s 1 0 4) (columnOf s 1 4 4) (base-fits s few .lent))
 
-  ranges-test : (rangesOk (baseOf s .people) (baseOf s .ranges) ≡ true) ↔ let G = givenBy (J .records) in RangesRight (G .people) (G .ranges)
+  ranges-test : (rangesOk (baseOf s .people) (baseOf s .ranges) ≡ true)
+      ↔ let G = givenBy (J .records) in RangesRight (G .people) (G .ranges)
   unfolding baseOf
   ranges-test =
       subst (λ (G : Given). (rangesOk (peopleOf s) (rangesOf s) ≡ true) ↔ RangesRight (G .people) (G .ranges)) (given-same s J)
@@ -93,8 +96,9 @@ module _ (s : List ℕ) (J : JobFile s) (few : Few s) where
   figures-test : (allFiguresOk (peopleOf s) (capacitiesOf s) (priorsOf s) ≡ true)
       ↔ let G = givenBy (J .records) in FiguresRight (G .people) (G .capacities) (G .priors)
   figures-test =
-      subst (λ (G : Given). (allFiguresOk (peopleOf s) (capacitiesOf s) (priorsOf s) ≡ true) ↔ FiguresRight (G .people) (G .capacities) (G .priors))
-      (given-same s J) (tests-by-rule .figures (peopleOf s) (capacitiesOf s) (priorsOf s))
+      let test = allFiguresOk (peopleOf s) (capacitiesOf s) (priorsOf s) in
+      subst (λ (G : Given). (test ≡ true) ↔ FiguresRight (G .people) (G .capacities) (G .priors)) (given-same s J)
+      (tests-by-rule .figures (peopleOf s) (capacitiesOf s) (priorsOf s))
 
   settings-test : (settingsOk (settingsIn s) ≡ true) ↔ SettingsRight (givenBy (J .records) .settings)
   settings-test =
@@ -121,7 +125,8 @@ module _ (s : List ℕ) (J : JobFile s) (few : Few s) where
     unfolding writtenOf
     at-slot k h = written-at s J (R .slots) slots-few k h
 
-    even-test : settingsOk (settingsIn s) ≡ true → (allEven (R .slots) (R .units) (R .firsts) (writtenOf s) ≡ true) ↔ OwnersEven (J .records) R
+    even-test : settingsOk (settingsIn s) ≡ true
+        → (allEven (R .slots) (R .units) (R .firsts) (writtenOf s) ≡ true) ↔ OwnersEven (J .records) R
     unfolding allEven evenAt
     even-test ok =
         let right = units-there s few (atoms-right s few atoms) ok .0 in
@@ -165,7 +170,8 @@ module _ (s : List ℕ) (J : JobFile s) (few : Few s) where
         let same : (k : ℕ) → k < R .slots → getD o k 0 ≡ ownerIn own k =
         λ k h.
         ap (λ (l : List ℕ). getD l k 0) (owners-same s J slots-few people-small known)
-        ∙ getD-over (ownerIn own) 1024 (replicate 1024 0) k (omega (arith, slots-few)) (omega (arith, slots-few, length-replicate {A = ℕ} 1024 0)) in (
+        ∙ getD-over (ownerIn own) 1024 (replicate 1024 0) k (omega (arith, slots-few))
+        (omega (arith, slots-few, length-replicate {A = ℕ} 1024 0)) in (
           λ e k h.
               available-test (R .avail) (ownerIn own k) k .0
               (sym (ap (λ (w : ℕ). availableFor (R .avail) w k) (same k h)) ∙ all-each (R .slots) (availableAt (R .avail) o) e k h),

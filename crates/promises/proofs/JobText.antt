@@ -70,7 +70,8 @@ module _ (L : Listed) where
       headed 68 d (answerLetter a ∷ (10 ∷ []))
       ∙ ap (λ (l : List ℕ). 68 ∷ (32 ∷ (digits d ++ (32 ∷ l)))) (letter (eqb a 0) (eqb a 1))
     where
-      letter : (p q : Bool) → _≡_ {A = List ℕ} (cond p 65 (cond q 78 67) ∷ (10 ∷ [])) (cond p (65 ∷ []) (cond q (78 ∷ []) (67 ∷ [])) ++ (10 ∷ []))
+      letter : (p q : Bool)
+          → _≡_ {A = List ℕ} (cond p 65 (cond q 78 67) ∷ (10 ∷ [])) (cond p (65 ∷ []) (cond q (78 ∷ []) (67 ∷ [])) ++ (10 ∷ []))
       letter true q = refl
       letter false true = refl
       letter false false = refl

@@ -9,7 +9,8 @@ use Rattle.paper.specs.declared.Fault.{Fault}
 use Rattle.paper.specs.Rows.{unheard, faultOf, firstOf}
 
 -- "Times are whole minutes, 0 to 100,000,000 .. People 1 to 32. Base slots 1 to 1,024 .. ranges in all and draws in a call at most 1,024
--- each. An owner is a byte: a person's number, or 255 for nobody .. always 16 words of u64 to a set." `TestsByRule` and `JobTests` say how each is asked
+-- each. An owner is a byte: a person's number, or 255 for nobody .. always 16 words of u64 to a set."
+-- `TestsByRule` and `JobTests` say how each is asked
 pub record LimitsByRule : Type 0 where
   pub minutes : lastMinute ≡ 100000000
   pub people : peopleMost ≡ 32

@@ -52,7 +52,8 @@ abbrev pub OwnersAble : List Rec → Ready → Type 0
 OwnersAble rs R =
     (k : ℕ) → k < R .slots → ownerIn (bodies 6 rs) k ≢ 255 → rowSlots (R .avail) (ownerIn (bodies 6 rs) k) k ≡ 1
 
--- the whole row of a job that is lent this many bytes for its listing; 13 comes first, and each other test is said where those before it pass
+-- the whole row of a job that is lent this many bytes for its listing; 13 comes first, and each test from 3 on is said where those before
+-- it pass
 pub record JobTests (s : List ℕ) (lent : ℕ) : Type 0 where
   pub many : length (jobTests s lent) ≡ 11
   pub layout : Bytes s → PassesWhen (jobTests s lent) 0 13 (JobFile s)

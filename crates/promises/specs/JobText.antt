@@ -70,7 +70,7 @@ pub record JobText : Type 0 where
       → let n = jobLength 0 (jobResult s x .answer) in
       (take n (jobResult s x .out) ≡ textOf (linesOf (listedFrom (givenBy (J .records)) (ownersBy (J .records)))))
       × (drop n (jobResult s x .out) ≡ drop n x)
-  -- the digits of a number are decimal, with no 0 before another one, and have it as their value; a target below 0 has a minus sign before them
+  -- the digits of a number are decimal, with no 0 before another one, and have it as their value; a target below 0 has a minus sign first
   pub digits : (n : ℕ) → n < 10 ^ 20 → Decimal (digits n) × (readDigits (digits n) ≡ n)
   pub signed : (z : ℤ) → natAbs z < 10 ^ 20 → readSigned (signed z) ≡ z
   -- the line of a refusal: 2 exactly where the buffer is shorter than the line, and then it stays; else the line stands at its front

@@ -1,5 +1,5 @@
--- What is promised. Entries: a component, by what its entries answer. Marked: the twelve marked cases. Demand 1: Table, Tests, Faults, Refusals,
--- SetRefusals, Outcomes. Demand 2: SetRules, SlotRules, UnitRules, TargetRules, MoveRules, RotaRules. Demand 3: Rota. The job: JobRules,
+-- What is promised. Entries: a component, by what its entries answer. Marked: the twelve marked cases. Demand 1: Table, Tests, Faults,
+-- Refusals, SetRefusals, Outcomes. Demand 2: SetRules, SlotRules, UnitRules, TargetRules, MoveRules, RotaRules. Demand 3: Rota. The job: JobRules,
 -- JobFields, JobTests, JobText, JobExample.
 -- Empty: how empty answers are shut out.
 pub mod Entries

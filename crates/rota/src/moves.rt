@@ -231,7 +231,7 @@ fn reassign(
     if is_frozen(flags, first) {
         return Move::Stay(1);
     }
-    match nth_of(mask_of(fits, first), people, 255, second) {
+    match nth_of(mask_of(fits, first), people, paper::NOBODY, second) {
         Pick::Nobody => Move::Stay(1),
         Pick::Beyond => Move::Stay(2),
         Pick::Person(p) => {
@@ -270,10 +270,10 @@ fn swap_units(
     if first == second {
         return Move::Stay(1);
     }
-    if left == 255 {
+    if left == paper::NOBODY {
         return Move::Stay(1);
     }
-    if right == 255 {
+    if right == paper::NOBODY {
         return Move::Stay(1);
     }
     if left == right {
@@ -320,7 +320,7 @@ fn reassign_run(
     if is_frozen(flags, first) {
         return Move::Stay(1);
     }
-    if owner == 255 {
+    if owner == paper::NOBODY {
         return Move::Stay(1);
     }
     let a = run_start(firsts, owners, first);
@@ -362,10 +362,10 @@ fn swap_runs(
     if is_frozen(flags, second) {
         return Move::Stay(1);
     }
-    if left == 255 {
+    if left == paper::NOBODY {
         return Move::Stay(1);
     }
-    if right == 255 {
+    if right == paper::NOBODY {
         return Move::Stay(1);
     }
     if left == right {
@@ -459,7 +459,7 @@ fn shrink(
         return Move::Stay(1);
     }
     let owner = owner_of(firsts, owners, a - 1);
-    if owner == 255 {
+    if owner == paper::NOBODY {
         return Move::Stay(1);
     }
     if is_frozen(flags, a) {
@@ -492,7 +492,7 @@ fn shift_boundary(
     if is_frozen(flags, first) {
         return Move::Stay(1);
     }
-    if owner == 255 {
+    if owner == paper::NOBODY {
         return Move::Stay(1);
     }
     if 1 < second {
