@@ -11,7 +11,17 @@ use Rattle.paper.proofs.Rows.{said}
 use Rattle.promises.specs.Faults.{LimitsByRule, FaultsByRule}
 
 pub limits-by-rule : LimitsByRule
-limits-by-rule = record { minutes = refl; people = refl; slots = refl; ranges = refl; draws = refl; owner = refl; words = refl }
+limits-by-rule = record {
+  minutes = refl;
+  people = refl;
+  slots = refl;
+  ranges = refl;
+  draws = refl;
+  owner = refl;
+  words = refl;
+  file = refl;
+  sizes = refl;
+}
 
 none-fails : (ts : List Test) → ((k : ℕ) → k < length ts → getD ts k (test 0 true) .passes ≡ true) → firstOf ts ≡ unheard
 unfolding firstOf
