@@ -154,11 +154,19 @@ fn fill(bytes: &mut Vec<u8>, count: usize, list: &[u8]) {
     bytes.extend(list.iter().copied().chain(std::iter::repeat(0)).take(count));
 }
 
-/// A play; most of them act, since one that only stays put tells little.
+/// A play; most of them act, since one that only stays put tells little. One in eight ends with a shift whose second is above 1: choice
+/// outside.
 fn plain(seed: &mut Seed, made: u64) -> Option<Record> {
-    let case = small(seed)?;
+    let mut case = small(seed)?;
+    let shifts = made % 8 == 1;
+    if shifts {
+        case.draws.truncate(DRAWS - 1);
+        let unit = one_of(seed, case.problem.unit_count());
+        case.draws.push((seed.within(90, 99) as u16, unit, seed.pick(&[2, 3, 65_535])));
+    }
     let end = case.play();
-    (end.answers.contains(&0) || made % 4 == 0).then(|| Record::new(case, end))
+    let outside = !shifts || end.answers.last() == Some(&2);
+    (outside && (end.answers.contains(&0) || made % 4 == 0)).then(|| Record::new(case, end))
 }
 
 /// Marked case 12, but with no slot frozen yet: two units, owners 0 and 1, draw (35, 0, 1).

@@ -74,9 +74,14 @@ fn read_all(fd: i32, buf: &mut [u8]) -> Input
 // The line of a refusal.
 fn print_refusal(number: u8) {
     let mut line = [0u8; 6];
-    let n = job::refusal_line(number, &mut line);
-    let m = within(n, &line);
-    io::write_all(STDOUT_FILENO, &line[..m]);
+    let heard = job::refusal_line(number, &mut line);
+    match heard {
+        JobAnswer::Length(n) => {
+            let m = within(n, &line);
+            io::write_all(STDOUT_FILENO, &line[..m]);
+        }
+        JobAnswer::Refused(_) => (),
+    }
 }
 
 // The listing of the job that fd holds; what names it where it can't be read.

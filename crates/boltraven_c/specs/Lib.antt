@@ -1,4 +1,3 @@
 -- What the contracts of boltraven_c cite: answers as numbers.
 pub mod Numbers
 pub mod Units
-pub mod Jobs

@@ -1,8 +1,7 @@
 // A whole job: the bytes of its file in, its listing out.
 use job::JobAnswer;
 ghost use mathlib.Core.Path.{_≡_};
-ghost use Rattle.job.specs.Outcome.{jobResult};
-ghost use Rattle.boltraven_c.specs.Jobs.{jobNo, jobLength};
+ghost use Rattle.job.specs.Outcome.{jobNo, jobLength, jobResult};
 
 // The number of the refusal, or 0 with the length written.
 fn put_length(answer: JobAnswer, length: &mut u64) -> u8

@@ -57,14 +57,14 @@ floats-room s at stride n m h =
 -- ---- the stages of a file, from the tests that it has passed
 
 module _ (s : List ℕ) where
-  abbrev Few : Type 0
+  abbrev pub Few : Type 0
   Few = jobCountsOk (counted s 1) (peopleOf s) (counted s 3) (counted s 6) ≡ true
 
-  each-few : Few → (slotCountOk (counted s 1) ≡ true) × (peopleOk (peopleOf s) ≡ true)
+  pub each-few : Few → (slotCountOk (counted s 1) ≡ true) × (peopleOk (peopleOf s) ≡ true)
       × (leb (counted s 3) 1024 ≡ true) × (leb (counted s 6) 1024 ≡ true)
   each-few e = few-says (counted s 1) (peopleOf s) (counted s 3) (counted s 6) e
 
-  base-fits : Few → BaseFits (baseOf s)
+  pub base-fits : Few → BaseFits (baseOf s)
   unfolding baseOf rangeCountOk slotRoomOk rangeRoomOk
   base-fits e =
       let f = each-few e in
@@ -85,7 +85,7 @@ module _ (s : List ℕ) where
 
   -- 3, 4 and 5
 
-  abbrev atomTests : List Test
+  abbrev pub atomTests : List Test
   atomTests =
       test 3 (slotsOk (baseOf s .slots) (baseOf s .starts) (baseOf s .ends)) ∷ test 4 (rangesOk (baseOf s .people) (baseOf s .ranges))
       ∷ test 5 (leb (length (atomic.startsOfAtoms (baseOf s))) 1024) ∷ []
@@ -99,7 +99,7 @@ module _ (s : List ℕ) where
   atoms-heard e =
       ap (λ (a : atomic.Atoms). numberNo (a .answer)) atoms-are ∙ atoms-no (baseOf s) (base-fits e)
 
-  atoms-right : Few → heardOf atomTests ≡ 0
+  pub atoms-right : Few → heardOf atomTests ≡ 0
       → AtomsSound (baseOf s) (readyOf s .slots) (readyOf s .starts) (readyOf s .ends)
   unfolding heardOf readyOf readyIn
   atoms-right e z =
@@ -180,7 +180,7 @@ module _ (s : List ℕ) where
   unfolding readyOf readyIn
   words-there few A = words-room few _ _ _ A
 
-  units-there : Few → AtomsSound (baseOf s) (readyOf s .slots) (readyOf s .starts) (readyOf s .ends) → settingsOk (settingsIn s) ≡ true
+  pub units-there : Few → AtomsSound (baseOf s) (readyOf s .slots) (readyOf s .starts) (readyOf s .ends) → settingsOk (settingsIn s) ≡ true
       → (unitsOk (readyOf s .slots) (readyOf s .units) (readyOf s .firsts) ≡ true) × (readyOf s .units ≤ length (readyOf s .firsts))
   unfolding readyOf readyIn unitsIn
   units-there few A ok =

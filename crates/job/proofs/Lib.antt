@@ -2,6 +2,7 @@
 pub mod Files
 pub mod Layouts
 pub mod Texts
+pub mod RefusalLines
 pub mod Lengths
 pub mod Digits
 pub mod Signs

@@ -48,6 +48,16 @@ module _ (s : List ℕ) (at slots : ℕ) (few : slots ≤ 1024) where
       (λ _. getD-set-other (placed s at slots m) (ownerSlot s at m) j (ownerValue s at m) 0 (λ q. f m (omega arith) (sym q)) ∙ before)
       (λ _. before)
 
+  -- nor is one past the slots anybody's
+  pub past-nobody : (n j : ℕ) → slots ≤ j → j < 1024 → getD (placed s at slots n) j 0 ≡ nobody
+  unfolding placed
+  past-nobody zero j h g = getD-replicate 1024 j 255 0 g
+  past-nobody (suc m) j h g =
+      let before = past-nobody m j h g in
+      by-record m (λ l. getD l j 0 ≡ nobody)
+      (λ b. getD-set-other (placed s at slots m) (ownerSlot s at m) j (ownerValue s at m) 0 (λ q. omega (arith, b, q)) ∙ before)
+      (λ _. before)
+
   -- rising slots rise from any record to any later one
   slots-rise : (n : ℕ) → ((k : ℕ) → suc k < n → ownerSlot s at k < ownerSlot s at (suc k)) → (k m : ℕ) → k < m → m < n
       → ownerSlot s at k < ownerSlot s at m

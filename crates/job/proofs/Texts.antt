@@ -7,13 +7,12 @@ use Prim.Native.Nat.{ℕ, zero, suc, _+_, _/_, _%_, _^_, _≤_, _<_}
 use native.Mathlib.Nat.{pow-suc}
 use native.Mathlib.Numerals.{add-one}
 use native.Mathlib.Omega.{arith}
-use borrow.Author.Tests.{le-leb, lt-leb, lt-ltb, le-ltb, eq-eqb, ne-eqb}
+use borrow.Author.Tests.{lt-ltb, le-ltb, eq-eqb, ne-eqb}
 use lib.Dec.{eqb, lit<}
 use lib.ListN.{length, length-append}
 use Rattle.paper.proofs.Logic.{below-suc, lt-or-ge}
-use Rattle.records.specs.Puts.{put, Wrote}
-use Rattle.job.specs.Listing.{decimal, digits, ownerText, answerLetter, headText, refusalLine, lines, refusalOut}
-use Rattle.job.specs.Listing.{refusalLength}
+use Rattle.records.specs.Puts.{Wrote}
+use Rattle.job.specs.Listing.{decimal, digits, ownerText, answerLetter, headText, refusalLine, lines}
 use Rattle.records.proofs.Numbers.{below-power}
 use Rattle.records.proofs.Puts.{wrote-length, wrote-none, wrote-then, wrote-same}
 
@@ -141,22 +140,31 @@ pub head-length : (letter n last : ℕ) → length (headText letter n last) ≡ 
 unfolding headText
 head-length letter n last = omega (arith, length-append (digits n) (last ∷ []))
 
-pub refusal-le : (n : ℕ) → n < 256 → length (refusalLine n) ≤ 6
+-- it has four bytes, five from 10 on, and six from 100 on
+pub refusal-one : (n : ℕ) → n < 10 → 4 ≡ length (refusalLine n)
 unfolding refusalLine
-refusal-le n h = omega (arith, head-length 82 n 10, digits-le 2 n (omega arith) (omega arith))
+refusal-one n h = omega (arith, head-length 82 n 10, ap length (digits-small n h))
 
-pub refusal-short : (n : ℕ) (x : List ℕ) → length x < 6 → (0 ≡ refusalLength n x) × (x ≡ refusalOut n x)
-unfolding refusalLength refusalOut
-refusal-short n x h = (
-  sym (ap (λ (b : Bool). cond b (length (refusalLine n)) 0) (lt-leb 6 (length x) h)),
-  sym (ap (λ (b : Bool). cond b (put (refusalLine n) 0 x) x) (lt-leb 6 (length x) h)),
-)
+two-digits : (n : ℕ) → 10 ≤ n → n < 100 → length (digits n) ≡ 2
+two-digits n h g =
+    omega (
+      arith,
+      ap length (digits-more n h (omega arith)),
+      length-append (digits (n / 10)) ((48 + n % 10) ∷ []),
+      ap length (digits-small (n / 10) (omega arith)),
+    )
 
-pub refusal-written : (n : ℕ) (x : List ℕ) (r : ℕ) (y : List ℕ) → 6 ≤ length x → Wrote (refusalLine n) 0 x r y
-    → (r ≡ refusalLength n x) × (y ≡ refusalOut n x)
-unfolding refusalLength refusalOut
-refusal-written n x r y h w =
-    let z : 0 + length (refusalLine n) ≡ length (refusalLine n) = omega arith in (
-      w .ends ∙ z ∙ sym (ap (λ (b : Bool). cond b (length (refusalLine n)) 0) (le-leb 6 (length x) h)),
-      w .text ∙ sym (ap (λ (b : Bool). cond b (put (refusalLine n) 0 x) x) (le-leb 6 (length x) h)),
+pub refusal-two : (n : ℕ) → 10 ≤ n → n < 100 → 5 ≡ length (refusalLine n)
+unfolding refusalLine
+refusal-two n h g = omega (arith, head-length 82 n 10, two-digits n h g)
+
+pub refusal-three : (n : ℕ) → 100 ≤ n → n < 256 → 6 ≡ length (refusalLine n)
+unfolding refusalLine
+refusal-three n h g =
+    omega (
+      arith,
+      head-length 82 n 10,
+      ap length (digits-more n (omega arith) (omega arith)),
+      length-append (digits (n / 10)) ((48 + n % 10) ∷ []),
+      two-digits (n / 10) (omega arith) (omega arith),
     )

@@ -2,11 +2,10 @@
 use mathlib.Core.Bool.{cond}
 use mathlib.Core.List.{List, [], _∷_, _++_}
 use Prim.Native.Nat.{ℕ, zero, suc, _+_, _/_, _%_}
-use lib.Dec.{leb, ltb, eqb}
+use lib.Dec.{ltb, eqb}
 use lib.IntN.{ℤ, pos, negsuc}
-use lib.ListN.{length, getD}
+use lib.ListN.{getD}
 use Rattle.paper.specs.Limits.{nobody}
-use Rattle.records.specs.Puts.{put}
 
 -- ---- numbers
 
@@ -108,10 +107,3 @@ listingOf l =
 -- the room that 2 asks for: a round number above 44,535, all that the widths of the fields allow (`proofs.Lengths.listing-fits`)
 abbrev pub listingMost : ℕ
 listingMost = 65536
-
--- the line of a refusal in a lent buffer; nothing where there is no room for six bytes
-unfoldable pub refusalOut : ℕ → List ℕ → List ℕ
-refusalOut n x = cond (leb 6 (length x)) (put (refusalLine n) 0 x) x
-
-unfoldable pub refusalLength : ℕ → List ℕ → ℕ
-refusalLength n x = cond (leb 6 (length x)) (length (refusalLine n)) 0

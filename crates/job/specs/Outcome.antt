@@ -18,7 +18,7 @@ use Rattle.records.specs.Puts.{put}
 use Rattle.job.specs.declared.JobAnswer.{JobAnswer}
 use Rattle.job.specs.declared.JobAnswer.the-variants as answer
 use Rattle.job.specs.File.{fileOk}
-use Rattle.job.specs.Listing.{listingOf, listingMost}
+use Rattle.job.specs.Listing.{refusalLine, listingOf, listingMost}
 use Rattle.job.specs.Stages.{counted, begins, peopleOf, jobCountsOk, capacitiesOf, priorsOf, settingsIn, baseOf, readyOf, allEven}
 use Rattle.job.specs.Stages.{allKnown, writtenOf, ownersOf, listedOf}
 
@@ -68,6 +68,15 @@ AllPass ts = (k : ℕ) → k < length ts → testAt ts k .passes ≡ true
 
 -- ---- the outcome
 
+-- an answer by its cases: the number of the refusal, 0 where there is none; and the length, or `was` where refused
+abbrev pub jobNo : JobAnswer → ℕ
+jobNo (answer.Length l) = 0
+jobNo (answer.Refused n) = n
+
+abbrev pub jobLength : ℕ → JobAnswer → ℕ
+jobLength was (answer.Length l) = l
+jobLength was (answer.Refused n) = was
+
 pub record Result : Type 0 where
   pub answer : JobAnswer
   pub out : List ℕ
@@ -83,6 +92,14 @@ unfoldable pub jobResult : List ℕ → List ℕ → Result
 jobResult s x =
     let n = heardOf (jobTests s (length x)) in
     unless n (refusedAs n x) (listedAs (listingOf (listedOf s)) x)
+
+-- the line of a refusal in a lent buffer; 2 where that is shorter than the line
+unfoldable pub refusalRow : ℕ → ℕ → List Test
+refusalRow n room = test 2 (leb (length (refusalLine n)) room) ∷ []
+
+unfoldable pub refusalResult : ℕ → List ℕ → Result
+refusalResult n x =
+    let m = heardOf (refusalRow n (length x)) in unless m (refusedAs m x) (listedAs (refusalLine n) x)
 
 pub record Ends (y : Result) (r : JobAnswer) (out : List ℕ) : Type 0 where
   pub heard : r ≡ y .answer

@@ -1,4 +1,5 @@
 // The listing, written into a lent buffer from its front. Each function takes the place to write at and returns the next.
+use crate::JobAnswer;
 ghost use mathlib.Core.Path.{_≡_};
 ghost use mathlib.Core.List.{[], _∷_, _++_};
 ghost use Prim.Native.Nat.{ℕ, _+_, _≤_, _<_, _^_};
@@ -8,7 +9,8 @@ ghost use lib.ListN.{length, getD};
 ghost use Rattle.job.specs.Listing.{digits, signed, ownerText, answerLetter, headText, slotLine, personLine, drawLine};
 ghost use Rattle.job.specs.Listing.{lines, slotAt, personAt, drawAt};
 ghost use Rattle.records.specs.Puts.{Wrote};
-ghost use Rattle.job.specs.Listing.{listed, listingOf, listingMost, refusalLength, refusalOut};
+ghost use Rattle.job.specs.Listing.{listed, listingOf, listingMost, refusalLine};
+ghost use Rattle.job.specs.Outcome.{Ends, refusalResult};
 
 // One byte.
 fn put_byte(out: &mut [u8], at: usize, byte: u8) -> usize
@@ -55,7 +57,7 @@ fn put_owner(out: &mut [u8], at: usize, owner: u8) -> usize
     requires { ⌜ at + length (ownerText owner ++ (10 ∷ [])) ≤ length (now out) ⌝ }
     ensures { λ r. ⌜ Wrote (ownerText owner ++ (10 ∷ [])) at (now (out .entry)) r (now (out .exit)) ⌝ }
 {
-    if owner == 255 {
+    if owner == paper::NOBODY {
         let next = put_byte(out, at, b'-');
         return put_byte(out, next, b'\n');
     }
@@ -247,12 +249,26 @@ pub(crate) fn put_listing(
     )
 }
 
-// The line of a refusal, at the front of line; its length, or 0 where there is no room for six bytes.
-pub fn refusal_line(number: u8, line: &mut [u8]) -> usize
-    ensures { λ r. ⌜ (r ≡ refusalLength number (now (line .entry))) × (now (line .exit) ≡ refusalOut number (now (line .entry))) ⌝ }
+// How many bytes the line of a refusal has.
+fn refusal_size(number: u8) -> usize
+    ensures { λ r. ⌜ r ≡ length (refusalLine number) ⌝ }
 {
-    if line.len() < 6 {
-        return 0;
+    if number < 10 {
+        return 4;
     }
-    put_head(line, 0, b'R', number as u64, b'\n')
+    if number < 100 {
+        return 5;
+    }
+    6
+}
+
+// The line of a refusal at the front of line, and its length. Refusal 2: line is shorter than that.
+pub fn refusal_line(number: u8, line: &mut [u8]) -> JobAnswer
+    ensures { λ r. ⌜ Ends (refusalResult number (now (line .entry))) r (now (line .exit)) ⌝ }
+{
+    if line.len() < refusal_size(number) {
+        return JobAnswer::Refused(2);
+    }
+    let length = put_head(line, 0, b'R', number as u64, b'\n');
+    JobAnswer::Length(length)
 }

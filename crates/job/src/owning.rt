@@ -155,7 +155,7 @@ fn narrow(owners: &[u16]) -> [u8; 1024]
             out[k] = owner as u8;
             k += 1;
         } else {
-            out[k] = 255;
+            out[k] = paper::NOBODY;
             k += 1;
         }
     }

@@ -102,7 +102,7 @@ pub fn empty(
 {
     let n = empty_no(people, slots, owners, sets, minutes).number;
     if n == 0 {
-        fill_owners(owners, 0, slots, 255);
+        fill_owners(owners, 0, slots, paper::NOBODY);
         clear_sets(people, slots, sets);
         clear_minutes(people, minutes);
         return 0;

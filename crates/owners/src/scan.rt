@@ -30,7 +30,7 @@ pub(crate) fn minutes_at(minutes: &[u64], person: usize) -> u64
 pub fn known_by(people: usize, owner: u8) -> bool
     ensures { λ r. ⌜ r ≡ knownBy people owner ⌝ }
 {
-    if owner == 255 {
+    if owner == paper::NOBODY {
         return true;
     }
     (owner as usize) < people
@@ -40,7 +40,7 @@ pub fn known_by(people: usize, owner: u8) -> bool
 pub fn available_for(avail: &[u64], owner: u8, k: usize) -> bool
     ensures { λ r. ⌜ r ≡ availableFor (now (avail .entry)) owner k ⌝ }
 {
-    if owner == 255 {
+    if owner == paper::NOBODY {
         return true;
     }
     holds(avail, owner, k)
@@ -216,7 +216,7 @@ pub(crate) fn count_nobody(owners: &[u8], slots: usize) -> usize
     let mut n: usize = 0;
     let mut k: usize = 0;
     while k < slots {
-        if owner_at(owners, k) == 255 {
+        if owner_at(owners, k) == paper::NOBODY {
             n += 1;
             k += 1;
         } else {

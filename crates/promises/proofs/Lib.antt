@@ -1,6 +1,7 @@
 -- The proofs of what is promised.
 pub mod Table
 pub mod Tests
+pub mod Faults
 pub mod Calls
 pub mod TwoUnits
 pub mod Refusals
@@ -24,5 +25,10 @@ pub mod MoveRules
 pub mod PlayRule
 pub mod ManyCalls
 pub mod JobRules
+pub mod JobOwners
+pub mod JobFields
+pub mod JobTests
+pub mod JobText
+pub mod JobExample
 pub mod Empty
 pub mod Outcomes

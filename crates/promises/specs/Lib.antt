@@ -1,10 +1,12 @@
--- What is promised. Entries: a component, by what its entries answer. Marked: the twelve marked cases. Demand 1: Table, Tests, Refusals,
--- SetRefusals, Outcomes. Demand 2: SetRules, SlotRules, UnitRules, TargetRules, MoveRules, RotaRules. Demand 3: Rota. The job: JobRules.
+-- What is promised. Entries: a component, by what its entries answer. Marked: the twelve marked cases. Demand 1: Table, Tests, Faults,
+-- Refusals, SetRefusals, Outcomes. Demand 2: SetRules, SlotRules, UnitRules, TargetRules, MoveRules, RotaRules. Demand 3: Rota. The job: JobRules,
+-- JobFields, JobTests, JobText, JobExample.
 -- Empty: how empty answers are shut out.
 pub mod Entries
 pub mod Marked
 pub mod Table
 pub mod Tests
+pub mod Faults
 pub mod Refusals
 pub mod SetRefusals
 pub mod Outcomes
@@ -21,4 +23,8 @@ pub mod RotaRules
 pub mod Rota
 pub mod ManyCalls
 pub mod JobRules
+pub mod JobFields
+pub mod JobTests
+pub mod JobText
+pub mod JobExample
 pub mod Empty

@@ -20,7 +20,7 @@ Only {A = A} Fits = (x y : A) → Fits x → Fits y → x ≡ y
 pub record OneOutcome : Type 1 where
   -- every reader, every number, every set handed back, and each buffer that a contract equates by itself
   pub equated : {A : Type 0} (said : A) → Only (λ (r : A). r ≡ said)
-  -- a number and one buffer: availability, freeze_before, unit_domains, put_stretch, store, refusal_line
+  -- a number and one buffer: availability, freeze_before, unit_domains, put_stretch, store
   pub equated-both : {A B : Type 0} (said : A) (left : B) → Only (λ (r : A × B). (r .0 ≡ said) × (r .1 ≡ left))
   pub merged-ranges : (x : MergedOut) → Only (λ (r : Number × List ℕ × List ℕ × List ℕ). MergedEnd x (r .0) (r .1) (r .2) (r .3))
   pub atomise : (x : Atoms) → Only (λ (r : Number × List ℕ × List ℕ). AtomsEnd x (r .0) (r .1) (r .2))
@@ -29,4 +29,5 @@ pub record OneOutcome : Type 1 where
   pub compute-targets : (g : targets.Given) (out : List ℤ) → Only (λ (r : ℕ × List ℤ). targets.Meets g out (r .0) (r .1))
   -- from_slots, assign, empty, and play, of columns and of structs
   pub rota : (y : state.Outcome) → Only (λ (r : ℕ × List ℕ × Derived × List ℕ). state.Ended y (r .0) (r .1) (r .2) (r .3))
+  -- run_job, refusal_line
   pub run-job : (y : job.Result) → Only (λ (r : JobAnswer × List ℕ). job.Ends y (r .0) (r .1))

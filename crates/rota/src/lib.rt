@@ -7,14 +7,14 @@ mod moves;
 pub mod play;
 
 // One of a list of people: nobody is on it, the choice lies beyond it, or this person.
-pub enum Pick {
+enum Pick {
     Nobody,
     Beyond,
     Person(u8),
 }
 
 // What a draw does. Stay answers 1 or 2; a stretch of slots goes from its first up to, without, its end.
-pub enum Move {
+enum Move {
     Stay(u8),
     Give {
         from: usize,

@@ -1,7 +1,6 @@
 // The five moves: each judges a draw and says what to do; nothing is written here.
 use crate::Move;
 use crate::Pick;
-use paper::NOBODY;
 ghost use mathlib.Core.Path.{_≡_};
 ghost use mathlib.Core.Bool.{not, _&&_, _||_};
 ghost use Prim.Native.Nat.{suc, _+_, _-_, _<_, _≤_};
@@ -233,7 +232,7 @@ fn reassign(
     if is_frozen(flags, first) {
         return Move::Stay(1);
     }
-    match nth_of(mask_of(fits, first), people, 255, second) {
+    match nth_of(mask_of(fits, first), people, paper::NOBODY, second) {
         Pick::Nobody => Move::Stay(1),
         Pick::Beyond => Move::Stay(2),
         Pick::Person(p) => {
@@ -272,8 +271,8 @@ fn swap_stays(
     let right = owner_of(firsts, owners, second);
     let stays = either(is_frozen(flags, first), is_frozen(flags, second));
     let stays = either(stays, first == second);
-    let stays = either(stays, left == NOBODY);
-    let stays = either(stays, right == NOBODY);
+    let stays = either(stays, left == paper::NOBODY);
+    let stays = either(stays, right == paper::NOBODY);
     let stays = either(stays, left == right);
     let stays = either(stays, !fits_unit(fits, right, first));
     either(stays, !fits_unit(fits, left, second))
@@ -344,7 +343,7 @@ fn reassign_run(
     if is_frozen(flags, first) {
         return Move::Stay(1);
     }
-    if owner == 255 {
+    if owner == paper::NOBODY {
         return Move::Stay(1);
     }
     let a = run_start(firsts, owners, first);
@@ -386,10 +385,10 @@ fn swap_runs(
     if is_frozen(flags, second) {
         return Move::Stay(1);
     }
-    if left == 255 {
+    if left == paper::NOBODY {
         return Move::Stay(1);
     }
-    if right == 255 {
+    if right == paper::NOBODY {
         return Move::Stay(1);
     }
     if left == right {
@@ -483,7 +482,7 @@ fn shrink(
         return Move::Stay(1);
     }
     let owner = owner_of(firsts, owners, a - 1);
-    if owner == 255 {
+    if owner == paper::NOBODY {
         return Move::Stay(1);
     }
     if is_frozen(flags, a) {
@@ -516,7 +515,7 @@ fn shift_boundary(
     if is_frozen(flags, first) {
         return Move::Stay(1);
     }
-    if owner == 255 {
+    if owner == paper::NOBODY {
         return Move::Stay(1);
     }
     if 1 < second {

@@ -34,8 +34,11 @@ fn unwritten(out: &[u8], from: usize) -> bool {
 // Whether the line of a refusal is the text that is due.
 fn same_line(number: u8, due: &[u8]) -> bool {
     let mut line = [0u8; 6];
-    let n = job::refusal_line(number, &mut line);
-    same_text(&line, n, due)
+    let heard = job::refusal_line(number, &mut line);
+    match heard {
+        JobAnswer::Length(n) => same_text(&line, n, due),
+        JobAnswer::Refused(_) => false,
+    }
 }
 
 // Whether a job has the listing that is due, or is refused by the line that is due, and writes nothing besides.

@@ -1,7 +1,7 @@
 -- `boltraven_c::jobs::boltraven_run_job` meets its contract. Assumes nothing.
 use borrow.Author.Needs.{needs}
 use mathlib.Core.Path.{ap, _∙_}
-use Rattle.boltraven_c.specs.Jobs.{jobNo, jobLength}
+use Rattle.job.specs.Outcome.{jobNo, jobLength}
 use Rattle.boltraven_c.proofs.jobs.boltraven_run_job.Statement.{statement}
 use Rattle.boltraven_c.proofs.jobs.boltraven_run_job.Tie as tie
 
