@@ -172,7 +172,7 @@ impl LentUnits {
 
     /// The domains of all units: 1, 2, 9.
     pub fn unit_domains_no(&self) -> u64 {
-        let room = words_ok(self.people, self.avail.len()) && self.units.count <= self.masks_room;
+        let room = words_ok(self.people, self.avail.len()) && self.slots.count <= self.masks_room;
         lowest(&[
             (1, people_ok(self.people) && self.slots.count_ok()),
             (2, room && self.units.room_ok()),

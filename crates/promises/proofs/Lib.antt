@@ -19,6 +19,7 @@ pub mod TargetFairness
 pub mod TargetGuard
 pub mod Marked
 pub mod RotaRules
+pub mod Tables
 pub mod Rota
 pub mod MoveRules
 pub mod PlayRule

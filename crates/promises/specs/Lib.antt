@@ -18,6 +18,7 @@ pub mod PassesRule
 pub mod MoveRules
 pub mod PlayRule
 pub mod RotaRules
+pub mod Tables
 pub mod Rota
 pub mod ManyCalls
 pub mod JobRules
