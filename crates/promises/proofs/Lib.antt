@@ -25,5 +25,8 @@ pub mod MoveRules
 pub mod PlayRule
 pub mod ManyCalls
 pub mod JobRules
+pub mod ListRules
+pub mod Accepts
+pub mod Exports
 pub mod Empty
 pub mod Outcomes

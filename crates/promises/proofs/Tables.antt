@@ -9,7 +9,7 @@ use borrow.Author.Tests.{leb-true, le-leb, ltb-true, lt-ltb}
 use lib.Dec.{leb, ltb}
 use lib.Ieee.{Float}
 use lib.IntN.{ℤ}
-use lib.ListN.{length, getD}
+use lib.ListN.{length, getD, length-map}
 use Rattle.paper.specs.Limits.{peopleOk, slotCountOk, countsOk, Test, test, heardOf}
 use Rattle.paper.specs.Count.{all}
 use Rattle.paper.proofs.Logic.{by-cond, by-test, both, and-true, or-left, or-second, or-either, lt-or-ge}
@@ -39,12 +39,14 @@ use Rattle.owners.specs.Recount.{knownAt, availableFor, availableAt, evenAt, se
 use Rattle.owners.specs.Entries as state
 use Rattle.rota.specs.Entries as rota
 use Rattle.draws.specs.declared.Draw.{Draw}
-use Rattle.promises.specs.Entries.{Call, ofDraws, rowOf}
+use Rattle.draws.specs.Columns.{kinds, ones, twos}
+use Rattle.promises.specs.Entries.{Call, playOf, ofDraws, playDrawsOf, rowOf}
 use Rattle.promises.specs.Table.{Rule, rules, Applies, Heard, Hears}
 use Rattle.promises.specs.Tests.{SlotsRight, RangesRight, FiguresRight, SettingsRight, UnitsRight}
 use Rattle.promises.specs.RotaRules.{PassesRecount}
 use Rattle.promises.specs.SplitRule.{strung, CutsOf}
-use Rattle.promises.specs.Tables.{outside, short, broken, overfull, beyond, notBelow, reachesPast, Known, Available, AllKnown, AllAvailable}
+use Rattle.promises.specs.Tables.{outside, short, broken, overfull, beyond, notBelow, reachesPast, Known, Available, AllKnown}
+use Rattle.promises.specs.Tables.{AllAvailable}
 use Rattle.promises.specs.Tables as tables
 use Rattle.promises.proofs.Table.{rising, Least, tests-heard, least-heard, one-heard}
 use Rattle.promises.proofs.Tests.{tests-by-rule, known-test, available-test}
@@ -225,17 +227,19 @@ all-known-says : (people slots : ℕ) (o : List ℕ) {t : List Rule} {n : ℕ} �
     → First (broken 11 (AllKnown people slots o) ∷ t) (cond (all slots (knownAt people o)) n 11)
 unfolding knownAt
 all-known-says people slots o {t} {n} h =
-    say-broken 11 (AllKnown people slots o) (all slots (knownAt people o)) {t = t} {n = n}
-    (λ e k l. known-test people (getD o k 0) .0 (all-each slots (knownAt people o) e k l),
-    λ x. each-all slots (knownAt people o) (λ k l. known-test people (getD o k 0) .1 (x k l))) (λ e. h)
+    say-broken 11 (AllKnown people slots o) (all slots (knownAt people o)) {t = t} {n = n} (
+      λ e k l. known-test people (getD o k 0) .0 (all-each slots (knownAt people o) e k l),
+      λ x. each-all slots (knownAt people o) (λ k l. known-test people (getD o k 0) .1 (x k l)),
+    ) (λ e. h)
 
 all-available-says : (avail : List ℕ) (slots : ℕ) (o : List ℕ) {t : List Rule} {n : ℕ} → First t n
     → First (broken 12 (AllAvailable avail slots o) ∷ t) (cond (all slots (availableAt avail o)) n 12)
 unfolding availableAt
 all-available-says avail slots o {t} {n} h =
-    say-broken 12 (AllAvailable avail slots o) (all slots (availableAt avail o)) {t = t} {n = n}
-    (λ e k l. available-test avail (getD o k 0) k .0 (all-each slots (availableAt avail o) e k l),
-    λ x. each-all slots (availableAt avail o) (λ k l. available-test avail (getD o k 0) k .1 (x k l))) (λ e. h)
+    say-broken 12 (AllAvailable avail slots o) (all slots (availableAt avail o)) {t = t} {n = n} (
+      λ e k l. available-test avail (getD o k 0) k .0 (all-each slots (availableAt avail o) e k l),
+      λ x. each-all slots (availableAt avail o) (λ k l. available-test avail (getD o k 0) k .1 (x k l)),
+    ) (λ e. h)
 
 -- the five tests of the recount are one rule
 recount-says : (P : Plan) (avail : List ℕ) (units : ℕ) (firsts o : List ℕ) (D : Derived) {t : List Rule} {n : ℕ} → First t n
@@ -295,7 +299,8 @@ set-first : (len : ℕ) → First (tables.setTable len) (heardOf (lengthRow len)
 unfolding heardOf lengthRow
 set-first len = most-says len none
 
-rows-first : (ws : List ℕ) (people person len : ℕ) → First (tables.rowTable ws people person len []) (heardOf (personRow ws people person len))
+rows-first : (ws : List ℕ) (people person len : ℕ)
+    → First (tables.rowTable ws people person len []) (heardOf (personRow ws people person len))
 unfolding heardOf personRow setsRow
 rows-first ws people person len =
     people-says people (most-says len (say-short (16 * people) (length ws) (λ e. say-below person people none)))
@@ -431,4 +436,175 @@ units-by-table = record {
       (units-refuse .achievable-run s avail people p slots starts ends)
       (people-says people (slots-says slots (columns-say slots starts ends (λ r. say-short (16 * people) (length avail) (λ z.
       settings-right s (right-says 9 slots starts ends r (say-below p people none)))))));
+}
+
+-- ---- targets
+
+guard-says : (g : targets.Given) {t : List Rule} {n : ℕ} → slotRoomOk (g .slots) (g .starts) (g .ends) ≡ true → First t n
+    → First (beyond g ∷ t) (cond (targets.guardOk g) n 8)
+guard-says g {t} {n} room h =
+    let right = tests-by-rule .slots (g .slots) (g .starts) (g .ends) room in
+    let x = targets-refuse .guard g in
+    say (beyond g) (targets.guardOk g) {t = t} {n = n} (λ e. let y = x .0 e in (right .0 (y .0), y .1))
+    (λ e says. not-both (targets.guardOk g) ⊥ e (x .1 (right .1 (says .0), says .1))) (λ e. h)
+
+targets-first : (g : targets.Given) (room : ℕ) → First (tables.targetsTable g room) (heardOf (targets.targetsRow g room))
+unfolding heardOf targets.targetsRow targets.roomRow
+targets-first g room =
+    people-says (g .people) (slots-says (g .slots) (columns-say (g .slots) (g .starts) (g .ends) (λ r.
+    say-short (16 * g .people) (length (g .avail)) (λ x.
+    say-short (g .people) (length (g .capacities)) (λ y.
+    say-short (g .people) (length (g .priors)) (λ z.
+    say-short (g .people) room (λ w.
+    say-broken 6 _ (allFiguresOk (g .people) (g .capacities) (g .priors))
+    (tests-by-rule .figures (g .people) (g .capacities) (g .priors)) (λ v.
+    say-broken 7 (g .fairness ≤ 1) (leb (g .fairness) 1) (leb-true (g .fairness) 1, le-leb (g .fairness) 1) (λ u.
+    guard-says g r (right-says 9 (g .slots) (g .starts) (g .ends) r none))))))))))
+
+targets-heard : (g : targets.Given) (out : List ℤ) → Heard (tables.targetsTable g (length out)) (targets.computeTargets g out .number)
+unfolding targets.targetsRow targets.roomRow
+targets-heard g out =
+    by-first _ (targets.targetsRow g (length out)) _ refl refl (targets-refuse .compute-targets g out .heard) (targets-first g (length out))
+
+-- ---- the rota
+
+-- what a rota is lent in; then whatever comes next
+module _ (P : Plan) (avail o : List ℕ) (D : Derived) where
+  lent-says : {t : List Rule} {n : ℕ}
+      → (slotRoomOk (P .slots) (P .starts) (P .ends) ≡ true → First t n)
+      → First (short (P .slots) (length (P .starts)) ∷ short (P .slots) (length (P .ends)) ∷ short (16 * P .people) (length avail)
+      ∷ short (P .slots) (length o) ∷ short (16 * P .people) (length (D .sets)) ∷ short (P .people) (length (D .minutes)) ∷ t)
+      (cond (slotRoomOk (P .slots) (P .starts) (P .ends)) (cond (leb (16 * P .people) (length avail)) (cond (leb (P .slots) (length o))
+      (cond (leb (16 * P .people) (length (D .sets))) (cond (leb (P .people) (length (D .minutes))) n 2) 2) 2) 2) 2)
+  lent-says {t} {n} h =
+      columns-say (P .slots) (P .starts) (P .ends) (λ r.
+      say-short (16 * P .people) (length avail) (λ x.
+      say-short (P .slots) (length o) (λ y.
+      say-short (16 * P .people) (length (D .sets)) (λ z.
+      say-short (P .people) (length (D .minutes)) {t = t} {n = n} (λ w. h r)))))
+
+from-slots-first : (P : Plan) (avail o : List ℕ) (D : Derived)
+    → First (tables.fromSlotsTable P avail o D) (heardOf (state.fromSlotsRow P avail o D))
+unfolding heardOf state.fromSlotsRow state.lentRow
+from-slots-first P avail o D =
+    people-says (P .people) (slots-says (P .slots) (lent-says P avail o D (λ r.
+    right-says 9 (P .slots) (P .starts) (P .ends) r
+    (all-known-says (P .people) (P .slots) o (all-available-says avail (P .slots) o none)))))
+
+assign-first : (P : Plan) (avail o : List ℕ) (D : Derived) (k w : ℕ)
+    → First (tables.assignTable P avail o D k w) (heardOf (rota.assignRow P avail o D k w))
+unfolding heardOf rota.assignRow state.recountSlotsRow state.lentRow recountTests
+assign-first P avail o D k w =
+    people-says (P .people) (slots-says (P .slots) (lent-says P avail o D (λ r.
+    right-says 9 (P .slots) (P .starts) (P .ends) r (recount-says P avail 0 [] o D
+    (say-below k (P .slots) (known-says (P .people) w (available-says avail w k none)))))))
+
+recount-slots-first : (P : Plan) (avail o : List ℕ) (D : Derived)
+    → First (tables.recountSlotsTable P avail o D []) (heardOf (state.recountSlotsRow P avail o D))
+unfolding heardOf state.recountSlotsRow state.lentRow recountTests
+recount-slots-first P avail o D =
+    people-says (P .people) (slots-says (P .slots) (lent-says P avail o D (λ r.
+    right-says 9 (P .slots) (P .starts) (P .ends) r (recount-says P avail 0 [] o D none))))
+
+recount-first : (P : Plan) (avail : List ℕ) (units : ℕ) (firsts o : List ℕ) (D : Derived)
+    → First (tables.recountTable P avail units firsts o D [] [])
+    (heardOf (state.recountRow true (leb units (length firsts)) P avail units firsts o D))
+unfolding heardOf state.recountRow state.lentRow recountTests
+recount-first P avail units firsts o D =
+    people-says (P .people) (slots-says (P .slots) (lent-says P avail o D (λ r.
+    say-short units (length firsts) (λ q.
+    right-says 9 (P .slots) (P .starts) (P .ends) r
+    (units-right (P .slots) units firsts q (recount-says P avail units firsts o D none))))))
+
+-- rule 2 of a play's units, flags and columns
+play-room-says : (units : ℕ) (firsts frozen : List ℕ) (k : ℕ) (ks fs ss x : List ℕ) {t : List Rule} {n : ℕ}
+    → (leb units (length firsts) ≡ true → First t n)
+    → First (short units (length firsts) ∷ short 16 (length frozen) ∷ short k (length ks) ∷ short k (length fs) ∷ short k (length ss)
+    ∷ short k (length x) ∷ t) (cond (rota.playRoomOk units firsts frozen k ks fs ss x) n 2)
+unfolding rota.playRoomOk
+play-room-says units firsts frozen k ks fs ss x {t} {n} h =
+    let a = leb units (length firsts) in
+    let b = leb 16 (length frozen) in
+    let c = leb k (length ks) in
+    let d = leb k (length fs) in
+    let e = leb k (length ss) in
+    let f = leb k (length x) in
+    say-and a (b && (c && (d && (e && f)))) n 2 _ (say-short units (length firsts) (λ q.
+    say-and b (c && (d && (e && f))) n 2 _ (say-short 16 (length frozen) (λ y.
+    say-and c (d && (e && f)) n 2 _ (say-short k (length ks) (λ z.
+    say-and d (e && f) n 2 _ (say-short k (length fs) (λ v.
+    say-and e f n 2 _ (say-short k (length ss) (λ w.
+    say-short k (length x) {t = t} {n = n} (λ u. h q)))))))))))
+
+play-first : (c : Call) → First (tables.playTable c (length (c .kinds)) (length (c .ones)) (length (c .twos))) (heardOf (rowOf c))
+unfolding heardOf state.recountRow state.lentRow recountTests
+play-first c =
+    people-says (c .plan .people) (slots-says (c .plan .slots) (most-says (c .count)
+    (lent-says (c .plan) (c .avail) (c .owners) (c .derived) (λ r.
+    play-room-says (c .units) (c .firsts) (c .frozen) (c .count) (c .kinds) (c .ones) (c .twos) (c .answers) (λ q.
+    right-says 9 (c .plan .slots) (c .plan .starts) (c .plan .ends) r
+    (units-right (c .plan .slots) (c .units) (c .firsts) q
+    (recount-says (c .plan) (c .avail) (c .units) (c .firsts) (c .owners) (c .derived) none)))))))
+
+play-heard : (c : Call) → Heard (tables.playTable c (length (c .kinds)) (length (c .ones)) (length (c .twos))) (playOf c .number)
+unfolding state.recountRow state.lentRow recountTests
+play-heard c = by-first _ (rowOf c) _ refl refl (rota-refuses .play c .heard) (play-first c)
+
+draws-heard : (c : Call) (ds : List Draw) → Heard (tables.playTable c (length ds) (length ds) (length ds)) (playDrawsOf c ds .number)
+unfolding kinds ones twos
+draws-heard c ds =
+    let n = playDrawsOf c ds .number in
+    subst (λ (k : ℕ). Heard (tables.playTable c k (length ds) (length ds)) n) (length-map ds (λ d. d .draw))
+    (subst (λ (k : ℕ). Heard (tables.playTable c (length (kinds ds)) k (length ds)) n) (length-map ds (λ d. d .first))
+    (subst (λ (k : ℕ). Heard (tables.playTable c (length (kinds ds)) (length (ones ds)) k) n) (length-map ds (λ d. d .second))
+    (play-heard (ofDraws c ds))))
+
+slots-of-first : (people slots : ℕ) (ws : List ℕ) (p : ℕ)
+    → First (tables.slotsOfTable people slots ws p)
+    (heardOf (test 1 (countsOk people slots) ∷ test 2 (leb (16 * people) (length ws)) ∷ test 11 (ltb p people) ∷ []))
+unfolding heardOf countsOk
+slots-of-first people slots ws p =
+    let n = heardOf (test 2 (leb (16 * people) (length ws)) ∷ test 11 (ltb p people) ∷ []) in
+    say-and (peopleOk people) (slotCountOk slots) n 1 _
+    (people-says people (slots-says slots (say-short (16 * people) (length ws) (λ z. say-below p people none))))
+
+pub rota-by-table : tables.RotaByTable
+unfolding heardOf state.fromSlotsRow state.lentRow rota.assignRow state.recountSlotsRow state.recountRow recountTests state.emptyRow
+    state.ownerRow state.minutesRow state.unassignedRow state.uncoveredRow
+rota-by-table = record {
+  compute-targets = targets-heard;
+  from-slots = λ P avail o D.
+      by-first _ (state.fromSlotsRow P avail o D) _ refl refl (rota-refuses .from-slots P avail o D .heard) (from-slots-first P avail o D);
+  assign = λ P avail o D k w.
+      by-first _ (rota.assignRow P avail o D k w) _ refl refl (rota-refuses .assign P avail o D k w .heard) (assign-first P avail o D k w);
+  recount = λ P avail units firsts o D.
+      by-first _ (state.recountRow true (leb units (length firsts)) P avail units firsts o D) _ refl refl
+      (rota-refuses .recount true (leb units (length firsts)) P avail units firsts o D) (recount-first P avail units firsts o D);
+  recount-slots = λ P avail o D.
+      by-first _ (state.recountSlotsRow P avail o D) _ refl refl (rota-refuses .recount-slots P avail o D)
+      (recount-slots-first P avail o D);
+  play = play-heard;
+  play-draws = draws-heard;
+  empty = λ people slots o D.
+      by-first _ (state.emptyRow people slots o D) _ refl refl (rota-refuses .empty people slots o D .heard)
+      (people-says people (slots-says slots (say-short slots (length o) (λ x. say-short (16 * people) (length (D .sets)) (λ y.
+      say-short people (length (D .minutes)) (λ z. none))))));
+  owner-of-slot = λ people slots o k.
+      by-first _ (state.ownerRow people slots o k) _ refl refl (rota-refuses .owner-of-slot people slots o k)
+      (people-says people (slots-says slots (say-short slots (length o) (λ x.
+      say-below k slots (known-says people (getD o k 0) none)))));
+  minutes-of = λ people m p.
+      by-first _ (state.minutesRow people m p) _ refl refl (rota-refuses .minutes-of people m p)
+      (people-says people (say-short people (length m) (λ x. say-below p people none)));
+  slots-of = λ people slots ws p.
+      by-first _ (test 1 (countsOk people slots) ∷ test 2 (leb (16 * people) (length ws)) ∷ test 11 (ltb p people) ∷ []) _ refl refl
+      (rota-refuses .slots-of people slots ws p) (slots-of-first people slots ws p);
+  unassigned-count = λ people slots o.
+      by-first _ (state.unassignedRow people slots o) _ refl refl (rota-refuses .unassigned-count people slots o)
+      (people-says people (slots-says slots (say-short slots (length o) (λ x. all-known-says people slots o none))));
+  uncovered-minutes = λ P o.
+      by-first _ (state.uncoveredRow P o) _ refl refl (rota-refuses .uncovered-minutes P o)
+      (people-says (P .people) (slots-says (P .slots) (columns-say (P .slots) (P .starts) (P .ends) (λ r.
+      say-short (P .slots) (length o) (λ x.
+      right-says 9 (P .slots) (P .starts) (P .ends) r (all-known-says (P .people) (P .slots) o none))))));
 }

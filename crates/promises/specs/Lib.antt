@@ -22,4 +22,7 @@ pub mod Tables
 pub mod Rota
 pub mod ManyCalls
 pub mod JobRules
+pub mod ListRules
+pub mod Accepts
+pub mod Exports
 pub mod Empty

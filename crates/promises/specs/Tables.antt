@@ -1,5 +1,5 @@
--- Demand 1 in the paper's words: each entry's table of what a caller hears, by limits, lengths that are lent and the records that say what is
--- right, and no test of a crate; and that each entry is heard by its table. Assumes nothing.
+-- Demand 1 in the paper's words: each entry's table of what a caller hears, by limits, lengths that are lent and the records that say what
+-- is right, and no test of a crate; and that each entry is heard by its table. Assumes nothing.
 use mathlib.Core.Path.{_≡_}
 use mathlib.Core.Bool.{true}
 use mathlib.Core.List.{List, [], _∷_, _++_}
