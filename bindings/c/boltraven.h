@@ -220,7 +220,7 @@ uint64_t boltraven_unit_of_slot(size_t slots, size_t units, const uint16_t *firs
 uint64_t boltraven_unit_domain(const uint64_t *avail, size_t avail_len, size_t people, size_t slots, size_t units,
                                const uint16_t *firsts, size_t firsts_len, size_t unit, uint8_t *list, size_t list_len);
 
-/* Of every unit at once the people available for all its slots: a mask each, bit p for person p. */
+/* Of every unit at once the people available for all its slots: a mask each, bit p for person p. There is room for as many as slots. */
 uint8_t boltraven_unit_domains(const uint64_t *avail, size_t avail_len, size_t people, size_t slots, size_t units,
                                const uint16_t *firsts, size_t firsts_len, uint32_t *masks, size_t masks_len);
 

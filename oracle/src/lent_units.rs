@@ -69,7 +69,7 @@ pub fn lent(seed: &mut Seed, case: &ProblemCase, mut problem: Problem) -> (LentU
         unit: seed.below(problem.unit_count() as u64) as usize,
         starts_room: count + seed.below(2) as usize,
         list_room: people + seed.below(2) as usize,
-        masks_room: problem.unit_count() + seed.below(2) as usize,
+        masks_room: count + seed.below(2) as usize,
         slots,
     };
     let due = due(case, &problem, &lent);
@@ -111,7 +111,7 @@ impl LentUnits {
             5 => self.unit = seed.pick(&[self.units.count, usize::MAX]),
             6 => self.starts_room = seed.pick(&[0, self.slots.starts.len().max(1) - 1]),
             7 => self.list_room = seed.pick(&[0, self.people.clamp(1, 32) - 1]),
-            8 => self.masks_room = seed.pick(&[0, self.units.firsts.len().max(1) - 1]),
+            8 => self.masks_room = seed.pick(&[0, self.units.firsts.len().min(self.slots.starts.len().max(1) - 1)]),
             9 => damage_settings(seed, &mut self.settings),
             // by the count, which other damage leaves or makes 1: a start at a shortened column's length would be right
             10 => self.units.damage(seed, self.slots.count.min(SLOTS_MOST)),
@@ -172,7 +172,7 @@ impl LentUnits {
 
     /// The domains of all units: 1, 2, 9.
     pub fn unit_domains_no(&self) -> u64 {
-        let room = words_ok(self.people, self.avail.len()) && self.units.count <= self.masks_room;
+        let room = words_ok(self.people, self.avail.len()) && self.slots.count <= self.masks_room;
         lowest(&[
             (1, people_ok(self.people) && self.slots.count_ok()),
             (2, room && self.units.room_ok()),

@@ -108,10 +108,10 @@ fn domains(seed: &mut Seed, problem: &Problem, avail: &[u64]) -> Vec<Question> {
     asked
 }
 
-/// The domains of all units at once, a mask each, in a list with room for them or a little more.
+/// The domains of all units at once, a mask each, in a list with room for as many as slots or a little more.
 fn all_domains(seed: &mut Seed, problem: &Problem, avail: &[u64]) -> Question {
     let firsts = unit_starts_of(problem);
-    let before: Vec<u32> = (0..firsts.len() + seed.below(2) as usize).map(|_| seed.word() as u32).collect();
+    let before: Vec<u32> = (0..problem.slot_count() + seed.below(2) as usize).map(|_| seed.word() as u32).collect();
     let args = vec![
         Arg::Lent(8, bytes64(avail)),
         Arg::Number(problem.human_count() as u64),

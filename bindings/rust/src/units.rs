@@ -118,10 +118,10 @@ impl Units {
     /// ```
     pub fn domains(&self, availability: &Availability) -> Result<Vec<Vec<usize>>, Refusal> {
         let people = availability.people();
-        let mut masks = vec![0; self.len()];
+        let mut masks = vec![0; self.slots];
         lent::unit_domains(availability.words(), people, self.slots, self.len(), &self.firsts, &mut masks)?;
         let domain = |mask: u32| (0..people).filter(|person| mask >> person & 1 == 1).collect();
-        Ok(masks.into_iter().map(domain).collect())
+        Ok(masks.into_iter().take(self.len()).map(domain).collect())
     }
 
     /// Whether any slot of one is frozen. Refusal 11.

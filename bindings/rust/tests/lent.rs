@@ -137,7 +137,8 @@ fn domains_of_all_units_are_masks_or_refused_whole() {
     assert_eq!(asked(2, &[1, 0], 1), (Err(Refusal::ShortBuffer), [7; 3]));
     assert_eq!(asked(2, &[1], 3), (Err(Refusal::Slots), [7; 3]));
     assert_eq!(asked(2, &[0, 1], 3), (Ok(()), [0b01, 0b11, 7]));
-    assert_eq!(asked(1, &[0], 1), (Ok(()), [0b1, 0b11, 7]));
+    assert_eq!(asked(1, &[0], 1), (Err(Refusal::ShortBuffer), [0b01, 0b11, 7]));
+    assert_eq!(asked(1, &[0], 2), (Ok(()), [0b1, 0b11, 7]));
 }
 
 #[test]

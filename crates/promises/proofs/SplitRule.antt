@@ -27,9 +27,15 @@ unfolding lengths
 pieces-add cut lo [] hi x = omega arith
 pieces-add cut lo (a ∷ c) hi x = omega (arith, pieces-add cut a c hi (x .3), x .0, cuts-before cut a c hi (x .3))
 
+-- a start and its cuts for each base slot are where the atomic slots start
+pub atoms-strung : (B : Base) (c : ℕ → List ℕ) → ((k : ℕ) → k < B .slots → CutsOf B k (c k))
+    → strung (λ k. getD (B .starts) k 0 ∷ c k) (B .slots) ≡ startsOfAtoms B
+atoms-strung B c x =
+    strung-is _ (B .slots) ∙ laws.one-atoms (isCut (B .people) (B .ranges)) (B .slots) (B .starts) (B .ends) c x .0
+
 module _ (B : Base) (e : heardOf (atomiseRow B) ≡ 0) (c : ℕ → List ℕ) (x : (k : ℕ) → k < B .slots → CutsOf B k (c k)) where
   starts-are : strung (λ k. getD (B .starts) k 0 ∷ c k) (B .slots) ≡ startsOfAtoms B
-  starts-are = strung-is _ (B .slots) ∙ laws.one-atoms (isCut (B .people) (B .ranges)) (B .slots) (B .starts) (B .ends) c x .0
+  starts-are = atoms-strung B c x
 
   ends-are : strung (λ k. c k ++ (getD (B .ends) k 0 ∷ [])) (B .slots) ≡ endsOfAtoms B
   ends-are = strung-is _ (B .slots) ∙ laws.one-atoms (isCut (B .people) (B .ranges)) (B .slots) (B .starts) (B .ends) c x .1

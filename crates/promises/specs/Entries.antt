@@ -10,16 +10,16 @@ use Rattle.slotset.specs.declared.Found.{Found}
 use Rattle.slotset.specs.declared.Run.{Run}
 use Rattle.slotset.specs.declared.Told.{Told}
 use Rattle.slotset.specs.declared.Number.{Number}
-use Rattle.slotset.specs.Slots.{size}
-use Rattle.slotset.specs.Search.{nextSet, prevSet}
-use Rattle.paper.specs.Limits.{heardOf}
-use Rattle.slotset.specs.Answers.{lengthRow, slotsOf, foundAs, runAs, numberAs}
+use Rattle.slotset.specs.declared.NextRun.{NextRun}
+use Rattle.slotset.specs.Answers.{nextSetIs, prevSetIs, runBoundsIs, countIs, nextRunIs}
+use Rattle.runs.specs.Listed as runs
 use Rattle.slots.specs.Ranges.{Ranges}
 use Rattle.slots.specs.Atomic.{Base, Atoms, atomiseOf}
 use Rattle.slots.specs.Availability.{availabilityOf, isAvailable}
 use Rattle.units.specs.declared.Settings.{Settings}
 use Rattle.units.specs.Answers.{Written}
-use Rattle.units.specs.Starts.{rotationStartsIs}
+use Rattle.units.specs.Starts.{rotationStartsIs, unitStartsIs}
+use Rattle.units.specs.Domains.{slotDomainIs, unitDomainIs, unitDomainsIs}
 use Rattle.targets.specs.Outcome as targets
 use Rattle.slots.specs.declared.Minutes.{Minutes}
 use Rattle.rota.specs.Board.{Board}
@@ -136,6 +136,9 @@ pub record Component : Type 0 where
   pub prev : SlotSet → ℕ → Found
   pub run : SlotSet → ℕ → Run
   pub size : SlotSet → Number
+  -- its next run from a place on; all runs of a person, of words, people, person, length and the two columns to write
+  pub nextRun : SlotSet → ℕ → NextRun
+  pub allRuns : List ℕ → ℕ → ℕ → ℕ → List ℕ → List ℕ → runs.Outcome
   -- atomic slots; the words of availability at exit, of people, slots, starts, ends, ranges and words; one of its bits
   pub atomise : Base → Atoms
   pub availability : ℕ → ℕ → List ℕ → List ℕ → Ranges → List ℕ → List ℕ
@@ -143,21 +146,33 @@ pub record Component : Type 0 where
   -- targets; the starts of rotations, of settings, slots, starts, ends and the list to write
   pub targets : targets.Given → List ℤ → targets.Outcome
   pub rotations : Settings → ℕ → List ℕ → List ℕ → List ℕ → Written
+  -- the starts of units, as those of rotations; domains, of availability, people, slots, the units where they are asked for, which slot or
+  -- unit, and the list to write; of all units, the masks at exit
+  pub unitStarts : Settings → ℕ → List ℕ → List ℕ → List ℕ → Written
+  pub slotDomain : List ℕ → ℕ → ℕ → ℕ → List ℕ → Written
+  pub unitDomain : List ℕ → ℕ → ℕ → ℕ → List ℕ → ℕ → List ℕ → Written
+  pub unitDomains : List ℕ → ℕ → ℕ → ℕ → List ℕ → List ℕ → List ℕ
   -- a play; the uncovered minutes of owners
   pub play : Call → state.Outcome
   pub uncovered : Plan → List ℕ → Minutes
 
 abbrev pub built : Component
 built = record {
-  next = λ s from. foundAs (heardOf (lengthRow (s .len))) (nextSet (slotsOf s) (s .len) from);
-  prev = λ s from. foundAs (heardOf (lengthRow (s .len))) (prevSet (slotsOf s) (s .len) from);
-  run = λ s i. runAs (heardOf (lengthRow (s .len))) (slotsOf s) (s .len) i;
-  size = λ s. numberAs (heardOf (lengthRow (s .len))) (size (slotsOf s) (s .len));
+  next = nextSetIs;
+  prev = prevSetIs;
+  run = runBoundsIs;
+  size = countIs;
+  nextRun = nextRunIs;
+  allRuns = runs.allRunsOf;
   atomise = atomiseOf;
   availability = availabilityOf;
   available = isAvailable;
   targets = targets.computeTargets;
   rotations = rotationStartsIs;
+  unitStarts = unitStartsIs;
+  slotDomain = slotDomainIs;
+  unitDomain = unitDomainIs;
+  unitDomains = unitDomainsIs;
   play = playOf;
   uncovered = state.uncoveredIs;
 }

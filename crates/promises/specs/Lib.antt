@@ -1,5 +1,5 @@
 -- What is promised. Entries: a component, by what its entries answer. Marked: the twelve marked cases. Demand 1: Table, Tests, Faults,
--- Refusals, SetRefusals, Outcomes. Demand 2: SetRules, SlotRules, UnitRules, TargetRules, MoveRules, RotaRules. Demand 3: Rota. The job: JobRules,
+-- Refusals, SetRefusals, Outcomes. Demand 2: SetRules, SlotRules, UnitRules, TargetRules, EditionRules, MoveRules, RotaRules. Demand 3: Rota. The job: JobRules,
 -- JobFields, JobTests, JobText, JobExample.
 -- Empty: how empty answers are shut out.
 pub mod Entries
@@ -12,14 +12,17 @@ pub mod SetRefusals
 pub mod Outcomes
 pub mod SetRules
 pub mod ReaderRule
+pub mod HoleRule
 pub mod SlotRules
 pub mod SplitRule
 pub mod UnitRules
 pub mod TargetRules
+pub mod EditionRules
 pub mod PassesRule
 pub mod MoveRules
 pub mod PlayRule
 pub mod RotaRules
+pub mod Tables
 pub mod Rota
 pub mod ManyCalls
 pub mod JobRules
@@ -27,4 +30,7 @@ pub mod JobFields
 pub mod JobTests
 pub mod JobText
 pub mod JobExample
+pub mod ListRules
+pub mod Accepts
+pub mod Exports
 pub mod Empty

@@ -4,6 +4,8 @@ use mathlib.Core.Bool.{Bool, cond, _&&_}
 use mathlib.Core.List.{List}
 use Prim.Native.Nat.{ℕ}
 use lib.Dec.{ltb}
+use Rattle.slotset.specs.declared.Found.{Found}
+use Rattle.slotset.specs.declared.Found.the-variants as found
 use Rattle.units.specs.Units.{unitStart, unitEnd}
 use Rattle.units.specs.Domains.{able, clear, unitFrozen}
 use Rattle.rota.specs.Board.{Board, boardWith}
@@ -27,6 +29,12 @@ boardOf people slots units avail firsts frozen =
 -- the mark of a unit from slot a up to e
 unfoldable pub markOf : List ℕ → ℕ → ℕ → ℕ
 markOf frozen a e = cond (clear frozen a e) 0 1
+
+-- the same by a search for a frozen slot of it
+abbrev pub markFound : Found → ℕ
+markFound (found.At i) = 1
+markFound found.Nothing = 0
+markFound (found.Refused n) = 1
 
 -- the masks and the marks are those of the definitions
 pub record FitsRight (people slots units : ℕ) (avail firsts fits : List ℕ) : Type 0 where

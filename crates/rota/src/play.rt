@@ -5,13 +5,14 @@ use crate::checks::columns_enough;
 use crate::checks::play_room_ok;
 use crate::moves::decide;
 use paper::Fault;
+use slotset::Found;
 ghost use mathlib.Core.Path.{_≡_};
 ghost use Prim.Native.Nat.{_≤_};
 ghost use lib.ListN.{length};
 ghost use Rattle.paper.specs.Rows.{firstOf};
 ghost use Rattle.rota.specs.Board.{BoardSound, Even};
 ghost use Rattle.rota.specs.Ready.{ready};
-ghost use Rattle.rota.specs.Lent.{FrozenRight, markOf};
+ghost use Rattle.rota.specs.Lent.{FrozenRight, markOf, markFound};
 ghost use Rattle.rota.specs.Ready.{UnitRoom};
 ghost use Rattle.rota.specs.Moves.{draw};
 ghost use Rattle.rota.specs.Plays.{drawsOf};
@@ -30,12 +31,23 @@ pub(crate) struct Begun {
     pub(crate) flags: [u8; 1024],
 }
 
+// The mark of a unit, by the search for a frozen slot of it: 0 where it found none.
+fn mark_found(f: Found) -> u8
+    ensures { λ r. ⌜ r ≡ markFound f ⌝ }
+{
+    match f {
+        Found::At(_) => 1,
+        Found::Nothing => 0,
+        Found::Refused(_) => 1,
+    }
+}
+
 // 0 where no slot from a up to e is frozen, else 1.
 fn mark_of(frozen: &[u64], a: usize, e: usize) -> u8
     requires { ⌜ (e ≤ 1024) × (16 ≤ length (now frozen)) ⌝ }
     ensures { λ r. ⌜ r ≡ markOf (now (frozen .entry)) a e ⌝ }
 {
-    if units::clear(frozen, a, e) { 0 } else { 1 }
+    mark_found(slotset::row::next_set(frozen, 1, 0, e, a))
 }
 
 // For each unit 1 where it is frozen.

@@ -21,8 +21,8 @@ use Rattle.slotset.specs.declared.NextRun.{NextRun}
 use Rattle.slotset.specs.declared.NextRun.the-variants as nextRun
 use Rattle.slotset.specs.declared.NextMember.{NextMember}
 use Rattle.slotset.specs.declared.NextMember.the-variants as nextMember
-use Rattle.slotset.specs.Slots.{slot, putSlot, putSlots, has, sameSlots}
-use Rattle.slotset.specs.Search.{nextSet}
+use Rattle.slotset.specs.Slots.{slot, putSlot, putSlots, has, size, noMember, sameSlots}
+use Rattle.slotset.specs.Search.{nextSet, prevSet, nextUnsetAfter, prevUnsetBefore}
 use Rattle.slotset.specs.Runs.{firstAround, lastAround}
 
 -- ---- the rows of tests, in the paper's order
@@ -119,6 +119,41 @@ rowNextRun ws people person len at = nextRunAs (heardOf (personRow ws people per
 
 abbrev pub rowNextMember : List ℕ → ℕ → ℕ → ℕ → ℕ → NextMember
 rowNextMember ws people person len at = nextMemberAs (heardOf (personRow ws people person len)) (rowSlots ws person) len at
+
+-- ---- each question of a set by value: its refusal, or what was asked
+
+abbrev pub lenIs : SlotSet → Number
+lenIs s = numberAs (heardOf (lengthRow (s .len))) (s .len)
+
+abbrev pub containsIs : SlotSet → ℕ → Told
+containsIs s i = toldAs (heardOf (lengthRow (s .len))) (has (slotsOf s) (s .len) i)
+
+abbrev pub isEmptyIs : SlotSet → Told
+isEmptyIs s = toldAs (heardOf (lengthRow (s .len))) (noMember (slotsOf s) (s .len))
+
+abbrev pub countIs : SlotSet → Number
+countIs s = numberAs (heardOf (lengthRow (s .len))) (size (slotsOf s) (s .len))
+
+abbrev pub nextSetIs : SlotSet → ℕ → Found
+nextSetIs s from = foundAs (heardOf (lengthRow (s .len))) (nextSet (slotsOf s) (s .len) from)
+
+abbrev pub prevSetIs : SlotSet → ℕ → Found
+prevSetIs s from = foundAs (heardOf (lengthRow (s .len))) (prevSet (slotsOf s) (s .len) from)
+
+abbrev pub nextUnsetAfterIs : SlotSet → ℕ → Found
+nextUnsetAfterIs s from = foundAs (heardOf (lengthRow (s .len))) (nextUnsetAfter (slotsOf s) (s .len) from)
+
+abbrev pub prevUnsetBeforeIs : SlotSet → ℕ → Found
+prevUnsetBeforeIs s from = foundAs (heardOf (lengthRow (s .len))) (prevUnsetBefore (slotsOf s) (s .len) from)
+
+abbrev pub runBoundsIs : SlotSet → ℕ → Run
+runBoundsIs s i = runAs (heardOf (lengthRow (s .len))) (slotsOf s) (s .len) i
+
+abbrev pub nextRunIs : SlotSet → ℕ → NextRun
+nextRunIs s at = nextRunAs (heardOf (lengthRow (s .len))) (slotsOf s) (s .len) at
+
+abbrev pub nextMemberIs : SlotSet → ℕ → NextMember
+nextMemberIs s at = nextMemberAs (heardOf (lengthRow (s .len))) (slotsOf s) (s .len) at
 
 -- the number of an answer, 0 where it is no refusal
 abbrev pub toldNo : Told → ℕ

@@ -7,12 +7,12 @@ mod word;
 
 use paper::Fault;
 ghost use mathlib.Core.Path.{_≡_};
-ghost use Rattle.paper.specs.Limits.{test, heardOf};
+ghost use Rattle.paper.specs.Limits.{test};
 ghost use Rattle.paper.specs.Rows.{firstOf, next};
-ghost use Rattle.slotset.specs.Slots.{has, size, noMember, valueOf};
-ghost use Rattle.slotset.specs.Search.{nextSet, prevSet, nextUnsetAfter, prevUnsetBefore};
-ghost use Rattle.slotset.specs.Answers.{lengthRow, slotRow, stretchOk, stretchRow, slotsOf, newOf, putOf, stretchOf};
-ghost use Rattle.slotset.specs.Answers.{foundAs, toldAs, numberAs, runAs, nextRunAs, nextMemberAs};
+ghost use Rattle.slotset.specs.Slots.{valueOf};
+ghost use Rattle.slotset.specs.Answers.{lengthRow, slotRow, stretchOk, stretchRow, toldAs, newOf, putOf, stretchOf};
+ghost use Rattle.slotset.specs.Answers.{lenIs, containsIs, isEmptyIs, countIs, nextSetIs, prevSetIs, nextUnsetAfterIs};
+ghost use Rattle.slotset.specs.Answers.{prevUnsetBeforeIs, runBoundsIs, nextRunIs, nextMemberIs};
 
 // A set: its words, and how many slots it has.
 pub struct SlotSet {
@@ -144,7 +144,7 @@ impl SlotSet {
 
     // How many slots the set ranges over.
     pub fn len(self) -> Number
-        ensures { λ r. ⌜ r ≡ numberAs (heardOf (lengthRow (self .len))) (self .len) ⌝ }
+        ensures { λ r. ⌜ r ≡ lenIs self ⌝ }
     {
         let len = self.len;
         let number = len_no(len).number;
@@ -156,7 +156,7 @@ impl SlotSet {
 
     // Whether slot i is a member; at or past the length it is not.
     pub fn contains(self, i: usize) -> Told
-        ensures { λ r. ⌜ r ≡ toldAs (heardOf (lengthRow (self .len))) (has (slotsOf self) (self .len) i) ⌝ }
+        ensures { λ r. ⌜ r ≡ containsIs self i ⌝ }
     {
         let len = self.len;
         let number = len_no(len).number;
@@ -231,7 +231,7 @@ impl SlotSet {
 
     // Whether the set has no member.
     pub fn is_empty(self) -> Told
-        ensures { λ r. ⌜ r ≡ toldAs (heardOf (lengthRow (self .len))) (noMember (slotsOf self) (self .len)) ⌝ }
+        ensures { λ r. ⌜ r ≡ isEmptyIs self ⌝ }
     {
         let len = self.len;
         let number = len_no(len).number;
@@ -244,7 +244,7 @@ impl SlotSet {
 
     // How many members the set has.
     pub fn count(self) -> Number
-        ensures { λ r. ⌜ r ≡ numberAs (heardOf (lengthRow (self .len))) (size (slotsOf self) (self .len)) ⌝ }
+        ensures { λ r. ⌜ r ≡ countIs self ⌝ }
     {
         let len = self.len;
         let number = len_no(len).number;
@@ -257,7 +257,7 @@ impl SlotSet {
 
     // The first member at or after `from`.
     pub fn next_set(self, from: usize) -> Found
-        ensures { λ r. ⌜ r ≡ foundAs (heardOf (lengthRow (self .len))) (nextSet (slotsOf self) (self .len) from) ⌝ }
+        ensures { λ r. ⌜ r ≡ nextSetIs self from ⌝ }
     {
         let len = self.len;
         let number = len_no(len).number;
@@ -270,7 +270,7 @@ impl SlotSet {
 
     // The last member at or before `from`.
     pub fn prev_set(self, from: usize) -> Found
-        ensures { λ r. ⌜ r ≡ foundAs (heardOf (lengthRow (self .len))) (prevSet (slotsOf self) (self .len) from) ⌝ }
+        ensures { λ r. ⌜ r ≡ prevSetIs self from ⌝ }
     {
         let len = self.len;
         let number = len_no(len).number;
@@ -283,7 +283,7 @@ impl SlotSet {
 
     // The first slot after `from`, below the length, that is no member.
     pub fn next_unset_after(self, from: usize) -> Found
-        ensures { λ r. ⌜ r ≡ foundAs (heardOf (lengthRow (self .len))) (nextUnsetAfter (slotsOf self) (self .len) from) ⌝ }
+        ensures { λ r. ⌜ r ≡ nextUnsetAfterIs self from ⌝ }
     {
         let len = self.len;
         let number = len_no(len).number;
@@ -296,7 +296,7 @@ impl SlotSet {
 
     // The last slot before `from`, below the length, that is no member.
     pub fn prev_unset_before(self, from: usize) -> Found
-        ensures { λ r. ⌜ r ≡ foundAs (heardOf (lengthRow (self .len))) (prevUnsetBefore (slotsOf self) (self .len) from) ⌝ }
+        ensures { λ r. ⌜ r ≡ prevUnsetBeforeIs self from ⌝ }
     {
         let len = self.len;
         let number = len_no(len).number;
@@ -309,7 +309,7 @@ impl SlotSet {
 
     // The run that holds slot i.
     pub fn run_bounds(self, i: usize) -> Run
-        ensures { λ r. ⌜ r ≡ runAs (heardOf (lengthRow (self .len))) (slotsOf self) (self .len) i ⌝ }
+        ensures { λ r. ⌜ r ≡ runBoundsIs self i ⌝ }
     {
         let len = self.len;
         let number = len_no(len).number;
@@ -322,7 +322,7 @@ impl SlotSet {
 
     // The reader of runs: the next one from the cursor on.
     pub fn next_run(self, c: Cursor) -> NextRun
-        ensures { λ r. ⌜ r ≡ nextRunAs (heardOf (lengthRow (self .len))) (slotsOf self) (self .len) (c .at) ⌝ }
+        ensures { λ r. ⌜ r ≡ nextRunIs self (c .at) ⌝ }
     {
         let len = self.len;
         let at = c.at;
@@ -336,7 +336,7 @@ impl SlotSet {
 
     // The reader of single members: the next one from the cursor on.
     pub fn next_member(self, c: Cursor) -> NextMember
-        ensures { λ r. ⌜ r ≡ nextMemberAs (heardOf (lengthRow (self .len))) (slotsOf self) (self .len) (c .at) ⌝ }
+        ensures { λ r. ⌜ r ≡ nextMemberIs self (c .at) ⌝ }
     {
         let len = self.len;
         let at = c.at;

@@ -14,7 +14,7 @@ use Rattle.slotset.specs.Answers.{rowNo}
 use Rattle.slots.specs.Lent.{slotsOk}
 use Rattle.units.specs.Units.{unitStart, unitEnd, unitsOk}
 use Rattle.units.specs.Starts.{startDate}
-use Rattle.units.specs.Domains.{able, maskOf}
+use Rattle.units.specs.Domains.{able, clear, maskOf}
 
 -- ---- days
 
@@ -46,6 +46,10 @@ foundOr none (found.Refused n) = none
 -- a person is available for each slot from a up to e; no where the words are too short or the person is unknown
 unfoldable pub ableIn : List ℕ → ℕ → ℕ → ℕ → ℕ → Bool
 ableIn avail people p a e = eqb (rowNo avail people p e) 0 && able avail a e p
+
+-- no slot from a up to e is frozen; no where the words are too short
+unfoldable pub clearIn : List ℕ → ℕ → ℕ → Bool
+clearIn frozen a e = eqb (rowNo frozen 1 0 e) 0 && clear frozen a e
 
 -- ---- what the checks, passed, leave known
 

@@ -13,7 +13,6 @@ pub use dates::weekday_of;
 pub use days::covered_days;
 pub use days::minutes_per_day;
 pub use days::target_run;
-pub use domains::clear;
 pub use domains::slot_domain;
 pub use domains::unit_domain;
 pub use domains::unit_frozen;
