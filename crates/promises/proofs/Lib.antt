@@ -8,6 +8,7 @@ pub mod SetRefusals
 pub mod RotaRefusals
 pub mod SetRules
 pub mod ReaderRule
+pub mod HoleRule
 pub mod SlotRules
 pub mod SplitRule
 pub mod Listed

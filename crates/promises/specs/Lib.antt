@@ -10,6 +10,7 @@ pub mod SetRefusals
 pub mod Outcomes
 pub mod SetRules
 pub mod ReaderRule
+pub mod HoleRule
 pub mod SlotRules
 pub mod SplitRule
 pub mod UnitRules
