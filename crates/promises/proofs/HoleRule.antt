@@ -95,20 +95,22 @@ module _ (f : ℕ → ℕ) (bits : Bits f) (len : ℕ) where
       → ((k : ℕ) → Begins k → len < n + k + 1 → Tiles k (stretches n f len k)) → Tiles at (thenBehind r (stretches n f len))
   tile n at (run.Span a b) x begins h more =
       let e = from-here 1 at a b x begins in
+      let l = stretches n f len (b + 1) in
       let m = more (b + 1) (next-begins 1 at a b x begins (omega arith)) (omega (arith, x .to)) in (
-        slots-here 1 at a b x begins _ (m .0),
-        taken f len at b _ (m .1) a e (omega (arith, x .from, x .to)) (x .fits) (x .all)
+        slots-here 1 at a b x begins (slotsIn l) (m .0),
+        taken f len at b (runsIn l) (m .1) a e (omega (arith, x .from, x .to)) (x .fits) (x .all)
             (λ p q. let z : _≡_ {A = ℕ} 0 1 = sym (x .right p) ∙ q in omega arith),
-        passed-over (unset f) len at b _ (m .2) (omega (arith, x .to))
+        passed-over (unset f) len at b (holesIn l) (m .2) (omega (arith, x .to))
             (λ k p q z. let s : f k ≡ 1 = x .all k (omega arith) q in omega arith),
       )
   tile n at (run.Hole a b) x begins h more =
       let e = from-here 0 at a b x begins in
+      let l = stretches n f len (b + 1) in
       let m = more (b + 1) (next-begins 0 at a b x begins (omega arith)) (omega (arith, x .to)) in (
-        slots-here 0 at a b x begins _ (m .0),
-        passed-over f len at b _ (m .1) (omega (arith, x .to))
+        slots-here 0 at a b x begins (slotsIn l) (m .0),
+        passed-over f len at b (runsIn l) (m .1) (omega (arith, x .to))
             (λ k p q z. let s : f k ≡ 0 = x .all k (omega arith) q in omega arith),
-        taken (unset f) len at b _ (m .2) a e (omega (arith, x .from, x .to)) (x .fits)
+        taken (unset f) len at b (holesIn l) (m .2) a e (omega (arith, x .from, x .to)) (x .fits)
             (λ k p q. let s : f k ≡ 0 = x .all k p q in omega arith)
             (λ p q. let s : f (b + 1) ≡ 1 - 0 = x .right p in omega arith),
       )
@@ -133,10 +135,11 @@ module _ (f : ℕ → ℕ) (bits : Bits f) (len : ℕ) where
   pub runs-and-holes : RunsAndHoles f len
   runs-and-holes =
       let t = tiles len 0 (λ p q. let z : ⊥ = omega arith in absurd z) (omega arith) in
+      let l = allStretches f len in
       let e : len - 0 ≡ len = omega arith in
       let small : Bits (unset f) = λ k. omega arith in
       record {
         slots = t .0 ∙ ap (slotsFrom 0) e;
-        runs = runs-unique f bits len 0 _ _ (t .1) (runs-are f bits len len 0 (omega arith));
-        holes = runs-unique (unset f) small len 0 _ _ (t .2) (runs-are (unset f) small len len 0 (omega arith));
+        runs = runs-unique f bits len 0 (runsIn l) (allRuns f len) (t .1) (runs-are f bits len len 0 (omega arith));
+        holes = runs-unique (unset f) small len 0 (holesIn l) (allRuns (unset f) len) (t .2) (runs-are (unset f) small len len 0 (omega arith));
       }
