@@ -117,8 +117,11 @@ fn index_answers(tally: Tally, ws: &[u64; 16], len: usize, b: &[u8], at: usize) 
     ))
 }
 
-// The four changes of the set by value: insert, remove, and a stretch of each.
+// The four changes of the set by value: insert, remove, and a stretch of each. A set of no slots has none to change.
 fn change_answers(tally: Tally, set: SlotSet, b: &[u8]) -> Tally {
+    if set.len == 0 {
+        return tally;
+    }
     let at = CHANGES_AT;
     let t1 = tally.with(is_after(set.insert(half(b, at)), b, at + 2));
     let t2 = t1.with(is_after(set.remove(half(b, at + 130)), b, at + 132));
@@ -142,10 +145,6 @@ fn record_answers(tally: Tally, b: &[u8]) -> Tally {
     t = t.with(counted(row::count(&ws, 1, 0, len)) == half(b, 132));
     for k in 0..8usize {
         t = index_answers(t, &ws, len, b, INDEXES_AT + 22 * k);
-    }
-    // a set of no slots has none to change
-    if len == 0 {
-        return t;
     }
     change_answers(t, SlotSet { words: ws, len }, b)
 }
