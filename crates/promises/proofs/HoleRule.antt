@@ -141,5 +141,7 @@ module _ (f : ℕ → ℕ) (bits : Bits f) (len : ℕ) where
       record {
         slots = t .0 ∙ ap (slotsFrom 0) e;
         runs = runs-unique f bits len 0 (runsIn l) (allRuns f len) (t .1) (runs-are f bits len len 0 (omega arith));
-        holes = runs-unique (unset f) small len 0 (holesIn l) (allRuns (unset f) len) (t .2) (runs-are (unset f) small len len 0 (omega arith));
+        holes =
+            runs-unique (unset f) small len 0 (holesIn l) (allRuns (unset f) len) (t .2)
+            (runs-are (unset f) small len len 0 (omega arith));
       }

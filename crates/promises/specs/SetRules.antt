@@ -21,8 +21,8 @@ use Rattle.slotset.specs.Slots.{Bits, Member, has, size, noMember, slot}
 use Rattle.slotset.specs.Search.{nextWith, lastBelow, nextSet, prevSet, nextUnsetAfter, prevUnsetBefore, First, Last}
 use Rattle.slotset.specs.Runs.{Ends, allRuns, AreRuns, InRuns, Among}
 use Rattle.slotset.specs.Answers.{lengthRow, slotRow, stretchRow, personRow, personStretchRow, slotsOf, rowSlots, sameSets}
-use Rattle.slotset.specs.Answers.{foundAs, toldAs, runAs, Holds, numberAs, nextRunAs, nextMemberAs, newOf, putOf, stretchOf, loadOf, storeOf}
-use Rattle.slotset.specs.Answers.{rowStretchOf}
+use Rattle.slotset.specs.Answers.{foundAs, toldAs, runAs, Holds, numberAs, nextRunAs, nextMemberAs, newOf, putOf, stretchOf, loadOf}
+use Rattle.slotset.specs.Answers.{storeOf, rowStretchOf}
 use Rattle.runs.specs.Listed.{runsRow, allRunsOf}
 
 -- x meets a statement, and nothing else does
