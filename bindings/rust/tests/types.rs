@@ -2,8 +2,8 @@
 
 use boltraven::lent::SLOTS_MOST;
 use boltraven::{
-    Answer, Assignment, Availability, Boundary, Draw, Fairness, Job, Person, Problem, Range, Refusal, Run, Settings, Slot, SlotSet,
-    Slots, Weekday,
+    Answer, Assignment, Availability, Boundary, Draw, Fairness, Job, Person, Problem, Range, Refusal, Run, Settings, Slot, SlotSet, Slots,
+    Weekday,
 };
 
 const ONE: Person = Person { capacity: 1.0, prior: 0 };
