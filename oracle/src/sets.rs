@@ -227,7 +227,8 @@ impl Row {
     /// The question what holds a slot, the ends being written beside the number.
     fn held(&self, i: usize, outs: &[u64]) -> Question {
         let due = held(&self.case, i);
-        let mut question = self.numbers("boltraven_run_bounds", i, outs, due.map(|(_, first, last)| vec![first as u64, last as u64]));
+        let ends = due.map(|(_, first, last)| vec![first as u64, last as u64]);
+        let mut question = self.numbers("boltraven_run_bounds", i, outs, ends);
         if let Some((number, ..)) = due {
             question.due.result = number;
         }
