@@ -60,10 +60,12 @@ extern "C" {
 /* A call needs at most 256 KiB of the caller's stack (boltraven_run_job the most); docs/STACK.md has the figure of each function. */
 
 /* The version of this header; boltraven_version() answers the library's, which is to be the same. */
-#define BOLTRAVEN_VERSION 100
-#define BOLTRAVEN_VERSION_TEXT "0.1.0"
+#define BOLTRAVEN_VERSION 200
+#define BOLTRAVEN_VERSION_TEXT "0.2.0"
 
 #define BOLTRAVEN_NOTHING 65536
+#define BOLTRAVEN_RUN 0
+#define BOLTRAVEN_HOLE 1
 #define BOLTRAVEN_NOBODY 255
 #define BOLTRAVEN_SET_WORDS 16
 #define BOLTRAVEN_PEOPLE_MOST 32
@@ -127,7 +129,8 @@ uint64_t boltraven_next_unset_after(const uint64_t *words, size_t words_len, siz
 uint64_t boltraven_prev_unset_before(const uint64_t *words, size_t words_len, size_t people, size_t person, size_t len,
                                      size_t from);
 
-/* The run that holds slot i, both ends in it: 0, or nothing. */
+/* The stretch that holds slot i, both ends in it: BOLTRAVEN_RUN of members, BOLTRAVEN_HOLE of slots below `len` that are none, or nothing
+   where i is not below `len`. */
 uint64_t boltraven_run_bounds(const uint64_t *words, size_t words_len, size_t people, size_t person, size_t len, size_t i,
                               uint64_t *first, uint64_t *last);
 

@@ -1,5 +1,5 @@
 /* One base slot of two hours and two people: the slots after the split, who can cover which, targets, a rota, one draw played, and the
-   listing that a job of the same numbers has. Then one refusal. */
+   listing that a job of the same numbers has. Then what a click on each of a person's slots shows, and one refusal. */
 #include <inttypes.h>
 #include <stdio.h>
 #include <stdlib.h>
@@ -69,6 +69,14 @@ static void list(uint8_t answered) {
     printf("U %" PRIu64 "\n", uncovered);
 }
 
+/* What holds a slot of a person's set: the whole run, or the whole hole. */
+static void show(size_t person, size_t slot) {
+    uint64_t first, last;
+    const uint64_t held = boltraven_run_bounds(sets, WORDS, PEOPLE, person, slots, slot, &first, &last);
+    if (held >= BOLTRAVEN_NOTHING) done("run_bounds", held - BOLTRAVEN_NOTHING);
+    printf("%s %zu %" PRIu64 " %" PRIu64 "\n", held == BOLTRAVEN_HOLE ? "hole" : "run", person, first, last);
+}
+
 int main(void) {
     if (boltraven_version() != BOLTRAVEN_VERSION) {
         fprintf(stderr, "the library is not of this header's version, %s\n", BOLTRAVEN_VERSION_TEXT);
@@ -76,6 +84,7 @@ int main(void) {
     }
     prepare();
     list(play());
+    for (size_t slot = 0; slot < slots; slot++) show(1, slot);
     /* person 1 is not there for slot 0 */
     const uint8_t refusal =
         boltraven_assign(PEOPLE, slots, starts, SLOTS, ends, SLOTS, avail, WORDS, owners, SLOTS, sets, WORDS, minutes, PEOPLE, 0, 1);

@@ -62,7 +62,7 @@ exports! {
     found prev_set(slice, number, number, number, number);
     found next_unset_after(slice, number, number, number, number);
     found prev_unset_before(slice, number, number, number, number);
-    wrote run_bounds(slice, number, number, number, number, out, out);
+    held run_bounds(slice, number, number, number, number, out, out);
     wrote next_run(slice, number, number, number, number, out, out, out);
     wrote next_member(slice, number, number, number, number, out, out);
     done insert(slice, number, number, number, number);
@@ -128,6 +128,14 @@ fn told(answer: Result<bool, Refusal>) -> u64 {
 
 fn wrote(answer: Result<bool, Refusal>) -> u64 {
     found(answer.map(|is_written| is_written.then_some(0)))
+}
+
+fn held(answer: Result<lent::Held, Refusal>) -> u64 {
+    found(answer.map(|held| match held {
+        lent::Held::Run => Some(0),
+        lent::Held::Hole => Some(1),
+        lent::Held::Outside => None,
+    }))
 }
 
 fn plain(answer: u32) -> u64 {

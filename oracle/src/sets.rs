@@ -51,6 +51,17 @@ impl SetCase {
         set
     }
 
+    /// The slots below the length that are no members, as a set of the same length.
+    fn complement(&self) -> SlotSet {
+        let mut set = SlotSet::new(self.len);
+        for i in 0..self.len {
+            if !has_bit(&self.words, 0, i) {
+                set.insert(i);
+            }
+        }
+        set
+    }
+
     /// This set's words with the members of a Rust set, and the bits past the length as they were.
     pub fn words_of(&self, set: &SlotSet) -> [u64; SET_WORDS] {
         let mut words = self.words;
@@ -137,6 +148,13 @@ pub fn prev_unset_before(case: &SetCase, from: usize) -> Option<usize> {
     start.checked_sub(1)
 }
 
+/// What holds a slot, by its number (0 a run, 1 a hole) and its ends. The Rust has no holes: the hole is the run of the complement below
+/// the length, by its own `run_bounds`.
+pub fn held(case: &SetCase, i: usize) -> Option<(u64, usize, usize)> {
+    let run = case.rust().run_bounds(i).map(|(first, last)| (0, first, last));
+    run.or_else(|| case.complement().run_bounds(i).map(|(first, last)| (1, first, last)))
+}
+
 /// The next run from a cursor on: the reader starts at 0, so the members below the cursor are taken out of a copy first.
 pub fn next_run(case: &SetCase, cursor: usize) -> Option<(usize, usize)> {
     let mut set = case.rust();
@@ -206,6 +224,17 @@ impl Row {
         Question::beside(function, args, outs, result, due)
     }
 
+    /// The question what holds a slot, the ends being written beside the number.
+    fn held(&self, i: usize, outs: &[u64]) -> Question {
+        let due = held(&self.case, i);
+        let ends = due.map(|(_, first, last)| vec![first as u64, last as u64]);
+        let mut question = self.numbers("boltraven_run_bounds", i, outs, ends);
+        if let Some((number, ..)) = due {
+            question.due.result = number;
+        }
+        question
+    }
+
     /// A change: the number, and the words at exit.
     fn change(&self, function: &'static str, more: &[u64], number: u64, row: Option<[u64; SET_WORDS]>) -> Question {
         let mut args = self.args(Arg::LentMut);
@@ -243,8 +272,7 @@ pub fn questions(case_seed: u64) -> Vec<Question> {
         asked.push(row.number("boltraven_next_unset_after", &[i], found(next_unset_after(case, i))));
         asked.push(row.number("boltraven_prev_unset_before", &[i], found(prev_unset_before(case, i))));
         let outs = [seed.word(), seed.word(), seed.word()];
-        let run = set.run_bounds(i).map(|(first, last)| vec![first as u64, last as u64]);
-        asked.push(row.numbers("boltraven_run_bounds", i, &outs[..2], run));
+        asked.push(row.held(i, &outs[..2]));
         let run = next_run(case, i).map(|(first, last)| vec![first as u64, last as u64, last as u64 + 1]);
         asked.push(row.numbers("boltraven_next_run", i, &outs, run));
         let member = next_member(case, i).map(|at| vec![at as u64, at as u64 + 1]);

@@ -1,15 +1,17 @@
 //! Stored answers: records of the Rust's answers, which the `stored_*` programs of the library compare with no Rust at hand.
 
+use crate::bits::put_bit;
 use crate::figures::{targets_by, FigureCase, WRONG};
 use crate::limits::SLOTS_MOST;
 use crate::seed::Seed;
-use crate::sets::{index, next_run, next_unset_after, prev_unset_before, SetCase};
+use crate::sets::{held, index, next_run, next_unset_after, prev_unset_before, SetCase};
 
 /// Nothing found, in a record.
 const NOTHING: usize = 65_535;
 
-/// Indexes of a set's record.
+/// Indexes of a set's record, and the bytes of its changes.
 const INDEXES: usize = 8;
+const CHANGES: usize = 2 * (2 + 128) + 2 * (4 + 128);
 
 /// Records, and what is written of them.
 pub struct Stored {
@@ -38,20 +40,42 @@ pub fn records(n: u64, run: u64, name: &str, mut make: impl FnMut(&mut Seed, u64
 }
 
 /// Records of slot sets. A record is, in u16 and u64 numbers, low byte first: the length; the 16 words; is_empty; count; eight times an
-/// index with contains, next_set, prev_set, next_unset_after, prev_unset_before, and the ends of the run that holds it and of the next run
-/// from it on; then, each with all words after it, the index of an insert and of a remove, and the two ends of a stretch put in and of one
-/// taken out. Nothing is 65,535.
+/// index with contains, next_set, prev_set, next_unset_after, prev_unset_before, what holds it (0 a run, 1 a hole) with its ends, and the
+/// ends of the next run from it on; then, each with all words after it, the index of an insert and of a remove, and the two ends of a
+/// stretch put in and of one taken out; a set of no slots has none to change, and zeros there. Nothing is 65,535. The first records are
+/// those of `EXAMPLES`.
 pub fn slot_sets(n: u64, run: u64) -> Stored {
     let mut bytes = Vec::new();
-    records(n, run, "stored-slot-sets", |seed, _| {
-        let case = SetCase::new(seed);
-        // a set of no slots has none to change
-        if case.len > 0 {
-            slot_set(&mut bytes, seed, &case);
-        }
-        case.len > 0
+    let mut answers = 0;
+    records(n, run, "stored-slot-sets", |seed, made| {
+        let (case, asked) = match EXAMPLES.get(made as usize) {
+            Some((members, len, asked)) => (example(members.clone(), *len), *asked),
+            None => (SetCase::new(seed), &[][..]),
+        };
+        slot_set(&mut bytes, seed, &case, asked);
+        answers += if case.len > 0 { 62 } else { 58 };
+        true
     });
-    Stored::new(bytes, 62 * n)
+    Stored::new(bytes, answers)
+}
+
+/// Sets that are always stored, by their members and their length, and the indexes that are asked first: holes before, behind and between
+/// runs, at the length, of an empty set, and none of no slots.
+const EXAMPLES: [(std::ops::Range<usize>, usize, &[usize]); 5] = [
+    (60..70, 70, &[64, 5, 70]),
+    (60..70, 80, &[70]),
+    (60..70, 64, &[5]),
+    (0..0, 70, &[69]),
+    (60..70, 0, &[0]),
+];
+
+/// A set by its members, those at or past the length among them, and its length.
+fn example(members: std::ops::Range<usize>, len: usize) -> SetCase {
+    let mut words = [0; SLOTS_MOST / 64];
+    for i in members {
+        put_bit(&mut words, 0, i, true);
+    }
+    SetCase { len, words }
 }
 
 /// Records of targets, of at most eight people and six slots. A record is, low byte first: people, slots and fairness as u16; six starts
@@ -145,15 +169,15 @@ fn quads(bytes: &mut Vec<u8>, count: usize, numbers: impl Iterator<Item = u32>) 
     filled32(bytes, count, &numbers.collect::<Vec<u32>>(), 0);
 }
 
-fn slot_set(bytes: &mut Vec<u8>, seed: &mut Seed, case: &SetCase) {
+fn slot_set(bytes: &mut Vec<u8>, seed: &mut Seed, case: &SetCase, asked: &[usize]) {
     let set = case.rust();
     half(bytes, case.len);
     words(bytes, &case.words);
     half(bytes, usize::from(set.is_empty()));
     half(bytes, set.count());
-    for _ in 0..INDEXES {
+    for k in 0..INDEXES {
         // an index is a u16 here, and the largest stands for nothing
-        let i = index(seed, case.len).min(NOTHING - 1);
+        let i = asked.get(k).copied().unwrap_or_else(|| index(seed, case.len).min(NOTHING - 1));
         half(bytes, i);
         half(bytes, usize::from(set.contains(i)));
         for found in [
@@ -164,11 +188,15 @@ fn slot_set(bytes: &mut Vec<u8>, seed: &mut Seed, case: &SetCase) {
         ] {
             half(bytes, found.unwrap_or(NOTHING));
         }
-        for run in [set.run_bounds(i), next_run(case, i)] {
-            let (first, last) = run.unwrap_or((NOTHING, NOTHING));
-            half(bytes, first);
-            half(bytes, last);
+        let (number, first, last) = held(case, i).unwrap_or((NOTHING as u64, NOTHING, NOTHING));
+        let (next_first, next_last) = next_run(case, i).unwrap_or((NOTHING, NOTHING));
+        for n in [number as usize, first, last, next_first, next_last] {
+            half(bytes, n);
         }
+    }
+    if case.len == 0 {
+        bytes.resize(bytes.len() + CHANGES, 0);
+        return;
     }
     for value in [true, false] {
         let i = seed.below(case.len as u64) as usize;
@@ -225,8 +253,24 @@ pub fn words(bytes: &mut Vec<u8>, words: &[u64]) {
 #[cfg(test)]
 mod tests {
     #[test]
+    fn examples_are_held_as_said() {
+        let due = [
+            vec![Some((0, 60, 69)), Some((1, 0, 59)), None],
+            vec![Some((1, 70, 79))],
+            vec![Some((1, 0, 59))],
+            vec![Some((1, 0, 69))],
+            vec![None],
+        ];
+        for ((members, len, asked), due) in super::EXAMPLES.into_iter().zip(due) {
+            let case = super::example(members, len);
+            let held: Vec<_> = asked.iter().map(|&i| super::held(&case, i)).collect();
+            assert_eq!(held, due);
+        }
+    }
+
+    #[test]
     fn records_have_one_size() {
-        assert_eq!(super::slot_sets(7, 1).bytes.len(), 7 * 818);
+        assert_eq!(super::slot_sets(7, 1).bytes.len(), 7 * 834);
         let stored = super::targets(30, 1);
         assert_eq!(stored.bytes.len() as u64, stored.lines[0].0 * 198);
     }

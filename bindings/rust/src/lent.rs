@@ -22,8 +22,11 @@
 //! assert_eq!((lent::next_unset_after(&words, 1, 0, 64, 1)?, lent::prev_unset_before(&words, 1, 0, 64, 3)?), (Some(4), Some(0)));
 //!
 //! let (mut first, mut last, mut next) = (0, 0, 0);
-//! assert!(lent::run_bounds(&words, 1, 0, 64, 2, &mut first, &mut last)?);
+//! assert_eq!(lent::run_bounds(&words, 1, 0, 64, 2, &mut first, &mut last)?, lent::Held::Run);
 //! assert_eq!((first, last), (1, 3));
+//! assert_eq!(lent::run_bounds(&words, 1, 0, 64, 5, &mut first, &mut last)?, lent::Held::Hole);
+//! assert_eq!((first, last), (4, 8));
+//! assert_eq!(lent::run_bounds(&words, 1, 0, 64, 64, &mut first, &mut last)?, lent::Held::Outside);
 //! assert!(lent::next_run(&words, 1, 0, 64, 4, &mut first, &mut last, &mut next)?);
 //! assert_eq!((first, last, next), (9, 9, 10));
 //! assert!(!lent::next_member(&words, 1, 0, 64, 10, &mut first, &mut next)?);
@@ -154,6 +157,17 @@ pub const SLOTS_MOST: usize = 1024;
 /// The owner of a slot that nobody holds.
 pub const NOBODY: u8 = 255;
 
+/// What holds a slot of a set: [`run_bounds`] answers it.
+#[derive(Debug, Clone, Copy, PartialEq, Eq, Hash)]
+pub enum Held {
+    /// A run: the longest stretch of members around the slot.
+    Run,
+    /// A hole: the longest stretch of slots below the length around it that are no members.
+    Hole,
+    /// Neither: the slot is at or past the length.
+    Outside,
+}
+
 // ---- answers that came as one number
 
 /// What is answered where there is nothing; a refusal adds its number.
@@ -215,6 +229,17 @@ fn wrote(answer: u64) -> Result<bool, Refusal> {
     }
 }
 
+/// What holds a slot, the numbers beside it being written but outside; or a refusal.
+#[inline]
+fn held(answer: u64) -> Result<Held, Refusal> {
+    match answer {
+        0 => Ok(Held::Run),
+        1 => Ok(Held::Hole),
+        NOTHING => Ok(Held::Outside),
+        n => Err(refused(n.wrapping_sub(NOTHING))),
+    }
+}
+
 /// A number that is the answer itself.
 fn plain(answer: u32) -> u32 {
     answer
@@ -263,11 +288,11 @@ exports! {
         words: &[u64], people: usize, person: usize, len: usize, from: usize
     ) -> Result<Option<usize>, Refusal> = found(u64);
 
-    /// The run that holds slot i: true, with both its ends written; false, where i is no member. Refusals: 1, 2, 11.
+    /// What holds slot i, with both its ends written: a run or a hole; outside, nothing is. Refusals: 1, 2, 11.
     #[inline]
     pub fn run_bounds(
         words: &[u64], people: usize, person: usize, len: usize, i: usize, first: &mut u64, last: &mut u64
-    ) -> Result<bool, Refusal> = wrote(u64);
+    ) -> Result<Held, Refusal> = held(u64);
 
     /// The next run from the cursor on: true, with both its ends and the next cursor written; false at the end. Refusals: 1, 2, 11.
     #[inline]

@@ -53,7 +53,7 @@ pub use job::{run_job, Job, LISTING_MOST};
 pub use job_text::JobTextError;
 pub use problem::Problem;
 pub use refusal::{NoRefusal, Refusal};
-pub use set::{Members, Runs, SlotSet};
+pub use set::{Members, Run, Runs, SlotSet};
 pub use settings::{Boundary, Fairness, Settings};
 pub use slots::{merged_ranges, Range, Slot, Slots};
 pub use targets::{compute_targets, Person};

@@ -2,19 +2,21 @@
 
 use std::fmt;
 
-use crate::lent::{self, SET_WORDS};
+use crate::lent::{self, Held, SET_WORDS};
 use crate::refusal::{checked, Refusal};
 
 /// A set of slots below a length of at most 1,024.
 ///
 /// ```
-/// use boltraven::{Refusal, SlotSet};
+/// use boltraven::{Refusal, Run, SlotSet};
 ///
 /// let mut set = SlotSet::new(70)?;
 /// for slot in 60..70 {
 ///     set.insert(slot)?;
 /// }
-/// assert_eq!(set.run_bounds(64), Some((60, 69)));
+/// assert_eq!(set.run_bounds(64), Run::Span { first: 60, last: 69 });
+/// assert_eq!(set.run_bounds(5), Run::Hole { first: 0, last: 59 });
+/// assert_eq!(set.run_bounds(70), Run::Outside);
 /// assert_eq!(set.insert(70), Err(Refusal::Unknown));
 /// set.remove(65)?;
 /// assert_eq!((set.len(), set.count(), set.is_empty(), set.contains(65)), (70, 9, false, false));
@@ -130,11 +132,16 @@ impl SlotSet {
         checked(lent::prev_unset_before(&self.words, 1, 0, self.len, from))
     }
 
-    /// The first and the last slot of the run that holds a slot.
-    pub fn run_bounds(&self, slot: usize) -> Option<(usize, usize)> {
+    /// The run or the hole that holds a slot.
+    pub fn run_bounds(&self, slot: usize) -> Run {
         let (mut first, mut last) = (0, 0);
-        let is_member = checked(lent::run_bounds(&self.words, 1, 0, self.len, slot, &mut first, &mut last));
-        is_member.then_some((first as usize, last as usize))
+        let held = checked(lent::run_bounds(&self.words, 1, 0, self.len, slot, &mut first, &mut last));
+        let (first, last) = (first as usize, last as usize);
+        match held {
+            Held::Run => Run::Span { first, last },
+            Held::Hole => Run::Hole { first, last },
+            Held::Outside => Run::Outside,
+        }
     }
 
     /// The runs, ascending, each as its first and its last slot.
@@ -162,6 +169,42 @@ impl<'a> IntoIterator for &'a SlotSet {
     fn into_iter(self) -> Members<'a> {
         self.iter()
     }
+}
+
+/// What holds a slot of a set, by its first and its last slot, both in it.
+///
+/// A planner who clicks on slot after slot, each behind what the last one showed, sees every slot once:
+///
+/// ```
+/// use boltraven::{Run, SlotSet};
+///
+/// let set = SlotSet::from_members(9, [2, 3, 8])?;
+/// let (mut seen, mut slot) = (Vec::new(), 0);
+/// while let Run::Span { first, last } | Run::Hole { first, last } = set.run_bounds(slot) {
+///     seen.extend(first..=last);
+///     slot = last + 1;
+/// }
+/// assert_eq!(seen, [0, 1, 2, 3, 4, 5, 6, 7, 8]);
+/// # Ok::<(), boltraven::Refusal>(())
+/// ```
+#[derive(Debug, Clone, Copy, PartialEq, Eq, Hash)]
+pub enum Run {
+    /// The longest stretch of members around the slot.
+    Span {
+        /// Its first slot.
+        first: usize,
+        /// Its last slot.
+        last: usize,
+    },
+    /// The longest stretch of slots below the length around it that are no members.
+    Hole {
+        /// Its first slot.
+        first: usize,
+        /// Its last slot.
+        last: usize,
+    },
+    /// Neither: the slot is at or past the length.
+    Outside,
 }
 
 /// A reader of a set's runs.

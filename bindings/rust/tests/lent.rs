@@ -1,6 +1,6 @@
 //! Refusals, and what lies past the ends, through the lent slices.
 
-use boltraven::lent::{SET_WORDS, SLOTS_MOST};
+use boltraven::lent::{Held, SET_WORDS, SLOTS_MOST};
 use boltraven::{lent, Refusal, LISTING_MOST};
 
 const SPARE: u64 = 0xa5a5_a5a5_a5a5_a5a5;
@@ -168,7 +168,8 @@ fn a_job_is_listed_or_refused_whole() {
 fn numbers_beside_a_result_stay_where_there_is_none() {
     let words = [0; SET_WORDS];
     let (mut first, mut last, mut next) = (SPARE, SPARE, SPARE);
-    assert_eq!(lent::run_bounds(&words, 1, 0, 64, 3, &mut first, &mut last), Ok(false));
+    assert_eq!(lent::run_bounds(&words, 1, 0, 64, 64, &mut first, &mut last), Ok(Held::Outside));
+    assert_eq!(lent::run_bounds(&words, 1, 1, 64, 3, &mut first, &mut last), Err(Refusal::Unknown));
     assert_eq!(lent::next_run(&words, 1, 0, 64, 0, &mut first, &mut last, &mut next), Ok(false));
     assert_eq!(lent::next_member(&words, 1, 0, 2000, 0, &mut first, &mut next), Err(Refusal::Count));
     assert_eq!(lent::minutes_per_day(1, &[5], &[5], &mut last), Err(Refusal::Slots));

@@ -2,7 +2,7 @@
 
 use boltraven::lent::SLOTS_MOST;
 use boltraven::{
-    Answer, Assignment, Availability, Boundary, Draw, Fairness, Job, Person, Problem, Range, Refusal, Settings, Slot, SlotSet, Slots,
+    Answer, Assignment, Availability, Boundary, Draw, Fairness, Job, Person, Problem, Range, Refusal, Run, Settings, Slot, SlotSet, Slots,
     Weekday,
 };
 
@@ -183,10 +183,14 @@ fn sets_end_at_their_length() {
     assert_eq!(set.iter().count(), set.count());
     assert_eq!((set.next_set(SLOTS_MOST), set.prev_set(usize::MAX)), (None, Some(SLOTS_MOST - 1)));
     assert_eq!((set.next_unset_after(1011), set.prev_unset_before(1011)), (None, Some(1010)));
+    assert_eq!(set.run_bounds(1010), Run::Hole { first: 1010, last: 1010 });
+    assert_eq!(set.run_bounds(SLOTS_MOST - 1), Run::Span { first: 1011, last: 1023 });
+    assert_eq!(set.run_bounds(SLOTS_MOST), Run::Outside);
     assert_eq!(set.remove_stretch(0..SLOTS_MOST), Ok(()));
     assert!(set.is_empty());
+    assert_eq!(set.run_bounds(500), Run::Hole { first: 0, last: 1023 });
     let none = SlotSet::new(0).expect("a set of no slots");
-    assert_eq!((none.next_set(0), none.prev_set(0), none.run_bounds(0)), (None, None, None));
+    assert_eq!((none.next_set(0), none.prev_set(0), none.run_bounds(0)), (None, None, Run::Outside));
 }
 
 #[test]

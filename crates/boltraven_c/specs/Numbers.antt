@@ -15,9 +15,9 @@ use Rattle.slotset.specs.declared.NextRun.the-variants as nextRun
 use Rattle.slotset.specs.declared.NextMember.{NextMember}
 use Rattle.slotset.specs.declared.NextMember.the-variants as nextMember
 
--- the version 0.1.0: ten thousand times 0, a hundred times 1, and 0
+-- the version 0.2.0: ten thousand times 0, a hundred times 2, and 0
 abbrev pub versionNumber : ℕ
-versionNumber = 100
+versionNumber = 200
 
 -- a slot: its index
 abbrev pub foundNumber : Found → ℕ
@@ -41,19 +41,22 @@ abbrev pub minutesAre : ℕ → Minutes → ℕ
 minutesAre was (minutes.Are m) = m
 minutesAre was (minutes.Refused n) = was
 
--- a run: 0, its ends beside it; otherwise those stay as they were lent
+-- a run is 0 and a hole is 1, the ends beside it; otherwise those stay as they were lent
 abbrev pub runNumber : Run → ℕ
 runNumber (run.Span first last) = 0
+runNumber (run.Hole first last) = 1
 runNumber run.Outside = 65536
 runNumber (run.Refused n) = 65536 + n
 
 abbrev pub runFirst : ℕ → Run → ℕ
 runFirst was (run.Span first last) = first
+runFirst was (run.Hole first last) = first
 runFirst was run.Outside = was
 runFirst was (run.Refused n) = was
 
 abbrev pub runLast : ℕ → Run → ℕ
 runLast was (run.Span first last) = last
+runLast was (run.Hole first last) = last
 runLast was run.Outside = was
 runLast was (run.Refused n) = was
 

@@ -116,7 +116,7 @@ pub extern "C" fn boltraven_prev_unset_before(
     found_number(row::prev_unset_before(words, people, person, len, from))
 }
 
-// The run that holds slot i: 0, with its ends written; otherwise they stay.
+// The stretch that holds slot i, with its ends written: 0, a run; 1, a hole. Otherwise they stay.
 #[no_mangle]
 pub extern "C" fn boltraven_run_bounds(
     words: &[u64],
@@ -142,6 +142,14 @@ pub extern "C" fn boltraven_run_bounds(
             *first = low as u64;
             *last = high as u64;
             0
+        }
+        Run::Hole {
+            first: low,
+            last: high,
+        } => {
+            *first = low as u64;
+            *last = high as u64;
+            1
         }
         Run::Outside => NOTHING,
         Run::Refused(n) => refused(n),

@@ -1,8 +1,9 @@
 -- How empty answers are shut out: each breaks a promise, by a witness. Assumes nothing.
-use mathlib.Core.Path.{_≡_, refl, sym, ap, ap₂, _∙_}
+use mathlib.Core.Path.{_≡_, refl, sym, ap, ap₂, _∙_, subst}
 use mathlib.Core.Bool.{Bool, true, false, cond}
 use mathlib.Core.List.{List, [], _∷_}
 use Prim.Native.Nat.{ℕ, _+_, _≤_, _<_}
+use native.Mathlib.Decide.{ℕ-discrete}
 use native.Mathlib.Omega.{arith}
 use lib.Dec.{eqb}
 use lib.IntN.{ℤ, pos}
@@ -10,6 +11,7 @@ use lib.ListN.{length, getD, replicate, length-replicate}
 use native.Mathlib.Nat.{le-of-eq}
 use Rattle.paper.specs.Bits.{bitOf}
 use Rattle.paper.proofs.Logic.{by-test}
+use Rattle.paper.proofs.Rows.{kept}
 use Rattle.paper.specs.Count.{all, allIn, sum, count, over, fill, among}
 use Rattle.slotset.specs.declared.Found.the-variants.{At, Nothing}
 use Rattle.slotset.specs.declared.Run.the-variants as run
@@ -19,10 +21,10 @@ use Rattle.paper.specs.Limits.{peopleOk, slotCountOk, heardOf}
 use Rattle.paper.specs.Rows.{unless}
 use Rattle.slotset.specs.declared.SlotSet.{SlotSet}
 use Rattle.slotset.specs.Slots.{Bits, slot, withBit, putSlot, putSlots, has}
-use Rattle.slotset.specs.Runs.{firstAround, lastAround}
-use Rattle.slotset.specs.Answers.{lengthRow, setsRow, personRow, slotsOf, runAs, changedAs, loadOf}
+use Rattle.slotset.specs.Runs.{Around}
+use Rattle.slotset.specs.Answers.{lengthRow, setsRow, personRow, slotsOf, runAs, Holds, changedAs, loadOf}
 use Rattle.slotset.proofs.Puts.{slot-lt}
-use Rattle.slotset.proofs.Runs.{has-member, run-around}
+use Rattle.slotset.proofs.Runs.{lookup-is}
 use Rattle.slots.specs.Atomic.{Atoms}
 use Rattle.slots.specs.Lent.{minutesAt, demandOf}
 use Rattle.units.specs.Units.{unitEnd}
@@ -98,30 +100,19 @@ module _ (C : Component) (M : MarkedCases C) (T : RefusesByTable C) (S : SizesRe
 
 -- ---- one fixed answer
 
--- a run that is told is that of a member
+-- a run that is told holds the slot
 run-told : (f : ℕ → ℕ) → Bits f → (n len i first last : ℕ) → runAs n f len i ≡ run.Span first last → (first ≤ i) × (i ≤ last)
-unfolding runAs unless
-run-told f bits n len i first last e =
-    by-test (eqb n 0) _
-    (λ t.
-    by-test (has f len i) _
-    (λ m.
-    let r = run-around f bits len i (has-member f len i m) in
-    let q : run.Span (firstAround 1 f len i) (lastAround 1 f len i) ≡ run.Span first last = sym (by true true t m) ∙ e in
-    let a : firstAround 1 f len i ≡ first = cc in
-    let b : lastAround 1 f len i ≡ last = cc in
-    (omega (arith, a, r .from), omega (arith, b, r .to)))
-    (λ m. let q : run.Outside ≡ run.Span first last = sym (by true false t m) ∙ e in let z : _≡_ {A = ℕ} 0 1 = cc in absurd (omega arith)))
-    (λ t.
-    let q : run.Refused n ≡ run.Span first last = sym (by false (has f len i) t refl) ∙ e in
-    let z : _≡_ {A = ℕ} 0 1 = cc in
-    absurd (omega arith))
-  where
-    by : (a b : Bool) → eqb n 0 ≡ a → has f len i ≡ b
-        → cond (eqb n 0) (cond (has f len i) (run.Span (firstAround 1 f len i) (lastAround 1 f len i)) run.Outside) (run.Refused n)
-        ≡ cond a (cond b (run.Span (firstAround 1 f len i) (lastAround 1 f len i)) run.Outside) (run.Refused n)
-    by a b p q =
-        ap₂ (λ (x y : Bool). cond x (cond y (run.Span (firstAround 1 f len i) (lastAround 1 f len i)) run.Outside) (run.Refused n)) p q
+unfolding runAs
+run-told f bits n len i first last e = elim (ℕ-discrete n 0) [
+  | yes z ↦
+      let x : Around 1 f len i first last =
+      subst (Holds f len i) (ap (λ (m : ℕ). runAs m f len i) (sym z) ∙ e) (lookup-is f len i bits) in
+      (x .from, x .to)
+  | no m ↦
+      let q : run.Refused n ≡ run.Span first last = sym (kept n (run.Refused n) _ m) ∙ e in
+      let z : _≡_ {A = ℕ} 0 1 = cc in
+      absurd (omega arith)
+]
 
 pub runs-hold : RunsHold built
 runs-hold s i first last e = run-told (slotsOf s) (slot-lt (s .words) 0) (heardOf (lengthRow (s .len))) (s .len) i first last e

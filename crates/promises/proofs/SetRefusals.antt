@@ -3,6 +3,7 @@ use mathlib.Core.Path.{_≡_, refl, ap₂, _∙_}
 use mathlib.Core.Bool.{Bool, true, false, cond}
 use mathlib.Core.List.{List}
 use Prim.Native.Nat.{ℕ}
+use lib.Dec.{eqb, ltb}
 use lib.ListN.{length}
 use Rattle.paper.specs.Limits.{Test, heardOf}
 use Rattle.paper.specs.Rows.{unless}
@@ -14,11 +15,10 @@ use Rattle.slotset.specs.declared.Found.the-variants as found
 use Rattle.slotset.specs.declared.Run.the-variants as run
 use Rattle.slotset.specs.declared.NextRun.the-variants as nextRun
 use Rattle.slotset.specs.declared.NextMember.the-variants as nextMember
-use Rattle.slotset.specs.Slots.{has}
 use Rattle.slotset.specs.Search.{nextWith, lastBelow, nextSet, First, Last}
 use Rattle.slotset.specs.Runs.{firstAround, lastAround}
 use Rattle.slotset.specs.Answers.{lengthRow, slotRow, stretchRow, setsRow, sameSetsRow, personRow, personStretchRow}
-use Rattle.slotset.specs.Answers.{foundAs, runAs, runStep, nextRunAs, memberStep, nextMemberAs}
+use Rattle.slotset.specs.Answers.{foundAs, stretchAs, runAs, runStep, nextRunAs, memberStep, nextMemberAs}
 use Rattle.slotset.specs.Answers.{changedAs, newOf, putOf, stretchOf, loadOf, storeOf, rowStretchOf, numberNo}
 use Rattle.slotset.proofs.Meaning.{next-is, last-is}
 use Rattle.slotset.proofs.Refusals.{number-said, told-said}
@@ -69,9 +69,10 @@ last-none v f len end (found.Refused n) h = absurd h
 next-none : (v : ℕ) (f : ℕ → ℕ) (len from : ℕ) → foundNo (nextWith v f len from) ≡ 0
 next-none v f len from = first-none v f len from (nextWith v f len from) (next-is v f len from)
 
-run-none : (b : Bool) (first last : ℕ) → runNo (cond b (run.Span first last) run.Outside) ≡ 0
-run-none true first last = refl
-run-none false first last = refl
+run-none : (b c : Bool) (first last : ℕ) → runNo (cond b (cond c (run.Span first last) (run.Hole first last)) run.Outside) ≡ 0
+run-none true true first last = refl
+run-none true false first last = refl
+run-none false c first last = refl
 
 run-step-none : (f : ℕ → ℕ) (len : ℕ) (x : Found) → foundNo x ≡ 0 → nextRunNo (runStep f len x) ≡ 0
 run-step-none f len (found.At i) e = refl
@@ -84,7 +85,7 @@ member-step-none found.Nothing e = refl
 member-step-none (found.Refused n) e = e
 
 pub sets-refuse : SetsRefuse
-unfolding newOf putOf stretchOf loadOf changedAs storeOf rowStretchOf foundAs runAs nextRunAs nextMemberAs unless
+unfolding newOf putOf stretchOf loadOf changedAs storeOf rowStretchOf foundAs runAs stretchAs nextRunAs nextMemberAs unless
     lengthRow slotRow stretchRow setsRow sameSetsRow personRow personStretchRow
 sets-refuse = record {
   lengths = λ len. tests-heard (lengthRow len) refl;
@@ -104,7 +105,8 @@ sets-refuse = record {
   told = told-said;
   number = number-said;
   run = λ n f len i.
-      number-of-made runNo n _ (run.Refused n) (run-none (has f len i) (firstAround 1 f len i) (lastAround 1 f len i)) refl;
+      number-of-made runNo n _ (run.Refused n)
+      (run-none (ltb i len) (eqb (f i) 1) (firstAround (f i) f len i) (lastAround (f i) f len i)) refl;
   next-run = λ n f len at.
       number-of-made nextRunNo n (runStep f len (nextSet f len at)) (nextRun.Refused n)
       (run-step-none f len (nextSet f len at) (next-none 1 f len at)) refl;

@@ -18,6 +18,7 @@ use Rattle.paper.proofs.Rows.{worked}
 use Rattle.slotset.specs.declared.SlotSet.{SlotSet}
 use Rattle.slotset.specs.declared.Found.{Found}
 use Rattle.slotset.specs.declared.Found.the-variants.{At, Nothing, Refused}
+use Rattle.slotset.specs.declared.Run.{Run}
 use Rattle.slotset.specs.declared.Run.the-variants as run
 use Rattle.slotset.specs.declared.Told.the-variants.{Yes, No}
 use Rattle.slotset.specs.declared.NextRun.{NextRun}
@@ -26,9 +27,9 @@ use Rattle.slotset.specs.declared.NextMember.the-variants as nextMember
 use Rattle.slotset.specs.declared.Number.the-variants as number
 use Rattle.slotset.specs.Slots.{Bits, slot, putSlot, putSlots, has, Member, size, noMember, sameSlots}
 use Rattle.slotset.specs.Search.{nextWith, lastBelow, nextSet, First, Last}
-use Rattle.slotset.specs.Runs.{firstAround, lastAround, endOf, Ends, whenFound, runs, allRuns, AreRuns, InRuns}
+use Rattle.slotset.specs.Runs.{firstAround, lastAround, Around, endOf, Ends, whenFound, runs, allRuns, AreRuns, InRuns, Among}
 use Rattle.slotset.specs.Answers.{lengthRow, slotRow, stretchRow, personRow, personStretchRow, slotsOf, rowSlots, sameSets}
-use Rattle.slotset.specs.Answers.{foundAs, toldAs, runAs, numberAs, emptySet}
+use Rattle.slotset.specs.Answers.{foundAs, toldAs, stretchAs, runAs, Holds, numberAs, emptySet}
 use Rattle.slotset.specs.Answers.{runStep, nextRunAs, memberStep, nextMemberAs, changedAs, newOf, putOf, stretchOf, loadOf}
 use Rattle.slotset.specs.Answers.{storeOf, rowStretchOf}
 use Rattle.slotset.proofs.Puts.{slot-lt, slot-puts, slot-puts-other, puts-none, slot-loaded, slot-none}
@@ -36,10 +37,12 @@ use Rattle.slotset.proofs.Refusals.{slot-says, stretch-says, row-says, row-stre
 use Rattle.slotset.proofs.OneSlot.{load-is}
 use Rattle.slotset.proofs.Meaning.{next-is, next-unique, last-is, last-unique, next-same, last-same}
 use Rattle.slotset.proofs.Members.{size-members, put-here, put-elsewhere, size-same, none-same, has-same, all-runs-same}
-use Rattle.slotset.proofs.Runs.{has-member, member-has, run-around, around-unique, runs-are, runs-unique, runs-hold, runs-only, run-same}
+use Rattle.slotset.proofs.Runs.{has-member, member-has, run-around, around-unique, around-slot, around-same, runs-are, runs-unique}
+use Rattle.slotset.proofs.Runs.{runs-hold, runs-only, run-among, among-around}
+use Rattle.slotset.proofs.Runs.{answers-below, answers-outside, answers-run, answers-hole, lookup-is, lookup-unique}
 use Rattle.runs.specs.Listed.{runsRow, column, allRunsOf}
 use Rattle.runs.proofs.Listing.{list-says, column-at, column-stays}
-use Rattle.promises.specs.SetRules.{TheOne, RunIs, Put, Changes, firstAhead, FrontOf, SameAnswers, SetsByRule}
+use Rattle.promises.specs.SetRules.{TheOne, Put, Changes, firstAhead, FrontOf, SameAnswers, SetsByRule}
 
 next-found : (v : ℕ) (f : ℕ → ℕ) (len from : ℕ) → TheOne (First v f len from) (foundAs 0 (nextWith v f len from))
 unfolding foundAs unless
@@ -49,25 +52,42 @@ last-found : (v : ℕ) (f : ℕ → ℕ) (len end : ℕ) → TheOne (Last v f le
 unfolding foundAs unless
 last-found v f len end = record { meets = last-is v f len end; only = last-unique v f len end }
 
-module _ (f : ℕ → ℕ) (bits : Bits f) (len i : ℕ) (m : Member f len i) where
-  run-found : (first : ℕ) × (last : ℕ) × RunIs f len i first last
-  unfolding runAs unless
-  run-found =
-      let r = run-around f bits len i m in (
-        firstAround 1 f len i,
-        lastAround 1 f len i,
-        record {
-          answer = ap (λ (b : Bool). cond b (run.Span (firstAround 1 f len i) (lastAround 1 f len i)) run.Outside) (member-has f len i m);
-          around = r;
-          only = λ a b x. around-unique 1 f len i a b (firstAround 1 f len i) (lastAround 1 f len i) x r;
-        },
-      )
+-- ---- the lookup
 
-no-run-found : (f : ℕ → ℕ) (len i : ℕ) → (Member f len i → ⊥) → runAs 0 f len i ≡ run.Outside
-unfolding runAs unless
-no-run-found f len i h =
-    by-test (has f len i) _ (λ t. absurd (h (has-member f len i t)))
-    (λ e. ap (λ (b : Bool). cond b (run.Span (firstAround 1 f len i) (lastAround 1 f len i)) run.Outside) e)
+module _ (f : ℕ → ℕ) (bits : Bits f) (len i : ℕ) where
+  run-found : TheOne (Holds f len i) (runAs 0 f len i)
+  run-found = record { meets = lookup-is f len i bits; only = lookup-unique f len i bits }
+
+  -- what an answer that is known says
+  says : (r : Run) → runAs 0 f len i ≡ r → Holds f len i r
+  says r e = subst (Holds f len i) e (lookup-is f len i bits)
+
+  run-when : ((a : ℕ) × (b : ℕ) × (runAs 0 f len i ≡ run.Span a b)) ↔ Member f len i
+  run-when = (
+    λ x. around-slot f len i 1 (x .0) (x .1) (says (run.Span (x .0) (x .1)) (x .2)),
+    λ m. (firstAround 1 f len i, lastAround 1 f len i, answers-run f len i m),
+  )
+
+  hole-when : ((a : ℕ) × (b : ℕ) × (runAs 0 f len i ≡ run.Hole a b)) ↔ ((i < len) × (f i ≡ 0))
+  hole-when = (
+    λ x. around-slot f len i 0 (x .0) (x .1) (says (run.Hole (x .0) (x .1)) (x .2)),
+    λ m. (firstAround 0 f len i, lastAround 0 f len i, answers-hole f len i m),
+  )
+
+  outside-when : (runAs 0 f len i ≡ run.Outside) ↔ (len ≤ i)
+  outside-when = (says run.Outside, answers-outside f len i)
+
+  whole-hole : ((k : ℕ) → Member f len k → ⊥) → i < len → runAs 0 f len i ≡ run.Hole 0 (len - 1)
+  whole-hole none h =
+      let x : Around 0 f len i 0 (len - 1) = record {
+        from = omega arith;
+        to = omega arith;
+        fits = omega arith;
+        all = λ k a b. zero-of (f k) (bits k) (λ e. none k (omega arith, e));
+        left = λ p. let z : ⊥ = omega arith in absurd z;
+        right = λ p. let z : ⊥ = omega arith in absurd z;
+      } in
+      sym (lookup-unique f len i bits (run.Hole 0 (len - 1)) x)
 
 module _ (f : ℕ → ℕ) (bits : Bits f) (len : ℕ) where
   all-are : AreRuns f len 0 (allRuns f len)
@@ -78,6 +98,23 @@ module _ (f : ℕ → ℕ) (bits : Bits f) (len : ℕ) where
 
   runs-members : (k : ℕ) → InRuns k (allRuns f len) ↔ Member f len k
   runs-members k = (runs-only f bits len 0 (allRuns f len) all-are k, runs-hold f bits len 0 (allRuns f len) all-are k (omega arith))
+
+  -- the lookup's runs are those of the list
+  looked-up : (i a b : ℕ) → (runAs 0 f len i ≡ run.Span a b) ↔ (Among a b (allRuns f len) × (a ≤ i) × (i ≤ b))
+  looked-up i a b = (
+    λ e.
+        let x = says f bits len i (run.Span a b) e in
+        let m = around-slot f len i 1 a b x in
+        let u = around-unique 1 f len i _ _ a b (run-around f bits len i m) x in (
+          subst (λ (z : ℕ). Among z b (allRuns f len)) (u .0)
+              (subst (λ (z : ℕ). Among (firstAround 1 f len i) z (allRuns f len)) (u .1)
+              (run-among f bits len i m 0 (allRuns f len) all-are (omega arith) (λ p q u v. let z : ⊥ = omega arith in z))),
+          x .from,
+          x .to,
+        ),
+    λ h. sym (lookup-unique f len i bits (run.Span a b)
+        (among-around f bits len i a b 0 (allRuns f len) all-are (λ p q u v. let z : ⊥ = omega arith in z) (h .0) (h .1) (h .2))),
+  )
 
   counted-members : numberAs 0 (size f len) ≡ number.Is (length (among (λ k. eqb (f k) 1) len))
   unfolding numberAs unless
@@ -320,16 +357,27 @@ same-told ws vs people len = (
 -- ---- sets that agree below the length
 
 module _ (f g : ℕ → ℕ) (len : ℕ) (same : (k : ℕ) → k < len → f k ≡ g k) where
+  stretch-answers : (v i : ℕ) → stretchAs v f len i ≡ stretchAs v g len i
+  unfolding stretchAs
+  stretch-answers v i =
+      let r = around-same f g len same v i in
+      ap₂ (λ (a b : ℕ). cond (eqb v 1) (run.Span a b) (run.Hole a b)) (r .0) (r .1)
+
+  told-same : (i : ℕ) → runAs 0 f len i ≡ runAs 0 g len i
+  told-same i =
+      ⊎-elim
+      (λ (h : i < len).
+      answers-below f len i h ∙ stretch-answers (f i) i ∙ ap (λ (v : ℕ). stretchAs v g len i) (same i h) ∙ sym (answers-below g len i h))
+      (λ (h : len ≤ i). answers-outside f len i h ∙ sym (answers-outside g len i h))
+      (lt-or-ge i len)
+
   run-answers : (n i : ℕ) → runAs n f len i ≡ runAs n g len i
   unfolding runAs unless
-  run-answers n i =
-      let r = run-same f g len same i in
-      ap₂ (λ (b : Bool) (e : ℕ × ℕ). unless n (run.Refused n) (cond b (run.Span (e .0) (e .1)) run.Outside))
-      (has-same f g len same i) (ap₂ {C = ℕ × ℕ} (λ (a b : ℕ). (a, b)) (r .0) (r .1))
+  run-answers n i = ap (λ (x : Run). unless n (run.Refused n) x) (told-same i)
 
   steps-same : (x : Found) → runStep f len x ≡ runStep g len x
   steps-same (At i) =
-      ap (λ (e : ℕ). nextRun.Span i e (record { at = e + 1 })) (run-same f g len same i .1)
+      ap (λ (e : ℕ). nextRun.Span i e (record { at = e + 1 })) (around-same f g len same 1 i .1)
   steps-same Nothing = refl
   steps-same (Refused n) = refl
 
@@ -370,12 +418,17 @@ sets-by-rule = record {
   next-unset = λ f len from. next-found 0 f len (suc from);
   prev-unset = λ f len from. last-found 0 f len from;
   run = run-found;
-  no-run = no-run-found;
+  is-run = run-when;
+  is-hole = hole-when;
+  is-outside = outside-when;
+  empty-hole = whole-hole;
+  no-slots = λ f i. answers-outside f 0 i (omega arith);
   next-run = λ f bits len at l x. next-run-is f len at bits l x;
   next-member = λ f len at i w. member-at f len at (At i) w;
   no-member = λ f len at w. member-at f len at Nothing w;
   runs = runs-found;
   runs-hold = runs-members;
+  runs-looked-up = looked-up;
   all-runs = all-runs-listed;
   count = counted-members;
   new = new-empty;

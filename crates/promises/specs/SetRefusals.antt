@@ -31,6 +31,7 @@ foundNo (found.Refused n) = n
 
 abbrev pub runNo : Run → ℕ
 runNo (run.Span a b) = 0
+runNo (run.Hole a b) = 0
 runNo run.Outside = 0
 runNo (run.Refused n) = n
 

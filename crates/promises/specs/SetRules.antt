@@ -10,7 +10,7 @@ use Rattle.paper.specs.Bits.{bitOf}
 use Rattle.paper.specs.Count.{among}
 use Rattle.paper.specs.Limits.{heardOf}
 use Rattle.slotset.specs.declared.SlotSet.{SlotSet}
-use Rattle.slotset.specs.declared.Run.the-variants.{Span, Outside}
+use Rattle.slotset.specs.declared.Run.the-variants.{Span, Hole, Outside}
 use Rattle.slotset.specs.declared.Told.the-variants.{Yes, No}
 use Rattle.slotset.specs.declared.Number.the-variants as number
 use Rattle.slotset.specs.declared.Found.the-variants.{At, Nothing}
@@ -19,22 +19,16 @@ use Rattle.slotset.specs.declared.NextRun.the-variants as nextRun
 use Rattle.slotset.specs.declared.NextMember.the-variants as nextMember
 use Rattle.slotset.specs.Slots.{Bits, Member, has, size, noMember, slot}
 use Rattle.slotset.specs.Search.{nextWith, lastBelow, nextSet, prevSet, nextUnsetAfter, prevUnsetBefore, First, Last}
-use Rattle.slotset.specs.Runs.{Around, Ends, allRuns, AreRuns, InRuns}
+use Rattle.slotset.specs.Runs.{Ends, allRuns, AreRuns, InRuns, Among}
 use Rattle.slotset.specs.Answers.{lengthRow, slotRow, stretchRow, personRow, personStretchRow, slotsOf, rowSlots, sameSets}
-use Rattle.slotset.specs.Answers.{foundAs, toldAs, runAs, numberAs, nextRunAs, nextMemberAs, newOf, putOf, stretchOf, loadOf, storeOf}
-use Rattle.slotset.specs.Answers.{rowStretchOf}
+use Rattle.slotset.specs.Answers.{foundAs, toldAs, runAs, Holds, numberAs, nextRunAs, nextMemberAs, newOf, putOf, stretchOf, loadOf}
+use Rattle.slotset.specs.Answers.{storeOf, rowStretchOf}
 use Rattle.runs.specs.Listed.{runsRow, allRunsOf}
 
 -- x meets a statement, and nothing else does
 pub record TheOne {A : Type 0} (Meets : A → Type 0) (x : A) : Type 0 where
   pub meets : Meets x
   pub only : (y : A) → Meets y → y ≡ x
-
--- the run that holds i, as it is answered
-pub record RunIs (f : ℕ → ℕ) (len i first last : ℕ) : Type 0 where
-  pub answer : runAs 0 f len i ≡ Span first last
-  pub around : Around 1 f len i first last
-  pub only : (a b : ℕ) → Around 1 f len i a b → (a ≡ first) × (b ≡ last)
 
 -- what a write to the n slots from `from` on leaves: the values v there, and no other slot changed
 pub record Put (v : ℕ → ℕ) (from n : ℕ) (before after : ℕ → ℕ) : Type 0 where
@@ -85,9 +79,15 @@ pub record SetsByRule : Type 0 where
   -- the same of slots that are not in the set, after an index and before it
   pub next-unset : (f : ℕ → ℕ) (len from : ℕ) → TheOne (First 0 f len (suc from)) (foundAs 0 (nextUnsetAfter f len from))
   pub prev-unset : (f : ℕ → ℕ) (len from : ℕ) → TheOne (Last 0 f len from) (foundAs 0 (prevUnsetBefore f len from))
-  -- "A run is a maximal stretch of set indexes with both ends named; one that reaches the end ends at length - 1."
-  pub run : (f : ℕ → ℕ) → Bits f → (len i : ℕ) → Member f len i → (first : ℕ) × (last : ℕ) × RunIs f len i first last
-  pub no-run : (f : ℕ → ℕ) (len i : ℕ) → (Member f len i → ⊥) → runAs 0 f len i ≡ Outside
+  -- "A run is a maximal stretch of set indexes with both ends named; one that reaches the end ends at length - 1." The lookup answers
+  -- "three ways: the run that holds the index, the maximal unset stretch that holds it, or outside"
+  pub run : (f : ℕ → ℕ) → Bits f → (len i : ℕ) → TheOne (Holds f len i) (runAs 0 f len i)
+  pub is-run : (f : ℕ → ℕ) → Bits f → (len i : ℕ) → ((a : ℕ) × (b : ℕ) × (runAs 0 f len i ≡ Span a b)) ↔ Member f len i
+  pub is-hole : (f : ℕ → ℕ) → Bits f → (len i : ℕ) → ((a : ℕ) × (b : ℕ) × (runAs 0 f len i ≡ Hole a b)) ↔ ((i < len) × (f i ≡ 0))
+  pub is-outside : (f : ℕ → ℕ) → Bits f → (len i : ℕ) → (runAs 0 f len i ≡ Outside) ↔ (len ≤ i)
+  -- "The stretch of an empty set is the whole of it; length 0 knows only outside."
+  pub empty-hole : (f : ℕ → ℕ) → Bits f → (len i : ℕ) → ((k : ℕ) → Member f len k → ⊥) → i < len → runAs 0 f len i ≡ Hole 0 (len - 1)
+  pub no-slots : (f : ℕ → ℕ) (i : ℕ) → runAs 0 f 0 i ≡ Outside
   -- the readers of runs and of members, from any place of their cursor on
   pub next-run : (f : ℕ → ℕ) → Bits f → (len at : ℕ) (l : List Ends) → AreRuns f len at l → nextRunAs 0 f len at ≡ firstAhead l
   pub next-member : (f : ℕ → ℕ) (len at i : ℕ) → First 1 f len at (At i)
@@ -96,6 +96,9 @@ pub record SetsByRule : Type 0 where
   -- "Runs come out ascending": the reader's whole list, which holds every member and nothing else
   pub runs : (f : ℕ → ℕ) → Bits f → (len : ℕ) → TheOne (AreRuns f len 0) (allRuns f len)
   pub runs-hold : (f : ℕ → ℕ) → Bits f → (len k : ℕ) → InRuns k (allRuns f len) ↔ Member f len k
+  -- the lookup's runs are the reader's: at a slot of a run that the reader gives it answers that run, and no other
+  pub runs-looked-up : (f : ℕ → ℕ) → Bits f → (len i a b : ℕ)
+      → (runAs 0 f len i ≡ Span a b) ↔ (Among a b (allRuns f len) × (a ≤ i) × (i ≤ b))
   -- as all_runs lists them: their number, their first and last slots at the front of two columns, the rest of which stays
   pub all-runs : (ws : List ℕ) (people person len : ℕ) (firsts lasts : List ℕ)
       → heardOf (runsRow ws people person len (length firsts) (length lasts)) ≡ 0

@@ -1,20 +1,25 @@
--- Runs: what `runAs` and the reader give, said of every slot, and the list of all runs. Assumes nothing.
-use mathlib.Core.Path.{_≡_, refl, sym, ap, ap₂, _∙_}
-use mathlib.Core.Bool.{true}
+-- Runs and holes: what `runAs` and the reader give, said of every slot, and the list of all runs. Assumes nothing.
+use mathlib.Core.Path.{_≡_, refl, sym, ap, ap₂, _∙_, subst}
+use mathlib.Core.Bool.{Bool, true, false, _&&_, not, cond}
 use mathlib.Core.List.{List, [], _∷_}
 use mathlib.Core.Logic.{_⊎_, inl, inr, ⊎-elim}
 use Prim.Native.Nat.{ℕ, zero, suc, _+_, _-_, _≤_, _<_}
+use native.Mathlib.Decide.{ℕ-discrete}
 use native.Mathlib.Numerals.{add-one}
 use native.Mathlib.Omega.{arith}
-use borrow.Author.Tests.{lt-ltb, eq-eqb, ltb-true, eqb-true}
+use borrow.Author.Tests.{lt-ltb, le-ltb, eq-eqb, ne-eqb, ltb-true, eqb-true}
 use lib.Dec.{ltb, eqb}
+use Rattle.paper.specs.Rows.{unless}
 use Rattle.paper.proofs.Logic.{lt-or-ge, both, zero-of}
 use Rattle.slotset.specs.declared.Found.{Found}
 use Rattle.slotset.specs.declared.Found.the-variants.{At, Nothing, Refused}
-use Rattle.slotset.specs.Slots.{Bits, Member, has}
+use Rattle.slotset.specs.declared.Run.{Run}
+use Rattle.slotset.specs.declared.Run.the-variants as run
+use Rattle.slotset.specs.Slots.{Bits, Member, valueOf, has}
 use Rattle.slotset.specs.Search.{First, Last, nextSet, nextWith, lastBelow}
 use Rattle.slotset.specs.Inside.{Above}
-use Rattle.slotset.specs.Runs.{startOf, endOf, firstAround, lastAround, Around, Ends, whenFound, runs, AreRuns, InRuns}
+use Rattle.slotset.specs.Runs.{startOf, endOf, firstAround, lastAround, Around, Ends, whenFound, runs, AreRuns, InRuns, Among}
+use Rattle.slotset.specs.Answers.{stretchAs, runAs, Holds}
 use Rattle.slotset.proofs.Meaning.{next-is, last-is, next-same, last-same}
 
 -- membership, as a fact and as a test
@@ -46,7 +51,29 @@ end-lt v f len from (Refused n) w h = absurd w
 pub next-after : (v : ℕ) (f : ℕ → ℕ) (len i : ℕ) → nextWith v f len (i + 1) ≡ nextWith v f len (suc i)
 next-after v f len i = ap (nextWith v f len) (add-one i)
 
--- ---- the run around a member
+-- membership of a slot below the length, as a bit, is the slot
+pub has-value : (f : ℕ → ℕ) → Bits f → (len i : ℕ) → i < len → valueOf (has f len i) ≡ f i
+unfolding has
+has-value f bits len i h = elim (ℕ-discrete (f i) 1) [
+  | yes e ↦ ap₂ (λ (a b : Bool). valueOf (a && b)) (lt-ltb i len h) (eq-eqb (f i) 1 e) ∙ sym e
+  | no n ↦ ap₂ (λ (a b : Bool). valueOf (a && b)) (lt-ltb i len h) (ne-eqb (f i) 1 n) ∙ sym (zero-of (f i) (bits i) n)
+]
+
+-- the bit that is not wanted is the other one
+other-value : (b : Bool) → valueOf (not b) ≡ 1 - valueOf b
+other-value true = refl
+other-value false = refl
+
+-- what the searches for it on both sides of a slot come to
+pub ends-around : (b : Bool) (f : ℕ → ℕ) (len i first last : ℕ) → first ≡ startOf (lastBelow (valueOf (not b)) f len i)
+    → last ≡ endOf len (nextWith (valueOf (not b)) f len (i + 1))
+    → (first ≡ firstAround (valueOf b) f len i) × (last ≡ lastAround (valueOf b) f len i)
+ends-around b f len i first last p q = (
+  p ∙ ap (λ (v : ℕ). startOf (lastBelow v f len i)) (other-value b),
+  q ∙ ap₂ (λ (v k : ℕ). endOf len (nextWith v f len k)) (other-value b) (add-one i),
+)
+
+-- ---- the stretch around a slot
 
 -- a bit that is not the other one
 is-bit : (v x : ℕ) → v < 2 → x < 2 → (x ≡ 1 - v → ⊥) → x ≡ v
@@ -141,6 +168,67 @@ module _ (v : ℕ) (f : ℕ → ℕ) (len i a b c d : ℕ) (x : Around v f len i
   pub around-unique : (a ≡ c) × (b ≡ d)
   around-unique = (same-first, same-last)
 
+-- ---- the answer of the lookup
+
+module _ (v : ℕ) (f : ℕ → ℕ) (len i : ℕ) where
+  abbrev stretchIf : Bool → Run
+  stretchIf b = cond b (run.Span (firstAround v f len i) (lastAround v f len i)) (run.Hole (firstAround v f len i) (lastAround v f len i))
+
+  pub stretch-run : v ≡ 1 → run.Span (firstAround v f len i) (lastAround v f len i) ≡ stretchAs v f len i
+  unfolding stretchAs
+  stretch-run e = ap stretchIf (sym (eq-eqb v 1 e))
+
+  pub stretch-hole : v ≡ 0 → run.Hole (firstAround v f len i) (lastAround v f len i) ≡ stretchAs v f len i
+  unfolding stretchAs
+  stretch-hole e = ap stretchIf (sym (ne-eqb v 1 (λ q. omega arith)))
+
+module _ (f : ℕ → ℕ) (len i : ℕ) where
+  pub answers-below : i < len → runAs 0 f len i ≡ stretchAs (f i) f len i
+  unfolding runAs unless
+  answers-below h = ap (λ (b : Bool). cond b (stretchAs (f i) f len i) run.Outside) (lt-ltb i len h)
+
+  pub answers-outside : len ≤ i → runAs 0 f len i ≡ run.Outside
+  unfolding runAs unless
+  answers-outside h = ap (λ (b : Bool). cond b (stretchAs (f i) f len i) run.Outside) (le-ltb i len h)
+
+  pub answers-run : Member f len i → runAs 0 f len i ≡ run.Span (firstAround 1 f len i) (lastAround 1 f len i)
+  unfolding stretchAs
+  answers-run m = answers-below (m .0) ∙ ap (λ (v : ℕ). stretchAs v f len i) (m .1)
+
+  pub answers-hole : (i < len) × (f i ≡ 0) → runAs 0 f len i ≡ run.Hole (firstAround 0 f len i) (lastAround 0 f len i)
+  unfolding stretchAs
+  answers-hole m = answers-below (m .0) ∙ ap (λ (v : ℕ). stretchAs v f len i) (m .1)
+
+  -- it is the stretch that holds the slot
+  pub lookup-is : Bits f → Holds f len i (runAs 0 f len i)
+  lookup-is bits =
+      ⊎-elim
+      (λ (h : i < len). elim (ℕ-discrete (f i) 1) [
+        | yes e ↦ subst (Holds f len i) (sym (answers-run (h, e))) (run-around f bits len i (h, e))
+        | no n ↦
+            let z = zero-of (f i) (bits i) n in
+            subst (Holds f len i) (sym (answers-hole (h, z))) (stretch-around 0 (omega arith) f bits len i (h, z))
+      ])
+      (λ (h : len ≤ i). subst (Holds f len i) (sym (answers-outside h)) h)
+      (lt-or-ge i len)
+
+  -- a slot that has a stretch of v around it is below the length, and v
+  pub around-slot : (v a b : ℕ) → Around v f len i a b → (i < len) × (f i ≡ v)
+  around-slot v a b x = (omega (arith, x .to, x .fits), x .all i (x .from) (x .to))
+
+  -- and no other answer is
+  pub lookup-unique : Bits f → (r : Run) → Holds f len i r → r ≡ runAs 0 f len i
+  lookup-unique bits (run.Span a b) x =
+      let m = around-slot 1 a b x in
+      let u = around-unique 1 f len i a b _ _ x (run-around f bits len i m) in
+      ap₂ run.Span (u .0) (u .1) ∙ sym (answers-run m)
+  lookup-unique bits (run.Hole a b) x =
+      let m = around-slot 0 a b x in
+      let u = around-unique 0 f len i a b _ _ x (stretch-around 0 (omega arith) f bits len i m) in
+      ap₂ run.Hole (u .0) (u .1) ∙ sym (answers-hole m)
+  lookup-unique bits run.Outside x = sym (answers-outside x)
+  lookup-unique bits (run.Refused n) x = absurd x
+
 -- ---- the list of all runs
 
 module _ (f : ℕ → ℕ) (bits : Bits f) (len : ℕ) where
@@ -203,45 +291,60 @@ module _ (f : ℕ → ℕ) (bits : Bits f) (len : ℕ) where
   runs-only at (r ∷ l) x k h =
       ⊎-elim (λ i. (omega (arith, x .2, i .1), x .4 k (i .0) (i .1))) (λ i. runs-only (r .last + 1) l (x .6) k i) h
 
--- l has the run with these two ends
-abbrev pub Among : ℕ → ℕ → List Ends → Type 0
-Among a b [] = ⊥
-Among a b (r ∷ rs) = ((r .first ≡ a) × (r .last ≡ b)) ⊎ Among a b rs
+module _ (f : ℕ → ℕ) (bits : Bits f) (len i : ℕ) where
+  -- no run goes on over the cursor
+  abbrev Apart : ℕ → Type 0
+  Apart at = 0 < at → at < len → f (at - 1) ≡ 1 → f at ≡ 1 → ⊥
 
-module _ (f : ℕ → ℕ) (bits : Bits f) (len i : ℕ) (m : Member f len i) where
+  -- the first run of the list is the whole stretch around each of its slots
+  first-whole : (at : ℕ) (r : Ends) (l : List Ends) → AreRuns f len at (r ∷ l) → Apart at → r .first ≤ i → i ≤ r .last
+      → Around 1 f len i (r .first) (r .last)
+  first-whole at r l x apart a b = record {
+    from = a;
+    to = b;
+    fits = x .2;
+    all = x .4;
+    left = λ p. zero-of (f (r .first - 1)) (bits _) (λ e. ⊎-elim
+        (λ (g : r .first - 1 < at).
+        let q : r .first ≡ at = omega (arith, x .0) in
+        apart (omega arith) (omega (arith, x .1, x .2)) (ap (λ (z : ℕ). f (z - 1)) (sym q) ∙ e)
+        (ap f (sym q) ∙ x .4 (r .first) (omega arith) (x .1)))
+        (λ (g : at ≤ r .first - 1). x .3 (r .first - 1) g (omega arith) e)
+        (lt-or-ge (r .first - 1) at));
+    right = λ p. zero-of (f (r .last + 1)) (bits _) (x .5 p);
+  }
+
   -- the run of a member is the one of the list that holds it
-  pub run-among : (at : ℕ) (l : List Ends) → AreRuns f len at l → at ≤ i → (0 < at → at < len → f (at - 1) ≡ 1 → f at ≡ 1 → ⊥)
+  pub run-among : Member f len i → (at : ℕ) (l : List Ends) → AreRuns f len at l → at ≤ i → Apart at
       → Among (firstAround 1 f len i) (lastAround 1 f len i) l
-  run-among at [] x h apart = x i h (m .0) (m .1)
-  run-among at (r ∷ l) x h apart =
+  run-among m at [] x h apart = x i h (m .0) (m .1)
+  run-among m at (r ∷ l) x h apart =
       ⊎-elim
       (λ (a : i < r .first). absurd (x .3 i h a (m .1)))
       (λ (a : r .first ≤ i). ⊎-elim
-      (λ (b : r .last < i). inr (run-among (r .last + 1) l (x .6) (omega arith) (λ p q u v. x .5 q v)))
+      (λ (b : r .last < i). inr (run-among m (r .last + 1) l (x .6) (omega arith) (λ p q u v. x .5 q v)))
       (λ (b : i ≤ r .last).
-      let whole : Around 1 f len i (r .first) (r .last) = record {
-        from = a;
-        to = b;
-        fits = x .2;
-        all = x .4;
-        left = λ p. zero-of (f (r .first - 1)) (bits _) (λ e. ⊎-elim
-            (λ (g : r .first - 1 < at).
-            let q : r .first ≡ at = omega (arith, x .0) in
-            apart (omega arith) (omega (arith, x .1, x .2)) (ap (λ (z : ℕ). f (z - 1)) (sym q) ∙ e)
-            (ap f (sym q) ∙ x .4 (r .first) (omega arith) (x .1)))
-            (λ (g : at ≤ r .first - 1). x .3 (r .first - 1) g (omega arith) e)
-            (lt-or-ge (r .first - 1) at));
-        right = λ p. zero-of (f (r .last + 1)) (bits _) (x .5 p);
-      } in
+      let whole = first-whole at r l x apart a b in
       let u = around-unique 1 f len i (r .first) (r .last) _ _ whole (run-around f bits len i m) in
       inl (u .0, u .1)) (lt-or-ge (r .last) i))
       (lt-or-ge i (r .first))
 
--- ---- sets that agree below the length have the same runs
+  -- and each run of the list is the whole stretch around its slots
+  pub among-around : (a b at : ℕ) (l : List Ends) → AreRuns f len at l → Apart at → Among a b l → a ≤ i → i ≤ b → Around 1 f len i a b
+  among-around a b at [] x apart h p q = absurd h
+  among-around a b at (r ∷ l) x apart h p q =
+      ⊎-elim
+      (λ (e : (r .first ≡ a) × (r .last ≡ b)).
+      let whole = first-whole at r l x apart (omega (arith, e .0)) (omega (arith, e .1)) in
+      subst (λ (z : ℕ). Around 1 f len i z b) (e .0) (subst (λ (z : ℕ). Around 1 f len i (r .first) z) (e .1) whole))
+      (λ (g : Among a b l). among-around a b (r .last + 1) l (x .6) (λ p q u v. x .5 q v) g p q)
+      h
+
+-- ---- sets that agree below the length have the same stretches
 
 module _ (f g : ℕ → ℕ) (len : ℕ) (same : (k : ℕ) → k < len → f k ≡ g k) where
-  pub run-same : (i : ℕ) → (firstAround 1 f len i ≡ firstAround 1 g len i) × (lastAround 1 f len i ≡ lastAround 1 g len i)
-  run-same i = (ap startOf (last-same 0 f g len i same), ap (endOf len) (next-same 0 f g len (suc i) same))
+  pub around-same : (v i : ℕ) → (firstAround v f len i ≡ firstAround v g len i) × (lastAround v f len i ≡ lastAround v g len i)
+  around-same v i = (ap startOf (last-same (1 - v) f g len i same), ap (endOf len) (next-same (1 - v) f g len (suc i) same))
 
   pub runs-same : (n at : ℕ) → runs n f len at ≡ runs n g len at
   unfolding runs
@@ -255,7 +358,7 @@ module _ (f g : ℕ → ℕ) (len : ℕ) (same : (k : ℕ) → k < len → f k �
           → whenFound r (λ lo. record { first = lo; last = lastAround 1 f len lo } ∷ runs n f len (lastAround 1 f len lo + 1))
           ≡ whenFound r (λ lo. record { first = lo; last = lastAround 1 g len lo } ∷ runs n g len (lastAround 1 g len lo + 1))
       step (At lo) ih =
-          ap (λ (z : ℕ). record { first = lo; last = z } ∷ runs n f len (z + 1)) (run-same lo .1)
+          ap (λ (z : ℕ). record { first = lo; last = z } ∷ runs n f len (z + 1)) (around-same 1 lo .1)
           ∙ ap (λ (t : List Ends). record { first = lo; last = lastAround 1 g len lo } ∷ t) (ih (lastAround 1 g len lo + 1))
       step Nothing ih = refl
       step (Refused k) ih = refl

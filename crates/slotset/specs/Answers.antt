@@ -1,7 +1,7 @@
 -- What a caller hears and is handed back, refused or not. Assumes nothing.
 use mathlib.Core.Bool.{Bool, _||_, cond}
 use mathlib.Core.List.{List, [], _∷_, _++_}
-use Prim.Native.Nat.{ℕ, _+_, _-_, _*_}
+use Prim.Native.Nat.{ℕ, _+_, _-_, _*_, _≤_}
 use lib.Dec.{eqb, ltb, leb}
 use lib.ListN.{length, take, drop, replicate}
 use Rattle.paper.specs.Count.{all}
@@ -23,7 +23,7 @@ use Rattle.slotset.specs.declared.NextMember.{NextMember}
 use Rattle.slotset.specs.declared.NextMember.the-variants as nextMember
 use Rattle.slotset.specs.Slots.{slot, putSlot, putSlots, has, size, noMember, sameSlots}
 use Rattle.slotset.specs.Search.{nextSet, prevSet, nextUnsetAfter, prevUnsetBefore}
-use Rattle.slotset.specs.Runs.{firstAround, lastAround}
+use Rattle.slotset.specs.Runs.{firstAround, lastAround, Around}
 
 -- ---- the rows of tests, in the paper's order
 
@@ -87,10 +87,21 @@ toldAs n b = unless n (told.Refused n) (cond b told.Yes told.No)
 unfoldable pub numberAs : ℕ → ℕ → Number
 numberAs n k = unless n (number.Refused n) (number.Is k)
 
--- the run that holds i, of a set with the slots f
+-- the stretch around i of slots that are v, of a set with the slots f: a run at v = 1, else a hole
+unfoldable pub stretchAs : ℕ → (ℕ → ℕ) → ℕ → ℕ → Run
+stretchAs v f len i =
+    cond (eqb v 1) (run.Span (firstAround v f len i) (lastAround v f len i)) (run.Hole (firstAround v f len i) (lastAround v f len i))
+
+-- the one that holds i, of slots that are what slot i is; at or past the length none does
 unfoldable pub runAs : ℕ → (ℕ → ℕ) → ℕ → ℕ → Run
-runAs n f len i =
-    unless n (run.Refused n) (cond (has f len i) (run.Span (firstAround 1 f len i) (lastAround 1 f len i)) run.Outside)
+runAs n f len i = unless n (run.Refused n) (cond (ltb i len) (stretchAs (f i) f len i) run.Outside)
+
+-- the same, said of every slot: r is the whole stretch that holds i
+abbrev pub Holds : (ℕ → ℕ) → ℕ → ℕ → Run → Type 0
+Holds f len i (run.Span first last) = Around 1 f len i first last
+Holds f len i (run.Hole first last) = Around 0 f len i first last
+Holds f len i run.Outside = len ≤ i
+Holds f len i (run.Refused n) = ⊥
 
 -- the run that starts at the slot found, and the cursor one past it
 abbrev pub runStep : (ℕ → ℕ) → ℕ → Found → NextRun
@@ -110,7 +121,7 @@ memberStep (found.Refused n) = nextMember.Refused n
 unfoldable pub nextMemberAs : ℕ → (ℕ → ℕ) → ℕ → ℕ → NextMember
 nextMemberAs n f len at = unless n (nextMember.Refused n) (memberStep (nextSet f len at))
 
--- of a person's row: the run that holds slot i; the next run and the next member from a cursor on
+-- of a person's row: the run or the hole that holds slot i; the next run and the next member from a cursor on
 abbrev pub rowRun : List ℕ → ℕ → ℕ → ℕ → ℕ → Run
 rowRun ws people person len i = runAs (heardOf (personRow ws people person len)) (rowSlots ws person) len i
 

@@ -1,4 +1,4 @@
--- Runs: maximal stretches of slots of one value, both ends named. Assumes nothing.
+-- Runs and holes: maximal stretches of slots of one value, both ends named. Assumes nothing.
 use mathlib.Core.Path.{_≡_}
 use mathlib.Core.List.{List, [], _∷_}
 use mathlib.Core.Logic.{_⊎_}
@@ -7,19 +7,19 @@ use Rattle.slotset.specs.declared.Found.{Found}
 use Rattle.slotset.specs.declared.Found.the-variants.{At, Nothing, Refused}
 use Rattle.slotset.specs.Search.{nextSet, nextWith, lastBelow}
 
--- one past the slot found, or 0: where a run starts after the unset slot before it
+-- one past the slot found, or 0: where a stretch starts after the slot of the other value before it
 abbrev pub startOf : Found → ℕ
 startOf (At k) = k + 1
 startOf Nothing = 0
 startOf (Refused n) = 0
 
--- one before the slot found, or the last slot: where a run ends before the unset slot after it
+-- one before the slot found, or the last slot: where a stretch ends before the slot of the other value after it
 abbrev pub endOf : ℕ → Found → ℕ
 endOf len (At k) = k - 1
 endOf len Nothing = len - 1
 endOf len (Refused n) = 0
 
--- the ends of the stretch around slot i of slots that are v, as it is: at v = 1 the run of a member
+-- the ends of the stretch around slot i of slots that are v, as it is: at v = 1 the run of a member, at v = 0 the hole of another slot
 abbrev pub firstAround : ℕ → (ℕ → ℕ) → ℕ → ℕ → ℕ
 firstAround v f len i = startOf (lastBelow (1 - v) f len i)
 
@@ -73,3 +73,8 @@ AreRuns f len at (r ∷ rs) =
 abbrev pub InRuns : ℕ → List Ends → Type 0
 InRuns k [] = ⊥
 InRuns k (r ∷ rs) = ((r .first ≤ k) × (k ≤ r .last)) ⊎ InRuns k rs
+
+-- l has the run with these two ends
+abbrev pub Among : ℕ → ℕ → List Ends → Type 0
+Among a b [] = ⊥
+Among a b (r ∷ rs) = ((r .first ≡ a) × (r .last ≡ b)) ⊎ Among a b rs

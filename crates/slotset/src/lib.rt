@@ -46,9 +46,10 @@ pub enum Number {
     Refused(u8),
 }
 
-// The run that holds a slot, both ends in it; or Outside, of a slot that is not in the set.
+// The stretch that holds a slot, both ends in it: a run of members, or a hole between them; or Outside, of a slot at or past the length.
 pub enum Run {
     Span { first: usize, last: usize },
+    Hole { first: usize, last: usize },
     Outside,
     Refused(u8),
 }
@@ -307,7 +308,7 @@ impl SlotSet {
         Found::Refused(number)
     }
 
-    // The run that holds slot i.
+    // The run that holds slot i, or the hole.
     pub fn run_bounds(self, i: usize) -> Run
         ensures { λ r. ⌜ r ≡ runBoundsIs self i ⌝ }
     {

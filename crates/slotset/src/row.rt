@@ -168,7 +168,7 @@ pub fn prev_unset_before(
     Found::Refused(number)
 }
 
-// The run that holds slot i.
+// The run that holds slot i, or the hole.
 pub fn run_bounds(words: &[u64], people: usize, person: usize, len: usize, i: usize) -> Run
     ensures { λ r. ⌜ r ≡ rowRun (now (words .entry)) people person len i ⌝ }
 {

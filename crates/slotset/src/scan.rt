@@ -12,7 +12,7 @@ ghost use Rattle.slotset.specs.Slots.{slot, valueOf, has, size, noMember
 ghost use Rattle.slotset.specs.Search.{nextWith, down, lastBelow, prevSet, nextUnsetAfter};
 ghost use Rattle.slotset.specs.Inside.{foundBelow, Below, Above};
 ghost use Rattle.slotset.specs.Runs.{startOf, endOf};
-ghost use Rattle.slotset.specs.Answers.{runAs, nextRunAs, nextMemberAs, memberStep};
+ghost use Rattle.slotset.specs.Answers.{stretchAs, runAs, nextRunAs, nextMemberAs, memberStep};
 
 // The lesser of two numbers.
 pub(crate) fn least(a: usize, b: usize) -> usize
@@ -211,18 +211,29 @@ fn end_of(f: Found, len: usize) -> usize
     }
 }
 
-// The run that holds slot i.
+// The stretch around slot i of slots that are as wanted: of members a run, of others a hole.
+fn stretch_around(words: &[u64], base: usize, len: usize, want: bool, i: usize) -> Run
+    requires { ⌜ (base + 16 ≤ length (now words)) × (len ≤ 1024) × (i < len) ⌝ }
+    ensures { λ r. ⌜ r ≡ stretchAs (valueOf want) (slot (now (words .entry)) base) len i ⌝ }
+{
+    let first = start_of(last_below(words, base, len, !want, i));
+    let last = end_of(next_with(words, base, len, !want, i + 1), len);
+    if want {
+        Run::Span { first, last }
+    } else {
+        Run::Hole { first, last }
+    }
+}
+
+// The run that holds slot i, or the hole.
 pub(crate) fn run_bounds(words: &[u64], base: usize, len: usize, i: usize) -> Run
     requires { ⌜ (base + 16 ≤ length (now words)) × (len ≤ 1024) ⌝ }
     ensures { λ r. ⌜ r ≡ runAs 0 (slot (now (words .entry)) base) len i ⌝ }
 {
-    if contains(words, base, len, i) {
-        let first = start_of(last_below(words, base, len, false, i));
-        let last = end_of(next_with(words, base, len, false, i + 1), len);
-        Run::Span { first, last }
-    } else {
-        Run::Outside
+    if i < len {
+        return stretch_around(words, base, len, contains(words, base, len, i), i);
     }
+    Run::Outside
 }
 
 // The run that starts at the first member from `at` on, and the cursor one past it.

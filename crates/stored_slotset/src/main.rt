@@ -13,14 +13,14 @@ use stored::plus;
 use stored::same_words;
 use stored::word;
 
-// A record: length, words, is_empty, count, eight indexes with their answers, and four changes.
-const RECORD: usize = 818;
+// A record: length, words, is_empty, count, eight indexes with their answers in 22 bytes each, and four changes.
+const RECORD: usize = 834;
 
 const WORDS_AT: usize = 2;
 
 const INDEXES_AT: usize = 134;
 
-const CHANGES_AT: usize = 294;
+const CHANGES_AT: usize = 310;
 
 // Nothing found, and an answer that no record has.
 const NOTHING: usize = 65535;
@@ -67,16 +67,21 @@ fn found(answer: Found) -> usize {
     }
 }
 
-// Whether a run has the two ends at an index, or is nothing there.
+// Whether a stretch is what an index has: 0, a run, or 1, a hole, with its two ends; or nothing.
 fn is_run(answer: Run, b: &[u8], at: usize) -> bool {
-    let first = half(b, at);
-    let last = half(b, plus(at, 2));
+    let number = half(b, at);
+    let first = half(b, plus(at, 2));
+    let last = half(b, plus(at, 4));
     match answer {
         Run::Span {
             first: low,
             last: high,
-        } => low == first && high == last,
-        Run::Outside => first == NOTHING && last == NOTHING,
+        } => number == 0 && low == first && high == last,
+        Run::Hole {
+            first: low,
+            last: high,
+        } => number == 1 && low == first && high == last,
+        Run::Outside => number == NOTHING && first == NOTHING && last == NOTHING,
         Run::Refused(_) => false,
     }
 }
@@ -96,7 +101,7 @@ fn is_next_run(answer: NextRun, b: &[u8], at: usize) -> bool {
     }
 }
 
-// The answers on one index: membership, the four searches, the run that holds it and the next run.
+// The answers on one index: membership, the four searches, the run or the hole that holds it and the next run.
 fn index_answers(tally: Tally, ws: &[u64; 16], len: usize, b: &[u8], at: usize) -> Tally {
     let i = half(b, at);
     let t1 = tally.with(told(row::contains(ws, 1, 0, len, i)) == half(b, plus(at, 2)));
@@ -108,12 +113,15 @@ fn index_answers(tally: Tally, ws: &[u64; 16], len: usize, b: &[u8], at: usize) 
     t6.with(is_next_run(
         row::next_run(ws, 1, 0, len, slotset::Cursor { at: i }),
         b,
-        plus(at, 16),
+        plus(at, 18),
     ))
 }
 
-// The four changes of the set by value: insert, remove, and a stretch of each.
+// The four changes of the set by value: insert, remove, and a stretch of each. A set of no slots has none to change.
 fn change_answers(tally: Tally, set: SlotSet, b: &[u8]) -> Tally {
+    if set.len == 0 {
+        return tally;
+    }
     let at = CHANGES_AT;
     let t1 = tally.with(is_after(set.insert(half(b, at)), b, at + 2));
     let t2 = t1.with(is_after(set.remove(half(b, at + 130)), b, at + 132));
@@ -136,7 +144,7 @@ fn record_answers(tally: Tally, b: &[u8]) -> Tally {
     let mut t = tally.with(told(row::is_empty(&ws, 1, 0, len)) == half(b, 130));
     t = t.with(counted(row::count(&ws, 1, 0, len)) == half(b, 132));
     for k in 0..8usize {
-        t = index_answers(t, &ws, len, b, INDEXES_AT + 20 * k);
+        t = index_answers(t, &ws, len, b, INDEXES_AT + 22 * k);
     }
     change_answers(t, SlotSet { words: ws, len }, b)
 }

@@ -12,12 +12,17 @@ returns c =
 
 returns-2 : tie.Need-returns-2
 returns-2 c =
-    let e = sym (c .before .before .run-bounds .ensures) ∙ c .enum-told .given .1 in
+    let e = sym (c .before .before .before .run-bounds .ensures) ∙ c .before .run2 .given .1 in
     (sym (ap runNumber e), (sym (ap (runFirst _) e), sym (ap (runLast _) e)))
 
 returns-3 : tie.Need-returns-3
 returns-3 c =
-    let e = sym (c .before .before .before .before .run-bounds .ensures) ∙ c .before .before .run2 .given .1 in
+    let e = sym (c .before .before .run-bounds .ensures) ∙ c .enum-told .given .1 in
+    (sym (ap runNumber e), (sym (ap (runFirst _) e), sym (ap (runLast _) e)))
+
+returns-4 : tie.Need-returns-4
+returns-4 c =
+    let e = sym (c .before .before .before .before .run-bounds .ensures) ∙ c .before .before .run3 .given .1 in
     (c .refused .ensures ∙ sym (ap runNumber e), (sym (ap (runFirst _) e), sym (ap (runLast _) e)))
 
 pub boltraven-run-bounds-spec : {M : Type 1} → statement M
@@ -28,7 +33,9 @@ boltraven-run-bounds-spec =
     (λ c. search needs)
     (λ c. search needs)
     (λ c. search needs)
+    (λ c. search needs)
     (λ c κs. search needs)
     returns
     returns-2
-    returns-3)
+    returns-3
+    returns-4)
