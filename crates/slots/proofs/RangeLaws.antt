@@ -9,7 +9,7 @@ use native.Mathlib.Numerals.{add-one}
 use native.Mathlib.Omega.{arith}
 use borrow.Author.Tests.{ltb-true, ltb-false, leb-true, eqb-true, lt-ltb, le-ltb, le-leb, lt-leb, eq-eqb}
 use lib.Dec.{leb, ltb, eqb}
-use lib.ListN.{length, getD, take, drop, set, length-append, List·getD-append}
+use lib.ListN.{length, getD, take, drop, set, length-append, length-drop, List·getD-append}
 use lib.Seq.{take-at, length-take-le, getD-append-seam}
 use Rattle.paper.specs.Limits.{peopleOk}
 use Rattle.paper.specs.Count.{all, some}
@@ -323,6 +323,9 @@ module _ (n : ℕ) (keys sorted : List ℕ) (few : n ≤ length keys) (kept : le
 
   pub front-fits : n ≤ length (sorted ++ drop n keys)
   front-fits = omega (arith, length-append sorted (drop n keys), sorted-length)
+
+  pub front-whole : length (sorted ++ drop n keys) ≡ length keys
+  front-whole = length-append sorted (drop n keys) ∙ omega (arith, sorted-length, length-drop n keys)
 
   -- the walk over them gives the merged list
   pub front-merged : (R : Ranges) → RangesSound R → R .count ≡ n → take n keys ≡ keysOf R
