@@ -112,7 +112,7 @@ mod tests {
         case.ranges.windows(2).all(|two| (two[0].person, two[0].start) <= (two[1].person, two[1].start))
     }
 
-    /// Of 400 cases some have no range, one, or as many as there may be; lists in order and out of order are both there at every length above 1.
+    /// Of 400 cases some have no range, one, two, or as many as there may be; from two on some are in order and some are not.
     #[test]
     fn every_order_is_made() {
         let cases: Vec<ProblemCase> = (0..400).map(|k| ordered_case(&mut Seed::new(k))).collect();

@@ -194,7 +194,8 @@ sorted-in-order n l e s =
     (λ k h. le-leb _ _ (opens-mono (getD l k 0) (getD l (suc k) 0) (s k (suc k) (omega arith) (omega arith))))
 
 -- the test, pair by pair
-pub rises-more : (l : List ℕ) (i : ℕ) → all i (rises l) ≡ true → opens (getD l i 0) ≤ opens (getD l (i + 1) 0) → all (i + 1) (rises l) ≡ true
+pub rises-more : (l : List ℕ) (i : ℕ) → all i (rises l) ≡ true → opens (getD l i 0) ≤ opens (getD l (i + 1) 0)
+    → all (i + 1) (rises l) ≡ true
 unfolding rises
 rises-more l i e h = all-more i (rises l) e (le-leb (opens (getD l i 0)) (opens (getD l (suc i) 0)) (rw (add-one i) at h))
 
