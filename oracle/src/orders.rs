@@ -53,17 +53,17 @@ fn ranges(seed: &mut Seed, base: &[(u32, u32)], people: usize) -> Vec<Range> {
 }
 
 /// How a list of ranges is ordered.
-pub type Order = fn(&mut Seed, &mut Vec<Range>);
+type Order = fn(&mut Seed, &mut Vec<Range>);
 
 const ORDERS: [Order; 7] = [in_order, ends_falling, one_out_of_place, last_two_changed, falling, by_start, as_made];
 
 /// By person, then start; ends as they come.
-pub fn in_order(_: &mut Seed, ranges: &mut Vec<Range>) {
+fn in_order(_: &mut Seed, ranges: &mut Vec<Range>) {
     ranges.sort_by_key(|range| (range.person, range.start));
 }
 
 /// By person, then start, and of those that start together the longest first: in order, but not by ends.
-pub fn ends_falling(_: &mut Seed, ranges: &mut Vec<Range>) {
+fn ends_falling(_: &mut Seed, ranges: &mut Vec<Range>) {
     ranges.sort_by_key(|range| (range.person, range.start, Reverse(range.end)));
 }
 
@@ -79,7 +79,7 @@ fn one_out_of_place(seed: &mut Seed, ranges: &mut Vec<Range>) {
 }
 
 /// In order but for the last two.
-pub fn last_two_changed(seed: &mut Seed, ranges: &mut Vec<Range>) {
+fn last_two_changed(seed: &mut Seed, ranges: &mut Vec<Range>) {
     in_order(seed, ranges);
     let count = ranges.len();
     if count > 1 {
@@ -99,7 +99,7 @@ fn by_start(_: &mut Seed, ranges: &mut Vec<Range>) {
 }
 
 /// As they come.
-pub fn as_made(_: &mut Seed, _: &mut Vec<Range>) {}
+fn as_made(_: &mut Seed, _: &mut Vec<Range>) {}
 
 #[cfg(test)]
 mod tests {

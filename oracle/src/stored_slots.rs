@@ -6,7 +6,6 @@ use on_call::model::problem::Problem;
 use crate::bits::put_bit;
 use crate::days::instant;
 use crate::limits::{MINUTES_MOST, SET_WORDS, SLOTS_MOST};
-use crate::orders::{as_made, ends_falling, in_order, last_two_changed, Order};
 use crate::problems::{availability_into, problem_case, slots_of, ProblemCase, Range};
 use crate::seed::Seed;
 use crate::splitting::{merged_of, LentProblem};
@@ -18,9 +17,6 @@ const BASE: usize = 8;
 const RANGES: usize = 8;
 const ATOMS: usize = 16;
 const PEOPLE: usize = 4;
-
-/// The orders in which ranges are stored, in turn.
-const ORDERS: [Order; 4] = [in_order, ends_falling, last_two_changed, as_made];
 
 /// What a lent output holds before the call.
 pub const FILL16: u16 = 43_981;
@@ -42,11 +38,10 @@ const ANSWERS: u64 = 14;
 pub fn slots(n: u64, run: u64) -> Stored {
     let mut bytes = Vec::new();
     records(n, run, "stored-slots", |seed, made| {
-        let mut case = problem_case(seed);
+        let case = problem_case(seed);
         if case.base.len() > BASE || case.ranges.len() >= RANGES || case.people.len() > PEOPLE {
             return false;
         }
-        ORDERS[made as usize / 2 % ORDERS.len()](seed, &mut case.ranges);
         let problem = case.rust();
         let is_small = problem.slot_count() <= ATOMS;
         if is_small {
