@@ -2,6 +2,7 @@
 
 mod inputs;
 mod job;
+mod merge;
 mod prepare;
 mod refused;
 mod rota;

@@ -13,6 +13,7 @@ mod jobs;
 mod lent_units;
 mod library;
 mod limits;
+mod orders;
 mod problems;
 mod program;
 mod readers;
@@ -53,11 +54,12 @@ const fn kind(name: &'static str, questions: fn(u64) -> Vec<Question>) -> Kind {
 }
 
 /// Every kind.
-const KINDS: [Kind; 15] = [
+const KINDS: [Kind; 16] = [
     kind("slot-sets", sets::questions),
     kind("slot-sets-damaged", sets::damaged),
     kind("slots", splitting::questions),
     kind("slots-damaged", splitting::damaged),
+    kind("range-orders", orders::questions),
     kind("rotations", rotations::questions),
     kind("rotations-damaged", rotations::damaged),
     kind("days", days::questions),

@@ -136,7 +136,8 @@ fn name(person: usize) -> String {
     format!("{person:02}")
 }
 
-fn time_range(start: u32, end: u32) -> TimeRange {
+/// A range of times as the Rust has it.
+pub fn time_range(start: u32, end: u32) -> TimeRange {
     TimeRange::new(instant(i64::from(start)), instant(i64::from(end)))
 }
 

@@ -119,14 +119,19 @@ pub fn merged_of(case: &ProblemCase) -> Vec<Range> {
     merged
 }
 
-/// The slots, merged ranges and availability of a problem. More than 1,024 atomic slots are refused by 5.
+/// Whole problems.
 pub fn questions(case_seed: u64) -> Vec<Question> {
     let mut seed = Seed::new(case_seed);
     let case = problem_case(&mut seed);
-    let lent = LentProblem::new(&case);
+    asked_of(&mut seed, &case)
+}
+
+/// The slots, merged ranges and availability of a problem. More than 1,024 atomic slots are refused by 5.
+pub fn asked_of(seed: &mut Seed, case: &ProblemCase) -> Vec<Question> {
+    let lent = LentProblem::new(case);
     let room = lent.ranges.count + seed.below(2) as usize;
-    let merged = merged_of(&case);
-    let mut asked = vec![lent.merged(&mut seed, room, Ok(&merged))];
+    let merged = merged_of(case);
+    let mut asked = vec![lent.merged(seed, room, Ok(&merged))];
     let problem = case.rust();
     let (starts, ends) = slots_of(&problem);
     let room = SLOTS_MOST + seed.below(2) as usize;
@@ -135,7 +140,7 @@ pub fn questions(case_seed: u64) -> Vec<Question> {
     } else {
         Ok((&starts[..], &ends[..]))
     };
-    asked.push(lent.atomise(&mut seed, room, due));
+    asked.push(lent.atomise(seed, room, due));
     if starts.len() <= SLOTS_MOST {
         let before: Vec<u64> = (0..SET_WORDS * lent.ranges.people).map(|_| seed.word()).collect();
         let mut after = before.clone();

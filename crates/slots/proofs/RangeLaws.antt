@@ -1,23 +1,24 @@
 -- Lent ranges: what their checks say, the ranges as numbers, and that the merged list is the one of their minutes. Assumes nothing.
 use mathlib.Core.Path.{_≡_, refl, sym, ap, ap₂, _∙_}
 use mathlib.Core.Bool.{Bool, true, false, _&&_, _||_, or-false}
+use mathlib.Core.Logic.{⊎-elim}
 use mathlib.Core.List.{List, [], _∷_, _++_}
-use Prim.Native.Nat.{ℕ, zero, suc, _+_, _*_, _≤_, _<_}
-use native.Mathlib.Nat.{le-antisymm}
+use Prim.Native.Nat.{ℕ, zero, suc, _+_, _-_, _*_, _≤_, _<_}
+use native.Mathlib.Nat.{le-antisymm, not-suc-le-zero}
 use native.Mathlib.Numerals.{add-one}
 use native.Mathlib.Omega.{arith}
-use borrow.Author.Tests.{ltb-true, ltb-false, leb-true, le-ltb}
+use borrow.Author.Tests.{ltb-true, ltb-false, leb-true, eqb-true, lt-ltb, le-ltb, le-leb, lt-leb, eq-eqb}
 use lib.Dec.{leb, ltb, eqb}
-use lib.ListN.{length, getD, take, drop, set, length-append}
-use lib.Seq.{take-at, length-take-le}
+use lib.ListN.{length, getD, take, drop, set, length-append, length-drop, List·getD-append}
+use lib.Seq.{take-at, length-take-le, getD-append-seam}
 use Rattle.paper.specs.Limits.{peopleOk}
 use Rattle.paper.specs.Count.{all, some}
-use Rattle.paper.proofs.Logic.{both, three, people-says}
-use Rattle.paper.proofs.Count.{all-each, some-one}
+use Rattle.paper.proofs.Logic.{both, three, people-says, below-suc, lt-or-ge, same-test, and-true, or-left, or-second, or-either}
+use Rattle.paper.proofs.Count.{all-more, all-fails, all-done, all-each, each-all, all-same, some-one}
 use Rattle.slots.specs.Ranges.{rangeAt, Range, Ranges, rangeCountOk, rangeRoomOk, rangeOk, rangeOkAt, rangesOk, covers, inRanges}
 use Rattle.slots.specs.Merged.{mergedOf, IsMerged}
 use Rattle.slots.specs.Inside.{anyOf, keyOf, personOf, startOf, endOf, keyAt, keysTo, keysOf, opens, closes, packedAll}
-use Rattle.slots.specs.Inside.{RangesSound, SortedTo, SameEntries, walkOn, MergedFrom}
+use Rattle.slots.specs.Inside.{RangesSound, SortedTo, SameEntries, notAfter, rises, inOrder, walkOn, MergedFrom}
 use Rattle.slots.proofs.Keys.{keyCovers, mergeKeys, mergedKeys, AreMerged}
 use Rattle.slots.proofs.Packed.{small-merged, merged-packed, lies-packed, spaced-ranges, spaced-packed, unpacked-same, small-of}
 use Rattle.slots.proofs.WalkLaws.{walk-few}
@@ -180,25 +181,51 @@ zero-empty = refl
 zero-line : (opens 0 ≤ closes 0) × ((q : ℕ) → inLine q 0 ≡ false)
 zero-line = (ltb-false (closes 0) (opens 0) zero-order, λ q. empty-none q 0 zero-empty)
 
-rising-of : (from : ℕ) (l : List ℕ) → SortedTo (length l) l → ((k : ℕ) → k < length l → from ≤ opens (getD l k 0))
+-- ranges in order, pair by pair
+pairs-in-order : (l : List ℕ) → inOrder l ≡ true → (k : ℕ) → suc k < length l → opens (getD l k 0) ≤ opens (getD l (suc k) 0)
+unfolding inOrder rises
+pairs-in-order l e k h = leb-true _ _ (all-each (length l - 1) (rises l) e k (omega arith))
+
+-- numbers that never fall are ranges in order
+pub sorted-in-order : (n : ℕ) (l : List ℕ) → n ≡ length l → SortedTo n l → inOrder l ≡ true
+unfolding inOrder rises
+sorted-in-order n l e s =
+    each-all (length l - 1) (rises l)
+    (λ k h. le-leb _ _ (opens-mono (getD l k 0) (getD l (suc k) 0) (s k (suc k) (omega arith) (omega arith))))
+
+-- the test, pair by pair
+pub rises-more : (l : List ℕ) (i : ℕ) → all i (rises l) ≡ true → opens (getD l i 0) ≤ opens (getD l (i + 1) 0)
+    → all (i + 1) (rises l) ≡ true
+unfolding rises
+rises-more l i e h = all-more i (rises l) e (le-leb (opens (getD l i 0)) (opens (getD l (suc i) 0)) (rw (add-one i) at h))
+
+pub rises-not : (l : List ℕ) (i : ℕ) → i + 1 < length l → opens (getD l (i + 1) 0) < opens (getD l i 0) → false ≡ inOrder l
+unfolding inOrder rises
+rises-not l i b h =
+    sym (all-fails (length l - 1) i (rises l) (omega arith) (lt-leb (opens (getD l i 0)) (opens (getD l (suc i) 0)) (rw (add-one i) at h)))
+
+pub rises-done : (l : List ℕ) (i : ℕ) → i ≤ length l - 1 → length l ≤ i + 1 → all i (rises l) ≡ true → true ≡ inOrder l
+unfolding inOrder
+rises-done l i a b e = all-done (length l - 1) i (rises l) a (omega arith) e
+
+rising-of : (from : ℕ) (l : List ℕ) → (0 < length l → from ≤ opens (getD l 0 0))
+    → ((k : ℕ) → suc k < length l → opens (getD l k 0) ≤ opens (getD l (suc k) 0))
     → ((k : ℕ) → k < length l → opens (getD l k 0) ≤ closes (getD l k 0)) → Rising from l
-rising-of from [] s f g = tt
-rising-of from (x ∷ l) s f g = (
-  f zero (omega arith),
+rising-of from [] f s g = tt
+rising-of from (x ∷ l) f s g = (
+  f (omega arith),
   g zero (omega arith),
-  rising-of (opens x) l (λ k j a b. s (suc k) (suc j) (omega arith) (omega arith))
-      (λ k h. opens-mono x (getD l k 0) (s zero (suc k) (omega arith) (omega arith)))
-      (λ k h. g (suc k) (omega arith)),
+  rising-of (opens x) l (λ h. s zero (omega arith)) (λ k h. s (suc k) (omega arith)) (λ k h. g (suc k) (omega arith)),
 )
 
 -- the walk over the ranges in order gives the merged list
-pub walk-merged : (R : Ranges) → RangesSound R → (l : List ℕ) → SortedTo (length l) l → SameEntries l (keysOf R) → walkOn 0 l ≡ mergedKeys R
+pub walk-merged : (R : Ranges) → RangesSound R → (l : List ℕ) → inOrder l ≡ true → SameEntries l (keysOf R) → walkOn 0 l ≡ mergedKeys R
 unfolding keysOf inRanges
 walk-merged R S l s e =
     let g : (k : ℕ) → k < length l → opens (getD l k 0) ≤ closes (getD l k 0) = λ k h.
     ltb-false _ _ (any-not (λ x. ltb (closes x) (opens x)) l (e (λ x. ltb (closes x) (opens x))
     ∙ keys-proper R S (R .count) (omega arith)) k h) in
-    let r : Rising (opens 0) l = rising-of (opens 0) l s (λ k h. opens-mono 0 (getD l k 0) (omega arith)) g in
+    let r : Rising (opens 0) l = rising-of (opens 0) l (λ h. opens-mono 0 (getD l 0 0) (omega arith)) (pairs-in-order l s) g in
     one-merged (inRanges R) (walkOn 0 l) (mergedKeys R)
     (record {
       spaced = walk-spaced 0 0 l r (omega arith) (zero-line .0);
@@ -207,6 +234,62 @@ walk-merged R S l s e =
           ∙ e (keyCovers p t) ∙ keys-minutes R S (R .count) (omega arith) p t;
     })
     (merged-is R S)
+
+-- ---- ranges lent in order
+
+keys-at : (R : Ranges) (n k : ℕ) → k < n → getD (keysTo R n) k 0 ≡ keyAt R k
+unfolding keysTo
+keys-at R zero k h = absurd (not-suc-le-zero h)
+keys-at R (suc n) k h =
+    below-suc (getD (keysTo R n ++ (keyAt R n ∷ [])) k 0 ≡ keyAt R k) h
+    (λ (q : k ≡ n).
+    let m : k ≡ length (keysTo R n) = omega (arith, length-keys R n) in
+    ap (λ (j : ℕ). getD (keysTo R n ++ (keyAt R n ∷ [])) j 0) m ∙ getD-append-seam (keysTo R n) (keyAt R n) [] 0 ∙ ap (keyAt R) (sym q))
+    (λ (b : k < n). List·getD-append (keysTo R n) (keyAt R n ∷ []) 0 k (omega (arith, length-keys R n)) ∙ keys-at R n k b)
+
+order-at : (R : Ranges) → RangesSound R → (k j : ℕ) → k < R .count → j < R .count
+    → leb (opens (keyAt R k)) (opens (keyAt R j)) ≡ notAfter (rangeAt R k) (rangeAt R j)
+unfolding opens notAfter
+order-at R S k j h g =
+    let p = getD (R .persons) k 0 in
+    let q = getD (R .persons) j 0 in
+    let s = getD (R .starts) k 0 in
+    let t = getD (R .starts) j 0 in
+    let a : personOf (keyAt R k) * 268435456 + startOf (keyAt R k) ≡ p * 268435456 + s =
+    ap₂ (λ (x y : ℕ). x * 268435456 + y) (person-at R S k h) (start-at R S k h) in
+    let b : personOf (keyAt R j) * 268435456 + startOf (keyAt R j) ≡ q * 268435456 + t =
+    ap₂ (λ (x y : ℕ). x * 268435456 + y) (person-at R S j g) (start-at R S j g) in
+    ap₂ leb a b
+    ∙ line-order p q s t (omega (arith, S .ordered k h, S .capped k h)) (omega (arith, S .ordered j g, S .capped j g))
+  where
+    line-order : (p q s t : ℕ) → s < 268435456 → t < 268435456
+        → leb (p * 268435456 + s) (q * 268435456 + t) ≡ ltb p q || (eqb p q && leb s t)
+    line-order p q s t a b =
+        same-test (leb (p * 268435456 + s) (q * 268435456 + t)) (ltb p q || (eqb p q && leb s t))
+        (λ e.
+        let h = leb-true (p * 268435456 + s) (q * 268435456 + t) e in
+        ⊎-elim (λ (l : p < q). or-left (ltb p q) _ (lt-ltb p q l))
+        (λ (l : q ≤ p). or-second (ltb p q) _ (and-true _ _ (eq-eqb p q (omega arith)) (le-leb s t (omega arith))))
+        (lt-or-ge p q))
+        (λ e. le-leb (p * 268435456 + s) (q * 268435456 + t)
+        (⊎-elim (λ i. omega (arith, ltb-true p q i))
+        (λ i. let w = both (eqb p q) (leb s t) i in omega (arith, eqb-true p q (w .0), leb-true s t (w .1)))
+        (or-either (ltb p q) (eqb p q && leb s t) e)))
+
+module _ (R : Ranges) (S : RangesSound R) where
+  -- lent ranges are in order where none comes after the next, by person, then start
+  pub lent-in-order : inOrder (keysOf R) ≡ all (R .count - 1) (λ k. notAfter (rangeAt R k) (rangeAt R (suc k)))
+  unfolding inOrder rises keysOf
+  lent-in-order =
+      ap (λ (n : ℕ). all (n - 1) (rises (keysTo R (R .count)))) (length-keys R (R .count))
+      ∙ all-same (R .count - 1) (rises (keysTo R (R .count))) (λ k. notAfter (rangeAt R k) (rangeAt R (suc k)))
+      (λ k h.
+      ap₂ (λ (x y : ℕ). leb (opens x) (opens y)) (keys-at R (R .count) k (omega arith)) (keys-at R (R .count) (suc k) (omega arith))
+      ∙ order-at R S k (suc k) (omega arith) (omega arith))
+
+  -- THE LAW: the walk over ranges that are lent in order, as they are, gives the merged list; nothing is asked of their ends
+  pub in-order-walk : inOrder (keysOf R) ≡ true → walkOn 0 (keysOf R) ≡ mergedKeys R
+  in-order-walk e = walk-merged R S (keysOf R) e (λ p. refl)
 
 -- ---- the numbers, written one by one
 
@@ -226,9 +309,9 @@ keys-done R l i a b e = ap (λ (n : ℕ). take n l) (le-antisymm b a) ∙ e ∙ 
 pub two-then : (a b d : Bool) → a ≡ true → b ≡ true → d ≡ a && (b && d)
 two-then a b d p q = simp (p, q)
 
--- ---- sorted, then walked over
+-- ---- put in order, then walked over
 
--- the first n entries of a list, put back sorted
+-- the first n entries of a list, put back in order
 module _ (n : ℕ) (keys sorted : List ℕ) (few : n ≤ length keys) (kept : length sorted ≡ length (take n keys)) where
   sorted-length : length sorted ≡ n
   sorted-length = kept ∙ length-take-le n keys few
@@ -242,14 +325,17 @@ module _ (n : ℕ) (keys sorted : List ℕ) (few : n ≤ length keys) (kept : le
   pub front-fits : n ≤ length (sorted ++ drop n keys)
   front-fits = omega (arith, length-append sorted (drop n keys), sorted-length)
 
+  pub front-whole : length (sorted ++ drop n keys) ≡ length keys
+  front-whole = length-append sorted (drop n keys) ∙ omega (arith, sorted-length, length-drop n keys)
+
   -- the walk over them gives the merged list
   pub front-merged : (R : Ranges) → RangesSound R → R .count ≡ n → take n keys ≡ keysOf R
-      → SortedTo (length (take n keys)) sorted → SameEntries sorted (take n keys)
+      → inOrder sorted ≡ true → SameEntries sorted (take n keys)
       → (m : ℕ) (out : List ℕ) → n ≤ length out
       → m ≡ length (walkOn 0 (take n (sorted ++ drop n keys))) → take m out ≡ walkOn 0 (take n (sorted ++ drop n keys))
       → MergedFrom R out m
   front-merged R S e k s same m out f a b =
       let w : walkOn 0 (take n (sorted ++ drop n keys)) ≡ mergedKeys R =
-      ap (walkOn 0) front-sorted ∙ walk-merged R S sorted (λ i j x y. s i j x (omega (arith, kept))) (λ p. same p ∙ ap (anyOf p) k) in
+      ap (walkOn 0) front-sorted ∙ walk-merged R S sorted s (λ p. same p ∙ ap (anyOf p) k) in
       let few : m ≤ n = omega (arith, walk-few (take n (sorted ++ drop n keys)), front-length) in
       record { fits = omega arith; few = omega arith; list = b ∙ w ∙ sym (merged-packed R S) }

@@ -1,7 +1,7 @@
 -- The steps of the walk that merges, and of its list. Assumes nothing.
 use mathlib.Core.Path.{_≡_, refl, sym, ap, _∙_}
 use mathlib.Core.List.{List, [], _∷_, _++_, append-assoc, append-nil}
-use Prim.Native.Nat.{ℕ, _+_, _≤_, _<_}
+use Prim.Native.Nat.{ℕ, _+_, _*_, _/_, _≤_, _<_, max}
 use native.Mathlib.Numerals.{add-one}
 use native.Mathlib.Omega.{arith}
 use borrow.Author.Tests.{lt-ltb, le-ltb, le-leb, lt-leb}
@@ -9,8 +9,9 @@ use lib.Dec.{leb, ltb}
 use lib.ListN.{length, getD, take, drop, set, length-append}
 use lib.Seq.{drop-cons, drop-length, length-take-le}
 use Rattle.paper.proofs.Logic.{by-test}
-use Rattle.slots.specs.Inside.{startOf, endOf, opens, closes, extended, closed, walkOn}
+use Rattle.slots.specs.Inside.{personOf, startOf, endOf, opens, closes, extended, closed, walkOn}
 use Rattle.slots.proofs.Entries.{push}
+use Rattle.slots.proofs.Keys.{parts-of, opens-is}
 
 -- ---- one range more
 
@@ -50,6 +51,24 @@ module _ (l : List ℕ) (n z s e : ℕ) (a : s ≡ startOf z) (b : e ≡ endOf z
   close-skips h =
       let q = closed-empty z [] (rw (a, b) at h) in
       (omega (arith, ap length q), sym (ap (λ (k : List ℕ). take n l ++ k) q ∙ append-nil (take n l)))
+
+-- ---- the range held open, by where it opened on the line and the minute that it ends at
+
+module _ (opened end : ℕ) (h : end < 268435456) where
+  pub held-closes : closes (opened * 268435456 + end) ≡ opened / 268435456 * 268435456 + end
+  unfolding closes personOf endOf
+  held-closes = omega (arith, parts-of opened end h .0, parts-of opened end h .1)
+
+  pub held-later : (x : ℕ) → extended (opened * 268435456 + end) x ≡ opened * 268435456 + max end (endOf x)
+  unfolding extended endOf
+  held-later x = omega (arith, parts-of opened end h .0, parts-of opened end h .1)
+
+pub held-next : (x : ℕ) → opens x * 268435456 + endOf x ≡ x
+unfolding endOf
+held-next x = omega (arith, opens-is x)
+
+pub opens-lt : (x : ℕ) → x < 18446744073709551616 → opens x < 68719476736
+opens-lt x h = omega (arith, opens-is x)
 
 -- ---- the walk
 

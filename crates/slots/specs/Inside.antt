@@ -6,7 +6,7 @@ use Prim.Native.Nat.{ℕ, zero, suc, _+_, _-_, _*_, _/_, _%_, _≤_, _<_, max}
 use lib.Dec.{leb, ltb, eqb}
 use lib.ListN.{length, getD, take}
 use Rattle.paper.specs.Limits.{peopleMost, rangesMost, slotsMost, lastMinute}
-use Rattle.paper.specs.Count.{over, FirstWhere}
+use Rattle.paper.specs.Count.{all, over, FirstWhere}
 use Rattle.slotset.specs.Slots.{valueOf}
 use Rattle.slots.specs.Ranges.{Range, Ranges}
 use Rattle.slots.specs.Merged.{mergedOf}
@@ -82,6 +82,18 @@ SortedTo n l = (k j : ℕ) → k < j → j < n → getD l k 0 ≤ getD l j 0
 -- the same entries, as far as any test can tell
 abbrev pub SameEntries : List ℕ → List ℕ → Type 0
 SameEntries k l = (p : ℕ → Bool) → anyOf p k ≡ anyOf p l
+
+-- by person, then start, x doesn't come after y; their ends may be any
+unfoldable pub notAfter : Range → Range → Bool
+notAfter x y = ltb (x .person) (y .person) || (eqb (x .person) (y .person) && leb (x .start) (y .start))
+
+-- entry k opens no later than the next
+unfoldable pub rises : List ℕ → ℕ → Bool
+rises l k = leb (opens (getD l k 0)) (opens (getD l (suc k) 0))
+
+-- numbers of ranges that are in order, by person, then start
+unfoldable pub inOrder : List ℕ → Bool
+inOrder l = all (length l - 1) (rises l)
 
 -- the range z, which the range x touches, with the later of both ends
 unfoldable pub extended : ℕ → ℕ → ℕ

@@ -5,7 +5,7 @@ use on_call::model::problem::Problem;
 
 use crate::bits::put_bit;
 use crate::days::instant;
-use crate::limits::{DRAWS_MOST, NOBODY, PEOPLE_MOST, SET_WORDS, SLOTS_MOST};
+use crate::limits::{DRAWS_MOST, NOBODY, PEOPLE_MOST, RANGES_MOST, SET_WORDS, SLOTS_MOST};
 use crate::problems::{slots_of, Person, ProblemCase, Range, Settings};
 use crate::rotas::{Draw, LentRota, RotaCase};
 use crate::seed::Seed;
@@ -80,6 +80,42 @@ pub fn partly_able(seed: &mut Seed, slots: usize) -> ProblemCase {
         people: people(seed),
         settings: settings(0, 1),
     }
+}
+
+/// As many ranges as there may be, by person, then start: of those after a person's first a third overlaps the one before it, a third
+/// touches it, and a third begins later.
+pub fn ranges_in_order(seed: &mut Seed) -> ProblemCase {
+    let mut ranges = Vec::new();
+    for person in 0..PEOPLE_MOST {
+        let mut at = BASE;
+        for _ in 0..RANGES_MOST / PEOPLE_MOST {
+            let start = match seed.below(3) {
+                0 => at - 30,
+                1 => at,
+                _ => at + seed.within(1, 600) as u32,
+            };
+            at = start + seed.within(60, 600) as u32;
+            ranges.push(Range { person, start, end: at });
+        }
+    }
+    ProblemCase {
+        base: base(1),
+        ranges,
+        people: people(seed),
+        settings: settings(0, 1),
+    }
+}
+
+/// The same ranges, the first of them at the end: all others are in order.
+pub fn first_at_end(mut case: ProblemCase) -> ProblemCase {
+    case.ranges.rotate_left(1);
+    case
+}
+
+/// The same ranges, the last first.
+pub fn falling(mut case: ProblemCase) -> ProblemCase {
+    case.ranges.reverse();
+    case
 }
 
 /// The same ranges in any order.

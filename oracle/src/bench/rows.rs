@@ -1,7 +1,8 @@
 //! The rows by their names.
 
-use super::inputs::{all_able, partly_able, shuffled, Rota, Set};
+use super::inputs::{all_able, falling, first_at_end, partly_able, ranges_in_order, shuffled, Rota, Set};
 use super::job::job;
+use super::merge::merge;
 use super::prepare::{prepare, prepare_all};
 use super::refused::{refused, Lent};
 use super::rota::{from_slots, no_draws, play, recount, structs};
@@ -27,6 +28,17 @@ pub const ROWS: &[Named] = &[
     }),
     ("prepare, 1,024 slots, all figures", |seed| {
         prepare_all(&partly_able(&mut Seed::new(seed), SLOTS_MOST))
+    }),
+    ("merge, 1,024 ranges in order", |seed| merge(&ranges_in_order(&mut Seed::new(seed)))),
+    ("merge, 1,024 ranges, the first at the end", |seed| {
+        merge(&first_at_end(ranges_in_order(&mut Seed::new(seed))))
+    }),
+    ("merge, 1,024 ranges in any order", |seed| {
+        let case = ranges_in_order(&mut Seed::new(seed));
+        merge(&shuffled(&mut Seed::new(seed), case))
+    }),
+    ("merge, 1,024 ranges falling", |seed| {
+        merge(&falling(ranges_in_order(&mut Seed::new(seed))))
     }),
     ("play, 64 slots", |seed| play(typical(seed, 64, 0, 1))),
     ("play, 256 slots", |seed| play(typical(seed, 256, 0, 1))),
