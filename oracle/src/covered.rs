@@ -80,15 +80,22 @@ fn rust_figures(case: &ProblemCase, problem: &Problem, slots: &Slots) -> Figures
 
 // ---- slots around midnight
 
-/// A problem whose slots start and end on midnight or a minute beside it, share dates, or last for weeks and years.
+/// A problem whose slots start and end on midnight or a minute beside it, share dates, or last for weeks and years; in a third of the cases
+/// none goes past midnight.
 pub fn around_midnight(seed: &mut Seed) -> ProblemCase {
     let near = [0, 1, 60, DATE - 1, DATE, DATE + 1, 2 * DATE];
     let mut at = seed.below(1000) as u32 * DATE + seed.pick(&[0, 1, DATE - 1, 700]);
     let mut base = Vec::new();
+    let by_midnight = seed.one_in(3);
     for _ in 0..seed.within(1, 8) {
         let gap = seed.pick(&near);
+        let to_midnight = DATE - (at + gap) % DATE;
         let long = seed.within(1, 5_000_000) as u32;
-        let length = seed.pick(&[1, 60, DATE - 1, DATE, DATE + 1, 2 * DATE, 30 * DATE, long]);
+        let length = if by_midnight {
+            seed.pick(&[1, to_midnight.min(60), to_midnight])
+        } else {
+            seed.pick(&[1, 60, DATE - 1, DATE, DATE + 1, 2 * DATE, 30 * DATE, long])
+        };
         base.push((at + gap, at + gap + length));
         at += gap + length;
     }
@@ -155,8 +162,9 @@ mod tests {
     /// The count from midnight to midnight is the count minute by minute.
     #[test]
     fn midnights_are_minutes() {
-        for k in 0..200 {
-            let slots = Slots::of(&around_midnight(&mut Seed::new(k)).rust());
+        let problems = (0..200).map(|k| around_midnight(&mut Seed::new(k)).rust());
+        for problem in problems.filter(|problem| problem.total_demand() < 100_000) {
+            let slots = Slots::of(&problem);
             let minutes = slots.starts.iter().zip(&slots.ends).flat_map(|(&start, &end)| start..end);
             let dates: BTreeSet<u32> = minutes.map(|minute| minute / DATE).collect();
             assert_eq!(covered_days(&slots), dates.len() as u64);
