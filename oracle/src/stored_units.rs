@@ -26,7 +26,7 @@ const REFUSED_FIGURE: u64 = 1_000_000_000_000_000_000;
 /// Answers that a record holds.
 const ANSWERS: u64 = 18;
 
-/// Two sections of records, where the Rust counts the days that are covered and where it doesn't, each after its number of records as u16; the
+/// Two sections of records, where the Rust counts the days that are covered and where it counts fewer, each after its number of records as u16; the
 /// examples of covered days come first in theirs. A record is, low byte first: people, slots, units, a person, a slot and a unit as u64; fairness, lock and boundary as bytes and
 /// a byte of 0; value and days as u16; u16 of how long each lent column is: starts, ends, unit starts, words of availability, words of
 /// frozen flags, the columns for starts, the lists of people, the column for masks; the columns themselves, of 16, 16 and 16; first words
@@ -91,7 +91,7 @@ impl Sections {
         }
         let lines = vec![
             (ANSWERS * self.agreeing.1, ""),
-            (ANSWERS * self.others.1, " of slots past midnight"),
+            (ANSWERS * self.others.1, " where the Rust counts fewer days"),
         ];
         Stored { bytes, lines }
     }

@@ -423,8 +423,8 @@ fn print(t: Tally, of: &[u8]) {
     io::write_all(1, b" differ\n");
 }
 
-// Where the Rust counts the days that are covered, and where it doesn't.
+// Where the Rust counts the days that are covered, and where it counts fewer.
 fn main() {
     print(compare(), b"");
-    print(compare(), b" of slots past midnight");
+    print(compare(), b" where the Rust counts fewer days");
 }
