@@ -46,13 +46,23 @@ fn covered_days(slots: &Slots) -> u64 {
 }
 
 fn own_figures(settings: Settings, problem: &Problem, slots: &Slots) -> Figures {
-    let lengths: Vec<u64> = slots.starts.iter().zip(&slots.ends).map(|(start, end)| u64::from(end - start)).collect();
+    let lengths: Vec<u64> = slots
+        .starts
+        .iter()
+        .zip(&slots.ends)
+        .map(|(start, end)| u64::from(end - start))
+        .collect();
     let days = covered_days(slots);
     let per_day = (lengths.iter().sum::<u64>() / days).max(1);
     let target = per_day * u64::from(settings.days.max(1));
     let longest = |person| {
         let available = |slot: usize| problem.is_available(person, slot);
-        let runs = (0..lengths.len()).map(|from| (from..lengths.len()).take_while(|&slot| available(slot)).map(|slot| lengths[slot]).sum());
+        let runs = (0..lengths.len()).map(|from| {
+            (from..lengths.len())
+                .take_while(|&slot| available(slot))
+                .map(|slot| lengths[slot])
+                .sum()
+        });
         runs.max().unwrap_or(0u64)
     };
     let achievable = (0..problem.human_count()).map(|person| longest(person).clamp(1, target)).collect();

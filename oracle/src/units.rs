@@ -58,11 +58,7 @@ fn figures_asked(seed: &mut Seed, case: &ProblemCase, problem: &Problem, avail: 
         let target_args = [settings_args(case.settings), slots.args()].concat();
         asked.push(beside("boltraven_target_run", target_args, seed.word(), 0, due.target));
         for person in [0, people - 1] {
-            let whose = vec![
-                Arg::Lent(8, bytes64(avail)),
-                Arg::Number(people as u64),
-                Arg::Number(person as u64),
-            ];
+            let whose = vec![Arg::Lent(8, bytes64(avail)), Arg::Number(people as u64), Arg::Number(person as u64)];
             let args = [settings_args(case.settings), whose, slots.args()].concat();
             asked.push(beside("boltraven_achievable_run", args, seed.word(), 0, due.achievable[person]));
         }
@@ -298,7 +294,12 @@ impl LentUnits {
                 (COVERED_DAYS, self.slots.args(), self.days_no(), by.days),
                 ("boltraven_minutes_per_day", self.slots.args(), self.days_no(), by.per_day),
                 ("boltraven_target_run", target_args.clone(), self.target_no(), by.target),
-                ("boltraven_achievable_run", run_args.clone(), self.achievable_no(), by.achievable[due.person]),
+                (
+                    "boltraven_achievable_run",
+                    run_args.clone(),
+                    self.achievable_no(),
+                    by.achievable[due.person],
+                ),
             ];
             asked.extend(questions.map(|(function, args, number, right)| beside(function, args, seed.word(), number, right)));
         }
