@@ -231,8 +231,9 @@ uint8_t boltraven_unit_domains(const uint64_t *avail, size_t avail_len, size_t p
 uint64_t boltraven_unit_frozen(const uint64_t *frozen, size_t frozen_len, size_t slots, size_t units,
                                const uint16_t *firsts, size_t firsts_len, size_t unit);
 
-/* The distinct start dates of slots. */
-uint64_t boltraven_covered_days(size_t slots, const uint32_t *starts, size_t starts_len, const uint32_t *ends, size_t ends_len);
+/* The distinct dates on which a minute of a slot falls; a slot that ends at midnight doesn't cover the next day. */
+uint8_t boltraven_covered_days(size_t slots, const uint32_t *starts, size_t starts_len, const uint32_t *ends, size_t ends_len,
+                               uint64_t *out);
 
 /* Minutes a covered day. */
 uint8_t boltraven_minutes_per_day(size_t slots, const uint32_t *starts, size_t starts_len, const uint32_t *ends, size_t ends_len,

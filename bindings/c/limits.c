@@ -81,7 +81,7 @@ CALL(unit_of_slot) { return boltraven_unit_of_slot(r->slots, r->units, r->firsts
 CALL(unit_domain) { return boltraven_unit_domain(r->avail, WORDS, PEOPLE, r->slots, r->units, r->firsts, SLOTS, 1, r->list, PEOPLE); }
 CALL(unit_domains) { return boltraven_unit_domains(r->avail, WORDS, PEOPLE, r->slots, r->units, r->firsts, SLOTS, r->masks, SLOTS); }
 CALL(unit_frozen) { return boltraven_unit_frozen(r->frozen, SET, r->slots, r->units, r->firsts, SLOTS, r->units - 1); }
-CALL(covered_days) { return boltraven_covered_days(r->slots, r->starts, SLOTS, r->ends, SLOTS); }
+CALL(covered_days) { return boltraven_covered_days(r->slots, r->starts, SLOTS, r->ends, SLOTS, &r->first); }
 CALL(minutes_per_day) { return boltraven_minutes_per_day(r->slots, r->starts, SLOTS, r->ends, SLOTS, &r->first); }
 CALL(target_run) { return boltraven_target_run(0, 1, 1, 1, 7, r->slots, r->starts, SLOTS, r->ends, SLOTS, &r->first); }
 CALL(achievable_run) {
@@ -138,7 +138,7 @@ static const struct {
     NUMBER(prev_unset_before), DONE(run_bounds), DONE(next_run), DONE(next_member), DONE(insert), DONE(remove), DONE(put_stretch),
     NUMBER(date_of), NUMBER(weekday_of), NUMBER(merged_ranges), NUMBER(atomise), DONE(availability), NUMBER(is_available),
     NUMBER(slot_domain), DONE(slot_minutes), DONE(demand), NUMBER(freeze_before), NUMBER(rotation_starts), NUMBER(unit_starts),
-    DONE(unit_slots), NUMBER(unit_of_slot), NUMBER(unit_domain), DONE(unit_domains), NUMBER(unit_frozen), NUMBER(covered_days),
+    DONE(unit_slots), NUMBER(unit_of_slot), NUMBER(unit_domain), DONE(unit_domains), NUMBER(unit_frozen), DONE(covered_days),
     DONE(minutes_per_day), DONE(target_run), DONE(achievable_run), DONE(compute_targets), DONE(empty), DONE(from_slots), DONE(assign),
     NUMBER(owner_of_slot), DONE(minutes_of), NUMBER(unassigned_count), DONE(uncovered_minutes), DONE(recount), DONE(recount_slots),
     DONE(play), DONE(play_draws), DONE(run_job)};

@@ -3,6 +3,7 @@
 use on_call::model::problem::Problem;
 
 use crate::bits::put_bit;
+use crate::covered::{figures, Figures};
 use crate::limits::{SET_WORDS, SLOTS_MOST};
 use crate::problems::{availability_into, unit_masks_of, unit_starts_of, ProblemCase, Settings};
 use crate::seed::Seed;
@@ -25,7 +26,7 @@ pub struct LentUnits {
     pub masks_room: usize,
 }
 
-/// The Rust's answers to what is asked.
+/// The answers to what is asked: the Rust's, but where the figures that follow from covered days are the generator's own.
 pub struct DueUnits {
     pub rotations: Vec<u16>,
     pub units: Vec<u16>,
@@ -36,10 +37,11 @@ pub struct DueUnits {
     pub unit_domain: Vec<u8>,
     /// Everybody who can cover a unit as a mask, for each.
     pub unit_masks: Vec<u32>,
-    pub days: usize,
-    pub per_day: i64,
-    pub target: i64,
-    pub achievable: i64,
+    /// The person asked for, before any damage; everybody's figures by the generator's own count of covered days, and the Rust's where it
+    /// counts as many.
+    pub person: usize,
+    pub own: Figures,
+    pub rust: Option<Figures>,
 }
 
 /// A problem with some slots frozen, as it is lent, and the Rust's answers.
@@ -78,11 +80,7 @@ pub fn lent(seed: &mut Seed, case: &ProblemCase, mut problem: Problem) -> (LentU
 
 fn due(case: &ProblemCase, problem: &Problem, lent: &LentUnits) -> DueUnits {
     let list = |domain: &[usize]| domain.iter().map(|&person| person as u8).collect::<Vec<u8>>();
-    // with a shift of one day the target run is the minutes a day; the days themselves are private in the Rust
-    let mut one_day = case.clone();
-    one_day.settings.days = 1;
-    let mut dates: Vec<u32> = lent.slots.starts.iter().map(|start| start / 1440).collect();
-    dates.dedup();
+    let (own, rust) = figures(case, problem);
     DueUnits {
         rotations: problem.rotation_starts.iter().map(|&start| start as u16).collect(),
         units: unit_starts_of(problem),
@@ -92,10 +90,9 @@ fn due(case: &ProblemCase, problem: &Problem, lent: &LentUnits) -> DueUnits {
         slot_domain: list(&problem.domains[lent.slot]),
         unit_domain: list(&problem.unit_domains[lent.unit]),
         unit_masks: unit_masks_of(problem),
-        days: dates.len(),
-        per_day: one_day.rust().target_run_minutes,
-        target: problem.target_run_minutes,
-        achievable: problem.achievable_run_minutes[lent.person],
+        person: lent.person,
+        own,
+        rust,
     }
 }
 

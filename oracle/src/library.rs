@@ -77,7 +77,7 @@ exports! {
     number unit_starts(number, number, number, number, number, number, slice, slice, slice);
     done unit_slots(number, number, slice, number, out, out);
     number unit_of_slot(number, number, slice, number);
-    number covered_days(number, slice, slice);
+    done covered_days(number, slice, slice, out);
     done demand(number, slice, slice, out);
     done slot_minutes(number, slice, slice, number, out);
     done minutes_per_day(number, slice, slice, out);

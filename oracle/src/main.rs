@@ -3,6 +3,7 @@
 mod bench;
 mod bits;
 mod call;
+mod covered;
 mod days;
 mod figures;
 mod job_cases;
@@ -65,6 +66,7 @@ const KINDS: [Kind; 16] = [
     kind("days", days::questions),
     kind("units", units::questions),
     kind("units-damaged", units::damaged),
+    kind("covered-days", units::covered),
     kind("targets", targets::questions),
     kind("targets-damaged", targets::damaged),
     kind("rotas", rota_questions::questions),
@@ -236,15 +238,25 @@ fn compare(n: u64, run: u64, wanted: &str) -> std::io::Result<u64> {
     for kind in kinds {
         let mut different = 0;
         let mut answers = 0;
+        let mut counts = [0, 0];
         for k in 0..n {
-            let (asked, differs) = ask(kind, Seed::of_case(run, kind.name, k), different < SHOWN, &mut functions)?;
-            answers += asked;
-            different += u64::from(differs);
+            let asked = ask(kind, Seed::of_case(run, kind.name, k), different < SHOWN, &mut functions)?;
+            answers += asked.answers;
+            different += u64::from(asked.differs);
+            if let Some(agree) = asked.counts_agree {
+                counts[usize::from(agree)] += 1;
+            }
         }
         println!(
             "{}: {n} cases, {answers} answers compared, {different} cases differ (seed {run})",
             kind.name
         );
+        if counts != [0, 0] {
+            println!(
+                "{}: the Rust counts the days that are covered in {} cases, and fewer in {}, where its figures are not compared",
+                kind.name, counts[1], counts[0]
+            );
+        }
         differing += different;
     }
     if wanted == "every" && n >= ENOUGH {
@@ -287,17 +299,24 @@ fn one_case(name: &str, seed: u64) -> std::io::Result<u64> {
         .iter()
         .find(|kind| kind.name == name)
         .ok_or_else(|| std::io::Error::other(format!("no kind {name}")))?;
-    let (answers, differs) = ask(kind, seed, true, &mut BTreeSet::new())?;
+    let asked = ask(kind, seed, true, &mut BTreeSet::new())?;
     println!(
-        "{name} {seed}: {answers} answers compared, {}",
-        if differs { "some differ" } else { "none differs" }
+        "{name} {seed}: {} answers compared, {}",
+        asked.answers,
+        if asked.differs { "some differ" } else { "none differs" }
     );
-    Ok(u64::from(differs))
+    Ok(u64::from(asked.differs))
 }
 
-/// Asks the questions of a case: how many answers were compared, and whether some differ; the first of those is printed if it is wanted.
-/// The functions that were asked are added to a list.
-fn ask(kind: &Kind, seed: u64, shown: bool, functions: &mut BTreeSet<&str>) -> std::io::Result<(u64, bool)> {
+/// A case that was asked: how many answers were compared, whether some differ, and whether the Rust counts the days that are covered.
+struct Asked {
+    answers: u64,
+    differs: bool,
+    counts_agree: Option<bool>,
+}
+
+/// Asks the questions of a case; the first answer that differs is printed if it is wanted. The functions that were asked are added to a list.
+fn ask(kind: &Kind, seed: u64, shown: bool, functions: &mut BTreeSet<&str>) -> std::io::Result<Asked> {
     let questions = (kind.questions)(seed);
     let mut differs = false;
     for question in &questions {
@@ -310,5 +329,9 @@ fn ask(kind: &Kind, seed: u64, shown: bool, functions: &mut BTreeSet<&str>) -> s
             }
         }
     }
-    Ok((questions.len() as u64, differs))
+    Ok(Asked {
+        answers: questions.len() as u64,
+        differs,
+        counts_agree: units::counts_agree(&questions),
+    })
 }

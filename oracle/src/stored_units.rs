@@ -1,8 +1,10 @@
 //! Records of units: rotations, units, domains, days and run lengths, as the Rust has them; every third over slots around the ends of
-//! leap years and of centuries; every second one damaged, some twice, and what is due of those is the paper's number.
+//! leap years and of centuries; every second one damaged, some twice, and what is due of those is the paper's number. Records in which the
+//! Rust counts fewer days than are covered stand apart: the figures that follow from the days are the generator's own there.
 
 use chrono::NaiveDate;
 
+use crate::covered::examples;
 use crate::days::minute_of;
 use crate::lent_units::{lent, DueUnits, LentUnits};
 use crate::problems::{problem_case, ProblemCase};
@@ -18,21 +20,26 @@ const LIST: usize = 8;
 /// What a lent list of people holds before the call.
 const FILL8: u8 = 171;
 
-/// A refusal n, among minutes, is this plus n.
-const REFUSED_MINUTES: u64 = 1_000_000_000_000_000_000;
+/// A refusal n, among days and minutes, is this plus n.
+const REFUSED_FIGURE: u64 = 1_000_000_000_000_000_000;
 
 /// Answers that a record holds.
 const ANSWERS: u64 = 18;
 
-/// Records. A record is, low byte first: people, slots, units, a person, a slot and a unit as u64; fairness, lock and boundary as bytes and
+/// Two sections of records, where the Rust counts the days that are covered and where it counts fewer, each after its number of records as u16; the
+/// examples of covered days come first in theirs. A record is, low byte first: people, slots, units, a person, a slot and a unit as u64; fairness, lock and boundary as bytes and
 /// a byte of 0; value and days as u16; u16 of how long each lent column is: starts, ends, unit starts, words of availability, words of
 /// frozen flags, the columns for starts, the lists of people, the column for masks; the columns themselves, of 16, 16 and 16; first words
 /// of four rows, and of the flags; then the answers: rotations, unit starts, units, a unit's first slot and the one past its last, the
-/// slot's unit, whether the unit is frozen, people of the slot's and of the unit's domain, 0 for the domains of all units, and covered days
-/// as u16; minutes a day, target and achievable run as u64; the two columns of starts of 16, the two lists of 8 people and the column of 16
+/// slot's unit, whether the unit is frozen, people of the slot's and of the unit's domain, and 0 for the domains of all units as u16; covered
+/// days, minutes a day, target and achievable run as u64; the two columns of starts of 16, the two lists of 8 people and the column of 16
 /// masks as u32 that come out.
 pub fn units(n: u64, run: u64) -> Stored {
-    let mut bytes = Vec::new();
+    let mut sections = Sections::default();
+    for case in examples() {
+        let (asked, due) = lent(&mut Seed::new(run), &case, case.rust());
+        sections.add(&asked, &due);
+    }
     records(n, run, "stored-units", |seed, made| {
         let case = if made % 3 == 0 {
             around_a_years_end(seed)
@@ -52,10 +59,42 @@ pub fn units(n: u64, run: u64) -> Stored {
                 asked.damage(seed);
             }
         }
-        record(&mut bytes, &asked, &due);
+        sections.add(&asked, &due);
         true
     });
-    Stored::new(bytes, ANSWERS * n)
+    sections.stored()
+}
+
+/// The records of each section, and how many.
+#[derive(Default)]
+struct Sections {
+    agreeing: (Vec<u8>, u64),
+    others: (Vec<u8>, u64),
+}
+
+impl Sections {
+    /// One record more. Where the Rust counts as many days as the generator, it must have the same figures.
+    fn add(&mut self, asked: &LentUnits, due: &DueUnits) {
+        if let Some(rust) = &due.rust {
+            assert_eq!(&due.own, rust);
+        }
+        let (bytes, count) = if due.rust.is_some() { &mut self.agreeing } else { &mut self.others };
+        record(bytes, asked, due);
+        *count += 1;
+    }
+
+    fn stored(self) -> Stored {
+        let mut bytes = Vec::new();
+        for (records, count) in [&self.agreeing, &self.others] {
+            half(&mut bytes, *count as usize);
+            bytes.extend(records);
+        }
+        let lines = vec![
+            (ANSWERS * self.agreeing.1, ""),
+            (ANSWERS * self.others.1, " where the Rust counts fewer days"),
+        ];
+        Stored { bytes, lines }
+    }
 }
 
 /// Dates near which weekdays are easily got wrong: ends of February in years that are leap years, or not although four divides them, and
@@ -90,12 +129,12 @@ fn around_a_years_end(seed: &mut Seed) -> ProblemCase {
     case
 }
 
-/// Minutes, or a refusal.
-fn minutes_answer(number: u64, minutes: i64) -> u64 {
+/// Days or minutes, or a refusal.
+fn figure_answer(number: u64, figure: u64) -> u64 {
     if number == 0 {
-        minutes as u64
+        figure
     } else {
-        REFUSED_MINUTES + number
+        REFUSED_FIGURE + number
     }
 }
 
@@ -112,13 +151,13 @@ fn record(bytes: &mut Vec<u8>, asked: &LentUnits, due: &DueUnits) {
     half(bytes, answer(asked.slot_domain_no(), due.slot_domain.len()));
     half(bytes, answer(asked.unit_domain_no(), due.unit_domain.len()));
     half(bytes, answer(asked.unit_domains_no(), 0));
-    half(bytes, answer(asked.days_no(), due.days));
     words(
         bytes,
         &[
-            minutes_answer(asked.days_no(), due.per_day),
-            minutes_answer(asked.target_no(), due.target),
-            minutes_answer(asked.achievable_no(), due.achievable),
+            figure_answer(asked.days_no(), due.own.days),
+            figure_answer(asked.days_no(), due.own.per_day),
+            figure_answer(asked.target_no(), due.own.target),
+            figure_answer(asked.achievable_no(), due.own.achievable[due.person]),
         ],
     );
     for starts in [&due.rotations, &due.units] {
@@ -175,6 +214,8 @@ fn lent_bytes(bytes: &mut Vec<u8>, asked: &LentUnits) {
 mod tests {
     #[test]
     fn records_have_one_size() {
-        assert_eq!(super::units(9, 1).bytes.len(), 9 * 462);
+        let stored = super::units(9, 1);
+        let records = stored.lines.iter().map(|line| line.0 / super::ANSWERS).sum::<u64>();
+        assert_eq!((records, stored.bytes.len()), (15, 2 * 2 + 15 * 468));
     }
 }

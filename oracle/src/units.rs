@@ -4,62 +4,77 @@ use on_call::model::problem::Problem;
 
 use crate::bits::put_bit;
 use crate::call::{bytes16, bytes32, bytes64, Arg, Outcome, Question};
+use crate::covered::{around_midnight, figures};
 use crate::days::instant;
 use crate::lent_units::{lent, DueUnits, LentUnits};
 use crate::limits::{NOTHING, SET_WORDS};
-use crate::problems::{availability_into, problem_within, slots_of, unit_masks_of, unit_starts_of};
+use crate::problems::{availability_into, problem_within, slots_of, unit_masks_of, unit_starts_of, ProblemCase};
 use crate::rotations::settings_args;
 use crate::seed::Seed;
 use crate::table::Slots;
 
-/// A call that writes minutes through an address.
-fn minutes(function: &'static str, args: Vec<Arg>, was: u64, due: i64) -> Question {
-    Question::beside(function, args, &[was], 0, Some(vec![due as u64]))
+/// A call that writes a number through an address, or refuses and writes nothing.
+fn beside(function: &'static str, args: Vec<Arg>, was: u64, number: u64, due: u64) -> Question {
+    Question::beside(function, args, &[was], number, (number == 0).then(|| vec![due]))
 }
 
 /// Covered days, minutes a day, target and achievable runs, each unit's domain, and freezing at an instant.
 pub fn questions(case_seed: u64) -> Vec<Question> {
     let mut seed = Seed::new(case_seed);
-    let Some((mut case, problem)) = problem_within(&mut seed) else {
+    let Some((case, problem)) = problem_within(&mut seed) else {
         return vec![];
     };
-    let people = problem.human_count();
-    let slots = Slots::of(&problem);
-    let lent_slots = slots.args();
-    let mut avail: Vec<u64> = (0..SET_WORDS * people).map(|_| seed.word()).collect();
+    let mut avail: Vec<u64> = (0..SET_WORDS * problem.human_count()).map(|_| seed.word()).collect();
     availability_into(&problem, &mut avail);
+    let lent_slots = Slots::of(&problem).args();
 
-    let mut asked = Vec::new();
-    let mut settings = settings_args(case.settings);
-    settings.extend(lent_slots.clone());
-    asked.push(minutes("boltraven_target_run", settings, seed.word(), problem.target_run_minutes));
-    for person in [0, people - 1] {
-        let mut args = settings_args(case.settings);
-        args.extend([
-            Arg::Lent(8, bytes64(&avail)),
-            Arg::Number(people as u64),
-            Arg::Number(person as u64),
-        ]);
-        args.extend(lent_slots.clone());
-        asked.push(minutes(
-            "boltraven_achievable_run",
-            args,
-            seed.word(),
-            problem.achievable_run_minutes[person],
-        ));
-    }
+    let mut asked = figures_asked(&mut seed, &case, &problem, &avail);
     asked.extend(domains(&mut seed, &problem, &avail));
     asked.push(all_domains(&mut seed, &problem, &avail));
     asked.extend(freezing(&mut seed, problem, &lent_slots));
-
-    // With a shift of one day the target run is the minutes a day; the days themselves are the Rust's private count, seen through it.
-    case.settings.days = 1;
-    let per_day = case.rust().target_run_minutes;
-    asked.push(minutes("boltraven_minutes_per_day", lent_slots.clone(), seed.word(), per_day));
-    let mut dates: Vec<u32> = slots.starts.iter().map(|start| start / 1440).collect();
-    dates.dedup();
-    asked.push(Question::number("boltraven_covered_days", lent_slots, dates.len() as u64));
     asked
+}
+
+/// Covered days, and what follows from them, over slots around midnight.
+pub fn covered(case_seed: u64) -> Vec<Question> {
+    let mut seed = Seed::new(case_seed);
+    let case = around_midnight(&mut seed);
+    let problem = case.rust();
+    let mut avail: Vec<u64> = (0..SET_WORDS * problem.human_count()).map(|_| seed.word()).collect();
+    availability_into(&problem, &mut avail);
+    figures_asked(&mut seed, &case, &problem, &avail)
+}
+
+/// Covered days, minutes a day, the target run, and two people's achievable runs: by the generator's own count, and again by the Rust's
+/// where it counts as many days.
+fn figures_asked(seed: &mut Seed, case: &ProblemCase, problem: &Problem, avail: &[u64]) -> Vec<Question> {
+    let people = problem.human_count();
+    let slots = Slots::of(problem);
+    let (own, rust) = figures(case, problem);
+    let mut asked = Vec::new();
+    for due in std::iter::once(own).chain(rust) {
+        asked.push(beside(COVERED_DAYS, slots.args(), seed.word(), 0, due.days));
+        asked.push(beside("boltraven_minutes_per_day", slots.args(), seed.word(), 0, due.per_day));
+        let target_args = [settings_args(case.settings), slots.args()].concat();
+        asked.push(beside("boltraven_target_run", target_args, seed.word(), 0, due.target));
+        for person in [0, people - 1] {
+            let whose = vec![Arg::Lent(8, bytes64(avail)), Arg::Number(people as u64), Arg::Number(person as u64)];
+            let args = [settings_args(case.settings), whose, slots.args()].concat();
+            asked.push(beside("boltraven_achievable_run", args, seed.word(), 0, due.achievable[person]));
+        }
+    }
+    asked
+}
+
+/// The function that is asked once where the Rust counts other days, and twice where it counts the same.
+const COVERED_DAYS: &str = "boltraven_covered_days";
+
+/// Whether the Rust counts as many days as are covered, in a case that asks for them.
+pub fn counts_agree(questions: &[Question]) -> Option<bool> {
+    match questions.iter().filter(|question| question.function == COVERED_DAYS).count() {
+        0 => None,
+        times => Some(times > 1),
+    }
 }
 
 /// The domains of some units, as the ascending list of people.
@@ -198,7 +213,7 @@ pub fn damaged(case_seed: u64) -> Vec<Question> {
     }
     let mut questions = asked.starts_asked(&mut seed, &due);
     questions.extend(asked.units_asked(&mut seed, &due));
-    questions.extend(asked.minutes_asked(&mut seed, &due));
+    questions.extend(asked.figures_asked(&mut seed, &due));
     questions.push(asked.domains_asked(&mut seed, &due));
     questions
 }
@@ -230,7 +245,7 @@ impl LentUnits {
         asked.map(question).into()
     }
 
-    /// A unit's domain, whether it is frozen, and covered days.
+    /// A unit's domain, and whether it is frozen.
     fn units_asked(&self, seed: &mut Seed, due: &DueUnits) -> Vec<Question> {
         let before: Vec<u8> = (0..self.list_room).map(|_| seed.word() as u8).collect();
         let mut domain_args = vec![Arg::Lent(8, bytes64(&self.avail)), Arg::Number(self.people as u64)];
@@ -253,7 +268,6 @@ impl LentUnits {
                 frozen_args,
                 heard(self.frozen_no(), u64::from(due.is_frozen)),
             ),
-            Question::number("boltraven_covered_days", self.slots.args(), heard(self.days_no(), due.days as u64)),
         ]
     }
 
@@ -265,27 +279,31 @@ impl LentUnits {
         masks(args, before, self.unit_domains_no(), &due.unit_masks)
     }
 
-    /// Minutes a day, target and achievable run.
-    fn minutes_asked(&self, seed: &mut Seed, due: &DueUnits) -> Vec<Question> {
-        let mut target_args = settings_args(self.settings);
-        target_args.extend(self.slots.args());
-        let mut run_args = settings_args(self.settings);
-        run_args.extend([
+    /// Covered days, minutes a day, target and achievable run: by the generator's own count, and by the Rust's where it is the same.
+    fn figures_asked(&self, seed: &mut Seed, due: &DueUnits) -> Vec<Question> {
+        let target_args = [settings_args(self.settings), self.slots.args()].concat();
+        let whose = vec![
             Arg::Lent(8, bytes64(&self.avail)),
             Arg::Number(self.people as u64),
             Arg::Number(self.person as u64),
-        ]);
-        run_args.extend(self.slots.args());
-        let asked = [
-            ("boltraven_minutes_per_day", self.slots.args(), self.days_no(), due.per_day),
-            ("boltraven_target_run", target_args, self.target_no(), due.target),
-            ("boltraven_achievable_run", run_args, self.achievable_no(), due.achievable),
         ];
-        let question = |(function, args, number, right)| {
-            let due = (number == 0).then(|| vec![right as u64]);
-            Question::beside(function, args, &[seed.word()], number, due)
-        };
-        asked.map(question).into()
+        let run_args = [settings_args(self.settings), whose, self.slots.args()].concat();
+        let mut asked = Vec::new();
+        for by in std::iter::once(&due.own).chain(&due.rust) {
+            let questions = [
+                (COVERED_DAYS, self.slots.args(), self.days_no(), by.days),
+                ("boltraven_minutes_per_day", self.slots.args(), self.days_no(), by.per_day),
+                ("boltraven_target_run", target_args.clone(), self.target_no(), by.target),
+                (
+                    "boltraven_achievable_run",
+                    run_args.clone(),
+                    self.achievable_no(),
+                    by.achievable[due.person],
+                ),
+            ];
+            asked.extend(questions.map(|(function, args, number, right)| beside(function, args, seed.word(), number, right)));
+        }
+        asked
     }
 }
 

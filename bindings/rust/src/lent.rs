@@ -88,8 +88,9 @@
 //! assert_eq!(masks, [0b11, 0b01]);
 //! assert!(lent::unit_frozen(&frozen, 2, units, &firsts, 0)?);
 //!
-//! assert_eq!(lent::covered_days(2, &starts, &ends)?, 2);
 //! let mut out = 0;
+//! lent::covered_days(2, &starts, &ends, &mut out)?;
+//! assert_eq!(out, 2);
 //! lent::minutes_per_day(2, &starts, &ends, &mut out)?;
 //! assert_eq!(out, 60);
 //! lent::target_run(0, 1, 1, 1, 7, 2, &starts, &ends, &mut out)?;
@@ -370,8 +371,8 @@ exports! {
 
     // ---- days, and how long runs are to be
 
-    /// The distinct start dates of the slots. Refusals: 1, 2, 9.
-    pub fn covered_days(slots: usize, starts: &[u32], ends: &[u32]) -> Result<usize, Refusal> = number(u64);
+    /// The distinct dates on which a minute of a slot falls. Refusals: 1, 2, 9.
+    pub fn covered_days(slots: usize, starts: &[u32], ends: &[u32], out: &mut u64) -> Result<(), Refusal> = done(u8);
 
     /// The minutes of all slots. Refusals: 1, 2, 9.
     pub fn demand(slots: usize, starts: &[u32], ends: &[u32], out: &mut u64) -> Result<(), Refusal> = done(u8);

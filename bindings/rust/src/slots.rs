@@ -105,7 +105,7 @@ impl Slots {
     /// These slots as they are. Refusals 1, 9.
     pub fn new(slots: &[Slot]) -> Result<Self, Refusal> {
         let (starts, ends) = columns(slots);
-        lent::covered_days(starts.len(), &starts, &ends)?;
+        lent::covered_days(starts.len(), &starts, &ends, &mut 0)?;
         Ok(Self { starts, ends })
     }
 
@@ -175,9 +175,17 @@ impl Slots {
         written(|out| lent::slot_minutes(self.len(), &self.starts, &self.ends, slot, out))
     }
 
-    /// The distinct dates on which slots start.
+    /// The distinct dates on which a minute of a slot falls. A slot that ends at midnight doesn't cover the next day.
+    ///
+    /// ```
+    /// use boltraven::{Slot, Slots};
+    ///
+    /// let month = Slots::new(&[Slot { start: 0, end: 30 * 1440 }])?;
+    /// assert_eq!((month.covered_days(), month.minutes_per_day()), (30, 1440));
+    /// # Ok::<(), boltraven::Refusal>(())
+    /// ```
     pub fn covered_days(&self) -> usize {
-        checked(lent::covered_days(self.len(), &self.starts, &self.ends))
+        checked(written(|out| lent::covered_days(self.len(), &self.starts, &self.ends, out))) as usize
     }
 
     /// The demand divided by the covered days, at least 1.

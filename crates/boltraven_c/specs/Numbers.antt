@@ -36,7 +36,12 @@ abbrev pub plainNumber : Number → ℕ
 plainNumber (number.Is k) = k
 plainNumber (number.Refused n) = 65536 + n
 
--- minutes may be larger: they are written beside the number of the refusal (`minutesNo`); refused, what was lent for them stays
+-- covered days may be larger: they are written beside the number of the refusal (`numberNo`); refused, what was lent for them stays
+abbrev pub numberIs : ℕ → Number → ℕ
+numberIs was (number.Is k) = k
+numberIs was (number.Refused n) = was
+
+-- minutes may be larger too, and are written in the same way, beside `minutesNo`
 abbrev pub minutesAre : ℕ → Minutes → ℕ
 minutesAre was (minutes.Are m) = m
 minutesAre was (minutes.Refused n) = was

@@ -1,5 +1,5 @@
-// The library's answers as numbers: below 65,536 what was asked, 65,536 nothing, 65,536 + n refused by n. Minutes may be larger: they are
-// written through an address, beside the number of the refusal, or 0.
+// The library's answers as numbers: below 65,536 what was asked, 65,536 nothing, 65,536 + n refused by n. Minutes and covered days may be
+// larger: they are written through an address, beside the number of the refusal, or 0.
 use crate::NOTHING;
 use crate::refused;
 use slots::Minutes;
@@ -7,8 +7,9 @@ use slotset::Found;
 use slotset::Number;
 use slotset::Told;
 ghost use mathlib.Core.Path.{_≡_};
+ghost use Rattle.slotset.specs.Answers.{numberNo};
 ghost use Rattle.slots.specs.Lent.{minutesNo};
-ghost use Rattle.boltraven_c.specs.Numbers.{foundNumber, toldNumber, plainNumber, minutesAre};
+ghost use Rattle.boltraven_c.specs.Numbers.{foundNumber, toldNumber, plainNumber, numberIs, minutesAre};
 
 // A slot, or nothing.
 pub(crate) fn found_number(found: Found) -> u64
@@ -39,6 +40,20 @@ pub(crate) fn plain_number(number: Number) -> u64
     match number {
         Number::Is(k) => k as u64,
         Number::Refused(n) => refused(n),
+    }
+}
+
+// A count that may be larger, written where it was asked for; refused, what was lent for it stays.
+pub(crate) fn put_number(number: Number, out: &mut u64) -> u8
+    ensures { λ r. ⌜ r ≡ numberNo number ⌝ }
+    ensures { λ _. ⌜ now (out .exit) ≡ numberIs (now (out .entry)) number ⌝ }
+{
+    match number {
+        Number::Is(k) => {
+            *out = k as u64;
+            0
+        }
+        Number::Refused(n) => n,
     }
 }
 

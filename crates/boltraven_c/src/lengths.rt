@@ -1,20 +1,29 @@
-// Days, and how long runs are to be. Minutes are written through an address, beside the number of the refusal, or 0.
-use crate::answers::plain_number;
+// Days, and how long runs are to be. They are written through an address, beside the number of the refusal, or 0.
 use crate::answers::put_minutes;
+use crate::answers::put_number;
 use units::Settings;
 ghost use mathlib.Core.Path.{_≡_};
+ghost use Rattle.slotset.specs.Answers.{numberNo};
 ghost use Rattle.slots.specs.Lent.{minutesNo};
 ghost use Rattle.units.specs.Days.{coveredDaysIs, minutesPerDayIs, targetRunIs};
 ghost use Rattle.units.specs.Achievable.{achievableRunIs};
-ghost use Rattle.boltraven_c.specs.Numbers.{plainNumber, minutesAre};
+ghost use Rattle.boltraven_c.specs.Numbers.{numberIs, minutesAre};
 ghost use Rattle.boltraven_c.specs.Units.{settingsOf};
 
-// The distinct start dates of the slots.
+// The distinct dates on which a minute of a slot falls: up to 69,445.
 #[no_mangle]
-pub extern "C" fn boltraven_covered_days(slots: usize, starts: &[u32], ends: &[u32]) -> u64
-    ensures { λ r. ⌜ r ≡ plainNumber (coveredDaysIs slots (now (starts .entry)) (now (ends .entry))) ⌝ }
+pub extern "C" fn boltraven_covered_days(
+    slots: usize,
+    starts: &[u32],
+    ends: &[u32],
+    out: &mut u64,
+) -> u8
+    ensures { λ r. ⌜ r ≡ numberNo (coveredDaysIs slots (now (starts .entry)) (now (ends .entry))) ⌝ }
+    ensures { λ _. ⌜ now (out .exit)
+        ≡ numberIs (now (out .entry)) (coveredDaysIs slots (now (starts .entry)) (now (ends .entry))) ⌝ }
 {
-    plain_number(units::covered_days(slots, starts, ends))
+    let days = units::covered_days(slots, starts, ends);
+    put_number(days, out)
 }
 
 // Minutes a day.

@@ -1,10 +1,10 @@
 // Replays stored answers of the Rust on units: reads records from standard input, asks the library the same, refusals included, and tells
-// how many answers it compared and how many differ. `oracle/store` writes the records (oracle/src/stored_units.rs has their layout).
+// how many answers it compared and how many differ. Where the Rust counts fewer days than are covered, the figures that follow from the days
+// are the generator's own. `oracle/store` writes the records (oracle/src/stored_units.rs has their layout).
 use slots::Minutes;
 use slotset::Number;
 use slotset::Told;
 use stored::Tally;
-use stored::Turn;
 use stored::at_most;
 use stored::front_quads;
 use stored::front_shorts;
@@ -28,7 +28,7 @@ ghost use Prim.Native.Nat.{_≤_};
 
 // A record: counts and what is asked; settings; how long each lent column is; the columns, rows and flags; the answers; the columns and
 // lists that come out.
-const RECORD: usize = 462;
+const RECORD: usize = 468;
 
 const PEOPLE_AT: usize = 0;
 
@@ -79,21 +79,21 @@ const UNIT_DOMAINS_DUE_AT: usize = 290;
 
 const DAYS_DUE_AT: usize = 292;
 
-const PER_DAY_DUE_AT: usize = 294;
+const PER_DAY_DUE_AT: usize = 300;
 
-const TARGET_DUE_AT: usize = 302;
+const TARGET_DUE_AT: usize = 308;
 
-const ACHIEVABLE_DUE_AT: usize = 310;
+const ACHIEVABLE_DUE_AT: usize = 316;
 
-const ROTATION_LIST_AT: usize = 318;
+const ROTATION_LIST_AT: usize = 324;
 
-const UNIT_LIST_AT: usize = 350;
+const UNIT_LIST_AT: usize = 356;
 
-const SLOT_PEOPLE_AT: usize = 382;
+const SLOT_PEOPLE_AT: usize = 388;
 
-const UNIT_PEOPLE_AT: usize = 390;
+const UNIT_PEOPLE_AT: usize = 396;
 
-const UNIT_MASKS_AT: usize = 398;
+const UNIT_MASKS_AT: usize = 404;
 
 // What a lent column of starts, a lent list of people and a lent column of masks hold before a call.
 const FILL: u16 = 43981;
@@ -170,16 +170,16 @@ fn is_masks(got: &[u32; 16], b: &[u8], at: usize) -> bool {
     same_quads(got, &sixteen(b, at))
 }
 
-// A refusal, among counts and among minutes.
+// A refusal, among counts, and among days and minutes.
 fn refused(number: u8) -> usize {
     65000 + number as usize
 }
 
-fn refused_minutes(number: u8) -> u64 {
+fn refused_figure(number: u8) -> u64 {
     1000000000000000000 + number as u64
 }
 
-// An answer as it is stored: a number, yes or no, a refusal's number alone, minutes.
+// An answer as it is stored: a number, yes or no, a refusal's number alone, days, minutes.
 fn counted(answer: Number) -> usize {
     match answer {
         Number::Is(k) => k,
@@ -199,10 +199,17 @@ fn number(n: u8) -> usize {
     if n == 0 { 0 } else { refused(n) }
 }
 
+fn days(answer: Number) -> u64 {
+    match answer {
+        Number::Is(k) => k as u64,
+        Number::Refused(n) => refused_figure(n),
+    }
+}
+
 fn minutes(answer: Minutes) -> u64 {
     match answer {
         Minutes::Are(m) => m,
-        Minutes::Refused(n) => refused_minutes(n),
+        Minutes::Refused(n) => refused_figure(n),
     }
 }
 
@@ -340,7 +347,7 @@ fn day_answers(tally: Tally, b: &[u8]) -> Tally {
     let starts = front_quads(&all_starts, long(b, 0));
     let ends = front_quads(&all_ends, long(b, 1));
     let slots = size(b, SLOTS_AT);
-    let t1 = tally.with(counted(units::covered_days(slots, starts, ends)) == half(b, DAYS_DUE_AT));
+    let t1 = tally.with(days(units::covered_days(slots, starts, ends)) == word(b, DAYS_DUE_AT));
     let t2 = t1.with(
         minutes(units::minutes_per_day(slots, starts, ends)) == word(b, PER_DAY_DUE_AT),
     );
@@ -378,40 +385,46 @@ fn record_answers(tally: Tally, b: &[u8]) -> Tally {
     achievable_answer(t8, b)
 }
 
-// Reads one record and compares its answers.
-fn one_record(tally: Tally) -> Turn {
+// Reads one record and compares its answers. Part of a record is a damaged file, and counts as a difference.
+fn one_record(tally: Tally) -> Tally {
     let mut b = [0u8; RECORD];
     let got = io::read_full(0, &mut b);
     if got == RECORD {
-        return Turn::whole(record_answers(tally, &b));
+        return record_answers(tally, &b);
     }
-    Turn::last(tally, got)
+    tally.with(false)
 }
 
-// Every record of the input. A proved loop has to end, so it counts its turns down from a number that no input uses up.
+// How many records come next.
+fn records() -> usize {
+    let mut b = [0u8; 2];
+    io::read_full(0, &mut b);
+    half(&b, 0)
+}
+
+// Every record of a section.
 fn compare() -> Tally {
     let mut t = Tally::none();
-    let mut turns = u64::MAX;
-    while turns > 0 {
-        let last = one_record(t);
-        t = last.tally;
-        if last.more {
-            turns -= 1;
-        } else {
-            return t;
-        }
+    let mut left = records();
+    while left > 0 {
+        t = one_record(t);
+        left -= 1;
     }
     t
 }
 
-// Writes the line that a comparison ends with.
-fn print(t: Tally) {
+// Writes the line of a section.
+fn print(t: Tally, of: &[u8]) {
     io::print_decimal(1, t.compared);
-    io::write_all(1, b" answers compared, ");
+    io::write_all(1, b" answers");
+    io::write_all(1, of);
+    io::write_all(1, b" compared, ");
     io::print_decimal(1, t.differing);
     io::write_all(1, b" differ\n");
 }
 
+// Where the Rust counts the days that are covered, and where it counts fewer.
 fn main() {
-    print(compare());
+    print(compare(), b"");
+    print(compare(), b" where the Rust counts fewer days");
 }

@@ -2,7 +2,7 @@
 use mathlib.Core.Path.{_≡_}
 use mathlib.Core.Bool.{Bool, true, false, _&&_, _||_, not}
 use mathlib.Core.List.{List}
-use Prim.Native.Nat.{ℕ, zero, suc, _*_, _≤_, _<_}
+use Prim.Native.Nat.{ℕ, zero, suc, _+_, _*_, _≤_, _<_}
 use lib.Dec.{eqb, ltb}
 use lib.ListN.{length}
 use Rattle.paper.specs.Limits.{peopleOk}
@@ -13,6 +13,7 @@ use Rattle.slotset.specs.declared.Told.the-variants.{Yes, No, Refused}
 use Rattle.slotset.specs.Answers.{rowNo}
 use Rattle.slots.specs.Lent.{slotsOk}
 use Rattle.units.specs.Units.{unitStart, unitEnd, unitsOk}
+use Rattle.units.specs.Dates.{dateOf}
 use Rattle.units.specs.Starts.{startDate}
 use Rattle.units.specs.Domains.{able, clear, maskOf}
 
@@ -22,6 +23,10 @@ use Rattle.units.specs.Domains.{able, clear, maskOf}
 unfoldable pub dateBegins : List ℕ → ℕ → Bool
 dateBegins starts zero = true
 dateBegins starts (suc j) = not (eqb (startDate starts (suc j)) (startDate starts j))
+
+-- the first date that begins at a minute or after it
+unfoldable pub nextDate : ℕ → ℕ
+nextDate minute = dateOf (minute + 1439)
 
 -- ---- answers of a set
 

@@ -49,7 +49,7 @@ impl Lent {
     }
 
     pub fn covered_days(&mut self) -> Result<(), Refusal> {
-        lent::covered_days(MANY, &self.starts, &self.ends).map(|_| ())
+        lent::covered_days(MANY, &self.starts, &self.ends, &mut self.out)
     }
 
     pub fn made_from_slots(&mut self) -> Result<(), Refusal> {

@@ -4,10 +4,10 @@ use Rattle.stored_units.proofs.compare.Statement.{statement}
 use Rattle.stored_units.proofs.compare.Tie as tie
 
 abbrev Inv-loop : tie.InvT-loop
-Inv-loop t₀ turns₀ t turns = Unit
+Inv-loop t₀ left₀ t left = Unit
 
 abbrev μ-loop : tie.MeasureT-loop
-μ-loop t₀ turns₀ t turns = turns
+μ-loop t₀ left₀ t left = left
 
 pub compare-spec : {M : Type 1} → statement M
 compare-spec =
@@ -16,9 +16,9 @@ compare-spec =
     Inv-loop
     μ-loop
     (λ c κs. search needs)
-    (λ c. search needs)
     (λ c κs. search needs)
     (λ c. search needs)
+    (λ c κs. search needs)
     (λ c. search needs)
     (λ c. search needs)
     (λ c. search needs)

@@ -1,12 +1,15 @@
 -- `boltraven_c::lengths::boltraven_covered_days` meets its contract. Assumes nothing.
 use borrow.Author.Needs.{needs}
 use mathlib.Core.Path.{ap, _∙_}
-use Rattle.boltraven_c.specs.Numbers.{plainNumber}
+use Rattle.slotset.specs.Answers.{numberNo}
+use Rattle.boltraven_c.specs.Numbers.{numberIs}
 use Rattle.boltraven_c.proofs.lengths.boltraven_covered_days.Statement.{statement}
 use Rattle.boltraven_c.proofs.lengths.boltraven_covered_days.Tie as tie
 
 returns : tie.Need-returns
-returns c = c .plain-number .ensures ∙ ap plainNumber (c .before .covered-days .ensures)
+returns c =
+    let e = c .before .before .covered-days .ensures in
+    (c .put-number .ensures .0 ∙ ap numberNo e, c .put-number .ensures .1 ∙ ap (numberIs _) e)
 
 pub boltraven-covered-days-spec : {M : Type 1} → statement M
 boltraven-covered-days-spec =

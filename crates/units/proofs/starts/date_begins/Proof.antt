@@ -1,6 +1,6 @@
 -- `units::starts::date_begins` meets its contract. Assumes nothing.
 use mathlib.Core.Path.{sym}
-use Rattle.units.proofs.Covered.{date-first, date-later}
+use Rattle.units.proofs.Begins.{date-first, date-later}
 use borrow.Author.Needs.{needs}
 use Rattle.units.proofs.starts.date_begins.Statement.{statement}
 use Rattle.units.proofs.starts.date_begins.Tie as tie
