@@ -13,6 +13,7 @@ pub mod SplitRule
 pub mod Listed
 pub mod UnitRules
 pub mod TargetRules
+pub mod EditionRules
 pub mod PassesRule
 pub mod TargetCases
 pub mod TargetFairness

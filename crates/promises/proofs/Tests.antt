@@ -153,16 +153,17 @@ settings-test : (s : Settings) → (settingsOk s ≡ true) ↔ SettingsRight s
 unfolding settingsOk
 settings-test s = (
   λ e.
-      let x = three (leb (s .fairness) 1) (leb (s .lock) 1) (leb (s .days) 366 && boundaryOk (s .boundary) (s .value)) e in
-      let y = both (leb (s .days) 366) (boundaryOk (s .boundary) (s .value)) (x .2) in
+      let x = four (leb (s .fairness) 1) (leb (s .lock) 1) (leb (s .edition) 1) (leb (s .days) 366 && boundaryOk (s .boundary) (s .value)) e in
+      let y = both (leb (s .days) 366) (boundaryOk (s .boundary) (s .value)) (x .3) in
       record {
         fairness = leb-true _ _ (x .0);
         lock = leb-true _ _ (x .1);
+        edition = leb-true _ _ (x .2);
         boundary = boundary-test (s .boundary) (s .value) .0 (y .1);
         days = leb-true _ _ (y .0);
       },
   λ x. and-true _ _ (le-leb _ _ (x .fairness)) (and-true _ _ (le-leb _ _ (x .lock))
-      (and-true _ _ (le-leb _ _ (x .days)) (boundary-test (s .boundary) (s .value) .1 (x .boundary)))),
+      (and-true _ _ (le-leb _ _ (x .edition)) (and-true _ _ (le-leb _ _ (x .days)) (boundary-test (s .boundary) (s .value) .1 (x .boundary))))),
 )
 
 -- ---- 9 of units

@@ -1,5 +1,5 @@
 -- What is promised. Entries: a component, by what its entries answer. Marked: the twelve marked cases. Demand 1: Table, Tests, Refusals,
--- SetRefusals, Outcomes. Demand 2: SetRules, SlotRules, UnitRules, TargetRules, MoveRules, RotaRules. Demand 3: Rota. The job: JobRules.
+-- SetRefusals, Outcomes. Demand 2: SetRules, SlotRules, UnitRules, TargetRules, EditionRules, MoveRules, RotaRules. Demand 3: Rota. The job: JobRules.
 -- Empty: how empty answers are shut out.
 pub mod Entries
 pub mod Marked
@@ -14,6 +14,7 @@ pub mod SlotRules
 pub mod SplitRule
 pub mod UnitRules
 pub mod TargetRules
+pub mod EditionRules
 pub mod PassesRule
 pub mod MoveRules
 pub mod PlayRule

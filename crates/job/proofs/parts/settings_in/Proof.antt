@@ -20,6 +20,7 @@ returns c =
       fairness = getD s 4 0;
       lock = getD s 5 0;
       boundary = getD s 6 0;
+      edition = getD s 7 0;
       value = v;
       days = d;
     })
@@ -32,6 +33,7 @@ settings-in-spec =
     (λ c κs. search needs)
     (λ c. search needs)
     (λ c κs. search needs)
+    (λ c. search needs)
     (λ c. search needs)
     (λ c. search needs)
     (λ c. search needs)
