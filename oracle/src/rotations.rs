@@ -33,6 +33,7 @@ pub fn settings_args(settings: Settings) -> Vec<Arg> {
         Arg::Number(u64::from(settings.fairness)),
         Arg::Number(u64::from(settings.lock)),
         Arg::Number(u64::from(settings.boundary)),
+        Arg::Number(u64::from(settings.edition)),
         Arg::Number(u64::from(settings.value)),
         Arg::Number(u64::from(settings.days)),
     ]
