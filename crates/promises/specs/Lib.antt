@@ -1,6 +1,6 @@
 -- What is promised. Entries: a component, by what its entries answer. Marked: the twelve marked cases. Demand 1: Table, Tests, Refusals,
--- SetRefusals, Outcomes. Demand 2: SetRules, SlotRules, UnitRules, TargetRules, EditionRules, MoveRules, RotaRules. Demand 3: Rota. The job: JobRules.
--- Empty: how empty answers are shut out.
+-- SetRefusals, Outcomes. Demand 2: SetRules, SlotRules, UnitRules, TargetRules, EditionRules, MoveRules, RotaRules. Demand 3: Rota.
+-- The job: JobRules. Empty: how empty answers are shut out.
 pub mod Entries
 pub mod Marked
 pub mod Table

@@ -1,4 +1,5 @@
--- Demand 2, targets: each step, and the outcome, are what the paper's section says; edition 2 of the last step stands in EditionRules. Every step on a Float is IEEE 754's. Assumes nothing.
+-- Demand 2, targets: each step, and the outcome, are what the paper's section says. Every step on a Float is IEEE 754's. Edition 2 of the
+-- last step stands in EditionRules. Assumes nothing.
 use mathlib.Core.Path.{_≡_}
 use mathlib.Core.Bool.{Bool, true, false, cond}
 use mathlib.Core.List.{List, [], _∷_, _++_, map}

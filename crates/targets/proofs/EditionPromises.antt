@@ -131,8 +131,8 @@ handed-levelled : (d : ℕ) (ls : List Line) → some unpinned ls ≡ true → t
 unfolding handedOut
 handed-levelled d ls e h =
     let l = some-level (d - totalOf ls) ls e .1 in
-    let q = ap (λ (b : Bool). cond b (times (d - totalOf ls) giveMinute ls) (times (totalOf ls - d) takeMinute ls)) (le-leb (totalOf ls) d h)
-    ∙ sym (lifts-given (d - totalOf ls) ls l) ∙ l .is in (
+    let q = ap (λ (b : Bool). cond b (times (d - totalOf ls) giveMinute ls) (times (totalOf ls - d) takeMinute ls))
+    (le-leb (totalOf ls) d h) ∙ sym (lifts-given (d - totalOf ls) ls l) ∙ l .is in (
       l .level,
       λ k b p. subst (λ (xs : List Line). Levelled (l .level) (getD ls k pad .target) (getD xs k pad .target)) (sym q)
           (levelled-at (l .level) (d - totalOf ls - liftCost (l .level) ls) ls k b p),

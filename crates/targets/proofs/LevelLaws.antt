@@ -1,5 +1,5 @@
--- The minute-by-minute rule by levels: as many minutes as a level costs lift everybody to it, and what is left over lifts the first of them.
--- Assumes nothing.
+-- The minute-by-minute rule by levels: as many minutes as a level costs lift everybody to it, and what is left over lifts the first of
+-- them. Assumes nothing.
 use mathlib.Core.Path.{_≡_, refl, sym, ap, ap₂, _∙_}
 use mathlib.Core.Bool.{Bool, true, false, not, _&&_, cond, true≢false}
 use mathlib.Core.List.{List, [], _∷_, _++_, append-nil}
@@ -30,7 +30,8 @@ module _ (p : Line → Bool) (f : Line → Line) (l : Line) (ls : List Line) whe
   first-later e = rw e
 
 -- tests that agree on everybody
-pub first-same : (p q : Line → Bool) (f : Line → Line) (ls : List Line) → Each (λ (l : Line). p l ≡ q l) ls → onFirst p f ls ≡ onFirst q f ls
+pub first-same : (p q : Line → Bool) (f : Line → Line) (ls : List Line) → Each (λ (l : Line). p l ≡ q l) ls
+    → onFirst p f ls ≡ onFirst q f ls
 first-same p q f [] h = refl
 first-same p q f (l ∷ ls) h =
     ap₂ (λ (b : Bool) (xs : List Line). cond b (f l ∷ ls) (l ∷ xs)) (h .0) (first-same p q f ls (h .1))
@@ -169,7 +170,8 @@ some-stand L r (l ∷ ls) h = by-test (reached L l) _ (on r h (λ k. some-stand 
     on : (k : ℕ) → k < reachedBy L (l ∷ ls) → ((q : ℕ) → q < reachedBy L ls → some (stands L) (lifted L q ls) ≡ true)
         → reached L l ≡ true → some (stands L) (lifted L k (l ∷ ls)) ≡ true
     on zero g i t =
-        ap (some (stands L)) (lifted-on L 0 l ls t) ∙ or-left (stands L (retargeted L l)) (some (stands L) (lifted L 0 ls)) (stands-on L l t)
+        ap (some (stands L)) (lifted-on L 0 l ls t)
+        ∙ or-left (stands L (retargeted L l)) (some (stands L) (lifted L 0 ls)) (stands-on L l t)
     on (suc k) g i t =
         ap (some (stands L)) (lifted-on L (suc k) l ls t)
         ∙ or-second (stands L (retargeted (suc L) l)) (some (stands L) (lifted L k ls)) (i k (let c = count-on L l ls t in omega arith))
@@ -180,7 +182,8 @@ some-stand L r (l ∷ ls) h = by-test (reached L l) _ (on r h (λ k. some-stand 
         ∙ or-second (stands L l) (some (stands L) (lifted L r ls)) (i (let c = count-off L l ls e in omega arith))
 
 -- who has the smallest target stands on it
-module _ (L : ℕ) (xs : List Line) (low : Each (λ (l : Line). l .pinned ≡ false → L ≤ l .target) xs) (there : some (stands L) xs ≡ true) where
+module _ (L : ℕ) (xs : List Line) (low : Each (λ (l : Line). l .pinned ≡ false → L ≤ l .target) xs)
+    (there : some (stands L) xs ≡ true) where
   none-less : (l : Line) → l .target ≡ L → some (hasLess (l .target)) xs ≡ false
   none-less l e =
       each-none (hasLess (l .target)) xs
@@ -287,7 +290,8 @@ lifts-given m ls h =
     let c = cost-next L ls in
     let e : liftCost L ls + r ≡ m = omega (arith, h .paid) in
     h .is
-    ∙ sym (by-levels giveMinute (λ xs. xs) ls (suc L) (λ k q t. one-minute k q ls) L r (omega arith) (λ z. omega arith) (omega (arith, h .no-higher, h .paid)))
+    ∙ sym (by-levels giveMinute (λ xs. xs) ls (suc L) (λ k q t. one-minute k q ls) L r (omega arith) (λ z. omega arith)
+    (omega (arith, h .no-higher, h .paid)))
     ∙ ap (λ (k : ℕ). times k giveMinute ls) e
 
 -- ---- the loops

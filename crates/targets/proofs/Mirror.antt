@@ -26,8 +26,8 @@ some-map : (p q : Line → Bool) (g : Line → Line) (ls : List Line) → Each (
 some-map p q g [] h = refl
 some-map p q g (l ∷ ls) h = ap₂ (λ (a b : Bool). a || b) (h .0) (some-map p q g ls (h .1))
 
-first-map : (p q : Line → Bool) (f k g : Line → Line) → ((l : Line) → k (g l) ≡ g (f l)) → (ls : List Line) → Each (λ (l : Line). q (g l) ≡ p l) ls
-    → onFirst q k (map g ls) ≡ map g (onFirst p f ls)
+first-map : (p q : Line → Bool) (f k g : Line → Line) → ((l : Line) → k (g l) ≡ g (f l)) → (ls : List Line)
+    → Each (λ (l : Line). q (g l) ≡ p l) ls → onFirst q k (map g ls) ≡ map g (onFirst p f ls)
 first-map p q f k g e [] h = refl
 first-map p q f k g e (l ∷ ls) h =
     by-test (p l) _
@@ -89,7 +89,8 @@ lifted-small L r (l ∷ ls) h t s = (
 
 step-taken : (ls : List Line) → Small ls → (L r : ℕ) → L < highest → r < reachedBy L ls
     → takeMinute (map mirrored (lifted L r ls)) ≡ map mirrored (lifted L (suc r) ls)
-step-taken ls s L r h c = take-mirrored (lifted L r ls) (lifted-small L r ls (omega (arith, h)) (λ z. h) s) ∙ ap (map mirrored) (one-minute L r ls c)
+step-taken ls s L r h c =
+    take-mirrored (lifted L r ls) (lifted-small L r ls (omega (arith, h)) (λ z. h) s) ∙ ap (map mirrored) (one-minute L r ls c)
 
 -- the highest level reaches everybody
 reached-one : (k : ℕ) (l : Line) → SmallTarget l → reached (highest + k) l ≡ reached highest l

@@ -120,6 +120,10 @@ adjusted-padded m d ls h =
 
 -- ---- edition 2's minutes
 
+either : {A : Type 0} (b : Bool) (xs ys zs : List A) → cond b (xs ++ zs) (ys ++ zs) ≡ cond b xs ys ++ zs
+either true xs ys zs = refl
+either false xs ys zs = refl
+
 first-padded : (p q : Line → Bool) (f : Line → Line) → ((l : Line) → q l ≡ p l) → p pad ≡ false → (m : ℕ) (ls : List Line)
     → onFirst q f (ls ++ replicate m pad) ≡ onFirst p f ls ++ replicate m pad
 first-padded p q f e n zero [] = refl
@@ -159,11 +163,7 @@ handed-padded m d ls =
       times-padded giveMinute m (give-padded m) (d - totalOf ls) ls,
       times-padded takeMinute m (take-padded m) (totalOf ls - d) ls,
     )
-    (either (leb (totalOf ls) d) (times (d - totalOf ls) giveMinute ls) (times (totalOf ls - d) takeMinute ls))
-  where
-    either : (b : Bool) (xs ys : List Line) → cond b (xs ++ replicate m pad) (ys ++ replicate m pad) ≡ cond b xs ys ++ replicate m pad
-    either true xs ys = refl
-    either false xs ys = refl
+    (either (leb (totalOf ls) d) (times (d - totalOf ls) giveMinute ls) (times (totalOf ls - d) takeMinute ls) (replicate m pad))
 
 taking-padded : (m : ℕ) (ls : List Line) → takingFirst (length ls) (ls ++ replicate m pad) ≡ takingPart ls ++ replicate m pad
 unfolding takingPart
@@ -174,11 +174,7 @@ taking-padded m ls =
       take-at (map unpin ls) (replicate m (unpin pad)) (length ls) (length-map ls unpin),
       drop-at ls (replicate m pad) (length ls) refl,
     )
-    (either (some unpinned ls) ls (map unpin ls))
-  where
-    either : (b : Bool) (xs ys : List Line) → cond b (xs ++ replicate m pad) (ys ++ replicate m pad) ≡ cond b xs ys ++ replicate m pad
-    either true xs ys = refl
-    either false xs ys = refl
+    (either (some unpinned ls) ls (map unpin ls) (replicate m pad))
 
 shared-padded : (e n m d : ℕ) (ls : List Line) → length ls ≡ n → 0 < length ls
     → sharedFirst e n d (ls ++ replicate m pad) ≡ sharedOut e d ls ++ replicate m (pos 0)
@@ -191,11 +187,7 @@ shared-padded e n m d ls N h =
       map-padded targetOf m (pos 0) refl (handedOut d (takingPart ls)),
       adjusted-padded m d ls h,
     )
-    (either (eqb e 1) (map targetOf (handedOut d (takingPart ls))) (adjusted d ls))
-  where
-    either : (b : Bool) (xs ys : List ℤ) → cond b (xs ++ replicate m (pos 0)) (ys ++ replicate m (pos 0)) ≡ cond b xs ys ++ replicate m (pos 0)
-    either true xs ys = refl
-    either false xs ys = refl
+    (either (eqb e 1) (map targetOf (handedOut d (takingPart ls))) (adjusted d ls) (replicate m (pos 0)))
 
 -- ---- the passes keep the people
 

@@ -22,7 +22,8 @@ use Rattle.targets.specs.Inside.{Each, SmallTarget, Small, PinnedZero, h
 use Rattle.targets.specs.Inside.{sharedFirst}
 use Rattle.targets.proofs.Each.{each-then}
 use Rattle.targets.proofs.Sums.{addedUp, total-is, as-signed, adds-up}
-use Rattle.targets.proofs.LevelLaws.{reached-says, reachedBy, lifted-on, lifted-off, count-on, count-off, cost-next, cost-none, lifts-given}
+use Rattle.targets.proofs.LevelLaws.{reached-says, reachedBy, lifted-on, lifted-off, count-on, count-off, cost-next, cost-none}
+use Rattle.targets.proofs.LevelLaws.{lifts-given}
 use Rattle.targets.proofs.Mirror.{lifts-taken, lifts-small}
 
 -- ---- there is a level
@@ -125,7 +126,8 @@ lifts-length m ls h = ap length (h .is) ∙ lifted-length (h .level) (m - liftCo
 
 -- ---- handing out, by levels
 
-module _ (ls : List Line) (s : Small ls) (z : PinnedZero ls) (m : ℕ) (h : m ≤ addedUp ls) {out : List Line} (l : Lifts m (map mirrored ls) out) where
+module _ (ls : List Line) (s : Small ls) (z : PinnedZero ls) (m : ℕ) (h : m ≤ addedUp ls) {out : List Line}
+    (l : Lifts m (map mirrored ls) out) where
   most : m ≤ liftCost highest (map mirrored ls)
   most = omega (arith, h, mirrored-cost ls s z)
 
@@ -167,7 +169,8 @@ handed-total d ls e s z =
 -- ---- the smallest target, from which the level is looked for
 
 module _ (a : ℕ) (l : Line) where
-  by-lower : (X : ℕ → Type 0) → (l .pinned ≡ false → l .target < a → X (l .target)) → ((l .pinned ≡ false → a ≤ l .target) → X a) → X (lower a l)
+  by-lower : (X : ℕ → Type 0) → (l .pinned ≡ false → l .target < a → X (l .target))
+      → ((l .pinned ≡ false → a ≤ l .target) → X a) → X (lower a l)
   by-lower X less stays =
       by-cond (unpinned l && ltb (l .target) a) (l .target) a X
       (λ t.
@@ -227,7 +230,8 @@ smallest-free ls = lowest-free highest ls
 
 pub unpinned-first : (n : ℕ) (ls : List Line) → 0 < n → n ≤ length ls → some unpinned (takingFirst n ls) ≡ true
 unpinned-first n ls h k =
-    by-cond (some unpinned ls) ls (take n (map unpin ls) ++ drop n ls) (λ (xs : List Line). some unpinned xs ≡ true) (λ t. t) (λ f. go n ls h k)
+    by-cond (some unpinned ls) ls (take n (map unpin ls) ++ drop n ls) (λ (xs : List Line). some unpinned xs ≡ true) (λ t. t)
+    (λ f. go n ls h k)
   where
     go : (n : ℕ) (ls : List Line) → 0 < n → n ≤ length ls → some unpinned (take n (map unpin ls) ++ drop n ls) ≡ true
     go zero ls h k = absurd (omega arith)
@@ -286,7 +290,8 @@ module _ (d : ℕ) (ls : List Line) (some-people : 0 < length ls) (s : Small ls)
   pub shared-adds-up : (e : ℕ) → sumℤ (sharedOut e d ls) ≡ pos d
   unfolding sharedOut
   shared-adds-up e =
-      by-cond (eqb e 1) (spread d ls) (adjusted d ls) (λ (zs : List ℤ). sumℤ zs ≡ pos d) (λ t. spread-adds-up) (λ f. adds-up d ls some-people)
+      by-cond (eqb e 1) (spread d ls) (adjusted d ls) (λ (zs : List ℤ). sumℤ zs ≡ pos d) (λ t. spread-adds-up)
+      (λ f. adds-up d ls some-people)
 
   pub part-most : Each (λ (l : Line). l .target ≤ d) (handedOut d (takingPart ls))
   part-most = handed-most d (takingPart ls) part-unpinned part-small part-zero
@@ -345,9 +350,11 @@ module _ (n : ℕ) (ls : List Line) (h : 0 < n) (k : n ≤ length ls) (s : Small
   after-small d l a =
       let r = part-ready in
       subst Small (sym a)
-      (each-then (λ (x : Line). x .target ≤ d) SmallTarget (λ x q. omega (arith, q, l)) (handedOut d part) (handed-most d part (r .2) (r .0) (r .1)))
+      (each-then (λ (x : Line). x .target ≤ d) SmallTarget (λ x q. omega (arith, q, l)) (handedOut d part)
+      (handed-most d part (r .2) (r .0) (r .1)))
 
-pub shared-second : (e n d : ℕ) (ls : List Line) → e ≡ 1 → {zs : List ℤ} → zs ≡ map targetOf (handedOut d (takingFirst n ls)) → zs ≡ sharedFirst e n d ls
+pub shared-second : (e n d : ℕ) (ls : List Line) → e ≡ 1 → {zs : List ℤ} → zs ≡ map targetOf (handedOut d (takingFirst n ls))
+    → zs ≡ sharedFirst e n d ls
 shared-second e n d ls q h = rw (eq-eqb e 1 q) h
 
 pub shared-first : (e n d : ℕ) (ls : List Line) → (e ≡ 1 → ⊥) → {zs : List ℤ} → zs ≡ adjusted d ls → zs ≡ sharedFirst e n d ls
