@@ -245,14 +245,16 @@ pub fn second_edition(rule: Spread, case: &FigureCase, rust: &[i64]) -> Vec<i64>
         let level = part.iter().all(|&person| targets[person] == targets[part[0]]);
         let rounds = rest / part.len() as i64;
         if rule == Spread::AllToOne {
-            targets[next(&part, &targets, rest)] += rest;
+            let person = next(&part, &targets, rest);
+            targets[person] += rest;
             rest = 0;
         } else if level && rounds > 0 {
             // everybody stands level: whole rounds at once
             part.iter().for_each(|&person| targets[person] += rounds);
             rest -= rounds * part.len() as i64;
         } else {
-            targets[next(&part, &targets, rest)] += rest.signum();
+            let person = next(&part, &targets, rest);
+            targets[person] += rest.signum();
             rest -= rest.signum();
         }
     }
@@ -301,7 +303,6 @@ mod tests {
     use super::{compare_rules, second_edition, FigureCase, Spread, WRONG_SPREADS};
     use crate::problems::Person;
     use crate::seed::Seed;
-use on_call::model::problem::Problem;
 
     fn equal(capacities: &[f64], priors: &[u32], demand: u32) -> FigureCase {
         let people = capacities.iter().zip(priors);

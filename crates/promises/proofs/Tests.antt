@@ -11,7 +11,7 @@ use lib.Ieee.{Float, nan, le}
 use lib.ListN.{length, getD}
 use Rattle.paper.specs.Limits.{peopleOk, slotCountOk, nobody}
 use Rattle.paper.specs.Count.{all}
-use Rattle.paper.proofs.Logic.{by-test, both, three, and-true, or-left, or-right, or-second}
+use Rattle.paper.proofs.Logic.{by-test, both, three, four, and-true, or-left, or-right, or-second}
 use Rattle.paper.proofs.Count.{all-each, each-all}
 use Rattle.slotset.specs.Answers.{rowSlots}
 use Rattle.slots.specs.Lent.{slotOk, prevEnd, slotOkAt, slotRoomOk, slotsOk}
