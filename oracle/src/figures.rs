@@ -217,12 +217,7 @@ pub enum Spread {
 }
 
 /// The wrong rules of edition 2.
-pub const WRONG_SPREADS: [Spread; 4] = [
-    Spread::AllToOne,
-    Spread::FromTheLast,
-    Spread::FirstIfNotNegative,
-    Spread::PinnedToo,
-];
+pub const WRONG_SPREADS: [Spread; 4] = [Spread::AllToOne, Spread::FromTheLast, Spread::FirstIfNotNegative, Spread::PinnedToo];
 
 /// Edition 2's targets by a rule. The rounded targets are those from which edition 1's remainder makes the Rust's targets.
 pub fn second_edition(rule: Spread, case: &FigureCase, rust: &[i64]) -> Vec<i64> {

@@ -351,7 +351,8 @@ pub fn settings(seed: &mut Seed) -> Settings {
         boundary,
         value: value as u16,
         days: seed.pick(&[0, 1, 1, 2, 3, 7, 14, 366]),
-        edition: seed.below(2) as u8,
+        // a bit of a copy: what comes after the settings is the same in both editions
+        edition: (seed.clone().word() >> 17 & 1) as u8,
     }
 }
 

@@ -1,8 +1,8 @@
 //! Stored answers: records of the Rust's answers, which the `stored_*` programs of the library compare with no Rust at hand.
 
 use crate::figures::{second_edition, targets_by, FigureCase, Spread, WRONG, WRONG_SPREADS};
-use crate::problems::Person;
 use crate::limits::SLOTS_MOST;
+use crate::problems::Person;
 use crate::seed::Seed;
 use crate::sets::{index, next_run, next_unset_after, prev_unset_before, SetCase};
 
@@ -276,7 +276,7 @@ mod tests {
     #[test]
     fn records_have_one_size() {
         assert_eq!(super::slot_sets(7, 1).bytes.len(), 7 * 818);
-        let stored = super::targets(30, 1);
+        let stored = super::targets(40, 1);
         assert_eq!(stored.bytes.len() as u64, stored.lines[0].0 * 200);
     }
 }
