@@ -27,10 +27,11 @@
      12  A person is to get a slot for which they aren't available.
      13  The job file breaks its layout or is too long.
 
-   Settings go as five numbers.
+   Settings go as six numbers.
      fairness  what a share is measured by: 0 capacity times the minutes a person is available for, 1 capacity times demand
      lock      0 each slot is a unit, 1 each rotation is, and changes hands whole
      boundary  how rotations begin: 0 every `value` slots (at most 1,024, 0 counts as 1), 1 on the weekdays of the mask `value`, bit 0 Monday
+     edition   of the rule on the remainder of the targets: 0 edition 1, 1 edition 2, which hands it out minute by minute
      days      the length of a shift, at most 366, 0 counts as 1; it serves the two run lengths alone
 
    Draws, by the number drawn. One that names an unknown unit, or is 100 or more, chooses outside.
@@ -203,13 +204,13 @@ uint64_t boltraven_freeze_before(size_t slots, const uint32_t *starts, size_t st
 /* ---- Rotations and units, by the slots that begin them. */
 
 /* The first slots of the rotations, and how many. */
-uint64_t boltraven_rotation_starts(uint8_t fairness, uint8_t lock, uint8_t boundary, uint16_t value, uint16_t days, size_t slots,
-                                   const uint32_t *starts, size_t starts_len, const uint32_t *ends, size_t ends_len,
+uint64_t boltraven_rotation_starts(uint8_t fairness, uint8_t lock, uint8_t boundary, uint8_t edition, uint16_t value, uint16_t days,
+                                   size_t slots, const uint32_t *starts, size_t starts_len, const uint32_t *ends, size_t ends_len,
                                    uint16_t *firsts, size_t firsts_len);
 
 /* The first slots of the units, and how many: each slot one unlocked, each rotation one locked. */
-uint64_t boltraven_unit_starts(uint8_t fairness, uint8_t lock, uint8_t boundary, uint16_t value, uint16_t days, size_t slots,
-                               const uint32_t *starts, size_t starts_len, const uint32_t *ends, size_t ends_len,
+uint64_t boltraven_unit_starts(uint8_t fairness, uint8_t lock, uint8_t boundary, uint8_t edition, uint16_t value, uint16_t days,
+                               size_t slots, const uint32_t *starts, size_t starts_len, const uint32_t *ends, size_t ends_len,
                                uint16_t *firsts, size_t firsts_len);
 
 /* The slots of a unit: `from` up to `to`, without `to`. */
@@ -240,22 +241,22 @@ uint8_t boltraven_minutes_per_day(size_t slots, const uint32_t *starts, size_t s
                                   uint64_t *out);
 
 /* How long a run is to be. */
-uint8_t boltraven_target_run(uint8_t fairness, uint8_t lock, uint8_t boundary, uint16_t value, uint16_t days, size_t slots,
-                             const uint32_t *starts, size_t starts_len, const uint32_t *ends, size_t ends_len, uint64_t *out);
+uint8_t boltraven_target_run(uint8_t fairness, uint8_t lock, uint8_t boundary, uint8_t edition, uint16_t value, uint16_t days,
+                             size_t slots, const uint32_t *starts, size_t starts_len, const uint32_t *ends, size_t ends_len, uint64_t *out);
 
 /* The longest run that a person can have, up to the target run. */
-uint8_t boltraven_achievable_run(uint8_t fairness, uint8_t lock, uint8_t boundary, uint16_t value, uint16_t days,
+uint8_t boltraven_achievable_run(uint8_t fairness, uint8_t lock, uint8_t boundary, uint8_t edition, uint16_t value, uint16_t days,
                                  const uint64_t *avail, size_t avail_len, size_t people, size_t person, size_t slots,
                                  const uint32_t *starts, size_t starts_len, const uint32_t *ends, size_t ends_len,
                                  uint64_t *out);
 
 /* ---- Targets. */
 
-/* Each person's target, by capacity and prior minutes; they add up to the minutes of all slots, and one may be negative. */
+/* Each person's target, by capacity and prior minutes; they add up to the minutes of all slots. In edition 1 one may be negative. */
 uint8_t boltraven_compute_targets(size_t people, size_t slots, const uint32_t *starts, size_t starts_len,
                                   const uint32_t *ends, size_t ends_len, const uint64_t *avail, size_t avail_len,
                                   const double *capacities, size_t capacities_len, const uint32_t *priors, size_t priors_len,
-                                  uint8_t fairness, int64_t *out, size_t out_len);
+                                  uint8_t fairness, uint8_t edition, int64_t *out, size_t out_len);
 
 /* ---- A rota: an owner a slot, and everybody's set and minutes. */
 

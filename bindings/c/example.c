@@ -42,9 +42,9 @@ static void prepare(void) {
                                                 RANGES, starts, SLOTS, ends, SLOTS));
     done("availability", boltraven_availability(PEOPLE, slots, starts, SLOTS, ends, SLOTS, RANGES, persons, RANGES, opens, RANGES, shuts,
                                                 RANGES, avail, WORDS));
-    units = answer("unit_starts", boltraven_unit_starts(0, 0, 0, 1, 1, slots, starts, SLOTS, ends, SLOTS, firsts, SLOTS));
+    units = answer("unit_starts", boltraven_unit_starts(0, 0, 0, 0, 1, 1, slots, starts, SLOTS, ends, SLOTS, firsts, SLOTS));
     done("compute_targets", boltraven_compute_targets(PEOPLE, slots, starts, SLOTS, ends, SLOTS, avail, WORDS, capacities, PEOPLE, priors,
-                                                      PEOPLE, 0, targets, PEOPLE));
+                                                      PEOPLE, 0, 0, targets, PEOPLE));
 }
 
 /* Person 0 has both slots; the draw hands the second to the second of those who can cover it. */

@@ -74,8 +74,8 @@ CALL(slot_domain) { return boltraven_slot_domain(r->avail, WORDS, PEOPLE, r->slo
 CALL(slot_minutes) { return boltraven_slot_minutes(r->slots, r->starts, SLOTS, r->ends, SLOTS, r->slots - 1, &r->first); }
 CALL(demand) { return boltraven_demand(r->slots, r->starts, SLOTS, r->ends, SLOTS, &r->first); }
 CALL(freeze_before) { return boltraven_freeze_before(r->slots, r->starts, SLOTS, r->ends, SLOTS, r->frozen, SET, 1440 * 500); }
-CALL(rotation_starts) { return boltraven_rotation_starts(0, 1, 1, 1, 7, r->slots, r->starts, SLOTS, r->ends, SLOTS, r->firsts, SLOTS); }
-CALL(unit_starts) { return boltraven_unit_starts(0, 1, 1, 1, 7, r->slots, r->starts, SLOTS, r->ends, SLOTS, r->firsts, SLOTS); }
+CALL(rotation_starts) { return boltraven_rotation_starts(0, 1, 1, 1, 1, 7, r->slots, r->starts, SLOTS, r->ends, SLOTS, r->firsts, SLOTS); }
+CALL(unit_starts) { return boltraven_unit_starts(0, 1, 1, 1, 1, 7, r->slots, r->starts, SLOTS, r->ends, SLOTS, r->firsts, SLOTS); }
 CALL(unit_slots) { return boltraven_unit_slots(r->slots, r->units, r->firsts, SLOTS, r->units - 1, &r->first, &r->last); }
 CALL(unit_of_slot) { return boltraven_unit_of_slot(r->slots, r->units, r->firsts, SLOTS, r->slots - 1); }
 CALL(unit_domain) { return boltraven_unit_domain(r->avail, WORDS, PEOPLE, r->slots, r->units, r->firsts, SLOTS, 1, r->list, PEOPLE); }
@@ -83,14 +83,14 @@ CALL(unit_domains) { return boltraven_unit_domains(r->avail, WORDS, PEOPLE, r->s
 CALL(unit_frozen) { return boltraven_unit_frozen(r->frozen, SET, r->slots, r->units, r->firsts, SLOTS, r->units - 1); }
 CALL(covered_days) { return boltraven_covered_days(r->slots, r->starts, SLOTS, r->ends, SLOTS, &r->first); }
 CALL(minutes_per_day) { return boltraven_minutes_per_day(r->slots, r->starts, SLOTS, r->ends, SLOTS, &r->first); }
-CALL(target_run) { return boltraven_target_run(0, 1, 1, 1, 7, r->slots, r->starts, SLOTS, r->ends, SLOTS, &r->first); }
+CALL(target_run) { return boltraven_target_run(0, 1, 1, 1, 1, 7, r->slots, r->starts, SLOTS, r->ends, SLOTS, &r->first); }
 CALL(achievable_run) {
-    return boltraven_achievable_run(0, 1, 1, 1, 7, r->avail, WORDS, PEOPLE, PEOPLE - 1, r->slots, r->starts, SLOTS, r->ends, SLOTS,
+    return boltraven_achievable_run(0, 1, 1, 1, 1, 7, r->avail, WORDS, PEOPLE, PEOPLE - 1, r->slots, r->starts, SLOTS, r->ends, SLOTS,
                                     &r->first);
 }
 CALL(compute_targets) {
     return boltraven_compute_targets(PEOPLE, r->slots, r->starts, SLOTS, r->ends, SLOTS, r->avail, WORDS, r->capacities, PEOPLE, r->priors,
-                                     PEOPLE, 0, r->targets, PEOPLE);
+                                     PEOPLE, 0, 1, r->targets, PEOPLE);
 }
 CALL(empty) { return boltraven_empty(PEOPLE, r->slots, r->owners, SLOTS, r->sets, WORDS, r->minutes, PEOPLE); }
 CALL(from_slots) {

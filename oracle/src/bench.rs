@@ -8,6 +8,7 @@ mod refused;
 mod rota;
 mod rows;
 mod set;
+mod spread;
 
 use std::collections::HashMap;
 use std::fs;

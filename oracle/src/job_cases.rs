@@ -2,6 +2,7 @@
 
 use crate::call::{bytes16, bytes32, bytes64};
 use crate::days::instant;
+use crate::figures::{second_edition, FigureCase, Spread};
 use crate::job_records::{file_of, Record, BASE, DRAW, FREEZE, OWNER, PERSON, RANGE, SETTINGS};
 use crate::limits::{DRAWS_MOST, MINUTES_MOST, NOBODY, PEOPLE_MOST, RANGES_MOST, SLOTS_MOST};
 use crate::problems::{problem_case, slots_of, Person, ProblemCase, Range, Settings};
@@ -76,6 +77,7 @@ impl JobCase {
                     fairness: 0,
                     lock: 0,
                     boundary: 1,
+                    edition: 0,
                     value: 127,
                     days: 366,
                 },
@@ -133,6 +135,26 @@ impl JobCase {
         }
     }
 
+    /// The largest remainder in edition 2: 32 people of capacity 0, and one slot of all minutes.
+    pub fn of_idle_people() -> Self {
+        let idle = Person { capacity: 0.0, prior: 0 };
+        Self {
+            problem: ProblemCase {
+                base: vec![(0, MINUTES_MOST as u32)],
+                ranges: vec![],
+                people: vec![idle; PEOPLE_MOST],
+                settings: Settings {
+                    fairness: 1,
+                    edition: 1,
+                    ..Settings::PLAIN
+                },
+            },
+            freeze: None,
+            owners: vec![],
+            draws: vec![],
+        }
+    }
+
     /// The job file.
     pub fn file(&self) -> Vec<u8> {
         file_of(&self.records())
@@ -141,7 +163,7 @@ impl JobCase {
     /// The records of the job file.
     pub fn records(&self) -> Vec<Record> {
         let settings = self.problem.settings;
-        let flags = [settings.fairness, settings.lock, settings.boundary, 0];
+        let flags = [settings.fairness, settings.lock, settings.boundary, settings.edition];
         let mut records = vec![(SETTINGS, [&flags[..], &bytes16(&[settings.value, settings.days])].concat())];
         records.extend(self.problem.base.iter().map(|&(start, end)| (BASE, bytes32(&[start, end]))));
         for person in &self.problem.people {
@@ -158,7 +180,7 @@ impl JobCase {
         records
     }
 
-    /// The listing of a job that nothing is wrong with: the Rust's slots, minutes, targets and answers in the paper's lines.
+    /// The listing of a job that nothing is wrong with: the Rust's slots, minutes and answers, and the targets, in the paper's lines.
     pub fn listing(&self) -> String {
         let problem = self.frozen();
         let end = self.play(&problem);
@@ -172,7 +194,7 @@ impl JobCase {
             };
             text.push_str(&format!("S {slot} {} {} {owner}\n", starts[slot], ends[slot]));
         }
-        for (person, target) in problem.targets.iter().enumerate() {
+        for (person, target) in self.targets(&problem).iter().enumerate() {
             text.push_str(&format!("P {person} {} {target}\n", end.minutes[person]));
         }
         for (draw, &answer) in end.answers.iter().enumerate() {
@@ -180,6 +202,15 @@ impl JobCase {
         }
         text.push_str(&format!("U {}\n", end.uncovered));
         text
+    }
+
+    /// The targets: the Rust's, or edition 2's over the Rust's rounded ones.
+    fn targets(&self, problem: &Problem) -> Vec<i64> {
+        if self.problem.settings.edition == 0 {
+            return problem.targets.clone();
+        }
+        let figures = FigureCase::of(&self.problem, problem);
+        second_edition(Spread::MinuteByMinute, &figures, &problem.targets)
     }
 
     /// The Rust's problem, frozen at the job's instant.

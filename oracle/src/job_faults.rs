@@ -55,6 +55,9 @@ pub const FAULTS: [Fault; 46] = [
     said(7, "boundary", |seed, job| {
         put(&mut job.problem.settings.boundary, seed.within(2, 255) as u8)
     }),
+    said(7, "edition", |seed, job| {
+        put(&mut job.problem.settings.edition, seed.within(2, 255) as u8)
+    }),
     said(7, "every-count or mask", value_above),
     said(7, "shift days", |seed, job| {
         put(&mut job.problem.settings.days, above(seed, 366) as u16)
@@ -144,7 +147,6 @@ pub const FAULTS: [Fault; 46] = [
     laid("kinds fall", |seed, records| {
         exchange(seed, records, |first, second| first != second)
     }),
-    laid("zero byte", |seed, records| put(&mut records[0].1[3], seed.within(1, 255) as u8)),
     laid("kind 0", |seed, records| {
         records.insert(0, (0, some_bytes(seed)));
         true

@@ -65,7 +65,7 @@ pub fn read(file: &[u8]) -> Option<JobCase> {
             .filter(move |(kind, _)| *kind == wanted)
             .map(|(_, body)| body.as_slice())
     };
-    if of(SETTINGS).count() != 1 || of(FREEZE).count() > 1 || of(SETTINGS).any(|body| body[3] != 0) {
+    if of(SETTINGS).count() != 1 || of(FREEZE).count() > 1 {
         return None;
     }
     let owners: Vec<(u16, u16)> = of(OWNER).map(|body| (two(body, 0), two(body, 2))).collect();
@@ -76,6 +76,7 @@ pub fn read(file: &[u8]) -> Option<JobCase> {
         fairness: body[0],
         lock: body[1],
         boundary: body[2],
+        edition: body[3],
         value: two(body, 4),
         days: two(body, 6),
     });

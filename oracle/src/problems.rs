@@ -34,6 +34,8 @@ pub struct Settings {
     pub lock: u8,
     /// 0: every `value` slots; 1: on the weekdays of the mask `value`.
     pub boundary: u8,
+    /// 0: edition 1 of the rule on the remainder of targets; 1: edition 2. The Rust knows edition 1 alone.
+    pub edition: u8,
     pub value: u16,
     pub days: u16,
 }
@@ -49,6 +51,7 @@ impl Settings {
         fairness: 0,
         lock: 0,
         boundary: 0,
+        edition: 0,
         value: 1,
         days: 1,
     };
@@ -349,6 +352,8 @@ pub fn settings(seed: &mut Seed) -> Settings {
         boundary,
         value: value as u16,
         days: seed.pick(&[0, 1, 1, 2, 3, 7, 14, 366]),
+        // a bit of a copy: what comes after the settings is the same in both editions
+        edition: (seed.clone().word() >> 17 & 1) as u8,
     }
 }
 

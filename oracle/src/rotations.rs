@@ -33,6 +33,7 @@ pub fn settings_args(settings: Settings) -> Vec<Arg> {
         Arg::Number(u64::from(settings.fairness)),
         Arg::Number(u64::from(settings.lock)),
         Arg::Number(u64::from(settings.boundary)),
+        Arg::Number(u64::from(settings.edition)),
         Arg::Number(u64::from(settings.value)),
         Arg::Number(u64::from(settings.days)),
     ]
@@ -91,13 +92,13 @@ pub fn damaged(case_seed: u64) -> Vec<Question> {
             0 => firsts.truncate(slots - 1),
             _ => ends.truncate(slots - 1),
         }
-        asked.args[7] = Arg::Lent(4, bytes32(&ends));
-        asked.args[8] = Arg::LentMut(2, bytes16(&firsts));
+        asked.args[8] = Arg::Lent(4, bytes32(&ends));
+        asked.args[9] = Arg::LentMut(2, bytes16(&firsts));
         asked.due.written = vec![bytes16(&firsts)];
     }
     if seed.one_in(3) {
         number = 1;
-        asked.args[5] = Arg::Number(seed.pick(&[0, 1025, 1 << 40, u64::MAX]));
+        asked.args[6] = Arg::Number(seed.pick(&[0, 1025, 1 << 40, u64::MAX]));
     }
     asked.due.result = NOTHING + number;
     if number == 0 {

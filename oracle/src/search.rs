@@ -102,8 +102,13 @@ fn name(owner: u16) -> String {
 fn lines_of(job: &JobCase) -> String {
     let s = job.problem.settings;
     let mut lines = vec![format!(
-        "settings fairness {} lock {} boundary {} value {} days {}",
-        s.fairness, s.lock, s.boundary, s.value, s.days
+        "settings fairness {} lock {} boundary {} value {} days {} edition {}",
+        s.fairness,
+        s.lock,
+        s.boundary,
+        s.value,
+        s.days,
+        s.edition + 1
     )];
     lines.extend(job.problem.base.iter().map(|(start, end)| format!("base {start} {end}")));
     lines.extend(

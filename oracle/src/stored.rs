@@ -1,8 +1,9 @@
 //! Stored answers: records of the Rust's answers, which the `stored_*` programs of the library compare with no Rust at hand.
 
 use crate::bits::put_bit;
-use crate::figures::{targets_by, FigureCase, WRONG};
+use crate::figures::{second_edition, targets_by, FigureCase, Spread, WRONG, WRONG_SPREADS};
 use crate::limits::SLOTS_MOST;
+use crate::problems::Person;
 use crate::seed::Seed;
 use crate::sets::{held, index, next_run, next_unset_after, prev_unset_before, SetCase};
 
@@ -78,14 +79,19 @@ fn example(members: std::ops::Range<usize>, len: usize) -> SetCase {
     SetCase { len, words }
 }
 
-/// Records of targets, of at most eight people and six slots. A record is, low byte first: people, slots and fairness as u16; six starts
+/// Records of targets, of at most eight people and six slots. A record is, low byte first: people, slots, fairness and edition as u16; six starts
 /// and six ends as u32; eight u16 of slots that a person can cover; eight capacities as one u32 divided by another; eight prior minutes as
 /// u32; eight targets as u32, with 2 ^ 31 added. Some of the cases are looked for: those that tell a wrong rule from the Rust's.
+/// Each case is stored in both editions: the Rust's targets, and edition 2's over the Rust's rounded ones.
 pub fn targets(n: u64, run: u64) -> Stored {
     let mut bytes = Vec::new();
     let mut told = [0u64; WRONG.len()];
-    let mut plain = n - TELLING * WRONG.len() as u64;
+    let mut told_second = [0u64; WRONG_SPREADS.len()];
+    let mut plain = n - TELLING * (WRONG.len() + WRONG_SPREADS.len()) as u64;
     let mut made = 0;
+    for (case, ratios) in table() {
+        both_editions(&mut bytes, &case, &ratios, &case.rust());
+    }
     for k in 0..SEARCHED * n {
         if made == n {
             break;
@@ -99,6 +105,7 @@ pub fn targets(n: u64, run: u64) -> Stored {
         if due.iter().any(|&target| i32::try_from(target).is_err()) {
             continue;
         }
+        let second = second_edition(Spread::MinuteByMinute, &case, &due);
         let mut tells = false;
         for (rule, times) in WRONG.iter().zip(told.iter_mut()) {
             if *times < TELLING && targets_by(*rule, &case) != due {
@@ -106,13 +113,54 @@ pub fn targets(n: u64, run: u64) -> Stored {
                 tells = true;
             }
         }
+        for (rule, times) in WRONG_SPREADS.iter().zip(told_second.iter_mut()) {
+            if *times < TELLING && second_edition(*rule, &case, &due) != second {
+                *times += 1;
+                tells = true;
+            }
+        }
         if tells || plain > 0 {
             plain -= u64::from(!tells);
-            figures(&mut bytes, &case, &ratios, &due);
+            both_editions(&mut bytes, &case, &ratios, &due);
             made += 1;
         }
     }
-    Stored::new(bytes, made)
+    Stored::new(bytes, 2 * (made + table().len() as u64))
+}
+
+/// The table in which both editions are set side by side: marked cases 7 to 10, and more of them. One slot, fairness 1.
+fn table() -> Vec<(FigureCase, Vec<(u32, u32)>)> {
+    let row = |above: &[u32], priors: &[u32], demand: u32| {
+        let person = |(&above, &prior): (&u32, &u32)| Person {
+            capacity: f64::from(above),
+            prior,
+        };
+        let case = FigureCase {
+            lengths: vec![demand],
+            able: vec![vec![true]; above.len()],
+            people: above.iter().zip(priors).map(person).collect(),
+            fairness: 1,
+        };
+        (case, above.iter().map(|&above| (above, 1)).collect())
+    };
+    vec![
+        row(&[1; 3], &[0; 3], 100),
+        row(&[1; 4], &[0; 4], 2),
+        row(&[1; 2], &[300, 0], 100),
+        row(&[0; 2], &[0; 2], 100),
+        row(&[1; 4], &[0; 4], 5),
+        row(&[2, 1, 1, 1], &[0; 4], 8),
+        row(&[1; 4], &[300, 0, 0, 0], 100),
+        row(&[1; 3], &[300, 0, 0], 101),
+        row(&[0, 1, 1, 1], &[0; 4], 100),
+        row(&[0; FIGURES], &[0; FIGURES], 100_000_000),
+    ]
+}
+
+/// A case in both editions.
+fn both_editions(bytes: &mut Vec<u8>, case: &FigureCase, ratios: &[(u32, u32)], due: &[i64]) {
+    figures(bytes, case, 0, ratios, due);
+    figures(bytes, case, 1, ratios, &second_edition(Spread::MinuteByMinute, case, due));
 }
 
 /// Cases that tell each wrong rule, and how many seeds a record are looked through for them.
@@ -144,10 +192,11 @@ fn ratios(seed: &mut Seed, case: &mut FigureCase) -> Vec<(u32, u32)> {
     ratios
 }
 
-fn figures(bytes: &mut Vec<u8>, case: &FigureCase, ratios: &[(u32, u32)], due: &[i64]) {
+fn figures(bytes: &mut Vec<u8>, case: &FigureCase, edition: usize, ratios: &[(u32, u32)], due: &[i64]) {
     half(bytes, case.people.len());
     half(bytes, case.lengths.len());
     half(bytes, usize::from(case.fairness));
+    half(bytes, edition);
     let slots = case.slots();
     quads(bytes, FIGURE_SLOTS, slots.iter().map(|slot| slot.0));
     quads(bytes, FIGURE_SLOTS, slots.iter().map(|slot| slot.1));
@@ -271,7 +320,7 @@ mod tests {
     #[test]
     fn records_have_one_size() {
         assert_eq!(super::slot_sets(7, 1).bytes.len(), 7 * 834);
-        let stored = super::targets(30, 1);
-        assert_eq!(stored.bytes.len() as u64, stored.lines[0].0 * 198);
+        let stored = super::targets(40, 1);
+        assert_eq!(stored.bytes.len() as u64, stored.lines[0].0 * 200);
     }
 }

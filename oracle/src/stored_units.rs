@@ -27,8 +27,8 @@ const REFUSED_FIGURE: u64 = 1_000_000_000_000_000_000;
 const ANSWERS: u64 = 18;
 
 /// Two sections of records, where the Rust counts the days that are covered and where it counts fewer, each after its number of records as u16; the
-/// examples of covered days come first in theirs. A record is, low byte first: people, slots, units, a person, a slot and a unit as u64; fairness, lock and boundary as bytes and
-/// a byte of 0; value and days as u16; u16 of how long each lent column is: starts, ends, unit starts, words of availability, words of
+/// examples of covered days come first in theirs. A record is, low byte first: people, slots, units, a person, a slot and a unit as u64; fairness, lock, boundary and
+/// edition as bytes; value and days as u16; u16 of how long each lent column is: starts, ends, unit starts, words of availability, words of
 /// frozen flags, the columns for starts, the lists of people, the column for masks; the columns themselves, of 16, 16 and 16; first words
 /// of four rows, and of the flags; then the answers: rotations, unit starts, units, a unit's first slot and the one past its last, the
 /// slot's unit, whether the unit is frozen, people of the slot's and of the unit's domain, and 0 for the domains of all units as u16; covered
@@ -187,7 +187,7 @@ fn lent_bytes(bytes: &mut Vec<u8>, asked: &LentUnits) {
     ];
     words(bytes, &counts.map(|count| count as u64));
     let settings = asked.settings;
-    bytes.extend([settings.fairness, settings.lock, settings.boundary, 0]);
+    bytes.extend([settings.fairness, settings.lock, settings.boundary, settings.edition]);
     half(bytes, usize::from(settings.value));
     half(bytes, usize::from(settings.days));
     let (slots, starts) = (&asked.slots, &asked.units.firsts);

@@ -46,7 +46,7 @@ pub fn settings_ok(s: Settings) -> bool {
         1 => 127,
         _ => return false,
     };
-    s.fairness <= 1 && s.lock <= 1 && s.value <= value_most && s.days <= 366
+    s.fairness <= 1 && s.lock <= 1 && s.edition <= 1 && s.value <= value_most && s.days <= 366
 }
 
 /// Slots as they are lent.
@@ -189,11 +189,12 @@ impl Units {
 
 /// Settings with one that breaks rule 7.
 pub fn damage_settings(seed: &mut Seed, s: &mut Settings) {
-    match seed.below(5) {
+    match seed.below(6) {
         0 => s.fairness = seed.within(2, 255) as u8,
         1 => s.lock = seed.within(2, 255) as u8,
         2 => s.boundary = seed.within(2, 255) as u8,
-        3 => s.value = if s.boundary == 0 { 1025 } else { 128 } + seed.below(64_000) as u16,
+        3 => s.edition = seed.within(2, 255) as u8,
+        4 => s.value = if s.boundary == 0 { 1025 } else { 128 } + seed.below(64_000) as u16,
         _ => s.days = seed.within(367, 65_535) as u16,
     }
 }

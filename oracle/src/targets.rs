@@ -2,7 +2,7 @@
 
 use crate::bits::put_bit;
 use crate::call::{bytes32, bytes64, bytes_i64, Arg, Outcome, Question};
-use crate::figures::FigureCase;
+use crate::figures::{second_edition, FigureCase, Spread};
 use crate::limits::{MINUTES_MOST, PEOPLE_MOST, SET_WORDS};
 use crate::problems::Person;
 use crate::seed::Seed;
@@ -16,6 +16,7 @@ struct LentTargets {
     capacities: Vec<u64>,
     priors: Vec<u32>,
     fairness: u8,
+    edition: u8,
     out: Vec<i64>,
 }
 
@@ -37,6 +38,7 @@ impl LentTargets {
             capacities: case.people.iter().map(|person| person.capacity.to_bits()).collect(),
             priors: case.people.iter().map(|person| person.prior).collect(),
             fairness: case.fairness,
+            edition: 0,
             out: (0..people + spare).map(|_| seed.word() as i64).collect(),
         }
     }
@@ -55,6 +57,7 @@ impl LentTargets {
                 Arg::Lent(8, bytes64(&self.capacities)),
                 Arg::Lent(4, bytes32(&self.priors)),
                 Arg::Number(u64::from(self.fairness)),
+                Arg::Number(u64::from(self.edition)),
                 Arg::LentMut(8, bytes_i64(&self.out)),
             ],
             due: Outcome {
@@ -79,18 +82,26 @@ impl LentTargets {
                 self.slots.room_ok() && words_ok(self.people, self.avail.len()) && self.people <= room,
             ),
             (6, people.all(figures_ok)),
-            (7, self.fairness <= 1),
+            (7, self.fairness <= 1 && self.edition <= 1),
             (9, self.slots.ok()),
         ])
     }
 }
 
-/// The targets of a case.
+/// The targets of a case: edition 1 by the Rust, edition 2 by the generator's own minutes over the Rust's rounded targets.
 pub fn questions(case_seed: u64) -> Vec<Question> {
     let mut seed = Seed::new(case_seed);
-    let case = FigureCase::new(&mut seed);
-    let lent = LentTargets::new(&mut seed, &case);
-    vec![lent.question(0, &case.rust())]
+    let case = if seed.one_in(40) {
+        FigureCase::largest(&mut seed)
+    } else {
+        FigureCase::new(&mut seed)
+    };
+    let mut lent = LentTargets::new(&mut seed, &case);
+    let first = case.rust();
+    let edition_1 = lent.question(0, &first);
+    lent.edition = 1;
+    let edition_2 = lent.question(0, &second_edition(Spread::MinuteByMinute, &case, &first));
+    vec![edition_1, edition_2]
 }
 
 /// Damaged copies, in one or several ways.
@@ -98,10 +109,11 @@ pub fn damaged(case_seed: u64) -> Vec<Question> {
     let mut seed = Seed::new(case_seed);
     let case = FigureCase::new(&mut seed);
     let mut lent = LentTargets::new(&mut seed, &case);
+    lent.edition = seed.below(2) as u8;
     let person = seed.below(lent.people as u64) as usize;
     let slot = seed.below(lent.slots.count as u64) as usize;
     for _ in 0..seed.within(1, 2) {
-        match seed.below(12) {
+        match seed.below(13) {
             0 => lent.people = seed.pick(&[0, 33, usize::MAX]),
             1 => lent.slots.count = seed.pick(&[0, 1025, usize::MAX]),
             2 => drop(lent.slots.starts.pop()),
@@ -116,6 +128,7 @@ pub fn damaged(case_seed: u64) -> Vec<Question> {
             }
             7 if person < lent.priors.len() => lent.priors[person] = MINUTES_MOST as u32 + 1 + seed.below(1000) as u32,
             8 => lent.fairness = seed.within(2, 255) as u8,
+            11 => lent.edition = seed.within(2, 255) as u8,
             9 if slot < lent.slots.starts.len() => lent.slots.starts[slot] = lent.slots.ends[slot],
             10 if slot > 0 && slot < lent.slots.starts.len() => lent.slots.starts[slot] = lent.slots.ends[slot - 1] - 1,
             _ => lent.slots.ends[slot] = MINUTES_MOST as u32 + 1,

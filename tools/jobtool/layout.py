@@ -9,7 +9,7 @@ BODY_MOST = 65535
 
 # What a body of each kind holds.
 BODIES = {
-    SETTINGS: struct.Struct("<BBBBHH"),  # fairness, lock, boundary, zero, value, days
+    SETTINGS: struct.Struct("<BBBBHH"),  # fairness, lock, boundary, edition, value, days
     BASE: struct.Struct("<II"),  # start, end
     PERSON: struct.Struct("<8sI"),  # capacity's bits, prior minutes
     RANGE: struct.Struct("<HII"),  # person, start, end

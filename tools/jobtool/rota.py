@@ -12,7 +12,7 @@ class Job:
 
     def __init__(self, records):
         found = {kind: [layout.fields(kind, data) for k, data in records if k == kind] for kind in layout.BODIES}
-        self.fairness, self.lock, self.boundary, _, self.value, self.days = found[layout.SETTINGS][0]
+        self.fairness, self.lock, self.boundary, self.edition, self.value, self.days = found[layout.SETTINGS][0]
         self.people = [(struct.unpack("<d", bits)[0], prior) for bits, prior in found[layout.PERSON]]
         self.ranges = found[layout.RANGE]
         self.freeze = found[layout.FREEZE][0][0] if found[layout.FREEZE] else None

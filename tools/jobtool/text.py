@@ -3,7 +3,7 @@
 One record a line, in the file's order; what follows # is a comment. UTF-8, with or without a byte-order mark. TIME is a number of minutes,
 or a date like 1970-01-04T22:00.
 
-  settings fairness 0 lock 1 weekdays mon,thu days 7     (or: every 1; or: boundary B value V; zero Z gives the zero byte)
+  settings fairness 0 lock 1 weekdays mon,thu days 7     (or: every 1; or: boundary B value V; edition 2 of targets, else 1)
   base TIME TIME             start, end
   person CAPACITY PRIOR      capacity a number, or bits 0x7ff8000000000000; prior minutes
   range PERSON TIME TIME     person's number, start, end
@@ -27,12 +27,12 @@ U16, U32, U64 = 2**16 - 1, 2**32 - 1, 2**64 - 1
 # ---- from text
 
 
-def number(word, most, what):
+def number(word, most, what, least=0):
     if not re.fullmatch(r"[0-9]+|0[xX][0-9a-fA-F]+", word, re.ASCII):
         raise Wrong("%s is to be a number, not '%.40s'" % (what, word))
     n = int(word, 16 if word[1:2] in ("x", "X") else 10) if len(word) <= 40 else most + 1
-    if n > most:
-        raise Wrong("%s is to be 0 to %d, not %.40s" % (what, most, word))
+    if not least <= n <= most:
+        raise Wrong("%s is to be %d to %d, not %.40s" % (what, least, most, word))
     return n
 
 
@@ -58,7 +58,7 @@ GIVES = {
     "fairness": lambda word: {"fairness": number(word, 255, "fairness")},
     "lock": lambda word: {"lock": number(word, 255, "lock")},
     "boundary": lambda word: {"boundary": number(word, 255, "boundary")},
-    "zero": lambda word: {"zero": number(word, 255, "zero")},
+    "edition": lambda word: {"edition": number(word, 256, "edition", 1) - 1},
     "value": lambda word: {"value": number(word, U16, "value")},
     "days": lambda word: {"days": number(word, U16, "days")},
     "every": lambda word: {"boundary": 0, "value": number(word, U16, "every")},
@@ -79,8 +79,8 @@ def settings(words):
         if gives.keys() & given.keys():
             raise Wrong("settings have two boundaries: give every, or weekdays, or boundary and value")
         given.update(gives)
-    given.setdefault("zero", 0)
-    order = ("fairness", "lock", "boundary", "zero", "value", "days")
+    given.setdefault("edition", 0)
+    order = ("fairness", "lock", "boundary", "edition", "value", "days")
     for name in order:
         if name not in given:
             raise Wrong("settings lack %s" % ("every or weekdays" if name in ("boundary", "value") else name))
@@ -173,8 +173,8 @@ def line_of(kind, data, shown=str):
     if got is None:
         return "record %d %s" % (kind, data.hex())
     if kind == SETTINGS:
-        fairness, lock, boundary, zero, value, days = got
-        rest = " zero %d" % zero if zero else ""
+        fairness, lock, boundary, edition, value, days = got
+        rest = " edition %d" % (edition + 1) if edition else ""
         return "settings fairness %d lock %d %s days %d%s" % (fairness, lock, rule_of(boundary, value), days, rest)
     if kind == BASE:
         return "base %s %s" % tuple(map(shown, got))

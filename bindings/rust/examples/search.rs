@@ -8,7 +8,7 @@
 use std::error::Error;
 use std::str::{FromStr, SplitWhitespace};
 
-use boltraven::{Answer, Assignment, Boundary, Draw, Fairness, Person, Problem, Range, Refusal, Settings, Slot, Weekdays};
+use boltraven::{Answer, Assignment, Boundary, Draw, Edition, Fairness, Person, Problem, Range, Refusal, Settings, Slot, Weekdays};
 
 const MOVES: &str = include_str!("nights.moves");
 
@@ -194,8 +194,8 @@ fn owner(words: &mut SplitWhitespace) -> Result<(usize, Option<usize>), Box<dyn 
 /// The settings, each number after its name.
 fn settings(words: SplitWhitespace) -> Result<Settings, Box<dyn Error>> {
     let numbers: Vec<u16> = words.skip(1).step_by(2).map(str::parse).collect::<Result<_, _>>()?;
-    let [fairness, lock, boundary, value, days] = numbers[..] else {
-        return Err("five numbers are due".into());
+    let [fairness, lock, boundary, value, days, edition] = numbers[..] else {
+        return Err("six numbers are due".into());
     };
     Ok(Settings {
         fairness: if fairness == 1 { Fairness::Equal } else { Fairness::Capacity },
@@ -205,6 +205,7 @@ fn settings(words: SplitWhitespace) -> Result<Settings, Box<dyn Error>> {
         } else {
             Boundary::EverySlots(value)
         },
+        edition: if edition == 2 { Edition::Second } else { Edition::First },
         days,
     })
 }

@@ -85,7 +85,7 @@ impl Job {
     pub fn file(&self) -> Vec<u8> {
         let n = self.settings.numbers();
         let mut file = Vec::new();
-        let flags = [n.fairness, n.lock, n.boundary, 0];
+        let flags = [n.fairness, n.lock, n.boundary, n.edition];
         record(&mut file, 1, &[&flags, &n.value.to_le_bytes(), &n.days.to_le_bytes()]);
         for slot in &self.base {
             record(&mut file, 2, &[&slot.start.to_le_bytes(), &slot.end.to_le_bytes()]);

@@ -6,7 +6,7 @@ use std::str::{FromStr, SplitWhitespace};
 
 use crate::draw::Draw;
 use crate::job::Job;
-use crate::settings::{Boundary, Fairness, Settings};
+use crate::settings::{Boundary, Edition, Fairness, Settings};
 use crate::slots::{Range, Slot};
 use crate::targets::Person;
 use crate::weekdays::Weekdays;
@@ -203,6 +203,7 @@ impl<'a> Words<'a> {
                 "every" => once(&mut given.boundary, "every or weekdays", Boundary::EverySlots(self.number(name)?))?,
                 "weekdays" => once(&mut given.boundary, "every or weekdays", Boundary::DayOfWeek(self.weekdays()?))?,
                 "days" => once(&mut given.days, name, self.number(name)?)?,
+                "edition" => once(&mut given.edition, name, self.edition()?)?,
                 _ => return Err(format!("settings have no '{name}'")),
             }
         }
@@ -214,6 +215,7 @@ impl<'a> Words<'a> {
             },
             lock: given.lock.ok_or_else(|| lacking("lock"))?,
             boundary: given.boundary.ok_or_else(|| lacking("every or weekdays"))?,
+            edition: given.edition.unwrap_or_default(),
             days: given.days.ok_or_else(|| lacking("days"))?,
         })
     }
@@ -224,6 +226,15 @@ impl<'a> Words<'a> {
             "0" => Ok(false),
             "1" => Ok(true),
             word => Err(format!("{what} is to be 0 or 1, not '{word}'")),
+        }
+    }
+
+    /// 1 or 2.
+    fn edition(&mut self) -> Result<Edition, String> {
+        match self.word("edition")? {
+            "1" => Ok(Edition::First),
+            "2" => Ok(Edition::Second),
+            word => Err(format!("edition is to be 1 or 2, not '{word}'")),
         }
     }
 
@@ -245,6 +256,7 @@ struct Given {
     lock: Option<bool>,
     boundary: Option<Boundary>,
     days: Option<u16>,
+    edition: Option<Edition>,
 }
 
 fn once<T>(place: &mut Option<T>, name: &str, value: T) -> Result<(), String> {

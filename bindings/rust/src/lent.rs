@@ -58,7 +58,7 @@
 //! assert_eq!(out, 60);
 //!
 //! let mut targets = [0; 2];
-//! lent::compute_targets(2, slots, &froms, &tos, &avail, &[1.0, 1.0], &[0, 0], 0, &mut targets)?;
+//! lent::compute_targets(2, slots, &froms, &tos, &avail, &[1.0, 1.0], &[0, 0], 0, 0, &mut targets)?;
 //! assert_eq!(targets, [80, 40]);
 //! # Ok::<(), boltraven::Refusal>(())
 //! ```
@@ -71,8 +71,8 @@
 //! let (starts, ends) = ([4320, 5760], [4380, 5820]);
 //! assert_eq!(lent::weekday_of(lent::date_of(starts[1])), 0);
 //! let mut firsts = [0; 2];
-//! assert_eq!(lent::rotation_starts(0, 1, 1, 1, 7, 2, &starts, &ends, &mut firsts)?, 2);
-//! let units = lent::unit_starts(0, 1, 1, 1, 7, 2, &starts, &ends, &mut firsts)?;
+//! assert_eq!(lent::rotation_starts(0, 1, 1, 0, 1, 7, 2, &starts, &ends, &mut firsts)?, 2);
+//! let units = lent::unit_starts(0, 1, 1, 0, 1, 7, 2, &starts, &ends, &mut firsts)?;
 //! assert_eq!((units, firsts), (2, [0, 1]));
 //! assert_eq!(lent::unit_of_slot(2, units, &firsts, 1)?, 1);
 //! let (mut from, mut to) = (0, 0);
@@ -93,9 +93,9 @@
 //! assert_eq!(out, 2);
 //! lent::minutes_per_day(2, &starts, &ends, &mut out)?;
 //! assert_eq!(out, 60);
-//! lent::target_run(0, 1, 1, 1, 7, 2, &starts, &ends, &mut out)?;
+//! lent::target_run(0, 1, 1, 0, 1, 7, 2, &starts, &ends, &mut out)?;
 //! assert_eq!(out, 420);
-//! lent::achievable_run(0, 1, 1, 1, 7, &avail, 2, 1, 2, &starts, &ends, &mut out)?;
+//! lent::achievable_run(0, 1, 1, 0, 1, 7, &avail, 2, 1, 2, &starts, &ends, &mut out)?;
 //! assert_eq!(out, 60);
 //! # Ok::<(), boltraven::Refusal>(())
 //! ```
@@ -349,16 +349,18 @@ exports! {
     /// Whether a person is available for a slot. Refusals: 1, 2, 11.
     pub fn is_available(people: usize, slots: usize, avail: &[u64], person: usize, slot: usize) -> Result<bool, Refusal> = told(u64);
 
-    // ---- where rotations and units begin; settings come as their five numbers
+    // ---- where rotations and units begin; settings come as their six numbers
 
     /// The starts of the rotations, and how many. Refusals: 1, 2, 7, 9.
     pub fn rotation_starts(
-        fairness: u8, lock: u8, boundary: u8, value: u16, days: u16, slots: usize, starts: &[u32], ends: &[u32], firsts: &mut [u16]
+        fairness: u8, lock: u8, boundary: u8, edition: u8, value: u16, days: u16, slots: usize, starts: &[u32], ends: &[u32],
+        firsts: &mut [u16]
     ) -> Result<usize, Refusal> = number(u64);
 
     /// The starts of the units, and how many. Refusals: 1, 2, 7, 9.
     pub fn unit_starts(
-        fairness: u8, lock: u8, boundary: u8, value: u16, days: u16, slots: usize, starts: &[u32], ends: &[u32], firsts: &mut [u16]
+        fairness: u8, lock: u8, boundary: u8, edition: u8, value: u16, days: u16, slots: usize, starts: &[u32], ends: &[u32],
+        firsts: &mut [u16]
     ) -> Result<usize, Refusal> = number(u64);
 
     /// The slots of a unit, or of a rotation: `from` up to `to`, without `to`. Refusals: 1, 2, 9, 11.
@@ -385,13 +387,14 @@ exports! {
 
     /// The target run, in minutes. Refusals: 1, 2, 7, 9.
     pub fn target_run(
-        fairness: u8, lock: u8, boundary: u8, value: u16, days: u16, slots: usize, starts: &[u32], ends: &[u32], out: &mut u64
+        fairness: u8, lock: u8, boundary: u8, edition: u8, value: u16, days: u16, slots: usize, starts: &[u32], ends: &[u32],
+        out: &mut u64
     ) -> Result<(), Refusal> = done(u8);
 
     /// A person's achievable run, in minutes. Refusals: 1, 2, 7, 9, 11.
     pub fn achievable_run(
-        fairness: u8, lock: u8, boundary: u8, value: u16, days: u16, avail: &[u64], people: usize, person: usize, slots: usize,
-        starts: &[u32], ends: &[u32], out: &mut u64
+        fairness: u8, lock: u8, boundary: u8, edition: u8, value: u16, days: u16, avail: &[u64], people: usize, person: usize,
+        slots: usize, starts: &[u32], ends: &[u32], out: &mut u64
     ) -> Result<(), Refusal> = done(u8);
 
     // ---- who can cover a unit, and whether it is frozen
@@ -425,7 +428,7 @@ exports! {
     /// Each person's target, in `out`. Refusals: 1, 2, 6 to 9.
     pub fn compute_targets(
         people: usize, slots: usize, starts: &[u32], ends: &[u32], avail: &[u64], capacities: &[f64], priors: &[u32], fairness: u8,
-        out: &mut [i64]
+        edition: u8, out: &mut [i64]
     ) -> Result<(), Refusal> = done(u8);
 
     // ---- a rota: its owners, everybody's set of slots and minutes

@@ -54,7 +54,7 @@ pub use job_text::JobTextError;
 pub use problem::Problem;
 pub use refusal::{NoRefusal, Refusal};
 pub use set::{Members, Run, Runs, SlotSet};
-pub use settings::{Boundary, Fairness, Settings};
+pub use settings::{Boundary, Edition, Fairness, Settings};
 pub use slots::{merged_ranges, Range, Slot, Slots};
 pub use targets::{compute_targets, Person};
 pub use units::Units;

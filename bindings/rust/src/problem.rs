@@ -57,7 +57,7 @@ impl Problem {
     pub fn build(settings: Settings, base: &[Slot], people: &[Person], ranges: &[Range]) -> Result<Self, Refusal> {
         let slots = Slots::atomise(base, people.len(), ranges)?;
         let availability = Availability::new(people.len(), &slots, ranges)?;
-        let targets = compute_targets(&slots, &availability, people, settings.fairness)?;
+        let targets = compute_targets(&slots, &availability, people, settings.fairness, settings.edition)?;
         Ok(Self {
             settings,
             rotations: Units::rotations(settings, &slots)?,

@@ -21,6 +21,25 @@ impl Fairness {
     }
 }
 
+/// Which edition of the rule on the remainder of the targets.
+#[derive(Debug, Clone, Copy, PartialEq, Eq, Hash, Default)]
+pub enum Edition {
+    /// The remainder goes to one person, whose target may come to be negative.
+    #[default]
+    First,
+    /// It is handed out minute by minute: a missing one to the smallest target, an extra one from the largest. No target is negative.
+    Second,
+}
+
+impl Edition {
+    pub(crate) fn number(self) -> u8 {
+        match self {
+            Edition::First => 0,
+            Edition::Second => 1,
+        }
+    }
+}
+
 /// Where a new rotation begins.
 #[derive(Debug, Clone, Copy, PartialEq, Eq, Hash)]
 pub enum Boundary {
@@ -30,7 +49,7 @@ pub enum Boundary {
     DayOfWeek(Weekdays),
 }
 
-/// Fairness, units and rotations, and the length of a shift.
+/// Fairness, units and rotations, the edition of targets, and the length of a shift.
 ///
 /// ```
 /// use boltraven::{Boundary, Fairness, Settings, Weekday};
@@ -48,36 +67,40 @@ pub struct Settings {
     pub lock: bool,
     /// Where rotations begin.
     pub boundary: Boundary,
+    /// The edition of the rule on the remainder of the targets.
+    pub edition: Edition,
     /// The days of a shift, at most 366; 0 counts as 1.
     pub days: u16,
 }
 
 impl Default for Settings {
-    /// Shares by capacity, each slot a unit and a rotation, shifts of one day.
+    /// Shares by capacity, edition 1 of targets, each slot a unit and a rotation, shifts of one day.
     fn default() -> Self {
         Self {
             fairness: Fairness::Capacity,
             lock: false,
             boundary: Boundary::EverySlots(1),
+            edition: Edition::First,
             days: 1,
         }
     }
 }
 
-/// The five numbers that the library takes.
+/// The six numbers that the library takes.
 pub(crate) struct Numbers {
     pub fairness: u8,
     pub lock: u8,
     pub boundary: u8,
+    pub edition: u8,
     pub value: u16,
     pub days: u16,
 }
 
-/// Calls a function of `lent` that takes the settings first, as their five numbers.
+/// Calls a function of `lent` that takes the settings first, as their six numbers.
 macro_rules! with_settings {
     ($function:path, $settings:expr, $($rest:expr),*) => {{
         let n = $settings.numbers();
-        $function(n.fairness, n.lock, n.boundary, n.value, n.days, $($rest),*)
+        $function(n.fairness, n.lock, n.boundary, n.edition, n.value, n.days, $($rest),*)
     }};
 }
 
@@ -93,6 +116,7 @@ impl Settings {
             fairness: self.fairness.number(),
             lock: u8::from(self.lock),
             boundary,
+            edition: self.edition.number(),
             value,
             days: self.days,
         }

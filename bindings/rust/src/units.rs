@@ -10,7 +10,7 @@ use crate::settings::{with_settings, Settings};
 use crate::slots::Slots;
 
 /// What `lent` has for the starts of units and of rotations.
-type StartsOf = fn(u8, u8, u8, u16, u16, usize, &[u32], &[u32], &mut [u16]) -> Result<usize, Refusal>;
+type StartsOf = fn(u8, u8, u8, u8, u16, u16, usize, &[u32], &[u32], &mut [u16]) -> Result<usize, Refusal>;
 
 /// Slots in neighbouring stretches: rotations, or the units that a play moves whole.
 ///

@@ -66,7 +66,7 @@ fn each_number_of_slots_and_targets_comes_through() {
 
     let mut out = [-1; 3];
     let mut targets = |capacity: f64, fairness: u8, ends: &[u32]| {
-        lent::compute_targets(2, 2, &STARTS, ends, &avail(), &[1.0, capacity], &[0, 0], fairness, &mut out)
+        lent::compute_targets(2, 2, &STARTS, ends, &avail(), &[1.0, capacity], &[0, 0], fairness, 0, &mut out)
     };
     assert_eq!(targets(f64::NAN, 0, &ENDS), Err(Refusal::Figures));
     assert_eq!(targets(1.0, 2, &ENDS), Err(Refusal::Settings));

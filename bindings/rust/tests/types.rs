@@ -2,8 +2,8 @@
 
 use boltraven::lent::SLOTS_MOST;
 use boltraven::{
-    Answer, Assignment, Availability, Boundary, Draw, Fairness, Job, Person, Problem, Range, Refusal, Run, Settings, Slot, SlotSet, Slots,
-    Weekday,
+    Answer, Assignment, Availability, Boundary, Draw, Edition, Fairness, Job, Person, Problem, Range, Refusal, Run, Settings, Slot, SlotSet,
+    Slots, Weekday,
 };
 
 const ONE: Person = Person { capacity: 1.0, prior: 0 };
@@ -13,6 +13,7 @@ const PAIRS: Settings = Settings {
     fairness: Fairness::Capacity,
     lock: true,
     boundary: Boundary::EverySlots(2),
+    edition: Edition::First,
     days: 1,
 };
 
@@ -246,6 +247,10 @@ fn text_that_is_no_job_is_told_by_its_line() {
     assert_eq!(wrong("shift 0 1"), "line 3: no record of a job is called 'shift'");
     let settings = |words: &str| format!("settings {words}").parse::<Job>().unwrap_err().what;
     assert_eq!(settings("fairness 2 lock 0 every 1 days 1"), "fairness is to be 0 or 1, not '2'");
+    assert_eq!(
+        settings("fairness 0 lock 0 every 1 days 1 edition 3"),
+        "edition is to be 1 or 2, not '3'"
+    );
     assert_eq!(
         settings("fairness 0 lock 0 every 1 weekdays mon days 1"),
         "every or weekdays is given twice"

@@ -48,6 +48,7 @@ pub extern "C" fn boltraven_target_run(
     fairness: u8,
     lock: u8,
     boundary: u8,
+    edition: u8,
     value: u16,
     days: u16,
     slots: usize,
@@ -56,14 +57,15 @@ pub extern "C" fn boltraven_target_run(
     out: &mut u64,
 ) -> u8
     ensures { λ r. ⌜ r ≡ minutesNo
-        (targetRunIs (settingsOf fairness lock boundary value days) slots (now (starts .entry)) (now (ends .entry))) ⌝ }
+        (targetRunIs (settingsOf fairness lock boundary edition value days) slots (now (starts .entry)) (now (ends .entry))) ⌝ }
     ensures { λ _. ⌜ now (out .exit) ≡ minutesAre (now (out .entry))
-        (targetRunIs (settingsOf fairness lock boundary value days) slots (now (starts .entry)) (now (ends .entry))) ⌝ }
+        (targetRunIs (settingsOf fairness lock boundary edition value days) slots (now (starts .entry)) (now (ends .entry))) ⌝ }
 {
     let settings = Settings {
         fairness,
         lock,
         boundary,
+        edition,
         value,
         days,
     };
@@ -77,6 +79,7 @@ pub extern "C" fn boltraven_achievable_run(
     fairness: u8,
     lock: u8,
     boundary: u8,
+    edition: u8,
     value: u16,
     days: u16,
     avail: &[u64],
@@ -88,16 +91,17 @@ pub extern "C" fn boltraven_achievable_run(
     out: &mut u64,
 ) -> u8
     ensures { λ r. ⌜ r ≡ minutesNo
-        (achievableRunIs (settingsOf fairness lock boundary value days) (now (avail .entry)) people person slots
+        (achievableRunIs (settingsOf fairness lock boundary edition value days) (now (avail .entry)) people person slots
         (now (starts .entry)) (now (ends .entry))) ⌝ }
     ensures { λ _. ⌜ now (out .exit) ≡ minutesAre (now (out .entry))
-        (achievableRunIs (settingsOf fairness lock boundary value days) (now (avail .entry)) people person slots
+        (achievableRunIs (settingsOf fairness lock boundary edition value days) (now (avail .entry)) people person slots
         (now (starts .entry)) (now (ends .entry))) ⌝ }
 {
     let settings = Settings {
         fairness,
         lock,
         boundary,
+        edition,
         value,
         days,
     };

@@ -1,4 +1,4 @@
-// Where rotations and units begin, and what a unit holds. The settings come as their five numbers.
+// Where rotations and units begin, and what a unit holds. The settings come as their six numbers.
 use crate::answers::plain_number;
 use units::Settings;
 use units::UnitSlots;
@@ -14,6 +14,7 @@ pub extern "C" fn boltraven_rotation_starts(
     fairness: u8,
     lock: u8,
     boundary: u8,
+    edition: u8,
     value: u16,
     days: u16,
     slots: usize,
@@ -22,16 +23,17 @@ pub extern "C" fn boltraven_rotation_starts(
     firsts: &mut [u16],
 ) -> u64
     ensures { λ r. ⌜ r ≡ plainNumber
-        (rotationStartsIs (settingsOf fairness lock boundary value days) slots (now (starts .entry)) (now (ends .entry))
+        (rotationStartsIs (settingsOf fairness lock boundary edition value days) slots (now (starts .entry)) (now (ends .entry))
         (now (firsts .entry)) .answer) ⌝ }
     ensures { λ _. ⌜ now (firsts .exit)
-        ≡ rotationStartsIs (settingsOf fairness lock boundary value days) slots (now (starts .entry)) (now (ends .entry))
+        ≡ rotationStartsIs (settingsOf fairness lock boundary edition value days) slots (now (starts .entry)) (now (ends .entry))
         (now (firsts .entry)) .buffer ⌝ }
 {
     let settings = Settings {
         fairness,
         lock,
         boundary,
+        edition,
         value,
         days,
     };
@@ -44,6 +46,7 @@ pub extern "C" fn boltraven_unit_starts(
     fairness: u8,
     lock: u8,
     boundary: u8,
+    edition: u8,
     value: u16,
     days: u16,
     slots: usize,
@@ -52,16 +55,17 @@ pub extern "C" fn boltraven_unit_starts(
     firsts: &mut [u16],
 ) -> u64
     ensures { λ r. ⌜ r ≡ plainNumber
-        (unitStartsIs (settingsOf fairness lock boundary value days) slots (now (starts .entry)) (now (ends .entry))
+        (unitStartsIs (settingsOf fairness lock boundary edition value days) slots (now (starts .entry)) (now (ends .entry))
         (now (firsts .entry)) .answer) ⌝ }
     ensures { λ _. ⌜ now (firsts .exit)
-        ≡ unitStartsIs (settingsOf fairness lock boundary value days) slots (now (starts .entry)) (now (ends .entry))
+        ≡ unitStartsIs (settingsOf fairness lock boundary edition value days) slots (now (starts .entry)) (now (ends .entry))
         (now (firsts .entry)) .buffer ⌝ }
 {
     let settings = Settings {
         fairness,
         lock,
         boundary,
+        edition,
         value,
         days,
     };

@@ -13,14 +13,15 @@ pub extern "C" fn boltraven_compute_targets(
     capacities: &[f64],
     priors: &[u32],
     fairness: u8,
+    edition: u8,
     out: &mut [i64],
 ) -> u8
     ensures { λ r. ⌜ r ≡ computeTargets
         (given people slots (now (starts .entry)) (now (ends .entry)) (now (avail .entry)) (now (capacities .entry))
-        (now (priors .entry)) fairness) (now (out .entry)) .number ⌝ }
+        (now (priors .entry)) fairness edition) (now (out .entry)) .number ⌝ }
     ensures { λ _. ⌜ now (out .exit) ≡ computeTargets
         (given people slots (now (starts .entry)) (now (ends .entry)) (now (avail .entry)) (now (capacities .entry))
-        (now (priors .entry)) fairness) (now (out .entry)) .out ⌝ }
+        (now (priors .entry)) fairness edition) (now (out .entry)) .out ⌝ }
 {
     targets::compute_targets(
         people,
@@ -31,6 +32,7 @@ pub extern "C" fn boltraven_compute_targets(
         capacities,
         priors,
         fairness,
+        edition,
         out,
     )
 }

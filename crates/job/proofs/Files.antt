@@ -41,14 +41,10 @@ rise-done s at n k h g a = all-done (n - 1) k _ h (omega arith) a
 
 -- the chain, link by link
 module _ (s : List ℕ) (settings freezes at owners : ℕ) where
-  pub rest-last : (r : Bool) → settings ≡ 1 → freezes ≤ 1 → getD s 7 0 ≡ 0 → r ≡ rising s at owners
+  pub rest-last : (r : Bool) → settings ≡ 1 → freezes ≤ 1 → r ≡ rising s at owners
       → r ≡ restOk s settings freezes at owners
   unfolding restOk
-  rest-last r p q z e = e ∙ sym (simp (eq-eqb _ _ p, le-leb _ _ q, eq-eqb _ _ z))
-
-  pub rest-byte : settings ≡ 1 → freezes ≤ 1 → (getD s 7 0 ≡ 0 → ⊥) → false ≡ restOk s settings freezes at owners
-  unfolding restOk
-  rest-byte p q z = sym (simp (eq-eqb _ _ p, le-leb _ _ q, ne-eqb _ _ z))
+  rest-last r p q e = e ∙ sym (simp (eq-eqb _ _ p, le-leb _ _ q))
 
   pub rest-freezes : settings ≡ 1 → 1 < freezes → false ≡ restOk s settings freezes at owners
   unfolding restOk

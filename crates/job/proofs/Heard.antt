@@ -14,7 +14,7 @@ use Rattle.paper.specs.Rows.{unless}
 use lib.Signed.{mag}
 use lib.ListN.{take}
 use Rattle.paper.specs.Count.{all}
-use Rattle.paper.proofs.Logic.{both, and-true, cond-zero, people-says, slot-count-says}
+use Rattle.paper.proofs.Logic.{and-true, cond-zero, people-says, slot-count-says}
 use Rattle.paper.proofs.Count.{sum-same}
 use Rattle.slotset.specs.Slots.{slot}
 use Rattle.slots.specs.Lent.{slotRoomOk, slotsOk, minutesAt, demandOf}
@@ -41,7 +41,7 @@ use Rattle.job.proofs.Files.{length-column, column-at}
 use Rattle.job.proofs.Tests.{Numbered, Rising, step}
 use Rattle.job.proofs.Prepares.{few-says}
 use Rattle.job.proofs.Passing.{atoms-no, AtomsSound, atoms-sound, avail-length, frozen-length, frozen-at, lent-room, shares-no}
-use Rattle.job.proofs.Passing.{units-no, units-right, units-fit, first-is, owners-known, owners-even, narrowed-length}
+use Rattle.job.proofs.Passing.{units-no, units-right, units-fit, right-flags, first-is, owners-known, owners-even, narrowed-length}
 use Rattle.job.proofs.Rotas.{RotaSound, start-no}
 
 -- ---- columns have the room that their counts may ask for
@@ -133,8 +133,8 @@ module _ (s : List ℕ) where
           length-replicate {A = ℕ} 512 0,
         )
 
-    shares-lent : Lent (targets.given (peopleOf s) n S E (availIn s n S E) (capacitiesOf s) (priorsOf s) (settingsIn s .fairness))
-        (length (replicate 32 (pos 0)))
+    shares-lent : Lent (targets.given (peopleOf s) n S E (availIn s n S E) (capacitiesOf s) (priorsOf s) (settingsIn s .fairness)
+        (settingsIn s .edition)) (length (replicate 32 (pos 0)))
     shares-lent = record {
       people-ok = each-few few .1;
       slots-ok = A .count-ok;
@@ -148,7 +148,7 @@ module _ (s : List ℕ) where
     shares-heard : targetsIn s n S E (availIn s n S E) .number
         ≡ orElse (allFiguresOk (peopleOf s) (capacitiesOf s)
         (priorsOf s)) 6
-        (orElse (leb (settingsIn s .fairness) 1) 7 0)
+        (orElse (leb (settingsIn s .fairness) 1) 7 (orElse (leb (settingsIn s .edition) 1) 7 0))
     unfolding targetsIn
     shares-heard = shares-no _ (replicate 32 (pos 0)) shares-lent (A .lent)
 
@@ -310,11 +310,11 @@ module _ (s : List ℕ) (room : ℕ) (A : AllPass (jobTests s room)) where
 
   -- and so is the sum of its targets
   shares-none : targetsIn s (readyOf s .slots) (readyOf s .starts) (readyOf s .ends) (readyOf s .avail) .number ≡ 0
-  unfolding jobTests readRow prepareRow settingsOk readyOf readyIn
+  unfolding jobTests readRow prepareRow readyOf readyIn
   shares-none =
       let R = readyOf s in
-      let f = both (leb (settingsIn s .fairness) 1) _ (A 7 (lit< tt)) .0 in
-      shares-heard s few (R .slots) (R .starts) (R .ends) (atoms-right s few atoms) ∙ simp (A 6 (lit< tt), f)
+      let f = right-flags (settingsIn s) (A 7 (lit< tt)) in
+      shares-heard s few (R .slots) (R .starts) (R .ends) (atoms-right s few atoms) ∙ simp (A 6 (lit< tt), f .0, f .1)
 
   pub targets-right : (sumℤ (take (readyOf s .people) (readyOf s .targets))
       ≡ pos (demandOf (readyOf s .slots) (readyOf s .starts) (readyOf s .ends)))

@@ -10,7 +10,7 @@ use borrow.Author.Tests.{leb-true, le-leb, eq-eqb, eqb-true, ltb-true, lt-ltb}
 use lib.Dec.{leb, ltb, eqb, lit<, lit≤}
 use lib.ListN.{length, getD, List·getD-eq-default}
 use Rattle.paper.specs.Count.{all}
-use Rattle.paper.proofs.Logic.{both, four, and-true, lt-or-ge}
+use Rattle.paper.proofs.Logic.{both, three, and-true, lt-or-ge}
 use Rattle.paper.proofs.Count.{all-each, each-all}
 use Rattle.records.specs.Fields.{le, Bytes}
 use Rattle.records.specs.Records.{Rec, fileOf, bodies, blockAt, countOf, walkOk}
@@ -46,11 +46,6 @@ module _ (s : List ℕ) (rs : List Rec) (l : Laid jobLayout 0 rs) (e : s ≡ fil
       → le n s (blockAt jobLayout s i + k * (4 + getD jobSizes i 0) + (4 + off)) ≡ le n (getD (bodies (1 + i) rs) k []) off
   fields i k off n h g r = laid-field jobLayout s rs layout-fits l e i k off n h g r
 
-  zero-at : 0 < length (bodies 1 rs) → getD s 7 0 ≡ getD (getD (bodies 1 rs) 0 []) 3 0
-  unfolding blockAt
-  zero-at h =
-      sym (one-byte s 7) ∙ fields 0 0 3 1 (lit< tt) h (lit≤ tt) ∙ one-byte (getD (bodies 1 rs) 0 []) 3
-
   slot-at : (k : ℕ) → k < length (bodies 6 rs) → ownerSlot s (blockAt jobLayout s 5) k ≡ le 2 (getD (bodies 6 rs) k []) 0
   unfolding ownerSlot
   slot-at k h = fields 5 k 0 2 (lit< tt) h (lit≤ tt)
@@ -71,7 +66,7 @@ kept-file s b t =
     let rise : ℕ → Bool = λ k. ltb (ownerSlot s at k) (ownerSlot s at (k + 1)) in
     let x = both (walkOk jobLayout fileMost s) _ t in
     let f = accepted-laid jobLayout fileMost s b (x .0) in
-    let y = four (eqb (countOf jobLayout s 0) 1) (leb (countOf jobLayout s 4) 1) (eqb (getD s 7 0) 0) (all (n - 1) rise) (x .1) in
+    let y = three (eqb (countOf jobLayout s 0) 1) (leb (countOf jobLayout s 4) 1) (all (n - 1) rise) (x .1) in
     let rs = f .records in
     let C = counts s rs (f .laid) (f .whole) in
     let one : length (bodies 1 rs) ≡ 1 = sym (C 0 (lit< tt)) ∙ eqb-true _ _ (y .0) in
@@ -80,10 +75,9 @@ kept-file s b t =
       right = record {
         order = laid-ordered jobLayout rs .0 (f .laid);
         settings = one;
-        zero-byte = sym (zero-at s rs (f .laid) (f .whole) (omega arith)) ∙ eqb-true _ _ (y .2);
         freezes = omega (arith, C 4 (lit< tt), leb-true (countOf jobLayout s 4) 1 (y .1));
         slots-rise = λ k h.
-            ltb-true _ _ (sym (rise-at s rs (f .laid) (f .whole) k h) ∙ all-each (n - 1) rise (y .3) k (omega (arith, C 5 (lit< tt))));
+            ltb-true _ _ (sym (rise-at s rs (f .laid) (f .whole) k h) ∙ all-each (n - 1) rise (y .2) k (omega (arith, C 5 (lit< tt))));
       };
       whole = f .whole;
       short = leb-true _ _ (both (leb (length s) fileMost) _ (x .0) .0);
@@ -104,11 +98,10 @@ file-kept s J =
     (omega (arith, ap length e, J .short)))
     (and-true _ _ (eq-eqb _ _ (C 0 (lit< tt) ∙ R .settings))
     (and-true _ _ (le-leb (countOf jobLayout s 4) 1 (omega (arith, C 4 (lit< tt), R .freezes)))
-    (and-true _ _ (eq-eqb _ _ (zero-at s rs l e (omega (arith, R .settings)) ∙ R .zero-byte))
     (each-all (n - 1) (λ k. ltb (ownerSlot s at k) (ownerSlot s at (k + 1)))
     (λ k h.
     let g : suc k < length (bodies 6 rs) = omega (arith, C 5 (lit< tt)) in
-    rise-at s rs l e k g ∙ lt-ltb _ _ (R .slots-rise k g))))))
+    rise-at s rs l e k g ∙ lt-ltb _ _ (R .slots-rise k g)))))
 
 -- both together, of every list of bytes
 pub rule-13 : (s : List ℕ) → Bytes s → (fileOk s ≡ true) ↔ JobFile s
@@ -151,7 +144,7 @@ module _ (s : List ℕ) (J : JobFile s) where
   -- the settings are those of the settings record
   pub settings-read : let body = getD (bodies 1 (J .records)) 0 [] in
       (settingsIn s .fairness ≡ le 1 body 0) × (settingsIn s .lock ≡ le 1 body 1) × (settingsIn s .boundary ≡ le 1 body 2)
-      × (settingsIn s .value ≡ le 2 body 4) × (settingsIn s .days ≡ le 2 body 6)
+      × (settingsIn s .edition ≡ le 1 body 3) × (settingsIn s .value ≡ le 2 body 4) × (settingsIn s .days ≡ le 2 body 6)
   unfolding settingsIn blockAt
   settings-read =
       let h : 0 < length (bodies 1 (J .records)) = omega (arith, J .right .settings) in
@@ -162,6 +155,7 @@ module _ (s : List ℕ) (J : JobFile s) where
         sym (one-byte s 4) ∙ at 0 1 (lit≤ tt),
         sym (one-byte s 5) ∙ at 1 1 (lit≤ tt),
         sym (one-byte s 6) ∙ at 2 1 (lit≤ tt),
+        sym (one-byte s 7) ∙ at 3 1 (lit≤ tt),
         at 4 2 (lit≤ tt),
         at 6 2 (lit≤ tt),
       )

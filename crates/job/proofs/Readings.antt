@@ -183,13 +183,13 @@ module _ {s c b : List ℕ} (K : ReadOk s c b) where
 
   pub targets-are : (n : ℕ) (S E av : List ℕ) (cp : List Float) (pr : List ℕ) (st : Settings) (h : JobTargets) → cp ≡ capacitiesOf s
       → pr ≡ priorsOf s → st ≡ settingsIn s
-      → TargetsAre (targets.computeTargets (targets.given (getD c 2 0) n S E av cp pr (st .fairness)) (replicate 32 (pos 0))) h
+      → TargetsAre (targets.computeTargets (targets.given (getD c 2 0) n S E av cp pr (st .fairness) (st .edition)) (replicate 32 (pos 0))) h
       → TargetsAre (targetsIn s n S E av) h
   unfolding targetsIn
   targets-are n S E av cp pr st h p q t w =
       subst (λ (g : targets.Given). TargetsAre (targets.computeTargets g (replicate 32 (pos 0))) h)
-      (ap₂ (λ (m : ℕ) (x : List Float). targets.given m n S E av x pr (st .fairness)) (read-count 2) p
-      ∙ ap₂ (λ (y : List ℕ) (z : Settings). targets.given (peopleOf s) n S E av (capacitiesOf s) y (z .fairness)) q t)
+      (ap₂ (λ (m : ℕ) (x : List Float). targets.given m n S E av x pr (st .fairness) (st .edition)) (read-count 2) p
+      ∙ ap₂ (λ (y : List ℕ) (z : Settings). targets.given (peopleOf s) n S E av (capacitiesOf s) y (z .fairness) (z .edition)) q t)
       w
 
   pub frozen-are : (n : ℕ) (S E fz : List ℕ) (i : ℕ) → i ≡ cond (eqb (getD c 4 0) 0) 0 (le 4 s (getD b 4 0 + 4))

@@ -32,8 +32,9 @@ bodyOf [] = []
 bodyOf (f ∷ fs) = leBytes (f .width) (f .value) ++ bodyOf fs
 
 -- the bodies of the seven kinds
-abbrev pub settingsBody : ℕ → ℕ → ℕ → ℕ → ℕ → List Field
-settingsBody fairness lock boundary value days = byte fairness ∷ byte lock ∷ byte boundary ∷ byte 0 ∷ two value ∷ two days ∷ []
+abbrev pub settingsBody : ℕ → ℕ → ℕ → ℕ → ℕ → ℕ → List Field
+settingsBody fairness lock boundary edition value days =
+    byte fairness ∷ byte lock ∷ byte boundary ∷ byte edition ∷ two value ∷ two days ∷ []
 
 abbrev pub baseBody : ℕ → ℕ → List Field
 baseBody start end = four start ∷ four end ∷ []
@@ -87,13 +88,13 @@ field-back (f ∷ fs) x (suc k) h b = later-back f fs x (fieldOf fs k .width) (p
 
 -- ---- the seven kinds
 
-pub settings-back : (fairness lock boundary value days : ℕ) (x : List ℕ) → fairness < 256 → lock < 256 → boundary < 256 → value < 65536
-    → days < 65536
-    → let b = bodyOf (settingsBody fairness lock boundary value days) ++ x in
-    (le 1 b 0 ≡ fairness) × (le 1 b 1 ≡ lock) × (le 1 b 2 ≡ boundary) × (le 1 b 3 ≡ 0) × (le 2 b 4 ≡ value) × (le 2 b 6 ≡ days)
-settings-back fairness lock boundary value days x p q r s t =
-    let at = field-back (settingsBody fairness lock boundary value days) x in
-    (at 0 (lit< tt) p, at 1 (lit< tt) q, at 2 (lit< tt) r, at 3 (lit< tt) (lit< tt), at 4 (lit< tt) s, at 5 (lit< tt) t)
+pub settings-back : (fairness lock boundary edition value days : ℕ) (x : List ℕ) → fairness < 256 → lock < 256 → boundary < 256
+    → edition < 256 → value < 65536 → days < 65536
+    → let b = bodyOf (settingsBody fairness lock boundary edition value days) ++ x in
+    (le 1 b 0 ≡ fairness) × (le 1 b 1 ≡ lock) × (le 1 b 2 ≡ boundary) × (le 1 b 3 ≡ edition) × (le 2 b 4 ≡ value) × (le 2 b 6 ≡ days)
+settings-back fairness lock boundary edition value days x p q r e s t =
+    let at = field-back (settingsBody fairness lock boundary edition value days) x in
+    (at 0 (lit< tt) p, at 1 (lit< tt) q, at 2 (lit< tt) r, at 3 (lit< tt) e, at 4 (lit< tt) s, at 5 (lit< tt) t)
 
 pub base-back : (start end : ℕ) (x : List ℕ) → start < 2 ^ 32 → end < 2 ^ 32
     → (le 4 (bodyOf (baseBody start end) ++ x) 0 ≡ start) × (le 4 (bodyOf (baseBody start end) ++ x) 4 ≡ end)

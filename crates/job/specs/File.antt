@@ -34,10 +34,10 @@ ownerSlot s at k = le 2 s (at + k * 8 + 4)
 unfoldable pub rising : List ℕ → ℕ → ℕ → Bool
 rising s at n = all (n - 1) (λ k. ltb (ownerSlot s at k) (ownerSlot s at (k + 1)))
 
--- beside the walk: one settings record, whose zero byte is 0; at most one freeze; the owners' slots rise
+-- beside the walk: one settings record; at most one freeze; the owners' slots rise
 unfoldable pub restOk : List ℕ → ℕ → ℕ → ℕ → ℕ → Bool
 restOk s settings freezes at owners =
-    eqb settings 1 && (leb freezes 1 && (eqb (getD s 7 0) 0 && rising s at owners))
+    eqb settings 1 && (leb freezes 1 && rising s at owners)
 
 -- the layout is kept
 unfoldable pub fileOk : List ℕ → Bool
@@ -50,7 +50,6 @@ fileOk s =
 pub record JobRecords (rs : List Rec) : Type 0 where
   pub order : InOrder jobLayout rs
   pub settings : length (bodies 1 rs) ≡ 1
-  pub zero-byte : getD (getD (bodies 1 rs) 0 []) 3 0 ≡ 0
   pub freezes : length (bodies 5 rs) ≤ 1
   pub slots-rise : (k : ℕ) → suc k < length (bodies 6 rs) → le 2 (getD (bodies 6 rs) k []) 0 < le 2 (getD (bodies 6 rs) (suc k) []) 0
 

@@ -59,7 +59,14 @@ priorsOf s = columnOf s 2 8 4
 
 -- the body of the settings record, which is the first; the instant of the freeze record
 unfoldable pub settingsIn : List ℕ → Settings
-settingsIn s = record { fairness = getD s 4 0; lock = getD s 5 0; boundary = getD s 6 0; value = le 2 s 8; days = le 2 s 10 }
+settingsIn s = record {
+  fairness = getD s 4 0;
+  lock = getD s 5 0;
+  boundary = getD s 6 0;
+  edition = getD s 7 0;
+  value = le 2 s 8;
+  days = le 2 s 10;
+}
 
 abbrev pub instantOf : List ℕ → ℕ
 instantOf s = cond (eqb (counted s 4) 0) 0 (le 4 s (begins s 4 + 4))
@@ -103,7 +110,8 @@ availIn s n starts ends = availabilityOf (peopleOf s) n starts ends (rangesOf s)
 
 unfoldable pub targetsIn : List ℕ → ℕ → List ℕ → List ℕ → List ℕ → targets.Outcome
 targetsIn s n starts ends avail =
-    targets.computeTargets (targets.given (peopleOf s) n starts ends avail (capacitiesOf s) (priorsOf s) (settingsIn s .fairness))
+    targets.computeTargets (targets.given (peopleOf s) n starts ends avail (capacitiesOf s) (priorsOf s) (settingsIn s .fairness)
+    (settingsIn s .edition))
     (replicate 32 (pos 0))
 
 unfoldable pub unitsIn : List ℕ → ℕ → List ℕ → List ℕ → Written

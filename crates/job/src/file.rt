@@ -4,21 +4,11 @@ use records::Walked;
 use records::walk;
 ghost use mathlib.Core.Path.{_≡_};
 ghost use Prim.Native.Nat.{_+_, _*_, _≤_};
-ghost use lib.ListN.{length, getD};
+ghost use lib.ListN.{length};
 ghost use Rattle.job.specs.File.{jobCounts, jobStarts, rising, restOk, fileOk};
 
 // The most bytes of a job file.
 pub const FILE_MOST: usize = 49152;
-
-// Byte i, or 0 past the end.
-fn byte_at(s: &[u8], i: usize) -> u8
-    ensures { λ r. ⌜ r ≡ getD (now (s .entry)) i 0 ⌝ }
-{
-    if i < s.len() {
-        return s[i];
-    }
-    0
-}
 
 // Whether the slots of the n owner records from `at` on rise.
 fn slots_rise(s: &[u8], at: usize, n: usize) -> bool
@@ -60,17 +50,14 @@ pub(crate) fn read_file(s: &[u8]) -> Walked
     }
 }
 
-// One settings record, whose zero byte is 0; at most one freeze; the owners' slots rise.
+// One settings record; at most one freeze; the owners' slots rise.
 fn rest_ok(s: &[u8], settings: usize, freezes: usize, at: usize, owners: usize) -> bool
     requires { ⌜ at + owners * 8 ≤ length (now s) ⌝ }
     ensures { λ r. ⌜ r ≡ restOk (now (s .entry)) settings freezes at owners ⌝ }
 {
     if settings == 1 {
         if freezes <= 1 {
-            if byte_at(s, 7) == 0 {
-                return slots_rise(s, at, owners);
-            }
-            return false;
+            return slots_rise(s, at, owners);
         }
         return false;
     }

@@ -31,6 +31,7 @@ pub(crate) fn settings_in(s: &[u8]) -> Settings
         fairness: s[4],
         lock: s[5],
         boundary: s[6],
+        edition: s[7],
         value,
         days,
     }
@@ -128,9 +129,10 @@ pub(crate) fn targets_of(
     capacities: &[f64],
     priors: &[u32],
     fairness: u8,
+    edition: u8,
 ) -> JobTargets
     ensures { λ r. ⌜ TargetsAre (computeTargets (given people slots (now (starts .entry)) (now (ends .entry)) (now (avail .entry))
-        (now (capacities .entry)) (now (priors .entry)) fairness) (replicate 32 (pos 0))) r ⌝ }
+        (now (capacities .entry)) (now (priors .entry)) fairness edition) (replicate 32 (pos 0))) r ⌝ }
 {
     let mut out = [0i64; 32];
     let number = targets::compute_targets(
@@ -142,6 +144,7 @@ pub(crate) fn targets_of(
         capacities,
         priors,
         fairness,
+        edition,
         &mut out,
     );
     JobTargets {

@@ -83,6 +83,7 @@ fn targets_in(
         &capacities,
         &priors,
         settings.fairness,
+        settings.edition,
     )
 }
 

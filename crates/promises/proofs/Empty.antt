@@ -92,7 +92,7 @@ module _ (C : Component) (M : MarkedCases C) (T : RefusesByTable C) (S : SizesRe
       f _ _ (ap (λ (y : targets.Outcome). y .number) (M .case-9 (zeros 32) (pos 0 ∷ pos 0 ∷ []) (room 32) (omega arith)))
   always-refusing-falls (refuses-rotations f) =
       f _ _ _ _ _ (ap (λ (w : Written). numberNo (w .answer))
-      (M .case-11 0 0 0 (0 ∷ 0 ∷ 0 ∷ 0 ∷ []) (omega arith) (omega arith) (omega arith) (omega arith)))
+      (M .case-11 0 0 0 0 (0 ∷ 0 ∷ 0 ∷ 0 ∷ []) (omega arith) (omega arith) (omega arith) (omega arith) (omega arith)))
   always-refusing-falls (refuses-play f) =
       f still (one-heard _ _ _ (T still) (rota-refuses .play still .heard)
       ∙ ap (λ (y : state.Outcome). y .number) (accepted-is still still-accepted))
@@ -145,8 +145,8 @@ fixed-answer-falls C (fixed-targets f) M H =
     ∙ ap first (M .case-8 (zeros 64) out (room 64) (omega arith)) in
     let z : _≡_ {A = ℕ} 33 1 = cc in omega arith
 fixed-answer-falls C (fixed-rotations f) M H =
-    let a = M .case-11 0 0 0 (0 ∷ 0 ∷ 0 ∷ 0 ∷ []) (omega arith) (omega arith) (omega arith) (omega arith) in
-    let b = M .case-11 0 0 0 (0 ∷ 0 ∷ 1 ∷ 0 ∷ []) (omega arith) (omega arith) (omega arith) (omega arith) in
+    let a = M .case-11 0 0 0 0 (0 ∷ 0 ∷ 0 ∷ 0 ∷ []) (omega arith) (omega arith) (omega arith) (omega arith) (omega arith) in
+    let b = M .case-11 0 0 0 0 (0 ∷ 0 ∷ 1 ∷ 0 ∷ []) (omega arith) (omega arith) (omega arith) (omega arith) (omega arith) in
     let third : Written → ℕ = λ w. getD (w .buffer) 2 0 in
     let z : _≡_ {A = ℕ} 0 1 = sym (ap third a) ∙ ap third (f _ _ _ _ _ _) ∙ ap third b in omega arith
 fixed-answer-falls C (fixed-play f) M H =

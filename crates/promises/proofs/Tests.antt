@@ -11,7 +11,7 @@ use lib.Ieee.{Float, nan, le}
 use lib.ListN.{length, getD}
 use Rattle.paper.specs.Limits.{peopleOk, slotCountOk, nobody}
 use Rattle.paper.specs.Count.{all}
-use Rattle.paper.proofs.Logic.{by-test, both, three, and-true, or-left, or-right, or-second}
+use Rattle.paper.proofs.Logic.{by-test, both, three, four, and-true, or-left, or-right, or-second}
 use Rattle.paper.proofs.Count.{all-each, each-all}
 use Rattle.slotset.specs.Answers.{rowSlots}
 use Rattle.slots.specs.Lent.{slotOk, prevEnd, slotOkAt, slotRoomOk, slotsOk}
@@ -153,16 +153,17 @@ settings-test : (s : Settings) → (settingsOk s ≡ true) ↔ SettingsRight s
 unfolding settingsOk
 settings-test s = (
   λ e.
-      let x = three (leb (s .fairness) 1) (leb (s .lock) 1) (leb (s .days) 366 && boundaryOk (s .boundary) (s .value)) e in
-      let y = both (leb (s .days) 366) (boundaryOk (s .boundary) (s .value)) (x .2) in
+      let x = four (leb (s .fairness) 1) (leb (s .lock) 1) (leb (s .edition) 1) (leb (s .days) 366 && boundaryOk (s .boundary) (s .value)) e in
+      let y = both (leb (s .days) 366) (boundaryOk (s .boundary) (s .value)) (x .3) in
       record {
         fairness = leb-true _ _ (x .0);
         lock = leb-true _ _ (x .1);
+        edition = leb-true _ _ (x .2);
         boundary = boundary-test (s .boundary) (s .value) .0 (y .1);
         days = leb-true _ _ (y .0);
       },
   λ x. and-true _ _ (le-leb _ _ (x .fairness)) (and-true _ _ (le-leb _ _ (x .lock))
-      (and-true _ _ (le-leb _ _ (x .days)) (boundary-test (s .boundary) (s .value) .1 (x .boundary)))),
+      (and-true _ _ (le-leb _ _ (x .edition)) (and-true _ _ (le-leb _ _ (x .days)) (boundary-test (s .boundary) (s .value) .1 (x .boundary))))),
 )
 
 -- ---- 9 of units

@@ -56,7 +56,7 @@ pub record JobByRule : Type 0 where
   pub settings : (s : List ℕ) (J : JobFile s)
       → let body = getD (bodies 1 (J .records)) 0 [] in
       (settingsIn s .fairness ≡ le 1 body 0) × (settingsIn s .lock ≡ le 1 body 1) × (settingsIn s .boundary ≡ le 1 body 2)
-      × (settingsIn s .value ≡ le 2 body 4) × (settingsIn s .days ≡ le 2 body 6)
+      × (settingsIn s .edition ≡ le 1 body 3) × (settingsIn s .value ≡ le 2 body 4) × (settingsIn s .days ≡ le 2 body 6)
   pub base-total : (s : List ℕ) (J : JobFile s)
       → let base = bodies 2 (J .records) in baseTotal s ≡ sum (length base) (λ k. le 4 (getD base k []) 4 - le 4 (getD base k []) 0)
   -- "owner: .. slots rising, the rest 255": a slot has the owner of its record, 255 where none names it

@@ -40,16 +40,17 @@ one = fin false 1 (pos 0)
 abbrev pub none : Float
 none = fin false 0 (pos 0)
 
--- fairness 1, and one slot as long as demand: these targets, whatever the availability
+-- fairness 1, edition 1, and one slot as long as demand: these targets, whatever the availability
 abbrev pub Shared : Component → ℕ → List Float → List ℕ → List ℤ → Type 0
 Shared C demand capacities priors zs =
     (avail : List ℕ) (out : List ℤ) → 16 * length capacities ≤ length avail → length capacities ≤ length out
-    → C .targets (given (length capacities) 1 (0 ∷ []) (demand ∷ []) avail capacities priors 1) out
+    → C .targets (given (length capacities) 1 (0 ∷ []) (demand ∷ []) avail capacities priors 1 0) out
     ≡ record { number = 0; out = zs ++ drop (length capacities) out }
 
 -- rotations on Mondays, with any other settings that rule 7 allows
-abbrev pub mondays : ℕ → ℕ → ℕ → Settings
-mondays fairness lock days = record { fairness = fairness; lock = lock; boundary = 1; value = 1; days = days }
+abbrev pub mondays : ℕ → ℕ → ℕ → ℕ → Settings
+mondays fairness lock edition days =
+    record { fairness = fairness; lock = lock; boundary = 1; edition = edition; value = 1; days = days }
 
 -- who owns two slots of an hour, and each person's first word and minutes
 pub record Owned : Type 0 where
@@ -124,8 +125,8 @@ pub record MarkedCases (C : Component) : Type 0 where
   -- 10. Demand 100, two of capacity 0: 0, 100
   pub case-10 : Shared C 100 (none ∷ none ∷ []) (0 ∷ 0 ∷ []) (pos 0 ∷ pos 100 ∷ [])
   -- 11. Slots from 4320, 5040, 5760, 6480, 720 long, Monday: starts 0, 2
-  pub case-11 : (fairness lock days : ℕ) (list : List ℕ) → fairness ≤ 1 → lock ≤ 1 → days ≤ 366 → 4 ≤ length list
-      → C .rotations (mondays fairness lock days) 4 (4320 ∷ 5040 ∷ 5760 ∷ 6480 ∷ []) (5040 ∷ 5760 ∷ 6480 ∷ 7200 ∷ []) list
+  pub case-11 : (fairness lock edition days : ℕ) (list : List ℕ) → fairness ≤ 1 → lock ≤ 1 → edition ≤ 1 → days ≤ 366 → 4 ≤ length list
+      → C .rotations (mondays fairness lock edition days) 4 (4320 ∷ 5040 ∷ 5760 ∷ 6480 ∷ []) (5040 ∷ 5760 ∷ 6480 ∷ 7200 ∷ []) list
       ≡ record { answer = number.Is 2; buffer = 0 ∷ 2 ∷ drop 2 list }
   -- 12. Two units, owners 0 and 1, unit 1 frozen: (35, 0, 1) answers 1
   pub case-12 : (more : Spare) → 1 ≤ length (more .answers)

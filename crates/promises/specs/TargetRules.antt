@@ -1,4 +1,5 @@
--- Demand 2, targets: each step, and the outcome, are what the paper's section says. Every step on a Float is IEEE 754's. Assumes nothing.
+-- Demand 2, targets: each step, and the outcome, are what the paper's section says. Every step on a Float is IEEE 754's. Edition 2 of the
+-- last step stands in EditionRules. Assumes nothing.
 use mathlib.Core.Path.{_≡_}
 use mathlib.Core.Bool.{Bool, true, false, cond}
 use mathlib.Core.List.{List, [], _∷_, _++_, map}
@@ -80,9 +81,9 @@ pub record TargetsByRule : Type 0 where
   -- "Then demand less the targets goes to the largest unpinned target, the last of equals, or to person 0 if all are pinned."
   pub taker : (g : Given) → TheOne (Takes (leftIn g)) (takerIn g)
   -- everybody else's target is what the passes left, not below 0: "one may be negative"
-  pub others : (g : Given) (out : List ℤ) (k : ℕ) → computeTargets g out .number ≡ 0 → k < g .people → k ≢ takerIn g
+  pub others : (g : Given) (out : List ℤ) (k : ℕ) → g .edition ≡ 0 → computeTargets g out .number ≡ 0 → k < g .people → k ≢ takerIn g
       → getD (computeTargets g out .out) k (pos 0) ≡ pos (getD (leftIn g) k pad .target)
-  -- "The targets add up to demand"
+  -- "The targets add up to demand", in each edition
   pub add-up : (g : Given) (out : List ℤ) → computeTargets g out .number ≡ 0
       → sumℤ (take (g .people) (computeTargets g out .out)) ≡ pos (demandIn g)
   -- past them the buffer stays, refused or not
@@ -91,6 +92,6 @@ pub record TargetsByRule : Type 0 where
   pub guard : (g : Given) (out : List ℤ) → computeTargets g out .number ≡ 8 → ⊥
   -- marked cases 8 to 10 name no fairness: where everybody is available for every slot the two come to the same
   pub agrees : (people slots : ℕ) (starts ends avail : List ℕ) (capacities : List Float) (priors : List ℕ)
-      → ((p k : ℕ) → p < people → k < slots → rowSlots avail p k ≡ 1) → (out : List ℤ)
-      → computeTargets (given people slots starts ends avail capacities priors 0) out
-      ≡ computeTargets (given people slots starts ends avail capacities priors 1) out
+      → ((p k : ℕ) → p < people → k < slots → rowSlots avail p k ≡ 1) → (edition : ℕ) (out : List ℤ)
+      → computeTargets (given people slots starts ends avail capacities priors 0 edition) out
+      ≡ computeTargets (given people slots starts ends avail capacities priors 1 edition) out

@@ -36,10 +36,12 @@ pub record FiguresRight (people : ℕ) (capacities : List Float) (priors : List 
   pub to-1000 : (k : ℕ) → k < people → le (getD capacities k nan) (whole 1000) ≡ true
   pub prior : (k : ℕ) → k < people → getD priors k 0 ≤ 100000000
 
--- 7: not "fairness, lock or boundary is not 0 or 1; every-count above 1,024; weekday mask above 127; shift days above 366"
+-- 7: not "fairness, lock or boundary is not 0 or 1; every-count above 1,024; weekday mask above 127; shift days above 366", and the
+-- edition is 0 or 1
 pub record SettingsRight (s : Settings) : Type 0 where
   pub fairness : s .fairness ≤ 1
   pub lock : s .lock ≤ 1
+  pub edition : s .edition ≤ 1
   pub boundary : ((s .boundary ≡ 0) × (s .value ≤ 1024)) ⊎ ((s .boundary ≡ 1) × (s .value ≤ 127))
   pub days : s .days ≤ 366
 

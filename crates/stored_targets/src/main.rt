@@ -1,5 +1,6 @@
-// Replays stored targets of the Rust: reads records from standard input, works the targets out, and tells how many lists it compared and
-// how many differ. `oracle/store` writes the records (oracle/src/stored.rs has their layout).
+// Replays stored targets, the Rust's of edition 1 and those of edition 2 over the Rust's rounded ones: reads records from standard input,
+// works the targets out, and tells how many lists it compared and how many differ. `oracle/store` writes the records
+// (oracle/src/stored.rs has their layout).
 use stored::Tally;
 use stored::Turn;
 use stored::half;
@@ -7,22 +8,22 @@ use stored::plus;
 use stored::quad;
 use stored::quads;
 
-// A record: people, slots, fairness; the slots; who can cover which; the figures; the targets.
-const RECORD: usize = 198;
+// A record: people, slots, fairness, edition; the slots; who can cover which; the figures; the targets.
+const RECORD: usize = 200;
 
-const STARTS_AT: usize = 6;
+const STARTS_AT: usize = 8;
 
-const ENDS_AT: usize = 30;
+const ENDS_AT: usize = 32;
 
-const ABLE_AT: usize = 54;
+const ABLE_AT: usize = 56;
 
-const ABOVE_AT: usize = 70;
+const ABOVE_AT: usize = 72;
 
-const BELOW_AT: usize = 102;
+const BELOW_AT: usize = 104;
 
-const PRIORS_AT: usize = 134;
+const PRIORS_AT: usize = 136;
 
-const TARGETS_AT: usize = 166;
+const TARGETS_AT: usize = 168;
 
 // Six numbers at an index.
 fn six(b: &[u8], at: usize) -> [u32; 6] {
@@ -74,7 +75,7 @@ fn is_target(t: i64, b: &[u8], at: usize) -> bool {
         == std::num::nearest_u64_to_f64(wide(quad(b, at)))
 }
 
-// Whether all targets of a record are the Rust's.
+// Whether all targets of a record are those stored.
 fn same_targets(b: &[u8]) -> bool {
     let people = half(b, 0);
     let slots = half(b, 2);
@@ -84,6 +85,7 @@ fn same_targets(b: &[u8]) -> bool {
     let caps = capacities(b);
     let priors = eight(b, PRIORS_AT);
     let fairness = if half(b, 4) == 1 { 1u8 } else { 0u8 };
+    let edition = if half(b, 6) == 1 { 1u8 } else { 0u8 };
     let mut out = [0i64; 8];
     let number = targets::compute_targets(
         people,
@@ -94,6 +96,7 @@ fn same_targets(b: &[u8]) -> bool {
         &caps,
         &priors,
         fairness,
+        edition,
         &mut out,
     );
     let mut same = number == 0;

@@ -152,6 +152,7 @@ fn settings(b: &[u8]) -> Settings {
         fairness: raw(b, SETTINGS_AT),
         lock: raw(b, SETTINGS_AT + 1),
         boundary: raw(b, SETTINGS_AT + 2),
+        edition: raw(b, SETTINGS_AT + 3),
         value: short(b, SETTINGS_AT + 4),
         days: short(b, SETTINGS_AT + 6),
     }

@@ -75,7 +75,8 @@ module _ (g : Given) (room : ℕ) where
 
   -- the row up to 8
   abbrev front : List Test
-  front = roomRow g room ++ (test 6 (allFiguresOk (g .people) (g .capacities) (g .priors)) ∷ test 7 (leb (g .fairness) 1) ∷ [])
+  front = roomRow g room ++ (test 6 (allFiguresOk (g .people) (g .capacities) (g .priors)) ∷ test 7 (leb (g .fairness) 1)
+      ∷ test 7 (leb (g .edition) 1) ∷ [])
 
   pub with-guard : guardOk g ≡ true → whole ≡ checks
   unfolding targetsRow checksRow roomRow
@@ -131,7 +132,8 @@ accepted g room z =
         priors-room = leb-true _ _ (h 5);
         figures = h 7;
         flag = leb-true _ _ (h 8);
-        ordered = h 9;
+        edition-known = leb-true _ _ (h 9);
+        ordered = h 10;
       };
       out-room = leb-true _ _ (h 6);
     }
@@ -151,7 +153,7 @@ pub record Lent (g : Given) (room : ℕ) : Type 0 where
 -- then 6, 7 and 9 are heard
 pub lent-checks : (g : Given) (room : ℕ) → Lent g room
     → heardOf (checksRow g room) ≡ heardOf (test 6 (allFiguresOk (g .people) (g .capacities) (g .priors)) ∷ test 7 (leb (g .fairness) 1)
-    ∷ test 9 (slotsOk (g .slots) (g .starts) (g .ends)) ∷ [])
+    ∷ test 7 (leb (g .edition) 1) ∷ test 9 (slotsOk (g .slots) (g .starts) (g .ends)) ∷ [])
 unfolding checksRow roomRow
 lent-checks g room l =
     after-pass (roomRow g room) _ (

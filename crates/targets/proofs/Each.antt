@@ -73,6 +73,13 @@ module _ (p : Line → Bool) where
   at-some (l ∷ ls) zero h e = or-left (p l) (some p ls) e
   at-some (l ∷ ls) (suc j) h e = or-second (p l) (some p ls) (at-some ls j (le-of-suc-le-suc h) e)
 
+-- where one test holds, another does
+pub some-then : (p q : Line → Bool) → ((l : Line) → p l ≡ true → q l ≡ true) → (ls : List Line) → some p ls ≡ true → some q ls ≡ true
+some-then p q f [] e = e
+some-then p q f (l ∷ ls) e =
+    by-test (p l) _ (λ t. or-left (q l) (some q ls) (f l t))
+    (λ t. or-second (q l) (some q ls) (some-then p q f ls (or-right (p l) (some p ls) e t)))
+
 -- ---- a number of each line, added up
 
 abbrev pub sumLines : (Line → ℕ) → List Line → ℕ

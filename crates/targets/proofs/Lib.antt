@@ -7,6 +7,9 @@ pub mod Signed
 pub mod Sizes
 pub mod Taker
 pub mod Sums
+pub mod LevelLaws
+pub mod Mirror
+pub mod SpreadLaws
 pub mod Padding
 pub mod Floats
 pub mod Guard
@@ -15,5 +18,6 @@ pub mod Ends
 pub mod Minutes
 pub mod Accepted
 pub mod Promises
+pub mod EditionPromises
 pub mod Sized
 pub mod Work

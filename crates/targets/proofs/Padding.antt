@@ -1,15 +1,17 @@
 -- Lines that take no part change nothing: the targets of the people are those of the people alone. Assumes nothing.
 use mathlib.Core.Path.{_≡_, refl, sym, ap, ap₂, _∙_}
-use mathlib.Core.Bool.{Bool, true, false, not, _||_, cond, true≢false}
+use mathlib.Core.Bool.{Bool, true, false, not, _&&_, _||_, cond, true≢false}
 use mathlib.Core.List.{List, [], _∷_, _++_, map, foldl, foldl-append}
-use Prim.Native.Nat.{ℕ, zero, suc, _+_, _<_}
+use Prim.Native.Nat.{ℕ, zero, suc, _+_, _-_, _<_}
 use native.Mathlib.Nat.{add-zero}
 use native.Mathlib.Numerals.{add-one}
 use native.Mathlib.Omega.{arith}
+use lib.Dec.{eqb, leb}
 use lib.Ieee.{Float, lt}
 use lib.IntN.{ℤ, pos, _+ℤ_, _-ℤ_}
 use lib.ListN.{length, getD, take, replicate, length-map, length-set, List·getD-append}
-use lib.Seq.{set-append-left, take-at}
+use lib.Seq.{set-append-left, take-at, drop-at}
+use Rattle.paper.proofs.Logic.{by-test, by-cond}
 use Rattle.targets.specs.declared.Line.{Line}
 use Rattle.targets.specs.declared.Best.{Best}
 use Rattle.targets.specs.declared.Answer.{Answer}
@@ -17,9 +19,12 @@ use Rattle.targets.specs.Figures.{zeroF, whole, pad}
 use Rattle.targets.specs.Passes.{settled, settle, outside, falls, some, withShare, shareSum, withPrior, notional}
 use Rattle.targets.specs.Passes.{Passed, again, done, refused, passed, pass, passes, passesLeave, linesLeft, guarded}
 use Rattle.targets.specs.Remainder.{withTarget, totalOf, better, best, takerOf, targetOf, adjusted}
-use Rattle.targets.specs.Inside.{AnswerOf}
+use Rattle.targets.specs.SecondEdition.{unpinned, unpin, takingPart, oneMore, oneLess, hasLess, hasMore, isSmallest, isLargest, onFirst}
+use Rattle.targets.specs.SecondEdition.{giveMinute, takeMinute, times, handedOut, spread, sharedOut}
+use Rattle.targets.specs.Inside.{AnswerOf, takingFirst, sharedFirst}
 use Rattle.targets.proofs.Cases.{OfLines, lines-keep}
 use Rattle.targets.proofs.Taker.{taker-here}
+use Rattle.targets.proofs.LevelLaws.{first-here, first-later}
 
 -- ---- folds, searches and maps
 
@@ -113,6 +118,77 @@ adjusted-padded m d ls h =
     none : (a : ℕ) → withTarget a pad ≡ a
     none a = add-zero a
 
+-- ---- edition 2's minutes
+
+either : {A : Type 0} (b : Bool) (xs ys zs : List A) → cond b (xs ++ zs) (ys ++ zs) ≡ cond b xs ys ++ zs
+either true xs ys zs = refl
+either false xs ys zs = refl
+
+first-padded : (p q : Line → Bool) (f : Line → Line) → ((l : Line) → q l ≡ p l) → p pad ≡ false → (m : ℕ) (ls : List Line)
+    → onFirst q f (ls ++ replicate m pad) ≡ onFirst p f ls ++ replicate m pad
+first-padded p q f e n zero [] = refl
+first-padded p q f e n (suc m) [] =
+    first-later q f pad (replicate m pad) (e pad ∙ n) ∙ ap (λ (xs : List Line). pad ∷ xs) (first-padded p q f e n m [])
+first-padded p q f e n m (l ∷ ls) =
+    by-test (p l) _
+    (λ t.
+    first-here q f l (ls ++ replicate m pad) (e l ∙ t) ∙ sym (ap (λ (xs : List Line). xs ++ replicate m pad) (first-here p f l ls t)))
+    (λ t.
+    first-later q f l (ls ++ replicate m pad) (e l ∙ t) ∙ ap (λ (xs : List Line). l ∷ xs) (first-padded p q f e n m ls)
+    ∙ sym (ap (λ (xs : List Line). xs ++ replicate m pad) (first-later p f l ls t)))
+
+give-padded : (m : ℕ) (ls : List Line) → giveMinute (ls ++ replicate m pad) ≡ giveMinute ls ++ replicate m pad
+unfolding giveMinute isSmallest
+give-padded m ls =
+    first-padded (isSmallest ls) (isSmallest (ls ++ replicate m pad)) oneMore
+    (λ l. ap (λ (b : Bool). unpinned l && not b) (some-padded (hasLess (l .target)) refl m ls)) refl m ls
+
+take-padded : (m : ℕ) (ls : List Line) → takeMinute (ls ++ replicate m pad) ≡ takeMinute ls ++ replicate m pad
+unfolding takeMinute isLargest
+take-padded m ls =
+    first-padded (isLargest ls) (isLargest (ls ++ replicate m pad)) oneLess
+    (λ l. ap (λ (b : Bool). unpinned l && not b) (some-padded (hasMore (l .target)) refl m ls)) refl m ls
+
+times-padded : (F : List Line → List Line) (m : ℕ) → ((ls : List Line) → F (ls ++ replicate m pad) ≡ F ls ++ replicate m pad)
+    → (k : ℕ) (ls : List Line) → times k F (ls ++ replicate m pad) ≡ times k F ls ++ replicate m pad
+unfolding times
+times-padded F m e zero ls = refl
+times-padded F m e (suc k) ls = ap (times k F) (e ls) ∙ times-padded F m e k (F ls)
+
+handed-padded : (m d : ℕ) (ls : List Line) → handedOut d (ls ++ replicate m pad) ≡ handedOut d ls ++ replicate m pad
+unfolding handedOut
+handed-padded m d ls =
+    rw (
+      fold-padded withTarget add-zero m 0 ls,
+      times-padded giveMinute m (give-padded m) (d - totalOf ls) ls,
+      times-padded takeMinute m (take-padded m) (totalOf ls - d) ls,
+    )
+    (either (leb (totalOf ls) d) (times (d - totalOf ls) giveMinute ls) (times (totalOf ls - d) takeMinute ls) (replicate m pad))
+
+taking-padded : (m : ℕ) (ls : List Line) → takingFirst (length ls) (ls ++ replicate m pad) ≡ takingPart ls ++ replicate m pad
+unfolding takingPart
+taking-padded m ls =
+    rw (
+      some-padded unpinned refl m ls,
+      map-padded unpin m (unpin pad) refl ls,
+      take-at (map unpin ls) (replicate m (unpin pad)) (length ls) (length-map ls unpin),
+      drop-at ls (replicate m pad) (length ls) refl,
+    )
+    (either (some unpinned ls) ls (map unpin ls) (replicate m pad))
+
+shared-padded : (e n m d : ℕ) (ls : List Line) → length ls ≡ n → 0 < length ls
+    → sharedFirst e n d (ls ++ replicate m pad) ≡ sharedOut e d ls ++ replicate m (pos 0)
+unfolding sharedOut spread
+shared-padded e n m d ls N h =
+    rw (
+      ← N,
+      taking-padded m ls,
+      handed-padded m d (takingPart ls),
+      map-padded targetOf m (pos 0) refl (handedOut d (takingPart ls)),
+      adjusted-padded m d ls h,
+    )
+    (either (eqb e 1) (map targetOf (handedOut d (takingPart ls))) (adjusted d ls) (replicate m (pos 0)))
+
 -- ---- the passes keep the people
 
 abbrev pub Len : ℕ → Passed → Type 0
@@ -124,6 +200,38 @@ len-passes n = lines-keep (λ (ls : List Line). length ls ≡ n) (λ a sum ls o 
 pub adjusted-length : (d : ℕ) (ls : List Line) → length (adjusted d ls) ≡ length ls
 unfolding adjusted
 adjusted-length d ls = simp (length-set, length-map)
+
+first-length : (p : Line → Bool) (f : Line → Line) (ls : List Line) → length (onFirst p f ls) ≡ length ls
+first-length p f [] = refl
+first-length p f (l ∷ ls) =
+    by-cond (p l) (f l ∷ ls) (l ∷ onFirst p f ls) (λ (xs : List Line). length xs ≡ suc (length ls)) (λ t. refl)
+    (λ t. ap suc (first-length p f ls))
+
+times-length : (F : List Line → List Line) → ((ls : List Line) → length (F ls) ≡ length ls) → (k : ℕ) (ls : List Line)
+    → length (times k F ls) ≡ length ls
+unfolding times
+times-length F e zero ls = refl
+times-length F e (suc k) ls = times-length F e k (F ls) ∙ e ls
+
+pub handed-length : (d : ℕ) (ls : List Line) → length (handedOut d ls) ≡ length ls
+unfolding handedOut giveMinute takeMinute
+handed-length d ls =
+    by-cond (leb (totalOf ls) d) (times (d - totalOf ls) giveMinute ls) (times (totalOf ls - d) takeMinute ls)
+    (λ (xs : List Line). length xs ≡ length ls)
+    (λ t. times-length giveMinute (λ xs. first-length (isSmallest xs) oneMore xs) (d - totalOf ls) ls)
+    (λ t. times-length takeMinute (λ xs. first-length (isLargest xs) oneLess xs) (totalOf ls - d) ls)
+
+pub taking-length : (ls : List Line) → length (takingPart ls) ≡ length ls
+unfolding takingPart
+taking-length ls =
+    by-cond (some unpinned ls) ls (map unpin ls) (λ (xs : List Line). length xs ≡ length ls) (λ t. refl) (λ t. length-map ls unpin)
+
+pub shared-length : (e d : ℕ) (ls : List Line) → length (sharedOut e d ls) ≡ length ls
+unfolding sharedOut spread
+shared-length e d ls =
+    by-cond (eqb e 1) (map targetOf (handedOut d (takingPart ls))) (adjusted d ls) (λ (zs : List ℤ). length zs ≡ length ls)
+    (λ t. length-map (handedOut d (takingPart ls)) targetOf ∙ handed-length d (takingPart ls) ∙ taking-length ls)
+    (λ t. adjusted-length d ls)
 
 -- as many lines are left as there were people, if any are
 len-left : (n : ℕ) (p : Passed) → Len n p → guarded p ≡ true → length (linesLeft p) ≡ n
@@ -146,8 +254,8 @@ left-padded m (again ls) e = refl
 left-padded m (done ls) e = refl
 left-padded m refused e = absurd (true≢false (sym e))
 
-module _ (n m d : ℕ) (ls : List Line) (N : length ls ≡ n) (P : 0 < n) (a : Answer)
-    (A : AnswerOf d (passes (n + 1) d (again (ls ++ replicate m pad))) a) where
+module _ (e n m d : ℕ) (ls : List Line) (N : length ls ≡ n) (P : 0 < n) (a : Answer)
+    (A : AnswerOf e n d (passes (n + 1) d (again (ls ++ replicate m pad))) a) where
   same : passes (n + 1) d (again (ls ++ replicate m pad)) ≡ padP m (passesLeave d ls)
   same =
       passes-padded (n + 1) m d (again ls)
@@ -156,12 +264,12 @@ module _ (n m d : ℕ) (ls : List Line) (N : length ls ≡ n) (P : 0 < n) (a : A
   pub answer-guarded : not (a .refused) ≡ guarded (passesLeave d ls)
   answer-guarded = A .kept ∙ ap guarded same ∙ guarded-padded m (passesLeave d ls)
 
-  pub answer-targets : a .refused ≡ false → take n (a .targets) ≡ adjusted d (linesLeft (passesLeave d ls))
+  pub answer-targets : a .refused ≡ false → take n (a .targets) ≡ sharedOut e d (linesLeft (passesLeave d ls))
   answer-targets r =
       let g : guarded (passesLeave d ls) ≡ true = sym answer-guarded ∙ ap not r in
       let left = linesLeft (passesLeave d ls) in
       let L = left-count n d ls N g in
       ap (take n)
-      (A .given r ∙ ap (λ (p : Passed). adjusted d (linesLeft p)) same ∙ ap (adjusted d) (left-padded m (passesLeave d ls) g)
-      ∙ adjusted-padded m d left (omega (arith, L)))
-      ∙ take-at (adjusted d left) (replicate m (pos 0)) n (adjusted-length d left ∙ L)
+      (A .given r ∙ ap (λ (p : Passed). sharedFirst e n d (linesLeft p)) same ∙ ap (sharedFirst e n d) (left-padded m (passesLeave d ls) g)
+      ∙ shared-padded e n m d left L (omega (arith, L)))
+      ∙ take-at (sharedOut e d left) (replicate m (pos 0)) n (shared-length e d left ∙ L)

@@ -3,7 +3,7 @@ use mathlib.Core.Path.{_≡_, refl, sym, ap, _∙_}
 use mathlib.Core.Bool.{true}
 use mathlib.Core.List.{List, [], _∷_, _++_, map}
 use mathlib.Core.Logic.{_≢_}
-use Prim.Native.Nat.{ℕ, _≤_, _<_}
+use Prim.Native.Nat.{ℕ, suc, _≤_, _<_}
 use native.Mathlib.Omega.{arith}
 use borrow.Author.Tests.{eqb-true, eqb-false}
 use lib.Dec.{eqb, leb}
@@ -22,12 +22,14 @@ use Rattle.targets.specs.Passes.{again, passesLeave, guarded}
 use Rattle.targets.specs.Remainder.{targetOf, adjusted, takerOf, Takes, sumℤ}
 use Rattle.targets.specs.Outcome.{Given, demandIn, baseAt, lineIn, linesIn, passedIn, leftIn, takerIn, targetsIn, roomRow}
 use Rattle.targets.specs.Outcome.{targetsRow, computeTargets, Meets}
-use Rattle.targets.specs.Inside.{checksRow, Sound}
+use Rattle.targets.specs.SecondEdition.{sharedOut}
+use Rattle.targets.specs.Inside.{SmallTarget, Small, PinnedZero, checksRow, Sound}
 use Rattle.targets.proofs.Loops.{length-upTo}
 use Rattle.targets.proofs.Each.{each-upTo}
 use Rattle.targets.proofs.Taker.{taker-takes}
-use Rattle.targets.proofs.Sums.{adds-up}
-use Rattle.targets.proofs.Padding.{adjusted-length, left-count}
+use Rattle.targets.proofs.Sizes.{small-passes, zero-passes, left-holds}
+use Rattle.targets.proofs.SpreadLaws.{shared-adds-up}
+use Rattle.targets.proofs.Padding.{shared-length, left-count}
 use Rattle.targets.proofs.Ends.{passes-end}
 use Rattle.targets.proofs.Guard.{Good, Goods}
 use Rattle.targets.proofs.Never.{good-line, never-refused}
@@ -102,9 +104,9 @@ eight-never g out e = unlisted-unheard 8 (checksRow g (length out)) refl (omega 
 -- where counts and room pass, and the slots, 6 and 7 are heard
 pub number-lent : (g : Given) (out : List ℤ) → Lent g (length out) → slotsOk (g .slots) (g .starts) (g .ends) ≡ true
     → computeTargets g out .number
-    ≡ heardOf (test 6 (allFiguresOk (g .people) (g .capacities) (g .priors)) ∷ test 7 (leb (g .fairness) 1) ∷ [])
+    ≡ heardOf (test 6 (allFiguresOk (g .people) (g .capacities) (g .priors)) ∷ test 7 (leb (g .fairness) 1) ∷ test 7 (leb (g .edition) 1) ∷ [])
 number-lent g out l o = number-is g out ∙ lent-checks g (length out) l ∙ says-nothing (
-    test 6 (allFiguresOk (g .people) (g .capacities) (g .priors)) ∷ test 7 (leb (g .fairness) 1) ∷ []) _ [] o
+    test 6 (allFiguresOk (g .people) (g .capacities) (g .priors)) ∷ test 7 (leb (g .fairness) 1) ∷ test 7 (leb (g .edition) 1) ∷ []) _ [] o
 
 -- the passes end by themselves: the bound of people + 1 never cuts them short
 pub never-cut : (g : Given) (ms : List Line) → passesLeave (demandIn g) (linesIn g) ≡ again ms → ⊥
@@ -124,7 +126,7 @@ pub accepted-holds : (g : Given) (out : List ℤ) → computeTargets g out .numb
 accepted-holds g out e =
     let k = guard-kept g (accepted-sound g out e) in
     record {
-      count = adjusted-length (demandIn g) (leftIn g) ∙ left-count (g .people) (demandIn g) (linesIn g) (people-in g) k;
+      count = shared-length (g .edition) (demandIn g) (leftIn g) ∙ left-count (g .people) (demandIn g) (linesIn g) (people-in g) k;
       is = when-accepted g out e;
     }
 
@@ -137,17 +139,36 @@ past-stays g out =
     ap (drop (g .people)) (h .is) ∙ drop-at (targetsIn g) (drop (g .people) out) (g .people) (h .count))
     (λ f. ap (drop (g .people)) (refused-keeps g out (eqb-false (computeTargets g out .number) 0 f)))
 
--- ---- the targets add up to demand
+-- ---- the lines that the passes leave
+
+pub left-small : (g : Given) → Small (leftIn g)
+left-small g =
+    left-holds Small tt (passedIn g) (small-passes (suc (length (linesIn g))) (demandIn g) (again (linesIn g))
+    (each-upTo SmallTarget (lineIn g) (g .people) (λ k h. omega arith)))
+
+pub left-zero : (g : Given) → PinnedZero (leftIn g)
+left-zero g =
+    left-holds PinnedZero tt (passedIn g) (zero-passes (suc (length (linesIn g))) (demandIn g) (again (linesIn g))
+    (each-upTo (λ (l : Line). l .pinned ≡ true → l .target ≡ 0) (lineIn g) (g .people) (λ k h e. refl)))
+
+pub left-some : (g : Given) (out : List ℤ) → computeTargets g out .number ≡ 0 → 0 < length (leftIn g)
+left-some g out e =
+    omega (arith, accepted-sound g out e .somebody, accepted-holds g out e .count, shared-length (g .edition) (demandIn g) (leftIn g))
+
+-- ---- the targets add up to demand, in each edition
 
 pub targets-add-up : (g : Given) (out : List ℤ) → computeTargets g out .number ≡ 0
     → sumℤ (take (g .people) (computeTargets g out .out)) ≡ pos (demandIn g)
 targets-add-up g out e =
     let h = accepted-holds g out e in
-    let n = adjusted-length (demandIn g) (leftIn g) in
     ap (λ (o : List ℤ). sumℤ (take (g .people) o)) (h .is) ∙ ap sumℤ (take-at (targetsIn g) (drop (g .people) out) (g .people) (h .count))
-    ∙ adds-up (demandIn g) (leftIn g) (omega (arith, accepted-sound g out e .somebody, h .count, n))
+    ∙ shared-adds-up (demandIn g) (leftIn g) (left-some g out e) (left-small g) (left-zero g) (g .edition)
 
--- ---- a target below 0 can only be the taker's
+-- ---- edition 1: a target below 0 can only be the taker's
+
+pub first-edition : (g : Given) → g .edition ≡ 0 → targetsIn g ≡ adjusted (demandIn g) (leftIn g)
+unfolding sharedOut
+first-edition g e = ap (λ (n : ℕ). sharedOut n (demandIn g) (leftIn g)) e
 
 -- the taker is who the rule says, of the lines that the passes leave
 pub taker-by-rule : (g : Given) → Takes (leftIn g) (takerIn g)
@@ -157,9 +178,10 @@ pub other : (d k : ℕ) (ls : List Line) → k ≢ takerOf ls → getD (adjusted
 unfolding adjusted
 other d k ls n = getD-set-other (map targetOf ls) (takerOf ls) k _ (pos 0) n ∙ List·getD-map targetOf ls k pad
 
-pub others-not-below : (g : Given) (out : List ℤ) (k : ℕ) → computeTargets g out .number ≡ 0 → k < g .people → k ≢ takerIn g
+pub others-not-below : (g : Given) (out : List ℤ) (k : ℕ) → g .edition ≡ 0 → computeTargets g out .number ≡ 0 → k < g .people → k ≢ takerIn g
     → getD (computeTargets g out .out) k (pos 0) ≡ pos (getD (leftIn g) k pad .target)
-others-not-below g out k e l n =
+others-not-below g out k z e l n =
     let h = accepted-holds g out e in
     ap (λ (o : List ℤ). getD o k (pos 0)) (h .is)
-    ∙ List·getD-append (targetsIn g) (drop (g .people) out) (pos 0) k (omega (arith, h .count)) ∙ other (demandIn g) k (leftIn g) n
+    ∙ List·getD-append (targetsIn g) (drop (g .people) out) (pos 0) k (omega (arith, h .count))
+    ∙ ap (λ (o : List ℤ). getD o k (pos 0)) (first-edition g z) ∙ other (demandIn g) k (leftIn g) n

@@ -2,30 +2,29 @@
 use mathlib.Core.Path.{_≡_, sym, ap, _∙_}
 use mathlib.Core.List.{List, map}
 use mathlib.Core.Logic.{⊎-elim}
-use Prim.Native.Nat.{ℕ, suc, _+_, _≤_, _<_, _^_}
+use Prim.Native.Nat.{ℕ, _+_, _≤_, _<_, _^_}
 use native.Mathlib.Nat.{lt-of-lt-of-le, le-of-eq}
 use native.Mathlib.Omega.{arith}
 use borrow.Author.Tests.{eqb-true, eqb-false}
 use lib.Dec.{eqb}
 use lib.IntN.{ℤ, pos, negℤ, +ℤ-assoc}
 use lib.Signed.{mag}
-use lib.ListN.{length, getD, drop, length-map, List·getD-eq-default, List·getD-append}
+use lib.ListN.{length, getD, drop, length-map, List·getD-map, List·getD-eq-default, List·getD-append}
 use lib.Seq.{getD-set-same}
-use Rattle.paper.proofs.Logic.{by-test, lt-or-ge}
+use Rattle.paper.proofs.Logic.{by-test, by-cond, lt-or-ge}
 use Rattle.targets.specs.declared.Line.{Line}
 use Rattle.targets.specs.Figures.{pad}
-use Rattle.targets.specs.Passes.{Passed, again, done, refused, linesLeft}
 use Rattle.targets.specs.Remainder.{totalOf, takerOf, targetOf, adjusted}
-use Rattle.targets.specs.Outcome.{Given, demandIn, lineIn, linesIn, passedIn, leftIn, targetsIn, computeTargets}
-use Rattle.targets.specs.Inside.{SmallTarget, Small}
-use Rattle.targets.proofs.Each.{each-upTo, each-at, sum-most}
-use Rattle.targets.proofs.Cases.{OfLines}
+use Rattle.targets.specs.SecondEdition.{takingPart, handedOut, spread, sharedOut}
+use Rattle.targets.specs.Outcome.{Given, demandIn, leftIn, targetsIn, computeTargets}
+use Rattle.targets.specs.Inside.{SmallTarget, Small, PinnedZero}
+use Rattle.targets.proofs.Each.{each-at, sum-most}
 use Rattle.targets.proofs.Signed.{mag-sub}
-use Rattle.targets.proofs.Sizes.{small-passes}
 use Rattle.targets.proofs.Sums.{total-is}
-use Rattle.targets.proofs.Padding.{adjusted-length}
+use Rattle.targets.proofs.Padding.{handed-length, taking-length, shared-length}
+use Rattle.targets.proofs.SpreadLaws.{part-most}
 use Rattle.targets.proofs.Taker.{taker-here}
-use Rattle.targets.proofs.Promises.{demand-fits, other, accepted-sound, accepted-holds}
+use Rattle.targets.proofs.Promises.{demand-fits, other, accepted-sound, accepted-holds, left-small, left-zero, left-some}
 
 -- a target of a line, whichever
 small-at : (ls : List Line) → Small ls → (k : ℕ) → getD ls k pad .target ≤ 1099511627776
@@ -50,25 +49,36 @@ adjusted-sized d ls some few D h k =
     omega (arith, ap mag q, mag-sub (a + d) (totalOf ls), total-is ls, m, small-at ls h j))
     (λ e. omega (arith, ap mag (other d k ls (eqb-false k j e)), small-at ls h k))
 
--- the lines that the passes leave
-left-small : (p : Passed) → OfLines Small p → Small (linesLeft p)
-left-small (again ls) h = h
-left-small (done ls) h = h
-left-small refused h = tt
+-- and edition 2's are at most demand
+spread-sized : (d : ℕ) (ls : List Line) → 0 < length ls → d ≤ 100000000 → Small ls → PinnedZero ls → (k : ℕ) → k < length ls
+    → mag (getD (spread d ls) k (pos 0)) < 2 ^ 63
+unfolding spread
+spread-sized d ls some D h z k l =
+    let after = handedOut d (takingPart ls) in
+    omega (
+      arith,
+      D,
+      ap mag (List·getD-map targetOf after k pad),
+      each-at (λ (x : Line). x .target ≤ d) after k pad (part-most d ls some h z)
+          (omega (arith, l, handed-length d (takingPart ls), taking-length ls)),
+    )
 
 pub accepted-sized : (g : Given) (out : List ℤ) → computeTargets g out .number ≡ 0
     → (k : ℕ) → k < g .people → mag (getD (computeTargets g out .out) k (pos 0)) < 2 ^ 63
+unfolding sharedOut
 accepted-sized g out e k l =
     let H = accepted-holds g out e in
     let s = accepted-sound g out e in
     let d = demandIn g in
-    let ls = linesIn g in
-    let n = adjusted-length d (leftIn g) in
-    let small = left-small (passedIn g) (small-passes (suc (length ls)) d (again ls)
-    (each-upTo SmallTarget (lineIn g) (g .people) (λ j h. omega arith))) in
+    let left = leftIn g in
+    let n = shared-length (g .edition) d left in
+    let some = left-some g out e in
+    let sized = by-cond (eqb (g .edition) 1) (spread d left) (adjusted d left) (λ (zs : List ℤ). mag (getD zs k (pos 0)) < 2 ^ 63)
+    (λ t. spread-sized d left some (demand-fits g s) (left-small g) (left-zero g) k (omega (arith, l, n, H .count)))
+    (λ f. adjusted-sized d left some (omega (arith, s .few, n, H .count)) (demand-fits g s) (left-small g) k) in
     omega (
       arith,
       ap (λ (x : List ℤ). mag (getD x k (pos 0))) (H .is),
       ap mag (List·getD-append (targetsIn g) (drop (g .people) out) (pos 0) k (omega (arith, H .count))),
-      adjusted-sized d (leftIn g) (omega (arith, s .somebody, n, H .count)) (omega (arith, s .few, n, H .count)) (demand-fits g s) small k,
+      sized,
     )

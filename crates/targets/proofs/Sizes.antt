@@ -1,7 +1,7 @@
 -- Every target stays at most 2 ^ 40, through all passes. Assumes nothing.
-use mathlib.Core.Path.{_≡_}
-use mathlib.Core.Bool.{true, false}
-use mathlib.Core.List.{List, _++_, map}
+use mathlib.Core.Path.{_≡_, refl, sym, _∙_}
+use mathlib.Core.Bool.{true, false, true≢false}
+use mathlib.Core.List.{List, [], _++_, map}
 use Prim.Native.Nat.{ℕ, _+_, _*_, _/_, _≤_, _<_, zero-le}
 use native.Mathlib.Nat.{div-lt-iff-lt-mul, le-of-suc-le-suc}
 use native.Mathlib.Omega.{arith}
@@ -10,8 +10,8 @@ use lib.Ieee.{Float, nan, inf, fin, up, down}
 use lib.Ieee.Fits.{down-pos}
 use Rattle.targets.specs.declared.Line.{Line}
 use Rattle.targets.specs.Figures.{upTo, pad}
-use Rattle.targets.specs.Passes.{rounded, within, unrounded, settled, settle, outside, some, Passed, passes}
-use Rattle.targets.specs.Inside.{SmallTarget, Small}
+use Rattle.targets.specs.Passes.{rounded, within, unrounded, settled, settle, outside, some, Passed, again, done, refused, passes, linesLeft}
+use Rattle.targets.specs.Inside.{SmallTarget, Small, PinnedZero}
 use Rattle.targets.proofs.Nearest.{under}
 use Rattle.targets.proofs.Each.{each-append, each-upTo, each-replicate, each-both, each-map, none-each}
 use Rattle.targets.proofs.Cases.{by-settled, guard-kept, OfLines, lines-keep}
@@ -44,9 +44,32 @@ small-map n sum ls o h =
 pub small-passes : (k demand : ℕ) (p : Passed) → OfLines Small p → OfLines Small (passes k demand p)
 small-passes = lines-keep Small small-map
 
+-- ---- who is pinned has target 0
+
+abbrev IfPinned : Line → Type 0
+IfPinned l = l .pinned ≡ true → l .target ≡ 0
+
+settled-zero : (x : Float) (l : Line) → IfPinned l → IfPinned (settled x l)
+settled-zero x l h = by-settled x l IfPinned (λ p. h) (λ p z e. refl) (λ p z e. absurd (true≢false (sym e)))
+
+pub zero-passes : (k demand : ℕ) (p : Passed) → OfLines PinnedZero p → OfLines PinnedZero (passes k demand p)
+zero-passes =
+    lines-keep PinnedZero (λ n sum ls o h. each-map IfPinned IfPinned (settle n sum) (λ l k. settled-zero (unrounded n sum l) l k) ls h)
+
+-- what holds of no lines, and of those that there are, holds of the lines left
+pub left-holds : (P : List Line → Type 0) → P [] → (p : Passed) → OfLines P p → P (linesLeft p)
+left-holds P n (again ls) h = h
+left-holds P n (done ls) h = h
+left-holds P n refused h = n
+
 -- ---- lines that are new, and lines that take no part
 
 pub small-lines : (f : ℕ → Line) → ((k : ℕ) → f k .target ≡ 0) → (n m : ℕ) → Small (upTo f n ++ replicate m pad)
 small-lines f h n m =
     each-append SmallTarget (upTo f n) (replicate m pad) (each-upTo SmallTarget f n (λ k l. omega (arith, h k)))
     (each-replicate SmallTarget m pad zero-le)
+
+pub zero-lines : (f : ℕ → Line) → ((k : ℕ) → f k .pinned ≡ false) → (n m : ℕ) → PinnedZero (upTo f n ++ replicate m pad)
+zero-lines f h n m =
+    each-append IfPinned (upTo f n) (replicate m pad) (each-upTo IfPinned f n (λ k l e. absurd (true≢false (sym e ∙ h k))))
+    (each-replicate IfPinned m pad (λ e. refl))

@@ -18,7 +18,7 @@ addedUp = sumLines (λ (l : Line). l .target)
 pub total-is : (ls : List Line) → totalOf ls ≡ addedUp ls
 total-is ls = fold-sum withTarget (λ (l : Line). l .target) (λ a l. refl) ls 0 ∙ zero-add (addedUp ls)
 
-as-signed : (ls : List Line) → pos (addedUp ls) ≡ sumℤ (map targetOf ls)
+pub as-signed : (ls : List Line) → pos (addedUp ls) ≡ sumℤ (map targetOf ls)
 as-signed [] = refl
 as-signed (l ∷ ls) = ap (λ (z : ℤ). pos (l .target) +ℤ z) (as-signed ls)
 

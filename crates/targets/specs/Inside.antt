@@ -1,10 +1,11 @@
 -- What contracts of private functions cite, and no public one: what the code's own values stand for, what the work asks. Assumes nothing.
 use mathlib.Core.Path.{_≡_}
-use mathlib.Core.Bool.{true, false, not}
-use mathlib.Core.List.{List, [], _∷_, _++_}
-use Prim.Native.Nat.{ℕ, _*_, _≤_, _<_}
-use lib.Dec.{leb}
-use lib.ListN.{length}
+use mathlib.Core.Bool.{true, false, not, _&&_, cond}
+use mathlib.Core.List.{List, [], _∷_, _++_, map, foldl}
+use Prim.Native.Nat.{ℕ, _-_, _*_, _≤_, _<_}
+use lib.Dec.{eqb, leb, ltb}
+use lib.IntN.{ℤ}
+use lib.ListN.{length, take, drop}
 use Rattle.paper.specs.Limits.{Test, test}
 use Rattle.slots.specs.Lent.{slotsOk}
 use Rattle.targets.specs.declared.Line.{Line}
@@ -13,8 +14,9 @@ use Rattle.targets.specs.declared.Next.the-variants.{Again, Done, Refuse
 use Rattle.targets.specs.declared.Round.{Round}
 use Rattle.targets.specs.declared.Answer.{Answer}
 use Rattle.targets.specs.Figures.{allFiguresOk}
-use Rattle.targets.specs.Passes.{Passed, again, done, refused, linesLeft, guarded}
-use Rattle.targets.specs.Remainder.{adjusted}
+use Rattle.targets.specs.Passes.{some, Passed, again, done, refused, linesLeft, guarded}
+use Rattle.targets.specs.Remainder.{targetOf, adjusted}
+use Rattle.targets.specs.SecondEdition.{unpinned, unpin, retargeted, handedOut}
 use Rattle.targets.specs.Outcome.{Given, roomRow}
 
 -- ---- the code's values
@@ -27,10 +29,18 @@ roundIs Refused ls = refused
 abbrev pub passedOf : Round → Passed
 passedOf r = roundIs (r .next) (r .lines)
 
+-- lines of which only the first are people's: who takes part in edition 2, and the targets by edition
+abbrev pub takingFirst : ℕ → List Line → List Line
+takingFirst people ls = cond (some unpinned ls) ls (take people (map unpin ls) ++ drop people ls)
+
+abbrev pub sharedFirst : ℕ → ℕ → ℕ → List Line → List ℤ
+sharedFirst edition people demand ls =
+    cond (eqb edition 1) (map targetOf (handedOut demand (takingFirst people ls))) (adjusted demand ls)
+
 -- the targets of what the passes leave, or none where they are refused
-pub record AnswerOf (demand : ℕ) (p : Passed) (a : Answer) : Type 0 where
+pub record AnswerOf (edition people demand : ℕ) (p : Passed) (a : Answer) : Type 0 where
   pub kept : not (a .refused) ≡ guarded p
-  pub given : a .refused ≡ false → a .targets ≡ adjusted demand (linesLeft p)
+  pub given : a .refused ≡ false → a .targets ≡ sharedFirst edition people demand (linesLeft p)
 
 -- what holds of each line
 abbrev pub Each : (Line → Type 0) → List Line → Type 0
@@ -44,6 +54,26 @@ SmallTarget l = l .target ≤ 1099511627776
 abbrev pub Small : List Line → Type 0
 Small = Each SmallTarget
 
+-- who is pinned has target 0
+abbrev pub PinnedZero : List Line → Type 0
+PinnedZero = Each (λ (l : Line). l .pinned ≡ true → l .target ≡ 0)
+
+-- ---- edition 2
+
+-- the smallest unpinned target
+abbrev pub lower : ℕ → Line → ℕ
+lower low l = cond (not (l .pinned) && ltb (l .target) low) (l .target) low
+
+abbrev pub smallestOf : List Line → ℕ
+smallestOf = foldl lower 1099511627776
+
+-- a target t seen from there: 2 ^ 40 less t. The largest shows as the smallest
+abbrev pub highest : ℕ
+highest = 1099511627776
+
+abbrev pub mirrored : Line → Line
+mirrored l = retargeted (highest - l .target) l
+
 -- ---- the checks that come before the work
 
 -- 1, 2, 6, 7, 9: 8 comes out of the work
@@ -51,7 +81,7 @@ unfoldable pub checksRow : Given → ℕ → List Test
 checksRow g room =
     roomRow g room
     ++ (test 6 (allFiguresOk (g .people) (g .capacities) (g .priors)) ∷ test 7 (leb (g .fairness) 1)
-    ∷ test 9 (slotsOk (g .slots) (g .starts) (g .ends)) ∷ [])
+    ∷ test 7 (leb (g .edition) 1) ∷ test 9 (slotsOk (g .slots) (g .starts) (g .ends)) ∷ [])
 
 -- what they leave known
 
@@ -64,6 +94,7 @@ pub record Sound (g : Given) : Type 0 where
   pub priors-room : g .people ≤ length (g .priors)
   pub figures : allFiguresOk (g .people) (g .capacities) (g .priors) ≡ true
   pub flag : g .fairness ≤ 1
+  pub edition-known : g .edition ≤ 1
   pub ordered : slotsOk (g .slots) (g .starts) (g .ends) ≡ true
 
 -- a person's row can be asked

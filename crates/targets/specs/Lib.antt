@@ -2,5 +2,7 @@
 pub mod Figures
 pub mod Passes
 pub mod Remainder
+pub mod SecondEdition
+pub mod Levels
 pub mod Outcome
 pub mod Inside

@@ -13,10 +13,11 @@ use Rattle.slots.specs.Lent.{slotRoomOk, slotsOk, demandOf}
 use Rattle.targets.specs.declared.Line.{Line}
 use Rattle.targets.specs.Figures.{allFiguresOk, personAt, lineOf, upTo, availableMinutes}
 use Rattle.targets.specs.Passes.{Passed, passesLeave, linesLeft, guarded}
-use Rattle.targets.specs.Remainder.{takerOf, adjusted}
+use Rattle.targets.specs.Remainder.{takerOf}
+use Rattle.targets.specs.SecondEdition.{sharedOut}
 
 -- what is lent to be read: two counts, the slots' starts and ends, 16 words of availability a person, each person's capacity and prior
--- minutes, and the fairness flag
+-- minutes, the fairness flag, and the rule's edition
 pub record Given : Type 0 where
   pub people : ℕ
   pub slots : ℕ
@@ -26,9 +27,10 @@ pub record Given : Type 0 where
   pub capacities : List Float
   pub priors : List ℕ
   pub fairness : ℕ
+  pub edition : ℕ
 
-abbrev pub given : ℕ → ℕ → List ℕ → List ℕ → List ℕ → List Float → List ℕ → ℕ → Given
-given people slots starts ends avail capacities priors fairness = record {
+abbrev pub given : ℕ → ℕ → List ℕ → List ℕ → List ℕ → List Float → List ℕ → ℕ → ℕ → Given
+given people slots starts ends avail capacities priors fairness edition = record {
   people = people;
   slots = slots;
   starts = starts;
@@ -37,6 +39,7 @@ given people slots starts ends avail capacities priors fairness = record {
   capacities = capacities;
   priors = priors;
   fairness = fairness;
+  edition = edition;
 }
 
 -- ---- the targets
@@ -55,7 +58,7 @@ lineIn g k = lineOf (personAt (g .capacities) (g .priors) k) (baseAt g k)
 abbrev pub linesIn : Given → List Line
 linesIn g = upTo (lineIn g) (g .people)
 
--- how the passes stand after all of them, the lines that they leave, and the person to whom the remainder goes
+-- how the passes stand after all of them, the lines that they leave, and the person to whom edition 1 gives the remainder
 abbrev pub passedIn : Given → Passed
 passedIn g = passesLeave (demandIn g) (linesIn g)
 
@@ -66,7 +69,7 @@ abbrev pub takerIn : Given → ℕ
 takerIn g = takerOf (leftIn g)
 
 abbrev pub targetsIn : Given → List ℤ
-targetsIn g = adjusted (demandIn g) (leftIn g)
+targetsIn g = sharedOut (g .edition) (demandIn g) (leftIn g)
 
 -- ---- what is heard
 
@@ -85,8 +88,8 @@ roomRow g room =
 unfoldable pub targetsRow : Given → ℕ → List Test
 targetsRow g room =
     roomRow g room
-    ++ (test 6 (allFiguresOk (g .people) (g .capacities) (g .priors)) ∷ test 7 (leb (g .fairness) 1) ∷ test 8 (guardOk g)
-    ∷ test 9 (slotsOk (g .slots) (g .starts) (g .ends)) ∷ [])
+    ++ (test 6 (allFiguresOk (g .people) (g .capacities) (g .priors)) ∷ test 7 (leb (g .fairness) 1)
+    ∷ test 7 (leb (g .edition) 1) ∷ test 8 (guardOk g) ∷ test 9 (slotsOk (g .slots) (g .starts) (g .ends)) ∷ [])
 
 -- ---- the outcome
 

@@ -63,10 +63,11 @@ pub(crate) fn checks_no(
     capacities: &[f64],
     priors: &[u32],
     fairness: u8,
+    edition: u8,
     room: usize,
 ) -> Fault
     ensures { λ r. ⌜ r ≡ firstOf (checksRow (given people slots (now (starts .entry)) (now (ends .entry)) (now (avail .entry))
-        (now (capacities .entry)) (now (priors .entry)) fairness) room) ⌝ }
+        (now (capacities .entry)) (now (priors .entry)) fairness edition) room) ⌝ }
 {
     let f = paper::heard_people(paper::nothing(), people);
     let f = paper::heard_slots(f, slots);
@@ -77,5 +78,6 @@ pub(crate) fn checks_no(
     let f = paper::heard(f, people <= room, 2);
     let f = heard_figures(f, people, capacities, priors);
     let f = paper::heard(f, fairness <= 1, 7);
+    let f = paper::heard(f, edition <= 1, 7);
     slots::heard_order(f, slots, starts, ends, 9)
 }

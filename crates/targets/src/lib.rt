@@ -1,19 +1,22 @@
 // Fair-share targets. Every step on an f64 is rounded once, in the paper's order.
-// Checks, lines, passes, remainder: what the passes leave and what is done with the remainder are apart.
+// Checks, lines, passes, remainder: what the passes leave and what is done with the remainder are apart. Edition 2 of the latter: spread,
+// over levels.
 mod checks;
+mod levels;
 mod lines;
 mod passes;
 mod remainder;
 mod rounding;
+mod spread;
 
 use slots::demand_of;
 ghost use mathlib.Core.Path.{_≡_};
 ghost use mathlib.Core.List.{_++_};
-ghost use Prim.Native.Nat.{_+_, _≤_};
+ghost use Prim.Native.Nat.{_+_, _≤_, _<_};
 ghost use lib.ListN.{length, take, drop};
 ghost use Rattle.targets.specs.Passes.{passes, again};
 ghost use Rattle.targets.specs.Outcome.{given, Meets};
-ghost use Rattle.targets.specs.Inside.{AnswerOf, Small};
+ghost use Rattle.targets.specs.Inside.{AnswerOf, Small, PinnedZero};
 
 // A person's figures.
 pub struct Person {
@@ -56,9 +59,9 @@ pub struct Answer {
 }
 
 // The targets of the lines: what the passes leave, and then the remainder.
-fn targets_of(lines: [Line; 32], people: usize, demand: u32) -> Answer
-    requires { ⌜ (people ≤ 32) × Small lines ⌝ }
-    ensures { λ r. ⌜ AnswerOf demand (passes (people + 1) demand (again lines)) r ⌝ }
+fn targets_of(lines: [Line; 32], people: usize, demand: u32, edition: u8) -> Answer
+    requires { ⌜ (0 < people) × (people ≤ 32) × Small lines × PinnedZero lines ⌝ }
+    ensures { λ r. ⌜ AnswerOf edition people demand (passes (people + 1) demand (again lines)) r ⌝ }
 {
     let r = passes::passes_of(lines, people, demand);
     let k = r.next;
@@ -72,7 +75,7 @@ fn targets_of(lines: [Line; 32], people: usize, demand: u32) -> Answer
         }
         Next::Again | Next::Done => {
             let left = r.lines;
-            let t = remainder::adjusted_of(left, demand);
+            let t = spread::shared_out(left, people, demand, edition);
             Answer {
                 refused: false,
                 targets: t,
@@ -104,10 +107,11 @@ pub fn compute_targets(
     capacities: &[f64],
     priors: &[u32],
     fairness: u8,
+    edition: u8,
     out: &mut [i64],
 ) -> u8
     ensures { λ r. ⌜ Meets (given people slots (now (starts .entry)) (now (ends .entry)) (now (avail .entry))
-        (now (capacities .entry)) (now (priors .entry)) fairness)
+        (now (capacities .entry)) (now (priors .entry)) fairness edition)
         (now (out .entry)) r (now (out .exit)) ⌝ }
 {
     let n = checks::checks_no(
@@ -119,6 +123,7 @@ pub fn compute_targets(
         capacities,
         priors,
         fairness,
+        edition,
         out.len(),
     ).number;
     if n == 0 {
@@ -134,7 +139,7 @@ pub fn compute_targets(
             fairness,
             demand,
         );
-        let a = targets_of(lines, people, demand);
+        let a = targets_of(lines, people, demand, edition);
         if a.refused {
             return 8;
         }

@@ -90,7 +90,7 @@ fn line_of(person: Person, base: u32) -> Line
     }
 }
 
-// The people's lines, and after them lines that take no part.
+// The people's lines, and after them lines that take no part. They are the same in each edition.
 pub(crate) fn lines_of(
     people: usize,
     slots: usize,
@@ -102,10 +102,10 @@ pub(crate) fn lines_of(
     fairness: u8,
     demand: u32,
 ) -> [Line; 32]
-    requires { ⌜ Sound (given people slots (now starts) (now ends) (now avail) (now capacities) (now priors) fairness)
+    requires { ⌜ Sound (given people slots (now starts) (now ends) (now avail) (now capacities) (now priors) fairness 0)
         × (demand ≡ demandOf slots (now starts) (now ends)) ⌝ }
     ensures { λ r. ⌜ r ≡ linesIn (given people slots (now (starts .entry)) (now (ends .entry)) (now (avail .entry))
-        (now (capacities .entry)) (now (priors .entry)) fairness)
+        (now (capacities .entry)) (now (priors .entry)) fairness 0)
         ++ replicate (32 - people) pad ⌝ }
 {
     let none = Line {

@@ -16,7 +16,7 @@ fn with_target(sum: u64, l: Line) -> u64
 }
 
 // The targets, added up.
-fn total_of(lines: [Line; 32]) -> u64
+pub(crate) fn total_of(lines: [Line; 32]) -> u64
     requires { ⌜ Small lines ⌝ }
     ensures { λ r. ⌜ (r ≡ totalOf lines) × (r ≤ 35184372088832) ⌝ }
 {
@@ -81,7 +81,7 @@ fn signed_target(l: Line) -> i64
     l.target as i64
 }
 
-fn signed_of(lines: [Line; 32]) -> [i64; 32]
+pub(crate) fn signed_of(lines: [Line; 32]) -> [i64; 32]
     requires { ⌜ Small lines ⌝ }
     ensures { λ r. ⌜ r ≡ map targetOf lines ⌝ }
 {

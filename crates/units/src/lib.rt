@@ -29,10 +29,12 @@ pub use starts::rotation_starts;
 pub use starts::unit_starts;
 
 // How a rota is to be made. Boundary 0: a rotation every `value` slots; 1: on the weekdays of the mask `value`, bit 0 Monday.
+// Edition 0: the remainder of the targets by edition 1 of the rule; 1: by edition 2.
 pub struct Settings {
     pub fairness: u8,
     pub lock: u8,
     pub boundary: u8,
+    pub edition: u8,
     pub value: u16,
     pub days: u16,
 }

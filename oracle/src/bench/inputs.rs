@@ -34,6 +34,7 @@ fn settings(lock: u8, every: u16) -> Settings {
         fairness: 0,
         lock,
         boundary: 0,
+        edition: 0,
         value: every,
         days: 7,
     }

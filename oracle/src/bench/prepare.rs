@@ -80,6 +80,7 @@ impl Preparation {
             set.fairness,
             set.lock,
             set.boundary,
+            set.edition,
             set.value,
             set.days,
             self.slots,
@@ -96,6 +97,7 @@ impl Preparation {
             &self.capacities,
             &self.priors,
             set.fairness,
+            set.edition,
             &mut self.targets,
         )
     }
@@ -108,6 +110,7 @@ impl Preparation {
             set.fairness,
             set.lock,
             set.boundary,
+            set.edition,
             set.value,
             set.days,
             self.slots,
@@ -120,6 +123,7 @@ impl Preparation {
                 set.fairness,
                 set.lock,
                 set.boundary,
+                set.edition,
                 set.value,
                 set.days,
                 &self.avail,

@@ -7,6 +7,7 @@ use super::prepare::{prepare, prepare_all};
 use super::refused::{refused, Lent};
 use super::rota::{from_slots, no_draws, play, recount, structs};
 use super::set::{count, next_set, run_bounds};
+use super::spread::largest_remainder;
 use super::Row;
 use crate::job_cases::JobCase;
 use crate::limits::SLOTS_MOST;
@@ -75,6 +76,7 @@ pub const ROWS: &[Named] = &[
     ("1 for a million slots, from_slots", |_| refused(Lent::made_from_slots)),
     ("1 for a million slots, play", |_| refused(Lent::play)),
     ("1 for a million slots, uncovered_minutes", |_| refused(Lent::uncovered_minutes)),
+    ("targets in edition 2, all minutes handed out, beside none", |_| largest_remainder()),
     ("a whole job at every limit", |_| job(JobCase::at_every_limit())),
 ];
 

@@ -7,7 +7,7 @@ use Rattle.paper.proofs.Rows.{said}
 use Rattle.targets.specs.Outcome.{Given, given}
 use Rattle.targets.specs.Inside.{checksRow}
 use Rattle.targets.proofs.Accepted.{Accepted, accepted}
-use Rattle.targets.proofs.Work.{demand-is, small-in, meets-refused, meets-eight, meets-done}
+use Rattle.targets.proofs.Work.{sound-again, demand-is, small-in, zero-in, meets-refused, meets-eight, meets-done}
 use Rattle.targets.proofs.compute_targets.Statement.{statement}
 use Rattle.targets.proofs.compute_targets.Tie as tie
 
@@ -15,7 +15,7 @@ use Rattle.targets.proofs.compute_targets.Tie as tie
 abbrev lent : tie.Start → Given
 lent s =
     let a = s .args in
-    given (a .people) (a .slots) (a .starts .now) (a .ends .now) (a .avail .now) (a .capacities .now) (a .priors .now) (a .fairness)
+    given (a .people) (a .slots) (a .starts .now) (a .ends .now) (a .avail .now) (a .capacities .now) (a .priors .now) (a .fairness) (a .edition)
 
 -- where the work starts
 abbrev start : tie.Then1 → tie.Start
@@ -30,12 +30,13 @@ fine c = accepted (lent (start c)) (length (start c .args .out .now)) (clear c)
 lines-of-requires : tie.Need-lines-of-requires
 lines-of-requires c κs =
     let s = fine (c .before) .sound in
-    (s, demand-is (lent (start (c .before))) s (c .demand-of .ensures))
+    (sound-again (lent (start (c .before))) s, demand-is (lent (start (c .before))) s (c .demand-of .ensures))
 
 targets-of-requires : tie.Need-targets-of-requires
 targets-of-requires c κs =
     let b = c .before .before in
-    (fine b .sound .few, small-in (lent (start b)) (c .lines-of .ensures))
+    let g = lent (start b) in
+    (fine b .sound .somebody, fine b .sound .few, small-in g (c .lines-of .ensures), zero-in g (c .lines-of .ensures))
 
 returns : tie.Need-returns
 returns c =

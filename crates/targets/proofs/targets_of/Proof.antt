@@ -1,20 +1,21 @@
 -- `targets::targets_of` meets its contract. Assumes nothing.
 use mathlib.Core.Path.{_≡_, refl, sym, ap, _∙_, subst}
 use mathlib.Core.Bool.{false, true≢false}
-use mathlib.Core.List.{[], _∷_}
+use mathlib.Core.List.{List, [], _∷_}
 use mathlib.Core.Logic.{⊎-elim}
 use Prim.Native.Nat.{ℕ, _+_}
 use native.Mathlib.Omega.{arith}
 use borrow.Author.Needs.{needs}
 use denote.Enum.Declared.{tagOf}
 use types.Run.{OneOf}
+use Rattle.targets.specs.declared.Line.{Line}
 use Rattle.targets.specs.declared.Next.{Next}
 use Rattle.targets.specs.declared.Next.the-variants.{Refused}
 use Rattle.targets.specs.Passes.{Passed, again}
 use Rattle.targets.specs.declared.Answer.{Answer}
-use Rattle.targets.specs.Inside.{roundIs, AnswerOf, Small}
+use Rattle.targets.specs.Inside.{roundIs, AnswerOf, Small, PinnedZero}
 use Rattle.targets.proofs.Cases.{OfLines, by-left}
-use Rattle.targets.proofs.Sizes.{small-passes}
+use Rattle.targets.proofs.Sizes.{small-passes, zero-passes}
 use Rattle.targets.proofs.Next.{the-type}
 use Rattle.targets.proofs.targets_of.Statement.{statement}
 use Rattle.targets.proofs.targets_of.Tie as tie
@@ -25,35 +26,47 @@ not-refused n t e =
     ⊎-elim (λ (q : 2 ≡ 0). omega arith) (λ (q : 2 ≡ 1). omega arith)
     (subst (λ (m : Next). OneOf (0 ∷ 1 ∷ []) (tagOf the-type m)) e t)
 
-adjusted-of-requires : tie.Need-adjusted-of-requires
-adjusted-of-requires c κs =
+-- what the passes keep, the lines left have
+left-have : (P : List Line → Type 0) (n : Next) (ls : List Line) → (n ≡ Refused → ⊥) → {p : Passed} → roundIs n ls ≡ p → OfLines P p → P ls
+left-have P n ls f e h =
+    by-left n ls (λ (q : Passed). OfLines P q → P ls) f (λ h. h) (λ h. h) (subst (OfLines P) (sym e) h)
+
+shared-out-requires : tie.Need-shared-out-requires
+shared-out-requires c κs =
     let p = c .before .before in
     let r = p .passes-of .result in
     let a = p .before .args in
-    by-left (r .next) (r .lines) (λ (q : Passed). OfLines Small q → Small (r .lines)) (not-refused (r .next) (c .before .match .keys2))
-    (λ h. h) (λ h. h)
-    (subst (OfLines Small) (sym (p .passes-of .ensures)) (small-passes (a .people + 1) (a .demand) (again (a .lines)) (p .before .pre .1)))
+    let q = p .before .pre in
+    let f = not-refused (r .next) (c .before .match .keys2) in (
+      q .0,
+      q .1,
+      left-have Small (r .next) (r .lines) f (p .passes-of .ensures) (small-passes (a .people + 1) (a .demand) (again (a .lines)) (q .2)),
+      left-have PinnedZero (r .next) (r .lines) f (p .passes-of .ensures)
+          (zero-passes (a .people + 1) (a .demand) (again (a .lines)) (q .3)),
+    )
 
 -- what the round says of the passes
-of-round : (d : ℕ) {q : Passed} (a : Answer) → AnswerOf d q a → {p : Passed} → q ≡ p → AnswerOf d p a
-of-round d a A e = subst (λ (x : Passed). AnswerOf d x a) e A
+of-round : (e n d : ℕ) {q : Passed} (a : Answer) → AnswerOf e n d q a → {p : Passed} → q ≡ p → AnswerOf e n d p a
+of-round e n d a A q = subst (λ (x : Passed). AnswerOf e n d x a) q A
 
 returns : tie.Need-returns
 returns c =
     let p = c .before .before in
-    of-round (p .before .args .demand) _ (record { kept = refl; given = λ f. absurd (true≢false f) })
+    let a = p .before .args in
+    of-round (a .edition) (a .people) (a .demand) _ (record { kept = refl; given = λ f. absurd (true≢false f) })
     (ap (λ (n : Next). roundIs n (p .passes-of .result .lines)) (sym (c .enum-told .given .1)) ∙ p .passes-of .ensures)
 
 returns-2 : tie.Need-returns-2
 returns-2 c =
     let p = c .before .before .before in
     let r = p .passes-of .result in
-    let d = p .before .args .demand in
-    of-round d _
-    (by-left (r .next) (r .lines) (λ (q : Passed). AnswerOf d q (record { refused = false; targets = c .adjusted-of .result }))
+    let a = p .before .args in
+    of-round (a .edition) (a .people) (a .demand) _
+    (by-left (r .next) (r .lines)
+    (λ (q : Passed). AnswerOf (a .edition) (a .people) (a .demand) q (record { refused = false; targets = c .shared-out .result }))
     (not-refused (r .next) (c .before .before .match .keys2))
-    (record { kept = refl; given = λ f. c .adjusted-of .ensures }) (record { kept = refl; given = λ f. c .adjusted-of .ensures }))
+    (record { kept = refl; given = λ f. c .shared-out .ensures }) (record { kept = refl; given = λ f. c .shared-out .ensures }))
     (p .passes-of .ensures)
 
 pub targets-of-spec : {M : Type 1} → statement M
-targets-of-spec = tie.close (tie.spec (λ c κs. search needs) (λ c. search needs) adjusted-of-requires returns returns-2)
+targets-of-spec = tie.close (tie.spec (λ c κs. search needs) (λ c. search needs) shared-out-requires returns returns-2)

@@ -12,18 +12,19 @@ use Rattle.job.proofs.parts.settings_in.Tie as tie
 returns : tie.Need-returns
 unfolding settingsIn
 returns c =
-    let c3 = c .before .before .before in
-    let c4 = c3 .before in
-    let c6 = c4 .before .before in
-    let s = c6 .args .s .now in
+    let c4 = c .before .before .before .before in
+    let c5 = c4 .before in
+    let c7 = c5 .before .before in
+    let s = c7 .args .s .now in
     ap₂ {A = ℕ} {B = ℕ} {C = Settings} (λ (v d : ℕ). record {
       fairness = getD s 4 0;
       lock = getD s 5 0;
       boundary = getD s 6 0;
+      edition = getD s 7 0;
       value = v;
       days = d;
     })
-    (c4 .field .ensures .0) (c3 .field2 .ensures .0)
+    (c5 .field .ensures .0) (c4 .field2 .ensures .0)
 
 pub settings-in-spec : {M : Type 1} → statement M
 settings-in-spec =
@@ -32,6 +33,7 @@ settings-in-spec =
     (λ c κs. search needs)
     (λ c. search needs)
     (λ c κs. search needs)
+    (λ c. search needs)
     (λ c. search needs)
     (λ c. search needs)
     (λ c. search needs)

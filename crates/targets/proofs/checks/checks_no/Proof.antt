@@ -11,15 +11,16 @@ returns : tie.Need-returns
 unfolding checksRow roomRow
 returns c =
     let b = c .before .before .before .before in
-    asked _ refl (b .before .before .before .before .before .before .nothing .ensures)
-    (link (b .before .before .before .before .before .heard-people .ensures) (link (b .before .before .before .before .heard-slots .ensures)
-    (link (b .before .before .before .heard-room .ensures) (link (b .before .before .heard-words .ensures) (link (b .before .heard .ensures)
-    (link (b .heard2 .ensures) (link (c .before .before .before .heard3 .ensures) (link (c .before .before .heard-figures .ensures)
-    (link (c .before .heard4 .ensures) (link (c .heard-order .ensures) ends))))))))))
+    asked _ refl (b .before .before .before .before .before .before .before .nothing .ensures)
+    (link (b .before .before .before .before .before .before .heard-people .ensures)
+    (link (b .before .before .before .before .before .heard-slots .ensures) (link (b .before .before .before .before .heard-room .ensures)
+    (link (b .before .before .before .heard-words .ensures) (link (b .before .before .heard .ensures) (link (b .before .heard2 .ensures)
+    (link (b .heard3 .ensures) (link (c .before .before .before .heard-figures .ensures) (link (c .before .before .heard4 .ensures)
+    (link (c .before .heard5 .ensures) (link (c .heard-order .ensures) ends)))))))))))
 
 pub checks-no-spec : {M : Type 1} → statement M
 checks-no-spec =
     tie.close
     (tie.spec (λ c κs. search needs) (λ c κs. search needs) (λ c κs. search needs) (λ c κs. search needs) (λ c κs. search needs)
     (λ c κs. search needs) (λ c κs. search needs) (λ c κs. search needs) (λ c κs. search needs) (λ c κs. search needs)
-    (λ c κs. search needs) returns)
+    (λ c κs. search needs) (λ c κs. search needs) returns)

@@ -18,7 +18,7 @@ use Rattle.targets.proofs.lines.lines_of.Tie as tie
 abbrev Inv-loop : tie.InvT-loop
 Inv-loop people slots starts ends avail capacities priors fairness demand out₀ i₀ out i =
     (i ≤ people)
-    × (out ≡ upTo (lineIn (given people slots starts ends avail capacities priors fairness)) i ++ replicate (32 - i) pad)
+    × (out ≡ upTo (lineIn (given people slots starts ends avail capacities priors fairness 0)) i ++ replicate (32 - i) pad)
 
 abbrev μ-loop : tie.MeasureT-loop
 μ-loop people slots starts ends avail capacities priors fairness demand out₀ i₀ out i = people - i
@@ -27,7 +27,7 @@ abbrev μ-loop : tie.MeasureT-loop
 abbrev lent : tie.Start Inv-loop μ-loop → Given
 lent s =
     let a = s .args in
-    given (a .people) (a .slots) (a .starts .now) (a .ends .now) (a .avail .now) (a .capacities .now) (a .priors .now) (a .fairness)
+    given (a .people) (a .slots) (a .starts .now) (a .ends .now) (a .avail .now) (a .capacities .now) (a .priors .now) (a .fairness) 0
 
 loop-holds : tie.Need-loop-holds Inv-loop μ-loop
 unfolding ofBits
