@@ -161,7 +161,7 @@ uint32_t boltraven_weekday_of(uint32_t date);
 
 /* Each person's ranges, sorted and merged, and how many. */
 uint64_t boltraven_merged_ranges(size_t people, size_t count, const uint16_t *persons, size_t persons_len,
-                                 const uint32_t *starts, size_t starts_len, const uint32_t *ends, size_t ends_len,
+                                 const uint32_t *opens, size_t opens_len, const uint32_t *shuts, size_t shuts_len,
                                  uint16_t *whose, size_t whose_len, uint32_t *froms, size_t froms_len,
                                  uint32_t *tos, size_t tos_len);
 
@@ -202,31 +202,31 @@ uint64_t boltraven_freeze_before(size_t slots, const uint32_t *starts, size_t st
 /* The first slots of the rotations, and how many. */
 uint64_t boltraven_rotation_starts(uint8_t fairness, uint8_t lock, uint8_t boundary, uint16_t value, uint16_t days, size_t slots,
                                    const uint32_t *starts, size_t starts_len, const uint32_t *ends, size_t ends_len,
-                                   uint16_t *firsts, size_t firsts_len);
+                                   uint16_t *unit_starts, size_t unit_starts_len);
 
 /* The first slots of the units, and how many: each slot one unlocked, each rotation one locked. */
 uint64_t boltraven_unit_starts(uint8_t fairness, uint8_t lock, uint8_t boundary, uint16_t value, uint16_t days, size_t slots,
                                const uint32_t *starts, size_t starts_len, const uint32_t *ends, size_t ends_len,
-                               uint16_t *firsts, size_t firsts_len);
+                               uint16_t *unit_starts, size_t unit_starts_len);
 
 /* The slots of a unit: `from` up to `to`, without `to`. */
-uint8_t boltraven_unit_slots(size_t slots, size_t units, const uint16_t *firsts, size_t firsts_len, size_t unit, uint64_t *from,
+uint8_t boltraven_unit_slots(size_t slots, size_t units, const uint16_t *unit_starts, size_t unit_starts_len, size_t unit, uint64_t *from,
                              uint64_t *to);
 
 /* The unit of a slot. */
-uint64_t boltraven_unit_of_slot(size_t slots, size_t units, const uint16_t *firsts, size_t firsts_len, size_t slot);
+uint64_t boltraven_unit_of_slot(size_t slots, size_t units, const uint16_t *unit_starts, size_t unit_starts_len, size_t slot);
 
 /* The people available for all slots of a unit, ascending, and how many. */
 uint64_t boltraven_unit_domain(const uint64_t *avail, size_t avail_len, size_t people, size_t slots, size_t units,
-                               const uint16_t *firsts, size_t firsts_len, size_t unit, uint8_t *list, size_t list_len);
+                               const uint16_t *unit_starts, size_t unit_starts_len, size_t unit, uint8_t *list, size_t list_len);
 
 /* Of every unit at once the people available for all its slots: a mask each, bit p for person p. */
 uint8_t boltraven_unit_domains(const uint64_t *avail, size_t avail_len, size_t people, size_t slots, size_t units,
-                               const uint16_t *firsts, size_t firsts_len, uint32_t *masks, size_t masks_len);
+                               const uint16_t *unit_starts, size_t unit_starts_len, uint32_t *masks, size_t masks_len);
 
 /* Whether any slot of a unit is frozen: 1 or 0. */
 uint64_t boltraven_unit_frozen(const uint64_t *frozen, size_t frozen_len, size_t slots, size_t units,
-                               const uint16_t *firsts, size_t firsts_len, size_t unit);
+                               const uint16_t *unit_starts, size_t unit_starts_len, size_t unit);
 
 /* The distinct start dates of slots. */
 uint64_t boltraven_covered_days(size_t slots, const uint32_t *starts, size_t starts_len, const uint32_t *ends, size_t ends_len);
@@ -287,7 +287,7 @@ uint8_t boltraven_uncovered_minutes(size_t people, size_t slots, const uint32_t 
 /* Whether owners, sets and minutes fit together, and units have one owner each: 0, or 10. */
 uint8_t boltraven_recount(size_t people, size_t slots, size_t units, const uint32_t *starts, size_t starts_len,
                           const uint32_t *ends, size_t ends_len, const uint64_t *avail, size_t avail_len,
-                          const uint16_t *firsts, size_t firsts_len, const uint8_t *owners, size_t owners_len,
+                          const uint16_t *unit_starts, size_t unit_starts_len, const uint8_t *owners, size_t owners_len,
                           const uint64_t *sets, size_t sets_len, const uint64_t *minutes, size_t minutes_len);
 
 /* The same, units aside. */
@@ -299,15 +299,15 @@ uint8_t boltraven_recount_slots(size_t people, size_t slots, const uint32_t *sta
 /* Draws in three columns, played in order; an answer byte each: 0 acted, 1 no move, 2 choice outside. */
 uint8_t boltraven_play(size_t people, size_t slots, size_t units, size_t count, const uint32_t *starts, size_t starts_len,
                        const uint32_t *ends, size_t ends_len, const uint64_t *avail, size_t avail_len,
-                       const uint16_t *firsts, size_t firsts_len, const uint64_t *frozen, size_t frozen_len,
+                       const uint16_t *unit_starts, size_t unit_starts_len, const uint64_t *frozen, size_t frozen_len,
                        uint8_t *owners, size_t owners_len, uint64_t *sets, size_t sets_len, uint64_t *minutes, size_t minutes_len,
-                       const uint16_t *kinds, size_t kinds_len, const uint16_t *ones, size_t ones_len,
-                       const uint16_t *twos, size_t twos_len, uint8_t *answers, size_t answers_len);
+                       const uint16_t *draws, size_t draws_len, const uint16_t *firsts, size_t firsts_len,
+                       const uint16_t *seconds, size_t seconds_len, uint8_t *answers, size_t answers_len);
 
 /* The same of draws as structs. */
 uint8_t boltraven_play_draws(size_t people, size_t slots, size_t units, size_t count, const uint32_t *starts, size_t starts_len,
                              const uint32_t *ends, size_t ends_len, const uint64_t *avail, size_t avail_len,
-                             const uint16_t *firsts, size_t firsts_len, const uint64_t *frozen, size_t frozen_len,
+                             const uint16_t *unit_starts, size_t unit_starts_len, const uint64_t *frozen, size_t frozen_len,
                              uint8_t *owners, size_t owners_len, uint64_t *sets, size_t sets_len,
                              uint64_t *minutes, size_t minutes_len, const struct boltraven_draw *draws, size_t draws_len,
                              uint8_t *answers, size_t answers_len);

@@ -11,7 +11,7 @@ enum { PEOPLE = 2, RANGES = 2, DRAWS = 1, SLOTS = BOLTRAVEN_SLOTS_MOST, WORDS = 
 /* What is planned: the slots, who can cover them, and the units. */
 static uint32_t starts[SLOTS], ends[SLOTS];
 static uint64_t avail[WORDS], frozen[BOLTRAVEN_SET_WORDS];
-static uint16_t firsts[SLOTS];
+static uint16_t unit_starts[SLOTS];
 static size_t slots, units;
 
 /* The rota. */
@@ -42,7 +42,7 @@ static void prepare(void) {
                                                 RANGES, starts, SLOTS, ends, SLOTS));
     done("availability", boltraven_availability(PEOPLE, slots, starts, SLOTS, ends, SLOTS, RANGES, persons, RANGES, opens, RANGES, shuts,
                                                 RANGES, avail, WORDS));
-    units = answer("unit_starts", boltraven_unit_starts(0, 0, 0, 1, 1, slots, starts, SLOTS, ends, SLOTS, firsts, SLOTS));
+    units = answer("unit_starts", boltraven_unit_starts(0, 0, 0, 1, 1, slots, starts, SLOTS, ends, SLOTS, unit_starts, SLOTS));
     done("compute_targets", boltraven_compute_targets(PEOPLE, slots, starts, SLOTS, ends, SLOTS, avail, WORDS, capacities, PEOPLE, priors,
                                                       PEOPLE, 0, targets, PEOPLE));
 }
@@ -54,7 +54,7 @@ static uint8_t play(void) {
     owners[0] = owners[1] = 0;
     done("from_slots", boltraven_from_slots(PEOPLE, slots, starts, SLOTS, ends, SLOTS, avail, WORDS, owners, SLOTS, sets, WORDS, minutes,
                                             PEOPLE));
-    done("play_draws", boltraven_play_draws(PEOPLE, slots, units, DRAWS, starts, SLOTS, ends, SLOTS, avail, WORDS, firsts, SLOTS, frozen,
+    done("play_draws", boltraven_play_draws(PEOPLE, slots, units, DRAWS, starts, SLOTS, ends, SLOTS, avail, WORDS, unit_starts, SLOTS, frozen,
                                             BOLTRAVEN_SET_WORDS, owners, SLOTS, sets, WORDS, minutes, PEOPLE, draws, DRAWS, answers,
                                             DRAWS));
     return answers[0];

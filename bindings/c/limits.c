@@ -31,8 +31,8 @@ struct room {
     uint64_t avail[WORDS], sets[WORDS], frozen[SET], minutes[PEOPLE], first, last, next, slots, units;
     int64_t targets[PEOPLE];
     double capacities[PEOPLE];
-    struct boltraven_draw draws[DRAWS];
-    uint16_t persons[RANGES], whose[RANGES], firsts[SLOTS], kinds[DRAWS], ones[DRAWS], twos[DRAWS];
+    struct boltraven_draw structs[DRAWS];
+    uint16_t persons[RANGES], whose[RANGES], unit_starts[SLOTS], draws[DRAWS], firsts[DRAWS], seconds[DRAWS];
     uint8_t owners[SLOTS], list[PEOPLE], answers[DRAWS], file[BOLTRAVEN_FILE_MOST], listing[BOLTRAVEN_LISTING_MOST];
     size_t file_len;
 };
@@ -74,13 +74,13 @@ CALL(slot_domain) { return boltraven_slot_domain(r->avail, WORDS, PEOPLE, r->slo
 CALL(slot_minutes) { return boltraven_slot_minutes(r->slots, r->starts, SLOTS, r->ends, SLOTS, r->slots - 1, &r->first); }
 CALL(demand) { return boltraven_demand(r->slots, r->starts, SLOTS, r->ends, SLOTS, &r->first); }
 CALL(freeze_before) { return boltraven_freeze_before(r->slots, r->starts, SLOTS, r->ends, SLOTS, r->frozen, SET, 1440 * 500); }
-CALL(rotation_starts) { return boltraven_rotation_starts(0, 1, 1, 1, 7, r->slots, r->starts, SLOTS, r->ends, SLOTS, r->firsts, SLOTS); }
-CALL(unit_starts) { return boltraven_unit_starts(0, 1, 1, 1, 7, r->slots, r->starts, SLOTS, r->ends, SLOTS, r->firsts, SLOTS); }
-CALL(unit_slots) { return boltraven_unit_slots(r->slots, r->units, r->firsts, SLOTS, r->units - 1, &r->first, &r->last); }
-CALL(unit_of_slot) { return boltraven_unit_of_slot(r->slots, r->units, r->firsts, SLOTS, r->slots - 1); }
-CALL(unit_domain) { return boltraven_unit_domain(r->avail, WORDS, PEOPLE, r->slots, r->units, r->firsts, SLOTS, 1, r->list, PEOPLE); }
-CALL(unit_domains) { return boltraven_unit_domains(r->avail, WORDS, PEOPLE, r->slots, r->units, r->firsts, SLOTS, r->masks, SLOTS); }
-CALL(unit_frozen) { return boltraven_unit_frozen(r->frozen, SET, r->slots, r->units, r->firsts, SLOTS, r->units - 1); }
+CALL(rotation_starts) { return boltraven_rotation_starts(0, 1, 1, 1, 7, r->slots, r->starts, SLOTS, r->ends, SLOTS, r->unit_starts, SLOTS); }
+CALL(unit_starts) { return boltraven_unit_starts(0, 1, 1, 1, 7, r->slots, r->starts, SLOTS, r->ends, SLOTS, r->unit_starts, SLOTS); }
+CALL(unit_slots) { return boltraven_unit_slots(r->slots, r->units, r->unit_starts, SLOTS, r->units - 1, &r->first, &r->last); }
+CALL(unit_of_slot) { return boltraven_unit_of_slot(r->slots, r->units, r->unit_starts, SLOTS, r->slots - 1); }
+CALL(unit_domain) { return boltraven_unit_domain(r->avail, WORDS, PEOPLE, r->slots, r->units, r->unit_starts, SLOTS, 1, r->list, PEOPLE); }
+CALL(unit_domains) { return boltraven_unit_domains(r->avail, WORDS, PEOPLE, r->slots, r->units, r->unit_starts, SLOTS, r->masks, SLOTS); }
+CALL(unit_frozen) { return boltraven_unit_frozen(r->frozen, SET, r->slots, r->units, r->unit_starts, SLOTS, r->units - 1); }
 CALL(covered_days) { return boltraven_covered_days(r->slots, r->starts, SLOTS, r->ends, SLOTS); }
 CALL(minutes_per_day) { return boltraven_minutes_per_day(r->slots, r->starts, SLOTS, r->ends, SLOTS, &r->first); }
 CALL(target_run) { return boltraven_target_run(0, 1, 1, 1, 7, r->slots, r->starts, SLOTS, r->ends, SLOTS, &r->first); }
@@ -108,7 +108,7 @@ CALL(uncovered_minutes) {
     return boltraven_uncovered_minutes(PEOPLE, r->slots, r->starts, SLOTS, r->ends, SLOTS, r->owners, SLOTS, &r->first);
 }
 CALL(recount) {
-    return boltraven_recount(PEOPLE, r->slots, r->units, r->starts, SLOTS, r->ends, SLOTS, r->avail, WORDS, r->firsts, SLOTS, r->owners,
+    return boltraven_recount(PEOPLE, r->slots, r->units, r->starts, SLOTS, r->ends, SLOTS, r->avail, WORDS, r->unit_starts, SLOTS, r->owners,
                              SLOTS, r->sets, WORDS, r->minutes, PEOPLE);
 }
 CALL(recount_slots) {
@@ -116,13 +116,13 @@ CALL(recount_slots) {
                                    r->minutes, PEOPLE);
 }
 CALL(play) {
-    return boltraven_play(PEOPLE, r->slots, r->units, DRAWS, r->starts, SLOTS, r->ends, SLOTS, r->avail, WORDS, r->firsts, SLOTS,
-                          r->frozen, SET, r->owners, SLOTS, r->sets, WORDS, r->minutes, PEOPLE, r->kinds, DRAWS, r->ones, DRAWS, r->twos,
+    return boltraven_play(PEOPLE, r->slots, r->units, DRAWS, r->starts, SLOTS, r->ends, SLOTS, r->avail, WORDS, r->unit_starts, SLOTS,
+                          r->frozen, SET, r->owners, SLOTS, r->sets, WORDS, r->minutes, PEOPLE, r->draws, DRAWS, r->firsts, DRAWS, r->seconds,
                           DRAWS, r->answers, DRAWS);
 }
 CALL(play_draws) {
-    return boltraven_play_draws(PEOPLE, r->slots, r->units, DRAWS, r->starts, SLOTS, r->ends, SLOTS, r->avail, WORDS, r->firsts, SLOTS,
-                                r->frozen, SET, r->owners, SLOTS, r->sets, WORDS, r->minutes, PEOPLE, r->draws, DRAWS, r->answers, DRAWS);
+    return boltraven_play_draws(PEOPLE, r->slots, r->units, DRAWS, r->starts, SLOTS, r->ends, SLOTS, r->avail, WORDS, r->unit_starts, SLOTS,
+                                r->frozen, SET, r->owners, SLOTS, r->sets, WORDS, r->minutes, PEOPLE, r->structs, DRAWS, r->answers, DRAWS);
 }
 CALL(run_job) { return boltraven_run_job(r->file, r->file_len, r->listing, BOLTRAVEN_LISTING_MOST, &r->first); }
 
@@ -184,7 +184,7 @@ static void make_file(void) {
     }
     add(5, &freeze, sizeof freeze);
     for (uint16_t k = 0; k < made.slots; k++) add(6, (uint16_t[]){k, made.owners[k]}, 4);
-    for (size_t k = 0; k < DRAWS; k++) add(7, &made.draws[k], 6);
+    for (size_t k = 0; k < DRAWS; k++) add(7, &made.structs[k], 6);
 }
 
 static void make(void) {
@@ -205,13 +205,13 @@ static void make(void) {
     made.units = call_unit_starts(r);
     must(made.units < BOLTRAVEN_NOTHING && call_unit_domains(r) == 0, "units are refused");
     for (size_t u = 0, k = 0; u < made.units; u++) {
-        const size_t end = u + 1 < made.units ? made.firsts[u + 1] : made.slots;
+        const size_t end = u + 1 < made.units ? made.unit_starts[u + 1] : made.slots;
         for (; k < end; k++) made.owners[k] = made.masks[u] ? u % PEOPLE : BOLTRAVEN_NOBODY;
     }
     must(call_from_slots(r) == 0, "owners are refused");
     for (uint16_t k = 0; k < DRAWS; k++) {
-        made.kinds[k] = k % 100, made.ones[k] = 7 * k % made.units, made.twos[k] = k % 3;
-        made.draws[k] = (struct boltraven_draw){made.kinds[k], made.ones[k], made.twos[k]};
+        made.draws[k] = k % 100, made.firsts[k] = 7 * k % made.units, made.seconds[k] = k % 3;
+        made.structs[k] = (struct boltraven_draw){made.draws[k], made.firsts[k], made.seconds[k]};
     }
     make_file();
 }

@@ -55,8 +55,8 @@ macro_rules! exports {
 }
 
 exports! {
-    told contains(slice, number, number, number, number);
-    told is_empty(slice, number, number, number);
+    yes_no contains(slice, number, number, number, number);
+    yes_no is_empty(slice, number, number, number);
     number count(slice, number, number, number);
     found next_set(slice, number, number, number, number);
     found prev_set(slice, number, number, number, number);
@@ -72,7 +72,7 @@ exports! {
     number atomise(number, slice, slice, number, number, slice, slice, slice, slice, slice);
     done availability(number, number, slice, slice, number, slice, slice, slice, slice);
     number freeze_before(number, slice, slice, slice, number);
-    told is_available(number, number, slice, number, number);
+    yes_no is_available(number, number, slice, number, number);
     number rotation_starts(number, number, number, number, number, number, slice, slice, slice);
     number unit_starts(number, number, number, number, number, number, slice, slice, slice);
     done unit_slots(number, number, slice, number, out, out);
@@ -86,7 +86,7 @@ exports! {
     number unit_domain(slice, number, number, number, slice, number, slice);
     done unit_domains(slice, number, number, number, slice, slice);
     number slot_domain(slice, number, number, number, slice);
-    told unit_frozen(slice, number, number, slice, number);
+    yes_no unit_frozen(slice, number, number, slice, number);
     plain date_of(number);
     plain weekday_of(number);
     done compute_targets(number, number, slice, slice, slice, slice, slice, number, slice);
@@ -122,7 +122,7 @@ fn found(answer: Result<Option<usize>, Refusal>) -> u64 {
     number(answer.map(|slot| slot.unwrap_or(NOTHING as usize)))
 }
 
-fn told(answer: Result<bool, Refusal>) -> u64 {
+fn yes_no(answer: Result<bool, Refusal>) -> u64 {
     number(answer.map(usize::from))
 }
 

@@ -247,7 +247,7 @@ pub struct LentRota {
     pub starts: Vec<u32>,
     pub ends: Vec<u32>,
     pub avail: Vec<u64>,
-    pub firsts: Vec<u16>,
+    pub unit_starts: Vec<u16>,
     pub frozen: Vec<u64>,
     pub owners: Vec<u8>,
     pub sets: Vec<u64>,
@@ -264,7 +264,7 @@ impl LentRota {
         let slots = problem.slot_count();
         let spare = seed.below(2) as usize;
         let (starts, ends) = slots_of(problem);
-        let firsts = unit_starts_of(problem);
+        let unit_starts = unit_starts_of(problem);
         let mut words = |sets: usize| -> Vec<u64> { (0..SET_WORDS * sets + spare).map(|_| seed.word()).collect() };
         let (mut avail, mut frozen, mut sets) = (words(people), words(1), words(people));
         availability_into(problem, &mut avail);
@@ -278,11 +278,11 @@ impl LentRota {
         let answers = bytes(&vec![9; case.draws.len()]);
         Self {
             people,
-            units: firsts.len(),
+            units: unit_starts.len(),
             starts,
             ends,
             avail,
-            firsts,
+            unit_starts,
             frozen,
             owners,
             sets,
@@ -337,7 +337,7 @@ impl LentRota {
             Arg::Lent(4, bytes32(&self.starts)),
             Arg::Lent(4, bytes32(&self.ends)),
             Arg::Lent(8, bytes64(&self.avail)),
-            Arg::Lent(2, bytes16(&self.firsts)),
+            Arg::Lent(2, bytes16(&self.unit_starts)),
             Arg::Lent(8, bytes64(&self.frozen)),
         ];
         args.extend(self.rota_args(Arg::LentMut));
@@ -377,7 +377,7 @@ pub fn sets_into(words: &mut [u64], people: usize, owners: &[u8]) {
 
 impl LentRota {
     /// What every entry on a rota takes first.
-    pub fn ground(&self) -> Vec<Arg> {
+    pub fn plan_args(&self) -> Vec<Arg> {
         vec![
             Arg::Number(self.people as u64),
             Arg::Number(self.starts.len() as u64),
@@ -391,7 +391,7 @@ impl LentRota {
         let mut rota = self.clone();
         rota.sets.fill_with(|| seed.word());
         rota.minutes.fill_with(|| seed.word());
-        let mut args = self.ground();
+        let mut args = self.plan_args();
         args.extend([
             Arg::Lent(8, bytes64(&self.avail)),
             Arg::Lent(1, self.owners.clone()),
@@ -430,7 +430,7 @@ impl LentRota {
         } else {
             0
         };
-        let mut args = self.ground();
+        let mut args = self.plan_args();
         args.push(Arg::Lent(8, bytes64(&self.avail)));
         args.extend(self.rota_args(Arg::LentMut));
         args.extend([Arg::Number(slot as u64), Arg::Number(u64::from(owner))]);

@@ -86,14 +86,14 @@ pub fn damaged(case_seed: u64) -> Vec<Question> {
     let slots = base.len();
     if seed.one_in(3) {
         number = 2;
-        let mut firsts = vec![7u16; slots];
+        let mut unit_starts = vec![7u16; slots];
         match seed.below(2) {
-            0 => firsts.truncate(slots - 1),
+            0 => unit_starts.truncate(slots - 1),
             _ => ends.truncate(slots - 1),
         }
         asked.args[7] = Arg::Lent(4, bytes32(&ends));
-        asked.args[8] = Arg::LentMut(2, bytes16(&firsts));
-        asked.due.written = vec![bytes16(&firsts)];
+        asked.args[8] = Arg::LentMut(2, bytes16(&unit_starts));
+        asked.due.written = vec![bytes16(&unit_starts)];
     }
     if seed.one_in(3) {
         number = 1;

@@ -193,12 +193,12 @@ pub fn damaged(case_seed: u64) -> Vec<Question> {
     }
     let lent = LentProblem { base, ranges };
     let mut asked = Vec::new();
-    let number = lent.atomise_no(room);
+    let number = lent.atomise_number(room);
     if number > 0 {
         asked.push(lent.atomise(&mut seed, room, Err(number)));
     }
     let room = lent.ranges.persons.len();
-    let number = lent.merged_no(room);
+    let number = lent.merged_number(room);
     if number > 0 {
         asked.push(lent.merged(&mut seed, room, Err(number)));
     }
@@ -207,7 +207,7 @@ pub fn damaged(case_seed: u64) -> Vec<Question> {
 
 impl LentProblem {
     /// A split: 1 to 4.
-    fn atomise_no(&self, room: usize) -> u64 {
+    fn atomise_number(&self, room: usize) -> u64 {
         lowest(&[
             (1, self.ranges.count_ok() && self.base.count_ok()),
             (2, self.ranges.room_ok() && self.base.room_ok() && SLOTS_MOST <= room),
@@ -217,7 +217,7 @@ impl LentProblem {
     }
 
     /// A merge: 1, 2, 4.
-    fn merged_no(&self, room: usize) -> u64 {
+    fn merged_number(&self, room: usize) -> u64 {
         lowest(&[
             (1, self.ranges.count_ok()),
             (2, self.ranges.room_ok() && self.ranges.count <= room),

@@ -59,7 +59,7 @@ pub fn slot_sets(n: u64, run: u64) -> Stored {
 /// u32; eight targets as u32, with 2 ^ 31 added. Some of the cases are looked for: those that tell a wrong rule from the Rust's.
 pub fn targets(n: u64, run: u64) -> Stored {
     let mut bytes = Vec::new();
-    let mut told = [0u64; WRONG.len()];
+    let mut found = [0u64; WRONG.len()];
     let mut plain = n - TELLING * WRONG.len() as u64;
     let mut made = 0;
     for k in 0..SEARCHED * n {
@@ -76,7 +76,7 @@ pub fn targets(n: u64, run: u64) -> Stored {
             continue;
         }
         let mut tells = false;
-        for (rule, times) in WRONG.iter().zip(told.iter_mut()) {
+        for (rule, times) in WRONG.iter().zip(found.iter_mut()) {
             if *times < TELLING && targets_by(*rule, &case) != due {
                 *times += 1;
                 tells = true;

@@ -65,10 +65,10 @@ pub fn questions(case_seed: u64) -> Vec<Question> {
 /// The domains of some units, as the ascending list of people.
 fn domains(seed: &mut Seed, problem: &Problem, avail: &[u64]) -> Vec<Question> {
     let people = problem.human_count();
-    let firsts = unit_starts_of(problem);
+    let unit_starts = unit_starts_of(problem);
     let mut asked = Vec::new();
     for _ in 0..3 {
-        let unit = seed.below(firsts.len() as u64) as usize;
+        let unit = seed.below(unit_starts.len() as u64) as usize;
         let domain = &problem.unit_domains[unit];
         let before: Vec<u8> = (0..people + seed.below(2) as usize).map(|_| seed.word() as u8).collect();
         let mut after = before.clone();
@@ -81,8 +81,8 @@ fn domains(seed: &mut Seed, problem: &Problem, avail: &[u64]) -> Vec<Question> {
                 Arg::Lent(8, bytes64(avail)),
                 Arg::Number(people as u64),
                 Arg::Number(problem.slot_count() as u64),
-                Arg::Number(firsts.len() as u64),
-                Arg::Lent(2, bytes16(&firsts)),
+                Arg::Number(unit_starts.len() as u64),
+                Arg::Lent(2, bytes16(&unit_starts)),
                 Arg::Number(unit as u64),
                 Arg::LentMut(1, before),
             ],
@@ -110,14 +110,14 @@ fn domains(seed: &mut Seed, problem: &Problem, avail: &[u64]) -> Vec<Question> {
 
 /// The domains of all units at once, a mask each, in a list with room for them or a little more.
 fn all_domains(seed: &mut Seed, problem: &Problem, avail: &[u64]) -> Question {
-    let firsts = unit_starts_of(problem);
-    let before: Vec<u32> = (0..firsts.len() + seed.below(2) as usize).map(|_| seed.word() as u32).collect();
+    let unit_starts = unit_starts_of(problem);
+    let before: Vec<u32> = (0..unit_starts.len() + seed.below(2) as usize).map(|_| seed.word() as u32).collect();
     let args = vec![
         Arg::Lent(8, bytes64(avail)),
         Arg::Number(problem.human_count() as u64),
         Arg::Number(problem.slot_count() as u64),
-        Arg::Number(firsts.len() as u64),
-        Arg::Lent(2, bytes16(&firsts)),
+        Arg::Number(unit_starts.len() as u64),
+        Arg::Lent(2, bytes16(&unit_starts)),
     ];
     masks(args, before, 0, &unit_masks_of(problem))
 }
@@ -167,16 +167,16 @@ fn freezing(seed: &mut Seed, mut problem: Problem, lent_slots: &[Arg]) -> Vec<Qu
             written: vec![bytes64(&flags)],
         },
     }];
-    let firsts = unit_starts_of(&problem);
+    let unit_starts = unit_starts_of(&problem);
     for _ in 0..3 {
-        let unit = seed.below(firsts.len() as u64) as usize;
+        let unit = seed.below(unit_starts.len() as u64) as usize;
         asked.push(Question::number(
             "boltraven_unit_frozen",
             vec![
                 Arg::Lent(8, bytes64(&flags)),
                 Arg::Number(count as u64),
-                Arg::Number(firsts.len() as u64),
-                Arg::Lent(2, bytes16(&firsts)),
+                Arg::Number(unit_starts.len() as u64),
+                Arg::Lent(2, bytes16(&unit_starts)),
                 Arg::Number(unit as u64),
             ],
             u64::from(problem.is_unit_frozen(unit)),
@@ -185,7 +185,7 @@ fn freezing(seed: &mut Seed, mut problem: Problem, lent_slots: &[Arg]) -> Vec<Qu
     asked
 }
 
-/// Damaged copies, some of them twice: each function is asked all the same, and hears the paper's number or, where the damage is none of
+/// Damaged copies, some of them twice: each function is asked all the same, and answers the paper's number or, where the damage is none of
 /// its concern, gives the Rust's answer.
 pub fn damaged(case_seed: u64) -> Vec<Question> {
     let mut seed = Seed::new(case_seed);
@@ -208,7 +208,7 @@ impl LentUnits {
         vec![
             Arg::Number(self.slots.count as u64),
             Arg::Number(self.units.count as u64),
-            Arg::Lent(2, bytes16(&self.units.firsts)),
+            Arg::Lent(2, bytes16(&self.units.unit_starts)),
         ]
     }
 
@@ -219,7 +219,7 @@ impl LentUnits {
 
     /// Rotation and unit starts.
     fn starts_asked(&self, seed: &mut Seed, due: &DueUnits) -> Vec<Question> {
-        let number = self.starts_no();
+        let number = self.starts_number();
         let asked = [("boltraven_rotation_starts", &due.rotations), ("boltraven_unit_starts", &due.units)];
         let question = |(function, starts): (&'static str, &Vec<u16>)| {
             let before: Vec<u16> = (0..self.starts_room).map(|_| seed.word() as u16).collect();
@@ -244,16 +244,16 @@ impl LentUnits {
                 domain_args,
                 1,
                 before,
-                self.unit_domain_no(),
+                self.unit_domain_number(),
                 domain.len(),
                 domain,
             ),
             Question::number(
                 "boltraven_unit_frozen",
                 frozen_args,
-                heard(self.frozen_no(), u64::from(due.is_frozen)),
+                answer_or(self.frozen_number(), u64::from(due.is_frozen)),
             ),
-            Question::number("boltraven_covered_days", self.slots.args(), heard(self.days_no(), due.days as u64)),
+            Question::number("boltraven_covered_days", self.slots.args(), answer_or(self.days_number(), due.days as u64)),
         ]
     }
 
@@ -262,7 +262,7 @@ impl LentUnits {
         let before: Vec<u32> = (0..self.masks_room).map(|_| seed.word() as u32).collect();
         let mut args = vec![Arg::Lent(8, bytes64(&self.avail)), Arg::Number(self.people as u64)];
         args.extend(self.units_args());
-        masks(args, before, self.unit_domains_no(), &due.unit_masks)
+        masks(args, before, self.unit_domains_number(), &due.unit_masks)
     }
 
     /// Minutes a day, target and achievable run.
@@ -277,9 +277,9 @@ impl LentUnits {
         ]);
         run_args.extend(self.slots.args());
         let asked = [
-            ("boltraven_minutes_per_day", self.slots.args(), self.days_no(), due.per_day),
-            ("boltraven_target_run", target_args, self.target_no(), due.target),
-            ("boltraven_achievable_run", run_args, self.achievable_no(), due.achievable),
+            ("boltraven_minutes_per_day", self.slots.args(), self.days_number(), due.per_day),
+            ("boltraven_target_run", target_args, self.target_number(), due.target),
+            ("boltraven_achievable_run", run_args, self.achievable_number(), due.achievable),
         ];
         let question = |(function, args, number, right)| {
             let due = (number == 0).then(|| vec![right as u64]);
@@ -290,7 +290,7 @@ impl LentUnits {
 }
 
 /// A number that was asked for, or a refusal.
-fn heard(number: u64, right: u64) -> u64 {
+fn answer_or(number: u64, right: u64) -> u64 {
     if number == 0 {
         right
     } else {
@@ -309,7 +309,7 @@ fn list(function: &'static str, mut args: Vec<Arg>, size: usize, before: Vec<u8>
         function,
         args,
         due: Outcome {
-            result: heard(number, count as u64),
+            result: answer_or(number, count as u64),
             written: vec![after],
         },
     }

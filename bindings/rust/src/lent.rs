@@ -197,7 +197,7 @@ fn found(answer: u64) -> Result<Option<usize>, Refusal> {
 
 /// Yes is 1, no is 0, or a refusal.
 #[inline]
-fn told(answer: u64) -> Result<bool, Refusal> {
+fn yes_no(answer: u64) -> Result<bool, Refusal> {
     match answer {
         0 => Ok(false),
         1 => Ok(true),
@@ -233,11 +233,11 @@ exports! {
 
     /// Whether slot i is a member. Refusals: 1, 2, 11.
     #[inline]
-    pub fn contains(words: &[u64], people: usize, person: usize, len: usize, i: usize) -> Result<bool, Refusal> = told(u64);
+    pub fn contains(words: &[u64], people: usize, person: usize, len: usize, i: usize) -> Result<bool, Refusal> = yes_no(u64);
 
     /// Whether the row has no member. Refusals: 1, 2, 11.
     #[inline]
-    pub fn is_empty(words: &[u64], people: usize, person: usize, len: usize) -> Result<bool, Refusal> = told(u64);
+    pub fn is_empty(words: &[u64], people: usize, person: usize, len: usize) -> Result<bool, Refusal> = yes_no(u64);
 
     /// How many members the row has. Refusals: 1, 2, 11.
     #[inline]
@@ -298,7 +298,7 @@ exports! {
 
     /// Each person's ranges, sorted and merged, in three columns, and how many. Refusals: 1, 2, 4.
     pub fn merged_ranges(
-        people: usize, count: usize, persons: &[u16], starts: &[u32], ends: &[u32], whose: &mut [u16], froms: &mut [u32], tos: &mut [u32]
+        people: usize, count: usize, persons: &[u16], opens: &[u32], shuts: &[u32], whose: &mut [u16], froms: &mut [u32], tos: &mut [u32]
     ) -> Result<usize, Refusal> = number(u64);
 
     /// The atomic slots, in two columns, and how many. Refusals: 1 to 5.
@@ -321,27 +321,27 @@ exports! {
     ) -> Result<usize, Refusal> = number(u64);
 
     /// Whether a person is available for a slot. Refusals: 1, 2, 11.
-    pub fn is_available(people: usize, slots: usize, avail: &[u64], person: usize, slot: usize) -> Result<bool, Refusal> = told(u64);
+    pub fn is_available(people: usize, slots: usize, avail: &[u64], person: usize, slot: usize) -> Result<bool, Refusal> = yes_no(u64);
 
     // ---- where rotations and units begin; settings come as their five numbers
 
     /// The starts of the rotations, and how many. Refusals: 1, 2, 7, 9.
     pub fn rotation_starts(
-        fairness: u8, lock: u8, boundary: u8, value: u16, days: u16, slots: usize, starts: &[u32], ends: &[u32], firsts: &mut [u16]
+        fairness: u8, lock: u8, boundary: u8, value: u16, days: u16, slots: usize, starts: &[u32], ends: &[u32], unit_starts: &mut [u16]
     ) -> Result<usize, Refusal> = number(u64);
 
     /// The starts of the units, and how many. Refusals: 1, 2, 7, 9.
     pub fn unit_starts(
-        fairness: u8, lock: u8, boundary: u8, value: u16, days: u16, slots: usize, starts: &[u32], ends: &[u32], firsts: &mut [u16]
+        fairness: u8, lock: u8, boundary: u8, value: u16, days: u16, slots: usize, starts: &[u32], ends: &[u32], unit_starts: &mut [u16]
     ) -> Result<usize, Refusal> = number(u64);
 
     /// The slots of a unit, or of a rotation: `from` up to `to`, without `to`. Refusals: 1, 2, 9, 11.
     pub fn unit_slots(
-        slots: usize, units: usize, firsts: &[u16], unit: usize, from: &mut u64, to: &mut u64
+        slots: usize, units: usize, unit_starts: &[u16], unit: usize, from: &mut u64, to: &mut u64
     ) -> Result<(), Refusal> = done(u8);
 
     /// The unit, or the rotation, of a slot. Refusals: 1, 2, 9, 11.
-    pub fn unit_of_slot(slots: usize, units: usize, firsts: &[u16], slot: usize) -> Result<usize, Refusal> = number(u64);
+    pub fn unit_of_slot(slots: usize, units: usize, unit_starts: &[u16], slot: usize) -> Result<usize, Refusal> = number(u64);
 
     // ---- days, and how long runs are to be
 
@@ -372,19 +372,19 @@ exports! {
 
     /// The people available for all slots of a unit, ascending, and how many. Refusals: 1, 2, 9, 11.
     pub fn unit_domain(
-        avail: &[u64], people: usize, slots: usize, units: usize, firsts: &[u16], unit: usize, list: &mut [u8]
+        avail: &[u64], people: usize, slots: usize, units: usize, unit_starts: &[u16], unit: usize, list: &mut [u8]
     ) -> Result<usize, Refusal> = number(u64);
 
     /// The people available for all slots of each unit, as a mask a unit: bit p is person p. Refusals: 1, 2, 9.
     pub fn unit_domains(
-        avail: &[u64], people: usize, slots: usize, units: usize, firsts: &[u16], masks: &mut [u32]
+        avail: &[u64], people: usize, slots: usize, units: usize, unit_starts: &[u16], masks: &mut [u32]
     ) -> Result<(), Refusal> = done(u8);
 
     /// The people available for a slot, ascending, and how many. Refusals: 1, 2, 11.
     pub fn slot_domain(avail: &[u64], people: usize, slots: usize, slot: usize, list: &mut [u8]) -> Result<usize, Refusal> = number(u64);
 
     /// Whether any slot of a unit is frozen. Refusals: 1, 2, 9, 11.
-    pub fn unit_frozen(frozen: &[u64], slots: usize, units: usize, firsts: &[u16], unit: usize) -> Result<bool, Refusal> = told(u64);
+    pub fn unit_frozen(frozen: &[u64], slots: usize, units: usize, unit_starts: &[u16], unit: usize) -> Result<bool, Refusal> = yes_no(u64);
 
     // ---- the calendar: minute 0 is Thursday 1970-01-01 00:00
 
@@ -420,20 +420,20 @@ exports! {
 
     /// Plays draws, given as three columns: an answer byte each, 0 acted, 1 no move, 2 a choice outside. Refusals: 1, 2, 9, 10.
     pub fn play(
-        people: usize, slots: usize, units: usize, count: usize, starts: &[u32], ends: &[u32], avail: &[u64], firsts: &[u16],
-        frozen: &[u64], owners: &mut [u8], sets: &mut [u64], minutes: &mut [u64], kinds: &[u16], ones: &[u16], twos: &[u16],
+        people: usize, slots: usize, units: usize, count: usize, starts: &[u32], ends: &[u32], avail: &[u64], unit_starts: &[u16],
+        frozen: &[u64], owners: &mut [u8], sets: &mut [u64], minutes: &mut [u64], draws: &[u16], firsts: &[u16], seconds: &[u16],
         answers: &mut [u8]
     ) -> Result<(), Refusal> = done(u8);
 
     /// Plays draws as they stand: an answer byte each, 0 acted, 1 no move, 2 a choice outside. Refusals: 1, 2, 9, 10.
     pub fn play_draws(
-        people: usize, slots: usize, units: usize, count: usize, starts: &[u32], ends: &[u32], avail: &[u64], firsts: &[u16],
+        people: usize, slots: usize, units: usize, count: usize, starts: &[u32], ends: &[u32], avail: &[u64], unit_starts: &[u16],
         frozen: &[u64], owners: &mut [u8], sets: &mut [u64], minutes: &mut [u64], draws: &[Draw], answers: &mut [u8]
     ) -> Result<(), Refusal> = done(u8);
 
     /// Whether owners, units, sets and minutes fit together, as a play asks it first. Refusals: 1, 2, 9, 10.
     pub fn recount(
-        people: usize, slots: usize, units: usize, starts: &[u32], ends: &[u32], avail: &[u64], firsts: &[u16], owners: &[u8], sets: &[u64],
+        people: usize, slots: usize, units: usize, starts: &[u32], ends: &[u32], avail: &[u64], unit_starts: &[u16], owners: &[u8], sets: &[u64],
         minutes: &[u64]
     ) -> Result<(), Refusal> = done(u8);
 

@@ -36,7 +36,7 @@ fn every_refusal_has_its_number_and_sentence() {
 }
 
 #[test]
-fn the_lowest_number_is_heard() {
+fn the_lowest_number_is_given() {
     let words = [0; SET_WORDS];
     assert_eq!(lent::contains(&words, 0, 0, 2000, 0), Err(Refusal::Count));
     assert_eq!(lent::contains(&words[..3], 1, 9, 64, 0), Err(Refusal::ShortBuffer));
@@ -97,7 +97,7 @@ fn a_rota_keeps_what_lies_past_its_ends() {
     let mut answers = [9; 4];
     let frozen = [SPARE & !0b11; SET_WORDS];
     let mut play = |owners: &mut [u8], minutes: &mut [u64]| {
-        let (kinds, ones, twos) = ([0, 100, 35], [1, 0, 0], [1, 0, 9]);
+        let (draws, firsts, seconds) = ([0, 100, 35], [1, 0, 0], [1, 0, 9]);
         lent::play(
             2,
             2,
@@ -111,9 +111,9 @@ fn a_rota_keeps_what_lies_past_its_ends() {
             owners,
             &mut sets,
             minutes,
-            &kinds,
-            &ones,
-            &twos,
+            &draws,
+            &firsts,
+            &seconds,
             &mut answers,
         )
     };
@@ -129,9 +129,9 @@ fn a_rota_keeps_what_lies_past_its_ends() {
 #[test]
 fn domains_of_all_units_are_masks_or_refused_whole() {
     let mut masks = [7; 3];
-    let mut asked = |people: usize, firsts: &[u16], room: usize| {
-        let told = lent::unit_domains(&avail(), people, 2, firsts.len(), firsts, &mut masks[..room]);
-        (told, masks)
+    let mut asked = |people: usize, unit_starts: &[u16], room: usize| {
+        let done = lent::unit_domains(&avail(), people, 2, unit_starts.len(), unit_starts, &mut masks[..room]);
+        (done, masks)
     };
     assert_eq!(asked(33, &[1], 0), (Err(Refusal::Count), [7; 3]));
     assert_eq!(asked(2, &[1, 0], 1), (Err(Refusal::ShortBuffer), [7; 3]));

@@ -210,7 +210,7 @@ fn jobs_from_text_are_listed_as_the_examples_are() {
 }
 
 #[test]
-fn text_that_is_no_job_is_told_by_its_line() {
+fn text_that_is_no_job_is_named_by_its_line() {
     const SETTINGS: &str = "\u{feff}settings fairness 1 lock 1 weekdays mon,thu days 7 # weeks\n";
     let wrong = |lines: &str| {
         let text = format!("{SETTINGS}\n{lines}");

@@ -89,8 +89,8 @@ fn print_listing(fd: i32, what: &[u8]) {
     }
     let n = within(input.count, &file);
     let mut out = [0u8; 65536];
-    let heard = job::run_job(&file[..n], &mut out);
-    match heard {
+    let answer = job::run_job(&file[..n], &mut out);
+    match answer {
         JobAnswer::Length(k) => {
             let m = within(k, &out);
             io::write_all(STDOUT_FILENO, &out[..m]);

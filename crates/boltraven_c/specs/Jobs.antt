@@ -4,9 +4,9 @@ use Prim.Native.Nat.{ℕ}
 use Rattle.job.specs.declared.JobAnswer.{JobAnswer}
 use Rattle.job.specs.declared.JobAnswer.the-variants as answer
 
-abbrev pub jobNo : JobAnswer → ℕ
-jobNo (answer.Length l) = 0
-jobNo (answer.Refused n) = n
+abbrev pub jobRefusal : JobAnswer → ℕ
+jobRefusal (answer.Length l) = 0
+jobRefusal (answer.Refused n) = n
 
 abbrev pub jobLength : ℕ → JobAnswer → ℕ
 jobLength was (answer.Length l) = l

@@ -1,10 +1,10 @@
 // Freezing, and the single question of availability.
 use crate::answers::plain_number;
-use crate::answers::told_number;
+use crate::answers::yes_no_number;
 ghost use mathlib.Core.Path.{_≡_};
 ghost use Rattle.slots.specs.Availability.{isAvailable};
 ghost use Rattle.slots.specs.Freeze.{freezeOf};
-ghost use Rattle.boltraven_c.specs.Numbers.{plainNumber, toldNumber};
+ghost use Rattle.boltraven_c.specs.Numbers.{plainNumber, yesNoNumber};
 
 // Marks each slot that ends by the instant; how many do.
 #[no_mangle]
@@ -32,7 +32,7 @@ pub extern "C" fn boltraven_is_available(
     person: usize,
     slot: usize,
 ) -> u64
-    ensures { λ r. ⌜ r ≡ toldNumber (isAvailable people slots (now (avail .entry)) person slot) ⌝ }
+    ensures { λ r. ⌜ r ≡ yesNoNumber (isAvailable people slots (now (avail .entry)) person slot) ⌝ }
 {
-    told_number(slots::is_available(people, slots, avail, person, slot))
+    yes_no_number(slots::is_available(people, slots, avail, person, slot))
 }

@@ -2,11 +2,11 @@
 use job::JobAnswer;
 ghost use mathlib.Core.Path.{_≡_};
 ghost use Rattle.job.specs.Outcome.{jobResult};
-ghost use Rattle.boltraven_c.specs.Jobs.{jobNo, jobLength};
+ghost use Rattle.boltraven_c.specs.Jobs.{jobRefusal, jobLength};
 
 // The number of the refusal, or 0 with the length written.
 fn put_length(answer: JobAnswer, length: &mut u64) -> u8
-    ensures { λ r. ⌜ r ≡ jobNo answer ⌝ }
+    ensures { λ r. ⌜ r ≡ jobRefusal answer ⌝ }
     ensures { λ _. ⌜ now (length .exit) ≡ jobLength (now (length .entry)) answer ⌝ }
 {
     match answer {
@@ -21,7 +21,7 @@ fn put_length(answer: JobAnswer, length: &mut u64) -> u8
 // The listing at the front of out and its length beside it.
 #[no_mangle]
 pub extern "C" fn boltraven_run_job(file: &[u8], out: &mut [u8], length: &mut u64) -> u8
-    ensures { λ r. ⌜ r ≡ jobNo (jobResult (now (file .entry)) (now (out .entry)) .answer) ⌝ }
+    ensures { λ r. ⌜ r ≡ jobRefusal (jobResult (now (file .entry)) (now (out .entry)) .answer) ⌝ }
     ensures { λ _. ⌜ now (out .exit) ≡ jobResult (now (file .entry)) (now (out .entry)) .out ⌝ }
     ensures { λ _. ⌜ now (length .exit)
         ≡ jobLength (now (length .entry)) (jobResult (now (file .entry)) (now (out .entry)) .answer) ⌝ }

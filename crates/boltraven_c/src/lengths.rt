@@ -3,10 +3,10 @@ use crate::answers::plain_number;
 use crate::answers::put_minutes;
 use units::Settings;
 ghost use mathlib.Core.Path.{_≡_};
-ghost use Rattle.slots.specs.Lent.{minutesNo};
+ghost use Rattle.slots.specs.Lent.{minutesRefusal};
 ghost use Rattle.units.specs.Days.{coveredDaysIs, minutesPerDayIs, targetRunIs};
 ghost use Rattle.units.specs.Achievable.{achievableRunIs};
-ghost use Rattle.boltraven_c.specs.Numbers.{plainNumber, minutesAre};
+ghost use Rattle.boltraven_c.specs.Numbers.{plainNumber, minutesWritten};
 ghost use Rattle.boltraven_c.specs.Units.{settingsOf};
 
 // The distinct start dates of the slots.
@@ -25,9 +25,9 @@ pub extern "C" fn boltraven_minutes_per_day(
     ends: &[u32],
     out: &mut u64,
 ) -> u8
-    ensures { λ r. ⌜ r ≡ minutesNo (minutesPerDayIs slots (now (starts .entry)) (now (ends .entry))) ⌝ }
+    ensures { λ r. ⌜ r ≡ minutesRefusal (minutesPerDayIs slots (now (starts .entry)) (now (ends .entry))) ⌝ }
     ensures { λ _. ⌜ now (out .exit)
-        ≡ minutesAre (now (out .entry)) (minutesPerDayIs slots (now (starts .entry)) (now (ends .entry))) ⌝ }
+        ≡ minutesWritten (now (out .entry)) (minutesPerDayIs slots (now (starts .entry)) (now (ends .entry))) ⌝ }
 {
     let minutes = units::minutes_per_day(slots, starts, ends);
     put_minutes(minutes, out)
@@ -46,9 +46,9 @@ pub extern "C" fn boltraven_target_run(
     ends: &[u32],
     out: &mut u64,
 ) -> u8
-    ensures { λ r. ⌜ r ≡ minutesNo
+    ensures { λ r. ⌜ r ≡ minutesRefusal
         (targetRunIs (settingsOf fairness lock boundary value days) slots (now (starts .entry)) (now (ends .entry))) ⌝ }
-    ensures { λ _. ⌜ now (out .exit) ≡ minutesAre (now (out .entry))
+    ensures { λ _. ⌜ now (out .exit) ≡ minutesWritten (now (out .entry))
         (targetRunIs (settingsOf fairness lock boundary value days) slots (now (starts .entry)) (now (ends .entry))) ⌝ }
 {
     let settings = Settings {
@@ -78,10 +78,10 @@ pub extern "C" fn boltraven_achievable_run(
     ends: &[u32],
     out: &mut u64,
 ) -> u8
-    ensures { λ r. ⌜ r ≡ minutesNo
+    ensures { λ r. ⌜ r ≡ minutesRefusal
         (achievableRunIs (settingsOf fairness lock boundary value days) (now (avail .entry)) people person slots
         (now (starts .entry)) (now (ends .entry))) ⌝ }
-    ensures { λ _. ⌜ now (out .exit) ≡ minutesAre (now (out .entry))
+    ensures { λ _. ⌜ now (out .exit) ≡ minutesWritten (now (out .entry))
         (achievableRunIs (settingsOf fairness lock boundary value days) (now (avail .entry)) people person slots
         (now (starts .entry)) (now (ends .entry))) ⌝ }
 {

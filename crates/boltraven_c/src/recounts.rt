@@ -3,7 +3,7 @@ ghost use mathlib.Core.Path.{_≡_};
 ghost use mathlib.Core.Bool.{true};
 ghost use lib.Dec.{leb};
 ghost use lib.ListN.{length};
-ghost use Rattle.paper.specs.Limits.{heardOf};
+ghost use Rattle.paper.specs.Limits.{numberOf};
 ghost use Rattle.owners.specs.Derived.{plan, derived};
 ghost use Rattle.owners.specs.Entries.{recountRow, recountSlotsRow};
 
@@ -16,13 +16,13 @@ pub extern "C" fn boltraven_recount(
     starts: &[u32],
     ends: &[u32],
     avail: &[u64],
-    firsts: &[u16],
+    begins: &[u16],
     owners: &[u8],
     sets: &[u64],
     minutes: &[u64],
 ) -> u8
-    ensures { λ r. ⌜ r ≡ heardOf (recountRow true (leb units (length (now (firsts .entry)))) (plan people slots (now (starts .entry))
-        (now (ends .entry))) (now (avail .entry)) units (now (firsts .entry)) (now (owners .entry)) (derived (now (sets .entry))
+    ensures { λ r. ⌜ r ≡ numberOf (recountRow true (leb units (length (now (begins .entry)))) (plan people slots (now (starts .entry))
+        (now (ends .entry))) (now (avail .entry)) units (now (begins .entry)) (now (owners .entry)) (derived (now (sets .entry))
         (now (minutes .entry)))) ⌝ }
 {
     owners::recount(
@@ -32,7 +32,7 @@ pub extern "C" fn boltraven_recount(
         starts,
         ends,
         avail,
-        firsts,
+        begins,
         owners,
         sets,
         minutes,
@@ -51,7 +51,7 @@ pub extern "C" fn boltraven_recount_slots(
     sets: &[u64],
     minutes: &[u64],
 ) -> u8
-    ensures { λ r. ⌜ r ≡ heardOf (recountSlotsRow (plan people slots (now (starts .entry)) (now (ends .entry))) (now (avail .entry))
+    ensures { λ r. ⌜ r ≡ numberOf (recountSlotsRow (plan people slots (now (starts .entry)) (now (ends .entry))) (now (avail .entry))
         (now (owners .entry)) (derived (now (sets .entry)) (now (minutes .entry)))) ⌝ }
 {
     owners::recount_slots(people, slots, starts, ends, avail, owners, sets, minutes)

@@ -4,10 +4,10 @@ use crate::answers::put_minutes;
 ghost use mathlib.Core.Path.{_≡_};
 ghost use mathlib.Core.List.{[]};
 ghost use Rattle.owners.specs.Derived.{plan, derived};
-ghost use Rattle.slots.specs.Lent.{minutesNo};
+ghost use Rattle.slots.specs.Lent.{minutesRefusal};
 ghost use Rattle.owners.specs.Entries.{Ended, fromSlots, emptied, ownerIs, minutesIs, unassignedIs, uncoveredIs};
 ghost use Rattle.rota.specs.Entries.{assigned, played};
-ghost use Rattle.boltraven_c.specs.Numbers.{plainNumber, minutesAre};
+ghost use Rattle.boltraven_c.specs.Numbers.{plainNumber, minutesWritten};
 
 // Sets and minutes from owners.
 #[no_mangle]
@@ -88,19 +88,19 @@ pub extern "C" fn boltraven_play(
     starts: &[u32],
     ends: &[u32],
     avail: &[u64],
-    firsts: &[u16],
+    begins: &[u16],
     frozen: &[u64],
     owners: &mut [u8],
     sets: &mut [u64],
     minutes: &mut [u64],
-    kinds: &[u16],
-    ones: &[u16],
-    twos: &[u16],
+    draws: &[u16],
+    firsts: &[u16],
+    seconds: &[u16],
     answers: &mut [u8],
 ) -> u8
     ensures { λ r. ⌜ Ended
-        (played (plan people slots (now (starts .entry)) (now (ends .entry))) (now (avail .entry)) units (now (firsts .entry))
-        (now (frozen .entry)) count (now (kinds .entry)) (now (ones .entry)) (now (twos .entry)) (now (owners .entry))
+        (played (plan people slots (now (starts .entry)) (now (ends .entry))) (now (avail .entry)) units (now (begins .entry))
+        (now (frozen .entry)) count (now (draws .entry)) (now (firsts .entry)) (now (seconds .entry)) (now (owners .entry))
         (derived (now (sets .entry)) (now (minutes .entry))) (now (answers .entry)))
         r (now (owners .exit)) (derived (now (sets .exit)) (now (minutes .exit))) (now (answers .exit)) ⌝ }
 {
@@ -112,14 +112,14 @@ pub extern "C" fn boltraven_play(
         starts,
         ends,
         avail,
-        firsts,
+        begins,
         frozen,
         owners,
         sets,
         minutes,
-        kinds,
-        ones,
-        twos,
+        draws,
+        firsts,
+        seconds,
         answers,
     )
 }
@@ -145,8 +145,8 @@ pub extern "C" fn boltraven_minutes_of(
     person: usize,
     out: &mut u64,
 ) -> u8
-    ensures { λ r. ⌜ r ≡ minutesNo (minutesIs people (now (minutes .entry)) person) ⌝ }
-    ensures { λ _. ⌜ now (out .exit) ≡ minutesAre (now (out .entry)) (minutesIs people (now (minutes .entry)) person) ⌝ }
+    ensures { λ r. ⌜ r ≡ minutesRefusal (minutesIs people (now (minutes .entry)) person) ⌝ }
+    ensures { λ _. ⌜ now (out .exit) ≡ minutesWritten (now (out .entry)) (minutesIs people (now (minutes .entry)) person) ⌝ }
 {
     let worked = owners::minutes_of(people, minutes, person);
     put_minutes(worked, out)
@@ -170,8 +170,8 @@ pub extern "C" fn boltraven_uncovered_minutes(
     owners: &[u8],
     out: &mut u64,
 ) -> u8
-    ensures { λ r. ⌜ r ≡ minutesNo (uncoveredIs (plan people slots (now (starts .entry)) (now (ends .entry))) (now (owners .entry))) ⌝ }
-    ensures { λ _. ⌜ now (out .exit) ≡ minutesAre (now (out .entry))
+    ensures { λ r. ⌜ r ≡ minutesRefusal (uncoveredIs (plan people slots (now (starts .entry)) (now (ends .entry))) (now (owners .entry))) ⌝ }
+    ensures { λ _. ⌜ now (out .exit) ≡ minutesWritten (now (out .entry))
         (uncoveredIs (plan people slots (now (starts .entry)) (now (ends .entry))) (now (owners .entry))) ⌝ }
 {
     let uncovered = owners::uncovered_minutes(people, slots, starts, ends, owners);

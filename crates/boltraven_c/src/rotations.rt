@@ -3,7 +3,7 @@ use crate::answers::plain_number;
 use units::Settings;
 use units::UnitSlots;
 ghost use mathlib.Core.Path.{_≡_};
-ghost use Rattle.units.specs.Answers.{unitSlotsIs, unitOfSlotIs, spanNo};
+ghost use Rattle.units.specs.Answers.{unitSlotsIs, unitOfSlotIs, spanRefusal};
 ghost use Rattle.units.specs.Starts.{rotationStartsIs, unitStartsIs};
 ghost use Rattle.boltraven_c.specs.Numbers.{plainNumber};
 ghost use Rattle.boltraven_c.specs.Units.{settingsOf, spanFrom, spanTo};
@@ -19,14 +19,14 @@ pub extern "C" fn boltraven_rotation_starts(
     slots: usize,
     starts: &[u32],
     ends: &[u32],
-    firsts: &mut [u16],
+    begins: &mut [u16],
 ) -> u64
     ensures { λ r. ⌜ r ≡ plainNumber
         (rotationStartsIs (settingsOf fairness lock boundary value days) slots (now (starts .entry)) (now (ends .entry))
-        (now (firsts .entry)) .answer) ⌝ }
-    ensures { λ _. ⌜ now (firsts .exit)
+        (now (begins .entry)) .answer) ⌝ }
+    ensures { λ _. ⌜ now (begins .exit)
         ≡ rotationStartsIs (settingsOf fairness lock boundary value days) slots (now (starts .entry)) (now (ends .entry))
-        (now (firsts .entry)) .buffer ⌝ }
+        (now (begins .entry)) .buffer ⌝ }
 {
     let settings = Settings {
         fairness,
@@ -35,7 +35,7 @@ pub extern "C" fn boltraven_rotation_starts(
         value,
         days,
     };
-    plain_number(units::rotation_starts(settings, slots, starts, ends, firsts))
+    plain_number(units::rotation_starts(settings, slots, starts, ends, begins))
 }
 
 // The starts of the units, and how many.
@@ -49,14 +49,14 @@ pub extern "C" fn boltraven_unit_starts(
     slots: usize,
     starts: &[u32],
     ends: &[u32],
-    firsts: &mut [u16],
+    begins: &mut [u16],
 ) -> u64
     ensures { λ r. ⌜ r ≡ plainNumber
         (unitStartsIs (settingsOf fairness lock boundary value days) slots (now (starts .entry)) (now (ends .entry))
-        (now (firsts .entry)) .answer) ⌝ }
-    ensures { λ _. ⌜ now (firsts .exit)
+        (now (begins .entry)) .answer) ⌝ }
+    ensures { λ _. ⌜ now (begins .exit)
         ≡ unitStartsIs (settingsOf fairness lock boundary value days) slots (now (starts .entry)) (now (ends .entry))
-        (now (firsts .entry)) .buffer ⌝ }
+        (now (begins .entry)) .buffer ⌝ }
 {
     let settings = Settings {
         fairness,
@@ -65,7 +65,7 @@ pub extern "C" fn boltraven_unit_starts(
         value,
         days,
     };
-    plain_number(units::unit_starts(settings, slots, starts, ends, firsts))
+    plain_number(units::unit_starts(settings, slots, starts, ends, begins))
 }
 
 // The slots of a unit (or of a rotation): `from` up to `to`, without `to`.
@@ -73,16 +73,16 @@ pub extern "C" fn boltraven_unit_starts(
 pub extern "C" fn boltraven_unit_slots(
     slots: usize,
     units: usize,
-    firsts: &[u16],
+    begins: &[u16],
     unit: usize,
     from: &mut u64,
     to: &mut u64,
 ) -> u8
-    ensures { λ r. ⌜ r ≡ spanNo (unitSlotsIs slots units (now (firsts .entry)) unit) ⌝ }
-    ensures { λ _. ⌜ now (from .exit) ≡ spanFrom (now (from .entry)) (unitSlotsIs slots units (now (firsts .entry)) unit) ⌝ }
-    ensures { λ _. ⌜ now (to .exit) ≡ spanTo (now (to .entry)) (unitSlotsIs slots units (now (firsts .entry)) unit) ⌝ }
+    ensures { λ r. ⌜ r ≡ spanRefusal (unitSlotsIs slots units (now (begins .entry)) unit) ⌝ }
+    ensures { λ _. ⌜ now (from .exit) ≡ spanFrom (now (from .entry)) (unitSlotsIs slots units (now (begins .entry)) unit) ⌝ }
+    ensures { λ _. ⌜ now (to .exit) ≡ spanTo (now (to .entry)) (unitSlotsIs slots units (now (begins .entry)) unit) ⌝ }
 {
-    let span = units::unit_slots(slots, units, firsts, unit);
+    let span = units::unit_slots(slots, units, begins, unit);
     match span {
         UnitSlots::Span {
             from: low,
@@ -101,10 +101,10 @@ pub extern "C" fn boltraven_unit_slots(
 pub extern "C" fn boltraven_unit_of_slot(
     slots: usize,
     units: usize,
-    firsts: &[u16],
+    begins: &[u16],
     slot: usize,
 ) -> u64
-    ensures { λ r. ⌜ r ≡ plainNumber (unitOfSlotIs slots units (now (firsts .entry)) slot) ⌝ }
+    ensures { λ r. ⌜ r ≡ plainNumber (unitOfSlotIs slots units (now (begins .entry)) slot) ⌝ }
 {
-    plain_number(units::unit_of_slot(slots, units, firsts, slot))
+    plain_number(units::unit_of_slot(slots, units, begins, slot))
 }

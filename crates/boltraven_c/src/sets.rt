@@ -3,7 +3,7 @@
 use crate::NOTHING;
 use crate::answers::found_number;
 use crate::answers::plain_number;
-use crate::answers::told_number;
+use crate::answers::yes_no_number;
 use crate::refused;
 use slotset::Changed;
 use slotset::Cursor;
@@ -14,12 +14,12 @@ use slotset::SlotSet;
 use slotset::row;
 ghost use mathlib.Core.Path.{_≡_};
 ghost use Prim.Native.Nat.{_+_};
-ghost use Rattle.paper.specs.Limits.{heardOf};
+ghost use Rattle.paper.specs.Limits.{numberOf};
 ghost use Rattle.slotset.specs.Slots.{has, size, noMember, valueOf};
 ghost use Rattle.slotset.specs.Search.{nextSet, prevSet, nextUnsetAfter, prevUnsetBefore};
-ghost use Rattle.slotset.specs.Answers.{personRow, personStretchRow, rowSlots, foundAs, toldAs, numberAs};
+ghost use Rattle.slotset.specs.Answers.{personRow, personStretchRow, rowSlots, foundAs, yesNoAs, numberAs};
 ghost use Rattle.slotset.specs.Answers.{rowRun, rowNextRun, rowNextMember, putOf, rowStretchOf};
-ghost use Rattle.boltraven_c.specs.Numbers.{foundNumber, toldNumber, plainNumber, runNumber, runFirst, runLast};
+ghost use Rattle.boltraven_c.specs.Numbers.{foundNumber, yesNoNumber, plainNumber, runNumber, runFirst, runLast};
 ghost use Rattle.boltraven_c.specs.Numbers.{nextRunNumber, nextRunFirst, nextRunLast, nextRunCursor};
 ghost use Rattle.boltraven_c.specs.Numbers.{memberNumber, memberAt, memberCursor};
 
@@ -32,25 +32,25 @@ pub extern "C" fn boltraven_contains(
     len: usize,
     i: usize,
 ) -> u64
-    ensures { λ r. ⌜ r ≡ toldNumber (toldAs (heardOf (personRow (now (words .entry)) people person len))
+    ensures { λ r. ⌜ r ≡ yesNoNumber (yesNoAs (numberOf (personRow (now (words .entry)) people person len))
         (has (rowSlots (now (words .entry)) person) len i)) ⌝ }
 {
-    told_number(row::contains(words, people, person, len, i))
+    yes_no_number(row::contains(words, people, person, len, i))
 }
 
 // Whether the row has no member: 1 or 0.
 #[no_mangle]
 pub extern "C" fn boltraven_is_empty(words: &[u64], people: usize, person: usize, len: usize) -> u64
-    ensures { λ r. ⌜ r ≡ toldNumber (toldAs (heardOf (personRow (now (words .entry)) people person len))
+    ensures { λ r. ⌜ r ≡ yesNoNumber (yesNoAs (numberOf (personRow (now (words .entry)) people person len))
         (noMember (rowSlots (now (words .entry)) person) len)) ⌝ }
 {
-    told_number(row::is_empty(words, people, person, len))
+    yes_no_number(row::is_empty(words, people, person, len))
 }
 
 // How many members the row has.
 #[no_mangle]
 pub extern "C" fn boltraven_count(words: &[u64], people: usize, person: usize, len: usize) -> u64
-    ensures { λ r. ⌜ r ≡ plainNumber (numberAs (heardOf (personRow (now (words .entry)) people person len))
+    ensures { λ r. ⌜ r ≡ plainNumber (numberAs (numberOf (personRow (now (words .entry)) people person len))
         (size (rowSlots (now (words .entry)) person) len)) ⌝ }
 {
     plain_number(row::count(words, people, person, len))
@@ -65,7 +65,7 @@ pub extern "C" fn boltraven_next_set(
     len: usize,
     from: usize,
 ) -> u64
-    ensures { λ r. ⌜ r ≡ foundNumber (foundAs (heardOf (personRow (now (words .entry)) people person len))
+    ensures { λ r. ⌜ r ≡ foundNumber (foundAs (numberOf (personRow (now (words .entry)) people person len))
         (nextSet (rowSlots (now (words .entry)) person) len from)) ⌝ }
 {
     found_number(row::next_set(words, people, person, len, from))
@@ -80,7 +80,7 @@ pub extern "C" fn boltraven_prev_set(
     len: usize,
     from: usize,
 ) -> u64
-    ensures { λ r. ⌜ r ≡ foundNumber (foundAs (heardOf (personRow (now (words .entry)) people person len))
+    ensures { λ r. ⌜ r ≡ foundNumber (foundAs (numberOf (personRow (now (words .entry)) people person len))
         (prevSet (rowSlots (now (words .entry)) person) len from)) ⌝ }
 {
     found_number(row::prev_set(words, people, person, len, from))
@@ -95,7 +95,7 @@ pub extern "C" fn boltraven_next_unset_after(
     len: usize,
     from: usize,
 ) -> u64
-    ensures { λ r. ⌜ r ≡ foundNumber (foundAs (heardOf (personRow (now (words .entry)) people person len))
+    ensures { λ r. ⌜ r ≡ foundNumber (foundAs (numberOf (personRow (now (words .entry)) people person len))
         (nextUnsetAfter (rowSlots (now (words .entry)) person) len from)) ⌝ }
 {
     found_number(row::next_unset_after(words, people, person, len, from))
@@ -110,7 +110,7 @@ pub extern "C" fn boltraven_prev_unset_before(
     len: usize,
     from: usize,
 ) -> u64
-    ensures { λ r. ⌜ r ≡ foundNumber (foundAs (heardOf (personRow (now (words .entry)) people person len))
+    ensures { λ r. ⌜ r ≡ foundNumber (foundAs (numberOf (personRow (now (words .entry)) people person len))
         (prevUnsetBefore (rowSlots (now (words .entry)) person) len from)) ⌝ }
 {
     found_number(row::prev_unset_before(words, people, person, len, from))
@@ -233,7 +233,7 @@ fn put_by_value(
     i: usize,
     want: bool,
 ) -> u8
-    ensures { λ r. ⌜ r ≡ heardOf (personStretchRow (now (words .entry)) people person len i (i + 1)) ⌝ }
+    ensures { λ r. ⌜ r ≡ numberOf (personStretchRow (now (words .entry)) people person len i (i + 1)) ⌝ }
     ensures { λ _. ⌜ now (words .exit) ≡ rowStretchOf (valueOf want) (now (words .entry)) people person len i (i + 1) ⌝ }
 {
     let loaded = row::load(words, people, person, len);
@@ -260,7 +260,7 @@ pub extern "C" fn boltraven_insert(
     len: usize,
     i: usize,
 ) -> u8
-    ensures { λ r. ⌜ r ≡ heardOf (personStretchRow (now (words .entry)) people person len i (i + 1)) ⌝ }
+    ensures { λ r. ⌜ r ≡ numberOf (personStretchRow (now (words .entry)) people person len i (i + 1)) ⌝ }
     ensures { λ _. ⌜ now (words .exit) ≡ rowStretchOf 1 (now (words .entry)) people person len i (i + 1) ⌝ }
 {
     put_by_value(words, people, person, len, i, true)
@@ -275,7 +275,7 @@ pub extern "C" fn boltraven_remove(
     len: usize,
     i: usize,
 ) -> u8
-    ensures { λ r. ⌜ r ≡ heardOf (personStretchRow (now (words .entry)) people person len i (i + 1)) ⌝ }
+    ensures { λ r. ⌜ r ≡ numberOf (personStretchRow (now (words .entry)) people person len i (i + 1)) ⌝ }
     ensures { λ _. ⌜ now (words .exit) ≡ rowStretchOf 0 (now (words .entry)) people person len i (i + 1) ⌝ }
 {
     put_by_value(words, people, person, len, i, false)
@@ -292,7 +292,7 @@ pub extern "C" fn boltraven_put_stretch(
     to: usize,
     want: bool,
 ) -> u8
-    ensures { λ r. ⌜ r ≡ heardOf (personStretchRow (now (words .entry)) people person len from to) ⌝ }
+    ensures { λ r. ⌜ r ≡ numberOf (personStretchRow (now (words .entry)) people person len from to) ⌝ }
     ensures { λ _. ⌜ now (words .exit) ≡ rowStretchOf (valueOf want) (now (words .entry)) people person len from to ⌝ }
 {
     row::put_stretch(words, people, person, len, from, to, want)

@@ -1,7 +1,7 @@
 // Ranges merged, base slots split at their cuts, and who is available for which slot. Ranges come as three columns.
 use crate::answers::plain_number;
 ghost use mathlib.Core.Path.{_≡_};
-ghost use Rattle.paper.specs.Limits.{heardOf};
+ghost use Rattle.paper.specs.Limits.{numberOf};
 ghost use Rattle.slots.specs.Ranges.{ranges};
 ghost use Rattle.slots.specs.Merged.{columns, mergedRanges};
 ghost use Rattle.slots.specs.Atomic.{base, atomiseOf};
@@ -14,26 +14,26 @@ pub extern "C" fn boltraven_merged_ranges(
     people: usize,
     count: usize,
     persons: &[u16],
-    starts: &[u32],
-    ends: &[u32],
+    opens: &[u32],
+    shuts: &[u32],
     whose: &mut [u16],
     froms: &mut [u32],
     tos: &mut [u32],
 ) -> u64
     ensures { λ r. ⌜ r ≡ plainNumber
-        (mergedRanges people (ranges count (now (persons .entry)) (now (starts .entry)) (now (ends .entry)))
+        (mergedRanges people (ranges count (now (persons .entry)) (now (opens .entry)) (now (shuts .entry)))
         (columns (now (whose .entry)) (now (froms .entry)) (now (tos .entry))) .answer) ⌝ }
     ensures { λ _. ⌜ now (whose .exit)
-        ≡ mergedRanges people (ranges count (now (persons .entry)) (now (starts .entry)) (now (ends .entry)))
+        ≡ mergedRanges people (ranges count (now (persons .entry)) (now (opens .entry)) (now (shuts .entry)))
         (columns (now (whose .entry)) (now (froms .entry)) (now (tos .entry))) .persons ⌝ }
     ensures { λ _. ⌜ now (froms .exit)
-        ≡ mergedRanges people (ranges count (now (persons .entry)) (now (starts .entry)) (now (ends .entry)))
-        (columns (now (whose .entry)) (now (froms .entry)) (now (tos .entry))) .starts ⌝ }
+        ≡ mergedRanges people (ranges count (now (persons .entry)) (now (opens .entry)) (now (shuts .entry)))
+        (columns (now (whose .entry)) (now (froms .entry)) (now (tos .entry))) .opens ⌝ }
     ensures { λ _. ⌜ now (tos .exit)
-        ≡ mergedRanges people (ranges count (now (persons .entry)) (now (starts .entry)) (now (ends .entry)))
-        (columns (now (whose .entry)) (now (froms .entry)) (now (tos .entry))) .ends ⌝ }
+        ≡ mergedRanges people (ranges count (now (persons .entry)) (now (opens .entry)) (now (shuts .entry)))
+        (columns (now (whose .entry)) (now (froms .entry)) (now (tos .entry))) .shuts ⌝ }
 {
-    plain_number(slots::merged_ranges(people, count, persons, starts, ends, whose, froms, tos))
+    plain_number(slots::merged_ranges(people, count, persons, opens, shuts, whose, froms, tos))
 }
 
 // The atomic slots, in two columns, and how many.
@@ -88,7 +88,7 @@ pub extern "C" fn boltraven_availability(
     shuts: &[u32],
     words: &mut [u64],
 ) -> u8
-    ensures { λ r. ⌜ r ≡ heardOf (availabilityRow people slots (now (starts .entry)) (now (ends .entry))
+    ensures { λ r. ⌜ r ≡ numberOf (availabilityRow people slots (now (starts .entry)) (now (ends .entry))
         (ranges count (now (persons .entry)) (now (opens .entry)) (now (shuts .entry))) (now (words .entry))) ⌝ }
     ensures { λ _. ⌜ now (words .exit) ≡ availabilityOf people slots (now (starts .entry)) (now (ends .entry))
         (ranges count (now (persons .entry)) (now (opens .entry)) (now (shuts .entry))) (now (words .entry)) ⌝ }

@@ -8,7 +8,7 @@ use borrow.Author.Tests.{le-leb, leb-true, leb-false}
 use lib.Dec.{leb}
 use lib.ListN.{length, getD, take, length-map}
 use lib.Seq.{take-all, length-take-le, getD-take}
-use Rattle.paper.specs.Limits.{peopleOk, slotCountOk, heardOf}
+use Rattle.paper.specs.Limits.{peopleOk, slotCountOk, numberOf}
 use Rattle.paper.specs.Rows.{unless}
 use Rattle.paper.proofs.Logic.{by-test}
 use Rattle.owners.specs.Derived.{Plan, Derived}
@@ -18,7 +18,7 @@ use Rattle.owners.specs.Entries.{Outcome, Ended, outcome, lentRow, recountRow}
 use Rattle.rota.specs.Entries.{playRoomOk, playRow, played}
 use Rattle.draws.specs.declared.Draw.{Draw as Drawn}
 use Rattle.draws.specs.declared.Columns.{Columns}
-use Rattle.draws.specs.Columns.{kinds, ones, twos, most, Unpacked}
+use Rattle.draws.specs.Columns.{draws, firsts, seconds, most, Unpacked}
 use Rattle.draws.specs.Played.{playedDraws}
 use Rattle.draws.proofs.Unpacking.{most-fits}
 
@@ -37,13 +37,13 @@ draws-agree ks ks′ os os′ ts ts′ (suc n) a b c =
     draws-agree ks ks′ os os′ ts ts′ n (λ i h. a i (omega arith)) (λ i h. b i (omega arith)) (λ i h. c i (omega arith)) in
     ap₂ (λ (l : List Draw) (d : Draw). l ++ (d ∷ [])) rest last
 
-module _ (P : Plan) (avail : List ℕ) (units : ℕ) (firsts frozen : List ℕ) (n : ℕ) (o : List ℕ) (D : Derived) (x : List ℕ) where
+module _ (P : Plan) (avail : List ℕ) (units : ℕ) (begins frozen : List ℕ) (n : ℕ) (o : List ℕ) (D : Derived) (x : List ℕ) where
   abbrev play : List ℕ → List ℕ → List ℕ → Outcome
-  play ks os ts = played P avail units firsts frozen n ks os ts o D x
+  play ks os ts = played P avail units begins frozen n ks os ts o D x
 
   -- too many draws: 1, and the columns are not looked at
-  many : leb n 1024 ≡ false → (ks os ts : List ℕ) → heardOf (playRow P avail units firsts frozen n ks os ts o D x) ≡ 1
-  unfolding recountRow lentRow heardOf
+  many : leb n 1024 ≡ false → (ks os ts : List ℕ) → numberOf (playRow P avail units begins frozen n ks os ts o D x) ≡ 1
+  unfolding recountRow lentRow numberOf
   many f ks os ts =
       by-test (peopleOk (P .people)) _
       (λ p. by-test (slotCountOk (P .slots)) _ (λ q. simp (p, q, f)) (λ q. simp (p, q))) (λ p. simp p)
@@ -109,34 +109,34 @@ most-again : (n : ℕ) → most (most n) ≡ most n
 unfolding most
 most-again n = simp (le-leb (most n) 1024 (most-fits n .1))
 
-module _ (P : Plan) (avail : List ℕ) (units : ℕ) (firsts frozen : List ℕ) (n : ℕ) (ds : List Drawn) (o : List ℕ) (D : Derived) (x : List ℕ)
+module _ (P : Plan) (avail : List ℕ) (units : ℕ) (begins frozen : List ℕ) (n : ℕ) (ds : List Drawn) (o : List ℕ) (D : Derived) (x : List ℕ)
     (c : Columns) (u : Unpacked ds c) where
   abbrev plays : List ℕ → List ℕ → List ℕ → Outcome
-  plays ks os ts = played P avail units firsts frozen n ks os ts o D x
+  plays ks os ts = played P avail units begins frozen n ks os ts o D x
 
   -- what they play is what the list plays
-  pub by-columns : plays (take (most (c .count)) (c .kinds)) (take (most (c .count)) (c .ones)) (take (most (c .count)) (c .twos))
-      ≡ playedDraws P avail units firsts frozen n ds o D x
-  unfolding kinds ones twos
+  pub by-columns : plays (take (most (c .count)) (c .draws)) (take (most (c .count)) (c .firsts)) (take (most (c .count)) (c .seconds))
+      ≡ playedDraws P avail units begins frozen n ds o D x
+  unfolding draws firsts seconds
   by-columns =
       let again : most (c .count) ≡ c .count = ap most (u .0) ∙ most-again (length ds) ∙ sym (u .0) in
       let long = length-map ds (λ d. d .draw) in
-      let same : c .count ≡ most (length (kinds ds)) = u .0 ∙ ap most (sym long) in
-      ap (λ (i : ℕ). plays (take i (c .kinds)) (take i (c .ones)) (take i (c .twos))) again
-      ∙ ap (λ (l : List ℕ). plays l (take (c .count) (c .ones)) (take (c .count) (c .twos)))
-      (u .1 .kinds ∙ map-take (λ d. d .draw) (c .count) ds)
-      ∙ ap (λ (l : List ℕ). plays (take (c .count) (kinds ds)) l (take (c .count) (c .twos)))
-      (u .1 .ones ∙ map-take (λ d. d .first) (c .count) ds)
-      ∙ ap (λ (l : List ℕ). plays (take (c .count) (kinds ds)) (take (c .count) (ones ds)) l)
-      (u .1 .twos ∙ map-take (λ d. d .second) (c .count) ds)
-      ∙ ap (λ (i : ℕ). plays (take i (kinds ds)) (take i (ones ds)) (take i (twos ds))) same
-      ∙ cut P avail units firsts frozen n o D x (kinds ds) (ones ds) (twos ds)
+      let same : c .count ≡ most (length (draws ds)) = u .0 ∙ ap most (sym long) in
+      ap (λ (i : ℕ). plays (take i (c .draws)) (take i (c .firsts)) (take i (c .seconds))) again
+      ∙ ap (λ (l : List ℕ). plays l (take (c .count) (c .firsts)) (take (c .count) (c .seconds)))
+      (u .1 .draws ∙ map-take (λ d. d .draw) (c .count) ds)
+      ∙ ap (λ (l : List ℕ). plays (take (c .count) (draws ds)) l (take (c .count) (c .seconds)))
+      (u .1 .firsts ∙ map-take (λ d. d .first) (c .count) ds)
+      ∙ ap (λ (l : List ℕ). plays (take (c .count) (draws ds)) (take (c .count) (firsts ds)) l)
+      (u .1 .seconds ∙ map-take (λ d. d .second) (c .count) ds)
+      ∙ ap (λ (i : ℕ). plays (take i (draws ds)) (take i (firsts ds)) (take i (seconds ds))) same
+      ∙ cut P avail units begins frozen n o D x (draws ds) (firsts ds) (seconds ds)
       (length-map ds (λ d. d .first) ∙ sym long) (length-map ds (λ d. d .second) ∙ sym long)
 
   -- and so is the way it ends
   pub ended-by-columns : (r : ℕ) (o′ : List ℕ) (D′ : Derived) (x′ : List ℕ)
-      → Ended (plays (take (most (c .count)) (c .kinds)) (take (most (c .count)) (c .ones)) (take (most (c .count)) (c .twos))) r o′ D′ x′
-      → Ended (playedDraws P avail units firsts frozen n ds o D x) r o′ D′ x′
+      → Ended (plays (take (most (c .count)) (c .draws)) (take (most (c .count)) (c .firsts)) (take (most (c .count)) (c .seconds))) r o′ D′ x′
+      → Ended (playedDraws P avail units begins frozen n ds o D x) r o′ D′ x′
   ended-by-columns r o′ D′ x′ e = subst (λ (y : Outcome). Ended y r o′ D′ x′) by-columns e
 
 -- an end of equal outcomes

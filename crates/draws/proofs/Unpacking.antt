@@ -12,7 +12,7 @@ use lib.ListN.{length, set, take, length-set}
 use lib.Seq.{take-suc-set, length-take-le}
 use Rattle.draws.specs.declared.Draw.{Draw}
 use Rattle.draws.specs.declared.Columns.{Columns}
-use Rattle.draws.specs.Columns.{drawAt, Roomy, putAt, kinds, ones, twos, most, Holds}
+use Rattle.draws.specs.Columns.{drawAt, Roomy, putAt, draws, firsts, seconds, most, Holds}
 
 -- no more than the list, no more than the limit
 most-by : (n : ℕ) (b : Bool) → leb n 1024 ≡ b → (cond b n 1024 ≤ n) × (cond b n 1024 ≤ 1024)
@@ -39,31 +39,31 @@ entry f ds l i d h g e q =
 pub record Filling (ds : List Draw) (i : ℕ) (c : Columns) : Type 0 where
   pub holds : Holds c ds i
   pub count : c .count ≡ most (length ds)
-  pub room : (length (c .kinds) ≡ 1024) × ((length (c .ones) ≡ 1024) × (length (c .twos) ≡ 1024))
+  pub room : (length (c .draws) ≡ 1024) × ((length (c .firsts) ≡ 1024) × (length (c .seconds) ≡ 1024))
 
 pub filling-starts : (ds : List Draw) (n : ℕ) (c : Columns) → n ≡ most (length ds) → Roomy c n → Filling ds 0 c
-unfolding kinds ones twos
+unfolding draws firsts seconds
 filling-starts ds n c z e =
     record {
-      holds = record { kinds = refl; ones = refl; twos = refl };
+      holds = record { draws = refl; firsts = refl; seconds = refl };
       count = e .1 .1 .1 ∙ z;
       room = (e .0, (e .1 .0, e .1 .1 .0));
     }
 
 pub filling-more : (ds : List Draw) (i : ℕ) (c r : Columns) (d : Draw) → i < length ds → i < 1024 → d ≡ drawAt ds i → r ≡ putAt c i d
     → Filling ds i c → Filling ds (i + 1) r
-unfolding kinds ones twos
+unfolding draws firsts seconds
 filling-more ds i c r d h g e q w =
     rw q (record {
       holds = record {
-        kinds = entry (λ x. x .draw) ds (c .kinds) i d h (omega (arith, w .room .0)) e (w .holds .kinds);
-        ones = entry (λ x. x .first) ds (c .ones) i d h (omega (arith, w .room .1 .0)) e (w .holds .ones);
-        twos = entry (λ x. x .second) ds (c .twos) i d h (omega (arith, w .room .1 .1)) e (w .holds .twos);
+        draws = entry (λ x. x .draw) ds (c .draws) i d h (omega (arith, w .room .0)) e (w .holds .draws);
+        firsts = entry (λ x. x .first) ds (c .firsts) i d h (omega (arith, w .room .1 .0)) e (w .holds .firsts);
+        seconds = entry (λ x. x .second) ds (c .seconds) i d h (omega (arith, w .room .1 .1)) e (w .holds .seconds);
       };
       count = w .count;
       room = (
-        length-set (c .kinds) i (d .draw) ∙ w .room .0,
-        (length-set (c .ones) i (d .first) ∙ w .room .1 .0, length-set (c .twos) i (d .second) ∙ w .room .1 .1),
+        length-set (c .draws) i (d .draw) ∙ w .room .0,
+        (length-set (c .firsts) i (d .first) ∙ w .room .1 .0, length-set (c .seconds) i (d .second) ∙ w .room .1 .1),
       );
     })
 

@@ -10,14 +10,14 @@ use Rattle.draws.specs.declared.Draw.{Draw}
 use Rattle.draws.specs.declared.Columns.{Columns}
 
 -- the columns of a list of draws
-unfoldable pub kinds : List Draw → List ℕ
-kinds ds = map (λ d. d .draw) ds
+unfoldable pub draws : List Draw → List ℕ
+draws ds = map (λ d. d .draw) ds
 
-unfoldable pub ones : List Draw → List ℕ
-ones ds = map (λ d. d .first) ds
+unfoldable pub firsts : List Draw → List ℕ
+firsts ds = map (λ d. d .first) ds
 
-unfoldable pub twos : List Draw → List ℕ
-twos ds = map (λ d. d .second) ds
+unfoldable pub seconds : List Draw → List ℕ
+seconds ds = map (λ d. d .second) ds
 
 -- ---- by value
 
@@ -30,15 +30,15 @@ drawAt ds i = getD ds i none
 
 -- columns with room for every draw, of which n are meant
 abbrev pub Roomy : Columns → ℕ → Type 0
-Roomy c n = (length (c .kinds) ≡ 1024) × ((length (c .ones) ≡ 1024) × ((length (c .twos) ≡ 1024) × (c .count ≡ n)))
+Roomy c n = (length (c .draws) ≡ 1024) × ((length (c .firsts) ≡ 1024) × ((length (c .seconds) ≡ 1024) × (c .count ≡ n)))
 
 -- columns with a draw at i
 abbrev pub putAt : Columns → ℕ → Draw → Columns
 putAt c i d =
     record {
-      kinds = set (c .kinds) i (d .draw);
-      ones = set (c .ones) i (d .first);
-      twos = set (c .twos) i (d .second);
+      draws = set (c .draws) i (d .draw);
+      firsts = set (c .firsts) i (d .first);
+      seconds = set (c .seconds) i (d .second);
       count = c .count;
     }
 
@@ -48,9 +48,9 @@ most n = cond (leb n drawsMost) n drawsMost
 
 -- c holds the columns of the first i draws
 pub record Holds (c : Columns) (ds : List Draw) (i : ℕ) : Type 0 where
-  pub kinds : take i (c .kinds) ≡ kinds (take i ds)
-  pub ones : take i (c .ones) ≡ ones (take i ds)
-  pub twos : take i (c .twos) ≡ twos (take i ds)
+  pub draws : take i (c .draws) ≡ draws (take i ds)
+  pub firsts : take i (c .firsts) ≡ firsts (take i ds)
+  pub seconds : take i (c .seconds) ≡ seconds (take i ds)
 
 -- c holds the columns of a list, as far as a call plays it
 abbrev pub Unpacked : List Draw → Columns → Type 0

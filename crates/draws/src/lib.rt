@@ -18,9 +18,9 @@ pub struct Draw {
 
 // Draws by value, as columns: `count` of them, and zeros after those.
 struct Columns {
-    kinds: [u16; 1024],
-    ones: [u16; 1024],
-    twos: [u16; 1024],
+    draws: [u16; 1024],
+    firsts: [u16; 1024],
+    seconds: [u16; 1024],
     count: usize,
 }
 
@@ -48,9 +48,9 @@ fn blank(count: usize) -> Columns
     ensures { λ r. ⌜ Roomy r count ⌝ }
 {
     Columns {
-        kinds: [0; 1024],
-        ones: [0; 1024],
-        twos: [0; 1024],
+        draws: [0; 1024],
+        firsts: [0; 1024],
+        seconds: [0; 1024],
         count,
     }
 }
@@ -60,16 +60,16 @@ fn put(c: Columns, i: usize, d: Draw) -> Columns
     requires { ⌜ i < 1024 ⌝ }
     ensures { λ r. ⌜ r ≡ putAt c i d ⌝ }
 {
-    let mut kinds = c.kinds;
-    let mut ones = c.ones;
-    let mut twos = c.twos;
-    kinds[i] = d.draw;
-    ones[i] = d.first;
-    twos[i] = d.second;
+    let mut draws = c.draws;
+    let mut firsts = c.firsts;
+    let mut seconds = c.seconds;
+    draws[i] = d.draw;
+    firsts[i] = d.first;
+    seconds[i] = d.second;
     Columns {
-        kinds,
-        ones,
-        twos,
+        draws,
+        firsts,
+        seconds,
         count: c.count,
     }
 }
@@ -98,7 +98,7 @@ fn play_columns(
     starts: &[u32],
     ends: &[u32],
     avail: &[u64],
-    firsts: &[u16],
+    begins: &[u16],
     frozen: &[u64],
     owners: &mut [u8],
     sets: &mut [u64],
@@ -107,14 +107,14 @@ fn play_columns(
     answers: &mut [u8],
 ) -> u8
     ensures { λ r. ⌜ Ended (played (plan people slots (now (starts .entry)) (now (ends .entry))) (now (avail .entry)) units
-        (now (firsts .entry)) (now (frozen .entry)) count (take (most (c .count)) (c .kinds)) (take (most (c .count)) (c .ones))
-        (take (most (c .count)) (c .twos)) (now (owners .entry)) (derived (now (sets .entry)) (now (minutes .entry)))
+        (now (begins .entry)) (now (frozen .entry)) count (take (most (c .count)) (c .draws)) (take (most (c .count)) (c .firsts))
+        (take (most (c .count)) (c .seconds)) (now (owners .entry)) (derived (now (sets .entry)) (now (minutes .entry)))
         (now (answers .entry))) r (now (owners .exit)) (derived (now (sets .exit)) (now (minutes .exit))) (now (answers .exit)) ⌝ }
 {
     let n = at_most(c.count);
-    let kinds = c.kinds;
-    let ones = c.ones;
-    let twos = c.twos;
+    let draws = c.draws;
+    let firsts = c.firsts;
+    let seconds = c.seconds;
     rota::play::play(
         people,
         slots,
@@ -123,14 +123,14 @@ fn play_columns(
         starts,
         ends,
         avail,
-        firsts,
+        begins,
         frozen,
         owners,
         sets,
         minutes,
-        &kinds[..n],
-        &ones[..n],
-        &twos[..n],
+        &draws[..n],
+        &firsts[..n],
+        &seconds[..n],
         answers,
     )
 }
@@ -144,7 +144,7 @@ pub fn play(
     starts: &[u32],
     ends: &[u32],
     avail: &[u64],
-    firsts: &[u16],
+    begins: &[u16],
     frozen: &[u64],
     owners: &mut [u8],
     sets: &mut [u64],
@@ -153,7 +153,7 @@ pub fn play(
     answers: &mut [u8],
 ) -> u8
     ensures { λ r. ⌜ Ended (playedDraws (plan people slots (now (starts .entry)) (now (ends .entry))) (now (avail .entry)) units
-        (now (firsts .entry)) (now (frozen .entry)) count (now (draws .entry)) (now (owners .entry))
+        (now (begins .entry)) (now (frozen .entry)) count (now (draws .entry)) (now (owners .entry))
         (derived (now (sets .entry)) (now (minutes .entry))) (now (answers .entry)))
         r (now (owners .exit)) (derived (now (sets .exit)) (now (minutes .exit))) (now (answers .exit)) ⌝ }
 {
@@ -166,7 +166,7 @@ pub fn play(
         starts,
         ends,
         avail,
-        firsts,
+        begins,
         frozen,
         owners,
         sets,

@@ -18,7 +18,7 @@ ghost use Rattle.units.specs.Starts.{unitStartsIs};
 ghost use Rattle.targets.specs.Outcome.{given, computeTargets};
 ghost use Rattle.records.specs.Fields.{le};
 ghost use Rattle.job.specs.Stages.{settingsIn, frozenIn};
-ghost use Rattle.job.specs.Inside.{AtomsAre, UnitsAre, TargetsAre};
+ghost use Rattle.job.specs.Inside.{AtomsAs, UnitsAs, TargetsAs};
 
 // The settings.
 pub(crate) fn settings_in(s: &[u8]) -> Settings
@@ -47,12 +47,12 @@ pub(crate) fn atoms_of(
     opens: &[u32],
     shuts: &[u32],
 ) -> Atoms
-    ensures { λ r. ⌜ AtomsAre (atomiseOf (base slots (now (starts .entry)) (now (ends .entry)) people
+    ensures { λ r. ⌜ AtomsAs (atomiseOf (base slots (now (starts .entry)) (now (ends .entry)) people
         (ranges count (now (persons .entry)) (now (opens .entry)) (now (shuts .entry))) (replicate 1024 0) (replicate 1024 0))) r ⌝ }
 {
     let mut froms = [0u32; 1024];
     let mut tos = [0u32; 1024];
-    let heard = slots::atomise(
+    let answer = slots::atomise(
         slots,
         starts,
         ends,
@@ -64,15 +64,15 @@ pub(crate) fn atoms_of(
         &mut froms,
         &mut tos,
     );
-    match heard {
+    match answer {
         Number::Is(n) => Atoms {
-            no: 0,
+            number: 0,
             count: n,
             starts: froms,
             ends: tos,
         },
         Number::Refused(k) => Atoms {
-            no: k,
+            number: k,
             count: 0,
             starts: froms,
             ends: tos,
@@ -100,20 +100,20 @@ pub(crate) fn frozen_in(
 
 // The units. Refusal 7.
 pub(crate) fn units_of(settings: Settings, slots: usize, starts: &[u32], ends: &[u32]) -> JobUnits
-    ensures { λ r. ⌜ UnitsAre (unitStartsIs settings slots (now (starts .entry)) (now (ends .entry)) (replicate 1024 0)) r ⌝ }
+    ensures { λ r. ⌜ UnitsAs (unitStartsIs settings slots (now (starts .entry)) (now (ends .entry)) (replicate 1024 0)) r ⌝ }
 {
-    let mut firsts = [0u16; 1024];
-    let heard = units::unit_starts(settings, slots, starts, ends, &mut firsts);
-    match heard {
+    let mut begins = [0u16; 1024];
+    let answer = units::unit_starts(settings, slots, starts, ends, &mut begins);
+    match answer {
         Number::Is(n) => JobUnits {
-            no: 0,
+            number: 0,
             count: n,
-            firsts,
+            begins,
         },
         Number::Refused(k) => JobUnits {
-            no: k,
+            number: k,
             count: 0,
-            firsts,
+            begins,
         },
     }
 }
@@ -129,7 +129,7 @@ pub(crate) fn targets_of(
     priors: &[u32],
     fairness: u8,
 ) -> JobTargets
-    ensures { λ r. ⌜ TargetsAre (computeTargets (given people slots (now (starts .entry)) (now (ends .entry)) (now (avail .entry))
+    ensures { λ r. ⌜ TargetsAs (computeTargets (given people slots (now (starts .entry)) (now (ends .entry)) (now (avail .entry))
         (now (capacities .entry)) (now (priors .entry)) fairness) (replicate 32 (pos 0))) r ⌝ }
 {
     let mut out = [0i64; 32];
@@ -145,7 +145,7 @@ pub(crate) fn targets_of(
         &mut out,
     );
     JobTargets {
-        no: number,
+        number: number,
         targets: out,
     }
 }

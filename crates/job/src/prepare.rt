@@ -17,12 +17,12 @@ use crate::play::start_rota;
 ghost use mathlib.Core.Path.{_≡_};
 ghost use Rattle.paper.specs.Rows.{unless};
 ghost use Rattle.job.specs.Stages.{counted, instantOf, targetsIn, frozenIn};
-ghost use Rattle.job.specs.Inside.{ReadOk, SlotsAre, TargetsAre, PreparedAs};
+ghost use Rattle.job.specs.Inside.{ReadOk, SlotsAs, TargetsAs, PreparedAs};
 
 // The atomic slots and everybody's availability. Refusals 3, 4 and 5.
 fn slots_in(file: &[u8], counts: [usize; 8], blocks: [usize; 8]) -> JobSlots
     requires { ⌜ ReadOk (now file) counts blocks ⌝ }
-    ensures { λ r. ⌜ SlotsAre (now (file .entry)) r ⌝ }
+    ensures { λ r. ⌜ SlotsAs (now (file .entry)) r ⌝ }
 {
     let base = blocks[1];
     let n = counts[1];
@@ -48,7 +48,7 @@ fn slots_in(file: &[u8], counts: [usize; 8], blocks: [usize; 8]) -> JobSlots
         &shuts,
     );
     JobSlots {
-        no: atoms.no,
+        number: atoms.number,
         count: atoms.count,
         starts: froms,
         ends: tos,
@@ -67,7 +67,7 @@ fn targets_in(
     avail: &[u64],
 ) -> JobTargets
     requires { ⌜ ReadOk (now file) counts blocks ⌝ }
-    ensures { λ r. ⌜ TargetsAre (targetsIn (now (file .entry)) slots (now (starts .entry)) (now (ends .entry)) (now (avail .entry))) r ⌝ }
+    ensures { λ r. ⌜ TargetsAs (targetsIn (now (file .entry)) slots (now (starts .entry)) (now (ends .entry)) (now (avail .entry))) r ⌝ }
 {
     let people = counts[2];
     let at = blocks[2];
@@ -104,8 +104,8 @@ fn frozen_of(
     frozen_in(slots, starts, ends, freezes, instant)
 }
 
-// What was heard before, else what is heard now.
-fn first_no(before: u8, next: u8) -> u8
+// The number given before, else the one given now.
+fn first_number(before: u8, next: u8) -> u8
     ensures { λ r. ⌜ r ≡ unless before before next ⌝ }
 {
     if before == 0 {
@@ -128,27 +128,27 @@ pub(crate) fn prepare(file: &[u8], counts: [usize; 8], blocks: [usize; 8]) -> Pr
     let t = targets_in(file, counts, blocks, slots, &starts, &ends, &avail);
     let settings = settings_in(file);
     let u = units_of(settings, slots, &starts, &ends);
-    let firsts = u.firsts;
-    let o = owners_of(file, blocks[5], counts[5], slots, people, u.count, &firsts);
+    let begins = u.begins;
+    let o = owners_of(file, blocks[5], counts[5], slots, people, u.count, &begins);
     let owners = o.owners;
     let r = start_rota(people, slots, &starts, &ends, &avail, &owners);
     let frozen = frozen_of(file, counts, blocks, slots, &starts, &ends);
     let targets = t.targets;
     let sets = r.sets;
     let minutes = r.minutes;
-    let figures = first_no(t.no, u.no);
-    let rota = first_no(o.no, r.no);
-    let rest = first_no(figures, rota);
-    let no = first_no(s.no, rest);
+    let figures = first_number(t.number, u.number);
+    let rota = first_number(o.number, r.number);
+    let rest = first_number(figures, rota);
+    let number = first_number(s.number, rest);
     Prepared {
-        no,
+        number,
         people,
         slots,
         starts,
         ends,
         avail,
         units: u.count,
-        firsts,
+        begins,
         frozen,
         targets,
         owners,

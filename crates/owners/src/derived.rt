@@ -13,7 +13,7 @@ ghost use Rattle.owners.specs.Inside.{PlanSound, OneOwner, Makes};
 fn put_row(sets: &mut [u64], people: usize, slots: usize, owner: u8, a: usize, e: usize, want: bool)
     ensures { λ _. ⌜ now (sets .exit) ≡ setFor (valueOf want) people slots owner a e (now (sets .entry)) ⌝ }
 {
-    if owner == 255 {
+    if owner == paper::NOBODY {
         return;
     }
     put_stretch(sets, people, owner as usize, slots, a, e, want);
@@ -30,7 +30,7 @@ fn less(m: u64, n: u64) -> u64
 fn take_from(minutes: &mut [u64], owner: u8, n: u64)
     ensures { λ _. ⌜ now (minutes .exit) ≡ lessAt owner n (now (minutes .entry)) ⌝ }
 {
-    if owner == 255 {
+    if owner == paper::NOBODY {
         return;
     }
     let w = owner as usize;
@@ -43,7 +43,7 @@ fn take_from(minutes: &mut [u64], owner: u8, n: u64)
 fn give_to(minutes: &mut [u64], owner: u8, n: u64)
     ensures { λ _. ⌜ now (minutes .exit) ≡ moreAt owner n (now (minutes .entry)) ⌝ }
 {
-    if owner == 255 {
+    if owner == paper::NOBODY {
         return;
     }
     let w = owner as usize;
@@ -253,7 +253,7 @@ pub(crate) fn rebuild(
             minutes,
             i,
             e,
-            255,
+            paper::NOBODY,
             owners[i],
         );
         i = e;

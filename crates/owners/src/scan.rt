@@ -30,7 +30,7 @@ pub(crate) fn minutes_at(minutes: &[u64], person: usize) -> u64
 pub fn known_by(people: usize, owner: u8) -> bool
     ensures { λ r. ⌜ r ≡ knownBy people owner ⌝ }
 {
-    if owner == 255 {
+    if owner == paper::NOBODY {
         return true;
     }
     (owner as usize) < people
@@ -40,7 +40,7 @@ pub fn known_by(people: usize, owner: u8) -> bool
 pub fn available_for(avail: &[u64], owner: u8, k: usize) -> bool
     ensures { λ r. ⌜ r ≡ availableFor (now (avail .entry)) owner k ⌝ }
 {
-    if owner == 255 {
+    if owner == paper::NOBODY {
         return true;
     }
     holds(avail, owner, k)
@@ -77,11 +77,11 @@ pub fn first_unavailable(slots: usize, avail: &[u64], owners: &[u8]) -> usize
 }
 
 // Whether each slot of a unit has the owner of its first slot.
-fn is_even(slots: usize, units: usize, firsts: &[u16], owners: &[u8], unit: usize) -> bool
-    ensures { λ r. ⌜ r ≡ evenAt slots units (now (firsts .entry)) (now (owners .entry)) unit ⌝ }
+fn is_even(slots: usize, units: usize, begins: &[u16], owners: &[u8], unit: usize) -> bool
+    ensures { λ r. ⌜ r ≡ evenAt slots units (now (begins .entry)) (now (owners .entry)) unit ⌝ }
 {
-    let a = units::start_of(firsts, unit);
-    let e = units::unit_end(slots, units, firsts, unit);
+    let a = units::start_of(begins, unit);
+    let e = units::unit_end(slots, units, begins, unit);
     let owner = owner_at(owners, a);
     let mut k = a;
     while k < e {
@@ -95,12 +95,12 @@ fn is_even(slots: usize, units: usize, firsts: &[u16], owners: &[u8], unit: usiz
 }
 
 // The first unit with two owners, or the unit count.
-pub fn first_uneven(slots: usize, units: usize, firsts: &[u16], owners: &[u8]) -> usize
-    ensures { λ r. ⌜ r ≡ firstFail units (evenAt slots units (now (firsts .entry)) (now (owners .entry))) ⌝ }
+pub fn first_uneven(slots: usize, units: usize, begins: &[u16], owners: &[u8]) -> usize
+    ensures { λ r. ⌜ r ≡ firstFail units (evenAt slots units (now (begins .entry)) (now (owners .entry))) ⌝ }
 {
     let mut u: usize = 0;
     while u < units {
-        if is_even(slots, units, firsts, owners, u) {
+        if is_even(slots, units, begins, owners, u) {
             u += 1;
         } else {
             return u;
@@ -216,7 +216,7 @@ pub(crate) fn count_nobody(owners: &[u8], slots: usize) -> usize
     let mut n: usize = 0;
     let mut k: usize = 0;
     while k < slots {
-        if owner_at(owners, k) == 255 {
+        if owner_at(owners, k) == paper::NOBODY {
             n += 1;
             k += 1;
         } else {

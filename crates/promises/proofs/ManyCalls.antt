@@ -17,7 +17,7 @@ use Rattle.rota.specs.Entries.{played}
 use Rattle.rota.proofs.Plays.{owners-append, answers-append, answers-length, draws-length}
 use Rattle.owners.proofs.Steps.{afresh-again, afresh-fit}
 use Rattle.draws.specs.declared.Draw as struct
-use Rattle.draws.specs.Columns.{kinds, ones, twos}
+use Rattle.draws.specs.Columns.{draws, firsts, seconds}
 use Rattle.promises.specs.Entries.{Call, built, noOf, playOf, afreshIn, boardIn, ownersIn, drawsIn}
 use Rattle.promises.specs.Rota.{Words}
 use Rattle.promises.specs.ManyCalls.{Part, partCall, drawsOfParts, AllAccepted, lastOwners, lastDerived, allAnswers, EndsAsOne}
@@ -31,7 +31,7 @@ unfolding onto
 said c e =
     ap (λ (y : Outcome). take (c .count) (y .answers)) (accepted-is c e)
     ∙ take-at (answers (boardIn c) (c .owners) (drawsIn c)) _ (c .count)
-    (answers-length (boardIn c) (c .owners) (drawsIn c) ∙ draws-length (c .kinds) (c .ones) (c .twos) (c .count))
+    (answers-length (boardIn c) (c .owners) (drawsIn c) ∙ draws-length (c .draws) (c .firsts) (c .seconds) (c .count))
 
 accepted-number : (c : Call) → playOf c .number ≡ 0 → noOf c ≡ 0
 unfolding played outcome
@@ -69,8 +69,8 @@ ends-one c o D p (q ∷ ps) f A =
           ∙ sym (owners-append B o (drawsIn k) (drawsOfParts (q ∷ ps)));
       derived =
           r .derived ∙ ap (afresh (c .plan) n) derived
-          ∙ afresh-again (c .plan) (ownersAfter B o (drawsIn k)) n D (asks k e .grounds .on .sound .slots-few)
-          (asks k e .grounds .on .room .sets-room) f;
+          ∙ afresh-again (c .plan) (ownersAfter B o (drawsIn k)) n D (asks k e .right .on .sound .slots-few)
+          (asks k e .right .on .room .sets-room) f;
       answers =
           ap₂ _++_ (said k e) (r .answers ∙ ap (λ (l : List ℕ). answers B l (drawsOfParts (q ∷ ps))) owners)
           ∙ sym (answers-append B o (drawsIn k) (drawsOfParts (q ∷ ps)));
@@ -91,9 +91,9 @@ many-calls c o D p ps f A w W =
       room = F .room;
       starts = F .starts;
       flags = F .flags;
-      kinds = W .kinds;
-      ones = W .ones;
-      twos = W .twos;
+      draws = W .draws;
+      firsts = W .firsts;
+      seconds = W .seconds;
       answers = W .answers;
       slots = F .slots;
       units = F .units;
@@ -124,11 +124,11 @@ draws-cons k f s ks fs ss zero = refl
 draws-cons k f s ks fs ss (suc n) =
     ap (λ (l : List Draw). l ++ (draw (getD ks n 0) (getD fs n 0) (getD ss n 0) ∷ [])) (draws-cons k f s ks fs ss n)
 
-struct-draws : (ds : List struct.Draw) → drawsOf (kinds ds) (ones ds) (twos ds) (length ds) ≡ map numbers ds
-unfolding kinds ones twos drawsOf
+struct-draws : (ds : List struct.Draw) → drawsOf (draws ds) (firsts ds) (seconds ds) (length ds) ≡ map numbers ds
+unfolding draws firsts seconds drawsOf
 struct-draws [] = refl
 struct-draws (d ∷ ds) =
-    draws-cons (d .draw) (d .first) (d .second) (kinds ds) (ones ds) (twos ds) (length ds)
+    draws-cons (d .draw) (d .first) (d .second) (draws ds) (firsts ds) (seconds ds) (length ds)
     ∙ ap (λ (l : List Draw). numbers d ∷ l) (struct-draws ds)
 
 map-both : (ds es : List struct.Draw) → map numbers (ds ++ es) ≡ map numbers ds ++ map numbers es
@@ -140,17 +140,17 @@ map-length g [] = refl
 map-length g (d ∷ ds) = ap suc (map-length g ds)
 
 pub structs-cut : StructsCut
-unfolding kinds ones twos drawsOfParts
+unfolding draws firsts seconds drawsOfParts
 structs-cut ds es x y z few room =
     let l = ds ++ es in
     let at-most : (g : struct.Draw → ℕ) → length l ≤ length (map g l) = λ g. omega (arith, map-length g l) in
     record {
       draws =
           struct-draws l ∙ map-both ds es
-          ∙ ap₂ _++_ (sym (struct-draws ds)) (sym (struct-draws es) ∙ sym (append-nil (drawsOf (kinds es) (ones es) (twos es) (length es))));
+          ∙ ap₂ _++_ (sym (struct-draws ds)) (sym (struct-draws es) ∙ sym (append-nil (drawsOf (draws es) (firsts es) (seconds es) (length es))));
       few = few;
-      kinds = at-most (λ d. d .draw);
-      ones = at-most (λ d. d .first);
-      twos = at-most (λ d. d .second);
+      draws = at-most (λ d. d .draw);
+      firsts = at-most (λ d. d .first);
+      seconds = at-most (λ d. d .second);
       answers = room;
     }

@@ -5,7 +5,7 @@ use mathlib.Core.List.{List, [], _∷_, _++_}
 use Prim.Native.Nat.{ℕ, zero, suc, _+_, _-_, _<_}
 use native.Mathlib.Omega.{arith}
 use lib.ListN.{length, getD}
-use Rattle.paper.specs.Limits.{heardOf}
+use Rattle.paper.specs.Limits.{numberOf}
 use Rattle.slotset.specs.declared.Number.the-variants as number
 use Rattle.slots.specs.Atomic.{Base, atomiseOf, atomiseRow, isCut, IsCuts, startsOfAtoms, endsOfAtoms}
 use Rattle.slots.proofs.SplitLaws as laws
@@ -27,7 +27,7 @@ unfolding lengths
 pieces-add cut lo [] hi x = omega arith
 pieces-add cut lo (a ∷ c) hi x = omega (arith, pieces-add cut a c hi (x .3), x .0, cuts-before cut a c hi (x .3))
 
-module _ (B : Base) (e : heardOf (atomiseRow B) ≡ 0) (c : ℕ → List ℕ) (x : (k : ℕ) → k < B .slots → CutsOf B k (c k)) where
+module _ (B : Base) (e : numberOf (atomiseRow B) ≡ 0) (c : ℕ → List ℕ) (x : (k : ℕ) → k < B .slots → CutsOf B k (c k)) where
   starts-are : strung (λ k. getD (B .starts) k 0 ∷ c k) (B .slots) ≡ startsOfAtoms B
   starts-are = strung-is _ (B .slots) ∙ laws.one-atoms (isCut (B .people) (B .ranges)) (B .slots) (B .starts) (B .ends) c x .0
 

@@ -22,20 +22,20 @@ use Rattle.targets.proofs.Promises.{number-lent, when-accepted}
 use Rattle.promises.specs.Entries.{built}
 use Rattle.promises.specs.Marked.{one, none, Shared}
 
--- from the targets of these figures to what is heard of them, whatever is lent
+-- from the targets of these figures to what is answered of them, whatever is lent
 module _ (demand : ℕ) (capacities : List Float) (priors : List ℕ) (zs : List ℤ) where
-  abbrev asked : List ℕ → Given
-  asked avail = given (length capacities) 1 (0 ∷ []) (demand ∷ []) avail capacities priors 1
+  abbrev checked : List ℕ → Given
+  checked avail = given (length capacities) 1 (0 ∷ []) (demand ∷ []) avail capacities priors 1
 
   shared : countsOk (length capacities) 1 ≡ true → length priors ≡ length capacities
       → allFiguresOk (length capacities) capacities priors ≡ true → slotRoomOk 1 (0 ∷ []) (demand ∷ []) ≡ true
-      → slotsOk 1 (0 ∷ []) (demand ∷ []) ≡ true → ((avail : List ℕ) → targetsIn (asked avail) ≡ zs)
+      → slotsOk 1 (0 ∷ []) (demand ∷ []) ≡ true → ((avail : List ℕ) → targetsIn (checked avail) ≡ zs)
       → Shared built demand capacities priors zs
   unfolding countsOk
   shared a n f b e t avail out w r =
       let p = length capacities in
       let c = both (peopleOk p) (slotCountOk 1) a in
-      let l : Lent (asked avail) (length out) = record {
+      let l : Lent (checked avail) (length out) = record {
         people-ok = c .0;
         slots-ok = c .1;
         columns = b;
@@ -44,9 +44,9 @@ module _ (demand : ℕ) (capacities : List Float) (priors : List ℕ) (zs : List
         priors-room = le-of-eq (sym n);
         out-room = r;
       } in
-      let z = number-lent (asked avail) out l e ∙ all-pass _ (f, (le-leb 1 1 (le-refl 1), tt)) in
+      let z = number-lent (checked avail) out l e ∙ all-pass _ (f, (le-leb 1 1 (le-refl 1), tt)) in
       ap₂ (λ (k : ℕ) (o : List ℤ). record { number = k; out = o }) z
-      (when-accepted (asked avail) out z ∙ ap (λ (x : List ℤ). x ++ drop p out) (t avail))
+      (when-accepted (checked avail) out z ∙ ap (λ (x : List ℤ). x ++ drop p out) (t avail))
 
 pub cases-7-to-10 : Shared built 100 (one ∷ one ∷ one ∷ []) (0 ∷ 0 ∷ 0 ∷ []) (pos 33 ∷ pos 33 ∷ pos 34 ∷ [])
     × Shared built 2 (one ∷ one ∷ one ∷ one ∷ []) (0 ∷ 0 ∷ 0 ∷ 0 ∷ []) (pos 1 ∷ pos 1 ∷ pos 1 ∷ negsuc 0 ∷ [])

@@ -7,17 +7,17 @@ ghost use Rattle.rota.specs.Entries.{playRoomOk};
 pub(crate) fn play_room_ok(
     units: usize,
     count: usize,
-    firsts: &[u16],
+    begins: &[u16],
     frozen: &[u64],
-    kinds: &[u16],
-    ones: &[u16],
-    twos: &[u16],
+    draws: &[u16],
+    firsts: &[u16],
+    seconds: &[u16],
     answers: &[u8],
 ) -> bool
-    ensures { λ r. ⌜ r ≡ playRoomOk units (now (firsts .entry)) (now (frozen .entry)) count (now (kinds .entry)) (now (ones .entry))
-        (now (twos .entry)) (now (answers .entry)) ⌝ }
+    ensures { λ r. ⌜ r ≡ playRoomOk units (now (begins .entry)) (now (frozen .entry)) count (now (draws .entry)) (now (firsts .entry))
+        (now (seconds .entry)) (now (answers .entry)) ⌝ }
 {
-    let last = both(count <= twos.len(), count <= answers.len());
-    let columns = both(count <= kinds.len(), both(count <= ones.len(), last));
-    both(units <= firsts.len(), both(16 <= frozen.len(), columns))
+    let last = both(count <= seconds.len(), count <= answers.len());
+    let columns = both(count <= draws.len(), both(count <= firsts.len(), last));
+    both(units <= begins.len(), both(paper::SET_WORDS <= frozen.len(), columns))
 }

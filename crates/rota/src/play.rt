@@ -3,11 +3,11 @@ use crate::Move;
 use crate::assignment::hand_over;
 use crate::checks::play_room_ok;
 use crate::moves::decide;
-use paper::Fault;
+use paper::Refusal;
 ghost use mathlib.Core.Path.{_≡_};
 ghost use Prim.Native.Nat.{_≤_};
 ghost use lib.ListN.{length};
-ghost use Rattle.paper.specs.Rows.{firstOf};
+ghost use Rattle.paper.specs.Rows.{refusalOf};
 ghost use Rattle.rota.specs.Board.{BoardSound, Even};
 ghost use Rattle.rota.specs.Ready.{ready};
 ghost use Rattle.rota.specs.Lent.{FrozenRight, markOf};
@@ -29,16 +29,16 @@ fn mark_of(frozen: &[u64], a: usize, e: usize) -> u8
 }
 
 // For each unit 1 where it is frozen.
-fn frozen_of(slots: usize, units: usize, firsts: &[u16], frozen: &[u64]) -> [u8; 1024]
+fn frozen_of(slots: usize, units: usize, begins: &[u16], frozen: &[u64]) -> [u8; 1024]
     requires { ⌜ (slots ≤ 1024) × (units ≤ 1024) × (16 ≤ length (now frozen)) ⌝ }
-    requires { ⌜ UnitRoom slots units (now firsts) ⌝ }
-    ensures { λ r. ⌜ FrozenRight slots units (now (firsts .entry)) (now (frozen .entry)) r ⌝ }
+    requires { ⌜ UnitRoom slots units (now begins) ⌝ }
+    ensures { λ r. ⌜ FrozenRight slots units (now (begins .entry)) (now (frozen .entry)) r ⌝ }
 {
     let mut flags = [0u8; 1024];
     let mut u: usize = 0;
     while u < units {
-        let a = units::start_of(firsts, u);
-        let e = units::unit_end(slots, units, firsts, u);
+        let a = units::start_of(begins, u);
+        let e = units::unit_end(slots, units, begins, u);
         flags[u] = mark_of(frozen, a, e);
         u += 1;
     }
@@ -52,7 +52,7 @@ fn step(
     units: usize,
     starts: &[u32],
     ends: &[u32],
-    firsts: &[u16],
+    begins: &[u16],
     fits: &[u32],
     flags: &[u8],
     owners: &mut [u8],
@@ -64,10 +64,10 @@ fn step(
 ) -> u8
     requires { ⌜ PlanSound (plan people slots (now starts) (now ends)) ⌝ }
     requires { ⌜ InStep (plan people slots (now starts) (now ends)) (now owners) (derived (now sets) (now minutes)) ⌝ }
-    requires { ⌜ BoardSound (ready people slots units (now firsts) (now fits) (now flags)) ⌝ }
-    requires { ⌜ Even (ready people slots units (now firsts) (now fits) (now flags)) (now owners) ⌝ }
-    requires { ⌜ (units ≤ length (now firsts)) × (units ≤ length (now fits)) × (units ≤ length (now flags)) ⌝ }
-    ensures { λ r. ⌜ Stepped (plan people slots (now (starts .entry)) (now (ends .entry))) (ready people slots units (now (firsts
+    requires { ⌜ BoardSound (ready people slots units (now begins) (now fits) (now flags)) ⌝ }
+    requires { ⌜ Even (ready people slots units (now begins) (now fits) (now flags)) (now owners) ⌝ }
+    requires { ⌜ (units ≤ length (now begins)) × (units ≤ length (now fits)) × (units ≤ length (now flags)) ⌝ }
+    ensures { λ r. ⌜ Stepped (plan people slots (now (starts .entry)) (now (ends .entry))) (ready people slots units (now (begins
         .entry)) (now (fits .entry)) (now (flags .entry))) (now (owners .entry)) (derived (now (sets .entry)) (now (minutes
         .entry))) (draw kind first second) r (now (owners .exit)) (derived (now (sets .exit)) (now (minutes .exit))) ⌝ }
 {
@@ -75,7 +75,7 @@ fn step(
         people,
         slots,
         units,
-        firsts,
+        begins,
         fits,
         flags,
         owners,
@@ -144,26 +144,26 @@ fn run(
     count: usize,
     starts: &[u32],
     ends: &[u32],
-    firsts: &[u16],
+    begins: &[u16],
     fits: &[u32],
     flags: &[u8],
     owners: &mut [u8],
     sets: &mut [u64],
     minutes: &mut [u64],
-    kinds: &[u16],
-    ones: &[u16],
-    twos: &[u16],
+    draws: &[u16],
+    firsts: &[u16],
+    seconds: &[u16],
     answers: &mut [u8],
 )
     requires { ⌜ PlanSound (plan people slots (now starts) (now ends)) ⌝ }
     requires { ⌜ InStep (plan people slots (now starts) (now ends)) (now owners) (derived (now sets) (now minutes)) ⌝ }
-    requires { ⌜ BoardSound (ready people slots units (now firsts) (now fits) (now flags)) ⌝ }
-    requires { ⌜ Even (ready people slots units (now firsts) (now fits) (now flags)) (now owners) ⌝ }
-    requires { ⌜ DrawRoom count (now kinds) (now ones) (now twos) (now answers) ⌝ }
-    requires { ⌜ (units ≤ length (now firsts)) × (units ≤ length (now fits)) × (units ≤ length (now flags)) ⌝ }
-    ensures { λ _. ⌜ Ran (plan people slots (now (starts .entry)) (now (ends .entry))) (ready people slots units (now (firsts
+    requires { ⌜ BoardSound (ready people slots units (now begins) (now fits) (now flags)) ⌝ }
+    requires { ⌜ Even (ready people slots units (now begins) (now fits) (now flags)) (now owners) ⌝ }
+    requires { ⌜ DrawRoom count (now draws) (now firsts) (now seconds) (now answers) ⌝ }
+    requires { ⌜ (units ≤ length (now begins)) × (units ≤ length (now fits)) × (units ≤ length (now flags)) ⌝ }
+    ensures { λ _. ⌜ Ran (plan people slots (now (starts .entry)) (now (ends .entry))) (ready people slots units (now (begins
         .entry)) (now (fits .entry)) (now (flags .entry))) (now (owners .entry)) (derived (now (sets .entry)) (now (minutes
-        .entry))) (now (answers .entry)) (drawsOf (now (kinds .entry)) (now (ones .entry)) (now (twos .entry)) count) (now (owners
+        .entry))) (now (answers .entry)) (drawsOf (now (draws .entry)) (now (firsts .entry)) (now (seconds .entry)) count) (now (owners
         .exit)) (derived (now (sets .exit)) (now (minutes .exit))) (now (answers .exit)) ⌝ }
 {
     let mut i: usize = 0;
@@ -174,22 +174,22 @@ fn run(
             units,
             starts,
             ends,
-            firsts,
+            begins,
             fits,
             flags,
             owners,
             sets,
             minutes,
-            kinds[i],
-            ones[i],
-            twos[i],
+            draws[i],
+            firsts[i],
+            seconds[i],
         );
         i += 1;
     }
 }
 
 // What stands against a play: 1, 2, 9 or 10.
-fn play_no(
+fn play_refusal(
     people: usize,
     slots: usize,
     units: usize,
@@ -197,30 +197,30 @@ fn play_no(
     starts: &[u32],
     ends: &[u32],
     avail: &[u64],
-    firsts: &[u16],
+    begins: &[u16],
     frozen: &[u64],
     owners: &[u8],
     sets: &[u64],
     minutes: &[u64],
-    kinds: &[u16],
-    ones: &[u16],
-    twos: &[u16],
+    draws: &[u16],
+    firsts: &[u16],
+    seconds: &[u16],
     answers: &[u8],
-) -> Fault
-    ensures { λ r. ⌜ r ≡ firstOf (playRow (plan people slots (now (starts .entry)) (now (ends .entry))) (now (avail .entry)) units (now
-        (firsts .entry)) (now (frozen .entry)) count (now (kinds .entry)) (now (ones .entry)) (now (twos .entry)) (now (owners
+) -> Refusal
+    ensures { λ r. ⌜ r ≡ refusalOf (playRow (plan people slots (now (starts .entry)) (now (ends .entry))) (now (avail .entry)) units (now
+        (begins .entry)) (now (frozen .entry)) count (now (draws .entry)) (now (firsts .entry)) (now (seconds .entry)) (now (owners
         .entry)) (derived (now (sets .entry)) (now (minutes .entry))) (now (answers .entry))) ⌝ }
 {
     owners::recounted(
         count <= paper::DRAWS_MOST,
-        play_room_ok(units, count, firsts, frozen, kinds, ones, twos, answers),
+        play_room_ok(units, count, begins, frozen, draws, firsts, seconds, answers),
         people,
         slots,
         units,
         starts,
         ends,
         avail,
-        firsts,
+        begins,
         owners,
         sets,
         minutes,
@@ -236,22 +236,22 @@ pub fn play(
     starts: &[u32],
     ends: &[u32],
     avail: &[u64],
-    firsts: &[u16],
+    begins: &[u16],
     frozen: &[u64],
     owners: &mut [u8],
     sets: &mut [u64],
     minutes: &mut [u64],
-    kinds: &[u16],
-    ones: &[u16],
-    twos: &[u16],
+    draws: &[u16],
+    firsts: &[u16],
+    seconds: &[u16],
     answers: &mut [u8],
 ) -> u8
     ensures { λ r. ⌜ Ended (played (plan people slots (now (starts .entry)) (now (ends .entry))) (now (avail .entry)) units (now
-        (firsts .entry)) (now (frozen .entry)) count (now (kinds .entry)) (now (ones .entry)) (now (twos .entry)) (now (owners
+        (begins .entry)) (now (frozen .entry)) count (now (draws .entry)) (now (firsts .entry)) (now (seconds .entry)) (now (owners
         .entry)) (derived (now (sets .entry)) (now (minutes .entry))) (now (answers .entry))) r (now (owners .exit)) (derived (now
         (sets .exit)) (now (minutes .exit))) (now (answers .exit)) ⌝ }
 {
-    let n = play_no(
+    let n = play_refusal(
         people,
         slots,
         units,
@@ -259,20 +259,20 @@ pub fn play(
         starts,
         ends,
         avail,
-        firsts,
+        begins,
         frozen,
         owners,
         sets,
         minutes,
-        kinds,
-        ones,
-        twos,
+        draws,
+        firsts,
+        seconds,
         answers,
     ).number;
     if n == 0 {
         let mut fits = [0u32; 1024];
-        units::unit_domains(avail, people, slots, units, firsts, &mut fits);
-        let flags = frozen_of(slots, units, firsts, frozen);
+        units::unit_domains(avail, people, slots, units, begins, &mut fits);
+        let flags = frozen_of(slots, units, begins, frozen);
         run(
             people,
             slots,
@@ -280,15 +280,15 @@ pub fn play(
             count,
             starts,
             ends,
-            firsts,
+            begins,
             &fits,
             &flags,
             owners,
             sets,
             minutes,
-            kinds,
-            ones,
-            twos,
+            draws,
+            firsts,
+            seconds,
             answers,
         );
         return 0;

@@ -5,14 +5,14 @@ pub mod row;
 mod scan;
 mod word;
 
-use paper::Fault;
+use paper::Refusal;
 ghost use mathlib.Core.Path.{_≡_};
-ghost use Rattle.paper.specs.Limits.{test, heardOf};
-ghost use Rattle.paper.specs.Rows.{firstOf, next};
+ghost use Rattle.paper.specs.Limits.{test, numberOf};
+ghost use Rattle.paper.specs.Rows.{refusalOf, next};
 ghost use Rattle.slotset.specs.Slots.{has, size, noMember, valueOf};
 ghost use Rattle.slotset.specs.Search.{nextSet, prevSet, nextUnsetAfter, prevUnsetBefore};
 ghost use Rattle.slotset.specs.Answers.{lengthRow, slotRow, stretchOk, stretchRow, slotsOf, newOf, putOf, stretchOf};
-ghost use Rattle.slotset.specs.Answers.{foundAs, toldAs, numberAs, runAs, nextRunAs, nextMemberAs};
+ghost use Rattle.slotset.specs.Answers.{foundAs, yesNoAs, numberAs, runAs, nextRunAs, nextMemberAs};
 
 // A set: its words, and how many slots it has.
 pub struct SlotSet {
@@ -34,7 +34,7 @@ pub enum Found {
 }
 
 // Yes or no.
-pub enum Told {
+pub enum YesNo {
     Yes,
     No,
     Refused(u8),
@@ -77,18 +77,18 @@ pub enum NextMember {
 }
 
 // What stands against a length: 1.
-fn len_no(len: usize) -> Fault
-    ensures { λ r. ⌜ r ≡ firstOf (lengthRow len) ⌝ }
+fn len_refusal(len: usize) -> Refusal
+    ensures { λ r. ⌜ r ≡ refusalOf (lengthRow len) ⌝ }
 {
-    paper::heard(paper::nothing(), len <= paper::SLOTS_MOST, 1)
+    paper::check(paper::accepted(), len <= paper::SLOTS_MOST, 1)
 }
 
 // What stands against an index to insert or remove: 1 or 11.
-fn slot_no(len: usize, i: usize) -> Fault
-    ensures { λ r. ⌜ r ≡ firstOf (slotRow len i) ⌝ }
+fn slot_refusal(len: usize, i: usize) -> Refusal
+    ensures { λ r. ⌜ r ≡ refusalOf (slotRow len i) ⌝ }
 {
-    let f = paper::heard(paper::nothing(), len <= paper::SLOTS_MOST, 1);
-    paper::heard(f, i < len, 11)
+    let f = paper::check(paper::accepted(), len <= paper::SLOTS_MOST, 1);
+    paper::check(f, i < len, 11)
 }
 
 // Whether each slot from `from` up to `to` is below the length; a stretch with none in it is.
@@ -102,25 +102,25 @@ fn stretch_ok(len: usize, from: usize, to: usize) -> bool
 }
 
 // Rule 11 of a stretch.
-pub(crate) fn heard_stretch(before: Fault, len: usize, from: usize, to: usize) -> Fault
+pub(crate) fn check_stretch(before: Refusal, len: usize, from: usize, to: usize) -> Refusal
     ensures { λ r. ⌜ r ≡ next before (test 11 (stretchOk len from to)) ⌝ }
 {
-    paper::heard(before, stretch_ok(len, from, to), 11)
+    paper::check(before, stretch_ok(len, from, to), 11)
 }
 
 // What stands against a stretch: 1 or 11.
-fn stretch_no(len: usize, from: usize, to: usize) -> Fault
-    ensures { λ r. ⌜ r ≡ firstOf (stretchRow len from to) ⌝ }
+fn stretch_refusal(len: usize, from: usize, to: usize) -> Refusal
+    ensures { λ r. ⌜ r ≡ refusalOf (stretchRow len from to) ⌝ }
 {
-    let f = paper::heard(paper::nothing(), len <= paper::SLOTS_MOST, 1);
-    heard_stretch(f, len, from, to)
+    let f = paper::check(paper::accepted(), len <= paper::SLOTS_MOST, 1);
+    check_stretch(f, len, from, to)
 }
 
 // A test as an answer.
-pub(crate) fn yes_or_no(b: bool) -> Told
-    ensures { λ r. ⌜ r ≡ toldAs 0 b ⌝ }
+pub(crate) fn yes_or_no(b: bool) -> YesNo
+    ensures { λ r. ⌜ r ≡ yesNoAs 0 b ⌝ }
 {
-    if b { Told::Yes } else { Told::No }
+    if b { YesNo::Yes } else { YesNo::No }
 }
 
 impl SlotSet {
@@ -129,7 +129,7 @@ impl SlotSet {
         ensures { λ r. ⌜ r ≡ newOf len ⌝ }
     {
         let words = [0u64; 16];
-        let number = len_no(len).number;
+        let number = len_refusal(len).number;
         if number == 0 {
             return Changed {
                 set: SlotSet { words, len },
@@ -144,10 +144,10 @@ impl SlotSet {
 
     // How many slots the set ranges over.
     pub fn len(self) -> Number
-        ensures { λ r. ⌜ r ≡ numberAs (heardOf (lengthRow (self .len))) (self .len) ⌝ }
+        ensures { λ r. ⌜ r ≡ numberAs (numberOf (lengthRow (self .len))) (self .len) ⌝ }
     {
         let len = self.len;
-        let number = len_no(len).number;
+        let number = len_refusal(len).number;
         if number == 0 {
             return Number::Is(len);
         }
@@ -155,16 +155,16 @@ impl SlotSet {
     }
 
     // Whether slot i is a member; at or past the length it is not.
-    pub fn contains(self, i: usize) -> Told
-        ensures { λ r. ⌜ r ≡ toldAs (heardOf (lengthRow (self .len))) (has (slotsOf self) (self .len) i) ⌝ }
+    pub fn contains(self, i: usize) -> YesNo
+        ensures { λ r. ⌜ r ≡ yesNoAs (numberOf (lengthRow (self .len))) (has (slotsOf self) (self .len) i) ⌝ }
     {
         let len = self.len;
-        let number = len_no(len).number;
+        let number = len_refusal(len).number;
         if number == 0 {
             let words = self.words;
             return yes_or_no(scan::contains(&words, 0, len, i));
         }
-        Told::Refused(number)
+        YesNo::Refused(number)
     }
 
     // The set with slot i.
@@ -200,7 +200,7 @@ impl SlotSet {
         ensures { λ r. ⌜ r ≡ putOf (valueOf want) self i ⌝ }
     {
         let len = self.len;
-        let number = slot_no(len, i).number;
+        let number = slot_refusal(len, i).number;
         if number == 0 {
             let mut words = self.words;
             scan::put_slots(&mut words, 0, want, i, i + 1);
@@ -217,7 +217,7 @@ impl SlotSet {
         ensures { λ r. ⌜ r ≡ stretchOf (valueOf want) self from to ⌝ }
     {
         let len = self.len;
-        let number = stretch_no(len, from, to).number;
+        let number = stretch_refusal(len, from, to).number;
         if number == 0 {
             let mut words = self.words;
             scan::put_slots(&mut words, 0, want, from, to);
@@ -230,24 +230,24 @@ impl SlotSet {
     }
 
     // Whether the set has no member.
-    pub fn is_empty(self) -> Told
-        ensures { λ r. ⌜ r ≡ toldAs (heardOf (lengthRow (self .len))) (noMember (slotsOf self) (self .len)) ⌝ }
+    pub fn is_empty(self) -> YesNo
+        ensures { λ r. ⌜ r ≡ yesNoAs (numberOf (lengthRow (self .len))) (noMember (slotsOf self) (self .len)) ⌝ }
     {
         let len = self.len;
-        let number = len_no(len).number;
+        let number = len_refusal(len).number;
         if number == 0 {
             let words = self.words;
             return yes_or_no(scan::is_empty(&words, 0, len));
         }
-        Told::Refused(number)
+        YesNo::Refused(number)
     }
 
     // How many members the set has.
     pub fn count(self) -> Number
-        ensures { λ r. ⌜ r ≡ numberAs (heardOf (lengthRow (self .len))) (size (slotsOf self) (self .len)) ⌝ }
+        ensures { λ r. ⌜ r ≡ numberAs (numberOf (lengthRow (self .len))) (size (slotsOf self) (self .len)) ⌝ }
     {
         let len = self.len;
-        let number = len_no(len).number;
+        let number = len_refusal(len).number;
         if number == 0 {
             let words = self.words;
             return Number::Is(scan::count(&words, 0, len));
@@ -257,10 +257,10 @@ impl SlotSet {
 
     // The first member at or after `from`.
     pub fn next_set(self, from: usize) -> Found
-        ensures { λ r. ⌜ r ≡ foundAs (heardOf (lengthRow (self .len))) (nextSet (slotsOf self) (self .len) from) ⌝ }
+        ensures { λ r. ⌜ r ≡ foundAs (numberOf (lengthRow (self .len))) (nextSet (slotsOf self) (self .len) from) ⌝ }
     {
         let len = self.len;
-        let number = len_no(len).number;
+        let number = len_refusal(len).number;
         if number == 0 {
             let words = self.words;
             return scan::next_with(&words, 0, len, true, from);
@@ -270,10 +270,10 @@ impl SlotSet {
 
     // The last member at or before `from`.
     pub fn prev_set(self, from: usize) -> Found
-        ensures { λ r. ⌜ r ≡ foundAs (heardOf (lengthRow (self .len))) (prevSet (slotsOf self) (self .len) from) ⌝ }
+        ensures { λ r. ⌜ r ≡ foundAs (numberOf (lengthRow (self .len))) (prevSet (slotsOf self) (self .len) from) ⌝ }
     {
         let len = self.len;
-        let number = len_no(len).number;
+        let number = len_refusal(len).number;
         if number == 0 {
             let words = self.words;
             return scan::prev_set(&words, 0, len, from);
@@ -283,10 +283,10 @@ impl SlotSet {
 
     // The first slot after `from`, below the length, that is no member.
     pub fn next_unset_after(self, from: usize) -> Found
-        ensures { λ r. ⌜ r ≡ foundAs (heardOf (lengthRow (self .len))) (nextUnsetAfter (slotsOf self) (self .len) from) ⌝ }
+        ensures { λ r. ⌜ r ≡ foundAs (numberOf (lengthRow (self .len))) (nextUnsetAfter (slotsOf self) (self .len) from) ⌝ }
     {
         let len = self.len;
-        let number = len_no(len).number;
+        let number = len_refusal(len).number;
         if number == 0 {
             let words = self.words;
             return scan::next_unset_after(&words, 0, len, from);
@@ -296,10 +296,10 @@ impl SlotSet {
 
     // The last slot before `from`, below the length, that is no member.
     pub fn prev_unset_before(self, from: usize) -> Found
-        ensures { λ r. ⌜ r ≡ foundAs (heardOf (lengthRow (self .len))) (prevUnsetBefore (slotsOf self) (self .len) from) ⌝ }
+        ensures { λ r. ⌜ r ≡ foundAs (numberOf (lengthRow (self .len))) (prevUnsetBefore (slotsOf self) (self .len) from) ⌝ }
     {
         let len = self.len;
-        let number = len_no(len).number;
+        let number = len_refusal(len).number;
         if number == 0 {
             let words = self.words;
             return scan::last_below(&words, 0, len, false, from);
@@ -309,10 +309,10 @@ impl SlotSet {
 
     // The run that holds slot i.
     pub fn run_bounds(self, i: usize) -> Run
-        ensures { λ r. ⌜ r ≡ runAs (heardOf (lengthRow (self .len))) (slotsOf self) (self .len) i ⌝ }
+        ensures { λ r. ⌜ r ≡ runAs (numberOf (lengthRow (self .len))) (slotsOf self) (self .len) i ⌝ }
     {
         let len = self.len;
-        let number = len_no(len).number;
+        let number = len_refusal(len).number;
         if number == 0 {
             let words = self.words;
             return scan::run_bounds(&words, 0, len, i);
@@ -322,11 +322,11 @@ impl SlotSet {
 
     // The reader of runs: the next one from the cursor on.
     pub fn next_run(self, c: Cursor) -> NextRun
-        ensures { λ r. ⌜ r ≡ nextRunAs (heardOf (lengthRow (self .len))) (slotsOf self) (self .len) (c .at) ⌝ }
+        ensures { λ r. ⌜ r ≡ nextRunAs (numberOf (lengthRow (self .len))) (slotsOf self) (self .len) (c .at) ⌝ }
     {
         let len = self.len;
         let at = c.at;
-        let number = len_no(len).number;
+        let number = len_refusal(len).number;
         if number == 0 {
             let words = self.words;
             return scan::next_run(&words, 0, len, at);
@@ -336,11 +336,11 @@ impl SlotSet {
 
     // The reader of single members: the next one from the cursor on.
     pub fn next_member(self, c: Cursor) -> NextMember
-        ensures { λ r. ⌜ r ≡ nextMemberAs (heardOf (lengthRow (self .len))) (slotsOf self) (self .len) (c .at) ⌝ }
+        ensures { λ r. ⌜ r ≡ nextMemberAs (numberOf (lengthRow (self .len))) (slotsOf self) (self .len) (c .at) ⌝ }
     {
         let len = self.len;
         let at = c.at;
-        let number = len_no(len).number;
+        let number = len_refusal(len).number;
         if number == 0 {
             let words = self.words;
             return scan::next_member(&words, 0, len, at);

@@ -2,7 +2,7 @@
 // how many answers it compared and how many differ. `oracle/store` writes the records (oracle/src/stored_units.rs has their layout).
 use slots::Minutes;
 use slotset::Number;
-use slotset::Told;
+use slotset::YesNo;
 use stored::Tally;
 use stored::Turn;
 use stored::at_most;
@@ -121,7 +121,7 @@ fn sixteen(b: &[u8], at: usize) -> [u32; 16] {
     out
 }
 
-fn firsts(b: &[u8], at: usize) -> [u16; 16] {
+fn begins(b: &[u8], at: usize) -> [u16; 16] {
     let mut out = [0u16; 16];
     shorts(b, at, &mut out);
     out
@@ -159,7 +159,7 @@ fn settings(b: &[u8]) -> Settings {
 
 // Whether a whole array is the one at an index: what was not lent, and what lies past a list, too.
 fn is_firsts(got: &[u16; 16], b: &[u8], at: usize) -> bool {
-    same_shorts(got, &firsts(b, at))
+    same_shorts(got, &begins(b, at))
 }
 
 fn is_list(got: &[u8; 8], b: &[u8], at: usize) -> bool {
@@ -187,11 +187,11 @@ fn counted(answer: Number) -> usize {
     }
 }
 
-fn told(answer: Told) -> usize {
+fn yes_no(answer: YesNo) -> usize {
     match answer {
-        Told::Yes => 1,
-        Told::No => 0,
-        Told::Refused(n) => refused(n),
+        YesNo::Yes => 1,
+        YesNo::No => 0,
+        YesNo::Refused(n) => refused(n),
     }
 }
 
@@ -201,7 +201,7 @@ fn number(n: u8) -> usize {
 
 fn minutes(answer: Minutes) -> u64 {
     match answer {
-        Minutes::Are(m) => m,
+        Minutes::Is(m) => m,
         Minutes::Refused(n) => refused_minutes(n),
     }
 }
@@ -255,7 +255,7 @@ fn unit_start_answers(tally: Tally, b: &[u8]) -> Tally {
 
 // How many units, the slots of one, and the unit of a slot.
 fn unit_answers(tally: Tally, b: &[u8]) -> Tally {
-    let begin = firsts(b, FIRSTS_AT);
+    let begin = begins(b, FIRSTS_AT);
     let lent = front_shorts(&begin, long(b, 2));
     let slots = size(b, SLOTS_AT);
     let count = size(b, UNITS_AT);
@@ -269,7 +269,7 @@ fn unit_answers(tally: Tally, b: &[u8]) -> Tally {
 // Whether a unit is frozen.
 fn frozen_answer(tally: Tally, b: &[u8]) -> Tally {
     let flags = one_row(b);
-    let begin = firsts(b, FIRSTS_AT);
+    let begin = begins(b, FIRSTS_AT);
     let got = units::unit_frozen(
         front_words(&flags, long(b, 4)),
         size(b, SLOTS_AT),
@@ -277,7 +277,7 @@ fn frozen_answer(tally: Tally, b: &[u8]) -> Tally {
         front_shorts(&begin, long(b, 2)),
         size(b, UNIT_AT),
     );
-    tally.with(told(got) == half(b, FROZEN_DUE_AT))
+    tally.with(yes_no(got) == half(b, FROZEN_DUE_AT))
 }
 
 // Who can cover a slot: how many, and the list.
@@ -299,7 +299,7 @@ fn slot_domain_answers(tally: Tally, b: &[u8]) -> Tally {
 // Who can cover a unit: how many, and the list.
 fn unit_domain_answers(tally: Tally, b: &[u8]) -> Tally {
     let able = four_rows(b);
-    let begin = firsts(b, FIRSTS_AT);
+    let begin = begins(b, FIRSTS_AT);
     let mut out = [FILL_PEOPLE; 8];
     let of_out = room(b, 6, 8);
     let got = units::unit_domain(
@@ -318,7 +318,7 @@ fn unit_domain_answers(tally: Tally, b: &[u8]) -> Tally {
 // Who can cover each unit: the number, and the column of masks.
 fn unit_domains_answers(tally: Tally, b: &[u8]) -> Tally {
     let able = four_rows(b);
-    let begin = firsts(b, FIRSTS_AT);
+    let begin = begins(b, FIRSTS_AT);
     let mut out = [FILL_MASKS; 16];
     let of_out = room(b, 7, 16);
     let got = units::unit_domains(

@@ -12,14 +12,14 @@ use lib.Signed.{mag}
 use lib.ListN.{length, getD, drop, length-map, List·getD-eq-default, List·getD-append}
 use lib.Seq.{getD-set-same}
 use Rattle.paper.proofs.Logic.{by-test, lt-or-ge}
-use Rattle.targets.specs.declared.Line.{Line}
+use Rattle.targets.specs.declared.Standing.{Standing}
 use Rattle.targets.specs.Figures.{pad}
-use Rattle.targets.specs.Passes.{Passed, again, done, refused, linesLeft}
+use Rattle.targets.specs.Passes.{Passed, again, done, refused, standingsLeft}
 use Rattle.targets.specs.Remainder.{totalOf, takerOf, targetOf, adjusted}
-use Rattle.targets.specs.Outcome.{Given, demandIn, lineIn, linesIn, passedIn, leftIn, targetsIn, computeTargets}
+use Rattle.targets.specs.Outcome.{Given, demandIn, standingIn, standingsIn, passedIn, leftIn, targetsIn, computeTargets}
 use Rattle.targets.specs.Inside.{SmallTarget, Small}
 use Rattle.targets.proofs.Each.{each-upTo, each-at, sum-most}
-use Rattle.targets.proofs.Cases.{OfLines}
+use Rattle.targets.proofs.Cases.{OfStandings}
 use Rattle.targets.proofs.Signed.{mag-sub}
 use Rattle.targets.proofs.Sizes.{small-passes}
 use Rattle.targets.proofs.Sums.{total-is}
@@ -27,21 +27,21 @@ use Rattle.targets.proofs.Padding.{adjusted-length}
 use Rattle.targets.proofs.Taker.{taker-here}
 use Rattle.targets.proofs.Promises.{demand-fits, other, accepted-sound, accepted-holds}
 
--- a target of a line, whichever
-small-at : (ls : List Line) → Small ls → (k : ℕ) → getD ls k pad .target ≤ 1099511627776
+-- a target of a standing, whichever
+small-at : (ls : List Standing) → Small ls → (k : ℕ) → getD ls k pad .target ≤ 1099511627776
 small-at ls h k =
     ⊎-elim (λ (l : k < length ls). each-at SmallTarget ls k pad h l)
-    (λ (l : length ls ≤ k). omega (arith, ap (λ (x : Line). x .target) (List·getD-eq-default ls pad l)))
+    (λ (l : length ls ≤ k). omega (arith, ap (λ (x : Standing). x .target) (List·getD-eq-default ls pad l)))
     (lt-or-ge k (length ls))
 
--- 32 lines of at most 2 ^ 40, and demand
-adjusted-sized : (d : ℕ) (ls : List Line) → 0 < length ls → length ls ≤ 32 → d ≤ 100000000 → Small ls → (k : ℕ)
+-- 32 standings of at most 2 ^ 40, and demand
+adjusted-sized : (d : ℕ) (ls : List Standing) → 0 < length ls → length ls ≤ 32 → d ≤ 100000000 → Small ls → (k : ℕ)
     → mag (getD (adjusted d ls) k (pos 0)) < 2 ^ 63
 unfolding adjusted
 adjusted-sized d ls some few D h k =
     let j = takerOf ls in
     let a = getD ls j pad .target in
-    let m = sum-most (λ (l : Line). l .target) 1099511627776 ls h in
+    let m = sum-most (λ (l : Standing). l .target) 1099511627776 ls h in
     by-test (eqb k j) _
     (λ e.
     let q = ap (λ (i : ℕ). getD (adjusted d ls) i (pos 0)) (eqb-true k j e)
@@ -50,8 +50,8 @@ adjusted-sized d ls some few D h k =
     omega (arith, ap mag q, mag-sub (a + d) (totalOf ls), total-is ls, m, small-at ls h j))
     (λ e. omega (arith, ap mag (other d k ls (eqb-false k j e)), small-at ls h k))
 
--- the lines that the passes leave
-left-small : (p : Passed) → OfLines Small p → Small (linesLeft p)
+-- the standings that the passes leave
+left-small : (p : Passed) → OfStandings Small p → Small (standingsLeft p)
 left-small (again ls) h = h
 left-small (done ls) h = h
 left-small refused h = tt
@@ -62,10 +62,10 @@ accepted-sized g out e k l =
     let H = accepted-holds g out e in
     let s = accepted-sound g out e in
     let d = demandIn g in
-    let ls = linesIn g in
+    let ls = standingsIn g in
     let n = adjusted-length d (leftIn g) in
     let small = left-small (passedIn g) (small-passes (suc (length ls)) d (again ls)
-    (each-upTo SmallTarget (lineIn g) (g .people) (λ j h. omega arith))) in
+    (each-upTo SmallTarget (standingIn g) (g .people) (λ j h. omega arith))) in
     omega (
       arith,
       ap (λ (x : List ℤ). mag (getD x k (pos 0))) (H .is),

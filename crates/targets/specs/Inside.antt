@@ -7,41 +7,41 @@ use lib.Dec.{leb}
 use lib.ListN.{length}
 use Rattle.paper.specs.Limits.{Test, test}
 use Rattle.slots.specs.Lent.{slotsOk}
-use Rattle.targets.specs.declared.Line.{Line}
+use Rattle.targets.specs.declared.Standing.{Standing}
 use Rattle.targets.specs.declared.Next.{Next}
 use Rattle.targets.specs.declared.Next.the-variants.{Again, Done, Refused}
 use Rattle.targets.specs.declared.Round.{Round}
 use Rattle.targets.specs.declared.Answer.{Answer}
 use Rattle.targets.specs.Figures.{allFiguresOk}
-use Rattle.targets.specs.Passes.{Passed, again, done, refused, linesLeft, guarded}
+use Rattle.targets.specs.Passes.{Passed, again, done, refused, standingsLeft, guarded}
 use Rattle.targets.specs.Remainder.{adjusted}
 use Rattle.targets.specs.Outcome.{Given, roomRow}
 
 -- ---- the code's values
 
-abbrev pub roundIs : Next → List Line → Passed
+abbrev pub roundIs : Next → List Standing → Passed
 roundIs Again ls = again ls
 roundIs Done ls = done ls
 roundIs Refused ls = refused
 
 abbrev pub passedOf : Round → Passed
-passedOf r = roundIs (r .next) (r .lines)
+passedOf r = roundIs (r .next) (r .standings)
 
 -- the targets of what the passes leave, or none where they are refused
 pub record AnswerOf (demand : ℕ) (p : Passed) (a : Answer) : Type 0 where
   pub kept : not (a .refused) ≡ guarded p
-  pub given : a .refused ≡ false → a .targets ≡ adjusted demand (linesLeft p)
+  pub given : a .refused ≡ false → a .targets ≡ adjusted demand (standingsLeft p)
 
--- what holds of each line
-abbrev pub Each : (Line → Type 0) → List Line → Type 0
+-- what holds of each standing
+abbrev pub Each : (Standing → Type 0) → List Standing → Type 0
 Each P [] = Unit
 Each P (l ∷ ls) = P l × Each P ls
 
 -- every target is at most 2 ^ 40, so that no sum of them wraps
-abbrev pub SmallTarget : Line → Type 0
+abbrev pub SmallTarget : Standing → Type 0
 SmallTarget l = l .target ≤ 1099511627776
 
-abbrev pub Small : List Line → Type 0
+abbrev pub Small : List Standing → Type 0
 Small = Each SmallTarget
 
 -- ---- the checks that come before the work

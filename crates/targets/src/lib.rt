@@ -1,7 +1,7 @@
 // Fair-share targets. Every step on an f64 is rounded once, in the paper's order.
-// Checks, lines, passes, remainder: what the passes leave and what is done with the remainder are apart.
+// Checks, standings, passes, remainder: what the passes leave and what is done with the remainder are apart.
 mod checks;
-mod lines;
+mod standings;
 mod passes;
 mod remainder;
 mod rounding;
@@ -22,7 +22,7 @@ pub struct Person {
 }
 
 // What the passes keep of a person: the figures, the raw share, the target so far, and whether it is pinned at 0.
-pub struct Line {
+pub struct Standing {
     pub person: Person,
     pub raw: f64,
     pub target: u64,
@@ -36,13 +36,13 @@ pub enum Next {
     Refused,
 }
 
-// The lines after a pass.
+// The standings after a pass.
 pub struct Round {
-    pub lines: [Line; 32],
+    pub standings: [Standing; 32],
     pub next: Next,
 }
 
-// The largest unpinned target so far: where it stands, what it is, and the place of the line that comes now.
+// The largest unpinned target so far: where it stands, what it is, and the place of the standing that comes now.
 pub struct Best {
     pub at: usize,
     pub top: u64,
@@ -55,12 +55,12 @@ pub struct Answer {
     pub targets: [i64; 32],
 }
 
-// The targets of the lines: what the passes leave, and then the remainder.
-fn targets_of(lines: [Line; 32], people: usize, demand: u32) -> Answer
-    requires { ⌜ (people ≤ 32) × Small lines ⌝ }
-    ensures { λ r. ⌜ AnswerOf demand (passes (people + 1) demand (again lines)) r ⌝ }
+// The targets of the standings: what the passes leave, and then the remainder.
+fn targets_of(standings: [Standing; 32], people: usize, demand: u32) -> Answer
+    requires { ⌜ (people ≤ 32) × Small standings ⌝ }
+    ensures { λ r. ⌜ AnswerOf demand (passes (people + 1) demand (again standings)) r ⌝ }
 {
-    let r = passes::passes_of(lines, people, demand);
+    let r = passes::passes_of(standings, people, demand);
     let k = r.next;
     match k {
         Next::Refused => {
@@ -71,7 +71,7 @@ fn targets_of(lines: [Line; 32], people: usize, demand: u32) -> Answer
             }
         }
         Next::Again | Next::Done => {
-            let left = r.lines;
+            let left = r.standings;
             let t = remainder::adjusted_of(left, demand);
             Answer {
                 refused: false,
@@ -110,7 +110,7 @@ pub fn compute_targets(
         (now (capacities .entry)) (now (priors .entry)) fairness)
         (now (out .entry)) r (now (out .exit)) ⌝ }
 {
-    let n = checks::checks_no(
+    let n = checks::checks_refusal(
         people,
         slots,
         starts,
@@ -123,7 +123,7 @@ pub fn compute_targets(
     ).number;
     if n == 0 {
         let demand = demand_of(slots, starts, ends);
-        let lines = lines::lines_of(
+        let standings = standings::standings_of(
             people,
             slots,
             starts,
@@ -134,7 +134,7 @@ pub fn compute_targets(
             fairness,
             demand,
         );
-        let a = targets_of(lines, people, demand);
+        let a = targets_of(standings, people, demand);
         if a.refused {
             return 8;
         }

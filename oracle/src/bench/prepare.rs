@@ -22,7 +22,7 @@ struct Preparation {
     ends: Vec<u32>,
     avail: Vec<u64>,
     units: usize,
-    firsts: Vec<u16>,
+    unit_starts: Vec<u16>,
     targets: Vec<i64>,
     target_run: u64,
     runs: Vec<u64>,
@@ -42,7 +42,7 @@ impl Preparation {
             ends: vec![0; SLOTS_MOST],
             avail: vec![0; SET_WORDS * people],
             units: 0,
-            firsts: vec![0; SLOTS_MOST],
+            unit_starts: vec![0; SLOTS_MOST],
             targets: vec![0; people],
             target_run: 0,
             runs: vec![0; people],
@@ -85,7 +85,7 @@ impl Preparation {
             self.slots,
             &self.starts,
             &self.ends,
-            &mut self.firsts,
+            &mut self.unit_starts,
         )?;
         lent::compute_targets(
             ranges.people,
@@ -131,7 +131,7 @@ impl Preparation {
                 run,
             )?;
         }
-        lent::unit_domains(&self.avail, people, self.slots, self.units, &self.firsts, &mut self.masks)
+        lent::unit_domains(&self.avail, people, self.slots, self.units, &self.unit_starts, &mut self.masks)
     }
 
     fn seen(&self) -> Prepared {
@@ -139,7 +139,7 @@ impl Preparation {
             starts: self.starts[..self.slots].to_vec(),
             ends: self.ends[..self.slots].to_vec(),
             avail: self.avail.clone(),
-            firsts: self.firsts[..self.units].to_vec(),
+            unit_starts: self.unit_starts[..self.units].to_vec(),
             targets: self.targets.clone(),
         }
     }
@@ -159,7 +159,7 @@ struct Prepared {
     starts: Vec<u32>,
     ends: Vec<u32>,
     avail: Vec<u64>,
-    firsts: Vec<u16>,
+    unit_starts: Vec<u16>,
     targets: Vec<i64>,
 }
 
@@ -179,7 +179,7 @@ fn prepared(problem: &Problem) -> Prepared {
         starts,
         ends,
         avail,
-        firsts: unit_starts_of(problem),
+        unit_starts: unit_starts_of(problem),
         targets: problem.targets.clone(),
     }
 }

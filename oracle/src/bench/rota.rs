@@ -102,19 +102,19 @@ pub fn from_slots(rota: Rota) -> Row {
 // ---- recounts
 
 fn lent_recount(rota: &LentRota) -> bool {
-    let told = lent::recount(
+    let answer = lent::recount(
         rota.people,
         rota.starts.len(),
         rota.units,
         &rota.starts,
         &rota.ends,
         &rota.avail,
-        &rota.firsts,
+        &rota.unit_starts,
         &rota.owners,
         &rota.sets,
         &rota.minutes,
     );
-    told.is_ok()
+    answer.is_ok()
 }
 
 /// The recount in the Rust's terms, which has none: every owner known and available, one owner a unit, and a rota made anew of the owners
@@ -169,8 +169,8 @@ pub fn no_draws(rota: Rota) -> Row {
 
 /// The first draws of the list; whether it was accepted.
 fn lent_play(rota: &Rota, lent: &mut LentRota, draws: usize) -> bool {
-    let [kinds, ones, twos] = &rota.columns;
-    let told = lent::play(
+    let [draws, firsts, seconds] = &rota.columns;
+    let answer = lent::play(
         lent.people,
         lent.starts.len(),
         lent.units,
@@ -178,17 +178,17 @@ fn lent_play(rota: &Rota, lent: &mut LentRota, draws: usize) -> bool {
         &lent.starts,
         &lent.ends,
         &lent.avail,
-        &lent.firsts,
+        &lent.unit_starts,
         &lent.frozen,
         &mut lent.owners,
         &mut lent.sets,
         &mut lent.minutes,
-        kinds,
-        ones,
-        twos,
+        draws,
+        firsts,
+        seconds,
         &mut lent.answers,
     );
-    told.is_ok()
+    answer.is_ok()
 }
 
 /// All draws of a rota.

@@ -48,8 +48,8 @@ pub fn run_bounds(set: Set) -> Row {
         set,
         |words, slot| {
             let (mut first, mut last) = (0, 0);
-            let told = lent::run_bounds(words, 1, 0, SLOTS_MOST, slot, &mut first, &mut last);
-            let is_member = told.expect("nothing is refused");
+            let answer = lent::run_bounds(words, 1, 0, SLOTS_MOST, slot, &mut first, &mut last);
+            let is_member = answer.expect("nothing is refused");
             is_member.then_some((first as usize, last as usize))
         },
         |rust, slot| rust.run_bounds(slot),

@@ -13,13 +13,13 @@ use Rattle.targets.specs.declared.Next.the-variants.{Refused}
 use Rattle.targets.specs.Passes.{Passed, again}
 use Rattle.targets.specs.declared.Answer.{Answer}
 use Rattle.targets.specs.Inside.{roundIs, AnswerOf, Small}
-use Rattle.targets.proofs.Cases.{OfLines, by-left}
+use Rattle.targets.proofs.Cases.{OfStandings, by-left}
 use Rattle.targets.proofs.Sizes.{small-passes}
 use Rattle.targets.proofs.Next.{the-type}
 use Rattle.targets.proofs.targets_of.Statement.{statement}
 use Rattle.targets.proofs.targets_of.Tie as tie
 
--- where lines are left, the round is not refused
+-- where standings are left, the round is not refused
 not-refused : (n : Next) → OneOf (0 ∷ 1 ∷ []) (tagOf the-type n) → n ≡ Refused → ⊥
 not-refused n t e =
     ⊎-elim (λ (q : 2 ≡ 0). omega arith) (λ (q : 2 ≡ 1). omega arith)
@@ -30,9 +30,9 @@ adjusted-of-requires c κs =
     let p = c .before .before in
     let r = p .passes-of .result in
     let a = p .before .args in
-    by-left (r .next) (r .lines) (λ (q : Passed). OfLines Small q → Small (r .lines)) (not-refused (r .next) (c .before .match .keys2))
+    by-left (r .next) (r .standings) (λ (q : Passed). OfStandings Small q → Small (r .standings)) (not-refused (r .next) (c .before .match .keys2))
     (λ h. h) (λ h. h)
-    (subst (OfLines Small) (sym (p .passes-of .ensures)) (small-passes (a .people + 1) (a .demand) (again (a .lines)) (p .before .pre .1)))
+    (subst (OfStandings Small) (sym (p .passes-of .ensures)) (small-passes (a .people + 1) (a .demand) (again (a .standings)) (p .before .pre .1)))
 
 -- what the round says of the passes
 of-round : (d : ℕ) {q : Passed} (a : Answer) → AnswerOf d q a → {p : Passed} → q ≡ p → AnswerOf d p a
@@ -42,7 +42,7 @@ returns : tie.Need-returns
 returns c =
     let p = c .before .before in
     of-round (p .before .args .demand) _ (record { kept = refl; given = λ f. absurd (true≢false f) })
-    (ap (λ (n : Next). roundIs n (p .passes-of .result .lines)) (sym (c .enum-told .given .1)) ∙ p .passes-of .ensures)
+    (ap (λ (n : Next). roundIs n (p .passes-of .result .standings)) (sym (c .enum-told .given .1)) ∙ p .passes-of .ensures)
 
 returns-2 : tie.Need-returns-2
 returns-2 c =
@@ -50,7 +50,7 @@ returns-2 c =
     let r = p .passes-of .result in
     let d = p .before .args .demand in
     of-round d _
-    (by-left (r .next) (r .lines) (λ (q : Passed). AnswerOf d q (record { refused = false; targets = c .adjusted-of .result }))
+    (by-left (r .next) (r .standings) (λ (q : Passed). AnswerOf d q (record { refused = false; targets = c .adjusted-of .result }))
     (not-refused (r .next) (c .before .before .match .keys2))
     (record { kept = refl; given = λ f. c .adjusted-of .ensures }) (record { kept = refl; given = λ f. c .adjusted-of .ensures }))
     (p .passes-of .ensures)

@@ -7,8 +7,8 @@ use Rattle.boltraven_c.proofs.domains.boltraven_unit_domain.Tie as tie
 
 returns : tie.Need-returns
 returns c =
-    let told = c .before .before .before .unit-domain .ensures in
-    (c .plain-number .ensures ∙ ap plainNumber (told .said), told .left)
+    let answer = c .before .before .before .unit-domain .ensures in
+    (c .plain-number .ensures ∙ ap plainNumber (answer .said), answer .left)
 
 pub boltraven-unit-domain-spec : {M : Type 1} → statement M
 boltraven-unit-domain-spec =

@@ -7,8 +7,8 @@ use Rattle.boltraven_c.proofs.freezing.boltraven_freeze_before.Tie as t
 
 returns : tie.Need-returns
 returns c =
-    let told = c .before .before .before .freeze-before .ensures in
-    (c .plain-number .ensures ∙ ap plainNumber (told .0), told .1)
+    let answer = c .before .before .before .freeze-before .ensures in
+    (c .plain-number .ensures ∙ ap plainNumber (answer .0), answer .1)
 
 pub boltraven-freeze-before-spec : {M : Type 1} → statement M
 boltraven-freeze-before-spec =

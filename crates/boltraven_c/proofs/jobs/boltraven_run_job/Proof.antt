@@ -1,14 +1,14 @@
 -- `boltraven_c::jobs::boltraven_run_job` meets its contract. Assumes nothing.
 use borrow.Author.Needs.{needs}
 use mathlib.Core.Path.{ap, _∙_}
-use Rattle.boltraven_c.specs.Jobs.{jobNo, jobLength}
+use Rattle.boltraven_c.specs.Jobs.{jobRefusal, jobLength}
 use Rattle.boltraven_c.proofs.jobs.boltraven_run_job.Statement.{statement}
 use Rattle.boltraven_c.proofs.jobs.boltraven_run_job.Tie as tie
 
 returns : tie.Need-returns
 returns c =
-    let told = c .before .before .before .before .run-job .ensures in
-    (c .put-length .ensures .0 ∙ ap jobNo (told .heard), (told .left, c .put-length .ensures .1 ∙ ap (jobLength _) (told .heard)))
+    let answer = c .before .before .before .before .run-job .ensures in
+    (c .put-length .ensures .0 ∙ ap jobRefusal (answer .said), (answer .left, c .put-length .ensures .1 ∙ ap (jobLength _) (answer .said)))
 
 pub boltraven-run-job-spec : {M : Type 1} → statement M
 boltraven-run-job-spec =

@@ -1,15 +1,15 @@
 -- `boltraven_c::rotas::boltraven_uncovered_minutes` meets its contract. Assumes nothing.
 use borrow.Author.Needs.{needs}
 use mathlib.Core.Path.{ap, _∙_}
-use Rattle.slots.specs.Lent.{minutesNo}
-use Rattle.boltraven_c.specs.Numbers.{minutesAre}
+use Rattle.slots.specs.Lent.{minutesRefusal}
+use Rattle.boltraven_c.specs.Numbers.{minutesWritten}
 use Rattle.boltraven_c.proofs.rotas.boltraven_uncovered_minutes.Statement.{statement}
 use Rattle.boltraven_c.proofs.rotas.boltraven_uncovered_minutes.Tie as tie
 
 returns : tie.Need-returns
 returns c =
     let e = c .before .before .uncovered-minutes .ensures in
-    (c .put-minutes .ensures .0 ∙ ap minutesNo e, c .put-minutes .ensures .1 ∙ ap (minutesAre _) e)
+    (c .put-minutes .ensures .0 ∙ ap minutesRefusal e, c .put-minutes .ensures .1 ∙ ap (minutesWritten _) e)
 
 pub boltraven-uncovered-minutes-spec : {M : Type 1} → statement M
 boltraven-uncovered-minutes-spec =

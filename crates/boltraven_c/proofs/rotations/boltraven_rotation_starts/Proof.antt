@@ -7,8 +7,8 @@ use Rattle.boltraven_c.proofs.rotations.boltraven_rotation_starts.Tie a
 
 returns : tie.Need-returns
 returns c =
-    let told = c .before .before .before .rotation-starts .ensures in
-    (c .plain-number .ensures ∙ ap plainNumber (told .said), told .left)
+    let answer = c .before .before .before .rotation-starts .ensures in
+    (c .plain-number .ensures ∙ ap plainNumber (answer .said), answer .left)
 
 pub boltraven-rotation-starts-spec : {M : Type 1} → statement M
 boltraven-rotation-starts-spec =

@@ -7,8 +7,8 @@ use Rattle.boltraven_c.proofs.rotations.boltraven_unit_starts.Tie as ti
 
 returns : tie.Need-returns
 returns c =
-    let told = c .before .before .before .unit-starts .ensures in
-    (c .plain-number .ensures ∙ ap plainNumber (told .said), told .left)
+    let answer = c .before .before .before .unit-starts .ensures in
+    (c .plain-number .ensures ∙ ap plainNumber (answer .said), answer .left)
 
 pub boltraven-unit-starts-spec : {M : Type 1} → statement M
 boltraven-unit-starts-spec =

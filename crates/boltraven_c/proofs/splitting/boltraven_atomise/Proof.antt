@@ -7,8 +7,8 @@ use Rattle.boltraven_c.proofs.splitting.boltraven_atomise.Tie as tie
 
 returns : tie.Need-returns
 returns c =
-    let told = c .before .before .before .before .before .atomise .ensures in
-    (c .plain-number .ensures ∙ ap plainNumber (told .heard), (told .starts, told .ends))
+    let answer = c .before .before .before .before .before .atomise .ensures in
+    (c .plain-number .ensures ∙ ap plainNumber (answer .said), (answer .starts, answer .ends))
 
 pub boltraven-atomise-spec : {M : Type 1} → statement M
 boltraven-atomise-spec =

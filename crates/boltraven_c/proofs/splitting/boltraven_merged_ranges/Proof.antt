@@ -7,8 +7,8 @@ use Rattle.boltraven_c.proofs.splitting.boltraven_merged_ranges.Tie as 
 
 returns : tie.Need-returns
 returns c =
-    let told = c .before .before .before .before .before .before .before .merged-ranges .ensures in
-    (c .plain-number .ensures ∙ ap plainNumber (told .heard), (told .persons, (told .starts, told .ends)))
+    let answer = c .before .before .before .before .before .before .before .merged-ranges .ensures in
+    (c .plain-number .ensures ∙ ap plainNumber (answer .said), (answer .persons, (answer .starts, answer .ends)))
 
 pub boltraven-merged-ranges-spec : {M : Type 1} → statement M
 boltraven-merged-ranges-spec =

@@ -16,7 +16,7 @@ returns c =
     let at-both3 = c .before .before .both3 in
     let at-both2 = c .before .before .before .both2 in
     let at-both = c .before .before .before .before .both in
-    (c .both5 .ensures) ∙ ap (λ (b : Bool). leb (at-args .units) (length (at-args .firsts .now)) && b) ((at-both4 .ensures) ∙ ap
+    (c .both5 .ensures) ∙ ap (λ (b : Bool). leb (at-args .units) (length (at-args .begins .now)) && b) ((at-both4 .ensures) ∙ ap
     (λ (b : Bool). leb 16 (length (at-args .frozen .now)) && b) ((at-both3 .ensures) ∙ ap (λ (b : Bool). leb (at-args
     .count) (length (at-args .kinds .now)) && b) ((at-both2 .ensures) ∙ ap (λ (b : Bool). leb (at-args .count) (length
     (at-args .ones .now)) && b) (at-both .ensures))))

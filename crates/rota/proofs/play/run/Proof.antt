@@ -11,13 +11,13 @@ use Rattle.rota.proofs.play.run.Statement.{statement}
 use Rattle.rota.proofs.play.run.Tie as tie
 
 abbrev Inv-loop : tie.InvT-loop
-Inv-loop people slots units count starts ends firsts fits flags owners₀ sets₀ minutes₀ kinds ones twos answers₀ i₀ owners sets
+Inv-loop people slots units count starts ends begins fits flags owners₀ sets₀ minutes₀ draws firsts seconds answers₀ i₀ owners sets
     minutes answers i =
-    (i ≤ count) × Ran (plan people slots starts ends) (ready people slots units firsts fits flags) owners₀ (derived sets₀
-    minutes₀) answers₀ (drawsOf kinds ones twos i) owners (derived sets minutes) answers
+    (i ≤ count) × Ran (plan people slots starts ends) (ready people slots units begins fits flags) owners₀ (derived sets₀
+    minutes₀) answers₀ (drawsOf draws firsts seconds i) owners (derived sets minutes) answers
 
 abbrev μ-loop : tie.MeasureT-loop
-μ-loop people slots units count starts ends firsts fits flags owners₀ sets₀ minutes₀ kinds ones twos answers₀ i₀ owners sets minutes
+μ-loop people slots units count starts ends begins fits flags owners₀ sets₀ minutes₀ draws firsts seconds answers₀ i₀ owners sets minutes
     answers i =
     count - i
 
@@ -34,13 +34,13 @@ shared-slice-read-step : tie.Need-shared-slice-read-step Inv-loop μ-loop
 shared-slice-read-step c =
     let at-pre = c .before .before .before .before .before .before .before .before .before .before .before .before .before
     .before .before .before .before .before .pre in
-    omega (arith, (at-pre .1 .1 .1 .1 .0) .kinds)
+    omega (arith, (at-pre .1 .1 .1 .1 .0) .draws)
 
 shared-slice-read-step-2 : tie.Need-shared-slice-read-step-2 Inv-loop μ-loop
 shared-slice-read-step-2 c =
     let at-pre = c .before .before .before .before .before .before .before .before .before .before .before .before .before
     .before .before .before .before .before .before .pre in
-    omega (arith, (at-pre .1 .1 .1 .1 .0) .firsts)
+    omega (arith, (at-pre .1 .1 .1 .1 .0) .begins)
 
 shared-slice-read-step-3 : tie.Need-shared-slice-read-step-3 Inv-loop μ-loop
 shared-slice-read-step-3 c =
