@@ -38,13 +38,13 @@ static void prepare(void) {
     const uint32_t opens[RANGES] = {0, 60}, shuts[RANGES] = {120, 180};
     const double capacities[PEOPLE] = {1.0, 1.0};
     const uint32_t priors[PEOPLE] = {0, 0};
-    slots = answer("atomise", boltraven_atomise(1, base_starts, 1, base_ends, 1, PEOPLE, RANGES, persons, RANGES, opens, RANGES, shuts,
+    slots = answer("atomise", boltraven_atomise(PEOPLE, 1, RANGES, base_starts, 1, base_ends, 1, persons, RANGES, opens, RANGES, shuts,
                                                 RANGES, starts, SLOTS, ends, SLOTS));
-    done("availability", boltraven_availability(PEOPLE, slots, starts, SLOTS, ends, SLOTS, RANGES, persons, RANGES, opens, RANGES, shuts,
+    done("availability", boltraven_availability(PEOPLE, slots, RANGES, starts, SLOTS, ends, SLOTS, persons, RANGES, opens, RANGES, shuts,
                                                 RANGES, avail, WORDS));
-    units = answer("unit_starts", boltraven_unit_starts(0, 0, 0, 1, 1, slots, starts, SLOTS, ends, SLOTS, unit_starts, SLOTS));
-    done("compute_targets", boltraven_compute_targets(PEOPLE, slots, starts, SLOTS, ends, SLOTS, avail, WORDS, capacities, PEOPLE, priors,
-                                                      PEOPLE, 0, targets, PEOPLE));
+    units = answer("unit_starts", boltraven_unit_starts(slots, 0, 0, 0, 1, 1, starts, SLOTS, ends, SLOTS, unit_starts, SLOTS));
+    done("compute_targets", boltraven_compute_targets(PEOPLE, slots, 0, starts, SLOTS, ends, SLOTS, avail, WORDS, capacities, PEOPLE,
+                                                      priors, PEOPLE, targets, PEOPLE));
 }
 
 /* Person 0 has both slots; the draw hands the second to the second of those who can cover it. */

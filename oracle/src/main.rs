@@ -304,7 +304,7 @@ fn ask(kind: &Kind, seed: u64, shown: bool, functions: &mut BTreeSet<&str>) -> s
         if outcome != question.due && !differs {
             differs = true;
             if shown {
-                println!("{} {seed}: {}", kind.name, question.found(&outcome));
+                println!("{} {seed}: {}", kind.name, question.described(&outcome));
             }
         }
     }

@@ -94,11 +94,11 @@ fn slot_domain(seed: &mut Seed, case: &RotaCase, lent: &LentRota, slot: usize) -
     Question {
         function: "boltraven_slot_domain",
         args: vec![
-            Arg::Lent(8, bytes64(&lent.avail)),
             Arg::Number(lent.people as u64),
             Arg::Number(case.problem.slot_count() as u64),
-            Arg::Number(slot as u64),
+            Arg::Lent(8, bytes64(&lent.avail)),
             Arg::LentMut(1, before),
+            Arg::Number(slot as u64),
         ],
         due: Outcome {
             result: domain.map_or(NOTHING + UNKNOWN, |domain| domain.len() as u64),

@@ -317,19 +317,23 @@ impl LentRota {
         let columns = self.columns().map(|column| Arg::Lent(2, bytes16(&column))).to_vec();
         let numbers: Vec<u16> = self.draws.iter().flat_map(|draw| [draw.0, draw.1, draw.2]).collect();
         let structs = vec![Arg::Lent(6, bytes16(&numbers))];
-        let ways = [("boltraven_play", columns), ("boltraven_play_draws", structs)];
+        let rota = self.rota_args(Arg::LentMut).to_vec();
+        let ways = [
+            ("boltraven_play", [columns, rota.clone()]),
+            ("boltraven_play_draws", [rota, structs]),
+        ];
         ways.into_iter()
-            .map(|(function, draws)| Question {
+            .map(|(function, [first, second])| Question {
                 function,
-                args: [self.board(), draws, vec![Arg::LentMut(1, self.answers.clone())]].concat(),
+                args: [self.board(), first, second, vec![Arg::LentMut(1, self.answers.clone())]].concat(),
                 due: due.clone(),
             })
             .collect()
     }
 
-    /// What a play takes before its draws.
+    /// What a play takes before its draws and its rota.
     fn board(&self) -> Vec<Arg> {
-        let mut args = vec![
+        vec![
             Arg::Number(self.people as u64),
             Arg::Number(self.starts.len() as u64),
             Arg::Number(self.units as u64),
@@ -339,9 +343,7 @@ impl LentRota {
             Arg::Lent(8, bytes64(&self.avail)),
             Arg::Lent(2, bytes16(&self.unit_starts)),
             Arg::Lent(8, bytes64(&self.frozen)),
-        ];
-        args.extend(self.rota_args(Arg::LentMut));
-        args
+        ]
     }
 
     /// Owners, sets and minutes as they are passed, to be read alone or to be written.

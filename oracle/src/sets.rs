@@ -184,10 +184,10 @@ impl Row {
     /// The arguments that every function of a row takes.
     fn args(&self, lent: fn(usize, Vec<u8>) -> Arg) -> Vec<Arg> {
         vec![
-            lent(8, bytes64(&self.words)),
             Arg::Number(self.people as u64),
-            Arg::Number(self.person as u64),
             Arg::Number(self.case.len as u64),
+            lent(8, bytes64(&self.words)),
+            Arg::Number(self.person as u64),
         ]
     }
 

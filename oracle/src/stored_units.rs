@@ -132,7 +132,11 @@ fn record(bytes: &mut Vec<u8>, asked: &LentUnits, due: &DueUnits) {
         let written = if number == 0 { &list[..] } else { &[] };
         bytes.extend(written.iter().copied().chain(std::iter::repeat(FILL8)).take(LIST));
     }
-    let masks = if asked.unit_domains_number() == 0 { &due.unit_masks[..] } else { &[] };
+    let masks = if asked.unit_domains_number() == 0 {
+        &due.unit_masks[..]
+    } else {
+        &[]
+    };
     filled32(bytes, SLOTS, masks, FILL32);
 }
 

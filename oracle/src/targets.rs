@@ -49,12 +49,12 @@ impl LentTargets {
             args: vec![
                 Arg::Number(self.people as u64),
                 Arg::Number(self.slots.count as u64),
+                Arg::Number(u64::from(self.fairness)),
                 Arg::Lent(4, bytes32(&self.slots.starts)),
                 Arg::Lent(4, bytes32(&self.slots.ends)),
                 Arg::Lent(8, bytes64(&self.avail)),
                 Arg::Lent(8, bytes64(&self.capacities)),
                 Arg::Lent(4, bytes32(&self.priors)),
-                Arg::Number(u64::from(self.fairness)),
                 Arg::LentMut(8, bytes_i64(&self.out)),
             ],
             due: Outcome {

@@ -8,7 +8,7 @@ use crate::days::instant;
 use crate::lent_units::{lent, DueUnits, LentUnits};
 use crate::limits::{NOTHING, SET_WORDS};
 use crate::problems::{availability_into, problem_within, slots_of, unit_masks_of, unit_starts_of};
-use crate::rotations::settings_args;
+use crate::rotations::with_settings;
 use crate::seed::Seed;
 use crate::table::Slots;
 
@@ -30,17 +30,17 @@ pub fn questions(case_seed: u64) -> Vec<Question> {
     availability_into(&problem, &mut avail);
 
     let mut asked = Vec::new();
-    let mut settings = settings_args(case.settings);
-    settings.extend(lent_slots.clone());
-    asked.push(minutes("boltraven_target_run", settings, seed.word(), problem.target_run_minutes));
+    let target_args = with_settings(case.settings, lent_slots.clone());
+    asked.push(minutes(
+        "boltraven_target_run",
+        target_args,
+        seed.word(),
+        problem.target_run_minutes,
+    ));
     for person in [0, people - 1] {
-        let mut args = settings_args(case.settings);
-        args.extend([
-            Arg::Lent(8, bytes64(&avail)),
-            Arg::Number(people as u64),
-            Arg::Number(person as u64),
-        ]);
-        args.extend(lent_slots.clone());
+        let mut args = vec![Arg::Number(people as u64)];
+        args.extend(with_settings(case.settings, lent_slots.clone()));
+        args.extend([Arg::Lent(8, bytes64(&avail)), Arg::Number(person as u64)]);
         asked.push(minutes(
             "boltraven_achievable_run",
             args,
@@ -78,13 +78,13 @@ fn domains(seed: &mut Seed, problem: &Problem, avail: &[u64]) -> Vec<Question> {
         asked.push(Question {
             function: "boltraven_unit_domain",
             args: vec![
-                Arg::Lent(8, bytes64(avail)),
                 Arg::Number(people as u64),
                 Arg::Number(problem.slot_count() as u64),
                 Arg::Number(unit_starts.len() as u64),
+                Arg::Lent(8, bytes64(avail)),
                 Arg::Lent(2, bytes16(&unit_starts)),
-                Arg::Number(unit as u64),
                 Arg::LentMut(1, before),
+                Arg::Number(unit as u64),
             ],
             due: Outcome {
                 result: domain.len() as u64,
@@ -111,12 +111,14 @@ fn domains(seed: &mut Seed, problem: &Problem, avail: &[u64]) -> Vec<Question> {
 /// The domains of all units at once, a mask each, in a list with room for them or a little more.
 fn all_domains(seed: &mut Seed, problem: &Problem, avail: &[u64]) -> Question {
     let unit_starts = unit_starts_of(problem);
-    let before: Vec<u32> = (0..unit_starts.len() + seed.below(2) as usize).map(|_| seed.word() as u32).collect();
+    let before: Vec<u32> = (0..unit_starts.len() + seed.below(2) as usize)
+        .map(|_| seed.word() as u32)
+        .collect();
     let args = vec![
-        Arg::Lent(8, bytes64(avail)),
         Arg::Number(problem.human_count() as u64),
         Arg::Number(problem.slot_count() as u64),
         Arg::Number(unit_starts.len() as u64),
+        Arg::Lent(8, bytes64(avail)),
         Arg::Lent(2, bytes16(&unit_starts)),
     ];
     masks(args, before, 0, &unit_masks_of(problem))
@@ -173,10 +175,10 @@ fn freezing(seed: &mut Seed, mut problem: Problem, lent_slots: &[Arg]) -> Vec<Qu
         asked.push(Question::number(
             "boltraven_unit_frozen",
             vec![
-                Arg::Lent(8, bytes64(&flags)),
                 Arg::Number(count as u64),
                 Arg::Number(unit_starts.len() as u64),
                 Arg::Lent(2, bytes16(&unit_starts)),
+                Arg::Lent(8, bytes64(&flags)),
                 Arg::Number(unit as u64),
             ],
             u64::from(problem.is_unit_frozen(unit)),
@@ -204,17 +206,26 @@ pub fn damaged(case_seed: u64) -> Vec<Question> {
 }
 
 impl LentUnits {
-    fn units_args(&self) -> Vec<Arg> {
+    /// What a domain takes before the list that is written.
+    fn domain_args(&self) -> Vec<Arg> {
         vec![
+            Arg::Number(self.people as u64),
             Arg::Number(self.slots.count as u64),
             Arg::Number(self.units.count as u64),
+            Arg::Lent(8, bytes64(&self.avail)),
             Arg::Lent(2, bytes16(&self.units.unit_starts)),
         ]
     }
 
-    /// The units, and the one that is asked for.
-    fn unit_args(&self) -> Vec<Arg> {
-        [self.units_args(), vec![Arg::Number(self.unit as u64)]].concat()
+    /// What the question whether a unit is frozen takes.
+    fn frozen_args(&self) -> Vec<Arg> {
+        vec![
+            Arg::Number(self.slots.count as u64),
+            Arg::Number(self.units.count as u64),
+            Arg::Lent(2, bytes16(&self.units.unit_starts)),
+            Arg::Lent(8, bytes64(&self.frozen)),
+            Arg::Number(self.unit as u64),
+        ]
     }
 
     /// Rotation and unit starts.
@@ -223,8 +234,7 @@ impl LentUnits {
         let asked = [("boltraven_rotation_starts", &due.rotations), ("boltraven_unit_starts", &due.units)];
         let question = |(function, starts): (&'static str, &Vec<u16>)| {
             let before: Vec<u16> = (0..self.starts_room).map(|_| seed.word() as u16).collect();
-            let mut args = settings_args(self.settings);
-            args.extend(self.slots.args());
+            let args = with_settings(self.settings, self.slots.args());
             list(function, args, 2, bytes16(&before), number, starts.len(), &bytes16(starts))
         };
         asked.map(question).into()
@@ -233,49 +243,44 @@ impl LentUnits {
     /// A unit's domain, whether it is frozen, and covered days.
     fn units_asked(&self, seed: &mut Seed, due: &DueUnits) -> Vec<Question> {
         let before: Vec<u8> = (0..self.list_room).map(|_| seed.word() as u8).collect();
-        let mut domain_args = vec![Arg::Lent(8, bytes64(&self.avail)), Arg::Number(self.people as u64)];
-        domain_args.extend(self.unit_args());
         let domain = &due.unit_domain;
-        let mut frozen_args = vec![Arg::Lent(8, bytes64(&self.frozen))];
-        frozen_args.extend(self.unit_args());
+        let mut of_unit = list(
+            "boltraven_unit_domain",
+            self.domain_args(),
+            1,
+            before,
+            self.unit_domain_number(),
+            domain.len(),
+            domain,
+        );
+        of_unit.args.push(Arg::Number(self.unit as u64));
         vec![
-            list(
-                "boltraven_unit_domain",
-                domain_args,
-                1,
-                before,
-                self.unit_domain_number(),
-                domain.len(),
-                domain,
-            ),
+            of_unit,
             Question::number(
                 "boltraven_unit_frozen",
-                frozen_args,
+                self.frozen_args(),
                 answer_or(self.frozen_number(), u64::from(due.is_frozen)),
             ),
-            Question::number("boltraven_covered_days", self.slots.args(), answer_or(self.days_number(), due.days as u64)),
+            Question::number(
+                "boltraven_covered_days",
+                self.slots.args(),
+                answer_or(self.days_number(), due.days as u64),
+            ),
         ]
     }
 
     /// All units' domains.
     fn domains_asked(&self, seed: &mut Seed, due: &DueUnits) -> Question {
         let before: Vec<u32> = (0..self.masks_room).map(|_| seed.word() as u32).collect();
-        let mut args = vec![Arg::Lent(8, bytes64(&self.avail)), Arg::Number(self.people as u64)];
-        args.extend(self.units_args());
-        masks(args, before, self.unit_domains_number(), &due.unit_masks)
+        masks(self.domain_args(), before, self.unit_domains_number(), &due.unit_masks)
     }
 
     /// Minutes a day, target and achievable run.
     fn minutes_asked(&self, seed: &mut Seed, due: &DueUnits) -> Vec<Question> {
-        let mut target_args = settings_args(self.settings);
-        target_args.extend(self.slots.args());
-        let mut run_args = settings_args(self.settings);
-        run_args.extend([
-            Arg::Lent(8, bytes64(&self.avail)),
-            Arg::Number(self.people as u64),
-            Arg::Number(self.person as u64),
-        ]);
-        run_args.extend(self.slots.args());
+        let target_args = with_settings(self.settings, self.slots.args());
+        let mut run_args = vec![Arg::Number(self.people as u64)];
+        run_args.extend(target_args.clone());
+        run_args.extend([Arg::Lent(8, bytes64(&self.avail)), Arg::Number(self.person as u64)]);
         let asked = [
             ("boltraven_minutes_per_day", self.slots.args(), self.days_number(), due.per_day),
             ("boltraven_target_run", target_args, self.target_number(), due.target),

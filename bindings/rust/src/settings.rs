@@ -73,11 +73,11 @@ pub(crate) struct Numbers {
     pub days: u16,
 }
 
-/// Calls a function of `lent` that takes the settings first, as their five numbers.
+/// Calls a function of `lent` that takes the settings, as their five numbers, after its counts.
 macro_rules! with_settings {
-    ($function:path, $settings:expr, $($rest:expr),*) => {{
+    ($function:path, [$($count:expr),*], $settings:expr, $($rest:expr),*) => {{
         let n = $settings.numbers();
-        $function(n.fairness, n.lock, n.boundary, n.value, n.days, $($rest),*)
+        $function($($count,)* n.fairness, n.lock, n.boundary, n.value, n.days, $($rest),*)
     }};
 }
 

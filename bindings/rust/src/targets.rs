@@ -33,12 +33,12 @@ pub fn compute_targets(slots: &Slots, availability: &Availability, people: &[Per
     lent::compute_targets(
         people.len(),
         slots.len(),
+        fairness.number(),
         slots.starts(),
         slots.ends(),
         availability.words(),
         &capacities,
         &priors,
-        fairness.number(),
         &mut targets,
     )?;
     Ok(targets)

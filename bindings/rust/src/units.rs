@@ -10,7 +10,7 @@ use crate::settings::{with_settings, Settings};
 use crate::slots::Slots;
 
 /// What `lent` has for the starts of units and of rotations.
-type StartsOf = fn(u8, u8, u8, u16, u16, usize, &[u32], &[u32], &mut [u16]) -> Result<usize, Refusal>;
+type StartsOf = fn(usize, u8, u8, u8, u16, u16, &[u32], &[u32], &mut [u16]) -> Result<usize, Refusal>;
 
 /// Slots in neighbouring stretches: rotations, or the units that a play moves whole.
 ///
@@ -50,7 +50,7 @@ impl Units {
     /// Those that begin where `starts_of` says.
     fn begun(starts_of: StartsOf, settings: Settings, slots: &Slots) -> Result<Self, Refusal> {
         let mut unit_starts = vec![0; slots.len()];
-        let count = with_settings!(starts_of, settings, slots.len(), slots.starts(), slots.ends(), &mut unit_starts)?;
+        let count = with_settings!(starts_of, [slots.len()], settings, slots.starts(), slots.ends(), &mut unit_starts)?;
         unit_starts.truncate(count);
         Ok(Self {
             unit_starts,
@@ -101,7 +101,15 @@ impl Units {
     pub fn domain(&self, availability: &Availability, unit: usize) -> Result<Vec<usize>, Refusal> {
         let people = availability.people();
         let mut list = vec![0; people];
-        let count = lent::unit_domain(availability.words(), people, self.slots, self.len(), &self.unit_starts, unit, &mut list)?;
+        let count = lent::unit_domain(
+            people,
+            self.slots,
+            self.len(),
+            availability.words(),
+            &self.unit_starts,
+            &mut list,
+            unit,
+        )?;
         Ok(list.iter().take(count).map(|&person| usize::from(person)).collect())
     }
 
@@ -119,13 +127,13 @@ impl Units {
     pub fn domains(&self, availability: &Availability) -> Result<Vec<Vec<usize>>, Refusal> {
         let people = availability.people();
         let mut masks = vec![0; self.len()];
-        lent::unit_domains(availability.words(), people, self.slots, self.len(), &self.unit_starts, &mut masks)?;
+        lent::unit_domains(people, self.slots, self.len(), availability.words(), &self.unit_starts, &mut masks)?;
         let domain = |mask: u32| (0..people).filter(|person| mask >> person & 1 == 1).collect();
         Ok(masks.into_iter().map(domain).collect())
     }
 
     /// Whether any slot of one is frozen. Refusal 11.
     pub fn is_frozen(&self, frozen: &SlotSet, unit: usize) -> Result<bool, Refusal> {
-        lent::unit_frozen(frozen.words(), self.slots, self.len(), &self.unit_starts, unit)
+        lent::unit_frozen(self.slots, self.len(), &self.unit_starts, frozen.words(), unit)
     }
 }

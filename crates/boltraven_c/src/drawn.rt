@@ -14,7 +14,7 @@ pub extern "C" fn boltraven_play_draws(
     starts: &[u32],
     ends: &[u32],
     avail: &[u64],
-    begins: &[u16],
+    unit_starts: &[u16],
     frozen: &[u64],
     owners: &mut [u8],
     sets: &mut [u64],
@@ -23,7 +23,7 @@ pub extern "C" fn boltraven_play_draws(
     answers: &mut [u8],
 ) -> u8
     ensures { λ r. ⌜ Ended
-        (playedDraws (plan people slots (now (starts .entry)) (now (ends .entry))) (now (avail .entry)) units (now (begins .entry))
+        (playedDraws (plan people slots (now (starts .entry)) (now (ends .entry))) (now (avail .entry)) units (now («unit_starts» .entry))
         (now (frozen .entry)) count (now (draws .entry)) (now (owners .entry)) (derived (now (sets .entry)) (now (minutes .entry)))
         (now (answers .entry)))
         r (now (owners .exit)) (derived (now (sets .exit)) (now (minutes .exit))) (now (answers .exit)) ⌝ }
@@ -36,7 +36,7 @@ pub extern "C" fn boltraven_play_draws(
         starts,
         ends,
         avail,
-        begins,
+        unit_starts,
         frozen,
         owners,
         sets,

@@ -36,12 +36,12 @@ pub extern "C" fn boltraven_minutes_per_day(
 // The target run.
 #[no_mangle]
 pub extern "C" fn boltraven_target_run(
+    slots: usize,
     fairness: u8,
     lock: u8,
     boundary: u8,
     value: u16,
     days: u16,
-    slots: usize,
     starts: &[u32],
     ends: &[u32],
     out: &mut u64,
@@ -58,24 +58,24 @@ pub extern "C" fn boltraven_target_run(
         value,
         days,
     };
-    let minutes = units::target_run(settings, slots, starts, ends);
+    let minutes = units::target_run(slots, settings, starts, ends);
     put_minutes(minutes, out)
 }
 
 // A person's achievable run.
 #[no_mangle]
 pub extern "C" fn boltraven_achievable_run(
+    people: usize,
+    slots: usize,
     fairness: u8,
     lock: u8,
     boundary: u8,
     value: u16,
     days: u16,
-    avail: &[u64],
-    people: usize,
-    person: usize,
-    slots: usize,
     starts: &[u32],
     ends: &[u32],
+    avail: &[u64],
+    person: usize,
     out: &mut u64,
 ) -> u8
     ensures { λ r. ⌜ r ≡ minutesRefusal
@@ -92,6 +92,6 @@ pub extern "C" fn boltraven_achievable_run(
         value,
         days,
     };
-    let minutes = units::achievable_run(settings, avail, people, person, slots, starts, ends);
+    let minutes = units::achievable_run(people, slots, settings, starts, ends, avail, person);
     put_minutes(minutes, out)
 }

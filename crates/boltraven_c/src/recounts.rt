@@ -16,13 +16,14 @@ pub extern "C" fn boltraven_recount(
     starts: &[u32],
     ends: &[u32],
     avail: &[u64],
-    begins: &[u16],
+    unit_starts: &[u16],
     owners: &[u8],
     sets: &[u64],
     minutes: &[u64],
 ) -> u8
-    ensures { λ r. ⌜ r ≡ numberOf (recountRow true (leb units (length (now (begins .entry)))) (plan people slots (now (starts .entry))
-        (now (ends .entry))) (now (avail .entry)) units (now (begins .entry)) (now (owners .entry)) (derived (now (sets .entry))
+    ensures { λ r. ⌜ r ≡ numberOf (recountRow true (leb units (length (now («unit_starts» .entry))))
+        (plan people slots (now (starts .entry))
+        (now (ends .entry))) (now (avail .entry)) units (now («unit_starts» .entry)) (now (owners .entry)) (derived (now (sets .entry))
         (now (minutes .entry)))) ⌝ }
 {
     owners::recount(
@@ -32,7 +33,7 @@ pub extern "C" fn boltraven_recount(
         starts,
         ends,
         avail,
-        begins,
+        unit_starts,
         owners,
         sets,
         minutes,

@@ -88,18 +88,18 @@ pub extern "C" fn boltraven_play(
     starts: &[u32],
     ends: &[u32],
     avail: &[u64],
-    begins: &[u16],
+    unit_starts: &[u16],
     frozen: &[u64],
-    owners: &mut [u8],
-    sets: &mut [u64],
-    minutes: &mut [u64],
     draws: &[u16],
     firsts: &[u16],
     seconds: &[u16],
+    owners: &mut [u8],
+    sets: &mut [u64],
+    minutes: &mut [u64],
     answers: &mut [u8],
 ) -> u8
     ensures { λ r. ⌜ Ended
-        (played (plan people slots (now (starts .entry)) (now (ends .entry))) (now (avail .entry)) units (now (begins .entry))
+        (played (plan people slots (now (starts .entry)) (now (ends .entry))) (now (avail .entry)) units (now («unit_starts» .entry))
         (now (frozen .entry)) count (now (draws .entry)) (now (firsts .entry)) (now (seconds .entry)) (now (owners .entry))
         (derived (now (sets .entry)) (now (minutes .entry))) (now (answers .entry)))
         r (now (owners .exit)) (derived (now (sets .exit)) (now (minutes .exit))) (now (answers .exit)) ⌝ }
@@ -112,14 +112,14 @@ pub extern "C" fn boltraven_play(
         starts,
         ends,
         avail,
-        begins,
+        unit_starts,
         frozen,
-        owners,
-        sets,
-        minutes,
         draws,
         firsts,
         seconds,
+        owners,
+        sets,
+        minutes,
         answers,
     )
 }
@@ -170,7 +170,8 @@ pub extern "C" fn boltraven_uncovered_minutes(
     owners: &[u8],
     out: &mut u64,
 ) -> u8
-    ensures { λ r. ⌜ r ≡ minutesRefusal (uncoveredIs (plan people slots (now (starts .entry)) (now (ends .entry))) (now (owners .entry))) ⌝ }
+    ensures { λ r. ⌜ r ≡ minutesRefusal (uncoveredIs (plan people slots (now (starts .entry)) (now (ends .entry)))
+        (now (owners .entry))) ⌝ }
     ensures { λ _. ⌜ now (out .exit) ≡ minutesWritten (now (out .entry))
         (uncoveredIs (plan people slots (now (starts .entry)) (now (ends .entry))) (now (owners .entry))) ⌝ }
 {

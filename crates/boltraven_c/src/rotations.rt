@@ -11,22 +11,22 @@ ghost use Rattle.boltraven_c.specs.Units.{settingsOf, spanFrom, spanTo};
 // The starts of the rotations, and how many.
 #[no_mangle]
 pub extern "C" fn boltraven_rotation_starts(
+    slots: usize,
     fairness: u8,
     lock: u8,
     boundary: u8,
     value: u16,
     days: u16,
-    slots: usize,
     starts: &[u32],
     ends: &[u32],
-    begins: &mut [u16],
+    unit_starts: &mut [u16],
 ) -> u64
     ensures { λ r. ⌜ r ≡ plainNumber
         (rotationStartsIs (settingsOf fairness lock boundary value days) slots (now (starts .entry)) (now (ends .entry))
-        (now (begins .entry)) .answer) ⌝ }
-    ensures { λ _. ⌜ now (begins .exit)
+        (now («unit_starts» .entry)) .answer) ⌝ }
+    ensures { λ _. ⌜ now («unit_starts» .exit)
         ≡ rotationStartsIs (settingsOf fairness lock boundary value days) slots (now (starts .entry)) (now (ends .entry))
-        (now (begins .entry)) .buffer ⌝ }
+        (now («unit_starts» .entry)) .buffer ⌝ }
 {
     let settings = Settings {
         fairness,
@@ -35,28 +35,28 @@ pub extern "C" fn boltraven_rotation_starts(
         value,
         days,
     };
-    plain_number(units::rotation_starts(settings, slots, starts, ends, begins))
+    plain_number(units::rotation_starts(slots, settings, starts, ends, unit_starts))
 }
 
 // The starts of the units, and how many.
 #[no_mangle]
 pub extern "C" fn boltraven_unit_starts(
+    slots: usize,
     fairness: u8,
     lock: u8,
     boundary: u8,
     value: u16,
     days: u16,
-    slots: usize,
     starts: &[u32],
     ends: &[u32],
-    begins: &mut [u16],
+    unit_starts: &mut [u16],
 ) -> u64
     ensures { λ r. ⌜ r ≡ plainNumber
         (unitStartsIs (settingsOf fairness lock boundary value days) slots (now (starts .entry)) (now (ends .entry))
-        (now (begins .entry)) .answer) ⌝ }
-    ensures { λ _. ⌜ now (begins .exit)
+        (now («unit_starts» .entry)) .answer) ⌝ }
+    ensures { λ _. ⌜ now («unit_starts» .exit)
         ≡ unitStartsIs (settingsOf fairness lock boundary value days) slots (now (starts .entry)) (now (ends .entry))
-        (now (begins .entry)) .buffer ⌝ }
+        (now («unit_starts» .entry)) .buffer ⌝ }
 {
     let settings = Settings {
         fairness,
@@ -65,7 +65,7 @@ pub extern "C" fn boltraven_unit_starts(
         value,
         days,
     };
-    plain_number(units::unit_starts(settings, slots, starts, ends, begins))
+    plain_number(units::unit_starts(slots, settings, starts, ends, unit_starts))
 }
 
 // The slots of a unit (or of a rotation): `from` up to `to`, without `to`.
@@ -73,16 +73,16 @@ pub extern "C" fn boltraven_unit_starts(
 pub extern "C" fn boltraven_unit_slots(
     slots: usize,
     units: usize,
-    begins: &[u16],
+    unit_starts: &[u16],
     unit: usize,
     from: &mut u64,
     to: &mut u64,
 ) -> u8
-    ensures { λ r. ⌜ r ≡ spanRefusal (unitSlotsIs slots units (now (begins .entry)) unit) ⌝ }
-    ensures { λ _. ⌜ now (from .exit) ≡ spanFrom (now (from .entry)) (unitSlotsIs slots units (now (begins .entry)) unit) ⌝ }
-    ensures { λ _. ⌜ now (to .exit) ≡ spanTo (now (to .entry)) (unitSlotsIs slots units (now (begins .entry)) unit) ⌝ }
+    ensures { λ r. ⌜ r ≡ spanRefusal (unitSlotsIs slots units (now («unit_starts» .entry)) unit) ⌝ }
+    ensures { λ _. ⌜ now (from .exit) ≡ spanFrom (now (from .entry)) (unitSlotsIs slots units (now («unit_starts» .entry)) unit) ⌝ }
+    ensures { λ _. ⌜ now (to .exit) ≡ spanTo (now (to .entry)) (unitSlotsIs slots units (now («unit_starts» .entry)) unit) ⌝ }
 {
-    let span = units::unit_slots(slots, units, begins, unit);
+    let span = units::unit_slots(slots, units, unit_starts, unit);
     match span {
         UnitSlots::Span {
             from: low,
@@ -101,10 +101,10 @@ pub extern "C" fn boltraven_unit_slots(
 pub extern "C" fn boltraven_unit_of_slot(
     slots: usize,
     units: usize,
-    begins: &[u16],
+    unit_starts: &[u16],
     slot: usize,
 ) -> u64
-    ensures { λ r. ⌜ r ≡ plainNumber (unitOfSlotIs slots units (now (begins .entry)) slot) ⌝ }
+    ensures { λ r. ⌜ r ≡ plainNumber (unitOfSlotIs slots units (now («unit_starts» .entry)) slot) ⌝ }
 {
-    plain_number(units::unit_of_slot(slots, units, begins, slot))
+    plain_number(units::unit_of_slot(slots, units, unit_starts, slot))
 }

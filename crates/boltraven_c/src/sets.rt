@@ -26,103 +26,103 @@ ghost use Rattle.boltraven_c.specs.Numbers.{memberNumber, memberAt, memb
 // Whether slot i is a member: 1 or 0.
 #[no_mangle]
 pub extern "C" fn boltraven_contains(
-    words: &[u64],
     people: usize,
-    person: usize,
     len: usize,
+    words: &[u64],
+    person: usize,
     i: usize,
 ) -> u64
     ensures { λ r. ⌜ r ≡ yesNoNumber (yesNoAs (numberOf (personRow (now (words .entry)) people person len))
         (has (rowSlots (now (words .entry)) person) len i)) ⌝ }
 {
-    yes_no_number(row::contains(words, people, person, len, i))
+    yes_no_number(row::contains(people, len, words, person, i))
 }
 
 // Whether the row has no member: 1 or 0.
 #[no_mangle]
-pub extern "C" fn boltraven_is_empty(words: &[u64], people: usize, person: usize, len: usize) -> u64
+pub extern "C" fn boltraven_is_empty(people: usize, len: usize, words: &[u64], person: usize) -> u64
     ensures { λ r. ⌜ r ≡ yesNoNumber (yesNoAs (numberOf (personRow (now (words .entry)) people person len))
         (noMember (rowSlots (now (words .entry)) person) len)) ⌝ }
 {
-    yes_no_number(row::is_empty(words, people, person, len))
+    yes_no_number(row::is_empty(people, len, words, person))
 }
 
 // How many members the row has.
 #[no_mangle]
-pub extern "C" fn boltraven_count(words: &[u64], people: usize, person: usize, len: usize) -> u64
+pub extern "C" fn boltraven_count(people: usize, len: usize, words: &[u64], person: usize) -> u64
     ensures { λ r. ⌜ r ≡ plainNumber (numberAs (numberOf (personRow (now (words .entry)) people person len))
         (size (rowSlots (now (words .entry)) person) len)) ⌝ }
 {
-    plain_number(row::count(words, people, person, len))
+    plain_number(row::count(people, len, words, person))
 }
 
 // The first member at or after `from`.
 #[no_mangle]
 pub extern "C" fn boltraven_next_set(
-    words: &[u64],
     people: usize,
-    person: usize,
     len: usize,
+    words: &[u64],
+    person: usize,
     from: usize,
 ) -> u64
     ensures { λ r. ⌜ r ≡ foundNumber (foundAs (numberOf (personRow (now (words .entry)) people person len))
         (nextSet (rowSlots (now (words .entry)) person) len from)) ⌝ }
 {
-    found_number(row::next_set(words, people, person, len, from))
+    found_number(row::next_set(people, len, words, person, from))
 }
 
 // The last member at or before `from`.
 #[no_mangle]
 pub extern "C" fn boltraven_prev_set(
-    words: &[u64],
     people: usize,
-    person: usize,
     len: usize,
+    words: &[u64],
+    person: usize,
     from: usize,
 ) -> u64
     ensures { λ r. ⌜ r ≡ foundNumber (foundAs (numberOf (personRow (now (words .entry)) people person len))
         (prevSet (rowSlots (now (words .entry)) person) len from)) ⌝ }
 {
-    found_number(row::prev_set(words, people, person, len, from))
+    found_number(row::prev_set(people, len, words, person, from))
 }
 
 // The first slot after `from`, below the length, that is no member.
 #[no_mangle]
 pub extern "C" fn boltraven_next_unset_after(
-    words: &[u64],
     people: usize,
-    person: usize,
     len: usize,
+    words: &[u64],
+    person: usize,
     from: usize,
 ) -> u64
     ensures { λ r. ⌜ r ≡ foundNumber (foundAs (numberOf (personRow (now (words .entry)) people person len))
         (nextUnsetAfter (rowSlots (now (words .entry)) person) len from)) ⌝ }
 {
-    found_number(row::next_unset_after(words, people, person, len, from))
+    found_number(row::next_unset_after(people, len, words, person, from))
 }
 
 // The last slot before `from`, below the length, that is no member.
 #[no_mangle]
 pub extern "C" fn boltraven_prev_unset_before(
-    words: &[u64],
     people: usize,
-    person: usize,
     len: usize,
+    words: &[u64],
+    person: usize,
     from: usize,
 ) -> u64
     ensures { λ r. ⌜ r ≡ foundNumber (foundAs (numberOf (personRow (now (words .entry)) people person len))
         (prevUnsetBefore (rowSlots (now (words .entry)) person) len from)) ⌝ }
 {
-    found_number(row::prev_unset_before(words, people, person, len, from))
+    found_number(row::prev_unset_before(people, len, words, person, from))
 }
 
 // The run that holds slot i: 0, with its ends written; otherwise they stay.
 #[no_mangle]
 pub extern "C" fn boltraven_run_bounds(
-    words: &[u64],
     people: usize,
-    person: usize,
     len: usize,
+    words: &[u64],
+    person: usize,
     i: usize,
     first: &mut u64,
     last: &mut u64,
@@ -133,7 +133,7 @@ pub extern "C" fn boltraven_run_bounds(
     ensures { λ _. ⌜ now (last .exit)
         ≡ runLast (now (last .entry)) (rowRun (now (words .entry)) people person len i) ⌝ }
 {
-    let run = row::run_bounds(words, people, person, len, i);
+    let run = row::run_bounds(people, len, words, person, i);
     match run {
         Run::Span {
             first: low,
@@ -151,10 +151,10 @@ pub extern "C" fn boltraven_run_bounds(
 // The next run from the cursor on: 0, with its ends and the next cursor written; otherwise they stay.
 #[no_mangle]
 pub extern "C" fn boltraven_next_run(
-    words: &[u64],
     people: usize,
-    person: usize,
     len: usize,
+    words: &[u64],
+    person: usize,
     cursor: usize,
     first: &mut u64,
     last: &mut u64,
@@ -168,7 +168,7 @@ pub extern "C" fn boltraven_next_run(
     ensures { λ _. ⌜ now (next .exit)
         ≡ nextRunCursor (now (next .entry)) (rowNextRun (now (words .entry)) people person len cursor) ⌝ }
 {
-    let run = row::next_run(words, people, person, len, Cursor { at: cursor });
+    let run = row::next_run(people, len, words, person, Cursor { at: cursor });
     match run {
         NextRun::Span {
             first: low,
@@ -188,10 +188,10 @@ pub extern "C" fn boltraven_next_run(
 // The next member from the cursor on: 0, with its index and the next cursor written; otherwise they stay.
 #[no_mangle]
 pub extern "C" fn boltraven_next_member(
-    words: &[u64],
     people: usize,
-    person: usize,
     len: usize,
+    words: &[u64],
+    person: usize,
     cursor: usize,
     at: &mut u64,
     next: &mut u64,
@@ -202,7 +202,7 @@ pub extern "C" fn boltraven_next_member(
     ensures { λ _. ⌜ now (next .exit)
         ≡ memberCursor (now (next .entry)) (rowNextMember (now (words .entry)) people person len cursor) ⌝ }
 {
-    let member = row::next_member(words, people, person, len, Cursor { at: cursor });
+    let member = row::next_member(people, len, words, person, Cursor { at: cursor });
     match member {
         NextMember::Slot {
             at: slot,
@@ -226,17 +226,17 @@ fn changed_set(set: SlotSet, i: usize, want: bool) -> Changed
 
 // The row with slot i as wanted, by way of a set by value.
 fn put_by_value(
-    words: &mut [u64],
     people: usize,
-    person: usize,
     len: usize,
+    words: &mut [u64],
+    person: usize,
     i: usize,
     want: bool,
 ) -> u8
     ensures { λ r. ⌜ r ≡ numberOf (personStretchRow (now (words .entry)) people person len i (i + 1)) ⌝ }
     ensures { λ _. ⌜ now (words .exit) ≡ rowStretchOf (valueOf want) (now (words .entry)) people person len i (i + 1) ⌝ }
 {
-    let loaded = row::load(words, people, person, len);
+    let loaded = row::load(people, len, words, person);
     let number = loaded.number;
     if number == 0 {
         let set = loaded.set;
@@ -244,7 +244,7 @@ fn put_by_value(
         let refusal = changed.number;
         if refusal == 0 {
             let new = changed.set;
-            return row::store(new, words, people, person);
+            return row::store(people, new, words, person);
         }
         return refusal;
     }
@@ -254,40 +254,40 @@ fn put_by_value(
 // The row with slot i.
 #[no_mangle]
 pub extern "C" fn boltraven_insert(
-    words: &mut [u64],
     people: usize,
-    person: usize,
     len: usize,
+    words: &mut [u64],
+    person: usize,
     i: usize,
 ) -> u8
     ensures { λ r. ⌜ r ≡ numberOf (personStretchRow (now (words .entry)) people person len i (i + 1)) ⌝ }
     ensures { λ _. ⌜ now (words .exit) ≡ rowStretchOf 1 (now (words .entry)) people person len i (i + 1) ⌝ }
 {
-    put_by_value(words, people, person, len, i, true)
+    put_by_value(people, len, words, person, i, true)
 }
 
 // The row without slot i.
 #[no_mangle]
 pub extern "C" fn boltraven_remove(
-    words: &mut [u64],
     people: usize,
-    person: usize,
     len: usize,
+    words: &mut [u64],
+    person: usize,
     i: usize,
 ) -> u8
     ensures { λ r. ⌜ r ≡ numberOf (personStretchRow (now (words .entry)) people person len i (i + 1)) ⌝ }
     ensures { λ _. ⌜ now (words .exit) ≡ rowStretchOf 0 (now (words .entry)) people person len i (i + 1) ⌝ }
 {
-    put_by_value(words, people, person, len, i, false)
+    put_by_value(people, len, words, person, i, false)
 }
 
 // Every slot of the row from `from` up to `to`, without `to`, becomes as wanted.
 #[no_mangle]
 pub extern "C" fn boltraven_put_stretch(
-    words: &mut [u64],
     people: usize,
-    person: usize,
     len: usize,
+    words: &mut [u64],
+    person: usize,
     from: usize,
     to: usize,
     want: bool,
@@ -295,5 +295,5 @@ pub extern "C" fn boltraven_put_stretch(
     ensures { λ r. ⌜ r ≡ numberOf (personStretchRow (now (words .entry)) people person len from to) ⌝ }
     ensures { λ _. ⌜ now (words .exit) ≡ rowStretchOf (valueOf want) (now (words .entry)) people person len from to ⌝ }
 {
-    row::put_stretch(words, people, person, len, from, to, want)
+    row::put_stretch(people, len, words, person, from, to, want)
 }

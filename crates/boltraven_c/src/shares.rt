@@ -7,12 +7,12 @@ ghost use Rattle.targets.specs.Outcome.{given, computeTargets};
 pub extern "C" fn boltraven_compute_targets(
     people: usize,
     slots: usize,
+    fairness: u8,
     starts: &[u32],
     ends: &[u32],
     avail: &[u64],
     capacities: &[f64],
     priors: &[u32],
-    fairness: u8,
     out: &mut [i64],
 ) -> u8
     ensures { λ r. ⌜ r ≡ computeTargets
@@ -25,12 +25,12 @@ pub extern "C" fn boltraven_compute_targets(
     targets::compute_targets(
         people,
         slots,
+        fairness,
         starts,
         ends,
         avail,
         capacities,
         priors,
-        fairness,
         out,
     )
 }

@@ -39,11 +39,11 @@ pub extern "C" fn boltraven_merged_ranges(
 // The atomic slots, in two columns, and how many.
 #[no_mangle]
 pub extern "C" fn boltraven_atomise(
+    people: usize,
     slots: usize,
+    count: usize,
     starts: &[u32],
     ends: &[u32],
-    people: usize,
-    count: usize,
     persons: &[u16],
     opens: &[u32],
     shuts: &[u32],
@@ -62,11 +62,11 @@ pub extern "C" fn boltraven_atomise(
         (ranges count (now (persons .entry)) (now (opens .entry)) (now (shuts .entry))) (now (froms .entry)) (now (tos .entry))) .ends ⌝ }
 {
     plain_number(slots::atomise(
+        people,
         slots,
+        count,
         starts,
         ends,
-        people,
-        count,
         persons,
         opens,
         shuts,
@@ -80,9 +80,9 @@ pub extern "C" fn boltraven_atomise(
 pub extern "C" fn boltraven_availability(
     people: usize,
     slots: usize,
+    count: usize,
     starts: &[u32],
     ends: &[u32],
-    count: usize,
     persons: &[u16],
     opens: &[u32],
     shuts: &[u32],
@@ -96,9 +96,9 @@ pub extern "C" fn boltraven_availability(
     slots::availability(
         people,
         slots,
+        count,
         starts,
         ends,
-        count,
         persons,
         opens,
         shuts,

@@ -135,7 +135,8 @@ module _ (P : Plan) (avail : List ℕ) (units : ℕ) (begins frozen : List ℕ) 
 
   -- and so is the way it ends
   pub ended-by-columns : (r : ℕ) (o′ : List ℕ) (D′ : Derived) (x′ : List ℕ)
-      → Ended (plays (take (most (c .count)) (c .draws)) (take (most (c .count)) (c .firsts)) (take (most (c .count)) (c .seconds))) r o′ D′ x′
+      → Ended (plays (take (most (c .count)) (c .draws)) (take (most (c .count)) (c .firsts))
+          (take (most (c .count)) (c .seconds))) r o′ D′ x′
       → Ended (playedDraws P avail units begins frozen n ds o D x) r o′ D′ x′
   ended-by-columns r o′ D′ x′ e = subst (λ (y : Outcome). Ended y r o′ D′ x′) by-columns e
 

@@ -125,12 +125,12 @@ fn play_columns(
         avail,
         begins,
         frozen,
-        owners,
-        sets,
-        minutes,
         &draws[..n],
         &firsts[..n],
         &seconds[..n],
+        owners,
+        sets,
+        minutes,
         answers,
     )
 }

@@ -33,16 +33,18 @@ use Rattle.targets.proofs.Sized.{accepted-sized}
 use Rattle.owners.specs.Recount.{availableAt}
 use Rattle.slotset.specs.Answers.{numberRefusal}
 use Rattle.job.specs.Columns.{column, floatColumn}
-use Rattle.job.specs.Stages.{counted, blockStart, peopleOf, jobCountsOk, rangesOf, capacitiesOf, priorsOf, settingsIn, instantOf, drawsOf}
+use Rattle.job.specs.Stages.{counted, blockStart, peopleOf, jobCountsOk, rangesOf, capacitiesOf, priorsOf, settingsIn, instantOf}
+use Rattle.job.specs.Stages.{drawsOf}
 use Rattle.job.specs.Stages.{baseTotal, valueOf, baseOf, atomsOf, availIn, targetsIn, unitsIn, readyIn, readyOf, allEven, allKnown}
 use Rattle.job.specs.Stages.{writtenOf, ownersOf, startedOf}
 use Rattle.job.specs.Outcome.{AllPass, readRow, prepareRow, jobTests}
 use Rattle.job.proofs.Files.{length-column, column-at}
 use Rattle.job.proofs.Tests.{Numbered, Rising, step}
 use Rattle.job.proofs.Prepares.{few-says}
-use Rattle.job.proofs.Passing.{atoms-refused, AtomsSound, atoms-sound, avail-length, frozen-length, frozen-at, lent-room, shares-refused}
+use Rattle.job.proofs.Passing.{atoms-refused, AtomsSound, atoms-sound, avail-length, frozen-length, frozen-at, lent-room}
+use Rattle.job.proofs.Passing.{shares-refused}
 use Rattle.job.proofs.Passing.{units-refusal, units-right, units-fit, first-is, owners-known, owners-even, narrowed-length}
-use Rattle.job.proofs.Rotas.{RotaSound, start-no}
+use Rattle.job.proofs.Rotas.{RotaSound, start-number}
 
 -- ---- columns have the room that their counts may ask for
 
@@ -257,7 +259,7 @@ module _ (s : List ℕ) where
       (λ z. step figureTests (ownerTests ++ startTests) (lit< tt, (lit< tt, tt)) _ _
       (ap₂ (λ (x y : ℕ). unless x x y) T U ∙ figures-number few z)
       (λ f. step ownerTests startTests (lit< tt, (lit< tt, tt)) o r O
-      (λ e. W ∙ start-no R (drawsOf s) (ownersOf s) (rota-sound few z f e))))
+      (λ e. W ∙ start-number R (drawsOf s) (ownersOf s) (rota-sound few z f e))))
 
 -- ---- a job that passes all its tests
 

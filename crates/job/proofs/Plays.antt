@@ -35,7 +35,8 @@ module _ (R : Ready) (d : Draws) (o : List ℕ) (D : Derived) (e : playOf R d o 
   abbrev P : Plan
   P = planOf R
 
-  no : numberOf (rota.playRow P (R .avail) (R .units) (R .begins) (R .frozen) (d .count) (d .draws) (d .firsts) (d .seconds) o D (replicate 1024
+  no : numberOf (rota.playRow P (R .avail) (R .units) (R .begins) (R .frozen) (d .count) (d .draws) (d .firsts) (d .seconds) o D
+      (replicate 1024
       0)) ≡ 0
   unfolding playOf rota.played state.outcome
   number = e

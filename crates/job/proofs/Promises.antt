@@ -30,7 +30,8 @@ use Rattle.records.specs.Puts.{put}
 use Rattle.job.specs.Listing.{digits, listingOf, listingMost}
 use Rattle.job.specs.Digits.{readDigits}
 use Rattle.job.specs.File.{JobFile}
-use Rattle.job.specs.Stages.{counted, blockStart, instantOf, drawsOf, baseTotal, readyOf, ownersOf, planOf, startedOf, playedOf, listedOf}
+use Rattle.job.specs.Stages.{counted, blockStart, instantOf, drawsOf, baseTotal, readyOf, ownersOf, planOf, startedOf, playedOf}
+use Rattle.job.specs.Stages.{listedOf}
 use Rattle.job.specs.Outcome.{readRow, prepareRow, jobTests, testAt, Lowest, AllPass, Result, refusedAs, listedAs, Ends, jobResult}
 use Rattle.job.proofs.Tests.{number-none, number-lowest}
 use Rattle.job.proofs.Answered.{numbered, rising, free, sound, demand-is, targets-right, frozen-there}

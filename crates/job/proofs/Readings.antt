@@ -246,16 +246,19 @@ module _ {s c b : List ℕ} (K : ReadOk s c b) where
     unfolding startedOf startOf
     started-is = ap₂ (λ (R : Ready) (o : List ℕ). startOf R o) got-ready owners-is
 
-    owners-number : O .number ≡ numberOf (ownersRow s (blockStart s 5) (counted s 5) (readyOf s .slots) (readyOf s .people) (readyOf s .units)
+    owners-number : O .number ≡ numberOf (ownersRow s (blockStart s 5) (counted s 5) (readyOf s .slots) (readyOf s .people)
+        (readyOf s .units)
         (readyOf s .begins) (writtenOf s))
     owners-number =
         E .number
         ∙ ap₂ (λ (i j : ℕ). numberOf (ownersRow s i j (S .count) (getD c 2 0) (U .count) (U .begins)
         (placed s (getD b 5 0) (S .count) (getD c 5 0)))) (read-start 5) (read-count 5)
-        ∙ ap₂ (λ (R : Ready) (o : List ℕ). numberOf (ownersRow s (blockStart s 5) (counted s 5) (R .slots) (R .people) (R .units) (R .begins) o))
+        ∙ ap₂ (λ (R : Ready) (o : List ℕ). numberOf (ownersRow s (blockStart s 5) (counted s 5) (R .slots) (R .people) (R .units)
+            (R .begins) o))
         got-ready written-is
 
-    number-is : {figures rota rest no : ℕ} → figures ≡ unless (T .number) (T .number) (U .number) → rota ≡ unless (O .number) (O .number) (W .number)
+    number-is : {figures rota rest no : ℕ} → figures ≡ unless (T .number) (T .number) (U .number) → rota ≡ unless (O .number)
+        (O .number) (W .number)
         → rest ≡ unless figures figures rota → no ≡ unless (S .number) (S .number) rest → no ≡ numberOf (prepareRow s)
     unfolding ownersRow
     number-is f g h i =
@@ -266,7 +269,8 @@ module _ {s c b : List ℕ} (K : ReadOk s c b) where
         (units-are .number ∙ ap (λ (R : Ready). numberRefusal (unitsIn s (R .slots) (R .starts) (R .ends) .answer)) got-ready)
         owners-number (F .number ∙ ap (λ (y : state.Outcome). y .number) started-is)
 
-    pub prepared-are : {figures rota rest no : ℕ} → figures ≡ unless (T .number) (T .number) (U .number) → rota ≡ unless (O .number) (O .number) (W .number)
+    pub prepared-are : {figures rota rest no : ℕ} → figures ≡ unless (T .number) (T .number) (U .number) → rota ≡ unless (O .number)
+        (O .number) (W .number)
         → rest ≡ unless figures figures rota → no ≡ unless (S .number) (S .number) rest
         → PreparedAs s (record {
           number = no;

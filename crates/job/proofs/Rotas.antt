@@ -65,9 +65,9 @@ module _ (R : Ready) (d : Draws) (o : List ℕ) (H : RotaSound R d o) where
 
   -- ---- the number is 12 or none
 
-  pub start-no : startOf R o .number ≡ orElse (all (R .slots) (availableAt (R .avail) o)) 12 0
+  pub start-number : startOf R o .number ≡ orElse (all (R .slots) (availableAt (R .avail) o)) 12 0
   unfolding startOf state.fromSlots state.outcome state.fromSlotsRow state.lentRow numberOf
-  start-no =
+  start-number =
       simp (
         H .people-ok,
         H .count-ok,
@@ -84,7 +84,7 @@ module _ (R : Ready) (d : Draws) (o : List ℕ) (H : RotaSound R d o) where
     pub started : startOf R o .derived ≡ afresh P o none
     unfolding startOf state.fromSlots state.outcome unless
     started =
-        sym (when-none (startOf R o .number) (afresh P o none) none (start-no ∙ ap (λ (b : Bool). orElse b 12 0) free))
+        sym (when-none (startOf R o .number) (afresh P o none) none (start-number ∙ ap (λ (b : Bool). orElse b 12 0) free))
 
     in-step : InStep P o (afresh P o none)
     in-step =
@@ -107,7 +107,8 @@ module _ (R : Ready) (d : Draws) (o : List ℕ) (H : RotaSound R d o) where
 
     abbrev no : ℕ
     no =
-        numberOf (rota.playRow P (R .avail) (R .units) (R .begins) (R .frozen) (d .count) (d .draws) (d .firsts) (d .seconds) o (afresh P o none)
+        numberOf (rota.playRow P (R .avail) (R .units) (R .begins) (R .frozen) (d .count) (d .draws) (d .firsts) (d .seconds) o
+            (afresh P o none)
         (replicate 1024 0))
 
     play-room : rota.playRoomOk (R .units) (R .begins) (R .frozen) (d .count) (d .draws) (d .firsts) (d .seconds) (replicate 1024 0) ≡ true

@@ -197,7 +197,8 @@ startOf R o = state.fromSlots (planOf R) (R .avail) o (derived (replicate 512 0)
 
 unfoldable pub playOf : Ready → Draws → List ℕ → Derived → state.Outcome
 playOf R d o D =
-    rota.played (planOf R) (R .avail) (R .units) (R .begins) (R .frozen) (d .count) (d .draws) (d .firsts) (d .seconds) o D (replicate 1024 0)
+    rota.played (planOf R) (R .avail) (R .units) (R .begins) (R .frozen) (d .count) (d .draws) (d .firsts) (d .seconds) o D
+        (replicate 1024 0)
 
 unfoldable pub startedOf : List ℕ → state.Outcome
 startedOf s = startOf (readyOf s) (ownersOf s)

@@ -38,11 +38,11 @@ pub(crate) fn settings_in(s: &[u8]) -> Settings
 
 // The atomic slots. Refusals 3, 4 and 5 (1 and 2 are ruled out by the counts).
 pub(crate) fn atoms_of(
+    people: usize,
     slots: usize,
+    count: usize,
     starts: &[u32],
     ends: &[u32],
-    people: usize,
-    count: usize,
     persons: &[u16],
     opens: &[u32],
     shuts: &[u32],
@@ -53,11 +53,11 @@ pub(crate) fn atoms_of(
     let mut froms = [0u32; 1024];
     let mut tos = [0u32; 1024];
     let answer = slots::atomise(
+        people,
         slots,
+        count,
         starts,
         ends,
-        people,
-        count,
         persons,
         opens,
         shuts,
@@ -99,11 +99,11 @@ pub(crate) fn frozen_in(
 }
 
 // The units. Refusal 7.
-pub(crate) fn units_of(settings: Settings, slots: usize, starts: &[u32], ends: &[u32]) -> JobUnits
+pub(crate) fn units_of(slots: usize, settings: Settings, starts: &[u32], ends: &[u32]) -> JobUnits
     ensures { λ r. ⌜ UnitsAs (unitStartsIs settings slots (now (starts .entry)) (now (ends .entry)) (replicate 1024 0)) r ⌝ }
 {
     let mut begins = [0u16; 1024];
-    let answer = units::unit_starts(settings, slots, starts, ends, &mut begins);
+    let answer = units::unit_starts(slots, settings, starts, ends, &mut begins);
     match answer {
         Number::Is(n) => JobUnits {
             number: 0,
@@ -122,12 +122,12 @@ pub(crate) fn units_of(settings: Settings, slots: usize, starts: &[u32], ends: &
 pub(crate) fn targets_of(
     people: usize,
     slots: usize,
+    fairness: u8,
     starts: &[u32],
     ends: &[u32],
     avail: &[u64],
     capacities: &[f64],
     priors: &[u32],
-    fairness: u8,
 ) -> JobTargets
     ensures { λ r. ⌜ TargetsAs (computeTargets (given people slots (now (starts .entry)) (now (ends .entry)) (now (avail .entry))
         (now (capacities .entry)) (now (priors .entry)) fairness) (replicate 32 (pos 0))) r ⌝ }
@@ -136,12 +136,12 @@ pub(crate) fn targets_of(
     let number = targets::compute_targets(
         people,
         slots,
+        fairness,
         starts,
         ends,
         avail,
         capacities,
         priors,
-        fairness,
         &mut out,
     );
     JobTargets {
@@ -154,9 +154,9 @@ pub(crate) fn targets_of(
 pub(crate) fn avail_of(
     people: usize,
     slots: usize,
+    count: usize,
     starts: &[u32],
     ends: &[u32],
-    count: usize,
     persons: &[u16],
     opens: &[u32],
     shuts: &[u32],
@@ -168,9 +168,9 @@ pub(crate) fn avail_of(
     slots::availability(
         people,
         slots,
+        count,
         starts,
         ends,
-        count,
         persons,
         opens,
         shuts,

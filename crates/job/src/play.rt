@@ -53,7 +53,11 @@ pub(crate) fn start_rota(
         &mut sets,
         &mut minutes,
     );
-    Started { number, sets, minutes }
+    Started {
+        number,
+        sets,
+        minutes,
+    }
 }
 
 // The draws.
@@ -67,12 +71,12 @@ fn play_draws(
     avail: &[u64],
     begins: &[u16],
     frozen: &[u64],
-    owners: [u8; 1024],
-    sets: [u64; 512],
-    minutes: [u64; 32],
     draws: &[u16],
     firsts: &[u16],
     seconds: &[u16],
+    owners: [u8; 1024],
+    sets: [u64; 512],
+    minutes: [u64; 32],
 ) -> Played
     ensures { λ r. ⌜ PlayedAs (played (plan people slots (now (starts .entry)) (now (ends .entry))) (now (avail .entry)) units
         (now (begins .entry)) (now (frozen .entry)) count (now (draws .entry)) (now (firsts .entry)) (now (seconds .entry)) owners
@@ -92,12 +96,12 @@ fn play_draws(
         avail,
         begins,
         frozen,
-        &mut o,
-        &mut s,
-        &mut m,
         draws,
         firsts,
         seconds,
+        &mut o,
+        &mut s,
+        &mut m,
         &mut answers,
     );
     Played {
@@ -137,12 +141,12 @@ pub(crate) fn play(file: &[u8], counts: [usize; 8], blocks: [usize; 8], p: Prepa
         &avail,
         &begins,
         &frozen,
-        owners,
-        sets,
-        minutes,
         &draws,
         &firsts,
         &seconds,
+        owners,
+        sets,
+        minutes,
     )
 }
 

@@ -34,15 +34,15 @@ fn slots_in(file: &[u8], counts: [usize; 8], blocks: [usize; 8]) -> JobSlots
     let opens = column32(file, range + 6, 14, m);
     let shuts = column32(file, range + 10, 14, m);
     let people = counts[2];
-    let atoms = atoms_of(n, &starts, &ends, people, m, &persons, &opens, &shuts);
+    let atoms = atoms_of(people, n, m, &starts, &ends, &persons, &opens, &shuts);
     let froms = atoms.starts;
     let tos = atoms.ends;
     let avail = avail_of(
         people,
         atoms.count,
+        m,
         &froms,
         &tos,
-        m,
         &persons,
         &opens,
         &shuts,
@@ -77,12 +77,12 @@ fn targets_in(
     targets_of(
         people,
         slots,
+        settings.fairness,
         starts,
         ends,
         avail,
         &capacities,
         &priors,
-        settings.fairness,
     )
 }
 
@@ -127,7 +127,7 @@ pub(crate) fn prepare(file: &[u8], counts: [usize; 8], blocks: [usize; 8]) -> Pr
     let avail = s.avail;
     let t = targets_in(file, counts, blocks, slots, &starts, &ends, &avail);
     let settings = settings_in(file);
-    let u = units_of(settings, slots, &starts, &ends);
+    let u = units_of(slots, settings, &starts, &ends);
     let begins = u.begins;
     let o = owners_of(file, blocks[5], counts[5], slots, people, u.count, &begins);
     let owners = o.owners;

@@ -30,9 +30,9 @@ pub(crate) fn lent_refusal(
     let f = paper::check_slots(f, slots);
     let f = paper::check(f, counts, 1);
     let f = slots::check_room(f, slots, starts, ends);
-    let f = paper::check_words(f, avail, people);
+    let f = paper::check_words(f, people, avail);
     let f = paper::check(f, slots <= owners.len(), 2);
-    let f = paper::check_words(f, sets, people);
+    let f = paper::check_words(f, people, sets);
     let f = paper::check(f, people <= minutes.len(), 2);
     let f = paper::check(f, room, 2);
     slots::check_order(f, slots, starts, ends, 9)
@@ -49,7 +49,12 @@ pub(crate) fn check_known(before: Refusal, people: usize, slots: usize, owners: 
 }
 
 // Rule 12 of owners: each is available.
-pub(crate) fn check_available(before: Refusal, slots: usize, avail: &[u64], owners: &[u8]) -> Refusal
+pub(crate) fn check_available(
+    before: Refusal,
+    slots: usize,
+    avail: &[u64],
+    owners: &[u8],
+) -> Refusal
     ensures { λ r. ⌜ r ≡ next before (test 12 (all slots (availableAt (now (avail .entry)) (now (owners .entry))))) ⌝ }
 {
     if before.number == 0 {

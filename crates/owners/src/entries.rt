@@ -79,13 +79,19 @@ pub fn from_slots(
 }
 
 // What stands against an empty rota: 1 or 2.
-fn empty_refusal(people: usize, slots: usize, owners: &[u8], sets: &[u64], minutes: &[u64]) -> Refusal
+fn empty_refusal(
+    people: usize,
+    slots: usize,
+    owners: &[u8],
+    sets: &[u64],
+    minutes: &[u64],
+) -> Refusal
     ensures { λ r. ⌜ r ≡ refusalOf (emptyRow people slots (now (owners .entry)) (derived (now (sets .entry)) (now (minutes .entry)))) ⌝ }
 {
     let f = paper::check_people(paper::accepted(), people);
     let f = paper::check_slots(f, slots);
     let f = paper::check(f, slots <= owners.len(), 2);
-    let f = paper::check_words(f, sets, people);
+    let f = paper::check_words(f, people, sets);
     paper::check(f, people <= minutes.len(), 2)
 }
 
@@ -164,7 +170,7 @@ pub fn slots_of(people: usize, slots: usize, sets: &[u64], person: usize) -> Cha
     ensures { λ r. ⌜ r ≡ slotsOfIs people slots (now (sets .entry)) person ⌝ }
 {
     if paper::slot_count_ok(slots) {
-        return slotset::row::load(sets, people, person, slots);
+        return slotset::row::load(people, slots, sets, person);
     }
     let none = [0u64; 16];
     Changed {
@@ -192,13 +198,19 @@ pub fn unassigned_count(people: usize, slots: usize, owners: &[u8]) -> Number
 {
     let n = unassigned_refusal(people, slots, owners).number;
     if n == 0 {
-        return Number::Is(count_nobody(owners, slots));
+        return Number::Is(count_nobody(slots, owners));
     }
     Number::Refused(n)
 }
 
 // What stands against telling the minutes that nobody owns: 1, 2, 9 or 11.
-fn uncovered_refusal(people: usize, slots: usize, starts: &[u32], ends: &[u32], owners: &[u8]) -> Refusal
+fn uncovered_refusal(
+    people: usize,
+    slots: usize,
+    starts: &[u32],
+    ends: &[u32],
+    owners: &[u8],
+) -> Refusal
     ensures { λ r. ⌜ r ≡ refusalOf (uncoveredRow (plan people slots (now (starts .entry)) (now (ends .entry))) (now (owners .entry))) ⌝ }
 {
     let f = paper::check_people(paper::accepted(), people);

@@ -210,7 +210,7 @@ pub(crate) fn first_wrong_minutes(
 }
 
 // How many of the slots nobody owns.
-pub(crate) fn count_nobody(owners: &[u8], slots: usize) -> usize
+pub(crate) fn count_nobody(slots: usize, owners: &[u8]) -> usize
     ensures { λ r. ⌜ r ≡ unassigned slots (now (owners .entry)) ⌝ }
 {
     let mut n: usize = 0;

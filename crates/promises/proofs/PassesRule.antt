@@ -84,7 +84,8 @@ pinned-below-zero : (n sum : Float) (ls : List Standing) → PinsSomebody ls (ma
 pinned-below-zero n sum [] x = absurd x
 pinned-below-zero n sum (l ∷ ls) x =
     ⊎-elim
-    (λ (a : (l .pinned ≡ false) × (settle n sum l .pinned ≡ true)). or-left _ (some (belowZero n sum) ls) (below-zero-one n sum l (a .0) (a .1)))
+    (λ (a : (l .pinned ≡ false) × (settle n sum l .pinned ≡ true)). or-left _ (some (belowZero n sum) ls)
+        (below-zero-one n sum l (a .0) (a .1)))
     (λ (b : PinsSomebody ls (map (settle n sum) ls)). or-second (belowZero n sum l) _ (pinned-below-zero n sum ls b)) x
 
 passing : (k demand : ℕ) (ls left : List Standing) → passes k demand (again ls) ≡ done left → Passing k demand ls left

@@ -58,12 +58,14 @@ module _ (c : Call) (e : noOf c ≡ 0) where
 
   sound : BoardSound B
   sound =
-      asks-sound (c .plan) (c .avail) (c .units) (c .begins) (c .frozen) (c .count) (c .draws) (c .firsts) (c .seconds) (c .owners) (c .derived)
+      asks-sound (c .plan) (c .avail) (c .units) (c .begins) (c .frozen) (c .count) (c .draws) (c .firsts) (c .seconds)
+          (c .owners) (c .derived)
       (c .answers) (asks c e)
 
   even : Even B (c .owners)
   even =
-      asks-even (c .plan) (c .avail) (c .units) (c .begins) (c .frozen) (c .count) (c .draws) (c .firsts) (c .seconds) (c .owners) (c .derived)
+      asks-even (c .plan) (c .avail) (c .units) (c .begins) (c .frozen) (c .count) (c .draws) (c .firsts) (c .seconds)
+          (c .owners) (c .derived)
       (c .answers) (asks c e)
 
   abbrev first : ℕ → List Draw

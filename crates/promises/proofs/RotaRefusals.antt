@@ -66,7 +66,8 @@ assign-refuses P avail o D k w =
     outcome-refuses (rota.assignRow P avail o D k w) o D [] (set o k w) (afresh P (set o k w) D) [] refl
 
 recount-number : (counts room : Bool) (P : Plan) (avail : List ℕ) (units : ℕ) (begins o : List ℕ) (D : Derived)
-    → GivenByTests (state.recountRow counts room P avail units begins o D) (numberOf (state.recountRow counts room P avail units begins o D))
+    → GivenByTests (state.recountRow counts room P avail units begins o D)
+        (numberOf (state.recountRow counts room P avail units begins o D))
 unfolding state.recountRow state.lentRow recountTests
 recount-number counts room P avail units begins o D = tests-give (state.recountRow counts room P avail units begins o D) refl
 
@@ -95,7 +96,8 @@ owner-number : (people slots : ℕ) (o : List ℕ) (k : ℕ)
 unfolding state.ownerIs state.ownerRow
 owner-number people slots o k = given-as (state.ownerRow people slots o k) _ refl (number-said _ (getD o k 0))
 
-minutes-number : (people : ℕ) (m : List ℕ) (p : ℕ) → GivenByTests (state.minutesRow people m p) (minutesRefusal (state.minutesIs people m p))
+minutes-number : (people : ℕ) (m : List ℕ) (p : ℕ) → GivenByTests (state.minutesRow people m p)
+    (minutesRefusal (state.minutesIs people m p))
 unfolding state.minutesIs state.minutesRow
 minutes-number people m p = given-as (state.minutesRow people m p) _ refl (minutes-said _ (getD m p 0))
 

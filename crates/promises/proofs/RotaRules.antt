@@ -297,7 +297,8 @@ owner-is : (people slots : ℕ) (o : List ℕ) (k : ℕ) → numberRefusal (owne
 unfolding ownerIs
 owner-is people slots o k e = number-given _ (getD o k 0) e
 
-minutes-of-is : (people : ℕ) (m : List ℕ) (p : ℕ) → minutesRefusal (minutesIs people m p) ≡ 0 → minutesIs people m p ≡ minutes.Is (getD m p 0)
+minutes-of-is : (people : ℕ) (m : List ℕ) (p : ℕ) → minutesRefusal (minutesIs people m p) ≡ 0 → minutesIs people m p ≡
+    minutes.Is (getD m p 0)
 unfolding minutesIs
 minutes-of-is people m p e = minutes-given _ (getD m p 0) e
 

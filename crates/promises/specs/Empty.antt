@@ -30,7 +30,8 @@ pub data AlwaysRefuses (C : Component) : Type 0 where
   refuses-atomise : ((B : Base) → numberRefusal (C .atomise B .answer) ≡ 0 → ⊥) → AlwaysRefuses C
   refuses-available : ((p n : ℕ) (ws : List ℕ) (i k : ℕ) → yesNoRefusal (C .available p n ws i k) ≡ 0 → ⊥) → AlwaysRefuses C
   refuses-targets : ((g : targets.Given) (out : List ℤ) → C .targets g out .number ≡ 0 → ⊥) → AlwaysRefuses C
-  refuses-rotations : ((s : Settings) (n : ℕ) (starts ends list : List ℕ) → numberRefusal (C .rotations s n starts ends list .answer) ≡ 0 → ⊥)
+  refuses-rotations : ((s : Settings) (n : ℕ) (starts ends list : List ℕ) → numberRefusal
+      (C .rotations s n starts ends list .answer) ≡ 0 → ⊥)
       → AlwaysRefuses C
   refuses-play : ((c : Call) → C .play c .number ≡ 0 → ⊥) → AlwaysRefuses C
   refuses-uncovered : ((P : Plan) (o : List ℕ) → minutesRefusal (C .uncovered P o) ≡ 0 → ⊥) → AlwaysRefuses C

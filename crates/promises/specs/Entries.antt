@@ -53,7 +53,8 @@ pub record Call : Type 0 where
 -- its tests, the number that it gives, and its whole outcome
 abbrev pub rowOf : Call → List Test
 rowOf c =
-    rota.playRow (c .plan) (c .avail) (c .units) (c .begins) (c .frozen) (c .count) (c .draws) (c .firsts) (c .seconds) (c .owners) (c .derived)
+    rota.playRow (c .plan) (c .avail) (c .units) (c .begins) (c .frozen) (c .count) (c .draws) (c .firsts) (c .seconds)
+        (c .owners) (c .derived)
     (c .answers)
 
 abbrev pub noOf : Call → ℕ
@@ -61,7 +62,8 @@ noOf c = numberOf (rowOf c)
 
 abbrev pub playOf : Call → state.Outcome
 playOf c =
-    rota.played (c .plan) (c .avail) (c .units) (c .begins) (c .frozen) (c .count) (c .draws) (c .firsts) (c .seconds) (c .owners) (c .derived)
+    rota.played (c .plan) (c .avail) (c .units) (c .begins) (c .frozen) (c .count) (c .draws) (c .firsts) (c .seconds)
+        (c .owners) (c .derived)
     (c .answers)
 
 -- the board that it is played on, its draws as a list, and the owners that the rules give

@@ -53,7 +53,8 @@ pub record SetsRefuse : Type 0 where
   pub stretch : (v : ℕ) (s : SlotSet) (a e : ℕ)
       → Refuses (rules (stretchRow (s .len) a e)) (stretchOf v s a e .number) s (stretchOf v s a e .set)
   -- the same questions and writes of a person's row, and everybody's sets compared
-  pub rows : (ws : List ℕ) (people person len : ℕ) → GivenByTests (personRow ws people person len) (numberOf (personRow ws people person len))
+  pub rows : (ws : List ℕ) (people person len : ℕ) → GivenByTests (personRow ws people person len)
+      (numberOf (personRow ws people person len))
   pub same-sets : (ws vs : List ℕ) (people len : ℕ) → GivenByTests (sameSetsRow ws vs people len) (numberOf (sameSetsRow ws vs people len))
   pub load : (ws : List ℕ) (people person len : ℕ) → GivenByTests (personRow ws people person len) (loadOf ws people person len .number)
   pub store : (s : SlotSet) (ws : List ℕ) (people person : ℕ)

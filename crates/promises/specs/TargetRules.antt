@@ -50,7 +50,8 @@ pub record Beyond (demand : ℕ) (ls : List Standing) : Type 0 where
 
 pub record TargetsByRule : Type 0 where
   -- what the passes begin with: a line a person, in person order, target 0 and unpinned
-  pub standings : (g : Given) (k : ℕ) → k < g .people → getD (standingsIn g) k pad ≡ standingOf (personAt (g .capacities) (g .priors) k) (baseAt g k)
+  pub standings : (g : Given) (k : ℕ) → k < g .people → getD (standingsIn g) k pad ≡ standingOf
+      (personAt (g .capacities) (g .priors) k) (baseAt g k)
   pub begins : (p : Person) (base : ℕ) → (standingOf p base .target ≡ 0) × (standingOf p base .pinned ≡ false)
   -- "Raw share is capacity times demand (fairness 1) or times their available minutes (fairness 0)."
   pub share : (p : Person) (base : ℕ) → standingOf p base .raw ≡ mul binary64 (p .capacity) (whole base)

@@ -27,7 +27,7 @@ pub record Ran (P : Plan) (B : Board) (o : List ℕ) (D : Derived) (x : List ℕ
 
 -- room in the columns of draws and answers
 pub record DrawRoom (n : ℕ) (ks fs ss x : List ℕ) : Type 0 where
-  pub kinds : n ≤ length ks
-  pub begins : n ≤ length fs
+  pub draws : n ≤ length ks
+  pub firsts : n ≤ length fs
   pub seconds : n ≤ length ss
   pub answers : n ≤ length x

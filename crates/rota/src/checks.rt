@@ -19,5 +19,8 @@ pub(crate) fn play_room_ok(
 {
     let last = both(count <= seconds.len(), count <= answers.len());
     let columns = both(count <= draws.len(), both(count <= firsts.len(), last));
-    both(units <= begins.len(), both(paper::SET_WORDS <= frozen.len(), columns))
+    both(
+        units <= begins.len(),
+        both(paper::SET_WORDS <= frozen.len(), columns),
+    )
 }

@@ -147,12 +147,12 @@ fn run(
     begins: &[u16],
     fits: &[u32],
     flags: &[u8],
-    owners: &mut [u8],
-    sets: &mut [u64],
-    minutes: &mut [u64],
     draws: &[u16],
     firsts: &[u16],
     seconds: &[u16],
+    owners: &mut [u8],
+    sets: &mut [u64],
+    minutes: &mut [u64],
     answers: &mut [u8],
 )
     requires { ⌜ PlanSound (plan people slots (now starts) (now ends)) ⌝ }
@@ -199,12 +199,12 @@ fn play_refusal(
     avail: &[u64],
     begins: &[u16],
     frozen: &[u64],
-    owners: &[u8],
-    sets: &[u64],
-    minutes: &[u64],
     draws: &[u16],
     firsts: &[u16],
     seconds: &[u16],
+    owners: &[u8],
+    sets: &[u64],
+    minutes: &[u64],
     answers: &[u8],
 ) -> Refusal
     ensures { λ r. ⌜ r ≡ refusalOf (playRow (plan people slots (now (starts .entry)) (now (ends .entry))) (now (avail .entry)) units (now
@@ -213,7 +213,16 @@ fn play_refusal(
 {
     owners::recounted(
         count <= paper::DRAWS_MOST,
-        play_room_ok(units, count, begins, frozen, draws, firsts, seconds, answers),
+        play_room_ok(
+            units,
+            count,
+            begins,
+            frozen,
+            draws,
+            firsts,
+            seconds,
+            answers,
+        ),
         people,
         slots,
         units,
@@ -238,12 +247,12 @@ pub fn play(
     avail: &[u64],
     begins: &[u16],
     frozen: &[u64],
-    owners: &mut [u8],
-    sets: &mut [u64],
-    minutes: &mut [u64],
     draws: &[u16],
     firsts: &[u16],
     seconds: &[u16],
+    owners: &mut [u8],
+    sets: &mut [u64],
+    minutes: &mut [u64],
     answers: &mut [u8],
 ) -> u8
     ensures { λ r. ⌜ Ended (played (plan people slots (now (starts .entry)) (now (ends .entry))) (now (avail .entry)) units (now
@@ -261,17 +270,17 @@ pub fn play(
         avail,
         begins,
         frozen,
-        owners,
-        sets,
-        minutes,
         draws,
         firsts,
         seconds,
+        owners,
+        sets,
+        minutes,
         answers,
     ).number;
     if n == 0 {
         let mut fits = [0u32; 1024];
-        units::unit_domains(avail, people, slots, units, begins, &mut fits);
+        units::unit_domains(people, slots, units, avail, begins, &mut fits);
         let flags = frozen_of(slots, units, begins, frozen);
         run(
             people,
@@ -283,12 +292,12 @@ pub fn play(
             begins,
             &fits,
             &flags,
-            owners,
-            sets,
-            minutes,
             draws,
             firsts,
             seconds,
+            owners,
+            sets,
+            minutes,
             answers,
         );
         return 0;

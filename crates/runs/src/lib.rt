@@ -27,7 +27,7 @@ pub struct Runs<'a> {
 fn run_at(words: &[u64], people: usize, person: usize, len: usize, at: usize) -> NextRun
     ensures { λ r. ⌜ r ≡ rowNextRun (now (words .entry)) people person len at ⌝ }
 {
-    row::next_run(words, people, person, len, Cursor { at })
+    row::next_run(people, len, words, person, Cursor { at })
 }
 
 // Where a reader that stood at `at` stands after an answer.
@@ -98,10 +98,17 @@ pub fn run_from(words: &[u64], people: usize, person: usize, len: usize, at: usi
 }
 
 // What stands against a list of all runs in two columns of n and m entries: 1, 2 or 11.
-fn list_refusal(words: &[u64], people: usize, person: usize, len: usize, n: usize, m: usize) -> Refusal
+fn list_refusal(
+    words: &[u64],
+    people: usize,
+    person: usize,
+    len: usize,
+    n: usize,
+    m: usize,
+) -> Refusal
     ensures { λ r. ⌜ r ≡ refusalOf (runsRow (now (words .entry)) people person len n m) ⌝ }
 {
-    let f = paper::check(row::sets_refusal(words, people, len), len <= n, 2);
+    let f = paper::check(row::sets_refusal(people, len, words), len <= n, 2);
     let f = paper::check(f, len <= m, 2);
     paper::check(f, person < people, 11)
 }

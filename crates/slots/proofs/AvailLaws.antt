@@ -344,7 +344,8 @@ module _ (slots : ℕ) (words : List ℕ) (people person slot no : ℕ) (e : no 
       let h = passed (availableRow people slots words person slot) refl z in
       says-row words people person slots (h 0) (slot-count-says slots (h 1) .1) (leb-true _ _ (h 2)) (ltb-true _ _ (h 3))
 
-  pub available-answered : no ≡ 0 → (r : YesNo) → r ≡ yesNoAs (rowRefusal words people person slots) (has (rowSlots words person) slots slot)
+  pub available-answered : no ≡ 0 → (r : YesNo) → r ≡ yesNoAs (rowRefusal words people person slots)
+      (has (rowSlots words person) slots slot)
       → r ≡ isAvailable people slots words person slot
   unfolding isAvailable
   available-answered h r d =

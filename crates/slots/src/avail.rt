@@ -69,7 +69,7 @@ fn fill_row(
     while k < slots {
         opened = opened_by_from(keys, n, opened, base + starts[k] as u64);
         let want = reaches(keys, opened, base + ends[k] as u64);
-        row::put_stretch(words, people, person, slots, k, k + 1, want);
+        row::put_stretch(people, slots, words, person, k, k + 1, want);
         k += 1;
     }
 }
@@ -101,9 +101,9 @@ fn fill_rows(
 fn availability_refusal(
     people: usize,
     slots: usize,
+    count: usize,
     starts: &[u32],
     ends: &[u32],
-    count: usize,
     persons: &[u16],
     opens: &[u32],
     shuts: &[u32],
@@ -117,7 +117,7 @@ fn availability_refusal(
     let f = ranges::check_range_count(f, count);
     let f = lent::check_room(f, slots, starts, ends);
     let f = ranges::check_range_room(f, count, persons, opens, shuts);
-    let f = paper::check_words(f, words, people);
+    let f = paper::check_words(f, people, words);
     let f = ranges::check_ranges(f, people, count, persons, opens, shuts);
     lent::check_order(f, slots, starts, ends, 9)
 }
@@ -126,9 +126,9 @@ fn availability_refusal(
 pub fn availability(
     people: usize,
     slots: usize,
+    count: usize,
     starts: &[u32],
     ends: &[u32],
-    count: usize,
     persons: &[u16],
     opens: &[u32],
     shuts: &[u32],
@@ -142,9 +142,9 @@ pub fn availability(
     let number = availability_refusal(
         people,
         slots,
+        count,
         starts,
         ends,
-        count,
         persons,
         opens,
         shuts,
@@ -161,12 +161,18 @@ pub fn availability(
 }
 
 // What is wrong with the question: 1, 2 or 11.
-fn available_refusal(people: usize, slots: usize, avail: &[u64], person: usize, slot: usize) -> Refusal
+fn available_refusal(
+    people: usize,
+    slots: usize,
+    avail: &[u64],
+    person: usize,
+    slot: usize,
+) -> Refusal
     ensures { λ r. ⌜ r ≡ refusalOf (availableRow people slots (now (avail .entry)) person slot) ⌝ }
 {
     let f = paper::check_people(paper::accepted(), people);
     let f = paper::check_slots(f, slots);
-    let f = paper::check_words(f, avail, people);
+    let f = paper::check_words(f, people, avail);
     let f = paper::check(f, person < people, 11);
     paper::check(f, slot < slots, 11)
 }
@@ -177,7 +183,7 @@ pub fn is_available(people: usize, slots: usize, avail: &[u64], person: usize, s
 {
     let number = available_refusal(people, slots, avail, person, slot).number;
     if number == 0 {
-        return row::contains(avail, people, person, slots, slot);
+        return row::contains(people, slots, avail, person, slot);
     }
     YesNo::Refused(number)
 }

@@ -35,7 +35,7 @@ fn freeze_refusal(slots: usize, starts: &[u32], ends: &[u32], frozen: &[u64]) ->
 {
     let f = paper::check_slots(paper::accepted(), slots);
     let f = lent::check_room(f, slots, starts, ends);
-    let f = paper::check_words(f, frozen, 1);
+    let f = paper::check_words(f, 1, frozen);
     lent::check_order(f, slots, starts, ends, 9)
 }
 
@@ -53,7 +53,7 @@ pub fn freeze_before(
     let number = freeze_refusal(slots, starts, ends, frozen).number;
     if number == 0 {
         let n = ended_by(slots, ends, instant);
-        row::put_stretch(frozen, 1, 0, slots, 0, n, true);
+        row::put_stretch(1, slots, frozen, 0, 0, n, true);
         return Number::Is(n);
     }
     Number::Refused(number)

@@ -154,11 +154,11 @@ fn blank_column() -> [u32; 1024] {
 
 // What is wrong with what splitting takes: 1 to 4.
 fn base_refusal(
+    people: usize,
     slots: usize,
+    count: usize,
     starts: &[u32],
     ends: &[u32],
-    people: usize,
-    count: usize,
     persons: &[u16],
     opens: &[u32],
     shuts: &[u32],
@@ -180,11 +180,11 @@ fn base_refusal(
 
 // The base slots split at every start and end of a merged range that lies strictly inside one, with their number. Refusals 1 to 5.
 pub fn atomise(
+    people: usize,
     slots: usize,
+    count: usize,
     starts: &[u32],
     ends: &[u32],
-    people: usize,
-    count: usize,
     persons: &[u16],
     opens: &[u32],
     shuts: &[u32],
@@ -197,11 +197,11 @@ pub fn atomise(
         r (now (froms .exit)) (now (tos .exit)) ⌝ }
 {
     let number = base_refusal(
+        people,
         slots,
+        count,
         starts,
         ends,
-        people,
-        count,
         persons,
         opens,
         shuts,

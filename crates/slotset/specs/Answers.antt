@@ -2,7 +2,7 @@
 use mathlib.Core.Bool.{Bool, _||_, cond}
 use mathlib.Core.List.{List, [], _∷_, _++_}
 use Prim.Native.Nat.{ℕ, _+_, _-_, _*_}
-use lib.Dec.{eqb, ltb, leb}
+use lib.Dec.{ltb, leb}
 use lib.ListN.{length, take, drop, replicate}
 use Rattle.paper.specs.Count.{all}
 use Rattle.paper.specs.Limits.{slotsMost, setWords, peopleOk, Test, test, numberOf}
@@ -167,7 +167,3 @@ storeOf s ws people person =
 unfoldable pub rowStretchOf : ℕ → List ℕ → ℕ → ℕ → ℕ → ℕ → ℕ → List ℕ
 rowStretchOf v ws people person len a e =
     unless (numberOf (personStretchRow ws people person len a e)) ws (putSlots (λ _. v) (16 * person) a (e - a) ws)
-
--- the same by another name, for crates whose outcomes cite it
-unfoldable pub wordsAs : ℕ → List ℕ → List ℕ → List ℕ
-wordsAs n old new = cond (eqb n 0) new old

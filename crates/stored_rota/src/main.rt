@@ -226,12 +226,12 @@ fn play_on(
         &able,
         lent_firsts(&from, half(b, FIRSTS_LONG_AT)),
         &frozen,
-        who,
-        own,
-        worked,
         &draws,
         &firsts,
         &seconds,
+        who,
+        own,
+        worked,
         said,
     )
 }

@@ -252,11 +252,11 @@ fn atom_answers(tally: Tally, b: &[u8]) -> Tally {
     let of_froms = room(b, 12, 1024);
     let of_tos = room(b, 13, 1024);
     let got = slots::atomise(
+        size(b, PEOPLE_AT),
         size(b, BASE_AT),
+        size(b, RANGES_AT),
         of_eight(&starts, long(b, 0)),
         of_eight(&ends, long(b, 1)),
-        size(b, PEOPLE_AT),
-        size(b, RANGES_AT),
         of_persons(&who, long(b, 2)),
         of_eight(&opens, long(b, 3)),
         of_eight(&shuts, long(b, 4)),
@@ -278,9 +278,9 @@ fn availability(b: &[u8], words: &mut [u64]) -> u8 {
     slots::availability(
         size(b, PEOPLE_AT),
         size(b, SLOTS_AT),
+        size(b, RANGES_AT),
         of_sixteen(&starts, long(b, 5)),
         of_sixteen(&ends, long(b, 6)),
-        size(b, RANGES_AT),
         of_persons(&who, long(b, 2)),
         of_eight(&opens, long(b, 3)),
         of_eight(&shuts, long(b, 4)),

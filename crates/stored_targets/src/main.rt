@@ -88,12 +88,12 @@ fn same_targets(b: &[u8]) -> bool {
     let number = targets::compute_targets(
         people,
         slots,
+        fairness,
         &starts,
         &ends,
         &avail,
         &caps,
         &priors,
-        fairness,
         &mut out,
     );
     let mut same = number == 0;

@@ -226,8 +226,8 @@ fn rotation_answers(tally: Tally, b: &[u8]) -> Tally {
     let mut out = [FILL; 16];
     let of_out = room(b, 5, 16);
     let got = units::rotation_starts(
-        settings(b),
         size(b, SLOTS_AT),
+        settings(b),
         front_quads(&starts, long(b, 0)),
         front_quads(&ends, long(b, 1)),
         &mut out[0..of_out],
@@ -243,8 +243,8 @@ fn unit_start_answers(tally: Tally, b: &[u8]) -> Tally {
     let mut out = [FILL; 16];
     let of_out = room(b, 5, 16);
     let got = units::unit_starts(
-        settings(b),
         size(b, SLOTS_AT),
+        settings(b),
         front_quads(&starts, long(b, 0)),
         front_quads(&ends, long(b, 1)),
         &mut out[0..of_out],
@@ -271,10 +271,10 @@ fn frozen_answer(tally: Tally, b: &[u8]) -> Tally {
     let flags = one_row(b);
     let begin = begins(b, FIRSTS_AT);
     let got = units::unit_frozen(
-        front_words(&flags, long(b, 4)),
         size(b, SLOTS_AT),
         size(b, UNITS_AT),
         front_shorts(&begin, long(b, 2)),
+        front_words(&flags, long(b, 4)),
         size(b, UNIT_AT),
     );
     tally.with(yes_no(got) == half(b, FROZEN_DUE_AT))
@@ -286,11 +286,11 @@ fn slot_domain_answers(tally: Tally, b: &[u8]) -> Tally {
     let mut out = [FILL_PEOPLE; 8];
     let of_out = room(b, 6, 8);
     let got = units::slot_domain(
-        front_words(&able, long(b, 3)),
         size(b, PEOPLE_AT),
         size(b, SLOTS_AT),
-        size(b, SLOT_AT),
+        front_words(&able, long(b, 3)),
         &mut out[0..of_out],
+        size(b, SLOT_AT),
     );
     let t1 = tally.with(counted(got) == half(b, SLOT_DOMAIN_DUE_AT));
     t1.with(is_list(&out, b, SLOT_PEOPLE_AT))
@@ -303,13 +303,13 @@ fn unit_domain_answers(tally: Tally, b: &[u8]) -> Tally {
     let mut out = [FILL_PEOPLE; 8];
     let of_out = room(b, 6, 8);
     let got = units::unit_domain(
-        front_words(&able, long(b, 3)),
         size(b, PEOPLE_AT),
         size(b, SLOTS_AT),
         size(b, UNITS_AT),
+        front_words(&able, long(b, 3)),
         front_shorts(&begin, long(b, 2)),
-        size(b, UNIT_AT),
         &mut out[0..of_out],
+        size(b, UNIT_AT),
     );
     let t1 = tally.with(counted(got) == half(b, UNIT_DOMAIN_DUE_AT));
     t1.with(is_list(&out, b, UNIT_PEOPLE_AT))
@@ -322,10 +322,10 @@ fn unit_domains_answers(tally: Tally, b: &[u8]) -> Tally {
     let mut out = [FILL_MASKS; 16];
     let of_out = room(b, 7, 16);
     let got = units::unit_domains(
-        front_words(&able, long(b, 3)),
         size(b, PEOPLE_AT),
         size(b, SLOTS_AT),
         size(b, UNITS_AT),
+        front_words(&able, long(b, 3)),
         front_shorts(&begin, long(b, 2)),
         &mut out[0..of_out],
     );
@@ -344,7 +344,7 @@ fn day_answers(tally: Tally, b: &[u8]) -> Tally {
     let t2 = t1.with(
         minutes(units::minutes_per_day(slots, starts, ends)) == word(b, PER_DAY_DUE_AT),
     );
-    let target = units::target_run(settings(b), slots, starts, ends);
+    let target = units::target_run(slots, settings(b), starts, ends);
     t2.with(minutes(target) == word(b, TARGET_DUE_AT))
 }
 
@@ -354,13 +354,13 @@ fn achievable_answer(tally: Tally, b: &[u8]) -> Tally {
     let starts = sixteen(b, STARTS_AT);
     let ends = sixteen(b, ENDS_AT);
     let got = units::achievable_run(
-        settings(b),
-        front_words(&able, long(b, 3)),
         size(b, PEOPLE_AT),
-        size(b, PERSON_AT),
         size(b, SLOTS_AT),
+        settings(b),
         front_quads(&starts, long(b, 0)),
         front_quads(&ends, long(b, 1)),
+        front_words(&able, long(b, 3)),
+        size(b, PERSON_AT),
     );
     tally.with(minutes(got) == word(b, ACHIEVABLE_DUE_AT))
 }

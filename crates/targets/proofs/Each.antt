@@ -44,7 +44,8 @@ module _ (P : Standing → Type 0) where
   each-then Q f [] h = tt
   each-then Q f (l ∷ ls) h = (f l (h .0), each-then Q f ls (h .1))
 
-  pub each-map : (Q : Standing → Type 0) (f : Standing → Standing) → ((l : Standing) → P l → Q (f l)) → (ls : List Standing) → Each P ls → Each Q (map f ls)
+  pub each-map : (Q : Standing → Type 0) (f : Standing → Standing) → ((l : Standing) → P l → Q (f l)) → (ls : List Standing) → Each P ls →
+      Each Q (map f ls)
   each-map Q f g [] h = tt
   each-map Q f g (l ∷ ls) h = (g l (h .0), each-map Q f g ls (h .1))
 

@@ -55,7 +55,8 @@ more-pinned n s (l ∷ ls) e =
     (λ t. omega (arith, pin-new (unrounded n s l) l t, no-fewer n s ls))
     (λ f. omega (arith, pin-kept (unrounded n s l) l, more-pinned n s ls (or-right (belowZero n s l) (some (belowZero n s) ls) e f)))
 
-passed-again : (n s : Float) (ls xs : List Standing) → passed n s ls ≡ again xs → (some (belowZero n s) ls ≡ true) × (map (settle n s) ls ≡ xs)
+passed-again : (n s : Float) (ls xs : List Standing) → passed n s ls ≡ again xs → (some (belowZero n s) ls ≡ true) ×
+    (map (settle n s) ls ≡ xs)
 passed-again n s ls xs =
     by-passed n s ls (λ (p : Passed). p ≡ again xs → (some (belowZero n s) ls ≡ true) × (map (settle n s) ls ≡ xs))
     (λ a e. let z : _≡_ {A = ℕ} 0 1 = cc in differ z) (λ a b e. let z : _≡_ {A = ℕ} 0 1 = cc in differ z) (λ a b c e. (c, cc))

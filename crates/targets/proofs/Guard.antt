@@ -119,7 +119,8 @@ pub record Summed (k : ℕ) (x s : Float) (ls : List Standing) : Type 0 where
   pub from : Under x s
   pub all : AllUnder s ls
 
-pub summed : (ls : List Standing) (k n : ℕ) (x : Float) → Acc k x → Goods ls → n ≡ k + length ls → n ≤ 64 → Summed n x (foldl withShare x ls) ls
+pub summed : (ls : List Standing) (k n : ℕ) (x : Float) → Acc k x → Goods ls → n ≡ k + length ls → n ≤ 64 → Summed n x
+    (foldl withShare x ls) ls
 summed [] k n x a g e h = record {
   acc = subst (λ (j : ℕ). Acc j x) (sym (e ∙ add-zero k)) a;
   from = under-refl x (k * shareMost) 1 (a .most);

@@ -1,4 +1,5 @@
--- The steps of the loops: folds over standings, a search among them, arrays filled from the front, the passes counted down. Assumes nothing.
+-- The steps of the loops: folds over standings, a search among them, arrays filled from the front, the passes counted down. Assumes
+-- nothing.
 use mathlib.Core.Path.{_≡_, refl, sym, ap, _∙_}
 use mathlib.Core.Bool.{Bool, true, false, _||_}
 use mathlib.Core.List.{List, [], _∷_, _++_, map, foldl, append-nil}

@@ -131,7 +131,8 @@ len-left n (again ls) h e = h
 len-left n (done ls) h e = h
 len-left n refused h e = absurd (true≢false (sym e))
 
-pub left-count : (n d : ℕ) (ls : List Standing) → length ls ≡ n → guarded (passesLeave d ls) ≡ true → length (standingsLeft (passesLeave d ls)) ≡ n
+pub left-count : (n d : ℕ) (ls : List Standing) → length ls ≡ n → guarded (passesLeave d ls) ≡ true → length
+    (standingsLeft (passesLeave d ls)) ≡ n
 left-count n d ls N = len-left n (passesLeave d ls) (len-passes n (suc (length ls)) d (again ls) N)
 
 -- ---- from the answer for the padded standings to the targets of the people

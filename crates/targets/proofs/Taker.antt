@@ -89,7 +89,8 @@ largest-new pre l p f =
       here = omega (arith, length-append pre (l ∷ []));
       free = ap (λ (x : Standing). x .pinned) e ∙ p;
       most = λ j h u.
-          let r = each-snoc (λ (j : ℕ) (x : Standing). x .pinned ≡ false → x .target ≤ l .target) pre l f (λ v. le-refl (l .target)) j h u in
+          let r = each-snoc (λ (j : ℕ) (x : Standing). x .pinned ≡ false → x .target ≤ l .target) pre l f
+              (λ v. le-refl (l .target)) j h u in
           omega (arith, t, r);
       last = λ j c h u. absurd (omega (arith, c, h, length-append pre (l ∷ [])));
     }

@@ -13,7 +13,8 @@ use Rattle.targets.specs.declared.Standing.{Standing}
 use Rattle.targets.specs.declared.Answer.{Answer}
 use Rattle.targets.specs.Figures.{pad}
 use Rattle.targets.specs.Passes.{again, passes, guarded}
-use Rattle.targets.specs.Outcome.{Given, demandIn, standingIn, standingsIn, passedIn, targetsIn, guardOk, targetsRow, computeTargets, Meets}
+use Rattle.targets.specs.Outcome.{Given, demandIn, standingIn, standingsIn, passedIn, targetsIn, guardOk, targetsRow}
+use Rattle.targets.specs.Outcome.{computeTargets, Meets}
 use Rattle.targets.specs.Inside.{AnswerOf, Small, checksRow, Sound}
 use Rattle.targets.proofs.Loops.{length-upTo}
 use Rattle.targets.proofs.Sizes.{small-standings}
@@ -39,7 +40,8 @@ meets-kept g out e h = (e, sym (kept _ out (targetsIn g ++ drop (g .people) out)
 pub meets-refused : (g : Given) (out : List ℤ) {n : ℕ} → n ≡ numberOf (checksRow g (length out)) → (n ≡ 0 → ⊥) → Meets g out n out
 meets-refused g out e h = meets-kept g out (e ∙ sym (row-refused g (length out) (λ z. h (e ∙ z)))) h
 
-module _ (g : Given) (out : List ℤ) (h : numberOf (checksRow g (length out)) ≡ 0) {d : ℕ} {ls : List Standing} (a : Answer) (D : d ≡ demandIn g)
+module _ (g : Given) (out : List ℤ) (h : numberOf (checksRow g (length out)) ≡ 0) {d : ℕ} {ls : List Standing} (a : Answer)
+    (D : d ≡ demandIn g)
     (L : ls ≡ standingsIn g ++ replicate (32 - g .people) pad)
     (A : AnswerOf d (passes (g .people + 1) d (again ls)) a) where
   -- the answer, of what is lent

@@ -57,12 +57,12 @@ fn check_figures(before: Refusal, people: usize, capacities: &[f64], priors: &[u
 pub(crate) fn checks_refusal(
     people: usize,
     slots: usize,
+    fairness: u8,
     starts: &[u32],
     ends: &[u32],
     avail: &[u64],
     capacities: &[f64],
     priors: &[u32],
-    fairness: u8,
     room: usize,
 ) -> Refusal
     ensures { λ r. ⌜ r ≡ refusalOf (checksRow (given people slots (now (starts .entry)) (now (ends .entry)) (now (avail .entry))
@@ -71,7 +71,7 @@ pub(crate) fn checks_refusal(
     let f = paper::check_people(paper::accepted(), people);
     let f = paper::check_slots(f, slots);
     let f = slots::check_room(f, slots, starts, ends);
-    let f = paper::check_words(f, avail, people);
+    let f = paper::check_words(f, people, avail);
     let f = paper::check(f, people <= capacities.len(), 2);
     let f = paper::check(f, people <= priors.len(), 2);
     let f = paper::check(f, people <= room, 2);

@@ -1,10 +1,10 @@
 // Fair-share targets. Every step on an f64 is rounded once, in the paper's order.
 // Checks, standings, passes, remainder: what the passes leave and what is done with the remainder are apart.
 mod checks;
-mod standings;
 mod passes;
 mod remainder;
 mod rounding;
+mod standings;
 
 use slots::demand_of;
 ghost use mathlib.Core.Path.{_≡_};
@@ -56,11 +56,11 @@ pub struct Answer {
 }
 
 // The targets of the standings: what the passes leave, and then the remainder.
-fn targets_of(standings: [Standing; 32], people: usize, demand: u32) -> Answer
+fn targets_of(people: usize, standings: [Standing; 32], demand: u32) -> Answer
     requires { ⌜ (people ≤ 32) × Small standings ⌝ }
     ensures { λ r. ⌜ AnswerOf demand (passes (people + 1) demand (again standings)) r ⌝ }
 {
-    let r = passes::passes_of(standings, people, demand);
+    let r = passes::passes_of(people, standings, demand);
     let k = r.next;
     match k {
         Next::Refused => {
@@ -82,7 +82,7 @@ fn targets_of(standings: [Standing; 32], people: usize, demand: u32) -> Answer
 }
 
 // The first `people` of the targets go to the front of out, and the rest of out stays.
-fn put_targets(targets: [i64; 32], people: usize, out: &mut [i64])
+fn put_targets(people: usize, targets: [i64; 32], out: &mut [i64])
     requires { ⌜ (people ≤ 32) × (people ≤ length (now out)) ⌝ }
     ensures { λ _. ⌜ now (out .exit) ≡ take people targets ++ drop people (now (out .entry)) ⌝ }
 {
@@ -98,12 +98,12 @@ fn put_targets(targets: [i64; 32], people: usize, out: &mut [i64])
 pub fn compute_targets(
     people: usize,
     slots: usize,
+    fairness: u8,
     starts: &[u32],
     ends: &[u32],
     avail: &[u64],
     capacities: &[f64],
     priors: &[u32],
-    fairness: u8,
     out: &mut [i64],
 ) -> u8
     ensures { λ r. ⌜ Meets (given people slots (now (starts .entry)) (now (ends .entry)) (now (avail .entry))
@@ -113,12 +113,12 @@ pub fn compute_targets(
     let n = checks::checks_refusal(
         people,
         slots,
+        fairness,
         starts,
         ends,
         avail,
         capacities,
         priors,
-        fairness,
         out.len(),
     ).number;
     if n == 0 {
@@ -126,20 +126,20 @@ pub fn compute_targets(
         let standings = standings::standings_of(
             people,
             slots,
+            fairness,
             starts,
             ends,
             avail,
             capacities,
             priors,
-            fairness,
             demand,
         );
-        let a = targets_of(standings, people, demand);
+        let a = targets_of(people, standings, demand);
         if a.refused {
             return 8;
         }
         let t = a.targets;
-        put_targets(t, people, out);
+        put_targets(people, t, out);
         return 0;
     }
     n

@@ -1,7 +1,7 @@
 // The passes: what they leave of the people's standings.
-use crate::Standing;
 use crate::Next;
 use crate::Round;
+use crate::Standing;
 use crate::rounding;
 ghost use mathlib.Core.Path.{_≡_};
 ghost use mathlib.Core.Bool.{false};
@@ -207,7 +207,7 @@ fn pass_of(r: Round, demand: u32) -> Round
 }
 
 // What the passes leave: at most people + 1 of them.
-pub(crate) fn passes_of(standings: [Standing; 32], people: usize, demand: u32) -> Round
+pub(crate) fn passes_of(people: usize, standings: [Standing; 32], demand: u32) -> Round
     requires { ⌜ people ≤ 32 ⌝ }
     ensures { λ q. ⌜ passedOf q ≡ passes (people + 1) demand (again standings) ⌝ }
 {

@@ -1,6 +1,6 @@
 // The people's standings before the passes: figures, raw share, target 0, nobody pinned.
-use crate::Standing;
 use crate::Person;
+use crate::Standing;
 use slots::minutes_at;
 use slotset::YesNo;
 use slotset::row;
@@ -18,17 +18,17 @@ ghost use Rattle.targets.specs.Inside.{Sound, RowSound};
 // The minutes of slot k, if the person is available for it.
 fn minutes_if_available(
     people: usize,
-    person: usize,
     slots: usize,
     starts: &[u32],
     ends: &[u32],
     avail: &[u64],
+    person: usize,
     k: usize,
 ) -> u32
     requires { ⌜ RowSound people person slots (now avail) × (k < slots) ⌝ }
     ensures { λ r. ⌜ r ≡ minutesIfAvailable (now (starts .entry)) (now (ends .entry)) (now (avail .entry)) person k ⌝ }
 {
-    let answer = row::contains(avail, people, person, slots, k);
+    let answer = row::contains(people, slots, avail, person, k);
     match answer {
         YesNo::Yes => minutes_at(starts, ends, k),
         YesNo::No => 0,
@@ -39,11 +39,11 @@ fn minutes_if_available(
 // The lengths of the slots that a person is available for, added up.
 fn available_minutes(
     people: usize,
-    person: usize,
     slots: usize,
     starts: &[u32],
     ends: &[u32],
     avail: &[u64],
+    person: usize,
 ) -> u32
     requires { ⌜ RowSound people person slots (now avail) × (slotsOk slots (now starts) (now ends) ≡ true) ⌝ }
     ensures { λ r. ⌜ r ≡ availableMinutes slots (now (starts .entry)) (now (ends .entry)) (now (avail .entry)) person ⌝ }
@@ -51,7 +51,7 @@ fn available_minutes(
     let mut total: u32 = 0;
     let mut k = 0;
     while k < slots {
-        total += minutes_if_available(people, person, slots, starts, ends, avail, k);
+        total += minutes_if_available(people, slots, starts, ends, avail, person, k);
         k += 1;
     }
     total
@@ -61,10 +61,10 @@ fn available_minutes(
 fn base_of(
     people: usize,
     slots: usize,
+    fairness: u8,
     starts: &[u32],
     ends: &[u32],
     avail: &[u64],
-    fairness: u8,
     demand: u32,
     person: usize,
 ) -> u32
@@ -75,7 +75,7 @@ fn base_of(
     if fairness == 1 {
         return demand;
     }
-    available_minutes(people, person, slots, starts, ends, avail)
+    available_minutes(people, slots, starts, ends, avail, person)
 }
 
 // A person's standing before the passes.
@@ -94,12 +94,12 @@ fn standing_of(person: Person, base: u32) -> Standing
 pub(crate) fn standings_of(
     people: usize,
     slots: usize,
+    fairness: u8,
     starts: &[u32],
     ends: &[u32],
     avail: &[u64],
     capacities: &[f64],
     priors: &[u32],
-    fairness: u8,
     demand: u32,
 ) -> [Standing; 32]
     requires { ⌜ Sound (given people slots (now starts) (now ends) (now avail) (now capacities) (now priors) fairness)
@@ -124,7 +124,7 @@ pub(crate) fn standings_of(
             capacity: capacities[i],
             prior: priors[i],
         };
-        let base = base_of(people, slots, starts, ends, avail, fairness, demand, i);
+        let base = base_of(people, slots, fairness, starts, ends, avail, demand, i);
         let l = standing_of(p, base);
         out[i] = l;
         i += 1;

@@ -18,7 +18,7 @@ use types.Run.{Opds}
 use denote.Laws.{Is, Ises, Are, Makess, shows, owns-make}
 use denote.RattleType.{RattleType, Denots, Valss, owns}
 use denote.Signature.{typeAt}
-use denote.Steps.{said, peeks}
+use denote.Steps.{heard, peeks}
 use denote.Triple.Call.{calls-at}
 use denote.Triple.Clauses.{Clauses, Ended, Lasts, atExit, lasts, ensured, closing}
 use denote.Triple.Entry.{Res, alive}
@@ -46,8 +46,8 @@ module _ {M : Type 1} (𝓤 : URA M) (H : Heap 𝓤) (A : Atoms 𝓤) (T : Ended
   abbrev pub Tokens : SProp 𝓤
   Tokens = alive 𝓤 H A (T .signature) (y .0 .0) (y .0 .1)
 
-  abbrev pub YesNo : Finals → Fml
-  YesNo ws = lasts T (y .0 .0) (y .0 .3) ws
+  abbrev pub Told : Finals → Fml
+  Told ws = lasts T (y .0 .0) (y .0 .3) ws
 
 module _ {M : Type 1} {𝓤 : URA M} {H : Heap 𝓤} {A : Atoms 𝓤} {K : Type 0} {W : Given 𝓤 H A} {Γ : List (Item 𝓤)} where
   -- what a call left, with what φ says of its result r and of the last values ws, and how the result lies in the machine
@@ -55,13 +55,13 @@ module _ {M : Type 1} {𝓤 : URA M} {H : Heap 𝓤} {A : Atoms 𝓤} {K : Type 
       (φ : Result 𝓤 H A T c y → Finals 𝓤 H A T c y → Type 0)
       → ((r : Result 𝓤 H A T c y) (ws : Finals 𝓤 H A T c y) → ent 𝓤 (Says 𝓤 H A T c y r ws) (fact 𝓤 (φ r ws)))
       → ((r : Result 𝓤 H A T c y) (ws : Finals 𝓤 H A T c y) → φ r ws → Is (ResultType 𝓤 H A T c y) r (u ∷ [])
-      → Seq K W (‵ (ResultType 𝓤 H A T c y .own r (u ∷ [])) ∷ raw (Tokens 𝓤 H A T c y) ∷ ‵ (YesNo 𝓤 H A T c y ws) ∷ Γ) G)
+      → Seq K W (‵ (ResultType 𝓤 H A T c y .own r (u ∷ [])) ∷ raw (Tokens 𝓤 H A T c y) ∷ ‵ (Told 𝓤 H A T c y ws) ∷ Γ) G)
       → Seq K W (raw (contractOf 𝓤 H A T c .post y u) ∷ Γ) G
-  gives t {G} z T c y u φ answered k =
+  gives t {G} z T c y u φ told k =
       use1 W (later (some (λ (r : Result 𝓤 H A T c y). (raw (Tokens 𝓤 H A T c y) ⊛ ‵ (ResultType 𝓤 H A T c y .own r (u ∷ [])))
-      ⊛ some (λ (ws : Finals 𝓤 H A T c y). ‵ (YesNo 𝓤 H A T c y ws) ⊛ raw (Says 𝓤 H A T c y r ws))))) (id⊢ 𝓤 _) $ await t z $ pick t (λ r.
-      split t $ split t $ move t (2 ∷ []) $ pick t (λ ws. split t $ move t (1 ∷ []) $ use1 W (raw (fact 𝓤 (φ r ws))) (answered r ws) $
-      said t (φ r ws) (λ p. move t (2 ∷ 1 ∷ 0 ∷ []) $
+      ⊛ some (λ (ws : Finals 𝓤 H A T c y). ‵ (Told 𝓤 H A T c y ws) ⊛ raw (Says 𝓤 H A T c y r ws))))) (id⊢ 𝓤 _) $ await t z $ pick t (λ r.
+      split t $ split t $ move t (2 ∷ []) $ pick t (λ ws. split t $ move t (1 ∷ []) $ use1 W (raw (fact 𝓤 (φ r ws))) (told r ws) $
+      heard t (φ r ws) (λ p. move t (2 ∷ 1 ∷ 0 ∷ []) $
       peeks t (ResultType 𝓤 H A T c y) (Is (ResultType 𝓤 H A T c y)) (shows 𝓤 H A (ResultType 𝓤 H A T c y)) r (u ∷ []) (λ is.
       k r ws p is))))
 
@@ -72,11 +72,11 @@ module _ {M : Type 1} {𝓤 : URA M} {H : Heap 𝓤} {A : Atoms 𝓤} {K : Type 
       → (φ : Result 𝓤 H A T c y → Finals 𝓤 H A T c y → Type 0)
       → ((r : Result 𝓤 H A T c y) (ws : Finals 𝓤 H A T c y) → ent 𝓤 (Says 𝓤 H A T c y r ws) (fact 𝓤 (φ r ws)))
       → ((u : Val) (r : Result 𝓤 H A T c y) (ws : Finals 𝓤 H A T c y) → φ r ws → Is (ResultType 𝓤 H A T c y) r (u ∷ [])
-      → Seq K W (‵ (ResultType 𝓤 H A T c y .own r (u ∷ [])) ∷ raw (Tokens 𝓤 H A T c y) ∷ ‵ (YesNo 𝓤 H A T c y ws) ∷ Γ)
+      → Seq K W (‵ (ResultType 𝓤 H A T c y .own r (u ∷ [])) ∷ raw (Tokens 𝓤 H A T c y) ∷ ‵ (Told 𝓤 H A T c y ws) ∷ Γ)
       (lands C Λ E d u rest q))
       → Seq K W (raw (contractOf 𝓤 H A T c .pre y) ∷ Γ) (runs C Λ E (seq (call f xs d) rest) q)
-  asks t fm T c met y os φ answered k =
-      calls-at t fm (contractOf 𝓤 H A T c) met y os (λ u. gives t tt T c y u φ answered (k u))
+  asks t fm T c met y os φ told k =
+      calls-at t fm (contractOf 𝓤 H A T c) met y os (λ u. gives t tt T c y u φ told (k u))
 
 -- a callee whose parameters are plain numbers or structs of them: what it asks can be had for nothing
 pub goes-plain : {M : Type 1} (𝓤 : URA M) (H : Heap 𝓤) (A : Atoms 𝓤) (Rs : List RattleType) (a : Denots Rs) (vss : Valss Rs)
@@ -89,13 +89,13 @@ goes-plain 𝓤 H A Rs a vss makes are P p =
 pub ends : {M : Type 1} (𝓤 : URA M) (H : Heap 𝓤) (A : Atoms 𝓤) (W : Given 𝓤 H A) (T : Ended) (c : Clauses 𝓤 T)
     (y : contractOf 𝓤 H A T c .Ghost) (u : Val) (r : Result 𝓤 H A T c y) (ws : Finals 𝓤 H A T c y) (φ : Type 0)
     → ent 𝓤 (fact 𝓤 φ) (Says 𝓤 H A T c y r ws) → φ
-    → ent 𝓤 (sep 𝓤 (sem 𝓤 H A (ResultType 𝓤 H A T c y .own r (u ∷ []))) (sep 𝓤 (Tokens 𝓤 H A T c y) (sem 𝓤 H A (YesNo 𝓤 H A T c y ws))))
+    → ent 𝓤 (sep 𝓤 (sem 𝓤 H A (ResultType 𝓤 H A T c y .own r (u ∷ []))) (sep 𝓤 (Tokens 𝓤 H A T c y) (sem 𝓤 H A (Told 𝓤 H A T c y ws))))
     (contractOf 𝓤 H A T c .post y u)
 ends 𝓤 H A W T c y u r ws φ says p =
-    qed W (‵ (ResultType 𝓤 H A T c y .own r (u ∷ [])) ∷ raw (Tokens 𝓤 H A T c y) ∷ ‵ (YesNo 𝓤 H A T c y ws) ∷ []) ∵
+    qed W (‵ (ResultType 𝓤 H A T c y .own r (u ∷ [])) ∷ raw (Tokens 𝓤 H A T c y) ∷ ‵ (Told 𝓤 H A T c y ws) ∷ []) ∵
     updating ! $ at-once ! $ show ! (λ (r′ : Result 𝓤 H A T c y). sep 𝓤 (Back 𝓤 H A (T .signature) (y .0) u r′)
     (ensured 𝓤 H A T c (y .0 .0) (y .0 .3) (y .1) r′)) r $ move ! (1 ∷ 0 ∷ []) $ join ! $ frame ! $
-    show ! (λ (ws′ : Finals 𝓤 H A T c y). sep 𝓤 (sem 𝓤 H A (YesNo 𝓤 H A T c y ws′)) (Says 𝓤 H A T c y r ws′)) ws $
+    show ! (λ (ws′ : Finals 𝓤 H A T c y). sep 𝓤 (sem 𝓤 H A (Told 𝓤 H A T c y ws′)) (Says 𝓤 H A T c y r ws′)) ws $
     use0 W (raw (Says 𝓤 H A T c y r ws)) (via 𝓤 (fact 𝓤 φ) (factI 𝓤 φ (emp 𝓤) p) says) $ move ! (1 ∷ 0 ∷ []) $ done !
 
 -- what is said of the last values of n parameters of which none is a `&mut`
@@ -110,9 +110,9 @@ silent 𝓤 H A (suc n) = via 𝓤 _ (silent 𝓤 H A n) (emp∗ 𝓤 _)
 -- such a function has ended
 pub ends-silent : {M : Type 1} (𝓤 : URA M) (H : Heap 𝓤) (A : Atoms 𝓤) (W : Given 𝓤 H A) (T : Ended) (c : Clauses 𝓤 T)
     (y : contractOf 𝓤 H A T c .Ghost) (u : Val) (r : Result 𝓤 H A T c y) (ws : Finals 𝓤 H A T c y) (n : ℕ)
-    → silence n ≡ YesNo 𝓤 H A T c y ws → (φ : Type 0) → ent 𝓤 (fact 𝓤 φ) (Says 𝓤 H A T c y r ws) → φ
+    → silence n ≡ Told 𝓤 H A T c y ws → (φ : Type 0) → ent 𝓤 (fact 𝓤 φ) (Says 𝓤 H A T c y r ws) → φ
     → ent 𝓤 (sep 𝓤 (sem 𝓤 H A (ResultType 𝓤 H A T c y .own r (u ∷ []))) (Tokens 𝓤 H A T c y)) (contractOf 𝓤 H A T c .post y u)
 ends-silent 𝓤 H A W T c y u r ws n e φ says p =
     qed W (‵ (ResultType 𝓤 H A T c y .own r (u ∷ [])) ∷ raw (Tokens 𝓤 H A T c y) ∷ []) ∵
-    use0 W (‵ (YesNo 𝓤 H A T c y ws)) (subst (λ (F : Fml). ent 𝓤 (emp 𝓤) (sem 𝓤 H A F)) e (silent 𝓤 H A n)) $
+    use0 W (‵ (Told 𝓤 H A T c y ws)) (subst (λ (F : Fml). ent 𝓤 (emp 𝓤) (sem 𝓤 H A F)) e (silent 𝓤 H A n)) $
     move ! (1 ∷ 2 ∷ 0 ∷ []) $ by ! (ends 𝓤 H A W T c y u r ws φ says p)

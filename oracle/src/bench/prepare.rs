@@ -54,11 +54,11 @@ impl Preparation {
     fn prepare(&mut self) -> Result<(), boltraven::Refusal> {
         let (base, ranges, set) = (&self.given.base, &self.given.ranges, self.settings);
         self.slots = lent::atomise(
+            ranges.people,
             base.count,
+            ranges.count,
             &base.starts,
             &base.ends,
-            ranges.people,
-            ranges.count,
             &ranges.persons,
             &ranges.opens,
             &ranges.shuts,
@@ -68,21 +68,21 @@ impl Preparation {
         lent::availability(
             ranges.people,
             self.slots,
+            ranges.count,
             &self.starts,
             &self.ends,
-            ranges.count,
             &ranges.persons,
             &ranges.opens,
             &ranges.shuts,
             &mut self.avail,
         )?;
         self.units = lent::unit_starts(
+            self.slots,
             set.fairness,
             set.lock,
             set.boundary,
             set.value,
             set.days,
-            self.slots,
             &self.starts,
             &self.ends,
             &mut self.unit_starts,
@@ -90,12 +90,12 @@ impl Preparation {
         lent::compute_targets(
             ranges.people,
             self.slots,
+            set.fairness,
             &self.starts,
             &self.ends,
             &self.avail,
             &self.capacities,
             &self.priors,
-            set.fairness,
             &mut self.targets,
         )
     }
@@ -105,33 +105,33 @@ impl Preparation {
         let (people, set) = (self.given.ranges.people, self.settings);
         let (starts, ends) = (&self.starts, &self.ends);
         lent::target_run(
+            self.slots,
             set.fairness,
             set.lock,
             set.boundary,
             set.value,
             set.days,
-            self.slots,
             starts,
             ends,
             &mut self.target_run,
         )?;
         for (person, run) in self.runs.iter_mut().enumerate() {
             lent::achievable_run(
+                people,
+                self.slots,
                 set.fairness,
                 set.lock,
                 set.boundary,
                 set.value,
                 set.days,
-                &self.avail,
-                people,
-                person,
-                self.slots,
                 starts,
                 ends,
+                &self.avail,
+                person,
                 run,
             )?;
         }
-        lent::unit_domains(&self.avail, people, self.slots, self.units, &self.unit_starts, &mut self.masks)
+        lent::unit_domains(people, self.slots, self.units, &self.avail, &self.unit_starts, &mut self.masks)
     }
 
     fn seen(&self) -> Prepared {

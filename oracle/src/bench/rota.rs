@@ -168,24 +168,24 @@ pub fn no_draws(rota: Rota) -> Row {
 // ---- plays
 
 /// The first draws of the list; whether it was accepted.
-fn lent_play(rota: &Rota, lent: &mut LentRota, draws: usize) -> bool {
+fn lent_play(rota: &Rota, lent: &mut LentRota, count: usize) -> bool {
     let [draws, firsts, seconds] = &rota.columns;
     let answer = lent::play(
         lent.people,
         lent.starts.len(),
         lent.units,
-        draws,
+        count,
         &lent.starts,
         &lent.ends,
         &lent.avail,
         &lent.unit_starts,
         &lent.frozen,
-        &mut lent.owners,
-        &mut lent.sets,
-        &mut lent.minutes,
         draws,
         firsts,
         seconds,
+        &mut lent.owners,
+        &mut lent.sets,
+        &mut lent.minutes,
         &mut lent.answers,
     );
     answer.is_ok()

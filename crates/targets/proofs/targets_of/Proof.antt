@@ -30,9 +30,11 @@ adjusted-of-requires c κs =
     let p = c .before .before in
     let r = p .passes-of .result in
     let a = p .before .args in
-    by-left (r .next) (r .standings) (λ (q : Passed). OfStandings Small q → Small (r .standings)) (not-refused (r .next) (c .before .match .keys2))
+    by-left (r .next) (r .standings) (λ (q : Passed). OfStandings Small q → Small (r .standings))
+        (not-refused (r .next) (c .before .match .keys2))
     (λ h. h) (λ h. h)
-    (subst (OfStandings Small) (sym (p .passes-of .ensures)) (small-passes (a .people + 1) (a .demand) (again (a .standings)) (p .before .pre .1)))
+    (subst (OfStandings Small) (sym (p .passes-of .ensures)) (small-passes (a .people + 1) (a .demand) (again (a .standings))
+        (p .before .pre .1)))
 
 -- what the round says of the passes
 of-round : (d : ℕ) {q : Passed} (a : Answer) → AnswerOf d q a → {p : Passed} → q ≡ p → AnswerOf d p a

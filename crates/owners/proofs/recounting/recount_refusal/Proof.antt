@@ -1,12 +1,13 @@
--- `owners::recounting::recount-refusal` meets its contract. Assumes nothing.
+-- `owners::recounting::recount_refusal` meets its contract. Assumes nothing.
 use native.Mathlib.Omega.{arith}
 use borrow.Author.Needs.{needs}
 use Rattle.paper.proofs.Count.{all-each}
 use Rattle.owners.specs.Recount.{knownAt}
 use Rattle.owners.proofs.Scans.{first-passes}
-use Rattle.owners.proofs.RecountRefusals.{refusal-unknown, refusal-unavailable, refusal-uneven, refusal-clean, refusal-set, refusal-minutes}
-use Rattle.owners.proofs.recounting.recount-refusal.Statement.{statement}
-use Rattle.owners.proofs.recounting.recount-refusal.Tie as tie
+use Rattle.owners.proofs.RecountRefusals.{refusal-unknown, refusal-unavailable, refusal-uneven, refusal-clean, refusal-set}
+use Rattle.owners.proofs.RecountRefusals.{refusal-minutes}
+use Rattle.owners.proofs.recounting.recount_refusal.Statement.{statement}
+use Rattle.owners.proofs.recounting.recount_refusal.Tie as tie
 
 returns : tie.Need-returns
 returns c = refusal-unknown _ _ _ _ _ _ _ _ (c .before .before .first-unknown .ensures) (c .before .if1 .taken) (c .refusal-in .ensures)

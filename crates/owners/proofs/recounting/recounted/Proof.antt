@@ -17,11 +17,13 @@ recount-refusal-requires c κs =
 returns : tie.Need-returns
 returns c =
     let b = c .before .before .before in
-    row-on _ _ _ _ _ _ _ _ _ _ (b .before .lent-refusal .ensures) (b .check-units .ensures) _ (c .before .if1 .taken) (c .recount-refusal .ensures)
+    row-on _ _ _ _ _ _ _ _ _ _ (b .before .lent-refusal .ensures) (b .check-units .ensures) _ (c .before .if1 .taken)
+        (c .recount-refusal .ensures)
 
 returns-2 : tie.Need-returns-2
 returns-2 c =
-    row-stops _ _ _ _ _ _ _ _ _ _ (c .before .before .before .lent-refusal .ensures) (c .before .before .check-units .ensures) (c .if1 .left)
+    row-stops _ _ _ _ _ _ _ _ _ _ (c .before .before .before .lent-refusal .ensures) (c .before .before .check-units .ensures)
+        (c .if1 .left)
 
 pub recounted-spec : {M : Type 1} → statement M
 recounted-spec = tie.close (tie.spec (λ c κs. search needs) (λ c κs. search needs) recount-refusal-requires returns returns-2)

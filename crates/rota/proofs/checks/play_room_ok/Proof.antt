@@ -18,8 +18,8 @@ returns c =
     let at-both = c .before .before .before .before .both in
     (c .both5 .ensures) ∙ ap (λ (b : Bool). leb (at-args .units) (length (at-args .begins .now)) && b) ((at-both4 .ensures) ∙ ap
     (λ (b : Bool). leb 16 (length (at-args .frozen .now)) && b) ((at-both3 .ensures) ∙ ap (λ (b : Bool). leb (at-args
-    .count) (length (at-args .kinds .now)) && b) ((at-both2 .ensures) ∙ ap (λ (b : Bool). leb (at-args .count) (length
-    (at-args .ones .now)) && b) (at-both .ensures))))
+    .count) (length (at-args .draws .now)) && b) ((at-both2 .ensures) ∙ ap (λ (b : Bool). leb (at-args .count) (length
+    (at-args .firsts .now)) && b) (at-both .ensures))))
 
 pub play-room-ok-spec : {M : Type 1} → statement M
 play-room-ok-spec =

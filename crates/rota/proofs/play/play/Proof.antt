@@ -8,7 +8,8 @@ use lib.ListN.{length, length-replicate}
 use Rattle.units.proofs.Units.{units-room}
 use Rattle.owners.specs.Derived.{plan, derived}
 use Rattle.rota.proofs.Stepping.{ran-owners, ran-answers, ran-lengths}
-use Rattle.rota.proofs.Entered.{unit-room, play-asks, asks-few, asks-fits, asks-step, ready-sound, ready-even, played-yes, played-refused}
+use Rattle.rota.proofs.Entered.{unit-room, play-asks, asks-few, asks-fits, asks-step, ready-sound, ready-even, played-yes}
+use Rattle.rota.proofs.Entered.{played-refused}
 use Rattle.rota.proofs.play.play.Statement.{statement}
 use Rattle.rota.proofs.play.play.Tie as tie
 
@@ -36,7 +37,8 @@ run-requires c κs =
     let D = derived (a .sets .now) (a .minutes .now) in
     let A = play-asks P (a .avail .now) (a .units) (a .begins .now) (a .frozen .now) (a .count) (a .draws .now) (a .firsts .now)
     (a .seconds .now)
-    (a .owners .now) D (a .answers .now) (sym (said _ (c8 .before .before .before .play-refusal .ensures)) ∙ c8 .before .before .if1 .taken) in
+    (a .owners .now) D (a .answers .now) (sym (said _ (c8 .before .before .before .play-refusal .ensures)) ∙
+        c8 .before .before .if1 .taken) in
     let F = asks-fits _ _ _ _ _ _ _ _ _ _ _ _ A _ (c8 .unit-domains .ensures .1) in
     let frozen-of = c .before .before .before .before .before .before .frozen-of in
     let Z = frozen-of .ensures in
@@ -111,8 +113,10 @@ returns-2 c =
     let c8 = c .before .before .before .before .before .before .before .before in
     let c16 = c8 .before .before .before .before .before .before .before .before in
     let a = c16 .before .before .args in
-    played-refused (plan (a .people) (a .slots) (a .starts .now) (a .ends .now)) (a .avail .now) (a .units) (a .begins .now) (a .frozen .now)
-    (a .count) (a .draws .now) (a .firsts .now) (a .seconds .now) (a .owners .now) (derived (a .sets .now) (a .minutes .now)) (a .answers .now) _
+    played-refused (plan (a .people) (a .slots) (a .starts .now) (a .ends .now)) (a .avail .now) (a .units) (a .begins .now)
+        (a .frozen .now)
+    (a .count) (a .draws .now) (a .firsts .now) (a .seconds .now) (a .owners .now) (derived (a .sets .now) (a .minutes .now))
+        (a .answers .now) _
     (said _ (c .before .play-refusal .ensures)) (c .if1 .left)
 
 pub play-spec : {M : Type 1} → statement M

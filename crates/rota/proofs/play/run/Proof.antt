@@ -11,20 +11,20 @@ use Rattle.rota.proofs.play.run.Statement.{statement}
 use Rattle.rota.proofs.play.run.Tie as tie
 
 abbrev Inv-loop : tie.InvT-loop
-Inv-loop people slots units count starts ends begins fits flags owners₀ sets₀ minutes₀ draws firsts seconds answers₀ i₀ owners sets
+Inv-loop people slots units count starts ends begins fits flags draws firsts seconds owners₀ sets₀ minutes₀ answers₀ i₀ owners sets
     minutes answers i =
     (i ≤ count) × Ran (plan people slots starts ends) (ready people slots units begins fits flags) owners₀ (derived sets₀
     minutes₀) answers₀ (drawsOf draws firsts seconds i) owners (derived sets minutes) answers
 
 abbrev μ-loop : tie.MeasureT-loop
-μ-loop people slots units count starts ends begins fits flags owners₀ sets₀ minutes₀ draws firsts seconds answers₀ i₀ owners sets minutes
+μ-loop people slots units count starts ends begins fits flags draws firsts seconds owners₀ sets₀ minutes₀ answers₀ i₀ owners sets minutes
     answers i =
     count - i
 
 loop-holds : tie.Need-loop-holds Inv-loop μ-loop
 loop-holds c =
     let at-pre = c .before .before .before .before .before .before .before .before .before .before .before .before .pre in
-    let at-slice-known2 = c .before .before .before .before .before .slice-known2 in (
+    let at-slice-known2 = c .before .before .slice-known2 in (
       search needs,
       ran-start _ _ _ _ _ _ _ _ ((at-pre .0) .slots-few) (λ j. omega (arith, (at-slice-known2 .given) j)) (at-pre
           .1 .0),
@@ -40,7 +40,7 @@ shared-slice-read-step-2 : tie.Need-shared-slice-read-step-2 Inv-loop μ-loop
 shared-slice-read-step-2 c =
     let at-pre = c .before .before .before .before .before .before .before .before .before .before .before .before .before
     .before .before .before .before .before .before .pre in
-    omega (arith, (at-pre .1 .1 .1 .1 .0) .begins)
+    omega (arith, (at-pre .1 .1 .1 .1 .0) .firsts)
 
 shared-slice-read-step-3 : tie.Need-shared-slice-read-step-3 Inv-loop μ-loop
 shared-slice-read-step-3 c =
@@ -88,7 +88,7 @@ loop-again c =
     let at-pre = c .before .before .before .before .before .before .before .before .before .before .before .before .before
     .before .before .before .before .before .before .before .before .before .before .before .before .before .before .pre in
     let at-slice-known2 = c .before .before .before .before .before .before .before .before .before .before .before .before
-    .before .before .before .before .before .before .before .before .slice-known2 in
+    .before .before .before .before .before .slice-known2 in
     let at-step = c .before .before .before .before .before .before .step in (
       omega arith,
       ran-more _ _ _ _ _ _ _ _ _ _ _ _ (at-loop .inv .1) _ _ _ ((at-pre .0) .slots-few) ((at-pre .1 .0) .sets-room)

@@ -8,7 +8,8 @@ use Rattle.slots.proofs.avail.availability.Statement.{statement}
 use Rattle.slots.proofs.avail.availability.Tie as tie
 
 merged-keys-requires : tie.Need-merged-keys-requires
-merged-keys-requires c κs = availability-says _ _ _ _ _ _ (sym (said _ (c .before .availability-refusal .ensures)) ∙ c .if1 .taken) .ranges-sound
+merged-keys-requires c κs = availability-says _ _ _ _ _ _ (sym (said _ (c .before .availability-refusal .ensures)) ∙
+    c .if1 .taken) .ranges-sound
 
 fill-rows-requires : tie.Need-fill-rows-requires
 fill-rows-requires c κs =
@@ -27,7 +28,8 @@ returns c =
     let if1 = c .before .before .before .before .before .before .before .if1 in
     let merged-keys = c .before .before .before .before .before .before .merged-keys in
     let fill-rows = c .before .before .fill-rows in
-    availability-done _ _ _ _ _ _ _ (said _ (availability-refusal .ensures)) (if1 .taken) (merged-keys .result .keys) _ (merged-keys .ensures) _
+    availability-done _ _ _ _ _ _ _ (said _ (availability-refusal .ensures)) (if1 .taken) (merged-keys .result .keys) _
+        (merged-keys .ensures) _
     (fill-rows .ensures)
 
 returns-2 : tie.Need-returns-2

@@ -28,7 +28,8 @@ loop-again : tie.Need-loop-again Inv-loop μ-loop
 loop-again c =
     let a = c .before .before .before .before .before .args in
     let p = c .before .before .before .before .loop in
-    let h = missed (belowZero (a .n) (a .sum)) (a .t1) (p .i) _ (p .inv .1) (c .before .is-below-zero .ensures) (c .if1 .left) (omega arith) in
+    let h = missed (belowZero (a .n) (a .sum)) (a .t1) (p .i) _ (p .inv .1) (c .before .is-below-zero .ensures) (c .if1 .left)
+        (omega arith) in
     (search needs, h)
 
 returns-2 : tie.Need-returns-2 Inv-loop μ-loop

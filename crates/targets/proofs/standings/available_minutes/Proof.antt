@@ -11,11 +11,11 @@ use Rattle.targets.proofs.standings.available_minutes.Statement.{statem
 use Rattle.targets.proofs.standings.available_minutes.Tie as tie
 
 abbrev Inv-loop : tie.InvT-loop
-Inv-loop people person slots starts ends avail total₀ k₀ total k =
+Inv-loop people slots starts ends avail person total₀ k₀ total k =
     (k ≤ slots) × (total ≡ sum k (minutesIfAvailable starts ends avail person))
 
 abbrev μ-loop : tie.MeasureT-loop
-μ-loop people person slots starts ends avail total₀ k₀ total k = slots - k
+μ-loop people slots starts ends avail person total₀ k₀ total k = slots - k
 
 loop-holds : tie.Need-loop-holds Inv-loop μ-loop
 loop-holds c =

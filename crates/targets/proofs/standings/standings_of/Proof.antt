@@ -16,12 +16,12 @@ use Rattle.targets.proofs.standings.standings_of.Statement.{statement}
 use Rattle.targets.proofs.standings.standings_of.Tie as tie
 
 abbrev Inv-loop : tie.InvT-loop
-Inv-loop people slots starts ends avail capacities priors fairness demand out₀ i₀ out i =
+Inv-loop people slots fairness starts ends avail capacities priors demand out₀ i₀ out i =
     (i ≤ people)
     × (out ≡ upTo (standingIn (given people slots starts ends avail capacities priors fairness)) i ++ replicate (32 - i) pad)
 
 abbrev μ-loop : tie.MeasureT-loop
-μ-loop people slots starts ends avail capacities priors fairness demand out₀ i₀ out i = people - i
+μ-loop people slots fairness starts ends avail capacities priors demand out₀ i₀ out i = people - i
 
 -- what is lent
 abbrev lent : tie.Start Inv-loop μ-loop → Given

@@ -15,11 +15,11 @@ use Rattle.units.proofs.masks.strike.Statement.{statement}
 use Rattle.units.proofs.masks.strike.Tie as tie
 
 abbrev Inv-loop : tie.InvT-loop
-Inv-loop avail people person slots units begins v gap masks₀ had bit w₀ masks w =
+Inv-loop people slots units avail begins masks₀ person v gap had bit w₀ masks w =
     (v ≤ w) × (w ≤ units) × (masks ≡ over (maskThen avail people slots units begins person w) units masks₀)
 
 abbrev μ-loop : tie.MeasureT-loop
-μ-loop avail people person slots units begins v gap masks₀ had bit w₀ masks w = units - w
+μ-loop people slots units avail begins masks₀ person v gap had bit w₀ masks w = units - w
 
 next-had-requires : tie.Need-next-had-requires Inv-loop μ-loop
 next-had-requires c κs =

@@ -10,11 +10,11 @@ use Rattle.units.proofs.starts.write_starts.Statement.{statement}
 use Rattle.units.proofs.starts.write_starts.Tie as tie
 
 abbrev Inv-loop : tie.InvT-loop
-Inv-loop lock boundary value slots starts begins₀ n₀ k₀ begins n k =
+Inv-loop slots lock boundary value starts begins₀ n₀ k₀ begins n k =
     Collecting (unitBegins lock boundary value starts) slots begins₀ begins n k × (slots ≤ 1024)
 
 abbrev μ-loop : tie.MeasureT-loop
-μ-loop lock boundary value slots starts begins₀ n₀ k₀ begins n k = slots - k
+μ-loop slots lock boundary value starts begins₀ n₀ k₀ begins n k = slots - k
 
 loop-holds : tie.Need-loop-holds Inv-loop μ-loop
 loop-holds c = (collect-none _ _ _ (c .before .before .pre .1), c .before .before .pre .0)
