@@ -172,18 +172,17 @@ uint64_t boltraven_atomise(size_t people, size_t slots, size_t count, const uint
                            uint32_t *froms, size_t froms_len, uint32_t *tos, size_t tos_len);
 
 /* Who is available for which slot, as a set a person. */
-uint8_t boltraven_availability(size_t people, size_t slots, size_t count, const uint32_t *starts,
-                               size_t starts_len, const uint32_t *ends, size_t ends_len, const uint16_t *persons, size_t persons_len,
+uint8_t boltraven_availability(size_t people, size_t slots, size_t count, const uint32_t *starts, size_t starts_len,
+                               const uint32_t *ends, size_t ends_len, const uint16_t *persons, size_t persons_len,
                                const uint32_t *opens, size_t opens_len, const uint32_t *shuts, size_t shuts_len,
                                uint64_t *words, size_t words_len);
 
 /* Whether a person is available for a slot: 1 or 0. */
-uint64_t boltraven_is_available(size_t people, size_t slots, const uint64_t *avail, size_t avail_len, size_t person,
-                                size_t slot);
+uint64_t boltraven_is_available(size_t people, size_t slots, const uint64_t *avail, size_t avail_len, size_t person, size_t slot);
 
 /* The people available for a slot, ascending, and how many. */
-uint64_t boltraven_slot_domain(size_t people, size_t slots, const uint64_t *avail, size_t avail_len, uint8_t *list,
-                               size_t list_len, size_t slot);
+uint64_t boltraven_slot_domain(size_t people, size_t slots, const uint64_t *avail, size_t avail_len, uint8_t *list, size_t list_len,
+                               size_t slot);
 
 /* The minutes of one slot. */
 uint8_t boltraven_slot_minutes(size_t slots, const uint32_t *starts, size_t starts_len, const uint32_t *ends, size_t ends_len,
@@ -210,8 +209,8 @@ uint64_t boltraven_unit_starts(size_t slots, uint8_t fairness, uint8_t lock, uin
                                uint16_t *unit_starts, size_t unit_starts_len);
 
 /* The slots of a unit: `from` up to `to`, without `to`. */
-uint8_t boltraven_unit_slots(size_t slots, size_t units, const uint16_t *unit_starts, size_t unit_starts_len, size_t unit, uint64_t *from,
-                             uint64_t *to);
+uint8_t boltraven_unit_slots(size_t slots, size_t units, const uint16_t *unit_starts, size_t unit_starts_len, size_t unit,
+                             uint64_t *from, uint64_t *to);
 
 /* The unit of a slot. */
 uint64_t boltraven_unit_of_slot(size_t slots, size_t units, const uint16_t *unit_starts, size_t unit_starts_len, size_t slot);
@@ -240,18 +239,17 @@ uint8_t boltraven_target_run(size_t slots, uint8_t fairness, uint8_t lock, uint8
                              const uint32_t *starts, size_t starts_len, const uint32_t *ends, size_t ends_len, uint64_t *out);
 
 /* The longest run that a person can have, up to the target run. */
-uint8_t boltraven_achievable_run(size_t people, size_t slots, uint8_t fairness, uint8_t lock, uint8_t boundary,
-                                 uint16_t value, uint16_t days, const uint32_t *starts, size_t starts_len, const uint32_t *ends,
-                                 size_t ends_len, const uint64_t *avail, size_t avail_len, size_t person,
-                                 uint64_t *out);
+uint8_t boltraven_achievable_run(size_t people, size_t slots, uint8_t fairness, uint8_t lock, uint8_t boundary, uint16_t value,
+                                 uint16_t days, const uint32_t *starts, size_t starts_len, const uint32_t *ends, size_t ends_len,
+                                 const uint64_t *avail, size_t avail_len, size_t person, uint64_t *out);
 
 /* ---- Targets. */
 
 /* Each person's target, by capacity and prior minutes; they add up to the minutes of all slots, and one may be negative. */
-uint8_t boltraven_compute_targets(size_t people, size_t slots, uint8_t fairness, const uint32_t *starts,
-                                  size_t starts_len, const uint32_t *ends, size_t ends_len, const uint64_t *avail,
-                                  size_t avail_len, const double *capacities, size_t capacities_len, const uint32_t *priors,
-                                  size_t priors_len, int64_t *out, size_t out_len);
+uint8_t boltraven_compute_targets(size_t people, size_t slots, uint8_t fairness, const uint32_t *starts, size_t starts_len,
+                                  const uint32_t *ends, size_t ends_len, const uint64_t *avail, size_t avail_len,
+                                  const double *capacities, size_t capacities_len, const uint32_t *priors, size_t priors_len,
+                                  int64_t *out, size_t out_len);
 
 /* ---- A rota: an owner a slot, and everybody's set and minutes. */
 
@@ -300,9 +298,10 @@ uint8_t boltraven_recount_slots(size_t people, size_t slots, const uint32_t *sta
 uint8_t boltraven_play(size_t people, size_t slots, size_t units, size_t count, const uint32_t *starts, size_t starts_len,
                        const uint32_t *ends, size_t ends_len, const uint64_t *avail, size_t avail_len,
                        const uint16_t *unit_starts, size_t unit_starts_len, const uint64_t *frozen, size_t frozen_len,
-                       const uint16_t *draws, size_t draws_len, const uint16_t *firsts, size_t firsts_len, const uint16_t *seconds, size_t seconds_len,
-                       uint8_t *owners, size_t owners_len, uint64_t *sets, size_t sets_len,
-                       uint64_t *minutes, size_t minutes_len, uint8_t *answers, size_t answers_len);
+                       const uint16_t *draws, size_t draws_len, const uint16_t *firsts, size_t firsts_len,
+                       const uint16_t *seconds, size_t seconds_len, uint8_t *owners, size_t owners_len,
+                       uint64_t *sets, size_t sets_len, uint64_t *minutes, size_t minutes_len,
+                       uint8_t *answers, size_t answers_len);
 
 /* The same of draws as structs. */
 uint8_t boltraven_play_draws(size_t people, size_t slots, size_t units, size_t count, const uint32_t *starts, size_t starts_len,

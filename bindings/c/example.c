@@ -54,8 +54,8 @@ static uint8_t play(void) {
     owners[0] = owners[1] = 0;
     done("from_slots", boltraven_from_slots(PEOPLE, slots, starts, SLOTS, ends, SLOTS, avail, WORDS, owners, SLOTS, sets, WORDS, minutes,
                                             PEOPLE));
-    done("play_draws", boltraven_play_draws(PEOPLE, slots, units, DRAWS, starts, SLOTS, ends, SLOTS, avail, WORDS, unit_starts, SLOTS, frozen,
-                                            BOLTRAVEN_SET_WORDS, owners, SLOTS, sets, WORDS, minutes, PEOPLE, draws, DRAWS, answers,
+    done("play_draws", boltraven_play_draws(PEOPLE, slots, units, DRAWS, starts, SLOTS, ends, SLOTS, avail, WORDS, unit_starts, SLOTS,
+                                            frozen, BOLTRAVEN_SET_WORDS, owners, SLOTS, sets, WORDS, minutes, PEOPLE, draws, DRAWS, answers,
                                             DRAWS));
     return answers[0];
 }

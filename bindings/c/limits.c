@@ -74,7 +74,9 @@ CALL(slot_domain) { return boltraven_slot_domain(PEOPLE, r->slots, r->avail, WOR
 CALL(slot_minutes) { return boltraven_slot_minutes(r->slots, r->starts, SLOTS, r->ends, SLOTS, r->slots - 1, &r->first); }
 CALL(demand) { return boltraven_demand(r->slots, r->starts, SLOTS, r->ends, SLOTS, &r->first); }
 CALL(freeze_before) { return boltraven_freeze_before(r->slots, r->starts, SLOTS, r->ends, SLOTS, r->frozen, SET, 1440 * 500); }
-CALL(rotation_starts) { return boltraven_rotation_starts(r->slots, 0, 1, 1, 1, 7, r->starts, SLOTS, r->ends, SLOTS, r->unit_starts, SLOTS); }
+CALL(rotation_starts) {
+    return boltraven_rotation_starts(r->slots, 0, 1, 1, 1, 7, r->starts, SLOTS, r->ends, SLOTS, r->unit_starts, SLOTS);
+}
 CALL(unit_starts) { return boltraven_unit_starts(r->slots, 0, 1, 1, 1, 7, r->starts, SLOTS, r->ends, SLOTS, r->unit_starts, SLOTS); }
 CALL(unit_slots) { return boltraven_unit_slots(r->slots, r->units, r->unit_starts, SLOTS, r->units - 1, &r->first, &r->last); }
 CALL(unit_of_slot) { return boltraven_unit_of_slot(r->slots, r->units, r->unit_starts, SLOTS, r->slots - 1); }
@@ -108,8 +110,8 @@ CALL(uncovered_minutes) {
     return boltraven_uncovered_minutes(PEOPLE, r->slots, r->starts, SLOTS, r->ends, SLOTS, r->owners, SLOTS, &r->first);
 }
 CALL(recount) {
-    return boltraven_recount(PEOPLE, r->slots, r->units, r->starts, SLOTS, r->ends, SLOTS, r->avail, WORDS, r->unit_starts, SLOTS, r->owners,
-                             SLOTS, r->sets, WORDS, r->minutes, PEOPLE);
+    return boltraven_recount(PEOPLE, r->slots, r->units, r->starts, SLOTS, r->ends, SLOTS, r->avail, WORDS, r->unit_starts, SLOTS,
+                             r->owners, SLOTS, r->sets, WORDS, r->minutes, PEOPLE);
 }
 CALL(recount_slots) {
     return boltraven_recount_slots(PEOPLE, r->slots, r->starts, SLOTS, r->ends, SLOTS, r->avail, WORDS, r->owners, SLOTS, r->sets, WORDS,
@@ -117,8 +119,8 @@ CALL(recount_slots) {
 }
 CALL(play) {
     return boltraven_play(PEOPLE, r->slots, r->units, DRAWS, r->starts, SLOTS, r->ends, SLOTS, r->avail, WORDS, r->unit_starts, SLOTS,
-                          r->frozen, SET, r->draws, DRAWS, r->firsts, DRAWS, r->seconds, DRAWS, r->owners, SLOTS, r->sets, WORDS, r->minutes,
-                          PEOPLE, r->answers, DRAWS);
+                          r->frozen, SET, r->draws, DRAWS, r->firsts, DRAWS, r->seconds, DRAWS, r->owners, SLOTS, r->sets, WORDS,
+                          r->minutes, PEOPLE, r->answers, DRAWS);
 }
 CALL(play_draws) {
     return boltraven_play_draws(PEOPLE, r->slots, r->units, DRAWS, r->starts, SLOTS, r->ends, SLOTS, r->avail, WORDS, r->unit_starts, SLOTS,

@@ -319,7 +319,7 @@ pub fn damaged(case_seed: u64) -> Vec<Question> {
         row.people = seed.pick(&[0, 33, 34, 1 << 40, usize::MAX]);
     }
     if seed.one_in(2) {
-        row.case.len = seed.pick(&[1025, 1026, 2000, 1 << 32, usize::MAX]);
+        row.case.len = seed.pick(&[SLOTS_MOST + 1, SLOTS_MOST + 2, 2000, 1 << 32, usize::MAX]);
     }
     if seed.one_in(2) {
         let keep = seed.below(row.words.len() as u64 + 1) as usize;

@@ -330,7 +330,7 @@ impl Record {
     fn damage(&mut self, seed: &mut Seed, rule: u64, slot: usize, person: usize) {
         match rule {
             0 => self.people = seed.pick(&[0, 33, 65_535]),
-            1 => self.draws = seed.pick(&[1025, 65_535]),
+            1 => self.draws = seed.pick(&[DRAWS_MOST + 1, 65_535]),
             2 => self.owners_lent = slot,
             3 => self.words_lent = SET_WORDS * self.people.clamp(1, PEOPLE) - 1,
             4 => self.owners[slot] = PEOPLE as u8 + seed.below(250) as u8,

@@ -5,7 +5,7 @@ use on_call::model::problem::Problem;
 
 use crate::bits::put_bit;
 use crate::days::instant;
-use crate::limits::{MINUTES_MOST, SET_WORDS, SLOTS_MOST};
+use crate::limits::{MINUTES_MOST, RANGES_MOST, SET_WORDS, SLOTS_MOST};
 use crate::problems::{availability_into, problem_case, slots_of, ProblemCase, Range};
 use crate::seed::Seed;
 use crate::splitting::{merged_of, LentProblem};
@@ -88,7 +88,7 @@ impl Asked {
         let k = seed.below(ranges.shuts.len().max(1) as u64) as usize;
         match seed.below(14) {
             0 => ranges.people = seed.pick(&[0, 33, usize::MAX]),
-            1 => ranges.count = seed.pick(&[1025, usize::MAX]),
+            1 => ranges.count = seed.pick(&[RANGES_MOST + 1, usize::MAX]),
             2 => drop(ranges.persons.pop()),
             3 => drop(ranges.shuts.pop()),
             4 => self.words = seed.pick(&[0, SET_WORDS * ranges.people.min(PEOPLE)]).max(1) - 1,

@@ -103,7 +103,7 @@ impl Slots {
     pub fn damage(&mut self, seed: &mut Seed) {
         let k = seed.below(self.ends.len().min(self.starts.len()).max(1) as u64) as usize;
         match seed.below(6) {
-            0 => self.count = seed.pick(&[0, 1025, usize::MAX]),
+            0 => self.count = seed.pick(&[0, SLOTS_MOST + 1, usize::MAX]),
             1 => drop(self.starts.pop()),
             2 => drop(self.ends.pop()),
             _ if k >= self.starts.len() || k >= self.ends.len() => {}

@@ -39,7 +39,7 @@ module _ (R : Ready) (d : Draws) (o : List ℕ) (D : Derived) (e : playOf R d o 
       (replicate 1024
       0)) ≡ 0
   unfolding playOf rota.played state.outcome
-  number = e
+  no = e
 
   asks : PlayAsks P (R .avail) (R .units) (R .begins) (R .frozen) (d .count) (d .draws) (d .firsts) (d .seconds) o D (replicate 1024 0)
   asks = play-asks P (R .avail) (R .units) (R .begins) (R .frozen) (d .count) (d .draws) (d .firsts) (d .seconds) o D (replicate 1024 0) no

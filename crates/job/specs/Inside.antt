@@ -34,7 +34,7 @@ pub record ReadOk (s c b : List ℕ) : Type 0 where
 
 -- the atomic slots, with availability, the units, the targets, as their crates give them
 pub record AtomsAs (x : atomic.Atoms) (r : Atoms) : Type 0 where
-  pub no : r .number ≡ numberRefusal (x .answer)
+  pub number : r .number ≡ numberRefusal (x .answer)
   pub count : r .count ≡ valueOf (x .answer)
   pub starts : r .starts ≡ x .starts
   pub ends : r .ends ≡ x .ends
@@ -42,7 +42,7 @@ pub record AtomsAs (x : atomic.Atoms) (r : Atoms) : Type 0 where
   pub ends-room : length (r .ends) ≡ 1024
 
 pub record SlotsAs (s : List ℕ) (r : JobSlots) : Type 0 where
-  pub no : r .number ≡ numberRefusal (atomsOf s .answer)
+  pub number : r .number ≡ numberRefusal (atomsOf s .answer)
   pub count : r .count ≡ valueOf (atomsOf s .answer)
   pub starts : r .starts ≡ atomsOf s .starts
   pub ends : r .ends ≡ atomsOf s .ends
@@ -53,28 +53,28 @@ pub record SlotsAs (s : List ℕ) (r : JobSlots) : Type 0 where
   pub avail-room : length (r .avail) ≡ 512
 
 pub record UnitsAs (w : Written) (r : JobUnits) : Type 0 where
-  pub no : r .number ≡ numberRefusal (w .answer)
+  pub number : r .number ≡ numberRefusal (w .answer)
   pub count : r .count ≡ valueOf (w .answer)
   pub begins : r .begins ≡ w .buffer
   pub room : length (r .begins) ≡ 1024
 
 pub record TargetsAs (x : targets.Outcome) (r : JobTargets) : Type 0 where
-  pub no : r .number ≡ x .number
+  pub number : r .number ≡ x .number
   pub targets : r .targets ≡ x .out
   pub room : length (r .targets) ≡ 32
 
 -- what n owner records come to: their number, and the owners as bytes
 pub record OwnersAs (s : List ℕ) (at n slots people units : ℕ) (begins : List ℕ) (r : JobOwners) : Type 0 where
-  pub no : r .number ≡ numberOf (ownersRow s at n slots people units begins (placed s at slots n))
+  pub number : r .number ≡ numberOf (ownersRow s at n slots people units begins (placed s at slots n))
   pub owners : r .owners ≡ narrowed (placed s at slots n)
 
 -- sets and minutes, and the play, as the rota gives them
 pub record StartedAs (y : state.Outcome) (r : Started) : Type 0 where
-  pub no : r .number ≡ y .number
+  pub number : r .number ≡ y .number
   pub derived : derived (r .sets) (r .minutes) ≡ y .derived
 
 pub record PlayedAs (y : state.Outcome) (r : Played) : Type 0 where
-  pub no : r .number ≡ y .number
+  pub number : r .number ≡ y .number
   pub owners : r .owners ≡ y .owners
   pub minutes : r .minutes ≡ y .derived .minutes
   pub answers : r .answers ≡ y .answers
@@ -88,7 +88,7 @@ readyBy r =
     ready (r .people) (r .slots) (r .starts) (r .ends) (r .avail) (r .units) (r .begins) (r .frozen) (r .targets)
 
 pub record PreparedAs (s : List ℕ) (r : Prepared) : Type 0 where
-  pub no : r .number ≡ numberOf (prepareRow s)
+  pub number : r .number ≡ numberOf (prepareRow s)
   pub ready : readyBy r ≡ readyOf s
   pub owners : r .owners ≡ ownersOf s
   pub derived : derived (r .sets) (r .minutes) ≡ startedOf s .derived

@@ -60,13 +60,13 @@ refused-at (suc n) d ls e = go (pass d (again ls)) refl e (refused-at n d)
           standings = r .standings;
           few = suc-le-suc (r .few);
           due = ap (passes (r .before) d) h ∙ r .due;
-          number = r .number;
+          no = r .no;
         }
     go (done ms) h e f =
         let g : done ms ≡ refused = sym (done-stays n d ms) ∙ e in
         let z : _≡_ {A = ℕ} 0 1 = cc in
         differ z
-    go refused h e f = record { before = 0; standings = ls; few = zero-lt-suc n; due = refl; number = h }
+    go refused h e f = record { before = 0; standings = ls; few = zero-lt-suc n; due = refl; no = h }
 
 not-guarded : (p : Passed) → guarded p ≡ false → p ≡ refused
 not-guarded (again ls) e = absurd (true≢false e)
@@ -81,7 +81,7 @@ found-beyond d ls e =
     let r = refused-at (suc (length ls)) d ls (not-guarded (passesLeave d ls) e) in
     let n = whole (notional d (r .standings)) in
     let s = shareSum (r .standings) in
-    let q = passed-refused n s (r .standings) (r .number) in
+    let q = passed-refused n s (r .standings) (r .no) in
     let j = some-at (outside n s) (r .standings) (q .1) in
     let l = getD (r .standings) (j .0) pad in
     let o = guard-broken n s l (j .2) in

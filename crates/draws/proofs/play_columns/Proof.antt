@@ -12,42 +12,42 @@ use Rattle.draws.proofs.play_columns.Tie as tie
 
 array-share-prefix-draws : tie.Need-array-share-prefix-draws
 array-share-prefix-draws c =
-    let m = c .before .before .before .before .before .before in
+    let m = c .before .before .before in
     let s = m .before .before .before .before .before .before .before .before .before .before in
     let n : length (s .args .c .draws) ≡ 1024 = search (needs, s .good .1 .1 .1 .1 .1 .1 .1 .1 .1 .1 .1 .1 .0) in
     prefix-fits _ _ (s .args .c .draws) (m .at-most .ensures) n .0
 
 slice-aggregate-play : tie.Need-slice-aggregate-play
 slice-aggregate-play c =
-    let m = c .before .before .before .before .before .before .before in
+    let m = c .before .before .before .before in
     let s = m .before .before .before .before .before .before .before .before .before .before in
     let n : length (s .args .c .draws) ≡ 1024 = search (needs, s .good .1 .1 .1 .1 .1 .1 .1 .1 .1 .1 .1 .1 .0) in
     prefix-fits _ _ (s .args .c .draws) (m .at-most .ensures) n .1
 
 array-share-prefix-firsts : tie.Need-array-share-prefix-firsts
 array-share-prefix-firsts c =
-    let m = c .before .before .before .before .before .before .before in
+    let m = c .before .before .before .before in
     let s = m .before .before .before .before .before .before .before .before .before .before in
     let n : length (s .args .c .firsts) ≡ 1024 = search (needs, s .good .1 .1 .1 .1 .1 .1 .1 .1 .1 .1 .1 .1 .0) in
     prefix-fits _ _ (s .args .c .firsts) (m .at-most .ensures) n .0
 
 slice-aggregate-play-2 : tie.Need-slice-aggregate-play-2
 slice-aggregate-play-2 c =
-    let m = c .before .before .before .before .before .before .before .before in
+    let m = c .before .before .before .before .before in
     let s = m .before .before .before .before .before .before .before .before .before .before in
     let n : length (s .args .c .firsts) ≡ 1024 = search (needs, s .good .1 .1 .1 .1 .1 .1 .1 .1 .1 .1 .1 .1 .0) in
     prefix-fits _ _ (s .args .c .firsts) (m .at-most .ensures) n .1
 
 array-share-prefix-seconds : tie.Need-array-share-prefix-seconds
 array-share-prefix-seconds c =
-    let m = c .before .before .before .before .before .before .before .before in
+    let m = c .before .before .before .before .before in
     let s = m .before .before .before .before .before .before .before .before .before .before in
     let n : length (s .args .c .seconds) ≡ 1024 = search (needs, s .good .1 .1 .1 .1 .1 .1 .1 .1 .1 .1 .1 .1 .0) in
     prefix-fits _ _ (s .args .c .seconds) (m .at-most .ensures) n .0
 
 slice-aggregate-play-3 : tie.Need-slice-aggregate-play-3
 slice-aggregate-play-3 c =
-    let m = c .before .before .before .before .before .before .before .before .before in
+    let m = c .before .before .before .before .before .before in
     let s = m .before .before .before .before .before .before .before .before .before .before in
     let n : length (s .args .c .seconds) ≡ 1024 = search (needs, s .good .1 .1 .1 .1 .1 .1 .1 .1 .1 .1 .1 .1 .0) in
     prefix-fits _ _ (s .args .c .seconds) (m .at-most .ensures) n .1
