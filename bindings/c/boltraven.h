@@ -109,48 +109,48 @@ uint32_t boltraven_version(void);
 /* ---- Sets: a row of words a person, of `len` slots. */
 
 /* Whether slot i is a member: 1 or 0. */
-uint64_t boltraven_contains(const uint64_t *words, size_t words_len, size_t people, size_t person, size_t len, size_t i);
+uint64_t boltraven_contains(size_t people, size_t len, const uint64_t *words, size_t words_len, size_t person, size_t i);
 
 /* Whether there is no member: 1 or 0. */
-uint64_t boltraven_is_empty(const uint64_t *words, size_t words_len, size_t people, size_t person, size_t len);
+uint64_t boltraven_is_empty(size_t people, size_t len, const uint64_t *words, size_t words_len, size_t person);
 
 /* How many members there are. */
-uint64_t boltraven_count(const uint64_t *words, size_t words_len, size_t people, size_t person, size_t len);
+uint64_t boltraven_count(size_t people, size_t len, const uint64_t *words, size_t words_len, size_t person);
 
 /* The first member at or after `from`, or nothing. */
-uint64_t boltraven_next_set(const uint64_t *words, size_t words_len, size_t people, size_t person, size_t len, size_t from);
+uint64_t boltraven_next_set(size_t people, size_t len, const uint64_t *words, size_t words_len, size_t person, size_t from);
 
 /* The last member at or before `from`, or nothing. */
-uint64_t boltraven_prev_set(const uint64_t *words, size_t words_len, size_t people, size_t person, size_t len, size_t from);
+uint64_t boltraven_prev_set(size_t people, size_t len, const uint64_t *words, size_t words_len, size_t person, size_t from);
 
 /* The first slot after `from` that is no member, or nothing. */
-uint64_t boltraven_next_unset_after(const uint64_t *words, size_t words_len, size_t people, size_t person, size_t len, size_t from);
+uint64_t boltraven_next_unset_after(size_t people, size_t len, const uint64_t *words, size_t words_len, size_t person, size_t from);
 
 /* The last slot before `from` that is no member, or nothing. */
-uint64_t boltraven_prev_unset_before(const uint64_t *words, size_t words_len, size_t people, size_t person, size_t len,
+uint64_t boltraven_prev_unset_before(size_t people, size_t len, const uint64_t *words, size_t words_len, size_t person,
                                      size_t from);
 
 /* The stretch that holds slot i, both ends in it: BOLTRAVEN_RUN of members, BOLTRAVEN_HOLE of slots below `len` that are none, or nothing
    where i is not below `len`. */
-uint64_t boltraven_run_bounds(const uint64_t *words, size_t words_len, size_t people, size_t person, size_t len, size_t i,
+uint64_t boltraven_run_bounds(size_t people, size_t len, const uint64_t *words, size_t words_len, size_t person, size_t i,
                               uint64_t *first, uint64_t *last);
 
 /* The next run from the cursor on, and the cursor one past it: 0, or nothing. */
-uint64_t boltraven_next_run(const uint64_t *words, size_t words_len, size_t people, size_t person, size_t len, size_t cursor,
+uint64_t boltraven_next_run(size_t people, size_t len, const uint64_t *words, size_t words_len, size_t person, size_t cursor,
                             uint64_t *first, uint64_t *last, uint64_t *next);
 
 /* The next member from the cursor on, and the cursor one past it: 0, or nothing. */
-uint64_t boltraven_next_member(const uint64_t *words, size_t words_len, size_t people, size_t person, size_t len, size_t cursor,
+uint64_t boltraven_next_member(size_t people, size_t len, const uint64_t *words, size_t words_len, size_t person, size_t cursor,
                                uint64_t *at, uint64_t *next);
 
 /* The row with slot i. */
-uint8_t boltraven_insert(uint64_t *words, size_t words_len, size_t people, size_t person, size_t len, size_t i);
+uint8_t boltraven_insert(size_t people, size_t len, uint64_t *words, size_t words_len, size_t person, size_t i);
 
 /* The row without slot i. */
-uint8_t boltraven_remove(uint64_t *words, size_t words_len, size_t people, size_t person, size_t len, size_t i);
+uint8_t boltraven_remove(size_t people, size_t len, uint64_t *words, size_t words_len, size_t person, size_t i);
 
 /* Each slot from `from` up to `to`, without `to`, becomes as wanted. */
-uint8_t boltraven_put_stretch(uint64_t *words, size_t words_len, size_t people, size_t person, size_t len, size_t from, size_t to,
+uint8_t boltraven_put_stretch(size_t people, size_t len, uint64_t *words, size_t words_len, size_t person, size_t from, size_t to,
                               bool want);
 
 /* ---- Times: minute 0 is Thursday 1970-01-01 00:00. */
@@ -165,29 +165,28 @@ uint32_t boltraven_weekday_of(uint32_t date);
 
 /* Each person's ranges, sorted and merged, and how many. */
 uint64_t boltraven_merged_ranges(size_t people, size_t count, const uint16_t *persons, size_t persons_len,
-                                 const uint32_t *starts, size_t starts_len, const uint32_t *ends, size_t ends_len,
+                                 const uint32_t *opens, size_t opens_len, const uint32_t *shuts, size_t shuts_len,
                                  uint16_t *whose, size_t whose_len, uint32_t *froms, size_t froms_len,
                                  uint32_t *tos, size_t tos_len);
 
 /* Base slots split at the ends of merged ranges, and how many slots came out: `froms` and `tos` need room for 1,024. */
-uint64_t boltraven_atomise(size_t slots, const uint32_t *starts, size_t starts_len, const uint32_t *ends, size_t ends_len,
-                           size_t people, size_t count, const uint16_t *persons, size_t persons_len,
+uint64_t boltraven_atomise(size_t people, size_t slots, size_t count, const uint32_t *starts, size_t starts_len,
+                           const uint32_t *ends, size_t ends_len, const uint16_t *persons, size_t persons_len,
                            const uint32_t *opens, size_t opens_len, const uint32_t *shuts, size_t shuts_len,
                            uint32_t *froms, size_t froms_len, uint32_t *tos, size_t tos_len);
 
 /* Who is available for which slot, as a set a person. */
-uint8_t boltraven_availability(size_t people, size_t slots, const uint32_t *starts, size_t starts_len,
-                               const uint32_t *ends, size_t ends_len, size_t count, const uint16_t *persons, size_t persons_len,
+uint8_t boltraven_availability(size_t people, size_t slots, size_t count, const uint32_t *starts, size_t starts_len,
+                               const uint32_t *ends, size_t ends_len, const uint16_t *persons, size_t persons_len,
                                const uint32_t *opens, size_t opens_len, const uint32_t *shuts, size_t shuts_len,
                                uint64_t *words, size_t words_len);
 
 /* Whether a person is available for a slot: 1 or 0. */
-uint64_t boltraven_is_available(size_t people, size_t slots, const uint64_t *avail, size_t avail_len, size_t person,
-                                size_t slot);
+uint64_t boltraven_is_available(size_t people, size_t slots, const uint64_t *avail, size_t avail_len, size_t person, size_t slot);
 
 /* The people available for a slot, ascending, and how many. */
-uint64_t boltraven_slot_domain(const uint64_t *avail, size_t avail_len, size_t people, size_t slots, size_t slot,
-                               uint8_t *list, size_t list_len);
+uint64_t boltraven_slot_domain(size_t people, size_t slots, const uint64_t *avail, size_t avail_len, uint8_t *list, size_t list_len,
+                               size_t slot);
 
 /* The minutes of one slot. */
 uint8_t boltraven_slot_minutes(size_t slots, const uint32_t *starts, size_t starts_len, const uint32_t *ends, size_t ends_len,
@@ -204,33 +203,33 @@ uint64_t boltraven_freeze_before(size_t slots, const uint32_t *starts, size_t st
 /* ---- Rotations and units, by the slots that begin them. */
 
 /* The first slots of the rotations, and how many. */
-uint64_t boltraven_rotation_starts(uint8_t fairness, uint8_t lock, uint8_t boundary, uint8_t edition, uint16_t value, uint16_t days,
-                                   size_t slots, const uint32_t *starts, size_t starts_len, const uint32_t *ends, size_t ends_len,
-                                   uint16_t *firsts, size_t firsts_len);
+uint64_t boltraven_rotation_starts(size_t slots, uint8_t fairness, uint8_t lock, uint8_t boundary, uint8_t edition, uint16_t value,
+                                   uint16_t days, const uint32_t *starts, size_t starts_len, const uint32_t *ends, size_t ends_len,
+                                   uint16_t *unit_starts, size_t unit_starts_len);
 
 /* The first slots of the units, and how many: each slot one unlocked, each rotation one locked. */
-uint64_t boltraven_unit_starts(uint8_t fairness, uint8_t lock, uint8_t boundary, uint8_t edition, uint16_t value, uint16_t days,
-                               size_t slots, const uint32_t *starts, size_t starts_len, const uint32_t *ends, size_t ends_len,
-                               uint16_t *firsts, size_t firsts_len);
+uint64_t boltraven_unit_starts(size_t slots, uint8_t fairness, uint8_t lock, uint8_t boundary, uint8_t edition, uint16_t value,
+                               uint16_t days, const uint32_t *starts, size_t starts_len, const uint32_t *ends, size_t ends_len,
+                               uint16_t *unit_starts, size_t unit_starts_len);
 
 /* The slots of a unit: `from` up to `to`, without `to`. */
-uint8_t boltraven_unit_slots(size_t slots, size_t units, const uint16_t *firsts, size_t firsts_len, size_t unit, uint64_t *from,
-                             uint64_t *to);
+uint8_t boltraven_unit_slots(size_t slots, size_t units, const uint16_t *unit_starts, size_t unit_starts_len, size_t unit,
+                             uint64_t *from, uint64_t *to);
 
 /* The unit of a slot. */
-uint64_t boltraven_unit_of_slot(size_t slots, size_t units, const uint16_t *firsts, size_t firsts_len, size_t slot);
+uint64_t boltraven_unit_of_slot(size_t slots, size_t units, const uint16_t *unit_starts, size_t unit_starts_len, size_t slot);
 
 /* The people available for all slots of a unit, ascending, and how many. */
-uint64_t boltraven_unit_domain(const uint64_t *avail, size_t avail_len, size_t people, size_t slots, size_t units,
-                               const uint16_t *firsts, size_t firsts_len, size_t unit, uint8_t *list, size_t list_len);
+uint64_t boltraven_unit_domain(size_t people, size_t slots, size_t units, const uint64_t *avail, size_t avail_len,
+                               const uint16_t *unit_starts, size_t unit_starts_len, uint8_t *list, size_t list_len, size_t unit);
 
 /* Of every unit at once the people available for all its slots: a mask each, bit p for person p. There is room for as many as slots. */
-uint8_t boltraven_unit_domains(const uint64_t *avail, size_t avail_len, size_t people, size_t slots, size_t units,
-                               const uint16_t *firsts, size_t firsts_len, uint32_t *masks, size_t masks_len);
+uint8_t boltraven_unit_domains(size_t people, size_t slots, size_t units, const uint64_t *avail, size_t avail_len,
+                               const uint16_t *unit_starts, size_t unit_starts_len, uint32_t *masks, size_t masks_len);
 
 /* Whether any slot of a unit is frozen: 1 or 0. */
-uint64_t boltraven_unit_frozen(const uint64_t *frozen, size_t frozen_len, size_t slots, size_t units,
-                               const uint16_t *firsts, size_t firsts_len, size_t unit);
+uint64_t boltraven_unit_frozen(size_t slots, size_t units, const uint16_t *unit_starts, size_t unit_starts_len,
+                               const uint64_t *frozen, size_t frozen_len, size_t unit);
 
 /* The distinct dates on which a minute of a slot falls; a slot that ends at midnight doesn't cover the next day. */
 uint8_t boltraven_covered_days(size_t slots, const uint32_t *starts, size_t starts_len, const uint32_t *ends, size_t ends_len,
@@ -241,22 +240,22 @@ uint8_t boltraven_minutes_per_day(size_t slots, const uint32_t *starts, size_t s
                                   uint64_t *out);
 
 /* How long a run is to be. */
-uint8_t boltraven_target_run(uint8_t fairness, uint8_t lock, uint8_t boundary, uint8_t edition, uint16_t value, uint16_t days,
-                             size_t slots, const uint32_t *starts, size_t starts_len, const uint32_t *ends, size_t ends_len, uint64_t *out);
+uint8_t boltraven_target_run(size_t slots, uint8_t fairness, uint8_t lock, uint8_t boundary, uint8_t edition, uint16_t value,
+                             uint16_t days, const uint32_t *starts, size_t starts_len, const uint32_t *ends, size_t ends_len, uint64_t *out);
 
 /* The longest run that a person can have, up to the target run. */
-uint8_t boltraven_achievable_run(uint8_t fairness, uint8_t lock, uint8_t boundary, uint8_t edition, uint16_t value, uint16_t days,
-                                 const uint64_t *avail, size_t avail_len, size_t people, size_t person, size_t slots,
-                                 const uint32_t *starts, size_t starts_len, const uint32_t *ends, size_t ends_len,
+uint8_t boltraven_achievable_run(size_t people, size_t slots, uint8_t fairness, uint8_t lock, uint8_t boundary, uint8_t edition,
+                                 uint16_t value, uint16_t days, const uint32_t *starts, size_t starts_len, const uint32_t *ends,
+                                 size_t ends_len, const uint64_t *avail, size_t avail_len, size_t person,
                                  uint64_t *out);
 
 /* ---- Targets. */
 
 /* Each person's target, by capacity and prior minutes; they add up to the minutes of all slots. In edition 1 one may be negative. */
-uint8_t boltraven_compute_targets(size_t people, size_t slots, const uint32_t *starts, size_t starts_len,
-                                  const uint32_t *ends, size_t ends_len, const uint64_t *avail, size_t avail_len,
-                                  const double *capacities, size_t capacities_len, const uint32_t *priors, size_t priors_len,
-                                  uint8_t fairness, uint8_t edition, int64_t *out, size_t out_len);
+uint8_t boltraven_compute_targets(size_t people, size_t slots, uint8_t fairness, uint8_t edition,
+                                  const uint32_t *starts, size_t starts_len, const uint32_t *ends, size_t ends_len,
+                                  const uint64_t *avail, size_t avail_len, const double *capacities, size_t capacities_len,
+                                  const uint32_t *priors, size_t priors_len, int64_t *out, size_t out_len);
 
 /* ---- A rota: an owner a slot, and everybody's set and minutes. */
 
@@ -292,7 +291,7 @@ uint8_t boltraven_uncovered_minutes(size_t people, size_t slots, const uint32_t 
 /* Whether owners, sets and minutes fit together, and units have one owner each: 0, or 10. */
 uint8_t boltraven_recount(size_t people, size_t slots, size_t units, const uint32_t *starts, size_t starts_len,
                           const uint32_t *ends, size_t ends_len, const uint64_t *avail, size_t avail_len,
-                          const uint16_t *firsts, size_t firsts_len, const uint8_t *owners, size_t owners_len,
+                          const uint16_t *unit_starts, size_t unit_starts_len, const uint8_t *owners, size_t owners_len,
                           const uint64_t *sets, size_t sets_len, const uint64_t *minutes, size_t minutes_len);
 
 /* The same, units aside. */
@@ -304,15 +303,16 @@ uint8_t boltraven_recount_slots(size_t people, size_t slots, const uint32_t *sta
 /* Draws in three columns, played in order; an answer byte each: 0 acted, 1 no move, 2 choice outside. */
 uint8_t boltraven_play(size_t people, size_t slots, size_t units, size_t count, const uint32_t *starts, size_t starts_len,
                        const uint32_t *ends, size_t ends_len, const uint64_t *avail, size_t avail_len,
-                       const uint16_t *firsts, size_t firsts_len, const uint64_t *frozen, size_t frozen_len,
-                       uint8_t *owners, size_t owners_len, uint64_t *sets, size_t sets_len, uint64_t *minutes, size_t minutes_len,
-                       const uint16_t *kinds, size_t kinds_len, const uint16_t *ones, size_t ones_len,
-                       const uint16_t *twos, size_t twos_len, uint8_t *answers, size_t answers_len);
+                       const uint16_t *unit_starts, size_t unit_starts_len, const uint64_t *frozen, size_t frozen_len,
+                       const uint16_t *draws, size_t draws_len, const uint16_t *firsts, size_t firsts_len,
+                       const uint16_t *seconds, size_t seconds_len, uint8_t *owners, size_t owners_len,
+                       uint64_t *sets, size_t sets_len, uint64_t *minutes, size_t minutes_len,
+                       uint8_t *answers, size_t answers_len);
 
 /* The same of draws as structs. */
 uint8_t boltraven_play_draws(size_t people, size_t slots, size_t units, size_t count, const uint32_t *starts, size_t starts_len,
                              const uint32_t *ends, size_t ends_len, const uint64_t *avail, size_t avail_len,
-                             const uint16_t *firsts, size_t firsts_len, const uint64_t *frozen, size_t frozen_len,
+                             const uint16_t *unit_starts, size_t unit_starts_len, const uint64_t *frozen, size_t frozen_len,
                              uint8_t *owners, size_t owners_len, uint64_t *sets, size_t sets_len,
                              uint64_t *minutes, size_t minutes_len, const struct boltraven_draw *draws, size_t draws_len,
                              uint8_t *answers, size_t answers_len);

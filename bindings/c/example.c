@@ -11,7 +11,7 @@ enum { PEOPLE = 2, RANGES = 2, DRAWS = 1, SLOTS = BOLTRAVEN_SLOTS_MOST, WORDS = 
 /* What is planned: the slots, who can cover them, and the units. */
 static uint32_t starts[SLOTS], ends[SLOTS];
 static uint64_t avail[WORDS], frozen[BOLTRAVEN_SET_WORDS];
-static uint16_t firsts[SLOTS];
+static uint16_t unit_starts[SLOTS];
 static size_t slots, units;
 
 /* The rota. */
@@ -38,13 +38,13 @@ static void prepare(void) {
     const uint32_t opens[RANGES] = {0, 60}, shuts[RANGES] = {120, 180};
     const double capacities[PEOPLE] = {1.0, 1.0};
     const uint32_t priors[PEOPLE] = {0, 0};
-    slots = answer("atomise", boltraven_atomise(1, base_starts, 1, base_ends, 1, PEOPLE, RANGES, persons, RANGES, opens, RANGES, shuts,
+    slots = answer("atomise", boltraven_atomise(PEOPLE, 1, RANGES, base_starts, 1, base_ends, 1, persons, RANGES, opens, RANGES, shuts,
                                                 RANGES, starts, SLOTS, ends, SLOTS));
-    done("availability", boltraven_availability(PEOPLE, slots, starts, SLOTS, ends, SLOTS, RANGES, persons, RANGES, opens, RANGES, shuts,
+    done("availability", boltraven_availability(PEOPLE, slots, RANGES, starts, SLOTS, ends, SLOTS, persons, RANGES, opens, RANGES, shuts,
                                                 RANGES, avail, WORDS));
-    units = answer("unit_starts", boltraven_unit_starts(0, 0, 0, 0, 1, 1, slots, starts, SLOTS, ends, SLOTS, firsts, SLOTS));
-    done("compute_targets", boltraven_compute_targets(PEOPLE, slots, starts, SLOTS, ends, SLOTS, avail, WORDS, capacities, PEOPLE, priors,
-                                                      PEOPLE, 0, 0, targets, PEOPLE));
+    units = answer("unit_starts", boltraven_unit_starts(slots, 0, 0, 0, 0, 1, 1, starts, SLOTS, ends, SLOTS, unit_starts, SLOTS));
+    done("compute_targets", boltraven_compute_targets(PEOPLE, slots, 0, 0, starts, SLOTS, ends, SLOTS, avail, WORDS, capacities,
+                                                      PEOPLE, priors, PEOPLE, targets, PEOPLE));
 }
 
 /* Person 0 has both slots; the draw hands the second to the second of those who can cover it. */
@@ -54,8 +54,8 @@ static uint8_t play(void) {
     owners[0] = owners[1] = 0;
     done("from_slots", boltraven_from_slots(PEOPLE, slots, starts, SLOTS, ends, SLOTS, avail, WORDS, owners, SLOTS, sets, WORDS, minutes,
                                             PEOPLE));
-    done("play_draws", boltraven_play_draws(PEOPLE, slots, units, DRAWS, starts, SLOTS, ends, SLOTS, avail, WORDS, firsts, SLOTS, frozen,
-                                            BOLTRAVEN_SET_WORDS, owners, SLOTS, sets, WORDS, minutes, PEOPLE, draws, DRAWS, answers,
+    done("play_draws", boltraven_play_draws(PEOPLE, slots, units, DRAWS, starts, SLOTS, ends, SLOTS, avail, WORDS, unit_starts, SLOTS,
+                                            frozen, BOLTRAVEN_SET_WORDS, owners, SLOTS, sets, WORDS, minutes, PEOPLE, draws, DRAWS, answers,
                                             DRAWS));
     return answers[0];
 }
@@ -72,7 +72,7 @@ static void list(uint8_t answered) {
 /* What holds a slot of a person's set: the whole run, or the whole hole. */
 static void show(size_t person, size_t slot) {
     uint64_t first, last;
-    const uint64_t held = boltraven_run_bounds(sets, WORDS, PEOPLE, person, slots, slot, &first, &last);
+    const uint64_t held = boltraven_run_bounds(PEOPLE, slots, sets, WORDS, person, slot, &first, &last);
     if (held >= BOLTRAVEN_NOTHING) done("run_bounds", held - BOLTRAVEN_NOTHING);
     printf("%s %zu %" PRIu64 " %" PRIu64 "\n", held == BOLTRAVEN_HOLE ? "hole" : "run", person, first, last);
 }

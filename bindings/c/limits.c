@@ -31,8 +31,8 @@ struct room {
     uint64_t avail[WORDS], sets[WORDS], frozen[SET], minutes[PEOPLE], first, last, next, slots, units;
     int64_t targets[PEOPLE];
     double capacities[PEOPLE];
-    struct boltraven_draw draws[DRAWS];
-    uint16_t persons[RANGES], whose[RANGES], firsts[SLOTS], kinds[DRAWS], ones[DRAWS], twos[DRAWS];
+    struct boltraven_draw structs[DRAWS];
+    uint16_t persons[RANGES], whose[RANGES], unit_starts[SLOTS], draws[DRAWS], firsts[DRAWS], seconds[DRAWS];
     uint8_t owners[SLOTS], list[PEOPLE], answers[DRAWS], file[BOLTRAVEN_FILE_MOST], listing[BOLTRAVEN_LISTING_MOST];
     size_t file_len;
 };
@@ -42,19 +42,19 @@ struct room {
 #define CALL(name) static uint64_t call_##name(struct room *r)
 
 CALL(version) { (void)r; return boltraven_version(); }
-CALL(contains) { return boltraven_contains(r->avail, WORDS, PEOPLE, PEOPLE - 1, r->slots, r->slots - 2); }
-CALL(is_empty) { return boltraven_is_empty(r->avail, WORDS, PEOPLE, PEOPLE - 1, r->slots); }
-CALL(count) { return boltraven_count(r->avail, WORDS, PEOPLE, PEOPLE - 1, r->slots); }
-CALL(next_set) { return boltraven_next_set(r->avail, WORDS, PEOPLE, PEOPLE - 1, r->slots, 0); }
-CALL(prev_set) { return boltraven_prev_set(r->avail, WORDS, PEOPLE, PEOPLE - 1, r->slots, r->slots); }
-CALL(next_unset_after) { return boltraven_next_unset_after(r->avail, WORDS, PEOPLE, PEOPLE - 1, r->slots, 0); }
-CALL(prev_unset_before) { return boltraven_prev_unset_before(r->avail, WORDS, PEOPLE, PEOPLE - 1, r->slots, r->slots); }
-CALL(run_bounds) { return boltraven_run_bounds(r->avail, WORDS, PEOPLE, PEOPLE - 1, r->slots, 500, &r->first, &r->last); }
-CALL(next_run) { return boltraven_next_run(r->avail, WORDS, PEOPLE, PEOPLE - 1, r->slots, 500, &r->first, &r->last, &r->next); }
-CALL(next_member) { return boltraven_next_member(r->avail, WORDS, PEOPLE, PEOPLE - 1, r->slots, 500, &r->first, &r->next); }
-CALL(insert) { return boltraven_insert(r->sets, WORDS, PEOPLE, PEOPLE - 1, r->slots, r->slots - 1); }
-CALL(remove) { return boltraven_remove(r->avail, WORDS, PEOPLE, PEOPLE - 1, r->slots, 0); }
-CALL(put_stretch) { return boltraven_put_stretch(r->sets, WORDS, PEOPLE, PEOPLE - 1, r->slots, 1, r->slots, true); }
+CALL(contains) { return boltraven_contains(PEOPLE, r->slots, r->avail, WORDS, PEOPLE - 1, r->slots - 2); }
+CALL(is_empty) { return boltraven_is_empty(PEOPLE, r->slots, r->avail, WORDS, PEOPLE - 1); }
+CALL(count) { return boltraven_count(PEOPLE, r->slots, r->avail, WORDS, PEOPLE - 1); }
+CALL(next_set) { return boltraven_next_set(PEOPLE, r->slots, r->avail, WORDS, PEOPLE - 1, 0); }
+CALL(prev_set) { return boltraven_prev_set(PEOPLE, r->slots, r->avail, WORDS, PEOPLE - 1, r->slots); }
+CALL(next_unset_after) { return boltraven_next_unset_after(PEOPLE, r->slots, r->avail, WORDS, PEOPLE - 1, 0); }
+CALL(prev_unset_before) { return boltraven_prev_unset_before(PEOPLE, r->slots, r->avail, WORDS, PEOPLE - 1, r->slots); }
+CALL(run_bounds) { return boltraven_run_bounds(PEOPLE, r->slots, r->avail, WORDS, PEOPLE - 1, 500, &r->first, &r->last); }
+CALL(next_run) { return boltraven_next_run(PEOPLE, r->slots, r->avail, WORDS, PEOPLE - 1, 500, &r->first, &r->last, &r->next); }
+CALL(next_member) { return boltraven_next_member(PEOPLE, r->slots, r->avail, WORDS, PEOPLE - 1, 500, &r->first, &r->next); }
+CALL(insert) { return boltraven_insert(PEOPLE, r->slots, r->sets, WORDS, PEOPLE - 1, r->slots - 1); }
+CALL(remove) { return boltraven_remove(PEOPLE, r->slots, r->avail, WORDS, PEOPLE - 1, 0); }
+CALL(put_stretch) { return boltraven_put_stretch(PEOPLE, r->slots, r->sets, WORDS, PEOPLE - 1, 1, r->slots, true); }
 CALL(date_of) { return boltraven_date_of(r->starts[1000]); }
 CALL(weekday_of) { return boltraven_weekday_of(r->starts[1000] / 1440); }
 CALL(merged_ranges) {
@@ -62,35 +62,37 @@ CALL(merged_ranges) {
                                    RANGES, r->tos, RANGES);
 }
 CALL(atomise) {
-    return boltraven_atomise(BASES, r->base_starts, BASES, r->base_ends, BASES, PEOPLE, RANGES, r->persons, RANGES, r->opens, RANGES,
+    return boltraven_atomise(PEOPLE, BASES, RANGES, r->base_starts, BASES, r->base_ends, BASES, r->persons, RANGES, r->opens, RANGES,
                              r->shuts, RANGES, r->froms, SLOTS, r->tos, SLOTS);
 }
 CALL(availability) {
-    return boltraven_availability(PEOPLE, r->slots, r->starts, SLOTS, r->ends, SLOTS, RANGES, r->persons, RANGES, r->opens, RANGES,
+    return boltraven_availability(PEOPLE, r->slots, RANGES, r->starts, SLOTS, r->ends, SLOTS, r->persons, RANGES, r->opens, RANGES,
                                   r->shuts, RANGES, r->sets, WORDS);
 }
 CALL(is_available) { return boltraven_is_available(PEOPLE, r->slots, r->avail, WORDS, PEOPLE - 1, r->slots - 1); }
-CALL(slot_domain) { return boltraven_slot_domain(r->avail, WORDS, PEOPLE, r->slots, r->slots - 2, r->list, PEOPLE); }
+CALL(slot_domain) { return boltraven_slot_domain(PEOPLE, r->slots, r->avail, WORDS, r->list, PEOPLE, r->slots - 2); }
 CALL(slot_minutes) { return boltraven_slot_minutes(r->slots, r->starts, SLOTS, r->ends, SLOTS, r->slots - 1, &r->first); }
 CALL(demand) { return boltraven_demand(r->slots, r->starts, SLOTS, r->ends, SLOTS, &r->first); }
 CALL(freeze_before) { return boltraven_freeze_before(r->slots, r->starts, SLOTS, r->ends, SLOTS, r->frozen, SET, 1440 * 500); }
-CALL(rotation_starts) { return boltraven_rotation_starts(0, 1, 1, 1, 1, 7, r->slots, r->starts, SLOTS, r->ends, SLOTS, r->firsts, SLOTS); }
-CALL(unit_starts) { return boltraven_unit_starts(0, 1, 1, 1, 1, 7, r->slots, r->starts, SLOTS, r->ends, SLOTS, r->firsts, SLOTS); }
-CALL(unit_slots) { return boltraven_unit_slots(r->slots, r->units, r->firsts, SLOTS, r->units - 1, &r->first, &r->last); }
-CALL(unit_of_slot) { return boltraven_unit_of_slot(r->slots, r->units, r->firsts, SLOTS, r->slots - 1); }
-CALL(unit_domain) { return boltraven_unit_domain(r->avail, WORDS, PEOPLE, r->slots, r->units, r->firsts, SLOTS, 1, r->list, PEOPLE); }
-CALL(unit_domains) { return boltraven_unit_domains(r->avail, WORDS, PEOPLE, r->slots, r->units, r->firsts, SLOTS, r->masks, SLOTS); }
-CALL(unit_frozen) { return boltraven_unit_frozen(r->frozen, SET, r->slots, r->units, r->firsts, SLOTS, r->units - 1); }
+CALL(rotation_starts) {
+    return boltraven_rotation_starts(r->slots, 0, 1, 1, 1, 1, 7, r->starts, SLOTS, r->ends, SLOTS, r->unit_starts, SLOTS);
+}
+CALL(unit_starts) { return boltraven_unit_starts(r->slots, 0, 1, 1, 1, 1, 7, r->starts, SLOTS, r->ends, SLOTS, r->unit_starts, SLOTS); }
+CALL(unit_slots) { return boltraven_unit_slots(r->slots, r->units, r->unit_starts, SLOTS, r->units - 1, &r->first, &r->last); }
+CALL(unit_of_slot) { return boltraven_unit_of_slot(r->slots, r->units, r->unit_starts, SLOTS, r->slots - 1); }
+CALL(unit_domain) { return boltraven_unit_domain(PEOPLE, r->slots, r->units, r->avail, WORDS, r->unit_starts, SLOTS, r->list, PEOPLE, 1); }
+CALL(unit_domains) { return boltraven_unit_domains(PEOPLE, r->slots, r->units, r->avail, WORDS, r->unit_starts, SLOTS, r->masks, SLOTS); }
+CALL(unit_frozen) { return boltraven_unit_frozen(r->slots, r->units, r->unit_starts, SLOTS, r->frozen, SET, r->units - 1); }
 CALL(covered_days) { return boltraven_covered_days(r->slots, r->starts, SLOTS, r->ends, SLOTS, &r->first); }
 CALL(minutes_per_day) { return boltraven_minutes_per_day(r->slots, r->starts, SLOTS, r->ends, SLOTS, &r->first); }
-CALL(target_run) { return boltraven_target_run(0, 1, 1, 1, 1, 7, r->slots, r->starts, SLOTS, r->ends, SLOTS, &r->first); }
+CALL(target_run) { return boltraven_target_run(r->slots, 0, 1, 1, 1, 1, 7, r->starts, SLOTS, r->ends, SLOTS, &r->first); }
 CALL(achievable_run) {
-    return boltraven_achievable_run(0, 1, 1, 1, 1, 7, r->avail, WORDS, PEOPLE, PEOPLE - 1, r->slots, r->starts, SLOTS, r->ends, SLOTS,
+    return boltraven_achievable_run(PEOPLE, r->slots, 0, 1, 1, 1, 1, 7, r->starts, SLOTS, r->ends, SLOTS, r->avail, WORDS, PEOPLE - 1,
                                     &r->first);
 }
 CALL(compute_targets) {
-    return boltraven_compute_targets(PEOPLE, r->slots, r->starts, SLOTS, r->ends, SLOTS, r->avail, WORDS, r->capacities, PEOPLE, r->priors,
-                                     PEOPLE, 0, 1, r->targets, PEOPLE);
+    return boltraven_compute_targets(PEOPLE, r->slots, 0, 1, r->starts, SLOTS, r->ends, SLOTS, r->avail, WORDS, r->capacities,
+                                     PEOPLE, r->priors, PEOPLE, r->targets, PEOPLE);
 }
 CALL(empty) { return boltraven_empty(PEOPLE, r->slots, r->owners, SLOTS, r->sets, WORDS, r->minutes, PEOPLE); }
 CALL(from_slots) {
@@ -108,21 +110,21 @@ CALL(uncovered_minutes) {
     return boltraven_uncovered_minutes(PEOPLE, r->slots, r->starts, SLOTS, r->ends, SLOTS, r->owners, SLOTS, &r->first);
 }
 CALL(recount) {
-    return boltraven_recount(PEOPLE, r->slots, r->units, r->starts, SLOTS, r->ends, SLOTS, r->avail, WORDS, r->firsts, SLOTS, r->owners,
-                             SLOTS, r->sets, WORDS, r->minutes, PEOPLE);
+    return boltraven_recount(PEOPLE, r->slots, r->units, r->starts, SLOTS, r->ends, SLOTS, r->avail, WORDS, r->unit_starts, SLOTS,
+                             r->owners, SLOTS, r->sets, WORDS, r->minutes, PEOPLE);
 }
 CALL(recount_slots) {
     return boltraven_recount_slots(PEOPLE, r->slots, r->starts, SLOTS, r->ends, SLOTS, r->avail, WORDS, r->owners, SLOTS, r->sets, WORDS,
                                    r->minutes, PEOPLE);
 }
 CALL(play) {
-    return boltraven_play(PEOPLE, r->slots, r->units, DRAWS, r->starts, SLOTS, r->ends, SLOTS, r->avail, WORDS, r->firsts, SLOTS,
-                          r->frozen, SET, r->owners, SLOTS, r->sets, WORDS, r->minutes, PEOPLE, r->kinds, DRAWS, r->ones, DRAWS, r->twos,
-                          DRAWS, r->answers, DRAWS);
+    return boltraven_play(PEOPLE, r->slots, r->units, DRAWS, r->starts, SLOTS, r->ends, SLOTS, r->avail, WORDS, r->unit_starts, SLOTS,
+                          r->frozen, SET, r->draws, DRAWS, r->firsts, DRAWS, r->seconds, DRAWS, r->owners, SLOTS, r->sets, WORDS,
+                          r->minutes, PEOPLE, r->answers, DRAWS);
 }
 CALL(play_draws) {
-    return boltraven_play_draws(PEOPLE, r->slots, r->units, DRAWS, r->starts, SLOTS, r->ends, SLOTS, r->avail, WORDS, r->firsts, SLOTS,
-                                r->frozen, SET, r->owners, SLOTS, r->sets, WORDS, r->minutes, PEOPLE, r->draws, DRAWS, r->answers, DRAWS);
+    return boltraven_play_draws(PEOPLE, r->slots, r->units, DRAWS, r->starts, SLOTS, r->ends, SLOTS, r->avail, WORDS, r->unit_starts, SLOTS,
+                                r->frozen, SET, r->owners, SLOTS, r->sets, WORDS, r->minutes, PEOPLE, r->structs, DRAWS, r->answers, DRAWS);
 }
 CALL(run_job) { return boltraven_run_job(r->file, r->file_len, r->listing, BOLTRAVEN_LISTING_MOST, &r->first); }
 
@@ -184,7 +186,7 @@ static void make_file(void) {
     }
     add(5, &freeze, sizeof freeze);
     for (uint16_t k = 0; k < made.slots; k++) add(6, (uint16_t[]){k, made.owners[k]}, 4);
-    for (size_t k = 0; k < DRAWS; k++) add(7, &made.draws[k], 6);
+    for (size_t k = 0; k < DRAWS; k++) add(7, &made.structs[k], 6);
 }
 
 static void make(void) {
@@ -205,13 +207,13 @@ static void make(void) {
     made.units = call_unit_starts(r);
     must(made.units < BOLTRAVEN_NOTHING && call_unit_domains(r) == 0, "units are refused");
     for (size_t u = 0, k = 0; u < made.units; u++) {
-        const size_t end = u + 1 < made.units ? made.firsts[u + 1] : made.slots;
+        const size_t end = u + 1 < made.units ? made.unit_starts[u + 1] : made.slots;
         for (; k < end; k++) made.owners[k] = made.masks[u] ? u % PEOPLE : BOLTRAVEN_NOBODY;
     }
     must(call_from_slots(r) == 0, "owners are refused");
     for (uint16_t k = 0; k < DRAWS; k++) {
-        made.kinds[k] = k % 100, made.ones[k] = 7 * k % made.units, made.twos[k] = k % 3;
-        made.draws[k] = (struct boltraven_draw){made.kinds[k], made.ones[k], made.twos[k]};
+        made.draws[k] = k % 100, made.firsts[k] = 7 * k % made.units, made.seconds[k] = k % 3;
+        made.structs[k] = (struct boltraven_draw){made.draws[k], made.firsts[k], made.seconds[k]};
     }
     make_file();
 }

@@ -45,7 +45,7 @@ impl Question {
     }
 
     /// What is asked and what is due, short enough for a report.
-    pub fn told(&self, got: &Outcome) -> String {
+    pub fn described(&self, got: &Outcome) -> String {
         let numbers: Vec<String> = self
             .args
             .iter()

@@ -346,7 +346,7 @@ mod tests {
 
     /// The cases tell every wrong rule from the Rust's, and the paper's from none.
     #[test]
-    fn wrong_rules_are_told() {
+    fn wrong_rules_are_found() {
         let (differing, wrong) = compare_rules(20_000, 1);
         assert_eq!(differing, 0);
         for (rule, seen, _) in wrong {

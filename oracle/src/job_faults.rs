@@ -429,13 +429,13 @@ pub fn with_faults(seed: &mut Seed, mut job: JobCase, faults: &[Fault]) -> Optio
 fn earned(job: &JobCase, faults: &[Fault]) -> bool {
     let numbers = numbers(job);
     let lowest = numbers.first().copied().unwrap_or(0);
-    let told = |number: u8| match lowest {
+    let shows = |number: u8| match lowest {
         1..=4 => number <= 4 || (6..=7).contains(&number),
         5 | 7 => number < 10,
         _ => true,
     };
     let meant = faults.iter().map(|fault| fault.number).filter(|&number| number < 13);
-    meant.filter(|&number| told(number)).all(|number| numbers.contains(&number))
+    meant.filter(|&number| shows(number)).all(|number| numbers.contains(&number))
 }
 
 /// Every number that a job file earns.

@@ -23,8 +23,8 @@ pub fn long_listing() -> io::Result<u64> {
     let mut differing = u64::from(length != LISTING_LONG);
     for (room, number) in [(LISTING_MOST, 0), (LISTING_MOST - 1, 2)] {
         let question = question(&mut Seed::new(0), file.clone(), room);
-        let told = library::ask(&question)?;
-        differing += u64::from(told != question.due || told.result != number);
+        let got = library::ask(&question)?;
+        differing += u64::from(got != question.due || got.result != number);
     }
     println!("jobs: a long listing has {length} bytes, and {differing} of 3 answers to it differ");
     Ok(differing)
@@ -53,8 +53,8 @@ pub fn time(n: u64) -> io::Result<u64> {
 
 /// Nanoseconds that this process has had of a processor.
 fn processor_time() -> io::Result<u64> {
-    let told = fs::read_to_string("/proc/self/schedstat")?;
-    let first = told.split(' ').next().and_then(|word| word.parse().ok());
+    let got = fs::read_to_string("/proc/self/schedstat")?;
+    let first = got.split(' ').next().and_then(|word| word.parse().ok());
     first.ok_or_else(|| io::Error::other("/proc/self/schedstat has no number"))
 }
 
@@ -93,12 +93,12 @@ fn question(seed: &mut Seed, file: Vec<u8>, room: usize) -> Question {
     let (mut after, was) = (before.clone(), seed.word());
     let (mut number, mut length) = (0, was);
     // short of room is 2: after 13 and 1, before the rest
-    let heard = match listing_of(&file) {
+    let listed = match listing_of(&file) {
         Err(number) if number == 13 || number == 1 => Err(number),
         _ if room < LISTING_MOST => Err(2),
-        heard => heard,
+        listed => listed,
     };
-    match heard {
+    match listed {
         Ok(text) => {
             after[..text.len()].copy_from_slice(text.as_bytes());
             length = text.len() as u64;

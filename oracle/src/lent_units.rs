@@ -56,13 +56,13 @@ pub fn lent(seed: &mut Seed, case: &ProblemCase, mut problem: Problem) -> (LentU
         problem.frozen[slot] = seed.one_in(often);
         put_bit(&mut frozen, 0, slot, problem.frozen[slot]);
     }
-    let firsts = unit_starts_of(&problem);
+    let unit_starts = unit_starts_of(&problem);
     let lent = LentUnits {
         settings: case.settings,
         people,
         units: Units {
-            count: firsts.len(),
-            firsts,
+            count: unit_starts.len(),
+            unit_starts,
         },
         avail,
         frozen,
@@ -108,7 +108,7 @@ impl LentUnits {
             5 => self.unit = seed.pick(&[self.units.count, usize::MAX]),
             6 => self.starts_room = seed.pick(&[0, self.slots.starts.len().max(1) - 1]),
             7 => self.list_room = seed.pick(&[0, self.people.clamp(1, 32) - 1]),
-            8 => self.masks_room = seed.pick(&[0, self.units.firsts.len().min(self.slots.starts.len().max(1) - 1)]),
+            8 => self.masks_room = seed.pick(&[0, self.units.unit_starts.len().min(self.slots.starts.len().max(1) - 1)]),
             9 => damage_settings(seed, &mut self.settings),
             // by the count, which other damage leaves or makes 1: a start at a shortened column's length would be right
             10 => self.units.damage(seed, self.slots.count.min(SLOTS_MOST)),
@@ -117,7 +117,7 @@ impl LentUnits {
     }
 
     /// Rotation and unit starts: 1, 2, 7, 9.
-    pub fn starts_no(&self) -> u64 {
+    pub fn starts_number(&self) -> u64 {
         let slots = &self.slots;
         lowest(&[
             (1, slots.count_ok()),
@@ -128,7 +128,7 @@ impl LentUnits {
     }
 
     /// The number of units: 1, 2, 9; and with a unit or slot asked for, 11.
-    pub fn units_no(&self, known: bool) -> u64 {
+    pub fn units_number(&self, known: bool) -> u64 {
         lowest(&[
             (1, self.slots.count_ok()),
             (2, self.units.room_ok()),
@@ -138,7 +138,7 @@ impl LentUnits {
     }
 
     /// Whether a unit is frozen: 1, 2, 9, 11.
-    pub fn frozen_no(&self) -> u64 {
+    pub fn frozen_number(&self) -> u64 {
         lowest(&[
             (1, self.slots.count_ok()),
             (2, self.units.room_ok() && SET_WORDS <= self.frozen.len()),
@@ -148,7 +148,7 @@ impl LentUnits {
     }
 
     /// The domain of a slot: 1, 2, 11.
-    pub fn slot_domain_no(&self) -> u64 {
+    pub fn slot_domain_number(&self) -> u64 {
         lowest(&[
             (1, people_ok(self.people) && self.slots.count_ok()),
             (2, words_ok(self.people, self.avail.len()) && self.people <= self.list_room),
@@ -157,7 +157,7 @@ impl LentUnits {
     }
 
     /// The domain of a unit: 1, 2, 9, 11.
-    pub fn unit_domain_no(&self) -> u64 {
+    pub fn unit_domain_number(&self) -> u64 {
         let room = words_ok(self.people, self.avail.len()) && self.people <= self.list_room;
         lowest(&[
             (1, people_ok(self.people) && self.slots.count_ok()),
@@ -168,7 +168,7 @@ impl LentUnits {
     }
 
     /// The domains of all units: 1, 2, 9.
-    pub fn unit_domains_no(&self) -> u64 {
+    pub fn unit_domains_number(&self) -> u64 {
         let room = words_ok(self.people, self.avail.len()) && self.slots.count <= self.masks_room;
         lowest(&[
             (1, people_ok(self.people) && self.slots.count_ok()),
@@ -178,13 +178,13 @@ impl LentUnits {
     }
 
     /// Covered days and minutes a day: 1, 2, 9.
-    pub fn days_no(&self) -> u64 {
+    pub fn days_number(&self) -> u64 {
         let slots = &self.slots;
         lowest(&[(1, slots.count_ok()), (2, slots.room_ok()), (9, slots.ok())])
     }
 
     /// The target run: 1, 2, 7, 9.
-    pub fn target_no(&self) -> u64 {
+    pub fn target_number(&self) -> u64 {
         lowest(&[
             (1, self.slots.count_ok()),
             (2, self.slots.room_ok()),
@@ -194,7 +194,7 @@ impl LentUnits {
     }
 
     /// The achievable run: 1, 2, 7, 9, 11.
-    pub fn achievable_no(&self) -> u64 {
+    pub fn achievable_number(&self) -> u64 {
         lowest(&[
             (1, people_ok(self.people) && self.slots.count_ok()),
             (2, self.slots.room_ok() && words_ok(self.people, self.avail.len())),

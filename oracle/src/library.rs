@@ -55,24 +55,24 @@ macro_rules! exports {
 }
 
 exports! {
-    told contains(slice, number, number, number, number);
-    told is_empty(slice, number, number, number);
-    number count(slice, number, number, number);
-    found next_set(slice, number, number, number, number);
-    found prev_set(slice, number, number, number, number);
-    found next_unset_after(slice, number, number, number, number);
-    found prev_unset_before(slice, number, number, number, number);
-    held run_bounds(slice, number, number, number, number, out, out);
-    wrote next_run(slice, number, number, number, number, out, out, out);
-    wrote next_member(slice, number, number, number, number, out, out);
-    done insert(slice, number, number, number, number);
-    done remove(slice, number, number, number, number);
-    done put_stretch(slice, number, number, number, number, number, number);
+    yes_no contains(number, number, slice, number, number);
+    yes_no is_empty(number, number, slice, number);
+    number count(number, number, slice, number);
+    found next_set(number, number, slice, number, number);
+    found prev_set(number, number, slice, number, number);
+    found next_unset_after(number, number, slice, number, number);
+    found prev_unset_before(number, number, slice, number, number);
+    held run_bounds(number, number, slice, number, number, out, out);
+    wrote next_run(number, number, slice, number, number, out, out, out);
+    wrote next_member(number, number, slice, number, number, out, out);
+    done insert(number, number, slice, number, number);
+    done remove(number, number, slice, number, number);
+    done put_stretch(number, number, slice, number, number, number, number);
     number merged_ranges(number, number, slice, slice, slice, slice, slice, slice);
-    number atomise(number, slice, slice, number, number, slice, slice, slice, slice, slice);
-    done availability(number, number, slice, slice, number, slice, slice, slice, slice);
+    number atomise(number, number, number, slice, slice, slice, slice, slice, slice, slice);
+    done availability(number, number, number, slice, slice, slice, slice, slice, slice);
     number freeze_before(number, slice, slice, slice, number);
-    told is_available(number, number, slice, number, number);
+    yes_no is_available(number, number, slice, number, number);
     number rotation_starts(number, number, number, number, number, number, number, slice, slice, slice);
     number unit_starts(number, number, number, number, number, number, number, slice, slice, slice);
     done unit_slots(number, number, slice, number, out, out);
@@ -82,14 +82,14 @@ exports! {
     done slot_minutes(number, slice, slice, number, out);
     done minutes_per_day(number, slice, slice, out);
     done target_run(number, number, number, number, number, number, number, slice, slice, out);
-    done achievable_run(number, number, number, number, number, number, slice, number, number, number, slice, slice, out);
-    number unit_domain(slice, number, number, number, slice, number, slice);
-    done unit_domains(slice, number, number, number, slice, slice);
-    number slot_domain(slice, number, number, number, slice);
-    told unit_frozen(slice, number, number, slice, number);
+    done achievable_run(number, number, number, number, number, number, number, number, slice, slice, slice, number, out);
+    number unit_domain(number, number, number, slice, slice, slice, number);
+    done unit_domains(number, number, number, slice, slice, slice);
+    number slot_domain(number, number, slice, slice, number);
+    yes_no unit_frozen(number, number, slice, slice, number);
     plain date_of(number);
     plain weekday_of(number);
-    done compute_targets(number, number, slice, slice, slice, slice, slice, number, number, slice);
+    done compute_targets(number, number, number, number, slice, slice, slice, slice, slice, slice);
     done from_slots(number, number, slice, slice, slice, slice, slice, slice);
     done assign(number, number, slice, slice, slice, slice, slice, slice, number, number);
     done play(number, number, number, number, slice, slice, slice, slice, slice, slice, slice, slice, slice, slice, slice, slice);
@@ -122,7 +122,7 @@ fn found(answer: Result<Option<usize>, Refusal>) -> u64 {
     number(answer.map(|slot| slot.unwrap_or(NOTHING as usize)))
 }
 
-fn told(answer: Result<bool, Refusal>) -> u64 {
+fn yes_no(answer: Result<bool, Refusal>) -> u64 {
     number(answer.map(usize::from))
 }
 

@@ -55,7 +55,7 @@ const fn kind(name: &'static str, questions: fn(u64) -> Vec<Question>) -> Kind {
 }
 
 /// Every kind.
-const KINDS: [Kind; 16] = [
+const KINDS: [Kind; 17] = [
     kind("slot-sets", sets::questions),
     kind("slot-sets-damaged", sets::damaged),
     kind("slots", splitting::questions),
@@ -178,13 +178,13 @@ fn store(kind: &str, n: u64, seed: u64, folder: &Path) -> ExitCode {
 fn compare_rules(n: u64, seed: u64) -> ExitCode {
     let (differing, wrong) = figures::compare_rules(n, seed);
     println!("targets: the paper's rule differs from the Rust in {differing} of {n} cases (seed {seed})");
-    let mut told = differing == 0;
+    let mut found = differing == 0;
     for (rule, seen, first) in wrong {
-        told &= seen > 0;
+        found &= seen > 0;
         let where_first = first.map_or(String::new(), |case| format!(", first in {case}"));
         println!("targets: {rule:?} differs in {seen}{where_first}");
     }
-    ExitCode::from(u8::from(!told))
+    ExitCode::from(u8::from(!found))
 }
 
 /// Writes the moves of the Rust's generator on a job file that nothing is wrong with.
@@ -325,7 +325,7 @@ fn ask(kind: &Kind, seed: u64, shown: bool, functions: &mut BTreeSet<&str>) -> s
         if outcome != question.due && !differs {
             differs = true;
             if shown {
-                println!("{} {seed}: {}", kind.name, question.told(&outcome));
+                println!("{} {seed}: {}", kind.name, question.described(&outcome));
             }
         }
     }

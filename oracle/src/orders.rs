@@ -31,7 +31,11 @@ fn ordered_case(seed: &mut Seed) -> ProblemCase {
 /// No range, one, a few or as many as there may be, on a grid that is coarse or fine: they touch, overlap, start together, are empty; some
 /// are there twice.
 fn ranges(seed: &mut Seed, base: &[(u32, u32)], people: usize) -> Vec<Range> {
-    let count = if seed.one_in(12) { RANGES_MOST } else { seed.pick(&[0, 1, 2, 3, 8, 40]) };
+    let count = if seed.one_in(12) {
+        RANGES_MOST
+    } else {
+        seed.pick(&[0, 1, 2, 3, 8, 40])
+    };
     let (first, last) = (base[0].0, base[base.len() - 1].1);
     let places = seed.pick(&[6, 20, 2000]);
     let step = ((last - first) / places).max(1);
@@ -53,33 +57,45 @@ fn ranges(seed: &mut Seed, base: &[(u32, u32)], people: usize) -> Vec<Range> {
 }
 
 /// How a list of ranges is ordered.
-type Order = fn(&mut Seed, &mut Vec<Range>);
+type Order = fn(&mut Seed, &mut [Range]);
 
-const ORDERS: [Order; 7] = [in_order, ends_falling, one_out_of_place, last_two_changed, falling, by_start, as_made];
+const ORDERS: [Order; 7] = [
+    in_order,
+    ends_falling,
+    one_out_of_place,
+    last_two_changed,
+    falling,
+    by_start,
+    as_made,
+];
 
 /// By person, then start; ends as they come.
-fn in_order(_: &mut Seed, ranges: &mut Vec<Range>) {
+fn in_order(_: &mut Seed, ranges: &mut [Range]) {
     ranges.sort_by_key(|range| (range.person, range.start));
 }
 
 /// By person, then start, and of those that start together the longest first: in order, but not by ends.
-fn ends_falling(_: &mut Seed, ranges: &mut Vec<Range>) {
+fn ends_falling(_: &mut Seed, ranges: &mut [Range]) {
     ranges.sort_by_key(|range| (range.person, range.start, Reverse(range.end)));
 }
 
 /// In order but for one, which may be anywhere, the last place too.
-fn one_out_of_place(seed: &mut Seed, ranges: &mut Vec<Range>) {
+fn one_out_of_place(seed: &mut Seed, ranges: &mut [Range]) {
     in_order(seed, ranges);
     if !ranges.is_empty() {
         let places = ranges.len() as u64;
-        let moved = ranges.remove(seed.below(places) as usize);
-        let place = if seed.one_in(2) { places - 1 } else { seed.below(places) };
-        ranges.insert(place as usize, moved);
+        let from = seed.below(places) as usize;
+        let place = (if seed.one_in(2) { places - 1 } else { seed.below(places) }) as usize;
+        if from <= place {
+            ranges[from..=place].rotate_left(1);
+        } else {
+            ranges[place..=from].rotate_right(1);
+        }
     }
 }
 
 /// In order but for the last two.
-fn last_two_changed(seed: &mut Seed, ranges: &mut Vec<Range>) {
+fn last_two_changed(seed: &mut Seed, ranges: &mut [Range]) {
     in_order(seed, ranges);
     let count = ranges.len();
     if count > 1 {
@@ -88,18 +104,18 @@ fn last_two_changed(seed: &mut Seed, ranges: &mut Vec<Range>) {
 }
 
 /// The last first.
-fn falling(seed: &mut Seed, ranges: &mut Vec<Range>) {
+fn falling(seed: &mut Seed, ranges: &mut [Range]) {
     in_order(seed, ranges);
     ranges.reverse();
 }
 
 /// By start, whoever's they are.
-fn by_start(_: &mut Seed, ranges: &mut Vec<Range>) {
+fn by_start(_: &mut Seed, ranges: &mut [Range]) {
     ranges.sort_by_key(|range| range.start);
 }
 
 /// As they come.
-fn as_made(_: &mut Seed, _: &mut Vec<Range>) {}
+fn as_made(_: &mut Seed, _: &mut [Range]) {}
 
 #[cfg(test)]
 mod tests {
@@ -109,7 +125,9 @@ mod tests {
     use crate::seed::Seed;
 
     fn is_in_order(case: &ProblemCase) -> bool {
-        case.ranges.windows(2).all(|two| (two[0].person, two[0].start) <= (two[1].person, two[1].start))
+        case.ranges
+            .windows(2)
+            .all(|two| (two[0].person, two[0].start) <= (two[1].person, two[1].start))
     }
 
     /// Of 400 cases some have no range, one, two, or as many as there may be; from two on some are in order and some are not.

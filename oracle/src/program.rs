@@ -29,7 +29,7 @@ pub fn compare(n: u64, run: u64, command: &[String]) -> io::Result<u64> {
         };
         if !is_listing(&got, &text_of(&file)) {
             differing += 1;
-            println!("program {case_seed}: {}", told(&got));
+            println!("program {case_seed}: {}", described(&got));
         }
     }
     differing += unreadable(command, &name)?;
@@ -49,7 +49,7 @@ fn is_listing(got: &Output, due: &str) -> bool {
     got.status.success() && got.stdout == due.as_bytes() && got.stderr.is_empty()
 }
 
-fn told(got: &Output) -> String {
+fn described(got: &Output) -> String {
     let text = String::from_utf8_lossy(&got.stdout);
     let first = text.lines().next().unwrap_or("nothing");
     format!("{}, {} bytes written, first '{first}'", got.status, got.stdout.len())
@@ -70,7 +70,7 @@ fn unreadable(command: &[String], name: &Path) -> io::Result<u64> {
         let got = started(command, words).stdin(Stdio::null()).output()?;
         if !got.stdout.is_empty() || got.stderr.is_empty() {
             differing += 1;
-            println!("program: {words:?} {}", told(&got));
+            println!("program: {words:?} {}", described(&got));
         }
     }
     Ok(differing)

@@ -49,7 +49,7 @@ pub fn questions(seed: &mut Seed, case: &RotaCase, lent: &LentRota) -> Vec<Quest
     let unassigned = Some(assignment.unassigned_count() as u64);
     let unassigned_args = owner_args[..3].to_vec();
     let uncovered = Some(vec![played(problem, &assignment, vec![]).uncovered]);
-    let uncovered_args = [lent.ground(), vec![Arg::Lent(1, lent.owners.clone())]].concat();
+    let uncovered_args = [lent.plan_args(), vec![Arg::Lent(1, lent.owners.clone())]].concat();
     let minutes = (person < people).then(|| vec![assignment.assigned_minutes(person) as u64]);
     let minutes_args = vec![
         Arg::Number(people as u64),
@@ -60,11 +60,11 @@ pub fn questions(seed: &mut Seed, case: &RotaCase, lent: &LentRota) -> Vec<Quest
     let units_args = vec![
         Arg::Number(slots as u64),
         Arg::Number(units as u64),
-        Arg::Lent(2, bytes16(&lent.firsts)),
+        Arg::Lent(2, bytes16(&lent.unit_starts)),
     ];
     let length = (slot < slots).then(|| vec![problem.slot_minutes[slot] as u64]);
     // slots, starts and ends
-    let slots_args = lent.ground()[1..].to_vec();
+    let slots_args = lent.plan_args()[1..].to_vec();
     let one = |args: &[Arg], k: usize| [args, &[Arg::Number(k as u64)]].concat();
     vec![
         plain("boltraven_owner_of_slot", owner_args, owner),
@@ -94,11 +94,11 @@ fn slot_domain(seed: &mut Seed, case: &RotaCase, lent: &LentRota, slot: usize) -
     Question {
         function: "boltraven_slot_domain",
         args: vec![
-            Arg::Lent(8, bytes64(&lent.avail)),
             Arg::Number(lent.people as u64),
             Arg::Number(case.problem.slot_count() as u64),
-            Arg::Number(slot as u64),
+            Arg::Lent(8, bytes64(&lent.avail)),
             Arg::LentMut(1, before),
+            Arg::Number(slot as u64),
         ],
         due: Outcome {
             result: domain.map_or(NOTHING + UNKNOWN, |domain| domain.len() as u64),

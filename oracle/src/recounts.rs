@@ -21,7 +21,7 @@ pub fn questions(seed: &mut Seed, case: &RotaCase, lent: &LentRota) -> Vec<Quest
     asked
 }
 
-/// What is heard of a recount.
+/// What is answered of a recount.
 fn number(passes: bool) -> u64 {
     if passes {
         0
@@ -94,7 +94,7 @@ pub fn with_units(lent: &LentRota, number: u64) -> Question {
         Arg::Lent(4, bytes32(&lent.starts)),
         Arg::Lent(4, bytes32(&lent.ends)),
         Arg::Lent(8, bytes64(&lent.avail)),
-        Arg::Lent(2, bytes16(&lent.firsts)),
+        Arg::Lent(2, bytes16(&lent.unit_starts)),
     ];
     args.extend(lent.rota_args(Arg::Lent));
     Question::number("boltraven_recount", args, number)
@@ -102,7 +102,7 @@ pub fn with_units(lent: &LentRota, number: u64) -> Question {
 
 /// The recount as an assign asks it.
 pub fn without_units(lent: &LentRota, number: u64) -> Question {
-    let mut args = lent.ground();
+    let mut args = lent.plan_args();
     args.push(Arg::Lent(8, bytes64(&lent.avail)));
     args.extend(lent.rota_args(Arg::Lent));
     Question::number("boltraven_recount_slots", args, number)

@@ -49,7 +49,7 @@ pub fn damaged(case_seed: u64) -> Vec<Question> {
             [9, 9, 9, 0]
         }
         4 => {
-            lent.firsts[0] = 1;
+            lent.unit_starts[0] = 1;
             [9, 9, 0, 0]
         }
         5 => {
@@ -79,7 +79,7 @@ pub fn damaged(case_seed: u64) -> Vec<Question> {
             [2, 0, 0, 0]
         }
         11 => {
-            lent.firsts.truncate(lent.units - 1);
+            lent.unit_starts.truncate(lent.units - 1);
             [2, 2, 0, 0]
         }
         _ => {

@@ -247,7 +247,7 @@ pub struct LentRota {
     pub starts: Vec<u32>,
     pub ends: Vec<u32>,
     pub avail: Vec<u64>,
-    pub firsts: Vec<u16>,
+    pub unit_starts: Vec<u16>,
     pub frozen: Vec<u64>,
     pub owners: Vec<u8>,
     pub sets: Vec<u64>,
@@ -264,7 +264,7 @@ impl LentRota {
         let slots = problem.slot_count();
         let spare = seed.below(2) as usize;
         let (starts, ends) = slots_of(problem);
-        let firsts = unit_starts_of(problem);
+        let unit_starts = unit_starts_of(problem);
         let mut words = |sets: usize| -> Vec<u64> { (0..SET_WORDS * sets + spare).map(|_| seed.word()).collect() };
         let (mut avail, mut frozen, mut sets) = (words(people), words(1), words(people));
         availability_into(problem, &mut avail);
@@ -278,11 +278,11 @@ impl LentRota {
         let answers = bytes(&vec![9; case.draws.len()]);
         Self {
             people,
-            units: firsts.len(),
+            units: unit_starts.len(),
             starts,
             ends,
             avail,
-            firsts,
+            unit_starts,
             frozen,
             owners,
             sets,
@@ -317,19 +317,23 @@ impl LentRota {
         let columns = self.columns().map(|column| Arg::Lent(2, bytes16(&column))).to_vec();
         let numbers: Vec<u16> = self.draws.iter().flat_map(|draw| [draw.0, draw.1, draw.2]).collect();
         let structs = vec![Arg::Lent(6, bytes16(&numbers))];
-        let ways = [("boltraven_play", columns), ("boltraven_play_draws", structs)];
+        let rota = self.rota_args(Arg::LentMut).to_vec();
+        let ways = [
+            ("boltraven_play", [columns, rota.clone()]),
+            ("boltraven_play_draws", [rota, structs]),
+        ];
         ways.into_iter()
-            .map(|(function, draws)| Question {
+            .map(|(function, [first, second])| Question {
                 function,
-                args: [self.board(), draws, vec![Arg::LentMut(1, self.answers.clone())]].concat(),
+                args: [self.board(), first, second, vec![Arg::LentMut(1, self.answers.clone())]].concat(),
                 due: due.clone(),
             })
             .collect()
     }
 
-    /// What a play takes before its draws.
+    /// What a play takes before its draws and its rota.
     fn board(&self) -> Vec<Arg> {
-        let mut args = vec![
+        vec![
             Arg::Number(self.people as u64),
             Arg::Number(self.starts.len() as u64),
             Arg::Number(self.units as u64),
@@ -337,11 +341,9 @@ impl LentRota {
             Arg::Lent(4, bytes32(&self.starts)),
             Arg::Lent(4, bytes32(&self.ends)),
             Arg::Lent(8, bytes64(&self.avail)),
-            Arg::Lent(2, bytes16(&self.firsts)),
+            Arg::Lent(2, bytes16(&self.unit_starts)),
             Arg::Lent(8, bytes64(&self.frozen)),
-        ];
-        args.extend(self.rota_args(Arg::LentMut));
-        args
+        ]
     }
 
     /// Owners, sets and minutes as they are passed, to be read alone or to be written.
@@ -377,7 +379,7 @@ pub fn sets_into(words: &mut [u64], people: usize, owners: &[u8]) {
 
 impl LentRota {
     /// What every entry on a rota takes first.
-    pub fn ground(&self) -> Vec<Arg> {
+    pub fn plan_args(&self) -> Vec<Arg> {
         vec![
             Arg::Number(self.people as u64),
             Arg::Number(self.starts.len() as u64),
@@ -391,7 +393,7 @@ impl LentRota {
         let mut rota = self.clone();
         rota.sets.fill_with(|| seed.word());
         rota.minutes.fill_with(|| seed.word());
-        let mut args = self.ground();
+        let mut args = self.plan_args();
         args.extend([
             Arg::Lent(8, bytes64(&self.avail)),
             Arg::Lent(1, self.owners.clone()),
@@ -430,7 +432,7 @@ impl LentRota {
         } else {
             0
         };
-        let mut args = self.ground();
+        let mut args = self.plan_args();
         args.push(Arg::Lent(8, bytes64(&self.avail)));
         args.extend(self.rota_args(Arg::LentMut));
         args.extend([Arg::Number(slot as u64), Arg::Number(u64::from(owner))]);

@@ -1,7 +1,7 @@
 //! Where rotations and units begin: by count and by weekday, across years.
 
 use crate::call::{bytes16, bytes32, Arg, Outcome, Question};
-use crate::limits::{MINUTES_MOST, NOTHING};
+use crate::limits::{MINUTES_MOST, NOTHING, SLOTS_MOST};
 use crate::problems::{problem_case, problem_within, slots_of, unit_starts_of, ProblemCase, Settings};
 use crate::seed::Seed;
 use crate::table::damage_settings;
@@ -27,9 +27,15 @@ pub fn questions(case_seed: u64) -> Vec<Question> {
     ]
 }
 
+/// The arguments of slots, with the settings after their count.
+pub fn with_settings(settings: Settings, slots: Vec<Arg>) -> Vec<Arg> {
+    let (count, columns) = slots.split_at(1);
+    [count, &settings_args(settings), columns].concat()
+}
+
 /// The settings as arguments.
-pub fn settings_args(settings: Settings) -> Vec<Arg> {
-    vec![
+fn settings_args(settings: Settings) -> [Arg; 6] {
+    [
         Arg::Number(u64::from(settings.fairness)),
         Arg::Number(u64::from(settings.lock)),
         Arg::Number(u64::from(settings.boundary)),
@@ -45,9 +51,9 @@ fn question(seed: &mut Seed, function: &'static str, settings: Settings, starts:
     let before: Vec<u16> = (0..room).map(|_| seed.word() as u16).collect();
     let mut after = before.clone();
     after[..due.len()].copy_from_slice(due);
-    let mut args = settings_args(settings);
+    let mut args = vec![Arg::Number(starts.len() as u64)];
+    args.extend(settings_args(settings));
     args.extend([
-        Arg::Number(starts.len() as u64),
         Arg::Lent(4, bytes32(starts)),
         Arg::Lent(4, bytes32(ends)),
         Arg::LentMut(2, bytes16(&before)),
@@ -87,18 +93,18 @@ pub fn damaged(case_seed: u64) -> Vec<Question> {
     let slots = base.len();
     if seed.one_in(3) {
         number = 2;
-        let mut firsts = vec![7u16; slots];
+        let mut unit_starts = vec![7u16; slots];
         match seed.below(2) {
-            0 => firsts.truncate(slots - 1),
+            0 => unit_starts.truncate(slots - 1),
             _ => ends.truncate(slots - 1),
         }
         asked.args[8] = Arg::Lent(4, bytes32(&ends));
-        asked.args[9] = Arg::LentMut(2, bytes16(&firsts));
-        asked.due.written = vec![bytes16(&firsts)];
+        asked.args[9] = Arg::LentMut(2, bytes16(&unit_starts));
+        asked.due.written = vec![bytes16(&unit_starts)];
     }
     if seed.one_in(3) {
         number = 1;
-        asked.args[6] = Arg::Number(seed.pick(&[0, 1025, 1 << 40, u64::MAX]));
+        asked.args[0] = Arg::Number(seed.pick(&[0, SLOTS_MOST as u64 + 1, 1 << 40, u64::MAX]));
     }
     asked.due.result = NOTHING + number;
     if number == 0 {

@@ -202,10 +202,10 @@ impl Row {
     /// The arguments that every function of a row takes.
     fn args(&self, lent: fn(usize, Vec<u8>) -> Arg) -> Vec<Arg> {
         vec![
-            lent(8, bytes64(&self.words)),
             Arg::Number(self.people as u64),
-            Arg::Number(self.person as u64),
             Arg::Number(self.case.len as u64),
+            lent(8, bytes64(&self.words)),
+            Arg::Number(self.person as u64),
         ]
     }
 
@@ -347,7 +347,7 @@ pub fn damaged(case_seed: u64) -> Vec<Question> {
         row.people = seed.pick(&[0, 33, 34, 1 << 40, usize::MAX]);
     }
     if seed.one_in(2) {
-        row.case.len = seed.pick(&[1025, 1026, 2000, 1 << 32, usize::MAX]);
+        row.case.len = seed.pick(&[SLOTS_MOST + 1, SLOTS_MOST + 2, 2000, 1 << 32, usize::MAX]);
     }
     if seed.one_in(2) {
         let keep = seed.below(row.words.len() as u64 + 1) as usize;

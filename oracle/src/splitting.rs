@@ -1,7 +1,7 @@
 //! Ranges merged, base slots split, availability: whole problems through the library.
 
 use crate::call::{bytes16, bytes32, bytes64, Arg, Outcome, Question};
-use crate::limits::{MINUTES_MOST, NOTHING, SET_WORDS, SLOTS_MOST};
+use crate::limits::{MINUTES_MOST, NOTHING, PEOPLE_MOST, RANGES_MOST, SET_WORDS, SLOTS_MOST};
 use crate::problems::{availability_into, problem_case, slots_of, Person, ProblemCase, Range};
 use crate::seed::Seed;
 use crate::table::{lowest, Ranges, Slots};
@@ -27,22 +27,32 @@ impl LentProblem {
         }
     }
 
-    fn range_args(&self) -> Vec<Arg> {
-        vec![
-            Arg::Number(self.ranges.count as u64),
+    fn range_args(&self) -> [Arg; 3] {
+        [
             Arg::Lent(2, bytes16(&self.ranges.persons)),
             Arg::Lent(4, bytes32(&self.ranges.opens)),
             Arg::Lent(4, bytes32(&self.ranges.shuts)),
         ]
     }
 
+    /// Counts, slots and ranges, as the functions that take both have them.
+    fn slots_and_ranges(&self, slots: usize, starts: &[u32], ends: &[u32]) -> Vec<Arg> {
+        let mut args = vec![
+            Arg::Number(self.ranges.people as u64),
+            Arg::Number(slots as u64),
+            Arg::Number(self.ranges.count as u64),
+            Arg::Lent(4, bytes32(starts)),
+            Arg::Lent(4, bytes32(ends)),
+        ];
+        args.extend(self.range_args());
+        args
+    }
+
     /// Base slots split: `due` at the front of two columns, or a refusal.
     fn atomise(&self, seed: &mut Seed, room: usize, due: Result<(&[u32], &[u32]), u64>) -> Question {
         let froms: Vec<u32> = (0..room).map(|_| seed.word() as u32).collect();
         let tos: Vec<u32> = (0..room).map(|_| seed.word() as u32).collect();
-        let mut args = self.base.args();
-        args.push(Arg::Number(self.ranges.people as u64));
-        args.extend(self.range_args());
+        let mut args = self.slots_and_ranges(self.base.count, &self.base.starts, &self.base.ends);
         args.extend([Arg::LentMut(4, bytes32(&froms)), Arg::LentMut(4, bytes32(&tos))]);
         let (mut froms_due, mut tos_due) = (froms, tos);
         let result = match due {
@@ -68,7 +78,7 @@ impl LentProblem {
         let mut whose: Vec<u16> = (0..room).map(|_| seed.word() as u16).collect();
         let mut froms: Vec<u32> = (0..room).map(|_| seed.word() as u32).collect();
         let mut tos: Vec<u32> = (0..room).map(|_| seed.word() as u32).collect();
-        let mut args = vec![Arg::Number(self.ranges.people as u64)];
+        let mut args = vec![Arg::Number(self.ranges.people as u64), Arg::Number(self.ranges.count as u64)];
         args.extend(self.range_args());
         args.extend([
             Arg::LentMut(2, bytes16(&whose)),
@@ -152,13 +162,7 @@ pub fn asked_of(seed: &mut Seed, case: &ProblemCase) -> Vec<Question> {
 
 /// Who is available for which of the lent slots.
 fn availability(lent: &LentProblem, starts: &[u32], ends: &[u32], before: &[u64], number: u64, after: &[u64]) -> Question {
-    let mut args = vec![
-        Arg::Number(lent.ranges.people as u64),
-        Arg::Number(starts.len() as u64),
-        Arg::Lent(4, bytes32(starts)),
-        Arg::Lent(4, bytes32(ends)),
-    ];
-    args.extend(lent.range_args());
+    let mut args = lent.slots_and_ranges(starts.len(), starts, ends);
     args.push(Arg::LentMut(8, bytes64(before)));
     Question {
         function: "boltraven_availability",
@@ -180,13 +184,13 @@ pub fn damaged(case_seed: u64) -> Vec<Question> {
     let range = seed.below(ranges.count.max(1) as u64) as usize;
     for _ in 0..seed.within(1, 2) {
         match seed.below(13) {
-            0 => ranges.people = seed.pick(&[0, 33, usize::MAX]),
-            1 => base.count = seed.pick(&[0, 1025, usize::MAX]),
-            2 => ranges.count = seed.pick(&[1025, 2000, usize::MAX]),
+            0 => ranges.people = seed.pick(&[0, PEOPLE_MOST + 1, usize::MAX]),
+            1 => base.count = seed.pick(&[0, SLOTS_MOST + 1, usize::MAX]),
+            2 => ranges.count = seed.pick(&[RANGES_MOST + 1, 2000, usize::MAX]),
             3 => drop(base.starts.pop()),
             4 => drop(base.ends.pop()),
             5 => drop(ranges.shuts.pop()),
-            6 => room = seed.pick(&[0, 1023]),
+            6 => room = seed.pick(&[0, SLOTS_MOST - 1]),
             7 if slot < base.starts.len() && slot < base.ends.len() => base.ends[slot] = base.starts[slot],
             8 if slot < base.ends.len() => base.ends[slot] = MINUTES_MOST as u32 + 1,
             9 if slot > 0 && slot < base.starts.len() && slot <= base.ends.len() => base.starts[slot] = base.ends[slot - 1] - 1,
@@ -198,12 +202,12 @@ pub fn damaged(case_seed: u64) -> Vec<Question> {
     }
     let lent = LentProblem { base, ranges };
     let mut asked = Vec::new();
-    let number = lent.atomise_no(room);
+    let number = lent.atomise_number(room);
     if number > 0 {
         asked.push(lent.atomise(&mut seed, room, Err(number)));
     }
     let room = lent.ranges.persons.len();
-    let number = lent.merged_no(room);
+    let number = lent.merged_number(room);
     if number > 0 {
         asked.push(lent.merged(&mut seed, room, Err(number)));
     }
@@ -212,7 +216,7 @@ pub fn damaged(case_seed: u64) -> Vec<Question> {
 
 impl LentProblem {
     /// A split: 1 to 4.
-    fn atomise_no(&self, room: usize) -> u64 {
+    fn atomise_number(&self, room: usize) -> u64 {
         lowest(&[
             (1, self.ranges.count_ok() && self.base.count_ok()),
             (2, self.ranges.room_ok() && self.base.room_ok() && SLOTS_MOST <= room),
@@ -222,7 +226,7 @@ impl LentProblem {
     }
 
     /// A merge: 1, 2, 4.
-    fn merged_no(&self, room: usize) -> u64 {
+    fn merged_number(&self, room: usize) -> u64 {
         lowest(&[
             (1, self.ranges.count_ok()),
             (2, self.ranges.room_ok() && self.ranges.count <= room),

@@ -85,7 +85,7 @@ fn example(members: std::ops::Range<usize>, len: usize) -> SetCase {
 /// Each case is stored in both editions: the Rust's targets, and edition 2's over the Rust's rounded ones.
 pub fn targets(n: u64, run: u64) -> Stored {
     let mut bytes = Vec::new();
-    let mut told = [0u64; WRONG.len()];
+    let mut found = [0u64; WRONG.len()];
     let mut told_second = [0u64; WRONG_SPREADS.len()];
     let mut plain = n - TELLING * (WRONG.len() + WRONG_SPREADS.len()) as u64;
     let mut made = 0;
@@ -107,7 +107,7 @@ pub fn targets(n: u64, run: u64) -> Stored {
         }
         let second = second_edition(Spread::MinuteByMinute, &case, &due);
         let mut tells = false;
-        for (rule, times) in WRONG.iter().zip(told.iter_mut()) {
+        for (rule, times) in WRONG.iter().zip(found.iter_mut()) {
             if *times < TELLING && targets_by(*rule, &case) != due {
                 *times += 1;
                 tells = true;

@@ -78,15 +78,15 @@ fn small(seed: &mut Seed) -> Option<RotaCase> {
 impl Record {
     fn new(case: RotaCase, due: Played) -> Self {
         let problem = &case.problem;
-        let firsts = unit_starts_of(problem);
+        let unit_starts = unit_starts_of(problem);
         let begun = played(problem, &case.assignment(&case.owners), vec![]);
         Self {
             people: problem.human_count(),
             draws: case.draws.len(),
             slots: Slots::of(problem),
             units: Units {
-                count: firsts.len(),
-                firsts,
+                count: unit_starts.len(),
+                unit_starts,
             },
             owners: case.owners.clone(),
             sets: held(problem.human_count(), &case.owners),
@@ -108,7 +108,7 @@ impl Record {
         }
         filled32(bytes, SLOTS, &self.slots.starts, 0);
         filled32(bytes, SLOTS, &self.slots.ends, 0);
-        filled16(bytes, SLOTS, &self.units.firsts, 0);
+        filled16(bytes, SLOTS, &self.units.unit_starts, 0);
         let set = |holds: &dyn Fn(usize) -> bool| -> u16 { (0..problem.slot_count()).map(|slot| u16::from(holds(slot)) << slot).sum() };
         let able: Vec<u16> = (0..problem.human_count())
             .map(|person| set(&|slot| problem.is_available(person, slot)))
@@ -129,7 +129,7 @@ impl Record {
         }
         filled16(bytes, PEOPLE, &self.sets, 0);
         worked(bytes, &self.minutes);
-        for length in [self.owners_lent, self.words_lent, self.units.firsts.len()] {
+        for length in [self.owners_lent, self.words_lent, self.units.unit_starts.len()] {
             half(bytes, length);
         }
     }
@@ -338,13 +338,13 @@ impl Record {
     fn damage(&mut self, seed: &mut Seed, rule: u64, slot: usize, person: usize) {
         match rule {
             0 => self.people = seed.pick(&[0, 33, 65_535]),
-            1 => self.draws = seed.pick(&[1025, 65_535]),
+            1 => self.draws = seed.pick(&[DRAWS_MOST + 1, 65_535]),
             2 => self.owners_lent = slot,
             3 => self.words_lent = SET_WORDS * self.people.clamp(1, PEOPLE) - 1,
             4 => self.owners[slot] = PEOPLE as u8 + seed.below(250) as u8,
             5 => self.sets[person] ^= 1 << slot,
             6 => self.minutes[person] ^= 1 << seed.below(31),
-            7 => self.units.firsts[0] = 1,
+            7 => self.units.unit_starts[0] = 1,
             _ => self.slots.ends[slot] = self.slots.starts[slot],
         }
     }

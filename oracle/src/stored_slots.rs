@@ -5,7 +5,7 @@ use on_call::model::problem::Problem;
 
 use crate::bits::put_bit;
 use crate::days::instant;
-use crate::limits::{MINUTES_MOST, SET_WORDS, SLOTS_MOST};
+use crate::limits::{MINUTES_MOST, RANGES_MOST, SET_WORDS, SLOTS_MOST};
 use crate::problems::{availability_into, problem_case, slots_of, ProblemCase, Range};
 use crate::seed::Seed;
 use crate::splitting::{merged_of, LentProblem};
@@ -88,7 +88,7 @@ impl Asked {
         let k = seed.below(ranges.shuts.len().max(1) as u64) as usize;
         match seed.below(14) {
             0 => ranges.people = seed.pick(&[0, 33, usize::MAX]),
-            1 => ranges.count = seed.pick(&[1025, usize::MAX]),
+            1 => ranges.count = seed.pick(&[RANGES_MOST + 1, usize::MAX]),
             2 => drop(ranges.persons.pop()),
             3 => drop(ranges.shuts.pop()),
             4 => self.words = seed.pick(&[0, SET_WORDS * ranges.people.min(PEOPLE)]).max(1) - 1,
@@ -105,7 +105,7 @@ impl Asked {
         }
     }
 
-    fn merged_no(&self) -> u64 {
+    fn merged_number(&self) -> u64 {
         let room = self.merged_room.iter().all(|&room| self.ranges.count <= room);
         lowest(&[
             (1, self.ranges.count_ok()),
@@ -114,7 +114,7 @@ impl Asked {
         ])
     }
 
-    fn atoms_no(&self) -> u64 {
+    fn atoms_number(&self) -> u64 {
         let room = self.atom_room.iter().all(|&room| SLOTS_MOST <= room);
         lowest(&[
             (1, self.ranges.count_ok() && self.base.count_ok()),
@@ -124,7 +124,7 @@ impl Asked {
         ])
     }
 
-    fn availability_no(&self) -> u64 {
+    fn availability_number(&self) -> u64 {
         let room = words_ok(self.ranges.people, self.words);
         lowest(&[
             (1, self.ranges.count_ok() && self.atoms.count_ok()),
@@ -134,12 +134,12 @@ impl Asked {
         ])
     }
 
-    fn freeze_no(&self) -> u64 {
+    fn freeze_number(&self) -> u64 {
         let room = self.atoms.room_ok() && SET_WORDS <= self.flags;
         lowest(&[(1, self.atoms.count_ok()), (2, room), (9, self.atoms.ok())])
     }
 
-    fn told_no(&self) -> u64 {
+    fn yes_no_number(&self) -> u64 {
         lowest(&[
             (1, people_ok(self.ranges.people) && self.atoms.count_ok()),
             (2, words_ok(self.ranges.people, self.words)),
@@ -147,11 +147,11 @@ impl Asked {
         ])
     }
 
-    fn demand_no(&self) -> u64 {
+    fn demand_number(&self) -> u64 {
         lowest(&[(1, self.atoms.count_ok()), (2, self.atoms.room_ok()), (9, self.atoms.ok())])
     }
 
-    fn minutes_no(&self) -> u64 {
+    fn minutes_number(&self) -> u64 {
         let known = self.slot < self.atoms.count;
         lowest(&[
             (1, self.atoms.count_ok()),
@@ -188,7 +188,7 @@ pub fn firsts(rows: &[u64]) -> Vec<u64> {
 fn record(bytes: &mut Vec<u8>, seed: &mut Seed, case: &ProblemCase, mut problem: Problem, damaged: bool) {
     let mut asked = Asked::new(seed, case, &problem);
     let (starts, ends) = slots_of(&problem);
-    let (told, minutes) = (problem.is_available(asked.person, asked.slot), problem.slot_minutes[asked.slot]);
+    let (yes, minutes) = (problem.is_available(asked.person, asked.slot), problem.slot_minutes[asked.slot]);
     if damaged {
         for _ in 0..seed.within(1, 2) {
             asked.damage(seed);
@@ -207,7 +207,7 @@ fn record(bytes: &mut Vec<u8>, seed: &mut Seed, case: &ProblemCase, mut problem:
     let end = seed.pick(&ends);
     let at = seed.pick(&[0, end, end - 1, end + 1, seed.clone().word() as u32, u32::MAX]);
     let frozen = problem.freeze_before(instant(i64::from(at)));
-    if asked.freeze_no() == 0 {
+    if asked.freeze_number() == 0 {
         for slot in 0..starts.len() {
             put_bit(&mut flags, 0, slot, problem.frozen[slot]);
         }
@@ -219,13 +219,13 @@ fn record(bytes: &mut Vec<u8>, seed: &mut Seed, case: &ProblemCase, mut problem:
     words(bytes, &marked);
     words(bytes, &flags);
     let merged = merged_of(case);
-    half(bytes, answer(asked.merged_no(), merged.len()));
-    half(bytes, answer(asked.atoms_no(), starts.len()));
-    half(bytes, answer(asked.availability_no(), 0));
-    half(bytes, answer(asked.freeze_no(), frozen));
-    half(bytes, answer(asked.told_no(), usize::from(told)));
-    bytes.extend(minutes_answer(asked.demand_no(), problem.total_demand()).to_le_bytes());
-    bytes.extend(minutes_answer(asked.minutes_no(), minutes).to_le_bytes());
+    half(bytes, answer(asked.merged_number(), merged.len()));
+    half(bytes, answer(asked.atoms_number(), starts.len()));
+    half(bytes, answer(asked.availability_number(), 0));
+    half(bytes, answer(asked.freeze_number(), frozen));
+    half(bytes, answer(asked.yes_no_number(), usize::from(yes)));
+    bytes.extend(minutes_answer(asked.demand_number(), problem.total_demand()).to_le_bytes());
+    bytes.extend(minutes_answer(asked.minutes_number(), minutes).to_le_bytes());
     asked.written(bytes, &merged, &starts, &ends);
 }
 
@@ -254,8 +254,8 @@ impl Asked {
 
     /// The columns that come out: the list at the front, or nothing where it is refused.
     fn written(&self, bytes: &mut Vec<u8>, merged: &[Range], starts: &[u32], ends: &[u32]) {
-        let merged = if self.merged_no() == 0 { merged } else { &[] };
-        let atoms = if self.atoms_no() == 0 { starts.len() } else { 0 };
+        let merged = if self.merged_number() == 0 { merged } else { &[] };
+        let atoms = if self.atoms_number() == 0 { starts.len() } else { 0 };
         let column = |of: fn(&Range) -> u32| merged.iter().map(of).collect::<Vec<u32>>();
         let whose: Vec<u16> = merged.iter().map(|range| range.person as u16).collect();
         filled16(bytes, RANGES, &whose, FILL16);

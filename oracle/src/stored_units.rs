@@ -140,38 +140,42 @@ fn figure_answer(number: u64, figure: u64) -> u64 {
 
 fn record(bytes: &mut Vec<u8>, asked: &LentUnits, due: &DueUnits) {
     lent_bytes(bytes, asked);
-    let of_unit = asked.units_no(asked.unit < asked.units.count);
-    half(bytes, answer(asked.starts_no(), due.rotations.len()));
-    half(bytes, answer(asked.starts_no(), due.units.len()));
-    half(bytes, answer(asked.units_no(true), due.units.len()));
+    let of_unit = asked.units_number(asked.unit < asked.units.count);
+    half(bytes, answer(asked.starts_number(), due.rotations.len()));
+    half(bytes, answer(asked.starts_number(), due.units.len()));
+    half(bytes, answer(asked.units_number(true), due.units.len()));
     half(bytes, answer(of_unit, due.span.start));
     half(bytes, answer(of_unit, due.span.end));
-    half(bytes, answer(asked.units_no(asked.slot < asked.slots.count), due.unit_of_slot));
-    half(bytes, answer(asked.frozen_no(), usize::from(due.is_frozen)));
-    half(bytes, answer(asked.slot_domain_no(), due.slot_domain.len()));
-    half(bytes, answer(asked.unit_domain_no(), due.unit_domain.len()));
-    half(bytes, answer(asked.unit_domains_no(), 0));
+    half(bytes, answer(asked.units_number(asked.slot < asked.slots.count), due.unit_of_slot));
+    half(bytes, answer(asked.frozen_number(), usize::from(due.is_frozen)));
+    half(bytes, answer(asked.slot_domain_number(), due.slot_domain.len()));
+    half(bytes, answer(asked.unit_domain_number(), due.unit_domain.len()));
+    half(bytes, answer(asked.unit_domains_number(), 0));
     words(
         bytes,
         &[
-            figure_answer(asked.days_no(), due.own.days),
-            figure_answer(asked.days_no(), due.own.per_day),
-            figure_answer(asked.target_no(), due.own.target),
-            figure_answer(asked.achievable_no(), due.own.achievable[due.person]),
+            figure_answer(asked.days_number(), due.own.days),
+            figure_answer(asked.days_number(), due.own.per_day),
+            figure_answer(asked.target_number(), due.own.target),
+            figure_answer(asked.achievable_number(), due.own.achievable[due.person]),
         ],
     );
     for starts in [&due.rotations, &due.units] {
-        let written = if asked.starts_no() == 0 { &starts[..] } else { &[] };
+        let written = if asked.starts_number() == 0 { &starts[..] } else { &[] };
         filled16(bytes, SLOTS, written, FILL16);
     }
     for (number, list) in [
-        (asked.slot_domain_no(), &due.slot_domain),
-        (asked.unit_domain_no(), &due.unit_domain),
+        (asked.slot_domain_number(), &due.slot_domain),
+        (asked.unit_domain_number(), &due.unit_domain),
     ] {
         let written = if number == 0 { &list[..] } else { &[] };
         bytes.extend(written.iter().copied().chain(std::iter::repeat(FILL8)).take(LIST));
     }
-    let masks = if asked.unit_domains_no() == 0 { &due.unit_masks[..] } else { &[] };
+    let masks = if asked.unit_domains_number() == 0 {
+        &due.unit_masks[..]
+    } else {
+        &[]
+    };
     filled32(bytes, SLOTS, masks, FILL32);
 }
 
@@ -190,7 +194,7 @@ fn lent_bytes(bytes: &mut Vec<u8>, asked: &LentUnits) {
     bytes.extend([settings.fairness, settings.lock, settings.boundary, settings.edition]);
     half(bytes, usize::from(settings.value));
     half(bytes, usize::from(settings.days));
-    let (slots, starts) = (&asked.slots, &asked.units.firsts);
+    let (slots, starts) = (&asked.slots, &asked.units.unit_starts);
     let lengths = [
         slots.starts.len(),
         slots.ends.len(),

@@ -103,7 +103,7 @@ impl Slots {
     pub fn damage(&mut self, seed: &mut Seed) {
         let k = seed.below(self.ends.len().min(self.starts.len()).max(1) as u64) as usize;
         match seed.below(6) {
-            0 => self.count = seed.pick(&[0, 1025, usize::MAX]),
+            0 => self.count = seed.pick(&[0, SLOTS_MOST + 1, usize::MAX]),
             1 => drop(self.starts.pop()),
             2 => drop(self.ends.pop()),
             _ if k >= self.starts.len() || k >= self.ends.len() => {}
@@ -153,13 +153,13 @@ impl Ranges {
 #[derive(Debug, Clone)]
 pub struct Units {
     pub count: usize,
-    pub firsts: Vec<u16>,
+    pub unit_starts: Vec<u16>,
 }
 
 impl Units {
     /// 2: as many starts as the count says.
     pub fn room_ok(&self) -> bool {
-        self.count <= self.firsts.len()
+        self.count <= self.unit_starts.len()
     }
 
     /// 9: they begin at 0, rise, and stay below the slot count. Asked only where there is room.
@@ -167,22 +167,22 @@ impl Units {
         if !self.room_ok() {
             return true;
         }
-        let firsts = &self.firsts[..self.count];
-        let rise = firsts.windows(2).all(|two| two[0] < two[1]);
-        firsts.first() == Some(&0) && rise && firsts.iter().all(|&first| usize::from(first) < slots)
+        let unit_starts = &self.unit_starts[..self.count];
+        let rise = unit_starts.windows(2).all(|two| two[0] < two[1]);
+        unit_starts.first() == Some(&0) && rise && unit_starts.iter().all(|&first| usize::from(first) < slots)
     }
 
     /// Breaks one of their rules.
     pub fn damage(&mut self, seed: &mut Seed, slots: usize) {
-        let k = seed.below(self.firsts.len().max(1) as u64) as usize;
+        let k = seed.below(self.unit_starts.len().max(1) as u64) as usize;
         match seed.below(5) {
             0 => self.count = 0,
-            1 => self.count = self.firsts.len() + 1,
-            2 => drop(self.firsts.pop()),
-            _ if k >= self.firsts.len() => {}
-            3 if k > 0 => self.firsts[k] = self.firsts[k - 1],
-            4 => self.firsts[k] = slots as u16 + seed.below(3) as u16,
-            _ => self.firsts[0] = 1,
+            1 => self.count = self.unit_starts.len() + 1,
+            2 => drop(self.unit_starts.pop()),
+            _ if k >= self.unit_starts.len() => {}
+            3 if k > 0 => self.unit_starts[k] = self.unit_starts[k - 1],
+            4 => self.unit_starts[k] = slots as u16 + seed.below(3) as u16,
+            _ => self.unit_starts[0] = 1,
         }
     }
 }

@@ -3,7 +3,7 @@
 use crate::bits::put_bit;
 use crate::call::{bytes32, bytes64, bytes_i64, Arg, Outcome, Question};
 use crate::figures::{second_edition, FigureCase, Spread};
-use crate::limits::{MINUTES_MOST, PEOPLE_MOST, SET_WORDS};
+use crate::limits::{MINUTES_MOST, PEOPLE_MOST, SET_WORDS, SLOTS_MOST};
 use crate::problems::Person;
 use crate::seed::Seed;
 use crate::table::{figures_ok, lowest, people_ok, words_ok, Slots};
@@ -51,13 +51,13 @@ impl LentTargets {
             args: vec![
                 Arg::Number(self.people as u64),
                 Arg::Number(self.slots.count as u64),
+                Arg::Number(u64::from(self.fairness)),
+                Arg::Number(u64::from(self.edition)),
                 Arg::Lent(4, bytes32(&self.slots.starts)),
                 Arg::Lent(4, bytes32(&self.slots.ends)),
                 Arg::Lent(8, bytes64(&self.avail)),
                 Arg::Lent(8, bytes64(&self.capacities)),
                 Arg::Lent(4, bytes32(&self.priors)),
-                Arg::Number(u64::from(self.fairness)),
-                Arg::Number(u64::from(self.edition)),
                 Arg::LentMut(8, bytes_i64(&self.out)),
             ],
             due: Outcome {
@@ -115,7 +115,7 @@ pub fn damaged(case_seed: u64) -> Vec<Question> {
     for _ in 0..seed.within(1, 2) {
         match seed.below(13) {
             0 => lent.people = seed.pick(&[0, 33, usize::MAX]),
-            1 => lent.slots.count = seed.pick(&[0, 1025, usize::MAX]),
+            1 => lent.slots.count = seed.pick(&[0, SLOTS_MOST + 1, usize::MAX]),
             2 => drop(lent.slots.starts.pop()),
             3 => lent.avail.truncate((SET_WORDS * lent.people.min(PEOPLE_MOST)).saturating_sub(1)),
             4 => drop(lent.priors.pop()),

@@ -9,7 +9,7 @@ use crate::days::instant;
 use crate::lent_units::{lent, DueUnits, LentUnits};
 use crate::limits::{NOTHING, SET_WORDS};
 use crate::problems::{availability_into, problem_within, slots_of, unit_masks_of, unit_starts_of, ProblemCase};
-use crate::rotations::settings_args;
+use crate::rotations::with_settings;
 use crate::seed::Seed;
 use crate::table::Slots;
 
@@ -55,11 +55,12 @@ fn figures_asked(seed: &mut Seed, case: &ProblemCase, problem: &Problem, avail: 
     for due in std::iter::once(own).chain(rust) {
         asked.push(beside(COVERED_DAYS, slots.args(), seed.word(), 0, due.days));
         asked.push(beside("boltraven_minutes_per_day", slots.args(), seed.word(), 0, due.per_day));
-        let target_args = [settings_args(case.settings), slots.args()].concat();
+        let target_args = with_settings(case.settings, slots.args());
         asked.push(beside("boltraven_target_run", target_args, seed.word(), 0, due.target));
         for person in [0, people - 1] {
-            let whose = vec![Arg::Lent(8, bytes64(avail)), Arg::Number(people as u64), Arg::Number(person as u64)];
-            let args = [settings_args(case.settings), whose, slots.args()].concat();
+            let mut args = vec![Arg::Number(people as u64)];
+            args.extend(with_settings(case.settings, slots.args()));
+            args.extend([Arg::Lent(8, bytes64(avail)), Arg::Number(person as u64)]);
             asked.push(beside("boltraven_achievable_run", args, seed.word(), 0, due.achievable[person]));
         }
     }
@@ -80,10 +81,10 @@ pub fn counts_agree(questions: &[Question]) -> Option<bool> {
 /// The domains of some units, as the ascending list of people.
 fn domains(seed: &mut Seed, problem: &Problem, avail: &[u64]) -> Vec<Question> {
     let people = problem.human_count();
-    let firsts = unit_starts_of(problem);
+    let unit_starts = unit_starts_of(problem);
     let mut asked = Vec::new();
     for _ in 0..3 {
-        let unit = seed.below(firsts.len() as u64) as usize;
+        let unit = seed.below(unit_starts.len() as u64) as usize;
         let domain = &problem.unit_domains[unit];
         let before: Vec<u8> = (0..people + seed.below(2) as usize).map(|_| seed.word() as u8).collect();
         let mut after = before.clone();
@@ -93,13 +94,13 @@ fn domains(seed: &mut Seed, problem: &Problem, avail: &[u64]) -> Vec<Question> {
         asked.push(Question {
             function: "boltraven_unit_domain",
             args: vec![
-                Arg::Lent(8, bytes64(avail)),
                 Arg::Number(people as u64),
                 Arg::Number(problem.slot_count() as u64),
-                Arg::Number(firsts.len() as u64),
-                Arg::Lent(2, bytes16(&firsts)),
-                Arg::Number(unit as u64),
+                Arg::Number(unit_starts.len() as u64),
+                Arg::Lent(8, bytes64(avail)),
+                Arg::Lent(2, bytes16(&unit_starts)),
                 Arg::LentMut(1, before),
+                Arg::Number(unit as u64),
             ],
             due: Outcome {
                 result: domain.len() as u64,
@@ -125,14 +126,16 @@ fn domains(seed: &mut Seed, problem: &Problem, avail: &[u64]) -> Vec<Question> {
 
 /// The domains of all units at once, a mask each, in a list with room for as many as slots or a little more.
 fn all_domains(seed: &mut Seed, problem: &Problem, avail: &[u64]) -> Question {
-    let firsts = unit_starts_of(problem);
-    let before: Vec<u32> = (0..problem.slot_count() + seed.below(2) as usize).map(|_| seed.word() as u32).collect();
+    let unit_starts = unit_starts_of(problem);
+    let before: Vec<u32> = (0..problem.slot_count() + seed.below(2) as usize)
+        .map(|_| seed.word() as u32)
+        .collect();
     let args = vec![
-        Arg::Lent(8, bytes64(avail)),
         Arg::Number(problem.human_count() as u64),
         Arg::Number(problem.slot_count() as u64),
-        Arg::Number(firsts.len() as u64),
-        Arg::Lent(2, bytes16(&firsts)),
+        Arg::Number(unit_starts.len() as u64),
+        Arg::Lent(8, bytes64(avail)),
+        Arg::Lent(2, bytes16(&unit_starts)),
     ];
     masks(args, before, 0, &unit_masks_of(problem))
 }
@@ -182,16 +185,16 @@ fn freezing(seed: &mut Seed, mut problem: Problem, lent_slots: &[Arg]) -> Vec<Qu
             written: vec![bytes64(&flags)],
         },
     }];
-    let firsts = unit_starts_of(&problem);
+    let unit_starts = unit_starts_of(&problem);
     for _ in 0..3 {
-        let unit = seed.below(firsts.len() as u64) as usize;
+        let unit = seed.below(unit_starts.len() as u64) as usize;
         asked.push(Question::number(
             "boltraven_unit_frozen",
             vec![
-                Arg::Lent(8, bytes64(&flags)),
                 Arg::Number(count as u64),
-                Arg::Number(firsts.len() as u64),
-                Arg::Lent(2, bytes16(&firsts)),
+                Arg::Number(unit_starts.len() as u64),
+                Arg::Lent(2, bytes16(&unit_starts)),
+                Arg::Lent(8, bytes64(&flags)),
                 Arg::Number(unit as u64),
             ],
             u64::from(problem.is_unit_frozen(unit)),
@@ -200,7 +203,7 @@ fn freezing(seed: &mut Seed, mut problem: Problem, lent_slots: &[Arg]) -> Vec<Qu
     asked
 }
 
-/// Damaged copies, some of them twice: each function is asked all the same, and hears the paper's number or, where the damage is none of
+/// Damaged copies, some of them twice: each function is asked all the same, and answers the paper's number or, where the damage is none of
 /// its concern, gives the Rust's answer.
 pub fn damaged(case_seed: u64) -> Vec<Question> {
     let mut seed = Seed::new(case_seed);
@@ -219,27 +222,35 @@ pub fn damaged(case_seed: u64) -> Vec<Question> {
 }
 
 impl LentUnits {
-    fn units_args(&self) -> Vec<Arg> {
+    /// What a domain takes before the list that is written.
+    fn domain_args(&self) -> Vec<Arg> {
         vec![
+            Arg::Number(self.people as u64),
             Arg::Number(self.slots.count as u64),
             Arg::Number(self.units.count as u64),
-            Arg::Lent(2, bytes16(&self.units.firsts)),
+            Arg::Lent(8, bytes64(&self.avail)),
+            Arg::Lent(2, bytes16(&self.units.unit_starts)),
         ]
     }
 
-    /// The units, and the one that is asked for.
-    fn unit_args(&self) -> Vec<Arg> {
-        [self.units_args(), vec![Arg::Number(self.unit as u64)]].concat()
+    /// What the question whether a unit is frozen takes.
+    fn frozen_args(&self) -> Vec<Arg> {
+        vec![
+            Arg::Number(self.slots.count as u64),
+            Arg::Number(self.units.count as u64),
+            Arg::Lent(2, bytes16(&self.units.unit_starts)),
+            Arg::Lent(8, bytes64(&self.frozen)),
+            Arg::Number(self.unit as u64),
+        ]
     }
 
     /// Rotation and unit starts.
     fn starts_asked(&self, seed: &mut Seed, due: &DueUnits) -> Vec<Question> {
-        let number = self.starts_no();
+        let number = self.starts_number();
         let asked = [("boltraven_rotation_starts", &due.rotations), ("boltraven_unit_starts", &due.units)];
         let question = |(function, starts): (&'static str, &Vec<u16>)| {
             let before: Vec<u16> = (0..self.starts_room).map(|_| seed.word() as u16).collect();
-            let mut args = settings_args(self.settings);
-            args.extend(self.slots.args());
+            let args = with_settings(self.settings, self.slots.args());
             list(function, args, 2, bytes16(&before), number, starts.len(), &bytes16(starts))
         };
         asked.map(question).into()
@@ -248,25 +259,23 @@ impl LentUnits {
     /// A unit's domain, and whether it is frozen.
     fn units_asked(&self, seed: &mut Seed, due: &DueUnits) -> Vec<Question> {
         let before: Vec<u8> = (0..self.list_room).map(|_| seed.word() as u8).collect();
-        let mut domain_args = vec![Arg::Lent(8, bytes64(&self.avail)), Arg::Number(self.people as u64)];
-        domain_args.extend(self.unit_args());
         let domain = &due.unit_domain;
-        let mut frozen_args = vec![Arg::Lent(8, bytes64(&self.frozen))];
-        frozen_args.extend(self.unit_args());
+        let mut of_unit = list(
+            "boltraven_unit_domain",
+            self.domain_args(),
+            1,
+            before,
+            self.unit_domain_number(),
+            domain.len(),
+            domain,
+        );
+        of_unit.args.push(Arg::Number(self.unit as u64));
         vec![
-            list(
-                "boltraven_unit_domain",
-                domain_args,
-                1,
-                before,
-                self.unit_domain_no(),
-                domain.len(),
-                domain,
-            ),
+            of_unit,
             Question::number(
                 "boltraven_unit_frozen",
-                frozen_args,
-                heard(self.frozen_no(), u64::from(due.is_frozen)),
+                self.frozen_args(),
+                answer_or(self.frozen_number(), u64::from(due.is_frozen)),
             ),
         ]
     }
@@ -274,30 +283,25 @@ impl LentUnits {
     /// All units' domains.
     fn domains_asked(&self, seed: &mut Seed, due: &DueUnits) -> Question {
         let before: Vec<u32> = (0..self.masks_room).map(|_| seed.word() as u32).collect();
-        let mut args = vec![Arg::Lent(8, bytes64(&self.avail)), Arg::Number(self.people as u64)];
-        args.extend(self.units_args());
-        masks(args, before, self.unit_domains_no(), &due.unit_masks)
+        masks(self.domain_args(), before, self.unit_domains_number(), &due.unit_masks)
     }
 
     /// Covered days, minutes a day, target and achievable run: by the generator's own count, and by the Rust's where it is the same.
     fn figures_asked(&self, seed: &mut Seed, due: &DueUnits) -> Vec<Question> {
-        let target_args = [settings_args(self.settings), self.slots.args()].concat();
-        let whose = vec![
-            Arg::Lent(8, bytes64(&self.avail)),
-            Arg::Number(self.people as u64),
-            Arg::Number(self.person as u64),
-        ];
-        let run_args = [settings_args(self.settings), whose, self.slots.args()].concat();
+        let target_args = with_settings(self.settings, self.slots.args());
+        let mut run_args = vec![Arg::Number(self.people as u64)];
+        run_args.extend(target_args.clone());
+        run_args.extend([Arg::Lent(8, bytes64(&self.avail)), Arg::Number(self.person as u64)]);
         let mut asked = Vec::new();
         for by in std::iter::once(&due.own).chain(&due.rust) {
             let questions = [
-                (COVERED_DAYS, self.slots.args(), self.days_no(), by.days),
-                ("boltraven_minutes_per_day", self.slots.args(), self.days_no(), by.per_day),
-                ("boltraven_target_run", target_args.clone(), self.target_no(), by.target),
+                (COVERED_DAYS, self.slots.args(), self.days_number(), by.days),
+                ("boltraven_minutes_per_day", self.slots.args(), self.days_number(), by.per_day),
+                ("boltraven_target_run", target_args.clone(), self.target_number(), by.target),
                 (
                     "boltraven_achievable_run",
                     run_args.clone(),
-                    self.achievable_no(),
+                    self.achievable_number(),
                     by.achievable[due.person],
                 ),
             ];
@@ -308,7 +312,7 @@ impl LentUnits {
 }
 
 /// A number that was asked for, or a refusal.
-fn heard(number: u64, right: u64) -> u64 {
+fn answer_or(number: u64, right: u64) -> u64 {
     if number == 0 {
         right
     } else {
@@ -327,7 +331,7 @@ fn list(function: &'static str, mut args: Vec<Arg>, size: usize, before: Vec<u8>
         function,
         args,
         due: Outcome {
-            result: heard(number, count as u64),
+            result: answer_or(number, count as u64),
             written: vec![after],
         },
     }

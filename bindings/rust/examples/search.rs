@@ -13,15 +13,15 @@ use boltraven::{Answer, Assignment, Boundary, Draw, Edition, Fairness, Person, P
 const MOVES: &str = include_str!("nights.moves");
 
 fn main() -> Result<(), Box<dyn Error>> {
-    let told = Told::read(MOVES)?;
-    let mut problem = Problem::build(told.settings, &told.base, &told.people, &told.ranges)?;
-    if let Some(instant) = told.freeze {
+    let recorded = Recorded::read(MOVES)?;
+    let mut problem = Problem::build(recorded.settings, &recorded.base, &recorded.people, &recorded.ranges)?;
+    if let Some(instant) = recorded.freeze {
         problem.freeze_before(instant);
     }
-    let mut rota = Assignment::from_slots(&problem, &owners_of(&told.owners, problem.slot_count()))?;
+    let mut rota = Assignment::from_slots(&problem, &owners_of(&recorded.owners, problem.slot_count()))?;
     show("before", &problem, &rota)?;
     show_a_refusal(&problem, &rota)?;
-    for (number, block) in told.blocks.iter().enumerate() {
+    for (number, block) in recorded.blocks.iter().enumerate() {
         let kept = rota.clone();
         let answers = rota.play(&problem, &block.draws)?;
         if !block.is_wanted {
@@ -32,12 +32,12 @@ fn main() -> Result<(), Box<dyn Error>> {
         println!(
             "block {} of {}: {acted} of {} draws acted, {end}",
             number + 1,
-            told.blocks.len(),
+            recorded.blocks.len(),
             answers.len()
         );
     }
     show("after", &problem, &rota)?;
-    if rota.slots() != owners_of(&told.last, problem.slot_count()) {
+    if rota.slots() != owners_of(&recorded.last, problem.slot_count()) {
         return Err("the upstream moves end in another rota".into());
     }
     println!("the upstream moves end in the same rota");
@@ -112,7 +112,7 @@ struct Block {
 
 /// A job, blocks of draws, and the owners at the end.
 #[derive(Default)]
-struct Told {
+struct Recorded {
     settings: Settings,
     base: Vec<Slot>,
     people: Vec<Person>,
@@ -123,13 +123,13 @@ struct Told {
     last: Vec<(usize, Option<usize>)>,
 }
 
-impl Told {
+impl Recorded {
     fn read(text: &str) -> Result<Self, Box<dyn Error>> {
-        let mut told = Self::default();
+        let mut recorded = Self::default();
         for line in text.lines().filter(|line| !line.starts_with('#')) {
-            told.add(line).map_err(|error| format!("'{line}': {error}"))?;
+            recorded.add(line).map_err(|error| format!("'{line}': {error}"))?;
         }
-        Ok(told)
+        Ok(recorded)
     }
 
     fn add(&mut self, line: &str) -> Result<(), Box<dyn Error>> {

@@ -38,9 +38,9 @@ impl Availability {
         lent::availability(
             people,
             slots.len(),
+            ranges.len(),
             slots.starts(),
             slots.ends(),
-            ranges.len(),
             &given.persons,
             &given.starts,
             &given.ends,
@@ -76,7 +76,7 @@ impl Availability {
     /// The people who are available for a slot, ascending. Refusal 11.
     pub fn domain(&self, slot: usize) -> Result<Vec<usize>, Refusal> {
         let mut list = vec![0; self.people];
-        let count = lent::slot_domain(&self.words, self.people, self.slots, slot, &mut list)?;
+        let count = lent::slot_domain(self.people, self.slots, &self.words, &mut list, slot)?;
         Ok(list.iter().take(count).map(|&person| usize::from(person)).collect())
     }
 
@@ -91,13 +91,12 @@ impl Availability {
         written(|out| {
             with_settings!(
                 lent::achievable_run,
+                [self.people, slots.len()],
                 settings,
-                &self.words,
-                self.people,
-                person,
-                slots.len(),
                 slots.starts(),
                 slots.ends(),
+                &self.words,
+                person,
                 out
             )
         })

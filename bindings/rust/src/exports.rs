@@ -45,9 +45,9 @@ macro_rules! export {
         pub fn $name($($taken)*) -> $answer {
             extern "C" {
                 #[link_name = concat!("boltraven_", stringify!($name))]
-                fn $name($(_: $declared),*) -> $number;
+                fn exported($(_: $declared),*) -> $number;
             }
-            $reader(unsafe { $name($($passed),*) })
+            $reader(unsafe { exported($($passed),*) })
         }
     };
 }

@@ -114,7 +114,7 @@ impl Job {
         file
     }
 
-    /// The listing of the job: prepared, played and told in one call. Refusals 1, 3 to 7, 10 to 13.
+    /// The listing of the job: prepared, played and listed in one call. Refusals 1, 3 to 7, 10 to 13.
     pub fn run(&self) -> Result<String, Refusal> {
         run_job(&self.file())
     }

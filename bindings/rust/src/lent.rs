@@ -13,25 +13,25 @@
 //! use boltraven::{lent, Refusal};
 //!
 //! let mut words = [0; lent::SET_WORDS];
-//! lent::put_stretch(&mut words, 1, 0, 64, 0, 4, true)?;
-//! lent::remove(&mut words, 1, 0, 64, 0)?;
-//! lent::insert(&mut words, 1, 0, 64, 9)?;
+//! lent::put_stretch(1, 64, &mut words, 0, 0, 4, true)?;
+//! lent::remove(1, 64, &mut words, 0, 0)?;
+//! lent::insert(1, 64, &mut words, 0, 9)?;
 //! assert_eq!(words[0], 0b10_0000_1110);
-//! assert_eq!((lent::contains(&words, 1, 0, 64, 9)?, lent::is_empty(&words, 1, 0, 64)?, lent::count(&words, 1, 0, 64)?), (true, false, 4));
-//! assert_eq!((lent::next_set(&words, 1, 0, 64, 4)?, lent::prev_set(&words, 1, 0, 64, 4)?), (Some(9), Some(3)));
-//! assert_eq!((lent::next_unset_after(&words, 1, 0, 64, 1)?, lent::prev_unset_before(&words, 1, 0, 64, 3)?), (Some(4), Some(0)));
+//! assert_eq!((lent::contains(1, 64, &words, 0, 9)?, lent::is_empty(1, 64, &words, 0)?, lent::count(1, 64, &words, 0)?), (true, false, 4));
+//! assert_eq!((lent::next_set(1, 64, &words, 0, 4)?, lent::prev_set(1, 64, &words, 0, 4)?), (Some(9), Some(3)));
+//! assert_eq!((lent::next_unset_after(1, 64, &words, 0, 1)?, lent::prev_unset_before(1, 64, &words, 0, 3)?), (Some(4), Some(0)));
 //!
 //! let (mut first, mut last, mut next) = (0, 0, 0);
-//! assert_eq!(lent::run_bounds(&words, 1, 0, 64, 2, &mut first, &mut last)?, lent::Held::Run);
+//! assert_eq!(lent::run_bounds(1, 64, &words, 0, 2, &mut first, &mut last)?, lent::Held::Run);
 //! assert_eq!((first, last), (1, 3));
-//! assert_eq!(lent::run_bounds(&words, 1, 0, 64, 5, &mut first, &mut last)?, lent::Held::Hole);
+//! assert_eq!(lent::run_bounds(1, 64, &words, 0, 5, &mut first, &mut last)?, lent::Held::Hole);
 //! assert_eq!((first, last), (4, 8));
-//! assert_eq!(lent::run_bounds(&words, 1, 0, 64, 64, &mut first, &mut last)?, lent::Held::Outside);
-//! assert!(lent::next_run(&words, 1, 0, 64, 4, &mut first, &mut last, &mut next)?);
+//! assert_eq!(lent::run_bounds(1, 64, &words, 0, 64, &mut first, &mut last)?, lent::Held::Outside);
+//! assert!(lent::next_run(1, 64, &words, 0, 4, &mut first, &mut last, &mut next)?);
 //! assert_eq!((first, last, next), (9, 9, 10));
-//! assert!(!lent::next_member(&words, 1, 0, 64, 10, &mut first, &mut next)?);
-//! assert_eq!(lent::count(&words, lent::PEOPLE_MOST + 1, 0, 64), Err(Refusal::Count));
-//! assert_eq!(lent::count(&words[..15], 1, 0, 64), Err(Refusal::ShortBuffer));
+//! assert!(!lent::next_member(1, 64, &words, 0, 10, &mut first, &mut next)?);
+//! assert_eq!(lent::count(lent::PEOPLE_MOST + 1, 64, &words, 0), Err(Refusal::Count));
+//! assert_eq!(lent::count(1, 64, &words[..15], 0), Err(Refusal::ShortBuffer));
 //! # Ok::<(), Refusal>(())
 //! ```
 //!
@@ -43,14 +43,14 @@
 //! let (mut whose, mut froms, mut tos) = ([0; 2], [0; lent::SLOTS_MOST], [0; lent::SLOTS_MOST]);
 //! assert_eq!(lent::merged_ranges(2, 2, &[1, 1], &[60, 90], &[90, 180], &mut whose, &mut froms, &mut tos)?, 1);
 //! assert_eq!((whose[0], froms[0], tos[0]), (1, 60, 180));
-//! let slots = lent::atomise(1, &[0], &[120], 2, 2, &[0, 1], &[0, 60], &[120, 180], &mut froms, &mut tos)?;
+//! let slots = lent::atomise(2, 1, 2, &[0], &[120], &[0, 1], &[0, 60], &[120, 180], &mut froms, &mut tos)?;
 //! assert_eq!((slots, &froms[..2], &tos[..2]), (2, &[0, 60][..], &[60, 120][..]));
 //!
 //! let (mut avail, mut frozen, mut list, mut out) = ([0; 32], [0; 16], [0; 2], 0);
-//! lent::availability(2, slots, &froms, &tos, 2, &[0, 1], &[0, 60], &[120, 180], &mut avail)?;
+//! lent::availability(2, slots, 2, &froms, &tos, &[0, 1], &[0, 60], &[120, 180], &mut avail)?;
 //! assert_eq!((avail[0], avail[16]), (0b11, 0b10));
 //! assert!(!lent::is_available(2, slots, &avail, 1, 0)?);
-//! assert_eq!((lent::slot_domain(&avail, 2, slots, 1, &mut list)?, list), (2, [0, 1]));
+//! assert_eq!((lent::slot_domain(2, slots, &avail, &mut list, 1)?, list), (2, [0, 1]));
 //! assert_eq!((lent::freeze_before(slots, &froms, &tos, &mut frozen, 60)?, frozen[0]), (1, 0b1));
 //! lent::demand(slots, &froms, &tos, &mut out)?;
 //! assert_eq!(out, 120);
@@ -58,7 +58,7 @@
 //! assert_eq!(out, 60);
 //!
 //! let mut targets = [0; 2];
-//! lent::compute_targets(2, slots, &froms, &tos, &avail, &[1.0, 1.0], &[0, 0], 0, 0, &mut targets)?;
+//! lent::compute_targets(2, slots, 0, 0, &froms, &tos, &avail, &[1.0, 1.0], &[0, 0], &mut targets)?;
 //! assert_eq!(targets, [80, 40]);
 //! # Ok::<(), boltraven::Refusal>(())
 //! ```
@@ -70,32 +70,32 @@
 //!
 //! let (starts, ends) = ([4320, 5760], [4380, 5820]);
 //! assert_eq!(lent::weekday_of(lent::date_of(starts[1])), 0);
-//! let mut firsts = [0; 2];
-//! assert_eq!(lent::rotation_starts(0, 1, 1, 0, 1, 7, 2, &starts, &ends, &mut firsts)?, 2);
-//! let units = lent::unit_starts(0, 1, 1, 0, 1, 7, 2, &starts, &ends, &mut firsts)?;
-//! assert_eq!((units, firsts), (2, [0, 1]));
-//! assert_eq!(lent::unit_of_slot(2, units, &firsts, 1)?, 1);
+//! let mut unit_starts = [0; 2];
+//! assert_eq!(lent::rotation_starts(2, 0, 1, 1, 0, 1, 7, &starts, &ends, &mut unit_starts)?, 2);
+//! let units = lent::unit_starts(2, 0, 1, 1, 0, 1, 7, &starts, &ends, &mut unit_starts)?;
+//! assert_eq!((units, unit_starts), (2, [0, 1]));
+//! assert_eq!(lent::unit_of_slot(2, units, &unit_starts, 1)?, 1);
 //! let (mut from, mut to) = (0, 0);
-//! lent::unit_slots(2, units, &firsts, 1, &mut from, &mut to)?;
+//! lent::unit_slots(2, units, &unit_starts, 1, &mut from, &mut to)?;
 //! assert_eq!((from, to), (1, 2));
 //!
 //! // Person 0 is there for both, person 1 for the first; the first is frozen.
 //! let (mut avail, mut frozen) = ([0; 32], [0; 16]);
 //! (avail[0], avail[16], frozen[0]) = (0b11, 0b01, 0b1);
 //! let (mut list, mut masks) = ([0; 2], [0; 2]);
-//! assert_eq!((lent::unit_domain(&avail, 2, 2, units, &firsts, 1, &mut list)?, list[0]), (1, 0));
-//! lent::unit_domains(&avail, 2, 2, units, &firsts, &mut masks)?;
+//! assert_eq!((lent::unit_domain(2, 2, units, &avail, &unit_starts, &mut list, 1)?, list[0]), (1, 0));
+//! lent::unit_domains(2, 2, units, &avail, &unit_starts, &mut masks)?;
 //! assert_eq!(masks, [0b11, 0b01]);
-//! assert!(lent::unit_frozen(&frozen, 2, units, &firsts, 0)?);
+//! assert!(lent::unit_frozen(2, units, &unit_starts, &frozen, 0)?);
 //!
 //! let mut out = 0;
 //! lent::covered_days(2, &starts, &ends, &mut out)?;
 //! assert_eq!(out, 2);
 //! lent::minutes_per_day(2, &starts, &ends, &mut out)?;
 //! assert_eq!(out, 60);
-//! lent::target_run(0, 1, 1, 0, 1, 7, 2, &starts, &ends, &mut out)?;
+//! lent::target_run(2, 0, 1, 1, 0, 1, 7, &starts, &ends, &mut out)?;
 //! assert_eq!(out, 420);
-//! lent::achievable_run(0, 1, 1, 0, 1, 7, &avail, 2, 1, 2, &starts, &ends, &mut out)?;
+//! lent::achievable_run(2, 2, 0, 1, 1, 0, 1, 7, &starts, &ends, &avail, 1, &mut out)?;
 //! assert_eq!(out, 60);
 //! # Ok::<(), boltraven::Refusal>(())
 //! ```
@@ -105,7 +105,7 @@
 //! ```
 //! use boltraven::{lent, Draw, Refusal, LISTING_MOST};
 //!
-//! let (starts, ends, firsts, frozen) = ([0, 60], [60, 120], [0, 1], [0; 16]);
+//! let (starts, ends, unit_starts, frozen) = ([0, 60], [60, 120], [0, 1], [0; 16]);
 //! let (mut avail, mut owners, mut sets, mut minutes) = ([0; 32], [0; 2], [0; 32], [0; 2]);
 //! (avail[0], avail[16]) = (0b11, 0b10);
 //! lent::empty(2, 2, &mut owners, &mut sets, &mut minutes)?;
@@ -119,19 +119,19 @@
 //! lent::from_slots(2, 2, &starts, &ends, &avail, &owners, &mut sets, &mut minutes)?;
 //! let mut answers = [9; 1];
 //! lent::play(
-//!     2, 2, 2, 1, &starts, &ends, &avail, &firsts, &frozen, &mut owners, &mut sets, &mut minutes, &[0], &[1], &[1], &mut answers
+//!     2, 2, 2, 1, &starts, &ends, &avail, &unit_starts, &frozen, &[0], &[1], &[1], &mut owners, &mut sets, &mut minutes, &mut answers
 //! )?;
 //! assert_eq!((answers, owners, lent::owner_of_slot(2, 2, &owners, 1)?), ([0], [0, 1], 1));
 //! let draws = [Draw { draw: 0, first: 1, second: 0 }];
 //! lent::play_draws(
-//!     2, 2, 2, 1, &starts, &ends, &avail, &firsts, &frozen, &mut owners, &mut sets, &mut minutes, &draws, &mut answers
+//!     2, 2, 2, 1, &starts, &ends, &avail, &unit_starts, &frozen, &mut owners, &mut sets, &mut minutes, &draws, &mut answers
 //! )?;
 //! assert_eq!((answers, owners), ([0], [0, 0]));
 //! lent::minutes_of(2, &minutes, 0, &mut out)?;
 //! assert_eq!(out, 120);
 //!
 //! minutes[0] = 7;
-//! let units = lent::recount(2, 2, 2, &starts, &ends, &avail, &firsts, &owners, &sets, &minutes);
+//! let units = lent::recount(2, 2, 2, &starts, &ends, &avail, &unit_starts, &owners, &sets, &minutes);
 //! let slots = lent::recount_slots(2, 2, &starts, &ends, &avail, &owners, &sets, &minutes);
 //! assert_eq!((units, slots), (Err(Refusal::Recount), Err(Refusal::Recount)));
 //!
@@ -212,7 +212,7 @@ fn found(answer: u64) -> Result<Option<usize>, Refusal> {
 
 /// Yes is 1, no is 0, or a refusal.
 #[inline]
-fn told(answer: u64) -> Result<bool, Refusal> {
+fn yes_no(answer: u64) -> Result<bool, Refusal> {
     match answer {
         0 => Ok(false),
         1 => Ok(true),
@@ -259,83 +259,83 @@ exports! {
 
     /// Whether slot i is a member. Refusals: 1, 2, 11.
     #[inline]
-    pub fn contains(words: &[u64], people: usize, person: usize, len: usize, i: usize) -> Result<bool, Refusal> = told(u64);
+    pub fn contains(people: usize, len: usize, words: &[u64], person: usize, i: usize) -> Result<bool, Refusal> = yes_no(u64);
 
     /// Whether the row has no member. Refusals: 1, 2, 11.
     #[inline]
-    pub fn is_empty(words: &[u64], people: usize, person: usize, len: usize) -> Result<bool, Refusal> = told(u64);
+    pub fn is_empty(people: usize, len: usize, words: &[u64], person: usize) -> Result<bool, Refusal> = yes_no(u64);
 
     /// How many members the row has. Refusals: 1, 2, 11.
     #[inline]
-    pub fn count(words: &[u64], people: usize, person: usize, len: usize) -> Result<usize, Refusal> = number(u64);
+    pub fn count(people: usize, len: usize, words: &[u64], person: usize) -> Result<usize, Refusal> = number(u64);
 
     /// The first member at or after `from`. Refusals: 1, 2, 11.
     #[inline]
-    pub fn next_set(words: &[u64], people: usize, person: usize, len: usize, from: usize) -> Result<Option<usize>, Refusal> = found(u64);
+    pub fn next_set(people: usize, len: usize, words: &[u64], person: usize, from: usize) -> Result<Option<usize>, Refusal> = found(u64);
 
     /// The last member at or before `from`. Refusals: 1, 2, 11.
     #[inline]
-    pub fn prev_set(words: &[u64], people: usize, person: usize, len: usize, from: usize) -> Result<Option<usize>, Refusal> = found(u64);
+    pub fn prev_set(people: usize, len: usize, words: &[u64], person: usize, from: usize) -> Result<Option<usize>, Refusal> = found(u64);
 
     /// The first slot after `from`, below the length, that is no member. Refusals: 1, 2, 11.
     #[inline]
     pub fn next_unset_after(
-        words: &[u64], people: usize, person: usize, len: usize, from: usize
+        people: usize, len: usize, words: &[u64], person: usize, from: usize
     ) -> Result<Option<usize>, Refusal> = found(u64);
 
     /// The last slot before `from`, below the length, that is no member. Refusals: 1, 2, 11.
     #[inline]
     pub fn prev_unset_before(
-        words: &[u64], people: usize, person: usize, len: usize, from: usize
+        people: usize, len: usize, words: &[u64], person: usize, from: usize
     ) -> Result<Option<usize>, Refusal> = found(u64);
 
     /// What holds slot i, with both its ends written: a run or a hole; outside, nothing is. Refusals: 1, 2, 11.
     #[inline]
     pub fn run_bounds(
-        words: &[u64], people: usize, person: usize, len: usize, i: usize, first: &mut u64, last: &mut u64
+        people: usize, len: usize, words: &[u64], person: usize, i: usize, first: &mut u64, last: &mut u64
     ) -> Result<Held, Refusal> = held(u64);
 
     /// The next run from the cursor on: true, with both its ends and the next cursor written; false at the end. Refusals: 1, 2, 11.
     #[inline]
     pub fn next_run(
-        words: &[u64], people: usize, person: usize, len: usize, cursor: usize, first: &mut u64, last: &mut u64, next: &mut u64
+        people: usize, len: usize, words: &[u64], person: usize, cursor: usize, first: &mut u64, last: &mut u64, next: &mut u64
     ) -> Result<bool, Refusal> = wrote(u64);
 
     /// The next member from the cursor on: true, with its index and the next cursor written; false at the end. Refusals: 1, 2, 11.
     #[inline]
     pub fn next_member(
-        words: &[u64], people: usize, person: usize, len: usize, cursor: usize, at: &mut u64, next: &mut u64
+        people: usize, len: usize, words: &[u64], person: usize, cursor: usize, at: &mut u64, next: &mut u64
     ) -> Result<bool, Refusal> = wrote(u64);
 
     /// Puts slot i into the row. Refusals: 1, 2, 11.
     #[inline]
-    pub fn insert(words: &mut [u64], people: usize, person: usize, len: usize, i: usize) -> Result<(), Refusal> = done(u8);
+    pub fn insert(people: usize, len: usize, words: &mut [u64], person: usize, i: usize) -> Result<(), Refusal> = done(u8);
 
     /// Takes slot i out of the row. Refusals: 1, 2, 11.
     #[inline]
-    pub fn remove(words: &mut [u64], people: usize, person: usize, len: usize, i: usize) -> Result<(), Refusal> = done(u8);
+    pub fn remove(people: usize, len: usize, words: &mut [u64], person: usize, i: usize) -> Result<(), Refusal> = done(u8);
 
     /// Makes every slot of the row from `from` up to `to`, without `to`, as wanted. Refusals: 1, 2, 11.
     pub fn put_stretch(
-        words: &mut [u64], people: usize, person: usize, len: usize, from: usize, to: usize, want: bool
+        people: usize, len: usize, words: &mut [u64], person: usize, from: usize, to: usize, want: bool
     ) -> Result<(), Refusal> = done(u8);
 
     // ---- ranges merged, base slots split, availability; ranges come as three columns
 
     /// Each person's ranges, sorted and merged, in three columns, and how many. Refusals: 1, 2, 4.
     pub fn merged_ranges(
-        people: usize, count: usize, persons: &[u16], starts: &[u32], ends: &[u32], whose: &mut [u16], froms: &mut [u32], tos: &mut [u32]
+        people: usize, count: usize, persons: &[u16], opens: &[u32], shuts: &[u32], whose: &mut [u16], froms: &mut [u32], tos: &mut [u32]
     ) -> Result<usize, Refusal> = number(u64);
 
     /// The atomic slots, in two columns, and how many. Refusals: 1 to 5.
     pub fn atomise(
-        slots: usize, starts: &[u32], ends: &[u32], people: usize, count: usize, persons: &[u16], opens: &[u32], shuts: &[u32],
+        people: usize, slots: usize, count: usize, starts: &[u32], ends: &[u32], persons: &[u16], opens: &[u32], shuts: &[u32],
         froms: &mut [u32], tos: &mut [u32]
     ) -> Result<usize, Refusal> = number(u64);
 
     /// Who is available for which of the lent slots, as a set a person. Refusals: 1, 2, 4, 9.
     pub fn availability(
-        people: usize, slots: usize, starts: &[u32], ends: &[u32], count: usize, persons: &[u16], opens: &[u32], shuts: &[u32],
+        people: usize, slots: usize, count: usize, starts: &[u32], ends: &[u32], persons: &[u16], opens: &[u32], shuts: &[u32],
         words: &mut [u64]
     ) -> Result<(), Refusal> = done(u8);
 
@@ -347,29 +347,29 @@ exports! {
     ) -> Result<usize, Refusal> = number(u64);
 
     /// Whether a person is available for a slot. Refusals: 1, 2, 11.
-    pub fn is_available(people: usize, slots: usize, avail: &[u64], person: usize, slot: usize) -> Result<bool, Refusal> = told(u64);
+    pub fn is_available(people: usize, slots: usize, avail: &[u64], person: usize, slot: usize) -> Result<bool, Refusal> = yes_no(u64);
 
     // ---- where rotations and units begin; settings come as their six numbers
 
     /// The starts of the rotations, and how many. Refusals: 1, 2, 7, 9.
     pub fn rotation_starts(
-        fairness: u8, lock: u8, boundary: u8, edition: u8, value: u16, days: u16, slots: usize, starts: &[u32], ends: &[u32],
-        firsts: &mut [u16]
+        slots: usize, fairness: u8, lock: u8, boundary: u8, edition: u8, value: u16, days: u16, starts: &[u32], ends: &[u32],
+        unit_starts: &mut [u16]
     ) -> Result<usize, Refusal> = number(u64);
 
     /// The starts of the units, and how many. Refusals: 1, 2, 7, 9.
     pub fn unit_starts(
-        fairness: u8, lock: u8, boundary: u8, edition: u8, value: u16, days: u16, slots: usize, starts: &[u32], ends: &[u32],
-        firsts: &mut [u16]
+        slots: usize, fairness: u8, lock: u8, boundary: u8, edition: u8, value: u16, days: u16, starts: &[u32], ends: &[u32],
+        unit_starts: &mut [u16]
     ) -> Result<usize, Refusal> = number(u64);
 
     /// The slots of a unit, or of a rotation: `from` up to `to`, without `to`. Refusals: 1, 2, 9, 11.
     pub fn unit_slots(
-        slots: usize, units: usize, firsts: &[u16], unit: usize, from: &mut u64, to: &mut u64
+        slots: usize, units: usize, unit_starts: &[u16], unit: usize, from: &mut u64, to: &mut u64
     ) -> Result<(), Refusal> = done(u8);
 
     /// The unit, or the rotation, of a slot. Refusals: 1, 2, 9, 11.
-    pub fn unit_of_slot(slots: usize, units: usize, firsts: &[u16], slot: usize) -> Result<usize, Refusal> = number(u64);
+    pub fn unit_of_slot(slots: usize, units: usize, unit_starts: &[u16], slot: usize) -> Result<usize, Refusal> = number(u64);
 
     // ---- days, and how long runs are to be
 
@@ -387,33 +387,33 @@ exports! {
 
     /// The target run, in minutes. Refusals: 1, 2, 7, 9.
     pub fn target_run(
-        fairness: u8, lock: u8, boundary: u8, edition: u8, value: u16, days: u16, slots: usize, starts: &[u32], ends: &[u32],
+        slots: usize, fairness: u8, lock: u8, boundary: u8, edition: u8, value: u16, days: u16, starts: &[u32], ends: &[u32],
         out: &mut u64
     ) -> Result<(), Refusal> = done(u8);
 
     /// A person's achievable run, in minutes. Refusals: 1, 2, 7, 9, 11.
     pub fn achievable_run(
-        fairness: u8, lock: u8, boundary: u8, edition: u8, value: u16, days: u16, avail: &[u64], people: usize, person: usize,
-        slots: usize, starts: &[u32], ends: &[u32], out: &mut u64
+        people: usize, slots: usize, fairness: u8, lock: u8, boundary: u8, edition: u8, value: u16, days: u16, starts: &[u32],
+        ends: &[u32], avail: &[u64], person: usize, out: &mut u64
     ) -> Result<(), Refusal> = done(u8);
 
     // ---- who can cover a unit, and whether it is frozen
 
     /// The people available for all slots of a unit, ascending, and how many. Refusals: 1, 2, 9, 11.
     pub fn unit_domain(
-        avail: &[u64], people: usize, slots: usize, units: usize, firsts: &[u16], unit: usize, list: &mut [u8]
+        people: usize, slots: usize, units: usize, avail: &[u64], unit_starts: &[u16], list: &mut [u8], unit: usize
     ) -> Result<usize, Refusal> = number(u64);
 
     /// The people available for all slots of each unit, as a mask a unit: bit p is person p. Refusals: 1, 2, 9.
     pub fn unit_domains(
-        avail: &[u64], people: usize, slots: usize, units: usize, firsts: &[u16], masks: &mut [u32]
+        people: usize, slots: usize, units: usize, avail: &[u64], unit_starts: &[u16], masks: &mut [u32]
     ) -> Result<(), Refusal> = done(u8);
 
     /// The people available for a slot, ascending, and how many. Refusals: 1, 2, 11.
-    pub fn slot_domain(avail: &[u64], people: usize, slots: usize, slot: usize, list: &mut [u8]) -> Result<usize, Refusal> = number(u64);
+    pub fn slot_domain(people: usize, slots: usize, avail: &[u64], list: &mut [u8], slot: usize) -> Result<usize, Refusal> = number(u64);
 
     /// Whether any slot of a unit is frozen. Refusals: 1, 2, 9, 11.
-    pub fn unit_frozen(frozen: &[u64], slots: usize, units: usize, firsts: &[u16], unit: usize) -> Result<bool, Refusal> = told(u64);
+    pub fn unit_frozen(slots: usize, units: usize, unit_starts: &[u16], frozen: &[u64], unit: usize) -> Result<bool, Refusal> = yes_no(u64);
 
     // ---- the calendar: minute 0 is Thursday 1970-01-01 00:00
 
@@ -427,8 +427,8 @@ exports! {
 
     /// Each person's target, in `out`. Refusals: 1, 2, 6 to 9.
     pub fn compute_targets(
-        people: usize, slots: usize, starts: &[u32], ends: &[u32], avail: &[u64], capacities: &[f64], priors: &[u32], fairness: u8,
-        edition: u8, out: &mut [i64]
+        people: usize, slots: usize, fairness: u8, edition: u8, starts: &[u32], ends: &[u32], avail: &[u64], capacities: &[f64],
+        priors: &[u32], out: &mut [i64]
     ) -> Result<(), Refusal> = done(u8);
 
     // ---- a rota: its owners, everybody's set of slots and minutes
@@ -449,20 +449,20 @@ exports! {
 
     /// Plays draws, given as three columns: an answer byte each, 0 acted, 1 no move, 2 a choice outside. Refusals: 1, 2, 9, 10.
     pub fn play(
-        people: usize, slots: usize, units: usize, count: usize, starts: &[u32], ends: &[u32], avail: &[u64], firsts: &[u16],
-        frozen: &[u64], owners: &mut [u8], sets: &mut [u64], minutes: &mut [u64], kinds: &[u16], ones: &[u16], twos: &[u16],
+        people: usize, slots: usize, units: usize, count: usize, starts: &[u32], ends: &[u32], avail: &[u64], unit_starts: &[u16],
+        frozen: &[u64], draws: &[u16], firsts: &[u16], seconds: &[u16], owners: &mut [u8], sets: &mut [u64], minutes: &mut [u64],
         answers: &mut [u8]
     ) -> Result<(), Refusal> = done(u8);
 
     /// Plays draws as they stand: an answer byte each, 0 acted, 1 no move, 2 a choice outside. Refusals: 1, 2, 9, 10.
     pub fn play_draws(
-        people: usize, slots: usize, units: usize, count: usize, starts: &[u32], ends: &[u32], avail: &[u64], firsts: &[u16],
+        people: usize, slots: usize, units: usize, count: usize, starts: &[u32], ends: &[u32], avail: &[u64], unit_starts: &[u16],
         frozen: &[u64], owners: &mut [u8], sets: &mut [u64], minutes: &mut [u64], draws: &[Draw], answers: &mut [u8]
     ) -> Result<(), Refusal> = done(u8);
 
     /// Whether owners, units, sets and minutes fit together, as a play asks it first. Refusals: 1, 2, 9, 10.
     pub fn recount(
-        people: usize, slots: usize, units: usize, starts: &[u32], ends: &[u32], avail: &[u64], firsts: &[u16], owners: &[u8], sets: &[u64],
+        people: usize, slots: usize, units: usize, starts: &[u32], ends: &[u32], avail: &[u64], unit_starts: &[u16], owners: &[u8], sets: &[u64],
         minutes: &[u64]
     ) -> Result<(), Refusal> = done(u8);
 

@@ -6,7 +6,7 @@ use std::fmt;
 /// Makes the enum of a table: each refusal by its name, its number and its sentence.
 macro_rules! refusals {
     ($($name:ident = $number:literal, $sentence:literal;)*) => {
-        /// Why a call was refused. A refused call changes nothing that was lent. Where several apply the lowest number is heard, but 13
+        /// Why a call was refused. A refused call changes nothing that was lent. Where several apply the lowest number is given, but 13
         /// before all. 8 is a guard, which no accepted figures reach.
         ///
         /// ```

@@ -41,7 +41,7 @@ impl SlotSet {
     /// The empty set of a length. Refusal 1.
     pub fn new(len: usize) -> Result<Self, Refusal> {
         let words = [0; SET_WORDS];
-        lent::count(&words, 1, 0, len)?;
+        lent::count(1, len, &words, 0)?;
         Ok(Self { words, len })
     }
 
@@ -54,10 +54,10 @@ impl SlotSet {
 
     /// A person's set out of everybody's words. Refusals 1, 2, 11.
     pub fn from_row(words: &[u64], people: usize, person: usize, len: usize) -> Result<Self, Refusal> {
-        lent::count(words, people, person, len)?;
+        lent::count(people, len, words, person)?;
         let mut set = Self::new(len)?;
         let (mut at, mut cursor) = (0, 0);
-        while lent::next_member(words, people, person, len, cursor as usize, &mut at, &mut cursor)? {
+        while lent::next_member(people, len, words, person, cursor as usize, &mut at, &mut cursor)? {
             set.insert(at as usize)?;
         }
         Ok(set)
@@ -79,63 +79,63 @@ impl SlotSet {
 
     /// Whether a slot is a member; past the length none is.
     pub fn contains(&self, slot: usize) -> bool {
-        checked(lent::contains(&self.words, 1, 0, self.len, slot))
+        checked(lent::contains(1, self.len, &self.words, 0, slot))
     }
 
     /// Puts a slot in. Refusal 11.
     pub fn insert(&mut self, slot: usize) -> Result<(), Refusal> {
-        lent::insert(&mut self.words, 1, 0, self.len, slot)
+        lent::insert(1, self.len, &mut self.words, 0, slot)
     }
 
     /// Takes a slot out. Refusal 11.
     pub fn remove(&mut self, slot: usize) -> Result<(), Refusal> {
-        lent::remove(&mut self.words, 1, 0, self.len, slot)
+        lent::remove(1, self.len, &mut self.words, 0, slot)
     }
 
     /// Puts in every slot of a stretch. Refusal 11.
     pub fn insert_stretch(&mut self, slots: std::ops::Range<usize>) -> Result<(), Refusal> {
-        lent::put_stretch(&mut self.words, 1, 0, self.len, slots.start, slots.end, true)
+        lent::put_stretch(1, self.len, &mut self.words, 0, slots.start, slots.end, true)
     }
 
     /// Takes out every slot of a stretch. Refusal 11.
     pub fn remove_stretch(&mut self, slots: std::ops::Range<usize>) -> Result<(), Refusal> {
-        lent::put_stretch(&mut self.words, 1, 0, self.len, slots.start, slots.end, false)
+        lent::put_stretch(1, self.len, &mut self.words, 0, slots.start, slots.end, false)
     }
 
     /// Whether there is no member.
     pub fn is_empty(&self) -> bool {
-        checked(lent::is_empty(&self.words, 1, 0, self.len))
+        checked(lent::is_empty(1, self.len, &self.words, 0))
     }
 
     /// How many members there are.
     pub fn count(&self) -> usize {
-        checked(lent::count(&self.words, 1, 0, self.len))
+        checked(lent::count(1, self.len, &self.words, 0))
     }
 
     /// The first member at or after a slot.
     pub fn next_set(&self, from: usize) -> Option<usize> {
-        checked(lent::next_set(&self.words, 1, 0, self.len, from))
+        checked(lent::next_set(1, self.len, &self.words, 0, from))
     }
 
     /// The last member at or before a slot.
     pub fn prev_set(&self, from: usize) -> Option<usize> {
-        checked(lent::prev_set(&self.words, 1, 0, self.len, from))
+        checked(lent::prev_set(1, self.len, &self.words, 0, from))
     }
 
     /// The first slot after `from`, below the length, that is no member.
     pub fn next_unset_after(&self, from: usize) -> Option<usize> {
-        checked(lent::next_unset_after(&self.words, 1, 0, self.len, from))
+        checked(lent::next_unset_after(1, self.len, &self.words, 0, from))
     }
 
     /// The last slot before `from`, below the length, that is no member.
     pub fn prev_unset_before(&self, from: usize) -> Option<usize> {
-        checked(lent::prev_unset_before(&self.words, 1, 0, self.len, from))
+        checked(lent::prev_unset_before(1, self.len, &self.words, 0, from))
     }
 
     /// The run or the hole that holds a slot.
     pub fn run_bounds(&self, slot: usize) -> Run {
         let (mut first, mut last) = (0, 0);
-        let held = checked(lent::run_bounds(&self.words, 1, 0, self.len, slot, &mut first, &mut last));
+        let held = checked(lent::run_bounds(1, self.len, &self.words, 0, slot, &mut first, &mut last));
         let (first, last) = (first as usize, last as usize);
         match held {
             Held::Run => Run::Span { first, last },
@@ -231,10 +231,10 @@ impl Iterator for Runs<'_> {
         let (mut first, mut last) = (0, 0);
         let from = self.cursor as usize;
         let is_run = checked(lent::next_run(
-            &set.words,
             1,
-            0,
             set.len,
+            &set.words,
+            0,
             from,
             &mut first,
             &mut last,
@@ -267,7 +267,7 @@ impl Iterator for Members<'_> {
         let set = self.set;
         let mut at = 0;
         let from = self.cursor as usize;
-        let is_member = checked(lent::next_member(&set.words, 1, 0, set.len, from, &mut at, &mut self.cursor));
+        let is_member = checked(lent::next_member(1, set.len, &set.words, 0, from, &mut at, &mut self.cursor));
         is_member.then_some(at as usize)
     }
 }

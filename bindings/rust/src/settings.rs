@@ -22,6 +22,18 @@ impl Fairness {
 }
 
 /// Which edition of the rule on the remainder of the targets.
+///
+/// ```
+/// use boltraven::{compute_targets, Availability, Edition, Fairness, Person, Slot, Slots};
+///
+/// // Two minutes for four with equal shares, whatever they are available for.
+/// let slots = Slots::new(&[Slot { start: 0, end: 2 }])?;
+/// let people = [Person { capacity: 1.0, prior: 0 }; 4];
+/// let nobody_can = Availability::new(4, &slots, &[])?;
+/// assert_eq!(compute_targets(&slots, &nobody_can, &people, Fairness::Equal, Edition::First)?, [1, 1, 1, -1]);
+/// assert_eq!(compute_targets(&slots, &nobody_can, &people, Fairness::Equal, Edition::Second)?, [0, 0, 1, 1]);
+/// # Ok::<(), boltraven::Refusal>(())
+/// ```
 #[derive(Debug, Clone, Copy, PartialEq, Eq, Hash, Default)]
 pub enum Edition {
     /// The remainder goes to one person, whose target may come to be negative.
@@ -96,11 +108,11 @@ pub(crate) struct Numbers {
     pub days: u16,
 }
 
-/// Calls a function of `lent` that takes the settings first, as their six numbers.
+/// Calls a function of `lent` that takes the settings, as their six numbers, after its counts.
 macro_rules! with_settings {
-    ($function:path, $settings:expr, $($rest:expr),*) => {{
+    ($function:path, [$($count:expr),*], $settings:expr, $($rest:expr),*) => {{
         let n = $settings.numbers();
-        $function(n.fairness, n.lock, n.boundary, n.edition, n.value, n.days, $($rest),*)
+        $function($($count,)* n.fairness, n.lock, n.boundary, n.edition, n.value, n.days, $($rest),*)
     }};
 }
 

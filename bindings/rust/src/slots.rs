@@ -123,11 +123,11 @@ impl Slots {
         let given = Columns::of(ranges);
         let (mut froms, mut tos) = (vec![0; SLOTS_MOST], vec![0; SLOTS_MOST]);
         let count = lent::atomise(
+            people,
             base.len(),
+            ranges.len(),
             &starts,
             &ends,
-            people,
-            ranges.len(),
             &given.persons,
             &given.starts,
             &given.ends,
@@ -195,7 +195,7 @@ impl Slots {
 
     /// How long a run is to be: minutes a day times the days of a shift. Refusal 7.
     pub fn target_run_minutes(&self, settings: Settings) -> Result<u64, Refusal> {
-        written(|out| with_settings!(lent::target_run, settings, self.len(), &self.starts, &self.ends, out))
+        written(|out| with_settings!(lent::target_run, [self.len()], settings, &self.starts, &self.ends, out))
     }
 
     /// Marks each slot that ends at or before an instant, and answers how many do. Marks that are there stay. Refusal 2: the set is shorter

@@ -40,13 +40,13 @@ pub fn compute_targets(
     lent::compute_targets(
         people.len(),
         slots.len(),
+        fairness.number(),
+        edition.number(),
         slots.starts(),
         slots.ends(),
         availability.words(),
         &capacities,
         &priors,
-        fairness.number(),
-        edition.number(),
         &mut targets,
     )?;
     Ok(targets)

@@ -10,7 +10,7 @@ use crate::settings::{with_settings, Settings};
 use crate::slots::Slots;
 
 /// What `lent` has for the starts of units and of rotations.
-type StartsOf = fn(u8, u8, u8, u8, u16, u16, usize, &[u32], &[u32], &mut [u16]) -> Result<usize, Refusal>;
+type StartsOf = fn(usize, u8, u8, u8, u8, u16, u16, &[u32], &[u32], &mut [u16]) -> Result<usize, Refusal>;
 
 /// Slots in neighbouring stretches: rotations, or the units that a play moves whole.
 ///
@@ -22,7 +22,7 @@ type StartsOf = fn(u8, u8, u8, u8, u16, u16, usize, &[u32], &[u32], &mut [u16]) 
 /// let weeks = Settings { lock: true, boundary: Boundary::DayOfWeek(Weekday::Monday.into()), ..Settings::default() };
 /// let units = Units::new(weeks, &Slots::new(&shifts)?)?;
 /// assert_eq!(units.iter().collect::<Vec<_>>(), [0..2, 2..4]);
-/// assert_eq!((units.len(), units.firsts()), (2, &[0, 2][..]));
+/// assert_eq!((units.len(), units.unit_starts()), (2, &[0, 2][..]));
 /// assert_eq!((units.slots(1)?, units.of_slot(3)?), (2..4, 1));
 /// assert_eq!(Units::rotations(weeks, &Slots::new(&shifts)?)?, units);
 ///
@@ -32,7 +32,7 @@ type StartsOf = fn(u8, u8, u8, u8, u16, u16, usize, &[u32], &[u32], &mut [u16]) 
 /// ```
 #[derive(Debug, Clone, PartialEq, Eq, Hash)]
 pub struct Units {
-    firsts: Vec<u16>,
+    unit_starts: Vec<u16>,
     slots: usize,
 }
 
@@ -49,11 +49,11 @@ impl Units {
 
     /// Those that begin where `starts_of` says.
     fn begun(starts_of: StartsOf, settings: Settings, slots: &Slots) -> Result<Self, Refusal> {
-        let mut firsts = vec![0; slots.len()];
-        let count = with_settings!(starts_of, settings, slots.len(), slots.starts(), slots.ends(), &mut firsts)?;
-        firsts.truncate(count);
+        let mut unit_starts = vec![0; slots.len()];
+        let count = with_settings!(starts_of, [slots.len()], settings, slots.starts(), slots.ends(), &mut unit_starts)?;
+        unit_starts.truncate(count);
         Ok(Self {
-            firsts,
+            unit_starts,
             slots: slots.len(),
         })
     }
@@ -61,29 +61,29 @@ impl Units {
     /// How many there are.
     #[allow(clippy::len_without_is_empty)]
     pub fn len(&self) -> usize {
-        self.firsts.len()
+        self.unit_starts.len()
     }
 
     /// The first slot of each.
-    pub fn firsts(&self) -> &[u16] {
-        &self.firsts
+    pub fn unit_starts(&self) -> &[u16] {
+        &self.unit_starts
     }
 
     /// The slots of one. Refusal 11.
     pub fn slots(&self, unit: usize) -> Result<Range<usize>, Refusal> {
         let (mut from, mut to) = (0, 0);
-        lent::unit_slots(self.slots, self.len(), &self.firsts, unit, &mut from, &mut to)?;
+        lent::unit_slots(self.slots, self.len(), &self.unit_starts, unit, &mut from, &mut to)?;
         Ok(from as usize..to as usize)
     }
 
     /// The one that holds a slot. Refusal 11.
     pub fn of_slot(&self, slot: usize) -> Result<usize, Refusal> {
-        lent::unit_of_slot(self.slots, self.len(), &self.firsts, slot)
+        lent::unit_of_slot(self.slots, self.len(), &self.unit_starts, slot)
     }
 
     /// The slots of each, in order. One ends where the next starts, the last with the slots.
     pub fn iter(&self) -> impl Iterator<Item = Range<usize>> + '_ {
-        let starts = self.firsts.iter().map(|&first| usize::from(first));
+        let starts = self.unit_starts.iter().map(|&first| usize::from(first));
         let ends = starts.clone().skip(1).chain([self.slots]);
         starts.zip(ends).map(|(start, end)| start..end)
     }
@@ -101,7 +101,15 @@ impl Units {
     pub fn domain(&self, availability: &Availability, unit: usize) -> Result<Vec<usize>, Refusal> {
         let people = availability.people();
         let mut list = vec![0; people];
-        let count = lent::unit_domain(availability.words(), people, self.slots, self.len(), &self.firsts, unit, &mut list)?;
+        let count = lent::unit_domain(
+            people,
+            self.slots,
+            self.len(),
+            availability.words(),
+            &self.unit_starts,
+            &mut list,
+            unit,
+        )?;
         Ok(list.iter().take(count).map(|&person| usize::from(person)).collect())
     }
 
@@ -119,13 +127,13 @@ impl Units {
     pub fn domains(&self, availability: &Availability) -> Result<Vec<Vec<usize>>, Refusal> {
         let people = availability.people();
         let mut masks = vec![0; self.slots];
-        lent::unit_domains(availability.words(), people, self.slots, self.len(), &self.firsts, &mut masks)?;
+        lent::unit_domains(people, self.slots, self.len(), availability.words(), &self.unit_starts, &mut masks)?;
         let domain = |mask: u32| (0..people).filter(|person| mask >> person & 1 == 1).collect();
         Ok(masks.into_iter().take(self.len()).map(domain).collect())
     }
 
     /// Whether any slot of one is frozen. Refusal 11.
     pub fn is_frozen(&self, frozen: &SlotSet, unit: usize) -> Result<bool, Refusal> {
-        lent::unit_frozen(frozen.words(), self.slots, self.len(), &self.firsts, unit)
+        lent::unit_frozen(self.slots, self.len(), &self.unit_starts, frozen.words(), unit)
     }
 }

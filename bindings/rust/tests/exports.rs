@@ -25,7 +25,7 @@ fn number_of_source(rest: &str) -> Option<&str> {
     rest.trim_start().strip_prefix("->")?.split(['\n', '{']).next()
 }
 
-/// The number's type in a line of `lent`: `-> Result<bool, Refusal> = told(u64);`
+/// The number's type in a line of `lent`: `-> Result<bool, Refusal> = yes_no(u64);`
 fn number_of_lent(rest: &str) -> Option<&str> {
     let (_, reader) = rest.split_once(" = ")?;
     reader.split_once('(')?.1.split(')').next()

@@ -36,21 +36,21 @@ fn every_refusal_has_its_number_and_sentence() {
 }
 
 #[test]
-fn the_lowest_number_is_heard() {
+fn the_lowest_number_is_given() {
     let words = [0; SET_WORDS];
-    assert_eq!(lent::contains(&words, 0, 0, 2000, 0), Err(Refusal::Count));
-    assert_eq!(lent::contains(&words[..3], 1, 9, 64, 0), Err(Refusal::ShortBuffer));
-    assert_eq!(lent::contains(&words, 1, 1, 64, 0), Err(Refusal::Unknown));
-    assert_eq!(lent::contains(&words, 1, 0, 64, usize::MAX), Ok(false));
-    assert_eq!(lent::contains(&words, usize::MAX, 0, 64, 0), Err(Refusal::Count));
-    assert_eq!(lent::contains(&[], 1, 0, 64, 0), Err(Refusal::ShortBuffer));
+    assert_eq!(lent::contains(0, 2000, &words, 0, 0), Err(Refusal::Count));
+    assert_eq!(lent::contains(1, 64, &words[..3], 9, 0), Err(Refusal::ShortBuffer));
+    assert_eq!(lent::contains(1, 64, &words, 1, 0), Err(Refusal::Unknown));
+    assert_eq!(lent::contains(1, 64, &words, 0, usize::MAX), Ok(false));
+    assert_eq!(lent::contains(usize::MAX, 64, &words, 0, 0), Err(Refusal::Count));
+    assert_eq!(lent::contains(1, 64, &[], 0, 0), Err(Refusal::ShortBuffer));
 }
 
 #[test]
 fn each_number_of_slots_and_targets_comes_through() {
     let (mut froms, mut tos) = (vec![7; SLOTS_MOST], vec![7; SLOTS_MOST]);
     let mut atomise = |starts: &[u32], ends: &[u32], person: u16| {
-        lent::atomise(starts.len(), starts, ends, 1, 1, &[person], &[30], &[90], &mut froms, &mut tos)
+        lent::atomise(1, starts.len(), 1, starts, ends, &[person], &[30], &[90], &mut froms, &mut tos)
     };
     assert_eq!(atomise(&[0, 50], &[60, 120], 0), Err(Refusal::BaseSlot));
     assert_eq!(atomise(&STARTS, &ENDS, 1), Err(Refusal::Range));
@@ -60,13 +60,13 @@ fn each_number_of_slots_and_targets_comes_through() {
 
     let bases: Vec<u32> = (0..SLOTS_MOST as u32).map(|k| 10 * k).collect();
     let ends: Vec<u32> = bases.iter().map(|start| start + 10).collect();
-    let many = lent::atomise(SLOTS_MOST, &bases, &ends, 1, 1, &[0], &[5], &[6], &mut froms, &mut tos);
+    let many = lent::atomise(1, SLOTS_MOST, 1, &bases, &ends, &[0], &[5], &[6], &mut froms, &mut tos);
     assert_eq!(many, Err(Refusal::TooManySlots));
     assert_eq!(froms[..5], [0, 30, 60, 90, 7]);
 
     let mut out = [-1; 3];
     let mut targets = |capacity: f64, fairness: u8, ends: &[u32]| {
-        lent::compute_targets(2, 2, &STARTS, ends, &avail(), &[1.0, capacity], &[0, 0], fairness, 0, &mut out)
+        lent::compute_targets(2, 2, fairness, 0, &STARTS, ends, &avail(), &[1.0, capacity], &[0, 0], &mut out)
     };
     assert_eq!(targets(f64::NAN, 0, &ENDS), Err(Refusal::Figures));
     assert_eq!(targets(1.0, 2, &ENDS), Err(Refusal::Settings));
@@ -97,7 +97,7 @@ fn a_rota_keeps_what_lies_past_its_ends() {
     let mut answers = [9; 4];
     let frozen = [SPARE & !0b11; SET_WORDS];
     let mut play = |owners: &mut [u8], minutes: &mut [u64]| {
-        let (kinds, ones, twos) = ([0, 100, 35], [1, 0, 0], [1, 0, 9]);
+        let (draws, firsts, seconds) = ([0, 100, 35], [1, 0, 0], [1, 0, 9]);
         lent::play(
             2,
             2,
@@ -108,12 +108,12 @@ fn a_rota_keeps_what_lies_past_its_ends() {
             &avail(),
             &[0, 1],
             &frozen,
+            &draws,
+            &firsts,
+            &seconds,
             owners,
             &mut sets,
             minutes,
-            &kinds,
-            &ones,
-            &twos,
             &mut answers,
         )
     };
@@ -129,9 +129,9 @@ fn a_rota_keeps_what_lies_past_its_ends() {
 #[test]
 fn domains_of_all_units_are_masks_or_refused_whole() {
     let mut masks = [7; 3];
-    let mut asked = |people: usize, firsts: &[u16], room: usize| {
-        let told = lent::unit_domains(&avail(), people, 2, firsts.len(), firsts, &mut masks[..room]);
-        (told, masks)
+    let mut asked = |people: usize, unit_starts: &[u16], room: usize| {
+        let done = lent::unit_domains(people, 2, unit_starts.len(), &avail(), unit_starts, &mut masks[..room]);
+        (done, masks)
     };
     assert_eq!(asked(33, &[1], 0), (Err(Refusal::Count), [7; 3]));
     assert_eq!(asked(2, &[1, 0], 1), (Err(Refusal::ShortBuffer), [7; 3]));
@@ -168,10 +168,10 @@ fn a_job_is_listed_or_refused_whole() {
 fn numbers_beside_a_result_stay_where_there_is_none() {
     let words = [0; SET_WORDS];
     let (mut first, mut last, mut next) = (SPARE, SPARE, SPARE);
-    assert_eq!(lent::run_bounds(&words, 1, 0, 64, 64, &mut first, &mut last), Ok(Held::Outside));
-    assert_eq!(lent::run_bounds(&words, 1, 1, 64, 3, &mut first, &mut last), Err(Refusal::Unknown));
-    assert_eq!(lent::next_run(&words, 1, 0, 64, 0, &mut first, &mut last, &mut next), Ok(false));
-    assert_eq!(lent::next_member(&words, 1, 0, 2000, 0, &mut first, &mut next), Err(Refusal::Count));
+    assert_eq!(lent::run_bounds(1, 64, &words, 0, 64, &mut first, &mut last), Ok(Held::Outside));
+    assert_eq!(lent::run_bounds(1, 64, &words, 1, 3, &mut first, &mut last), Err(Refusal::Unknown));
+    assert_eq!(lent::next_run(1, 64, &words, 0, 0, &mut first, &mut last, &mut next), Ok(false));
+    assert_eq!(lent::next_member(1, 2000, &words, 0, 0, &mut first, &mut next), Err(Refusal::Count));
     assert_eq!(lent::minutes_per_day(1, &[5], &[5], &mut last), Err(Refusal::Slots));
     assert_eq!((first, last, next), (SPARE, SPARE, SPARE));
 }

@@ -2,8 +2,8 @@
 
 use boltraven::lent::SLOTS_MOST;
 use boltraven::{
-    Answer, Assignment, Availability, Boundary, Draw, Edition, Fairness, Job, Person, Problem, Range, Refusal, Run, Settings, Slot, SlotSet,
-    Slots, Weekday,
+    Answer, Assignment, Availability, Boundary, Draw, Edition, Fairness, Job, Person, Problem, Range, Refusal, Run, Settings, Slot,
+    SlotSet, Slots, Weekday,
 };
 
 const ONE: Person = Person { capacity: 1.0, prior: 0 };
@@ -215,7 +215,7 @@ fn jobs_from_text_are_listed_as_the_examples_are() {
 }
 
 #[test]
-fn text_that_is_no_job_is_told_by_its_line() {
+fn text_that_is_no_job_is_named_by_its_line() {
     const SETTINGS: &str = "\u{feff}settings fairness 1 lock 1 weekdays mon,thu days 7 # weeks\n";
     let wrong = |lines: &str| {
         let text = format!("{SETTINGS}\n{lines}");

@@ -74,8 +74,8 @@ fn read_all(fd: i32, buf: &mut [u8]) -> Input
 // The line of a refusal.
 fn print_refusal(number: u8) {
     let mut line = [0u8; 6];
-    let heard = job::refusal_line(number, &mut line);
-    match heard {
+    let answer = job::refusal_line(number, &mut line);
+    match answer {
         JobAnswer::Length(n) => {
             let m = within(n, &line);
             io::write_all(STDOUT_FILENO, &line[..m]);
@@ -94,8 +94,8 @@ fn print_listing(fd: i32, what: &[u8]) {
     }
     let n = within(input.count, &file);
     let mut out = [0u8; 65536];
-    let heard = job::run_job(&file[..n], &mut out);
-    match heard {
+    let answer = job::run_job(&file[..n], &mut out);
+    match answer {
         JobAnswer::Length(k) => {
             let m = within(k, &out);
             io::write_all(STDOUT_FILENO, &out[..m]);

@@ -2,8 +2,8 @@
 use Prim.Native.Nat.{ℕ, _+_}
 use Rattle.slotset.specs.declared.Found.{Found}
 use Rattle.slotset.specs.declared.Found.the-variants as found
-use Rattle.slotset.specs.declared.Told.{Told}
-use Rattle.slotset.specs.declared.Told.the-variants as told
+use Rattle.slotset.specs.declared.YesNo.{YesNo}
+use Rattle.slotset.specs.declared.YesNo.the-variants as yesNo
 use Rattle.slotset.specs.declared.Number.{Number}
 use Rattle.slotset.specs.declared.Number.the-variants as number
 use Rattle.slots.specs.declared.Minutes.{Minutes}
@@ -26,25 +26,25 @@ foundNumber found.Nothing = 65536
 foundNumber (found.Refused n) = 65536 + n
 
 -- yes is 1, no is 0
-abbrev pub toldNumber : Told → ℕ
-toldNumber told.Yes = 1
-toldNumber told.No = 0
-toldNumber (told.Refused n) = 65536 + n
+abbrev pub yesNoNumber : YesNo → ℕ
+yesNoNumber yesNo.Yes = 1
+yesNoNumber yesNo.No = 0
+yesNoNumber (yesNo.Refused n) = 65536 + n
 
 -- a count or an index: itself
 abbrev pub plainNumber : Number → ℕ
 plainNumber (number.Is k) = k
 plainNumber (number.Refused n) = 65536 + n
 
--- covered days may be larger: they are written beside the number of the refusal (`numberNo`); refused, what was lent for them stays
+-- covered days may be larger: they are written beside the number of the refusal (`numberRefusal`); refused, what was lent for them stays
 abbrev pub numberIs : ℕ → Number → ℕ
 numberIs was (number.Is k) = k
 numberIs was (number.Refused n) = was
 
--- minutes may be larger too, and are written in the same way, beside `minutesNo`
-abbrev pub minutesAre : ℕ → Minutes → ℕ
-minutesAre was (minutes.Are m) = m
-minutesAre was (minutes.Refused n) = was
+-- minutes may be larger too, and are written in the same way, beside `minutesRefusal`
+abbrev pub minutesWritten : ℕ → Minutes → ℕ
+minutesWritten was (minutes.Is m) = m
+minutesWritten was (minutes.Refused n) = was
 
 -- a run is 0 and a hole is 1, the ends beside it; otherwise those stay as they were lent
 abbrev pub runNumber : Run → ℕ

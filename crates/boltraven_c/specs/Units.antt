@@ -9,7 +9,7 @@ abbrev pub settingsOf : ℕ → ℕ → ℕ → ℕ → ℕ → ℕ → Settings
 settingsOf fairness lock boundary edition value days =
     record { fairness = fairness; lock = lock; boundary = boundary; edition = edition; value = value; days = days }
 
--- a unit's slots: both ends are written beside the number of the refusal (`spanNo`); refused, what was lent for them stays
+-- a unit's slots: both ends are written beside the number of the refusal (`spanRefusal`); refused, what was lent for them stays
 abbrev pub spanFrom : ℕ → UnitSlots → ℕ
 spanFrom was (unitSlots.Span from to) = from
 spanFrom was (unitSlots.Refused n) = was

@@ -5,11 +5,11 @@ use crate::refused;
 use slots::Minutes;
 use slotset::Found;
 use slotset::Number;
-use slotset::Told;
+use slotset::YesNo;
 ghost use mathlib.Core.Path.{_≡_};
-ghost use Rattle.slotset.specs.Answers.{numberNo};
-ghost use Rattle.slots.specs.Lent.{minutesNo};
-ghost use Rattle.boltraven_c.specs.Numbers.{foundNumber, toldNumber, plainNumber, numberIs, minutesAre};
+ghost use Rattle.slotset.specs.Answers.{numberRefusal};
+ghost use Rattle.slots.specs.Lent.{minutesRefusal};
+ghost use Rattle.boltraven_c.specs.Numbers.{foundNumber, yesNoNumber, plainNumber, numberIs, minutesWritten};
 
 // A slot, or nothing.
 pub(crate) fn found_number(found: Found) -> u64
@@ -23,13 +23,13 @@ pub(crate) fn found_number(found: Found) -> u64
 }
 
 // Yes is 1, no is 0.
-pub(crate) fn told_number(told: Told) -> u64
-    ensures { λ r. ⌜ r ≡ toldNumber told ⌝ }
+pub(crate) fn yes_no_number(answer: YesNo) -> u64
+    ensures { λ r. ⌜ r ≡ yesNoNumber answer ⌝ }
 {
-    match told {
-        Told::Yes => 1,
-        Told::No => 0,
-        Told::Refused(n) => refused(n),
+    match answer {
+        YesNo::Yes => 1,
+        YesNo::No => 0,
+        YesNo::Refused(n) => refused(n),
     }
 }
 
@@ -45,7 +45,7 @@ pub(crate) fn plain_number(number: Number) -> u64
 
 // A count that may be larger, written where it was asked for; refused, what was lent for it stays.
 pub(crate) fn put_number(number: Number, out: &mut u64) -> u8
-    ensures { λ r. ⌜ r ≡ numberNo number ⌝ }
+    ensures { λ r. ⌜ r ≡ numberRefusal number ⌝ }
     ensures { λ _. ⌜ now (out .exit) ≡ numberIs (now (out .entry)) number ⌝ }
 {
     match number {
@@ -59,11 +59,11 @@ pub(crate) fn put_number(number: Number, out: &mut u64) -> u8
 
 // Minutes, written where they were asked for; refused, what was lent for them stays.
 pub(crate) fn put_minutes(minutes: Minutes, out: &mut u64) -> u8
-    ensures { λ r. ⌜ r ≡ minutesNo minutes ⌝ }
-    ensures { λ _. ⌜ now (out .exit) ≡ minutesAre (now (out .entry)) minutes ⌝ }
+    ensures { λ r. ⌜ r ≡ minutesRefusal minutes ⌝ }
+    ensures { λ _. ⌜ now (out .exit) ≡ minutesWritten (now (out .entry)) minutes ⌝ }
 {
     match minutes {
-        Minutes::Are(m) => {
+        Minutes::Is(m) => {
             *out = m;
             0
         }

@@ -2,19 +2,14 @@
 // A slice is passed as its address and its number of elements.
 // Every function is total, as the one that it calls: what is promised of that one, said in numbers, is promised here.
 mod answers;
-mod calendar;
-mod demand;
-mod domains;
-mod drawn;
-mod freezing;
-mod jobs;
-mod lengths;
-mod recounts;
-mod rotas;
-mod rotations;
-mod sets;
-mod shares;
-mod splitting;
+mod draws_c;
+mod job_c;
+mod owners_c;
+mod rota_c;
+mod slots_c;
+mod slotset_c;
+mod targets_c;
+mod units_c;
 mod version;
 
 ghost use mathlib.Core.Path.{_≡_};

@@ -15,5 +15,5 @@ pub mod Placed
 pub mod Passing
 pub mod Rotas
 pub mod Plays
-pub mod Heard
+pub mod Answered
 pub mod Promises

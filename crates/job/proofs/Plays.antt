@@ -7,7 +7,7 @@ use native.Mathlib.Omega.{arith}
 use borrow.Author.Tests.{le-leb}
 use lib.Dec.{eqb}
 use lib.ListN.{length, getD, replicate, length-replicate}
-use Rattle.paper.specs.Limits.{nobody, heardOf}
+use Rattle.paper.specs.Limits.{nobody, numberOf}
 use Rattle.paper.proofs.Rows.{all-pass}
 use Rattle.paper.specs.Rows.{unless}
 use Rattle.paper.specs.Count.{sum}
@@ -36,30 +36,30 @@ module _ (R : Ready) (d : Draws) (o : List ℕ) (D : Derived) (e : playOf R d o 
   P = planOf R
 
   abbrev enough : Bool
-  enough = rota.columnsEnough (d .count) (d .kinds) (d .ones) (d .twos)
+  enough = rota.columnsEnough (d .count) (d .draws) (d .firsts) (d .seconds)
 
-  no : heardOf (rota.playRow P (R .avail) (R .units) (R .firsts) (R .frozen) (d .count) enough o D (replicate 1024 0)) ≡ 0
+  no : numberOf (rota.playRow P (R .avail) (R .units) (R .begins) (R .frozen) (d .count) enough o D (replicate 1024 0)) ≡ 0
   unfolding playOf rota.playedList state.outcome
   no = e
 
-  asks : PlayAsks P (R .avail) (R .units) (R .firsts) (R .frozen) (d .count) enough o D (replicate 1024 0)
-  asks = play-asks P (R .avail) (R .units) (R .firsts) (R .frozen) (d .count) enough o D (replicate 1024 0) no
+  asks : PlayAsks P (R .avail) (R .units) (R .begins) (R .frozen) (d .count) enough o D (replicate 1024 0)
+  asks = play-asks P (R .avail) (R .units) (R .begins) (R .frozen) (d .count) enough o D (replicate 1024 0) no
 
   -- ---- what the play asked
 
   pub plan-right : PlanSound P
-  plan-right = asks .grounds .on .sound
+  plan-right = asks .right .on .sound
 
   pub draws-few : d .count ≤ 1024
-  draws-few = omega (arith, asks .grounds .answers, length-replicate {A = ℕ} 1024 0)
+  draws-few = omega (arith, asks .right .answers, length-replicate {A = ℕ} 1024 0)
 
   -- ---- the owners after the draws, and what is worked out from them
 
   abbrev drawn : List Draw
-  drawn = drawsOf (d .kinds) (d .ones) (d .twos) (d .count)
+  drawn = drawsOf (d .draws) (d .firsts) (d .seconds) (d .count)
 
   after : List ℕ
-  after = ownersAfter (boardOf (R .people) (R .slots) (R .units) (R .avail) (R .firsts) (R .frozen)) o drawn
+  after = ownersAfter (boardOf (R .people) (R .slots) (R .units) (R .avail) (R .begins) (R .frozen)) o drawn
 
   owners-are : playOf R d o D .owners ≡ after
   unfolding playOf rota.playedList state.outcome unless after
@@ -69,15 +69,15 @@ module _ (R : Ready) (d : Draws) (o : List ℕ) (D : Derived) (e : playOf R d o 
   unfolding playOf rota.playedList state.outcome unless after
   derived-are = sym (when-none _ (afresh P after D) D no)
 
-  recounted : recounts P (R .avail) (R .units) (R .firsts) (playOf R d o D .owners) (playOf R d o D .derived) ≡ true
+  recounted : recounts P (R .avail) (R .units) (R .begins) (playOf R d o D .owners) (playOf R d o D .derived) ≡ true
   unfolding after
   recounted =
-      ap₂ (λ (w : List ℕ) (E : Derived). recounts P (R .avail) (R .units) (R .firsts) w E) owners-are derived-are
-      ∙ promises.played-recounts P (R .avail) (R .units) (R .firsts) (R .frozen) (d .count) enough o D (replicate 1024 0)
+      ap₂ (λ (w : List ℕ) (E : Derived). recounts P (R .avail) (R .units) (R .begins) w E) owners-are derived-are
+      ∙ promises.played-recounts P (R .avail) (R .units) (R .begins) (R .frozen) (d .count) enough o D (replicate 1024 0)
       asks drawn
 
-  right : Recounted P (R .avail) (R .units) (R .firsts) (playOf R d o D .owners) (playOf R d o D .derived)
-  right = recount-says P (R .avail) (R .units) (R .firsts) (playOf R d o D .owners) (playOf R d o D .derived) recounted
+  right : Recounted P (R .avail) (R .units) (R .begins) (playOf R d o D .owners) (playOf R d o D .derived)
+  right = recount-says P (R .avail) (R .units) (R .begins) (playOf R d o D .owners) (playOf R d o D .derived) recounted
 
   -- every owner is nobody, or known and available
   pub owners-fit : (k : ℕ) → k < R .slots
@@ -89,12 +89,12 @@ module _ (R : Ready) (d : Draws) (o : List ℕ) (D : Derived) (e : playOf R d o 
   minutes-are = right .minutes
 
   -- U is a number
-  pub uncovered-told : state.uncoveredIs P (playOf R d o D .owners) ≡ minutes.Are (uncovered P (playOf R d o D .owners))
+  pub uncovered-answered : state.uncoveredIs P (playOf R d o D .owners) ≡ minutes.Is (uncovered P (playOf R d o D .owners))
   unfolding state.uncoveredIs state.uncoveredRow minutesAs knownAt after
-  uncovered-told =
+  uncovered-answered =
       let w = playOf R d o D .owners in
-      let g = asks .grounds .on in
-      let l = play-length (boardOf (R .people) (R .slots) (R .units) (R .avail) (R .firsts) (R .frozen)) o drawn in
+      let g = asks .right .on in
+      let l = play-length (boardOf (R .people) (R .slots) (R .units) (R .avail) (R .begins) (R .frozen)) o drawn in
       ap (λ (n : ℕ). minutesAs n (uncovered P w))
       (all-pass (state.uncoveredRow P w) (
         g .people,
@@ -114,7 +114,7 @@ module _ (R : Ready) (d : Draws) (o : List ℕ) (D : Derived) (e : playOf R d o 
   pub total-after : sum (R .people) (λ p. getD (playOf R d o D .derived .minutes) p 0) + uncovered P (playOf R d o D .owners)
       ≡ demandOf (R .slots) (R .starts) (R .ends)
   total-after =
-      promises.minutes-and-uncovered P plan-right (R .avail) (R .units) (R .firsts) (playOf R d o D .owners) (playOf R d o D .derived)
+      promises.minutes-and-uncovered P plan-right (R .avail) (R .units) (R .begins) (playOf R d o D .owners) (playOf R d o D .derived)
       recounted
 
   -- ---- what the draws keep
@@ -124,12 +124,12 @@ module _ (R : Ready) (d : Draws) (o : List ℕ) (D : Derived) (e : playOf R d o 
   unfolding after
   frozen-keeps k h z =
       ap (λ (w : List ℕ). getD w k 0) owners-are
-      ∙ promises.frozen-slots-keep P (R .avail) (R .units) (R .firsts) (R .frozen) (d .count) enough o D (replicate 1024 0)
+      ∙ promises.frozen-slots-keep P (R .avail) (R .units) (R .begins) (R .frozen) (d .count) enough o D (replicate 1024 0)
       asks drawn k h z
 
   -- a covered slot stays covered
   pub stays-covered : (k : ℕ) → k < R .slots → (getD o k 0 ≡ nobody → ⊥) → getD (playOf R d o D .owners) k 0 ≡ nobody → ⊥
   unfolding after
   stays-covered k h n z =
-      promises.covered-stays P (R .avail) (R .units) (R .firsts) (R .frozen) (d .count) enough o D (replicate 1024 0)
+      promises.covered-stays P (R .avail) (R .units) (R .begins) (R .frozen) (d .count) enough o D (replicate 1024 0)
       asks drawn k h n (ap (λ (w : List ℕ). getD w k 0) (sym owners-are) ∙ z)

@@ -11,7 +11,7 @@ use lib.Dec.{eqb, lit<, lit≤}
 use lib.IntN.{pos}
 use lib.ListN.{length, getD, take, drop}
 use lib.Seq.{take-at, drop-at}
-use Rattle.paper.specs.Limits.{nobody, heardOf}
+use Rattle.paper.specs.Limits.{nobody, numberOf}
 use Rattle.paper.specs.Count.{sum, all}
 use Rattle.paper.proofs.Logic.{by-test, both, or-right}
 use Rattle.paper.proofs.Count.{all-each, sum-part, sum-same}
@@ -30,11 +30,12 @@ use Rattle.records.specs.Puts.{put}
 use Rattle.job.specs.Listing.{digits, listingOf, listingMost}
 use Rattle.job.specs.Digits.{readDigits}
 use Rattle.job.specs.File.{JobFile}
-use Rattle.job.specs.Stages.{counted, begins, instantOf, drawsOf, baseTotal, readyOf, ownersOf, planOf, startedOf, playedOf, listedOf}
+use Rattle.job.specs.Stages.{counted, blockStart, instantOf, drawsOf, baseTotal, readyOf, ownersOf, planOf, startedOf, playedOf}
+use Rattle.job.specs.Stages.{listedOf}
 use Rattle.job.specs.Outcome.{readRow, prepareRow, jobTests, testAt, Lowest, AllPass, Result, refusedAs, listedAs, Ends, jobResult}
-use Rattle.job.proofs.Tests.{heard-none, heard-lowest}
-use Rattle.job.proofs.Heard.{numbered, rising, free, sound, demand-is, targets-right, frozen-there}
-use Rattle.job.proofs.Results.{told-none, told-some}
+use Rattle.job.proofs.Tests.{number-none, number-lowest}
+use Rattle.job.proofs.Answered.{numbered, rising, free, sound, demand-is, targets-right, frozen-there}
+use Rattle.job.proofs.Results.{answered-none, answered-some}
 use Rattle.job.proofs.Digits.{digits-value}
 use Rattle.job.proofs.Layouts.{counts-read, fields-read}
 use Rattle.job.proofs.Rotas as rotas
@@ -51,33 +52,33 @@ known-byte people w few k =
 -- ---- only one outcome fits
 
 pub one-job : (y : Result) (r q : JobAnswer) (x z : List ℕ) → Ends y r x → Ends y q z → (r ≡ q) × (x ≡ z)
-one-job y r q x z A B = (A .heard ∙ sym (B .heard), A .left ∙ sym (B .left))
+one-job y r q x z A B = (A .said ∙ sym (B .said), A .left ∙ sym (B .left))
 
--- ---- what is heard
+-- ---- what is answered
 
 module _ (s x : List ℕ) where
   -- a refusal is the number of the first test that fails
-  refused-heard : (n : ℕ) → jobResult s x .answer ≡ answer.Refused n
-      → (heardOf (jobTests s (length x)) ≡ n) × (0 < n)
+  refused-number : (n : ℕ) → jobResult s x .answer ≡ answer.Refused n
+      → (numberOf (jobTests s (length x)) ≡ n) × (0 < n)
   unfolding listedAs refusedAs
-  refused-heard n e =
-      by-test (eqb (heardOf (jobTests s (length x))) 0) _
+  refused-number n e =
+      by-test (eqb (numberOf (jobTests s (length x))) 0) _
       (λ t.
-      let p = ap (λ (y : Result). y .answer) (told-none s x (eqb-true _ 0 t)) in
+      let p = ap (λ (y : Result). y .answer) (answered-none s x (eqb-true _ 0 t)) in
       let z : _≡_ {A = ℕ} 0 1 = cc in
       absurd (omega arith))
       (λ f.
-      let p = ap (λ (y : Result). y .answer) (told-some s x (eqb-false _ 0 f)) in
-      let q : heardOf (jobTests s (length x)) ≡ n = cc in
+      let p = ap (λ (y : Result). y .answer) (answered-some s x (eqb-false _ 0 f)) in
+      let q : numberOf (jobTests s (length x)) ≡ n = cc in
       (q, pos-of-ne-zero (λ z. eqb-false _ 0 f (q ∙ z))))
 
   -- a listing comes only where none does
-  listed-none : (n : ℕ) → jobResult s x .answer ≡ answer.Length n → heardOf (jobTests s (length x)) ≡ 0
+  listed-none : (n : ℕ) → jobResult s x .answer ≡ answer.Length n → numberOf (jobTests s (length x)) ≡ 0
   unfolding refusedAs
   listed-none n e =
-      by-test (eqb (heardOf (jobTests s (length x))) 0) _ (λ t. eqb-true _ 0 t)
+      by-test (eqb (numberOf (jobTests s (length x))) 0) _ (λ t. eqb-true _ 0 t)
       (λ f.
-      let p = ap (λ (y : Result). y .answer) (told-some s x (eqb-false _ 0 f)) in
+      let p = ap (λ (y : Result). y .answer) (answered-some s x (eqb-false _ 0 f)) in
       let z : _≡_ {A = ℕ} 0 1 = cc in
       absurd (omega arith))
 
@@ -85,18 +86,18 @@ module _ (s x : List ℕ) where
   pub refused-keeps : (n : ℕ) (out : List ℕ) → Ends (jobResult s x) (answer.Refused n) out → out ≡ x
   unfolding refusedAs
   refused-keeps n out E =
-      let h = refused-heard n (sym (E .heard)) in
-      E .left ∙ ap (λ (y : Result). y .out) (told-some s x (λ z. omega (arith, h .0, h .1)))
+      let h = refused-number n (sym (E .said)) in
+      E .left ∙ ap (λ (y : Result). y .out) (answered-some s x (λ z. omega (arith, h .0, h .1)))
 
-  -- the lowest number is heard, 13 before all: n is heard exactly where it is the lowest of the tests that fail
-  pub lowest-heard : (n : ℕ) → (jobResult s x .answer ≡ answer.Refused n) ↔ Lowest (jobTests s (length x)) n
+  -- the lowest number is given, 13 before all: n is given exactly where it is the lowest of the tests that fail
+  pub lowest-number : (n : ℕ) → (jobResult s x .answer ≡ answer.Refused n) ↔ Lowest (jobTests s (length x)) n
   unfolding refusedAs
-  lowest-heard n =
-      let law = heard-lowest 0 (jobTests s (length x)) (rising s (length x)) (numbered s (length x)) n in (
-        λ e. law .0 (refused-heard n e),
+  lowest-number n =
+      let law = number-lowest 0 (jobTests s (length x)) (rising s (length x)) (numbered s (length x)) n in (
+        λ e. law .0 (refused-number n e),
         λ L.
             let h = law .1 L in
-            ap (λ (y : Result). y .answer) (told-some s x (λ z. omega (arith, h .0, h .1))) ∙ ap answer.Refused (h .0),
+            ap (λ (y : Result). y .answer) (answered-some s x (λ z. omega (arith, h .0, h .1))) ∙ ap answer.Refused (h .0),
       )
 
   -- and a listing is given exactly where all pass, with its length
@@ -104,19 +105,19 @@ module _ (s x : List ℕ) where
       ↔ (AllPass (jobTests s (length x)) × (n ≡ length (listingOf (listedOf s))))
   unfolding listedAs
   accepted-exactly n =
-      let law = heard-none (jobTests s (length x)) (numbered s (length x)) in (
+      let law = number-none (jobTests s (length x)) (numbered s (length x)) in (
         λ e.
             let h = listed-none n e in
-            let p = ap (λ (y : Result). y .answer) (told-none s x h) in
+            let p = ap (λ (y : Result). y .answer) (answered-none s x h) in
             (law .0 h, cc),
-        λ A. ap (λ (y : Result). y .answer) (told-none s x (law .1 (A .0))) ∙ ap answer.Length (sym (A .1)),
+        λ A. ap (λ (y : Result). y .answer) (answered-none s x (law .1 (A .0))) ∙ ap answer.Length (sym (A .1)),
       )
 
-  -- 8 and 9 are never heard
+  -- 8 and 9 are never given
   pub eight-nine-never : (n : ℕ) → jobResult s x .answer ≡ answer.Refused n → (n ≡ 8 → ⊥) × (n ≡ 9 → ⊥)
   unfolding jobTests readRow prepareRow all
   eight-nine-never n e =
-      let L = lowest-heard n .0 e in
+      let L = lowest-number n .0 e in
       let ts = jobTests s (length x) in
       let t = both (not (eqb (testAt ts (L .place) .number) 8)) (not (eqb (testAt ts (L .place) .number) 9))
       (all-each 11 (λ k. not (eqb (testAt ts k .number) 8) && not (eqb (testAt ts k .number) 9)) refl (L .place) (L .within)) in (
@@ -124,11 +125,11 @@ module _ (s x : List ℕ) where
         λ z. eqb-false _ 9 (not-true _ (t .1)) (L .number ∙ z),
       )
 
-  -- 2 is heard only where the lent listing is too short
+  -- 2 is given only where the lent listing is too short
   pub two-short : jobResult s x .answer ≡ answer.Refused 2 → length x < listingMost
   unfolding jobTests readRow prepareRow all
   two-short e =
-      let L = lowest-heard 2 .0 e in
+      let L = lowest-number 2 .0 e in
       let ts = jobTests s (length x) in
       let z = eqb-true (L .place) 2 (or-right (not (eqb (testAt ts (L .place) .number) 2)) (eqb (L .place) 2)
       (all-each 11 (λ k. not (eqb (testAt ts k .number) 2) || eqb k 2) refl (L .place) (L .within))
@@ -140,7 +141,7 @@ module _ (s x : List ℕ) where
   module _ (n : ℕ) (e : jobResult s x .answer ≡ answer.Length n) where
     -- the listing, by the file alone
     pub listing-is : jobResult s x ≡ listedAs (listingOf (listedOf s)) x
-    listing-is = told-none s x (listed-none n e)
+    listing-is = answered-none s x (listed-none n e)
 
     -- it stands at the front of the lent listing, n bytes of it, and what lies past them is as it was
     pub listing-stands : (take n (jobResult s x .out) ≡ listingOf (listedOf s)) × (drop n (jobResult s x .out) ≡ drop n x)
@@ -158,12 +159,12 @@ module _ (s x : List ℕ) where
     -- the play is never refused
     not-refused : playedOf s .number ≡ 0
     unfolding playedOf startedOf
-    not-refused = rotas.play-no (readyOf s) (drawsOf s) (ownersOf s) (sound s (length x) pass) (free s (length x) pass)
+    not-refused = rotas.play-refusal (readyOf s) (drawsOf s) (ownersOf s) (sound s (length x) pass) (free s (length x) pass)
 
     -- U is a number: the reader that answers it is never refused
-    pub uncovered-told : state.uncoveredIs (planOf (readyOf s)) (playedOf s .owners) ≡ minutes.Are (listedOf s .uncovered)
+    pub uncovered-answered : state.uncoveredIs (planOf (readyOf s)) (playedOf s .owners) ≡ minutes.Is (listedOf s .uncovered)
     unfolding listedOf playedOf
-    uncovered-told = plays.uncovered-told (readyOf s) (drawsOf s) (ownersOf s) (startedOf s .derived) not-refused
+    uncovered-answered = plays.uncovered-answered (readyOf s) (drawsOf s) (ownersOf s) (startedOf s .derived) not-refused
 
     -- P minutes and U add up to the total of the base slots in the file
     pub total : sum (listedOf s .people) (λ p. getD (listedOf s .minutes) p 0) + listedOf s .uncovered ≡ baseTotal s
@@ -258,7 +259,7 @@ pub base-total-read : (s : List ℕ) (J : JobFile s)
     ≡ sum (length (bodies 2 (J .records))) (λ k. le 4 (getD (bodies 2 (J .records)) k []) 4 - le 4 (getD (bodies 2 (J .records)) k []) 0)
 unfolding baseTotal
 base-total-read s J =
-    let at = begins s 1 in
+    let at = blockStart s 1 in
     let n = counts-read s J 1 (lit< tt) in
     let entry : (off k : ℕ) → off + 4 ≤ 8 → k < counted s 1
     → le 4 s (at + (4 + off) + k * 12) ≡ le 4 (getD (bodies 2 (J .records)) k []) off =

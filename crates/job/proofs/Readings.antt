@@ -10,7 +10,7 @@ use lib.Dec.{leb, eqb, lit<, lit≤}
 use lib.Ieee.{Float}
 use lib.IntN.{ℤ, pos}
 use lib.ListN.{length, getD, replicate}
-use Rattle.paper.specs.Limits.{heardOf}
+use Rattle.paper.specs.Limits.{numberOf}
 use Rattle.paper.proofs.Rows.{passed}
 use Rattle.paper.proofs.Logic.{by-test, both, cond-zero, lt-or-ge, people-says, slot-count-says}
 use Rattle.paper.specs.Rows.{unless}
@@ -36,17 +36,17 @@ use Rattle.job.specs.declared.Started.{Started}
 use Rattle.job.specs.File.{jobLayout, jobSizes, fileMost, jobCounts, jobStarts, restOk, fileOk}
 use Rattle.job.specs.Listing.{listingMost}
 use Rattle.job.specs.Columns.{column, floatColumn}
-use Rattle.slotset.specs.Answers.{numberNo}
+use Rattle.slotset.specs.Answers.{numberRefusal}
 use Rattle.job.specs.Stages.{jobCountsOk, instantOf}
-use Rattle.job.specs.Stages.{counted, begins, peopleOf, columnOf, rangesOf, capacitiesOf, priorsOf, settingsIn, draws}
+use Rattle.job.specs.Stages.{counted, blockStart, peopleOf, columnOf, rangesOf, capacitiesOf, priorsOf, settingsIn, drawColumns}
 use Rattle.job.specs.Stages.{drawsOf, valueOf, baseOf, atomsOf, availIn, targetsIn, unitsIn, frozenIn, Ready, ready, readyIn, readyOf}
 use Rattle.job.specs.Stages.{placed, narrowed, writtenOf, ownersOf, startOf, startedOf}
 use Rattle.job.specs.Outcome.{readRow, ownersRow, prepareRow}
-use Rattle.job.specs.Inside.{ReadOk, AtomsAre, SlotsAre, UnitsAre, TargetsAre, OwnersAre, StartedAs, PreparedAs}
+use Rattle.job.specs.Inside.{ReadOk, AtomsAs, SlotsAs, UnitsAs, TargetsAs, OwnersAs, StartedAs, PreparedAs}
 use Rattle.job.proofs.Files.{count-at, start-at, owners-end}
 use Rattle.job.proofs.Prepares.{few-says}
 use Rattle.job.proofs.Passing.{frozen-length}
-use Rattle.job.proofs.Heard.{prepare-heard}
+use Rattle.job.proofs.Answered.{prepare-number}
 
 module _ {s c b : List ℕ} (K : ReadOk s c b) where
   count-is : (i : ℕ) → i < 7 → getD c i 0 ≡ countOf jobLayout s i
@@ -94,25 +94,25 @@ module _ {s c b : List ℕ} (K : ReadOk s c b) where
 
 -- ---- the atomic slots are not too many
 
-pub atoms-few : (B : atomic.Base) (a : Atoms) → AtomsAre (atomic.atomiseOf B) a → a .count ≤ 1024
+pub atoms-few : (B : atomic.Base) (a : Atoms) → AtomsAs (atomic.atomiseOf B) a → a .count ≤ 1024
 unfolding atomic.atomiseOf atomic.atomiseRow atomic.baseRow Rattle.slotset.specs.Answers.numberAs unless
 atoms-few B a w =
-    by-test (eqb (heardOf (atomic.atomiseRow B)) 0) (a .count ≤ 1024)
+    by-test (eqb (numberOf (atomic.atomiseRow B)) 0) (a .count ≤ 1024)
     (λ t.
-    let z = eqb-true (heardOf (atomic.atomiseRow B)) 0 t in
+    let z = eqb-true (numberOf (atomic.atomiseRow B)) 0 t in
     let l = passed (atomic.atomiseRow B) refl z 8 in
     omega (
       arith,
       leb-true (length (atomic.startsOfAtoms B)) 1024 l,
       w .count
           ∙ ap (λ (q : Bool). valueOf (cond q (number.Is (length (atomic.startsOfAtoms B)))
-          (number.Refused (heardOf (atomic.atomiseRow B))))) t,
+          (number.Refused (numberOf (atomic.atomiseRow B))))) t,
     ))
     (λ f.
     omega (
       arith,
       w .count ∙ ap (λ (q : Bool). valueOf (cond q (number.Is (length (atomic.startsOfAtoms B)))
-          (number.Refused (heardOf (atomic.atomiseRow B))))) f,
+          (number.Refused (numberOf (atomic.atomiseRow B))))) f,
     ))
 
 -- ---- the columns of a file that was read
@@ -132,7 +132,7 @@ module _ {s c b : List ℕ} (K : ReadOk s c b) where
   pub read-count : (i : ℕ) → getD c i 0 ≡ counted s i
   read-count i = ap (λ (d : List ℕ). getD d i 0) (K .counts)
 
-  pub read-start : (i : ℕ) → getD b i 0 ≡ begins s i
+  pub read-start : (i : ℕ) → getD b i 0 ≡ blockStart s i
   read-start i = ap (λ (e : List ℕ). getD e i 0) (K .starts)
 
   pub read-instant : cond (eqb (getD c 4 0) 0) 0 (le 4 s (getD b 4 0 + 4)) ≡ instantOf s
@@ -145,32 +145,32 @@ module _ {s c b : List ℕ} (K : ReadOk s c b) where
       ∙ ap₂ (λ (y z : List ℕ). ranges (counted s 3) (columnOf s 3 0 2) y z) o h
 
   pub draws-is : {k o t : List ℕ} → k ≡ columnOf s 6 0 2 → o ≡ columnOf s 6 2 2 → t ≡ columnOf s 6 4 2
-      → draws (getD c 6 0) k o t ≡ drawsOf s
+      → drawColumns (getD c 6 0) k o t ≡ drawsOf s
   unfolding drawsOf
   draws-is {k} {o} {t} p q r =
-      ap₂ (λ (n : ℕ) (x : List ℕ). draws n x o t) (read-count 6) p
-      ∙ ap₂ (λ (y z : List ℕ). draws (counted s 6) (columnOf s 6 0 2) y z) q r
+      ap₂ (λ (n : ℕ) (x : List ℕ). drawColumns n x o t) (read-count 6) p
+      ∙ ap₂ (λ (y z : List ℕ). drawColumns (counted s 6) (columnOf s 6 0 2) y z) q r
 
   -- ---- the stages
 
   pub slots-are : (st en ps os sh av : List ℕ) (a : Atoms) → st ≡ columnOf s 1 0 4 → en ≡ columnOf s 1 4 4 → ps ≡ columnOf s 3 0 2
       → os ≡ columnOf s 3 2 4 → sh ≡ columnOf s 3 6 4
-      → AtomsAre (atomic.atomiseOf (atomic.base (getD c 1 0) st en (getD c 2 0) (ranges (getD c 3 0) ps os sh) (replicate 1024 0)
+      → AtomsAs (atomic.atomiseOf (atomic.base (getD c 1 0) st en (getD c 2 0) (ranges (getD c 3 0) ps os sh) (replicate 1024 0)
       (replicate 1024 0))) a
       → av ≡ availabilityOf (getD c 2 0) (a .count) (a .starts) (a .ends) (ranges (getD c 3 0) ps os sh) (replicate 512 0)
       → length av ≡ 512
-      → SlotsAre s (record { no = a .no; count = a .count; starts = a .starts; ends = a .ends; avail = av })
+      → SlotsAs s (record { number = a .number; count = a .count; starts = a .starts; ends = a .ends; avail = av })
   unfolding atomsOf baseOf availIn
   slots-are st en ps os sh av a p q r t u A v l =
       let R = ranges-is r t u in
-      let X : AtomsAre (atomsOf s) a =
-      subst (λ (B : atomic.Base). AtomsAre (atomic.atomiseOf B) a)
+      let X : AtomsAs (atomsOf s) a =
+      subst (λ (B : atomic.Base). AtomsAs (atomic.atomiseOf B) a)
       (ap₂ (λ (n : ℕ) (Q : Ranges). atomic.base n st en (getD c 2 0) Q (replicate 1024 0) (replicate 1024 0)) (read-count 1) R
       ∙ ap₂ (λ (x y : List ℕ). atomic.base (counted s 1) x y (getD c 2 0) (rangesOf s) (replicate 1024 0) (replicate 1024 0)) p q
       ∙ ap (λ (n : ℕ). atomic.base (counted s 1) (columnOf s 1 0 4) (columnOf s 1 4 4) n (rangesOf s) (replicate 1024 0)
       (replicate 1024 0)) (read-count 2)) A in
       record {
-        no = X .no;
+        number = X .number;
         count = X .count;
         starts = X .starts;
         ends = X .ends;
@@ -183,11 +183,11 @@ module _ {s c b : List ℕ} (K : ReadOk s c b) where
 
   pub targets-are : (n : ℕ) (S E av : List ℕ) (cp : List Float) (pr : List ℕ) (st : Settings) (h : JobTargets) → cp ≡ capacitiesOf s
       → pr ≡ priorsOf s → st ≡ settingsIn s
-      → TargetsAre (targets.computeTargets (targets.given (getD c 2 0) n S E av cp pr (st .fairness) (st .edition)) (replicate 32 (pos 0))) h
-      → TargetsAre (targetsIn s n S E av) h
+      → TargetsAs (targets.computeTargets (targets.given (getD c 2 0) n S E av cp pr (st .fairness) (st .edition)) (replicate 32 (pos 0))) h
+      → TargetsAs (targetsIn s n S E av) h
   unfolding targetsIn
   targets-are n S E av cp pr st h p q t w =
-      subst (λ (g : targets.Given). TargetsAre (targets.computeTargets g (replicate 32 (pos 0))) h)
+      subst (λ (g : targets.Given). TargetsAs (targets.computeTargets g (replicate 32 (pos 0))) h)
       (ap₂ (λ (m : ℕ) (x : List Float). targets.given m n S E av x pr (st .fairness) (st .edition)) (read-count 2) p
       ∙ ap₂ (λ (y : List ℕ) (z : Settings). targets.given (peopleOf s) n S E av (capacitiesOf s) y (z .fairness) (z .edition)) q t)
       w
@@ -198,27 +198,27 @@ module _ {s c b : List ℕ} (K : ReadOk s c b) where
 
   -- ---- all that was prepared
 
-  module _ (S : JobSlots) (T : JobTargets) (U : JobUnits) (O : JobOwners) (W : Started) (st : Settings) (fz : List ℕ) (A : SlotsAre s S)
-      (B : TargetsAre (targetsIn s (S .count) (S .starts) (S .ends) (S .avail)) T) (C : st ≡ settingsIn s)
-      (D : UnitsAre (unitStartsIs st (S .count) (S .starts) (S .ends) (replicate 1024 0)) U)
-      (E : OwnersAre s (getD b 5 0) (getD c 5 0) (S .count) (getD c 2 0) (U .count) (U .firsts) O)
+  module _ (S : JobSlots) (T : JobTargets) (U : JobUnits) (O : JobOwners) (W : Started) (st : Settings) (fz : List ℕ) (A : SlotsAs s S)
+      (B : TargetsAs (targetsIn s (S .count) (S .starts) (S .ends) (S .avail)) T) (C : st ≡ settingsIn s)
+      (D : UnitsAs (unitStartsIs st (S .count) (S .starts) (S .ends) (replicate 1024 0)) U)
+      (E : OwnersAs s (getD b 5 0) (getD c 5 0) (S .count) (getD c 2 0) (U .count) (U .begins) O)
       (F : StartedAs (state.fromSlots (plan (getD c 2 0) (S .count) (S .starts) (S .ends)) (S .avail) (O .owners)
       (derived (replicate 512 0) (replicate 32 0))) W)
       (G : fz ≡ frozenIn (S .count) (S .starts) (S .ends) (counted s 4) (instantOf s)) where
     abbrev got : Ready
-    got = ready (getD c 2 0) (S .count) (S .starts) (S .ends) (S .avail) (U .count) (U .firsts) fz (T .targets)
+    got = ready (getD c 2 0) (S .count) (S .starts) (S .ends) (S .avail) (U .count) (U .begins) fz (T .targets)
 
-    units-are : UnitsAre (unitsIn s (S .count) (S .starts) (S .ends)) U
+    units-are : UnitsAs (unitsIn s (S .count) (S .starts) (S .ends)) U
     unfolding unitsIn
-    units-are = subst (λ (z : Settings). UnitsAre (unitStartsIs z (S .count) (S .starts) (S .ends) (replicate 1024 0)) U) C D
+    units-are = subst (λ (z : Settings). UnitsAs (unitStartsIs z (S .count) (S .starts) (S .ends) (replicate 1024 0)) U) C D
 
     got-in : got ≡ readyIn s (S .count) (S .starts) (S .ends) (S .avail)
     unfolding readyIn
     got-in =
-        ap₂ (λ (p u : ℕ). ready p (S .count) (S .starts) (S .ends) (S .avail) u (U .firsts) fz (T .targets)) (read-count 2)
+        ap₂ (λ (p u : ℕ). ready p (S .count) (S .starts) (S .ends) (S .avail) u (U .begins) fz (T .targets)) (read-count 2)
         (units-are .count)
         ∙ ap₂ (λ (f z : List ℕ). ready (peopleOf s) (S .count) (S .starts) (S .ends) (S .avail)
-        (valueOf (unitsIn s (S .count) (S .starts) (S .ends) .answer)) f z (T .targets)) (units-are .firsts) G
+        (valueOf (unitsIn s (S .count) (S .starts) (S .ends) .answer)) f z (T .targets)) (units-are .begins) G
         ∙ ap (λ (t : List ℤ). ready (peopleOf s) (S .count) (S .starts) (S .ends) (S .avail)
         (valueOf (unitsIn s (S .count) (S .starts) (S .ends) .answer)) (unitsIn s (S .count) (S .starts) (S .ends) .buffer)
         (frozenIn (S .count) (S .starts) (S .ends) (counted s 4) (instantOf s)) t) (B .targets)
@@ -235,7 +235,7 @@ module _ {s c b : List ℕ} (K : ReadOk s c b) where
     unfolding writtenOf
     written-is =
         ap₂ (λ (i j : ℕ). placed s i (S .count) j) (read-start 5) (read-count 5)
-        ∙ ap (λ (R : Ready). placed s (begins s 5) (R .slots) (counted s 5)) got-ready
+        ∙ ap (λ (R : Ready). placed s (blockStart s 5) (R .slots) (counted s 5)) got-ready
 
     owners-is : O .owners ≡ ownersOf s
     unfolding ownersOf
@@ -246,37 +246,41 @@ module _ {s c b : List ℕ} (K : ReadOk s c b) where
     unfolding startedOf startOf
     started-is = ap₂ (λ (R : Ready) (o : List ℕ). startOf R o) got-ready owners-is
 
-    owners-heard : O .no ≡ heardOf (ownersRow s (begins s 5) (counted s 5) (readyOf s .slots) (readyOf s .people) (readyOf s .units)
-        (readyOf s .firsts) (writtenOf s))
-    owners-heard =
-        E .no
-        ∙ ap₂ (λ (i j : ℕ). heardOf (ownersRow s i j (S .count) (getD c 2 0) (U .count) (U .firsts)
+    owners-number : O .number ≡ numberOf (ownersRow s (blockStart s 5) (counted s 5) (readyOf s .slots) (readyOf s .people)
+        (readyOf s .units)
+        (readyOf s .begins) (writtenOf s))
+    owners-number =
+        E .number
+        ∙ ap₂ (λ (i j : ℕ). numberOf (ownersRow s i j (S .count) (getD c 2 0) (U .count) (U .begins)
         (placed s (getD b 5 0) (S .count) (getD c 5 0)))) (read-start 5) (read-count 5)
-        ∙ ap₂ (λ (R : Ready) (o : List ℕ). heardOf (ownersRow s (begins s 5) (counted s 5) (R .slots) (R .people) (R .units) (R .firsts) o))
+        ∙ ap₂ (λ (R : Ready) (o : List ℕ). numberOf (ownersRow s (blockStart s 5) (counted s 5) (R .slots) (R .people) (R .units)
+        (R .begins) o))
         got-ready written-is
 
-    number-is : {figures rota rest no : ℕ} → figures ≡ unless (T .no) (T .no) (U .no) → rota ≡ unless (O .no) (O .no) (W .no)
-        → rest ≡ unless figures figures rota → no ≡ unless (S .no) (S .no) rest → no ≡ heardOf (prepareRow s)
+    number-is : {figures rota rest no : ℕ} → figures ≡ unless (T .number) (T .number) (U .number) → rota ≡ unless (O .number)
+        (O .number) (W .number)
+        → rest ≡ unless figures figures rota → no ≡ unless (S .number) (S .number) rest → no ≡ numberOf (prepareRow s)
     unfolding ownersRow
     number-is f g h i =
         let few = sym (read-as (λ (d e : List ℕ). jobCountsOk (getD d 1 0) (getD d 2 0) (getD d 3 0) (getD d 6 0))) ∙ K .few in
-        i ∙ ap (λ (k : ℕ). unless (S .no) (S .no) k) (h ∙ ap₂ (λ (x y : ℕ). unless x x y) f g)
-        ∙ prepare-heard s few (S .no) (T .no) (U .no) (O .no) (W .no) (A .no)
-        (B .no ∙ ap (λ (R : Ready). targetsIn s (R .slots) (R .starts) (R .ends) (R .avail) .number) got-ready)
-        (units-are .no ∙ ap (λ (R : Ready). numberNo (unitsIn s (R .slots) (R .starts) (R .ends) .answer)) got-ready)
-        owners-heard (F .no ∙ ap (λ (y : state.Outcome). y .number) started-is)
+        i ∙ ap (λ (k : ℕ). unless (S .number) (S .number) k) (h ∙ ap₂ (λ (x y : ℕ). unless x x y) f g)
+        ∙ prepare-number s few (S .number) (T .number) (U .number) (O .number) (W .number) (A .number)
+        (B .number ∙ ap (λ (R : Ready). targetsIn s (R .slots) (R .starts) (R .ends) (R .avail) .number) got-ready)
+        (units-are .number ∙ ap (λ (R : Ready). numberRefusal (unitsIn s (R .slots) (R .starts) (R .ends) .answer)) got-ready)
+        owners-number (F .number ∙ ap (λ (y : state.Outcome). y .number) started-is)
 
-    pub prepared-are : {figures rota rest no : ℕ} → figures ≡ unless (T .no) (T .no) (U .no) → rota ≡ unless (O .no) (O .no) (W .no)
-        → rest ≡ unless figures figures rota → no ≡ unless (S .no) (S .no) rest
+    pub prepared-are : {figures rota rest no : ℕ} → figures ≡ unless (T .number) (T .number) (U .number) → rota ≡ unless (O .number)
+        (O .number) (W .number)
+        → rest ≡ unless figures figures rota → no ≡ unless (S .number) (S .number) rest
         → PreparedAs s (record {
-          no = no;
+          number = no;
           people = getD c 2 0;
           slots = S .count;
           starts = S .starts;
           ends = S .ends;
           avail = S .avail;
           units = U .count;
-          firsts = U .firsts;
+          begins = U .begins;
           frozen = fz;
           targets = T .targets;
           owners = O .owners;
@@ -285,7 +289,7 @@ module _ {s c b : List ℕ} (K : ReadOk s c b) where
         })
     prepared-are f g h i =
         record {
-          no = number-is f g h i;
+          number = number-is f g h i;
           ready = got-ready;
           owners = owners-is;
           derived = F .derived ∙ ap (λ (y : state.Outcome). y .derived) started-is;
@@ -293,21 +297,21 @@ module _ {s c b : List ℕ} (K : ReadOk s c b) where
           people-few = read-few K .2;
           starts-room = A .starts-room;
           ends-room = A .ends-room;
-          firsts-room = D .room;
+          begins-room = D .room;
           frozen-room = ap length G ∙ frozen-length _ _ _ _ _;
           targets-room = B .room;
         }
 
 -- ---- the whole file
 
-pub read-heard : (s c : List ℕ) (ok : Bool) (room : ℕ) → ok ≡ fileOk s → c ≡ jobCounts s
-    → heardOf (readRow ok (getD c 1 0) (getD c 2 0) (getD c 3 0) (getD c 6 0) room)
-    ≡ heardOf (readRow (fileOk s) (counted s 1) (peopleOf s) (counted s 3) (counted s 6) room)
-read-heard s c ok room p q =
-    ap₂ (λ (k : Bool) (d : List ℕ). heardOf (readRow k (getD d 1 0) (getD d 2 0) (getD d 3 0) (getD d 6 0) room)) p q
+pub read-number : (s c : List ℕ) (ok : Bool) (room : ℕ) → ok ≡ fileOk s → c ≡ jobCounts s
+    → numberOf (readRow ok (getD c 1 0) (getD c 2 0) (getD c 3 0) (getD c 6 0) room)
+    ≡ numberOf (readRow (fileOk s) (counted s 1) (peopleOf s) (counted s 3) (counted s 6) room)
+read-number s c ok room p q =
+    ap₂ (λ (k : Bool) (d : List ℕ). numberOf (readRow k (getD d 1 0) (getD d 2 0) (getD d 3 0) (getD d 6 0) room)) p q
 
 pub read-ok : (s c b : List ℕ) (ok : Bool) (room : ℕ) → ok ≡ fileOk s → c ≡ jobCounts s → b ≡ jobStarts s
-    → heardOf (readRow ok (getD c 1 0) (getD c 2 0) (getD c 3 0) (getD c 6 0) room) ≡ 0 → ReadOk s c b × (listingMost ≤ room)
+    → numberOf (readRow ok (getD c 1 0) (getD c 2 0) (getD c 3 0) (getD c 6 0) room) ≡ 0 → ReadOk s c b × (listingMost ≤ room)
 unfolding readRow
 read-ok s c b ok room p q r z =
     let h = passed (readRow ok (getD c 1 0) (getD c 2 0) (getD c 3 0) (getD c 6 0) room) refl z in

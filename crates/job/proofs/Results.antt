@@ -7,7 +7,7 @@ use lib.Dec.{lit<}
 use lib.IntN.{pos}
 use lib.Signed.{mag}
 use lib.ListN.{length, getD}
-use Rattle.paper.specs.Limits.{heardOf}
+use Rattle.paper.specs.Limits.{numberOf}
 use Rattle.paper.proofs.Rows.{worked, kept}
 use Rattle.slots.specs.declared.Minutes.{Minutes}
 use Rattle.owners.specs.Derived.{Derived, derived}
@@ -21,35 +21,35 @@ use Rattle.job.specs.Listing.{Listed, listed, listingOf}
 use Rattle.job.specs.Stages.{counted, peopleOf, drawsOf, Ready, readyOf, ownersOf, planOf, playOf, startedOf, playedOf, listedOf}
 use Rattle.job.specs.Outcome.{AllPass, readRow, prepareRow, jobTests, Result, refusedAs, listedAs, jobResult, Ends}
 use Rattle.job.specs.Inside.{PlayedAs, readyBy, PreparedAs, minutesValue}
-use Rattle.job.proofs.Tests.{Numbered, heard-none, front-heard, rest-heard}
-use Rattle.job.proofs.Heard.{numbered, free, sound, targets-right}
-use Rattle.job.proofs.Rotas.{play-no}
-use Rattle.job.proofs.Plays.{uncovered-told}
+use Rattle.job.proofs.Tests.{Numbered, number-none, front-number, rest-number}
+use Rattle.job.proofs.Answered.{numbered, free, sound, targets-right}
+use Rattle.job.proofs.Rotas.{play-refusal}
+use Rattle.job.proofs.Plays.{uncovered-answered}
 
--- ---- what is heard
+-- ---- what is answered
 
 module _ (s x : List ℕ) where
   -- no test fails: the listing
-  pub told-none : heardOf (jobTests s (length x)) ≡ 0 → jobResult s x ≡ listedAs (listingOf (listedOf s)) x
+  pub answered-none : numberOf (jobTests s (length x)) ≡ 0 → jobResult s x ≡ listedAs (listingOf (listedOf s)) x
   unfolding jobResult
-  told-none e = worked _ _ (listedAs (listingOf (listedOf s)) x) e
+  answered-none e = worked _ _ (listedAs (listingOf (listedOf s)) x) e
 
   -- one fails: its number, and the lent listing as it was
-  pub told-some : (heardOf (jobTests s (length x)) ≡ 0 → ⊥) → jobResult s x ≡ refusedAs (heardOf (jobTests s (length x))) x
+  pub answered-some : (numberOf (jobTests s (length x)) ≡ 0 → ⊥) → jobResult s x ≡ refusedAs (numberOf (jobTests s (length x))) x
   unfolding jobResult
-  told-some n = kept _ (refusedAs (heardOf (jobTests s (length x))) x) _ n
+  answered-some n = kept _ (refusedAs (numberOf (jobTests s (length x))) x) _ n
 
-  refused-is : (n : ℕ) → n ≡ heardOf (jobTests s (length x)) → (n ≡ 0 → ⊥) → Ends (jobResult s x) (answer.Refused n) x
+  refused-is : (n : ℕ) → n ≡ numberOf (jobTests s (length x)) → (n ≡ 0 → ⊥) → Ends (jobResult s x) (answer.Refused n) x
   unfolding refusedAs
   refused-is n e h =
-      let t = told-some (λ z. h (e ∙ z)) in
+      let t = answered-some (λ z. h (e ∙ z)) in
       record {
-        heard = ap answer.Refused e ∙ sym (ap (λ (y : Result). y .answer) t);
+        said = ap answer.Refused e ∙ sym (ap (λ (y : Result). y .answer) t);
         left = sym (ap (λ (y : Result). y .out) t);
       }
 
   abbrev readTests : ℕ
-  readTests = heardOf (readRow (fileOk s) (counted s 1) (peopleOf s) (counted s 3) (counted s 6) (length x))
+  readTests = numberOf (readRow (fileOk s) (counted s 1) (peopleOf s) (counted s 3) (counted s 6) (length x))
 
   read-numbered : Numbered (readRow (fileOk s) (counted s 1) (peopleOf s) (counted s 3) (counted s 6) (length x))
   unfolding readRow
@@ -58,21 +58,21 @@ module _ (s x : List ℕ) where
   -- a refusal before the file is worked on, and one of what stands in it
   pub read-refused : (n : ℕ) → n ≡ readTests → (n ≡ 0 → ⊥) → Ends (jobResult s x) (answer.Refused n) x
   unfolding jobTests
-  read-refused n e h = refused-is n (e ∙ front-heard _ (prepareRow s) read-numbered (λ z. h (e ∙ z))) h
+  read-refused n e h = refused-is n (e ∙ front-number _ (prepareRow s) read-numbered (λ z. h (e ∙ z))) h
 
-  pub prepare-refused : (n : ℕ) → readTests ≡ 0 → n ≡ heardOf (prepareRow s) → (n ≡ 0 → ⊥) → Ends (jobResult s x) (answer.Refused n) x
+  pub prepare-refused : (n : ℕ) → readTests ≡ 0 → n ≡ numberOf (prepareRow s) → (n ≡ 0 → ⊥) → Ends (jobResult s x) (answer.Refused n) x
   unfolding jobTests
-  prepare-refused n z e h = refused-is n (e ∙ rest-heard _ (prepareRow s) read-numbered z) h
+  prepare-refused n z e h = refused-is n (e ∙ rest-number _ (prepareRow s) read-numbered z) h
 
   -- ---- the listing
 
-  module _ (p : Prepared) (z : readTests ≡ 0) (P : PreparedAs s p) (e : p .no ≡ 0) where
-    none : heardOf (jobTests s (length x)) ≡ 0
+  module _ (p : Prepared) (z : readTests ≡ 0) (P : PreparedAs s p) (e : p .number ≡ 0) where
+    none : numberOf (jobTests s (length x)) ≡ 0
     unfolding jobTests
-    none = sym (rest-heard _ (prepareRow s) read-numbered z) ∙ sym (P .no) ∙ e
+    none = sym (rest-number _ (prepareRow s) read-numbered z) ∙ sym (P .number) ∙ e
 
     pass : AllPass (jobTests s (length x))
-    pass = heard-none (jobTests s (length x)) (numbered s (length x)) .0 none
+    pass = number-none (jobTests s (length x)) (numbered s (length x)) .0 none
 
     pub targets-fit : (k : ℕ) → k < p .people → mag (getD (p .targets) k (pos 0)) < 2 ^ 63
     targets-fit =
@@ -100,11 +100,11 @@ module _ (s x : List ℕ) where
       listed-is =
           let R = readyOf s in
           let r = playedOf s in
-          let no = play-no R (drawsOf s) (ownersOf s) (sound s (length x) pass) (free s (length x) pass) in
+          let no = play-refusal R (drawsOf s) (ownersOf s) (sound s (length x) pass) (free s (length x) pass) in
           ap₂ (λ (Q : Ready) (o : List ℕ). listedBy Q o (y .minutes) (y .answers)) (P .ready) (Z .owners)
           ∙ ap₂ (λ (m a : List ℕ). listedBy R (r .owners) m a) (Z .minutes) (Z .answers)
           ∙ ap (λ (f : Minutes). listed (R .slots) (R .starts) (R .ends) (r .owners) (R .people) (r .derived .minutes) (R .targets)
-          (drawsOf s .count) (r .answers) (minutesValue f)) (uncovered-told R (drawsOf s) (ownersOf s) _ no)
+          (drawsOf s .count) (r .answers) (minutesValue f)) (uncovered-answered R (drawsOf s) (ownersOf s) _ no)
 
       pub job-listed : (d n : ℕ) (out : List ℕ) → d ≡ counted s 6
           → Wrote (listingOf (listed (p .slots) (p .starts) (p .ends) (y .owners) (p .people) (y .minutes) (p .targets) d (y .answers)
@@ -114,9 +114,9 @@ module _ (s x : List ℕ) where
           let l = ap (λ (c : ℕ). listingOf (listed (p .slots) (p .starts) (p .ends) (y .owners) (p .people) (y .minutes) (p .targets) c
           (y .answers) (minutesValue (state.uncoveredIs (planOf (readyBy p)) (y .owners))))) q ∙ ap listingOf listed-is in
           let v = subst (λ (t : List ℕ). Wrote t 0 x n out) l w in
-          let t = told-none none in
+          let t = answered-none none in
           let m : n ≡ length (listingOf (listedOf s)) = omega (arith, v .ends) in
           record {
-            heard = ap answer.Length m ∙ sym (ap (λ (r : Result). r .answer) t);
+            said = ap answer.Length m ∙ sym (ap (λ (r : Result). r .answer) t);
             left = v .text ∙ sym (ap (λ (r : Result). r .out) t);
           }

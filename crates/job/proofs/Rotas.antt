@@ -6,7 +6,7 @@ use Prim.Native.Nat.{ℕ, _+_, _*_, _≤_, _<_}
 use native.Mathlib.Omega.{arith}
 use borrow.Author.Tests.{le-leb}
 use lib.ListN.{length, getD, replicate, length-replicate}
-use Rattle.paper.specs.Limits.{peopleOk, slotCountOk, orElse, heardOf}
+use Rattle.paper.specs.Limits.{peopleOk, slotCountOk, orElse, numberOf}
 use Rattle.paper.specs.Rows.{unless}
 use Rattle.paper.specs.Count.{sum, all}
 use Rattle.paper.proofs.Logic.{and-true, people-says, slot-count-says}
@@ -32,16 +32,16 @@ pub record RotaSound (R : Ready) (d : Draws) (o : List ℕ) : Type 0 where
   pub lent : slotsOk (R .slots) (R .starts) (R .ends) ≡ true
   pub avail-room : 16 * R .people ≤ length (R .avail)
   pub owners-room : R .slots ≤ length o
-  pub units-ok : unitsOk (R .slots) (R .units) (R .firsts) ≡ true
-  pub units-room : R .units ≤ length (R .firsts)
+  pub units-ok : unitsOk (R .slots) (R .units) (R .begins) ≡ true
+  pub units-room : R .units ≤ length (R .begins)
   pub flags-room : 16 ≤ length (R .frozen)
   pub draws-few : d .count ≤ 1024
-  pub kinds-room : d .count ≤ length (d .kinds)
-  pub ones-room : d .count ≤ length (d .ones)
-  pub twos-room : d .count ≤ length (d .twos)
+  pub draws-room : d .count ≤ length (d .draws)
+  pub firsts-room : d .count ≤ length (d .firsts)
+  pub seconds-room : d .count ≤ length (d .seconds)
   pub known : (k : ℕ) → k < R .slots → knownBy (R .people) (getD o k 0) ≡ true
-  pub even : (u k : ℕ) → u < R .units → unitStart (R .firsts) u ≤ k → k < unitEnd (R .slots) (R .units) (R .firsts) u
-      → getD o k 0 ≡ getD o (unitStart (R .firsts) u) 0
+  pub even : (u k : ℕ) → u < R .units → unitStart (R .begins) u ≤ k → k < unitEnd (R .slots) (R .units) (R .begins) u
+      → getD o k 0 ≡ getD o (unitStart (R .begins) u) 0
 
 -- sets and minutes before they are made
 abbrev none : Derived
@@ -63,11 +63,11 @@ module _ (R : Ready) (d : Draws) (o : List ℕ) (H : RotaSound R d o) where
   unfolding knownAt
   all-known = each-all (R .slots) (λ k. knownBy (R .people) (getD o k 0)) (H .known)
 
-  -- ---- what is heard is 12 or nothing
+  -- ---- the number is 12 or none
 
-  pub start-no : startOf R o .number ≡ orElse (all (R .slots) (availableAt (R .avail) o)) 12 0
-  unfolding startOf state.fromSlots state.outcome state.fromSlotsRow state.lentRow heardOf
-  start-no =
+  pub start-number : startOf R o .number ≡ orElse (all (R .slots) (availableAt (R .avail) o)) 12 0
+  unfolding startOf state.fromSlots state.outcome state.fromSlotsRow state.lentRow numberOf
+  start-number =
       simp (
         H .people-ok,
         H .count-ok,
@@ -84,17 +84,17 @@ module _ (R : Ready) (d : Draws) (o : List ℕ) (H : RotaSound R d o) where
     pub started : startOf R o .derived ≡ afresh P o none
     unfolding startOf state.fromSlots state.outcome unless
     started =
-        sym (when-none (startOf R o .number) (afresh P o none) none (start-no ∙ ap (λ (b : Bool). orElse b 12 0) free))
+        sym (when-none (startOf R o .number) (afresh P o none) none (start-number ∙ ap (λ (b : Bool). orElse b 12 0) free))
 
     in-step : InStep P o (afresh P o none)
     in-step =
         afresh-step P o none slots-few (H .owners-room) (omega (arith, few, length-replicate {A = ℕ} 512 0))
         (omega (arith, few, length-replicate {A = ℕ} 32 0)) (H .known)
 
-    recounted : recounts P (R .avail) (R .units) (R .firsts) o (afresh P o none) ≡ true
+    recounted : recounts P (R .avail) (R .units) (R .begins) o (afresh P o none) ≡ true
     unfolding availableAt
     recounted =
-        says-recount P (R .avail) (R .units) (R .firsts) o (afresh P o none)
+        says-recount P (R .avail) (R .units) (R .begins) o (afresh P o none)
         record {
           known = H .known;
           available = all-each (R .slots) (availableAt (R .avail) o) free;
@@ -106,21 +106,22 @@ module _ (R : Ready) (d : Draws) (o : List ℕ) (H : RotaSound R d o) where
     -- ---- the play is never refused
 
     abbrev enough : Bool
-    enough = rota.columnsEnough (d .count) (d .kinds) (d .ones) (d .twos)
+    enough = rota.columnsEnough (d .count) (d .draws) (d .firsts) (d .seconds)
 
     abbrev no : ℕ
     no =
-        heardOf (rota.playRow P (R .avail) (R .units) (R .firsts) (R .frozen) (d .count) enough o (afresh P o none) (replicate 1024 0))
+        numberOf (rota.playRow P (R .avail) (R .units) (R .begins) (R .frozen) (d .count) enough o (afresh P o none) (replicate 1024 0))
 
-    play-room : rota.playRoomOk (R .units) (R .firsts) (R .frozen) (d .count) enough (replicate 1024 0) ≡ true
+    play-room : rota.playRoomOk (R .units) (R .begins) (R .frozen) (d .count) enough (replicate 1024 0) ≡ true
     unfolding rota.playRoomOk rota.columnsEnough
     play-room =
         and-true _ _ (le-leb _ _ (H .units-room)) (and-true _ _ (le-leb _ _ (H .flags-room))
-        (and-true _ _ (and-true _ _ (le-leb _ _ (H .kinds-room)) (and-true _ _ (le-leb _ _ (H .ones-room)) (le-leb _ _ (H .twos-room))))
+        (and-true _ _ (and-true _ _ (le-leb _ _ (H .draws-room))
+        (and-true _ _ (le-leb _ _ (H .firsts-room)) (le-leb _ _ (H .seconds-room))))
         (le-leb (d .count) (length (replicate {A = ℕ} 1024 0)) (omega (arith, H .draws-few, length-replicate {A = ℕ} 1024 0)))))
 
     play-none : no ≡ 0
-    unfolding state.recountRow state.lentRow heardOf
+    unfolding state.recountRow state.lentRow numberOf
     play-none =
         let E = afresh P o none in
         simp (
@@ -136,15 +137,15 @@ module _ (R : Ready) (d : Draws) (o : List ℕ) (H : RotaSound R d o) where
           H .lent,
           H .units-ok,
         )
-        (recount-number P (R .avail) (R .units) (R .firsts) o E ∙ ap (λ (b : Bool). cond b 0 10) recounted)
+        (recount-number P (R .avail) (R .units) (R .begins) o E ∙ ap (λ (b : Bool). cond b 0 10) recounted)
 
-    pub play-no : playOf R d o (startOf R o .derived) .number ≡ 0
+    pub play-refusal : playOf R d o (startOf R o .derived) .number ≡ 0
     unfolding playOf rota.playedList state.outcome
-    play-no = ap (λ (E : Derived). playOf R d o E .number) started ∙ play-none
+    play-refusal = ap (λ (E : Derived). playOf R d o E .number) started ∙ play-none
 
     -- all persons' minutes and the uncovered ones are the total of the slots
     pub total-before : sum (R .people) (λ p. getD (startOf R o .derived .minutes) p 0) + uncovered P o
         ≡ demandOf (R .slots) (R .starts) (R .ends)
     total-before =
         ap (λ (E : Derived). sum (R .people) (λ p. getD (E .minutes) p 0) + uncovered P o) started
-        ∙ minutes-and-uncovered P (plan-sound P (H .people-ok) (H .count-ok) (H .lent)) (R .avail) (R .units) (R .firsts) o (afresh P o none) recounted
+        ∙ minutes-and-uncovered P (plan-sound P (H .people-ok) (H .count-ok) (H .lent)) (R .avail) (R .units) (R .begins) o (afresh P o none) recounted

@@ -4,8 +4,8 @@ use mathlib.Core.Bool.{true}
 use mathlib.Core.List.{List}
 use Prim.Native.Nat.{ℕ, _≤_}
 use lib.ListN.{length, getD}
-use Rattle.paper.specs.Limits.{heardOf}
-use Rattle.slotset.specs.Answers.{numberNo}
+use Rattle.paper.specs.Limits.{numberOf}
+use Rattle.slotset.specs.Answers.{numberRefusal}
 use Rattle.slots.specs.Atomic as atomic
 use Rattle.slots.specs.declared.Minutes.{Minutes}
 use Rattle.slots.specs.declared.Minutes.the-variants as minutes
@@ -33,16 +33,16 @@ pub record ReadOk (s c b : List ℕ) : Type 0 where
   pub few : jobCountsOk (getD c 1 0) (getD c 2 0) (getD c 3 0) (getD c 6 0) ≡ true
 
 -- the atomic slots, with availability, the units, the targets, as their crates give them
-pub record AtomsAre (x : atomic.Atoms) (r : Atoms) : Type 0 where
-  pub no : r .no ≡ numberNo (x .answer)
+pub record AtomsAs (x : atomic.Atoms) (r : Atoms) : Type 0 where
+  pub number : r .number ≡ numberRefusal (x .answer)
   pub count : r .count ≡ valueOf (x .answer)
   pub starts : r .starts ≡ x .starts
   pub ends : r .ends ≡ x .ends
   pub starts-room : length (r .starts) ≡ 1024
   pub ends-room : length (r .ends) ≡ 1024
 
-pub record SlotsAre (s : List ℕ) (r : JobSlots) : Type 0 where
-  pub no : r .no ≡ numberNo (atomsOf s .answer)
+pub record SlotsAs (s : List ℕ) (r : JobSlots) : Type 0 where
+  pub number : r .number ≡ numberRefusal (atomsOf s .answer)
   pub count : r .count ≡ valueOf (atomsOf s .answer)
   pub starts : r .starts ≡ atomsOf s .starts
   pub ends : r .ends ≡ atomsOf s .ends
@@ -52,29 +52,29 @@ pub record SlotsAre (s : List ℕ) (r : JobSlots) : Type 0 where
   pub ends-room : length (r .ends) ≡ 1024
   pub avail-room : length (r .avail) ≡ 512
 
-pub record UnitsAre (w : Written) (r : JobUnits) : Type 0 where
-  pub no : r .no ≡ numberNo (w .answer)
+pub record UnitsAs (w : Written) (r : JobUnits) : Type 0 where
+  pub number : r .number ≡ numberRefusal (w .answer)
   pub count : r .count ≡ valueOf (w .answer)
-  pub firsts : r .firsts ≡ w .buffer
-  pub room : length (r .firsts) ≡ 1024
+  pub begins : r .begins ≡ w .buffer
+  pub room : length (r .begins) ≡ 1024
 
-pub record TargetsAre (x : targets.Outcome) (r : JobTargets) : Type 0 where
-  pub no : r .no ≡ x .number
+pub record TargetsAs (x : targets.Outcome) (r : JobTargets) : Type 0 where
+  pub number : r .number ≡ x .number
   pub targets : r .targets ≡ x .out
   pub room : length (r .targets) ≡ 32
 
 -- what n owner records come to: their number, and the owners as bytes
-pub record OwnersAre (s : List ℕ) (at n slots people units : ℕ) (firsts : List ℕ) (r : JobOwners) : Type 0 where
-  pub no : r .no ≡ heardOf (ownersRow s at n slots people units firsts (placed s at slots n))
+pub record OwnersAs (s : List ℕ) (at n slots people units : ℕ) (begins : List ℕ) (r : JobOwners) : Type 0 where
+  pub number : r .number ≡ numberOf (ownersRow s at n slots people units begins (placed s at slots n))
   pub owners : r .owners ≡ narrowed (placed s at slots n)
 
 -- sets and minutes, and the play, as the rota gives them
 pub record StartedAs (y : state.Outcome) (r : Started) : Type 0 where
-  pub no : r .no ≡ y .number
+  pub number : r .number ≡ y .number
   pub derived : derived (r .sets) (r .minutes) ≡ y .derived
 
 pub record PlayedAs (y : state.Outcome) (r : Played) : Type 0 where
-  pub no : r .no ≡ y .number
+  pub number : r .number ≡ y .number
   pub owners : r .owners ≡ y .owners
   pub minutes : r .minutes ≡ y .derived .minutes
   pub answers : r .answers ≡ y .answers
@@ -85,10 +85,10 @@ pub record PlayedAs (y : state.Outcome) (r : Played) : Type 0 where
 -- what a play goes by, of a prepared job; and that it was prepared from the file s
 abbrev pub readyBy : Prepared → Ready
 readyBy r =
-    ready (r .people) (r .slots) (r .starts) (r .ends) (r .avail) (r .units) (r .firsts) (r .frozen) (r .targets)
+    ready (r .people) (r .slots) (r .starts) (r .ends) (r .avail) (r .units) (r .begins) (r .frozen) (r .targets)
 
 pub record PreparedAs (s : List ℕ) (r : Prepared) : Type 0 where
-  pub no : r .no ≡ heardOf (prepareRow s)
+  pub number : r .number ≡ numberOf (prepareRow s)
   pub ready : readyBy r ≡ readyOf s
   pub owners : r .owners ≡ ownersOf s
   pub derived : derived (r .sets) (r .minutes) ≡ startedOf s .derived
@@ -96,11 +96,11 @@ pub record PreparedAs (s : List ℕ) (r : Prepared) : Type 0 where
   pub people-few : r .people ≤ 32
   pub starts-room : length (r .starts) ≡ 1024
   pub ends-room : length (r .ends) ≡ 1024
-  pub firsts-room : length (r .firsts) ≡ 1024
+  pub begins-room : length (r .begins) ≡ 1024
   pub frozen-room : length (r .frozen) ≡ 16
   pub targets-room : length (r .targets) ≡ 32
 
 -- minutes that were asked for, 0 where refused
 abbrev pub minutesValue : Minutes → ℕ
-minutesValue (minutes.Are m) = m
+minutesValue (minutes.Is m) = m
 minutesValue (minutes.Refused k) = 0

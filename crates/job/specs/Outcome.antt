@@ -1,11 +1,11 @@
--- What a job comes to, said of its file alone: the row of its tests, and what is heard and left. Assumes nothing.
+-- What a job comes to, said of its file alone: the row of its tests, and what is answered and left. Assumes nothing.
 use mathlib.Core.Path.{_≡_}
 use mathlib.Core.Bool.{Bool, true, false, cond}
 use mathlib.Core.List.{List, [], _∷_, _++_}
 use Prim.Native.Nat.{ℕ, _≤_, _<_}
 use lib.Dec.{eqb, leb}
 use lib.ListN.{length, getD}
-use Rattle.paper.specs.Limits.{Test, test, heardOf, slotsMost}
+use Rattle.paper.specs.Limits.{Test, test, numberOf, slotsMost}
 use Rattle.paper.specs.Count.{all}
 use Rattle.paper.specs.Rows.{unless}
 use Rattle.slots.specs.Lent.{slotsOk}
@@ -19,10 +19,10 @@ use Rattle.job.specs.declared.JobAnswer.{JobAnswer}
 use Rattle.job.specs.declared.JobAnswer.the-variants as answer
 use Rattle.job.specs.File.{fileOk}
 use Rattle.job.specs.Listing.{refusalLine, listingOf, listingMost}
-use Rattle.job.specs.Stages.{counted, begins, peopleOf, jobCountsOk, capacitiesOf, priorsOf, settingsIn, baseOf, readyOf, allEven}
+use Rattle.job.specs.Stages.{counted, blockStart, peopleOf, jobCountsOk, capacitiesOf, priorsOf, settingsIn, baseOf, readyOf, allEven}
 use Rattle.job.specs.Stages.{allKnown, writtenOf, ownersOf, listedOf}
 
--- ---- the tests of a job, in the order in which they are heard: 13, then rising
+-- ---- the tests of a job, in the order in which they are given: 13, then rising
 
 -- of the file and the room
 unfoldable pub readRow : Bool → ℕ → ℕ → ℕ → ℕ → ℕ → List Test
@@ -31,8 +31,8 @@ readRow right base people ranges draws room =
 
 -- of owners as written, n records from `at` on
 unfoldable pub ownersRow : List ℕ → ℕ → ℕ → ℕ → ℕ → ℕ → List ℕ → List ℕ → List Test
-ownersRow s at n slots people units firsts o =
-    test 10 (allEven slots units firsts o) ∷ test 11 (allKnown s at n slots people) ∷ []
+ownersRow s at n slots people units begins o =
+    test 10 (allEven slots units begins o) ∷ test 11 (allKnown s at n slots people) ∷ []
 
 -- of what stands in the file
 unfoldable pub prepareRow : List ℕ → List Test
@@ -42,14 +42,14 @@ prepareRow s =
     test 3 (slotsOk (B .slots) (B .starts) (B .ends)) ∷ test 4 (rangesOk (B .people) (B .ranges))
     ∷ test 5 (leb (length (atomic.startsOfAtoms B)) slotsMost)
     ∷ test 6 (allFiguresOk (peopleOf s) (capacitiesOf s) (priorsOf s)) ∷ test 7 (settingsOk (settingsIn s))
-    ∷ test 10 (allEven (R .slots) (R .units) (R .firsts) (writtenOf s))
-    ∷ test 11 (allKnown s (begins s 5) (counted s 5) (R .slots) (R .people))
+    ∷ test 10 (allEven (R .slots) (R .units) (R .begins) (writtenOf s))
+    ∷ test 11 (allKnown s (blockStart s 5) (counted s 5) (R .slots) (R .people))
     ∷ test 12 (all (R .slots) (availableAt (R .avail) (ownersOf s))) ∷ []
 
 unfoldable pub jobTests : List ℕ → ℕ → List Test
 jobTests s room = readRow (fileOk s) (counted s 1) (peopleOf s) (counted s 3) (counted s 6) room ++ prepareRow s
 
--- the number heard in the paper's words: the lowest of those that apply, but 13 comes before all
+-- the number given in the paper's words: the lowest of those that apply, but 13 comes before all
 abbrev pub rank : ℕ → ℕ
 rank n = cond (eqb n 13) 0 n
 
@@ -69,9 +69,9 @@ AllPass ts = (k : ℕ) → k < length ts → testAt ts k .passes ≡ true
 -- ---- the outcome
 
 -- an answer by its cases: the number of the refusal, 0 where there is none; and the length, or `was` where refused
-abbrev pub jobNo : JobAnswer → ℕ
-jobNo (answer.Length l) = 0
-jobNo (answer.Refused n) = n
+abbrev pub jobRefusal : JobAnswer → ℕ
+jobRefusal (answer.Length l) = 0
+jobRefusal (answer.Refused n) = n
 
 abbrev pub jobLength : ℕ → JobAnswer → ℕ
 jobLength was (answer.Length l) = l
@@ -90,7 +90,7 @@ listedAs l x = record { answer = answer.Length (length l); out = put l 0 x }
 
 unfoldable pub jobResult : List ℕ → List ℕ → Result
 jobResult s x =
-    let n = heardOf (jobTests s (length x)) in
+    let n = numberOf (jobTests s (length x)) in
     unless n (refusedAs n x) (listedAs (listingOf (listedOf s)) x)
 
 -- the line of a refusal in a lent buffer; 2 where that is shorter than the line
@@ -99,8 +99,8 @@ refusalRow n room = test 2 (leb (length (refusalLine n)) room) ∷ []
 
 unfoldable pub refusalResult : ℕ → List ℕ → Result
 refusalResult n x =
-    let m = heardOf (refusalRow n (length x)) in unless m (refusedAs m x) (listedAs (refusalLine n) x)
+    let m = numberOf (refusalRow n (length x)) in unless m (refusedAs m x) (listedAs (refusalLine n) x)
 
 pub record Ends (y : Result) (r : JobAnswer) (out : List ℕ) : Type 0 where
-  pub heard : r ≡ y .answer
+  pub said : r ≡ y .answer
   pub left : out ≡ y .out

@@ -33,8 +33,8 @@ use Rattle.job.specs.Listing.{Listed, listed}
 abbrev pub counted : List ℕ → ℕ → ℕ
 counted s i = getD (jobCounts s) i 0
 
-abbrev pub begins : List ℕ → ℕ → ℕ
-begins s i = getD (jobStarts s) i 0
+abbrev pub blockStart : List ℕ → ℕ → ℕ
+blockStart s i = getD (jobStarts s) i 0
 
 abbrev pub peopleOf : List ℕ → ℕ
 peopleOf s = counted s 2
@@ -46,13 +46,13 @@ jobCountsOk base people ranges draws =
 
 -- the field at `off` of each record of kind i + 1, `width` bytes wide
 abbrev pub columnOf : List ℕ → ℕ → ℕ → ℕ → List ℕ
-columnOf s i off width = column width s (begins s i + (4 + off)) (4 + getD jobSizes i 0) (counted s i)
+columnOf s i off width = column width s (blockStart s i + (4 + off)) (4 + getD jobSizes i 0) (counted s i)
 
 abbrev pub rangesOf : List ℕ → Ranges
 rangesOf s = ranges (counted s 3) (columnOf s 3 0 2) (columnOf s 3 2 4) (columnOf s 3 6 4)
 
 abbrev pub capacitiesOf : List ℕ → List Float
-capacitiesOf s = floatColumn s (begins s 2 + 4) 16 (peopleOf s)
+capacitiesOf s = floatColumn s (blockStart s 2 + 4) 16 (peopleOf s)
 
 abbrev pub priorsOf : List ℕ → List ℕ
 priorsOf s = columnOf s 2 8 4
@@ -69,24 +69,24 @@ settingsIn s = record {
 }
 
 abbrev pub instantOf : List ℕ → ℕ
-instantOf s = cond (eqb (counted s 4) 0) 0 (le 4 s (begins s 4 + 4))
+instantOf s = cond (eqb (counted s 4) 0) 0 (le 4 s (blockStart s 4 + 4))
 
 pub record Draws : Type 0 where
   pub count : ℕ
-  pub kinds : List ℕ
-  pub ones : List ℕ
-  pub twos : List ℕ
+  pub draws : List ℕ
+  pub firsts : List ℕ
+  pub seconds : List ℕ
 
-abbrev pub draws : ℕ → List ℕ → List ℕ → List ℕ → Draws
-draws n k a b = record { count = n; kinds = k; ones = a; twos = b }
+abbrev pub drawColumns : ℕ → List ℕ → List ℕ → List ℕ → Draws
+drawColumns n k a b = record { count = n; draws = k; firsts = a; seconds = b }
 
 unfoldable pub drawsOf : List ℕ → Draws
-drawsOf s = draws (counted s 6) (columnOf s 6 0 2) (columnOf s 6 2 2) (columnOf s 6 4 2)
+drawsOf s = drawColumns (counted s 6) (columnOf s 6 0 2) (columnOf s 6 2 2) (columnOf s 6 4 2)
 
 -- the total of the file's base slots: end less start of each base record
 unfoldable pub baseTotal : List ℕ → ℕ
 baseTotal s =
-    let at = begins s 1 in
+    let at = blockStart s 1 in
     sum (counted s 1) (λ k. le 4 s (at + 8 + k * 12) - le 4 s (at + 4 + k * 12))
 
 -- ---- slots, units and targets
@@ -129,19 +129,19 @@ pub record Ready : Type 0 where
   pub ends : List ℕ
   pub avail : List ℕ
   pub units : ℕ
-  pub firsts : List ℕ
+  pub begins : List ℕ
   pub frozen : List ℕ
   pub targets : List ℤ
 
 abbrev pub ready : ℕ → ℕ → List ℕ → List ℕ → List ℕ → ℕ → List ℕ → List ℕ → List ℤ → Ready
-ready people slots starts ends avail units firsts frozen targets = record {
+ready people slots starts ends avail units begins frozen targets = record {
   people = people;
   slots = slots;
   starts = starts;
   ends = ends;
   avail = avail;
   units = units;
-  firsts = firsts;
+  begins = begins;
   frozen = frozen;
   targets = targets;
 }
@@ -171,7 +171,7 @@ placed s at slots (suc k) =
 
 -- 10: each unit has one owner, as written
 unfoldable pub allEven : ℕ → ℕ → List ℕ → List ℕ → Bool
-allEven slots units firsts o = all units (evenAt slots units firsts o)
+allEven slots units begins o = all units (evenAt slots units begins o)
 
 -- 11: the slot exists, and the owner is nobody or a known person
 unfoldable pub recordKnown : List ℕ → ℕ → ℕ → ℕ → ℕ → Bool
@@ -189,7 +189,7 @@ narrowed o = over (λ k. byteOf (getD o k 0)) 1024 (replicate 1024 0)
 
 -- the owners as written, and as bytes
 unfoldable pub writtenOf : List ℕ → List ℕ
-writtenOf s = placed s (begins s 5) (readyOf s .slots) (counted s 5)
+writtenOf s = placed s (blockStart s 5) (readyOf s .slots) (counted s 5)
 
 unfoldable pub ownersOf : List ℕ → List ℕ
 ownersOf s = narrowed (writtenOf s)
@@ -205,7 +205,8 @@ startOf R o = state.fromSlots (planOf R) (R .avail) o (derived (replicate 512 0)
 
 unfoldable pub playOf : Ready → Draws → List ℕ → Derived → state.Outcome
 playOf R d o D =
-    rota.played (planOf R) (R .avail) (R .units) (R .firsts) (R .frozen) (d .count) (d .kinds) (d .ones) (d .twos) o D (replicate 1024 0)
+    rota.played (planOf R) (R .avail) (R .units) (R .begins) (R .frozen) (d .count) (d .draws) (d .firsts) (d .seconds) o D
+    (replicate 1024 0)
 
 unfoldable pub startedOf : List ℕ → state.Outcome
 startedOf s = startOf (readyOf s) (ownersOf s)

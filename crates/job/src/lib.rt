@@ -16,7 +16,7 @@ pub use run::run_job;
 
 // The atomic slots, or the number of a refusal.
 pub struct Atoms {
-    pub no: u8,
+    pub number: u8,
     pub count: usize,
     pub starts: [u32; 1024],
     pub ends: [u32; 1024],
@@ -24,7 +24,7 @@ pub struct Atoms {
 
 // The atomic slots of a job with everybody's availability, or the number of a refusal.
 pub struct JobSlots {
-    pub no: u8,
+    pub number: u8,
     pub count: usize,
     pub starts: [u32; 1024],
     pub ends: [u32; 1024],
@@ -33,40 +33,40 @@ pub struct JobSlots {
 
 // The units of a job, or the number of a refusal.
 pub struct JobUnits {
-    pub no: u8,
+    pub number: u8,
     pub count: usize,
-    pub firsts: [u16; 1024],
+    pub begins: [u16; 1024],
 }
 
 // The targets of a job, or the number of a refusal.
 pub struct JobTargets {
-    pub no: u8,
+    pub number: u8,
     pub targets: [i64; 32],
 }
 
 // The owners of a job, or the number of a refusal.
 pub struct JobOwners {
-    pub no: u8,
+    pub number: u8,
     pub owners: [u8; 1024],
 }
 
 // Sets and minutes from the owners, or the number of a refusal.
 pub struct Started {
-    pub no: u8,
+    pub number: u8,
     pub sets: [u64; 512],
     pub minutes: [u64; 32],
 }
 
 // What a play goes by, and the rota before the draws; or the number of a refusal.
 pub struct Prepared {
-    pub no: u8,
+    pub number: u8,
     pub people: usize,
     pub slots: usize,
     pub starts: [u32; 1024],
     pub ends: [u32; 1024],
     pub avail: [u64; 512],
     pub units: usize,
-    pub firsts: [u16; 1024],
+    pub begins: [u16; 1024],
     pub frozen: [u64; 16],
     pub targets: [i64; 32],
     pub owners: [u8; 1024],
@@ -76,7 +76,7 @@ pub struct Prepared {
 
 // What a play leaves, or the number of a refusal.
 pub struct Played {
-    pub no: u8,
+    pub number: u8,
     pub owners: [u8; 1024],
     pub minutes: [u64; 32],
     pub answers: [u8; 1024],

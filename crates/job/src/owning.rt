@@ -1,16 +1,16 @@
 // The owner records of a job: who owns which slot, as written, with refusals 10 and 11.
 use crate::JobOwners;
 use crate::fields::field;
-use paper::Fault;
+use paper::Refusal;
 ghost use mathlib.Core.Path.{_≡_};
 ghost use Prim.Native.Nat.{_+_, _*_, _≤_};
 ghost use lib.ListN.{length, getD};
-ghost use Rattle.paper.specs.Rows.{firstOf};
+ghost use Rattle.paper.specs.Rows.{refusalOf};
 ghost use Rattle.owners.specs.Recount.{evenAt};
 ghost use Rattle.job.specs.File.{ownerSlot};
 ghost use Rattle.job.specs.Stages.{ownerValue, placed, allEven, recordKnown, allKnown, narrowed};
 ghost use Rattle.job.specs.Outcome.{ownersRow};
-ghost use Rattle.job.specs.Inside.{OwnersAre};
+ghost use Rattle.job.specs.Inside.{OwnersAs};
 
 // Entry k of a column, or 0 past its end.
 fn entry16(column: &[u16], k: usize) -> u16
@@ -59,11 +59,11 @@ fn placed_by(s: &[u8], at: usize, n: usize, slots: usize) -> [u16; 1024]
 }
 
 // Whether the slots of unit u have one owner.
-fn unit_even(slots: usize, units: usize, firsts: &[u16], owners: &[u16], u: usize) -> bool
-    ensures { λ r. ⌜ r ≡ evenAt slots units (now (firsts .entry)) (now (owners .entry)) u ⌝ }
+fn unit_even(slots: usize, units: usize, begins: &[u16], owners: &[u16], u: usize) -> bool
+    ensures { λ r. ⌜ r ≡ evenAt slots units (now (begins .entry)) (now (owners .entry)) u ⌝ }
 {
-    let a = units::start_of(firsts, u);
-    let e = units::unit_end(slots, units, firsts, u);
+    let a = units::start_of(begins, u);
+    let e = units::unit_end(slots, units, begins, u);
     let owner = entry16(owners, a);
     let mut k = a;
     while k < e {
@@ -77,12 +77,12 @@ fn unit_even(slots: usize, units: usize, firsts: &[u16], owners: &[u16], u: usiz
 }
 
 // Whether the slots of each unit do.
-fn all_even(slots: usize, units: usize, firsts: &[u16], owners: &[u16]) -> bool
-    ensures { λ r. ⌜ r ≡ allEven slots units (now (firsts .entry)) (now (owners .entry)) ⌝ }
+fn all_even(slots: usize, units: usize, begins: &[u16], owners: &[u16]) -> bool
+    ensures { λ r. ⌜ r ≡ allEven slots units (now (begins .entry)) (now (owners .entry)) ⌝ }
 {
     let mut u: usize = 0;
     while u < units {
-        if unit_even(slots, units, firsts, owners, u) {
+        if unit_even(slots, units, begins, owners, u) {
             u += 1;
         } else {
             return false;
@@ -124,23 +124,23 @@ fn all_known(s: &[u8], at: usize, n: usize, slots: usize, people: usize) -> bool
 }
 
 // 10, then 11.
-fn owners_no(
+fn owners_refusal(
     s: &[u8],
     at: usize,
     n: usize,
     slots: usize,
     people: usize,
     units: usize,
-    firsts: &[u16],
+    begins: &[u16],
     owners: &[u16],
-) -> Fault
+) -> Refusal
     requires { ⌜ at + n * 8 ≤ length (now s) ⌝ }
-    ensures { λ r. ⌜ r ≡ firstOf (ownersRow (now (s .entry)) at n slots people units (now (firsts .entry)) (now (owners .entry))) ⌝ }
+    ensures { λ r. ⌜ r ≡ refusalOf (ownersRow (now (s .entry)) at n slots people units (now (begins .entry)) (now (owners .entry))) ⌝ }
 {
-    let even = all_even(slots, units, firsts, owners);
+    let even = all_even(slots, units, begins, owners);
     let known = all_known(s, at, n, slots, people);
-    let f = paper::heard(paper::nothing(), even, 10);
-    paper::heard(f, known, 11)
+    let f = paper::check(paper::accepted(), even, 10);
+    paper::check(f, known, 11)
 }
 
 // The owners as bytes.
@@ -149,7 +149,7 @@ fn narrow(owners: &[u16]) -> [u8; 1024]
 {
     let mut out = [0u8; 1024];
     let mut k: usize = 0;
-    while k < 1024 {
+    while k < paper::SLOTS_MOST {
         let owner = entry16(owners, k);
         if owner < 256 {
             out[k] = owner as u8;
@@ -170,13 +170,13 @@ pub(crate) fn owners_of(
     slots: usize,
     people: usize,
     units: usize,
-    firsts: &[u16],
+    begins: &[u16],
 ) -> JobOwners
     requires { ⌜ (at + n * 8 ≤ length (now s)) × (slots ≤ 1024) ⌝ }
-    ensures { λ r. ⌜ OwnersAre (now (s .entry)) at n slots people units (now (firsts .entry)) r ⌝ }
+    ensures { λ r. ⌜ OwnersAs (now (s .entry)) at n slots people units (now (begins .entry)) r ⌝ }
 {
     let written = placed_by(s, at, n, slots);
-    let no = owners_no(s, at, n, slots, people, units, firsts, &written).number;
+    let number = owners_refusal(s, at, n, slots, people, units, begins, &written).number;
     let owners = narrow(&written);
-    JobOwners { no, owners }
+    JobOwners { number, owners }
 }

@@ -18,7 +18,7 @@ ghost use Rattle.units.specs.Starts.{unitStartsIs};
 ghost use Rattle.targets.specs.Outcome.{given, computeTargets};
 ghost use Rattle.records.specs.Fields.{le};
 ghost use Rattle.job.specs.Stages.{settingsIn, frozenIn};
-ghost use Rattle.job.specs.Inside.{AtomsAre, UnitsAre, TargetsAre};
+ghost use Rattle.job.specs.Inside.{AtomsAs, UnitsAs, TargetsAs};
 
 // The settings.
 pub(crate) fn settings_in(s: &[u8]) -> Settings
@@ -39,41 +39,41 @@ pub(crate) fn settings_in(s: &[u8]) -> Settings
 
 // The atomic slots. Refusals 3, 4 and 5 (1 and 2 are ruled out by the counts).
 pub(crate) fn atoms_of(
+    people: usize,
     slots: usize,
+    count: usize,
     starts: &[u32],
     ends: &[u32],
-    people: usize,
-    count: usize,
     persons: &[u16],
     opens: &[u32],
     shuts: &[u32],
 ) -> Atoms
-    ensures { λ r. ⌜ AtomsAre (atomiseOf (base slots (now (starts .entry)) (now (ends .entry)) people
+    ensures { λ r. ⌜ AtomsAs (atomiseOf (base slots (now (starts .entry)) (now (ends .entry)) people
         (ranges count (now (persons .entry)) (now (opens .entry)) (now (shuts .entry))) (replicate 1024 0) (replicate 1024 0))) r ⌝ }
 {
     let mut froms = [0u32; 1024];
     let mut tos = [0u32; 1024];
-    let heard = slots::atomise(
+    let answer = slots::atomise(
+        people,
         slots,
+        count,
         starts,
         ends,
-        people,
-        count,
         persons,
         opens,
         shuts,
         &mut froms,
         &mut tos,
     );
-    match heard {
+    match answer {
         Number::Is(n) => Atoms {
-            no: 0,
+            number: 0,
             count: n,
             starts: froms,
             ends: tos,
         },
         Number::Refused(k) => Atoms {
-            no: k,
+            number: k,
             count: 0,
             starts: froms,
             ends: tos,
@@ -100,21 +100,21 @@ pub(crate) fn frozen_in(
 }
 
 // The units. Refusal 7.
-pub(crate) fn units_of(settings: Settings, slots: usize, starts: &[u32], ends: &[u32]) -> JobUnits
-    ensures { λ r. ⌜ UnitsAre (unitStartsIs settings slots (now (starts .entry)) (now (ends .entry)) (replicate 1024 0)) r ⌝ }
+pub(crate) fn units_of(slots: usize, settings: Settings, starts: &[u32], ends: &[u32]) -> JobUnits
+    ensures { λ r. ⌜ UnitsAs (unitStartsIs settings slots (now (starts .entry)) (now (ends .entry)) (replicate 1024 0)) r ⌝ }
 {
-    let mut firsts = [0u16; 1024];
-    let heard = units::unit_starts(settings, slots, starts, ends, &mut firsts);
-    match heard {
+    let mut begins = [0u16; 1024];
+    let answer = units::unit_starts(slots, settings, starts, ends, &mut begins);
+    match answer {
         Number::Is(n) => JobUnits {
-            no: 0,
+            number: 0,
             count: n,
-            firsts,
+            begins,
         },
         Number::Refused(k) => JobUnits {
-            no: k,
+            number: k,
             count: 0,
-            firsts,
+            begins,
         },
     }
 }
@@ -123,32 +123,32 @@ pub(crate) fn units_of(settings: Settings, slots: usize, starts: &[u32], ends: &
 pub(crate) fn targets_of(
     people: usize,
     slots: usize,
+    fairness: u8,
+    edition: u8,
     starts: &[u32],
     ends: &[u32],
     avail: &[u64],
     capacities: &[f64],
     priors: &[u32],
-    fairness: u8,
-    edition: u8,
 ) -> JobTargets
-    ensures { λ r. ⌜ TargetsAre (computeTargets (given people slots (now (starts .entry)) (now (ends .entry)) (now (avail .entry))
+    ensures { λ r. ⌜ TargetsAs (computeTargets (given people slots (now (starts .entry)) (now (ends .entry)) (now (avail .entry))
         (now (capacities .entry)) (now (priors .entry)) fairness edition) (replicate 32 (pos 0))) r ⌝ }
 {
     let mut out = [0i64; 32];
     let number = targets::compute_targets(
         people,
         slots,
+        fairness,
+        edition,
         starts,
         ends,
         avail,
         capacities,
         priors,
-        fairness,
-        edition,
         &mut out,
     );
     JobTargets {
-        no: number,
+        number: number,
         targets: out,
     }
 }
@@ -157,9 +157,9 @@ pub(crate) fn targets_of(
 pub(crate) fn avail_of(
     people: usize,
     slots: usize,
+    count: usize,
     starts: &[u32],
     ends: &[u32],
-    count: usize,
     persons: &[u16],
     opens: &[u32],
     shuts: &[u32],
@@ -171,9 +171,9 @@ pub(crate) fn avail_of(
     slots::availability(
         people,
         slots,
+        count,
         starts,
         ends,
-        count,
         persons,
         opens,
         shuts,

@@ -22,9 +22,9 @@ ghost use Rattle.job.specs.Inside.{ReadOk, StartedAs, PlayedAs, readyBy,
 fn uncovered_of(people: usize, slots: usize, starts: &[u32], ends: &[u32], owners: &[u8]) -> u64
     ensures { λ r. ⌜ r ≡ minutesValue (uncoveredIs (plan people slots (now (starts .entry)) (now (ends .entry))) (now (owners .entry))) ⌝ }
 {
-    let heard = owners::uncovered_minutes(people, slots, starts, ends, owners);
-    match heard {
-        Minutes::Are(m) => m,
+    let answer = owners::uncovered_minutes(people, slots, starts, ends, owners);
+    match answer {
+        Minutes::Is(m) => m,
         Minutes::Refused(_) => 0,
     }
 }
@@ -43,7 +43,7 @@ pub(crate) fn start_rota(
 {
     let mut sets = [0u64; 512];
     let mut minutes = [0u64; 32];
-    let no = owners::from_slots(
+    let number = owners::from_slots(
         people,
         slots,
         starts,
@@ -53,7 +53,11 @@ pub(crate) fn start_rota(
         &mut sets,
         &mut minutes,
     );
-    Started { no, sets, minutes }
+    Started {
+        number,
+        sets,
+        minutes,
+    }
 }
 
 // The draws.
@@ -65,24 +69,24 @@ fn play_draws(
     starts: &[u32],
     ends: &[u32],
     avail: &[u64],
-    firsts: &[u16],
+    begins: &[u16],
     frozen: &[u64],
+    draws: &[u16],
+    firsts: &[u16],
+    seconds: &[u16],
     owners: [u8; 1024],
     sets: [u64; 512],
     minutes: [u64; 32],
-    kinds: &[u16],
-    ones: &[u16],
-    twos: &[u16],
 ) -> Played
     ensures { λ r. ⌜ PlayedAs (played (plan people slots (now (starts .entry)) (now (ends .entry))) (now (avail .entry)) units
-        (now (firsts .entry)) (now (frozen .entry)) count (now (kinds .entry)) (now (ones .entry)) (now (twos .entry)) owners
+        (now (begins .entry)) (now (frozen .entry)) count (now (draws .entry)) (now (firsts .entry)) (now (seconds .entry)) owners
         (derived sets minutes) (replicate 1024 0)) r ⌝ }
 {
     let mut o = owners;
     let mut s = sets;
     let mut m = minutes;
     let mut answers = [0u8; 1024];
-    let no = rota::play::play(
+    let number = rota::play::play(
         people,
         slots,
         units,
@@ -90,18 +94,18 @@ fn play_draws(
         starts,
         ends,
         avail,
-        firsts,
+        begins,
         frozen,
+        draws,
+        firsts,
+        seconds,
         &mut o,
         &mut s,
         &mut m,
-        kinds,
-        ones,
-        twos,
         &mut answers,
     );
     Played {
-        no,
+        number,
         owners: o,
         minutes: m,
         answers,
@@ -111,18 +115,18 @@ fn play_draws(
 // The draws of a file, played on what was prepared from it.
 pub(crate) fn play(file: &[u8], counts: [usize; 8], blocks: [usize; 8], p: Prepared) -> Played
     requires { ⌜ ReadOk (now file) counts blocks ⌝ }
-    requires { ⌜ (length (p .firsts) ≡ 1024) × (length (p .frozen) ≡ 16) ⌝ }
+    requires { ⌜ (length (p .begins) ≡ 1024) × (length (p .frozen) ≡ 16) ⌝ }
     ensures { λ r. ⌜ PlayedAs (playOf (readyBy p) (drawsOf (now (file .entry))) (p .owners) (derived (p .sets) (p .minutes))) r ⌝ }
 {
     let at = blocks[6];
     let n = counts[6];
-    let kinds = column16(file, at + 4, 10, n);
-    let ones = column16(file, at + 6, 10, n);
-    let twos = column16(file, at + 8, 10, n);
+    let draws = column16(file, at + 4, 10, n);
+    let firsts = column16(file, at + 6, 10, n);
+    let seconds = column16(file, at + 8, 10, n);
     let starts = p.starts;
     let ends = p.ends;
     let avail = p.avail;
-    let firsts = p.firsts;
+    let begins = p.begins;
     let frozen = p.frozen;
     let owners = p.owners;
     let sets = p.sets;
@@ -135,14 +139,14 @@ pub(crate) fn play(file: &[u8], counts: [usize; 8], blocks: [usize; 8], p: Prepa
         &starts,
         &ends,
         &avail,
-        &firsts,
+        &begins,
         &frozen,
+        &draws,
+        &firsts,
+        &seconds,
         owners,
         sets,
         minutes,
-        &kinds,
-        &ones,
-        &twos,
     )
 }
 

@@ -17,12 +17,12 @@ use crate::play::start_rota;
 ghost use mathlib.Core.Path.{_≡_};
 ghost use Rattle.paper.specs.Rows.{unless};
 ghost use Rattle.job.specs.Stages.{counted, instantOf, targetsIn, frozenIn};
-ghost use Rattle.job.specs.Inside.{ReadOk, SlotsAre, TargetsAre, PreparedAs};
+ghost use Rattle.job.specs.Inside.{ReadOk, SlotsAs, TargetsAs, PreparedAs};
 
 // The atomic slots and everybody's availability. Refusals 3, 4 and 5.
 fn slots_in(file: &[u8], counts: [usize; 8], blocks: [usize; 8]) -> JobSlots
     requires { ⌜ ReadOk (now file) counts blocks ⌝ }
-    ensures { λ r. ⌜ SlotsAre (now (file .entry)) r ⌝ }
+    ensures { λ r. ⌜ SlotsAs (now (file .entry)) r ⌝ }
 {
     let base = blocks[1];
     let n = counts[1];
@@ -34,21 +34,21 @@ fn slots_in(file: &[u8], counts: [usize; 8], blocks: [usize; 8]) -> JobSlots
     let opens = column32(file, range + 6, 14, m);
     let shuts = column32(file, range + 10, 14, m);
     let people = counts[2];
-    let atoms = atoms_of(n, &starts, &ends, people, m, &persons, &opens, &shuts);
+    let atoms = atoms_of(people, n, m, &starts, &ends, &persons, &opens, &shuts);
     let froms = atoms.starts;
     let tos = atoms.ends;
     let avail = avail_of(
         people,
         atoms.count,
+        m,
         &froms,
         &tos,
-        m,
         &persons,
         &opens,
         &shuts,
     );
     JobSlots {
-        no: atoms.no,
+        number: atoms.number,
         count: atoms.count,
         starts: froms,
         ends: tos,
@@ -67,7 +67,7 @@ fn targets_in(
     avail: &[u64],
 ) -> JobTargets
     requires { ⌜ ReadOk (now file) counts blocks ⌝ }
-    ensures { λ r. ⌜ TargetsAre (targetsIn (now (file .entry)) slots (now (starts .entry)) (now (ends .entry)) (now (avail .entry))) r ⌝ }
+    ensures { λ r. ⌜ TargetsAs (targetsIn (now (file .entry)) slots (now (starts .entry)) (now (ends .entry)) (now (avail .entry))) r ⌝ }
 {
     let people = counts[2];
     let at = blocks[2];
@@ -77,13 +77,13 @@ fn targets_in(
     targets_of(
         people,
         slots,
+        settings.fairness,
+        settings.edition,
         starts,
         ends,
         avail,
         &capacities,
         &priors,
-        settings.fairness,
-        settings.edition,
     )
 }
 
@@ -105,8 +105,8 @@ fn frozen_of(
     frozen_in(slots, starts, ends, freezes, instant)
 }
 
-// What was heard before, else what is heard now.
-fn first_no(before: u8, next: u8) -> u8
+// The number given before, else the one given now.
+fn first_number(before: u8, next: u8) -> u8
     ensures { λ r. ⌜ r ≡ unless before before next ⌝ }
 {
     if before == 0 {
@@ -128,28 +128,28 @@ pub(crate) fn prepare(file: &[u8], counts: [usize; 8], blocks: [usize; 8]) -> Pr
     let avail = s.avail;
     let t = targets_in(file, counts, blocks, slots, &starts, &ends, &avail);
     let settings = settings_in(file);
-    let u = units_of(settings, slots, &starts, &ends);
-    let firsts = u.firsts;
-    let o = owners_of(file, blocks[5], counts[5], slots, people, u.count, &firsts);
+    let u = units_of(slots, settings, &starts, &ends);
+    let begins = u.begins;
+    let o = owners_of(file, blocks[5], counts[5], slots, people, u.count, &begins);
     let owners = o.owners;
     let r = start_rota(people, slots, &starts, &ends, &avail, &owners);
     let frozen = frozen_of(file, counts, blocks, slots, &starts, &ends);
     let targets = t.targets;
     let sets = r.sets;
     let minutes = r.minutes;
-    let figures = first_no(t.no, u.no);
-    let rota = first_no(o.no, r.no);
-    let rest = first_no(figures, rota);
-    let no = first_no(s.no, rest);
+    let figures = first_number(t.number, u.number);
+    let rota = first_number(o.number, r.number);
+    let rest = first_number(figures, rota);
+    let number = first_number(s.number, rest);
     Prepared {
-        no,
+        number,
         people,
         slots,
         starts,
         ends,
         avail,
         units: u.count,
-        firsts,
+        begins,
         frozen,
         targets,
         owners,

@@ -4,9 +4,9 @@ use crate::file::read_file;
 use crate::play::list;
 use crate::play::play;
 use crate::prepare::prepare;
-use paper::Fault;
+use paper::Refusal;
 ghost use mathlib.Core.Path.{_≡_};
-ghost use Rattle.paper.specs.Rows.{firstOf};
+ghost use Rattle.paper.specs.Rows.{refusalOf};
 ghost use Rattle.job.specs.Stages.{jobCountsOk};
 ghost use Rattle.job.specs.Outcome.{Ends, readRow, jobResult};
 
@@ -30,20 +30,20 @@ fn counts_ok(base: usize, people: usize, ranges: usize, draws: usize) -> bool
 }
 
 // 13, then 1, then 2.
-fn read_no(
+fn read_refusal(
     right: bool,
     base: usize,
     people: usize,
     ranges: usize,
     draws: usize,
     room: usize,
-) -> Fault
-    ensures { λ r. ⌜ r ≡ firstOf (readRow right base people ranges draws room) ⌝ }
+) -> Refusal
+    ensures { λ r. ⌜ r ≡ refusalOf (readRow right base people ranges draws room) ⌝ }
 {
     let few = counts_ok(base, people, ranges, draws);
-    let f = paper::heard(paper::nothing(), right, 13);
-    let f = paper::heard(f, few, 1);
-    paper::heard(f, LISTING_MOST <= room, 2)
+    let f = paper::check(paper::accepted(), right, 13);
+    let f = paper::check(f, few, 1);
+    paper::check(f, LISTING_MOST <= room, 2)
 }
 
 // A job: the listing of its file at the front of out and its length, or the number of the refusal with out as it was.
@@ -53,16 +53,16 @@ pub fn run_job(file: &[u8], out: &mut [u8]) -> JobAnswer
     let w = read_file(file);
     let counts = w.counts;
     let blocks = w.starts;
-    let n = read_no(w.ok, counts[1], counts[2], counts[3], counts[6], out.len()).number;
+    let n = read_refusal(w.ok, counts[1], counts[2], counts[3], counts[6], out.len()).number;
     if n == 0 {
         let p = prepare(file, counts, blocks);
-        let no = p.no;
-        if no == 0 {
+        let number = p.number;
+        if number == 0 {
             let y = play(file, counts, blocks, p);
             let length = list(out, counts[6], p, y);
             return JobAnswer::Length(length);
         }
-        return JobAnswer::Refused(no);
+        return JobAnswer::Refused(number);
     }
     JobAnswer::Refused(n)
 }

@@ -7,13 +7,13 @@ use native.Mathlib.Omega.{arith}
 use borrow.Author.Tests.{eq-eqb, ne-eqb, eqb-true, leb-true}
 use lib.Dec.{eqb, leb}
 use lib.ListN.{length, getD}
-use Rattle.paper.specs.Limits.{nobody, peopleOk, slotCountOk, Test, test, heardOf}
-use Rattle.paper.specs.declared.Fault.{Fault}
-use Rattle.paper.specs.Rows.{firstOf, next}
+use Rattle.paper.specs.Limits.{nobody, peopleOk, slotCountOk, Test, test, numberOf}
+use Rattle.paper.specs.declared.Refusal.{Refusal}
+use Rattle.paper.specs.Rows.{refusalOf, next}
 use Rattle.paper.specs.Count.{all, sum, count, fill, over}
 use Rattle.paper.proofs.Logic.{by-test, five, and-true, people-says, slot-count-says}
 use Rattle.paper.proofs.Count.{all-each, each-all, in-each, each-in, sum-more}
-use Rattle.paper.proofs.Rows.{Asked, asked-more, link, ends, said, passed, worked, kept}
+use Rattle.paper.proofs.Rows.{Checked, checked-more, link, ends, said, passed, worked, kept}
 use Rattle.slotset.specs.Slots.{slot}
 use Rattle.slots.specs.Lent.{slotsOk}
 use Rattle.slots.proofs.LentLaws.{slots-sound}
@@ -23,7 +23,7 @@ use Rattle.owners.specs.Derived as figures
 use Rattle.owners.specs.Inside.{PlanSound, RotaRoom, Makes, InStep}
 use Rattle.owners.specs.Recount.{availableFor, knownAt, availableAt, evenAt, setSlotAt, setAt, minutesOkAt}
 use Rattle.owners.specs.Recount.{firstFail, recountTests, recounts}
-use Rattle.owners.proofs.Faults.{first-on, first-stops}
+use Rattle.owners.proofs.RecountRefusals.{first-on, first-stops}
 use Rattle.owners.specs.Entries.{lentRow, recountRow, recountSlotsRow, Outcome, outcome, Ended, fromSlotsRow, fromSlots}
 use Rattle.owners.specs.Entries.{emptyRow, emptied, uncoveredRow}
 
@@ -42,17 +42,17 @@ plan-sound P a b c =
       lent = slots-sound (P .slots) (P .starts) (P .ends) c;
     }
 
-pub record Grounds (P : Plan) (avail o : List ℕ) (D : Derived) : Type 0 where
+pub record LentRight (P : Plan) (avail o : List ℕ) (D : Derived) : Type 0 where
   pub sound : PlanSound P
   pub room : RotaRoom (P .people) (P .slots) avail o D
   pub people : peopleOk (P .people) ≡ true
   pub count : slotCountOk (P .slots) ≡ true
   pub lent : slotsOk (P .slots) (P .starts) (P .ends) ≡ true
 
-pub grounds : (P : Plan) (avail o : List ℕ) (D : Derived) → peopleOk (P .people) ≡ true → slotCountOk (P .slots) ≡ true
+pub lent-right : (P : Plan) (avail o : List ℕ) (D : Derived) → peopleOk (P .people) ≡ true → slotCountOk (P .slots) ≡ true
     → leb (16 * P .people) (length avail) ≡ true → leb (P .slots) (length o) ≡ true → leb (16 * P .people) (length (D .sets)) ≡ true
-    → leb (P .people) (length (D .minutes)) ≡ true → slotsOk (P .slots) (P .starts) (P .ends) ≡ true → Grounds P avail o D
-grounds P avail o D people count sets owners words minutes lent =
+    → leb (P .people) (length (D .minutes)) ≡ true → slotsOk (P .slots) (P .starts) (P .ends) ≡ true → LentRight P avail o D
+lent-right P avail o D people count sets owners words minutes lent =
     record {
       sound = plan-sound P people count lent;
       room = record {
@@ -67,12 +67,12 @@ grounds P avail o D people count sets owners words minutes lent =
     }
 
 -- the lent columns are right: the first row alone
-pub lent-grounds : (counts room : Bool) (P : Plan) (avail o : List ℕ) (D : Derived) → heardOf (lentRow counts room P avail o D) ≡ 0
-    → Grounds P avail o D
+pub lent-row-right : (counts room : Bool) (P : Plan) (avail o : List ℕ) (D : Derived) → numberOf (lentRow counts room P avail o D) ≡ 0
+    → LentRight P avail o D
 unfolding lentRow
-lent-grounds counts room P avail o D z =
+lent-row-right counts room P avail o D z =
     let h = passed (lentRow counts room P avail o D) refl z in
-    grounds P avail o D (h 0) (h 1) (h 4) (h 5) (h 6) (h 7) (h 9)
+    lent-right P avail o D (h 0) (h 1) (h 4) (h 5) (h 6) (h 7) (h 9)
 
 -- ---- what the recount leaves known
 
@@ -84,27 +84,27 @@ ten true true false d e = refl
 ten true true true false e = refl
 ten true true true true e = refl
 
-pub record Recounted (P : Plan) (avail : List ℕ) (units : ℕ) (firsts o : List ℕ) (D : Derived) : Type 0 where
+pub record Recounted (P : Plan) (avail : List ℕ) (units : ℕ) (begins o : List ℕ) (D : Derived) : Type 0 where
   pub known : (k : ℕ) → k < P .slots → knownBy (P .people) (getD o k 0) ≡ true
   pub available : (k : ℕ) → k < P .slots → availableFor avail (getD o k 0) k ≡ true
-  pub even : (u k : ℕ) → u < units → unitStart firsts u ≤ k → k < unitEnd (P .slots) units firsts u → getD o k 0 ≡ getD o (unitStart
-      firsts u) 0
+  pub even : (u k : ℕ) → u < units → unitStart begins u ≤ k → k < unitEnd (P .slots) units begins u → getD o k 0 ≡ getD o (unitStart
+      begins u) 0
   pub sets : (p k : ℕ) → p < P .people → k < P .slots → slot (D .sets) (16 * p) k ≡ held o p k
   pub minutes : (p : ℕ) → p < P .people → getD (D .minutes) p 0 ≡ figures.worked P o p
 
-module _ (P : Plan) (avail : List ℕ) (units : ℕ) (firsts o : List ℕ) (D : Derived) where
-  pub recount-says : recounts P avail units firsts o D ≡ true → Recounted P avail units firsts o D
+module _ (P : Plan) (avail : List ℕ) (units : ℕ) (begins o : List ℕ) (D : Derived) where
+  pub recount-says : recounts P avail units begins o D ≡ true → Recounted P avail units begins o D
   unfolding recounts knownAt availableAt evenAt setAt setSlotAt minutesOkAt
   recount-says e =
       let x = five (all (P .slots) (knownAt (P .people) o)) (all (P .slots) (availableAt avail o)) (all units (evenAt (P .slots) units
-      firsts o))
+      begins o))
       (all (P .people) (setAt (P .slots) o (D .sets))) (all (P .people) (minutesOkAt P o (D .minutes))) e in
       record {
         known = λ k h. all-each (P .slots) (knownAt (P .people) o) (x .0) k h;
         available = λ k h. all-each (P .slots) (availableAt avail o) (x .1) k h;
         even = λ u k h a b.
-            eqb-true _ _ (in-each _ _ (λ j. eqb (getD o j 0) (getD o (unitStart firsts u) 0)) (all-each units (evenAt (P .slots)
-            units firsts o) (x .2) u h) k a b);
+            eqb-true _ _ (in-each _ _ (λ j. eqb (getD o j 0) (getD o (unitStart begins u) 0)) (all-each units (evenAt (P .slots)
+            units begins o) (x .2) u h) k a b);
         sets = λ p k h g.
             eqb-true _ _ (all-each (P .slots) (setSlotAt o (D .sets) p) (all-each (P .people) (setAt (P .slots) o (D .sets)) (x .3)
             p h) k g);
@@ -112,17 +112,17 @@ module _ (P : Plan) (avail : List ℕ) (units : ℕ) (firsts o : List ℕ) (D : 
       }
 
   -- a rota of which all that holds passes the recount
-  pub says-recount : Recounted P avail units firsts o D → recounts P avail units firsts o D ≡ true
+  pub says-recount : Recounted P avail units begins o D → recounts P avail units begins o D ≡ true
   unfolding recounts knownAt availableAt evenAt setAt setSlotAt minutesOkAt
   says-recount R =
       let k = each-all (P .slots) (knownAt (P .people) o) (R .known) in
       let f = each-all (P .slots) (availableAt avail o) (R .available) in
-      let e = each-all units (evenAt (P .slots) units firsts o) (λ u h. each-in _ _ _ (λ j a b. eq-eqb _ _ (R .even u j h a b))) in
+      let e = each-all units (evenAt (P .slots) units begins o) (λ u h. each-in _ _ _ (λ j a b. eq-eqb _ _ (R .even u j h a b))) in
       let s = each-all (P .people) (setAt (P .slots) o (D .sets)) (λ p h. each-all (P .slots) _ (λ j g. eq-eqb _ _ (R .sets p j h g))) in
       let m = each-all (P .people) (minutesOkAt P o (D .minutes)) (λ p h. eq-eqb _ _ (R .minutes p h)) in
       and-true _ _ k (and-true _ _ f (and-true _ _ e (and-true _ _ s m)))
 
-  pub recount-step : RotaRoom (P .people) (P .slots) avail o D → Recounted P avail units firsts o D → InStep P o D
+  pub recount-step : RotaRoom (P .people) (P .slots) avail o D → Recounted P avail units begins o D → InStep P o D
   recount-step R C =
       record {
         owners-room = R .owners-room;
@@ -134,97 +134,97 @@ module _ (P : Plan) (avail : List ℕ) (units : ℕ) (firsts o : List ℕ) (D : 
       }
 
   -- their number is 10 exactly when it doesn't
-  pub recount-number : heardOf (recountTests P avail units firsts o D) ≡ cond (recounts P avail units firsts o D) 0 10
-  unfolding recounts recountTests heardOf
+  pub recount-number : numberOf (recountTests P avail units begins o D) ≡ cond (recounts P avail units begins o D) 0 10
+  unfolding recounts recountTests numberOf
   recount-number =
-      ten (all (P .slots) (knownAt (P .people) o)) (all (P .slots) (availableAt avail o)) (all units (evenAt (P .slots) units firsts o))
+      ten (all (P .slots) (knownAt (P .people) o)) (all (P .slots) (availableAt avail o)) (all units (evenAt (P .slots) units begins o))
       (all (P .people) (setAt (P .slots) o (D .sets))) (all (P .people) (minutesOkAt P o (D .minutes)))
 
-  -- what is heard first of the whole row: of lent columns and units, or else of the five
-  module _ (counts room : Bool) (f g : Fault) (ef : f ≡ firstOf (lentRow counts room P avail o D))
-      (eg : g ≡ next f (test 9 (unitsOk (P .slots) units firsts))) where
+  -- the first refusal of the whole row: of lent columns and units, or else of the five
+  module _ (counts room : Bool) (f g : Refusal) (ef : f ≡ refusalOf (lentRow counts room P avail o D))
+      (eg : g ≡ next f (test 9 (unitsOk (P .slots) units begins))) where
     abbrev front : List Test
-    front = lentRow counts room P avail o D ++ (test 9 (unitsOk (P .slots) units firsts) ∷ [])
+    front = lentRow counts room P avail o D ++ (test 9 (unitsOk (P .slots) units begins) ∷ [])
 
-    front-heard : g ≡ firstOf front
+    front-number : g ≡ refusalOf front
     unfolding lentRow
-    front-heard = asked-more (lentRow counts room P avail o D) _ refl ef (link eg ends)
+    front-number = checked-more (lentRow counts room P avail o D) _ refl ef (link eg ends)
 
-    pub front-grounds : g .number ≡ 0 → Grounds P avail o D
+    pub front-right : g .number ≡ 0 → LentRight P avail o D
     unfolding lentRow
-    front-grounds z =
-        let h = passed front refl (sym (said front front-heard) ∙ z) in
-        grounds P avail o D (h 0) (h 1) (h 4) (h 5) (h 6) (h 7) (h 9)
+    front-right z =
+        let h = passed front refl (sym (said front front-number) ∙ z) in
+        lent-right P avail o D (h 0) (h 1) (h 4) (h 5) (h 6) (h 7) (h 9)
 
-    pub row-on : (r : Fault) → g .number ≡ 0 → r ≡ firstOf (recountTests P avail units firsts o D)
-        → r ≡ firstOf (recountRow counts room P avail units firsts o D)
+    pub row-on : (r : Refusal) → g .number ≡ 0 → r ≡ refusalOf (recountTests P avail units begins o D)
+        → r ≡ refusalOf (recountRow counts room P avail units begins o D)
     unfolding recountRow lentRow
-    row-on r z q = q ∙ sym (first-on front (recountTests P avail units firsts o D) refl (sym (said front front-heard) ∙ z))
+    row-on r z q = q ∙ sym (first-on front (recountTests P avail units begins o D) refl (sym (said front front-number) ∙ z))
 
-    pub row-stops : (g .number ≡ 0 → ⊥) → g ≡ firstOf (recountRow counts room P avail units firsts o D)
+    pub row-stops : (g .number ≡ 0 → ⊥) → g ≡ refusalOf (recountRow counts room P avail units begins o D)
     unfolding recountRow lentRow
     row-stops n =
-        front-heard ∙ sym (first-stops front (recountTests P avail units firsts o D) (λ z. n (said front front-heard ∙ z)))
+        front-number ∙ sym (first-stops front (recountTests P avail units begins o D) (λ z. n (said front front-number ∙ z)))
 
-  -- where nothing is heard of the recount
+  -- where the recount refuses nothing
   pub record RecountAsks (counts room : Bool) : Type 0 where
     pub counts-ok : counts ≡ true
     pub room-ok : room ≡ true
-    pub on : Grounds P avail o D
-    pub units-ok : unitsOk (P .slots) units firsts ≡ true
-    pub passes : recounts P avail units firsts o D ≡ true
+    pub on : LentRight P avail o D
+    pub units-ok : unitsOk (P .slots) units begins ≡ true
+    pub passes : recounts P avail units begins o D ≡ true
 
-  pub recount-asks : (counts room : Bool) → heardOf (recountRow counts room P avail units firsts o D) ≡ 0 → RecountAsks counts room
+  pub recount-asks : (counts room : Bool) → numberOf (recountRow counts room P avail units begins o D) ≡ 0 → RecountAsks counts room
   unfolding recountRow lentRow recountTests recounts
   recount-asks counts room z =
-      let h = passed (recountRow counts room P avail units firsts o D) refl z in
+      let h = passed (recountRow counts room P avail units begins o D) refl z in
       record {
         counts-ok = h 2;
         room-ok = h 8;
-        on = grounds P avail o D (h 0) (h 1) (h 4) (h 5) (h 6) (h 7) (h 9);
+        on = lent-right P avail o D (h 0) (h 1) (h 4) (h 5) (h 6) (h 7) (h 9);
         units-ok = h 10;
         passes = and-true _ _ (h 11) (and-true _ _ (h 12) (and-true _ _ (h 13) (and-true _ _ (h 14) (h 15))));
       }
 
 module _ (P : Plan) (avail o : List ℕ) (D : Derived) where
   -- the same without units: whatever stands in their place, none is uneven
-  module _ (f : Fault) (ef : f ≡ firstOf (lentRow true true P avail o D)) where
-    pub slots-on : (r : Fault) (us : List ℕ) → f .number ≡ 0 → r ≡ firstOf (recountTests P avail 0 us o D)
-        → r ≡ firstOf (recountSlotsRow P avail o D)
+  module _ (f : Refusal) (ef : f ≡ refusalOf (lentRow true true P avail o D)) where
+    pub slots-on : (r : Refusal) (us : List ℕ) → f .number ≡ 0 → r ≡ refusalOf (recountTests P avail 0 us o D)
+        → r ≡ refusalOf (recountSlotsRow P avail o D)
     unfolding recountSlotsRow lentRow recountTests all firstFail
     slots-on r us z q =
         q ∙ sym (first-on (lentRow true true P avail o D) (recountTests P avail 0 [] o D) refl
         (sym (said (lentRow true true P avail o D) ef) ∙ z))
 
-    pub slots-stop : (f .number ≡ 0 → ⊥) → f ≡ firstOf (recountSlotsRow P avail o D)
+    pub slots-stop : (f .number ≡ 0 → ⊥) → f ≡ refusalOf (recountSlotsRow P avail o D)
     unfolding recountSlotsRow
     slots-stop n =
         ef ∙ sym (first-stops (lentRow true true P avail o D) (recountTests P avail 0 [] o D)
         (λ z. n (said (lentRow true true P avail o D) ef ∙ z)))
 
-  pub slots-asks : heardOf (recountSlotsRow P avail o D) ≡ 0 → Grounds P avail o D × (recounts P avail 0 [] o D ≡ true)
+  pub slots-asks : numberOf (recountSlotsRow P avail o D) ≡ 0 → LentRight P avail o D × (recounts P avail 0 [] o D ≡ true)
   unfolding recountSlotsRow lentRow recountTests recounts
   slots-asks z =
       let h = passed (recountSlotsRow P avail o D) refl z in (
-        grounds P avail o D (h 0) (h 1) (h 4) (h 5) (h 6) (h 7) (h 9),
+        lent-right P avail o D (h 0) (h 1) (h 4) (h 5) (h 6) (h 7) (h 9),
         and-true _ _ (h 10) (and-true _ _ (h 11) (and-true _ _ (h 12) (and-true _ _ (h 13) (h 14)))),
       )
 
 -- ---- outcomes
 
 module _ (n m : ℕ) (e : n ≡ m) (o : List ℕ) (D : Derived) (x o′ : List ℕ) (D′ : Derived) (x′ : List ℕ) where
-  pub ended-no : (n ≡ 0 → ⊥) → Ended (outcome m o D x o′ D′ x′) n o D x
+  pub ended-refused : (n ≡ 0 → ⊥) → Ended (outcome m o D x o′ D′ x′) n o D x
   unfolding outcome
-  ended-no z =
+  ended-refused z =
       let t : m ≡ 0 → ⊥ = λ q. z (e ∙ q) in
-      record { heard = e; owners = sym (kept m o o′ t); derived = sym (kept m D D′ t); answers = sym (kept m x x′ t) }
+      record { said = e; owners = sym (kept m o o′ t); derived = sym (kept m D D′ t); answers = sym (kept m x x′ t) }
 
   pub ended-yes : n ≡ 0 → (p : List ℕ) (E : Derived) (y : List ℕ) → p ≡ o′ → E ≡ D′ → y ≡ x′ → Ended (outcome m o D x o′ D′ x′) 0 p E y
   unfolding outcome
   ended-yes z p E y a b c =
       let t : m ≡ 0 = sym e ∙ z in
       record {
-        heard = sym z ∙ e;
+        said = sym z ∙ e;
         owners = a ∙ sym (worked m o o′ t);
         derived = b ∙ sym (worked m D D′ t);
         answers = c ∙ sym (worked m x x′ t);
@@ -234,22 +234,22 @@ module _ (n m : ℕ) (e : n ≡ m) (o : List ℕ) (D : Derived) (x o′ : List �
 pub one-outcome : (y : Outcome) (n m : ℕ) (o p : List ℕ) (D E : Derived) (x z : List ℕ) → Ended y n o D x → Ended y m p E z
     → (n ≡ m) × (o ≡ p) × (D ≡ E) × (x ≡ z)
 one-outcome y n m o p D E x z A B =
-    (A .heard ∙ sym (B .heard), A .owners ∙ sym (B .owners), A .derived ∙ sym (B .derived), A .answers ∙ sym (B .answers))
+    (A .said ∙ sym (B .said), A .owners ∙ sym (B .owners), A .derived ∙ sym (B .derived), A .answers ∙ sym (B .answers))
 
 -- ---- from_slots
 
 module _ (P : Plan) (avail o : List ℕ) (D : Derived) where
-  pub from-heard : {f r : Fault} → f ≡ firstOf (lentRow true true P avail o D)
-      → Asked f (test 11 (all (P .slots) (knownAt (P .people) o)) ∷ test 12 (all (P .slots) (availableAt avail o)) ∷ []) r
-      → r ≡ firstOf (fromSlotsRow P avail o D)
+  pub from-number : {f r : Refusal} → f ≡ refusalOf (lentRow true true P avail o D)
+      → Checked f (test 11 (all (P .slots) (knownAt (P .people) o)) ∷ test 12 (all (P .slots) (availableAt avail o)) ∷ []) r
+      → r ≡ refusalOf (fromSlotsRow P avail o D)
   unfolding fromSlotsRow lentRow
-  from-heard e q = asked-more (lentRow true true P avail o D) _ refl e q
+  from-number e q = checked-more (lentRow true true P avail o D) _ refl e q
 
-  pub from-asks : heardOf (fromSlotsRow P avail o D) ≡ 0 → PlanSound P × Makes P o D
+  pub from-asks : numberOf (fromSlotsRow P avail o D) ≡ 0 → PlanSound P × Makes P o D
   unfolding fromSlotsRow lentRow knownAt
   from-asks z =
       let h = passed (fromSlotsRow P avail o D) refl z in
-      let g = grounds P avail o D (h 0) (h 1) (h 4) (h 5) (h 6) (h 7) (h 9) in
+      let g = lent-right P avail o D (h 0) (h 1) (h 4) (h 5) (h 6) (h 7) (h 9) in
       let R = g .room in (
         g .sound,
         record {
@@ -260,10 +260,10 @@ module _ (P : Plan) (avail o : List ℕ) (D : Derived) where
         },
       )
 
-  module _ (n : ℕ) (e : n ≡ heardOf (fromSlotsRow P avail o D)) where
-    pub from-no : (n ≡ 0 → ⊥) → Ended (fromSlots P avail o D) n o D []
+  module _ (n : ℕ) (e : n ≡ numberOf (fromSlotsRow P avail o D)) where
+    pub from-refused : (n ≡ 0 → ⊥) → Ended (fromSlots P avail o D) n o D []
     unfolding fromSlots
-    from-no z = ended-no n _ e o D [] _ _ _ z
+    from-refused z = ended-refused n _ e o D [] _ _ _ z
 
     pub from-yes : (E : Derived) → n ≡ 0 → E ≡ afresh P o D → Ended (fromSlots P avail o D) 0 o E []
     unfolding fromSlots
@@ -272,7 +272,7 @@ module _ (P : Plan) (avail o : List ℕ) (D : Derived) where
 -- ---- an empty rota
 
 module _ (people slots : ℕ) (o : List ℕ) (D : Derived) where
-  pub empty-says : heardOf (emptyRow people slots o D) ≡ 0
+  pub empty-says : numberOf (emptyRow people slots o D) ≡ 0
       → (1 ≤ people) × (people ≤ 32) × (slots ≤ 1024) × (slots ≤ length o) × (16 * people ≤ length (D .sets)) × (people ≤ length (D
       .minutes))
   unfolding emptyRow
@@ -282,10 +282,10 @@ module _ (people slots : ℕ) (o : List ℕ) (D : Derived) where
       let q = slot-count-says slots (h 1) in
       (p .0, p .1, q .1, leb-true _ _ (h 2), leb-true _ _ (h 3), leb-true _ _ (h 4))
 
-  module _ (n : ℕ) (e : n ≡ heardOf (emptyRow people slots o D)) where
-    pub emptied-no : (n ≡ 0 → ⊥) → Ended (emptied people slots o D) n o D []
+  module _ (n : ℕ) (e : n ≡ numberOf (emptyRow people slots o D)) where
+    pub emptied-refused : (n ≡ 0 → ⊥) → Ended (emptied people slots o D) n o D []
     unfolding emptied
-    emptied-no z = ended-no n _ e o D [] _ _ _ z
+    emptied-refused z = ended-refused n _ e o D [] _ _ _ z
 
     pub emptied-yes : (o′ s m : List ℕ) → n ≡ 0 → o′ ≡ fill nobody 0 (slots - 0) o → s ≡ setsFrom people slots (nobodies slots) (D .sets)
         → m ≡ over (λ _. 0) people (D .minutes) → Ended (emptied people slots o D) 0 o′ (derived s m) []
@@ -296,7 +296,7 @@ module _ (people slots : ℕ) (o : List ℕ) (D : Derived) where
 
 -- ---- readers
 
-pub uncovered-says : (P : Plan) (o : List ℕ) → heardOf (uncoveredRow P o) ≡ 0 → PlanSound P × (P .slots ≤ length o)
+pub uncovered-says : (P : Plan) (o : List ℕ) → numberOf (uncoveredRow P o) ≡ 0 → PlanSound P × (P .slots ≤ length o)
 unfolding uncoveredRow
 uncovered-says P o z =
     let h = passed (uncoveredRow P o) refl z in

@@ -4,5 +4,5 @@ pub mod Sets
 pub mod Steps
 pub mod Made
 pub mod Scans
-pub mod Faults
+pub mod RecountRefusals
 pub mod Entered

@@ -139,9 +139,9 @@ in-past p a e k h g x =
     sym (sym (ap (λ (n : ℕ). all n (λ j. p (a + j))) q) ∙ x)
 
 -- all of a stretch has the owner of its first slot
-module _ (slots units : ℕ) (firsts o : List ℕ) (u a e w : ℕ) (pa : a ≡ unitStart firsts u) (pe : e ≡ unitEnd slots units firsts u)
+module _ (slots units : ℕ) (begins o : List ℕ) (u a e w : ℕ) (pa : a ≡ unitStart begins u) (pe : e ≡ unitEnd slots units begins u)
     (pw : w ≡ getD o a 0) where
-  pub even-as : allIn a e (λ k. eqb (getD o k 0) w) ≡ evenAt slots units firsts o u
+  pub even-as : allIn a e (λ k. eqb (getD o k 0) w) ≡ evenAt slots units begins o u
   unfolding evenAt
   even-as =
       ap (λ (v : ℕ). allIn a e (λ k. eqb (getD o k 0) v)) pw

@@ -18,7 +18,7 @@ use Rattle.paper.proofs.Count.{length-over, getD-over, getD-over-out, length-fi
 use Rattle.slotset.proofs.Puts.{Fit, length-puts}
 use Rattle.slots.specs.Lent.{demandOf, minutesAt}
 use Rattle.paper.specs.Rows.{unless}
-use Rattle.slotset.specs.Answers.{rowStretchNo, rowStretchOf}
+use Rattle.slotset.specs.Answers.{rowStretchRefusal, rowStretchOf}
 use Rattle.slotset.proofs.Refusals.{stretch-puts}
 use Rattle.units.proofs.Sets.{row-ok}
 use Rattle.owners.specs.Derived.{Plan, knownBy, portion, worked, Derived, derived, afresh, setFor, lessAt, moreAt, stretchMinutes}
@@ -136,7 +136,7 @@ unfolding setFor rowStretchOf unless
 length-row v w a e people slots ws =
     by-test (eqb w nobody) _ (λ t. simp t)
     (λ f. simp f
-    (by-test (eqb (rowStretchNo ws people w slots a e) 0) _
+    (by-test (eqb (rowStretchRefusal ws people w slots a e) 0) _
     (λ t. simp t (length-puts (λ _. v) (16 * w) a (e - a) ws)) (λ g. simp g)))
 
 module _ (w n : ℕ) (m : List ℕ) where

@@ -1,11 +1,11 @@
--- What a caller hears of each entry, and what the lent columns hold then. Assumes nothing.
+-- What a caller is answered of each entry, and what the lent columns hold then. Assumes nothing.
 use mathlib.Core.Path.{_≡_}
 use mathlib.Core.Bool.{Bool, true, cond}
 use mathlib.Core.List.{List, [], _∷_, _++_}
 use Prim.Native.Nat.{ℕ, _*_}
 use lib.Dec.{ltb, leb}
 use lib.ListN.{length, getD, replicate}
-use Rattle.paper.specs.Limits.{peopleOk, slotCountOk, nobody, Test, test, heardOf}
+use Rattle.paper.specs.Limits.{peopleOk, slotCountOk, nobody, Test, test, numberOf}
 use Rattle.paper.specs.Rows.{unless}
 use Rattle.paper.specs.Count.{all, fill, over}
 use Rattle.slotset.specs.declared.Changed.{Changed}
@@ -31,8 +31,8 @@ lentRow counts room P avail o D =
 -- ---- the recount, with units and without: 1, 2, 9, 10
 
 unfoldable pub recountRow : Bool → Bool → Plan → List ℕ → ℕ → List ℕ → List ℕ → Derived → List Test
-recountRow counts room P avail units firsts o D =
-    lentRow counts room P avail o D ++ (test 9 (unitsOk (P .slots) units firsts) ∷ recountTests P avail units firsts o D)
+recountRow counts room P avail units begins o D =
+    lentRow counts room P avail o D ++ (test 9 (unitsOk (P .slots) units begins) ∷ recountTests P avail units begins o D)
 
 unfoldable pub recountSlotsRow : Plan → List ℕ → List ℕ → Derived → List Test
 recountSlotsRow P avail o D = lentRow true true P avail o D ++ recountTests P avail 0 [] o D
@@ -49,9 +49,9 @@ pub record Outcome : Type 0 where
 unfoldable pub outcome : ℕ → List ℕ → Derived → List ℕ → List ℕ → Derived → List ℕ → Outcome
 outcome n o D x o′ D′ x′ = record { number = n; owners = unless n o o′; derived = unless n D D′; answers = unless n x x′ }
 
--- what was heard and what was left are those of the outcome
+-- what is answered and what is left are those of the outcome
 pub record Ended (y : Outcome) (n : ℕ) (o : List ℕ) (D : Derived) (x : List ℕ) : Type 0 where
-  pub heard : n ≡ y .number
+  pub said : n ≡ y .number
   pub owners : o ≡ y .owners
   pub derived : D ≡ y .derived
   pub answers : x ≡ y .answers
@@ -64,7 +64,7 @@ fromSlotsRow P avail o D =
     ++ (test 11 (all (P .slots) (knownAt (P .people) o)) ∷ test 12 (all (P .slots) (availableAt avail o)) ∷ [])
 
 unfoldable pub fromSlots : Plan → List ℕ → List ℕ → Derived → Outcome
-fromSlots P avail o D = outcome (heardOf (fromSlotsRow P avail o D)) o D [] o (afresh P o D) []
+fromSlots P avail o D = outcome (numberOf (fromSlotsRow P avail o D)) o D [] o (afresh P o D) []
 
 -- ---- an empty rota: 1, 2
 
@@ -76,7 +76,7 @@ emptyRow people slots o D =
 -- owners nobody, sets and minutes cleared
 unfoldable pub emptied : ℕ → ℕ → List ℕ → Derived → Outcome
 emptied people slots o D =
-    outcome (heardOf (emptyRow people slots o D)) o D [] (fill nobody 0 slots o)
+    outcome (numberOf (emptyRow people slots o D)) o D [] (fill nobody 0 slots o)
     (derived (setsFrom people slots (nobodies slots) (D .sets)) (over (λ _. 0) people (D .minutes))) []
 
 -- ---- readers: the number of the refusal, or what was asked
@@ -88,14 +88,14 @@ ownerRow people slots o k =
     ∷ test 11 (knownBy people (getD o k 0)) ∷ []
 
 unfoldable pub ownerIs : ℕ → ℕ → List ℕ → ℕ → Number
-ownerIs people slots o k = numberAs (heardOf (ownerRow people slots o k)) (getD o k 0)
+ownerIs people slots o k = numberAs (numberOf (ownerRow people slots o k)) (getD o k 0)
 
 -- a person's minutes: 1, 2, 11
 unfoldable pub minutesRow : ℕ → List ℕ → ℕ → List Test
 minutesRow people m p = test 1 (peopleOk people) ∷ test 2 (leb people (length m)) ∷ test 11 (ltb p people) ∷ []
 
 unfoldable pub minutesIs : ℕ → List ℕ → ℕ → Minutes
-minutesIs people m p = minutesAs (heardOf (minutesRow people m p)) (getD m p 0)
+minutesIs people m p = minutesAs (numberOf (minutesRow people m p)) (getD m p 0)
 
 -- how many slots nobody owns: 1, 2, 11 for an unknown owner
 unfoldable pub unassignedRow : ℕ → ℕ → List ℕ → List Test
@@ -103,7 +103,7 @@ unassignedRow people slots o =
     test 1 (peopleOk people) ∷ test 1 (slotCountOk slots) ∷ test 2 (leb slots (length o)) ∷ test 11 (all slots (knownAt people o)) ∷ []
 
 unfoldable pub unassignedIs : ℕ → ℕ → List ℕ → Number
-unassignedIs people slots o = numberAs (heardOf (unassignedRow people slots o)) (unassigned slots o)
+unassignedIs people slots o = numberAs (numberOf (unassignedRow people slots o)) (unassigned slots o)
 
 -- the minutes that nobody owns: 1, 2, 9, 11
 unfoldable pub uncoveredRow : Plan → List ℕ → List Test
@@ -113,7 +113,7 @@ uncoveredRow P o =
     ∷ test 11 (all (P .slots) (knownAt (P .people) o)) ∷ []
 
 unfoldable pub uncoveredIs : Plan → List ℕ → Minutes
-uncoveredIs P o = minutesAs (heardOf (uncoveredRow P o)) (uncovered P o)
+uncoveredIs P o = minutesAs (numberOf (uncoveredRow P o)) (uncovered P o)
 
 -- a person's slots, as a set by value: 1, 2, 11; refused, the empty set of no slots
 unfoldable pub slotsOfIs : ℕ → ℕ → List ℕ → ℕ → Changed

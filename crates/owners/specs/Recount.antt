@@ -30,8 +30,8 @@ availableAt avail o k = availableFor avail (getD o k 0) k
 
 -- each slot of unit u has the owner of its first slot
 unfoldable pub evenAt : ℕ → ℕ → List ℕ → List ℕ → ℕ → Bool
-evenAt slots units firsts o u =
-    allIn (unitStart firsts u) (unitEnd slots units firsts u) (λ k. eqb (getD o k 0) (getD o (unitStart firsts u) 0))
+evenAt slots units begins o u =
+    allIn (unitStart begins u) (unitEnd slots units begins u) (λ k. eqb (getD o k 0) (getD o (unitStart begins u) 0))
 
 -- slot k of person p's set is as worked out; so is each of its slots
 unfoldable pub setSlotAt : List ℕ → List ℕ → ℕ → ℕ → Bool
@@ -45,18 +45,18 @@ minutesOkAt P o m p = eqb (getD m p 0) (worked P o p)
 
 -- 10 by its parts, each with the lowest place at fault: slot, slot, unit, person and that person's slot, person
 unfoldable pub recountTests : Plan → List ℕ → ℕ → List ℕ → List ℕ → Derived → List Test
-recountTests P avail units firsts o D =
+recountTests P avail units begins o D =
     let p = firstFail (P .people) (setAt (P .slots) o (D .sets)) in
     testIn 10 (all (P .slots) (knownAt (P .people) o)) 1 (firstFail (P .slots) (knownAt (P .people) o)) 0
     ∷ testIn 10 (all (P .slots) (availableAt avail o)) 2 (firstFail (P .slots) (availableAt avail o)) 0
-    ∷ testIn 10 (all units (evenAt (P .slots) units firsts o)) 3 (firstFail units (evenAt (P .slots) units firsts o)) 0
+    ∷ testIn 10 (all units (evenAt (P .slots) units begins o)) 3 (firstFail units (evenAt (P .slots) units begins o)) 0
     ∷ testIn 10 (all (P .people) (setAt (P .slots) o (D .sets))) 4 p (firstFail (P .slots) (setSlotAt o (D .sets) p))
     ∷ testIn 10 (all (P .people) (minutesOkAt P o (D .minutes))) 5 (firstFail (P .people) (minutesOkAt P o (D .minutes))) 0
     ∷ []
 
 -- the recount passes
 unfoldable pub recounts : Plan → List ℕ → ℕ → List ℕ → List ℕ → Derived → Bool
-recounts P avail units firsts o D =
+recounts P avail units begins o D =
     all (P .slots) (knownAt (P .people) o) && (all (P .slots) (availableAt avail o)
-    && (all units (evenAt (P .slots) units firsts o)
+    && (all units (evenAt (P .slots) units begins o)
     && (all (P .people) (setAt (P .slots) o (D .sets)) && all (P .people) (minutesOkAt P o (D .minutes)))))

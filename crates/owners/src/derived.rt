@@ -10,13 +10,13 @@ ghost use Rattle.owners.specs.Derived.{plan, derived, afresh, setFor, le
 ghost use Rattle.owners.specs.Inside.{PlanSound, OneOwner, Makes};
 
 // Slots a up to e of an owner's set are put in, or out where `want` is false; nobody has no set.
-fn put_row(sets: &mut [u64], people: usize, slots: usize, owner: u8, a: usize, e: usize, want: bool)
+fn put_row(people: usize, slots: usize, sets: &mut [u64], owner: u8, a: usize, e: usize, want: bool)
     ensures { λ _. ⌜ now (sets .exit) ≡ setFor (valueOf want) people slots owner a e (now (sets .entry)) ⌝ }
 {
     if owner == paper::NOBODY {
         return;
     }
-    put_stretch(sets, people, owner as usize, slots, a, e, want);
+    put_stretch(people, slots, sets, owner as usize, a, e, want);
 }
 
 // n less than m, at least 0.
@@ -154,8 +154,8 @@ fn carry(
         .entry))) a e old to (derived (now (sets .entry)) (now (minutes .entry))) ⌝ }
 {
     let n = stretch_minutes(starts, ends, a, e);
-    put_row(sets, people, slots, old, a, e, false);
-    put_row(sets, people, slots, to, a, e, true);
+    put_row(people, slots, sets, old, a, e, false);
+    put_row(people, slots, sets, to, a, e, true);
     take_from(minutes, old, n);
     give_to(minutes, to, n);
 }
@@ -184,7 +184,7 @@ pub fn hand_over(
 }
 
 // One past the last slot of the stretch that starts at slot i and has one owner.
-fn stretch_end(owners: &[u8], slots: usize, i: usize) -> usize
+fn stretch_end(slots: usize, owners: &[u8], i: usize) -> usize
     requires { ⌜ (i < slots) × (slots ≤ length (now owners)) ⌝ }
     ensures { λ r. ⌜ OneOwner (now (owners .entry)) slots i r ⌝ }
 {
@@ -207,7 +207,7 @@ pub(crate) fn clear_sets(people: usize, slots: usize, sets: &mut [u64])
 {
     let mut p: usize = 0;
     while p < people {
-        put_stretch(sets, people, p, slots, 0, slots, false);
+        put_stretch(people, slots, sets, p, 0, slots, false);
         p += 1;
     }
 }
@@ -243,7 +243,7 @@ pub(crate) fn rebuild(
     clear_minutes(people, minutes);
     let mut i: usize = 0;
     while i < slots {
-        let e = stretch_end(owners, slots, i);
+        let e = stretch_end(slots, owners, i);
         carry(
             people,
             slots,

@@ -1,7 +1,7 @@
 // The entries that make, empty and read a rota.
-use crate::checks::heard_available;
-use crate::checks::heard_known;
-use crate::checks::lent_no;
+use crate::checks::check_available;
+use crate::checks::check_known;
+use crate::checks::lent_refusal;
 use crate::derived::clear_minutes;
 use crate::derived::clear_sets;
 use crate::derived::fill_owners;
@@ -11,7 +11,7 @@ use crate::scan::known_by;
 use crate::scan::minutes_at;
 use crate::scan::owner_at;
 use crate::scan::worked_by;
-use paper::Fault;
+use paper::Refusal;
 use slots::Minutes;
 use slotset::Changed;
 use slotset::Number;
@@ -20,13 +20,13 @@ ghost use mathlib.Core.Path.{_≡_};
 ghost use mathlib.Core.List.{[]};
 ghost use lib.ListN.{getD};
 ghost use Rattle.paper.specs.Limits.{test};
-ghost use Rattle.paper.specs.Rows.{firstOf, next};
+ghost use Rattle.paper.specs.Rows.{refusalOf, next};
 ghost use Rattle.owners.specs.Derived.{plan, derived, knownBy};
 ghost use Rattle.owners.specs.Entries.{fromSlotsRow, fromSlots, emptyRow, emptied, Ended, ownerRow, ownerIs, minutesRow, minutesIs};
 ghost use Rattle.owners.specs.Entries.{unassignedRow, unassignedIs, uncoveredRow, uncoveredIs, slotsOfIs};
 
 // What stands against making sets and minutes from owners: 1, 2, 9, 11 or 12.
-fn from_slots_no(
+fn from_slots_refusal(
     people: usize,
     slots: usize,
     starts: &[u32],
@@ -35,11 +35,11 @@ fn from_slots_no(
     owners: &[u8],
     sets: &[u64],
     minutes: &[u64],
-) -> Fault
-    ensures { λ r. ⌜ r ≡ firstOf (fromSlotsRow (plan people slots (now (starts .entry)) (now (ends .entry))) (now (avail .entry))
+) -> Refusal
+    ensures { λ r. ⌜ r ≡ refusalOf (fromSlotsRow (plan people slots (now (starts .entry)) (now (ends .entry))) (now (avail .entry))
         (now (owners .entry)) (derived (now (sets .entry)) (now (minutes .entry)))) ⌝ }
 {
-    let f = lent_no(
+    let f = lent_refusal(
         true,
         true,
         people,
@@ -51,8 +51,8 @@ fn from_slots_no(
         sets,
         minutes,
     );
-    let f = heard_known(f, people, slots, owners);
-    heard_available(f, slots, avail, owners)
+    let f = check_known(f, people, slots, owners);
+    check_available(f, slots, avail, owners)
 }
 
 // Sets and minutes worked out from owners. Refusals 1, 2, 9, 11 (unknown owner), 12 (owner not available).
@@ -70,7 +70,7 @@ pub fn from_slots(
         (owners .entry)) (derived (now (sets .entry)) (now (minutes .entry)))) r (now (owners .entry)) (derived (now (sets .exit))
         (now (minutes .exit))) [] ⌝ }
 {
-    let n = from_slots_no(people, slots, starts, ends, avail, owners, sets, minutes).number;
+    let n = from_slots_refusal(people, slots, starts, ends, avail, owners, sets, minutes).number;
     if n == 0 {
         rebuild(people, slots, starts, ends, owners, sets, minutes);
         return 0;
@@ -79,14 +79,20 @@ pub fn from_slots(
 }
 
 // What stands against an empty rota: 1 or 2.
-fn empty_no(people: usize, slots: usize, owners: &[u8], sets: &[u64], minutes: &[u64]) -> Fault
-    ensures { λ r. ⌜ r ≡ firstOf (emptyRow people slots (now (owners .entry)) (derived (now (sets .entry)) (now (minutes .entry)))) ⌝ }
+fn empty_refusal(
+    people: usize,
+    slots: usize,
+    owners: &[u8],
+    sets: &[u64],
+    minutes: &[u64],
+) -> Refusal
+    ensures { λ r. ⌜ r ≡ refusalOf (emptyRow people slots (now (owners .entry)) (derived (now (sets .entry)) (now (minutes .entry)))) ⌝ }
 {
-    let f = paper::heard_people(paper::nothing(), people);
-    let f = paper::heard_slots(f, slots);
-    let f = paper::heard(f, slots <= owners.len(), 2);
-    let f = paper::heard_words(f, sets, people);
-    paper::heard(f, people <= minutes.len(), 2)
+    let f = paper::check_people(paper::accepted(), people);
+    let f = paper::check_slots(f, slots);
+    let f = paper::check(f, slots <= owners.len(), 2);
+    let f = paper::check_words(f, people, sets);
+    paper::check(f, people <= minutes.len(), 2)
 }
 
 // An empty rota: nobody owns a slot, sets and minutes are cleared. Refusals 1, 2.
@@ -100,7 +106,7 @@ pub fn empty(
     ensures { λ r. ⌜ Ended (emptied people slots (now (owners .entry)) (derived (now (sets .entry)) (now (minutes .entry)))) r (now
         (owners .exit)) (derived (now (sets .exit)) (now (minutes .exit))) [] ⌝ }
 {
-    let n = empty_no(people, slots, owners, sets, minutes).number;
+    let n = empty_refusal(people, slots, owners, sets, minutes).number;
     if n == 0 {
         fill_owners(owners, 0, slots, paper::NOBODY);
         clear_sets(people, slots, sets);
@@ -111,28 +117,28 @@ pub fn empty(
 }
 
 // What stands against telling a slot's owner: 1, 2 or 11.
-fn owner_no(people: usize, slots: usize, owners: &[u8], slot: usize) -> Fault
-    ensures { λ r. ⌜ r ≡ firstOf (ownerRow people slots (now (owners .entry)) slot) ⌝ }
+fn owner_refusal(people: usize, slots: usize, owners: &[u8], slot: usize) -> Refusal
+    ensures { λ r. ⌜ r ≡ refusalOf (ownerRow people slots (now (owners .entry)) slot) ⌝ }
 {
-    let f = paper::heard_people(paper::nothing(), people);
-    let f = paper::heard_slots(f, slots);
-    let f = paper::heard(f, slots <= owners.len(), 2);
-    let f = paper::heard(f, slot < slots, 11);
-    heard_owner(f, people, owners, slot)
+    let f = paper::check_people(paper::accepted(), people);
+    let f = paper::check_slots(f, slots);
+    let f = paper::check(f, slots <= owners.len(), 2);
+    let f = paper::check(f, slot < slots, 11);
+    check_owner(f, people, owners, slot)
 }
 
 // Rule 11 of a slot's owner.
-fn heard_owner(before: Fault, people: usize, owners: &[u8], slot: usize) -> Fault
+fn check_owner(before: Refusal, people: usize, owners: &[u8], slot: usize) -> Refusal
     ensures { λ r. ⌜ r ≡ next before (test 11 (knownBy people (getD (now (owners .entry)) slot 0))) ⌝ }
 {
-    paper::heard(before, known_by(people, owner_at(owners, slot)), 11)
+    paper::check(before, known_by(people, owner_at(owners, slot)), 11)
 }
 
 // The owner of a slot, 255 for nobody. Refusals 1, 2, 11.
 pub fn owner_of_slot(people: usize, slots: usize, owners: &[u8], slot: usize) -> Number
     ensures { λ r. ⌜ r ≡ ownerIs people slots (now (owners .entry)) slot ⌝ }
 {
-    let n = owner_no(people, slots, owners, slot).number;
+    let n = owner_refusal(people, slots, owners, slot).number;
     if n == 0 {
         return Number::Is(owner_at(owners, slot) as usize);
     }
@@ -140,21 +146,21 @@ pub fn owner_of_slot(people: usize, slots: usize, owners: &[u8], slot: usize) ->
 }
 
 // What stands against telling a person's minutes: 1, 2 or 11.
-fn minutes_no(people: usize, minutes: &[u64], person: usize) -> Fault
-    ensures { λ r. ⌜ r ≡ firstOf (minutesRow people (now (minutes .entry)) person) ⌝ }
+fn minutes_refusal(people: usize, minutes: &[u64], person: usize) -> Refusal
+    ensures { λ r. ⌜ r ≡ refusalOf (minutesRow people (now (minutes .entry)) person) ⌝ }
 {
-    let f = paper::heard_people(paper::nothing(), people);
-    let f = paper::heard(f, people <= minutes.len(), 2);
-    paper::heard(f, person < people, 11)
+    let f = paper::check_people(paper::accepted(), people);
+    let f = paper::check(f, people <= minutes.len(), 2);
+    paper::check(f, person < people, 11)
 }
 
 // A person's minutes. Refusals 1, 2, 11.
 pub fn minutes_of(people: usize, minutes: &[u64], person: usize) -> Minutes
     ensures { λ r. ⌜ r ≡ minutesIs people (now (minutes .entry)) person ⌝ }
 {
-    let n = minutes_no(people, minutes, person).number;
+    let n = minutes_refusal(people, minutes, person).number;
     if n == 0 {
-        return Minutes::Are(minutes_at(minutes, person));
+        return Minutes::Is(minutes_at(minutes, person));
     }
     Minutes::Refused(n)
 }
@@ -164,7 +170,7 @@ pub fn slots_of(people: usize, slots: usize, sets: &[u64], person: usize) -> Cha
     ensures { λ r. ⌜ r ≡ slotsOfIs people slots (now (sets .entry)) person ⌝ }
 {
     if paper::slot_count_ok(slots) {
-        return slotset::row::load(sets, people, person, slots);
+        return slotset::row::load(people, slots, sets, person);
     }
     let none = [0u64; 16];
     Changed {
@@ -177,36 +183,42 @@ pub fn slots_of(people: usize, slots: usize, sets: &[u64], person: usize) -> Cha
 }
 
 // What stands against counting the slots that nobody owns: 1, 2 or 11.
-fn unassigned_no(people: usize, slots: usize, owners: &[u8]) -> Fault
-    ensures { λ r. ⌜ r ≡ firstOf (unassignedRow people slots (now (owners .entry))) ⌝ }
+fn unassigned_refusal(people: usize, slots: usize, owners: &[u8]) -> Refusal
+    ensures { λ r. ⌜ r ≡ refusalOf (unassignedRow people slots (now (owners .entry))) ⌝ }
 {
-    let f = paper::heard_people(paper::nothing(), people);
-    let f = paper::heard_slots(f, slots);
-    let f = paper::heard(f, slots <= owners.len(), 2);
-    heard_known(f, people, slots, owners)
+    let f = paper::check_people(paper::accepted(), people);
+    let f = paper::check_slots(f, slots);
+    let f = paper::check(f, slots <= owners.len(), 2);
+    check_known(f, people, slots, owners)
 }
 
 // How many slots nobody owns. Refusals 1, 2, 11 (unknown owner).
 pub fn unassigned_count(people: usize, slots: usize, owners: &[u8]) -> Number
     ensures { λ r. ⌜ r ≡ unassignedIs people slots (now (owners .entry)) ⌝ }
 {
-    let n = unassigned_no(people, slots, owners).number;
+    let n = unassigned_refusal(people, slots, owners).number;
     if n == 0 {
-        return Number::Is(count_nobody(owners, slots));
+        return Number::Is(count_nobody(slots, owners));
     }
     Number::Refused(n)
 }
 
 // What stands against telling the minutes that nobody owns: 1, 2, 9 or 11.
-fn uncovered_no(people: usize, slots: usize, starts: &[u32], ends: &[u32], owners: &[u8]) -> Fault
-    ensures { λ r. ⌜ r ≡ firstOf (uncoveredRow (plan people slots (now (starts .entry)) (now (ends .entry))) (now (owners .entry))) ⌝ }
+fn uncovered_refusal(
+    people: usize,
+    slots: usize,
+    starts: &[u32],
+    ends: &[u32],
+    owners: &[u8],
+) -> Refusal
+    ensures { λ r. ⌜ r ≡ refusalOf (uncoveredRow (plan people slots (now (starts .entry)) (now (ends .entry))) (now (owners .entry))) ⌝ }
 {
-    let f = paper::heard_people(paper::nothing(), people);
-    let f = paper::heard_slots(f, slots);
-    let f = slots::heard_room(f, slots, starts, ends);
-    let f = paper::heard(f, slots <= owners.len(), 2);
-    let f = slots::heard_order(f, slots, starts, ends, 9);
-    heard_known(f, people, slots, owners)
+    let f = paper::check_people(paper::accepted(), people);
+    let f = paper::check_slots(f, slots);
+    let f = slots::check_room(f, slots, starts, ends);
+    let f = paper::check(f, slots <= owners.len(), 2);
+    let f = slots::check_order(f, slots, starts, ends, 9);
+    check_known(f, people, slots, owners)
 }
 
 // The minutes that nobody owns. Refusals 1, 2, 9, 11 (unknown owner).
@@ -219,9 +231,9 @@ pub fn uncovered_minutes(
 ) -> Minutes
     ensures { λ r. ⌜ r ≡ uncoveredIs (plan people slots (now (starts .entry)) (now (ends .entry))) (now (owners .entry)) ⌝ }
 {
-    let n = uncovered_no(people, slots, starts, ends, owners).number;
+    let n = uncovered_refusal(people, slots, starts, ends, owners).number;
     if n == 0 {
-        return Minutes::Are(worked_by(people, slots, starts, ends, owners, 255));
+        return Minutes::Is(worked_by(people, slots, starts, ends, owners, 255));
     }
     Minutes::Refused(n)
 }

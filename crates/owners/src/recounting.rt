@@ -1,5 +1,5 @@
-// The recount: five scans in the paper's order, each answering its first fault with its place.
-use crate::checks::lent_no;
+// The recount: five scans in the paper's order, each with the place of its first refusal.
+use crate::checks::lent_refusal;
 use crate::derived::rebuild;
 use crate::scan::first_unavailable;
 use crate::scan::first_uneven;
@@ -7,14 +7,14 @@ use crate::scan::first_unknown;
 use crate::scan::first_wrong_minutes;
 use crate::scan::first_wrong_set;
 use crate::scan::first_wrong_slot;
-use paper::Fault;
+use paper::Refusal;
 ghost use mathlib.Core.Path.{_≡_};
 ghost use mathlib.Core.Bool.{true, _&&_};
 ghost use Prim.Native.Nat.{_≤_};
 ghost use lib.Dec.{eqb, leb};
 ghost use lib.ListN.{length, getD};
-ghost use Rattle.paper.specs.Limits.{heardOf};
-ghost use Rattle.paper.specs.Rows.{firstOf};
+ghost use Rattle.paper.specs.Limits.{numberOf};
+ghost use Rattle.paper.specs.Rows.{refusalOf};
 ghost use Rattle.paper.specs.Count.{all, over};
 ghost use Rattle.owners.specs.Derived.{plan, derived};
 ghost use Rattle.owners.specs.Recount.{setAt, minutesOkAt, recountTests};
@@ -66,7 +66,7 @@ fn derived_right(
 {
     let mut s = [0u64; 512];
     let mut m = [0u64; 32];
-    let n = 16 * people;
+    let n = paper::SET_WORDS * people;
     copy_words(&mut s, sets, n);
     copy_words(&mut m, minutes, people);
     rebuild(people, slots, starts, ends, owners, &mut s, &mut m);
@@ -76,64 +76,64 @@ fn derived_right(
     false
 }
 
-// The recount's fault of a part of what was lent, at a place.
-fn fault_in(part: u8, place: usize, place2: usize) -> Fault
-    ensures { λ r. ⌜ r ≡ record { number = 10; part = part; place = place; place2 = place2 } ⌝ }
+// The recount's refusal of a part of what was lent, at a place.
+fn refusal_in(part: u8, place: usize, second: usize) -> Refusal
+    ensures { λ r. ⌜ r ≡ record { number = 10; part = part; place = place; second = second } ⌝ }
 {
-    Fault {
+    Refusal {
         number: 10,
         part,
         place,
-        place2,
+        second,
     }
 }
 
-// The first fault, part by part in the paper's order: unknown owner 1, not available 2, uneven unit 3, wrong set 4, wrong minutes 5.
-fn fault(
+// The first refusal, part by part in the paper's order: unknown owner 1, not available 2, uneven unit 3, wrong set 4, wrong minutes 5.
+fn recount_refusal(
     people: usize,
     slots: usize,
     units: usize,
     starts: &[u32],
     ends: &[u32],
     avail: &[u64],
-    firsts: &[u16],
+    begins: &[u16],
     owners: &[u8],
     sets: &[u64],
     minutes: &[u64],
-) -> Fault
+) -> Refusal
     requires { ⌜ PlanSound (plan people slots (now starts) (now ends)) ⌝ }
     requires { ⌜ RotaRoom people slots (now avail) (now owners) (derived (now sets) (now minutes)) ⌝ }
-    ensures { λ r. ⌜ r ≡ firstOf (recountTests (plan people slots (now (starts .entry)) (now (ends .entry))) (now (avail .entry))
-        units (now (firsts .entry)) (now (owners .entry)) (derived (now (sets .entry)) (now (minutes .entry)))) ⌝ }
+    ensures { λ r. ⌜ r ≡ refusalOf (recountTests (plan people slots (now (starts .entry)) (now (ends .entry))) (now (avail .entry))
+        units (now (begins .entry)) (now (owners .entry)) (derived (now (sets .entry)) (now (minutes .entry)))) ⌝ }
 {
     let unknown = first_unknown(people, slots, owners);
     if unknown < slots {
-        return fault_in(1, unknown, 0);
+        return refusal_in(1, unknown, 0);
     }
     let unavailable = first_unavailable(slots, avail, owners);
     if unavailable < slots {
-        return fault_in(2, unavailable, 0);
+        return refusal_in(2, unavailable, 0);
     }
-    let uneven = first_uneven(slots, units, firsts, owners);
+    let uneven = first_uneven(slots, units, begins, owners);
     if uneven < units {
-        return fault_in(3, uneven, 0);
+        return refusal_in(3, uneven, 0);
     }
     if derived_right(people, slots, starts, ends, owners, sets, minutes) {
-        return paper::nothing();
+        return paper::accepted();
     }
     let person = first_wrong_set(people, slots, owners, sets);
     if person < people {
         let slot = first_wrong_slot(slots, owners, sets, person);
-        return fault_in(4, person, slot);
+        return refusal_in(4, person, slot);
     }
-    fault_in(
+    refusal_in(
         5,
         first_wrong_minutes(people, slots, starts, ends, owners, minutes),
         0,
     )
 }
 
-// What the recount hears, with part and place: 1, 2, 9 or 10. `counts` and `room` are the caller's own tests of rules 1 and 2.
+// What the recount refuses, with part and place: 1, 2, 9 or 10. `counts` and `room` are the caller's own tests of rules 1 and 2.
 pub fn recounted(
     counts: bool,
     room: bool,
@@ -143,15 +143,15 @@ pub fn recounted(
     starts: &[u32],
     ends: &[u32],
     avail: &[u64],
-    firsts: &[u16],
+    begins: &[u16],
     owners: &[u8],
     sets: &[u64],
     minutes: &[u64],
-) -> Fault
-    ensures { λ r. ⌜ r ≡ firstOf (recountRow counts room (plan people slots (now (starts .entry)) (now (ends .entry))) (now (avail
-        .entry)) units (now (firsts .entry)) (now (owners .entry)) (derived (now (sets .entry)) (now (minutes .entry)))) ⌝ }
+) -> Refusal
+    ensures { λ r. ⌜ r ≡ refusalOf (recountRow counts room (plan people slots (now (starts .entry)) (now (ends .entry))) (now (avail
+        .entry)) units (now (begins .entry)) (now (owners .entry)) (derived (now (sets .entry)) (now (minutes .entry)))) ⌝ }
 {
-    let f = lent_no(
+    let f = lent_refusal(
         counts,
         room,
         people,
@@ -163,16 +163,16 @@ pub fn recounted(
         sets,
         minutes,
     );
-    let g = units::heard_units(f, slots, units, firsts);
+    let g = units::check_units(f, slots, units, begins);
     if g.number == 0 {
-        return fault(
+        return recount_refusal(
             people,
             slots,
             units,
             starts,
             ends,
             avail,
-            firsts,
+            begins,
             owners,
             sets,
             minutes,
@@ -191,11 +191,11 @@ pub fn recounted_slots(
     owners: &[u8],
     sets: &[u64],
     minutes: &[u64],
-) -> Fault
-    ensures { λ r. ⌜ r ≡ firstOf (recountSlotsRow (plan people slots (now (starts .entry)) (now (ends .entry))) (now (avail .entry))
+) -> Refusal
+    ensures { λ r. ⌜ r ≡ refusalOf (recountSlotsRow (plan people slots (now (starts .entry)) (now (ends .entry))) (now (avail .entry))
         (now (owners .entry)) (derived (now (sets .entry)) (now (minutes .entry)))) ⌝ }
 {
-    let f = lent_no(
+    let f = lent_refusal(
         true,
         true,
         people,
@@ -209,7 +209,7 @@ pub fn recounted_slots(
     );
     if f.number == 0 {
         let none = [0u16; 1];
-        return fault(
+        return recount_refusal(
             people,
             slots,
             0,
@@ -233,25 +233,25 @@ pub fn recount(
     starts: &[u32],
     ends: &[u32],
     avail: &[u64],
-    firsts: &[u16],
+    begins: &[u16],
     owners: &[u8],
     sets: &[u64],
     minutes: &[u64],
 ) -> u8
-    ensures { λ r. ⌜ r ≡ heardOf (recountRow true (leb units (length (now (firsts .entry)))) (plan people slots (now (starts .entry))
-        (now (ends .entry))) (now (avail .entry)) units (now (firsts .entry)) (now (owners .entry)) (derived (now (sets .entry))
+    ensures { λ r. ⌜ r ≡ numberOf (recountRow true (leb units (length (now (begins .entry)))) (plan people slots (now (starts .entry))
+        (now (ends .entry))) (now (avail .entry)) units (now (begins .entry)) (now (owners .entry)) (derived (now (sets .entry))
         (now (minutes .entry)))) ⌝ }
 {
     recounted(
         true,
-        units <= firsts.len(),
+        units <= begins.len(),
         people,
         slots,
         units,
         starts,
         ends,
         avail,
-        firsts,
+        begins,
         owners,
         sets,
         minutes,
@@ -269,7 +269,7 @@ pub fn recount_slots(
     sets: &[u64],
     minutes: &[u64],
 ) -> u8
-    ensures { λ r. ⌜ r ≡ heardOf (recountSlotsRow (plan people slots (now (starts .entry)) (now (ends .entry))) (now (avail .entry))
+    ensures { λ r. ⌜ r ≡ numberOf (recountSlotsRow (plan people slots (now (starts .entry)) (now (ends .entry))) (now (avail .entry))
         (now (owners .entry)) (derived (now (sets .entry)) (now (minutes .entry)))) ⌝ }
 {
     recounted_slots(people, slots, starts, ends, avail, owners, sets, minutes).number

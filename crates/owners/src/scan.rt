@@ -77,11 +77,11 @@ pub fn first_unavailable(slots: usize, avail: &[u64], owners: &[u8]) -> usize
 }
 
 // Whether each slot of a unit has the owner of its first slot.
-fn is_even(slots: usize, units: usize, firsts: &[u16], owners: &[u8], unit: usize) -> bool
-    ensures { λ r. ⌜ r ≡ evenAt slots units (now (firsts .entry)) (now (owners .entry)) unit ⌝ }
+fn is_even(slots: usize, units: usize, begins: &[u16], owners: &[u8], unit: usize) -> bool
+    ensures { λ r. ⌜ r ≡ evenAt slots units (now (begins .entry)) (now (owners .entry)) unit ⌝ }
 {
-    let a = units::start_of(firsts, unit);
-    let e = units::unit_end(slots, units, firsts, unit);
+    let a = units::start_of(begins, unit);
+    let e = units::unit_end(slots, units, begins, unit);
     let owner = owner_at(owners, a);
     let mut k = a;
     while k < e {
@@ -95,12 +95,12 @@ fn is_even(slots: usize, units: usize, firsts: &[u16], owners: &[u8], unit: usiz
 }
 
 // The first unit with two owners, or the unit count.
-pub fn first_uneven(slots: usize, units: usize, firsts: &[u16], owners: &[u8]) -> usize
-    ensures { λ r. ⌜ r ≡ firstFail units (evenAt slots units (now (firsts .entry)) (now (owners .entry))) ⌝ }
+pub fn first_uneven(slots: usize, units: usize, begins: &[u16], owners: &[u8]) -> usize
+    ensures { λ r. ⌜ r ≡ firstFail units (evenAt slots units (now (begins .entry)) (now (owners .entry))) ⌝ }
 {
     let mut u: usize = 0;
     while u < units {
-        if is_even(slots, units, firsts, owners, u) {
+        if is_even(slots, units, begins, owners, u) {
             u += 1;
         } else {
             return u;
@@ -210,7 +210,7 @@ pub(crate) fn first_wrong_minutes(
 }
 
 // How many of the slots nobody owns.
-pub(crate) fn count_nobody(owners: &[u8], slots: usize) -> usize
+pub(crate) fn count_nobody(slots: usize, owners: &[u8]) -> usize
     ensures { λ r. ⌜ r ≡ unassigned slots (now (owners .entry)) ⌝ }
 {
     let mut n: usize = 0;

@@ -7,7 +7,7 @@ use native.Mathlib.Nat.{le-of-suc-le-suc, eq-or-lt-of-le}
 use native.Mathlib.Omega.{arith}
 use borrow.Author.Tests.{leb-true, eqb-true}
 use lib.Dec.{leb, eqb}
-use Rattle.paper.specs.Limits.{peopleOk, slotCountOk, orElse}
+use Rattle.paper.specs.Limits.{peopleOk, slotCountOk}
 
 -- by cases on a test
 pub by-test {ℓ} : (b : Bool) (X : Type ℓ) → (b ≡ true → X) → (b ≡ false → X) → X
@@ -20,10 +20,11 @@ by-cond true x y X f g = f refl
 by-cond false x y X f g = g refl
 
 -- an answer that is made by its number, 0 for none, has that number
-pub number-of-made : {A : Type 0} (num : A → ℕ) (n : ℕ) (told ref : A) → num told ≡ 0 → num ref ≡ n → num (cond (eqb n 0) told ref) ≡ n
-number-of-made {A} num n told ref p q =
-    by-test (eqb n 0) _ (λ t. ap (λ (b : Bool). num (cond b told ref)) t ∙ p ∙ sym (eqb-true n 0 t))
-    (λ f. ap (λ (b : Bool). num (cond b told ref)) f ∙ q)
+pub number-of-made : {A : Type 0} (num : A → ℕ) (n : ℕ) (answered ref : A) → num answered ≡ 0 → num ref ≡ n → num
+    (cond (eqb n 0) answered ref) ≡ n
+number-of-made {A} num n answered ref p q =
+    by-test (eqb n 0) _ (λ t. ap (λ (b : Bool). num (cond b answered ref)) t ∙ p ∙ sym (eqb-true n 0 t))
+    (λ f. ap (λ (b : Bool). num (cond b answered ref)) f ∙ q)
 
 -- of two numbers one is below the other, or not
 pub lt-or-ge : (a b : ℕ) → (a < b) ⊎ (b ≤ a)
@@ -107,13 +108,6 @@ pub same-test : (a b : Bool) → (a ≡ true → b ≡ true) → (b ≡ true →
 same-test true b f g = sym (f refl)
 same-test false true f g = g refl
 same-test false false f g = refl
-
--- one test of a chain of refusals: where it holds, what comes after it is heard; where it fails, its number
-pub passes : (b : Bool) (n next r : ℕ) → b ≡ true → r ≡ next → r ≡ orElse b n next
-passes b n next r t e = e ∙ sym (simp t)
-
-pub stops : (b : Bool) (n next : ℕ) → b ≡ false → n ≡ orElse b n next
-stops b n next f = sym (simp f)
 
 -- where a chain of refusals gives none, its first test holds and the rest gives none
 pub cond-zero : (b : Bool) (x y : ℕ) → cond b x (suc y) ≡ 0 → (b ≡ true) × (x ≡ 0)

@@ -10,11 +10,11 @@ use lib.IntN.{pos}
 use lib.ListN.{length, replicate, length-replicate}
 use Rattle.paper.specs.Bits.{bitOf}
 use Rattle.paper.specs.Count.{all, allIn, sum}
-use Rattle.paper.specs.Limits.{peopleOk, slotCountOk, countsOk, heardOf}
+use Rattle.paper.specs.Limits.{peopleOk, slotCountOk, countsOk, numberOf}
 use Rattle.paper.specs.Rows.{unless}
 use Rattle.slotset.specs.Slots.{slot, has}
 use Rattle.slotset.specs.Answers.{lengthRow, slotRow, stretchOk, stretchRow, setsRow, personRow, personStretchRow, sameSetsRow}
-use Rattle.slotset.specs.Answers.{toldAs, numberAs, changedAs, newOf, putOf, stretchOf, loadOf, numberNo}
+use Rattle.slotset.specs.Answers.{yesNoAs, numberAs, changedAs, newOf, putOf, stretchOf, loadOf, numberRefusal}
 use Rattle.runs.specs.Listed.{runsRow}
 use Rattle.slots.specs.Lent.{slotRoomOk, slotsOk, slotOkAt, slotOk, prevEnd, minutesAt, lentRow, slotMinutesRow, minutesAs, demandIs}
 use Rattle.slots.specs.Lent.{slotMinutesIs}
@@ -36,12 +36,13 @@ use Rattle.owners.specs.Derived.{knownBy, portion, worked, held}
 use Rattle.owners.specs.Recount.{knownAt, availableFor, availableAt, evenAt, setSlotAt, setAt, minutesOkAt, recountTests}
 use Rattle.owners.specs.Entries as state
 use Rattle.rota.specs.Entries as rota
-use Rattle.draws.specs.Columns.{kinds, ones, twos}
+use Rattle.rota.specs.Draws.{draws, firsts, seconds}
 use Rattle.promises.specs.Entries.{noOf, playOf, playDrawsOf}
 use Rattle.promises.specs.Marked.{apart}
 use Rattle.promises.specs.Accepts.{nothing, noDraw, EachAccepts}
 use Rattle.promises.proofs.Marked.{marked-cases}
 use Rattle.promises.proofs.Calls.{accepted-is}
+use Rattle.promises.proofs.Rota.{draws-alike}
 use Rattle.promises.proofs.TwoUnits.{accepted, apart-recounts}
 
 enough : (n : ℕ) → n ≤ length (replicate {A = ℕ} n 0)
@@ -54,12 +55,13 @@ no-draw-played : playOf noDraw .number ≡ 0
 no-draw-played = ap (λ (y : state.Outcome). y .number) (accepted-is noDraw no-draw-accepted)
 
 no-draws-played : playDrawsOf noDraw [] .number ≡ 0
-unfolding kinds ones twos
-no-draws-played = no-draw-played
+unfolding draws firsts seconds
+no-draws-played = ap (λ (y : state.Outcome). y .number) (draws-alike noDraw []) ∙ no-draw-played
 
 pub each-accepts : EachAccepts
-unfolding heardOf unless lengthRow slotRow stretchOk stretchRow setsRow personRow personStretchRow sameSetsRow runsRow changedAs newOf putOf
-    stretchOf loadOf toldAs numberAs minutesAs writtenAs spanAs peopleOk slotCountOk countsOk all allIn slotRoomOk slotsOk slotOkAt slotOk
+unfolding numberOf unless lengthRow slotRow stretchOk stretchRow setsRow personRow personStretchRow sameSetsRow runsRow
+    changedAs newOf putOf
+    stretchOf loadOf yesNoAs numberAs minutesAs writtenAs spanAs peopleOk slotCountOk countsOk all allIn slotRoomOk slotsOk slotOkAt slotOk
     prevEnd rangeCountOk rangeRoomOk rangesOk rangeOkAt rangeOk lentRow slotMinutesRow demandIs slotMinutesIs mergedRow mergedRanges
     availabilityRow
     freezeRow freezeOf availableRow isAvailable unitsOk startOk unitsRow unitSlotsRow unitOfSlotRow unitCountIs unitSlotsIs unitOfSlotIs
@@ -83,7 +85,7 @@ each-accepts = record {
   slot-minutes = refl;
   merged-ranges = refl;
   atomise =
-      ap (λ (x : Atoms). numberNo (x .answer))
+      ap (λ (x : Atoms). numberRefusal (x .answer))
       (marked-cases .case-4 (replicate 1024 0) (replicate 1024 0) (enough 1024) (enough 1024));
   availability = refl;
   freeze-before = λ instant. refl;

@@ -4,7 +4,7 @@ use mathlib.Core.Bool.{Bool, true, false, cond}
 use mathlib.Core.List.{List, map}
 use Prim.Native.Nat.{ℕ, _-_, _≤_, _<_}
 use borrow.Author.Tests.{le-leb, lt-leb}
-use Rattle.targets.specs.declared.Line.{Line}
+use Rattle.targets.specs.declared.Standing.{Standing}
 use Rattle.targets.specs.Passes.{some}
 use Rattle.targets.specs.Remainder.{totalOf}
 use Rattle.targets.specs.SecondEdition.{unpinned, unpin, takingPart, giveMinute, takeMinute, times, handedOut}
@@ -12,15 +12,15 @@ use Rattle.targets.proofs.Promises.{first-edition}
 use Rattle.targets.proofs.EditionPromises.{minute-given, minute-taken, second-edition, none-below, pinned-keeps, level-reached}
 use Rattle.promises.specs.EditionRules.{EditionsByRule}
 
-part-is : (ls : List Line) (b : Bool) → some unpinned ls ≡ b → takingPart ls ≡ cond b ls (map unpin ls)
+part-is : (ls : List Standing) (b : Bool) → some unpinned ls ≡ b → takingPart ls ≡ cond b ls (map unpin ls)
 unfolding takingPart
 part-is ls b e = ap (λ (x : Bool). cond x ls (map unpin ls)) e
 
-missing-is : (demand : ℕ) (ls : List Line) → totalOf ls ≤ demand → handedOut demand ls ≡ times (demand - totalOf ls) giveMinute ls
+missing-is : (demand : ℕ) (ls : List Standing) → totalOf ls ≤ demand → handedOut demand ls ≡ times (demand - totalOf ls) giveMinute ls
 unfolding handedOut
 missing-is demand ls h = rw (le-leb (totalOf ls) demand h)
 
-extra-is : (demand : ℕ) (ls : List Line) → demand < totalOf ls → handedOut demand ls ≡ times (totalOf ls - demand) takeMinute ls
+extra-is : (demand : ℕ) (ls : List Standing) → demand < totalOf ls → handedOut demand ls ≡ times (totalOf ls - demand) takeMinute ls
 unfolding handedOut
 extra-is demand ls h = rw (lt-leb (totalOf ls) demand h)
 

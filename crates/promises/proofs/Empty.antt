@@ -15,9 +15,9 @@ use Rattle.paper.proofs.Rows.{kept}
 use Rattle.paper.specs.Count.{all, allIn, sum, count, over, fill, among}
 use Rattle.slotset.specs.declared.Found.the-variants.{At, Nothing}
 use Rattle.slotset.specs.declared.Run.the-variants as run
-use Rattle.slotset.specs.declared.Told.the-variants.{Yes, No}
+use Rattle.slotset.specs.declared.YesNo.the-variants.{Yes, No}
 use Rattle.slotset.specs.declared.Number.the-variants as number
-use Rattle.paper.specs.Limits.{peopleOk, slotCountOk, heardOf}
+use Rattle.paper.specs.Limits.{peopleOk, slotCountOk, numberOf}
 use Rattle.paper.specs.Rows.{unless}
 use Rattle.slotset.specs.declared.SlotSet.{SlotSet}
 use Rattle.slotset.specs.Slots.{Bits, slot, withBit, putSlot, putSlots, has}
@@ -39,23 +39,23 @@ use Rattle.rota.specs.Plays.{step, ownersAfter, drawsOf}
 use Rattle.owners.specs.Derived.{Plan, Derived, knownBy, portion, worked, held, setsFrom, afresh}
 use Rattle.owners.specs.Recount.{knownAt, availableFor, availableAt, evenAt, setSlotAt, setAt, minutesOkAt, recounts}
 use Rattle.owners.specs.Entries as state
-use Rattle.slots.specs.Lent.{minutesNo}
+use Rattle.slots.specs.Lent.{minutesRefusal}
 use Rattle.owners.proofs.Entered.{recount-says}
 use Rattle.promises.specs.Entries.{Call, Component, built, noOf, afreshIn, ownersIn}
 use Rattle.promises.specs.Marked.{MarkedCases, inWords, Owned, apart, Spare, twoUnits}
-use Rattle.slotset.specs.Answers.{toldNo, numberNo}
-use Rattle.promises.specs.SetRefusals.{foundNo, runNo}
+use Rattle.slotset.specs.Answers.{yesNoRefusal, numberRefusal}
+use Rattle.promises.specs.SetRefusals.{foundRefusal, runRefusal}
 use Rattle.promises.specs.Rota.{EndsAfresh, FrozenKeep, OwnersAvailable, CoveredStays, AddsUp, SizesRecount, after, firstCall}
 use Rattle.promises.specs.Empty.{RefusesByTable, AlwaysRefuses, refuses-next, refuses-prev, refuses-run, refuses-size}
 use Rattle.promises.specs.Empty.{refuses-atomise, refuses-available, refuses-targets, refuses-rotations, refuses-play}
 use Rattle.promises.specs.Empty.{refuses-uncovered, FixedAnswer, fixed-next, fixed-prev, fixed-run, fixed-atomise, fixed-available}
 use Rattle.promises.specs.Empty.{fixed-targets, fixed-rotations, fixed-play, RunsHold, DoesNothing, ActsByRule, FirstDrawOnly}
 use Rattle.promises.specs.Empty.{InventedCount, InventedUncovered}
-use Rattle.promises.proofs.Table.{one-heard}
+use Rattle.promises.proofs.Table.{one-given}
 use Rattle.promises.proofs.Calls.{accepted-is, accepted-says}
 use Rattle.promises.proofs.TwoUnits.{accepted, apart-recounts}
 use Rattle.promises.proofs.RotaRefusals.{rota-refuses}
-use Rattle.promises.proofs.Rota.{asks, told-total}
+use Rattle.promises.proofs.Rota.{asks, answered-total}
 
 -- nothing past what is needed, and these answers
 abbrev spare : List ℕ → Spare
@@ -77,33 +77,33 @@ room : (n : ℕ) → n ≤ length (zeros n)
 room n = le-of-eq (sym (length-replicate n 0))
 
 pub refuses-by-table : RefusesByTable built
-refuses-by-table c = rota-refuses .play c .heard
+refuses-by-table c = rota-refuses .play c .given
 
 module _ (C : Component) (M : MarkedCases C) (T : RefusesByTable C) (S : SizesRecount C) (U : AddsUp C) where
   pub always-refusing-falls : AlwaysRefuses C → ⊥
-  always-refusing-falls (refuses-next f) = f _ _ (ap foundNo (M .case-1 [] .0))
-  always-refusing-falls (refuses-prev f) = f _ _ (ap foundNo (M .case-2 [] .0))
-  always-refusing-falls (refuses-run f) = f _ _ (ap runNo (M .case-3 []))
-  always-refusing-falls (refuses-size f) = f _ (ap numberNo (S still still-accepted 0 (omega arith)))
+  always-refusing-falls (refuses-next f) = f _ _ (ap foundRefusal (M .case-1 [] .0))
+  always-refusing-falls (refuses-prev f) = f _ _ (ap foundRefusal (M .case-2 [] .0))
+  always-refusing-falls (refuses-run f) = f _ _ (ap runRefusal (M .case-3 []))
+  always-refusing-falls (refuses-size f) = f _ (ap numberRefusal (S still still-accepted 0 (omega arith)))
   always-refusing-falls (refuses-atomise f) =
-      f _ (ap (λ (x : Atoms). numberNo (x .answer)) (M .case-4 (zeros 1024) (zeros 1024) (room 1024) (room 1024)))
-  always-refusing-falls (refuses-available f) = f _ _ _ _ _ (ap toldNo (M .case-6-available (zeros 16) (room 16) .0))
+      f _ (ap (λ (x : Atoms). numberRefusal (x .answer)) (M .case-4 (zeros 1024) (zeros 1024) (room 1024) (room 1024)))
+  always-refusing-falls (refuses-available f) = f _ _ _ _ _ (ap yesNoRefusal (M .case-6-available (zeros 16) (room 16) .0))
   always-refusing-falls (refuses-targets f) =
       f _ _ (ap (λ (y : targets.Outcome). y .number) (M .case-9 (zeros 32) (pos 0 ∷ pos 0 ∷ []) (room 32) (omega arith)))
   always-refusing-falls (refuses-rotations f) =
-      f _ _ _ _ _ (ap (λ (w : Written). numberNo (w .answer))
+      f _ _ _ _ _ (ap (λ (w : Written). numberRefusal (w .answer))
       (M .case-11 0 0 0 0 (0 ∷ 0 ∷ 0 ∷ 0 ∷ []) (omega arith) (omega arith) (omega arith) (omega arith) (omega arith)))
   always-refusing-falls (refuses-play f) =
-      f still (one-heard _ _ _ (T still) (rota-refuses .play still .heard)
+      f still (one-given _ _ _ (T still) (rota-refuses .play still .given)
       ∙ ap (λ (y : state.Outcome). y .number) (accepted-is still still-accepted))
-  always-refusing-falls (refuses-uncovered f) = f _ _ (ap minutesNo (U still still-accepted .1))
+  always-refusing-falls (refuses-uncovered f) = f _ _ (ap minutesRefusal (U still still-accepted .1))
 
 -- ---- one fixed answer
 
--- a run that is told holds the slot
-run-told : (f : ℕ → ℕ) → Bits f → (n len i first last : ℕ) → runAs n f len i ≡ run.Span first last → (first ≤ i) × (i ≤ last)
+-- a run that is answered holds the slot
+run-answered : (f : ℕ → ℕ) → Bits f → (n len i first last : ℕ) → runAs n f len i ≡ run.Span first last → (first ≤ i) × (i ≤ last)
 unfolding runAs
-run-told f bits n len i first last e = elim (ℕ-discrete n 0) [
+run-answered f bits n len i first last e = elim (ℕ-discrete n 0) [
   | yes z ↦
       let x : Around 1 f len i first last =
       subst (Holds f len i) (ap (λ (m : ℕ). runAs m f len i) (sym z) ∙ e) (lookup-is f len i bits) in
@@ -115,7 +115,7 @@ run-told f bits n len i first last e = elim (ℕ-discrete n 0) [
 ]
 
 pub runs-hold : RunsHold built
-runs-hold s i first last e = run-told (slotsOf s) (slot-lt (s .words) 0) (heardOf (lengthRow (s .len))) (s .len) i first last e
+runs-hold s i first last e = run-answered (slotsOf s) (slot-lt (s .words) 0) (numberOf (lengthRow (s .len))) (s .len) i first last e
 
 pub fixed-answer-falls : (C : Component) → FixedAnswer C → MarkedCases C → RunsHold C → ⊥
 fixed-answer-falls C (fixed-next f) M H =
@@ -157,20 +157,20 @@ fixed-answer-falls C (fixed-play f) M H =
 
 -- ---- doing nothing
 
--- the total too, where the uncovered minutes are told as they are
+-- the total too, where the uncovered minutes are answered as they are
 pub doing-nothing-keeps : (C : Component) → DoesNothing C
     → FrozenKeep C × OwnersAvailable C × CoveredStays C × (((P : Plan) (o : List ℕ) → C .uncovered P o ≡ built .uncovered P o) → AddsUp C)
 doing-nothing-keeps C f =
     let same : (c : Call) (k : ℕ) → after C c k ≡ getD (c .owners) k 0 = λ c k. ap (λ (o : List ℕ). getD o k 0) (f .owners c) in (
       λ c e k h z. same c k,
       λ c e k h.
-          let r = recount-says (c .plan) (c .avail) (c .units) (c .firsts) (c .owners) (c .derived) (accepted-says c e .recount) in (
+          let r = recount-says (c .plan) (c .avail) (c .units) (c .begins) (c .owners) (c .derived) (accepted-says c e .recount) in (
             ap (knownBy (c .plan .people)) (same c k) ∙ r .known k h,
             ap (λ (w : ℕ). availableFor (c .avail) w k) (same c k) ∙ r .available k h,
           ),
       λ c e k h owned now. owned (sym (same c k) ∙ now),
       λ tells c e.
-          let t = told-total c e (c .owners) (c .derived) (asks c e .grounds .on .room .owners-room) (accepted-says c e .recount) in (
+          let t = answered-total c e (c .owners) (c .derived) (asks c e .right .on .room .owners-room) (accepted-says c e .recount) in (
             t .0,
             tells (c .plan) (C .play c .owners) ∙ ap (built .uncovered (c .plan)) (f .owners c) ∙ t .1,
             ap (λ (D : Derived). sum (c .plan .people) (λ p. getD (D .minutes) p 0) + t .0) (f .derived c) ∙ t .2,
@@ -257,7 +257,7 @@ module _ (C : Component) (g : EndsAfresh C) where
   setOf y p = state.slotsOfIs 2 2 (y .derived .sets) p .set
 
   afresh-lengths : setOf (afreshIn c) 0 .len ≡ setOf (afreshIn c) 1 .len
-  unfolding state.slotsOfIs loadOf changedAs unless personRow setsRow heardOf
+  unfolding state.slotsOfIs loadOf changedAs unless personRow setsRow numberOf
       slotCountOk peopleOk drawsOf ownersAfter afresh setsFrom putSlots putSlot withBit held slot bitOf
   afresh-lengths = refl
 
@@ -298,7 +298,7 @@ module _ (C : Component) (g : EndsAfresh C) where
   invented-uncovered-falls i f =
       let a = f (at-rest apart) still-accepted in
       let b = f (at-rest half) (rest-accepted .1) in
-      let q : minutes.Are (a .0) ≡ minutes.Are (b .0) = sym (a .1) ∙ i _ _ _ ∙ b .1 in
+      let q : minutes.Is (a .0) ≡ minutes.Is (b .0) = sym (a .1) ∙ i _ _ _ ∙ b .1 in
       let z : a .0 ≡ b .0 = cc in
       let s : 120 + a .0 ≡ 120 =
       ap (λ (n : ℕ). n + a .0) (sym (ap minutes-in (g (at-rest apart) still-accepted) ∙ covered-sum)) ∙ a .2 ∙ both-hours in

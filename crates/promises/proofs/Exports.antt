@@ -8,7 +8,7 @@ use native.Mathlib.Omega.{arith}
 use borrow.Author.Tests.{eq-eqb, ne-eqb, eqb-true, eqb-false, leb-true, lt-ltb, le-ltb, ltb-true}
 use lib.Dec.{eqb, ltb, leb}
 use lib.ListN.{length, getD, length-append}
-use Rattle.paper.specs.Limits.{nobody, heardOf}
+use Rattle.paper.specs.Limits.{nobody, numberOf}
 use Rattle.paper.specs.Rows.{unless}
 use Rattle.paper.specs.Count.{sum, count, among}
 use Rattle.paper.proofs.Logic.{by-cond, slot-count-says, people-says}
@@ -16,7 +16,7 @@ use Rattle.paper.proofs.Count.{among-le}
 use Rattle.paper.proofs.Rows.{passed}
 use Rattle.slotset.specs.declared.Found.{Found}
 use Rattle.slotset.specs.declared.Found.the-variants as found
-use Rattle.slotset.specs.declared.Told.the-variants as told
+use Rattle.slotset.specs.declared.YesNo.the-variants as yesNo
 use Rattle.slotset.specs.declared.Number.{Number}
 use Rattle.slotset.specs.declared.Number.the-variants as number
 use Rattle.slotset.specs.declared.Run.{Run}
@@ -28,13 +28,13 @@ use Rattle.slotset.specs.declared.NextMember.the-variants as nextMember
 use Rattle.slotset.specs.Slots.{size, has}
 use Rattle.slotset.specs.Search.{nextWith, lastBelow, nextSet, First, Last}
 use Rattle.slotset.specs.Runs.{firstAround, lastAround}
-use Rattle.slotset.specs.Answers.{setsRow, personRow, rowSlots, foundAs, toldAs, numberAs, runAs, runStep, nextRunAs, memberStep}
+use Rattle.slotset.specs.Answers.{setsRow, personRow, rowSlots, foundAs, yesNoAs, numberAs, runAs, stretchAs, runStep, nextRunAs, memberStep}
 use Rattle.slotset.specs.Answers.{nextMemberAs}
 use Rattle.slotset.proofs.Meaning.{next-is, last-is}
 use Rattle.slotset.proofs.Members.{size-members}
 use Rattle.slotset.proofs.Puts.{slot-lt}
 use Rattle.slots.specs.declared.Minutes.the-variants as minutes
-use Rattle.slots.specs.Lent.{lentRow, minutesAs, minutesNo}
+use Rattle.slots.specs.Lent.{minutesAs, minutesRefusal}
 use Rattle.slots.specs.Ranges.{Range, Ranges, rangeCountOk, rangeAt}
 use Rattle.slots.specs.Merged.{Columns, before, joined, mergeIn, mergeAll, rangesTo, mergedOf, mergedRow, mergedRanges}
 use Rattle.slots.specs.Atomic.{Base, baseRow, atomiseRow, atomiseOf, startsOfAtoms}
@@ -42,18 +42,15 @@ use Rattle.slots.specs.Freeze.{freezeRow, freezeOf, endedBy, endsBy}
 use Rattle.units.specs.declared.Settings.{Settings}
 use Rattle.units.specs.declared.UnitSlots.the-variants as unitSlots
 use Rattle.units.specs.Units.{unitStart, unitEnd, unitOf}
-use Rattle.units.specs.Inside.{dateBegins}
-use Rattle.units.specs.Answers.{writtenAs, spanAs, spanNo, unitsRow, unitOfSlotRow, unitOfSlotIs}
+use Rattle.units.specs.Answers.{writtenAs, spanAs, spanRefusal, unitsRow, unitOfSlotRow, unitOfSlotIs}
 use Rattle.units.specs.Starts.{rotationBegins, unitBegins, rotationStarts, unitStarts, startsRow, rotationStartsIs, unitStartsIs}
-use Rattle.units.specs.Days.{coveredDays, coveredDaysIs}
 use Rattle.units.specs.Domains.{available, able, domain, slotDomain, unitDomain, slotDomainRow, slotDomainIs, unitDomainRow, unitDomainIs}
 use Rattle.units.proofs.Units.{units-within, unit-of-in}
-use Rattle.units.proofs.Covered.{dates-are-days, lent-say}
 use Rattle.owners.specs.Derived.{unassigned}
 use Rattle.owners.specs.Entries.{ownerRow, ownerIs, unassignedRow, unassignedIs}
-use Rattle.boltraven_c.specs.Numbers.{foundNumber, toldNumber, plainNumber, runNumber, runFirst, runLast}
+use Rattle.boltraven_c.specs.Numbers.{foundNumber, yesNoNumber, plainNumber, runNumber, runFirst, runLast}
 use Rattle.boltraven_c.specs.Numbers.{nextRunNumber, nextRunFirst, nextRunLast, nextRunCursor, memberNumber, memberAt, memberCursor}
-use Rattle.boltraven_c.specs.Numbers.{minutesAre}
+use Rattle.boltraven_c.specs.Numbers.{minutesWritten}
 use Rattle.boltraven_c.specs.Units.{spanFrom, spanTo}
 use Rattle.promises.specs.Exports.{readNumber, readFound, readTold, readMinutes, readSpan, readRun, readNextRun, readMember}
 use Rattle.promises.specs.Exports.{Read, ReadsAsMeant}
@@ -71,13 +68,13 @@ rest n = omega arith
 read-is : (k : ℕ) → k < 65536 → Read (number.Is k)
 read-is k h = ap (λ (b : Bool). cond b (number.Is k) (number.Refused (k - 65536))) (lt-ltb k 65536 h)
 
-read-no : (n : ℕ) → Read (number.Refused n)
-read-no n =
+read-refusal : (n : ℕ) → Read (number.Refused n)
+read-refusal n =
     ap (λ (b : Bool). cond b (number.Is (65536 + n)) (number.Refused (65536 + n - 65536))) (above n) ∙ ap number.Refused (rest n)
 
 read-number : (n k : ℕ) → (n ≡ 0 → k < 65536) → Read (numberAs n k)
 unfolding numberAs unless
-read-number n k h = by-cond (eqb n 0) (number.Is k) (number.Refused n) Read (λ t. read-is k (h (eqb-true n 0 t))) (λ f. read-no n)
+read-number n k h = by-cond (eqb n 0) (number.Is k) (number.Refused n) Read (λ t. read-is k (h (eqb-true n 0 t))) (λ f. read-refusal n)
 
 -- a number that is not 0 added to 65,536 is not 65,536
 not-nothing : (n : ℕ) → eqb n 0 ≡ false → eqb (65536 + n) 65536 ≡ false
@@ -94,8 +91,8 @@ read-small (found.At i) h =
 read-small found.Nothing h = refl
 read-small (found.Refused n) h = absurd h
 
-found-no : (n : ℕ) → eqb n 0 ≡ false → readFound (65536 + n) ≡ found.Refused n
-found-no n f =
+found-refused : (n : ℕ) → eqb n 0 ≡ false → readFound (65536 + n) ≡ found.Refused n
+found-refused n f =
     ap (λ (b : Bool). cond b (found.At (65536 + n)) (cond (eqb (65536 + n) 65536) found.Nothing (found.Refused (65536 + n - 65536))))
     (above n)
     ∙ ap (λ (b : Bool). cond b found.Nothing (found.Refused (65536 + n - 65536))) (not-nothing n f) ∙ ap found.Refused (rest n)
@@ -103,7 +100,8 @@ found-no n f =
 read-found : (n : ℕ) (x : Found) → (n ≡ 0 → Small x) → readFound (foundNumber (foundAs n x)) ≡ foundAs n x
 unfolding foundAs unless
 read-found n x h =
-    by-cond (eqb n 0) x (found.Refused n) (λ y. readFound (foundNumber y) ≡ y) (λ t. read-small x (h (eqb-true n 0 t))) (λ f. found-no n f)
+    by-cond (eqb n 0) x (found.Refused n) (λ y. readFound (foundNumber y) ≡ y) (λ t. read-small x (h (eqb-true n 0 t)))
+    (λ f. found-refused n f)
 
 first-small : (v : ℕ) (f : ℕ → ℕ) (len from : ℕ) (x : Found) → First v f len from x → len ≤ 1024 → Small x
 first-small v f len from (found.At i) h l = omega (arith, h .1, l)
@@ -115,41 +113,51 @@ last-small v f len end (found.At i) h l = omega (arith, h .1, l)
 last-small v f len end found.Nothing h l = tt
 last-small v f len end (found.Refused n) h l = absurd h
 
-row-short : (ws : List ℕ) (people person len : ℕ) → heardOf (personRow ws people person len) ≡ 0 → len ≤ 1024
+row-short : (ws : List ℕ) (people person len : ℕ) → numberOf (personRow ws people person len) ≡ 0 → len ≤ 1024
 unfolding personRow setsRow
 row-short ws people person len e = leb-true len 1024 (passed (personRow ws people person len) refl e 1)
 
-told-no : (n : ℕ) → readTold (65536 + n) ≡ told.Refused n
-told-no n =
-    ap (λ (b : Bool). cond b (cond (eqb (65536 + n) 1) told.Yes told.No) (told.Refused (65536 + n - 65536))) (above n)
-    ∙ ap told.Refused (rest n)
+yes-no-refused : (n : ℕ) → readTold (65536 + n) ≡ yesNo.Refused n
+yes-no-refused n =
+    ap (λ (b : Bool). cond b (cond (eqb (65536 + n) 1) yesNo.Yes yesNo.No) (yesNo.Refused (65536 + n - 65536))) (above n)
+    ∙ ap yesNo.Refused (rest n)
 
-read-told : (n : ℕ) (b : Bool) → readTold (toldNumber (toldAs n b)) ≡ toldAs n b
-unfolding toldAs unless
-read-told n b =
-    by-cond (eqb n 0) (cond b told.Yes told.No) (told.Refused n) (λ y. readTold (toldNumber y) ≡ y)
-    (λ t. by-cond b told.Yes told.No (λ y. readTold (toldNumber y) ≡ y) (λ e. refl) (λ e. refl)) (λ f. told-no n)
+read-answered : (n : ℕ) (b : Bool) → readTold (yesNoNumber (yesNoAs n b)) ≡ yesNoAs n b
+unfolding yesNoAs unless
+read-answered n b =
+    by-cond (eqb n 0) (cond b yesNo.Yes yesNo.No) (yesNo.Refused n) (λ y. readTold (yesNoNumber y) ≡ y)
+    (λ t. by-cond b yesNo.Yes yesNo.No (λ y. readTold (yesNoNumber y) ≡ y) (λ e. refl) (λ e. refl)) (λ f. yes-no-refused n)
 
 -- ---- with what stands beside them
 
-zero-no : (n : ℕ) → eqb (65536 + n) 0 ≡ false
-zero-no n = ne-eqb (65536 + n) 0 (λ z. omega (arith, z))
+zero-refused : (n : ℕ) → eqb (65536 + n) 0 ≡ false
+zero-refused n = ne-eqb (65536 + n) 0 (λ z. omega (arith, z))
 
 -- what is read of a refusal, of three ways to tell
 refused-way : {A : Type 0} (n : ℕ) (x y : A) (refused : ℕ → A) → eqb n 0 ≡ false
     → cond (eqb (65536 + n) 0) x (cond (eqb (65536 + n) 65536) y (refused (65536 + n - 65536))) ≡ refused n
 refused-way {A} n x y refused f =
-    ap (λ (b : Bool). cond b x (cond (eqb (65536 + n) 65536) y (refused (65536 + n - 65536)))) (zero-no n)
+    ap (λ (b : Bool). cond b x (cond (eqb (65536 + n) 65536) y (refused (65536 + n - 65536)))) (zero-refused n)
     ∙ ap (λ (b : Bool). cond b y (refused (65536 + n - 65536))) (not-nothing n f) ∙ ap refused (rest n)
 
 read-run : (n : ℕ) (f : ℕ → ℕ) (len i was was′ : ℕ)
     → let x = runAs n f len i in readRun (runNumber x) (runFirst was x) (runLast was′ x) ≡ x
-unfolding runAs unless
+unfolding runAs stretchAs unless
 read-run n f len i was was′ =
     let Reads : Run → Type 0 = λ x. readRun (runNumber x) (runFirst was x) (runLast was′ x) ≡ x in
-    by-cond (eqb n 0) (cond (has f len i) (run.Span (firstAround 1 f len i) (lastAround 1 f len i)) run.Outside) (run.Refused n) Reads
-    (λ t. by-cond (has f len i) (run.Span (firstAround 1 f len i) (lastAround 1 f len i)) run.Outside Reads (λ e. refl) (λ e. refl))
-    (λ g. refused-way n (run.Span was was′) run.Outside run.Refused g)
+    let v = f i in
+    let a = firstAround v f len i in
+    let b = lastAround v f len i in
+    let held = cond (eqb v 1) (run.Span a b) (run.Hole a b) in
+    by-cond (eqb n 0) (cond (ltb i len) held run.Outside) (run.Refused n) Reads
+    (λ t. by-cond (ltb i len) held run.Outside Reads
+    (λ e. by-cond (eqb v 1) (run.Span a b) (run.Hole a b) Reads (λ p. refl) (λ p. refl)) (λ e. refl))
+    (λ g.
+    ap (λ (c : Bool). cond c (run.Span was was′) (cond (eqb (65536 + n) 1) (run.Hole was was′)
+    (cond (eqb (65536 + n) 65536) run.Outside (run.Refused (65536 + n - 65536))))) (zero-refused n)
+    ∙ ap (λ (c : Bool). cond c (run.Hole was was′) (cond (eqb (65536 + n) 65536) run.Outside (run.Refused (65536 + n - 65536))))
+    (ne-eqb (65536 + n) 1 (λ z. omega (arith, z)))
+    ∙ ap (λ (c : Bool). cond c run.Outside (run.Refused (65536 + n - 65536))) (not-nothing n g) ∙ ap run.Refused (rest n))
 
 found-none : (f : ℕ → ℕ) (len at : ℕ) (x : Found) → First 1 f len at x → (X : Found → Type 0) → ((i : ℕ) → X (found.At i)) → X found.Nothing
     → X x
@@ -177,17 +185,18 @@ read-member n f len at was was′ =
     (λ t. found-none f len at (nextSet f len at) (next-is 1 f len at) (λ y. Reads (memberStep y)) (λ i. refl) refl)
     (λ g. refused-way n (nextMember.Slot was (record { at = was′ })) nextMember.Done nextMember.Refused g)
 
-read-minutes : (n m was : ℕ) → readMinutes (minutesNo (minutesAs n m)) (minutesAre was (minutesAs n m)) ≡ minutesAs n m
+read-minutes : (n m was : ℕ) → readMinutes (minutesRefusal (minutesAs n m)) (minutesWritten was (minutesAs n m)) ≡ minutesAs n m
 unfolding minutesAs
 read-minutes n m was =
-    by-cond (eqb n 0) (minutes.Are m) (minutes.Refused n) (λ x. readMinutes (minutesNo x) (minutesAre was x) ≡ x) (λ t. refl)
-    (λ f. ap (λ (b : Bool). cond b (minutes.Are was) (minutes.Refused n)) f)
+    by-cond (eqb n 0) (minutes.Is m) (minutes.Refused n) (λ x. readMinutes (minutesRefusal x) (minutesWritten was x) ≡ x) (λ t. refl)
+    (λ f. ap (λ (b : Bool). cond b (minutes.Is was) (minutes.Refused n)) f)
 
 read-span : (n a e was was′ : ℕ)
-    → readSpan (spanNo (spanAs n a e)) (spanFrom was (spanAs n a e)) (spanTo was′ (spanAs n a e)) ≡ spanAs n a e
+    → readSpan (spanRefusal (spanAs n a e)) (spanFrom was (spanAs n a e)) (spanTo was′ (spanAs n a e)) ≡ spanAs n a e
 unfolding spanAs unless
 read-span n a e was was′ =
-    by-cond (eqb n 0) (unitSlots.Span a e) (unitSlots.Refused n) (λ x. readSpan (spanNo x) (spanFrom was x) (spanTo was′ x) ≡ x) (λ t. refl)
+    by-cond (eqb n 0) (unitSlots.Span a e) (unitSlots.Refused n)
+    (λ x. readSpan (spanRefusal x) (spanFrom was x) (spanTo was′ x) ≡ x) (λ t. refl)
     (λ f. ap (λ (b : Bool). cond b (unitSlots.Span was was′) (unitSlots.Refused n)) f)
 
 -- ---- counts and indexes are small
@@ -235,19 +244,19 @@ merged-most R = omega (arith, merge-all-most (rangesTo R (R .count)), ranges-to 
 merged-read : (people : ℕ) (R : Ranges) (out : Columns) → Read (mergedRanges people R out .answer)
 unfolding mergedRanges mergedRow rangeCountOk
 merged-read people R out =
-    read-number (heardOf (mergedRow people R out)) (length (mergedOf R))
+    read-number (numberOf (mergedRow people R out)) (length (mergedOf R))
     (λ e. omega (arith, merged-most R, leb-true (R .count) 1024 (passed (mergedRow people R out) refl e 1)))
 
 atomise-read : (B : Base) → Read (atomiseOf B .answer)
 unfolding atomiseOf atomiseRow baseRow
 atomise-read B =
-    read-number (heardOf (atomiseRow B)) (length (startsOfAtoms B))
+    read-number (numberOf (atomiseRow B)) (length (startsOfAtoms B))
     (λ e. omega (arith, leb-true (length (startsOfAtoms B)) 1024 (passed (atomiseRow B) refl e 8)))
 
 freeze-read : (slots : ℕ) (starts ends frozen : List ℕ) (instant : ℕ) → Read (freezeOf slots starts ends frozen instant .answer)
 unfolding freezeOf freezeRow endedBy
 freeze-read slots starts ends frozen instant =
-    read-number (heardOf (freezeRow slots starts ends frozen)) (count slots (endsBy ends instant))
+    read-number (numberOf (freezeRow slots starts ends frozen)) (count slots (endsBy ends instant))
     (λ e.
     omega (
       arith,
@@ -255,7 +264,7 @@ freeze-read slots starts ends frozen instant =
       slot-count-says slots (passed (freezeRow slots starts ends frozen) refl e 0) .1,
     ))
 
-starts-few : (s : Settings) (slots : ℕ) (starts ends list : List ℕ) → heardOf (startsRow s slots starts ends list) ≡ 0 → slots ≤ 1024
+starts-few : (s : Settings) (slots : ℕ) (starts ends list : List ℕ) → numberOf (startsRow s slots starts ends list) ≡ 0 → slots ≤ 1024
 unfolding startsRow
 starts-few s slots starts ends list e = slot-count-says slots (passed (startsRow s slots starts ends list) refl e 0) .1
 
@@ -263,41 +272,33 @@ rotations-read : (s : Settings) (slots : ℕ) (starts ends list : List ℕ) → 
 unfolding rotationStartsIs writtenAs rotationStarts
 rotations-read s slots starts ends list =
     let p = rotationBegins (s .boundary) (s .value) starts in
-    read-number (heardOf (startsRow s slots starts ends list)) (length (among p slots))
+    read-number (numberOf (startsRow s slots starts ends list)) (length (among p slots))
     (λ e. omega (arith, among-le p slots, starts-few s slots starts ends list e))
 
 units-read : (s : Settings) (slots : ℕ) (starts ends list : List ℕ) → Read (unitStartsIs s slots starts ends list .answer)
 unfolding unitStartsIs writtenAs unitStarts
 units-read s slots starts ends list =
     let p = unitBegins (s .lock) (s .boundary) (s .value) starts in
-    read-number (heardOf (startsRow s slots starts ends list)) (length (among p slots))
+    read-number (numberOf (startsRow s slots starts ends list)) (length (among p slots))
     (λ e. omega (arith, among-le p slots, starts-few s slots starts ends list e))
 
-unit-of-read : (slots units : ℕ) (firsts : List ℕ) (k : ℕ) → Read (unitOfSlotIs slots units firsts k)
+unit-of-read : (slots units : ℕ) (begins : List ℕ) (k : ℕ) → Read (unitOfSlotIs slots units begins k)
 unfolding unitOfSlotIs unitOfSlotRow unitsRow
-unit-of-read slots units firsts k =
-    read-number (heardOf (unitOfSlotRow slots units firsts k)) (unitOf units firsts k)
+unit-of-read slots units begins k =
+    read-number (numberOf (unitOfSlotRow slots units begins k)) (unitOf units begins k)
     (λ e.
-    let x = passed (unitOfSlotRow slots units firsts k) refl e in
+    let x = passed (unitOfSlotRow slots units begins k) refl e in
     omega (
       arith,
-      unit-of-in slots units firsts (x 2) k (ltb-true k slots (x 3)) .known,
-      units-within slots units firsts (x 2),
+      unit-of-in slots units begins (x 2) k (ltb-true k slots (x 3)) .known,
+      units-within slots units begins (x 2),
       slot-count-says slots (x 0) .1,
     ))
-
-days-read : (slots : ℕ) (starts ends : List ℕ) → Read (coveredDaysIs slots starts ends)
-unfolding coveredDaysIs lentRow
-days-read slots starts ends =
-    read-number (heardOf (lentRow slots starts ends)) (coveredDays slots starts)
-    (λ e.
-    let x = passed (lentRow slots starts ends) refl e in
-    omega (arith, dates-are-days slots starts ends (x 2), count-most slots (dateBegins starts), slot-count-says slots (x 0) .1))
 
 slot-domain-read : (avail : List ℕ) (people slots k : ℕ) (list : List ℕ) → Read (slotDomainIs avail people slots k list .answer)
 unfolding slotDomainIs writtenAs slotDomain slotDomainRow
 slot-domain-read avail people slots k list =
-    read-number (heardOf (slotDomainRow avail people slots k list)) (length (among (λ p. available avail p k) people))
+    read-number (numberOf (slotDomainRow avail people slots k list)) (length (among (λ p. available avail p k) people))
     (λ e.
     omega (
       arith,
@@ -305,19 +306,19 @@ slot-domain-read avail people slots k list =
       people-says people (passed (slotDomainRow avail people slots k list) refl e 0) .1,
     ))
 
-unit-domain-read : (avail : List ℕ) (people slots units : ℕ) (firsts : List ℕ) (u : ℕ) (list : List ℕ)
-    → Read (unitDomainIs avail people slots units firsts u list .answer)
+unit-domain-read : (avail : List ℕ) (people slots units : ℕ) (begins : List ℕ) (u : ℕ) (list : List ℕ)
+    → Read (unitDomainIs avail people slots units begins u list .answer)
 unfolding unitDomainIs writtenAs unitDomain domain unitDomainRow
-unit-domain-read avail people slots units firsts u list =
-    let p = able avail (unitStart firsts u) (unitEnd slots units firsts u) in
-    read-number (heardOf (unitDomainRow avail people slots units firsts u list)) (length (among p people))
+unit-domain-read avail people slots units begins u list =
+    let p = able avail (unitStart begins u) (unitEnd slots units begins u) in
+    read-number (numberOf (unitDomainRow avail people slots units begins u list)) (length (among p people))
     (λ e.
-    omega (arith, among-le p people, people-says people (passed (unitDomainRow avail people slots units firsts u list) refl e 0) .1))
+    omega (arith, among-le p people, people-says people (passed (unitDomainRow avail people slots units begins u list) refl e 0) .1))
 
 owner-read : (people slots : ℕ) (o : List ℕ) (k : ℕ) → Read (ownerIs people slots o k)
 unfolding ownerIs ownerRow
 owner-read people slots o k =
-    read-number (heardOf (ownerRow people slots o k)) (getD o k 0)
+    read-number (numberOf (ownerRow people slots o k)) (getD o k 0)
     (λ e.
     let x = passed (ownerRow people slots o k) refl e in
     ⊎-elim (λ (q : getD o k 0 ≡ nobody). omega (arith, q)) (λ (h : getD o k 0 < people). omega (arith, h, people-says people (x 0) .1))
@@ -326,7 +327,7 @@ owner-read people slots o k =
 unassigned-read : (people slots : ℕ) (o : List ℕ) → Read (unassignedIs people slots o)
 unfolding unassignedIs unassignedRow unassigned
 unassigned-read people slots o =
-    read-number (heardOf (unassignedRow people slots o)) (count slots (λ k. eqb (getD o k 0) nobody))
+    read-number (numberOf (unassignedRow people slots o)) (count slots (λ k. eqb (getD o k 0) nobody))
     (λ e.
     omega (
       arith,
@@ -344,7 +345,7 @@ reads-as-meant = record {
       read-found _ _ (λ e.
       last-small v (rowSlots ws person) len end (lastBelow v (rowSlots ws person) len end)
       (last-is v (rowSlots ws person) len end) (row-short ws people person len e));
-  yes-no = read-told;
+  yes-no = read-answered;
   run = read-run;
   next-run = read-next-run;
   next-member = read-member;
@@ -358,7 +359,6 @@ reads-as-meant = record {
   rotation-starts = rotations-read;
   unit-starts = units-read;
   unit-of-slot = unit-of-read;
-  covered-days = days-read;
   slot-domain = slot-domain-read;
   unit-domain = unit-domain-read;
   owner-of-slot = owner-read;

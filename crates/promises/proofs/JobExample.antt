@@ -10,7 +10,7 @@ use lib.Dec.{eqb, ltb, leb, lit<, lit≤}
 use lib.Ieee.{binary64, ofBits, ofFields, add, sub, mul, div, lt, eq, le, ofInt}
 use lib.IntN.{ℤ, pos}
 use lib.ListN.{length, getD, drop, replicate, set, length-replicate, List·getD-eq-default}
-use Rattle.paper.specs.Limits.{peopleOk, slotCountOk, countsOk, Test, heardOf}
+use Rattle.paper.specs.Limits.{peopleOk, slotCountOk, countsOk, Test, numberOf}
 use Rattle.paper.specs.Bits.{bitOf}
 use Rattle.paper.specs.Rows.{unless}
 use Rattle.paper.specs.Count.{all, allIn, some, sum, among, over, fill, onto}
@@ -30,6 +30,7 @@ use Rattle.units.specs.Domains as domains
 use Rattle.targets.specs.Figures.{figuresOk, allFiguresOk, availableMinutes}
 use Rattle.targets.specs.Passes.{rounded, within, settled, pass, passes}
 use Rattle.targets.specs.Remainder.{adjusted}
+use Rattle.targets.specs.SecondEdition.{sharedOut}
 use Rattle.targets.specs.Outcome as targets
 use Rattle.targets.proofs.Accepted.{Lent}
 use Rattle.targets.proofs.Promises.{number-lent, when-accepted}
@@ -47,10 +48,10 @@ use Rattle.records.specs.Puts.{put}
 use Rattle.job.specs.File.{jobSizes, jobLayout, JobRecords, JobFile}
 use Rattle.job.specs.Listing.{Listed, listed, digits, decimal, signed, listingOf}
 use Rattle.job.specs.Stages.{Ready, ready, valueOf, listedOf}
-use Rattle.job.specs.Outcome.{testAt, AllPass, jobTests, jobNo, Result, listedAs, jobResult}
-use Rattle.job.proofs.Tests.{heard-none}
-use Rattle.job.proofs.Heard.{numbered}
-use Rattle.job.proofs.Results.{told-none}
+use Rattle.job.specs.Outcome.{testAt, AllPass, jobTests, jobRefusal, Result, listedAs, jobResult}
+use Rattle.job.proofs.Tests.{number-none}
+use Rattle.job.proofs.Answered.{numbered}
+use Rattle.job.proofs.Results.{answered-none}
 use Rattle.promises.specs.Entries.{Call, playOf}
 use Rattle.promises.specs.Marked.{atoms}
 use Rattle.promises.specs.Tests.{SlotsRight, RangesRight, FiguresRight, SettingsRight}
@@ -72,7 +73,7 @@ zeros = replicate 1024 0
 
 abbrev G : Given
 G = record {
-  settings = record { fairness = 0; lock = 0; boundary = 0; value = 1; days = 1 };
+  settings = record { fairness = 0; lock = 0; boundary = 0; edition = 0; value = 1; days = 1 };
   base = 1;
   starts = 0 ∷ drop 1 zeros;
   ends = 120 ∷ drop 1 zeros;
@@ -82,10 +83,10 @@ G = record {
   ranges = ranges 2 (0 ∷ 1 ∷ drop 2 zeros) (0 ∷ 60 ∷ drop 2 zeros) (120 ∷ 180 ∷ drop 2 zeros);
   freezes = 0;
   instant = 0;
-  draws = 1;
-  kinds = 0 ∷ drop 1 zeros;
-  ones = 1 ∷ drop 1 zeros;
-  twos = 1 ∷ drop 1 zeros;
+  played = 1;
+  draws = 0 ∷ drop 1 zeros;
+  firsts = 1 ∷ drop 1 zeros;
+  seconds = 1 ∷ drop 1 zeros;
 }
 
 given-is : givenBy example ≡ G
@@ -112,12 +113,12 @@ abbrev to : List ℕ
 to = 60 ∷ 120 ∷ drop 2 zeros
 
 avail-is : availabilityOf 2 2 from to (G .ranges) (replicate 512 0) ≡ set (set (replicate 512 0) 0 3) 16 2
-unfolding availabilityOf availabilityRow heardOf unless peopleOk slotCountOk rangeCountOk slotRoomOk rangeRoomOk slotsOk slotOkAt slotOk
+unfolding availabilityOf availabilityRow numberOf unless peopleOk slotCountOk rangeCountOk slotRoomOk rangeRoomOk slotsOk slotOkAt slotOk
     prevEnd all rangesOk rangeOkAt rangeOk rows availableBit available allIn inRanges covers some putSlots putSlot withBit bitOf
 avail-is = refl
 
 units-are : unitStartsIs (G .settings) 2 from to zeros ≡ writtenAs 0 (0 ∷ 1 ∷ []) zeros
-unfolding unitStartsIs startsRow heardOf slotCountOk slotRoomOk slotsOk slotOkAt slotOk prevEnd all settingsOk boundaryOk unitStarts
+unfolding unitStartsIs startsRow numberOf slotCountOk slotRoomOk slotsOk slotOkAt slotOk prevEnd all settingsOk boundaryOk unitStarts
     unitBegins among
 units-are = refl
 
@@ -126,15 +127,15 @@ avail = set (set (replicate 512 0) 0 3) 16 2
 
 -- ---- targets
 
-abbrev asked : targets.Given
-asked = targets.given 2 2 from to avail (G .capacities) (G .priors) 0
+abbrev checked : targets.Given
+checked = targets.given 2 2 from to avail (G .capacities) (G .priors) 0 0
 
-targets-are : targets.computeTargets asked (replicate 32 (pos 0)) .out ≡ pos 80 ∷ pos 40 ∷ replicate 30 (pos 0)
-unfolding peopleOk slotCountOk slotRoomOk slotsOk slotOkAt slotOk prevEnd all allFiguresOk figuresOk le lt eq ofBits ofFields heardOf
-    demandOf sum minutesAt availableMinutes domains.available slot bitOf ofInt mul add div sub rounded within settled pass passes adjusted
+targets-are : targets.computeTargets checked (replicate 32 (pos 0)) .out ≡ pos 80 ∷ pos 40 ∷ replicate 30 (pos 0)
+unfolding peopleOk slotCountOk slotRoomOk slotsOk slotOkAt slotOk prevEnd all allFiguresOk figuresOk le lt eq ofBits ofFields numberOf
+    demandOf sum minutesAt availableMinutes domains.available slot bitOf ofInt mul add div sub rounded within settled pass passes sharedOut adjusted
 targets-are =
     let out = replicate 32 (pos 0) in
-    let l : Lent asked (length out) = record {
+    let l : Lent checked (length out) = record {
       people-ok = refl;
       slots-ok = refl;
       columns = refl;
@@ -143,7 +144,7 @@ targets-are =
       priors-room = lit≤ tt;
       out-room = lit≤ tt;
     } in
-    when-accepted asked out (number-lent asked out l refl)
+    when-accepted checked out (number-lent checked out l refl)
 
 -- ---- all that a play goes by
 
@@ -157,14 +158,14 @@ readyOn A =
     let w = availabilityOf 2 n (A .starts) (A .ends) (G .ranges) (replicate 512 0) in
     let u = unitStartsIs (G .settings) n (A .starts) (A .ends) zeros in
     ready 2 n (A .starts) (A .ends) w (valueOf (u .answer)) (u .buffer) (replicate 16 0)
-    (targets.computeTargets (targets.given 2 n (A .starts) (A .ends) w (G .capacities) (G .priors) 0) (replicate 32 (pos 0)) .out)
+    (targets.computeTargets (targets.given 2 n (A .starts) (A .ends) w (G .capacities) (G .priors) 0 0) (replicate 32 (pos 0)) .out)
 
 ready-is : readyFrom G ≡ R
 unfolding writtenAs numberAs unless onto
 ready-is =
     ap readyOn atoms-are
     ∙ ap₂ (λ (w : List ℕ) (u : Written). ready 2 2 from to w (valueOf (u .answer)) (u .buffer) (replicate 16 0)
-    (targets.computeTargets (targets.given 2 2 from to w (G .capacities) (G .priors) 0) (replicate 32 (pos 0)) .out)) avail-is units-are
+    (targets.computeTargets (targets.given 2 2 from to w (G .capacities) (G .priors) 0 0) (replicate 32 (pos 0)) .out)) avail-is units-are
     ∙ ap (λ (zs : List ℤ). ready 2 2 from to avail 2 (0 ∷ 1 ∷ drop 2 zeros) (replicate 16 0) zs) targets-are
 
 -- ---- the play
@@ -176,7 +177,7 @@ abbrev before : Derived
 before = derived (set (replicate 512 0) 0 3) (120 ∷ 0 ∷ replicate 30 0)
 
 start-is : fromSlots (plan 2 2 from to) avail owners (derived (replicate 512 0) (replicate 32 0)) .derived ≡ before
-unfolding fromSlots fromSlotsRow lentRow outcome heardOf unless peopleOk slotCountOk slotRoomOk slotsOk slotOkAt slotOk prevEnd all knownAt
+unfolding fromSlots fromSlotsRow lentRow outcome numberOf unless peopleOk slotCountOk slotRoomOk slotsOk slotOkAt slotOk prevEnd all knownAt
     knownBy availableAt availableFor domains.available slot bitOf afresh setsFrom putSlots putSlot withBit held over worked portion sum
     minutesAt
 start-is = refl
@@ -186,12 +187,12 @@ call = record {
   plan = plan 2 2 from to;
   avail = avail;
   units = 2;
-  firsts = 0 ∷ 1 ∷ drop 2 zeros;
+  begins = 0 ∷ 1 ∷ drop 2 zeros;
   frozen = replicate 16 0;
   count = 1;
-  kinds = G .kinds;
-  ones = G .ones;
-  twos = G .twos;
+  draws = G .draws;
+  firsts = G .firsts;
+  seconds = G .seconds;
   owners = owners;
   derived = before;
   answers = zeros;
@@ -206,9 +207,9 @@ call-accepted = record {
   room = refl;
   starts = refl;
   flags = refl;
-  kinds = lit≤ tt;
-  ones = lit≤ tt;
-  twos = lit≤ tt;
+  draws = lit≤ tt;
+  firsts = lit≤ tt;
+  seconds = lit≤ tt;
   answers = lit≤ tt;
   slots = refl;
   units = refl;
@@ -244,12 +245,12 @@ listedOn Q D =
       plan = P;
       avail = Q .avail;
       units = Q .units;
-      firsts = Q .firsts;
+      begins = Q .begins;
       frozen = Q .frozen;
       count = 1;
-      kinds = G .kinds;
-      ones = G .ones;
-      twos = G .twos;
+      draws = G .draws;
+      firsts = G .firsts;
+      seconds = G .seconds;
       owners = owners;
       derived = D;
       answers = zeros;
@@ -300,7 +301,6 @@ records-right = record {
         leb-true _ _ (all-each 8 (λ j. leb (recordOf example j .kind) (recordOf example (suc j) .kind)) refl k (omega arith));
   };
   settings = refl;
-  zero-byte = refl;
   freezes = lit≤ tt;
   slots-rise = λ k h.
       let g : suc k < 2 = h in
@@ -347,7 +347,7 @@ own-none k h = eqb-true (ownerIn own k) 0 (all-each 2 (λ j. eqb (ownerIn own j)
 even : OwnersEven example R
 unfolding unitEnd all
 even u k h a b =
-    let f = R .firsts in
+    let f = R .begins in
     let e = leb-true (unitEnd 2 2 f u) 2 (all-each 2 (λ v. leb (unitEnd 2 2 f v) 2) refl u h) in
     own-none k (omega (arith, e, b)) ∙ sym (own-none (getD f u 0) (omega (arith, e, a, b)))
 
@@ -414,11 +414,11 @@ module _ (x : List ℕ) (room : 65536 ≤ length x) where
       λ k h. p11 k (omega (arith, T .many))
 
   result : jobResult file x ≡ listedAs (listingOf (listedOf file)) x
-  result = told-none file x (heard-none ts (numbered file (length x)) .1 all-right)
+  result = answered-none file x (number-none ts (numbered file (length x)) .1 all-right)
 
-  accepted : jobNo (jobResult file x .answer) ≡ 0
+  accepted : jobRefusal (jobResult file x .answer) ≡ 0
   unfolding listedAs
-  accepted = ap (λ (y : Result). jobNo (y .answer)) result
+  accepted = ap (λ (y : Result). jobRefusal (y .answer)) result
 
   listing-is : listingOf (listedOf file) ≡ exampleText
   listing-is =

@@ -9,7 +9,7 @@ use borrow.Author.Tests.{eqb-true, eqb-false}
 use lib.Dec.{eqb, lit<, lit≤}
 use lib.Ieee.{binary64, ofBits}
 use lib.ListN.{length, getD, replicate}
-use Rattle.paper.specs.Limits.{heardOf, nobody}
+use Rattle.paper.specs.Limits.{numberOf, nobody}
 use Rattle.paper.specs.Count.{all, over}
 use Rattle.paper.proofs.Logic.{by-test, lt-or-ge, slot-count-says, people-says}
 use Rattle.paper.proofs.Count.{all-each, over-same}
@@ -22,15 +22,15 @@ use Rattle.records.specs.Records.{bodies}
 use Rattle.job.specs.File.{jobSizes, JobFile}
 use Rattle.job.specs.Columns.{column, floatColumn}
 use Rattle.job.specs.Listing.{Listed}
-use Rattle.job.specs.Stages.{counted, begins, peopleOf, columnOf, rangesOf, capacitiesOf, priorsOf, settingsIn, instantOf, drawsOf}
+use Rattle.job.specs.Stages.{counted, blockStart, peopleOf, columnOf, rangesOf, capacitiesOf, priorsOf, settingsIn, instantOf, drawsOf}
 use Rattle.job.specs.Stages.{baseOf, atomsOf, availIn, targetsIn, unitsIn, frozenIn, Ready, readyIn, readyOf, placed, recordKnown, allKnown}
 use Rattle.job.specs.Stages.{byteOf, narrowed, writtenOf, ownersOf, startOf, playOf, startedOf, playedOf, listedOf, ownerValue}
-use Rattle.job.specs.Outcome.{AllPass, readRow, prepareRow, jobTests, Result, refusedAs, jobNo, jobResult}
+use Rattle.job.specs.Outcome.{AllPass, readRow, prepareRow, jobTests, Result, refusedAs, jobRefusal, jobResult}
 use Rattle.job.proofs.Layouts.{counts-read, fields-read, settings-read}
 use Rattle.job.proofs.Prepares.{byte-small}
-use Rattle.job.proofs.Tests.{heard-none}
-use Rattle.job.proofs.Heard.{numbered, sound}
-use Rattle.job.proofs.Results.{told-some}
+use Rattle.job.proofs.Tests.{number-none}
+use Rattle.job.proofs.Answered.{numbered, sound}
+use Rattle.job.proofs.Results.{answered-some}
 use Rattle.promises.specs.JobFields.{field, fields, Given, givenBy, ownerIn, ownersBy, readyFrom, listedFrom, JobByRecords}
 use Rattle.promises.proofs.JobOwners.{Named, Unnamed, named-or-not, record-says, written-at, written-past}
 
@@ -48,10 +48,10 @@ givenOf s = record {
   ranges = rangesOf s;
   freezes = counted s 4;
   instant = instantOf s;
-  draws = counted s 6;
-  kinds = columnOf s 6 0 2;
-  ones = columnOf s 6 2 2;
-  twos = columnOf s 6 4 2;
+  played = counted s 6;
+  draws = columnOf s 6 0 2;
+  firsts = columnOf s 6 2 2;
+  seconds = columnOf s 6 4 2;
 }
 
 pub ready-shape : (s : List ℕ) → readyOf s ≡ readyFrom (givenOf s)
@@ -69,7 +69,7 @@ module _ (s : List ℕ) (J : JobFile s) where
   unfolding column
   column-fields i off n h r =
       let w = 4 + getD jobSizes i 0 in
-      let at = begins s i in
+      let at = blockStart s i in
       let m = counts-read s J i h in
       over-same (λ k. le n s (at + (4 + off) + k * w)) (field (J .records) (1 + i) off n) (counted s i) (replicate 1024 0)
       (λ k l.
@@ -80,7 +80,7 @@ module _ (s : List ℕ) (J : JobFile s) where
   settings-same : settingsIn s ≡ givenBy (J .records) .settings
   settings-same =
       let q = settings-read s J in
-      λ i. record { fairness = q .0 i; lock = q .1 i; boundary = q .2 i; value = q .3 i; days = q .4 i }
+      λ i. record { fairness = q .0 i; lock = q .1 i; boundary = q .2 i; edition = q .3 i; value = q .4 i; days = q .5 i }
 
   instant-same : instantOf s ≡ givenBy (J .records) .instant
   instant-same =
@@ -88,11 +88,11 @@ module _ (s : List ℕ) (J : JobFile s) where
       let there : ℕ = field (J .records) 5 0 4 0 in
       by-test (eqb (counted s 4) 0) _
       (λ t.
-      ap (λ (b : Bool). cond b 0 (le 4 s (begins s 4 + 4))) t
+      ap (λ (b : Bool). cond b 0 (le 4 s (blockStart s 4 + 4))) t
       ∙ sym (ap (λ (b : Bool). cond b 0 there) (sym (ap (λ (c : ℕ). eqb c 0) m) ∙ t)))
       (λ f.
-      let z : begins s 4 + 4 ≡ begins s 4 + 0 * 8 + 4 = omega arith in
-      ap (λ (b : Bool). cond b 0 (le 4 s (begins s 4 + 4))) f
+      let z : blockStart s 4 + 4 ≡ blockStart s 4 + 0 * 8 + 4 = omega arith in
+      ap (λ (b : Bool). cond b 0 (le 4 s (blockStart s 4 + 4))) f
       ∙ ap (le 4 s) z ∙ fields-read s J 4 0 0 4 (lit< tt) (omega (arith, m, eqb-false (counted s 4) 0 f)) (lit≤ tt)
       ∙ sym (ap (λ (b : Bool). cond b 0 there) (sym (ap (λ (c : ℕ). eqb c 0) m) ∙ f)))
 
@@ -112,10 +112,10 @@ module _ (s : List ℕ) (J : JobFile s) where
         ranges = ranges (n 3 (lit< tt) i) (C 3 0 2 (lit< tt) (lit≤ tt) i) (C 3 2 4 (lit< tt) (lit≤ tt) i) (C 3 6 4 (lit< tt) (lit≤ tt) i);
         freezes = n 4 (lit< tt) i;
         instant = instant-same i;
-        draws = n 6 (lit< tt) i;
-        kinds = C 6 0 2 (lit< tt) (lit≤ tt) i;
-        ones = C 6 2 2 (lit< tt) (lit≤ tt) i;
-        twos = C 6 4 2 (lit< tt) (lit≤ tt) i;
+        played = n 6 (lit< tt) i;
+        draws = C 6 0 2 (lit< tt) (lit≤ tt) i;
+        firsts = C 6 2 2 (lit< tt) (lit≤ tt) i;
+        seconds = C 6 4 2 (lit< tt) (lit≤ tt) i;
       }
 
   pub ready-same : readyOf s ≡ readyFrom (givenBy (J .records))
@@ -124,7 +124,7 @@ module _ (s : List ℕ) (J : JobFile s) where
   -- ---- owners that are known are bytes, and none stands past the slots
 
   module _ (few : readyOf s .slots ≤ 1024) (small : readyOf s .people ≤ 32)
-      (known : allKnown s (begins s 5) (counted s 5) (readyOf s .slots) (readyOf s .people) ≡ true) where
+      (known : allKnown s (blockStart s 5) (counted s 5) (readyOf s .slots) (readyOf s .people) ≡ true) where
     abbrev own : List (List ℕ)
     own = bodies 6 (J .records)
 
@@ -134,7 +134,7 @@ module _ (s : List ℕ) (J : JobFile s) where
     record-known k h =
         let R = readyOf s in
         record-says s J (R .slots) (R .people) k h .0
-        (all-each (counted s 5) (recordKnown s (begins s 5) (R .slots) (R .people)) known k (omega (arith, counts-read s J 5 (lit< tt))))
+        (all-each (counted s 5) (recordKnown s (blockStart s 5) (R .slots) (R .people)) known k (omega (arith, counts-read s J 5 (lit< tt))))
 
     byte-owner : (j : ℕ) → ownerIn own j < 256
     byte-owner j =
@@ -167,16 +167,16 @@ module _ (s : List ℕ) (J : JobFile s) where
 
 -- ---- an accepted job
 
-pub accepted-none : (s x : List ℕ) → jobNo (jobResult s x .answer) ≡ 0 → heardOf (jobTests s (length x)) ≡ 0
+pub accepted-none : (s x : List ℕ) → jobRefusal (jobResult s x .answer) ≡ 0 → numberOf (jobTests s (length x)) ≡ 0
 unfolding refusedAs
 accepted-none s x e =
-    by-test (eqb (heardOf (jobTests s (length x))) 0) _ (λ t. eqb-true _ 0 t)
+    by-test (eqb (numberOf (jobTests s (length x))) 0) _ (λ t. eqb-true _ 0 t)
     (λ f.
     let n = eqb-false _ 0 f in
-    absurd (n (sym (ap (λ (y : Result). jobNo (y .answer)) (told-some s x n)) ∙ e)))
+    absurd (n (sym (ap (λ (y : Result). jobRefusal (y .answer)) (answered-some s x n)) ∙ e)))
 
-pub accepted-pass : (s x : List ℕ) → jobNo (jobResult s x .answer) ≡ 0 → AllPass (jobTests s (length x))
-accepted-pass s x e = heard-none (jobTests s (length x)) (numbered s (length x)) .0 (accepted-none s x e)
+pub accepted-pass : (s x : List ℕ) → jobRefusal (jobResult s x .answer) ≡ 0 → AllPass (jobTests s (length x))
+accepted-pass s x e = number-none (jobTests s (length x)) (numbered s (length x)) .0 (accepted-none s x e)
 
 pub job-by-records : JobByRecords
 unfolding jobTests readRow prepareRow

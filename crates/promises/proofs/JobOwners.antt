@@ -14,7 +14,7 @@ use Rattle.owners.specs.Derived.{knownBy}
 use Rattle.records.specs.Fields.{le}
 use Rattle.records.specs.Records.{bodies}
 use Rattle.job.specs.File.{ownerSlot, JobFile}
-use Rattle.job.specs.Stages.{counted, begins, ownerValue, placed, recordKnown}
+use Rattle.job.specs.Stages.{counted, blockStart, ownerValue, placed, recordKnown}
 use Rattle.job.proofs.Layouts.{counts-read, fields-read}
 use Rattle.job.proofs.Placed.{named-has, rest-nobody, past-nobody}
 use Rattle.promises.specs.JobFields.{ownerIn}
@@ -59,22 +59,22 @@ module _ (s : List ℕ) (J : JobFile s) where
   own = bodies 6 (J .records)
 
   -- slot and owner of record k
-  pub slot-read : (k : ℕ) → k < length own → ownerSlot s (begins s 5) k ≡ le 2 (getD own k []) 0
+  pub slot-read : (k : ℕ) → k < length own → ownerSlot s (blockStart s 5) k ≡ le 2 (getD own k []) 0
   unfolding ownerSlot
   slot-read k h = fields-read s J 5 k 0 2 (lit< tt) h (lit≤ tt)
 
-  pub value-read : (k : ℕ) → k < length own → ownerValue s (begins s 5) k ≡ le 2 (getD own k []) 2
+  pub value-read : (k : ℕ) → k < length own → ownerValue s (blockStart s 5) k ≡ le 2 (getD own k []) 2
   unfolding ownerValue
   value-read k h = fields-read s J 5 k 2 2 (lit< tt) h (lit≤ tt)
 
   -- a record that is known names a slot that exists, and nobody or a known person
   pub record-says : (slots people k : ℕ) → k < length own
-      → (recordKnown s (begins s 5) slots people k ≡ true)
+      → (recordKnown s (blockStart s 5) slots people k ≡ true)
       ↔ ((le 2 (getD own k []) 0 < slots) × (knownBy people (le 2 (getD own k []) 2) ≡ true))
   unfolding recordKnown
   record-says slots people k h =
-      let i = ownerSlot s (begins s 5) k in
-      let w = ownerValue s (begins s 5) k in
+      let i = ownerSlot s (blockStart s 5) k in
+      let w = ownerValue s (blockStart s 5) k in
       let q = slot-read k h in
       let v = ap (knownBy people) (value-read k h) in (
         λ e. let x = both (ltb i slots) (knownBy people w) e in let b = ltb-true i slots (x .0) in (omega (arith, b, q), sym v ∙ x .1),
@@ -84,9 +84,9 @@ module _ (s : List ℕ) (J : JobFile s) where
   -- a slot below the count has the owner that is written for it
   module _ (slots : ℕ) (few : slots ≤ 1024) where
     abbrev written : List ℕ
-    written = placed s (begins s 5) slots (counted s 5)
+    written = placed s (blockStart s 5) slots (counted s 5)
 
-    rise : (k : ℕ) → suc k < counted s 5 → ownerSlot s (begins s 5) k < ownerSlot s (begins s 5) (suc k)
+    rise : (k : ℕ) → suc k < counted s 5 → ownerSlot s (blockStart s 5) k < ownerSlot s (blockStart s 5) (suc k)
     rise k h =
         let n = counts-read s J 5 (lit< tt) in
         omega (arith, slot-read k (omega arith), slot-read (suc k) (omega arith), J .right .slots-rise k (omega arith))
@@ -97,16 +97,16 @@ module _ (s : List ℕ) (J : JobFile s) where
         ⊎-elim
         (λ (N : Named own j).
         let k = N .place in
-        let q : ownerSlot s (begins s 5) k ≡ j = slot-read k (N .within) ∙ N .names in
+        let q : ownerSlot s (blockStart s 5) k ≡ j = slot-read k (N .within) ∙ N .names in
         ap (λ (i : ℕ). getD written i 0) (sym q)
-        ∙ named-has s (begins s 5) slots few (counted s 5) rise k (omega (arith, N .within)) (omega (arith, q))
+        ∙ named-has s (blockStart s 5) slots few (counted s 5) rise k (omega (arith, N .within)) (omega (arith, q))
         ∙ value-read k (N .within) ∙ sym (N .gives))
         (λ (U : Unnamed own j).
-        rest-nobody s (begins s 5) slots few (counted s 5) j h
+        rest-nobody s (blockStart s 5) slots few (counted s 5) j h
         (λ k l q. U .none k (omega (arith, l)) (sym (slot-read k (omega (arith, l))) ∙ q))
         ∙ sym (U .gives))
         (named-or-not own j)
 
     -- past the count nobody stands
     pub written-past : (j : ℕ) → slots ≤ j → j < 1024 → getD written j 0 ≡ nobody
-    written-past j h g = past-nobody s (begins s 5) slots few (counted s 5) j h g
+    written-past j h g = past-nobody s (blockStart s 5) slots few (counted s 5) j h g

@@ -4,15 +4,15 @@ use Rattle.job.specs.Outcome.{jobResult}
 use Rattle.job.proofs.Layouts.{rule-13, counts-read, columns-read, settings-read}
 use Rattle.job.proofs.Placed.{named-has, rest-nobody}
 use Rattle.job.proofs.Digits.{digits-value, signed-value}
-use Rattle.job.proofs.Promises.{lowest-heard, accepted-exactly, refused-keeps, listing-stands, listing-fits, total, targets-total}
+use Rattle.job.proofs.Promises.{lowest-number, accepted-exactly, refused-keeps, listing-stands, listing-fits, total, targets-total}
 use Rattle.job.proofs.Promises.{frozen-keeps, stays-covered, owners-fit, base-total-read}
 use Rattle.promises.specs.JobRules.{JobByRule}
 
 pub job-by-rule : JobByRule
 job-by-rule = record {
-  heard = lowest-heard;
-  told = accepted-exactly;
-  kept = λ s x n e. refused-keeps s x n (jobResult s x .out) record { heard = sym e; left = refl };
+  given = lowest-number;
+  answered = accepted-exactly;
+  kept = λ s x n e. refused-keeps s x n (jobResult s x .out) record { said = sym e; left = refl };
   file = rule-13;
   counts = counts-read;
   columns = columns-read;

@@ -8,7 +8,7 @@ use native.Mathlib.Omega.{arith}
 use borrow.Author.Tests.{le-leb, leb-true, eq-eqb, eqb-true}
 use lib.Dec.{eqb, leb, lit<}
 use lib.ListN.{length, getD, replicate, length-replicate}
-use Rattle.paper.specs.Limits.{nobody, heardOf}
+use Rattle.paper.specs.Limits.{nobody, numberOf}
 use Rattle.paper.specs.Count.{all}
 use Rattle.paper.proofs.Logic.{and-true, slot-count-says, people-says}
 use Rattle.paper.proofs.Count.{all-each, each-all, in-each, each-in, getD-over}
@@ -23,13 +23,13 @@ use Rattle.owners.specs.Recount.{evenAt, availableFor, availableAt}
 use Rattle.records.specs.Fields.{Bytes}
 use Rattle.records.specs.Records.{bodies}
 use Rattle.job.specs.File.{fileOk, JobFile}
-use Rattle.job.specs.Stages.{counted, begins, peopleOf, jobCountsOk, columnOf, rangesOf, capacitiesOf, priorsOf, settingsIn, baseOf, Ready}
+use Rattle.job.specs.Stages.{counted, blockStart, peopleOf, jobCountsOk, columnOf, rangesOf, capacitiesOf, priorsOf, settingsIn, baseOf, Ready}
 use Rattle.job.specs.Stages.{readyOf, recordKnown, allKnown, allEven, writtenOf, ownersOf}
 use Rattle.job.specs.Outcome.{testAt, readRow, prepareRow, jobTests}
 use Rattle.job.proofs.Layouts.{rule-13, counts-read}
 use Rattle.job.proofs.Prepares.{few-says}
 use Rattle.job.proofs.Passing.{AtomsSound}
-use Rattle.job.proofs.Heard.{Few, each-few, base-fits, atomTests, atoms-right, units-there}
+use Rattle.job.proofs.Answered.{Few, each-few, base-fits, atomTests, atoms-right, units-there}
 use Rattle.promises.specs.Tests.{SlotsRight, RangesRight, FiguresRight, SettingsRight}
 use Rattle.promises.specs.JobFields.{Given, givenBy, ownerIn, baseFrom}
 use Rattle.promises.specs.JobTests.{PassesWhen, PassBefore, CountsRight, OwnersEven, OwnersKnown, OwnersAble, JobTestsByRule}
@@ -111,7 +111,7 @@ module _ (s : List ℕ) (J : JobFile s) (few : Few s) where
 
   -- ---- 10 to 12, where the slots and the settings are right too
 
-  module _ (atoms : heardOf (atomTests s) ≡ 0) where
+  module _ (atoms : numberOf (atomTests s) ≡ 0) where
     slots-few : readyOf s .slots ≤ 1024
     slots-few = slot-count-says (readyOf s .slots) (atoms-right s few atoms .count-ok) .1
 
@@ -126,43 +126,43 @@ module _ (s : List ℕ) (J : JobFile s) (few : Few s) where
     at-slot k h = written-at s J (R .slots) slots-few k h
 
     even-test : settingsOk (settingsIn s) ≡ true
-        → (allEven (R .slots) (R .units) (R .firsts) (writtenOf s) ≡ true) ↔ OwnersEven (J .records) R
+        → (allEven (R .slots) (R .units) (R .begins) (writtenOf s) ≡ true) ↔ OwnersEven (J .records) R
     unfolding allEven evenAt
     even-test ok =
         let right = units-there s few (atoms-right s few atoms) ok .0 in
-        let a : ℕ → ℕ = unitStart (R .firsts) in
-        let e : ℕ → ℕ = unitEnd (R .slots) (R .units) (R .firsts) in
-        let within = unit-within (R .slots) (R .units) (R .firsts) right in
+        let a : ℕ → ℕ = unitStart (R .begins) in
+        let e : ℕ → ℕ = unitEnd (R .slots) (R .units) (R .begins) in
+        let within = unit-within (R .slots) (R .units) (R .begins) right in
         let o = writtenOf s in (
           λ t u k h b c.
               let w = within u h in
               let x = in-each (a u) (e u) (λ j. eqb (getD o j 0) (getD o (a u) 0))
-              (all-each (R .units) (evenAt (R .slots) (R .units) (R .firsts) o) t u h) k b c in
+              (all-each (R .units) (evenAt (R .slots) (R .units) (R .begins) o) t u h) k b c in
               sym (at-slot k (omega arith)) ∙ eqb-true (getD o k 0) (getD o (a u) 0) x ∙ at-slot (a u) (omega arith),
           λ E.
-              each-all (R .units) (evenAt (R .slots) (R .units) (R .firsts) o)
+              each-all (R .units) (evenAt (R .slots) (R .units) (R .begins) o)
               (λ u h. let w = within u h in each-in (a u) (e u) (λ j. eqb (getD o j 0) (getD o (a u) 0))
               (λ k b c. eq-eqb (getD o k 0) (getD o (a u) 0)
               (at-slot k (omega arith) ∙ E u k h b c ∙ sym (at-slot (a u) (omega arith))))),
         )
 
-    known-right : (allKnown s (begins s 5) (counted s 5) (R .slots) (R .people) ≡ true) ↔ OwnersKnown (J .records) R
+    known-right : (allKnown s (blockStart s 5) (counted s 5) (R .slots) (R .people) ≡ true) ↔ OwnersKnown (J .records) R
     unfolding allKnown
     known-right =
         let n = counts-read s J 5 (lit< tt) in
         let says = record-says s J (R .slots) (R .people) in (
           λ e k h.
-              let x = says k h .0 (all-each (counted s 5) (recordKnown s (begins s 5) (R .slots) (R .people)) e k (omega (arith, n))) in
+              let x = says k h .0 (all-each (counted s 5) (recordKnown s (blockStart s 5) (R .slots) (R .people)) e k (omega (arith, n))) in
               (x .0, known-test (R .people) _ .0 (x .1)),
           λ O.
-              each-all (counted s 5) (recordKnown s (begins s 5) (R .slots) (R .people))
+              each-all (counted s 5) (recordKnown s (blockStart s 5) (R .slots) (R .people))
               (λ k h.
               let l : k < length own = omega (arith, n) in
               let x = O k l in
               says k l .1 (x .0, known-test (R .people) _ .1 (x .1))),
         )
 
-    able-test : allKnown s (begins s 5) (counted s 5) (R .slots) (R .people) ≡ true
+    able-test : allKnown s (blockStart s 5) (counted s 5) (R .slots) (R .people) ≡ true
         → (all (R .slots) (availableAt (R .avail) (ownersOf s)) ≡ true) ↔ OwnersAble (J .records) R
     unfolding availableAt
     able-test known =
@@ -188,8 +188,8 @@ module _ (s : List ℕ) (room : ℕ) (J : JobFile s) where
   unfolding jobTests readRow prepareRow
   few-before h P = P 1 h
 
-  atoms-before : {k : ℕ} → 5 < k → PassBefore (jobTests s room) k → heardOf (atomTests s) ≡ 0
-  unfolding jobTests readRow prepareRow heardOf
+  atoms-before : {k : ℕ} → 5 < k → PassBefore (jobTests s room) k → numberOf (atomTests s) ≡ 0
+  unfolding jobTests readRow prepareRow numberOf
   atoms-before h P = simp (P 3 (omega arith), P 4 (omega arith), P 5 h)
 
 pub job-tests : JobTestsByRule

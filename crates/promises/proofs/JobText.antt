@@ -17,9 +17,9 @@ use Rattle.job.specs.File.{JobFile}
 use Rattle.job.specs.Listing.{digits, signed, ownerText, answerLetter, headText, slotLine, personLine, drawLine, uncoveredLine, refusalLine}
 use Rattle.job.specs.Listing.{lines, Listed, slotAt, personAt, drawAt, listingOf}
 use Rattle.job.specs.Stages.{listedOf}
-use Rattle.job.specs.Outcome.{Result, refusedAs, listedAs, jobNo, jobLength, jobResult, refusalResult}
+use Rattle.job.specs.Outcome.{Result, refusedAs, listedAs, jobRefusal, jobLength, jobResult, refusalResult}
 use Rattle.job.proofs.Digits.{digits-value, digits-decimal, signed-value}
-use Rattle.job.proofs.Results.{told-none}
+use Rattle.job.proofs.Results.{answered-none}
 use Rattle.job.proofs.Promises.{listing-stands}
 use Rattle.job.proofs.RefusalLines.{line-short, line-stands}
 use Rattle.promises.specs.JobFields.{givenBy, ownersBy, listedFrom}
@@ -95,13 +95,13 @@ module _ (L : Listed) where
 
 -- ---- an accepted job
 
-listing-left : (s x : List ℕ) (J : JobFile s) → jobNo (jobResult s x .answer) ≡ 0
+listing-left : (s x : List ℕ) (J : JobFile s) → jobRefusal (jobResult s x .answer) ≡ 0
     → let n = jobLength 0 (jobResult s x .answer) in
     (take n (jobResult s x .out) ≡ textOf (linesOf (listedFrom (givenBy (J .records)) (ownersBy (J .records)))))
     × (drop n (jobResult s x .out) ≡ drop n x)
 unfolding listedAs
 listing-left s x J e =
-    let p = ap (λ (y : Result). y .answer) (told-none s x (accepted-none s x e)) in
+    let p = ap (λ (y : Result). y .answer) (answered-none s x (accepted-none s x e)) in
     let stands = listing-stands s x (jobLength 0 (jobResult s x .answer)) (p ∙ ap answer.Length (sym (ap (jobLength 0) p))) in
     (stands .0 ∙ ap listingOf (job-by-records s x J e) ∙ listing-text _, stands .1)
 
@@ -121,30 +121,30 @@ module _ (n : ℕ) (x : List ℕ) where
       g h (line-stands n x (omega (arith, h, ap length t)) ∙ ap (λ (l : List ℕ). listedAs l x) t))
       (lt-or-ge (length x) (length (refusalText n)))
 
-  heard-two : refusalResult n x ≡ refusedAs 2 x → jobNo (refusalResult n x .answer) ≡ 2
+  number-two : refusalResult n x ≡ refusedAs 2 x → jobRefusal (refusalResult n x .answer) ≡ 2
   unfolding refusedAs
-  heard-two e = ap (λ (y : Result). jobNo (y .answer)) e
+  number-two e = ap (λ (y : Result). jobRefusal (y .answer)) e
 
-  heard-none : (l : List ℕ) → refusalResult n x ≡ listedAs l x → jobNo (refusalResult n x .answer) ≡ 0
+  number-none : (l : List ℕ) → refusalResult n x ≡ listedAs l x → jobRefusal (refusalResult n x .answer) ≡ 0
   unfolding listedAs
-  heard-none l e = ap (λ (y : Result). jobNo (y .answer)) e
+  number-none l e = ap (λ (y : Result). jobRefusal (y .answer)) e
 
-  line-heard : (jobNo (refusalResult n x .answer) ≡ 0) ↔ (length (refusalText n) ≤ length x)
-  line-heard = (
-    λ z. by-room _ (λ h e. absurd (omega (arith, z, heard-two e))) (λ h e. h),
-    λ l. by-room _ (λ h e. absurd (omega (arith, h, l))) (λ h e. heard-none _ e),
+  line-number : (jobRefusal (refusalResult n x .answer) ≡ 0) ↔ (length (refusalText n) ≤ length x)
+  line-number = (
+    λ z. by-room _ (λ h e. absurd (omega (arith, z, number-two e))) (λ h e. h),
+    λ l. by-room _ (λ h e. absurd (omega (arith, h, l))) (λ h e. number-none _ e),
   )
 
-  line-kept : (jobNo (refusalResult n x .answer) ≡ 0 → ⊥) → (jobNo (refusalResult n x .answer) ≡ 2) × (refusalResult n x .out ≡ x)
+  line-kept : (jobRefusal (refusalResult n x .answer) ≡ 0 → ⊥) → (jobRefusal (refusalResult n x .answer) ≡ 2) × (refusalResult n x .out ≡ x)
   unfolding refusedAs
-  line-kept f = by-room _ (λ h e. (heard-two e, ap (λ (y : Result). y .out) e)) (λ h e. absurd (f (heard-none _ e)))
+  line-kept f = by-room _ (λ h e. (number-two e, ap (λ (y : Result). y .out) e)) (λ h e. absurd (f (number-none _ e)))
 
-  line-left : jobNo (refusalResult n x .answer) ≡ 0
+  line-left : jobRefusal (refusalResult n x .answer) ≡ 0
       → let l = jobLength 0 (refusalResult n x .answer) in
       (take l (refusalResult n x .out) ≡ refusalText n) × (drop l (refusalResult n x .out) ≡ drop l x)
   unfolding listedAs put
   line-left z =
-      by-room _ (λ h e. absurd (omega (arith, z, heard-two e)))
+      by-room _ (λ h e. absurd (omega (arith, z, number-two e)))
       (λ h e.
       let t = refusalText n in
       let l = jobLength 0 (refusalResult n x .answer) in
@@ -158,7 +158,7 @@ job-text = record {
   listing = listing-left;
   digits = λ n h. (digits-decimal n h, digits-value n h);
   signed = signed-value;
-  refusal = line-heard;
+  refusal = line-number;
   refusal-2 = line-kept;
   refusal-line = line-left;
 }

@@ -1,7 +1,7 @@
 -- The proofs of what is promised.
 pub mod Table
 pub mod Tests
-pub mod Faults
+pub mod Numbers
 pub mod Calls
 pub mod TwoUnits
 pub mod Refusals

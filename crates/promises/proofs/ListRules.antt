@@ -7,7 +7,7 @@ use native.Mathlib.Omega.{arith}
 use lib.ListN.{length, getD}
 use Rattle.paper.specs.Bits.{bitOf}
 use Rattle.paper.specs.Count.{all, allIn}
-use Rattle.paper.specs.Limits.{peopleOk, slotCountOk, heardOf}
+use Rattle.paper.specs.Limits.{peopleOk, slotCountOk, numberOf}
 use Rattle.paper.specs.Rows.{unless}
 use Rattle.paper.proofs.Logic.{lt-or-ge}
 use mathlib.Core.Logic.{⊎-elim}
@@ -41,41 +41,38 @@ use Rattle.promises.proofs.UnitRules.{units-by-rule}
 
 -- ---- of what is built
 
-run-built : (s : SlotSet) (i first last : ℕ) → heardOf (lengthRow (s .len)) ≡ 0 → Around 1 (slotsOf s) (s .len) i first last
+run-built : (s : SlotSet) (i first last : ℕ) → numberOf (lengthRow (s .len)) ≡ 0 → Around 1 (slotsOf s) (s .len) i first last
     → built .run s i ≡ Span first last
 run-built s i first last e a =
-    let member : Member (slotsOf s) (s .len) i = (omega (arith, a .to, a .fits), a .all i (a .from) (a .to)) in
-    let r = sets-by-rule .run (slotsOf s) (slot-lt (s .words) 0) (s .len) i member in
-    let q = r .2 .only first last a in
-    ap (λ (n : ℕ). runAs n (slotsOf s) (s .len) i) e ∙ r .2 .answer ∙ ap (λ (x : ℕ). Span x (r .1)) (sym (q .0))
-    ∙ ap (λ (x : ℕ). Span first x) (sym (q .1))
+    let r = sets-by-rule .run (slotsOf s) (slot-lt (s .words) 0) (s .len) i in
+    ap (λ (n : ℕ). runAs n (slotsOf s) (s .len) i) e ∙ sym (r .only (Span first last) a)
 
-next-run-built : (s : SlotSet) (at : ℕ) (l : List Ends) → heardOf (lengthRow (s .len)) ≡ 0 → AreRuns (slotsOf s) (s .len) at l
+next-run-built : (s : SlotSet) (at : ℕ) (l : List Ends) → numberOf (lengthRow (s .len)) ≡ 0 → AreRuns (slotsOf s) (s .len) at l
     → built .nextRun s at ≡ firstAhead l
 next-run-built s at l e a =
     ap (λ (n : ℕ). nextRunAs n (slotsOf s) (s .len) at) e ∙ sets-by-rule .next-run (slotsOf s) (slot-lt (s .words) 0) (s .len) at l a
 
 module _ (ws : List ℕ) (people person len : ℕ) (firsts lasts : List ℕ)
-    (e : heardOf (runsRow ws people person len (length firsts) (length lasts)) ≡ 0) (l : List Ends)
+    (e : numberOf (runsRow ws people person len (length firsts) (length lasts)) ≡ 0) (l : List Ends)
     (a : AreRuns (rowSlots ws person) len 0 l) where
   all-are : l ≡ allRuns (rowSlots ws person) len
   all-are = sets-by-rule .runs (rowSlots ws person) (slot-lt ws (16 * person)) len .only l a
 
-  abbrev Told : List Ends → Type 0
-  Told l =
+  abbrev Right : List Ends → Type 0
+  Right l =
       let x = allRunsOf ws people person len firsts lasts in
       (x .answer ≡ number.Is (length l)) × FrontOf (λ r. r .first) l firsts (x .firsts) × FrontOf (λ r. r .last) l lasts (x .lasts)
 
-  all-runs-built : Told l
-  all-runs-built = mathlib.Core.Path.subst Told (sym all-are) (sets-by-rule .all-runs ws people person len firsts lasts e)
+  all-runs-built : Right l
+  all-runs-built = mathlib.Core.Path.subst Right (sym all-are) (sets-by-rule .all-runs ws people person len firsts lasts e)
 
 pub lists-by-rule : ListsByRule built
 lists-by-rule = record {
   rotations = λ s slots starts ends list e. (rotationStarts s slots starts, units-by-rule .rotations s slots starts ends list e .0);
   units = λ s slots starts ends list e. (unitStarts s slots starts, units-by-rule .units s slots starts ends list e .0);
   slot-domain = λ avail people slots k list e. (slotDomain avail people k, units-by-rule .slot-domain avail people slots k list e);
-  unit-domain = λ avail people slots units firsts u list e.
-      (unitDomain avail people slots units firsts u, units-by-rule .domain avail people slots units firsts u list e);
+  unit-domain = λ avail people slots units begins u list e.
+      (unitDomain avail people slots units begins u, units-by-rule .domain avail people slots units begins u list e);
   unit-domains = units-by-rule .domains;
   run = run-built;
   next-run = next-run-built;
@@ -107,14 +104,14 @@ differ p q l m x y v w n a b t u d e =
 
 -- every slot a rotation and a unit: of one slot, and of two
 abbrev each : Settings
-each = record { fairness = 0; lock = 0; boundary = 0; value = 1; days = 1 }
+each = record { fairness = 0; lock = 0; boundary = 0; edition = 0; value = 1; days = 1 }
 
-one-accepted : heardOf (startsRow each 1 (0 ∷ []) (60 ∷ []) (0 ∷ [])) ≡ 0
-unfolding heardOf startsRow slotCountOk slotRoomOk settingsOk boundaryOk slotsOk all slotOkAt slotOk prevEnd
+one-accepted : numberOf (startsRow each 1 (0 ∷ []) (60 ∷ []) (0 ∷ [])) ≡ 0
+unfolding numberOf startsRow slotCountOk slotRoomOk settingsOk boundaryOk slotsOk all slotOkAt slotOk prevEnd
 one-accepted = refl
 
-two-accepted : heardOf (startsRow each 2 (0 ∷ 60 ∷ []) (60 ∷ 120 ∷ []) (0 ∷ 0 ∷ [])) ≡ 0
-unfolding heardOf startsRow slotCountOk slotRoomOk settingsOk boundaryOk slotsOk all slotOkAt slotOk prevEnd
+two-accepted : numberOf (startsRow each 2 (0 ∷ 60 ∷ []) (60 ∷ 120 ∷ []) (0 ∷ 0 ∷ [])) ≡ 0
+unfolding numberOf startsRow slotCountOk slotRoomOk settingsOk boundaryOk slotsOk all slotOkAt slotOk prevEnd
 two-accepted = refl
 
 each-begins : (k : ℕ) → k < 2 → rotationBegins 0 1 (0 ∷ 60 ∷ []) k ≡ true
@@ -188,7 +185,7 @@ around-two = record {
 
 module _ (C : Component) (L : ListsByRule C) where
   rotations-fall : (n : Number)
-      → ((s : Settings) (slots : ℕ) (starts ends list : List ℕ) → heardOf (startsRow s slots starts ends list) ≡ 0
+      → ((s : Settings) (slots : ℕ) (starts ends list : List ℕ) → numberOf (startsRow s slots starts ends list) ≡ 0
       → C .rotations s slots starts ends list .answer ≡ n) → ⊥
   rotations-fall n f =
       let a = L .rotations each 1 (0 ∷ []) (60 ∷ []) (0 ∷ []) one-accepted in
@@ -197,7 +194,7 @@ module _ (C : Component) (L : ListsByRule C) where
       (f _ _ _ _ _ one-accepted) (f _ _ _ _ _ two-accepted)
 
   units-fall : (n : Number)
-      → ((s : Settings) (slots : ℕ) (starts ends list : List ℕ) → heardOf (startsRow s slots starts ends list) ≡ 0
+      → ((s : Settings) (slots : ℕ) (starts ends list : List ℕ) → numberOf (startsRow s slots starts ends list) ≡ 0
       → C .unitStarts s slots starts ends list .answer ≡ n) → ⊥
   unfolding unitBegins
   units-fall n f =
@@ -206,19 +203,19 @@ module _ (C : Component) (L : ListsByRule C) where
       differ _ _ (a .0) (b .0) _ _ _ _ n (a .1) (b .1) refl refl (f _ _ _ _ _ one-accepted) (f _ _ _ _ _ two-accepted)
 
   slot-domain-falls : (n : Number)
-      → ((avail : List ℕ) (people slots k : ℕ) (list : List ℕ) → heardOf (slotDomainRow avail people slots k list) ≡ 0
+      → ((avail : List ℕ) (people slots k : ℕ) (list : List ℕ) → numberOf (slotDomainRow avail people slots k list) ≡ 0
       → C .slotDomain avail people slots k list .answer ≡ n) → ⊥
-  unfolding heardOf slotDomainRow peopleOk slotCountOk available slot bitOf
+  unfolding numberOf slotDomainRow peopleOk slotCountOk available slot bitOf
   slot-domain-falls n f =
       let a = L .slot-domain (words 1) 1 1 0 (0 ∷ []) refl in
       let b = L .slot-domain (words 1 ++ words 1) 2 1 0 (0 ∷ 0 ∷ []) refl in
       differ _ _ (a .0) (b .0) _ _ _ _ n (a .1) (b .1) refl refl (f _ _ _ _ _ refl) (f _ _ _ _ _ refl)
 
   unit-domain-falls : (n : Number)
-      → ((avail : List ℕ) (people slots units : ℕ) (firsts : List ℕ) (u : ℕ) (list : List ℕ)
-      → heardOf (unitDomainRow avail people slots units firsts u list) ≡ 0
-      → C .unitDomain avail people slots units firsts u list .answer ≡ n) → ⊥
-  unfolding heardOf unitDomainRow peopleOk slotCountOk unitsOk startOk all allIn able available unitEnd slot bitOf
+      → ((avail : List ℕ) (people slots units : ℕ) (begins : List ℕ) (u : ℕ) (list : List ℕ)
+      → numberOf (unitDomainRow avail people slots units begins u list) ≡ 0
+      → C .unitDomain avail people slots units begins u list .answer ≡ n) → ⊥
+  unfolding numberOf unitDomainRow peopleOk slotCountOk unitsOk startOk all allIn able available unitEnd slot bitOf
   unit-domain-falls n f =
       let a = L .unit-domain (words 1) 1 1 1 (0 ∷ []) 0 (0 ∷ []) refl in
       let b = L .unit-domain (words 1 ++ words 1) 2 1 1 (0 ∷ []) 0 (0 ∷ 0 ∷ []) refl in
@@ -226,10 +223,10 @@ module _ (C : Component) (L : ListsByRule C) where
 
   -- one person, who is available for the one slot or isn't
   masks-fall : (m : ℕ)
-      → ((avail : List ℕ) (people slots units : ℕ) (firsts masks : List ℕ)
-      → heardOf (unitDomainsRow avail people slots units firsts masks) ≡ 0
-      → getD (C .unitDomains avail people slots units firsts masks) 0 0 ≡ m) → ⊥
-  unfolding heardOf unitDomainsRow peopleOk slotCountOk unitsOk startOk all unitEnd
+      → ((avail : List ℕ) (people slots units : ℕ) (begins masks : List ℕ)
+      → numberOf (unitDomainsRow avail people slots units begins masks) ≡ 0
+      → getD (C .unitDomains avail people slots units begins masks) 0 0 ≡ m) → ⊥
+  unfolding numberOf unitDomainsRow peopleOk slotCountOk unitsOk startOk all unitEnd
   masks-fall m f =
       let there = L .unit-domains (words 1) 1 1 1 (0 ∷ []) (0 ∷ []) refl .0 0 0 (omega arith) in
       let away = L .unit-domains (words 0) 1 1 1 (0 ∷ []) (0 ∷ []) refl .0 0 0 (omega arith) in
@@ -238,16 +235,16 @@ module _ (C : Component) (L : ListsByRule C) where
       mathlib.Core.Bool.true≢false (sym (away .0 (ap (λ (x : ℕ). bitOf x 0) (sym same) ∙ bit) .1) ∙ away-able)
 
   -- the empty set of one slot, and the full one
-  run-falls : (x : Run) → ((s : SlotSet) (i : ℕ) → heardOf (lengthRow (s .len)) ≡ 0 → C .run s i ≡ x) → ⊥
-  unfolding heardOf lengthRow
+  run-falls : (x : Run) → ((s : SlotSet) (i : ℕ) → numberOf (lengthRow (s .len)) ≡ 0 → C .run s i ≡ x) → ⊥
+  unfolding numberOf lengthRow
   run-falls x f =
       let a = L .run (inWords 1 (words 1)) 0 0 0 refl around-one in
       let b = L .run (inWords 2 (words 3)) 1 0 1 refl around-two in
       let q : Span 0 0 ≡ Span 0 1 = sym a ∙ f _ _ refl ∙ sym (f _ _ refl) ∙ b in
       let z : _≡_ {A = ℕ} 0 1 = cc in omega arith
 
-  next-run-falls : (x : NextRun) → ((s : SlotSet) (at : ℕ) → heardOf (lengthRow (s .len)) ≡ 0 → C .nextRun s at ≡ x) → ⊥
-  unfolding heardOf lengthRow
+  next-run-falls : (x : NextRun) → ((s : SlotSet) (at : ℕ) → numberOf (lengthRow (s .len)) ≡ 0 → C .nextRun s at ≡ x) → ⊥
+  unfolding numberOf lengthRow
   next-run-falls x f =
       let a = L .next-run (inWords 1 (words 1)) 0 (full ∷ []) refl one-run in
       let b = L .next-run (inWords 1 (words 0)) 0 [] refl no-run in
@@ -256,9 +253,9 @@ module _ (C : Component) (L : ListsByRule C) where
 
   all-runs-fall : (n : Number)
       → ((ws : List ℕ) (people person len : ℕ) (firsts lasts : List ℕ)
-      → heardOf (runsRow ws people person len (length firsts) (length lasts)) ≡ 0
+      → numberOf (runsRow ws people person len (length firsts) (length lasts)) ≡ 0
       → C .allRuns ws people person len firsts lasts .answer ≡ n) → ⊥
-  unfolding heardOf runsRow setsRow peopleOk
+  unfolding numberOf runsRow setsRow peopleOk
   all-runs-fall n f =
       let a = L .all-runs (words 1) 1 0 1 (0 ∷ []) (0 ∷ []) refl (full ∷ []) one-run in
       let b = L .all-runs (words 0) 1 0 1 (0 ∷ []) (0 ∷ []) refl [] no-run in

@@ -17,7 +17,7 @@ use Rattle.rota.specs.Entries.{playedList}
 use Rattle.rota.proofs.Plays.{owners-append, answers-append, answers-length, draws-length}
 use Rattle.owners.proofs.Steps.{afresh-again, afresh-fit}
 use Rattle.rota.specs.declared.draws.Draw as struct
-use Rattle.rota.specs.Draws.{numbers, kinds, ones, twos}
+use Rattle.rota.specs.Draws.{numbers, draws, firsts, seconds}
 use Rattle.rota.proofs.Alike.{draws-same}
 use Rattle.promises.specs.Entries.{Call, built, noOf, playOf, afreshIn, boardIn, ownersIn, drawsIn}
 use Rattle.promises.specs.Rota.{Words}
@@ -32,7 +32,7 @@ unfolding onto
 said c e =
     ap (λ (y : Outcome). take (c .count) (y .answers)) (accepted-is c e)
     ∙ take-at (answers (boardIn c) (c .owners) (drawsIn c)) _ (c .count)
-    (answers-length (boardIn c) (c .owners) (drawsIn c) ∙ draws-length (c .kinds) (c .ones) (c .twos) (c .count))
+    (answers-length (boardIn c) (c .owners) (drawsIn c) ∙ draws-length (c .draws) (c .firsts) (c .seconds) (c .count))
 
 accepted-number : (c : Call) → playOf c .number ≡ 0 → noOf c ≡ 0
 unfolding playedList outcome
@@ -70,8 +70,8 @@ ends-one c o D p (q ∷ ps) f A =
           ∙ sym (owners-append B o (drawsIn k) (drawsOfParts (q ∷ ps)));
       derived =
           r .derived ∙ ap (afresh (c .plan) n) derived
-          ∙ afresh-again (c .plan) (ownersAfter B o (drawsIn k)) n D (asks k e .grounds .on .sound .slots-few)
-          (asks k e .grounds .on .room .sets-room) f;
+          ∙ afresh-again (c .plan) (ownersAfter B o (drawsIn k)) n D (asks k e .right .on .sound .slots-few)
+          (asks k e .right .on .room .sets-room) f;
       answers =
           ap₂ _++_ (said k e) (r .answers ∙ ap (λ (l : List ℕ). answers B l (drawsOfParts (q ∷ ps))) owners)
           ∙ sym (answers-append B o (drawsIn k) (drawsOfParts (q ∷ ps)));
@@ -92,9 +92,9 @@ many-calls c o D p ps f A w W =
       room = F .room;
       starts = F .starts;
       flags = F .flags;
-      kinds = W .kinds;
-      ones = W .ones;
-      twos = W .twos;
+      draws = W .draws;
+      firsts = W .firsts;
+      seconds = W .seconds;
       answers = W .answers;
       slots = F .slots;
       units = F .units;
@@ -104,19 +104,19 @@ many-calls c o D p ps f A w W =
     let x = accepted-is v e in
     let B = boardIn c in
     let owners : playOf v .owners ≡ lastOwners built c o D (p ∷ ps) =
-    ap (λ (y : Outcome). y .owners) x ∙ ap (ownersAfter B o) (W .draws) ∙ sym (r .owners) in
+    ap (λ (y : Outcome). y .owners) x ∙ ap (ownersAfter B o) (W .together) ∙ sym (r .owners) in
     record {
       accepted = ap (λ (y : Outcome). y .number) x;
       owners = owners;
       derived =
           ap (λ (y : Outcome). y .derived) x
           ∙ ap (λ (l : List ℕ). afresh (c .plan) l D) (sym (ap (λ (y : Outcome). y .owners) x) ∙ owners) ∙ sym (r .derived);
-      answers = said v e ∙ ap (answers B o) (W .draws) ∙ sym (r .answers);
+      answers = said v e ∙ ap (answers B o) (W .together) ∙ sym (r .answers);
     }
 
 -- ---- lists of structs
 
-struct-draws : (ds : List struct.Draw) → drawsOf (kinds ds) (ones ds) (twos ds) (length ds) ≡ map numbers ds
+struct-draws : (ds : List struct.Draw) → drawsOf (draws ds) (firsts ds) (seconds ds) (length ds) ≡ map numbers ds
 struct-draws ds = sym (draws-same ds (length ds) (omega arith)) ∙ ap (map numbers) (take-length ds)
 
 map-both : (ds es : List struct.Draw) → map numbers (ds ++ es) ≡ map numbers ds ++ map numbers es
@@ -128,17 +128,17 @@ map-length g [] = refl
 map-length g (d ∷ ds) = ap suc (map-length g ds)
 
 pub structs-cut : StructsCut
-unfolding kinds ones twos drawsOfParts
+unfolding draws firsts seconds drawsOfParts
 structs-cut ds es x y z few room =
     let l = ds ++ es in
     let at-most : (g : struct.Draw → ℕ) → length l ≤ length (map g l) = λ g. omega (arith, map-length g l) in
     record {
-      draws =
+      together =
           struct-draws l ∙ map-both ds es
-          ∙ ap₂ _++_ (sym (struct-draws ds)) (sym (struct-draws es) ∙ sym (append-nil (drawsOf (kinds es) (ones es) (twos es) (length es))));
+          ∙ ap₂ _++_ (sym (struct-draws ds)) (sym (struct-draws es) ∙ sym (append-nil (drawsOf (draws es) (firsts es) (seconds es) (length es))));
       few = few;
-      kinds = at-most (λ d. d .draw);
-      ones = at-most (λ d. d .first);
-      twos = at-most (λ d. d .second);
+      draws = at-most (λ d. d .draw);
+      firsts = at-most (λ d. d .first);
+      seconds = at-most (λ d. d .second);
       answers = room;
     }

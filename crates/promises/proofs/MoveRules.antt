@@ -4,7 +4,7 @@ use mathlib.Core.List.{List}
 use Prim.Native.Nat.{ℕ, _<_}
 use lib.ListN.{getD}
 use Rattle.rota.specs.Board.{Board, ownerOf, RunOf}
-use Rattle.rota.specs.Moves.{firstOf, lastOf}
+use Rattle.rota.specs.Moves.{runFirst, runLast}
 use Rattle.rota.specs.Plays.{drawsOf}
 use Rattle.owners.specs.Entries.{Outcome}
 use Rattle.rota.specs.Acts as acts
@@ -19,17 +19,17 @@ use Rattle.promises.proofs.Calls.{accepted-is}
 use Rattle.promises.proofs.Rota.{asks}
 
 play-answers : (c : Call) → noOf c ≡ 0 → (i : ℕ) → i < c .count
-    → acts.Heard (getD (playOf c .answers) i 0) (acts.Acts (boardIn c) (foundAt c i) (drawAt c i))
+    → acts.GivenBy (getD (playOf c .answers) i 0) (acts.Acts (boardIn c) (foundAt c i) (drawAt c i))
     (acts.ChoiceOutside (boardIn c) (foundAt c i) (drawAt c i))
 play-answers c e i h =
-    subst (λ (r : ℕ). acts.Heard r (acts.Acts (boardIn c) (foundAt c i) (drawAt c i))
+    subst (λ (r : ℕ). acts.GivenBy r (acts.Acts (boardIn c) (foundAt c i) (drawAt c i))
     (acts.ChoiceOutside (boardIn c) (foundAt c i) (drawAt c i)))
     (sym (ap (λ (y : Outcome). getD (y .answers) i 0) (accepted-is c e)))
-    (answers-exactly (boardIn c) (c .owners) (c .kinds) (c .ones) (c .twos) (c .answers) (c .count) i h)
+    (answers-exactly (boardIn c) (c .owners) (c .draws) (c .firsts) (c .seconds) (c .answers) (c .count) i h)
 
 run-one : (B : Board) (o : List ℕ) (u a b : ℕ) → u < B .units → RunOf (B .units) (ownerOf B o) u a b
-    → (a ≡ firstOf B o u) × (b ≡ lastOf B o u)
-unfolding firstOf lastOf
+    → (a ≡ runFirst B o u) × (b ≡ runLast B o u)
+unfolding runFirst runLast
 run-one B o u a b h R = run-only (ownerOf B o) (B .units) u a b h R
 
 pub moves-by-rule : MovesByRule
@@ -37,8 +37,8 @@ moves-by-rule = record {
   answers = draw-acts-exactly;
   play = play-answers;
   hands-over = λ c e i A k h.
-      next-hands-over (c .plan) (c .avail) (c .units) (c .firsts) (c .frozen) (c .count) (enoughIn c) (c .owners)
-      (c .derived) (c .answers) (asks c e) (drawsOf (c .kinds) (c .ones) (c .twos) i) (drawAt c i) A k h;
+      next-hands-over (c .plan) (c .avail) (c .units) (c .begins) (c .frozen) (c .count) (enoughIn c) (c .owners)
+      (c .derived) (c .answers) (asks c e) (drawsOf (c .draws) (c .firsts) (c .seconds) i) (drawAt c i) A k h;
   keeps = draw-keeps;
   handed = handed-exactly;
   run = run-of;

@@ -58,16 +58,16 @@ module _ (c : Call) (e : noOf c ≡ 0) where
 
   sound : BoardSound B
   sound =
-      asks-sound (c .plan) (c .avail) (c .units) (c .firsts) (c .frozen) (c .count) (enoughIn c) (c .owners) (c .derived)
+      asks-sound (c .plan) (c .avail) (c .units) (c .begins) (c .frozen) (c .count) (enoughIn c) (c .owners) (c .derived)
       (c .answers) (asks c e)
 
   even : Even B (c .owners)
   even =
-      asks-even (c .plan) (c .avail) (c .units) (c .firsts) (c .frozen) (c .count) (enoughIn c) (c .owners) (c .derived)
+      asks-even (c .plan) (c .avail) (c .units) (c .begins) (c .frozen) (c .count) (enoughIn c) (c .owners) (c .derived)
       (c .answers) (asks c e)
 
   abbrev first : ℕ → List Draw
-  first i = drawsOf (c .kinds) (c .ones) (c .twos) i
+  first i = drawsOf (c .draws) (c .firsts) (c .seconds) i
 
   -- what draw i leaves is what draw i + 1 finds
   found-next : (i : ℕ) → foundAt c (suc i) ≡ step B (foundAt c i) (drawAt c i)
@@ -122,7 +122,7 @@ unfolding allIn
 in-false a e p h = let w = all-false (e - a) (λ j. p (a + j)) h in (a + w .0, omega arith, omega (arith, w .1), w .2)
 
 module _ (c : Call) (e : noOf c ≡ 0) where
-  ok : unitsOk (c .plan .slots) (c .units) (c .firsts) ≡ true
+  ok : unitsOk (c .plan .slots) (c .units) (c .begins) ≡ true
   ok = accepted-says c e .units
 
   to-slots : (u k : ℕ) → InUnit (boardIn c) u k → InSlots c u k
@@ -130,8 +130,8 @@ module _ (c : Call) (e : noOf c ≡ 0) where
     known = I .below;
     from = I .from;
     before-next = λ h.
-        omega (arith, I .upto, ends-next (c .plan .slots) (c .units) (c .firsts) ok u (omega arith), ap (unitStart (c .firsts)) (more u));
-    below = omega (arith, I .upto, unit-within (c .plan .slots) (c .units) (c .firsts) ok u (I .below));
+        omega (arith, I .upto, ends-next (c .plan .slots) (c .units) (c .begins) ok u (omega arith), ap (unitStart (c .begins)) (more u));
+    below = omega (arith, I .upto, unit-within (c .plan .slots) (c .units) (c .begins) ok u (I .below));
   }
     where
       more : (u : ℕ) → u + 1 ≡ suc u
@@ -144,8 +144,8 @@ module _ (c : Call) (e : noOf c ≡ 0) where
     upto =
         ⊎-elim
         (λ (h : u + 1 < c .units).
-        omega (arith, I .before-next (omega arith), ends-next (c .plan .slots) (c .units) (c .firsts) ok u h, ap (unitStart (c .firsts)) (more u)))
-        (λ (h : c .units ≤ u + 1). omega (arith, I .below, ends-last (c .plan .slots) (c .units) (c .firsts) ok u h))
+        omega (arith, I .before-next (omega arith), ends-next (c .plan .slots) (c .units) (c .begins) ok u h, ap (unitStart (c .begins)) (more u)))
+        (λ (h : c .units ≤ u + 1). omega (arith, I .below, ends-last (c .plan .slots) (c .units) (c .begins) ok u h))
         (lt-or-ge (u + 1) (c .units));
   }
     where
@@ -156,8 +156,8 @@ module _ (c : Call) (e : noOf c ≡ 0) where
       → (boardIn c .fits p u ≡ true) ↔ ((k : ℕ) → InSlots c u k → slot (c .avail) (16 * p) k ≡ 1)
   unfolding fitsUnit able available
   fits-slots p u hp hu =
-      let a = unitStart (c .firsts) u in
-      let z = unitEnd (c .plan .slots) (c .units) (c .firsts) u in
+      let a = unitStart (c .begins) u in
+      let z = unitEnd (c .plan .slots) (c .units) (c .begins) u in
       let q : ℕ → Bool = λ k. eqb (slot (c .avail) (16 * p) k) 1 in (
         λ t k I.
             let t1 = both (ltb u (c .units)) _ t in
@@ -179,8 +179,8 @@ module _ (c : Call) (e : noOf c ≡ 0) where
       → (boardIn c .frozen u ≡ true) ↔ ((k : ℕ) × InSlots c u k × (slot (c .frozen) 0 k ≡ 1))
   unfolding frozenUnit unitFrozen clear unfrozen
   frozen-slots u hu =
-      let a = unitStart (c .firsts) u in
-      let z = unitEnd (c .plan .slots) (c .units) (c .firsts) u in
+      let a = unitStart (c .begins) u in
+      let z = unitEnd (c .plan .slots) (c .units) (c .begins) u in
       let q : ℕ → Bool = λ k. not (eqb (slot (c .frozen) 0 k) 1) in (
         λ t.
             let w = in-false a z q (not-true (allIn a z q) (both (ltb u (c .units)) _ t .1)) in (

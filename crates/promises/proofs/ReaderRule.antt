@@ -9,7 +9,7 @@ use Rattle.slotset.specs.declared.NextRun.{NextRun}
 use Rattle.slotset.specs.declared.NextRun.the-variants as nextRun
 use Rattle.slotset.specs.Slots.{Bits, slot}
 use Rattle.slotset.specs.Runs.{Ends, allRuns, AreRuns}
-use Rattle.slotset.specs.Answers.{rowNo, rowSlots, rowNextRun, nextRunAs}
+use Rattle.slotset.specs.Answers.{rowRefusal, rowSlots, rowNextRun, nextRunAs}
 use Rattle.slotset.proofs.Puts.{slot-lt}
 use Rattle.runs.specs.declared.Runs.{Runs}
 use Rattle.runs.specs.Reader.{readerOf, movedTo, cursorAfter, nextOf}
@@ -17,7 +17,7 @@ use Rattle.promises.specs.SetRules.{firstAhead}
 use Rattle.promises.specs.ReaderRule.{advanced, answered, spanOf, ReadsAllRuns}
 use Rattle.promises.proofs.SetRules.{sets-by-rule}
 
-module _ (words : RefT (List ℕ)) (people person len : ℕ) (e : rowNo (now words) people person len ≡ 0) where
+module _ (words : RefT (List ℕ)) (people person len : ℕ) (e : rowRefusal (now words) people person len ≡ 0) where
   abbrev f : ℕ → ℕ
   f = rowSlots (now words) person
 

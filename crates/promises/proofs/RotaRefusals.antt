@@ -1,4 +1,4 @@
--- Demand 1 of targets and rota: heard by the table, and a refusal leaves what was lent as it was. Assumes nothing.
+-- Demand 1 of targets and rota: given by the table, and a refusal leaves what was lent as it was. Assumes nothing.
 use mathlib.Core.Path.{_≡_, refl, sym, ap, subst, _∙_}
 use mathlib.Core.Bool.{Bool, true, _&&_, cond, and-false}
 use mathlib.Core.List.{List, [], _∷_}
@@ -7,14 +7,14 @@ use borrow.Author.Tests.{ne-eqb, le-leb}
 use lib.Dec.{leb, ltb}
 use lib.IntN.{ℤ}
 use lib.ListN.{length, getD, set, replicate}
-use Rattle.paper.specs.Limits.{peopleOk, slotCountOk, orElse, Test, test, heardOf, nobody, countsOk}
+use Rattle.paper.specs.Limits.{peopleOk, slotCountOk, orElse, Test, test, numberOf, nobody, countsOk}
 use Rattle.paper.specs.Count.{fill, over}
 use Rattle.paper.proofs.Logic.{by-test, slot-count-says}
 use Rattle.paper.specs.Rows.{unless}
 use Rattle.slotset.specs.declared.Changed.{Changed}
-use Rattle.slotset.specs.Answers.{setsRow, personRow, changedAs, loadOf, numberNo}
+use Rattle.slotset.specs.Answers.{setsRow, personRow, changedAs, loadOf, numberRefusal}
 use Rattle.slotset.proofs.Refusals.{number-said}
-use Rattle.slots.specs.Lent.{minutesNo}
+use Rattle.slots.specs.Lent.{minutesRefusal}
 use Rattle.slots.proofs.LentLaws.{minutes-said}
 use Rattle.targets.specs.Outcome as targets
 use Rattle.targets.proofs.Promises.{number-row, refused-keeps}
@@ -23,35 +23,35 @@ use Rattle.rota.specs.Entries as rota
 use Rattle.rota.specs.declared.draws.Draw.{Draw}
 use Rattle.rota.proofs.Alike.{played-same}
 use Rattle.promises.specs.Entries.{Call, playOf, ofDraws, playDrawsOf, afreshIn, rowOf}
-use Rattle.promises.specs.Table.{rules, Hears, Refuses}
+use Rattle.promises.specs.Table.{rules, GivenByTests, Refuses}
 use Rattle.promises.specs.Refusals.{TargetsRefuse, Lent, left, RotaRefuses}
-use Rattle.promises.proofs.Table.{rising, tests-heard, heard-as}
+use Rattle.promises.proofs.Table.{rising, tests-give, given-as}
 use Rattle.promises.proofs.TargetGuard.{eight-says}
 use Rattle.owners.specs.Recount.{recountTests}
 use Rattle.owners.specs.Entries as state
 
 -- ---- targets
 
-targets-heard : (g : targets.Given) (out : List ℤ)
+targets-number : (g : targets.Given) (out : List ℤ)
     → let x = targets.computeTargets g out in Refuses (rules (targets.targetsRow g (length out))) (x .number) out (x .out)
 unfolding targets.targetsRow targets.roomRow
-targets-heard g out = record {
-  heard = heard-as (targets.targetsRow g (length out)) _ refl (number-row g out);
+targets-number g out = record {
+  given = given-as (targets.targetsRow g (length out)) _ refl (number-row g out);
   kept = refused-keeps g out;
 }
 
 pub targets-refuse : TargetsRefuse
-targets-refuse = record { compute-targets = targets-heard; guard = eight-says }
+targets-refuse = record { compute-targets = targets-number; guard = eight-says }
 
 -- ---- rota
 
 -- an outcome with the number of a row of tests
 outcome-refuses : (t : List Test) (o : List ℕ) (D : Derived) (x o′ : List ℕ) (D′ : Derived) (x′ : List ℕ) → rising 1 t ≡ true
-    → let y = state.outcome (heardOf t) o D x o′ D′ x′ in Refuses {A = Lent} (rules t) (y .number) (o, D, x) (left y)
+    → let y = state.outcome (numberOf t) o D x o′ D′ x′ in Refuses {A = Lent} (rules t) (y .number) (o, D, x) (left y)
 unfolding state.outcome unless
 outcome-refuses t o D x o′ D′ x′ r = record {
-  heard = heard-as t (heardOf t) r refl;
-  kept = λ h. ap {B = Lent} (λ (b : Bool). (cond b o′ o, cond b D′ D, cond b x′ x)) (ne-eqb (heardOf t) 0 h);
+  given = given-as t (numberOf t) r refl;
+  kept = λ h. ap {B = Lent} (λ (b : Bool). (cond b o′ o, cond b D′ D, cond b x′ x)) (ne-eqb (numberOf t) 0 h);
 }
 
 from-slots-refuses : (P : Plan) (avail o : List ℕ) (D : Derived)
@@ -67,15 +67,16 @@ unfolding rota.assigned rota.assignRow state.recountSlotsRow state.lentRow recou
 assign-refuses P avail o D k w =
     outcome-refuses (rota.assignRow P avail o D k w) o D [] (set o k w) (afresh P (set o k w) D) [] refl
 
-recount-heard : (counts room : Bool) (P : Plan) (avail : List ℕ) (units : ℕ) (firsts o : List ℕ) (D : Derived)
-    → Hears (state.recountRow counts room P avail units firsts o D) (heardOf (state.recountRow counts room P avail units firsts o D))
+recount-number : (counts room : Bool) (P : Plan) (avail : List ℕ) (units : ℕ) (begins o : List ℕ) (D : Derived)
+    → GivenByTests (state.recountRow counts room P avail units begins o D)
+    (numberOf (state.recountRow counts room P avail units begins o D))
 unfolding state.recountRow state.lentRow recountTests
-recount-heard counts room P avail units firsts o D = tests-heard (state.recountRow counts room P avail units firsts o D) refl
+recount-number counts room P avail units begins o D = tests-give (state.recountRow counts room P avail units begins o D) refl
 
-recount-slots-heard : (P : Plan) (avail o : List ℕ) (D : Derived)
-    → Hears (state.recountSlotsRow P avail o D) (heardOf (state.recountSlotsRow P avail o D))
+recount-slots-number : (P : Plan) (avail o : List ℕ) (D : Derived)
+    → GivenByTests (state.recountSlotsRow P avail o D) (numberOf (state.recountSlotsRow P avail o D))
 unfolding state.recountSlotsRow state.lentRow recountTests
-recount-slots-heard P avail o D = tests-heard (state.recountSlotsRow P avail o D) refl
+recount-slots-number P avail o D = tests-give (state.recountSlotsRow P avail o D) refl
 
 play-refuses : (c : Call)
     → let y = playOf c in Refuses {A = Lent} (rules (rowOf c)) (y .number) (c .owners, c .derived, c .answers) (left y)
@@ -88,7 +89,7 @@ play-draws-refuses : (c : Call) (ds : List Draw)
     → let y = playDrawsOf c ds in
     Refuses {A = Lent} (rules (rowOf (ofDraws c ds))) (y .number) (c .owners, c .derived, c .answers) (left y)
 play-draws-refuses c ds =
-    let same = played-same (c .plan) (c .avail) (c .units) (c .firsts) (c .frozen) (c .count) (c .owners) (c .derived) (c .answers) ds in
+    let same = played-same (c .plan) (c .avail) (c .units) (c .begins) (c .frozen) (c .count) (c .owners) (c .derived) (c .answers) ds in
     subst (λ (y : state.Outcome). Refuses {A = Lent} (rules (rowOf (ofDraws c ds))) (y .number) (c .owners, c .derived, c .answers) (left y))
     (sym same) (play-refuses (ofDraws c ds))
 
@@ -100,23 +101,24 @@ empty-refuses people slots o D =
     outcome-refuses (state.emptyRow people slots o D) o D [] (fill nobody 0 slots o)
     (derived (setsFrom people slots (nobodies slots) (D .sets)) (over (λ _. 0) people (D .minutes))) [] refl
 
-owner-heard : (people slots : ℕ) (o : List ℕ) (k : ℕ)
-    → Hears (state.ownerRow people slots o k) (numberNo (state.ownerIs people slots o k))
+owner-number : (people slots : ℕ) (o : List ℕ) (k : ℕ)
+    → GivenByTests (state.ownerRow people slots o k) (numberRefusal (state.ownerIs people slots o k))
 unfolding state.ownerIs state.ownerRow
-owner-heard people slots o k = heard-as (state.ownerRow people slots o k) _ refl (number-said _ (getD o k 0))
+owner-number people slots o k = given-as (state.ownerRow people slots o k) _ refl (number-said _ (getD o k 0))
 
-minutes-heard : (people : ℕ) (m : List ℕ) (p : ℕ) → Hears (state.minutesRow people m p) (minutesNo (state.minutesIs people m p))
+minutes-number : (people : ℕ) (m : List ℕ) (p : ℕ) → GivenByTests (state.minutesRow people m p)
+    (minutesRefusal (state.minutesIs people m p))
 unfolding state.minutesIs state.minutesRow
-minutes-heard people m p = heard-as (state.minutesRow people m p) _ refl (minutes-said _ (getD m p 0))
+minutes-number people m p = given-as (state.minutesRow people m p) _ refl (minutes-said _ (getD m p 0))
 
-unassigned-heard : (people slots : ℕ) (o : List ℕ)
-    → Hears (state.unassignedRow people slots o) (numberNo (state.unassignedIs people slots o))
+unassigned-number : (people slots : ℕ) (o : List ℕ)
+    → GivenByTests (state.unassignedRow people slots o) (numberRefusal (state.unassignedIs people slots o))
 unfolding state.unassignedIs state.unassignedRow
-unassigned-heard people slots o = heard-as (state.unassignedRow people slots o) _ refl (number-said _ (unassigned slots o))
+unassigned-number people slots o = given-as (state.unassignedRow people slots o) _ refl (number-said _ (unassigned slots o))
 
-uncovered-heard : (P : Plan) (o : List ℕ) → Hears (state.uncoveredRow P o) (minutesNo (state.uncoveredIs P o))
+uncovered-number : (P : Plan) (o : List ℕ) → GivenByTests (state.uncoveredRow P o) (minutesRefusal (state.uncoveredIs P o))
 unfolding state.uncoveredIs state.uncoveredRow
-uncovered-heard P o = heard-as (state.uncoveredRow P o) _ refl (minutes-said _ (uncovered P o))
+uncovered-number P o = given-as (state.uncoveredRow P o) _ refl (minutes-said _ (uncovered P o))
 
 -- the empty set of no slots, refused by 1
 abbrev pub refused-set : Changed
@@ -127,16 +129,16 @@ module _ (people slots : ℕ) (ws : List ℕ) (p : ℕ) where
   rowTable = test 1 (countsOk people slots) ∷ test 2 (leb (16 * people) (length ws)) ∷ test 11 (ltb p people) ∷ []
 
   abbrev after : ℕ
-  after = heardOf (test 2 (leb (16 * people) (length ws)) ∷ test 11 (ltb p people) ∷ [])
+  after = numberOf (test 2 (leb (16 * people) (length ws)) ∷ test 11 (ltb p people) ∷ [])
 
   -- a count of slots that passes is a length that does
-  row-number : slotCountOk slots ≡ true → heardOf (personRow ws people p slots) ≡ heardOf rowTable
-  unfolding personRow setsRow countsOk heardOf
+  row-number : slotCountOk slots ≡ true → numberOf (personRow ws people p slots) ≡ numberOf rowTable
+  unfolding personRow setsRow countsOk numberOf
   row-number t =
       by-test (peopleOk people) _ (λ e. simp (e, le-leb slots 1024 (slot-count-says slots t .1), t)) (λ e. simp e)
 
-  slots-of-number : state.slotsOfIs people slots ws p .number ≡ heardOf rowTable
-  unfolding state.slotsOfIs loadOf changedAs countsOk heardOf
+  slots-of-number : state.slotsOfIs people slots ws p .number ≡ numberOf rowTable
+  unfolding state.slotsOfIs loadOf changedAs countsOk numberOf
   slots-of-number =
       by-test (slotCountOk slots) _
       (λ t.
@@ -146,21 +148,21 @@ module _ (people slots : ℕ) (ws : List ℕ) (p : ℕ) where
       ap (λ (b : Bool). cond b (loadOf ws people p slots) refused-set .number) f
       ∙ sym (ap (λ (b : Bool). orElse b 1 after) (ap (λ (b : Bool). peopleOk people && b) f ∙ and-false (peopleOk people))))
 
-  slots-of-heard : Hears rowTable (state.slotsOfIs people slots ws p .number)
-  slots-of-heard = heard-as rowTable _ refl slots-of-number
+  slots-of-given : GivenByTests rowTable (state.slotsOfIs people slots ws p .number)
+  slots-of-given = given-as rowTable _ refl slots-of-number
 
 pub rota-refuses : RotaRefuses
 rota-refuses = record {
   from-slots = from-slots-refuses;
   assign = assign-refuses;
-  recount = recount-heard;
-  recount-slots = recount-slots-heard;
+  recount = recount-number;
+  recount-slots = recount-slots-number;
   play = play-refuses;
   play-draws = play-draws-refuses;
   empty = empty-refuses;
-  owner-of-slot = owner-heard;
-  minutes-of = minutes-heard;
-  slots-of = slots-of-heard;
-  unassigned-count = unassigned-heard;
-  uncovered-minutes = uncovered-heard;
+  owner-of-slot = owner-number;
+  minutes-of = minutes-number;
+  slots-of = slots-of-given;
+  unassigned-count = unassigned-number;
+  uncovered-minutes = uncovered-number;
 }

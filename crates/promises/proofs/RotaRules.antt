@@ -9,7 +9,7 @@ use borrow.Author.Tests.{eqb-true, eqb-false}
 use lib.Dec.{eqb, leb}
 use lib.ListN.{length, getD, set, length-set}
 use lib.Seq.{getD-set-same, getD-set-other}
-use Rattle.paper.specs.Limits.{nobody, slotCountOk, heardOf}
+use Rattle.paper.specs.Limits.{nobody, slotCountOk, numberOf}
 use Rattle.paper.proofs.Rows.{passed}
 use Rattle.paper.specs.Rows.{unless}
 use Rattle.paper.specs.Count.{all, sum, count, over, fill}
@@ -18,11 +18,11 @@ use Rattle.paper.proofs.Count.{all-each, getD-over, getD-over-out, getD-fill-in
 use Rattle.slotset.specs.declared.Changed.{Changed}
 use Rattle.slotset.specs.declared.Number.the-variants as number
 use Rattle.slotset.specs.Slots.{slot}
-use Rattle.slotset.specs.Answers.{personRow, rowSlots, slotsOf, numberAs, numberNo, changedAs, loadOf}
+use Rattle.slotset.specs.Answers.{personRow, rowSlots, slotsOf, numberAs, numberRefusal, changedAs, loadOf}
 use Rattle.slotset.proofs.Refusals.{number-said}
 use Rattle.slotset.proofs.Puts.{slot-lt}
 use Rattle.slots.specs.declared.Minutes.the-variants as minutes
-use Rattle.slots.specs.Lent.{slotRoomOk, minutesAt, minutesAs, minutesNo}
+use Rattle.slots.specs.Lent.{slotRoomOk, minutesAt, minutesAs, minutesRefusal}
 use Rattle.slots.proofs.LentLaws.{minutes-said}
 use Rattle.units.specs.Units.{unitStart, unitsOk, InUnit}
 use Rattle.units.proofs.Units.{unit-within}
@@ -34,7 +34,7 @@ use Rattle.owners.specs.Entries.{ownerIs, minutesIs, unassignedIs, uncoveredIs,
 use Rattle.owners.proofs.Sets.{held-own, held-not, sets-in, sets-out}
 use Rattle.owners.proofs.Steps.{afresh-step, afresh-lengths}
 use Rattle.owners.proofs.Made.{nobody-at, none-worked}
-use Rattle.owners.proofs.Entered.{grounds, Grounds, recount-says, says-recount, empty-says}
+use Rattle.owners.proofs.Entered.{lent-right, LentRight, recount-says, says-recount, empty-says}
 use Rattle.rota.proofs.Asked.{Asks, assign-asks}
 use Rattle.rota.proofs.Promises.{assign-recounts}
 use Rattle.promises.specs.Entries.{Call, noOf, onRota}
@@ -74,11 +74,11 @@ module _ (o ws : List ℕ) (p k : ℕ) where
       let n = eqb-false (getD o k 0) p f in
       zero-of (slot ws (16 * p) k) (slot-lt ws (16 * p) k) (λ z. n (x .0 z)) ∙ sym (held-not o p k n))
 
-recount-by-rule : (P : Plan) (avail : List ℕ) (units : ℕ) (firsts o : List ℕ) (D : Derived)
-    → (recounts P avail units firsts o D ≡ true) ↔ PassesRecount P avail units firsts o D
-recount-by-rule P avail units firsts o D = (
+recount-by-rule : (P : Plan) (avail : List ℕ) (units : ℕ) (begins o : List ℕ) (D : Derived)
+    → (recounts P avail units begins o D ≡ true) ↔ PassesRecount P avail units begins o D
+recount-by-rule P avail units begins o D = (
   λ e.
-      let r = recount-says P avail units firsts o D e in
+      let r = recount-says P avail units begins o D e in
       record {
         known = λ k h. known-test (P .people) (getD o k 0) .0 (r .known k h);
         available = λ k h. available-test avail (getD o k 0) k .0 (r .available k h);
@@ -86,7 +86,7 @@ recount-by-rule P avail units firsts o D = (
         sets = λ p k h g. held-says o (D .sets) p k (r .sets p k h g);
         minutes = r .minutes;
       },
-  λ x. says-recount P avail units firsts o D
+  λ x. says-recount P avail units begins o D
       record {
         known = λ k h. known-test (P .people) (getD o k 0) .1 (x .known k h);
         available = λ k h. available-test avail (getD o k 0) k .1 (x .available k h);
@@ -99,7 +99,7 @@ recount-by-rule P avail units firsts o D = (
 -- ---- what is made afresh
 
 -- what lies past a rota that was made from owners that keep what lies past the slots
-past-afresh : (P : Plan) (avail o o′ : List ℕ) (D : Derived) (x : List ℕ) → Grounds P avail o D
+past-afresh : (P : Plan) (avail o o′ : List ℕ) (D : Derived) (x : List ℕ) → LentRight P avail o D
     → ((k : ℕ) → P .slots ≤ k → getD o′ k 0 ≡ getD o k 0)
     → PastKept (P .people) (P .slots) o D record { number = 0; owners = o′; derived = afresh P o′ D; answers = x }
 unfolding afresh
@@ -116,11 +116,11 @@ module _ (P : Plan) (avail o : List ℕ) (D : Derived) (e : fromSlots P avail o 
   unfolding fromSlots outcome unless
   from-is = ap (λ (n : ℕ). outcome n o D [] o (afresh P o D) []) e
 
-  from-tests : Grounds P avail o D × (all (P .slots) (knownAt (P .people) o) ≡ true) × (all (P .slots) (availableAt avail o) ≡ true)
+  from-tests : LentRight P avail o D × (all (P .slots) (knownAt (P .people) o) ≡ true) × (all (P .slots) (availableAt avail o) ≡ true)
   unfolding fromSlots outcome fromSlotsRow lentRow
   from-tests =
       let h = passed (fromSlotsRow P avail o D) refl e in
-      (grounds P avail o D (h 0) (h 1) (h 4) (h 5) (h 6) (h 7) (h 9), h 10, h 11)
+      (lent-right P avail o D (h 0) (h 1) (h 4) (h 5) (h 6) (h 7) (h 9), h 10, h 11)
 
   from-recounts : recounts P avail 0 [] o (afresh P o D) ≡ true
   unfolding knownAt availableAt
@@ -149,9 +149,9 @@ module _ (P : Plan) (avail o : List ℕ) (D : Derived) (e : fromSlots P avail o 
 -- ---- assign
 
 module _ (P : Plan) (avail o : List ℕ) (D : Derived) (k w : ℕ) (e : assigned P avail o D k w .number ≡ 0) where
-  asked : Asks P avail o D k w
+  checked : Asks P avail o D k w
   unfolding assigned outcome
-  asked = assign-asks P avail o D k w e
+  checked = assign-asks P avail o D k w e
 
   assigned-is : assigned P avail o D k w
       ≡ record { number = 0; owners = set o k w; derived = afresh P (set o k w) D; answers = [] }
@@ -161,7 +161,7 @@ module _ (P : Plan) (avail o : List ℕ) (D : Derived) (k w : ℕ) (e : assigned
   assign-made : let y = assigned P avail o D k w in
       (getD (y .owners) k 0 ≡ w) × ((j : ℕ) → j ≢ k → getD (y .owners) j 0 ≡ getD o j 0) × Made P avail o D y
   assign-made =
-      let A = asked in
+      let A = checked in
       let other : (j : ℕ) → j ≢ k → getD (set o k w) j 0 ≡ getD o j 0 = λ j n. getD-set-other o k j w 0 n in
       rw assigned-is (
         getD-set-same o k w 0 (omega (arith, A .slot, A .on .room .owners-room)),
@@ -180,12 +180,12 @@ module _ (c : Call) (k w : ℕ) (e : noOf c ≡ 0) where
   abbrev next : Call
   next = onRota c (y .owners) (y .derived) (c .answers)
 
-  module _ (z : y .number ≡ 0) (u j : ℕ) (i : InUnit (c .plan .slots) (c .units) (c .firsts) j u)
-      (differ : getD (y .owners) j 0 ≢ getD (y .owners) (unitStart (c .firsts) u) 0) where
-    fails : recounts (c .plan) (c .avail) (c .units) (c .firsts) (y .owners) (y .derived) ≡ false
+  module _ (z : y .number ≡ 0) (u j : ℕ) (i : InUnit (c .plan .slots) (c .units) (c .begins) j u)
+      (differ : getD (y .owners) j 0 ≢ getD (y .owners) (unitStart (c .begins) u) 0) where
+    fails : recounts (c .plan) (c .avail) (c .units) (c .begins) (y .owners) (y .derived) ≡ false
     fails =
-        by-test (recounts (c .plan) (c .avail) (c .units) (c .firsts) (y .owners) (y .derived)) _
-        (λ t. absurd (differ (recount-by-rule (c .plan) (c .avail) (c .units) (c .firsts) (y .owners) (y .derived) .0 t .uniform u j i)))
+        by-test (recounts (c .plan) (c .avail) (c .units) (c .begins) (y .owners) (y .derived)) _
+        (λ t. absurd (differ (recount-by-rule (c .plan) (c .avail) (c .units) (c .begins) (y .owners) (y .derived) .0 t .uniform u j i)))
         (λ f. f)
 
     -- as much room as before
@@ -250,14 +250,14 @@ module _ (P : Plan) (o : List ℕ) (D : Derived) (e : emptied (P .people) (P .sl
       sets-in (P .slots) (nobodies (P .slots)) (D .sets) (clears .slots) (P .people) (clears .sets-room) p k h g
       ∙ held-not (nobodies (P .slots)) p k (λ q. not-nobody p h (sym (nobody-at (P .slots) k g) ∙ q))
 
-  empty-recounts : (avail : List ℕ) (units : ℕ) (firsts : List ℕ) → unitsOk (P .slots) units firsts ≡ true
-      → PassesRecount P avail units firsts owners cleared
-  empty-recounts avail units firsts ok = record {
+  empty-recounts : (avail : List ℕ) (units : ℕ) (begins : List ℕ) → unitsOk (P .slots) units begins ≡ true
+      → PassesRecount P avail units begins owners cleared
+  empty-recounts avail units begins ok = record {
     known = λ k h. inl (nobodys k h);
     available = λ k h n. absurd (n (nobodys k h));
     uniform = λ u k i.
-        let w = unit-within (P .slots) units firsts ok u (i .known) in
-        nobodys k (omega (arith, i .to, w)) ∙ sym (nobodys (unitStart firsts u) (omega (arith, i .from, i .to, w)));
+        let w = unit-within (P .slots) units begins ok u (i .known) in
+        nobodys k (omega (arith, i .to, w)) ∙ sym (nobodys (unitStart begins u) (omega (arith, i .from, i .to, w)));
     sets = λ p k h g. (
       λ q. absurd (omega (arith, q, unset p k h g)),
       λ q. absurd (not-nobody p h (sym (nobodys k g) ∙ q)),
@@ -269,8 +269,8 @@ module _ (P : Plan) (o : List ℕ) (D : Derived) (e : emptied (P .people) (P .sl
 
   empty-left : let y = emptied (P .people) (P .slots) o D in
       ((k : ℕ) → k < P .slots → getD (y .owners) k 0 ≡ nobody)
-      × ((avail : List ℕ) (units : ℕ) (firsts : List ℕ) → unitsOk (P .slots) units firsts ≡ true
-      → PassesRecount P avail units firsts (y .owners) (y .derived))
+      × ((avail : List ℕ) (units : ℕ) (begins : List ℕ) → unitsOk (P .slots) units begins ≡ true
+      → PassesRecount P avail units begins (y .owners) (y .derived))
       × PastKept (P .people) (P .slots) o D y
   empty-left = rw emptied-is (
     nobodys,
@@ -284,29 +284,30 @@ module _ (P : Plan) (o : List ℕ) (D : Derived) (e : emptied (P .people) (P .sl
 
 -- ---- the readers
 
-number-given : (n k : ℕ) → numberNo (numberAs n k) ≡ 0 → numberAs n k ≡ number.Is k
+number-given : (n k : ℕ) → numberRefusal (numberAs n k) ≡ 0 → numberAs n k ≡ number.Is k
 unfolding numberAs unless
 number-given n k e = ap (λ (m : ℕ). numberAs m k) (sym (number-said n k) ∙ e)
 
-minutes-given : (n m : ℕ) → minutesNo (minutesAs n m) ≡ 0 → minutesAs n m ≡ minutes.Are m
+minutes-given : (n m : ℕ) → minutesRefusal (minutesAs n m) ≡ 0 → minutesAs n m ≡ minutes.Is m
 unfolding minutesAs
 minutes-given n m e = ap (λ (x : ℕ). minutesAs x m) (sym (minutes-said n m) ∙ e)
 
-owner-is : (people slots : ℕ) (o : List ℕ) (k : ℕ) → numberNo (ownerIs people slots o k) ≡ 0
+owner-is : (people slots : ℕ) (o : List ℕ) (k : ℕ) → numberRefusal (ownerIs people slots o k) ≡ 0
     → ownerIs people slots o k ≡ number.Is (getD o k 0)
 unfolding ownerIs
 owner-is people slots o k e = number-given _ (getD o k 0) e
 
-minutes-of-is : (people : ℕ) (m : List ℕ) (p : ℕ) → minutesNo (minutesIs people m p) ≡ 0 → minutesIs people m p ≡ minutes.Are (getD m p 0)
+minutes-of-is : (people : ℕ) (m : List ℕ) (p : ℕ) → minutesRefusal (minutesIs people m p) ≡ 0 → minutesIs people m p ≡
+    minutes.Is (getD m p 0)
 unfolding minutesIs
 minutes-of-is people m p e = minutes-given _ (getD m p 0) e
 
-unassigned-is : (people slots : ℕ) (o : List ℕ) → numberNo (unassignedIs people slots o) ≡ 0
+unassigned-is : (people slots : ℕ) (o : List ℕ) → numberRefusal (unassignedIs people slots o) ≡ 0
     → unassignedIs people slots o ≡ number.Is (count slots (λ k. eqb (getD o k 0) nobody))
 unfolding unassignedIs unassigned
 unassigned-is people slots o e = number-given _ (unassigned slots o) e
 
-uncovered-is : (P : Plan) (o : List ℕ) → minutesNo (uncoveredIs P o) ≡ 0 → uncoveredIs P o ≡ minutes.Are (worked P o nobody)
+uncovered-is : (P : Plan) (o : List ℕ) → minutesRefusal (uncoveredIs P o) ≡ 0 → uncoveredIs P o ≡ minutes.Is (worked P o nobody)
 unfolding uncoveredIs uncovered
 uncovered-is P o e = minutes-given _ (worked P o nobody) e
 
@@ -319,7 +320,7 @@ module _ (people slots : ℕ) (ws : List ℕ) (p : ℕ) where
   unfolding slotsOfIs
   not-loaded f = simp f
 
-  load-number : loadOf ws people p slots .number ≡ heardOf (personRow ws people p slots)
+  load-number : loadOf ws people p slots .number ≡ numberOf (personRow ws people p slots)
   unfolding loadOf changedAs
   load-number = refl
 
@@ -345,9 +346,9 @@ rota-by-rule = record {
   assign = assign-made;
   uneven = λ c k w e z u j i differ. uneven-refused c k w e z u j i differ;
   empty = empty-left;
-  owner-told = owner-is;
-  minutes-told = minutes-of-is;
-  unassigned-told = unassigned-is;
-  uncovered-told = uncovered-is;
-  slots-told = slots-of-is;
+  owner-answered = owner-is;
+  minutes-answered = minutes-of-is;
+  unassigned-answered = unassigned-is;
+  uncovered-answered = uncovered-is;
+  slots-answered = slots-of-is;
 }

@@ -11,7 +11,7 @@ use lib.ListN.{length, getD}
 use Rattle.paper.specs.Rows.{unless}
 use Rattle.paper.specs.Bits.{bitOf}
 use Rattle.paper.specs.Count.{all, among}
-use Rattle.paper.specs.Limits.{heardOf}
+use Rattle.paper.specs.Limits.{numberOf}
 use Rattle.paper.proofs.Logic.{by-test, and-true, zero-of, lt-or-ge}
 use Rattle.paper.proofs.Count.{each-all, all-each, all-fails}
 use Rattle.paper.proofs.Rows.{worked}
@@ -20,7 +20,7 @@ use Rattle.slotset.specs.declared.Found.{Found}
 use Rattle.slotset.specs.declared.Found.the-variants.{At, Nothing, Refused}
 use Rattle.slotset.specs.declared.Run.{Run}
 use Rattle.slotset.specs.declared.Run.the-variants as run
-use Rattle.slotset.specs.declared.Told.the-variants.{Yes, No}
+use Rattle.slotset.specs.declared.YesNo.the-variants.{Yes, No}
 use Rattle.slotset.specs.declared.NextRun.{NextRun}
 use Rattle.slotset.specs.declared.NextRun.the-variants as nextRun
 use Rattle.slotset.specs.declared.NextMember.the-variants as nextMember
@@ -29,7 +29,7 @@ use Rattle.slotset.specs.Slots.{Bits, slot, putSlot, putSlots, has, Member, siz
 use Rattle.slotset.specs.Search.{nextWith, lastBelow, nextSet, First, Last}
 use Rattle.slotset.specs.Runs.{firstAround, lastAround, Around, endOf, Ends, whenFound, runs, allRuns, AreRuns, InRuns, Among}
 use Rattle.slotset.specs.Answers.{lengthRow, slotRow, stretchRow, personRow, personStretchRow, slotsOf, rowSlots, sameSets}
-use Rattle.slotset.specs.Answers.{foundAs, toldAs, stretchAs, runAs, Holds, numberAs, emptySet}
+use Rattle.slotset.specs.Answers.{foundAs, yesNoAs, stretchAs, runAs, Holds, numberAs, emptySet}
 use Rattle.slotset.specs.Answers.{runStep, nextRunAs, memberStep, nextMemberAs, changedAs, newOf, putOf, stretchOf, loadOf}
 use Rattle.slotset.specs.Answers.{storeOf, rowStretchOf}
 use Rattle.slotset.proofs.Puts.{slot-lt, slot-puts, slot-puts-other, puts-none, slot-loaded, slot-none}
@@ -122,24 +122,24 @@ module _ (f : ℕ → ℕ) (bits : Bits f) (len : ℕ) where
 
 -- ---- membership
 
-contains-yes : (f : ℕ → ℕ) (len i : ℕ) → Member f len i → toldAs 0 (has f len i) ≡ Yes
-unfolding toldAs unless
+contains-yes : (f : ℕ → ℕ) (len i : ℕ) → Member f len i → yesNoAs 0 (has f len i) ≡ Yes
+unfolding yesNoAs unless
 contains-yes f len i m = ap (λ (b : Bool). cond b Yes No) (member-has f len i m)
 
-contains-no : (f : ℕ → ℕ) (len i : ℕ) → (Member f len i → ⊥) → toldAs 0 (has f len i) ≡ No
-unfolding toldAs unless
+contains-no : (f : ℕ → ℕ) (len i : ℕ) → (Member f len i → ⊥) → yesNoAs 0 (has f len i) ≡ No
+unfolding yesNoAs unless
 contains-no f len i h =
     by-test (has f len i) _ (λ t. absurd (h (has-member f len i t))) (λ e. ap (λ (b : Bool). cond b Yes No) e)
 
-empty-yes : (f : ℕ → ℕ) → Bits f → (len : ℕ) → ((i : ℕ) → Member f len i → ⊥) → toldAs 0 (noMember f len) ≡ Yes
-unfolding toldAs noMember unless
+empty-yes : (f : ℕ → ℕ) → Bits f → (len : ℕ) → ((i : ℕ) → Member f len i → ⊥) → yesNoAs 0 (noMember f len) ≡ Yes
+unfolding yesNoAs noMember unless
 empty-yes f bits len h =
     ap (λ (b : Bool). cond b Yes No)
     (each-all len (λ k. eqb (f k) 0) (λ k l. eq-eqb (f k) 0 (zero-of (f k) (bits k) (λ q. h k (l, q)))))
 
-empty-no : (f : ℕ → ℕ) (len i : ℕ) → Member f len i → toldAs 0 (noMember f len) ≡ No
-unfolding toldAs noMember unless
-empty-no f len i m =
+empty-refusal : (f : ℕ → ℕ) (len i : ℕ) → Member f len i → yesNoAs 0 (noMember f len) ≡ No
+unfolding yesNoAs noMember unless
+empty-refusal f len i m =
     ap (λ (b : Bool). cond b Yes No)
     (all-fails len i (λ k. eqb (f k) 0) (m .0) (ne-eqb (f i) 0 (λ q. omega (arith, q, m .1))))
 
@@ -207,14 +207,14 @@ front-of end l n c e room =
     }
 
 all-runs-listed : (ws : List ℕ) (people person len : ℕ) (firsts lasts : List ℕ)
-    → heardOf (runsRow ws people person len (length firsts) (length lasts)) ≡ 0
+    → numberOf (runsRow ws people person len (length firsts) (length lasts)) ≡ 0
     → let x = allRunsOf ws people person len firsts lasts in
     let l = allRuns (rowSlots ws person) len in
     (x .answer ≡ number.Is (length l)) × FrontOf (λ r. r .first) l firsts (x .firsts) × FrontOf (λ r. r .last) l lasts (x .lasts)
 unfolding numberAs unless
 all-runs-listed ws people person len firsts lasts e =
     let l = allRuns (rowSlots ws person) len in
-    let n = heardOf (runsRow ws people person len (length firsts) (length lasts)) in
+    let n = numberOf (runsRow ws people person len (length firsts) (length lasts)) in
     let few = runs-few (rowSlots ws person) len len 0 in
     let r = list-says ws people person len (length firsts) (length lasts) e in (
       ap (λ (x : ℕ). numberAs x (length l)) e,
@@ -258,7 +258,7 @@ changed-set : (n : ℕ) (old new : SlotSet) → n ≡ 0 → changedAs n old new 
 unfolding changedAs
 changed-set n old new e = worked n old new e
 
-put-changes : (v : ℕ) (s : SlotSet) (i : ℕ) → v < 2 → length (s .words) ≡ 16 → heardOf (slotRow (s .len) i) ≡ 0
+put-changes : (v : ℕ) (s : SlotSet) (i : ℕ) → v < 2 → length (s .words) ≡ 16 → numberOf (slotRow (s .len) i) ≡ 0
     → Changes (λ _. v) i 1 s (putOf v s i .set)
 unfolding putOf
 put-changes v s i small room e =
@@ -276,7 +276,7 @@ put-changes v s i small room e =
       };
     }
 
-stretch-changes : (v : ℕ) (s : SlotSet) (a e : ℕ) → v < 2 → length (s .words) ≡ 16 → heardOf (stretchRow (s .len) a e) ≡ 0
+stretch-changes : (v : ℕ) (s : SlotSet) (a e : ℕ) → v < 2 → length (s .words) ≡ 16 → numberOf (stretchRow (s .len) a e) ≡ 0
     → Changes (λ _. v) a (e - a) s (stretchOf v s a e .set)
 unfolding stretchOf
 stretch-changes v s a e small room z =
@@ -289,7 +289,7 @@ stretch-changes v s a e small room z =
           (stretch-put v 0 a e a (s .words) small (λ h. omega (arith, x .0, x .1 h)) (omega arith));
     }
 
-put-stretch-changes : (v : ℕ) (ws : List ℕ) (people person len a e : ℕ) → v < 2 → heardOf (personStretchRow ws people person len a e) ≡ 0
+put-stretch-changes : (v : ℕ) (ws : List ℕ) (people person len a e : ℕ) → v < 2 → numberOf (personStretchRow ws people person len a e) ≡ 0
     → Put (λ _. v) (1024 * person + a) (e - a) (slot ws 0) (slot (rowStretchOf v ws people person len a e) 0)
 unfolding rowStretchOf
 put-stretch-changes v ws people person len a e small z =
@@ -300,7 +300,7 @@ put-stretch-changes v ws people person len a e small z =
     (sym (worked _ ws out z))
     (stretch-put v (16 * person) a e (1024 * person + a) ws small (λ h. omega (arith, r .short, r .words, x .1 h)) (omega arith))
 
-store-changes : (s : SlotSet) (ws : List ℕ) (people person : ℕ) → heardOf (personRow ws people person (s .len)) ≡ 0
+store-changes : (s : SlotSet) (ws : List ℕ) (people person : ℕ) → numberOf (personRow ws people person (s .len)) ≡ 0
     → Put (slotsOf s) (1024 * person) (s .len) (slot ws 0) (slot (storeOf s ws people person) 0)
 unfolding storeOf
 store-changes s ws people person z =
@@ -315,14 +315,14 @@ store-changes s ws people person z =
     }
 
 -- a person's row as a set by value has its slots
-pub load-row : (ws : List ℕ) (people person len : ℕ) → heardOf (personRow ws people person len) ≡ 0
+pub load-row : (ws : List ℕ) (people person len : ℕ) → numberOf (personRow ws people person len) ≡ 0
     → (loadOf ws people person len .set .len ≡ len)
     × ((k : ℕ) → k < 1024 → slotsOf (loadOf ws people person len .set) k ≡ rowSlots ws person k)
 load-row ws people person len e =
     let q = load-is ws people person len e in
     (ap (λ (s : SlotSet). s .len) q, λ k h. ap (λ (s : SlotSet). slotsOf s k) q ∙ slot-loaded ws person k h)
 
-new-empty : (len : ℕ) → heardOf (lengthRow len) ≡ 0 → (newOf len .set .len ≡ len) × ((k : ℕ) → slotsOf (newOf len .set) k ≡ 0)
+new-empty : (len : ℕ) → numberOf (lengthRow len) ≡ 0 → (newOf len .set .len ≡ len) × ((k : ℕ) → slotsOf (newOf len .set) k ≡ 0)
 unfolding newOf
 new-empty len e =
     let q = changed-set _ (emptySet 0) (emptySet len) e in
@@ -340,10 +340,10 @@ row-bit ws person i = refl
 
 -- ---- everybody's sets compared
 
-same-told : (ws vs : List ℕ) (people len : ℕ)
-    → (toldAs 0 (sameSets ws vs people len) ≡ Yes) ↔ ((p k : ℕ) → p < people → k < len → rowSlots ws p k ≡ rowSlots vs p k)
-unfolding toldAs unless sameSets sameSlots
-same-told ws vs people len = (
+same-answered : (ws vs : List ℕ) (people len : ℕ)
+    → (yesNoAs 0 (sameSets ws vs people len) ≡ Yes) ↔ ((p k : ℕ) → p < people → k < len → rowSlots ws p k ≡ rowSlots vs p k)
+unfolding yesNoAs unless sameSets sameSlots
+same-answered ws vs people len = (
   λ e p k h l. by-test (all people same) _
       (λ t. eqb-true _ _ (all-each len (λ i. eqb (rowSlots ws p i) (rowSlots vs p i)) (all-each people same t p h) k l))
       (λ f. let q : No ≡ Yes = sym (ap (λ (b : Bool). cond b Yes No) f) ∙ e in let z : _≡_ {A = ℕ} 0 1 = cc in absurd (omega arith)),
@@ -363,8 +363,8 @@ module _ (f g : ℕ → ℕ) (len : ℕ) (same : (k : ℕ) → k < len → f k �
       let r = around-same f g len same v i in
       ap₂ (λ (a b : ℕ). cond (eqb v 1) (run.Span a b) (run.Hole a b)) (r .0) (r .1)
 
-  told-same : (i : ℕ) → runAs 0 f len i ≡ runAs 0 g len i
-  told-same i =
+  answered-same : (i : ℕ) → runAs 0 f len i ≡ runAs 0 g len i
+  answered-same i =
       ⊎-elim
       (λ (h : i < len).
       answers-below f len i h ∙ stretch-answers (f i) i ∙ ap (λ (v : ℕ). stretchAs v g len i) (same i h) ∙ sym (answers-below g len i h))
@@ -373,7 +373,7 @@ module _ (f g : ℕ → ℕ) (len : ℕ) (same : (k : ℕ) → k < len → f k �
 
   run-answers : (n i : ℕ) → runAs n f len i ≡ runAs n g len i
   unfolding runAs unless
-  run-answers n i = ap (λ (x : Run). unless n (run.Refused n) x) (told-same i)
+  run-answers n i = ap (λ (x : Run). unless n (run.Refused n) x) (answered-same i)
 
   steps-same : (x : Found) → runStep f len x ≡ runStep g len x
   steps-same (At i) =
@@ -412,7 +412,7 @@ sets-by-rule = record {
   contains = contains-yes;
   contains-not = contains-no;
   empty = empty-yes;
-  empty-not = empty-no;
+  empty-not = empty-refusal;
   next = λ f len from. next-found 1 f len from;
   prev = λ f len from. last-found 1 f len (suc from);
   next-unset = λ f len from. next-found 0 f len (suc from);
@@ -437,6 +437,6 @@ sets-by-rule = record {
   put-stretch = put-stretch-changes;
   store = store-changes;
   load = load-row;
-  same-sets = same-told;
+  same-sets = same-answered;
   ignored = same-answers;
 }

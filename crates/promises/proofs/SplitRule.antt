@@ -5,7 +5,7 @@ use mathlib.Core.List.{List, [], _∷_, _++_}
 use Prim.Native.Nat.{ℕ, zero, suc, _+_, _-_, _<_}
 use native.Mathlib.Omega.{arith}
 use lib.ListN.{length, getD}
-use Rattle.paper.specs.Limits.{heardOf}
+use Rattle.paper.specs.Limits.{numberOf}
 use Rattle.slotset.specs.declared.Number.the-variants as number
 use Rattle.slots.specs.Atomic.{Base, atomiseOf, atomiseRow, isCut, IsCuts, startsOfAtoms, endsOfAtoms}
 use Rattle.slots.proofs.SplitLaws as laws
@@ -33,7 +33,7 @@ pub atoms-strung : (B : Base) (c : ℕ → List ℕ) → ((k : ℕ) → k < B .s
 atoms-strung B c x =
     strung-is _ (B .slots) ∙ laws.one-atoms (isCut (B .people) (B .ranges)) (B .slots) (B .starts) (B .ends) c x .0
 
-module _ (B : Base) (e : heardOf (atomiseRow B) ≡ 0) (c : ℕ → List ℕ) (x : (k : ℕ) → k < B .slots → CutsOf B k (c k)) where
+module _ (B : Base) (e : numberOf (atomiseRow B) ≡ 0) (c : ℕ → List ℕ) (x : (k : ℕ) → k < B .slots → CutsOf B k (c k)) where
   starts-are : strung (λ k. getD (B .starts) k 0 ∷ c k) (B .slots) ≡ startsOfAtoms B
   starts-are = atoms-strung B c x
 

@@ -1,4 +1,4 @@
--- Each entry is heard by its table in the paper's words: test by test along its row. Assumes nothing.
+-- Each entry is given by its table in the paper's words: test by test along its row. Assumes nothing.
 use mathlib.Core.Path.{_≡_, refl, sym, ap, _∙_, subst}
 use mathlib.Core.Bool.{Bool, true, false, _&&_, _||_, cond}
 use mathlib.Core.List.{List, [], _∷_}
@@ -10,7 +10,7 @@ use lib.Dec.{leb, ltb}
 use lib.Ieee.{Float}
 use lib.IntN.{ℤ}
 use lib.ListN.{length, getD, length-map}
-use Rattle.paper.specs.Limits.{peopleOk, slotCountOk, countsOk, Test, test, heardOf}
+use Rattle.paper.specs.Limits.{peopleOk, slotCountOk, countsOk, Test, test, numberOf}
 use Rattle.paper.specs.Count.{all}
 use Rattle.paper.proofs.Logic.{by-cond, by-test, both, and-true, or-left, or-second, or-either, lt-or-ge}
 use Rattle.paper.proofs.Count.{all-each, each-all}
@@ -38,22 +38,23 @@ use Rattle.owners.specs.Derived.{Plan, Derived, knownBy}
 use Rattle.owners.specs.Recount.{knownAt, availableFor, availableAt, evenAt, setAt, minutesOkAt, recountTests, recounts}
 use Rattle.owners.specs.Entries as state
 use Rattle.rota.specs.Entries as rota
-use Rattle.draws.specs.declared.Draw.{Draw}
-use Rattle.draws.specs.Columns.{kinds, ones, twos}
+use Rattle.rota.specs.declared.draws.Draw.{Draw}
+use Rattle.rota.specs.Draws.{draws, firsts, seconds}
 use Rattle.promises.specs.Entries.{Call, playOf, ofDraws, playDrawsOf, rowOf}
-use Rattle.promises.specs.Table.{Rule, rules, Applies, Heard, Hears}
+use Rattle.promises.specs.Table.{Rule, rules, Applies, GivenBy, GivenByTests}
 use Rattle.promises.specs.Tests.{SlotsRight, RangesRight, FiguresRight, SettingsRight, UnitsRight}
 use Rattle.promises.specs.RotaRules.{PassesRecount}
 use Rattle.promises.specs.SplitRule.{strung, CutsOf}
 use Rattle.promises.specs.Tables.{outside, short, broken, overfull, beyond, notBelow, reachesPast, Known, Available, AllKnown}
 use Rattle.promises.specs.Tables.{AllAvailable}
 use Rattle.promises.specs.Tables as tables
-use Rattle.promises.proofs.Table.{rising, Least, tests-heard, least-heard, one-heard}
+use Rattle.promises.proofs.Table.{rising, Least, tests-give, least-given, one-given}
 use Rattle.promises.proofs.Tests.{tests-by-rule, known-test, available-test}
 use Rattle.promises.proofs.Refusals.{slots-refuse, units-refuse}
 use Rattle.promises.proofs.SetRefusals.{sets-refuse}
 use Rattle.promises.proofs.RotaRefusals.{targets-refuse, rota-refuses}
 use Rattle.promises.proofs.RotaRules.{rota-by-rule}
+use Rattle.promises.proofs.Rota.{draws-alike}
 use Rattle.promises.proofs.SplitRule.{atoms-strung}
 
 -- ---- the first rule that says so
@@ -101,12 +102,13 @@ first-least low (r ∷ t) n pos h (inr f) =
           ⊎-elim (λ (p : (r .number ≡ k) × (r .Says)). absurd (f .0 (p .1))) (λ (b : Applies t k). m .least k b) a;
     }
 
--- what is heard by a row's tests is heard by a table, if it is the first of it
-by-first : (t : List Rule) (row : List Test) (n : ℕ) → orderly 1 t ≡ true → rising 1 row ≡ true → Hears row n → First t (heardOf row)
-    → Heard t n
+-- what is answered by a row's tests is given by a table, if it is the first of it
+by-first : (t : List Rule) (row : List Test) (n : ℕ) → orderly 1 t ≡ true → rising 1 row ≡ true → GivenByTests row n → First t
+    (numberOf row)
+    → GivenBy t n
 by-first t row n o r h f =
-    subst (Heard t) (sym (one-heard (rules row) n (heardOf row) h (tests-heard row r)))
-    (least-heard t (heardOf row) (first-least 1 t (heardOf row) (omega arith) o (f .is)))
+    subst (GivenBy t) (sym (one-given (rules row) n (numberOf row) h (tests-give row r)))
+    (least-given t (numberOf row) (first-least 1 t (numberOf row) (omega arith) o (f .is)))
 
 none : First [] 0
 none = record { is = refl }
@@ -209,10 +211,10 @@ ranges-right people R {t} {n} room h =
 settings-right : (s : Settings) {t : List Rule} {n : ℕ} → First t n → First (broken 7 (SettingsRight s) ∷ t) (cond (settingsOk s) n 7)
 settings-right s {t} {n} h = say-broken 7 (SettingsRight s) (settingsOk s) {t = t} {n = n} (tests-by-rule .settings s) (λ e. h)
 
-units-right : (k units : ℕ) (firsts : List ℕ) {t : List Rule} {n : ℕ} → leb units (length firsts) ≡ true → First t n
-    → First (broken 9 (UnitsRight k units firsts) ∷ t) (cond (unitsOk k units firsts) n 9)
-units-right k units firsts {t} {n} room h =
-    say-broken 9 (UnitsRight k units firsts) (unitsOk k units firsts) {t = t} {n = n} (tests-by-rule .units k units firsts room) (λ e. h)
+units-right : (k units : ℕ) (begins : List ℕ) {t : List Rule} {n : ℕ} → leb units (length begins) ≡ true → First t n
+    → First (broken 9 (UnitsRight k units begins) ∷ t) (cond (unitsOk k units begins) n 9)
+units-right k units begins {t} {n} room h =
+    say-broken 9 (UnitsRight k units begins) (unitsOk k units begins) {t = t} {n = n} (tests-by-rule .units k units begins room) (λ e. h)
 
 known-says : (people w : ℕ) {t : List Rule} {n : ℕ} → First t n → First (broken 11 (Known people w) ∷ t) (cond (knownBy people w) n 11)
 known-says people w {t} {n} h = say-broken 11 (Known people w) (knownBy people w) {t = t} {n = n} (known-test people w) (λ e. h)
@@ -242,24 +244,24 @@ all-available-says avail slots o {t} {n} h =
     ) (λ e. h)
 
 -- the five tests of the recount are one rule
-recount-says : (P : Plan) (avail : List ℕ) (units : ℕ) (firsts o : List ℕ) (D : Derived) {t : List Rule} {n : ℕ} → First t n
-    → First (broken 10 (PassesRecount P avail units firsts o D) ∷ t)
+recount-says : (P : Plan) (avail : List ℕ) (units : ℕ) (begins o : List ℕ) (D : Derived) {t : List Rule} {n : ℕ} → First t n
+    → First (broken 10 (PassesRecount P avail units begins o D) ∷ t)
     (cond (all (P .slots) (knownAt (P .people) o)) (cond (all (P .slots) (availableAt avail o))
-    (cond (all units (evenAt (P .slots) units firsts o)) (cond (all (P .people) (setAt (P .slots) o (D .sets)))
+    (cond (all units (evenAt (P .slots) units begins o)) (cond (all (P .people) (setAt (P .slots) o (D .sets)))
     (cond (all (P .people) (minutesOkAt P o (D .minutes))) n 10) 10) 10) 10) 10)
 unfolding recounts
-recount-says P avail units firsts o D {t} {n} h =
+recount-says P avail units begins o D {t} {n} h =
     let a = all (P .slots) (knownAt (P .people) o) in
     let b = all (P .slots) (availableAt avail o) in
-    let c = all units (evenAt (P .slots) units firsts o) in
+    let c = all units (evenAt (P .slots) units begins o) in
     let d = all (P .people) (setAt (P .slots) o (D .sets)) in
     let e = all (P .people) (minutesOkAt P o (D .minutes)) in
     let chain : cond a (cond b (cond c (cond d (cond e n 10) 10) 10) 10) 10 ≡ cond (a && (b && (c && (d && e)))) n 10 =
     ap (λ (x : ℕ). cond a x 10) (ap (λ (x : ℕ). cond b x 10) (ap (λ (x : ℕ). cond c x 10) (join d e n 10) ∙ join c (d && e) n 10)
     ∙ join b (c && (d && e)) n 10) ∙ join a (b && (c && (d && e))) n 10 in
-    subst (First (broken 10 (PassesRecount P avail units firsts o D) ∷ t)) (sym chain)
-    (say-broken 10 (PassesRecount P avail units firsts o D) (recounts P avail units firsts o D) {t = t} {n = n}
-    (rota-by-rule .recount P avail units firsts o D) (λ z. h))
+    subst (First (broken 10 (PassesRecount P avail units begins o D) ∷ t)) (sym chain)
+    (say-broken 10 (PassesRecount P avail units begins o D) (recounts P avail units begins o D) {t = t} {n = n}
+    (rota-by-rule .recount P avail units begins o D) (λ z. h))
 
 -- an index of a stretch lies at or past the length
 stretch-says : (a e len : ℕ) {t : List Rule} {n : ℕ} → First t n → First (reachesPast a e len ∷ t) (cond (stretchOk len a e) n 11)
@@ -295,52 +297,52 @@ overfull-says B {t} {n} right h =
 
 -- ---- slot sets
 
-set-first : (len : ℕ) → First (tables.setTable len) (heardOf (lengthRow len))
-unfolding heardOf lengthRow
+set-first : (len : ℕ) → First (tables.setTable len) (numberOf (lengthRow len))
+unfolding numberOf lengthRow
 set-first len = most-says len none
 
 rows-first : (ws : List ℕ) (people person len : ℕ)
-    → First (tables.rowTable ws people person len []) (heardOf (personRow ws people person len))
-unfolding heardOf personRow setsRow
+    → First (tables.rowTable ws people person len []) (numberOf (personRow ws people person len))
+unfolding numberOf personRow setsRow
 rows-first ws people person len =
     people-says people (most-says len (say-short (16 * people) (length ws) (λ e. say-below person people none)))
 
 pub sets-by-table : tables.SetsByTable
-unfolding heardOf lengthRow slotRow stretchRow setsRow personRow personStretchRow sameSetsRow runsRow
+unfolding numberOf lengthRow slotRow stretchRow setsRow personRow personStretchRow sameSetsRow runsRow
 sets-by-table = record {
   lengths = λ len. by-first _ (lengthRow len) _ refl refl (sets-refuse .lengths len) (set-first len);
   new = λ len. by-first _ (lengthRow len) _ refl refl (sets-refuse .new len) (set-first len);
   put = λ v s i.
-      by-first _ (slotRow (s .len) i) _ refl refl (sets-refuse .put v s i .heard) (most-says (s .len) (say-below i (s .len) none));
+      by-first _ (slotRow (s .len) i) _ refl refl (sets-refuse .put v s i .given) (most-says (s .len) (say-below i (s .len) none));
   stretch = λ v s a e.
-      by-first _ (stretchRow (s .len) a e) _ refl refl (sets-refuse .stretch v s a e .heard)
+      by-first _ (stretchRow (s .len) a e) _ refl refl (sets-refuse .stretch v s a e .given)
       (most-says (s .len) (stretch-says a e (s .len) none));
   rows = λ ws people person len.
       by-first _ (personRow ws people person len) _ refl refl (sets-refuse .rows ws people person len) (rows-first ws people person len);
   load = λ ws people person len.
       by-first _ (personRow ws people person len) _ refl refl (sets-refuse .load ws people person len) (rows-first ws people person len);
   put-stretch = λ ws people person len a e.
-      by-first _ (personStretchRow ws people person len a e) _ refl refl (sets-refuse .put-stretch 0 ws people person len a e .heard)
+      by-first _ (personStretchRow ws people person len a e) _ refl refl (sets-refuse .put-stretch 0 ws people person len a e .given)
       (people-says people (most-says len (say-short (16 * people) (length ws) (λ z. say-below person people (stretch-says a e len none)))));
   same-sets = λ ws vs people len.
       by-first _ (sameSetsRow ws vs people len) _ refl refl (sets-refuse .same-sets ws vs people len)
       (people-says people (most-says len (say-short (16 * people) (length ws) (λ y. say-short (16 * people) (length vs) (λ z. none)))));
-  all-runs = λ ws people person len firsts lasts.
-      by-first _ (runsRow ws people person len (length firsts) (length lasts)) _ refl refl
-      (sets-refuse .all-runs ws people person len firsts lasts .heard)
+  all-runs = λ ws people person len begins lasts.
+      by-first _ (runsRow ws people person len (length begins) (length lasts)) _ refl refl
+      (sets-refuse .all-runs ws people person len begins lasts .given)
       (people-says people (most-says len (say-short (16 * people) (length ws) (λ x.
-      say-short len (length firsts) (λ y. say-short len (length lasts) (λ z. say-below person people none))))));
+      say-short len (length begins) (λ y. say-short len (length lasts) (λ z. say-below person people none))))));
 }
 
 -- ---- slots
 
-lent-first : (slots : ℕ) (starts ends : List ℕ) → First (tables.slotsTable slots starts ends []) (heardOf (lentRow slots starts ends))
-unfolding heardOf lentRow
+lent-first : (slots : ℕ) (starts ends : List ℕ) → First (tables.slotsTable slots starts ends []) (numberOf (lentRow slots starts ends))
+unfolding numberOf lentRow
 lent-first slots starts ends =
     slots-says slots (columns-say slots starts ends (λ r. right-says 9 slots starts ends r none))
 
-atomise-first : (B : Base) → First (tables.atomiseTable B) (heardOf (atomiseRow B))
-unfolding heardOf atomiseRow baseRow
+atomise-first : (B : Base) → First (tables.atomiseTable B) (numberOf (atomiseRow B))
+unfolding numberOf atomiseRow baseRow
 atomise-first B =
     people-says (B .people) (slots-says (B .slots) (ranges-says (B .ranges .count) (columns-say (B .slots) (B .starts) (B .ends) (λ r.
     range-columns-say (B .ranges) (λ q.
@@ -349,7 +351,7 @@ atomise-first B =
     ranges-right (B .people) (B .ranges) q (overfull-says B (tests-by-rule .slots (B .slots) (B .starts) (B .ends) r .0 ok) none))))))))
 
 pub slots-by-table : tables.SlotsByTable
-unfolding heardOf lentRow slotMinutesRow mergedRow atomiseRow baseRow availabilityRow freezeRow availableRow
+unfolding numberOf lentRow slotMinutesRow mergedRow atomiseRow baseRow availabilityRow freezeRow availableRow
 slots-by-table = record {
   demand = λ slots starts ends.
       by-first _ (lentRow slots starts ends) _ refl refl (slots-refuse .demand slots starts ends) (lent-first slots starts ends);
@@ -357,18 +359,18 @@ slots-by-table = record {
       by-first _ (slotMinutesRow slots starts ends k) _ refl refl (slots-refuse .slot-minutes slots starts ends k)
       (slots-says slots (columns-say slots starts ends (λ r. right-says 9 slots starts ends r (say-below k slots none))));
   merged-ranges = λ people R out.
-      by-first _ (mergedRow people R out) _ refl refl (slots-refuse .merged-ranges people R out .heard)
+      by-first _ (mergedRow people R out) _ refl refl (slots-refuse .merged-ranges people R out .given)
       (people-says people (ranges-says (R .count) (range-columns-say R (λ q.
       range-columns-say (ranges (R .count) (out .persons) (out .starts) (out .ends)) (λ z. ranges-right people R q none)))));
-  atomise = λ B. by-first _ (atomiseRow B) _ refl refl (slots-refuse .atomise B .heard) (atomise-first B);
+  atomise = λ B. by-first _ (atomiseRow B) _ refl refl (slots-refuse .atomise B .given) (atomise-first B);
   availability = λ people slots starts ends R words.
       by-first _ (availabilityRow people slots starts ends R words) _ refl refl
-      (slots-refuse .availability people slots starts ends R words .heard)
+      (slots-refuse .availability people slots starts ends R words .given)
       (people-says people (slots-says slots (ranges-says (R .count) (columns-say slots starts ends (λ r.
       range-columns-say R (λ q. say-short (16 * people) (length words) (λ z.
       ranges-right people R q (right-says 9 slots starts ends r none))))))));
   freeze-before = λ slots starts ends frozen instant.
-      by-first _ (freezeRow slots starts ends frozen) _ refl refl (slots-refuse .freeze-before slots starts ends frozen instant .heard)
+      by-first _ (freezeRow slots starts ends frozen) _ refl refl (slots-refuse .freeze-before slots starts ends frozen instant .given)
       (slots-says slots (columns-say slots starts ends (λ r.
       say-short 16 (length frozen) (λ z. right-says 9 slots starts ends r none))));
   is-available = λ people slots words person slot.
@@ -380,50 +382,50 @@ slots-by-table = record {
 -- ---- units
 
 starts-first : (s : Settings) (slots : ℕ) (starts ends list : List ℕ)
-    → First (tables.startsTable s slots starts ends list) (heardOf (startsRow s slots starts ends list))
-unfolding heardOf startsRow
+    → First (tables.startsTable s slots starts ends list) (numberOf (startsRow s slots starts ends list))
+unfolding numberOf startsRow
 starts-first s slots starts ends list =
     slots-says slots (columns-say slots starts ends (λ r.
     say-short slots (length list) (λ z. settings-right s (right-says 9 slots starts ends r none))))
 
 pub units-by-table : tables.UnitsByTable
-unfolding heardOf unitsRow unitSlotsRow unitOfSlotRow startsRow unitFrozenRow slotDomainRow unitDomainRow unitDomainsRow lentRow
+unfolding numberOf unitsRow unitSlotsRow unitOfSlotRow startsRow unitFrozenRow slotDomainRow unitDomainRow unitDomainsRow lentRow
     targetRunRow achievableRunRow
 units-by-table = record {
-  unit-count = λ slots units firsts.
-      by-first _ (unitsRow slots units firsts) _ refl refl (units-refuse .unit-count slots units firsts)
-      (slots-says slots (say-short units (length firsts) (λ r. units-right slots units firsts r none)));
-  unit-slots = λ slots units firsts u.
-      by-first _ (unitSlotsRow slots units firsts u) _ refl refl (units-refuse .unit-slots slots units firsts u)
-      (slots-says slots (say-short units (length firsts) (λ r. units-right slots units firsts r (say-below u units none))));
-  unit-of-slot = λ slots units firsts k.
-      by-first _ (unitOfSlotRow slots units firsts k) _ refl refl (units-refuse .unit-of-slot slots units firsts k)
-      (slots-says slots (say-short units (length firsts) (λ r. units-right slots units firsts r (say-below k slots none))));
+  unit-count = λ slots units begins.
+      by-first _ (unitsRow slots units begins) _ refl refl (units-refuse .unit-count slots units begins)
+      (slots-says slots (say-short units (length begins) (λ r. units-right slots units begins r none)));
+  unit-slots = λ slots units begins u.
+      by-first _ (unitSlotsRow slots units begins u) _ refl refl (units-refuse .unit-slots slots units begins u)
+      (slots-says slots (say-short units (length begins) (λ r. units-right slots units begins r (say-below u units none))));
+  unit-of-slot = λ slots units begins k.
+      by-first _ (unitOfSlotRow slots units begins k) _ refl refl (units-refuse .unit-of-slot slots units begins k)
+      (slots-says slots (say-short units (length begins) (λ r. units-right slots units begins r (say-below k slots none))));
   rotation-starts = λ s slots starts ends list.
-      by-first _ (startsRow s slots starts ends list) _ refl refl (units-refuse .rotation-starts s slots starts ends list .heard)
+      by-first _ (startsRow s slots starts ends list) _ refl refl (units-refuse .rotation-starts s slots starts ends list .given)
       (starts-first s slots starts ends list);
   unit-starts = λ s slots starts ends list.
-      by-first _ (startsRow s slots starts ends list) _ refl refl (units-refuse .unit-starts s slots starts ends list .heard)
+      by-first _ (startsRow s slots starts ends list) _ refl refl (units-refuse .unit-starts s slots starts ends list .given)
       (starts-first s slots starts ends list);
-  unit-frozen = λ frozen slots units firsts u.
-      by-first _ (unitFrozenRow frozen slots units firsts u) _ refl refl (units-refuse .unit-frozen frozen slots units firsts u)
-      (slots-says slots (say-short units (length firsts) (λ r. say-short 16 (length frozen) (λ z.
-      units-right slots units firsts r (say-below u units none)))));
+  unit-frozen = λ frozen slots units begins u.
+      by-first _ (unitFrozenRow frozen slots units begins u) _ refl refl (units-refuse .unit-frozen frozen slots units begins u)
+      (slots-says slots (say-short units (length begins) (λ r. say-short 16 (length frozen) (λ z.
+      units-right slots units begins r (say-below u units none)))));
   slot-domain = λ avail people slots k list.
-      by-first _ (slotDomainRow avail people slots k list) _ refl refl (units-refuse .slot-domain avail people slots k list .heard)
+      by-first _ (slotDomainRow avail people slots k list) _ refl refl (units-refuse .slot-domain avail people slots k list .given)
       (people-says people (slots-says slots (say-short (16 * people) (length avail) (λ y.
       say-short people (length list) (λ z. say-below k slots none)))));
-  unit-domain = λ avail people slots units firsts u list.
-      by-first _ (unitDomainRow avail people slots units firsts u list) _ refl refl
-      (units-refuse .unit-domain avail people slots units firsts u list .heard)
+  unit-domain = λ avail people slots units begins u list.
+      by-first _ (unitDomainRow avail people slots units begins u list) _ refl refl
+      (units-refuse .unit-domain avail people slots units begins u list .given)
       (people-says people (slots-says slots (say-short (16 * people) (length avail) (λ y.
-      say-short units (length firsts) (λ r. say-short people (length list) (λ z.
-      units-right slots units firsts r (say-below u units none)))))));
-  unit-domains = λ avail people slots units firsts masks.
-      by-first _ (unitDomainsRow avail people slots units firsts masks) _ refl refl
-      (units-refuse .unit-domains avail people slots units firsts masks .heard)
+      say-short units (length begins) (λ r. say-short people (length list) (λ z.
+      units-right slots units begins r (say-below u units none)))))));
+  unit-domains = λ avail people slots units begins masks.
+      by-first _ (unitDomainsRow avail people slots units begins masks) _ refl refl
+      (units-refuse .unit-domains avail people slots units begins masks .given)
       (people-says people (slots-says slots (say-short (16 * people) (length avail) (λ y.
-      say-short units (length firsts) (λ r. say-short slots (length masks) (λ z. units-right slots units firsts r none))))));
+      say-short units (length begins) (λ r. say-short slots (length masks) (λ z. units-right slots units begins r none))))));
   covered-days = λ slots starts ends.
       by-first _ (lentRow slots starts ends) _ refl refl (units-refuse .covered-days slots starts ends) (lent-first slots starts ends);
   minutes-per-day = λ slots starts ends.
@@ -448,8 +450,8 @@ guard-says g {t} {n} room h =
     say (beyond g) (targets.guardOk g) {t = t} {n = n} (λ e. let y = x .0 e in (right .0 (y .0), y .1))
     (λ e says. not-both (targets.guardOk g) ⊥ e (x .1 (right .1 (says .0), says .1))) (λ e. h)
 
-targets-first : (g : targets.Given) (room : ℕ) → First (tables.targetsTable g room) (heardOf (targets.targetsRow g room))
-unfolding heardOf targets.targetsRow targets.roomRow
+targets-first : (g : targets.Given) (room : ℕ) → First (tables.targetsTable g room) (numberOf (targets.targetsRow g room))
+unfolding numberOf targets.targetsRow targets.roomRow
 targets-first g room =
     people-says (g .people) (slots-says (g .slots) (columns-say (g .slots) (g .starts) (g .ends) (λ r.
     say-short (16 * g .people) (length (g .avail)) (λ x.
@@ -459,12 +461,13 @@ targets-first g room =
     say-broken 6 _ (allFiguresOk (g .people) (g .capacities) (g .priors))
     (tests-by-rule .figures (g .people) (g .capacities) (g .priors)) (λ v.
     say-broken 7 (g .fairness ≤ 1) (leb (g .fairness) 1) (leb-true (g .fairness) 1, le-leb (g .fairness) 1) (λ u.
-    guard-says g r (right-says 9 (g .slots) (g .starts) (g .ends) r none))))))))))
+    say-broken 7 (g .edition ≤ 1) (leb (g .edition) 1) (leb-true (g .edition) 1, le-leb (g .edition) 1) (λ s.
+    guard-says g r (right-says 9 (g .slots) (g .starts) (g .ends) r none)))))))))))
 
-targets-heard : (g : targets.Given) (out : List ℤ) → Heard (tables.targetsTable g (length out)) (targets.computeTargets g out .number)
+targets-number : (g : targets.Given) (out : List ℤ) → GivenBy (tables.targetsTable g (length out)) (targets.computeTargets g out .number)
 unfolding targets.targetsRow targets.roomRow
-targets-heard g out =
-    by-first _ (targets.targetsRow g (length out)) _ refl refl (targets-refuse .compute-targets g out .heard) (targets-first g (length out))
+targets-number g out =
+    by-first _ (targets.targetsRow g (length out)) _ refl refl (targets-refuse .compute-targets g out .given) (targets-first g (length out))
 
 -- ---- the rota
 
@@ -484,109 +487,112 @@ module _ (P : Plan) (avail o : List ℕ) (D : Derived) where
       say-short (P .people) (length (D .minutes)) {t = t} {n = n} (λ w. h r)))))
 
 from-slots-first : (P : Plan) (avail o : List ℕ) (D : Derived)
-    → First (tables.fromSlotsTable P avail o D) (heardOf (state.fromSlotsRow P avail o D))
-unfolding heardOf state.fromSlotsRow state.lentRow
+    → First (tables.fromSlotsTable P avail o D) (numberOf (state.fromSlotsRow P avail o D))
+unfolding numberOf state.fromSlotsRow state.lentRow
 from-slots-first P avail o D =
     people-says (P .people) (slots-says (P .slots) (lent-says P avail o D (λ r.
     right-says 9 (P .slots) (P .starts) (P .ends) r
     (all-known-says (P .people) (P .slots) o (all-available-says avail (P .slots) o none)))))
 
 assign-first : (P : Plan) (avail o : List ℕ) (D : Derived) (k w : ℕ)
-    → First (tables.assignTable P avail o D k w) (heardOf (rota.assignRow P avail o D k w))
-unfolding heardOf rota.assignRow state.recountSlotsRow state.lentRow recountTests
+    → First (tables.assignTable P avail o D k w) (numberOf (rota.assignRow P avail o D k w))
+unfolding numberOf rota.assignRow state.recountSlotsRow state.lentRow recountTests
 assign-first P avail o D k w =
     people-says (P .people) (slots-says (P .slots) (lent-says P avail o D (λ r.
     right-says 9 (P .slots) (P .starts) (P .ends) r (recount-says P avail 0 [] o D
     (say-below k (P .slots) (known-says (P .people) w (available-says avail w k none)))))))
 
 recount-slots-first : (P : Plan) (avail o : List ℕ) (D : Derived)
-    → First (tables.recountSlotsTable P avail o D []) (heardOf (state.recountSlotsRow P avail o D))
-unfolding heardOf state.recountSlotsRow state.lentRow recountTests
+    → First (tables.recountSlotsTable P avail o D []) (numberOf (state.recountSlotsRow P avail o D))
+unfolding numberOf state.recountSlotsRow state.lentRow recountTests
 recount-slots-first P avail o D =
     people-says (P .people) (slots-says (P .slots) (lent-says P avail o D (λ r.
     right-says 9 (P .slots) (P .starts) (P .ends) r (recount-says P avail 0 [] o D none))))
 
-recount-first : (P : Plan) (avail : List ℕ) (units : ℕ) (firsts o : List ℕ) (D : Derived)
-    → First (tables.recountTable P avail units firsts o D [] [])
-    (heardOf (state.recountRow true (leb units (length firsts)) P avail units firsts o D))
-unfolding heardOf state.recountRow state.lentRow recountTests
-recount-first P avail units firsts o D =
+recount-first : (P : Plan) (avail : List ℕ) (units : ℕ) (begins o : List ℕ) (D : Derived)
+    → First (tables.recountTable P avail units begins o D [] [])
+    (numberOf (state.recountRow true (leb units (length begins)) P avail units begins o D))
+unfolding numberOf state.recountRow state.lentRow recountTests
+recount-first P avail units begins o D =
     people-says (P .people) (slots-says (P .slots) (lent-says P avail o D (λ r.
-    say-short units (length firsts) (λ q.
+    say-short units (length begins) (λ q.
     right-says 9 (P .slots) (P .starts) (P .ends) r
-    (units-right (P .slots) units firsts q (recount-says P avail units firsts o D none))))))
+    (units-right (P .slots) units begins q (recount-says P avail units begins o D none))))))
 
 -- rule 2 of a play's units, flags and columns
-play-room-says : (units : ℕ) (firsts frozen : List ℕ) (k : ℕ) (ks fs ss x : List ℕ) {t : List Rule} {n : ℕ}
-    → (leb units (length firsts) ≡ true → First t n)
-    → First (short units (length firsts) ∷ short 16 (length frozen) ∷ short k (length ks) ∷ short k (length fs) ∷ short k (length ss)
-    ∷ short k (length x) ∷ t) (cond (rota.playRoomOk units firsts frozen k ks fs ss x) n 2)
-unfolding rota.playRoomOk
-play-room-says units firsts frozen k ks fs ss x {t} {n} h =
-    let a = leb units (length firsts) in
+play-room-says : (units : ℕ) (begins frozen : List ℕ) (k : ℕ) (ks fs ss x : List ℕ) {t : List Rule} {n : ℕ}
+    → (leb units (length begins) ≡ true → First t n)
+    → First (short units (length begins) ∷ short 16 (length frozen) ∷ short k (length ks) ∷ short k (length fs) ∷ short k (length ss)
+    ∷ short k (length x) ∷ t) (cond (rota.playRoomOk units begins frozen k (rota.columnsEnough k ks fs ss) x) n 2)
+unfolding rota.playRoomOk rota.columnsEnough
+play-room-says units begins frozen k ks fs ss x {t} {n} h =
+    let a = leb units (length begins) in
     let b = leb 16 (length frozen) in
     let c = leb k (length ks) in
     let d = leb k (length fs) in
     let e = leb k (length ss) in
     let f = leb k (length x) in
-    say-and a (b && (c && (d && (e && f)))) n 2 _ (say-short units (length firsts) (λ q.
-    say-and b (c && (d && (e && f))) n 2 _ (say-short 16 (length frozen) (λ y.
-    say-and c (d && (e && f)) n 2 _ (say-short k (length ks) (λ z.
-    say-and d (e && f) n 2 _ (say-short k (length fs) (λ v.
-    say-and e f n 2 _ (say-short k (length ss) (λ w.
+    let lists = c && (d && e) in
+    let m = cond f n 2 in
+    say-and a (b && (lists && f)) n 2 _ (say-short units (length begins) (λ q.
+    say-and b (lists && f) n 2 _ (say-short 16 (length frozen) (λ y.
+    say-and lists f n 2 _ (say-and c (d && e) m 2 _ (say-short k (length ks) (λ z.
+    say-and d e m 2 _ (say-short k (length fs) (λ v.
+    say-short k (length ss) (λ w.
     say-short k (length x) {t = t} {n = n} (λ u. h q)))))))))))
 
-play-first : (c : Call) → First (tables.playTable c (length (c .kinds)) (length (c .ones)) (length (c .twos))) (heardOf (rowOf c))
-unfolding heardOf state.recountRow state.lentRow recountTests
+play-first : (c : Call) → First (tables.playTable c (length (c .draws)) (length (c .firsts)) (length (c .seconds))) (numberOf (rowOf c))
+unfolding numberOf state.recountRow state.lentRow recountTests
 play-first c =
     people-says (c .plan .people) (slots-says (c .plan .slots) (most-says (c .count)
     (lent-says (c .plan) (c .avail) (c .owners) (c .derived) (λ r.
-    play-room-says (c .units) (c .firsts) (c .frozen) (c .count) (c .kinds) (c .ones) (c .twos) (c .answers) (λ q.
+    play-room-says (c .units) (c .begins) (c .frozen) (c .count) (c .draws) (c .firsts) (c .seconds) (c .answers) (λ q.
     right-says 9 (c .plan .slots) (c .plan .starts) (c .plan .ends) r
-    (units-right (c .plan .slots) (c .units) (c .firsts) q
-    (recount-says (c .plan) (c .avail) (c .units) (c .firsts) (c .owners) (c .derived) none)))))))
+    (units-right (c .plan .slots) (c .units) (c .begins) q
+    (recount-says (c .plan) (c .avail) (c .units) (c .begins) (c .owners) (c .derived) none)))))))
 
-play-heard : (c : Call) → Heard (tables.playTable c (length (c .kinds)) (length (c .ones)) (length (c .twos))) (playOf c .number)
+play-number : (c : Call) → GivenBy (tables.playTable c (length (c .draws)) (length (c .firsts)) (length (c .seconds))) (playOf c .number)
 unfolding state.recountRow state.lentRow recountTests
-play-heard c = by-first _ (rowOf c) _ refl refl (rota-refuses .play c .heard) (play-first c)
+play-number c = by-first _ (rowOf c) _ refl refl (rota-refuses .play c .given) (play-first c)
 
-draws-heard : (c : Call) (ds : List Draw) → Heard (tables.playTable c (length ds) (length ds) (length ds)) (playDrawsOf c ds .number)
-unfolding kinds ones twos
-draws-heard c ds =
+draws-number : (c : Call) (ds : List Draw) → GivenBy (tables.playTable c (length ds) (length ds) (length ds)) (playDrawsOf c ds .number)
+unfolding draws firsts seconds
+draws-number c ds =
     let n = playDrawsOf c ds .number in
-    subst (λ (k : ℕ). Heard (tables.playTable c k (length ds) (length ds)) n) (length-map ds (λ d. d .draw))
-    (subst (λ (k : ℕ). Heard (tables.playTable c (length (kinds ds)) k (length ds)) n) (length-map ds (λ d. d .first))
-    (subst (λ (k : ℕ). Heard (tables.playTable c (length (kinds ds)) (length (ones ds)) k) n) (length-map ds (λ d. d .second))
-    (play-heard (ofDraws c ds))))
+    subst (λ (k : ℕ). GivenBy (tables.playTable c k (length ds) (length ds)) n) (length-map ds (λ d. d .draw))
+    (subst (λ (k : ℕ). GivenBy (tables.playTable c (length (draws ds)) k (length ds)) n) (length-map ds (λ d. d .first))
+    (subst (λ (k : ℕ). GivenBy (tables.playTable c (length (draws ds)) (length (firsts ds)) k) n) (length-map ds (λ d. d .second))
+    (subst (λ (y : state.Outcome). GivenBy (tables.playTable c (length (draws ds)) (length (firsts ds)) (length (seconds ds))) (y .number))
+    (sym (draws-alike c ds)) (play-number (ofDraws c ds)))))
 
 slots-of-first : (people slots : ℕ) (ws : List ℕ) (p : ℕ)
     → First (tables.slotsOfTable people slots ws p)
-    (heardOf (test 1 (countsOk people slots) ∷ test 2 (leb (16 * people) (length ws)) ∷ test 11 (ltb p people) ∷ []))
-unfolding heardOf countsOk
+    (numberOf (test 1 (countsOk people slots) ∷ test 2 (leb (16 * people) (length ws)) ∷ test 11 (ltb p people) ∷ []))
+unfolding numberOf countsOk
 slots-of-first people slots ws p =
-    let n = heardOf (test 2 (leb (16 * people) (length ws)) ∷ test 11 (ltb p people) ∷ []) in
+    let n = numberOf (test 2 (leb (16 * people) (length ws)) ∷ test 11 (ltb p people) ∷ []) in
     say-and (peopleOk people) (slotCountOk slots) n 1 _
     (people-says people (slots-says slots (say-short (16 * people) (length ws) (λ z. say-below p people none))))
 
 pub rota-by-table : tables.RotaByTable
-unfolding heardOf state.fromSlotsRow state.lentRow rota.assignRow state.recountSlotsRow state.recountRow recountTests state.emptyRow
+unfolding numberOf state.fromSlotsRow state.lentRow rota.assignRow state.recountSlotsRow state.recountRow recountTests state.emptyRow
     state.ownerRow state.minutesRow state.unassignedRow state.uncoveredRow
 rota-by-table = record {
-  compute-targets = targets-heard;
+  compute-targets = targets-number;
   from-slots = λ P avail o D.
-      by-first _ (state.fromSlotsRow P avail o D) _ refl refl (rota-refuses .from-slots P avail o D .heard) (from-slots-first P avail o D);
+      by-first _ (state.fromSlotsRow P avail o D) _ refl refl (rota-refuses .from-slots P avail o D .given) (from-slots-first P avail o D);
   assign = λ P avail o D k w.
-      by-first _ (rota.assignRow P avail o D k w) _ refl refl (rota-refuses .assign P avail o D k w .heard) (assign-first P avail o D k w);
-  recount = λ P avail units firsts o D.
-      by-first _ (state.recountRow true (leb units (length firsts)) P avail units firsts o D) _ refl refl
-      (rota-refuses .recount true (leb units (length firsts)) P avail units firsts o D) (recount-first P avail units firsts o D);
+      by-first _ (rota.assignRow P avail o D k w) _ refl refl (rota-refuses .assign P avail o D k w .given) (assign-first P avail o D k w);
+  recount = λ P avail units begins o D.
+      by-first _ (state.recountRow true (leb units (length begins)) P avail units begins o D) _ refl refl
+      (rota-refuses .recount true (leb units (length begins)) P avail units begins o D) (recount-first P avail units begins o D);
   recount-slots = λ P avail o D.
       by-first _ (state.recountSlotsRow P avail o D) _ refl refl (rota-refuses .recount-slots P avail o D)
       (recount-slots-first P avail o D);
-  play = play-heard;
-  play-draws = draws-heard;
+  play = play-number;
+  play-draws = draws-number;
   empty = λ people slots o D.
-      by-first _ (state.emptyRow people slots o D) _ refl refl (rota-refuses .empty people slots o D .heard)
+      by-first _ (state.emptyRow people slots o D) _ refl refl (rota-refuses .empty people slots o D .given)
       (people-says people (slots-says slots (say-short slots (length o) (λ x. say-short (16 * people) (length (D .sets)) (λ y.
       say-short people (length (D .minutes)) (λ z. none))))));
   owner-of-slot = λ people slots o k.

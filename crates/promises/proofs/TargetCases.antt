@@ -24,26 +24,26 @@ use Rattle.promises.specs.Entries.{built}
 use Rattle.promises.specs.Marked.{one, none, Shared}
 use Rattle.promises.specs.EditionRules.{SecondCases}
 
--- from the targets of these figures to what is heard of them, whatever is lent
+-- from the targets of these figures to what is answered of them, whatever is lent
 module _ (edition demand : ℕ) (capacities : List Float) (priors : List ℕ) (zs : List ℤ) where
-  abbrev asked : List ℕ → Given
-  asked avail = given (length capacities) 1 (0 ∷ []) (demand ∷ []) avail capacities priors 1 edition
+  abbrev checked : List ℕ → Given
+  checked avail = given (length capacities) 1 (0 ∷ []) (demand ∷ []) avail capacities priors 1 edition
 
-  -- what is heard, and what the buffer holds then
+  -- what is answered, and what the buffer holds then
   abbrev Gives : Type 0
   Gives =
       (avail : List ℕ) (out : List ℤ) → 16 * length capacities ≤ length avail → length capacities ≤ length out
-      → computeTargets (asked avail) out ≡ record { number = 0; out = zs ++ drop (length capacities) out }
+      → computeTargets (checked avail) out ≡ record { number = 0; out = zs ++ drop (length capacities) out }
 
   shared : edition ≤ 1 → countsOk (length capacities) 1 ≡ true → length priors ≡ length capacities
       → allFiguresOk (length capacities) capacities priors ≡ true → slotRoomOk 1 (0 ∷ []) (demand ∷ []) ≡ true
-      → slotsOk 1 (0 ∷ []) (demand ∷ []) ≡ true → ((avail : List ℕ) → targetsIn (asked avail) ≡ zs)
+      → slotsOk 1 (0 ∷ []) (demand ∷ []) ≡ true → ((avail : List ℕ) → targetsIn (checked avail) ≡ zs)
       → Gives
   unfolding countsOk
   shared k a n f b e t avail out w r =
       let p = length capacities in
       let c = both (peopleOk p) (slotCountOk 1) a in
-      let l : Lent (asked avail) (length out) = record {
+      let l : Lent (checked avail) (length out) = record {
         people-ok = c .0;
         slots-ok = c .1;
         columns = b;
@@ -52,9 +52,9 @@ module _ (edition demand : ℕ) (capacities : List Float) (priors : List ℕ) (z
         priors-room = le-of-eq (sym n);
         out-room = r;
       } in
-      let z = number-lent (asked avail) out l e ∙ all-pass _ (f, (le-leb 1 1 (le-refl 1), (le-leb edition 1 k, tt))) in
+      let z = number-lent (checked avail) out l e ∙ all-pass _ (f, (le-leb 1 1 (le-refl 1), (le-leb edition 1 k, tt))) in
       ap₂ (λ (k : ℕ) (o : List ℤ). record { number = k; out = o }) z
-      (when-accepted (asked avail) out z ∙ ap (λ (x : List ℤ). x ++ drop p out) (t avail))
+      (when-accepted (checked avail) out z ∙ ap (λ (x : List ℤ). x ++ drop p out) (t avail))
 
 pub cases-7-to-10 : Shared built 100 (one ∷ one ∷ one ∷ []) (0 ∷ 0 ∷ 0 ∷ []) (pos 33 ∷ pos 33 ∷ pos 34 ∷ [])
     × Shared built 2 (one ∷ one ∷ one ∷ one ∷ []) (0 ∷ 0 ∷ 0 ∷ 0 ∷ []) (pos 1 ∷ pos 1 ∷ pos 1 ∷ negsuc 0 ∷ [])

@@ -13,9 +13,9 @@ use Rattle.paper.proofs.Logic.{below-suc}
 use Rattle.paper.specs.Count as Σ
 use Rattle.slotset.specs.Answers.{rowSlots}
 use Rattle.slots.specs.Lent.{minutesAt}
-use Rattle.targets.specs.declared.Line.{Line}
-use Rattle.targets.specs.Figures.{zeroF, whole, personAt, lineOf, upTo, pad, availableMinutes}
-use Rattle.targets.specs.Passes.{rounded, unrounded, settled, settle, outside, falls, shareSum, notional, some}
+use Rattle.targets.specs.declared.Standing.{Standing}
+use Rattle.targets.specs.Figures.{zeroF, whole, personAt, standingOf, upTo, pad, availableMinutes}
+use Rattle.targets.specs.Passes.{rounded, unrounded, settled, settle, outside, belowZero, shareSum, notional, some}
 use Rattle.targets.specs.Passes.{Passed, again, done, refused, pass}
 use Rattle.targets.specs.Outcome.{Given, demandIn, baseAt, leftIn, takerIn}
 use Rattle.targets.proofs.Loops.{length-upTo}
@@ -35,7 +35,7 @@ unfolding availableMinutes minutesAt
 base-0-is g k e = base-by g k false (ap (λ (f : ℕ). eqb f 1) e)
 
 -- entry k of a list that was made by numbers
-getD-up-to : (f : ℕ → Line) (n k : ℕ) → k < n → getD (upTo f n) k pad ≡ f k
+getD-up-to : (f : ℕ → Standing) (n k : ℕ) → k < n → getD (upTo f n) k pad ≡ f k
 getD-up-to f zero k h = absurd (omega arith)
 getD-up-to f (suc n) k h =
     below-suc _ h
@@ -45,10 +45,10 @@ getD-up-to f (suc n) k h =
     (λ b. List·getD-append (upTo f n) (f n ∷ []) pad k (omega (arith, length-upTo f n)) ∙ getD-up-to f n k b)
 
 -- a fold that leaves the pinned out
-over-unpinned : {A : Type 0} (start : A) (plus : A → Line → A)
-    → OverUnpinned (foldl (λ (s : A) (l : Line). cond (l .pinned) s (plus s l)) start) start plus
+over-unpinned : {A : Type 0} (start : A) (plus : A → Standing → A)
+    → OverUnpinned (foldl (λ (s : A) (l : Standing). cond (l .pinned) s (plus s l)) start) start plus
 over-unpinned {A} start plus =
-    let f : A → Line → A = λ s l. cond (l .pinned) s (plus s l) in
+    let f : A → Standing → A = λ s l. cond (l .pinned) s (plus s l) in
     record {
       none = refl;
       unpinned = λ ls l e.
@@ -58,7 +58,7 @@ over-unpinned {A} start plus =
     }
 
 -- one pass, by whether its sum is above 0 and whether the guard is broken
-module _ (demand : ℕ) (ls : List Line) where
+module _ (demand : ℕ) (ls : List Standing) where
   abbrev n : Float
   n = whole (notional demand ls)
 
@@ -66,7 +66,7 @@ module _ (demand : ℕ) (ls : List Line) where
   s = shareSum ls
 
   abbrev worked : Passed
-  worked = cond (some (falls n s) ls) (again (map (settle n s) ls)) (done (map (settle n s) ls))
+  worked = cond (some (belowZero n s) ls) (again (map (settle n s) ls)) (done (map (settle n s) ls))
 
   pub no-sum : lt zeroF s ≡ false → pass demand (again ls) ≡ done ls
   unfolding pass
@@ -85,32 +85,32 @@ module _ (demand : ℕ) (ls : List Line) where
       ∙ ap (λ (b : Bool). cond b refused worked) f
 
 -- a line by whether it is pinned, and whether its unrounded target is below 0
-abbrev pub settledBy : Float → Line → Bool → Bool → Line
+abbrev pub settledBy : Float → Standing → Bool → Bool → Standing
 settledBy x l pinned below =
     cond pinned l
     (cond below (record { person = l .person; raw = l .raw; target = 0; pinned = true })
     (record { person = l .person; raw = l .raw; target = rounded x; pinned = false }))
 
-pub settled-is : (x : Float) (l : Line) (a b : Bool) → l .pinned ≡ a → lt x zeroF ≡ b → settled x l ≡ settledBy x l a b
+pub settled-is : (x : Float) (l : Standing) (a b : Bool) → l .pinned ≡ a → lt x zeroF ≡ b → settled x l ≡ settledBy x l a b
 unfolding settled
 settled-is x l a b p q = ap₂ (settledBy x l) p q
 
-settles-by-rule : (n sum : Float) (l : Line) → Settles n sum l
+settles-by-rule : (n sum : Float) (l : Standing) → Settles n sum l
 settles-by-rule n sum l =
     let x = unrounded n sum l in
     record {
       keeps = λ p. settled-is x l true _ p refl;
       below = λ p q.
           let e = settled-is x l false true p q in
-          (ap (λ (m : Line). m .pinned) e, ap (λ (m : Line). m .target) e);
+          (ap (λ (m : Standing). m .pinned) e, ap (λ (m : Standing). m .target) e);
       else-rounds = λ p q.
           let e = settled-is x l false false p q in
-          (ap (λ (m : Line). m .pinned) e, ap (λ (m : Line). m .target) e);
+          (ap (λ (m : Standing). m .pinned) e, ap (λ (m : Standing). m .target) e);
     }
 
 pub targets-by-rule : TargetsByRule
 targets-by-rule = record {
-  lines = λ g k h. getD-up-to (λ (j : ℕ). lineOf (personAt (g .capacities) (g .priors) j) (baseAt g j)) (g .people) k h;
+  standings = λ g k h. getD-up-to (λ (j : ℕ). standingOf (personAt (g .capacities) (g .priors) j) (baseAt g j)) (g .people) k h;
   begins = λ p base. (refl, refl);
   share = λ p base. refl;
   base-1 = λ g k e. base-by g k true (eq-eqb (g .fairness) 1 e);

@@ -168,29 +168,29 @@ settings-test s = (
 
 -- ---- 9 of units
 
-module _ (slots units : ℕ) (firsts : List ℕ) (room : leb units (length firsts) ≡ true) where
-  units-say : unitsOk slots units firsts ≡ true → UnitsRight slots units firsts
+module _ (slots units : ℕ) (begins : List ℕ) (room : leb units (length begins) ≡ true) where
+  units-say : unitsOk slots units begins ≡ true → UnitsRight slots units begins
   unfolding unitsOk startOk
   units-say e =
-      let x = three (leb 1 units) (leb units (length firsts)) (all units (startOk slots firsts)) e in
+      let x = three (leb 1 units) (leb units (length begins)) (all units (startOk slots begins)) e in
       let some = leb-true 1 units (x .0) in
-      let each : (u : ℕ) → u < units → (startRises firsts u ≡ true) × (ltb (getD firsts u 0) slots ≡ true) = λ u h.
-      both _ _ (all-each units (startOk slots firsts) (x .2) u h) in
+      let each : (u : ℕ) → u < units → (startRises begins u ≡ true) × (ltb (getD begins u 0) slots ≡ true) = λ u h.
+      both _ _ (all-each units (startOk slots begins) (x .2) u h) in
       record {
         some = some;
-        begins = eqb-true _ _ (each 0 (omega (arith, some)) .0);
+        from-zero = eqb-true _ _ (each 0 (omega (arith, some)) .0);
         rises = λ u h. ltb-true _ _ (each (suc u) h .0);
         below = λ u h. ltb-true _ _ (each u h .1);
       }
 
-  say-units : UnitsRight slots units firsts → unitsOk slots units firsts ≡ true
+  say-units : UnitsRight slots units begins → unitsOk slots units begins ≡ true
   unfolding unitsOk startOk
   say-units x =
-      and-true _ _ (le-leb 1 units (x .some)) (and-true _ _ room (each-all units (startOk slots firsts)
+      and-true _ _ (le-leb 1 units (x .some)) (and-true _ _ room (each-all units (startOk slots begins)
       (λ u h. and-true _ _ (after u h) (lt-ltb _ _ (x .below u h)))))
     where
-      after : (u : ℕ) → u < units → startRises firsts u ≡ true
-      after zero h = eq-eqb _ _ (x .begins)
+      after : (u : ℕ) → u < units → startRises begins u ≡ true
+      after zero h = eq-eqb _ _ (x .from-zero)
       after (suc u) h = lt-ltb _ _ (x .rises u h)
 
 -- ---- 11 and 12
@@ -225,7 +225,7 @@ tests-by-rule = record {
   ranges = ranges-test;
   figures = figures-test;
   settings = settings-test;
-  units = λ slots units firsts room. (units-say slots units firsts room, say-units slots units firsts room);
+  units = λ slots units begins room. (units-say slots units begins room, say-units slots units begins room);
   known = known-test;
   available = available-test;
 }

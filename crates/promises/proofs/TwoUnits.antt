@@ -27,11 +27,11 @@ use Rattle.promises.specs.Marked.{Owned, apart, Spare, twoUnits}
 use Rattle.promises.proofs.Calls.{roomOk, Accepted, says-accepted, accepted-is}
 
 -- with as many draws as there are numbers for, and room for the answers, it is accepted
-module _ (r : Owned) (frozen count : ℕ) (kinds ones twos : List ℕ) (more : Spare) (few : leb count 1024 ≡ true)
-    (k : leb count (length kinds) ≡ true)
-    (f : leb count (length ones) ≡ true) (s : leb count (length twos) ≡ true) (room : count ≤ length (more .answers)) where
+module _ (r : Owned) (frozen count : ℕ) (draws firsts seconds : List ℕ) (more : Spare) (few : leb count 1024 ≡ true)
+    (k : leb count (length draws) ≡ true)
+    (f : leb count (length firsts) ≡ true) (s : leb count (length seconds) ≡ true) (room : count ≤ length (more .answers)) where
   abbrev call : Call
-  call = twoUnits r frozen count kinds ones twos more
+  call = twoUnits r frozen count draws firsts seconds more
 
   rota-room : roomOk (call .plan) (call .avail) (call .owners) (call .derived) ≡ true
   unfolding roomOk slotRoomOk
@@ -42,7 +42,7 @@ module _ (r : Owned) (frozen count : ℕ) (kinds ones twos : List ℕ) (more : S
       and-true _ _ (le-leb 2 (length (call .owners)) a)
       (and-true _ _ (le-leb 32 (length (call .derived .sets)) b) (le-leb 2 (length (call .derived .minutes)) d))
 
-  passes : recounts (call .plan) (call .avail) 2 (call .firsts) (call .owners) (call .derived) ≡ true → Accepted call
+  passes : recounts (call .plan) (call .avail) 2 (call .begins) (call .owners) (call .derived) ≡ true → Accepted call
   unfolding countsOk peopleOk slotCountOk slotsOk slotRoomOk slotOkAt slotOk prevEnd all unitsOk startOk
   passes recount = record {
     counts = refl;
@@ -50,26 +50,26 @@ module _ (r : Owned) (frozen count : ℕ) (kinds ones twos : List ℕ) (more : S
     room = rota-room;
     starts = refl;
     flags = refl;
-    kinds = leb-true count (length kinds) k;
-    ones = leb-true count (length ones) f;
-    twos = leb-true count (length twos) s;
+    draws = leb-true count (length draws) k;
+    firsts = leb-true count (length firsts) f;
+    seconds = leb-true count (length seconds) s;
     answers = room;
     slots = refl;
     units = refl;
     recount = recount;
   }
 
-  pub accepted : recounts (call .plan) (call .avail) 2 (call .firsts) (call .owners) (call .derived) ≡ true → noOf call ≡ 0
+  pub accepted : recounts (call .plan) (call .avail) 2 (call .begins) (call .owners) (call .derived) ≡ true → noOf call ≡ 0
   accepted recount = says-accepted call (passes recount)
 
 -- owners 0 and 1 pass the recount
-pub apart-recounts : (frozen count : ℕ) (kinds ones twos : List ℕ) (more : Spare)
-    → let c = twoUnits apart frozen count kinds ones twos more in
-    recounts (c .plan) (c .avail) 2 (c .firsts) (c .owners) (c .derived) ≡ true
+pub apart-recounts : (frozen count : ℕ) (draws firsts seconds : List ℕ) (more : Spare)
+    → let c = twoUnits apart frozen count draws firsts seconds more in
+    recounts (c .plan) (c .avail) 2 (c .begins) (c .owners) (c .derived) ≡ true
 unfolding recounts all allIn knownAt knownBy availableAt availableFor available evenAt unitEnd setAt setSlotAt held minutesOkAt worked
     portion sum
     minutesAt slot bitOf
-apart-recounts frozen count kinds ones twos more = refl
+apart-recounts frozen count draws firsts seconds more = refl
 
 -- unit 1 frozen, the swap of both units: 1, and nothing changes
 pub case-12 : (more : Spare) → 1 ≤ length (more .answers)

@@ -7,7 +7,7 @@ use Prim.Native.Nat.{ℕ, _-_, _*_, _≤_, _<_}
 use lib.IntN.{ℤ, pos}
 use lib.Ieee.{Float}
 use lib.ListN.{length, getD, set, drop}
-use Rattle.targets.specs.declared.Line.{Line}
+use Rattle.targets.specs.declared.Standing.{Standing}
 use Rattle.targets.specs.Figures.{pad}
 use Rattle.targets.specs.Passes.{some}
 use Rattle.targets.specs.Remainder.{totalOf, targetOf, adjusted}
@@ -27,14 +27,14 @@ pub record EditionsByRule : Type 0 where
   pub first : (g : Given) → g .edition ≡ 0 → targetsIn g ≡ adjusted (demandIn g) (leftIn g)
   pub second : (g : Given) → g .edition ≡ 1 → targetsIn g ≡ map targetOf (handedOut (demandIn g) (takingPart (leftIn g)))
   -- the unpinned take part; everybody does if nobody is unpinned
-  pub unpinned-part : (ls : List Line) → some unpinned ls ≡ true → takingPart ls ≡ ls
-  pub all-part : (ls : List Line) → some unpinned ls ≡ false → takingPart ls ≡ map unpin ls
+  pub unpinned-part : (ls : List Standing) → some unpinned ls ≡ true → takingPart ls ≡ ls
+  pub all-part : (ls : List Standing) → some unpinned ls ≡ false → takingPart ls ≡ map unpin ls
   -- a missing minute goes to the smallest target, an extra one is taken from the largest, the lowest number first among equals
-  pub gives : (ls : List Line) (k : ℕ) → Smallest ls k → giveMinute ls ≡ set ls k (oneMore (getD ls k pad))
-  pub takes : (ls : List Line) (k : ℕ) → LargestFirst ls k → takeMinute ls ≡ set ls k (oneLess (getD ls k pad))
+  pub gives : (ls : List Standing) (k : ℕ) → Smallest ls k → giveMinute ls ≡ set ls k (oneMore (getD ls k pad))
+  pub takes : (ls : List Standing) (k : ℕ) → LargestFirst ls k → takeMinute ls ≡ set ls k (oneLess (getD ls k pad))
   -- as many as are missing, or as are too many
-  pub missing : (demand : ℕ) (ls : List Line) → totalOf ls ≤ demand → handedOut demand ls ≡ times (demand - totalOf ls) giveMinute ls
-  pub extra : (demand : ℕ) (ls : List Line) → demand < totalOf ls → handedOut demand ls ≡ times (totalOf ls - demand) takeMinute ls
+  pub missing : (demand : ℕ) (ls : List Standing) → totalOf ls ≤ demand → handedOut demand ls ≡ times (demand - totalOf ls) giveMinute ls
+  pub extra : (demand : ℕ) (ls : List Standing) → demand < totalOf ls → handedOut demand ls ≡ times (totalOf ls - demand) takeMinute ls
   -- no target is below 0, and none above demand
   pub not-below : (g : Given) (out : List ℤ) → g .edition ≡ 1 → computeTargets g out .number ≡ 0 → (k : ℕ) → k < g .people
       → (t : ℕ) × Holds g out k t × (t ≤ demandIn g)

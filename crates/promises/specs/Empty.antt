@@ -10,30 +10,31 @@ use Rattle.slots.specs.Atomic.{Base}
 use Rattle.units.specs.declared.Settings.{Settings}
 use Rattle.targets.specs.Outcome as targets
 use Rattle.owners.specs.Derived.{Plan}
-use Rattle.slots.specs.Lent.{minutesNo}
+use Rattle.slots.specs.Lent.{minutesRefusal}
 use Rattle.promises.specs.Entries.{Call, Component, noOf, ownersIn, rowOf}
-use Rattle.slotset.specs.Answers.{toldNo, numberNo}
-use Rattle.promises.specs.SetRefusals.{foundNo, runNo}
-use Rattle.promises.specs.Table.{Hears}
+use Rattle.slotset.specs.Answers.{yesNoRefusal, numberRefusal}
+use Rattle.promises.specs.SetRefusals.{foundRefusal, runRefusal}
+use Rattle.promises.specs.Table.{GivenByTests}
 use Rattle.promises.specs.Rota.{firstCall}
 
 -- "A component that always refuses breaks demand 2: refusals come exactly by the table."
 abbrev pub RefusesByTable : Component → Type 0
-RefusesByTable C = (c : Call) → Hears (rowOf c) (C .play c .number)
+RefusesByTable C = (c : Call) → GivenByTests (rowOf c) (C .play c .number)
 
 -- one of its entries does
 pub data AlwaysRefuses (C : Component) : Type 0 where
-  refuses-next : ((s : SlotSet) (i : ℕ) → foundNo (C .next s i) ≡ 0 → ⊥) → AlwaysRefuses C
-  refuses-prev : ((s : SlotSet) (i : ℕ) → foundNo (C .prev s i) ≡ 0 → ⊥) → AlwaysRefuses C
-  refuses-run : ((s : SlotSet) (i : ℕ) → runNo (C .run s i) ≡ 0 → ⊥) → AlwaysRefuses C
-  refuses-size : ((s : SlotSet) → numberNo (C .size s) ≡ 0 → ⊥) → AlwaysRefuses C
-  refuses-atomise : ((B : Base) → numberNo (C .atomise B .answer) ≡ 0 → ⊥) → AlwaysRefuses C
-  refuses-available : ((p n : ℕ) (ws : List ℕ) (i k : ℕ) → toldNo (C .available p n ws i k) ≡ 0 → ⊥) → AlwaysRefuses C
+  refuses-next : ((s : SlotSet) (i : ℕ) → foundRefusal (C .next s i) ≡ 0 → ⊥) → AlwaysRefuses C
+  refuses-prev : ((s : SlotSet) (i : ℕ) → foundRefusal (C .prev s i) ≡ 0 → ⊥) → AlwaysRefuses C
+  refuses-run : ((s : SlotSet) (i : ℕ) → runRefusal (C .run s i) ≡ 0 → ⊥) → AlwaysRefuses C
+  refuses-size : ((s : SlotSet) → numberRefusal (C .size s) ≡ 0 → ⊥) → AlwaysRefuses C
+  refuses-atomise : ((B : Base) → numberRefusal (C .atomise B .answer) ≡ 0 → ⊥) → AlwaysRefuses C
+  refuses-available : ((p n : ℕ) (ws : List ℕ) (i k : ℕ) → yesNoRefusal (C .available p n ws i k) ≡ 0 → ⊥) → AlwaysRefuses C
   refuses-targets : ((g : targets.Given) (out : List ℤ) → C .targets g out .number ≡ 0 → ⊥) → AlwaysRefuses C
-  refuses-rotations : ((s : Settings) (n : ℕ) (starts ends list : List ℕ) → numberNo (C .rotations s n starts ends list .answer) ≡ 0 → ⊥)
+  refuses-rotations : ((s : Settings) (n : ℕ) (starts ends list : List ℕ) → numberRefusal
+      (C .rotations s n starts ends list .answer) ≡ 0 → ⊥)
       → AlwaysRefuses C
   refuses-play : ((c : Call) → C .play c .number ≡ 0 → ⊥) → AlwaysRefuses C
-  refuses-uncovered : ((P : Plan) (o : List ℕ) → minutesNo (C .uncovered P o) ≡ 0 → ⊥) → AlwaysRefuses C
+  refuses-uncovered : ((P : Plan) (o : List ℕ) → minutesRefusal (C .uncovered P o) ≡ 0 → ⊥) → AlwaysRefuses C
 
 -- "One fixed answer breaks it by cases 1 to 12": one of its entries gives it, whatever it is asked
 pub data FixedAnswer (C : Component) : Type 0 where
@@ -47,7 +48,7 @@ pub data FixedAnswer (C : Component) : Type 0 where
       → C .rotations s n starts ends list ≡ C .rotations s n starts ends other) → FixedAnswer C
   fixed-play : ((c d : Call) → C .play c ≡ C .play d) → FixedAnswer C
 
--- case 3 alone asks for a run; beside it: a run that is told holds the slot that was asked for
+-- case 3 alone asks for a run; beside it: a run that is answered holds the slot that was asked for
 abbrev pub RunsHold : Component → Type 0
 RunsHold C = (s : SlotSet) (i first last : ℕ) → C .run s i ≡ Span first last → (first ≤ i) × (i ≤ last)
 

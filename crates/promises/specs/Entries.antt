@@ -8,7 +8,7 @@ use Rattle.paper.specs.Count.{onto}
 use Rattle.slotset.specs.declared.SlotSet.{SlotSet}
 use Rattle.slotset.specs.declared.Found.{Found}
 use Rattle.slotset.specs.declared.Run.{Run}
-use Rattle.slotset.specs.declared.Told.{Told}
+use Rattle.slotset.specs.declared.YesNo.{YesNo}
 use Rattle.slotset.specs.declared.Number.{Number}
 use Rattle.slotset.specs.declared.NextRun.{NextRun}
 use Rattle.slotset.specs.Answers.{nextSetIs, prevSetIs, runBoundsIs, countIs, nextRunIs}
@@ -26,12 +26,12 @@ use Rattle.rota.specs.Board.{Board}
 use Rattle.rota.specs.Lent.{boardOf}
 use Rattle.rota.specs.Moves.{Draw}
 use Rattle.rota.specs.Plays.{drawsOf, ownersAfter, answers}
-use Rattle.paper.specs.Limits.{Test, heardOf}
+use Rattle.paper.specs.Limits.{Test, numberOf}
 use Rattle.owners.specs.Derived.{Plan, Derived, afresh}
 use Rattle.owners.specs.Entries as state
 use Rattle.rota.specs.Entries as rota
 use Rattle.rota.specs.declared.draws.Draw as struct
-use Rattle.rota.specs.Draws.{kinds, ones, twos, playedDraws}
+use Rattle.rota.specs.Draws.{draws, firsts, seconds, playedDraws}
 
 -- ---- a call of play
 
@@ -40,54 +40,55 @@ pub record Call : Type 0 where
   pub plan : Plan
   pub avail : List ℕ
   pub units : ℕ
-  pub firsts : List ℕ
+  pub begins : List ℕ
   pub frozen : List ℕ
   pub count : ℕ
-  pub kinds : List ℕ
-  pub ones : List ℕ
-  pub twos : List ℕ
+  pub draws : List ℕ
+  pub firsts : List ℕ
+  pub seconds : List ℕ
   pub owners : List ℕ
   pub derived : Derived
   pub answers : List ℕ
 
--- whether its columns have enough draws, its tests, the number that it hears, and its whole outcome
+-- whether its columns have enough draws, its tests, the number that it gives, and its whole outcome
 abbrev pub enoughIn : Call → Bool
-enoughIn c = rota.columnsEnough (c .count) (c .kinds) (c .ones) (c .twos)
+enoughIn c = rota.columnsEnough (c .count) (c .draws) (c .firsts) (c .seconds)
 
 abbrev pub rowOf : Call → List Test
 rowOf c =
-    rota.playRow (c .plan) (c .avail) (c .units) (c .firsts) (c .frozen) (c .count) (enoughIn c) (c .owners) (c .derived) (c .answers)
+    rota.playRow (c .plan) (c .avail) (c .units) (c .begins) (c .frozen) (c .count) (enoughIn c) (c .owners) (c .derived) (c .answers)
 
 abbrev pub noOf : Call → ℕ
-noOf c = heardOf (rowOf c)
+noOf c = numberOf (rowOf c)
 
 abbrev pub playOf : Call → state.Outcome
 playOf c =
-    rota.played (c .plan) (c .avail) (c .units) (c .firsts) (c .frozen) (c .count) (c .kinds) (c .ones) (c .twos) (c .owners) (c .derived)
+    rota.played (c .plan) (c .avail) (c .units) (c .begins) (c .frozen) (c .count) (c .draws) (c .firsts) (c .seconds)
+    (c .owners) (c .derived)
     (c .answers)
 
 -- the board that it is played on, its draws as a list, and the owners that the rules give
 abbrev pub boardIn : Call → Board
-boardIn c = boardOf (c .plan .people) (c .plan .slots) (c .units) (c .avail) (c .firsts) (c .frozen)
+boardIn c = boardOf (c .plan .people) (c .plan .slots) (c .units) (c .avail) (c .begins) (c .frozen)
 
 abbrev pub drawsIn : Call → List Draw
-drawsIn c = drawsOf (c .kinds) (c .ones) (c .twos) (c .count)
+drawsIn c = drawsOf (c .draws) (c .firsts) (c .seconds) (c .count)
 
 abbrev pub ownersIn : Call → List ℕ
 ownersIn c = ownersAfter (boardIn c) (c .owners) (drawsIn c)
 
 -- the same call, with other draws
 abbrev pub withDraws : Call → ℕ → List ℕ → List ℕ → List ℕ → Call
-withDraws c count kinds ones twos = record {
+withDraws c count draws firsts seconds = record {
   plan = c .plan;
   avail = c .avail;
   units = c .units;
-  firsts = c .firsts;
+  begins = c .begins;
   frozen = c .frozen;
   count = count;
-  kinds = kinds;
-  ones = ones;
-  twos = twos;
+  draws = draws;
+  firsts = firsts;
+  seconds = seconds;
   owners = c .owners;
   derived = c .derived;
   answers = c .answers;
@@ -99,12 +100,12 @@ onRota c owners derived answers = record {
   plan = c .plan;
   avail = c .avail;
   units = c .units;
-  firsts = c .firsts;
+  begins = c .begins;
   frozen = c .frozen;
   count = c .count;
-  kinds = c .kinds;
-  ones = c .ones;
-  twos = c .twos;
+  draws = c .draws;
+  firsts = c .firsts;
+  seconds = c .seconds;
   owners = owners;
   derived = derived;
   answers = answers;
@@ -112,12 +113,12 @@ onRota c owners derived answers = record {
 
 -- the same call, of a list of draws in structs: its three columns
 abbrev pub ofDraws : Call → List struct.Draw → Call
-ofDraws c ds = withDraws c (c .count) (kinds ds) (ones ds) (twos ds)
+ofDraws c ds = withDraws c (c .count) (draws ds) (firsts ds) (seconds ds)
 
 -- what it comes to by the entry that takes the list
 abbrev pub playDrawsOf : Call → List struct.Draw → state.Outcome
 playDrawsOf c ds =
-    playedDraws (c .plan) (c .avail) (c .units) (c .firsts) (c .frozen) (c .count) ds (c .owners) (c .derived) (c .answers)
+    playedDraws (c .plan) (c .avail) (c .units) (c .begins) (c .frozen) (c .count) ds (c .owners) (c .derived) (c .answers)
 
 -- the rota that the rules give, worked out afresh, with an answer a draw
 abbrev pub afreshIn : Call → state.Outcome
@@ -142,7 +143,7 @@ pub record Component : Type 0 where
   -- atomic slots; the words of availability at exit, of people, slots, starts, ends, ranges and words; one of its bits
   pub atomise : Base → Atoms
   pub availability : ℕ → ℕ → List ℕ → List ℕ → Ranges → List ℕ → List ℕ
-  pub available : ℕ → ℕ → List ℕ → ℕ → ℕ → Told
+  pub available : ℕ → ℕ → List ℕ → ℕ → ℕ → YesNo
   -- targets; the starts of rotations, of settings, slots, starts, ends and the list to write
   pub targets : targets.Given → List ℤ → targets.Outcome
   pub rotations : Settings → ℕ → List ℕ → List ℕ → List ℕ → Written

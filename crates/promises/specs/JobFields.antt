@@ -26,7 +26,7 @@ use Rattle.job.specs.declared.JobAnswer.{JobAnswer}
 use Rattle.job.specs.File.{JobFile}
 use Rattle.job.specs.Listing.{Listed, listed}
 use Rattle.job.specs.Stages.{valueOf, Ready, ready, listedOf}
-use Rattle.job.specs.Outcome.{jobNo, jobResult}
+use Rattle.job.specs.Outcome.{jobRefusal, jobResult}
 use Rattle.promises.specs.Entries.{Call, playOf}
 
 -- ---- the fields
@@ -50,12 +50,12 @@ pub record Given : Type 0 where
   pub ranges : Ranges
   pub freezes : ℕ
   pub instant : ℕ
-  pub draws : ℕ
-  pub kinds : List ℕ
-  pub ones : List ℕ
-  pub twos : List ℕ
+  pub played : ℕ
+  pub draws : List ℕ
+  pub firsts : List ℕ
+  pub seconds : List ℕ
 
--- "1 settings: fairness, lock, boundary, a zero byte, u16 value, u16 days. 2 base: u32 start, end. 3 person: f64 capacity bits, u32 prior.
+-- "1 settings: fairness, lock, boundary, edition, u16 value, u16 days. 2 base: u32 start, end. 3 person: f64 capacity bits, u32 prior.
 -- 4 range: u16 person, u32 start, end. 5 freeze: u32. 7 draw: three u16."
 abbrev pub givenBy : List Rec → Given
 givenBy rs = record {
@@ -63,6 +63,7 @@ givenBy rs = record {
     fairness = field rs 1 0 1 0;
     lock = field rs 1 1 1 0;
     boundary = field rs 1 2 1 0;
+    edition = field rs 1 3 1 0;
     value = field rs 1 4 2 0;
     days = field rs 1 6 2 0;
   };
@@ -75,10 +76,10 @@ givenBy rs = record {
   ranges = ranges (length (bodies 4 rs)) (fields rs 4 0 2) (fields rs 4 2 4) (fields rs 4 6 4);
   freezes = length (bodies 5 rs);
   instant = cond (eqb (length (bodies 5 rs)) 0) 0 (field rs 5 0 4 0);
-  draws = length (bodies 7 rs);
-  kinds = fields rs 7 0 2;
-  ones = fields rs 7 2 2;
-  twos = fields rs 7 4 2;
+  played = length (bodies 7 rs);
+  draws = fields rs 7 0 2;
+  firsts = fields rs 7 2 2;
+  seconds = fields rs 7 4 2;
 }
 
 -- "6 owner: u16 slot, u16 owner, slots rising, the rest 255": the owner of slot j, of any number of records
@@ -121,7 +122,7 @@ readyFrom G =
     ready (G .people) (slotsFrom G) (atomsFrom G .starts) (atomsFrom G .ends) (availFrom G) (valueOf (unitsFrom G .answer))
     (unitsFrom G .buffer) (frozenFrom G)
     (computeTargets (given (G .people) (slotsFrom G) (atomsFrom G .starts) (atomsFrom G .ends) (availFrom G) (G .capacities) (G .priors)
-    (G .settings .fairness)) (replicate 32 (pos 0)) .out)
+    (G .settings .fairness) (G .settings .edition)) (replicate 32 (pos 0)) .out)
 
 -- the rota of the owners, and the play of the draws on it
 abbrev pub startFrom : Given → List ℕ → Outcome
@@ -132,12 +133,12 @@ callFrom G o = record {
   plan = planFrom G;
   avail = availFrom G;
   units = valueOf (unitsFrom G .answer);
-  firsts = unitsFrom G .buffer;
+  begins = unitsFrom G .buffer;
   frozen = frozenFrom G;
-  count = G .draws;
-  kinds = G .kinds;
-  ones = G .ones;
-  twos = G .twos;
+  count = G .played;
+  draws = G .draws;
+  firsts = G .firsts;
+  seconds = G .seconds;
   owners = o;
   derived = startFrom G o .derived;
   answers = replicate 1024 0;
@@ -148,10 +149,10 @@ abbrev pub listedFrom : Given → List ℕ → Listed
 listedFrom G o =
     let y = playOf (callFrom G o) in
     listed (slotsFrom G) (atomsFrom G .starts) (atomsFrom G .ends) (y .owners) (G .people) (y .derived .minutes) (readyFrom G .targets)
-    (G .draws) (y .answers) (uncovered (planFrom G) (y .owners))
+    (G .played) (y .answers) (uncovered (planFrom G) (y .owners))
 
 -- ---- the promise: an accepted job lists what its records give so
 
 abbrev pub JobByRecords : Type 0
-JobByRecords = (s x : List ℕ) (J : JobFile s) → jobNo (jobResult s x .answer) ≡ 0
+JobByRecords = (s x : List ℕ) (J : JobFile s) → jobRefusal (jobResult s x .answer) ≡ 0
     → listedOf s ≡ listedFrom (givenBy (J .records)) (ownersBy (J .records))

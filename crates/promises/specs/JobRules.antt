@@ -39,10 +39,10 @@ pub record Accepted (s x : List ℕ) (n : ℕ) : Type 0 where
       × (availableFor (readyOf s .avail) (getD (listedOf s .owners) k 0) k ≡ true)
 
 pub record JobByRule : Type 0 where
-  -- "The lowest number wins, but 13 comes before all": n is heard exactly where it is the lowest of those that apply
-  pub heard : (s x : List ℕ) (n : ℕ) → (jobResult s x .answer ≡ answer.Refused n) ↔ Lowest (jobTests s (length x)) n
+  -- "The lowest number wins, but 13 comes before all": n is given exactly where it is the lowest of those that apply
+  pub given : (s x : List ℕ) (n : ℕ) → (jobResult s x .answer ≡ answer.Refused n) ↔ Lowest (jobTests s (length x)) n
   -- a listing is given exactly where no number applies
-  pub told : (s x : List ℕ) (n : ℕ)
+  pub answered : (s x : List ℕ) (n : ℕ)
       → (jobResult s x .answer ≡ answer.Length n) ↔ (AllPass (jobTests s (length x)) × (n ≡ length (listingOf (listedOf s))))
   -- "A refusal returns its number alone and changes nothing lent."
   pub kept : (s x : List ℕ) (n : ℕ) → jobResult s x .answer ≡ answer.Refused n → jobResult s x .out ≡ x

@@ -23,7 +23,7 @@ pub record PassesWhen (ts : List Test) (k n : ℕ) (Right : Type 0) : Type 0 whe
   pub number : testAt ts k .number ≡ n
   pub passes : (testAt ts k .passes ≡ true) ↔ Right
 
--- the tests before test k pass: of several numbers only the first is heard
+-- the tests before test k pass: of several numbers only the first is given
 abbrev pub PassBefore : List Test → ℕ → Type 0
 PassBefore ts k = (j : ℕ) → j < k → testAt ts j .passes ≡ true
 
@@ -39,8 +39,8 @@ pub record CountsRight (rs : List Rec) : Type 0 where
 -- 10, here "only an uneven unit": the slots of each unit have one owner, as written
 abbrev pub OwnersEven : List Rec → Ready → Type 0
 OwnersEven rs R =
-    (u k : ℕ) → u < R .units → unitStart (R .firsts) u ≤ k → k < unitEnd (R .slots) (R .units) (R .firsts) u
-    → ownerIn (bodies 6 rs) k ≡ ownerIn (bodies 6 rs) (unitStart (R .firsts) u)
+    (u k : ℕ) → u < R .units → unitStart (R .begins) u ≤ k → k < unitEnd (R .slots) (R .units) (R .begins) u
+    → ownerIn (bodies 6 rs) k ≡ ownerIn (bodies 6 rs) (unitStart (R .begins) u)
 
 -- 11: each owner record names a slot below the count, and nobody or a known person, by the whole u16
 abbrev pub OwnersKnown : List Rec → Ready → Type 0

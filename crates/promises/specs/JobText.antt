@@ -10,7 +10,7 @@ use lib.ListN.{length, getD, take, drop}
 use Rattle.job.specs.File.{JobFile}
 use Rattle.job.specs.Listing.{Listed, digits, signed}
 use Rattle.job.specs.Digits.{Decimal, readDigits, readSigned}
-use Rattle.job.specs.Outcome.{jobNo, jobLength, jobResult, refusalResult}
+use Rattle.job.specs.Outcome.{jobRefusal, jobLength, jobResult, refusalResult}
 use Rattle.promises.specs.JobFields.{givenBy, ownersBy, listedFrom}
 
 -- ---- lines of words
@@ -66,7 +66,7 @@ refusalText n = lineOf ((82 ∷ []) ∷ digits n ∷ [])
 
 pub record JobText : Type 0 where
   -- what an accepted job leaves at the front of the lent buffer is the text of the lines that its records give; past it the buffer stays
-  pub listing : (s x : List ℕ) (J : JobFile s) → jobNo (jobResult s x .answer) ≡ 0
+  pub listing : (s x : List ℕ) (J : JobFile s) → jobRefusal (jobResult s x .answer) ≡ 0
       → let n = jobLength 0 (jobResult s x .answer) in
       (take n (jobResult s x .out) ≡ textOf (linesOf (listedFrom (givenBy (J .records)) (ownersBy (J .records)))))
       × (drop n (jobResult s x .out) ≡ drop n x)
@@ -74,9 +74,9 @@ pub record JobText : Type 0 where
   pub digits : (n : ℕ) → n < 10 ^ 20 → Decimal (digits n) × (readDigits (digits n) ≡ n)
   pub signed : (z : ℤ) → natAbs z < 10 ^ 20 → readSigned (signed z) ≡ z
   -- the line of a refusal: 2 exactly where the buffer is shorter than the line, and then it stays; else the line stands at its front
-  pub refusal : (n : ℕ) (x : List ℕ) → (jobNo (refusalResult n x .answer) ≡ 0) ↔ (length (refusalText n) ≤ length x)
-  pub refusal-2 : (n : ℕ) (x : List ℕ) → (jobNo (refusalResult n x .answer) ≡ 0 → ⊥)
-      → (jobNo (refusalResult n x .answer) ≡ 2) × (refusalResult n x .out ≡ x)
-  pub refusal-line : (n : ℕ) (x : List ℕ) → jobNo (refusalResult n x .answer) ≡ 0
+  pub refusal : (n : ℕ) (x : List ℕ) → (jobRefusal (refusalResult n x .answer) ≡ 0) ↔ (length (refusalText n) ≤ length x)
+  pub refusal-2 : (n : ℕ) (x : List ℕ) → (jobRefusal (refusalResult n x .answer) ≡ 0 → ⊥)
+      → (jobRefusal (refusalResult n x .answer) ≡ 2) × (refusalResult n x .out ≡ x)
+  pub refusal-line : (n : ℕ) (x : List ℕ) → jobRefusal (refusalResult n x .answer) ≡ 0
       → let l = jobLength 0 (refusalResult n x .answer) in
       (take l (refusalResult n x .out) ≡ refusalText n) × (drop l (refusalResult n x .out) ≡ drop l x)

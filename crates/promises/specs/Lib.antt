@@ -1,4 +1,4 @@
--- What is promised. Entries: a component, by what its entries answer. Marked: the twelve marked cases. Demand 1: Table, Tests, Faults,
+-- What is promised. Entries: a component, by what its entries answer. Marked: the twelve marked cases. Demand 1: Table, Tests, Numbers,
 -- Refusals, SetRefusals, Outcomes. Demand 2: SetRules, SlotRules, UnitRules, TargetRules, EditionRules, MoveRules, RotaRules. Demand 3: Rota. The job: JobRules,
 -- JobFields, JobTests, JobText, JobExample.
 -- Empty: how empty answers are shut out.
@@ -6,7 +6,7 @@ pub mod Entries
 pub mod Marked
 pub mod Table
 pub mod Tests
-pub mod Faults
+pub mod Numbers
 pub mod Refusals
 pub mod SetRefusals
 pub mod Outcomes

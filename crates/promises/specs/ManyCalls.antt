@@ -9,30 +9,30 @@ use Rattle.rota.specs.Moves.{Draw}
 use Rattle.rota.specs.Plays.{drawsOf, ownersAfter, answers}
 use Rattle.owners.specs.Derived.{Derived, afresh}
 use Rattle.rota.specs.declared.draws.Draw as struct
-use Rattle.rota.specs.Draws.{kinds, ones, twos}
+use Rattle.rota.specs.Draws.{draws, firsts, seconds}
 use Rattle.promises.specs.Entries.{Call, Component, withDraws, onRota, boardIn, drawsIn}
 use Rattle.promises.specs.Rota.{Words}
 
 -- the draws of one call, in three columns, and the buffer that its answers go to
 pub record Part : Type 0 where
   pub count : ℕ
-  pub kinds : List ℕ
-  pub ones : List ℕ
-  pub twos : List ℕ
+  pub draws : List ℕ
+  pub firsts : List ℕ
+  pub seconds : List ℕ
   pub answers : List ℕ
 
 -- a list of structs, and such a buffer
 abbrev pub partOf : List struct.Draw → List ℕ → Part
-partOf ds x = record { count = length ds; kinds = kinds ds; ones = ones ds; twos = twos ds; answers = x }
+partOf ds x = record { count = length ds; draws = draws ds; firsts = firsts ds; seconds = seconds ds; answers = x }
 
 -- the call that plays a part on a rota; slots, units, availability and flags are those of c
 abbrev pub partCall : Call → List ℕ → Derived → Part → Call
-partCall c o D p = onRota (withDraws c (p .count) (p .kinds) (p .ones) (p .twos)) o D (p .answers)
+partCall c o D p = onRota (withDraws c (p .count) (p .draws) (p .firsts) (p .seconds)) o D (p .answers)
 
 -- all draws of all parts, as one list
 unfoldable pub drawsOfParts : List Part → List Draw
 drawsOfParts [] = []
-drawsOfParts (p ∷ ps) = drawsOf (p .kinds) (p .ones) (p .twos) (p .count) ++ drawsOfParts ps
+drawsOfParts (p ∷ ps) = drawsOf (p .draws) (p .firsts) (p .seconds) (p .count) ++ drawsOfParts ps
 
 -- every part is accepted, each on what the one before it left
 unfoldable pub AllAccepted : Component → Call → List ℕ → Derived → List Part → Type 0
@@ -67,11 +67,11 @@ PartsEndAsOne C =
 
 -- w has the draws of all parts, no more than one call takes, and room for them and their answers
 pub record Whole (w : Part) (ps : List Part) : Type 0 where
-  pub draws : drawsOf (w .kinds) (w .ones) (w .twos) (w .count) ≡ drawsOfParts ps
+  pub together : drawsOf (w .draws) (w .firsts) (w .seconds) (w .count) ≡ drawsOfParts ps
   pub few : w .count ≤ drawsMost
-  pub kinds : w .count ≤ length (w .kinds)
-  pub ones : w .count ≤ length (w .ones)
-  pub twos : w .count ≤ length (w .twos)
+  pub draws : w .count ≤ length (w .draws)
+  pub firsts : w .count ≤ length (w .firsts)
+  pub seconds : w .count ≤ length (w .seconds)
   pub answers : w .count ≤ length (w .answers)
 
 -- .. then one call of all of them is accepted too, and ends alike

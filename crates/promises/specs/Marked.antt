@@ -10,7 +10,7 @@ use lib.ListN.{length, drop, replicate}
 use Rattle.slotset.specs.declared.SlotSet.{SlotSet}
 use Rattle.slotset.specs.declared.Found.the-variants.{At, Nothing}
 use Rattle.slotset.specs.declared.Run.the-variants as run
-use Rattle.slotset.specs.declared.Told.the-variants.{Yes, No}
+use Rattle.slotset.specs.declared.YesNo.the-variants.{Yes, No}
 use Rattle.slotset.specs.declared.Number.the-variants as number
 use Rattle.slots.specs.Ranges.{ranges}
 use Rattle.slots.specs.Atomic.{Base, base, Atoms}
@@ -77,16 +77,16 @@ words w = w ∷ replicate 15 0
 
 -- these two slots, each a unit, and two people who are available for both; with these flags and these draws
 abbrev pub twoUnits : Owned → ℕ → ℕ → List ℕ → List ℕ → List ℕ → Spare → Call
-twoUnits r frozen count kinds ones twos more = record {
+twoUnits r frozen count draws firsts seconds more = record {
   plan = plan 2 2 (0 ∷ 60 ∷ []) (60 ∷ 120 ∷ []);
   avail = words 3 ++ words 3;
   units = 2;
-  firsts = 0 ∷ 1 ∷ [];
+  begins = 0 ∷ 1 ∷ [];
   frozen = words frozen;
   count = count;
-  kinds = kinds;
-  ones = ones;
-  twos = twos;
+  draws = draws;
+  firsts = firsts;
+  seconds = seconds;
   owners = r .first ∷ r .second ∷ more .owners;
   derived = derived (words (r .words0) ++ (words (r .words1) ++ more .sets)) (r .minutes0 ∷ r .minutes1 ∷ more .minutes);
   answers = more .answers;

@@ -7,7 +7,7 @@ use lib.IntN.{ℤ}
 use Rattle.slotset.specs.declared.Number.{Number}
 use Rattle.slots.specs.Merged.{MergedOut, MergedEnd}
 use Rattle.slots.specs.Atomic.{Atoms, AtomsEnd}
-use Rattle.units.specs.Answers.{Written, Are}
+use Rattle.units.specs.Answers.{Written, EndsAs}
 use Rattle.targets.specs.Outcome as targets
 use Rattle.owners.specs.Derived.{Derived}
 use Rattle.owners.specs.Entries as state
@@ -25,7 +25,7 @@ pub record OneOutcome : Type 1 where
   pub merged-ranges : (x : MergedOut) → Only (λ (r : Number × List ℕ × List ℕ × List ℕ). MergedEnd x (r .0) (r .1) (r .2) (r .3))
   pub atomise : (x : Atoms) → Only (λ (r : Number × List ℕ × List ℕ). AtomsEnd x (r .0) (r .1) (r .2))
   -- rotation_starts, unit_starts, slot_domain, unit_domain
-  pub written : (w : Written) → Only (λ (r : Number × List ℕ). Are w (r .0) (r .1))
+  pub written : (w : Written) → Only (λ (r : Number × List ℕ). EndsAs w (r .0) (r .1))
   pub compute-targets : (g : targets.Given) (out : List ℤ) → Only (λ (r : ℕ × List ℤ). targets.Meets g out (r .0) (r .1))
   -- from_slots, assign, empty, and play, of columns and of structs
   pub rota : (y : state.Outcome) → Only (λ (r : ℕ × List ℕ × Derived × List ℕ). state.Ended y (r .0) (r .1) (r .2) (r .3))

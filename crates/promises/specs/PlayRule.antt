@@ -31,7 +31,7 @@ pub record PlayedBy (C : Component) (c : Call) (found : ℕ → List ℕ) : Type
   pub history : History c found
   pub owners : C .play c .owners ≡ found (c .count)
   pub answers : (i : ℕ) → i < c .count
-      → acts.Heard (getD (C .play c .answers) i 0) (acts.Acts (boardIn c) (found i) (drawAt c i))
+      → acts.GivenBy (getD (C .play c .answers) i 0) (acts.Acts (boardIn c) (found i) (drawAt c i))
       (acts.ChoiceOutside (boardIn c) (found i) (drawAt c i))
 
 abbrev pub PlaysByRule : Component → Type 0
@@ -46,8 +46,8 @@ OneHistory = (c : Call) → noOf c ≡ 0 → (f g : ℕ → List ℕ) → Histor
 -- slot k is one of unit u: from the unit's start on, and before the next unit's start, if there is one, and the slot count
 pub record InSlots (c : Call) (u k : ℕ) : Type 0 where
   pub known : u < c .units
-  pub from : getD (c .firsts) u 0 ≤ k
-  pub before-next : suc u < c .units → k < getD (c .firsts) (suc u) 0
+  pub from : getD (c .begins) u 0 ≤ k
+  pub before-next : suc u < c .units → k < getD (c .begins) (suc u) 0
   pub below : k < c .plan .slots
 
 -- a person fits a unit exactly when they are available for each of its slots; a unit is frozen exactly when some slot of it is

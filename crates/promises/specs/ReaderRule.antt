@@ -7,7 +7,7 @@ use denote.Ref.{RefT, now}
 use Rattle.slotset.specs.declared.NextRun.{NextRun}
 use Rattle.slotset.specs.declared.NextRun.the-variants as nextRun
 use Rattle.slotset.specs.Runs.{Ends, allRuns}
-use Rattle.slotset.specs.Answers.{rowNo, rowSlots}
+use Rattle.slotset.specs.Answers.{rowRefusal, rowSlots}
 use Rattle.runs.specs.declared.Runs.{Runs}
 use Rattle.runs.specs.Reader.{readerOf, movedTo, cursorAfter, nextOf}
 
@@ -26,6 +26,6 @@ spanOf r = nextRun.Span (r .first) (r .last) (record { at = r .last + 1 })
 -- a new reader of a row that isn't refused gives each run once, in order, and is done then, however often it is asked
 abbrev pub ReadsAllRuns : Type 0
 ReadsAllRuns =
-    (words : RefT (List ℕ)) (people person len m : ℕ) → rowNo (now words) people person len ≡ 0
+    (words : RefT (List ℕ)) (people person len m : ℕ) → rowRefusal (now words) people person len ≡ 0
     → let l = allRuns (rowSlots (now words) person) len in
     answered (length l + m) (readerOf words people person len) ≡ map spanOf l ++ replicate m nextRun.Done

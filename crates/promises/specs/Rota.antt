@@ -60,13 +60,13 @@ pub record HandedAt (c : Call) (i u : ℕ) : Type 0 where
 abbrev pub OnlyHandedOver : Component → Type 0
 OnlyHandedOver C =
     (c : Call) → noOf c ≡ 0 → (k : ℕ) → k < c .plan .slots
-    → ((i : ℕ) → i < c .count → HandedAt c i (unitOf (c .units) (c .firsts) k) → ⊥) → after C c k ≡ before c k
+    → ((i : ℕ) → i < c .count → HandedAt c i (unitOf (c .units) (c .begins) k) → ⊥) → after C c k ≡ before c k
 
 -- "sets and minutes equal a recount": the rota that is left passes it, units too
 abbrev pub Recounts : Component → Type 0
 Recounts C =
     (c : Call) → noOf c ≡ 0
-    → recounts (c .plan) (c .avail) (c .units) (c .firsts) (C .play c .owners) (C .play c .derived) ≡ true
+    → recounts (c .plan) (c .avail) (c .units) (c .begins) (C .play c .owners) (C .play c .derived) ≡ true
 
 -- .. so that the count of a person's set is the number of slots that they own
 abbrev pub SizesRecount : Component → Type 0
@@ -75,11 +75,11 @@ SizesRecount C =
     → C .size (slotsOfIs (c .plan .people) (c .plan .slots) (C .play c .derived .sets) p .set)
     ≡ number.Is (count (c .plan .slots) (λ k. eqb (after C c k) p))
 
--- "minutes plus uncovered minutes equal the slots' total": the uncovered minutes are told, and this is their sum
+-- "minutes plus uncovered minutes equal the slots' total": the uncovered minutes are answered, and this is their sum
 abbrev pub AddsUp : Component → Type 0
 AddsUp C =
     (c : Call) → noOf c ≡ 0
-    → (u : ℕ) × (C .uncovered (c .plan) (C .play c .owners) ≡ minutes.Are u)
+    → (u : ℕ) × (C .uncovered (c .plan) (C .play c .owners) ≡ minutes.Is u)
     × (sum (c .plan .people) (λ p. getD (C .play c .derived .minutes) p 0) + u
     ≡ demandOf (c .plan .slots) (c .plan .starts) (c .plan .ends))
 
@@ -94,12 +94,12 @@ PastStays C =
 
 -- the call with its first n draws alone
 abbrev pub firstCall : Call → ℕ → Call
-firstCall c n = withDraws c n (c .kinds) (c .ones) (c .twos)
+firstCall c n = withDraws c n (c .draws) (c .firsts) (c .seconds)
 
 -- the call with the m draws after them, on what an outcome left
 abbrev pub nextCall : Call → Outcome → ℕ → ℕ → Call
 nextCall c y n m =
-    onRota (withDraws c m (drop n (c .kinds)) (drop n (c .ones)) (drop n (c .twos))) (y .owners) (y .derived) (drop n (y .answers))
+    onRota (withDraws c m (drop n (c .draws)) (drop n (c .firsts)) (drop n (c .seconds))) (y .owners) (y .derived) (drop n (y .answers))
 
 abbrev pub secondCall : Component → Call → ℕ → ℕ → Call
 secondCall C c n m = nextCall c (C .play (firstCall c n)) n m

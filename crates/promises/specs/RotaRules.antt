@@ -10,9 +10,9 @@ use Rattle.paper.specs.Limits.{nobody}
 use Rattle.paper.specs.Count.{sum, count}
 use Rattle.slotset.specs.Slots.{slot}
 use Rattle.slotset.specs.declared.Number.the-variants as number
-use Rattle.slotset.specs.Answers.{rowSlots, slotsOf, numberNo}
-use Rattle.slots.specs.declared.Minutes.the-variants.{Are}
-use Rattle.slots.specs.Lent.{minutesNo}
+use Rattle.slotset.specs.Answers.{rowSlots, slotsOf, numberRefusal}
+use Rattle.slots.specs.declared.Minutes.the-variants.{Is}
+use Rattle.slots.specs.Lent.{minutesRefusal}
 use Rattle.units.specs.Units.{unitStart, unitsOk, InUnit}
 use Rattle.owners.specs.Derived.{Plan, Derived, worked, uncovered}
 use Rattle.owners.specs.Recount.{recounts}
@@ -21,10 +21,10 @@ use Rattle.rota.specs.Entries.{assigned}
 use Rattle.promises.specs.Entries.{Call, noOf, onRota}
 
 -- "The recount ..: owners known and available, units uniform, sets and minutes equal to those worked out from owners."
-pub record PassesRecount (P : Plan) (avail : List ℕ) (units : ℕ) (firsts o : List ℕ) (D : Derived) : Type 0 where
+pub record PassesRecount (P : Plan) (avail : List ℕ) (units : ℕ) (begins o : List ℕ) (D : Derived) : Type 0 where
   pub known : (k : ℕ) → k < P .slots → (getD o k 0 ≡ nobody) ⊎ (getD o k 0 < P .people)
   pub available : (k : ℕ) → k < P .slots → getD o k 0 ≢ nobody → rowSlots avail (getD o k 0) k ≡ 1
-  pub uniform : (u k : ℕ) → InUnit (P .slots) units firsts k u → getD o k 0 ≡ getD o (unitStart firsts u) 0
+  pub uniform : (u k : ℕ) → InUnit (P .slots) units begins k u → getD o k 0 ≡ getD o (unitStart begins u) 0
   pub sets : (p k : ℕ) → p < P .people → k < P .slots → (rowSlots (D .sets) p k ≡ 1) ↔ (getD o k 0 ≡ p)
   pub minutes : (p : ℕ) → p < P .people → getD (D .minutes) p 0 ≡ worked P o p
 
@@ -46,8 +46,8 @@ pub record RotaByRule : Type 0 where
       → worked P o w ≡ sum (P .slots) (λ k. cond (eqb (getD o k 0) w) (getD (P .ends) k 0 - getD (P .starts) k 0) 0)
   pub uncovered : (P : Plan) (o : List ℕ) → uncovered P o ≡ worked P o nobody
   -- the test that 10 stands for, both ways
-  pub recount : (P : Plan) (avail : List ℕ) (units : ℕ) (firsts o : List ℕ) (D : Derived)
-      → (recounts P avail units firsts o D ≡ true) ↔ PassesRecount P avail units firsts o D
+  pub recount : (P : Plan) (avail : List ℕ) (units : ℕ) (begins o : List ℕ) (D : Derived)
+      → (recounts P avail units begins o D ≡ true) ↔ PassesRecount P avail units begins o D
   -- "`from_slots` makes sets and minutes from owners"
   pub from-slots : (P : Plan) (avail o : List ℕ) (D : Derived)
       → let y = fromSlots P avail o D in y .number ≡ 0 → (y .owners ≡ o) × Made P avail o D y
@@ -58,24 +58,24 @@ pub record RotaByRule : Type 0 where
   -- "a rota it makes uneven is refused by the next play", whatever the draws
   pub uneven : (c : Call) (k w : ℕ) → noOf c ≡ 0
       → let y = assigned (c .plan) (c .avail) (c .owners) (c .derived) k w in y .number ≡ 0
-      → (u j : ℕ) → InUnit (c .plan .slots) (c .units) (c .firsts) j u → getD (y .owners) j 0 ≢ getD (y .owners) (unitStart (c .firsts) u) 0
+      → (u j : ℕ) → InUnit (c .plan .slots) (c .units) (c .begins) j u → getD (y .owners) j 0 ≢ getD (y .owners) (unitStart (c .begins) u) 0
       → noOf (onRota c (y .owners) (y .derived) (c .answers)) ≡ 10
   -- an empty rota: nobody owns a slot, and it passes the recount, units too, whatever the slots' times and the availability
   pub empty : (P : Plan) (o : List ℕ) (D : Derived)
       → let y = emptied (P .people) (P .slots) o D in y .number ≡ 0
       → ((k : ℕ) → k < P .slots → getD (y .owners) k 0 ≡ nobody)
-      × ((avail : List ℕ) (units : ℕ) (firsts : List ℕ) → unitsOk (P .slots) units firsts ≡ true
-      → PassesRecount P avail units firsts (y .owners) (y .derived))
+      × ((avail : List ℕ) (units : ℕ) (begins : List ℕ) → unitsOk (P .slots) units begins ≡ true
+      → PassesRecount P avail units begins (y .owners) (y .derived))
       × PastKept (P .people) (P .slots) o D y
-  -- what is told: a slot's owner, a person's minutes, how many slots nobody owns, and their minutes
-  pub owner-told : (people slots : ℕ) (o : List ℕ) (k : ℕ) → numberNo (ownerIs people slots o k) ≡ 0
+  -- what is answered: a slot's owner, a person's minutes, how many slots nobody owns, and their minutes
+  pub owner-answered : (people slots : ℕ) (o : List ℕ) (k : ℕ) → numberRefusal (ownerIs people slots o k) ≡ 0
       → ownerIs people slots o k ≡ number.Is (getD o k 0)
-  pub minutes-told : (people : ℕ) (m : List ℕ) (p : ℕ) → minutesNo (minutesIs people m p) ≡ 0
-      → minutesIs people m p ≡ Are (getD m p 0)
-  pub unassigned-told : (people slots : ℕ) (o : List ℕ) → numberNo (unassignedIs people slots o) ≡ 0
+  pub minutes-answered : (people : ℕ) (m : List ℕ) (p : ℕ) → minutesRefusal (minutesIs people m p) ≡ 0
+      → minutesIs people m p ≡ Is (getD m p 0)
+  pub unassigned-answered : (people slots : ℕ) (o : List ℕ) → numberRefusal (unassignedIs people slots o) ≡ 0
       → unassignedIs people slots o ≡ number.Is (count slots (λ k. eqb (getD o k 0) nobody))
-  pub uncovered-told : (P : Plan) (o : List ℕ) → minutesNo (uncoveredIs P o) ≡ 0 → uncoveredIs P o ≡ Are (worked P o nobody)
+  pub uncovered-answered : (P : Plan) (o : List ℕ) → minutesRefusal (uncoveredIs P o) ≡ 0 → uncoveredIs P o ≡ Is (worked P o nobody)
   -- a person's slots, as a set by value: as many as there are slots, and each as in the person's row
-  pub slots-told : (people slots : ℕ) (ws : List ℕ) (p : ℕ)
+  pub slots-answered : (people slots : ℕ) (ws : List ℕ) (p : ℕ)
       → let y = slotsOfIs people slots ws p in y .number ≡ 0
       → (y .set .len ≡ slots) × ((k : ℕ) → k < slots → slotsOf (y .set) k ≡ rowSlots ws p k)

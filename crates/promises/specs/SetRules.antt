@@ -8,10 +8,10 @@ use lib.Dec.{eqb}
 use lib.ListN.{length, getD}
 use Rattle.paper.specs.Bits.{bitOf}
 use Rattle.paper.specs.Count.{among}
-use Rattle.paper.specs.Limits.{heardOf}
+use Rattle.paper.specs.Limits.{numberOf}
 use Rattle.slotset.specs.declared.SlotSet.{SlotSet}
 use Rattle.slotset.specs.declared.Run.the-variants.{Span, Hole, Outside}
-use Rattle.slotset.specs.declared.Told.the-variants.{Yes, No}
+use Rattle.slotset.specs.declared.YesNo.the-variants.{Yes, No}
 use Rattle.slotset.specs.declared.Number.the-variants as number
 use Rattle.slotset.specs.declared.Found.the-variants.{At, Nothing}
 use Rattle.slotset.specs.declared.NextRun.{NextRun}
@@ -21,7 +21,7 @@ use Rattle.slotset.specs.Slots.{Bits, Member, has, size, noMember, slot}
 use Rattle.slotset.specs.Search.{nextWith, lastBelow, nextSet, prevSet, nextUnsetAfter, prevUnsetBefore, First, Last}
 use Rattle.slotset.specs.Runs.{Ends, allRuns, AreRuns, InRuns, Among}
 use Rattle.slotset.specs.Answers.{lengthRow, slotRow, stretchRow, personRow, personStretchRow, slotsOf, rowSlots, sameSets}
-use Rattle.slotset.specs.Answers.{foundAs, toldAs, runAs, Holds, numberAs, nextRunAs, nextMemberAs, newOf, putOf, stretchOf, loadOf}
+use Rattle.slotset.specs.Answers.{foundAs, yesNoAs, runAs, Holds, numberAs, nextRunAs, nextMemberAs, newOf, putOf, stretchOf, loadOf}
 use Rattle.slotset.specs.Answers.{storeOf, rowStretchOf}
 use Rattle.runs.specs.Listed.{runsRow, allRunsOf}
 
@@ -67,11 +67,11 @@ pub record SetsByRule : Type 0 where
   pub bit : (s : SlotSet) (i : ℕ) → slotsOf s i ≡ bitOf (getD (s .words) (i / 64) 0) (i % 64)
   pub row-bit : (ws : List ℕ) (person i : ℕ) → rowSlots ws person i ≡ bitOf (getD ws (16 * person + i / 64) 0) (i % 64)
   -- "Membership past the length is no"
-  pub contains : (f : ℕ → ℕ) (len i : ℕ) → Member f len i → toldAs 0 (has f len i) ≡ Yes
-  pub contains-not : (f : ℕ → ℕ) (len i : ℕ) → (Member f len i → ⊥) → toldAs 0 (has f len i) ≡ No
+  pub contains : (f : ℕ → ℕ) (len i : ℕ) → Member f len i → yesNoAs 0 (has f len i) ≡ Yes
+  pub contains-not : (f : ℕ → ℕ) (len i : ℕ) → (Member f len i → ⊥) → yesNoAs 0 (has f len i) ≡ No
   -- is_empty
-  pub empty : (f : ℕ → ℕ) → Bits f → (len : ℕ) → ((i : ℕ) → Member f len i → ⊥) → toldAs 0 (noMember f len) ≡ Yes
-  pub empty-not : (f : ℕ → ℕ) (len i : ℕ) → Member f len i → toldAs 0 (noMember f len) ≡ No
+  pub empty : (f : ℕ → ℕ) → Bits f → (len : ℕ) → ((i : ℕ) → Member f len i → ⊥) → yesNoAs 0 (noMember f len) ≡ Yes
+  pub empty-not : (f : ℕ → ℕ) (len i : ℕ) → Member f len i → yesNoAs 0 (noMember f len) ≡ No
   -- "`next_set` from the length or beyond finds nothing": the first member at or after `from` and below the length, or none
   pub next : (f : ℕ → ℕ) (len from : ℕ) → TheOne (First 1 f len from) (foundAs 0 (nextSet f len from))
   -- "`prev_set` first lowers its start to length - 1; length 0 finds nothing": the last at or before `from` and below the length, or none
@@ -101,29 +101,29 @@ pub record SetsByRule : Type 0 where
       → (runAs 0 f len i ≡ Span a b) ↔ (Among a b (allRuns f len) × (a ≤ i) × (i ≤ b))
   -- as all_runs lists them: their number, their first and last slots at the front of two columns, the rest of which stays
   pub all-runs : (ws : List ℕ) (people person len : ℕ) (firsts lasts : List ℕ)
-      → heardOf (runsRow ws people person len (length firsts) (length lasts)) ≡ 0
+      → numberOf (runsRow ws people person len (length firsts) (length lasts)) ≡ 0
       → let x = allRunsOf ws people person len firsts lasts in
       let l = allRuns (rowSlots ws person) len in
       (x .answer ≡ number.Is (length l)) × FrontOf (λ r. r .first) l firsts (x .firsts) × FrontOf (λ r. r .last) l lasts (x .lasts)
   -- the size is the number of members
   pub count : (f : ℕ → ℕ) → Bits f → (len : ℕ) → numberAs 0 (size f len) ≡ number.Is (length (among (λ k. eqb (f k) 1) len))
   -- a new set is empty
-  pub new : (len : ℕ) → heardOf (lengthRow len) ≡ 0 → (newOf len .set .len ≡ len) × ((k : ℕ) → slotsOf (newOf len .set) k ≡ 0)
+  pub new : (len : ℕ) → numberOf (lengthRow len) ≡ 0 → (newOf len .set .len ≡ len) × ((k : ℕ) → slotsOf (newOf len .set) k ≡ 0)
   -- insert (v = 1) and remove (v = 0) of a slot, and of each slot of a stretch
-  pub put : (v : ℕ) (s : SlotSet) (i : ℕ) → v < 2 → length (s .words) ≡ 16 → heardOf (slotRow (s .len) i) ≡ 0
+  pub put : (v : ℕ) (s : SlotSet) (i : ℕ) → v < 2 → length (s .words) ≡ 16 → numberOf (slotRow (s .len) i) ≡ 0
       → Changes (λ _. v) i 1 s (putOf v s i .set)
-  pub stretch : (v : ℕ) (s : SlotSet) (a e : ℕ) → v < 2 → length (s .words) ≡ 16 → heardOf (stretchRow (s .len) a e) ≡ 0
+  pub stretch : (v : ℕ) (s : SlotSet) (a e : ℕ) → v < 2 → length (s .words) ≡ 16 → numberOf (stretchRow (s .len) a e) ≡ 0
       → Changes (λ _. v) a (e - a) s (stretchOf v s a e .set)
   -- the same of a person's row, among the bits of all rows; a set that is stored: bits "at or past the length are .. never written"
-  pub put-stretch : (v : ℕ) (ws : List ℕ) (people person len a e : ℕ) → v < 2 → heardOf (personStretchRow ws people person len a e) ≡ 0
+  pub put-stretch : (v : ℕ) (ws : List ℕ) (people person len a e : ℕ) → v < 2 → numberOf (personStretchRow ws people person len a e) ≡ 0
       → Put (λ _. v) (1024 * person + a) (e - a) (slot ws 0) (slot (rowStretchOf v ws people person len a e) 0)
-  pub store : (s : SlotSet) (ws : List ℕ) (people person : ℕ) → heardOf (personRow ws people person (s .len)) ≡ 0
+  pub store : (s : SlotSet) (ws : List ℕ) (people person : ℕ) → numberOf (personRow ws people person (s .len)) ≡ 0
       → Put (slotsOf s) (1024 * person) (s .len) (slot ws 0) (slot (storeOf s ws people person) 0)
-  pub load : (ws : List ℕ) (people person len : ℕ) → heardOf (personRow ws people person len) ≡ 0
+  pub load : (ws : List ℕ) (people person len : ℕ) → numberOf (personRow ws people person len) ≡ 0
       → (loadOf ws people person len .set .len ≡ len)
       × ((k : ℕ) → k < 1024 → slotsOf (loadOf ws people person len .set) k ≡ rowSlots ws person k)
   -- everybody's sets are the same in two columns of words: each slot below the length is
   pub same-sets : (ws vs : List ℕ) (people len : ℕ)
-      → (toldAs 0 (sameSets ws vs people len) ≡ Yes) ↔ ((p k : ℕ) → p < people → k < len → rowSlots ws p k ≡ rowSlots vs p k)
+      → (yesNoAs 0 (sameSets ws vs people len) ≡ Yes) ↔ ((p k : ℕ) → p < people → k < len → rowSlots ws p k ≡ rowSlots vs p k)
   -- "Bits at or past the length are ignored": sets that agree below it have the same answers
   pub ignored : (f g : ℕ → ℕ) (len : ℕ) → ((k : ℕ) → k < len → f k ≡ g k) → SameAnswers f g len

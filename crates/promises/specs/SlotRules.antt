@@ -6,9 +6,9 @@ use mathlib.Core.Logic.{_⊎_, _↔_}
 use Prim.Native.Nat.{ℕ, _-_, _≤_, _<_}
 use lib.Dec.{leb}
 use lib.ListN.{length, getD}
-use Rattle.paper.specs.Limits.{heardOf}
+use Rattle.paper.specs.Limits.{numberOf}
 use Rattle.paper.specs.Count.{sum, count}
-use Rattle.slotset.specs.declared.Told.the-variants.{Yes}
+use Rattle.slotset.specs.declared.YesNo.the-variants.{Yes}
 use Rattle.slotset.specs.declared.Number.the-variants as number
 use Rattle.slotset.specs.Slots.{slot}
 use Rattle.slotset.specs.Answers.{rowSlots}
@@ -22,7 +22,7 @@ use Rattle.slots.specs.Freeze.{freezeRow, freezeOf}
 use Rattle.promises.specs.SetRules.{TheOne}
 
 -- "Each person's ranges are sorted, empty ones dropped, and touching or overlapping ones merged": the one list that is ascending person by
--- person, with gaps, none empty, and has exactly the ranges' minutes; it is told, with its number, at the front of the columns
+-- person, with gaps, none empty, and has exactly the ranges' minutes; it is answered, with its number, at the front of the columns
 pub record Merged (people : ℕ) (R : Ranges) (out : Columns) : Type 0 where
   pub list : TheOne (IsMerged (inRanges R)) (mergedOf R)
   pub number : mergedRanges people R out .answer ≡ number.Is (length (mergedOf R))
@@ -47,7 +47,7 @@ pub record Split (B : Base) : Type 0 where
   pub cuts : (k : ℕ) → k < B .slots
       → TheOne (λ c. IsCuts (isCut (B .people) (B .ranges)) (getD (B .starts) k 0) c (getD (B .ends) k 0))
       (cutsIn (isCut (B .people) (B .ranges)) (getD (B .starts) k 0) (getD (B .ends) k 0))
-  -- the pieces of all of them, in order, are told with their number at the front of the columns
+  -- the pieces of all of them, in order, are answered with their number at the front of the columns
   pub number : atomiseOf B .answer ≡ number.Is (length (startsOfAtoms B))
   pub starts : (k : ℕ) → k < length (startsOfAtoms B) → getD (atomiseOf B .starts) k 0 ≡ getD (startsOfAtoms B) k 0
   pub ends : (k : ℕ) → k < length (startsOfAtoms B) → getD (atomiseOf B .ends) k 0 ≡ getD (endsOfAtoms B) k 0
@@ -71,26 +71,26 @@ pub record Froze (slots : ℕ) (starts ends frozen : List ℕ) (instant : ℕ) :
 
 pub record SlotsByRule : Type 0 where
   -- the length of a slot is its end less its start; demand is the sum of all
-  pub slot-minutes : (slots : ℕ) (starts ends : List ℕ) (k : ℕ) → heardOf (slotMinutesRow slots starts ends k) ≡ 0
-      → slotMinutesIs slots starts ends k ≡ minutes.Are (getD ends k 0 - getD starts k 0)
-  pub demand : (slots : ℕ) (starts ends : List ℕ) → heardOf (lentRow slots starts ends) ≡ 0
-      → demandIs slots starts ends ≡ minutes.Are (sum slots (λ k. getD ends k 0 - getD starts k 0))
+  pub slot-minutes : (slots : ℕ) (starts ends : List ℕ) (k : ℕ) → numberOf (slotMinutesRow slots starts ends k) ≡ 0
+      → slotMinutesIs slots starts ends k ≡ minutes.Is (getD ends k 0 - getD starts k 0)
+  pub demand : (slots : ℕ) (starts ends : List ℕ) → numberOf (lentRow slots starts ends) ≡ 0
+      → demandIs slots starts ends ≡ minutes.Is (sum slots (λ k. getD ends k 0 - getD starts k 0))
   -- a minute lies in one of a person's ranges: it is not before its start, and before its end
   pub lies : (R : Ranges) (p t : ℕ)
       → (inRanges R p t ≡ true)
       ↔ ((k : ℕ) × (k < R .count) × (getD (R .persons) k 0 ≡ p) × (getD (R .starts) k 0 ≤ t) × (t < getD (R .ends) k 0))
-  pub merged : (people : ℕ) (R : Ranges) (out : Columns) → heardOf (mergedRow people R out) ≡ 0 → Merged people R out
-  pub split : (B : Base) → heardOf (atomiseRow B) ≡ 0 → Split B
+  pub merged : (people : ℕ) (R : Ranges) (out : Columns) → numberOf (mergedRow people R out) ≡ 0 → Merged people R out
+  pub split : (B : Base) → numberOf (atomiseRow B) ≡ 0 → Split B
   -- "A person is available for a slot exactly when each of its minutes lies in one of their ranges."
   pub available : (people slots : ℕ) (starts ends : List ℕ) (R : Ranges) (words : List ℕ)
-      → heardOf (availabilityRow people slots starts ends R words) ≡ 0
+      → numberOf (availabilityRow people slots starts ends R words) ≡ 0
       → (p k : ℕ) → p < people → k < slots
       → (isAvailable people slots (availabilityOf people slots starts ends R words) p k ≡ Yes)
       ↔ ((t : ℕ) → getD starts k 0 ≤ t → t < getD ends k 0 → inRanges R p t ≡ true)
   -- a bit at or past the slot count, and the sets past the people, stay
   pub past : (people slots : ℕ) (starts ends : List ℕ) (R : Ranges) (words : List ℕ)
-      → heardOf (availabilityRow people slots starts ends R words) ≡ 0
+      → numberOf (availabilityRow people slots starts ends R words) ≡ 0
       → (p k : ℕ) → (p < people → slots ≤ k) → k < 1024
       → rowSlots (availabilityOf people slots starts ends R words) p k ≡ rowSlots words p k
-  pub frozen : (slots : ℕ) (starts ends frozen : List ℕ) (instant : ℕ) → heardOf (freezeRow slots starts ends frozen) ≡ 0
+  pub frozen : (slots : ℕ) (starts ends frozen : List ℕ) (instant : ℕ) → numberOf (freezeRow slots starts ends frozen) ≡ 0
       → Froze slots starts ends frozen instant

@@ -4,7 +4,7 @@ use mathlib.Core.Path.{_≡_}
 use mathlib.Core.List.{List, [], _∷_, _++_}
 use Prim.Native.Nat.{ℕ, zero, suc, _+_, _-_, _<_}
 use lib.ListN.{length, getD}
-use Rattle.paper.specs.Limits.{heardOf}
+use Rattle.paper.specs.Limits.{numberOf}
 use Rattle.slotset.specs.declared.Number.the-variants as number
 use Rattle.slots.specs.Atomic.{Base, atomiseOf, atomiseRow, isCut, IsCuts}
 
@@ -32,7 +32,7 @@ pub record LeavesPieces (B : Base) (c : ℕ → List ℕ) : Type 0 where
       → getD (atomiseOf B .ends) i 0 ≡ getD (strung (λ k. c k ++ (getD (B .ends) k 0 ∷ [])) (B .slots)) i 0
 
 pub record SplitAtCuts : Type 0 where
-  pub pieces : (B : Base) → heardOf (atomiseRow B) ≡ 0 → (c : ℕ → List ℕ) → ((k : ℕ) → k < B .slots → CutsOf B k (c k)) → LeavesPieces B c
+  pub pieces : (B : Base) → numberOf (atomiseRow B) ≡ 0 → (c : ℕ → List ℕ) → ((k : ℕ) → k < B .slots → CutsOf B k (c k)) → LeavesPieces B c
   -- "Atomic lengths add up to base lengths."
   pub add-up : (B : Base) (k : ℕ) (c : List ℕ) → CutsOf B k c
       → lengths (getD (B .starts) k 0 ∷ c) (c ++ (getD (B .ends) k 0 ∷ [])) ≡ getD (B .ends) k 0 - getD (B .starts) k 0

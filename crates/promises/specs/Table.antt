@@ -1,4 +1,4 @@
--- The table of what a caller hears, as one entry judges it. Assumes nothing.
+-- The table of what a caller is answered, as one entry judges it. Assumes nothing.
 use mathlib.Core.Path.{_≡_}
 use mathlib.Core.Bool.{false}
 use mathlib.Core.List.{List, [], _∷_}
@@ -19,7 +19,7 @@ Applies [] m = ⊥
 Applies (r ∷ t) m = ((r .number ≡ m) × (r .Says)) ⊎ Applies t m
 
 -- a number is given exactly when its rule says so and no lower one does; 0 stands for none and is given exactly when no rule says so
-pub record Heard (t : List Rule) (n : ℕ) : Type 0 where
+pub record GivenBy (t : List Rule) (n : ℕ) : Type 0 where
   pub given : (m : ℕ) → 0 < m → (n ≡ m) ↔ (Applies t m × ((k : ℕ) → k < m → Applies t k → ⊥))
   pub none : (n ≡ 0) ↔ ((m : ℕ) → Applies t m → ⊥)
 
@@ -29,10 +29,10 @@ rules [] = []
 rules (r ∷ t) = record { number = r .number; Says = r .passes ≡ false } ∷ rules t
 
 -- an entry that reads alone: by the table
-abbrev pub Hears : List Test → ℕ → Type 0
-Hears t n = Heard (rules t) n
+abbrev pub GivenByTests : List Test → ℕ → Type 0
+GivenByTests t n = GivenBy (rules t) n
 
 -- an entry that is lent something to write: by the table, and refused it is as it was
 pub record Refuses {A : Type 0} (t : List Rule) (n : ℕ) (entry exit : A) : Type 0 where
-  pub heard : Heard t n
+  pub given : GivenBy t n
   pub kept : (n ≡ 0 → ⊥) → exit ≡ entry

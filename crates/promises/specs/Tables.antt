@@ -1,5 +1,6 @@
--- Demand 1 in the paper's words: each entry's table of what a caller hears, by limits, lengths that are lent and the records that say what
--- is right, and no test of a crate; and that each entry is heard by its table. Assumes nothing.
+-- Demand 1 in the paper's words: each entry's table of what a caller is answered, by limits, lengths that are lent and the records that
+-- say what
+-- is right, and no test of a crate; and that each entry is given by its table. Assumes nothing.
 use mathlib.Core.Path.{_≡_}
 use mathlib.Core.Bool.{true}
 use mathlib.Core.List.{List, [], _∷_, _++_}
@@ -8,19 +9,19 @@ use Prim.Native.Nat.{ℕ, _*_, _≤_, _<_}
 use lib.Dec.{leb}
 use lib.IntN.{ℤ}
 use lib.ListN.{length, getD}
-use Rattle.paper.specs.Limits.{heardOf}
+use Rattle.paper.specs.Limits.{numberOf}
 use Rattle.slotset.specs.declared.SlotSet.{SlotSet}
 use Rattle.slotset.specs.Answers.{lengthRow, personRow, sameSetsRow, personStretchRow, rowSlots, newOf, putOf, stretchOf, loadOf}
-use Rattle.slotset.specs.Answers.{toldNo, numberNo}
+use Rattle.slotset.specs.Answers.{yesNoRefusal, numberRefusal}
 use Rattle.runs.specs.Listed.{allRunsOf}
-use Rattle.slots.specs.Lent.{demandIs, slotMinutesIs, minutesNo}
+use Rattle.slots.specs.Lent.{demandIs, slotMinutesIs, minutesRefusal}
 use Rattle.slots.specs.Ranges.{Ranges}
 use Rattle.slots.specs.Merged.{Columns, mergedRanges}
 use Rattle.slots.specs.Atomic.{Base, atomiseOf}
 use Rattle.slots.specs.Availability.{availabilityRow, isAvailable}
 use Rattle.slots.specs.Freeze.{freezeOf}
 use Rattle.units.specs.declared.Settings.{Settings}
-use Rattle.units.specs.Answers.{unitCountIs, unitSlotsIs, unitOfSlotIs, spanNo}
+use Rattle.units.specs.Answers.{unitCountIs, unitSlotsIs, unitOfSlotIs, spanRefusal}
 use Rattle.units.specs.Starts.{rotationStartsIs, unitStartsIs}
 use Rattle.units.specs.Days.{coveredDaysIs, minutesPerDayIs, targetRunIs}
 use Rattle.units.specs.Domains.{unitFrozenIs, slotDomainIs, unitDomainIs, unitDomainsRow}
@@ -29,9 +30,9 @@ use Rattle.targets.specs.Outcome as targets
 use Rattle.owners.specs.Derived.{Plan, Derived}
 use Rattle.owners.specs.Entries as state
 use Rattle.rota.specs.Entries as rota
-use Rattle.draws.specs.declared.Draw.{Draw}
+use Rattle.rota.specs.declared.draws.Draw.{Draw}
 use Rattle.promises.specs.Entries.{Call, playOf, playDrawsOf}
-use Rattle.promises.specs.Table.{Rule, Heard}
+use Rattle.promises.specs.Table.{Rule, GivenBy}
 use Rattle.promises.specs.Tests.{SlotsRight, RangesRight, FiguresRight, SettingsRight, UnitsRight}
 use Rattle.promises.specs.SplitRule.{strung, CutsOf}
 use Rattle.promises.specs.TargetRules.{Beyond}
@@ -61,7 +62,7 @@ overfull B = record {
 
 -- 8: "an unrounded target is not finite, or of size 2^40 or more"; a target has a meaning only of slots that are right
 abbrev pub beyond : targets.Given → Rule
-beyond g = record { number = 8; Says = SlotsRight (g .slots) (g .starts) (g .ends) × Beyond (targets.demandIn g) (targets.linesIn g) }
+beyond g = record { number = 8; Says = SlotsRight (g .slots) (g .starts) (g .ends) × Beyond (targets.demandIn g) (targets.standingsIn g) }
 
 -- 11: "a slot, unit, person, or index to insert or remove is not below its count"; of a stretch, one of its indexes
 abbrev pub notBelow : ℕ → ℕ → Rule
@@ -98,8 +99,8 @@ sameSetsTable ws vs people len =
     outside 1 32 people ∷ outside 0 1024 len ∷ short (16 * people) (length ws) ∷ short (16 * people) (length vs) ∷ []
 
 abbrev pub runsTable : List ℕ → ℕ → ℕ → ℕ → List ℕ → List ℕ → List Rule
-runsTable ws people person len firsts lasts =
-    outside 1 32 people ∷ outside 0 1024 len ∷ short (16 * people) (length ws) ∷ short len (length firsts) ∷ short len (length lasts)
+runsTable ws people person len begins lasts =
+    outside 1 32 people ∷ outside 0 1024 len ∷ short (16 * people) (length ws) ∷ short len (length begins) ∷ short len (length lasts)
     ∷ notBelow person people ∷ []
 
 -- ---- slots
@@ -146,8 +147,8 @@ availableTable people slots words person slot =
 -- ---- units
 
 abbrev pub unitsTable : ℕ → ℕ → List ℕ → List Rule → List Rule
-unitsTable slots units firsts more =
-    outside 1 1024 slots ∷ short units (length firsts) ∷ broken 9 (UnitsRight slots units firsts) ∷ more
+unitsTable slots units begins more =
+    outside 1 1024 slots ∷ short units (length begins) ∷ broken 9 (UnitsRight slots units begins) ∷ more
 
 -- "An output list needs room .. for as many entries as .. slots": there may be as many units as slots
 abbrev pub startsTable : Settings → ℕ → List ℕ → List ℕ → List ℕ → List Rule
@@ -156,8 +157,8 @@ startsTable s slots starts ends list =
     ∷ broken 7 (SettingsRight s) ∷ broken 9 (SlotsRight slots starts ends) ∷ []
 
 abbrev pub unitFrozenTable : List ℕ → ℕ → ℕ → List ℕ → ℕ → List Rule
-unitFrozenTable frozen slots units firsts u =
-    outside 1 1024 slots ∷ short units (length firsts) ∷ short 16 (length frozen) ∷ broken 9 (UnitsRight slots units firsts)
+unitFrozenTable frozen slots units begins u =
+    outside 1 1024 slots ∷ short units (length begins) ∷ short 16 (length frozen) ∷ broken 9 (UnitsRight slots units begins)
     ∷ notBelow u units ∷ []
 
 -- "or for as many entries as .. people"
@@ -166,14 +167,14 @@ slotDomainTable avail people slots k list =
     outside 1 32 people ∷ outside 1 1024 slots ∷ short (16 * people) (length avail) ∷ short people (length list) ∷ notBelow k slots ∷ []
 
 abbrev pub unitDomainTable : List ℕ → ℕ → ℕ → ℕ → List ℕ → ℕ → List ℕ → List Rule
-unitDomainTable avail people slots units firsts u list =
-    outside 1 32 people ∷ outside 1 1024 slots ∷ short (16 * people) (length avail) ∷ short units (length firsts)
-    ∷ short people (length list) ∷ broken 9 (UnitsRight slots units firsts) ∷ notBelow u units ∷ []
+unitDomainTable avail people slots units begins u list =
+    outside 1 32 people ∷ outside 1 1024 slots ∷ short (16 * people) (length avail) ∷ short units (length begins)
+    ∷ short people (length list) ∷ broken 9 (UnitsRight slots units begins) ∷ notBelow u units ∷ []
 
 abbrev pub unitDomainsTable : List ℕ → ℕ → ℕ → ℕ → List ℕ → List ℕ → List Rule
-unitDomainsTable avail people slots units firsts masks =
-    outside 1 32 people ∷ outside 1 1024 slots ∷ short (16 * people) (length avail) ∷ short units (length firsts)
-    ∷ short slots (length masks) ∷ broken 9 (UnitsRight slots units firsts) ∷ []
+unitDomainsTable avail people slots units begins masks =
+    outside 1 32 people ∷ outside 1 1024 slots ∷ short (16 * people) (length avail) ∷ short units (length begins)
+    ∷ short slots (length masks) ∷ broken 9 (UnitsRight slots units begins) ∷ []
 
 abbrev pub targetRunTable : Settings → ℕ → List ℕ → List ℕ → List Rule
 targetRunTable s slots starts ends =
@@ -191,8 +192,8 @@ abbrev pub targetsTable : targets.Given → ℕ → List Rule
 targetsTable g room =
     outside 1 32 (g .people) ∷ outside 1 1024 (g .slots) ∷ short (g .slots) (length (g .starts)) ∷ short (g .slots) (length (g .ends))
     ∷ short (16 * g .people) (length (g .avail)) ∷ short (g .people) (length (g .capacities)) ∷ short (g .people) (length (g .priors))
-    ∷ short (g .people) room ∷ broken 6 (FiguresRight (g .people) (g .capacities) (g .priors)) ∷ broken 7 (g .fairness ≤ 1) ∷ beyond g
-    ∷ broken 9 (SlotsRight (g .slots) (g .starts) (g .ends)) ∷ []
+    ∷ short (g .people) room ∷ broken 6 (FiguresRight (g .people) (g .capacities) (g .priors)) ∷ broken 7 (g .fairness ≤ 1)
+    ∷ broken 7 (g .edition ≤ 1) ∷ beyond g ∷ broken 9 (SlotsRight (g .slots) (g .starts) (g .ends)) ∷ []
 
 -- ---- the rota
 
@@ -218,15 +219,15 @@ assignTable P avail o D k w =
 
 -- 9 of the units, and the recount
 abbrev pub recountTable : Plan → List ℕ → ℕ → List ℕ → List ℕ → Derived → List Rule → List Rule → List Rule
-recountTable P avail units firsts o D counts lengths =
-    rotaTable P avail o D counts (short units (length firsts) ∷ lengths)
-    (broken 9 (UnitsRight (P .slots) units firsts) ∷ broken 10 (PassesRecount P avail units firsts o D) ∷ [])
+recountTable P avail units begins o D counts lengths =
+    rotaTable P avail o D counts (short units (length begins) ∷ lengths)
+    (broken 9 (UnitsRight (P .slots) units begins) ∷ broken 10 (PassesRecount P avail units begins o D) ∷ [])
 
--- a play: draws, their lengths, the flags, and room for "as many entries as .. draws". `ones` and the like: lengths of the lent columns
+-- a play: draws, their lengths, the flags, and room for "as many entries as .. draws". `firsts` and the like: lengths of the lent columns
 abbrev pub playTable : Call → ℕ → ℕ → ℕ → List Rule
-playTable c kinds ones twos =
-    recountTable (c .plan) (c .avail) (c .units) (c .firsts) (c .owners) (c .derived) (outside 0 1024 (c .count) ∷ [])
-    (short 16 (length (c .frozen)) ∷ short (c .count) kinds ∷ short (c .count) ones ∷ short (c .count) twos
+playTable c draws firsts seconds =
+    recountTable (c .plan) (c .avail) (c .units) (c .begins) (c .owners) (c .derived) (outside 0 1024 (c .count) ∷ [])
+    (short 16 (length (c .frozen)) ∷ short (c .count) draws ∷ short (c .count) firsts ∷ short (c .count) seconds
     ∷ short (c .count) (length (c .answers)) ∷ [])
 
 abbrev pub emptyTable : ℕ → ℕ → List ℕ → Derived → List Rule
@@ -255,88 +256,89 @@ uncoveredTable P o =
     ∷ short (P .slots) (length o) ∷ broken 9 (SlotsRight (P .slots) (P .starts) (P .ends)) ∷ broken 11 (AllKnown (P .people) (P .slots) o)
     ∷ []
 
--- ---- each entry is heard by its table
+-- ---- each entry is given by its table
 
 pub record SetsByTable : Type 0 where
   -- the methods that read, `new`, and those that hand a set back
-  pub lengths : (len : ℕ) → Heard (setTable len) (heardOf (lengthRow len))
-  pub new : (len : ℕ) → Heard (setTable len) (newOf len .number)
-  pub put : (v : ℕ) (s : SlotSet) (i : ℕ) → Heard (outside 0 1024 (s .len) ∷ notBelow i (s .len) ∷ []) (putOf v s i .number)
+  pub lengths : (len : ℕ) → GivenBy (setTable len) (numberOf (lengthRow len))
+  pub new : (len : ℕ) → GivenBy (setTable len) (newOf len .number)
+  pub put : (v : ℕ) (s : SlotSet) (i : ℕ) → GivenBy (outside 0 1024 (s .len) ∷ notBelow i (s .len) ∷ []) (putOf v s i .number)
   pub stretch : (v : ℕ) (s : SlotSet) (a e : ℕ)
-      → Heard (outside 0 1024 (s .len) ∷ reachesPast a e (s .len) ∷ []) (stretchOf v s a e .number)
+      → GivenBy (outside 0 1024 (s .len) ∷ reachesPast a e (s .len) ∷ []) (stretchOf v s a e .number)
   -- a person's row: every question of it, and `store`; then `load`, a stretch of it, everybody's sets, and the list of runs
-  pub rows : (ws : List ℕ) (people person len : ℕ) → Heard (rowTable ws people person len []) (heardOf (personRow ws people person len))
-  pub load : (ws : List ℕ) (people person len : ℕ) → Heard (rowTable ws people person len []) (loadOf ws people person len .number)
+  pub rows : (ws : List ℕ) (people person len : ℕ) → GivenBy (rowTable ws people person len []) (numberOf (personRow ws people person len))
+  pub load : (ws : List ℕ) (people person len : ℕ) → GivenBy (rowTable ws people person len []) (loadOf ws people person len .number)
   pub put-stretch : (ws : List ℕ) (people person len a e : ℕ)
-      → Heard (rowTable ws people person len (reachesPast a e len ∷ [])) (heardOf (personStretchRow ws people person len a e))
-  pub same-sets : (ws vs : List ℕ) (people len : ℕ) → Heard (sameSetsTable ws vs people len) (heardOf (sameSetsRow ws vs people len))
-  pub all-runs : (ws : List ℕ) (people person len : ℕ) (firsts lasts : List ℕ)
-      → Heard (runsTable ws people person len firsts lasts) (numberNo (allRunsOf ws people person len firsts lasts .answer))
+      → GivenBy (rowTable ws people person len (reachesPast a e len ∷ [])) (numberOf (personStretchRow ws people person len a e))
+  pub same-sets : (ws vs : List ℕ) (people len : ℕ) → GivenBy (sameSetsTable ws vs people len) (numberOf (sameSetsRow ws vs people len))
+  pub all-runs : (ws : List ℕ) (people person len : ℕ) (begins lasts : List ℕ)
+      → GivenBy (runsTable ws people person len begins lasts) (numberRefusal (allRunsOf ws people person len begins lasts .answer))
 
 pub record SlotsByTable : Type 0 where
-  pub demand : (slots : ℕ) (starts ends : List ℕ) → Heard (slotsTable slots starts ends []) (minutesNo (demandIs slots starts ends))
+  pub demand : (slots : ℕ) (starts ends : List ℕ) → GivenBy (slotsTable slots starts ends []) (minutesRefusal (demandIs slots starts ends))
   pub slot-minutes : (slots : ℕ) (starts ends : List ℕ) (k : ℕ)
-      → Heard (slotsTable slots starts ends (notBelow k slots ∷ [])) (minutesNo (slotMinutesIs slots starts ends k))
+      → GivenBy (slotsTable slots starts ends (notBelow k slots ∷ [])) (minutesRefusal (slotMinutesIs slots starts ends k))
   pub merged-ranges : (people : ℕ) (R : Ranges) (out : Columns)
-      → Heard (mergedTable people R out) (numberNo (mergedRanges people R out .answer))
-  pub atomise : (B : Base) → Heard (atomiseTable B) (numberNo (atomiseOf B .answer))
+      → GivenBy (mergedTable people R out) (numberRefusal (mergedRanges people R out .answer))
+  pub atomise : (B : Base) → GivenBy (atomiseTable B) (numberRefusal (atomiseOf B .answer))
   pub availability : (people slots : ℕ) (starts ends : List ℕ) (R : Ranges) (words : List ℕ)
-      → Heard (availabilityTable people slots starts ends R words) (heardOf (availabilityRow people slots starts ends R words))
+      → GivenBy (availabilityTable people slots starts ends R words) (numberOf (availabilityRow people slots starts ends R words))
   pub freeze-before : (slots : ℕ) (starts ends frozen : List ℕ) (instant : ℕ)
-      → Heard (freezeTable slots starts ends frozen) (numberNo (freezeOf slots starts ends frozen instant .answer))
+      → GivenBy (freezeTable slots starts ends frozen) (numberRefusal (freezeOf slots starts ends frozen instant .answer))
   pub is-available : (people slots : ℕ) (words : List ℕ) (person slot : ℕ)
-      → Heard (availableTable people slots words person slot) (toldNo (isAvailable people slots words person slot))
+      → GivenBy (availableTable people slots words person slot) (yesNoRefusal (isAvailable people slots words person slot))
 
 pub record UnitsByTable : Type 0 where
-  pub unit-count : (slots units : ℕ) (firsts : List ℕ)
-      → Heard (unitsTable slots units firsts []) (numberNo (unitCountIs slots units firsts))
-  pub unit-slots : (slots units : ℕ) (firsts : List ℕ) (u : ℕ)
-      → Heard (unitsTable slots units firsts (notBelow u units ∷ [])) (spanNo (unitSlotsIs slots units firsts u))
-  pub unit-of-slot : (slots units : ℕ) (firsts : List ℕ) (k : ℕ)
-      → Heard (unitsTable slots units firsts (notBelow k slots ∷ [])) (numberNo (unitOfSlotIs slots units firsts k))
+  pub unit-count : (slots units : ℕ) (begins : List ℕ)
+      → GivenBy (unitsTable slots units begins []) (numberRefusal (unitCountIs slots units begins))
+  pub unit-slots : (slots units : ℕ) (begins : List ℕ) (u : ℕ)
+      → GivenBy (unitsTable slots units begins (notBelow u units ∷ [])) (spanRefusal (unitSlotsIs slots units begins u))
+  pub unit-of-slot : (slots units : ℕ) (begins : List ℕ) (k : ℕ)
+      → GivenBy (unitsTable slots units begins (notBelow k slots ∷ [])) (numberRefusal (unitOfSlotIs slots units begins k))
   pub rotation-starts : (s : Settings) (slots : ℕ) (starts ends list : List ℕ)
-      → Heard (startsTable s slots starts ends list) (numberNo (rotationStartsIs s slots starts ends list .answer))
+      → GivenBy (startsTable s slots starts ends list) (numberRefusal (rotationStartsIs s slots starts ends list .answer))
   pub unit-starts : (s : Settings) (slots : ℕ) (starts ends list : List ℕ)
-      → Heard (startsTable s slots starts ends list) (numberNo (unitStartsIs s slots starts ends list .answer))
-  pub unit-frozen : (frozen : List ℕ) (slots units : ℕ) (firsts : List ℕ) (u : ℕ)
-      → Heard (unitFrozenTable frozen slots units firsts u) (toldNo (unitFrozenIs frozen slots units firsts u))
+      → GivenBy (startsTable s slots starts ends list) (numberRefusal (unitStartsIs s slots starts ends list .answer))
+  pub unit-frozen : (frozen : List ℕ) (slots units : ℕ) (begins : List ℕ) (u : ℕ)
+      → GivenBy (unitFrozenTable frozen slots units begins u) (yesNoRefusal (unitFrozenIs frozen slots units begins u))
   pub slot-domain : (avail : List ℕ) (people slots k : ℕ) (list : List ℕ)
-      → Heard (slotDomainTable avail people slots k list) (numberNo (slotDomainIs avail people slots k list .answer))
-  pub unit-domain : (avail : List ℕ) (people slots units : ℕ) (firsts : List ℕ) (u : ℕ) (list : List ℕ)
-      → Heard (unitDomainTable avail people slots units firsts u list)
-      (numberNo (unitDomainIs avail people slots units firsts u list .answer))
-  pub unit-domains : (avail : List ℕ) (people slots units : ℕ) (firsts masks : List ℕ)
-      → Heard (unitDomainsTable avail people slots units firsts masks) (heardOf (unitDomainsRow avail people slots units firsts masks))
+      → GivenBy (slotDomainTable avail people slots k list) (numberRefusal (slotDomainIs avail people slots k list .answer))
+  pub unit-domain : (avail : List ℕ) (people slots units : ℕ) (begins : List ℕ) (u : ℕ) (list : List ℕ)
+      → GivenBy (unitDomainTable avail people slots units begins u list)
+      (numberRefusal (unitDomainIs avail people slots units begins u list .answer))
+  pub unit-domains : (avail : List ℕ) (people slots units : ℕ) (begins masks : List ℕ)
+      → GivenBy (unitDomainsTable avail people slots units begins masks) (numberOf (unitDomainsRow avail people slots units begins masks))
   pub covered-days : (slots : ℕ) (starts ends : List ℕ)
-      → Heard (slotsTable slots starts ends []) (numberNo (coveredDaysIs slots starts ends))
+      → GivenBy (slotsTable slots starts ends []) (numberRefusal (coveredDaysIs slots starts ends))
   pub minutes-per-day : (slots : ℕ) (starts ends : List ℕ)
-      → Heard (slotsTable slots starts ends []) (minutesNo (minutesPerDayIs slots starts ends))
+      → GivenBy (slotsTable slots starts ends []) (minutesRefusal (minutesPerDayIs slots starts ends))
   pub target-run : (s : Settings) (slots : ℕ) (starts ends : List ℕ)
-      → Heard (targetRunTable s slots starts ends) (minutesNo (targetRunIs s slots starts ends))
+      → GivenBy (targetRunTable s slots starts ends) (minutesRefusal (targetRunIs s slots starts ends))
   pub achievable-run : (s : Settings) (avail : List ℕ) (people p slots : ℕ) (starts ends : List ℕ)
-      → Heard (achievableRunTable s avail people p slots starts ends) (minutesNo (achievableRunIs s avail people p slots starts ends))
+      → GivenBy (achievableRunTable s avail people p slots starts ends)
+      (minutesRefusal (achievableRunIs s avail people p slots starts ends))
 
 pub record RotaByTable : Type 0 where
   pub compute-targets : (g : targets.Given) (out : List ℤ)
-      → Heard (targetsTable g (length out)) (targets.computeTargets g out .number)
-  pub from-slots : (P : Plan) (avail o : List ℕ) (D : Derived) → Heard (fromSlotsTable P avail o D) (state.fromSlots P avail o D .number)
+      → GivenBy (targetsTable g (length out)) (targets.computeTargets g out .number)
+  pub from-slots : (P : Plan) (avail o : List ℕ) (D : Derived) → GivenBy (fromSlotsTable P avail o D) (state.fromSlots P avail o D .number)
   pub assign : (P : Plan) (avail o : List ℕ) (D : Derived) (k w : ℕ)
-      → Heard (assignTable P avail o D k w) (rota.assigned P avail o D k w .number)
-  pub recount : (P : Plan) (avail : List ℕ) (units : ℕ) (firsts o : List ℕ) (D : Derived)
-      → Heard (recountTable P avail units firsts o D [] [])
-      (heardOf (state.recountRow true (leb units (length firsts)) P avail units firsts o D))
+      → GivenBy (assignTable P avail o D k w) (rota.assigned P avail o D k w .number)
+  pub recount : (P : Plan) (avail : List ℕ) (units : ℕ) (begins o : List ℕ) (D : Derived)
+      → GivenBy (recountTable P avail units begins o D [] [])
+      (numberOf (state.recountRow true (leb units (length begins)) P avail units begins o D))
   pub recount-slots : (P : Plan) (avail o : List ℕ) (D : Derived)
-      → Heard (recountSlotsTable P avail o D []) (heardOf (state.recountSlotsRow P avail o D))
-  pub play : (c : Call) → Heard (playTable c (length (c .kinds)) (length (c .ones)) (length (c .twos))) (playOf c .number)
+      → GivenBy (recountSlotsTable P avail o D []) (numberOf (state.recountSlotsRow P avail o D))
+  pub play : (c : Call) → GivenBy (playTable c (length (c .draws)) (length (c .firsts)) (length (c .seconds))) (playOf c .number)
   -- a list of structs has one length
-  pub play-draws : (c : Call) (ds : List Draw) → Heard (playTable c (length ds) (length ds) (length ds)) (playDrawsOf c ds .number)
+  pub play-draws : (c : Call) (ds : List Draw) → GivenBy (playTable c (length ds) (length ds) (length ds)) (playDrawsOf c ds .number)
   pub empty : (people slots : ℕ) (o : List ℕ) (D : Derived)
-      → Heard (emptyTable people slots o D) (state.emptied people slots o D .number)
+      → GivenBy (emptyTable people slots o D) (state.emptied people slots o D .number)
   pub owner-of-slot : (people slots : ℕ) (o : List ℕ) (k : ℕ)
-      → Heard (ownerTable people slots o k) (numberNo (state.ownerIs people slots o k))
-  pub minutes-of : (people : ℕ) (m : List ℕ) (p : ℕ) → Heard (minutesTable people m p) (minutesNo (state.minutesIs people m p))
+      → GivenBy (ownerTable people slots o k) (numberRefusal (state.ownerIs people slots o k))
+  pub minutes-of : (people : ℕ) (m : List ℕ) (p : ℕ) → GivenBy (minutesTable people m p) (minutesRefusal (state.minutesIs people m p))
   pub slots-of : (people slots : ℕ) (ws : List ℕ) (p : ℕ)
-      → Heard (slotsOfTable people slots ws p) (state.slotsOfIs people slots ws p .number)
+      → GivenBy (slotsOfTable people slots ws p) (state.slotsOfIs people slots ws p .number)
   pub unassigned-count : (people slots : ℕ) (o : List ℕ)
-      → Heard (unassignedTable people slots o) (numberNo (state.unassignedIs people slots o))
-  pub uncovered-minutes : (P : Plan) (o : List ℕ) → Heard (uncoveredTable P o) (minutesNo (state.uncoveredIs P o))
+      → GivenBy (unassignedTable people slots o) (numberRefusal (state.unassignedIs people slots o))
+  pub uncovered-minutes : (P : Plan) (o : List ℕ) → GivenBy (uncoveredTable P o) (minutesRefusal (state.uncoveredIs P o))

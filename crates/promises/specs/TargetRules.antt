@@ -11,17 +11,17 @@ use lib.ListN.{length, getD, take, drop}
 use lib.Ieee.{Float, fin, binary64, add, mul, div, sub, lt}
 use Rattle.paper.specs.Count as Σ
 use Rattle.slotset.specs.Answers.{rowSlots}
-use Rattle.targets.specs.declared.Line.{Line}
+use Rattle.targets.specs.declared.Standing.{Standing}
 use Rattle.targets.specs.declared.Person.{Person}
-use Rattle.targets.specs.Figures.{zeroF, whole, personAt, lineOf, pad}
-use Rattle.targets.specs.Passes.{rounded, NearestWhole, unrounded, settle, outside, falls, shareSum, notional, some}
+use Rattle.targets.specs.Figures.{zeroF, whole, personAt, standingOf, pad}
+use Rattle.targets.specs.Passes.{rounded, NearestWhole, unrounded, settle, outside, belowZero, shareSum, notional, some}
 use Rattle.targets.specs.Passes.{within, again, done, pass, passes, passesLeave}
 use Rattle.targets.specs.Remainder.{Takes, sumℤ}
-use Rattle.targets.specs.Outcome.{Given, given, computeTargets, demandIn, baseAt, linesIn, leftIn, takerIn}
+use Rattle.targets.specs.Outcome.{Given, given, computeTargets, demandIn, baseAt, standingsIn, leftIn, takerIn}
 use Rattle.promises.specs.SetRules.{TheOne}
 
 -- one person in a pass, x being their unrounded target
-pub record Settles (n sum : Float) (l : Line) : Type 0 where
+pub record Settles (n sum : Float) (l : Standing) : Type 0 where
   pub keeps : l .pinned ≡ true → settle n sum l ≡ l
   -- "Below 0: pinned at 0."
   pub below : l .pinned ≡ false → lt (unrounded n sum l) zeroF ≡ true → (settle n sum l .pinned ≡ true) × (settle n sum l .target ≡ 0)
@@ -30,31 +30,32 @@ pub record Settles (n sum : Float) (l : Line) : Type 0 where
       → (settle n sum l .pinned ≡ false) × (settle n sum l .target ≡ rounded (unrounded n sum l))
 
 -- a total over people in order: from `start` on, each unpinned one is added, a pinned one is not
-pub record OverUnpinned {A : Type 0} (total : List Line → A) (start : A) (plus : A → Line → A) : Type 0 where
+pub record OverUnpinned {A : Type 0} (total : List Standing → A) (start : A) (plus : A → Standing → A) : Type 0 where
   pub none : total [] ≡ start
-  pub unpinned : (ls : List Line) (l : Line) → l .pinned ≡ false → total (ls ++ (l ∷ [])) ≡ plus (total ls) l
-  pub pinned : (ls : List Line) (l : Line) → l .pinned ≡ true → total (ls ++ (l ∷ [])) ≡ total ls
+  pub unpinned : (ls : List Standing) (l : Standing) → l .pinned ≡ false → total (ls ++ (l ∷ [])) ≡ plus (total ls) l
+  pub pinned : (ls : List Standing) (l : Standing) → l .pinned ≡ true → total (ls ++ (l ∷ [])) ≡ total ls
 
 -- refusal 8, said of the unrounded targets: one that is worked out breaks the guard
-pub record Beyond (demand : ℕ) (ls : List Line) : Type 0 where
+pub record Beyond (demand : ℕ) (ls : List Standing) : Type 0 where
   -- how many passes went before, and the lines that they gave to this one
   pub before : ℕ
-  pub lines : List Line
+  pub standings : List Standing
   -- the person
   pub at : ℕ
   pub few : before ≤ length ls
-  pub due : passes before demand (again ls) ≡ again lines
-  pub above : lt zeroF (shareSum lines) ≡ true
-  pub here : at < length lines
-  pub free : getD lines at pad .pinned ≡ false
-  pub breaks : within (unrounded (whole (notional demand lines)) (shareSum lines) (getD lines at pad)) ≡ false
+  pub due : passes before demand (again ls) ≡ again standings
+  pub above : lt zeroF (shareSum standings) ≡ true
+  pub here : at < length standings
+  pub free : getD standings at pad .pinned ≡ false
+  pub breaks : within (unrounded (whole (notional demand standings)) (shareSum standings) (getD standings at pad)) ≡ false
 
 pub record TargetsByRule : Type 0 where
   -- what the passes begin with: a line a person, in person order, target 0 and unpinned
-  pub lines : (g : Given) (k : ℕ) → k < g .people → getD (linesIn g) k pad ≡ lineOf (personAt (g .capacities) (g .priors) k) (baseAt g k)
-  pub begins : (p : Person) (base : ℕ) → (lineOf p base .target ≡ 0) × (lineOf p base .pinned ≡ false)
+  pub standings : (g : Given) (k : ℕ) → k < g .people → getD (standingsIn g) k pad ≡ standingOf
+      (personAt (g .capacities) (g .priors) k) (baseAt g k)
+  pub begins : (p : Person) (base : ℕ) → (standingOf p base .target ≡ 0) × (standingOf p base .pinned ≡ false)
   -- "Raw share is capacity times demand (fairness 1) or times their available minutes (fairness 0)."
-  pub share : (p : Person) (base : ℕ) → lineOf p base .raw ≡ mul binary64 (p .capacity) (whole base)
+  pub share : (p : Person) (base : ℕ) → standingOf p base .raw ≡ mul binary64 (p .capacity) (whole base)
   pub base-1 : (g : Given) (k : ℕ) → g .fairness ≡ 1 → baseAt g k ≡ demandIn g
   -- .. which are the lengths of all slots that they are available for
   pub base-0 : (g : Given) (k : ℕ) → g .fairness ≡ 0
@@ -63,21 +64,21 @@ pub record TargetsByRule : Type 0 where
   pub sum : OverUnpinned shareSum zeroF (λ s l. add binary64 s (l .raw))
   pub n : (demand : ℕ) → OverUnpinned (notional demand) demand (λ n l. n + l .person .prior)
   -- "stop if the sum is not above 0, keeping the targets"
-  pub stops : (demand : ℕ) (ls : List Line) → lt zeroF (shareSum ls) ≡ false → pass demand (again ls) ≡ done ls
+  pub stops : (demand : ℕ) (ls : List Standing) → lt zeroF (shareSum ls) ≡ false → pass demand (again ls) ≡ done ls
   -- above 0, and within the guard: each person is settled with this N and this sum, and another pass is due exactly where somebody unpinned
   -- falls below 0: "Repeat while a pass pinned somebody"
-  pub passes : (demand : ℕ) (ls : List Line)
+  pub passes : (demand : ℕ) (ls : List Standing)
       → let n = whole (notional demand ls) in
       let s = shareSum ls in
       lt zeroF s ≡ true → some (outside n s) ls ≡ false
-      → pass demand (again ls) ≡ cond (some (falls n s) ls) (again (map (settle n s) ls)) (done (map (settle n s) ls))
+      → pass demand (again ls) ≡ cond (some (belowZero n s) ls) (again (map (settle n s) ls)) (done (map (settle n s) ls))
   -- "for each unpinned person work out N * (raw / sum) - prior": quotient, product and difference are rounded each
-  pub works-out : (n sum : Float) (l : Line)
+  pub works-out : (n sum : Float) (l : Standing)
       → unrounded n sum l ≡ sub binary64 (mul binary64 n (div binary64 (l .raw) sum)) (whole (l .person .prior))
-  pub settles : (n sum : Float) (l : Line) → Settles n sum l
+  pub settles : (n sum : Float) (l : Standing) → Settles n sum l
   pub rounds : (s : Bool) (m : ℕ) (e : ℤ) → TheOne (NearestWhole (fin s m e)) (rounded (fin s m e))
   -- "at most people + 1 passes": they end by themselves, the bound never cuts them short
-  pub ends : (g : Given) (ls : List Line) → passesLeave (demandIn g) (linesIn g) ≡ again ls → ⊥
+  pub ends : (g : Given) (ls : List Standing) → passesLeave (demandIn g) (standingsIn g) ≡ again ls → ⊥
   -- "Then demand less the targets goes to the largest unpinned target, the last of equals, or to person 0 if all are pinned."
   pub taker : (g : Given) → TheOne (Takes (leftIn g)) (takerIn g)
   -- everybody else's target is what the passes left, not below 0: "one may be negative"
@@ -88,7 +89,7 @@ pub record TargetsByRule : Type 0 where
       → sumℤ (take (g .people) (computeTargets g out .out)) ≡ pos (demandIn g)
   -- past them the buffer stays, refused or not
   pub past : (g : Given) (out : List ℤ) → drop (g .people) (computeTargets g out .out) ≡ drop (g .people) out
-  -- 8, "a guard only", is never heard
+  -- 8, "a guard only", is never given
   pub guard : (g : Given) (out : List ℤ) → computeTargets g out .number ≡ 8 → ⊥
   -- marked cases 8 to 10 name no fairness: where everybody is available for every slot the two come to the same
   pub agrees : (people slots : ℕ) (starts ends avail : List ℕ) (capacities : List Float) (priors : List ℕ)

@@ -1,4 +1,4 @@
--- Demand 1: what each test of the tables stands for, in the words of the paper's table of what a caller hears. Assumes nothing.
+-- Demand 1: what each test of the tables stands for, in the words of the paper's table of what a caller is answered. Assumes nothing.
 use mathlib.Core.Path.{_≡_}
 use mathlib.Core.Bool.{true}
 use mathlib.Core.List.{List}
@@ -46,11 +46,11 @@ pub record SettingsRight (s : Settings) : Type 0 where
   pub days : s .days ≤ 366
 
 -- 9: not "unit starts don't begin at 0, rise strictly and stay below the slot count"; there is one at least
-pub record UnitsRight (slots units : ℕ) (firsts : List ℕ) : Type 0 where
+pub record UnitsRight (slots units : ℕ) (begins : List ℕ) : Type 0 where
   pub some : 1 ≤ units
-  pub begins : getD firsts 0 0 ≡ 0
-  pub rises : (u : ℕ) → suc u < units → getD firsts u 0 < getD firsts (suc u) 0
-  pub below : (u : ℕ) → u < units → getD firsts u 0 < slots
+  pub from-zero : getD begins 0 0 ≡ 0
+  pub rises : (u : ℕ) → suc u < units → getD begins u 0 < getD begins (suc u) 0
+  pub below : (u : ℕ) → u < units → getD begins u 0 < slots
 
 -- each both ways; 3, 4 and 9 where the columns have room, without which 2 comes first. 10 is RotaByRule's `recount`, 13 JobByRule's `file`
 pub record TestsByRule : Type 0 where
@@ -69,8 +69,8 @@ pub record TestsByRule : Type 0 where
   pub figures : (people : ℕ) (capacities : List Float) (priors : List ℕ)
       → (allFiguresOk people capacities priors ≡ true) ↔ FiguresRight people capacities priors
   pub settings : (s : Settings) → (settingsOk s ≡ true) ↔ SettingsRight s
-  pub units : (slots units : ℕ) (firsts : List ℕ) → leb units (length firsts) ≡ true
-      → (unitsOk slots units firsts ≡ true) ↔ UnitsRight slots units firsts
+  pub units : (slots units : ℕ) (begins : List ℕ) → leb units (length begins) ≡ true
+      → (unitsOk slots units begins ≡ true) ↔ UnitsRight slots units begins
   -- 11: an owner is known, or nobody; 12: a person is available, or it is nobody
   pub known : (people w : ℕ) → (knownBy people w ≡ true) ↔ ((w ≡ nobody) ⊎ (w < people))
   pub available : (avail : List ℕ) (w k : ℕ) → (availableFor avail w k ≡ true) ↔ (w ≢ nobody → rowSlots avail w k ≡ 1)

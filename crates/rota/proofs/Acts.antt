@@ -1,4 +1,4 @@
--- Each move acts exactly when the paper says, and hears 2 exactly when its choice lies outside. Assumes nothing.
+-- Each move acts exactly when the paper says, and answers 2 exactly when its choice lies outside. Assumes nothing.
 use mathlib.Core.Path.{_≡_, refl, sym, ap, ap₂, _∙_, subst}
 use mathlib.Core.Bool.{Bool, true, false, cond, not}
 use mathlib.Core.List.{List, [], _∷_}
@@ -13,13 +13,13 @@ use Rattle.paper.proofs.Count.{in-each, each-in, among-count}
 use Rattle.rota.specs.declared.Move.{Move}
 use Rattle.rota.specs.declared.Move.the-variants.{Trade}
 use Rattle.rota.specs.Board.{Board, ownerOf, unowned, RunOf}
-use Rattle.rota.specs.Moves.{anyOf, give, movable, covers, firstOf, lastOf, domainOf, reassigned, swapStays, swapped, others}
+use Rattle.rota.specs.Moves.{anyOf, give, movable, covers, runFirst, runLast, domainOf, reassigned, swapStays, swapped, others}
 use Rattle.rota.specs.Moves.{runReassigned, runsStay, runsSwapped, grown, shrunk, shifted, answerOf}
-use Rattle.rota.specs.Acts.{Heard, Chosen, Outside, ReassignActs, ReassignOutside, SwapActs, RunMoves, another, ReassignRunActs}
+use Rattle.rota.specs.Acts.{GivenBy, Chosen, Outside, ReassignActs, ReassignOutside, SwapActs, RunMoves, another, ReassignRunActs}
 use Rattle.rota.specs.Acts.{ReassignRunOutside, SwapRunsActs, Boundary, GrowActs, ShrinkActs, ShiftOutside}
 use Rattle.rota.proofs.Runs.{run-is, run-only}
 use Rattle.rota.proofs.Choices.{none-of, chosen-at, chosen-one}
-use Rattle.rota.proofs.Choices.{Ruled, heard, moves, either, no-move-if, outside-if, picks, said-as}
+use Rattle.rota.proofs.Choices.{Ruled, said, moves, either, no-move-if, outside-if, picks, said-as}
 
 -- ---- the five moves
 
@@ -66,8 +66,8 @@ another-says B w a b p = (
 )
 
 -- the run of a unit
-pub run-of : (B : Board) (o : List ℕ) (u : ℕ) → u < B .units → RunOf (B .units) (ownerOf B o) u (firstOf B o u) (lastOf B o u)
-unfolding firstOf lastOf
+pub run-of : (B : Board) (o : List ℕ) (u : ℕ) → u < B .units → RunOf (B .units) (ownerOf B o) u (runFirst B o u) (runLast B o u)
+unfolding runFirst runLast
 run-of B o u h = run-is (ownerOf B o) (B .units) u h
 
 module _ (B : Board) (o : List ℕ) (f s : ℕ) where
@@ -122,20 +122,20 @@ module _ (B : Board) (o : List ℕ) (f s : ℕ) where
 
 -- the ends of a run are those that the move works out, so what is said of one run is said of the other
 module _ (B : Board) (o : List ℕ) (f x y : ℕ) (R : RunOf (B .units) (ownerOf B o) f x y) where
-  pub same-ends : (x ≡ firstOf B o f) × (y ≡ lastOf B o f)
-  unfolding firstOf lastOf
+  pub same-ends : (x ≡ runFirst B o f) × (y ≡ runLast B o f)
+  unfolding runFirst runLast
   same-ends = run-only (ownerOf B o) (B .units) f x y (omega (arith, R .to, R .fits)) R
 
-  at-ends {ℓ} : (Q : ℕ → ℕ → Type ℓ) → Q x y → Q (firstOf B o f) (lastOf B o f)
-  at-ends Q h = subst (Q (firstOf B o f)) (same-ends .1) (subst (λ (v : ℕ). Q v y) (same-ends .0) h)
+  at-ends {ℓ} : (Q : ℕ → ℕ → Type ℓ) → Q x y → Q (runFirst B o f) (runLast B o f)
+  at-ends Q h = subst (Q (runFirst B o f)) (same-ends .1) (subst (λ (v : ℕ). Q v y) (same-ends .0) h)
 
 module _ (B : Board) (o : List ℕ) (f : ℕ) where
   -- the run of unit f as it is worked out
   abbrev a : ℕ
-  a = firstOf B o f
+  a = runFirst B o f
 
   abbrev b : ℕ
-  b = lastOf B o f
+  b = runLast B o f
 
   moves-here : (x y : ℕ) → RunMoves B o f x y → RunMoves B o f a b
   moves-here x y M = at-ends B o f x y (M .run) (RunMoves B o f) M
@@ -265,7 +265,7 @@ module _ (B : Board) (o : List ℕ) (f s : ℕ) (hf : f < B .units) where
 
   ruled-by-second : B .frozen f ≡ false → (ownerOf B o f ≡ nobody → ⊥) → s ≤ 1
       → Ruled Sides (ShiftOutside B o f s) (shift-does B o f s)
-      (cond (eqb s 1) (grown B (ownerOf B o f) (firstOf B o f)) (shrunk B o (firstOf B o f) (lastOf B o f)))
+      (cond (eqb s 1) (grown B (ownerOf B o f) (runFirst B o f)) (shrunk B o (runFirst B o f) (runLast B o f)))
   ruled-by-second unfrozen own low =
       either _ _ _ (eqb s 1) _ _
       (λ t.
@@ -329,10 +329,10 @@ module _ (B : Board) (o : List ℕ) (f s : ℕ) (hf : f < B .units) where
         (λ A. swap-does B o f s (A .first) (A .last) (A .first2) (A .last2)) (runsSwapped B o f s)
     unfolding runsSwapped anyOf
     swap-runs-ruled =
-        let a = firstOf B o f in
-        let b = lastOf B o f in
-        let c = firstOf B o s in
-        let d = lastOf B o s in
+        let a = runFirst B o f in
+        let b = runLast B o f in
+        let c = runFirst B o s in
+        let d = runLast B o s in
         let left = ownerOf B o f in
         let right = ownerOf B o s in
         let ts = runsStay B o f s a b c d in
@@ -373,21 +373,21 @@ module _ (B : Board) (o : List ℕ) (f s : ℕ) (hf : f < B .units) where
         ∙ ap₂ (swap-does B o f s (A .first) (A .last)) (sym (two A .0)) (sym (two A .1)))
         (λ x. x))
 
--- ---- each move acts exactly when the paper says, and hears 2 exactly when its choice lies outside
+-- ---- each move acts exactly when the paper says, and answers 2 exactly when its choice lies outside
 
 module _ (B : Board) (o : List ℕ) (f s : ℕ) where
-  pub reassign-acts-exactly : Heard (answerOf (reassigned B o f s)) (ReassignActs B o f s) (ReassignOutside B f s)
-  reassign-acts-exactly = heard _ _ _ _ (λ _. refl) (reassign-ruled B o f s)
+  pub reassign-acts-exactly : GivenBy (answerOf (reassigned B o f s)) (ReassignActs B o f s) (ReassignOutside B f s)
+  reassign-acts-exactly = said _ _ _ _ (λ _. refl) (reassign-ruled B o f s)
 
-  pub swap-acts-exactly : Heard (answerOf (swapped B o f s)) (SwapActs B o f s) ⊥
-  swap-acts-exactly = heard _ _ _ _ (λ _. refl) (swap-ruled B o f s)
+  pub swap-acts-exactly : GivenBy (answerOf (swapped B o f s)) (SwapActs B o f s) ⊥
+  swap-acts-exactly = said _ _ _ _ (λ _. refl) (swap-ruled B o f s)
 
   module _ (hf : f < B .units) where
-    pub reassign-run-acts-exactly : Heard (answerOf (runReassigned B o f s)) (ReassignRunActs B o f s) (ReassignRunOutside B o f s)
-    reassign-run-acts-exactly = heard _ _ _ _ (λ _. refl) (reassign-run-ruled B o f s hf)
+    pub reassign-run-acts-exactly : GivenBy (answerOf (runReassigned B o f s)) (ReassignRunActs B o f s) (ReassignRunOutside B o f s)
+    reassign-run-acts-exactly = said _ _ _ _ (λ _. refl) (reassign-run-ruled B o f s hf)
 
-    pub swap-runs-acts-exactly : s < B .units → Heard (answerOf (runsSwapped B o f s)) (SwapRunsActs B o f s) ⊥
-    swap-runs-acts-exactly hs = heard _ _ _ _ (λ _. refl) (swap-runs-ruled B o f s hf hs)
+    pub swap-runs-acts-exactly : s < B .units → GivenBy (answerOf (runsSwapped B o f s)) (SwapRunsActs B o f s) ⊥
+    swap-runs-acts-exactly hs = said _ _ _ _ (λ _. refl) (swap-runs-ruled B o f s hf hs)
 
-    pub shift-acts-exactly : Heard (answerOf (shifted B o f s)) (GrowActs B o f s ⊎ ShrinkActs B o f s) (ShiftOutside B o f s)
-    shift-acts-exactly = heard _ _ _ _ (shift-moves B o f s) (shift-ruled B o f s hf)
+    pub shift-acts-exactly : GivenBy (answerOf (shifted B o f s)) (GrowActs B o f s ⊎ ShrinkActs B o f s) (ShiftOutside B o f s)
+    shift-acts-exactly = said _ _ _ _ (shift-moves B o f s) (shift-ruled B o f s hf)

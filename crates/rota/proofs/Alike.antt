@@ -8,7 +8,7 @@ use native.Mathlib.Omega.{arith}
 use borrow.Author.Tests.{eqb-true, leb-true}
 use lib.Dec.{eqb, leb}
 use lib.ListN.{length, getD, take, length-map, List·getD-map}
-use Rattle.paper.specs.Limits.{heardOf}
+use Rattle.paper.specs.Limits.{numberOf}
 use Rattle.paper.specs.Rows.{unless}
 use Rattle.paper.specs.Count.{onto}
 use Rattle.paper.proofs.Logic.{by-test}
@@ -20,7 +20,7 @@ use Rattle.rota.specs.Moves.{Draw, draw}
 use Rattle.rota.specs.Plays.{drawsOf, ownersAfter, answers}
 use Rattle.rota.specs.Lent.{boardOf}
 use Rattle.rota.specs.Entries.{playRow, playedList, columnsEnough, played}
-use Rattle.rota.specs.Draws.{numbers, none, drawAt, playedDraws, kinds, ones, twos}
+use Rattle.rota.specs.Draws.{numbers, none, drawAt, playedDraws, draws, firsts, seconds}
 use Rattle.rota.proofs.Entered.{play-asks}
 
 -- ---- their draws
@@ -35,8 +35,9 @@ draws-suc (d ∷ ds) (suc i) h = ap (λ (l : List Draw). numbers d ∷ l) (draws
 number-same : (f : struct.Draw → ℕ) → f none ≡ 0 → (ds : List struct.Draw) (i : ℕ) → f (drawAt ds i) ≡ getD (map f ds) i 0
 number-same f z ds i = sym (List·getD-map f ds i none) ∙ ap (getD (map f ds) i) z
 
-draw-same : (ds : List struct.Draw) (i : ℕ) → numbers (drawAt ds i) ≡ draw (getD (kinds ds) i 0) (getD (ones ds) i 0) (getD (twos ds) i 0)
-unfolding kinds ones twos
+draw-same : (ds : List struct.Draw) (i : ℕ) → numbers (drawAt ds i) ≡ draw (getD (draws ds) i 0) (getD (firsts ds) i 0)
+    (getD (seconds ds) i 0)
+unfolding draws firsts seconds
 draw-same ds i =
     let k = map (λ (d : struct.Draw). d .draw) ds in
     let f = map (λ (d : struct.Draw). d .first) ds in
@@ -44,7 +45,7 @@ draw-same ds i =
     ∙ ap (λ (n : ℕ). draw (getD k i 0) n (drawAt ds i .second)) (number-same (λ d. d .first) refl ds i)
     ∙ ap (λ (n : ℕ). draw (getD k i 0) (getD f i 0) n) (number-same (λ d. d .second) refl ds i)
 
-pub draws-same : (ds : List struct.Draw) (n : ℕ) → n ≤ length ds → map numbers (take n ds) ≡ drawsOf (kinds ds) (ones ds) (twos ds) n
+pub draws-same : (ds : List struct.Draw) (n : ℕ) → n ≤ length ds → map numbers (take n ds) ≡ drawsOf (draws ds) (firsts ds) (seconds ds) n
 unfolding drawsOf
 draws-same ds zero h = refl
 draws-same ds (suc n) h =
@@ -56,8 +57,8 @@ thrice : (b : Bool) → b ≡ b && (b && b)
 thrice true = refl
 thrice false = refl
 
-pub enough-same : (ds : List struct.Draw) (n : ℕ) → leb n (length ds) ≡ columnsEnough n (kinds ds) (ones ds) (twos ds)
-unfolding columnsEnough kinds ones twos
+pub enough-same : (ds : List struct.Draw) (n : ℕ) → leb n (length ds) ≡ columnsEnough n (draws ds) (firsts ds) (seconds ds)
+unfolding columnsEnough draws firsts seconds
 enough-same ds n =
     let at : (f : struct.Draw → ℕ) → leb n (length ds) ≡ leb n (length (map f ds)) = λ f. ap (leb n) (sym (length-map ds f)) in
     thrice (leb n (length ds))
@@ -66,17 +67,17 @@ enough-same ds n =
 
 -- ---- their outcome
 
-module _ (P : Plan) (avail : List ℕ) (units : ℕ) (firsts frozen : List ℕ) (n : ℕ) (o : List ℕ) (D : Derived) (x : List ℕ) where
+module _ (P : Plan) (avail : List ℕ) (units : ℕ) (begins frozen : List ℕ) (n : ℕ) (o : List ℕ) (D : Derived) (x : List ℕ) where
   abbrev play : Bool → List Draw → Outcome
-  play enough ds = playedList P avail units firsts frozen n enough ds o D x
+  play enough ds = playedList P avail units begins frozen n enough ds o D x
 
   -- a refused play doesn't look at its draws
-  refused-same : (enough : Bool) (ds es : List Draw) → eqb (heardOf (playRow P avail units firsts frozen n enough o D x)) 0 ≡ false
+  refused-same : (enough : Bool) (ds es : List Draw) → eqb (numberOf (playRow P avail units begins frozen n enough o D x)) 0 ≡ false
       → play enough ds ≡ play enough es
   unfolding playedList outcome unless
   refused-same enough ds es f =
-      let m = heardOf (playRow P avail units firsts frozen n enough o D x) in
-      let B : Board = boardOf (P .people) (P .slots) units avail firsts frozen in
+      let m = numberOf (playRow P avail units begins frozen n enough o D x) in
+      let B : Board = boardOf (P .people) (P .slots) units avail begins frozen in
       let left : Bool → List Draw → Outcome = λ t l. record {
         number = m;
         owners = cond t (ownersAfter B o l) o;
@@ -86,13 +87,13 @@ module _ (P : Plan) (avail : List ℕ) (units : ℕ) (firsts frozen : List ℕ) 
       ap (λ (t : Bool). left t ds) f ∙ sym (ap (λ (t : Bool). left t es) f)
 
   pub played-same : (ds : List struct.Draw)
-      → playedDraws P avail units firsts frozen n ds o D x ≡ played P avail units firsts frozen n (kinds ds) (ones ds) (twos ds) o D x
+      → playedDraws P avail units begins frozen n ds o D x ≡ played P avail units begins frozen n (draws ds) (firsts ds) (seconds ds) o D x
   played-same ds =
       let e = leb n (length ds) in
-      let columns = drawsOf (kinds ds) (ones ds) (twos ds) n in
-      by-test (eqb (heardOf (playRow P avail units firsts frozen n e o D x)) 0) _
+      let columns = drawsOf (draws ds) (firsts ds) (seconds ds) n in
+      by-test (eqb (numberOf (playRow P avail units begins frozen n e o D x)) 0) _
       (λ t.
-      let A = play-asks P avail units firsts frozen n e o D x (eqb-true _ 0 t) in
-      ap (play e) (draws-same ds n (leb-true n (length ds) (A .grounds .draws))))
+      let A = play-asks P avail units begins frozen n e o D x (eqb-true _ 0 t) in
+      ap (play e) (draws-same ds n (leb-true n (length ds) (A .right .draws))))
       (λ f. refused-same e (map numbers (take n ds)) columns f)
       ∙ ap (λ (b : Bool). play b columns) (enough-same ds n)

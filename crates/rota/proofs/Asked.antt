@@ -7,42 +7,42 @@ use native.Mathlib.Omega.{arith}
 use borrow.Author.Tests.{ltb-true}
 use lib.Dec.{ltb}
 use lib.ListN.{getD, set}
-use Rattle.paper.specs.Limits.{test, heardOf}
-use Rattle.paper.specs.declared.Fault.{Fault}
-use Rattle.paper.specs.Rows.{firstOf}
+use Rattle.paper.specs.Limits.{test, numberOf}
+use Rattle.paper.specs.declared.Refusal.{Refusal}
+use Rattle.paper.specs.Rows.{refusalOf}
 use Rattle.paper.proofs.Logic.{and-true}
 use Rattle.paper.proofs.Count.{fill-none, fill-more}
-use Rattle.paper.proofs.Rows.{Asked, asked-more, passed}
+use Rattle.paper.proofs.Rows.{Checked, checked-more, passed}
 use Rattle.owners.specs.Derived.{Plan, Derived, knownBy, afresh}
 use Rattle.owners.specs.Inside.{InStep, OneOwner, HandedOver}
 use Rattle.owners.specs.Recount.{availableFor, recountTests, recounts}
 use Rattle.owners.specs.Entries.{lentRow, recountSlotsRow, Ended}
-use Rattle.owners.proofs.Entered.{Grounds, grounds, Recounted, recount-says, recount-step, ended-no, ended-yes}
+use Rattle.owners.proofs.Entered.{LentRight, lent-right, Recounted, recount-says, recount-step, ended-refused, ended-yes}
 use Rattle.rota.specs.Entries.{assignRow, assigned}
 
 module _ (P : Plan) (avail o : List ℕ) (D : Derived) where
   module _ (k w : ℕ) where
     -- the recount's row, then the three tests of assign
-    pub assign-heard : {f r : Fault} → f ≡ firstOf (recountSlotsRow P avail o D)
-        → Asked f (test 11 (ltb k (P .slots)) ∷ test 11 (knownBy (P .people) w) ∷ test 12 (availableFor avail w k) ∷ []) r
-        → r ≡ firstOf (assignRow P avail o D k w)
+    pub assign-number : {f r : Refusal} → f ≡ refusalOf (recountSlotsRow P avail o D)
+        → Checked f (test 11 (ltb k (P .slots)) ∷ test 11 (knownBy (P .people) w) ∷ test 12 (availableFor avail w k) ∷ []) r
+        → r ≡ refusalOf (assignRow P avail o D k w)
     unfolding assignRow recountSlotsRow lentRow recountTests
-    assign-heard e q = asked-more (recountSlotsRow P avail o D) _ refl e q
+    assign-number e q = checked-more (recountSlotsRow P avail o D) _ refl e q
 
     -- what assign may do where nothing stands against it
     pub record Asks : Type 0 where
-      pub on : Grounds P avail o D
+      pub on : LentRight P avail o D
       pub recount : Recounted P avail 0 [] o D
       pub slot : k < P .slots
       pub known : knownBy (P .people) w ≡ true
       pub available : availableFor avail w k ≡ true
 
-    pub assign-asks : heardOf (assignRow P avail o D k w) ≡ 0 → Asks
+    pub assign-asks : numberOf (assignRow P avail o D k w) ≡ 0 → Asks
     unfolding assignRow recountSlotsRow lentRow recountTests recounts
     assign-asks z =
         let h = passed (assignRow P avail o D k w) refl z in
         record {
-          on = grounds P avail o D (h 0) (h 1) (h 4) (h 5) (h 6) (h 7) (h 9);
+          on = lent-right P avail o D (h 0) (h 1) (h 4) (h 5) (h 6) (h 7) (h 9);
           recount =
               recount-says P avail 0 [] o D
               (and-true _ _ (h 10) (and-true _ _ (h 11) (and-true _ _ (h 12) (and-true _ _ (h 13) (h 14)))));
@@ -62,10 +62,10 @@ module _ (P : Plan) (avail o : List ℕ) (D : Derived) where
     pub asks-in-step : Asks → InStep P o D
     asks-in-step A = recount-step P avail 0 [] o D (A .on .room) (A .recount)
 
-    module _ (n : ℕ) (e : n ≡ heardOf (assignRow P avail o D k w)) where
-      pub assigned-no : (n ≡ 0 → ⊥) → Ended (assigned P avail o D k w) n o D []
+    module _ (n : ℕ) (e : n ≡ numberOf (assignRow P avail o D k w)) where
+      pub assigned-refused : (n ≡ 0 → ⊥) → Ended (assigned P avail o D k w) n o D []
       unfolding assigned
-      assigned-no z = ended-no n _ e o D [] _ _ _ z
+      assigned-refused z = ended-refused n _ e o D [] _ _ _ z
 
       pub assigned-yes : (o′ : List ℕ) (D′ : Derived) → n ≡ 0 → HandedOver P o D k (k + 1) w o′ D′ → Ended (assigned P avail o D k
           w) 0 o′ D′ []

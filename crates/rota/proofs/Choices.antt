@@ -14,7 +14,7 @@ use Rattle.paper.proofs.Count.{among-each, among-at, among-count, rises-far}
 use Rattle.rota.specs.declared.Move.{Move}
 use Rattle.rota.specs.declared.Move.the-variants.{Stay}
 use Rattle.rota.specs.Moves.{anyOf, stayIf, picked, onPick, answerOf}
-use Rattle.rota.specs.Acts.{Heard, Chosen, Outside}
+use Rattle.rota.specs.Acts.{GivenBy, Chosen, Outside}
 
 -- ---- chains of tests
 
@@ -63,8 +63,8 @@ pub record Ruled (A C : Type 0) (does : A → Move) (m : Move) : Type 0 where
   pub three : answerOf m < 3
 
 module _ (A C : Type 0) (does : A → Move) where
-  pub heard : (m : Move) → ((a : A) → answerOf (does a) ≡ 0) → Ruled A C does m → Heard (answerOf m) A C
-  heard m z J =
+  pub said : (m : Move) → ((a : A) → answerOf (does a) ≡ 0) → Ruled A C does m → GivenBy (answerOf m) A C
+  said m z J =
       let acts : A → answerOf m ≡ 0 = λ a. ap answerOf (J .acts a) ∙ z a in
       record {
         acts = (J .acted, acts);

@@ -1,4 +1,4 @@
--- A draw acts exactly when the conditions of its move hold, and hears 2 exactly when its choice lies outside. Assumes nothing.
+-- A draw acts exactly when the conditions of its move hold, and answers 2 exactly when its choice lies outside. Assumes nothing.
 use mathlib.Core.Path.{_≡_, refl, sym, ap, ap₂, _∙_}
 use mathlib.Core.Bool.{Bool, true, false, _||_}
 use mathlib.Core.List.{List}
@@ -12,11 +12,11 @@ use Rattle.rota.specs.declared.Move.{Move}
 use Rattle.rota.specs.declared.Move.the-variants.{Stay}
 use Rattle.rota.specs.Board.{Board}
 use Rattle.rota.specs.Moves.{anyOf, give, reassigned, swapped, runReassigned, runsSwapped, shifted, Draw, answerOf, decided}
-use Rattle.rota.specs.Moves.{firstOf, between, handed}
+use Rattle.rota.specs.Moves.{runFirst, between, handed}
 use Rattle.rota.specs.Plays.{answer}
-use Rattle.rota.specs.Acts.{Heard, GrowActs, ShrinkActs, Acts, reassigns, swaps, reassigns-run, swaps-runs, grows, shrinks}
+use Rattle.rota.specs.Acts.{GivenBy, GrowActs, ShrinkActs, Acts, reassigns, swaps, reassigns-run, swaps-runs, grows, shrinks}
 use Rattle.rota.specs.Acts.{HandsOver, ChoiceOutside, number, first-unit, swap-unit, swap-run-unit, person, run-person, side}
-use Rattle.rota.proofs.Choices.{Ruled, heard}
+use Rattle.rota.proofs.Choices.{Ruled, said}
 use Rattle.rota.proofs.Acts.{reassign-ruled, swap-ruled, reassign-run-ruled, swap-runs-ruled, shift-ruled, swap-does, shift-does}
 use Rattle.rota.proofs.Acts.{same-ends, boundary-at}
 
@@ -126,7 +126,7 @@ module _ (B : Board) (o : List ℕ) (d : Draw) where
   draw-acts (grows h g hf A) = is-shift hf h g ∙ shift-ruled B o f s hf .acts (inl A)
   draw-acts (shrinks h g hf A) = is-shift hf h g ∙ shift-ruled B o f s hf .acts (inr A)
 
-  -- one whose choice lies outside hears 2
+  -- one whose choice lies outside answers 2
   by-first : (f < B .units → answerOf (decided B o d) ≡ 2) → answerOf (decided B o d) ≡ 2
   by-first g = ⊎-elim g (λ (h : B .units ≤ f). ap answerOf (out-first h)) (lt-or-ge f (B .units))
 
@@ -139,7 +139,7 @@ module _ (B : Board) (o : List ℕ) (d : Draw) where
   draw-outside (run-person h g C) = by-first (λ hf. ap answerOf (is-reassign-run hf h g) ∙ reassign-run-ruled B o f s hf .beyond C)
   draw-outside (side h g C) = by-first (λ hf. ap answerOf (is-shift hf h g) ∙ shift-ruled B o f s hf .beyond C)
 
-  -- and what is heard tells them apart: a draw follows the rule of its move
+  -- and the answer tells them apart: a draw follows the rule of its move
   abbrev DrawRuled : Type 0
   DrawRuled = Ruled (Acts B o d) (ChoiceOutside B o d) (draw-does B o d) (decided B o d)
 
@@ -191,10 +191,10 @@ module _ (B : Board) (o : List ℕ) (d : Draw) where
       (λ (hf : B .units ≤ f). ruled-outside (out-first hf) (first-unit hf)) (lt-or-ge f (B .units)))
       (λ (h : 100 ≤ k). ruled-outside (out-number h) (number h)) (lt-or-ge k 100)
 
-  -- a draw acts exactly when the conditions of its move hold, hears 2 exactly when its choice lies outside, and else 1
-  pub draw-acts-exactly : Heard (answer B o d) (Acts B o d) (ChoiceOutside B o d)
+  -- a draw acts exactly when the conditions of its move hold, answers 2 exactly when its choice lies outside, and else 1
+  pub draw-acts-exactly : GivenBy (answer B o d) (Acts B o d) (ChoiceOutside B o d)
   unfolding answer
-  draw-acts-exactly = heard _ _ _ (decided B o d) (draw-moves B o d) draw-ruled
+  draw-acts-exactly = said _ _ _ (decided B o d) (draw-moves B o d) draw-ruled
 
 -- ---- the units that it hands over
 
@@ -244,7 +244,7 @@ module _ (B : Board) (o : List ℕ) (d : Draw) where
       (or-says _ _ _ _ (between-says (A .first) (A .last) u) (between-says (A .first2) (A .last2) u))
   handed-exactly (grows h g hf A) u =
       let e = boundary-at B o (d .first) (A .before) (A .last) (A .boundary) in
-      test-is _ (eqb (suc u) (firstOf B o (d .first))) _
+      test-is _ (eqb (suc u) (runFirst B o (d .first))) _
       (simp (
         le-ltb (d .kind) 35 (omega arith),
         le-ltb (d .kind) 60 (omega arith),
@@ -252,10 +252,10 @@ module _ (B : Board) (o : List ℕ) (d : Draw) where
         le-ltb (d .kind) 90 h,
         eq-eqb (d .second) 1 (A .choice),
       ))
-      (λ t. omega (arith, eqb-true (suc u) (firstOf B o (d .first)) t, e), λ q. eq-eqb _ _ (ap suc q ∙ e))
+      (λ t. omega (arith, eqb-true (suc u) (runFirst B o (d .first)) t, e), λ q. eq-eqb _ _ (ap suc q ∙ e))
   handed-exactly (shrinks h g hf A) u =
       let e = boundary-at B o (d .first) (A .before) (A .last) (A .boundary) in
-      test-is _ (eqb u (firstOf B o (d .first))) _
+      test-is _ (eqb u (runFirst B o (d .first))) _
       (simp (
         le-ltb (d .kind) 35 (omega arith),
         le-ltb (d .kind) 60 (omega arith),

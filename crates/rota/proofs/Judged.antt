@@ -138,13 +138,13 @@ module _ (q : ℕ → Bool) (people k : ℕ) where
 
 -- ---- the owners of units
 
-pub fewer-owned : (n m : ℕ) (firsts owners : List ℕ) → n ≤ m → OwnerRoom m firsts owners → OwnerRoom n firsts owners
-fewer-owned n m firsts owners h R =
+pub fewer-owned : (n m : ℕ) (begins owners : List ℕ) → n ≤ m → OwnerRoom m begins owners → OwnerRoom n begins owners
+fewer-owned n m begins owners h R =
     record { starts = omega (arith, R .starts); owned = λ u l. R .owned u (omega arith) }
 
-pub board-owned : (people slots units : ℕ) (firsts fits flags owners : List ℕ) → BoardSound (ready people slots units firsts fits flags)
-    → Even (ready people slots units firsts fits flags) owners → units ≤ length firsts → OwnerRoom units firsts owners
-board-owned people slots units firsts fits flags owners S E h =
+pub board-owned : (people slots units : ℕ) (begins fits flags owners : List ℕ) → BoardSound (ready people slots units begins fits flags)
+    → Even (ready people slots units begins fits flags) owners → units ≤ length begins → OwnerRoom units begins owners
+board-owned people slots units begins fits flags owners S E h =
     record { starts = h; owned = λ u l. omega (arith, S .rising u l, S .within u l, E .room) }
 
 -- ---- the walks to a run's ends

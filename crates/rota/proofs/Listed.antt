@@ -24,25 +24,25 @@ use Rattle.rota.specs.Draws.{numbers, drawAt, playedDraws}
 use Rattle.rota.proofs.Alike.{draws-suc}
 use Rattle.rota.proofs.Stepping.{ran-start, ran-even, ran-answers, ran-more}
 use Rattle.rota.proofs.Entered.{PlayAsks, asks-step}
-use Rattle.rota.proofs.Beginning.{begun-asks, begun-board, begun-even, begun-room, begun-yes, begun-no}
+use Rattle.rota.proofs.Beginning.{begun-asks, begun-board, begun-even, begun-room, begun-yes, begun-refused}
 
-module _ (P : Plan) (avail : List ℕ) (units : ℕ) (firsts frozen : List ℕ) (n : ℕ) (o : List ℕ) (D : Derived) (x : List ℕ)
-    (ds : List struct.Draw) (b : Begun) (w : Begins P avail units firsts frozen n (leb n (length ds)) o D x b) where
+module _ (P : Plan) (avail : List ℕ) (units : ℕ) (begins frozen : List ℕ) (n : ℕ) (o : List ℕ) (D : Derived) (x : List ℕ)
+    (ds : List struct.Draw) (b : Begun) (w : Begins P avail units begins frozen n (leb n (length ds)) o D x b) where
   abbrev B : Board
-  B = ready (P .people) (P .slots) units firsts (b .fits) (b .flags)
+  B = ready (P .people) (P .slots) units begins (b .fits) (b .flags)
 
   abbrev first : ℕ → List Draw
   first i = map numbers (take i ds)
 
-  asks : b .number ≡ 0 → PlayAsks P avail units firsts frozen n (leb n (length ds)) o D x
-  asks = begun-asks P avail units firsts frozen n (leb n (length ds)) o D x b w
+  asks : b .number ≡ 0 → PlayAsks P avail units begins frozen n (leb n (length ds)) o D x
+  asks = begun-asks P avail units begins frozen n (leb n (length ds)) o D x b w
 
   todo-all : b .number ≡ 0 → b .todo ≡ n
   unfolding unless
   todo-all z = w .todo ∙ ap (λ t. cond t n 0) (eq-eqb (b .number) 0 z)
 
   listed : b .number ≡ 0 → n ≤ length ds
-  listed z = leb-true n (length ds) (asks z .grounds .draws)
+  listed z = leb-true n (length ds) (asks z .right .draws)
 
   -- a draw is to be played: nothing stands against the play
   goes : (i : ℕ) → i < b .todo → b .number ≡ 0
@@ -62,7 +62,7 @@ module _ (P : Plan) (avail : List ℕ) (units : ℕ) (firsts frozen : List ℕ) 
       record {
         within = omega arith;
         going = λ z.
-            ran-start P B o D x (asks z .grounds .on .sound .slots-few) (w .words) (asks-step _ _ _ _ _ _ _ _ _ _ (asks z));
+            ran-start P B o D x (asks z .right .on .sound .slots-few) (w .words) (asks-step _ _ _ _ _ _ _ _ _ _ (asks z));
         still = λ _. (refl, (refl, refl));
       }
 
@@ -75,19 +75,19 @@ module _ (P : Plan) (avail : List ℕ) (units : ℕ) (firsts frozen : List ℕ) 
     pub next-within : i < b .todo → i < length ds
     next-within h = let z = goes i h in omega (arith, h, todo-all z, listed z)
 
-    pub next-asks : i < b .todo → StepAsks P B o′ D′ firsts (b .fits) (b .flags) i x′
+    pub next-asks : i < b .todo → StepAsks P B o′ D′ begins (b .fits) (b .flags) i x′
     next-asks h =
         let z = goes i h in
         let R = p .going z in
-        let room = asks z .grounds .answers in
-        let board = begun-board P avail units firsts frozen n _ o D x b w z in
+        let room = asks z .right .answers in
+        let board = begun-board P avail units begins frozen n _ o D x b w z in
         let l = ran-answers _ _ _ _ _ _ _ _ _ R (omega (arith, room, todo-all z, h, played-so-far z)) in
         record {
-          sound = asks z .grounds .on .sound;
+          sound = asks z .right .on .sound;
           in-step = R .in-step;
           board = board;
-          even = ran-even _ _ _ _ _ _ _ _ _ R board (begun-even P avail units firsts frozen n _ o D x b w z);
-          room = begun-room P avail units firsts frozen n _ o D x b w z;
+          even = ran-even _ _ _ _ _ _ _ _ _ R board (begun-even P avail units begins frozen n _ o D x b w z);
+          room = begun-room P avail units begins frozen n _ o D x b w z;
           answers = omega (arith, room, todo-all z, h, l);
         }
 
@@ -97,7 +97,7 @@ module _ (P : Plan) (avail : List ℕ) (units : ℕ) (firsts frozen : List ℕ) 
         record {
           within = omega (arith, h);
           going = λ z.
-              let G = asks z .grounds in
+              let G = asks z .right in
               subst (λ (l : List Draw). Ran P B o D x l o″ D″ x″)
               (sym (ap first (add-one i) ∙ draws-suc ds i (next-within h)))
               (ran-more P B o D x (first i) o′ D′ x′ (p .going z) i (played-so-far z) (numbers (drawAt ds i)) o″ D″ x″
@@ -105,16 +105,16 @@ module _ (P : Plan) (avail : List ℕ) (units : ℕ) (firsts frozen : List ℕ) 
           still = λ q. absurd (q (goes i h));
         }
 
-    pub playing-ends : i ≡ b .todo → Ended (playedDraws P avail units firsts frozen n ds o D x) (b .number) o′ D′ x′
+    pub playing-ends : i ≡ b .todo → Ended (playedDraws P avail units begins frozen n ds o D x) (b .number) o′ D′ x′
     playing-ends e =
         by-test (eqb (b .number) 0) _
         (λ t.
         let z = eqb-true (b .number) 0 t in
-        subst (λ (m : ℕ). Ended (playedDraws P avail units firsts frozen n ds o D x) m o′ D′ x′) (sym z)
-        (begun-yes P avail units firsts frozen n _ o D x b w z (first n) o′ D′ x′
+        subst (λ (m : ℕ). Ended (playedDraws P avail units begins frozen n ds o D x) m o′ D′ x′) (sym z)
+        (begun-yes P avail units begins frozen n _ o D x b w z (first n) o′ D′ x′
         (subst (λ (j : ℕ). Ran P B o D x (first j) o′ D′ x′) (e ∙ todo-all z) (p .going z))))
         (λ f.
         let z = eqb-false (b .number) 0 f in
         let q = p .still z in
-        let y = begun-no P avail units firsts frozen n _ o D x b w z (first n) in
-        record { heard = y .heard; owners = q .0 ∙ y .owners; derived = q .1 .0 ∙ y .derived; answers = q .1 .1 ∙ y .answers })
+        let y = begun-refused P avail units begins frozen n _ o D x b w z (first n) in
+        record { said = y .said; owners = q .0 ∙ y .owners; derived = q .1 .0 ∙ y .derived; answers = q .1 .1 ∙ y .answers })

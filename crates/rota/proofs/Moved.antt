@@ -19,7 +19,7 @@ use Rattle.rota.specs.declared.Move.the-variants.{Stay, Trade}
 use Rattle.rota.specs.Board.{Board, ownerOf, unowned, runStart, runEnd}
 use Rattle.units.specs.Domains.{inMask}
 use Rattle.rota.specs.Ready.{fitsBy}
-use Rattle.rota.specs.Moves.{anyOf, stayIf, give, movable, covers, firstOf, lastOf, picked, onPick, domainOf, reassigned, swapStays}
+use Rattle.rota.specs.Moves.{anyOf, stayIf, give, movable, covers, runFirst, runLast, picked, onPick, domainOf, reassigned, swapStays}
 use Rattle.rota.specs.Moves.{swapped}
 use Rattle.rota.specs.Moves.{others, runReassigned, runsStay, runsSwapped, grown, shrunk, shifted}
 use Rattle.rota.proofs.Runs.{run-is}
@@ -114,23 +114,23 @@ module _ (B : Board) (o : List ℕ) (f s w : ℕ) (ew : w ≡ ownerOf B o f) whe
 
   pub run-frozen : B .frozen f ≡ true → Stay 1 ≡ runReassigned B o f s
   unfolding runReassigned
-  run-frozen e = stays (run-tests (firstOf B o f) (lastOf B o f)) 1 _ 0 e
+  run-frozen e = stays (run-tests (runFirst B o f) (runLast B o f)) 1 _ 0 e
 
   pub run-unowned : w ≡ nobody → Stay 1 ≡ runReassigned B o f s
   unfolding runReassigned
-  run-unowned e = stays (run-tests (firstOf B o f) (lastOf B o f)) 1 _ 1 (nobody-owns B o f w ew e)
+  run-unowned e = stays (run-tests (runFirst B o f) (runLast B o f)) 1 _ 1 (nobody-owns B o f w ew e)
 
-  module _ (a b : ℕ) (ea : a ≡ firstOf B o f) (eb : b ≡ lastOf B o f) where
+  module _ (a b : ℕ) (ea : a ≡ runFirst B o f) (eb : b ≡ runLast B o f) where
     pub run-stuck : allIn a (b + 1) (λ u. not (B .frozen u)) ≡ false → Stay 1 ≡ runReassigned B o f s
     unfolding runReassigned
     run-stuck e =
-        stays (run-tests (firstOf B o f) (lastOf B o f)) 1 _ 2
+        stays (run-tests (runFirst B o f) (runLast B o f)) 1 _ 2
         (ap not (sym (ap₂ (movable B) ea eb) ∙ sym (movable-one B a b) ∙ e))
 
     module _ (r : Pick) (mask : ℕ) (fr : B .frozen f ≡ false) (nw : w ≡ nobody → ⊥) (mv : allIn a (b + 1) (λ u. not (B .frozen u)) ≡ true)
         (few : B .people ≤ 32) (cover : (p : ℕ) → p < 32 → inMask mask p ≡ allIn a (b + 1) (B .fits p))
         (d : r ≡ picked (among (λ p. not (eqb p w) && inMask mask p) (B .people)) s) where
-      others-as : r ≡ picked (others B (ownerOf B o f) (firstOf B o f) (lastOf B o f)) s
+      others-as : r ≡ picked (others B (ownerOf B o f) (runFirst B o f) (runLast B o f)) s
       unfolding others
       others-as =
           d ∙ ap (λ (l : List ℕ). picked l s)
@@ -138,12 +138,12 @@ module _ (B : Board) (o : List ℕ) (f s w : ℕ) (ew : w ≡ ownerOf B o f) whe
           (λ p h. ap₂ (λ (x : ℕ) (t : Bool). not (eqb p x) && t) ew
           (cover p (omega arith) ∙ covers-one B a b p ∙ ap₂ (λ (x y : ℕ). covers B x y p) ea eb)))
 
-      run-as : (v : Pick) → r ≡ v → onPick (give B (firstOf B o f) (lastOf B o f)) v ≡ runReassigned B o f s
+      run-as : (v : Pick) → r ≡ v → onPick (give B (runFirst B o f) (runLast B o f)) v ≡ runReassigned B o f s
       unfolding runReassigned anyOf
       run-as v q =
-          goes (run-tests (firstOf B o f) (lastOf B o f)) 1 _ _
+          goes (run-tests (runFirst B o f) (runLast B o f)) 1 _ _
           (simp (fr, somebody-owns B o f w ew nw, sym (ap₂ (movable B) ea eb) ∙ sym (movable-one B a b) ∙ mv))
-          (ap (onPick (give B (firstOf B o f) (lastOf B o f))) (sym q ∙ others-as))
+          (ap (onPick (give B (runFirst B o f) (runLast B o f))) (sym q ∙ others-as))
 
       pub run-nobody : r ≡ Nobody → Stay 1 ≡ runReassigned B o f s
       run-nobody q = run-as Nobody q
@@ -165,10 +165,10 @@ some-fails true true false t X e g h i j = i refl
 some-fails true true true t X e g h i j = j e
 
 module _ (B : Board) (o : List ℕ) (f s : ℕ) where
-  runs-stay : (k : ℕ) → getD (runsStay B o f s (firstOf B o f) (lastOf B o f) (firstOf B o s) (lastOf B o s)) k false ≡ true
+  runs-stay : (k : ℕ) → getD (runsStay B o f s (runFirst B o f) (runLast B o f) (runFirst B o s) (runLast B o s)) k false ≡ true
       → Stay 1 ≡ runsSwapped B o f s
   unfolding runsSwapped
-  runs-stay k e = stays (runsStay B o f s (firstOf B o f) (lastOf B o f) (firstOf B o s) (lastOf B o s)) 1 _ k e
+  runs-stay k e = stays (runsStay B o f s (runFirst B o f) (runLast B o f) (runFirst B o s) (runLast B o s)) 1 _ k e
 
   pub runs-first-frozen : B .frozen f ≡ true → Stay 1 ≡ runsSwapped B o f s
   runs-first-frozen e = runs-stay 0 e
@@ -186,7 +186,7 @@ module _ (B : Board) (o : List ℕ) (f s : ℕ) where
     pub runs-owner : w ≡ v → Stay 1 ≡ runsSwapped B o f s
     runs-owner e = runs-stay 5 (eq-eqb _ _ (sym ew ∙ e ∙ ev))
 
-    module _ (a b c d : ℕ) (ea : a ≡ firstOf B o f) (eb : b ≡ lastOf B o f) (ec : c ≡ firstOf B o s) (ed : d ≡ lastOf B o s) where
+    module _ (a b c d : ℕ) (ea : a ≡ runFirst B o f) (eb : b ≡ runLast B o f) (ec : c ≡ runFirst B o s) (ed : d ≡ runLast B o s) where
       pub runs-same : a ≡ c → Stay 1 ≡ runsSwapped B o f s
       runs-same e = runs-stay 4 (eq-eqb _ _ (sym ea ∙ e ∙ ec))
 
@@ -202,17 +202,17 @@ module _ (B : Board) (o : List ℕ) (f s : ℕ) where
       abbrev second-fits : Bool
       second-fits = allIn c (d + 1) (B .fits w)
 
-      first-moves-is : first-moves ≡ movable B (firstOf B o f) (lastOf B o f)
+      first-moves-is : first-moves ≡ movable B (runFirst B o f) (runLast B o f)
       first-moves-is = movable-one B a b ∙ ap₂ (movable B) ea eb
 
-      second-moves-is : second-moves ≡ movable B (firstOf B o s) (lastOf B o s)
+      second-moves-is : second-moves ≡ movable B (runFirst B o s) (runLast B o s)
       second-moves-is = movable-one B c d ∙ ap₂ (movable B) ec ed
 
-      first-fits-is : first-fits ≡ covers B (firstOf B o f) (lastOf B o f) (ownerOf B o s)
-      first-fits-is = covers-one B a b v ∙ ap₂ (λ (x y : ℕ). covers B x y v) ea eb ∙ ap (covers B (firstOf B o f) (lastOf B o f)) ev
+      first-fits-is : first-fits ≡ covers B (runFirst B o f) (runLast B o f) (ownerOf B o s)
+      first-fits-is = covers-one B a b v ∙ ap₂ (λ (x y : ℕ). covers B x y v) ea eb ∙ ap (covers B (runFirst B o f) (runLast B o f)) ev
 
-      second-fits-is : second-fits ≡ covers B (firstOf B o s) (lastOf B o s) (ownerOf B o f)
-      second-fits-is = covers-one B c d w ∙ ap₂ (λ (x y : ℕ). covers B x y w) ec ed ∙ ap (covers B (firstOf B o s) (lastOf B o s)) ew
+      second-fits-is : second-fits ≡ covers B (runFirst B o s) (runLast B o s) (ownerOf B o f)
+      second-fits-is = covers-one B c d w ∙ ap₂ (λ (x y : ℕ). covers B x y w) ec ed ∙ ap (covers B (runFirst B o s) (runLast B o s)) ew
 
       pub runs-unfit : first-moves && (second-moves && (first-fits && second-fits)) ≡ false → Stay 1 ≡ runsSwapped B o f s
       runs-unfit e =
@@ -229,13 +229,13 @@ module _ (B : Board) (o : List ℕ) (f s : ℕ) where
       unfolding runsSwapped anyOf
       runs-act m x y h i j k e t =
           let z = four first-moves second-moves first-fits second-fits e in
-          goes (runsStay B o f s (firstOf B o f) (lastOf B o f) (firstOf B o s) (lastOf B o s)) 1 _ m
+          goes (runsStay B o f s (runFirst B o f) (runLast B o f) (runFirst B o s) (runLast B o s)) 1 _ m
           (simp (
             x,
             y,
             somebody-owns B o f w ew h,
             somebody-owns B o s v ev i,
-            ne-eqb (firstOf B o f) (firstOf B o s) (λ q. j (ea ∙ q ∙ sym ec)),
+            ne-eqb (runFirst B o f) (runFirst B o s) (λ q. j (ea ∙ q ∙ sym ec)),
             ne-eqb (ownerOf B o f) (ownerOf B o s) (λ q. k (ew ∙ q ∙ sym ev)),
             sym first-moves-is ∙ z .0,
             sym second-moves-is ∙ z .1,
@@ -243,8 +243,8 @@ module _ (B : Board) (o : List ℕ) (f s : ℕ) where
             sym second-fits-is ∙ z .3,
           ))
           (t ∙ ap₂ (λ (p q : ℕ). Trade (B .from p) (B .upto q) v (B .from c) (B .upto d) w) ea eb
-          ∙ ap₂ (λ (p q : ℕ). Trade (B .from (firstOf B o f)) (B .upto (lastOf B o f)) v (B .from p) (B .upto q) w) ec ed
-          ∙ ap₂ (λ (p q : ℕ). Trade (B .from (firstOf B o f)) (B .upto (lastOf B o f)) p (B .from (firstOf B o s)) (B .upto (lastOf
+          ∙ ap₂ (λ (p q : ℕ). Trade (B .from (runFirst B o f)) (B .upto (runLast B o f)) v (B .from p) (B .upto q) w) ec ed
+          ∙ ap₂ (λ (p q : ℕ). Trade (B .from (runFirst B o f)) (B .upto (runLast B o f)) p (B .from (runFirst B o s)) (B .upto (runLast
           B o s)) q) ev ew)
 
 -- ---- shift
@@ -316,8 +316,8 @@ module _ (B : Board) (o : List ℕ) (f s w : ℕ) (ew : w ≡ ownerOf B o f) whe
   shift-unowned e = stays shift-tests 1 _ 1 (nobody-owns B o f w ew e)
 
   module _ (x : B .frozen f ≡ false) (n : w ≡ nobody → ⊥) where
-    shift-on : (m : Move) → m ≡ stayIf (ltb 1 s ∷ []) 2 (cond (eqb s 1) (grown B (ownerOf B o f) (firstOf B o f)) (shrunk B o
-        (firstOf B o f) (lastOf B o f)))
+    shift-on : (m : Move) → m ≡ stayIf (ltb 1 s ∷ []) 2 (cond (eqb s 1) (grown B (ownerOf B o f) (runFirst B o f)) (shrunk B o
+        (runFirst B o f) (runLast B o f)))
         → m ≡ shifted B o f s
     unfolding shifted anyOf
     shift-on m e = goes shift-tests 1 _ m (simp (x, somebody-owns B o f w ew n)) e
@@ -325,19 +325,19 @@ module _ (B : Board) (o : List ℕ) (f s w : ℕ) (ew : w ≡ ownerOf B o f) whe
     pub shift-beyond : 1 < s → Stay 2 ≡ shifted B o f s
     shift-beyond h = shift-on (Stay 2) (stays (ltb 1 s ∷ []) 2 _ 0 (lt-ltb 1 s h))
 
-    module _ (m : Move) (a : ℕ) (l : s ≤ 1) (ea : a ≡ firstOf B o f) where
+    module _ (m : Move) (a : ℕ) (l : s ≤ 1) (ea : a ≡ runFirst B o f) where
       pub shift-grows : s ≡ 1 → m ≡ grown B w a → m ≡ shifted B o f s
       unfolding anyOf
       shift-grows q e =
           shift-on m
           (goes (ltb 1 s ∷ []) 2 _ m (simp (le-ltb 1 s l))
-          (e ∙ ap₂ (grown B) ew ea ∙ sym (ap (λ (t : Bool). cond t (grown B (ownerOf B o f) (firstOf B o f)) (shrunk B o (firstOf B
-          o f) (lastOf B o f))) (eq-eqb s 1 q))))
+          (e ∙ ap₂ (grown B) ew ea ∙ sym (ap (λ (t : Bool). cond t (grown B (ownerOf B o f) (runFirst B o f)) (shrunk B o (runFirst B
+          o f) (runLast B o f))) (eq-eqb s 1 q))))
 
-      pub shift-shrinks : (b : ℕ) → b ≡ lastOf B o f → (s ≡ 1 → ⊥) → m ≡ shrunk B o a b → m ≡ shifted B o f s
+      pub shift-shrinks : (b : ℕ) → b ≡ runLast B o f → (s ≡ 1 → ⊥) → m ≡ shrunk B o a b → m ≡ shifted B o f s
       unfolding anyOf
       shift-shrinks b eb q e =
           shift-on m
           (goes (ltb 1 s ∷ []) 2 _ m (simp (le-ltb 1 s l))
-          (e ∙ ap₂ (shrunk B o) ea eb ∙ sym (ap (λ (t : Bool). cond t (grown B (ownerOf B o f) (firstOf B o f)) (shrunk B o (firstOf
-          B o f) (lastOf B o f))) (ne-eqb s 1 q))))
+          (e ∙ ap₂ (shrunk B o) ea eb ∙ sym (ap (λ (t : Bool). cond t (grown B (ownerOf B o f) (runFirst B o f)) (shrunk B o (runFirst
+          B o f) (runLast B o f))) (ne-eqb s 1 q))))

@@ -8,7 +8,7 @@ use borrow.Author.Tests.{lt-ltb, le-leb, eqb-true, eqb-false}
 use lib.Dec.{eqb, ltb}
 use lib.ListN.{length, getD, set, drop, length-set}
 use lib.Seq.{getD-drop, getD-set-same, getD-set-other, getD-append-seam, getD-append-add}
-use Rattle.paper.specs.Limits.{nobody, heardOf}
+use Rattle.paper.specs.Limits.{nobody, numberOf}
 use Rattle.paper.specs.Rows.{unless}
 use Rattle.paper.proofs.Rows.{passed, all-pass}
 use Rattle.paper.specs.Count.{sum, all, allIn, onto}
@@ -28,13 +28,13 @@ use Rattle.owners.specs.Derived.{Plan, Derived, knownBy, worked, uncovered, afr
 use Rattle.owners.specs.Inside.{PlanSound}
 use Rattle.owners.specs.Recount.{availableFor, recountTests, recounts}
 use Rattle.owners.specs.Entries.{Outcome, outcome, lentRow, recountRow, recountSlotsRow, fromSlotsRow, fromSlots}
-use Rattle.rota.specs.Acts.{Heard, Acts, ChoiceOutside, ownerThen}
+use Rattle.rota.specs.Acts.{GivenBy, Acts, ChoiceOutside, ownerThen}
 use Rattle.owners.proofs.Minutes.{known-nobody, known-person, minutes-total}
 use Rattle.rota.proofs.Plays.{play-even, play-frozen, play-covered, play-only, play-length, play-past, owners-append}
 use Rattle.rota.proofs.Plays.{answers-append, answers-length, draws-length}
 use Rattle.owners.proofs.Steps.{afresh-same, afresh-again, afresh-step, afresh-lengths}
 use Rattle.owners.proofs.Sets.{Beside, sets-out}
-use Rattle.owners.proofs.Entered.{Grounds, Recounted, recount-says, says-recount, recount-step, slots-asks}
+use Rattle.owners.proofs.Entered.{LentRight, Recounted, recount-says, says-recount, recount-step, slots-asks}
 use Rattle.rota.proofs.Entered.{PlayAsks, asks-sound, asks-even}
 use Rattle.rota.proofs.Drawn.{draw-acts-exactly}
 use Rattle.rota.proofs.HandsOver.{draw-hands-over}
@@ -42,70 +42,70 @@ use Rattle.rota.proofs.Asked.{Asks}
 
 -- ---- a play that is accepted
 
-module _ (P : Plan) (avail : List ℕ) (units : ℕ) (firsts frozen : List ℕ) (n : ℕ) (enough : Bool) (o : List ℕ) (D : Derived) (x :
-    List ℕ) (A : PlayAsks P avail units firsts frozen n enough o D x) (ds : List Draw) where
+module _ (P : Plan) (avail : List ℕ) (units : ℕ) (begins frozen : List ℕ) (n : ℕ) (enough : Bool) (o : List ℕ) (D : Derived) (x :
+    List ℕ) (A : PlayAsks P avail units begins frozen n enough o D x) (ds : List Draw) where
   abbrev B : Board
-  B = boardOf (P .people) (P .slots) units avail firsts frozen
+  B = boardOf (P .people) (P .slots) units avail begins frozen
 
   abbrev after : List ℕ
   after = ownersAfter B o ds
 
   sound : BoardSound B
-  sound = asks-sound P avail units firsts frozen n enough o D x A
+  sound = asks-sound P avail units begins frozen n enough o D x A
 
   even : Even B o
-  even = asks-even P avail units firsts frozen n enough o D x A
+  even = asks-even P avail units begins frozen n enough o D x A
 
   -- a slot lies in its unit
-  in-unit : (k : ℕ) → k < P .slots → InUnit B (unitOf units firsts k) k
+  in-unit : (k : ℕ) → k < P .slots → InUnit B (unitOf units begins k) k
   in-unit k h =
-      let I = unit-of-in (P .slots) units firsts (A .grounds .units-ok) k h in
+      let I = unit-of-in (P .slots) units begins (A .right .units-ok) k h in
       record { below = I .known; from = I .from; upto = I .to }
 
   -- frozen slots keep their owners
-  frozen-unit : (u k : ℕ) → InUnit B u k → eqb (slot frozen 0 k) 1 ≡ true → frozenUnit (P .slots) units firsts frozen u ≡ true
+  frozen-unit : (u k : ℕ) → InUnit B u k → eqb (slot frozen 0 k) 1 ≡ true → frozenUnit (P .slots) units begins frozen u ≡ true
   unfolding frozenUnit unitFrozen clear unfrozen
   frozen-unit u k I z =
-      by-test (allIn (unitStart firsts u) (unitEnd (P .slots) units firsts u) (λ j. not (eqb (slot frozen 0 j) 1))) _
+      by-test (allIn (unitStart begins u) (unitEnd (P .slots) units begins u) (λ j. not (eqb (slot frozen 0 j) 1))) _
       (λ t.
-      let e = in-each (unitStart firsts u) (unitEnd (P .slots) units firsts u) (λ j. not (eqb (slot frozen 0 j) 1)) t k (I .from) (I
+      let e = in-each (unitStart begins u) (unitEnd (P .slots) units begins u) (λ j. not (eqb (slot frozen 0 j) 1)) t k (I .from) (I
       .upto) in
       absurd (mathlib.Core.Bool.false≢true (sym (ap not z) ∙ e)))
       (λ f. ap₂ _&&_ (lt-ltb u units (I .below)) (ap not f))
 
   pub frozen-slots-keep : (k : ℕ) → k < P .slots → eqb (slot frozen 0 k) 1 ≡ true → getD after k 0 ≡ getD o k 0
   frozen-slots-keep k h z =
-      let u = unitOf units firsts k in
+      let u = unitOf units begins k in
       play-frozen B sound u k (in-unit k h) (frozen-unit u k (in-unit k h) z) o ds even
 
   -- no covered slot becomes uncovered
   pub covered-stays : (k : ℕ) → k < P .slots → (getD o k 0 ≡ nobody → ⊥) → getD after k 0 ≡ nobody → ⊥
-  covered-stays k h = play-covered B sound (unitOf units firsts k) k (in-unit k h) o ds even
+  covered-stays k h = play-covered B sound (unitOf units begins k) k (in-unit k h) o ds even
 
   -- only slots of units that an acting draw hands over, at its step, change owner
-  pub only-handed-over : (k : ℕ) → k < P .slots → touched B o ds (unitOf units firsts k) ≡ false → getD after k 0 ≡ getD o k 0
-  only-handed-over k h = play-only B sound (unitOf units firsts k) k (in-unit k h) o ds even
+  pub only-handed-over : (k : ℕ) → k < P .slots → touched B o ds (unitOf units begins k) ≡ false → getD after k 0 ≡ getD o k 0
+  only-handed-over k h = play-only B sound (unitOf units begins k) k (in-unit k h) o ds even
 
   -- every owner is known and available, units are uniform, sets and minutes are right: the rota passes the recount again
   after-even : Even B after
   after-even = play-even B sound o ds even
 
-  owner-after : (k : ℕ) → k < P .slots → getD after k 0 ≡ ownerOf B after (unitOf units firsts k)
-  owner-after k h = after-even .same (unitOf units firsts k) k (in-unit k h)
+  owner-after : (k : ℕ) → k < P .slots → getD after k 0 ≡ ownerOf B after (unitOf units begins k)
+  owner-after k h = after-even .same (unitOf units begins k) k (in-unit k h)
 
-  able-at : (p u k : ℕ) → InUnit B u k → fitsUnit (P .people) (P .slots) units avail firsts p u ≡ true → available avail p k ≡ true
+  able-at : (p u k : ℕ) → InUnit B u k → fitsUnit (P .people) (P .slots) units avail begins p u ≡ true → available avail p k ≡ true
   unfolding fitsUnit able
   able-at p u k I e =
       let a = both (ltb u units) _ e in
       let b = both (ltb p (P .people)) _ (a .1) in
-      in-each (unitStart firsts u) (unitEnd (P .slots) units firsts u) (available avail p) (b .1) k (I .from) (I .upto)
+      in-each (unitStart begins u) (unitEnd (P .slots) units begins u) (available avail p) (b .1) k (I .from) (I .upto)
 
   pub owners-known : (k : ℕ) → k < P .slots → knownBy (P .people) (getD after k 0) ≡ true
   owners-known k h =
       by-test (eqb (getD after k 0) nobody) _
       (λ t. ap (knownBy (P .people)) (eqb-true _ _ t) ∙ known-nobody (P .people))
       (λ f.
-      let m = after-even .manned (unitOf units firsts k) (in-unit k h .below) (λ q. eqb-false _ _ f (owner-after k h ∙ q)) in
+      let m = after-even .manned (unitOf units begins k) (in-unit k h .below) (λ q. eqb-false _ _ f (owner-after k h ∙ q)) in
       known-person (P .people) (getD after k 0) (omega (arith, owner-after k h, m .0)))
 
   pub owners-available : (k : ℕ) → k < P .slots → availableFor avail (getD after k 0) k ≡ true
@@ -114,15 +114,15 @@ module _ (P : Plan) (avail : List ℕ) (units : ℕ) (firsts frozen : List ℕ) 
       by-test (eqb (getD after k 0) nobody) _ (λ t. ap (λ (b : Bool). b || available avail (getD after k 0) k) t)
       (λ f.
       let I = in-unit k h in
-      let m = after-even .manned (unitOf units firsts k) (I .below) (λ q. eqb-false _ _ f (owner-after k h ∙ q)) in
-      let e : available avail (getD after k 0) k ≡ true = able-at (getD after k 0) (unitOf units firsts k) k I
-      (ap (λ (w : ℕ). fitsUnit (P .people) (P .slots) units avail firsts w (unitOf units firsts k)) (owner-after k h) ∙ m .1) in
+      let m = after-even .manned (unitOf units begins k) (I .below) (λ q. eqb-false _ _ f (owner-after k h ∙ q)) in
+      let e : available avail (getD after k 0) k ≡ true = able-at (getD after k 0) (unitOf units begins k) k I
+      (ap (λ (w : ℕ). fitsUnit (P .people) (P .slots) units avail begins w (unitOf units begins k)) (owner-after k h) ∙ m .1) in
       ap₂ _||_ f e)
 
   -- the next draw, if it acts, hands each unit to the owner that its rule gives it
   pub next-hands-over : (d : Draw) (A : Acts B after d) (k : ℕ) → k < P .slots
-      → getD (step B after d) k 0 ≡ ownerThen B after d A (unitOf units firsts k)
-  next-hands-over d A k h = draw-hands-over B sound after after-even (unitOf units firsts k) k (in-unit k h) d A
+      → getD (step B after d) k 0 ≡ ownerThen B after d A (unitOf units begins k)
+  next-hands-over d A k h = draw-hands-over B sound after after-even (unitOf units begins k) k (in-unit k h) d A
 
   -- owners past the slots stay, and so do bits beside the slots and minutes past the people
   pub owners-past-stay : (k : ℕ) → P .slots ≤ k → getD after k 0 ≡ getD o k 0
@@ -132,18 +132,18 @@ module _ (P : Plan) (avail : List ℕ) (units : ℕ) (firsts frozen : List ℕ) 
       × ((p : ℕ) → P .people ≤ p → getD (afresh P after D .minutes) p 0 ≡ getD (D .minutes) p 0)
   unfolding afresh
   derived-past-stay =
-      let g = A .grounds .on in (
+      let g = A .right .on in (
         λ i b. sets-out (P .slots) after (D .sets) (g .sound .slots-few) (P .people) (g .room .sets-room) i b,
         λ p h. getD-over-out (worked P after) (P .people) (D .minutes) p h,
       )
 
-  pub played-recounts : recounts P avail units firsts after (afresh P after D) ≡ true
+  pub played-recounts : recounts P avail units begins after (afresh P after D) ≡ true
   unfolding ownerOf
   played-recounts =
-      let g = A .grounds .on in
+      let g = A .right .on in
       let J = afresh-step P after D (g .sound .slots-few) (omega (arith, play-length B o ds, g .room .owners-room)) (g .room .sets-room)
       (g .room .minutes-room) owners-known in
-      says-recount P avail units firsts after (afresh P after D)
+      says-recount P avail units begins after (afresh P after D)
       record {
         known = owners-known;
         available = owners-available;
@@ -154,10 +154,10 @@ module _ (P : Plan) (avail : List ℕ) (units : ℕ) (firsts frozen : List ℕ) 
 
 -- ---- every rota that passes the recount
 
-module _ (P : Plan) (S : PlanSound P) (avail : List ℕ) (units : ℕ) (firsts o : List ℕ) (D : Derived) (e : recounts P avail units
-    firsts o D ≡ true) where
-  counted : Recounted P avail units firsts o D
-  counted = recount-says P avail units firsts o D e
+module _ (P : Plan) (S : PlanSound P) (avail : List ℕ) (units : ℕ) (begins o : List ℕ) (D : Derived) (e : recounts P avail units
+    begins o D ≡ true) where
+  counted : Recounted P avail units begins o D
+  counted = recount-says P avail units begins o D e
 
   -- all persons' minutes plus the uncovered ones are the sum of the lent slots
   pub minutes-and-uncovered : sum (P .people) (λ p. getD (D .minutes) p 0) + uncovered P o ≡ demandOf (P .slots) (P .starts) (P .ends)
@@ -176,23 +176,23 @@ pub record Copied (P : Plan) (D E D′ : Derived) : Type 0 where
   pub lengths : (length (D′ .sets) ≡ length (E .sets)) × (length (D′ .minutes) ≡ length (E .minutes))
 
 -- a rota that passes with units passes without
-pub recount-slots-too : (counts room : Bool) (P : Plan) (avail : List ℕ) (units : ℕ) (firsts o : List ℕ) (D : Derived)
-    → heardOf (recountRow counts room P avail units firsts o D) ≡ 0 → heardOf (recountSlotsRow P avail o D) ≡ 0
+pub recount-slots-too : (counts room : Bool) (P : Plan) (avail : List ℕ) (units : ℕ) (begins o : List ℕ) (D : Derived)
+    → numberOf (recountRow counts room P avail units begins o D) ≡ 0 → numberOf (recountSlotsRow P avail o D) ≡ 0
 unfolding recountRow recountSlotsRow lentRow recountTests all
-recount-slots-too counts room P avail units firsts o D e =
-    let h = passed (recountRow counts room P avail units firsts o D) refl e in
+recount-slots-too counts room P avail units begins o D e =
+    let h = passed (recountRow counts room P avail units begins o D) refl e in
     all-pass (recountSlotsRow P avail o D)
     (h 0, (h 1, (refl, (h 3, (h 4, (h 5, (h 6, (h 7, (refl, (h 9, (h 11, (h 12, (refl, (h 14, (h 15, tt)))))))))))))))
 
-module _ (P : Plan) (avail o : List ℕ) (D : Derived) (e : heardOf (recountSlotsRow P avail o D) ≡ 0) where
-  on : Grounds P avail o D
+module _ (P : Plan) (avail o : List ℕ) (D : Derived) (e : numberOf (recountSlotsRow P avail o D) ≡ 0) where
+  on : LentRight P avail o D
   on = slots-asks P avail o D e .0
 
   right : Recounted P avail 0 [] o D
   right = recount-says P avail 0 [] o D (slots-asks P avail o D e .1)
 
   module _ (E : Derived) (rs : 16 * P .people ≤ length (E .sets)) (rm : P .people ≤ length (E .minutes)) where
-    accepted : heardOf (fromSlotsRow P avail o E) ≡ 0
+    accepted : numberOf (fromSlotsRow P avail o E) ≡ 0
     unfolding fromSlotsRow recountSlotsRow lentRow recountTests
     accepted =
         let h = passed (recountSlotsRow P avail o D) refl e in
@@ -308,11 +308,11 @@ module _ (B : Board) (o ks fs ss x : List ℕ) (n i : ℕ) (h : i < n) where
   abbrev found : List ℕ
   found = ownersAfter B o (drawsOf ks fs ss i)
 
-  abbrev heard-at : ℕ
-  heard-at = getD (onto (answers B o (drawsOf ks fs ss n)) x) i 0
+  abbrev number-at : ℕ
+  number-at = getD (onto (answers B o (drawsOf ks fs ss n)) x) i 0
 
   -- answer i is that of draw i, to the owners that the draws before it leave
-  pub answer-at : heard-at ≡ answer B found drawn
+  pub answer-at : number-at ≡ answer B found drawn
   unfolding onto drawsOf answers
   answer-at =
       let m = n - suc i in
@@ -329,9 +329,9 @@ module _ (B : Board) (o ks fs ss x : List ℕ) (n i : ℕ) (h : i < n) where
       ap (λ (y : List ℕ). getD (y ++ drop (length y) x) i 0) w ∙ at-seam l _ _ a i z
 
   -- it is 0 exactly when the conditions of that draw's move hold there, 2 exactly when its choice lies outside, 1 exactly when neither
-  pub answers-exactly : Heard heard-at (Acts B found drawn) (ChoiceOutside B found drawn)
+  pub answers-exactly : GivenBy number-at (Acts B found drawn) (ChoiceOutside B found drawn)
   answers-exactly =
-      subst (λ (r : ℕ). Heard r (Acts B found drawn) (ChoiceOutside B found drawn)) (sym answer-at)
+      subst (λ (r : ℕ). GivenBy r (Acts B found drawn) (ChoiceOutside B found drawn)) (sym answer-at)
       (draw-acts-exactly B found drawn)
 
 -- answers past the draws stay

@@ -11,7 +11,7 @@ use Rattle.rota.specs.Board.{Board, ownerOf, RunOf}
 use Rattle.rota.specs.Moves.{Draw, covers, between}
 
 -- r is 0 exactly when the draw acts, 2 exactly when its choice lies outside, and 1 exactly when neither
-pub record Heard (r : ℕ) (Acting Beyond : Type 0) : Type 0 where
+pub record GivenBy (r : ℕ) (Acting Beyond : Type 0) : Type 0 where
   pub acts : (r ≡ 0) ↔ Acting
   pub outside : (r ≡ 2) ↔ Beyond
   pub no-move : (r ≡ 1) ↔ (Acting → ⊥) × (Beyond → ⊥)

@@ -22,13 +22,13 @@ pub record Board : Type 0 where
 
 -- units by their starts; whoever fits them, and whichever are frozen
 abbrev pub boardWith : ℕ → ℕ → ℕ → List ℕ → (ℕ → ℕ → Bool) → (ℕ → Bool) → Board
-boardWith people slots units firsts fits frozen =
+boardWith people slots units begins fits frozen =
     record {
       people = people;
       slots = slots;
       units = units;
-      from = unitStart firsts;
-      upto = unitEnd slots units firsts;
+      from = unitStart begins;
+      upto = unitEnd slots units begins;
       fits = fits;
       frozen = frozen;
     }

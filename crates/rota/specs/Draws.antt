@@ -15,8 +15,8 @@ numbers d = draw (d .draw) (d .first) (d .second)
 
 -- the list has n structs, and the first n are the draws
 abbrev pub playedDraws : Plan → List ℕ → ℕ → List ℕ → List ℕ → ℕ → List struct.Draw → List ℕ → Derived → List ℕ → Outcome
-playedDraws P avail units firsts frozen n ds o D x =
-    playedList P avail units firsts frozen n (leb n (length ds)) (map numbers (take n ds)) o D x
+playedDraws P avail units begins frozen n ds o D x =
+    playedList P avail units begins frozen n (leb n (length ds)) (map numbers (take n ds)) o D x
 
 -- the struct at i; past the end, one of zeros
 abbrev pub none : struct.Draw
@@ -26,11 +26,11 @@ abbrev pub drawAt : List struct.Draw → ℕ → struct.Draw
 drawAt ds i = getD ds i none
 
 -- the same draws in three columns
-unfoldable pub kinds : List struct.Draw → List ℕ
-kinds ds = map (λ d. d .draw) ds
+unfoldable pub draws : List struct.Draw → List ℕ
+draws ds = map (λ d. d .draw) ds
 
-unfoldable pub ones : List struct.Draw → List ℕ
-ones ds = map (λ d. d .first) ds
+unfoldable pub firsts : List struct.Draw → List ℕ
+firsts ds = map (λ d. d .first) ds
 
-unfoldable pub twos : List struct.Draw → List ℕ
-twos ds = map (λ d. d .second) ds
+unfoldable pub seconds : List struct.Draw → List ℕ
+seconds ds = map (λ d. d .second) ds

@@ -13,16 +13,16 @@ use Rattle.rota.specs.Ready.{fitsBy, frozenBy}
 
 -- a known person is available for every slot of a unit
 unfoldable pub fitsUnit : ℕ → ℕ → ℕ → List ℕ → List ℕ → ℕ → ℕ → Bool
-fitsUnit people slots units avail firsts p u =
-    ltb u units && (ltb p people && able avail (unitStart firsts u) (unitEnd slots units firsts u) p)
+fitsUnit people slots units avail begins p u =
+    ltb u units && (ltb p people && able avail (unitStart begins u) (unitEnd slots units begins u) p)
 
 -- some slot of a unit is frozen
 unfoldable pub frozenUnit : ℕ → ℕ → List ℕ → List ℕ → ℕ → Bool
-frozenUnit slots units firsts frozen u = ltb u units && unitFrozen frozen slots units firsts u
+frozenUnit slots units begins frozen u = ltb u units && unitFrozen frozen slots units begins u
 
 abbrev pub boardOf : ℕ → ℕ → ℕ → List ℕ → List ℕ → List ℕ → Board
-boardOf people slots units avail firsts frozen =
-    boardWith people slots units firsts (fitsUnit people slots units avail firsts) (frozenUnit slots units firsts frozen)
+boardOf people slots units avail begins frozen =
+    boardWith people slots units begins (fitsUnit people slots units avail begins) (frozenUnit slots units begins frozen)
 
 -- ---- what is worked out once a call
 
@@ -37,8 +37,8 @@ markFound found.Nothing = 0
 markFound (found.Refused n) = 1
 
 -- the masks and the marks are those of the definitions
-pub record FitsRight (people slots units : ℕ) (avail firsts fits : List ℕ) : Type 0 where
-  pub each : (p u : ℕ) → fitsBy fits p u ≡ fitsUnit people slots units avail firsts p u
+pub record FitsRight (people slots units : ℕ) (avail begins fits : List ℕ) : Type 0 where
+  pub each : (p u : ℕ) → fitsBy fits p u ≡ fitsUnit people slots units avail begins p u
 
-pub record FrozenRight (slots units : ℕ) (firsts frozen flags : List ℕ) : Type 0 where
-  pub each : (u : ℕ) → frozenBy flags u ≡ frozenUnit slots units firsts frozen u
+pub record FrozenRight (slots units : ℕ) (begins frozen flags : List ℕ) : Type 0 where
+  pub each : (u : ℕ) → frozenBy flags u ≡ frozenUnit slots units begins frozen u

@@ -32,11 +32,11 @@ unfoldable pub covers : Board → ℕ → ℕ → ℕ → Bool
 covers B a b p = allIn a (suc b) (B .fits p)
 
 -- the ends of the run of unit u
-unfoldable pub firstOf : Board → List ℕ → ℕ → ℕ
-firstOf B o u = runStart (ownerOf B o) u
+unfoldable pub runFirst : Board → List ℕ → ℕ → ℕ
+runFirst B o u = runStart (ownerOf B o) u
 
-unfoldable pub lastOf : Board → List ℕ → ℕ → ℕ
-lastOf B o u = runEnd (B .units) (ownerOf B o) u
+unfoldable pub runLast : Board → List ℕ → ℕ → ℕ
+runLast B o u = runEnd (B .units) (ownerOf B o) u
 
 -- ---- the choice from a list of people: none there 1, the choice not below their number 2
 
@@ -78,8 +78,8 @@ others B w a b = among (λ p. not (eqb p w) && covers B a b p) (B .people)
 -- reassign run: unit frozen or unowned, a frozen unit in its run, nobody else able to cover it: 1; second not below their number 2
 unfoldable pub runReassigned : Board → List ℕ → ℕ → ℕ → Move
 runReassigned B o f s =
-    let a = firstOf B o f in
-    let b = lastOf B o f in
+    let a = runFirst B o f in
+    let b = runLast B o f in
     stayIf (B .frozen f ∷ unowned B o f ∷ not (movable B a b) ∷ []) 1
     (onPick (give B a b) (picked (others B (ownerOf B o f) a b) s))
 
@@ -91,10 +91,10 @@ runsStay B o f s a b c d =
 
 unfoldable pub runsSwapped : Board → List ℕ → ℕ → ℕ → Move
 runsSwapped B o f s =
-    let a = firstOf B o f in
-    let b = lastOf B o f in
-    let c = firstOf B o s in
-    let d = lastOf B o s in
+    let a = runFirst B o f in
+    let b = runLast B o f in
+    let c = runFirst B o s in
+    let d = runLast B o s in
     stayIf (runsStay B o f s a b c d) 1
     (Trade (B .from a) (B .upto b) (ownerOf B o s) (B .from c) (B .upto d) (ownerOf B o f))
 
@@ -115,7 +115,7 @@ unfoldable pub shifted : Board → List ℕ → ℕ → ℕ → Move
 shifted B o f s =
     stayIf (B .frozen f ∷ unowned B o f ∷ []) 1
     (stayIf (ltb 1 s ∷ []) 2
-    (cond (eqb s 1) (grown B (ownerOf B o f) (firstOf B o f)) (shrunk B o (firstOf B o f) (lastOf B o f))))
+    (cond (eqb s 1) (grown B (ownerOf B o f) (runFirst B o f)) (shrunk B o (runFirst B o f) (runLast B o f))))
 
 -- ---- a draw
 
@@ -158,7 +158,7 @@ unfoldable pub handed : Board → List ℕ → Draw → ℕ → Bool
 handed B o d u =
     cond (ltb (d .kind) 35) (eqb u (d .first))
     (cond (ltb (d .kind) 60) (eqb u (d .first) || eqb u (d .second))
-    (cond (ltb (d .kind) 75) (between (firstOf B o (d .first)) (lastOf B o (d .first)) u)
+    (cond (ltb (d .kind) 75) (between (runFirst B o (d .first)) (runLast B o (d .first)) u)
     (cond (ltb (d .kind) 90)
-    (between (firstOf B o (d .first)) (lastOf B o (d .first)) u || between (firstOf B o (d .second)) (lastOf B o (d .second)) u)
-    (cond (eqb (d .second) 1) (eqb (suc u) (firstOf B o (d .first))) (eqb u (firstOf B o (d .first)))))))
+    (between (runFirst B o (d .first)) (runLast B o (d .first)) u || between (runFirst B o (d .second)) (runLast B o (d .second)) u)
+    (cond (eqb (d .second) 1) (eqb (suc u) (runFirst B o (d .first))) (eqb u (runFirst B o (d .first)))))))

@@ -20,17 +20,17 @@ frozenBy flags u = eqb (getD flags u 0) 1
 
 -- the board that these make
 abbrev pub ready : ℕ → ℕ → ℕ → List ℕ → List ℕ → List ℕ → Board
-ready people slots units firsts fits flags = boardWith people slots units firsts (fitsBy fits) (frozenBy flags)
+ready people slots units begins fits flags = boardWith people slots units begins (fitsBy fits) (frozenBy flags)
 
 -- each unit has a slot, and none past the slot count
-pub record UnitRoom (slots units : ℕ) (firsts : List ℕ) : Type 0 where
-  pub some : (u : ℕ) → u < units → unitStart firsts u < unitEnd slots units firsts u
-  pub within : (u : ℕ) → u < units → unitEnd slots units firsts u ≤ slots
+pub record UnitRoom (slots units : ℕ) (begins : List ℕ) : Type 0 where
+  pub some : (u : ℕ) → u < units → unitStart begins u < unitEnd slots units begins u
+  pub within : (u : ℕ) → u < units → unitEnd slots units begins u ≤ slots
 
 -- each of the first n units has its start lent, and an owner at that slot
-pub record OwnerRoom (n : ℕ) (firsts owners : List ℕ) : Type 0 where
-  pub starts : n ≤ length firsts
-  pub owned : (u : ℕ) → u < n → unitStart firsts u < length owners
+pub record OwnerRoom (n : ℕ) (begins owners : List ℕ) : Type 0 where
+  pub starts : n ≤ length begins
+  pub owned : (u : ℕ) → u < n → unitStart begins u < length owners
 
 -- mask has those who stand in every mask from unit a up to e
 pub record Cover (fits : List ℕ) (a e mask : ℕ) : Type 0 where

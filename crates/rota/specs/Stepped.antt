@@ -18,12 +18,12 @@ pub record Stepped (P : Plan) (B : Board) (o : List ℕ) (D : Derived) (d : Draw
   pub in-step : InStep P o′ D′
 
 -- what one draw asks, with its answer at i of x
-pub record StepAsks (P : Plan) (B : Board) (o : List ℕ) (D : Derived) (firsts fits flags : List ℕ) (i : ℕ) (x : List ℕ) : Type 0 where
+pub record StepAsks (P : Plan) (B : Board) (o : List ℕ) (D : Derived) (begins fits flags : List ℕ) (i : ℕ) (x : List ℕ) : Type 0 where
   pub sound : PlanSound P
   pub in-step : InStep P o D
   pub board : BoardSound B
   pub even : Even B o
-  pub room : (B .units ≤ length firsts) × (B .units ≤ length fits) × (B .units ≤ length flags)
+  pub room : (B .units ≤ length begins) × (B .units ≤ length fits) × (B .units ≤ length flags)
   pub answers : i < length x
 
 -- what it leaves
@@ -42,7 +42,7 @@ pub record Ran (P : Plan) (B : Board) (o : List ℕ) (D : Derived) (x : List ℕ
 
 -- room in the columns of draws and answers
 pub record DrawRoom (n : ℕ) (ks fs ss x : List ℕ) : Type 0 where
-  pub kinds : n ≤ length ks
+  pub draws : n ≤ length ks
   pub firsts : n ≤ length fs
   pub seconds : n ≤ length ss
   pub answers : n ≤ length x

@@ -1,9 +1,9 @@
 // A single slot given to an owner, and the stretches that moves hand over.
-use paper::Fault;
+use paper::Refusal;
 ghost use mathlib.Core.Path.{_≡_};
 ghost use mathlib.Core.Bool.{true};
 ghost use mathlib.Core.List.{[]};
-ghost use Rattle.paper.specs.Rows.{firstOf};
+ghost use Rattle.paper.specs.Rows.{refusalOf};
 ghost use Rattle.owners.specs.Derived.{plan, derived, knownBy};
 ghost use Rattle.owners.specs.Inside.{PlanSound, InStep, OneOwner, HandedOver};
 ghost use Rattle.owners.specs.Entries.{Ended};
@@ -33,7 +33,7 @@ pub(crate) fn hand_over(
 }
 
 // What stands against a single assign: 1, 2, 9, 10, 11 or 12.
-fn assign_no(
+fn assign_refusal(
     people: usize,
     slots: usize,
     starts: &[u32],
@@ -44,14 +44,14 @@ fn assign_no(
     minutes: &[u64],
     slot: usize,
     owner: u8,
-) -> Fault
-    ensures { λ r. ⌜ r ≡ firstOf (assignRow (plan people slots (now (starts .entry)) (now (ends .entry))) (now (avail .entry)) (now
+) -> Refusal
+    ensures { λ r. ⌜ r ≡ refusalOf (assignRow (plan people slots (now (starts .entry)) (now (ends .entry))) (now (avail .entry)) (now
         (owners .entry)) (derived (now (sets .entry)) (now (minutes .entry))) slot owner) ⌝ }
 {
     let f = owners::recounted_slots(people, slots, starts, ends, avail, owners, sets, minutes);
-    let f = paper::heard(f, slot < slots, 11);
-    let f = paper::heard(f, owners::known_by(people, owner), 11);
-    paper::heard(f, owners::available_for(avail, owner, slot), 12)
+    let f = paper::check(f, slot < slots, 11);
+    let f = paper::check(f, owners::known_by(people, owner), 11);
+    paper::check(f, owners::available_for(avail, owner, slot), 12)
 }
 
 // Gives a slot to an owner, 255 to clear it. Refusals 1, 2, 9, 10, 11, 12. It asks nothing of units or frozen flags.
@@ -71,7 +71,7 @@ pub fn assign(
         .entry)) (derived (now (sets .entry)) (now (minutes .entry))) slot owner) r (now (owners .exit)) (derived (now (sets .exit))
         (now (minutes .exit))) [] ⌝ }
 {
-    let n = assign_no(
+    let n = assign_refusal(
         people,
         slots,
         starts,

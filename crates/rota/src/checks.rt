@@ -7,23 +7,26 @@ ghost use Rattle.rota.specs.Entries.{playRoomOk, columnsEnough};
 pub(crate) fn play_room_ok(
     units: usize,
     count: usize,
-    firsts: &[u16],
+    begins: &[u16],
     frozen: &[u64],
-    enough: bool,
     answers: &[u8],
+    enough: bool,
 ) -> bool
-    ensures { λ r. ⌜ r ≡ playRoomOk units (now (firsts .entry)) (now (frozen .entry)) count enough (now (answers .entry)) ⌝ }
+    ensures { λ r. ⌜ r ≡ playRoomOk units (now (begins .entry)) (now (frozen .entry)) count enough (now (answers .entry)) ⌝ }
 {
     let lists = both(enough, count <= answers.len());
-    both(units <= firsts.len(), both(16 <= frozen.len(), lists))
+    both(
+        units <= begins.len(),
+        both(paper::SET_WORDS <= frozen.len(), lists),
+    )
 }
 
 // Whether three columns have enough draws.
-pub(crate) fn columns_enough(count: usize, kinds: &[u16], ones: &[u16], twos: &[u16]) -> bool
-    ensures { λ r. ⌜ r ≡ columnsEnough count (now (kinds .entry)) (now (ones .entry)) (now (twos .entry)) ⌝ }
+pub(crate) fn columns_enough(count: usize, draws: &[u16], firsts: &[u16], seconds: &[u16]) -> bool
+    ensures { λ r. ⌜ r ≡ columnsEnough count (now (draws .entry)) (now (firsts .entry)) (now (seconds .entry)) ⌝ }
 {
     both(
-        count <= kinds.len(),
-        both(count <= ones.len(), count <= twos.len()),
+        count <= draws.len(),
+        both(count <= firsts.len(), count <= seconds.len()),
     )
 }

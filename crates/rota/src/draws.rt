@@ -22,7 +22,7 @@ pub fn play(
     starts: &[u32],
     ends: &[u32],
     avail: &[u64],
-    firsts: &[u16],
+    begins: &[u16],
     frozen: &[u64],
     owners: &mut [u8],
     sets: &mut [u64],
@@ -31,7 +31,7 @@ pub fn play(
     answers: &mut [u8],
 ) -> u8
     ensures { λ r. ⌜ Ended (playedDraws (plan people slots (now (starts .entry)) (now (ends .entry))) (now (avail .entry)) units
-        (now (firsts .entry)) (now (frozen .entry)) count (now (draws .entry)) (now (owners .entry)) (derived (now (sets .entry))
+        (now (begins .entry)) (now (frozen .entry)) count (now (draws .entry)) (now (owners .entry)) (derived (now (sets .entry))
         (now (minutes .entry))) (now (answers .entry))) r (now (owners .exit)) (derived (now (sets .exit)) (now (minutes .exit)))
         (now (answers .exit)) ⌝ }
 {
@@ -43,7 +43,7 @@ pub fn play(
         starts,
         ends,
         avail,
-        firsts,
+        begins,
         frozen,
         owners,
         sets,
@@ -63,7 +63,7 @@ pub fn play(
             units,
             starts,
             ends,
-            firsts,
+            begins,
             &fits,
             &flags,
             owners,

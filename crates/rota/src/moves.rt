@@ -15,10 +15,10 @@ ghost use Rattle.rota.specs.Moves.{draw, picked, reassigned, swapped, ru
 ghost use Rattle.rota.specs.Moves.{anyOf, swapStays};
 
 // The owner of a unit: that of its first slot.
-fn owner_of(firsts: &[u16], owners: &[u8], unit: usize) -> u8
-    ensures { λ r. ⌜ r ≡ getD (now (owners .entry)) (unitStart (now (firsts .entry)) unit) 0 ⌝ }
+fn owner_of(begins: &[u16], owners: &[u8], unit: usize) -> u8
+    ensures { λ r. ⌜ r ≡ getD (now (owners .entry)) (unitStart (now (begins .entry)) unit) 0 ⌝ }
 {
-    let slot = units::start_of(firsts, unit);
+    let slot = units::start_of(begins, unit);
     if slot < owners.len() { owners[slot] } else { 0 }
 }
 
@@ -59,22 +59,22 @@ fn fits_unit(fits: &[u32], person: u8, unit: usize) -> bool
 }
 
 // The owner of a unit whose start, and the owner there, are known to be lent: nothing is tested.
-fn owner_at(firsts: &[u16], owners: &[u8], unit: usize) -> u8
-    requires { ⌜ (unit < length (now firsts)) × (unitStart (now firsts) unit < length (now owners)) ⌝ }
-    ensures { λ r. ⌜ r ≡ getD (now (owners .entry)) (unitStart (now (firsts .entry)) unit) 0 ⌝ }
+fn owner_at(begins: &[u16], owners: &[u8], unit: usize) -> u8
+    requires { ⌜ (unit < length (now begins)) × (unitStart (now begins) unit < length (now owners)) ⌝ }
+    ensures { λ r. ⌜ r ≡ getD (now (owners .entry)) (unitStart (now (begins .entry)) unit) 0 ⌝ }
 {
-    owners[firsts[unit] as usize]
+    owners[begins[unit] as usize]
 }
 
 // The first unit of a unit's run: the n units before it have its owner. The loop changes n alone, and the answer is worked out from it.
-fn run_start(firsts: &[u16], owners: &[u8], unit: usize) -> usize
-    requires { ⌜ OwnerRoom (suc unit) (now firsts) (now owners) ⌝ }
-    ensures { λ r. ⌜ r ≡ runStart (λ u. getD (now (owners .entry)) (unitStart (now (firsts .entry)) u) 0) unit ⌝ }
+fn run_start(begins: &[u16], owners: &[u8], unit: usize) -> usize
+    requires { ⌜ OwnerRoom (suc unit) (now begins) (now owners) ⌝ }
+    ensures { λ r. ⌜ r ≡ runStart (λ u. getD (now (owners .entry)) (unitStart (now (begins .entry)) u) 0) unit ⌝ }
 {
-    let owner = owner_at(firsts, owners, unit);
+    let owner = owner_at(begins, owners, unit);
     let mut n: usize = 0;
     while n < unit {
-        if owner_at(firsts, owners, unit - n - 1) == owner {
+        if owner_at(begins, owners, unit - n - 1) == owner {
             n += 1;
         } else {
             return unit - n;
@@ -84,16 +84,16 @@ fn run_start(firsts: &[u16], owners: &[u8], unit: usize) -> usize
 }
 
 // The last unit of a unit's run: the n units after it have its owner.
-fn run_end(units: usize, firsts: &[u16], owners: &[u8], unit: usize) -> usize
+fn run_end(units: usize, begins: &[u16], owners: &[u8], unit: usize) -> usize
     requires { ⌜ unit < units ⌝ }
-    requires { ⌜ OwnerRoom units (now firsts) (now owners) ⌝ }
-    ensures { λ r. ⌜ r ≡ runEnd units (λ u. getD (now (owners .entry)) (unitStart (now (firsts .entry)) u) 0) unit ⌝ }
+    requires { ⌜ OwnerRoom units (now begins) (now owners) ⌝ }
+    ensures { λ r. ⌜ r ≡ runEnd units (λ u. getD (now (owners .entry)) (unitStart (now (begins .entry)) u) 0) unit ⌝ }
 {
-    let owner = owner_at(firsts, owners, unit);
+    let owner = owner_at(begins, owners, unit);
     let after = units - unit - 1;
     let mut n: usize = 0;
     while n < after {
-        if owner_at(firsts, owners, unit + n + 1) == owner {
+        if owner_at(begins, owners, unit + n + 1) == owner {
             n += 1;
         } else {
             return unit + n;
@@ -178,12 +178,12 @@ fn is_other(mask: u32, skip: u8, person: usize) -> bool
 }
 
 // Units a to b, both included, to a person.
-fn give(slots: usize, units: usize, firsts: &[u16], a: usize, b: usize, to: u8) -> Move
-    ensures { λ r. ⌜ r ≡ Move.Give (unitStart (now (firsts .entry)) a) (unitEnd slots units (now (firsts .entry)) b) to ⌝ }
+fn give(slots: usize, units: usize, begins: &[u16], a: usize, b: usize, to: u8) -> Move
+    ensures { λ r. ⌜ r ≡ Move.Give (unitStart (now (begins .entry)) a) (unitEnd slots units (now (begins .entry)) b) to ⌝ }
 {
     Move::Give {
-        from: units::start_of(firsts, a),
-        upto: units::unit_end(slots, units, firsts, b),
+        from: units::start_of(begins, a),
+        upto: units::unit_end(slots, units, begins, b),
         to,
     }
 }
@@ -192,7 +192,7 @@ fn give(slots: usize, units: usize, firsts: &[u16], a: usize, b: usize, to: u8) 
 fn trade(
     slots: usize,
     units: usize,
-    firsts: &[u16],
+    begins: &[u16],
     a: usize,
     b: usize,
     to: u8,
@@ -200,15 +200,15 @@ fn trade(
     d: usize,
     to2: u8,
 ) -> Move
-    ensures { λ r. ⌜ r ≡ Move.Trade (unitStart (now (firsts .entry)) a) (unitEnd slots units (now (firsts .entry)) b) to (unitStart
-        (now (firsts .entry)) c) (unitEnd slots units (now (firsts .entry)) d) to2 ⌝ }
+    ensures { λ r. ⌜ r ≡ Move.Trade (unitStart (now (begins .entry)) a) (unitEnd slots units (now (begins .entry)) b) to (unitStart
+        (now (begins .entry)) c) (unitEnd slots units (now (begins .entry)) d) to2 ⌝ }
 {
     Move::Trade {
-        from: units::start_of(firsts, a),
-        upto: units::unit_end(slots, units, firsts, b),
+        from: units::start_of(begins, a),
+        upto: units::unit_end(slots, units, begins, b),
         to,
-        from2: units::start_of(firsts, c),
-        upto2: units::unit_end(slots, units, firsts, d),
+        from2: units::start_of(begins, c),
+        upto2: units::unit_end(slots, units, begins, d),
         to2,
     }
 }
@@ -218,7 +218,7 @@ fn reassign(
     people: usize,
     slots: usize,
     units: usize,
-    firsts: &[u16],
+    begins: &[u16],
     fits: &[u32],
     flags: &[u8],
     owners: &[u8],
@@ -226,7 +226,7 @@ fn reassign(
     second: usize,
 ) -> Move
     requires { ⌜ people ≤ 32 ⌝ }
-    ensures { λ r. ⌜ r ≡ reassigned (ready people slots units (now (firsts .entry)) (now (fits .entry)) (now (flags .entry))) (now
+    ensures { λ r. ⌜ r ≡ reassigned (ready people slots units (now (begins .entry)) (now (fits .entry)) (now (flags .entry))) (now
         (owners .entry)) first second ⌝ }
 {
     if is_frozen(flags, first) {
@@ -236,10 +236,10 @@ fn reassign(
         Pick::Nobody => Move::Stay(1),
         Pick::Beyond => Move::Stay(2),
         Pick::Person(p) => {
-            if p == owner_of(firsts, owners, first) {
+            if p == owner_of(begins, owners, first) {
                 Move::Stay(1)
             } else {
-                give(slots, units, firsts, first, first, p)
+                give(slots, units, begins, first, first, p)
             }
         }
     }
@@ -257,18 +257,18 @@ fn swap_stays(
     people: usize,
     slots: usize,
     units: usize,
-    firsts: &[u16],
+    begins: &[u16],
     fits: &[u32],
     flags: &[u8],
     owners: &[u8],
     first: usize,
     second: usize,
 ) -> bool
-    ensures { λ r. ⌜ r ≡ anyOf (swapStays (ready people slots units (now (firsts .entry)) (now (fits .entry)) (now (flags .entry))) (now
+    ensures { λ r. ⌜ r ≡ anyOf (swapStays (ready people slots units (now (begins .entry)) (now (fits .entry)) (now (flags .entry))) (now
         (owners .entry)) first second) ⌝ }
 {
-    let left = owner_of(firsts, owners, first);
-    let right = owner_of(firsts, owners, second);
+    let left = owner_of(begins, owners, first);
+    let right = owner_of(begins, owners, second);
     let stays = either(is_frozen(flags, first), is_frozen(flags, second));
     let stays = either(stays, first == second);
     let stays = either(stays, left == paper::NOBODY);
@@ -283,23 +283,23 @@ fn swap_units(
     people: usize,
     slots: usize,
     units: usize,
-    firsts: &[u16],
+    begins: &[u16],
     fits: &[u32],
     flags: &[u8],
     owners: &[u8],
     first: usize,
     second: usize,
 ) -> Move
-    ensures { λ r. ⌜ r ≡ swapped (ready people slots units (now (firsts .entry)) (now (fits .entry)) (now (flags .entry))) (now
+    ensures { λ r. ⌜ r ≡ swapped (ready people slots units (now (begins .entry)) (now (fits .entry)) (now (flags .entry))) (now
         (owners .entry)) first second ⌝ }
 {
-    let left = owner_of(firsts, owners, first);
-    let right = owner_of(firsts, owners, second);
+    let left = owner_of(begins, owners, first);
+    let right = owner_of(begins, owners, second);
     if swap_stays(
         people,
         slots,
         units,
-        firsts,
+        begins,
         fits,
         flags,
         owners,
@@ -311,7 +311,7 @@ fn swap_units(
     trade(
         slots,
         units,
-        firsts,
+        begins,
         first,
         first,
         right,
@@ -326,7 +326,7 @@ fn reassign_run(
     people: usize,
     slots: usize,
     units: usize,
-    firsts: &[u16],
+    begins: &[u16],
     fits: &[u32],
     flags: &[u8],
     owners: &[u8],
@@ -334,25 +334,25 @@ fn reassign_run(
     second: usize,
 ) -> Move
     requires { ⌜ (people ≤ 32) × (first < units) ⌝ }
-    requires { ⌜ OwnerRoom units (now firsts) (now owners) ⌝ }
+    requires { ⌜ OwnerRoom units (now begins) (now owners) ⌝ }
     requires { ⌜ (units ≤ length (now fits)) × (units ≤ length (now flags)) ⌝ }
-    ensures { λ r. ⌜ r ≡ runReassigned (ready people slots units (now (firsts .entry)) (now (fits .entry)) (now (flags .entry)))
+    ensures { λ r. ⌜ r ≡ runReassigned (ready people slots units (now (begins .entry)) (now (fits .entry)) (now (flags .entry)))
         (now (owners .entry)) first second ⌝ }
 {
-    let owner = owner_of(firsts, owners, first);
+    let owner = owner_of(begins, owners, first);
     if is_frozen(flags, first) {
         return Move::Stay(1);
     }
     if owner == paper::NOBODY {
         return Move::Stay(1);
     }
-    let a = run_start(firsts, owners, first);
-    let b = run_end(units, firsts, owners, first);
+    let a = run_start(begins, owners, first);
+    let b = run_end(units, begins, owners, first);
     if is_movable(flags, a, b + 1) {
         match nth_of(cover_of(fits, a, b + 1), people, owner, second) {
             Pick::Nobody => Move::Stay(1),
             Pick::Beyond => Move::Stay(2),
-            Pick::Person(p) => give(slots, units, firsts, a, b, p),
+            Pick::Person(p) => give(slots, units, begins, a, b, p),
         }
     } else {
         Move::Stay(1)
@@ -364,7 +364,7 @@ fn swap_runs(
     people: usize,
     slots: usize,
     units: usize,
-    firsts: &[u16],
+    begins: &[u16],
     fits: &[u32],
     flags: &[u8],
     owners: &[u8],
@@ -372,13 +372,13 @@ fn swap_runs(
     second: usize,
 ) -> Move
     requires { ⌜ (first < units) × (second < units) ⌝ }
-    requires { ⌜ OwnerRoom units (now firsts) (now owners) ⌝ }
+    requires { ⌜ OwnerRoom units (now begins) (now owners) ⌝ }
     requires { ⌜ (units ≤ length (now fits)) × (units ≤ length (now flags)) ⌝ }
-    ensures { λ r. ⌜ r ≡ runsSwapped (ready people slots units (now (firsts .entry)) (now (fits .entry)) (now (flags .entry))) (now
+    ensures { λ r. ⌜ r ≡ runsSwapped (ready people slots units (now (begins .entry)) (now (fits .entry)) (now (flags .entry))) (now
         (owners .entry)) first second ⌝ }
 {
-    let left = owner_of(firsts, owners, first);
-    let right = owner_of(firsts, owners, second);
+    let left = owner_of(begins, owners, first);
+    let right = owner_of(begins, owners, second);
     if is_frozen(flags, first) {
         return Move::Stay(1);
     }
@@ -394,15 +394,15 @@ fn swap_runs(
     if left == right {
         return Move::Stay(1);
     }
-    let a = run_start(firsts, owners, first);
-    let b = run_end(units, firsts, owners, first);
-    let c = run_start(firsts, owners, second);
-    let d = run_end(units, firsts, owners, second);
+    let a = run_start(begins, owners, first);
+    let b = run_end(units, begins, owners, first);
+    let c = run_start(begins, owners, second);
+    let d = run_end(units, begins, owners, second);
     if a == c {
         return Move::Stay(1);
     }
     if runs_fit(fits, flags, a, b + 1, right, c, d + 1, left) {
-        return trade(slots, units, firsts, a, b, right, c, d, left);
+        return trade(slots, units, begins, a, b, right, c, d, left);
     }
     Move::Stay(1)
 }
@@ -439,13 +439,13 @@ fn grow(
     people: usize,
     slots: usize,
     units: usize,
-    firsts: &[u16],
+    begins: &[u16],
     fits: &[u32],
     flags: &[u8],
     owner: u8,
     a: usize,
 ) -> Move
-    ensures { λ r. ⌜ r ≡ grown (ready people slots units (now (firsts .entry)) (now (fits .entry)) (now (flags .entry))) owner a ⌝ }
+    ensures { λ r. ⌜ r ≡ grown (ready people slots units (now (begins .entry)) (now (fits .entry)) (now (flags .entry))) owner a ⌝ }
 {
     if a == 0 {
         return Move::Stay(1);
@@ -455,7 +455,7 @@ fn grow(
         return Move::Stay(1);
     }
     if fits_unit(fits, owner, before) {
-        return give(slots, units, firsts, before, before, owner);
+        return give(slots, units, begins, before, before, owner);
     }
     Move::Stay(1)
 }
@@ -465,14 +465,14 @@ fn shrink(
     people: usize,
     slots: usize,
     units: usize,
-    firsts: &[u16],
+    begins: &[u16],
     fits: &[u32],
     flags: &[u8],
     owners: &[u8],
     a: usize,
     b: usize,
 ) -> Move
-    ensures { λ r. ⌜ r ≡ shrunk (ready people slots units (now (firsts .entry)) (now (fits .entry)) (now (flags .entry))) (now
+    ensures { λ r. ⌜ r ≡ shrunk (ready people slots units (now (begins .entry)) (now (fits .entry)) (now (flags .entry))) (now
         (owners .entry)) a b ⌝ }
 {
     if a == 0 {
@@ -481,7 +481,7 @@ fn shrink(
     if a == b {
         return Move::Stay(1);
     }
-    let owner = owner_of(firsts, owners, a - 1);
+    let owner = owner_of(begins, owners, a - 1);
     if owner == paper::NOBODY {
         return Move::Stay(1);
     }
@@ -489,7 +489,7 @@ fn shrink(
         return Move::Stay(1);
     }
     if fits_unit(fits, owner, a) {
-        return give(slots, units, firsts, a, a, owner);
+        return give(slots, units, begins, a, a, owner);
     }
     Move::Stay(1)
 }
@@ -499,7 +499,7 @@ fn shift_boundary(
     people: usize,
     slots: usize,
     units: usize,
-    firsts: &[u16],
+    begins: &[u16],
     fits: &[u32],
     flags: &[u8],
     owners: &[u8],
@@ -507,11 +507,11 @@ fn shift_boundary(
     second: usize,
 ) -> Move
     requires { ⌜ first < units ⌝ }
-    requires { ⌜ OwnerRoom units (now firsts) (now owners) ⌝ }
-    ensures { λ r. ⌜ r ≡ shifted (ready people slots units (now (firsts .entry)) (now (fits .entry)) (now (flags .entry))) (now
+    requires { ⌜ OwnerRoom units (now begins) (now owners) ⌝ }
+    ensures { λ r. ⌜ r ≡ shifted (ready people slots units (now (begins .entry)) (now (fits .entry)) (now (flags .entry))) (now
         (owners .entry)) first second ⌝ }
 {
-    let owner = owner_of(firsts, owners, first);
+    let owner = owner_of(begins, owners, first);
     if is_frozen(flags, first) {
         return Move::Stay(1);
     }
@@ -521,12 +521,12 @@ fn shift_boundary(
     if 1 < second {
         return Move::Stay(2);
     }
-    let a = run_start(firsts, owners, first);
+    let a = run_start(begins, owners, first);
     if second == 1 {
-        return grow(people, slots, units, firsts, fits, flags, owner, a);
+        return grow(people, slots, units, begins, fits, flags, owner, a);
     }
-    let b = run_end(units, firsts, owners, first);
-    shrink(people, slots, units, firsts, fits, flags, owners, a, b)
+    let b = run_end(units, begins, owners, first);
+    shrink(people, slots, units, begins, fits, flags, owners, a, b)
 }
 
 // What a draw does. The draw, then the units that it names, are judged before all else.
@@ -534,7 +534,7 @@ pub(crate) fn decide(
     people: usize,
     slots: usize,
     units: usize,
-    firsts: &[u16],
+    begins: &[u16],
     fits: &[u32],
     flags: &[u8],
     owners: &[u8],
@@ -543,9 +543,9 @@ pub(crate) fn decide(
     second: u16,
 ) -> Move
     requires { ⌜ people ≤ 32 ⌝ }
-    requires { ⌜ OwnerRoom units (now firsts) (now owners) ⌝ }
+    requires { ⌜ OwnerRoom units (now begins) (now owners) ⌝ }
     requires { ⌜ (units ≤ length (now fits)) × (units ≤ length (now flags)) ⌝ }
-    ensures { λ r. ⌜ r ≡ decided (ready people slots units (now (firsts .entry)) (now (fits .entry)) (now (flags .entry))) (now
+    ensures { λ r. ⌜ r ≡ decided (ready people slots units (now (begins .entry)) (now (fits .entry)) (now (flags .entry))) (now
         (owners .entry)) (draw kind first second) ⌝ }
 {
     let f = first as usize;
@@ -557,22 +557,22 @@ pub(crate) fn decide(
         return Move::Stay(2);
     }
     if kind < 35 {
-        return reassign(people, slots, units, firsts, fits, flags, owners, f, s);
+        return reassign(people, slots, units, begins, fits, flags, owners, f, s);
     }
     if kind < 60 {
         if units <= s {
             return Move::Stay(2);
         }
-        return swap_units(people, slots, units, firsts, fits, flags, owners, f, s);
+        return swap_units(people, slots, units, begins, fits, flags, owners, f, s);
     }
     if kind < 75 {
-        return reassign_run(people, slots, units, firsts, fits, flags, owners, f, s);
+        return reassign_run(people, slots, units, begins, fits, flags, owners, f, s);
     }
     if kind < 90 {
         if units <= s {
             return Move::Stay(2);
         }
-        return swap_runs(people, slots, units, firsts, fits, flags, owners, f, s);
+        return swap_runs(people, slots, units, begins, fits, flags, owners, f, s);
     }
-    shift_boundary(people, slots, units, firsts, fits, flags, owners, f, s)
+    shift_boundary(people, slots, units, begins, fits, flags, owners, f, s)
 }

@@ -4,12 +4,12 @@ use crate::assignment::hand_over;
 use crate::checks::columns_enough;
 use crate::checks::play_room_ok;
 use crate::moves::decide;
-use paper::Fault;
+use paper::Refusal;
 use slotset::Found;
 ghost use mathlib.Core.Path.{_≡_};
 ghost use Prim.Native.Nat.{_≤_};
 ghost use lib.ListN.{length};
-ghost use Rattle.paper.specs.Rows.{firstOf};
+ghost use Rattle.paper.specs.Rows.{refusalOf};
 ghost use Rattle.rota.specs.Board.{BoardSound, Even};
 ghost use Rattle.rota.specs.Ready.{ready};
 ghost use Rattle.rota.specs.Lent.{FrozenRight, markOf, markFound};
@@ -47,20 +47,20 @@ fn mark_of(frozen: &[u64], a: usize, e: usize) -> u8
     requires { ⌜ (e ≤ 1024) × (16 ≤ length (now frozen)) ⌝ }
     ensures { λ r. ⌜ r ≡ markOf (now (frozen .entry)) a e ⌝ }
 {
-    mark_found(slotset::row::next_set(frozen, 1, 0, e, a))
+    mark_found(slotset::row::next_set(1, e, frozen, 0, a))
 }
 
 // For each unit 1 where it is frozen.
-fn frozen_of(slots: usize, units: usize, firsts: &[u16], frozen: &[u64]) -> [u8; 1024]
+fn frozen_of(slots: usize, units: usize, begins: &[u16], frozen: &[u64]) -> [u8; 1024]
     requires { ⌜ (slots ≤ 1024) × (units ≤ 1024) × (16 ≤ length (now frozen)) ⌝ }
-    requires { ⌜ UnitRoom slots units (now firsts) ⌝ }
-    ensures { λ r. ⌜ FrozenRight slots units (now (firsts .entry)) (now (frozen .entry)) r ⌝ }
+    requires { ⌜ UnitRoom slots units (now begins) ⌝ }
+    ensures { λ r. ⌜ FrozenRight slots units (now (begins .entry)) (now (frozen .entry)) r ⌝ }
 {
     let mut flags = [0u8; 1024];
     let mut u: usize = 0;
     while u < units {
-        let a = units::start_of(firsts, u);
-        let e = units::unit_end(slots, units, firsts, u);
+        let a = units::start_of(begins, u);
+        let e = units::unit_end(slots, units, begins, u);
         flags[u] = mark_of(frozen, a, e);
         u += 1;
     }
@@ -74,7 +74,7 @@ fn step(
     units: usize,
     starts: &[u32],
     ends: &[u32],
-    firsts: &[u16],
+    begins: &[u16],
     fits: &[u32],
     flags: &[u8],
     owners: &mut [u8],
@@ -86,10 +86,10 @@ fn step(
 ) -> u8
     requires { ⌜ PlanSound (plan people slots (now starts) (now ends)) ⌝ }
     requires { ⌜ InStep (plan people slots (now starts) (now ends)) (now owners) (derived (now sets) (now minutes)) ⌝ }
-    requires { ⌜ BoardSound (ready people slots units (now firsts) (now fits) (now flags)) ⌝ }
-    requires { ⌜ Even (ready people slots units (now firsts) (now fits) (now flags)) (now owners) ⌝ }
-    requires { ⌜ (units ≤ length (now firsts)) × (units ≤ length (now fits)) × (units ≤ length (now flags)) ⌝ }
-    ensures { λ r. ⌜ Stepped (plan people slots (now (starts .entry)) (now (ends .entry))) (ready people slots units (now (firsts
+    requires { ⌜ BoardSound (ready people slots units (now begins) (now fits) (now flags)) ⌝ }
+    requires { ⌜ Even (ready people slots units (now begins) (now fits) (now flags)) (now owners) ⌝ }
+    requires { ⌜ (units ≤ length (now begins)) × (units ≤ length (now fits)) × (units ≤ length (now flags)) ⌝ }
+    ensures { λ r. ⌜ Stepped (plan people slots (now (starts .entry)) (now (ends .entry))) (ready people slots units (now (begins
         .entry)) (now (fits .entry)) (now (flags .entry))) (now (owners .entry)) (derived (now (sets .entry)) (now (minutes
         .entry))) (draw kind first second) r (now (owners .exit)) (derived (now (sets .exit)) (now (minutes .exit))) ⌝ }
 {
@@ -97,7 +97,7 @@ fn step(
         people,
         slots,
         units,
-        firsts,
+        begins,
         fits,
         flags,
         owners,
@@ -165,7 +165,7 @@ pub(crate) fn step_at(
     units: usize,
     starts: &[u32],
     ends: &[u32],
-    firsts: &[u16],
+    begins: &[u16],
     fits: &[u32],
     flags: &[u8],
     owners: &mut [u8],
@@ -177,9 +177,9 @@ pub(crate) fn step_at(
     i: usize,
     answers: &mut [u8],
 )
-    requires { ⌜ StepAsks (plan people slots (now starts) (now ends)) (ready people slots units (now firsts) (now fits) (now flags))
-        (now owners) (derived (now sets) (now minutes)) (now firsts) (now fits) (now flags) i (now answers) ⌝ }
-    ensures { λ _. ⌜ SteppedAt (plan people slots (now (starts .entry)) (now (ends .entry))) (ready people slots units (now (firsts
+    requires { ⌜ StepAsks (plan people slots (now starts) (now ends)) (ready people slots units (now begins) (now fits) (now flags))
+        (now owners) (derived (now sets) (now minutes)) (now begins) (now fits) (now flags) i (now answers) ⌝ }
+    ensures { λ _. ⌜ SteppedAt (plan people slots (now (starts .entry)) (now (ends .entry))) (ready people slots units (now (begins
         .entry)) (now (fits .entry)) (now (flags .entry))) (now (owners .entry)) (derived (now (sets .entry)) (now (minutes
         .entry))) (draw kind first second) i (now (answers .entry)) (now (owners .exit)) (derived (now (sets .exit)) (now (minutes
         .exit))) (now (answers .exit)) ⌝ }
@@ -190,7 +190,7 @@ pub(crate) fn step_at(
         units,
         starts,
         ends,
-        firsts,
+        begins,
         fits,
         flags,
         owners,
@@ -210,26 +210,26 @@ fn run(
     count: usize,
     starts: &[u32],
     ends: &[u32],
-    firsts: &[u16],
+    begins: &[u16],
     fits: &[u32],
     flags: &[u8],
+    draws: &[u16],
+    firsts: &[u16],
+    seconds: &[u16],
     owners: &mut [u8],
     sets: &mut [u64],
     minutes: &mut [u64],
-    kinds: &[u16],
-    ones: &[u16],
-    twos: &[u16],
     answers: &mut [u8],
 )
     requires { ⌜ PlanSound (plan people slots (now starts) (now ends)) ⌝ }
     requires { ⌜ InStep (plan people slots (now starts) (now ends)) (now owners) (derived (now sets) (now minutes)) ⌝ }
-    requires { ⌜ BoardSound (ready people slots units (now firsts) (now fits) (now flags)) ⌝ }
-    requires { ⌜ Even (ready people slots units (now firsts) (now fits) (now flags)) (now owners) ⌝ }
-    requires { ⌜ DrawRoom count (now kinds) (now ones) (now twos) (now answers) ⌝ }
-    requires { ⌜ (units ≤ length (now firsts)) × (units ≤ length (now fits)) × (units ≤ length (now flags)) ⌝ }
-    ensures { λ _. ⌜ Ran (plan people slots (now (starts .entry)) (now (ends .entry))) (ready people slots units (now (firsts
+    requires { ⌜ BoardSound (ready people slots units (now begins) (now fits) (now flags)) ⌝ }
+    requires { ⌜ Even (ready people slots units (now begins) (now fits) (now flags)) (now owners) ⌝ }
+    requires { ⌜ DrawRoom count (now draws) (now firsts) (now seconds) (now answers) ⌝ }
+    requires { ⌜ (units ≤ length (now begins)) × (units ≤ length (now fits)) × (units ≤ length (now flags)) ⌝ }
+    ensures { λ _. ⌜ Ran (plan people slots (now (starts .entry)) (now (ends .entry))) (ready people slots units (now (begins
         .entry)) (now (fits .entry)) (now (flags .entry))) (now (owners .entry)) (derived (now (sets .entry)) (now (minutes
-        .entry))) (now (answers .entry)) (drawsOf (now (kinds .entry)) (now (ones .entry)) (now (twos .entry)) count) (now (owners
+        .entry))) (now (answers .entry)) (drawsOf (now (draws .entry)) (now (firsts .entry)) (now (seconds .entry)) count) (now (owners
         .exit)) (derived (now (sets .exit)) (now (minutes .exit))) (now (answers .exit)) ⌝ }
 {
     let mut i: usize = 0;
@@ -240,15 +240,15 @@ fn run(
             units,
             starts,
             ends,
-            firsts,
+            begins,
             fits,
             flags,
             owners,
             sets,
             minutes,
-            kinds[i],
-            ones[i],
-            twos[i],
+            draws[i],
+            firsts[i],
+            seconds[i],
             i,
             answers,
         );
@@ -257,7 +257,7 @@ fn run(
 }
 
 // What stands against a play: 1, 2, 9 or 10.
-fn play_no(
+fn play_refusal(
     people: usize,
     slots: usize,
     units: usize,
@@ -265,28 +265,28 @@ fn play_no(
     starts: &[u32],
     ends: &[u32],
     avail: &[u64],
-    firsts: &[u16],
+    begins: &[u16],
     frozen: &[u64],
     owners: &[u8],
     sets: &[u64],
     minutes: &[u64],
-    enough: bool,
     answers: &[u8],
-) -> Fault
-    ensures { λ r. ⌜ r ≡ firstOf (playRow (plan people slots (now (starts .entry)) (now (ends .entry))) (now (avail .entry)) units (now
-        (firsts .entry)) (now (frozen .entry)) count enough (now (owners .entry)) (derived (now (sets .entry)) (now (minutes .entry)))
+    enough: bool,
+) -> Refusal
+    ensures { λ r. ⌜ r ≡ refusalOf (playRow (plan people slots (now (starts .entry)) (now (ends .entry))) (now (avail .entry)) units (now
+        (begins .entry)) (now (frozen .entry)) count enough (now (owners .entry)) (derived (now (sets .entry)) (now (minutes .entry)))
         (now (answers .entry))) ⌝ }
 {
     owners::recounted(
         count <= paper::DRAWS_MOST,
-        play_room_ok(units, count, firsts, frozen, enough, answers),
+        play_room_ok(units, count, begins, frozen, answers, enough),
         people,
         slots,
         units,
         starts,
         ends,
         avail,
-        firsts,
+        begins,
         owners,
         sets,
         minutes,
@@ -302,7 +302,7 @@ pub(crate) fn begin(
     starts: &[u32],
     ends: &[u32],
     avail: &[u64],
-    firsts: &[u16],
+    begins: &[u16],
     frozen: &[u64],
     owners: &[u8],
     sets: &[u64],
@@ -310,11 +310,11 @@ pub(crate) fn begin(
     enough: bool,
     answers: &[u8],
 ) -> Begun
-    ensures { λ r. ⌜ Begins (plan people slots (now (starts .entry)) (now (ends .entry))) (now (avail .entry)) units (now (firsts
+    ensures { λ r. ⌜ Begins (plan people slots (now (starts .entry)) (now (ends .entry))) (now (avail .entry)) units (now (begins
         .entry)) (now (frozen .entry)) count enough (now (owners .entry)) (derived (now (sets .entry)) (now (minutes .entry))) (now
         (answers .entry)) r ⌝ }
 {
-    let number = play_no(
+    let number = play_refusal(
         people,
         slots,
         units,
@@ -322,18 +322,18 @@ pub(crate) fn begin(
         starts,
         ends,
         avail,
-        firsts,
+        begins,
         frozen,
         owners,
         sets,
         minutes,
-        enough,
         answers,
+        enough,
     ).number;
     if number == 0 {
         let mut fits = [0u32; 1024];
-        units::unit_domains(avail, people, slots, units, firsts, &mut fits);
-        let flags = frozen_of(slots, units, firsts, frozen);
+        units::unit_domains(people, slots, units, avail, begins, &mut fits);
+        let flags = frozen_of(slots, units, begins, frozen);
         return Begun {
             number,
             todo: count,
@@ -358,18 +358,18 @@ pub fn play(
     starts: &[u32],
     ends: &[u32],
     avail: &[u64],
-    firsts: &[u16],
+    begins: &[u16],
     frozen: &[u64],
+    draws: &[u16],
+    firsts: &[u16],
+    seconds: &[u16],
     owners: &mut [u8],
     sets: &mut [u64],
     minutes: &mut [u64],
-    kinds: &[u16],
-    ones: &[u16],
-    twos: &[u16],
     answers: &mut [u8],
 ) -> u8
     ensures { λ r. ⌜ Ended (played (plan people slots (now (starts .entry)) (now (ends .entry))) (now (avail .entry)) units (now
-        (firsts .entry)) (now (frozen .entry)) count (now (kinds .entry)) (now (ones .entry)) (now (twos .entry)) (now (owners
+        (begins .entry)) (now (frozen .entry)) count (now (draws .entry)) (now (firsts .entry)) (now (seconds .entry)) (now (owners
         .entry)) (derived (now (sets .entry)) (now (minutes .entry))) (now (answers .entry))) r (now (owners .exit)) (derived (now
         (sets .exit)) (now (minutes .exit))) (now (answers .exit)) ⌝ }
 {
@@ -381,12 +381,12 @@ pub fn play(
         starts,
         ends,
         avail,
-        firsts,
+        begins,
         frozen,
         owners,
         sets,
         minutes,
-        columns_enough(count, kinds, ones, twos),
+        columns_enough(count, draws, firsts, seconds),
         answers,
     );
     if b.number == 0 {
@@ -399,15 +399,15 @@ pub fn play(
             count,
             starts,
             ends,
-            firsts,
+            begins,
             &fits,
             &flags,
+            draws,
+            firsts,
+            seconds,
             owners,
             sets,
             minutes,
-            kinds,
-            ones,
-            twos,
             answers,
         );
         return 0;

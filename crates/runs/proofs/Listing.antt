@@ -8,7 +8,7 @@ use native.Mathlib.Omega.{arith}
 use borrow.Author.Tests.{leb-true}
 use lib.ListN.{length, set, getD, length-set}
 use lib.Seq.{getD-set-same, getD-set-other}
-use Rattle.paper.specs.Limits.{heardOf}
+use Rattle.paper.specs.Limits.{numberOf}
 use Rattle.paper.specs.Rows.{unless}
 use Rattle.paper.proofs.Rows.{passed, all-pass}
 use Rattle.slotset.specs.declared.Found.{Found}
@@ -25,8 +25,8 @@ use Rattle.slotset.proofs.Runs.{run-around}
 use Rattle.runs.specs.Listed.{runsRow, column}
 
 -- where nothing is refused, the row may be read and both columns have room
-pub list-says : (ws : List ℕ) (people person len n m : ℕ) → heardOf (runsRow ws people person len n m) ≡ 0
-    → (heardOf (personRow ws people person len) ≡ 0) × ((len ≤ n) × (len ≤ m))
+pub list-says : (ws : List ℕ) (people person len n m : ℕ) → numberOf (runsRow ws people person len n m) ≡ 0
+    → (numberOf (personRow ws people person len) ≡ 0) × ((len ≤ n) × (len ≤ m))
 unfolding runsRow personRow setsRow
 list-says ws people person len n m z =
     let h = passed (runsRow ws people person len n m) refl z in

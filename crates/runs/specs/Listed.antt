@@ -3,7 +3,7 @@ use mathlib.Core.List.{List, [], _∷_, _++_}
 use Prim.Native.Nat.{ℕ, _+_}
 use lib.Dec.{ltb, leb}
 use lib.ListN.{length, set}
-use Rattle.paper.specs.Limits.{Test, test, heardOf}
+use Rattle.paper.specs.Limits.{Test, test, numberOf}
 use Rattle.paper.specs.Rows.{unless}
 use Rattle.slotset.specs.Runs.{Ends, allRuns}
 use Rattle.slotset.specs.declared.Number.{Number}
@@ -32,7 +32,7 @@ pub record Outcome : Type 0 where
 -- how many runs there are, their first and their last slots in order, and the rest of each column as it was; refused, all of it as it was
 abbrev pub allRunsOf : List ℕ → ℕ → ℕ → ℕ → List ℕ → List ℕ → Outcome
 allRunsOf ws people person len fs ls =
-    let n = heardOf (runsRow ws people person len (length fs) (length ls)) in
+    let n = numberOf (runsRow ws people person len (length fs) (length ls)) in
     record {
       answer = numberAs n (length (runsOf ws person len));
       firsts = unless n fs (column (λ e. e .first) (runsOf ws person len) 0 fs);

@@ -1,6 +1,6 @@
 // A reader of a person's runs that holds the lent words, as an iterator does. Each answer is that of the cursor by value.
 // The functions over `Runs` are few and thin: each takes it apart and calls a function over plain parameters.
-use paper::Fault;
+use paper::Refusal;
 use slotset::Cursor;
 use slotset::NextRun;
 use slotset::Number;
@@ -8,8 +8,8 @@ use slotset::row;
 ghost use mathlib.Core.Path.{_≡_};
 ghost use Prim.Native.Nat.{_≤_};
 ghost use lib.ListN.{length};
-ghost use Rattle.paper.specs.Limits.{heardOf};
-ghost use Rattle.paper.specs.Rows.{firstOf};
+ghost use Rattle.paper.specs.Limits.{numberOf};
+ghost use Rattle.paper.specs.Rows.{refusalOf};
 ghost use Rattle.slotset.specs.Answers.{personRow, rowNextRun};
 ghost use Rattle.runs.specs.Listed.{runsRow, column, runsOf, allRunsOf};
 ghost use Rattle.runs.specs.Reader.{cursorAfter, readerOf, movedTo, nextOf};
@@ -27,7 +27,7 @@ pub struct Runs<'a> {
 fn run_at(words: &[u64], people: usize, person: usize, len: usize, at: usize) -> NextRun
     ensures { λ r. ⌜ r ≡ rowNextRun (now (words .entry)) people person len at ⌝ }
 {
-    row::next_run(words, people, person, len, Cursor { at })
+    row::next_run(people, len, words, person, Cursor { at })
 }
 
 // Where a reader that stood at `at` stands after an answer.
@@ -98,12 +98,19 @@ pub fn run_from(words: &[u64], people: usize, person: usize, len: usize, at: usi
 }
 
 // What stands against a list of all runs in two columns of n and m entries: 1, 2 or 11.
-fn list_no(words: &[u64], people: usize, person: usize, len: usize, n: usize, m: usize) -> Fault
-    ensures { λ r. ⌜ r ≡ firstOf (runsRow (now (words .entry)) people person len n m) ⌝ }
+fn list_refusal(
+    words: &[u64],
+    people: usize,
+    person: usize,
+    len: usize,
+    n: usize,
+    m: usize,
+) -> Refusal
+    ensures { λ r. ⌜ r ≡ refusalOf (runsRow (now (words .entry)) people person len n m) ⌝ }
 {
-    let f = paper::heard(row::sets_no(words, people, len), len <= n, 2);
-    let f = paper::heard(f, len <= m, 2);
-    paper::heard(f, person < people, 11)
+    let f = paper::check(row::sets_refusal(people, len, words), len <= n, 2);
+    let f = paper::check(f, len <= m, 2);
+    paper::check(f, person < people, 11)
 }
 
 // The runs of a person, in order, into two columns with room for them; and how many there are.
@@ -115,7 +122,7 @@ fn list_runs(
     firsts: &mut [u16],
     lasts: &mut [u16],
 ) -> usize
-    requires { ⌜ heardOf (personRow (now words) people person len) ≡ 0 ⌝ }
+    requires { ⌜ numberOf (personRow (now words) people person len) ≡ 0 ⌝ }
     requires { ⌜ (len ≤ length (now firsts)) × (len ≤ length (now lasts)) ⌝ }
     ensures { λ r. ⌜ (r ≡ length (runsOf (now (words .entry)) person len))
         × ((now (firsts .exit) ≡ column (λ e. e .first) (runsOf (now (words .entry)) person len) 0 (now (firsts .entry)))
@@ -155,7 +162,7 @@ pub fn all_runs(
         × ((now (firsts .exit) ≡ allRunsOf (now (words .entry)) people person len (now (firsts .entry)) (now (lasts .entry)) .firsts)
         × (now (lasts .exit) ≡ allRunsOf (now (words .entry)) people person len (now (firsts .entry)) (now (lasts .entry)) .lasts)) ⌝ }
 {
-    let number = list_no(words, people, person, len, firsts.len(), lasts.len()).number;
+    let number = list_refusal(words, people, person, len, firsts.len(), lasts.len()).number;
     if number == 0 {
         return Number::Is(list_runs(words, people, person, len, firsts, lasts));
     }

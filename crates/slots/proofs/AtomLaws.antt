@@ -8,12 +8,12 @@ use native.Mathlib.Omega.{arith}
 use borrow.Author.Tests.{le-leb, lt-leb, leb-true, eq-eqb, ne-eqb}
 use lib.Dec.{leb, eqb}
 use lib.ListN.{length, getD, take}
-use Rattle.paper.specs.Limits.{peopleOk, slotCountOk, orElse, Test, test, heardOf}
-use Rattle.paper.specs.Rows.{unless, firstOf, next}
-use Rattle.paper.specs.declared.Fault.{Fault}
+use Rattle.paper.specs.Limits.{peopleOk, slotCountOk, orElse, Test, test, numberOf}
+use Rattle.paper.specs.Rows.{unless, refusalOf, next}
+use Rattle.paper.specs.declared.Refusal.{Refusal}
 use Rattle.paper.specs.Count.{over}
 use Rattle.paper.proofs.Logic.{lt-or-ge, slot-count-says}
-use Rattle.paper.proofs.Rows.{passed, said, asked-more, link, ends, next-pass, next-fail, next-kept}
+use Rattle.paper.proofs.Rows.{passed, said, checked-more, link, ends, next-pass, next-fail, next-kept}
 use Rattle.slotset.specs.declared.Number.the-variants as number
 use Rattle.slotset.specs.Answers.{numberAs}
 use Rattle.slots.specs.Lent.{slotRoomOk, slotsOk, SlotsSound}
@@ -47,12 +47,12 @@ module _ (B : Base) where
     room = room-says 1024 (B .outStarts) (B .outEnds) o;
   }
 
-  pub base-says : heardOf (baseRow B) ≡ 0 → BaseSound B
+  pub base-says : numberOf (baseRow B) ≡ 0 → BaseSound B
   unfolding baseRow
   base-says e = let h = passed (baseRow B) refl e in sound-of (h 0) (h 1) (h 2) (h 5) (h 6) (h 7)
 
   -- and where nothing is refused after it
-  pub atoms-say : heardOf (atomiseRow B) ≡ 0
+  pub atoms-say : numberOf (atomiseRow B) ≡ 0
       → BaseSound B × (slotsOk (B .slots) (B .starts) (B .ends) ≡ true) × (length (startsOfAtoms B) ≤ 1024)
       × ((k : ℕ) → k < B .ranges .count → getD (B .ranges .persons) k 0 < B .people)
   unfolding baseRow atomiseRow
@@ -70,41 +70,41 @@ pub record BaseFits (B : Base) : Type 0 where
   pub lent-ranges : rangeRoomOk (B .ranges) ≡ true
   pub out : slotRoomOk 1024 (B .outStarts) (B .outEnds) ≡ true
 
-pub fits-heard : (B : Base) → BaseFits B
-    → heardOf (atomiseRow B) ≡ orElse (slotsOk (B .slots) (B .starts) (B .ends)) 3
+pub fits-number : (B : Base) → BaseFits B
+    → numberOf (atomiseRow B) ≡ orElse (slotsOk (B .slots) (B .starts) (B .ends)) 3
     (orElse (rangesOk (B .people) (B .ranges)) 4 (orElse (leb (length (startsOfAtoms B)) 1024) 5 0))
-unfolding baseRow atomiseRow heardOf
-fits-heard B F = simp (F .people, F .slots, F .ranges, F .lent, F .lent-ranges, F .out)
+unfolding baseRow atomiseRow numberOf
+fits-number B F = simp (F .people, F .slots, F .ranges, F .lent, F .lent-ranges, F .out)
 
 -- ---- 5 comes after the others
 
-module _ (B : Base) (f : Fault) (e : f ≡ firstOf (baseRow B)) where
+module _ (B : Base) (f : Refusal) (e : f ≡ refusalOf (baseRow B)) where
   abbrev five : Test
   five = test 5 (leb (length (startsOfAtoms B)) 1024)
 
-  with-five : next f five .number ≡ heardOf (atomiseRow B)
+  with-five : next f five .number ≡ numberOf (atomiseRow B)
   unfolding atomiseRow baseRow
-  with-five = said _ (asked-more (baseRow B) (five ∷ []) refl e (link refl ends))
+  with-five = said _ (checked-more (baseRow B) (five ∷ []) refl e (link refl ends))
 
-  pub after-none : f .number ≡ 0 → leb (length (startsOfAtoms B)) 1024 ≡ true → heardOf (atomiseRow B) ≡ 0
-  after-none z p = sym with-five ∙ ap (λ (g : Fault). g .number) (next-pass f five p) ∙ z
+  pub after-none : f .number ≡ 0 → leb (length (startsOfAtoms B)) 1024 ≡ true → numberOf (atomiseRow B) ≡ 0
+  after-none z p = sym with-five ∙ ap (λ (g : Refusal). g .number) (next-pass f five p) ∙ z
 
-  pub after-five : f .number ≡ 0 → leb (length (startsOfAtoms B)) 1024 ≡ false → heardOf (atomiseRow B) ≡ 5
-  after-five z p = sym with-five ∙ ap (λ (g : Fault). g .number) (next-fail f five p z)
+  pub after-five : f .number ≡ 0 → leb (length (startsOfAtoms B)) 1024 ≡ false → numberOf (atomiseRow B) ≡ 5
+  after-five z p = sym with-five ∙ ap (λ (g : Refusal). g .number) (next-fail f five p z)
 
-  pub after-some : (f .number ≡ 0 → ⊥) → heardOf (atomiseRow B) ≡ f .number
-  after-some h = sym with-five ∙ ap (λ (g : Fault). g .number) (next-kept f five h)
+  pub after-some : (f .number ≡ 0 → ⊥) → numberOf (atomiseRow B) ≡ f .number
+  after-some h = sym with-five ∙ ap (λ (g : Refusal). g .number) (next-kept f five h)
 
 -- ---- refused, and done
 
-pub atoms-refused : (B : Base) (n : ℕ) → heardOf (atomiseRow B) ≡ n → (n ≡ 0 → ⊥)
+pub atoms-refused : (B : Base) (n : ℕ) → numberOf (atomiseRow B) ≡ n → (n ≡ 0 → ⊥)
     → AtomsEnd (atomiseOf B) (number.Refused n) (B .outStarts) (B .outEnds)
 unfolding atomiseOf numberAs unless
 atoms-refused B n e h =
-    let z : eqb (heardOf (atomiseRow B)) 0 ≡ false = ne-eqb _ _ (λ q. h (sym e ∙ q)) in
-    record { heard = simp z (ap number.Refused (sym e)); starts = simp z; ends = simp z }
+    let z : eqb (numberOf (atomiseRow B)) 0 ≡ false = ne-eqb _ _ (λ q. h (sym e ∙ q)) in
+    record { said = simp z (ap number.Refused (sym e)); starts = simp z; ends = simp z }
 
-module _ (B : Base) (fault : Fault) (e : fault ≡ firstOf (baseRow B)) (z : fault .number ≡ 0)
+module _ (B : Base) (fault : Refusal) (e : fault ≡ refusalOf (baseRow B)) (z : fault .number ≡ 0)
     (keys : List ℕ) (n : ℕ) (M : MergedFrom (B .ranges) keys n)
     (S E S′ E′ : List ℕ) (r : ℕ)
     (G : Grown 0 S E (atomStarts (keyCut (take n keys)) (B .slots) (B .starts) (B .ends))
@@ -155,13 +155,13 @@ module _ (B : Base) (fault : Fault) (e : fault ≡ firstOf (baseRow B)) (z : fau
         → AtomsEnd (atomiseOf B) (number.Is r) F T
     unfolding atomiseOf numberAs unless
     atoms-done a b F T p q =
-        let none : eqb (heardOf (atomiseRow B)) 0 ≡ true = eq-eqb _ _
+        let none : eqb (numberOf (atomiseRow B)) 0 ≡ true = eq-eqb _ _
         (after-none B fault e z (le-leb (length (startsOfAtoms B)) 1024 few-atoms)) in
         let room = base-says B (sym (said _ e) ∙ z) .room in
         let room-starts : r ≤ length (B .outStarts) = omega (arith, room .0) in
         let room-ends : r ≤ length (B .outEnds) = omega (arith, room .1) in
         record {
-          heard = simp none (ap number.Is count-is);
+          said = simp none (ap number.Is count-is);
           starts =
               simp none (p ∙ front-onto S′ (startsOfAtoms B) (B .outStarts) r (G .starts fits ∙ same-starts) (omega arith) room-starts);
           ends = simp none (q ∙ front-onto E′ (endsOfAtoms B) (B .outEnds) r (G .ends fits ∙ same-ends) (omega arith) room-ends);

@@ -10,17 +10,17 @@ use borrow.Author.Tests.{leb-true, ltb-true, ltb-false, le-leb, lt-ltb, le-ltb, 
 use lib.Dec.{leb, ltb, eqb}
 use lib.ListN.{length, getD, take}
 use lib.Seq.{getD-take, length-take-le}
-use Rattle.paper.specs.Limits.{peopleOk, heardOf}
+use Rattle.paper.specs.Limits.{peopleOk, numberOf}
 use Rattle.paper.specs.Rows.{unless}
 use Rattle.paper.specs.Count.{allIn}
 use Rattle.paper.proofs.Logic.{by-test, lt-or-ge, both, and-true, or-left, or-second, or-either, same-test}
 use Rattle.paper.proofs.Logic.{slot-count-says}
 use Rattle.paper.proofs.Rows.{passed}
 use Rattle.paper.proofs.Count.{in-each, each-in}
-use Rattle.slotset.specs.declared.Told.{Told}
-use Rattle.slotset.specs.declared.Told.the-variants as told
+use Rattle.slotset.specs.declared.YesNo.{YesNo}
+use Rattle.slotset.specs.declared.YesNo.the-variants as yesNo
 use Rattle.slotset.specs.Slots.{putSlot, putSlots, valueOf, has}
-use Rattle.slotset.specs.Answers.{rowNo, rowSlots, rowStretchOf, toldAs}
+use Rattle.slotset.specs.Answers.{rowRefusal, rowSlots, rowStretchOf, yesNoAs}
 use Rattle.slotset.proofs.Puts.{length-puts, puts-one, puts-same}
 use Rattle.slotset.proofs.Refusals.{says-row, stretch-puts}
 use Rattle.slots.specs.Lent.{SlotsSound}
@@ -265,7 +265,7 @@ pub record AvailabilitySound (people slots : ℕ) (starts ends : List ℕ) (R : 
   pub room : 16 * people ≤ length words
 
 pub availability-says : (people slots : ℕ) (starts ends : List ℕ) (R : Ranges) (words : List ℕ)
-    → heardOf (availabilityRow people slots starts ends R words) ≡ 0 → AvailabilitySound people slots starts ends R words
+    → numberOf (availabilityRow people slots starts ends R words) ≡ 0 → AvailabilitySound people slots starts ends R words
 unfolding availabilityRow
 availability-says people slots starts ends R words e =
     let h = passed (availabilityRow people slots starts ends R words) refl e in
@@ -285,21 +285,21 @@ marks-same R S slots starts ends T p k h =
     ap valueOf (held-available R S p (getD starts k 0) (getD ends k 0) (T .ordered k h) (T .capped k h))
 
 module _ (people slots : ℕ) (starts ends : List ℕ) (R : Ranges) (words : List ℕ) (number : ℕ)
-    (e : number ≡ heardOf (availabilityRow people slots starts ends R words)) where
-  pub availability-refused : (number ≡ 0 → ⊥) → (number ≡ heardOf (availabilityRow people slots starts ends R words)) ×
+    (e : number ≡ numberOf (availabilityRow people slots starts ends R words)) where
+  pub availability-refused : (number ≡ 0 → ⊥) → (number ≡ numberOf (availabilityRow people slots starts ends R words)) ×
       (words ≡ availabilityOf people slots starts ends R words)
   unfolding availabilityOf unless
   availability-refused h =
-      let z : eqb (heardOf (availabilityRow people slots starts ends R words)) 0 ≡ false = ne-eqb _ _ (λ q. h (e ∙ q)) in
+      let z : eqb (numberOf (availabilityRow people slots starts ends R words)) 0 ≡ false = ne-eqb _ _ (λ q. h (e ∙ q)) in
       (e, simp z)
 
   pub availability-done : number ≡ 0 → (keys : List ℕ) (n : ℕ) → MergedFrom R keys n → (next : List ℕ)
       → next ≡ rows (heldBit (take n keys) starts ends) slots people words
-      → (0 ≡ heardOf (availabilityRow people slots starts ends R words)) × (next ≡ availabilityOf people slots starts ends R words)
+      → (0 ≡ numberOf (availabilityRow people slots starts ends R words)) × (next ≡ availabilityOf people slots starts ends R words)
   unfolding availabilityOf unless
   availability-done h keys n M next d =
       let none = sym e ∙ h in
-      let z : eqb (heardOf (availabilityRow people slots starts ends R words)) 0 ≡ true = eq-eqb _ _ none in
+      let z : eqb (numberOf (availabilityRow people slots starts ends R words)) 0 ≡ true = eq-eqb _ _ none in
       let S = availability-says people slots starts ends R words none in (
         sym none,
         simp z (d ∙ ap (λ (l : List ℕ). rows (heldBit l starts ends) slots people words) (held-list R (S .ranges-sound) keys n M)
@@ -331,21 +331,22 @@ row-turn l starts ends people person slots base k ws₀ ws next want ok few know
 
 -- ---- may this person cover this slot
 
-module _ (slots : ℕ) (words : List ℕ) (people person slot no : ℕ) (e : no ≡ heardOf (availableRow people slots words person slot)) where
-  pub available-refused : (no ≡ 0 → ⊥) → told.Refused no ≡ isAvailable people slots words person slot
-  unfolding isAvailable toldAs unless
+module _ (slots : ℕ) (words : List ℕ) (people person slot no : ℕ) (e : no ≡ numberOf (availableRow people slots words person slot)) where
+  pub available-refused : (no ≡ 0 → ⊥) → yesNo.Refused no ≡ isAvailable people slots words person slot
+  unfolding isAvailable yesNoAs unless
   available-refused h =
-      let z : eqb (heardOf (availableRow people slots words person slot)) 0 ≡ false = ne-eqb _ _ (λ q. h (e ∙ q)) in
-      simp z (ap told.Refused e)
+      let z : eqb (numberOf (availableRow people slots words person slot)) 0 ≡ false = ne-eqb _ _ (λ q. h (e ∙ q)) in
+      simp z (ap yesNo.Refused e)
 
-  row-none : heardOf (availableRow people slots words person slot) ≡ 0 → rowNo words people person slots ≡ 0
+  row-none : numberOf (availableRow people slots words person slot) ≡ 0 → rowRefusal words people person slots ≡ 0
   unfolding availableRow
   row-none z =
       let h = passed (availableRow people slots words person slot) refl z in
       says-row words people person slots (h 0) (slot-count-says slots (h 1) .1) (leb-true _ _ (h 2)) (ltb-true _ _ (h 3))
 
-  pub available-told : no ≡ 0 → (r : Told) → r ≡ toldAs (rowNo words people person slots) (has (rowSlots words person) slots slot)
+  pub available-answered : no ≡ 0 → (r : YesNo) → r ≡ yesNoAs (rowRefusal words people person slots)
+      (has (rowSlots words person) slots slot)
       → r ≡ isAvailable people slots words person slot
   unfolding isAvailable
-  available-told h r d =
-      d ∙ ap (λ (n : ℕ). toldAs n (has (rowSlots words person) slots slot)) (row-none (sym e ∙ h) ∙ sym (sym e ∙ h))
+  available-answered h r d =
+      d ∙ ap (λ (n : ℕ). yesNoAs n (has (rowSlots words person) slots slot)) (row-none (sym e ∙ h) ∙ sym (sym e ∙ h))

@@ -8,7 +8,7 @@ use native.Mathlib.Omega.{arith}
 use borrow.Author.Tests.{le-leb, lt-leb, leb-true, eq-eqb, ne-eqb}
 use lib.Dec.{eqb}
 use lib.ListN.{length, getD}
-use Rattle.paper.specs.Limits.{peopleOk, heardOf}
+use Rattle.paper.specs.Limits.{peopleOk, numberOf}
 use Rattle.paper.specs.Rows.{unless}
 use Rattle.paper.proofs.Logic.{lt-or-ge, slot-count-says}
 use Rattle.paper.proofs.Rows.{passed}
@@ -107,7 +107,7 @@ module _ (n : ℕ) (f : ℕ → ℕ) (bound : ℕ) where
 -- ---- the numbers
 
 -- what no refusal leaves known
-pub freeze-says : (slots : ℕ) (starts ends frozen : List ℕ) → heardOf (freezeRow slots starts ends frozen) ≡ 0
+pub freeze-says : (slots : ℕ) (starts ends frozen : List ℕ) → numberOf (freezeRow slots starts ends frozen) ≡ 0
     → (slots ≤ 1024) × (16 ≤ length frozen) × SlotsSound slots starts ends
 unfolding freezeRow
 freeze-says slots starts ends frozen e =
@@ -123,13 +123,13 @@ stretch-put slots n ws a b h =
     stretch-puts 1 ws 1 0 slots 0 n (says-row ws 1 0 slots refl a b (omega arith)) h ∙ ap (λ (m : ℕ). putSlots (λ _. 1) 0 0 m ws) z
 
 -- the two outcomes
-module _ (slots : ℕ) (starts ends frozen : List ℕ) (instant no : ℕ) (e : no ≡ heardOf (freezeRow slots starts ends frozen)) where
+module _ (slots : ℕ) (starts ends frozen : List ℕ) (instant no : ℕ) (e : no ≡ numberOf (freezeRow slots starts ends frozen)) where
   pub freeze-refused : (no ≡ 0 → ⊥)
       → (number.Refused no ≡ freezeOf slots starts ends frozen instant .answer) ×
       (frozen ≡ freezeOf slots starts ends frozen instant .flags)
   unfolding freezeOf numberAs unless
   freeze-refused h =
-      let z : eqb (heardOf (freezeRow slots starts ends frozen)) 0 ≡ false = ne-eqb _ _ (λ q. h (e ∙ q)) in
+      let z : eqb (numberOf (freezeRow slots starts ends frozen)) 0 ≡ false = ne-eqb _ _ (λ q. h (e ∙ q)) in
       (simp z (ap number.Refused e), simp z)
 
   pub freeze-done : no ≡ 0 → (n : ℕ) → Opening slots (λ k. getD ends k 0) instant n → (ws : List ℕ)
@@ -137,7 +137,7 @@ module _ (slots : ℕ) (starts ends frozen : List ℕ) (instant no : ℕ) (e : n
       → (number.Is n ≡ freezeOf slots starts ends frozen instant .answer) × (ws ≡ freezeOf slots starts ends frozen instant .flags)
   unfolding freezeOf numberAs unless
   freeze-done h n O ws w =
-      let z : eqb (heardOf (freezeRow slots starts ends frozen)) 0 ≡ true = eq-eqb _ _ (sym e ∙ h) in
+      let z : eqb (numberOf (freezeRow slots starts ends frozen)) 0 ≡ true = eq-eqb _ _ (sym e ∙ h) in
       let k = freeze-says slots starts ends frozen (sym e ∙ h) in (
         simp z (ap number.Is (sym (opening-count slots ends instant n O))),
         simp z (w ∙ stretch-put slots n frozen (k .0) (k .1) (O .few) ∙ sym (opening-marked slots ends instant n O frozen)),

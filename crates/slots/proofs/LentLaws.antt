@@ -8,14 +8,14 @@ use native.Mathlib.Omega.{arith}
 use borrow.Author.Tests.{ltb-true, leb-true, eq-eqb, ne-eqb}
 use lib.Dec.{leb, ltb}
 use lib.ListN.{length, getD}
-use Rattle.paper.specs.Limits.{slotCountOk, heardOf}
+use Rattle.paper.specs.Limits.{slotCountOk, numberOf}
 use Rattle.paper.specs.Count.{all, sum}
 use Rattle.paper.proofs.Logic.{number-of-made, both, three}
 use Rattle.paper.proofs.Rows.{passed}
 use Rattle.paper.proofs.Count.{all-each, sum-more}
 use Rattle.slots.specs.declared.Minutes.the-variants as minutes
 use Rattle.slots.specs.Lent.{slotOk, prevEnd, slotOkAt, slotRoomOk, slotsOk, minutesAt, demandOf, demandWhenOk, SlotsSound}
-use Rattle.slots.specs.Lent.{lentRow, minutesAs, minutesNo}
+use Rattle.slots.specs.Lent.{lentRow, minutesAs, minutesRefusal}
 
 -- ---- what one slot's test says
 
@@ -115,7 +115,7 @@ prev-more ends i = sym (ap (prevEnd ends) (add-one i))
 -- ---- the numbers
 
 -- 1, 2 and 9 are what they are, as tests
-pub lent-says : (slots : ℕ) (starts ends : List ℕ) → heardOf (lentRow slots starts ends) ≡ 0
+pub lent-says : (slots : ℕ) (starts ends : List ℕ) → numberOf (lentRow slots starts ends) ≡ 0
     → (slotCountOk slots ≡ true) × (slotsOk slots starts ends ≡ true)
 unfolding lentRow
 lent-says slots starts ends e = let h = passed (lentRow slots starts ends) refl e in (h 0, h 2)
@@ -130,18 +130,18 @@ module _ (starts ends : List ℕ) (i total m : ℕ) (e : total ≡ sum i (minute
 
 -- ---- the answer, by its number
 
-pub minutes-is : (n m : ℕ) → n ≡ m → n ≡ 0 → (k k′ : ℕ) → k ≡ k′ → minutes.Are k ≡ minutesAs m k′
+pub minutes-is : (n m : ℕ) → n ≡ m → n ≡ 0 → (k k′ : ℕ) → k ≡ k′ → minutes.Is k ≡ minutesAs m k′
 unfolding minutesAs
-minutes-is n m e z k k′ q = simp (eq-eqb m 0 (sym e ∙ z)) (ap minutes.Are q)
+minutes-is n m e z k k′ q = simp (eq-eqb m 0 (sym e ∙ z)) (ap minutes.Is q)
 
-pub minutes-no : (n m : ℕ) → n ≡ m → (n ≡ 0 → ⊥) → (k : ℕ) → minutes.Refused n ≡ minutesAs m k
+pub minutes-refusal : (n m : ℕ) → n ≡ m → (n ≡ 0 → ⊥) → (k : ℕ) → minutes.Refused n ≡ minutesAs m k
 unfolding minutesAs
-minutes-no n m e z k = simp (ne-eqb m 0 (λ q. z (e ∙ q))) (ap minutes.Refused e)
+minutes-refusal n m e z k = simp (ne-eqb m 0 (λ q. z (e ∙ q))) (ap minutes.Refused e)
 
 -- an answer has the number that it was made with
-pub minutes-said : (n m : ℕ) → minutesNo (minutesAs n m) ≡ n
+pub minutes-said : (n m : ℕ) → minutesRefusal (minutesAs n m) ≡ n
 unfolding minutesAs
-minutes-said n m = number-of-made minutesNo n (minutes.Are m) (minutes.Refused n) refl refl
+minutes-said n m = number-of-made minutesRefusal n (minutes.Is m) (minutes.Refused n) refl refl
 
 -- demand of slots that pass
 pub when-ok : (slots : ℕ) (starts ends : List ℕ) → slotsOk slots starts ends ≡ true

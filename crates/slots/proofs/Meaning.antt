@@ -206,9 +206,9 @@ atoms-count-ok cut slots starts ends ok few =
 pub one-merged-end : (x : MergedOut) (r r′ : Number) (p p′ s s′ e e′ : List ℕ) → MergedEnd x r p s e → MergedEnd x r′ p′ s′ e′
     → (r ≡ r′) × (p ≡ p′) × (s ≡ s′) × (e ≡ e′)
 one-merged-end x r r′ p p′ s s′ e e′ a b =
-    (a .heard ∙ sym (b .heard), a .persons ∙ sym (b .persons), a .starts ∙ sym (b .starts), a .ends ∙ sym (b .ends))
+    (a .said ∙ sym (b .said), a .persons ∙ sym (b .persons), a .starts ∙ sym (b .starts), a .ends ∙ sym (b .ends))
 
 -- atomise
 pub one-atoms-end : (x : Atoms) (r r′ : Number) (s s′ e e′ : List ℕ) → AtomsEnd x r s e → AtomsEnd x r′ s′ e′
     → (r ≡ r′) × (s ≡ s′) × (e ≡ e′)
-one-atoms-end x r r′ s s′ e e′ a b = (a .heard ∙ sym (b .heard), a .starts ∙ sym (b .starts), a .ends ∙ sym (b .ends))
+one-atoms-end x r r′ s s′ e e′ a b = (a .said ∙ sym (b .said), a .starts ∙ sym (b .starts), a .ends ∙ sym (b .ends))

@@ -9,7 +9,7 @@ use borrow.Author.Tests.{lt-ltb, ltb-true, eq-eqb, eqb-true, ne-eqb}
 use lib.Dec.{leb, ltb, eqb}
 use lib.ListN.{length, getD, take, drop, set, length-append, length-drop, length-map, List·getD-append}
 use lib.Seq.{length-take-le, getD-take, ext-getD, getD-append-add, getD-drop}
-use Rattle.paper.specs.Limits.{heardOf}
+use Rattle.paper.specs.Limits.{numberOf}
 use Rattle.paper.specs.Rows.{unless}
 use Rattle.paper.specs.Count.{over, onto}
 use Rattle.paper.proofs.Logic.{three, lt-or-ge}
@@ -117,7 +117,7 @@ module _ (R : Ranges) (S : RangesSound R) (keys : List ℕ) (n : ℕ) (M : Merge
 
 -- ---- the outcome
 
-pub merged-says : (people : ℕ) (R : Ranges) (out : Columns) → heardOf (mergedRow people R out) ≡ 0
+pub merged-says : (people : ℕ) (R : Ranges) (out : Columns) → numberOf (mergedRow people R out) ≡ 0
     → RangesSound R × (R .count ≤ length (out .persons)) × (R .count ≤ length (out .starts)) × (R .count ≤ length (out .ends))
 unfolding mergedRow
 merged-says people R out e =
@@ -125,24 +125,24 @@ merged-says people R out e =
     let w = range-room-says (ranges (R .count) (out .persons) (out .starts) (out .ends)) (h 3) in
     (ranges-sound people R (h 0) (h 1) (h 4), w .0, w .1, w .2)
 
-module _ (people : ℕ) (R : Ranges) (out : Columns) (no : ℕ) (e : no ≡ heardOf (mergedRow people R out)) where
+module _ (people : ℕ) (R : Ranges) (out : Columns) (no : ℕ) (e : no ≡ numberOf (mergedRow people R out)) where
   pub merged-refused : (no ≡ 0 → ⊥)
       → MergedEnd (mergedRanges people R out) (number.Refused no) (out .persons) (out .starts) (out .ends)
   unfolding mergedRanges numberAs unless
   merged-refused h =
-      let z : eqb (heardOf (mergedRow people R out)) 0 ≡ false = ne-eqb _ _ (λ q. h (e ∙ q)) in
-      record { heard = simp z (ap number.Refused e); persons = simp z; starts = simp z; ends = simp z }
+      let z : eqb (numberOf (mergedRow people R out)) 0 ≡ false = ne-eqb _ _ (λ q. h (e ∙ q)) in
+      record { said = simp z (ap number.Refused e); persons = simp z; starts = simp z; ends = simp z }
 
   pub merged-done : no ≡ 0 → (keys : List ℕ) (n : ℕ) → MergedFrom R keys n → (p s f : List ℕ)
       → TakenApart n keys (out .persons) (out .starts) (out .ends) p s f → MergedEnd (mergedRanges people R out) (number.Is n) p s f
   unfolding mergedRanges numberAs unless
   merged-done h keys n M p s f T =
-      let z : eqb (heardOf (mergedRow people R out)) 0 ≡ true = eq-eqb _ _ (sym e ∙ h) in
+      let z : eqb (numberOf (mergedRow people R out)) 0 ≡ true = eq-eqb _ _ (sym e ∙ h) in
       let w = merged-says people R out (sym e ∙ h) in
       let S = w .0 in
       let few = M .few in
       record {
-        heard = simp z (ap number.Is (sym (held-length R S keys n M)));
+        said = simp z (ap number.Is (sym (held-length R S keys n M)));
         persons = simp z (T .persons ∙ held-persons R S keys n M (out .persons) (omega (arith, w .1)));
         starts = simp z (T .starts ∙ held-starts R S keys n M (out .starts) (omega (arith, w .2)));
         ends = simp z (T .ends ∙ held-ends R S keys n M (out .ends) (omega (arith, w .3)));
@@ -163,7 +163,7 @@ pub column-room : (f : ℕ → ℕ) (i n : ℕ) (old now : List ℕ) → now ≡
 column-room f i n old now e a b = omega (arith, column-length f i old now e)
 
 -- what taking the list apart asks
-pub merged-work : (people : ℕ) (R : Ranges) (out : Columns) → heardOf (mergedRow people R out) ≡ 0
+pub merged-work : (people : ℕ) (R : Ranges) (out : Columns) → numberOf (mergedRow people R out) ≡ 0
     → (keys : List ℕ) (n : ℕ) → MergedFrom R keys n
     → ((n ≤ 1024) × (n ≤ length keys) × ((k : ℕ) → k < n → personOf (getD keys k 0) < 32))
     × ((n ≤ length (out .persons)) × (n ≤ length (out .starts)) × (n ≤ length (out .ends)))

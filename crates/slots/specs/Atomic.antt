@@ -5,7 +5,7 @@ use mathlib.Core.List.{List, [], _∷_, _++_}
 use Prim.Native.Nat.{ℕ, zero, suc, _<_}
 use lib.Dec.{leb, ltb}
 use lib.ListN.{length, getD}
-use Rattle.paper.specs.Limits.{peopleOk, slotCountOk, slotsMost, Test, test, heardOf}
+use Rattle.paper.specs.Limits.{peopleOk, slotCountOk, slotsMost, Test, test, numberOf}
 use Rattle.paper.specs.Rows.{unless}
 use Rattle.paper.specs.Count.{some, among, onto}
 use Rattle.slotset.specs.declared.Number.{Number}
@@ -84,7 +84,7 @@ baseRow B =
 unfoldable pub atomiseRow : Base → List Test
 atomiseRow B = baseRow B ++ (test 5 (leb (length (startsOfAtoms B)) slotsMost) ∷ [])
 
--- the whole outcome: what is heard, and the two columns at exit
+-- the whole outcome: what is answered, and the two columns at exit
 pub record Atoms : Type 0 where
   pub answer : Number
   pub starts : List ℕ
@@ -92,15 +92,15 @@ pub record Atoms : Type 0 where
 
 unfoldable pub atomiseOf : Base → Atoms
 atomiseOf B =
-    let n = heardOf (atomiseRow B) in
+    let n = numberOf (atomiseRow B) in
     record {
       answer = numberAs n (length (startsOfAtoms B));
       starts = unless n (B .outStarts) (onto (startsOfAtoms B) (B .outStarts));
       ends = unless n (B .outEnds) (onto (endsOfAtoms B) (B .outEnds));
     }
 
--- what is heard and what is left in the lent columns are those of the outcome
+-- what is answered and what is left in the lent columns are those of the outcome
 pub record AtomsEnd (x : Atoms) (r : Number) (s e : List ℕ) : Type 0 where
-  pub heard : r ≡ x .answer
+  pub said : r ≡ x .answer
   pub starts : s ≡ x .starts
   pub ends : e ≡ x .ends

@@ -3,11 +3,11 @@ use mathlib.Core.List.{List, [], _∷_}
 use Prim.Native.Nat.{ℕ, zero, suc, _*_}
 use lib.Dec.{leb, ltb}
 use lib.ListN.{length, getD}
-use Rattle.paper.specs.Limits.{setWords, peopleOk, slotCountOk, Test, test, heardOf}
+use Rattle.paper.specs.Limits.{setWords, peopleOk, slotCountOk, Test, test, numberOf}
 use Rattle.paper.specs.Rows.{unless}
-use Rattle.slotset.specs.declared.Told.{Told}
+use Rattle.slotset.specs.declared.YesNo.{YesNo}
 use Rattle.slotset.specs.Slots.{putSlots, valueOf, has}
-use Rattle.slotset.specs.Answers.{rowSlots, toldAs}
+use Rattle.slotset.specs.Answers.{rowSlots, yesNoAs}
 use Rattle.slots.specs.Lent.{slotRoomOk, slotsOk}
 use Rattle.slots.specs.Ranges.{Ranges, rangeCountOk, rangeRoomOk, rangesOk, available}
 
@@ -30,7 +30,7 @@ availabilityRow people slots starts ends R words =
 -- the words at exit
 unfoldable pub availabilityOf : ℕ → ℕ → List ℕ → List ℕ → Ranges → List ℕ → List ℕ
 availabilityOf people slots starts ends R words =
-    unless (heardOf (availabilityRow people slots starts ends R words)) words (rows (availableBit R starts ends) slots people words)
+    unless (numberOf (availabilityRow people slots starts ends R words)) words (rows (availableBit R starts ends) slots people words)
 
 -- ---- may this person cover this slot
 
@@ -40,6 +40,6 @@ availableRow people slots words person slot =
     test 1 (peopleOk people) ∷ test 1 (slotCountOk slots) ∷ test 2 (leb (setWords * people) (length words)) ∷ test 11 (ltb person people)
     ∷ test 11 (ltb slot slots) ∷ []
 
-unfoldable pub isAvailable : ℕ → ℕ → List ℕ → ℕ → ℕ → Told
+unfoldable pub isAvailable : ℕ → ℕ → List ℕ → ℕ → ℕ → YesNo
 isAvailable people slots words person slot =
-    toldAs (heardOf (availableRow people slots words person slot)) (has (rowSlots words person) slots slot)
+    yesNoAs (numberOf (availableRow people slots words person slot)) (has (rowSlots words person) slots slot)

@@ -4,7 +4,7 @@ use mathlib.Core.List.{List, [], _∷_}
 use Prim.Native.Nat.{ℕ, zero, suc}
 use lib.Dec.{leb}
 use lib.ListN.{length, getD}
-use Rattle.paper.specs.Limits.{slotCountOk, setWords, Test, test, heardOf}
+use Rattle.paper.specs.Limits.{slotCountOk, setWords, Test, test, numberOf}
 use Rattle.paper.specs.Rows.{unless}
 use Rattle.paper.specs.Count.{count}
 use Rattle.slotset.specs.declared.Number.{Number}
@@ -32,12 +32,12 @@ freezeRow slots starts ends frozen =
     test 1 (slotCountOk slots) ∷ test 2 (slotRoomOk slots starts ends) ∷ test 2 (leb setWords (length frozen))
     ∷ test 9 (slotsOk slots starts ends) ∷ []
 
--- the whole outcome: what is heard, and the flags at exit
+-- the whole outcome: what is answered, and the flags at exit
 pub record Frozen : Type 0 where
   pub answer : Number
   pub flags : List ℕ
 
 unfoldable pub freezeOf : ℕ → List ℕ → List ℕ → List ℕ → ℕ → Frozen
 freezeOf slots starts ends frozen instant =
-    let n = heardOf (freezeRow slots starts ends frozen) in
+    let n = numberOf (freezeRow slots starts ends frozen) in
     record { answer = numberAs n (endedBy slots ends instant); flags = unless n frozen (marked slots ends instant frozen) }

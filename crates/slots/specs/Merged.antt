@@ -5,7 +5,7 @@ use mathlib.Core.List.{List, [], _∷_, _++_, map}
 use Prim.Native.Nat.{ℕ, zero, suc, _<_, min, max}
 use lib.Dec.{ltb, eqb}
 use lib.ListN.{length}
-use Rattle.paper.specs.Limits.{peopleOk, Test, test, heardOf}
+use Rattle.paper.specs.Limits.{peopleOk, Test, test, numberOf}
 use Rattle.paper.specs.Rows.{unless}
 use Rattle.paper.specs.Count.{onto}
 use Rattle.slotset.specs.declared.Number.{Number}
@@ -80,7 +80,7 @@ mergedRow people R out =
     test 1 (peopleOk people) ∷ test 1 (rangeCountOk (R .count)) ∷ test 2 (rangeRoomOk R)
     ∷ test 2 (rangeRoomOk (ranges (R .count) (out .persons) (out .starts) (out .ends))) ∷ test 4 (rangesOk people R) ∷ []
 
--- the whole outcome: what is heard, and the columns at exit
+-- the whole outcome: what is answered, and the columns at exit
 pub record MergedOut : Type 0 where
   pub answer : Number
   pub persons : List ℕ
@@ -89,7 +89,7 @@ pub record MergedOut : Type 0 where
 
 unfoldable pub mergedRanges : ℕ → Ranges → Columns → MergedOut
 mergedRanges people R out =
-    let n = heardOf (mergedRow people R out) in
+    let n = numberOf (mergedRow people R out) in
     let list = mergedOf R in
     record {
       answer = numberAs n (length list);
@@ -98,9 +98,9 @@ mergedRanges people R out =
       ends = unless n (out .ends) (onto (endsOf list) (out .ends));
     }
 
--- what is heard and what is left in the lent columns are those of the outcome
+-- what is answered and what is left in the lent columns are those of the outcome
 pub record MergedEnd (x : MergedOut) (r : Number) (p s e : List ℕ) : Type 0 where
-  pub heard : r ≡ x .answer
+  pub said : r ≡ x .answer
   pub persons : p ≡ x .persons
   pub starts : s ≡ x .starts
   pub ends : e ≡ x .ends

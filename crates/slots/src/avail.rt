@@ -1,15 +1,15 @@
 // Availability of lent slots, any that pass rule 3: one set a person; and its single question.
 use crate::lent;
 use crate::ranges;
-use paper::Fault;
-use slotset::Told;
+use paper::Refusal;
+use slotset::YesNo;
 use slotset::row;
 ghost use mathlib.Core.Path.{_≡_};
 ghost use mathlib.Core.Bool.{true};
 ghost use Prim.Native.Nat.{ℕ, _+_, _*_, _≤_, _<_};
 ghost use lib.ListN.{length, getD, take};
-ghost use Rattle.paper.specs.Limits.{peopleOk, heardOf};
-ghost use Rattle.paper.specs.Rows.{firstOf};
+ghost use Rattle.paper.specs.Limits.{peopleOk, numberOf};
+ghost use Rattle.paper.specs.Rows.{refusalOf};
 ghost use Rattle.slotset.specs.Slots.{putSlots};
 ghost use Rattle.slots.specs.Lent.{SlotsSound};
 ghost use Rattle.slots.specs.Ranges.{ranges};
@@ -17,7 +17,7 @@ ghost use Rattle.slots.specs.Availability.{availabilityRow, availability
 ghost use Rattle.slots.specs.Inside.{opens, SpacedKeys, Opening, reaches, heldBit};
 
 // How many of the merged ranges open at a place of the line or before it, where the first `low` do: a walk on from there.
-fn opened_on(keys: &[u64], n: usize, low: usize, place: u64) -> usize
+fn opened_by_from(keys: &[u64], n: usize, low: usize, place: u64) -> usize
     requires { ⌜ (n ≤ 1024) × (n ≤ length (now keys)) × SpacedKeys 0 (take n (now keys)) ⌝ }
     requires { ⌜ (low ≤ n) × ((k : ℕ) → k < low → opens (getD (now keys) k 0) ≤ place) ⌝ }
     ensures { λ r. ⌜ Opening n (λ k. opens (getD (now (keys .entry)) k 0)) place r ⌝ }
@@ -67,9 +67,9 @@ fn fill_row(
     let mut opened: usize = 0;
     let mut k: usize = 0;
     while k < slots {
-        opened = opened_on(keys, n, opened, base + starts[k] as u64);
+        opened = opened_by_from(keys, n, opened, base + starts[k] as u64);
         let want = reaches(keys, opened, base + ends[k] as u64);
-        row::put_stretch(words, people, person, slots, k, k + 1, want);
+        row::put_stretch(people, slots, words, person, k, k + 1, want);
         k += 1;
     }
 }
@@ -98,53 +98,53 @@ fn fill_rows(
 }
 
 // What is wrong with what availability takes: 1, 2, 4 or 9.
-fn availability_no(
+fn availability_refusal(
     people: usize,
     slots: usize,
+    count: usize,
     starts: &[u32],
     ends: &[u32],
-    count: usize,
     persons: &[u16],
     opens: &[u32],
     shuts: &[u32],
     words: &[u64],
-) -> Fault
-    ensures { λ r. ⌜ r ≡ firstOf (availabilityRow people slots (now (starts .entry)) (now (ends .entry))
+) -> Refusal
+    ensures { λ r. ⌜ r ≡ refusalOf (availabilityRow people slots (now (starts .entry)) (now (ends .entry))
         (ranges count (now (persons .entry)) (now (opens .entry)) (now (shuts .entry))) (now (words .entry))) ⌝ }
 {
-    let f = paper::heard_people(paper::nothing(), people);
-    let f = paper::heard_slots(f, slots);
-    let f = ranges::heard_range_count(f, count);
-    let f = lent::heard_room(f, slots, starts, ends);
-    let f = ranges::heard_range_room(f, count, persons, opens, shuts);
-    let f = paper::heard_words(f, words, people);
-    let f = ranges::heard_ranges(f, people, count, persons, opens, shuts);
-    lent::heard_order(f, slots, starts, ends, 9)
+    let f = paper::check_people(paper::accepted(), people);
+    let f = paper::check_slots(f, slots);
+    let f = ranges::check_range_count(f, count);
+    let f = lent::check_room(f, slots, starts, ends);
+    let f = ranges::check_range_room(f, count, persons, opens, shuts);
+    let f = paper::check_words(f, people, words);
+    let f = ranges::check_ranges(f, people, count, persons, opens, shuts);
+    lent::check_order(f, slots, starts, ends, 9)
 }
 
 // One set a person: slot k is in it exactly when each of its minutes lies in one of the person's ranges. Refusals 1, 2, 4, 9.
 pub fn availability(
     people: usize,
     slots: usize,
+    count: usize,
     starts: &[u32],
     ends: &[u32],
-    count: usize,
     persons: &[u16],
     opens: &[u32],
     shuts: &[u32],
     words: &mut [u64],
 ) -> u8
-    ensures { λ r. ⌜ (r ≡ heardOf (availabilityRow people slots (now (starts .entry)) (now (ends .entry))
+    ensures { λ r. ⌜ (r ≡ numberOf (availabilityRow people slots (now (starts .entry)) (now (ends .entry))
         (ranges count (now (persons .entry)) (now (opens .entry)) (now (shuts .entry))) (now (words .entry))))
         × (now (words .exit) ≡ availabilityOf people slots (now (starts .entry)) (now (ends .entry))
         (ranges count (now (persons .entry)) (now (opens .entry)) (now (shuts .entry))) (now (words .entry))) ⌝ }
 {
-    let number = availability_no(
+    let number = availability_refusal(
         people,
         slots,
+        count,
         starts,
         ends,
-        count,
         persons,
         opens,
         shuts,
@@ -161,23 +161,29 @@ pub fn availability(
 }
 
 // What is wrong with the question: 1, 2 or 11.
-fn available_no(people: usize, slots: usize, avail: &[u64], person: usize, slot: usize) -> Fault
-    ensures { λ r. ⌜ r ≡ firstOf (availableRow people slots (now (avail .entry)) person slot) ⌝ }
+fn available_refusal(
+    people: usize,
+    slots: usize,
+    avail: &[u64],
+    person: usize,
+    slot: usize,
+) -> Refusal
+    ensures { λ r. ⌜ r ≡ refusalOf (availableRow people slots (now (avail .entry)) person slot) ⌝ }
 {
-    let f = paper::heard_people(paper::nothing(), people);
-    let f = paper::heard_slots(f, slots);
-    let f = paper::heard_words(f, avail, people);
-    let f = paper::heard(f, person < people, 11);
-    paper::heard(f, slot < slots, 11)
+    let f = paper::check_people(paper::accepted(), people);
+    let f = paper::check_slots(f, slots);
+    let f = paper::check_words(f, people, avail);
+    let f = paper::check(f, person < people, 11);
+    paper::check(f, slot < slots, 11)
 }
 
 // May this person cover this slot? Refusals 1, 2, 11.
-pub fn is_available(people: usize, slots: usize, avail: &[u64], person: usize, slot: usize) -> Told
+pub fn is_available(people: usize, slots: usize, avail: &[u64], person: usize, slot: usize) -> YesNo
     ensures { λ r. ⌜ r ≡ isAvailable people slots (now (avail .entry)) person slot ⌝ }
 {
-    let number = available_no(people, slots, avail, person, slot).number;
+    let number = available_refusal(people, slots, avail, person, slot).number;
     if number == 0 {
-        return row::contains(avail, people, person, slots, slot);
+        return row::contains(people, slots, avail, person, slot);
     }
-    Told::Refused(number)
+    YesNo::Refused(number)
 }

@@ -1,12 +1,12 @@
 // Freezing at an instant.
 use crate::lent;
-use paper::Fault;
+use paper::Refusal;
 use slotset::Number;
 use slotset::row;
 ghost use mathlib.Core.Path.{_≡_};
 ghost use Prim.Native.Nat.{ℕ, _≤_, _<_};
 ghost use lib.ListN.{length, getD};
-ghost use Rattle.paper.specs.Rows.{firstOf};
+ghost use Rattle.paper.specs.Rows.{refusalOf};
 ghost use Rattle.slots.specs.Freeze.{freezeRow, freezeOf};
 ghost use Rattle.slots.specs.Inside.{Opening};
 
@@ -30,13 +30,13 @@ fn ended_by(slots: usize, ends: &[u32], instant: u32) -> usize
 }
 
 // What is wrong with what freezing takes: 1, 2 or 9.
-fn freeze_no(slots: usize, starts: &[u32], ends: &[u32], frozen: &[u64]) -> Fault
-    ensures { λ r. ⌜ r ≡ firstOf (freezeRow slots (now (starts .entry)) (now (ends .entry)) (now (frozen .entry))) ⌝ }
+fn freeze_refusal(slots: usize, starts: &[u32], ends: &[u32], frozen: &[u64]) -> Refusal
+    ensures { λ r. ⌜ r ≡ refusalOf (freezeRow slots (now (starts .entry)) (now (ends .entry)) (now (frozen .entry))) ⌝ }
 {
-    let f = paper::heard_slots(paper::nothing(), slots);
-    let f = lent::heard_room(f, slots, starts, ends);
-    let f = paper::heard_words(f, frozen, 1);
-    lent::heard_order(f, slots, starts, ends, 9)
+    let f = paper::check_slots(paper::accepted(), slots);
+    let f = lent::check_room(f, slots, starts, ends);
+    let f = paper::check_words(f, 1, frozen);
+    lent::check_order(f, slots, starts, ends, 9)
 }
 
 // Marks each slot whose end is at or before the instant, clears no mark, and answers how many end by then. Refusals 1, 2, 9.
@@ -50,10 +50,10 @@ pub fn freeze_before(
     ensures { λ r. ⌜ (r ≡ freezeOf slots (now (starts .entry)) (now (ends .entry)) (now (frozen .entry)) instant .answer)
         × (now (frozen .exit) ≡ freezeOf slots (now (starts .entry)) (now (ends .entry)) (now (frozen .entry)) instant .flags) ⌝ }
 {
-    let number = freeze_no(slots, starts, ends, frozen).number;
+    let number = freeze_refusal(slots, starts, ends, frozen).number;
     if number == 0 {
         let n = ended_by(slots, ends, instant);
-        row::put_stretch(frozen, 1, 0, slots, 0, n, true);
+        row::put_stretch(1, slots, frozen, 0, 0, n, true);
         return Number::Is(n);
     }
     Number::Refused(number)

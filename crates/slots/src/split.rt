@@ -1,14 +1,14 @@
 // Atomic slots: each base slot split at every cut strictly inside it. Cuts are found as the starts and ends of merged ranges.
 use crate::lent;
 use crate::ranges;
-use paper::Fault;
+use paper::Refusal;
 use slotset::Number;
 ghost use mathlib.Core.Path.{_≡_};
 ghost use mathlib.Core.List.{_∷_, [], _++_};
 ghost use Prim.Native.Nat.{_≤_, _<_};
 ghost use lib.ListN.{length, getD, take};
 ghost use Rattle.paper.specs.Count.{over};
-ghost use Rattle.paper.specs.Rows.{firstOf};
+ghost use Rattle.paper.specs.Rows.{refusalOf};
 ghost use Rattle.slots.specs.Lent.{SlotsSound};
 ghost use Rattle.slots.specs.Ranges.{ranges};
 ghost use Rattle.slots.specs.Atomic.{cutsIn, atomStarts, atomEnds, base, baseRow, atomiseOf, AtomsEnd};
@@ -92,7 +92,7 @@ fn split_slot(
 {
     let mut prev = start;
     let mut m = count;
-    while m < 1024 {
+    while m < paper::SLOTS_MOST {
         let cut = next_cut(keys, n, prev as u64, end as u64) as u32;
         starts[m] = prev;
         ends[m] = cut;
@@ -127,7 +127,7 @@ fn split_all(
     let mut count: usize = 0;
     while i < slots {
         count = split_slot(keys, n, starts[i], ends[i], froms, tos, count);
-        if 1024 < count {
+        if paper::SLOTS_MOST < count {
             return count;
         }
         i += 1;
@@ -153,38 +153,38 @@ fn blank_column() -> [u32; 1024] {
 }
 
 // What is wrong with what splitting takes: 1 to 4.
-fn base_no(
+fn base_refusal(
+    people: usize,
     slots: usize,
+    count: usize,
     starts: &[u32],
     ends: &[u32],
-    people: usize,
-    count: usize,
     persons: &[u16],
     opens: &[u32],
     shuts: &[u32],
     froms: &[u32],
     tos: &[u32],
-) -> Fault
-    ensures { λ r. ⌜ r ≡ firstOf (baseRow (base slots (now (starts .entry)) (now (ends .entry)) people
+) -> Refusal
+    ensures { λ r. ⌜ r ≡ refusalOf (baseRow (base slots (now (starts .entry)) (now (ends .entry)) people
         (ranges count (now (persons .entry)) (now (opens .entry)) (now (shuts .entry))) (now (froms .entry)) (now (tos .entry)))) ⌝ }
 {
-    let f = paper::heard_people(paper::nothing(), people);
-    let f = paper::heard_slots(f, slots);
-    let f = ranges::heard_range_count(f, count);
-    let f = lent::heard_room(f, slots, starts, ends);
-    let f = ranges::heard_range_room(f, count, persons, opens, shuts);
-    let f = lent::heard_room(f, paper::SLOTS_MOST, froms, tos);
-    let f = lent::heard_order(f, slots, starts, ends, 3);
-    ranges::heard_ranges(f, people, count, persons, opens, shuts)
+    let f = paper::check_people(paper::accepted(), people);
+    let f = paper::check_slots(f, slots);
+    let f = ranges::check_range_count(f, count);
+    let f = lent::check_room(f, slots, starts, ends);
+    let f = ranges::check_range_room(f, count, persons, opens, shuts);
+    let f = lent::check_room(f, paper::SLOTS_MOST, froms, tos);
+    let f = lent::check_order(f, slots, starts, ends, 3);
+    ranges::check_ranges(f, people, count, persons, opens, shuts)
 }
 
 // The base slots split at every start and end of a merged range that lies strictly inside one, with their number. Refusals 1 to 5.
 pub fn atomise(
+    people: usize,
     slots: usize,
+    count: usize,
     starts: &[u32],
     ends: &[u32],
-    people: usize,
-    count: usize,
     persons: &[u16],
     opens: &[u32],
     shuts: &[u32],
@@ -196,12 +196,12 @@ pub fn atomise(
         (ranges count (now (persons .entry)) (now (opens .entry)) (now (shuts .entry))) (now (froms .entry)) (now (tos .entry))))
         r (now (froms .exit)) (now (tos .exit)) ⌝ }
 {
-    let number = base_no(
+    let number = base_refusal(
+        people,
         slots,
+        count,
         starts,
         ends,
-        people,
-        count,
         persons,
         opens,
         shuts,
@@ -215,7 +215,7 @@ pub fn atomise(
         let mut s = blank_column();
         let mut e = blank_column();
         let atoms = split_all(&keys, n, slots, starts, ends, &mut s, &mut e);
-        if atoms <= 1024 {
+        if atoms <= paper::SLOTS_MOST {
             copy_column(&s, atoms, froms);
             copy_column(&e, atoms, tos);
             return Number::Is(atoms);

@@ -8,7 +8,7 @@ use native.Mathlib.Omega.{arith}
 use borrow.Author.Tests.{le-leb, lt-leb, lt-ltb, le-ltb, eq-eqb, ne-eqb}
 use lib.Dec.{eqb}
 use lib.ListN.{length, take, drop, length-take, length-drop}
-use Rattle.paper.specs.Limits.{heardOf}
+use Rattle.paper.specs.Limits.{numberOf}
 use Rattle.paper.proofs.Rows.{passed, worked}
 use Rattle.paper.proofs.Logic.{lt-or-ge}
 use Rattle.slotset.specs.declared.SlotSet.{SlotSet}
@@ -20,16 +20,16 @@ use Rattle.slotset.proofs.Members.{put-here, put-elsewhere}
 use Rattle.slotset.proofs.Refusals.{row-says, slot-says}
 
 -- what is loaded where nothing is refused
-pub load-is : (ws : List ℕ) (people person len : ℕ) → heardOf (personRow ws people person len) ≡ 0
+pub load-is : (ws : List ℕ) (people person len : ℕ) → numberOf (personRow ws people person len) ≡ 0
     → loadOf ws people person len .set ≡ record { words = take 16 (drop (16 * person) ws); len = len }
 unfolding loadOf changedAs
 load-is ws people person len z = worked _ (emptySet 0) (record { words = take 16 (drop (16 * person) ws); len = len }) z
 
 -- the tests of the set and then of the slot are those of the stretch
-pub one-heard : (ws : List ℕ) (people person len i : ℕ) → heardOf (personRow ws people person len) ≡ 0
-    → heardOf (slotRow len i) ≡ heardOf (personStretchRow ws people person len i (i + 1))
-unfolding slotRow personStretchRow personRow setsRow stretchOk heardOf
-one-heard ws people person len i z =
+pub one-given : (ws : List ℕ) (people person len i : ℕ) → numberOf (personRow ws people person len) ≡ 0
+    → numberOf (slotRow len i) ≡ numberOf (personStretchRow ws people person len i (i + 1))
+unfolding slotRow personStretchRow personRow setsRow stretchOk numberOf
+one-given ws people person len i z =
     let r = row-says ws people person len z in
     let h = passed (personRow ws people person len) refl z in
     ⊎-elim
@@ -39,8 +39,8 @@ one-heard ws people person len i z =
     simp (h 0, h 1, h 2, h 3, le-ltb i len g, lt-leb (i + 1) i (omega arith), lt-leb (i + 1) len (omega arith)))
     (lt-or-ge i len)
 
-module _ (v : ℕ) (ws : List ℕ) (people person len i : ℕ) (small : v < 2) (z : heardOf (personRow ws people person len) ≡ 0)
-    (y : heardOf (slotRow len i) ≡ 0) where
+module _ (v : ℕ) (ws : List ℕ) (people person len i : ℕ) (small : v < 2) (z : numberOf (personRow ws people person len) ≡ 0)
+    (y : numberOf (slotRow len i) ≡ 0) where
   abbrev loaded : List ℕ
   loaded = take 16 (drop (16 * person) ws)
 
@@ -70,4 +70,4 @@ module _ (v : ℕ) (ws : List ℕ) (people person len i : ℕ) (small : v < 2) (
       ap (λ (s : SlotSet). storeOf s ws people person) changed-is
       ∙ worked _ ws (putSlots (slot (putSlot 0 i v loaded) 0) (16 * person) 0 len ws) z
       ∙ stored ∙ sym (puts-one v (16 * person) i ws)
-      ∙ sym (worked _ ws _ (sym (one-heard ws people person len i z) ∙ y))
+      ∙ sym (worked _ ws _ (sym (one-given ws people person len i z) ∙ y))

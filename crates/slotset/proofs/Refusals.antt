@@ -1,4 +1,4 @@
--- What each row of tests says where nothing is heard, and how an answer follows from the number. Assumes nothing.
+-- What each row of tests says where nothing is refused, and how an answer follows from the number. Assumes nothing.
 use mathlib.Core.Path.{_≡_, refl, sym, ap, ap₂, _∙_}
 use mathlib.Core.Bool.{Bool, true, false, _||_, cond}
 use mathlib.Core.List.{List}
@@ -7,7 +7,7 @@ use native.Mathlib.Omega.{arith}
 use borrow.Author.Tests.{leb-true, ltb-true, le-leb, lt-leb, lt-ltb}
 use lib.Dec.{leb}
 use lib.ListN.{length}
-use Rattle.paper.specs.Limits.{peopleOk, heardOf}
+use Rattle.paper.specs.Limits.{peopleOk, numberOf}
 use Rattle.paper.specs.Rows.{unless}
 use Rattle.paper.proofs.Rows.{passed, all-pass, worked, kept}
 use Rattle.paper.proofs.Logic.{number-of-made, or-right, or-second, people-says}
@@ -15,23 +15,23 @@ use Rattle.slotset.specs.declared.SlotSet.{SlotSet}
 use Rattle.slotset.specs.declared.Changed.{Changed}
 use Rattle.slotset.specs.declared.Found.{Found}
 use Rattle.slotset.specs.declared.Found.the-variants as found
-use Rattle.slotset.specs.declared.Told.the-variants as told
+use Rattle.slotset.specs.declared.YesNo.the-variants as yesNo
 use Rattle.slotset.specs.declared.Number.the-variants as number
 use Rattle.slotset.specs.declared.Run.the-variants as run
 use Rattle.slotset.specs.declared.NextRun.the-variants as nextRun
 use Rattle.slotset.specs.declared.NextMember.the-variants as nextMember
 use Rattle.slotset.specs.Slots.{putSlots}
 use Rattle.slotset.specs.Answers.{lengthRow, slotRow, stretchOk, stretchRow, setsRow, sameSetsRow, personRow, personStretchRow}
-use Rattle.slotset.specs.Answers.{foundAs, toldAs, numberAs, runAs, nextRunAs, nextMemberAs, changedAs, rowStretchOf}
-use Rattle.slotset.specs.Answers.{toldNo, numberNo}
+use Rattle.slotset.specs.Answers.{foundAs, yesNoAs, numberAs, runAs, nextRunAs, nextMemberAs, changedAs, rowStretchOf}
+use Rattle.slotset.specs.Answers.{yesNoRefusal, numberRefusal}
 
 -- ---- where nothing is refused
 
-pub len-says : (len : ℕ) → heardOf (lengthRow len) ≡ 0 → len ≤ 1024
+pub len-says : (len : ℕ) → numberOf (lengthRow len) ≡ 0 → len ≤ 1024
 unfolding lengthRow
 len-says len z = leb-true len 1024 (passed (lengthRow len) refl z 0)
 
-pub slot-says : (len i : ℕ) → heardOf (slotRow len i) ≡ 0 → (len ≤ 1024) × (i < len)
+pub slot-says : (len i : ℕ) → numberOf (slotRow len i) ≡ 0 → (len ≤ 1024) × (i < len)
 unfolding slotRow
 slot-says len i z =
     let h = passed (slotRow len i) refl z in
@@ -42,7 +42,7 @@ within : (len a e : ℕ) → stretchOk len a e ≡ true → a < e → e ≤ len
 unfolding stretchOk
 within len a e t h = leb-true e len (or-right (leb e a) (leb e len) t (lt-leb e a h))
 
-pub stretch-says : (len a e : ℕ) → heardOf (stretchRow len a e) ≡ 0 → (len ≤ 1024) × (a < e → e ≤ len)
+pub stretch-says : (len a e : ℕ) → numberOf (stretchRow len a e) ≡ 0 → (len ≤ 1024) × (a < e → e ≤ len)
 unfolding stretchRow
 stretch-says len a e z =
     let h = passed (stretchRow len a e) refl z in
@@ -56,7 +56,7 @@ pub record Row (ws : List ℕ) (people person len : ℕ) : Type 0 where
   pub known : person < people
   pub words : 16 * person + 16 ≤ length ws
 
-pub row-says : (ws : List ℕ) (people person len : ℕ) → heardOf (personRow ws people person len) ≡ 0 → Row ws people person len
+pub row-says : (ws : List ℕ) (people person len : ℕ) → numberOf (personRow ws people person len) ≡ 0 → Row ws people person len
 unfolding personRow setsRow
 row-says ws people person len z =
     let h = passed (personRow ws people person len) refl z in
@@ -72,29 +72,29 @@ row-says ws people person len z =
 
 -- and the other way round: a row that passes each test is not refused
 pub says-row : (ws : List ℕ) (people person len : ℕ) → peopleOk people ≡ true → len ≤ 1024 → 16 * people ≤ length ws → person < people
-    → heardOf (personRow ws people person len) ≡ 0
+    → numberOf (personRow ws people person len) ≡ 0
 unfolding personRow setsRow
 says-row ws people person len ok short room known =
     all-pass (personRow ws people person len) (ok, (le-leb _ _ short, (le-leb _ _ room, (lt-ltb _ _ known, tt))))
 
 -- a stretch of it
 module _ (ws : List ℕ) (people person len a e : ℕ) where
-  pub row-stretch-says : heardOf (personStretchRow ws people person len a e) ≡ 0
-      → (heardOf (personRow ws people person len) ≡ 0) × (a < e → e ≤ len)
+  pub row-stretch-says : numberOf (personStretchRow ws people person len a e) ≡ 0
+      → (numberOf (personRow ws people person len) ≡ 0) × (a < e → e ≤ len)
   unfolding personStretchRow personRow setsRow
   row-stretch-says z =
       let h = passed (personStretchRow ws people person len a e) refl z in
       (all-pass (personRow ws people person len) (h 0, (h 1, (h 2, (h 3, tt)))), within len a e (h 4))
 
-  pub says-stretch : heardOf (personRow ws people person len) ≡ 0 → stretchOk len a e ≡ true
-      → heardOf (personStretchRow ws people person len a e) ≡ 0
+  pub says-stretch : numberOf (personRow ws people person len) ≡ 0 → stretchOk len a e ≡ true
+      → numberOf (personStretchRow ws people person len a e) ≡ 0
   unfolding personStretchRow personRow setsRow
   says-stretch z t =
       let h = passed (personRow ws people person len) refl z in
       all-pass (personStretchRow ws people person len a e) (h 0, (h 1, (h 2, (h 3, (t, tt)))))
 
 -- a stretch of a row that is not refused, and that ends within the length, is put
-pub stretch-puts : (v : ℕ) (ws : List ℕ) (people person len a e : ℕ) → heardOf (personRow ws people person len) ≡ 0 → e ≤ len
+pub stretch-puts : (v : ℕ) (ws : List ℕ) (people person len a e : ℕ) → numberOf (personRow ws people person len) ≡ 0 → e ≤ len
     → rowStretchOf v ws people person len a e ≡ putSlots (λ _. v) (16 * person) a (e - a) ws
 unfolding rowStretchOf stretchOk
 stretch-puts v ws people person len a e z h =
@@ -102,12 +102,12 @@ stretch-puts v ws people person len a e z h =
 
 -- everybody's sets in two columns of words
 pub says-same : (ws vs : List ℕ) (people len : ℕ) → peopleOk people ≡ true → len ≤ 1024 → 16 * people ≤ length ws → 16 * people ≤ length vs
-    → heardOf (sameSetsRow ws vs people len) ≡ 0
+    → numberOf (sameSetsRow ws vs people len) ≡ 0
 unfolding sameSetsRow setsRow
 says-same ws vs people len ok short room more =
     all-pass (sameSetsRow ws vs people len) (ok, (le-leb len 1024 short, (le-leb _ _ room, (le-leb _ _ more, tt))))
 
-pub same-says : (ws vs : List ℕ) (people len : ℕ) → heardOf (sameSetsRow ws vs people len) ≡ 0
+pub same-says : (ws vs : List ℕ) (people len : ℕ) → numberOf (sameSetsRow ws vs people len) ≡ 0
     → (people ≤ 32) × (len ≤ 1024) × (16 * people ≤ length ws) × (16 * people ≤ length vs)
 unfolding sameSetsRow setsRow
 same-says ws vs people len z =
@@ -126,8 +126,8 @@ module _ (n m : ℕ) (e : n ≡ m) where
     unfolding foundAs
     found-is x y q = work-is (found.Refused m) y x q
 
-    pub told-is : (b b′ : Bool) → b ≡ b′ → toldAs 0 b ≡ toldAs m b′
-    told-is b b′ q = ap₂ toldAs (sym z ∙ e) q
+    pub yes-no-is : (b b′ : Bool) → b ≡ b′ → yesNoAs 0 b ≡ yesNoAs m b′
+    yes-no-is b b′ q = ap₂ yesNoAs (sym z ∙ e) q
 
     pub number-is : (k k′ : ℕ) → k ≡ k′ → number.Is k ≡ numberAs m k′
     unfolding numberAs
@@ -159,44 +159,44 @@ module _ (n m : ℕ) (e : n ≡ m) where
     refusal-is : {A : Type 0} (refused : ℕ → A) (new : A) → refused n ≡ unless m (refused m) new
     refusal-is refused new = ap refused e ∙ old-is (refused m) new
 
-    pub found-no : (y : Found) → found.Refused n ≡ foundAs m y
+    pub found-refused : (y : Found) → found.Refused n ≡ foundAs m y
     unfolding foundAs
-    found-no y = refusal-is found.Refused y
+    found-refused y = refusal-is found.Refused y
 
-    pub told-no : (b : Bool) → told.Refused n ≡ toldAs m b
-    unfolding toldAs
-    told-no b = refusal-is told.Refused (cond b told.Yes told.No)
+    pub yes-no-refused : (b : Bool) → yesNo.Refused n ≡ yesNoAs m b
+    unfolding yesNoAs
+    yes-no-refused b = refusal-is yesNo.Refused (cond b yesNo.Yes yesNo.No)
 
-    pub number-no : (k : ℕ) → number.Refused n ≡ numberAs m k
+    pub number-refused : (k : ℕ) → number.Refused n ≡ numberAs m k
     unfolding numberAs
-    number-no k = refusal-is number.Refused (number.Is k)
+    number-refused k = refusal-is number.Refused (number.Is k)
 
-    pub run-no : (f : ℕ → ℕ) (len i : ℕ) → run.Refused n ≡ runAs m f len i
+    pub run-refused : (f : ℕ → ℕ) (len i : ℕ) → run.Refused n ≡ runAs m f len i
     unfolding runAs
-    run-no f len i = refusal-is run.Refused _
+    run-refused f len i = refusal-is run.Refused _
 
-    pub next-run-no : (f : ℕ → ℕ) (len at : ℕ) → nextRun.Refused n ≡ nextRunAs m f len at
+    pub next-run-refused : (f : ℕ → ℕ) (len at : ℕ) → nextRun.Refused n ≡ nextRunAs m f len at
     unfolding nextRunAs
-    next-run-no f len at = refusal-is nextRun.Refused _
+    next-run-refused f len at = refusal-is nextRun.Refused _
 
-    pub next-member-no : (f : ℕ → ℕ) (len at : ℕ) → nextMember.Refused n ≡ nextMemberAs m f len at
+    pub next-member-refused : (f : ℕ → ℕ) (len at : ℕ) → nextMember.Refused n ≡ nextMemberAs m f len at
     unfolding nextMemberAs
-    next-member-no f len at = refusal-is nextMember.Refused _
+    next-member-refused f len at = refusal-is nextMember.Refused _
 
-    pub changed-no : (s new : SlotSet) → _≡_ {A = Changed} (record { set = s; number = n }) (changedAs m s new)
+    pub changed-refused : (s new : SlotSet) → _≡_ {A = Changed} (record { set = s; number = n }) (changedAs m s new)
     unfolding changedAs
-    changed-no s new = ap₂ {C = Changed} (λ (t : SlotSet) (k : ℕ). record { set = t; number = k }) (old-is s new) e
+    changed-refused s new = ap₂ {C = Changed} (λ (t : SlotSet) (k : ℕ). record { set = t; number = k }) (old-is s new) e
 
 -- ---- an answer has the number that it was made with
 
-pub number-said : (n k : ℕ) → numberNo (numberAs n k) ≡ n
+pub number-said : (n k : ℕ) → numberRefusal (numberAs n k) ≡ n
 unfolding numberAs unless
-number-said n k = number-of-made numberNo n (number.Is k) (number.Refused n) refl refl
+number-said n k = number-of-made numberRefusal n (number.Is k) (number.Refused n) refl refl
 
-yes-or-no : (b : Bool) → toldNo (cond b told.Yes told.No) ≡ 0
+yes-or-no : (b : Bool) → yesNoRefusal (cond b yesNo.Yes yesNo.No) ≡ 0
 yes-or-no true = refl
 yes-or-no false = refl
 
-pub told-said : (n : ℕ) (b : Bool) → toldNo (toldAs n b) ≡ n
-unfolding toldAs unless
-told-said n b = number-of-made toldNo n (cond b told.Yes told.No) (told.Refused n) (yes-or-no b) refl
+pub yes-no-said : (n : ℕ) (b : Bool) → yesNoRefusal (yesNoAs n b) ≡ n
+unfolding yesNoAs unless
+yes-no-said n b = number-of-made yesNoRefusal n (cond b yesNo.Yes yesNo.No) (yesNo.Refused n) (yes-or-no b) refl

@@ -1,18 +1,18 @@
--- What a caller hears and is handed back, refused or not. Assumes nothing.
+-- What a caller is answered and handed back, refused or not. Assumes nothing.
 use mathlib.Core.Bool.{Bool, _||_, cond}
 use mathlib.Core.List.{List, [], _∷_, _++_}
 use Prim.Native.Nat.{ℕ, _+_, _-_, _*_, _≤_}
 use lib.Dec.{eqb, ltb, leb}
 use lib.ListN.{length, take, drop, replicate}
 use Rattle.paper.specs.Count.{all}
-use Rattle.paper.specs.Limits.{slotsMost, setWords, peopleOk, Test, test, heardOf}
+use Rattle.paper.specs.Limits.{slotsMost, setWords, peopleOk, Test, test, numberOf}
 use Rattle.paper.specs.Rows.{unless}
 use Rattle.slotset.specs.declared.SlotSet.{SlotSet}
 use Rattle.slotset.specs.declared.Changed.{Changed}
 use Rattle.slotset.specs.declared.Found.{Found}
 use Rattle.slotset.specs.declared.Found.the-variants as found
-use Rattle.slotset.specs.declared.Told.{Told}
-use Rattle.slotset.specs.declared.Told.the-variants as told
+use Rattle.slotset.specs.declared.YesNo.{YesNo}
+use Rattle.slotset.specs.declared.YesNo.the-variants as yesNo
 use Rattle.slotset.specs.declared.Number.{Number}
 use Rattle.slotset.specs.declared.Number.the-variants as number
 use Rattle.slotset.specs.declared.Run.{Run}
@@ -57,12 +57,12 @@ personRow ws people person len = setsRow ws people len ++ (test 11 (ltb person p
 unfoldable pub personStretchRow : List ℕ → ℕ → ℕ → ℕ → ℕ → ℕ → List Test
 personStretchRow ws people person len a e = personRow ws people person len ++ (test 11 (stretchOk len a e) ∷ [])
 
--- the numbers heard of the last two
-abbrev pub rowNo : List ℕ → ℕ → ℕ → ℕ → ℕ
-rowNo ws people person len = heardOf (personRow ws people person len)
+-- the numbers given of the last two
+abbrev pub rowRefusal : List ℕ → ℕ → ℕ → ℕ → ℕ
+rowRefusal ws people person len = numberOf (personRow ws people person len)
 
-abbrev pub rowStretchNo : List ℕ → ℕ → ℕ → ℕ → ℕ → ℕ → ℕ
-rowStretchNo ws people person len a e = heardOf (personStretchRow ws people person len a e)
+abbrev pub rowStretchRefusal : List ℕ → ℕ → ℕ → ℕ → ℕ → ℕ → ℕ
+rowStretchRefusal ws people person len a e = numberOf (personStretchRow ws people person len a e)
 
 -- ---- the slots of a set by value, and of a person's row
 
@@ -81,8 +81,8 @@ sameSets ws vs people len = all people (λ p. sameSlots (rowSlots ws p) (rowSlot
 unfoldable pub foundAs : ℕ → Found → Found
 foundAs n x = unless n (found.Refused n) x
 
-unfoldable pub toldAs : ℕ → Bool → Told
-toldAs n b = unless n (told.Refused n) (cond b told.Yes told.No)
+unfoldable pub yesNoAs : ℕ → Bool → YesNo
+yesNoAs n b = unless n (yesNo.Refused n) (cond b yesNo.Yes yesNo.No)
 
 unfoldable pub numberAs : ℕ → ℕ → Number
 numberAs n k = unless n (number.Refused n) (number.Is k)
@@ -123,58 +123,58 @@ nextMemberAs n f len at = unless n (nextMember.Refused n) (memberStep (nextSet f
 
 -- of a person's row: the run or the hole that holds slot i; the next run and the next member from a cursor on
 abbrev pub rowRun : List ℕ → ℕ → ℕ → ℕ → ℕ → Run
-rowRun ws people person len i = runAs (heardOf (personRow ws people person len)) (rowSlots ws person) len i
+rowRun ws people person len i = runAs (numberOf (personRow ws people person len)) (rowSlots ws person) len i
 
 abbrev pub rowNextRun : List ℕ → ℕ → ℕ → ℕ → ℕ → NextRun
-rowNextRun ws people person len at = nextRunAs (heardOf (personRow ws people person len)) (rowSlots ws person) len at
+rowNextRun ws people person len at = nextRunAs (numberOf (personRow ws people person len)) (rowSlots ws person) len at
 
 abbrev pub rowNextMember : List ℕ → ℕ → ℕ → ℕ → ℕ → NextMember
-rowNextMember ws people person len at = nextMemberAs (heardOf (personRow ws people person len)) (rowSlots ws person) len at
+rowNextMember ws people person len at = nextMemberAs (numberOf (personRow ws people person len)) (rowSlots ws person) len at
 
 -- ---- each question of a set by value: its refusal, or what was asked
 
 abbrev pub lenIs : SlotSet → Number
-lenIs s = numberAs (heardOf (lengthRow (s .len))) (s .len)
+lenIs s = numberAs (numberOf (lengthRow (s .len))) (s .len)
 
-abbrev pub containsIs : SlotSet → ℕ → Told
-containsIs s i = toldAs (heardOf (lengthRow (s .len))) (has (slotsOf s) (s .len) i)
+abbrev pub containsIs : SlotSet → ℕ → YesNo
+containsIs s i = yesNoAs (numberOf (lengthRow (s .len))) (has (slotsOf s) (s .len) i)
 
-abbrev pub isEmptyIs : SlotSet → Told
-isEmptyIs s = toldAs (heardOf (lengthRow (s .len))) (noMember (slotsOf s) (s .len))
+abbrev pub isEmptyIs : SlotSet → YesNo
+isEmptyIs s = yesNoAs (numberOf (lengthRow (s .len))) (noMember (slotsOf s) (s .len))
 
 abbrev pub countIs : SlotSet → Number
-countIs s = numberAs (heardOf (lengthRow (s .len))) (size (slotsOf s) (s .len))
+countIs s = numberAs (numberOf (lengthRow (s .len))) (size (slotsOf s) (s .len))
 
 abbrev pub nextSetIs : SlotSet → ℕ → Found
-nextSetIs s from = foundAs (heardOf (lengthRow (s .len))) (nextSet (slotsOf s) (s .len) from)
+nextSetIs s from = foundAs (numberOf (lengthRow (s .len))) (nextSet (slotsOf s) (s .len) from)
 
 abbrev pub prevSetIs : SlotSet → ℕ → Found
-prevSetIs s from = foundAs (heardOf (lengthRow (s .len))) (prevSet (slotsOf s) (s .len) from)
+prevSetIs s from = foundAs (numberOf (lengthRow (s .len))) (prevSet (slotsOf s) (s .len) from)
 
 abbrev pub nextUnsetAfterIs : SlotSet → ℕ → Found
-nextUnsetAfterIs s from = foundAs (heardOf (lengthRow (s .len))) (nextUnsetAfter (slotsOf s) (s .len) from)
+nextUnsetAfterIs s from = foundAs (numberOf (lengthRow (s .len))) (nextUnsetAfter (slotsOf s) (s .len) from)
 
 abbrev pub prevUnsetBeforeIs : SlotSet → ℕ → Found
-prevUnsetBeforeIs s from = foundAs (heardOf (lengthRow (s .len))) (prevUnsetBefore (slotsOf s) (s .len) from)
+prevUnsetBeforeIs s from = foundAs (numberOf (lengthRow (s .len))) (prevUnsetBefore (slotsOf s) (s .len) from)
 
 abbrev pub runBoundsIs : SlotSet → ℕ → Run
-runBoundsIs s i = runAs (heardOf (lengthRow (s .len))) (slotsOf s) (s .len) i
+runBoundsIs s i = runAs (numberOf (lengthRow (s .len))) (slotsOf s) (s .len) i
 
 abbrev pub nextRunIs : SlotSet → ℕ → NextRun
-nextRunIs s at = nextRunAs (heardOf (lengthRow (s .len))) (slotsOf s) (s .len) at
+nextRunIs s at = nextRunAs (numberOf (lengthRow (s .len))) (slotsOf s) (s .len) at
 
 abbrev pub nextMemberIs : SlotSet → ℕ → NextMember
-nextMemberIs s at = nextMemberAs (heardOf (lengthRow (s .len))) (slotsOf s) (s .len) at
+nextMemberIs s at = nextMemberAs (numberOf (lengthRow (s .len))) (slotsOf s) (s .len) at
 
 -- the number of an answer, 0 where it is no refusal
-abbrev pub toldNo : Told → ℕ
-toldNo told.Yes = 0
-toldNo told.No = 0
-toldNo (told.Refused n) = n
+abbrev pub yesNoRefusal : YesNo → ℕ
+yesNoRefusal yesNo.Yes = 0
+yesNoRefusal yesNo.No = 0
+yesNoRefusal (yesNo.Refused n) = n
 
-abbrev pub numberNo : Number → ℕ
-numberNo (number.Is k) = 0
-numberNo (number.Refused n) = n
+abbrev pub numberRefusal : Number → ℕ
+numberRefusal (number.Is k) = 0
+numberRefusal (number.Refused n) = n
 
 -- ---- a set handed back: as it was, or the new one
 
@@ -186,34 +186,30 @@ emptySet len = record { words = replicate 16 0; len = len }
 
 -- the empty set of len slots; refused, of none
 unfoldable pub newOf : ℕ → Changed
-newOf len = changedAs (heardOf (lengthRow len)) (emptySet 0) (emptySet len)
+newOf len = changedAs (numberOf (lengthRow len)) (emptySet 0) (emptySet len)
 
 -- slot i at v
 unfoldable pub putOf : ℕ → SlotSet → ℕ → Changed
-putOf v s i = changedAs (heardOf (slotRow (s .len) i)) s (record { words = putSlot 0 i v (s .words); len = s .len })
+putOf v s i = changedAs (numberOf (slotRow (s .len) i)) s (record { words = putSlot 0 i v (s .words); len = s .len })
 
 -- each slot from a up to e at v
 unfoldable pub stretchOf : ℕ → SlotSet → ℕ → ℕ → Changed
 stretchOf v s a e =
-    changedAs (heardOf (stretchRow (s .len) a e)) s (record { words = putSlots (λ _. v) 0 a (e - a) (s .words); len = s .len })
+    changedAs (numberOf (stretchRow (s .len) a e)) s (record { words = putSlots (λ _. v) 0 a (e - a) (s .words); len = s .len })
 
 -- a person's row as a set; refused, the empty set of none
 unfoldable pub loadOf : List ℕ → ℕ → ℕ → ℕ → Changed
 loadOf ws people person len =
-    changedAs (heardOf (personRow ws people person len)) (emptySet 0) (record { words = take 16 (drop (16 * person) ws); len = len })
+    changedAs (numberOf (personRow ws people person len)) (emptySet 0) (record { words = take 16 (drop (16 * person) ws); len = len })
 
 -- ---- lent words at exit: as they were, or written
 
 -- the slots of a set below its length, written into a person's row
 unfoldable pub storeOf : SlotSet → List ℕ → ℕ → ℕ → List ℕ
 storeOf s ws people person =
-    unless (heardOf (personRow ws people person (s .len))) ws (putSlots (slotsOf s) (16 * person) 0 (s .len) ws)
+    unless (numberOf (personRow ws people person (s .len))) ws (putSlots (slotsOf s) (16 * person) 0 (s .len) ws)
 
 -- each slot of a person's row from a up to e at v
 unfoldable pub rowStretchOf : ℕ → List ℕ → ℕ → ℕ → ℕ → ℕ → ℕ → List ℕ
 rowStretchOf v ws people person len a e =
-    unless (heardOf (personStretchRow ws people person len a e)) ws (putSlots (λ _. v) (16 * person) a (e - a) ws)
-
--- the same by another name, for crates whose outcomes cite it
-unfoldable pub wordsAs : ℕ → List ℕ → List ℕ → List ℕ
-wordsAs n old new = cond (eqb n 0) new old
+    unless (numberOf (personStretchRow ws people person len a e)) ws (putSlots (λ _. v) (16 * person) a (e - a) ws)

@@ -1,4 +1,4 @@
--- What the contracts of slotset cite: the slots of words, the searches and runs over them, the answers that a caller hears;
+-- What the contracts of slotset cite: the slots of words, the searches and runs over them, the answers that a caller gets;
 -- Inside is of private functions alone.
 pub mod Slots
 pub mod Search

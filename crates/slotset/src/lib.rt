@@ -5,12 +5,12 @@ pub mod row;
 mod scan;
 mod word;
 
-use paper::Fault;
+use paper::Refusal;
 ghost use mathlib.Core.Path.{_≡_};
 ghost use Rattle.paper.specs.Limits.{test};
-ghost use Rattle.paper.specs.Rows.{firstOf, next};
+ghost use Rattle.paper.specs.Rows.{refusalOf, next};
 ghost use Rattle.slotset.specs.Slots.{valueOf};
-ghost use Rattle.slotset.specs.Answers.{lengthRow, slotRow, stretchOk, stretchRow, toldAs, newOf, putOf, stretchOf};
+ghost use Rattle.slotset.specs.Answers.{lengthRow, slotRow, stretchOk, stretchRow, yesNoAs, newOf, putOf, stretchOf};
 ghost use Rattle.slotset.specs.Answers.{lenIs, containsIs, isEmptyIs, countIs, nextSetIs, prevSetIs, nextUnsetAfterIs};
 ghost use Rattle.slotset.specs.Answers.{prevUnsetBeforeIs, runBoundsIs, nextRunIs, nextMemberIs};
 
@@ -34,7 +34,7 @@ pub enum Found {
 }
 
 // Yes or no.
-pub enum Told {
+pub enum YesNo {
     Yes,
     No,
     Refused(u8),
@@ -78,18 +78,18 @@ pub enum NextMember {
 }
 
 // What stands against a length: 1.
-fn len_no(len: usize) -> Fault
-    ensures { λ r. ⌜ r ≡ firstOf (lengthRow len) ⌝ }
+fn len_refusal(len: usize) -> Refusal
+    ensures { λ r. ⌜ r ≡ refusalOf (lengthRow len) ⌝ }
 {
-    paper::heard(paper::nothing(), len <= paper::SLOTS_MOST, 1)
+    paper::check(paper::accepted(), len <= paper::SLOTS_MOST, 1)
 }
 
 // What stands against an index to insert or remove: 1 or 11.
-fn slot_no(len: usize, i: usize) -> Fault
-    ensures { λ r. ⌜ r ≡ firstOf (slotRow len i) ⌝ }
+fn slot_refusal(len: usize, i: usize) -> Refusal
+    ensures { λ r. ⌜ r ≡ refusalOf (slotRow len i) ⌝ }
 {
-    let f = paper::heard(paper::nothing(), len <= paper::SLOTS_MOST, 1);
-    paper::heard(f, i < len, 11)
+    let f = paper::check(paper::accepted(), len <= paper::SLOTS_MOST, 1);
+    paper::check(f, i < len, 11)
 }
 
 // Whether each slot from `from` up to `to` is below the length; a stretch with none in it is.
@@ -103,25 +103,25 @@ fn stretch_ok(len: usize, from: usize, to: usize) -> bool
 }
 
 // Rule 11 of a stretch.
-pub(crate) fn heard_stretch(before: Fault, len: usize, from: usize, to: usize) -> Fault
+pub(crate) fn check_stretch(before: Refusal, len: usize, from: usize, to: usize) -> Refusal
     ensures { λ r. ⌜ r ≡ next before (test 11 (stretchOk len from to)) ⌝ }
 {
-    paper::heard(before, stretch_ok(len, from, to), 11)
+    paper::check(before, stretch_ok(len, from, to), 11)
 }
 
 // What stands against a stretch: 1 or 11.
-fn stretch_no(len: usize, from: usize, to: usize) -> Fault
-    ensures { λ r. ⌜ r ≡ firstOf (stretchRow len from to) ⌝ }
+fn stretch_refusal(len: usize, from: usize, to: usize) -> Refusal
+    ensures { λ r. ⌜ r ≡ refusalOf (stretchRow len from to) ⌝ }
 {
-    let f = paper::heard(paper::nothing(), len <= paper::SLOTS_MOST, 1);
-    heard_stretch(f, len, from, to)
+    let f = paper::check(paper::accepted(), len <= paper::SLOTS_MOST, 1);
+    check_stretch(f, len, from, to)
 }
 
 // A test as an answer.
-pub(crate) fn yes_or_no(b: bool) -> Told
-    ensures { λ r. ⌜ r ≡ toldAs 0 b ⌝ }
+pub(crate) fn yes_or_no(b: bool) -> YesNo
+    ensures { λ r. ⌜ r ≡ yesNoAs 0 b ⌝ }
 {
-    if b { Told::Yes } else { Told::No }
+    if b { YesNo::Yes } else { YesNo::No }
 }
 
 impl SlotSet {
@@ -130,7 +130,7 @@ impl SlotSet {
         ensures { λ r. ⌜ r ≡ newOf len ⌝ }
     {
         let words = [0u64; 16];
-        let number = len_no(len).number;
+        let number = len_refusal(len).number;
         if number == 0 {
             return Changed {
                 set: SlotSet { words, len },
@@ -148,7 +148,7 @@ impl SlotSet {
         ensures { λ r. ⌜ r ≡ lenIs self ⌝ }
     {
         let len = self.len;
-        let number = len_no(len).number;
+        let number = len_refusal(len).number;
         if number == 0 {
             return Number::Is(len);
         }
@@ -156,16 +156,16 @@ impl SlotSet {
     }
 
     // Whether slot i is a member; at or past the length it is not.
-    pub fn contains(self, i: usize) -> Told
+    pub fn contains(self, i: usize) -> YesNo
         ensures { λ r. ⌜ r ≡ containsIs self i ⌝ }
     {
         let len = self.len;
-        let number = len_no(len).number;
+        let number = len_refusal(len).number;
         if number == 0 {
             let words = self.words;
             return yes_or_no(scan::contains(&words, 0, len, i));
         }
-        Told::Refused(number)
+        YesNo::Refused(number)
     }
 
     // The set with slot i.
@@ -201,7 +201,7 @@ impl SlotSet {
         ensures { λ r. ⌜ r ≡ putOf (valueOf want) self i ⌝ }
     {
         let len = self.len;
-        let number = slot_no(len, i).number;
+        let number = slot_refusal(len, i).number;
         if number == 0 {
             let mut words = self.words;
             scan::put_slots(&mut words, 0, want, i, i + 1);
@@ -218,7 +218,7 @@ impl SlotSet {
         ensures { λ r. ⌜ r ≡ stretchOf (valueOf want) self from to ⌝ }
     {
         let len = self.len;
-        let number = stretch_no(len, from, to).number;
+        let number = stretch_refusal(len, from, to).number;
         if number == 0 {
             let mut words = self.words;
             scan::put_slots(&mut words, 0, want, from, to);
@@ -231,16 +231,16 @@ impl SlotSet {
     }
 
     // Whether the set has no member.
-    pub fn is_empty(self) -> Told
+    pub fn is_empty(self) -> YesNo
         ensures { λ r. ⌜ r ≡ isEmptyIs self ⌝ }
     {
         let len = self.len;
-        let number = len_no(len).number;
+        let number = len_refusal(len).number;
         if number == 0 {
             let words = self.words;
             return yes_or_no(scan::is_empty(&words, 0, len));
         }
-        Told::Refused(number)
+        YesNo::Refused(number)
     }
 
     // How many members the set has.
@@ -248,7 +248,7 @@ impl SlotSet {
         ensures { λ r. ⌜ r ≡ countIs self ⌝ }
     {
         let len = self.len;
-        let number = len_no(len).number;
+        let number = len_refusal(len).number;
         if number == 0 {
             let words = self.words;
             return Number::Is(scan::count(&words, 0, len));
@@ -261,7 +261,7 @@ impl SlotSet {
         ensures { λ r. ⌜ r ≡ nextSetIs self from ⌝ }
     {
         let len = self.len;
-        let number = len_no(len).number;
+        let number = len_refusal(len).number;
         if number == 0 {
             let words = self.words;
             return scan::next_with(&words, 0, len, true, from);
@@ -274,7 +274,7 @@ impl SlotSet {
         ensures { λ r. ⌜ r ≡ prevSetIs self from ⌝ }
     {
         let len = self.len;
-        let number = len_no(len).number;
+        let number = len_refusal(len).number;
         if number == 0 {
             let words = self.words;
             return scan::prev_set(&words, 0, len, from);
@@ -287,7 +287,7 @@ impl SlotSet {
         ensures { λ r. ⌜ r ≡ nextUnsetAfterIs self from ⌝ }
     {
         let len = self.len;
-        let number = len_no(len).number;
+        let number = len_refusal(len).number;
         if number == 0 {
             let words = self.words;
             return scan::next_unset_after(&words, 0, len, from);
@@ -300,7 +300,7 @@ impl SlotSet {
         ensures { λ r. ⌜ r ≡ prevUnsetBeforeIs self from ⌝ }
     {
         let len = self.len;
-        let number = len_no(len).number;
+        let number = len_refusal(len).number;
         if number == 0 {
             let words = self.words;
             return scan::last_below(&words, 0, len, false, from);
@@ -313,7 +313,7 @@ impl SlotSet {
         ensures { λ r. ⌜ r ≡ runBoundsIs self i ⌝ }
     {
         let len = self.len;
-        let number = len_no(len).number;
+        let number = len_refusal(len).number;
         if number == 0 {
             let words = self.words;
             return scan::run_bounds(&words, 0, len, i);
@@ -327,7 +327,7 @@ impl SlotSet {
     {
         let len = self.len;
         let at = c.at;
-        let number = len_no(len).number;
+        let number = len_refusal(len).number;
         if number == 0 {
             let words = self.words;
             return scan::next_run(&words, 0, len, at);
@@ -341,7 +341,7 @@ impl SlotSet {
     {
         let len = self.len;
         let at = c.at;
-        let number = len_no(len).number;
+        let number = len_refusal(len).number;
         if number == 0 {
             let words = self.words;
             return scan::next_member(&words, 0, len, at);

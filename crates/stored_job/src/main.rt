@@ -34,8 +34,8 @@ fn unwritten(out: &[u8], from: usize) -> bool {
 // Whether the line of a refusal is the text that is due.
 fn same_line(number: u8, due: &[u8]) -> bool {
     let mut line = [0u8; 6];
-    let heard = job::refusal_line(number, &mut line);
-    match heard {
+    let answer = job::refusal_line(number, &mut line);
+    match answer {
         JobAnswer::Length(n) => same_text(&line, n, due),
         JobAnswer::Refused(_) => false,
     }
@@ -44,8 +44,8 @@ fn same_line(number: u8, due: &[u8]) -> bool {
 // Whether a job has the listing that is due, or is refused by the line that is due, and writes nothing besides.
 fn as_due(file: &[u8], due: &[u8]) -> bool {
     let mut out = [UNWRITTEN; 65536];
-    let heard = job::run_job(file, &mut out);
-    match heard {
+    let answer = job::run_job(file, &mut out);
+    match answer {
         JobAnswer::Length(n) => same_text(&out, n, due) && unwritten(&out, n),
         JobAnswer::Refused(number) => same_line(number, due) && unwritten(&out, 0),
     }
@@ -62,10 +62,10 @@ fn one_body(tally: Tally, head: &[u8]) -> Turn {
     let mut file = io::large_buffer();
     let mut due = io::large_buffer();
     let whole = filled(&mut file, short(head, 0));
-    let told = filled(&mut due, short(head, 2));
+    let due_read = filled(&mut due, short(head, 2));
     let n = io::count(short(head, 0) as isize, &file);
     let m = io::count(short(head, 2) as isize, &due);
-    if whole && told {
+    if whole && due_read {
         return Turn::whole(tally.with(as_due(&file[..n], &due[..m])));
     }
     Turn::last(tally, HEAD)

@@ -81,7 +81,7 @@ fn times(b: &[u8], at: usize) -> [u32; 16] {
 }
 
 // Where units begin.
-fn firsts(b: &[u8]) -> [u16; 16] {
+fn begins(b: &[u8]) -> [u16; 16] {
     let mut out = [0u16; 16];
     shorts(b, FIRSTS_AT, &mut out);
     out
@@ -212,10 +212,10 @@ fn play_on(
     let starts = times(b, STARTS_AT);
     let ends = times(b, ENDS_AT);
     let able = sets(b, ABLE_AT);
-    let from = firsts(b);
-    let kinds = column(b, KINDS_AT);
-    let ones = column(b, ONES_AT);
-    let twos = column(b, TWOS_AT);
+    let from = begins(b);
+    let draws = column(b, KINDS_AT);
+    let firsts = column(b, ONES_AT);
+    let seconds = column(b, TWOS_AT);
     rota::play::play(
         half(b, 0),
         half(b, 2),
@@ -226,12 +226,12 @@ fn play_on(
         &able,
         lent_firsts(&from, half(b, FIRSTS_LONG_AT)),
         &frozen,
+        &draws,
+        &firsts,
+        &seconds,
         who,
         own,
         worked,
-        &kinds,
-        &ones,
-        &twos,
         said,
     )
 }
@@ -425,7 +425,7 @@ fn all_owned(who: [u8; 16], a: usize, e: usize) -> bool {
 fn reassign_covers(tally: Tally, b: &[u8]) -> Tally {
     let end = play(b, flags(b), begin(b));
     let who = end.owners;
-    let from = firsts(b);
+    let from = begins(b);
     let unit = half(b, ONES_AT);
     let first = units::start_of(&from, unit);
     let past = units::unit_end(half(b, 2), half(b, 4), &from, unit);

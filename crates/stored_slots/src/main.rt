@@ -2,7 +2,7 @@
 // how many answers it compared and how many differ. `oracle/store` writes the records (oracle/src/stored_slots.rs has their layout).
 use slots::Minutes;
 use slotset::Number;
-use slotset::Told;
+use slotset::YesNo;
 use stored::Tally;
 use stored::Turn;
 use stored::at_most;
@@ -72,7 +72,7 @@ const ABLE_DUE_AT: usize = 436;
 
 const FROZEN_DUE_AT: usize = 438;
 
-const TOLD_DUE_AT: usize = 440;
+const YES_NO_DUE_AT: usize = 440;
 
 const DEMAND_DUE_AT: usize = 442;
 
@@ -194,11 +194,11 @@ fn counted(answer: Number) -> usize {
     }
 }
 
-fn told(answer: Told) -> usize {
+fn yes_no(answer: YesNo) -> usize {
     match answer {
-        Told::Yes => 1,
-        Told::No => 0,
-        Told::Refused(n) => refused(n),
+        YesNo::Yes => 1,
+        YesNo::No => 0,
+        YesNo::Refused(n) => refused(n),
     }
 }
 
@@ -208,7 +208,7 @@ fn number(n: u8) -> usize {
 
 fn minutes(answer: Minutes) -> u64 {
     match answer {
-        Minutes::Are(m) => m,
+        Minutes::Is(m) => m,
         Minutes::Refused(n) => refused_minutes(n),
     }
 }
@@ -252,11 +252,11 @@ fn atom_answers(tally: Tally, b: &[u8]) -> Tally {
     let of_froms = room(b, 12, 1024);
     let of_tos = room(b, 13, 1024);
     let got = slots::atomise(
+        size(b, PEOPLE_AT),
         size(b, BASE_AT),
+        size(b, RANGES_AT),
         of_eight(&starts, long(b, 0)),
         of_eight(&ends, long(b, 1)),
-        size(b, PEOPLE_AT),
-        size(b, RANGES_AT),
         of_persons(&who, long(b, 2)),
         of_eight(&opens, long(b, 3)),
         of_eight(&shuts, long(b, 4)),
@@ -278,9 +278,9 @@ fn availability(b: &[u8], words: &mut [u64]) -> u8 {
     slots::availability(
         size(b, PEOPLE_AT),
         size(b, SLOTS_AT),
+        size(b, RANGES_AT),
         of_sixteen(&starts, long(b, 5)),
         of_sixteen(&ends, long(b, 6)),
-        size(b, RANGES_AT),
         of_persons(&who, long(b, 2)),
         of_eight(&opens, long(b, 3)),
         of_eight(&shuts, long(b, 4)),
@@ -317,7 +317,7 @@ fn freezing_answers(tally: Tally, b: &[u8]) -> Tally {
 }
 
 // Whether one person is available for one slot.
-fn told_answer(tally: Tally, b: &[u8]) -> Tally {
+fn yes_no_answer(tally: Tally, b: &[u8]) -> Tally {
     let words = four_rows(b, ABLE_AT);
     let got = slots::is_available(
         size(b, PEOPLE_AT),
@@ -326,7 +326,7 @@ fn told_answer(tally: Tally, b: &[u8]) -> Tally {
         size(b, PERSON_AT),
         size(b, SLOT_AT),
     );
-    tally.with(told(got) == half(b, TOLD_DUE_AT))
+    tally.with(yes_no(got) == half(b, YES_NO_DUE_AT))
 }
 
 // Demand, and one slot's minutes.
@@ -355,7 +355,7 @@ fn record_answers(tally: Tally, b: &[u8]) -> Tally {
     let t2 = atom_answers(t1, b);
     let t3 = availability_answers(t2, b);
     let t4 = freezing_answers(t3, b);
-    let t5 = told_answer(t4, b);
+    let t5 = yes_no_answer(t4, b);
     length_answers(t5, b)
 }
 

@@ -4,7 +4,7 @@ use slotset::Found;
 use slotset::NextRun;
 use slotset::Run;
 use slotset::SlotSet;
-use slotset::Told;
+use slotset::YesNo;
 use slotset::row;
 use stored::Tally;
 use stored::Turn;
@@ -44,11 +44,11 @@ fn is_after(changed: slotset::Changed, b: &[u8], at: usize) -> bool {
 }
 
 // An answer as it is stored: yes or no, a number, a slot or nothing.
-fn told(answer: Told) -> usize {
+fn yes_no(answer: YesNo) -> usize {
     match answer {
-        Told::Yes => 1,
-        Told::No => 0,
-        Told::Refused(_) => REFUSED,
+        YesNo::Yes => 1,
+        YesNo::No => 0,
+        YesNo::Refused(_) => REFUSED,
     }
 }
 
@@ -104,14 +104,14 @@ fn is_next_run(answer: NextRun, b: &[u8], at: usize) -> bool {
 // The answers on one index: membership, the four searches, the run or the hole that holds it and the next run.
 fn index_answers(tally: Tally, ws: &[u64; 16], len: usize, b: &[u8], at: usize) -> Tally {
     let i = half(b, at);
-    let t1 = tally.with(told(row::contains(ws, 1, 0, len, i)) == half(b, plus(at, 2)));
-    let t2 = t1.with(found(row::next_set(ws, 1, 0, len, i)) == half(b, plus(at, 4)));
-    let t3 = t2.with(found(row::prev_set(ws, 1, 0, len, i)) == half(b, plus(at, 6)));
-    let t4 = t3.with(found(row::next_unset_after(ws, 1, 0, len, i)) == half(b, plus(at, 8)));
-    let t5 = t4.with(found(row::prev_unset_before(ws, 1, 0, len, i)) == half(b, plus(at, 10)));
-    let t6 = t5.with(is_run(row::run_bounds(ws, 1, 0, len, i), b, plus(at, 12)));
+    let t1 = tally.with(yes_no(row::contains(1, len, ws, 0, i)) == half(b, plus(at, 2)));
+    let t2 = t1.with(found(row::next_set(1, len, ws, 0, i)) == half(b, plus(at, 4)));
+    let t3 = t2.with(found(row::prev_set(1, len, ws, 0, i)) == half(b, plus(at, 6)));
+    let t4 = t3.with(found(row::next_unset_after(1, len, ws, 0, i)) == half(b, plus(at, 8)));
+    let t5 = t4.with(found(row::prev_unset_before(1, len, ws, 0, i)) == half(b, plus(at, 10)));
+    let t6 = t5.with(is_run(row::run_bounds(1, len, ws, 0, i), b, plus(at, 12)));
     t6.with(is_next_run(
-        row::next_run(ws, 1, 0, len, slotset::Cursor { at: i }),
+        row::next_run(1, len, ws, 0, slotset::Cursor { at: i }),
         b,
         plus(at, 18),
     ))
@@ -141,8 +141,8 @@ fn change_answers(tally: Tally, set: SlotSet, b: &[u8]) -> Tally {
 fn record_answers(tally: Tally, b: &[u8]) -> Tally {
     let len = half(b, 0);
     let ws = words(b, WORDS_AT);
-    let mut t = tally.with(told(row::is_empty(&ws, 1, 0, len)) == half(b, 130));
-    t = t.with(counted(row::count(&ws, 1, 0, len)) == half(b, 132));
+    let mut t = tally.with(yes_no(row::is_empty(1, len, &ws, 0)) == half(b, 130));
+    t = t.with(counted(row::count(1, len, &ws, 0)) == half(b, 132));
     for k in 0..8usize {
         t = index_answers(t, &ws, len, b, INDEXES_AT + 22 * k);
     }

@@ -90,13 +90,13 @@ fn same_targets(b: &[u8]) -> bool {
     let number = targets::compute_targets(
         people,
         slots,
+        fairness,
+        edition,
         &starts,
         &ends,
         &avail,
         &caps,
         &priors,
-        fairness,
-        edition,
         &mut out,
     );
     let mut same = number == 0;

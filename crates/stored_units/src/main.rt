@@ -3,7 +3,7 @@
 // are the generator's own. `oracle/store` writes the records (oracle/src/stored_units.rs has their layout).
 use slots::Minutes;
 use slotset::Number;
-use slotset::Told;
+use slotset::YesNo;
 use stored::Tally;
 use stored::at_most;
 use stored::front_quads;
@@ -121,7 +121,7 @@ fn sixteen(b: &[u8], at: usize) -> [u32; 16] {
     out
 }
 
-fn firsts(b: &[u8], at: usize) -> [u16; 16] {
+fn begins(b: &[u8], at: usize) -> [u16; 16] {
     let mut out = [0u16; 16];
     shorts(b, at, &mut out);
     out
@@ -160,7 +160,7 @@ fn settings(b: &[u8]) -> Settings {
 
 // Whether a whole array is the one at an index: what was not lent, and what lies past a list, too.
 fn is_firsts(got: &[u16; 16], b: &[u8], at: usize) -> bool {
-    same_shorts(got, &firsts(b, at))
+    same_shorts(got, &begins(b, at))
 }
 
 fn is_list(got: &[u8; 8], b: &[u8], at: usize) -> bool {
@@ -188,11 +188,11 @@ fn counted(answer: Number) -> usize {
     }
 }
 
-fn told(answer: Told) -> usize {
+fn yes_no(answer: YesNo) -> usize {
     match answer {
-        Told::Yes => 1,
-        Told::No => 0,
-        Told::Refused(n) => refused(n),
+        YesNo::Yes => 1,
+        YesNo::No => 0,
+        YesNo::Refused(n) => refused(n),
     }
 }
 
@@ -209,7 +209,7 @@ fn days(answer: Number) -> u64 {
 
 fn minutes(answer: Minutes) -> u64 {
     match answer {
-        Minutes::Are(m) => m,
+        Minutes::Is(m) => m,
         Minutes::Refused(n) => refused_figure(n),
     }
 }
@@ -234,8 +234,8 @@ fn rotation_answers(tally: Tally, b: &[u8]) -> Tally {
     let mut out = [FILL; 16];
     let of_out = room(b, 5, 16);
     let got = units::rotation_starts(
-        settings(b),
         size(b, SLOTS_AT),
+        settings(b),
         front_quads(&starts, long(b, 0)),
         front_quads(&ends, long(b, 1)),
         &mut out[0..of_out],
@@ -251,8 +251,8 @@ fn unit_start_answers(tally: Tally, b: &[u8]) -> Tally {
     let mut out = [FILL; 16];
     let of_out = room(b, 5, 16);
     let got = units::unit_starts(
-        settings(b),
         size(b, SLOTS_AT),
+        settings(b),
         front_quads(&starts, long(b, 0)),
         front_quads(&ends, long(b, 1)),
         &mut out[0..of_out],
@@ -263,7 +263,7 @@ fn unit_start_answers(tally: Tally, b: &[u8]) -> Tally {
 
 // How many units, the slots of one, and the unit of a slot.
 fn unit_answers(tally: Tally, b: &[u8]) -> Tally {
-    let begin = firsts(b, FIRSTS_AT);
+    let begin = begins(b, FIRSTS_AT);
     let lent = front_shorts(&begin, long(b, 2));
     let slots = size(b, SLOTS_AT);
     let count = size(b, UNITS_AT);
@@ -277,15 +277,15 @@ fn unit_answers(tally: Tally, b: &[u8]) -> Tally {
 // Whether a unit is frozen.
 fn frozen_answer(tally: Tally, b: &[u8]) -> Tally {
     let flags = one_row(b);
-    let begin = firsts(b, FIRSTS_AT);
+    let begin = begins(b, FIRSTS_AT);
     let got = units::unit_frozen(
-        front_words(&flags, long(b, 4)),
         size(b, SLOTS_AT),
         size(b, UNITS_AT),
         front_shorts(&begin, long(b, 2)),
+        front_words(&flags, long(b, 4)),
         size(b, UNIT_AT),
     );
-    tally.with(told(got) == half(b, FROZEN_DUE_AT))
+    tally.with(yes_no(got) == half(b, FROZEN_DUE_AT))
 }
 
 // Who can cover a slot: how many, and the list.
@@ -294,11 +294,11 @@ fn slot_domain_answers(tally: Tally, b: &[u8]) -> Tally {
     let mut out = [FILL_PEOPLE; 8];
     let of_out = room(b, 6, 8);
     let got = units::slot_domain(
-        front_words(&able, long(b, 3)),
         size(b, PEOPLE_AT),
         size(b, SLOTS_AT),
-        size(b, SLOT_AT),
+        front_words(&able, long(b, 3)),
         &mut out[0..of_out],
+        size(b, SLOT_AT),
     );
     let t1 = tally.with(counted(got) == half(b, SLOT_DOMAIN_DUE_AT));
     t1.with(is_list(&out, b, SLOT_PEOPLE_AT))
@@ -307,17 +307,17 @@ fn slot_domain_answers(tally: Tally, b: &[u8]) -> Tally {
 // Who can cover a unit: how many, and the list.
 fn unit_domain_answers(tally: Tally, b: &[u8]) -> Tally {
     let able = four_rows(b);
-    let begin = firsts(b, FIRSTS_AT);
+    let begin = begins(b, FIRSTS_AT);
     let mut out = [FILL_PEOPLE; 8];
     let of_out = room(b, 6, 8);
     let got = units::unit_domain(
-        front_words(&able, long(b, 3)),
         size(b, PEOPLE_AT),
         size(b, SLOTS_AT),
         size(b, UNITS_AT),
+        front_words(&able, long(b, 3)),
         front_shorts(&begin, long(b, 2)),
-        size(b, UNIT_AT),
         &mut out[0..of_out],
+        size(b, UNIT_AT),
     );
     let t1 = tally.with(counted(got) == half(b, UNIT_DOMAIN_DUE_AT));
     t1.with(is_list(&out, b, UNIT_PEOPLE_AT))
@@ -326,14 +326,14 @@ fn unit_domain_answers(tally: Tally, b: &[u8]) -> Tally {
 // Who can cover each unit: the number, and the column of masks.
 fn unit_domains_answers(tally: Tally, b: &[u8]) -> Tally {
     let able = four_rows(b);
-    let begin = firsts(b, FIRSTS_AT);
+    let begin = begins(b, FIRSTS_AT);
     let mut out = [FILL_MASKS; 16];
     let of_out = room(b, 7, 16);
     let got = units::unit_domains(
-        front_words(&able, long(b, 3)),
         size(b, PEOPLE_AT),
         size(b, SLOTS_AT),
         size(b, UNITS_AT),
+        front_words(&able, long(b, 3)),
         front_shorts(&begin, long(b, 2)),
         &mut out[0..of_out],
     );
@@ -352,7 +352,7 @@ fn day_answers(tally: Tally, b: &[u8]) -> Tally {
     let t2 = t1.with(
         minutes(units::minutes_per_day(slots, starts, ends)) == word(b, PER_DAY_DUE_AT),
     );
-    let target = units::target_run(settings(b), slots, starts, ends);
+    let target = units::target_run(slots, settings(b), starts, ends);
     t2.with(minutes(target) == word(b, TARGET_DUE_AT))
 }
 
@@ -362,13 +362,13 @@ fn achievable_answer(tally: Tally, b: &[u8]) -> Tally {
     let starts = sixteen(b, STARTS_AT);
     let ends = sixteen(b, ENDS_AT);
     let got = units::achievable_run(
-        settings(b),
-        front_words(&able, long(b, 3)),
         size(b, PEOPLE_AT),
-        size(b, PERSON_AT),
         size(b, SLOTS_AT),
+        settings(b),
         front_quads(&starts, long(b, 0)),
         front_quads(&ends, long(b, 1)),
+        front_words(&able, long(b, 3)),
+        size(b, PERSON_AT),
     );
     tally.with(minutes(got) == word(b, ACHIEVABLE_DUE_AT))
 }

@@ -1,4 +1,4 @@
--- The checks before the work: what they leave known where nothing is heard of them, and what the whole row says then. Assumes nothing.
+-- The checks before the work: what they leave known where nothing is refused by them, and what the whole row says then. Assumes nothing.
 use mathlib.Core.Path.{_≡_, refl, sym, ap, _∙_}
 use mathlib.Core.Bool.{Bool, true, false, not, _&&_, _||_}
 use mathlib.Core.List.{List, [], _∷_, _++_}
@@ -7,10 +7,10 @@ use native.Mathlib.Omega.{arith}
 use borrow.Author.Tests.{leb-true, le-leb, ltb-true, eqb-true, eqb-false, not-true, not-false}
 use lib.Dec.{eqb, leb, ltb}
 use lib.ListN.{length}
-use Rattle.paper.specs.Limits.{peopleOk, slotCountOk, Test, test, heardOf}
+use Rattle.paper.specs.Limits.{peopleOk, slotCountOk, Test, test, numberOf}
 use Rattle.paper.specs.Rows.{unless}
 use Rattle.paper.proofs.Logic.{by-test, both, neither, or-second, people-says, slot-count-says}
-use Rattle.paper.proofs.Refusals.{heard-pass, heard-fail}
+use Rattle.paper.proofs.Refusals.{number-pass, number-fail}
 use Rattle.paper.proofs.Rows.{worked, kept, numbered, passed, Pass, all-pass}
 use Rattle.slots.specs.Lent.{slotRoomOk, slotsOk}
 use Rattle.targets.specs.Figures.{allFiguresOk}
@@ -21,54 +21,54 @@ use Rattle.targets.specs.Inside.{checksRow, Sound}
 -- ---- rows
 
 -- first tests that pass say nothing
-after-pass : (ts us : List Test) → Pass ts → heardOf (ts ++ us) ≡ heardOf us
+after-pass : (ts us : List Test) → Pass ts → numberOf (ts ++ us) ≡ numberOf us
 after-pass [] us p = refl
-after-pass (t ∷ ts) us p = heard-pass t (ts ++ us) (p .0) ∙ after-pass ts us (p .1)
+after-pass (t ∷ ts) us p = number-pass t (ts ++ us) (p .0) ∙ after-pass ts us (p .1)
 
 -- a test that passes says nothing, wherever it stands
-pub says-nothing : (ts : List Test) (t : Test) (us : List Test) → t .passes ≡ true → heardOf (ts ++ (t ∷ us)) ≡ heardOf (ts ++ us)
-says-nothing [] t us e = heard-pass t us e
+pub says-nothing : (ts : List Test) (t : Test) (us : List Test) → t .passes ≡ true → numberOf (ts ++ (t ∷ us)) ≡ numberOf (ts ++ us)
+says-nothing [] t us e = number-pass t us e
 says-nothing (s ∷ ts) t us e =
     by-test (s .passes) _
-    (λ q. heard-pass s (ts ++ (t ∷ us)) q ∙ says-nothing ts t us e ∙ sym (heard-pass s (ts ++ us) q))
-    (λ q. heard-fail s (ts ++ (t ∷ us)) q ∙ sym (heard-fail s (ts ++ us) q))
+    (λ q. number-pass s (ts ++ (t ∷ us)) q ∙ says-nothing ts t us e ∙ sym (number-pass s (ts ++ us) q))
+    (λ q. number-fail s (ts ++ (t ∷ us)) q ∙ sym (number-fail s (ts ++ us) q))
 
--- one that fails, before tests that pass, is heard where nothing else is
+-- one that fails, before tests that pass, is given where nothing else is
 says-else : (ts : List Test) (t : Test) (us : List Test) → numbered ts ≡ true → t .passes ≡ false → Pass us
-    → heardOf (ts ++ (t ∷ us)) ≡ unless (heardOf (ts ++ us)) (heardOf (ts ++ us)) (t .number)
-says-else [] t us h e p = heard-fail t us e ∙ sym (worked (heardOf us) (heardOf us) (t .number) (all-pass us p))
+    → numberOf (ts ++ (t ∷ us)) ≡ unless (numberOf (ts ++ us)) (numberOf (ts ++ us)) (t .number)
+says-else [] t us h e p = number-fail t us e ∙ sym (worked (numberOf us) (numberOf us) (t .number) (all-pass us p))
 says-else (s ∷ ts) t us h e p =
     let x = both (ltb 0 (s .number)) (numbered ts) h in
     let l = ltb-true 0 (s .number) (x .0) in
     by-test (s .passes) _
     (λ q.
-    heard-pass s (ts ++ (t ∷ us)) q ∙ says-else ts t us (x .1) e p
-    ∙ sym (ap (λ (n : ℕ). unless n n (t .number)) (heard-pass s (ts ++ us) q)))
+    number-pass s (ts ++ (t ∷ us)) q ∙ says-else ts t us (x .1) e p
+    ∙ sym (ap (λ (n : ℕ). unless n n (t .number)) (number-pass s (ts ++ us) q)))
     (λ q.
-    let f = heard-fail s (ts ++ us) q in
-    heard-fail s (ts ++ (t ∷ us)) q ∙ sym f ∙ sym (kept _ _ (t .number) (λ z. omega (arith, f, z, l))))
+    let f = number-fail s (ts ++ us) q in
+    number-fail s (ts ++ (t ∷ us)) q ∙ sym f ∙ sym (kept _ _ (t .number) (λ z. omega (arith, f, z, l))))
 
--- a number that no test has is not heard
+-- a number that no test has is not given
 abbrev pub unlisted : ℕ → List Test → Bool
 unlisted k [] = true
 unlisted k (t ∷ ts) = not (eqb (t .number) k) && unlisted k ts
 
-pub unlisted-unheard : (k : ℕ) (ts : List Test) → unlisted k ts ≡ true → 0 < k → heardOf ts ≡ k → ⊥
-unfolding heardOf
-unlisted-unheard k [] h l e = omega arith
-unlisted-unheard k (t ∷ ts) h l e =
+pub unlisted-not-given : (k : ℕ) (ts : List Test) → unlisted k ts ≡ true → 0 < k → numberOf ts ≡ k → ⊥
+unfolding numberOf
+unlisted-not-given k [] h l e = omega arith
+unlisted-not-given k (t ∷ ts) h l e =
     let x = both (not (eqb (t .number) k)) (unlisted k ts) h in
-    by-test (t .passes) _ (λ q. unlisted-unheard k ts (x .1) l (sym (heard-pass t ts q) ∙ e))
-    (λ q. eqb-false (t .number) k (not-true _ (x .0)) (sym (heard-fail t ts q) ∙ e))
+    by-test (t .passes) _ (λ q. unlisted-not-given k ts (x .1) l (sym (number-pass t ts q) ∙ e))
+    (λ q. eqb-false (t .number) k (not-true _ (x .0)) (sym (number-fail t ts q) ∙ e))
 
--- ---- what the whole row says, by the checks: 8 is heard where nothing else is
+-- ---- what the whole row says, by the checks: 8 is given where nothing else is
 
 module _ (g : Given) (room : ℕ) where
   abbrev whole : ℕ
-  whole = heardOf (targetsRow g room)
+  whole = numberOf (targetsRow g room)
 
   abbrev checks : ℕ
-  checks = heardOf (checksRow g room)
+  checks = numberOf (checksRow g room)
 
   abbrev ordered : Bool
   ordered = slotsOk (g .slots) (g .starts) (g .ends)
@@ -106,7 +106,7 @@ module _ (g : Given) (room : ℕ) where
   pub row-eight : checks ≡ 0 → guardOk g ≡ false → whole ≡ 8
   row-eight z e = no-guard e ∙ worked checks checks 8 z
 
-  -- nothing is heard of the checks where nothing is of the row
+  -- the checks refuse nothing where the row refuses nothing
   pub row-clear : whole ≡ 0 → checks ≡ 0
   row-clear z =
       by-test (eqb checks 0) _ (eqb-true checks 0) (λ f. sym (row-refused (eqb-false checks 0 f)) ∙ z)
@@ -117,7 +117,7 @@ pub record Accepted (g : Given) (room : ℕ) : Type 0 where
   pub sound : Sound g
   pub out-room : g .people ≤ room
 
-pub accepted : (g : Given) (room : ℕ) → heardOf (checksRow g room) ≡ 0 → Accepted g room
+pub accepted : (g : Given) (room : ℕ) → numberOf (checksRow g room) ≡ 0 → Accepted g room
 unfolding checksRow roomRow
 accepted g room z =
     let h = passed (checksRow g room) refl z in
@@ -150,9 +150,9 @@ pub record Lent (g : Given) (room : ℕ) : Type 0 where
   pub priors-room : g .people ≤ length (g .priors)
   pub out-room : g .people ≤ room
 
--- then 6, 7 and 9 are heard
+-- then 6, 7 and 9 are given
 pub lent-checks : (g : Given) (room : ℕ) → Lent g room
-    → heardOf (checksRow g room) ≡ heardOf (test 6 (allFiguresOk (g .people) (g .capacities) (g .priors)) ∷ test 7 (leb (g .fairness) 1)
+    → numberOf (checksRow g room) ≡ numberOf (test 6 (allFiguresOk (g .people) (g .capacities) (g .priors)) ∷ test 7 (leb (g .fairness) 1)
     ∷ test 7 (leb (g .edition) 1) ∷ test 9 (slotsOk (g .slots) (g .starts) (g .ends)) ∷ [])
 unfolding checksRow roomRow
 lent-checks g room l =

@@ -17,14 +17,14 @@ use lib.Ieee.Fits.{down-pos, round-fits}
 use lib.Ieee.Back.{round-whole}
 use lib.Ieee.Positive.{first-pos}
 use Rattle.paper.proofs.Logic.{by-cond}
-use Rattle.targets.specs.declared.Line.{Line}
+use Rattle.targets.specs.declared.Standing.{Standing}
 use Rattle.targets.specs.Figures.{zeroF, whole}
 use Rattle.targets.specs.Passes.{within, unrounded, outside, some, withShare, shareSum, withPrior, notional}
 use Rattle.targets.specs.Inside.{Each}
 use Rattle.targets.proofs.Nearest.{held}
 use Rattle.targets.proofs.Floats.{Most, Plain, Share, Under, round-most, round-plain, quotient, product, difference, inside}
 use Rattle.targets.proofs.Floats.{under-round, under-refl, under-trans, add-plain, over-left, over-right}
-use Rattle.targets.proofs.Each.{each-both, each-then, each-none, sumLines, fold-sum, sum-most}
+use Rattle.targets.proofs.Each.{each-both, each-then, each-none, sumStandings, fold-sum, sum-most}
 use Rattle.targets.proofs.Cases.{kept-guard}
 
 -- no raw share is above 2 ^ 37, and no N above 4,000,000,000
@@ -84,19 +84,19 @@ added k (fin false m e) (fin t n d) K a h l =
 -- ---- all people
 
 -- a raw share is at most 2 ^ 37 and not below zero, and the prior minutes are at most 100,000,000
-pub record Good (l : Line) : Type 0 where
+pub record Good (l : Standing) : Type 0 where
   pub share : Share (l .raw)
   pub small : Most (l .raw) shareMost 1
   pub prior : l .person .prior ≤ 100000000
 
-abbrev pub Goods : List Line → Type 0
+abbrev pub Goods : List Standing → Type 0
 Goods = Each Good
 
 -- who is not pinned has a raw share of at most s
-abbrev pub UnderSum : Float → Line → Type 0
+abbrev pub UnderSum : Float → Standing → Type 0
 UnderSum s l = l .pinned ≡ false → Under (l .raw) s
 
-abbrev pub AllUnder : Float → List Line → Type 0
+abbrev pub AllUnder : Float → List Standing → Type 0
 AllUnder s = Each (UnderSum s)
 
 more-room : (k : ℕ) (x : Float) → Most x (k * shareMost) 1 → Most x (suc k * shareMost) 1
@@ -114,12 +114,13 @@ with-one true k x y K a h l = record {
 with-one false k x y K a h l = added k x y K a h l
 
 -- the shares of ls were added to x: s is at least x and each of them
-pub record Summed (k : ℕ) (x s : Float) (ls : List Line) : Type 0 where
+pub record Summed (k : ℕ) (x s : Float) (ls : List Standing) : Type 0 where
   pub acc : Acc k s
   pub from : Under x s
   pub all : AllUnder s ls
 
-pub summed : (ls : List Line) (k n : ℕ) (x : Float) → Acc k x → Goods ls → n ≡ k + length ls → n ≤ 64 → Summed n x (foldl withShare x ls) ls
+pub summed : (ls : List Standing) (k n : ℕ) (x : Float) → Acc k x → Goods ls → n ≡ k + length ls → n ≤ 64 → Summed n x
+    (foldl withShare x ls) ls
 summed [] k n x a g e h = record {
   acc = subst (λ (j : ℕ). Acc j x) (sym (e ∙ add-zero k)) a;
   from = under-refl x (k * shareMost) 1 (a .most);
@@ -136,13 +137,13 @@ summed (l ∷ ls) k n x a g e h =
     }
 
 -- the prior minutes of the unpinned
-abbrev priorOf : Line → ℕ
+abbrev priorOf : Standing → ℕ
 priorOf l = cond (l .pinned) 0 (l .person .prior)
 
-abbrev pub priorsIn : List Line → ℕ
-priorsIn = sumLines priorOf
+abbrev pub priorsIn : List Standing → ℕ
+priorsIn = sumStandings priorOf
 
-pub notional-is : (d : ℕ) (ls : List Line) → notional d ls ≡ d + priorsIn ls
+pub notional-is : (d : ℕ) (ls : List Standing) → notional d ls ≡ d + priorsIn ls
 notional-is d ls = fold-sum withPrior priorOf (λ a l. go (l .pinned) a (l .person .prior)) ls d
   where
     go : (b : Bool) (a p : ℕ) → cond b a (a + p) ≡ a + cond b 0 p
@@ -182,15 +183,15 @@ steps n p (fin false v g) (fin t r e) b P u =
     let j = product (whole n) q n (whole-val n (b .few)) N (quotient t r e v g (positive v g (b .above)) u) in
     difference x (whole p) n p j (whole-val p (omega arith)) W
 
-kept : (n : ℕ) (s : Float) (l : Line) → Basis n s → Good l → Under (l .raw) s → within (unrounded (whole n) s l) ≡ true
+kept : (n : ℕ) (s : Float) (l : Standing) → Basis n s → Good l → Under (l .raw) s → within (unrounded (whole n) s l) ≡ true
 kept n s l b g u =
     inside (unrounded (whole n) s l) (n + l .person .prior) (steps n (l .person .prior) s (l .raw) b (g .prior) u)
     (omega (arith, b .few, g .prior))
 
-none-outside : (n : ℕ) (s : Float) (ls : List Line) → Basis n s → Goods ls → AllUnder s ls → some (outside (whole n) s) ls ≡ false
+none-outside : (n : ℕ) (s : Float) (ls : List Standing) → Basis n s → Goods ls → AllUnder s ls → some (outside (whole n) s) ls ≡ false
 none-outside n s ls b g u =
     each-none (outside (whole n) s) ls
-    (each-then (λ (l : Line). Good l × UnderSum s l) (λ (l : Line). outside (whole n) s l ≡ false)
+    (each-then (λ (l : Standing). Good l × UnderSum s l) (λ (l : Standing). outside (whole n) s l ≡ false)
     (λ l x. kept-guard (whole n) s l (λ q. kept n s l b (x .0) (x .1 q))) ls (each-both Good (UnderSum s) ls g u))
 
 pub zero-acc : Acc 0 zeroF
@@ -198,24 +199,24 @@ unfolding fits
 zero-acc = record { plain = refl; ok = tt; most = le-refl 0 }
 
 -- the sum of the shares of such people
-pub summed-all : (ls : List Line) → length ls ≤ 32 → Goods ls → Summed (length ls) zeroF (shareSum ls) ls
+pub summed-all : (ls : List Standing) → length ls ≤ 32 → Goods ls → Summed (length ls) zeroF (shareSum ls) ls
 summed-all ls L g = summed ls 0 (length ls) zeroF zero-acc g (sym (zero-add (length ls))) (le-trans L (lit≤ {m = 32} {n = 64} tt))
 
-pub notional-most : (d : ℕ) (ls : List Line) → d ≤ 100000000 → length ls ≤ 32 → Goods ls → notional d ls ≤ notionalMost
+pub notional-most : (d : ℕ) (ls : List Standing) → d ≤ 100000000 → length ls ≤ 32 → Goods ls → notional d ls ≤ notionalMost
 notional-most d ls D L g =
     let h = sum-most priorOf 100000000 ls
-    (each-then Good (λ (l : Line). priorOf l ≤ 100000000)
+    (each-then Good (λ (l : Standing). priorOf l ≤ 100000000)
     (λ l x. by-cond (l .pinned) 0 (l .person .prior) (λ (p : ℕ). p ≤ 100000000) (λ q. zero-le) (λ q. x .prior)) ls g) in
     omega (arith, notional-is d ls, h)
 
-pub basis-of : (d : ℕ) (ls : List Line) → d ≤ 100000000 → length ls ≤ 32 → Goods ls → lt zeroF (shareSum ls) ≡ true
+pub basis-of : (d : ℕ) (ls : List Standing) → d ≤ 100000000 → length ls ≤ 32 → Goods ls → lt zeroF (shareSum ls) ≡ true
     → Basis (notional d ls) (shareSum ls)
 basis-of d ls D L g z =
     let r = summed-all ls L g in
     record { few = notional-most d ls D L g; plain = r .acc .plain; bound = length ls * shareMost; most = r .acc .most; above = z }
 
 -- no pass over such people is refused
-pub never-outside : (d : ℕ) (ls : List Line) → d ≤ 100000000 → length ls ≤ 32 → Goods ls → lt zeroF (shareSum ls) ≡ true
+pub never-outside : (d : ℕ) (ls : List Standing) → d ≤ 100000000 → length ls ≤ 32 → Goods ls → lt zeroF (shareSum ls) ≡ true
     → some (outside (whole (notional d ls)) (shareSum ls)) ls ≡ false
 never-outside d ls D L g z =
     none-outside (notional d ls) (shareSum ls) ls (basis-of d ls D L g z) g (summed-all ls L g .all)

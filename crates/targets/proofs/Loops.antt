@@ -1,4 +1,5 @@
--- The steps of the loops: folds over lines, a search among them, arrays filled from the front, the passes counted down. Assumes nothing.
+-- The steps of the loops: folds over standings, a search among them, arrays filled from the front, the passes counted down. Assumes
+-- nothing.
 use mathlib.Core.Path.{_≡_, refl, sym, ap, _∙_}
 use mathlib.Core.Bool.{Bool, true, false, _||_}
 use mathlib.Core.List.{List, [], _∷_, _++_, map, foldl, append-nil}
@@ -9,7 +10,7 @@ use native.Mathlib.Omega.{arith}
 use lib.Ieee.{Float, lt}
 use lib.ListN.{length, getD, take, drop, set, replicate, length-append, drop-of-length-le}
 use lib.Seq.{drop-cons, take-suc-set, append-snoc, take-all, set-at, take-suc, length-take-le}
-use Rattle.targets.specs.declared.Line.{Line}
+use Rattle.targets.specs.declared.Standing.{Standing}
 use Rattle.targets.specs.Figures.{zeroF, upTo}
 use Rattle.targets.specs.Passes.{settled, rounded, some, Passed, pass, passes}
 
@@ -20,11 +21,11 @@ differ z = absurd (no z)
     no : _≡_ {A = ℕ} 0 1 → ⊥
     no z = omega arith
 
--- ---- a fold over lines
+-- ---- a fold over standings
 
-module _ {A : Type 0} (f : A → Line → A) {a z : A} (ls : List Line) (i : ℕ) where
-  -- one turn: the line at i goes in, and what is left starts after it
-  pub turn : (d : Line) {r : A} → foldl f a (drop i ls) ≡ z → r ≡ f a (getD ls i d) → i < length ls
+module _ {A : Type 0} (f : A → Standing → A) {a z : A} (ls : List Standing) (i : ℕ) where
+  -- one turn: the standing at i goes in, and what is left starts after it
+  pub turn : (d : Standing) {r : A} → foldl f a (drop i ls) ≡ z → r ≡ f a (getD ls i d) → i < length ls
       → foldl f r (drop (i + 1) ls) ≡ z
   turn d h e l = rw (add-one, e) (rw (drop-cons ls i d) at h)
 
@@ -32,14 +33,14 @@ module _ {A : Type 0} (f : A → Line → A) {a z : A} (ls : List Line) (i : ℕ
   pub over : foldl f a (drop i ls) ≡ z → length ls ≤ i → a ≡ z
   over h l = rw (drop-of-length-le ls l) at h
 
--- ---- a search for a line that passes a test
+-- ---- a search for a standing that passes a test
 
-module _ (p : Line → Bool) {z : Bool} (ls : List Line) (i : ℕ) where
-  pub found : (d : Line) {b : Bool} → some p (drop i ls) ≡ z → b ≡ p (getD ls i d) → b ≡ true → i < length ls → true ≡ z
+module _ (p : Standing → Bool) {z : Bool} (ls : List Standing) (i : ℕ) where
+  pub found : (d : Standing) {b : Bool} → some p (drop i ls) ≡ z → b ≡ p (getD ls i d) → b ≡ true → i < length ls → true ≡ z
   found d h e t l =
       ap (λ (x : Bool). x || some p (drop (suc i) ls)) (sym t ∙ e) ∙ (rw (drop-cons ls i d) at h)
 
-  pub missed : (d : Line) {b : Bool} → some p (drop i ls) ≡ z → b ≡ p (getD ls i d) → b ≡ false → i < length ls
+  pub missed : (d : Standing) {b : Bool} → some p (drop i ls) ≡ z → b ≡ p (getD ls i d) → b ≡ false → i < length ls
       → some p (drop (i + 1) ls) ≡ z
   missed d h e f l =
       rw add-one (ap (λ (x : Bool). x || some p (drop (suc i) ls)) (sym f ∙ e) ∙ (rw (drop-cons ls i d) at h))
@@ -49,7 +50,7 @@ module _ (p : Line → Bool) {z : Bool} (ls : List Line) (i : ℕ) where
 
 -- ---- one person's step, by the tests that lead to it; y is the unrounded target as the code has it
 
-module _ (l : Line) {x y : Float} (e : y ≡ x) where
+module _ (l : Standing) {x y : Float} (e : y ≡ x) where
   pub at-pin : l .pinned ≡ false → lt y zeroF ≡ true
       → record { person = l .person; raw = l .raw; target = 0; pinned = true } ≡ settled x l
   unfolding settled
@@ -60,7 +61,7 @@ module _ (l : Line) {x y : Float} (e : y ≡ x) where
   unfolding settled
   at-kept p z h = rw (p, ← e, z, h)
 
--- ---- a loop that writes g of each line into another array
+-- ---- a loop that writes g of each standing into another array
 
 module _ {A : Type 0} {B : Type 0} (g : A → B) (ls : List A) (out : List B) (i : ℕ) {z : List B} where
   pub copied : (d : A) {b : B} → take i out ++ map g (drop i ls) ≡ z → b ≡ g (getD ls i d) → i < length ls → i < length out

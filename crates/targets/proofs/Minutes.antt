@@ -14,10 +14,10 @@ use Rattle.paper.proofs.Count.{sum-mono}
 use Rattle.paper.proofs.Logic.{by-cond, and-true}
 use Rattle.slots.specs.Lent.{minutesAt, slotsOk}
 use Rattle.slots.proofs.LentLaws.{demand-part}
-use Rattle.slotset.specs.declared.Told.{Told}
-use Rattle.slotset.specs.declared.Told.the-variants as told
+use Rattle.slotset.specs.declared.YesNo.{YesNo}
+use Rattle.slotset.specs.declared.YesNo.the-variants as yesNo
 use Rattle.slotset.specs.Slots.{has}
-use Rattle.slotset.specs.Answers.{rowNo, rowSlots, toldAs}
+use Rattle.slotset.specs.Answers.{rowRefusal, rowSlots, yesNoAs}
 use Rattle.slotset.proofs.Refusals.{says-row}
 use Rattle.targets.specs.Figures.{minutesIfAvailable, availableMinutes}
 use Rattle.targets.specs.Inside.{RowSound}
@@ -47,42 +47,42 @@ available-fits slots starts ends avail person o = available-part slots starts en
 -- ---- what the row tells
 
 -- a row that can be asked is not refused
-row-asked : (people person slots : ℕ) (avail : List ℕ) → RowSound people person slots avail → rowNo avail people person slots ≡ 0
+row-asked : (people person slots : ℕ) (avail : List ℕ) → RowSound people person slots avail → rowRefusal avail people person slots ≡ 0
 unfolding peopleOk
 row-asked people person slots avail s =
     says-row avail people person slots (and-true _ _ (le-leb 1 people (s .somebody)) (le-leb people 32 (s .few))) (s .slots-few) (s .words)
     (s .known)
 
 module _ (people person slots : ℕ) (starts ends avail : List ℕ) (k : ℕ) (s : RowSound people person slots avail) (h : k < slots)
-    (t : Told) (e : t ≡ toldAs (rowNo avail people person slots) (has (rowSlots avail person) slots k)) where
+    (t : YesNo) (e : t ≡ yesNoAs (rowRefusal avail people person slots) (has (rowSlots avail person) slots k)) where
   -- the answer is about the slot's bit
-  by-bit : t ≡ toldAs 0 (eqb (rowSlots avail person k) 1)
+  by-bit : t ≡ yesNoAs 0 (eqb (rowSlots avail person k) 1)
   unfolding has
   by-bit =
       e
-      ∙ ap₂ toldAs (row-asked people person slots avail s)
+      ∙ ap₂ yesNoAs (row-asked people person slots avail s)
       (ap (λ (b : Bool). b && eqb (rowSlots avail person k) 1) (lt-ltb k slots h))
 
-  pub told-yes : t ≡ told.Yes → {m : ℕ} → m ≡ minutesAt starts ends k → m ≡ minutesIfAvailable starts ends avail person k
-  unfolding toldAs unless
-  told-yes y q = q ∙ go (eqb (rowSlots avail person k) 1) (sym by-bit ∙ y)
+  pub answered-yes : t ≡ yesNo.Yes → {m : ℕ} → m ≡ minutesAt starts ends k → m ≡ minutesIfAvailable starts ends avail person k
+  unfolding yesNoAs unless
+  answered-yes y q = q ∙ go (eqb (rowSlots avail person k) 1) (sym by-bit ∙ y)
     where
-      go : (b : Bool) → toldAs 0 b ≡ told.Yes → minutesAt starts ends k ≡ cond b (minutesAt starts ends k) 0
+      go : (b : Bool) → yesNoAs 0 b ≡ yesNo.Yes → minutesAt starts ends k ≡ cond b (minutesAt starts ends k) 0
       go true w = refl
       go false w = let z : _≡_ {A = ℕ} 0 1 = cc in differ z
 
-  pub told-no : t ≡ told.No → 0 ≡ minutesIfAvailable starts ends avail person k
-  unfolding toldAs unless
-  told-no y = go (eqb (rowSlots avail person k) 1) (sym by-bit ∙ y)
+  pub yes-no-refused : t ≡ yesNo.No → 0 ≡ minutesIfAvailable starts ends avail person k
+  unfolding yesNoAs unless
+  yes-no-refused y = go (eqb (rowSlots avail person k) 1) (sym by-bit ∙ y)
     where
-      go : (b : Bool) → toldAs 0 b ≡ told.No → 0 ≡ cond b (minutesAt starts ends k) 0
+      go : (b : Bool) → yesNoAs 0 b ≡ yesNo.No → 0 ≡ cond b (minutesAt starts ends k) 0
       go true w = let z : _≡_ {A = ℕ} 0 1 = cc in differ z
       go false w = refl
 
-  pub told-refused : {n : ℕ} → t ≡ told.Refused n → ⊥
-  unfolding toldAs unless
-  told-refused {n} y = go (eqb (rowSlots avail person k) 1) (sym by-bit ∙ y)
+  pub answered-refused : {n : ℕ} → t ≡ yesNo.Refused n → ⊥
+  unfolding yesNoAs unless
+  answered-refused {n} y = go (eqb (rowSlots avail person k) 1) (sym by-bit ∙ y)
     where
-      go : (b : Bool) → toldAs 0 b ≡ told.Refused n → ⊥
+      go : (b : Bool) → yesNoAs 0 b ≡ yesNo.Refused n → ⊥
       go true w = let z : _≡_ {A = ℕ} 0 1 = cc in differ z
       go false w = let z : _≡_ {A = ℕ} 0 1 = cc in differ z

@@ -10,11 +10,11 @@ use borrow.Author.Tests.{ltb-true, lt-ltb}
 use lib.Dec.{ltb}
 use lib.ListN.{length}
 use Rattle.paper.proofs.Logic.{by-test, by-cond, same-test, lt-or-ge}
-use Rattle.targets.specs.declared.Line.{Line}
+use Rattle.targets.specs.declared.Standing.{Standing}
 use Rattle.targets.specs.Passes.{some}
 use Rattle.targets.specs.SecondEdition.{unpinned, retargeted, oneMore, oneLess, hasLess, hasMore, isSmallest, isLargest, onFirst}
 use Rattle.targets.specs.SecondEdition.{giveMinute, takeMinute, times}
-use Rattle.targets.specs.Levels.{reached, liftCost, onLevel, oneFewer, liftedLine, leftAfter, lifted, Lifts}
+use Rattle.targets.specs.Levels.{reached, liftCost, onLevel, oneFewer, liftedStanding, leftAfter, lifted, Lifts}
 use Rattle.targets.specs.Inside.{Each, SmallTarget, Small, highest, mirrored}
 use Rattle.targets.proofs.Each.{each-then, each-map}
 use Rattle.targets.proofs.LevelLaws.{first-here, first-later, is-reached, reachedBy, cost-next, cost-grows, one-minute, by-levels}
@@ -22,19 +22,20 @@ use Rattle.targets.proofs.LevelLaws.{first-here, first-later, is-reache
 -- ---- one minute
 
 -- a test that holds of g l where another holds of l
-some-map : (p q : Line → Bool) (g : Line → Line) (ls : List Line) → Each (λ (l : Line). q (g l) ≡ p l) ls → some q (map g ls) ≡ some p ls
+some-map : (p q : Standing → Bool) (g : Standing → Standing) (ls : List Standing) → Each (λ (l : Standing). q (g l) ≡ p l) ls → some q
+    (map g ls) ≡ some p ls
 some-map p q g [] h = refl
 some-map p q g (l ∷ ls) h = ap₂ (λ (a b : Bool). a || b) (h .0) (some-map p q g ls (h .1))
 
-first-map : (p q : Line → Bool) (f k g : Line → Line) → ((l : Line) → k (g l) ≡ g (f l)) → (ls : List Line)
-    → Each (λ (l : Line). q (g l) ≡ p l) ls → onFirst q k (map g ls) ≡ map g (onFirst p f ls)
+first-map : (p q : Standing → Bool) (f k g : Standing → Standing) → ((l : Standing) → k (g l) ≡ g (f l)) → (ls : List Standing)
+    → Each (λ (l : Standing). q (g l) ≡ p l) ls → onFirst q k (map g ls) ≡ map g (onFirst p f ls)
 first-map p q f k g e [] h = refl
 first-map p q f k g e (l ∷ ls) h =
     by-test (p l) _
     (λ t.
-    first-here q k (g l) (map g ls) (h .0 ∙ t) ∙ ap (λ (x : Line). x ∷ map g ls) (e l) ∙ sym (ap (map g) (first-here p f l ls t)))
+    first-here q k (g l) (map g ls) (h .0 ∙ t) ∙ ap (λ (x : Standing). x ∷ map g ls) (e l) ∙ sym (ap (map g) (first-here p f l ls t)))
     (λ t.
-    first-later q k (g l) (map g ls) (h .0 ∙ t) ∙ ap (λ (xs : List Line). g l ∷ xs) (first-map p q f k g e ls (h .1))
+    first-later q k (g l) (map g ls) (h .0 ∙ t) ∙ ap (λ (xs : List Standing). g l ∷ xs) (first-map p q f k g e ls (h .1))
     ∙ sym (ap (map g) (first-later p f l ls t)))
 
 -- the order is turned round
@@ -44,28 +45,29 @@ turned a b h k =
     (λ t. lt-ltb b a (let g = ltb-true (highest - a) (highest - b) t in omega arith))
     (λ t. lt-ltb (highest - a) (highest - b) (let g = ltb-true b a t in omega arith))
 
-largest-mirrored : (ls : List Line) → Small ls → (l : Line) → SmallTarget l → isLargest (map mirrored ls) (mirrored l) ≡ isSmallest ls l
+largest-mirrored : (ls : List Standing) → Small ls → (l : Standing) → SmallTarget l → isLargest (map mirrored ls) (mirrored l) ≡
+    isSmallest ls l
 unfolding isLargest isSmallest
 largest-mirrored ls s l h =
     ap (λ (b : Bool). unpinned l && not b)
     (some-map (hasLess (l .target)) (hasMore (highest - l .target)) mirrored ls
-    (each-then SmallTarget (λ (k : Line). hasMore (highest - l .target) (mirrored k) ≡ hasLess (l .target) k)
+    (each-then SmallTarget (λ (k : Standing). hasMore (highest - l .target) (mirrored k) ≡ hasLess (l .target) k)
     (λ k i. ap (λ (b : Bool). unpinned k && b) (turned (l .target) (k .target) h i)) ls s))
 
-take-mirrored : (ls : List Line) → Small ls → takeMinute (map mirrored ls) ≡ map mirrored (giveMinute ls)
+take-mirrored : (ls : List Standing) → Small ls → takeMinute (map mirrored ls) ≡ map mirrored (giveMinute ls)
 unfolding takeMinute giveMinute
 take-mirrored ls s =
     first-map (isSmallest ls) (isLargest (map mirrored ls)) oneMore oneLess mirrored
     (λ l. ap (λ (t : ℕ). retargeted t l) (let e : highest - l .target - 1 ≡ highest - suc (l .target) = omega arith in e)) ls
-    (each-then SmallTarget (λ (l : Line). isLargest (map mirrored ls) (mirrored l) ≡ isSmallest ls l) (largest-mirrored ls s) ls s)
+    (each-then SmallTarget (λ (l : Standing). isLargest (map mirrored ls) (mirrored l) ≡ isSmallest ls l) (largest-mirrored ls s) ls s)
 
 -- ---- sizes
 
-lifted-line-small : (L r : ℕ) (l : Line) → onLevel L r ≤ highest → SmallTarget l → SmallTarget (liftedLine L r l)
-unfolding liftedLine
-lifted-line-small L r l h s = by-cond (reached L l) (retargeted (onLevel L r) l) l SmallTarget (λ t. h) (λ e. s)
+lifted-standing-small : (L r : ℕ) (l : Standing) → onLevel L r ≤ highest → SmallTarget l → SmallTarget (liftedStanding L r l)
+unfolding liftedStanding
+lifted-standing-small L r l h s = by-cond (reached L l) (retargeted (onLevel L r) l) l SmallTarget (λ t. h) (λ e. s)
 
-left-most : (L r : ℕ) (l : Line) → leftAfter L r l ≤ r
+left-most : (L r : ℕ) (l : Standing) → leftAfter L r l ≤ r
 unfolding leftAfter
 left-most L r l = by-cond (reached L l) (oneFewer r) r (λ (k : ℕ). k ≤ r) (λ t. fewer r) (λ e. le-refl r)
   where
@@ -74,10 +76,10 @@ left-most L r l = by-cond (reached L l) (oneFewer r) r (λ (k : ℕ). k ≤ r) (
     fewer (suc k) = omega arith
 
 -- up to the highest level, and one above a lower one
-lifted-small : (L r : ℕ) (ls : List Line) → L ≤ highest → (0 < r → L < highest) → Small ls → Small (lifted L r ls)
+lifted-small : (L r : ℕ) (ls : List Standing) → L ≤ highest → (0 < r → L < highest) → Small ls → Small (lifted L r ls)
 lifted-small L r [] h t s = tt
 lifted-small L r (l ∷ ls) h t s = (
-  lifted-line-small L r l (on-level r t) (s .0),
+  lifted-standing-small L r l (on-level r t) (s .0),
   lifted-small L (leftAfter L r l) ls h (λ z. t (omega (arith, z, left-most L r l))) (s .1),
 )
   where
@@ -87,23 +89,23 @@ lifted-small L r (l ∷ ls) h t s = (
 
 -- ---- all minutes
 
-step-taken : (ls : List Line) → Small ls → (L r : ℕ) → L < highest → r < reachedBy L ls
+step-taken : (ls : List Standing) → Small ls → (L r : ℕ) → L < highest → r < reachedBy L ls
     → takeMinute (map mirrored (lifted L r ls)) ≡ map mirrored (lifted L (suc r) ls)
 step-taken ls s L r h c =
     take-mirrored (lifted L r ls) (lifted-small L r ls (omega (arith, h)) (λ z. h) s) ∙ ap (map mirrored) (one-minute L r ls c)
 
 -- the highest level reaches everybody
-reached-one : (k : ℕ) (l : Line) → SmallTarget l → reached (highest + k) l ≡ reached highest l
+reached-one : (k : ℕ) (l : Standing) → SmallTarget l → reached (highest + k) l ≡ reached highest l
 unfolding reached
 reached-one k l s =
     by-test (l .pinned) _ (λ p. rw p) (λ p. is-reached (highest + k) l p (omega (arith, s)) ∙ sym (is-reached highest l p s))
 
-reached-all : (k : ℕ) (ls : List Line) → Small ls → reachedBy (highest + k) ls ≡ reachedBy highest ls
+reached-all : (k : ℕ) (ls : List Standing) → Small ls → reachedBy (highest + k) ls ≡ reachedBy highest ls
 reached-all k [] s = refl
 reached-all k (l ∷ ls) s =
     ap₂ (λ (a b : ℕ). a + b) (ap (λ (b : Bool). cond b 1 0) (reached-one k l (s .0))) (reached-all k ls (s .1))
 
-module _ (m : ℕ) (ls : List Line) {out : List Line} (s : Small ls) (h : Lifts m ls out) (most : m ≤ liftCost highest ls) where
+module _ (m : ℕ) (ls : List Standing) {out : List Standing} (s : Small ls) (h : Lifts m ls out) (most : m ≤ liftCost highest ls) where
   -- so the level is not above it, and at it nothing is left over
   not-above : (k : ℕ) → h .level ≡ highest + suc k → ⊥
   not-above k e =

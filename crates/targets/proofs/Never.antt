@@ -14,9 +14,9 @@ use lib.ListN.{length, length-map}
 use lib.Ieee.{Float, nan, inf, fin, binary64, mul, le, fits, up, down, round, ofInt, unlike}
 use lib.Ieee.Exact.{HasValue}
 use lib.Ieee.Fits.{up-pos, down-pos, and-l, round-fits}
-use Rattle.targets.specs.declared.Line.{Line}
+use Rattle.targets.specs.declared.Standing.{Standing}
 use Rattle.targets.specs.declared.Person.{Person}
-use Rattle.targets.specs.Figures.{zeroF, whole, lineOf, figuresOk}
+use Rattle.targets.specs.Figures.{zeroF, whole, standingOf, figuresOk}
 use Rattle.targets.specs.Passes.{settled, settle, unrounded, shareSum, notional, Passed, again, done, refused, passed}
 use Rattle.targets.specs.Passes.{passesLeave, guarded}
 use Rattle.paper.proofs.Logic.{three}
@@ -26,7 +26,7 @@ use Rattle.targets.proofs.Guard.{shareMost, Good, Goods, whole-val, nev
 use Rattle.targets.proofs.Each.{each-map}
 use Rattle.targets.proofs.Cases.{by-settled, by-passed, passes-keep}
 
--- ---- a person's line
+-- ---- a person's standing
 
 -- a capacity that passes: finite, at most 1000, and 0 if it has the sign
 abbrev Cap : Float → Type 0
@@ -113,9 +113,9 @@ raw-of (fin s m e) nan b B c v = absurd v
 raw-of (fin s m e) (inf t) b B c v = absurd v
 raw-of (fin s m e) (fin t n d) b B c v = times s m e t n d b B c v
 
-pub good-line : (p : Person) (b : ℕ) → figuresOk p ≡ true → b ≤ 100000000 → Good (lineOf p b)
+pub good-standing : (p : Person) (b : ℕ) → figuresOk p ≡ true → b ≤ 100000000 → Good (standingOf p b)
 unfolding figuresOk
-good-line p b f B =
+good-standing p b f B =
     let c = p .capacity in
     let h = three (le zeroF c) (le c (whole 1000)) (leb (p .prior) 100000000) f in
     let v = whole-val b (omega arith) in
@@ -124,7 +124,7 @@ good-line p b f B =
 
 -- ---- the passes
 
-settled-good : (x : Float) (l : Line) → Good l → Good (settled x l)
+settled-good : (x : Float) (l : Standing) → Good l → Good (settled x l)
 settled-good x l g =
     by-settled x l Good (λ p. g) (λ p z. record { share = g .share; small = g .small; prior = g .prior })
     (λ p z. record { share = g .share; small = g .small; prior = g .prior })
@@ -136,7 +136,7 @@ Fine (done ls) = (length ls ≤ 32) × Goods ls
 Fine refused = ⊥
 
 -- a pass over such people is not refused, and leaves such people
-pub fine-passed : (demand : ℕ) (ls : List Line) → demand ≤ 100000000 → Fine (again ls)
+pub fine-passed : (demand : ℕ) (ls : List Standing) → demand ≤ 100000000 → Fine (again ls)
     → Fine (passed (whole (notional demand ls)) (shareSum ls) ls)
 fine-passed demand ls D h =
     by-passed n sum ls Fine (λ a. h) (λ a b. absurd (true≢false (sym b ∙ never-outside demand ls D (h .0) (h .1) a)))
@@ -160,6 +160,6 @@ fine-guarded (done ls) h = refl
 fine-guarded refused h = absurd h
 
 -- the guard is kept, of any such people
-pub never-refused : (d : ℕ) (ls : List Line) → d ≤ 100000000 → length ls ≤ 32 → Goods ls → guarded (passesLeave d ls) ≡ true
+pub never-refused : (d : ℕ) (ls : List Standing) → d ≤ 100000000 → length ls ≤ 32 → Goods ls → guarded (passesLeave d ls) ≡ true
 never-refused d ls D L g =
     fine-guarded (passesLeave d ls) (passes-keep Fine d (λ ms. fine-passed d ms D) (suc (length ls)) (again ls) (L, g))

@@ -12,36 +12,36 @@ use lib.IntN.{ℤ, pos, _+ℤ_, _-ℤ_}
 use lib.ListN.{length, getD, take, replicate, length-map, length-set, List·getD-append}
 use lib.Seq.{set-append-left, take-at, drop-at}
 use Rattle.paper.proofs.Logic.{by-test, by-cond}
-use Rattle.targets.specs.declared.Line.{Line}
+use Rattle.targets.specs.declared.Standing.{Standing}
 use Rattle.targets.specs.declared.Best.{Best}
 use Rattle.targets.specs.declared.Answer.{Answer}
 use Rattle.targets.specs.Figures.{zeroF, whole, pad}
-use Rattle.targets.specs.Passes.{settled, settle, outside, falls, some, withShare, shareSum, withPrior, notional}
-use Rattle.targets.specs.Passes.{Passed, again, done, refused, passed, pass, passes, passesLeave, linesLeft, guarded}
+use Rattle.targets.specs.Passes.{settled, settle, outside, belowZero, some, withShare, shareSum, withPrior, notional}
+use Rattle.targets.specs.Passes.{Passed, again, done, refused, passed, pass, passes, passesLeave, standingsLeft, guarded}
 use Rattle.targets.specs.Remainder.{withTarget, totalOf, better, best, takerOf, targetOf, adjusted}
 use Rattle.targets.specs.SecondEdition.{unpinned, unpin, takingPart, oneMore, oneLess, hasLess, hasMore, isSmallest, isLargest, onFirst}
 use Rattle.targets.specs.SecondEdition.{giveMinute, takeMinute, times, handedOut, spread, sharedOut}
 use Rattle.targets.specs.Inside.{AnswerOf, takingFirst, sharedFirst}
-use Rattle.targets.proofs.Cases.{OfLines, lines-keep}
+use Rattle.targets.proofs.Cases.{OfStandings, standings-keep}
 use Rattle.targets.proofs.Taker.{taker-here}
 use Rattle.targets.proofs.LevelLaws.{first-here, first-later}
 
 -- ---- folds, searches and maps
 
-module _ {A : Type 0} (f : A → Line → A) (still : (a : A) → f a pad ≡ a) where
+module _ {A : Type 0} (f : A → Standing → A) (still : (a : A) → f a pad ≡ a) where
   fold-pads : (m : ℕ) (a : A) → foldl f a (replicate m pad) ≡ a
   fold-pads zero a = refl
   fold-pads (suc m) a = ap (λ (x : A). foldl f x (replicate m pad)) (still a) ∙ fold-pads m a
 
-  fold-padded : (m : ℕ) (a : A) (ls : List Line) → foldl f a (ls ++ replicate m pad) ≡ foldl f a ls
+  fold-padded : (m : ℕ) (a : A) (ls : List Standing) → foldl f a (ls ++ replicate m pad) ≡ foldl f a ls
   fold-padded m a ls = foldl-append f a ls (replicate m pad) ∙ fold-pads m (foldl f a ls)
 
-some-padded : (p : Line → Bool) → p pad ≡ false → (m : ℕ) (ls : List Line) → some p (ls ++ replicate m pad) ≡ some p ls
+some-padded : (p : Standing → Bool) → p pad ≡ false → (m : ℕ) (ls : List Standing) → some p (ls ++ replicate m pad) ≡ some p ls
 some-padded p e zero [] = refl
 some-padded p e (suc m) [] = ap (λ (b : Bool). b || some p (replicate m pad)) e ∙ some-padded p e m []
 some-padded p e m (l ∷ ls) = ap (λ (b : Bool). p l || b) (some-padded p e m ls)
 
-map-padded : {B : Type 0} (g : Line → B) (m : ℕ) (b : B) → g pad ≡ b → (ls : List Line)
+map-padded : {B : Type 0} (g : Standing → B) (m : ℕ) (b : B) → g pad ≡ b → (ls : List Standing)
     → map g (ls ++ replicate m pad) ≡ map g ls ++ replicate m b
 map-padded {B = B} g zero b e [] = refl
 map-padded {B = B} g (suc m) b e [] = ap₂ (λ (x : B) (xs : List B). x ∷ xs) e (map-padded g m b e [])
@@ -58,15 +58,15 @@ settle-pad : (n s : Float) → settle n s pad ≡ pad
 unfolding settled
 settle-pad n s = refl
 
-passed-padded : (m : ℕ) (n s : Float) (ls : List Line) → passed n s (ls ++ replicate m pad) ≡ padP m (passed n s ls)
+passed-padded : (m : ℕ) (n s : Float) (ls : List Standing) → passed n s (ls ++ replicate m pad) ≡ padP m (passed n s ls)
 passed-padded m n s ls =
-    rw (some-padded (outside n s) refl m ls, some-padded (falls n s) refl m ls, map-padded (settle n s) m pad (settle-pad n s) ls)
-    (go (lt zeroF s) (some (outside n s) ls) (some (falls n s) ls))
+    rw (some-padded (outside n s) refl m ls, some-padded (belowZero n s) refl m ls, map-padded (settle n s) m pad (settle-pad n s) ls)
+    (go (lt zeroF s) (some (outside n s) ls) (some (belowZero n s) ls))
   where
-    new : List Line
+    new : List Standing
     new = map (settle n s) ls
 
-    pads : List Line
+    pads : List Standing
     pads = replicate m pad
 
     go : (a b c : Bool) → cond a (cond b refused (cond c (again (new ++ pads)) (done (new ++ pads)))) (done (ls ++ pads))
@@ -95,12 +95,12 @@ best-pads : (m : ℕ) (b : Best) → foldl better b (replicate m pad) .at ≡ b 
 best-pads zero b = refl
 best-pads (suc m) b = best-pads m (better b pad)
 
-taker-padded : (m : ℕ) (ls : List Line) → takerOf (ls ++ replicate m pad) ≡ takerOf ls
+taker-padded : (m : ℕ) (ls : List Standing) → takerOf (ls ++ replicate m pad) ≡ takerOf ls
 taker-padded m ls =
     ap (λ (b : Best). b .at) (foldl-append better (record { at = 0; top = 0; next = 0 }) ls (replicate m pad))
     ∙ best-pads m (best ls)
 
-adjusted-padded : (m d : ℕ) (ls : List Line) → 0 < length ls
+adjusted-padded : (m d : ℕ) (ls : List Standing) → 0 < length ls
     → adjusted d (ls ++ replicate m pad) ≡ adjusted d ls ++ replicate m (pos 0)
 unfolding adjusted
 adjusted-padded m d ls h =
@@ -124,38 +124,39 @@ either : {A : Type 0} (b : Bool) (xs ys zs : List A) → cond b (xs ++ zs) (ys +
 either true xs ys zs = refl
 either false xs ys zs = refl
 
-first-padded : (p q : Line → Bool) (f : Line → Line) → ((l : Line) → q l ≡ p l) → p pad ≡ false → (m : ℕ) (ls : List Line)
+first-padded : (p q : Standing → Bool) (f : Standing → Standing) → ((l : Standing) → q l ≡ p l) → p pad ≡ false → (m : ℕ)
+    (ls : List Standing)
     → onFirst q f (ls ++ replicate m pad) ≡ onFirst p f ls ++ replicate m pad
 first-padded p q f e n zero [] = refl
 first-padded p q f e n (suc m) [] =
-    first-later q f pad (replicate m pad) (e pad ∙ n) ∙ ap (λ (xs : List Line). pad ∷ xs) (first-padded p q f e n m [])
+    first-later q f pad (replicate m pad) (e pad ∙ n) ∙ ap (λ (xs : List Standing). pad ∷ xs) (first-padded p q f e n m [])
 first-padded p q f e n m (l ∷ ls) =
     by-test (p l) _
     (λ t.
-    first-here q f l (ls ++ replicate m pad) (e l ∙ t) ∙ sym (ap (λ (xs : List Line). xs ++ replicate m pad) (first-here p f l ls t)))
+    first-here q f l (ls ++ replicate m pad) (e l ∙ t) ∙ sym (ap (λ (xs : List Standing). xs ++ replicate m pad) (first-here p f l ls t)))
     (λ t.
-    first-later q f l (ls ++ replicate m pad) (e l ∙ t) ∙ ap (λ (xs : List Line). l ∷ xs) (first-padded p q f e n m ls)
-    ∙ sym (ap (λ (xs : List Line). xs ++ replicate m pad) (first-later p f l ls t)))
+    first-later q f l (ls ++ replicate m pad) (e l ∙ t) ∙ ap (λ (xs : List Standing). l ∷ xs) (first-padded p q f e n m ls)
+    ∙ sym (ap (λ (xs : List Standing). xs ++ replicate m pad) (first-later p f l ls t)))
 
-give-padded : (m : ℕ) (ls : List Line) → giveMinute (ls ++ replicate m pad) ≡ giveMinute ls ++ replicate m pad
+give-padded : (m : ℕ) (ls : List Standing) → giveMinute (ls ++ replicate m pad) ≡ giveMinute ls ++ replicate m pad
 unfolding giveMinute isSmallest
 give-padded m ls =
     first-padded (isSmallest ls) (isSmallest (ls ++ replicate m pad)) oneMore
     (λ l. ap (λ (b : Bool). unpinned l && not b) (some-padded (hasLess (l .target)) refl m ls)) refl m ls
 
-take-padded : (m : ℕ) (ls : List Line) → takeMinute (ls ++ replicate m pad) ≡ takeMinute ls ++ replicate m pad
+take-padded : (m : ℕ) (ls : List Standing) → takeMinute (ls ++ replicate m pad) ≡ takeMinute ls ++ replicate m pad
 unfolding takeMinute isLargest
 take-padded m ls =
     first-padded (isLargest ls) (isLargest (ls ++ replicate m pad)) oneLess
     (λ l. ap (λ (b : Bool). unpinned l && not b) (some-padded (hasMore (l .target)) refl m ls)) refl m ls
 
-times-padded : (F : List Line → List Line) (m : ℕ) → ((ls : List Line) → F (ls ++ replicate m pad) ≡ F ls ++ replicate m pad)
-    → (k : ℕ) (ls : List Line) → times k F (ls ++ replicate m pad) ≡ times k F ls ++ replicate m pad
+times-padded : (F : List Standing → List Standing) (m : ℕ) → ((ls : List Standing) → F (ls ++ replicate m pad) ≡ F ls ++ replicate m pad)
+    → (k : ℕ) (ls : List Standing) → times k F (ls ++ replicate m pad) ≡ times k F ls ++ replicate m pad
 unfolding times
 times-padded F m e zero ls = refl
 times-padded F m e (suc k) ls = ap (times k F) (e ls) ∙ times-padded F m e k (F ls)
 
-handed-padded : (m d : ℕ) (ls : List Line) → handedOut d (ls ++ replicate m pad) ≡ handedOut d ls ++ replicate m pad
+handed-padded : (m d : ℕ) (ls : List Standing) → handedOut d (ls ++ replicate m pad) ≡ handedOut d ls ++ replicate m pad
 unfolding handedOut
 handed-padded m d ls =
     rw (
@@ -165,7 +166,7 @@ handed-padded m d ls =
     )
     (either (leb (totalOf ls) d) (times (d - totalOf ls) giveMinute ls) (times (totalOf ls - d) takeMinute ls) (replicate m pad))
 
-taking-padded : (m : ℕ) (ls : List Line) → takingFirst (length ls) (ls ++ replicate m pad) ≡ takingPart ls ++ replicate m pad
+taking-padded : (m : ℕ) (ls : List Standing) → takingFirst (length ls) (ls ++ replicate m pad) ≡ takingPart ls ++ replicate m pad
 unfolding takingPart
 taking-padded m ls =
     rw (
@@ -176,7 +177,7 @@ taking-padded m ls =
     )
     (either (some unpinned ls) ls (map unpin ls) (replicate m pad))
 
-shared-padded : (e n m d : ℕ) (ls : List Line) → length ls ≡ n → 0 < length ls
+shared-padded : (e n m d : ℕ) (ls : List Standing) → length ls ≡ n → 0 < length ls
     → sharedFirst e n d (ls ++ replicate m pad) ≡ sharedOut e d ls ++ replicate m (pos 0)
 unfolding sharedOut spread
 shared-padded e n m d ls N h =
@@ -192,69 +193,70 @@ shared-padded e n m d ls N h =
 -- ---- the passes keep the people
 
 abbrev pub Len : ℕ → Passed → Type 0
-Len n = OfLines (λ (ls : List Line). length ls ≡ n)
+Len n = OfStandings (λ (ls : List Standing). length ls ≡ n)
 
 pub len-passes : (n k demand : ℕ) (p : Passed) → Len n p → Len n (passes k demand p)
-len-passes n = lines-keep (λ (ls : List Line). length ls ≡ n) (λ a sum ls o h. length-map ls (settle a sum) ∙ h)
+len-passes n = standings-keep (λ (ls : List Standing). length ls ≡ n) (λ a sum ls o h. length-map ls (settle a sum) ∙ h)
 
-pub adjusted-length : (d : ℕ) (ls : List Line) → length (adjusted d ls) ≡ length ls
+pub adjusted-length : (d : ℕ) (ls : List Standing) → length (adjusted d ls) ≡ length ls
 unfolding adjusted
 adjusted-length d ls = simp (length-set, length-map)
 
-first-length : (p : Line → Bool) (f : Line → Line) (ls : List Line) → length (onFirst p f ls) ≡ length ls
+first-length : (p : Standing → Bool) (f : Standing → Standing) (ls : List Standing) → length (onFirst p f ls) ≡ length ls
 first-length p f [] = refl
 first-length p f (l ∷ ls) =
-    by-cond (p l) (f l ∷ ls) (l ∷ onFirst p f ls) (λ (xs : List Line). length xs ≡ suc (length ls)) (λ t. refl)
+    by-cond (p l) (f l ∷ ls) (l ∷ onFirst p f ls) (λ (xs : List Standing). length xs ≡ suc (length ls)) (λ t. refl)
     (λ t. ap suc (first-length p f ls))
 
-times-length : (F : List Line → List Line) → ((ls : List Line) → length (F ls) ≡ length ls) → (k : ℕ) (ls : List Line)
+times-length : (F : List Standing → List Standing) → ((ls : List Standing) → length (F ls) ≡ length ls) → (k : ℕ) (ls : List Standing)
     → length (times k F ls) ≡ length ls
 unfolding times
 times-length F e zero ls = refl
 times-length F e (suc k) ls = times-length F e k (F ls) ∙ e ls
 
-pub handed-length : (d : ℕ) (ls : List Line) → length (handedOut d ls) ≡ length ls
+pub handed-length : (d : ℕ) (ls : List Standing) → length (handedOut d ls) ≡ length ls
 unfolding handedOut giveMinute takeMinute
 handed-length d ls =
     by-cond (leb (totalOf ls) d) (times (d - totalOf ls) giveMinute ls) (times (totalOf ls - d) takeMinute ls)
-    (λ (xs : List Line). length xs ≡ length ls)
+    (λ (xs : List Standing). length xs ≡ length ls)
     (λ t. times-length giveMinute (λ xs. first-length (isSmallest xs) oneMore xs) (d - totalOf ls) ls)
     (λ t. times-length takeMinute (λ xs. first-length (isLargest xs) oneLess xs) (totalOf ls - d) ls)
 
-pub taking-length : (ls : List Line) → length (takingPart ls) ≡ length ls
+pub taking-length : (ls : List Standing) → length (takingPart ls) ≡ length ls
 unfolding takingPart
 taking-length ls =
-    by-cond (some unpinned ls) ls (map unpin ls) (λ (xs : List Line). length xs ≡ length ls) (λ t. refl) (λ t. length-map ls unpin)
+    by-cond (some unpinned ls) ls (map unpin ls) (λ (xs : List Standing). length xs ≡ length ls) (λ t. refl) (λ t. length-map ls unpin)
 
-pub shared-length : (e d : ℕ) (ls : List Line) → length (sharedOut e d ls) ≡ length ls
+pub shared-length : (e d : ℕ) (ls : List Standing) → length (sharedOut e d ls) ≡ length ls
 unfolding sharedOut spread
 shared-length e d ls =
     by-cond (eqb e 1) (map targetOf (handedOut d (takingPart ls))) (adjusted d ls) (λ (zs : List ℤ). length zs ≡ length ls)
     (λ t. length-map (handedOut d (takingPart ls)) targetOf ∙ handed-length d (takingPart ls) ∙ taking-length ls)
     (λ t. adjusted-length d ls)
 
--- as many lines are left as there were people, if any are
-len-left : (n : ℕ) (p : Passed) → Len n p → guarded p ≡ true → length (linesLeft p) ≡ n
+-- as many standings are left as there were people, if any are
+len-left : (n : ℕ) (p : Passed) → Len n p → guarded p ≡ true → length (standingsLeft p) ≡ n
 len-left n (again ls) h e = h
 len-left n (done ls) h e = h
 len-left n refused h e = absurd (true≢false (sym e))
 
-pub left-count : (n d : ℕ) (ls : List Line) → length ls ≡ n → guarded (passesLeave d ls) ≡ true → length (linesLeft (passesLeave d ls)) ≡ n
+pub left-count : (n d : ℕ) (ls : List Standing) → length ls ≡ n → guarded (passesLeave d ls) ≡ true → length
+    (standingsLeft (passesLeave d ls)) ≡ n
 left-count n d ls N = len-left n (passesLeave d ls) (len-passes n (suc (length ls)) d (again ls) N)
 
--- ---- from the answer for the padded lines to the targets of the people
+-- ---- from the answer for the padded standings to the targets of the people
 
 guarded-padded : (m : ℕ) (p : Passed) → guarded (padP m p) ≡ guarded p
 guarded-padded m (again ls) = refl
 guarded-padded m (done ls) = refl
 guarded-padded m refused = refl
 
-left-padded : (m : ℕ) (p : Passed) → guarded p ≡ true → linesLeft (padP m p) ≡ linesLeft p ++ replicate m pad
+left-padded : (m : ℕ) (p : Passed) → guarded p ≡ true → standingsLeft (padP m p) ≡ standingsLeft p ++ replicate m pad
 left-padded m (again ls) e = refl
 left-padded m (done ls) e = refl
 left-padded m refused e = absurd (true≢false (sym e))
 
-module _ (e n m d : ℕ) (ls : List Line) (N : length ls ≡ n) (P : 0 < n) (a : Answer)
+module _ (e n m d : ℕ) (ls : List Standing) (N : length ls ≡ n) (P : 0 < n) (a : Answer)
     (A : AnswerOf e n d (passes (n + 1) d (again (ls ++ replicate m pad))) a) where
   same : passes (n + 1) d (again (ls ++ replicate m pad)) ≡ padP m (passesLeave d ls)
   same =
@@ -264,12 +266,13 @@ module _ (e n m d : ℕ) (ls : List Line) (N : length ls ≡ n) (P : 0 < n) (a :
   pub answer-guarded : not (a .refused) ≡ guarded (passesLeave d ls)
   answer-guarded = A .kept ∙ ap guarded same ∙ guarded-padded m (passesLeave d ls)
 
-  pub answer-targets : a .refused ≡ false → take n (a .targets) ≡ sharedOut e d (linesLeft (passesLeave d ls))
+  pub answer-targets : a .refused ≡ false → take n (a .targets) ≡ sharedOut e d (standingsLeft (passesLeave d ls))
   answer-targets r =
       let g : guarded (passesLeave d ls) ≡ true = sym answer-guarded ∙ ap not r in
-      let left = linesLeft (passesLeave d ls) in
+      let left = standingsLeft (passesLeave d ls) in
       let L = left-count n d ls N g in
       ap (take n)
-      (A .given r ∙ ap (λ (p : Passed). sharedFirst e n d (linesLeft p)) same ∙ ap (sharedFirst e n d) (left-padded m (passesLeave d ls) g)
+      (A .given r ∙ ap (λ (p : Passed). sharedFirst e n d (standingsLeft p)) same ∙ ap (sharedFirst e n d)
+      (left-padded m (passesLeave d ls) g)
       ∙ shared-padded e n m d left L (omega (arith, L)))
       ∙ take-at (sharedOut e d left) (replicate m (pos 0)) n (shared-length e d left ∙ L)

@@ -10,17 +10,17 @@ use lib.Dec.{eqb, leb}
 use lib.IntN.{ℤ, pos}
 use lib.ListN.{length, getD, take, drop, List·getD-map, List·getD-append}
 use lib.Seq.{take-at, drop-at, getD-set-other}
-use Rattle.paper.specs.Limits.{test, heardOf}
+use Rattle.paper.specs.Limits.{test, numberOf}
 use Rattle.paper.proofs.Logic.{by-test, by-cond, one-outcome}
 use Rattle.paper.proofs.Count.{all-each}
 use Rattle.paper.proofs.Rows.{worked, kept}
 use Rattle.slots.specs.Lent.{slotsOk}
 use Rattle.slots.proofs.LentLaws.{slots-sound}
-use Rattle.targets.specs.declared.Line.{Line}
+use Rattle.targets.specs.declared.Standing.{Standing}
 use Rattle.targets.specs.Figures.{pad, allFiguresOk, figuresOkAt, personAt, availableMinutes}
 use Rattle.targets.specs.Passes.{again, passesLeave, guarded}
 use Rattle.targets.specs.Remainder.{targetOf, adjusted, takerOf, Takes, sumℤ}
-use Rattle.targets.specs.Outcome.{Given, demandIn, baseAt, lineIn, linesIn, passedIn, leftIn, takerIn, targetsIn, roomRow}
+use Rattle.targets.specs.Outcome.{Given, demandIn, baseAt, standingIn, standingsIn, passedIn, leftIn, takerIn, targetsIn, roomRow}
 use Rattle.targets.specs.Outcome.{targetsRow, computeTargets, Meets}
 use Rattle.targets.specs.SecondEdition.{sharedOut}
 use Rattle.targets.specs.Inside.{SmallTarget, Small, PinnedZero, checksRow, Sound}
@@ -32,9 +32,9 @@ use Rattle.targets.proofs.SpreadLaws.{shared-adds-up}
 use Rattle.targets.proofs.Padding.{shared-length, left-count}
 use Rattle.targets.proofs.Ends.{passes-end}
 use Rattle.targets.proofs.Guard.{Good, Goods}
-use Rattle.targets.proofs.Never.{good-line, never-refused}
+use Rattle.targets.proofs.Never.{good-standing, never-refused}
 use Rattle.targets.proofs.Minutes.{available-fits}
-use Rattle.targets.proofs.Accepted.{says-nothing, unlisted-unheard, with-guard, keeps-guard, row-refused}
+use Rattle.targets.proofs.Accepted.{says-nothing, unlisted-not-given, with-guard, keeps-guard, row-refused}
 use Rattle.targets.proofs.Accepted.{accepted, Lent, lent-checks}
 
 -- ---- only one outcome fits
@@ -45,9 +45,9 @@ only-one g out r s o p h k = (
   one-outcome (computeTargets g out .out) o p (h .1) (k .1),
 )
 
--- ---- by what is heard
+-- ---- by the number
 
-pub number-row : (g : Given) (out : List ℤ) → computeTargets g out .number ≡ heardOf (targetsRow g (length out))
+pub number-row : (g : Given) (out : List ℤ) → computeTargets g out .number ≡ numberOf (targetsRow g (length out))
 unfolding computeTargets
 number-row g out = refl
 
@@ -65,8 +65,8 @@ when-accepted g out z = worked _ out (targetsIn g ++ drop (g .people) out) z
 pub demand-fits : (g : Given) → Sound g → demandIn g ≤ 100000000
 demand-fits g s = slots-sound (g .slots) (g .starts) (g .ends) (s .ordered) .demand-fits
 
-pub people-in : (g : Given) → length (linesIn g) ≡ g .people
-people-in g = length-upTo (lineIn g) (g .people)
+pub people-in : (g : Given) → length (standingsIn g) ≡ g .people
+people-in g = length-upTo (standingIn g) (g .people)
 
 base-fits : (g : Given) → Sound g → (k : ℕ) → baseAt g k ≤ 100000000
 base-fits g s k =
@@ -75,23 +75,23 @@ base-fits g s k =
 
 -- ---- refusal 8: never on accepted figures
 
-pub goods-in : (g : Given) → Sound g → Goods (linesIn g)
+pub goods-in : (g : Given) → Sound g → Goods (standingsIn g)
 unfolding allFiguresOk
 goods-in g s =
-    each-upTo Good (lineIn g) (g .people)
-    (λ k h. good-line (personAt (g .capacities) (g .priors) k) (baseAt g k)
+    each-upTo Good (standingIn g) (g .people)
+    (λ k h. good-standing (personAt (g .capacities) (g .priors) k) (baseAt g k)
     (all-each (g .people) (figuresOkAt (g .capacities) (g .priors)) (s .figures) k h) (base-fits g s k))
 
-pub people-few : (g : Given) → Sound g → length (linesIn g) ≤ 32
+pub people-few : (g : Given) → Sound g → length (standingsIn g) ≤ 32
 people-few g s = omega (arith, people-in g, s .few)
 
 pub guard-kept : (g : Given) → Sound g → guarded (passedIn g) ≡ true
-guard-kept g s = never-refused (demandIn g) (linesIn g) (demand-fits g s) (people-few g s) (goods-in g s)
+guard-kept g s = never-refused (demandIn g) (standingsIn g) (demand-fits g s) (people-few g s) (goods-in g s)
 
--- so what is heard is what the checks say
-pub number-is : (g : Given) (out : List ℤ) → computeTargets g out .number ≡ heardOf (checksRow g (length out))
+-- so the number is what the checks say
+pub number-is : (g : Given) (out : List ℤ) → computeTargets g out .number ≡ numberOf (checksRow g (length out))
 number-is g out =
-    let n = heardOf (checksRow g (length out)) in
+    let n = numberOf (checksRow g (length out)) in
     number-row g out
     ∙ by-test (eqb n 0) _
     (λ t. with-guard g (length out) (keeps-guard g (length out) (guard-kept g (accepted g (length out) (eqb-true n 0 t) .sound))))
@@ -99,18 +99,18 @@ number-is g out =
 
 pub eight-never : (g : Given) (out : List ℤ) → computeTargets g out .number ≡ 8 → ⊥
 unfolding checksRow roomRow
-eight-never g out e = unlisted-unheard 8 (checksRow g (length out)) refl (omega arith) (sym (number-is g out) ∙ e)
+eight-never g out e = unlisted-not-given 8 (checksRow g (length out)) refl (omega arith) (sym (number-is g out) ∙ e)
 
--- where counts and room pass, and the slots, 6 and 7 are heard
+-- where counts and room pass, and the slots, 6 and 7 are given
 pub number-lent : (g : Given) (out : List ℤ) → Lent g (length out) → slotsOk (g .slots) (g .starts) (g .ends) ≡ true
     → computeTargets g out .number
-    ≡ heardOf (test 6 (allFiguresOk (g .people) (g .capacities) (g .priors)) ∷ test 7 (leb (g .fairness) 1) ∷ test 7 (leb (g .edition) 1) ∷ [])
+    ≡ numberOf (test 6 (allFiguresOk (g .people) (g .capacities) (g .priors)) ∷ test 7 (leb (g .fairness) 1) ∷ test 7 (leb (g .edition) 1) ∷ [])
 number-lent g out l o = number-is g out ∙ lent-checks g (length out) l ∙ says-nothing (
     test 6 (allFiguresOk (g .people) (g .capacities) (g .priors)) ∷ test 7 (leb (g .fairness) 1) ∷ test 7 (leb (g .edition) 1) ∷ []) _ [] o
 
 -- the passes end by themselves: the bound of people + 1 never cuts them short
-pub never-cut : (g : Given) (ms : List Line) → passesLeave (demandIn g) (linesIn g) ≡ again ms → ⊥
-never-cut g ms = passes-end (demandIn g) (linesIn g) ms
+pub never-cut : (g : Given) (ms : List Standing) → passesLeave (demandIn g) (standingsIn g) ≡ again ms → ⊥
+never-cut g ms = passes-end (demandIn g) (standingsIn g) ms
 
 -- ---- what the buffer holds
 
@@ -126,7 +126,7 @@ pub accepted-holds : (g : Given) (out : List ℤ) → computeTargets g out .numb
 accepted-holds g out e =
     let k = guard-kept g (accepted-sound g out e) in
     record {
-      count = shared-length (g .edition) (demandIn g) (leftIn g) ∙ left-count (g .people) (demandIn g) (linesIn g) (people-in g) k;
+      count = shared-length (g .edition) (demandIn g) (leftIn g) ∙ left-count (g .people) (demandIn g) (standingsIn g) (people-in g) k;
       is = when-accepted g out e;
     }
 
@@ -139,17 +139,17 @@ past-stays g out =
     ap (drop (g .people)) (h .is) ∙ drop-at (targetsIn g) (drop (g .people) out) (g .people) (h .count))
     (λ f. ap (drop (g .people)) (refused-keeps g out (eqb-false (computeTargets g out .number) 0 f)))
 
--- ---- the lines that the passes leave
+-- ---- the standings that the passes leave
 
 pub left-small : (g : Given) → Small (leftIn g)
 left-small g =
-    left-holds Small tt (passedIn g) (small-passes (suc (length (linesIn g))) (demandIn g) (again (linesIn g))
-    (each-upTo SmallTarget (lineIn g) (g .people) (λ k h. omega arith)))
+    left-holds Small tt (passedIn g) (small-passes (suc (length (standingsIn g))) (demandIn g) (again (standingsIn g))
+    (each-upTo SmallTarget (standingIn g) (g .people) (λ k h. omega arith)))
 
 pub left-zero : (g : Given) → PinnedZero (leftIn g)
 left-zero g =
-    left-holds PinnedZero tt (passedIn g) (zero-passes (suc (length (linesIn g))) (demandIn g) (again (linesIn g))
-    (each-upTo (λ (l : Line). l .pinned ≡ true → l .target ≡ 0) (lineIn g) (g .people) (λ k h e. refl)))
+    left-holds PinnedZero tt (passedIn g) (zero-passes (suc (length (standingsIn g))) (demandIn g) (again (standingsIn g))
+    (each-upTo (λ (l : Standing). l .pinned ≡ true → l .target ≡ 0) (standingIn g) (g .people) (λ k h e. refl)))
 
 pub left-some : (g : Given) (out : List ℤ) → computeTargets g out .number ≡ 0 → 0 < length (leftIn g)
 left-some g out e =
@@ -170,11 +170,11 @@ pub first-edition : (g : Given) → g .edition ≡ 0 → targetsIn g ≡ adjuste
 unfolding sharedOut
 first-edition g e = ap (λ (n : ℕ). sharedOut n (demandIn g) (leftIn g)) e
 
--- the taker is who the rule says, of the lines that the passes leave
+-- the taker is who the rule says, of the standings that the passes leave
 pub taker-by-rule : (g : Given) → Takes (leftIn g) (takerIn g)
 taker-by-rule g = taker-takes (leftIn g)
 
-pub other : (d k : ℕ) (ls : List Line) → k ≢ takerOf ls → getD (adjusted d ls) k (pos 0) ≡ pos (getD ls k pad .target)
+pub other : (d k : ℕ) (ls : List Standing) → k ≢ takerOf ls → getD (adjusted d ls) k (pos 0) ≡ pos (getD ls k pad .target)
 unfolding adjusted
 other d k ls n = getD-set-other (map targetOf ls) (takerOf ls) k _ (pos 0) n ∙ List·getD-map targetOf ls k pad
 

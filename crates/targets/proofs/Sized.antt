@@ -12,7 +12,7 @@ use lib.Signed.{mag}
 use lib.ListN.{length, getD, drop, length-map, List·getD-map, List·getD-eq-default, List·getD-append}
 use lib.Seq.{getD-set-same}
 use Rattle.paper.proofs.Logic.{by-test, by-cond, lt-or-ge}
-use Rattle.targets.specs.declared.Line.{Line}
+use Rattle.targets.specs.declared.Standing.{Standing}
 use Rattle.targets.specs.Figures.{pad}
 use Rattle.targets.specs.Remainder.{totalOf, takerOf, targetOf, adjusted}
 use Rattle.targets.specs.SecondEdition.{takingPart, handedOut, spread, sharedOut}
@@ -26,21 +26,21 @@ use Rattle.targets.proofs.SpreadLaws.{part-most}
 use Rattle.targets.proofs.Taker.{taker-here}
 use Rattle.targets.proofs.Promises.{demand-fits, other, accepted-sound, accepted-holds, left-small, left-zero, left-some}
 
--- a target of a line, whichever
-small-at : (ls : List Line) → Small ls → (k : ℕ) → getD ls k pad .target ≤ 1099511627776
+-- a target of a standing, whichever
+small-at : (ls : List Standing) → Small ls → (k : ℕ) → getD ls k pad .target ≤ 1099511627776
 small-at ls h k =
     ⊎-elim (λ (l : k < length ls). each-at SmallTarget ls k pad h l)
-    (λ (l : length ls ≤ k). omega (arith, ap (λ (x : Line). x .target) (List·getD-eq-default ls pad l)))
+    (λ (l : length ls ≤ k). omega (arith, ap (λ (x : Standing). x .target) (List·getD-eq-default ls pad l)))
     (lt-or-ge k (length ls))
 
--- 32 lines of at most 2 ^ 40, and demand
-adjusted-sized : (d : ℕ) (ls : List Line) → 0 < length ls → length ls ≤ 32 → d ≤ 100000000 → Small ls → (k : ℕ)
+-- 32 standings of at most 2 ^ 40, and demand
+adjusted-sized : (d : ℕ) (ls : List Standing) → 0 < length ls → length ls ≤ 32 → d ≤ 100000000 → Small ls → (k : ℕ)
     → mag (getD (adjusted d ls) k (pos 0)) < 2 ^ 63
 unfolding adjusted
 adjusted-sized d ls some few D h k =
     let j = takerOf ls in
     let a = getD ls j pad .target in
-    let m = sum-most (λ (l : Line). l .target) 1099511627776 ls h in
+    let m = sum-most (λ (l : Standing). l .target) 1099511627776 ls h in
     by-test (eqb k j) _
     (λ e.
     let q = ap (λ (i : ℕ). getD (adjusted d ls) i (pos 0)) (eqb-true k j e)
@@ -50,7 +50,7 @@ adjusted-sized d ls some few D h k =
     (λ e. omega (arith, ap mag (other d k ls (eqb-false k j e)), small-at ls h k))
 
 -- and edition 2's are at most demand
-spread-sized : (d : ℕ) (ls : List Line) → 0 < length ls → d ≤ 100000000 → Small ls → PinnedZero ls → (k : ℕ) → k < length ls
+spread-sized : (d : ℕ) (ls : List Standing) → 0 < length ls → d ≤ 100000000 → Small ls → PinnedZero ls → (k : ℕ) → k < length ls
     → mag (getD (spread d ls) k (pos 0)) < 2 ^ 63
 unfolding spread
 spread-sized d ls some D h z k l =
@@ -59,7 +59,7 @@ spread-sized d ls some D h z k l =
       arith,
       D,
       ap mag (List·getD-map targetOf after k pad),
-      each-at (λ (x : Line). x .target ≤ d) after k pad (part-most d ls some h z)
+      each-at (λ (x : Standing). x .target ≤ d) after k pad (part-most d ls some h z)
           (omega (arith, l, handed-length d (takingPart ls), taking-length ls)),
     )
 

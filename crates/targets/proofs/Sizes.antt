@@ -8,13 +8,13 @@ use native.Mathlib.Omega.{arith}
 use lib.ListN.{replicate}
 use lib.Ieee.{Float, nan, inf, fin, up, down}
 use lib.Ieee.Fits.{down-pos}
-use Rattle.targets.specs.declared.Line.{Line}
+use Rattle.targets.specs.declared.Standing.{Standing}
 use Rattle.targets.specs.Figures.{upTo, pad}
-use Rattle.targets.specs.Passes.{rounded, within, unrounded, settled, settle, outside, some, Passed, again, done, refused, passes, linesLeft}
+use Rattle.targets.specs.Passes.{rounded, within, unrounded, settled, settle, outside, some, Passed, again, done, refused, passes, standingsLeft}
 use Rattle.targets.specs.Inside.{SmallTarget, Small, PinnedZero}
 use Rattle.targets.proofs.Nearest.{under}
 use Rattle.targets.proofs.Each.{each-append, each-upTo, each-replicate, each-both, each-map, none-each}
-use Rattle.targets.proofs.Cases.{by-settled, guard-kept, OfLines, lines-keep}
+use Rattle.targets.proofs.Cases.{by-settled, guard-kept, OfStandings, standings-keep}
 
 -- ---- one person
 
@@ -30,46 +30,46 @@ rounded-small nan w = omega arith
 rounded-small (inf s) w = omega arith
 rounded-small (fin s m e) w = under-div (m * up e) (down e) (down-pos e) (under s m e w)
 
-settled-small : (x : Float) (l : Line) → (l .pinned ≡ false → within x ≡ true) → SmallTarget l → SmallTarget (settled x l)
+settled-small : (x : Float) (l : Standing) → (l .pinned ≡ false → within x ≡ true) → SmallTarget l → SmallTarget (settled x l)
 settled-small x l w h = by-settled x l SmallTarget (λ p. h) (λ p z. zero-le) (λ p z. rounded-small x (w p))
 
 -- ---- all passes
 
-small-map : (n sum : Float) (ls : List Line) → some (outside n sum) ls ≡ false → Small ls → Small (map (settle n sum) ls)
+small-map : (n sum : Float) (ls : List Standing) → some (outside n sum) ls ≡ false → Small ls → Small (map (settle n sum) ls)
 small-map n sum ls o h =
-    each-map (λ (l : Line). SmallTarget l × (outside n sum l ≡ false)) SmallTarget (settle n sum)
+    each-map (λ (l : Standing). SmallTarget l × (outside n sum l ≡ false)) SmallTarget (settle n sum)
     (λ l k. settled-small (unrounded n sum l) l (guard-kept n sum l (k .1)) (k .0)) ls
-    (each-both SmallTarget (λ (l : Line). outside n sum l ≡ false) ls h (none-each (outside n sum) ls o))
+    (each-both SmallTarget (λ (l : Standing). outside n sum l ≡ false) ls h (none-each (outside n sum) ls o))
 
-pub small-passes : (k demand : ℕ) (p : Passed) → OfLines Small p → OfLines Small (passes k demand p)
-small-passes = lines-keep Small small-map
+pub small-passes : (k demand : ℕ) (p : Passed) → OfStandings Small p → OfStandings Small (passes k demand p)
+small-passes = standings-keep Small small-map
 
 -- ---- who is pinned has target 0
 
-abbrev IfPinned : Line → Type 0
+abbrev IfPinned : Standing → Type 0
 IfPinned l = l .pinned ≡ true → l .target ≡ 0
 
-settled-zero : (x : Float) (l : Line) → IfPinned l → IfPinned (settled x l)
+settled-zero : (x : Float) (l : Standing) → IfPinned l → IfPinned (settled x l)
 settled-zero x l h = by-settled x l IfPinned (λ p. h) (λ p z e. refl) (λ p z e. absurd (true≢false (sym e)))
 
-pub zero-passes : (k demand : ℕ) (p : Passed) → OfLines PinnedZero p → OfLines PinnedZero (passes k demand p)
+pub zero-passes : (k demand : ℕ) (p : Passed) → OfStandings PinnedZero p → OfStandings PinnedZero (passes k demand p)
 zero-passes =
-    lines-keep PinnedZero (λ n sum ls o h. each-map IfPinned IfPinned (settle n sum) (λ l k. settled-zero (unrounded n sum l) l k) ls h)
+    standings-keep PinnedZero (λ n sum ls o h. each-map IfPinned IfPinned (settle n sum) (λ l k. settled-zero (unrounded n sum l) l k) ls h)
 
--- what holds of no lines, and of those that there are, holds of the lines left
-pub left-holds : (P : List Line → Type 0) → P [] → (p : Passed) → OfLines P p → P (linesLeft p)
+-- what holds of no standings, and of those that there are, holds of the standings left
+pub left-holds : (P : List Standing → Type 0) → P [] → (p : Passed) → OfStandings P p → P (standingsLeft p)
 left-holds P n (again ls) h = h
 left-holds P n (done ls) h = h
 left-holds P n refused h = n
 
--- ---- lines that are new, and lines that take no part
+-- ---- standings that are new, and standings that take no part
 
-pub small-lines : (f : ℕ → Line) → ((k : ℕ) → f k .target ≡ 0) → (n m : ℕ) → Small (upTo f n ++ replicate m pad)
-small-lines f h n m =
+pub small-standings : (f : ℕ → Standing) → ((k : ℕ) → f k .target ≡ 0) → (n m : ℕ) → Small (upTo f n ++ replicate m pad)
+small-standings f h n m =
     each-append SmallTarget (upTo f n) (replicate m pad) (each-upTo SmallTarget f n (λ k l. omega (arith, h k)))
     (each-replicate SmallTarget m pad zero-le)
 
-pub zero-lines : (f : ℕ → Line) → ((k : ℕ) → f k .pinned ≡ false) → (n m : ℕ) → PinnedZero (upTo f n ++ replicate m pad)
-zero-lines f h n m =
+pub zero-standings : (f : ℕ → Standing) → ((k : ℕ) → f k .pinned ≡ false) → (n m : ℕ) → PinnedZero (upTo f n ++ replicate m pad)
+zero-standings f h n m =
     each-append IfPinned (upTo f n) (replicate m pad) (each-upTo IfPinned f n (λ k l e. absurd (true≢false (sym e ∙ h k))))
     (each-replicate IfPinned m pad (λ e. refl))

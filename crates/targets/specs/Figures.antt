@@ -1,4 +1,4 @@
--- A person's figures, rule 6 of them, their available minutes, and the line that the passes keep of each person. Assumes nothing.
+-- A person's figures, rule 6 of them, their available minutes, and the standing that the passes keep of each person. Assumes nothing.
 use mathlib.Core.Bool.{Bool, true, false, _&&_, cond}
 use mathlib.Core.List.{List, [], _∷_, _++_}
 use Prim.Native.Nat.{ℕ, zero, suc}
@@ -11,7 +11,7 @@ use Rattle.paper.specs.Count.{all, sum}
 use Rattle.slotset.specs.Answers.{rowSlots}
 use Rattle.slots.specs.Lent.{minutesAt}
 use Rattle.targets.specs.declared.Person.{Person}
-use Rattle.targets.specs.declared.Line.{Line}
+use Rattle.targets.specs.declared.Standing.{Standing}
 
 abbrev pub zeroF : Float
 zeroF = fin false 0 (pos 0)
@@ -47,17 +47,17 @@ minutesIfAvailable starts ends avail person k = cond (eqb (rowSlots avail person
 unfoldable pub availableMinutes : ℕ → List ℕ → List ℕ → List ℕ → ℕ → ℕ
 availableMinutes slots starts ends avail person = sum slots (minutesIfAvailable starts ends avail person)
 
--- ---- lines
+-- ---- standings
 
 -- raw share: capacity times the base, which is demand or the person's available minutes. Target 0 at first, nobody pinned
-abbrev pub lineOf : Person → ℕ → Line
-lineOf p base = record { person = p; raw = mul binary64 (p .capacity) (whole base); target = 0; pinned = false }
+abbrev pub standingOf : Person → ℕ → Standing
+standingOf p base = record { person = p; raw = mul binary64 (p .capacity) (whole base); target = 0; pinned = false }
 
 -- what f gives each number below n, in order
 abbrev pub upTo {ℓ} : {A : Type ℓ} → (ℕ → A) → ℕ → List A
 upTo f zero = []
 upTo f (suc k) = upTo f k ++ (f k ∷ [])
 
--- a line that takes no part: arrays by value are filled up with it
-abbrev pub pad : Line
+-- a standing that takes no part: arrays by value are filled up with it
+abbrev pub pad : Standing
 pad = record { person = record { capacity = zeroF; prior = 0 }; raw = zeroF; target = 0; pinned = true }

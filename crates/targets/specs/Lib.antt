@@ -1,4 +1,4 @@
--- What the contracts of targets cite: a person's figures and line, the passes, the remainder, and the whole outcome of a call.
+-- What the contracts of targets cite: a person's figures and standing, the passes, the remainder, and the whole outcome of a call.
 pub mod Figures
 pub mod Passes
 pub mod Remainder

@@ -7,12 +7,12 @@ use lib.Dec.{eqb, leb}
 use lib.IntN.{ℤ}
 use lib.ListN.{length, drop}
 use lib.Ieee.{Float}
-use Rattle.paper.specs.Limits.{setWords, peopleOk, slotCountOk, Test, test, heardOf}
+use Rattle.paper.specs.Limits.{setWords, peopleOk, slotCountOk, Test, test, numberOf}
 use Rattle.paper.specs.Rows.{unless}
 use Rattle.slots.specs.Lent.{slotRoomOk, slotsOk, demandOf}
-use Rattle.targets.specs.declared.Line.{Line}
-use Rattle.targets.specs.Figures.{allFiguresOk, personAt, lineOf, upTo, availableMinutes}
-use Rattle.targets.specs.Passes.{Passed, passesLeave, linesLeft, guarded}
+use Rattle.targets.specs.declared.Standing.{Standing}
+use Rattle.targets.specs.Figures.{allFiguresOk, personAt, standingOf, upTo, availableMinutes}
+use Rattle.targets.specs.Passes.{Passed, passesLeave, standingsLeft, guarded}
 use Rattle.targets.specs.Remainder.{takerOf}
 use Rattle.targets.specs.SecondEdition.{sharedOut}
 
@@ -51,19 +51,19 @@ demandIn g = demandOf (g .slots) (g .starts) (g .ends)
 abbrev pub baseAt : Given → ℕ → ℕ
 baseAt g k = cond (eqb (g .fairness) 1) (demandIn g) (availableMinutes (g .slots) (g .starts) (g .ends) (g .avail) k)
 
--- person k's line before the passes, and everybody's in order
-abbrev pub lineIn : Given → ℕ → Line
-lineIn g k = lineOf (personAt (g .capacities) (g .priors) k) (baseAt g k)
+-- person k's standing before the passes, and everybody's in order
+abbrev pub standingIn : Given → ℕ → Standing
+standingIn g k = standingOf (personAt (g .capacities) (g .priors) k) (baseAt g k)
 
-abbrev pub linesIn : Given → List Line
-linesIn g = upTo (lineIn g) (g .people)
+abbrev pub standingsIn : Given → List Standing
+standingsIn g = upTo (standingIn g) (g .people)
 
--- how the passes stand after all of them, the lines that they leave, and the person to whom edition 1 gives the remainder
+-- how the passes stand after all of them, the standings that they leave, and the person to whom edition 1 gives the remainder
 abbrev pub passedIn : Given → Passed
-passedIn g = passesLeave (demandIn g) (linesIn g)
+passedIn g = passesLeave (demandIn g) (standingsIn g)
 
-abbrev pub leftIn : Given → List Line
-leftIn g = linesLeft (passedIn g)
+abbrev pub leftIn : Given → List Standing
+leftIn g = standingsLeft (passedIn g)
 
 abbrev pub takerIn : Given → ℕ
 takerIn g = takerOf (leftIn g)
@@ -71,7 +71,7 @@ takerIn g = takerOf (leftIn g)
 abbrev pub targetsIn : Given → List ℤ
 targetsIn g = sharedOut (g .edition) (demandIn g) (leftIn g)
 
--- ---- what is heard
+-- ---- what is answered
 
 -- 8 is judged only where 9 doesn't apply: a target has no meaning on slots that break rule 3
 unfoldable pub guardOk : Given → Bool
@@ -100,9 +100,9 @@ pub record Outcome : Type 0 where
 -- the targets, and entries past the people stay; refused, all do
 unfoldable pub computeTargets : Given → List ℤ → Outcome
 computeTargets g out =
-    let n = heardOf (targetsRow g (length out)) in
+    let n = numberOf (targetsRow g (length out)) in
     record { number = n; out = unless n out (targetsIn g ++ drop (g .people) out) }
 
--- the contract: the number heard, and the buffer at exit
+-- the contract: the number given, and the buffer at exit
 abbrev pub Meets : Given → List ℤ → ℕ → List ℤ → Type 0
 Meets g out r exit = (r ≡ computeTargets g out .number) × (exit ≡ computeTargets g out .out)

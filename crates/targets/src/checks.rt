@@ -1,9 +1,9 @@
 // The checks that come before the work: rules 1, 2, 6, 7 and 9.
 use crate::Person;
-use paper::Fault;
+use paper::Refusal;
 ghost use mathlib.Core.Path.{_≡_};
 ghost use Rattle.paper.specs.Limits.{test};
-ghost use Rattle.paper.specs.Rows.{firstOf, next};
+ghost use Rattle.paper.specs.Rows.{refusalOf, next};
 ghost use Rattle.targets.specs.Figures.{figuresOk, allFiguresOk};
 ghost use Rattle.targets.specs.Outcome.{given};
 ghost use Rattle.targets.specs.Inside.{checksRow};
@@ -43,41 +43,41 @@ fn all_figures_ok(people: usize, capacities: &[f64], priors: &[u32]) -> bool
     true
 }
 
-// Rule 6 of everybody. Where something was heard before, nobody is asked.
-fn heard_figures(before: Fault, people: usize, capacities: &[f64], priors: &[u32]) -> Fault
+// Rule 6 of everybody. Where a test failed before, nobody is asked.
+fn check_figures(before: Refusal, people: usize, capacities: &[f64], priors: &[u32]) -> Refusal
     ensures { λ r. ⌜ r ≡ next before (test 6 (allFiguresOk people (now (capacities .entry)) (now (priors .entry)))) ⌝ }
 {
     if before.number == 0 {
-        return paper::heard(before, all_figures_ok(people, capacities, priors), 6);
+        return paper::check(before, all_figures_ok(people, capacities, priors), 6);
     }
     before
 }
 
 // What stands against working out targets: 1, 2, 6, 7 or 9. 8 comes out of the work.
-pub(crate) fn checks_no(
+pub(crate) fn checks_refusal(
     people: usize,
     slots: usize,
+    fairness: u8,
+    edition: u8,
     starts: &[u32],
     ends: &[u32],
     avail: &[u64],
     capacities: &[f64],
     priors: &[u32],
-    fairness: u8,
-    edition: u8,
     room: usize,
-) -> Fault
-    ensures { λ r. ⌜ r ≡ firstOf (checksRow (given people slots (now (starts .entry)) (now (ends .entry)) (now (avail .entry))
+) -> Refusal
+    ensures { λ r. ⌜ r ≡ refusalOf (checksRow (given people slots (now (starts .entry)) (now (ends .entry)) (now (avail .entry))
         (now (capacities .entry)) (now (priors .entry)) fairness edition) room) ⌝ }
 {
-    let f = paper::heard_people(paper::nothing(), people);
-    let f = paper::heard_slots(f, slots);
-    let f = slots::heard_room(f, slots, starts, ends);
-    let f = paper::heard_words(f, avail, people);
-    let f = paper::heard(f, people <= capacities.len(), 2);
-    let f = paper::heard(f, people <= priors.len(), 2);
-    let f = paper::heard(f, people <= room, 2);
-    let f = heard_figures(f, people, capacities, priors);
-    let f = paper::heard(f, fairness <= 1, 7);
-    let f = paper::heard(f, edition <= 1, 7);
-    slots::heard_order(f, slots, starts, ends, 9)
+    let f = paper::check_people(paper::accepted(), people);
+    let f = paper::check_slots(f, slots);
+    let f = slots::check_room(f, slots, starts, ends);
+    let f = paper::check_words(f, people, avail);
+    let f = paper::check(f, people <= capacities.len(), 2);
+    let f = paper::check(f, people <= priors.len(), 2);
+    let f = paper::check(f, people <= room, 2);
+    let f = check_figures(f, people, capacities, priors);
+    let f = paper::check(f, fairness <= 1, 7);
+    let f = paper::check(f, edition <= 1, 7);
+    slots::check_order(f, slots, starts, ends, 9)
 }

@@ -1,13 +1,13 @@
 // Fair-share targets. Every step on an f64 is rounded once, in the paper's order.
-// Checks, lines, passes, remainder: what the passes leave and what is done with the remainder are apart. Edition 2 of the latter: spread,
-// over levels.
+// Checks, standings, passes, remainder: what the passes leave and what is done with the remainder are apart. Edition 2 of the latter:
+// spread, over levels.
 mod checks;
 mod levels;
-mod lines;
 mod passes;
 mod remainder;
 mod rounding;
 mod spread;
+mod standings;
 
 use slots::demand_of;
 ghost use mathlib.Core.Path.{_≡_};
@@ -25,7 +25,7 @@ pub struct Person {
 }
 
 // What the passes keep of a person: the figures, the raw share, the target so far, and whether it is pinned at 0.
-pub struct Line {
+pub struct Standing {
     pub person: Person,
     pub raw: f64,
     pub target: u64,
@@ -39,13 +39,13 @@ pub enum Next {
     Refused,
 }
 
-// The lines after a pass.
+// The standings after a pass.
 pub struct Round {
-    pub lines: [Line; 32],
+    pub standings: [Standing; 32],
     pub next: Next,
 }
 
-// The largest unpinned target so far: where it stands, what it is, and the place of the line that comes now.
+// The largest unpinned target so far: where it stands, what it is, and the place of the standing that comes now.
 pub struct Best {
     pub at: usize,
     pub top: u64,
@@ -58,12 +58,12 @@ pub struct Answer {
     pub targets: [i64; 32],
 }
 
-// The targets of the lines: what the passes leave, and then the remainder.
-fn targets_of(lines: [Line; 32], people: usize, demand: u32, edition: u8) -> Answer
-    requires { ⌜ (0 < people) × (people ≤ 32) × Small lines × PinnedZero lines ⌝ }
-    ensures { λ r. ⌜ AnswerOf edition people demand (passes (people + 1) demand (again lines)) r ⌝ }
+// The targets of the standings: what the passes leave, and then the remainder.
+fn targets_of(people: usize, edition: u8, standings: [Standing; 32], demand: u32) -> Answer
+    requires { ⌜ (0 < people) × (people ≤ 32) × Small standings × PinnedZero standings ⌝ }
+    ensures { λ r. ⌜ AnswerOf edition people demand (passes (people + 1) demand (again standings)) r ⌝ }
 {
-    let r = passes::passes_of(lines, people, demand);
+    let r = passes::passes_of(people, standings, demand);
     let k = r.next;
     match k {
         Next::Refused => {
@@ -74,8 +74,8 @@ fn targets_of(lines: [Line; 32], people: usize, demand: u32, edition: u8) -> Ans
             }
         }
         Next::Again | Next::Done => {
-            let left = r.lines;
-            let t = spread::shared_out(left, people, demand, edition);
+            let left = r.standings;
+            let t = spread::shared_out(people, edition, left, demand);
             Answer {
                 refused: false,
                 targets: t,
@@ -85,7 +85,7 @@ fn targets_of(lines: [Line; 32], people: usize, demand: u32, edition: u8) -> Ans
 }
 
 // The first `people` of the targets go to the front of out, and the rest of out stays.
-fn put_targets(targets: [i64; 32], people: usize, out: &mut [i64])
+fn put_targets(people: usize, targets: [i64; 32], out: &mut [i64])
     requires { ⌜ (people ≤ 32) × (people ≤ length (now out)) ⌝ }
     ensures { λ _. ⌜ now (out .exit) ≡ take people targets ++ drop people (now (out .entry)) ⌝ }
 {
@@ -101,50 +101,50 @@ fn put_targets(targets: [i64; 32], people: usize, out: &mut [i64])
 pub fn compute_targets(
     people: usize,
     slots: usize,
+    fairness: u8,
+    edition: u8,
     starts: &[u32],
     ends: &[u32],
     avail: &[u64],
     capacities: &[f64],
     priors: &[u32],
-    fairness: u8,
-    edition: u8,
     out: &mut [i64],
 ) -> u8
     ensures { λ r. ⌜ Meets (given people slots (now (starts .entry)) (now (ends .entry)) (now (avail .entry))
         (now (capacities .entry)) (now (priors .entry)) fairness edition)
         (now (out .entry)) r (now (out .exit)) ⌝ }
 {
-    let n = checks::checks_no(
+    let n = checks::checks_refusal(
         people,
         slots,
+        fairness,
+        edition,
         starts,
         ends,
         avail,
         capacities,
         priors,
-        fairness,
-        edition,
         out.len(),
     ).number;
     if n == 0 {
         let demand = demand_of(slots, starts, ends);
-        let lines = lines::lines_of(
+        let standings = standings::standings_of(
             people,
             slots,
+            fairness,
             starts,
             ends,
             avail,
             capacities,
             priors,
-            fairness,
             demand,
         );
-        let a = targets_of(lines, people, demand, edition);
+        let a = targets_of(people, edition, standings, demand);
         if a.refused {
             return 8;
         }
         let t = a.targets;
-        put_targets(t, people, out);
+        put_targets(people, t, out);
         return 0;
     }
     n

@@ -1,5 +1,5 @@
 // Edition 2: the remainder is handed out minute by minute. Extra minutes are worked out as missing ones in a mirror.
-use crate::Line;
+use crate::Standing;
 use crate::levels;
 use crate::remainder;
 ghost use mathlib.Core.Path.{_≡_};
@@ -14,7 +14,7 @@ ghost use Rattle.targets.specs.Inside.{Small, PinnedZero, mirrored, taki
 
 // ---- who takes part
 
-fn is_unpinned(l: Line) -> bool
+fn is_unpinned(l: Standing) -> bool
     ensures { λ r. ⌜ r ≡ unpinned l ⌝ }
 {
     if l.pinned {
@@ -23,12 +23,12 @@ fn is_unpinned(l: Line) -> bool
     true
 }
 
-fn some_unpinned(lines: [Line; 32]) -> bool
-    ensures { λ r. ⌜ r ≡ some unpinned lines ⌝ }
+fn some_unpinned(standings: [Standing; 32]) -> bool
+    ensures { λ r. ⌜ r ≡ some unpinned standings ⌝ }
 {
     let mut i = 0;
-    while i < 32 {
-        let l = lines[i];
+    while i < paper::PEOPLE_MOST {
+        let l = standings[i];
         if is_unpinned(l) {
             return true;
         }
@@ -37,11 +37,11 @@ fn some_unpinned(lines: [Line; 32]) -> bool
     false
 }
 
-fn unpinned_line(l: Line) -> Line
+fn unpinned_standing(l: Standing) -> Standing
     ensures { λ r. ⌜ r ≡ unpin l ⌝ }
 {
     let person = l.person;
-    Line {
+    Standing {
         person,
         raw: l.raw,
         target: l.target,
@@ -49,16 +49,16 @@ fn unpinned_line(l: Line) -> Line
     }
 }
 
-// The people's lines unpinned; those that take no part stay.
-fn unpinned_lines(lines: [Line; 32], people: usize) -> [Line; 32]
+// The people's standings unpinned; those that take no part stay.
+fn unpinned_standings(people: usize, standings: [Standing; 32]) -> [Standing; 32]
     requires { ⌜ people ≤ 32 ⌝ }
-    ensures { λ r. ⌜ r ≡ take people (map unpin lines) ++ drop people lines ⌝ }
+    ensures { λ r. ⌜ r ≡ take people (map unpin standings) ++ drop people standings ⌝ }
 {
-    let mut out = lines;
+    let mut out = standings;
     let mut i = 0;
     while i < people {
-        let l = lines[i];
-        let m = unpinned_line(l);
+        let l = standings[i];
+        let m = unpinned_standing(l);
         out[i] = m;
         i += 1;
     }
@@ -66,24 +66,24 @@ fn unpinned_lines(lines: [Line; 32], people: usize) -> [Line; 32]
 }
 
 // The unpinned take part, or everybody if nobody is unpinned.
-fn taking_part(lines: [Line; 32], people: usize) -> [Line; 32]
+fn taking_part(people: usize, standings: [Standing; 32]) -> [Standing; 32]
     requires { ⌜ people ≤ 32 ⌝ }
-    ensures { λ r. ⌜ r ≡ takingFirst people lines ⌝ }
+    ensures { λ r. ⌜ r ≡ takingFirst people standings ⌝ }
 {
-    if some_unpinned(lines) {
-        return lines;
+    if some_unpinned(standings) {
+        return standings;
     }
-    unpinned_lines(lines, people)
+    unpinned_standings(people, standings)
 }
 
 // ---- the mirror
 
-fn mirrored_line(l: Line) -> Line
+fn mirrored_standing(l: Standing) -> Standing
     requires { ⌜ l .target ≤ 1099511627776 ⌝ }
     ensures { λ r. ⌜ r ≡ mirrored l ⌝ }
 {
     let person = l.person;
-    Line {
+    Standing {
         person,
         raw: l.raw,
         target: 1099511627776 - l.target,
@@ -91,15 +91,15 @@ fn mirrored_line(l: Line) -> Line
     }
 }
 
-fn mirrored_lines(lines: [Line; 32]) -> [Line; 32]
-    requires { ⌜ Small lines ⌝ }
-    ensures { λ r. ⌜ r ≡ map mirrored lines ⌝ }
+fn mirrored_standings(standings: [Standing; 32]) -> [Standing; 32]
+    requires { ⌜ Small standings ⌝ }
+    ensures { λ r. ⌜ r ≡ map mirrored standings ⌝ }
 {
-    let mut out = lines;
+    let mut out = standings;
     let mut i = 0;
-    while i < 32 {
-        let l = lines[i];
-        let m = mirrored_line(l);
+    while i < paper::PEOPLE_MOST {
+        let l = standings[i];
+        let m = mirrored_standing(l);
         out[i] = m;
         i += 1;
     }
@@ -108,38 +108,43 @@ fn mirrored_lines(lines: [Line; 32]) -> [Line; 32]
 
 // ---- the remainder
 
-// The lines after as many minutes as are missing, or as are too many.
-fn handed_out(lines: [Line; 32], demand: u32) -> [Line; 32]
-    requires { ⌜ Small lines × PinnedZero lines × (some unpinned lines ≡ true) ⌝ }
-    ensures { λ r. ⌜ r ≡ handedOut demand lines ⌝ }
+// The standings after as many minutes as are missing, or as are too many.
+fn handed_out(standings: [Standing; 32], demand: u32) -> [Standing; 32]
+    requires { ⌜ Small standings × PinnedZero standings × (some unpinned standings ≡ true) ⌝ }
+    ensures { λ r. ⌜ r ≡ handedOut demand standings ⌝ }
 {
-    let total = remainder::total_of(lines);
+    let total = remainder::total_of(standings);
     let wanted = demand as u64;
     if total <= wanted {
-        return levels::lifted_by(lines, wanted - total);
+        return levels::lifted_by(standings, wanted - total);
     }
-    let shown = mirrored_lines(lines);
+    let shown = mirrored_standings(standings);
     let lifted = levels::lifted_by(shown, total - wanted);
-    mirrored_lines(lifted)
+    mirrored_standings(lifted)
 }
 
 // The targets of edition 2.
-fn spread_of(lines: [Line; 32], people: usize, demand: u32) -> [i64; 32]
-    requires { ⌜ (0 < people) × (people ≤ 32) × Small lines × PinnedZero lines ⌝ }
-    ensures { λ r. ⌜ r ≡ map targetOf (handedOut demand (takingFirst people lines)) ⌝ }
+fn spread_of(people: usize, standings: [Standing; 32], demand: u32) -> [i64; 32]
+    requires { ⌜ (0 < people) × (people ≤ 32) × Small standings × PinnedZero standings ⌝ }
+    ensures { λ r. ⌜ r ≡ map targetOf (handedOut demand (takingFirst people standings)) ⌝ }
 {
-    let part = taking_part(lines, people);
+    let part = taking_part(people, standings);
     let after = handed_out(part, demand);
     remainder::signed_of(after)
 }
 
 // The targets, by edition.
-pub(crate) fn shared_out(lines: [Line; 32], people: usize, demand: u32, edition: u8) -> [i64; 32]
-    requires { ⌜ (0 < people) × (people ≤ 32) × Small lines × PinnedZero lines ⌝ }
-    ensures { λ r. ⌜ r ≡ sharedFirst edition people demand lines ⌝ }
+pub(crate) fn shared_out(
+    people: usize,
+    edition: u8,
+    standings: [Standing; 32],
+    demand: u32,
+) -> [i64; 32]
+    requires { ⌜ (0 < people) × (people ≤ 32) × Small standings × PinnedZero standings ⌝ }
+    ensures { λ r. ⌜ r ≡ sharedFirst edition people demand standings ⌝ }
 {
     if edition == 1 {
-        return spread_of(lines, people, demand);
+        return spread_of(people, standings, demand);
     }
-    remainder::adjusted_of(lines, demand)
+    remainder::adjusted_of(standings, demand)
 }

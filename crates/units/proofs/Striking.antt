@@ -109,37 +109,37 @@ gap-before avail p gap slots had F l z =
     (lt-or-ge gap had)
 
 -- so a unit that starts where it ends, or later, is not the one that holds its first slot
-pub past : (firsts : List ℕ) (v w gap had : ℕ) → v ≤ w → unitStart firsts v ≤ gap → gap < had → had ≤ unitStart firsts w → v < w
-past firsts v w gap had h s g b =
+pub past : (begins : List ℕ) (v w gap had : ℕ) → v ≤ w → unitStart begins v ≤ gap → gap < had → had ≤ unitStart begins w → v < w
+past begins v w gap had h s g b =
     ⊎-elim (λ (l : v < w). l)
-    (λ (l : w ≤ v). let e : v ≡ w = omega arith in absurd (omega (arith, ap (unitStart firsts) e)))
+    (λ (l : w ≤ v). let e : v ≡ w = omega arith in absurd (omega (arith, ap (unitStart begins) e)))
     (lt-or-ge v w)
 
 -- a unit that starts in a stretch that p lacks, or holds its first slot, is not fit for p
-pub lacks-unit : (avail : List ℕ) (slots units : ℕ) (firsts : List ℕ) → unitsOk slots units firsts ≡ true → (p v gap had w : ℕ)
-    → InUnit slots units firsts gap v → available avail p gap ≡ false
-    → ((k : ℕ) → gap ≤ k → k < had → available avail p k ≡ false) → v ≤ w → w < units → unitStart firsts w < had
-    → able avail (unitStart firsts w) (unitEnd slots units firsts w) p ≡ false
+pub lacks-unit : (avail : List ℕ) (slots units : ℕ) (begins : List ℕ) → unitsOk slots units begins ≡ true → (p v gap had w : ℕ)
+    → InUnit slots units begins gap v → available avail p gap ≡ false
+    → ((k : ℕ) → gap ≤ k → k < had → available avail p k ≡ false) → v ≤ w → w < units → unitStart begins w < had
+    → able avail (unitStart begins w) (unitEnd slots units begins w) p ≡ false
 unfolding able
-lacks-unit avail slots units firsts ok p v gap had w I z lacks h l b =
+lacks-unit avail slots units begins ok p v gap had w I z lacks h l b =
     ⊎-elim
     (λ (c : v < w).
-    let s = unitStart firsts w in
-    sym (in-fails s s (unitEnd slots units firsts w) (available avail p) (omega arith) (unit-some slots units firsts ok w l)
-    (lacks s (omega (arith, units-apart slots units firsts ok v w c l, I .to)) b)))
+    let s = unitStart begins w in
+    sym (in-fails s s (unitEnd slots units begins w) (available avail p) (omega arith) (unit-some slots units begins ok w l)
+    (lacks s (omega (arith, units-apart slots units begins ok v w c l, I .to)) b)))
     (λ (c : w ≤ v).
     let e : v ≡ w = omega arith in
-    let f : able avail (unitStart firsts v) (unitEnd slots units firsts v) p ≡ false
-    = sym (in-fails (unitStart firsts v) gap (unitEnd slots units firsts v) (available avail p) (I .from) (I .to) z) in
-    ap (λ (x : ℕ). able avail (unitStart firsts x) (unitEnd slots units firsts x) p) (sym e) ∙ f)
+    let f : able avail (unitStart begins v) (unitEnd slots units begins v) p ≡ false
+    = sym (in-fails (unitStart begins v) gap (unitEnd slots units begins v) (available avail p) (I .from) (I .to) z) in
+    ap (λ (x : ℕ). able avail (unitStart begins x) (unitEnd slots units begins x) p) (sym e) ∙ f)
     (lt-or-ge v w)
 
-module _ (avail : List ℕ) (people slots units : ℕ) (firsts : List ℕ) where
+module _ (avail : List ℕ) (people slots units : ℕ) (begins : List ℕ) where
   abbrev then : ℕ → ℕ → ℕ → ℕ
-  then p u = maskThen avail people slots units firsts p u
+  then p u = maskThen avail people slots units begins p u
 
   abbrev fits : ℕ → ℕ → Bool
-  fits p v = able avail (unitStart firsts v) (unitEnd slots units firsts v) p
+  fits p v = able avail (unitStart begins v) (unitEnd slots units begins v) p
 
   -- everybody stands in each mask, nobody is judged
   pub strikes-begin : (masks : List ℕ) → over (λ _. maskOf (λ _. true) people) units masks ≡ over (then 0 0) units masks
@@ -148,11 +148,11 @@ module _ (avail : List ℕ) (people slots units : ℕ) (firsts : List ℕ) where
 
   -- everybody is judged
   pub strikes-end : (p : ℕ) (masks : List ℕ) → p ≡ people
-      → over (then p 0) units masks ≡ over (unitMask avail people slots units firsts) units masks
+      → over (then p 0) units masks ≡ over (unitMask avail people slots units begins) units masks
   unfolding maskThen unitMask
   strikes-end p masks e =
       ap (λ (q : ℕ). over (then q 0) units masks) e
-      ∙ over-same (then people 0) (unitMask avail people slots units firsts) units masks (λ v h. left-last fits people v)
+      ∙ over-same (then people 0) (unitMask avail people slots units begins) units masks (λ v h. left-last fits people v)
 
   -- one person is judged for every unit
   pub strikes-next : (p u : ℕ) (masks : List ℕ) → u ≡ units → over (then p u) units masks ≡ over (then (p + 1) 0) units masks
@@ -174,8 +174,8 @@ module _ (avail : List ℕ) (people slots units : ℕ) (firsts : List ℕ) where
       d ∙ ap (over (then q w) units) e ∙ over-again (then p u) (then q w) units old
 
   -- and have the room that they had
-  pub room-kept : (p u : ℕ) (old masks : List ℕ) → masks ≡ over (then p u) units old → MaskRoom avail people slots units firsts old
-      → MaskRoom avail people slots units firsts masks
+  pub room-kept : (p u : ℕ) (old masks : List ℕ) → masks ≡ over (then p u) units old → MaskRoom avail people slots units begins old
+      → MaskRoom avail people slots units begins masks
   room-kept p u old masks e R =
       record {
         counted = R .counted;
@@ -185,29 +185,29 @@ module _ (avail : List ℕ) (people slots units : ℕ) (firsts : List ℕ) where
         room = omega (arith, ap length e, length-over (then p u) units old, R .room);
       }
 
-  module _ (ok : unitsOk slots units firsts ≡ true) (p : ℕ) where
+  module _ (ok : unitsOk slots units begins ≡ true) (p : ℕ) where
     -- p has every slot from the start of unit u up to `gap`: the units that end by then are fit for p
-    strikes-skip : (u w gap : ℕ) (masks : List ℕ) → u ≤ w → w ≤ units → ((k : ℕ) → unitStart firsts u ≤ k → k < gap
+    strikes-skip : (u w gap : ℕ) (masks : List ℕ) → u ≤ w → w ≤ units → ((k : ℕ) → unitStart begins u ≤ k → k < gap
         → available avail p k ≡ true)
-        → ((x : ℕ) → x < w → unitEnd slots units firsts x ≤ gap) → over (then p u) units masks ≡ over (then p w) units masks
+        → ((x : ℕ) → x < w → unitEnd slots units begins x ≤ gap) → over (then p u) units masks ≡ over (then p w) units masks
     unfolding maskThen able
     strikes-skip u w gap masks h l had ends =
         over-same (then p u) (then p w) units masks
         (λ v b. left-skip fits people p u w v h
         (λ x a c.
-        each-in (unitStart firsts x) (unitEnd slots units firsts x) (available avail p)
-        (λ k d e. had k (omega (arith, starts-far slots units firsts ok u x a (omega arith))) (omega (arith, ends x c)))))
+        each-in (unitStart begins x) (unitEnd slots units begins x) (available avail p)
+        (λ k d e. had k (omega (arith, starts-far slots units begins ok u x a (omega arith))) (omega (arith, ends x c)))))
 
-    module _ (u gap : ℕ) (masks : List ℕ) (had : (k : ℕ) → unitStart firsts u ≤ k → k < gap → available avail p k ≡ true) where
+    module _ (u gap : ℕ) (masks : List ℕ) (had : (k : ℕ) → unitStart begins u ≤ k → k < gap → available avail p k ≡ true) where
       -- that is up to the unit that holds the gap; with no gap left, up to the last
-      pub skip-to-gap : (v : ℕ) → u ≤ v → InUnit slots units firsts gap v → over (then p u) units masks ≡ over (then p v) units masks
+      pub skip-to-gap : (v : ℕ) → u ≤ v → InUnit slots units begins gap v → over (then p u) units masks ≡ over (then p v) units masks
       skip-to-gap v h I =
           strikes-skip u v gap masks h (omega (arith, I .known)) had
-          (λ x l. omega (arith, units-apart slots units firsts ok x v l (I .known), I .from))
+          (λ x l. omega (arith, units-apart slots units begins ok x v l (I .known), I .from))
 
       pub skip-rest : u ≤ units → slots ≤ gap → over (then p u) units masks ≡ over (then (p + 1) 0) units masks
       skip-rest h g =
-          strikes-skip u units gap masks h (omega arith) had (λ x l. omega (arith, unit-within slots units firsts ok x l))
+          strikes-skip u units gap masks h (omega arith) had (λ x l. omega (arith, unit-within slots units begins ok x l))
           ∙ strikes-next p units masks refl
 
     module _ (old masks : List ℕ) (w bit : ℕ) (room : units ≤ length old) (e : masks ≡ over (then p w) units old) (l : w < units) where

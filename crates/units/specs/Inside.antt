@@ -8,9 +8,9 @@ use lib.ListN.{length}
 use Rattle.paper.specs.Limits.{peopleOk}
 use Rattle.slotset.specs.declared.Found.{Found}
 use Rattle.slotset.specs.declared.Found.the-variants as found
-use Rattle.slotset.specs.declared.Told.{Told}
-use Rattle.slotset.specs.declared.Told.the-variants.{Yes, No, Refused}
-use Rattle.slotset.specs.Answers.{rowNo}
+use Rattle.slotset.specs.declared.YesNo.{YesNo}
+use Rattle.slotset.specs.declared.YesNo.the-variants.{Yes, No, Refused}
+use Rattle.slotset.specs.Answers.{rowRefusal}
 use Rattle.slots.specs.Lent.{slotsOk}
 use Rattle.units.specs.Units.{unitStart, unitEnd, unitsOk}
 use Rattle.units.specs.Dates.{dateOf}
@@ -30,8 +30,8 @@ nextDate minute = dateOf (minute + 1439)
 
 -- ---- answers of a set
 
--- yes is told
-abbrev pub isYes : Told → Bool
+-- it is yes
+abbrev pub isYes : YesNo → Bool
 isYes Yes = true
 isYes No = false
 isYes (Refused n) = false
@@ -50,11 +50,11 @@ foundOr none (found.Refused n) = none
 
 -- a person is available for each slot from a up to e; no where the words are too short or the person is unknown
 unfoldable pub ableIn : List ℕ → ℕ → ℕ → ℕ → ℕ → Bool
-ableIn avail people p a e = eqb (rowNo avail people p e) 0 && able avail a e p
+ableIn avail people p a e = eqb (rowRefusal avail people p e) 0 && able avail a e p
 
 -- no slot from a up to e is frozen; no where the words are too short
 unfoldable pub clearIn : List ℕ → ℕ → ℕ → Bool
-clearIn frozen a e = eqb (rowNo frozen 1 0 e) 0 && clear frozen a e
+clearIn frozen a e = eqb (rowRefusal frozen 1 0 e) 0 && clear frozen a e
 
 -- ---- what the checks, passed, leave known
 
@@ -75,11 +75,11 @@ pub record RunsSound (avail : List ℕ) (people p slots : ℕ) (starts ends : Li
   pub known : p < people
 
 -- to the writing of masks
-pub record MaskRoom (avail : List ℕ) (people slots units : ℕ) (firsts masks : List ℕ) : Type 0 where
+pub record MaskRoom (avail : List ℕ) (people slots units : ℕ) (begins masks : List ℕ) : Type 0 where
   pub counted : peopleOk people ≡ true
   pub words : 16 * people ≤ length avail
   pub short : slots ≤ 1024
-  pub right : unitsOk slots units firsts ≡ true
+  pub right : unitsOk slots units begins ≡ true
   pub room : units ≤ length masks
 
 -- ---- everybody at once: they stand in each unit's mask, and who lacks a slot of it is struck
@@ -90,5 +90,5 @@ judged p u v q = ltb q p || (eqb q p && ltb v u)
 
 -- the mask of unit v then: who was not judged yet still stands in it
 unfoldable pub maskThen : List ℕ → ℕ → ℕ → ℕ → List ℕ → ℕ → ℕ → ℕ → ℕ
-maskThen avail people slots units firsts p u v =
-    maskOf (λ q. not (judged p u v q) || able avail (unitStart firsts v) (unitEnd slots units firsts v) q) people
+maskThen avail people slots units begins p u v =
+    maskOf (λ q. not (judged p u v q) || able avail (unitStart begins v) (unitEnd slots units begins v) q) people

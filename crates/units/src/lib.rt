@@ -16,7 +16,7 @@ pub use days::target_run;
 pub use domains::slot_domain;
 pub use domains::unit_domain;
 pub use domains::unit_frozen;
-pub use lent::heard_units;
+pub use lent::check_units;
 pub use lent::start_of;
 pub use lent::unit_count;
 pub use lent::unit_end;

@@ -22,7 +22,7 @@ struct Preparation {
     ends: Vec<u32>,
     avail: Vec<u64>,
     units: usize,
-    firsts: Vec<u16>,
+    unit_starts: Vec<u16>,
     targets: Vec<i64>,
     target_run: u64,
     runs: Vec<u64>,
@@ -42,7 +42,7 @@ impl Preparation {
             ends: vec![0; SLOTS_MOST],
             avail: vec![0; SET_WORDS * people],
             units: 0,
-            firsts: vec![0; SLOTS_MOST],
+            unit_starts: vec![0; SLOTS_MOST],
             targets: vec![0; people],
             target_run: 0,
             runs: vec![0; people],
@@ -54,11 +54,11 @@ impl Preparation {
     fn prepare(&mut self) -> Result<(), boltraven::Refusal> {
         let (base, ranges, set) = (&self.given.base, &self.given.ranges, self.settings);
         self.slots = lent::atomise(
+            ranges.people,
             base.count,
+            ranges.count,
             &base.starts,
             &base.ends,
-            ranges.people,
-            ranges.count,
             &ranges.persons,
             &ranges.opens,
             &ranges.shuts,
@@ -68,36 +68,36 @@ impl Preparation {
         lent::availability(
             ranges.people,
             self.slots,
+            ranges.count,
             &self.starts,
             &self.ends,
-            ranges.count,
             &ranges.persons,
             &ranges.opens,
             &ranges.shuts,
             &mut self.avail,
         )?;
         self.units = lent::unit_starts(
+            self.slots,
             set.fairness,
             set.lock,
             set.boundary,
             set.edition,
             set.value,
             set.days,
-            self.slots,
             &self.starts,
             &self.ends,
-            &mut self.firsts,
+            &mut self.unit_starts,
         )?;
         lent::compute_targets(
             ranges.people,
             self.slots,
+            set.fairness,
+            set.edition,
             &self.starts,
             &self.ends,
             &self.avail,
             &self.capacities,
             &self.priors,
-            set.fairness,
-            set.edition,
             &mut self.targets,
         )
     }
@@ -107,35 +107,35 @@ impl Preparation {
         let (people, set) = (self.given.ranges.people, self.settings);
         let (starts, ends) = (&self.starts, &self.ends);
         lent::target_run(
+            self.slots,
             set.fairness,
             set.lock,
             set.boundary,
             set.edition,
             set.value,
             set.days,
-            self.slots,
             starts,
             ends,
             &mut self.target_run,
         )?;
         for (person, run) in self.runs.iter_mut().enumerate() {
             lent::achievable_run(
+                people,
+                self.slots,
                 set.fairness,
                 set.lock,
                 set.boundary,
                 set.edition,
                 set.value,
                 set.days,
-                &self.avail,
-                people,
-                person,
-                self.slots,
                 starts,
                 ends,
+                &self.avail,
+                person,
                 run,
             )?;
         }
-        lent::unit_domains(&self.avail, people, self.slots, self.units, &self.firsts, &mut self.masks)
+        lent::unit_domains(people, self.slots, self.units, &self.avail, &self.unit_starts, &mut self.masks)
     }
 
     fn seen(&self) -> Prepared {
@@ -143,7 +143,7 @@ impl Preparation {
             starts: self.starts[..self.slots].to_vec(),
             ends: self.ends[..self.slots].to_vec(),
             avail: self.avail.clone(),
-            firsts: self.firsts[..self.units].to_vec(),
+            unit_starts: self.unit_starts[..self.units].to_vec(),
             targets: self.targets.clone(),
         }
     }
@@ -163,7 +163,7 @@ struct Prepared {
     starts: Vec<u32>,
     ends: Vec<u32>,
     avail: Vec<u64>,
-    firsts: Vec<u16>,
+    unit_starts: Vec<u16>,
     targets: Vec<i64>,
 }
 
@@ -183,7 +183,7 @@ fn prepared(problem: &Problem) -> Prepared {
         starts,
         ends,
         avail,
-        firsts: unit_starts_of(problem),
+        unit_starts: unit_starts_of(problem),
         targets: problem.targets.clone(),
     }
 }

@@ -41,7 +41,7 @@ impl Lent {
     }
 
     pub fn availability(&mut self) -> Result<(), Refusal> {
-        lent::availability(1, MANY, &self.starts, &self.ends, 0, &[], &[], &[], &mut self.words)
+        lent::availability(1, MANY, 0, &self.starts, &self.ends, &[], &[], &[], &mut self.words)
     }
 
     pub fn freeze_before(&mut self) -> Result<(), Refusal> {
@@ -76,12 +76,12 @@ impl Lent {
             &self.words,
             &[0],
             &self.flags,
+            &[],
+            &[],
+            &[],
             &mut self.owners,
             &mut self.sets,
             &mut self.minutes,
-            &[],
-            &[],
-            &[],
             &mut [],
         )
     }

@@ -102,19 +102,19 @@ pub fn from_slots(rota: Rota) -> Row {
 // ---- recounts
 
 fn lent_recount(rota: &LentRota) -> bool {
-    let told = lent::recount(
+    let answer = lent::recount(
         rota.people,
         rota.starts.len(),
         rota.units,
         &rota.starts,
         &rota.ends,
         &rota.avail,
-        &rota.firsts,
+        &rota.unit_starts,
         &rota.owners,
         &rota.sets,
         &rota.minutes,
     );
-    told.is_ok()
+    answer.is_ok()
 }
 
 /// The recount in the Rust's terms, which has none: every owner known and available, one owner a unit, and a rota made anew of the owners
@@ -168,32 +168,32 @@ pub fn no_draws(rota: Rota) -> Row {
 // ---- plays
 
 /// The first draws of the list; whether it was accepted.
-fn lent_play(rota: &Rota, lent: &mut LentRota, draws: usize) -> bool {
-    let [kinds, ones, twos] = &rota.columns;
-    let told = lent::play(
+fn lent_play(rota: &Rota, lent: &mut LentRota, count: usize) -> bool {
+    let [draws, firsts, seconds] = &rota.columns;
+    let answer = lent::play(
         lent.people,
         lent.starts.len(),
         lent.units,
-        draws,
+        count,
         &lent.starts,
         &lent.ends,
         &lent.avail,
-        &lent.firsts,
+        &lent.unit_starts,
         &lent.frozen,
+        draws,
+        firsts,
+        seconds,
         &mut lent.owners,
         &mut lent.sets,
         &mut lent.minutes,
-        kinds,
-        ones,
-        twos,
         &mut lent.answers,
     );
-    told.is_ok()
+    answer.is_ok()
 }
 
 /// The same draws, lent as structs.
 fn lent_play_structs(rota: &Rota, lent: &mut LentRota, draws: usize) -> bool {
-    let told = lent::play_draws(
+    let answer = lent::play_draws(
         lent.people,
         lent.starts.len(),
         lent.units,
@@ -201,7 +201,7 @@ fn lent_play_structs(rota: &Rota, lent: &mut LentRota, draws: usize) -> bool {
         &lent.starts,
         &lent.ends,
         &lent.avail,
-        &lent.firsts,
+        &lent.unit_starts,
         &lent.frozen,
         &mut lent.owners,
         &mut lent.sets,
@@ -209,7 +209,7 @@ fn lent_play_structs(rota: &Rota, lent: &mut LentRota, draws: usize) -> bool {
         &rota.structs,
         &mut lent.answers,
     );
-    told.is_ok()
+    answer.is_ok()
 }
 
 /// All draws of a rota, played in one of our ways.

@@ -38,7 +38,7 @@ fn asked<A: PartialEq + 'static>(
 pub fn next_set(set: Set) -> Row {
     asked(
         set,
-        |words, slot| lent::next_set(words, 1, 0, SLOTS_MOST, slot).expect("nothing is refused"),
+        |words, slot| lent::next_set(1, SLOTS_MOST, words, 0, slot).expect("nothing is refused"),
         |rust, slot| rust.next_set(slot),
     )
 }
@@ -48,7 +48,7 @@ pub fn run_bounds(set: Set) -> Row {
         set,
         |words, slot| {
             let (mut first, mut last) = (0, 0);
-            let held = lent::run_bounds(words, 1, 0, SLOTS_MOST, slot, &mut first, &mut last);
+            let held = lent::run_bounds(1, SLOTS_MOST, words, 0, slot, &mut first, &mut last);
             // the Rust has no holes: of those only that there is no run is to be seen
             (held.expect("nothing is refused") == lent::Held::Run).then_some((first as usize, last as usize))
         },
@@ -59,7 +59,7 @@ pub fn run_bounds(set: Set) -> Row {
 pub fn count(set: Set) -> Row {
     asked(
         set,
-        |words, _| lent::count(words, 1, 0, SLOTS_MOST).expect("nothing is refused"),
+        |words, _| lent::count(1, SLOTS_MOST, words, 0).expect("nothing is refused"),
         |rust, _| rust.count(),
     )
 }

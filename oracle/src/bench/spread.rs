@@ -22,7 +22,7 @@ fn call(capacity: f64) -> Side<Call, Vec<i64>> {
             let (starts, ends) = ([0], [MINUTES_MOST as u32]);
             let (avail, priors) = ([1; SET_WORDS * PEOPLE_MOST], [0; PEOPLE_MOST]);
             let capacities = &call.capacities;
-            lent::compute_targets(PEOPLE_MOST, 1, &starts, &ends, &avail, capacities, &priors, 1, 1, &mut call.targets)
+            lent::compute_targets(PEOPLE_MOST, 1, 1, 1, &starts, &ends, &avail, capacities, &priors, &mut call.targets)
                 .expect("nothing is refused");
         }),
         seen: Box::new(|call| call.targets.clone()),

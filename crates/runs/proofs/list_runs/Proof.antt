@@ -4,7 +4,7 @@ use mathlib.Core.Path.{_≡_}
 use Prim.Native.Nat.{_-_, _*_, _≤_}
 use native.Mathlib.Omega.{arith}
 use lib.ListN.{length}
-use Rattle.paper.specs.Limits.{heardOf}
+use Rattle.paper.specs.Limits.{numberOf}
 use Rattle.slotset.specs.Answers.{personRow, rowSlots}
 use Rattle.slotset.proofs.Puts.{slot-lt}
 use Rattle.slotset.proofs.Refusals.{row-says}
@@ -15,7 +15,7 @@ use Rattle.runs.proofs.list_runs.Tie as tie
 
 abbrev Inv-loop : tie.InvT-loop
 Inv-loop words people person len firsts₀ lasts₀ n₀ at₀ firsts lasts n at =
-    (heardOf (personRow words people person len) ≡ 0) × (((len ≤ length firsts₀) × (len ≤ length lasts₀))
+    (numberOf (personRow words people person len) ≡ 0) × (((len ≤ length firsts₀) × (len ≤ length lasts₀))
     × Listing (rowSlots words person) len firsts₀ lasts₀ n at firsts lasts)
 
 abbrev μ-loop : tie.MeasureT-loop

@@ -1,15 +1,15 @@
 -- `slotset::yes_or_no` meets its contract. Assumes nothing.
 use Rattle.paper.specs.Rows.{unless}
-use Rattle.slotset.specs.Answers.{toldAs}
+use Rattle.slotset.specs.Answers.{yesNoAs}
 use Rattle.slotset.proofs.yes_or_no.Statement.{statement}
 use Rattle.slotset.proofs.yes_or_no.Tie as tie
 
 returns : tie.Need-returns
-unfolding toldAs unless
+unfolding yesNoAs unless
 returns c = simp (c .if1 .taken)
 
 returns-2 : tie.Need-returns-2
-unfolding toldAs unless
+unfolding yesNoAs unless
 returns-2 c = simp (c .if1 .left)
 
 pub yes-or-no-spec : {M : Type 1} → statement M

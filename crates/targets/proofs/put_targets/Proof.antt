@@ -24,7 +24,7 @@ loop-again : tie.Need-loop-again Inv-loop μ-loop
 loop-again c =
     let a = c .before .before .before .args in
     let p = c .before .before .loop in
-    let t = put (a .t1) (a .out .now) (p .i) (pos 0) (p .inv .2) (toZ-ofZ (sfits-of (c .t .given))) (omega arith) (omega arith) in
+    let t = put (a .t2) (a .out .now) (p .i) (pos 0) (p .inv .2) (toZ-ofZ (sfits-of (c .t .given))) (omega arith) (omega arith) in
     (search needs, simp length-set (p .inv .1), t)
 
 returns : tie.Need-returns Inv-loop μ-loop

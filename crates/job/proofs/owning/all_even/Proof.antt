@@ -12,10 +12,10 @@ use Rattle.job.proofs.owning.all_even.Statement.{statement}
 use Rattle.job.proofs.owning.all_even.Tie as tie
 
 abbrev Inv-loop : tie.InvT-loop
-Inv-loop slots units firsts owners u₀ u = (all u (evenAt slots units firsts owners) ≡ true) × (u ≤ units)
+Inv-loop slots units begins owners u₀ u = (all u (evenAt slots units begins owners) ≡ true) × (u ≤ units)
 
 abbrev μ-loop : tie.MeasureT-loop
-μ-loop slots units firsts owners u₀ u = units - u
+μ-loop slots units begins owners u₀ u = units - u
 
 loop-holds : tie.Need-loop-holds Inv-loop μ-loop
 loop-holds c = (all-none _, omega arith)

@@ -3,7 +3,7 @@ use borrow.Author.Needs.{needs}
 use mathlib.Core.Path.{ap, _∙_}
 use mathlib.Core.List.{List}
 use Prim.Native.Nat.{ℕ}
-use Rattle.paper.specs.Limits.{heardOf}
+use Rattle.paper.specs.Limits.{numberOf}
 use Rattle.paper.proofs.Rows.{said}
 use Rattle.job.specs.Stages.{narrowed}
 use Rattle.job.specs.Outcome.{ownersRow}
@@ -15,9 +15,9 @@ returns c =
     let a = c .before .before .before .before .before .before .before .args in
     let placed-is = c .before .before .before .before .placed-by .ensures in
     record {
-      no = said _ (c .before .before .owners-no .ensures)
-          ∙ ap (λ (o : List ℕ). heardOf (ownersRow (a .s .now) (a .at) (a .n) (a .slots) (a .people) (a .units)
-          (a .firsts .now) o)) placed-is;
+      number = said _ (c .before .before .owners-refusal .ensures)
+          ∙ ap (λ (o : List ℕ). numberOf (ownersRow (a .s .now) (a .at) (a .n) (a .slots) (a .people) (a .units)
+          (a .begins .now) o)) placed-is;
       owners = c .narrow .ensures ∙ ap narrowed placed-is;
     }
 

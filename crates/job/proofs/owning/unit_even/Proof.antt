@@ -15,10 +15,10 @@ use Rattle.job.proofs.owning.unit_even.Statement.{statement}
 use Rattle.job.proofs.owning.unit_even.Tie as tie
 
 abbrev Inv-loop : tie.InvT-loop
-Inv-loop slots units firsts owners u a e owner k₀ k = (allIn a k (λ (j : ℕ). eqb (getD owners j 0) owner) ≡ true) × (a ≤ k)
+Inv-loop slots units begins owners u a e owner k₀ k = (allIn a k (λ (j : ℕ). eqb (getD owners j 0) owner) ≡ true) × (a ≤ k)
 
 abbrev μ-loop : tie.MeasureT-loop
-μ-loop slots units firsts owners u a e owner k₀ k = e - k
+μ-loop slots units begins owners u a e owner k₀ k = e - k
 
 loop-holds : tie.Need-loop-holds Inv-loop μ-loop
 loop-holds c = (in-none _ _, omega arith)

@@ -2,7 +2,7 @@
 -- Below, cN is what is known N places before c.
 use borrow.Author.Needs.{needs}
 use mathlib.Core.Path.{sym, ap, _∙_}
-use Rattle.slotset.specs.Answers.{numberNo}
+use Rattle.slotset.specs.Answers.{numberRefusal}
 use Rattle.job.specs.Stages.{valueOf}
 use Rattle.job.proofs.parts.atoms_of.Statement.{statement}
 use Rattle.job.proofs.parts.atoms_of.Tie as tie
@@ -11,9 +11,9 @@ returns : tie.Need-returns
 returns c =
     let c5 = c .before .before .before .before .before in
     let w = c5 .atomise .ensures in
-    let e = sym (w .heard) ∙ c .before .heard .given .1 in
+    let e = sym (w .said) ∙ c .before .answer .given .1 in
     record {
-      no = sym (ap numberNo e);
+      number = sym (ap numberRefusal e);
       count = sym (ap valueOf e);
       starts = w .starts;
       ends = w .ends;
@@ -25,9 +25,9 @@ returns-2 : tie.Need-returns-2
 returns-2 c =
     let c5 = c .before .before .before .before .before in
     let w = c5 .atomise .ensures in
-    let e = sym (w .heard) ∙ c .before .heard2 .given .1 in
+    let e = sym (w .said) ∙ c .before .answer2 .given .1 in
     record {
-      no = sym (ap numberNo e);
+      number = sym (ap numberRefusal e);
       count = sym (ap valueOf e);
       starts = w .starts;
       ends = w .ends;

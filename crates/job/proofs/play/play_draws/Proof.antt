@@ -9,7 +9,7 @@ returns : tie.Need-returns
 returns c =
     let e = c .before .before .before .before .play .ensures in
     record {
-      no = e .heard;
+      number = e .said;
       owners = e .owners;
       minutes = ap (λ (D : Derived). D .minutes) (e .derived);
       answers = e .answers;

@@ -6,7 +6,7 @@ use Rattle.job.proofs.play.uncovered_of.Statement.{statement}
 use Rattle.job.proofs.play.uncovered_of.Tie as tie
 
 returns : tie.Need-returns
-returns c = sym (ap minutesValue (sym (c .before .before .before .uncovered-minutes .ensures) ∙ c .before .heard .given .1))
+returns c = sym (ap minutesValue (sym (c .before .before .before .uncovered-minutes .ensures) ∙ c .before .answer .given .1))
 
 returns-2 : tie.Need-returns-2
 returns-2 c = sym (ap minutesValue (sym (c .before .before .uncovered-minutes .ensures) ∙ c .enum-told .given .1))

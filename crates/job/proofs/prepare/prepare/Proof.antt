@@ -69,8 +69,8 @@ returns c =
     let c30 = c23 .before .before .before .before .before .before .before in
     let c32 = c30 .before .before in
     prepared-are (c32 .pre) _ _ _ _ _ _ _ (c30 .slots-in .ensures) (c23 .targets-in .ensures) (c22 .settings-in .ensures)
-    (c19 .units-of .ensures) (c16 .owners-of .ensures) (c10 .start-rota .ensures) (c7 .frozen-of .ensures) (c3 .first-no .ensures)
-    (c .before .before .first-no2 .ensures) (c .before .first-no3 .ensures) (c .first-no4 .ensures)
+    (c19 .units-of .ensures) (c16 .owners-of .ensures) (c10 .start-rota .ensures) (c7 .frozen-of .ensures) (c3 .first-number .ensures)
+    (c .before .before .first-number2 .ensures) (c .before .first-number3 .ensures) (c .first-number4 .ensures)
 
 pub prepare-spec : {M : Type 1} → statement M
 prepare-spec =

@@ -10,10 +10,10 @@ use Rattle.owners.proofs.derived.stretch_end.Statement.{statement}
 use Rattle.owners.proofs.derived.stretch_end.Tie as tie
 
 abbrev Inv-loop : tie.InvT-loop
-Inv-loop owners slots i owner e₀ e = (i < e) × (e ≤ slots) × ((k : ℕ) → i ≤ k → k < e → getD owners k 0 ≡ owner)
+Inv-loop slots owners i owner e₀ e = (i < e) × (e ≤ slots) × ((k : ℕ) → i ≤ k → k < e → getD owners k 0 ≡ owner)
 
 abbrev μ-loop : tie.MeasureT-loop
-μ-loop owners slots i owner e₀ e = slots - e
+μ-loop slots owners i owner e₀ e = slots - e
 
 loop-holds : tie.Need-loop-holds Inv-loop μ-loop
 loop-holds c =

@@ -6,7 +6,7 @@ use Rattle.paper.proofs.Rows.{said}
 use Rattle.paper.proofs.Count.{length-over, length-fill}
 use Rattle.owners.specs.Derived.{derived}
 use Rattle.owners.proofs.Sets.{length-sets}
-use Rattle.owners.proofs.Entered.{empty-says, emptied-no, emptied-yes}
+use Rattle.owners.proofs.Entered.{empty-says, emptied-refused, emptied-yes}
 use Rattle.owners.proofs.entries.empty.Statement.{statement}
 use Rattle.owners.proofs.entries.empty.Tie as tie
 
@@ -14,20 +14,20 @@ clear-sets-requires : tie.Need-clear-sets-requires
 clear-sets-requires c κs =
     let at-args = c .before .before .before .before .before .before .before .before .before .before .before .before .before
     .args in
-    let at-empty-no = c .before .before .before .before .before .before .empty-no in
+    let at-empty-refused = c .before .before .before .before .before .before .empty-refusal in
     let at-if1 = c .before .before .before .before .before .if1 in
     let x = empty-says (at-args .people) (at-args .slots) (at-args .owners .now) (derived (at-args .sets .now) (at-args .minutes
-    .now)) (sym (said _ (at-empty-no .ensures)) ∙ (at-if1 .taken)) in
+    .now)) (sym (said _ (at-empty-refused .ensures)) ∙ (at-if1 .taken)) in
     (x .0, x .1, x .2, x .4)
 
 clear-minutes-requires : tie.Need-clear-minutes-requires
 clear-minutes-requires c κs =
     let at-args = c .before .before .before .before .before .before .before .before .before .before .before .before .before
     .before .before .before .before .args in
-    let at-empty-no = c .before .before .before .before .before .before .before .before .before .before .empty-no in
+    let at-empty-refused = c .before .before .before .before .before .before .before .before .before .before .empty-refusal in
     let at-if1 = c .before .before .before .before .before .before .before .before .before .if1 in
     let x = empty-says (at-args .people) (at-args .slots) (at-args .owners .now) (derived (at-args .sets .now) (at-args .minutes
-    .now)) (sym (said _ (at-empty-no .ensures)) ∙ (at-if1 .taken)) in
+    .now)) (sym (said _ (at-empty-refused .ensures)) ∙ (at-if1 .taken)) in
     x .5
 
 same-length : tie.Need-same-length
@@ -45,22 +45,22 @@ returns : tie.Need-returns
 returns c =
     let at-args = c .before .before .before .before .before .before .before .before .before .before .before .before .before
     .before .before .before .before .before .before .before .args in
-    let at-empty-no = c .before .before .before .before .before .before .before .before .before .before .before .before .before
-    .empty-no in
+    let at-empty-refused = c .before .before .before .before .before .before .before .before .before .before .before .before .before
+    .empty-refusal in
     let at-if1 = c .before .before .before .before .before .before .before .before .before .before .before .before .if1 in
     let at-fill-owners = c .before .before .before .before .before .before .before .before .before .before .fill-owners in
     let at-clear-sets = c .before .before .before .before .before .before .clear-sets in
     let at-clear-minutes = c .before .before .clear-minutes in
     emptied-yes (at-args .people) (at-args .slots) (at-args .owners .now) (derived (at-args .sets .now) (at-args .minutes .now))
-    _ (said _ (at-empty-no .ensures)) _ _ _ (at-if1 .taken) (at-fill-owners .ensures) (at-clear-sets .ensures) (at-clear-minutes
+    _ (said _ (at-empty-refused .ensures)) _ _ _ (at-if1 .taken) (at-fill-owners .ensures) (at-clear-sets .ensures) (at-clear-minutes
     .ensures)
 
 returns-2 : tie.Need-returns-2
 returns-2 c =
     let at-args = c .before .before .before .before .before .before .before .before .args in
-    let at-empty-no = c .before .empty-no in
-    emptied-no (at-args .people) (at-args .slots) (at-args .owners .now) (derived (at-args .sets .now) (at-args .minutes .now))
-    _ (said _ (at-empty-no .ensures)) (c .if1 .left)
+    let at-empty-refused = c .before .empty-refusal in
+    emptied-refused (at-args .people) (at-args .slots) (at-args .owners .now) (derived (at-args .sets .now) (at-args .minutes .now))
+    _ (said _ (at-empty-refused .ensures)) (c .if1 .left)
 
 pub empty-spec : {M : Type 1} → statement M
 empty-spec =

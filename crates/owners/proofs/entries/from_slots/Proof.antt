@@ -4,17 +4,17 @@ use borrow.Author.Needs.{needs}
 use Rattle.paper.proofs.Rows.{said}
 use Rattle.owners.specs.Derived.{plan, derived}
 use Rattle.owners.proofs.Steps.{lengths-kept}
-use Rattle.owners.proofs.Entered.{from-asks, from-no, from-yes}
+use Rattle.owners.proofs.Entered.{from-asks, from-refused, from-yes}
 use Rattle.owners.proofs.entries.from_slots.Statement.{statement}
 use Rattle.owners.proofs.entries.from_slots.Tie as tie
 
 rebuild-requires : tie.Need-rebuild-requires
 rebuild-requires c κs =
     let at-args = c .before .before .before .before .before .before .before .before .before .before .before .before .args in
-    let at-from-slots-no = c .before .before .before .from-slots-no in
+    let at-from-slots-refused = c .before .before .before .from-slots-refusal in
     let at-if1 = c .before .before .if1 in
     let A = from-asks (plan (at-args .people) (at-args .slots) (at-args .starts .now) (at-args .ends .now)) (at-args .avail
-    .now) (at-args .owners .now) (derived (at-args .sets .now) (at-args .minutes .now)) (sym (said _ (at-from-slots-no .ensures)) ∙
+    .now) (at-args .owners .now) (derived (at-args .sets .now) (at-args .minutes .now)) (sym (said _ (at-from-slots-refused .ensures)) ∙
     (at-if1 .taken)) in
     (A .0, A .1)
 
@@ -28,19 +28,19 @@ returns : tie.Need-returns
 returns c =
     let at-args = c .before .before .before .before .before .before .before .before .before .before .before .before .before
     .before .before .before .before .args in
-    let at-from-slots-no = c .before .before .before .before .before .before .before .before .from-slots-no in
+    let at-from-slots-refused = c .before .before .before .before .before .before .before .before .from-slots-refusal in
     let at-if1 = c .before .before .before .before .before .before .before .if1 in
     let at-rebuild = c .before .before .before .before .rebuild in
     from-yes (plan (at-args .people) (at-args .slots) (at-args .starts .now) (at-args .ends .now)) (at-args .avail .now)
-    (at-args .owners .now) (derived (at-args .sets .now) (at-args .minutes .now)) _ (said _ (at-from-slots-no .ensures)) _ (at-if1
+    (at-args .owners .now) (derived (at-args .sets .now) (at-args .minutes .now)) _ (said _ (at-from-slots-refused .ensures)) _ (at-if1
     .taken) (at-rebuild .ensures)
 
 returns-2 : tie.Need-returns-2
 returns-2 c =
     let at-args = c .before .before .before .before .before .before .before .before .before .before .args in
-    let at-from-slots-no = c .before .from-slots-no in
-    from-no (plan (at-args .people) (at-args .slots) (at-args .starts .now) (at-args .ends .now)) (at-args .avail .now) (at-args
-    .owners .now) (derived (at-args .sets .now) (at-args .minutes .now)) _ (said _ (at-from-slots-no .ensures)) (c .if1 .left)
+    let at-from-slots-refused = c .before .from-slots-refusal in
+    from-refused (plan (at-args .people) (at-args .slots) (at-args .starts .now) (at-args .ends .now)) (at-args .avail .now) (at-args
+    .owners .now) (derived (at-args .sets .now) (at-args .minutes .now)) _ (said _ (at-from-slots-refused .ensures)) (c .if1 .left)
 
 pub from-slots-spec : {M : Type 1} → statement M
 from-slots-spec =

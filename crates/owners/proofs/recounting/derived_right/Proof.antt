@@ -4,7 +4,7 @@ use native.Mathlib.Omega.{arith}
 use borrow.Author.Needs.{needs}
 use Rattle.paper.proofs.Logic.{and-stops}
 use Rattle.owners.specs.Derived.{plan}
-use Rattle.owners.proofs.Faults.{copy-makes, copy-lengths, right-sets, right-minutes, and-on}
+use Rattle.owners.proofs.RecountRefusals.{copy-makes, copy-lengths, right-sets, right-minutes, and-on}
 use Rattle.owners.proofs.recounting.derived_right.Statement.{statement}
 use Rattle.owners.proofs.recounting.derived_right.Tie as tie
 

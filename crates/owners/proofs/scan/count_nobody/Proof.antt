@@ -9,10 +9,10 @@ use Rattle.owners.proofs.scan.count_nobody.Statement.{statement}
 use Rattle.owners.proofs.scan.count_nobody.Tie as tie
 
 abbrev Inv-loop : tie.InvT-loop
-Inv-loop owners slots n₀ k₀ n k = (k ≤ slots) × (n ≡ unassigned k owners)
+Inv-loop slots owners n₀ k₀ n k = (k ≤ slots) × (n ≡ unassigned k owners)
 
 abbrev μ-loop : tie.MeasureT-loop
-μ-loop owners slots n₀ k₀ n k = slots - k
+μ-loop slots owners n₀ k₀ n k = slots - k
 
 loop-holds : tie.Need-loop-holds Inv-loop μ-loop
 loop-holds c = (search needs, nobody-none _)

@@ -12,10 +12,10 @@ use Rattle.owners.proofs.scan.first_uneven.Statement.{statement}
 use Rattle.owners.proofs.scan.first_uneven.Tie as tie
 
 abbrev Inv-loop : tie.InvT-loop
-Inv-loop slots units firsts owners u₀ u = (u ≤ units) × (all u (evenAt slots units firsts owners) ≡ true)
+Inv-loop slots units begins owners u₀ u = (u ≤ units) × (all u (evenAt slots units begins owners) ≡ true)
 
 abbrev μ-loop : tie.MeasureT-loop
-μ-loop slots units firsts owners u₀ u = units - u
+μ-loop slots units begins owners u₀ u = units - u
 
 loop-holds : tie.Need-loop-holds Inv-loop μ-loop
 loop-holds c = (search needs, all-none _)

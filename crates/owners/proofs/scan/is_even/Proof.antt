@@ -14,10 +14,10 @@ use Rattle.owners.proofs.scan.is_even.Statement.{statement}
 use Rattle.owners.proofs.scan.is_even.Tie as tie
 
 abbrev Inv-loop : tie.InvT-loop
-Inv-loop slots units firsts owners unit a e owner k₀ k = (a ≤ k) × (k - a ≤ e - a) × (allIn a k (λ j. eqb (getD owners j 0) owner) ≡ true)
+Inv-loop slots units begins owners unit a e owner k₀ k = (a ≤ k) × (k - a ≤ e - a) × (allIn a k (λ j. eqb (getD owners j 0) owner) ≡ true)
 
 abbrev μ-loop : tie.MeasureT-loop
-μ-loop slots units firsts owners unit a e owner k₀ k = e - k
+μ-loop slots units begins owners unit a e owner k₀ k = e - k
 
 loop-holds : tie.Need-loop-holds Inv-loop μ-loop
 loop-holds c = (omega arith, omega arith, in-none _ _)

@@ -5,7 +5,7 @@ use borrow.Author.Needs.{needs}
 use Rattle.paper.proofs.Rows.{said}
 use Rattle.owners.specs.Derived.{plan, derived}
 use Rattle.rota.proofs.Stepping.{over-lengths}
-use Rattle.rota.proofs.Asked.{assign-asks, asks-one, asks-in-step, assigned-no, assigned-yes}
+use Rattle.rota.proofs.Asked.{assign-asks, asks-one, asks-in-step, assigned-refused, assigned-yes}
 use Rattle.rota.proofs.assignment.assign.Statement.{statement}
 use Rattle.rota.proofs.assignment.assign.Tie as tie
 
@@ -13,22 +13,22 @@ add-hand-over : tie.Need-add-hand-over
 add-hand-over c =
     let at-args = c .before .before .before .before .before .before .before .before .before .before .before .before .before
     .before .args in
-    let at-assign-no = c .before .before .before .before .assign-no in
+    let at-assign-refused = c .before .before .before .before .assign-refusal in
     let at-if1 = c .before .before .before .if1 in
     let A = assign-asks (plan (at-args .people) (at-args .slots) (at-args .starts .now) (at-args .ends .now)) (at-args .avail
     .now) (at-args .owners .now) (derived (at-args .sets .now) (at-args .minutes .now)) (at-args .slot) (at-args .owner)
-    (sym (said _ (at-assign-no .ensures)) ∙ (at-if1 .taken)) in
+    (sym (said _ (at-assign-refused .ensures)) ∙ (at-if1 .taken)) in
     omega (arith, A .slot, A .on .sound .slots-few)
 
 hand-over-requires : tie.Need-hand-over-requires
 hand-over-requires c κs =
     let at-args = c .before .before .before .before .before .before .before .before .before .before .before .before .before
     .before .args in
-    let at-assign-no = c .before .before .before .before .assign-no in
+    let at-assign-refused = c .before .before .before .before .assign-refusal in
     let at-if1 = c .before .before .before .if1 in
     let A = assign-asks (plan (at-args .people) (at-args .slots) (at-args .starts .now) (at-args .ends .now)) (at-args .avail
     .now) (at-args .owners .now) (derived (at-args .sets .now) (at-args .minutes .now)) (at-args .slot) (at-args .owner)
-    (sym (said _ (at-assign-no .ensures)) ∙ (at-if1 .taken)) in (
+    (sym (said _ (at-assign-refused .ensures)) ∙ (at-if1 .taken)) in (
       A .on .sound,
       (
         asks-in-step (plan (at-args .people) (at-args .slots) (at-args .starts .now) (at-args .ends .now)) (at-args
@@ -56,20 +56,20 @@ returns : tie.Need-returns
 returns c =
     let at-args = c .before .before .before .before .before .before .before .before .before .before .before .before .before
     .before .before .before .before .before .before .before .before .args in
-    let at-assign-no = c .before .before .before .before .before .before .before .before .before .before .before .assign-no in
+    let at-assign-refused = c .before .before .before .before .before .before .before .before .before .before .before .assign-refusal in
     let at-if1 = c .before .before .before .before .before .before .before .before .before .before .if1 in
     let at-hand-over = c .before .before .before .before .before .before .hand-over in
     assigned-yes (plan (at-args .people) (at-args .slots) (at-args .starts .now) (at-args .ends .now)) (at-args .avail .now)
     (at-args .owners .now) (derived (at-args .sets .now) (at-args .minutes .now)) (at-args .slot) (at-args .owner) _
-    (said _ (at-assign-no .ensures)) _ _ (at-if1 .taken) (at-hand-over .ensures)
+    (said _ (at-assign-refused .ensures)) _ _ (at-if1 .taken) (at-hand-over .ensures)
 
 returns-2 : tie.Need-returns-2
 returns-2 c =
     let at-args = c .before .before .before .before .before .before .before .before .before .before .before .args in
-    let at-assign-no = c .before .assign-no in
-    assigned-no (plan (at-args .people) (at-args .slots) (at-args .starts .now) (at-args .ends .now)) (at-args .avail .now)
+    let at-assign-refused = c .before .assign-refusal in
+    assigned-refused (plan (at-args .people) (at-args .slots) (at-args .starts .now) (at-args .ends .now)) (at-args .avail .now)
     (at-args .owners .now) (derived (at-args .sets .now) (at-args .minutes .now)) (at-args .slot) (at-args .owner) _
-    (said _ (at-assign-no .ensures)) (c .if1 .left)
+    (said _ (at-assign-refused .ensures)) (c .if1 .left)
 
 pub assign-spec : {M : Type 1} → statement M
 assign-spec =

@@ -12,7 +12,7 @@ returns : tie.Need-returns
 unfolding columnsEnough
 returns c =
     let a = c .before .before .before .before .before .args in
-    c .both2 .ensures ∙ ap (λ (b : Bool). leb (a .count) (length (a .kinds .now)) && b) (c .before .both .ensures)
+    c .both2 .ensures ∙ ap (λ (b : Bool). leb (a .count) (length (a .draws .now)) && b) (c .before .both .ensures)
 
 pub columns-enough-spec : {M : Type 1} → statement M
 columns-enough-spec = tie.close (tie.spec (λ c κs. search needs) (λ c κs. search needs) returns)

@@ -13,7 +13,7 @@ unfolding playRoomOk
 returns c =
     let a = c .before .before .before .before .before .before .args in
     c .both3 .ensures
-    ∙ ap (λ (b : Bool). leb (a .units) (length (a .firsts .now)) && b)
+    ∙ ap (λ (b : Bool). leb (a .units) (length (a .begins .now)) && b)
     (c .before .both2 .ensures ∙ ap (λ (b : Bool). leb 16 (length (a .frozen .now)) && b) (c .before .before .both .ensures))
 
 pub play-room-ok-spec : {M : Type 1} → statement M

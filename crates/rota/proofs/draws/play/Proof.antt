@@ -144,8 +144,8 @@ module _ {M : Type 1} (𝓤 : URA M) (H : Heap 𝓤) (A : Atoms 𝓤) (W : Given
   abbrev avail : RefT (List ℕ)
   avail = a .1 .1 .1 .1 .1 .1 .0
 
-  abbrev firsts : RefT (List ℕ)
-  firsts = a .1 .1 .1 .1 .1 .1 .1 .0
+  abbrev begins : RefT (List ℕ)
+  begins = a .1 .1 .1 .1 .1 .1 .1 .0
 
   abbrev frozen : RefT (List ℕ)
   frozen = a .1 .1 .1 .1 .1 .1 .1 .1 .0
@@ -187,10 +187,10 @@ module _ {M : Type 1} (𝓤 : URA M) (H : Heap 𝓤) (A : Atoms 𝓤) (W : Given
       ∷ ShrSlice (named 4) (κs .1 .1 .1 .1 .0) u64 ∷ []
 
   abbrev a5 : Denots Rs5
-  a5 = starts & ends & avail & firsts & frozen & tt
+  a5 = starts & ends & avail & begins & frozen & tt
 
   abbrev v5 : Valss Rs5
-  v5 = slice-vals starts & slice-vals ends & slice-vals avail & slice-vals firsts & slice-vals frozen & tt
+  v5 = slice-vals starts & slice-vals ends & slice-vals avail & slice-vals begins & slice-vals frozen & tt
 
   copies5 : Copies 𝓤 H A W Rs5
   copies5 =
@@ -264,10 +264,10 @@ module _ {M : Type 1} (𝓤 : URA M) (H : Heap 𝓤) (A : Atoms 𝓤) (W : Given
         kb,
         qb,
         tt,
-        people & slots & units & count & starts & ends & avail & firsts & frozen & lent-owners & lent-sets & lent-minutes & enough
+        people & slots & units & count & starts & ends & avail & begins & frozen & lent-owners & lent-sets & lent-minutes & enough
             & lent-answers & tt,
         (vint w64 people ∷ []) & (vint w64 slots ∷ []) & (vint w64 units ∷ []) & (vint w64 count ∷ []) & slice-vals starts
-            & slice-vals ends & slice-vals avail & slice-vals firsts & slice-vals frozen & slice-vals owners & slice-vals sets
+            & slice-vals ends & slice-vals avail & slice-vals begins & slice-vals frozen & slice-vals owners & slice-vals sets
             & slice-vals minutes & (vbool enough ∷ []) & slice-vals answers & tt,
       ),
       tt,
@@ -324,7 +324,7 @@ module _ {M : Type 1} (𝓤 : URA M) (H : Heap 𝓤) (A : Atoms 𝓤) (W : Given
 
   -- the end
   finish : (r : ℕ) (ls : Lists ss) → AsLong ss ls → r < 2 ^ 8
-      → Ended (playedDraws P (avail .now) units (firsts .now) (frozen .now) count (draws .now) (owners .now)
+      → Ended (playedDraws P (avail .now) units (begins .now) (frozen .now) count (draws .now) (owners .now)
       (derived (sets .now) (minutes .now)) (answers .now)) r (ls .0) (derived (ls .1 .0) (ls .1 .1 .0)) (ls .1 .1 .1 .0)
       → ent 𝓤 (sep 𝓤 (sem 𝓤 H A DrawsToken) (sep 𝓤 (toks 𝓤 A 5 k5 q5) (HasAll 𝓤 H A ss ls))) (Entry 𝓤 H A mem run .post y (vint w8 r))
   finish r ls long fits said =
@@ -347,7 +347,7 @@ module _ {M : Type 1} (𝓤 : URA M) (H : Heap 𝓤) (A : Atoms 𝓤) (W : Given
 
   -- ---- a play that has begun, its masks and flags in arrays at p₁ and p₂
   module _ (b : Begun) (is-b : Is S.the-row b (LL.val S.the-type S′.the-laws b ∷ []))
-      (w : Begins P (avail .now) units (firsts .now) (frozen .now) count enough (owners .now) (derived (sets .now) (minutes .now))
+      (w : Begins P (avail .now) units (begins .now) (frozen .now) count enough (owners .now) (derived (sets .now) (minutes .now))
       (answers .now) b) where
     abbrev fits-val : Val
     fits-val = S′.the-laws .1 .1 .0 .val (S.the-type .to b .1 .1 .0)
@@ -373,7 +373,7 @@ module _ {M : Type 1} (𝓤 : URA M) (H : Heap 𝓤) (A : Atoms 𝓤) (W : Given
 
     abbrev Plays : ℕ → Lists ss → Type 0
     Plays i ls =
-        Playing P (avail .now) units (firsts .now) (frozen .now) count (owners .now) (derived (sets .now) (minutes .now)) (answers .now)
+        Playing P (avail .now) units (begins .now) (frozen .now) count (owners .now) (derived (sets .now) (minutes .now)) (answers .now)
         (draws .now) b w i (ls .0) (derived (ls .1 .0) (ls .1 .1 .0)) (ls .1 .1 .1 .0)
 
     -- the loop's variant: i and the four lists, with what the invariant says of them, ordered by what is left
@@ -389,9 +389,9 @@ module _ {M : Type 1} (𝓤 : URA M) (H : Heap 𝓤) (A : Atoms 𝓤) (W : Given
     Nearer-wf : WellFounded Nearer
     Nearer-wf = InvImage·wf (λ (t : Upto). b .todo - t .i) (Nat·lt-wfRel .wf)
 
-    abbrev Asked : ℕ → Lists ss → Type 0
-    Asked i ls =
-        StepAsks P (ready people slots units (firsts .now) (b .fits) (b .flags)) (ls .0) (derived (ls .1 .0) (ls .1 .1 .0)) (firsts .now)
+    abbrev Checked : ℕ → Lists ss → Type 0
+    Checked i ls =
+        StepAsks P (ready people slots units (begins .now) (b .fits) (b .flags)) (ls .0) (derived (ls .1 .0) (ls .1 .1 .0)) (begins .now)
         (b .fits) (b .flags) i (ls .1 .1 .1 .0)
 
     module _ (p₁ p₂ : ℕ) (g₁ g₂ : Loan) where
@@ -414,10 +414,10 @@ module _ {M : Type 1} (𝓤 : URA M) (H : Heap 𝓤) (A : Atoms 𝓤) (W : Given
           ∷ ShrSlice erased (g₁ .0 ∷ []) u32 ∷ ShrSlice erased (g₂ .0 ∷ []) u8 ∷ []
 
       abbrev ar : Denots Rr
-      ar = starts & ends & firsts & lent-fits & lent-flags & tt
+      ar = starts & ends & begins & lent-fits & lent-flags & tt
 
       abbrev vr : Valss Rr
-      vr = slice-vals starts & slice-vals ends & slice-vals firsts & (sliceVal (p₁, 0) 1024 ∷ []) & (sliceVal (p₂, 0) 1024 ∷ []) & tt
+      vr = slice-vals starts & slice-vals ends & slice-vals begins & (sliceVal (p₁, 0) 1024 ∷ []) & (sliceVal (p₂, 0) 1024 ∷ []) & tt
 
       copies-r : Copies 𝓤 H A W Rr
       copies-r =
@@ -470,10 +470,10 @@ module _ {M : Type 1} (𝓤 : URA M) (H : Heap 𝓤) (A : Atoms 𝓤) (W : Given
             ks,
             qs9,
             tt,
-            people & slots & units & starts & ends & firsts & lent-fits & lent-flags & lent-owners ls g & lent-sets ls g & lent-minutes ls g
+            people & slots & units & starts & ends & begins & lent-fits & lent-flags & lent-owners ls g & lent-sets ls g & lent-minutes ls g
                 & d .draw & d .first & d .second & i & lent-answers ls g & tt,
             (vint w64 people ∷ []) & (vint w64 slots ∷ []) & (vint w64 units ∷ []) & slice-vals starts & slice-vals ends
-                & slice-vals firsts & (sliceVal (p₁, 0) 1024 ∷ []) & (sliceVal (p₂, 0) 1024 ∷ []) & slice-vals owners & slice-vals sets
+                & slice-vals begins & (sliceVal (p₁, 0) 1024 ∷ []) & (sliceVal (p₂, 0) 1024 ∷ []) & slice-vals owners & slice-vals sets
                 & slice-vals minutes & (vint w16 (d .draw) ∷ []) & (vint w16 (d .first) ∷ []) & (vint w16 (d .second) ∷ [])
                 & (vint w64 i ∷ []) & slice-vals answers & tt,
           ),
@@ -485,9 +485,9 @@ module _ {M : Type 1} (𝓤 : URA M) (H : Heap 𝓤) (A : Atoms 𝓤) (W : Given
 
       -- the caller has what `step_at` asks, and gets back what it lent, at the lists that were left
       out-step : (ls : Lists ss) → AsLong ss ls → (i : ℕ) (d : struct.Draw) → i < 2 ^ 64
-          → (d .draw < 2 ^ 16) × ((d .first < 2 ^ 16) × (d .second < 2 ^ 16)) → Asked i ls → ent 𝓤 (sep 𝓤 Read (HasAll 𝓤 H A ss ls))
+          → (d .draw < 2 ^ 16) × ((d .first < 2 ^ 16) × (d .second < 2 ^ 16)) → Checked i ls → ent 𝓤 (sep 𝓤 Read (HasAll 𝓤 H A ss ls))
           (H .⇛ (ex 𝓤 (λ (g : Loans ss). sep 𝓤 (StepAt 𝓤 H A mem run .pre (to-step ls g i d)) (Left-step ls g))))
-      out-step ls long i d i-fits d-fits asked =
+      out-step ls long i d i-fits d-fits checked =
           qed W ((raw (toks 𝓤 A 5 kr qr) ⊛ ‵ (owns Rr ar vr)) ∷ raw (HasAll 𝓤 H A ss ls) ∷ []) ∵ updating ! $ split ! $
           tokens-out ! 5 kr qr $ move ! (5 ∷ []) $ use1 W (‵ (owns Rr ar vr) ⊛ ‵ (owns Rr ar vr)) (owns-twice 𝓤 H A W Rr copies-r ar vr) $
           split ! $ owns-out ! Rr ar vr $ move ! (11 ∷ []) $
@@ -506,7 +506,7 @@ module _ {M : Type 1} (𝓤 : URA M) (H : Heap 𝓤) (A : Atoms 𝓤) (W : Given
           owned ! usize (Is usize) (uint-makes 𝓤 H A W w64) people _ (refl, are .0 .1) $
           move ! (0 ∷ 1 ∷ 2 ∷ 13 ∷ 14 ∷ 15 ∷ 16 ∷ 17 ∷ 8 ∷ 9 ∷ 10 ∷ 3 ∷ 4 ∷ 5 ∷ 6 ∷ 11 ∷ []) $
           owns-in ! (typesAt (step-at.signature .params) (ks ls g)) (to-step ls g i d .0 .3) (to-step ls g i d .0 .4) _ refl $
-          move ! (1 ∷ 0 ∷ []) $ join ! $ use0 W (raw (fact 𝓤 (Asked i ls))) (factI 𝓤 _ (emp 𝓤) asked) $ move ! (1 ∷ 0 ∷ []) $ join ! $
+          move ! (1 ∷ 0 ∷ []) $ join ! $ use0 W (raw (fact 𝓤 (Checked i ls))) (factI 𝓤 _ (emp 𝓤) checked) $ move ! (1 ∷ 0 ∷ []) $ join ! $
           frame ! $ move ! (1 ∷ 0 ∷ []) $ done !)
 
       module _ (ls : Lists ss) (g : Loans ss) (i : ℕ) (d : struct.Draw) where
@@ -561,7 +561,7 @@ module _ {M : Type 1} (𝓤 : URA M) (H : Heap 𝓤) (A : Atoms 𝓤) (W : Given
       holds r fits flags i test =
           r ∷ filled (vint w64 people) ∷ filled (vint w64 slots) ∷ filled (vint w64 units) ∷ filled (vint w64 count) ∷
           filled (only (slice-vals starts)) ∷ filled (only (slice-vals ends)) ∷ filled (only (slice-vals avail)) ∷
-          filled (only (slice-vals firsts)) ∷ filled (only (slice-vals frozen)) ∷ filled (only (slice-vals owners)) ∷
+          filled (only (slice-vals begins)) ∷ filled (only (slice-vals frozen)) ∷ filled (only (slice-vals owners)) ∷
           filled (only (slice-vals sets)) ∷ filled (only (slice-vals minutes)) ∷ filled (only (slice-vals draws)) ∷
           filled (only (slice-vals answers)) ∷ filled (LL.val S.the-type S′.the-laws b) ∷ fits ∷ flags ∷
           filled (vint w64 (b .todo)) ∷ i ∷ none ∷ filled (vptr (owners .ptr .0) (owners .ptr .1)) ∷
@@ -609,7 +609,7 @@ module _ {M : Type 1} (𝓤 : URA M) (H : Heap 𝓤) (A : Atoms 𝓤) (W : Given
             (filled (vbool false))) _ tt refl $
             -- [the list's token; what it owns; the four; the five tokens]
             keep ! (0 ∷ 3 ∷ 2 ∷ []) $ by ! (finish (b .number) (t .ls) (t .long) number-fits
-            (playing-ends P (avail .now) units (firsts .now) (frozen .now) count (owners .now) (derived (sets .now) (minutes .now))
+            (playing-ends P (avail .now) units (begins .now) (frozen .now) count (owners .now) (derived (sets .now) (minutes .now))
             (answers .now)
             (draws .now) b w (t .i) _ _ _ (t .plays) is-n))
 
@@ -658,7 +658,7 @@ module _ {M : Type 1} (𝓤 : URA M) (H : Heap 𝓤) (A : Atoms 𝓤) (W : Given
             -- `step_at`
             move ! (97 ∷ 98 ∷ []) $
             use2 W (later (some (λ (g : Loans ss). raw (StepAt 𝓤 H A mem run .pre (to-step p₁ p₂ g₁ g₂ (t .ls) g (t .i) d))
-            ⊛ raw (Left-step p₁ p₂ g₁ g₂ (t .ls) g)))) (out-step p₁ p₂ g₁ g₂ (t .ls) (t .long) (t .i) d i-fits (numbers-fit is) asked) $
+            ⊛ raw (Left-step p₁ p₂ g₁ g₂ (t .ls) g)))) (out-step p₁ p₂ g₁ g₂ (t .ls) (t .long) (t .i) d i-fits (numbers-fit is) checked) $
             await ! tt $ pick ! (λ g. split ! $
             asks ! (fmOf 𝓤 H (W .laws) 𝓣) step-at.ended (step-at.clauses 𝓤 H A mem run) met-step (to-step p₁ p₂ g₁ g₂ (t .ls) g (t .i) d)
             (and-then ! (load ! (from ! (stop !)) (look ! 4 refl)) (and-then ! (load ! (from ! (stop !)) (look ! 6 refl))
@@ -687,7 +687,7 @@ module _ {M : Type 1} (𝓤 : URA M) (H : Heap 𝓤) (A : Atoms 𝓤) (W : Given
               i = t .i + 1;
               ls = left-lists p₁ p₂ g₁ g₂ (t .ls) g (t .i) d ws;
               long = long′;
-              plays = playing-more P (avail .now) units (firsts .now) (frozen .now) count (owners .now) (derived (sets .now)
+              plays = playing-more P (avail .now) units (begins .now) (frozen .now) count (owners .now) (derived (sets .now)
                   (minutes .now)) (answers .now)
                   (draws .now) b w (t .i) _ _ _ (t .plays) less _ _ _ e;
             }) (omega (arith, less)))))))
@@ -696,7 +696,7 @@ module _ {M : Type 1} (𝓤 : URA M) (H : Heap 𝓤) (A : Atoms 𝓤) (W : Given
             d = drawAt (draws .now) (t .i)
 
             within : t .i < length (draws .now)
-            within = next-within P (avail .now) units (firsts .now) (frozen .now) count (owners .now) (derived (sets .now)
+            within = next-within P (avail .now) units (begins .now) (frozen .now) count (owners .now) (derived (sets .now)
                 (minutes .now)) (answers .now)
                 (draws .now) b w (t .i) _ _ _ (t .plays) less
 
@@ -715,8 +715,8 @@ module _ {M : Type 1} (𝓤 : URA M) (H : Heap 𝓤) (A : Atoms 𝓤) (W : Given
                 let o = LL.owed T.the-type T′.the-laws d _ is in
                 (o .0 .1, (o .1 .0 .1, o .1 .1 .0 .1))
 
-            asked : Asked (t .i) (t .ls)
-            asked = next-asks P (avail .now) units (firsts .now) (frozen .now) count (owners .now) (derived (sets .now) (minutes .now))
+            checked : Checked (t .i) (t .ls)
+            checked = next-asks P (avail .now) units (begins .now) (frozen .now) count (owners .now) (derived (sets .now) (minutes .now))
                 (answers .now)
                 (draws .now) b w (t .i) _ _ _ (t .plays) less
 
@@ -732,7 +732,7 @@ module _ {M : Type 1} (𝓤 : URA M) (H : Heap 𝓤) (A : Atoms 𝓤) (W : Given
       begun-values =
           none ∷ filled (vint w64 people) ∷ filled (vint w64 slots) ∷ filled (vint w64 units) ∷ filled (vint w64 count) ∷
           filled (only (slice-vals starts)) ∷ filled (only (slice-vals ends)) ∷ filled (only (slice-vals avail)) ∷
-          filled (only (slice-vals firsts)) ∷ filled (only (slice-vals frozen)) ∷ filled (only (slice-vals owners)) ∷
+          filled (only (slice-vals begins)) ∷ filled (only (slice-vals frozen)) ∷ filled (only (slice-vals owners)) ∷
           filled (only (slice-vals sets)) ∷ filled (only (slice-vals minutes)) ∷ filled (only (slice-vals draws)) ∷
           filled (only (slice-vals answers)) ∷ filled (LL.val S.the-type S′.the-laws b) ∷ none ∷ none ∷ none ∷ none ∷
           none ∷ filled (vptr (owners .ptr .0) (owners .ptr .1)) ∷ filled (only (slice-vals owners)) ∷
@@ -770,7 +770,7 @@ module _ {M : Type 1} (𝓤 : URA M) (H : Heap 𝓤) (A : Atoms 𝓤) (W : Given
             i = 0;
             ls = ls₀;
             long = long₀;
-            plays = playing-starts P (avail .now) units (firsts .now) (frozen .now) count (owners .now) (derived (sets .now)
+            plays = playing-starts P (avail .now) units (begins .now) (frozen .now) count (owners .now) (derived (sets .now)
                 (minutes .now)) (answers .now)
                 (draws .now) b w;
           })))

@@ -3,7 +3,7 @@ use mathlib.Core.Path.{sym, _∙_}
 use native.Mathlib.Omega.{arith}
 use borrow.Author.Needs.{needs}
 use Rattle.rota.specs.Board.{ownerOf}
-use Rattle.rota.specs.Moves.{firstOf, lastOf}
+use Rattle.rota.specs.Moves.{runFirst, runLast}
 use Rattle.rota.proofs.Judged.{fewer-owned}
 use Rattle.rota.proofs.Moved.{run-room, run-frozen, run-unowned, run-stuck, run-nobody, run-beyond, run-given}
 use Rattle.rota.proofs.moves.reassign_run.Statement.{statement}
@@ -57,7 +57,7 @@ cover-of-requires c κs =
     (omega (arith, r .0), omega (arith, r .1, at-pre .1 .1 .0))
 
 returns-3 : tie.Need-returns-3
-unfolding ownerOf firstOf lastOf
+unfolding ownerOf runFirst runLast
 returns-3 c =
     let at-owner-of = c .before .before .before .before .before .before .before .before .before .before .before .owner-of in
     let at-run-start = c .before .before .before .before .before .before .before .run-start in
@@ -76,7 +76,7 @@ returns-3 c =
     .ensures) .each) (at-nth-of .ensures) (c .enum-told .given .1)
 
 returns-4 : tie.Need-returns-4
-unfolding ownerOf firstOf lastOf
+unfolding ownerOf runFirst runLast
 returns-4 c =
     let at-owner-of = c .before .before .before .before .before .before .before .before .before .before .before .owner-of in
     let at-run-start = c .before .before .before .before .before .before .before .run-start in
@@ -95,7 +95,7 @@ returns-4 c =
     .ensures) .each) (at-nth-of .ensures) (c .enum-told2 .given .1)
 
 returns-5 : tie.Need-returns-5
-unfolding ownerOf firstOf lastOf
+unfolding ownerOf runFirst runLast
 returns-5 c =
     let at-owner-of = c .before .before .before .before .before .before .before .before .before .before .before .before .before
     .owner-of in
@@ -117,7 +117,7 @@ returns-5 c =
     .ensures) .each) (at-nth-of .ensures) _ _ (at-p .given .1) (c .give .ensures)
 
 returns-6 : tie.Need-returns-6
-unfolding ownerOf firstOf lastOf
+unfolding ownerOf runFirst runLast
 returns-6 c =
     let at-owner-of = c .before .before .before .before .before .before .before .owner-of in
     let at-run-start = c .before .before .before .run-start in

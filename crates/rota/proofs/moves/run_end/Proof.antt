@@ -11,12 +11,12 @@ use Rattle.rota.proofs.moves.run_end.Statement.{statement}
 use Rattle.rota.proofs.moves.run_end.Tie as tie
 
 abbrev Inv-loop : tie.InvT-loop
-Inv-loop units firsts owners unit owner after n₀ n =
-    (unit + n + 1 ≤ units) × (after ≡ units - unit - 1) × (runEnd units (λ u. getD owners (unitStart firsts u) 0) unit ≡ runEnd units
-    (λ u. getD owners (unitStart firsts u) 0) (unit + n)) × (owner ≡ getD owners (unitStart firsts (unit + n)) 0)
+Inv-loop units begins owners unit owner after n₀ n =
+    (unit + n + 1 ≤ units) × (after ≡ units - unit - 1) × (runEnd units (λ u. getD owners (unitStart begins u) 0) unit ≡ runEnd units
+    (λ u. getD owners (unitStart begins u) 0) (unit + n)) × (owner ≡ getD owners (unitStart begins (unit + n)) 0)
 
 abbrev μ-loop : tie.MeasureT-loop
-μ-loop units firsts owners unit owner after n₀ n = after - n
+μ-loop units begins owners unit owner after n₀ n = after - n
 
 owner-at-requires : tie.Need-owner-at-requires Inv-loop μ-loop
 owner-at-requires c κs =
@@ -30,8 +30,8 @@ loop-holds c =
     let z : (at-args .unit) ≡ (at-args .unit) + 0 = omega arith in (
       omega arith,
       refl,
-      ap (runEnd (at-args .units) (λ u. getD (at-args .owners .now) (unitStart (at-args .firsts .now) u) 0)) z,
-      (c .owner-at .ensures) ∙ ap (λ u. getD (at-args .owners .now) (unitStart (at-args .firsts .now) u) 0) z,
+      ap (runEnd (at-args .units) (λ u. getD (at-args .owners .now) (unitStart (at-args .begins .now) u) 0)) z,
+      (c .owner-at .ensures) ∙ ap (λ u. getD (at-args .owners .now) (unitStart (at-args .begins .now) u) 0) z,
     )
 
 owner-at-requires-2 : tie.Need-owner-at-requires-2 Inv-loop μ-loop
@@ -47,12 +47,12 @@ loop-again c =
     let at-loop = c .before .before .before .loop in
     let at-owner-at2 = c .before .owner-at2 in
     let z : (at-args .unit) + (at-loop .n) + 1 ≡ (at-args .unit) + ((at-loop .n) + 1) = omega arith in
-    let x = end-up (λ u. getD (at-args .owners .now) (unitStart (at-args .firsts .now) u) 0) _ _ _ _ _ _ refl (at-loop .inv .2)
+    let x = end-up (λ u. getD (at-args .owners .now) (unitStart (at-args .begins .now) u) 0) _ _ _ _ _ _ refl (at-loop .inv .2)
     (at-loop .inv .3) (omega arith) (at-owner-at2 .ensures) (c .if1 .taken) in (
       omega arith,
       (at-loop .inv .1),
-      (x .0) ∙ ap (runEnd (at-args .units) (λ u. getD (at-args .owners .now) (unitStart (at-args .firsts .now) u) 0)) z,
-      (x .1) ∙ ap (λ u. getD (at-args .owners .now) (unitStart (at-args .firsts .now) u) 0) z,
+      (x .0) ∙ ap (runEnd (at-args .units) (λ u. getD (at-args .owners .now) (unitStart (at-args .begins .now) u) 0)) z,
+      (x .1) ∙ ap (λ u. getD (at-args .owners .now) (unitStart (at-args .begins .now) u) 0) z,
     )
 
 returns : tie.Need-returns Inv-loop μ-loop
@@ -60,7 +60,7 @@ returns c =
     let at-args = c .before .before .before .before .before .before .before .args in
     let at-loop = c .before .before .before .loop in
     let at-owner-at2 = c .before .owner-at2 in
-    end-here (λ u. getD (at-args .owners .now) (unitStart (at-args .firsts .now) u) 0) _ _ _ _ _ _ refl (at-loop .inv .2)
+    end-here (λ u. getD (at-args .owners .now) (unitStart (at-args .begins .now) u) 0) _ _ _ _ _ _ refl (at-loop .inv .2)
     (at-loop .inv .3) (omega arith) (at-owner-at2 .ensures) (c .if1 .left)
 
 returns-2 : tie.Need-returns-2 Inv-loop μ-loop
@@ -68,7 +68,7 @@ returns-2 c =
     let at-args = c .before .before .before .before .before .args in
     let at-loop = c .before .loop in
     let z : (at-args .units) - 1 ≡ (at-args .unit) + (at-loop .n) = omega arith in
-    z ∙ end-none (λ u. getD (at-args .owners .now) (unitStart (at-args .firsts .now) u) 0) _ _ _ ((at-args .unit) + (at-loop .n) + 1) _
+    z ∙ end-none (λ u. getD (at-args .owners .now) (unitStart (at-args .begins .now) u) 0) _ _ _ ((at-args .unit) + (at-loop .n) + 1) _
     0 refl (at-loop .inv .2) (at-loop .inv .3) (omega arith)
 
 pub run-end-spec : {M : Type 1} → statement M

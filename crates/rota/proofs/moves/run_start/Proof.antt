@@ -11,12 +11,12 @@ use Rattle.rota.proofs.moves.run_start.Statement.{statement}
 use Rattle.rota.proofs.moves.run_start.Tie as tie
 
 abbrev Inv-loop : tie.InvT-loop
-Inv-loop firsts owners unit owner n₀ n =
-    (n ≤ unit) × (runStart (λ u. getD owners (unitStart firsts u) 0) unit ≡ runStart (λ u. getD owners (unitStart firsts u) 0)
-    (unit - n)) × (owner ≡ getD owners (unitStart firsts (unit - n)) 0)
+Inv-loop begins owners unit owner n₀ n =
+    (n ≤ unit) × (runStart (λ u. getD owners (unitStart begins u) 0) unit ≡ runStart (λ u. getD owners (unitStart begins u) 0)
+    (unit - n)) × (owner ≡ getD owners (unitStart begins (unit - n)) 0)
 
 abbrev μ-loop : tie.MeasureT-loop
-μ-loop firsts owners unit owner n₀ n = unit - n
+μ-loop begins owners unit owner n₀ n = unit - n
 
 owner-at-requires : tie.Need-owner-at-requires Inv-loop μ-loop
 owner-at-requires c κs =
@@ -29,8 +29,8 @@ loop-holds c =
     let at-args = c .before .before .before .args in
     let z : (at-args .unit) ≡ (at-args .unit) - 0 = omega arith in (
       search needs,
-      ap (runStart (λ u. getD (at-args .owners .now) (unitStart (at-args .firsts .now) u) 0)) z,
-      (c .owner-at .ensures) ∙ ap (λ u. getD (at-args .owners .now) (unitStart (at-args .firsts .now) u) 0) z,
+      ap (runStart (λ u. getD (at-args .owners .now) (unitStart (at-args .begins .now) u) 0)) z,
+      (c .owner-at .ensures) ∙ ap (λ u. getD (at-args .owners .now) (unitStart (at-args .begins .now) u) 0) z,
     )
 
 owner-at-requires-2 : tie.Need-owner-at-requires-2 Inv-loop μ-loop
@@ -46,11 +46,11 @@ loop-again c =
     let at-loop = c .before .before .before .loop in
     let at-owner-at2 = c .before .owner-at2 in
     let z : (at-args .unit) - (at-loop .n) - 1 ≡ (at-args .unit) - ((at-loop .n) + 1) = omega arith in
-    let x = start-down (λ u. getD (at-args .owners .now) (unitStart (at-args .firsts .now) u) 0) _ _ _ _ (omega arith) (at-loop .inv .1)
+    let x = start-down (λ u. getD (at-args .owners .now) (unitStart (at-args .begins .now) u) 0) _ _ _ _ (omega arith) (at-loop .inv .1)
     (at-loop .inv .2) (at-owner-at2 .ensures) (c .if1 .taken) in (
       omega arith,
-      (x .0) ∙ ap (runStart (λ u. getD (at-args .owners .now) (unitStart (at-args .firsts .now) u) 0)) z,
-      (x .1) ∙ ap (λ u. getD (at-args .owners .now) (unitStart (at-args .firsts .now) u) 0) z,
+      (x .0) ∙ ap (runStart (λ u. getD (at-args .owners .now) (unitStart (at-args .begins .now) u) 0)) z,
+      (x .1) ∙ ap (λ u. getD (at-args .owners .now) (unitStart (at-args .begins .now) u) 0) z,
     )
 
 returns : tie.Need-returns Inv-loop μ-loop
@@ -58,14 +58,14 @@ returns c =
     let at-args = c .before .before .before .before .before .before .before .args in
     let at-loop = c .before .before .before .loop in
     let at-owner-at2 = c .before .owner-at2 in
-    start-here (λ u. getD (at-args .owners .now) (unitStart (at-args .firsts .now) u) 0) _ _ _ _ (omega arith) (at-loop .inv .1)
+    start-here (λ u. getD (at-args .owners .now) (unitStart (at-args .begins .now) u) 0) _ _ _ _ (omega arith) (at-loop .inv .1)
     (at-loop .inv .2) (at-owner-at2 .ensures) (c .if1 .left)
 
 returns-2 : tie.Need-returns-2 Inv-loop μ-loop
 returns-2 c =
     let at-args = c .before .before .before .before .before .args in
     let at-loop = c .before .loop in
-    start-none (λ u. getD (at-args .owners .now) (unitStart (at-args .firsts .now) u) 0) _ ((at-args .unit) - (at-loop .n)) (omega
+    start-none (λ u. getD (at-args .owners .now) (unitStart (at-args .begins .now) u) 0) _ ((at-args .unit) - (at-loop .n)) (omega
     arith) (at-loop .inv .1)
 
 pub run-start-spec : {M : Type 1} → statement M

@@ -2,7 +2,7 @@
 use mathlib.Core.Path.{sym, _∙_}
 use borrow.Author.Needs.{needs}
 use Rattle.rota.specs.Board.{ownerOf}
-use Rattle.rota.specs.Moves.{firstOf, lastOf}
+use Rattle.rota.specs.Moves.{runFirst, runLast}
 use Rattle.rota.proofs.Judged.{fewer-owned}
 use Rattle.rota.proofs.Moved.{shift-frozen, shift-unowned, shift-beyond, shift-grows, shift-shrinks}
 use Rattle.rota.proofs.moves.shift_boundary.Statement.{statement}
@@ -34,7 +34,7 @@ run-start-requires c κs =
     fewer-owned _ _ _ _ (at-pre .0) (at-pre .1)
 
 returns-4 : tie.Need-returns-4
-unfolding ownerOf firstOf
+unfolding ownerOf runFirst
 returns-4 c =
     let at-owner-of = c .before .before .before .before .before .before .before .owner-of in
     let at-is-frozen = c .before .before .before .before .before .before .is-frozen in
@@ -47,7 +47,7 @@ returns-4 c =
     .left) (at-run-start .ensures) (at-if4 .taken) (c .grow .ensures)
 
 returns-5 : tie.Need-returns-5
-unfolding ownerOf firstOf lastOf
+unfolding ownerOf runFirst runLast
 returns-5 c =
     let at-owner-of = c .before .before .before .before .before .before .before .before .owner-of in
     let at-is-frozen = c .before .before .before .before .before .before .before .is-frozen in

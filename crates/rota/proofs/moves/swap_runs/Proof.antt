@@ -4,7 +4,7 @@ use native.Mathlib.Omega.{arith}
 use borrow.Author.Needs.{needs}
 use Rattle.rota.specs.Board.{ownerOf}
 use Rattle.rota.specs.Ready.{runsFit}
-use Rattle.rota.specs.Moves.{firstOf, lastOf}
+use Rattle.rota.specs.Moves.{runFirst, runLast}
 use Rattle.rota.proofs.Judged.{fewer-owned}
 use Rattle.rota.proofs.Moved.{run-room, runs-first-frozen, runs-second-frozen, runs-first-unowned, runs-second-unowned}
 use Rattle.rota.proofs.Moved.{runs-owner, runs-same, runs-unfit, runs-act}
@@ -63,7 +63,7 @@ run-end-requires-2 c κs =
     (at-pre .0 .1, at-pre .1 .0)
 
 returns-6 : tie.Need-returns-6
-unfolding ownerOf firstOf lastOf
+unfolding ownerOf runFirst runLast
 returns-6 c =
     let at-owner-of = c .before .before .before .before .before .before .before .before .before .before .before .before .before
     .owner-of in
@@ -110,7 +110,7 @@ runs-fit-requires c κs =
     )
 
 returns-7 : tie.Need-returns-7
-unfolding ownerOf firstOf lastOf runsFit
+unfolding ownerOf runFirst runLast runsFit
 returns-7 c =
     let at-owner-of = c .before .before .before .before .before .before .before .before .before .before .before .before .before
     .before .before .before .owner-of in
@@ -140,7 +140,7 @@ returns-7 c =
     (at-if4 .left) (at-if6 .left) (at-if5 .left) (sym (at-runs-fit .ensures) ∙ (at-if7 .taken)) (c .trade .ensures)
 
 returns-8 : tie.Need-returns-8
-unfolding ownerOf firstOf lastOf runsFit
+unfolding ownerOf runFirst runLast runsFit
 returns-8 c =
     let at-owner-of = c .before .before .before .before .before .before .before .before .before .before .before .before .before
     .before .before .owner-of in

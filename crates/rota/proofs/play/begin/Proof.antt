@@ -17,10 +17,10 @@ frozen-of-requires : tie.Need-frozen-of-requires
 frozen-of-requires c κs =
     let c8 = c .before .before .before .before .before .before .before .before in
     let a = c8 .before .before .before .before .before .before .args in
-    let A = play-asks (plan (a .people) (a .slots) (a .starts .now) (a .ends .now)) (a .avail .now) (a .units) (a .firsts .now)
+    let A = play-asks (plan (a .people) (a .slots) (a .starts .now) (a .ends .now)) (a .avail .now) (a .units) (a .begins .now)
     (a .frozen .now) (a .count) (a .enough) (a .owners .now) (derived (a .sets .now) (a .minutes .now)) (a .answers .now)
-    (sym (said _ (c .before .before .before .before .play-no .ensures)) ∙ c .before .before .before .if1 .taken) in
-    let G = A .grounds in
+    (sym (said _ (c .before .before .before .before .play-refusal .ensures)) ∙ c .before .before .before .if1 .taken) in
+    let G = A .right in
     ((G .on .sound .slots-few, asks-few _ _ _ _ _ _ _ _ _ _ A, G .flags), unit-room _ _ _ (G .units-ok))
 
 returns : tie.Need-returns
@@ -29,9 +29,9 @@ returns c =
     let marks : length (c .frozen-of .result) ≡ 1024 = search needs in
     let c8 = c .before .before .before .before .before .before .before .before in
     let a = c8 .before .before .before .before .before .before .before .args in
-    let no = said _ (c .before .before .before .before .before .play-no .ensures) in
+    let no = said _ (c .before .before .before .before .before .play-refusal .ensures) in
     let e = c .before .before .before .before .if1 .taken in
-    let A = play-asks (plan (a .people) (a .slots) (a .starts .now) (a .ends .now)) (a .avail .now) (a .units) (a .firsts .now)
+    let A = play-asks (plan (a .people) (a .slots) (a .starts .now) (a .ends .now)) (a .avail .now) (a .units) (a .begins .now)
     (a .frozen .now) (a .count) (a .enough) (a .owners .now) (derived (a .sets .now) (a .minutes .now)) (a .answers .now) (sym no ∙ e) in
     record {
       number = no;
@@ -48,7 +48,7 @@ returns-2 c =
     let a = c .before .before .before .before .before .before .before .before .before .before .before .args in
     let e = c .if1 .left in
     record {
-      number = said _ (c .before .play-no .ensures);
+      number = said _ (c .before .play-refusal .ensures);
       todo = sym (ap (λ (t : Bool). cond t (a .count) 0) (ne-eqb _ 0 e));
       fits = λ z. absurd (e z);
       flags = λ z. absurd (e z);

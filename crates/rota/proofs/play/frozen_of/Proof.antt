@@ -13,18 +13,18 @@ use Rattle.rota.proofs.play.frozen_of.Statement.{statement}
 use Rattle.rota.proofs.play.frozen_of.Tie as tie
 
 abbrev Inv-loop : tie.InvT-loop
-Inv-loop slots units firsts frozen flags₀ u₀ flags u =
-    (u ≤ units) × (length flags ≡ 1024) × ((v : ℕ) → frozenBy flags v ≡ ltb v u && unitFrozen frozen slots units firsts v)
+Inv-loop slots units begins frozen flags₀ u₀ flags u =
+    (u ≤ units) × (length flags ≡ 1024) × ((v : ℕ) → frozenBy flags v ≡ ltb v u && unitFrozen frozen slots units begins v)
 
 abbrev μ-loop : tie.MeasureT-loop
-μ-loop slots units firsts frozen flags₀ u₀ flags u = units - u
+μ-loop slots units begins frozen flags₀ u₀ flags u = units - u
 
 loop-holds : tie.Need-loop-holds Inv-loop μ-loop
 loop-holds c =
     let at-args = c .before .before .args in (
       search needs,
       search needs,
-      marks-none (at-args .slots) (at-args .units) (at-args .firsts .now) (at-args .frozen .now)
+      marks-none (at-args .slots) (at-args .units) (at-args .begins .now) (at-args .frozen .now)
           1024,
     )
 
@@ -44,7 +44,7 @@ loop-again c =
     let at-unit-end = c .before .unit-end in (
       omega arith,
       simp length-set (at-loop .inv .1),
-      marks-more (at-args .slots) (at-args .units) (at-args .firsts .now)
+      marks-more (at-args .slots) (at-args .units) (at-args .begins .now)
           (at-args .frozen .now) _ _ _ _ _ (omega (arith, (at-loop .inv .1), (at-pre .0 .1))) (at-start-of .ensures) (at-unit-end
           .ensures) (c .mark-of .ensures) (at-loop .inv .2),
     )
@@ -53,7 +53,7 @@ returns : tie.Need-returns Inv-loop μ-loop
 returns c =
     let at-args = c .before .before .before .before .args in
     let at-loop = c .before .loop in
-    marks-done (at-args .slots) (at-args .units) (at-args .firsts .now) (at-args .frozen .now) _ (at-loop .u) (omega arith)
+    marks-done (at-args .slots) (at-args .units) (at-args .begins .now) (at-args .frozen .now) _ (at-loop .u) (omega arith)
     (at-loop .inv .2)
 
 pub frozen-of-spec : {M : Type 1} → statement M

@@ -11,13 +11,13 @@ use Rattle.rota.proofs.play.run.Statement.{statement}
 use Rattle.rota.proofs.play.run.Tie as tie
 
 abbrev Inv-loop : tie.InvT-loop
-Inv-loop people slots units count starts ends firsts fits flags owners₀ sets₀ minutes₀ kinds ones twos answers₀ i₀ owners sets
+Inv-loop people slots units count starts ends begins fits flags draws firsts seconds owners₀ sets₀ minutes₀ answers₀ i₀ owners sets
     minutes answers i =
-    (i ≤ count) × Ran (plan people slots starts ends) (ready people slots units firsts fits flags) owners₀ (derived sets₀
-    minutes₀) answers₀ (drawsOf kinds ones twos i) owners (derived sets minutes) answers
+    (i ≤ count) × Ran (plan people slots starts ends) (ready people slots units begins fits flags) owners₀ (derived sets₀
+    minutes₀) answers₀ (drawsOf draws firsts seconds i) owners (derived sets minutes) answers
 
 abbrev μ-loop : tie.MeasureT-loop
-μ-loop people slots units count starts ends firsts fits flags owners₀ sets₀ minutes₀ kinds ones twos answers₀ i₀ owners sets minutes
+μ-loop people slots units count starts ends begins fits flags draws firsts seconds owners₀ sets₀ minutes₀ answers₀ i₀ owners sets minutes
     answers i =
     count - i
 
@@ -26,14 +26,14 @@ unfolding drawsOf
 loop-holds c =
     let c8 = c .before .before .before .before .before .before .before .before in
     let p = c8 .before .before .before .before .pre in
-    let words = c .before .before .before .before .before .slice-known2 in
+    let words = c .before .before .slice-known2 in
     (search needs, ran-start _ _ _ _ _ (p .0 .slots-few) (λ j. omega (arith, (words .given) j)) (p .1 .0))
 
 shared-slice-read-step-at : tie.Need-shared-slice-read-step-at Inv-loop μ-loop
 shared-slice-read-step-at c =
     let c8 = c .before .before .before .before .before .before .before .before in
     let c16 = c8 .before .before .before .before .before .before .before .before in
-    omega (arith, c16 .before .before .pre .1 .1 .1 .1 .0 .kinds)
+    omega (arith, c16 .before .before .pre .1 .1 .1 .1 .0 .draws)
 
 shared-slice-read-step-at-2 : tie.Need-shared-slice-read-step-at-2 Inv-loop μ-loop
 shared-slice-read-step-at-2 c =
@@ -79,7 +79,7 @@ loop-again c =
     let c16 = c8 .before .before .before .before .before .before .before .before in
     let c24 = c16 .before .before .before .before .before .before .before .before in
     let p = c24 .before .before .before .before .before .before .pre in
-    let words = c16 .before .before .before .before .before .before .before .slice-known2 in (
+    let words = c16 .before .before .before .before .slice-known2 in (
       omega arith,
       columns-more _ _ _ _ _ _ _ _ _ _ _ _ (c16 .before .loop .inv .1) _ _ _ (p .0 .slots-few) (p .1 .0 .sets-room)
           (λ j. omega (arith, (words .given) j)) (omega (arith, p .1 .1 .1 .1 .0 .answers)) (c8 .step-at .ensures),

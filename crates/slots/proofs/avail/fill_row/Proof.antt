@@ -28,23 +28,23 @@ mul-base c =
 loop-holds : tie.Need-loop-holds Inv-loop μ-loop
 loop-holds c = (search needs, refl, sym (puts-none _ _ _ _), omega arith, λ j h i a b. absurd (omega arith))
 
-mul-opened-on : tie.Need-mul-opened-on Inv-loop μ-loop
-mul-opened-on c =
+mul-opened-by-from : tie.Need-mul-opened-by-from Inv-loop μ-loop
+mul-opened-by-from c =
     let pre = c .before .before .before .before .before .before .pre in
     let T = pre .1 .0 .1 in omega (arith, c .loop-test .taken, T .starts-room)
 
-shared-slice-read-opened-on : tie.Need-shared-slice-read-opened-on Inv-loop μ-loop
-shared-slice-read-opened-on c =
+shared-slice-read-opened-by-from : tie.Need-shared-slice-read-opened-by-from Inv-loop μ-loop
+shared-slice-read-opened-by-from c =
     let pre = c .before .before .before .before .before .before .before .pre in
     let T = pre .1 .0 .1 in omega (arith, c .before .loop-test .taken, T .starts-room)
 
-cast-opened-on : tie.Need-cast-opened-on Inv-loop μ-loop
-cast-opened-on c =
+cast-opened-by-from : tie.Need-cast-opened-by-from Inv-loop μ-loop
+cast-opened-by-from c =
     let pre = c .before .before .before .before .before .before .before .pre in
     let T = pre .1 .0 .1 in omega (arith, T .ordered _ (c .before .loop-test .taken), T .capped _ (c .before .loop-test .taken))
 
-add-opened-on : tie.Need-add-opened-on Inv-loop μ-loop
-add-opened-on c =
+add-opened-by-from : tie.Need-add-opened-by-from Inv-loop μ-loop
+add-opened-by-from c =
     let pre = c .before .before .before .before .before .before .before .pre in
     let loop = c .before .before .loop in
     let T = pre .1 .0 .1 in
@@ -58,8 +58,8 @@ add-opened-on c =
           (c .before .loop-test .taken),
     )
 
-opened-on-requires : tie.Need-opened-on-requires Inv-loop μ-loop
-opened-on-requires c κs =
+opened-by-from-requires : tie.Need-opened-by-from-requires Inv-loop μ-loop
+opened-by-from-requires c κs =
     let pre = c .before .before .before .before .before .before .before .pre in
     let loop = c .before .before .loop in
     ((pre .0 .0, pre .0 .1, pre .0 .2), (loop .inv .3, λ j h. loop .inv .4 j h _ (omega arith) (c .before .loop-test .taken)))
@@ -92,7 +92,7 @@ add-reaches c =
 reaches-requires : tie.Need-reaches-requires Inv-loop μ-loop
 reaches-requires c κs =
     let pre = c .before .before .before .before .before .before .before .before .before .pre in
-    let few = c .before .opened-on .ensures .few in
+    let few = c .before .opened-by-from .ensures .few in
     (omega (arith, few, pre .0 .0), omega (arith, few, pre .0 .1))
 
 add-put-stretch : tie.Need-add-put-stretch Inv-loop μ-loop
@@ -118,7 +118,7 @@ loop-again c =
     let loop-test = c .before .before .before .before .before .before .before .before .loop-test in
     let args = c .before .before .before .before .before .before .before .before .before .before .before .before .before .before .args in
     let pre = c .before .before .before .before .before .before .before .before .before .before .before .before .before .before .pre in
-    let opened-on = c .before .before .before .before .before .before .opened-on in
+    let opened-by-from = c .before .before .before .before .before .before .opened-by-from in
     let reaches = c .before .before .before .before .reaches in
     let put-stretch = c .before .before .put-stretch in
     let inv = loop .inv in
@@ -129,11 +129,11 @@ loop-again c =
       inv .1,
       row-turn (take (args .n) (args .keys .now)) (args .starts .now) (args .ends .now) _ _ _ _ _ _ _ _ _ (pre .1 .1 .0) (pre .1 .0 .0)
           (pre .1 .1 .2) (pre .1 .1 .1) (inv .1) (inv .2) h
-          (covered-by (args .keys .now) (args .n) (pre .0 .1) (pre .0 .2) _ _ _ (opened-on .ensures)
+          (covered-by (args .keys .now) (args .n) (pre .0 .1) (pre .0 .2) _ _ _ (opened-by-from .ensures)
           (omega (arith, order)) _ (reaches .ensures))
           (put-stretch .ensures .1),
-      opened-on .ensures .few,
-      λ j g i a b. omega (arith, opened-on .ensures .by j g, T .ascending (loop .k) i (omega arith) b, order),
+      opened-by-from .ensures .few,
+      λ j g i a b. omega (arith, opened-by-from .ensures .by j g, T .ascending (loop .k) i (omega arith) b, order),
     )
 
 same-length : tie.Need-same-length Inv-loop μ-loop
@@ -150,11 +150,11 @@ fill-row-spec =
     μ-loop
     mul-base
     loop-holds
-    mul-opened-on
-    shared-slice-read-opened-on
-    cast-opened-on
-    add-opened-on
-    opened-on-requires
+    mul-opened-by-from
+    shared-slice-read-opened-by-from
+    cast-opened-by-from
+    add-opened-by-from
+    opened-by-from-requires
     mul-reaches
     shared-slice-read-reaches
     cast-reaches

@@ -13,12 +13,12 @@ use Rattle.slots.proofs.merge.take_apart.Statement.{statement}
 use Rattle.slots.proofs.merge.take_apart.Tie as tie
 
 abbrev Inv-loop : tie.InvT-loop
-Inv-loop keys n persons₀ starts₀ ends₀ i₀ persons starts ends i =
-    (i ≤ n) × (persons ≡ over (λ k. personOf (getD keys k 0)) i persons₀) × (starts ≡ over (λ k. startOf (getD keys k 0)) i starts₀)
-    × (ends ≡ over (λ k. endOf (getD keys k 0)) i ends₀)
+Inv-loop keys n whose₀ froms₀ tos₀ i₀ whose froms tos i =
+    (i ≤ n) × (whose ≡ over (λ k. personOf (getD keys k 0)) i whose₀) × (froms ≡ over (λ k. startOf (getD keys k 0)) i froms₀)
+    × (tos ≡ over (λ k. endOf (getD keys k 0)) i tos₀)
 
 abbrev μ-loop : tie.MeasureT-loop
-μ-loop keys n persons₀ starts₀ ends₀ i₀ persons starts ends i = n - i
+μ-loop keys n whose₀ froms₀ tos₀ i₀ whose froms tos i = n - i
 
 loop-holds : tie.Need-loop-holds Inv-loop μ-loop
 loop-holds c = (search needs, sym (over-none _ _), sym (over-none _ _), sym (over-none _ _))
@@ -33,58 +33,58 @@ shared-slice-read-key c =
     let pre = c .before .before .before .before .before .before .before .pre in
     omega (arith, c .before .loop-test .taken, pre .0 .1)
 
-cast-persons : tie.Need-cast-persons Inv-loop μ-loop
-cast-persons c =
+cast-whose : tie.Need-cast-whose Inv-loop μ-loop
+cast-whose c =
     let pre = c .before .before .before .before .before .before .before .before .pre in
     let loop-test = c .before .before .loop-test in
     omega (arith, c .person-of .ensures, pre .0 .2 _ (loop-test .taken))
 
-mul-persons : tie.Need-mul-persons Inv-loop μ-loop
-mul-persons c =
+mul-whose : tie.Need-mul-whose Inv-loop μ-loop
+mul-whose c =
     let loop-test = c .before .before .loop-test in
     let pre = c .before .before .before .before .before .before .before .before .pre in
     omega (arith, loop-test .taken, pre .0 .0)
 
-slice-write-persons : tie.Need-slice-write-persons Inv-loop μ-loop
-slice-write-persons c =
+slice-write-whose : tie.Need-slice-write-whose Inv-loop μ-loop
+slice-write-whose c =
     let loop = c .before .before .before .loop in
     let pre = c .before .before .before .before .before .before .before .before .pre in
     let loop-test = c .before .before .loop-test in
     column-room _ _ _ _ _ (loop .inv .1) (pre .1 .0) (loop-test .taken)
 
-cast-starts : tie.Need-cast-starts Inv-loop μ-loop
-cast-starts c =
+cast-froms : tie.Need-cast-froms Inv-loop μ-loop
+cast-froms c =
     let args = c .before .before .before .before .before .before .before .before .before .args in
     let loop = c .before .before .before .before .loop in
     omega (arith, c .start-of .ensures, start-lt (getD (args .keys .now) (loop .i) 0))
 
-mul-starts : tie.Need-mul-starts Inv-loop μ-loop
-mul-starts c =
+mul-froms : tie.Need-mul-froms Inv-loop μ-loop
+mul-froms c =
     let loop-test = c .before .before .before .loop-test in
     let pre = c .before .before .before .before .before .before .before .before .before .pre in
     omega (arith, loop-test .taken, pre .0 .0)
 
-slice-write-starts : tie.Need-slice-write-starts Inv-loop μ-loop
-slice-write-starts c =
+slice-write-froms : tie.Need-slice-write-froms Inv-loop μ-loop
+slice-write-froms c =
     let loop = c .before .before .before .before .loop in
     let pre = c .before .before .before .before .before .before .before .before .before .pre in
     let loop-test = c .before .before .before .loop-test in
     column-room _ _ _ _ _ (loop .inv .2) (pre .1 .1) (loop-test .taken)
 
-cast-ends : tie.Need-cast-ends Inv-loop μ-loop
-cast-ends c =
+cast-tos : tie.Need-cast-tos Inv-loop μ-loop
+cast-tos c =
     let args = c .before .before .before .before .before .before .before .before .before .before .args in
     let loop = c .before .before .before .before .before .loop in
     omega (arith, c .end-of .ensures, end-lt (getD (args .keys .now) (loop .i) 0))
 
-mul-ends : tie.Need-mul-ends Inv-loop μ-loop
-mul-ends c =
+mul-tos : tie.Need-mul-tos Inv-loop μ-loop
+mul-tos c =
     let loop-test = c .before .before .before .before .loop-test in
     let pre = c .before .before .before .before .before .before .before .before .before .before .pre in
     omega (arith, loop-test .taken, pre .0 .0)
 
-slice-write-ends : tie.Need-slice-write-ends Inv-loop μ-loop
-slice-write-ends c =
+slice-write-tos : tie.Need-slice-write-tos Inv-loop μ-loop
+slice-write-tos c =
     let loop = c .before .before .before .before .before .loop in
     let pre = c .before .before .before .before .before .before .before .before .before .before .pre in
     let loop-test = c .before .before .before .before .loop-test in
@@ -141,17 +141,17 @@ take-apart-spec =
     mul-key
     shared-slice-read-key
     (λ c κs. search needs)
-    cast-persons
-    mul-persons
-    slice-write-persons
+    cast-whose
+    mul-whose
+    slice-write-whose
     (λ c κs. search needs)
-    cast-starts
-    mul-starts
-    slice-write-starts
+    cast-froms
+    mul-froms
+    slice-write-froms
     (λ c κs. search needs)
-    cast-ends
-    mul-ends
-    slice-write-ends
+    cast-tos
+    mul-tos
+    slice-write-tos
     add-i
     loop-less
     loop-again

@@ -10,10 +10,10 @@ use Rattle.slotset.proofs.row.all_same.Statement.{statement}
 use Rattle.slotset.proofs.row.all_same.Tie as tie
 
 abbrev Inv-loop : tie.InvT-loop
-Inv-loop a b people len p₀ p = (p ≤ people) × (sameSets a b p len ≡ true)
+Inv-loop people len a b p₀ p = (p ≤ people) × (sameSets a b p len ≡ true)
 
 abbrev μ-loop : tie.MeasureT-loop
-μ-loop a b people len p₀ p = people - p
+μ-loop people len a b p₀ p = people - p
 
 loop-holds : tie.Need-loop-holds Inv-loop μ-loop
 unfolding sameSets

@@ -12,27 +12,27 @@ use Rattle.slotset.proofs.row.store.Tie as tie
 mul-copy-slots : tie.Need-mul-copy-slots
 mul-copy-slots c =
     let k = c .before .before .before in
-    let r = row-says _ _ _ _ (sym (said _ (k .before .row-no .ensures)) ∙ k .if1 .taken) in
+    let r = row-says _ _ _ _ (sym (said _ (k .before .row-refusal .ensures)) ∙ k .if1 .taken) in
     omega (arith, r .few, r .known)
 
 copy-slots-requires : tie.Need-copy-slots-requires
 copy-slots-requires c κs =
     let k = c .before .before .before in
     let n : length (k .before .before .before .before .args .set .words) ≡ 16 = search needs in
-    let r = row-says _ _ _ _ (sym (said _ (k .before .row-no .ensures)) ∙ k .if1 .taken) in
+    let r = row-says _ _ _ _ (sym (said _ (k .before .row-refusal .ensures)) ∙ k .if1 .taken) in
     (r .words, r .short, n)
 
 returns : tie.Need-returns
 unfolding storeOf
 returns c =
     let k = c .before .before .before .before .before .before in (
-      sym (k .if1 .taken) ∙ said _ (k .before .row-no .ensures),
-      work-is _ _ (said _ (k .before .row-no .ensures)) (k .if1 .taken) _ _ _ (c .before .before .copy-slots .ensures),
+      sym (k .if1 .taken) ∙ said _ (k .before .row-refusal .ensures),
+      work-is _ _ (said _ (k .before .row-refusal .ensures)) (k .if1 .taken) _ _ _ (c .before .before .copy-slots .ensures),
     )
 
 returns-2 : tie.Need-returns-2
 unfolding storeOf
-returns-2 c = (said _ (c .before .row-no .ensures), old-is _ _ (said _ (c .before .row-no .ensures)) (c .if1 .left) _ _)
+returns-2 c = (said _ (c .before .row-refusal .ensures), old-is _ _ (said _ (c .before .row-refusal .ensures)) (c .if1 .left) _ _)
 
 pub store-spec : {M : Type 1} → statement M
 store-spec =

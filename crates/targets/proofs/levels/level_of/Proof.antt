@@ -18,7 +18,7 @@ abbrev μ-loop : tie.MeasureT-loop
 loop-holds : tie.Need-loop-holds Inv-loop μ-loop
 loop-holds c =
     let e = c .before in
-    let h = level-start (e .args .minutes) (e .args .lines) (c .smallest-of .ensures .0) (e .pre .1) (e .pre .2) in
+    let h = level-start (e .args .minutes) (e .args .standings) (c .smallest-of .ensures .0) (e .pre .1) (e .pre .2) in
     (omega arith, omega arith, h .0, h .1)
 
 loop-again : tie.Need-loop-again Inv-loop μ-loop

@@ -12,7 +12,8 @@ returns : tie.Need-returns
 returns c =
     let a = c .before .before .before .args in
     let l = c .before .before .level-of in
-    lifts-by (a .minutes) (l .result) (a .lines) (l .ensures .0) (l .ensures .1) (c .before .lift-cost .ensures) (c .lifted-lines .ensures)
+    lifts-by (a .minutes) (l .result) (a .standings) (l .ensures .0) (l .ensures .1) (c .before .lift-cost .ensures)
+    (c .lifted-standings .ensures)
 
 pub lifted-by-spec : {M : Type 1} → statement M
 lifted-by-spec =

@@ -9,8 +9,8 @@ returns : tie.Need-returns
 unfolding ofBits
 returns c = rw (c .before .before .if1 .taken, ← c .before .some-outside .ensures, c .if2 .taken)
 
-settled-lines-requires : tie.Need-settled-lines-requires
-settled-lines-requires c κs = sym (c .before .some-outside .ensures) ∙ c .if2 .left
+settled-standings-requires : tie.Need-settled-standings-requires
+settled-standings-requires c κs = sym (c .before .some-outside .ensures) ∙ c .if2 .left
 
 returns-2 : tie.Need-returns-2
 unfolding ofBits
@@ -20,9 +20,9 @@ returns-2 c =
       o .before .if1 .taken,
       ← o .some-outside .ensures,
       c .before .before .before .if2 .left,
-      ← c .before .some-fall .ensures,
+      ← c .before .some-below-zero .ensures,
       c .if3 .taken,
-      c .before .before .settled-lines .ensures,
+      c .before .before .settled-standings .ensures,
     )
 
 returns-3 : tie.Need-returns-3
@@ -33,9 +33,9 @@ returns-3 c =
       o .before .if1 .taken,
       ← o .some-outside .ensures,
       c .before .before .before .if2 .left,
-      ← c .before .some-fall .ensures,
+      ← c .before .some-below-zero .ensures,
       c .if3 .left,
-      c .before .before .settled-lines .ensures,
+      c .before .before .settled-standings .ensures,
     )
 
 returns-4 : tie.Need-returns-4
@@ -48,7 +48,7 @@ passed-over-spec =
     (tie.spec
     (λ c κs. search needs)
     returns
-    settled-lines-requires
+    settled-standings-requires
     (λ c κs. search needs)
     returns-2
     returns-3

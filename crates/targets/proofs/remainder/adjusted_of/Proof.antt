@@ -4,11 +4,11 @@ use mathlib.Core.Path.{ap, _∙_}
 use borrow.Author.Needs.{sfits-of}
 use mir.Facts.{toZ-ofZ}
 use Rattle.targets.specs.declared.Best.{Best}
-use Rattle.targets.specs.declared.Line.{Line}
+use Rattle.targets.specs.declared.Standing.{Standing}
 use Rattle.targets.specs.Figures.{pad}
 use Rattle.targets.specs.Inside.{SmallTarget}
 use Rattle.targets.proofs.Each.{each-at}
-use Rattle.targets.proofs.Taker.{same-line, adjusted-by}
+use Rattle.targets.proofs.Taker.{same-standing, adjusted-by}
 use borrow.Author.Needs.{needs}
 use Rattle.targets.proofs.remainder.adjusted_of.Statement.{statement}
 use Rattle.targets.proofs.remainder.adjusted_of.Tie as tie
@@ -25,7 +25,7 @@ returns c =
     adjusted-by (a .t1) (a .demand)
     (c .before .before .before .before .signed-of .ensures)
     (ap (λ (x : Best). x .at) (b .ensures .0))
-    (ap (λ (l : Line). l .target) (same-line (a .t1) (b .result .at) _ pad (omega arith)))
+    (ap (λ (l : Standing). l .target) (same-standing (a .t1) (b .result .at) _ pad (omega arith)))
     (c .before .before .before .total-of .ensures .0)
     (toZ-ofZ (sfits-of (c .with-rest .ok)) ∙ c .with-rest .ensures)
 

@@ -14,14 +14,14 @@ use Rattle.targets.proofs.spread.spread_of.Tie as tie
 handed-out-requires : tie.Need-handed-out-requires
 handed-out-requires c κs =
     let e = c .before in
-    let n : length (e .args .lines) ≡ 32 = search needs in
-    part-ready (e .args .people) (e .args .lines) (e .pre .0) (omega arith) (e .pre .2) (e .pre .3) (c .taking-part .ensures)
+    let n : length (e .args .standings) ≡ 32 = search needs in
+    part-ready (e .args .people) (e .args .standings) (e .pre .0) (omega arith) (e .pre .2) (e .pre .3) (c .taking-part .ensures)
 
 signed-of-requires : tie.Need-signed-of-requires
 signed-of-requires c κs =
     let e = c .before .before in
-    let n : length (e .args .lines) ≡ 32 = search needs in
-    after-small (e .args .people) (e .args .lines) (e .pre .0) (omega arith) (e .pre .2) (e .pre .3) (c .before .taking-part .ensures)
+    let n : length (e .args .standings) ≡ 32 = search needs in
+    after-small (e .args .people) (e .args .standings) (e .pre .0) (omega arith) (e .pre .2) (e .pre .3) (c .before .taking-part .ensures)
     (e .args .demand) (omega arith) (c .handed-out .ensures)
 
 returns : tie.Need-returns

@@ -13,10 +13,10 @@ use Rattle.units.proofs.domains.write_domain.Statement.{statement}
 use Rattle.units.proofs.domains.write_domain.Tie as tie
 
 abbrev Inv-loop : tie.InvT-loop
-Inv-loop avail people a e list₀ n₀ p₀ list n p = Collecting (able avail a e) people list₀ list n p × DomainRoom avail people e list₀
+Inv-loop people avail list₀ a e n₀ p₀ list n p = Collecting (able avail a e) people list₀ list n p × DomainRoom avail people e list₀
 
 abbrev μ-loop : tie.MeasureT-loop
-μ-loop avail people a e list₀ n₀ p₀ list n p = people - p
+μ-loop people avail list₀ a e n₀ p₀ list n p = people - p
 
 loop-holds : tie.Need-loop-holds Inv-loop μ-loop
 loop-holds c = (collect-none _ _ _ (c .before .before .pre .room), c .before .before .pre)

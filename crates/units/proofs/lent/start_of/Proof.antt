@@ -10,7 +10,7 @@ cast-result : tie.Need-cast-result
 cast-result c = omega (arith, c .shared-slice-known .given (c .before .before .args .u))
 
 returns-2 : tie.Need-returns-2
-returns-2 c = sym (List·getD-eq-default (c .before .args .firsts .now) 0 (c .if1 .left))
+returns-2 c = sym (List·getD-eq-default (c .before .args .begins .now) 0 (c .if1 .left))
 
 pub start-of-spec : {M : Type 1} → statement M
 start-of-spec =

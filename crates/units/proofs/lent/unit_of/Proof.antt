@@ -8,10 +8,10 @@ use Rattle.units.proofs.lent.unit_of.Statement.{statement}
 use Rattle.units.proofs.lent.unit_of.Tie as tie
 
 abbrev Inv-loop : tie.InvT-loop
-Inv-loop units firsts slot n₀ n = unitOf units firsts slot ≡ unitOf n firsts slot
+Inv-loop units begins slot n₀ n = unitOf units begins slot ≡ unitOf n begins slot
 
 abbrev μ-loop : tie.MeasureT-loop
-μ-loop units firsts slot n₀ n = n
+μ-loop units begins slot n₀ n = n
 
 loop-holds : tie.Need-loop-holds Inv-loop μ-loop
 loop-holds c = refl

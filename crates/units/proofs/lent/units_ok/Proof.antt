@@ -13,10 +13,10 @@ use Rattle.units.proofs.lent.units_ok.Statement.{statement}
 use Rattle.units.proofs.lent.units_ok.Tie as tie
 
 abbrev Inv-loop : tie.InvT-loop
-Inv-loop slots units firsts u₀ u = (u ≤ units) × (all u (startOk slots firsts) ≡ true) × (1 ≤ units) × (units ≤ length firsts)
+Inv-loop slots units begins u₀ u = (u ≤ units) × (all u (startOk slots begins) ≡ true) × (1 ≤ units) × (units ≤ length begins)
 
 abbrev μ-loop : tie.MeasureT-loop
-μ-loop slots units firsts u₀ u = units - u
+μ-loop slots units begins u₀ u = units - u
 
 returns : tie.Need-returns Inv-loop μ-loop
 unfolding unitsOk

@@ -15,11 +15,11 @@ use Rattle.units.proofs.masks.strike.Statement.{statement}
 use Rattle.units.proofs.masks.strike.Tie as tie
 
 abbrev Inv-loop : tie.InvT-loop
-Inv-loop avail people person slots units firsts v gap masks₀ had bit w₀ masks w =
-    (v ≤ w) × (w ≤ units) × (masks ≡ over (maskThen avail people slots units firsts person w) units masks₀)
+Inv-loop people slots units avail begins masks₀ person v gap had bit w₀ masks w =
+    (v ≤ w) × (w ≤ units) × (masks ≡ over (maskThen avail people slots units begins person w) units masks₀)
 
 abbrev μ-loop : tie.MeasureT-loop
-μ-loop avail people person slots units firsts v gap masks₀ had bit w₀ masks w = units - w
+μ-loop people slots units avail begins masks₀ person v gap had bit w₀ masks w = units - w
 
 next-had-requires : tie.Need-next-had-requires Inv-loop μ-loop
 next-had-requires c κs =
@@ -111,7 +111,7 @@ returns c =
     let at = c .before .before .before .loop in
     let g = gap-before _ _ _ _ _ (b4 .next-had .ensures) (omega (arith, I .to, unit-within _ _ _ (pre .0 .right) _ (I .known)))
     (pre .1 .0 .2) in
-    ((past (b4 .before .before .before .before .args .firsts .now) _ _ _ _ (at .inv .0) (I .from) g (c .if1 .left), at .inv .1), at .inv .2)
+    ((past (b4 .before .before .before .before .args .begins .now) _ _ _ _ (at .inv .0) (I .from) g (c .if1 .left), at .inv .1), at .inv .2)
 
 same-length-2 : tie.Need-same-length-2 Inv-loop μ-loop
 same-length-2 c = ap length (c .before .loop .inv .2) ∙ length-over _ _ _

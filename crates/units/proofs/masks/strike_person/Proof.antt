@@ -13,11 +13,11 @@ use Rattle.units.proofs.masks.strike_person.Statement.{statement}
 use Rattle.units.proofs.masks.strike_person.Tie as tie
 
 abbrev Inv-loop : tie.InvT-loop
-Inv-loop avail people person slots units firsts masks₀ u₀ masks u =
-    (u ≤ units) × (masks ≡ over (maskThen avail people slots units firsts person u) units masks₀)
+Inv-loop people slots units avail begins masks₀ person u₀ masks u =
+    (u ≤ units) × (masks ≡ over (maskThen avail people slots units begins person u) units masks₀)
 
 abbrev μ-loop : tie.MeasureT-loop
-μ-loop avail people person slots units firsts masks₀ u₀ masks u = units - u
+μ-loop people slots units avail begins masks₀ person u₀ masks u = units - u
 
 loop-holds : tie.Need-loop-holds Inv-loop μ-loop
 loop-holds c = (omega arith, c .before .before .before .pre .1 .1)

@@ -7,10 +7,10 @@ use Rattle.units.proofs.masks.unit_from.Statement.{statement}
 use Rattle.units.proofs.masks.unit_from.Tie as tie
 
 abbrev Inv-loop : tie.InvT-loop
-Inv-loop slots units firsts u slot v₀ v = (u ≤ v) × (v < units) × (unitStart firsts v ≤ slot)
+Inv-loop slots units begins u slot v₀ v = (u ≤ v) × (v < units) × (unitStart begins v ≤ slot)
 
 abbrev μ-loop : tie.MeasureT-loop
-μ-loop slots units firsts u slot v₀ v = units - v
+μ-loop slots units begins u slot v₀ v = units - v
 
 loop-holds : tie.Need-loop-holds Inv-loop μ-loop
 loop-holds c = (omega arith, c .pre .1, c .pre .2)

@@ -12,11 +12,11 @@ use Rattle.units.proofs.masks.write_masks.Statement.{statement}
 use Rattle.units.proofs.masks.write_masks.Tie as tie
 
 abbrev Inv-loop : tie.InvT-loop
-Inv-loop avail people slots units firsts masks₀ p₀ masks p =
-    (p ≤ people) × (masks ≡ over (maskThen avail people slots units firsts p 0) units masks₀)
+Inv-loop people slots units avail begins masks₀ p₀ masks p =
+    (p ≤ people) × (masks ≡ over (maskThen avail people slots units begins p 0) units masks₀)
 
 abbrev μ-loop : tie.MeasureT-loop
-μ-loop avail people slots units firsts masks₀ p₀ masks p = people - p
+μ-loop people slots units avail begins masks₀ p₀ masks p = people - p
 
 fill-masks-requires : tie.Need-fill-masks-requires Inv-loop μ-loop
 fill-masks-requires c κs =

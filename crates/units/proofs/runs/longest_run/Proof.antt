@@ -10,11 +10,11 @@ use Rattle.units.proofs.runs.longest_run.Statement.{statement}
 use Rattle.units.proofs.runs.longest_run.Tie as tie
 
 abbrev Inv-loop : tie.InvT-loop
-Inv-loop target avail people person slots starts ends best₀ run₀ k₀ best run k =
+Inv-loop people slots starts ends avail target person best₀ run₀ k₀ best run k =
     Passing (available avail person) (minutesAt starts ends) target slots best run k
 
 abbrev μ-loop : tie.MeasureT-loop
-μ-loop target avail people person slots starts ends best₀ run₀ k₀ best run k = slots - k
+μ-loop people slots starts ends avail target person best₀ run₀ k₀ best run k = slots - k
 
 loop-holds : tie.Need-loop-holds Inv-loop μ-loop
 loop-holds c = pass-none _ _ _ _ (c .before .before .before .pre .1)

@@ -10,22 +10,22 @@ use Rattle.units.proofs.starts.write_starts.Statement.{statement}
 use Rattle.units.proofs.starts.write_starts.Tie as tie
 
 abbrev Inv-loop : tie.InvT-loop
-Inv-loop lock boundary value slots starts firsts₀ n₀ k₀ firsts n k =
-    Collecting (unitBegins lock boundary value starts) slots firsts₀ firsts n k × (slots ≤ 1024)
+Inv-loop slots lock boundary value starts begins₀ n₀ k₀ begins n k =
+    Collecting (unitBegins lock boundary value starts) slots begins₀ begins n k × (slots ≤ 1024)
 
 abbrev μ-loop : tie.MeasureT-loop
-μ-loop lock boundary value slots starts firsts₀ n₀ k₀ firsts n k = slots - k
+μ-loop slots lock boundary value starts begins₀ n₀ k₀ begins n k = slots - k
 
 loop-holds : tie.Need-loop-holds Inv-loop μ-loop
 loop-holds c = (collect-none _ _ _ (c .before .before .pre .1), c .before .before .pre .0)
 
-mul-firsts : tie.Need-mul-firsts Inv-loop μ-loop
-mul-firsts c =
+mul-begins : tie.Need-mul-begins Inv-loop μ-loop
+mul-begins c =
     let at = c .before .before .before .loop in
     omega (arith, collect-few _ _ _ _ _ _ (at .inv .0))
 
-slice-write-firsts : tie.Need-slice-write-firsts Inv-loop μ-loop
-slice-write-firsts c = collect-room _ _ _ _ _ _ (c .before .before .before .loop .inv .0) (c .before .before .loop-test .taken)
+slice-write-begins : tie.Need-slice-write-begins Inv-loop μ-loop
+slice-write-begins c = collect-room _ _ _ _ _ _ (c .before .before .before .loop .inv .0) (c .before .before .loop-test .taken)
 
 add-n : tie.Need-add-n Inv-loop μ-loop
 add-n c =
@@ -59,8 +59,8 @@ write-starts-spec =
     loop-holds
     (λ c κs. search needs)
     (λ c. omega arith)
-    mul-firsts
-    slice-write-firsts
+    mul-begins
+    slice-write-begins
     add-n
     (λ c. omega arith)
     (λ c. omega arith)
