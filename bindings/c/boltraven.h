@@ -61,8 +61,8 @@ extern "C" {
 /* A call needs at most 256 KiB of the caller's stack (boltraven_run_job the most); docs/STACK.md has the figure of each function. */
 
 /* The version of this header; boltraven_version() answers the library's, which is to be the same. */
-#define BOLTRAVEN_VERSION 200
-#define BOLTRAVEN_VERSION_TEXT "0.2.0"
+#define BOLTRAVEN_VERSION 300
+#define BOLTRAVEN_VERSION_TEXT "0.3.0"
 
 #define BOLTRAVEN_NOTHING 65536
 #define BOLTRAVEN_RUN 0

@@ -10,7 +10,7 @@ import os
 
 __all__ = ["Refusal", "SENTENCES", "VERSION", "run_job"]
 
-VERSION = "0.2.0"
+VERSION = "0.3.0"
 
 # What a refusal's number says.
 SENTENCES = {

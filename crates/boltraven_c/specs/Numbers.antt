@@ -15,9 +15,9 @@ use Rattle.slotset.specs.declared.NextRun.the-variants as nextRun
 use Rattle.slotset.specs.declared.NextMember.{NextMember}
 use Rattle.slotset.specs.declared.NextMember.the-variants as nextMember
 
--- the version 0.2.0: ten thousand times 0, a hundred times 2, and 0
+-- the version 0.3.0: ten thousand times 0, a hundred times 3, and 0
 abbrev pub versionNumber : ℕ
-versionNumber = 200
+versionNumber = 300
 
 -- a slot: its index
 abbrev pub foundNumber : Found → ℕ
