@@ -68,3 +68,10 @@ module _ (f g : ℕ → ℕ) (len : ℕ) (same : (k : ℕ) → k < len → f k �
 
   pub all-runs-same : allRuns f len ≡ allRuns g len
   all-runs-same = runs-same f g len same len 0
+
+-- everybody's sets compared with some whose slots are known
+pub same-sets-by : (ws vs : List ℕ) (people len : ℕ) (g : ℕ → ℕ → ℕ) → ((p k : ℕ) → p < people → k < len → slot vs (16 * p) k ≡ g p k)
+    → sameSets ws vs people len ≡ all people (λ p. all len (λ k. eqb (slot ws (16 * p) k) (g p k)))
+unfolding sameSets sameSlots
+same-sets-by ws vs people len g is =
+    all-same people _ _ (λ p h. all-same len _ _ (λ k l. ap (eqb (slot ws (16 * p) k)) (is p k h l)))
