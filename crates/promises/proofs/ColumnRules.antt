@@ -17,6 +17,9 @@ use Rattle.paper.specs.Count.{over}
 use Rattle.paper.proofs.Logic.{by-test, lt-or-ge}
 use Rattle.paper.proofs.Rows.{worked, kept, passed, all-pass}
 use Rattle.paper.proofs.Count.{length-over, getD-over, getD-over-out, over-right}
+use Rattle.paper.specs.Bits.{bitOf}
+use Rattle.slotset.specs.Slots.{slot}
+use Rattle.slotset.specs.Search.{up, nextWith}
 use Rattle.slotset.proofs.Refusals.{yes-no-said}
 use Rattle.columns.specs.Parts.{columnsRow, stretchRow, Part, isFrozen, foundOr, nextChange, EndsAt, partAt, noPart, stretchOf, columnOf, ownersOf}
 use Rattle.columns.specs.Parts.{IsPart, partsFrom, allParts}
@@ -174,11 +177,11 @@ module _ (slots : ℕ) (f : List ℕ) where
 
   walk-in-turn : InTurn slots f (allParts slots f)
   walk-in-turn =
-      in-turn 0 _ (walk-by GoesOn (λ at h. h) turn-more slots 0 (let q : slots ≤ 0 + slots = omega arith in q))
+      in-turn 0 (allParts slots f) (walk-by GoesOn (λ at h. h) turn-more slots 0 (let q : slots ≤ 0 + slots = omega arith in q))
 
 -- the owners of the walk are those that are read, over any list with room for them
 module _ (slots : ℕ) (p d f : List ℕ) (S : Sound slots p d f) (m : List ℕ) (room : slots ≤ length m) where
-  made : List ℕ
+  abbrev made : List ℕ
   made = over (ownerRead p d f) slots m
 
   part-made : (at : ℕ) → at < slots → ownersOf (partAt slots f at) p d ≡ take (nextChange slots f at - at) (drop at made)
@@ -247,10 +250,7 @@ walk-by-rule = record {
 -- ---- publishing
 
 module _ (slots : ℕ) (p d f : List ℕ) where
-  g : ℕ → ℕ
-  g = ownerRead p d f
-
-  new : List ℕ
+  abbrev new : List ℕ
   new = over (ownerRead p d f) slots p
 
   others-read : numberOf (columnsRow slots p d f) ≡ 0 → (k : ℕ) → k < slots → isFrozen f k ≡ false
@@ -333,4 +333,23 @@ unfolding isFrozen
 play-keeps-read = record {
   alike = λ c z p k h t e. e ∙ sym (frozen-keep c z k h t);
   reads = λ c p k t. read-frozen p _ (c .frozen) k t ∙ sym (read-frozen p (c .owners) (c .frozen) k t);
+}
+
+-- ---- the worked example
+
+pub six-slots : SixSlots
+unfolding columnsRow stretchRow stretchOf partAt nextChange isFrozen nextWith up slot bitOf numberOf unless slotCountOk publishOf over ownerRead
+    partsFrom
+six-slots = record {
+  accepted = refl;
+  slot-0 = (refl, refl);
+  slot-1 = (refl, refl);
+  slot-2 = (refl, refl);
+  slot-3 = (refl, refl);
+  slot-4 = (refl, refl);
+  slot-5 = (refl, refl);
+  slot-6 = (refl, refl);
+  longer = (refl, refl);
+  walk = refl;
+  published = refl;
 }
