@@ -65,7 +65,8 @@ pub extern "C" fn boltraven_show<'a>(
     frozen: &[u64],
     shown: &mut [u8],
 ) -> u8
-    ensures { λ r. ⌜ r ≡ numberOf (showRow slots (now (published .entry)) (now (draft .entry)) (now (frozen .entry)) (now (shown .entry))) ⌝ }
+    ensures { λ r. ⌜ r
+        ≡ numberOf (showRow slots (now (published .entry)) (now (draft .entry)) (now (frozen .entry)) (now (shown .entry))) ⌝ }
     ensures { λ _. ⌜ now (shown .exit)
         ≡ showOf slots (now (published .entry)) (now (draft .entry)) (now (frozen .entry)) (now (shown .entry)) ⌝ }
 {

@@ -1,4 +1,4 @@
--- The part that a slot has: it ends at the next change, and only there; what the rows of tests say where nothing is refused. Assumes nothing.
+-- The part that a slot has: it ends at the next change, and only there; and what the rows of tests say. Assumes nothing.
 use mathlib.Core.Path.{_≡_, refl, sym, ap, subst, _∙_}
 use mathlib.Core.Bool.{Bool, true, false, true≢false, not, cond}
 use mathlib.Core.Logic.{⊎-elim}
@@ -12,7 +12,6 @@ use lib.Dec.{eqb}
 use lib.ListN.{length, take, drop}
 use denote.Ref.{RefT, now}
 use Rattle.paper.specs.Limits.{peopleOk, numberOf}
-use Rattle.paper.specs.Rows.{unless}
 use Rattle.paper.proofs.Rows.{passed, worked, kept}
 use Rattle.paper.proofs.Logic.{slot-count-says, lt-or-ge, zero-of, one-of}
 use Rattle.slotset.specs.declared.Found.{Found}
@@ -24,7 +23,7 @@ use Rattle.slotset.proofs.Puts.{slot-lt}
 use Rattle.slotset.proofs.Meaning.{next-is}
 use Rattle.slotset.proofs.Refusals.{says-row}
 use Rattle.columns.specs.Parts.{columnsRow, stretchRow, isFrozen, foundOr, nextChange, EndsAt, Part, partAt, noPart, stretchOf}
-use Rattle.columns.specs.Parts.{columnOf, ownersOf, IsPart}
+use Rattle.columns.specs.Parts.{IsPart}
 use Rattle.columns.specs.Publishing.{showRow}
 use Rattle.columns.specs.Inside.{Sound}
 

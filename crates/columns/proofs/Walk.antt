@@ -1,17 +1,17 @@
 -- The owners that are read: published slot by slot, and shown part by part. Assumes nothing.
-use mathlib.Core.Path.{_≡_, refl, sym, ap, ap₂, subst, _∙_}
+use mathlib.Core.Path.{_≡_, refl, sym, ap, ap₂, _∙_}
 use mathlib.Core.Bool.{Bool, true, false, cond}
 use mathlib.Core.List.{List}
 use Prim.Native.Nat.{ℕ, zero, suc, _+_, _-_, _≤_, _<_, min}
 use native.Mathlib.Numerals.{add-one}
 use native.Mathlib.Decide.{ℕ-discrete}
 use native.Mathlib.Omega.{arith}
-use lib.ListN.{length, take, drop, getD, set, length-set, length-take, length-drop}
+use lib.ListN.{length, drop, getD, set, length-set, length-take, length-drop}
 use lib.Seq.{getD-set-same, getD-set-other, ext-getD, getD-take, getD-drop}
-use denote.Ref.{RefT, now}
+use denote.Ref.{now}
 use Rattle.paper.specs.Count.{over}
-use Rattle.paper.proofs.Count.{length-over, over-none, over-more, getD-over-out}
-use Rattle.columns.specs.Parts.{isFrozen, nextChange, Part, partAt, columnOf, ownersOf, IsPart}
+use Rattle.paper.proofs.Count.{length-over, over-more, getD-over-out}
+use Rattle.columns.specs.Parts.{isFrozen, nextChange, partAt, ownersOf}
 use Rattle.columns.specs.Publishing.{ownerRead}
 use Rattle.columns.specs.Inside.{Sound, writtenAt}
 use Rattle.columns.proofs.Parts.{change-is}

@@ -15,7 +15,7 @@ use Rattle.slotset.specs.Slots.{slot}
 
 -- ---- the rows of tests, in the paper's order
 
--- two columns over the same slots, and their frozen flags: 1; 2: columns of unequal length, or shorter than the slots; flags below 16 words
+-- two columns over the same slots, and their frozen flags, 1; 2: columns of unequal length or shorter than the slots, flags below 16 words
 unfoldable pub columnsRow : ℕ → List ℕ → List ℕ → List ℕ → List Test
 columnsRow slots published draft frozen =
     test 1 (slotCountOk slots) ∷ test 2 (eqb (length published) (length draft)) ∷ test 2 (leb slots (length published))

@@ -215,7 +215,8 @@ pub fn show<'a>(
     frozen: &[u64],
     shown: &mut [u8],
 ) -> u8
-    ensures { λ r. ⌜ (r ≡ numberOf (showRow slots (now (published .entry)) (now (draft .entry)) (now (frozen .entry)) (now (shown .entry))))
+    ensures { λ r. ⌜ (r
+        ≡ numberOf (showRow slots (now (published .entry)) (now (draft .entry)) (now (frozen .entry)) (now (shown .entry))))
         × (now (shown .exit) ≡ showOf slots (now (published .entry)) (now (draft .entry)) (now (frozen .entry)) (now (shown .entry))) ⌝ }
 {
     let number = show_refusal(slots, published, draft, frozen, shown).number;

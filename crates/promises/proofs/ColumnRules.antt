@@ -1,39 +1,36 @@
 -- Published and draft side by side: the part of a slot, the walk by parts, publishing, and plays. Assumes nothing.
 use mathlib.Core.Path.{_≡_, refl, sym, ap, ap₂, subst, _∙_}
-use mathlib.Core.Bool.{Bool, true, false, true≢false, not, cond}
+use mathlib.Core.Bool.{Bool, true, false, cond}
 use mathlib.Core.List.{List, [], _∷_, _++_}
 use mathlib.Core.Logic.{⊎-elim}
 use Prim.Native.Nat.{ℕ, zero, suc, _+_, _-_, _≤_, _<_}
 use native.Mathlib.Decide.{ℕ-discrete}
 use native.Mathlib.Omega.{arith}
-use borrow.Author.Tests.{eqb-true, eq-eqb, ltb-true, ltb-false, lt-ltb}
+use borrow.Author.Tests.{eqb-true, eq-eqb, ltb-true, ltb-false}
 use lib.Dec.{eqb, ltb, leb}
-use lib.ListN.{length, take, drop, getD, length-take, length-drop}
+use lib.ListN.{length, take, drop, getD, length-drop}
 use lib.Seq.{ext-getD, getD-take, getD-drop, take-add, drop-drop, length-take-le}
-use denote.Ref.{RefT, now}
-use Rattle.paper.specs.Limits.{numberOf, slotCountOk, test, Test}
+use Rattle.paper.specs.Limits.{numberOf, slotCountOk, test}
 use Rattle.paper.specs.Rows.{unless}
 use Rattle.paper.specs.Count.{over}
 use Rattle.paper.proofs.Logic.{by-test, lt-or-ge}
-use Rattle.paper.proofs.Rows.{worked, kept, passed, all-pass}
+use Rattle.paper.proofs.Rows.{worked, kept}
 use Rattle.paper.proofs.Count.{length-over, getD-over, getD-over-out, over-right}
 use Rattle.paper.specs.Bits.{bitOf}
 use Rattle.slotset.specs.Slots.{slot}
 use Rattle.slotset.specs.Search.{up, nextWith}
 use Rattle.slotset.proofs.Refusals.{yes-no-said}
-use Rattle.columns.specs.Parts.{columnsRow, stretchRow, Part, isFrozen, foundOr, nextChange, EndsAt, partAt, noPart, stretchOf, columnOf, ownersOf}
-use Rattle.columns.specs.Parts.{IsPart, partsFrom, allParts}
+use Rattle.columns.specs.Parts.{columnsRow, stretchRow, Part, isFrozen, nextChange, partAt, noPart, stretchOf, ownersOf}
+use Rattle.columns.specs.Parts.{partsFrom, allParts}
 use Rattle.columns.specs.Publishing.{ownerRead, publishOf, showRow, showOf}
 use Rattle.columns.specs.Inside.{Sound}
 use Rattle.columns.proofs.Parts.{columns-says, stretch-says, show-says, change-is, change-unique}
 use Rattle.columns.proofs.Walk.{read-frozen, read-open, part-length, part-reads}
-use Rattle.boltraven_c.specs.Columns.{partLength}
-use Rattle.promises.specs.Entries.{Call, built, noOf}
-use Rattle.promises.specs.Table.{Rule, rules, GivenBy, Refuses}
-use Rattle.promises.specs.Tables.{outside, short, broken, notBelow}
+use Rattle.promises.specs.Entries.{built}
+use Rattle.promises.specs.Table.{Rule}
 use Rattle.promises.specs.HoleRule.{slotsFrom}
-use Rattle.promises.specs.Rota.{before, after}
-use Rattle.promises.specs.ColumnRules.{columnsTable, ColumnsRefuse, PartRight, StretchByRule, partSlots, partOwners, InTurn, WalkByRule}
+use Rattle.promises.specs.ColumnRules.{columnsTable, ColumnsRefuse, PartRight, StretchByRule}
+use Rattle.promises.specs.ColumnRules.{partSlots, partOwners, InTurn, WalkByRule}
 use Rattle.promises.specs.ColumnRules.{PublishByRule, PlayKeepsRead, SixSlots}
 use Rattle.promises.proofs.Table.{tests-give}
 use Rattle.promises.proofs.Tables.{First, by-first, none, say-broken, say-short, say-below, slots-says}
@@ -136,7 +133,8 @@ module _ (slots : ℕ) (f : List ℕ) where
       let b = ltb-true at slots t in
       let C = change-is slots f at b in
       subst (P at) (sym (more-parts n at t))
-      (more at (partsFrom n slots f (nextChange slots f at)) b (walk-by P ends more n (nextChange slots f at) (omega (arith, h, C .later)))))
+      (more at (partsFrom n slots f (nextChange slots f at)) b
+      (walk-by P ends more n (nextChange slots f at) (omega (arith, h, C .later)))))
       (λ t. subst (P at) (sym (no-parts n at t)) (ends at (ltb-false at slots t)))
 
   abbrev Shows : ℕ → List Part → Type 0
@@ -286,7 +284,8 @@ module _ (slots : ℕ) (p d f : List ℕ) where
   same-row : (q : List ℕ) → length q ≡ length p → numberOf (columnsRow slots q d f) ≡ numberOf (columnsRow slots p d f)
   unfolding columnsRow
   same-row q e =
-      ap (λ (n : ℕ). numberOf (test 1 (slotCountOk slots) ∷ test 2 (eqb n (length d)) ∷ test 2 (leb slots n) ∷ test 2 (leb 16 (length f)) ∷ [])) e
+      ap (λ (n : ℕ). numberOf (test 1 (slotCountOk slots) ∷ test 2 (eqb n (length d)) ∷ test 2 (leb slots n)
+      ∷ test 2 (leb 16 (length f)) ∷ [])) e
 
   reads-same : (k : ℕ) → ownerRead (publishOf slots d f p) d f k ≡ ownerRead p d f k
   reads-same k =
@@ -338,8 +337,8 @@ play-keeps-read = record {
 -- ---- the worked example
 
 pub six-slots : SixSlots
-unfolding columnsRow stretchRow stretchOf partAt nextChange isFrozen nextWith up slot bitOf numberOf unless slotCountOk publishOf over ownerRead
-    partsFrom
+unfolding columnsRow stretchRow stretchOf partAt nextChange isFrozen nextWith up slot bitOf numberOf unless slotCountOk publishOf over
+    ownerRead partsFrom
 six-slots = record {
   accepted = refl;
   slot-0 = (refl, refl);

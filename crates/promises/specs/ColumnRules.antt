@@ -1,5 +1,6 @@
--- Published and draft side by side: a slot's part is that stretch of that column itself, and the whole of it; a walk by parts shows each slot
--- once, and what publishing makes; publishing changes the slots that are not frozen and no other; plays keep the frozen ones. Assumes nothing.
+-- Published and draft side by side: a slot's part is that stretch of that column itself, and the whole of it; a walk by parts shows each
+-- slot once, and what publishing makes; publishing changes slots that are not frozen and no other; plays keep the frozen ones.
+-- Assumes nothing.
 use mathlib.Core.Path.{_≡_}
 use mathlib.Core.Bool.{true, false, not}
 use mathlib.Core.List.{List, [], _∷_, _++_}
@@ -113,7 +114,8 @@ pub record PublishByRule : Type 0 where
   pub twice : (slots : ℕ) (published draft frozen : List ℕ)
       → publishOf slots draft frozen (publishOf slots draft frozen published) ≡ publishOf slots draft frozen published
   pub again : (slots : ℕ) (published draft frozen : List ℕ)
-      → numberOf (columnsRow slots (publishOf slots draft frozen published) draft frozen) ≡ numberOf (columnsRow slots published draft frozen)
+      → numberOf (columnsRow slots (publishOf slots draft frozen published) draft frozen)
+      ≡ numberOf (columnsRow slots published draft frozen)
   pub reads : (slots : ℕ) (published draft frozen : List ℕ) (k : ℕ)
       → ownerRead (publishOf slots draft frozen published) draft frozen k ≡ ownerRead published draft frozen k
 

@@ -1,5 +1,5 @@
-// Replays stored answers on published and draft columns: reads records from standard input, asks the library the same, refusals included, and
-// tells how many answers it compared and how many differ. The answers are the generator's own, slot by slot, since the Rust has no such
+// Replays stored answers on published and draft columns: reads records from standard input, asks the library the same, refusals included,
+// and tells how many answers it compared and how many differ. The answers are the generator's own, slot by slot: the Rust has no such
 // columns. `oracle/store` writes the records (oracle/src/columns.rs has their layout).
 use slotset::YesNo;
 use stored::Tally;
@@ -13,8 +13,8 @@ use stored::same_raws;
 use stored::word;
 ghost use Prim.Native.Nat.{_≤_};
 
-// A record: the slots; how long the published column, the draft, the flags and the list are; the flags; both columns; the owner read of each
-// slot; six slots with the number of the refusal, which column and how long; what publishing and the list screen answer and leave.
+// A record: the slots; how long the published column, the draft, the flags and the list are; the flags; both columns; the owner read of
+// each slot; six slots with the number of the refusal, which column and how long; what publishing and the list screen answer and leave.
 const RECORD: usize = 590;
 
 const FLAGS_AT: usize = 10;

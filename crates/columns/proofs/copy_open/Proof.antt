@@ -31,10 +31,13 @@ loop-again c =
     )
 
 shared-slice-read-published : tie.Need-shared-slice-read-published Inv-loop μ-loop
-shared-slice-read-published c = omega (arith, c .before .before .before .before .before .before .before .before .pre .room, c .before .before .before .before .before .before .before .before .pre .same)
+shared-slice-read-published c =
+    let pre = c .before .before .before .before .before .before .before .before .pre in omega (arith, pre .room, pre .same)
 
 slice-write-published : tie.Need-slice-write-published Inv-loop μ-loop
-slice-write-published c = omega (arith, c .before .before .before .before .loop .inv .2, c .before .before .before .before .before .before .before .before .pre .room)
+slice-write-published c =
+    let pre = c .before .before .before .before .before .before .before .before .pre in
+    let at-loop = c .before .before .before .before .loop in omega (arith, at-loop .inv .2, pre .room)
 
 loop-again-2 : tie.Need-loop-again-2 Inv-loop μ-loop
 loop-again-2 c =
@@ -58,4 +61,18 @@ returns c =
 pub copy-open-spec : {M : Type 1} → statement M
 copy-open-spec =
     tie.close
-    (tie.spec Inv-loop μ-loop loop-holds (λ c κs. search needs) (λ c. search needs) (λ c. omega arith) loop-again shared-slice-read-published slice-write-published (λ c. search needs) (λ c. omega arith) loop-again-2 same-length returns)
+    (tie.spec
+    Inv-loop
+    μ-loop
+    loop-holds
+    (λ c κs. search needs)
+    (λ c. search needs)
+    (λ c. omega arith)
+    loop-again
+    shared-slice-read-published
+    slice-write-published
+    (λ c. search needs)
+    (λ c. omega arith)
+    loop-again-2
+    same-length
+    returns)

@@ -34,4 +34,14 @@ returns-2 c =
 pub part-at-spec : {M : Type 1} → statement M
 part-at-spec =
     tie.close
-    (tie.spec next-change-requires (λ c κs. search needs) (λ c. search needs) (λ c. search needs) part-result-end returns (λ c. search needs) (λ c. search needs) part-result-end-2 returns-2)
+    (tie.spec
+    next-change-requires
+    (λ c κs. search needs)
+    (λ c. search needs)
+    (λ c. search needs)
+    part-result-end
+    returns
+    (λ c. search needs)
+    (λ c. search needs)
+    part-result-end-2
+    returns-2)

@@ -4,7 +4,6 @@ use mathlib.Core.List.{List}
 use Prim.Native.Nat.{ℕ, _-_, _≤_}
 use native.Mathlib.Omega.{arith}
 use lib.ListN.{length}
-use denote.Ref.{now}
 use Rattle.paper.specs.Count.{over}
 use Rattle.paper.proofs.Count.{over-none, length-over}
 use Rattle.columns.specs.Publishing.{ownerRead}
@@ -35,21 +34,25 @@ write-part-requires c κs =
 add-at : tie.Need-add-at Inv-loop μ-loop
 add-at c =
     let pre = c .before .before .before .before .before .before .before .before .before .before .before .pre in
-    let E = part-ends _ _ _ _ (pre .0) _ (c .before .before .before .before .before .loop-test .taken) _ (c .before .before .before .before .part-at .ensures .entries) in
+    let below = c .before .before .before .before .before .loop-test .taken in
+    let E = part-ends _ _ _ _ (pre .0) _ below _ (c .before .before .before .before .part-at .ensures .entries) in
     omega (arith, E .1, pre .0 .few)
 
 loop-less : tie.Need-loop-less Inv-loop μ-loop
 loop-less c =
     let pre = c .before .before .before .before .before .before .before .before .before .before .before .pre in
-    let E = part-ends _ _ _ _ (pre .0) _ (c .before .before .before .before .before .loop-test .taken) _ (c .before .before .before .before .part-at .ensures .entries) in
+    let below = c .before .before .before .before .before .loop-test .taken in
+    let E = part-ends _ _ _ _ (pre .0) _ below _ (c .before .before .before .before .part-at .ensures .entries) in
     omega (arith, E .0, E .1)
 
 loop-again : tie.Need-loop-again Inv-loop μ-loop
 loop-again c =
     let pre = c .before .before .before .before .before .before .before .before .before .before .before .pre in
-    let E = part-ends _ _ _ _ (pre .0) _ (c .before .before .before .before .before .loop-test .taken) _ (c .before .before .before .before .part-at .ensures .entries) in
+    let below = c .before .before .before .before .before .loop-test .taken in
+    let E = part-ends _ _ _ _ (pre .0) _ below _ (c .before .before .before .before .part-at .ensures .entries) in
+    let at-loop = c .before .before .before .before .before .before .loop in
     let so = c .before .before .write-part .ensures
-    ∙ part-more _ _ _ _ (pre .0) _ (c .before .before .before .before .before .loop-test .taken) _ (c .before .before .before .before .part-at .ensures .entries) _ _ (c .before .before .before .before .before .before .loop .inv .1) in
+    ∙ part-more _ _ _ _ (pre .0) _ below _ (c .before .before .before .before .part-at .ensures .entries) _ _ (at-loop .inv .1) in
     (E .1, so, ap (λ (l : List ℕ). length l) so ∙ length-over _ _ _)
 
 same-length : tie.Need-same-length Inv-loop μ-loop

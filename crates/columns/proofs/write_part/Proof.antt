@@ -49,4 +49,15 @@ returns c =
 pub write-part-spec : {M : Type 1} → statement M
 write-part-spec =
     tie.close
-    (tie.spec Inv-loop μ-loop loop-holds (λ c. search needs) add-shown slice-write-shown (λ c. search needs) (λ c. omega arith) loop-again same-length returns)
+    (tie.spec
+    Inv-loop
+    μ-loop
+    loop-holds
+    (λ c. search needs)
+    add-shown
+    slice-write-shown
+    (λ c. search needs)
+    (λ c. omega arith)
+    loop-again
+    same-length
+    returns)
