@@ -7,6 +7,9 @@ use crate::limits::{NOTHING, SET_WORDS, SLOTS_MOST};
 use crate::seed::Seed;
 use crate::stored::{records, Stored};
 
+/// The most parts of a walk that are asked one by one; the list screen is the whole of it.
+const WALKED: usize = 40;
+
 /// Two owner columns as they are lent, with the flags and a list to show them in.
 #[derive(Debug, Clone)]
 struct ColumnsCase {
@@ -71,7 +74,7 @@ impl ColumnsCase {
     fn damaged(mut self, seed: &mut Seed) -> Self {
         for _ in 0..seed.within(1, 2) {
             match seed.below(8) {
-                0 => self.slots = seed.pick(&[0, SLOTS_MOST + 1, self.slots + 1, usize::MAX]),
+                0 => self.slots = seed.pick(&[0, SLOTS_MOST + 1, self.slots.saturating_add(1), usize::MAX]),
                 1 => self.draft.push(seed.word() as u8),
                 2 => self.published.push(seed.word() as u8),
                 3 => drop(self.draft.pop()),
@@ -190,7 +193,7 @@ impl ColumnsCase {
         Question { function: "boltraven_show", args, due }
     }
 
-    /// Some slots' parts, the walk from slot 0 on by the parts that are due, the list screen, publishing, and publishing again.
+    /// Some slots' parts, a walk from slot 0 on by the parts that are due, the list screen, publishing, and publishing again.
     fn questions(&self, seed: &mut Seed) -> Vec<Question> {
         let mut asked = Vec::new();
         for _ in 0..6 {
@@ -199,7 +202,8 @@ impl ColumnsCase {
             asked.push(self.stretch(slot, seed.word()));
         }
         let mut at = 0;
-        while let Ok((_, length)) = self.part(at) {
+        for _ in 0..WALKED {
+            let Ok((_, length)) = self.part(at) else { break };
             asked.push(self.stretch(at, seed.word()));
             at += length;
         }
