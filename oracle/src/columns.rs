@@ -22,7 +22,10 @@ struct ColumnsCase {
 
 /// How many slots: at word edges, few, or any.
 fn slot_count(seed: &mut Seed, most: usize) -> usize {
-    let edges: Vec<usize> = [1, 2, 63, 64, 65, 127, 128, 1023, 1024].into_iter().filter(|&n| n <= most).collect();
+    let edges: Vec<usize> = [1, 2, 63, 64, 65, 127, 128, 1023, 1024]
+        .into_iter()
+        .filter(|&n| n <= most)
+        .collect();
     match seed.below(3) {
         0 => seed.pick(&edges),
         1 => seed.within(1, 12) as usize,
@@ -59,7 +62,12 @@ impl ColumnsCase {
     /// Columns that nothing stands against, up to so many slots.
     fn new(seed: &mut Seed, most: usize) -> Self {
         let slots = slot_count(seed, most);
-        let long = slots + if seed.one_in(2) { seed.below((most - slots) as u64 + 1).min(5) as usize } else { 0 };
+        let long = slots
+            + if seed.one_in(2) {
+                seed.below((most - slots) as u64 + 1).min(5) as usize
+            } else {
+                0
+            };
         let frozen = flags(seed, slots);
         Self {
             slots,
@@ -111,7 +119,9 @@ impl ColumnsCase {
     /// The owner read of each slot: as published where it is frozen, as in the draft where not.
     fn read(&self) -> Vec<u8> {
         let both = self.published.iter().zip(&self.draft);
-        both.zip(self.flags()).map(|((&p, &d), is_frozen)| if is_frozen { p } else { d }).collect()
+        both.zip(self.flags())
+            .map(|((&p, &d), is_frozen)| if is_frozen { p } else { d })
+            .collect()
     }
 
     /// A slot's part, by its column and its length; or the refusal.
@@ -181,7 +191,10 @@ impl ColumnsCase {
                 self.flags_arg(),
                 Arg::LentMut(1, self.published.clone()),
             ],
-            due: Outcome { result, written: vec![after] },
+            due: Outcome {
+                result,
+                written: vec![after],
+            },
         }
     }
 
@@ -189,8 +202,15 @@ impl ColumnsCase {
         let (result, after) = self.after_showing();
         let mut args = self.read_args();
         args.push(Arg::LentMut(1, self.shown.clone()));
-        let due = Outcome { result, written: vec![after] };
-        Question { function: "boltraven_show", args, due }
+        let due = Outcome {
+            result,
+            written: vec![after],
+        };
+        Question {
+            function: "boltraven_show",
+            args,
+            due,
+        }
     }
 
     /// Some slots' parts, a walk from slot 0 on by the parts that are due, the list screen, publishing, and publishing again.
@@ -198,7 +218,11 @@ impl ColumnsCase {
         let mut asked = Vec::new();
         for _ in 0..6 {
             let past = seed.pick(&[self.slots, self.slots.saturating_add(1), usize::MAX]);
-            let slot = if seed.one_in(6) { past } else { seed.below(self.slots.clamp(1, 2048) as u64) as usize };
+            let slot = if seed.one_in(6) {
+                past
+            } else {
+                seed.below(self.slots.clamp(1, 2048) as u64) as usize
+            };
             asked.push(self.stretch(slot, seed.word()));
         }
         let mut at = 0;
@@ -247,7 +271,11 @@ fn examples() -> Vec<(ColumnsCase, [usize; ASKED])> {
     };
     let mut longer = case.clone();
     longer.draft.push(0);
-    vec![(case.clone(), [0, 1, 2, 3, 4, 5]), (case, [6, 7, 0, 1, 2, 3]), (longer, [0, 1, 2, 3, 4, 6])]
+    vec![
+        (case.clone(), [0, 1, 2, 3, 4, 5]),
+        (case, [6, 7, 0, 1, 2, 3]),
+        (longer, [0, 1, 2, 3, 4, 6]),
+    ]
 }
 
 /// Records of columns. First how many, as u16. A record is, low byte first: the slots and how many entries of the published column, the
@@ -289,7 +317,13 @@ fn record(bytes: &mut Vec<u8>, case: &ColumnsCase, asked: &[usize; ASKED]) {
         bytes.extend_from_slice(owners);
         bytes.extend(vec![fill; MOST - owners.len()]);
     };
-    for n in [case.slots, case.published.len(), case.draft.len(), case.frozen.len(), case.shown.len()] {
+    for n in [
+        case.slots,
+        case.published.len(),
+        case.draft.len(),
+        case.frozen.len(),
+        case.shown.len(),
+    ] {
         half(bytes, n);
     }
     let mut words = case.frozen.clone();
@@ -322,9 +356,19 @@ mod tests {
     /// The model says of the worked example what the request's worked example says.
     #[test]
     fn the_example_is_as_worked() {
-        let [(case, _), _, (longer, _)] = &examples()[..] else { panic!("three examples") };
+        let [(case, _), _, (longer, _)] = &examples()[..] else {
+            panic!("three examples")
+        };
         let parts: Vec<_> = (0..7).map(|slot| case.part(slot)).collect();
-        let due = [Ok((true, 2)), Ok((true, 1)), Ok((false, 2)), Ok((false, 1)), Ok((true, 1)), Ok((false, 1)), Err(11)];
+        let due = [
+            Ok((true, 2)),
+            Ok((true, 1)),
+            Ok((false, 2)),
+            Ok((false, 1)),
+            Ok((true, 1)),
+            Ok((false, 1)),
+            Err(11),
+        ];
         assert_eq!(parts, due);
         assert_eq!(case.after_publishing(), (0, vec![0, 1, 1, 1, 0, 9]));
         assert_eq!(case.after_showing(), (0, vec![0, 1, 1, 1, 0, 9]));
