@@ -349,7 +349,7 @@ fn record(bytes: &mut Vec<u8>, case: &ColumnsCase, asked: &[usize; ASKED]) {
 
 #[cfg(test)]
 mod tests {
-    use super::{examples, questions, ColumnsCase};
+    use super::{examples, ColumnsCase};
     use crate::limits::SLOTS_MOST;
     use crate::seed::Seed;
 
@@ -375,18 +375,17 @@ mod tests {
         assert_eq!(longer.part(0), Err(2));
     }
 
-    /// All shapes of flags are asked: no change, one, and one at each slot; and stretches over more than a word.
+    /// All shapes of flags are asked: no change, one at each slot, and stretches over more than a word.
     #[test]
     fn every_shape_is_reached() {
         let (mut none, mut each, mut long) = (0, 0, 0);
         for k in 0..300 {
-            let case = ColumnsCase::new(&mut Seed::new(k), SLOTS_MOST);
-            let flags = case.flags();
-            let changes = flags.windows(2).filter(|pair| pair[0] != pair[1]).count();
-            none += u64::from(changes == 0 && case.slots > 1);
-            each += u64::from(changes + 1 == case.slots && case.slots > 64);
-            long += u64::from(changes > 0 && (0..case.slots).any(|slot| case.part(slot).is_ok_and(|part| part.1 > 64)));
-            assert!(!questions(k).is_empty());
+            let flags = ColumnsCase::new(&mut Seed::new(k), SLOTS_MOST).flags();
+            let ends = (1..=flags.len()).filter(|&k| k == flags.len() || flags[k] != flags[k - 1]);
+            let stretches: Vec<usize> = ends.scan(0, |from, end| Some(end - std::mem::replace(from, end))).collect();
+            none += u64::from(stretches.len() == 1 && flags.len() > 1);
+            each += u64::from(stretches.len() == flags.len() && flags.len() > 64);
+            long += u64::from(stretches.len() > 1 && stretches.iter().any(|&length| length > 64));
         }
         assert!(none > 20 && each > 5 && long > 20, "{none} {each} {long}");
     }
