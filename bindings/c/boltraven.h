@@ -67,6 +67,8 @@ extern "C" {
 #define BOLTRAVEN_NOTHING 65536
 #define BOLTRAVEN_RUN 0
 #define BOLTRAVEN_HOLE 1
+#define BOLTRAVEN_DRAFT 0
+#define BOLTRAVEN_PUBLISHED 1
 #define BOLTRAVEN_NOBODY 255
 #define BOLTRAVEN_SET_WORDS 16
 #define BOLTRAVEN_PEOPLE_MOST 32
@@ -316,6 +318,47 @@ uint8_t boltraven_play_draws(size_t people, size_t slots, size_t units, size_t c
                              uint8_t *owners, size_t owners_len, uint64_t *sets, size_t sets_len,
                              uint64_t *minutes, size_t minutes_len, const struct boltraven_draw *draws, size_t draws_len,
                              uint8_t *answers, size_t answers_len);
+
+/* ---- Published and draft: two owner columns of one length over the same slots. A slot is read as published where it is frozen, as in the
+   draft where not; draws are played on the draft alone. */
+
+/* A slot's part: the slots from it up to the next change between frozen and not frozen, of the column BOLTRAVEN_PUBLISHED or
+   BOLTRAVEN_DRAFT that is answered. It starts at that column's entry `slot` and has `*length` owners. */
+uint64_t boltraven_stretch(size_t slots, const uint8_t *published, size_t published_len, const uint8_t *draft, size_t draft_len,
+                           const uint64_t *frozen, size_t frozen_len, size_t slot, uint64_t *length);
+
+/* The draft's owners of slots that aren't frozen, into the published column; no frozen slot is touched. */
+uint8_t boltraven_publish(size_t slots, const uint8_t *draft, size_t draft_len, const uint64_t *frozen, size_t frozen_len,
+                          uint8_t *published, size_t published_len);
+
+/* The list screen: each slot's owner, frozen ones as published and others as in the draft, part by part. */
+uint8_t boltraven_show(size_t slots, const uint8_t *published, size_t published_len, const uint8_t *draft, size_t draft_len,
+                       const uint64_t *frozen, size_t frozen_len, uint8_t *shown, size_t shown_len);
+
+/* A part by its address and its length, and the column that it is of. */
+struct boltraven_part {
+    const uint8_t *owners;
+    size_t length;
+    uint64_t column;
+};
+
+/* A slot's part itself: 0, or the number of the refusal, and then the part is empty. */
+static inline uint8_t boltraven_part_of(size_t slots, const uint8_t *published, size_t published_len, const uint8_t *draft,
+                                        size_t draft_len, const uint64_t *frozen, size_t frozen_len, size_t slot,
+                                        struct boltraven_part *part) {
+    uint64_t length = 0;
+    const uint64_t column =
+        boltraven_stretch(slots, published, published_len, draft, draft_len, frozen, frozen_len, slot, &length);
+    part->length = (size_t)length;
+    if (column > BOLTRAVEN_NOTHING) {
+        part->owners = published;
+        part->column = BOLTRAVEN_PUBLISHED;
+        return (uint8_t)(column - BOLTRAVEN_NOTHING);
+    }
+    part->owners = (column == BOLTRAVEN_PUBLISHED ? published : draft) + slot;
+    part->column = column;
+    return 0;
+}
 
 /* ---- A whole job. */
 

@@ -1,5 +1,6 @@
 /* One base slot of two hours and two people: the slots after the split, who can cover which, targets, a rota, one draw played, and the
-   listing that a job of the same numbers has. Then what a click on each of a person's slots shows, and one refusal. */
+   listing that a job of the same numbers has. Then what a click on each of a person's slots shows, the list screen of a published and a
+   draft column, and one refusal. */
 #include <inttypes.h>
 #include <stdio.h>
 #include <stdlib.h>
@@ -77,6 +78,19 @@ static void show(size_t person, size_t slot) {
     printf("%s %zu %" PRIu64 " %" PRIu64 "\n", held == BOLTRAVEN_HOLE ? "hole" : "run", person, first, last);
 }
 
+/* The list screen, part by part: slot 0 is frozen and read as published, the other as in the draft, which is the rota. */
+static void screen(void) {
+    const uint8_t published[] = {0, 0};
+    const uint64_t today[BOLTRAVEN_SET_WORDS] = {1};
+    struct boltraven_part part;
+    for (size_t slot = 0; slot < slots; slot += part.length) {
+        done("part_of", boltraven_part_of(slots, published, 2, owners, 2, today, BOLTRAVEN_SET_WORDS, slot, &part));
+        printf("%s %zu", part.column == BOLTRAVEN_PUBLISHED ? "published" : "draft", slot);
+        for (size_t k = 0; k < part.length; k++) printf(" %d", part.owners[k]);
+        printf("\n");
+    }
+}
+
 int main(void) {
     if (boltraven_version() != BOLTRAVEN_VERSION) {
         fprintf(stderr, "the library is not of this header's version, %s\n", BOLTRAVEN_VERSION_TEXT);
@@ -85,6 +99,7 @@ int main(void) {
     prepare();
     list(play());
     for (size_t slot = 0; slot < slots; slot++) show(1, slot);
+    screen();
     /* person 1 is not there for slot 0 */
     const uint8_t refusal =
         boltraven_assign(PEOPLE, slots, starts, SLOTS, ends, SLOTS, avail, WORDS, owners, SLOTS, sets, WORDS, minutes, PEOPLE, 0, 1);

@@ -101,6 +101,9 @@ exports! {
     done minutes_of(number, slice, number, out);
     number unassigned_count(number, number, slice);
     done uncovered_minutes(number, number, slice, slice, slice, out);
+    yes_no stretch(number, slice, slice, slice, number, out);
+    done publish(number, slice, slice, slice);
+    done show(number, slice, slice, slice, slice);
     done run_job(slice, slice, out);
 }
 

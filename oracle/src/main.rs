@@ -3,6 +3,7 @@
 mod bench;
 mod bits;
 mod call;
+mod columns;
 mod covered;
 mod days;
 mod figures;
@@ -55,7 +56,7 @@ const fn kind(name: &'static str, questions: fn(u64) -> Vec<Question>) -> Kind {
 }
 
 /// Every kind.
-const KINDS: [Kind; 17] = [
+const KINDS: [Kind; 19] = [
     kind("slot-sets", sets::questions),
     kind("slot-sets-damaged", sets::damaged),
     kind("slots", splitting::questions),
@@ -71,6 +72,8 @@ const KINDS: [Kind; 17] = [
     kind("targets-damaged", targets::damaged),
     kind("rotas", rota_questions::questions),
     kind("rotas-damaged", rota_questions::damaged),
+    kind("columns", columns::questions),
+    kind("columns-damaged", columns::damaged),
     kind("jobs", jobs::questions),
     kind("jobs-damaged", jobs::damaged),
 ];
@@ -152,6 +155,7 @@ fn store(kind: &str, n: u64, seed: u64, folder: &Path) -> ExitCode {
         "slots" => Ok(stored_slots::slots(n, seed)),
         "units" => Ok(stored_units::units(n, seed)),
         "rotas" => Ok(stored_rotas::rotas(n, seed)),
+        "columns" => Ok(columns::stored(n, seed)),
         "jobs" => stored_jobs::jobs(n, seed),
         _ => Err(format!("no kind {kind}")),
     };

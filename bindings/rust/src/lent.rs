@@ -135,6 +135,14 @@
 //! let slots = lent::recount_slots(2, 2, &starts, &ends, &avail, &owners, &sets, &minutes);
 //! assert_eq!((units, slots), (Err(Refusal::Recount), Err(Refusal::Recount)));
 //!
+//! // Slot 0 is frozen, so it is read as published, and publishing leaves it.
+//! let (mut published, mut shown) = ([1, 1], [0; 2]);
+//! assert!(lent::stretch(2, &published, &owners, &[1; 16], 0, &mut out)?);
+//! assert_eq!(out, 1);
+//! lent::show(2, &published, &owners, &[1; 16], &mut shown)?;
+//! lent::publish(2, &owners, &[1; 16], &mut published)?;
+//! assert_eq!((shown, published), ([1, 0], [1, 0]));
+//!
 //! let mut listing = vec![0; LISTING_MOST];
 //! assert_eq!(lent::run_job(b"no job", &mut listing, &mut out), Err(Refusal::JobFile));
 //! assert!(lent::version() >= 100);
@@ -484,6 +492,20 @@ exports! {
     pub fn uncovered_minutes(
         people: usize, slots: usize, starts: &[u32], ends: &[u32], owners: &[u8], out: &mut u64
     ) -> Result<(), Refusal> = done(u8);
+
+    // ---- published and draft: two owner columns of one length over the same slots, of which draws are played on the draft
+
+    /// A slot's part, from it up to the next change between frozen and not frozen: true, of the published column, false, of the draft, with
+    /// its length written; it starts at that column's entry `slot`. [`Columns`](crate::Columns) hands the part itself. Refusals: 1, 2, 11.
+    pub fn stretch(
+        slots: usize, published: &[u8], draft: &[u8], frozen: &[u64], slot: usize, length: &mut u64
+    ) -> Result<bool, Refusal> = yes_no(u64);
+
+    /// The draft's owners of slots that aren't frozen go into the published column; no frozen slot is touched. Refusals: 1, 2.
+    pub fn publish(slots: usize, draft: &[u8], frozen: &[u64], published: &mut [u8]) -> Result<(), Refusal> = done(u8);
+
+    /// The list screen: each slot's owner, frozen ones as published and others as in the draft. Refusals: 1, 2.
+    pub fn show(slots: usize, published: &[u8], draft: &[u8], frozen: &[u64], shown: &mut [u8]) -> Result<(), Refusal> = done(u8);
 
     // ---- the library itself
 

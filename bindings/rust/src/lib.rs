@@ -32,6 +32,7 @@
 
 mod assignment;
 mod availability;
+mod columns;
 mod draw;
 mod exports;
 mod job;
@@ -48,6 +49,7 @@ mod weekdays;
 
 pub use assignment::{Answer, Assignment};
 pub use availability::Availability;
+pub use columns::{publish, Columns, Stretch, Stretches};
 pub use draw::Draw;
 pub use job::{run_job, Job, LISTING_MOST};
 pub use job_text::JobTextError;

@@ -2,6 +2,7 @@
 // A slice is passed as its address and its number of elements.
 // Every function is total, as the one that it calls: what is promised of that one, said in numbers, is promised here.
 mod answers;
+mod columns_c;
 mod draws_c;
 mod job_c;
 mod owners_c;

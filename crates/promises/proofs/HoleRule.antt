@@ -14,7 +14,7 @@ use Rattle.slotset.proofs.Runs.{lookup-is, runs-are, runs-unique}
 use Rattle.promises.specs.HoleRule.{thenBehind, stretches, allStretches, slotsFrom, slotsIn, runsIn, holesIn, unset, RunsAndHoles}
 
 -- slots in two parts
-slots-join : (m n at : ℕ) → slotsFrom at (m + n) ≡ slotsFrom at m ++ slotsFrom (at + m) n
+pub slots-join : (m n at : ℕ) → slotsFrom at (m + n) ≡ slotsFrom at m ++ slotsFrom (at + m) n
 unfolding slotsFrom
 slots-join zero n at = let z : 0 + n ≡ n = omega arith in let w : at ≡ at + 0 = omega arith in ap₂ slotsFrom w z
 slots-join (suc m) n at =
@@ -23,7 +23,7 @@ slots-join (suc m) n at =
     ap (slotsFrom at) z
     ∙ ap (λ (l : List ℕ). at ∷ l) (slots-join m n (suc at) ∙ ap (λ (k : ℕ). slotsFrom (suc at) m ++ slotsFrom k n) w)
 
-slots-none : (at : ℕ) → slotsFrom at 0 ≡ []
+pub slots-none : (at : ℕ) → slotsFrom at 0 ≡ []
 unfolding slotsFrom
 slots-none at = refl
 
