@@ -203,10 +203,10 @@ fn lent_play_structs(rota: &Rota, lent: &mut LentRota, draws: usize) -> bool {
         &lent.avail,
         &lent.unit_starts,
         &lent.frozen,
+        &rota.structs,
         &mut lent.owners,
         &mut lent.sets,
         &mut lent.minutes,
-        &rota.structs,
         &mut lent.answers,
     );
     answer.is_ok()
