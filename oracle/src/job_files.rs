@@ -247,8 +247,7 @@ mod tests {
         assert_eq!(text_of(&job.file()), "R 10.3 7\n");
         job.owners.remove(6);
         assert_eq!(text_of(&job.file()), "R 10.3 3\n");
-        job.owners[14].1 = 0;
-        job.owners.truncate(6);
+        job.owners = (0..16).map(|slot| (slot, 0)).collect();
         assert_eq!(listing_of(&job.file()).map(|text| text.lines().count()), Ok(16 + 2 + 1));
     }
 
