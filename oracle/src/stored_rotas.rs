@@ -252,7 +252,8 @@ fn one_of(seed: &mut Seed, units: usize) -> u16 {
     seed.below(units as u64) as u16
 }
 
-/// A unit of several slots, of which an assign gives one to another person or to nobody: what is due is the rota after the assign.
+/// A unit of several slots, of which an assign gives one to another person or to nobody: what is due is the rota after the assign, and of the
+/// next play 10.3 with the unit.
 fn uneven(seed: &mut Seed, _: u64) -> Option<Record> {
     let case = small(seed)?;
     let long = case.problem.units.iter().find(|unit| unit.len() > 1)?;
@@ -260,7 +261,11 @@ fn uneven(seed: &mut Seed, _: u64) -> Option<Record> {
     let others = case.problem.domains[slot].iter().map(|&person| person as u8).chain([NOBODY]);
     let others: Vec<u8> = others.filter(|&owner| owner != case.owners[slot]).collect();
     let owner = *others.first()?;
-    Some(assigned(case, slot, owner))
+    let unit = case.problem.units.iter().position(|unit| unit.contains(&slot))?;
+    let mut record = assigned(case, slot, owner);
+    // the assign is accepted, and the next play is not
+    record.number = failed(3, unit, 0);
+    Some(record)
 }
 
 /// One slot assigned: an unknown slot or owner is 11, one who is not available 12.
