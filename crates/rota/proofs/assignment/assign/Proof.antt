@@ -61,7 +61,7 @@ returns c =
     let at-hand-over = c .before .before .before .before .before .before .hand-over in
     assigned-yes (plan (at-args .people) (at-args .slots) (at-args .starts .now) (at-args .ends .now)) (at-args .avail .now)
     (at-args .owners .now) (derived (at-args .sets .now) (at-args .minutes .now)) (at-args .slot) (at-args .owner) _
-    (said _ (at-assign-refused .ensures)) _ _ (at-if1 .taken) (at-hand-over .ensures)
+    (at-assign-refused .ensures) _ _ (at-if1 .taken) (at-hand-over .ensures)
 
 returns-2 : tie.Need-returns-2
 returns-2 c =
@@ -69,7 +69,7 @@ returns-2 c =
     let at-assign-refused = c .before .assign-refusal in
     assigned-refused (plan (at-args .people) (at-args .slots) (at-args .starts .now) (at-args .ends .now)) (at-args .avail .now)
     (at-args .owners .now) (derived (at-args .sets .now) (at-args .minutes .now)) (at-args .slot) (at-args .owner) _
-    (said _ (at-assign-refused .ensures)) (c .if1 .left)
+    (at-assign-refused .ensures) (c .if1 .left)
 
 pub assign-spec : {M : Type 1} → statement M
 assign-spec =
