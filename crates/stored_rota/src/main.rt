@@ -489,7 +489,16 @@ fn recount_slots(b: &[u8], lent: Rota) -> Refusal {
     let who = lent.owners;
     let own = lent.sets;
     let worked = lent.minutes;
-    owners::recount_slots(half(b, 0), half(b, 2), &starts, &ends, &able, &who, &own, &worked)
+    owners::recount_slots(
+        half(b, 0),
+        half(b, 2),
+        &starts,
+        &ends,
+        &able,
+        &who,
+        &own,
+        &worked,
+    )
 }
 
 // A rota that fails the recount: where, with units and without, and by a play.
