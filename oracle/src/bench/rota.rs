@@ -99,6 +99,50 @@ pub fn from_slots(rota: Rota) -> Row {
     row(ours, rust)
 }
 
+// ---- assign
+
+/// One slot in the middle to the next person.
+fn lent_assign(rota: &mut LentRota) {
+    let slot = rota.starts.len() / 2;
+    let owner = (rota.owners[slot] + 1) % rota.people as u8;
+    let done = lent::assign(
+        rota.people,
+        rota.starts.len(),
+        &rota.starts,
+        &rota.ends,
+        &rota.avail,
+        &mut rota.owners,
+        &mut rota.sets,
+        &mut rota.minutes,
+        slot,
+        owner,
+    );
+    done.expect("nothing is refused");
+}
+
+/// One slot of a rota that everybody can cover goes to somebody else; the Rust checks nothing.
+pub fn assign(rota: Rota) -> Row {
+    let rota = kept(rota);
+    let ours = Side {
+        fresh: Box::new(|| rota.lent.clone()),
+        run: Box::new(|rota: &mut LentRota| lent_assign(black_box(rota))),
+        seen: Box::new(seen_of_lent),
+    };
+    let rust = Side {
+        fresh: Box::new(|| begun(rota)),
+        run: Box::new(|assignment: &mut Assignment| {
+            let slot = rota.case.owners.len() / 2;
+            let owner = (usize::from(rota.case.owners[slot]) + 1) % rota.lent.people;
+            black_box(assignment).assign(&rota.case.problem, slot, Some(owner));
+        }),
+        seen: Box::new(|assignment: &Assignment| {
+            let answers = rota.lent.answers[..rota.lent.count].to_vec();
+            seen_of_rust(&rota.case.problem, assignment, answers)
+        }),
+    };
+    row(ours, rust)
+}
+
 // ---- recounts
 
 fn lent_recount(rota: &LentRota) -> bool {

@@ -5,7 +5,7 @@ use super::job::job;
 use super::merge::merge;
 use super::prepare::{prepare, prepare_all};
 use super::refused::{refused, Lent};
-use super::rota::{failed_recount, from_slots, no_draws, play, recount, structs};
+use super::rota::{assign, failed_recount, from_slots, no_draws, play, recount, structs};
 use super::set::{count, next_set, run_bounds};
 use super::spread::largest_remainder;
 use super::Row;
@@ -74,6 +74,7 @@ pub const ROWS: &[Named] = &[
     }),
     ("play, no draws, 1,024 slots", |seed| no_draws(typical(seed, SLOTS_MOST, 0, 1))),
     ("from_slots, 1,024 slots", |seed| from_slots(typical(seed, SLOTS_MOST, 0, 1))),
+    ("assign, 1,024 slots", |seed| assign(typical(seed, SLOTS_MOST, 0, 1))),
     ("next_set, sparse", |_| next_set(sparse())),
     ("next_set, full", |_| next_set(full())),
     ("run_bounds, sparse", |_| run_bounds(sparse())),
