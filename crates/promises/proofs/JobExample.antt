@@ -217,7 +217,7 @@ call-accepted = record {
 }
 
 after : playOf call ≡ record {
-  number = 0;
+  refusal = no-refusal;
   owners = 0 ∷ 1 ∷ replicate 1022 255;
   derived = derived (set (set (replicate 512 0) 0 1) 16 2) (60 ∷ 60 ∷ replicate 30 0);
   answers = 0 ∷ drop 1 zeros;
@@ -416,9 +416,9 @@ module _ (x : List ℕ) (room : 65536 ≤ length x) where
   result : jobResult file x ≡ listedAs (listingOf (listedOf file)) x
   result = answered-none file x (number-none ts (numbered file (length x)) .1 all-right)
 
-  accepted : jobRefusal (jobResult file x .answer) ≡ 0
+  accepted : jobRefusal (jobResult file x .answer) .number ≡ 0
   unfolding listedAs
-  accepted = ap (λ (y : Result). jobRefusal (y .answer)) result
+  accepted = ap (λ (y : Result). jobRefusal (y .answer) .number) result
 
   listing-is : listingOf (listedOf file) ≡ exampleText
   listing-is =

@@ -34,9 +34,9 @@ said c e =
     ∙ take-at (answers (boardIn c) (c .owners) (drawsIn c)) _ (c .count)
     (answers-length (boardIn c) (c .owners) (drawsIn c) ∙ draws-length (c .draws) (c .firsts) (c .seconds) (c .count))
 
-accepted-number : (c : Call) → playOf c .number ≡ 0 → noOf c ≡ 0
+accepted-number : (c : Call) → playOf c .refusal .number ≡ 0 → noOf c ≡ 0
 unfolding playedList outcome
-accepted-number c e = e
+accepted-number c e = sym (row-number (rowOf c) refl) ∙ e
 
 ends-one : (c : Call) (o : List ℕ) (D : Derived) (p : Part) (ps : List Part) → Words (D .sets) → AllAccepted built c o D (p ∷ ps)
     → EndsAsOne built c o D (p ∷ ps)
@@ -106,7 +106,7 @@ many-calls c o D p ps f A w W =
     let owners : playOf v .owners ≡ lastOwners built c o D (p ∷ ps) =
     ap (λ (y : Outcome). y .owners) x ∙ ap (ownersAfter B o) (W .together) ∙ sym (r .owners) in
     record {
-      accepted = ap (λ (y : Outcome). y .number) x;
+      accepted = ap (λ (y : Outcome). y .refusal .number) x;
       owners = owners;
       derived =
           ap (λ (y : Outcome). y .derived) x

@@ -101,7 +101,7 @@ recount-by-rule P avail units begins o D = (
 -- what lies past a rota that was made from owners that keep what lies past the slots
 past-afresh : (P : Plan) (avail o o′ : List ℕ) (D : Derived) (x : List ℕ) → LentRight P avail o D
     → ((k : ℕ) → P .slots ≤ k → getD o′ k 0 ≡ getD o k 0)
-    → PastKept (P .people) (P .slots) o D record { number = 0; owners = o′; derived = afresh P o′ D; answers = x }
+    → PastKept (P .people) (P .slots) o D record { refusal = accepted; owners = o′; derived = afresh P o′ D; answers = x }
 unfolding afresh
 past-afresh P avail o o′ D x g same = record {
   owners = same;
@@ -111,10 +111,10 @@ past-afresh P avail o o′ D x g same = record {
 
 -- ---- from_slots
 
-module _ (P : Plan) (avail o : List ℕ) (D : Derived) (e : fromSlots P avail o D .number ≡ 0) where
-  from-is : fromSlots P avail o D ≡ record { number = 0; owners = o; derived = afresh P o D; answers = [] }
+module _ (P : Plan) (avail o : List ℕ) (D : Derived) (e : fromSlots P avail o D .refusal .number ≡ 0) where
+  from-is : fromSlots P avail o D ≡ record { refusal = accepted; owners = o; derived = afresh P o D; answers = [] }
   unfolding fromSlots outcome unless
-  from-is = ap (λ (n : ℕ). outcome n o D [] o (afresh P o D) []) e
+  from-is = ap (λ (n : ℕ). outcome (placeless n) o D [] o (afresh P o D) []) e
 
   from-tests : LentRight P avail o D × (all (P .slots) (knownAt (P .people) o) ≡ true) × (all (P .slots) (availableAt avail o) ≡ true)
   unfolding fromSlots outcome fromSlotsRow lentRow
@@ -148,15 +148,17 @@ module _ (P : Plan) (avail o : List ℕ) (D : Derived) (e : fromSlots P avail o 
 
 -- ---- assign
 
-module _ (P : Plan) (avail o : List ℕ) (D : Derived) (k w : ℕ) (e : assigned P avail o D k w .number ≡ 0) where
+module _ (P : Plan) (avail o : List ℕ) (D : Derived) (k w : ℕ) (e : assigned P avail o D k w .refusal .number ≡ 0) where
   checked : Asks P avail o D k w
   unfolding assigned outcome
-  checked = assign-asks P avail o D k w e
+  checked = assign-asks P avail o D k w (sym (said (assignRow P avail o D k w) refl) ∙ e)
 
   assigned-is : assigned P avail o D k w
-      ≡ record { number = 0; owners = set o k w; derived = afresh P (set o k w) D; answers = [] }
-  unfolding assigned outcome unless
-  assigned-is = ap (λ (n : ℕ). outcome n o D [] (set o k w) (afresh P (set o k w) D) []) e
+      ≡ record { refusal = accepted; owners = set o k w; derived = afresh P (set o k w) D; answers = [] }
+  unfolding assigned outcome unless assignRow recountSlotsRow lentRow recountTests
+  assigned-is =
+      ap (λ (f : Refusal). outcome f o D [] (set o k w) (afresh P (set o k w) D) [])
+      (none-given (assignRow P avail o D k w) refl (sym (said (assignRow P avail o D k w) refl) ∙ e))
 
   assign-made : let y = assigned P avail o D k w in
       (getD (y .owners) k 0 ≡ w) × ((j : ℕ) → j ≢ k → getD (y .owners) j 0 ≡ getD o j 0) × Made P avail o D y
@@ -180,7 +182,7 @@ module _ (c : Call) (k w : ℕ) (e : noOf c ≡ 0) where
   abbrev next : Call
   next = onRota c (y .owners) (y .derived) (c .answers)
 
-  module _ (z : y .number ≡ 0) (u j : ℕ) (i : InUnit (c .plan .slots) (c .units) (c .begins) j u)
+  module _ (z : y .refusal .number ≡ 0) (u j : ℕ) (i : InUnit (c .plan .slots) (c .units) (c .begins) j u)
       (differ : getD (y .owners) j 0 ≢ getD (y .owners) (unitStart (c .begins) u) 0) where
     fails : recounts (c .plan) (c .avail) (c .units) (c .begins) (y .owners) (y .derived) ≡ false
     fails =
@@ -213,16 +215,16 @@ module _ (c : Call) (k w : ℕ) (e : noOf c ≡ 0) where
 
 -- ---- an empty rota
 
-module _ (P : Plan) (o : List ℕ) (D : Derived) (e : emptied (P .people) (P .slots) o D .number ≡ 0) where
+module _ (P : Plan) (o : List ℕ) (D : Derived) (e : emptied (P .people) (P .slots) o D .refusal .number ≡ 0) where
   abbrev owners : List ℕ
   owners = fill nobody 0 (P .slots) o
 
   abbrev cleared : Derived
   cleared = derived (setsFrom (P .people) (P .slots) (nobodies (P .slots)) (D .sets)) (over (λ _. 0) (P .people) (D .minutes))
 
-  emptied-is : emptied (P .people) (P .slots) o D ≡ record { number = 0; owners = owners; derived = cleared; answers = [] }
+  emptied-is : emptied (P .people) (P .slots) o D ≡ record { refusal = accepted; owners = owners; derived = cleared; answers = [] }
   unfolding emptied outcome unless
-  emptied-is = ap (λ (n : ℕ). outcome n o D [] owners cleared []) e
+  emptied-is = ap (λ (n : ℕ). outcome (placeless n) o D [] owners cleared []) e
 
   -- what its tests say
   pub record Clears : Type 0 where

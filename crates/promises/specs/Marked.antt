@@ -131,4 +131,4 @@ pub record MarkedCases (C : Component) : Type 0 where
   -- 12. Two units, owners 0 and 1, unit 1 frozen: (35, 0, 1) answers 1
   pub case-12 : (more : Spare) → 1 ≤ length (more .answers)
       → let c = twoUnits apart 2 1 (35 ∷ []) (0 ∷ []) (1 ∷ []) more in
-      C .play c ≡ record { number = 0; owners = c .owners; derived = c .derived; answers = 1 ∷ drop 1 (more .answers) }
+      C .play c ≡ record { refusal = accepted; owners = c .owners; derived = c .derived; answers = 1 ∷ drop 1 (more .answers) }
