@@ -12,7 +12,7 @@ use lib.IntN.{ℤ, pos}
 use lib.ListN.{length, getD, drop, replicate, set, length-replicate, List·getD-eq-default}
 use Rattle.paper.specs.Limits.{peopleOk, slotCountOk, countsOk, Test, numberOf}
 use Rattle.paper.specs.Bits.{bitOf}
-use Rattle.paper.specs.Rows.{unless}
+use Rattle.paper.specs.Rows.{unless, accepted as no-refusal}
 use Rattle.paper.specs.Count.{all, allIn, some, sum, among, over, fill, onto}
 use Rattle.paper.proofs.Logic.{both, four, below-suc, lt-or-ge}
 use Rattle.paper.proofs.Count.{all-each}
@@ -346,7 +346,7 @@ own-none k h = eqb-true (ownerIn own k) 0 (all-each 2 (λ j. eqb (ownerIn own j)
 
 even : OwnersEven example R
 unfolding unitEnd all
-even u k h a b =
+even u h k a b =
     let f = R .begins in
     let e = leb-true (unitEnd 2 2 f u) 2 (all-each 2 (λ v. leb (unitEnd 2 2 f v) 2) refl u h) in
     own-none k (omega (arith, e, b)) ∙ sym (own-none (getD f u 0) (omega (arith, e, a, b)))

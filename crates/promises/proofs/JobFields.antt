@@ -9,6 +9,7 @@ use borrow.Author.Tests.{eqb-true, eqb-false}
 use lib.Dec.{eqb, lit<, lit≤}
 use lib.Ieee.{binary64, ofBits}
 use lib.ListN.{length, getD, replicate}
+use Rattle.paper.proofs.Rows.{said}
 use Rattle.paper.specs.Limits.{numberOf, nobody}
 use Rattle.paper.specs.Count.{all, over}
 use Rattle.paper.proofs.Logic.{by-test, lt-or-ge, slot-count-says, people-says}

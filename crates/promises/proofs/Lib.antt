@@ -30,7 +30,9 @@ pub mod ManyCalls
 pub mod JobRules
 pub mod JobOwners
 pub mod JobFields
+pub mod Lowest
 pub mod JobTests
+pub mod Places
 pub mod JobText
 pub mod JobExample
 pub mod ListRules

@@ -6,6 +6,7 @@ use native.Mathlib.Omega.{arith}
 use borrow.Author.Tests.{le-leb}
 use lib.ListN.{length, take, drop, length-append}
 use lib.Seq.{take-at, take-length}
+use Rattle.paper.proofs.Rows.{said as row-number}
 use Rattle.paper.specs.Limits.{drawsMost}
 use Rattle.paper.specs.Count.{onto}
 use Rattle.rota.specs.Board.{Board}

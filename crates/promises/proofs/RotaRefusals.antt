@@ -7,10 +7,12 @@ use borrow.Author.Tests.{ne-eqb, le-leb}
 use lib.Dec.{leb, ltb}
 use lib.IntN.{ℤ}
 use lib.ListN.{length, getD, set, replicate}
+use Rattle.paper.proofs.Rows.{said}
+use Rattle.paper.specs.declared.Refusal.{Refusal}
 use Rattle.paper.specs.Limits.{peopleOk, slotCountOk, orElse, Test, test, numberOf, nobody, countsOk}
 use Rattle.paper.specs.Count.{fill, over}
 use Rattle.paper.proofs.Logic.{by-test, slot-count-says}
-use Rattle.paper.specs.Rows.{unless}
+use Rattle.paper.specs.Rows.{unless, refusalOf}
 use Rattle.slotset.specs.declared.Changed.{Changed}
 use Rattle.slotset.specs.Answers.{setsRow, personRow, changedAs, loadOf, numberRefusal}
 use Rattle.slotset.proofs.Refusals.{number-said}
@@ -102,8 +104,9 @@ empty-refuses : (people slots : ℕ) (o : List ℕ) (D : Derived)
     Refuses {A = Lent} (rules (state.emptyRow people slots o D)) (y .refusal .number) (o, D, []) (left y)
 unfolding state.emptied state.emptyRow
 empty-refuses people slots o D =
-    outcome-refuses (state.emptyRow people slots o D) o D [] (fill nobody 0 slots o)
-    (derived (setsFrom people slots (nobodies slots) (D .sets)) (over (λ _. 0) people (D .minutes))) [] refl
+    let t = state.emptyRow people slots o D in
+    outcome-refuses t (state.placeless (numberOf t)) o D [] (fill nobody 0 slots o)
+    (derived (setsFrom people slots (nobodies slots) (D .sets)) (over (λ _. 0) people (D .minutes))) [] refl refl
 
 owner-number : (people slots : ℕ) (o : List ℕ) (k : ℕ)
     → GivenByTests (state.ownerRow people slots o k) (numberRefusal (state.ownerIs people slots o k))

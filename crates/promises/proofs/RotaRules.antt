@@ -9,9 +9,11 @@ use borrow.Author.Tests.{eqb-true, eqb-false}
 use lib.Dec.{eqb, leb}
 use lib.ListN.{length, getD, set, length-set}
 use lib.Seq.{getD-set-same, getD-set-other}
+use Rattle.promises.proofs.Numbers.{none-given}
+use Rattle.paper.specs.declared.Refusal.{Refusal}
 use Rattle.paper.specs.Limits.{nobody, slotCountOk, numberOf}
-use Rattle.paper.proofs.Rows.{passed}
-use Rattle.paper.specs.Rows.{unless}
+use Rattle.paper.proofs.Rows.{passed, said}
+use Rattle.paper.specs.Rows.{unless, accepted}
 use Rattle.paper.specs.Count.{all, sum, count, over, fill}
 use Rattle.paper.proofs.Logic.{by-test, five, and-true, zero-of, slot-count-says}
 use Rattle.paper.proofs.Count.{all-each, getD-over, getD-over-out, getD-fill-in, getD-fill-out}
@@ -27,9 +29,9 @@ use Rattle.slots.proofs.LentLaws.{minutes-said}
 use Rattle.units.specs.Units.{unitStart, unitsOk, InUnit}
 use Rattle.units.proofs.Units.{unit-within}
 use Rattle.owners.specs.Derived.{Plan, Derived, derived, portion, worked, unassigned, uncovered, held, setsFrom, nobodies, afresh}
-use Rattle.owners.specs.Recount.{knownAt, availableAt, recounts}
-use Rattle.rota.specs.Entries.{assigned}
-use Rattle.owners.specs.Entries.{Outcome, outcome, lentRow, fromSlotsRow, fromSlots, emptied}
+use Rattle.owners.specs.Recount.{knownAt, availableAt, recounts, recountTests}
+use Rattle.rota.specs.Entries.{assigned, assignRow}
+use Rattle.owners.specs.Entries.{Outcome, outcome, lentRow, fromSlotsRow, fromSlots, emptied, placeless, recountSlotsRow}
 use Rattle.owners.specs.Entries.{ownerIs, minutesIs, unassignedIs, uncoveredIs, slotsOfIs}
 use Rattle.owners.proofs.Sets.{held-own, held-not, sets-in, sets-out}
 use Rattle.owners.proofs.Steps.{afresh-step, afresh-lengths}
@@ -58,7 +60,7 @@ uncovered-are P o = refl
 
 -- a bit is the one that is due exactly when it is set for the owner
 module _ (o ws : List ℕ) (p k : ℕ) where
-  held-says : slot ws (16 * p) k ≡ held o p k → (slot ws (16 * p) k ≡ 1) ↔ (getD o k 0 ≡ p)
+  pub held-says : slot ws (16 * p) k ≡ held o p k → (slot ws (16 * p) k ≡ 1) ↔ (getD o k 0 ≡ p)
   held-says e = (
     λ q.
         by-test (eqb (getD o k 0) p) _ (eqb-true (getD o k 0) p)
@@ -66,7 +68,7 @@ module _ (o ws : List ℕ) (p k : ℕ) where
     λ q. e ∙ held-own o p k q,
   )
 
-  says-held : (slot ws (16 * p) k ≡ 1) ↔ (getD o k 0 ≡ p) → slot ws (16 * p) k ≡ held o p k
+  pub says-held : (slot ws (16 * p) k ≡ 1) ↔ (getD o k 0 ≡ p) → slot ws (16 * p) k ≡ held o p k
   says-held x =
       by-test (eqb (getD o k 0) p) _
       (λ t. let q = eqb-true (getD o k 0) p t in x .1 q ∙ sym (held-own o p k q))
@@ -74,7 +76,7 @@ module _ (o ws : List ℕ) (p k : ℕ) where
       let n = eqb-false (getD o k 0) p f in
       zero-of (slot ws (16 * p) k) (slot-lt ws (16 * p) k) (λ z. n (x .0 z)) ∙ sym (held-not o p k n))
 
-recount-by-rule : (P : Plan) (avail : List ℕ) (units : ℕ) (begins o : List ℕ) (D : Derived)
+pub recount-by-rule : (P : Plan) (avail : List ℕ) (units : ℕ) (begins o : List ℕ) (D : Derived)
     → (recounts P avail units begins o D ≡ true) ↔ PassesRecount P avail units begins o D
 recount-by-rule P avail units begins o D = (
   λ e.

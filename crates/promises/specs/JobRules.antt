@@ -6,6 +6,7 @@ use mathlib.Core.Logic.{_↔_, _≢_}
 use Prim.Native.Nat.{ℕ, suc, _+_, _-_, _^_, _≤_, _<_}
 use lib.IntN.{ℤ, pos, natAbs}
 use lib.ListN.{length, getD, take, drop}
+use Rattle.paper.specs.declared.Refusal.{Refusal}
 use Rattle.paper.specs.Limits.{nobody}
 use Rattle.paper.specs.Count.{sum}
 use Rattle.targets.specs.Remainder.{sumℤ}
@@ -18,7 +19,8 @@ use Rattle.job.specs.File.{jobSizes, ownerSlot, fileOk, JobFile}
 use Rattle.job.specs.Listing.{digits, signed, listingOf, listingMost}
 use Rattle.job.specs.Digits.{readDigits, readSigned}
 use Rattle.job.specs.Stages.{counted, columnOf, settingsIn, instantOf, baseTotal, readyOf, ownerValue, placed, ownersOf, listedOf}
-use Rattle.job.specs.Outcome.{Lowest, AllPass, jobTests, jobResult}
+use Rattle.job.specs.Stages.{unevenOf}
+use Rattle.job.specs.Outcome.{Lowest, AllPass, jobTests, refusalAt, jobResult}
 
 -- an accepted job, with n bytes of listing
 pub record Accepted (s x : List ℕ) (n : ℕ) : Type 0 where

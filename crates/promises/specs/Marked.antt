@@ -7,6 +7,7 @@ use Prim.Native.Nat.{ℕ, _-_, _*_, _^_, _≤_}
 use lib.IntN.{ℤ, pos, negsuc}
 use lib.Ieee.{Float, fin}
 use lib.ListN.{length, drop, replicate}
+use Rattle.paper.specs.Rows.{accepted}
 use Rattle.slotset.specs.declared.SlotSet.{SlotSet}
 use Rattle.slotset.specs.declared.Found.the-variants.{At, Nothing}
 use Rattle.slotset.specs.declared.Run.the-variants as run

@@ -4,6 +4,7 @@ use mathlib.Core.Path.{_≡_}
 use mathlib.Core.List.{List}
 use Prim.Native.Nat.{ℕ}
 use lib.IntN.{ℤ}
+use Rattle.paper.specs.declared.Refusal.{Refusal}
 use Rattle.slotset.specs.declared.Number.{Number}
 use Rattle.slots.specs.Merged.{MergedOut, MergedEnd}
 use Rattle.slots.specs.Atomic.{Atoms, AtomsEnd}
