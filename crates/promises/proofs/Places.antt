@@ -19,7 +19,7 @@ use Rattle.paper.proofs.Rows.{numbered, said}
 use Rattle.slotset.specs.Slots.{slot}
 use Rattle.units.specs.Units.{unitStart, unitEnd, unitsOk}
 use Rattle.owners.specs.Derived.{Plan, Derived, worked, held}
-use Rattle.owners.specs.Recount.{firstFail, knownAt, availableAt, evenAt, setSlotAt, setAt, minutesOkAt, derivedTests, recountTests, recounts}
+use Rattle.owners.specs.Recount.{firstFail, knownAt, availableAt, evenAt, setSlotAt, setAt, minutesOkAt, recountTests, recounts}
 use Rattle.owners.specs.Entries.{placeless, Outcome, outcome, lentRow, recountRow, recountSlotsRow}
 use Rattle.owners.proofs.RecountRefusals.{first-on, first-stops}
 use Rattle.owners.proofs.Entered.{recount-number}
@@ -317,7 +317,8 @@ module _ (s x : List ℕ) (f : Refusal) (e : jobResult s x .answer ≡ answer.Re
     unfolding jobTests readRow prepareRow all
     eighth =
         eqb-true (L .place) 8 (or-right (not (eqb (testAt ts (L .place) .number) 10)) (eqb (L .place) 8)
-        (all-each 11 (λ k. not (eqb (testAt ts k .number) 10) || eqb k 8) refl (L .place) (L .within)) (ap not (eq-eqb _ 10 (L .number ∙ t))))
+        (all-each 11 (λ k. not (eqb (testAt ts k .number) 10) || eqb k 8) refl (L .place) (L .within))
+        (ap not (eq-eqb _ 10 (L .number ∙ t))))
 
     pub before : (j : ℕ) → j < 8 → testAt ts j .passes ≡ true
     unfolding jobTests readRow prepareRow all

@@ -89,8 +89,8 @@ fails-small P avail units begins o D few short many f (wrong-set p k e K A U L M
 fails-small P avail units begins o D few short many f (wrong-minutes p e K A U S L) =
     subst Small (sym e) (fault-small 5 p 0 (omega arith) (omega (arith, L .below)) (omega arith))
 
-places-small : (f : Refusal) (n : ℕ) (Fails : Refusal → Type 0) → Places f n Fails → f .number < 256 → (n ≡ 0 → (g : Refusal) → Fails g → Small g)
-    → Small f
+places-small : (f : Refusal) (n : ℕ) (Fails : Refusal → Type 0) → Places f n Fails → f .number < 256
+    → (n ≡ 0 → (g : Refusal) → Fails g → Small g) → Small f
 places-small f n Fails L h few =
     by-test (eqb (f .number) 10) _
     (λ t. let x = L .fails (eqb-true _ 10 t) in few (x .0) f (x .1))
@@ -103,7 +103,8 @@ pub units-back : (counts room : Bool) (P : Plan) (avail : List ℕ) (units : ℕ
 unfolding recountRow lentRow recountTests
 units-back counts room P avail units begins o D =
     let ts = recountRow counts room P avail units begins o D in
-    small-back (refusalOf ts) (places-small (refusalOf ts) _ (FailsAt P avail units begins o D) (with-units counts room P avail units begins o D)
+    small-back (refusalOf ts) (places-small (refusalOf ts) _ (FailsAt P avail units begins o D)
+    (with-units counts room P avail units begins o D)
     (subst (λ (n : ℕ). n < 256) (sym (said ts refl)) (number-small ts refl))
     (λ z.
     let h = passed _ refl z in
