@@ -124,7 +124,7 @@ CALL(play) {
 }
 CALL(play_draws) {
     return boltraven_play_draws(PEOPLE, r->slots, r->units, DRAWS, r->starts, SLOTS, r->ends, SLOTS, r->avail, WORDS, r->unit_starts, SLOTS,
-                                r->frozen, SET, r->owners, SLOTS, r->sets, WORDS, r->minutes, PEOPLE, r->structs, DRAWS, r->answers, DRAWS);
+                                r->frozen, SET, r->structs, DRAWS, r->owners, SLOTS, r->sets, WORDS, r->minutes, PEOPLE, r->answers, DRAWS);
 }
 CALL(stretch) { return boltraven_stretch(r->slots, r->answers, DRAWS, r->owners, SLOTS, r->frozen, SET, 0, &r->first); }
 CALL(publish) { return boltraven_publish(r->slots, r->owners, SLOTS, r->frozen, SET, r->answers, DRAWS); }

@@ -16,6 +16,7 @@ mod lent_units;
 mod library;
 mod limits;
 mod orders;
+mod planted;
 mod problems;
 mod program;
 mod readers;
@@ -56,7 +57,7 @@ const fn kind(name: &'static str, questions: fn(u64) -> Vec<Question>) -> Kind {
 }
 
 /// Every kind.
-const KINDS: [Kind; 19] = [
+const KINDS: [Kind; 20] = [
     kind("slot-sets", sets::questions),
     kind("slot-sets-damaged", sets::damaged),
     kind("slots", splitting::questions),
@@ -72,6 +73,7 @@ const KINDS: [Kind; 19] = [
     kind("targets-damaged", targets::damaged),
     kind("rotas", rota_questions::questions),
     kind("rotas-damaged", rota_questions::damaged),
+    kind("recounts", planted::questions),
     kind("columns", columns::questions),
     kind("columns-damaged", columns::damaged),
     kind("jobs", jobs::questions),

@@ -2,3 +2,4 @@
 pub mod Numbers
 pub mod Units
 pub mod Columns
+pub mod Rota

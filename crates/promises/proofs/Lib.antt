@@ -31,11 +31,14 @@ pub mod ColumnRules
 pub mod JobRules
 pub mod JobOwners
 pub mod JobFields
+pub mod Lowest
 pub mod JobTests
+pub mod Places
 pub mod JobText
 pub mod JobExample
 pub mod ListRules
 pub mod Accepts
+pub mod ReadRefusals
 pub mod Exports
 pub mod Empty
 pub mod Outcomes
