@@ -4,7 +4,8 @@ use mathlib.Core.Bool.{Bool, true, false, cond}
 use mathlib.Core.List.{List, [], _∷_, _++_, append-assoc}
 use Prim.Native.Nat.{ℕ, zero, suc, _+_, _≤_, _<_}
 use native.Mathlib.Omega.{arith}
-use lib.ListN.{length, drop, length-drop}
+use lib.ListN.{length, getD, drop, length-drop}
+use Rattle.paper.proofs.Logic.{by-test}
 use Rattle.records.specs.Fields.{le, Bytes}
 use Rattle.records.specs.Records.{Rec, bytesOf, fileOf, recordOf}
 use Rattle.records.specs.declared.Head.{Head}
@@ -40,6 +41,28 @@ pub head-cut : (s : List ℕ) (at : ℕ) → length s < at + (4 + le 2 s at) →
 unfolding headAt
 head-cut s at h = sym (ap (λ (b : Bool). cond b (head.Whole (le 2 s at) (le 2 s (at + 2))) head.Nothing) (whole-not s at h))
 
+-- and what its answer says
+pub head-says : (s : List ℕ) (at size kind : ℕ) → headAt s at ≡ head.Whole size kind
+    → (wholeAt s at ≡ true) × (size ≡ le 2 s at) × (kind ≡ le 2 s (at + 2))
+unfolding headAt
+head-says s at size kind e =
+    let found = head.Whole (le 2 s at) (le 2 s (at + 2)) in
+    by-test (wholeAt s at) _
+    (λ t. let q : found ≡ head.Whole size kind = sym (ap (λ (b : Bool). cond b found head.Nothing) t) ∙ e in (t, cc, cc))
+    (λ f.
+    let q : head.Nothing ≡ head.Whole size kind = sym (ap (λ (b : Bool). cond b found head.Nothing) f) ∙ e in
+    absurd (let z : _≡_ {A = ℕ} 0 1 = cc in omega arith))
+
+pub head-none : (s : List ℕ) (at : ℕ) → headAt s at ≡ head.Nothing → wholeAt s at ≡ false
+unfolding headAt
+head-none s at e =
+    let found = head.Whole (le 2 s at) (le 2 s (at + 2)) in
+    by-test (wholeAt s at) _
+    (λ t.
+    let q : found ≡ head.Nothing = sym (ap (λ (b : Bool). cond b found head.Nothing) t) ∙ e in
+    absurd (let z : _≡_ {A = ℕ} 0 1 = cc in omega arith))
+    (λ f. f)
+
 -- the body of a whole record: its length, its bytes, its fields
 pub found-length : (s : List ℕ) (at : ℕ) → wholeAt s at ≡ true → length (foundAt s at .body) ≡ le 2 s at
 unfolding foundAt bodyAt
@@ -53,6 +76,10 @@ pub found-field : (s : List ℕ) (at off n : ℕ) → wholeAt s at ≡ true → 
     → le n (foundAt s at .body) off ≡ le n s (at + (4 + off))
 unfolding foundAt bodyAt
 found-field s at off n t h = body-field s (le 2 s at) at off n (whole-says s at t) h
+
+pub found-byte : (s : List ℕ) (at k : ℕ) → wholeAt s at ≡ true → k < le 2 s at → getD (foundAt s at .body) k 0 ≡ getD s (at + (4 + k)) 0
+unfolding le
+found-byte s at k t h = omega (arith, found-field s at k 1 t (omega arith))
 
 -- ---- a record and what follows it
 
@@ -165,6 +192,7 @@ file-reads s k (r ∷ rs) F h e =
     first-then : (k : ℕ) {n : ℕ} (P : ℕ → Type 0) → P k → ((j : ℕ) → j < n → P (suc k + j)) → (j : ℕ) → j < suc n → P (k + j)
     first-then k P p f zero h = let z : k ≡ k + 0 = omega arith in rw z at p
     first-then k P p f (suc j) h = let z : suc k + j ≡ k + suc j = omega arith in rw z at (f j (omega arith))
+
     both-parts : (s : List ℕ) (k : ℕ) (r : Rec) (rs : List Rec) → foundAt s (placeOf s k) ≡ r
         → ((j : ℕ) → j < length rs → foundAt s (placeOf s (suc k + j)) ≡ recordOf rs j)
         → (j : ℕ) → j < suc (length rs) → foundAt s (placeOf s (k + j)) ≡ recordOf (r ∷ rs) j

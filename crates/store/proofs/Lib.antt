@@ -1,0 +1,5 @@
+-- Laws that belong to no one function.
+pub mod Right
+pub mod Counted
+pub mod Reading
+pub mod Outcomes
