@@ -3,3 +3,5 @@ pub mod Right
 pub mod Counted
 pub mod Reading
 pub mod Outcomes
+pub mod Stores
+pub mod Saves
