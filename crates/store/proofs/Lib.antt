@@ -5,3 +5,4 @@ pub mod Reading
 pub mod Outcomes
 pub mod Stores
 pub mod Saves
+pub mod Asks

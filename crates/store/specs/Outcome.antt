@@ -1,6 +1,6 @@
 -- The outcome of each question to a store, refused or not. Assumes nothing.
 use mathlib.Core.Path.{_≡_}
-use mathlib.Core.Bool.{Bool, true, false, _&&_, _||_}
+use mathlib.Core.Bool.{Bool, true, false, _&&_, _||_, cond}
 use mathlib.Core.List.{List, [], _∷_, _++_}
 use Prim.Native.Nat.{ℕ, _+_}
 use lib.Dec.{leb, ltb}
@@ -84,6 +84,11 @@ saveIs area used s =
       area = unless n area (put (bytesOf (settingsRecord s)) used area);
     }
 
+-- the number of the refusal, or 0
+abbrev pub savedRefusal : Saved → ℕ
+savedRefusal (saved.As number used) = 0
+savedRefusal (saved.Refused n) = n
+
 -- an answer and an area at exit are those of w
 pub record SavesAs (w : Saving) (answer : Saved) (area : List ℕ) : Type 0 where
   pub said : answer ≡ w .answer
@@ -99,3 +104,15 @@ unfoldable pub askIs : List ℕ → ℕ → ℕ → Asked
 askIs area used n =
     let number = numberOf (askRow area used n) in
     unless number (asked.Refused number) (answerOf (keptIn (take used area) n))
+
+-- of a store that is laid out right: a record's figures where they pass rule 7, else 7; newer; or 11
+abbrev pub judged : Kept → Asked
+judged (kept.Figures s) = cond (settingsOk s) (asked.Is s) (asked.Refused 7)
+judged kept.Newer = asked.Newer
+judged kept.Unknown = asked.Refused 11
+
+-- the number of the refusal, or 0
+abbrev pub askedRefusal : Asked → ℕ
+askedRefusal (asked.Is s) = 0
+askedRefusal asked.Newer = 0
+askedRefusal (asked.Refused n) = n
