@@ -31,6 +31,7 @@ mod stored_jobs;
 mod stored_rotas;
 mod stored_slots;
 mod stored_units;
+mod stores;
 mod table;
 mod targets;
 mod units;
@@ -55,7 +56,7 @@ const fn kind(name: &'static str, questions: fn(u64) -> Vec<Question>) -> Kind {
 }
 
 /// Every kind.
-const KINDS: [Kind; 17] = [
+const KINDS: [Kind; 19] = [
     kind("slot-sets", sets::questions),
     kind("slot-sets-damaged", sets::damaged),
     kind("slots", splitting::questions),
@@ -73,6 +74,8 @@ const KINDS: [Kind; 17] = [
     kind("rotas-damaged", rota_questions::damaged),
     kind("jobs", jobs::questions),
     kind("jobs-damaged", jobs::damaged),
+    kind("stores", stores::questions),
+    kind("stores-damaged", stores::damaged),
 ];
 
 /// From how many cases of every kind on each exported function must have been asked.
@@ -153,6 +156,7 @@ fn store(kind: &str, n: u64, seed: u64, folder: &Path) -> ExitCode {
         "units" => Ok(stored_units::units(n, seed)),
         "rotas" => Ok(stored_rotas::rotas(n, seed)),
         "jobs" => stored_jobs::jobs(n, seed),
+        "stores" => Ok(stores::stored(n, seed)),
         _ => Err(format!("no kind {kind}")),
     };
     let stored = match made {

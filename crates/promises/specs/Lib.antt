@@ -30,6 +30,7 @@ pub mod JobFields
 pub mod JobTests
 pub mod JobText
 pub mod JobExample
+pub mod StoreRules
 pub mod ListRules
 pub mod Accepts
 pub mod Exports
