@@ -5,7 +5,7 @@ use mathlib.Core.List.{List, [], _∷_, _++_, append-assoc}
 use mathlib.Core.Logic.{_⊎_, inl, inr, ⊎-elim, _↔_}
 use Prim.Native.Nat.{ℕ, zero, suc, _+_, _-_, _*_, _≤_, _<_}
 use native.Mathlib.Omega.{arith}
-use borrow.Author.Tests.{lt-ltb, le-ltb, ltb-true, ltb-false, le-leb, lt-leb, leb-true, eqb-true, eq-eqb}
+use borrow.Author.Tests.{lt-ltb, le-ltb, ltb-true, ltb-false, le-leb, lt-leb, leb-true, eqb-true, eq-eqb, ne-eqb}
 use lib.Dec.{leb, ltb, eqb}
 use lib.ListN.{length, getD, take, length-append, List·getD-append, List·getD-eq-default}
 use lib.Seq.{getD-append-add, getD-take}
@@ -42,6 +42,8 @@ use Rattle.store.proofs.Saves.{more-length, more-front, more-last, Accepted, ac
 use Rattle.store.proofs.Saves.{saved-length, saved-before, saved-behind, saved-store}
 use Rattle.promises.specs.Outcomes.{Only}
 use Rattle.promises.specs.StoreRules.{Broken, StoreRefuses, StoreReads, AfterSave, Saves, none, more, noSettings, AfterSaves, StoresByRule}
+use Rattle.promises.specs.StoreRules.{readSaved, readAsked, figuresLeft, StoreRead}
+use Rattle.boltraven_c.specs.Store.{savedNumber, savedUsed, askedNumber, askedFigure}
 
 -- ---- demand 1
 
@@ -349,3 +351,28 @@ stores-by-rule = record {
   room = can-save;
   empty = λ area. record { each = λ k h. absurd (omega arith); few = omega arith; whole = refl };
 }
+
+-- ---- what a C caller takes the answers for
+
+read-asked : (was : Settings) (a : Asked) → readAsked (askedNumber a) (figuresLeft was a) ≡ a
+read-asked was (asked.Is s) = refl
+read-asked was asked.Newer = refl
+read-asked was (asked.Refused n) =
+    let z : 65536 + n - 65536 ≡ n = omega arith in
+    simp (ne-eqb (65536 + n) 0 (λ e. omega arith), ne-eqb (65536 + n) 1 (λ e. omega arith)) (ap asked.Refused z)
+
+read-saved : (area : List ℕ) (used : ℕ) (s : Settings) (m n : ℕ)
+    → let a = saveIs area used s .answer in readSaved (savedRefusal a) (savedNumber m a) (savedUsed n a) ≡ a
+unfolding saveIs
+read-saved area used s m n =
+    let k = numberOf (saveRow area used s) in
+    let done : Saved = saved.As (countIn (take used area) + 1) (used + 12) in
+    let Reads : Saved → Type 0 = λ a. readSaved (savedRefusal a) (savedNumber m a) (savedUsed n a) ≡ a in
+    by-test (eqb k 0) _
+    (λ t. subst Reads (sym (worked k (saved.Refused k) done (eqb-true k 0 t))) refl)
+    (λ f.
+    subst Reads (sym (kept k (saved.Refused k) done (borrow.Author.Tests.eqb-false k 0 f)))
+    (ap (λ (b : Bool). cond b (saved.As m n) (saved.Refused k)) f))
+
+pub store-read : StoreRead
+store-read = record { save = read-saved; ask = read-asked }

@@ -1,9 +1,10 @@
 -- A store of settings: its refusals, 13 both ways, what each number answers, and what a save leaves behind. Assumes nothing.
 use mathlib.Core.Path.{_≡_}
-use mathlib.Core.Bool.{true}
+use mathlib.Core.Bool.{true, cond}
 use mathlib.Core.List.{List, [], _∷_, _++_}
 use mathlib.Core.Logic.{_⊎_, _↔_}
 use Prim.Native.Nat.{ℕ, suc, _+_, _-_, _*_, _≤_, _<_}
+use lib.Dec.{eqb}
 use lib.ListN.{length, getD, take}
 use Rattle.slotset.specs.declared.Number.{Number}
 use Rattle.slotset.specs.declared.Number.the-variants as number
@@ -20,6 +21,8 @@ use Rattle.store.specs.declared.Asked.the-variants as asked
 use Rattle.store.specs.Layout.{StoreOf, IsStore}
 use Rattle.store.specs.Figures.{figuresOf, keptOf, settingsRecord}
 use Rattle.store.specs.Outcome.{storeRow, saveRow, askRow, countIs, saveIs, askIs, savedRefusal, askedRefusal, judged, Saving, SavesAs}
+use Rattle.boltraven_c.specs.Store.{savedNumber, savedUsed, askedNumber, askedFigure}
+use Rattle.boltraven_c.specs.Units.{settingsOf}
 use Rattle.promises.specs.Outcomes.{Only}
 
 -- the used bytes are there, and are no sequence of right records
@@ -107,3 +110,23 @@ pub record StoresByRule : Type 0 where
       → (left : List ℕ) × (last : ℕ) × Saves area used ss left last
   -- an area with nothing used is an empty store
   pub empty : (area : List ℕ) → StoreOf [] (take 0 area)
+
+-- ---- what a C caller takes the answers for
+
+abbrev pub readSaved : ℕ → ℕ → ℕ → Saved
+readSaved v m used = cond (eqb v 0) (saved.As m used) (saved.Refused v)
+
+abbrev pub readAsked : ℕ → Settings → Asked
+readAsked v s = cond (eqb v 0) (asked.Is s) (cond (eqb v 1) asked.Newer (asked.Refused (v - 65536)))
+
+-- the six numbers after a call; `was` stood there before it
+abbrev pub figuresLeft : Settings → Asked → Settings
+figuresLeft was a =
+    settingsOf (askedFigure (λ s. s .fairness) (was .fairness) a) (askedFigure (λ s. s .lock) (was .lock) a)
+    (askedFigure (λ s. s .boundary) (was .boundary) a) (askedFigure (λ s. s .edition) (was .edition) a)
+    (askedFigure (λ s. s .value) (was .value) a) (askedFigure (λ s. s .days) (was .days) a)
+
+pub record StoreRead : Type 0 where
+  pub save : (area : List ℕ) (used : ℕ) (s : Settings) (m n : ℕ)
+      → let a = saveIs area used s .answer in readSaved (savedRefusal a) (savedNumber m a) (savedUsed n a) ≡ a
+  pub ask : (was : Settings) (a : Asked) → readAsked (askedNumber a) (figuresLeft was a) ≡ a
