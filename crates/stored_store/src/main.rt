@@ -70,7 +70,10 @@ fn saved(head: &[u8], area: &mut [u8], after: &[u8]) -> bool {
     let answer = store::save(area, half(head, 2), figures(head, 18));
     let same = same_raws(area, after);
     match answer {
-        Saved::As { number, used } => due == 0 && number == half(head, 28) as u64 && used == half(head, 30) as u64 && same,
+        Saved::As { number, used } => due == 0
+            && number == half(head, 28) as u64
+            && used == half(head, 30) as u64
+            && same,
         Saved::Refused(n) => refused(n) == due && same,
     }
 }
