@@ -150,11 +150,20 @@ fn figures(seed: &mut Seed, wrong: u64) -> Settings {
 /// A record that a store may have.
 fn record(seed: &mut Seed, longest: u64) -> Record {
     match seed.below(4) {
-        0 => Record::of_settings(OLD, Settings { edition: 0, ..figures(seed, 5) }),
+        0 => Record::of_settings(
+            OLD,
+            Settings {
+                edition: 0,
+                ..figures(seed, 5)
+            },
+        ),
         1 => {
             let size = seed.pick(&[0, 1, 7, 8, 9, longest]);
             let body = (0..size).map(|_| seed.word() as u8).collect();
-            Record { kind: seed.within(u64::from(EDITION) + 1, u64::from(LAST)) as u16, body }
+            Record {
+                kind: seed.within(u64::from(EDITION) + 1, u64::from(LAST)) as u16,
+                body,
+            }
         }
         _ => Record::of_settings(EDITION, figures(seed, 5)),
     }
@@ -167,7 +176,10 @@ fn records(seed: &mut Seed) -> Vec<Record> {
     let mut records: Vec<Record> = (0..count).map(|_| record(seed, 20)).collect();
     if seed.one_in(12) {
         records.truncate(3);
-        records.push(Record { kind: LAST, body: vec![seed.word() as u8; seed.pick(&[65_535, 65_534, 256])] });
+        records.push(Record {
+            kind: LAST,
+            body: vec![seed.word() as u8; seed.pick(&[65_535, 65_534, 256])],
+        });
     }
     records
 }
@@ -188,7 +200,12 @@ fn with_fault(seed: &mut Seed, mut records: Vec<Record>) -> Area {
     if let Some(one) = records.get_mut(at) {
         match fault {
             0 => one.kind = seed.pick(&[0, 1, 31, 64, 288, 65_535]),
-            1 => *one = Record { kind: seed.pick(&[OLD, EDITION]), body: vec![0; seed.pick(&[0, 7, 9, 264])] },
+            1 => {
+                *one = Record {
+                    kind: seed.pick(&[OLD, EDITION]),
+                    body: vec![0; seed.pick(&[0, 7, 9, 264])],
+                }
+            }
             2 => {
                 *one = Record::of_settings(OLD, figures(seed, 3));
                 one.body[3] = seed.pick(&[1, 2, 255]);
@@ -248,7 +265,11 @@ fn ask(area: &Area, number: u64) -> Question {
         Err(n) => NOTHING + n,
     };
     let written = places(answer.ok().flatten().unwrap_or(WAS));
-    Question { function: "boltraven_ask_settings", args, due: Outcome { result, written } }
+    Question {
+        function: "boltraven_ask_settings",
+        args,
+        due: Outcome { result, written },
+    }
 }
 
 fn save(area: &Area, s: Settings) -> Question {
@@ -267,7 +288,11 @@ fn save(area: &Area, s: Settings) -> Question {
     };
     let mut written = vec![after.bytes];
     written.extend(numbers.map(|n| n.to_le_bytes().to_vec()));
-    Question { function: "boltraven_save_settings", args, due: Outcome { result, written } }
+    Question {
+        function: "boltraven_save_settings",
+        args,
+        due: Outcome { result, written },
+    }
 }
 
 /// Every question to an area: its count, numbers at both ends and some between, and settings saved.
@@ -339,7 +364,13 @@ fn small_area(seed: &mut Seed, k: u64) -> Area {
     }
     let count = seed.pick(&[127, 128, 129]);
     let mut bare = vec![Record { kind: LAST, body: vec![] }; count];
-    bare[count - 1] = Record::of_settings(OLD, Settings { edition: 0, ..figures(seed, 5) });
+    bare[count - 1] = Record::of_settings(
+        OLD,
+        Settings {
+            edition: 0,
+            ..figures(seed, 5)
+        },
+    );
     area(seed, &bare)
 }
 
@@ -362,8 +393,22 @@ pub fn stored(n: u64, run: u64) -> Stored {
     for number in [1, 2, 3, 4] {
         put(&after, number, SAVED);
     }
-    put(&Area { used: 33, ..example.clone() }, 1, SAVED);
-    put(&Area { used: 17, ..example.clone() }, 1, SAVED);
+    put(
+        &Area {
+            used: 33,
+            ..example.clone()
+        },
+        1,
+        SAVED,
+    );
+    put(
+        &Area {
+            used: 17,
+            ..example.clone()
+        },
+        1,
+        SAVED,
+    );
     let mut broken = example.clone();
     broken.bytes[7] = 1;
     put(&broken, 2, SAVED);
@@ -385,7 +430,14 @@ fn put_record(bytes: &mut Vec<u8>, area: &Area, number: u64, s: Settings) {
     short(bytes, area.used as u64);
     short(bytes, number);
     short(bytes, area.count().unwrap_or_else(|n| REFUSED + n));
-    const NONE: Settings = Settings { fairness: 0, lock: 0, boundary: 0, edition: 0, value: 0, days: 0 };
+    const NONE: Settings = Settings {
+        fairness: 0,
+        lock: 0,
+        boundary: 0,
+        edition: 0,
+        value: 0,
+        days: 0,
+    };
     let (told, asked) = match area.ask(number) {
         Ok(Some(s)) => (0, s),
         Ok(None) => (1, NONE),
