@@ -24,8 +24,6 @@ use Rattle.records.specs.Fields.{Bytes}
 use Rattle.records.specs.Records.{Rec, recordOf, fileOf}
 use Rattle.job.specs.Outcome.{Lowest, AllPass}
 use Rattle.job.proofs.Tests.{number-none, number-lowest}
-use Rattle.store.specs.declared.Kept.{Kept}
-use Rattle.store.specs.declared.Kept.the-variants as held
 use Rattle.store.specs.declared.Saved.{Saved}
 use Rattle.store.specs.declared.Saved.the-variants as saved
 use Rattle.store.specs.declared.Asked.{Asked}
@@ -152,7 +150,7 @@ judged-newer r = (
   λ h. ap judged (sym (kept-newer r h)),
 )
   where
-    not-newer : (s : Settings) → judged (held.Figures s) ≡ asked.Newer → ⊥
+    not-newer : (s : Settings) → cond (settingsOk s) (asked.Is s) (asked.Refused 7) ≡ asked.Newer → ⊥
     not-newer s e =
         by-test (settingsOk s) _
         (λ t.
