@@ -63,8 +63,9 @@ impl Record {
 fn split(mut bytes: &[u8]) -> Option<Vec<Record>> {
     let mut records = Vec::new();
     while !bytes.is_empty() {
-        let (head, rest) = bytes.split_at_checked(4)?;
-        let (body, rest) = rest.split_at_checked(usize::from(u16::from_le_bytes([head[0], head[1]])))?;
+        let (head, rest) = (bytes.get(..4)?, &bytes[4..]);
+        let size = usize::from(u16::from_le_bytes([head[0], head[1]]));
+        let (body, rest) = (rest.get(..size)?, &rest[size..]);
         let kind = u16::from_le_bytes([head[2], head[3]]);
         records.push(Record { kind, body: body.to_vec() });
         bytes = rest;
