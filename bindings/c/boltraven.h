@@ -19,15 +19,15 @@
       2  A lent buffer is shorter than needed.
       3  A base slot is empty or reversed, ends after minute 100,000,000, or starts before the previous one ends.
       4  A range starts after its end, ends after minute 100,000,000, or names an unknown person.
-      5  More than 1,024 atomic slots result.
+      5  More than 1,024 atomic slots result, or a store of settings has no room.
       6  A capacity is no number from 0 to 1,000, or prior minutes are above 100,000,000.
       7  Fairness, lock, boundary, every-count, weekday mask or shift days are outside their limits.
       8  An unrounded target is not finite, or of size 2^40 or more.
       9  Lent slots are empty, reversed, too late or overlap, or unit starts don't rise from 0 below the slot count.
      10  The recount fails: owners, units, sets and minutes don't fit together.
-     11  A slot, unit, person or index is not below its count.
+     11  A slot, unit, person or index is not below its count, or no saved settings have the number.
      12  A person is to get a slot for which they aren't available.
-     13  The job file breaks its layout or is too long.
+     13  The job file or the store of settings breaks its layout or is too long.
 
    Where the recount fails, by its parts, which are checked in this order over the whole rota. The place is the lowest at fault; of a wrong
    set it is the lowest person, and the second number is that person's lowest slot.
@@ -107,15 +107,15 @@ static inline const char *boltraven_refusal_text(uint8_t number) {
     case 2: return "A lent buffer is shorter than needed.";
     case 3: return "A base slot is empty or reversed, ends after minute 100,000,000, or starts before the previous one ends.";
     case 4: return "A range starts after its end, ends after minute 100,000,000, or names an unknown person.";
-    case 5: return "More than 1,024 atomic slots result.";
+    case 5: return "More than 1,024 atomic slots result, or a store of settings has no room.";
     case 6: return "A capacity is no number from 0 to 1,000, or prior minutes are above 100,000,000.";
     case 7: return "Fairness, lock, boundary, every-count, weekday mask or shift days are outside their limits.";
     case 8: return "An unrounded target is not finite, or of size 2^40 or more.";
     case 9: return "Lent slots are empty, reversed, too late or overlap, or unit starts don't rise from 0 below the slot count.";
     case 10: return "The recount fails: owners, units, sets and minutes don't fit together.";
-    case 11: return "A slot, unit, person or index is not below its count.";
+    case 11: return "A slot, unit, person or index is not below its count, or no saved settings have the number.";
     case 12: return "A person is to get a slot for which they aren't available.";
-    case 13: return "The job file breaks its layout or is too long.";
+    case 13: return "The job file or the store of settings breaks its layout or is too long.";
     default: return NULL;
     }
 }
@@ -386,6 +386,22 @@ static inline uint8_t boltraven_part_of(size_t slots, const uint8_t *published, 
     part->column = column;
     return 0;
 }
+
+/* ---- A store of settings: an area of bytes with its used length, which the caller keeps. Records stand one after the other in the used bytes,
+   numbered from 1 in order of saving, at most 128. An area shorter than its used length is refused by 2, broken records by 13. */
+
+/* How many records the store has. */
+uint64_t boltraven_count_settings(const uint8_t *area, size_t area_len, size_t used);
+
+/* Settings as one record more, in the twelve bytes after the used ones: its number, and the used length with it. A full store, or one with
+   fewer bytes left, is refused by 5. */
+uint8_t boltraven_save_settings(uint8_t *area, size_t area_len, size_t used, uint8_t fairness, uint8_t lock, uint8_t boundary,
+                                uint8_t edition, uint16_t value, uint16_t days, uint64_t *number, uint64_t *new_used);
+
+/* The settings saved under a number: 0, their six numbers being written; or 1 for a record of a kind newer than this library, and then the six
+   stay as they were. A number of no record is refused by 11, figures outside their limits by 7. */
+uint64_t boltraven_ask_settings(const uint8_t *area, size_t area_len, size_t used, size_t number, uint8_t *fairness, uint8_t *lock,
+                                uint8_t *boundary, uint8_t *edition, uint16_t *value, uint16_t *days);
 
 /* ---- A whole job. */
 

@@ -18,6 +18,7 @@ enum {
     SET = BOLTRAVEN_SET_WORDS,
     WORDS = PEOPLE * SET,
     BASES = 992,
+    STORE = 128 * 12,
     LENT_STACK = 4 << 20,
     THREAD_STACK = 512 << 10,
     THREADS = 8,
@@ -34,6 +35,9 @@ struct room {
     struct boltraven_draw structs[DRAWS];
     uint16_t persons[RANGES], whose[RANGES], unit_starts[SLOTS], draws[DRAWS], firsts[DRAWS], seconds[DRAWS];
     uint8_t owners[SLOTS], list[PEOPLE], answers[DRAWS], file[BOLTRAVEN_FILE_MOST], listing[BOLTRAVEN_LISTING_MOST];
+    /* a store of settings with one record less than it may have */
+    uint8_t store[STORE], figures[4];
+    uint16_t words[2];
     size_t file_len;
 };
 
@@ -131,6 +135,12 @@ CALL(publish) { return boltraven_publish(r->slots, r->owners, SLOTS, r->frozen, 
 CALL(show) {
     return boltraven_show(r->slots, r->answers, DRAWS, r->owners, SLOTS, r->frozen, SET, r->listing, BOLTRAVEN_LISTING_MOST);
 }
+CALL(count_settings) { return boltraven_count_settings(r->store, STORE, STORE - 12); }
+CALL(save_settings) { return boltraven_save_settings(r->store, STORE, STORE - 12, 0, 1, 1, 1, 127, 7, &r->first, &r->last); }
+CALL(ask_settings) {
+    return boltraven_ask_settings(r->store, STORE, STORE - 12, 127, &r->figures[0], &r->figures[1], &r->figures[2], &r->figures[3],
+                                  &r->words[0], &r->words[1]);
+}
 CALL(run_job) { return boltraven_run_job(r->file, r->file_len, r->listing, BOLTRAVEN_LISTING_MOST, &r->first); }
 
 /* Each by its name. None may be refused, since the deepest way goes through the work: `most` is the largest answer that is no refusal. */
@@ -148,7 +158,8 @@ static const struct {
     DONE(unit_slots), NUMBER(unit_of_slot), NUMBER(unit_domain), DONE(unit_domains), NUMBER(unit_frozen), DONE(covered_days),
     DONE(minutes_per_day), DONE(target_run), DONE(achievable_run), DONE(compute_targets), DONE(empty), DONE(from_slots), DONE(assign),
     NUMBER(owner_of_slot), DONE(minutes_of), NUMBER(unassigned_count), DONE(uncovered_minutes), DONE(recount), DONE(recount_slots),
-    DONE(play), DONE(play_draws), NUMBER(stretch), DONE(publish), DONE(show), DONE(run_job)};
+    DONE(play), DONE(play_draws), NUMBER(stretch), DONE(publish), DONE(show), DONE(run_job), NUMBER(count_settings), DONE(save_settings),
+    DONE(ask_settings)};
 
 enum { CALLS = sizeof calls / sizeof calls[0] };
 
@@ -221,6 +232,10 @@ static void make(void) {
         made.structs[k] = (struct boltraven_draw){made.draws[k], made.firsts[k], made.seconds[k]};
     }
     make_file();
+    for (size_t k = 0; k < 127; k++) {
+        must(boltraven_save_settings(made.store, STORE, 12 * k, 0, 1, 1, k % 2, 127, k, &made.first, &made.last) == 0, "settings are refused");
+        must(made.first == k + 1 && made.last == 12 * k + 12, "settings are saved under another number");
+    }
 }
 
 /* The answer of a call and all that it leaves, as one number. */

@@ -18,15 +18,15 @@ SENTENCES = {
     2: "A lent buffer is shorter than needed.",
     3: "A base slot is empty or reversed, ends after minute 100,000,000, or starts before the previous one ends.",
     4: "A range starts after its end, ends after minute 100,000,000, or names an unknown person.",
-    5: "More than 1,024 atomic slots result.",
+    5: "More than 1,024 atomic slots result, or a store of settings has no room.",
     6: "A capacity is no number from 0 to 1,000, or prior minutes are above 100,000,000.",
     7: "Fairness, lock, boundary, every-count, weekday mask or shift days are outside their limits.",
     8: "An unrounded target is not finite, or of size 2^40 or more.",
     9: "Lent slots are empty, reversed, too late or overlap, or unit starts don't rise from 0 below the slot count.",
     10: "The recount fails: owners, units, sets and minutes don't fit together.",
-    11: "A slot, unit, person or index is not below its count.",
+    11: "A slot, unit, person or index is not below its count, or no saved settings have the number.",
     12: "A person is to get a slot for which they aren't available.",
-    13: "The job file breaks its layout or is too long.",
+    13: "The job file or the store of settings breaks its layout or is too long.",
 }
 
 # What a part of the recount, which is refusal 10, says of its place.

@@ -105,6 +105,9 @@ exports! {
     done publish(number, slice, slice, slice);
     done show(number, slice, slice, slice, slice);
     done run_job(slice, slice, out);
+    number count_settings(slice, number);
+    done save_settings(slice, number, number, number, number, number, number, number, out, out);
+    kept ask_settings(slice, number, number, place, place, place, place, place, place);
 }
 
 // ---- answers as numbers
@@ -138,6 +141,13 @@ fn held(answer: Result<lent::Held, Refusal>) -> u64 {
         lent::Held::Run => Some(0),
         lent::Held::Hole => Some(1),
         lent::Held::Outside => None,
+    }))
+}
+
+fn kept(answer: Result<lent::Kept, Refusal>) -> u64 {
+    number(answer.map(|kept| match kept {
+        lent::Kept::Figures => 0,
+        lent::Kept::Newer => 1,
     }))
 }
 
@@ -176,6 +186,11 @@ impl<'a> Args<'a, '_> {
         };
         assert_eq!(*size, std::mem::size_of::<T>(), "an element is of another size");
         lend(lent, bytes)
+    }
+
+    /// One number that may be written, of any size: a slice of one.
+    fn place<T: Element>(&mut self) -> &'a mut T {
+        &mut self.slice()[0]
     }
 
     fn out(&mut self) -> &'a mut u64 {

@@ -33,6 +33,7 @@ mod stored_jobs;
 mod stored_rotas;
 mod stored_slots;
 mod stored_units;
+mod stores;
 mod table;
 mod targets;
 mod units;
@@ -57,7 +58,7 @@ const fn kind(name: &'static str, questions: fn(u64) -> Vec<Question>) -> Kind {
 }
 
 /// Every kind.
-const KINDS: [Kind; 20] = [
+const KINDS: [Kind; 22] = [
     kind("slot-sets", sets::questions),
     kind("slot-sets-damaged", sets::damaged),
     kind("slots", splitting::questions),
@@ -78,6 +79,8 @@ const KINDS: [Kind; 20] = [
     kind("columns-damaged", columns::damaged),
     kind("jobs", jobs::questions),
     kind("jobs-damaged", jobs::damaged),
+    kind("stores", stores::questions),
+    kind("stores-damaged", stores::damaged),
 ];
 
 /// From how many cases of every kind on each exported function must have been asked.
@@ -159,6 +162,7 @@ fn store(kind: &str, n: u64, seed: u64, folder: &Path) -> ExitCode {
         "rotas" => Ok(stored_rotas::rotas(n, seed)),
         "columns" => Ok(columns::stored(n, seed)),
         "jobs" => stored_jobs::jobs(n, seed),
+        "stores" => Ok(stores::stored(n, seed)),
         _ => Err(format!("no kind {kind}")),
     };
     let stored = match made {

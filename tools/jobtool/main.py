@@ -3,7 +3,7 @@ import argparse
 import os
 import sys
 
-from jobtool import VERSION, forms, layout, listing, picture, program, rota, text, times
+from jobtool import VERSION, forms, layout, listing, picture, program, rota, store, text, times
 from jobtool.wrong import Wrong
 
 # A job file has at most 6,144 records, of 8 bytes at least: their text is far shorter than this.
@@ -23,9 +23,10 @@ def parser():
     top = Parser(prog="job", formatter_class=plain, description="A job as text, as a file, as its listing and as a picture.",
                  epilog="The text of a job:\n" + text.__doc__.partition("\n")[2] + "\n" + STATUS)
     top.add_argument("--version", action="version", version="job %s" % VERSION)
-    subs = top.add_subparsers(dest="what", required=True, metavar="pack | show | run | picture", parser_class=Parser)
+    subs = top.add_subparsers(dest="what", required=True, metavar="pack | show | run | picture | store", parser_class=Parser)
 
     one = subs.add_parser("pack", help="make a job file of a text", epilog=STATUS, formatter_class=plain)
+    with_store(one)
     one.add_argument("text", metavar="TEXT")
     one.add_argument("job", metavar="JOB")
 
@@ -41,13 +42,22 @@ def parser():
     form.add_argument("--csv", action="store_const", dest="form", const=forms.as_csv, help="one table, with a line of names")
     form.add_argument("--json", action="store_const", dest="form", const=forms.as_json, help="one object")
     one.set_defaults(form=forms.as_lines)
+    with_store(one)
     one.add_argument("text", metavar="TEXT")
 
     one = subs.add_parser("picture", help="run a text and draw its rota as an SVG", epilog=STATUS, formatter_class=plain)
+    with_store(one)
     one.add_argument("--names", default="", metavar="NAME,NAME..", help="what to call the people, in their order")
     one.add_argument("text", metavar="TEXT")
     one.add_argument("svg", metavar="SVG")
+
+    one = subs.add_parser("store", help="print a store of settings as a text, a record a line", epilog=STATUS, formatter_class=plain)
+    one.add_argument("store", metavar="STORE")
     return top
+
+
+def with_store(one):
+    one.add_argument("--settings", nargs=2, metavar=("STORE", "NUMBER"), help="the settings of this number in a store, for those of the text")
 
 
 def content(name):
@@ -59,15 +69,24 @@ def content(name):
     return data
 
 
-def records_of(name):
+def records_of(name, settings=None):
+    """The records of a text; with settings from a store these stand first, and the text's are left out."""
     try:
-        return text.records_of(content(name))
+        records = text.records_of(content(name))
     except Wrong as e:
         raise Wrong("%s: %s" % (name, e))
+    if not settings:
+        return records
+    stored, number = settings
+    try:
+        body = store.settings_of(content(stored), text.number(number, text.U64, "a number of a store"))
+    except Wrong as e:
+        raise Wrong("%s: %s" % (stored, e))
+    return [(layout.SETTINGS, body)] + [(kind, data) for kind, data in records if kind != layout.SETTINGS]
 
 
 def pack(words):
-    file = layout.file_of(records_of(words.text))
+    file = layout.file_of(records_of(words.text, words.settings))
     with open(words.job, "wb") as out:
         out.write(file)
 
@@ -80,9 +99,17 @@ def show(words):
         raise Wrong("%s: %s" % (words.job, e))
 
 
-def ran(name):
+def show_store(words):
+    try:
+        for number, (kind, body) in enumerate(store.entries_of(content(words.store)), 1):
+            print(number, store.line_of(kind, body))
+    except Wrong as e:
+        raise Wrong("%s: %s" % (words.store, e))
+
+
+def ran(name, settings):
     """The listing of a text, as the program wrote it and as records; and the job, of one that is accepted."""
-    records = records_of(name)
+    records = records_of(name, settings)
     lines = program.listing_of(layout.file_of(records))
     read = listing.read(lines)
     return lines, read, rota.Job(records) if read.refusal is None else None
@@ -94,13 +121,13 @@ def refused(refusal):
 
 
 def run(words):
-    lines, read, job = ran(words.text)
+    lines, read, job = ran(words.text, words.settings)
     sys.stdout.write(words.form(lines, read, job, words))
     return refused(read.refusal) if read.refusal is not None else 0
 
 
 def draw(words):
-    _, read, job = ran(words.text)
+    _, read, job = ran(words.text, words.settings)
     if read.refusal is not None:
         return refused(read.refusal)
     names = [name.strip() for name in words.names.split(",") if name.strip()]
@@ -116,7 +143,7 @@ def main(words):
     """The status with which to end."""
     given = parser().parse_args(words)
     try:
-        status = {"pack": pack, "show": show, "run": run, "picture": draw}[given.what](given) or 0
+        status = {"pack": pack, "show": show, "run": run, "picture": draw, "store": show_store}[given.what](given) or 0
         sys.stdout.flush()
         return status
     except BrokenPipeError:

@@ -149,6 +149,28 @@
 //! assert!(lent::version() >= 100);
 //! # Ok::<(), Refusal>(())
 //! ```
+//!
+//! A store of settings: an area of bytes, and how many of them are used.
+//!
+//! ```
+//! use boltraven::{lent, Refusal};
+//!
+//! let (mut area, mut number, mut used) = ([0; 20], 0, 0);
+//! lent::save_settings(&mut area, 0, 0, 1, 1, 1, 31, 2, &mut number, &mut used)?;
+//! assert_eq!((number, used, lent::count_settings(&area, 12)?), (1, 12, 1));
+//! assert_eq!(area[..12], [8, 0, 33, 0, 0, 1, 1, 1, 31, 0, 2, 0]);
+//!
+//! let (mut fairness, mut lock, mut boundary, mut edition, mut value, mut days) = (9, 9, 9, 9, 9, 9);
+//! let mut ask = |area: &[u8], used, number| {
+//!     lent::ask_settings(area, used, number, &mut fairness, &mut lock, &mut boundary, &mut edition, &mut value, &mut days)
+//! };
+//! assert_eq!((ask(&area, 12, 1)?, ask(&area, 12, 2)), (lent::Kept::Figures, Err(Refusal::Unknown)));
+//! area[12..18].copy_from_slice(&[2, 0, 40, 0, 7, 7]); // a record of kind 40
+//! assert_eq!((ask(&area, 18, 2)?, ask(&area, 17, 1)), (lent::Kept::Newer, Err(Refusal::JobFile)));
+//! assert_eq!((fairness, lock, boundary, edition, value, days), (0, 1, 1, 1, 31, 2));
+//! assert_eq!(lent::save_settings(&mut area, 18, 0, 1, 1, 1, 31, 2, &mut number, &mut used), Err(Refusal::TooManySlots));
+//! # Ok::<(), Refusal>(())
+//! ```
 #![allow(clippy::too_many_arguments)]
 
 use crate::draw::Draw;
@@ -176,6 +198,15 @@ pub enum Held {
     Hole,
     /// Neither: the slot is at or past the length.
     Outside,
+}
+
+/// What a record of a store holds: [`ask_settings`] answers it.
+#[derive(Debug, Clone, Copy, PartialEq, Eq, Hash)]
+pub enum Kept {
+    /// Settings: their six numbers were written.
+    Figures,
+    /// Something of a kind that is newer than this library; nothing was written.
+    Newer,
 }
 
 // ---- answers that came as one number
@@ -255,6 +286,16 @@ fn held(answer: u64) -> Result<Held, Refusal> {
         0 => Ok(Held::Run),
         1 => Ok(Held::Hole),
         NOTHING => Ok(Held::Outside),
+        n => Err(refused(n.wrapping_sub(NOTHING))),
+    }
+}
+
+/// What a record holds, its figures being written where it has them; or a refusal.
+#[inline]
+fn kept(answer: u64) -> Result<Kept, Refusal> {
+    match answer {
+        0 => Ok(Kept::Figures),
+        1 => Ok(Kept::Newer),
         n => Err(refused(n.wrapping_sub(NOTHING))),
     }
 }
@@ -527,4 +568,21 @@ exports! {
 
     /// A whole job: the listing at the front of `out`, and its length. Of 10 only 10.3 comes. Refusals: 1 to 7, 10 to 13.
     pub fn run_job(file: &[u8], out: &mut [u8], length: &mut u64) -> Result<(), Refusal> = placed(u64);
+
+    // ---- a store of settings
+
+    /// How many records a store has in the first `used` bytes of its area. Refusals: 2, 13.
+    pub fn count_settings(area: &[u8], used: usize) -> Result<usize, Refusal> = number(u64);
+
+    /// Settings as one record more, in the twelve bytes after the used ones: its number, and the used length with it. Refusals: 2, 5, 7, 13.
+    pub fn save_settings(
+        area: &mut [u8], used: usize, fairness: u8, lock: u8, boundary: u8, edition: u8, value: u16, days: u16, number: &mut u64,
+        new_used: &mut u64
+    ) -> Result<(), Refusal> = done(u8);
+
+    /// The settings saved under a number, which are written; or a newer record. Refusals: 2, 7, 11, 13.
+    pub fn ask_settings(
+        area: &[u8], used: usize, number: usize, fairness: &mut u8, lock: &mut u8, boundary: &mut u8, edition: &mut u8, value: &mut u16,
+        days: &mut u16
+    ) -> Result<Kept, Refusal> = kept(u64);
 }

@@ -68,15 +68,15 @@ refusals! {
     ShortBuffer = 2, "A lent buffer is shorter than needed.";
     BaseSlot = 3, "A base slot is empty or reversed, ends after minute 100,000,000, or starts before the previous one ends.";
     Range = 4, "A range starts after its end, ends after minute 100,000,000, or names an unknown person.";
-    TooManySlots = 5, "More than 1,024 atomic slots result.";
+    TooManySlots = 5, "More than 1,024 atomic slots result, or a store of settings has no room.";
     Figures = 6, "A capacity is no number from 0 to 1,000, or prior minutes are above 100,000,000.";
     Settings = 7, "Fairness, lock, boundary, every-count, weekday mask or shift days are outside their limits.";
     Target = 8, "An unrounded target is not finite, or of size 2^40 or more.";
     Slots = 9, "Lent slots are empty, reversed, too late or overlap, or unit starts don't rise from 0 below the slot count.";
     Recount(Fault) = 10, "The recount fails: owners, units, sets and minutes don't fit together.";
-    Unknown = 11, "A slot, unit, person or index is not below its count.";
+    Unknown = 11, "A slot, unit, person or index is not below its count, or no saved settings have the number.";
     Unavailable = 12, "A person is to get a slot for which they aren't available.";
-    JobFile = 13, "The job file breaks its layout or is too long.";
+    JobFile = 13, "The job file or the store of settings breaks its layout or is too long.";
 }
 
 /// Where a recount failed. The parts are checked in this order over the whole rota, and the lowest slot, unit or person at fault is named:

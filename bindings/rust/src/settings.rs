@@ -99,6 +99,7 @@ impl Default for Settings {
 }
 
 /// The six numbers that the library takes.
+#[derive(Default)]
 pub(crate) struct Numbers {
     pub fairness: u8,
     pub lock: u8,
@@ -130,6 +131,23 @@ impl Settings {
             boundary,
             edition: self.edition.number(),
             value,
+            days: self.days,
+        }
+    }
+}
+
+impl Numbers {
+    /// The settings of figures that passed rule 7.
+    pub(crate) fn settings(&self) -> Settings {
+        let boundary = match Weekdays::from_mask(self.value) {
+            Some(days) if self.boundary == 1 => Boundary::DayOfWeek(days),
+            _ => Boundary::EverySlots(self.value),
+        };
+        Settings {
+            fairness: if self.fairness == 0 { Fairness::Capacity } else { Fairness::Equal },
+            lock: self.lock == 1,
+            boundary,
+            edition: if self.edition == 0 { Edition::First } else { Edition::Second },
             days: self.days,
         }
     }

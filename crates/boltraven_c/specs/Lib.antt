@@ -3,3 +3,4 @@ pub mod Numbers
 pub mod Units
 pub mod Columns
 pub mod Rota
+pub mod Store

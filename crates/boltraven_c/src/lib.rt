@@ -9,6 +9,7 @@ mod owners_c;
 mod rota_c;
 mod slots_c;
 mod slotset_c;
+mod store_c;
 mod targets_c;
 mod units_c;
 mod version;

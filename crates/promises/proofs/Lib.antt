@@ -36,6 +36,7 @@ pub mod JobTests
 pub mod Places
 pub mod JobText
 pub mod JobExample
+pub mod StoreRules
 pub mod ListRules
 pub mod Accepts
 pub mod ReadRefusals

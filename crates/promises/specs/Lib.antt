@@ -32,6 +32,7 @@ pub mod JobTests
 pub mod JobText
 pub mod Places
 pub mod JobExample
+pub mod StoreRules
 pub mod ListRules
 pub mod Accepts
 pub mod Exports

@@ -35,14 +35,14 @@ split-off : (s : List ℕ) (at n : ℕ) → drop at s ≡ take n (drop at s) ++ 
 split-off s at n = sym (take-append-drop n (drop at s)) ∙ ap (λ (r : List ℕ). take n (drop at s) ++ r) (drop-drop n at s)
 
 -- the body of the record at a place
-bodyAt : List ℕ → ℕ → ℕ → List ℕ
+unfoldable pub bodyAt : List ℕ → ℕ → ℕ → List ℕ
 bodyAt s size at = take size (drop (at + 4) s)
 
-length-body : (s : List ℕ) (size at : ℕ) → at + (4 + size) ≤ length s → length (bodyAt s size at) ≡ size
+pub length-body : (s : List ℕ) (size at : ℕ) → at + (4 + size) ≤ length s → length (bodyAt s size at) ≡ size
 unfolding bodyAt
 length-body s size at h = length-take-le size (drop (at + 4) s) (omega (arith, length-drop (at + 4) s))
 
-body-bytes : (s : List ℕ) (size at : ℕ) → at + (4 + size) ≤ length s → Bytes s → Bytes (bodyAt s size at)
+pub body-bytes : (s : List ℕ) (size at : ℕ) → at + (4 + size) ≤ length s → Bytes s → Bytes (bodyAt s size at)
 unfolding bodyAt
 body-bytes s size at h b k =
     let body = take size (drop (at + 4) s) in
@@ -54,7 +54,7 @@ body-bytes s size at h b k =
     (lt-or-ge k size)
 
 -- a field of that body
-body-field : (s : List ℕ) (size at off n : ℕ) → at + (4 + size) ≤ length s → off + n ≤ size
+pub body-field : (s : List ℕ) (size at off n : ℕ) → at + (4 + size) ≤ length s → off + n ≤ size
     → le n (bodyAt s size at) off ≡ le n s (at + (4 + off))
 unfolding bodyAt
 body-field s size at off n h g =
@@ -64,7 +64,7 @@ body-field s size at off n h g =
     ∙ ap (λ (l : List ℕ). le n l off) (take-append-drop size d) ∙ le-drop n s (at + 4) off ∙ ap (le n s) z
 
 -- the bytes from a record on are its own and then the rest
-record-split : (s : List ℕ) (kind size at : ℕ) → Bytes s → recordAt s kind size at ≡ true
+pub record-split : (s : List ℕ) (kind size at : ℕ) → Bytes s → recordAt s kind size at ≡ true
     → drop at s ≡ bytesOf (record { kind = kind; body = bodyAt s size at }) ++ drop (at + (4 + size)) s
 unfolding bytesOf bodyAt
 record-split s kind size at b t =
@@ -195,15 +195,15 @@ written-kind r x h =
 
 -- at a place from which a record and then x follow
 module _ (s : List ℕ) (at : ℕ) (r : Rec) (x : List ℕ) (e : drop at s ≡ bytesOf r ++ x) where
-  kind-there : r .kind < 65536 → le 2 s (at + 2) ≡ r .kind
+  pub kind-there : r .kind < 65536 → le 2 s (at + 2) ≡ r .kind
   kind-there h = sym (le-drop 2 s at 2) ∙ ap (λ (l : List ℕ). le 2 l 2) e ∙ written-kind r x h
 
-  size-there : length (r .body) < 65536 → le 2 s at ≡ length (r .body)
+  pub size-there : length (r .body) < 65536 → le 2 s at ≡ length (r .body)
   size-there h =
       let z : at ≡ at + 0 = omega arith in
       ap (le 2 s) z ∙ sym (le-drop 2 s at 0) ∙ ap (λ (l : List ℕ). le 2 l 0) e ∙ written-size r x h
 
-  room-there : at + (4 + length (r .body)) ≤ length s
+  pub room-there : at + (4 + length (r .body)) ≤ length s
   room-there =
       omega (arith, length-drop at s, ap length e, length-append (bytesOf r) x, length-bytesOf r)
 
@@ -211,12 +211,12 @@ module _ (s : List ℕ) (at : ℕ) (r : Rec) (x : List ℕ) (e : drop at s ≡ b
   record-there size q h k =
       record-is s (r .kind) size at (omega (arith, room-there)) (size-there (omega arith) ∙ q) (kind-there k)
 
-  body-there : (size : ℕ) → length (r .body) ≡ size → r .body ≡ bodyAt s size at
+  pub body-there : (size : ℕ) → length (r .body) ≡ size → r .body ≡ bodyAt s size at
   unfolding bodyAt bytesOf leBytes
   body-there size q =
       sym (ap (take size) (sym (drop-drop 4 at s) ∙ ap (drop 4) e) ∙ take-at (r .body) x size q)
 
-  rest-there : (size : ℕ) → length (r .body) ≡ size → drop (at + (4 + size)) s ≡ x
+  pub rest-there : (size : ℕ) → length (r .body) ≡ size → drop (at + (4 + size)) s ≡ x
   rest-there size q =
       sym (drop-drop (4 + size) at s) ∙ ap (drop (4 + size)) e
       ∙ drop-at (bytesOf r) x (4 + size) (length-bytesOf r ∙ ap (λ (n : ℕ). 4 + n) q)

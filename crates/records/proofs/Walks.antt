@@ -38,6 +38,21 @@ lead-all p (suc n) =
     by-test (all (suc n) p) _ (λ t. ap (λ (b : Bool). all (cond b (suc n) (lead p n)) p) t ∙ t)
     (λ f. ap (λ (b : Bool). all (cond b (suc n) (lead p n)) p) f ∙ lead-all p n)
 
+-- where all n pass, all lead
+pub lead-full : (p : ℕ → Bool) (n : ℕ) → all n p ≡ true → lead p n ≡ n
+unfolding lead
+lead-full p zero a = refl
+lead-full p (suc n) a = ap (λ (b : Bool). cond b (suc n) (lead p n)) a
+
+-- no more than n lead
+pub lead-most : (p : ℕ → Bool) (n : ℕ) → lead p n ≤ n
+unfolding lead
+lead-most p zero = omega arith
+lead-most p (suc n) =
+    by-test (all (suc n) p) _
+    (λ t. omega (arith, ap (λ (b : Bool). cond b (suc n) (lead p n)) t))
+    (λ f. omega (arith, ap (λ (b : Bool). cond b (suc n) (lead p n)) f, lead-most p n))
+
 -- ---- a record at a place
 
 -- what a record's test says

@@ -55,6 +55,12 @@ module _ (kind : ℕ) (body : List ℕ) (at : ℕ) (x : List ℕ) where
   unfolding recordFits
   fits a b = simp (le-leb (length body) 65535 a, le-leb (at + (4 + length body)) (length x) b)
 
+  -- room: the buffer with it
+  pub record-written : length body ≤ 65535 → at + (4 + length body) ≤ length x
+      → withRecord (written kind body) at x ≡ put (bytesOf (written kind body)) at x
+  unfolding withRecord
+  record-written a b = simp (fits a b)
+
   -- no room: the buffer stays
   pub record-none : (65535 < length body) ⊎ (length x < at + (4 + length body))
       → (false ≡ recordFits (written kind body) at x) × (x ≡ withRecord (written kind body) at x)

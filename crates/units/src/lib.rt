@@ -24,6 +24,7 @@ pub use lent::unit_of_slot;
 pub use lent::unit_slots;
 pub use lent::units_ok;
 pub use masks::unit_domains;
+pub use refuse::settings_ok;
 pub use runs::achievable_run;
 pub use starts::rotation_starts;
 pub use starts::unit_starts;
