@@ -71,9 +71,12 @@ rule-1 B =
             somebody = λ q. clash (allowed-nobody (B .plan .people) (B .avail) (B .owners) k q) f;
             barred = λ l s. clash (allowed-person (B .plan .people) (B .avail) (B .owners) k l s) f;
           };
-      broken = λ k b. (b .below, by-test (allowedAt (B .plan .people) (B .avail) (B .owners) k) _ (λ t.
-          let x = allowed-says (B .plan .people) (B .avail) (B .owners) k t (b .somebody) in
-          absurd (b .barred (x .0) (x .1))) (λ f. f));
+      broken = λ k b. (
+        b .below,
+        by-test (allowedAt (B .plan .people) (B .avail) (B .owners) k) _ (λ t.
+            let x = allowed-says (B .plan .people) (B .avail) (B .owners) k t (b .somebody) in
+            absurd (b .barred (x .0) (x .1))) (λ f. f),
+      );
     }
 
 -- ---- rule 2
@@ -296,8 +299,7 @@ module _ (B : Brought) (r : ℕ) where
       let l : firstFail (slotsOf B) p < slotsOf B = ⊎-elim (λ (x : firstFail (slotsOf B) p < slotsOf B). x)
       (λ (x : slotsOf B ≤ firstFail (slotsOf B) p). absurd (clash (first-passes (slotsOf B) p x) n))
       (lt-or-ge (firstFail (slotsOf B) p) (slotsOf B)) in
-      subst (From B r) (sym (ap (λ (b : Bool). cond b v (verdict.Broken r (firstFail (slotsOf B) p))) n))
-      (
+      subst (From B r) (sym (ap (λ (b : Bool). cond b v (verdict.Broken r (firstFail (slotsOf B) p))) n)) (
         omega arith,
         T .fails (firstFail (slotsOf B) p) l (F .fails l),
         λ k g b. clash (F .before k g) (T .broken k b .1),

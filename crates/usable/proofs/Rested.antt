@@ -41,13 +41,15 @@ free-is rest ends o (suc k) w =
     (λ (x : ((j : ℕ) → j < k → getD o j 0 ≡ w → ⊥) × (freeFrom rest ends o k w ≡ 0)).
     inl (λ j h q. below-suc ⊥ h (λ e. eqb-false _ _ f (sym (ap (λ (i : ℕ). getD o i 0) e) ∙ q)) (λ l. x .0 j l q), less f ∙ x .1))
     (λ (x : (j : ℕ) × LastOf o k w j × (freeFrom rest ends o k w ≡ getD ends j 0 + rest)).
-    inr (x .0,
-    record {
-      below = omega (arith, x .1 .below);
-      owner = x .1 .owner;
-      none = λ i a b q. below-suc ⊥ b (λ e. eqb-false _ _ f (sym (ap (λ (i : ℕ). getD o i 0) e) ∙ q)) (λ l. x .1 .none i a l q);
-    },
-    less f ∙ x .2))
+    inr (
+      x .0,
+      record {
+        below = omega (arith, x .1 .below);
+        owner = x .1 .owner;
+        none = λ i a b q. below-suc ⊥ b (λ e. eqb-false _ _ f (sym (ap (λ (i : ℕ). getD o i 0) e) ∙ q)) (λ l. x .1 .none i a l q);
+      },
+      less f ∙ x .2,
+    ))
     (free-is rest ends o k w))
   where
     more : eqb (getD o k 0) w ≡ true → freeFrom rest ends o (suc k) w ≡ getD ends k 0 + rest

@@ -147,8 +147,7 @@ pub fn may_be_used(
         frozen,
         published,
         owners,
-    )
-    .number;
+    ).number;
     if n == 0 {
         return first_broken(
             people,

@@ -46,14 +46,16 @@ loop-again c =
     let L = c .before .before .before .before .before .loop in
     let w = c .before .before .before .owner-at in
     let b : w .result < 256 = search needs in
-    let S = c .before .before .before .before .before .before .before .before .before .pre in
+    let a = c .before .before .before .before .before .before .before .before .before in
+    let S = a .pre in
     let h = c .before .before .before .before .loop-test .taken in (
       omega arith,
-      free-more _ _ _ _ _ _ _ (L .inv .3) (w .ensures) b (ap (λ (n : ℕ). n + _) (c .entry-of .ensures)) (L .inv .1),
+      free-more (a .args .rest) _ _ (L .free) _ _ _ (L .inv .3) (w .ensures) b (ap (λ (n : ℕ). n + a .args .rest) (c .entry-of .ensures)) (L .inv
+          .1),
       all-more _ _ (L .inv .2)
           (sym (c .before .before .is-rested .ensures ∙ rested-by _ _ _ _ _ S _ h _ (L .inv .1 (w .result) b ∙ ap (freeFrom _ _ _ _) (w
           .ensures))) ∙ c .before .if1 .taken),
-      length-set _ _ _ ∙ L .inv .3,
+      length-set {A = ℕ} (L .free) (w .result) (c .entry-of .result + a .args .rest) ∙ L .inv .3,
     )
 
 returns : tie.Need-returns Inv-loop μ-loop
