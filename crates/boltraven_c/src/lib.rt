@@ -10,6 +10,7 @@ mod slots_c;
 mod slotset_c;
 mod targets_c;
 mod units_c;
+mod usable_c;
 mod version;
 
 ghost use mathlib.Core.Path.{_≡_};

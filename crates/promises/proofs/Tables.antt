@@ -60,15 +60,15 @@ use Rattle.promises.proofs.SplitRule.{atoms-strung}
 -- ---- the first rule that says so
 
 -- n is its number, or 0 where none does
-abbrev FirstIs : List Rule → ℕ → Type 0
+abbrev pub FirstIs : List Rule → ℕ → Type 0
 FirstIs [] n = n ≡ 0
 FirstIs (r ∷ t) n = ((r .Says) × (n ≡ r .number)) ⊎ ((r .Says → ⊥) × FirstIs t n)
 
-record First (t : List Rule) (n : ℕ) : Type 0 where
-  is : FirstIs t n
+pub record First (t : List Rule) (n : ℕ) : Type 0 where
+  pub is : FirstIs t n
 
 -- numbers are at least `low` and never fall
-abbrev orderly : ℕ → List Rule → Bool
+abbrev pub orderly : ℕ → List Rule → Bool
 orderly low [] = true
 orderly low (r ∷ t) = leb low (r .number) && orderly (r .number) t
 
@@ -103,14 +103,14 @@ first-least low (r ∷ t) n pos h (inr f) =
     }
 
 -- what is answered by a row's tests is given by a table, if it is the first of it
-by-first : (t : List Rule) (row : List Test) (n : ℕ) → orderly 1 t ≡ true → rising 1 row ≡ true → GivenByTests row n → First t
+pub by-first : (t : List Rule) (row : List Test) (n : ℕ) → orderly 1 t ≡ true → rising 1 row ≡ true → GivenByTests row n → First t
     (numberOf row)
     → GivenBy t n
 by-first t row n o r h f =
     subst (GivenBy t) (sym (one-given (rules row) n (numberOf row) h (tests-give row r)))
     (least-given t (numberOf row) (first-least 1 t (numberOf row) (omega arith) o (f .is)))
 
-none : First [] 0
+pub none : First [] 0
 none = record { is = refl }
 
 -- ---- one test, one rule
@@ -122,7 +122,7 @@ say : (r : Rule) (b : Bool) {t : List Rule} {n : ℕ} → (b ≡ false → r .Sa
     → First (r ∷ t) (cond b n (r .number))
 say r b {t} {n} f g h = record { is = by-cond b n (r .number) (FirstIs (r ∷ t)) (λ e. inr (g e, h e .is)) (λ e. inl (f e, refl)) }
 
-say-broken : (m : ℕ) (Right : Type 0) (b : Bool) {t : List Rule} {n : ℕ} → (b ≡ true) ↔ Right → (b ≡ true → First t n)
+pub say-broken : (m : ℕ) (Right : Type 0) (b : Bool) {t : List Rule} {n : ℕ} → (b ≡ true) ↔ Right → (b ≡ true → First t n)
     → First (broken m Right ∷ t) (cond b n m)
 say-broken m Right b {t} {n} x h =
     say (broken m Right) b {t = t} {n = n} (λ e r. not-both b ⊥ (x .1 r) e) (λ e says. says (x .0 e)) h
@@ -139,7 +139,7 @@ say-outside least most k b {t} {n} x h =
     let y = x .0 e in
     ⊎-elim (λ (a : k < least). omega (arith, y .0)) (λ (a : most < k). omega (arith, y .1)) says) h
 
-say-short : (needed lent : ℕ) {t : List Rule} {n : ℕ} → (leb needed lent ≡ true → First t n)
+pub say-short : (needed lent : ℕ) {t : List Rule} {n : ℕ} → (leb needed lent ≡ true → First t n)
     → First (short needed lent ∷ t) (cond (leb needed lent) n 2)
 say-short needed lent {t} {n} h =
     say (short needed lent) (leb needed lent) {t = t} {n = n}
@@ -163,10 +163,10 @@ say-and a b n m t f = subst (First t) (join a b n m) f
 
 -- ---- the tests of the rows
 
-people-says : (k : ℕ) {t : List Rule} {n : ℕ} → First t n → First (outside 1 32 k ∷ t) (cond (peopleOk k) n 1)
+pub people-says : (k : ℕ) {t : List Rule} {n : ℕ} → First t n → First (outside 1 32 k ∷ t) (cond (peopleOk k) n 1)
 people-says k {t} {n} h = say-outside 1 32 k (peopleOk k) {t = t} {n = n} (tests-by-rule .people k) (λ e. h)
 
-slots-says : (k : ℕ) {t : List Rule} {n : ℕ} → First t n → First (outside 1 1024 k ∷ t) (cond (slotCountOk k) n 1)
+pub slots-says : (k : ℕ) {t : List Rule} {n : ℕ} → First t n → First (outside 1 1024 k ∷ t) (cond (slotCountOk k) n 1)
 slots-says k {t} {n} h = say-outside 1 1024 k (slotCountOk k) {t = t} {n = n} (tests-by-rule .slot-count k) (λ e. h)
 
 -- a count with no least: of ranges, of draws, of a set's slots
@@ -178,7 +178,7 @@ ranges-says : (k : ℕ) {t : List Rule} {n : ℕ} → First t n → First (outsi
 unfolding rangeCountOk
 ranges-says k {t} {n} h = most-says k {t = t} {n = n} h
 
-columns-say : (k : ℕ) (starts ends : List ℕ) {t : List Rule} {n : ℕ} → (slotRoomOk k starts ends ≡ true → First t n)
+pub columns-say : (k : ℕ) (starts ends : List ℕ) {t : List Rule} {n : ℕ} → (slotRoomOk k starts ends ≡ true → First t n)
     → First (short k (length starts) ∷ short k (length ends) ∷ t) (cond (slotRoomOk k starts ends) n 2)
 unfolding slotRoomOk
 columns-say k starts ends {t} {n} h =
@@ -198,7 +198,7 @@ range-columns-say R {t} {n} h =
     (say-short (R .count) (length (R .starts)) (λ b.
     say-short (R .count) (length (R .ends)) {t = t} {n = n} (λ c. h (and-true _ _ a (and-true _ _ b c)))))))
 
-right-says : (m k : ℕ) (starts ends : List ℕ) {t : List Rule} {n : ℕ} → slotRoomOk k starts ends ≡ true → First t n
+pub right-says : (m k : ℕ) (starts ends : List ℕ) {t : List Rule} {n : ℕ} → slotRoomOk k starts ends ≡ true → First t n
     → First (broken m (SlotsRight k starts ends) ∷ t) (cond (slotsOk k starts ends) n m)
 right-says m k starts ends {t} {n} room h =
     say-broken m (SlotsRight k starts ends) (slotsOk k starts ends) {t = t} {n = n} (tests-by-rule .slots k starts ends room) (λ e. h)
@@ -211,7 +211,7 @@ ranges-right people R {t} {n} room h =
 settings-right : (s : Settings) {t : List Rule} {n : ℕ} → First t n → First (broken 7 (SettingsRight s) ∷ t) (cond (settingsOk s) n 7)
 settings-right s {t} {n} h = say-broken 7 (SettingsRight s) (settingsOk s) {t = t} {n = n} (tests-by-rule .settings s) (λ e. h)
 
-units-right : (k units : ℕ) (begins : List ℕ) {t : List Rule} {n : ℕ} → leb units (length begins) ≡ true → First t n
+pub units-right : (k units : ℕ) (begins : List ℕ) {t : List Rule} {n : ℕ} → leb units (length begins) ≡ true → First t n
     → First (broken 9 (UnitsRight k units begins) ∷ t) (cond (unitsOk k units begins) n 9)
 units-right k units begins {t} {n} room h =
     say-broken 9 (UnitsRight k units begins) (unitsOk k units begins) {t = t} {n = n} (tests-by-rule .units k units begins room) (λ e. h)

@@ -10,6 +10,7 @@ use lib.ListN.{length}
 use Rattle.paper.specs.Limits.{peopleOk, slotCountOk, numberOf}
 use Rattle.paper.specs.Rows.{unless}
 use Rattle.paper.specs.Count.{all}
+use Rattle.paper.proofs.Logic.{by-test}
 use Rattle.paper.proofs.Rows.{passed, worked, kept}
 use Rattle.slots.specs.Lent.{SlotsSound, slotsOk, slotRoomOk}
 use Rattle.slots.proofs.LentLaws.{slots-sound}
@@ -18,6 +19,7 @@ use Rattle.owners.specs.Recount.{firstFail}
 use Rattle.owners.proofs.Scans.{scan-no, scan-yes}
 use Rattle.usable.specs.declared.Verdict.{Verdict}
 use Rattle.usable.specs.declared.Verdict.the-variants as verdict
+use Rattle.usable.specs.Rules.{allowedAt, uniformAt}
 use Rattle.usable.specs.Broken.{Brought, slotsOf}
 use Rattle.usable.specs.Answers.{figuresOk, usableRow, orBroken, judged, verdictIs}
 use Rattle.usable.specs.Inside.{ByUnit}
@@ -34,6 +36,29 @@ module _ (slots n : ℕ) (p : ℕ → Bool) (v : Verdict) (r : ℕ) (e : r ≡ f
   pub holds : slots ≤ r → {x : Verdict} → x ≡ v → x ≡ orBroken slots n p v
   unfolding orBroken
   holds h q = q ∙ sym (ap (λ (b : Bool). cond b v (verdict.Broken n (firstFail slots p))) (scan-yes slots r p e h))
+
+-- where it may be used, each rule holds of every slot
+pub usable-holds : (slots n : ℕ) (p : ℕ → Bool) (v : Verdict) → orBroken slots n p v ≡ verdict.Usable
+    → (all slots p ≡ true) × (v ≡ verdict.Usable)
+unfolding orBroken
+usable-holds slots n p v e =
+    by-test (all slots p) _
+    (λ t. (t, sym (ap (λ (b : Bool). cond b v (verdict.Broken n (firstFail slots p))) t) ∙ e))
+    (λ f.
+    let q : verdict.Broken n (firstFail slots p) ≡ verdict.Usable
+    = sym (ap (λ (b : Bool). cond b v (verdict.Broken n (firstFail slots p))) f) ∙ e in
+    let z : _≡_ {A = ℕ} 0 1 = cc in
+    absurd (omega arith))
+
+pub judged-holds : (B : Brought) → judged B ≡ verdict.Usable
+    → (all (slotsOf B) (allowedAt (B .plan .people) (B .avail) (B .owners)) ≡ true)
+    × (all (slotsOf B) (uniformAt (B .units) (B .begins) (B .owners)) ≡ true)
+unfolding judged
+judged-holds B e =
+    let a = usable-holds (slotsOf B) 1 _ _ e in
+    let b = usable-holds (slotsOf B) 2 _ _ (a .1) in
+    let c = usable-holds (slotsOf B) 3 _ _ (b .1) in
+    (a .0, c .0)
 
 -- what the row leaves known
 pub record Right (B : Brought) : Type 0 where

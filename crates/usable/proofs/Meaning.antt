@@ -124,7 +124,7 @@ rule-3 B ok =
 
 module _ (B : Brought) where
   -- a slot that opens a shift
-  opened : (k : ℕ) → k < slotsOf B → opensAt (slotsOf B) (B .owners) k ≡ true
+  pub opened : (k : ℕ) → k < slotsOf B → opensAt (slotsOf B) (B .owners) k ≡ true
       → Shift B (ownerOf B k) k (shiftLast (slotsOf B) (B .owners) k)
   unfolding opensAt
   opened k h t =
@@ -141,19 +141,19 @@ module _ (B : Brought) where
     abbrev here : Around 1 (held (B .owners) w) (slotsOf B) k first last
     here = around-each 1 (held (B .owners) w) (slotsOf B) first k first last (S .run) a b
 
-    shift-below : k < slotsOf B
+    pub shift-below : k < slotsOf B
     shift-below = omega (arith, S .run .fits)
 
-    shift-owner : ownerOf B k ≡ w
+    pub shift-owner : ownerOf B k ≡ w
     shift-owner = held-one (B .owners) w k (S .run .all k a b)
 
-    shift-ends : (shiftFirst (slotsOf B) (B .owners) k ≡ first) × (shiftLast (slotsOf B) (B .owners) k ≡ last)
+    pub shift-ends : (shiftFirst (slotsOf B) (B .owners) k ≡ first) × (shiftLast (slotsOf B) (B .owners) k ≡ last)
     shift-ends =
         around-unique 1 (held (B .owners) (ownerOf B k)) (slotsOf B) k _ _ _ _ (shift-around (slotsOf B) (B .owners) k shift-below)
         (subst (λ (v : ℕ). Around 1 (held (B .owners) v) (slotsOf B) k first last) (sym shift-owner) here)
 
   -- and the first of them opens it
-  opens : (w k last : ℕ) → Shift B w k last → opensAt (slotsOf B) (B .owners) k ≡ true
+  pub opens : (w k last : ℕ) → Shift B w k last → opensAt (slotsOf B) (B .owners) k ≡ true
   unfolding opensAt
   opens w k last S =
       let l = S .run .to in
@@ -198,35 +198,42 @@ module _ (B : Brought) (k : ℕ) where
   abbrev apart : ℕ → Bool
   apart j = cond (before j) (leb (B .rest) (startOf B k - endOf B j)) true
 
-  -- an earlier shift that ends too late
+  -- an earlier shift, from its last slot j, that ends too late
+  pub close-of : k < slotsOf B → opensAt (slotsOf B) (B .owners) k ≡ true → (j : ℕ) → j < k → ownerOf B j ≡ ownerOf B k
+      → shiftLast (slotsOf B) (B .owners) j ≡ j → startOf B k - endOf B j < B .rest
+      → (T : TooClose B k) × (T .last ≡ j) × (T .who ≡ ownerOf B k)
+  close-of h t j l q e g =
+      let A = shift-around (slotsOf B) (B .owners) j (omega arith) in
+      let S = opened B k h t in
+      let f = shiftFirst (slotsOf B) (B .owners) j in
+      let C = around-each 1 (held (B .owners) (ownerOf B j)) (slotsOf B) j f _ _ A (omega arith) (omega (arith, A .from, A .to)) in
+      let D = subst (λ (b : ℕ). Around 1 (held (B .owners) (ownerOf B j)) (slotsOf B) f f b) e C in
+      (
+        record {
+          who = ownerOf B k;
+          first = f;
+          last = j;
+          end = shiftLast (slotsOf B) (B .owners) k;
+          earlier = record {
+            somebody = S .somebody;
+            run = subst (λ (v : ℕ). Around 1 (held (B .owners) v) (slotsOf B) f f j) q D;
+          };
+          later = S;
+          before = l;
+          closer = g;
+        },
+        refl,
+        refl,
+      )
+
   close-by : k < slotsOf B → opensAt (slotsOf B) (B .owners) k ≡ true → (j : ℕ) → j < k → apart j ≡ false → TooClose B k
   unfolding closesAt
   close-by h t j l f =
       by-test (before j) _
       (λ s.
       let x = both (eqb (ownerOf B j) (ownerOf B k)) _ s in
-      let q = eqb-true _ _ (x .0) in
-      let e = eqb-true _ _ (x .1) in
-      let A = shift-around (slotsOf B) (B .owners) j (omega arith) in
-      let S = opened B k h t in
-      record {
-        who = ownerOf B k;
-        first = shiftFirst (slotsOf B) (B .owners) j;
-        last = j;
-        end = shiftLast (slotsOf B) (B .owners) k;
-        earlier = record {
-          somebody = S .somebody;
-          run = subst (λ (v : ℕ). Around 1 (held (B .owners) v) (slotsOf B) (shiftFirst (slotsOf B) (B .owners) j)
-              (shiftFirst (slotsOf B) (B .owners) j) j) q
-              (subst (λ (b : ℕ). Around 1 (held (B .owners) (ownerOf B j)) (slotsOf B) (shiftFirst (slotsOf B) (B .owners) j)
-              (shiftFirst (slotsOf B) (B .owners) j) b) e
-              (around-each 1 (held (B .owners) (ownerOf B j)) (slotsOf B) j (shiftFirst (slotsOf B) (B .owners) j) _ _ A (omega arith)
-              (omega (arith, A .from, A .to))));
-        };
-        later = S;
-        before = l;
-        closer = leb-false _ _ (sym (ap (λ (b : Bool). cond b (leb (B .rest) (startOf B k - endOf B j)) true) s) ∙ f);
-      })
+      let g = leb-false _ _ (sym (ap (λ (b : Bool). cond b (leb (B .rest) (startOf B k - endOf B j)) true) s) ∙ f) in
+      close-of h t j l (eqb-true _ _ (x .0)) (eqb-true _ _ (x .1)) g .0)
       (λ n. absurd (clash (ap (λ (b : Bool). cond b (leb (B .rest) (startOf B k - endOf B j)) true) n) f))
 
   some-close : k < slotsOf B → opensAt (slotsOf B) (B .owners) k ≡ true → all k apart ≡ false → TooClose B k

@@ -74,7 +74,7 @@ module _ (slots rest : ℕ) (starts ends o : List ℕ) (S : SlotsSound slots sta
   gapOk j = cond (earlier j) (leb rest (getD starts k 0 - getD ends j 0)) true
 
   -- the last slot of the owner before k, where k opens a shift, closes one
-  last-closes : opensAt slots o k ≡ true → (j : ℕ) → LastOf o k (getD o k 0) j → closesAt slots o j ≡ true
+  pub last-closes : opensAt slots o k ≡ true → (j : ℕ) → LastOf o k (getD o k 0) j → closesAt slots o j ≡ true
   unfolding opensAt closesAt goesOn
   last-closes t j L =
       let x = both (not (eqb (getD o k 0) nobody)) _ t in
