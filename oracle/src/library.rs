@@ -4,7 +4,7 @@
 use std::any::Any;
 use std::io;
 
-use boltraven::{lent, Draw, Refusal};
+use boltraven::{lent, Draw, Refusal, Rule};
 
 use crate::call::{Arg, Outcome, Question};
 use crate::limits::NOTHING;
@@ -101,6 +101,7 @@ exports! {
     done minutes_of(number, slice, number, out);
     number unassigned_count(number, number, slice);
     done uncovered_minutes(number, number, slice, slice, slice, out);
+    judged may_be_used(number, number, number, number, number, slice, slice, slice, slice, slice, slice, slice, out);
     done run_job(slice, slice, out);
 }
 
@@ -136,6 +137,10 @@ fn held(answer: Result<lent::Held, Refusal>) -> u64 {
         lent::Held::Hole => Some(1),
         lent::Held::Outside => None,
     }))
+}
+
+fn judged(answer: Result<Option<Rule>, Refusal>) -> u64 {
+    number(answer.map(|broken| broken.map_or(0, |rule| usize::from(rule.number()))))
 }
 
 fn plain(answer: u32) -> u64 {

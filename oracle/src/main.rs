@@ -5,6 +5,7 @@ mod bits;
 mod call;
 mod covered;
 mod days;
+mod elsewhere;
 mod figures;
 mod job_cases;
 mod job_faults;
@@ -27,6 +28,7 @@ mod seed;
 mod sets;
 mod splitting;
 mod stored;
+mod stored_elsewhere;
 mod stored_jobs;
 mod stored_rotas;
 mod stored_slots;
@@ -55,7 +57,7 @@ const fn kind(name: &'static str, questions: fn(u64) -> Vec<Question>) -> Kind {
 }
 
 /// Every kind.
-const KINDS: [Kind; 17] = [
+const KINDS: [Kind; 19] = [
     kind("slot-sets", sets::questions),
     kind("slot-sets-damaged", sets::damaged),
     kind("slots", splitting::questions),
@@ -71,6 +73,8 @@ const KINDS: [Kind; 17] = [
     kind("targets-damaged", targets::damaged),
     kind("rotas", rota_questions::questions),
     kind("rotas-damaged", rota_questions::damaged),
+    kind("elsewhere", elsewhere::questions),
+    kind("elsewhere-damaged", elsewhere::damaged),
     kind("jobs", jobs::questions),
     kind("jobs-damaged", jobs::damaged),
 ];
@@ -152,6 +156,7 @@ fn store(kind: &str, n: u64, seed: u64, folder: &Path) -> ExitCode {
         "slots" => Ok(stored_slots::slots(n, seed)),
         "units" => Ok(stored_units::units(n, seed)),
         "rotas" => Ok(stored_rotas::rotas(n, seed)),
+        "elsewhere" => Ok(stored_elsewhere::elsewhere(n, seed)),
         "jobs" => stored_jobs::jobs(n, seed),
         _ => Err(format!("no kind {kind}")),
     };

@@ -44,6 +44,7 @@ mod settings;
 mod slots;
 mod targets;
 mod units;
+mod verdict;
 mod weekdays;
 
 pub use assignment::{Answer, Assignment};
@@ -58,6 +59,7 @@ pub use settings::{Boundary, Edition, Fairness, Settings};
 pub use slots::{merged_ranges, Range, Slot, Slots};
 pub use targets::{compute_targets, Person};
 pub use units::Units;
+pub use verdict::{Rule, Verdict};
 pub use weekdays::{NoWeekday, Weekday, Weekdays};
 
 /// The version of this package. The library's own is [`lent::version`], which is to be the same.

@@ -207,8 +207,7 @@ module _ (B : Brought) (k : ℕ) where
       let S = opened B k h t in
       let f = shiftFirst (slotsOf B) (B .owners) j in
       let C = around-each 1 (held (B .owners) (ownerOf B j)) (slotsOf B) j f _ _ A (omega arith) (omega (arith, A .from, A .to)) in
-      let D = subst (λ (b : ℕ). Around 1 (held (B .owners) (ownerOf B j)) (slotsOf B) f f b) e C in
-      (
+      let D = subst (λ (b : ℕ). Around 1 (held (B .owners) (ownerOf B j)) (slotsOf B) f f b) e C in (
         record {
           who = ownerOf B k;
           first = f;
