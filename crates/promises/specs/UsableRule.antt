@@ -25,10 +25,10 @@ use Rattle.promises.specs.RotaRules.{PassesRecount}
 -- ---- what is refused
 
 -- 7: not "cap 0, or cap or rest above 100,000,000"
-pub record CapAndRest (cap rest : ℕ) : Type 0 where
-  pub some : 1 ≤ cap
-  pub cap : cap ≤ 100000000
-  pub rest : rest ≤ 100000000
+pub record CapAndRest (c r : ℕ) : Type 0 where
+  pub some : 1 ≤ c
+  pub cap : c ≤ 100000000
+  pub rest : r ≤ 100000000
 
 abbrev pub usableTable : Brought → List Rule
 usableTable B =
