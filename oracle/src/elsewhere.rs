@@ -70,7 +70,10 @@ impl Elsewhere {
 
     /// 3: a slot that differs from its unit's first.
     fn uneven(&self) -> Option<usize> {
-        let starts: Vec<usize> = self.units.unit_starts[..self.units.count].iter().map(|&at| usize::from(at)).collect();
+        let starts: Vec<usize> = self.units.unit_starts[..self.units.count]
+            .iter()
+            .map(|&at| usize::from(at))
+            .collect();
         let ends = starts.iter().skip(1).copied().chain([self.count()]);
         starts
             .iter()
@@ -135,9 +138,9 @@ impl Elsewhere {
             Arg::Lent(1, self.published.clone()),
             Arg::Lent(1, self.owners.clone()),
         ];
-        let (result, slot) = match (self.number(), ()) {
-            (0, ()) => self.broken().map_or((0, None), |(rule, slot)| (rule, Some(slot as u64))),
-            (n, ()) => (NOTHING + n, None),
+        let (result, slot) = match self.number() {
+            0 => self.broken().map_or((0, None), |(rule, slot)| (rule, Some(slot as u64))),
+            n => (NOTHING + n, None),
         };
         Question::beside("boltraven_may_be_used", args, &[seed.word()], result, slot.map(|slot| vec![slot]))
     }
@@ -161,7 +164,12 @@ impl Elsewhere {
             owners: vec![NOBODY; count + past],
         };
         rota.man(seed);
-        rota.cap = rota.shifts().into_iter().map(|shift| rota.length(shift)).max().unwrap_or(1 + seed.below(1000) as u32);
+        rota.cap = rota
+            .shifts()
+            .into_iter()
+            .map(|shift| rota.length(shift))
+            .max()
+            .unwrap_or(1 + seed.below(1000) as u32);
         rota.rest = rota.gaps().into_iter().map(|gap| gap.0).min().unwrap_or(seed.below(1000) as u32);
         rota
     }
@@ -179,7 +187,11 @@ impl Elsewhere {
         for slot in 0..count {
             let first = self.units.unit_starts[..self.units.count].contains(&(slot as u16));
             if first && (!begun || seed.one_in(changing)) {
-                owner = if seed.one_in(5) { NOBODY } else { seed.below(self.people as u64) as u8 };
+                owner = if seed.one_in(5) {
+                    NOBODY
+                } else {
+                    seed.below(self.people as u64) as u8
+                };
                 begun = true;
             }
             self.owners[slot] = owner;
@@ -312,8 +324,11 @@ fn example(cap: u32, rest: u32, owners: [u8; 5]) -> Elsewhere {
     }
 }
 
-/// The examples, with the refusal or the broken rule and its slot, worked out by hand.
-pub fn examples() -> Vec<(Elsewhere, Result<Option<(u64, usize)>, u64>)> {
+/// What is due: the broken rule and its slot, none where all hold, or the refusal.
+pub type Due = Result<Option<(u64, usize)>, u64>;
+
+/// The examples, with what is due of each, worked out by hand.
+pub fn examples() -> Vec<(Elsewhere, Due)> {
     const N: u8 = NOBODY;
     let theirs = [0, 0, 1, 0, N];
     let over_gaps = [0, 0, 0, N, 0];
@@ -368,11 +383,17 @@ mod tests {
             let rota = drawn(&mut Seed::new(k));
             assert_eq!(rota.broken(), None);
             if !rota.shifts().is_empty() && rota.cap > 1 {
-                let shorter = Elsewhere { cap: rota.cap - 1, ..rota.clone() };
+                let shorter = Elsewhere {
+                    cap: rota.cap - 1,
+                    ..rota.clone()
+                };
                 assert_eq!(shorter.broken().map(|broken| broken.0), Some(4));
             }
             if !rota.gaps().is_empty() {
-                let longer = Elsewhere { rest: rota.rest + 1, ..rota.clone() };
+                let longer = Elsewhere {
+                    rest: rota.rest + 1,
+                    ..rota.clone()
+                };
                 assert_eq!(longer.broken().map(|broken| broken.0), Some(5));
             }
         }

@@ -34,7 +34,10 @@ fn small(seed: &mut Seed) -> Elsewhere {
     let rota = Elsewhere::new(seed, count, people);
     match seed.below(4) {
         0 => Elsewhere { cap: rota.cap - 1, ..rota },
-        1 => Elsewhere { rest: rota.rest + 1, ..rota },
+        1 => Elsewhere {
+            rest: rota.rest + 1,
+            ..rota
+        },
         2 => rota.changed(seed),
         _ => rota,
     }
@@ -52,7 +55,9 @@ fn record(bytes: &mut Vec<u8>, rota: &Elsewhere) {
     filled32(bytes, SLOTS, &rota.slots.starts, 0);
     filled32(bytes, SLOTS, &rota.slots.ends, 0);
     filled16(bytes, SLOTS, &rota.units.unit_starts, 0);
-    let rows: Vec<u64> = (0..PEOPLE).map(|person| rota.avail.get(16 * person).copied().unwrap_or(0)).collect();
+    let rows: Vec<u64> = (0..PEOPLE)
+        .map(|person| rota.avail.get(16 * person).copied().unwrap_or(0))
+        .collect();
     words(bytes, &rows);
     words(bytes, &rota.frozen[..1]);
     for owners in [&rota.published, &rota.owners] {

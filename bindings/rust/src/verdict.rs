@@ -58,7 +58,10 @@ impl fmt::Display for Verdict {
             Rule::Published => write!(f, "Slot {slot} is frozen and has another owner than the published one."),
             Rule::Units => write!(f, "Slot {slot} has another owner than the first slot of its unit."),
             Rule::Cap => write!(f, "The shift from slot {slot} on is longer than the cap."),
-            Rule::Rest => write!(f, "The shift from slot {slot} on starts too soon after an earlier one of its owner."),
+            Rule::Rest => write!(
+                f,
+                "The shift from slot {slot} on starts too soon after an earlier one of its owner."
+            ),
         }
     }
 }
@@ -93,13 +96,7 @@ impl Problem {
     /// assert_eq!(problem.may_be_used(0, 0, &published, &theirs), Err(Refusal::Settings));
     /// # Ok::<(), Refusal>(())
     /// ```
-    pub fn may_be_used(
-        &self,
-        cap: u32,
-        rest: u32,
-        published: &[Option<usize>],
-        owners: &[Option<usize>],
-    ) -> Result<Verdict, Refusal> {
+    pub fn may_be_used(&self, cap: u32, rest: u32, published: &[Option<usize>], owners: &[Option<usize>]) -> Result<Verdict, Refusal> {
         let bytes = |list: &[Option<usize>]| -> Vec<u8> { list.iter().take(self.slot_count()).copied().map(owner_byte).collect() };
         let mut slot = 0;
         let broken = lent::may_be_used(
