@@ -8,6 +8,12 @@ use crate::problem::Problem;
 use crate::refusal::Refusal;
 
 /// A rule that a rota made elsewhere must keep, by its number.
+///
+/// ```
+/// use boltraven::Rule;
+///
+/// assert_eq!((Rule::ALL.len(), Rule::ALL[3], Rule::Cap.number()), (5, Rule::Cap, 4));
+/// ```
 #[derive(Debug, Clone, Copy, PartialEq, Eq, PartialOrd, Ord, Hash)]
 #[repr(u8)]
 pub enum Rule {
