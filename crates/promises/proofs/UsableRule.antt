@@ -235,10 +235,40 @@ module _ (B : Brought) (D : Derived) (z : numberOf (usableRow B) ≡ 0) (u : ver
   accepted : fromSlots (B .plan) (B .avail) (B .owners) D .number ≡ 0
   unfolding fromSlots outcome fromSlotsRow lentRow
   accepted =
-      all-pass (fromSlotsRow (B .plan) (B .avail) (B .owners) D)
-      (right .people, (right .count, (refl, (right .room, (right .avail-room, (right .owners-room, (le-leb _ _ s, (le-leb _ _ m, (refl,
-      (right .lent, (each-all (slotsOf B) (knownAt (B .plan .people) (B .owners)) (λ k h. each k h .0),
-      (each-all (slotsOf B) (availableAt (B .avail) (B .owners)) (λ k h. each k h .1), tt))))))))))))
+      all-pass (fromSlotsRow (B .plan) (B .avail) (B .owners) D) (
+        right .people,
+        (
+          right .count,
+          (
+            refl,
+            (
+              right .room,
+              (
+                right .avail-room,
+                (
+                  right .owners-room,
+                  (
+                    le-leb _ _ s,
+                    (
+                      le-leb _ _ m,
+                      (
+                        refl,
+                        (
+                          right .lent,
+                          (
+                            each-all (slotsOf B) (knownAt (B .plan .people) (B .owners)) (λ k h. each k h .0),
+                            (each-all (slotsOf B) (availableAt (B .avail) (B .owners)) (λ k h. each k h .1), tt),
+                          ),
+                        ),
+                      ),
+                    ),
+                  ),
+                ),
+              ),
+            ),
+          ),
+        ),
+      )
 
   even : (v k : ℕ) → InUnit (slotsOf B) (B .units) (B .begins) k v → ownerOf B k ≡ ownerOf B (unitStart (B .begins) v)
   unfolding uniformAt

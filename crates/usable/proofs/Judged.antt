@@ -55,9 +55,9 @@ pub judged-holds : (B : Brought) → judged B ≡ verdict.Usable
     × (all (slotsOf B) (uniformAt (B .units) (B .begins) (B .owners)) ≡ true)
 unfolding judged
 judged-holds B e =
-    let a = usable-holds (slotsOf B) 1 _ _ e in
-    let b = usable-holds (slotsOf B) 2 _ _ (a .1) in
-    let c = usable-holds (slotsOf B) 3 _ _ (b .1) in
+    let a = usable-holds (slotsOf B) _ _ _ e in
+    let b = usable-holds (slotsOf B) _ _ _ (a .1) in
+    let c = usable-holds (slotsOf B) _ _ _ (b .1) in
     (a .0, c .0)
 
 -- what the row leaves known

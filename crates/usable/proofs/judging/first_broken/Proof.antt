@@ -14,42 +14,55 @@ returns c =
 returns-2 : tie.Need-returns-2
 unfolding judged
 returns-2 c =
-    holds _ 1 _ _ _ (c .before .before .before .first-barred .ensures) (c .before .before .if1 .left)
+    let a1 = c .before .before in
+    holds _ 1 _ _ _ (a1 .before .first-barred .ensures) (a1 .if1 .left)
     (breaks _ 2 _ _ _ (c .before .first-moved .ensures) (c .if2 .taken))
 
 returns-3 : tie.Need-returns-3
 unfolding judged
 returns-3 c =
-    holds _ 1 _ _ _ (c .before .before .before .before .before .first-barred .ensures) (c .before .before .before .before .if1 .left)
-    (holds _ 2 _ _ _ (c .before .before .before .first-moved .ensures) (c .before .before .if2 .left)
+    let a2 = c .before .before in
+    let a1 = a2 .before .before in
+    holds _ 1 _ _ _ (a1 .before .first-barred .ensures) (a1 .if1 .left)
+    (holds _ 2 _ _ _ (a2 .before .first-moved .ensures) (a2 .if2 .left)
     (breaks _ 3 _ _ _ (c .before .first-uneven .ensures) (c .if3 .taken)))
 
 returns-4 : tie.Need-returns-4
 unfolding judged
 returns-4 c =
-    holds _ 1 _ _ _ (c .before .before .before .before .before .before .before .first-barred .ensures) (c .before .before .before .before .before .before .if1 .left)
-    (holds _ 2 _ _ _ (c .before .before .before .before .before .first-moved .ensures) (c .before .before .before .before .if2 .left)
-    (holds _ 3 _ _ _ (c .before .before .before .first-uneven .ensures) (c .before .before .if3 .left)
+    let a3 = c .before .before in
+    let a2 = a3 .before .before in
+    let a1 = a2 .before .before in
+    holds _ 1 _ _ _ (a1 .before .first-barred .ensures) (a1 .if1 .left)
+    (holds _ 2 _ _ _ (a2 .before .first-moved .ensures) (a2 .if2 .left)
+    (holds _ 3 _ _ _ (a3 .before .first-uneven .ensures) (a3 .if3 .left)
     (breaks _ 4 _ _ _ (c .before .first-long .ensures) (c .if4 .taken))))
 
 returns-5 : tie.Need-returns-5
 unfolding judged
 returns-5 c =
-    holds _ 1 _ _ _ (c .before .before .before .before .before .before .before .before .before .first-barred .ensures) (c .before .before .before .before .before .before .before .before .if1 .left)
-    (holds _ 2 _ _ _ (c .before .before .before .before .before .before .before .first-moved .ensures) (c .before .before .before .before .before .before .if2 .left)
-    (holds _ 3 _ _ _ (c .before .before .before .before .before .first-uneven .ensures) (c .before .before .before .before .if3 .left)
-    (holds _ 4 _ _ _ (c .before .before .before .first-long .ensures) (c .before .before .if4 .left)
+    let a4 = c .before .before in
+    let a3 = a4 .before .before in
+    let a2 = a3 .before .before in
+    let a1 = a2 .before .before in
+    holds _ 1 _ _ _ (a1 .before .first-barred .ensures) (a1 .if1 .left)
+    (holds _ 2 _ _ _ (a2 .before .first-moved .ensures) (a2 .if2 .left)
+    (holds _ 3 _ _ _ (a3 .before .first-uneven .ensures) (a3 .if3 .left)
+    (holds _ 4 _ _ _ (a4 .before .first-long .ensures) (a4 .if4 .left)
     (breaks _ 5 _ _ _ (c .before .first-close .ensures) (c .if5 .taken)))))
 
 returns-6 : tie.Need-returns-6
 unfolding judged
 returns-6 c =
-    holds _ 1 _ _ _ (c .before .before .before .before .before .before .before .before .before .first-barred .ensures) (c .before .before .before .before .before .before .before .before .if1 .left)
-    (holds _ 2 _ _ _ (c .before .before .before .before .before .before .before .first-moved .ensures) (c .before .before .before .before .before .before .if2 .left)
-    (holds _ 3 _ _ _ (c .before .before .before .before .before .first-uneven .ensures) (c .before .before .before .before .if3 .left)
-    (holds _ 4 _ _ _ (c .before .before .before .first-long .ensures) (c .before .before .if4 .left)
-    (holds _ 5 _ _ _ (c .before .first-close .ensures) (c .if5 .left)
-    (refl)))))
+    let a4 = c .before .before in
+    let a3 = a4 .before .before in
+    let a2 = a3 .before .before in
+    let a1 = a2 .before .before in
+    holds _ 1 _ _ _ (a1 .before .first-barred .ensures) (a1 .if1 .left)
+    (holds _ 2 _ _ _ (a2 .before .first-moved .ensures) (a2 .if2 .left)
+    (holds _ 3 _ _ _ (a3 .before .first-uneven .ensures) (a3 .if3 .left)
+    (holds _ 4 _ _ _ (a4 .before .first-long .ensures) (a4 .if4 .left)
+    (holds _ 5 _ _ _ (c .before .first-close .ensures) (c .if5 .left) refl))))
 
 pub first-broken-spec : {M : Type 1} → statement M
 first-broken-spec =
