@@ -21,7 +21,7 @@
       4  A range starts after its end, ends after minute 100,000,000, or names an unknown person.
       5  More than 1,024 atomic slots result, or a store of settings has no room.
       6  A capacity is no number from 0 to 1,000, or prior minutes are above 100,000,000.
-      7  Fairness, lock, boundary, every-count, weekday mask or shift days are outside their limits.
+      7  Fairness, lock, boundary, every-count, weekday mask, shift days, cap or rest are outside their limits.
       8  An unrounded target is not finite, or of size 2^40 or more.
       9  Lent slots are empty, reversed, too late or overlap, or unit starts don't rise from 0 below the slot count.
      10  The recount fails: owners, units, sets and minutes don't fit together.
@@ -109,7 +109,7 @@ static inline const char *boltraven_refusal_text(uint8_t number) {
     case 4: return "A range starts after its end, ends after minute 100,000,000, or names an unknown person.";
     case 5: return "More than 1,024 atomic slots result, or a store of settings has no room.";
     case 6: return "A capacity is no number from 0 to 1,000, or prior minutes are above 100,000,000.";
-    case 7: return "Fairness, lock, boundary, every-count, weekday mask or shift days are outside their limits.";
+    case 7: return "Fairness, lock, boundary, every-count, weekday mask, shift days, cap or rest are outside their limits.";
     case 8: return "An unrounded target is not finite, or of size 2^40 or more.";
     case 9: return "Lent slots are empty, reversed, too late or overlap, or unit starts don't rise from 0 below the slot count.";
     case 10: return "The recount fails: owners, units, sets and minutes don't fit together.";
@@ -328,6 +328,14 @@ uint64_t boltraven_recount_slots(size_t people, size_t slots, const uint32_t *st
                                  const uint32_t *ends, size_t ends_len, const uint64_t *avail, size_t avail_len,
                                  const uint8_t *owners, size_t owners_len, const uint64_t *sets, size_t sets_len,
                                  const uint64_t *minutes, size_t minutes_len);
+
+/* Whether a rota made elsewhere may be used: 0; or the first rule that it breaks, 1 owners known and available, 2 frozen slots as published, 3
+   units uniform, 4 no shift longer than `cap` minutes, 5 no two shifts of one person closer than `rest`, with the lowest slot at which it
+   shows behind the address. */
+uint64_t boltraven_may_be_used(size_t people, size_t slots, size_t units, uint32_t cap, uint32_t rest, const uint32_t *starts,
+                               size_t starts_len, const uint32_t *ends, size_t ends_len, const uint64_t *avail, size_t avail_len,
+                               const uint16_t *unit_starts, size_t unit_starts_len, const uint64_t *frozen, size_t frozen_len,
+                               const uint8_t *published, size_t published_len, const uint8_t *owners, size_t owners_len, uint64_t *slot);
 
 /* Draws in three columns, played in order; an answer byte each: 0 acted, 1 no move, 2 choice outside. 0, or the refusal with its place. */
 uint64_t boltraven_play(size_t people, size_t slots, size_t units, size_t count, const uint32_t *starts, size_t starts_len,

@@ -1,6 +1,6 @@
 /* One base slot of two hours and two people: the slots after the split, who can cover which, targets, a rota, one draw played, and the
    listing that a job of the same numbers has. Then what a click on each of a person's slots shows, the list screen of a published and a
-   draft column, and two refusals, one with its place. */
+   draft column, whether the rota could have come from elsewhere with two caps on a shift, and two refusals, one with its place. */
 #include <inttypes.h>
 #include <stdio.h>
 #include <stdlib.h>
@@ -105,6 +105,19 @@ static void refuse(void) {
     }
 }
 
+/* Whether the owners may be used if no shift may be longer than the cap. */
+static void judge(uint32_t cap) {
+    uint64_t slot;
+    const size_t broken = answer("may_be_used", boltraven_may_be_used(PEOPLE, slots, units, cap, 0, starts, SLOTS, ends, SLOTS, avail, WORDS,
+                                                                      unit_starts, SLOTS, frozen, BOLTRAVEN_SET_WORDS, owners, SLOTS,
+                                                                      owners, SLOTS, &slot));
+    if (broken == 0) {
+        printf("usable\n");
+    } else {
+        printf("broken %zu %" PRIu64 "\n", broken, slot);
+    }
+}
+
 int main(void) {
     if (boltraven_version() != BOLTRAVEN_VERSION) {
         fprintf(stderr, "the library is not of this header's version, %s\n", BOLTRAVEN_VERSION_TEXT);
@@ -114,6 +127,8 @@ int main(void) {
     list(play());
     for (size_t slot = 0; slot < slots; slot++) show(1, slot);
     screen();
+    judge(60);
+    judge(59);
     /* person 1 is not there for slot 0; and then slot 1 is taken out of person 1's set behind the library's back */
     refuse();
     sets[BOLTRAVEN_SET_WORDS] &= ~(uint64_t)2;

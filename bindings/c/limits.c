@@ -121,6 +121,10 @@ CALL(recount_slots) {
     return boltraven_recount_slots(PEOPLE, r->slots, r->starts, SLOTS, r->ends, SLOTS, r->avail, WORDS, r->owners, SLOTS, r->sets, WORDS,
                                    r->minutes, PEOPLE);
 }
+CALL(may_be_used) {
+    return boltraven_may_be_used(PEOPLE, r->slots, r->units, 100000000, 1, r->starts, SLOTS, r->ends, SLOTS, r->avail, WORDS,
+                                 r->unit_starts, SLOTS, r->frozen, SET, r->owners, SLOTS, r->owners, SLOTS, &r->first);
+}
 CALL(play) {
     return boltraven_play(PEOPLE, r->slots, r->units, DRAWS, r->starts, SLOTS, r->ends, SLOTS, r->avail, WORDS, r->unit_starts, SLOTS,
                           r->frozen, SET, r->draws, DRAWS, r->firsts, DRAWS, r->seconds, DRAWS, r->owners, SLOTS, r->sets, WORDS,
@@ -158,8 +162,8 @@ static const struct {
     DONE(unit_slots), NUMBER(unit_of_slot), NUMBER(unit_domain), DONE(unit_domains), NUMBER(unit_frozen), DONE(covered_days),
     DONE(minutes_per_day), DONE(target_run), DONE(achievable_run), DONE(compute_targets), DONE(empty), DONE(from_slots), DONE(assign),
     NUMBER(owner_of_slot), DONE(minutes_of), NUMBER(unassigned_count), DONE(uncovered_minutes), DONE(recount), DONE(recount_slots),
-    DONE(play), DONE(play_draws), NUMBER(stretch), DONE(publish), DONE(show), DONE(run_job), NUMBER(count_settings), DONE(save_settings),
-    DONE(ask_settings)};
+    DONE(may_be_used), DONE(play), DONE(play_draws), NUMBER(stretch), DONE(publish), DONE(show), DONE(run_job), NUMBER(count_settings),
+    DONE(save_settings), DONE(ask_settings)};
 
 enum { CALLS = sizeof calls / sizeof calls[0] };
 

@@ -20,7 +20,7 @@ SENTENCES = {
     4: "A range starts after its end, ends after minute 100,000,000, or names an unknown person.",
     5: "More than 1,024 atomic slots result, or a store of settings has no room.",
     6: "A capacity is no number from 0 to 1,000, or prior minutes are above 100,000,000.",
-    7: "Fairness, lock, boundary, every-count, weekday mask or shift days are outside their limits.",
+    7: "Fairness, lock, boundary, every-count, weekday mask, shift days, cap or rest are outside their limits.",
     8: "An unrounded target is not finite, or of size 2^40 or more.",
     9: "Lent slots are empty, reversed, too late or overlap, or unit starts don't rise from 0 below the slot count.",
     10: "The recount fails: owners, units, sets and minutes don't fit together.",

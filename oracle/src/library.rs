@@ -4,7 +4,7 @@
 use std::any::Any;
 use std::io;
 
-use boltraven::{lent, Draw, Refusal};
+use boltraven::{lent, Draw, Refusal, Rule};
 
 use crate::call::{Arg, Outcome, Question};
 use crate::limits::NOTHING;
@@ -104,6 +104,7 @@ exports! {
     yes_no stretch(number, slice, slice, slice, number, out);
     done publish(number, slice, slice, slice);
     done show(number, slice, slice, slice, slice);
+    judged may_be_used(number, number, number, number, number, slice, slice, slice, slice, slice, slice, slice, out);
     done run_job(slice, slice, out);
     number count_settings(slice, number);
     done save_settings(slice, number, number, number, number, number, number, number, out, out);
@@ -149,6 +150,10 @@ fn kept(answer: Result<lent::Kept, Refusal>) -> u64 {
         lent::Kept::Figures => 0,
         lent::Kept::Newer => 1,
     }))
+}
+
+fn judged(answer: Result<Option<Rule>, Refusal>) -> u64 {
+    number(answer.map(|broken| broken.map_or(0, |rule| usize::from(rule.number()))))
 }
 
 fn plain(answer: u32) -> u64 {

@@ -6,6 +6,7 @@ mod call;
 mod columns;
 mod covered;
 mod days;
+mod elsewhere;
 mod figures;
 mod job_cases;
 mod job_faults;
@@ -29,6 +30,7 @@ mod seed;
 mod sets;
 mod splitting;
 mod stored;
+mod stored_elsewhere;
 mod stored_jobs;
 mod stored_rotas;
 mod stored_slots;
@@ -58,7 +60,7 @@ const fn kind(name: &'static str, questions: fn(u64) -> Vec<Question>) -> Kind {
 }
 
 /// Every kind.
-const KINDS: [Kind; 22] = [
+const KINDS: [Kind; 24] = [
     kind("slot-sets", sets::questions),
     kind("slot-sets-damaged", sets::damaged),
     kind("slots", splitting::questions),
@@ -77,6 +79,8 @@ const KINDS: [Kind; 22] = [
     kind("recounts", planted::questions),
     kind("columns", columns::questions),
     kind("columns-damaged", columns::damaged),
+    kind("elsewhere", elsewhere::questions),
+    kind("elsewhere-damaged", elsewhere::damaged),
     kind("jobs", jobs::questions),
     kind("jobs-damaged", jobs::damaged),
     kind("stores", stores::questions),
@@ -161,6 +165,7 @@ fn store(kind: &str, n: u64, seed: u64, folder: &Path) -> ExitCode {
         "units" => Ok(stored_units::units(n, seed)),
         "rotas" => Ok(stored_rotas::rotas(n, seed)),
         "columns" => Ok(columns::stored(n, seed)),
+        "elsewhere" => Ok(stored_elsewhere::elsewhere(n, seed)),
         "jobs" => stored_jobs::jobs(n, seed),
         "stores" => Ok(stores::stored(n, seed)),
         _ => Err(format!("no kind {kind}")),

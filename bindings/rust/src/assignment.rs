@@ -63,7 +63,7 @@ pub struct Assignment {
 }
 
 /// An owner as the library takes it. A person whose number doesn't fit is as unknown as the last number that does.
-fn owner_byte(owner: Option<usize>) -> u8 {
+pub(crate) fn owner_byte(owner: Option<usize>) -> u8 {
     match owner {
         None => NOBODY,
         Some(person) => u8::try_from(person).unwrap_or(NOBODY - 1).min(NOBODY - 1),

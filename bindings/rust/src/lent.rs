@@ -103,7 +103,7 @@
 //! A rota: its owners, sets and minutes; and a whole job.
 //!
 //! ```
-//! use boltraven::{lent, Draw, Fault, Refusal, LISTING_MOST};
+//! use boltraven::{lent, Draw, Fault, Refusal, Rule, LISTING_MOST};
 //!
 //! let (starts, ends, unit_starts, frozen) = ([0, 60], [60, 120], [0, 1], [0; 16]);
 //! let (mut avail, mut owners, mut sets, mut minutes) = ([0; 32], [0; 2], [0; 32], [0; 2]);
@@ -129,6 +129,17 @@
 //! assert_eq!((answers, owners), ([0], [0, 0]));
 //! lent::minutes_of(2, &minutes, 0, &mut out)?;
 //! assert_eq!(out, 120);
+//!
+//! let mut slot = 9;
+//! let published = [1, 1];
+//! assert_eq!(
+//!     lent::may_be_used(2, 2, 2, 120, 0, &starts, &ends, &avail, &unit_starts, &frozen, &published, &owners, &mut slot)?, None
+//! );
+//! assert_eq!(
+//!     lent::may_be_used(2, 2, 2, 119, 0, &starts, &ends, &avail, &unit_starts, &frozen, &published, &owners, &mut slot)?,
+//!     Some(Rule::Cap)
+//! );
+//! assert_eq!(slot, 0);
 //!
 //! minutes[0] = 7;
 //! let units = lent::recount(2, 2, 2, &starts, &ends, &avail, &unit_starts, &owners, &sets, &minutes);
@@ -176,6 +187,7 @@
 use crate::draw::Draw;
 use crate::exports::{export, exports};
 use crate::refusal::Refusal;
+use crate::verdict::Rule;
 
 /// Words in a set.
 pub const SET_WORDS: usize = 16;
@@ -297,6 +309,18 @@ fn kept(answer: u64) -> Result<Kept, Refusal> {
         0 => Ok(Kept::Figures),
         1 => Ok(Kept::Newer),
         n => Err(refused(n.wrapping_sub(NOTHING))),
+    }
+}
+
+/// No broken rule, the first broken one, its slot being written, or a refusal.
+#[inline]
+fn judged(answer: u64) -> Result<Option<Rule>, Refusal> {
+    match answer {
+        0 => Ok(None),
+        n => match Rule::ALL.into_iter().find(|rule| u64::from(rule.number()) == n) {
+            Some(rule) => Ok(Some(rule)),
+            None => Err(refused(n.wrapping_sub(NOTHING))),
+        },
     }
 }
 
@@ -558,6 +582,15 @@ exports! {
 
     /// The list screen: each slot's owner, frozen ones as published and others as in the draft. Refusals: 1, 2.
     pub fn show(slots: usize, published: &[u8], draft: &[u8], frozen: &[u64], shown: &mut [u8]) -> Result<(), Refusal> = done(u8);
+
+    // ---- a rota made elsewhere
+
+    /// The first rule that a rota made elsewhere breaks, with the lowest slot at which it shows written; none where it may be used. Refusals:
+    /// 1, 2, 7, 9.
+    pub fn may_be_used(
+        people: usize, slots: usize, units: usize, cap: u32, rest: u32, starts: &[u32], ends: &[u32], avail: &[u64], unit_starts: &[u16],
+        frozen: &[u64], published: &[u8], owners: &[u8], slot: &mut u64
+    ) -> Result<Option<Rule>, Refusal> = judged(u64);
 
     // ---- the library itself
 

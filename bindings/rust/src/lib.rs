@@ -46,6 +46,7 @@ mod slots;
 mod store;
 mod targets;
 mod units;
+mod verdict;
 mod weekdays;
 
 pub use assignment::{Answer, Assignment};
@@ -62,6 +63,7 @@ pub use slots::{merged_ranges, Range, Slot, Slots};
 pub use store::{Entries, Entry, Store};
 pub use targets::{compute_targets, Person};
 pub use units::Units;
+pub use verdict::{Rule, Verdict};
 pub use weekdays::{NoWeekday, Weekday, Weekdays};
 
 /// The version of this package. The library's own is [`lent::version`], which is to be the same.

@@ -4,3 +4,4 @@ pub mod Units
 pub mod Columns
 pub mod Rota
 pub mod Store
+pub mod Usable

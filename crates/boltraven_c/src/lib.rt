@@ -12,6 +12,7 @@ mod slotset_c;
 mod store_c;
 mod targets_c;
 mod units_c;
+mod usable_c;
 mod version;
 
 ghost use mathlib.Core.Path.{_≡_};

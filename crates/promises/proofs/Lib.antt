@@ -22,6 +22,7 @@ pub mod TargetFairness
 pub mod TargetGuard
 pub mod Marked
 pub mod RotaRules
+pub mod UsableRule
 pub mod Tables
 pub mod Rota
 pub mod MoveRules

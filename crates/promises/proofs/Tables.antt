@@ -163,7 +163,7 @@ say-and a b n m t f = subst (First t) (join a b n m) f
 
 -- ---- the tests of the rows
 
-people-says : (k : ℕ) {t : List Rule} {n : ℕ} → First t n → First (outside 1 32 k ∷ t) (cond (peopleOk k) n 1)
+pub people-says : (k : ℕ) {t : List Rule} {n : ℕ} → First t n → First (outside 1 32 k ∷ t) (cond (peopleOk k) n 1)
 people-says k {t} {n} h = say-outside 1 32 k (peopleOk k) {t = t} {n = n} (tests-by-rule .people k) (λ e. h)
 
 pub slots-says : (k : ℕ) {t : List Rule} {n : ℕ} → First t n → First (outside 1 1024 k ∷ t) (cond (slotCountOk k) n 1)
@@ -178,7 +178,7 @@ ranges-says : (k : ℕ) {t : List Rule} {n : ℕ} → First t n → First (outsi
 unfolding rangeCountOk
 ranges-says k {t} {n} h = most-says k {t = t} {n = n} h
 
-columns-say : (k : ℕ) (starts ends : List ℕ) {t : List Rule} {n : ℕ} → (slotRoomOk k starts ends ≡ true → First t n)
+pub columns-say : (k : ℕ) (starts ends : List ℕ) {t : List Rule} {n : ℕ} → (slotRoomOk k starts ends ≡ true → First t n)
     → First (short k (length starts) ∷ short k (length ends) ∷ t) (cond (slotRoomOk k starts ends) n 2)
 unfolding slotRoomOk
 columns-say k starts ends {t} {n} h =
@@ -198,7 +198,7 @@ range-columns-say R {t} {n} h =
     (say-short (R .count) (length (R .starts)) (λ b.
     say-short (R .count) (length (R .ends)) {t = t} {n = n} (λ c. h (and-true _ _ a (and-true _ _ b c)))))))
 
-right-says : (m k : ℕ) (starts ends : List ℕ) {t : List Rule} {n : ℕ} → slotRoomOk k starts ends ≡ true → First t n
+pub right-says : (m k : ℕ) (starts ends : List ℕ) {t : List Rule} {n : ℕ} → slotRoomOk k starts ends ≡ true → First t n
     → First (broken m (SlotsRight k starts ends) ∷ t) (cond (slotsOk k starts ends) n m)
 right-says m k starts ends {t} {n} room h =
     say-broken m (SlotsRight k starts ends) (slotsOk k starts ends) {t = t} {n = n} (tests-by-rule .slots k starts ends room) (λ e. h)
@@ -211,7 +211,7 @@ ranges-right people R {t} {n} room h =
 settings-right : (s : Settings) {t : List Rule} {n : ℕ} → First t n → First (broken 7 (SettingsRight s) ∷ t) (cond (settingsOk s) n 7)
 settings-right s {t} {n} h = say-broken 7 (SettingsRight s) (settingsOk s) {t = t} {n = n} (tests-by-rule .settings s) (λ e. h)
 
-units-right : (k units : ℕ) (begins : List ℕ) {t : List Rule} {n : ℕ} → leb units (length begins) ≡ true → First t n
+pub units-right : (k units : ℕ) (begins : List ℕ) {t : List Rule} {n : ℕ} → leb units (length begins) ≡ true → First t n
     → First (broken 9 (UnitsRight k units begins) ∷ t) (cond (unitsOk k units begins) n 9)
 units-right k units begins {t} {n} room h =
     say-broken 9 (UnitsRight k units begins) (unitsOk k units begins) {t = t} {n = n} (tests-by-rule .units k units begins room) (λ e. h)

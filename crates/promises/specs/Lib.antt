@@ -22,6 +22,7 @@ pub mod PassesRule
 pub mod MoveRules
 pub mod PlayRule
 pub mod RotaRules
+pub mod UsableRule
 pub mod Tables
 pub mod Rota
 pub mod ManyCalls
