@@ -1,0 +1,3 @@
+-- The laws of wayback.
+pub mod SwapAgain
+pub mod Returns

@@ -1,0 +1,2 @@
+-- What the contracts of wayback cite.
+pub mod Back

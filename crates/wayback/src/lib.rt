@@ -1,0 +1,1 @@
+// The way back from one rota to another, by reassigns.
