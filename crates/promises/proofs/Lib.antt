@@ -27,6 +27,7 @@ pub mod Rota
 pub mod MoveRules
 pub mod PlayRule
 pub mod ManyCalls
+pub mod WayBack
 pub mod JobRules
 pub mod JobOwners
 pub mod JobFields

@@ -25,6 +25,7 @@ pub mod RotaRules
 pub mod Tables
 pub mod Rota
 pub mod ManyCalls
+pub mod WayBack
 pub mod JobRules
 pub mod JobFields
 pub mod JobTests

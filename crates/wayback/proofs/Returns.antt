@@ -8,9 +8,10 @@ use borrow.Author.Tests.{eq-eqb, ne-eqb, eqb-true, eqb-false}
 use lib.Dec.{eqb}
 use lib.ListN.{length, getD, replicate, length-map, List·getD-map}
 use Rattle.paper.specs.Limits.{nobody}
-use Rattle.paper.specs.Count.{among, count}
-use Rattle.paper.proofs.Logic.{by-test}
-use Rattle.paper.proofs.Count.{among-at, among-each, among-le, rises-far}
+use Rattle.paper.specs.Count.{some, among, count}
+use Rattle.paper.proofs.Logic.{by-test, same-test}
+use Rattle.paper.proofs.Count.{some-here, some-none, some-more, some-one, count-change, count-opening, among-at, among-count, among-each, among-le}
+use Rattle.paper.proofs.Count.{among-same, rises-far}
 use Rattle.rota.specs.Board.{Board, BoardSound, InUnit, Even, ownerOf}
 use Rattle.rota.specs.Moves.{Draw, draw, domainOf}
 use Rattle.rota.specs.Plays.{step, answer, ownersAfter, answers}
@@ -128,12 +129,9 @@ returns B T a o (d ∷ ds) R K =
     let r = returns B T a (step B o d) ds (return-then B T a o R d ds K) (takes-then B T a o R d ds K) in
     (r .0, ap₂ (λ (x : ℕ) (l : List ℕ). x ∷ l) (answers-zero B T a o R d ds K) (r .1))
 
--- ---- the list that names them ascending
+-- ---- the units whose owner differs
 
 module _ (B : Board) (a o : List ℕ) where
-  abbrev units : List ℕ
-  units = differing B a o
-
   differs-says : (u : ℕ) → u < B .units → differs B a o u ≡ true → Differ B a o u
   unfolding differs
   differs-says u h t =
@@ -142,6 +140,50 @@ module _ (B : Board) (a o : List ℕ) where
   says-differs : (u : ℕ) → Differ B a o u → differs B a o u ≡ true
   unfolding differs
   says-differs u D = ap not (ne-eqb _ _ (D .other))
+
+-- ---- as many of them as units whose owner differs
+
+-- u is one of the first n numbers that f gives
+abbrev among-first : (ℕ → ℕ) → ℕ → ℕ → Bool
+among-first f n u = some n (λ j. eqb (f j) u)
+
+-- n numbers below m, no two alike, are n of the numbers below m
+distinct-count : (n m : ℕ) (f : ℕ → ℕ) → ((i : ℕ) → i < n → f i < m) → ((i j : ℕ) → i < j → j < n → f i ≡ f j → ⊥)
+    → count m (among-first f n) ≡ n
+unfolding some
+distinct-count zero m f h d = count-opening m 0 (λ _. false) (omega arith) (λ k b. absurd (omega arith)) (λ k b c. refl)
+distinct-count (suc n) m f h d =
+    count-change m (f n) (among-first f n) (among-first f (suc n)) (h n (omega arith))
+    (λ k z. sym (some-more n (λ j. eqb (f j) k) (ne-eqb (f n) k (λ q. z (sym q)))))
+    (some-none n (λ j. eqb (f j) (f n)) (λ j l. ne-eqb (f j) (f n) (d j n l (omega arith))))
+    (some-here (suc n) n (λ j. eqb (f j) (f n)) (omega arith) (eq-eqb (f n) (f n) refl))
+    ∙ omega (arith, distinct-count n m f (λ i l. h i (omega arith)) (λ i j l g. d i j l (omega arith)))
+
+pub takes-exactly : (B : Board) (a o : List ℕ) (ds : List Draw) → TakesBack B a o ds → length ds ≡ length (differing B a o)
+unfolding differing
+takes-exactly B a o ds K =
+    let f : ℕ → ℕ = λ i. drawAt ds i .first in
+    let n = length ds in
+    sym (distinct-count n (B .units) f (λ i h. K .differ i h .known) (K .once))
+    ∙ sym (among-count (among-first f n) (B .units))
+    ∙ ap length (among-same (among-first f n) (differs B a o) (B .units)
+    (λ u h.
+    same-test _ _
+    (λ t.
+    some-one n (λ j. eqb (f j) u) (differs B a o u ≡ true) t
+    (λ j l e. ap (differs B a o) (sym (eqb-true _ _ e)) ∙ says-differs B a o (f j) (K .differ j l)))
+    (λ t.
+    let w = K .every u (differs-says B a o u h t) in some-here n (w .0) (λ j. eqb (f j) u) (w .1) (eq-eqb _ _ (w .2)))))
+
+pub takes-few : (B : Board) (a o : List ℕ) (ds : List Draw) → TakesBack B a o ds → length ds ≤ B .units
+unfolding differing
+takes-few B a o ds K = omega (arith, takes-exactly B a o ds K, among-le (differs B a o) (B .units))
+
+-- ---- the list that names them ascending
+
+module _ (B : Board) (a o : List ℕ) where
+  abbrev units : List ℕ
+  units = differing B a o
 
   pub back-length : length (back B a o) ≡ length units
   unfolding back
@@ -152,7 +194,7 @@ module _ (B : Board) (a o : List ℕ) where
   back-few = omega (arith, back-length, among-le (differs B a o) (B .units))
 
   -- draw i is that of the unit at i
-  back-at : (i : ℕ) → i < length (back B a o) → drawAt (back B a o) i ≡ backDraw B a (getD units i 0)
+  pub back-at : (i : ℕ) → i < length (back B a o) → drawAt (back B a o) i ≡ backDraw B a (getD units i 0)
   unfolding back
   back-at i h = mapped units i (omega (arith, back-length))
     where
@@ -164,7 +206,17 @@ module _ (B : Board) (a o : List ℕ) where
   unit-differs : (i : ℕ) → i < length (back B a o) → Differ B a o (getD units i 0)
   unfolding differing
   unit-differs i h =
-      let r = among-each (differs B a o) (B .units) i (omega (arith, back-length)) in differs-says _ (r .0) (r .1)
+      let r = among-each (differs B a o) (B .units) i (omega (arith, back-length)) in differs-says B a o _ (r .0) (r .1)
+
+  pub back-rises : (i j : ℕ) → i < j → j < length (back B a o) → drawAt (back B a o) i .first < drawAt (back B a o) j .first
+  unfolding differing
+  back-rises i j l h =
+      omega (
+        arith,
+        rises-far (differs B a o) (B .units) i j l (omega (arith, back-length)),
+        ap (λ (d : Draw). d .first) (back-at i (omega arith)),
+        ap (λ (d : Draw). d .first) (back-at j h),
+      )
 
   pub back-takes : TakesBack B a o (back B a o)
   unfolding differing
@@ -173,15 +225,9 @@ module _ (B : Board) (a o : List ℕ) where
     differ = λ i h. mathlib.Core.Path.subst (λ (d : Draw). Differ B a o (d .first)) (sym (back-at i h)) (unit-differs i h);
     to = λ i h.
         mathlib.Core.Path.subst (λ (d : Draw). d .second ≡ placeIn B (d .first) (ownerOf B a (d .first))) (sym (back-at i h)) refl;
-    once = λ i j l h q.
-        omega (
-          arith,
-          rises-far (differs B a o) (B .units) i j l (omega (arith, back-length)),
-          ap (λ (d : Draw). d .first) (back-at i (omega arith)),
-          ap (λ (d : Draw). d .first) (back-at j h),
-        );
+    once = λ i j l h q. omega (arith, back-rises i j l h);
     every = λ u D.
-        let r = among-at (differs B a o) (B .units) u (D .known) (says-differs u D) in
+        let r = among-at (differs B a o) (B .units) u (D .known) (says-differs B a o u D) in
         let h : length (among (differs B a o) u) < length (back B a o) = omega (arith, r .0, back-length) in
         (length (among (differs B a o) u), h, ap (λ (d : Draw). d .first) (back-at _ h) ∙ r .1);
   }
