@@ -1,3 +1,5 @@
 -- The laws of wayback.
 pub mod SwapAgain
 pub mod Returns
+pub mod Searched
+pub mod Written

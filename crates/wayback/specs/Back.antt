@@ -29,6 +29,16 @@ backDraw B a u = draw 0 u (placeIn B u (ownerOf B a u))
 unfoldable pub back : Board → List ℕ → List ℕ → List Draw
 back B a o = map (backDraw B a) (differing B a o)
 
+-- a list of draws, as three columns
+unfoldable pub kindsOf : List Draw → List ℕ
+kindsOf ds = map (λ d. d .kind) ds
+
+unfoldable pub firstsOf : List Draw → List ℕ
+firstsOf ds = map (λ d. d .first) ds
+
+unfoldable pub secondsOf : List Draw → List ℕ
+secondsOf ds = map (λ d. d .second) ds
+
 -- ---- the same in any order, and by any draws that are reassigns
 
 abbrev pub drawAt : List Draw → ℕ → Draw
