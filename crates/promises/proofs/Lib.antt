@@ -28,6 +28,7 @@ pub mod MoveRules
 pub mod PlayRule
 pub mod ManyCalls
 pub mod WayBack
+pub mod WayBackRule
 pub mod JobRules
 pub mod JobOwners
 pub mod JobFields

@@ -33,5 +33,6 @@ pub mod JobText
 pub mod JobExample
 pub mod ListRules
 pub mod Accepts
+pub mod WayBackRule
 pub mod Exports
 pub mod Empty

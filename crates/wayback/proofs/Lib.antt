@@ -3,3 +3,4 @@ pub mod SwapAgain
 pub mod Returns
 pub mod Searched
 pub mod Written
+pub mod Leading

@@ -132,12 +132,12 @@ returns B T a o (d ∷ ds) R K =
 -- ---- the units whose owner differs
 
 module _ (B : Board) (a o : List ℕ) where
-  differs-says : (u : ℕ) → u < B .units → differs B a o u ≡ true → Differ B a o u
+  pub differs-says : (u : ℕ) → u < B .units → differs B a o u ≡ true → Differ B a o u
   unfolding differs
   differs-says u h t =
       record { known = h; other = λ q. mathlib.Core.Bool.false≢true (sym (ap not (eq-eqb _ _ q)) ∙ t) }
 
-  says-differs : (u : ℕ) → Differ B a o u → differs B a o u ≡ true
+  pub says-differs : (u : ℕ) → Differ B a o u → differs B a o u ≡ true
   unfolding differs
   says-differs u D = ap not (ne-eqb _ _ (D .other))
 

@@ -148,7 +148,9 @@ module _ (P : Plan) (avail : List ℕ) (units : ℕ) (begins frozen a o : List �
   -- where nothing stands against it
   pub record WayAsks : Type 0 where
     pub asks : RecountAsks P avail units begins o D true (wayRoomOk (P .slots) units begins frozen a ks fs ss)
+    pub recounted : numberOf front ≡ 0
     pub remembered : numberOf (rememberedRow P avail units begins a) ≡ 0
+    pub starts : units ≤ length begins
     pub units-within : units ≤ P .slots
     pub units-few : units ≤ 1024
     pub flags : 16 ≤ length frozen
@@ -173,7 +175,9 @@ module _ (P : Plan) (avail : List ℕ) (units : ℕ) (begins frozen a o : List �
       let v = three (leb (P .slots) (length ks)) (leb (P .slots) (length fs)) (leb (P .slots) (length ss)) (w .1) in
       record {
         asks = A;
+        recounted = first;
         remembered = sym (said us (e ∙ first-on front us front-numbered first)) ∙ z;
+        starts = leb-true _ _ (x .0);
         units-within = units-within (P .slots) units begins (A .units-ok);
         units-few = omega (arith, units-within (P .slots) units begins (A .units-ok), A .on .sound .slots-few);
         flags = leb-true _ _ (y .0);

@@ -2,22 +2,23 @@
 use mathlib.Core.Path.{_≡_}
 use mathlib.Core.Bool.{Bool, true, cond, not, _&&_, _||_}
 use mathlib.Core.List.{List, [], _∷_, _++_}
+use mathlib.Core.Logic.{_⊎_}
 use Prim.Native.Nat.{ℕ}
 use lib.Dec.{eqb, ltb, leb}
 use lib.ListN.{length}
-use Rattle.paper.specs.Limits.{setWords, Test, testIn, test}
+use Rattle.paper.specs.Limits.{setWords, nobody, Test, testIn, test}
 use Rattle.paper.specs.Rows.{refusalOf}
 use Rattle.paper.specs.Count.{all, onto}
 use Rattle.owners.specs.Derived.{Plan, Derived}
 use Rattle.owners.specs.Recount.{firstFail, knownAt, availableAt, evenAt}
 use Rattle.owners.specs.Entries.{recountRow}
-use Rattle.rota.specs.Board.{Board, unowned}
+use Rattle.rota.specs.Board.{Board, ownerOf, unowned}
 use Rattle.rota.specs.Moves.{Draw}
 use Rattle.rota.specs.Lent.{boardOf}
 use Rattle.rota.specs.Entries.{columnsEnough}
 use Rattle.wayback.specs.declared.Way.{Way}
 use Rattle.wayback.specs.declared.Way.the-variants as way
-use Rattle.wayback.specs.Back.{differs, back, kindsOf, firstsOf, secondsOf}
+use Rattle.wayback.specs.Back.{differs, Differ, back, kindsOf, firstsOf, secondsOf}
 
 -- ---- the tests: of the rota as it is 1, 2, 9, 10; then of the owners that are to be again
 
@@ -42,6 +43,10 @@ wayRow P avail units begins frozen a o D ks fs ss =
 -- a unit that no reassign gives back: its owner differs, and nobody owned it or it is frozen
 unfoldable pub inTheWay : Board → List ℕ → List ℕ → ℕ → Bool
 inTheWay B a o u = differs B a o u && (unowned B a u || B .frozen u)
+
+pub record InWay (B : Board) (a o : List ℕ) (u : ℕ) : Type 0 where
+  pub differ : Differ B a o u
+  pub lost : (ownerOf B a u ≡ nobody) ⊎ (B .frozen u ≡ true)
 
 -- the first of them, or the unit count
 unfoldable pub firstInWay : Board → List ℕ → List ℕ → ℕ
