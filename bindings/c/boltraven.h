@@ -10,7 +10,9 @@
 
    Answers. A function that returns uint8_t gives 0, or the number of the refusal, 1 to 13; what it was asked for stands in the lists
    and behind the addresses (`uint64_t *out`), which stay as they were where it refuses. One that returns uint64_t gives what was asked
-   (below 65,536), or BOLTRAVEN_NOTHING, or BOLTRAVEN_NOTHING + n for the refusal n. A date and a weekday are plain numbers.
+   (below 65,536), or BOLTRAVEN_NOTHING, or BOLTRAVEN_NOTHING + n for the refusal n; but the six that can give 10 (the two recounts, assign,
+   the two plays, run_job) return 0, or the refusal with its place in one uint64_t, which the macros below take apart. A date and a weekday
+   are plain numbers.
 
    Refusals. Where several apply the lowest number is given, but 13 before all.
       1  A count is outside its limits, or a set is longer than 1,024 slots.
@@ -26,6 +28,12 @@
      11  A slot, unit, person or index is not below its count.
      12  A person is to get a slot for which they aren't available.
      13  The job file breaks its layout or is too long.
+
+   Where the recount fails, by its parts, which are checked in this order over the whole rota. The place is the lowest at fault; of a wrong
+   set it is the lowest person, and the second number is that person's lowest slot.
+     10.1  the slot's owner is unknown            10.4  the person's set is wrong at the slot that is the second number
+     10.2  the slot's owner is not available      10.5  the person's minutes are wrong
+     10.3  the unit has more than one owner
 
    Settings go as six numbers.
      fairness  what a share is measured by: 0 capacity times the minutes a person is available for, 1 capacity times demand
@@ -83,6 +91,13 @@ struct boltraven_draw {
     uint16_t second;
 };
 
+/* What the six functions that can give 10 answer, taken apart: the refusal's number, 0 for none; of 10 the part of the recount that failed,
+   its place, and the second number of part 4. All three are 0 for the other refusals. */
+#define BOLTRAVEN_NUMBER(refusal) ((uint8_t)((refusal) & 255))
+#define BOLTRAVEN_PART(refusal) ((uint8_t)((refusal) >> 8 & 255))
+#define BOLTRAVEN_PLACE(refusal) ((uint16_t)((refusal) >> 16 & 65535))
+#define BOLTRAVEN_SECOND(refusal) ((uint16_t)((refusal) >> 32 & 65535))
+
 /* What a refusal's number says, as a sentence; of another number NULL. */
 static inline const char *boltraven_refusal_text(uint8_t number) {
     switch (number) {
@@ -99,6 +114,18 @@ static inline const char *boltraven_refusal_text(uint8_t number) {
     case 11: return "A slot, unit, person or index is not below its count.";
     case 12: return "A person is to get a slot for which they aren't available.";
     case 13: return "The job file breaks its layout or is too long.";
+    default: return NULL;
+    }
+}
+
+/* What a part of the recount says of its place, as a format for two numbers, BOLTRAVEN_PLACE and BOLTRAVEN_SECOND; of another part NULL. */
+static inline const char *boltraven_fault_format(uint8_t part) {
+    switch (part) {
+    case 1: return "slot %u's owner is unknown";
+    case 2: return "slot %u's owner is not available for it";
+    case 3: return "unit %u has more than one owner";
+    case 4: return "person %u's set is wrong at slot %u";
+    case 5: return "person %u's minutes are wrong";
     default: return NULL;
     }
 }
@@ -269,11 +296,11 @@ uint8_t boltraven_from_slots(size_t people, size_t slots, const uint32_t *starts
                              const uint8_t *owners, size_t owners_len, uint64_t *sets, size_t sets_len,
                              uint64_t *minutes, size_t minutes_len);
 
-/* A slot given to a person, or cleared by 255. */
-uint8_t boltraven_assign(size_t people, size_t slots, const uint32_t *starts, size_t starts_len,
-                         const uint32_t *ends, size_t ends_len, const uint64_t *avail, size_t avail_len,
-                         uint8_t *owners, size_t owners_len, uint64_t *sets, size_t sets_len, uint64_t *minutes, size_t minutes_len,
-                         size_t slot, uint8_t owner);
+/* A slot given to a person, or cleared by 255: 0, or the refusal with its place, never 10.3. */
+uint64_t boltraven_assign(size_t people, size_t slots, const uint32_t *starts, size_t starts_len,
+                          const uint32_t *ends, size_t ends_len, const uint64_t *avail, size_t avail_len,
+                          uint8_t *owners, size_t owners_len, uint64_t *sets, size_t sets_len, uint64_t *minutes, size_t minutes_len,
+                          size_t slot, uint8_t owner);
 
 /* The owner of a slot, 255 for nobody. */
 uint64_t boltraven_owner_of_slot(size_t people, size_t slots, const uint8_t *owners, size_t owners_len, size_t slot);
@@ -288,39 +315,40 @@ uint64_t boltraven_unassigned_count(size_t people, size_t slots, const uint8_t *
 uint8_t boltraven_uncovered_minutes(size_t people, size_t slots, const uint32_t *starts, size_t starts_len,
                                     const uint32_t *ends, size_t ends_len, const uint8_t *owners, size_t owners_len, uint64_t *out);
 
-/* Whether owners, sets and minutes fit together, and units have one owner each: 0, or 10. */
-uint8_t boltraven_recount(size_t people, size_t slots, size_t units, const uint32_t *starts, size_t starts_len,
-                          const uint32_t *ends, size_t ends_len, const uint64_t *avail, size_t avail_len,
-                          const uint16_t *unit_starts, size_t unit_starts_len, const uint8_t *owners, size_t owners_len,
-                          const uint64_t *sets, size_t sets_len, const uint64_t *minutes, size_t minutes_len);
+/* Whether owners, sets and minutes fit together, and units have one owner each: 0, or the refusal with its place. */
+uint64_t boltraven_recount(size_t people, size_t slots, size_t units, const uint32_t *starts, size_t starts_len,
+                           const uint32_t *ends, size_t ends_len, const uint64_t *avail, size_t avail_len,
+                           const uint16_t *unit_starts, size_t unit_starts_len, const uint8_t *owners, size_t owners_len,
+                           const uint64_t *sets, size_t sets_len, const uint64_t *minutes, size_t minutes_len);
 
-/* The same, units aside. */
-uint8_t boltraven_recount_slots(size_t people, size_t slots, const uint32_t *starts, size_t starts_len,
-                                const uint32_t *ends, size_t ends_len, const uint64_t *avail, size_t avail_len,
-                                const uint8_t *owners, size_t owners_len, const uint64_t *sets, size_t sets_len,
-                                const uint64_t *minutes, size_t minutes_len);
+/* The same, units aside: never 10.3. */
+uint64_t boltraven_recount_slots(size_t people, size_t slots, const uint32_t *starts, size_t starts_len,
+                                 const uint32_t *ends, size_t ends_len, const uint64_t *avail, size_t avail_len,
+                                 const uint8_t *owners, size_t owners_len, const uint64_t *sets, size_t sets_len,
+                                 const uint64_t *minutes, size_t minutes_len);
 
-/* Draws in three columns, played in order; an answer byte each: 0 acted, 1 no move, 2 choice outside. */
-uint8_t boltraven_play(size_t people, size_t slots, size_t units, size_t count, const uint32_t *starts, size_t starts_len,
-                       const uint32_t *ends, size_t ends_len, const uint64_t *avail, size_t avail_len,
-                       const uint16_t *unit_starts, size_t unit_starts_len, const uint64_t *frozen, size_t frozen_len,
-                       const uint16_t *draws, size_t draws_len, const uint16_t *firsts, size_t firsts_len,
-                       const uint16_t *seconds, size_t seconds_len, uint8_t *owners, size_t owners_len,
-                       uint64_t *sets, size_t sets_len, uint64_t *minutes, size_t minutes_len,
-                       uint8_t *answers, size_t answers_len);
+/* Draws in three columns, played in order; an answer byte each: 0 acted, 1 no move, 2 choice outside. 0, or the refusal with its place. */
+uint64_t boltraven_play(size_t people, size_t slots, size_t units, size_t count, const uint32_t *starts, size_t starts_len,
+                        const uint32_t *ends, size_t ends_len, const uint64_t *avail, size_t avail_len,
+                        const uint16_t *unit_starts, size_t unit_starts_len, const uint64_t *frozen, size_t frozen_len,
+                        const uint16_t *draws, size_t draws_len, const uint16_t *firsts, size_t firsts_len,
+                        const uint16_t *seconds, size_t seconds_len, uint8_t *owners, size_t owners_len,
+                        uint64_t *sets, size_t sets_len, uint64_t *minutes, size_t minutes_len,
+                        uint8_t *answers, size_t answers_len);
 
 /* The same of draws as structs. */
-uint8_t boltraven_play_draws(size_t people, size_t slots, size_t units, size_t count, const uint32_t *starts, size_t starts_len,
-                             const uint32_t *ends, size_t ends_len, const uint64_t *avail, size_t avail_len,
-                             const uint16_t *unit_starts, size_t unit_starts_len, const uint64_t *frozen, size_t frozen_len,
-                             uint8_t *owners, size_t owners_len, uint64_t *sets, size_t sets_len,
-                             uint64_t *minutes, size_t minutes_len, const struct boltraven_draw *draws, size_t draws_len,
-                             uint8_t *answers, size_t answers_len);
+uint64_t boltraven_play_draws(size_t people, size_t slots, size_t units, size_t count, const uint32_t *starts, size_t starts_len,
+                              const uint32_t *ends, size_t ends_len, const uint64_t *avail, size_t avail_len,
+                              const uint16_t *unit_starts, size_t unit_starts_len, const uint64_t *frozen, size_t frozen_len,
+                              const struct boltraven_draw *draws, size_t draws_len, uint8_t *owners, size_t owners_len,
+                              uint64_t *sets, size_t sets_len, uint64_t *minutes, size_t minutes_len,
+                              uint8_t *answers, size_t answers_len);
 
 /* ---- A whole job. */
 
-/* A job file's listing, at the front of `out`, and its length; `out` needs room for BOLTRAVEN_LISTING_MOST bytes. */
-uint8_t boltraven_run_job(const uint8_t *file, size_t file_len, uint8_t *out, size_t out_len, uint64_t *length);
+/* A job file's listing, at the front of `out`, and its length; `out` needs room for BOLTRAVEN_LISTING_MOST bytes. 0, or the refusal with
+   its place: of 10 only 10.3 comes. */
+uint64_t boltraven_run_job(const uint8_t *file, size_t file_len, uint8_t *out, size_t out_len, uint64_t *length);
 
 #ifdef __cplusplus
 }

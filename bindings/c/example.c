@@ -1,5 +1,5 @@
 /* One base slot of two hours and two people: the slots after the split, who can cover which, targets, a rota, one draw played, and the
-   listing that a job of the same numbers has. Then what a click on each of a person's slots shows, and one refusal. */
+   listing that a job of the same numbers has. Then what a click on each of a person's slots shows, and two refusals, one with its place. */
 #include <inttypes.h>
 #include <stdio.h>
 #include <stdlib.h>
@@ -22,7 +22,7 @@ static int64_t targets[PEOPLE];
 /* Ends the program where something is refused that should not be. */
 static void done(const char *what, uint64_t refusal) {
     if (refusal == 0) return;
-    fprintf(stderr, "%s: refused by %" PRIu64 ": %s\n", what, refusal, boltraven_refusal_text((uint8_t)refusal));
+    fprintf(stderr, "%s: refused by %d: %s\n", what, BOLTRAVEN_NUMBER(refusal), boltraven_refusal_text(BOLTRAVEN_NUMBER(refusal)));
     exit(1);
 }
 
@@ -55,7 +55,7 @@ static uint8_t play(void) {
     done("from_slots", boltraven_from_slots(PEOPLE, slots, starts, SLOTS, ends, SLOTS, avail, WORDS, owners, SLOTS, sets, WORDS, minutes,
                                             PEOPLE));
     done("play_draws", boltraven_play_draws(PEOPLE, slots, units, DRAWS, starts, SLOTS, ends, SLOTS, avail, WORDS, unit_starts, SLOTS,
-                                            frozen, BOLTRAVEN_SET_WORDS, owners, SLOTS, sets, WORDS, minutes, PEOPLE, draws, DRAWS, answers,
+                                            frozen, BOLTRAVEN_SET_WORDS, draws, DRAWS, owners, SLOTS, sets, WORDS, minutes, PEOPLE, answers,
                                             DRAWS));
     return answers[0];
 }
@@ -77,6 +77,20 @@ static void show(size_t person, size_t slot) {
     printf("%s %zu %" PRIu64 " %" PRIu64 "\n", held == BOLTRAVEN_HOLE ? "hole" : "run", person, first, last);
 }
 
+/* Gives slot 0 to person 1, and tells why not: of a failed recount the part, and where. */
+static void refuse(void) {
+    const uint64_t refusal =
+        boltraven_assign(PEOPLE, slots, starts, SLOTS, ends, SLOTS, avail, WORDS, owners, SLOTS, sets, WORDS, minutes, PEOPLE, 0, 1);
+    const uint8_t number = BOLTRAVEN_NUMBER(refusal), part = BOLTRAVEN_PART(refusal);
+    if (part == 0) {
+        printf("R %d: %s\n", number, boltraven_refusal_text(number));
+    } else {
+        printf("R %d.%d: ", number, part);
+        printf(boltraven_fault_format(part), BOLTRAVEN_PLACE(refusal), BOLTRAVEN_SECOND(refusal));
+        printf("\n");
+    }
+}
+
 int main(void) {
     if (boltraven_version() != BOLTRAVEN_VERSION) {
         fprintf(stderr, "the library is not of this header's version, %s\n", BOLTRAVEN_VERSION_TEXT);
@@ -85,9 +99,9 @@ int main(void) {
     prepare();
     list(play());
     for (size_t slot = 0; slot < slots; slot++) show(1, slot);
-    /* person 1 is not there for slot 0 */
-    const uint8_t refusal =
-        boltraven_assign(PEOPLE, slots, starts, SLOTS, ends, SLOTS, avail, WORDS, owners, SLOTS, sets, WORDS, minutes, PEOPLE, 0, 1);
-    printf("R %d: %s\n", refusal, boltraven_refusal_text(refusal));
+    /* person 1 is not there for slot 0; and then slot 1 is taken out of person 1's set behind the library's back */
+    refuse();
+    sets[BOLTRAVEN_SET_WORDS] &= ~(uint64_t)2;
+    refuse();
     return 0;
 }

@@ -124,7 +124,7 @@ CALL(play) {
 }
 CALL(play_draws) {
     return boltraven_play_draws(PEOPLE, r->slots, r->units, DRAWS, r->starts, SLOTS, r->ends, SLOTS, r->avail, WORDS, r->unit_starts, SLOTS,
-                                r->frozen, SET, r->owners, SLOTS, r->sets, WORDS, r->minutes, PEOPLE, r->structs, DRAWS, r->answers, DRAWS);
+                                r->frozen, SET, r->structs, DRAWS, r->owners, SLOTS, r->sets, WORDS, r->minutes, PEOPLE, r->answers, DRAWS);
 }
 CALL(run_job) { return boltraven_run_job(r->file, r->file_len, r->listing, BOLTRAVEN_LISTING_MOST, &r->first); }
 

@@ -2,13 +2,13 @@
 
     >>> listing = boltraven.run_job(open("paper.job", "rb").read())
 
-A job that isn't taken raises Refusal, with its number and its sentence. The library is for x86-64 Linux; it is the file that the environment
+A job that isn't taken raises Refusal, with its number and its sentence; a failed recount also with its part and its place. The library is for x86-64 Linux; it is the file that the environment
 variable BOLTRAVEN_SO names, or libboltraven_c.so in ../lib beside this file's folder, or in this file's own folder.
 """
 import ctypes
 import os
 
-__all__ = ["Refusal", "SENTENCES", "VERSION", "run_job"]
+__all__ = ["FAULTS", "Refusal", "SENTENCES", "VERSION", "run_job"]
 
 VERSION = "0.3.0"
 
@@ -29,17 +29,29 @@ SENTENCES = {
     13: "The job file breaks its layout or is too long.",
 }
 
+# What a part of the recount, which is refusal 10, says of its place.
+FAULTS = {
+    1: "slot {place}'s owner is unknown",
+    2: "slot {place}'s owner is not available for it",
+    3: "unit {place} has more than one owner",
+    4: "person {place}'s set is wrong at slot {second}",
+    5: "person {place}'s minutes are wrong",
+}
+
 # Room for a listing, in bytes: more than the longest one needs.
 ROOM = 65536
 
 
 class Refusal(Exception):
-    """Why a job was refused: its number, 1 to 13, and its sentence."""
+    """Why a job was refused: its number, 1 to 13, and its sentence. Of 10, part, place and second number say where the recount failed; of the
+    others they are 0."""
 
-    def __init__(self, number):
-        self.number = number
+    def __init__(self, number, part=0, place=0, second=0):
+        self.number, self.part, self.place, self.second = number, part, place, second
         self.sentence = SENTENCES[number]
-        super().__init__("refused by %d: %s" % (number, self.sentence))
+        if part:
+            self.sentence = "The recount fails: %s." % FAULTS[part].format(place=place, second=second)
+        super().__init__("refused by %s: %s" % ("%d.%d" % (number, part) if part else number, self.sentence))
 
 
 def _load():
@@ -60,7 +72,7 @@ def _load():
         ctypes.c_size_t,
         ctypes.POINTER(ctypes.c_uint64),
     ]
-    library.boltraven_run_job.restype = ctypes.c_uint8
+    library.boltraven_run_job.restype = ctypes.c_uint64
     number = library.boltraven_version()
     found = "%d.%d.%d" % (number // 10000, number // 100 % 100, number % 100)
     if found != VERSION:
@@ -76,7 +88,7 @@ def run_job(file):
     file = bytes(file)
     room = ctypes.create_string_buffer(ROOM)
     length = ctypes.c_uint64()
-    number = _library.boltraven_run_job(file, len(file), room, ROOM, ctypes.byref(length))
-    if number:
-        raise Refusal(number)
+    answer = _library.boltraven_run_job(file, len(file), room, ROOM, ctypes.byref(length))
+    if answer:
+        raise Refusal(answer & 255, answer >> 8 & 255, answer >> 16 & 65535, answer >> 32 & 65535)
     return room.raw[: length.value].decode("ascii")

@@ -155,6 +155,31 @@ impl JobCase {
         }
     }
 
+    /// Sixteen slots of an hour locked in pairs: person 0 has all of them but the last, which is nobody's.
+    pub fn uneven_at_the_end() -> Self {
+        let range = |person| Range {
+            person,
+            start: 0,
+            end: 960,
+        };
+        Self {
+            problem: ProblemCase {
+                base: (0..16).map(|slot| (60 * slot, 60 * slot + 60)).collect(),
+                ranges: vec![range(0), range(1)],
+                people: vec![Person::PLAIN; 2],
+                settings: Settings {
+                    fairness: 1,
+                    lock: 1,
+                    value: 2,
+                    ..Settings::PLAIN
+                },
+            },
+            freeze: None,
+            owners: (0..15).map(|slot| (slot, 0)).collect(),
+            draws: vec![],
+        }
+    }
+
     /// The job file.
     pub fn file(&self) -> Vec<u8> {
         file_of(&self.records())

@@ -41,8 +41,9 @@ const fn bytes(name: &'static str, make: fn(&mut Seed, &mut Vec<u8>) -> bool) ->
 }
 
 /// Every fault, in the order in which two of them are made: those of owners on slots that are still sound, the layout last.
-pub const FAULTS: [Fault; 46] = [
-    said(10, "uneven unit", uneven_unit),
+pub const FAULTS: [Fault; 47] = [
+    said(10, "uneven unit", |seed, job| uneven_units(seed, job, 1)),
+    said(10, "uneven units", |seed, job| uneven_units(seed, job, 2)),
     said(11, "slot not below the count", slot_past_the_end),
     said(11, "unknown owner", unknown_owner),
     said(12, "owner not available", unavailable_owner),
@@ -275,8 +276,8 @@ fn give(job: &mut JobCase, slots: std::ops::Range<usize>, owner: u16) {
     job.owners.sort_unstable();
 }
 
-/// A unit whose slots have two owners, of whom one may be nobody, unknown or not available.
-fn uneven_unit(seed: &mut Seed, job: &mut JobCase) -> bool {
+/// Units whose slots have two owners each, of whom one may be nobody, unknown or not available.
+fn uneven_units(seed: &mut Seed, job: &mut JobCase, count: usize) -> bool {
     let settings = &mut job.problem.settings;
     (settings.lock, settings.boundary) = (1, 0);
     settings.value = seed.within(2, 4) as u16;
@@ -285,13 +286,19 @@ fn uneven_unit(seed: &mut Seed, job: &mut JobCase) -> bool {
     };
     let all = owners(seed, &problem);
     job.owners = (0..all.len()).map(|slot| (slot as u16, u16::from(all[slot]))).collect();
-    let wide: Vec<usize> = (0..problem.unit_count()).filter(|&unit| problem.units[unit].len() > 1).collect();
-    if wide.is_empty() {
-        return false;
+    let mut wide: Vec<usize> = (0..problem.unit_count()).filter(|&unit| problem.units[unit].len() > 1).collect();
+    let mut made = wide.len() >= count;
+    for _ in 0..count.min(wide.len()) {
+        let unit = wide.remove(seed.below(wide.len() as u64) as usize);
+        made &= give_a_slot(seed, job, problem.units[unit].clone(), problem.human_count());
     }
-    let unit = problem.units[seed.pick(&wide)].clone();
+    made
+}
+
+/// One slot of a unit to another owner.
+fn give_a_slot(seed: &mut Seed, job: &mut JobCase, unit: std::ops::Range<usize>, people: usize) -> bool {
     let slot = seed.within(unit.start as u64, unit.end as u64 - 1) as usize;
-    let people = problem.human_count() as u64;
+    let people = people as u64;
     let other = seed.pick(&[0, people - 1, people, u64::from(NOBODY), 256, 511]) as u16;
     if other == owner_of(job, slot) {
         return false;

@@ -5,7 +5,7 @@ use crate::job_cases::JobCase;
 use crate::job_records::{Record, BASE, DRAW, FREEZE, OWNER, PERSON, RANGE, SETTINGS};
 use crate::limits::{DRAWS_MOST, FILE_MOST, NOBODY, RANGES_MOST, SLOTS_MOST};
 use crate::problems::{Person, ProblemCase, Range, Settings};
-use crate::table::{figures_ok, people_ok, range_ok, settings_ok, slots_ok};
+use crate::table::{failed, figures_ok, people_ok, range_ok, settings_ok, slots_ok};
 use on_call::model::problem::Problem;
 
 /// The size of a body of a kind.
@@ -22,16 +22,47 @@ fn body_size(kind: u16) -> Option<usize> {
 
 /// The listing of a job file, or the number of its refusal.
 pub fn listing_of(file: &[u8]) -> Result<String, u8> {
-    let job = read(file).ok_or(13)?;
+    due_of(file).map_err(|refused| refused.number)
+}
+
+/// A refusal of a job: its number, and of 10 the lowest uneven unit.
+#[derive(Debug, Clone, Copy, PartialEq, Eq)]
+pub struct Refused {
+    pub number: u8,
+    pub unit: Option<usize>,
+}
+
+impl Refused {
+    /// As the library answers it.
+    pub fn answer(self) -> u64 {
+        self.unit.map_or(u64::from(self.number), |unit| failed(3, unit, 0))
+    }
+
+    /// As the program writes it.
+    fn line(self) -> String {
+        match self.unit {
+            Some(unit) => format!("R 10.3 {unit}\n"),
+            None => format!("R {}\n", self.number),
+        }
+    }
+}
+
+/// The listing of a job file, or its refusal.
+pub fn due_of(file: &[u8]) -> Result<String, Refused> {
+    let job = read(file).ok_or(Refused { number: 13, unit: None })?;
     match numbers(&job).first() {
-        Some(&number) => Err(number),
+        Some(10) => Err(Refused {
+            number: 10,
+            unit: uneven_unit(&job),
+        }),
+        Some(&number) => Err(Refused { number, unit: None }),
         None => Ok(job.listing()),
     }
 }
 
 /// What the program writes for a job file: the listing, or the line of the refusal.
 pub fn text_of(file: &[u8]) -> String {
-    listing_of(file).unwrap_or_else(|number| format!("R {number}\n"))
+    due_of(file).unwrap_or_else(Refused::line)
 }
 
 /// A file's records, where they are whole and nothing is left over.
@@ -133,8 +164,7 @@ pub fn numbers(job: &JobCase) -> Vec<u8> {
     numbers.extend((!case.people.iter().all(|person| figures_ok(*person))).then_some(6));
     numbers.extend((!settings_ok(case.settings)).then_some(7));
     if numbers.iter().all(|&number| number == 6) {
-        let settings = case.settings;
-        numbers.extend(owners_numbers(job, &ProblemCase { settings, ..plain(case) }.rust()));
+        numbers.extend(owners_numbers(job, &sound(case)));
     }
     numbers
 }
@@ -146,6 +176,12 @@ fn plain(case: &ProblemCase) -> ProblemCase {
         settings: Settings::PLAIN,
         ..case.clone()
     }
+}
+
+/// The slots and units that the Rust makes, of a case that is sound but for its figures.
+fn sound(case: &ProblemCase) -> Problem {
+    let settings = case.settings;
+    ProblemCase { settings, ..plain(case) }.rust()
 }
 
 fn counts_ok(job: &JobCase) -> bool {
@@ -160,20 +196,11 @@ fn counts_ok(job: &JobCase) -> bool {
 fn owners_numbers(job: &JobCase, problem: &Problem) -> Vec<u8> {
     let nobody = u16::from(NOBODY);
     let (slots, people) = (problem.slot_count(), problem.human_count());
-    let mut written = vec![nobody; slots];
-    for &(slot, owner) in &job.owners {
-        if usize::from(slot) < slots {
-            written[usize::from(slot)] = owner;
-        }
-    }
+    let written = written(job, slots);
     let known = |owner: u16| owner == nobody || usize::from(owner) < people;
     let able = |slot: usize, owner: u16| owner == nobody || !known(owner) || problem.is_available(usize::from(owner), slot);
-    let mut units = problem.units.iter();
     let judged = [
-        (
-            10,
-            units.any(|unit| written[unit.clone()].windows(2).any(|pair| pair[0] != pair[1])),
-        ),
+        (10, uneven_units(problem, &written).next().is_some()),
         (
             11,
             job.owners.iter().any(|&(slot, owner)| usize::from(slot) >= slots || !known(owner)),
@@ -183,11 +210,46 @@ fn owners_numbers(job: &JobCase, problem: &Problem) -> Vec<u8> {
     judged.iter().filter(|(_, earned)| *earned).map(|(number, _)| *number).collect()
 }
 
+/// The owner of each slot as the file has it, 255 where it has none.
+fn written(job: &JobCase, slots: usize) -> Vec<u16> {
+    let mut written = vec![u16::from(NOBODY); slots];
+    for &(slot, owner) in &job.owners {
+        if usize::from(slot) < slots {
+            written[usize::from(slot)] = owner;
+        }
+    }
+    written
+}
+
+/// The units whose slots have more than one owner, ascending.
+fn uneven_units<'a>(problem: &'a Problem, written: &'a [u16]) -> impl Iterator<Item = usize> + 'a {
+    let uneven = |unit: &usize| written[problem.units[*unit].clone()].windows(2).any(|pair| pair[0] != pair[1]);
+    (0..problem.unit_count()).filter(uneven)
+}
+
+/// The lowest of them, of a job whose slots and units are sound.
+fn uneven_unit(job: &JobCase) -> Option<usize> {
+    let problem = sound(&job.problem);
+    let lowest = uneven_units(&problem, &written(job, problem.slot_count())).next();
+    lowest
+}
+
 #[cfg(test)]
 mod tests {
-    use super::{listing_of, read};
+    use super::{listing_of, read, text_of};
     use crate::job_cases::JobCase;
     use crate::seed::Seed;
+
+    /// Sixteen slots in pairs, all of person 0 but the last, which is nobody's; and the same with pair 3 uneven too.
+    #[test]
+    fn the_lowest_uneven_unit_is_named() {
+        let mut job = JobCase::uneven_at_the_end();
+        assert_eq!(text_of(&job.file()), "R 10.3 7\n");
+        job.owners.remove(6);
+        assert_eq!(text_of(&job.file()), "R 10.3 3\n");
+        job.owners = (0..16).map(|slot| (slot, 0)).collect();
+        assert_eq!(listing_of(&job.file()).map(|text| text.lines().count()), Ok(16 + 2 + 1));
+    }
 
     /// What a job's file says is the job again, and its listing is the job's.
     #[test]

@@ -3,7 +3,7 @@
 use crate::call::{bytes64, Arg, Outcome, Question};
 use crate::job_cases::JobCase;
 use crate::job_faults::{at_the_limit, some_faults, with_faults};
-use crate::job_files::listing_of;
+use crate::job_files::{due_of, listing_of};
 use crate::library;
 use crate::seed::Seed;
 use std::{fs, io};
@@ -93,17 +93,17 @@ fn question(seed: &mut Seed, file: Vec<u8>, room: usize) -> Question {
     let (mut after, was) = (before.clone(), seed.word());
     let (mut number, mut length) = (0, was);
     // short of room is 2: after 13 and 1, before the rest
-    let listed = match listing_of(&file) {
-        Err(number) if number == 13 || number == 1 => Err(number),
+    let listed = match due_of(&file) {
+        Err(refused) if refused.number == 13 || refused.number == 1 => Err(refused.answer()),
         _ if room < LISTING_MOST => Err(2),
-        listed => listed,
+        listed => listed.map_err(|refused| refused.answer()),
     };
     match listed {
         Ok(text) => {
             after[..text.len()].copy_from_slice(text.as_bytes());
             length = text.len() as u64;
         }
-        Err(refused) => number = u64::from(refused),
+        Err(refused) => number = refused,
     }
     Question {
         function: "boltraven_run_job",

@@ -107,7 +107,7 @@ exports! {
 // ---- answers as numbers
 
 fn number_of(refusal: Refusal) -> u64 {
-    u64::from(refusal.number())
+    u64::from(refusal)
 }
 
 fn done(answer: Result<(), Refusal>) -> u64 {

@@ -15,6 +15,7 @@ mod lent_units;
 mod library;
 mod limits;
 mod orders;
+mod planted;
 mod problems;
 mod program;
 mod readers;
@@ -55,7 +56,7 @@ const fn kind(name: &'static str, questions: fn(u64) -> Vec<Question>) -> Kind {
 }
 
 /// Every kind.
-const KINDS: [Kind; 17] = [
+const KINDS: [Kind; 18] = [
     kind("slot-sets", sets::questions),
     kind("slot-sets-damaged", sets::damaged),
     kind("slots", splitting::questions),
@@ -71,6 +72,7 @@ const KINDS: [Kind; 17] = [
     kind("targets-damaged", targets::damaged),
     kind("rotas", rota_questions::questions),
     kind("rotas-damaged", rota_questions::damaged),
+    kind("recounts", planted::questions),
     kind("jobs", jobs::questions),
     kind("jobs-damaged", jobs::damaged),
 ];

@@ -1,6 +1,6 @@
-//! The recount, by the paper's five scans over what the Rust rebuilds from the owners; and an empty rota.
+//! The recount, by the paper's five parts, each walked over the whole rota against what the Rust rebuilds from the owners: every place at
+//! fault, of which the lowest of the first part that has one is due. And an empty rota.
 
-use on_call::model::problem::Problem;
 use on_call::model::Assignment;
 
 use crate::bits::{has_bit, put_bit};
@@ -8,51 +8,74 @@ use crate::call::{bytes16, bytes32, bytes64, Arg, Outcome, Question};
 use crate::limits::{NOBODY, SET_WORDS};
 use crate::rotas::{played, LentRota, RotaCase};
 use crate::seed::Seed;
+use crate::table::failed;
 
 /// Recounts of some rotas that are changed in one place, where it may matter or not; and an empty rota.
 pub fn questions(seed: &mut Seed, case: &RotaCase, lent: &LentRota) -> Vec<Question> {
     let mut asked = Vec::new();
     for _ in 0..4 {
         let rota = changed(seed, case, lent);
-        asked.push(with_units(&rota, number(passes(case, &rota, true))));
-        asked.push(without_units(&rota, number(passes(case, &rota, false))));
+        let faults = faults(case, &rota);
+        asked.push(with_units(&rota, of_units(&faults)));
+        asked.push(without_units(&rota, of_slots(&faults)));
     }
     asked.push(empty(case, lent, 0));
     asked
 }
 
-/// What is answered of a recount.
-fn number(passes: bool) -> u64 {
-    if passes {
-        0
-    } else {
-        10
-    }
+/// The parts of the recount.
+pub const PARTS: usize = 5;
+
+/// The places at fault of each part, ascending: a slot, a slot, a unit, a person with a slot, a person.
+pub type Faults = [Vec<(usize, usize)>; PARTS];
+
+/// What is due of a recount with units: 0, or the lowest place of the first part that has one.
+pub fn of_units(faults: &Faults) -> u64 {
+    first_of(faults, &[1, 2, 3, 4, 5])
 }
 
-/// The five scans: owners known, owners available, units uniform, sets and minutes equal to those rebuilt from the owners.
-fn passes(case: &RotaCase, lent: &LentRota, units: bool) -> bool {
+/// The same without units: part 3 is never asked.
+pub fn of_slots(faults: &Faults) -> u64 {
+    first_of(faults, &[1, 2, 4, 5])
+}
+
+fn first_of(faults: &Faults, parts: &[usize]) -> u64 {
+    let mut places = parts.iter().filter_map(|&part| Some((part, faults[part - 1].first()?)));
+    places.next().map_or(0, |(part, &(place, second))| failed(part, place, second))
+}
+
+/// Every place at fault: owners known, owners available, units uniform, sets and minutes equal to those that the Rust rebuilds from the
+/// owners, an unknown one holding nothing. Bits past the last slot don't count.
+pub fn faults(case: &RotaCase, lent: &LentRota) -> Faults {
     let problem = &case.problem;
-    let owners = &lent.owners[..problem.slot_count()];
-    let held = || owners.iter().enumerate().filter(|(_, &owner)| owner != NOBODY);
-    let known = || held().all(|(_, &owner)| usize::from(owner) < lent.people);
-    let available = || held().all(|(slot, &owner)| problem.is_available(usize::from(owner), slot));
-    let uniform = || {
-        problem
-            .units
-            .iter()
-            .all(|unit| owners[unit.clone()].iter().all(|owner| *owner == owners[unit.start]))
+    let slots = problem.slot_count();
+    let owners = &lent.owners[..slots];
+    let is_known = |owner: u8| usize::from(owner) < lent.people;
+    let is_unknown = |slot: &usize| owners[*slot] != NOBODY && !is_known(owners[*slot]);
+    let is_away = |slot: &usize| is_known(owners[*slot]) && !problem.is_available(usize::from(owners[*slot]), *slot);
+    let is_uneven = |unit: &usize| {
+        let unit = problem.units[*unit].clone();
+        owners[unit.clone()].iter().any(|owner| *owner != owners[unit.start])
     };
-    known() && available() && (!units || uniform()) && as_rebuilt(problem, &case.assignment(owners), lent)
-}
-
-/// Whether sets and minutes are those of an assignment. Bits past the last slot don't count.
-fn as_rebuilt(problem: &Problem, rebuilt: &Assignment, lent: &LentRota) -> bool {
-    (0..lent.people).all(|person| {
-        let set = rebuilt.slots_of(person);
-        let same_set = (0..problem.slot_count()).all(|slot| has_bit(&lent.sets, person, slot) == set.contains(slot));
-        same_set && lent.minutes[person] == rebuilt.assigned_minutes(person) as u64
-    })
+    let held: Vec<u8> = owners.iter().map(|&owner| if is_known(owner) { owner } else { NOBODY }).collect();
+    let rebuilt = case.assignment(&held);
+    let is_wrong = |person: usize, slot: usize| has_bit(&lent.sets, person, slot) != rebuilt.slots_of(person).contains(slot);
+    let wrong_slots = |person: usize| {
+        let wrong = (0..slots).filter(move |&slot| is_wrong(person, slot));
+        wrong.map(move |slot| (person, slot))
+    };
+    let alone = |place: usize| (place, 0);
+    let people = 0..lent.people;
+    [
+        (0..slots).filter(is_unknown).map(alone).collect(),
+        (0..slots).filter(is_away).map(alone).collect(),
+        (0..problem.unit_count()).filter(is_uneven).map(alone).collect(),
+        people.clone().flat_map(wrong_slots).collect(),
+        people
+            .filter(|&person| lent.minutes[person] != rebuilt.assigned_minutes(person) as u64)
+            .map(alone)
+            .collect(),
+    ]
 }
 
 /// A rota that is changed in one place.
@@ -128,7 +151,7 @@ pub fn empty(case: &RotaCase, lent: &LentRota, number: u64) -> Question {
 
 #[cfg(test)]
 mod tests {
-    use super::{changed, passes};
+    use super::{changed, faults, of_slots, of_units};
     use crate::rotas::{LentRota, RotaCase};
     use crate::seed::Seed;
 
@@ -140,8 +163,8 @@ mod tests {
             let mut seed = Seed::new(k);
             let case = RotaCase::new(&mut seed);
             let lent = LentRota::new(&mut seed, &case);
-            let rota = changed(&mut seed, &case, &lent);
-            let verdict = usize::from(passes(&case, &rota, true)) + usize::from(passes(&case, &rota, false));
+            let faults = faults(&case, &changed(&mut seed, &case, &lent));
+            let verdict = usize::from(of_units(&faults) == 0) + usize::from(of_slots(&faults) == 0);
             seen[verdict] += 1;
         }
         assert!(seen.iter().all(|&times| times > 20), "{seen:?}");

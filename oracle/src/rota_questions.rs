@@ -6,6 +6,7 @@ use crate::readers;
 use crate::recounts;
 use crate::rotas::{LentRota, RotaCase};
 use crate::seed::Seed;
+use crate::table::failed;
 
 /// A play of all draws of a rota; sets and minutes made from its owners; one slot assigned; recounts; single questions.
 pub fn questions(case_seed: u64) -> Vec<Question> {
@@ -15,7 +16,7 @@ pub fn questions(case_seed: u64) -> Vec<Question> {
     let mut asked = lent.plays(Ok(&case.play()));
     asked.push(lent.made_from_slots(&mut seed, &case));
     for _ in 0..3 {
-        asked.push(lent.assign(&mut seed, &case));
+        asked.push(lent.assign(&mut seed, &case, 0));
     }
     asked.extend(recounts::questions(&mut seed, &case, &lent));
     asked.extend(readers::questions(&mut seed, &case, &lent));
@@ -31,6 +32,7 @@ pub fn damaged(case_seed: u64) -> Vec<Question> {
     let slots = case.problem.slot_count();
     let slot = seed.below(slots as u64) as usize;
     let person = seed.below(lent.people as u64) as usize;
+    let recounted = |number: u64| [number, number, number, 0];
     let [play, recount, recount_slots, empty] = match seed.below(13) {
         0 => {
             lent.people = seed.pick(&[0, 33, usize::MAX]);
@@ -58,16 +60,16 @@ pub fn damaged(case_seed: u64) -> Vec<Question> {
         }
         6 => {
             lent.owners[slot] = lent.people as u8 + seed.below(254 - lent.people as u64) as u8;
-            [10, 10, 10, 0]
+            recounted(failed(1, slot, 0))
         }
         7 => {
             let word = &mut lent.sets[SET_WORDS * person + slot / 64];
             *word ^= 1 << (slot % 64);
-            [10, 10, 10, 0]
+            recounted(failed(4, person, slot))
         }
         8 => {
             lent.minutes[person] ^= 1 << seed.below(64);
-            [10, 10, 10, 0]
+            recounted(failed(5, person, 0))
         }
         9 => {
             lent.count = seed.pick(&[DRAWS_MOST + 1, usize::MAX]);

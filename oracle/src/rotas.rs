@@ -318,14 +318,11 @@ impl LentRota {
         let numbers: Vec<u16> = self.draws.iter().flat_map(|draw| [draw.0, draw.1, draw.2]).collect();
         let structs = vec![Arg::Lent(6, bytes16(&numbers))];
         let rota = self.rota_args(Arg::LentMut).to_vec();
-        let ways = [
-            ("boltraven_play", [columns, rota.clone()]),
-            ("boltraven_play_draws", [rota, structs]),
-        ];
+        let ways = [("boltraven_play", columns), ("boltraven_play_draws", structs)];
         ways.into_iter()
-            .map(|(function, [first, second])| Question {
+            .map(|(function, draws)| Question {
                 function,
-                args: [self.board(), first, second, vec![Arg::LentMut(1, self.answers.clone())]].concat(),
+                args: [self.board(), draws, rota.clone(), vec![Arg::LentMut(1, self.answers.clone())]].concat(),
                 due: due.clone(),
             })
             .collect()
@@ -411,8 +408,9 @@ impl LentRota {
         }
     }
 
-    /// A slot assigned to somebody or cleared. The Rust has no answer for one who is not available, or an unknown one or slot: 12, 11.
-    pub fn assign(&self, seed: &mut Seed, case: &RotaCase) -> Question {
+    /// A slot assigned to somebody or cleared, on a rota of which the recount without units gives this number. The Rust has no answer for
+    /// one who is not available, or an unknown one or slot: 12, 11.
+    pub fn assign(&self, seed: &mut Seed, case: &RotaCase, recount: u64) -> Question {
         let slots = self.starts.len();
         let slot = if seed.one_in(12) {
             slots + seed.below(3) as usize
@@ -425,7 +423,9 @@ impl LentRota {
             _ => seed.below(self.people as u64) as u8,
         };
         let person = usize::from(owner);
-        let number = if slot >= slots || (owner != NOBODY && person >= self.people) {
+        let number = if recount > 0 {
+            recount
+        } else if slot >= slots || (owner != NOBODY && person >= self.people) {
             11
         } else if owner != NOBODY && !case.problem.is_available(person, slot) {
             12
@@ -438,7 +438,7 @@ impl LentRota {
         args.extend([Arg::Number(slot as u64), Arg::Number(u64::from(owner))]);
         let mut after = self.clone();
         if number == 0 {
-            let mut assignment = case.assignment(&case.owners);
+            let mut assignment = case.assignment(&self.owners[..slots]);
             assignment.assign(&case.problem, slot, (owner != NOBODY).then_some(person));
             after.hold(&played(&case.problem, &assignment, vec![]));
         }

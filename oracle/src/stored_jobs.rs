@@ -33,7 +33,7 @@ struct Jobs {
     seen: BTreeMap<String, u64>,
 }
 
-/// Records of jobs: the largest remainder of edition 2; at most n that are played, then one of each fault, then one of every two numbers. A record is two u16, low byte first,
+/// Records of jobs: the largest remainder of edition 2; an uneven unit that is the last; at most n that are played, then one of each fault, then one of every two numbers. A record is two u16, low byte first,
 /// the length of the file and that of the text that is due; then the file; then the text. What is not covered is an error.
 pub fn jobs(n: u64, run: u64) -> Result<Stored, String> {
     let mut jobs = Jobs {
@@ -42,6 +42,7 @@ pub fn jobs(n: u64, run: u64) -> Result<Stored, String> {
         seen: wanted().into_iter().map(|thing| (thing, 0)).collect(),
     };
     jobs.add(&JobCase::of_idle_people().file(), &[]);
+    jobs.add(&JobCase::uneven_at_the_end().file(), &[]);
     jobs.add_played(n, run);
     jobs.add_faults(run);
     jobs.add_pairs(run);

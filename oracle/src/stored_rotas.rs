@@ -1,11 +1,14 @@
-//! Records of rotas, in sections: plays, four facts that are easy to get wrong, single assigns, and damaged plays.
+//! Records of rotas, in sections: plays, four facts that are easy to get wrong, single assigns, damaged plays, and failed recounts.
 
+use crate::bits::has_bit;
 use crate::limits::{DRAWS_MOST, NOBODY, SET_WORDS};
+use crate::planted::{some_parts, table, with_faults};
 use crate::problems::{unit_starts_of, Person, ProblemCase, Range, Settings};
+use crate::recounts::{faults, of_slots, of_units};
 use crate::rotas::{played, Draw, Played, RotaCase};
 use crate::seed::Seed;
 use crate::stored::{filled16, filled32, half, records, Stored};
-use crate::table::{lowest, people_ok, words_ok, Slots, Units};
+use crate::table::{failed, lowest, people_ok, words_ok, Slots, Units};
 
 /// People, slots and draws of a record, at most.
 const PEOPLE: usize = 4;
@@ -13,7 +16,7 @@ const SLOTS: usize = 16;
 const DRAWS: usize = 8;
 
 /// Of each section: its records (the first has as many as are asked for), the answers of one record, and what its line says they are of.
-const SECTIONS: [(u64, u64, &str); 7] = [
+const SECTIONS: [(u64, u64, &str); 8] = [
     (0, 4, ""),
     (12, 7, " of unfrozen twins"),
     (12, 6, " of rotas made uneven"),
@@ -21,18 +24,21 @@ const SECTIONS: [(u64, u64, &str); 7] = [
     (12, 5, " of reassigns"),
     (20, 4, " of single assigns"),
     (32, 5, " of damaged rotas"),
+    (24, 3, " of failed recounts"),
 ];
 
 /// Sections, each with its number of records as u16 before them: plays; twins, which act with no slot frozen and are stopped by one unit;
-/// rotas that one assign makes uneven; swaps of units of unequal lengths; reassigns that act; single assigns; damaged plays.
+/// rotas that one assign makes uneven; swaps of units of unequal lengths; reassigns that act; single assigns; damaged plays; failed
+/// recounts.
 ///
 /// A record is, low byte first: people, slots, units and draws as u16; sixteen starts and sixteen ends as u32; sixteen u16 of the slots at
 /// which units begin; four u16 of slots that a person can cover; a u16 of frozen slots; sixteen owners; the three columns of eight u16 of
 /// draws; then what the Rust makes of it: eight answers, sixteen owners, four u16 of the slots that a person holds, four u32 of minutes;
-/// then the slot and the owner of an assign and the number that is due as u16; what is held and worked before it, as u16 and u32 of four
-/// people; and u16 of how many owners, words of sets and unit starts are lent.
+/// then as u16 the slot and the owner of an assign; the number that is due, of 10 with its part, place and second number, and the same of
+/// the recount without units; what is held and worked before it, as u16 and u32 of four people; and u16 of how many owners, words of sets
+/// and unit starts are lent.
 pub fn rotas(n: u64, run: u64) -> Stored {
-    let kinds: [fn(&mut Seed, u64) -> Option<Record>; 7] = [plain, twin, uneven, unequal_swap, reassign, assign, damaged];
+    let kinds: [fn(&mut Seed, u64) -> Option<Record>; 8] = [plain, twin, uneven, unequal_swap, reassign, assign, damaged, failing];
     let mut bytes = Vec::new();
     let mut lines = Vec::new();
     for (kind, (count, answers, label)) in kinds.iter().zip(SECTIONS) {
@@ -62,7 +68,9 @@ struct Record {
     minutes: Vec<u64>,
     slot: usize,
     owner: u8,
+    /// The number that is due, with part and places; and of the recount without units.
     number: u64,
+    of_slots: u64,
     owners_lent: usize,
     words_lent: usize,
 }
@@ -94,6 +102,7 @@ impl Record {
             slot: 0,
             owner: NOBODY,
             number: 0,
+            of_slots: 0,
             owners_lent: SLOTS,
             words_lent: SET_WORDS * PEOPLE,
             case,
@@ -124,8 +133,13 @@ impl Record {
         fill(bytes, SLOTS, &self.due.owners);
         filled16(bytes, PEOPLE, &held(problem.human_count(), &self.due.owners), 0);
         worked(bytes, &self.due.minutes);
-        for n in [self.slot, usize::from(self.owner), self.number as usize] {
-            half(bytes, n);
+        half(bytes, self.slot);
+        half(bytes, usize::from(self.owner));
+        for answer in [self.number, self.of_slots] {
+            // number, part, place, second number
+            for n in [answer & 255, answer >> 8 & 255, answer >> 16 & 65_535, answer >> 32] {
+                half(bytes, n as usize);
+            }
         }
         filled16(bytes, PEOPLE, &self.sets, 0);
         worked(bytes, &self.minutes);
@@ -238,7 +252,8 @@ fn one_of(seed: &mut Seed, units: usize) -> u16 {
     seed.below(units as u64) as u16
 }
 
-/// A unit of several slots, of which an assign gives one to another person or to nobody: what is due is the rota after the assign.
+/// A unit of several slots, of which an assign gives one to another person or to nobody: what is due is the rota after the assign, and of the
+/// next play 10.3 with the unit.
 fn uneven(seed: &mut Seed, _: u64) -> Option<Record> {
     let case = small(seed)?;
     let long = case.problem.units.iter().find(|unit| unit.len() > 1)?;
@@ -246,7 +261,11 @@ fn uneven(seed: &mut Seed, _: u64) -> Option<Record> {
     let others = case.problem.domains[slot].iter().map(|&person| person as u8).chain([NOBODY]);
     let others: Vec<u8> = others.filter(|&owner| owner != case.owners[slot]).collect();
     let owner = *others.first()?;
-    Some(assigned(case, slot, owner))
+    let unit = case.problem.units.iter().position(|unit| unit.contains(&slot))?;
+    let mut record = assigned(case, slot, owner);
+    // the assign is accepted, and the next play is not
+    record.number = failed(3, unit, 0);
+    Some(record)
 }
 
 /// One slot assigned: an unknown slot or owner is 11, one who is not available 12.
@@ -313,7 +332,7 @@ fn damaged(seed: &mut Seed, _: u64) -> Option<Record> {
     let slots = case.problem.slot_count();
     let stays = played(&case.problem, &case.assignment(&case.owners), vec![]);
     let mut record = Record::new(case, stays);
-    let mut recounts = true;
+    let mut recount = Vec::new();
     let people = record.people;
     let first = seed.below(RULES);
     // a second fault is of another rule, so that it can't undo the first
@@ -321,16 +340,49 @@ fn damaged(seed: &mut Seed, _: u64) -> Option<Record> {
     for rule in [first, second].into_iter().take(if first == second { 1 } else { 2 }) {
         let (slot, person) = (seed.below(slots as u64) as usize, seed.below(people as u64) as usize);
         record.damage(seed, rule, slot, person);
-        recounts &= !(4..=6).contains(&rule);
+        recount.extend(match rule {
+            4 => Some((1, slot, 0)),
+            5 => Some((4, person, slot)),
+            6 => Some((5, person, 0)),
+            _ => None,
+        });
     }
     let room = record.slots.count <= record.owners_lent && words_ok(record.people, record.words_lent);
     record.number = lowest(&[
         (1, people_ok(record.people) && record.slots.count_ok() && record.draws <= DRAWS_MOST),
         (2, room),
         (9, record.slots.ok() && record.units.ok(record.slots.count)),
-        (10, recounts),
+        (10, recount.is_empty()),
     ]);
+    if let (10, Some(&(part, place, second))) = (record.number, recount.iter().min()) {
+        record.number = failed(part, place, second);
+    }
     (record.number > 0).then_some(record)
+}
+
+/// A rota that fails the recount: those of the table first, then faults of one part, two and three, in one place or two each.
+fn failing(seed: &mut Seed, made: u64) -> Option<Record> {
+    let (case, rota) = match table().into_iter().nth(made as usize) {
+        Some(row) => row,
+        None => {
+            let case = small(seed)?;
+            let parts = some_parts(seed);
+            let rota = with_faults(seed, &case, &parts)?;
+            (case, rota)
+        }
+    };
+    let faults = faults(&case, &rota);
+    let (people, slots) = (rota.people, case.problem.slot_count());
+    let stays = played(&case.problem, &case.assignment(&case.owners), vec![]);
+    let mut record = Record::new(case, stays);
+    record.owners = rota.owners[..slots].to_vec();
+    let set = |person: usize| (0..slots).map(|slot| u16::from(has_bit(&rota.sets, person, slot)) << slot).sum();
+    record.sets = (0..people).map(set).collect();
+    record.minutes = rota.minutes[..people].to_vec();
+    (record.number, record.of_slots) = (of_units(&faults), of_slots(&faults));
+    // minutes are stored as u32
+    let fits = record.minutes.iter().all(|&minutes| u32::try_from(minutes).is_ok());
+    fits.then_some(record)
 }
 
 impl Record {
@@ -354,6 +406,6 @@ impl Record {
 mod tests {
     #[test]
     fn records_have_one_size() {
-        assert_eq!(super::rotas(7, 1).bytes.len(), 7 * 2 + (7 + 4 * 12 + 20 + 32) * 326);
+        assert_eq!(super::rotas(7, 1).bytes.len(), 8 * 2 + (7 + 4 * 12 + 20 + 32 + 24) * 340);
     }
 }

@@ -13,6 +13,11 @@ pub fn lowest(rules: &[(u64, bool)]) -> u64 {
     broken.map(|rule| rule.0).min().unwrap_or(0)
 }
 
+/// 10 as one number: the part of the recount that failed, its place, and the slot of a wrong set, which is 0 elsewhere.
+pub fn failed(part: usize, place: usize, second: usize) -> u64 {
+    10 + 256 * part as u64 + 65_536 * place as u64 + 4_294_967_296 * second as u64
+}
+
 /// 1: a count of people.
 pub fn people_ok(people: usize) -> bool {
     (1..=PEOPLE_MOST).contains(&people)

@@ -3,7 +3,7 @@ import csv
 import io
 import json
 
-from jobtool import refusals, times
+from jobtool import times
 
 
 def as_lines(lines, listing, job, wants):
@@ -43,7 +43,10 @@ def slot_rows(listing, job, wants):
 
 def as_json(lines, listing, job, wants):
     if listing.refusal is not None:
-        whole = {"refused": listing.refusal, "sentence": refusals.sentence_of(listing.refusal)}
+        refusal = listing.refusal
+        whole = {"refused": refusal.number, "sentence": refusal.sentence}
+        if refusal.part:
+            whole.update(part=refusal.part, place=refusal.place, second=refusal.second)
         return json.dumps(whole, indent=1) + "\n"
     parts = {
         "slots": list(slot_rows(listing, job, wants)),
@@ -56,7 +59,8 @@ def as_json(lines, listing, job, wants):
 
 
 def as_csv(lines, listing, job, wants):
-    """One table of all lines: `line` says which, `number` is the slot's, the person's, the draw's or the refusal's."""
+    """One table of all lines: `line` says which, `number` is the slot's, the person's, the draw's or the refusal's. A refusal's
+    sentence, with its place where it has one, stands for an answer."""
     days = ["start_day", "end_day"] if wants.dates else []
     extra = [name for name in ("unit", "frozen") if getattr(wants, "units" if name == "unit" else name)]
     names = ["line", "number", "start", "end"] + days + ["owner", "minutes"] + extra + ["target", "answer"]
@@ -64,7 +68,7 @@ def as_csv(lines, listing, job, wants):
     table = csv.DictWriter(out, names, lineterminator="\n")
     table.writeheader()
     if listing.refusal is not None:
-        table.writerow({"line": "refused", "number": listing.refusal})
+        table.writerow({"line": "refused", "number": listing.refusal.name, "answer": listing.refusal.sentence})
         return out.getvalue()
     for row in slot_rows(listing, job, wants):
         if wants.frozen:

@@ -2,6 +2,7 @@
 from dataclasses import dataclass, field
 from typing import List, Optional
 
+from jobtool import refusals
 from jobtool.wrong import Wrong
 
 ANSWERS = {"A": "acted", "N": "no move", "C": "choice outside"}
@@ -32,7 +33,7 @@ class Listing:
     people: List[Person] = field(default_factory=list)
     answers: List[str] = field(default_factory=list)  # of the draws, as words
     uncovered: int = 0
-    refusal: Optional[int] = None  # a refusal's number, and then nothing else
+    refusal: Optional[refusals.Refusal] = None  # and then nothing else
 
 
 def read(text):
@@ -49,7 +50,7 @@ def read(text):
         elif kind == "U":
             listing.uncovered = int(words[0])
         elif kind == "R":
-            listing.refusal = int(words[0])
+            listing.refusal = refusals.read(words)
         else:
             raise Wrong("the program wrote a line that no listing has: '%.40s'" % line)
     return listing

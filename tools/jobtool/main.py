@@ -3,7 +3,7 @@ import argparse
 import os
 import sys
 
-from jobtool import VERSION, forms, layout, listing, picture, program, refusals, rota, text, times
+from jobtool import VERSION, forms, layout, listing, picture, program, rota, text, times
 from jobtool.wrong import Wrong
 
 # A job file has at most 6,144 records, of 8 bytes at least: their text is far shorter than this.
@@ -88,8 +88,8 @@ def ran(name):
     return lines, read, rota.Job(records) if read.refusal is None else None
 
 
-def refused(number):
-    print("refused by %d: %s" % (number, refusals.sentence_of(number)), file=sys.stderr)
+def refused(refusal):
+    print("refused by %s: %s" % (refusal.name, refusal.sentence), file=sys.stderr)
     return 1
 
 

@@ -165,17 +165,17 @@ impl Assignment {
             problem.availability().words(),
             problem.units().unit_starts(),
             problem.frozen().words(),
+            draws,
             &mut self.owners,
             &mut self.sets,
             &mut self.minutes,
-            draws,
             &mut answers,
         )?;
         Ok(answers.into_iter().map(Answer::of).collect())
     }
 
     /// Whether owners, units, sets and minutes fit together, as a play asks it first. Refusal 10: a unit has two owners, which `assign` can
-    /// bring about.
+    /// bring about; the lowest such unit is named.
     pub fn recount(&self, problem: &Problem) -> Result<(), Refusal> {
         lent::recount(
             problem.human_count(),

@@ -103,7 +103,7 @@
 //! A rota: its owners, sets and minutes; and a whole job.
 //!
 //! ```
-//! use boltraven::{lent, Draw, Refusal, LISTING_MOST};
+//! use boltraven::{lent, Draw, Fault, Refusal, LISTING_MOST};
 //!
 //! let (starts, ends, unit_starts, frozen) = ([0, 60], [60, 120], [0, 1], [0; 16]);
 //! let (mut avail, mut owners, mut sets, mut minutes) = ([0; 32], [0; 2], [0; 32], [0; 2]);
@@ -124,7 +124,7 @@
 //! assert_eq!((answers, owners, lent::owner_of_slot(2, 2, &owners, 1)?), ([0], [0, 1], 1));
 //! let draws = [Draw { draw: 0, first: 1, second: 0 }];
 //! lent::play_draws(
-//!     2, 2, 2, 1, &starts, &ends, &avail, &unit_starts, &frozen, &mut owners, &mut sets, &mut minutes, &draws, &mut answers
+//!     2, 2, 2, 1, &starts, &ends, &avail, &unit_starts, &frozen, &draws, &mut owners, &mut sets, &mut minutes, &mut answers
 //! )?;
 //! assert_eq!((answers, owners), ([0], [0, 0]));
 //! lent::minutes_of(2, &minutes, 0, &mut out)?;
@@ -133,7 +133,8 @@
 //! minutes[0] = 7;
 //! let units = lent::recount(2, 2, 2, &starts, &ends, &avail, &unit_starts, &owners, &sets, &minutes);
 //! let slots = lent::recount_slots(2, 2, &starts, &ends, &avail, &owners, &sets, &minutes);
-//! assert_eq!((units, slots), (Err(Refusal::Recount), Err(Refusal::Recount)));
+//! let wrong = Refusal::Recount(Fault::WrongMinutes { person: 0 });
+//! assert_eq!((units, slots), (Err(wrong), Err(wrong)));
 //!
 //! let mut listing = vec![0; LISTING_MOST];
 //! assert_eq!(lent::run_job(b"no job", &mut listing, &mut out), Err(Refusal::JobFile));
@@ -177,9 +178,9 @@ const NOTHING: u64 = 65_536;
 /// The refusal of a number that the library gave.
 #[cold]
 fn refused(number: u64) -> Refusal {
-    match u8::try_from(number).map(Refusal::try_from) {
-        Ok(Ok(refusal)) => refusal,
-        _ => unreachable!("the archive is not that of these declarations: it answered {number}"),
+    match Refusal::try_from(number) {
+        Ok(refusal) => refusal,
+        Err(_) => unreachable!("the archive is not that of these declarations: it answered {number}"),
     }
 }
 
@@ -189,6 +190,15 @@ fn done(answer: u8) -> Result<(), Refusal> {
     match answer {
         0 => Ok(()),
         n => Err(refused(u64::from(n))),
+    }
+}
+
+/// 0, or a refusal with its part, its place and its second number.
+#[inline]
+fn placed(answer: u64) -> Result<(), Refusal> {
+    match answer {
+        0 => Ok(()),
+        n => Err(refused(n)),
     }
 }
 
@@ -441,35 +451,36 @@ exports! {
     /// An empty rota: nobody owns a slot, and sets and minutes are cleared. Refusals: 1, 2.
     pub fn empty(people: usize, slots: usize, owners: &mut [u8], sets: &mut [u64], minutes: &mut [u64]) -> Result<(), Refusal> = done(u8);
 
-    /// A slot assigned to a person, or cleared by 255. Refusals: 1, 2, 9 to 12.
+    /// A slot assigned to a person, or cleared by 255. It asks nothing of units, so 10.3 never comes. Refusals: 1, 2, 9 to 12.
     pub fn assign(
         people: usize, slots: usize, starts: &[u32], ends: &[u32], avail: &[u64], owners: &mut [u8], sets: &mut [u64], minutes: &mut [u64],
         slot: usize, owner: u8
-    ) -> Result<(), Refusal> = done(u8);
+    ) -> Result<(), Refusal> = placed(u64);
 
     /// Plays draws, given as three columns: an answer byte each, 0 acted, 1 no move, 2 a choice outside. Refusals: 1, 2, 9, 10.
     pub fn play(
         people: usize, slots: usize, units: usize, count: usize, starts: &[u32], ends: &[u32], avail: &[u64], unit_starts: &[u16],
         frozen: &[u64], draws: &[u16], firsts: &[u16], seconds: &[u16], owners: &mut [u8], sets: &mut [u64], minutes: &mut [u64],
         answers: &mut [u8]
-    ) -> Result<(), Refusal> = done(u8);
+    ) -> Result<(), Refusal> = placed(u64);
 
     /// Plays draws as they stand: an answer byte each, 0 acted, 1 no move, 2 a choice outside. Refusals: 1, 2, 9, 10.
     pub fn play_draws(
         people: usize, slots: usize, units: usize, count: usize, starts: &[u32], ends: &[u32], avail: &[u64], unit_starts: &[u16],
-        frozen: &[u64], owners: &mut [u8], sets: &mut [u64], minutes: &mut [u64], draws: &[Draw], answers: &mut [u8]
-    ) -> Result<(), Refusal> = done(u8);
+        frozen: &[u64], draws: &[Draw], owners: &mut [u8], sets: &mut [u64], minutes: &mut [u64], answers: &mut [u8]
+    ) -> Result<(), Refusal> = placed(u64);
 
-    /// Whether owners, units, sets and minutes fit together, as a play asks it first. Refusals: 1, 2, 9, 10.
+    /// Whether owners, units, sets and minutes fit together, as a play asks it first; where not, the first part that fails and its lowest
+    /// place. Refusals: 1, 2, 9, 10.
     pub fn recount(
         people: usize, slots: usize, units: usize, starts: &[u32], ends: &[u32], avail: &[u64], unit_starts: &[u16], owners: &[u8], sets: &[u64],
         minutes: &[u64]
-    ) -> Result<(), Refusal> = done(u8);
+    ) -> Result<(), Refusal> = placed(u64);
 
-    /// The same without units, as a single assign asks it. Refusals: 1, 2, 9, 10.
+    /// The same without units, as a single assign asks it: 10.3 never comes. Refusals: 1, 2, 9, 10.
     pub fn recount_slots(
         people: usize, slots: usize, starts: &[u32], ends: &[u32], avail: &[u64], owners: &[u8], sets: &[u64], minutes: &[u64]
-    ) -> Result<(), Refusal> = done(u8);
+    ) -> Result<(), Refusal> = placed(u64);
 
     /// The owner of a slot: a person's number, or 255 for nobody. Refusals: 1, 2, 11.
     pub fn owner_of_slot(people: usize, slots: usize, owners: &[u8], slot: usize) -> Result<usize, Refusal> = number(u64);
@@ -492,6 +503,6 @@ exports! {
 
     // ---- a whole job
 
-    /// A whole job: the listing at the front of `out`, and its length. Refusals: 1 to 7, 10 to 13.
-    pub fn run_job(file: &[u8], out: &mut [u8], length: &mut u64) -> Result<(), Refusal> = done(u8);
+    /// A whole job: the listing at the front of `out`, and its length. Of 10 only 10.3 comes. Refusals: 1 to 7, 10 to 13.
+    pub fn run_job(file: &[u8], out: &mut [u8], length: &mut u64) -> Result<(), Refusal> = placed(u64);
 }

@@ -52,7 +52,7 @@ pub use draw::Draw;
 pub use job::{run_job, Job, LISTING_MOST};
 pub use job_text::JobTextError;
 pub use problem::Problem;
-pub use refusal::{NoRefusal, Refusal};
+pub use refusal::{Fault, NoRefusal, Refusal};
 pub use set::{Members, Run, Runs, SlotSet};
 pub use settings::{Boundary, Edition, Fairness, Settings};
 pub use slots::{merged_ranges, Range, Slot, Slots};

@@ -1,7 +1,7 @@
 //! Refusals, and what lies past the ends, through the lent slices.
 
 use boltraven::lent::{Held, SET_WORDS, SLOTS_MOST};
-use boltraven::{lent, Refusal, LISTING_MOST};
+use boltraven::{lent, Fault, Refusal, LISTING_MOST};
 
 const SPARE: u64 = 0xa5a5_a5a5_a5a5_a5a5;
 
@@ -16,23 +16,57 @@ fn avail() -> Vec<u64> {
     words
 }
 
+/// The columns of each line of a table.
+fn rows(table: &str) -> Vec<Vec<&str>> {
+    table.lines().map(|line| line.split('\t').collect()).collect()
+}
+
 #[test]
 fn every_refusal_has_its_number_and_sentence() {
-    for (k, refusal) in Refusal::ALL.iter().enumerate() {
-        assert_eq!(usize::from(refusal.number()), k + 1);
-        assert_eq!(Refusal::try_from(refusal.number()), Ok(*refusal));
-        assert_eq!(
-            refusal.to_string(),
-            format!("refused by {}: {}", refusal.number(), refusal.sentence())
-        );
+    let table = include_str!("../../../tools/refusals.txt");
+    let numbers = Refusal::SENTENCES.iter().map(|(number, _)| *number);
+    assert!(numbers.eq(1..=13));
+    for (row, (number, sentence)) in rows(table).into_iter().zip(Refusal::SENTENCES) {
+        let refusal = Refusal::try_from(u64::from(number)).unwrap_or(Refusal::Recount(Fault::WrongMinutes { person: 3 }));
+        let name = format!("{refusal:?}");
+        let name = name.split('(').next().expect("there is a name");
+        assert_eq!(row, [&number.to_string(), name, sentence]);
+        assert_eq!((refusal.number(), refusal.sentence()), (number, sentence));
+        assert_eq!(Refusal::try_from(u64::from(refusal)), Ok(refusal));
+        if number != 10 {
+            assert_eq!(u64::from(refusal), u64::from(number));
+            assert_eq!(refusal.to_string(), format!("refused by {number}: {sentence}"));
+        }
     }
-    assert!(Refusal::try_from(0).is_err());
-    assert!(Refusal::try_from(14).is_err());
-    let row = |refusal: &Refusal| format!("{}\t{refusal:?}\t{}\n", refusal.number(), refusal.sentence());
-    assert_eq!(
-        Refusal::ALL.iter().map(row).collect::<String>(),
-        include_str!("../../../tools/refusals.txt")
-    );
+    assert_eq!(table.lines().count(), Refusal::SENTENCES.len());
+}
+
+#[test]
+fn every_fault_has_its_numbers_and_sentence() {
+    let faults = [
+        (Fault::UnknownOwner { slot: 1023 }, 1, 1023, 0),
+        (Fault::UnavailableOwner { slot: 256 }, 2, 256, 0),
+        (Fault::UnevenUnit { unit: 7 }, 3, 7, 0),
+        (Fault::WrongSet { person: 31, slot: 1023 }, 4, 31, 1023),
+        (Fault::WrongMinutes { person: 31 }, 5, 31, 0),
+    ];
+    let table = rows(include_str!("../../../tools/faults.txt"));
+    assert_eq!(table.len(), faults.len());
+    for (row, (fault, part, place, second)) in table.into_iter().zip(faults) {
+        assert_eq!((fault.part(), fault.place(), fault.second()), (part, place, second));
+        assert_eq!(row[0], part.to_string());
+        assert!(format!("{fault:?}").starts_with(row[1]), "{fault:?}");
+        let sentence = row[2].replace("{place}", &place.to_string()).replace("{second}", &second.to_string());
+        assert_eq!(fault.to_string(), sentence);
+        let refusal = Refusal::Recount(fault);
+        assert_eq!(refusal.to_string(), format!("refused by 10.{part}: The recount fails: {sentence}."));
+        let answer = 10 + 256 * u64::from(part) + 65_536 * place as u64 + 4_294_967_296 * second as u64;
+        assert_eq!((u64::from(refusal), Refusal::try_from(answer)), (answer, Ok(refusal)));
+    }
+    // no number, one past the last, no part, a part too many, a place beside another number, a slot where none is due, bits past the last
+    for answer in [0, 14, 10, 10 + 256 * 9, 9 + 256, 11 + 65_536, 10 + 256 + (1 << 32), 10 + 256 + (1 << 48)] {
+        assert!(Refusal::try_from(answer).is_err(), "{answer}");
+    }
 }
 
 #[test]
@@ -118,7 +152,10 @@ fn a_rota_keeps_what_lies_past_its_ends() {
         )
     };
     minutes[0] += 1;
-    assert_eq!(play(&mut owners, &mut minutes), Err(Refusal::Recount));
+    assert_eq!(
+        play(&mut owners, &mut minutes),
+        Err(Refusal::Recount(Fault::WrongMinutes { person: 0 }))
+    );
     minutes[0] -= 1;
     assert_eq!(play(&mut owners, &mut minutes), Ok(()));
     assert_eq!(answers, [0, 2, 2, 9]);

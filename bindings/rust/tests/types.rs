@@ -2,7 +2,7 @@
 
 use boltraven::lent::SLOTS_MOST;
 use boltraven::{
-    Answer, Assignment, Availability, Boundary, Draw, Edition, Fairness, Job, Person, Problem, Range, Refusal, Run, Settings, Slot,
+    Answer, Assignment, Availability, Boundary, Draw, Edition, Fairness, Fault, Job, Person, Problem, Range, Refusal, Run, Settings, Slot,
     SlotSet, Slots, Weekday,
 };
 
@@ -123,8 +123,9 @@ fn a_unit_with_two_owners_fails_the_recount() {
     let mut rota = Assignment::empty(&problem);
     assert_eq!(rota.recount(&problem), Ok(()));
     assert_eq!(rota.assign(&problem, 3, Some(1)), Ok(()));
-    assert_eq!(rota.recount(&problem), Err(Refusal::Recount));
-    assert_eq!(rota.play(&problem, &[]), Err(Refusal::Recount));
+    let uneven = Refusal::Recount(Fault::UnevenUnit { unit: 1 });
+    assert_eq!(rota.recount(&problem), Err(uneven));
+    assert_eq!(rota.play(&problem, &[]), Err(uneven));
     assert_eq!(rota.assign(&problem, 2, Some(1)), Ok(()));
     assert_eq!(rota.recount(&problem), Ok(()));
     assert_eq!(problem.unit_of_slot(4), Err(Refusal::Unknown));
@@ -162,6 +163,11 @@ fn a_job_says_what_the_rota_does() {
     }
     job.owners = vec![(1, None), (0, None)];
     assert_eq!(job.run(), Err(Refusal::JobFile));
+    // sixteen slots in pairs, and the last one is nobody's
+    job.settings = PAIRS;
+    job.base = days(16);
+    job.owners = (0..15).map(|slot| (slot, Some(0))).collect();
+    assert_eq!(job.run(), Err(Refusal::Recount(Fault::UnevenUnit { unit: 7 })));
 }
 
 #[test]

@@ -1,10 +1,10 @@
 -- What only job's own functions cite: what each stage returns, and what it may take for granted. Assumes nothing.
 use mathlib.Core.Path.{_≡_}
-use mathlib.Core.Bool.{true}
-use mathlib.Core.List.{List}
+use mathlib.Core.Bool.{Bool, true}
+use mathlib.Core.List.{List, [], _∷_}
 use Prim.Native.Nat.{ℕ, _≤_}
 use lib.ListN.{length, getD}
-use Rattle.paper.specs.Limits.{numberOf}
+use Rattle.paper.specs.Limits.{Test, test, numberOf}
 use Rattle.slotset.specs.Answers.{numberRefusal}
 use Rattle.slots.specs.Atomic as atomic
 use Rattle.slots.specs.declared.Minutes.{Minutes}
@@ -22,8 +22,9 @@ use Rattle.job.specs.declared.Started.{Started}
 use Rattle.job.specs.declared.Prepared.{Prepared}
 use Rattle.job.specs.declared.Played.{Played}
 use Rattle.job.specs.File.{jobCounts, jobStarts, fileOk}
-use Rattle.job.specs.Stages.{jobCountsOk, valueOf, atomsOf, availIn, Ready, ready, readyOf, placed, narrowed, ownersOf, startedOf}
-use Rattle.job.specs.Outcome.{ownersRow, prepareRow}
+use Rattle.job.specs.Stages.{jobCountsOk, valueOf, atomsOf, availIn, Ready, ready, readyOf, placed, allEven, unevenIn, allKnown}
+use Rattle.job.specs.Stages.{narrowed, ownersOf, unevenOf, startedOf}
+use Rattle.job.specs.Outcome.{prepareRow}
 
 -- a file whose layout and counts are right
 pub record ReadOk (s c b : List ℕ) : Type 0 where
@@ -63,18 +64,23 @@ pub record TargetsAs (x : targets.Outcome) (r : JobTargets) : Type 0 where
   pub targets : r .targets ≡ x .out
   pub room : length (r .targets) ≡ 32
 
--- what n owner records come to: their number, and the owners as bytes
+-- 10 and 11 of n owner records from `at` on; even: each unit has one owner
+unfoldable pub ownersRow : List ℕ → ℕ → ℕ → ℕ → ℕ → Bool → List Test
+ownersRow s at n slots people even = test 10 even ∷ test 11 (allKnown s at n slots people) ∷ []
+
+-- what they come to: their number, the lowest unit with two owners, and the owners as bytes
 pub record OwnersAs (s : List ℕ) (at n slots people units : ℕ) (begins : List ℕ) (r : JobOwners) : Type 0 where
-  pub number : r .number ≡ numberOf (ownersRow s at n slots people units begins (placed s at slots n))
+  pub number : r .number ≡ numberOf (ownersRow s at n slots people (allEven slots units begins (placed s at slots n)))
+  pub uneven : r .uneven ≡ unevenIn slots units begins (placed s at slots n)
   pub owners : r .owners ≡ narrowed (placed s at slots n)
 
 -- sets and minutes, and the play, as the rota gives them
 pub record StartedAs (y : state.Outcome) (r : Started) : Type 0 where
-  pub number : r .number ≡ y .number
+  pub number : r .number ≡ y .refusal .number
   pub derived : derived (r .sets) (r .minutes) ≡ y .derived
 
 pub record PlayedAs (y : state.Outcome) (r : Played) : Type 0 where
-  pub number : r .number ≡ y .number
+  pub number : r .number ≡ y .refusal .number
   pub owners : r .owners ≡ y .owners
   pub minutes : r .minutes ≡ y .derived .minutes
   pub answers : r .answers ≡ y .answers
@@ -89,6 +95,7 @@ readyBy r =
 
 pub record PreparedAs (s : List ℕ) (r : Prepared) : Type 0 where
   pub number : r .number ≡ numberOf (prepareRow s)
+  pub uneven : r .uneven ≡ unevenOf s
   pub ready : readyBy r ≡ readyOf s
   pub owners : r .owners ≡ ownersOf s
   pub derived : derived (r .sets) (r .minutes) ≡ startedOf s .derived

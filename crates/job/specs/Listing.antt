@@ -6,6 +6,7 @@ use lib.Dec.{ltb, eqb}
 use lib.IntN.{ℤ, pos, negsuc}
 use lib.ListN.{getD}
 use Rattle.paper.specs.Limits.{nobody}
+use Rattle.paper.specs.declared.Refusal.{Refusal}
 
 -- ---- numbers
 
@@ -50,12 +51,23 @@ personLine p minutes target = headText 80 p 32 ++ (digits minutes ++ (32 ∷ [])
 unfoldable pub drawLine : ℕ → ℕ → List ℕ
 drawLine d answer = headText 68 d 32 ++ (answerLetter answer ∷ [] ++ (10 ∷ []))
 
--- U: uncovered minutes; R: the number of a refusal
+-- U: uncovered minutes
 unfoldable pub uncoveredLine : ℕ → List ℕ
 uncoveredLine minutes = headText 85 minutes 10
 
-unfoldable pub refusalLine : ℕ → List ℕ
-refusalLine n = headText 82 n 10
+-- the place of a refusal's part; of a wrong set, which is part 4, two: the person and the slot
+unfoldable pub placeText : ℕ → ℕ → ℕ → List ℕ
+placeText part place second =
+    cond (eqb part 4) (digits place ++ (32 ∷ []) ++ (digits second ++ (10 ∷ []))) (digits place ++ (10 ∷ []))
+
+unfoldable pub partText : ℕ → ℕ → ℕ → List ℕ
+partText part place second = digits part ++ (32 ∷ []) ++ placeText part place second
+
+-- R: the number of a refusal, and where it names a part, a point, the part and its place
+unfoldable pub refusalLine : Refusal → List ℕ
+refusalLine f =
+    cond (eqb (f .part) 0) (headText 82 (f .number) 10)
+    (headText 82 (f .number) 46 ++ partText (f .part) (f .place) (f .second))
 
 -- the lines of the numbers below n, in order
 unfoldable pub lines : (ℕ → List ℕ) → ℕ → List ℕ

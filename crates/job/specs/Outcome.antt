@@ -5,9 +5,10 @@ use mathlib.Core.List.{List, [], _∷_, _++_}
 use Prim.Native.Nat.{ℕ, _≤_, _<_}
 use lib.Dec.{eqb, leb}
 use lib.ListN.{length, getD}
-use Rattle.paper.specs.Limits.{Test, test, numberOf, slotsMost}
+use Rattle.paper.specs.Limits.{Test, testIn, test, slotsMost}
+use Rattle.paper.specs.declared.Refusal.{Refusal}
 use Rattle.paper.specs.Count.{all}
-use Rattle.paper.specs.Rows.{unless}
+use Rattle.paper.specs.Rows.{unless, accepted, refusalOf}
 use Rattle.slots.specs.Lent.{slotsOk}
 use Rattle.slots.specs.Ranges.{rangesOk}
 use Rattle.slots.specs.Atomic as atomic
@@ -20,7 +21,7 @@ use Rattle.job.specs.declared.JobAnswer.the-variants as answer
 use Rattle.job.specs.File.{fileOk}
 use Rattle.job.specs.Listing.{refusalLine, listingOf, listingMost}
 use Rattle.job.specs.Stages.{counted, blockStart, peopleOf, jobCountsOk, capacitiesOf, priorsOf, settingsIn, baseOf, readyOf, allEven}
-use Rattle.job.specs.Stages.{allKnown, writtenOf, ownersOf, listedOf}
+use Rattle.job.specs.Stages.{allKnown, writtenOf, unevenOf, ownersOf, listedOf}
 
 -- ---- the tests of a job, in the order in which they are given: 13, then rising
 
@@ -28,11 +29,6 @@ use Rattle.job.specs.Stages.{allKnown, writtenOf, ownersOf, listedOf}
 unfoldable pub readRow : Bool → ℕ → ℕ → ℕ → ℕ → ℕ → List Test
 readRow right base people ranges draws room =
     test 13 right ∷ test 1 (jobCountsOk base people ranges draws) ∷ test 2 (leb listingMost room) ∷ []
-
--- of owners as written, n records from `at` on
-unfoldable pub ownersRow : List ℕ → ℕ → ℕ → ℕ → ℕ → ℕ → List ℕ → List ℕ → List Test
-ownersRow s at n slots people units begins o =
-    test 10 (allEven slots units begins o) ∷ test 11 (allKnown s at n slots people) ∷ []
 
 -- of what stands in the file
 unfoldable pub prepareRow : List ℕ → List Test
@@ -42,7 +38,7 @@ prepareRow s =
     test 3 (slotsOk (B .slots) (B .starts) (B .ends)) ∷ test 4 (rangesOk (B .people) (B .ranges))
     ∷ test 5 (leb (length (atomic.startsOfAtoms B)) slotsMost)
     ∷ test 6 (allFiguresOk (peopleOf s) (capacitiesOf s) (priorsOf s)) ∷ test 7 (settingsOk (settingsIn s))
-    ∷ test 10 (allEven (R .slots) (R .units) (R .begins) (writtenOf s))
+    ∷ testIn 10 (allEven (R .slots) (R .units) (R .begins) (writtenOf s)) 3 (unevenOf s) 0
     ∷ test 11 (allKnown s (blockStart s 5) (counted s 5) (R .slots) (R .people))
     ∷ test 12 (all (R .slots) (availableAt (R .avail) (ownersOf s))) ∷ []
 
@@ -68,38 +64,44 @@ AllPass ts = (k : ℕ) → k < length ts → testAt ts k .passes ≡ true
 
 -- ---- the outcome
 
--- an answer by its cases: the number of the refusal, 0 where there is none; and the length, or `was` where refused
-abbrev pub jobRefusal : JobAnswer → ℕ
-jobRefusal (answer.Length l) = 0
-jobRefusal (answer.Refused n) = n
+-- a refusal of a job by its number: 10 is of an uneven unit, part 3, at the lowest; the others name no part
+unfoldable pub refusalAt : ℕ → ℕ → Refusal
+refusalAt n uneven =
+    cond (eqb n 10) (record { number = 10; part = 3; place = uneven; second = 0 })
+    (record { number = n; part = 0; place = 0; second = 0 })
+
+-- an answer by its cases: the refusal, of number 0 where there is none; and the length, or `was` where refused
+abbrev pub jobRefusal : JobAnswer → Refusal
+jobRefusal (answer.Length l) = accepted
+jobRefusal (answer.Refused f) = f
 
 abbrev pub jobLength : ℕ → JobAnswer → ℕ
 jobLength was (answer.Length l) = l
-jobLength was (answer.Refused n) = was
+jobLength was (answer.Refused f) = was
 
 pub record Result : Type 0 where
   pub answer : JobAnswer
   pub out : List ℕ
 
 -- a refusal leaves the listing as it was; else it stands at the front
-unfoldable pub refusedAs : ℕ → List ℕ → Result
-refusedAs n x = record { answer = answer.Refused n; out = x }
+unfoldable pub refusedAs : Refusal → List ℕ → Result
+refusedAs f x = record { answer = answer.Refused f; out = x }
 
 unfoldable pub listedAs : List ℕ → List ℕ → Result
 listedAs l x = record { answer = answer.Length (length l); out = put l 0 x }
 
 unfoldable pub jobResult : List ℕ → List ℕ → Result
 jobResult s x =
-    let n = numberOf (jobTests s (length x)) in
-    unless n (refusedAs n x) (listedAs (listingOf (listedOf s)) x)
+    let f = refusalOf (jobTests s (length x)) in
+    unless (f .number) (refusedAs f x) (listedAs (listingOf (listedOf s)) x)
 
 -- the line of a refusal in a lent buffer; 2 where that is shorter than the line
-unfoldable pub refusalRow : ℕ → ℕ → List Test
-refusalRow n room = test 2 (leb (length (refusalLine n)) room) ∷ []
+unfoldable pub refusalRow : Refusal → ℕ → List Test
+refusalRow f room = test 2 (leb (length (refusalLine f)) room) ∷ []
 
-unfoldable pub refusalResult : ℕ → List ℕ → Result
-refusalResult n x =
-    let m = numberOf (refusalRow n (length x)) in unless m (refusedAs m x) (listedAs (refusalLine n) x)
+unfoldable pub refusalResult : Refusal → List ℕ → Result
+refusalResult f x =
+    let g = refusalOf (refusalRow f (length x)) in unless (g .number) (refusedAs g x) (listedAs (refusalLine f) x)
 
 pub record Ends (y : Result) (r : JobAnswer) (out : List ℕ) : Type 0 where
   pub said : r ≡ y .answer

@@ -19,7 +19,7 @@ use Rattle.units.specs.Answers.{Written}
 use Rattle.units.specs.Starts.{unitStartsIs}
 use Rattle.targets.specs.Outcome as targets
 use Rattle.owners.specs.Derived.{Plan, plan, Derived, derived, knownBy, uncovered}
-use Rattle.owners.specs.Recount.{evenAt}
+use Rattle.owners.specs.Recount.{firstFail, evenAt}
 use Rattle.owners.specs.Entries as state
 use Rattle.rota.specs.Entries as rota
 use Rattle.records.specs.Fields.{le}
@@ -169,9 +169,12 @@ placed s at slots zero = replicate 1024 255
 placed s at slots (suc k) =
     cond (ltb (ownerSlot s at k) slots) (set (placed s at slots k) (ownerSlot s at k) (ownerValue s at k)) (placed s at slots k)
 
--- 10: each unit has one owner, as written
+-- 10: each unit has one owner, as written; the lowest that has two, or the number of units
 unfoldable pub allEven : ℕ → ℕ → List ℕ → List ℕ → Bool
 allEven slots units begins o = all units (evenAt slots units begins o)
+
+unfoldable pub unevenIn : ℕ → ℕ → List ℕ → List ℕ → ℕ
+unevenIn slots units begins o = firstFail units (evenAt slots units begins o)
 
 -- 11: the slot exists, and the owner is nobody or a known person
 unfoldable pub recordKnown : List ℕ → ℕ → ℕ → ℕ → ℕ → Bool
@@ -193,6 +196,10 @@ writtenOf s = placed s (blockStart s 5) (readyOf s .slots) (counted s 5)
 
 unfoldable pub ownersOf : List ℕ → List ℕ
 ownersOf s = narrowed (writtenOf s)
+
+-- the lowest unit to which the owners as written give two
+unfoldable pub unevenOf : List ℕ → ℕ
+unevenOf s = unevenIn (readyOf s .slots) (readyOf s .units) (readyOf s .begins) (writtenOf s)
 
 -- ---- the rota before the draws, and after them
 

@@ -11,6 +11,7 @@ mod run;
 
 pub use file::FILE_MOST;
 pub use listing::refusal_line;
+use paper::Refusal;
 pub use run::LISTING_MOST;
 pub use run::run_job;
 
@@ -44,9 +45,10 @@ pub struct JobTargets {
     pub targets: [i64; 32],
 }
 
-// The owners of a job, or the number of a refusal.
+// The owners of a job, with the lowest unit that has two; or the number of a refusal.
 pub struct JobOwners {
     pub number: u8,
+    pub uneven: usize,
     pub owners: [u8; 1024],
 }
 
@@ -57,9 +59,10 @@ pub struct Started {
     pub minutes: [u64; 32],
 }
 
-// What a play goes by, and the rota before the draws; or the number of a refusal.
+// What a play goes by, and the rota before the draws; or the number of a refusal, and the lowest unit with two owners.
 pub struct Prepared {
     pub number: u8,
+    pub uneven: usize,
     pub people: usize,
     pub slots: usize,
     pub starts: [u32; 1024],
@@ -82,8 +85,8 @@ pub struct Played {
     pub answers: [u8; 1024],
 }
 
-// What a job comes to: the length of its listing, or the number of the refusal.
+// What a job comes to: the length of its listing, or the refusal.
 pub enum JobAnswer {
     Length(usize),
-    Refused(u8),
+    Refused(Refusal),
 }

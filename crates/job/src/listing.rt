@@ -1,5 +1,6 @@
 // The listing, written into a lent buffer from its front. Each function takes the place to write at and returns the next.
 use crate::JobAnswer;
+use paper::Refusal;
 ghost use mathlib.Core.Path.{_≡_};
 ghost use mathlib.Core.List.{[], _∷_, _++_};
 ghost use Prim.Native.Nat.{ℕ, _+_, _≤_, _<_, _^_};
@@ -9,7 +10,7 @@ ghost use lib.ListN.{length, getD};
 ghost use Rattle.job.specs.Listing.{digits, signed, ownerText, answerLetter, headText, slotLine, personLine, drawLine};
 ghost use Rattle.job.specs.Listing.{lines, slotAt, personAt, drawAt};
 ghost use Rattle.records.specs.Puts.{Wrote};
-ghost use Rattle.job.specs.Listing.{listed, listingOf, listingMost, refusalLine};
+ghost use Rattle.job.specs.Listing.{listed, listingOf, listingMost, placeText, partText, refusalLine};
 ghost use Rattle.job.specs.Outcome.{Ends, refusalResult};
 
 // One byte.
@@ -249,26 +250,86 @@ pub(crate) fn put_listing(
     )
 }
 
-// How many bytes the line of a refusal has.
-fn refusal_size(number: u8) -> usize
-    ensures { λ r. ⌜ r ≡ length (refusalLine number) ⌝ }
+// How many digits a number has.
+fn digit_count(n: u64) -> usize
+    ensures { λ r. ⌜ (r ≡ length (digits n)) × (r ≤ 20) ⌝ }
 {
-    if number < 10 {
-        return 4;
+    let mut count: usize = 1;
+    let mut rest = n;
+    while 10 <= rest {
+        rest = rest / 10;
+        count += 1;
     }
-    if number < 100 {
-        return 5;
+    count
+}
+
+// How many bytes the place of a refusal's part has.
+fn place_size(part: u8, place: u64, second: u64) -> usize
+    ensures { λ r. ⌜ (r ≡ length (placeText part place second)) × (r ≤ 42) ⌝ }
+{
+    let size = digit_count(place) + 1;
+    if part == 4 {
+        return size + digit_count(second) + 1;
     }
-    6
+    size
+}
+
+// How many bytes the line of a refusal has.
+fn refusal_size(number: u8, part: u8, place: u64, second: u64) -> usize
+    ensures { λ r. ⌜ r ≡ length (refusalLine (record { number = number; part = part; place = place; second = second })) ⌝ }
+{
+    let size = digit_count(number as u64) + 3;
+    if part == 0 {
+        return size;
+    }
+    size + digit_count(part as u64) + 1 + place_size(part, place, second)
+}
+
+// The place of a refusal's part, and a newline.
+fn put_place(out: &mut [u8], at: usize, part: u8, place: u64, second: u64) -> usize
+    requires { ⌜ at + length (placeText part place second) ≤ length (now out) ⌝ }
+    ensures { λ r. ⌜ Wrote (placeText part place second) at (now (out .entry)) r (now (out .exit)) ⌝ }
+{
+    if part == 4 {
+        let next = put_number_then(out, at, place, b' ');
+        return put_number_then(out, next, second, b'\n');
+    }
+    put_number_then(out, at, place, b'\n')
+}
+
+// A refusal's part and its place.
+fn put_part(out: &mut [u8], at: usize, part: u8, place: u64, second: u64) -> usize
+    requires { ⌜ at + length (partText part place second) ≤ length (now out) ⌝ }
+    ensures { λ r. ⌜ Wrote (partText part place second) at (now (out .entry)) r (now (out .exit)) ⌝ }
+{
+    let next = put_number_then(out, at, part as u64, b' ');
+    put_place(out, next, part, place, second)
+}
+
+// The line of a refusal.
+fn put_refusal(out: &mut [u8], number: u8, part: u8, place: u64, second: u64) -> usize
+    requires { ⌜ length (refusalLine (record { number = number; part = part; place = place; second = second })) ≤ length (now out) ⌝ }
+    ensures { λ r. ⌜ Wrote (refusalLine (record { number = number; part = part; place = place; second = second })) 0 (now (out .entry)) r
+        (now (out .exit)) ⌝ }
+{
+    if part == 0 {
+        return put_head(out, 0, b'R', number as u64, b'\n');
+    }
+    let next = put_head(out, 0, b'R', number as u64, b'.');
+    put_part(out, next, part, place, second)
 }
 
 // The line of a refusal at the front of line, and its length. Refusal 2: line is shorter than that.
-pub fn refusal_line(number: u8, line: &mut [u8]) -> JobAnswer
-    ensures { λ r. ⌜ Ends (refusalResult number (now (line .entry))) r (now (line .exit)) ⌝ }
+pub fn refusal_line(refusal: Refusal, line: &mut [u8]) -> JobAnswer
+    ensures { λ r. ⌜ Ends (refusalResult refusal (now (line .entry))) r (now (line .exit)) ⌝ }
 {
-    if line.len() < refusal_size(number) {
-        return JobAnswer::Refused(2);
+    let place = refusal.place as u64;
+    let second = refusal.second as u64;
+    let size = refusal_size(refusal.number, refusal.part, place, second);
+    let short = paper::check(paper::accepted(), size <= line.len(), 2);
+    if short.number == 0 {
+        let length = put_refusal(line, refusal.number, refusal.part, place, second);
+        return JobAnswer::Length(length);
     }
-    let length = put_head(line, 0, b'R', number as u64, b'\n');
-    JobAnswer::Length(length)
+    JobAnswer::Refused(short)
 }

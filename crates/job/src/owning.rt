@@ -8,9 +8,8 @@ ghost use lib.ListN.{length, getD};
 ghost use Rattle.paper.specs.Rows.{refusalOf};
 ghost use Rattle.owners.specs.Recount.{evenAt};
 ghost use Rattle.job.specs.File.{ownerSlot};
-ghost use Rattle.job.specs.Stages.{ownerValue, placed, allEven, recordKnown, allKnown, narrowed};
-ghost use Rattle.job.specs.Outcome.{ownersRow};
-ghost use Rattle.job.specs.Inside.{OwnersAs};
+ghost use Rattle.job.specs.Stages.{ownerValue, placed, unevenIn, recordKnown, allKnown, narrowed};
+ghost use Rattle.job.specs.Inside.{ownersRow, OwnersAs};
 
 // Entry k of a column, or 0 past its end.
 fn entry16(column: &[u16], k: usize) -> u16
@@ -76,19 +75,19 @@ fn unit_even(slots: usize, units: usize, begins: &[u16], owners: &[u16], u: usiz
     true
 }
 
-// Whether the slots of each unit do.
-fn all_even(slots: usize, units: usize, begins: &[u16], owners: &[u16]) -> bool
-    ensures { λ r. ⌜ r ≡ allEven slots units (now (begins .entry)) (now (owners .entry)) ⌝ }
+// The lowest unit whose slots don't, or the number of units.
+fn first_uneven(slots: usize, units: usize, begins: &[u16], owners: &[u16]) -> usize
+    ensures { λ r. ⌜ r ≡ unevenIn slots units (now (begins .entry)) (now (owners .entry)) ⌝ }
 {
     let mut u: usize = 0;
     while u < units {
         if unit_even(slots, units, begins, owners, u) {
             u += 1;
         } else {
-            return false;
+            return u;
         }
     }
-    true
+    units
 }
 
 // Whether record k names a slot that exists, and nobody or a known person.
@@ -123,21 +122,11 @@ fn all_known(s: &[u8], at: usize, n: usize, slots: usize, people: usize) -> bool
     true
 }
 
-// 10, then 11.
-fn owners_refusal(
-    s: &[u8],
-    at: usize,
-    n: usize,
-    slots: usize,
-    people: usize,
-    units: usize,
-    begins: &[u16],
-    owners: &[u16],
-) -> Refusal
+// 10, then 11; even: each unit has one owner.
+fn owners_refusal(s: &[u8], at: usize, n: usize, slots: usize, people: usize, even: bool) -> Refusal
     requires { ⌜ at + n * 8 ≤ length (now s) ⌝ }
-    ensures { λ r. ⌜ r ≡ refusalOf (ownersRow (now (s .entry)) at n slots people units (now (begins .entry)) (now (owners .entry))) ⌝ }
+    ensures { λ r. ⌜ r ≡ refusalOf (ownersRow (now (s .entry)) at n slots people even) ⌝ }
 {
-    let even = all_even(slots, units, begins, owners);
     let known = all_known(s, at, n, slots, people);
     let f = paper::check(paper::accepted(), even, 10);
     paper::check(f, known, 11)
@@ -176,7 +165,12 @@ pub(crate) fn owners_of(
     ensures { λ r. ⌜ OwnersAs (now (s .entry)) at n slots people units (now (begins .entry)) r ⌝ }
 {
     let written = placed_by(s, at, n, slots);
-    let number = owners_refusal(s, at, n, slots, people, units, begins, &written).number;
+    let uneven = first_uneven(slots, units, begins, &written);
+    let number = owners_refusal(s, at, n, slots, people, uneven == units).number;
     let owners = narrow(&written);
-    JobOwners { number, owners }
+    JobOwners {
+        number,
+        uneven,
+        owners,
+    }
 }

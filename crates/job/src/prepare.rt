@@ -143,6 +143,7 @@ pub(crate) fn prepare(file: &[u8], counts: [usize; 8], blocks: [usize; 8]) -> Pr
     let number = first_number(s.number, rest);
     Prepared {
         number,
+        uneven: o.uneven,
         people,
         slots,
         starts,

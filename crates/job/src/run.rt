@@ -8,7 +8,7 @@ use paper::Refusal;
 ghost use mathlib.Core.Path.{_≡_};
 ghost use Rattle.paper.specs.Rows.{refusalOf};
 ghost use Rattle.job.specs.Stages.{jobCountsOk};
-ghost use Rattle.job.specs.Outcome.{Ends, readRow, jobResult};
+ghost use Rattle.job.specs.Outcome.{Ends, readRow, refusalAt, jobResult};
 
 // The room that a listing is asked for: above all that the widths of its fields allow.
 pub const LISTING_MOST: usize = 65536;
@@ -46,15 +46,35 @@ fn read_refusal(
     paper::check(f, LISTING_MOST <= room, 2)
 }
 
-// A job: the listing of its file at the front of out and its length, or the number of the refusal with out as it was.
+// A refusal by its number: 10 is of the lowest unit with two owners, which is part 3.
+fn refusal_at(number: u8, uneven: usize) -> Refusal
+    ensures { λ r. ⌜ r ≡ refusalAt number uneven ⌝ }
+{
+    if number == 10 {
+        return Refusal {
+            number: 10,
+            part: 3,
+            place: uneven,
+            second: 0,
+        };
+    }
+    Refusal {
+        number,
+        part: 0,
+        place: 0,
+        second: 0,
+    }
+}
+
+// A job: the listing of its file at the front of out and its length, or the refusal with out as it was.
 pub fn run_job(file: &[u8], out: &mut [u8]) -> JobAnswer
     ensures { λ r. ⌜ Ends (jobResult (now (file .entry)) (now (out .entry))) r (now (out .exit)) ⌝ }
 {
     let w = read_file(file);
     let counts = w.counts;
     let blocks = w.starts;
-    let n = read_refusal(w.ok, counts[1], counts[2], counts[3], counts[6], out.len()).number;
-    if n == 0 {
+    let refusal = read_refusal(w.ok, counts[1], counts[2], counts[3], counts[6], out.len());
+    if refusal.number == 0 {
         let p = prepare(file, counts, blocks);
         let number = p.number;
         if number == 0 {
@@ -62,7 +82,7 @@ pub fn run_job(file: &[u8], out: &mut [u8]) -> JobAnswer
             let length = list(out, counts[6], p, y);
             return JobAnswer::Length(length);
         }
-        return JobAnswer::Refused(number);
+        return JobAnswer::Refused(refusal_at(number, p.uneven));
     }
-    JobAnswer::Refused(n)
+    JobAnswer::Refused(refusal)
 }

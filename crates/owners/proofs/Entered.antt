@@ -25,7 +25,7 @@ use Rattle.owners.specs.Recount.{availableFor, knownAt, availableAt, eve
 use Rattle.owners.specs.Recount.{firstFail, recountTests, recounts}
 use Rattle.owners.proofs.RecountRefusals.{first-on, first-stops}
 use Rattle.owners.specs.Entries.{lentRow, recountRow, recountSlotsRow, Outcome, outcome, Ended, fromSlotsRow, fromSlots}
-use Rattle.owners.specs.Entries.{emptyRow, emptied, uncoveredRow}
+use Rattle.owners.specs.Entries.{emptyRow, emptied, placeless, uncoveredRow}
 
 -- ---- what the first tests leave known
 
@@ -212,29 +212,35 @@ module _ (P : Plan) (avail o : List ℕ) (D : Derived) where
 
 -- ---- outcomes
 
-module _ (n m : ℕ) (e : n ≡ m) (o : List ℕ) (D : Derived) (x o′ : List ℕ) (D′ : Derived) (x′ : List ℕ) where
-  pub ended-refused : (n ≡ 0 → ⊥) → Ended (outcome m o D x o′ D′ x′) n o D x
+module _ (f g : Refusal) (e : f ≡ g) (o : List ℕ) (D : Derived) (x o′ : List ℕ) (D′ : Derived) (x′ : List ℕ) where
+  pub ended-refused : (f .number ≡ 0 → ⊥) → Ended (outcome g o D x o′ D′ x′) f o D x
   unfolding outcome
   ended-refused z =
-      let t : m ≡ 0 → ⊥ = λ q. z (e ∙ q) in
-      record { said = e; owners = sym (kept m o o′ t); derived = sym (kept m D D′ t); answers = sym (kept m x x′ t) }
+      let t : g .number ≡ 0 → ⊥ = λ q. z (ap (λ (h : Refusal). h .number) e ∙ q) in
+      record {
+        refusal = e;
+        owners = sym (kept (g .number) o o′ t);
+        derived = sym (kept (g .number) D D′ t);
+        answers = sym (kept (g .number) x x′ t);
+      }
 
-  pub ended-yes : n ≡ 0 → (p : List ℕ) (E : Derived) (y : List ℕ) → p ≡ o′ → E ≡ D′ → y ≡ x′ → Ended (outcome m o D x o′ D′ x′) 0 p E y
+  pub ended-yes : f .number ≡ 0 → (p : List ℕ) (E : Derived) (y : List ℕ) → p ≡ o′ → E ≡ D′ → y ≡ x′
+      → Ended (outcome g o D x o′ D′ x′) f p E y
   unfolding outcome
   ended-yes z p E y a b c =
-      let t : m ≡ 0 = sym e ∙ z in
+      let t : g .number ≡ 0 = sym (ap (λ (h : Refusal). h .number) e) ∙ z in
       record {
-        said = sym z ∙ e;
-        owners = a ∙ sym (worked m o o′ t);
-        derived = b ∙ sym (worked m D D′ t);
-        answers = c ∙ sym (worked m x x′ t);
+        refusal = e;
+        owners = a ∙ sym (worked (g .number) o o′ t);
+        derived = b ∙ sym (worked (g .number) D D′ t);
+        answers = c ∙ sym (worked (g .number) x x′ t);
       }
 
 -- only one outcome fits
-pub one-outcome : (y : Outcome) (n m : ℕ) (o p : List ℕ) (D E : Derived) (x z : List ℕ) → Ended y n o D x → Ended y m p E z
-    → (n ≡ m) × (o ≡ p) × (D ≡ E) × (x ≡ z)
-one-outcome y n m o p D E x z A B =
-    (A .said ∙ sym (B .said), A .owners ∙ sym (B .owners), A .derived ∙ sym (B .derived), A .answers ∙ sym (B .answers))
+pub one-outcome : (y : Outcome) (f g : Refusal) (o p : List ℕ) (D E : Derived) (x z : List ℕ) → Ended y f o D x → Ended y g p E z
+    → (f ≡ g) × (o ≡ p) × (D ≡ E) × (x ≡ z)
+one-outcome y f g o p D E x z A B =
+    (A .refusal ∙ sym (B .refusal), A .owners ∙ sym (B .owners), A .derived ∙ sym (B .derived), A .answers ∙ sym (B .answers))
 
 -- ---- from_slots
 
@@ -261,13 +267,13 @@ module _ (P : Plan) (avail o : List ℕ) (D : Derived) where
       )
 
   module _ (n : ℕ) (e : n ≡ numberOf (fromSlotsRow P avail o D)) where
-    pub from-refused : (n ≡ 0 → ⊥) → Ended (fromSlots P avail o D) n o D []
+    pub from-refused : (n ≡ 0 → ⊥) → Ended (fromSlots P avail o D) (placeless n) o D []
     unfolding fromSlots
-    from-refused z = ended-refused n _ e o D [] _ _ _ z
+    from-refused z = ended-refused (placeless n) _ (ap placeless e) o D [] _ _ _ z
 
-    pub from-yes : (E : Derived) → n ≡ 0 → E ≡ afresh P o D → Ended (fromSlots P avail o D) 0 o E []
+    pub from-yes : (E : Derived) → n ≡ 0 → E ≡ afresh P o D → Ended (fromSlots P avail o D) (placeless 0) o E []
     unfolding fromSlots
-    from-yes E z q = ended-yes n _ e o D [] _ _ _ z o E [] refl q refl
+    from-yes E z q = ended-yes (placeless 0) _ (ap placeless (sym z ∙ e)) o D [] _ _ _ refl o E [] refl q refl
 
 -- ---- an empty rota
 
@@ -283,16 +289,16 @@ module _ (people slots : ℕ) (o : List ℕ) (D : Derived) where
       (p .0, p .1, q .1, leb-true _ _ (h 2), leb-true _ _ (h 3), leb-true _ _ (h 4))
 
   module _ (n : ℕ) (e : n ≡ numberOf (emptyRow people slots o D)) where
-    pub emptied-refused : (n ≡ 0 → ⊥) → Ended (emptied people slots o D) n o D []
+    pub emptied-refused : (n ≡ 0 → ⊥) → Ended (emptied people slots o D) (placeless n) o D []
     unfolding emptied
-    emptied-refused z = ended-refused n _ e o D [] _ _ _ z
+    emptied-refused z = ended-refused (placeless n) _ (ap placeless e) o D [] _ _ _ z
 
     pub emptied-yes : (o′ s m : List ℕ) → n ≡ 0 → o′ ≡ fill nobody 0 (slots - 0) o → s ≡ setsFrom people slots (nobodies slots) (D .sets)
-        → m ≡ over (λ _. 0) people (D .minutes) → Ended (emptied people slots o D) 0 o′ (derived s m) []
+        → m ≡ over (λ _. 0) people (D .minutes) → Ended (emptied people slots o D) (placeless 0) o′ (derived s m) []
     unfolding emptied
     emptied-yes o′ s m z a b c =
         let q : slots - 0 ≡ slots = omega arith in
-        ended-yes n _ e o D [] _ _ _ z o′ (derived s m) [] (a ∙ ap (λ (k : ℕ). fill nobody 0 k o) q) (ap₂ {C = Derived} derived b c) refl
+        ended-yes (placeless 0) _ (ap placeless (sym z ∙ e)) o D [] _ _ _ refl o′ (derived s m) [] (a ∙ ap (λ (k : ℕ). fill nobody 0 k o) q) (ap₂ {C = Derived} derived b c) refl
 
 -- ---- readers
 

@@ -1,29 +1,30 @@
 -- The recount as a row of tests: which of them fails first, and where. Assumes nothing.
 use mathlib.Core.Path.{_≡_, refl, sym, ap, ap₂, _∙_}
 use mathlib.Core.Logic.{⊎-elim}
-use mathlib.Core.Bool.{Bool, true, false, cond, _&&_}
+use mathlib.Core.Bool.{Bool, true, false, cond, true≢false}
 use mathlib.Core.List.{List, [], _∷_, _++_}
-use Prim.Native.Nat.{ℕ, _+_, _*_, _/_, _%_, _≤_, _<_}
+use Prim.Native.Nat.{ℕ, suc, _*_, _≤_, _<_}
 use native.Mathlib.Omega.{arith}
-use borrow.Author.Tests.{eq-eqb, eqb-true, ltb-true}
-use lib.Dec.{eqb, ltb}
-use lib.ListN.{length, getD, replicate, length-replicate, getD-replicate, List·getD-eq-default}
-use Rattle.paper.specs.Bits.{bitOf}
+use borrow.Author.Tests.{le-leb, ltb-true, eqb-true, eqb-false}
+use lib.Dec.{eqb, leb, ltb}
+use lib.ListN.{length, getD, replicate, length-replicate}
 use Rattle.paper.specs.Count.{all, over}
-use Rattle.paper.specs.Limits.{Test, numberOf}
+use Rattle.paper.specs.Limits.{peopleOk, Test, numberOf}
 use Rattle.paper.specs.declared.Refusal.{Refusal}
 use Rattle.paper.specs.Rows.{accepted, testRefusal, refusalOf}
-use Rattle.paper.proofs.Logic.{by-test, lt-or-ge, same-test, both}
-use Rattle.paper.proofs.Count.{all-each, each-all, all-same, length-over, getD-over, getD-over-out}
+use Rattle.paper.proofs.Logic.{by-test, lt-or-ge, both, and-true}
+use Rattle.paper.proofs.Count.{all-same, length-over, getD-over}
 use Rattle.paper.proofs.Refusals.{number-pass, number-fail}
-use Rattle.paper.proofs.Rows.{numbered}
-use Rattle.slotset.specs.Slots.{slot}
-use Rattle.slotset.proofs.Puts.{Fit}
+use Rattle.paper.proofs.Rows.{numbered, worked as as-worked}
+use Rattle.slotset.specs.Slots.{slot, sameSlots}
+use Rattle.slotset.specs.declared.YesNo.the-variants as yesNo
+use Rattle.slotset.specs.Answers.{sameSets, sameSetsRow, yesNoAs}
+use Rattle.slotset.proofs.Refusals.{says-same}
 use Rattle.owners.specs.Derived.{Plan, Derived, derived, worked, held, setsFrom, afresh}
-use Rattle.owners.specs.Inside.{PlanSound, Makes}
-use Rattle.owners.specs.Recount.{firstFail, knownAt, availableAt, evenAt, setSlotAt, setAt, minutesOkAt, recountTests}
-use Rattle.owners.proofs.Sets.{sets-in, sets-same, length-sets}
-use Rattle.owners.proofs.Scans.{scan-no, scan-yes, first-passes}
+use Rattle.owners.specs.Inside.{PlanSound, Makes, isYes, sameSet, sameEntry}
+use Rattle.owners.specs.Recount.{firstFail, knownAt, availableAt, evenAt, setSlotAt, setAt, minutesOkAt, derivedTests, recountTests}
+use Rattle.owners.proofs.Sets.{sets-in, length-sets}
+use Rattle.owners.proofs.Scans.{scan-no, scan-yes, scan-halved, first-is, first-same}
 
 -- ---- a row that goes on from another
 
@@ -66,12 +67,6 @@ module _ (P : Plan) (avail : List ℕ) (units : ℕ) (begins o : List ℕ) (D : 
   abbrev even : ℕ → Bool
   even = evenAt (P .slots) units begins o
 
-  abbrev sets : ℕ → Bool
-  sets = setAt (P .slots) o (D .sets)
-
-  abbrev minutes : ℕ → Bool
-  minutes = minutesOkAt P o (D .minutes)
-
   abbrev row : List Test
   row = recountTests P avail units begins o D
 
@@ -93,142 +88,118 @@ module _ (P : Plan) (avail : List ℕ) (units : ℕ) (begins o : List ℕ) (D : 
             simp (scan-yes (P .slots) a known ea ha, scan-yes (P .slots) b available eb hb, scan-no units c even ec h)
             (q ∙ ap (λ (x : ℕ). ten 3 x 0) ec)
 
-        module _ (hc : units ≤ c) (r : Bool) (er : r ≡ all (P .people) sets && all (P .people) minutes) where
-          pub refusal-clean : r ≡ true → f ≡ accepted → f ≡ refusalOf row
-          unfolding recountTests refusalOf
-          refusal-clean t q =
-              let x = both (all (P .people) sets) (all (P .people) minutes) (sym er ∙ t) in
-              simp (
-                scan-yes (P .slots) a known ea ha,
-                scan-yes (P .slots) b available eb hb,
-                scan-yes units c even ec hc,
-                x .0,
-                x .1,
-              )
-              q
+        pub refusal-derived : units ≤ c → f ≡ refusalOf (derivedTests P o D) → f ≡ refusalOf row
+        unfolding recountTests refusalOf
+        refusal-derived h q =
+            simp (scan-yes (P .slots) a known ea ha, scan-yes (P .slots) b available eb hb, scan-yes units c even ec h) q
 
-          module _ (p : ℕ) (ep : p ≡ firstFail (P .people) sets) where
-            pub refusal-set : (k : ℕ) → k ≡ firstFail (P .slots) (setSlotAt o (D .sets) p) → p < P .people → f ≡ ten 4 p k
-                → f ≡ refusalOf row
-            unfolding recountTests refusalOf
-            refusal-set k ek h q =
-                simp (
-                  scan-yes (P .slots) a known ea ha,
-                  scan-yes (P .slots) b available eb hb,
-                  scan-yes units c even ec hc,
-                  scan-no (P .people) p sets ep h,
-                )
-                (q ∙ ap₂ (ten 4) ep (ek ∙ ap (λ (q : ℕ). firstFail (P .slots) (setSlotAt o (D .sets) q)) ep))
+-- of sets and minutes
+module _ (P : Plan) (o : List ℕ) (D : Derived) (f : Refusal) where
+  abbrev sets : ℕ → Bool
+  sets = setAt (P .slots) o (D .sets)
 
-            pub refusal-minutes : (m : ℕ) → m ≡ firstFail (P .people) minutes → P .people ≤ p → r ≡ false → f ≡ ten 5 m 0
-                → f ≡ refusalOf row
-            unfolding recountTests refusalOf
-            refusal-minutes m em h g q =
-                let x : all (P .people) sets ≡ true = first-passes (P .people) sets (rw ep at h) in
-                let y : all (P .people) minutes ≡ false = sym (er ∙ ap (λ (t : Bool). t && all (P .people) minutes) x) ∙ g in
-                simp (
-                  scan-yes (P .slots) a known ea ha,
-                  scan-yes (P .slots) b available eb hb,
-                  scan-yes units c even ec hc,
-                  x,
-                  y,
-                )
-                (q ∙ ap (λ (x : ℕ). ten 5 x 0) em)
+  abbrev minutes : ℕ → Bool
+  minutes = minutesOkAt P o (D .minutes)
 
--- a column of zeros
-pub zero-at : (n u : ℕ) → _≡_ {A = ℕ} (getD (replicate n 0) u 0) 0
-zero-at n u =
-    ⊎-elim (λ (h : u < n). getD-replicate n u 0 0 h)
-    (λ (h : n ≤ u). List·getD-eq-default {A = ℕ} (replicate n 0) 0 {n = u} (omega (arith, length-replicate {A = ℕ} n 0)))
-    (lt-or-ge u n)
+  pub refusal-set : (p k : ℕ) → p ≡ firstFail (P .people) sets → k ≡ firstFail (P .slots) (setSlotAt o (D .sets) p)
+      → all (P .people) sets ≡ false → f ≡ ten 4 p k → f ≡ refusalOf (derivedTests P o D)
+  unfolding refusalOf
+  refusal-set p k ep ek h q =
+      simp h (q ∙ ap₂ (ten 4) ep (ek ∙ ap (λ (q : ℕ). firstFail (P .slots) (setSlotAt o (D .sets) q)) ep))
 
--- ---- sets and minutes worked out on copies
+  module _ (h : all (P .people) sets ≡ true) (m : ℕ) (em : m ≡ firstFail (P .people) minutes) where
+    pub refusal-minutes : m < P .people → f ≡ ten 5 m 0 → f ≡ refusalOf (derivedTests P o D)
+    unfolding refusalOf
+    refusal-minutes l q = simp (h, scan-no (P .people) m minutes em l) (q ∙ ap (λ (x : ℕ). ten 5 x 0) em)
 
-module _ (P : Plan) (S : PlanSound P) (o s m : List ℕ) (M : Makes P o (derived s m)) (fit : Fit s) (c d s′ m′ : List ℕ)
-    (n : ℕ) (en : n ≡ 16 * P .people)
-    (ec : c ≡ over (λ j. getD s j 0) n (replicate 512 0)) (ed : d ≡ over (λ j. getD m j 0) (P .people) (replicate 32 0)) where
-  copy-length : length c ≡ 512
-  copy-length = ap length ec ∙ length-over (λ j. getD s j 0) n (replicate 512 0) ∙ length-replicate {A = ℕ} 512 0
+    pub refusal-clean : P .people ≤ m → f ≡ accepted → f ≡ refusalOf (derivedTests P o D)
+    unfolding refusalOf
+    refusal-clean l q = simp (h, scan-yes (P .people) m minutes em l) q
 
-  copy-minutes : length d ≡ 32
-  copy-minutes = ap length ed ∙ length-over (λ j. getD m j 0) (P .people) (replicate 32 0) ∙ length-replicate {A = ℕ} 32 0
+-- ---- sets and minutes worked out beside those that are lent
 
-  pub copy-makes : Makes P o (derived c d)
-  copy-makes =
+abbrev none : Derived
+none = derived (replicate 512 0) (replicate 32 0)
+
+module _ (P : Plan) (S : PlanSound P) (o s m : List ℕ) (M : Makes P o (derived s m)) where
+  pub none-makes : Makes P o none
+  none-makes =
       record {
         owners-room = M .owners-room;
-        sets-room = omega (arith, copy-length, S .people-few);
-        minutes-room = omega (arith, copy-minutes, S .people-few);
+        sets-room = omega (arith, length-replicate {A = ℕ} 512 0, S .people-few);
+        minutes-room = omega (arith, length-replicate {A = ℕ} 32 0, S .people-few);
         known = M .known;
       }
 
-  copy-word : (j : ℕ) → j < 16 * P .people → getD c j 0 ≡ getD s j 0
-  copy-word j h =
-      ap (λ (l : List ℕ). getD l j 0) ec
-      ∙ getD-over (λ i. getD s i 0) n (replicate 512 0) j (omega arith) (omega (arith, S .people-few, length-replicate {A = ℕ} 512 0))
-
-  copy-fit : Fit c
-  copy-fit j =
-      ⊎-elim
-      (λ (h : j < 16 * P .people). rw (copy-word j h) (fit j))
-      (λ (h : 16 * P .people ≤ j).
-      let e : getD c j 0 ≡ 0 = ap (λ (l : List ℕ). getD l j 0) ec ∙ getD-over-out (λ i. getD s i 0) n (replicate 512 0) j (omega
-      arith) ∙ zero-at 512 j in
-      rw e (omega arith))
-      (lt-or-ge j (16 * P .people))
-
-  same-slot : (x y : List ℕ) → ((j : ℕ) → j < 16 * P .people → getD x j 0 ≡ getD y j 0) → (p k : ℕ) → p < P .people → k < P .slots
-      → slot x (16 * p) k ≡ slot y (16 * p) k
-  unfolding slot
-  same-slot x y f p k h g = ap (λ (w : ℕ). bitOf w (k % 64)) (f (16 * p + k / 64) (omega (arith, S .slots-few)))
-
-  module _ (e : derived s′ m′ ≡ afresh P o (derived c d)) where
-    made-sets : s′ ≡ setsFrom (P .people) (P .slots) o c
+  module _ (s′ m′ : List ℕ) (e : derived s′ m′ ≡ afresh P o none) where
+    made-sets : s′ ≡ setsFrom (P .people) (P .slots) o (replicate 512 0)
     unfolding afresh
     made-sets = ap (λ (x : Derived). x .sets) e
 
-    made-minutes : m′ ≡ over (worked P o) (P .people) d
+    made-minutes : m′ ≡ over (worked P o) (P .people) (replicate 32 0)
     unfolding afresh
     made-minutes = ap (λ (x : Derived). x .minutes) e
 
-    pub copy-lengths : (length s′ ≡ 512) × (length m′ ≡ 32)
-    copy-lengths = (
-      ap length made-sets ∙ length-sets (P .people) (P .slots) o c ∙ copy-length,
-      ap length made-minutes ∙ length-over (worked P
-          o) (P .people) d ∙ copy-minutes,
+    pub made-lengths : (length s′ ≡ 512) × (length m′ ≡ 32)
+    made-lengths = (
+      ap length made-sets ∙ length-sets (P .people) (P .slots) o (replicate 512 0) ∙ length-replicate {A = ℕ} 512 0,
+      ap length made-minutes ∙ length-over (worked P o) (P .people) (replicate 32 0) ∙ length-replicate {A = ℕ} 32 0,
     )
 
-    slot-right : (p k : ℕ) → p < P .people → k < P .slots → slot s′ (16 * p) k ≡ held o p k
-    slot-right p k h g =
-        ap (λ (l : List ℕ). slot l (16 * p) k) made-sets ∙ sets-in (P .slots) o c (S .slots-few) (P .people) (copy-makes .sets-room)
-        p k h g
+    set-right : (p : ℕ) → p < P .people → sameSet (P .slots) s s′ p ≡ setAt (P .slots) o s p
+    unfolding setAt setSlotAt sameSlots
+    set-right p h =
+        all-same (P .slots) _ _
+        (λ k g. ap (eqb (slot s (16 * p) k)) (ap (λ (l : List ℕ). slot l (16 * p) k) made-sets
+        ∙ sets-in (P .slots) o (replicate 512 0) (S .slots-few) (P .people) (none-makes .sets-room) p k h g))
 
-    pub right-sets : all n (λ j. eqb (getD s j 0) (getD s′ j 0)) ≡ all (P .people) (setAt (P .slots) o s)
-    unfolding setAt setSlotAt
-    right-sets =
-        same-test _ _
-        (λ t. each-all (P .people) _
-        (λ p h. each-all (P .slots) _
-        (λ k g. eq-eqb _ _
-        (same-slot s s′ (λ j l. eqb-true _ _ (all-each n (λ j. eqb (getD s j 0) (getD s′ j 0)) t j (omega arith))) p k h g
-        ∙ slot-right p k h g))))
-        (λ t.
-        let r : (p k : ℕ) → p < P .people → k < P .slots → slot s (16 * p) k ≡ held o p k = λ p k h g.
-        eqb-true _ _ (all-each (P .slots) (λ i. eqb (slot s (16 * p) i) (held o p i)) (all-each (P .people) (λ q. all (P .slots) (λ
-        i. eqb (slot s (16 * q) i) (held o q i))) t p h) k g) in
-        let same : c ≡ setsFrom (P .people) (P .slots) o c = sets-same (P .people) (P .slots) o c (S .slots-few) (copy-makes
-        .sets-room) copy-fit
-        (λ p k h g. same-slot c s copy-word p k h g ∙ r p k h g) in
-        each-all n _
-        (λ j l. eq-eqb _ _ (sym (ap (λ (x : List ℕ). getD x j 0) (made-sets ∙ sym same) ∙ copy-word j (omega arith)))))
-
-    pub right-minutes : all (P .people) (λ j. eqb (getD m j 0) (getD m′ j 0)) ≡ all (P .people) (minutesOkAt P o m)
+    minute-right : (p : ℕ) → p < P .people → sameEntry m m′ p ≡ minutesOkAt P o m p
     unfolding minutesOkAt
-    right-minutes =
-        all-same (P .people) _ _
-        (λ p h. ap (eqb (getD m p 0)) (ap (λ (x : List ℕ). getD x p 0) made-minutes
-        ∙ getD-over (worked P o) (P .people) d p h (omega (arith, copy-minutes, S .people-few))))
+    minute-right p h =
+        ap (eqb (getD m p 0)) (ap (λ (x : List ℕ). getD x p 0) made-minutes
+        ∙ getD-over (worked P o) (P .people) (replicate 32 0) p h (omega (arith, length-replicate {A = ℕ} 32 0, S .people-few)))
 
--- a conjunction whose first part holds
-pub and-on : (a b r : Bool) → a ≡ true → r ≡ b → r ≡ a && b
-and-on a b r e q = q ∙ ap (λ (x : Bool). x && b) (sym e)
+    -- word by word as slot by slot
+    pub right-sets : sameSets s s′ (P .people) (P .slots) ≡ all (P .people) (setAt (P .slots) o s)
+    unfolding sameSets
+    right-sets = all-same (P .people) _ _ set-right
+
+    pub right-first : firstFail (P .people) (sameSet (P .slots) s s′) ≡ firstFail (P .people) (setAt (P .slots) o s)
+    right-first = first-same (P .people) _ _ set-right
+
+    pub right-minutes : firstFail (P .people) (sameEntry m m′) ≡ firstFail (P .people) (minutesOkAt P o m)
+    right-minutes = first-same (P .people) _ _ minute-right
+
+-- the first people's sets are the same, and one more person's are not
+pub halved-sets : (ws vs : List ℕ) (people slots low high : ℕ) → low < people → high ≡ suc low → sameSets ws vs low slots ≡ true
+    → sameSets ws vs high slots ≡ false → low ≡ firstFail people (sameSet slots ws vs)
+unfolding sameSets
+halved-sets ws vs people slots low high h e a b = scan-halved people low high (sameSet slots ws vs) h e a b
+
+-- nobody's sets are compared as the same; and the answer of a comparison that isn't refused
+pub none-same : (ws vs : List ℕ) (slots : ℕ) → sameSets ws vs 0 slots ≡ true
+unfolding sameSets all
+none-same ws vs slots = refl
+
+pub yes-same : (ws vs : List ℕ) (people slots : ℕ) → 1 ≤ people → people ≤ 32 → slots ≤ 1024 → 16 * people ≤ length ws
+    → 16 * people ≤ length vs → isYes (yesNoAs (numberOf (sameSetsRow ws vs people slots)) (sameSets ws vs people slots))
+    ≡ sameSets ws vs people slots
+unfolding yesNoAs peopleOk
+yes-same ws vs people slots some few short room more =
+    ap isYes (as-worked (numberOf (sameSetsRow ws vs people slots)) (yesNo.Refused (numberOf (sameSetsRow ws vs people slots)))
+    (cond (sameSets ws vs people slots) yesNo.Yes yesNo.No) (says-same ws vs people slots people-right short room more))
+    ∙ by-test (sameSets ws vs people slots) _ (λ t. simp t) (λ f. simp f)
+  where
+    people-right : peopleOk people ≡ true
+    people-right = and-true (leb 1 people) (leb people 32) (le-leb 1 people some) (le-leb people 32 few)
+
+-- a first wrong set is one of few
+pub first-below : (ws vs : List ℕ) (people slots r : ℕ) → people ≤ 32 → r ≡ firstFail people (sameSet slots ws vs)
+    → sameSets ws vs people slots ≡ false → r < 32
+unfolding sameSets
+first-below ws vs people slots r few e n =
+    let l = first-is people (sameSet slots ws vs) .within in
+    by-test (eqb r people) _
+    (λ t. absurd (true≢false (sym (scan-yes people r (sameSet slots ws vs) e (omega (arith, eqb-true r people t))) ∙ n)))
+    (λ f. ⊎-elim (λ (h : r < people). omega (arith, h, few)) (λ (h : people ≤ r). absurd (eqb-false r people f (omega (arith, e, l, h))))
+    (lt-or-ge r people))

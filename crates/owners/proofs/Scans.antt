@@ -20,7 +20,7 @@ use Rattle.units.specs.Units.{unitStart, unitEnd}
 use Rattle.units.specs.Domains.{available}
 use Rattle.owners.specs.Derived.{Plan, portion, held, lengthAt}
 use Rattle.owners.specs.Inside.{PlanSound}
-use Rattle.owners.specs.Recount.{firstFail, availableFor, availableAt, evenAt, setSlotAt, setAt}
+use Rattle.owners.specs.Recount.{firstFail, availableFor, availableAt, evenAt, setSlotAt}
 use Rattle.owners.specs.Inside.{sameBit}
 use Rattle.owners.proofs.Minutes.{worked-part-le}
 
@@ -80,6 +80,22 @@ first-only n p r F =
     let q : r ≡ n = le-antisymm (F .within) l in
     q ∙ sym (fails-none n p (each-all n p (λ k h. F .before k (omega arith)))))
     (lt-or-ge r n)
+
+-- tests that agree below n fail first at one place
+pub first-same : (n : ℕ) (p q : ℕ → Bool) → ((k : ℕ) → k < n → p k ≡ q k) → firstFail n p ≡ firstFail n q
+first-same n p q e =
+    let F = first-is n p in
+    first-only n q (firstFail n p) (record {
+      within = F .within;
+      before = λ k h. sym (e k (omega (arith, F .within))) ∙ F .before k h;
+      fails = λ h. sym (e (firstFail n p) h) ∙ F .fails h;
+    })
+
+-- all below i pass, and not all below the next
+pub scan-halved : (n i j : ℕ) (p : ℕ → Bool) → i < n → j ≡ suc i → all i p ≡ true → all j p ≡ false → i ≡ firstFail n p
+unfolding all
+scan-halved n i j p h e a b =
+    sym (fails-at n i p h a (sym (ap (λ (m : ℕ). all m p) e ∙ ap (λ (x : Bool). x && p i) a) ∙ b))
 
 -- where it is n, every number passes; where it is below, some number fails
 pub first-passes : (n : ℕ) (p : ℕ → Bool) → n ≤ firstFail n p → all n p ≡ true
@@ -161,16 +177,6 @@ unfolding setSlotAt held
 member-test o ws p k w b there ew e q =
     bit-eq (slot ws (16 * p) k) (eqb (getD o k 0) p) (slot-lt ws (16 * p) k)
     ∙ ap₂ (λ (t : Bool) (v : ℕ). sameBit t (eqb v p)) (sym e) (sym ew) ∙ sym q
-
-pub set-passes : (slots : ℕ) (o ws : List ℕ) (p r : ℕ) → r ≡ firstFail slots (setSlotAt o ws p) → r ≡ slots → setAt slots o ws p ≡ true
-unfolding setAt
-set-passes slots o ws p r e q = first-passes slots (setSlotAt o ws p) (omega (arith, e, q))
-
-pub set-fails : (slots : ℕ) (o ws : List ℕ) (p r : ℕ) → r ≡ firstFail slots (setSlotAt o ws p) → (r ≡ slots → ⊥) → setAt slots o ws
-    p ≡ false
-unfolding setAt
-set-fails slots o ws p r e n =
-    by-test (all slots (setSlotAt o ws p)) _ (λ t. absurd (n (e ∙ fails-none slots (setSlotAt o ws p) t))) (λ f. f)
 
 -- a person's minutes, slot by slot
 module _ (P : Plan) (o : List ℕ) (p k t r m : ℕ) (e : t ≡ sum k (λ j. portion (getD o j 0) p (lengthAt P j)))

@@ -6,6 +6,7 @@ use Prim.Native.Nat.{ℕ, _*_}
 use lib.Dec.{ltb, leb}
 use lib.ListN.{length, getD, replicate}
 use Rattle.paper.specs.Limits.{peopleOk, slotCountOk, nobody, Test, test, numberOf}
+use Rattle.paper.specs.declared.Refusal.{Refusal}
 use Rattle.paper.specs.Rows.{unless}
 use Rattle.paper.specs.Count.{all, fill, over}
 use Rattle.slotset.specs.declared.Changed.{Changed}
@@ -37,21 +38,31 @@ recountRow counts room P avail units begins o D =
 unfoldable pub recountSlotsRow : Plan → List ℕ → List ℕ → Derived → List Test
 recountSlotsRow P avail o D = lentRow true true P avail o D ++ recountTests P avail 0 [] o D
 
--- ---- an outcome: the number, and the lent columns at exit
+-- ---- an outcome: the refusal, and the lent columns at exit
 
 pub record Outcome : Type 0 where
-  pub number : ℕ
+  pub refusal : Refusal
   pub owners : List ℕ
   pub derived : Derived
   pub answers : List ℕ
 
+-- a refusal that names no part and no place
+abbrev pub placeless : ℕ → Refusal
+placeless n = record { number = n; part = 0; place = 0; second = 0 }
+
 -- a refusal changes nothing
-unfoldable pub outcome : ℕ → List ℕ → Derived → List ℕ → List ℕ → Derived → List ℕ → Outcome
-outcome n o D x o′ D′ x′ = record { number = n; owners = unless n o o′; derived = unless n D D′; answers = unless n x x′ }
+unfoldable pub outcome : Refusal → List ℕ → Derived → List ℕ → List ℕ → Derived → List ℕ → Outcome
+outcome f o D x o′ D′ x′ =
+    record {
+      refusal = f;
+      owners = unless (f .number) o o′;
+      derived = unless (f .number) D D′;
+      answers = unless (f .number) x x′;
+    }
 
 -- what is answered and what is left are those of the outcome
-pub record Ended (y : Outcome) (n : ℕ) (o : List ℕ) (D : Derived) (x : List ℕ) : Type 0 where
-  pub said : n ≡ y .number
+pub record Ended (y : Outcome) (f : Refusal) (o : List ℕ) (D : Derived) (x : List ℕ) : Type 0 where
+  pub refusal : f ≡ y .refusal
   pub owners : o ≡ y .owners
   pub derived : D ≡ y .derived
   pub answers : x ≡ y .answers
@@ -64,7 +75,7 @@ fromSlotsRow P avail o D =
     ++ (test 11 (all (P .slots) (knownAt (P .people) o)) ∷ test 12 (all (P .slots) (availableAt avail o)) ∷ [])
 
 unfoldable pub fromSlots : Plan → List ℕ → List ℕ → Derived → Outcome
-fromSlots P avail o D = outcome (numberOf (fromSlotsRow P avail o D)) o D [] o (afresh P o D) []
+fromSlots P avail o D = outcome (placeless (numberOf (fromSlotsRow P avail o D))) o D [] o (afresh P o D) []
 
 -- ---- an empty rota: 1, 2
 
@@ -76,7 +87,7 @@ emptyRow people slots o D =
 -- owners nobody, sets and minutes cleared
 unfoldable pub emptied : ℕ → ℕ → List ℕ → Derived → Outcome
 emptied people slots o D =
-    outcome (numberOf (emptyRow people slots o D)) o D [] (fill nobody 0 slots o)
+    outcome (placeless (numberOf (emptyRow people slots o D))) o D [] (fill nobody 0 slots o)
     (derived (setsFrom people slots (nobodies slots) (D .sets)) (over (λ _. 0) people (D .minutes))) []
 
 -- ---- readers: the number of the refusal, or what was asked

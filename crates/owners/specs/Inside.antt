@@ -3,9 +3,13 @@ use mathlib.Core.Path.{_≡_}
 use mathlib.Core.Bool.{Bool, true, false, not}
 use mathlib.Core.List.{List}
 use Prim.Native.Nat.{ℕ, _-_, _*_, _≤_, _<_}
+use lib.Dec.{eqb}
 use lib.ListN.{length, getD}
 use Rattle.paper.specs.Count.{fill}
-use Rattle.slotset.specs.Slots.{slot}
+use Rattle.slotset.specs.declared.YesNo.{YesNo}
+use Rattle.slotset.specs.declared.YesNo.the-variants as yesNo
+use Rattle.slotset.specs.Slots.{slot, sameSlots}
+use Rattle.slotset.specs.Answers.{rowSlots}
 use Rattle.slots.specs.Lent.{SlotsSound}
 use Rattle.owners.specs.Derived.{Plan, Derived, knownBy, held, worked, afresh}
 
@@ -56,3 +60,16 @@ pub record HandedOver (P : Plan) (o : List ℕ) (D : Derived) (a e w : ℕ) (o�
 abbrev pub sameBit : Bool → Bool → Bool
 sameBit a true = a
 sameBit a false = not a
+
+-- an answer is yes
+abbrev pub isYes : YesNo → Bool
+isYes yesNo.Yes = true
+isYes yesNo.No = false
+isYes (yesNo.Refused n) = false
+
+-- person p's set, and entry p of a column, are the same in two that are lent
+abbrev pub sameSet : ℕ → List ℕ → List ℕ → ℕ → Bool
+sameSet slots ws vs p = sameSlots (rowSlots ws p) (rowSlots vs p) slots
+
+abbrev pub sameEntry : List ℕ → List ℕ → ℕ → Bool
+sameEntry l m p = eqb (getD l p 0) (getD m p 0)

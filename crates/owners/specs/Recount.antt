@@ -43,16 +43,21 @@ setAt slots o ws p = all slots (setSlotAt o ws p)
 unfoldable pub minutesOkAt : Plan → List ℕ → List ℕ → ℕ → Bool
 minutesOkAt P o m p = eqb (getD m p 0) (worked P o p)
 
--- 10 by its parts, each with the lowest place at fault: slot, slot, unit, person and that person's slot, person
+-- 10 by its parts, each with the lowest place at fault: of what is derived, a person and that person's slot, and a person
+abbrev pub derivedTests : Plan → List ℕ → Derived → List Test
+derivedTests P o D =
+    let p = firstFail (P .people) (setAt (P .slots) o (D .sets)) in
+    testIn 10 (all (P .people) (setAt (P .slots) o (D .sets))) 4 p (firstFail (P .slots) (setSlotAt o (D .sets) p))
+    ∷ testIn 10 (all (P .people) (minutesOkAt P o (D .minutes))) 5 (firstFail (P .people) (minutesOkAt P o (D .minutes))) 0
+    ∷ []
+
+-- and before that a slot, a slot, a unit
 unfoldable pub recountTests : Plan → List ℕ → ℕ → List ℕ → List ℕ → Derived → List Test
 recountTests P avail units begins o D =
-    let p = firstFail (P .people) (setAt (P .slots) o (D .sets)) in
     testIn 10 (all (P .slots) (knownAt (P .people) o)) 1 (firstFail (P .slots) (knownAt (P .people) o)) 0
     ∷ testIn 10 (all (P .slots) (availableAt avail o)) 2 (firstFail (P .slots) (availableAt avail o)) 0
     ∷ testIn 10 (all units (evenAt (P .slots) units begins o)) 3 (firstFail units (evenAt (P .slots) units begins o)) 0
-    ∷ testIn 10 (all (P .people) (setAt (P .slots) o (D .sets))) 4 p (firstFail (P .slots) (setSlotAt o (D .sets) p))
-    ∷ testIn 10 (all (P .people) (minutesOkAt P o (D .minutes))) 5 (firstFail (P .people) (minutesOkAt P o (D .minutes))) 0
-    ∷ []
+    ∷ derivedTests P o D
 
 -- the recount passes
 unfoldable pub recounts : Plan → List ℕ → ℕ → List ℕ → List ℕ → Derived → Bool

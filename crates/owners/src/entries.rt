@@ -22,7 +22,7 @@ ghost use lib.ListN.{getD};
 ghost use Rattle.paper.specs.Limits.{test};
 ghost use Rattle.paper.specs.Rows.{refusalOf, next};
 ghost use Rattle.owners.specs.Derived.{plan, derived, knownBy};
-ghost use Rattle.owners.specs.Entries.{fromSlotsRow, fromSlots, emptyRow, emptied, Ended, ownerRow, ownerIs, minutesRow, minutesIs};
+ghost use Rattle.owners.specs.Entries.{fromSlotsRow, fromSlots, emptyRow, emptied, placeless, Ended, ownerRow, ownerIs, minutesRow, minutesIs};
 ghost use Rattle.owners.specs.Entries.{unassignedRow, unassignedIs, uncoveredRow, uncoveredIs, slotsOfIs};
 
 // What stands against making sets and minutes from owners: 1, 2, 9, 11 or 12.
@@ -67,7 +67,7 @@ pub fn from_slots(
     minutes: &mut [u64],
 ) -> u8
     ensures { λ r. ⌜ Ended (fromSlots (plan people slots (now (starts .entry)) (now (ends .entry))) (now (avail .entry)) (now
-        (owners .entry)) (derived (now (sets .entry)) (now (minutes .entry)))) r (now (owners .entry)) (derived (now (sets .exit))
+        (owners .entry)) (derived (now (sets .entry)) (now (minutes .entry)))) (placeless r) (now (owners .entry)) (derived (now (sets .exit))
         (now (minutes .exit))) [] ⌝ }
 {
     let n = from_slots_refusal(people, slots, starts, ends, avail, owners, sets, minutes).number;
@@ -103,7 +103,7 @@ pub fn empty(
     sets: &mut [u64],
     minutes: &mut [u64],
 ) -> u8
-    ensures { λ r. ⌜ Ended (emptied people slots (now (owners .entry)) (derived (now (sets .entry)) (now (minutes .entry)))) r (now
+    ensures { λ r. ⌜ Ended (emptied people slots (now (owners .entry)) (derived (now (sets .entry)) (now (minutes .entry)))) (placeless r) (now
         (owners .exit)) (derived (now (sets .exit)) (now (minutes .exit))) [] ⌝ }
 {
     let n = empty_refusal(people, slots, owners, sets, minutes).number;

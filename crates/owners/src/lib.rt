@@ -17,7 +17,6 @@ pub use entries::uncovered_minutes;
 pub use recounting::recount;
 pub use recounting::recount_slots;
 pub use recounting::recounted;
-pub use recounting::recounted_slots;
 pub use scan::available_for;
 pub use scan::first_unavailable;
 pub use scan::first_uneven;

@@ -1,79 +1,61 @@
-// The recount: five scans in the paper's order, each with the place of its first refusal.
+// The recount: which part of a rota is at fault, and its lowest place.
 use crate::checks::lent_refusal;
 use crate::derived::rebuild;
 use crate::scan::first_unavailable;
 use crate::scan::first_uneven;
 use crate::scan::first_unknown;
 use crate::scan::first_wrong_minutes;
-use crate::scan::first_wrong_set;
 use crate::scan::first_wrong_slot;
 use paper::Refusal;
+use slotset::YesNo;
 ghost use mathlib.Core.Path.{_≡_};
-ghost use mathlib.Core.Bool.{true, _&&_};
-ghost use Prim.Native.Nat.{_≤_};
-ghost use lib.Dec.{eqb, leb};
-ghost use lib.ListN.{length, getD};
-ghost use Rattle.paper.specs.Limits.{numberOf};
+ghost use mathlib.Core.Bool.{true, false};
+ghost use Prim.Native.Nat.{_*_, _≤_};
+ghost use lib.Dec.{leb};
+ghost use lib.ListN.{length};
 ghost use Rattle.paper.specs.Rows.{refusalOf};
-ghost use Rattle.paper.specs.Count.{all, over};
+ghost use Rattle.slotset.specs.Answers.{sameSets};
 ghost use Rattle.owners.specs.Derived.{plan, derived};
-ghost use Rattle.owners.specs.Recount.{setAt, minutesOkAt, recountTests};
-ghost use Rattle.owners.specs.Inside.{PlanSound, Makes, RotaRoom};
+ghost use Rattle.owners.specs.Recount.{firstFail, derivedTests, recountTests};
+ghost use Rattle.owners.specs.Inside.{PlanSound, Makes, RotaRoom, isYes, sameSet};
 ghost use Rattle.owners.specs.Entries.{recountRow, recountSlotsRow};
 
-// The first n words of one column into another.
-fn copy_words(to: &mut [u64], from: &[u64], n: usize)
-    requires { ⌜ (n ≤ length (now to)) × (n ≤ length (now from)) ⌝ }
-    ensures { λ _. ⌜ now (to .exit) ≡ over (λ j. getD (now (from .entry)) j 0) n (now (to .entry)) ⌝ }
+// Whether an answer is yes.
+fn is_yes(answer: YesNo) -> bool
+    ensures { λ r. ⌜ r ≡ isYes answer ⌝ }
 {
-    let mut j: usize = 0;
-    while j < n {
-        to[j] = from[j];
-        j += 1;
+    match answer {
+        YesNo::Yes => true,
+        YesNo::No => false,
+        YesNo::Refused(_) => false,
     }
 }
 
-// Whether the first n words of two columns are the same.
-fn same_words(a: &[u64], b: &[u64], n: usize) -> bool
-    requires { ⌜ (n ≤ length (now a)) × (n ≤ length (now b)) ⌝ }
-    ensures { λ r. ⌜ r ≡ all n (λ j. eqb (getD (now (a .entry)) j 0) (getD (now (b .entry)) j 0)) ⌝ }
+// Whether everybody's sets are the right ones.
+fn sets_right(people: usize, slots: usize, sets: &[u64], right: &[u64]) -> bool
+    requires { ⌜ (1 ≤ people) × (people ≤ 32) × (slots ≤ 1024) × (16 * people ≤ length (now sets)) × (16 * people ≤ length (now right)) ⌝ }
+    ensures { λ r. ⌜ r ≡ sameSets (now (sets .entry)) (now (right .entry)) people slots ⌝ }
 {
-    let mut j: usize = 0;
-    while j < n {
-        if a[j] == b[j] {
-            j += 1;
+    is_yes(slotset::row::same_sets(people, slots, sets, right))
+}
+
+// The first person whose set is wrong, where somebody's is: by halves, since the sets of the first people are compared word by word.
+fn first_wrong_set(people: usize, slots: usize, sets: &[u64], right: &[u64]) -> usize
+    requires { ⌜ (1 ≤ people) × (people ≤ 32) × (slots ≤ 1024) × (16 * people ≤ length (now sets)) × (16 * people ≤ length (now right)) ⌝ }
+    requires { ⌜ sameSets (now sets) (now right) people slots ≡ false ⌝ }
+    ensures { λ r. ⌜ r ≡ firstFail people (sameSet slots (now (sets .entry)) (now (right .entry))) ⌝ }
+{
+    let mut low: usize = 0;
+    let mut high = people;
+    while low + 1 < high {
+        let middle = low + (high - low) / 2;
+        if sets_right(middle, slots, sets, right) {
+            low = middle;
         } else {
-            return false;
+            high = middle;
         }
     }
-    true
-}
-
-// Whether sets and minutes are right: they are worked out anew on copies, and compared.
-fn derived_right(
-    people: usize,
-    slots: usize,
-    starts: &[u32],
-    ends: &[u32],
-    owners: &[u8],
-    sets: &[u64],
-    minutes: &[u64],
-) -> bool
-    requires { ⌜ PlanSound (plan people slots (now starts) (now ends)) ⌝ }
-    requires { ⌜ Makes (plan people slots (now starts) (now ends)) (now owners) (derived (now sets) (now minutes)) ⌝ }
-    ensures { λ r. ⌜ r ≡ all people (setAt slots (now (owners .entry)) (now (sets .entry))) && all people (minutesOkAt (plan people
-        slots (now (starts .entry)) (now (ends .entry))) (now (owners .entry)) (now (minutes .entry))) ⌝ }
-{
-    let mut s = [0u64; 512];
-    let mut m = [0u64; 32];
-    let n = paper::SET_WORDS * people;
-    copy_words(&mut s, sets, n);
-    copy_words(&mut m, minutes, people);
-    rebuild(people, slots, starts, ends, owners, &mut s, &mut m);
-    if same_words(sets, &s, n) {
-        return same_words(minutes, &m, people);
-    }
-    false
+    low
 }
 
 // The recount's refusal of a part of what was lent, at a place.
@@ -88,7 +70,45 @@ fn refusal_in(part: u8, place: usize, second: usize) -> Refusal
     }
 }
 
-// The first refusal, part by part in the paper's order: unknown owner 1, not available 2, uneven unit 3, wrong set 4, wrong minutes 5.
+// Of sets and minutes, which are worked out anew beside them: wrong set 4, wrong minutes 5.
+fn derived_refusal(
+    people: usize,
+    slots: usize,
+    starts: &[u32],
+    ends: &[u32],
+    owners: &[u8],
+    sets: &[u64],
+    minutes: &[u64],
+) -> Refusal
+    requires { ⌜ PlanSound (plan people slots (now starts) (now ends)) ⌝ }
+    requires { ⌜ Makes (plan people slots (now starts) (now ends)) (now owners) (derived (now sets) (now minutes)) ⌝ }
+    ensures { λ r. ⌜ r ≡ refusalOf (derivedTests (plan people slots (now (starts .entry)) (now (ends .entry))) (now (owners .entry))
+        (derived (now (sets .entry)) (now (minutes .entry)))) ⌝ }
+{
+    let mut right_sets = [0u64; 512];
+    let mut right_minutes = [0u64; 32];
+    rebuild(
+        people,
+        slots,
+        starts,
+        ends,
+        owners,
+        &mut right_sets,
+        &mut right_minutes,
+    );
+    if sets_right(people, slots, sets, &right_sets) {
+        let late = first_wrong_minutes(people, minutes, &right_minutes);
+        if late < people {
+            return refusal_in(5, late, 0);
+        }
+        return paper::accepted();
+    }
+    let person = first_wrong_set(people, slots, sets, &right_sets);
+    let slot = first_wrong_slot(slots, owners, sets, person);
+    refusal_in(4, person, slot)
+}
+
+// The first refusal, part by part in the paper's order: unknown owner 1, not available 2, uneven unit 3, then what is derived.
 fn recount_refusal(
     people: usize,
     slots: usize,
@@ -118,19 +138,7 @@ fn recount_refusal(
     if uneven < units {
         return refusal_in(3, uneven, 0);
     }
-    if derived_right(people, slots, starts, ends, owners, sets, minutes) {
-        return paper::accepted();
-    }
-    let person = first_wrong_set(people, slots, owners, sets);
-    if person < people {
-        let slot = first_wrong_slot(slots, owners, sets, person);
-        return refusal_in(4, person, slot);
-    }
-    refusal_in(
-        5,
-        first_wrong_minutes(people, slots, starts, ends, owners, minutes),
-        0,
-    )
+    derived_refusal(people, slots, starts, ends, owners, sets, minutes)
 }
 
 // What the recount refuses, with part and place: 1, 2, 9 or 10. `counts` and `room` are the caller's own tests of rules 1 and 2.
@@ -181,8 +189,8 @@ pub fn recounted(
     g
 }
 
-// The same without units, as a single assign asks it.
-pub fn recounted_slots(
+// The recount without units, as a single assign asks it. Number 0 where it passes; refusals 1, 2, 9, 10 with part and place.
+pub fn recount_slots(
     people: usize,
     slots: usize,
     starts: &[u32],
@@ -225,7 +233,7 @@ pub fn recounted_slots(
     f
 }
 
-// The recount with units. 0 where it passes; refusals 1, 2, 9, 10.
+// The recount with units. Number 0 where it passes; refusals 1, 2, 9, 10 with part and place.
 pub fn recount(
     people: usize,
     slots: usize,
@@ -237,8 +245,8 @@ pub fn recount(
     owners: &[u8],
     sets: &[u64],
     minutes: &[u64],
-) -> u8
-    ensures { λ r. ⌜ r ≡ numberOf (recountRow true (leb units (length (now (begins .entry)))) (plan people slots (now (starts .entry))
+) -> Refusal
+    ensures { λ r. ⌜ r ≡ refusalOf (recountRow true (leb units (length (now (begins .entry)))) (plan people slots (now (starts .entry))
         (now (ends .entry))) (now (avail .entry)) units (now (begins .entry)) (now (owners .entry)) (derived (now (sets .entry))
         (now (minutes .entry)))) ⌝ }
 {
@@ -255,22 +263,5 @@ pub fn recount(
         owners,
         sets,
         minutes,
-    ).number
-}
-
-// The recount without units. 0 where it passes; refusals 1, 2, 9, 10.
-pub fn recount_slots(
-    people: usize,
-    slots: usize,
-    starts: &[u32],
-    ends: &[u32],
-    avail: &[u64],
-    owners: &[u8],
-    sets: &[u64],
-    minutes: &[u64],
-) -> u8
-    ensures { λ r. ⌜ r ≡ numberOf (recountSlotsRow (plan people slots (now (starts .entry)) (now (ends .entry))) (now (avail .entry))
-        (now (owners .entry)) (derived (now (sets .entry)) (now (minutes .entry)))) ⌝ }
-{
-    recounted_slots(people, slots, starts, ends, avail, owners, sets, minutes).number
+    )
 }

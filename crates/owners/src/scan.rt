@@ -5,8 +5,8 @@ ghost use Prim.Native.Nat.{_<_, _≤_};
 ghost use lib.Dec.{eqb};
 ghost use lib.ListN.{length, getD};
 ghost use Rattle.owners.specs.Derived.{plan, knownBy, portion, worked, unassigned};
-ghost use Rattle.owners.specs.Recount.{firstFail, availableFor, knownAt, availableAt, evenAt, setSlotAt, setAt, minutesOkAt};
-ghost use Rattle.owners.specs.Inside.{PlanSound, sameBit};
+ghost use Rattle.owners.specs.Recount.{firstFail, availableFor, knownAt, availableAt, evenAt, setSlotAt};
+ghost use Rattle.owners.specs.Inside.{PlanSound, sameBit, sameEntry};
 
 // The owner of slot k; 0 where it isn't lent.
 pub fn owner_at(owners: &[u8], k: usize) -> u8
@@ -136,22 +136,6 @@ pub(crate) fn first_wrong_slot(slots: usize, owners: &[u8], sets: &[u64], person
     slots
 }
 
-// The first person whose set is wrong, or the number of people.
-pub(crate) fn first_wrong_set(people: usize, slots: usize, owners: &[u8], sets: &[u64]) -> usize
-    requires { ⌜ people ≤ 32 ⌝ }
-    ensures { λ r. ⌜ r ≡ firstFail people (setAt slots (now (owners .entry)) (now (sets .entry))) ⌝ }
-{
-    let mut p: usize = 0;
-    while p < people {
-        if first_wrong_slot(slots, owners, sets, p) == slots {
-            p += 1;
-        } else {
-            return p;
-        }
-    }
-    people
-}
-
 // What a slot of n minutes counts for a person.
 fn portion_of(owner: u8, person: usize, n: u32) -> u64
     ensures { λ r. ⌜ r ≡ portion owner person n ⌝ }
@@ -184,23 +168,14 @@ pub(crate) fn worked_by(
     total
 }
 
-// The first person whose minutes are wrong, or the number of people.
-pub(crate) fn first_wrong_minutes(
-    people: usize,
-    slots: usize,
-    starts: &[u32],
-    ends: &[u32],
-    owners: &[u8],
-    minutes: &[u64],
-) -> usize
-    requires { ⌜ PlanSound (plan people slots (now starts) (now ends)) ⌝ }
-    requires { ⌜ (slots ≤ length (now owners)) × (people ≤ length (now minutes)) ⌝ }
-    ensures { λ r. ⌜ r ≡ firstFail people (minutesOkAt (plan people slots (now (starts .entry)) (now (ends .entry))) (now (owners
-        .entry)) (now (minutes .entry))) ⌝ }
+// The first person whose minutes are not the right ones, or the number of people.
+pub(crate) fn first_wrong_minutes(people: usize, minutes: &[u64], right: &[u64]) -> usize
+    requires { ⌜ (people ≤ length (now minutes)) × (people ≤ length (now right)) ⌝ }
+    ensures { λ r. ⌜ r ≡ firstFail people (sameEntry (now (minutes .entry)) (now (right .entry))) ⌝ }
 {
     let mut p: usize = 0;
     while p < people {
-        if minutes[p] == worked_by(people, slots, starts, ends, owners, p) {
+        if minutes[p] == right[p] {
             p += 1;
         } else {
             return p;

@@ -9,7 +9,8 @@ use borrow.Author.Tests.{eqb-true, leb-true}
 use lib.Dec.{eqb, leb}
 use lib.ListN.{length, getD, take, length-map, List·getD-map}
 use Rattle.paper.specs.Limits.{numberOf}
-use Rattle.paper.specs.Rows.{unless}
+use Rattle.paper.specs.Rows.{unless, refusalOf}
+use Rattle.paper.proofs.Rows.{said}
 use Rattle.paper.specs.Count.{onto}
 use Rattle.paper.proofs.Logic.{by-test}
 use Rattle.owners.specs.Derived.{Plan, Derived, afresh}
@@ -76,15 +77,16 @@ module _ (P : Plan) (avail : List ℕ) (units : ℕ) (begins frozen : List ℕ) 
       → play enough ds ≡ play enough es
   unfolding playedList outcome unless
   refused-same enough ds es f =
-      let m = numberOf (playRow P avail units begins frozen n enough o D x) in
+      let row = playRow P avail units begins frozen n enough o D x in
       let B : Board = boardOf (P .people) (P .slots) units avail begins frozen in
       let left : Bool → List Draw → Outcome = λ t l. record {
-        number = m;
+        refusal = refusalOf row;
         owners = cond t (ownersAfter B o l) o;
         derived = cond t (afresh P (ownersAfter B o l) D) D;
         answers = cond t (onto (answers B o l) x) x;
       } in
-      ap (λ (t : Bool). left t ds) f ∙ sym (ap (λ (t : Bool). left t es) f)
+      let g = ap (λ (k : ℕ). eqb k 0) (said row refl) ∙ f in
+      ap (λ (t : Bool). left t ds) g ∙ sym (ap (λ (t : Bool). left t es) g)
 
   pub played-same : (ds : List struct.Draw)
       → playedDraws P avail units begins frozen n ds o D x ≡ played P avail units begins frozen n (draws ds) (firsts ds) (seconds ds) o D x

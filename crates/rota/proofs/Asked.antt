@@ -62,14 +62,14 @@ module _ (P : Plan) (avail o : List ℕ) (D : Derived) where
     pub asks-in-step : Asks → InStep P o D
     asks-in-step A = recount-step P avail 0 [] o D (A .on .room) (A .recount)
 
-    module _ (n : ℕ) (e : n ≡ numberOf (assignRow P avail o D k w)) where
-      pub assigned-refused : (n ≡ 0 → ⊥) → Ended (assigned P avail o D k w) n o D []
+    module _ (f : Refusal) (e : f ≡ refusalOf (assignRow P avail o D k w)) where
+      pub assigned-refused : (f .number ≡ 0 → ⊥) → Ended (assigned P avail o D k w) f o D []
       unfolding assigned
-      assigned-refused z = ended-refused n _ e o D [] _ _ _ z
+      assigned-refused z = ended-refused f _ e o D [] _ _ _ z
 
-      pub assigned-yes : (o′ : List ℕ) (D′ : Derived) → n ≡ 0 → HandedOver P o D k (k + 1) w o′ D′ → Ended (assigned P avail o D k
-          w) 0 o′ D′ []
+      pub assigned-yes : (o′ : List ℕ) (D′ : Derived) → f .number ≡ 0 → HandedOver P o D k (k + 1) w o′ D′
+          → Ended (assigned P avail o D k w) f o′ D′ []
       unfolding assigned
       assigned-yes o′ D′ z O =
           let q : o′ ≡ set o k w = O .owners ∙ fill-more w k k o (omega arith) ∙ ap (λ (l : List ℕ). set l k w) (fill-none w k o) in
-          ended-yes n _ e o D [] _ _ _ z o′ D′ [] q (O .derived ∙ ap (λ (l : List ℕ). afresh P l D) q) refl
+          ended-yes f _ e o D [] _ _ _ z o′ D′ [] q (O .derived ∙ ap (λ (l : List ℕ). afresh P l D) q) refl

@@ -5,6 +5,7 @@ use mathlib.Core.List.{List}
 use Prim.Native.Nat.{ℕ, _≤_}
 use native.Mathlib.Omega.{arith}
 use lib.ListN.{length}
+use Rattle.paper.proofs.Rows.{said}
 use Rattle.units.proofs.Units.{units-room}
 use Rattle.owners.specs.Derived.{Plan, Derived}
 use Rattle.owners.specs.Entries.{Ended}
@@ -22,9 +23,9 @@ module _ (P : Plan) (avail : List ℕ) (units : ℕ) (begins frozen : List ℕ) 
   abbrev B : Board
   B = ready (P .people) (P .slots) units begins (b .fits) (b .flags)
 
-  module _ (z : b .number ≡ 0) where
+  module _ (z : b .refusal .number ≡ 0) where
     pub begun-asks : PlayAsks P avail units begins frozen n enough o D x
-    begun-asks = play-asks P avail units begins frozen n enough o D x (sym (w .number) ∙ z)
+    begun-asks = play-asks P avail units begins frozen n enough o D x (sym (said _ (w .refusal)) ∙ z)
 
     pub begun-board : BoardSound B
     begun-board = ready-sound _ _ _ _ _ _ _ _ _ _ begun-asks (b .fits) (b .flags) (w .fits z) (w .flags z)
@@ -38,10 +39,10 @@ module _ (P : Plan) (avail : List ℕ) (units : ℕ) (begins frozen : List ℕ) 
         (units-room _ _ _ (begun-asks .right .units-ok), omega (arith, few, w .room .0), omega (arith, few, w .room .1))
 
     pub begun-yes : (ds : List Draw) (o′ : List ℕ) (D′ : Derived) (x′ : List ℕ) → Ran P B o D x ds o′ D′ x′
-        → Ended (playedList P avail units begins frozen n enough ds o D x) 0 o′ D′ x′
+        → Ended (playedList P avail units begins frozen n enough ds o D x) (b .refusal) o′ D′ x′
     begun-yes ds o′ D′ x′ R =
-        played-yes _ _ _ _ _ _ _ _ _ _ begun-asks (b .fits) (b .flags) (w .fits z) (w .flags z) ds (b .number) (w .number) z o′ D′ x′ R
+        played-yes _ _ _ _ _ _ _ _ _ _ begun-asks (b .fits) (b .flags) (w .fits z) (w .flags z) ds (b .refusal) (w .refusal) z o′ D′ x′ R
 
-  pub begun-refused : (b .number ≡ 0 → ⊥) → (ds : List Draw) → Ended (playedList P avail units begins frozen n enough ds o D x)
-      (b .number) o D x
-  begun-refused z ds = played-refused P avail units begins frozen n enough o D x ds (b .number) (w .number) z
+  pub begun-refused : (b .refusal .number ≡ 0 → ⊥) → (ds : List Draw) → Ended (playedList P avail units begins frozen n enough ds o D x)
+      (b .refusal) o D x
+  begun-refused z ds = played-refused P avail units begins frozen n enough o D x ds (b .refusal) (w .refusal) z

@@ -34,28 +34,28 @@ module _ (P : Plan) (avail : List ℕ) (units : ℕ) (begins frozen : List ℕ) 
   abbrev first : ℕ → List Draw
   first i = map numbers (take i ds)
 
-  asks : b .number ≡ 0 → PlayAsks P avail units begins frozen n (leb n (length ds)) o D x
+  asks : b .refusal .number ≡ 0 → PlayAsks P avail units begins frozen n (leb n (length ds)) o D x
   asks = begun-asks P avail units begins frozen n (leb n (length ds)) o D x b w
 
-  todo-all : b .number ≡ 0 → b .todo ≡ n
+  todo-all : b .refusal .number ≡ 0 → b .todo ≡ n
   unfolding unless
-  todo-all z = w .todo ∙ ap (λ t. cond t n 0) (eq-eqb (b .number) 0 z)
+  todo-all z = w .todo ∙ ap (λ t. cond t n 0) (eq-eqb (b .refusal .number) 0 z)
 
-  listed : b .number ≡ 0 → n ≤ length ds
+  listed : b .refusal .number ≡ 0 → n ≤ length ds
   listed z = leb-true n (length ds) (asks z .right .draws)
 
   -- a draw is to be played: nothing stands against the play
-  goes : (i : ℕ) → i < b .todo → b .number ≡ 0
+  goes : (i : ℕ) → i < b .todo → b .refusal .number ≡ 0
   unfolding unless
   goes i h =
-      by-test (eqb (b .number) 0) _ (eqb-true (b .number) 0)
+      by-test (eqb (b .refusal .number) 0) _ (eqb-true (b .refusal .number) 0)
       (λ f. let e : b .todo ≡ 0 = w .todo ∙ ap (λ t. cond t n 0) f in absurd (omega (arith, e, h)))
 
   -- while i draws are played
   pub record Playing (i : ℕ) (o′ : List ℕ) (D′ : Derived) (x′ : List ℕ) : Type 0 where
     pub within : i ≤ b .todo
-    pub going : b .number ≡ 0 → Ran P B o D x (first i) o′ D′ x′
-    pub still : (b .number ≡ 0 → ⊥) → (o′ ≡ o) × ((D′ ≡ D) × (x′ ≡ x))
+    pub going : b .refusal .number ≡ 0 → Ran P B o D x (first i) o′ D′ x′
+    pub still : (b .refusal .number ≡ 0 → ⊥) → (o′ ≡ o) × ((D′ ≡ D) × (x′ ≡ x))
 
   pub playing-starts : Playing 0 o D x
   playing-starts =
@@ -67,7 +67,7 @@ module _ (P : Plan) (avail : List ℕ) (units : ℕ) (begins frozen : List ℕ) 
       }
 
   module _ (i : ℕ) (o′ : List ℕ) (D′ : Derived) (x′ : List ℕ) (p : Playing i o′ D′ x′) where
-    played-so-far : b .number ≡ 0 → length (first i) ≡ i
+    played-so-far : b .refusal .number ≡ 0 → length (first i) ≡ i
     played-so-far z =
         length-map (take i ds) numbers ∙ length-take-le i ds (omega (arith, p .within, todo-all z, listed z))
 
@@ -105,16 +105,15 @@ module _ (P : Plan) (avail : List ℕ) (units : ℕ) (begins frozen : List ℕ) 
           still = λ q. absurd (q (goes i h));
         }
 
-    pub playing-ends : i ≡ b .todo → Ended (playedDraws P avail units begins frozen n ds o D x) (b .number) o′ D′ x′
+    pub playing-ends : i ≡ b .todo → Ended (playedDraws P avail units begins frozen n ds o D x) (b .refusal) o′ D′ x′
     playing-ends e =
-        by-test (eqb (b .number) 0) _
+        by-test (eqb (b .refusal .number) 0) _
         (λ t.
-        let z = eqb-true (b .number) 0 t in
-        subst (λ (m : ℕ). Ended (playedDraws P avail units begins frozen n ds o D x) m o′ D′ x′) (sym z)
-        (begun-yes P avail units begins frozen n _ o D x b w z (first n) o′ D′ x′
-        (subst (λ (j : ℕ). Ran P B o D x (first j) o′ D′ x′) (e ∙ todo-all z) (p .going z))))
+        let z = eqb-true (b .refusal .number) 0 t in
+        begun-yes P avail units begins frozen n _ o D x b w z (first n) o′ D′ x′
+        (subst (λ (j : ℕ). Ran P B o D x (first j) o′ D′ x′) (e ∙ todo-all z) (p .going z)))
         (λ f.
-        let z = eqb-false (b .number) 0 f in
+        let z = eqb-false (b .refusal .number) 0 f in
         let q = p .still z in
         let y = begun-refused P avail units begins frozen n _ o D x b w z (first n) in
-        record { said = y .said; owners = q .0 ∙ y .owners; derived = q .1 .0 ∙ y .derived; answers = q .1 .1 ∙ y .answers })
+        record { refusal = y .refusal; owners = q .0 ∙ y .owners; derived = q .1 .0 ∙ y .derived; answers = q .1 .1 ∙ y .answers })

@@ -27,7 +27,7 @@ use Rattle.rota.specs.Lent.{fitsUnit, frozenUnit, boardOf}
 use Rattle.owners.specs.Derived.{Plan, Derived, knownBy, worked, uncovered, afresh}
 use Rattle.owners.specs.Inside.{PlanSound}
 use Rattle.owners.specs.Recount.{availableFor, recountTests, recounts}
-use Rattle.owners.specs.Entries.{Outcome, outcome, lentRow, recountRow, recountSlotsRow, fromSlotsRow, fromSlots}
+use Rattle.owners.specs.Entries.{Outcome, outcome, placeless, lentRow, recountRow, recountSlotsRow, fromSlotsRow, fromSlots}
 use Rattle.rota.specs.Acts.{GivenBy, Acts, ChoiceOutside, ownerThen}
 use Rattle.owners.proofs.Minutes.{known-nobody, known-person, minutes-total}
 use Rattle.rota.proofs.Plays.{play-even, play-frozen, play-covered, play-only, play-length, play-past, owners-append}
@@ -200,7 +200,7 @@ module _ (P : Plan) (avail o : List ℕ) (D : Derived) (e : numberOf (recountSlo
         (h 0, (h 1, (refl, (h 3, (h 4, (h 5, (le-leb _ _ rs, (le-leb _ _ rm, (refl, (h 9, (h 10, (h 11, tt))))))))))))
 
     -- whatever columns are lent, it is accepted and leaves what is worked out afresh
-    made : fromSlots P avail o E ≡ record { number = 0; owners = o; derived = afresh P o E; answers = [] }
+    made : fromSlots P avail o E ≡ record { refusal = placeless 0; owners = o; derived = afresh P o E; answers = [] }
     unfolding fromSlots outcome unless
     made = simp accepted
 
@@ -219,11 +219,11 @@ module _ (P : Plan) (avail o : List ℕ) (D : Derived) (e : numberOf (recountSlo
         }
 
   -- in its own columns, of any length: accepted, and every word and entry of them, past the needed ones too, is as it was
-  pub from-slots-back : Fit (D .sets) → fromSlots P avail o D ≡ record { number = 0; owners = o; derived = D; answers = [] }
+  pub from-slots-back : Fit (D .sets) → fromSlots P avail o D ≡ record { refusal = placeless 0; owners = o; derived = D; answers = [] }
   from-slots-back f =
       let R = on .room in
       made D (R .sets-room) (R .minutes-room)
-      ∙ ap (λ (d : Derived). record { number = 0; owners = o; derived = d; answers = [] })
+      ∙ ap (λ (d : Derived). record { refusal = placeless 0; owners = o; derived = d; answers = [] })
       (sym (afresh-same P o D (on .sound .slots-few) f (recount-step P avail 0 [] o D R right)))
 
 -- ---- a single assign keeps the recount true, units aside

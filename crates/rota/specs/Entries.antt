@@ -4,7 +4,8 @@ use mathlib.Core.List.{List, [], _∷_, _++_}
 use Prim.Native.Nat.{ℕ}
 use lib.Dec.{ltb, leb}
 use lib.ListN.{length, set}
-use Rattle.paper.specs.Limits.{drawsMost, Test, test, numberOf}
+use Rattle.paper.specs.Limits.{drawsMost, Test, test}
+use Rattle.paper.specs.Rows.{refusalOf}
 use Rattle.paper.specs.Count.{onto}
 use Rattle.owners.specs.Derived.{Plan, Derived, knownBy, afresh}
 use Rattle.owners.specs.Recount.{availableFor}
@@ -22,7 +23,7 @@ assignRow P avail o D k w =
 
 unfoldable pub assigned : Plan → List ℕ → List ℕ → Derived → ℕ → ℕ → Outcome
 assigned P avail o D k w =
-    outcome (numberOf (assignRow P avail o D k w)) o D [] (set o k w) (afresh P (set o k w) D) []
+    outcome (refusalOf (assignRow P avail o D k w)) o D [] (set o k w) (afresh P (set o k w) D) []
 
 -- ---- play: 1, 2, 9, 10
 
@@ -39,7 +40,7 @@ playRow P avail units begins frozen n enough o D x =
 unfoldable pub playedList : Plan → List ℕ → ℕ → List ℕ → List ℕ → ℕ → Bool → List Draw → List ℕ → Derived → List ℕ → Outcome
 playedList P avail units begins frozen n enough ds o D x =
     let B = boardOf (P .people) (P .slots) units avail begins frozen in
-    outcome (numberOf (playRow P avail units begins frozen n enough o D x)) o D x
+    outcome (refusalOf (playRow P avail units begins frozen n enough o D x)) o D x
     (ownersAfter B o ds) (afresh P (ownersAfter B o ds) D) (onto (answers B o ds) x)
 
 -- of draws in three columns: each has n entries, and the first n of each are the draws

@@ -48,13 +48,13 @@ fn assign_refusal(
     ensures { λ r. ⌜ r ≡ refusalOf (assignRow (plan people slots (now (starts .entry)) (now (ends .entry))) (now (avail .entry)) (now
         (owners .entry)) (derived (now (sets .entry)) (now (minutes .entry))) slot owner) ⌝ }
 {
-    let f = owners::recounted_slots(people, slots, starts, ends, avail, owners, sets, minutes);
+    let f = owners::recount_slots(people, slots, starts, ends, avail, owners, sets, minutes);
     let f = paper::check(f, slot < slots, 11);
     let f = paper::check(f, owners::known_by(people, owner), 11);
     paper::check(f, owners::available_for(avail, owner, slot), 12)
 }
 
-// Gives a slot to an owner, 255 to clear it. Refusals 1, 2, 9, 10, 11, 12. It asks nothing of units or frozen flags.
+// Gives a slot to an owner, 255 to clear it. Refusals 1, 2, 9, 10 with part and place, 11, 12. It asks nothing of units or frozen flags.
 pub fn assign(
     people: usize,
     slots: usize,
@@ -66,12 +66,12 @@ pub fn assign(
     minutes: &mut [u64],
     slot: usize,
     owner: u8,
-) -> u8
+) -> Refusal
     ensures { λ r. ⌜ Ended (assigned (plan people slots (now (starts .entry)) (now (ends .entry))) (now (avail .entry)) (now (owners
         .entry)) (derived (now (sets .entry)) (now (minutes .entry))) slot owner) r (now (owners .exit)) (derived (now (sets .exit))
         (now (minutes .exit))) [] ⌝ }
 {
-    let n = assign_refusal(
+    let refusal = assign_refusal(
         people,
         slots,
         starts,
@@ -82,8 +82,8 @@ pub fn assign(
         minutes,
         slot,
         owner,
-    ).number;
-    if n == 0 {
+    );
+    if refusal.number == 0 {
         hand_over(
             people,
             slots,
@@ -96,7 +96,7 @@ pub fn assign(
             slot + 1,
             owner,
         );
-        return 0;
+        return refusal;
     }
-    n
+    refusal
 }

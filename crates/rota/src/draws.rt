@@ -1,6 +1,7 @@
 // A play over a lent list of `Draw` structs: begun as a play of columns is, then module `play`'s step on the numbers of each.
 use crate::play::begin;
 use crate::play::step_at;
+use paper::Refusal;
 ghost use Rattle.owners.specs.Derived.{plan, derived};
 ghost use Rattle.owners.specs.Entries.{Ended};
 ghost use Rattle.rota.specs.Draws.{playedDraws};
@@ -24,12 +25,12 @@ pub fn play(
     avail: &[u64],
     begins: &[u16],
     frozen: &[u64],
+    draws: &[Draw],
     owners: &mut [u8],
     sets: &mut [u64],
     minutes: &mut [u64],
-    draws: &[Draw],
     answers: &mut [u8],
-) -> u8
+) -> Refusal
     ensures { λ r. ⌜ Ended (playedDraws (plan people slots (now (starts .entry)) (now (ends .entry))) (now (avail .entry)) units
         (now (begins .entry)) (now (frozen .entry)) count (now (draws .entry)) (now (owners .entry)) (derived (now (sets .entry))
         (now (minutes .entry))) (now (answers .entry))) r (now (owners .exit)) (derived (now (sets .exit)) (now (minutes .exit)))
@@ -77,5 +78,5 @@ pub fn play(
         );
         i = i + 1;
     }
-    b.number
+    b.refusal
 }

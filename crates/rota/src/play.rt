@@ -25,7 +25,7 @@ ghost use Rattle.owners.specs.Entries.{Ended};
 
 // A play that has begun: its refusal, how many draws are to be played, who fits which unit, and which units are frozen.
 pub(crate) struct Begun {
-    pub(crate) number: u8,
+    pub(crate) refusal: Refusal,
     pub(crate) todo: usize,
     pub(crate) fits: [u32; 1024],
     pub(crate) flags: [u8; 1024],
@@ -314,7 +314,7 @@ pub(crate) fn begin(
         .entry)) (now (frozen .entry)) count enough (now (owners .entry)) (derived (now (sets .entry)) (now (minutes .entry))) (now
         (answers .entry)) r ⌝ }
 {
-    let number = play_refusal(
+    let refusal = play_refusal(
         people,
         slots,
         units,
@@ -329,27 +329,28 @@ pub(crate) fn begin(
         minutes,
         answers,
         enough,
-    ).number;
-    if number == 0 {
+    );
+    if refusal.number == 0 {
         let mut fits = [0u32; 1024];
         units::unit_domains(people, slots, units, avail, begins, &mut fits);
         let flags = frozen_of(slots, units, begins, frozen);
         return Begun {
-            number,
+            refusal,
             todo: count,
             fits,
             flags,
         };
     }
     Begun {
-        number,
+        refusal,
         todo: 0,
         fits: [0; 1024],
         flags: [0; 1024],
     }
 }
 
-// Plays a list of draws, given as three columns; one answer byte a draw: 0 acted, 1 no move, 2 choice outside. Refusals 1, 2, 9, 10.
+// Plays a list of draws, given as three columns; one answer byte a draw: 0 acted, 1 no move, 2 choice outside. Refusals 1, 2, 9,
+// 10 with part and place.
 pub fn play(
     people: usize,
     slots: usize,
@@ -367,7 +368,7 @@ pub fn play(
     sets: &mut [u64],
     minutes: &mut [u64],
     answers: &mut [u8],
-) -> u8
+) -> Refusal
     ensures { λ r. ⌜ Ended (played (plan people slots (now (starts .entry)) (now (ends .entry))) (now (avail .entry)) units (now
         (begins .entry)) (now (frozen .entry)) count (now (draws .entry)) (now (firsts .entry)) (now (seconds .entry)) (now (owners
         .entry)) (derived (now (sets .entry)) (now (minutes .entry))) (now (answers .entry))) r (now (owners .exit)) (derived (now
@@ -389,7 +390,8 @@ pub fn play(
         columns_enough(count, draws, firsts, seconds),
         answers,
     );
-    if b.number == 0 {
+    let refusal = b.refusal;
+    if refusal.number == 0 {
         let fits = b.fits;
         let flags = b.flags;
         run(
@@ -410,7 +412,7 @@ pub fn play(
             minutes,
             answers,
         );
-        return 0;
+        return refusal;
     }
-    b.number
+    refusal
 }

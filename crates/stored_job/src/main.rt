@@ -32,9 +32,9 @@ fn unwritten(out: &[u8], from: usize) -> bool {
 }
 
 // Whether the line of a refusal is the text that is due.
-fn same_line(number: u8, due: &[u8]) -> bool {
-    let mut line = [0u8; 6];
-    let answer = job::refusal_line(number, &mut line);
+fn same_line(refusal: Refusal, due: &[u8]) -> bool {
+    let mut line = [0u8; LINE];
+    let answer = job::refusal_line(refusal, &mut line);
     match answer {
         JobAnswer::Length(n) => same_text(&line, n, due),
         JobAnswer::Refused(_) => false,

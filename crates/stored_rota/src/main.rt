@@ -1,5 +1,6 @@
 // Replays stored rotas of the Rust: reads sections of records from standard input, plays and assigns the same, and tells for each section
 // how many answers it compared and how many differ. `oracle/store` writes the records (oracle/src/stored_rotas.rs has their layout).
+use paper::Refusal;
 use stored::Tally;
 use stored::at_most;
 use stored::front_shorts;
@@ -15,9 +16,9 @@ use stored::shorts;
 ghost use Prim.Native.Nat.{_≤_};
 
 // A record: people, slots, units, draws; the slots; where units begin; who can cover which slot; frozen slots; the owners before; the
-// draws; then the Rust's answers, owners, sets and minutes; an assign, and the number that is due; sets and minutes before; how much is
-// lent.
-const RECORD: usize = 326;
+// draws; then the Rust's answers, owners, sets and minutes; an assign, and the refusal that is due, and that of a recount without units;
+// sets and minutes before; how much is lent.
+const RECORD: usize = 340;
 
 const STARTS_AT: usize = 8;
 
@@ -49,24 +50,26 @@ const SLOT_AT: usize = 290;
 
 const OWNER_AT: usize = 292;
 
-const NUMBER_AT: usize = 294;
+const REFUSAL_AT: usize = 294;
 
-const SETS_AT: usize = 296;
+const SLOTS_REFUSAL_AT: usize = 302;
 
-const MINUTES_AT: usize = 304;
+const SETS_AT: usize = 310;
 
-const OWNERS_LONG_AT: usize = 320;
+const MINUTES_AT: usize = 318;
 
-const SETS_LONG_AT: usize = 322;
+const OWNERS_LONG_AT: usize = 334;
 
-const FIRSTS_LONG_AT: usize = 324;
+const SETS_LONG_AT: usize = 336;
+
+const FIRSTS_LONG_AT: usize = 338;
 
 // The owner that is nobody.
 const NOBODY: u8 = 255;
 
-// A rota: its owners, sets and minutes, the number of the last call on it, and the answers of a play.
+// A rota: its owners, sets and minutes, the refusal of the last call on it, and the answers of a play.
 struct Rota {
-    number: u8,
+    refusal: Refusal,
     owners: [u8; 16],
     sets: [u64; 64],
     minutes: [u64; 4],
@@ -165,7 +168,7 @@ fn begin(b: &[u8]) -> Rota {
     let who = owners(b, OWNERS_AT);
     let mut own = [0u64; 64];
     let mut worked = [0u64; 4];
-    let number = owners::from_slots(
+    owners::from_slots(
         half(b, 0),
         half(b, 2),
         &starts,
@@ -176,7 +179,7 @@ fn begin(b: &[u8]) -> Rota {
         &mut worked,
     );
     Rota {
-        number,
+        refusal: paper::accepted(),
         owners: who,
         sets: own,
         minutes: worked,
@@ -190,7 +193,7 @@ fn as_lent(b: &[u8]) -> Rota {
     let own = sets(b, SETS_AT);
     let worked = minutes(b, MINUTES_AT);
     Rota {
-        number: 0,
+        refusal: paper::accepted(),
         owners: who,
         sets: own,
         minutes: worked,
@@ -198,7 +201,7 @@ fn as_lent(b: &[u8]) -> Rota {
     }
 }
 
-// Plays the draws of a record on lent owners, sets and minutes: the number.
+// Plays the draws of a record on lent owners, sets and minutes: the refusal.
 fn play_on(
     b: &[u8],
     flags: u64,
@@ -206,7 +209,7 @@ fn play_on(
     own: &mut [u64],
     worked: &mut [u64],
     said: &mut [u8],
-) -> u8 {
+) -> Refusal {
     let mut frozen = [0u64; 16];
     frozen[0] = flags;
     let starts = times(b, STARTS_AT);
@@ -247,7 +250,7 @@ fn play(b: &[u8], flags: u64, before: Rota) -> Rota {
     let mut said = [0u8; 8];
     let of_who = room(b, OWNERS_LONG_AT, 16);
     let of_own = room(b, SETS_LONG_AT, 64);
-    let number = play_on(
+    let refusal = play_on(
         b,
         flags,
         &mut who[0..of_who],
@@ -256,7 +259,7 @@ fn play(b: &[u8], flags: u64, before: Rota) -> Rota {
         &mut said,
     );
     Rota {
-        number,
+        refusal,
         owners: who,
         sets: own,
         minutes: worked,
@@ -275,7 +278,7 @@ fn assign(b: &[u8], before: Rota) -> Rota {
     let mut who = owners_again(held_by);
     let mut own = sets_again(held);
     let mut worked = minutes_again(done);
-    let number = rota::assignment::assign(
+    let refusal = rota::assignment::assign(
         half(b, 0),
         half(b, 2),
         &starts,
@@ -288,7 +291,7 @@ fn assign(b: &[u8], before: Rota) -> Rota {
         raw(b, OWNER_AT),
     );
     Rota {
-        number,
+        refusal,
         owners: who,
         sets: own,
         minutes: worked,
@@ -301,9 +304,15 @@ fn is_owners(got: &[u8; 16], b: &[u8], at: usize) -> bool {
     same_raws(got, &owners(b, at))
 }
 
-// Whether a call's number is the one that is due.
-fn is_number(got: u8, b: &[u8]) -> bool {
-    got as usize == half(b, NUMBER_AT)
+// Whether a call's refusal is the one that is due at an index: its number, part, place and second number.
+fn is_refusal(got: Refusal, b: &[u8], at: usize) -> bool {
+    let named = got.number as usize == half(b, at) && got.part as usize == half(b, plus(at, 2));
+    named && got.place == half(b, plus(at, 4)) && got.second == half(b, plus(at, 6))
+}
+
+// Whether nothing was refused.
+fn is_accepted(got: Refusal) -> bool {
+    got.number == 0
 }
 
 // Whether the answers of a play are those that are due.
@@ -346,7 +355,7 @@ fn rota_answers(
 // A rota after a play that is accepted: its answers, and the rota that is due.
 fn played_answers(tally: Tally, end: Rota, b: &[u8]) -> Tally {
     let said = end.answers;
-    let t1 = tally.with(end.number == 0 && is_answers(&said, b));
+    let t1 = tally.with(is_accepted(end.refusal) && is_answers(&said, b));
     rota_answers(t1, end, b, OWNERS_DUE_AT, SETS_DUE_AT, MINUTES_DUE_AT)
 }
 
@@ -370,21 +379,22 @@ fn first_answer(end: Rota) -> u8 {
 fn twin_acts(tally: Tally, b: &[u8]) -> Tally {
     let stays = play(b, flags(b), begin(b));
     let who = stays.owners;
-    let t1 = tally.with(stays.number == 0 && first_answer(stays) == 1);
+    let t1 = tally.with(is_accepted(stays.refusal) && first_answer(stays) == 1);
     let t2 = t1.with(is_owners(&who, b, OWNERS_AT));
     let acts = play(b, 0, begin(b));
     let t3 = t2.with(first_answer(acts) == 0);
     played_answers(t3, acts, b)
 }
 
-// A single assign that makes a unit uneven is accepted; the next play is refused with 10, and leaves the rota as the assign left it.
+// A single assign that makes a unit uneven is accepted; the next play is refused with 10.3 and the unit, which is the assigned slot's, and
+// leaves the rota as the assign left it.
 fn uneven_refused(tally: Tally, b: &[u8]) -> Tally {
     let uneven = assign(b, begin(b));
-    let t1 = tally.with(uneven.number == 0);
+    let t1 = tally.with(is_accepted(uneven.refusal));
     let t2 = rota_answers(t1, uneven, b, OWNERS_DUE_AT, SETS_DUE_AT, MINUTES_DUE_AT);
     let next = play(b, flags(b), uneven);
     let who = next.owners;
-    let t3 = t2.with(next.number == 10);
+    let t3 = t2.with(is_refusal(next.refusal, b, REFUSAL_AT));
     t3.with(is_owners(&who, b, OWNERS_DUE_AT))
 }
 
@@ -433,20 +443,70 @@ fn reassign_covers(tally: Tally, b: &[u8]) -> Tally {
     played_answers(t1, end, b)
 }
 
-// A single assign: its number, and the rota after it.
+// A single assign: its refusal, and the rota after it.
 fn assign_answers(tally: Tally, b: &[u8]) -> Tally {
     let end = assign(b, begin(b));
-    let t1 = tally.with(is_number(end.number, b));
+    let t1 = tally.with(is_refusal(end.refusal, b, REFUSAL_AT));
     rota_answers(t1, end, b, OWNERS_DUE_AT, SETS_DUE_AT, MINUTES_DUE_AT)
 }
 
-// A play of a damaged rota: its number, and everything lent as it was.
+// A play of a damaged rota: its refusal, and everything lent as it was.
 fn damaged_refused(tally: Tally, b: &[u8]) -> Tally {
     let end = play(b, flags(b), as_lent(b));
     let said = end.answers;
-    let t1 = tally.with(is_number(end.number, b));
+    let t1 = tally.with(is_refusal(end.refusal, b, REFUSAL_AT));
     let t2 = t1.with(is_untouched(&said));
     rota_answers(t2, end, b, OWNERS_AT, SETS_AT, MINUTES_AT)
+}
+
+// The recount of a rota, with units and without.
+fn recount(b: &[u8], lent: Rota) -> Refusal {
+    let starts = times(b, STARTS_AT);
+    let ends = times(b, ENDS_AT);
+    let able = sets(b, ABLE_AT);
+    let from = begins(b);
+    let who = lent.owners;
+    let own = lent.sets;
+    let worked = lent.minutes;
+    owners::recount(
+        half(b, 0),
+        half(b, 2),
+        half(b, 4),
+        &starts,
+        &ends,
+        &able,
+        &from,
+        &who,
+        &own,
+        &worked,
+    )
+}
+
+fn recount_slots(b: &[u8], lent: Rota) -> Refusal {
+    let starts = times(b, STARTS_AT);
+    let ends = times(b, ENDS_AT);
+    let able = sets(b, ABLE_AT);
+    let who = lent.owners;
+    let own = lent.sets;
+    let worked = lent.minutes;
+    owners::recount_slots(
+        half(b, 0),
+        half(b, 2),
+        &starts,
+        &ends,
+        &able,
+        &who,
+        &own,
+        &worked,
+    )
+}
+
+// A rota that fails the recount: where, with units and without, and by a play.
+fn recount_fails(tally: Tally, b: &[u8]) -> Tally {
+    let t1 = tally.with(is_refusal(recount(b, as_lent(b)), b, REFUSAL_AT));
+    let t2 = t1.with(is_refusal(recount_slots(b, as_lent(b)), b, SLOTS_REFUSAL_AT));
+    let end = play(b, flags(b), as_lent(b));
+    t2.with(is_refusal(end.refusal, b, REFUSAL_AT))
 }
 
 // The answers of a record of a section.
@@ -458,7 +518,8 @@ fn record_answers(section: usize, tally: Tally, b: &[u8]) -> Tally {
         3 => unequal_swap(tally, b),
         4 => reassign_covers(tally, b),
         5 => assign_answers(tally, b),
-        _ => damaged_refused(tally, b),
+        6 => damaged_refused(tally, b),
+        _ => recount_fails(tally, b),
     }
 }
 
@@ -508,4 +569,5 @@ fn main() {
     print(compare(4), b" of reassigns");
     print(compare(5), b" of single assigns");
     print(compare(6), b" of damaged rotas");
+    print(compare(7), b" of failed recounts");
 }

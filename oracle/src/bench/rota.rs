@@ -9,7 +9,7 @@ use on_call::model::Assignment;
 
 use super::inputs::Rota;
 use super::{row, Row, Side};
-use crate::bits::has_bit;
+use crate::bits::{has_bit, put_bit};
 use crate::limits::NOBODY;
 use crate::rotas::{self, LentRota};
 
@@ -99,6 +99,50 @@ pub fn from_slots(rota: Rota) -> Row {
     row(ours, rust)
 }
 
+// ---- assign
+
+/// One slot in the middle to the next person.
+fn lent_assign(rota: &mut LentRota) {
+    let slot = rota.starts.len() / 2;
+    let owner = (rota.owners[slot] + 1) % rota.people as u8;
+    let done = lent::assign(
+        rota.people,
+        rota.starts.len(),
+        &rota.starts,
+        &rota.ends,
+        &rota.avail,
+        &mut rota.owners,
+        &mut rota.sets,
+        &mut rota.minutes,
+        slot,
+        owner,
+    );
+    done.expect("nothing is refused");
+}
+
+/// One slot of a rota that everybody can cover goes to somebody else; the Rust checks nothing.
+pub fn assign(rota: Rota) -> Row {
+    let rota = kept(rota);
+    let ours = Side {
+        fresh: Box::new(|| rota.lent.clone()),
+        run: Box::new(|rota: &mut LentRota| lent_assign(black_box(rota))),
+        seen: Box::new(seen_of_lent),
+    };
+    let rust = Side {
+        fresh: Box::new(|| begun(rota)),
+        run: Box::new(|assignment: &mut Assignment| {
+            let slot = rota.case.owners.len() / 2;
+            let owner = (usize::from(rota.case.owners[slot]) + 1) % rota.lent.people;
+            black_box(assignment).assign(&rota.case.problem, slot, Some(owner));
+        }),
+        seen: Box::new(|assignment: &Assignment| {
+            let answers = rota.lent.answers[..rota.lent.count].to_vec();
+            seen_of_rust(&rota.case.problem, assignment, answers)
+        }),
+    };
+    row(ours, rust)
+}
+
 // ---- recounts
 
 fn lent_recount(rota: &LentRota) -> bool {
@@ -147,6 +191,42 @@ fn judged(rota: &'static Rota, ours: fn(&Rota, &mut LentRota) -> bool, rust: fn(
 /// The recount, as a play asks it first.
 pub fn recount(rota: Rota) -> Row {
     judged(kept(rota), |_, lent| lent_recount(lent), rust_recount)
+}
+
+/// A rota with a fault of a part of the recount at the last place: the last slot, unit or person, or the last slot of the last person's set.
+/// Where an owner is at fault, sets and minutes stay as they were: their parts come later.
+fn with_last_fault(rota: &Rota, part: usize) -> LentRota {
+    let mut lent = rota.lent.clone();
+    let (person, slot) = (lent.people - 1, lent.starts.len() - 1);
+    match part {
+        1 => lent.owners[slot] = lent.people as u8,
+        2 => {
+            let away = (0..lent.people).find(|&person| !has_bit(&lent.avail, person, slot));
+            lent.owners[slot] = away.expect("somebody isn't available") as u8;
+        }
+        3 => lent.owners[slot] = NOBODY,
+        4 => {
+            let is = has_bit(&lent.sets, person, slot);
+            put_bit(&mut lent.sets, person, slot, !is);
+        }
+        _ => lent.minutes[person] += 1,
+    }
+    lent
+}
+
+/// A recount that fails by a part at the last place; in the Rust's place one that passes, of the same rota.
+pub fn failed_recount(rota: Rota, part: usize) -> Row {
+    let rota = kept(rota);
+    let side = |fault: bool| Side {
+        fresh: Box::new(move || {
+            let lent = if fault { with_last_fault(rota, part) } else { rota.lent.clone() };
+            (lent, !fault)
+        }),
+        run: Box::new(|(lent, is_right): &mut (LentRota, bool)| *is_right = lent_recount(black_box(lent))),
+        // whether the verdict is the one that is due
+        seen: Box::new(move |(_, is_right): &(LentRota, bool)| *is_right != fault),
+    };
+    row(side(true), side(false))
 }
 
 /// Who can cover each unit, as the Rust works it out when a problem is built.
@@ -203,10 +283,10 @@ fn lent_play_structs(rota: &Rota, lent: &mut LentRota, draws: usize) -> bool {
         &lent.avail,
         &lent.unit_starts,
         &lent.frozen,
+        &rota.structs,
         &mut lent.owners,
         &mut lent.sets,
         &mut lent.minutes,
-        &rota.structs,
         &mut lent.answers,
     );
     answer.is_ok()

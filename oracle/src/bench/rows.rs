@@ -5,7 +5,7 @@ use super::job::job;
 use super::merge::merge;
 use super::prepare::{prepare, prepare_all};
 use super::refused::{refused, Lent};
-use super::rota::{from_slots, no_draws, play, recount, structs};
+use super::rota::{assign, failed_recount, from_slots, no_draws, play, recount, structs};
 use super::set::{count, next_set, run_bounds};
 use super::spread::largest_remainder;
 use super::Row;
@@ -45,11 +45,7 @@ pub const ROWS: &[Named] = &[
     ("play, 256 slots", |seed| play(typical(seed, 256, 0, 1))),
     ("play, 1,024 slots", |seed| play(typical(seed, SLOTS_MOST, 0, 1))),
     ("play, 128 locked units of 8 slots", |seed| play(typical(seed, SLOTS_MOST, 1, 8))),
-    ("play, partial availability", |seed| {
-        let mut seed = Seed::new(seed);
-        let case = partly_able(&mut seed, SLOTS_MOST);
-        play(Rota::typical(&mut seed, &case))
-    }),
+    ("play, partial availability", |seed| play(partly(seed))),
     ("play, one run of 1,024 slots", |seed| {
         let mut seed = Seed::new(seed);
         let case = all_able(&mut seed, SLOTS_MOST, 0, 1);
@@ -61,8 +57,24 @@ pub const ROWS: &[Named] = &[
     ("recount, 64 slots", |seed| recount(typical(seed, 64, 0, 1))),
     ("recount, 256 slots", |seed| recount(typical(seed, 256, 0, 1))),
     ("recount, 1,024 slots", |seed| recount(typical(seed, SLOTS_MOST, 0, 1))),
+    ("recount failed by an unknown owner, beside one that passes", |seed| {
+        failed_recount(partly(seed), 1)
+    }),
+    ("recount failed by an owner not available, beside one that passes", |seed| {
+        failed_recount(partly(seed), 2)
+    }),
+    ("recount failed by an uneven unit, beside one that passes", |seed| {
+        failed_recount(typical(seed, SLOTS_MOST, 1, 8), 3)
+    }),
+    ("recount failed by a wrong set, beside one that passes", |seed| {
+        failed_recount(partly(seed), 4)
+    }),
+    ("recount failed by wrong minutes, beside one that passes", |seed| {
+        failed_recount(partly(seed), 5)
+    }),
     ("play, no draws, 1,024 slots", |seed| no_draws(typical(seed, SLOTS_MOST, 0, 1))),
     ("from_slots, 1,024 slots", |seed| from_slots(typical(seed, SLOTS_MOST, 0, 1))),
+    ("assign, 1,024 slots", |seed| assign(typical(seed, SLOTS_MOST, 0, 1))),
     ("next_set, sparse", |_| next_set(sparse())),
     ("next_set, full", |_| next_set(full())),
     ("run_bounds, sparse", |_| run_bounds(sparse())),
@@ -83,6 +95,13 @@ pub const ROWS: &[Named] = &[
 fn typical(seed: u64, slots: usize, lock: u8, every: u16) -> Rota {
     let mut seed = Seed::new(seed);
     let case = all_able(&mut seed, slots, lock, every);
+    Rota::typical(&mut seed, &case)
+}
+
+/// A rota of the longest list of slots, for which not everybody is available.
+fn partly(seed: u64) -> Rota {
+    let mut seed = Seed::new(seed);
+    let case = partly_able(&mut seed, SLOTS_MOST);
     Rota::typical(&mut seed, &case)
 }
 

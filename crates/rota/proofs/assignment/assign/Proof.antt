@@ -11,9 +11,8 @@ use Rattle.rota.proofs.assignment.assign.Tie as tie
 
 add-hand-over : tie.Need-add-hand-over
 add-hand-over c =
-    let at-args = c .before .before .before .before .before .before .before .before .before .before .before .before .before
-    .before .args in
-    let at-assign-refused = c .before .before .before .before .assign-refusal in
+    let at-args = c .before .before .before .before .before .before .before .before .before .before .before .before .before .before .before .args in
+    let at-assign-refused = c .before .before .before .before .before .assign-refusal in
     let at-if1 = c .before .before .before .if1 in
     let A = assign-asks (plan (at-args .people) (at-args .slots) (at-args .starts .now) (at-args .ends .now)) (at-args .avail
     .now) (at-args .owners .now) (derived (at-args .sets .now) (at-args .minutes .now)) (at-args .slot) (at-args .owner)
@@ -22,9 +21,8 @@ add-hand-over c =
 
 hand-over-requires : tie.Need-hand-over-requires
 hand-over-requires c κs =
-    let at-args = c .before .before .before .before .before .before .before .before .before .before .before .before .before
-    .before .args in
-    let at-assign-refused = c .before .before .before .before .assign-refusal in
+    let at-args = c .before .before .before .before .before .before .before .before .before .before .before .before .before .before .before .args in
+    let at-assign-refused = c .before .before .before .before .before .assign-refusal in
     let at-if1 = c .before .before .before .if1 in
     let A = assign-asks (plan (at-args .people) (at-args .slots) (at-args .starts .now) (at-args .ends .now)) (at-args .avail
     .now) (at-args .owners .now) (derived (at-args .sets .now) (at-args .minutes .now)) (at-args .slot) (at-args .owner)
@@ -54,22 +52,21 @@ same-length-3 c = over-lengths _ _ _ _ _ _ _ _ (c .before .before .before .befor
 
 returns : tie.Need-returns
 returns c =
-    let at-args = c .before .before .before .before .before .before .before .before .before .before .before .before .before
-    .before .before .before .before .before .before .before .before .args in
-    let at-assign-refused = c .before .before .before .before .before .before .before .before .before .before .before .assign-refusal in
+    let at-args = c .before .before .before .before .before .before .before .before .before .before .before .before .before .before .before .before .before .before .before .before .before .before .args in
+    let at-assign-refused = c .before .before .before .before .before .before .before .before .before .before .before .before .assign-refusal in
     let at-if1 = c .before .before .before .before .before .before .before .before .before .before .if1 in
     let at-hand-over = c .before .before .before .before .before .before .hand-over in
     assigned-yes (plan (at-args .people) (at-args .slots) (at-args .starts .now) (at-args .ends .now)) (at-args .avail .now)
     (at-args .owners .now) (derived (at-args .sets .now) (at-args .minutes .now)) (at-args .slot) (at-args .owner) _
-    (said _ (at-assign-refused .ensures)) _ _ (at-if1 .taken) (at-hand-over .ensures)
+    (at-assign-refused .ensures) _ _ (at-if1 .taken) (at-hand-over .ensures)
 
 returns-2 : tie.Need-returns-2
 returns-2 c =
-    let at-args = c .before .before .before .before .before .before .before .before .before .before .before .args in
-    let at-assign-refused = c .before .assign-refusal in
+    let at-args = c .before .before .before .before .before .before .before .before .before .before .before .before .args in
+    let at-assign-refused = c .before .before .assign-refusal in
     assigned-refused (plan (at-args .people) (at-args .slots) (at-args .starts .now) (at-args .ends .now)) (at-args .avail .now)
     (at-args .owners .now) (derived (at-args .sets .now) (at-args .minutes .now)) (at-args .slot) (at-args .owner) _
-    (said _ (at-assign-refused .ensures)) (c .if1 .left)
+    (at-assign-refused .ensures) (c .if1 .left)
 
 pub assign-spec : {M : Type 1} → statement M
 assign-spec =

@@ -8,7 +8,7 @@ use Rattle.rota.proofs.assignment.assign_refusal.Tie as tie
 returns : tie.Need-returns
 returns c =
     let b = c .before .before .before .before in
-    assign-number _ _ _ _ _ _ (b .before .recounted-slots .ensures)
+    assign-number _ _ _ _ _ _ (b .before .recount-slots .ensures)
     (link (b .check .ensures)
     (link (renamed _ _ (c .before .before .check2 .ensures) (c .before .before .before .known-by .ensures))
     (link (renamed _ _ (c .check3 .ensures) (c .before .available-for .ensures)) ends)))

@@ -60,6 +60,9 @@ use Rattle.walks.proofs.Loans.{SaidLast, OwnTokens, lent-out, lends-all, shows-
 use Rattle.walks.proofs.Locals.{Homes, envAt, localsAs, enters, leaves-each, copies}
 use Rattle.walks.proofs.Parts.{tokens-out, tokens-in, owns-out, owns-in, Copies, owns-twice}
 use Rattle.walks.proofs.Slices.{lends}
+use Rattle.paper.specs.declared.Refusal.{Refusal}
+use Rattle.paper.proofs.Refusal as R
+use Rattle.paper.proofs.Refusal.Laws as R′
 use Rattle.owners.specs.Derived.{Plan, plan, derived}
 use Rattle.owners.specs.Entries.{Ended}
 use Rattle.rota.specs.Ready.{ready}
@@ -150,17 +153,17 @@ module _ {M : Type 1} (𝓤 : URA M) (H : Heap 𝓤) (A : Atoms 𝓤) (W : Given
   abbrev frozen : RefT (List ℕ)
   frozen = a .1 .1 .1 .1 .1 .1 .1 .1 .0
 
+  abbrev draws : RefT (List struct.Draw)
+  draws = a .1 .1 .1 .1 .1 .1 .1 .1 .1 .0
+
   abbrev owners : RefT (List ℕ)
-  owners = a .1 .1 .1 .1 .1 .1 .1 .1 .1 .0
+  owners = a .1 .1 .1 .1 .1 .1 .1 .1 .1 .1 .0
 
   abbrev sets : RefT (List ℕ)
-  sets = a .1 .1 .1 .1 .1 .1 .1 .1 .1 .1 .0
+  sets = a .1 .1 .1 .1 .1 .1 .1 .1 .1 .1 .1 .0
 
   abbrev minutes : RefT (List ℕ)
-  minutes = a .1 .1 .1 .1 .1 .1 .1 .1 .1 .1 .1 .0
-
-  abbrev draws : RefT (List struct.Draw)
-  draws = a .1 .1 .1 .1 .1 .1 .1 .1 .1 .1 .1 .1 .0
+  minutes = a .1 .1 .1 .1 .1 .1 .1 .1 .1 .1 .1 .1 .0
 
   abbrev answers : RefT (List ℕ)
   answers = a .1 .1 .1 .1 .1 .1 .1 .1 .1 .1 .1 .1 .1 .0
@@ -205,17 +208,17 @@ module _ {M : Type 1} (𝓤 : URA M) (H : Heap 𝓤) (A : Atoms 𝓤) (W : Given
 
   -- the list of draws
   abbrev OwnDraws : Fml
-  OwnDraws = ShrSlice (named 8) (κs .1 .1 .1 .1 .1 .1 .1 .1 .0) T.the-row .own draws (slice-vals draws)
+  OwnDraws = ShrSlice (named 5) (κs .1 .1 .1 .1 .1 .0) T.the-row .own draws (slice-vals draws)
 
   abbrev DrawsToken : Fml
-  DrawsToken = flft (κs .1 .1 .1 .1 .1 .1 .1 .1 .0) (qs .1 .1 .1 .1 .1 .1 .1 .1 .0)
+  DrawsToken = flft (κs .1 .1 .1 .1 .1 .0) (qs .1 .1 .1 .1 .1 .0)
 
   -- the four slices that are written
   abbrev ss : List Slice
   ss =
-      record { R = u8; κ = (κs .1 .1 .1 .1 .1 .0); q = (qs .1 .1 .1 .1 .1 .0); x = owners }
-      ∷ record { R = u64; κ = (κs .1 .1 .1 .1 .1 .1 .0); q = (qs .1 .1 .1 .1 .1 .1 .0); x = sets }
-      ∷ record { R = u64; κ = (κs .1 .1 .1 .1 .1 .1 .1 .0); q = (qs .1 .1 .1 .1 .1 .1 .1 .0); x = minutes }
+      record { R = u8; κ = (κs .1 .1 .1 .1 .1 .1 .0); q = (qs .1 .1 .1 .1 .1 .1 .0); x = owners }
+      ∷ record { R = u64; κ = (κs .1 .1 .1 .1 .1 .1 .1 .0); q = (qs .1 .1 .1 .1 .1 .1 .1 .0); x = sets }
+      ∷ record { R = u64; κ = (κs .1 .1 .1 .1 .1 .1 .1 .1 .0); q = (qs .1 .1 .1 .1 .1 .1 .1 .1 .0); x = minutes }
       ∷ record { R = u8; κ = (κs .1 .1 .1 .1 .1 .1 .1 .1 .1 .0); q = (qs .1 .1 .1 .1 .1 .1 .1 .1 .1 .0); x = answers } ∷ []
 
   abbrev ls₀ : Lists ss
@@ -226,9 +229,9 @@ module _ {M : Type 1} (𝓤 : URA M) (H : Heap 𝓤) (A : Atoms 𝓤) (W : Given
 
   rooms : Rooms ss
   rooms =
-      are .1 .1 .1 .1 .1 .1 .1 .1 .1 .0 .0 .1
-      & are .1 .1 .1 .1 .1 .1 .1 .1 .1 .1 .0 .0 .1
+      are .1 .1 .1 .1 .1 .1 .1 .1 .1 .1 .0 .0 .1
       & are .1 .1 .1 .1 .1 .1 .1 .1 .1 .1 .1 .0 .0 .1
+      & are .1 .1 .1 .1 .1 .1 .1 .1 .1 .1 .1 .1 .0 .0 .1
       & are .1 .1 .1 .1 .1 .1 .1 .1 .1 .1 .1 .1 .1 .0 .0 .1 & tt
 
   -- the loans of a call: their lifetimes, and the slices as they are lent
@@ -316,34 +319,35 @@ module _ {M : Type 1} (𝓤 : URA M) (H : Heap 𝓤) (A : Atoms 𝓤) (W : Given
       (sep 𝓤 (sep 𝓤 (sem 𝓤 H A DrawsToken) (sem 𝓤 H A OwnDraws)) (sep 𝓤 Five (HasAll 𝓤 H A ss ls₀)))
   opens =
       qed W (raw (toks 𝓤 A 10 κs qs) ∷ ‵ (owns Rs a vss) ∷ []) ∵ tokens-out ! 10 κs qs $ move ! (10 ∷ []) $ owns-out ! Rs a vss $
-      move ! (22 ∷ 12 ∷ []) $ join ! $ frame ! $
+      move ! (19 ∷ 9 ∷ []) $ join ! $ frame ! $
       move ! (13 ∷ 14 ∷ 15 ∷ 16 ∷ 17 ∷ []) $ tokens-in ! 5 k5 q5 _ refl $ move ! (5 ∷ 6 ∷ 7 ∷ 8 ∷ 9 ∷ []) $
       owns-in ! Rs5 a5 v5 _ refl $ move ! (1 ∷ 0 ∷ []) $ join ! $ frame ! $
       keep ! (4 ∷ 8 ∷ 5 ∷ 9 ∷ 6 ∷ 10 ∷ 7 ∷ 11 ∷ []) $ join ! $ frame ! $ join ! $ frame ! $ join ! $ frame ! $ join ! $
       nothing ! $ move ! (1 ∷ 0 ∷ []) $ done !
 
   -- the end
-  finish : (r : ℕ) (ls : Lists ss) → AsLong ss ls → r < 2 ^ 8
+  finish : (r : Refusal) (ls : Lists ss) → AsLong ss ls → Is R.the-row r (LL.val R.the-type R′.the-laws r ∷ [])
       → Ended (playedDraws P (avail .now) units (begins .now) (frozen .now) count (draws .now) (owners .now)
       (derived (sets .now) (minutes .now)) (answers .now)) r (ls .0) (derived (ls .1 .0) (ls .1 .1 .0)) (ls .1 .1 .1 .0)
-      → ent 𝓤 (sep 𝓤 (sem 𝓤 H A DrawsToken) (sep 𝓤 (toks 𝓤 A 5 k5 q5) (HasAll 𝓤 H A ss ls))) (Entry 𝓤 H A mem run .post y (vint w8 r))
-  finish r ls long fits said =
+      → ent 𝓤 (sep 𝓤 (sem 𝓤 H A DrawsToken) (sep 𝓤 (toks 𝓤 A 5 k5 q5) (HasAll 𝓤 H A ss ls)))
+      (Entry 𝓤 H A mem run .post y (LL.val R.the-type R′.the-laws r))
+  finish r ls long is said =
       qed W (‵ DrawsToken ∷ raw (toks 𝓤 A 5 k5 q5) ∷ raw (HasAll 𝓤 H A ss ls) ∷ []) ∵ updating ! $
       move ! (2 ∷ []) $ use1 W (later (raw (OwnTokens 𝓤 H A ss) ⊛ ‵ (SaidLast ss ls))) (ends-all 𝓤 H A W ss ls long) $ await ! tt $
       split ! $
       move ! (3 ∷ []) $ tokens-out ! 5 k5 q5 $ move ! (5 ∷ []) $
-      tokens-out ! 4 ((κs .1 .1 .1 .1 .1 .0) & (κs .1 .1 .1 .1 .1 .1 .0) & (κs .1 .1 .1 .1 .1 .1 .1 .0) &
+      tokens-out ! 4 ((κs .1 .1 .1 .1 .1 .1 .0) & (κs .1 .1 .1 .1 .1 .1 .1 .0) & (κs .1 .1 .1 .1 .1 .1 .1 .1 .0) &
       (κs .1 .1 .1 .1 .1 .1 .1 .1 .1 .0) & tt)
-      ((qs .1 .1 .1 .1 .1 .0) & (qs .1 .1 .1 .1 .1 .1 .0) & (qs .1 .1 .1 .1 .1 .1 .1 .0) & (qs .1 .1 .1 .1 .1 .1 .1 .1 .1 .0) & tt) $
-      move ! (4 ∷ 5 ∷ 6 ∷ 7 ∷ 8 ∷ 0 ∷ 1 ∷ 2 ∷ 10 ∷ 3 ∷ []) $ tokens-in ! 10 κs qs _ refl $
+      ((qs .1 .1 .1 .1 .1 .1 .0) & (qs .1 .1 .1 .1 .1 .1 .1 .0) & (qs .1 .1 .1 .1 .1 .1 .1 .1 .0) & (qs .1 .1 .1 .1 .1 .1 .1 .1 .1 .0) & tt) $
+      move ! (4 ∷ 5 ∷ 6 ∷ 7 ∷ 8 ∷ 10 ∷ 0 ∷ 1 ∷ 2 ∷ 3 ∷ []) $ tokens-in ! 10 κs qs _ refl $
       -- [the tokens; what is said of the four]
       move ! (1 ∷ []) $ fsplit ! $ move ! (1 ∷ []) $ fsplit ! $ move ! (1 ∷ []) $ fsplit ! $ move ! (1 ∷ []) $
-      nothing ! $ fjoin ! $ move ! (1 ∷ 0 ∷ []) $ fjoin ! $ move ! (1 ∷ 0 ∷ []) $ fjoin ! $ move ! (1 ∷ 0 ∷ []) $ fjoin ! $
+      move ! (1 ∷ 0 ∷ []) $ fjoin ! $ move ! (1 ∷ 0 ∷ []) $ fjoin ! $ move ! (1 ∷ 0 ∷ []) $ fjoin ! $ nothing ! $ fjoin ! $
       nothing ! $ fjoin ! $ nothing ! $ fjoin ! $ nothing ! $ fjoin ! $ nothing ! $ fjoin ! $ nothing ! $ fjoin ! $ nothing ! $ fjoin ! $
       nothing ! $ fjoin ! $ nothing ! $ fjoin ! $ nothing ! $ fjoin ! $
-      keep ! (1 ∷ 0 ∷ []) $ owned ! u8 (Is u8) (uint-makes 𝓤 H A W w8) r _ (refl, fits) $
-      by ! (ends-with 𝓤 H A W entry.ended (entry.clauses 𝓤 H A mem run) y (vint w8 r) r
-      (tt & tt & tt & tt & tt & tt & tt & tt & tt & ls .0 & ls .1 .0 & ls .1 .1 .0 & tt & ls .1 .1 .1 .0 & tt) _ (id⊢ 𝓤 _) said)
+      keep ! (1 ∷ 0 ∷ []) $ owned ! R.the-row (Is R.the-row) (LL.makes R.the-type R′.the-plain 𝓤 H A) r _ is $
+      by ! (ends-with 𝓤 H A W entry.ended (entry.clauses 𝓤 H A mem run) y (LL.val R.the-type R′.the-laws r) r
+      (tt & tt & tt & tt & tt & tt & tt & tt & tt & tt & ls .0 & ls .1 .0 & ls .1 .1 .0 & ls .1 .1 .1 .0 & tt) _ (id⊢ 𝓤 _) said)
 
   -- ---- a play that has begun, its masks and flags in arrays at p₁ and p₂
   module _ (b : Begun) (is-b : Is S.the-row b (LL.val S.the-type S′.the-laws b ∷ []))
@@ -355,8 +359,11 @@ module _ {M : Type 1} (𝓤 : URA M) (H : Heap 𝓤) (A : Atoms 𝓤) (W : Given
     abbrev flags-val : Val
     flags-val = S′.the-laws .1 .1 .1 .0 .val (S.the-type .to b .1 .1 .1 .0)
 
-    number-fits : b .number < 2 ^ 8
-    number-fits = LL.owed S.the-type S′.the-laws b _ is-b .0 .1
+    abbrev refusal-val : Val
+    refusal-val = LL.val R.the-type R′.the-laws (b .refusal)
+
+    is-refusal : Is R.the-row (b .refusal) (refusal-val ∷ [])
+    is-refusal = LL.owed S.the-type S′.the-laws b _ is-b .0
 
     todo-fits : b .todo < 2 ^ 64
     todo-fits = LL.owed S.the-type S′.the-laws b _ is-b .1 .0 .1
@@ -561,8 +568,8 @@ module _ {M : Type 1} (𝓤 : URA M) (H : Heap 𝓤) (A : Atoms 𝓤) (W : Given
       holds r fits flags i test =
           r ∷ filled (vint w64 people) ∷ filled (vint w64 slots) ∷ filled (vint w64 units) ∷ filled (vint w64 count) ∷
           filled (only (slice-vals starts)) ∷ filled (only (slice-vals ends)) ∷ filled (only (slice-vals avail)) ∷
-          filled (only (slice-vals begins)) ∷ filled (only (slice-vals frozen)) ∷ filled (only (slice-vals owners)) ∷
-          filled (only (slice-vals sets)) ∷ filled (only (slice-vals minutes)) ∷ filled (only (slice-vals draws)) ∷
+          filled (only (slice-vals begins)) ∷ filled (only (slice-vals frozen)) ∷ filled (only (slice-vals draws)) ∷
+          filled (only (slice-vals owners)) ∷ filled (only (slice-vals sets)) ∷ filled (only (slice-vals minutes)) ∷
           filled (only (slice-vals answers)) ∷ filled (LL.val S.the-type S′.the-laws b) ∷ fits ∷ flags ∷
           filled (vint w64 (b .todo)) ∷ i ∷ none ∷ filled (vptr (owners .ptr .0) (owners .ptr .1)) ∷
           filled (only (slice-vals owners)) ∷ filled (vptr (sets .ptr .0) (sets .ptr .1)) ∷
@@ -595,7 +602,7 @@ module _ {M : Type 1} (𝓤 : URA M) (H : Heap 𝓤) (A : Atoms 𝓤) (W : Given
             (le-ltb (t .i) (b .todo) (omega (arith, is-n))) refl $
             leaves-loop ! (load ! (from ! (stop !)) (look ! 62 refl)) $ exec ! C Λ En body.t-17 (atRet En Post) $
             assigns ! (of-opd ! (load ! (from ! (fld ! refl (stop !))) (look-in ! 30 (sub ! 0 refl (whole !))))) (from ! (stop !))
-            (init ! 0 refl (tt, record { fits = number-fits })) $
+            (init ! 0 refl (LL.lawful R.the-type R′.the-laws 𝓤 H A W .typed (b .refusal) _ is-refusal .0)) $
             move ! (99 ∷ 96 ∷ []) $
             use2 W (raw (toks 𝓤 A 5 k5 q5) ⊛ (‵ (flft (g₁ .0 ∷ []) fullShare) ⊛ ‵ (flft (g₂ .0 ∷ []) fullShare)))
             (out-of-loop p₁ p₂ g₁ g₂) $ split ! $ move ! (1 ∷ []) $ split ! $
@@ -605,10 +612,10 @@ module _ {M : Type 1} (𝓤 : URA M) (H : Heap 𝓤) (A : Atoms 𝓤) (W : Given
             move ! (0 ∷ 36 ∷ []) $ use2 W (later (InLocal 𝓤 H A W u8 1024 p₂ (b .flags) flags-val))
             (array-back 𝓤 H A W u8 1024 p₂ (b .flags) (uint-vals w8) (uint-tells w8) flags-val is-flags g₂) $ await ! tt $ place-at ! 35 $
             sink ! 1 $ returns ! (look ! 0 refl) $
-            leaves-each ! (holds (filled (vint w8 (b .number))) (filled fits-val) (filled flags-val) (filled (vint w64 (t .i)))
+            leaves-each ! (holds (filled refusal-val) (filled fits-val) (filled flags-val) (filled (vint w64 (t .i)))
             (filled (vbool false))) _ tt refl $
             -- [the list's token; what it owns; the four; the five tokens]
-            keep ! (0 ∷ 3 ∷ 2 ∷ []) $ by ! (finish (b .number) (t .ls) (t .long) number-fits
+            keep ! (0 ∷ 3 ∷ 2 ∷ []) $ by ! (finish (b .refusal) (t .ls) (t .long) is-refusal
             (playing-ends P (avail .now) units (begins .now) (frozen .now) count (owners .now) (derived (sets .now) (minutes .now))
             (answers .now)
             (draws .now) b w (t .i) _ _ _ (t .plays) is-n))
@@ -624,12 +631,12 @@ module _ {M : Type 1} (𝓤 : URA M) (H : Heap 𝓤) (A : Atoms 𝓤) (W : Given
             -- `draws[i]`, by a copy of the slice
             assigns ! (bin ! (load ! (from ! (stop !)) (look ! 38 refl)) (lit ! tt) (record { fits = small-i })) (from ! (stop !))
             (init ! 64 refl (tt, record { fits = small-i })) $
-            assigns ! (bin ! (load ! (from ! (fld ! refl (stop !))) (look-in ! 26 (sub ! 0 refl (whole !)))) (load ! (from ! (stop !))
+            assigns ! (bin ! (load ! (from ! (fld ! refl (stop !))) (look-in ! 20 (sub ! 0 refl (whole !)))) (load ! (from ! (stop !))
             (look ! 64 refl)) tt) (from ! (stop !)) (init ! 66 refl (tt, tt)) $
             rewrite ! 66 (λ (p : ℕ). ‵ (fat fullShare tyPtr (spotOf 𝓤 H En 33 .1) 0 (vptr (draws .ptr .0) p)))
             (sym (place-is 6 (draws .ptr .1) (t .i))) refl $
             move ! (98 ∷ []) $ use1 W (‵ OwnDraws ⊛ ‵ OwnDraws)
-            (shr-slice-copy 𝓤 H A W (named 8) (κs .1 .1 .1 .1 .1 .1 .1 .1 .0) T.the-row .twice draws (slice-vals draws)) $ split ! $
+            (shr-slice-copy 𝓤 H A W (named 5) (κs .1 .1 .1 .1 .1 .0) T.the-row .twice draws (slice-vals draws)) $ split ! $
             fsplit ! $ drop ! $ fsplit ! $ drop ! $ move ! (0 ∷ 99 ∷ []) $
             looks-slice ! tt T.the-row (Is T.the-row) (shows 𝓤 H A T.the-row) (LL.vals T.the-type T′.the-laws)
             (LL.tells T.the-type T′.the-laws) (LL.copy T.the-type T′.the-copy 𝓤 H A W) (draws .now) (draws .ptr .0) (draws .ptr .1) (λ q′.
@@ -651,9 +658,9 @@ module _ {M : Type 1} (𝓤 : URA M) (H : Heap 𝓤) (A : Atoms 𝓤) (W : Given
             assigns ! (agg ! (and-then ! (load ! (from ! (stop !)) (look ! 76 refl)) (and-then ! (counted ! (record { fits = lit< tt }))
             (no-more !)))) (from ! (stop !))
             (init ! 78 refl (tt, (tt, (record { fits = lit< tt }, tt)))) $
-            lends ! 0 10 40 41 refl refl refl tt refl refl refl (tt, typed .1 .1 .1 .1 .1 .1 .1 .1 .1 .0 .1) $
-            lends ! 0 11 42 43 refl refl refl tt refl refl refl (tt, typed .1 .1 .1 .1 .1 .1 .1 .1 .1 .1 .0 .1) $
-            lends ! 0 12 44 45 refl refl refl tt refl refl refl (tt, typed .1 .1 .1 .1 .1 .1 .1 .1 .1 .1 .1 .0 .1) $
+            lends ! 0 11 40 41 refl refl refl tt refl refl refl (tt, typed .1 .1 .1 .1 .1 .1 .1 .1 .1 .1 .0 .1) $
+            lends ! 0 12 42 43 refl refl refl tt refl refl refl (tt, typed .1 .1 .1 .1 .1 .1 .1 .1 .1 .1 .1 .0 .1) $
+            lends ! 0 13 44 45 refl refl refl tt refl refl refl (tt, typed .1 .1 .1 .1 .1 .1 .1 .1 .1 .1 .1 .1 .0 .1) $
             lends ! 0 14 46 47 refl refl refl tt refl refl refl (tt, typed .1 .1 .1 .1 .1 .1 .1 .1 .1 .1 .1 .1 .1 .0 .1) $
             -- `step_at`
             move ! (97 ∷ 98 ∷ []) $
@@ -701,7 +708,7 @@ module _ {M : Type 1} (𝓤 : URA M) (H : Heap 𝓤) (A : Atoms 𝓤) (W : Given
                 (draws .now) b w (t .i) _ _ _ (t .plays) less
 
             small-i : t .i * 6 < 2 ^ 64
-            small-i = small (t .i) (length (draws .now)) within (are .1 .1 .1 .1 .1 .1 .1 .1 .1 .1 .1 .1 .0 .0 .1 .1)
+            small-i = small (t .i) (length (draws .now)) within (are .1 .1 .1 .1 .1 .1 .1 .1 .1 .0 .0 .1 .1)
 
             i-fits : t .i < 2 ^ 64
             i-fits = omega (arith, less, todo-fits)
@@ -732,8 +739,8 @@ module _ {M : Type 1} (𝓤 : URA M) (H : Heap 𝓤) (A : Atoms 𝓤) (W : Given
       begun-values =
           none ∷ filled (vint w64 people) ∷ filled (vint w64 slots) ∷ filled (vint w64 units) ∷ filled (vint w64 count) ∷
           filled (only (slice-vals starts)) ∷ filled (only (slice-vals ends)) ∷ filled (only (slice-vals avail)) ∷
-          filled (only (slice-vals begins)) ∷ filled (only (slice-vals frozen)) ∷ filled (only (slice-vals owners)) ∷
-          filled (only (slice-vals sets)) ∷ filled (only (slice-vals minutes)) ∷ filled (only (slice-vals draws)) ∷
+          filled (only (slice-vals begins)) ∷ filled (only (slice-vals frozen)) ∷ filled (only (slice-vals draws)) ∷
+          filled (only (slice-vals owners)) ∷ filled (only (slice-vals sets)) ∷ filled (only (slice-vals minutes)) ∷
           filled (only (slice-vals answers)) ∷ filled (LL.val S.the-type S′.the-laws b) ∷ none ∷ none ∷ none ∷ none ∷
           none ∷ filled (vptr (owners .ptr .0) (owners .ptr .1)) ∷ filled (only (slice-vals owners)) ∷
           filled (vptr (sets .ptr .0) (sets .ptr .1)) ∷ filled (only (slice-vals sets)) ∷
@@ -785,11 +792,11 @@ module _ {M : Type 1} (𝓤 : URA M) (H : Heap 𝓤) (A : Atoms 𝓤) (W : Given
         use1 W ((‵ DrawsToken ⊛ ‵ OwnDraws) ⊛ (raw Five ⊛ raw (HasAll 𝓤 H A ss ls₀))) opens $ split ! $ split ! $
         move ! (2 ∷ []) $ split ! $ enters ! (𝓣 .C) (𝓣 .Λ) code.function (Entry 𝓤 H A mem run .args y) _ (λ bs. typed) (λ bs.
         -- [the locals; the five; the four; the list's token; what it owns]
-        lends ! 0 10 21 22 refl refl refl tt refl refl refl (tt, typed .1 .1 .1 .1 .1 .1 .1 .1 .1 .0 .1) $
-        lends ! 0 11 23 24 refl refl refl tt refl refl refl (tt, typed .1 .1 .1 .1 .1 .1 .1 .1 .1 .1 .0 .1) $
-        lends ! 0 12 25 26 refl refl refl tt refl refl refl (tt, typed .1 .1 .1 .1 .1 .1 .1 .1 .1 .1 .1 .0 .1) $
-        assigns ! (of-opd ! (load ! (from ! (fld ! refl (stop !))) (look-in ! 26 (sub ! 1 refl (whole !))))) (from ! (stop !))
-        (init ! 54 refl (tt, record { fits = are .1 .1 .1 .1 .1 .1 .1 .1 .1 .1 .1 .1 .0 .0 .1 .0 })) $
+        lends ! 0 11 21 22 refl refl refl tt refl refl refl (tt, typed .1 .1 .1 .1 .1 .1 .1 .1 .1 .1 .0 .1) $
+        lends ! 0 12 23 24 refl refl refl tt refl refl refl (tt, typed .1 .1 .1 .1 .1 .1 .1 .1 .1 .1 .1 .0 .1) $
+        lends ! 0 13 25 26 refl refl refl tt refl refl refl (tt, typed .1 .1 .1 .1 .1 .1 .1 .1 .1 .1 .1 .1 .0 .1) $
+        assigns ! (of-opd ! (load ! (from ! (fld ! refl (stop !))) (look-in ! 20 (sub ! 1 refl (whole !))))) (from ! (stop !))
+        (init ! 54 refl (tt, record { fits = are .1 .1 .1 .1 .1 .1 .1 .1 .1 .0 .0 .1 .0 })) $
         assigns ! (bin ! (load ! (from ! (stop !)) (look ! 8 refl)) (load ! (from ! (stop !)) (look ! 54 refl)) tt) (from ! (stop !))
         (init ! 56 refl (tt, tt)) $
         lends ! 0 14 29 30 refl refl refl tt refl refl refl (tt, typed .1 .1 .1 .1 .1 .1 .1 .1 .1 .1 .1 .1 .1 .0 .1) $

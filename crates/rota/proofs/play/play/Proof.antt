@@ -25,11 +25,11 @@ run-requires c κs =
     let c8 = c .before .before .before .before .before .before .before .before in
     let c16 = c8 .before .before .before .before .before .before .before .before in
     let c24 = c16 .before .before .before .before .before .before .before .before in
-    let a = c24 .before .before .before .before .args in
-    let b = c8 .before .before .begin in
+    let a = c24 .before .before .before .before .before .args in
+    let b = c8 .before .before .before .begin in
     let w = begun-of (a .people) (a .slots) (a .units) (a .count) (a .starts .now) (a .ends .now) (a .avail .now) (a .begins .now)
     (a .frozen .now) (a .owners .now) (a .sets .now) (a .minutes .now) (a .draws .now) (a .firsts .now) (a .seconds .now) (a .answers .now)
-    (b .result) _ (b .ensures) (c8 .before .before .before .before .columns-enough .ensures) in
+    (b .result) _ (b .ensures) (c8 .before .before .before .before .before .columns-enough .ensures) in
     let z = c8 .if1 .taken in
     let A = begun-asks _ _ _ _ _ _ _ _ _ _ _ w z in (
       A .right .on .sound,
@@ -51,22 +51,22 @@ returns c =
     let c16 = c8 .before .before .before .before .before .before .before .before in
     let c24 = c16 .before .before .before .before .before .before .before .before in
     let c32 = c24 .before .before .before .before .before .before .before .before in
-    let a = c32 .before .before .before .before .before .args in
-    let b = c16 .before .before .before .begin in
+    let a = c32 .before .before .before .before .before .before .args in
+    let b = c16 .before .before .before .before .begin in
     let w = begun-of (a .people) (a .slots) (a .units) (a .count) (a .starts .now) (a .ends .now) (a .avail .now) (a .begins .now)
     (a .frozen .now) (a .owners .now) (a .sets .now) (a .minutes .now) (a .draws .now) (a .firsts .now) (a .seconds .now) (a .answers .now)
-    (b .result) _ (b .ensures) (c16 .before .before .before .before .before .columns-enough .ensures) in
+    (b .result) _ (b .ensures) (c16 .before .before .before .before .before .before .columns-enough .ensures) in
     begun-yes _ _ _ _ _ _ _ _ _ _ _ w (c16 .before .if1 .taken) _ _ _ _ (c8 .run .ensures)
 
 returns-2 : tie.Need-returns-2
 returns-2 c =
     let c8 = c .before .before .before .before .before .before .before .before in
     let c16 = c8 .before .before .before .before .before .before .before .before in
-    let a = c16 .before .before .before .before .args in
-    let b = c .before .before .begin in
+    let a = c16 .before .before .before .before .before .args in
+    let b = c .before .before .before .begin in
     let w = begun-of (a .people) (a .slots) (a .units) (a .count) (a .starts .now) (a .ends .now) (a .avail .now) (a .begins .now)
     (a .frozen .now) (a .owners .now) (a .sets .now) (a .minutes .now) (a .draws .now) (a .firsts .now) (a .seconds .now) (a .answers .now)
-    (b .result) _ (b .ensures) (c .before .before .before .before .columns-enough .ensures) in
+    (b .result) _ (b .ensures) (c .before .before .before .before .before .columns-enough .ensures) in
     begun-refused _ _ _ _ _ _ _ _ _ _ _ w (c .if1 .left) _
 
 pub play-spec : {M : Type 1} → statement M
