@@ -344,6 +344,18 @@ uint64_t boltraven_play_draws(size_t people, size_t slots, size_t units, size_t 
                               uint64_t *sets, size_t sets_len, uint64_t *minutes, size_t minutes_len,
                               uint8_t *answers, size_t answers_len);
 
+/* The way back to remembered owners, one byte a slot: for each unit whose owner differs a draw 0 to its remembered owner, ascending, in the three
+   columns, which need room for as many entries as slots. 0, and `told` is how many draws were written: played, each acts, and the remembered
+   owners are back. BOLTRAVEN_NOTHING, and `told` is the first unit that no draw gives back (its owner differs, and nobody owned it or it is
+   frozen). Else the refusal with its place: 1, 2, 9, 10 of the rota; then of the remembered owners 10.3, 11, 12. */
+uint64_t boltraven_way_back(size_t people, size_t slots, size_t units, const uint32_t *starts, size_t starts_len,
+                            const uint32_t *ends, size_t ends_len, const uint64_t *avail, size_t avail_len,
+                            const uint16_t *unit_starts, size_t unit_starts_len, const uint64_t *frozen, size_t frozen_len,
+                            const uint8_t *remembered, size_t remembered_len, const uint8_t *owners, size_t owners_len,
+                            const uint64_t *sets, size_t sets_len, const uint64_t *minutes, size_t minutes_len,
+                            uint16_t *draws, size_t draws_len, uint16_t *firsts, size_t firsts_len,
+                            uint16_t *seconds, size_t seconds_len, uint64_t *told);
+
 /* ---- A whole job. */
 
 /* A job file's listing, at the front of `out`, and its length; `out` needs room for BOLTRAVEN_LISTING_MOST bytes. 0, or the refusal with

@@ -32,9 +32,11 @@ mod stored_jobs;
 mod stored_rotas;
 mod stored_slots;
 mod stored_units;
+mod stored_ways;
 mod table;
 mod targets;
 mod units;
+mod ways;
 
 use std::collections::BTreeSet;
 use std::fs;
@@ -56,7 +58,7 @@ const fn kind(name: &'static str, questions: fn(u64) -> Vec<Question>) -> Kind {
 }
 
 /// Every kind.
-const KINDS: [Kind; 18] = [
+const KINDS: [Kind; 20] = [
     kind("slot-sets", sets::questions),
     kind("slot-sets-damaged", sets::damaged),
     kind("slots", splitting::questions),
@@ -73,6 +75,8 @@ const KINDS: [Kind; 18] = [
     kind("rotas", rota_questions::questions),
     kind("rotas-damaged", rota_questions::damaged),
     kind("recounts", planted::questions),
+    kind("ways-back", ways::questions),
+    kind("ways-back-damaged", ways::damaged),
     kind("jobs", jobs::questions),
     kind("jobs-damaged", jobs::damaged),
 ];
@@ -154,6 +158,7 @@ fn store(kind: &str, n: u64, seed: u64, folder: &Path) -> ExitCode {
         "slots" => Ok(stored_slots::slots(n, seed)),
         "units" => Ok(stored_units::units(n, seed)),
         "rotas" => Ok(stored_rotas::rotas(n, seed)),
+        "ways-back" => Ok(stored_ways::ways(n, seed)),
         "jobs" => stored_jobs::jobs(n, seed),
         _ => Err(format!("no kind {kind}")),
     };

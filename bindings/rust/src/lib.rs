@@ -46,7 +46,7 @@ mod targets;
 mod units;
 mod weekdays;
 
-pub use assignment::{Answer, Assignment};
+pub use assignment::{Answer, Assignment, WayBack};
 pub use availability::Availability;
 pub use draw::Draw;
 pub use job::{run_job, Job, LISTING_MOST};

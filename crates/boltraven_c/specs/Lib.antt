@@ -1,3 +1,4 @@
 -- What the contracts of boltraven_c cite: answers as numbers.
 pub mod Numbers
 pub mod Units
+pub mod Ways

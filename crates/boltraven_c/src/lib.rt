@@ -11,6 +11,7 @@ mod slotset_c;
 mod targets_c;
 mod units_c;
 mod version;
+mod wayback_c;
 
 ghost use mathlib.Core.Path.{_≡_};
 ghost use Prim.Native.Nat.{_+_};
