@@ -4,6 +4,7 @@ use job::JobAnswer;
 use libc::STDERR_FILENO;
 use libc::STDIN_FILENO;
 use libc::STDOUT_FILENO;
+use paper::Refusal;
 ghost use Prim.Native.Nat.{_≤_};
 ghost use lib.ListN.{length};
 ghost use Rattle.io.specs.Counts.{Counts};
@@ -72,9 +73,9 @@ fn read_all(fd: i32, buf: &mut [u8]) -> Input
 }
 
 // The line of a refusal.
-fn print_refusal(number: u8) {
-    let mut line = [0u8; 6];
-    let answer = job::refusal_line(number, &mut line);
+fn print_refusal(refusal: Refusal) {
+    let mut line = [0u8; 64];
+    let answer = job::refusal_line(refusal, &mut line);
     match answer {
         JobAnswer::Length(n) => {
             let m = within(n, &line);
@@ -100,7 +101,7 @@ fn print_listing(fd: i32, what: &[u8]) {
             let m = within(k, &out);
             io::write_all(STDOUT_FILENO, &out[..m]);
         }
-        JobAnswer::Refused(number) => print_refusal(number),
+        JobAnswer::Refused(refusal) => print_refusal(refusal),
     }
 }
 
@@ -124,7 +125,7 @@ fn print_help() {
     io::write_all(STDOUT_FILENO, b"boltraven --help, boltraven --version\n");
     io::write_all(
         STDOUT_FILENO,
-        b"\nA job that is refused gives one line, R and the refusal's number; docs/REFERENCE.md has the numbers.\n",
+        b"\nA job that is refused gives one line, R and the refusal's number, and its place where it has one; docs/REFERENCE.md tells them.\n",
     );
     io::write_all(
         STDOUT_FILENO,

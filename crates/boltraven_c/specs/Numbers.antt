@@ -1,5 +1,6 @@
 -- An answer as one number: what was asked is below 65,536; 65,536 is nothing; 65,536 + n is the refusal n. Assumes nothing.
-use Prim.Native.Nat.{ℕ, _+_}
+use Prim.Native.Nat.{ℕ, _+_, _*_, _%_}
+use Rattle.paper.specs.declared.Refusal.{Refusal}
 use Rattle.slotset.specs.declared.Found.{Found}
 use Rattle.slotset.specs.declared.Found.the-variants as found
 use Rattle.slotset.specs.declared.YesNo.{YesNo}
@@ -18,6 +19,12 @@ use Rattle.slotset.specs.declared.NextMember.the-variants as nextMember
 -- the version 0.3.0: ten thousand times 0, a hundred times 3, and 0
 abbrev pub versionNumber : ℕ
 versionNumber = 300
+
+-- a refusal that may name a place: the number in bits 0 to 7, the part in bits 8 to 15, the place in bits 16 to 31, the second place in
+-- bits 32 to 47; 0 where nothing is refused
+unfoldable pub refusalNumber : Refusal → ℕ
+refusalNumber f =
+    f .number + 256 * f .part + 65536 * (f .place % 65536) + 4294967296 * (f .second % 65536)
 
 -- a slot: its index
 abbrev pub foundNumber : Found → ℕ

@@ -1,7 +1,8 @@
 // The library's answers as numbers: below 65,536 what was asked, 65,536 nothing, 65,536 + n refused by n. Minutes and covered days may be
-// larger: they are written through an address, beside the number of the refusal, or 0.
+// larger: they are written through an address, beside the number of the refusal, or 0. A refusal that may name a place is one number.
 use crate::NOTHING;
 use crate::refused;
+use paper::Refusal;
 use slots::Minutes;
 use slotset::Found;
 use slotset::Number;
@@ -9,7 +10,18 @@ use slotset::YesNo;
 ghost use mathlib.Core.Path.{_≡_};
 ghost use Rattle.slotset.specs.Answers.{numberRefusal};
 ghost use Rattle.slots.specs.Lent.{minutesRefusal};
-ghost use Rattle.boltraven_c.specs.Numbers.{foundNumber, yesNoNumber, plainNumber, numberIs, minutesWritten};
+ghost use Rattle.boltraven_c.specs.Numbers.{refusalNumber, foundNumber, yesNoNumber, plainNumber, numberIs, minutesWritten};
+
+// A refusal, with its part and its places.
+pub(crate) fn refusal_number(refusal: Refusal) -> u64
+    ensures { λ r. ⌜ r ≡ refusalNumber refusal ⌝ }
+{
+    let number = refusal.number as u64;
+    let part = refusal.part as u64;
+    let place = refusal.place as u64;
+    let second = refusal.second as u64;
+    number + 256 * part + 65536 * (place % 65536) + 4294967296 * (second % 65536)
+}
 
 // A slot, or nothing.
 pub(crate) fn found_number(found: Found) -> u64

@@ -1,8 +1,9 @@
 // A play over a lent list of draws, three numbers each, held together as structs.
+use crate::answers::refusal_number;
 use rota::draws::Draw;
 ghost use Rattle.owners.specs.Derived.{plan, derived};
-ghost use Rattle.owners.specs.Entries.{Ended};
 ghost use Rattle.rota.specs.Draws.{playedDraws};
+ghost use Rattle.boltraven_c.specs.Rota.{EndedAs};
 
 // A play of draws: an answer byte each.
 #[no_mangle]
@@ -16,19 +17,19 @@ pub extern "C" fn boltraven_play_draws(
     avail: &[u64],
     unit_starts: &[u16],
     frozen: &[u64],
+    draws: &[Draw],
     owners: &mut [u8],
     sets: &mut [u64],
     minutes: &mut [u64],
-    draws: &[Draw],
     answers: &mut [u8],
-) -> u8
-    ensures { λ r. ⌜ Ended
+) -> u64
+    ensures { λ r. ⌜ EndedAs
         (playedDraws (plan people slots (now (starts .entry)) (now (ends .entry))) (now (avail .entry)) units (now («unit_starts» .entry))
         (now (frozen .entry)) count (now (draws .entry)) (now (owners .entry)) (derived (now (sets .entry)) (now (minutes .entry)))
         (now (answers .entry)))
         r (now (owners .exit)) (derived (now (sets .exit)) (now (minutes .exit))) (now (answers .exit)) ⌝ }
 {
-    rota::draws::play(
+    refusal_number(rota::draws::play(
         people,
         slots,
         units,
@@ -38,10 +39,10 @@ pub extern "C" fn boltraven_play_draws(
         avail,
         unit_starts,
         frozen,
+        draws,
         owners,
         sets,
         minutes,
-        draws,
         answers,
-    )
+    ))
 }

@@ -1,19 +1,20 @@
 // A rota made, emptied, read and recounted.
 use crate::answers::plain_number;
 use crate::answers::put_minutes;
+use crate::answers::refusal_number;
 ghost use mathlib.Core.Path.{_≡_};
 ghost use mathlib.Core.Bool.{true};
 ghost use lib.Dec.{leb};
 ghost use lib.ListN.{length};
-ghost use Rattle.paper.specs.Limits.{numberOf};
+ghost use Rattle.paper.specs.Rows.{refusalOf};
 ghost use Rattle.owners.specs.Derived.{plan, derived};
-ghost use Rattle.owners.specs.Entries.{recountRow, recountSlotsRow, Ended, fromSlots, emptied, ownerIs, minutesIs, unassignedIs};
+ghost use Rattle.owners.specs.Entries.{recountRow, recountSlotsRow, placeless, Ended, fromSlots, emptied, ownerIs, minutesIs, unassignedIs};
 ghost use Rattle.owners.specs.Entries.{uncoveredIs};
 ghost use mathlib.Core.List.{[]};
 ghost use Rattle.slots.specs.Lent.{minutesRefusal};
-ghost use Rattle.boltraven_c.specs.Numbers.{plainNumber, minutesWritten};
+ghost use Rattle.boltraven_c.specs.Numbers.{refusalNumber, plainNumber, minutesWritten};
 
-// 0 where the rota passes the recount, as a play asks it.
+// 0 where the rota passes the recount, as a play asks it; else the refusal with its part and places.
 #[no_mangle]
 pub extern "C" fn boltraven_recount(
     people: usize,
@@ -26,13 +27,13 @@ pub extern "C" fn boltraven_recount(
     owners: &[u8],
     sets: &[u64],
     minutes: &[u64],
-) -> u8
-    ensures { λ r. ⌜ r ≡ numberOf (recountRow true (leb units (length (now («unit_starts» .entry))))
+) -> u64
+    ensures { λ r. ⌜ r ≡ refusalNumber (refusalOf (recountRow true (leb units (length (now («unit_starts» .entry))))
         (plan people slots (now (starts .entry))
         (now (ends .entry))) (now (avail .entry)) units (now («unit_starts» .entry)) (now (owners .entry)) (derived (now (sets .entry))
-        (now (minutes .entry)))) ⌝ }
+        (now (minutes .entry))))) ⌝ }
 {
-    owners::recount(
+    refusal_number(owners::recount(
         people,
         slots,
         units,
@@ -43,7 +44,7 @@ pub extern "C" fn boltraven_recount(
         owners,
         sets,
         minutes,
-    )
+    ))
 }
 
 // The same without units, as a single assign asks it.
@@ -57,11 +58,11 @@ pub extern "C" fn boltraven_recount_slots(
     owners: &[u8],
     sets: &[u64],
     minutes: &[u64],
-) -> u8
-    ensures { λ r. ⌜ r ≡ numberOf (recountSlotsRow (plan people slots (now (starts .entry)) (now (ends .entry))) (now (avail .entry))
-        (now (owners .entry)) (derived (now (sets .entry)) (now (minutes .entry)))) ⌝ }
+) -> u64
+    ensures { λ r. ⌜ r ≡ refusalNumber (refusalOf (recountSlotsRow (plan people slots (now (starts .entry)) (now (ends .entry)))
+        (now (avail .entry)) (now (owners .entry)) (derived (now (sets .entry)) (now (minutes .entry))))) ⌝ }
 {
-    owners::recount_slots(people, slots, starts, ends, avail, owners, sets, minutes)
+    refusal_number(owners::recount_slots(people, slots, starts, ends, avail, owners, sets, minutes))
 }
 
 // Sets and minutes from owners.
@@ -79,7 +80,7 @@ pub extern "C" fn boltraven_from_slots(
     ensures { λ r. ⌜ Ended
         (fromSlots (plan people slots (now (starts .entry)) (now (ends .entry))) (now (avail .entry)) (now (owners .entry))
         (derived (now (sets .entry)) (now (minutes .entry))))
-        r (now (owners .entry)) (derived (now (sets .exit)) (now (minutes .exit))) [] ⌝ }
+        (placeless r) (now (owners .entry)) (derived (now (sets .exit)) (now (minutes .exit))) [] ⌝ }
 {
     owners::from_slots(people, slots, starts, ends, avail, owners, sets, minutes)
 }
@@ -95,7 +96,7 @@ pub extern "C" fn boltraven_empty(
 ) -> u8
     ensures { λ r. ⌜ Ended
         (emptied people slots (now (owners .entry)) (derived (now (sets .entry)) (now (minutes .entry))))
-        r (now (owners .exit)) (derived (now (sets .exit)) (now (minutes .exit))) [] ⌝ }
+        (placeless r) (now (owners .exit)) (derived (now (sets .exit)) (now (minutes .exit))) [] ⌝ }
 {
     owners::empty(people, slots, owners, sets, minutes)
 }

@@ -1,8 +1,9 @@
 // A single assign, and a play of draws in three columns.
+use crate::answers::refusal_number;
 ghost use mathlib.Core.List.{[]};
 ghost use Rattle.owners.specs.Derived.{plan, derived};
-ghost use Rattle.owners.specs.Entries.{Ended};
 ghost use Rattle.rota.specs.Entries.{assigned, played};
+ghost use Rattle.boltraven_c.specs.Rota.{EndedAs};
 
 // A slot assigned to a person, or cleared by 255.
 #[no_mangle]
@@ -17,13 +18,13 @@ pub extern "C" fn boltraven_assign(
     minutes: &mut [u64],
     slot: usize,
     owner: u8,
-) -> u8
-    ensures { λ r. ⌜ Ended
+) -> u64
+    ensures { λ r. ⌜ EndedAs
         (assigned (plan people slots (now (starts .entry)) (now (ends .entry))) (now (avail .entry)) (now (owners .entry))
         (derived (now (sets .entry)) (now (minutes .entry))) slot owner)
         r (now (owners .exit)) (derived (now (sets .exit)) (now (minutes .exit))) [] ⌝ }
 {
-    rota::assignment::assign(
+    refusal_number(rota::assignment::assign(
         people,
         slots,
         starts,
@@ -34,7 +35,7 @@ pub extern "C" fn boltraven_assign(
         minutes,
         slot,
         owner,
-    )
+    ))
 }
 
 // A play of draws: an answer byte each.
@@ -56,14 +57,14 @@ pub extern "C" fn boltraven_play(
     sets: &mut [u64],
     minutes: &mut [u64],
     answers: &mut [u8],
-) -> u8
-    ensures { λ r. ⌜ Ended
+) -> u64
+    ensures { λ r. ⌜ EndedAs
         (played (plan people slots (now (starts .entry)) (now (ends .entry))) (now (avail .entry)) units (now («unit_starts» .entry))
         (now (frozen .entry)) count (now (draws .entry)) (now (firsts .entry)) (now (seconds .entry)) (now (owners .entry))
         (derived (now (sets .entry)) (now (minutes .entry))) (now (answers .entry)))
         r (now (owners .exit)) (derived (now (sets .exit)) (now (minutes .exit))) (now (answers .exit)) ⌝ }
 {
-    rota::play::play(
+    refusal_number(rota::play::play(
         people,
         slots,
         units,
@@ -80,5 +81,5 @@ pub extern "C" fn boltraven_play(
         sets,
         minutes,
         answers,
-    )
+    ))
 }

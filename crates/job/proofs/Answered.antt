@@ -249,7 +249,7 @@ module _ (s : List ℕ) where
   pub prepare-number : Few → (a t u o r : ℕ) → a ≡ numberRefusal (atomsOf s .answer)
       → t ≡ targetsIn s (readyOf s .slots) (readyOf s .starts) (readyOf s .ends) (readyOf s .avail) .number
       → u ≡ numberRefusal (unitsIn s (readyOf s .slots) (readyOf s .starts) (readyOf s .ends) .answer) → o ≡ numberOf ownerTests
-      → r ≡ startedOf s .number
+      → r ≡ startedOf s .refusal .number
       → let figures = unless t t u in
       let rota = unless o o r in
       let rest = unless figures figures rota in unless a a rest ≡ numberOf (prepareRow s)

@@ -1,5 +1,5 @@
 -- What a play that was not refused leaves: owners known and available, their minutes, and U, which add up. Assumes nothing.
-use mathlib.Core.Path.{_≡_, sym, ap, ap₂, _∙_}
+use mathlib.Core.Path.{_≡_, refl, sym, ap, ap₂, _∙_}
 use mathlib.Core.Bool.{Bool, true}
 use mathlib.Core.List.{List}
 use Prim.Native.Nat.{ℕ, _+_, _≤_, _<_}
@@ -8,7 +8,7 @@ use borrow.Author.Tests.{le-leb}
 use lib.Dec.{eqb}
 use lib.ListN.{length, getD, replicate, length-replicate}
 use Rattle.paper.specs.Limits.{nobody, numberOf}
-use Rattle.paper.proofs.Rows.{all-pass}
+use Rattle.paper.proofs.Rows.{all-pass, said}
 use Rattle.paper.specs.Rows.{unless}
 use Rattle.paper.specs.Count.{sum}
 use Rattle.paper.proofs.Count.{each-all}
@@ -31,7 +31,7 @@ use Rattle.job.specs.Stages.{Ready, Draws, planOf, playOf}
 use Rattle.job.proofs.Prepares.{when-none}
 use Rattle.job.proofs.Passing.{lent-room}
 
-module _ (R : Ready) (d : Draws) (o : List ℕ) (D : Derived) (e : playOf R d o D .number ≡ 0) where
+module _ (R : Ready) (d : Draws) (o : List ℕ) (D : Derived) (e : playOf R d o D .refusal .number ≡ 0) where
   abbrev P : Plan
   P = planOf R
 
@@ -40,7 +40,7 @@ module _ (R : Ready) (d : Draws) (o : List ℕ) (D : Derived) (e : playOf R d o 
 
   no : numberOf (rota.playRow P (R .avail) (R .units) (R .begins) (R .frozen) (d .count) enough o D (replicate 1024 0)) ≡ 0
   unfolding playOf rota.playedList state.outcome
-  no = e
+  no = sym (said _ refl) ∙ e
 
   asks : PlayAsks P (R .avail) (R .units) (R .begins) (R .frozen) (d .count) enough o D (replicate 1024 0)
   asks = play-asks P (R .avail) (R .units) (R .begins) (R .frozen) (d .count) enough o D (replicate 1024 0) no
@@ -63,11 +63,11 @@ module _ (R : Ready) (d : Draws) (o : List ℕ) (D : Derived) (e : playOf R d o 
 
   owners-are : playOf R d o D .owners ≡ after
   unfolding playOf rota.playedList state.outcome unless after
-  owners-are = sym (when-none _ after o no)
+  owners-are = sym (when-none _ after o e)
 
   derived-are : playOf R d o D .derived ≡ afresh P after D
   unfolding playOf rota.playedList state.outcome unless after
-  derived-are = sym (when-none _ (afresh P after D) D no)
+  derived-are = sym (when-none _ (afresh P after D) D e)
 
   recounted : recounts P (R .avail) (R .units) (R .begins) (playOf R d o D .owners) (playOf R d o D .derived) ≡ true
   unfolding after

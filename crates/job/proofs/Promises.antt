@@ -12,6 +12,9 @@ use lib.IntN.{pos}
 use lib.ListN.{length, getD, take, drop}
 use lib.Seq.{take-at, drop-at}
 use Rattle.paper.specs.Limits.{nobody, numberOf}
+use Rattle.paper.specs.declared.Refusal.{Refusal}
+use Rattle.paper.specs.Rows.{refusalOf}
+use Rattle.paper.proofs.Rows.{said}
 use Rattle.paper.specs.Count.{sum, all}
 use Rattle.paper.proofs.Logic.{by-test, both, or-right}
 use Rattle.paper.proofs.Count.{all-each, sum-part, sum-same}
@@ -31,11 +34,11 @@ use Rattle.job.specs.Listing.{digits, listingOf, listingMost}
 use Rattle.job.specs.Digits.{readDigits}
 use Rattle.job.specs.File.{JobFile}
 use Rattle.job.specs.Stages.{counted, blockStart, instantOf, drawsOf, baseTotal, readyOf, ownersOf, planOf, startedOf, playedOf}
-use Rattle.job.specs.Stages.{listedOf}
-use Rattle.job.specs.Outcome.{readRow, prepareRow, jobTests, testAt, Lowest, AllPass, Result, refusedAs, listedAs, Ends, jobResult}
+use Rattle.job.specs.Stages.{unevenOf, listedOf}
+use Rattle.job.specs.Outcome.{readRow, prepareRow, jobTests, testAt, Lowest, AllPass, refusalAt, Result, refusedAs, listedAs, Ends, jobResult}
 use Rattle.job.proofs.Tests.{number-none, number-lowest}
 use Rattle.job.proofs.Answered.{numbered, rising, free, sound, demand-is, targets-right, frozen-there}
-use Rattle.job.proofs.Results.{answered-none, answered-some}
+use Rattle.job.proofs.Results.{answered-none, answered-some, job-refusal}
 use Rattle.job.proofs.Digits.{digits-value}
 use Rattle.job.proofs.Layouts.{counts-read, fields-read}
 use Rattle.job.proofs.Rotas as rotas
@@ -57,20 +60,24 @@ one-job y r q x z A B = (A .said ∙ sym (B .said), A .left ∙ sym (B .left))
 -- ---- what is answered
 
 module _ (s x : List ℕ) where
-  -- a refusal is the number of the first test that fails
-  refused-number : (n : ℕ) → jobResult s x .answer ≡ answer.Refused n
-      → (numberOf (jobTests s (length x)) ≡ n) × (0 < n)
+  -- a refusal is that of the first test that fails
+  refused-is : (f : Refusal) → jobResult s x .answer ≡ answer.Refused f
+      → (refusalOf (jobTests s (length x)) ≡ f) × (0 < f .number)
   unfolding listedAs refusedAs
-  refused-number n e =
+  refused-is f e =
       by-test (eqb (numberOf (jobTests s (length x))) 0) _
       (λ t.
       let p = ap (λ (y : Result). y .answer) (answered-none s x (eqb-true _ 0 t)) in
       let z : _≡_ {A = ℕ} 0 1 = cc in
       absurd (omega arith))
-      (λ f.
-      let p = ap (λ (y : Result). y .answer) (answered-some s x (eqb-false _ 0 f)) in
-      let q : numberOf (jobTests s (length x)) ≡ n = cc in
-      (q, pos-of-ne-zero (λ z. eqb-false _ 0 f (q ∙ z))))
+      (λ t.
+      let p = ap (λ (y : Result). y .answer) (answered-some s x (eqb-false _ 0 t)) in
+      let q : refusalOf (jobTests s (length x)) ≡ f = cc in
+      (q, pos-of-ne-zero (λ z. eqb-false _ 0 t (sym (said (jobTests s (length x)) (sym q)) ∙ z))))
+
+  refused-number : (f : Refusal) → jobResult s x .answer ≡ answer.Refused f
+      → (numberOf (jobTests s (length x)) ≡ f .number) × (0 < f .number)
+  refused-number f e = let h = refused-is f e in (sym (said (jobTests s (length x)) (sym (h .0))), h .1)
 
   -- a listing comes only where none does
   listed-none : (n : ℕ) → jobResult s x .answer ≡ answer.Length n → numberOf (jobTests s (length x)) ≡ 0
@@ -83,21 +90,27 @@ module _ (s x : List ℕ) where
       absurd (omega arith))
 
   -- a refusal leaves the lent listing as it was
-  pub refused-keeps : (n : ℕ) (out : List ℕ) → Ends (jobResult s x) (answer.Refused n) out → out ≡ x
+  pub refused-keeps : (f : Refusal) (out : List ℕ) → Ends (jobResult s x) (answer.Refused f) out → out ≡ x
   unfolding refusedAs
-  refused-keeps n out E =
-      let h = refused-number n (sym (E .said)) in
+  refused-keeps f out E =
+      let h = refused-number f (sym (E .said)) in
       E .left ∙ ap (λ (y : Result). y .out) (answered-some s x (λ z. omega (arith, h .0, h .1)))
 
-  -- the lowest number is given, 13 before all: n is given exactly where it is the lowest of the tests that fail
-  pub lowest-number : (n : ℕ) → (jobResult s x .answer ≡ answer.Refused n) ↔ Lowest (jobTests s (length x)) n
+  -- the lowest number is given, 13 before all: a refusal is given exactly where its number is the lowest of the tests that fail, and it
+  -- is the refusal of that number
+  pub lowest-number : (f : Refusal) → (jobResult s x .answer ≡ answer.Refused f)
+      ↔ (Lowest (jobTests s (length x)) (f .number) × (f ≡ refusalAt (f .number) (unevenOf s)))
   unfolding refusedAs
-  lowest-number n =
-      let law = number-lowest 0 (jobTests s (length x)) (rising s (length x)) (numbered s (length x)) n in (
-        λ e. law .0 (refused-number n e),
+  lowest-number f =
+      let ts = jobTests s (length x) in
+      let law = number-lowest 0 ts (rising s (length x)) (numbered s (length x)) (f .number) in (
+        λ e.
+            let h = refused-number f e in
+            (law .0 h, sym (refused-is f e .0) ∙ job-refusal s x ∙ ap (λ (n : ℕ). refusalAt n (unevenOf s)) (h .0)),
         λ L.
-            let h = law .1 L in
-            ap (λ (y : Result). y .answer) (answered-some s x (λ z. omega (arith, h .0, h .1))) ∙ ap answer.Refused (h .0),
+            let h = law .1 (L .0) in
+            let q : refusalOf ts ≡ f = job-refusal s x ∙ ap (λ (n : ℕ). refusalAt n (unevenOf s)) (h .0) ∙ sym (L .1) in
+            ap (λ (y : Result). y .answer) (answered-some s x (λ z. omega (arith, h .0, h .1))) ∙ ap answer.Refused q,
       )
 
   -- and a listing is given exactly where all pass, with its length
@@ -114,10 +127,10 @@ module _ (s x : List ℕ) where
       )
 
   -- 8 and 9 are never given
-  pub eight-nine-never : (n : ℕ) → jobResult s x .answer ≡ answer.Refused n → (n ≡ 8 → ⊥) × (n ≡ 9 → ⊥)
+  pub eight-nine-never : (f : Refusal) → jobResult s x .answer ≡ answer.Refused f → (f .number ≡ 8 → ⊥) × (f .number ≡ 9 → ⊥)
   unfolding jobTests readRow prepareRow all
-  eight-nine-never n e =
-      let L = lowest-number n .0 e in
+  eight-nine-never f e =
+      let L = lowest-number f .0 e .0 in
       let ts = jobTests s (length x) in
       let t = both (not (eqb (testAt ts (L .place) .number) 8)) (not (eqb (testAt ts (L .place) .number) 9))
       (all-each 11 (λ k. not (eqb (testAt ts k .number) 8) && not (eqb (testAt ts k .number) 9)) refl (L .place) (L .within)) in (
@@ -126,14 +139,14 @@ module _ (s x : List ℕ) where
       )
 
   -- 2 is given only where the lent listing is too short
-  pub two-short : jobResult s x .answer ≡ answer.Refused 2 → length x < listingMost
+  pub two-short : (f : Refusal) → jobResult s x .answer ≡ answer.Refused f → f .number ≡ 2 → length x < listingMost
   unfolding jobTests readRow prepareRow all
-  two-short e =
-      let L = lowest-number 2 .0 e in
+  two-short f e two =
+      let L = lowest-number f .0 e .0 in
       let ts = jobTests s (length x) in
       let z = eqb-true (L .place) 2 (or-right (not (eqb (testAt ts (L .place) .number) 2)) (eqb (L .place) 2)
       (all-each 11 (λ k. not (eqb (testAt ts k .number) 2) || eqb k 2) refl (L .place) (L .within))
-      (ap not (eq-eqb _ 2 (L .number)))) in
+      (ap not (eq-eqb _ 2 (L .number ∙ two)))) in
       leb-false listingMost (length x) (sym (ap (λ (k : ℕ). testAt ts k .passes) z) ∙ L .fails)
 
   -- ---- an accepted job
@@ -157,7 +170,7 @@ module _ (s x : List ℕ) where
     pass = accepted-exactly n .0 e .0
 
     -- the play is never refused
-    not-refused : playedOf s .number ≡ 0
+    not-refused : playedOf s .refusal .number ≡ 0
     unfolding playedOf startedOf
     not-refused = rotas.play-refusal (readyOf s) (drawsOf s) (ownersOf s) (sound s (length x) pass) (free s (length x) pass)
 

@@ -13,7 +13,7 @@ use lib.ListN.{length, getD, replicate}
 use Rattle.paper.specs.Limits.{numberOf}
 use Rattle.paper.proofs.Rows.{passed}
 use Rattle.paper.proofs.Logic.{by-test, both, cond-zero, lt-or-ge, people-says, slot-count-says}
-use Rattle.paper.specs.Rows.{unless}
+use Rattle.paper.specs.Rows.{unless, refusalOf}
 use Rattle.slotset.specs.declared.Number.the-variants as number
 use Rattle.slots.specs.Ranges.{Ranges, ranges}
 use Rattle.slots.specs.Atomic as atomic
@@ -40,9 +40,9 @@ use Rattle.slotset.specs.Answers.{numberRefusal}
 use Rattle.job.specs.Stages.{jobCountsOk, instantOf}
 use Rattle.job.specs.Stages.{counted, blockStart, peopleOf, columnOf, rangesOf, capacitiesOf, priorsOf, settingsIn, drawColumns}
 use Rattle.job.specs.Stages.{drawsOf, valueOf, baseOf, atomsOf, availIn, targetsIn, unitsIn, frozenIn, Ready, ready, readyIn, readyOf}
-use Rattle.job.specs.Stages.{placed, narrowed, writtenOf, ownersOf, startOf, startedOf}
-use Rattle.job.specs.Outcome.{readRow, ownersRow, prepareRow}
-use Rattle.job.specs.Inside.{ReadOk, AtomsAs, SlotsAs, UnitsAs, TargetsAs, OwnersAs, StartedAs, PreparedAs}
+use Rattle.job.specs.Stages.{placed, allEven, unevenIn, narrowed, writtenOf, unevenOf, ownersOf, startOf, startedOf}
+use Rattle.job.specs.Outcome.{readRow, prepareRow}
+use Rattle.job.specs.Inside.{ReadOk, AtomsAs, SlotsAs, UnitsAs, TargetsAs, ownersRow, OwnersAs, StartedAs, PreparedAs}
 use Rattle.job.proofs.Files.{count-at, start-at, owners-end}
 use Rattle.job.proofs.Prepares.{few-says}
 use Rattle.job.proofs.Passing.{frozen-length}
@@ -247,15 +247,18 @@ module _ {s c b : List ℕ} (K : ReadOk s c b) where
     started-is = ap₂ (λ (R : Ready) (o : List ℕ). startOf R o) got-ready owners-is
 
     owners-number : O .number ≡ numberOf (ownersRow s (blockStart s 5) (counted s 5) (readyOf s .slots) (readyOf s .people)
-        (readyOf s .units)
-        (readyOf s .begins) (writtenOf s))
+        (allEven (readyOf s .slots) (readyOf s .units) (readyOf s .begins) (writtenOf s)))
     owners-number =
         E .number
-        ∙ ap₂ (λ (i j : ℕ). numberOf (ownersRow s i j (S .count) (getD c 2 0) (U .count) (U .begins)
-        (placed s (getD b 5 0) (S .count) (getD c 5 0)))) (read-start 5) (read-count 5)
-        ∙ ap₂ (λ (R : Ready) (o : List ℕ). numberOf (ownersRow s (blockStart s 5) (counted s 5) (R .slots) (R .people) (R .units)
-        (R .begins) o))
+        ∙ ap₂ (λ (i j : ℕ). numberOf (ownersRow s i j (S .count) (getD c 2 0) (allEven (S .count) (U .count) (U .begins)
+        (placed s (getD b 5 0) (S .count) (getD c 5 0))))) (read-start 5) (read-count 5)
+        ∙ ap₂ (λ (R : Ready) (o : List ℕ). numberOf (ownersRow s (blockStart s 5) (counted s 5) (R .slots) (R .people)
+        (allEven (R .slots) (R .units) (R .begins) o)))
         got-ready written-is
+
+    uneven-is : O .uneven ≡ unevenOf s
+    unfolding unevenOf
+    uneven-is = E .uneven ∙ ap₂ (λ (R : Ready) (o : List ℕ). unevenIn (R .slots) (R .units) (R .begins) o) got-ready written-is
 
     number-is : {figures rota rest no : ℕ} → figures ≡ unless (T .number) (T .number) (U .number) → rota ≡ unless (O .number)
         (O .number) (W .number)
@@ -267,13 +270,14 @@ module _ {s c b : List ℕ} (K : ReadOk s c b) where
         ∙ prepare-number s few (S .number) (T .number) (U .number) (O .number) (W .number) (A .number)
         (B .number ∙ ap (λ (R : Ready). targetsIn s (R .slots) (R .starts) (R .ends) (R .avail) .number) got-ready)
         (units-are .number ∙ ap (λ (R : Ready). numberRefusal (unitsIn s (R .slots) (R .starts) (R .ends) .answer)) got-ready)
-        owners-number (F .number ∙ ap (λ (y : state.Outcome). y .number) started-is)
+        owners-number (F .number ∙ ap (λ (y : state.Outcome). y .refusal .number) started-is)
 
     pub prepared-are : {figures rota rest no : ℕ} → figures ≡ unless (T .number) (T .number) (U .number) → rota ≡ unless (O .number)
         (O .number) (W .number)
         → rest ≡ unless figures figures rota → no ≡ unless (S .number) (S .number) rest
         → PreparedAs s (record {
           number = no;
+          uneven = O .uneven;
           people = getD c 2 0;
           slots = S .count;
           starts = S .starts;
@@ -290,6 +294,7 @@ module _ {s c b : List ℕ} (K : ReadOk s c b) where
     prepared-are f g h i =
         record {
           number = number-is f g h i;
+          uneven = uneven-is;
           ready = got-ready;
           owners = owners-is;
           derived = F .derived ∙ ap (λ (y : state.Outcome). y .derived) started-is;
@@ -303,6 +308,12 @@ module _ {s c b : List ℕ} (K : ReadOk s c b) where
         }
 
 -- ---- the whole file
+
+pub read-refusal : (s c : List ℕ) (ok : Bool) (room : ℕ) → ok ≡ fileOk s → c ≡ jobCounts s
+    → refusalOf (readRow ok (getD c 1 0) (getD c 2 0) (getD c 3 0) (getD c 6 0) room)
+    ≡ refusalOf (readRow (fileOk s) (counted s 1) (peopleOf s) (counted s 3) (counted s 6) room)
+read-refusal s c ok room p q =
+    ap₂ (λ (k : Bool) (d : List ℕ). refusalOf (readRow k (getD d 1 0) (getD d 2 0) (getD d 3 0) (getD d 6 0) room)) p q
 
 pub read-number : (s c : List ℕ) (ok : Bool) (room : ℕ) → ok ≡ fileOk s → c ≡ jobCounts s
     → numberOf (readRow ok (getD c 1 0) (getD c 2 0) (getD c 3 0) (getD c 6 0) room)

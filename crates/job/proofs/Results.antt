@@ -1,5 +1,5 @@
 -- What a job comes to, by what its stages returned. Assumes nothing.
-use mathlib.Core.Path.{_≡_, sym, ap, ap₂, _∙_, subst}
+use mathlib.Core.Path.{_≡_, refl, sym, ap, ap₂, _∙_, subst}
 use mathlib.Core.List.{List}
 use Prim.Native.Nat.{ℕ, _^_, _<_}
 use native.Mathlib.Omega.{arith}
@@ -7,11 +7,14 @@ use lib.Dec.{lit<}
 use lib.IntN.{pos}
 use lib.Signed.{mag}
 use lib.ListN.{length, getD}
-use Rattle.paper.specs.Limits.{numberOf}
-use Rattle.paper.proofs.Rows.{worked, kept}
+use Rattle.paper.specs.Limits.{Test, numberOf}
+use Rattle.paper.specs.declared.Refusal.{Refusal}
+use Rattle.paper.specs.Rows.{refusalOf}
+use Rattle.paper.proofs.Rows.{said, worked, kept}
 use Rattle.slots.specs.declared.Minutes.{Minutes}
 use Rattle.owners.specs.Derived.{Derived, derived}
 use Rattle.owners.specs.Entries as state
+use Rattle.owners.proofs.RecountRefusals.{first-stops}
 use Rattle.records.specs.Puts.{Wrote}
 use Rattle.job.specs.declared.JobAnswer.the-variants as answer
 use Rattle.job.specs.declared.Prepared.{Prepared}
@@ -19,9 +22,10 @@ use Rattle.job.specs.declared.Played.{Played}
 use Rattle.job.specs.File.{fileOk}
 use Rattle.job.specs.Listing.{Listed, listed, listingOf}
 use Rattle.job.specs.Stages.{counted, peopleOf, drawsOf, Ready, readyOf, ownersOf, planOf, playOf, startedOf, playedOf, listedOf}
-use Rattle.job.specs.Outcome.{AllPass, readRow, prepareRow, jobTests, Result, refusedAs, listedAs, jobResult, Ends}
+use Rattle.job.specs.Stages.{unevenOf}
+use Rattle.job.specs.Outcome.{AllPass, readRow, prepareRow, jobTests, refusalAt, Result, refusedAs, listedAs, jobResult, Ends}
 use Rattle.job.specs.Inside.{PlayedAs, readyBy, PreparedAs, minutesValue}
-use Rattle.job.proofs.Tests.{Numbered, number-none, front-number, rest-number}
+use Rattle.job.proofs.Tests.{Numbered, number-none, refusal-by, rest-number}
 use Rattle.job.proofs.Answered.{numbered, free, sound, targets-right}
 use Rattle.job.proofs.Rotas.{play-refusal}
 use Rattle.job.proofs.Plays.{uncovered-answered}
@@ -32,41 +36,52 @@ module _ (s x : List ℕ) where
   -- no test fails: the listing
   pub answered-none : numberOf (jobTests s (length x)) ≡ 0 → jobResult s x ≡ listedAs (listingOf (listedOf s)) x
   unfolding jobResult
-  answered-none e = worked _ _ (listedAs (listingOf (listedOf s)) x) e
+  answered-none e = worked _ _ (listedAs (listingOf (listedOf s)) x) (said (jobTests s (length x)) refl ∙ e)
 
-  -- one fails: its number, and the lent listing as it was
-  pub answered-some : (numberOf (jobTests s (length x)) ≡ 0 → ⊥) → jobResult s x ≡ refusedAs (numberOf (jobTests s (length x))) x
+  -- one fails: its refusal, and the lent listing as it was
+  pub answered-some : (numberOf (jobTests s (length x)) ≡ 0 → ⊥) → jobResult s x ≡ refusedAs (refusalOf (jobTests s (length x))) x
   unfolding jobResult
-  answered-some n = kept _ (refusedAs (numberOf (jobTests s (length x))) x) _ n
+  answered-some n = kept _ (refusedAs (refusalOf (jobTests s (length x))) x) _ (λ z. n (sym (said (jobTests s (length x)) refl) ∙ z))
 
-  refused-is : (n : ℕ) → n ≡ numberOf (jobTests s (length x)) → (n ≡ 0 → ⊥) → Ends (jobResult s x) (answer.Refused n) x
+  refused-is : (f : Refusal) → f ≡ refusalOf (jobTests s (length x)) → (f .number ≡ 0 → ⊥) → Ends (jobResult s x) (answer.Refused f) x
   unfolding refusedAs
-  refused-is n e h =
-      let t = answered-some (λ z. h (e ∙ z)) in
+  refused-is f e h =
+      let t = answered-some (λ z. h (said (jobTests s (length x)) e ∙ z)) in
       record {
         said = ap answer.Refused e ∙ sym (ap (λ (y : Result). y .answer) t);
         left = sym (ap (λ (y : Result). y .out) t);
       }
 
-  abbrev readTests : ℕ
-  readTests = numberOf (readRow (fileOk s) (counted s 1) (peopleOf s) (counted s 3) (counted s 6) (length x))
+  abbrev readTests : List Test
+  readTests = readRow (fileOk s) (counted s 1) (peopleOf s) (counted s 3) (counted s 6) (length x)
 
   read-numbered : Numbered (readRow (fileOk s) (counted s 1) (peopleOf s) (counted s 3) (counted s 6) (length x))
   unfolding readRow
   read-numbered = (lit< tt, (lit< tt, (lit< tt, tt)))
 
   -- a refusal before the file is worked on, and one of what stands in it
-  pub read-refused : (n : ℕ) → n ≡ readTests → (n ≡ 0 → ⊥) → Ends (jobResult s x) (answer.Refused n) x
+  pub read-refused : (f : Refusal) → f ≡ refusalOf readTests → (f .number ≡ 0 → ⊥) → Ends (jobResult s x) (answer.Refused f) x
   unfolding jobTests
-  read-refused n e h = refused-is n (e ∙ front-number _ (prepareRow s) read-numbered (λ z. h (e ∙ z))) h
+  read-refused f e h = refused-is f (e ∙ sym (first-stops readTests (prepareRow s) (λ z. h (said readTests e ∙ z)))) h
 
-  pub prepare-refused : (n : ℕ) → readTests ≡ 0 → n ≡ numberOf (prepareRow s) → (n ≡ 0 → ⊥) → Ends (jobResult s x) (answer.Refused n) x
+  -- each refusal of a job is the one of its number
+  pub job-refusal : refusalOf (jobTests s (length x)) ≡ refusalAt (numberOf (jobTests s (length x))) (unevenOf s)
+  unfolding jobTests readRow prepareRow refusalAt
+  job-refusal =
+      refusal-by (λ n. refusalAt n (unevenOf s)) refl (jobTests s (length x))
+      (refl, (refl, (refl, (refl, (refl, (refl, (refl, (refl, (refl, (refl, (refl, tt)))))))))))
+
+  pub prepare-refused : (f : Refusal) (n u : ℕ) → numberOf readTests ≡ 0 → n ≡ numberOf (prepareRow s) → u ≡ unevenOf s → f ≡ refusalAt n u
+      → (n ≡ 0 → ⊥) → Ends (jobResult s x) (answer.Refused f) x
   unfolding jobTests
-  prepare-refused n z e h = refused-is n (e ∙ rest-number _ (prepareRow s) read-numbered z) h
+  prepare-refused f n u z e q p h =
+      let k : n ≡ numberOf (jobTests s (length x)) = e ∙ rest-number readTests (prepareRow s) read-numbered z in
+      let g : f ≡ refusalOf (jobTests s (length x)) = p ∙ ap₂ refusalAt k q ∙ sym job-refusal in
+      refused-is f g (λ y. h (k ∙ sym (said (jobTests s (length x)) g) ∙ y))
 
   -- ---- the listing
 
-  module _ (p : Prepared) (z : readTests ≡ 0) (P : PreparedAs s p) (e : p .number ≡ 0) where
+  module _ (p : Prepared) (z : numberOf readTests ≡ 0) (P : PreparedAs s p) (e : p .number ≡ 0) where
     none : numberOf (jobTests s (length x)) ≡ 0
     unfolding jobTests
     none = sym (rest-number _ (prepareRow s) read-numbered z) ∙ sym (P .number) ∙ e

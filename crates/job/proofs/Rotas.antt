@@ -1,5 +1,5 @@
 -- The rota of a job whose owners are known: 12 is the one refusal left, and the play is never refused. Assumes nothing.
-use mathlib.Core.Path.{_≡_, sym, ap, _∙_}
+use mathlib.Core.Path.{_≡_, refl, sym, ap, _∙_}
 use mathlib.Core.Bool.{Bool, true, cond}
 use mathlib.Core.List.{List}
 use Prim.Native.Nat.{ℕ, _+_, _*_, _≤_, _<_}
@@ -9,6 +9,7 @@ use lib.ListN.{length, getD, replicate, length-replicate}
 use Rattle.paper.specs.Limits.{peopleOk, slotCountOk, orElse, numberOf}
 use Rattle.paper.specs.Rows.{unless}
 use Rattle.paper.specs.Count.{sum, all}
+use Rattle.paper.proofs.Rows.{said}
 use Rattle.paper.proofs.Logic.{and-true, people-says, slot-count-says}
 use Rattle.paper.proofs.Count.{each-all, all-each}
 use Rattle.slots.specs.Lent.{slotsOk, demandOf}
@@ -65,7 +66,7 @@ module _ (R : Ready) (d : Draws) (o : List ℕ) (H : RotaSound R d o) where
 
   -- ---- the number is 12 or none
 
-  pub start-number : startOf R o .number ≡ orElse (all (R .slots) (availableAt (R .avail) o)) 12 0
+  pub start-number : startOf R o .refusal .number ≡ orElse (all (R .slots) (availableAt (R .avail) o)) 12 0
   unfolding startOf state.fromSlots state.outcome state.fromSlotsRow state.lentRow numberOf
   start-number =
       simp (
@@ -84,7 +85,7 @@ module _ (R : Ready) (d : Draws) (o : List ℕ) (H : RotaSound R d o) where
     pub started : startOf R o .derived ≡ afresh P o none
     unfolding startOf state.fromSlots state.outcome unless
     started =
-        sym (when-none (startOf R o .number) (afresh P o none) none (start-number ∙ ap (λ (b : Bool). orElse b 12 0) free))
+        sym (when-none (startOf R o .refusal .number) (afresh P o none) none (start-number ∙ ap (λ (b : Bool). orElse b 12 0) free))
 
     in-step : InStep P o (afresh P o none)
     in-step =
@@ -139,9 +140,9 @@ module _ (R : Ready) (d : Draws) (o : List ℕ) (H : RotaSound R d o) where
         )
         (recount-number P (R .avail) (R .units) (R .begins) o E ∙ ap (λ (b : Bool). cond b 0 10) recounted)
 
-    pub play-refusal : playOf R d o (startOf R o .derived) .number ≡ 0
+    pub play-refusal : playOf R d o (startOf R o .derived) .refusal .number ≡ 0
     unfolding playOf rota.playedList state.outcome
-    play-refusal = ap (λ (E : Derived). playOf R d o E .number) started ∙ play-none
+    play-refusal = ap (λ (E : Derived). playOf R d o E .refusal .number) started ∙ said _ refl ∙ play-none
 
     -- all persons' minutes and the uncovered ones are the total of the slots
     pub total-before : sum (R .people) (λ p. getD (startOf R o .derived .minutes) p 0) + uncovered P o

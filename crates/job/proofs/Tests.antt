@@ -9,7 +9,8 @@ use borrow.Author.Tests.{eq-eqb, ne-eqb, eqb-true}
 use lib.Dec.{eqb}
 use lib.ListN.{length}
 use Rattle.paper.specs.Limits.{Test, numberOf}
-use Rattle.paper.specs.Rows.{unless}
+use Rattle.paper.specs.declared.Refusal.{Refusal}
+use Rattle.paper.specs.Rows.{unless, accepted, testRefusal, refusalOf}
 use Rattle.paper.proofs.Logic.{by-test}
 use Rattle.paper.proofs.Refusals.{number-pass, number-fail}
 use Rattle.job.specs.Outcome.{rank, testAt, Lowest, AllPass}
@@ -125,6 +126,17 @@ number-lowest r ts R N n = (
   λ L. (number-back r ts R n L, omega (arith, numbered-at ts N (L .place) (L .within), L .number)),
 )
 
+-- ---- the refusal of a row, where each test gives it by its number
+
+abbrev pub ByNumber : (ℕ → Refusal) → List Test → Type 0
+ByNumber f [] = Unit {0}
+ByNumber f (t ∷ ts) = (testRefusal t ≡ f (t .number)) × ByNumber f ts
+
+pub refusal-by : (f : ℕ → Refusal) → accepted ≡ f 0 → (ts : List Test) → ByNumber f ts → refusalOf ts ≡ f (numberOf ts)
+unfolding refusalOf numberOf
+refusal-by f z [] b = z
+refusal-by f z (t ∷ ts) b = by-test (t .passes) _ (λ p. simp p (refusal-by f z ts (b .1))) (λ q. simp q (b .0))
+
 -- ---- the first tests of a row, and then the others
 
 number-append : (ts us : List Test) → Numbered ts → numberOf (ts ++ us) ≡ cond (eqb (numberOf ts) 0) (numberOf us) (numberOf ts)
@@ -149,9 +161,6 @@ step ts us N k m e f =
     ap (λ (j : ℕ). cond (eqb j 0) m j) e ∙ ap (λ (b : Bool). cond b m h) t
     ∙ sym (number-append ts us N ∙ ap (λ (b : Bool). cond b (numberOf us) h) t))
 
--- the first tests of a row, which give its number where the others are not reached
-pub front-number : (ts us : List Test) → Numbered ts → (numberOf ts ≡ 0 → ⊥) → numberOf ts ≡ numberOf (ts ++ us)
-front-number ts us N h = sym (number-append ts us N ∙ ap (λ (b : Bool). cond b (numberOf us) (numberOf ts)) (ne-eqb (numberOf ts) 0 h))
-
+-- the others give the number of a row whose first tests pass
 pub rest-number : (ts us : List Test) → Numbered ts → numberOf ts ≡ 0 → numberOf us ≡ numberOf (ts ++ us)
 rest-number ts us N h = sym (number-append ts us N ∙ ap (λ (b : Bool). cond b (numberOf us) (numberOf ts)) (eq-eqb (numberOf ts) 0 h))

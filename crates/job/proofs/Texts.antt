@@ -12,7 +12,7 @@ use lib.Dec.{eqb, lit<}
 use lib.ListN.{length, length-append}
 use Rattle.paper.proofs.Logic.{below-suc, lt-or-ge}
 use Rattle.records.specs.Puts.{Wrote}
-use Rattle.job.specs.Listing.{decimal, digits, ownerText, answerLetter, headText, refusalLine, lines}
+use Rattle.job.specs.Listing.{decimal, digits, ownerText, answerLetter, headText, placeText, partText, refusalLine, lines}
 use Rattle.records.proofs.Numbers.{below-power}
 use Rattle.records.proofs.Puts.{wrote-length, wrote-none, wrote-then, wrote-same}
 
@@ -140,31 +140,93 @@ pub head-length : (letter n last : ℕ) → length (headText letter n last) ≡ 
 unfolding headText
 head-length letter n last = omega (arith, length-append (digits n) (last ∷ []))
 
--- it has four bytes, five from 10 on, and six from 100 on
-pub refusal-one : (n : ℕ) → n < 10 → 4 ≡ length (refusalLine n)
-unfolding refusalLine
-refusal-one n h = omega (arith, head-length 82 n 10, ap length (digits-small n h))
+module _ (part place second : ℕ) where
+  pub place-two : part ≡ 4 → digits place ++ (32 ∷ []) ++ (digits second ++ (10 ∷ [])) ≡ placeText part place second
+  unfolding placeText
+  place-two e =
+      sym (ap (λ (b : Bool). cond b (digits place ++ (32 ∷ []) ++ (digits second ++ (10 ∷ []))) (digits place ++ (10 ∷ []))) (eq-eqb part 4 e))
 
-two-digits : (n : ℕ) → 10 ≤ n → n < 100 → length (digits n) ≡ 2
-two-digits n h g =
-    omega (
-      arith,
-      ap length (digits-more n h (omega arith)),
-      length-append (digits (n / 10)) ((48 + n % 10) ∷ []),
-      ap length (digits-small (n / 10) (omega arith)),
-    )
+  pub place-one : (part ≡ 4 → ⊥) → digits place ++ (10 ∷ []) ≡ placeText part place second
+  unfolding placeText
+  place-one n =
+      sym (ap (λ (b : Bool). cond b (digits place ++ (32 ∷ []) ++ (digits second ++ (10 ∷ []))) (digits place ++ (10 ∷ []))) (ne-eqb part 4 n))
 
-pub refusal-two : (n : ℕ) → 10 ≤ n → n < 100 → 5 ≡ length (refusalLine n)
-unfolding refusalLine
-refusal-two n h g = omega (arith, head-length 82 n 10, two-digits n h g)
+  pub two-length : part ≡ 4 → length (digits place) + 1 + length (digits second) + 1 ≡ length (placeText part place second)
+  two-length e =
+      omega (
+        arith,
+        ap length (place-two e),
+        length-append (digits place ++ (32 ∷ [])) (digits second ++ (10 ∷ [])),
+        length-append (digits place) (32 ∷ []),
+        length-append (digits second) (10 ∷ []),
+      )
 
-pub refusal-three : (n : ℕ) → 100 ≤ n → n < 256 → 6 ≡ length (refusalLine n)
-unfolding refusalLine
-refusal-three n h g =
-    omega (
-      arith,
-      head-length 82 n 10,
-      ap length (digits-more n (omega arith) (omega arith)),
-      length-append (digits (n / 10)) ((48 + n % 10) ∷ []),
-      two-digits (n / 10) (omega arith) (omega arith),
-    )
+  pub one-length : (part ≡ 4 → ⊥) → length (digits place) + 1 ≡ length (placeText part place second)
+  one-length n = omega (arith, ap length (place-one n), length-append (digits place) (10 ∷ []))
+
+  part-length : length (partText part place second) ≡ length (digits part) + 1 + length (placeText part place second)
+  unfolding partText
+  part-length =
+      omega (
+        arith,
+        length-append (digits part ++ (32 ∷ [])) (placeText part place second),
+        length-append (digits part) (32 ∷ []),
+      )
+
+  module _ (number : ℕ) where
+    abbrev line : List ℕ
+    line = refusalLine (record { number = number; part = part; place = place; second = second })
+
+    pub line-plain : part ≡ 0 → headText 82 number 10 ≡ line
+    unfolding refusalLine
+    line-plain e =
+        sym (ap (λ (b : Bool). cond b (headText 82 number 10) (headText 82 number 46 ++ partText part place second)) (eq-eqb part 0 e))
+
+    pub line-part : (part ≡ 0 → ⊥) → headText 82 number 46 ++ partText part place second ≡ line
+    unfolding refusalLine
+    line-part n =
+        sym (ap (λ (b : Bool). cond b (headText 82 number 10) (headText 82 number 46 ++ partText part place second)) (ne-eqb part 0 n))
+
+    pub plain-length : part ≡ 0 → length (digits number) + 3 ≡ length line
+    plain-length e = omega (arith, ap length (line-plain e), head-length 82 number 10)
+
+    pub placed-length : (part ≡ 0 → ⊥)
+        → length (digits number) + 3 + length (digits part) + 1 + length (placeText part place second) ≡ length line
+    placed-length n =
+        omega (
+          arith,
+          ap length (line-part n),
+          length-append (headText 82 number 46) (partText part place second),
+          head-length 82 number 46,
+          part-length,
+        )
+
+-- ---- the digits of a number, counted by tenths
+
+pub record Counting (n count rest : ℕ) : Type 0 where
+  pub counted : count + length (digits rest) ≡ length (digits n) + 1
+  pub lower : rest ≤ n
+
+pub counting-start : (n : ℕ) → Counting n 1 n
+counting-start n = record { counted = omega arith; lower = omega arith }
+
+pub counting-more : (n count rest : ℕ) → n < 2 ^ 64 → 10 ≤ rest → Counting n count rest → Counting n (count + 1) (rest / 10)
+counting-more n count rest b h C =
+    let l = C .lower in
+    record {
+      counted = omega (
+        arith,
+        C .counted,
+        ap length (digits-more rest h (omega arith)),
+        length-append (digits (rest / 10)) ((48 + rest % 10) ∷ []),
+      );
+      lower = omega arith;
+    }
+
+pub counting-end : (n count rest : ℕ) → n < 2 ^ 64 → rest < 10 → Counting n count rest → (count ≡ length (digits n)) × (count ≤ 20)
+counting-end n count rest b h C =
+    let e : count ≡ length (digits n) = omega (arith, C .counted, ap length (digits-small rest h)) in
+    (e, omega (arith, e, digits-le 19 n (omega arith) (omega arith)))
+
+pub counting-few : (n count rest : ℕ) → n < 2 ^ 64 → Counting n count rest → count ≤ 21
+counting-few n count rest b C = omega (arith, C .counted, digits-le 19 n (omega arith) (omega arith))

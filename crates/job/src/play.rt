@@ -103,7 +103,7 @@ fn play_draws(
         &mut s,
         &mut m,
         &mut answers,
-    );
+    ).number;
     Played {
         number,
         owners: o,

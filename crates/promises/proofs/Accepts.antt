@@ -51,12 +51,12 @@ enough n = le-of-eq (sym (length-replicate n 0))
 no-draw-accepted : noOf noDraw ≡ 0
 no-draw-accepted = accepted apart 0 0 [] [] [] nothing refl refl refl refl (omega arith) (apart-recounts 0 0 [] [] [] nothing)
 
-no-draw-played : playOf noDraw .number ≡ 0
-no-draw-played = ap (λ (y : state.Outcome). y .number) (accepted-is noDraw no-draw-accepted)
+no-draw-played : playOf noDraw .refusal .number ≡ 0
+no-draw-played = ap (λ (y : state.Outcome). y .refusal .number) (accepted-is noDraw no-draw-accepted)
 
-no-draws-played : playDrawsOf noDraw [] .number ≡ 0
+no-draws-played : playDrawsOf noDraw [] .refusal .number ≡ 0
 unfolding draws firsts seconds
-no-draws-played = ap (λ (y : state.Outcome). y .number) (draws-alike noDraw []) ∙ no-draw-played
+no-draws-played = ap (λ (y : state.Outcome). y .refusal .number) (draws-alike noDraw []) ∙ no-draw-played
 
 pub each-accepts : EachAccepts
 unfolding numberOf unless lengthRow slotRow stretchOk stretchRow setsRow personRow personStretchRow sameSetsRow runsRow

@@ -95,7 +95,7 @@ module _ (C : Component) (M : MarkedCases C) (T : RefusesByTable C) (S : SizesRe
       (M .case-11 0 0 0 0 (0 ∷ 0 ∷ 0 ∷ 0 ∷ []) (omega arith) (omega arith) (omega arith) (omega arith) (omega arith)))
   always-refusing-falls (refuses-play f) =
       f still (one-given _ _ _ (T still) (rota-refuses .play still .given)
-      ∙ ap (λ (y : state.Outcome). y .number) (accepted-is still still-accepted))
+      ∙ ap (λ (y : state.Outcome). y .refusal .number) (accepted-is still still-accepted))
   always-refusing-falls (refuses-uncovered f) = f _ _ (ap minutesRefusal (U still still-accepted .1))
 
 -- ---- one fixed answer

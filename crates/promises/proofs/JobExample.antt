@@ -12,7 +12,7 @@ use lib.IntN.{ℤ, pos}
 use lib.ListN.{length, getD, drop, replicate, set, length-replicate, List·getD-eq-default}
 use Rattle.paper.specs.Limits.{peopleOk, slotCountOk, countsOk, Test, numberOf}
 use Rattle.paper.specs.Bits.{bitOf}
-use Rattle.paper.specs.Rows.{unless}
+use Rattle.paper.specs.Rows.{unless, accepted as no-refusal}
 use Rattle.paper.specs.Count.{all, allIn, some, sum, among, over, fill, onto}
 use Rattle.paper.proofs.Logic.{both, four, below-suc, lt-or-ge}
 use Rattle.paper.proofs.Count.{all-each}
@@ -217,7 +217,7 @@ call-accepted = record {
 }
 
 after : playOf call ≡ record {
-  number = 0;
+  refusal = no-refusal;
   owners = 0 ∷ 1 ∷ replicate 1022 255;
   derived = derived (set (set (replicate 512 0) 0 1) 16 2) (60 ∷ 60 ∷ replicate 30 0);
   answers = 0 ∷ drop 1 zeros;
@@ -346,7 +346,7 @@ own-none k h = eqb-true (ownerIn own k) 0 (all-each 2 (λ j. eqb (ownerIn own j)
 
 even : OwnersEven example R
 unfolding unitEnd all
-even u k h a b =
+even u h k a b =
     let f = R .begins in
     let e = leb-true (unitEnd 2 2 f u) 2 (all-each 2 (λ v. leb (unitEnd 2 2 f v) 2) refl u h) in
     own-none k (omega (arith, e, b)) ∙ sym (own-none (getD f u 0) (omega (arith, e, a, b)))
@@ -416,9 +416,9 @@ module _ (x : List ℕ) (room : 65536 ≤ length x) where
   result : jobResult file x ≡ listedAs (listingOf (listedOf file)) x
   result = answered-none file x (number-none ts (numbered file (length x)) .1 all-right)
 
-  accepted : jobRefusal (jobResult file x .answer) ≡ 0
+  accepted : jobRefusal (jobResult file x .answer) .number ≡ 0
   unfolding listedAs
-  accepted = ap (λ (y : Result). jobRefusal (y .answer)) result
+  accepted = ap (λ (y : Result). jobRefusal (y .answer) .number) result
 
   listing-is : listingOf (listedOf file) ≡ exampleText
   listing-is =

@@ -9,6 +9,7 @@ use borrow.Author.Tests.{eqb-true, eqb-false}
 use lib.Dec.{eqb, lit<, lit≤}
 use lib.Ieee.{binary64, ofBits}
 use lib.ListN.{length, getD, replicate}
+use Rattle.paper.proofs.Rows.{said}
 use Rattle.paper.specs.Limits.{numberOf, nobody}
 use Rattle.paper.specs.Count.{all, over}
 use Rattle.paper.proofs.Logic.{by-test, lt-or-ge, slot-count-says, people-says}
@@ -167,15 +168,15 @@ module _ (s : List ℕ) (J : JobFile s) where
 
 -- ---- an accepted job
 
-pub accepted-none : (s x : List ℕ) → jobRefusal (jobResult s x .answer) ≡ 0 → numberOf (jobTests s (length x)) ≡ 0
+pub accepted-none : (s x : List ℕ) → jobRefusal (jobResult s x .answer) .number ≡ 0 → numberOf (jobTests s (length x)) ≡ 0
 unfolding refusedAs
 accepted-none s x e =
     by-test (eqb (numberOf (jobTests s (length x))) 0) _ (λ t. eqb-true _ 0 t)
     (λ f.
     let n = eqb-false _ 0 f in
-    absurd (n (sym (ap (λ (y : Result). jobRefusal (y .answer)) (answered-some s x n)) ∙ e)))
+    absurd (n (sym (said (jobTests s (length x)) refl) ∙ sym (ap (λ (y : Result). jobRefusal (y .answer) .number) (answered-some s x n)) ∙ e)))
 
-pub accepted-pass : (s x : List ℕ) → jobRefusal (jobResult s x .answer) ≡ 0 → AllPass (jobTests s (length x))
+pub accepted-pass : (s x : List ℕ) → jobRefusal (jobResult s x .answer) .number ≡ 0 → AllPass (jobTests s (length x))
 accepted-pass s x e = number-none (jobTests s (length x)) (numbered s (length x)) .0 (accepted-none s x e)
 
 pub job-by-records : JobByRecords

@@ -12,7 +12,7 @@ pub job-by-rule : JobByRule
 job-by-rule = record {
   given = lowest-number;
   answered = accepted-exactly;
-  kept = λ s x n e. refused-keeps s x n (jobResult s x .out) record { said = sym e; left = refl };
+  kept = λ s x f e. refused-keeps s x f (jobResult s x .out) record { said = sym e; left = refl };
   file = rule-13;
   counts = counts-read;
   columns = columns-read;

@@ -1,7 +1,7 @@
 -- Each test of a job, both ways, by the records of its file. Assumes nothing.
 use mathlib.Core.Path.{_≡_, refl, sym, ap, _∙_, subst}
 use mathlib.Core.Logic.{_↔_}
-use mathlib.Core.Bool.{true}
+use mathlib.Core.Bool.{true, false}
 use mathlib.Core.List.{List, []}
 use Prim.Native.Nat.{ℕ, _≤_, _<_}
 use native.Mathlib.Omega.{arith}
@@ -24,7 +24,7 @@ use Rattle.records.specs.Fields.{Bytes}
 use Rattle.records.specs.Records.{bodies}
 use Rattle.job.specs.File.{fileOk, JobFile}
 use Rattle.job.specs.Stages.{counted, blockStart, peopleOf, jobCountsOk, columnOf, rangesOf, capacitiesOf, priorsOf, settingsIn, baseOf, Ready}
-use Rattle.job.specs.Stages.{readyOf, recordKnown, allKnown, allEven, writtenOf, ownersOf}
+use Rattle.job.specs.Stages.{readyOf, recordKnown, allKnown, allEven, unevenIn, unevenOf, writtenOf, ownersOf}
 use Rattle.job.specs.Outcome.{testAt, readRow, prepareRow, jobTests}
 use Rattle.job.proofs.Layouts.{rule-13, counts-read}
 use Rattle.job.proofs.Prepares.{few-says}
@@ -32,8 +32,10 @@ use Rattle.job.proofs.Passing.{AtomsSound}
 use Rattle.job.proofs.Answered.{Few, each-few, base-fits, atomTests, atoms-right, units-there}
 use Rattle.promises.specs.Tests.{SlotsRight, RangesRight, FiguresRight, SettingsRight}
 use Rattle.promises.specs.JobFields.{Given, givenBy, ownerIn, baseFrom}
-use Rattle.promises.specs.JobTests.{PassesWhen, PassBefore, CountsRight, OwnersEven, OwnersKnown, OwnersAble, JobTestsByRule}
+use Rattle.promises.specs.JobTests.{PassesWhen, PassBefore, CountsRight, LowestFault, UnitEven, OwnersEven, OwnersKnown, OwnersAble}
+use Rattle.promises.specs.JobTests.{JobTestsByRule}
 use Rattle.promises.proofs.Tests.{tests-by-rule, known-test, available-test}
+use Rattle.promises.proofs.Lowest.{right-exactly, lowest-fault}
 use Rattle.promises.proofs.JobOwners.{record-says, written-at}
 use Rattle.promises.proofs.JobFields.{givenOf, ready-shape, given-same, ready-same, owners-same}
 
@@ -125,26 +127,33 @@ module _ (s : List ℕ) (J : JobFile s) (few : Few s) where
     unfolding writtenOf
     at-slot k h = written-at s J (R .slots) slots-few k h
 
+    -- unit by unit
+    unit-test : settingsOk (settingsIn s) ≡ true → (u : ℕ) → u < R .units
+        → (evenAt (R .slots) (R .units) (R .begins) (writtenOf s) u ≡ true) ↔ UnitEven (J .records) R u
+    unfolding evenAt
+    unit-test ok u h =
+        let right = units-there s few (atoms-right s few atoms) ok .0 in
+        let a = unitStart (R .begins) u in
+        let e = unitEnd (R .slots) (R .units) (R .begins) u in
+        let w = unit-within (R .slots) (R .units) (R .begins) right u h in
+        let o = writtenOf s in (
+          λ t k b c.
+              let x = in-each a e (λ j. eqb (getD o j 0) (getD o a 0)) t k b c in
+              sym (at-slot k (omega arith)) ∙ eqb-true (getD o k 0) (getD o a 0) x ∙ at-slot a (omega arith),
+          λ E.
+              each-in a e (λ j. eqb (getD o j 0) (getD o a 0))
+              (λ k b c. eq-eqb (getD o k 0) (getD o a 0) (at-slot k (omega arith) ∙ E k b c ∙ sym (at-slot a (omega arith)))),
+        )
+
     even-test : settingsOk (settingsIn s) ≡ true
         → (allEven (R .slots) (R .units) (R .begins) (writtenOf s) ≡ true) ↔ OwnersEven (J .records) R
-    unfolding allEven evenAt
-    even-test ok =
-        let right = units-there s few (atoms-right s few atoms) ok .0 in
-        let a : ℕ → ℕ = unitStart (R .begins) in
-        let e : ℕ → ℕ = unitEnd (R .slots) (R .units) (R .begins) in
-        let within = unit-within (R .slots) (R .units) (R .begins) right in
-        let o = writtenOf s in (
-          λ t u k h b c.
-              let w = within u h in
-              let x = in-each (a u) (e u) (λ j. eqb (getD o j 0) (getD o (a u) 0))
-              (all-each (R .units) (evenAt (R .slots) (R .units) (R .begins) o) t u h) k b c in
-              sym (at-slot k (omega arith)) ∙ eqb-true (getD o k 0) (getD o (a u) 0) x ∙ at-slot (a u) (omega arith),
-          λ E.
-              each-all (R .units) (evenAt (R .slots) (R .units) (R .begins) o)
-              (λ u h. let w = within u h in each-in (a u) (e u) (λ j. eqb (getD o j 0) (getD o (a u) 0))
-              (λ k b c. eq-eqb (getD o k 0) (getD o (a u) 0)
-              (at-slot k (omega arith) ∙ E u k h b c ∙ sym (at-slot (a u) (omega arith))))),
-        )
+    unfolding allEven
+    even-test ok = right-exactly (R .units) _ (UnitEven (J .records) R) (unit-test ok)
+
+    uneven-test : settingsOk (settingsIn s) ≡ true → allEven (R .slots) (R .units) (R .begins) (writtenOf s) ≡ false
+        → LowestFault (R .units) (UnitEven (J .records) R) (unevenOf s)
+    unfolding allEven unevenOf unevenIn
+    uneven-test ok f = lowest-fault (R .units) _ (UnitEven (J .records) R) (unit-test ok) f
 
     known-right : (allKnown s (blockStart s 5) (counted s 5) (R .slots) (R .people) ≡ true) ↔ OwnersKnown (J .records) R
     unfolding allKnown
@@ -210,6 +219,9 @@ job-tests s room = record {
         subst (λ (R : Ready). (testAt (jobTests s room) 8 .passes ≡ true) ↔ OwnersEven (J .records) R) (ready-same s J)
         (even-test s J (few-before s room J (lit< tt) P) (atoms-before s room J (lit< tt) P) (P 7 (lit< tt)));
   };
+  uneven = λ J P f.
+      subst (λ (R : Ready). LowestFault (R .units) (UnitEven (J .records) R) (unevenOf s)) (ready-same s J)
+      (uneven-test s J (few-before s room J (lit< tt) P) (atoms-before s room J (lit< tt) P) (P 7 (lit< tt)) f);
   known = λ J P. record {
     number = refl;
     passes =

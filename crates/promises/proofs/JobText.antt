@@ -9,12 +9,15 @@ use lib.Dec.{eqb}
 use lib.IntN.{ℤ}
 use lib.ListN.{length, getD, take, drop}
 use lib.Seq.{take-at, drop-at}
-use Rattle.paper.proofs.Logic.{lt-or-ge}
+use Rattle.owners.specs.Entries.{placeless}
+use Rattle.paper.specs.declared.Refusal.{Refusal}
+use Rattle.paper.proofs.Logic.{by-test, lt-or-ge}
 use Rattle.records.specs.Puts.{put}
 use Rattle.job.specs.declared.JobAnswer.{JobAnswer}
 use Rattle.job.specs.declared.JobAnswer.the-variants as answer
 use Rattle.job.specs.File.{JobFile}
 use Rattle.job.specs.Listing.{digits, signed, ownerText, answerLetter, headText, slotLine, personLine, drawLine, uncoveredLine, refusalLine}
+use Rattle.job.specs.Listing.{placeText, partText}
 use Rattle.job.specs.Listing.{lines, Listed, slotAt, personAt, drawAt, listingOf}
 use Rattle.job.specs.Stages.{listedOf}
 use Rattle.job.specs.Outcome.{Result, refusedAs, listedAs, jobRefusal, jobLength, jobResult, refusalResult}
@@ -95,7 +98,7 @@ module _ (L : Listed) where
 
 -- ---- an accepted job
 
-listing-left : (s x : List ℕ) (J : JobFile s) → jobRefusal (jobResult s x .answer) ≡ 0
+listing-left : (s x : List ℕ) (J : JobFile s) → jobRefusal (jobResult s x .answer) .number ≡ 0
     → let n = jobLength 0 (jobResult s x .answer) in
     (take n (jobResult s x .out) ≡ textOf (linesOf (listedFrom (givenBy (J .records)) (ownersBy (J .records)))))
     × (drop n (jobResult s x .out) ≡ drop n x)
@@ -107,50 +110,66 @@ listing-left s x J e =
 
 -- ---- the line of a refusal
 
-refusal-text : (n : ℕ) → refusalLine n ≡ refusalText n
-unfolding refusalLine headText lineOf
-refusal-text n = refl
+-- a number, a point, a part and a space, grouped one way and the other
+pointed : (n p r q : List ℕ) → r ≡ q → (n ++ (46 ∷ [])) ++ ((p ++ (32 ∷ [])) ++ r) ≡ (n ++ (46 ∷ p)) ++ (32 ∷ q)
+pointed n p r q e =
+    append-assoc n (46 ∷ []) _ ∙ ap (λ (l : List ℕ). n ++ (46 ∷ l)) (append-assoc p (32 ∷ []) r ∙ ap (λ (l : List ℕ). p ++ (32 ∷ l)) e)
+    ∙ sym (append-assoc n (46 ∷ p) (32 ∷ q))
 
-module _ (n : ℕ) (x : List ℕ) where
-  by-room : (X : Type 0) → (length x < length (refusalText n) → refusalResult n x ≡ refusedAs 2 x → X)
-      → (length (refusalText n) ≤ length x → refusalResult n x ≡ listedAs (refusalText n) x → X) → X
-  by-room X f g =
-      let t = refusal-text n in
-      ⊎-elim (λ (h : length x < length (refusalText n)). f h (line-short n x (omega (arith, h, ap length t))))
-      (λ (h : length (refusalText n) ≤ length x).
-      g h (line-stands n x (omega (arith, h, ap length t)) ∙ ap (λ (l : List ℕ). listedAs l x) t))
-      (lt-or-ge (length x) (length (refusalText n)))
+refusal-text : (f : Refusal) → refusalLine f ≡ refusalText f
+unfolding refusalLine partText placeText headText lineOf
+refusal-text f =
+    by-test (eqb (f .part) 0) _ (λ t. simp t)
+    (λ n. by-test (eqb (f .part) 4) _
+    (λ t. simp (n, t) (ap (λ (l : List ℕ). 82 ∷ (32 ∷ l))
+    (pointed (digits (f .number)) (digits (f .part)) _ _ (append-assoc (digits (f .place)) (32 ∷ []) (digits (f .second) ++ (10 ∷ []))))))
+    (λ m. simp (n, m) (ap (λ (l : List ℕ). 82 ∷ (32 ∷ l))
+    (pointed (digits (f .number)) (digits (f .part)) (digits (f .place) ++ (10 ∷ [])) _ refl))))
 
-  number-two : refusalResult n x ≡ refusedAs 2 x → jobRefusal (refusalResult n x .answer) ≡ 2
+module _ (f : Refusal) (x : List ℕ) where
+  by-room : (X : Type 0) → (length x < length (refusalText f) → refusalResult f x ≡ refusedAs (placeless 2) x → X)
+      → (length (refusalText f) ≤ length x → refusalResult f x ≡ listedAs (refusalText f) x → X) → X
+  by-room X f₁ g =
+      let t = refusal-text f in
+      ⊎-elim (λ (h : length x < length (refusalText f)). f₁ h (line-short f x (omega (arith, h, ap length t))))
+      (λ (h : length (refusalText f) ≤ length x).
+      g h (line-stands f x (omega (arith, h, ap length t)) ∙ ap (λ (l : List ℕ). listedAs l x) t))
+      (lt-or-ge (length x) (length (refusalText f)))
+
+  is-two : refusalResult f x ≡ refusedAs (placeless 2) x → jobRefusal (refusalResult f x .answer) ≡ placeless 2
   unfolding refusedAs
-  number-two e = ap (λ (y : Result). jobRefusal (y .answer)) e
+  is-two e = ap (λ (y : Result). jobRefusal (y .answer)) e
 
-  number-none : (l : List ℕ) → refusalResult n x ≡ listedAs l x → jobRefusal (refusalResult n x .answer) ≡ 0
+  number-two : refusalResult f x ≡ refusedAs (placeless 2) x → jobRefusal (refusalResult f x .answer) .number ≡ 2
+  number-two e = ap (λ (g : Refusal). g .number) (is-two e)
+
+  number-none : (l : List ℕ) → refusalResult f x ≡ listedAs l x → jobRefusal (refusalResult f x .answer) .number ≡ 0
   unfolding listedAs
-  number-none l e = ap (λ (y : Result). jobRefusal (y .answer)) e
+  number-none l e = ap (λ (y : Result). jobRefusal (y .answer) .number) e
 
-  line-number : (jobRefusal (refusalResult n x .answer) ≡ 0) ↔ (length (refusalText n) ≤ length x)
+  line-number : (jobRefusal (refusalResult f x .answer) .number ≡ 0) ↔ (length (refusalText f) ≤ length x)
   line-number = (
     λ z. by-room _ (λ h e. absurd (omega (arith, z, number-two e))) (λ h e. h),
     λ l. by-room _ (λ h e. absurd (omega (arith, h, l))) (λ h e. number-none _ e),
   )
 
-  line-kept : (jobRefusal (refusalResult n x .answer) ≡ 0 → ⊥) → (jobRefusal (refusalResult n x .answer) ≡ 2) × (refusalResult n x .out ≡ x)
+  line-kept : (jobRefusal (refusalResult f x .answer) .number ≡ 0 → ⊥)
+      → (jobRefusal (refusalResult f x .answer) ≡ placeless 2) × (refusalResult f x .out ≡ x)
   unfolding refusedAs
-  line-kept f = by-room _ (λ h e. (number-two e, ap (λ (y : Result). y .out) e)) (λ h e. absurd (f (number-none _ e)))
+  line-kept n = by-room _ (λ h e. (is-two e, ap (λ (y : Result). y .out) e)) (λ h e. absurd (n (number-none _ e)))
 
-  line-left : jobRefusal (refusalResult n x .answer) ≡ 0
-      → let l = jobLength 0 (refusalResult n x .answer) in
-      (take l (refusalResult n x .out) ≡ refusalText n) × (drop l (refusalResult n x .out) ≡ drop l x)
+  line-left : jobRefusal (refusalResult f x .answer) .number ≡ 0
+      → let l = jobLength 0 (refusalResult f x .answer) in
+      (take l (refusalResult f x .out) ≡ refusalText f) × (drop l (refusalResult f x .out) ≡ drop l x)
   unfolding listedAs put
   line-left z =
       by-room _ (λ h e. absurd (omega (arith, z, number-two e)))
       (λ h e.
-      let t = refusalText n in
-      let l = jobLength 0 (refusalResult n x .answer) in
+      let t = refusalText f in
+      let l = jobLength 0 (refusalResult f x .answer) in
       let m : l ≡ length t = ap (λ (y : Result). jobLength 0 (y .answer)) e in
       let k : 0 + length t ≡ l = omega arith in
-      let o : refusalResult n x .out ≡ t ++ drop (0 + length t) x = ap (λ (y : Result). y .out) e in
+      let o : refusalResult f x .out ≡ t ++ drop (0 + length t) x = ap (λ (y : Result). y .out) e in
       (ap (take l) o ∙ take-at t _ l (sym m), ap (drop l) o ∙ drop-at t _ l (sym m) ∙ ap (λ (j : ℕ). drop j x) k))
 
 pub job-text : JobText

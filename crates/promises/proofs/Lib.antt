@@ -32,7 +32,9 @@ pub mod WayBackRule
 pub mod JobRules
 pub mod JobOwners
 pub mod JobFields
+pub mod Lowest
 pub mod JobTests
+pub mod Places
 pub mod JobText
 pub mod JobExample
 pub mod ListRules

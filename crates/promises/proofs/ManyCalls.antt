@@ -6,6 +6,7 @@ use native.Mathlib.Omega.{arith}
 use borrow.Author.Tests.{le-leb}
 use lib.ListN.{length, take, drop, length-append}
 use lib.Seq.{take-at, take-length}
+use Rattle.paper.proofs.Rows.{said as row-number}
 use Rattle.paper.specs.Limits.{drawsMost}
 use Rattle.paper.specs.Count.{onto}
 use Rattle.rota.specs.Board.{Board}
@@ -34,9 +35,9 @@ said c e =
     ∙ take-at (answers (boardIn c) (c .owners) (drawsIn c)) _ (c .count)
     (answers-length (boardIn c) (c .owners) (drawsIn c) ∙ draws-length (c .draws) (c .firsts) (c .seconds) (c .count))
 
-pub accepted-number : (c : Call) → playOf c .number ≡ 0 → noOf c ≡ 0
+pub accepted-number : (c : Call) → playOf c .refusal .number ≡ 0 → noOf c ≡ 0
 unfolding playedList outcome
-accepted-number c e = e
+accepted-number c e = sym (row-number (rowOf c) refl) ∙ e
 
 ends-one : (c : Call) (o : List ℕ) (D : Derived) (p : Part) (ps : List Part) → Words (D .sets) → AllAccepted built c o D (p ∷ ps)
     → EndsAsOne built c o D (p ∷ ps)
@@ -106,7 +107,7 @@ many-calls c o D p ps f A w W =
     let owners : playOf v .owners ≡ lastOwners built c o D (p ∷ ps) =
     ap (λ (y : Outcome). y .owners) x ∙ ap (ownersAfter B o) (W .together) ∙ sym (r .owners) in
     record {
-      accepted = ap (λ (y : Outcome). y .number) x;
+      accepted = ap (λ (y : Outcome). y .refusal .number) x;
       owners = owners;
       derived =
           ap (λ (y : Outcome). y .derived) x

@@ -7,10 +7,12 @@ use borrow.Author.Tests.{ne-eqb, le-leb}
 use lib.Dec.{leb, ltb}
 use lib.IntN.{ℤ}
 use lib.ListN.{length, getD, set, replicate}
+use Rattle.paper.proofs.Rows.{said}
+use Rattle.paper.specs.declared.Refusal.{Refusal}
 use Rattle.paper.specs.Limits.{peopleOk, slotCountOk, orElse, Test, test, numberOf, nobody, countsOk}
 use Rattle.paper.specs.Count.{fill, over}
 use Rattle.paper.proofs.Logic.{by-test, slot-count-says}
-use Rattle.paper.specs.Rows.{unless}
+use Rattle.paper.specs.Rows.{unless, refusalOf}
 use Rattle.slotset.specs.declared.Changed.{Changed}
 use Rattle.slotset.specs.Answers.{setsRow, personRow, changedAs, loadOf, numberRefusal}
 use Rattle.slotset.proofs.Refusals.{number-said}
@@ -46,26 +48,29 @@ targets-refuse = record { compute-targets = targets-number; guard = eight-says }
 -- ---- rota
 
 -- an outcome with the number of a row of tests
-outcome-refuses : (t : List Test) (o : List ℕ) (D : Derived) (x o′ : List ℕ) (D′ : Derived) (x′ : List ℕ) → rising 1 t ≡ true
-    → let y = state.outcome (numberOf t) o D x o′ D′ x′ in Refuses {A = Lent} (rules t) (y .number) (o, D, x) (left y)
+outcome-refuses : (t : List Test) (f : Refusal) (o : List ℕ) (D : Derived) (x o′ : List ℕ) (D′ : Derived) (x′ : List ℕ)
+    → f .number ≡ numberOf t → rising 1 t ≡ true
+    → let y = state.outcome f o D x o′ D′ x′ in Refuses {A = Lent} (rules t) (y .refusal .number) (o, D, x) (left y)
 unfolding state.outcome unless
-outcome-refuses t o D x o′ D′ x′ r = record {
-  given = given-as t (numberOf t) r refl;
-  kept = λ h. ap {B = Lent} (λ (b : Bool). (cond b o′ o, cond b D′ D, cond b x′ x)) (ne-eqb (numberOf t) 0 h);
+outcome-refuses t f o D x o′ D′ x′ e r = record {
+  given = given-as t (f .number) r e;
+  kept = λ h. ap {B = Lent} (λ (b : Bool). (cond b o′ o, cond b D′ D, cond b x′ x)) (ne-eqb (f .number) 0 h);
 }
 
 from-slots-refuses : (P : Plan) (avail o : List ℕ) (D : Derived)
     → let y = state.fromSlots P avail o D in
-    Refuses {A = Lent} (rules (state.fromSlotsRow P avail o D)) (y .number) (o, D, []) (left y)
+    Refuses {A = Lent} (rules (state.fromSlotsRow P avail o D)) (y .refusal .number) (o, D, []) (left y)
 unfolding state.fromSlots state.fromSlotsRow state.lentRow
-from-slots-refuses P avail o D = outcome-refuses (state.fromSlotsRow P avail o D) o D [] o (afresh P o D) [] refl
+from-slots-refuses P avail o D =
+    let t = state.fromSlotsRow P avail o D in outcome-refuses t (state.placeless (numberOf t)) o D [] o (afresh P o D) [] refl refl
 
 assign-refuses : (P : Plan) (avail o : List ℕ) (D : Derived) (k w : ℕ)
     → let y = rota.assigned P avail o D k w in
-    Refuses {A = Lent} (rules (rota.assignRow P avail o D k w)) (y .number) (o, D, []) (left y)
+    Refuses {A = Lent} (rules (rota.assignRow P avail o D k w)) (y .refusal .number) (o, D, []) (left y)
 unfolding rota.assigned rota.assignRow state.recountSlotsRow state.lentRow recountTests
 assign-refuses P avail o D k w =
-    outcome-refuses (rota.assignRow P avail o D k w) o D [] (set o k w) (afresh P (set o k w) D) [] refl
+    let t = rota.assignRow P avail o D k w in
+    outcome-refuses t (refusalOf t) o D [] (set o k w) (afresh P (set o k w) D) [] (said t refl) refl
 
 recount-number : (counts room : Bool) (P : Plan) (avail : List ℕ) (units : ℕ) (begins o : List ℕ) (D : Derived)
     → GivenByTests (state.recountRow counts room P avail units begins o D)
@@ -79,27 +84,29 @@ unfolding state.recountSlotsRow state.lentRow recountTests
 recount-slots-number P avail o D = tests-give (state.recountSlotsRow P avail o D) refl
 
 play-refuses : (c : Call)
-    → let y = playOf c in Refuses {A = Lent} (rules (rowOf c)) (y .number) (c .owners, c .derived, c .answers) (left y)
+    → let y = playOf c in Refuses {A = Lent} (rules (rowOf c)) (y .refusal .number) (c .owners, c .derived, c .answers) (left y)
 unfolding rota.playedList state.recountRow state.lentRow recountTests
 play-refuses c =
     let y = afreshIn c in
-    outcome-refuses (rowOf c) (c .owners) (c .derived) (c .answers) (y .owners) (y .derived) (y .answers) refl
+    outcome-refuses (rowOf c) (refusalOf (rowOf c)) (c .owners) (c .derived) (c .answers) (y .owners) (y .derived) (y .answers)
+    (said (rowOf c) refl) refl
 
 play-draws-refuses : (c : Call) (ds : List Draw)
     → let y = playDrawsOf c ds in
-    Refuses {A = Lent} (rules (rowOf (ofDraws c ds))) (y .number) (c .owners, c .derived, c .answers) (left y)
+    Refuses {A = Lent} (rules (rowOf (ofDraws c ds))) (y .refusal .number) (c .owners, c .derived, c .answers) (left y)
 play-draws-refuses c ds =
     let same = played-same (c .plan) (c .avail) (c .units) (c .begins) (c .frozen) (c .count) (c .owners) (c .derived) (c .answers) ds in
-    subst (λ (y : state.Outcome). Refuses {A = Lent} (rules (rowOf (ofDraws c ds))) (y .number) (c .owners, c .derived, c .answers) (left y))
+    subst (λ (y : state.Outcome). Refuses {A = Lent} (rules (rowOf (ofDraws c ds))) (y .refusal .number) (c .owners, c .derived, c .answers) (left y))
     (sym same) (play-refuses (ofDraws c ds))
 
 empty-refuses : (people slots : ℕ) (o : List ℕ) (D : Derived)
     → let y = state.emptied people slots o D in
-    Refuses {A = Lent} (rules (state.emptyRow people slots o D)) (y .number) (o, D, []) (left y)
+    Refuses {A = Lent} (rules (state.emptyRow people slots o D)) (y .refusal .number) (o, D, []) (left y)
 unfolding state.emptied state.emptyRow
 empty-refuses people slots o D =
-    outcome-refuses (state.emptyRow people slots o D) o D [] (fill nobody 0 slots o)
-    (derived (setsFrom people slots (nobodies slots) (D .sets)) (over (λ _. 0) people (D .minutes))) [] refl
+    let t = state.emptyRow people slots o D in
+    outcome-refuses t (state.placeless (numberOf t)) o D [] (fill nobody 0 slots o)
+    (derived (setsFrom people slots (nobodies slots) (D .sets)) (over (λ _. 0) people (D .minutes))) [] refl refl
 
 owner-number : (people slots : ℕ) (o : List ℕ) (k : ℕ)
     → GivenByTests (state.ownerRow people slots o k) (numberRefusal (state.ownerIs people slots o k))

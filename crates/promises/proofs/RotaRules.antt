@@ -9,9 +9,11 @@ use borrow.Author.Tests.{eqb-true, eqb-false}
 use lib.Dec.{eqb, leb}
 use lib.ListN.{length, getD, set, length-set}
 use lib.Seq.{getD-set-same, getD-set-other}
+use Rattle.promises.proofs.Numbers.{none-given}
+use Rattle.paper.specs.declared.Refusal.{Refusal}
 use Rattle.paper.specs.Limits.{nobody, slotCountOk, numberOf}
-use Rattle.paper.proofs.Rows.{passed}
-use Rattle.paper.specs.Rows.{unless}
+use Rattle.paper.proofs.Rows.{passed, said}
+use Rattle.paper.specs.Rows.{unless, accepted}
 use Rattle.paper.specs.Count.{all, sum, count, over, fill}
 use Rattle.paper.proofs.Logic.{by-test, five, and-true, zero-of, slot-count-says}
 use Rattle.paper.proofs.Count.{all-each, getD-over, getD-over-out, getD-fill-in, getD-fill-out}
@@ -27,9 +29,9 @@ use Rattle.slots.proofs.LentLaws.{minutes-said}
 use Rattle.units.specs.Units.{unitStart, unitsOk, InUnit}
 use Rattle.units.proofs.Units.{unit-within}
 use Rattle.owners.specs.Derived.{Plan, Derived, derived, portion, worked, unassigned, uncovered, held, setsFrom, nobodies, afresh}
-use Rattle.owners.specs.Recount.{knownAt, availableAt, recounts}
-use Rattle.rota.specs.Entries.{assigned}
-use Rattle.owners.specs.Entries.{Outcome, outcome, lentRow, fromSlotsRow, fromSlots, emptied}
+use Rattle.owners.specs.Recount.{knownAt, availableAt, recounts, recountTests}
+use Rattle.rota.specs.Entries.{assigned, assignRow}
+use Rattle.owners.specs.Entries.{Outcome, outcome, lentRow, fromSlotsRow, fromSlots, emptied, placeless, recountSlotsRow}
 use Rattle.owners.specs.Entries.{ownerIs, minutesIs, unassignedIs, uncoveredIs, slotsOfIs}
 use Rattle.owners.proofs.Sets.{held-own, held-not, sets-in, sets-out}
 use Rattle.owners.proofs.Steps.{afresh-step, afresh-lengths}
@@ -58,7 +60,7 @@ uncovered-are P o = refl
 
 -- a bit is the one that is due exactly when it is set for the owner
 module _ (o ws : List ℕ) (p k : ℕ) where
-  held-says : slot ws (16 * p) k ≡ held o p k → (slot ws (16 * p) k ≡ 1) ↔ (getD o k 0 ≡ p)
+  pub held-says : slot ws (16 * p) k ≡ held o p k → (slot ws (16 * p) k ≡ 1) ↔ (getD o k 0 ≡ p)
   held-says e = (
     λ q.
         by-test (eqb (getD o k 0) p) _ (eqb-true (getD o k 0) p)
@@ -66,7 +68,7 @@ module _ (o ws : List ℕ) (p k : ℕ) where
     λ q. e ∙ held-own o p k q,
   )
 
-  says-held : (slot ws (16 * p) k ≡ 1) ↔ (getD o k 0 ≡ p) → slot ws (16 * p) k ≡ held o p k
+  pub says-held : (slot ws (16 * p) k ≡ 1) ↔ (getD o k 0 ≡ p) → slot ws (16 * p) k ≡ held o p k
   says-held x =
       by-test (eqb (getD o k 0) p) _
       (λ t. let q = eqb-true (getD o k 0) p t in x .1 q ∙ sym (held-own o p k q))
@@ -74,7 +76,7 @@ module _ (o ws : List ℕ) (p k : ℕ) where
       let n = eqb-false (getD o k 0) p f in
       zero-of (slot ws (16 * p) k) (slot-lt ws (16 * p) k) (λ z. n (x .0 z)) ∙ sym (held-not o p k n))
 
-recount-by-rule : (P : Plan) (avail : List ℕ) (units : ℕ) (begins o : List ℕ) (D : Derived)
+pub recount-by-rule : (P : Plan) (avail : List ℕ) (units : ℕ) (begins o : List ℕ) (D : Derived)
     → (recounts P avail units begins o D ≡ true) ↔ PassesRecount P avail units begins o D
 recount-by-rule P avail units begins o D = (
   λ e.
@@ -101,7 +103,7 @@ recount-by-rule P avail units begins o D = (
 -- what lies past a rota that was made from owners that keep what lies past the slots
 past-afresh : (P : Plan) (avail o o′ : List ℕ) (D : Derived) (x : List ℕ) → LentRight P avail o D
     → ((k : ℕ) → P .slots ≤ k → getD o′ k 0 ≡ getD o k 0)
-    → PastKept (P .people) (P .slots) o D record { number = 0; owners = o′; derived = afresh P o′ D; answers = x }
+    → PastKept (P .people) (P .slots) o D record { refusal = accepted; owners = o′; derived = afresh P o′ D; answers = x }
 unfolding afresh
 past-afresh P avail o o′ D x g same = record {
   owners = same;
@@ -111,10 +113,10 @@ past-afresh P avail o o′ D x g same = record {
 
 -- ---- from_slots
 
-module _ (P : Plan) (avail o : List ℕ) (D : Derived) (e : fromSlots P avail o D .number ≡ 0) where
-  from-is : fromSlots P avail o D ≡ record { number = 0; owners = o; derived = afresh P o D; answers = [] }
+module _ (P : Plan) (avail o : List ℕ) (D : Derived) (e : fromSlots P avail o D .refusal .number ≡ 0) where
+  from-is : fromSlots P avail o D ≡ record { refusal = accepted; owners = o; derived = afresh P o D; answers = [] }
   unfolding fromSlots outcome unless
-  from-is = ap (λ (n : ℕ). outcome n o D [] o (afresh P o D) []) e
+  from-is = ap (λ (n : ℕ). outcome (placeless n) o D [] o (afresh P o D) []) e
 
   from-tests : LentRight P avail o D × (all (P .slots) (knownAt (P .people) o) ≡ true) × (all (P .slots) (availableAt avail o) ≡ true)
   unfolding fromSlots outcome fromSlotsRow lentRow
@@ -148,15 +150,17 @@ module _ (P : Plan) (avail o : List ℕ) (D : Derived) (e : fromSlots P avail o 
 
 -- ---- assign
 
-module _ (P : Plan) (avail o : List ℕ) (D : Derived) (k w : ℕ) (e : assigned P avail o D k w .number ≡ 0) where
+module _ (P : Plan) (avail o : List ℕ) (D : Derived) (k w : ℕ) (e : assigned P avail o D k w .refusal .number ≡ 0) where
   checked : Asks P avail o D k w
   unfolding assigned outcome
-  checked = assign-asks P avail o D k w e
+  checked = assign-asks P avail o D k w (sym (said (assignRow P avail o D k w) refl) ∙ e)
 
   assigned-is : assigned P avail o D k w
-      ≡ record { number = 0; owners = set o k w; derived = afresh P (set o k w) D; answers = [] }
-  unfolding assigned outcome unless
-  assigned-is = ap (λ (n : ℕ). outcome n o D [] (set o k w) (afresh P (set o k w) D) []) e
+      ≡ record { refusal = accepted; owners = set o k w; derived = afresh P (set o k w) D; answers = [] }
+  unfolding assigned outcome unless assignRow recountSlotsRow lentRow recountTests
+  assigned-is =
+      ap (λ (f : Refusal). outcome f o D [] (set o k w) (afresh P (set o k w) D) [])
+      (none-given (assignRow P avail o D k w) refl (sym (said (assignRow P avail o D k w) refl) ∙ e))
 
   assign-made : let y = assigned P avail o D k w in
       (getD (y .owners) k 0 ≡ w) × ((j : ℕ) → j ≢ k → getD (y .owners) j 0 ≡ getD o j 0) × Made P avail o D y
@@ -180,7 +184,7 @@ module _ (c : Call) (k w : ℕ) (e : noOf c ≡ 0) where
   abbrev next : Call
   next = onRota c (y .owners) (y .derived) (c .answers)
 
-  module _ (z : y .number ≡ 0) (u j : ℕ) (i : InUnit (c .plan .slots) (c .units) (c .begins) j u)
+  module _ (z : y .refusal .number ≡ 0) (u j : ℕ) (i : InUnit (c .plan .slots) (c .units) (c .begins) j u)
       (differ : getD (y .owners) j 0 ≢ getD (y .owners) (unitStart (c .begins) u) 0) where
     fails : recounts (c .plan) (c .avail) (c .units) (c .begins) (y .owners) (y .derived) ≡ false
     fails =
@@ -213,16 +217,16 @@ module _ (c : Call) (k w : ℕ) (e : noOf c ≡ 0) where
 
 -- ---- an empty rota
 
-module _ (P : Plan) (o : List ℕ) (D : Derived) (e : emptied (P .people) (P .slots) o D .number ≡ 0) where
+module _ (P : Plan) (o : List ℕ) (D : Derived) (e : emptied (P .people) (P .slots) o D .refusal .number ≡ 0) where
   abbrev owners : List ℕ
   owners = fill nobody 0 (P .slots) o
 
   abbrev cleared : Derived
   cleared = derived (setsFrom (P .people) (P .slots) (nobodies (P .slots)) (D .sets)) (over (λ _. 0) (P .people) (D .minutes))
 
-  emptied-is : emptied (P .people) (P .slots) o D ≡ record { number = 0; owners = owners; derived = cleared; answers = [] }
+  emptied-is : emptied (P .people) (P .slots) o D ≡ record { refusal = accepted; owners = owners; derived = cleared; answers = [] }
   unfolding emptied outcome unless
-  emptied-is = ap (λ (n : ℕ). outcome n o D [] owners cleared []) e
+  emptied-is = ap (λ (n : ℕ). outcome (placeless n) o D [] owners cleared []) e
 
   -- what its tests say
   pub record Clears : Type 0 where

@@ -551,18 +551,18 @@ play-first c =
     (units-right (c .plan .slots) (c .units) (c .begins) q
     (recount-says (c .plan) (c .avail) (c .units) (c .begins) (c .owners) (c .derived) none)))))))
 
-play-number : (c : Call) → GivenBy (tables.playTable c (length (c .draws)) (length (c .firsts)) (length (c .seconds))) (playOf c .number)
+play-number : (c : Call) → GivenBy (tables.playTable c (length (c .draws)) (length (c .firsts)) (length (c .seconds))) (playOf c .refusal .number)
 unfolding state.recountRow state.lentRow recountTests
 play-number c = by-first _ (rowOf c) _ refl refl (rota-refuses .play c .given) (play-first c)
 
-draws-number : (c : Call) (ds : List Draw) → GivenBy (tables.playTable c (length ds) (length ds) (length ds)) (playDrawsOf c ds .number)
+draws-number : (c : Call) (ds : List Draw) → GivenBy (tables.playTable c (length ds) (length ds) (length ds)) (playDrawsOf c ds .refusal .number)
 unfolding draws firsts seconds
 draws-number c ds =
-    let n = playDrawsOf c ds .number in
+    let n = playDrawsOf c ds .refusal .number in
     subst (λ (k : ℕ). GivenBy (tables.playTable c k (length ds) (length ds)) n) (length-map ds (λ d. d .draw))
     (subst (λ (k : ℕ). GivenBy (tables.playTable c (length (draws ds)) k (length ds)) n) (length-map ds (λ d. d .first))
     (subst (λ (k : ℕ). GivenBy (tables.playTable c (length (draws ds)) (length (firsts ds)) k) n) (length-map ds (λ d. d .second))
-    (subst (λ (y : state.Outcome). GivenBy (tables.playTable c (length (draws ds)) (length (firsts ds)) (length (seconds ds))) (y .number))
+    (subst (λ (y : state.Outcome). GivenBy (tables.playTable c (length (draws ds)) (length (firsts ds)) (length (seconds ds))) (y .refusal .number))
     (sym (draws-alike c ds)) (play-number (ofDraws c ds)))))
 
 slots-of-first : (people slots : ℕ) (ws : List ℕ) (p : ℕ)

@@ -112,7 +112,7 @@ module _ (c : Call) (e : noOf c ≡ 0) where
         let said : answers B o (drawsIn v) ≡ replicate (w .count) 0 =
         ap (answers B o) (H .these) ∙ r .1 ∙ ap (λ (k : ℕ). replicate k 0) n in
         record {
-          accepted = ap (λ (z : Outcome). z .number) y;
+          accepted = ap (λ (z : Outcome). z .refusal .number) y;
           act = λ i h.
               ap (λ (z : Outcome). getD (z .answers) i 0) y
               ∙ ap (λ (l : List ℕ). getD (l ++ drop (length l) (w .answers)) i 0) said
@@ -282,7 +282,7 @@ pub way-back : WayBack built
 unfolding AllAccepted lastOwners lastDerived
 way-back c e f owned w H =
     let p : Part = record { count = c .count; draws = c .draws; firsts = c .firsts; seconds = c .seconds; answers = c .answers } in
-    way-back-in-any-order c (c .owners) (c .derived) p [] f (ap (λ (y : Outcome). y .number) (accepted-is c e), tt) owned
+    way-back-in-any-order c (c .owners) (c .derived) p [] f (ap (λ (y : Outcome). y .refusal .number) (accepted-is c e), tt) owned
     (back (boardIn c) (c .owners) (playOf c .owners)) (back-takes (boardIn c) (c .owners) (playOf c .owners)) w H
 
 -- ---- the condition
@@ -354,7 +354,7 @@ runs-dont =
     let e = next-accepted c three-accepted three-words part (omega arith) (omega arith) (omega arith) (omega arith) (omega (arith, ap length said)) in
     let z = accepted-is (again built c) e in
     record {
-      accepted = (three-accepted, ap (λ (t : Outcome). t .number) z);
+      accepted = (three-accepted, ap (λ (t : Outcome). t .refusal .number) z);
       acts = (
         said,
         ap (λ (t : Outcome). t .answers) z

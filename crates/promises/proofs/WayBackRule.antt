@@ -178,7 +178,7 @@ module _ (c : Call) (q : Asked) where
       record {
         is-back = L .is-back;
         past = L .past;
-        accepted = λ x h. ap (λ (t : state.Outcome). t .number) (accepted-is (v z none y n L x h) (taken z none y n L x h));
+        accepted = λ x h. ap (λ (t : state.Outcome). t .refusal .number) (accepted-is (v z none y n L x h) (taken z none y n L x h));
         act = λ x h. act-there z none y n L x h;
         owners = λ x h. owners-there z none y n L x h;
         derived = λ x h. derived-there z none y n L x h;

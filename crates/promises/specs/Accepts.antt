@@ -92,14 +92,14 @@ pub record EachAccepts : Type 0 where
   pub compute-targets : let g = given 2 1 (0 ∷ []) (100 ∷ []) (replicate 32 0) (one ∷ one ∷ []) (300 ∷ 0 ∷ []) 1 0 in
       computeTargets g (pos 0 ∷ pos 0 ∷ []) .number ≡ 0
   -- the rota
-  pub from-slots : state.fromSlots (noDraw .plan) (noDraw .avail) (noDraw .owners) (noDraw .derived) .number ≡ 0
-  pub empty : state.emptied 1 1 room (derived (words 0) room) .number ≡ 0
-  pub assign : rota.assigned (noDraw .plan) (noDraw .avail) (noDraw .owners) (noDraw .derived) 0 1 .number ≡ 0
+  pub from-slots : state.fromSlots (noDraw .plan) (noDraw .avail) (noDraw .owners) (noDraw .derived) .refusal .number ≡ 0
+  pub empty : state.emptied 1 1 room (derived (words 0) room) .refusal .number ≡ 0
+  pub assign : rota.assigned (noDraw .plan) (noDraw .avail) (noDraw .owners) (noDraw .derived) 0 1 .refusal .number ≡ 0
   pub recount : numberOf (state.recountRow true (leb 2 (length (noDraw .begins))) (noDraw .plan) (noDraw .avail) 2 (noDraw .begins)
       (noDraw .owners) (noDraw .derived)) ≡ 0
   pub recount-slots : numberOf (state.recountSlotsRow (noDraw .plan) (noDraw .avail) (noDraw .owners) (noDraw .derived)) ≡ 0
-  pub play : playOf noDraw .number ≡ 0
-  pub play-draws : playDrawsOf noDraw [] .number ≡ 0
+  pub play : playOf noDraw .refusal .number ≡ 0
+  pub play-draws : playDrawsOf noDraw [] .refusal .number ≡ 0
   pub owner-of-slot : numberRefusal (state.ownerIs 1 1 room 0) ≡ 0
   pub minutes-of : minutesRefusal (state.minutesIs 1 room 0) ≡ 0
   pub slots-of : state.slotsOfIs 1 1 (words 1) 0 .number ≡ 0

@@ -19,7 +19,7 @@ use Rattle.promises.specs.Rota.{firstCall}
 
 -- "A component that always refuses breaks demand 2: refusals come exactly by the table."
 abbrev pub RefusesByTable : Component → Type 0
-RefusesByTable C = (c : Call) → GivenByTests (rowOf c) (C .play c .number)
+RefusesByTable C = (c : Call) → GivenByTests (rowOf c) (C .play c .refusal .number)
 
 -- one of its entries does
 pub data AlwaysRefuses (C : Component) : Type 0 where
@@ -33,7 +33,7 @@ pub data AlwaysRefuses (C : Component) : Type 0 where
   refuses-rotations : ((s : Settings) (n : ℕ) (starts ends list : List ℕ) → numberRefusal
       (C .rotations s n starts ends list .answer) ≡ 0 → ⊥)
       → AlwaysRefuses C
-  refuses-play : ((c : Call) → C .play c .number ≡ 0 → ⊥) → AlwaysRefuses C
+  refuses-play : ((c : Call) → C .play c .refusal .number ≡ 0 → ⊥) → AlwaysRefuses C
   refuses-uncovered : ((P : Plan) (o : List ℕ) → minutesRefusal (C .uncovered P o) ≡ 0 → ⊥) → AlwaysRefuses C
 
 -- "One fixed answer breaks it by cases 1 to 12": one of its entries gives it, whatever it is asked

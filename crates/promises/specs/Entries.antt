@@ -27,6 +27,7 @@ use Rattle.rota.specs.Lent.{boardOf}
 use Rattle.rota.specs.Moves.{Draw}
 use Rattle.rota.specs.Plays.{drawsOf, ownersAfter, answers}
 use Rattle.paper.specs.Limits.{Test, numberOf}
+use Rattle.paper.specs.Rows.{accepted}
 use Rattle.owners.specs.Derived.{Plan, Derived, afresh}
 use Rattle.owners.specs.Entries as state
 use Rattle.rota.specs.Entries as rota
@@ -123,7 +124,7 @@ playDrawsOf c ds =
 -- the rota that the rules give, worked out afresh, with an answer a draw
 abbrev pub afreshIn : Call → state.Outcome
 afreshIn c = record {
-  number = 0;
+  refusal = accepted;
   owners = ownersIn c;
   derived = afresh (c .plan) (ownersIn c) (c .derived);
   answers = onto (answers (boardIn c) (c .owners) (drawsIn c)) (c .answers);

@@ -154,5 +154,5 @@ listedFrom G o =
 -- ---- the promise: an accepted job lists what its records give so
 
 abbrev pub JobByRecords : Type 0
-JobByRecords = (s x : List ℕ) (J : JobFile s) → jobRefusal (jobResult s x .answer) ≡ 0
+JobByRecords = (s x : List ℕ) (J : JobFile s) → jobRefusal (jobResult s x .answer) .number ≡ 0
     → listedOf s ≡ listedFrom (givenBy (J .records)) (ownersBy (J .records))

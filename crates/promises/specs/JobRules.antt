@@ -6,6 +6,7 @@ use mathlib.Core.Logic.{_↔_, _≢_}
 use Prim.Native.Nat.{ℕ, suc, _+_, _-_, _^_, _≤_, _<_}
 use lib.IntN.{ℤ, pos, natAbs}
 use lib.ListN.{length, getD, take, drop}
+use Rattle.paper.specs.declared.Refusal.{Refusal}
 use Rattle.paper.specs.Limits.{nobody}
 use Rattle.paper.specs.Count.{sum}
 use Rattle.targets.specs.Remainder.{sumℤ}
@@ -18,7 +19,8 @@ use Rattle.job.specs.File.{jobSizes, ownerSlot, fileOk, JobFile}
 use Rattle.job.specs.Listing.{digits, signed, listingOf, listingMost}
 use Rattle.job.specs.Digits.{readDigits, readSigned}
 use Rattle.job.specs.Stages.{counted, columnOf, settingsIn, instantOf, baseTotal, readyOf, ownerValue, placed, ownersOf, listedOf}
-use Rattle.job.specs.Outcome.{Lowest, AllPass, jobTests, jobResult}
+use Rattle.job.specs.Stages.{unevenOf}
+use Rattle.job.specs.Outcome.{Lowest, AllPass, jobTests, refusalAt, jobResult}
 
 -- an accepted job, with n bytes of listing
 pub record Accepted (s x : List ℕ) (n : ℕ) : Type 0 where
@@ -39,13 +41,15 @@ pub record Accepted (s x : List ℕ) (n : ℕ) : Type 0 where
       × (availableFor (readyOf s .avail) (getD (listedOf s .owners) k 0) k ≡ true)
 
 pub record JobByRule : Type 0 where
-  -- "The lowest number wins, but 13 comes before all": n is given exactly where it is the lowest of those that apply
-  pub given : (s x : List ℕ) (n : ℕ) → (jobResult s x .answer ≡ answer.Refused n) ↔ Lowest (jobTests s (length x)) n
+  -- "The lowest number wins, but 13 comes before all": a refusal is given exactly where its number is the lowest of those that apply; 10 is
+  -- of the lowest unit with two owners, which is part 3, and no other number names a part
+  pub given : (s x : List ℕ) (f : Refusal)
+      → (jobResult s x .answer ≡ answer.Refused f) ↔ (Lowest (jobTests s (length x)) (f .number) × (f ≡ refusalAt (f .number) (unevenOf s)))
   -- a listing is given exactly where no number applies
   pub answered : (s x : List ℕ) (n : ℕ)
       → (jobResult s x .answer ≡ answer.Length n) ↔ (AllPass (jobTests s (length x)) × (n ≡ length (listingOf (listedOf s))))
   -- "A refusal returns its number alone and changes nothing lent."
-  pub kept : (s x : List ℕ) (n : ℕ) → jobResult s x .answer ≡ answer.Refused n → jobResult s x .out ≡ x
+  pub kept : (s x : List ℕ) (f : Refusal) → jobResult s x .answer ≡ answer.Refused f → jobResult s x .out ≡ x
   -- 13, both ways: the file is a right sequence of records, and not too long
   pub file : (s : List ℕ) → Bytes s → (fileOk s ≡ true) ↔ JobFile s
   -- what a job works with stands in that sequence: as many records of each kind, each field in the body of its record, the settings

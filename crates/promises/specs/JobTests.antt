@@ -1,7 +1,7 @@
 -- Demand 1 of the job, in the words of the paper's table: each test of its row, by number, and exactly when it passes, said of the records
 -- of its file. Assumes nothing.
 use mathlib.Core.Path.{_≡_}
-use mathlib.Core.Bool.{true}
+use mathlib.Core.Bool.{true, false}
 use mathlib.Core.List.{List}
 use mathlib.Core.Logic.{_⊎_, _↔_, _≢_}
 use Prim.Native.Nat.{ℕ, _≤_, _<_}
@@ -36,11 +36,23 @@ pub record CountsRight (rs : List Rec) : Type 0 where
   pub ranges : length (bodies 4 rs) ≤ 1024
   pub draws : length (bodies 7 rs) ≤ 1024
 
+-- all below n are right; and n has a lowest that is not
+abbrev pub AllRight : ℕ → (ℕ → Type 0) → Type 0
+AllRight n Right = (k : ℕ) → k < n → Right k
+
+pub record LowestFault (n : ℕ) (Right : ℕ → Type 0) (k : ℕ) : Type 0 where
+  pub below : k < n
+  pub wrong : Right k → ⊥
+  pub lower : (j : ℕ) → j < k → Right j
+
 -- 10, here "only an uneven unit": the slots of each unit have one owner, as written
-abbrev pub OwnersEven : List Rec → Ready → Type 0
-OwnersEven rs R =
-    (u k : ℕ) → u < R .units → unitStart (R .begins) u ≤ k → k < unitEnd (R .slots) (R .units) (R .begins) u
+abbrev pub UnitEven : List Rec → Ready → ℕ → Type 0
+UnitEven rs R u =
+    (k : ℕ) → unitStart (R .begins) u ≤ k → k < unitEnd (R .slots) (R .units) (R .begins) u
     → ownerIn (bodies 6 rs) k ≡ ownerIn (bodies 6 rs) (unitStart (R .begins) u)
+
+abbrev pub OwnersEven : List Rec → Ready → Type 0
+OwnersEven rs R = AllRight (R .units) (UnitEven rs R)
 
 -- 11: each owner record names a slot below the count, and nobody or a known person, by the whole u16
 abbrev pub OwnersKnown : List Rec → Ready → Type 0
@@ -71,6 +83,9 @@ pub record JobTests (s : List ℕ) (lent : ℕ) : Type 0 where
       → PassesWhen (jobTests s lent) 7 7 (SettingsRight (givenBy (J .records) .settings))
   pub even : (J : JobFile s) → PassBefore (jobTests s lent) 8
       → PassesWhen (jobTests s lent) 8 10 (OwnersEven (J .records) (readyFrom (givenBy (J .records))))
+  -- its place is the lowest unit that has two owners
+  pub uneven : (J : JobFile s) → PassBefore (jobTests s lent) 8 → testAt (jobTests s lent) 8 .passes ≡ false
+      → let R = readyFrom (givenBy (J .records)) in LowestFault (R .units) (UnitEven (J .records) R) (testAt (jobTests s lent) 8 .place)
   pub known : (J : JobFile s) → PassBefore (jobTests s lent) 9
       → PassesWhen (jobTests s lent) 9 11 (OwnersKnown (J .records) (readyFrom (givenBy (J .records))))
   pub able : (J : JobFile s) → PassBefore (jobTests s lent) 10

@@ -7,6 +7,8 @@ use Prim.Native.Nat.{ℕ, zero, suc, _^_, _≤_, _<_}
 use lib.Dec.{eqb}
 use lib.IntN.{ℤ, pos, natAbs}
 use lib.ListN.{length, getD, take, drop}
+use Rattle.paper.specs.declared.Refusal.{Refusal}
+use Rattle.owners.specs.Entries.{placeless}
 use Rattle.job.specs.File.{JobFile}
 use Rattle.job.specs.Listing.{Listed, digits, signed}
 use Rattle.job.specs.Digits.{Decimal, readDigits, readSigned}
@@ -58,15 +60,23 @@ abbrev pub linesOf : Listed → List (List (List ℕ))
 linesOf L =
     each (slotWords L) (L .slots) ++ (each (personWords L) (L .people) ++ (each (drawWords L) (L .draws) ++ (uncoveredWords L ∷ [])))
 
--- "a refusal writes one line, as `R 3`"
-abbrev pub refusalText : ℕ → List ℕ
-refusalText n = lineOf ((82 ∷ []) ∷ digits n ∷ [])
+-- "a refusal writes one line, as `R 3`"; one that names a part writes it after a point, 46, and then its place, as `R 10.3 7`; a wrong set,
+-- part 4, has two
+abbrev pub placeWords : Refusal → List (List ℕ)
+placeWords f = cond (eqb (f .part) 4) (digits (f .place) ∷ digits (f .second) ∷ []) (digits (f .place) ∷ [])
+
+abbrev pub refusalWords : Refusal → List (List ℕ)
+refusalWords f =
+    (82 ∷ []) ∷ cond (eqb (f .part) 0) (digits (f .number) ∷ []) ((digits (f .number) ++ (46 ∷ digits (f .part))) ∷ placeWords f)
+
+abbrev pub refusalText : Refusal → List ℕ
+refusalText f = lineOf (refusalWords f)
 
 -- ---- the promise
 
 pub record JobText : Type 0 where
   -- what an accepted job leaves at the front of the lent buffer is the text of the lines that its records give; past it the buffer stays
-  pub listing : (s x : List ℕ) (J : JobFile s) → jobRefusal (jobResult s x .answer) ≡ 0
+  pub listing : (s x : List ℕ) (J : JobFile s) → jobRefusal (jobResult s x .answer) .number ≡ 0
       → let n = jobLength 0 (jobResult s x .answer) in
       (take n (jobResult s x .out) ≡ textOf (linesOf (listedFrom (givenBy (J .records)) (ownersBy (J .records)))))
       × (drop n (jobResult s x .out) ≡ drop n x)
@@ -74,9 +84,9 @@ pub record JobText : Type 0 where
   pub digits : (n : ℕ) → n < 10 ^ 20 → Decimal (digits n) × (readDigits (digits n) ≡ n)
   pub signed : (z : ℤ) → natAbs z < 10 ^ 20 → readSigned (signed z) ≡ z
   -- the line of a refusal: 2 exactly where the buffer is shorter than the line, and then it stays; else the line stands at its front
-  pub refusal : (n : ℕ) (x : List ℕ) → (jobRefusal (refusalResult n x .answer) ≡ 0) ↔ (length (refusalText n) ≤ length x)
-  pub refusal-2 : (n : ℕ) (x : List ℕ) → (jobRefusal (refusalResult n x .answer) ≡ 0 → ⊥)
-      → (jobRefusal (refusalResult n x .answer) ≡ 2) × (refusalResult n x .out ≡ x)
-  pub refusal-line : (n : ℕ) (x : List ℕ) → jobRefusal (refusalResult n x .answer) ≡ 0
-      → let l = jobLength 0 (refusalResult n x .answer) in
-      (take l (refusalResult n x .out) ≡ refusalText n) × (drop l (refusalResult n x .out) ≡ drop l x)
+  pub refusal : (f : Refusal) (x : List ℕ) → (jobRefusal (refusalResult f x .answer) .number ≡ 0) ↔ (length (refusalText f) ≤ length x)
+  pub refusal-2 : (f : Refusal) (x : List ℕ) → (jobRefusal (refusalResult f x .answer) .number ≡ 0 → ⊥)
+      → (jobRefusal (refusalResult f x .answer) ≡ placeless 2) × (refusalResult f x .out ≡ x)
+  pub refusal-line : (f : Refusal) (x : List ℕ) → jobRefusal (refusalResult f x .answer) .number ≡ 0
+      → let l = jobLength 0 (refusalResult f x .answer) in
+      (take l (refusalResult f x .out) ≡ refusalText f) × (drop l (refusalResult f x .out) ≡ drop l x)

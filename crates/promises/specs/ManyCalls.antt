@@ -38,7 +38,7 @@ drawsOfParts (p ∷ ps) = drawsOf (p .draws) (p .firsts) (p .seconds) (p .count)
 unfoldable pub AllAccepted : Component → Call → List ℕ → Derived → List Part → Type 0
 AllAccepted C c o D [] = Unit
 AllAccepted C c o D (p ∷ ps) =
-    let y = C .play (partCall c o D p) in (y .number ≡ 0) × AllAccepted C c (y .owners) (y .derived) ps
+    let y = C .play (partCall c o D p) in (y .refusal .number ≡ 0) × AllAccepted C c (y .owners) (y .derived) ps
 
 -- what the last one leaves, and the answers of all
 unfoldable pub lastOwners : Component → Call → List ℕ → Derived → List Part → List ℕ
@@ -76,7 +76,7 @@ pub record Whole (w : Part) (ps : List Part) : Type 0 where
 
 -- .. then one call of all of them is accepted too, and ends alike
 pub record PlayedAsOne (C : Component) (c : Call) (o : List ℕ) (D : Derived) (w : Part) (ps : List Part) : Type 0 where
-  pub accepted : C .play (partCall c o D w) .number ≡ 0
+  pub accepted : C .play (partCall c o D w) .refusal .number ≡ 0
   pub owners : C .play (partCall c o D w) .owners ≡ lastOwners C c o D ps
   pub derived : C .play (partCall c o D w) .derived ≡ lastDerived C c o D ps
   pub answers : take (w .count) (C .play (partCall c o D w) .answers) ≡ allAnswers C c o D ps

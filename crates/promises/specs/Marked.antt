@@ -7,6 +7,7 @@ use Prim.Native.Nat.{ℕ, _-_, _*_, _^_, _≤_}
 use lib.IntN.{ℤ, pos, negsuc}
 use lib.Ieee.{Float, fin}
 use lib.ListN.{length, drop, replicate}
+use Rattle.paper.specs.Rows.{accepted}
 use Rattle.slotset.specs.declared.SlotSet.{SlotSet}
 use Rattle.slotset.specs.declared.Found.the-variants.{At, Nothing}
 use Rattle.slotset.specs.declared.Run.the-variants as run
@@ -131,4 +132,4 @@ pub record MarkedCases (C : Component) : Type 0 where
   -- 12. Two units, owners 0 and 1, unit 1 frozen: (35, 0, 1) answers 1
   pub case-12 : (more : Spare) → 1 ≤ length (more .answers)
       → let c = twoUnits apart 2 1 (35 ∷ []) (0 ∷ []) (1 ∷ []) more in
-      C .play c ≡ record { number = 0; owners = c .owners; derived = c .derived; answers = 1 ∷ drop 1 (more .answers) }
+      C .play c ≡ record { refusal = accepted; owners = c .owners; derived = c .derived; answers = 1 ∷ drop 1 (more .answers) }

@@ -4,6 +4,7 @@ use mathlib.Core.Path.{_≡_}
 use mathlib.Core.List.{List}
 use Prim.Native.Nat.{ℕ}
 use lib.IntN.{ℤ}
+use Rattle.paper.specs.declared.Refusal.{Refusal}
 use Rattle.slotset.specs.declared.Number.{Number}
 use Rattle.slots.specs.Merged.{MergedOut, MergedEnd}
 use Rattle.slots.specs.Atomic.{Atoms, AtomsEnd}
@@ -30,7 +31,7 @@ pub record OneOutcome : Type 1 where
   pub written : (w : Written) → Only (λ (r : Number × List ℕ). EndsAs w (r .0) (r .1))
   pub compute-targets : (g : targets.Given) (out : List ℤ) → Only (λ (r : ℕ × List ℤ). targets.Meets g out (r .0) (r .1))
   -- from_slots, assign, empty, and play, of columns and of structs
-  pub rota : (y : state.Outcome) → Only (λ (r : ℕ × List ℕ × Derived × List ℕ). state.Ended y (r .0) (r .1) (r .2) (r .3))
+  pub rota : (y : state.Outcome) → Only (λ (r : Refusal × List ℕ × Derived × List ℕ). state.Ended y (r .0) (r .1) (r .2) (r .3))
   pub way-back : (y : wayback.Outcome) → Only (λ (r : Way × List ℕ × List ℕ × List ℕ). wayback.Ended y (r .0) (r .1) (r .2) (r .3))
   -- run_job, refusal_line
   pub run-job : (y : job.Result) → Only (λ (r : JobAnswer × List ℕ). job.Ends y (r .0) (r .1))

@@ -109,8 +109,8 @@ abbrev pub Words : List ℕ → Type 0
 Words ws = (j : ℕ) → getD ws j 0 < 2 ^ 64
 
 pub record InTwo (C : Component) (c : Call) (n m : ℕ) : Type 0 where
-  pub first : C .play (firstCall c n) .number ≡ 0
-  pub second : C .play (secondCall C c n m) .number ≡ 0
+  pub first : C .play (firstCall c n) .refusal .number ≡ 0
+  pub second : C .play (secondCall C c n m) .refusal .number ≡ 0
   pub owners : C .play (secondCall C c n m) .owners ≡ C .play c .owners
   pub derived : C .play (secondCall C c n m) .derived ≡ C .play c .derived
   pub answers : take n (C .play (firstCall c n) .answers) ++ C .play (secondCall C c n m) .answers ≡ C .play c .answers

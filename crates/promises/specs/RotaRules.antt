@@ -50,19 +50,19 @@ pub record RotaByRule : Type 0 where
       → (recounts P avail units begins o D ≡ true) ↔ PassesRecount P avail units begins o D
   -- "`from_slots` makes sets and minutes from owners"
   pub from-slots : (P : Plan) (avail o : List ℕ) (D : Derived)
-      → let y = fromSlots P avail o D in y .number ≡ 0 → (y .owners ≡ o) × Made P avail o D y
+      → let y = fromSlots P avail o D in y .refusal .number ≡ 0 → (y .owners ≡ o) × Made P avail o D y
   -- "Single-slot assign recounts too but asks nothing of units or frozen flags": slot k has the owner, every other slot the one it had
   pub assign : (P : Plan) (avail o : List ℕ) (D : Derived) (k w : ℕ)
-      → let y = assigned P avail o D k w in y .number ≡ 0
+      → let y = assigned P avail o D k w in y .refusal .number ≡ 0
       → (getD (y .owners) k 0 ≡ w) × ((j : ℕ) → j ≢ k → getD (y .owners) j 0 ≡ getD o j 0) × Made P avail o D y
   -- "a rota it makes uneven is refused by the next play", whatever the draws
   pub uneven : (c : Call) (k w : ℕ) → noOf c ≡ 0
-      → let y = assigned (c .plan) (c .avail) (c .owners) (c .derived) k w in y .number ≡ 0
+      → let y = assigned (c .plan) (c .avail) (c .owners) (c .derived) k w in y .refusal .number ≡ 0
       → (u j : ℕ) → InUnit (c .plan .slots) (c .units) (c .begins) j u → getD (y .owners) j 0 ≢ getD (y .owners) (unitStart (c .begins) u) 0
       → noOf (onRota c (y .owners) (y .derived) (c .answers)) ≡ 10
   -- an empty rota: nobody owns a slot, and it passes the recount, units too, whatever the slots' times and the availability
   pub empty : (P : Plan) (o : List ℕ) (D : Derived)
-      → let y = emptied (P .people) (P .slots) o D in y .number ≡ 0
+      → let y = emptied (P .people) (P .slots) o D in y .refusal .number ≡ 0
       → ((k : ℕ) → k < P .slots → getD (y .owners) k 0 ≡ nobody)
       × ((avail : List ℕ) (units : ℕ) (begins : List ℕ) → unitsOk (P .slots) units begins ≡ true
       → PassesRecount P avail units begins (y .owners) (y .derived))

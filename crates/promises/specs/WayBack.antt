@@ -27,7 +27,7 @@ again C c = let y = C .play c in onRota c (y .owners) (y .derived) (y .answers)
 
 -- it is accepted, its draw acts, and the rota is as before both: owners and what is derived from them, whatever is lent past them included
 pub record ComesBack (C : Component) (c : Call) : Type 0 where
-  pub accepted : C .play (again C c) .number ≡ 0
+  pub accepted : C .play (again C c) .refusal .number ≡ 0
   pub acts : getD (C .play (again C c) .answers) 0 0 ≡ 0
   pub owners : C .play (again C c) .owners ≡ c .owners
   pub derived : C .play (again C c) .derived ≡ c .derived
@@ -65,7 +65,7 @@ threeUnits = record {
 }
 
 pub record RunsDont (C : Component) : Type 0 where
-  pub accepted : (noOf threeUnits ≡ 0) × (C .play (again C threeUnits) .number ≡ 0)
+  pub accepted : (noOf threeUnits ≡ 0) × (C .play (again C threeUnits) .refusal .number ≡ 0)
   pub acts : (C .play threeUnits .answers ≡ 0 ∷ []) × (C .play (again C threeUnits) .answers ≡ 0 ∷ [])
   pub first : C .play threeUnits .owners ≡ 1 ∷ 0 ∷ 0 ∷ []
   pub second : C .play (again C threeUnits) .owners ≡ 0 ∷ 1 ∷ 1 ∷ []
@@ -105,7 +105,7 @@ pub record Holds (w : Part) (ds : List Draw) : Type 0 where
 
 -- played on the rota o, E they are accepted, every one acts, and the rota a, D is back, whatever is lent past it included
 pub record BringsBack (C : Component) (c : Call) (a : List ℕ) (D : Derived) (o : List ℕ) (E : Derived) (w : Part) : Type 0 where
-  pub accepted : C .play (partCall c o E w) .number ≡ 0
+  pub accepted : C .play (partCall c o E w) .refusal .number ≡ 0
   pub act : (i : ℕ) → i < w .count → getD (C .play (partCall c o E w) .answers) i 0 ≡ 0
   pub owners : C .play (partCall c o E w) .owners ≡ a
   pub derived : C .play (partCall c o E w) .derived ≡ D
@@ -132,7 +132,7 @@ WayBackInAnyOrder C =
 abbrev pub NeverUnowned : Component → Type 0
 NeverUnowned C =
     (c : Call) → noOf c ≡ 0 → (k : ℕ) → k < c .plan .slots → before c k ≡ nobody → (after C c k ≡ nobody → ⊥)
-    → (w : Part) → C .play (partCall c (C .play c .owners) (C .play c .derived) w) .number ≡ 0
+    → (w : Part) → C .play (partCall c (C .play c .owners) (C .play c .derived) w) .refusal .number ≡ 0
     → C .play (partCall c (C .play c .owners) (C .play c .derived) w) .owners ≡ c .owners → ⊥
 
 -- such a rota: two units, nobody owns the first, and (0, 0, 0) gives it to person 0
@@ -144,5 +144,5 @@ halfOwned =
 pub record ConditionNeeded (C : Component) : Type 0 where
   pub accepted : noOf halfOwned ≡ 0
   pub owned : C .play halfOwned .owners ≡ 0 ∷ 1 ∷ []
-  pub no-way : (w : Part) → C .play (partCall halfOwned (C .play halfOwned .owners) (C .play halfOwned .derived) w) .number ≡ 0
+  pub no-way : (w : Part) → C .play (partCall halfOwned (C .play halfOwned .owners) (C .play halfOwned .derived) w) .refusal .number ≡ 0
       → C .play (partCall halfOwned (C .play halfOwned .owners) (C .play halfOwned .derived) w) .owners ≡ halfOwned .owners → ⊥

@@ -56,7 +56,7 @@ pub record Leads (C : Component) (c : Call) (q : Asked) (n : ℕ) : Type 0 where
   pub past : (k : ℕ) → n ≤ k
       → (getD (wayFor c q .draws) k 0 ≡ getD (q .draws) k 0) × (getD (wayFor c q .firsts) k 0 ≡ getD (q .firsts) k 0)
       × (getD (wayFor c q .seconds) k 0 ≡ getD (q .seconds) k 0)
-  pub accepted : (x : List ℕ) → n ≤ length x → C .play (partCall c (c .owners) (c .derived) (written c q n x)) .number ≡ 0
+  pub accepted : (x : List ℕ) → n ≤ length x → C .play (partCall c (c .owners) (c .derived) (written c q n x)) .refusal .number ≡ 0
   pub act : (x : List ℕ) → n ≤ length x → (i : ℕ) → i < n
       → getD (C .play (partCall c (c .owners) (c .derived) (written c q n x)) .answers) i 0 ≡ 0
   pub owners : (x : List ℕ) → n ≤ length x
@@ -71,7 +71,7 @@ pub record Blocks (C : Component) (c : Call) (q : Asked) (u : ℕ) : Type 0 wher
   pub in-way : InWay (boardIn c) (q .remembered) (c .owners) u
   pub lowest : (v : ℕ) → v < u → InWay (boardIn c) (q .remembered) (c .owners) v → ⊥
   pub kept : (wayFor c q .draws ≡ q .draws) × (wayFor c q .firsts ≡ q .firsts) × (wayFor c q .seconds ≡ q .seconds)
-  pub no-way : (w : Part) → C .play (partCall c (c .owners) (c .derived) w) .number ≡ 0
+  pub no-way : (w : Part) → C .play (partCall c (c .owners) (c .derived) w) .refusal .number ≡ 0
       → ownerOf (boardIn c) (C .play (partCall c (c .owners) (c .derived) w) .owners) u ≡ ownerOf (boardIn c) (q .remembered) u → ⊥
 
 -- ---- the rule

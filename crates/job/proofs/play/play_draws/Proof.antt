@@ -1,6 +1,7 @@
 -- `job::play::play_draws` meets its contract. Assumes nothing.
 use borrow.Author.Needs.{needs}
 use mathlib.Core.Path.{ap}
+use Rattle.paper.specs.declared.Refusal.{Refusal}
 use Rattle.owners.specs.Derived.{Derived}
 use Rattle.job.proofs.play.play_draws.Statement.{statement}
 use Rattle.job.proofs.play.play_draws.Tie as tie
@@ -9,7 +10,7 @@ returns : tie.Need-returns
 returns c =
     let e = c .before .before .before .before .play .ensures in
     record {
-      number = e .said;
+      number = ap (λ (f : Refusal). f .number) (e .refusal);
       owners = e .owners;
       minutes = ap (λ (D : Derived). D .minutes) (e .derived);
       answers = e .answers;

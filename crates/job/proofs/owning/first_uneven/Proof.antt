@@ -1,15 +1,16 @@
--- `job::owning::all_even` meets its contract. The invariant: the first u units are even. Assumes nothing.
+-- `job::owning::first_uneven` meets its contract. The invariant: the first u units are even. Assumes nothing.
 use borrow.Author.Needs.{needs}
 use mathlib.Core.Path.{_≡_, sym, _∙_}
 use mathlib.Core.Bool.{true}
 use Prim.Native.Nat.{_-_, _≤_}
 use native.Mathlib.Omega.{arith}
 use Rattle.paper.specs.Count.{all}
-use Rattle.paper.proofs.Count.{all-none, all-more, all-fails, all-done}
+use Rattle.paper.proofs.Count.{all-none, all-more}
 use Rattle.owners.specs.Recount.{evenAt}
-use Rattle.job.specs.Stages.{allEven}
-use Rattle.job.proofs.owning.all_even.Statement.{statement}
-use Rattle.job.proofs.owning.all_even.Tie as tie
+use Rattle.owners.proofs.Scans.{scan-fails, scan-ends}
+use Rattle.job.specs.Stages.{unevenIn}
+use Rattle.job.proofs.owning.first_uneven.Statement.{statement}
+use Rattle.job.proofs.owning.first_uneven.Tie as tie
 
 abbrev Inv-loop : tie.InvT-loop
 Inv-loop slots units begins owners u₀ u = (all u (evenAt slots units begins owners) ≡ true) × (u ≤ units)
@@ -24,15 +25,17 @@ loop-again : tie.Need-loop-again Inv-loop μ-loop
 loop-again c = (all-more _ _ (c .before .before .before .loop .inv .0) (sym (c .before .unit-even .ensures) ∙ c .if1 .taken), omega arith)
 
 returns : tie.Need-returns Inv-loop μ-loop
-unfolding allEven
-returns c = sym (all-fails _ _ _ (c .before .before .loop-test .taken) (sym (c .before .unit-even .ensures) ∙ c .if1 .left))
+unfolding unevenIn
+returns c =
+    let b = c .before .before in
+    scan-fails _ _ _ (b .loop-test .taken) (b .before .loop .inv .0) (sym (c .before .unit-even .ensures) ∙ c .if1 .left)
 
 returns-2 : tie.Need-returns-2 Inv-loop μ-loop
-unfolding allEven
-returns-2 c = all-done _ _ _ (c .before .loop .inv .1) (c .loop-test .left) (c .before .loop .inv .0)
+unfolding unevenIn
+returns-2 c = scan-ends _ _ _ (c .before .loop .inv .1) (c .loop-test .left) (c .before .loop .inv .0)
 
-pub all-even-spec : {M : Type 1} → statement M
-all-even-spec =
+pub first-uneven-spec : {M : Type 1} → statement M
+first-uneven-spec =
     tie.close
     (tie.spec
     Inv-loop
