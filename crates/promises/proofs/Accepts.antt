@@ -11,7 +11,7 @@ use lib.ListN.{length, replicate, length-replicate}
 use Rattle.paper.specs.Bits.{bitOf}
 use Rattle.paper.specs.Count.{all, allIn, sum}
 use Rattle.paper.specs.Limits.{peopleOk, slotCountOk, countsOk, numberOf}
-use Rattle.paper.specs.Rows.{unless}
+use Rattle.paper.specs.Rows.{unless, refusalOf}
 use Rattle.slotset.specs.Slots.{slot, has}
 use Rattle.slotset.specs.Answers.{lengthRow, slotRow, stretchOk, stretchRow, setsRow, personRow, personStretchRow, sameSetsRow}
 use Rattle.slotset.specs.Answers.{yesNoAs, numberAs, changedAs, newOf, putOf, stretchOf, loadOf, numberRefusal}
@@ -59,7 +59,7 @@ unfolding draws firsts seconds
 no-draws-played = ap (λ (y : state.Outcome). y .refusal .number) (draws-alike noDraw []) ∙ no-draw-played
 
 pub each-accepts : EachAccepts
-unfolding numberOf unless lengthRow slotRow stretchOk stretchRow setsRow personRow personStretchRow sameSetsRow runsRow
+unfolding numberOf refusalOf unless lengthRow slotRow stretchOk stretchRow setsRow personRow personStretchRow sameSetsRow runsRow
     changedAs newOf putOf
     stretchOf loadOf yesNoAs numberAs minutesAs writtenAs spanAs peopleOk slotCountOk countsOk all allIn slotRoomOk slotsOk slotOkAt slotOk
     prevEnd rangeCountOk rangeRoomOk rangesOk rangeOkAt rangeOk lentRow slotMinutesRow demandIs slotMinutesIs mergedRow mergedRanges

@@ -55,6 +55,7 @@ use Rattle.boltraven_c.specs.Units.{spanFrom, spanTo}
 use Rattle.promises.specs.Exports.{readNumber, readFound, readTold, readMinutes, readSpan, readRun, readNextRun, readMember}
 use Rattle.promises.specs.Exports.{Read, ReadsAsMeant}
 use Rattle.promises.proofs.Tests.{known-test}
+use Rattle.promises.proofs.ReadRefusals.{units-back, slots-back, assign-back, play-back, draws-back, job-back}
 
 -- ---- numbers, one by one
 
@@ -363,4 +364,10 @@ reads-as-meant = record {
   unit-domain = unit-domain-read;
   owner-of-slot = owner-read;
   unassigned-count = unassigned-read;
+  recount = λ P avail units begins o D. units-back _ _ P avail units begins o D;
+  recount-slots = slots-back;
+  assign = assign-back;
+  play = play-back;
+  play-draws = draws-back;
+  run-job = job-back;
 }

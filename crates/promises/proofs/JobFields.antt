@@ -174,7 +174,8 @@ accepted-none s x e =
     by-test (eqb (numberOf (jobTests s (length x))) 0) _ (λ t. eqb-true _ 0 t)
     (λ f.
     let n = eqb-false _ 0 f in
-    absurd (n (sym (said (jobTests s (length x)) refl) ∙ sym (ap (λ (y : Result). jobRefusal (y .answer) .number) (answered-some s x n)) ∙ e)))
+    absurd (n (sym (said (jobTests s (length x)) refl)
+    ∙ sym (ap (λ (y : Result). jobRefusal (y .answer) .number) (answered-some s x n)) ∙ e)))
 
 pub accepted-pass : (s x : List ℕ) → jobRefusal (jobResult s x .answer) .number ≡ 0 → AllPass (jobTests s (length x))
 accepted-pass s x e = number-none (jobTests s (length x)) (numbered s (length x)) .0 (accepted-none s x e)

@@ -39,6 +39,7 @@ pub mod JobText
 pub mod JobExample
 pub mod ListRules
 pub mod Accepts
+pub mod ReadRefusals
 pub mod Exports
 pub mod Empty
 pub mod Outcomes

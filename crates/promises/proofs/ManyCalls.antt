@@ -20,7 +20,7 @@ use Rattle.owners.proofs.Steps.{afresh-again, afresh-fit}
 use Rattle.rota.specs.declared.draws.Draw as struct
 use Rattle.rota.specs.Draws.{numbers, draws, firsts, seconds}
 use Rattle.rota.proofs.Alike.{draws-same}
-use Rattle.promises.specs.Entries.{Call, built, noOf, playOf, afreshIn, boardIn, ownersIn, drawsIn}
+use Rattle.promises.specs.Entries.{Call, built, noOf, playOf, afreshIn, boardIn, ownersIn, drawsIn, rowOf}
 use Rattle.promises.specs.Rota.{Words}
 use Rattle.promises.specs.ManyCalls.{Part, partCall, drawsOfParts, AllAccepted, lastOwners, lastDerived, allAnswers, EndsAsOne}
 use Rattle.promises.specs.ManyCalls.{PartsEndAsOne, Whole, PlayedAsOne, ManyCalls, StructsCut}

@@ -19,7 +19,7 @@ use Rattle.paper.proofs.Rows.{numbered, said}
 use Rattle.slotset.specs.Slots.{slot}
 use Rattle.units.specs.Units.{unitStart, unitEnd, unitsOk}
 use Rattle.owners.specs.Derived.{Plan, Derived, worked, held}
-use Rattle.owners.specs.Recount.{firstFail, knownAt, availableAt, evenAt, setSlotAt, setAt, minutesOkAt, derivedTests, recountTests, recounts}
+use Rattle.owners.specs.Recount.{firstFail, knownAt, availableAt, evenAt, setSlotAt, setAt, minutesOkAt, recountTests, recounts}
 use Rattle.owners.specs.Entries.{placeless, Outcome, outcome, lentRow, recountRow, recountSlotsRow}
 use Rattle.owners.proofs.RecountRefusals.{first-on, first-stops}
 use Rattle.owners.proofs.Entered.{recount-number}
@@ -245,7 +245,7 @@ not-given n (t ∷ ts) z h e =
 
 -- ---- the entries
 
-with-units : (counts room : Bool) (P : Plan) (avail : List ℕ) (units : ℕ) (begins o : List ℕ) (D : Derived)
+pub with-units : (counts room : Bool) (P : Plan) (avail : List ℕ) (units : ℕ) (begins o : List ℕ) (D : Derived)
     → Places (refusalOf (recountRow counts room P avail units begins o D)) (beforeRecount counts room P avail units begins o D)
     (FailsAt P avail units begins o D)
 unfolding recountRow lentRow
@@ -271,13 +271,13 @@ module _ (P : Plan) (avail o : List ℕ) (D : Derived) where
   abbrev lent : ℕ
   lent = numberOf (lentRow true true P avail o D)
 
-  slots-places : Places (refusalOf (recountSlotsRow P avail o D)) lent (FailsAt P avail 0 [] o D)
+  pub slots-places : Places (refusalOf (recountSlotsRow P avail o D)) lent (FailsAt P avail 0 [] o D)
   unfolding recountSlotsRow lentRow
   slots-places =
       places P avail 0 [] o D (lentRow true true P avail o D) refl
       (refl, (refl, (refl, (refl, (refl, (refl, (refl, (refl, (refl, (refl, tt)))))))))) (not-given 10 _ (λ q. omega arith) refl) _ refl
 
-  assign-places : (k w : ℕ) → Places (assigned P avail o D k w .refusal) lent (FailsAt P avail 0 [] o D)
+  pub assign-places : (k w : ℕ) → Places (assigned P avail o D k w .refusal) lent (FailsAt P avail 0 [] o D)
   unfolding assigned outcome assignRow recountSlotsRow lentRow recountTests
   assign-places k w =
       places-before P avail 0 [] o D lent (recountSlotsRow P avail o D) _ refl (refl, (refl, (refl, tt)))
@@ -301,7 +301,7 @@ module _ (s x : List ℕ) (f : Refusal) (e : jobResult s x .answer ≡ answer.Re
   job-is : f ≡ refusalAt (f .number) (unevenOf s)
   job-is = lowest-number s x f .0 e .1
 
-  job-none : f .number ≢ 10 → f ≡ placeless (f .number)
+  pub job-none : f .number ≢ 10 → f ≡ placeless (f .number)
   unfolding refusalAt
   job-none n = job-is ∙ simp (ne-eqb (f .number) 10 n)
 
@@ -317,16 +317,17 @@ module _ (s x : List ℕ) (f : Refusal) (e : jobResult s x .answer ≡ answer.Re
     unfolding jobTests readRow prepareRow all
     eighth =
         eqb-true (L .place) 8 (or-right (not (eqb (testAt ts (L .place) .number) 10)) (eqb (L .place) 8)
-        (all-each 11 (λ k. not (eqb (testAt ts k .number) 10) || eqb k 8) refl (L .place) (L .within)) (ap not (eq-eqb _ 10 (L .number ∙ t))))
+        (all-each 11 (λ k. not (eqb (testAt ts k .number) 10) || eqb k 8) refl (L .place) (L .within))
+        (ap not (eq-eqb _ 10 (L .number ∙ t))))
 
-    before : (j : ℕ) → j < 8 → testAt ts j .passes ≡ true
+    pub before : (j : ℕ) → j < 8 → testAt ts j .passes ≡ true
     unfolding jobTests readRow prepareRow all
     before j h =
         let lower = ltb-true (rank (testAt ts j .number)) 10 (all-each 8 (λ k. ltb (rank (testAt ts k .number)) 10) refl j h) in
         by-test (testAt ts j .passes) _ (λ p. p)
         (λ q. absurd (omega (arith, lower, L .least j (omega (arith, h)) q, ap rank t)))
 
-    fault-is : f ≡ fault 3 (unevenOf s) 0
+    pub fault-is : f ≡ fault 3 (unevenOf s) 0
     unfolding refusalAt
     fault-is = job-is ∙ ap (λ (n : ℕ). refusalAt n (unevenOf s)) t
 

@@ -8,6 +8,7 @@ use native.Mathlib.Omega.{arith}
 use borrow.Author.Tests.{le-leb, leb-true}
 use lib.Dec.{leb}
 use lib.ListN.{length, drop}
+use Rattle.paper.specs.Rows.{accepted as no-refusal}
 use Rattle.paper.specs.Limits.{peopleOk, slotCountOk, countsOk}
 use Rattle.paper.specs.Bits.{bitOf}
 use Rattle.paper.specs.Count.{all, allIn, sum, over, onto}
@@ -74,7 +75,7 @@ apart-recounts frozen count draws firsts seconds more = refl
 -- unit 1 frozen, the swap of both units: 1, and nothing changes
 pub case-12 : (more : Spare) → 1 ≤ length (more .answers)
     → let c = twoUnits apart 2 1 (35 ∷ []) (0 ∷ []) (1 ∷ []) more in
-    playOf c ≡ record { number = 0; owners = c .owners; derived = c .derived; answers = 1 ∷ drop 1 (more .answers) }
+    playOf c ≡ record { refusal = no-refusal; owners = c .owners; derived = c .derived; answers = 1 ∷ drop 1 (more .answers) }
 unfolding drawsOf ownersAfter answers answer step onto decided anyOf swapped unowned ownerOf frozenUnit unitFrozen clear unfrozen allIn
     all slot bitOf unitEnd fitsUnit able available afresh setsFrom putSlots putSlot withBit held over worked portion sum minutesAt
 case-12 more room =

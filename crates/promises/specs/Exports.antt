@@ -1,11 +1,14 @@
 -- The library for C: what a caller takes an answer for, by its number, is the answer that was meant. Below 65,536 is what was asked, 65,536
 -- nothing, 65,536 + n the refusal n; minutes and ends of runs or units stand beside a number, and are read where it is 0. Assumes nothing.
 use mathlib.Core.Path.{_≡_}
-use mathlib.Core.Bool.{Bool, cond}
+use mathlib.Core.Bool.{Bool, true, cond}
 use mathlib.Core.List.{List}
-use Prim.Native.Nat.{ℕ, _-_}
-use lib.Dec.{eqb, ltb}
+use Prim.Native.Nat.{ℕ, _-_, _/_, _%_}
+use lib.Dec.{eqb, ltb, leb}
+use lib.ListN.{length}
 use Rattle.paper.specs.Limits.{numberOf}
+use Rattle.paper.specs.declared.Refusal.{Refusal}
+use Rattle.paper.specs.Rows.{refusalOf}
 use Rattle.slotset.specs.declared.Found.{Found}
 use Rattle.slotset.specs.declared.Found.the-variants as found
 use Rattle.slotset.specs.declared.YesNo.{YesNo}
@@ -34,10 +37,15 @@ use Rattle.units.specs.declared.UnitSlots.the-variants as unitSlots
 use Rattle.units.specs.Answers.{spanAs, spanRefusal, unitOfSlotIs}
 use Rattle.units.specs.Starts.{rotationStartsIs, unitStartsIs}
 use Rattle.units.specs.Domains.{slotDomainIs, unitDomainIs}
-use Rattle.owners.specs.Entries.{ownerIs, unassignedIs}
-use Rattle.boltraven_c.specs.Numbers.{foundNumber, yesNoNumber, plainNumber, minutesWritten, runNumber, runFirst, runLast}
+use Rattle.owners.specs.Derived.{Plan, Derived}
+use Rattle.owners.specs.Entries.{recountRow, recountSlotsRow, ownerIs, unassignedIs}
+use Rattle.rota.specs.Entries.{assigned}
+use Rattle.rota.specs.declared.draws.Draw.{Draw}
+use Rattle.job.specs.Outcome.{jobRefusal, jobResult}
+use Rattle.boltraven_c.specs.Numbers.{refusalNumber, foundNumber, yesNoNumber, plainNumber, minutesWritten, runNumber, runFirst, runLast}
 use Rattle.boltraven_c.specs.Numbers.{nextRunNumber, nextRunFirst, nextRunLast, nextRunCursor, memberNumber, memberAt, memberCursor}
 use Rattle.boltraven_c.specs.Units.{spanFrom, spanTo}
+use Rattle.promises.specs.Entries.{Call, playOf, playDrawsOf}
 
 -- ---- how a caller reads a number
 
@@ -49,6 +57,11 @@ readFound v = cond (ltb v 65536) (found.At v) (cond (eqb v 65536) found.Nothing 
 
 abbrev pub readTold : ℕ → YesNo
 readTold v = cond (ltb v 65536) (cond (eqb v 1) yesNo.Yes yesNo.No) (yesNo.Refused (v - 65536))
+
+-- a refusal that may name a place, as the header's macros take it apart
+abbrev pub readRefusal : ℕ → Refusal
+readRefusal v =
+    record { number = v % 256; part = v / 256 % 256; place = v / 65536 % 65536; second = v / 4294967296 % 65536 }
 
 -- with what stands beside it
 abbrev pub readMinutes : ℕ → ℕ → Minutes
@@ -72,6 +85,9 @@ readMember v i at =
 
 abbrev pub Read : Number → Type 0
 Read x = readNumber (plainNumber x) ≡ x
+
+abbrev pub ReadsBack : Refusal → Type 0
+ReadsBack f = readRefusal (refusalNumber f) ≡ f
 
 pub record ReadsAsMeant : Type 0 where
   -- a slot that was looked for in a person's row, upwards and downwards
@@ -109,3 +125,11 @@ pub record ReadsAsMeant : Type 0 where
       → Read (unitDomainIs avail people slots units begins u list .answer)
   pub owner-of-slot : (people slots : ℕ) (o : List ℕ) (k : ℕ) → Read (ownerIs people slots o k)
   pub unassigned-count : (people slots : ℕ) (o : List ℕ) → Read (unassignedIs people slots o)
+  -- a refusal with its part and places, of each entry that recounts, and of a job
+  pub recount : (P : Plan) (avail : List ℕ) (units : ℕ) (begins o : List ℕ) (D : Derived)
+      → ReadsBack (refusalOf (recountRow true (leb units (length begins)) P avail units begins o D))
+  pub recount-slots : (P : Plan) (avail o : List ℕ) (D : Derived) → ReadsBack (refusalOf (recountSlotsRow P avail o D))
+  pub assign : (P : Plan) (avail o : List ℕ) (D : Derived) (k w : ℕ) → ReadsBack (assigned P avail o D k w .refusal)
+  pub play : (c : Call) → ReadsBack (playOf c .refusal)
+  pub play-draws : (c : Call) (ds : List Draw) → ReadsBack (playDrawsOf c ds .refusal)
+  pub run-job : (s x : List ℕ) → ReadsBack (jobRefusal (jobResult s x .answer))

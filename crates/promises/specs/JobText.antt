@@ -60,8 +60,8 @@ abbrev pub linesOf : Listed → List (List (List ℕ))
 linesOf L =
     each (slotWords L) (L .slots) ++ (each (personWords L) (L .people) ++ (each (drawWords L) (L .draws) ++ (uncoveredWords L ∷ [])))
 
--- "a refusal writes one line, as `R 3`"; one that names a part writes it after a point, 46, and then its place, as `R 10.3 7`; a wrong set,
--- part 4, has two
+-- "a refusal writes one line, as `R 3`"; one that names a part writes it after a point, 46, and then its place, as `R 10.3 7`; a wrong
+-- set, part 4, has two
 abbrev pub placeWords : Refusal → List (List ℕ)
 placeWords f = cond (eqb (f .part) 4) (digits (f .place) ∷ digits (f .second) ∷ []) (digits (f .place) ∷ [])
 

@@ -1,6 +1,6 @@
 -- What is promised. Entries: a component, by what its entries answer. Marked: the twelve marked cases. Demand 1: Table, Tests, Numbers,
--- Refusals, SetRefusals, Outcomes. Demand 2: SetRules, SlotRules, UnitRules, TargetRules, EditionRules, MoveRules, RotaRules. Demand 3: Rota. The job: JobRules,
--- JobFields, JobTests, JobText, JobExample. Places: where the recount failed.
+-- Refusals, SetRefusals, Outcomes. Demand 2: SetRules, SlotRules, UnitRules, TargetRules, EditionRules, MoveRules, RotaRules. Demand 3:
+-- Rota. The job: JobRules, JobFields, JobTests, JobText, JobExample. Places: where the recount failed.
 -- Empty: how empty answers are shut out.
 pub mod Entries
 pub mod Marked
