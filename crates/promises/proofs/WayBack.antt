@@ -35,13 +35,14 @@ use Rattle.wayback.specs.Back.{back}
 use Rattle.wayback.proofs.SwapAgain.{swap-again}
 use Rattle.wayback.proofs.Returns.{CanReturn, returns, after-returns, back-at, back-rises, back-takes, place-is, takes-exactly, takes-few}
 use Rattle.promises.specs.Entries.{Call, built, enoughIn, noOf, playOf, afreshIn, boardIn, drawsIn, ownersIn}
+use Rattle.promises.specs.Marked.{apart}
 use Rattle.promises.specs.MoveRules.{drawAt, foundAt}
 use Rattle.promises.specs.Rota.{Words, secondCall}
 use Rattle.promises.specs.ManyCalls.{Part, partCall, drawsOfParts, AllAccepted, lastOwners, lastDerived, EndsAsOne}
-use Rattle.promises.specs.WayBack.{again, ComesBack, SwapsComeBack, SwapsUndone, threeUnits, RunsDont, BackIs, BackListed}
-use Rattle.promises.specs.WayBack.{AsManyAsDiffer, OwnedBefore, Holds, BringsBack, WayBack, WayBackInAnyOrder, NeverUnowned, halfOwned, ConditionNeeded}
+use Rattle.promises.specs.WayBack.{again, ComesBack, SwapsComeBack, SwapsUndone, threeUnits, RunsDont, swapTwo, OneOnlyBreaks}
+use Rattle.promises.specs.WayBack.{BackListed, AsManyAsDiffer, OwnedBefore, Holds, BringsBack, WayBack, WayBackInAnyOrder, NeverUnowned, halfOwned, ConditionNeeded}
 use Rattle.promises.proofs.Calls.{accepted-is, Accepted, accepted-says, says-accepted, roomOk}
-use Rattle.promises.proofs.TwoUnits.{accepted}
+use Rattle.promises.proofs.TwoUnits.{accepted, apart-recounts}
 use Rattle.promises.proofs.Rota.{asks, two-calls, covered-stay}
 use Rattle.promises.proofs.ManyCalls.{accepted-number, parts-end-as-one}
 
@@ -366,6 +367,20 @@ runs-dont =
       second =
           ap (λ (t : Outcome). t .owners) z ∙ ap (λ (l : List ℕ). ownersAfter three l (drawsIn c)) own ∙ three-second .0;
     }
+
+two-accepted : noOf swapTwo ≡ 0
+two-accepted =
+    accepted apart 0 1 (35 ∷ []) (0 ∷ []) (1 ∷ []) (record { owners = []; sets = []; minutes = []; answers = 9 ∷ [] }) refl refl refl refl
+    (omega arith) (apart-recounts 0 1 (35 ∷ []) (0 ∷ []) (1 ∷ []) (record { owners = []; sets = []; minutes = []; answers = 9 ∷ [] }))
+
+two-words : Words (swapTwo .derived .sets)
+unfolding all
+two-words = below (swapTwo .derived .sets) refl
+
+pub one-only-breaks : OneOnlyBreaks
+one-only-breaks C promise W =
+    let back = promise swapTwo two-accepted two-words refl (omega arith) (omega arith) (W .acts) in
+    omega (arith, sym (W .no-move) ∙ back .acts)
 
 half-accepted : noOf halfOwned ≡ 0
 unfolding recounts all allIn knownAt knownBy availableAt availableFor available evenAt unitEnd setAt setSlotAt held minutesOkAt worked

@@ -14,7 +14,7 @@ use Rattle.rota.specs.Acts as acts
 use Rattle.wayback.specs.Back as wayback
 use Rattle.wayback.specs.Back.{Differ, TakesBack, differing, back}
 use Rattle.promises.specs.Entries.{Call, Component, noOf, onRota, boardIn}
-use Rattle.promises.specs.Marked.{Owned, Spare, words, twoUnits}
+use Rattle.promises.specs.Marked.{apart, words, twoUnits}
 use Rattle.promises.specs.MoveRules.{drawAt, foundAt}
 use Rattle.promises.specs.Rota.{Words, before, after}
 use Rattle.promises.specs.ManyCalls.{Part, partCall, AllAccepted, lastOwners, lastDerived}
@@ -69,6 +69,19 @@ pub record RunsDont (C : Component) : Type 0 where
   pub acts : (C .play threeUnits .answers ≡ 0 ∷ []) × (C .play (again C threeUnits) .answers ≡ 0 ∷ [])
   pub first : C .play threeUnits .owners ≡ 1 ∷ 0 ∷ 0 ∷ []
   pub second : C .play (again C threeUnits) .owners ≡ 0 ∷ 1 ∷ 1 ∷ []
+
+-- a swap that moved one owner only: owners 0 and 1, (35, 0, 1) acts and leaves 1 and 1, where by the rule the same draw is no move
+abbrev pub swapTwo : Call
+swapTwo = twoUnits apart 0 1 (35 ∷ []) (0 ∷ []) (1 ∷ []) record { owners = []; sets = []; minutes = []; answers = 9 ∷ [] }
+
+pub record MovesOneOnly (C : Component) : Type 0 where
+  pub acts : getD (C .play swapTwo .answers) 0 0 ≡ 0
+  pub owners : C .play swapTwo .owners ≡ 1 ∷ 1 ∷ []
+  pub no-move : getD (C .play (again C swapTwo) .answers) 0 0 ≡ 1
+
+-- it would break the theorem
+abbrev pub OneOnlyBreaks : Type 0
+OneOnlyBreaks = (C : Component) → SwapsComeBack C → MovesOneOnly C → ⊥
 
 -- ---- reassigns of the units whose owner differs
 
