@@ -3,7 +3,7 @@
 use crate::planted::with_faults;
 use crate::problems::{unit_starts_of, Person, ProblemCase, Range, Settings};
 use crate::recounts::{faults, of_units};
-use crate::rotas::{owners, LentRota, RotaCase};
+use crate::rotas::{owners, Draw, LentRota, RotaCase};
 use crate::seed::Seed;
 use crate::stored::{filled16, filled32, half, records, Stored};
 use crate::table::Slots;
@@ -112,16 +112,26 @@ fn write(bytes: &mut Vec<u8>, case: &RotaCase, remembered: &[u8]) -> u64 {
         bytes.extend(list.iter().copied().chain(std::iter::repeat(0)).take(SLOTS));
     }
     let refusal = against(case, remembered);
-    let due = if refusal > 0 { Err(0) } else { way(problem, remembered, &case.owners) };
+    let due = if refusal > 0 {
+        Err(0)
+    } else {
+        way(problem, remembered, &case.owners)
+    };
     let (kind, told, draws) = match due {
         _ if refusal > 0 => (2, 0, vec![]),
         Ok(draws) => (0, draws.len(), draws),
         Err(unit) => (1, unit, vec![]),
     };
-    for n in [kind, told, (refusal & 255) as usize, (refusal >> 8 & 255) as usize, (refusal >> 16) as usize] {
+    for n in [
+        kind,
+        told,
+        (refusal & 255) as usize,
+        (refusal >> 8 & 255) as usize,
+        (refusal >> 16) as usize,
+    ] {
         half(bytes, n);
     }
-    for number in [|draw: &(u16, u16, u16)| draw.0, |draw| draw.1, |draw| draw.2] {
+    for number in [|draw: &Draw| draw.0, |draw: &Draw| draw.1, |draw: &Draw| draw.2] {
         let column: Vec<u16> = draws.iter().map(number).collect();
         filled16(bytes, SLOTS, &column, BEFORE);
     }

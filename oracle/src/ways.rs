@@ -189,7 +189,11 @@ pub fn damaged(case_seed: u64) -> Vec<Question> {
     let against = against(&case, &remembered);
     let lent = if seed.one_in(3) { spoil_lent(&mut seed, &mut rota) } else { 0 };
     let mut asking = Asking::new(&mut seed, &rota, &remembered);
-    let short = if seed.one_in(4) { shorten(&mut seed, &mut asking, remembered.len()) } else { 0 };
+    let short = if seed.one_in(4) {
+        shorten(&mut seed, &mut asking, remembered.len())
+    } else {
+        0
+    };
     // 1 and 2 before 9, these before 10 of the rota, and that before 10, 11 and 12 of the remembered owners
     let of_lent = [lent, short].into_iter().filter(|&number| number > 0).min();
     let refused = of_lent.or([recount, against].into_iter().find(|&number| number > 0));
