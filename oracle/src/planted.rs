@@ -223,7 +223,11 @@ mod tests {
 
     /// Wrong answers: the last place of the part; of parts 1 and 2 the lowest slot, whichever the part; the lowest slot over all sets.
     fn wrong(faults: &Faults) -> [Option<u64>; 3] {
-        let (k, first) = faults.iter().enumerate().find(|(_, places)| !places.is_empty()).unwrap_or((0, &faults[0]));
+        let (k, first) = faults
+            .iter()
+            .enumerate()
+            .find(|(_, places)| !places.is_empty())
+            .unwrap_or((0, &faults[0]));
         let last = first.last().map(|&(place, second)| failed(k + 1, place, second));
         let by_slot = [1, 2].map(|part| faults[part - 1].first().map(|place| (place.0, part)));
         let by_slot = by_slot.into_iter().flatten().min().map(|(slot, part)| failed(part, slot, 0));

@@ -56,7 +56,9 @@ fn every_fault_has_its_numbers_and_sentence() {
         assert_eq!((fault.part(), fault.place(), fault.second()), (part, place, second));
         assert_eq!(row[0], part.to_string());
         assert!(format!("{fault:?}").starts_with(row[1]), "{fault:?}");
-        let sentence = row[2].replace("{place}", &place.to_string()).replace("{second}", &second.to_string());
+        let sentence = row[2]
+            .replace("{place}", &place.to_string())
+            .replace("{second}", &second.to_string());
         assert_eq!(fault.to_string(), sentence);
         let refusal = Refusal::Recount(fault);
         assert_eq!(refusal.to_string(), format!("refused by 10.{part}: The recount fails: {sentence}."));
@@ -64,7 +66,16 @@ fn every_fault_has_its_numbers_and_sentence() {
         assert_eq!((u64::from(refusal), Refusal::try_from(answer)), (answer, Ok(refusal)));
     }
     // no number, one past the last, no part, a part too many, a place beside another number, a slot where none is due, bits past the last
-    for answer in [0, 14, 10, 10 + 256 * 9, 9 + 256, 11 + 65_536, 10 + 256 + (1 << 32), 10 + 256 + (1 << 48)] {
+    for answer in [
+        0,
+        14,
+        10,
+        10 + 256 * 9,
+        9 + 256,
+        11 + 65_536,
+        10 + 256 + (1 << 32),
+        10 + 256 + (1 << 48),
+    ] {
         assert!(Refusal::try_from(answer).is_err(), "{answer}");
     }
 }

@@ -212,7 +212,10 @@ fn jobs_from_text_are_listed_as_the_examples_are() {
                 .parse()
                 .expect("a job's text");
             let due = std::fs::read_to_string(path.with_extension("listing")).expect("its listing is there");
-            let listing = job.run().unwrap_or_else(|refusal| format!("R {}\n", refusal.number()));
+            let listing = job.run().unwrap_or_else(|refusal| match refusal {
+                Refusal::Recount(fault) => format!("R 10.{} {}\n", fault.part(), fault.place()),
+                _ => format!("R {}\n", refusal.number()),
+            });
             assert_eq!(listing, due, "{}", path.display());
             count += 1;
         }

@@ -1,6 +1,7 @@
 // Replays stored jobs: reads job files, each with the text that is due for it, from standard input, runs them, and tells how many it
 // compared and how many differ. `oracle/store` writes them (oracle/src/stored_jobs.rs has their layout).
 use job::JobAnswer;
+use paper::Refusal;
 use stored::Tally;
 use stored::Turn;
 use stored::at_most;
@@ -10,6 +11,9 @@ use stored::short;
 
 // A stored job begins with two u16: the length of its file, and of the text that is due. Both follow.
 const HEAD: usize = 4;
+
+// Room for the line of a refusal.
+const LINE: usize = 64;
 
 // What a listing's room holds before a job is run.
 const UNWRITTEN: u8 = 165;
@@ -47,7 +51,7 @@ fn as_due(file: &[u8], due: &[u8]) -> bool {
     let answer = job::run_job(file, &mut out);
     match answer {
         JobAnswer::Length(n) => same_text(&out, n, due) && unwritten(&out, n),
-        JobAnswer::Refused(number) => same_line(number, due) && unwritten(&out, 0),
+        JobAnswer::Refused(refusal) => same_line(refusal, due) && unwritten(&out, 0),
     }
 }
 

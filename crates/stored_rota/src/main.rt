@@ -459,15 +459,12 @@ fn damaged_refused(tally: Tally, b: &[u8]) -> Tally {
     rota_answers(t2, end, b, OWNERS_AT, SETS_AT, MINUTES_AT)
 }
 
-// The recount of a rota, with units and without.
-fn recount(b: &[u8], lent: Rota) -> Refusal {
+// The recount of lent owners, sets and minutes.
+fn recount_on(b: &[u8], who: &[u8], own: &[u64], worked: &[u64]) -> Refusal {
     let starts = times(b, STARTS_AT);
     let ends = times(b, ENDS_AT);
     let able = sets(b, ABLE_AT);
     let from = begins(b);
-    let who = lent.owners;
-    let own = lent.sets;
-    let worked = lent.minutes;
     owners::recount(
         half(b, 0),
         half(b, 2),
@@ -476,10 +473,18 @@ fn recount(b: &[u8], lent: Rota) -> Refusal {
         &ends,
         &able,
         &from,
-        &who,
-        &own,
-        &worked,
+        who,
+        own,
+        worked,
     )
+}
+
+// The recount of a rota, with units and without.
+fn recount(b: &[u8], lent: Rota) -> Refusal {
+    let who = lent.owners;
+    let own = lent.sets;
+    let worked = lent.minutes;
+    recount_on(b, &who, &own, &worked)
 }
 
 fn recount_slots(b: &[u8], lent: Rota) -> Refusal {

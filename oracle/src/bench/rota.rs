@@ -101,39 +101,47 @@ pub fn from_slots(rota: Rota) -> Row {
 
 // ---- assign
 
-/// One slot in the middle to the next person.
-fn lent_assign(rota: &mut LentRota) {
-    let slot = rota.starts.len() / 2;
-    let owner = (rota.owners[slot] + 1) % rota.people as u8;
-    let done = lent::assign(
-        rota.people,
-        rota.starts.len(),
-        &rota.starts,
-        &rota.ends,
-        &rota.avail,
-        &mut rota.owners,
-        &mut rota.sets,
-        &mut rota.minutes,
-        slot,
-        owner,
-    );
-    done.expect("nothing is refused");
+/// How many slots are assigned in a turn, one call each.
+const ASSIGNS: usize = 64;
+
+/// The slots that are assigned, spread over the rota, each with the person after its owner.
+fn assigns(owners: &[u8], people: usize) -> Vec<(usize, u8)> {
+    let slots = (0..ASSIGNS).map(|k| k * (owners.len() / ASSIGNS));
+    slots.map(|slot| (slot, (owners[slot] + 1) % people as u8)).collect()
 }
 
-/// One slot of a rota that everybody can cover goes to somebody else; the Rust checks nothing.
+fn lent_assigns(rota: &mut LentRota) {
+    for (slot, owner) in assigns(&rota.owners[..rota.starts.len()], rota.people) {
+        let done = lent::assign(
+            rota.people,
+            rota.starts.len(),
+            &rota.starts,
+            &rota.ends,
+            &rota.avail,
+            &mut rota.owners,
+            &mut rota.sets,
+            &mut rota.minutes,
+            slot,
+            owner,
+        );
+        done.expect("nothing is refused");
+    }
+}
+
+/// Slots of a rota that everybody can cover go to somebody else, one call each; the Rust checks nothing.
 pub fn assign(rota: Rota) -> Row {
     let rota = kept(rota);
     let ours = Side {
         fresh: Box::new(|| rota.lent.clone()),
-        run: Box::new(|rota: &mut LentRota| lent_assign(black_box(rota))),
+        run: Box::new(|rota: &mut LentRota| lent_assigns(black_box(rota))),
         seen: Box::new(seen_of_lent),
     };
     let rust = Side {
         fresh: Box::new(|| begun(rota)),
         run: Box::new(|assignment: &mut Assignment| {
-            let slot = rota.case.owners.len() / 2;
-            let owner = (usize::from(rota.case.owners[slot]) + 1) % rota.lent.people;
-            black_box(assignment).assign(&rota.case.problem, slot, Some(owner));
+            for (slot, owner) in assigns(&rota.case.owners, rota.lent.people) {
+                black_box(&mut *assignment).assign(&rota.case.problem, slot, Some(usize::from(owner)));
+            }
         }),
         seen: Box::new(|assignment: &Assignment| {
             let answers = rota.lent.answers[..rota.lent.count].to_vec();

@@ -74,7 +74,7 @@ pub const ROWS: &[Named] = &[
     }),
     ("play, no draws, 1,024 slots", |seed| no_draws(typical(seed, SLOTS_MOST, 0, 1))),
     ("from_slots, 1,024 slots", |seed| from_slots(typical(seed, SLOTS_MOST, 0, 1))),
-    ("assign, 1,024 slots", |seed| assign(typical(seed, SLOTS_MOST, 0, 1))),
+    ("64 assigns, 1,024 slots", |seed| assign(typical(seed, SLOTS_MOST, 0, 1))),
     ("next_set, sparse", |_| next_set(sparse())),
     ("next_set, full", |_| next_set(full())),
     ("run_bounds, sparse", |_| run_bounds(sparse())),
