@@ -10,8 +10,9 @@
 
    Answers. A function that returns uint8_t gives 0, or the number of the refusal, 1 to 13; what it was asked for stands in the lists
    and behind the addresses (`uint64_t *out`), which stay as they were where it refuses. One that returns uint64_t gives what was asked
-   (below 65,536), or BOLTRAVEN_NOTHING, or BOLTRAVEN_NOTHING + n for the refusal n; but the six that can give 10 (the two recounts, assign,
-   the two plays, run_job) return 0, or the refusal with its place in one uint64_t, which the macros below take apart. A date and a weekday
+   (below 65,536), or BOLTRAVEN_NOTHING, or BOLTRAVEN_NOTHING + n for the refusal n; but the seven that can give 10 (the two recounts, assign,
+   the two plays, way_back, run_job) return 0, or the refusal with its place in one uint64_t, which the macros below take apart; way_back may
+   answer BOLTRAVEN_NOTHING too. A date and a weekday
    are plain numbers.
 
    Refusals. Where several apply the lowest number is given, but 13 before all.
@@ -91,7 +92,7 @@ struct boltraven_draw {
     uint16_t second;
 };
 
-/* What the six functions that can give 10 answer, taken apart: the refusal's number, 0 for none; of 10 the part of the recount that failed,
+/* What the seven functions that can give 10 answer, taken apart: the refusal's number, 0 for none; of 10 the part of the recount that failed,
    its place, and the second number of part 4. All three are 0 for the other refusals. */
 #define BOLTRAVEN_NUMBER(refusal) ((uint8_t)((refusal) & 255))
 #define BOLTRAVEN_PART(refusal) ((uint8_t)((refusal) >> 8 & 255))
