@@ -19,9 +19,9 @@ wayTold was (way.NoWay u) = u
 wayTold was (way.Refused f) = was
 
 -- the number, the columns and what is told, of an outcome
-pub record WayEnds (y : Outcome) (was r : ℕ) (ks fs ss : List ℕ) (told : ℕ) : Type 0 where
+pub record WayEnds (y : Outcome) (was r : ℕ) (ks fs ss : List ℕ) (n : ℕ) : Type 0 where
   pub number : r ≡ wayNumber (y .answer)
   pub draws : ks ≡ y .draws
   pub firsts : fs ≡ y .firsts
   pub seconds : ss ≡ y .seconds
-  pub told : told ≡ wayTold was (y .answer)
+  pub told : n ≡ wayTold was (y .answer)
