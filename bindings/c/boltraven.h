@@ -10,8 +10,9 @@
 
    Answers. A function that returns uint8_t gives 0, or the number of the refusal, 1 to 13; what it was asked for stands in the lists
    and behind the addresses (`uint64_t *out`), which stay as they were where it refuses. One that returns uint64_t gives what was asked
-   (below 65,536), or BOLTRAVEN_NOTHING, or BOLTRAVEN_NOTHING + n for the refusal n; but the six that can give 10 (the two recounts, assign,
-   the two plays, run_job) return 0, or the refusal with its place in one uint64_t, which the macros below take apart. A date and a weekday
+   (below 65,536), or BOLTRAVEN_NOTHING, or BOLTRAVEN_NOTHING + n for the refusal n; but the seven that can give 10 (the two recounts, assign,
+   the two plays, way_back, run_job) return 0, or the refusal with its place in one uint64_t, which the macros below take apart; way_back may
+   answer BOLTRAVEN_NOTHING too. A date and a weekday
    are plain numbers.
 
    Refusals. Where several apply the lowest number is given, but 13 before all.
@@ -93,7 +94,7 @@ struct boltraven_draw {
     uint16_t second;
 };
 
-/* What the six functions that can give 10 answer, taken apart: the refusal's number, 0 for none; of 10 the part of the recount that failed,
+/* What the seven functions that can give 10 answer, taken apart: the refusal's number, 0 for none; of 10 the part of the recount that failed,
    its place, and the second number of part 4. All three are 0 for the other refusals. */
 #define BOLTRAVEN_NUMBER(refusal) ((uint8_t)((refusal) & 255))
 #define BOLTRAVEN_PART(refusal) ((uint8_t)((refusal) >> 8 & 255))
@@ -410,6 +411,18 @@ uint8_t boltraven_save_settings(uint8_t *area, size_t area_len, size_t used, uin
    stay as they were. A number of no record is refused by 11, figures outside their limits by 7. */
 uint64_t boltraven_ask_settings(const uint8_t *area, size_t area_len, size_t used, size_t number, uint8_t *fairness, uint8_t *lock,
                                 uint8_t *boundary, uint8_t *edition, uint16_t *value, uint16_t *days);
+
+/* The way back to remembered owners, one byte a slot: for each unit whose owner differs a draw 0 to its remembered owner, ascending, in the three
+   columns, which need room for as many entries as slots. 0, and `told` is how many draws were written: played, each acts, and the remembered
+   owners are back. BOLTRAVEN_NOTHING, and `told` is the first unit that no draw gives back (its owner differs, and nobody owned it or it is
+   frozen). Else the refusal with its place: 1, 2, 9, 10 of the rota; then of the remembered owners 10.3, 11, 12. */
+uint64_t boltraven_way_back(size_t people, size_t slots, size_t units, const uint32_t *starts, size_t starts_len,
+                            const uint32_t *ends, size_t ends_len, const uint64_t *avail, size_t avail_len,
+                            const uint16_t *unit_starts, size_t unit_starts_len, const uint64_t *frozen, size_t frozen_len,
+                            const uint8_t *remembered, size_t remembered_len, const uint8_t *owners, size_t owners_len,
+                            const uint64_t *sets, size_t sets_len, const uint64_t *minutes, size_t minutes_len,
+                            uint16_t *draws, size_t draws_len, uint16_t *firsts, size_t firsts_len,
+                            uint16_t *seconds, size_t seconds_len, uint64_t *told);
 
 /* ---- A whole job. */
 

@@ -145,6 +145,11 @@ CALL(ask_settings) {
     return boltraven_ask_settings(r->store, STORE, STORE - 12, 127, &r->figures[0], &r->figures[1], &r->figures[2], &r->figures[3],
                                   &r->words[0], &r->words[1]);
 }
+CALL(way_back) {
+    return boltraven_way_back(PEOPLE, r->slots, r->units, r->starts, SLOTS, r->ends, SLOTS, r->avail, WORDS, r->unit_starts, SLOTS, r->frozen,
+                              SET, r->owners, SLOTS, r->owners, SLOTS, r->sets, WORDS, r->minutes, PEOPLE, r->draws, DRAWS, r->firsts, DRAWS,
+                              r->seconds, DRAWS, &r->first);
+}
 CALL(run_job) { return boltraven_run_job(r->file, r->file_len, r->listing, BOLTRAVEN_LISTING_MOST, &r->first); }
 
 /* Each by its name. None may be refused, since the deepest way goes through the work: `most` is the largest answer that is no refusal. */
@@ -162,7 +167,7 @@ static const struct {
     DONE(unit_slots), NUMBER(unit_of_slot), NUMBER(unit_domain), DONE(unit_domains), NUMBER(unit_frozen), DONE(covered_days),
     DONE(minutes_per_day), DONE(target_run), DONE(achievable_run), DONE(compute_targets), DONE(empty), DONE(from_slots), DONE(assign),
     NUMBER(owner_of_slot), DONE(minutes_of), NUMBER(unassigned_count), DONE(uncovered_minutes), DONE(recount), DONE(recount_slots),
-    DONE(may_be_used), DONE(play), DONE(play_draws), NUMBER(stretch), DONE(publish), DONE(show), DONE(run_job), NUMBER(count_settings),
+    DONE(may_be_used), DONE(play), DONE(play_draws), DONE(way_back), NUMBER(stretch), DONE(publish), DONE(show), DONE(run_job), NUMBER(count_settings),
     DONE(save_settings), DONE(ask_settings)};
 
 enum { CALLS = sizeof calls / sizeof calls[0] };

@@ -94,6 +94,9 @@ exports! {
     done assign(number, number, slice, slice, slice, slice, slice, slice, number, number);
     done play(number, number, number, number, slice, slice, slice, slice, slice, slice, slice, slice, slice, slice, slice, slice);
     done play_draws(number, number, number, number, slice, slice, slice, slice, slice, slice, slice, slice, slice, slice);
+    led way_back(
+        number, number, number, slice, slice, slice, slice, slice, slice, slice, slice, slice, slice, slice, slice, out
+    );
     done empty(number, number, slice, slice, slice);
     done recount(number, number, number, slice, slice, slice, slice, slice, slice, slice);
     done recount_slots(number, number, slice, slice, slice, slice, slice, slice);
@@ -154,6 +157,10 @@ fn kept(answer: Result<lent::Kept, Refusal>) -> u64 {
 
 fn judged(answer: Result<Option<Rule>, Refusal>) -> u64 {
     number(answer.map(|broken| broken.map_or(0, |rule| usize::from(rule.number()))))
+}
+
+fn led(answer: Result<bool, Refusal>) -> u64 {
+    answer.map_or_else(number_of, |is_way| if is_way { 0 } else { NOTHING })
 }
 
 fn plain(answer: u32) -> u64 {

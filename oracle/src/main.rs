@@ -35,10 +35,12 @@ mod stored_jobs;
 mod stored_rotas;
 mod stored_slots;
 mod stored_units;
+mod stored_ways;
 mod stores;
 mod table;
 mod targets;
 mod units;
+mod ways;
 
 use std::collections::BTreeSet;
 use std::fs;
@@ -60,7 +62,7 @@ const fn kind(name: &'static str, questions: fn(u64) -> Vec<Question>) -> Kind {
 }
 
 /// Every kind.
-const KINDS: [Kind; 24] = [
+const KINDS: [Kind; 26] = [
     kind("slot-sets", sets::questions),
     kind("slot-sets-damaged", sets::damaged),
     kind("slots", splitting::questions),
@@ -81,6 +83,8 @@ const KINDS: [Kind; 24] = [
     kind("columns-damaged", columns::damaged),
     kind("elsewhere", elsewhere::questions),
     kind("elsewhere-damaged", elsewhere::damaged),
+    kind("ways-back", ways::questions),
+    kind("ways-back-damaged", ways::damaged),
     kind("jobs", jobs::questions),
     kind("jobs-damaged", jobs::damaged),
     kind("stores", stores::questions),
@@ -166,6 +170,7 @@ fn store(kind: &str, n: u64, seed: u64, folder: &Path) -> ExitCode {
         "rotas" => Ok(stored_rotas::rotas(n, seed)),
         "columns" => Ok(columns::stored(n, seed)),
         "elsewhere" => Ok(stored_elsewhere::elsewhere(n, seed)),
+        "ways-back" => Ok(stored_ways::ways(n, seed)),
         "jobs" => stored_jobs::jobs(n, seed),
         "stores" => Ok(stores::stored(n, seed)),
         _ => Err(format!("no kind {kind}")),

@@ -27,13 +27,25 @@ impl Answer {
     }
 }
 
+/// What a way back comes to.
+#[derive(Debug, Clone, PartialEq, Eq, Hash)]
+pub enum WayBack {
+    /// The draws, one for each unit whose owner differs, ascending: played, each acts, and the remembered owners are back.
+    Draws(Vec<Draw>),
+    /// There is none by reassigns, nor by any other draws.
+    Blocked {
+        /// The first unit that no draw gives back: its owner differs, and nobody owned it or it is frozen.
+        unit: usize,
+    },
+}
+
 /// The owners of all slots, with everybody's set of slots and minutes, which always fit together.
 ///
 /// A method that takes a [`Problem`] is meant for the one that the rota was made for. With another one it is refused, or answers for the
 /// slots and people of that one.
 ///
 /// ```
-/// use boltraven::{Answer, Assignment, Draw, Person, Problem, Range, Refusal, Settings, Slot};
+/// use boltraven::{Answer, Assignment, Draw, Person, Problem, Range, Refusal, Settings, Slot, WayBack};
 ///
 /// let base = [Slot { start: 0, end: 60 }, Slot { start: 60, end: 120 }];
 /// let people = [Person { capacity: 1.0, prior: 0 }; 2];
@@ -53,6 +65,10 @@ impl Answer {
 /// assert_eq!(rota.play(&problem, &draws)?, [Answer::Acted, Answer::Outside]);
 /// assert_eq!((rota.get(1)?, rota.assigned_minutes(1)?), (Some(1), 60));
 /// assert_eq!(rota.recount(&problem), Ok(()));
+///
+/// // The way back to where it began.
+/// let WayBack::Draws(back) = rota.way_back(&problem, &[Some(0), Some(0)])? else { panic!("there is one") };
+/// assert_eq!((rota.play(&problem, &back)?, rota.owners()), (vec![Answer::Acted], &[0, 0][..]));
 /// # Ok::<(), Refusal>(())
 /// ```
 #[derive(Debug, Clone, PartialEq, Eq, Hash)]
@@ -172,6 +188,43 @@ impl Assignment {
             &mut answers,
         )?;
         Ok(answers.into_iter().map(Answer::of).collect())
+    }
+
+    /// The draws that bring remembered owners back, one owner a slot. Refusals 2 (fewer owners than slots), 10 (of the rota, or a unit with
+    /// two remembered owners), 11, 12. Owners past the last slot are not looked at.
+    pub fn way_back(&self, problem: &Problem, remembered: &[Option<usize>]) -> Result<WayBack, Refusal> {
+        let slots = problem.slot_count();
+        let remembered: Vec<u8> = remembered.iter().take(slots).copied().map(owner_byte).collect();
+        let [mut draws, mut firsts, mut seconds] = [(); 3].map(|()| vec![0; slots]);
+        let mut told = 0;
+        let is_way = lent::way_back(
+            problem.human_count(),
+            slots,
+            problem.unit_count(),
+            problem.slots().starts(),
+            problem.slots().ends(),
+            problem.availability().words(),
+            problem.units().unit_starts(),
+            problem.frozen().words(),
+            &remembered,
+            &self.owners,
+            &self.sets,
+            &self.minutes,
+            &mut draws,
+            &mut firsts,
+            &mut seconds,
+            &mut told,
+        )?;
+        let told = told as usize;
+        if !is_way {
+            return Ok(WayBack::Blocked { unit: told });
+        }
+        let draw = |k: usize| Draw {
+            draw: draws[k],
+            first: firsts[k],
+            second: seconds[k],
+        };
+        Ok(WayBack::Draws((0..told).map(draw).collect()))
     }
 
     /// Whether owners, units, sets and minutes fit together, as a play asks it first. Refusal 10: a unit has two owners, which `assign` can

@@ -127,6 +127,11 @@
 //!     2, 2, 2, 1, &starts, &ends, &avail, &unit_starts, &frozen, &draws, &mut owners, &mut sets, &mut minutes, &mut answers
 //! )?;
 //! assert_eq!((answers, owners), ([0], [0, 0]));
+//! let (mut kinds, mut firsts, mut seconds) = ([9; 2], [9; 2], [9; 2]);
+//! assert!(lent::way_back(
+//!     2, 2, 2, &starts, &ends, &avail, &unit_starts, &frozen, &[0, 1], &owners, &sets, &minutes, &mut kinds, &mut firsts, &mut seconds, &mut out
+//! )?);
+//! assert_eq!((out, kinds, firsts, seconds), (1, [0, 9], [1, 9], [1, 9]));
 //! lent::minutes_of(2, &minutes, 0, &mut out)?;
 //! assert_eq!(out, 120);
 //!
@@ -321,6 +326,16 @@ fn judged(answer: u64) -> Result<Option<Rule>, Refusal> {
             Some(rule) => Ok(Some(rule)),
             None => Err(refused(n.wrapping_sub(NOTHING))),
         },
+    }
+}
+
+/// Whether there is a way back, the number beside it being written: 0 yes, nothing no; or a refusal with its place.
+#[inline]
+fn led(answer: u64) -> Result<bool, Refusal> {
+    match answer {
+        0 => Ok(true),
+        NOTHING => Ok(false),
+        n => Err(refused(n)),
     }
 }
 
@@ -542,6 +557,16 @@ exports! {
         people: usize, slots: usize, units: usize, count: usize, starts: &[u32], ends: &[u32], avail: &[u64], unit_starts: &[u16],
         frozen: &[u64], draws: &[Draw], owners: &mut [u8], sets: &mut [u64], minutes: &mut [u64], answers: &mut [u8]
     ) -> Result<(), Refusal> = placed(u64);
+
+    /// The way back to remembered owners, one byte a slot: for each unit whose owner differs a draw 0 to its remembered owner, ascending, in
+    /// three columns with room for as many entries as slots. Yes, and `told` is how many draws were written: played, each acts, and the
+    /// remembered owners are back. No, and `told` is the first unit that no draw gives back: its owner differs, and nobody owned it or it
+    /// is frozen. Refusals: 1, 2, 9, 10 of the rota; then 10.3, 11, 12 of the remembered owners.
+    pub fn way_back(
+        people: usize, slots: usize, units: usize, starts: &[u32], ends: &[u32], avail: &[u64], unit_starts: &[u16], frozen: &[u64],
+        remembered: &[u8], owners: &[u8], sets: &[u64], minutes: &[u64], draws: &mut [u16], firsts: &mut [u16], seconds: &mut [u16],
+        told: &mut u64
+    ) -> Result<bool, Refusal> = led(u64);
 
     /// Whether owners, units, sets and minutes fit together, as a play asks it first; where not, the first part that fails and its lowest
     /// place. Refusals: 1, 2, 9, 10.

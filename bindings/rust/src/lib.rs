@@ -49,7 +49,7 @@ mod units;
 mod verdict;
 mod weekdays;
 
-pub use assignment::{Answer, Assignment};
+pub use assignment::{Answer, Assignment, WayBack};
 pub use availability::Availability;
 pub use columns::{publish, Columns, Stretch, Stretches};
 pub use draw::Draw;

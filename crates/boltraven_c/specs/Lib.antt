@@ -5,3 +5,4 @@ pub mod Columns
 pub mod Rota
 pub mod Store
 pub mod Usable
+pub mod Ways

@@ -14,6 +14,7 @@ mod targets_c;
 mod units_c;
 mod usable_c;
 mod version;
+mod wayback_c;
 
 ghost use mathlib.Core.Path.{_≡_};
 ghost use Prim.Native.Nat.{_+_};

@@ -29,6 +29,8 @@ pub mod MoveRules
 pub mod PlayRule
 pub mod ManyCalls
 pub mod ColumnRules
+pub mod WayBack
+pub mod WayBackRule
 pub mod JobRules
 pub mod JobOwners
 pub mod JobFields

@@ -35,7 +35,7 @@ said c e =
     ∙ take-at (answers (boardIn c) (c .owners) (drawsIn c)) _ (c .count)
     (answers-length (boardIn c) (c .owners) (drawsIn c) ∙ draws-length (c .draws) (c .firsts) (c .seconds) (c .count))
 
-accepted-number : (c : Call) → playOf c .refusal .number ≡ 0 → noOf c ≡ 0
+pub accepted-number : (c : Call) → playOf c .refusal .number ≡ 0 → noOf c ≡ 0
 unfolding playedList outcome
 accepted-number c e = sym (row-number (rowOf c) refl) ∙ e
 

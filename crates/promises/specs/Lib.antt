@@ -27,6 +27,7 @@ pub mod Tables
 pub mod Rota
 pub mod ManyCalls
 pub mod ColumnRules
+pub mod WayBack
 pub mod JobRules
 pub mod JobFields
 pub mod JobTests
@@ -36,5 +37,6 @@ pub mod JobExample
 pub mod StoreRules
 pub mod ListRules
 pub mod Accepts
+pub mod WayBackRule
 pub mod Exports
 pub mod Empty
