@@ -320,6 +320,50 @@ exports! {
         people: usize, len: usize, words: &mut [u64], person: usize, from: usize, to: usize, want: bool
     ) -> Result<(), Refusal> = done(u8);
 
+    /// Everybody's runs, person by person and ascending: how many each has, the first slot and the last slot of each run, and how many there
+    /// are. The last two columns have room for as many entries as slots for each of `people`. Refusals: 1, 2.
+    pub fn every_run(
+        people: usize, len: usize, words: &[u64], counts: &mut [u16], firsts: &mut [u16], lasts: &mut [u16]
+    ) -> Result<usize, Refusal> = number(u64);
+
+    // ---- one set: its 16 words and its length, without people and a person. A question asks two tests, and is inlined.
+
+    /// Whether slot i is a member. Refusals: 1, 2.
+    #[inline]
+    pub fn set_contains(len: usize, words: &[u64], i: usize) -> Result<bool, Refusal> = yes_no(u64);
+
+    /// Whether the set has no member. Refusals: 1, 2.
+    #[inline]
+    pub fn set_is_empty(len: usize, words: &[u64]) -> Result<bool, Refusal> = yes_no(u64);
+
+    /// How many members the set has. Refusals: 1, 2.
+    #[inline]
+    pub fn set_count(len: usize, words: &[u64]) -> Result<usize, Refusal> = number(u64);
+
+    /// The first member at or after `from`. Refusals: 1, 2.
+    #[inline]
+    pub fn set_next_set(len: usize, words: &[u64], from: usize) -> Result<Option<usize>, Refusal> = found(u64);
+
+    /// The last member at or before `from`. Refusals: 1, 2.
+    #[inline]
+    pub fn set_prev_set(len: usize, words: &[u64], from: usize) -> Result<Option<usize>, Refusal> = found(u64);
+
+    /// The first slot after `from`, below the length, that is no member. Refusals: 1, 2.
+    #[inline]
+    pub fn set_next_unset_after(len: usize, words: &[u64], from: usize) -> Result<Option<usize>, Refusal> = found(u64);
+
+    /// The last slot before `from`, below the length, that is no member. Refusals: 1, 2.
+    #[inline]
+    pub fn set_prev_unset_before(len: usize, words: &[u64], from: usize) -> Result<Option<usize>, Refusal> = found(u64);
+
+    /// What holds slot i, with both its ends written: a run or a hole; outside, nothing is. Refusals: 1, 2.
+    #[inline]
+    pub fn set_run_bounds(len: usize, words: &[u64], i: usize, first: &mut u64, last: &mut u64) -> Result<Held, Refusal> = held(u64);
+
+    /// The next member from the cursor on: true, with its index and the next cursor written; false at the end. Refusals: 1, 2.
+    #[inline]
+    pub fn set_next_member(len: usize, words: &[u64], cursor: usize, at: &mut u64, next: &mut u64) -> Result<bool, Refusal> = wrote(u64);
+
     // ---- ranges merged, base slots split, availability; ranges come as three columns
 
     /// Each person's ranges, sorted and merged, in three columns, and how many. Refusals: 1, 2, 4.
