@@ -28,7 +28,7 @@ use Rattle.runs.proofs.run_at as run-at
 
 -- what a reader holds, field by field
 abbrev pub fieldsOf : (α : NamedLft) → Runs → Values (T.the-type α .parts)
-fieldsOf α d = d .words & d .people & d .person & d .len & d .at & tt
+fieldsOf α d = d .people & d .len & d .words & d .person & d .at & tt
 
 module _ {M : Type 1} (𝓤 : URA M) (H : Heap 𝓤) (A : Atoms 𝓤) (W : Given 𝓤 H A) where
   -- it lies in the machine in one way only
@@ -55,8 +55,8 @@ module _ {M : Type 1} (𝓤 : URA M) (H : Heap 𝓤) (A : Atoms 𝓤) (W : Given
       (q, tt),
       tt,
       fieldsOf α d,
-      slice-vals (d .words) & (vint w64 (d .people) ∷ []) & (vint w64 (d .person) ∷ [])
-          & (vint w64 (d .len) ∷ []) & (vint w64 (d .at) ∷ []) & tt,
+      (vint w64 (d .people) ∷ []) & (vint w64 (d .len) ∷ []) & slice-vals (d .words)
+          & (vint w64 (d .person) ∷ []) & (vint w64 (d .at) ∷ []) & tt,
     ),
     tt,
   )

@@ -15,11 +15,11 @@ cursorAfter (Refused n) at = at
 
 -- a reader at the beginning of a person's words
 abbrev pub readerOf : RefT (List ℕ) → ℕ → ℕ → ℕ → Runs
-readerOf words people person len = record { words = words; people = people; person = person; len = len; at = 0 }
+readerOf words people person len = record { people = people; len = len; words = words; person = person; at = 0 }
 
 -- the same reader at another place
 abbrev pub movedTo : Runs → ℕ → Runs
-movedTo d at = record { words = d .words; people = d .people; person = d .person; len = d .len; at = at }
+movedTo d at = record { people = d .people; len = d .len; words = d .words; person = d .person; at = at }
 
 -- what a reader gives next: that of the cursor by value, at what the reader holds
 abbrev pub nextOf : Runs → NextRun

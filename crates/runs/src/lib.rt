@@ -14,17 +14,17 @@ ghost use Rattle.slotset.specs.Answers.{personRow, rowNextRun};
 ghost use Rattle.runs.specs.Listed.{runsRow, column, runsOf, allRunsOf};
 ghost use Rattle.runs.specs.Reader.{cursorAfter, readerOf, movedTo, nextOf};
 
-// The lent words, a set a person; how many people; whose set is read; its length; and where the reader stands.
+// How many people; how long a set is; the lent words, a set a person; whose set is read; and where the reader stands.
 pub struct Runs<'a> {
-    pub words: &'a [u64],
     pub people: usize,
-    pub person: usize,
     pub len: usize,
+    pub words: &'a [u64],
+    pub person: usize,
     pub at: usize,
 }
 
 // The next run from `at` on.
-fn run_at(words: &[u64], people: usize, person: usize, len: usize, at: usize) -> NextRun
+fn run_at(people: usize, len: usize, words: &[u64], person: usize, at: usize) -> NextRun
     ensures { λ r. ⌜ r ≡ rowNextRun (now (words .entry)) people person len at ⌝ }
 {
     row::next_run(people, len, words, person, Cursor { at })
@@ -47,14 +47,14 @@ fn cursor_after(answer: NextRun, at: usize) -> usize
 
 impl<'a> Runs<'a> {
     // A reader of a person's runs, at their beginning.
-    pub fn new(words: &'a [u64], people: usize, person: usize, len: usize) -> Runs<'a>
+    pub fn new(people: usize, len: usize, words: &'a [u64], person: usize) -> Runs<'a>
         ensures { λ r. ⌜ r ≡ readerOf (words .entry) people person len ⌝ }
     {
         Runs {
-            words,
             people,
-            person,
             len,
+            words,
+            person,
             at: 0,
         }
     }
@@ -63,7 +63,7 @@ impl<'a> Runs<'a> {
     pub fn next(self) -> NextRun
         ensures { λ r. ⌜ r ≡ nextOf (self .entry) ⌝ }
     {
-        run_at(self.words, self.people, self.person, self.len, self.at)
+        run_at(self.people, self.len, self.words, self.person, self.at)
     }
 
     // The same reader at another place.
@@ -71,10 +71,10 @@ impl<'a> Runs<'a> {
         ensures { λ r. ⌜ r ≡ movedTo (self .entry) at ⌝ }
     {
         Runs {
-            words: self.words,
             people: self.people,
-            person: self.person,
             len: self.len,
+            words: self.words,
+            person: self.person,
             at,
         }
     }
@@ -84,27 +84,27 @@ impl<'a> Runs<'a> {
         ensures { λ r. ⌜ (r ≡ nextOf (now (self .entry)))
             × (now (self .exit) ≡ movedTo (now (self .entry)) (cursorAfter r (now (self .entry) .at))) ⌝ }
     {
-        let found = run_at(self.words, self.people, self.person, self.len, self.at);
+        let found = run_at(self.people, self.len, self.words, self.person, self.at);
         self.at = cursor_after(found, self.at);
         found
     }
 }
 
 // The next run from `at` on, by a reader made for it. Its parameters are plain, so whoever calls it needs no walk.
-pub fn run_from(words: &[u64], people: usize, person: usize, len: usize, at: usize) -> NextRun
+pub fn run_from(people: usize, len: usize, words: &[u64], person: usize, at: usize) -> NextRun
     ensures { λ r. ⌜ r ≡ rowNextRun (now (words .entry)) people person len at ⌝ }
 {
-    Runs::new(words, people, person, len).moved(at).next()
+    Runs::new(people, len, words, person).moved(at).next()
 }
 
 // What stands against a list of all runs in two columns of n and m entries: 1, 2 or 11.
 fn list_refusal(
-    words: &[u64],
     people: usize,
-    person: usize,
     len: usize,
+    words: &[u64],
     n: usize,
     m: usize,
+    person: usize,
 ) -> Refusal
     ensures { λ r. ⌜ r ≡ refusalOf (runsRow (now (words .entry)) people person len n m) ⌝ }
 {
@@ -115,12 +115,12 @@ fn list_refusal(
 
 // The runs of a person, in order, into two columns with room for them; and how many there are.
 fn list_runs(
-    words: &[u64],
     people: usize,
-    person: usize,
     len: usize,
+    words: &[u64],
     firsts: &mut [u16],
     lasts: &mut [u16],
+    person: usize,
 ) -> usize
     requires { ⌜ numberOf (personRow (now words) people person len) ≡ 0 ⌝ }
     requires { ⌜ (len ≤ length (now firsts)) × (len ≤ length (now lasts)) ⌝ }
@@ -131,7 +131,7 @@ fn list_runs(
     let mut n: usize = 0;
     let mut at: usize = 0;
     while at < len {
-        match run_from(words, people, person, len, at) {
+        match run_from(people, len, words, person, at) {
             NextRun::Span { first, last, next } => {
                 firsts[n] = first as u16;
                 lasts[n] = last as u16;
@@ -151,20 +151,20 @@ fn list_runs(
 
 // All runs of a person, ascending: the first slot of each in one column, the last in the other, and how many there are.
 pub fn all_runs(
-    words: &[u64],
     people: usize,
-    person: usize,
     len: usize,
+    words: &[u64],
     firsts: &mut [u16],
     lasts: &mut [u16],
+    person: usize,
 ) -> Number
     ensures { λ r. ⌜ (r ≡ allRunsOf (now (words .entry)) people person len (now (firsts .entry)) (now (lasts .entry)) .answer)
         × ((now (firsts .exit) ≡ allRunsOf (now (words .entry)) people person len (now (firsts .entry)) (now (lasts .entry)) .firsts)
         × (now (lasts .exit) ≡ allRunsOf (now (words .entry)) people person len (now (firsts .entry)) (now (lasts .entry)) .lasts)) ⌝ }
 {
-    let number = list_refusal(words, people, person, len, firsts.len(), lasts.len()).number;
+    let number = list_refusal(people, len, words, firsts.len(), lasts.len(), person).number;
     if number == 0 {
-        return Number::Is(list_runs(words, people, person, len, firsts, lasts));
+        return Number::Is(list_runs(people, len, words, firsts, lasts, person));
     }
     Number::Refused(number)
 }

@@ -106,11 +106,6 @@ module _ (g : Given) (room : ℕ) where
   pub row-eight : checks ≡ 0 → guardOk g ≡ false → whole ≡ 8
   row-eight z e = no-guard e ∙ worked checks checks 8 z
 
-  -- the checks refuse nothing where the row refuses nothing
-  pub row-clear : whole ≡ 0 → checks ≡ 0
-  row-clear z =
-      by-test (eqb checks 0) _ (eqb-true checks 0) (λ f. sym (row-refused (eqb-false checks 0 f)) ∙ z)
-
 -- ---- what checks that find nothing leave known
 
 pub record Accepted (g : Given) (room : ℕ) : Type 0 where

@@ -14,12 +14,12 @@ use Rattle.runs.proofs.list_runs.Statement.{statement}
 use Rattle.runs.proofs.list_runs.Tie as tie
 
 abbrev Inv-loop : tie.InvT-loop
-Inv-loop words people person len firsts₀ lasts₀ n₀ at₀ firsts lasts n at =
+Inv-loop people len words firsts₀ lasts₀ person n₀ at₀ firsts lasts n at =
     (numberOf (personRow words people person len) ≡ 0) × (((len ≤ length firsts₀) × (len ≤ length lasts₀))
     × Listing (rowSlots words person) len firsts₀ lasts₀ n at firsts lasts)
 
 abbrev μ-loop : tie.MeasureT-loop
-μ-loop words people person len firsts₀ lasts₀ n₀ at₀ firsts lasts n at = len - at
+μ-loop people len words firsts₀ lasts₀ person n₀ at₀ firsts lasts n at = len - at
 
 loop-holds : tie.Need-loop-holds Inv-loop μ-loop
 loop-holds c =

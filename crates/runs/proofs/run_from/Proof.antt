@@ -76,7 +76,7 @@ module _ {M : Type 1} (𝓤 : URA M) (H : Heap 𝓤) (A : Atoms 𝓤) (mem : Mem
   module _ (W : Given 𝓤 H A) where
     abbrev known : (κs : Lfts 1) → Knowns 𝓤 H A (typesAt (run-from.signature .params) κs)
     known κs =
-        lent 𝓤 H A W (named 0) (κs .0) u64 & number 𝓤 H A W w64 & number 𝓤 H A W w64 & number 𝓤 H A W w64 & number 𝓤 H A W w64 & tt
+        number 𝓤 H A W w64 & number 𝓤 H A W w64 & lent 𝓤 H A W (named 0) (κs .0) u64 & number 𝓤 H A W w64 & number 𝓤 H A W w64 & tt
 
 module _ {M : Type 1} (𝓤 : URA M) (H : Heap 𝓤) (A : Atoms 𝓤) (W : Given 𝓤 H A) (mem : Memory → SProp 𝓤) (run : Routine → Fun 𝓤)
     (κs : Lfts 1) (qs : Shares 1) (a : Args run-from.signature κs) where
@@ -101,16 +101,15 @@ module _ {M : Type 1} (𝓤 : URA M) (H : Heap 𝓤) (A : Atoms 𝓤) (W : Given
   to-new =
       ((κs, qs, tt, a .0 & a .1 .0 & a .1 .1 .0 & a .1 .1 .1 .0 & tt, vss .0 & vss .1 .0 & vss .1 .1 .0 & vss .1 .1 .1 .0 & tt), tt)
 
-  goes-new : fits → ent 𝓤 (sep 𝓤 (toks 𝓤 A 1 κs qs) (sem 𝓤 H A (ShrSlice (named 0) (κs .0) u64 .own (a .0) (vss .0))))
+  goes-new : fits → ent 𝓤 (sep 𝓤 (toks 𝓤 A 1 κs qs) (sem 𝓤 H A (ShrSlice (named 0) (κs .0) u64 .own (a .1 .1 .0) (vss .1 .1 .0))))
       (New 𝓤 H A mem run .pre to-new)
   goes-new are =
-      qed W (raw (toks 𝓤 A 1 κs qs) ∷ ‵ (ShrSlice (named 0) (κs .0) u64 .own (a .0) (vss .0)) ∷ []) ∵
-      use0 W (‵ (owns (usize ∷ usize ∷ usize ∷ []) (a .1 .0 & a .1 .1 .0 & a .1 .1 .1 .0 & tt)
-      (vss .1 .0 & vss .1 .1 .0 & vss .1 .1 .1 .0 & tt)))
-      (owns-make 𝓤 H A (usize ∷ usize ∷ usize ∷ []) (Ises (usize ∷ usize ∷ usize ∷ []))
-      (uint-makes 𝓤 H A W w64 & uint-makes 𝓤 H A W w64 & uint-makes 𝓤 H A W w64 & tt) (a .1 .0 & a .1 .1 .0 & a .1 .1 .1 .0 & tt)
-      (vss .1 .0 & vss .1 .1 .0 & vss .1 .1 .1 .0 & tt) (are .1 .0 & are .1 .1 .0 & are .1 .1 .1 .0 & tt)) $
-      move ! (2 ∷ 0 ∷ []) $ fjoin ! $ move ! (1 ∷ 0 ∷ []) $ join ! $ frame ! $ done !
+      qed W (raw (toks 𝓤 A 1 κs qs) ∷ ‵ (ShrSlice (named 0) (κs .0) u64 .own (a .1 .1 .0) (vss .1 .1 .0)) ∷ []) ∵
+      use0 W (‵ (owns (usize ∷ []) (a .1 .1 .1 .0 & tt) (vss .1 .1 .1 .0 & tt)))
+      (owns-make 𝓤 H A (usize ∷ []) (Ises (usize ∷ [])) (uint-makes 𝓤 H A W w64 & tt) (a .1 .1 .1 .0 & tt) (vss .1 .1 .1 .0 & tt)
+      (are .1 .1 .1 .0 & tt)) $
+      move ! (2 ∷ 0 ∷ []) $ fjoin ! $ owned ! usize (Is usize) (uint-makes 𝓤 H A W w64) (a .1 .0) _ (are .1 .0) $ fjoin ! $
+      owned ! usize (Is usize) (uint-makes 𝓤 H A W w64) (a .0) _ (are .0) $ fjoin ! $ move ! (1 ∷ 0 ∷ []) $ join ! $ frame ! $ done !
 
   abbrev to-moved : Runs → Val → Moved 𝓤 H A mem run .Ghost
   to-moved r u = ((κs, qs, tt, r & a .1 .1 .1 .1 .0 & tt, (u ∷ []) & vss .1 .1 .1 .1 .0 & tt), tt)
@@ -139,7 +138,7 @@ module _ {M : Type 1} (𝓤 : URA M) (H : Heap 𝓤) (A : Atoms 𝓤) (W : Given
         qed W ((raw (toks 𝓤 A 1 κs qs) ⊛ ‵ (owns (typesAt (run-from.signature .params) κs) a vss)) ∷ ‵ ftrue ∷ []) ∵
         split ! $ keep ! (0 ∷ 1 ∷ []) $ enters ! C Λ code.function (Entry 𝓤 H A mem run .args y) _ (λ bs. typed) (λ bs.
         -- [the locals; the token; what the parameters own]
-        move ! (17 ∷ []) $ fsplit ! $ move ! (1 ∷ []) $ drop ! $ move ! (17 ∷ 0 ∷ []) $
+        move ! (17 ∷ []) $ fsplit ! $ drop ! $ fsplit ! $ drop ! $ fsplit ! $ move ! (1 ∷ []) $ drop ! $ move ! (17 ∷ 0 ∷ []) $
         use2 W (raw (New 𝓤 H A mem run .pre to-new)) (goes-new are) $
         asks ! fm new.ended (new.clauses 𝓤 H A mem run) met-new to-new (copies ! 1 (1 ∷ 2 ∷ 3 ∷ 4 ∷ []) refl) _ (λ r ws. id⊢ 𝓤 _)
         (λ u r ws e is.

@@ -171,9 +171,9 @@ module _ {M : Type 1} (𝓤 : URA M) (H : Heap 𝓤) (A : Atoms 𝓤) (W : Given
         use0 W (raw (CursorAfter 𝓤 H A mem run .pre (to-cursor f u))) (goes-cursor f u is (wt .1 .1 .1 .1 .1 .0 .fits)) $
         asks ! fm cursor-after.ended (cursor-after.clauses 𝓤 H A mem run) met-cursor (to-cursor f u) (copies ! 8 (2 ∷ 7 ∷ []) refl) _
         (λ r ws′. id⊢ 𝓤 _) (λ w r ws′ e′ is′. drop ! $ drop ! $ drop ! $
-        land ! (from ! (stop !)) (store ! 15 refl (uint-lawful 𝓤 H A W w64 .typed r _ is′ .0)) $
-        rewrite ! 15 (λ (z : Val). ‵ (fat fullShare (tyInt w64) (bs .1 .1 .1 .1 .0) 0 z)) (ap only (is′ .0)) refl $
-        assigns ! (of-opd ! (load ! (from ! (stop !)) (look ! 15 refl))) (from ! (hop ! (look ! 9 refl) (fld ! refl (stop !))))
+        land ! (from ! (stop !)) (store ! 13 refl (uint-lawful 𝓤 H A W w64 .typed r _ is′ .0)) $
+        rewrite ! 13 (λ (z : Val). ‵ (fat fullShare (tyInt w64) (bs .1 .1 .1 .0) 0 z)) (ap only (is′ .0)) refl $
+        assigns ! (of-opd ! (load ! (from ! (stop !)) (look ! 13 refl))) (from ! (hop ! (look ! 9 refl) (fld ! refl (stop !))))
         (store-in ! 2 (sub ! 4 refl (whole !)) (tt, record { fits = is′ .1 })) $
         assigns ! (of-opd ! (load ! (from ! (stop !)) (look ! 11 refl))) (from ! (stop !)) (init ! 7 refl
         (EL.lawful S.the-type S′.the-laws 𝓤 H A W tt .typed f _ is .0)) $

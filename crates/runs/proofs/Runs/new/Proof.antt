@@ -17,11 +17,12 @@ use contract.Running.{givenOf, tables, tablesOf}
 use types.Kit.{Given, ‵, raw, _⊛_, _$_, _∵_, !, qed, by, move, keep, use0, use1, split, fsplit, fjoin}
 use types.Part.{agg}
 use types.Run.{look, init, stop, from, load, lit, and-then, no-more, assigns, returns}
-use denote.Laws.{Are, Ises, Typed, owns-make}
+use denote.Laws.{Is, Are, Ises, Typed, owns-make}
 use denote.Plain.{uint-makes}
 use denote.Builtin.{u64, usize}
 use denote.RattleType.{owns, mirs}
 use denote.Signature.{namedLft, typesAt}
+use denote.Steps.{owned}
 use denote.Struct.Rest.{own-shut}
 use denote.Triple.Entry.{Args, Vals}
 use denote.Triple.Spec.{Meets, tripleOf}
@@ -44,7 +45,7 @@ use Rattle.runs.proofs.Runs.new.Code as code
 
 module _ {M : Type 1} (𝓤 : URA M) (H : Heap 𝓤) (A : Atoms 𝓤) (W : Given 𝓤 H A) where
   abbrev known : (κs : Lfts 1) → Knowns 𝓤 H A (typesAt (new.signature .params) κs)
-  known κs = lent 𝓤 H A W (named 0) (κs .0) u64 & number 𝓤 H A W w64 & number 𝓤 H A W w64 & number 𝓤 H A W w64 & tt
+  known κs = number 𝓤 H A W w64 & number 𝓤 H A W w64 & lent 𝓤 H A W (named 0) (κs .0) u64 & number 𝓤 H A W w64 & tt
 
 module _ {M : Type 1} (𝓤 : URA M) (H : Heap 𝓤) (A : Atoms 𝓤) (W : Given 𝓤 H A) (mem : Memory → SProp 𝓤) (run : Routine → Fun 𝓤)
     (κs : Lfts 1) (qs : Shares 1) (a : Args new.signature κs) where
@@ -61,7 +62,7 @@ module _ {M : Type 1} (𝓤 : URA M) (H : Heap 𝓤) (A : Atoms 𝓤) (W : Given
   α = namedLft 1 0 tt κs
 
   abbrev made : Runs
-  made = readerOf (a .0) (a .1 .0) (a .1 .1 .0) (a .1 .1 .1 .0)
+  made = readerOf (a .1 .1 .0) (a .0) (a .1 .1 .1 .0) (a .1 .0)
 
   module _ (C : Calls 𝓤 H) (Λ : Loops 𝓤 H) where
     walk : Are (typesAt (new.signature .params) κs) (Ises (typesAt (new.signature .params) κs)) a vss
@@ -75,15 +76,15 @@ module _ {M : Type 1} (𝓤 : URA M) (H : Heap 𝓤) (A : Atoms 𝓤) (W : Given
         (and-then ! (load ! (from ! (stop !)) (look ! 6 refl))
         (and-then ! (load ! (from ! (stop !)) (look ! 8 refl)) (and-then ! (lit ! tt) (no-more !))))))) (from ! (stop !)) (init ! 0 refl
         (tt, (typed .0 .1, (typed .1 .0 .1, (typed .1 .1 .0 .1, (typed .1 .1 .1 .0 .1, (record { fits = lit< tt }, tt))))))) $
-        returns ! (look ! 0 refl) $ leaves ! _ _ refl $ move ! (1 ∷ []) $ fsplit ! $ keep ! (0 ∷ 2 ∷ []) $
+        returns ! (look ! 0 refl) $ leaves ! _ _ refl $ move ! (1 ∷ []) $ fsplit ! $ move ! (1 ∷ []) $ fsplit ! $ move ! (1 ∷ []) $
+        fsplit ! $ keep ! (0 ∷ 4 ∷ []) $
         -- [what the slice owns; the token]: with the numbers' facts it is what the struct owns
-        use0 W (‵ (owns (usize ∷ usize ∷ usize ∷ usize ∷ []) (fieldsOf α made .1)
-        (vss .1 .0 & vss .1 .1 .0 & vss .1 .1 .1 .0 & (vint w64 0 ∷ []) & tt)))
-        (owns-make 𝓤 H A (usize ∷ usize ∷ usize ∷ usize ∷ []) (Ises (usize ∷ usize ∷ usize ∷ usize ∷ []))
-        (uint-makes 𝓤 H A W w64 & uint-makes 𝓤 H A W w64 & uint-makes 𝓤 H A W w64 & uint-makes 𝓤 H A W w64 & tt) (fieldsOf α made .1)
-        (vss .1 .0 & vss .1 .1 .0 & vss .1 .1 .1 .0 & (vint w64 0 ∷ []) & tt)
-        (are .1 .0 & are .1 .1 .0 & are .1 .1 .1 .0 & (refl, lit< tt) & tt)) $
+        use0 W (‵ (owns (usize ∷ usize ∷ []) (fieldsOf α made .1 .1 .1) (vss .1 .1 .1 .0 & (vint w64 0 ∷ []) & tt)))
+        (owns-make 𝓤 H A (usize ∷ usize ∷ []) (Ises (usize ∷ usize ∷ [])) (uint-makes 𝓤 H A W w64 & uint-makes 𝓤 H A W w64 & tt)
+        (fieldsOf α made .1 .1 .1) (vss .1 .1 .1 .0 & (vint w64 0 ∷ []) & tt) (are .1 .1 .1 .0 & (refl, lit< tt) & tt)) $
         move ! (1 ∷ 0 ∷ []) $ fjoin ! $
+        owned ! usize (Is usize) (uint-makes 𝓤 H A W w64) (a .1 .0) _ (are .1 .0) $ fjoin ! $
+        owned ! usize (Is usize) (uint-makes 𝓤 H A W w64) (a .0) _ (are .0) $ fjoin ! $
         use1 W (‵ (T.the-row α .own made (T′.lowered made ∷ []))) (own-shut 𝓤 H A W (T.the-type α) (T′.the-laws α) (fieldsOf α made)) $
         by ! (ends-silent 𝓤 H A W new.ended (new.clauses 𝓤 H A mem run) y (T′.lowered made) made (tt & tt & tt & tt & tt) 4 refl _
         (id⊢ 𝓤 _) refl))
