@@ -30,6 +30,18 @@
 //! assert!(lent::next_run(1, 64, &words, 0, 4, &mut first, &mut last, &mut next)?);
 //! assert_eq!((first, last, next), (9, 9, 10));
 //! assert!(!lent::next_member(1, 64, &words, 0, 10, &mut first, &mut next)?);
+//!
+//! // One set, without people and a person; and runs in lists.
+//! assert_eq!((lent::set_contains(64, &words, 9)?, lent::set_is_empty(64, &words)?, lent::set_count(64, &words)?), (true, false, 4));
+//! assert_eq!((lent::set_next_set(64, &words, 4)?, lent::set_prev_set(64, &words, 4)?), (Some(9), Some(3)));
+//! assert_eq!((lent::set_next_unset_after(64, &words, 1)?, lent::set_prev_unset_before(64, &words, 3)?), (Some(4), Some(0)));
+//! assert_eq!((lent::set_run_bounds(64, &words, 2, &mut first, &mut last)?, first, last), (lent::Held::Run, 1, 3));
+//! assert!(!lent::set_next_member(64, &words, 10, &mut first, &mut next)?);
+//! let (mut counts, mut firsts, mut lasts) = ([0; 1], [0; 64], [0; 64]);
+//! assert_eq!(lent::all_runs(1, 64, &words, &mut firsts, &mut lasts, 0)?, 2);
+//! assert_eq!((&firsts[..2], &lasts[..2]), (&[1, 9][..], &[3, 9][..]));
+//! assert_eq!((lent::every_run(1, 64, &words, &mut counts, &mut firsts, &mut lasts)?, counts), (2, [2]));
+//! assert_eq!(lent::set_count(64, &words[..15]), Err(Refusal::ShortBuffer));
 //! assert_eq!(lent::count(lent::PEOPLE_MOST + 1, 64, &words, 0), Err(Refusal::Count));
 //! assert_eq!(lent::count(1, 64, &words[..15], 0), Err(Refusal::ShortBuffer));
 //! # Ok::<(), Refusal>(())
@@ -319,6 +331,14 @@ exports! {
     pub fn put_stretch(
         people: usize, len: usize, words: &mut [u64], person: usize, from: usize, to: usize, want: bool
     ) -> Result<(), Refusal> = done(u8);
+
+    // ---- runs in lists
+
+    /// All runs of a person, ascending: the first slot of each in one column, the last in the other, each with room for `len` entries; and
+    /// how many there are. Refusals: 1, 2, 11.
+    pub fn all_runs(
+        people: usize, len: usize, words: &[u64], firsts: &mut [u16], lasts: &mut [u16], person: usize
+    ) -> Result<usize, Refusal> = number(u64);
 
     /// Everybody's runs, person by person and ascending: how many each has, the first slot and the last slot of each run, and how many there
     /// are. The last two columns have room for as many entries as slots for each of `people`. Refusals: 1, 2.

@@ -6,6 +6,7 @@ mod draws_c;
 mod job_c;
 mod owners_c;
 mod rota_c;
+mod runs_c;
 mod set_c;
 mod slots_c;
 mod slotset_c;

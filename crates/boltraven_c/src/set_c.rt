@@ -146,16 +146,3 @@ pub extern "C" fn boltraven_set_next_member(
         NextMember::Refused(n) => refused(n),
     }
 }
-
-// Everybody's runs, person by person: how many each has, the first and the last slot of each, and how many there are.
-#[no_mangle]
-pub extern "C" fn boltraven_every_run(
-    people: usize,
-    len: usize,
-    words: &[u64],
-    counts: &mut [u16],
-    firsts: &mut [u16],
-    lasts: &mut [u16],
-) -> u64 {
-    plain_number(slotset::listing::every_run(people, len, words, counts, firsts, lasts))
-}

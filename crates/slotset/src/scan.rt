@@ -199,7 +199,7 @@ fn skip_down(words: &[u64], base: usize, x: u64, before: usize) -> usize
 {
     let mut end = before;
     while 1 < end {
-        if words[base + (end - 1)] == x {
+        if words[base + end - 1] == x {
             end -= 1;
         } else {
             return end;

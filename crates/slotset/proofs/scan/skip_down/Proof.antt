@@ -1,12 +1,16 @@
 -- `slotset::scan::skip_down` meets its contract. The invariant: every word so far is x. Assumes nothing.
 use borrow.Author.Needs.{needs}
-use mathlib.Core.Path.{_≡_, ap, _∙_}
+use mathlib.Core.Path.{_≡_, sym, ap, _∙_}
 use Prim.Native.Nat.{ℕ, _+_, _-_, _≤_, _<_}
 use native.Mathlib.Omega.{arith}
 use lib.ListN.{getD}
 use Rattle.slotset.proofs.Skips.{one-less}
 use Rattle.slotset.proofs.scan.skip_down.Statement.{statement}
 use Rattle.slotset.proofs.scan.skip_down.Tie as tie
+
+-- the word before word j, as it is read
+before-it : (b j : ℕ) → 0 < j → b + (j - 1) ≡ b + j - 1
+before-it b j h = omega arith
 
 abbrev Inv-loop : tie.InvT-loop
 Inv-loop words base x before end₀ end =
@@ -24,13 +28,22 @@ loop-again c =
     let t = c .before .before .loop-test .taken in
     let a = l .before .args in (
       ((λ h. omega (arith, t)), search needs),
-      one-less (a .words .now) (a .base) (a .x) (a .before) (l .loop .end) (omega (arith, t)) (l .loop .inv .1) (c .if1 .taken),
+      one-less (a .words .now) (a .base) (a .x) (a .before) (l .loop .end) (omega (arith, t)) (l .loop .inv .1)
+          (ap (λ (k : ℕ). getD (a .words .now) k 0) (before-it (a .base) (l .loop .end) (omega (arith, t))) ∙ c .if1 .taken),
     )
 
 returns : tie.Need-returns Inv-loop μ-loop
 returns c =
-    let i = c .before .before .before .loop .inv in
-    record { some = i .0 .0; to = i .0 .1; same = i .1; other = λ h e. c .if1 .left e }
+    let l = c .before .before .before in
+    let a = l .before .args in
+    let i = l .loop .inv in
+    let q = before-it (a .base) (l .loop .end) (omega (arith, c .before .before .loop-test .taken)) in
+    record {
+      some = i .0 .0;
+      to = i .0 .1;
+      same = i .1;
+      other = λ h e. c .if1 .left (sym (ap (λ (k : ℕ). getD (a .words .now) k 0) q) ∙ e);
+    }
 
 returns-2 : tie.Need-returns-2 Inv-loop μ-loop
 returns-2 c =
