@@ -389,7 +389,7 @@ fn damaged_lists(seed: &mut Seed, row: &Row, i: usize) -> Vec<Question> {
     }
     // room by what passes for counts: a column one entry short, or long enough
     let (people, len) = (row.people.min(PEOPLE_MOST), row.case.len.min(SLOTS_MOST));
-    let mut short = |seed: &mut Seed, room: usize| if seed.one_in(3) { room.saturating_sub(1) } else { room };
+    let short = |seed: &mut Seed, room: usize| if seed.one_in(3) { room.saturating_sub(1) } else { room };
     let (k, n, m) = (short(seed, people), short(seed, people * len), short(seed, people * len));
     let counts_ok = people_ok(row.people) && row.case.len <= SLOTS_MOST;
     let number = lowest(&[
