@@ -394,7 +394,10 @@ fn damaged_lists(seed: &mut Seed, row: &Row, i: usize) -> Vec<Question> {
     let counts_ok = people_ok(row.people) && row.case.len <= SLOTS_MOST;
     let number = lowest(&[
         (1, counts_ok),
-        (2, words_ok(row.people, row.words.len()) && people <= k && people * len <= n && people * len <= m),
+        (
+            2,
+            words_ok(row.people, row.words.len()) && people <= k && people * len <= n && people * len <= m,
+        ),
     ]);
     if number > 0 {
         let mut before = row.args(Arg::Lent);

@@ -136,8 +136,14 @@ impl Assignment {
         let (people, slots) = (self.minutes.len(), self.owners.len());
         let (mut counts, mut firsts, mut lasts) = (vec![0; people], vec![0; people * slots], vec![0; people * slots]);
         checked(lent::every_run(people, slots, &self.sets, &mut counts, &mut firsts, &mut lasts));
-        let mut ends = firsts.iter().zip(&lasts).map(|(&first, &last)| (usize::from(first), usize::from(last)));
-        counts.iter().map(|&count| ends.by_ref().take(usize::from(count)).collect()).collect()
+        let mut ends = firsts
+            .iter()
+            .zip(&lasts)
+            .map(|(&first, &last)| (usize::from(first), usize::from(last)));
+        counts
+            .iter()
+            .map(|&count| ends.by_ref().take(usize::from(count)).collect())
+            .collect()
     }
 
     /// The minutes of the slots that a person owns. Refusal 11.

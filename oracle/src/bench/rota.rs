@@ -294,7 +294,10 @@ pub fn runs(rota: Rota) -> Row {
     };
     let rust_each = |read: &mut dyn FnMut((usize, usize, usize)), assignment: &Assignment| {
         for person in 0..rota.case.problem.human_count() {
-            assignment.slots_of(person).runs().for_each(|(first, last)| read((person, first, last)));
+            assignment
+                .slots_of(person)
+                .runs()
+                .for_each(|(first, last)| read((person, first, last)));
         }
     };
     let rust = Side {
