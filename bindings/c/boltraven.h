@@ -183,6 +183,46 @@ uint8_t boltraven_remove(size_t people, size_t len, uint64_t *words, size_t word
 uint8_t boltraven_put_stretch(size_t people, size_t len, uint64_t *words, size_t words_len, size_t person, size_t from, size_t to,
                               bool want);
 
+/* ---- One set: its 16 words and its length, without people and a person, so that a question asks two tests. */
+
+/* Whether slot i is a member: 1 or 0. */
+uint64_t boltraven_set_contains(size_t len, const uint64_t *words, size_t words_len, size_t i);
+
+/* Whether there is no member: 1 or 0. */
+uint64_t boltraven_set_is_empty(size_t len, const uint64_t *words, size_t words_len);
+
+/* How many members there are. */
+uint64_t boltraven_set_count(size_t len, const uint64_t *words, size_t words_len);
+
+/* The first member at or after `from`, or nothing. */
+uint64_t boltraven_set_next_set(size_t len, const uint64_t *words, size_t words_len, size_t from);
+
+/* The last member at or before `from`, or nothing. */
+uint64_t boltraven_set_prev_set(size_t len, const uint64_t *words, size_t words_len, size_t from);
+
+/* The first slot after `from` that is no member, or nothing. */
+uint64_t boltraven_set_next_unset_after(size_t len, const uint64_t *words, size_t words_len, size_t from);
+
+/* The last slot before `from` that is no member, or nothing. */
+uint64_t boltraven_set_prev_unset_before(size_t len, const uint64_t *words, size_t words_len, size_t from);
+
+/* The stretch that holds slot i, as `boltraven_run_bounds` answers it. */
+uint64_t boltraven_set_run_bounds(size_t len, const uint64_t *words, size_t words_len, size_t i, uint64_t *first, uint64_t *last);
+
+/* The next member from the cursor on, and the cursor one past it: 0, or nothing. */
+uint64_t boltraven_set_next_member(size_t len, const uint64_t *words, size_t words_len, size_t cursor, uint64_t *at, uint64_t *next);
+
+/* ---- Runs in lists. */
+
+/* All runs of a person, ascending: the first slot of each in one list, the last in the other, each with room for `len`; and how many. */
+uint64_t boltraven_all_runs(size_t people, size_t len, const uint64_t *words, size_t words_len, uint16_t *firsts, size_t firsts_len,
+                            uint16_t *lasts, size_t lasts_len, size_t person);
+
+/* Everybody's runs, person by person and ascending: how many each person has, the first and the last slot of each run, and how many there
+   are. The last two lists have room for `people` times `len`. */
+uint64_t boltraven_every_run(size_t people, size_t len, const uint64_t *words, size_t words_len, uint16_t *counts, size_t counts_len,
+                             uint16_t *firsts, size_t firsts_len, uint16_t *lasts, size_t lasts_len);
+
 /* ---- Times: minute 0 is Thursday 1970-01-01 00:00. */
 
 /* The date of a minute, in days from 1970-01-01 on. */

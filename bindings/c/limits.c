@@ -34,6 +34,7 @@ struct room {
     double capacities[PEOPLE];
     struct boltraven_draw structs[DRAWS];
     uint16_t persons[RANGES], whose[RANGES], unit_starts[SLOTS], draws[DRAWS], firsts[DRAWS], seconds[DRAWS];
+    uint16_t counts[PEOPLE], run_firsts[PEOPLE * SLOTS], run_lasts[PEOPLE * SLOTS];
     uint8_t owners[SLOTS], list[PEOPLE], answers[DRAWS], file[BOLTRAVEN_FILE_MOST], listing[BOLTRAVEN_LISTING_MOST];
     /* a store of settings with one record less than it may have */
     uint8_t store[STORE], figures[4];
@@ -59,6 +60,20 @@ CALL(next_member) { return boltraven_next_member(PEOPLE, r->slots, r->avail, WOR
 CALL(insert) { return boltraven_insert(PEOPLE, r->slots, r->sets, WORDS, PEOPLE - 1, r->slots - 1); }
 CALL(remove) { return boltraven_remove(PEOPLE, r->slots, r->avail, WORDS, PEOPLE - 1, 0); }
 CALL(put_stretch) { return boltraven_put_stretch(PEOPLE, r->slots, r->sets, WORDS, PEOPLE - 1, 1, r->slots, true); }
+CALL(set_contains) { return boltraven_set_contains(r->slots, r->avail, SET, r->slots - 2); }
+CALL(set_is_empty) { return boltraven_set_is_empty(r->slots, r->avail, SET); }
+CALL(set_count) { return boltraven_set_count(r->slots, r->avail, SET); }
+CALL(set_next_set) { return boltraven_set_next_set(r->slots, r->avail, SET, 0); }
+CALL(set_prev_set) { return boltraven_set_prev_set(r->slots, r->avail, SET, r->slots); }
+CALL(set_next_unset_after) { return boltraven_set_next_unset_after(r->slots, r->avail, SET, 0); }
+CALL(set_prev_unset_before) { return boltraven_set_prev_unset_before(r->slots, r->avail, SET, r->slots); }
+CALL(set_run_bounds) { return boltraven_set_run_bounds(r->slots, r->avail, SET, 500, &r->first, &r->last); }
+CALL(set_next_member) { return boltraven_set_next_member(r->slots, r->avail, SET, 500, &r->first, &r->next); }
+CALL(all_runs) { return boltraven_all_runs(PEOPLE, r->slots, r->avail, WORDS, r->run_firsts, SLOTS, r->run_lasts, SLOTS, PEOPLE - 1); }
+CALL(every_run) {
+    return boltraven_every_run(PEOPLE, r->slots, r->avail, WORDS, r->counts, PEOPLE, r->run_firsts, PEOPLE * SLOTS, r->run_lasts,
+                               PEOPLE * SLOTS);
+}
 CALL(date_of) { return boltraven_date_of(r->starts[1000]); }
 CALL(weekday_of) { return boltraven_weekday_of(r->starts[1000] / 1440); }
 CALL(merged_ranges) {
@@ -162,7 +177,9 @@ static const struct {
 #define DONE(name) {"boltraven_" #name, call_##name, 0}
     NUMBER(version), NUMBER(contains), NUMBER(is_empty), NUMBER(count), NUMBER(next_set), NUMBER(prev_set), NUMBER(next_unset_after),
     NUMBER(prev_unset_before), DONE(run_bounds), DONE(next_run), DONE(next_member), DONE(insert), DONE(remove), DONE(put_stretch),
-    NUMBER(date_of), NUMBER(weekday_of), NUMBER(merged_ranges), NUMBER(atomise), DONE(availability), NUMBER(is_available),
+    NUMBER(set_contains), NUMBER(set_is_empty), NUMBER(set_count), NUMBER(set_next_set), NUMBER(set_prev_set),
+    NUMBER(set_next_unset_after), NUMBER(set_prev_unset_before), DONE(set_run_bounds), DONE(set_next_member), NUMBER(all_runs),
+    NUMBER(every_run), NUMBER(date_of), NUMBER(weekday_of), NUMBER(merged_ranges), NUMBER(atomise), DONE(availability), NUMBER(is_available),
     NUMBER(slot_domain), DONE(slot_minutes), DONE(demand), NUMBER(freeze_before), NUMBER(rotation_starts), NUMBER(unit_starts),
     DONE(unit_slots), NUMBER(unit_of_slot), NUMBER(unit_domain), DONE(unit_domains), NUMBER(unit_frozen), DONE(covered_days),
     DONE(minutes_per_day), DONE(target_run), DONE(achievable_run), DONE(compute_targets), DONE(empty), DONE(from_slots), DONE(assign),

@@ -68,6 +68,17 @@ exports! {
     done insert(number, number, slice, number, number);
     done remove(number, number, slice, number, number);
     done put_stretch(number, number, slice, number, number, number, number);
+    yes_no set_contains(number, slice, number);
+    yes_no set_is_empty(number, slice);
+    number set_count(number, slice);
+    found set_next_set(number, slice, number);
+    found set_prev_set(number, slice, number);
+    found set_next_unset_after(number, slice, number);
+    found set_prev_unset_before(number, slice, number);
+    held set_run_bounds(number, slice, number, out, out);
+    wrote set_next_member(number, slice, number, out, out);
+    number all_runs(number, number, slice, slice, slice, number);
+    number every_run(number, number, slice, slice, slice, slice);
     number merged_ranges(number, number, slice, slice, slice, slice, slice, slice);
     number atomise(number, number, number, slice, slice, slice, slice, slice, slice, slice);
     done availability(number, number, number, slice, slice, slice, slice, slice, slice);

@@ -3,7 +3,7 @@
 use on_call::model::assignment::SlotSet;
 
 use crate::bits::{has_bit, put_bit};
-use crate::call::{bytes64, Arg, Outcome, Question};
+use crate::call::{bytes16, bytes64, Arg, Outcome, Question};
 use crate::limits::{NOTHING, PEOPLE_MOST, SET_WORDS, SLOTS_MOST};
 use crate::seed::Seed;
 use crate::table::{lowest, people_ok, words_ok};
@@ -279,7 +279,145 @@ pub fn questions(case_seed: u64) -> Vec<Question> {
         asked.push(row.numbers("boltraven_next_member", i, &outs[..2], member));
         asked.extend(changes(&mut seed, &row, i));
     }
+    let alone: Vec<Question> = asked.iter().filter_map(|question| row.alone(question)).collect();
+    asked.extend(alone);
     asked.extend(all_runs(&mut seed, &row));
+    asked.extend(listed_runs(&mut seed, &row));
+    asked
+}
+
+/// The questions that are asked of one set too, by their names there.
+const ALONE: [(&str, &str); 9] = [
+    ("boltraven_contains", "boltraven_set_contains"),
+    ("boltraven_is_empty", "boltraven_set_is_empty"),
+    ("boltraven_count", "boltraven_set_count"),
+    ("boltraven_next_set", "boltraven_set_next_set"),
+    ("boltraven_prev_set", "boltraven_set_prev_set"),
+    ("boltraven_next_unset_after", "boltraven_set_next_unset_after"),
+    ("boltraven_prev_unset_before", "boltraven_set_prev_unset_before"),
+    ("boltraven_run_bounds", "boltraven_set_run_bounds"),
+    ("boltraven_next_member", "boltraven_set_next_member"),
+];
+
+impl Row {
+    /// The same question of the person's set alone: the length, its words and what lies behind them, and what else is asked.
+    fn alone(&self, question: &Question) -> Option<Question> {
+        let (_, function) = ALONE.iter().find(|(name, _)| *name == question.function)?;
+        let words = self.words.get(SET_WORDS * self.person..).unwrap_or_default();
+        let mut args = vec![Arg::Number(self.case.len as u64), Arg::Lent(8, bytes64(words))];
+        args.extend(question.args[4..].iter().cloned());
+        let due = question.due.clone();
+        Some(Question { function, args, due })
+    }
+
+    /// Everybody's runs, as the Rust's readers give them.
+    fn every_run(&self) -> Vec<Vec<(usize, usize)>> {
+        let set = |words: &[u64]| SetCase {
+            len: self.case.len,
+            words: words.try_into().expect("a set's words"),
+        };
+        let rows = self.words.chunks_exact(SET_WORDS).take(self.people);
+        rows.map(|words| set(words).rust().runs().collect()).collect()
+    }
+}
+
+/// A column of entries as they come, and the same with numbers in its first ones.
+fn column(seed: &mut Seed, room: usize, numbers: &[usize]) -> (Vec<u16>, Vec<u16>) {
+    let was: Vec<u16> = (0..room).map(|_| seed.word() as u16).collect();
+    let mut due = was.clone();
+    for (entry, &number) in due.iter_mut().zip(numbers) {
+        *entry = number as u16;
+    }
+    (was, due)
+}
+
+/// A call that writes columns, and what it leaves in them.
+fn listing(function: &'static str, before: Vec<Arg>, columns: Vec<(Vec<u16>, Vec<u16>)>, after: Vec<Arg>, result: u64) -> Question {
+    let mut args = before;
+    args.extend(columns.iter().map(|(was, _)| Arg::LentMut(2, bytes16(was))));
+    args.extend(after);
+    let written = columns.iter().map(|(_, due)| bytes16(due)).collect();
+    Question {
+        function,
+        args,
+        due: Outcome { result, written },
+    }
+}
+
+/// All runs in columns: the person's, and everybody's in one call.
+fn listed_runs(seed: &mut Seed, row: &Row) -> Vec<Question> {
+    let everybody = row.every_run();
+    let (len, spare) = (row.case.len, seed.below(3) as usize);
+    let firsts = |runs: &[(usize, usize)]| runs.iter().map(|run| run.0).collect::<Vec<_>>();
+    let lasts = |runs: &[(usize, usize)]| runs.iter().map(|run| run.1).collect::<Vec<_>>();
+    let before = || {
+        let mut args = row.args(Arg::Lent);
+        args.truncate(3);
+        args
+    };
+    let own = &everybody[row.person];
+    let columns = vec![column(seed, len + spare, &firsts(own)), column(seed, len, &lasts(own))];
+    let person = vec![Arg::Number(row.person as u64)];
+    let own = listing("boltraven_all_runs", before(), columns, person, own.len() as u64);
+    let all = everybody.concat();
+    let counts: Vec<usize> = everybody.iter().map(Vec::len).collect();
+    let columns = vec![
+        column(seed, row.people + spare, &counts),
+        column(seed, row.people * len, &firsts(&all)),
+        column(seed, row.people * len + spare, &lasts(&all)),
+    ];
+    vec![own, listing("boltraven_every_run", before(), columns, vec![], all.len() as u64)]
+}
+
+/// Damaged calls of one set and of lists: a length or a count above its limit, fewer words than a set's, and columns without room.
+fn damaged_lists(seed: &mut Seed, row: &Row, i: usize) -> Vec<Question> {
+    let mut asked = vec![];
+    let set_number = lowest(&[(1, row.case.len <= SLOTS_MOST), (2, row.words.len() >= SET_WORDS)]);
+    if set_number > 0 {
+        let args = || vec![Arg::Number(row.case.len as u64), Arg::Lent(8, bytes64(&row.words))];
+        for (_, function) in ALONE {
+            let (index, outs) = match function {
+                "boltraven_set_is_empty" | "boltraven_set_count" => (None, 0),
+                "boltraven_set_run_bounds" | "boltraven_set_next_member" => (Some(i), 2),
+                _ => (Some(i), 0),
+            };
+            let mut args = args();
+            args.extend(index.map(|i| Arg::Number(i as u64)));
+            let outs: Vec<u64> = (0..outs).map(|_| seed.word()).collect();
+            asked.push(Question::beside(function, args, &outs, NOTHING + set_number, None));
+        }
+    }
+    // room by what passes for counts: a column one entry short, or long enough
+    let (people, len) = (row.people.min(PEOPLE_MOST), row.case.len.min(SLOTS_MOST));
+    let short = |seed: &mut Seed, room: usize| if seed.one_in(3) { room.saturating_sub(1) } else { room };
+    let (k, n, m) = (short(seed, people), short(seed, people * len), short(seed, people * len));
+    let counts_ok = people_ok(row.people) && row.case.len <= SLOTS_MOST;
+    let number = lowest(&[
+        (1, counts_ok),
+        (
+            2,
+            words_ok(row.people, row.words.len()) && people <= k && people * len <= n && people * len <= m,
+        ),
+    ]);
+    if number > 0 {
+        let mut before = row.args(Arg::Lent);
+        before.truncate(3);
+        let columns = vec![column(seed, k, &[]), column(seed, n, &[]), column(seed, m, &[])];
+        asked.push(listing("boltraven_every_run", before, columns, vec![], NOTHING + number));
+    }
+    let (n, m) = (short(seed, len), short(seed, len));
+    let number = lowest(&[
+        (1, counts_ok),
+        (2, words_ok(row.people, row.words.len()) && len <= n && len <= m),
+        (11, row.person < row.people),
+    ]);
+    if number > 0 {
+        let mut before = row.args(Arg::Lent);
+        before.truncate(3);
+        let columns = vec![column(seed, n, &[]), column(seed, m, &[])];
+        let person = vec![Arg::Number(row.person as u64)];
+        asked.push(listing("boltraven_all_runs", before, columns, person, NOTHING + number));
+    }
     asked
 }
 
@@ -357,15 +495,14 @@ pub fn damaged(case_seed: u64) -> Vec<Question> {
         row.person = seed.pick(&[row.people, row.people.saturating_add(1), usize::MAX]);
     }
     let number = row.number_due();
+    let mut asked = damaged_lists(&mut seed, &row, i);
     if number == 0 {
-        return vec![];
+        return asked;
     }
     let refused = NOTHING + number;
     let outs = [seed.word(), seed.word(), seed.word()];
-    let mut asked = vec![
-        row.number("boltraven_is_empty", &[], refused),
-        row.number("boltraven_count", &[], refused),
-    ];
+    asked.push(row.number("boltraven_is_empty", &[], refused));
+    asked.push(row.number("boltraven_count", &[], refused));
     for function in [
         "boltraven_contains",
         "boltraven_next_set",

@@ -57,6 +57,7 @@ pub enum WayBack {
 /// assert_eq!(rota.assign(&problem, 0, Some(1)), Err(Refusal::Unavailable));
 /// assert_eq!((rota.slots(), rota.owners()), (vec![Some(0), None], &[0, 255][..]));
 /// assert_eq!(rota.slots_of(0)?.iter().collect::<Vec<_>>(), [0]);
+/// assert_eq!(rota.runs(), [vec![(0, 0)], vec![]]);
 /// assert_eq!((rota.unassigned_count(), rota.uncovered_minutes(&problem)?), (1, 60));
 ///
 /// // Both slots of person 0; then the second unit goes to the second of those who can cover it, and there is no tenth.
@@ -144,6 +145,21 @@ impl Assignment {
     /// The slots that a person owns. Refusal 11.
     pub fn slots_of(&self, person: usize) -> Result<SlotSet, Refusal> {
         SlotSet::from_row(&self.sets, self.minutes.len(), person, self.owners.len())
+    }
+
+    /// Everybody's runs of slots, each person's ascending, by the first and the last slot: all of them listed in one call.
+    pub fn runs(&self) -> Vec<Vec<(usize, usize)>> {
+        let (people, slots) = (self.minutes.len(), self.owners.len());
+        let (mut counts, mut firsts, mut lasts) = (vec![0; people], vec![0; people * slots], vec![0; people * slots]);
+        checked(lent::every_run(people, slots, &self.sets, &mut counts, &mut firsts, &mut lasts));
+        let mut ends = firsts
+            .iter()
+            .zip(&lasts)
+            .map(|(&first, &last)| (usize::from(first), usize::from(last)));
+        counts
+            .iter()
+            .map(|&count| ends.by_ref().take(usize::from(count)).collect())
+            .collect()
     }
 
     /// The minutes of the slots that a person owns. Refusal 11.

@@ -30,6 +30,18 @@
 //! assert!(lent::next_run(1, 64, &words, 0, 4, &mut first, &mut last, &mut next)?);
 //! assert_eq!((first, last, next), (9, 9, 10));
 //! assert!(!lent::next_member(1, 64, &words, 0, 10, &mut first, &mut next)?);
+//!
+//! // One set, without people and a person; and runs in lists.
+//! assert_eq!((lent::set_contains(64, &words, 9)?, lent::set_is_empty(64, &words)?, lent::set_count(64, &words)?), (true, false, 4));
+//! assert_eq!((lent::set_next_set(64, &words, 4)?, lent::set_prev_set(64, &words, 4)?), (Some(9), Some(3)));
+//! assert_eq!((lent::set_next_unset_after(64, &words, 1)?, lent::set_prev_unset_before(64, &words, 3)?), (Some(4), Some(0)));
+//! assert_eq!((lent::set_run_bounds(64, &words, 2, &mut first, &mut last)?, first, last), (lent::Held::Run, 1, 3));
+//! assert!(!lent::set_next_member(64, &words, 10, &mut first, &mut next)?);
+//! let (mut counts, mut firsts, mut lasts) = ([0; 1], [0; 64], [0; 64]);
+//! assert_eq!(lent::all_runs(1, 64, &words, &mut firsts, &mut lasts, 0)?, 2);
+//! assert_eq!((&firsts[..2], &lasts[..2]), (&[1, 9][..], &[3, 9][..]));
+//! assert_eq!((lent::every_run(1, 64, &words, &mut counts, &mut firsts, &mut lasts)?, counts), (2, [2]));
+//! assert_eq!(lent::set_count(64, &words[..15]), Err(Refusal::ShortBuffer));
 //! assert_eq!(lent::count(lent::PEOPLE_MOST + 1, 64, &words, 0), Err(Refusal::Count));
 //! assert_eq!(lent::count(1, 64, &words[..15], 0), Err(Refusal::ShortBuffer));
 //! # Ok::<(), Refusal>(())
@@ -417,6 +429,58 @@ exports! {
     pub fn put_stretch(
         people: usize, len: usize, words: &mut [u64], person: usize, from: usize, to: usize, want: bool
     ) -> Result<(), Refusal> = done(u8);
+
+    // ---- runs in lists
+
+    /// All runs of a person, ascending: the first slot of each in one column, the last in the other, each with room for `len` entries; and
+    /// how many there are. Refusals: 1, 2, 11.
+    pub fn all_runs(
+        people: usize, len: usize, words: &[u64], firsts: &mut [u16], lasts: &mut [u16], person: usize
+    ) -> Result<usize, Refusal> = number(u64);
+
+    /// Everybody's runs, person by person and ascending: how many each has, the first slot and the last slot of each run, and how many there
+    /// are. The last two columns have room for as many entries as slots for each of `people`. Refusals: 1, 2.
+    pub fn every_run(
+        people: usize, len: usize, words: &[u64], counts: &mut [u16], firsts: &mut [u16], lasts: &mut [u16]
+    ) -> Result<usize, Refusal> = number(u64);
+
+    // ---- one set: its 16 words and its length, without people and a person. A question asks two tests, and is inlined.
+
+    /// Whether slot i is a member. Refusals: 1, 2.
+    #[inline]
+    pub fn set_contains(len: usize, words: &[u64], i: usize) -> Result<bool, Refusal> = yes_no(u64);
+
+    /// Whether the set has no member. Refusals: 1, 2.
+    #[inline]
+    pub fn set_is_empty(len: usize, words: &[u64]) -> Result<bool, Refusal> = yes_no(u64);
+
+    /// How many members the set has. Refusals: 1, 2.
+    #[inline]
+    pub fn set_count(len: usize, words: &[u64]) -> Result<usize, Refusal> = number(u64);
+
+    /// The first member at or after `from`. Refusals: 1, 2.
+    #[inline]
+    pub fn set_next_set(len: usize, words: &[u64], from: usize) -> Result<Option<usize>, Refusal> = found(u64);
+
+    /// The last member at or before `from`. Refusals: 1, 2.
+    #[inline]
+    pub fn set_prev_set(len: usize, words: &[u64], from: usize) -> Result<Option<usize>, Refusal> = found(u64);
+
+    /// The first slot after `from`, below the length, that is no member. Refusals: 1, 2.
+    #[inline]
+    pub fn set_next_unset_after(len: usize, words: &[u64], from: usize) -> Result<Option<usize>, Refusal> = found(u64);
+
+    /// The last slot before `from`, below the length, that is no member. Refusals: 1, 2.
+    #[inline]
+    pub fn set_prev_unset_before(len: usize, words: &[u64], from: usize) -> Result<Option<usize>, Refusal> = found(u64);
+
+    /// What holds slot i, with both its ends written: a run or a hole; outside, nothing is. Refusals: 1, 2.
+    #[inline]
+    pub fn set_run_bounds(len: usize, words: &[u64], i: usize, first: &mut u64, last: &mut u64) -> Result<Held, Refusal> = held(u64);
+
+    /// The next member from the cursor on: true, with its index and the next cursor written; false at the end. Refusals: 1, 2.
+    #[inline]
+    pub fn set_next_member(len: usize, words: &[u64], cursor: usize, at: &mut u64, next: &mut u64) -> Result<bool, Refusal> = wrote(u64);
 
     // ---- ranges merged, base slots split, availability; ranges come as three columns
 

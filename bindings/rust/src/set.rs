@@ -1,8 +1,9 @@
 //! A set of slots, by value.
 
 use std::fmt;
+use std::marker::PhantomData;
 
-use crate::lent::{self, Held, SET_WORDS};
+use crate::lent::{self, Held, SET_WORDS, SLOTS_MOST};
 use crate::refusal::{checked, Refusal};
 
 /// A set of slots below a length of at most 1,024.
@@ -41,7 +42,7 @@ impl SlotSet {
     /// The empty set of a length. Refusal 1.
     pub fn new(len: usize) -> Result<Self, Refusal> {
         let words = [0; SET_WORDS];
-        lent::count(1, len, &words, 0)?;
+        lent::set_count(len, &words)?;
         Ok(Self { words, len })
     }
 
@@ -79,7 +80,7 @@ impl SlotSet {
 
     /// Whether a slot is a member; past the length none is.
     pub fn contains(&self, slot: usize) -> bool {
-        checked(lent::contains(1, self.len, &self.words, 0, slot))
+        checked(lent::set_contains(self.len, &self.words, slot))
     }
 
     /// Puts a slot in. Refusal 11.
@@ -104,38 +105,38 @@ impl SlotSet {
 
     /// Whether there is no member.
     pub fn is_empty(&self) -> bool {
-        checked(lent::is_empty(1, self.len, &self.words, 0))
+        checked(lent::set_is_empty(self.len, &self.words))
     }
 
     /// How many members there are.
     pub fn count(&self) -> usize {
-        checked(lent::count(1, self.len, &self.words, 0))
+        checked(lent::set_count(self.len, &self.words))
     }
 
     /// The first member at or after a slot.
     pub fn next_set(&self, from: usize) -> Option<usize> {
-        checked(lent::next_set(1, self.len, &self.words, 0, from))
+        checked(lent::set_next_set(self.len, &self.words, from))
     }
 
     /// The last member at or before a slot.
     pub fn prev_set(&self, from: usize) -> Option<usize> {
-        checked(lent::prev_set(1, self.len, &self.words, 0, from))
+        checked(lent::set_prev_set(self.len, &self.words, from))
     }
 
     /// The first slot after `from`, below the length, that is no member.
     pub fn next_unset_after(&self, from: usize) -> Option<usize> {
-        checked(lent::next_unset_after(1, self.len, &self.words, 0, from))
+        checked(lent::set_next_unset_after(self.len, &self.words, from))
     }
 
     /// The last slot before `from`, below the length, that is no member.
     pub fn prev_unset_before(&self, from: usize) -> Option<usize> {
-        checked(lent::prev_unset_before(1, self.len, &self.words, 0, from))
+        checked(lent::set_prev_unset_before(self.len, &self.words, from))
     }
 
     /// The run or the hole that holds a slot.
     pub fn run_bounds(&self, slot: usize) -> Run {
         let (mut first, mut last) = (0, 0);
-        let held = checked(lent::run_bounds(1, self.len, &self.words, 0, slot, &mut first, &mut last));
+        let held = checked(lent::set_run_bounds(self.len, &self.words, slot, &mut first, &mut last));
         let (first, last) = (first as usize, last as usize);
         match held {
             Held::Run => Run::Span { first, last },
@@ -146,7 +147,15 @@ impl SlotSet {
 
     /// The runs, ascending, each as its first and its last slot.
     pub fn runs(&self) -> Runs<'_> {
-        Runs { set: self, cursor: 0 }
+        let (mut counts, mut firsts, mut lasts) = ([0], [0; SLOTS_MOST], [0; SLOTS_MOST]);
+        let end = checked(lent::every_run(1, self.len, &self.words, &mut counts, &mut firsts, &mut lasts));
+        Runs {
+            firsts,
+            lasts,
+            at: 0,
+            end,
+            set: PhantomData,
+        }
     }
 
     /// The members, ascending.
@@ -207,7 +216,7 @@ pub enum Run {
     Outside,
 }
 
-/// A reader of a set's runs.
+/// A reader of a set's runs, which were all listed in one call.
 ///
 /// ```
 /// use boltraven::{Runs, SlotSet};
@@ -219,28 +228,22 @@ pub enum Run {
 /// ```
 #[derive(Debug, Clone)]
 pub struct Runs<'a> {
-    set: &'a SlotSet,
-    cursor: u64,
+    firsts: [u16; SLOTS_MOST],
+    lasts: [u16; SLOTS_MOST],
+    at: usize,
+    end: usize,
+    set: PhantomData<&'a SlotSet>,
 }
 
 impl Iterator for Runs<'_> {
     type Item = (usize, usize);
 
     fn next(&mut self) -> Option<(usize, usize)> {
-        let set = self.set;
-        let (mut first, mut last) = (0, 0);
-        let from = self.cursor as usize;
-        let is_run = checked(lent::next_run(
-            1,
-            set.len,
-            &set.words,
-            0,
-            from,
-            &mut first,
-            &mut last,
-            &mut self.cursor,
-        ));
-        is_run.then_some((first as usize, last as usize))
+        let at = self.at;
+        (at < self.end).then(|| {
+            self.at += 1;
+            (usize::from(self.firsts[at]), usize::from(self.lasts[at]))
+        })
     }
 }
 
@@ -267,7 +270,7 @@ impl Iterator for Members<'_> {
         let set = self.set;
         let mut at = 0;
         let from = self.cursor as usize;
-        let is_member = checked(lent::next_member(1, set.len, &set.words, 0, from, &mut at, &mut self.cursor));
+        let is_member = checked(lent::set_next_member(set.len, &set.words, from, &mut at, &mut self.cursor));
         is_member.then_some(at as usize)
     }
 }

@@ -7,6 +7,8 @@ mod draws_c;
 mod job_c;
 mod owners_c;
 mod rota_c;
+mod runs_c;
+mod set_c;
 mod slots_c;
 mod slotset_c;
 mod store_c;

@@ -9,6 +9,7 @@ pub mod SetRefusals
 pub mod RotaRefusals
 pub mod SetRules
 pub mod ReaderRule
+pub mod EveryRunRule
 pub mod HoleRule
 pub mod SlotRules
 pub mod SplitRule

@@ -12,6 +12,7 @@ pub mod SetRefusals
 pub mod Outcomes
 pub mod SetRules
 pub mod ReaderRule
+pub mod EveryRunRule
 pub mod HoleRule
 pub mod SlotRules
 pub mod SplitRule

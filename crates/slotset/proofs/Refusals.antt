@@ -21,7 +21,7 @@ use Rattle.slotset.specs.declared.Run.the-variants as run
 use Rattle.slotset.specs.declared.NextRun.the-variants as nextRun
 use Rattle.slotset.specs.declared.NextMember.the-variants as nextMember
 use Rattle.slotset.specs.Slots.{putSlots}
-use Rattle.slotset.specs.Answers.{lengthRow, slotRow, stretchOk, stretchRow, setsRow, sameSetsRow, personRow, personStretchRow}
+use Rattle.slotset.specs.Answers.{lengthRow, slotRow, stretchOk, stretchRow, setRow, setsRow, sameSetsRow, personRow, personStretchRow}
 use Rattle.slotset.specs.Answers.{foundAs, yesNoAs, numberAs, runAs, nextRunAs, nextMemberAs, changedAs, rowStretchOf}
 use Rattle.slotset.specs.Answers.{yesNoRefusal, numberRefusal}
 
@@ -47,6 +47,13 @@ unfolding stretchRow
 stretch-says len a e z =
     let h = passed (stretchRow len a e) refl z in
     (leb-true len 1024 (h 0), within len a e (h 1))
+
+-- one lent set that may be asked
+pub set-says : (ws : List ℕ) (len : ℕ) → numberOf (setRow ws len) ≡ 0 → (16 ≤ length ws) × (len ≤ 1024)
+unfolding setRow
+set-says ws len z =
+    let h = passed (setRow ws len) refl z in
+    (leb-true 16 (length ws) (h 1), leb-true len 1024 (h 0))
 
 -- a row that may be asked
 pub record Row (ws : List ℕ) (people person len : ℕ) : Type 0 where

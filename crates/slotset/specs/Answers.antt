@@ -42,6 +42,10 @@ stretchOk len a e = leb e a || leb e len
 unfoldable pub stretchRow : ℕ → ℕ → ℕ → List Test
 stretchRow len a e = test 1 (leb len slotsMost) ∷ test 11 (stretchOk len a e) ∷ []
 
+-- one lent set: 1, then 2: fewer words than a set has
+unfoldable pub setRow : List ℕ → ℕ → List Test
+setRow ws len = test 1 (leb len slotsMost) ∷ test 2 (leb setWords (length ws)) ∷ []
+
 -- everybody's sets among lent words: 1, then 2: words for fewer sets than people
 unfoldable pub setsRow : List ℕ → ℕ → ℕ → List Test
 setsRow ws people len = test 1 (peopleOk people) ∷ test 1 (leb len slotsMost) ∷ test 2 (leb (setWords * people) (length ws)) ∷ []
@@ -64,10 +68,13 @@ rowRefusal ws people person len = numberOf (personRow ws people person len)
 abbrev pub rowStretchRefusal : List ℕ → ℕ → ℕ → ℕ → ℕ → ℕ → ℕ
 rowStretchRefusal ws people person len a e = numberOf (personStretchRow ws people person len a e)
 
--- ---- the slots of a set by value, and of a person's row
+-- ---- the slots of a set by value, of one lent set, and of a person's row
 
 abbrev pub slotsOf : SlotSet → ℕ → ℕ
 slotsOf s = slot (s .words) 0
+
+abbrev pub setSlots : List ℕ → ℕ → ℕ
+setSlots ws = slot ws 0
 
 abbrev pub rowSlots : List ℕ → ℕ → ℕ → ℕ
 rowSlots ws person = slot ws (16 * person)
@@ -120,6 +127,13 @@ memberStep (found.Refused n) = nextMember.Refused n
 
 unfoldable pub nextMemberAs : ℕ → (ℕ → ℕ) → ℕ → ℕ → NextMember
 nextMemberAs n f len at = unless n (nextMember.Refused n) (memberStep (nextSet f len at))
+
+-- of one lent set: the run or the hole that holds slot i; the next member from a cursor on
+abbrev pub setRun : List ℕ → ℕ → ℕ → Run
+setRun ws len i = runAs (numberOf (setRow ws len)) (setSlots ws) len i
+
+abbrev pub setNextMember : List ℕ → ℕ → ℕ → NextMember
+setNextMember ws len at = nextMemberAs (numberOf (setRow ws len)) (setSlots ws) len at
 
 -- of a person's row: the run or the hole that holds slot i; the next run and the next member from a cursor on
 abbrev pub rowRun : List ℕ → ℕ → ℕ → ℕ → ℕ → Run

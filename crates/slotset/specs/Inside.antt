@@ -1,9 +1,11 @@
 -- What only contracts of private functions cite: what one word of a set answers, and what a search came to. Assumes nothing.
 use mathlib.Core.Path.{_≡_}
 use mathlib.Core.Bool.{_&&_, cond}
+use mathlib.Core.List.{List}
 use mathlib.Core.Logic.{_↔_}
 use Prim.Native.Nat.{ℕ, zero, suc, _+_, _-_, _≤_, _<_}
 use lib.Dec.{ltb, leb}
+use lib.ListN.{getD}
 use Rattle.paper.specs.Bits.{bitOf}
 use Rattle.slotset.specs.declared.Found.{Found}
 use Rattle.slotset.specs.declared.Found.the-variants.{At, Nothing, Refused}
@@ -37,6 +39,20 @@ onesBelow w (suc k) = bitOf w k + onesBelow w k
 -- r has the bits of x from s up to e, and those of w elsewhere
 abbrev pub Merged : ℕ → ℕ → ℕ → ℕ → ℕ → Type 0
 Merged w x s e r = (k : ℕ) → k < 64 → bitOf r k ≡ cond (leb s k && ltb k e) (bitOf x k) (bitOf w k)
+
+-- r is the first word from `first` up to `end` that is not x, or `end`; the words stand from word b on
+pub record SkippedUp (ws : List ℕ) (b x first end r : ℕ) : Type 0 where
+  pub from : first ≤ r
+  pub to : r ≤ end
+  pub same : (k : ℕ) → first ≤ k → k < r → getD ws (b + k) 0 ≡ x
+  pub other : r < end → getD ws (b + r) 0 ≡ x → ⊥
+
+-- r is one past the last word below `before` that is not x; where there is a word, it is at least 1
+pub record SkippedDown (ws : List ℕ) (b x before r : ℕ) : Type 0 where
+  pub some : 0 < before → 0 < r
+  pub to : r ≤ before
+  pub same : (k : ℕ) → r ≤ k → k < before → getD ws (b + k) 0 ≡ x
+  pub other : 1 < r → getD ws (b + (r - 1)) 0 ≡ x → ⊥
 
 -- the slot i as found, if it is below the length
 unfoldable pub foundBelow : ℕ → ℕ → Found

@@ -6,13 +6,15 @@ use crate::NextRun;
 use crate::Run;
 use crate::word;
 ghost use mathlib.Core.Path.{_≡_};
+ghost use mathlib.Core.Bool.{not, cond};
 ghost use Prim.Native.Nat.{_+_, _-_, _*_, _≤_, _<_, min};
 ghost use lib.ListN.{length};
 ghost use Rattle.slotset.specs.Slots.{slot, valueOf, has, size, noMember, sameSlots, putSlots};
 ghost use Rattle.slotset.specs.Search.{nextWith, down, lastBelow, prevSet, nextUnsetAfter};
-ghost use Rattle.slotset.specs.Inside.{foundBelow, Below, Above};
+ghost use Rattle.slotset.specs.Inside.{foundBelow, Below, Above, SkippedUp, SkippedDown};
+ghost use Rattle.slotset.specs.declared.Run.the-variants.{Span, Hole};
 ghost use Rattle.slotset.specs.Runs.{startOf, endOf};
-ghost use Rattle.slotset.specs.Answers.{stretchAs, runAs, nextRunAs, nextMemberAs, memberStep};
+ghost use Rattle.slotset.specs.Answers.{runAs, nextRunAs, nextMemberAs, memberStep};
 
 // The lesser of two numbers.
 pub(crate) fn least(a: usize, b: usize) -> usize
@@ -113,11 +115,14 @@ fn last_in_words(words: &[u64], base: usize, want: bool, before: usize) -> Found
     Found::Nothing
 }
 
-// How many members the set has: whole words, then what is left of the last one.
+// How many members the set has: whole words, then what is left of the last one. Of the longest set how many words is known beforehand.
 pub(crate) fn count(words: &[u64], base: usize, len: usize) -> usize
     requires { ⌜ (base + 16 ≤ length (now words)) × (len ≤ 1024) ⌝ }
     ensures { λ r. ⌜ r ≡ size (slot (now (words .entry)) base) len ⌝ }
 {
+    if len == paper::SLOTS_MOST {
+        return count_words(words, base, paper::SET_WORDS);
+    }
     let whole = len / 64;
     let rest = len % 64;
     let n = count_words(words, base, whole);
@@ -187,37 +192,106 @@ pub(crate) fn copy_slots(src: &[u64], len: usize, words: &mut [u64], base: usize
     }
 }
 
-// One past the slot found, or 0.
-fn start_of(f: Found) -> usize
-    requires { ⌜ startOf f ≤ 1024 ⌝ }
-    ensures { λ r. ⌜ r ≡ startOf f ⌝ }
+// One past the last word below `before` that is not x; at least 1 where there is a word.
+fn skip_down(words: &[u64], base: usize, x: u64, before: usize) -> usize
+    requires { ⌜ base + before ≤ length (now words) ⌝ }
+    ensures { λ r. ⌜ SkippedDown (now (words .entry)) base x before r ⌝ }
 {
-    match f {
-        Found::At(k) => k + 1,
-        Found::Nothing => 0,
-        Found::Refused(_) => 0,
+    let mut end = before;
+    while 1 < end {
+        if words[base + end - 1] == x {
+            end -= 1;
+        } else {
+            return end;
+        }
     }
+    end
 }
 
-// One before the slot found, or the last slot.
-fn end_of(f: Found, len: usize) -> usize
-    requires { ⌜ (0 < len) × (Above 0 f) ⌝ }
-    ensures { λ r. ⌜ r ≡ endOf len f ⌝ }
+// The first word from `first` up to `end` that is not x, or `end`.
+fn skip_up(words: &[u64], base: usize, x: u64, first: usize, end: usize) -> usize
+    requires { ⌜ (base + end ≤ length (now words)) × (first ≤ end) ⌝ }
+    ensures { λ r. ⌜ SkippedUp (now (words .entry)) base x first end r ⌝ }
 {
-    match f {
-        Found::At(k) => k - 1,
-        Found::Nothing => len - 1,
-        Found::Refused(_) => 0,
+    let mut j = first;
+    while j < end {
+        if words[base + j] == x {
+            j += 1;
+        } else {
+            return j;
+        }
     }
+    j
 }
 
-// The stretch around slot i of slots that are as wanted: of members a run, of others a hole.
-fn stretch_around(words: &[u64], base: usize, len: usize, want: bool, i: usize) -> Run
-    requires { ⌜ (base + 16 ≤ length (now words)) × (len ≤ 1024) × (i < len) ⌝ }
-    ensures { λ r. ⌜ r ≡ stretchAs (valueOf want) (slot (now (words .entry)) base) len i ⌝ }
+// The last slot of a stretch that a search from one of its slots ended at `hit`: one before that, or the last slot.
+fn last_of(len: usize, hit: usize) -> usize
+    requires { ⌜ (0 < len) × (0 < hit) ⌝ }
+    ensures { λ r. ⌜ r ≡ endOf len (foundBelow len hit) ⌝ }
 {
-    let first = start_of(last_below(words, base, len, !want, i));
-    let last = end_of(next_with(words, base, len, !want, i + 1), len);
+    if hit < len { hit - 1 } else { len - 1 }
+}
+
+// Where a stretch of slots that are as wanted starts that goes on below word `before`: words that are all as wanted are skipped.
+fn start_in_words(words: &[u64], base: usize, want: bool, before: usize) -> usize
+    requires { ⌜ (base + 16 ≤ length (now words)) × (before ≤ 16) ⌝ }
+    ensures { λ r. ⌜ r ≡ startOf (down (valueOf (not want)) (slot (now (words .entry)) base) (before * 64)) ⌝ }
+{
+    let end = skip_down(words, base, word::every(want), before);
+    if 0 < end {
+        let j = end - 1;
+        let k = word::last_bit(words[base + j], !want, 63);
+        if k == 0 {
+            return 0;
+        }
+        return j * 64 + k;
+    }
+    0
+}
+
+// Where it ends that goes on at word `first`.
+fn end_in_words(words: &[u64], base: usize, len: usize, want: bool, first: usize) -> usize
+    requires { ⌜ (base + 16 ≤ length (now words)) × (len ≤ 1024) × (0 < len) × (0 < first) × (first * 64 < len + 64) ⌝ }
+    ensures { λ r. ⌜ r ≡ endOf len (nextWith (valueOf (not want)) (slot (now (words .entry)) base) len (first * 64)) ⌝ }
+{
+    let end = (len + 63) / 64;
+    let j = skip_up(words, base, word::every(want), first, end);
+    if j < end {
+        return last_of(len, j * 64 + word::first_bit(words[base + j], !want, 0));
+    }
+    len - 1
+}
+
+// The first slot of the stretch around slot i of slots that are as wanted, as it is: what isn't is looked for in its word, then in whole words.
+pub(crate) fn start_around(words: &[u64], base: usize, want: bool, i: usize) -> usize
+    requires { ⌜ (base + 16 ≤ length (now words)) × (i < 1024) ⌝ }
+    ensures { λ r. ⌜ r ≡ startOf (down (valueOf (not want)) (slot (now (words .entry)) base) (i + 1)) ⌝ }
+{
+    let j = i / 64;
+    let k = word::last_bit(words[base + j], !want, i % 64);
+    if k == 0 {
+        return start_in_words(words, base, want, j);
+    }
+    j * 64 + k
+}
+
+// Its last slot.
+pub(crate) fn end_around(words: &[u64], base: usize, len: usize, want: bool, i: usize) -> usize
+    requires { ⌜ (base + 16 ≤ length (now words)) × (len ≤ 1024) × (i < len) × (slot (now words) base i ≡ valueOf want) ⌝ }
+    ensures { λ r. ⌜ r ≡ endOf len (nextWith (valueOf (not want)) (slot (now (words .entry)) base) len i) ⌝ }
+{
+    let j = i / 64;
+    let k = word::first_bit(words[base + j], !want, i % 64);
+    if k == 64 {
+        return end_in_words(words, base, len, want, j + 1);
+    }
+    last_of(len, j * 64 + k)
+}
+
+// A stretch by its ends: of members a run, of others a hole.
+pub(crate) fn held_by(want: bool, first: usize, last: usize) -> Run
+    ensures { λ r. ⌜ r ≡ cond want (Span first last) (Hole first last) ⌝ }
+{
     if want {
         Run::Span { first, last }
     } else {
@@ -231,9 +305,23 @@ pub(crate) fn run_bounds(words: &[u64], base: usize, len: usize, i: usize) -> Ru
     ensures { λ r. ⌜ r ≡ runAs 0 (slot (now (words .entry)) base) len i ⌝ }
 {
     if i < len {
-        return stretch_around(words, base, len, contains(words, base, len, i), i);
+        let want = contains(words, base, len, i);
+        let first = start_around(words, base, want, i);
+        return held_by(want, first, end_around(words, base, len, want, i));
     }
     Run::Outside
+}
+
+// One before the slot found, or the last slot.
+pub(crate) fn end_of(f: Found, len: usize) -> usize
+    requires { ⌜ (0 < len) × (Above 0 f) ⌝ }
+    ensures { λ r. ⌜ r ≡ endOf len f ⌝ }
+{
+    match f {
+        Found::At(k) => k - 1,
+        Found::Nothing => len - 1,
+        Found::Refused(_) => 0,
+    }
 }
 
 // The run that starts at the first member from `at` on, and the cursor one past it.

@@ -327,3 +327,82 @@ pub fn structs(rota: Rota) -> Row {
     let rota = kept(rota);
     row(lent_side(rota, lent_play_structs), lent_side(rota, lent_play))
 }
+
+// ---- runs
+
+/// Everybody's runs, each person's in order.
+type Runs = Vec<(usize, usize, usize)>;
+
+/// Where everybody's runs are written.
+struct Listed {
+    counts: Vec<u16>,
+    firsts: Vec<u16>,
+    lasts: Vec<u16>,
+}
+
+impl Listed {
+    fn new(rota: &LentRota) -> Self {
+        let room = rota.people * rota.starts.len();
+        Self {
+            counts: vec![0; rota.people],
+            firsts: vec![0; room],
+            lasts: vec![0; room],
+        }
+    }
+
+    /// Works the runs out, and reads each.
+    fn each(&mut self, rota: &LentRota, mut read: impl FnMut((usize, usize, usize))) {
+        let (people, len) = (rota.people, rota.starts.len());
+        let all = lent::every_run(people, len, &rota.sets, &mut self.counts, &mut self.firsts, &mut self.lasts);
+        let all = all.expect("nothing is refused");
+        let mut ends = self.firsts[..all].iter().zip(&self.lasts[..all]);
+        for (person, &count) in self.counts.iter().enumerate() {
+            for (&first, &last) in ends.by_ref().take(usize::from(count)) {
+                read((person, usize::from(first), usize::from(last)));
+            }
+        }
+    }
+}
+
+/// Everybody's runs, each of which is read.
+pub fn runs(rota: Rota) -> Row {
+    let rota = kept(rota);
+    let ours = Side {
+        fresh: Box::new(|| (Listed::new(&rota.lent), Runs::new())),
+        run: Box::new(|(listed, _)| {
+            listed.each(black_box(&rota.lent), |run| {
+                black_box(run);
+            })
+        }),
+        seen: Box::new(|_| {
+            let mut seen = Runs::new();
+            Listed::new(&rota.lent).each(&rota.lent, |run| seen.push(run));
+            seen
+        }),
+    };
+    let rust_each = |read: &mut dyn FnMut((usize, usize, usize)), assignment: &Assignment| {
+        for person in 0..rota.case.problem.human_count() {
+            assignment
+                .slots_of(person)
+                .runs()
+                .for_each(|(first, last)| read((person, first, last)));
+        }
+    };
+    let rust = Side {
+        fresh: Box::new(|| begun(rota)),
+        run: Box::new(|assignment: &mut Assignment| {
+            let assignment = black_box(assignment);
+            for person in 0..rota.case.problem.human_count() {
+                assignment.slots_of(person).runs().for_each(|(first, last)| {
+                    black_box((person, first, last));
+                });
+            }
+        }),
+        seen: Box::new(move |assignment: &Assignment| {
+            let mut seen = Runs::new();
+            rust_each(&mut |run| seen.push(run), assignment);
+            seen
+        }),
+    };
+    row(ours, rust)
+}

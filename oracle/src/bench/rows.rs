@@ -5,8 +5,8 @@ use super::job::job;
 use super::merge::merge;
 use super::prepare::{prepare, prepare_all};
 use super::refused::{refused, Lent};
-use super::rota::{assign, failed_recount, from_slots, no_draws, play, recount, structs};
-use super::set::{count, next_set, run_bounds};
+use super::rota::{assign, failed_recount, from_slots, no_draws, play, recount, runs, structs};
+use super::set::{count, next_set, row_count, row_next_set, row_run_bounds, run_bounds};
 use super::spread::largest_remainder;
 use super::Row;
 use crate::job_cases::JobCase;
@@ -75,12 +75,23 @@ pub const ROWS: &[Named] = &[
     ("play, no draws, 1,024 slots", |seed| no_draws(typical(seed, SLOTS_MOST, 0, 1))),
     ("from_slots, 1,024 slots", |seed| from_slots(typical(seed, SLOTS_MOST, 0, 1))),
     ("64 assigns, 1,024 slots", |seed| assign(typical(seed, SLOTS_MOST, 0, 1))),
+    ("runs of 32 people, 1,024 slots", |seed| runs(typical(seed, SLOTS_MOST, 0, 1))),
+    ("runs of 32 people, 1,024 slots, partial availability", |seed| {
+        let mut seed = Seed::new(seed);
+        let case = partly_able(&mut seed, SLOTS_MOST);
+        runs(Rota::typical(&mut seed, &case))
+    }),
     ("next_set, sparse", |_| next_set(sparse())),
     ("next_set, full", |_| next_set(full())),
     ("run_bounds, sparse", |_| run_bounds(sparse())),
     ("run_bounds, full", |_| run_bounds(full())),
     ("count, sparse", |_| count(sparse())),
     ("count, full", |_| count(full())),
+    ("next_set of a row, sparse", |_| row_next_set(sparse())),
+    ("next_set of a row, full", |_| row_next_set(full())),
+    ("run_bounds of a row, sparse", |_| row_run_bounds(sparse())),
+    ("run_bounds of a row, full", |_| row_run_bounds(full())),
+    ("count of a row, full", |_| row_count(full())),
     ("1 for a million slots, demand", |_| refused(Lent::demand)),
     ("1 for a million slots, availability", |_| refused(Lent::availability)),
     ("1 for a million slots, freeze_before", |_| refused(Lent::freeze_before)),

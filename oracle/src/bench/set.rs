@@ -38,9 +38,23 @@ fn asked<A: PartialEq + 'static>(
 pub fn next_set(set: Set) -> Row {
     asked(
         set,
+        |words, slot| lent::set_next_set(SLOTS_MOST, words, slot).expect("nothing is refused"),
+        |rust, slot| rust.next_set(slot),
+    )
+}
+
+/// The same of a person's row.
+pub fn row_next_set(set: Set) -> Row {
+    asked(
+        set,
         |words, slot| lent::next_set(1, SLOTS_MOST, words, 0, slot).expect("nothing is refused"),
         |rust, slot| rust.next_set(slot),
     )
+}
+
+/// The Rust has no holes: of those only that there is no run is to be seen.
+fn run_of(held: lent::Held, first: u64, last: u64) -> Option<(usize, usize)> {
+    (held == lent::Held::Run).then_some((first as usize, last as usize))
 }
 
 pub fn run_bounds(set: Set) -> Row {
@@ -48,15 +62,36 @@ pub fn run_bounds(set: Set) -> Row {
         set,
         |words, slot| {
             let (mut first, mut last) = (0, 0);
+            let held = lent::set_run_bounds(SLOTS_MOST, words, slot, &mut first, &mut last);
+            run_of(held.expect("nothing is refused"), first, last)
+        },
+        |rust, slot| rust.run_bounds(slot),
+    )
+}
+
+/// The same of a person's row.
+pub fn row_run_bounds(set: Set) -> Row {
+    asked(
+        set,
+        |words, slot| {
+            let (mut first, mut last) = (0, 0);
             let held = lent::run_bounds(1, SLOTS_MOST, words, 0, slot, &mut first, &mut last);
-            // the Rust has no holes: of those only that there is no run is to be seen
-            (held.expect("nothing is refused") == lent::Held::Run).then_some((first as usize, last as usize))
+            run_of(held.expect("nothing is refused"), first, last)
         },
         |rust, slot| rust.run_bounds(slot),
     )
 }
 
 pub fn count(set: Set) -> Row {
+    asked(
+        set,
+        |words, _| lent::set_count(SLOTS_MOST, words).expect("nothing is refused"),
+        |rust, _| rust.count(),
+    )
+}
+
+/// The same of a person's row.
+pub fn row_count(set: Set) -> Row {
     asked(
         set,
         |words, _| lent::count(1, SLOTS_MOST, words, 0).expect("nothing is refused"),
