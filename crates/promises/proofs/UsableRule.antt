@@ -232,7 +232,7 @@ module _ (B : Brought) (D : Derived) (z : numberOf (usableRow B) ≡ 0) (u : ver
       both (knownAt (B .plan .people) (B .owners) k) (availableAt (B .avail) (B .owners) k)
       (all-each (slotsOf B) (allowedAt (B .plan .people) (B .avail) (B .owners)) (hold .0) k h)
 
-  accepted : fromSlots (B .plan) (B .avail) (B .owners) D .number ≡ 0
+  accepted : fromSlots (B .plan) (B .avail) (B .owners) D .refusal .number ≡ 0
   unfolding fromSlots outcome fromSlotsRow lentRow
   accepted =
       all-pass (fromSlotsRow (B .plan) (B .avail) (B .owners) D) (
@@ -278,7 +278,7 @@ module _ (B : Brought) (D : Derived) (z : numberOf (usableRow B) ≡ 0) (u : ver
       ∙ ap (λ (x : ℕ). ownerOf B (unitStart (B .begins) x)) (unit-of-only (slotsOf B) (B .units) (B .begins) (right .units) k v I)
 
   taken-over : let y = fromSlots (B .plan) (B .avail) (B .owners) D in
-      (y .number ≡ 0) × PassesRecount (B .plan) (B .avail) (B .units) (B .begins) (y .owners) (y .derived)
+      (y .refusal .number ≡ 0) × PassesRecount (B .plan) (B .avail) (B .units) (B .begins) (y .owners) (y .derived)
   taken-over =
       let M = rota-by-rule .from-slots (B .plan) (B .avail) (B .owners) D accepted in
       let R = M .1 .recount in (

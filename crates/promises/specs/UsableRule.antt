@@ -90,7 +90,7 @@ pub record UsableByRule : Type 0 where
   pub taken-over : (B : Brought) (D : Derived) → numberOf (usableRow B) ≡ 0 → verdictIs B ≡ verdict.Usable
       → 16 * B .plan .people ≤ length (D .sets) → B .plan .people ≤ length (D .minutes)
       → let y = fromSlots (B .plan) (B .avail) (B .owners) D in
-      (y .number ≡ 0) × PassesRecount (B .plan) (B .avail) (B .units) (B .begins) (y .owners) (y .derived)
+      (y .refusal .number ≡ 0) × PassesRecount (B .plan) (B .avail) (B .units) (B .begins) (y .owners) (y .derived)
   -- in C: the number and what stands beside it are read as the verdict that was meant
   pub reads : (B : Brought) (was : ℕ) → readVerdict (verdictNumber (verdictIs B)) (verdictSlot was (verdictIs B)) ≡ verdictIs B
   -- no promise is empty: a call that is accepted, where a length equal to the cap passes, and a cap one minute shorter
