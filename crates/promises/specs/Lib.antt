@@ -34,6 +34,6 @@ pub mod Places
 pub mod JobExample
 pub mod ListRules
 pub mod Accepts
-pub mod WayBackRule
 pub mod Exports
+pub mod WayBackRule
 pub mod Empty
