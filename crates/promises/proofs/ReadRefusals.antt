@@ -36,7 +36,7 @@ use Rattle.promises.proofs.Rota.{draws-alike}
 
 -- ---- a refusal whose numbers are small
 
-record Small (f : Refusal) : Type 0 where
+pub record Small (f : Refusal) : Type 0 where
   number : f .number < 256
   part : f .part < 256
   place : f .place < 65536
@@ -45,7 +45,7 @@ record Small (f : Refusal) : Type 0 where
 same-refusal : (f g : Refusal) → f .number ≡ g .number → f .part ≡ g .part → f .place ≡ g .place → f .second ≡ g .second → f ≡ g
 same-refusal f g a b c d i = record { number = a i; part = b i; place = c i; second = d i }
 
-small-back : (f : Refusal) → Small f → ReadsBack f
+pub small-back : (f : Refusal) → Small f → ReadsBack f
 unfolding refusalNumber
 small-back f S =
     let a = S .number in
@@ -68,10 +68,10 @@ number-small (t ∷ ts) h =
     by-test (t .passes) _ (λ p. subst (λ (n : ℕ). n < 256) (sym (number-pass t ts p)) (number-small ts (x .1)))
     (λ q. subst (λ (n : ℕ). n < 256) (sym (number-fail t ts q)) (ltb-true (t .number) 256 (x .0)))
 
-placeless-small : (n : ℕ) → n < 256 → Small (placeless n)
+pub placeless-small : (n : ℕ) → n < 256 → Small (placeless n)
 placeless-small n h = record { number = h; part = omega arith; place = omega arith; second = omega arith }
 
-fault-small : (part place second : ℕ) → part ≤ 5 → place ≤ 1024 → second ≤ 1024 → Small (fault part place second)
+pub fault-small : (part place second : ℕ) → part ≤ 5 → place ≤ 1024 → second ≤ 1024 → Small (fault part place second)
 fault-small part place second a b c = record { number = omega arith; part = omega arith; place = omega arith; second = omega arith }
 
 -- ---- the places of a recount

@@ -1,29 +1,33 @@
 -- way_back by its rule: the laws of wayback, carried to calls of play. Assumes nothing.
 use mathlib.Core.Path.{_≡_, refl, sym, ap, ap₂, subst, _∙_}
-use mathlib.Core.Bool.{Bool, true, _&&_}
+use mathlib.Core.Bool.{Bool, true, cond, _&&_}
 use mathlib.Core.List.{List, [], _∷_}
 use mathlib.Core.Logic.{⊎-elim}
-use Prim.Native.Nat.{ℕ, _+_, _≤_, _<_}
+use Prim.Native.Nat.{ℕ, _%_, _≤_, _<_}
 use native.Mathlib.Omega.{arith}
-use borrow.Author.Tests.{eqb-true, eqb-false, le-leb}
+use borrow.Author.Tests.{eqb-true, eqb-false, ne-eqb, le-leb}
 use lib.Dec.{eqb, leb}
 use lib.ListN.{length, getD, replicate, take, length-map, length-replicate, getD-replicate}
 use Rattle.paper.specs.Limits.{peopleOk, slotCountOk, Test, numberOf}
+use Rattle.paper.specs.declared.Refusal.{Refusal}
 use Rattle.paper.specs.Rows.{refusalOf}
 use Rattle.paper.specs.Bits.{bitOf}
 use Rattle.paper.specs.Count.{all, allIn, among, count, sum, onto}
-use Rattle.paper.proofs.Logic.{by-test, lt-or-ge, and-true}
-use Rattle.paper.proofs.Rows.{said}
+use Rattle.paper.proofs.Logic.{by-test, by-cond, lt-or-ge, and-true}
+use Rattle.paper.proofs.Rows.{numbered, said}
 use Rattle.paper.proofs.Count.{length-onto}
 use Rattle.slotset.specs.Slots.{slot}
 use Rattle.slots.specs.Lent.{slotOk, prevEnd, slotOkAt, slotRoomOk, slotsOk, minutesAt}
 use Rattle.units.specs.Units.{unitEnd, startOk, unitsOk}
+use Rattle.units.proofs.Units.{units-within}
 use Rattle.units.specs.Domains.{available, able, unfrozen, clear, unitFrozen}
 use Rattle.owners.specs.Derived.{knownBy, portion, worked, held, afresh}
 use Rattle.owners.specs.Recount.{firstFail, knownAt, availableFor, availableAt, evenAt, setSlotAt, setAt, minutesOkAt, recountTests}
 use Rattle.owners.specs.Entries as state
 use Rattle.owners.proofs.Made.{afresh-owners}
-use Rattle.owners.proofs.Entered.{recount-says}
+use Rattle.owners.proofs.Entered.{recount-says, recount-asks}
+use Rattle.owners.proofs.Scans.{first-is}
+use Rattle.owners.proofs.RecountRefusals.{first-on, first-stops}
 use Rattle.rota.specs.Board.{Board, BoardSound, Even, ownerOf, unowned}
 use Rattle.rota.specs.Moves.{Draw}
 use Rattle.rota.specs.Plays.{drawsOf, ownersAfter, answers}
@@ -39,12 +43,16 @@ use Rattle.wayback.proofs.Returns.{returns, back-takes, back-few}
 use Rattle.wayback.proofs.Searched.{WayAsks, way-asks}
 use Rattle.wayback.proofs.Leading.{onto-in, onto-past, columns-hold, again-in, takes-again, can-again, first-in, first-lowest, first-none}
 use Rattle.wayback.proofs.Leading.{stays-away, is-refused, is-blocked, is-found, found-says, blocked-says}
+use Rattle.boltraven_c.specs.Numbers.{refusalNumber}
+use Rattle.boltraven_c.specs.Ways.{wayNumber, wayTold}
 use Rattle.promises.specs.Entries.{Call, built, enoughIn, noOf, playOf, boardIn, drawsIn}
 use Rattle.promises.specs.ManyCalls.{Part, partCall}
 use Rattle.promises.specs.Accepts.{noDraw}
+use Rattle.promises.specs.Exports.{readRefusal, ReadsBack}
 use Rattle.promises.specs.Table.{rules, Refuses}
-use Rattle.promises.specs.WayBackRule.{Asked, wayFor, wayTests, wayRefusal, written, Leads, Blocks, WayByRule}
+use Rattle.promises.specs.WayBackRule.{Asked, wayFor, wayTests, wayRefusal, readWay, written, Leads, Blocks, WayByRule}
 use Rattle.promises.proofs.Calls.{accepted-is}
+use Rattle.promises.proofs.ReadRefusals.{small-back, placeless-small, fault-small, units-back}
 use Rattle.promises.proofs.Table.{given-as}
 use Rattle.promises.proofs.ManyCalls.{accepted-number}
 
@@ -241,6 +249,77 @@ module _ (c : Call) (q : Asked) where
       ap (λ (y : Outcome). y .answer) (is-refused (c .plan) (c .avail) (c .units) (c .begins) (c .frozen) a o (c .derived) (q .draws)
       (q .firsts) (q .seconds) n)
 
+  -- ---- as a C caller reads it
+
+  abbrev us : List Test
+  us = rememberedRow (c .plan) (c .avail) (c .units) (c .begins) a
+
+  remembered-reads : c .units ≤ 1024 → ReadsBack (refusalOf us)
+  unfolding rememberedRow refusalOf
+  remembered-reads few =
+      let P = c .plan in
+      let p = evenAt (P .slots) (c .units) (c .begins) a in
+      by-cond (all (c .units) p) _ _ ReadsBack
+      (λ _. by-cond (all (P .slots) (knownAt (P .people) a)) _ _ ReadsBack
+      (λ _. by-cond (all (P .slots) (availableAt (c .avail) a)) _ _ ReadsBack
+      (λ _. small-back _ (placeless-small 0 (omega arith))) (λ _. small-back _ (placeless-small 12 (omega arith))))
+      (λ _. small-back _ (placeless-small 11 (omega arith))))
+      (λ _. small-back _ (fault-small 3 (firstFail (c .units) p) 0 (omega arith) (omega (arith, first-is (c .units) p .within)) (omega arith)))
+
+  abbrev front : List Test
+  front =
+      state.recountRow true (wayRoomOk (c .plan .slots) (c .units) (c .begins) (c .frozen) a (q .draws) (q .firsts) (q .seconds)) (c .plan)
+      (c .avail) (c .units) (c .begins) o (c .derived)
+
+  numbers : numbered front ≡ true
+  unfolding state.recountRow state.lentRow recountTests
+  numbers = refl
+
+  row-reads : ReadsBack (refusalOf (wayTests c q))
+  unfolding wayRow
+  row-reads =
+      let room = wayRoomOk (c .plan .slots) (c .units) (c .begins) (c .frozen) a (q .draws) (q .firsts) (q .seconds) in
+      by-test (eqb (numberOf front) 0) _
+      (λ t.
+      let z = eqb-true _ _ t in
+      let R = recount-asks (c .plan) (c .avail) (c .units) (c .begins) o (c .derived) true room z in
+      subst ReadsBack (sym (first-on front us numbers z))
+      (remembered-reads (omega (arith, units-within (c .plan .slots) (c .units) (c .begins) (R .units-ok), R .on .sound .slots-few))))
+      (λ n.
+      subst ReadsBack (sym (first-stops front us (eqb-false _ _ n)))
+      (units-back true room (c .plan) (c .avail) (c .units) (c .begins) o (c .derived)))
+
+  -- a refusal's number is neither of the others
+  refused-reads : (f : Refusal) → ReadsBack f → (f .number ≡ 0 → ⊥) → (told : ℕ) → readWay (refusalNumber f) told ≡ way.Refused f
+  refused-reads f e n told =
+      let v = refusalNumber f in
+      let m : v % 256 ≡ f .number = ap (λ (g : Refusal). g .number) e in
+      let not-draws = ne-eqb v 0 (λ k. n (sym m ∙ ap (λ (j : ℕ). j % 256) k)) in
+      let not-unit = ne-eqb v 65536 (λ k. n (sym m ∙ ap (λ (j : ℕ). j % 256) k)) in
+      ap₂ {C = Way} (λ (x y : Bool). cond x (way.Draws told) (cond y (way.NoWay told) (way.Refused (readRefusal v)))) not-draws not-unit
+      ∙ ap {B = Way} (λ (g : Refusal). way.Refused g) e
+
+  reads : (was : ℕ) → readWay (wayNumber (wayFor c q .answer)) (wayTold was (wayFor c q .answer)) ≡ wayFor c q .answer
+  unfolding wayOf drawsWritten
+  reads was =
+      let P = c .plan in
+      let Read : Way → Type 0 = λ w. readWay (wayNumber w) (wayTold was w) ≡ w in
+      by-test (eqb (numberOf (wayTests c q)) 0) _
+      (λ t.
+      let z = eqb-true _ _ t in
+      ⊎-elim
+      (λ (h : firstInWay B a o < c .units).
+      subst (λ (y : Outcome). Read (y .answer)) (sym (is-blocked P (c .avail) (c .units) (c .begins) (c .frozen) a o (c .derived) (q .draws)
+      (q .firsts) (q .seconds) z h)) refl)
+      (λ (h : c .units ≤ firstInWay B a o).
+      subst (λ (y : Outcome). Read (y .answer)) (sym (is-found P (c .avail) (c .units) (c .begins) (c .frozen) a o (c .derived) (q .draws)
+      (q .firsts) (q .seconds) z h)) refl)
+      (lt-or-ge (firstInWay B a o) (c .units)))
+      (λ n.
+      subst (λ (y : Outcome). Read (y .answer)) (sym (is-refused P (c .avail) (c .units) (c .begins) (c .frozen) a o (c .derived) (q .draws)
+      (q .firsts) (q .seconds) (eqb-false _ _ n)))
+      (refused-reads (refusalOf (wayTests c q)) row-reads (λ k. eqb-false _ _ n (sym (said (wayTests c q) refl) ∙ k)) was))
+
 -- two units, owners 0 and 1, remembered 1 and 1
 example : wayFor noDraw record { remembered = 1 ∷ 1 ∷ []; draws = replicate 2 9; firsts = replicate 2 9; seconds = replicate 2 9 }
     ≡ record { answer = way.Draws 1; draws = 0 ∷ 9 ∷ []; firsts = 0 ∷ 9 ∷ []; seconds = 1 ∷ 9 ∷ [] }
@@ -258,5 +337,6 @@ way-by-rule = record {
   found = found-answer;
   refused = refuses;
   with-place = refused-answer;
+  reads = reads;
   example = example;
 }

@@ -38,6 +38,6 @@ pub mod JobExample
 pub mod StoreRules
 pub mod ListRules
 pub mod Accepts
-pub mod WayBackRule
 pub mod Exports
+pub mod WayBackRule
 pub mod Empty

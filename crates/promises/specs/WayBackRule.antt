@@ -1,8 +1,10 @@
 -- The function way_back, by its rule: what it writes is the way back and leads there; where it tells a unit there is none; and when it refuses.
 -- Assumes nothing.
 use mathlib.Core.Path.{_≡_}
+use mathlib.Core.Bool.{cond}
 use mathlib.Core.List.{List, [], _∷_}
 use Prim.Native.Nat.{ℕ, _≤_, _<_}
+use lib.Dec.{eqb}
 use lib.ListN.{length, getD, replicate, take}
 use Rattle.paper.specs.Limits.{Test, numberOf}
 use Rattle.paper.specs.Rows.{refusalOf}
@@ -14,9 +16,11 @@ use Rattle.wayback.specs.declared.Way.{Way}
 use Rattle.wayback.specs.declared.Way.the-variants as way
 use Rattle.wayback.specs.Back.{back}
 use Rattle.wayback.specs.Answers.{Outcome, InWay, wayRow, wayBack}
+use Rattle.boltraven_c.specs.Ways.{wayNumber, wayTold}
 use Rattle.promises.specs.Entries.{Call, Component, boardIn}
 use Rattle.promises.specs.Accepts.{noDraw}
 use Rattle.promises.specs.ManyCalls.{Part, partCall}
+use Rattle.promises.specs.Exports.{readRefusal}
 use Rattle.promises.specs.Table.{rules, Refuses}
 
 -- what is remembered, and the three columns to write; the rota, slots, units, availability and flags are those of a call
@@ -41,6 +45,10 @@ abbrev pub wayRefusal : Way → ℕ
 wayRefusal (way.Draws n) = 0
 wayRefusal (way.NoWay u) = 0
 wayRefusal (way.Refused f) = f .number
+
+-- the answer that a C caller reads of its number and of what is told beside it
+abbrev pub readWay : ℕ → ℕ → Way
+readWay v told = cond (eqb v 0) (way.Draws told) (cond (eqb v 65536) (way.NoWay told) (way.Refused (readRefusal v)))
 
 -- ---- the draws
 
@@ -89,6 +97,9 @@ pub record WayByRule (C : Component) : Type 0 where
       (q .draws, q .firsts, q .seconds) (let y = wayFor c q in (y .draws, y .firsts, y .seconds))
   pub with-place : (c : Call) (q : Asked) → (numberOf (wayTests c q) ≡ 0 → ⊥)
       → wayFor c q .answer ≡ way.Refused (refusalOf (wayTests c q))
+  -- in C: the answer that was meant, whatever was lent for what is told
+  pub reads : (c : Call) (q : Asked) (was : ℕ)
+      → let w = wayFor c q .answer in readWay (wayNumber w) (wayTold was w) ≡ w
   -- it is not empty: two units, owners 0 and 1, remembered 1 and 1: one draw
   pub example : wayFor noDraw
       record { remembered = 1 ∷ 1 ∷ []; draws = replicate 2 9; firsts = replicate 2 9; seconds = replicate 2 9 }
