@@ -674,8 +674,8 @@ exports! {
 
     // ---- a rota made elsewhere
 
-    /// The first rule that a rota made elsewhere breaks, with the lowest slot at which it shows written; none where it may be used. Refusals:
-    /// 1, 2, 7, 9.
+    /// The first rule that a rota made elsewhere breaks, with the lowest slot at which it shows written; none where it may be used.
+    /// Refusals: 1, 2, 7, 9.
     pub fn may_be_used(
         people: usize, slots: usize, units: usize, cap: u32, rest: u32, starts: &[u32], ends: &[u32], avail: &[u64], unit_starts: &[u16],
         frozen: &[u64], published: &[u8], owners: &[u8], slot: &mut u64
