@@ -33,7 +33,7 @@ pub record ComesBack (C : Component) (c : Call) : Type 0 where
   pub derived : C .play (again C c) .derived ≡ c .derived
   pub answers : C .play (again C c) .answers ≡ C .play c .answers
 
--- "if a swap of units acts, the same draw played at once again acts too, and owners, sets, minutes and stored totals are as before both"
+-- a swap of units that acts, played at once again, acts too, and owners and all that is derived from them are as before both
 abbrev pub SwapsComeBack : Component → Type 0
 SwapsComeBack C =
     (c : Call) → noOf c ≡ 0 → Words (c .derived .sets) → c .count ≡ 1 → 35 ≤ drawAt c 0 .kind → drawAt c 0 .kind < 60
