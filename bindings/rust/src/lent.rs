@@ -625,7 +625,7 @@ exports! {
     /// The way back to remembered owners, one byte a slot: for each unit whose owner differs a draw 0 to its remembered owner, ascending, in
     /// three columns with room for as many entries as slots. Yes, and `told` is how many draws were written: played, each acts, and the
     /// remembered owners are back. No, and `told` is the first unit that no draw gives back: its owner differs, and nobody owned it or it
-    /// is frozen. 10 is of the rota, or 10.3 of the remembered owners, whose also are 11 and 12. Refusals: 1, 2, 9 to 12.
+    /// is frozen. What stands against the rota, up to 10, comes before 10.3, 11 and 12 of the remembered owners. Refusals: 1, 2, 9 to 12.
     pub fn way_back(
         people: usize, slots: usize, units: usize, starts: &[u32], ends: &[u32], avail: &[u64], unit_starts: &[u16], frozen: &[u64],
         remembered: &[u8], owners: &[u8], sets: &[u64], minutes: &[u64], draws: &mut [u16], firsts: &mut [u16], seconds: &mut [u16],
