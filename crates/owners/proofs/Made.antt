@@ -135,9 +135,12 @@ module _ (P : Plan) (S : PlanSound P) (o : List ℕ) (D₀ : Derived) where
         ∙ sym (cut-after (P .slots) e o l k x h))
         (lt-or-ge k e)
 
-    pub made-more : (D′ : Derived) → D′ ≡ given (P .people) (P .slots) i e (wrapped (minutesIn P i e)) (getD o i 0) D → Made P o D₀ e D′
+    pub made-more : (n : ℕ) → n ≡ wrapped (minutesIn P i e) → (D′ : Derived) → D′ ≡ given (P .people) (P .slots) i e n (getD o i 0) D
+        → Made P o D₀ e D′
     unfolding given
-    made-more D′ q =
+    made-more n en D′ r =
+        let q : D′ ≡ given (P .people) (P .slots) i e (wrapped (minutesIn P i e)) (getD o i 0) D =
+        r ∙ ap (λ (k : ℕ). given (P .people) (P .slots) i e k (getD o i 0) D) en in
         let c = cut (P .slots) i o in
         let w = getD o i 0 in
         let le : i ≤ e = omega (arith, O .some) in

@@ -12,7 +12,7 @@ use lib.Seq.{getD-set-same, getD-set-other}
 use Rattle.paper.specs.Limits.{nobody}
 use Rattle.paper.specs.Count.{sum, sumIn, count, fill}
 use Rattle.paper.proofs.Logic.{by-test, or-right, lt-or-ge}
-use Rattle.paper.proofs.Count.{sum-same, sum-add, sum-change, sum-mono, sum-rises, length-fill, getD-fill-out}
+use Rattle.paper.proofs.Count.{sum-same, sum-add, sum-more, sum-change, sum-mono, sum-rises, length-fill, getD-fill-out}
 use Rattle.slots.specs.Lent.{demandOf}
 use Rattle.owners.specs.Derived.{Plan, lengthAt, knownBy, portion, worked, uncovered, unassigned, stretchMinutes}
 
@@ -168,15 +168,16 @@ fill-owned n len o p a (suc m) old w h r s =
 owned-more : (len : ℕ → ℕ) (o : List ℕ) (p a m w : ℕ) → ((k : ℕ) → a ≤ k → k < a + m → getD o k 0 ≡ w)
     → ownedOf (a + m) len o p ≡ ownedOf a len o p + portion w p (sum m (λ j. len (a + j)))
 unfolding ownedOf sum
-owned-more len o p a zero w s = omega (arith, portion-none w p)
+owned-more len o p a zero w s =
+    let z : a + 0 ≡ a = omega arith in
+    omega (arith, ap (λ (n : ℕ). ownedOf n len o p) z, portion-none w p)
 owned-more len o p a (suc m) w s =
     let ih = owned-more len o p a m w (λ k x y. s k x (omega arith)) in
-    omega (
-      arith,
-      ih,
-      ap (λ (x : ℕ). portion x p (len (a + m))) (s (a + m) (omega arith) (omega arith)),
-      portion-add w p (sum m (λ j. len (a + j))) (len (a + m)),
-    )
+    let q : a + suc m ≡ a + m + 1 = omega arith in
+    let one = ap (λ (n : ℕ). ownedOf n len o p) q ∙ sum-more (a + m) (λ k. portion (getD o k 0) p (len k)) in
+    let at = ap (λ (x : ℕ). portion x p (len (a + m))) (s (a + m) (omega arith) (omega arith)) in
+    let two = portion-add w p (sum m (λ j. len (a + j))) (len (a + m)) in
+    omega (arith, one, ih, at, two)
 
 pub worked-over : (P : Plan) (o : List ℕ) (p a e old w : ℕ) → a ≤ e → e ≤ P .slots → P .slots ≤ length o
     → ((k : ℕ) → a ≤ k → k < e → getD o k 0 ≡ old)

@@ -8,6 +8,7 @@ use native.Mathlib.Omega.{arith}
 use borrow.Author.Tests.{eqb-true, eqb-false}
 use lib.Dec.{eqb}
 use lib.ListN.{length, getD, set, length-set}
+use lib.Seq.{getD-set-other}
 use Rattle.paper.specs.Limits.{nobody}
 use Rattle.paper.specs.Count.{sum, count, over, fill}
 use Rattle.paper.proofs.Logic.{by-test}
@@ -29,6 +30,14 @@ both-totals f g a b (suc (suc i)) h = absurd (omega arith)
 two-set : (f : ℕ → ℕ) (t : List ℕ) (x y : ℕ) → x ≡ f 0 → y ≡ f 1 → set (set t 0 x) 1 y ≡ over f 2 t
 unfolding over
 two-set f t x y p q = ap₂ (λ (a b : ℕ). set (set t 0 a) 1 b) p q
+
+-- one entry after the other, f being the change
+pub one-by-one : (f : ℕ → ℕ → ℕ) (t t₁ t₂ : List ℕ) (n k v : ℕ) → t₁ ≡ set t 0 (f (getD t 0 0) n) → v ≡ k → t₂ ≡ set t₁ 1 (f (getD t₁ 1 0) v)
+    → t₂ ≡ set (set t 0 (f (getD t 0 0) n)) 1 (f (getD t 1 0) k)
+one-by-one f t t₁ t₂ n k v p q r =
+    let x : getD t₁ 1 0 ≡ getD t 1 0 =
+    ap (λ (l : List ℕ). getD l 1 0) p ∙ getD-set-other t 0 1 (f (getD t 0 0) n) 0 (λ e. omega (arith, e)) in
+    r ∙ ap₂ (λ (l : List ℕ) (y : ℕ). set l 1 y) p (ap₂ f x q)
 
 module _ (w n k : ℕ) (g f : ℕ → ℕ) (t : List ℕ) (at0 : getD t 0 0 ≡ g 0) (at1 : getD t 1 0 ≡ g 1) where
   -- less, where w is nobody, else as they were

@@ -71,7 +71,17 @@ pub fn from_slots(
         (owners .entry)) (derived (now (sets .entry)) (now (minutes .entry)) (now (totals .entry)))) (placeless r) (now (owners .entry)) (derived (now (sets .exit))
         (now (minutes .exit)) (now (totals .exit))) [] ⌝ }
 {
-    let n = from_slots_refusal(people, slots, starts, ends, avail, owners, sets, minutes, totals).number;
+    let n = from_slots_refusal(
+        people,
+        slots,
+        starts,
+        ends,
+        avail,
+        owners,
+        sets,
+        minutes,
+        totals,
+    ).number;
     if n == 0 {
         rebuild(people, slots, starts, ends, owners, sets, minutes, totals);
         return 0;
