@@ -336,7 +336,8 @@ module _ {M : Type 1} (𝓤 : URA M) (H : Heap 𝓤) (A : Atoms 𝓤) (W : Given
   -- the end
   finish : (r : Refusal) (ls : Lists ss) → AsLong ss ls → Is R.the-row r (LL.val R.the-type R′.the-laws r ∷ [])
       → Ended (playedDraws P (avail .now) units (begins .now) (frozen .now) count (draws .now) (owners .now)
-      (derived (sets .now) (minutes .now) (totals .now)) (answers .now)) r (ls .0) (derived (ls .1 .0) (ls .1 .1 .0) (ls .1 .1 .1 .0)) (ls .1 .1 .1 .1 .0)
+      (derived (sets .now) (minutes .now) (totals .now)) (answers .now)) r (ls .0)
+      (derived (ls .1 .0) (ls .1 .1 .0) (ls .1 .1 .1 .0)) (ls .1 .1 .1 .1 .0)
       → ent 𝓤 (sep 𝓤 (sem 𝓤 H A DrawsToken) (sep 𝓤 (toks 𝓤 A 5 k5 q5) (HasAll 𝓤 H A ss ls)))
       (Entry 𝓤 H A mem run .post y (LL.val R.the-type R′.the-laws r))
   finish r ls long is said =
@@ -350,7 +351,8 @@ module _ {M : Type 1} (𝓤 : URA M) (H : Heap 𝓤) (A : Atoms 𝓤) (W : Given
       (qs .1 .1 .1 .1 .1 .1 .1 .1 .1 .1 .0) & tt) $
       move ! (5 ∷ 6 ∷ 7 ∷ 8 ∷ 9 ∷ 11 ∷ 0 ∷ 1 ∷ 2 ∷ 3 ∷ 4 ∷ []) $ tokens-in ! 11 κs qs _ refl $
       -- [the tokens; what is said of the written]
-      move ! (1 ∷ []) $ fsplit ! $ move ! (1 ∷ []) $ fsplit ! $ move ! (1 ∷ []) $ fsplit ! $ move ! (1 ∷ []) $ fsplit ! $ move ! (1 ∷ []) $
+      move ! (1 ∷ []) $ fsplit ! $ move ! (1 ∷ []) $ fsplit ! $ move ! (1 ∷ []) $ fsplit ! $ move ! (1 ∷ []) $ fsplit ! $
+      move ! (1 ∷ []) $
       move ! (1 ∷ 0 ∷ []) $ fjoin ! $ move ! (1 ∷ 0 ∷ []) $ fjoin ! $ move ! (1 ∷ 0 ∷ []) $ fjoin ! $ move ! (1 ∷ 0 ∷ []) $ fjoin ! $
       nothing ! $ fjoin ! $
       nothing ! $ fjoin ! $ nothing ! $ fjoin ! $ nothing ! $ fjoin ! $ nothing ! $ fjoin ! $ nothing ! $ fjoin ! $ nothing ! $ fjoin ! $
@@ -362,8 +364,8 @@ module _ {M : Type 1} (𝓤 : URA M) (H : Heap 𝓤) (A : Atoms 𝓤) (W : Given
 
   -- ---- a play that has begun, its masks and flags in arrays at p₁ and p₂
   module _ (b : Begun) (is-b : Is S.the-row b (LL.val S.the-type S′.the-laws b ∷ []))
-      (w : Begins P (avail .now) units (begins .now) (frozen .now) count enough (owners .now) (derived (sets .now) (minutes .now) (totals .now))
-      (answers .now) b) where
+      (w : Begins P (avail .now) units (begins .now) (frozen .now) count enough (owners .now)
+      (derived (sets .now) (minutes .now) (totals .now)) (answers .now) b) where
     abbrev fits-val : Val
     fits-val = S′.the-laws .1 .1 .0 .val (S.the-type .to b .1 .1 .0)
 
@@ -391,7 +393,8 @@ module _ {M : Type 1} (𝓤 : URA M) (H : Heap 𝓤) (A : Atoms 𝓤) (W : Given
 
     abbrev Plays : ℕ → Lists ss → Type 0
     Plays i ls =
-        Playing P (avail .now) units (begins .now) (frozen .now) count (owners .now) (derived (sets .now) (minutes .now) (totals .now)) (answers .now)
+        Playing P (avail .now) units (begins .now) (frozen .now) count (owners .now)
+        (derived (sets .now) (minutes .now) (totals .now)) (answers .now)
         (draws .now) b w i (ls .0) (derived (ls .1 .0) (ls .1 .1 .0) (ls .1 .1 .1 .0)) (ls .1 .1 .1 .1 .0)
 
     -- the loop's variant: i and the five lists, with what the invariant says of them, ordered by what is left
@@ -409,7 +412,8 @@ module _ {M : Type 1} (𝓤 : URA M) (H : Heap 𝓤) (A : Atoms 𝓤) (W : Given
 
     abbrev Checked : ℕ → Lists ss → Type 0
     Checked i ls =
-        StepAsks P (ready people slots units (begins .now) (b .fits) (b .flags)) (ls .0) (derived (ls .1 .0) (ls .1 .1 .0) (ls .1 .1 .1 .0)) (begins .now)
+        StepAsks P (ready people slots units (begins .now) (b .fits) (b .flags)) (ls .0)
+        (derived (ls .1 .0) (ls .1 .1 .0) (ls .1 .1 .1 .0)) (begins .now)
         (b .fits) (b .flags) i (ls .1 .1 .1 .1 .0)
 
     module _ (p₁ p₂ : ℕ) (g₁ g₂ : Loan) where
@@ -581,12 +585,12 @@ module _ {M : Type 1} (𝓤 : URA M) (H : Heap 𝓤) (A : Atoms 𝓤) (W : Given
           filled (only (slice-vals starts)) ∷ filled (only (slice-vals ends)) ∷ filled (only (slice-vals avail)) ∷
           filled (only (slice-vals begins)) ∷ filled (only (slice-vals frozen)) ∷ filled (only (slice-vals draws)) ∷
           filled (only (slice-vals owners)) ∷ filled (only (slice-vals sets)) ∷ filled (only (slice-vals minutes)) ∷
-          filled (only (slice-vals totals)) ∷ filled (only (slice-vals answers)) ∷ filled (LL.val S.the-type S′.the-laws b) ∷ fits ∷ flags ∷
+          filled (only (slice-vals totals)) ∷ filled (only (slice-vals answers)) ∷
+          filled (LL.val S.the-type S′.the-laws b) ∷ fits ∷ flags ∷
           filled (vint w64 (b .todo)) ∷ i ∷ none ∷ filled (vptr (owners .ptr .0) (owners .ptr .1)) ∷
           filled (only (slice-vals owners)) ∷ filled (vptr (sets .ptr .0) (sets .ptr .1)) ∷
           filled (only (slice-vals sets)) ∷ filled (vptr (minutes .ptr .0) (minutes .ptr .1)) ∷
-          filled (only (slice-vals minutes)) ∷
-          filled (vptr (totals .ptr .0) (totals .ptr .1)) ∷ filled (only (slice-vals totals)) ∷
+          filled (only (slice-vals minutes)) ∷ filled (vptr (totals .ptr .0) (totals .ptr .1)) ∷ filled (only (slice-vals totals)) ∷
           filled (vint w64 (length (draws .now))) ∷ filled (vbool enough) ∷
           filled (vptr (answers .ptr .0) (answers .ptr .1)) ∷ filled (only (slice-vals answers)) ∷ test ∷ none ∷ none ∷
           none ∷ none ∷ none ∷ none ∷ none ∷ none ∷ none ∷ none ∷ none ∷ none ∷ none ∷ none ∷ none ∷ none ∷ none ∷ none ∷ []
@@ -629,8 +633,8 @@ module _ {M : Type 1} (𝓤 : URA M) (H : Heap 𝓤) (A : Atoms 𝓤) (W : Given
             (filled (vbool false))) _ tt refl $
             -- [the list's token; what it owns; the written; the five tokens]
             keep ! (0 ∷ 3 ∷ 2 ∷ []) $ by ! (finish (b .refusal) (t .ls) (t .long) is-refusal
-            (playing-ends P (avail .now) units (begins .now) (frozen .now) count (owners .now) (derived (sets .now) (minutes .now) (totals .now))
-            (answers .now)
+            (playing-ends P (avail .now) units (begins .now) (frozen .now) count (owners .now)
+            (derived (sets .now) (minutes .now) (totals .now)) (answers .now)
             (draws .now) b w (t .i) _ _ _ (t .plays) is-n))
 
         -- a turn that plays one draw
@@ -709,8 +713,8 @@ module _ {M : Type 1} (𝓤 : URA M) (H : Heap 𝓤) (A : Atoms 𝓤) (W : Given
               i = t .i + 1;
               ls = left-lists p₁ p₂ g₁ g₂ (t .ls) g (t .i) d ws;
               long = long′;
-              plays = playing-more P (avail .now) units (begins .now) (frozen .now) count (owners .now) (derived (sets .now)
-                  (minutes .now) (totals .now)) (answers .now)
+              plays = playing-more P (avail .now) units (begins .now) (frozen .now) count (owners .now)
+                  (derived (sets .now) (minutes .now) (totals .now)) (answers .now)
                   (draws .now) b w (t .i) _ _ _ (t .plays) less _ _ _ e;
             }) (omega (arith, less)))))))
           where
@@ -718,8 +722,8 @@ module _ {M : Type 1} (𝓤 : URA M) (H : Heap 𝓤) (A : Atoms 𝓤) (W : Given
             d = drawAt (draws .now) (t .i)
 
             within : t .i < length (draws .now)
-            within = next-within P (avail .now) units (begins .now) (frozen .now) count (owners .now) (derived (sets .now)
-                (minutes .now) (totals .now)) (answers .now)
+            within = next-within P (avail .now) units (begins .now) (frozen .now) count (owners .now)
+                (derived (sets .now) (minutes .now) (totals .now)) (answers .now)
                 (draws .now) b w (t .i) _ _ _ (t .plays) less
 
             small-i : t .i * 6 < 2 ^ 64
@@ -738,8 +742,8 @@ module _ {M : Type 1} (𝓤 : URA M) (H : Heap 𝓤) (A : Atoms 𝓤) (W : Given
                 (o .0 .1, (o .1 .0 .1, o .1 .1 .0 .1))
 
             checked : Checked (t .i) (t .ls)
-            checked = next-asks P (avail .now) units (begins .now) (frozen .now) count (owners .now) (derived (sets .now) (minutes .now) (totals .now))
-                (answers .now)
+            checked = next-asks P (avail .now) units (begins .now) (frozen .now) count (owners .now)
+                (derived (sets .now) (minutes .now) (totals .now)) (answers .now)
                 (draws .now) b w (t .i) _ _ _ (t .plays) less
 
         turns : (t : Upto) → Sq W (At t) (runs C Λ En body.turn-1 (anyQ (Turned t)))
@@ -756,7 +760,8 @@ module _ {M : Type 1} (𝓤 : URA M) (H : Heap 𝓤) (A : Atoms 𝓤) (W : Given
           filled (only (slice-vals starts)) ∷ filled (only (slice-vals ends)) ∷ filled (only (slice-vals avail)) ∷
           filled (only (slice-vals begins)) ∷ filled (only (slice-vals frozen)) ∷ filled (only (slice-vals draws)) ∷
           filled (only (slice-vals owners)) ∷ filled (only (slice-vals sets)) ∷ filled (only (slice-vals minutes)) ∷
-          filled (only (slice-vals totals)) ∷ filled (only (slice-vals answers)) ∷ filled (LL.val S.the-type S′.the-laws b) ∷ none ∷ none ∷ none ∷ none ∷
+          filled (only (slice-vals totals)) ∷ filled (only (slice-vals answers)) ∷
+          filled (LL.val S.the-type S′.the-laws b) ∷ none ∷ none ∷ none ∷ none ∷
           none ∷ filled (vptr (owners .ptr .0) (owners .ptr .1)) ∷ filled (only (slice-vals owners)) ∷
           filled (vptr (sets .ptr .0) (sets .ptr .1)) ∷ filled (only (slice-vals sets)) ∷
           filled (vptr (minutes .ptr .0) (minutes .ptr .1)) ∷ filled (only (slice-vals minutes)) ∷
@@ -793,8 +798,8 @@ module _ {M : Type 1} (𝓤 : URA M) (H : Heap 𝓤) (A : Atoms 𝓤) (W : Given
             i = 0;
             ls = ls₀;
             long = long₀;
-            plays = playing-starts P (avail .now) units (begins .now) (frozen .now) count (owners .now) (derived (sets .now)
-                (minutes .now) (totals .now)) (answers .now)
+            plays = playing-starts P (avail .now) units (begins .now) (frozen .now) count (owners .now)
+                (derived (sets .now) (minutes .now) (totals .now)) (answers .now)
                 (draws .now) b w;
           })))
 
@@ -822,8 +827,8 @@ module _ {M : Type 1} (𝓤 : URA M) (H : Heap 𝓤) (A : Atoms 𝓤) (W : Given
         use2 W (later (some (λ (g : Loans ss). raw (Begin 𝓤 H A mem run .pre (to-begin ls₀ g)) ⊛ raw (Left-begin ls₀ g))))
         (out-begin ls₀ long₀) $ await ! tt $ pick ! (λ g. split ! $
         asks ! (fmOf 𝓤 H (W .laws) 𝓣) begin.ended (begin.clauses 𝓤 H A mem run) met-begin (to-begin ls₀ g)
-        (copies ! 2 (1 ∷ 2 ∷ 3 ∷ 4 ∷ 5 ∷ 6 ∷ 7 ∷ 8 ∷ 9 ∷ 23 ∷ 25 ∷ 27 ∷ 29 ∷ 31 ∷ 33 ∷ []) refl) _ (λ r ws. id⊢ 𝓤 _) (λ u b ws e is. drop ! $
-        move ! (1 ∷ []) $ drop ! $
+        (copies ! 2 (1 ∷ 2 ∷ 3 ∷ 4 ∷ 5 ∷ 6 ∷ 7 ∷ 8 ∷ 9 ∷ 23 ∷ 25 ∷ 27 ∷ 29 ∷ 31 ∷ 33 ∷ []) refl) _ (λ r ws. id⊢ 𝓤 _) (λ u b ws e is.
+        drop ! $ move ! (1 ∷ []) $ drop ! $
         use2 W (later (raw Five ⊛ raw (HasAll 𝓤 H A ss ls₀))) (back-begin ls₀ long₀ g) $ await ! tt $ split ! $
         land ! (from ! (stop !)) (init ! 34 refl (LL.lawful S.the-type S′.the-laws 𝓤 H A W .typed b _ is .0)) $ sink ! 2 $
         rewrite ! 32 (λ (z : Val). ‵ (fat fullShare (spotOf 𝓤 H (envAt 𝓤 H (code.function .locals) bs) 16 .0)
