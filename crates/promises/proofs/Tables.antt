@@ -601,7 +601,7 @@ rota-by-table = record {
       (people-says (P .people) (slots-says (P .slots) (columns-say (P .slots) (P .starts) (P .ends) (λ r.
       say-short (P .slots) (length o) (λ x. say-short (16 * P .people) (length (D .sets)) (λ y.
       say-short (P .people) (length (D .minutes)) (λ z. say-short 2 (length (D .totals)) (λ w.
-      right-says 9 (P .slots) (P .starts) (P .ends) r none)))))))));
+      right-says 9 (P .slots) (P .starts) (P .ends) r none))))))));
   owner-of-slot = λ people slots o k.
       by-first _ (state.ownerRow people slots o k) _ refl refl (rota-refuses .owner-of-slot people slots o k)
       (people-says people (slots-says slots (say-short slots (length o) (λ x.
