@@ -141,3 +141,26 @@ pub fn damaged(case_seed: u64) -> Vec<Question> {
     asked.push(recounts::empty(&case, &lent, empty));
     asked
 }
+
+#[cfg(test)]
+mod tests {
+    use super::give_away;
+    use crate::rotas::RotaCase;
+    use crate::seed::Seed;
+
+    /// Units of several slots that go from nobody to somebody, each by one draw; and rotas of which some units stay open.
+    #[test]
+    fn units_of_several_slots_are_given_away() {
+        let (mut long, mut open) = (0, 0);
+        for k in 0..200 {
+            let mut seed = Seed::new(k);
+            let mut case = RotaCase::new(&mut seed);
+            give_away(&mut seed, &mut case);
+            let end = case.play();
+            let is_given = |draw: &(&(u16, u16, u16), &u8)| *draw.1 == 0 && case.problem.units[usize::from(draw.0 .1)].len() > 1;
+            long += case.draws.iter().zip(&end.answers).filter(is_given).count();
+            open += usize::from(end.totals[1] > 0);
+        }
+        assert!(long > 300 && open > 30, "{long}, {open}");
+    }
+}

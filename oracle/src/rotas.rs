@@ -526,7 +526,7 @@ mod tests {
             partly += usize::from(0 < end.totals[1] && end.totals[1] < begun.totals[1]);
             lengths[LentRota::new(&mut seed, &case).totals.len() - 2] += 1;
         }
-        assert!(filled > 100 && partly > 30, "{filled}, {partly}");
+        assert!(filled > 20 && partly > 30, "{filled}, {partly}");
         assert!(lengths.iter().all(|&times| times > 50), "{lengths:?}");
     }
 
