@@ -1,6 +1,6 @@
 -- Demand 2, the rota, by the laws of rota. Assumes nothing.
 use mathlib.Core.Path.{_≡_, refl, sym, ap, _∙_}
-use mathlib.Core.Bool.{Bool, true, false, cond}
+use mathlib.Core.Bool.{Bool, true, false, cond, _&&_}
 use mathlib.Core.List.{List, []}
 use mathlib.Core.Logic.{inl, _↔_, _≢_}
 use Prim.Native.Nat.{ℕ, _-_, _*_, _≤_, _<_, zero-le}

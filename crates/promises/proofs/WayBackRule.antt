@@ -325,7 +325,7 @@ example : wayFor noDraw record { remembered = 1 ∷ 1 ∷ []; draws = replicate 
     ≡ record { answer = way.Draws 1; draws = 0 ∷ 9 ∷ []; firsts = 0 ∷ 9 ∷ []; seconds = 1 ∷ 9 ∷ [] }
 unfolding wayBack wayRow refusalOf state.recountRow state.lentRow recountTests rememberedRow wayRoomOk columnsEnough wayOf drawsWritten
     peopleOk slotCountOk slotRoomOk slotsOk slotOkAt slotOk prevEnd unitsOk startOk all allIn among count sum onto firstFail knownAt knownBy
-    availableFor availableAt available evenAt unitEnd setAt setSlotAt held minutesOkAt totalOkAt totalOf uncovered unassigned count worked portion minutesAt slot bitOf
+    availableFor availableAt available evenAt unitEnd setAt setSlotAt held minutesOkAt totalOkAt totalOf uncovered unassigned worked portion minutesAt slot bitOf
     firstInWay inTheWay differs differing unowned ownerOf frozenUnit unitFrozen clear unfrozen fitsUnit able back placeIn kindsOf firstsOf
     secondsOf
 example = refl
