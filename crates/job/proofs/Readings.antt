@@ -290,6 +290,7 @@ module _ {s c b : List ℕ} (K : ReadOk s c b) where
           owners = O .owners;
           sets = W .sets;
           minutes = W .minutes;
+          totals = W .totals;
         })
     prepared-are f g h i =
         record {

@@ -77,7 +77,7 @@ returns c =
     let c21 = c19 .before .before in
     let K = c21 .pre .0 in
     let p = c21 .args .p in
-    subst (λ (d : Draws). PlayedAs (playOf (readyBy p) d (p .owners) (derived (p .sets) (p .minutes))) (c .play-draws .result))
+    subst (λ (d : Draws). PlayedAs (playOf (readyBy p) d (p .owners) (derived (p .sets) (p .minutes) (p .totals))) (c .play-draws .result))
     (draws-is K (c19 .column16 .ensures ∙ read-column K 6 0 2) (c18 .column162 .ensures ∙ read-column K 6 2 2)
     (c17 .column163 .ensures ∙ read-column K 6 4 2)) (c .play-draws .ensures)
 

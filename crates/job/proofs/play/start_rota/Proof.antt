@@ -11,4 +11,4 @@ returns c =
     record { number = ap (λ (f : Refusal). f .number) (e .refusal); derived = e .derived }
 
 pub start-rota-spec : {M : Type 1} → statement M
-start-rota-spec = tie.close (tie.spec (λ c. search needs) (λ c. search needs) (λ c κs. search needs) returns)
+start-rota-spec = tie.close (tie.spec (λ c. search needs) (λ c. search needs) (λ c. search needs) (λ c κs. search needs) returns)
