@@ -559,6 +559,12 @@ exports! {
         ends: &[u32], avail: &[u64], person: usize, out: &mut u64
     ) -> Result<(), Refusal> = done(u8);
 
+    /// Everybody's achievable run, in minutes, one entry a person. Refusals: 1, 2, 7, 9.
+    pub fn achievable_runs(
+        people: usize, slots: usize, fairness: u8, lock: u8, boundary: u8, edition: u8, value: u16, days: u16, starts: &[u32],
+        ends: &[u32], avail: &[u64], runs: &mut [u64]
+    ) -> Result<(), Refusal> = done(u8);
+
     // ---- who can cover a unit, and whether it is frozen
 
     /// The people available for all slots of a unit, ascending, and how many. Refusals: 1, 2, 9, 11.

@@ -25,7 +25,7 @@ loop-again c =
     let args = c .before .before .before .before .before .before .args in
     let byte : getD (args .owners .now) (at .k) 0 < 256 = omega (arith, c .before .before .shared-slice-known2 .given (at .k)) in (
       omega arith,
-      enough-more _ _ _ _ _ (at .inv .1) byte (c .before .wrapping-add-u8 .ensures) (c .higher .ensures),
+      enough-more (args .owners .now) _ _ _ _ (at .inv .1) byte (c .before .wrapping-add-u8 .ensures) (c .higher .ensures),
     )
 
 returns : tie.Need-returns Inv-loop μ-loop
