@@ -185,7 +185,7 @@ fn clear_words(words: &mut [u64], base: usize, whole: usize)
 {
     let mut j: usize = 0;
     while j < whole {
-        words[base + j] = 0;
+        words[base + j] = word::merge(words[base + j], 0, 0, 64);
         j += 1;
     }
 }
