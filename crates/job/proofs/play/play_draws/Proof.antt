@@ -8,7 +8,7 @@ use Rattle.job.proofs.play.play_draws.Tie as tie
 
 returns : tie.Need-returns
 returns c =
-    let e = c .before .before .before .before .play .ensures in
+    let e = c .before .before .before .before .before .play .ensures in
     record {
       number = ap (λ (f : Refusal). f .number) (e .refusal);
       owners = e .owners;
