@@ -67,7 +67,8 @@ unfolding numberOf refusalOf unless lengthRow slotRow stretchOk stretchRow setsR
     availabilityRow
     freezeRow freezeOf availableRow isAvailable unitsOk startOk unitsRow unitSlotsRow unitOfSlotRow unitCountIs unitSlotsIs unitOfSlotIs
     settingsOk boundaryOk startsRow rotationStartsIs unitStartsIs unitFrozenRow unitFrozenIs slotDomainRow slotDomainIs unitDomainRow
-    unitDomainIs unitDomainsRow coveredDaysIs minutesPerDayIs targetRunRow targetRunIs achievableRunRow achievableRunIs achievableRunsRow state.fromSlots
+    unitDomainIs unitDomainsRow coveredDaysIs minutesPerDayIs targetRunRow targetRunIs achievableRunRow achievableRunIs
+    achievableRunsRow state.fromSlots
     state.fromSlotsRow state.outcome state.lentRow state.emptied state.emptyRow rota.assigned rota.assignRow state.recountRow
     state.recountSlotsRow recountTests state.ownerIs state.ownerRow state.minutesIs state.minutesRow state.slotsOfIs state.unassignedIs
     state.unassignedRow state.uncoveredIs state.uncoveredRow knownBy knownAt availableFor availableAt available evenAt unitEnd setAt
