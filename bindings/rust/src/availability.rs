@@ -20,7 +20,7 @@ use crate::slots::{Columns, Range, Slots};
 /// assert_eq!((who.people(), who.slots(), who.words().len()), (2, 2, 32));
 /// assert_eq!(who.of(1)?.iter().collect::<Vec<_>>(), [1]);
 /// assert_eq!(who.achievable_run_minutes(Settings::default(), &slots, 1)?, 60);
-/// assert_eq!(who.achievable_runs(Settings::default(), &slots)?, [120, 60]);
+/// assert_eq!(who.achievable_runs(Settings::default(), &slots)?, [1, 60]);
 /// # Ok::<(), Refusal>(())
 /// ```
 #[derive(Debug, Clone, PartialEq, Eq, Hash)]

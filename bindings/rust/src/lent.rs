@@ -109,6 +109,9 @@
 //! assert_eq!(out, 420);
 //! lent::achievable_run(2, 2, 0, 1, 1, 0, 1, 7, &starts, &ends, &avail, 1, &mut out)?;
 //! assert_eq!(out, 60);
+//! let mut runs = [9; 3];
+//! lent::achievable_runs(2, 2, 0, 1, 1, 0, 1, 7, &starts, &ends, &avail, &mut runs)?;
+//! assert_eq!(runs[1..], [60, 9]);
 //! # Ok::<(), boltraven::Refusal>(())
 //! ```
 //!
