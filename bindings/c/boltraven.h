@@ -323,6 +323,11 @@ uint8_t boltraven_achievable_run(size_t people, size_t slots, uint8_t fairness, 
                                  size_t ends_len, const uint64_t *avail, size_t avail_len, size_t person,
                                  uint64_t *out);
 
+/* The same of everybody, one entry a person. */
+uint8_t boltraven_achievable_runs(size_t people, size_t slots, uint8_t fairness, uint8_t lock, uint8_t boundary, uint8_t edition,
+                                  uint16_t value, uint16_t days, const uint32_t *starts, size_t starts_len, const uint32_t *ends,
+                                  size_t ends_len, const uint64_t *avail, size_t avail_len, uint64_t *runs, size_t runs_len);
+
 /* ---- Targets. */
 
 /* Each person's target, by capacity and prior minutes; they add up to the minutes of all slots. In edition 1 one may be negative. */

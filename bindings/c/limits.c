@@ -29,7 +29,7 @@ enum {
 struct room {
     uint32_t base_starts[BASES], base_ends[BASES], opens[RANGES], shuts[RANGES], starts[SLOTS], ends[SLOTS], froms[SLOTS], tos[SLOTS];
     uint32_t priors[PEOPLE], masks[SLOTS];
-    uint64_t avail[WORDS], sets[WORDS], frozen[SET], minutes[PEOPLE], totals[BOLTRAVEN_TOTALS], first, last, next, slots, units;
+    uint64_t avail[WORDS], sets[WORDS], frozen[SET], minutes[PEOPLE], runs[PEOPLE], totals[BOLTRAVEN_TOTALS], first, last, next, slots, units;
     int64_t targets[PEOPLE];
     double capacities[PEOPLE];
     struct boltraven_draw structs[DRAWS];
@@ -109,6 +109,10 @@ CALL(achievable_run) {
     return boltraven_achievable_run(PEOPLE, r->slots, 0, 1, 1, 1, 1, 7, r->starts, SLOTS, r->ends, SLOTS, r->avail, WORDS, PEOPLE - 1,
                                     &r->first);
 }
+CALL(achievable_runs) {
+    return boltraven_achievable_runs(PEOPLE, r->slots, 0, 1, 1, 1, 1, 7, r->starts, SLOTS, r->ends, SLOTS, r->avail, WORDS, r->runs,
+                                     PEOPLE);
+}
 CALL(compute_targets) {
     return boltraven_compute_targets(PEOPLE, r->slots, 0, 1, r->starts, SLOTS, r->ends, SLOTS, r->avail, WORDS, r->capacities,
                                      PEOPLE, r->priors, PEOPLE, r->targets, PEOPLE);
@@ -186,7 +190,8 @@ static const struct {
     NUMBER(every_run), NUMBER(date_of), NUMBER(weekday_of), NUMBER(merged_ranges), NUMBER(atomise), DONE(availability), NUMBER(is_available),
     NUMBER(slot_domain), DONE(slot_minutes), DONE(demand), NUMBER(freeze_before), NUMBER(rotation_starts), NUMBER(unit_starts),
     DONE(unit_slots), NUMBER(unit_of_slot), NUMBER(unit_domain), DONE(unit_domains), NUMBER(unit_frozen), DONE(covered_days),
-    DONE(minutes_per_day), DONE(target_run), DONE(achievable_run), DONE(compute_targets), DONE(empty), DONE(from_slots), DONE(assign),
+    DONE(minutes_per_day), DONE(target_run), DONE(achievable_run), DONE(achievable_runs), DONE(compute_targets), DONE(empty), DONE(from_slots),
+    DONE(assign),
     NUMBER(owner_of_slot), DONE(minutes_of), NUMBER(unassigned_count), DONE(uncovered_minutes), DONE(recount), DONE(recount_slots),
     DONE(may_be_used), DONE(play), DONE(play_draws), DONE(way_back), NUMBER(stretch), DONE(publish), DONE(show), DONE(run_job), NUMBER(count_settings),
     DONE(save_settings), DONE(ask_settings)};

@@ -203,4 +203,15 @@ impl LentUnits {
             (11, self.person < self.people),
         ])
     }
+
+    /// Everybody's: 1, 2, 7, 9. The list of people is as long as their runs' column.
+    pub fn achievable_runs_number(&self) -> u64 {
+        let room = words_ok(self.people, self.avail.len()) && self.people <= self.list_room;
+        lowest(&[
+            (1, people_ok(self.people) && self.slots.count_ok()),
+            (2, self.slots.room_ok() && room),
+            (7, settings_ok(self.settings)),
+            (9, self.slots.ok()),
+        ])
+    }
 }

@@ -94,6 +94,7 @@ exports! {
     done minutes_per_day(number, slice, slice, out);
     done target_run(number, number, number, number, number, number, number, slice, slice, out);
     done achievable_run(number, number, number, number, number, number, number, number, slice, slice, slice, number, out);
+    done achievable_runs(number, number, number, number, number, number, number, number, slice, slice, slice, slice);
     number unit_domain(number, number, number, slice, slice, slice, number);
     done unit_domains(number, number, number, slice, slice, slice);
     number slot_domain(number, number, slice, slice, number);

@@ -45,7 +45,7 @@ pub fn covered(case_seed: u64) -> Vec<Question> {
     figures_asked(&mut seed, &case, &problem, &avail)
 }
 
-/// Covered days, minutes a day, the target run, and two people's achievable runs: by the generator's own count, and again by the Rust's
+/// Covered days, minutes a day, the target run, two people's achievable runs and everybody's: by the generator's own count, and again by the Rust's
 /// where it counts as many days.
 fn figures_asked(seed: &mut Seed, case: &ProblemCase, problem: &Problem, avail: &[u64]) -> Vec<Question> {
     let people = problem.human_count();
@@ -63,8 +63,30 @@ fn figures_asked(seed: &mut Seed, case: &ProblemCase, problem: &Problem, avail: 
             args.extend([Arg::Lent(8, bytes64(avail)), Arg::Number(person as u64)]);
             asked.push(beside("boltraven_achievable_run", args, seed.word(), 0, due.achievable[person]));
         }
+        let mut args = vec![Arg::Number(people as u64)];
+        args.extend(with_settings(case.settings, slots.args()));
+        args.push(Arg::Lent(8, bytes64(avail)));
+        let before: Vec<u64> = (0..people + seed.below(2) as usize).map(|_| seed.word()).collect();
+        asked.push(everybody(args, before, 0, &due.achievable));
     }
     asked
+}
+
+/// A call that writes everybody's achievable run, or refuses and writes nothing.
+fn everybody(mut args: Vec<Arg>, before: Vec<u64>, number: u64, right: &[u64]) -> Question {
+    let mut after = before.clone();
+    if number == 0 {
+        after[..right.len()].copy_from_slice(right);
+    }
+    args.push(Arg::LentMut(8, bytes64(&before)));
+    Question {
+        function: "boltraven_achievable_runs",
+        args,
+        due: Outcome {
+            result: number,
+            written: vec![bytes64(&after)],
+        },
+    }
 }
 
 /// The function that is asked once where the Rust counts other days, and twice where it counts the same.
@@ -286,12 +308,14 @@ impl LentUnits {
         masks(self.domain_args(), before, self.unit_domains_number(), &due.unit_masks)
     }
 
-    /// Covered days, minutes a day, target and achievable run: by the generator's own count, and by the Rust's where it is the same.
+    /// Covered days, minutes a day, target and achievable runs: by the generator's own count, and by the Rust's where it is the same.
     fn figures_asked(&self, seed: &mut Seed, due: &DueUnits) -> Vec<Question> {
         let target_args = with_settings(self.settings, self.slots.args());
         let mut run_args = vec![Arg::Number(self.people as u64)];
         run_args.extend(target_args.clone());
-        run_args.extend([Arg::Lent(8, bytes64(&self.avail)), Arg::Number(self.person as u64)]);
+        run_args.push(Arg::Lent(8, bytes64(&self.avail)));
+        let runs_args = run_args.clone();
+        run_args.push(Arg::Number(self.person as u64));
         let mut asked = Vec::new();
         for by in std::iter::once(&due.own).chain(&due.rust) {
             let questions = [
@@ -306,6 +330,8 @@ impl LentUnits {
                 ),
             ];
             asked.extend(questions.map(|(function, args, number, right)| beside(function, args, seed.word(), number, right)));
+            let before: Vec<u64> = (0..self.list_room).map(|_| seed.word()).collect();
+            asked.push(everybody(runs_args.clone(), before, self.achievable_runs_number(), &by.achievable));
         }
         asked
     }

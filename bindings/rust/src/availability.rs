@@ -20,6 +20,7 @@ use crate::slots::{Columns, Range, Slots};
 /// assert_eq!((who.people(), who.slots(), who.words().len()), (2, 2, 32));
 /// assert_eq!(who.of(1)?.iter().collect::<Vec<_>>(), [1]);
 /// assert_eq!(who.achievable_run_minutes(Settings::default(), &slots, 1)?, 60);
+/// assert_eq!(who.achievable_runs(Settings::default(), &slots)?, [1, 60]);
 /// # Ok::<(), Refusal>(())
 /// ```
 #[derive(Debug, Clone, PartialEq, Eq, Hash)]
@@ -100,5 +101,20 @@ impl Availability {
                 out
             )
         })
+    }
+
+    /// The same of everybody, one entry a person. Refusals 1, 2, 7.
+    pub fn achievable_runs(&self, settings: Settings, slots: &Slots) -> Result<Vec<u64>, Refusal> {
+        let mut runs = vec![0; self.people];
+        with_settings!(
+            lent::achievable_runs,
+            [self.people, slots.len()],
+            settings,
+            slots.starts(),
+            slots.ends(),
+            &self.words,
+            &mut runs
+        )?;
+        Ok(runs)
     }
 }

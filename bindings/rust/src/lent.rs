@@ -109,6 +109,9 @@
 //! assert_eq!(out, 420);
 //! lent::achievable_run(2, 2, 0, 1, 1, 0, 1, 7, &starts, &ends, &avail, 1, &mut out)?;
 //! assert_eq!(out, 60);
+//! let mut runs = [9; 3];
+//! lent::achievable_runs(2, 2, 0, 1, 1, 0, 1, 7, &starts, &ends, &avail, &mut runs)?;
+//! assert_eq!(runs[1..], [60, 9]);
 //! # Ok::<(), boltraven::Refusal>(())
 //! ```
 //!
@@ -572,6 +575,12 @@ exports! {
     pub fn achievable_run(
         people: usize, slots: usize, fairness: u8, lock: u8, boundary: u8, edition: u8, value: u16, days: u16, starts: &[u32],
         ends: &[u32], avail: &[u64], person: usize, out: &mut u64
+    ) -> Result<(), Refusal> = done(u8);
+
+    /// Everybody's achievable run, in minutes, one entry a person. Refusals: 1, 2, 7, 9.
+    pub fn achievable_runs(
+        people: usize, slots: usize, fairness: u8, lock: u8, boundary: u8, edition: u8, value: u16, days: u16, starts: &[u32],
+        ends: &[u32], avail: &[u64], runs: &mut [u64]
     ) -> Result<(), Refusal> = done(u8);
 
     // ---- who can cover a unit, and whether it is frozen

@@ -30,6 +30,7 @@ use crate::units::Units;
 /// assert_eq!((problem.unit_count(), problem.units().len(), problem.unit_of_slot(1)?), (2, 2, 1));
 /// assert_eq!((problem.rotation_count(), problem.rotations().len(), problem.rotation_slots(1)?), (2, 2, 1..2));
 /// assert_eq!((problem.target_run_minutes(), problem.achievable_run_minutes(1)?), (120, 60));
+/// assert_eq!(problem.achievable_runs(), [120, 60]);
 ///
 /// assert_eq!(problem.freeze_before(60), 1);
 /// assert!(problem.is_unit_frozen(0)? && !problem.is_frozen(1));
@@ -168,6 +169,11 @@ impl Problem {
     /// How long a person's runs can be, in minutes: at least 1, at most the target run. Refusal 11.
     pub fn achievable_run_minutes(&self, person: usize) -> Result<u64, Refusal> {
         self.availability.achievable_run_minutes(self.settings, &self.slots, person)
+    }
+
+    /// The same of everybody, one entry a person.
+    pub fn achievable_runs(&self) -> Vec<u64> {
+        checked(self.availability.achievable_runs(self.settings, &self.slots))
     }
 
     /// Freezes every slot that ends at or before an instant, and answers how many do.

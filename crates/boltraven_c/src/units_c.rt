@@ -13,7 +13,7 @@ ghost use Rattle.boltraven_c.specs.Numbers.{yesNoNumber, plainNumber, nu
 ghost use Rattle.slotset.specs.Answers.{numberRefusal};
 ghost use Rattle.slots.specs.Lent.{minutesRefusal};
 ghost use Rattle.units.specs.Days.{coveredDaysIs, minutesPerDayIs, targetRunIs};
-ghost use Rattle.units.specs.Achievable.{achievableRunIs};
+ghost use Rattle.units.specs.Achievable.{achievableRunIs, achievableRunsRow, achievableRunsIs};
 ghost use Rattle.boltraven_c.specs.Units.{settingsOf, spanFrom, spanTo};
 ghost use Rattle.units.specs.Answers.{unitSlotsIs, unitOfSlotIs, spanRefusal};
 ghost use Rattle.units.specs.Starts.{rotationStartsIs, unitStartsIs};
@@ -197,6 +197,40 @@ pub extern "C" fn boltraven_achievable_run(
     };
     let minutes = units::achievable_run(people, slots, settings, starts, ends, avail, person);
     put_minutes(minutes, out)
+}
+
+// Everybody's achievable run.
+#[no_mangle]
+pub extern "C" fn boltraven_achievable_runs(
+    people: usize,
+    slots: usize,
+    fairness: u8,
+    lock: u8,
+    boundary: u8,
+    edition: u8,
+    value: u16,
+    days: u16,
+    starts: &[u32],
+    ends: &[u32],
+    avail: &[u64],
+    runs: &mut [u64],
+) -> u8
+    ensures { λ r. ⌜ r ≡ numberOf
+        (achievableRunsRow (settingsOf fairness lock boundary edition value days) (now (avail .entry)) people slots (now (starts .entry))
+        (now (ends .entry)) (now (runs .entry))) ⌝ }
+    ensures { λ _. ⌜ now (runs .exit)
+        ≡ achievableRunsIs (settingsOf fairness lock boundary edition value days) (now (avail .entry)) people slots (now (starts .entry))
+        (now (ends .entry)) (now (runs .entry)) ⌝ }
+{
+    let settings = Settings {
+        fairness,
+        lock,
+        boundary,
+        edition,
+        value,
+        days,
+    };
+    units::achievable_runs(people, slots, settings, starts, ends, avail, runs)
 }
 
 // The starts of the rotations, and how many.

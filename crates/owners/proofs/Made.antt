@@ -12,8 +12,7 @@ use Rattle.paper.specs.Count.{over, fill}
 use Rattle.paper.proofs.Logic.{lt-or-ge}
 use Rattle.paper.proofs.Count.{sum-same, over-same, over-again, over-right, length-over, getD-over, length-fill, getD-fill-in, getD-fill-out}
 use Rattle.slotset.specs.Slots.{slot, putSlots}
-use Rattle.slotset.specs.Answers.{rowStretchOf}
-use Rattle.slotset.proofs.Refusals.{stretch-puts}
+use Rattle.slotset.specs.Answers.{clearedRow}
 use Rattle.units.proofs.Sets.{row-ok}
 use Rattle.slotset.proofs.Puts.{Fit, puts-same}
 use Rattle.owners.specs.Derived.{Plan, knownBy, portion, worked, totalOf, lengthAt, held, setsFrom, Derived, derived, afresh}
@@ -249,17 +248,16 @@ module _ (P : Plan) (S : PlanSound P) (o : List ℕ) (s₀ m₀ t₀ s m t : Lis
 -- ---- the loop that clears the sets
 
 cleared : (p slots : ℕ) (ws s₀ : List ℕ) → p < 32 → ws ≡ setsFrom p slots (nobodies slots) s₀
-    → putSlots (λ _. 0) (16 * p) 0 (slots - 0) ws ≡ setsFrom (suc p) slots (nobodies slots) s₀
+    → putSlots (λ _. 0) (16 * p) 0 slots ws ≡ setsFrom (suc p) slots (nobodies slots) s₀
 unfolding setsFrom
 cleared p slots ws s₀ g q =
-    let z : slots - 0 ≡ slots = omega arith in
-    ap (λ (n : ℕ). putSlots (λ _. 0) (16 * p) 0 n ws) z
-    ∙ puts-same (λ _. 0) (held (nobodies slots) p) (16 * p) 0 slots ws
+    puts-same (λ _. 0) (held (nobodies slots) p) (16 * p) 0 slots ws
     (λ k x y. sym (held-not (nobodies slots) p k (λ r. omega (arith, r, nobody-at slots k (omega arith)))))
     ∙ ap (putSlots (held (nobodies slots) p) (16 * p) 0 slots) q
 
 pub clear-one : (people p slots : ℕ) (ws s₀ : List ℕ) → p < people → people ≤ 32 → slots ≤ 1024 → 16 * people ≤ length ws
-    → ws ≡ setsFrom p slots (nobodies slots) s₀ → rowStretchOf 0 ws people p slots 0 slots ≡ setsFrom (p + 1) slots (nobodies slots) s₀
+    → ws ≡ setsFrom p slots (nobodies slots) s₀ → clearedRow ws people p slots ≡ setsFrom (p + 1) slots (nobodies slots) s₀
+unfolding clearedRow
 clear-one people p slots ws s₀ h few l room e =
-    stretch-puts 0 ws people p slots 0 slots (row-ok ws people p slots h few l room) (omega arith)
+    Rattle.paper.proofs.Rows.worked _ ws (putSlots (λ _. 0) (16 * p) 0 slots ws) (row-ok ws people p slots h few l room)
     ∙ cleared p slots ws s₀ (omega arith) e ∙ sym (ap (λ (n : ℕ). setsFrom n slots (nobodies slots) s₀) (add-one p))

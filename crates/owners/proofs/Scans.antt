@@ -3,24 +3,24 @@ use mathlib.Core.Path.{_≡_, refl, sym, ap, ap₂, _∙_}
 use mathlib.Core.Bool.{Bool, true, false, cond, not, _&&_}
 use mathlib.Core.List.{List}
 use mathlib.Core.Logic.{⊎-elim}
-use Prim.Native.Nat.{ℕ, zero, suc, _+_, _-_, _*_, _≤_, _<_}
+use Prim.Native.Nat.{ℕ, zero, suc, _+_, _-_, _*_, _%_, _^_, _≤_, _<_, max}
 use native.Mathlib.Nat.{le-antisymm}
 use native.Mathlib.Omega.{arith}
-use borrow.Author.Tests.{eq-eqb, ne-eqb, lt-ltb, le-ltb}
+use borrow.Author.Tests.{eq-eqb, ne-eqb, lt-ltb, le-ltb, ltb-true}
 use lib.Dec.{eqb, ltb}
 use lib.ListN.{length, getD}
 use Rattle.paper.specs.Limits.{nobody}
 use Rattle.paper.specs.Count.{all, allIn, sum}
-use Rattle.paper.proofs.Logic.{by-test, lt-or-ge, below-suc, both}
+use Rattle.paper.proofs.Logic.{by-test, lt-or-ge, below-suc, both, or-left, or-second, or-either}
 use Rattle.paper.proofs.Count.{all-each, each-all, all-fails, sum-more}
 use Rattle.slotset.specs.Slots.{slot}
 use Rattle.slotset.proofs.Puts.{slot-lt}
 use Rattle.slots.specs.Lent.{minutesAt}
 use Rattle.units.specs.Units.{unitStart, unitEnd}
 use Rattle.units.specs.Domains.{available}
-use Rattle.owners.specs.Derived.{Plan, portion, held, lengthAt}
+use Rattle.owners.specs.Derived.{Plan, portion, held, lengthAt, knownBy}
 use Rattle.owners.specs.Inside.{PlanSound}
-use Rattle.owners.specs.Recount.{firstFail, availableFor, availableAt, evenAt, setSlotAt}
+use Rattle.owners.specs.Recount.{firstFail, knownAt, availableFor, availableAt, evenAt, setSlotAt}
 use Rattle.owners.specs.Inside.{sameBit}
 use Rattle.owners.proofs.Minutes.{worked-part-le}
 
@@ -186,3 +186,34 @@ module _ (P : Plan) (o : List ℕ) (p k t r m : ℕ) (e : t ≡ sum k (λ j. por
 
   pub worked-fits : PlanSound P → k < P .slots → t + r ≤ 100000000
   worked-fits S h = omega (arith, worked-more, worked-part-le P o p (k + 1) (omega arith), S .lent .demand-fits)
+
+-- ---- known owners, by as many people as it takes
+
+pub known-more : (n m w : ℕ) → n ≤ m → knownBy n w ≡ true → knownBy m w ≡ true
+unfolding knownBy
+known-more n m w h e =
+    ⊎-elim (λ t. or-left (eqb w nobody) _ t) (λ t. or-second (eqb w nobody) _ (lt-ltb w m (omega (arith, ltb-true w n t))))
+    (or-either (eqb w nobody) (ltb w n) e)
+
+-- one more than a person, and 0 for nobody, is enough
+known-after : (w n : ℕ) → w < 256 → (w + 1) % 2 ^ 8 ≤ n → knownBy n w ≡ true
+unfolding knownBy
+known-after w n h g =
+    ⊎-elim (λ (l : w < 255). or-second (eqb w nobody) _ (lt-ltb w n (omega arith)))
+    (λ (l : 255 ≤ w). let e : w ≡ 255 = omega arith in or-left (eqb w nobody) _ (eq-eqb w 255 e)) (lt-or-ge w 255)
+
+-- one more owner
+pub enough-more : (o : List ℕ) (most k r x : ℕ) → ((j : ℕ) → j < k → knownBy most (getD o j 0) ≡ true) → getD o k 0 < 256
+    → x ≡ (getD o k 0 + 1) % 2 ^ 8 → r ≡ max most x → (j : ℕ) → j < k + 1 → knownBy r (getD o j 0) ≡ true
+enough-more o most k r x f b e d j h =
+    ⊎-elim (λ (l : j < k). known-more most r (getD o j 0) (omega arith) (f j l))
+    (λ (l : k ≤ j).
+    let q : j ≡ k = omega arith in
+    ap (λ (i : ℕ). knownBy r (getD o i 0)) q ∙ known-after (getD o k 0) r b (omega arith))
+    (lt-or-ge j k)
+
+-- and they are there
+pub enough-known : (o : List ℕ) (n people slots : ℕ) → ((k : ℕ) → k < slots → knownBy n (getD o k 0) ≡ true) → n ≤ people
+    → all slots (knownAt people o) ≡ true
+unfolding knownAt
+enough-known o n people slots f h = each-all slots (λ k. knownBy people (getD o k 0)) (λ k l. known-more n people (getD o k 0) h (f k l))

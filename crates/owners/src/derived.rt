@@ -224,7 +224,7 @@ fn clear_sets(people: usize, slots: usize, sets: &mut [u64])
 {
     let mut p: usize = 0;
     while p < people {
-        put_stretch(people, slots, sets, p, 0, slots, false);
+        slotset::row::clear(people, slots, sets, p);
         p += 1;
     }
 }

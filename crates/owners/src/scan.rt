@@ -1,9 +1,11 @@
 // Scans over owners, units, sets and minutes: each answers the first place at fault, and reads what isn't lent as 0.
 use slotset::bit::holds;
 ghost use mathlib.Core.Path.{_≡_};
-ghost use Prim.Native.Nat.{_<_, _≤_};
+ghost use mathlib.Core.Bool.{true};
+ghost use Prim.Native.Nat.{ℕ, _<_, _≤_, max};
 ghost use lib.Dec.{eqb};
 ghost use lib.ListN.{length, getD};
+ghost use Rattle.paper.specs.Count.{all};
 ghost use Rattle.owners.specs.Derived.{plan, knownBy, portion, worked, unassigned};
 ghost use Rattle.owners.specs.Recount.{firstFail, availableFor, knownAt, availableAt, evenAt, setSlotAt};
 ghost use Rattle.owners.specs.Inside.{PlanSound, sameBit, sameEntry};
@@ -46,8 +48,39 @@ pub fn available_for(avail: &[u64], owner: u8, k: usize) -> bool
     holds(avail, owner, k)
 }
 
-// The first slot with an unknown owner, or the slot count.
-pub fn first_unknown(people: usize, slots: usize, owners: &[u8]) -> usize
+// The higher of two numbers.
+fn higher(a: u8, b: u8) -> u8
+    ensures { λ r. ⌜ r ≡ max a b ⌝ }
+{
+    if a < b { b } else { a }
+}
+
+// So many people that every owner is known among them: one more than the highest, nobody counting as none.
+fn enough_people(slots: usize, owners: &[u8]) -> u8
+    requires { ⌜ slots ≤ length (now owners) ⌝ }
+    ensures { λ r. ⌜ ((k : ℕ) → k < slots → knownBy r (getD (now (owners .entry)) k 0) ≡ true) ⌝ }
+{
+    let mut most: u8 = 0;
+    let mut k: usize = 0;
+    while k < slots {
+        most = higher(most, std::num::wrapping_add_u8(owners[k], 1));
+        k += 1;
+    }
+    most
+}
+
+// Whether every owner is known, by one number: no owner stops the walk, so that a processor takes several at a time. No says nothing.
+fn all_known(people: usize, slots: usize, owners: &[u8]) -> bool
+    ensures { λ r. ⌜ (r ≡ true → all slots (knownAt people (now (owners .entry))) ≡ true) ⌝ }
+{
+    if slots <= owners.len() {
+        return enough_people(slots, owners) as usize <= people;
+    }
+    false
+}
+
+// The first slot with an unknown owner, or the slot count, slot by slot.
+fn find_unknown(people: usize, slots: usize, owners: &[u8]) -> usize
     ensures { λ r. ⌜ r ≡ firstFail slots (knownAt people (now (owners .entry))) ⌝ }
 {
     let mut k: usize = 0;
@@ -59,6 +92,16 @@ pub fn first_unknown(people: usize, slots: usize, owners: &[u8]) -> usize
         }
     }
     slots
+}
+
+// The first slot with an unknown owner, or the slot count. It is looked for only where there may be one.
+pub fn first_unknown(people: usize, slots: usize, owners: &[u8]) -> usize
+    ensures { λ r. ⌜ r ≡ firstFail slots (knownAt people (now (owners .entry))) ⌝ }
+{
+    if all_known(people, slots, owners) {
+        return slots;
+    }
+    find_unknown(people, slots, owners)
 }
 
 // The first slot whose owner is not available for it, or the slot count.

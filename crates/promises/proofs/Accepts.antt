@@ -30,7 +30,7 @@ use Rattle.units.specs.Starts.{startsRow, rotationStartsIs, unitStartsIs}
 use Rattle.units.specs.Days.{coveredDaysIs, minutesPerDayIs, targetRunRow, targetRunIs}
 use Rattle.units.specs.Domains.{available, unfrozen, clear, unitFrozen, unitFrozenRow, unitFrozenIs, slotDomainRow, slotDomainIs}
 use Rattle.units.specs.Domains.{unitDomainRow, unitDomainIs, unitDomainsRow}
-use Rattle.units.specs.Achievable.{achievableRunRow, achievableRunIs}
+use Rattle.units.specs.Achievable.{achievableRunRow, achievableRunIs, achievableRunsRow}
 use Rattle.targets.specs.Outcome as targets
 use Rattle.owners.specs.Derived.{knownBy, portion, worked, held, uncovered, unassigned, totalOf}
 use Rattle.owners.specs.Recount.{knownAt, availableFor, availableAt, evenAt, setSlotAt, setAt, minutesOkAt, recountTests, totalOkAt}
@@ -67,7 +67,8 @@ unfolding numberOf refusalOf unless lengthRow slotRow stretchOk stretchRow setsR
     availabilityRow
     freezeRow freezeOf availableRow isAvailable unitsOk startOk unitsRow unitSlotsRow unitOfSlotRow unitCountIs unitSlotsIs unitOfSlotIs
     settingsOk boundaryOk startsRow rotationStartsIs unitStartsIs unitFrozenRow unitFrozenIs slotDomainRow slotDomainIs unitDomainRow
-    unitDomainIs unitDomainsRow coveredDaysIs minutesPerDayIs targetRunRow targetRunIs achievableRunRow achievableRunIs state.fromSlots
+    unitDomainIs unitDomainsRow coveredDaysIs minutesPerDayIs targetRunRow targetRunIs achievableRunRow achievableRunIs
+    achievableRunsRow state.fromSlots
     state.fromSlotsRow state.outcome state.lentRow state.emptied state.emptyRow rota.assigned rota.assignRow state.recountRow
     state.recountSlotsRow recountTests state.ownerIs state.ownerRow state.minutesIs state.minutesRow state.slotsOfIs state.unassignedIs
     state.unassignedRow state.uncoveredIs state.uncoveredRow knownBy knownAt availableFor availableAt available evenAt unitEnd setAt
@@ -105,6 +106,7 @@ each-accepts = record {
   minutes-per-day = refl;
   target-run = refl;
   achievable-run = refl;
+  achievable-runs = refl;
   compute-targets =
       ap (λ (y : targets.Outcome). y .number) (marked-cases .case-9 (replicate 32 0) (pos 0 ∷ pos 0 ∷ []) (enough 32) (omega arith));
   from-slots = refl;

@@ -19,7 +19,7 @@ use Rattle.slotset.specs.Search.{nextWith, lastBelow, nextSet, First, Last}
 use Rattle.slotset.specs.Runs.{firstAround, lastAround}
 use Rattle.slotset.specs.Answers.{lengthRow, slotRow, stretchRow, setsRow, sameSetsRow, personRow, personStretchRow}
 use Rattle.slotset.specs.Answers.{foundAs, stretchAs, runAs, runStep, nextRunAs, memberStep, nextMemberAs}
-use Rattle.slotset.specs.Answers.{changedAs, newOf, putOf, stretchOf, loadOf, storeOf, rowStretchOf, numberRefusal}
+use Rattle.slotset.specs.Answers.{changedAs, newOf, putOf, stretchOf, loadOf, storeOf, rowStretchOf, clearedRow, numberRefusal}
 use Rattle.slotset.proofs.Meaning.{next-is, last-is}
 use Rattle.slotset.proofs.Refusals.{number-said, yes-no-said}
 use Rattle.runs.specs.Listed.{runsRow, column, runsOf, allRunsOf}
@@ -85,7 +85,7 @@ member-step-none found.Nothing e = refl
 member-step-none (found.Refused n) e = e
 
 pub sets-refuse : SetsRefuse
-unfolding newOf putOf stretchOf loadOf changedAs storeOf rowStretchOf foundAs runAs stretchAs nextRunAs nextMemberAs unless
+unfolding newOf putOf stretchOf loadOf changedAs storeOf rowStretchOf clearedRow foundAs runAs stretchAs nextRunAs nextMemberAs unless
     lengthRow slotRow stretchRow setsRow sameSetsRow personRow personStretchRow
 sets-refuse = record {
   lengths = λ len. tests-give (lengthRow len) refl;
@@ -97,6 +97,7 @@ sets-refuse = record {
   load = λ ws people person len. tests-give (personRow ws people person len) refl;
   store = λ s ws people person. words-refuse (personRow ws people person (s .len)) ws _ refl;
   put-stretch = λ v ws people person len a e. words-refuse (personStretchRow ws people person len a e) ws _ refl;
+  clear = λ ws people person len. words-refuse (personRow ws people person len) ws _ refl;
   all-runs = all-runs-refuse;
   found-next = λ n v f len from. number-of-made foundRefusal n (nextWith v f len from) (found.Refused n) (next-none v f len from) refl;
   found-last = λ n v f len end.

@@ -31,7 +31,7 @@ use Rattle.slotset.specs.Runs.{firstAround, lastAround, Around, endOf, Ends, wh
 use Rattle.slotset.specs.Answers.{lengthRow, slotRow, stretchRow, personRow, personStretchRow, slotsOf, rowSlots, sameSets}
 use Rattle.slotset.specs.Answers.{foundAs, yesNoAs, stretchAs, runAs, Holds, numberAs, emptySet}
 use Rattle.slotset.specs.Answers.{runStep, nextRunAs, memberStep, nextMemberAs, changedAs, newOf, putOf, stretchOf, loadOf}
-use Rattle.slotset.specs.Answers.{storeOf, rowStretchOf}
+use Rattle.slotset.specs.Answers.{storeOf, rowStretchOf, clearedRow}
 use Rattle.slotset.proofs.Puts.{slot-lt, slot-puts, slot-puts-other, puts-none, slot-loaded, slot-none}
 use Rattle.slotset.proofs.Refusals.{slot-says, stretch-says, row-says, row-stretch-says}
 use Rattle.slotset.proofs.OneSlot.{load-is}
@@ -314,6 +314,16 @@ store-changes s ws people person z =
       elsewhere = p .elsewhere;
     }
 
+clear-changes : (ws : List ℕ) (people person len : ℕ) → numberOf (personRow ws people person len) ≡ 0
+    → Put (λ _. 0) (1024 * person) len (slot ws 0) (slot (clearedRow ws people person len) 0)
+unfolding clearedRow
+clear-changes ws people person len z =
+    let r = row-says ws people person len z in
+    let out = putSlots (λ _. 0) (16 * person) 0 len ws in
+    let p = puts-put (λ _. 0) (16 * person) 0 len (1024 * person) ws (λ k. omega arith) (omega (arith, r .short, r .words)) (omega arith) in
+    subst (λ (l : List ℕ). Put (λ _. 0) (1024 * person) len (slot ws 0) (slot l 0))
+    (sym (worked _ ws out z)) record { here = λ k h. p .here k h; elsewhere = p .elsewhere }
+
 -- a person's row as a set by value has its slots
 pub load-row : (ws : List ℕ) (people person len : ℕ) → numberOf (personRow ws people person len) ≡ 0
     → (loadOf ws people person len .set .len ≡ len)
@@ -436,6 +446,7 @@ sets-by-rule = record {
   stretch = stretch-changes;
   put-stretch = put-stretch-changes;
   store = store-changes;
+  clear = clear-changes;
   load = load-row;
   same-sets = same-answered;
   ignored = same-answers;

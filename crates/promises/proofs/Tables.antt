@@ -31,7 +31,7 @@ use Rattle.units.specs.Answers.{unitsRow, unitSlotsRow, unitOfSlotRow}
 use Rattle.units.specs.Starts.{startsRow}
 use Rattle.units.specs.Days.{targetRunRow}
 use Rattle.units.specs.Domains.{unitFrozenRow, slotDomainRow, unitDomainRow, unitDomainsRow}
-use Rattle.units.specs.Achievable.{achievableRunRow}
+use Rattle.units.specs.Achievable.{achievableRunRow, achievableRunsRow}
 use Rattle.targets.specs.Figures.{allFiguresOk}
 use Rattle.targets.specs.Outcome as targets
 use Rattle.owners.specs.Derived.{Plan, Derived, knownBy}
@@ -393,7 +393,7 @@ starts-first s slots starts ends list =
 
 pub units-by-table : tables.UnitsByTable
 unfolding numberOf unitsRow unitSlotsRow unitOfSlotRow startsRow unitFrozenRow slotDomainRow unitDomainRow unitDomainsRow lentRow
-    targetRunRow achievableRunRow
+    targetRunRow achievableRunRow achievableRunsRow
 units-by-table = record {
   unit-count = λ slots units begins.
       by-first _ (unitsRow slots units begins) _ refl refl (units-refuse .unit-count slots units begins)
@@ -441,6 +441,11 @@ units-by-table = record {
       (units-refuse .achievable-run s avail people p slots starts ends)
       (people-says people (slots-says slots (columns-say slots starts ends (λ r. say-short (16 * people) (length avail) (λ z.
       settings-right s (right-says 9 slots starts ends r (say-below p people none)))))));
+  achievable-runs = λ s avail people slots starts ends runs.
+      by-first _ (achievableRunsRow s avail people slots starts ends runs) _ refl refl
+      (units-refuse .achievable-runs s avail people slots starts ends runs .given)
+      (people-says people (slots-says slots (columns-say slots starts ends (λ r. say-short (16 * people) (length avail) (λ z.
+      say-short people (length runs) (λ y. settings-right s (right-says 9 slots starts ends r none)))))));
 }
 
 -- ---- targets

@@ -22,7 +22,7 @@ use Rattle.units.specs.Answers.{unitCountIs, unitSlotsIs, unitOfSlotIs, spanRef
 use Rattle.units.specs.Starts.{rotationStartsIs, unitStartsIs}
 use Rattle.units.specs.Days.{coveredDaysIs, minutesPerDayIs, targetRunIs}
 use Rattle.units.specs.Domains.{unitFrozenIs, slotDomainIs, unitDomainIs, unitDomainsRow}
-use Rattle.units.specs.Achievable.{achievableRunIs}
+use Rattle.units.specs.Achievable.{achievableRunIs, achievableRunsRow}
 use Rattle.targets.specs.Outcome.{given, computeTargets}
 use Rattle.owners.specs.Derived.{plan, derived}
 use Rattle.owners.specs.Entries as state
@@ -88,6 +88,7 @@ pub record EachAccepts : Type 0 where
   pub minutes-per-day : minutesRefusal (minutesPerDayIs 1 starts ends) ≡ 0
   pub target-run : minutesRefusal (targetRunIs settings 1 starts ends) ≡ 0
   pub achievable-run : minutesRefusal (achievableRunIs settings (words 1) 1 0 1 starts ends) ≡ 0
+  pub achievable-runs : numberOf (achievableRunsRow settings (words 1) 1 1 starts ends room) ≡ 0
   -- targets: marked case 9
   pub compute-targets : let g = given 2 1 (0 ∷ []) (100 ∷ []) (replicate 32 0) (one ∷ one ∷ []) (300 ∷ 0 ∷ []) 1 0 in
       computeTargets g (pos 0 ∷ pos 0 ∷ []) .number ≡ 0

@@ -23,7 +23,7 @@ Only {A = A} Fits = (x y : A) → Fits x → Fits y → x ≡ y
 pub record OneOutcome : Type 1 where
   -- every reader, every number, every set handed back, and each buffer that a contract equates by itself
   pub equated : {A : Type 0} (said : A) → Only (λ (r : A). r ≡ said)
-  -- a number and one buffer: availability, freeze_before, unit_domains, put_stretch, store
+  -- a number and one buffer: availability, freeze_before, unit_domains, achievable_runs, put_stretch, store, clear
   pub equated-both : {A B : Type 0} (said : A) (left : B) → Only (λ (r : A × B). (r .0 ≡ said) × (r .1 ≡ left))
   pub merged-ranges : (x : MergedOut) → Only (λ (r : Number × List ℕ × List ℕ × List ℕ). MergedEnd x (r .0) (r .1) (r .2) (r .3))
   pub atomise : (x : Atoms) → Only (λ (r : Number × List ℕ × List ℕ). AtomsEnd x (r .0) (r .1) (r .2))

@@ -18,7 +18,7 @@ use Rattle.slotset.specs.declared.NextMember.the-variants as nextMember
 use Rattle.slotset.specs.Search.{nextWith, lastBelow}
 use Rattle.slotset.specs.Answers.{lengthRow, slotRow, stretchRow, sameSetsRow, personRow, personStretchRow, yesNoRefusal, numberRefusal}
 use Rattle.slotset.specs.Answers.{foundAs, yesNoAs, numberAs, runAs, nextRunAs, nextMemberAs}
-use Rattle.slotset.specs.Answers.{newOf, putOf, stretchOf, loadOf, storeOf, rowStretchOf}
+use Rattle.slotset.specs.Answers.{newOf, putOf, stretchOf, loadOf, storeOf, rowStretchOf, clearedRow}
 use Rattle.runs.specs.Listed.{runsRow, allRunsOf}
 use Rattle.promises.specs.Table.{rules, GivenByTests, Refuses}
 
@@ -64,6 +64,9 @@ pub record SetsRefuse : Type 0 where
   pub put-stretch : (v : ℕ) (ws : List ℕ) (people person len a e : ℕ)
       → Refuses (rules (personStretchRow ws people person len a e)) (numberOf (personStretchRow ws people person len a e)) ws
       (rowStretchOf v ws people person len a e)
+  pub clear : (ws : List ℕ) (people person len : ℕ)
+      → Refuses (rules (personRow ws people person len)) (numberOf (personRow ws people person len)) ws
+      (clearedRow ws people person len)
   -- the list of a person's runs
   pub all-runs : (ws : List ℕ) (people person len : ℕ) (firsts lasts : List ℕ)
       → let x = allRunsOf ws people person len firsts lasts in

@@ -22,7 +22,7 @@ use Rattle.slotset.specs.Search.{nextWith, lastBelow, nextSet, prevSet, nextUns
 use Rattle.slotset.specs.Runs.{Ends, allRuns, AreRuns, InRuns, Among}
 use Rattle.slotset.specs.Answers.{lengthRow, slotRow, stretchRow, personRow, personStretchRow, slotsOf, rowSlots, sameSets}
 use Rattle.slotset.specs.Answers.{foundAs, yesNoAs, runAs, Holds, numberAs, nextRunAs, nextMemberAs, newOf, putOf, stretchOf, loadOf}
-use Rattle.slotset.specs.Answers.{storeOf, rowStretchOf}
+use Rattle.slotset.specs.Answers.{storeOf, rowStretchOf, clearedRow}
 use Rattle.runs.specs.Listed.{runsRow, allRunsOf}
 
 -- x meets a statement, and nothing else does
@@ -119,6 +119,8 @@ pub record SetsByRule : Type 0 where
       → Put (λ _. v) (1024 * person + a) (e - a) (slot ws 0) (slot (rowStretchOf v ws people person len a e) 0)
   pub store : (s : SlotSet) (ws : List ℕ) (people person : ℕ) → numberOf (personRow ws people person (s .len)) ≡ 0
       → Put (slotsOf s) (1024 * person) (s .len) (slot ws 0) (slot (storeOf s ws people person) 0)
+  pub clear : (ws : List ℕ) (people person len : ℕ) → numberOf (personRow ws people person len) ≡ 0
+      → Put (λ _. 0) (1024 * person) len (slot ws 0) (slot (clearedRow ws people person len) 0)
   pub load : (ws : List ℕ) (people person len : ℕ) → numberOf (personRow ws people person len) ≡ 0
       → (loadOf ws people person len .set .len ≡ len)
       × ((k : ℕ) → k < 1024 → slotsOf (loadOf ws people person len .set) k ≡ rowSlots ws person k)

@@ -25,7 +25,7 @@ use Rattle.units.specs.Answers.{unitCountIs, unitSlotsIs, unitOfSlotIs, spanRef
 use Rattle.units.specs.Starts.{rotationStartsIs, unitStartsIs}
 use Rattle.units.specs.Days.{coveredDaysIs, minutesPerDayIs, targetRunIs}
 use Rattle.units.specs.Domains.{unitFrozenIs, slotDomainIs, unitDomainIs, unitDomainsRow}
-use Rattle.units.specs.Achievable.{achievableRunIs}
+use Rattle.units.specs.Achievable.{achievableRunIs, achievableRunsRow}
 use Rattle.targets.specs.Outcome as targets
 use Rattle.owners.specs.Derived.{Plan, Derived}
 use Rattle.owners.specs.Entries as state
@@ -186,6 +186,12 @@ achievableRunTable s avail people p slots starts ends =
     outside 1 32 people ∷ outside 1 1024 slots ∷ short slots (length starts) ∷ short slots (length ends)
     ∷ short (16 * people) (length avail) ∷ broken 7 (SettingsRight s) ∷ broken 9 (SlotsRight slots starts ends) ∷ notBelow p people ∷ []
 
+abbrev pub achievableRunsTable : Settings → List ℕ → ℕ → ℕ → List ℕ → List ℕ → List ℕ → List Rule
+achievableRunsTable s avail people slots starts ends runs =
+    outside 1 32 people ∷ outside 1 1024 slots ∷ short slots (length starts) ∷ short slots (length ends)
+    ∷ short (16 * people) (length avail) ∷ short people (length runs) ∷ broken 7 (SettingsRight s)
+    ∷ broken 9 (SlotsRight slots starts ends) ∷ []
+
 -- ---- targets
 
 abbrev pub targetsTable : targets.Given → ℕ → List Rule
@@ -320,6 +326,9 @@ pub record UnitsByTable : Type 0 where
   pub achievable-run : (s : Settings) (avail : List ℕ) (people p slots : ℕ) (starts ends : List ℕ)
       → GivenBy (achievableRunTable s avail people p slots starts ends)
       (minutesRefusal (achievableRunIs s avail people p slots starts ends))
+  pub achievable-runs : (s : Settings) (avail : List ℕ) (people slots : ℕ) (starts ends runs : List ℕ)
+      → GivenBy (achievableRunsTable s avail people slots starts ends runs)
+      (numberOf (achievableRunsRow s avail people slots starts ends runs))
 
 pub record RotaByTable : Type 0 where
   pub compute-targets : (g : targets.Given) (out : List ℤ)

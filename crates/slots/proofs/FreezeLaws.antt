@@ -77,6 +77,10 @@ module _ (n : ℕ) (f : ℕ → ℕ) (bound : ℕ) where
   pub between-all : Between n f bound 0 n
   between-all = record { order = omega arith; few = omega arith; by = λ k h. absurd (omega arith); after = λ k a b. absurd (omega arith) }
 
+  -- where the first are known to
+  pub between-from : (known : ℕ) → known ≤ n → ((k : ℕ) → k < known → f k ≤ bound) → Between n f bound known n
+  between-from known h by = record { order = h; few = omega arith; by = by; after = λ k a b. absurd (omega arith) }
+
   module _ (rise : (k j : ℕ) → k < j → j < n → f k ≤ f j) (low high m : ℕ) (B : Between n f bound low high) where
     no-later : (k j : ℕ) → k ≤ j → j < n → f k ≤ f j
     no-later k j a b =

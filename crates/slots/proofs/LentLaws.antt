@@ -1,20 +1,21 @@
 -- The laws of lent slots: what the one test says of those that pass, and the steps of its loops. Assumes nothing.
 use mathlib.Core.Path.{_≡_, refl, sym, ap, ap₂, _∙_}
-use mathlib.Core.Bool.{Bool, true}
+use mathlib.Core.Bool.{Bool, true, false, false≢true, _&&_}
 use mathlib.Core.List.{List}
 use Prim.Native.Nat.{ℕ, zero, suc, _+_, _-_, _≤_, _<_, zero-le}
 use native.Mathlib.Numerals.{add-one}
 use native.Mathlib.Omega.{arith}
-use borrow.Author.Tests.{ltb-true, leb-true, eq-eqb, ne-eqb}
+use borrow.Author.Tests.{ltb-true, leb-true, le-leb, eq-eqb, ne-eqb}
 use lib.Dec.{leb, ltb}
 use lib.ListN.{length, getD}
 use Rattle.paper.specs.Limits.{slotCountOk, numberOf}
 use Rattle.paper.specs.Count.{all, sum}
 use Rattle.paper.proofs.Logic.{number-of-made, both, three}
 use Rattle.paper.proofs.Rows.{passed}
-use Rattle.paper.proofs.Count.{all-each, sum-more}
+use Rattle.paper.proofs.Count.{all-none, all-each, sum-more}
 use Rattle.slots.specs.declared.Minutes.the-variants as minutes
 use Rattle.slots.specs.Lent.{slotOk, prevEnd, slotOkAt, slotRoomOk, slotsOk, minutesAt, demandOf, demandWhenOk, SlotsSound}
+use Rattle.slots.specs.Inside.{slotFits, slotFitsAt}
 use Rattle.slots.specs.Lent.{lentRow, minutesAs, minutesRefusal}
 
 -- ---- what one slot's test says
@@ -97,12 +98,50 @@ demand-part slots starts ends e n h =
     let f = slots-each slots starts ends e in
     omega (arith, demand-by-end slots starts ends f n h, prev-capped slots starts ends f n h)
 
+-- four tests and one that follows from the last three
+last-asked : (a p q l m : Bool) → (p ≡ true → q ≡ true → l ≡ true → m ≡ true)
+    → ((a && (p && q)) && l) ≡ ((a && m) && (p && (q && l)))
+last-asked false p q l m h = refl
+last-asked true false q l true h = refl
+last-asked true false q l false h = refl
+last-asked true true false l true h = refl
+last-asked true true false l false h = refl
+last-asked true true true false true h = refl
+last-asked true true true false false h = refl
+last-asked true true true true true h = refl
+last-asked true true true true false h = absurd (false≢true (h refl refl refl))
+
 -- ---- the steps of the loops
 
-module _ (s e : List ℕ) (i prev : ℕ) (b : Bool) (q : prev ≡ prevEnd e i) (d : b ≡ slotOk prev (getD s i 0) (getD e i 0)) where
-  pub slot-test : slotOkAt s e i ≡ b
-  unfolding slotOkAt
-  slot-test = ap (λ (p : ℕ). slotOk p (getD s i 0) (getD e i 0)) (sym q) ∙ sym d
+-- a slot is asked all but the last minute
+module _ (starts ends : List ℕ) where
+  pub fits-none : true ≡ all 0 (slotFitsAt starts ends)
+  fits-none = sym (all-none (slotFitsAt starts ends))
+
+  pub fits-more : (i prev : ℕ) (ok b r : Bool) → prev ≡ prevEnd ends i → ok ≡ all i (slotFitsAt starts ends)
+      → b ≡ slotFits prev (getD starts i 0) (getD ends i 0) → r ≡ (ok && b) → r ≡ all (i + 1) (slotFitsAt starts ends)
+  unfolding slotFitsAt all
+  fits-more i prev ok b r q e d w =
+      w ∙ ap₂ _&&_ e (d ∙ ap (λ (p : ℕ). slotFits p (getD starts i 0) (getD ends i 0)) q)
+      ∙ sym (ap (λ (n : ℕ). all n (slotFitsAt starts ends)) (add-one i))
+
+  -- the last minute is asked of the last slot: those before it end by then
+  fits-all : (n : ℕ) → (all n (slotFitsAt starts ends) && leb (prevEnd ends n) 100000000) ≡ all n (slotOkAt starts ends)
+  unfolding slotFitsAt slotFits slotOkAt slotOk all prevEnd
+  fits-all zero = le-leb 0 100000000 zero-le
+  fits-all (suc n) =
+      let s = getD starts n 0 in
+      let f = getD ends n 0 in
+      last-asked (all n (slotFitsAt starts ends)) (leb (prevEnd ends n) s) (ltb s f) (leb f 100000000) (leb (prevEnd ends n) 100000000)
+      (λ p q l. le-leb (prevEnd ends n) 100000000 (omega (arith, leb-true (prevEnd ends n) s p, ltb-true s f q, leb-true f 100000000 l)))
+      ∙ ap (λ (b : Bool). b && (leb (prevEnd ends n) s && (ltb s f && leb f 100000000))) (fits-all n)
+
+  pub fits-done : (slots i prev : ℕ) (ok r : Bool) → slotRoomOk slots starts ends ≡ true → i ≤ slots → slots ≤ i → prev ≡ prevEnd ends i
+      → ok ≡ all i (slotFitsAt starts ends) → r ≡ (ok && leb prev 100000000) → r ≡ slotsOk slots starts ends
+  unfolding slotsOk
+  fits-done slots i prev ok r room h g q e w =
+      let n : i ≡ slots = omega arith in
+      w ∙ ap₂ _&&_ e (ap (λ (x : ℕ). leb x 100000000) q) ∙ fits-all i ∙ ap (λ (x : ℕ). all x (slotOkAt starts ends)) n ∙ sym (simp room)
 
 pub prev-none : (ends : List ℕ) → 0 ≡ prevEnd ends 0
 unfolding prevEnd

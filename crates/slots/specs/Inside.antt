@@ -8,6 +8,7 @@ use lib.ListN.{length, getD, take}
 use Rattle.paper.specs.Limits.{peopleMost, rangesMost, slotsMost, lastMinute}
 use Rattle.paper.specs.Count.{all, over, FirstWhere}
 use Rattle.slotset.specs.Slots.{valueOf}
+use Rattle.slots.specs.Lent.{prevEnd}
 use Rattle.slots.specs.Ranges.{Range, Ranges}
 use Rattle.slots.specs.Merged.{mergedOf}
 
@@ -15,6 +16,16 @@ use Rattle.slots.specs.Merged.{mergedOf}
 unfoldable pub anyOf : (ℕ → Bool) → List ℕ → Bool
 anyOf p [] = false
 anyOf p (x ∷ l) = p x || anyOf p l
+
+-- ---- lent slots
+
+-- one slot, the previous one's end given: not before it, not empty or reversed
+unfoldable pub slotFits : ℕ → ℕ → ℕ → Bool
+slotFits prev start end = leb prev start && ltb start end
+
+-- of slot k
+unfoldable pub slotFitsAt : List ℕ → List ℕ → ℕ → Bool
+slotFitsAt starts ends k = slotFits (prevEnd ends k) (getD starts k 0) (getD ends k 0)
 
 -- ---- a range as one number, so that numbers in order are ranges by person, then start, then end
 

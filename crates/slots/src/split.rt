@@ -12,7 +12,7 @@ ghost use Rattle.paper.specs.Rows.{refusalOf};
 ghost use Rattle.slots.specs.Lent.{SlotsSound};
 ghost use Rattle.slots.specs.Ranges.{ranges};
 ghost use Rattle.slots.specs.Atomic.{cutsIn, atomStarts, atomEnds, base, baseRow, atomiseOf, AtomsEnd};
-ghost use Rattle.slots.specs.Inside.{NextCut, keyCut, nearer, Grown, HeldMerged, lineEnd, NextEdge, opensFrom};
+ghost use Rattle.slots.specs.Inside.{NextCut, keyCut, nearer, Grown, HeldMerged, lineEnd, NextEdge, opensFrom, opens, Opening};
 
 // A minute, where it lies strictly between two others; else the later of them.
 fn nearer_of(after: u64, best: u64, t: u64) -> u64
@@ -40,13 +40,13 @@ fn opens_from(keys: &[u64], n: usize, r: usize) -> u64
     LINE_END
 }
 
-// The next edge: the first place of the line, past the given one, at which a merged range opens or closes. Of the ranges that open by the
-// given place only the last can close past it; if it doesn't, the edge is where the next one opens.
-fn next_edge(keys: &[u64], n: usize, place: u64) -> u64
+// The next edge: the first place of the line, past the given one, at which a merged range opens or closes. Of the first r ranges, which
+// open by the given place, only the last can close past it; if it doesn't, the edge is where the next one opens.
+fn next_edge(keys: &[u64], n: usize, r: usize, place: u64) -> u64
     requires { ⌜ HeldMerged (now keys) n × (place < lineEnd) ⌝ }
-    ensures { λ r. ⌜ NextEdge (take n (now (keys .entry))) place r ⌝ }
+    requires { ⌜ Opening n (λ k. opens (getD (now keys) k 0)) place r ⌝ }
+    ensures { λ v. ⌜ NextEdge (take n (now (keys .entry))) place v ⌝ }
 {
-    let r = ranges::opened_by(keys, n, place);
     if 0 < r {
         let close = ranges::closes_at(keys[r - 1]);
         if place < close {
@@ -57,16 +57,19 @@ fn next_edge(keys: &[u64], n: usize, place: u64) -> u64
     opens_from(keys, n, r)
 }
 
-// The first cut strictly between two minutes, or the later of them: the nearest of everybody's.
+// The first cut strictly between two minutes, or the later of them: the nearest of everybody's. A person's ranges come after those of the
+// people before them on the line, so the search for theirs starts where the last one ended.
 fn next_cut(keys: &[u64], n: usize, after: u64, end: u64) -> u64
     requires { ⌜ HeldMerged (now keys) n × (after < end) × (end ≤ 100000000) ⌝ }
     ensures { λ r. ⌜ NextCut (keyCut (take n (now (keys .entry)))) after end r ⌝ }
 {
     let mut best = end;
+    let mut opened: usize = 0;
     let mut person: u64 = 0;
     while person < 32 {
         let base = person * ranges::WIDTH;
-        let edge = next_edge(keys, n, base + after);
+        opened = ranges::opened_by(keys, n, opened, base + after);
+        let edge = next_edge(keys, n, opened, base + after);
         best = nearer_of(after, best, edge - base);
         person += 1;
     }

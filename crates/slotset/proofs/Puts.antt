@@ -195,6 +195,21 @@ turn-puts g b from j at e r x ws₀ ws h q l t room hv hw hr same m i =
     ∙ sym (puts-add g b from (at - from) (e - at % 64) ws₀)
     ∙ ap (λ (y : ℕ). putSlots g b from y ws₀) (sym n)
 
+-- one more word of which the slots are put to none: all of it, or its first ones
+module _ (b : ℕ) (ws₀ ws : List ℕ) where
+  pub words-cleared : (j rest len r : ℕ) → rest ≤ 64 → j * 64 + rest ≡ len → b + j < length ws₀ → r < 2 ^ 64
+      → Merged (getD ws (b + j) 0) 0 0 rest r → ws ≡ putSlots (λ _. 0) b 0 (j * 64) ws₀ → getD ws (b + j) 0 < 2 ^ 64
+      → set ws (b + j) r ≡ putSlots (λ _. 0) b 0 len ws₀
+  words-cleared j rest len r few l room small m e fits =
+      let z : j * 64 % 64 ≡ 0 = omega arith in
+      let q : j * 64 / 64 ≡ j = omega arith in
+      let a : j * 64 - 0 ≡ j * 64 = omega arith in
+      let n : j * 64 + rest - 0 ≡ len = omega arith in
+      let long = ap length e ∙ length-puts (λ _. 0) b 0 (j * 64) ws₀ in
+      turn-puts (λ _. 0) b 0 j (j * 64) rest r 0 ws₀ ws (omega arith) q (omega arith) few (omega arith) (λ k. omega arith) fits small
+      (λ k x y. sym (bit-none k)) (rw z m) (e ∙ ap (λ (x : ℕ). putSlots (λ _. 0) b 0 x ws₀) (sym a))
+      ∙ ap (λ (x : ℕ). putSlots (λ _. 0) b 0 x ws₀) n
+
 pub value-lt : (b : Bool) → valueOf b < 2
 value-lt true = omega arith
 value-lt false = omega arith

@@ -227,3 +227,7 @@ storeOf s ws people person =
 unfoldable pub rowStretchOf : ℕ → List ℕ → ℕ → ℕ → ℕ → ℕ → ℕ → List ℕ
 rowStretchOf v ws people person len a e =
     unless (numberOf (personStretchRow ws people person len a e)) ws (putSlots (λ _. v) (16 * person) a (e - a) ws)
+
+-- a row of which no slot below the length is a member any more
+unfoldable pub clearedRow : List ℕ → ℕ → ℕ → ℕ → List ℕ
+clearedRow ws people person len = unless (numberOf (personRow ws people person len)) ws (putSlots (λ _. 0) (16 * person) 0 len ws)

@@ -19,7 +19,7 @@ ghost use Rattle.paper.specs.Limits.{slotsMost, setWords, peopleOk, numberOf};
 ghost use Rattle.paper.specs.Rows.{refusalOf};
 ghost use Rattle.slotset.specs.Slots.{has, size, noMember, valueOf};
 ghost use Rattle.slotset.specs.Search.{nextSet, prevSet, nextUnsetAfter, prevUnsetBefore};
-ghost use Rattle.slotset.specs.Answers.{personRow, personStretchRow, rowSlots, loadOf, storeOf, rowStretchOf};
+ghost use Rattle.slotset.specs.Answers.{personRow, personStretchRow, rowSlots, loadOf, storeOf, rowStretchOf, clearedRow};
 ghost use Rattle.slotset.specs.Answers.{setsRow, sameSetsRow, sameSets};
 ghost use Rattle.slotset.specs.Answers.{foundAs, yesNoAs, numberAs, rowRun, rowNextRun, rowNextMember};
 
@@ -219,6 +219,19 @@ pub fn put_stretch(
     let number = row_stretch_refusal(people, len, words, person, from, to).number;
     if number == 0 {
         scan::put_slots(words, paper::SET_WORDS * person, want, from, to);
+        return 0;
+    }
+    number
+}
+
+// No slot of the row is a member any more; the bits past its length stay.
+pub fn clear(people: usize, len: usize, words: &mut [u64], person: usize) -> u8
+    ensures { λ r. ⌜ (r ≡ numberOf (personRow (now (words .entry)) people person len))
+        × (now (words .exit) ≡ clearedRow (now (words .entry)) people person len) ⌝ }
+{
+    let number = row_refusal(people, len, words, person).number;
+    if number == 0 {
+        scan::clear(words, paper::SET_WORDS * person, len);
         return 0;
     }
     number

@@ -178,6 +178,31 @@ pub(crate) fn put_slots(words: &mut [u64], base: usize, want: bool, from: usize,
     }
 }
 
+// The first `whole` words become 0.
+fn clear_words(words: &mut [u64], base: usize, whole: usize)
+    requires { ⌜ (base + 16 ≤ length (now words)) × (whole ≤ 16) ⌝ }
+    ensures { λ _. ⌜ now (words .exit) ≡ putSlots (λ _. 0) base 0 (whole * 64) (now (words .entry)) ⌝ }
+{
+    let mut j: usize = 0;
+    while j < whole {
+        words[base + j] = word::merge(words[base + j], 0, 0, 64);
+        j += 1;
+    }
+}
+
+// Every slot below the length becomes none: whole words, then what is left of the last one.
+pub(crate) fn clear(words: &mut [u64], base: usize, len: usize)
+    requires { ⌜ (base + 16 ≤ length (now words)) × (len ≤ 1024) ⌝ }
+    ensures { λ _. ⌜ now (words .exit) ≡ putSlots (λ _. 0) base 0 len (now (words .entry)) ⌝ }
+{
+    let whole = len / 64;
+    let rest = len % 64;
+    clear_words(words, base, whole);
+    if 0 < rest {
+        words[base + whole] = word::merge(words[base + whole], 0, 0, rest);
+    }
+}
+
 // The slots of src below len go to the words from `base` on; the bits past them stay.
 pub(crate) fn copy_slots(src: &[u64], len: usize, words: &mut [u64], base: usize)
     requires { ⌜ (base + 16 ≤ length (now words)) × (len ≤ 1024) × (length (now src) ≡ 16) ⌝ }

@@ -65,14 +65,13 @@ pub record DomainRoom (avail : List ℕ) (people e : ℕ) (list : List ℕ) : Ty
   pub short : e ≤ 1024
   pub room : people ≤ length list
 
--- to an achievable run
-pub record RunsSound (avail : List ℕ) (people p slots : ℕ) (starts ends : List ℕ) : Type 0 where
+-- to achievable runs
+pub record RunsSound (avail : List ℕ) (people slots : ℕ) (starts ends : List ℕ) : Type 0 where
   pub counted : peopleOk people ≡ true
   pub some : 1 ≤ slots
   pub short : slots ≤ 1024
   pub words : 16 * people ≤ length avail
   pub lent : slotsOk slots starts ends ≡ true
-  pub known : p < people
 
 -- to the writing of masks
 pub record MaskRoom (avail : List ℕ) (people slots units : ℕ) (begins masks : List ℕ) : Type 0 where

@@ -26,6 +26,7 @@ pub use lent::units_ok;
 pub use masks::unit_domains;
 pub use refuse::settings_ok;
 pub use runs::achievable_run;
+pub use runs::achievable_runs;
 pub use starts::rotation_starts;
 pub use starts::unit_starts;
 

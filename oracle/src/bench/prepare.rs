@@ -118,23 +118,20 @@ impl Preparation {
             ends,
             &mut self.target_run,
         )?;
-        for (person, run) in self.runs.iter_mut().enumerate() {
-            lent::achievable_run(
-                people,
-                self.slots,
-                set.fairness,
-                set.lock,
-                set.boundary,
-                set.edition,
-                set.value,
-                set.days,
-                starts,
-                ends,
-                &self.avail,
-                person,
-                run,
-            )?;
-        }
+        lent::achievable_runs(
+            people,
+            self.slots,
+            set.fairness,
+            set.lock,
+            set.boundary,
+            set.edition,
+            set.value,
+            set.days,
+            starts,
+            ends,
+            &self.avail,
+            &mut self.runs,
+        )?;
         lent::unit_domains(people, self.slots, self.units, &self.avail, &self.unit_starts, &mut self.masks)
     }
 

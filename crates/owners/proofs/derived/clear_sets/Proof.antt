@@ -23,11 +23,11 @@ loop-holds c = (search needs, refl, refl)
 
 loop-again : tie.Need-loop-again Inv-loop μ-loop
 loop-again c =
-    let at-put-stretch = c .before .before .put-stretch in
+    let at-clear = c .before .before .clear in
     let at-loop-test = c .before .before .before .before .loop-test in
     let at-pre = c .before .before .before .before .before .before .before .pre in
     let at-loop = c .before .before .before .before .before .loop in
-    let x = (at-put-stretch .ensures .1) ∙ clear-one _ _ _ _ _ (at-loop-test .taken) (at-pre .1) (at-pre .2) (omega (
+    let x = (at-clear .ensures .1) ∙ clear-one _ _ _ _ _ (at-loop-test .taken) (at-pre .1) (at-pre .2) (omega (
       arith,
       (at-pre .3),
       (at-loop .inv .2),

@@ -5,59 +5,47 @@ use borrow.Author.Needs.{needs}
 use Rattle.slots.proofs.split.next_edge.Statement.{statement}
 use Rattle.slots.proofs.split.next_edge.Tie as tie
 
-opened-by-requires : tie.Need-opened-by-requires
-opened-by-requires c κs =
-    let H = c .before .pre .0 in (H .few, H .fits, H .spaced)
-
 mul-closes-at : tie.Need-mul-closes-at
 mul-closes-at c =
-    let H = c .before .before .before .pre .0 in
-    omega (arith, c .if1 .taken, c .before .opened-by .ensures .few, H .few)
+    let pre = c .before .before .pre in
+    omega (arith, c .if1 .taken, pre .1 .few, pre .0 .0 .few)
 
 shared-slice-read-closes-at : tie.Need-shared-slice-read-closes-at
 shared-slice-read-closes-at c =
-    let opened-by = c .before .before .opened-by in
-    let H = c .before .before .before .before .pre .0 in
-    omega (arith, c .before .if1 .taken, opened-by .ensures .few, H .fits)
+    let pre = c .before .before .before .pre in
+    omega (arith, c .before .if1 .taken, pre .1 .few, pre .0 .0 .fits)
 
 returns : tie.Need-returns
 returns c =
-    let args = c .before .before .before .before .before .before .args in
-    let pre = c .before .before .before .before .before .before .pre in
-    let opened-by = c .before .before .before .before .opened-by in
-    let if1 = c .before .before .before .if1 in
-    edge-close (args .keys .now) (args .n) (pre .0) _ _ (opened-by .ensures) _ (if1 .taken) (c .before .closes-at .ensures)
-    (c .if2 .taken)
+    let s = c .before .before .before .before .before in
+    edge-close (s .args .keys .now) (s .args .n) (s .pre .0 .0) _ _ (s .pre .1) _ (c .before .before .before .if1 .taken)
+    (c .before .closes-at .ensures) (c .if2 .taken)
 
 opens-from-requires : tie.Need-opens-from-requires
 opens-from-requires c κs =
-    let H = c .before .before .before .before .before .before .pre .0 in (H .few, H .fits)
+    let H = c .before .before .before .before .before .pre .0 .0 in (H .few, H .fits)
 
 returns-2 : tie.Need-returns-2
 returns-2 c =
-    let args = c .before .before .before .before .before .before .before .args in
-    let pre = c .before .before .before .before .before .before .before .pre in
-    let opened-by = c .before .before .before .before .before .opened-by in
+    let s = c .before .before .before .before .before .before in
     let closes-at = c .before .before .closes-at in
-    edge-open (args .keys .now) (args .n) (pre .0) _ _ (opened-by .ensures) _
-    (λ z. omega (arith, closes-at .ensures, c .before .if2 .left)) (pre .1) (c .opens-from .ensures)
+    edge-open (s .args .keys .now) (s .args .n) (s .pre .0 .0) _ _ (s .pre .1) _
+    (λ z. omega (arith, closes-at .ensures, c .before .if2 .left)) (s .pre .0 .1) (c .opens-from .ensures)
 
 opens-from-requires-2 : tie.Need-opens-from-requires-2
 opens-from-requires-2 c κs =
-    let H = c .before .before .before .pre .0 in (H .few, H .fits)
+    let H = c .before .before .pre .0 .0 in (H .few, H .fits)
 
 returns-3 : tie.Need-returns-3
 returns-3 c =
-    let args = c .before .before .before .before .args in
-    let pre = c .before .before .before .before .pre in
-    edge-open (args .keys .now) (args .n) (pre .0) _ _ (c .before .before .opened-by .ensures) _
-    (λ z. absurd (omega (arith, z, c .before .if1 .left))) (pre .1) (c .opens-from2 .ensures)
+    let s = c .before .before .before in
+    edge-open (s .args .keys .now) (s .args .n) (s .pre .0 .0) _ _ (s .pre .1) _
+    (λ z. absurd (omega (arith, z, c .before .if1 .left))) (s .pre .0 .1) (c .opens-from2 .ensures)
 
 pub next-edge-spec : {M : Type 1} → statement M
 next-edge-spec =
     tie.close
     (tie.spec
-    opened-by-requires
     (λ c. search needs)
     mul-closes-at
     shared-slice-read-closes-at
