@@ -1,0 +1,3 @@
+-- The laws of mend.
+pub mod Cleared
+pub mod ListLaws

@@ -1,0 +1,4 @@
+-- What the contracts of mend cite.
+pub mod Mended
+pub mod Repairs
+pub mod Inside
