@@ -1,3 +1,4 @@
 -- The laws of mend.
 pub mod Cleared
+pub mod Kept
 pub mod ListLaws

@@ -1,11 +1,12 @@
 -- The owners of a damaged rota, mended in two steps: owners that can't stay are cleared, then units without one owner. Assumes nothing.
-use mathlib.Core.Bool.{Bool, cond, _&&_}
+use mathlib.Core.Path.{_≡_}
+use mathlib.Core.Bool.{Bool, true, cond, _&&_}
 use mathlib.Core.List.{List}
 use Prim.Native.Nat.{ℕ, zero, suc, _-_}
 use lib.ListN.{getD}
 use Rattle.paper.specs.Limits.{nobody}
 use Rattle.paper.specs.Count.{over, fill}
-use Rattle.units.specs.Units.{unitStart, unitEnd}
+use Rattle.units.specs.Units.{unitStart, unitEnd, InUnit}
 use Rattle.owners.specs.Derived.{Plan}
 use Rattle.owners.specs.Recount.{knownAt, availableAt, evenAt}
 
@@ -37,3 +38,11 @@ unevenCleared slots units begins o (suc u) =
 unfoldable pub mended : Plan → List ℕ → ℕ → List ℕ → List ℕ → List ℕ
 mended P avail units begins o =
     unevenCleared (P .slots) units begins (barredCleared (P .people) (P .slots) avail o) units
+
+-- ---- no more than that: what must hold for slot k to keep its owner
+
+pub record Keeps (P : Plan) (avail : List ℕ) (units : ℕ) (begins o : List ℕ) (k : ℕ) : Type 0 where
+  pub known : knownAt (P .people) o k ≡ true
+  pub available : availableAt avail o k ≡ true
+  pub alike : (u j : ℕ) → InUnit (P .slots) units begins k u → InUnit (P .slots) units begins j u
+      → leftTo (P .people) avail o j ≡ getD o k 0
