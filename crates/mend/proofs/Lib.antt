@@ -2,3 +2,4 @@
 pub mod Cleared
 pub mod Kept
 pub mod ListLaws
+pub mod Made

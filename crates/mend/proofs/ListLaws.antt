@@ -3,14 +3,18 @@ use mathlib.Core.Path.{_≡_, refl, sym, ap, ap₂, subst, _∙_}
 use mathlib.Core.Bool.{Bool, true, false, not}
 use mathlib.Core.List.{List, [], _∷_, _++_, map, map-append, append-assoc, append-nil}
 use Prim.Native.Nat.{ℕ, zero, suc, _+_, _-_, _*_, _≤_, _<_}
+use native.Mathlib.Numerals.{add-one}
 use native.Mathlib.Omega.{arith}
 use borrow.Author.Tests.{eq-eqb, ne-eqb}
+use lib.Dec.{eqb}
 use lib.ListN.{length, drop, getD, set, length-map, length-append, length-drop}
 use lib.Seq.{sets, append-snoc}
 use Rattle.paper.specs.Count.{among, count, onto}
-use Rattle.paper.proofs.Count.{among-in, among-out, among-count, count-none, count-in, count-out, sum-rises, onto-more}
-use Rattle.mend.specs.Repairs.{Repair, differsAt, repairAt, repairsOf, numbers}
-use Rattle.mend.specs.Inside.{Listed}
+use Rattle.paper.proofs.Logic.{by-test}
+use Rattle.paper.proofs.Count.{among-in, among-out, among-count, count-none, count-in, count-out, sum-rises, onto-none, onto-more, among-le}
+use Rattle.owners.specs.Derived.{derived}
+use Rattle.mend.specs.Repairs.{Rota, rota, column, entries, flagOf, Repair, differsAt, repairAt, repairsOf, repairsIn, repairs, numbers}
+use Rattle.mend.specs.Inside.{Listed, Lists, differences, howMany}
 
 -- ---- two entries that are read
 
@@ -51,6 +55,24 @@ module _ (part : ℕ) (flag : ℕ → ℕ) (old new : List ℕ) where
   pub repairs-length : (n : ℕ) → length (repairsOf part flag n old new) ≡ count n (differsAt old new)
   unfolding repairsOf
   repairs-length n = length-map (among (differsAt old new) n) (repairAt part flag old new) ∙ among-count (differsAt old new) n
+
+-- only the entries below n matter
+pub repairs-same : (part : ℕ) (flag : ℕ → ℕ) (old new new′ : List ℕ) (n : ℕ) → ((k : ℕ) → k < n → getD new k 0 ≡ getD new′ k 0)
+    → repairsOf part flag n old new ≡ repairsOf part flag n old new′
+unfolding differsAt
+repairs-same part flag old new new′ zero f = repairs-none part flag old new ∙ sym (repairs-none part flag old new′)
+repairs-same part flag old new new′ (suc n) f =
+    let e = f n (omega arith) in
+    let rest = repairs-same part flag old new new′ n (λ k h. f k (omega arith)) in
+    let d : differsAt old new n ≡ differsAt old new′ n = ap (λ (x : ℕ). not (eqb (getD old n 0) x)) e in
+    ap (λ (k : ℕ). repairsOf part flag k old new) (sym (add-one n))
+    ∙ by-test (differsAt old new n) _
+    (λ t.
+    repairs-in part flag old new n t
+    ∙ ap₂ (λ (rs : List Repair) (x : ℕ). rs ++ (record { part = part; place = n; old = getD old n 0; new = x; frozen = flag n } ∷ [])) rest e
+    ∙ sym (repairs-in part flag old new′ n (sym d ∙ t)))
+    (λ u. repairs-out part flag old new n u ∙ rest ∙ sym (repairs-out part flag old new′ n (sym d ∙ u)))
+    ∙ ap (λ (k : ℕ). repairsOf part flag k old new′) (add-one n)
 
 -- ---- five numbers each
 
@@ -108,6 +130,10 @@ pub record Reached (part : ℕ) (flag : ℕ → ℕ) (old new : List ℕ) (n at 
   pub so-far : done ≡ at + count k (differsAt old new)
   pub long : length list ≡ length list₀
   pub goes : (rs : List Repair) (first : List ℕ) → Listed rs first at list₀ → Listed (rs ++ repairsOf part flag k old new) first done list
+
+listed-none : (l : List ℕ) → Listed [] l 0 l
+unfolding numbers
+listed-none l = record { number = refl; written = onto-none l }
 
 listed-as : (rs qs : List Repair) (first : List ℕ) (n : ℕ) (list : List ℕ) → rs ≡ qs → Listed rs first n list → Listed qs first n list
 listed-as rs qs first n list e L = subst (λ (x : List Repair). Listed x first n list) e L
@@ -167,8 +193,88 @@ module _ (part : ℕ) (flag : ℕ → ℕ) (old new : List ℕ) (n at : ℕ) (li
               (one (rs ++ repairsOf part flag k old new) first (R .goes rs first L));
         }
 
-    pub reached-end : n ≤ k → (rs : List Repair) (first : List ℕ) → Listed rs first at list₀
-        → Listed (rs ++ repairsOf part flag n old new) first done list
-    reached-end h rs first L =
+    pub reached-end : n ≤ k → Lists part flag n old new at done list₀ list
+    reached-end h =
         let q : k ≡ n = omega (arith, R .upto) in
-        listed-as _ _ first done list (ap (λ (x : ℕ). rs ++ repairsOf part flag x old new) q) (R .goes rs first L)
+        record {
+          number = R .so-far ∙ ap (λ (x : ℕ). at + count x (differsAt old new)) q;
+          goes = λ rs first L.
+              listed-as _ _ first done list (ap (λ (x : ℕ). rs ++ repairsOf part flag x old new) q) (R .goes rs first L);
+        }
+
+-- ---- how many they are
+
+pub count-few : (n r : ℕ) (old new : List ℕ) → r ≡ count n (differsAt old new) → r ≤ n
+count-few n r old new e = omega (arith, e, among-count (differsAt old new) n, among-le (differsAt old new) n)
+
+module _ (people slots : ℕ) (o s m t o′ s′ m′ t′ : List ℕ) where
+  abbrev found : Rota
+  found = rota o (derived s m t)
+
+  abbrev new : Rota
+  new = rota o′ (derived s′ m′ t′)
+
+  pub many-is : howMany people slots found new ≡ count slots (differsAt o o′) + count (16 * people) (differsAt s s′) + count people
+      (differsAt m m′) + count 2 (differsAt t t′)
+  unfolding howMany column entries
+  many-is = refl
+
+  pub many-few : people ≤ 32 → slots ≤ 1024 → howMany people slots found new ≤ 1570
+  many-few h g =
+      omega (
+        arith,
+        many-is,
+        count-few slots _ o o′ refl,
+        count-few (16 * people) _ s s′ refl,
+        count-few people _ m m′ refl,
+        count-few 2 _ t t′ refl,
+      )
+
+  -- as many as are listed
+  pub many-listed : (frozen : List ℕ) → length (repairs people slots frozen found new) ≡ howMany people slots found new
+  unfolding howMany repairs
+  many-listed frozen =
+      let of = repairsIn people slots frozen found new in
+      let k : (p : ℕ) → length (of p) ≡ differences people slots found new p
+      = λ p. repairs-length p (flagOf frozen p) (column found p) (column new p) (entries people slots p) in
+      omega (
+        arith,
+        length-append (of 0) (of 1 ++ (of 2 ++ of 3)),
+        length-append (of 1) (of 2 ++ of 3),
+        length-append (of 2) (of 3),
+        k 0,
+        k 1,
+        k 2,
+        k 3,
+      )
+
+  -- room for the parts, one after the other
+  module _ (len : ℕ) (room : 5 * howMany people slots found new ≤ len) where
+    pub room-0 : 5 * (0 + count slots (differsAt o o′)) ≤ len
+    room-0 = omega (arith, many-is)
+
+    module _ (a : ℕ) (ea : a ≡ 0 + count slots (differsAt o o′)) (l : ℕ) (long : l ≡ len) where
+      pub room-1 : 5 * (a + count (16 * people) (differsAt s s′)) ≤ l
+      room-1 = omega (arith, many-is)
+
+      module _ (b : ℕ) (eb : b ≡ a + count (16 * people) (differsAt s s′)) where
+        pub room-2 : 5 * (b + count people (differsAt m m′)) ≤ l
+        room-2 = omega (arith, many-is)
+
+        pub room-3 : (c : ℕ) → c ≡ b + count people (differsAt m m′) → 5 * (c + count 2 (differsAt t t′)) ≤ l
+        room-3 c ec = omega (arith, many-is)
+
+  -- and all of them listed
+  pub all-listed : (frozen : List ℕ) (a b c d : ℕ) (l₀ l₁ l₂ l₃ l₄ : List ℕ) → Lists 0 (flagOf frozen 0) slots o o′ 0 a l₀ l₁
+      → Lists 1 (λ _. 0) (16 * people) s s′ a b l₁ l₂ → Lists 2 (λ _. 0) people m m′ b c l₂ l₃
+      → Lists 3 (λ _. 0) 2 t t′ c d l₃ l₄ → l₄ ≡ onto (numbers (repairs people slots frozen found new)) l₀
+  unfolding repairs column entries flagOf
+  all-listed frozen a b c d l₀ l₁ l₂ l₃ l₄ A B C D =
+      let of = repairsIn people slots frozen found new in
+      let x = A .goes [] l₀ (listed-none l₀) in
+      let y = B .goes (of 0) l₀ x in
+      let z = C .goes (of 0 ++ of 1) l₀ y in
+      let w = D .goes (of 0 ++ of 1 ++ of 2) l₀ z in
+      w .written
+      ∙ ap (λ (rs : List Repair). onto (numbers rs) l₀)
+      (append-assoc (of 0 ++ of 1) (of 2) (of 3) ∙ append-assoc (of 0) (of 1) (of 2 ++ of 3))

@@ -2,3 +2,6 @@
 // every repair.
 mod clearing;
 mod listing;
+mod mending;
+
+pub use mending::mend;

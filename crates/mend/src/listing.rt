@@ -5,10 +5,10 @@ ghost use mathlib.Core.Path.{_≡_};
 ghost use mathlib.Core.List.{List, [], _∷_, _++_};
 ghost use Prim.Native.Nat.{ℕ, _+_, _*_, _≤_};
 ghost use lib.ListN.{length, getD};
-ghost use Rattle.paper.specs.Count.{count};
-ghost use Rattle.slotset.specs.Slots.{slot};
-ghost use Rattle.mend.specs.Repairs.{Repair, differsAt, repairsOf, slotFlag, noFlag};
-ghost use Rattle.mend.specs.Inside.{Listed};
+ghost use Rattle.paper.specs.Count.{count, onto};
+ghost use Rattle.owners.specs.Derived.{derived};
+ghost use Rattle.mend.specs.Repairs.{rota, flagOf, Repair, differsAt, repairs, numbers};
+ghost use Rattle.mend.specs.Inside.{Listed, Lists, howMany};
 
 // Word k of a column; 0 where it isn't lent.
 fn word_at(words: &[u64], k: usize) -> u64
@@ -74,7 +74,7 @@ fn wide(x: u8) -> u64
 
 // 1 for a slot that is frozen, else 0.
 fn flag_of(frozen: &[u64], k: usize) -> u64
-    ensures { λ r. ⌜ r ≡ slotFlag (now (frozen .entry)) k ⌝ }
+    ensures { λ r. ⌜ r ≡ flagOf (now (frozen .entry)) 0 k ⌝ }
 {
     if holds(frozen, 0, k) { 1 } else { 0 }
 }
@@ -89,8 +89,8 @@ pub(crate) fn list_owners(
     list: &mut [u64],
 ) -> usize
     requires { ⌜ 5 * (at + count n (differsAt (now old) (now new))) ≤ length (now list) ⌝ }
-    ensures { λ r. ⌜ ((rs : List Repair) (first : List ℕ) → Listed rs first at (now (list .entry)) → Listed (rs ++ repairsOf 0 (slotFlag (now
-        (frozen .entry))) n (now (old .entry)) (now (new .entry))) first r (now (list .exit))) ⌝ }
+    ensures { λ r. ⌜ Lists 0 (flagOf (now (frozen .entry)) 0) n (now (old .entry)) (now (new .entry)) at r (now (list .entry)) (now (list
+        .exit)) ⌝ }
 {
     let mut done = at;
     let mut k: usize = 0;
@@ -118,8 +118,7 @@ pub(crate) fn list_words(
     list: &mut [u64],
 ) -> usize
     requires { ⌜ 5 * (at + count n (differsAt (now old) (now new))) ≤ length (now list) ⌝ }
-    ensures { λ r. ⌜ ((rs : List Repair) (first : List ℕ) → Listed rs first at (now (list .entry)) → Listed (rs ++ repairsOf part noFlag n
-        (now (old .entry)) (now (new .entry))) first r (now (list .exit))) ⌝ }
+    ensures { λ r. ⌜ Lists part (λ _. 0) n (now (old .entry)) (now (new .entry)) at r (now (list .entry)) (now (list .exit)) ⌝ }
 {
     let mut done = at;
     let mut k: usize = 0;
@@ -135,4 +134,54 @@ pub(crate) fn list_words(
         }
     }
     done
+}
+
+// How many repairs it takes to make what is new of what was found.
+pub(crate) fn count_repairs(
+    people: usize,
+    slots: usize,
+    owners: &[u8],
+    sets: &[u64],
+    minutes: &[u64],
+    totals: &[u64],
+    new_owners: &[u8],
+    new_sets: &[u64],
+    new_minutes: &[u64],
+    new_totals: &[u64],
+) -> usize
+    requires { ⌜ (people ≤ 32) × (slots ≤ 1024) ⌝ }
+    ensures { λ r. ⌜ r ≡ howMany people slots (rota (now (owners .entry)) (derived (now (sets .entry)) (now (minutes .entry)) (now (totals
+        .entry)))) (rota (now («new_owners» .entry)) (derived (now («new_sets» .entry)) (now («new_minutes» .entry)) (now («new_totals» .entry)))) ⌝ }
+{
+    count_owners(slots, owners, new_owners)
+        + count_words(16 * people, sets, new_sets)
+        + count_words(people, minutes, new_minutes)
+        + count_words(2, totals, new_totals)
+}
+
+// Lists these repairs, part by part.
+pub(crate) fn list_repairs(
+    people: usize,
+    slots: usize,
+    frozen: &[u64],
+    owners: &[u8],
+    sets: &[u64],
+    minutes: &[u64],
+    totals: &[u64],
+    new_owners: &[u8],
+    new_sets: &[u64],
+    new_minutes: &[u64],
+    new_totals: &[u64],
+    list: &mut [u64],
+)
+    requires { ⌜ (people ≤ 32) × (slots ≤ 1024) × (5 * howMany people slots (rota (now owners) (derived (now sets) (now minutes) (now totals)))
+        (rota (now «new_owners») (derived (now «new_sets») (now «new_minutes») (now «new_totals»))) ≤ length (now list)) ⌝ }
+    ensures { λ _. ⌜ now (list .exit) ≡ onto (numbers (repairs people slots (now (frozen .entry)) (rota (now (owners .entry)) (derived (now
+        (sets .entry)) (now (minutes .entry)) (now (totals .entry)))) (rota (now («new_owners» .entry)) (derived (now («new_sets» .entry)) (now
+        («new_minutes» .entry)) (now («new_totals» .entry)))))) (now (list .entry)) ⌝ }
+{
+    let n = list_owners(slots, frozen, owners, new_owners, 0, list);
+    let n = list_words(1, 16 * people, sets, new_sets, n, list);
+    let n = list_words(2, people, minutes, new_minutes, n, list);
+    list_words(3, 2, totals, new_totals, n, list);
 }

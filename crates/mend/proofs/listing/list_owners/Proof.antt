@@ -3,7 +3,7 @@ use mathlib.Core.Path.{_≡_, refl, sym, ap, _∙_}
 use Prim.Native.Nat.{ℕ, _-_, _≤_}
 use native.Mathlib.Omega.{arith}
 use borrow.Author.Needs.{needs}
-use Rattle.mend.specs.Repairs.{slotFlag}
+use Rattle.mend.specs.Repairs.{flagOf}
 use Rattle.mend.proofs.ListLaws.{differs-no, differs-yes, repair-is, Reached, reached-none, reached-out, reached-room, reached-in, reached-end}
 use Rattle.mend.proofs.listing.list_owners.Statement.{statement}
 use Rattle.mend.proofs.listing.list_owners.Tie as tie
@@ -11,7 +11,7 @@ use Rattle.mend.proofs.listing.list_owners.Reads as reads
 use Rattle.mend.proofs.listing.list_owners.Lts as lts
 
 abbrev Inv-loop : tie.InvT-loop
-Inv-loop n frozen old new at list₀ done₀ k₀ list done k = Reached 0 (slotFlag frozen) old new n at list₀ k done list
+Inv-loop n frozen old new at list₀ done₀ k₀ list done k = Reached 0 (flagOf frozen 0) old new n at list₀ k done list
 
 abbrev μ-loop : tie.MeasureT-loop
 μ-loop n frozen old new at list₀ done₀ k₀ list done k = n - k
@@ -48,7 +48,7 @@ loop-again-2 c =
     let is = b .before .owner-at2 .ensures in
     reached-in _ _ _ _ _ _ _ _ _ _ (b .before .before .before .before .loop .inv) (b .before .before .before .loop-test .taken)
     (differs-yes _ _ _ _ _ was is (b .if1 .left)) _
-    (repair-is 0 (slotFlag (a .frozen .now)) (a .old .now) (a .new .now) _ _ _ _ (c .before .before .before .before .before .wide .ensures ∙ was) (c .before .before .before .before .wide2 .ensures ∙ is)
+    (repair-is 0 (flagOf (a .frozen .now) 0) (a .old .now) (a .new .now) _ _ _ _ (c .before .before .before .before .before .wide .ensures ∙ was) (c .before .before .before .before .wide2 .ensures ∙ is)
     (c .before .before .before .flag-of .ensures)) _ (c .before .before .write-repair .kept .1 .0) (c .before .before .write-repair .ensures)
 
 same-length : tie.Need-same-length Inv-loop μ-loop

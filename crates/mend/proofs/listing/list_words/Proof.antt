@@ -3,7 +3,6 @@ use mathlib.Core.Path.{_≡_, refl, sym, ap, _∙_}
 use Prim.Native.Nat.{ℕ, _-_, _≤_}
 use native.Mathlib.Omega.{arith}
 use borrow.Author.Needs.{needs}
-use Rattle.mend.specs.Repairs.{noFlag}
 use Rattle.mend.proofs.ListLaws.{differs-no, differs-yes, repair-is, Reached, reached-none, reached-out, reached-room, reached-in, reached-end}
 use Rattle.mend.proofs.listing.list_words.Statement.{statement}
 use Rattle.mend.proofs.listing.list_words.Tie as tie
@@ -11,7 +10,7 @@ use Rattle.mend.proofs.listing.list_words.Reads as reads
 use Rattle.mend.proofs.listing.list_words.Lts as lts
 
 abbrev Inv-loop : tie.InvT-loop
-Inv-loop part n old new at list₀ done₀ k₀ list done k = Reached part noFlag old new n at list₀ k done list
+Inv-loop part n old new at list₀ done₀ k₀ list done k = Reached part (λ _. 0) old new n at list₀ k done list
 
 abbrev μ-loop : tie.MeasureT-loop
 μ-loop part n old new at list₀ done₀ k₀ list done k = n - k
@@ -48,7 +47,7 @@ loop-again-2 c =
     let is = b .before .word-at2 .ensures in
     reached-in _ _ _ _ _ _ _ _ _ _ (b .before .before .before .before .loop .inv) (b .before .before .before .loop-test .taken)
     (differs-yes _ _ _ _ _ was is (b .if1 .left)) _
-    (repair-is (a .part) noFlag (a .old .now) (a .new .now) _ _ _ _ was is refl) _ (c .before .before .write-repair .kept .1 .0) (c .before .before .write-repair .ensures)
+    (repair-is (a .part) (λ _. 0) (a .old .now) (a .new .now) _ _ _ _ was is refl) _ (c .before .before .write-repair .kept .1 .0) (c .before .before .write-repair .ensures)
 
 same-length : tie.Need-same-length Inv-loop μ-loop
 same-length c = c .before .loop .inv .long
