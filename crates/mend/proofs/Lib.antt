@@ -3,3 +3,4 @@ pub mod Cleared
 pub mod Kept
 pub mod ListLaws
 pub mod Made
+pub mod Ending

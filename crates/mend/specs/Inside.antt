@@ -1,16 +1,19 @@
 -- What private functions of mend alone cite: how far the list is written, and what is worked out beside what was found. Assumes nothing.
 use mathlib.Core.Path.{_≡_}
-use mathlib.Core.Bool.{true}
+use mathlib.Core.Bool.{true, cond}
 use mathlib.Core.List.{List, _++_}
 use Prim.Native.Nat.{ℕ, _+_, _*_, _≤_, _<_}
+use lib.Dec.{leb}
 use lib.ListN.{length, getD}
 use Rattle.paper.specs.Limits.{peopleOk, slotCountOk}
 use Rattle.paper.specs.Count.{count, over, onto}
+use Rattle.slotset.specs.declared.Number.the-variants as number
 use Rattle.slots.specs.Lent.{slotRoomOk, slotsOk}
 use Rattle.units.specs.Units.{unitsOk}
-use Rattle.owners.specs.Derived.{Plan, setsFrom, worked, totalOf}
+use Rattle.owners.specs.Derived.{Plan, derived, setsFrom, worked, totalOf}
 use Rattle.mend.specs.Mended.{mended}
-use Rattle.mend.specs.Repairs.{Rota, column, entries, Repair, differsAt, repairsOf, numbers}
+use Rattle.mend.specs.Repairs.{Rota, rota, column, entries, Repair, differsAt, repairsOf, repairs, numbers}
+use Rattle.mend.specs.Answers.{Outcome}
 
 -- the list, which was `first`, holds the n repairs of rs; what lies past them stays
 pub record Listed (rs : List Repair) (first : List ℕ) (n : ℕ) (list : List ℕ) : Type 0 where
@@ -58,3 +61,16 @@ pub record WorkedOut (P : Plan) (avail : List ℕ) (units : ℕ) (begins o s o�
   pub sets : (j : ℕ) → j < 16 * P .people → getD s′ j 0 ≡ getD (setsFrom (P .people) (P .slots) (mended P avail units begins o) s) j 0
   pub minutes : (p : ℕ) → p < P .people → getD m′ p 0 ≡ worked P (mended P avail units begins o) p
   pub totals : (i : ℕ) → i < 2 → getD t′ i 0 ≡ totalOf P (mended P avail units begins o) i
+
+-- a new rota is written where another was found, with the list of what differs; 2 where that has no room, and then nothing is written
+abbrev pub takenOver : ℕ → ℕ → Rota → Rota → Rota
+takenOver people slots found new =
+    rota (copied slots (new .owners) (found .owners)) (derived (copied (16 * people) (new .derived .sets) (found .derived .sets))
+    (copied people (new .derived .minutes) (found .derived .minutes)) (copied 2 (new .derived .totals) (found .derived .totals)))
+
+unfoldable pub writeOut : ℕ → ℕ → List ℕ → Rota → Rota → List ℕ → Outcome
+writeOut people slots frozen found new l =
+    let n = howMany people slots found new in
+    cond (leb (5 * n) (length l))
+    (record { answer = number.Is n; rota = takenOver people slots found new; list = onto (numbers (repairs people slots frozen found new)) l })
+    (record { answer = number.Refused 2; rota = found; list = l })

@@ -6,14 +6,14 @@ use crate::listing::list_repairs;
 use paper::Refusal;
 use slotset::Number;
 ghost use mathlib.Core.Path.{_≡_};
-ghost use Prim.Native.Nat.{_*_, _≤_};
+ghost use Prim.Native.Nat.{_≤_};
 ghost use lib.ListN.{length};
 ghost use Rattle.paper.specs.Limits.{numberOf};
 ghost use Rattle.paper.specs.Rows.{refusalOf};
 ghost use Rattle.owners.specs.Derived.{plan, derived};
 ghost use Rattle.mend.specs.Repairs.{rota};
 ghost use Rattle.mend.specs.Answers.{foundRow, mending, Ended};
-ghost use Rattle.mend.specs.Inside.{copied, Mendable, NewRoom, WorkedOut};
+ghost use Rattle.mend.specs.Inside.{copied, takenOver, Mendable, NewRoom, WorkedOut, writeOut};
 
 // Copies the first n owners.
 fn copy_owners(n: usize, from: &[u8], to: &mut [u8])
@@ -94,14 +94,81 @@ fn take_over(
     requires { ⌜ people ≤ 32 ⌝ }
     requires { ⌜ NewRoom people slots (now «new_owners») (now «new_sets») (now «new_minutes») (now «new_totals») ⌝ }
     requires { ⌜ NewRoom people slots (now owners) (now sets) (now minutes) (now totals) ⌝ }
-    ensures { λ _. ⌜ rota (now (owners .exit)) (derived (now (sets .exit)) (now (minutes .exit)) (now (totals .exit))) ≡ rota (copied slots
-        (now («new_owners» .entry)) (now (owners .entry))) (derived (copied (16 * people) (now («new_sets» .entry)) (now (sets .entry))) (copied
-        people (now («new_minutes» .entry)) (now (minutes .entry))) (copied 2 (now («new_totals» .entry)) (now (totals .entry)))) ⌝ }
+    ensures { λ _. ⌜ rota (now (owners .exit)) (derived (now (sets .exit)) (now (minutes .exit)) (now (totals .exit))) ≡ takenOver people slots
+        (rota (now (owners .entry)) (derived (now (sets .entry)) (now (minutes .entry)) (now (totals .entry)))) (rota (now («new_owners» .entry))
+        (derived (now («new_sets» .entry)) (now («new_minutes» .entry)) (now («new_totals» .entry)))) ⌝ }
 {
     copy_owners(slots, new_owners, owners);
     copy_words(paper::SET_WORDS * people, new_sets, sets);
     copy_words(people, new_minutes, minutes);
     copy_words(2, new_totals, totals);
+}
+
+// Writes what is new where what was found stood, and lists what differs; 2 where the list has no room, and then nothing is written.
+fn write_out(
+    people: usize,
+    slots: usize,
+    frozen: &[u64],
+    new_owners: &[u8],
+    new_sets: &[u64],
+    new_minutes: &[u64],
+    new_totals: &[u64],
+    owners: &mut [u8],
+    sets: &mut [u64],
+    minutes: &mut [u64],
+    totals: &mut [u64],
+    list: &mut [u64],
+) -> Number
+    requires { ⌜ (people ≤ 32) × (slots ≤ 1024) ⌝ }
+    requires { ⌜ NewRoom people slots (now «new_owners») (now «new_sets») (now «new_minutes») (now «new_totals») ⌝ }
+    requires { ⌜ NewRoom people slots (now owners) (now sets) (now minutes) (now totals) ⌝ }
+    ensures { λ r. ⌜ Ended (writeOut people slots (now (frozen .entry)) (rota (now (owners .entry)) (derived (now (sets .entry)) (now (minutes
+        .entry)) (now (totals .entry)))) (rota (now («new_owners» .entry)) (derived (now («new_sets» .entry)) (now («new_minutes» .entry)) (now
+        («new_totals» .entry)))) (now (list .entry))) r (rota (now (owners .exit)) (derived (now (sets .exit)) (now (minutes .exit)) (now
+        (totals .exit)))) (now (list .exit)) ⌝ }
+{
+    let n = count_repairs(
+        people,
+        slots,
+        owners,
+        sets,
+        minutes,
+        totals,
+        new_owners,
+        new_sets,
+        new_minutes,
+        new_totals,
+    );
+    if 5 * n <= list.len() {
+        list_repairs(
+            people,
+            slots,
+            frozen,
+            owners,
+            sets,
+            minutes,
+            totals,
+            new_owners,
+            new_sets,
+            new_minutes,
+            new_totals,
+            list,
+        );
+        take_over(
+            people,
+            slots,
+            new_owners,
+            new_sets,
+            new_minutes,
+            new_totals,
+            owners,
+            sets,
+            minutes,
+            totals,
+        );
+        return Number::Is(n);
+    }
+    Number::Refused(2)
 }
 
 // Mends a rota that nothing stands against but the list's room: 2 where the repairs don't fit it, and then nothing is written.
@@ -146,48 +213,20 @@ fn mend_found(
         &mut new_minutes,
         &mut new_totals,
     );
-    let n = count_repairs(
+    write_out(
         people,
         slots,
-        owners,
-        sets,
-        minutes,
-        totals,
+        frozen,
         &new_owners,
         &new_sets,
         &new_minutes,
         &new_totals,
-    );
-    if 5 * n <= list.len() {
-        list_repairs(
-            people,
-            slots,
-            frozen,
-            owners,
-            sets,
-            minutes,
-            totals,
-            &new_owners,
-            &new_sets,
-            &new_minutes,
-            &new_totals,
-            list,
-        );
-        take_over(
-            people,
-            slots,
-            &new_owners,
-            &new_sets,
-            &new_minutes,
-            &new_totals,
-            owners,
-            sets,
-            minutes,
-            totals,
-        );
-        return Number::Is(n);
-    }
-    Number::Refused(2)
+        owners,
+        sets,
+        minutes,
+        totals,
+        list,
+    )
 }
 
 // What stands against mending: 1, 2 or 9.
