@@ -230,6 +230,9 @@ module _ (people slots : ℕ) (o s m t o′ s′ m′ t′ : List ℕ) where
         count-few 2 _ t t′ refl,
       )
 
+  pub many-fits : (n : ℕ) → n ≡ howMany people slots found new → people ≤ 32 → slots ≤ 1024 → n ≤ 1570
+  many-fits n e h g = omega (arith, many-few h g)
+
   -- as many as are listed
   pub many-listed : (frozen : List ℕ) → length (repairs people slots frozen found new) ≡ howMany people slots found new
   unfolding howMany repairs

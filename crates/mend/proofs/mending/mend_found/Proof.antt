@@ -1,92 +1,55 @@
+-- `mend::mending::mend_found` meets its contract. Assumes nothing.
+use mathlib.Core.Path.{_∙_}
+use Prim.Native.Nat.{ℕ}
 use borrow.Author.Needs.{needs}
+use lib.ListN.{length-replicate}
+use Rattle.mend.proofs.Ending.{mendable, found-room, people-few, slots-few, local-room, ended-as, writes-due}
 use Rattle.mend.proofs.mending.mend_found.Statement.{statement}
 use Rattle.mend.proofs.mending.mend_found.Tie as tie
-use Rattle.mend.proofs.mending.mend_found.Reads as reads
-use Rattle.mend.proofs.mending.mend_found.Lts as lts
-use Rattle.mend.proofs.mending.work_out.Reads as work-out-reads
-use Rattle.mend.proofs.mending.write_out.Reads as write-out-reads
 
--- src/mending.rt:211:9
-slice-aggregate-work-out : tie.Need-slice-aggregate-work-out
-slice-aggregate-work-out c = search needs
-
--- src/mending.rt:212:9
-slice-aggregate-work-out-2 : tie.Need-slice-aggregate-work-out-2
-slice-aggregate-work-out-2 c = search needs
-
--- src/mending.rt:213:9
-slice-aggregate-work-out-3 : tie.Need-slice-aggregate-work-out-3
-slice-aggregate-work-out-3 c = search needs
-
--- src/mending.rt:214:9
-slice-aggregate-work-out-4 : tie.Need-slice-aggregate-work-out-4
-slice-aggregate-work-out-4 c = search needs
-
--- src/mending.rt:201:5
 work-out-requires : tie.Need-work-out-requires
-work-out-requires c κs = ?
+work-out-requires c κs =
+    let z = c .before .before .before .before .before .before .before .before .before .before .before .before .before .before .before .before .pre in
+    (
+      mendable _ _ _ _ _ _ z,
+      local-room _ _ _ _ _ _ z _ _ _ _ (length-replicate {A = ℕ} 1024 0) (length-replicate {A = ℕ} 512 0) (length-replicate {A = ℕ} 32 0)
+          (length-replicate {A = ℕ} 2 0),
+    )
 
--- src/mending.rt:220:9
-slice-aggregate-write-out : tie.Need-slice-aggregate-write-out
-slice-aggregate-write-out c = search needs
-
--- src/mending.rt:221:9
-slice-aggregate-write-out-2 : tie.Need-slice-aggregate-write-out-2
-slice-aggregate-write-out-2 c = search needs
-
--- src/mending.rt:222:9
-slice-aggregate-write-out-3 : tie.Need-slice-aggregate-write-out-3
-slice-aggregate-write-out-3 c = search needs
-
--- src/mending.rt:223:9
-slice-aggregate-write-out-4 : tie.Need-slice-aggregate-write-out-4
-slice-aggregate-write-out-4 c = search needs
-
--- src/mending.rt:216:5
 write-out-requires : tie.Need-write-out-requires
-write-out-requires c κs = ?
+write-out-requires c κs =
+    let z = c .before .before .before .before .before .before .before .before .before .before .before .before .before .before .before .before .before .before .before .before .before .before .before .before .before .before .before .before .before .before .pre in
+    let w = c .before .before .before .before .before .before .before .before .before .before .before .before .before .work-out in
+    let new = local-room _ _ _ _ _ _ z _ _ _ _ (w .kept .1 .1 .1 .1 .1 .1 .1 .1 .1 .0 ∙ length-replicate {A = ℕ} 1024 0)
+    (w .kept .1 .1 .1 .1 .1 .1 .1 .1 .1 .1 .0 ∙ length-replicate {A = ℕ} 512 0)
+    (w .kept .1 .1 .1 .1 .1 .1 .1 .1 .1 .1 .1 .0 ∙ length-replicate {A = ℕ} 32 0)
+    (w .kept .1 .1 .1 .1 .1 .1 .1 .1 .1 .1 .1 .1 .0 ∙ length-replicate {A = ℕ} 2 0) in
+    ((people-few _ _ _ _ _ _ z, slots-few _ _ _ _ _ _ z), (new, found-room _ _ _ _ _ _ z))
 
--- src/mending.rt:175:1
-same-length : tie.Need-same-length
-same-length c = search needs
-
--- src/mending.rt:175:1
-same-length-2 : tie.Need-same-length-2
-same-length-2 c = search needs
-
--- src/mending.rt:175:1
-same-length-3 : tie.Need-same-length-3
-same-length-3 c = search needs
-
--- src/mending.rt:175:1
-same-length-4 : tie.Need-same-length-4
-same-length-4 c = search needs
-
--- src/mending.rt:175:1
-same-length-5 : tie.Need-same-length-5
-same-length-5 c = search needs
-
--- src/mending.rt:175:1
 returns : tie.Need-returns
-returns c = ?
+returns c =
+    let w = c .before .before .before .before .before .before .before .before .before .before in
+    let o = w .before .before .before .before .before .before .before .before .before .before .before .before .before .before in
+    let a = o .before .before .before .before .before .before .before .before .before .before .before .before .before .before .before .before .before in
+    ended-as _ _ _ _ _ (writes-due _ _ _ _ _ _ (a .pre) _ _ _ _ (o .work-out .ensures) _) (w .write-out .ensures)
 
 pub mend-found-spec : {M : Type 1} → statement M
 mend-found-spec =
     tie.close
     (tie.spec
-    slice-aggregate-work-out
-    slice-aggregate-work-out-2
-    slice-aggregate-work-out-3
-    slice-aggregate-work-out-4
+    (λ c. search needs)
+    (λ c. search needs)
+    (λ c. search needs)
+    (λ c. search needs)
     work-out-requires
-    slice-aggregate-write-out
-    slice-aggregate-write-out-2
-    slice-aggregate-write-out-3
-    slice-aggregate-write-out-4
+    (λ c. search needs)
+    (λ c. search needs)
+    (λ c. search needs)
+    (λ c. search needs)
     write-out-requires
-    same-length
-    same-length-2
-    same-length-3
-    same-length-4
-    same-length-5
+    (λ c. search needs)
+    (λ c. search needs)
+    (λ c. search needs)
+    (λ c. search needs)
+    (λ c. search needs)
     returns)
