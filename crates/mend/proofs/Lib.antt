@@ -4,3 +4,4 @@ pub mod Kept
 pub mod ListLaws
 pub mod Made
 pub mod Ending
+pub mod Told

@@ -115,10 +115,12 @@ withColumn R (suc (suc (suc p))) l = rota (R .owners) (derived (R .derived .sets
 abbrev pub put : Rota → ℕ → ℕ → ℕ → Rota
 put R part place v = withColumn R part (set (column R part) place v)
 
-unfoldable pub applied : List Repair → Rota → Rota
-applied [] R = R
-applied (r ∷ rs) R = applied rs (put R (r .part) (r .place) (r .new))
+unfoldable pub carried : (Repair → ℕ) → List Repair → Rota → Rota
+carried value [] R = R
+carried value (r ∷ rs) R = carried value rs (put R (r .part) (r .place) (value r))
 
-unfoldable pub undone : List Repair → Rota → Rota
-undone [] R = R
-undone (r ∷ rs) R = undone rs (put R (r .part) (r .place) (r .old))
+abbrev pub applied : List Repair → Rota → Rota
+applied = carried (λ r. r .new)
+
+abbrev pub undone : List Repair → Rota → Rota
+undone = carried (λ r. r .old)
