@@ -5,3 +5,4 @@ pub mod ListLaws
 pub mod Made
 pub mod Ending
 pub mod Told
+pub mod Meaning
