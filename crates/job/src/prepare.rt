@@ -137,6 +137,7 @@ pub(crate) fn prepare(file: &[u8], counts: [usize; 8], blocks: [usize; 8]) -> Pr
     let targets = t.targets;
     let sets = r.sets;
     let minutes = r.minutes;
+    let totals = r.totals;
     let figures = first_number(t.number, u.number);
     let rota = first_number(o.number, r.number);
     let rest = first_number(figures, rota);
@@ -156,5 +157,6 @@ pub(crate) fn prepare(file: &[u8], counts: [usize; 8], blocks: [usize; 8]) -> Pr
         owners,
         sets,
         minutes,
+        totals,
     }
 }

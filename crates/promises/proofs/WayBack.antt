@@ -10,7 +10,7 @@ use lib.Dec.{ltb}
 use lib.ListN.{length, getD, drop, replicate, length-replicate, getD-replicate, List·getD-append, List·getD-eq-default}
 use Rattle.paper.specs.Limits.{nobody, peopleOk, slotCountOk, countsOk}
 use Rattle.paper.specs.Bits.{bitOf}
-use Rattle.paper.specs.Count.{all, allIn, among, sum, fill, onto}
+use Rattle.paper.specs.Count.{all, allIn, among, sum, fill, onto, count}
 use Rattle.paper.proofs.Logic.{lt-or-ge}
 use Rattle.paper.proofs.Count.{all-each}
 use Rattle.slotset.specs.Slots.{slot}
@@ -18,8 +18,8 @@ use Rattle.slots.specs.Lent.{slotOk, prevEnd, slotOkAt, slotRoomOk, slotsOk, mi
 use Rattle.units.specs.Units.{unitEnd, startOk, unitsOk}
 use Rattle.units.specs.Domains.{available, able, unfrozen, clear, unitFrozen}
 use Rattle.units.proofs.Units.{units-within}
-use Rattle.owners.specs.Derived.{Derived, knownBy, portion, worked, held, afresh}
-use Rattle.owners.specs.Recount.{knownAt, availableFor, availableAt, evenAt, setSlotAt, setAt, minutesOkAt, recounts}
+use Rattle.owners.specs.Derived.{Derived, knownBy, portion, worked, held, afresh, uncovered, unassigned, totalOf}
+use Rattle.owners.specs.Recount.{knownAt, availableFor, availableAt, evenAt, setSlotAt, setAt, minutesOkAt, recounts, totalOkAt}
 use Rattle.owners.specs.Entries.{Outcome}
 use Rattle.owners.proofs.Entered.{recount-step}
 use Rattle.owners.proofs.Steps.{afresh-again, afresh-same, afresh-fit}
@@ -297,7 +297,7 @@ never-unowned c e k h none owned w n q =
 
 three-passes : Accepted threeUnits
 unfolding countsOk peopleOk slotCountOk slotsOk slotRoomOk slotOkAt slotOk prevEnd all unitsOk startOk roomOk
-    recounts allIn knownAt knownBy availableAt availableFor available evenAt unitEnd setAt setSlotAt held minutesOkAt worked
+    recounts allIn knownAt knownBy availableAt availableFor available evenAt unitEnd setAt setSlotAt held minutesOkAt totalOkAt totalOf uncovered unassigned count worked
     portion sum minutesAt slot bitOf
 three-passes = record {
   counts = refl;
@@ -370,8 +370,8 @@ runs-dont =
 
 two-accepted : noOf swapTwo ≡ 0
 two-accepted =
-    accepted apart 0 1 (35 ∷ []) (0 ∷ []) (1 ∷ []) (record { owners = []; sets = []; minutes = []; answers = 9 ∷ [] }) refl refl refl refl
-    (omega arith) (apart-recounts 0 1 (35 ∷ []) (0 ∷ []) (1 ∷ []) (record { owners = []; sets = []; minutes = []; answers = 9 ∷ [] }))
+    accepted apart 0 1 (35 ∷ []) (0 ∷ []) (1 ∷ []) (record { owners = []; sets = []; minutes = []; totals = []; answers = 9 ∷ [] }) refl refl refl refl
+    (omega arith) (apart-recounts 0 1 (35 ∷ []) (0 ∷ []) (1 ∷ []) (record { owners = []; sets = []; minutes = []; totals = []; answers = 9 ∷ [] }))
 
 two-words : Words (swapTwo .derived .sets)
 unfolding all
@@ -383,11 +383,11 @@ one-only-breaks C promise W =
     omega (arith, sym (W .no-move) ∙ back .acts)
 
 half-accepted : noOf halfOwned ≡ 0
-unfolding recounts all allIn knownAt knownBy availableAt availableFor available evenAt unitEnd setAt setSlotAt held minutesOkAt worked
+unfolding recounts all allIn knownAt knownBy availableAt availableFor available evenAt unitEnd setAt setSlotAt held minutesOkAt totalOkAt totalOf uncovered unassigned count worked
     portion sum minutesAt slot bitOf
 half-accepted =
-    accepted (record { first = 255; second = 1; words0 = 0; words1 = 2; minutes0 = 0; minutes1 = 60 }) 0 1 (0 ∷ []) (0 ∷ []) (0 ∷ [])
-    (record { owners = []; sets = []; minutes = []; answers = 9 ∷ [] }) refl refl refl refl (omega arith) refl
+    accepted (record { first = 255; second = 1; words0 = 0; words1 = 2; minutes0 = 0; minutes1 = 60; uncovered = 60; unassigned = 1 }) 0 1 (0 ∷ []) (0 ∷ []) (0 ∷ [])
+    (record { owners = []; sets = []; minutes = []; totals = []; answers = 9 ∷ [] }) refl refl refl refl (omega arith) refl
 
 half-plays : ownersIn halfOwned ≡ 0 ∷ 1 ∷ []
 unfolding drawsOf ownersAfter step decided anyOf reassigned picked domainOf among unowned ownerOf

@@ -21,8 +21,8 @@ use Rattle.slots.specs.Lent.{slotOk, prevEnd, slotOkAt, slotRoomOk, slotsOk, mi
 use Rattle.units.specs.Units.{unitEnd, startOk, unitsOk}
 use Rattle.units.proofs.Units.{units-within}
 use Rattle.units.specs.Domains.{available, able, unfrozen, clear, unitFrozen}
-use Rattle.owners.specs.Derived.{knownBy, portion, worked, held, afresh}
-use Rattle.owners.specs.Recount.{firstFail, knownAt, availableFor, availableAt, evenAt, setSlotAt, setAt, minutesOkAt, recountTests}
+use Rattle.owners.specs.Derived.{knownBy, portion, worked, held, afresh, uncovered, unassigned, totalOf}
+use Rattle.owners.specs.Recount.{firstFail, knownAt, availableFor, availableAt, evenAt, setSlotAt, setAt, minutesOkAt, recountTests, totalOkAt}
 use Rattle.owners.specs.Entries as state
 use Rattle.owners.proofs.Made.{afresh-owners}
 use Rattle.owners.proofs.Entered.{recount-says, recount-asks}
@@ -325,7 +325,7 @@ example : wayFor noDraw record { remembered = 1 ∷ 1 ∷ []; draws = replicate 
     ≡ record { answer = way.Draws 1; draws = 0 ∷ 9 ∷ []; firsts = 0 ∷ 9 ∷ []; seconds = 1 ∷ 9 ∷ [] }
 unfolding wayBack wayRow refusalOf state.recountRow state.lentRow recountTests rememberedRow wayRoomOk columnsEnough wayOf drawsWritten
     peopleOk slotCountOk slotRoomOk slotsOk slotOkAt slotOk prevEnd unitsOk startOk all allIn among count sum onto firstFail knownAt knownBy
-    availableFor availableAt available evenAt unitEnd setAt setSlotAt held minutesOkAt worked portion minutesAt slot bitOf
+    availableFor availableAt available evenAt unitEnd setAt setSlotAt held minutesOkAt totalOkAt totalOf uncovered unassigned count worked portion minutesAt slot bitOf
     firstInWay inTheWay differs differing unowned ownerOf frozenUnit unitFrozen clear unfrozen fitsUnit able back placeIn kindsOf firstsOf
     secondsOf
 example = refl
