@@ -48,11 +48,8 @@ const TOTALS: usize = 72;
 // What is added to a refusal's number.
 const REFUSED: usize = 60000;
 
-// Numbers of the longest list.
-const LONGEST: usize = 90;
-
 // A rota, the list, and what was answered.
-struct Mended {
+struct After {
     number: Number,
     owners: [u8; 8],
     sets: [u64; 64],
@@ -106,6 +103,10 @@ fn totals_again(a: [u64; 2]) -> [u64; 2] {
     a
 }
 
+fn list_again(a: [u64; 90]) -> [u64; 90] {
+    a
+}
+
 // Mends a rota with the slots, units, availability and flags of a record.
 fn mend_into(
     b: &[u8],
@@ -142,23 +143,30 @@ fn mend_into(
     )
 }
 
+// The same, with as much of a list as the room says.
+fn mend_with(
+    b: &[u8],
+    who: &mut [u8],
+    own: &mut [u64],
+    worked: &mut [u64],
+    open: &mut [u64],
+    list: &mut [u64],
+    room: usize,
+) -> Number {
+    let k = at_most(room, list.len());
+    mend_into(b, who, own, worked, open, &mut list[..k])
+}
+
 // The rota of a record mended; the list was filled with sevens.
-fn mended(b: &[u8]) -> Mended {
+fn mended(b: &[u8]) -> After {
     let mut who = owners_at(b, FOUND_AT);
     let mut own = sets_at(b, FOUND_AT);
     let mut worked = minutes_at(b, FOUND_AT);
     let mut open = totals_at(b, FOUND_AT);
     let mut list = [7u64; 90];
-    let room = at_most(half(b, ROOM_AT), LONGEST);
-    let number = mend_into(
-        b,
-        &mut who,
-        &mut own,
-        &mut worked,
-        &mut open,
-        &mut list[..room],
-    );
-    Mended {
+    let room = half(b, ROOM_AT);
+    let number = mend_with(b, &mut who, &mut own, &mut worked, &mut open, &mut list, room);
+    After {
         number,
         owners: who,
         sets: own,
@@ -178,9 +186,9 @@ fn is_due(number: Number, b: &[u8]) -> bool {
 }
 
 // Whether the list is the one that is due.
-fn is_list(list: [u64; 90], b: &[u8]) -> bool {
+fn is_list(list: &[u64], b: &[u8]) -> bool {
     let mut k: usize = 0;
-    while k < LONGEST {
+    while k < list.len() {
         if list[k] == word(b, plus(LIST_AT, 8 * k)) {
             k += 1;
         } else {
@@ -214,14 +222,7 @@ fn is_mended(
             let mut worked = minutes_again(minutes);
             let mut open = totals_again(totals);
             let mut list = [0u64; 1];
-            is_none(mend_into(
-                b,
-                &mut who,
-                &mut own,
-                &mut worked,
-                &mut open,
-                &mut list[..0],
-            ))
+            is_none(mend_with(b, &mut who, &mut own, &mut worked, &mut open, &mut list, 0))
         }
         Number::Refused(_) => true,
     }
@@ -241,7 +242,7 @@ fn compared(tally: Tally, b: &[u8]) -> Tally {
     let t = t.with(same_words(&sets_again(sets), &sets_at(b, DUE_AT)));
     let t = t.with(same_words(&minutes_again(minutes), &minutes_at(b, DUE_AT)));
     let t = t.with(same_words(&totals_again(totals), &totals_at(b, DUE_AT)));
-    let t = t.with(is_list(list, b));
+    let t = t.with(is_list(&list_again(list), b));
     t.with(is_mended(b, number, owners, sets, minutes, totals))
 }
 
