@@ -136,14 +136,14 @@ seven : mendOf (sevenFound 30) ≡ record {
 unfolding mending mendRow foundRow mendedRota repairsDue repairs repairsOf numbers differsAt column entries flagOf numberAs unless numberOf
     peopleOk slotCountOk slotRoomOk slotsOk all slotOkAt slotOk prevEnd unitsOk startOk mended barredCleared unevenCleared leftTo mayKeep
     knownAt availableAt knownBy availableFor available evenAt allIn unitEnd over fill onto among slot bitOf afresh setsFrom held putSlots
-    putSlot withBit totalOf uncovered unassigned count sum portion figures.worked
+    putSlot withBit totalOf uncovered unassigned count sum portion figures.worked minutesAt
 seven = refl
 
 seven-short : mendOf (sevenFound 29) ≡ record { answer = number.Refused 2; rota = sevenFound 29 .found; list = lib.ListN.replicate 29 9 }
 unfolding mending mendRow foundRow mendedRota repairsDue repairs repairsOf numbers differsAt column entries flagOf numberAs unless numberOf
     peopleOk slotCountOk slotRoomOk slotsOk all slotOkAt slotOk prevEnd unitsOk startOk mended barredCleared unevenCleared leftTo mayKeep
     knownAt availableAt knownBy availableFor available evenAt allIn unitEnd over fill onto among slot bitOf afresh setsFrom held putSlots
-    putSlot withBit totalOf uncovered unassigned count sum portion figures.worked
+    putSlot withBit totalOf uncovered unassigned count sum portion figures.worked minutesAt
 seven-short = refl
 
 pub mend-by-rule : MendByRule
