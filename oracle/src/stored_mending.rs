@@ -1,7 +1,6 @@
 //! Records of damaged rotas and what they are mended to: the worked example, then small ones, by the generator's own three steps.
 
 use crate::mending::{example, small, Found, EXAMPLE_REPAIRS};
-use crate::seed::Seed;
 use crate::stored::{filled16, filled32, half, records, words, Stored};
 
 /// People and slots of a record, at most; numbers of its list; what stands in that before.
