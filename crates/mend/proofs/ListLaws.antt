@@ -11,9 +11,11 @@ use lib.ListN.{length, drop, getD, set, length-map, length-append, length-drop}
 use lib.Seq.{sets, append-snoc}
 use Rattle.paper.specs.Count.{among, count, onto}
 use Rattle.paper.proofs.Logic.{by-test}
-use Rattle.paper.proofs.Count.{among-in, among-out, among-count, count-none, count-in, count-out, sum-rises, onto-none, onto-more, among-le}
+use Rattle.paper.proofs.Count.{among-in, among-out, among-count, count-none, count-in}
+use Rattle.paper.proofs.Count.{count-out, sum-rises, onto-none, onto-more, among-le}
 use Rattle.owners.specs.Derived.{derived}
-use Rattle.mend.specs.Repairs.{Rota, rota, column, entries, flagOf, Repair, differsAt, repairAt, repairsOf, repairsIn, repairs, numbers}
+use Rattle.mend.specs.Repairs.{Rota, rota, column, entries, flagOf, Repair}
+use Rattle.mend.specs.Repairs.{differsAt, repairAt, repairsOf, repairsIn, repairs, numbers}
 use Rattle.mend.specs.Inside.{Listed, Lists, differences, howMany}
 
 -- ---- two entries that are read
@@ -69,7 +71,8 @@ repairs-same part flag old new new′ (suc n) f =
     ∙ by-test (differsAt old new n) _
     (λ t.
     repairs-in part flag old new n t
-    ∙ ap₂ (λ (rs : List Repair) (x : ℕ). rs ++ (record { part = part; place = n; old = getD old n 0; new = x; frozen = flag n } ∷ [])) rest e
+    ∙ ap₂ (λ (rs : List Repair) (x : ℕ). rs ++ (record { part = part; place = n; old = getD old n 0; new = x; frozen = flag n } ∷ []))
+        rest e
     ∙ sym (repairs-in part flag old new′ n (sym d ∙ t)))
     (λ u. repairs-out part flag old new n u ∙ rest ∙ sym (repairs-out part flag old new′ n (sym d ∙ u)))
     ∙ ap (λ (k : ℕ). repairsOf part flag k old new′) (add-one n)
@@ -115,7 +118,8 @@ written-one part place old new frozen at list h rs first L =
     let vs : List ℕ = part ∷ place ∷ old ∷ new ∷ frozen ∷ [] in
     let n : 5 * at ≡ length (numbers rs) = omega (arith, numbers-length rs, L .number) in
     let room : 5 * at + 5 ≤ length first
-    = omega (arith, ap length (L .written), length-append (numbers rs) (drop (length (numbers rs)) first), length-drop (length (numbers rs)) first) in
+    = omega (arith, ap length (L .written), length-append (numbers rs) (drop (length (numbers rs)) first), length-drop (length (numbers
+        rs)) first) in
     record {
       number = omega (arith, L .number, length-append rs (r ∷ []));
       written =

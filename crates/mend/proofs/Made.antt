@@ -156,12 +156,37 @@ module _ (P : Plan) (avail : List ℕ) (units : ℕ) (begins o s : List ℕ) (M 
       unfolding fromSlotsRow lentRow knownAt availableAt
       passes =
           let known = each-all (P .slots) (knownAt (P .people) o₃)
-          (λ k h. ap (λ (l : List ℕ). knownAt (P .people) l k) steps ∙ mended-known P avail units begins o₁ (M .units-ok) first-room k h) in
+          (λ k h. ap (λ (l : List ℕ). knownAt (P .people) l k) steps ∙ mended-known P avail units begins o₁ (M .units-ok) first-room k
+              h) in
           let able = each-all (P .slots) (availableAt avail o₃)
-          (λ k h. ap (λ (l : List ℕ). availableAt avail l k) steps ∙ mended-available P avail units begins o₁ (M .units-ok) first-room k h) in
-          all-pass (fromSlotsRow P avail o₃ before)
-          (M .people, (M .count, (refl, (M .room, (le-leb _ _ (M .avail-room), (le-leb _ _ third-room, (le-leb _ _ copy-room, (le-leb _ _ (N
-          .minutes), (le-leb _ _ (N .totals), (refl, (M .lent, (known, (able, tt)))))))))))))
+          (λ k h. ap (λ (l : List ℕ). availableAt avail l k) steps ∙ mended-available P avail units begins o₁ (M .units-ok) first-room
+              k h) in
+          all-pass (fromSlotsRow P avail o₃ before) (
+            M .people,
+            (
+              M .count,
+              (
+                refl,
+                (
+                  M .room,
+                  (
+                    le-leb _ _ (M .avail-room),
+                    (
+                      le-leb _ _ third-room,
+                      (
+                        le-leb _ _ copy-room,
+                        (
+                          le-leb _ _ (N
+                              .minutes),
+                          (le-leb _ _ (N .totals), (refl, (M .lent, (known, (able, tt))))),
+                        ),
+                      ),
+                    ),
+                  ),
+                ),
+              ),
+            ),
+          )
 
       module _ (r : ℕ) (s′ m′ t′ : List ℕ) (E : Ended (fromSlots P avail o₃ before) (placeless r) o₃ (derived s′ m′ t′) []) where
         made : derived s′ m′ t′ ≡ afresh P o₃ before

@@ -82,9 +82,31 @@ module _ (P : Plan) (avail : List ℕ) (units : ℕ) (begins frozen : List ℕ) 
   result-found =
       let h = passed (foundRow P avail units begins frozen R) refl z in
       let n = lengths in
-      all-pass (foundRow P avail units begins frozen after)
-      (h 0, (h 1, (h 2, (h 3, (h 4, (h 5, (ap (leb (P .slots)) (n .0) ∙ h 6, (ap (leb (16 * P .people)) (n .1) ∙ h 7,
-      (ap (leb (P .people)) (n .2) ∙ h 8, (ap (leb 2) (n .3) ∙ h 9, (h 10, (h 11, tt))))))))))))
+      all-pass (foundRow P avail units begins frozen after) (
+        h 0,
+        (
+          h 1,
+          (
+            h 2,
+            (
+              h 3,
+              (
+                h 4,
+                (
+                  h 5,
+                  (
+                    ap (leb (P .slots)) (n .0) ∙ h 6,
+                    (
+                      ap (leb (16 * P .people)) (n .1) ∙ h 7,
+                      (ap (leb (P .people)) (n .2) ∙ h 8, (ap (leb 2) (n .3) ∙ h 9, (h 10, (h 11, tt)))),
+                    ),
+                  ),
+                ),
+              ),
+            ),
+          ),
+        ),
+      )
 
   abbrev front : List Test
   front =
@@ -116,7 +138,8 @@ module _ (P : Plan) (avail : List ℕ) (units : ℕ) (begins frozen : List ℕ) 
         let C = says in
         mended-none P avail units begins (R .owners) (C .known) (C .available)
         (λ u h.
-        each-in (unitStart begins u) (unitEnd (P .slots) units begins u) (λ k. eqb (getD (R .owners) k 0) (getD (R .owners) (unitStart begins u) 0))
+        each-in (unitStart begins u) (unitEnd (P .slots) units begins u) (λ k. eqb (getD (R .owners) k 0) (getD (R .owners) (unitStart
+            begins u) 0))
         (λ k a b. eq-eqb _ _ (C .even u k h a b)))
 
     derived-stays : R .derived ≡ afresh P (R .owners) (R .derived)

@@ -65,7 +65,8 @@ module _ (part : ℕ) (flag : ℕ → ℕ) (old new : List ℕ) where
       (λ t. subst X (sym (ap of (sym (add-one n)) ∙ repairs-in part flag old new n t)) (x t))
       (λ f. subst X (sym (ap of (sym (add-one n)) ∙ repairs-out part flag old new n f)) (y f))
 
-  each-of : (X : Repair → Type 0) (n : ℕ) → ((k : ℕ) → k < n → differsAt old new k ≡ true → X (repairAt part flag old new k)) → Each X (of n)
+  each-of : (X : Repair → Type 0) (n : ℕ) → ((k : ℕ) → k < n → differsAt old new k ≡ true → X (repairAt part flag old new k)) → Each X
+      (of n)
   each-of X zero f = subst (Each X) (sym (repairs-none part flag old new)) tt
   each-of X (suc n) f =
       let rest = each-of X n (λ k h. f k (omega arith)) in
@@ -101,7 +102,8 @@ module _ (people slots : ℕ) (frozen : List ℕ) (found new : Rota) where
   says : (p : ℕ) → p < 4 → Each (Says people slots frozen found new) (in′ p)
   says p h =
       each-of p (flagOf frozen p) (column found p) (column new p) (Says people slots frozen found new) (entries people slots p)
-      (λ k g t. record { part = h; place = g; old = refl; new = refl; differ = differ-other (column found p) (column new p) k t; frozen = refl })
+      (λ k g t. record { part = h; place = g; old = refl; new = refl; differ = differ-other (column found p) (column new p) k t; frozen
+          = refl })
 
   crosses : (p q : ℕ) → p < q → Each (λ r. Each (Before r) (in′ q)) (in′ p)
   crosses p q h =
@@ -131,7 +133,8 @@ module _ (people slots : ℕ) (frozen : List ℕ) (found new : Rota) where
       record {
         only =
             each-append S (in′ 0) most (says 0 (omega arith))
-            (each-append S (in′ 1) last (says 1 (omega arith)) (each-append S (in′ 2) (in′ 3) (says 2 (omega arith)) (says 3 (omega arith))));
+            (each-append S (in′ 1) last (says 1 (omega arith)) (each-append S (in′ 2) (in′ 3) (says 2 (omega arith)) (says 3 (omega
+                arith))));
         every = each-part;
         rises =
             rises-append (in′ 0) most (rising 0) later

@@ -54,8 +54,13 @@ pub(crate) fn count_words(n: usize, old: &[u64], new: &[u64]) -> usize
 // Writes one repair more, after the first `at`.
 fn write_repair(at: usize, list: &mut [u64], part: u64, place: u64, old: u64, new: u64, frozen: u64)
     requires { ⌜ 5 * at + 5 ≤ length (now list) ⌝ }
-    ensures { λ _. ⌜ ((rs : List Repair) (first : List ℕ) → Listed rs first at (now (list .entry)) → Listed (rs ++ (record { part = part;
-        place = place; old = old; new = new; frozen = frozen } ∷ [])) first (at + 1) (now (list .exit))) ⌝ }
+    ensures { λ _. ⌜ ((rs : List Repair) (first : List ℕ) → Listed rs first at (now (list .entry)) → Listed (rs ++ (record {
+      part = part;
+      place = place;
+      old = old;
+      new = new;
+      frozen = frozen;
+    } ∷ [])) first (at + 1) (now (list .exit))) ⌝ }
 {
     let i = 5 * at;
     list[i] = part;
@@ -100,7 +105,15 @@ pub(crate) fn list_owners(
         if was == is {
             k += 1;
         } else {
-            write_repair(done, list, 0, k as u64, wide(was), wide(is), flag_of(frozen, k));
+            write_repair(
+                done,
+                list,
+                0,
+                k as u64,
+                wide(was),
+                wide(is),
+                flag_of(frozen, k),
+            );
             done += 1;
             k += 1;
         }
@@ -151,7 +164,8 @@ pub(crate) fn count_repairs(
 ) -> usize
     requires { ⌜ (people ≤ 32) × (slots ≤ 1024) ⌝ }
     ensures { λ r. ⌜ r ≡ howMany people slots (rota (now (owners .entry)) (derived (now (sets .entry)) (now (minutes .entry)) (now (totals
-        .entry)))) (rota (now («new_owners» .entry)) (derived (now («new_sets» .entry)) (now («new_minutes» .entry)) (now («new_totals» .entry)))) ⌝ }
+        .entry)))) (rota (now («new_owners» .entry)) (derived (now («new_sets» .entry)) (now («new_minutes» .entry)) (now («new_totals»
+            .entry)))) ⌝ }
 {
     count_owners(slots, owners, new_owners)
         + count_words(16 * people, sets, new_sets)
@@ -174,10 +188,12 @@ pub(crate) fn list_repairs(
     new_totals: &[u64],
     list: &mut [u64],
 )
-    requires { ⌜ (people ≤ 32) × (slots ≤ 1024) × (5 * howMany people slots (rota (now owners) (derived (now sets) (now minutes) (now totals)))
+    requires { ⌜ (people ≤ 32) × (slots ≤ 1024) × (5 * howMany people slots (rota (now owners) (derived (now sets) (now minutes) (now
+        totals)))
         (rota (now «new_owners») (derived (now «new_sets») (now «new_minutes») (now «new_totals»))) ≤ length (now list)) ⌝ }
     ensures { λ _. ⌜ now (list .exit) ≡ onto (numbers (repairs people slots (now (frozen .entry)) (rota (now (owners .entry)) (derived (now
-        (sets .entry)) (now (minutes .entry)) (now (totals .entry)))) (rota (now («new_owners» .entry)) (derived (now («new_sets» .entry)) (now
+        (sets .entry)) (now (minutes .entry)) (now (totals .entry)))) (rota (now («new_owners» .entry)) (derived (now («new_sets»
+            .entry)) (now
         («new_minutes» .entry)) (now («new_totals» .entry)))))) (now (list .entry)) ⌝ }
 {
     let n = list_owners(slots, frozen, owners, new_owners, 0, list);

@@ -58,7 +58,8 @@ fn work_out(
     requires { ⌜ Mendable (plan people slots (now starts) (now ends)) (now avail) units (now begins) (now owners) (now sets) ⌝ }
     requires { ⌜ NewRoom people slots (now «new_owners») (now «new_sets») (now «new_minutes») (now «new_totals») ⌝ }
     ensures { λ _. ⌜ WorkedOut (plan people slots (now (starts .entry)) (now (ends .entry))) (now (avail .entry)) units (now (begins
-        .entry)) (now (owners .entry)) (now (sets .entry)) (now («new_owners» .exit)) (now («new_sets» .exit)) (now («new_minutes» .exit)) (now
+        .entry)) (now (owners .entry)) (now (sets .entry)) (now («new_owners» .exit)) (now («new_sets» .exit)) (now («new_minutes»
+            .exit)) (now
         («new_totals» .exit)) ⌝ }
 {
     copy_owners(slots, owners, new_owners);
@@ -94,8 +95,10 @@ fn take_over(
     requires { ⌜ people ≤ 32 ⌝ }
     requires { ⌜ NewRoom people slots (now «new_owners») (now «new_sets») (now «new_minutes») (now «new_totals») ⌝ }
     requires { ⌜ NewRoom people slots (now owners) (now sets) (now minutes) (now totals) ⌝ }
-    ensures { λ _. ⌜ rota (now (owners .exit)) (derived (now (sets .exit)) (now (minutes .exit)) (now (totals .exit))) ≡ takenOver people slots
-        (rota (now (owners .entry)) (derived (now (sets .entry)) (now (minutes .entry)) (now (totals .entry)))) (rota (now («new_owners» .entry))
+    ensures { λ _. ⌜ rota (now (owners .exit)) (derived (now (sets .exit)) (now (minutes .exit)) (now (totals .exit))) ≡ takenOver
+        people slots
+        (rota (now (owners .entry)) (derived (now (sets .entry)) (now (minutes .entry)) (now (totals .entry)))) (rota (now
+            («new_owners» .entry))
         (derived (now («new_sets» .entry)) (now («new_minutes» .entry)) (now («new_totals» .entry)))) ⌝ }
 {
     copy_owners(slots, new_owners, owners);
@@ -122,8 +125,10 @@ fn write_out(
     requires { ⌜ (people ≤ 32) × (slots ≤ 1024) ⌝ }
     requires { ⌜ NewRoom people slots (now «new_owners») (now «new_sets») (now «new_minutes») (now «new_totals») ⌝ }
     requires { ⌜ NewRoom people slots (now owners) (now sets) (now minutes) (now totals) ⌝ }
-    ensures { λ r. ⌜ Ended (writeOut people slots (now (frozen .entry)) (rota (now (owners .entry)) (derived (now (sets .entry)) (now (minutes
-        .entry)) (now (totals .entry)))) (rota (now («new_owners» .entry)) (derived (now («new_sets» .entry)) (now («new_minutes» .entry)) (now
+    ensures { λ r. ⌜ Ended (writeOut people slots (now (frozen .entry)) (rota (now (owners .entry)) (derived (now (sets .entry)) (now
+        (minutes
+        .entry)) (now (totals .entry)))) (rota (now («new_owners» .entry)) (derived (now («new_sets» .entry)) (now («new_minutes»
+            .entry)) (now
         («new_totals» .entry)))) (now (list .entry))) r (rota (now (owners .exit)) (derived (now (sets .exit)) (now (minutes .exit)) (now
         (totals .exit)))) (now (list .exit)) ⌝ }
 {
@@ -187,11 +192,14 @@ fn mend_found(
     totals: &mut [u64],
     list: &mut [u64],
 ) -> Number
-    requires { ⌜ numberOf (foundRow (plan people slots (now starts) (now ends)) (now avail) units (now begins) (now frozen) (rota (now owners)
+    requires { ⌜ numberOf (foundRow (plan people slots (now starts) (now ends)) (now avail) units (now begins) (now frozen) (rota (now
+        owners)
         (derived (now sets) (now minutes) (now totals)))) ≡ 0 ⌝ }
     ensures { λ r. ⌜ Ended (mending (plan people slots (now (starts .entry)) (now (ends .entry))) (now (avail .entry)) units (now (begins
-        .entry)) (now (frozen .entry)) (rota (now (owners .entry)) (derived (now (sets .entry)) (now (minutes .entry)) (now (totals .entry))))
-        (now (list .entry))) r (rota (now (owners .exit)) (derived (now (sets .exit)) (now (minutes .exit)) (now (totals .exit)))) (now (list
+        .entry)) (now (frozen .entry)) (rota (now (owners .entry)) (derived (now (sets .entry)) (now (minutes .entry)) (now (totals
+            .entry))))
+        (now (list .entry))) r (rota (now (owners .exit)) (derived (now (sets .exit)) (now (minutes .exit)) (now (totals .exit)))) (now
+            (list
         .exit)) ⌝ }
 {
     let mut new_owners = [0u8; 1024];
@@ -262,7 +270,8 @@ fn found_refusal(
     units::check_units(f, slots, units, begins)
 }
 
-// Mends a damaged rota: an owner who is unknown or not available is cleared, then a unit that has not one owner is cleared whole, then sets,
+// Mends a damaged rota: an owner who is unknown or not available is cleared, then a unit that has not one owner is cleared whole, then
+// sets,
 // minutes and totals are worked out anew. Answers how many repairs that took; they are listed, five numbers each. Refusals 1, 2, 9, and 2
 // where the list has no room for them.
 pub fn mend(
@@ -281,8 +290,10 @@ pub fn mend(
     list: &mut [u64],
 ) -> Number
     ensures { λ r. ⌜ Ended (mending (plan people slots (now (starts .entry)) (now (ends .entry))) (now (avail .entry)) units (now (begins
-        .entry)) (now (frozen .entry)) (rota (now (owners .entry)) (derived (now (sets .entry)) (now (minutes .entry)) (now (totals .entry))))
-        (now (list .entry))) r (rota (now (owners .exit)) (derived (now (sets .exit)) (now (minutes .exit)) (now (totals .exit)))) (now (list
+        .entry)) (now (frozen .entry)) (rota (now (owners .entry)) (derived (now (sets .entry)) (now (minutes .entry)) (now (totals
+            .entry))))
+        (now (list .entry))) r (rota (now (owners .exit)) (derived (now (sets .exit)) (now (minutes .exit)) (now (totals .exit)))) (now
+            (list
         .exit)) ⌝ }
 {
     let n = found_refusal(
@@ -298,8 +309,7 @@ pub fn mend(
         sets,
         minutes,
         totals,
-    )
-    .number;
+    ).number;
     if n == 0 {
         return mend_found(
             people,

@@ -32,7 +32,8 @@ use Rattle.mend.specs.Answers.{Outcome, mendedRota, repairsDue, foundRow, mendR
 use Rattle.mend.proofs.ListLaws.{numbers-length}
 use Rattle.mend.proofs.Kept.{keeps-kept, kept-keeps, kept-or-nobody}
 use Rattle.mend.proofs.Ending.{mendable}
-use Rattle.mend.proofs.Meaning.{result-recounts, result-passes, passed-stays, passed-idle, due-applied, due-undone, due-tells, twice-once, twice-idle}
+use Rattle.mend.proofs.Meaning.{result-recounts, result-passes, passed-stays, passed-idle}
+use Rattle.mend.proofs.Meaning.{due-applied, due-undone, due-tells, twice-once, twice-idle}
 use Rattle.promises.specs.Table.{GivenByTests}
 use Rattle.promises.specs.MendRule.{Damaged, mendOf, lentTests, mendedOf, dueOf, RightRota, Words, mendTable, sevenFound, MendByRule}
 use Rattle.promises.proofs.Table.{given-as}
@@ -56,7 +57,8 @@ first d =
     say-short (16 * d .plan .people) (length (d .found .derived .sets)) (λ s.
     say-short (d .plan .people) (length (d .found .derived .minutes)) (λ m.
     say-short 2 (length (d .found .derived .totals)) (λ t.
-    right-says 9 (d .plan .slots) (d .plan .starts) (d .plan .ends) r (units-right (d .plan .slots) (d .units) (d .begins) q none)))))))))))
+    right-says 9 (d .plan .slots) (d .plan .starts) (d .plan .ends) r (units-right (d .plan .slots) (d .units) (d .begins) q
+        none)))))))))))
 
 -- ---- the outcome, by the number
 
@@ -116,7 +118,8 @@ module _ (d : Damaged) where
   module _ (z : numberOf (lentTests d) ≡ 0) where
     right : RightRota d (mendedOf d (d .found))
     right =
-        rota-by-rule .recount (d .plan) (d .avail) (d .units) (d .begins) (mendedOf d (d .found) .owners) (mendedOf d (d .found) .derived) .0
+        rota-by-rule .recount (d .plan) (d .avail) (d .units) (d .begins) (mendedOf d (d .found) .owners) (mendedOf d (d .found)
+            .derived) .0
         (result-recounts (d .plan) (d .avail) (d .units) (d .begins) (d .frozen) (d .found) z)
 
     stays-right : Words d → RightRota d (d .found) → (mendedOf d (d .found) ≡ d .found) × (dueOf d (d .found) ≡ [])
@@ -131,7 +134,8 @@ module _ (d : Damaged) where
 seven : mendOf (sevenFound 30) ≡ record {
   answer = number.Is 6;
   rota = rota (255 ∷ 255 ∷ []) (figures.derived (Rattle.promises.specs.Marked.words 0) (0 ∷ []) (120 ∷ 2 ∷ []));
-  list = 0 ∷ 0 ∷ 7 ∷ 255 ∷ 1 ∷ 0 ∷ 1 ∷ 0 ∷ 255 ∷ 0 ∷ 1 ∷ 0 ∷ 3 ∷ 0 ∷ 0 ∷ 2 ∷ 0 ∷ 120 ∷ 0 ∷ 0 ∷ 3 ∷ 0 ∷ 0 ∷ 120 ∷ 0 ∷ 3 ∷ 1 ∷ 0 ∷ 2 ∷ 0 ∷ [];
+  list = 0 ∷ 0 ∷ 7 ∷ 255 ∷ 1 ∷ 0 ∷ 1 ∷ 0 ∷ 255 ∷ 0 ∷ 1 ∷ 0 ∷ 3 ∷ 0 ∷ 0 ∷ 2 ∷ 0 ∷ 120 ∷ 0 ∷ 0 ∷ 3 ∷ 0 ∷ 0 ∷ 120 ∷ 0 ∷ 3 ∷ 1 ∷ 0 ∷ 2 ∷ 0
+      ∷ [];
 }
 unfolding mending mendRow foundRow mendedRota repairsDue repairs repairsOf numbers differsAt column entries flagOf numberAs unless numberOf
     peopleOk slotCountOk slotRoomOk slotsOk all slotOkAt slotOk prevEnd unitsOk startOk mended barredCleared unevenCleared leftTo mayKeep

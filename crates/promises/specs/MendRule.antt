@@ -90,7 +90,8 @@ pub record MendByRule : Type 0 where
   pub passes : (d : Damaged) → numberOf (lentTests d) ≡ 0 → RightRota d (mendedOf d (d .found))
   pub accepted : (d : Damaged) → numberOf (lentTests d) ≡ 0
       → let R = mendedOf d (d .found) in
-      numberOf (recountRow (mathlib.Core.Bool.true) (leb (d .units) (length (d .begins))) (d .plan) (d .avail) (d .units) (d .begins) (R .owners) (R .derived))
+      numberOf (recountRow (mathlib.Core.Bool.true) (leb (d .units) (length (d .begins))) (d .plan) (d .avail) (d .units) (d .begins)
+          (R .owners) (R .derived))
       ≡ 0
   -- a rota that passed is unchanged, and its list is empty; and mending twice changes nothing more
   pub unchanged : (d : Damaged) → numberOf (lentTests d) ≡ 0 → Words d → RightRota d (d .found)
@@ -103,7 +104,8 @@ pub record MendByRule : Type 0 where
   pub applies : (d : Damaged) → numberOf (lentTests d) ≡ 0 → applied (dueOf d (d .found)) (d .found) ≡ mendedOf d (d .found)
   pub undoes : (d : Damaged) → numberOf (lentTests d) ≡ 0 → undone (dueOf d (d .found)) (mendedOf d (d .found)) ≡ d .found
   pub five-each : (rs : List Repair) → length (numbers rs) ≡ 5 * length rs
-  -- the least: a slot keeps its owner exactly when that owner is known and available for it and every slot of its unit is left with the same
+  -- the least: a slot keeps its owner exactly when that owner is known and available for it and every slot of its unit is left with the
+  -- same
   -- one; else it is nobody's
   pub keeps : (d : Damaged) → numberOf (lentTests d) ≡ 0 → (k : ℕ) → k < d .plan .slots
       → Keeps (d .plan) (d .avail) (d .units) (d .begins) (d .found .owners) k
@@ -117,6 +119,7 @@ pub record MendByRule : Type 0 where
   pub example : mendOf (sevenFound 30) ≡ record {
     answer = number.Is 6;
     rota = rota (255 ∷ 255 ∷ []) (derived (words 0) (0 ∷ []) (120 ∷ 2 ∷ []));
-    list = 0 ∷ 0 ∷ 7 ∷ 255 ∷ 1 ∷ 0 ∷ 1 ∷ 0 ∷ 255 ∷ 0 ∷ 1 ∷ 0 ∷ 3 ∷ 0 ∷ 0 ∷ 2 ∷ 0 ∷ 120 ∷ 0 ∷ 0 ∷ 3 ∷ 0 ∷ 0 ∷ 120 ∷ 0 ∷ 3 ∷ 1 ∷ 0 ∷ 2 ∷ 0 ∷ [];
+    list = 0 ∷ 0 ∷ 7 ∷ 255 ∷ 1 ∷ 0 ∷ 1 ∷ 0 ∷ 255 ∷ 0 ∷ 1 ∷ 0 ∷ 3 ∷ 0 ∷ 0 ∷ 2 ∷ 0 ∷ 120 ∷ 0 ∷ 0 ∷ 3 ∷ 0 ∷ 0 ∷ 120 ∷ 0 ∷ 3 ∷ 1 ∷ 0 ∷ 2 ∷
+        0 ∷ [];
   }
   pub one-short : mendOf (sevenFound 29) ≡ record { answer = number.Refused 2; rota = sevenFound 29 .found; list = replicate 29 9 }

@@ -1,4 +1,5 @@
-// Replays stored repairs of damaged rotas: reads records from standard input, mends each rota, and tells how many answers it compared and how
+// Replays stored repairs of damaged rotas: reads records from standard input, mends each rota, and tells how many answers it compared
+// and how
 // many differ. `oracle/store` writes the records (oracle/src/stored_mending.rs has their layout).
 use slotset::Number;
 use stored::Tally;
@@ -14,7 +15,8 @@ use stored::same_words;
 use stored::shorts;
 use stored::word;
 
-// A record: counts and the list's room, slots, units, who can cover which, frozen slots, the rota as it was found; how many repairs are due,
+// A record: counts and the list's room, slots, units, who can cover which, frozen slots, the rota as it was found; how many repairs are
+// due,
 // the rota then, and the list.
 const RECORD: usize = 1032;
 
@@ -165,7 +167,15 @@ fn mended(b: &[u8]) -> After {
     let mut open = totals_at(b, FOUND_AT);
     let mut list = [7u64; 90];
     let room = half(b, ROOM_AT);
-    let number = mend_with(b, &mut who, &mut own, &mut worked, &mut open, &mut list, room);
+    let number = mend_with(
+        b,
+        &mut who,
+        &mut own,
+        &mut worked,
+        &mut open,
+        &mut list,
+        room,
+    );
     After {
         number,
         owners: who,

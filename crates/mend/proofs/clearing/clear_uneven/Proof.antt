@@ -30,7 +30,8 @@ loop-again c =
     let at = c .before .before .before .before in
     let a = at .before .before .before in (
       omega arith,
-      even-stays _ _ _ _ (a .pre) _ (c .before .before .before .loop-test .taken) _ (at .loop .inv .1) _ (c .before .is-even .ensures) (c .if1 .taken),
+      even-stays _ _ _ _ (a .pre) _ (c .before .before .before .loop-test .taken) _ (at .loop .inv .1) _ (c .before .is-even .ensures)
+          (c .if1 .taken),
       at .loop .inv .2,
     )
 
@@ -39,8 +40,10 @@ loop-again-2 c =
     let b = c .before .before .before .before .before .before in
     let at = b .before .before .before .before in
     let a = at .before .before .before in
-    let went = uneven-goes _ _ _ _ (a .pre) _ (b .before .before .before .loop-test .taken) _ (at .loop .inv .1) _ (b .before .is-even .ensures)
-    (b .if1 .left) _ _ _ (c .before .before .before .before .before .start-of .ensures) (c .before .before .before .before .unit-end .ensures)
+    let went = uneven-goes _ _ _ _ (a .pre) _ (b .before .before .before .loop-test .taken) _ (at .loop .inv .1) _ (b .before .is-even
+        .ensures)
+    (b .if1 .left) _ _ _ (c .before .before .before .before .before .start-of .ensures) (c .before .before .before .before .unit-end
+        .ensures)
     (c .before .before .fill-owners .ensures) in
     (omega arith, went, ap length went ∙ uneven-length _ _ _ _ _)
 

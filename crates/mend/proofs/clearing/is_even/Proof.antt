@@ -15,7 +15,8 @@ returns c =
     let z : a .unit + 0 ≡ a .unit = omega arith in
     let first = drop (a .unit) (a .begins .now) in
     even-alone _ _ _ _ _ _ _ _ (c .before .before .unit-end .ensures)
-    (getD-take (length (a .begins .now) - a .unit) first 0 0 (omega arith) ∙ getD-drop (a .unit) (a .begins .now) 0 0 ∙ ap (λ (k : ℕ). getD (a .begins .now) k 0) z) (c .first-uneven .ensures)
+    (getD-take (length (a .begins .now) - a .unit) first 0 0 (omega arith) ∙ getD-drop (a .unit) (a .begins .now) 0 0 ∙ ap (λ (k : ℕ).
+        getD (a .begins .now) k 0) z) (c .first-uneven .ensures)
 
 pub is-even-spec : {M : Type 1} → statement M
 is-even-spec =

@@ -3,7 +3,8 @@ use mathlib.Core.Path.{_≡_, refl, sym, ap, _∙_}
 use Prim.Native.Nat.{ℕ, _-_, _≤_}
 use native.Mathlib.Omega.{arith}
 use borrow.Author.Needs.{needs}
-use Rattle.mend.proofs.ListLaws.{differs-no, differs-yes, repair-is, Reached, reached-none, reached-out, reached-room, reached-in, reached-end}
+use Rattle.mend.proofs.ListLaws.{differs-no, differs-yes, repair-is, Reached}
+use Rattle.mend.proofs.ListLaws.{reached-none, reached-out, reached-room, reached-in, reached-end}
 use Rattle.mend.proofs.listing.list_words.Statement.{statement}
 use Rattle.mend.proofs.listing.list_words.Tie as tie
 use Rattle.mend.proofs.listing.list_words.Reads as reads
@@ -34,7 +35,8 @@ write-repair-requires c κs =
 add-done : tie.Need-add-done Inv-loop μ-loop
 add-done c =
     let b = c .before .before .before .before in
-    let room = reached-room _ _ _ _ _ _ _ _ _ _ (b .before .before .before .before .loop .inv) (b .before .before .before .loop-test .taken)
+    let room = reached-room _ _ _ _ _ _ _ _ _ _ (b .before .before .before .before .loop .inv) (b .before .before .before .loop-test
+        .taken)
     (differs-yes _ _ _ _ _ (b .before .before .word-at .ensures) (b .before .word-at2 .ensures) (b .if1 .left))
     (c .before .before .before .before .before .before .before .before .before .before .before .before .pre) in
     omega arith
@@ -47,7 +49,8 @@ loop-again-2 c =
     let is = b .before .word-at2 .ensures in
     reached-in _ _ _ _ _ _ _ _ _ _ (b .before .before .before .before .loop .inv) (b .before .before .before .loop-test .taken)
     (differs-yes _ _ _ _ _ was is (b .if1 .left)) _
-    (repair-is (a .part) (λ _. 0) (a .old .now) (a .new .now) _ _ _ _ was is refl) _ (c .before .before .write-repair .kept .1 .0) (c .before .before .write-repair .ensures)
+    (repair-is (a .part) (λ _. 0) (a .old .now) (a .new .now) _ _ _ _ was is refl) _ (c .before .before .write-repair .kept .1 .0) (c
+        .before .before .write-repair .ensures)
 
 same-length : tie.Need-same-length Inv-loop μ-loop
 same-length c = c .before .loop .inv .long
