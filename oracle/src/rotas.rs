@@ -102,7 +102,10 @@ pub fn played(problem: &Problem, assignment: &Assignment, answers: Vec<u8>) -> P
 /// The minutes of the slots that nobody owns.
 pub fn uncovered(problem: &Problem, owners: &[u8]) -> u64 {
     let slots = owners.iter().zip(&problem.slot_minutes);
-    slots.filter(|(&owner, _)| owner == NOBODY).map(|(_, &minutes)| minutes as u64).sum()
+    slots
+        .filter(|(&owner, _)| owner == NOBODY)
+        .map(|(_, &minutes)| minutes as u64)
+        .sum()
 }
 
 /// Plays draws by the Rust's moves: an answer each. One list of changes serves all draws, as in its search.

@@ -430,7 +430,11 @@ fn failing(seed: &mut Seed, made: u64) -> Option<Record> {
     record.totals = rota.totals[..TOTALS].to_vec();
     (record.number, record.of_slots) = (of_units(&faults), of_slots(&faults));
     // minutes and totals are stored as u32
-    let fits = record.minutes.iter().chain(&record.totals).all(|&figure| u32::try_from(figure).is_ok());
+    let fits = record
+        .minutes
+        .iter()
+        .chain(&record.totals)
+        .all(|&figure| u32::try_from(figure).is_ok());
     fits.then_some(record)
 }
 
@@ -464,7 +468,10 @@ mod tests {
         let due = [([60, 120], [0, 0]), ([0, 120], [60, 1]), ([0, 120], [60, 1])];
         for ((owners, slot, owner), (minutes, totals)) in FILLED_AND_CLEARED.into_iter().zip(due) {
             let record = assigned(open_slots(owners), slot, owner);
-            assert_eq!((record.number, &record.due.minutes[..], record.due.totals), (0, &minutes[..], totals));
+            assert_eq!(
+                (record.number, &record.due.minutes[..], record.due.totals),
+                (0, &minutes[..], totals)
+            );
         }
         let begun = open_slots([0, NOBODY]).play();
         assert_eq!((&begun.minutes[..], begun.totals), (&[60, 0][..], [120, 1]));

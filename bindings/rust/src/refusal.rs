@@ -178,7 +178,10 @@ impl fmt::Display for Fault {
             Fault::WrongSet { person, slot } => write!(f, "person {person}'s set is wrong at slot {slot}"),
             Fault::WrongMinutes { person } => write!(f, "person {person}'s minutes are wrong"),
             Fault::WrongTotal { total } => {
-                write!(f, "stored total {total} is wrong (0 is the uncovered minutes, 1 the unassigned slots)")
+                write!(
+                    f,
+                    "stored total {total} is wrong (0 is the uncovered minutes, 1 the unassigned slots)"
+                )
             }
         }
     }

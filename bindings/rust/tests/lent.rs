@@ -180,15 +180,9 @@ fn a_rota_keeps_what_lies_past_its_ends() {
     };
     let wrong = |fault| Err(Refusal::Recount(fault));
     totals[1] += 1;
-    assert_eq!(
-        play(&mut owners, &mut minutes, &mut totals),
-        wrong(Fault::WrongTotal { total: 1 })
-    );
+    assert_eq!(play(&mut owners, &mut minutes, &mut totals), wrong(Fault::WrongTotal { total: 1 }));
     totals[0] += 1;
-    assert_eq!(
-        play(&mut owners, &mut minutes, &mut totals),
-        wrong(Fault::WrongTotal { total: 0 })
-    );
+    assert_eq!(play(&mut owners, &mut minutes, &mut totals), wrong(Fault::WrongTotal { total: 0 }));
     minutes[0] += 1;
     assert_eq!(
         play(&mut owners, &mut minutes, &mut totals),

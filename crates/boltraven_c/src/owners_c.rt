@@ -96,7 +96,17 @@ pub extern "C" fn boltraven_from_slots(
         (derived (now (sets .entry)) (now (minutes .entry)) (now (totals .entry))))
         (placeless r) (now (owners .entry)) (derived (now (sets .exit)) (now (minutes .exit)) (now (totals .exit))) [] ⌝ }
 {
-    owners::from_slots(people, slots, starts, ends, avail, owners, sets, minutes, totals)
+    owners::from_slots(
+        people,
+        slots,
+        starts,
+        ends,
+        avail,
+        owners,
+        sets,
+        minutes,
+        totals,
+    )
 }
 
 // An empty rota: nobody owns a slot, sets and minutes are cleared, and all is uncovered.

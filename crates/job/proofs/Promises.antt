@@ -255,7 +255,8 @@ module _ (s x : List ℕ) where
         (eq-eqb _ 1 (frozen-there s (length x) pass some k h b))
 
     -- a covered slot stays covered
-    pub stays-covered : (k : ℕ) → k < listedOf s .slots → (getD (ownersOf s) k 0 ≡ nobody → ⊥) → getD (listedOf s .owners) k 0 ≡ nobody → ⊥
+    pub stays-covered : (k : ℕ) → k < listedOf s .slots → (getD (ownersOf s) k 0 ≡ nobody → ⊥) → getD (listedOf s .owners) k 0 ≡
+        nobody → ⊥
     unfolding listedOf playedOf startedOf
     stays-covered k h = plays.stays-covered (readyOf s) (drawsOf s) (ownersOf s) (startedOf s .derived) not-refused k h
 

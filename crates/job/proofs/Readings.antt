@@ -183,7 +183,8 @@ module _ {s c b : List ℕ} (K : ReadOk s c b) where
 
   pub targets-are : (n : ℕ) (S E av : List ℕ) (cp : List Float) (pr : List ℕ) (st : Settings) (h : JobTargets) → cp ≡ capacitiesOf s
       → pr ≡ priorsOf s → st ≡ settingsIn s
-      → TargetsAs (targets.computeTargets (targets.given (getD c 2 0) n S E av cp pr (st .fairness) (st .edition)) (replicate 32 (pos 0))) h
+      → TargetsAs (targets.computeTargets (targets.given (getD c 2 0) n S E av cp pr (st .fairness) (st .edition)) (replicate 32 (pos
+      0))) h
       → TargetsAs (targetsIn s n S E av) h
   unfolding targetsIn
   targets-are n S E av cp pr st h p q t w =

@@ -70,7 +70,8 @@ module _ (s x : List ℕ) where
       refusal-by (λ n. refusalAt n (unevenOf s)) refl (jobTests s (length x))
       (refl, (refl, (refl, (refl, (refl, (refl, (refl, (refl, (refl, (refl, (refl, tt)))))))))))
 
-  pub prepare-refused : (f : Refusal) (n u : ℕ) → numberOf readTests ≡ 0 → n ≡ numberOf (prepareRow s) → u ≡ unevenOf s → f ≡ refusalAt n u
+  pub prepare-refused : (f : Refusal) (n u : ℕ) → numberOf readTests ≡ 0 → n ≡ numberOf (prepareRow s) → u ≡ unevenOf s → f ≡
+      refusalAt n u
       → (n ≡ 0 → ⊥) → Ends (jobResult s x) (answer.Refused f) x
   unfolding jobTests
   prepare-refused f n u z e q p h =

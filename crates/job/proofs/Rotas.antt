@@ -152,4 +152,5 @@ module _ (R : Ready) (d : Draws) (o : List ℕ) (H : RotaSound R d o) where
         ≡ demandOf (R .slots) (R .starts) (R .ends)
     total-before =
         ap (λ (E : Derived). sum (R .people) (λ p. getD (E .minutes) p 0) + getD (E .totals) 0 0) started
-        ∙ minutes-and-uncovered P (plan-sound P (H .people-ok) (H .count-ok) (H .lent)) (R .avail) (R .units) (R .begins) o (afresh P o none) recounted
+        ∙ minutes-and-uncovered P (plan-sound P (H .people-ok) (H .count-ok) (H .lent)) (R .avail) (R .units) (R .begins) o (afresh P
+        o none) recounted

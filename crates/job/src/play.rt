@@ -111,7 +111,8 @@ fn play_draws(
 pub(crate) fn play(file: &[u8], counts: [usize; 8], blocks: [usize; 8], p: Prepared) -> Played
     requires { ⌜ ReadOk (now file) counts blocks ⌝ }
     requires { ⌜ (length (p .begins) ≡ 1024) × (length (p .frozen) ≡ 16) ⌝ }
-    ensures { λ r. ⌜ PlayedAs (playOf (readyBy p) (drawsOf (now (file .entry))) (p .owners) (derived (p .sets) (p .minutes) (p .totals))) r ⌝ }
+    ensures { λ r. ⌜ PlayedAs (playOf (readyBy p) (drawsOf (now (file .entry))) (p .owners) (derived (p .sets) (p .minutes) (p
+        .totals))) r ⌝ }
 {
     let at = blocks[6];
     let n = counts[6];
@@ -151,9 +152,11 @@ pub(crate) fn play(file: &[u8], counts: [usize; 8], blocks: [usize; 8], p: Prepa
 pub(crate) fn list(out: &mut [u8], draws: usize, p: Prepared, y: Played) -> usize
     requires { ⌜ (p .slots ≤ 1024) × (p .people ≤ 32) × (draws ≤ 1024) × (listingMost ≤ length (now out)) ⌝ }
     requires { ⌜ (length (p .starts) ≡ 1024) × (length (p .ends) ≡ 1024) × (length (p .targets) ≡ 32) ⌝ }
-    requires { ⌜ (length (y .owners) ≡ 1024) × (length (y .minutes) ≡ 32) × (length (y .totals) ≡ 2) × (length (y .answers) ≡ 1024) ⌝ }
+    requires { ⌜ (length (y .owners) ≡ 1024) × (length (y .minutes) ≡ 32) × (length (y .totals) ≡ 2) × (length (y .answers) ≡
+        1024) ⌝ }
     requires { ⌜ ((k : ℕ) → k < p .people → mag (getD (p .targets) k (pos 0)) < 2 ^ 63) ⌝ }
-    ensures { λ r. ⌜ Wrote (listingOf (listed (p .slots) (p .starts) (p .ends) (y .owners) (p .people) (y .minutes) (p .targets) draws
+    ensures { λ r. ⌜ Wrote (listingOf (listed (p .slots) (p .starts) (p .ends) (y .owners) (p .people) (y .minutes) (p .targets)
+        draws
         (y .answers) (getD (y .totals) 0 0))) 0 (now (out .entry)) r (now (out .exit)) ⌝ }
 {
     let starts = p.starts;

@@ -67,7 +67,8 @@ fn targets_in(
     avail: &[u64],
 ) -> JobTargets
     requires { ⌜ ReadOk (now file) counts blocks ⌝ }
-    ensures { λ r. ⌜ TargetsAs (targetsIn (now (file .entry)) slots (now (starts .entry)) (now (ends .entry)) (now (avail .entry))) r ⌝ }
+    ensures { λ r. ⌜ TargetsAs (targetsIn (now (file .entry)) slots (now (starts .entry)) (now (ends .entry)) (now (avail
+        .entry))) r ⌝ }
 {
     let people = counts[2];
     let at = blocks[2];

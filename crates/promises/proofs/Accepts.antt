@@ -61,7 +61,8 @@ no-draws-played = ap (λ (y : state.Outcome). y .refusal .number) (draws-alike n
 pub each-accepts : EachAccepts
 unfolding numberOf refusalOf unless lengthRow slotRow stretchOk stretchRow setsRow personRow personStretchRow sameSetsRow runsRow
     changedAs newOf putOf
-    stretchOf loadOf yesNoAs numberAs minutesAs writtenAs spanAs peopleOk slotCountOk countsOk all allIn slotRoomOk slotsOk slotOkAt slotOk
+    stretchOf loadOf yesNoAs numberAs minutesAs writtenAs spanAs peopleOk slotCountOk countsOk all allIn slotRoomOk slotsOk slotOkAt
+    slotOk
     prevEnd rangeCountOk rangeRoomOk rangesOk rangeOkAt rangeOk lentRow slotMinutesRow demandIs slotMinutesIs mergedRow mergedRanges
     availabilityRow
     freezeRow freezeOf availableRow isAvailable unitsOk startOk unitsRow unitSlotsRow unitOfSlotRow unitCountIs unitSlotsIs unitOfSlotIs
@@ -70,7 +71,8 @@ unfolding numberOf refusalOf unless lengthRow slotRow stretchOk stretchRow setsR
     state.fromSlotsRow state.outcome state.lentRow state.emptied state.emptyRow rota.assigned rota.assignRow state.recountRow
     state.recountSlotsRow recountTests state.ownerIs state.ownerRow state.minutesIs state.minutesRow state.slotsOfIs state.unassignedIs
     state.unassignedRow state.uncoveredIs state.uncoveredRow knownBy knownAt availableFor availableAt available evenAt unitEnd setAt
-    setSlotAt held minutesOkAt totalOkAt totalOf uncovered unassigned count worked portion sum minutesAt slot bitOf has unfrozen clear unitFrozen
+    setSlotAt held minutesOkAt totalOkAt totalOf uncovered unassigned count worked portion sum minutesAt slot bitOf has unfrozen
+    clear unitFrozen
 each-accepts = record {
   set-asked = refl;
   set-new = refl;

@@ -171,9 +171,9 @@ doing-nothing-keeps C f =
       λ c e k h owned now. owned (sym (same c k) ∙ now),
       λ tells c e.
           let t = answered-total c e (c .owners) (c .derived) (asks c e .right .on .room .owners-room) (accepted-says c e .recount) in (
-            t .0,
-            tells (c .plan) (C .play c .owners) ∙ ap (built .uncovered (c .plan)) (f .owners c) ∙ t .1,
-            ap (λ (D : Derived). sum (c .plan .people) (λ p. getD (D .minutes) p 0) + t .0) (f .derived c) ∙ t .2,
+            tells (c .plan) (C .play c .owners) ∙ ap (built .uncovered (c .plan)) (f .owners c) ∙ t .0
+                ∙ ap (λ (D : Derived). minutes.Is (getD (D .totals) 0 0)) (sym (f .derived c)),
+            ap (λ (D : Derived). sum (c .plan .people) (λ p. getD (D .minutes) p 0) + getD (D .totals) 0 0) (f .derived c) ∙ t .1,
           ),
     )
 

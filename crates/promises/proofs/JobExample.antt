@@ -132,7 +132,8 @@ checked = targets.given 2 2 from to avail (G .capacities) (G .priors) 0 0
 
 targets-are : targets.computeTargets checked (replicate 32 (pos 0)) .out ≡ pos 80 ∷ pos 40 ∷ replicate 30 (pos 0)
 unfolding peopleOk slotCountOk slotRoomOk slotsOk slotOkAt slotOk prevEnd all allFiguresOk figuresOk le lt eq ofBits ofFields numberOf
-    demandOf sum minutesAt availableMinutes domains.available slot bitOf ofInt mul add div sub rounded within settled pass passes sharedOut adjusted
+    demandOf sum minutesAt availableMinutes domains.available slot bitOf ofInt mul add div sub rounded within settled pass passes
+    sharedOut adjusted
 targets-are =
     let out = replicate 32 (pos 0) in
     let l : Lent checked (length out) = record {
@@ -177,7 +178,8 @@ abbrev before : Derived
 before = derived (set (replicate 512 0) 0 3) (120 ∷ 0 ∷ replicate 30 0) (0 ∷ 0 ∷ [])
 
 start-is : fromSlots (plan 2 2 from to) avail owners (derived (replicate 512 0) (replicate 32 0) (replicate 2 0)) .derived ≡ before
-unfolding fromSlots fromSlotsRow lentRow outcome numberOf unless peopleOk slotCountOk slotRoomOk slotsOk slotOkAt slotOk prevEnd all knownAt
+unfolding fromSlots fromSlotsRow lentRow outcome numberOf unless peopleOk slotCountOk slotRoomOk slotsOk slotOkAt slotOk prevEnd all
+    knownAt
     knownBy availableAt availableFor domains.available slot bitOf afresh setsFrom putSlots putSlot withBit held over worked portion sum
     minutesAt totalOf uncovered unassigned count
 start-is = refl
@@ -199,7 +201,8 @@ call = record {
 }
 
 call-accepted : Accepted call
-unfolding roomOk countsOk peopleOk slotCountOk slotsOk slotRoomOk slotOkAt slotOk prevEnd all unitsOk startOk recounts allIn knownAt knownBy
+unfolding roomOk countsOk peopleOk slotCountOk slotsOk slotRoomOk slotOkAt slotOk prevEnd all unitsOk startOk recounts allIn knownAt
+    knownBy
     availableAt availableFor domains.available evenAt unitEnd setAt setSlotAt held minutesOkAt worked portion sum minutesAt slot bitOf
     totalOkAt totalOf uncovered unassigned count
 call-accepted = record {
@@ -399,9 +402,11 @@ module _ (x : List ℕ) (room : 65536 ≤ length x) where
       let p1 = more 0 (λ j h. absurd (omega arith)) (T .layout bytes .passes .1 job-file) in
       let p2 = more 1 p1 (T .counts job-file .passes .1 counts) in
       let p3 = more 2 p2 (T .room .passes .1 room) in
-      let p4 = more 3 p3 (T .base job-file p3 .passes .1 (given (λ (H : Given). SlotsRight (H .base) (H .starts) (H .ends)) slots-right)) in
+      let p4 = more 3 p3 (T .base job-file p3 .passes .1 (given (λ (H : Given). SlotsRight (H .base) (H .starts) (H .ends))
+      slots-right)) in
       let p5 = more 4 p4 (T .ranges job-file p4 .passes .1 (given (λ (H : Given). RangesRight (H .people) (H .ranges)) ranges-right)) in
-      let p6 = more 5 p5 (T .atoms job-file p5 .passes .1 (given (λ (H : Given). length (startsOfAtoms (baseFrom H)) ≤ 1024) atoms-few)) in
+      let p6 = more 5 p5 (T .atoms job-file p5 .passes .1 (given (λ (H : Given). length (startsOfAtoms (baseFrom H)) ≤ 1024)
+      atoms-few)) in
       let p7 = more 6 p6 (T .figures job-file p6 .passes .1
       (given (λ (H : Given). FiguresRight (H .people) (H .capacities) (H .priors)) figures-right)) in
       more 7 p7 (T .settings job-file p7 .passes .1 (given (λ (H : Given). SettingsRight (H .settings)) settings-right))

@@ -291,7 +291,8 @@ module _ (P : Plan) (avail o : List ℕ) (D : Derived) where
   unfolding recountSlotsRow lentRow
   slots-places =
       places P avail 0 [] o D (lentRow true true P avail o D) refl
-      (refl, (refl, (refl, (refl, (refl, (refl, (refl, (refl, (refl, (refl, (refl, tt))))))))))) (not-given 10 _ (λ q. omega arith) refl) _ refl
+      (refl, (refl, (refl, (refl, (refl, (refl, (refl, (refl, (refl, (refl, (refl, tt))))))))))) (not-given 10 _ (λ q. omega arith)
+      refl) _ refl
 
   pub assign-places : (k w : ℕ) → Places (assigned P avail o D k w .refusal) lent (FailsAt P avail 0 [] o D)
   unfolding assigned outcome assignRow recountSlotsRow lentRow recountTests

@@ -96,7 +96,12 @@ play-draws-refuses : (c : Call) (ds : List Draw)
     Refuses {A = Lent} (rules (rowOf (ofDraws c ds))) (y .refusal .number) (c .owners, c .derived, c .answers) (left y)
 play-draws-refuses c ds =
     let same = played-same (c .plan) (c .avail) (c .units) (c .begins) (c .frozen) (c .count) (c .owners) (c .derived) (c .answers) ds in
-    subst (λ (y : state.Outcome). Refuses {A = Lent} (rules (rowOf (ofDraws c ds))) (y .refusal .number) (c .owners, c .derived, c .answers) (left y))
+    subst (λ (y : state.Outcome). Refuses {A = Lent} (rules (rowOf (ofDraws c ds))) (y .refusal .number) (
+      c .owners,
+      c .derived,
+      c
+          .answers,
+    ) (left y))
     (sym same) (play-refuses (ofDraws c ds))
 
 empty-refuses : (P : Plan) (o : List ℕ) (D : Derived)

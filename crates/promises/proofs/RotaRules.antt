@@ -1,6 +1,6 @@
 -- Demand 2, the rota, by the laws of rota. Assumes nothing.
 use mathlib.Core.Path.{_≡_, refl, sym, ap, _∙_}
-use mathlib.Core.Bool.{Bool, true, false, cond}
+use mathlib.Core.Bool.{Bool, true, false, cond, _&&_}
 use mathlib.Core.List.{List, []}
 use mathlib.Core.Logic.{inl, _↔_, _≢_}
 use Prim.Native.Nat.{ℕ, _-_, _*_, _≤_, _<_, zero-le}
@@ -135,7 +135,8 @@ module _ (P : Plan) (avail o : List ℕ) (D : Derived) (e : fromSlots P avail o 
   from-recounts =
       let g = from-tests .0 in
       let known = all-each (P .slots) (knownAt (P .people) o) (from-tests .1) in
-      let J = afresh-step P o D (g .sound .slots-few) (g .room .owners-room) (g .room .sets-room) (g .room .minutes-room) (g .room .totals-room)
+      let J = afresh-step P o D (g .sound .slots-few) (g .room .owners-room) (g .room .sets-room) (g .room .minutes-room) (g .room
+      .totals-room)
       known in
       says-recount P avail 0 [] o (afresh P o D)
       record {
@@ -224,7 +225,8 @@ module _ (c : Call) (k w : ℕ) (e : noOf c ≡ 0) where
     uneven-refused : noOf next ≡ 10
     uneven-refused =
         let A = accepted-says c e in
-        number-of next (A .few) (play-room c A) (rooms (c .plan) (c .avail) (y .owners) (y .derived) (A .counts) room) (A .slots) (A .units)
+        number-of next (A .few) (play-room c A) (rooms (c .plan) (c .avail) (y .owners) (y .derived) (A .counts) room) (A .slots) (A
+        .units)
         ∙ ap (λ (b : Bool). cond b 0 10) fails
 
 -- ---- an empty rota
@@ -247,7 +249,12 @@ module _ (P : Plan) (o : List ℕ) (D : Derived) (e : emptied P o D .refusal .nu
 
   nobodys : (k : ℕ) → k < P .slots → getD owners k 0 ≡ nobody
   nobodys k h =
-      getD-fill-in nobody 0 (P .slots) o k zero-le (omega arith) (omega (arith, clears .1 .owners-room, length-fill nobody 0 (P .slots) o))
+      getD-fill-in nobody 0 (P .slots) o k zero-le (omega arith) (omega (
+        arith,
+        clears .1 .owners-room,
+        length-fill nobody 0 (P
+            .slots) o,
+      ))
 
   -- it is in step, so that all but its units is as worked out
   steps : InStep P owners cleared

@@ -325,7 +325,8 @@ sets-by-table = record {
       by-first _ (personRow ws people person len) _ refl refl (sets-refuse .load ws people person len) (rows-first ws people person len);
   put-stretch = λ ws people person len a e.
       by-first _ (personStretchRow ws people person len a e) _ refl refl (sets-refuse .put-stretch 0 ws people person len a e .given)
-      (people-says people (most-says len (say-short (16 * people) (length ws) (λ z. say-below person people (stretch-says a e len none)))));
+      (people-says people (most-says len (say-short (16 * people) (length ws) (λ z. say-below person people (stretch-says a e len
+      none)))));
   same-sets = λ ws vs people len.
       by-first _ (sameSetsRow ws vs people len) _ refl refl (sets-refuse .same-sets ws vs people len)
       (people-says people (most-says len (say-short (16 * people) (length ws) (λ y. say-short (16 * people) (length vs) (λ z. none)))));
@@ -469,7 +470,8 @@ targets-first g room =
 targets-number : (g : targets.Given) (out : List ℤ) → GivenBy (tables.targetsTable g (length out)) (targets.computeTargets g out .number)
 unfolding targets.targetsRow targets.roomRow
 targets-number g out =
-    by-first _ (targets.targetsRow g (length out)) _ refl refl (targets-refuse .compute-targets g out .given) (targets-first g (length out))
+    by-first _ (targets.targetsRow g (length out)) _ refl refl (targets-refuse .compute-targets g out .given) (targets-first g
+    (length out))
 
 -- ---- the rota
 
@@ -481,7 +483,8 @@ module _ (P : Plan) (avail o : List ℕ) (D : Derived) where
       ∷ short (P .slots) (length o) ∷ short (16 * P .people) (length (D .sets)) ∷ short (P .people) (length (D .minutes))
       ∷ short 2 (length (D .totals)) ∷ t)
       (cond (slotRoomOk (P .slots) (P .starts) (P .ends)) (cond (leb (16 * P .people) (length avail)) (cond (leb (P .slots) (length o))
-      (cond (leb (16 * P .people) (length (D .sets))) (cond (leb (P .people) (length (D .minutes))) (cond (leb 2 (length (D .totals))) n 2) 2)
+      (cond (leb (16 * P .people) (length (D .sets))) (cond (leb (P .people) (length (D .minutes))) (cond (leb 2 (length (D
+      .totals))) n 2) 2)
       2) 2) 2) 2)
   lent-says {t} {n} h =
       columns-say (P .slots) (P .starts) (P .ends) (λ r.
@@ -556,18 +559,21 @@ play-first c =
     (units-right (c .plan .slots) (c .units) (c .begins) q
     (recount-says (c .plan) (c .avail) (c .units) (c .begins) (c .owners) (c .derived) none)))))))
 
-play-number : (c : Call) → GivenBy (tables.playTable c (length (c .draws)) (length (c .firsts)) (length (c .seconds))) (playOf c .refusal .number)
+play-number : (c : Call) → GivenBy (tables.playTable c (length (c .draws)) (length (c .firsts)) (length (c .seconds))) (playOf c
+    .refusal .number)
 unfolding state.recountRow state.lentRow recountTests
 play-number c = by-first _ (rowOf c) _ refl refl (rota-refuses .play c .given) (play-first c)
 
-draws-number : (c : Call) (ds : List Draw) → GivenBy (tables.playTable c (length ds) (length ds) (length ds)) (playDrawsOf c ds .refusal .number)
+draws-number : (c : Call) (ds : List Draw) → GivenBy (tables.playTable c (length ds) (length ds) (length ds)) (playDrawsOf c ds
+    .refusal .number)
 unfolding draws firsts seconds
 draws-number c ds =
     let n = playDrawsOf c ds .refusal .number in
     subst (λ (k : ℕ). GivenBy (tables.playTable c k (length ds) (length ds)) n) (length-map ds (λ d. d .draw))
     (subst (λ (k : ℕ). GivenBy (tables.playTable c (length (draws ds)) k (length ds)) n) (length-map ds (λ d. d .first))
     (subst (λ (k : ℕ). GivenBy (tables.playTable c (length (draws ds)) (length (firsts ds)) k) n) (length-map ds (λ d. d .second))
-    (subst (λ (y : state.Outcome). GivenBy (tables.playTable c (length (draws ds)) (length (firsts ds)) (length (seconds ds))) (y .refusal .number))
+    (subst (λ (y : state.Outcome). GivenBy (tables.playTable c (length (draws ds)) (length (firsts ds)) (length (seconds ds))) (y
+    .refusal .number))
     (sym (draws-alike c ds)) (play-number (ofDraws c ds)))))
 
 slots-of-first : (people slots : ℕ) (ws : List ℕ) (p : ℕ)
@@ -585,9 +591,11 @@ unfolding numberOf state.fromSlotsRow state.lentRow rota.assignRow state.recount
 rota-by-table = record {
   compute-targets = targets-number;
   from-slots = λ P avail o D.
-      by-first _ (state.fromSlotsRow P avail o D) _ refl refl (rota-refuses .from-slots P avail o D .given) (from-slots-first P avail o D);
+      by-first _ (state.fromSlotsRow P avail o D) _ refl refl (rota-refuses .from-slots P avail o D .given) (from-slots-first P avail
+      o D);
   assign = λ P avail o D k w.
-      by-first _ (rota.assignRow P avail o D k w) _ refl refl (rota-refuses .assign P avail o D k w .given) (assign-first P avail o D k w);
+      by-first _ (rota.assignRow P avail o D k w) _ refl refl (rota-refuses .assign P avail o D k w .given) (assign-first P avail o D
+      k w);
   recount = λ P avail units begins o D.
       by-first _ (state.recountRow true (leb units (length begins)) P avail units begins o D) _ refl refl
       (rota-refuses .recount true (leb units (length begins)) P avail units begins o D) (recount-first P avail units begins o D);

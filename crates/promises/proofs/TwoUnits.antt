@@ -77,7 +77,8 @@ pub case-12 : (more : Spare) → 1 ≤ length (more .answers)
     → let c = twoUnits apart 2 1 (35 ∷ []) (0 ∷ []) (1 ∷ []) more in
     playOf c ≡ record { refusal = no-refusal; owners = c .owners; derived = c .derived; answers = 1 ∷ drop 1 (more .answers) }
 unfolding drawsOf ownersAfter answers answer step onto decided anyOf swapped unowned ownerOf frozenUnit unitFrozen clear unfrozen allIn
-    all slot bitOf unitEnd fitsUnit able available afresh setsFrom putSlots putSlot withBit held over worked portion sum minutesAt totalOf uncovered
+    all slot bitOf unitEnd fitsUnit able available afresh setsFrom putSlots putSlot withBit held over worked portion sum minutesAt
+    totalOf uncovered
     unassigned count
 case-12 more room =
     accepted-is (twoUnits apart 2 1 (35 ∷ []) (0 ∷ []) (1 ∷ []) more) (accepted apart 2 1 (35 ∷ []) (0 ∷ []) (1 ∷ []) more

@@ -334,18 +334,21 @@ told-judged B =
 
 told : (B : Brought) → Told (verdictIs B)
 unfolding verdictIs unless
-told B = by-cond (eqb (numberOf (usableRow B)) 0) (judged B) (verdict.Refused (numberOf (usableRow B))) Told (λ e. told-judged B) (λ e. tt)
+told B = by-cond (eqb (numberOf (usableRow B)) 0) (judged B) (verdict.Refused (numberOf (usableRow B))) Told (λ e. told-judged B) (λ
+    e. tt)
 
 -- ---- all of it
 
 both-pass : verdictIs (bothHers 120 1) ≡ verdict.Usable
-unfolding verdictIs usableRow unless numberOf figuresOk peopleOk slotCountOk slotRoomOk slotsOk all slotOkAt slotOk prevEnd unitsOk startOk
+unfolding verdictIs usableRow unless numberOf figuresOk peopleOk slotCountOk slotRoomOk slotsOk all slotOkAt slotOk prevEnd unitsOk
+    startOk
     judged orBroken allowedAt knownAt availableAt knownBy availableFor available slot bitOf publishedAt unfrozen uniformAt unitOf opensAt
     closesAt held cappedAt restedAt firstFail nextWith lastBelow up down
 both-pass = refl
 
 both-long : verdictIs (bothHers 119 1) ≡ verdict.Broken 4 0
-unfolding verdictIs usableRow unless numberOf figuresOk peopleOk slotCountOk slotRoomOk slotsOk all slotOkAt slotOk prevEnd unitsOk startOk
+unfolding verdictIs usableRow unless numberOf figuresOk peopleOk slotCountOk slotRoomOk slotsOk all slotOkAt slotOk prevEnd unitsOk
+    startOk
     judged orBroken allowedAt knownAt availableAt knownBy availableFor available slot bitOf publishedAt unfrozen uniformAt unitOf opensAt
     closesAt held cappedAt restedAt firstFail nextWith lastBelow up down
 both-long = refl

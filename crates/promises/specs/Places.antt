@@ -107,5 +107,6 @@ pub record PlacesByRule : Type 0 where
       → FailsAt (c .plan) (c .avail) (c .units) (c .begins) (c .owners) (c .derived) (playDrawsOf c ds .refusal)
   -- "in a job only 10.3 comes": its unit is the lowest to which the records give two owners
   pub job : (s x : List ℕ) (J : JobFile s) (f : Refusal) → jobResult s x .answer ≡ answer.Refused f → f .number ≡ 10
-      → let R = readyFrom (givenBy (J .records)) in (f ≡ fault 3 (f .place) 0) × LowestFault (R .units) (UnitEven (J .records) R) (f .place)
+      → let R = readyFrom (givenBy (J .records)) in (f ≡ fault 3 (f .place) 0) × LowestFault (R .units) (UnitEven (J .records) R) (f
+      .place)
   pub job-none : (s x : List ℕ) (f : Refusal) → jobResult s x .answer ≡ answer.Refused f → f .number ≢ 10 → f ≡ placeless (f .number)

@@ -62,7 +62,8 @@ pub record RotaByRule : Type 0 where
   -- "a rota it makes uneven is refused by the next play", whatever the draws
   pub uneven : (c : Call) (k w : ℕ) → noOf c ≡ 0
       → let y = assigned (c .plan) (c .avail) (c .owners) (c .derived) k w in y .refusal .number ≡ 0
-      → (u j : ℕ) → InUnit (c .plan .slots) (c .units) (c .begins) j u → getD (y .owners) j 0 ≢ getD (y .owners) (unitStart (c .begins) u) 0
+      → (u j : ℕ) → InUnit (c .plan .slots) (c .units) (c .begins) j u → getD (y .owners) j 0 ≢ getD (y .owners) (unitStart (c
+      .begins) u) 0
       → noOf (onRota c (y .owners) (y .derived) (c .answers)) ≡ 10
   -- an empty rota: nobody owns a slot, and it passes the recount, units too, whatever the availability
   pub empty : (P : Plan) (o : List ℕ) (D : Derived)

@@ -267,7 +267,8 @@ pub record SetsByTable : Type 0 where
   pub stretch : (v : ℕ) (s : SlotSet) (a e : ℕ)
       → GivenBy (outside 0 1024 (s .len) ∷ reachesPast a e (s .len) ∷ []) (stretchOf v s a e .number)
   -- a person's row: every question of it, and `store`; then `load`, a stretch of it, everybody's sets, and the list of runs
-  pub rows : (ws : List ℕ) (people person len : ℕ) → GivenBy (rowTable ws people person len []) (numberOf (personRow ws people person len))
+  pub rows : (ws : List ℕ) (people person len : ℕ) → GivenBy (rowTable ws people person len []) (numberOf (personRow ws people person
+      len))
   pub load : (ws : List ℕ) (people person len : ℕ) → GivenBy (rowTable ws people person len []) (loadOf ws people person len .number)
   pub put-stretch : (ws : List ℕ) (people person len a e : ℕ)
       → GivenBy (rowTable ws people person len (reachesPast a e len ∷ [])) (numberOf (personStretchRow ws people person len a e))
@@ -276,7 +277,8 @@ pub record SetsByTable : Type 0 where
       → GivenBy (runsTable ws people person len begins lasts) (numberRefusal (allRunsOf ws people person len begins lasts .answer))
 
 pub record SlotsByTable : Type 0 where
-  pub demand : (slots : ℕ) (starts ends : List ℕ) → GivenBy (slotsTable slots starts ends []) (minutesRefusal (demandIs slots starts ends))
+  pub demand : (slots : ℕ) (starts ends : List ℕ) → GivenBy (slotsTable slots starts ends []) (minutesRefusal (demandIs slots starts
+      ends))
   pub slot-minutes : (slots : ℕ) (starts ends : List ℕ) (k : ℕ)
       → GivenBy (slotsTable slots starts ends (notBelow k slots ∷ [])) (minutesRefusal (slotMinutesIs slots starts ends k))
   pub merged-ranges : (people : ℕ) (R : Ranges) (out : Columns)
@@ -322,7 +324,8 @@ pub record UnitsByTable : Type 0 where
 pub record RotaByTable : Type 0 where
   pub compute-targets : (g : targets.Given) (out : List ℤ)
       → GivenBy (targetsTable g (length out)) (targets.computeTargets g out .number)
-  pub from-slots : (P : Plan) (avail o : List ℕ) (D : Derived) → GivenBy (fromSlotsTable P avail o D) (state.fromSlots P avail o D .refusal .number)
+  pub from-slots : (P : Plan) (avail o : List ℕ) (D : Derived) → GivenBy (fromSlotsTable P avail o D) (state.fromSlots P avail o D
+      .refusal .number)
   pub assign : (P : Plan) (avail o : List ℕ) (D : Derived) (k w : ℕ)
       → GivenBy (assignTable P avail o D k w) (rota.assigned P avail o D k w .refusal .number)
   pub recount : (P : Plan) (avail : List ℕ) (units : ℕ) (begins o : List ℕ) (D : Derived)
@@ -332,7 +335,8 @@ pub record RotaByTable : Type 0 where
       → GivenBy (recountSlotsTable P avail o D []) (numberOf (state.recountSlotsRow P avail o D))
   pub play : (c : Call) → GivenBy (playTable c (length (c .draws)) (length (c .firsts)) (length (c .seconds))) (playOf c .refusal .number)
   -- a list of structs has one length
-  pub play-draws : (c : Call) (ds : List Draw) → GivenBy (playTable c (length ds) (length ds) (length ds)) (playDrawsOf c ds .refusal .number)
+  pub play-draws : (c : Call) (ds : List Draw) → GivenBy (playTable c (length ds) (length ds) (length ds)) (playDrawsOf c ds .refusal
+      .number)
   pub empty : (P : Plan) (o : List ℕ) (D : Derived) → GivenBy (emptyTable P o D) (state.emptied P o D .refusal .number)
   pub owner-of-slot : (people slots : ℕ) (o : List ℕ) (k : ℕ)
       → GivenBy (ownerTable people slots o k) (numberRefusal (state.ownerIs people slots o k))

@@ -151,7 +151,8 @@ NeverUnowned C =
 -- such a rota: two units, nobody owns the first, and (0, 0, 0) gives it to person 0
 abbrev pub halfOwned : Call
 halfOwned =
-    twoUnits record { first = 255; second = 1; words0 = 0; words1 = 2; minutes0 = 0; minutes1 = 60; uncovered = 60; unassigned = 1 } 0 1 (0 ∷ []) (0 ∷ []) (0 ∷ [])
+    twoUnits record { first = 255; second = 1; words0 = 0; words1 = 2; minutes0 = 0; minutes1 = 60; uncovered = 60; unassigned = 1 }
+    0 1 (0 ∷ []) (0 ∷ []) (0 ∷ [])
     record { owners = []; sets = []; minutes = []; totals = []; answers = 9 ∷ [] }
 
 pub record ConditionNeeded (C : Component) : Type 0 where

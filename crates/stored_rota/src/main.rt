@@ -396,7 +396,15 @@ fn rota_answers(
 
 // The same where what is due stands.
 fn due_answers(tally: Tally, got: Rota, b: &[u8]) -> Tally {
-    rota_answers(tally, got, b, OWNERS_DUE_AT, SETS_DUE_AT, MINUTES_DUE_AT, TOTALS_DUE_AT)
+    rota_answers(
+        tally,
+        got,
+        b,
+        OWNERS_DUE_AT,
+        SETS_DUE_AT,
+        MINUTES_DUE_AT,
+        TOTALS_DUE_AT,
+    )
 }
 
 // A rota after a play that is accepted: its answers, and the rota that is due.

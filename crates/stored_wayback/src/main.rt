@@ -189,7 +189,15 @@ fn ask(b: &[u8]) -> Asked {
     let mut draws = [7u16; 16];
     let mut firsts = [7u16; 16];
     let mut seconds = [7u16; 16];
-    let way = way_into(b, &own, &worked, &open, &mut draws, &mut firsts, &mut seconds);
+    let way = way_into(
+        b,
+        &own,
+        &worked,
+        &open,
+        &mut draws,
+        &mut firsts,
+        &mut seconds,
+    );
     Asked {
         way,
         draws,

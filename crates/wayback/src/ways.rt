@@ -94,7 +94,8 @@ fn way_refusal(
     firsts: &[u16],
     seconds: &[u16],
 ) -> Refusal
-    ensures { λ r. ⌜ r ≡ refusalOf (wayRow (plan people slots (now (starts .entry)) (now (ends .entry))) (now (avail .entry)) units (now
+    ensures { λ r. ⌜ r ≡ refusalOf (wayRow (plan people slots (now (starts .entry)) (now (ends .entry))) (now (avail .entry))
+        units (now
         (begins .entry)) (now (frozen .entry)) (now (remembered .entry)) (now (owners .entry)) (derived (now (sets .entry)) (now
         (minutes .entry)) (now (totals .entry))) (now (draws .entry)) (now (firsts .entry)) (now (seconds .entry))) ⌝ }
 {
@@ -159,7 +160,8 @@ pub fn way_back(
 ) -> Way
     ensures { λ r. ⌜ Ended (wayBack (plan people slots (now (starts .entry)) (now (ends .entry))) (now (avail .entry)) units (now
         (begins .entry)) (now (frozen .entry)) (now (remembered .entry)) (now (owners .entry)) (derived (now (sets .entry)) (now
-        (minutes .entry)) (now (totals .entry))) (now (draws .entry)) (now (firsts .entry)) (now (seconds .entry))) r (now (draws .exit)) (now (firsts .exit))
+        (minutes .entry)) (now (totals .entry))) (now (draws .entry)) (now (firsts .entry)) (now (seconds .entry))) r (now (draws
+        .exit)) (now (firsts .exit))
         (now (seconds .exit)) ⌝ }
 {
     let f = way_refusal(

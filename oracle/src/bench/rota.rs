@@ -178,7 +178,7 @@ fn lent_recount(rota: &LentRota) -> bool {
 }
 
 /// The recount in the Rust's terms, which has none: every owner known and available, one owner a unit, and a rota made anew of the owners
-/// with the same sets and minutes.
+/// with the same sets and minutes. It keeps no totals.
 fn rust_recount(problem: &Problem, assignment: &Assignment) -> bool {
     let owners = assignment.slots();
     let can = |person: usize, slot: usize| person < problem.human_count() && problem.is_available(person, slot);
@@ -211,7 +211,7 @@ pub fn recount(rota: Rota) -> Row {
 
 /// A rota with a fault of a part of the recount at the last place: the last slot, unit, person or total, or the last slot of the last person's
 /// set.
-/// Where an owner is at fault, sets and minutes stay as they were: their parts come later.
+/// Where an owner is at fault, sets, minutes and totals stay as they were: their parts come later.
 fn with_last_fault(rota: &Rota, part: usize) -> LentRota {
     let mut lent = rota.lent.clone();
     let (person, slot) = (lent.people - 1, lent.starts.len() - 1);

@@ -6,14 +6,17 @@ use Rattle.job.proofs.play.list.Statement.{statement}
 use Rattle.job.proofs.play.list.Tie as tie
 
 slice-aggregate-put-listing-5 : tie.Need-slice-aggregate-put-listing-5
-slice-aggregate-put-listing-5 c = sym (c .before .before .before .before .before .before .before .before .before .before .before .before .before .before .pre .1 .0 .2)
+slice-aggregate-put-listing-5 c =
+    let c8 = c .before .before .before .before .before .before .before .before in
+    sym (c8 .before .before .before .before .before .before .pre .1 .0 .2)
 
 array-read-put-listing : tie.Need-array-read-put-listing
 array-read-put-listing c = search needs
 
 put-listing-requires : tie.Need-put-listing-requires
 put-listing-requires c κs =
-    let at-pre = c .before .before .before .before .before .before .before .before .before .before .before .before .before .before .before .pre in
+    let c8 = c .before .before .before .before .before .before .before .before in
+    let at-pre = c8 .before .before .before .before .before .before .before .pre in
     let f = at-pre .0 in
     let p = at-pre .1 .0 in
     let y = at-pre .1 .1 .0 in (

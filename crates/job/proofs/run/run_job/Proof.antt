@@ -17,32 +17,38 @@ play-requires : tie.Need-play-requires
 play-requires c κs =
     let r = c .before .before .before .before .before .before .before .read-file .ensures in
     let P = c .before .prepare .ensures in
-    let K = read-ok _ _ _ _ _ (r .0) (r .1 .0) (r .1 .1) (sym (said _ (c .before .before .before .before .read-refusal .ensures)) ∙ c .before .before .if1 .taken) .0 in
+    let K = read-ok _ _ _ _ _ (r .0) (r .1 .0) (r .1 .1) (sym (said _ (c .before .before .before .before .read-refusal .ensures)) ∙ c
+    .before .before .if1 .taken) .0 in
     (K, (P .begins-room, P .frozen-room))
 
 list-requires : tie.Need-list-requires
 list-requires c κs =
-    let r = c .before .before .before .before .before .before .before .before .before .read-file .ensures in
+    let c8 = c .before .before .before .before .before .before .before .before in
+    let r = c8 .before .read-file .ensures in
     let P = c .before .before .before .prepare .ensures in
     let Y = c .before .play .ensures in
-    let z = sym (said _ (c .before .before .before .before .before .before .read-refusal .ensures)) ∙ c .before .before .before .before .if1 .taken in
+    let z = sym (said _ (c .before .before .before .before .before .before .read-refusal .ensures)) ∙ c .before .before .before
+    .before .if1 .taken in
     let K = read-ok _ _ _ _ _ (r .0) (r .1 .0) (r .1 .1) z in (
       (P .slots-few, P .people-few, read-few (K .0) .4, K .1),
       (
         (P .starts-room, P .ends-room, P .targets-room),
         (
           (Y .owners-room, Y .minutes-room, Y .totals-room, Y .answers-room),
-          targets-fit _ (c .before .before .before .before .before .before .before .before .before .before .before .before .args .out .now) _ (sym (read-number _ _ _ _ (r .0) (r .1 .0)) ∙ z) P (c .before .before .if2 .taken),
+          targets-fit _ (c8 .before .before .before .before .args .out .now) _ (sym (read-number _ _ _ _ (r .0) (r .1 .0)) ∙ z) P (c
+              .before .before .if2 .taken),
         ),
       ),
     )
 
 returns : tie.Need-returns
 returns c =
-    let r = c .before .before .before .before .before .before .before .before .before .before .before .before .read-file .ensures in
-    let z = sym (said _ (c .before .before .before .before .before .before .before .before .before .read-refusal .ensures)) ∙ c .before .before .before .before .before .before .before .if1 .taken in
+    let c8 = c .before .before .before .before .before .before .before .before in
+    let r = c8 .before .before .before .before .read-file .ensures in
+    let z = sym (said _ (c8 .before .read-refusal .ensures)) ∙ c .before .before .before .before .before .before .before .if1 .taken in
     let K = read-ok _ _ _ _ _ (r .0) (r .1 .0) (r .1 .1) z in
-    job-listed _ _ _ (sym (read-number _ _ _ _ (r .0) (r .1 .0)) ∙ z) (c .before .before .before .before .before .before .prepare .ensures) (c .before .before .before .before .before .if2 .taken) _ (c .before .before .before .before .play .ensures) _ _ _
+    job-listed _ _ _ (sym (read-number _ _ _ _ (r .0) (r .1 .0)) ∙ z) (c .before .before .before .before .before .before .prepare
+    .ensures) (c .before .before .before .before .before .if2 .taken) _ (c .before .before .before .before .play .ensures) _ _ _
     (read-count (K .0) 6) (c .before .before .list .ensures)
 
 returns-2 : tie.Need-returns-2

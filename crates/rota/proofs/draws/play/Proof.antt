@@ -291,7 +291,8 @@ module _ {M : Type 1} (𝓤 : URA M) (H : Heap 𝓤) (A : Atoms 𝓤) (W : Given
   out-begin : (ls : Lists ss) → AsLong ss ls → ent 𝓤 (sep 𝓤 Five (HasAll 𝓤 H A ss ls))
       (H .⇛ (ex 𝓤 (λ (g : Loans ss). sep 𝓤 (Begin 𝓤 H A mem run .pre (to-begin ls g)) (Left-begin ls g))))
   out-begin ls long =
-      qed W ((raw (toks 𝓤 A 5 k5 q5) ⊛ ‵ (owns Rs5 a5 v5)) ∷ raw (HasAll 𝓤 H A ss ls) ∷ []) ∵ updating ! $ split ! $ tokens-out ! 5 k5 q5 $
+      qed W ((raw (toks 𝓤 A 5 k5 q5) ⊛ ‵ (owns Rs5 a5 v5)) ∷ raw (HasAll 𝓤 H A ss ls) ∷ []) ∵ updating ! $ split ! $ tokens-out ! 5
+      k5 q5 $
       -- [tokens 0 to 4; what the five own; the written]
       move ! (5 ∷ []) $ use1 W (‵ (owns Rs5 a5 v5) ⊛ ‵ (owns Rs5 a5 v5)) (owns-twice 𝓤 H A W Rs5 copies5 a5 v5) $ split ! $
       owns-out ! Rs5 a5 v5 $ move ! (11 ∷ []) $
@@ -313,7 +314,8 @@ module _ {M : Type 1} (𝓤 : URA M) (H : Heap 𝓤) (A : Atoms 𝓤) (W : Given
   back-begin : (ls : Lists ss) → AsLong ss ls → (g : Loans ss)
       → ent 𝓤 (sep 𝓤 (toks 𝓤 A 10 (kb ls g) (qb ls g)) (Left-begin ls g)) (H .⇛ (sep 𝓤 Five (HasAll 𝓤 H A ss ls)))
   back-begin ls long g =
-      qed W (raw (toks 𝓤 A 10 (kb ls g) (qb ls g)) ∷ ‵ (owns Rs5 a5 v5) ∷ raw (KeptAll 𝓤 H A (KeptShown 𝓤 H A) ss ls g) ∷ []) ∵ updating ! $
+      qed W (raw (toks 𝓤 A 10 (kb ls g) (qb ls g)) ∷ ‵ (owns Rs5 a5 v5) ∷ raw (KeptAll 𝓤 H A (KeptShown 𝓤 H A) ss ls g) ∷ []) ∵
+      updating ! $
       tokens-out ! 10 (kb ls g) (qb ls g) $ tokens-in ! 5 k5 q5 _ refl $ move ! (0 ∷ 6 ∷ []) $ join ! $
       -- [the five with their tokens; the loans' tokens; what is kept]
       move ! (1 ∷ 2 ∷ 3 ∷ 4 ∷ 5 ∷ []) $ tokens-in ! 5 (k-lent ls g) q-lent _ refl $ move ! (0 ∷ 2 ∷ []) $
@@ -492,7 +494,8 @@ module _ {M : Type 1} (𝓤 : URA M) (H : Heap 𝓤) (A : Atoms 𝓤) (W : Given
             ks,
             qs10,
             tt,
-            people & slots & units & starts & ends & begins & lent-fits & lent-flags & lent-owners ls g & lent-sets ls g & lent-minutes ls g
+            people & slots & units & starts & ends & begins & lent-fits & lent-flags & lent-owners ls g & lent-sets ls g &
+                lent-minutes ls g
                 & lent-totals ls g & d .draw & d .first & d .second & i & lent-answers ls g & tt,
             (vint w64 people ∷ []) & (vint w64 slots ∷ []) & (vint w64 units ∷ []) & slice-vals starts & slice-vals ends
                 & slice-vals begins & (sliceVal (p₁, 0) 1024 ∷ []) & (sliceVal (p₂, 0) 1024 ∷ []) & slice-vals owners & slice-vals sets
@@ -552,7 +555,8 @@ module _ {M : Type 1} (𝓤 : URA M) (H : Heap 𝓤) (A : Atoms 𝓤) (W : Given
             fsplit ! $ drop ! $ fsplit ! $ drop ! $ fsplit ! $ drop ! $
             fsplit ! $ move ! (1 ∷ []) $ fsplit ! $ move ! (1 ∷ []) $ fsplit ! $ move ! (1 ∷ []) $ fsplit ! $ move ! (1 ∷ []) $
             fsplit ! $ drop ! $ fsplit ! $ drop ! $ fsplit ! $ drop ! $ fsplit ! $ drop ! $
-            move ! (1 ∷ 0 ∷ []) $ fjoin ! $ move ! (1 ∷ 0 ∷ []) $ fjoin ! $ move ! (1 ∷ 0 ∷ []) $ fjoin ! $ move ! (1 ∷ 0 ∷ []) $ fjoin ! $
+            move ! (1 ∷ 0 ∷ []) $ fjoin ! $ move ! (1 ∷ 0 ∷ []) $ fjoin ! $ move ! (1 ∷ 0 ∷ []) $ fjoin ! $ move ! (1 ∷ 0 ∷ []) $
+            fjoin ! $
             move ! (2 ∷ 3 ∷ 4 ∷ 5 ∷ 6 ∷ []) $ tokens-in ! 5 (k-lent ls g) q-lent _ refl $ move ! (0 ∷ 3 ∷ 1 ∷ []) $
             use3 W (later (raw (fact 𝓤 (AsLong ss (left-lists ws))) ⊛ raw (HasAll 𝓤 H A ss (left-lists ws))))
             (back-all 𝓤 H A W ss ls (left-lists ws) g rooms long) $ await ! tt $ split ! $ at-once ! $ move ! (0 ∷ 2 ∷ []) $
@@ -664,7 +668,8 @@ module _ {M : Type 1} (𝓤 : URA M) (H : Heap 𝓤) (A : Atoms 𝓤) (W : Given
             (LL.lawful T.the-type T′.the-laws 𝓤 H A W .typed d _ is .0)) $
             assigns ! (of-opd ! (load ! (from ! (stop !)) (look ! 80 refl))) (from ! (stop !)) (init ! 48 refl
             (LL.lawful T.the-type T′.the-laws 𝓤 H A W .typed d _ is .0)) $
-            elem-back ! T.the-row q′ (draws .now) (t .i) no-draw (LL.vals T.the-type T′.the-laws d) (draws .ptr .0) (draws .ptr .1) within $
+            elem-back ! T.the-row q′ (draws .now) (t .i) no-draw (LL.vals T.the-type T′.the-laws d) (draws .ptr .0) (draws .ptr .1)
+            within $
             shuts-slice ! tt T.the-row q′ (draws .now) (draws .ptr .0) (draws .ptr .1) $ move ! (1 ∷ []) $ drop ! $ sink ! 2 $
             -- [the locals; two tokens; what is read; the written; the list's token; what it owns]
             assigns ! (addr ! (from ! (stop !))) (from ! (stop !)) (init ! 78 refl (tt, tt)) $
