@@ -75,7 +75,11 @@ impl Found {
     fn left(&self) -> Vec<u8> {
         let count = self.slots.count;
         let mut owners: Vec<u8> = (0..count)
-            .map(|slot| Some(self.owners[slot]).filter(|&owner| self.may_stay(owner, slot)).unwrap_or(NOBODY))
+            .map(|slot| {
+                Some(self.owners[slot])
+                    .filter(|&owner| self.may_stay(owner, slot))
+                    .unwrap_or(NOBODY)
+            })
             .collect();
         let starts: Vec<usize> = self.units.unit_starts[..self.units.count]
             .iter()
@@ -268,7 +272,11 @@ fn played_on(case: &RotaCase, lent: &LentRota, found: &Found) -> Vec<Question> {
     (rota.owners, rota.sets, rota.minutes, rota.totals) = (new.owners, new.sets, new.minutes, new.totals);
     let mut theirs = rota.clone();
     theirs.hold(&begun);
-    assert_eq!(rota.buffers(), theirs.buffers(), "the three steps end in the Rust's rota of these owners");
+    assert_eq!(
+        rota.buffers(),
+        theirs.buffers(),
+        "the three steps end in the Rust's rota of these owners"
+    );
     rota.plays(Ok(&end))
 }
 
@@ -394,7 +402,11 @@ mod tests {
             for question in questions(k).iter().filter(|question| question.function == "boltraven_mend") {
                 seen[5] += u64::from(question.due.result == NOTHING + 2);
                 let list = &question.due.written[4];
-                let repairs = if question.due.result < NOTHING { question.due.result as usize } else { 0 };
+                let repairs = if question.due.result < NOTHING {
+                    question.due.result as usize
+                } else {
+                    0
+                };
                 for repair in list.chunks(40).take(repairs) {
                     seen[usize::from(repair[0])] += 1;
                     seen[4] += u64::from(repair[32]);

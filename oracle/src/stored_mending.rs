@@ -26,7 +26,11 @@ pub fn mending(n: u64, run: u64) -> Stored {
     let mut bytes = Vec::new();
     let found = example();
     let due = found.mended();
-    assert_eq!(found.repairs(&due), EXAMPLE_REPAIRS, "the example's list is the one that was worked out by hand");
+    assert_eq!(
+        found.repairs(&due),
+        EXAMPLE_REPAIRS,
+        "the example's list is the one that was worked out by hand"
+    );
     let table = [(&found, 35), (&found, 34), (&found, 0), (&due, 0)];
     for (rota, room) in table {
         record(&mut bytes, &with_room(rota, room));

@@ -72,7 +72,12 @@ pub enum Repair {
 impl fmt::Display for Repair {
     fn fmt(&self, f: &mut fmt::Formatter<'_>) -> fmt::Result {
         match *self {
-            Repair::Slot { slot, owner, cause, frozen } => {
+            Repair::Slot {
+                slot,
+                owner,
+                cause,
+                frozen,
+            } => {
                 write!(f, "slot {slot}: ")?;
                 match cause {
                     Cause::Unknown => write!(f, "person {owner} isn't known, cleared")?,
@@ -83,7 +88,11 @@ impl fmt::Display for Repair {
             }
             Repair::Set { person, word, old, new } => write!(f, "person {person}'s set, word {word}: {old:#x} was wrong, now {new:#x}"),
             Repair::Minutes { person, old, new } => write!(f, "person {person}'s minutes: {old} was wrong, now {new}"),
-            Repair::Total { total: UNCOVERED_MINUTES, old, new } => write!(f, "uncovered minutes: {old} was wrong, now {new}"),
+            Repair::Total {
+                total: UNCOVERED_MINUTES,
+                old,
+                new,
+            } => write!(f, "uncovered minutes: {old} was wrong, now {new}"),
             Repair::Total { old, new, .. } => write!(f, "slots that nobody owns: {old} was wrong, now {new}"),
         }
     }
@@ -179,7 +188,13 @@ impl Assignment {
     /// assert_eq!(Assignment::mended(&problem, &[7; 4], &sets, &[180, 120], &[0, 0]).err(), Some(Refusal::ShortBuffer));
     /// # Ok::<(), Refusal>(())
     /// ```
-    pub fn mended(problem: &Problem, owners: &[u8], sets: &[u64], minutes: &[u64], totals: &[u64; TOTALS]) -> Result<(Self, Repairs), Refusal> {
+    pub fn mended(
+        problem: &Problem,
+        owners: &[u8],
+        sets: &[u64],
+        minutes: &[u64],
+        totals: &[u64; TOTALS],
+    ) -> Result<(Self, Repairs), Refusal> {
         let (people, slots) = (problem.human_count(), problem.slot_count());
         let (mut owners, mut sets, mut minutes, mut totals) = (owners.to_vec(), sets.to_vec(), minutes.to_vec(), *totals);
         let mut list = vec![0; REPAIR * (slots + SET_WORDS * people + people + TOTALS)];
