@@ -477,6 +477,16 @@ uint64_t boltraven_way_back(size_t people, size_t slots, size_t units, const uin
                             const uint64_t *totals, size_t totals_len, uint16_t *draws, size_t draws_len,
                             uint16_t *firsts, size_t firsts_len, uint16_t *seconds, size_t seconds_len, uint64_t *told);
 
+/* Mends a damaged rota over slots, units and availability that are right: an owner who is unknown or not available for the slot is cleared; then
+   a unit whose slots are not left with one owner is cleared whole; then sets, minutes and totals are worked out anew. How many repairs that took;
+   each has five numbers in `list`, ascending by the first two: the part (0 owners, 1 words of the sets, 2 minutes, 3 totals), the place in it, the
+   old and the new number, and 1 for a slot that is frozen, else 0. Refused by 1, 2, 9, and by 2 where `list` has no room for what came out (at most
+   1,570 repairs): then nothing is written. */
+uint64_t boltraven_mend(size_t people, size_t slots, size_t units, const uint32_t *starts, size_t starts_len, const uint32_t *ends,
+                        size_t ends_len, const uint64_t *avail, size_t avail_len, const uint16_t *unit_starts, size_t unit_starts_len,
+                        const uint64_t *frozen, size_t frozen_len, uint8_t *owners, size_t owners_len, uint64_t *sets, size_t sets_len,
+                        uint64_t *minutes, size_t minutes_len, uint64_t *totals, size_t totals_len, uint64_t *list, size_t list_len);
+
 /* ---- A whole job. */
 
 /* A job file's listing, at the front of `out`, and its length; `out` needs room for BOLTRAVEN_LISTING_MOST bytes. 0, or the refusal with

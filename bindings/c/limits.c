@@ -19,6 +19,7 @@ enum {
     WORDS = PEOPLE * SET,
     BASES = 992,
     STORE = 128 * 12,
+    REPAIRS = 5 * (SLOTS + WORDS + PEOPLE + BOLTRAVEN_TOTALS),
     LENT_STACK = 4 << 20,
     THREAD_STACK = 512 << 10,
     THREADS = 8,
@@ -30,6 +31,7 @@ struct room {
     uint32_t base_starts[BASES], base_ends[BASES], opens[RANGES], shuts[RANGES], starts[SLOTS], ends[SLOTS], froms[SLOTS], tos[SLOTS];
     uint32_t priors[PEOPLE], masks[SLOTS];
     uint64_t avail[WORDS], sets[WORDS], frozen[SET], minutes[PEOPLE], runs[PEOPLE], totals[BOLTRAVEN_TOTALS], first, last, next, slots, units;
+    uint64_t repairs[REPAIRS];
     int64_t targets[PEOPLE];
     double capacities[PEOPLE];
     struct boltraven_draw structs[DRAWS];
@@ -173,6 +175,10 @@ CALL(way_back) {
                               SET, r->owners, SLOTS, r->owners, SLOTS, r->sets, WORDS, r->minutes, PEOPLE, r->totals, BOLTRAVEN_TOTALS,
                               r->draws, DRAWS, r->firsts, DRAWS, r->seconds, DRAWS, &r->first);
 }
+CALL(mend) {
+    return boltraven_mend(PEOPLE, r->slots, r->units, r->starts, SLOTS, r->ends, SLOTS, r->avail, WORDS, r->unit_starts, SLOTS, r->frozen, SET,
+                          r->owners, SLOTS, r->sets, WORDS, r->minutes, PEOPLE, r->totals, BOLTRAVEN_TOTALS, r->repairs, REPAIRS);
+}
 CALL(run_job) { return boltraven_run_job(r->file, r->file_len, r->listing, BOLTRAVEN_LISTING_MOST, &r->first); }
 
 /* Each by its name. None may be refused, since the deepest way goes through the work: `most` is the largest answer that is no refusal. */
@@ -193,7 +199,7 @@ static const struct {
     DONE(minutes_per_day), DONE(target_run), DONE(achievable_run), DONE(achievable_runs), DONE(compute_targets), DONE(empty), DONE(from_slots),
     DONE(assign),
     NUMBER(owner_of_slot), DONE(minutes_of), NUMBER(unassigned_count), DONE(uncovered_minutes), DONE(recount), DONE(recount_slots),
-    DONE(may_be_used), DONE(play), DONE(play_draws), DONE(way_back), NUMBER(stretch), DONE(publish), DONE(show), DONE(run_job), NUMBER(count_settings),
+    DONE(may_be_used), DONE(play), DONE(play_draws), DONE(way_back), NUMBER(mend), NUMBER(stretch), DONE(publish), DONE(show), DONE(run_job), NUMBER(count_settings),
     DONE(save_settings), DONE(ask_settings)};
 
 enum { CALLS = sizeof calls / sizeof calls[0] };

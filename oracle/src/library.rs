@@ -111,6 +111,7 @@ exports! {
     led way_back(
         number, number, number, slice, slice, slice, slice, slice, slice, slice, slice, slice, slice, slice, slice, slice, out
     );
+    number mend(number, number, number, slice, slice, slice, slice, slice, slice, slice, slice, slice, slice);
     done empty(number, number, slice, slice, slice, slice, slice, slice);
     done recount(number, number, number, slice, slice, slice, slice, slice, slice, slice, slice);
     done recount_slots(number, number, slice, slice, slice, slice, slice, slice, slice);

@@ -16,6 +16,7 @@ mod jobs;
 mod lent_units;
 mod library;
 mod limits;
+mod mending;
 mod orders;
 mod planted;
 mod problems;
@@ -32,6 +33,7 @@ mod splitting;
 mod stored;
 mod stored_elsewhere;
 mod stored_jobs;
+mod stored_mending;
 mod stored_rotas;
 mod stored_slots;
 mod stored_units;
@@ -62,7 +64,7 @@ const fn kind(name: &'static str, questions: fn(u64) -> Vec<Question>) -> Kind {
 }
 
 /// Every kind.
-const KINDS: [Kind; 26] = [
+const KINDS: [Kind; 28] = [
     kind("slot-sets", sets::questions),
     kind("slot-sets-damaged", sets::damaged),
     kind("slots", splitting::questions),
@@ -85,6 +87,8 @@ const KINDS: [Kind; 26] = [
     kind("elsewhere-damaged", elsewhere::damaged),
     kind("ways-back", ways::questions),
     kind("ways-back-damaged", ways::damaged),
+    kind("mending", mending::questions),
+    kind("mending-damaged", mending::damaged),
     kind("jobs", jobs::questions),
     kind("jobs-damaged", jobs::damaged),
     kind("stores", stores::questions),
@@ -171,6 +175,7 @@ fn store(kind: &str, n: u64, seed: u64, folder: &Path) -> ExitCode {
         "columns" => Ok(columns::stored(n, seed)),
         "elsewhere" => Ok(stored_elsewhere::elsewhere(n, seed)),
         "ways-back" => Ok(stored_ways::ways(n, seed)),
+        "mending" => Ok(stored_mending::mending(n, seed)),
         "jobs" => stored_jobs::jobs(n, seed),
         "stores" => Ok(stores::stored(n, seed)),
         _ => Err(format!("no kind {kind}")),

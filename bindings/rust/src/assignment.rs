@@ -89,6 +89,28 @@ pub(crate) fn owner_byte(owner: Option<usize>) -> u8 {
     }
 }
 
+impl Assignment {
+    /// A rota of columns that were mended, cut to what counts.
+    pub(crate) fn of_columns(
+        mut owners: Vec<u8>,
+        mut sets: Vec<u64>,
+        mut minutes: Vec<u64>,
+        totals: [u64; TOTALS],
+        slots: usize,
+        people: usize,
+    ) -> Self {
+        owners.truncate(slots);
+        sets.truncate(SET_WORDS * people);
+        minutes.truncate(people);
+        Self {
+            owners,
+            sets,
+            minutes,
+            totals,
+        }
+    }
+}
+
 /// An owner in Rust's terms.
 fn owner_of(byte: u8) -> Option<usize> {
     (byte != NOBODY).then_some(usize::from(byte))

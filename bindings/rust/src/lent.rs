@@ -173,6 +173,18 @@
 //! let wrong = Refusal::Recount(Fault::WrongMinutes { person: 0 });
 //! assert_eq!((units, slots), (Err(wrong), Err(wrong)));
 //!
+//! // Wrong minutes and a wrong total are two repairs, for which the list needs ten numbers.
+//! let mut list = [9; 10];
+//! let short = lent::mend(
+//!     2, 2, 2, &starts, &ends, &avail, &unit_starts, &frozen, &mut owners, &mut sets, &mut minutes, &mut totals, &mut list[..9]
+//! );
+//! assert_eq!((short, minutes[0], list), (Err(Refusal::ShortBuffer), 7, [9; 10]));
+//! let repairs = lent::mend(
+//!     2, 2, 2, &starts, &ends, &avail, &unit_starts, &frozen, &mut owners, &mut sets, &mut minutes, &mut totals, &mut list
+//! );
+//! assert_eq!((repairs, minutes, totals), (Ok(2), [120, 0], [0, 0]));
+//! assert_eq!(list, [2, 0, 7, 120, 0, 3, 1, 7, 0, 0]);
+//!
 //! // Slot 0 is frozen, so it is read as published, and publishing leaves it.
 //! let (mut published, mut shown) = ([1, 1], [0; 2]);
 //! assert!(lent::stretch(2, &published, &owners, &[1; 16], 0, &mut out)?);
@@ -659,6 +671,15 @@ exports! {
         remembered: &[u8], owners: &[u8], sets: &[u64], minutes: &[u64], totals: &[u64], draws: &mut [u16], firsts: &mut [u16],
         seconds: &mut [u16], told: &mut u64
     ) -> Result<bool, Refusal> = led(u64);
+
+    /// Mends a damaged rota: an owner who is unknown or not available is cleared; then a unit whose slots are not left with one owner is
+    /// cleared whole; then sets, minutes and totals are worked out anew. How many repairs that took, each five numbers of the list: part (0
+    /// owners, 1 words of the sets, 2 minutes, 3 totals), place, old, new, and 1 for a frozen slot. A list without room for what comes out
+    /// is refused by 2, and nothing is written. Refusals: 1, 2, 9.
+    pub fn mend(
+        people: usize, slots: usize, units: usize, starts: &[u32], ends: &[u32], avail: &[u64], unit_starts: &[u16], frozen: &[u64],
+        owners: &mut [u8], sets: &mut [u64], minutes: &mut [u64], totals: &mut [u64], list: &mut [u64]
+    ) -> Result<usize, Refusal> = number(u64);
 
     /// Whether owners, units, sets, minutes and totals fit together, as a play asks it first; where not, the first part that fails and its lowest
     /// place. Refusals: 1, 2, 9, 10.

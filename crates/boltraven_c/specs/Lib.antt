@@ -1,4 +1,5 @@
 -- What the contracts of boltraven_c cite: answers as numbers.
+pub mod Mends
 pub mod Numbers
 pub mod Units
 pub mod Columns

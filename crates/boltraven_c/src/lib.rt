@@ -5,6 +5,7 @@ mod answers;
 mod columns_c;
 mod draws_c;
 mod job_c;
+mod mend_c;
 mod owners_c;
 mod rota_c;
 mod runs_c;

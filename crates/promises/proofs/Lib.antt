@@ -32,6 +32,7 @@ pub mod ManyCalls
 pub mod ColumnRules
 pub mod WayBack
 pub mod WayBackRule
+pub mod MendRule
 pub mod JobRules
 pub mod JobOwners
 pub mod JobFields

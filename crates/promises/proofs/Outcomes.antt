@@ -33,5 +33,6 @@ one-outcome-fits = record {
       let e = state.one-outcome y (r .0) (s .0) (r .1) (s .1) (r .2) (s .2) (r .3) (s .3) p q in four r s (e .0) (e .1) (e .2) (e .3);
   way-back = λ y r s p q.
       four r s (p .said ∙ sym (q .said)) (p .draws ∙ sym (q .draws)) (p .firsts ∙ sym (q .firsts)) (p .seconds ∙ sym (q .seconds));
+  mend = λ y r s p q. triple r s (p .said ∙ sym (q .said)) (p .left ∙ sym (q .left)) (p .list ∙ sym (q .list));
   run-job = λ y r s p q. pair r s (p .said ∙ sym (q .said)) (p .left ∙ sym (q .left));
 }

@@ -40,4 +40,5 @@ pub mod ListRules
 pub mod Accepts
 pub mod Exports
 pub mod WayBackRule
+pub mod MendRule
 pub mod Empty
