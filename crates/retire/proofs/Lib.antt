@@ -1,0 +1,2 @@
+-- The laws of retire.
+pub mod Rolling

@@ -1,0 +1,3 @@
+-- What the contracts of retire cite: what every column becomes, how much goes, what is new, and the whole outcome.
+pub mod Rolled
+pub mod Column

@@ -1,0 +1,4 @@
+// Past weeks retired: the leading units that are frozen whole go, the rest moves to the front, and new slots come behind it.
+mod column;
+
+pub use column::retire_column;
