@@ -1,2 +1,5 @@
 -- The laws of retire.
-pub mod Rolling
+pub mod Rolls
+pub mod Bits
+pub mod Figured
+pub mod News

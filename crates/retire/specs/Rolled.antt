@@ -17,3 +17,8 @@ rolled gone kept old new k = cond (ltb k kept) (old (gone + k)) (new (k - kept))
 -- the column with that in its first `count` entries; what lies past them stays
 unfoldable pub rolledColumn : ℕ → ℕ → ℕ → (ℕ → ℕ) → List ℕ → List ℕ
 rolledColumn gone kept count new l = over (rolled gone kept (entry l) new) count l
+
+-- unit starts: those left count from the first slot that is left, as `gone` slots went with the first units; new ones come behind all `kept`
+unfoldable pub beginThen : ℕ → ℕ → ℕ → ℕ → List ℕ → List ℕ → ℕ → ℕ
+beginThen goneUnits keptUnits gone kept begins fresh =
+    rolled goneUnits keptUnits (λ u. entry begins u - gone) (λ u. kept + entry fresh u)

@@ -5,7 +5,7 @@ use borrow.Author.Needs.{needs}
 use Rattle.paper.proofs.Rows.{said}
 use Rattle.slotset.proofs.Refusals.{work-is, old-is}
 use Rattle.retire.specs.Column.{retireColumn}
-use Rattle.retire.proofs.Rolling.{column-says}
+use Rattle.retire.proofs.Rolls.{column-says}
 use Rattle.retire.proofs.column.retire_column.Statement.{statement}
 use Rattle.retire.proofs.column.retire_column.Tie as tie
 

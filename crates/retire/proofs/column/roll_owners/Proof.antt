@@ -6,7 +6,7 @@ use borrow.Author.Needs.{needs}
 use lib.ListN.{length}
 use Rattle.paper.specs.Limits.{nobody}
 use Rattle.retire.specs.Rolled.{rolledColumn}
-use Rattle.retire.proofs.Rolling.{roll-none, roll-length, roll-old, roll-new, roll-done}
+use Rattle.retire.proofs.Rolls.{roll-none, roll-length, roll-old, roll-new, roll-done}
 use Rattle.retire.proofs.column.roll_owners.Statement.{statement}
 use Rattle.retire.proofs.column.roll_owners.Tie as tie
 

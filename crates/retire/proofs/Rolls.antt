@@ -12,7 +12,7 @@ use Rattle.paper.proofs.Count.{over-none, over-more, over-same, length-over, ge
 use Rattle.paper.specs.Limits.{numberOf}
 use Rattle.paper.proofs.Rows.{passed}
 use Rattle.retire.specs.Column.{columnRow}
-use Rattle.retire.specs.Rolled.{entry, rolled, rolledColumn}
+use Rattle.retire.specs.Rolled.{entry, rolled, rolledColumn, beginThen}
 
 -- ---- one entry
 
@@ -58,6 +58,39 @@ module _ (gone kept : ℕ) (new : ℕ → ℕ) (l : List ℕ) where
 
   pub roll-done : (k n : ℕ) (m : List ℕ) → m ≡ rolledColumn gone kept k new l → k ≤ n → n ≤ k → m ≡ rolledColumn gone kept n new l
   roll-done k n m e a b = let q : k ≡ n = omega arith in e ∙ ap (λ (x : ℕ). rolledColumn gone kept x new l) q
+
+-- ---- unit starts, which count from another slot then
+
+module _ (gone kept less more : ℕ) (l fresh : List ℕ) where
+  pub begins-none : l ≡ over (beginThen gone kept less more l fresh) 0 l
+  begins-none = sym (over-none _ l)
+
+  pub begins-length : (k : ℕ) (m : List ℕ) → m ≡ over (beginThen gone kept less more l fresh) k l → length m ≡ length l
+  begins-length k m e = ap length e ∙ length-over _ k l
+
+  begins-more : (k v : ℕ) (m : List ℕ) → m ≡ over (beginThen gone kept less more l fresh) k l → v ≡ beginThen gone kept less more l fresh k
+      → set m k v ≡ over (beginThen gone kept less more l fresh) (k + 1) l
+  begins-more k v m e q =
+      ap (λ (x : List ℕ). set x k v) e ∙ ap (set (over (beginThen gone kept less more l fresh) k l) k) q
+      ∙ sym (over-more (beginThen gone kept less more l fresh) k l)
+
+  pub begins-old : (k x v : ℕ) (m : List ℕ) → m ≡ over (beginThen gone kept less more l fresh) k l → k < kept → x ≡ getD m (gone + k) 0
+      → v ≡ x - less → set m k v ≡ over (beginThen gone kept less more l fresh) (k + 1) l
+  unfolding beginThen
+  begins-old k x v m e h p q =
+      let read : x ≡ getD l (gone + k) 0 =
+      p ∙ ap (λ (y : List ℕ). getD y (gone + k) 0) e ∙ getD-over-out _ k l (gone + k) (omega arith) in
+      begins-more k v m e (q ∙ ap (λ (y : ℕ). y - less) read ∙ sym (rolled-old gone kept _ _ k h))
+
+  pub begins-new : (k x v : ℕ) (m : List ℕ) → m ≡ over (beginThen gone kept less more l fresh) k l → kept ≤ k → x ≡ getD fresh (k - kept) 0
+      → v ≡ more + x → set m k v ≡ over (beginThen gone kept less more l fresh) (k + 1) l
+  unfolding beginThen
+  begins-new k x v m e h p q =
+      begins-more k v m e (q ∙ ap (λ (y : ℕ). more + y) p ∙ sym (rolled-new gone kept _ _ k h))
+
+  pub begins-done : (k n : ℕ) (m : List ℕ) → m ≡ over (beginThen gone kept less more l fresh) k l → k ≤ n → n ≤ k
+      → m ≡ over (beginThen gone kept less more l fresh) n l
+  begins-done k n m e a b = let q : k ≡ n = omega arith in e ∙ ap (λ (x : ℕ). over (beginThen gone kept less more l fresh) x l) q
 
 -- ---- what a published column's row of tests says where nothing is refused
 
