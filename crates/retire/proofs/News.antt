@@ -26,7 +26,7 @@ use Rattle.slots.proofs.SplitLaws.{atoms-even}
 use Rattle.slots.proofs.Meaning.{set-slot, bit-lt-two}
 use Rattle.units.specs.declared.Settings.{Settings}
 use Rattle.units.specs.Settings.{settingsOk}
-use Rattle.units.specs.Starts.{startsRow, unitStarts, unitStartsIs}
+use Rattle.units.specs.Starts.{startsRow, unitBegins, unitStarts, unitStartsIs}
 use Rattle.units.specs.Answers.{EndsAs, writtenAs}
 use Rattle.retire.specs.Inside.{NewRight, Written, WordsAre, numberOr}
 
@@ -85,15 +85,15 @@ module _ (s : Settings) (n : ℕ) (starts ends begins : List ℕ) (few : n ≤ 1
   unfolding startsRow
   starts-pass h =
       all-pass (startsRow s n starts ends begins)
-      (count-ok n h few, (slot-room n starts ends ok, (le-leb _ _ (omega arith), (right, (ok, tt)))))
+      (count-ok n h few, (slot-room n starts ends ok, (le-leb n (length begins) (omega arith), (right, (ok, tt)))))
 
   starts-few : length (unitStarts s n starts) ≤ 1024
   unfolding unitStarts
-  starts-few = omega (arith, among-le _ n)
+  starts-few = omega (arith, among-le (unitBegins (s .lock) (s .boundary) (s .value) starts) n)
 
   none-starts : n ≤ 0 → unitStarts s n starts ≡ []
   unfolding unitStarts among
-  none-starts h = let z : n ≡ 0 = omega arith in ap (λ (x : ℕ). among _ x) z
+  none-starts h = let z : n ≡ 0 = omega arith in ap (λ (x : ℕ). among (unitBegins (s .lock) (s .boundary) (s .value) starts) x) z
 
   none-number : n ≤ 0 → numberOf (startsRow s n starts ends begins) ≡ 1
   unfolding startsRow numberOf
@@ -162,7 +162,7 @@ module _ (people n : ℕ) (starts ends : List ℕ) (R : Ranges) (N : NewRight pe
     ranges = le-leb _ _ (N .ranges-few);
     lent = slot-room n starts ends (N .base-ok);
     lent-ranges = range-room people R (N .ranges-ok);
-    out = and-true _ _ (le-leb _ _ (omega arith)) (le-leb _ _ (omega arith));
+    out = and-true _ _ (le-leb 1024 (length a) (omega arith)) (le-leb 1024 (length b) (omega arith));
   }
 
   number-few : length A ≤ 1024 → numberOf (atomiseRow B) ≡ 0

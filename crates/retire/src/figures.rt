@@ -20,6 +20,13 @@ fn portion_of(owner: u8, person: u8, n: u32) -> u64
     0
 }
 
+// A number of 32 bits as one of 64.
+fn wide(x: u32) -> u64
+    ensures { λ r. ⌜ r ≡ x ⌝ }
+{
+    x as u64
+}
+
 // The minutes that a person, or nobody, owned of the first `gone` slots.
 fn minutes_gone(gone: usize, starts: &[u32], ends: &[u32], owners: &[u8], person: u8) -> u64
     requires { ⌜ gone ≤ 1024 ⌝ }
@@ -144,8 +151,9 @@ pub(crate) fn add_priors(
 {
     let mut p: usize = 0;
     while p < people {
+        let had = wide(priors[p]);
         let more = minutes_gone(gone, starts, ends, owners, p as u8);
-        priors[p] = (priors[p] as u64 + more) as u32;
+        priors[p] = (had + more) as u32;
         p += 1;
     }
 }

@@ -1,6 +1,6 @@
 -- `retire::figures::add_priors` meets its contract. Assumes nothing.
-use mathlib.Core.Path.{_≡_, refl}
-use Prim.Native.Nat.{_-_, _≤_}
+use mathlib.Core.Path.{_≡_}
+use Prim.Native.Nat.{_+_, _-_, _≤_, _<_}
 use native.Mathlib.Omega.{arith}
 use borrow.Author.Needs.{needs}
 use Rattle.paper.specs.Count.{over}
@@ -20,39 +20,49 @@ abbrev μ-loop : tie.MeasureT-loop
 loop-holds : tie.Need-loop-holds Inv-loop μ-loop
 loop-holds c = (omega arith, priors-none _ _ _ _ _ _)
 
-slice-read-priors : tie.Need-slice-read-priors Inv-loop μ-loop
-slice-read-priors c =
-    let b = c .before .before in
-    omega (arith, b .loop-test .taken, priors-length _ _ _ _ _ _ _ _ (b .before .loop .inv .1), b .before .before .before .before .before .before .pre .0 .2)
+slice-read-wide : tie.Need-slice-read-wide Inv-loop μ-loop
+slice-read-wide c =
+    let at = c .before .before .loop in
+    omega (
+      arith,
+      c .before .loop-test .taken,
+      priors-length _ _ _ _ _ _ _ _ (at .inv .1),
+      c .before .before .before .before .before .before .before .pre .0 .2,
+    )
 
 add-priors : tie.Need-add-priors Inv-loop μ-loop
 add-priors c =
-    let b = c .before .before in
-    let pre = b .before .before .before .before .before .before .pre in
-    let args = b .before .before .before .before .before .before .args in
-    let sum = prior-by (args .people) (args .gone) (args .starts .now) (args .ends .now) (args .owners .now) (args .priors .now) (b .before .loop .p) _ _
-    (prior-read _ _ _ _ _ _ _ _ _ (b .before .loop .inv .1) refl) (c .before .minutes-gone .ensures) in
-    omega (arith, sum, pre .1 (b .before .loop .p) (b .loop-test .taken))
+    let b = c .before .before .before .before in
+    let d = b .before .before .before .before .before in
+    let sum = prior-by (d .args .people) (d .args .gone) (d .args .starts .now) (d .args .ends .now) (d .args .owners .now)
+    (d .args .priors .now) (b .loop .p) _ _ (prior-read _ _ _ _ _ _ _ _ _ (b .loop .inv .1) (c .before .wide .ensures)) (c .minutes-gone .ensures) in
+    omega (arith, sum, d .pre .1 (b .loop .p) (c .before .before .before .loop-test .taken))
 
-cast-priors-2 : tie.Need-cast-priors-2 Inv-loop μ-loop
-cast-priors-2 c =
-    let b = c .before .before in
-    let pre = b .before .before .before .before .before .before .pre in
-    let args = b .before .before .before .before .before .before .args in
-    let sum = prior-by (args .people) (args .gone) (args .starts .now) (args .ends .now) (args .owners .now) (args .priors .now) (b .before .loop .p) _ _
-    (prior-read _ _ _ _ _ _ _ _ _ (b .before .loop .inv .1) refl) (c .before .minutes-gone .ensures) in
-    omega (arith, sum, pre .1 (b .before .loop .p) (b .loop-test .taken))
+cast-priors : tie.Need-cast-priors Inv-loop μ-loop
+cast-priors c =
+    let b = c .before .before .before .before in
+    let d = b .before .before .before .before .before in
+    let sum = prior-by (d .args .people) (d .args .gone) (d .args .starts .now) (d .args .ends .now) (d .args .owners .now)
+    (d .args .priors .now) (b .loop .p) _ _ (prior-read _ _ _ _ _ _ _ _ _ (b .loop .inv .1) (c .before .wide .ensures)) (c .minutes-gone .ensures) in
+    omega (arith, sum, d .pre .1 (b .loop .p) (c .before .before .before .loop-test .taken))
 
 slice-write-priors : tie.Need-slice-write-priors Inv-loop μ-loop
-slice-write-priors c = slice-read-priors c
+slice-write-priors c =
+    let b = c .before .before .before .before in
+    omega (
+      arith,
+      c .before .before .before .loop-test .taken,
+      priors-length _ _ _ _ _ _ _ _ (b .loop .inv .1),
+      b .before .before .before .before .before .pre .0 .2,
+    )
 
 loop-again : tie.Need-loop-again Inv-loop μ-loop
 loop-again c =
-    let b = c .before .before in
-    let args = b .before .before .before .before .before .before .args in
-    let sum = prior-by (args .people) (args .gone) (args .starts .now) (args .ends .now) (args .owners .now) (args .priors .now) (b .before .loop .p) _ _
-    (prior-read _ _ _ _ _ _ _ _ _ (b .before .loop .inv .1) refl) (c .before .minutes-gone .ensures) in
-    (omega (arith, b .loop-test .taken), priors-more _ _ _ _ _ _ _ _ _ (b .before .loop .inv .1) sum)
+    let b = c .before .before .before .before in
+    let d = b .before .before .before .before .before in
+    let sum = prior-by (d .args .people) (d .args .gone) (d .args .starts .now) (d .args .ends .now) (d .args .owners .now)
+    (d .args .priors .now) (b .loop .p) _ _ (prior-read _ _ _ _ _ _ _ _ _ (b .loop .inv .1) (c .before .wide .ensures)) (c .minutes-gone .ensures) in
+    (omega (arith, c .before .before .before .loop-test .taken), priors-more _ _ _ _ _ _ _ _ _ (b .loop .inv .1) sum)
 
 same-length : tie.Need-same-length Inv-loop μ-loop
 same-length c = priors-length _ _ _ _ _ _ _ _ (c .before .loop .inv .1)
@@ -68,12 +78,12 @@ add-priors-spec =
     μ-loop
     loop-holds
     (λ c. search needs)
+    slice-read-wide
     (λ c κs. search needs)
     (λ c. search needs)
-    slice-read-priors
-    (λ c. search needs)
+    (λ c κs. search needs)
     add-priors
-    cast-priors-2
+    cast-priors
     (λ c. search needs)
     slice-write-priors
     (λ c. search needs)
