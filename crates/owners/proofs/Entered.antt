@@ -2,7 +2,7 @@
 use mathlib.Core.Path.{_≡_, refl, sym, ap, ap₂, _∙_}
 use mathlib.Core.Bool.{Bool, true, false, cond, _&&_}
 use mathlib.Core.List.{List, [], _∷_, _++_}
-use Prim.Native.Nat.{ℕ, zero, suc, _+_, _-_, _*_, _≤_, _<_}
+use Prim.Native.Nat.{ℕ, _+_, _-_, _*_, _≤_, _<_, zero-le}
 use native.Mathlib.Omega.{arith}
 use borrow.Author.Tests.{eq-eqb, ne-eqb, eqb-true, leb-true}
 use lib.Dec.{eqb, leb}
@@ -10,19 +10,20 @@ use lib.ListN.{length, getD}
 use Rattle.paper.specs.Limits.{nobody, peopleOk, slotCountOk, Test, test, numberOf}
 use Rattle.paper.specs.declared.Refusal.{Refusal}
 use Rattle.paper.specs.Rows.{refusalOf, next}
-use Rattle.paper.specs.Count.{all, sum, count, fill, over}
-use Rattle.paper.proofs.Logic.{by-test, five, and-true, people-says, slot-count-says}
-use Rattle.paper.proofs.Count.{all-each, each-all, in-each, each-in, sum-more}
+use Rattle.paper.specs.Count.{all, sum, count, fill}
+use Rattle.paper.proofs.Logic.{five, both, and-true, people-says, slot-count-says}
+use Rattle.paper.proofs.Count.{all-each, each-all, in-each, each-in, sum-more, length-fill, getD-fill-in}
 use Rattle.paper.proofs.Rows.{Checked, checked-more, link, ends, said, passed, worked, kept}
 use Rattle.slotset.specs.Slots.{slot}
 use Rattle.slots.specs.Lent.{slotsOk}
 use Rattle.slots.proofs.LentLaws.{slots-sound}
 use Rattle.units.specs.Units.{unitStart, unitEnd, unitsOk}
-use Rattle.owners.specs.Derived.{Plan, Derived, derived, knownBy, held, unassigned, afresh, setsFrom, nobodies}
+use Rattle.owners.specs.Derived.{Plan, Derived, knownBy, held, unassigned, totalOf, afresh}
 use Rattle.owners.specs.Derived as figures
 use Rattle.owners.specs.Inside.{PlanSound, RotaRoom, Makes, InStep}
-use Rattle.owners.specs.Recount.{availableFor, knownAt, availableAt, evenAt, setSlotAt, setAt, minutesOkAt}
+use Rattle.owners.specs.Recount.{availableFor, knownAt, availableAt, evenAt, setSlotAt, setAt, minutesOkAt, totalOkAt}
 use Rattle.owners.specs.Recount.{firstFail, recountTests, recounts}
+use Rattle.owners.proofs.Minutes.{known-nobody}
 use Rattle.owners.proofs.RecountRefusals.{first-on, first-stops}
 use Rattle.owners.specs.Entries.{lentRow, recountRow, recountSlotsRow, Outcome, outcome, Ended, fromSlotsRow, fromSlots}
 use Rattle.owners.specs.Entries.{emptyRow, emptied, placeless, uncoveredRow}
@@ -51,8 +52,9 @@ pub record LentRight (P : Plan) (avail o : List ℕ) (D : Derived) : Type 0 wher
 
 pub lent-right : (P : Plan) (avail o : List ℕ) (D : Derived) → peopleOk (P .people) ≡ true → slotCountOk (P .slots) ≡ true
     → leb (16 * P .people) (length avail) ≡ true → leb (P .slots) (length o) ≡ true → leb (16 * P .people) (length (D .sets)) ≡ true
-    → leb (P .people) (length (D .minutes)) ≡ true → slotsOk (P .slots) (P .starts) (P .ends) ≡ true → LentRight P avail o D
-lent-right P avail o D people count sets owners words minutes lent =
+    → leb (P .people) (length (D .minutes)) ≡ true → leb 2 (length (D .totals)) ≡ true → slotsOk (P .slots) (P .starts) (P .ends) ≡ true
+    → LentRight P avail o D
+lent-right P avail o D people count sets owners words minutes totals lent =
     record {
       sound = plan-sound P people count lent;
       room = record {
@@ -60,6 +62,7 @@ lent-right P avail o D people count sets owners words minutes lent =
         owners-room = leb-true _ _ owners;
         sets-room = leb-true _ _ words;
         minutes-room = leb-true _ _ minutes;
+        totals-room = leb-true _ _ totals;
       };
       people = people;
       count = count;
@@ -72,17 +75,18 @@ pub lent-row-right : (counts room : Bool) (P : Plan) (avail o : List ℕ) (D : D
 unfolding lentRow
 lent-row-right counts room P avail o D z =
     let h = passed (lentRow counts room P avail o D) refl z in
-    lent-right P avail o D (h 0) (h 1) (h 4) (h 5) (h 6) (h 7) (h 9)
+    lent-right P avail o D (h 0) (h 1) (h 4) (h 5) (h 6) (h 7) (h 8) (h 10)
 
 -- ---- what the recount leaves known
 
-ten : (a b c d e : Bool)
-    → _≡_ {A = ℕ} (cond a (cond b (cond c (cond d (cond e 0 10) 10) 10) 10) 10) (cond (a && (b && (c && (d && e)))) 0 10)
-ten false b c d e = refl
-ten true false c d e = refl
-ten true true false d e = refl
-ten true true true false e = refl
-ten true true true true e = refl
+ten : (a b c d e f : Bool)
+    → _≡_ {A = ℕ} (cond a (cond b (cond c (cond d (cond e (cond f 0 10) 10) 10) 10) 10) 10) (cond (a && (b && (c && (d && (e && f))))) 0 10)
+ten false b c d e f = refl
+ten true false c d e f = refl
+ten true true false d e f = refl
+ten true true true false e f = refl
+ten true true true true false f = refl
+ten true true true true true f = refl
 
 pub record Recounted (P : Plan) (avail : List ℕ) (units : ℕ) (begins o : List ℕ) (D : Derived) : Type 0 where
   pub known : (k : ℕ) → k < P .slots → knownBy (P .people) (getD o k 0) ≡ true
@@ -91,14 +95,17 @@ pub record Recounted (P : Plan) (avail : List ℕ) (units : ℕ) (begins o : Lis
       begins u) 0
   pub sets : (p k : ℕ) → p < P .people → k < P .slots → slot (D .sets) (16 * p) k ≡ held o p k
   pub minutes : (p : ℕ) → p < P .people → getD (D .minutes) p 0 ≡ figures.worked P o p
+  pub totals : (i : ℕ) → i < 2 → getD (D .totals) i 0 ≡ totalOf P o i
 
 module _ (P : Plan) (avail : List ℕ) (units : ℕ) (begins o : List ℕ) (D : Derived) where
   pub recount-says : recounts P avail units begins o D ≡ true → Recounted P avail units begins o D
-  unfolding recounts knownAt availableAt evenAt setAt setSlotAt minutesOkAt
+  unfolding recounts knownAt availableAt evenAt setAt setSlotAt minutesOkAt totalOkAt
   recount-says e =
+      let figures-right = all (P .people) (minutesOkAt P o (D .minutes)) && all 2 (totalOkAt P o (D .totals)) in
       let x = five (all (P .slots) (knownAt (P .people) o)) (all (P .slots) (availableAt avail o)) (all units (evenAt (P .slots) units
       begins o))
-      (all (P .people) (setAt (P .slots) o (D .sets))) (all (P .people) (minutesOkAt P o (D .minutes))) e in
+      (all (P .people) (setAt (P .slots) o (D .sets))) figures-right e in
+      let y = both (all (P .people) (minutesOkAt P o (D .minutes))) (all 2 (totalOkAt P o (D .totals))) (x .4) in
       record {
         known = λ k h. all-each (P .slots) (knownAt (P .people) o) (x .0) k h;
         available = λ k h. all-each (P .slots) (availableAt avail o) (x .1) k h;
@@ -108,19 +115,21 @@ module _ (P : Plan) (avail : List ℕ) (units : ℕ) (begins o : List ℕ) (D : 
         sets = λ p k h g.
             eqb-true _ _ (all-each (P .slots) (setSlotAt o (D .sets) p) (all-each (P .people) (setAt (P .slots) o (D .sets)) (x .3)
             p h) k g);
-        minutes = λ p h. eqb-true _ _ (all-each (P .people) (minutesOkAt P o (D .minutes)) (x .4) p h);
+        minutes = λ p h. eqb-true _ _ (all-each (P .people) (minutesOkAt P o (D .minutes)) (y .0) p h);
+        totals = λ i h. eqb-true _ _ (all-each 2 (totalOkAt P o (D .totals)) (y .1) i h);
       }
 
   -- a rota of which all that holds passes the recount
   pub says-recount : Recounted P avail units begins o D → recounts P avail units begins o D ≡ true
-  unfolding recounts knownAt availableAt evenAt setAt setSlotAt minutesOkAt
+  unfolding recounts knownAt availableAt evenAt setAt setSlotAt minutesOkAt totalOkAt
   says-recount R =
       let k = each-all (P .slots) (knownAt (P .people) o) (R .known) in
       let f = each-all (P .slots) (availableAt avail o) (R .available) in
       let e = each-all units (evenAt (P .slots) units begins o) (λ u h. each-in _ _ _ (λ j a b. eq-eqb _ _ (R .even u j h a b))) in
       let s = each-all (P .people) (setAt (P .slots) o (D .sets)) (λ p h. each-all (P .slots) _ (λ j g. eq-eqb _ _ (R .sets p j h g))) in
       let m = each-all (P .people) (minutesOkAt P o (D .minutes)) (λ p h. eq-eqb _ _ (R .minutes p h)) in
-      and-true _ _ k (and-true _ _ f (and-true _ _ e (and-true _ _ s m)))
+      let t = each-all 2 (totalOkAt P o (D .totals)) (λ i h. eq-eqb _ _ (R .totals i h)) in
+      and-true _ _ k (and-true _ _ f (and-true _ _ e (and-true _ _ s (and-true _ _ m t))))
 
   pub recount-step : RotaRoom (P .people) (P .slots) avail o D → Recounted P avail units begins o D → InStep P o D
   recount-step R C =
@@ -128,9 +137,11 @@ module _ (P : Plan) (avail : List ℕ) (units : ℕ) (begins o : List ℕ) (D : 
         owners-room = R .owners-room;
         sets-room = R .sets-room;
         minutes-room = R .minutes-room;
+        totals-room = R .totals-room;
         known = C .known;
         sets = C .sets;
         minutes = C .minutes;
+        totals = C .totals;
       }
 
   -- their number is 10 exactly when it doesn't
@@ -138,9 +149,9 @@ module _ (P : Plan) (avail : List ℕ) (units : ℕ) (begins o : List ℕ) (D : 
   unfolding recounts recountTests numberOf
   recount-number =
       ten (all (P .slots) (knownAt (P .people) o)) (all (P .slots) (availableAt avail o)) (all units (evenAt (P .slots) units begins o))
-      (all (P .people) (setAt (P .slots) o (D .sets))) (all (P .people) (minutesOkAt P o (D .minutes)))
+      (all (P .people) (setAt (P .slots) o (D .sets))) (all (P .people) (minutesOkAt P o (D .minutes))) (all 2 (totalOkAt P o (D .totals)))
 
-  -- the first refusal of the whole row: of lent columns and units, or else of the five
+  -- the first refusal of the whole row: of lent columns and units, or else of the six
   module _ (counts room : Bool) (f g : Refusal) (ef : f ≡ refusalOf (lentRow counts room P avail o D))
       (eg : g ≡ next f (test 9 (unitsOk (P .slots) units begins))) where
     abbrev front : List Test
@@ -154,7 +165,7 @@ module _ (P : Plan) (avail : List ℕ) (units : ℕ) (begins o : List ℕ) (D : 
     unfolding lentRow
     front-right z =
         let h = passed front refl (sym (said front front-number) ∙ z) in
-        lent-right P avail o D (h 0) (h 1) (h 4) (h 5) (h 6) (h 7) (h 9)
+        lent-right P avail o D (h 0) (h 1) (h 4) (h 5) (h 6) (h 7) (h 8) (h 10)
 
     pub row-on : (r : Refusal) → g .number ≡ 0 → r ≡ refusalOf (recountTests P avail units begins o D)
         → r ≡ refusalOf (recountRow counts room P avail units begins o D)
@@ -180,10 +191,10 @@ module _ (P : Plan) (avail : List ℕ) (units : ℕ) (begins o : List ℕ) (D : 
       let h = passed (recountRow counts room P avail units begins o D) refl z in
       record {
         counts-ok = h 2;
-        room-ok = h 8;
-        on = lent-right P avail o D (h 0) (h 1) (h 4) (h 5) (h 6) (h 7) (h 9);
-        units-ok = h 10;
-        passes = and-true _ _ (h 11) (and-true _ _ (h 12) (and-true _ _ (h 13) (and-true _ _ (h 14) (h 15))));
+        room-ok = h 9;
+        on = lent-right P avail o D (h 0) (h 1) (h 4) (h 5) (h 6) (h 7) (h 8) (h 10);
+        units-ok = h 11;
+        passes = and-true _ _ (h 12) (and-true _ _ (h 13) (and-true _ _ (h 14) (and-true _ _ (h 15) (and-true _ _ (h 16) (h 17)))));
       }
 
 module _ (P : Plan) (avail o : List ℕ) (D : Derived) where
@@ -206,8 +217,8 @@ module _ (P : Plan) (avail o : List ℕ) (D : Derived) where
   unfolding recountSlotsRow lentRow recountTests recounts
   slots-asks z =
       let h = passed (recountSlotsRow P avail o D) refl z in (
-        lent-right P avail o D (h 0) (h 1) (h 4) (h 5) (h 6) (h 7) (h 9),
-        and-true _ _ (h 10) (and-true _ _ (h 11) (and-true _ _ (h 12) (and-true _ _ (h 13) (h 14)))),
+        lent-right P avail o D (h 0) (h 1) (h 4) (h 5) (h 6) (h 7) (h 8) (h 10),
+        and-true _ _ (h 11) (and-true _ _ (h 12) (and-true _ _ (h 13) (and-true _ _ (h 14) (and-true _ _ (h 15) (h 16))))),
       )
 
 -- ---- outcomes
@@ -255,14 +266,15 @@ module _ (P : Plan) (avail o : List ℕ) (D : Derived) where
   unfolding fromSlotsRow lentRow knownAt
   from-asks z =
       let h = passed (fromSlotsRow P avail o D) refl z in
-      let g = lent-right P avail o D (h 0) (h 1) (h 4) (h 5) (h 6) (h 7) (h 9) in
+      let g = lent-right P avail o D (h 0) (h 1) (h 4) (h 5) (h 6) (h 7) (h 8) (h 10) in
       let R = g .room in (
         g .sound,
         record {
           owners-room = R .owners-room;
           sets-room = R .sets-room;
           minutes-room = R .minutes-room;
-          known = all-each (P .slots) (knownAt (P .people) o) (h 10);
+          totals-room = R .totals-room;
+          known = all-each (P .slots) (knownAt (P .people) o) (h 11);
         },
       )
 
@@ -277,28 +289,41 @@ module _ (P : Plan) (avail o : List ℕ) (D : Derived) where
 
 -- ---- an empty rota
 
-module _ (people slots : ℕ) (o : List ℕ) (D : Derived) where
-  pub empty-says : numberOf (emptyRow people slots o D) ≡ 0
-      → (1 ≤ people) × (people ≤ 32) × (slots ≤ 1024) × (slots ≤ length o) × (16 * people ≤ length (D .sets)) × (people ≤ length (D
-      .minutes))
-  unfolding emptyRow
-  empty-says z =
-      let h = passed (emptyRow people slots o D) refl z in
-      let p = people-says people (h 0) in
-      let q = slot-count-says slots (h 1) in
-      (p .0, p .1, q .1, leb-true _ _ (h 2), leb-true _ _ (h 3), leb-true _ _ (h 4))
+module _ (P : Plan) (o : List ℕ) (D : Derived) where
+  abbrev none : List ℕ
+  none = fill nobody 0 (P .slots) o
 
-  module _ (n : ℕ) (e : n ≡ numberOf (emptyRow people slots o D)) where
-    pub emptied-refused : (n ≡ 0 → ⊥) → Ended (emptied people slots o D) (placeless n) o D []
+  -- owners that are nobody are known
+  pub empty-asks : numberOf (emptyRow P o D) ≡ 0 → (o′ : List ℕ) → o′ ≡ fill nobody 0 (P .slots - 0) o → PlanSound P × Makes P o′ D
+  unfolding emptyRow
+  empty-asks z o′ q =
+      let h = passed (emptyRow P o D) refl z in
+      let room : P .slots ≤ length o = leb-true _ _ (h 3) in (
+        plan-sound P (h 0) (h 1) (h 7),
+        record {
+          owners-room = omega (arith, ap length q, length-fill nobody 0 (P .slots - 0) o);
+          sets-room = leb-true _ _ (h 4);
+          minutes-room = leb-true _ _ (h 5);
+          totals-room = leb-true _ _ (h 6);
+          known = λ k l.
+              ap (λ (x : List ℕ). knownBy (P .people) (getD x k 0)) q
+              ∙ ap (knownBy (P .people)) (getD-fill-in nobody 0 (P .slots - 0) o k zero-le (omega arith) (omega arith))
+              ∙ known-nobody (P .people);
+        },
+      )
+
+  module _ (n : ℕ) (e : n ≡ numberOf (emptyRow P o D)) where
+    pub emptied-refused : (n ≡ 0 → ⊥) → Ended (emptied P o D) (placeless n) o D []
     unfolding emptied
     emptied-refused z = ended-refused (placeless n) _ (ap placeless e) o D [] _ _ _ z
 
-    pub emptied-yes : (o′ s m : List ℕ) → n ≡ 0 → o′ ≡ fill nobody 0 (slots - 0) o → s ≡ setsFrom people slots (nobodies slots) (D .sets)
-        → m ≡ over (λ _. 0) people (D .minutes) → Ended (emptied people slots o D) (placeless 0) o′ (derived s m) []
+    pub emptied-yes : (o′ : List ℕ) (E : Derived) → n ≡ 0 → o′ ≡ fill nobody 0 (P .slots - 0) o → E ≡ afresh P o′ D
+        → Ended (emptied P o D) (placeless 0) o′ E []
     unfolding emptied
-    emptied-yes o′ s m z a b c =
-        let q : slots - 0 ≡ slots = omega arith in
-        ended-yes (placeless 0) _ (ap placeless (sym z ∙ e)) o D [] _ _ _ refl o′ (derived s m) [] (a ∙ ap (λ (k : ℕ). fill nobody 0 k o) q) (ap₂ {C = Derived} derived b c) refl
+    emptied-yes o′ E z a b =
+        let q : P .slots - 0 ≡ P .slots = omega arith in
+        let x : o′ ≡ none = a ∙ ap (λ (k : ℕ). fill nobody 0 k o) q in
+        ended-yes (placeless 0) _ (ap placeless (sym z ∙ e)) o D [] _ _ _ refl o′ E [] x (b ∙ ap (λ (l : List ℕ). afresh P l D) x) refl
 
 -- ---- readers
 
@@ -328,10 +353,3 @@ nobody-same o k n e q =
 pub nobody-none : (o : List ℕ) → 0 ≡ unassigned 0 o
 unfolding unassigned count sum
 nobody-none o = refl
-
-pub nobody-le : (o : List ℕ) (k : ℕ) → unassigned k o ≤ k
-unfolding unassigned count sum
-nobody-le o zero = omega arith
-nobody-le o (suc k) = by-test (eqb (getD o k 0) nobody) _
-    (λ t. omega (arith, nobody-le o k, ap {B = ℕ} (λ (b : Bool). cond b 1 0) t))
-    (λ f. omega (arith, nobody-le o k, ap {B = ℕ} (λ (b : Bool). cond b 1 0) f))

@@ -1,5 +1,6 @@
 -- The laws of owners.
 pub mod Minutes
+pub mod Totals
 pub mod Sets
 pub mod Steps
 pub mod Made

@@ -10,11 +10,11 @@ use lib.Dec.{eqb, ltb}
 use lib.ListN.{length, getD, set}
 use lib.Seq.{getD-set-same, getD-set-other}
 use Rattle.paper.specs.Limits.{nobody}
-use Rattle.paper.specs.Count.{sum, sumIn, fill}
+use Rattle.paper.specs.Count.{sum, sumIn, count, fill}
 use Rattle.paper.proofs.Logic.{by-test, or-right, lt-or-ge}
-use Rattle.paper.proofs.Count.{sum-same, sum-add, sum-change, sum-mono, sum-rises, length-fill, getD-fill-out}
+use Rattle.paper.proofs.Count.{sum-same, sum-add, sum-more, sum-change, sum-mono, sum-rises, length-fill, getD-fill-out}
 use Rattle.slots.specs.Lent.{demandOf}
-use Rattle.owners.specs.Derived.{Plan, lengthAt, knownBy, portion, worked, uncovered, stretchMinutes}
+use Rattle.owners.specs.Derived.{Plan, lengthAt, knownBy, portion, worked, uncovered, unassigned, stretchMinutes}
 
 -- the minutes of slots a up to e
 abbrev pub minutesIn : Plan → ℕ → ℕ → ℕ
@@ -129,37 +129,94 @@ worked-le P o p = worked-part-le P o p (P .slots) (omega arith)
 
 -- ---- a stretch changes hands
 
-worked-set : (P : Plan) (o : List ℕ) (p k w : ℕ) → k < P .slots → k < length o
-    → worked P (set o k w) p + portion (getD o k 0) p (lengthAt P k) ≡ worked P o p + portion w p (lengthAt P k)
-unfolding worked
-worked-set P o p k w h r =
-    sum-change (P .slots) k (λ j. portion (getD o j 0) p (lengthAt P j)) (λ j. portion (getD (set o k w) j 0) p (lengthAt P j)) h
-    (λ j ne. ap (λ (x : ℕ). portion x p (lengthAt P j)) (sym (getD-set-other o k j w 0 ne)))
-    ∙ ap (λ (x : ℕ). sum (P .slots) (λ j. portion (getD o j 0) p (lengthAt P j)) + portion x p (lengthAt P k)) (getD-set-same o k w 0 r)
+-- what p owns of the first n slots, each counting for `len` of it: minutes, or 1
+unfoldable pub ownedOf : ℕ → (ℕ → ℕ) → List ℕ → ℕ → ℕ
+ownedOf n len o p = sum n (λ k. portion (getD o k 0) p (len k))
+
+owned-set : (n : ℕ) (len : ℕ → ℕ) (o : List ℕ) (p k w : ℕ) → k < n → k < length o
+    → ownedOf n len (set o k w) p + portion (getD o k 0) p (len k) ≡ ownedOf n len o p + portion w p (len k)
+unfolding ownedOf
+owned-set n len o p k w h r =
+    sum-change n k (λ j. portion (getD o j 0) p (len j)) (λ j. portion (getD (set o k w) j 0) p (len j)) h
+    (λ j ne. ap (λ (x : ℕ). portion x p (len j)) (sym (getD-set-other o k j w 0 ne)))
+    ∙ ap (λ (x : ℕ). sum n (λ j. portion (getD o j 0) p (len j)) + portion x p (len k)) (getD-set-same o k w 0 r)
 
 portion-add : (w p n m : ℕ) → portion w p (n + m) ≡ portion w p n + portion w p m
 unfolding portion
 portion-add w p n m = by-test (eqb w p) _ (λ t. simp t) (λ f. simp f (omega arith))
 
--- n slots from a on go from old to w
-fill-worked : (P : Plan) (o : List ℕ) (p a n old w : ℕ) → a + n ≤ P .slots → P .slots ≤ length o → ((k : ℕ) → a ≤ k → k < a + n →
-    getD o k 0 ≡ old)
-    → worked P (fill w a n o) p + portion old p (sum n (λ j. lengthAt P (a + j))) ≡ worked P o p + portion w p (sum n (λ j. lengthAt
-    P (a + j)))
-unfolding fill sum portion
-fill-worked P o p a zero old w h r s = by-test (eqb old p) _ (λ t. by-test (eqb w p) _ (λ y. simp (t, y)) (λ y. simp (t, y)))
-    (λ t. by-test (eqb w p) _ (λ y. simp (t, y)) (λ y. simp (t, y)))
-fill-worked P o p a (suc n) old w h r s =
-    let f = sum n (λ j. lengthAt P (a + j)) in
-    let l = lengthAt P (a + n) in
-    let o′ = fill w a n o in
-    let ih = fill-worked P o p a n old w (omega arith) r (λ k x y. s k x (omega arith)) in
-    let one = worked-set P o′ p (a + n) w (omega arith) (omega (arith, length-fill w a n o)) in
-    let at : getD o′ (a + n) 0 ≡ old = getD-fill-out w a n o (a + n) (λ x y. omega arith) ∙ s (a + n) (omega arith) (omega arith) in
+portion-none : (w p : ℕ) → portion w p 0 ≡ 0
+unfolding portion
+portion-none w p = by-test (eqb w p) _ (λ t. simp t) (λ f. simp f)
+
+-- m slots from a on go from old to w
+fill-owned : (n : ℕ) (len : ℕ → ℕ) (o : List ℕ) (p a m old w : ℕ) → a + m ≤ n → n ≤ length o
+    → ((k : ℕ) → a ≤ k → k < a + m → getD o k 0 ≡ old)
+    → ownedOf n len (fill w a m o) p + portion old p (sum m (λ j. len (a + j))) ≡ ownedOf n len o p + portion w p (sum m (λ j. len (a + j)))
+unfolding fill sum
+fill-owned n len o p a zero old w h r s = omega (arith, portion-none old p, portion-none w p)
+fill-owned n len o p a (suc m) old w h r s =
+    let f = sum m (λ j. len (a + j)) in
+    let l = len (a + m) in
+    let o′ = fill w a m o in
+    let ih = fill-owned n len o p a m old w (omega arith) r (λ k x y. s k x (omega arith)) in
+    let one = owned-set n len o′ p (a + m) w (omega arith) (omega (arith, length-fill w a m o)) in
+    let at : getD o′ (a + m) 0 ≡ old = getD-fill-out w a m o (a + m) (λ x y. omega arith) ∙ s (a + m) (omega arith) (omega arith) in
     omega (arith, ih, one, ap (λ (x : ℕ). portion x p l) at, portion-add old p f l, portion-add w p f l)
+
+-- m slots more, from a on, that w owns
+owned-more : (len : ℕ → ℕ) (o : List ℕ) (p a m w : ℕ) → ((k : ℕ) → a ≤ k → k < a + m → getD o k 0 ≡ w)
+    → ownedOf (a + m) len o p ≡ ownedOf a len o p + portion w p (sum m (λ j. len (a + j)))
+unfolding ownedOf sum
+owned-more len o p a zero w s =
+    let z : a + 0 ≡ a = omega arith in
+    omega (arith, ap (λ (n : ℕ). ownedOf n len o p) z, portion-none w p)
+owned-more len o p a (suc m) w s =
+    let ih = owned-more len o p a m w (λ k x y. s k x (omega arith)) in
+    let q : a + suc m ≡ a + m + 1 = omega arith in
+    let one = ap (λ (n : ℕ). ownedOf n len o p) q ∙ sum-more (a + m) (λ k. portion (getD o k 0) p (len k)) in
+    let at = ap (λ (x : ℕ). portion x p (len (a + m))) (s (a + m) (omega arith) (omega arith)) in
+    let two = portion-add w p (sum m (λ j. len (a + j))) (len (a + m)) in
+    omega (arith, one, ih, at, two)
 
 pub worked-over : (P : Plan) (o : List ℕ) (p a e old w : ℕ) → a ≤ e → e ≤ P .slots → P .slots ≤ length o
     → ((k : ℕ) → a ≤ k → k < e → getD o k 0 ≡ old)
     → worked P (fill w a (e - a) o) p + portion old p (minutesIn P a e) ≡ worked P o p + portion w p (minutesIn P a e)
-unfolding stretchMinutes sumIn
-worked-over P o p a e old w h g r s = fill-worked P o p a (e - a) old w (omega arith) r (λ k x y. s k x (omega arith))
+unfolding worked ownedOf stretchMinutes sumIn
+worked-over P o p a e old w h g r s = fill-owned (P .slots) (lengthAt P) o p a (e - a) old w (omega arith) r (λ k x y. s k x (omega arith))
+
+-- ---- how many slots nobody owns
+
+ones : (n : ℕ) → sum n (λ _. 1) ≡ n
+unfolding sum
+ones zero = refl
+ones (suc n) = omega (arith, ones n)
+
+pub unassigned-over : (n : ℕ) (o : List ℕ) (a e old w : ℕ) → a ≤ e → e ≤ n → n ≤ length o → ((k : ℕ) → a ≤ k → k < e → getD o k 0 ≡ old)
+    → unassigned n (fill w a (e - a) o) + portion old nobody (e - a) ≡ unassigned n o + portion w nobody (e - a)
+unfolding unassigned count ownedOf portion
+unassigned-over n o a e old w h g r s =
+    let x = fill-owned n (λ _. 1) o nobody a (e - a) old w (omega arith) r (λ k x y. s k x (omega arith)) in
+    let y = ones (e - a) in
+    ap (λ (k : ℕ). unassigned n (fill w a (e - a) o) + portion old nobody k) (sym y) ∙ x ∙ ap (λ (k : ℕ). unassigned n o + portion w nobody k) y
+
+-- ---- the first slots alone
+
+-- the plan of the first i slots
+abbrev pub upTo : ℕ → Plan → Plan
+upTo i P = record { people = P .people; slots = i; starts = P .starts; ends = P .ends }
+
+-- slots a up to e more, which w owns
+module _ (P : Plan) (o : List ℕ) (a e w : ℕ) (h : a ≤ e) (s : (k : ℕ) → a ≤ k → k < e → getD o k 0 ≡ w) where
+  pub worked-more : (p : ℕ) → worked (upTo e P) o p ≡ worked (upTo a P) o p + portion w p (minutesIn P a e)
+  unfolding worked ownedOf stretchMinutes sumIn
+  worked-more p =
+      let q : a + (e - a) ≡ e = omega arith in
+      sym (ap (λ (n : ℕ). ownedOf n (lengthAt P) o p) q) ∙ owned-more (lengthAt P) o p a (e - a) w (λ k x y. s k x (omega arith))
+
+  pub unassigned-more : unassigned e o ≡ unassigned a o + portion w nobody (e - a)
+  unfolding unassigned count ownedOf portion
+  unassigned-more =
+      let q : a + (e - a) ≡ e = omega arith in
+      sym (ap (λ (n : ℕ). ownedOf n (λ _. 1) o nobody) q) ∙ owned-more (λ _. 1) o nobody a (e - a) w (λ k x y. s k x (omega arith))
+      ∙ ap (λ (k : ℕ). unassigned a o + portion w nobody k) (ones (e - a))

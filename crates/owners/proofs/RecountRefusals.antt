@@ -20,9 +20,10 @@ use Rattle.slotset.specs.Slots.{slot, sameSlots}
 use Rattle.slotset.specs.declared.YesNo.the-variants as yesNo
 use Rattle.slotset.specs.Answers.{sameSets, sameSetsRow, yesNoAs}
 use Rattle.slotset.proofs.Refusals.{says-same}
-use Rattle.owners.specs.Derived.{Plan, Derived, derived, worked, held, setsFrom, afresh}
+use Rattle.owners.specs.Derived.{Plan, Derived, derived, worked, totalOf, held, setsFrom, afresh}
 use Rattle.owners.specs.Inside.{PlanSound, Makes, isYes, sameSet, sameEntry}
-use Rattle.owners.specs.Recount.{firstFail, knownAt, availableAt, evenAt, setSlotAt, setAt, minutesOkAt, derivedTests, recountTests}
+use Rattle.owners.specs.Recount.{firstFail, knownAt, availableAt, evenAt, setSlotAt, setAt, minutesOkAt, totalOkAt}
+use Rattle.owners.specs.Recount.{derivedTests, recountTests}
 use Rattle.owners.proofs.Sets.{sets-in, length-sets}
 use Rattle.owners.proofs.Scans.{scan-no, scan-yes, scan-halved, first-is, first-same}
 
@@ -93,13 +94,16 @@ module _ (P : Plan) (avail : List ℕ) (units : ℕ) (begins o : List ℕ) (D : 
         refusal-derived h q =
             simp (scan-yes (P .slots) a known ea ha, scan-yes (P .slots) b available eb hb, scan-yes units c even ec h) q
 
--- of sets and minutes
+-- of sets, minutes and totals
 module _ (P : Plan) (o : List ℕ) (D : Derived) (f : Refusal) where
   abbrev sets : ℕ → Bool
   sets = setAt (P .slots) o (D .sets)
 
   abbrev minutes : ℕ → Bool
   minutes = minutesOkAt P o (D .minutes)
+
+  abbrev totals : ℕ → Bool
+  totals = totalOkAt P o (D .totals)
 
   pub refusal-set : (p k : ℕ) → p ≡ firstFail (P .people) sets → k ≡ firstFail (P .slots) (setSlotAt o (D .sets) p)
       → all (P .people) sets ≡ false → f ≡ ten 4 p k → f ≡ refusalOf (derivedTests P o D)
@@ -112,26 +116,33 @@ module _ (P : Plan) (o : List ℕ) (D : Derived) (f : Refusal) where
     unfolding refusalOf
     refusal-minutes l q = simp (h, scan-no (P .people) m minutes em l) (q ∙ ap (λ (x : ℕ). ten 5 x 0) em)
 
-    pub refusal-clean : P .people ≤ m → f ≡ accepted → f ≡ refusalOf (derivedTests P o D)
-    unfolding refusalOf
-    refusal-clean l q = simp (h, scan-yes (P .people) m minutes em l) q
+    module _ (l : P .people ≤ m) (i : ℕ) (ei : i ≡ firstFail 2 totals) where
+      pub refusal-total : i < 2 → f ≡ ten 6 i 0 → f ≡ refusalOf (derivedTests P o D)
+      unfolding refusalOf
+      refusal-total g q =
+          simp (h, scan-yes (P .people) m minutes em l, scan-no 2 i totals ei g) (q ∙ ap (λ (x : ℕ). ten 6 x 0) ei)
 
--- ---- sets and minutes worked out beside those that are lent
+      pub refusal-clean : 2 ≤ i → f ≡ accepted → f ≡ refusalOf (derivedTests P o D)
+      unfolding refusalOf
+      refusal-clean g q = simp (h, scan-yes (P .people) m minutes em l, scan-yes 2 i totals ei g) q
+
+-- ---- sets, minutes and totals worked out beside those that are lent
 
 abbrev none : Derived
-none = derived (replicate 512 0) (replicate 32 0)
+none = derived (replicate 512 0) (replicate 32 0) (replicate 2 0)
 
-module _ (P : Plan) (S : PlanSound P) (o s m : List ℕ) (M : Makes P o (derived s m)) where
+module _ (P : Plan) (S : PlanSound P) (o s m t : List ℕ) (M : Makes P o (derived s m t)) where
   pub none-makes : Makes P o none
   none-makes =
       record {
         owners-room = M .owners-room;
         sets-room = omega (arith, length-replicate {A = ℕ} 512 0, S .people-few);
         minutes-room = omega (arith, length-replicate {A = ℕ} 32 0, S .people-few);
+        totals-room = omega (arith, length-replicate {A = ℕ} 2 0);
         known = M .known;
       }
 
-  module _ (s′ m′ : List ℕ) (e : derived s′ m′ ≡ afresh P o none) where
+  module _ (s′ m′ t′ : List ℕ) (e : derived s′ m′ t′ ≡ afresh P o none) where
     made-sets : s′ ≡ setsFrom (P .people) (P .slots) o (replicate 512 0)
     unfolding afresh
     made-sets = ap (λ (x : Derived). x .sets) e
@@ -140,10 +151,15 @@ module _ (P : Plan) (S : PlanSound P) (o s m : List ℕ) (M : Makes P o (derived
     unfolding afresh
     made-minutes = ap (λ (x : Derived). x .minutes) e
 
-    pub made-lengths : (length s′ ≡ 512) × (length m′ ≡ 32)
+    made-totals : t′ ≡ over (totalOf P o) 2 (replicate 2 0)
+    unfolding afresh
+    made-totals = ap (λ (x : Derived). x .totals) e
+
+    pub made-lengths : (length s′ ≡ 512) × (length m′ ≡ 32) × (length t′ ≡ 2)
     made-lengths = (
       ap length made-sets ∙ length-sets (P .people) (P .slots) o (replicate 512 0) ∙ length-replicate {A = ℕ} 512 0,
       ap length made-minutes ∙ length-over (worked P o) (P .people) (replicate 32 0) ∙ length-replicate {A = ℕ} 32 0,
+      ap length made-totals ∙ length-over (totalOf P o) 2 (replicate 2 0) ∙ length-replicate {A = ℕ} 2 0,
     )
 
     set-right : (p : ℕ) → p < P .people → sameSet (P .slots) s s′ p ≡ setAt (P .slots) o s p
@@ -159,6 +175,12 @@ module _ (P : Plan) (S : PlanSound P) (o s m : List ℕ) (M : Makes P o (derived
         ap (eqb (getD m p 0)) (ap (λ (x : List ℕ). getD x p 0) made-minutes
         ∙ getD-over (worked P o) (P .people) (replicate 32 0) p h (omega (arith, length-replicate {A = ℕ} 32 0, S .people-few)))
 
+    total-right : (i : ℕ) → i < 2 → sameEntry t t′ i ≡ totalOkAt P o t i
+    unfolding totalOkAt
+    total-right i h =
+        ap (eqb (getD t i 0)) (ap (λ (x : List ℕ). getD x i 0) made-totals
+        ∙ getD-over (totalOf P o) 2 (replicate 2 0) i h (omega (arith, length-replicate {A = ℕ} 2 0)))
+
     -- word by word as slot by slot
     pub right-sets : sameSets s s′ (P .people) (P .slots) ≡ all (P .people) (setAt (P .slots) o s)
     unfolding sameSets
@@ -169,6 +191,9 @@ module _ (P : Plan) (S : PlanSound P) (o s m : List ℕ) (M : Makes P o (derived
 
     pub right-minutes : firstFail (P .people) (sameEntry m m′) ≡ firstFail (P .people) (minutesOkAt P o m)
     right-minutes = first-same (P .people) _ _ minute-right
+
+    pub right-totals : firstFail 2 (sameEntry t t′) ≡ firstFail 2 (totalOkAt P o t)
+    right-totals = first-same 2 _ _ total-right
 
 -- the first people's sets are the same, and one more person's are not
 pub halved-sets : (ws vs : List ℕ) (people slots low high : ℕ) → low < people → high ≡ suc low → sameSets ws vs low slots ≡ true

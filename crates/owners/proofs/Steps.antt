@@ -21,54 +21,70 @@ use Rattle.paper.specs.Rows.{unless}
 use Rattle.slotset.specs.Answers.{rowStretchRefusal, rowStretchOf}
 use Rattle.slotset.proofs.Refusals.{stretch-puts}
 use Rattle.units.proofs.Sets.{row-ok}
-use Rattle.owners.specs.Derived.{Plan, knownBy, portion, worked, Derived, derived, afresh, setFor, lessAt, moreAt, stretchMinutes}
-use Rattle.owners.specs.Derived.{wrapped, carried, lengthAt}
+use Rattle.owners.specs.Derived.{Plan, knownBy, portion, worked, totalOf, Derived, derived, afresh, setFor, lessAt, moreAt, stretchMinutes}
+use Rattle.owners.specs.Derived.{wrapped, lessTotals, moreTotals, taken, given, carried, lengthAt}
 use Rattle.owners.specs.Inside.{PlanSound, InStep, OneOwner, HandedOver}
 use Rattle.owners.proofs.Minutes.{minutesIn, known-below, portion-own, portion-other, worked-over, part-le, worked-le}
+use Rattle.owners.proofs.Totals.{totals-handed, length-less-totals, length-more-totals}
 use Rattle.owners.proofs.Sets.{length-sets, sets-fit, sets-in, sets-again, sets-same, stretchFor, length-set-for, sets-handed}
 
 -- ---- worked out afresh
+
+-- columns that are the same make the same record
+pub derived-same : {s s′ m m′ t t′ : List ℕ} → s ≡ s′ → m ≡ m′ → t ≡ t′ → _≡_ {A = Derived} (derived s m t) (derived s′ m′ t′)
+derived-same {s} {s′} {m} {m′} {t} {t′} p q r = ap₂ {C = Derived} (λ (x y : List ℕ). derived x y t) p q ∙ ap {B = Derived} (derived s′ m′) r
 
 -- what is worked out afresh forgets what was there before
 pub afresh-again : (P : Plan) (o o′ : List ℕ) (D : Derived) → P .slots ≤ 1024 → 16 * P .people ≤ length (D .sets) → Fit (D .sets)
     → afresh P o′ (afresh P o D) ≡ afresh P o′ D
 unfolding afresh
 afresh-again P o o′ D few room f =
-    ap₂ {C = Derived} derived (sets-again (P .people) (P .slots) o o′ (D .sets) few room f) (over-again (worked P o) (worked P o′)
-    (P .people) (D .minutes))
+    derived-same (sets-again (P .people) (P .slots) o o′ (D .sets) few room f)
+    (over-again (worked P o) (worked P o′) (P .people) (D .minutes)) (over-again (totalOf P o) (totalOf P o′) 2 (D .totals))
 
 -- a rota in step is the one worked out afresh from its owners
 pub afresh-same : (P : Plan) (o : List ℕ) (D : Derived) → P .slots ≤ 1024 → Fit (D .sets) → InStep P o D → D ≡ afresh P o D
 unfolding afresh
 afresh-same P o D few f J =
-    ap₂ {C = Derived} derived (sets-same (P .people) (P .slots) o (D .sets) few (J .sets-room) f (J .sets))
-    (over-right (worked P o) (P .people) (D .minutes) (J .minutes))
+    derived-same (sets-same (P .people) (P .slots) o (D .sets) few (J .sets-room) f (J .sets))
+    (over-right (worked P o) (P .people) (D .minutes) (J .minutes)) (over-right (totalOf P o) 2 (D .totals) (J .totals))
 
 -- what was worked out afresh is in step
 pub afresh-step : (P : Plan) (o : List ℕ) (D : Derived) → P .slots ≤ 1024 → P .slots ≤ length o → 16 * P .people ≤ length (D .sets)
-    → P .people ≤ length (D .minutes) → ((k : ℕ) → k < P .slots → knownBy (P .people) (getD o k 0) ≡ true) → InStep P o (afresh P o D)
+    → P .people ≤ length (D .minutes) → 2 ≤ length (D .totals) → ((k : ℕ) → k < P .slots → knownBy (P .people) (getD o k 0) ≡ true)
+    → InStep P o (afresh P o D)
 unfolding afresh
-afresh-step P o D few lo ls lm k =
+afresh-step P o D few lo ls lm lt k =
     record {
       owners-room = lo;
       sets-room = omega (arith, length-sets (P .people) (P .slots) o (D .sets));
       minutes-room = omega (arith, length-over (worked P o) (P .people) (D .minutes));
+      totals-room = omega (arith, length-over (totalOf P o) 2 (D .totals));
       known = k;
       sets = sets-in (P .slots) o (D .sets) few (P .people) ls;
       minutes = λ p h. getD-over (worked P o) (P .people) (D .minutes) p h (omega arith);
+      totals = λ i h. getD-over (totalOf P o) 2 (D .totals) i h (omega arith);
     }
 
 -- lengths and words stay
 pub afresh-lengths : (P : Plan) (o : List ℕ) (D : Derived)
     → (length (afresh P o D .sets) ≡ length (D .sets)) × (length (afresh P o D .minutes) ≡ length (D .minutes))
+    × (length (afresh P o D .totals) ≡ length (D .totals))
 unfolding afresh
-afresh-lengths P o D = (length-sets (P .people) (P .slots) o (D .sets), length-over (worked P o) (P .people) (D .minutes))
+afresh-lengths P o D = (
+  length-sets (P .people) (P .slots) o (D .sets),
+  length-over (worked P o) (P .people) (D .minutes),
+  length-over (totalOf P o) 2 (D .totals),
+)
 
 pub lengths-kept : (P : Plan) (o : List ℕ) (D D′ : Derived) → D′ ≡ afresh P o D
-    → (length (D′ .sets) ≡ length (D .sets)) × (length (D′ .minutes) ≡ length (D .minutes))
+    → (length (D′ .sets) ≡ length (D .sets)) × (length (D′ .minutes) ≡ length (D .minutes)) × (length (D′ .totals) ≡ length (D .totals))
 lengths-kept P o D D′ e =
-    let x = afresh-lengths P o D in
-    (ap (λ (d : Derived). length (d .sets)) e ∙ x .0, ap (λ (d : Derived). length (d .minutes)) e ∙ x .1)
+    let x = afresh-lengths P o D in (
+      ap (λ (d : Derived). length (d .sets)) e ∙ x .0,
+      ap (λ (d : Derived). length (d .minutes)) e ∙ x .1,
+      ap (λ (d : Derived). length (d .totals)) e ∙ x .2,
+    )
 
 pub afresh-fit : (P : Plan) (o : List ℕ) (D : Derived) → Fit (D .sets) → Fit (afresh P o D .sets)
 unfolding afresh
@@ -174,6 +190,9 @@ pub stretch-le : (P : Plan) (a e : ℕ) → a ≤ e → e ≤ P .slots → minut
 unfolding stretchMinutes
 stretch-le P a e h g = omega (arith, sum-in-le a e (lengthAt P) h, part-le P e g)
 
+pub small-stretch : (P : Plan) → PlanSound P → (a e : ℕ) → a ≤ e → e ≤ P .slots → wrapped (minutesIn P a e) ≡ minutesIn P a e
+small-stretch P S a e h g = small (minutesIn P a e) (omega (arith, stretch-le P a e h g, S .lent .demand-fits))
+
 -- ---- slots a up to e go from old to w
 
 -- an owner that was known, or became one who is, is known
@@ -244,20 +263,16 @@ module _ (P : Plan) (S : PlanSound P) (o : List ℕ) (D : Derived) (J : InStep P
       more-past w t l p (P .people) kw h ∙ less-past old t m p (P .people) ko h ∙ sym (getD-over-out f (P .people) m p h))
       (lt-or-ge p (P .people)))
 
-  -- the minutes of the stretch are few
-  few-minutes : t ≤ 100000000
-  few-minutes = omega (arith, stretch-le P a e le within, S .lent .demand-fits)
-
-  -- both columns, after the updates, are those worked out afresh
+  -- all columns, after the updates, are those worked out afresh
   pub handed-over : (f : Fit (D .sets)) → carried P a e old w D ≡ afresh P (fill w a (e - a) o) D
-  unfolding afresh carried
+  unfolding afresh carried taken given
   handed-over f =
-      let n : wrapped t ≡ t = small t (omega (arith, few-minutes)) in
+      let n : wrapped t ≡ t = small-stretch P S a e le within in
       let less = stretchFor 0 old a e (D .sets) in
       let one : setFor 0 (P .people) (P .slots) old a e (D .sets) ≡ less =
       set-stretch 0 old a e (P .people) (P .slots) (D .sets) (S .people-few) (S .slots-few) within (J .sets-room) ko in
       let room : 16 * P .people ≤ length less = omega (arith, length-set-for 0 old a e (D .sets) (omega arith), J .sets-room) in
-      ap₂ {C = Derived} derived
+      derived-same
       (ap (setFor 1 (P .people) (P .slots) w a e) one
       ∙ set-stretch 1 w a e (P .people) (P .slots) less (S .people-few) (S .slots-few) within room kw
       ∙ sets-handed (P .people) (P .slots) a e old w o (D .sets) (S .slots-few) le within (J .owners-room) (S .people-few) (J
@@ -265,11 +280,13 @@ module _ (P : Plan) (S : PlanSound P) (o : List ℕ) (D : Derived) (J : InStep P
       (J .sets) owned (known-below (P .people) old ko) (known-below (P .people) w kw))
       (ap (λ (x : ℕ). moreAt w x (lessAt old x (D .minutes))) n
       ∙ more-adds w t (lessAt old t (D .minutes)) (λ z. new-room z .1) ∙ minutes-handed)
+      (ap (λ (x : ℕ). moreTotals w x (e - a) (lessTotals old x (e - a) (D .totals))) n
+      ∙ totals-handed P o (D .totals) a e old w le within (J .owners-room) owned (S .lent .demand-fits) (S .slots-few) (J .totals-room) (J .totals))
 
   pub handed-step : InStep P (fill w a (e - a) o) (afresh P (fill w a (e - a) o) D)
   handed-step =
       afresh-step P (fill w a (e - a) o) D (S .slots-few) (omega (arith, J .owners-room, length-fill w a (e - a) o)) (J .sets-room)
-      (J .minutes-room) (λ k h. fill-known (P .people) w a (e - a) o k (omega (arith, J .owners-room)) kw (J .known k h))
+      (J .minutes-room) (J .totals-room) (λ k h. fill-known (P .people) w a (e - a) o k (omega (arith, J .owners-room)) kw (J .known k h))
 
 -- on a rota in step, a stretch of one owner that goes to somebody known: the owners, and both columns, at the end
 pub handed : (P : Plan) (o : List ℕ) (D : Derived) (a e w : ℕ) → PlanSound P → InStep P o D → OneOwner o (P .slots) a e
@@ -289,14 +306,38 @@ handed P o D a e w S J O kw f o′ D′ p q =
 
 -- ---- the code: lengths stay, and the minutes of a stretch, slot by slot
 
+module _ (people slots a e n w : ℕ) (D : Derived) where
+  -- whatever is lent, nothing gets longer
+  pub taken-lengths : (length (taken people slots a e n w D .sets) ≡ length (D .sets))
+      × (length (taken people slots a e n w D .minutes) ≡ length (D .minutes))
+      × (length (taken people slots a e n w D .totals) ≡ length (D .totals))
+  unfolding taken
+  taken-lengths = (
+    length-row 0 w a e people slots (D .sets),
+    length-less w n (D .minutes),
+    length-less-totals w n (e - a) (D .totals),
+  )
+
+  pub given-lengths : (length (given people slots a e n w D .sets) ≡ length (D .sets))
+      × (length (given people slots a e n w D .minutes) ≡ length (D .minutes))
+      × (length (given people slots a e n w D .totals) ≡ length (D .totals))
+  unfolding given
+  given-lengths = (
+    length-row 1 w a e people slots (D .sets),
+    length-more w n (D .minutes),
+    length-more-totals w n (e - a) (D .totals),
+  )
+
 pub carried-lengths : (P : Plan) (a e old w : ℕ) (D D′ : Derived) → D′ ≡ carried P a e old w D
-    → (length (D′ .sets) ≡ length (D .sets)) × (length (D′ .minutes) ≡ length (D .minutes))
+    → (length (D′ .sets) ≡ length (D .sets)) × (length (D′ .minutes) ≡ length (D .minutes)) × (length (D′ .totals) ≡ length (D .totals))
 unfolding carried
 carried-lengths P a e old w D D′ q =
-    let n = wrapped (minutesIn P a e) in (
-      ap (λ (d : Derived). length (d .sets)) q ∙ length-row 1 w a e (P .people) (P .slots) _ ∙ length-row 0 old a e (P .people) (P
-          .slots) (D .sets),
-      ap (λ (d : Derived). length (d .minutes)) q ∙ length-more w n (lessAt old n (D .minutes)) ∙ length-less old n (D .minutes),
+    let n = wrapped (minutesIn P a e) in
+    let x = taken-lengths (P .people) (P .slots) a e n old D in
+    let y = given-lengths (P .people) (P .slots) a e n w (taken (P .people) (P .slots) a e n old D) in (
+      ap (λ (d : Derived). length (d .sets)) q ∙ y .0 ∙ x .0,
+      ap (λ (d : Derived). length (d .minutes)) q ∙ y .1 ∙ x .1,
+      ap (λ (d : Derived). length (d .totals)) q ∙ y .2 ∙ x .2,
     )
 
 pub stretch-none : (starts ends : List ℕ) (a : ℕ) → 0 ≡ wrapped (stretchMinutes starts ends a a)

@@ -1,4 +1,4 @@
--- What is worked out from owners: each person's set of slots and minutes, and what is uncovered. Assumes nothing.
+-- What is worked out from owners: each person's set of slots and minutes, and the totals of what nobody owns. Assumes nothing.
 use mathlib.Core.Bool.{Bool, cond, _||_}
 use mathlib.Core.List.{List}
 use Prim.Native.Nat.{ℕ, zero, suc, _+_, _-_, _*_, _%_, _^_}
@@ -60,19 +60,27 @@ setsFrom (suc p) slots o ws = putSlots (held o p) (16 * p) 0 slots (setsFrom p s
 unfoldable pub nobodies : ℕ → List ℕ
 nobodies n = replicate n nobody
 
--- ---- both, as one record
+-- ---- totals
+
+-- total 0: the uncovered minutes; total 1: how many slots nobody owns
+unfoldable pub totalOf : Plan → List ℕ → ℕ → ℕ
+totalOf P o zero = uncovered P o
+totalOf P o (suc i) = unassigned (P .slots) o
+
+-- ---- all of it, as one record
 
 pub record Derived : Type 0 where
   pub sets : List ℕ
   pub minutes : List ℕ
+  pub totals : List ℕ
 
-abbrev pub derived : List ℕ → List ℕ → Derived
-derived s m = record { sets = s; minutes = m }
+abbrev pub derived : List ℕ → List ℕ → List ℕ → Derived
+derived s m t = record { sets = s; minutes = m; totals = t }
 
--- worked out afresh: what lies past the last person, or past the slot count, stays
+-- worked out afresh: what lies past the last person, past the slot count, or past the second total stays
 unfoldable pub afresh : Plan → List ℕ → Derived → Derived
 afresh P o D =
-    derived (setsFrom (P .people) (P .slots) o (D .sets)) (over (worked P o) (P .people) (D .minutes))
+    derived (setsFrom (P .people) (P .slots) o (D .sets)) (over (worked P o) (P .people) (D .minutes)) (over (totalOf P o) 2 (D .totals))
 
 -- ---- a stretch of slots changes hands, whatever is lent: numbers of 64 bits wrap, a row that isn't there stays as it is
 
@@ -90,13 +98,28 @@ lessAt w n m = cond (eqb w nobody) m (set m w (getD m w 0 - n))
 unfoldable pub moreAt : ℕ → ℕ → List ℕ → List ℕ
 moreAt w n m = cond (eqb w nobody) m (set m w (wrapped (getD m w 0 + n)))
 
+-- the totals with n minutes and k slots less, or more, where w is nobody
+unfoldable pub lessTotals : ℕ → ℕ → ℕ → List ℕ → List ℕ
+lessTotals w n k t = cond (eqb w nobody) (set (set t 0 (getD t 0 0 - n)) 1 (getD t 1 0 - k)) t
+
+unfoldable pub moreTotals : ℕ → ℕ → ℕ → List ℕ → List ℕ
+moreTotals w n k t = cond (eqb w nobody) (set (set t 0 (wrapped (getD t 0 0 + n))) 1 (wrapped (getD t 1 0 + k))) t
+
 -- the minutes of slots a up to e
 unfoldable pub stretchMinutes : List ℕ → List ℕ → ℕ → ℕ → ℕ
 stretchMinutes starts ends a e = sumIn a e (minutesAt starts ends)
 
--- both columns, when slots a up to e go from old to w
+-- what is derived, when slots a up to e, of n minutes, are taken from w, and when they are given to w
+unfoldable pub taken : ℕ → ℕ → ℕ → ℕ → ℕ → ℕ → Derived → Derived
+taken people slots a e n w D =
+    derived (setFor 0 people slots w a e (D .sets)) (lessAt w n (D .minutes)) (lessTotals w n (e - a) (D .totals))
+
+unfoldable pub given : ℕ → ℕ → ℕ → ℕ → ℕ → ℕ → Derived → Derived
+given people slots a e n w D =
+    derived (setFor 1 people slots w a e (D .sets)) (moreAt w n (D .minutes)) (moreTotals w n (e - a) (D .totals))
+
+-- and when they go from old to w
 unfoldable pub carried : Plan → ℕ → ℕ → ℕ → ℕ → Derived → Derived
 carried P a e old w D =
     let n = wrapped (stretchMinutes (P .starts) (P .ends) a e) in
-    derived (setFor 1 (P .people) (P .slots) w a e (setFor 0 (P .people) (P .slots) old a e (D .sets)))
-    (moreAt w n (lessAt old n (D .minutes)))
+    given (P .people) (P .slots) a e n w (taken (P .people) (P .slots) a e n old D)

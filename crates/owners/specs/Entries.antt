@@ -8,14 +8,14 @@ use lib.ListN.{length, getD, replicate}
 use Rattle.paper.specs.Limits.{peopleOk, slotCountOk, nobody, Test, test, numberOf}
 use Rattle.paper.specs.declared.Refusal.{Refusal}
 use Rattle.paper.specs.Rows.{unless}
-use Rattle.paper.specs.Count.{all, fill, over}
+use Rattle.paper.specs.Count.{all, fill}
 use Rattle.slotset.specs.declared.Changed.{Changed}
 use Rattle.slotset.specs.declared.Number.{Number}
 use Rattle.slotset.specs.Answers.{loadOf, numberAs}
 use Rattle.slots.specs.declared.Minutes.{Minutes}
 use Rattle.slots.specs.Lent.{slotRoomOk, slotsOk, minutesAs}
 use Rattle.units.specs.Units.{unitsOk}
-use Rattle.owners.specs.Derived.{Plan, Derived, derived, knownBy, afresh, setsFrom, nobodies, unassigned, uncovered}
+use Rattle.owners.specs.Derived.{Plan, Derived, knownBy, afresh, unassigned, uncovered}
 use Rattle.owners.specs.Recount.{knownAt, availableAt, recountTests}
 
 -- ---- the tests that come first
@@ -26,7 +26,7 @@ lentRow counts room P avail o D =
     test 1 (peopleOk (P .people)) ∷ test 1 (slotCountOk (P .slots)) ∷ test 1 counts
     ∷ test 2 (slotRoomOk (P .slots) (P .starts) (P .ends)) ∷ test 2 (leb (16 * P .people) (length avail))
     ∷ test 2 (leb (P .slots) (length o)) ∷ test 2 (leb (16 * P .people) (length (D .sets)))
-    ∷ test 2 (leb (P .people) (length (D .minutes))) ∷ test 2 room
+    ∷ test 2 (leb (P .people) (length (D .minutes))) ∷ test 2 (leb 2 (length (D .totals))) ∷ test 2 room
     ∷ test 9 (slotsOk (P .slots) (P .starts) (P .ends)) ∷ []
 
 -- ---- the recount, with units and without: 1, 2, 9, 10
@@ -77,18 +77,20 @@ fromSlotsRow P avail o D =
 unfoldable pub fromSlots : Plan → List ℕ → List ℕ → Derived → Outcome
 fromSlots P avail o D = outcome (placeless (numberOf (fromSlotsRow P avail o D))) o D [] o (afresh P o D) []
 
--- ---- an empty rota: 1, 2
+-- ---- an empty rota: 1, 2, 9
 
-unfoldable pub emptyRow : ℕ → ℕ → List ℕ → Derived → List Test
-emptyRow people slots o D =
-    test 1 (peopleOk people) ∷ test 1 (slotCountOk slots) ∷ test 2 (leb slots (length o))
-    ∷ test 2 (leb (16 * people) (length (D .sets))) ∷ test 2 (leb people (length (D .minutes))) ∷ []
+unfoldable pub emptyRow : Plan → List ℕ → Derived → List Test
+emptyRow P o D =
+    test 1 (peopleOk (P .people)) ∷ test 1 (slotCountOk (P .slots)) ∷ test 2 (slotRoomOk (P .slots) (P .starts) (P .ends))
+    ∷ test 2 (leb (P .slots) (length o)) ∷ test 2 (leb (16 * P .people) (length (D .sets)))
+    ∷ test 2 (leb (P .people) (length (D .minutes))) ∷ test 2 (leb 2 (length (D .totals)))
+    ∷ test 9 (slotsOk (P .slots) (P .starts) (P .ends)) ∷ []
 
--- owners nobody, sets and minutes cleared
-unfoldable pub emptied : ℕ → ℕ → List ℕ → Derived → Outcome
-emptied people slots o D =
-    outcome (placeless (numberOf (emptyRow people slots o D))) o D [] (fill nobody 0 slots o)
-    (derived (setsFrom people slots (nobodies slots) (D .sets)) (over (λ _. 0) people (D .minutes))) []
+-- owners nobody, and what is derived from that
+unfoldable pub emptied : Plan → List ℕ → Derived → Outcome
+emptied P o D =
+    let none = fill nobody 0 (P .slots) o in
+    outcome (placeless (numberOf (emptyRow P o D))) o D [] none (afresh P none D) []
 
 -- ---- readers: the number of the refusal, or what was asked
 

@@ -11,7 +11,7 @@ use Rattle.slotset.specs.declared.YesNo.the-variants as yesNo
 use Rattle.slotset.specs.Slots.{slot, sameSlots}
 use Rattle.slotset.specs.Answers.{rowSlots}
 use Rattle.slots.specs.Lent.{SlotsSound}
-use Rattle.owners.specs.Derived.{Plan, Derived, knownBy, held, worked, afresh}
+use Rattle.owners.specs.Derived.{Plan, Derived, knownBy, held, worked, totalOf, afresh}
 
 -- the people and the lent slots are right
 pub record PlanSound (P : Plan) : Type 0 where
@@ -27,22 +27,26 @@ pub record RotaRoom (people slots : ℕ) (avail o : List ℕ) (D : Derived) : Ty
   pub owners-room : slots ≤ length o
   pub sets-room : 16 * people ≤ length (D .sets)
   pub minutes-room : people ≤ length (D .minutes)
+  pub totals-room : 2 ≤ length (D .totals)
 
--- what sets and minutes are made from: rooms, and owners that are known
+-- what sets, minutes and totals are made from: rooms, and owners that are known
 pub record Makes (P : Plan) (o : List ℕ) (D : Derived) : Type 0 where
   pub owners-room : P .slots ≤ length o
   pub sets-room : 16 * P .people ≤ length (D .sets)
   pub minutes-room : P .people ≤ length (D .minutes)
+  pub totals-room : 2 ≤ length (D .totals)
   pub known : (k : ℕ) → k < P .slots → knownBy (P .people) (getD o k 0) ≡ true
 
--- a rota in step: owners known, sets and minutes as worked out from them
+-- a rota in step: owners known, sets, minutes and totals as worked out from them
 pub record InStep (P : Plan) (o : List ℕ) (D : Derived) : Type 0 where
   pub owners-room : P .slots ≤ length o
   pub sets-room : 16 * P .people ≤ length (D .sets)
   pub minutes-room : P .people ≤ length (D .minutes)
+  pub totals-room : 2 ≤ length (D .totals)
   pub known : (k : ℕ) → k < P .slots → knownBy (P .people) (getD o k 0) ≡ true
   pub sets : (p k : ℕ) → p < P .people → k < P .slots → slot (D .sets) (16 * p) k ≡ held o p k
   pub minutes : (p : ℕ) → p < P .people → getD (D .minutes) p 0 ≡ worked P o p
+  pub totals : (i : ℕ) → i < 2 → getD (D .totals) i 0 ≡ totalOf P o i
 
 -- slots a up to e, at least one and none past n, have one owner
 pub record OneOwner (o : List ℕ) (n a e : ℕ) : Type 0 where
@@ -50,7 +54,7 @@ pub record OneOwner (o : List ℕ) (n a e : ℕ) : Type 0 where
   pub within : e ≤ n
   pub each : (k : ℕ) → a ≤ k → k < e → getD o k 0 ≡ getD o a 0
 
--- o and D have become o′ and D′: slots a up to e have gone to w, and sets and minutes are those worked out afresh
+-- o and D have become o′ and D′: slots a up to e have gone to w, and what is derived is that worked out afresh
 pub record HandedOver (P : Plan) (o : List ℕ) (D : Derived) (a e w : ℕ) (o′ : List ℕ) (D′ : Derived) : Type 0 where
   pub owners : o′ ≡ fill w a (e - a) o
   pub derived : D′ ≡ afresh P o′ D

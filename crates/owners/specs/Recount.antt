@@ -1,4 +1,4 @@
--- The recount: owners known and available, units uniform, sets and minutes as worked out from owners. Assumes nothing.
+-- The recount: owners known and available, units uniform, sets, minutes and totals as worked out from owners. Assumes nothing.
 use mathlib.Core.Bool.{Bool, cond, _&&_, _||_}
 use mathlib.Core.List.{List, [], _∷_}
 use Prim.Native.Nat.{ℕ, zero, suc, _*_}
@@ -9,7 +9,7 @@ use Rattle.paper.specs.Count.{all, allIn}
 use Rattle.slotset.specs.Slots.{slot}
 use Rattle.units.specs.Units.{unitStart, unitEnd}
 use Rattle.units.specs.Domains.{available}
-use Rattle.owners.specs.Derived.{Plan, Derived, knownBy, worked, held}
+use Rattle.owners.specs.Derived.{Plan, Derived, knownBy, worked, held, totalOf}
 
 -- of the numbers below n the first at which p fails, or n
 unfoldable pub firstFail : ℕ → (ℕ → Bool) → ℕ
@@ -20,7 +20,7 @@ firstFail (suc n) p = cond (all n p) (cond (p n) (suc n) n) (firstFail n p)
 unfoldable pub availableFor : List ℕ → ℕ → ℕ → Bool
 availableFor avail w k = eqb w nobody || available avail w k
 
--- ---- the five tests
+-- ---- the six tests
 
 unfoldable pub knownAt : ℕ → List ℕ → ℕ → Bool
 knownAt people o k = knownBy people (getD o k 0)
@@ -43,13 +43,17 @@ setAt slots o ws p = all slots (setSlotAt o ws p)
 unfoldable pub minutesOkAt : Plan → List ℕ → List ℕ → ℕ → Bool
 minutesOkAt P o m p = eqb (getD m p 0) (worked P o p)
 
--- 10 by its parts, each with the lowest place at fault: of what is derived, a person and that person's slot, and a person
+-- total i is as worked out
+unfoldable pub totalOkAt : Plan → List ℕ → List ℕ → ℕ → Bool
+totalOkAt P o t i = eqb (getD t i 0) (totalOf P o i)
+
+-- 10 by its parts, each with the lowest place at fault: of what is derived, a person and that person's slot, a person, and a total
 abbrev pub derivedTests : Plan → List ℕ → Derived → List Test
 derivedTests P o D =
     let p = firstFail (P .people) (setAt (P .slots) o (D .sets)) in
     testIn 10 (all (P .people) (setAt (P .slots) o (D .sets))) 4 p (firstFail (P .slots) (setSlotAt o (D .sets) p))
     ∷ testIn 10 (all (P .people) (minutesOkAt P o (D .minutes))) 5 (firstFail (P .people) (minutesOkAt P o (D .minutes))) 0
-    ∷ []
+    ∷ testIn 10 (all 2 (totalOkAt P o (D .totals))) 6 (firstFail 2 (totalOkAt P o (D .totals))) 0 ∷ []
 
 -- and before that a slot, a slot, a unit
 unfoldable pub recountTests : Plan → List ℕ → ℕ → List ℕ → List ℕ → Derived → List Test
@@ -64,4 +68,5 @@ unfoldable pub recounts : Plan → List ℕ → ℕ → List ℕ → List ℕ �
 recounts P avail units begins o D =
     all (P .slots) (knownAt (P .people) o) && (all (P .slots) (availableAt avail o)
     && (all units (evenAt (P .slots) units begins o)
-    && (all (P .people) (setAt (P .slots) o (D .sets)) && all (P .people) (minutesOkAt P o (D .minutes)))))
+    && (all (P .people) (setAt (P .slots) o (D .sets))
+    && (all (P .people) (minutesOkAt P o (D .minutes)) && all 2 (totalOkAt P o (D .totals))))))

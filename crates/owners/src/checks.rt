@@ -22,9 +22,10 @@ pub(crate) fn lent_refusal(
     owners: &[u8],
     sets: &[u64],
     minutes: &[u64],
+    totals: &[u64],
 ) -> Refusal
     ensures { λ r. ⌜ r ≡ refusalOf (lentRow counts room (plan people slots (now (starts .entry)) (now (ends .entry))) (now (avail
-        .entry)) (now (owners .entry)) (derived (now (sets .entry)) (now (minutes .entry)))) ⌝ }
+        .entry)) (now (owners .entry)) (derived (now (sets .entry)) (now (minutes .entry)) (now (totals .entry)))) ⌝ }
 {
     let f = paper::check_people(paper::accepted(), people);
     let f = paper::check_slots(f, slots);
@@ -34,6 +35,7 @@ pub(crate) fn lent_refusal(
     let f = paper::check(f, slots <= owners.len(), 2);
     let f = paper::check_words(f, people, sets);
     let f = paper::check(f, people <= minutes.len(), 2);
+    let f = paper::check(f, 2 <= totals.len(), 2);
     let f = paper::check(f, room, 2);
     slots::check_order(f, slots, starts, ends, 9)
 }

@@ -1,23 +1,12 @@
-// What is derived from owners, everybody's set of slots and minutes: handed over a stretch at a time, and worked out afresh.
+// What is derived from owners, everybody's set of slots and minutes and the totals of what nobody owns: handed over a stretch at a time, and worked out afresh.
 use crate::scan::owner_at;
 use slotset::row::put_stretch;
 ghost use mathlib.Core.Path.{_≡_};
-ghost use Prim.Native.Nat.{_-_, _*_, _<_, _≤_};
-ghost use lib.ListN.{length, getD};
+ghost use Prim.Native.Nat.{_+_, _-_, _*_, _<_, _≤_};
+ghost use lib.ListN.{length, getD, set};
 ghost use Rattle.paper.specs.Count.{fill, over};
-ghost use Rattle.slotset.specs.Slots.{valueOf};
-ghost use Rattle.owners.specs.Derived.{plan, derived, afresh, setFor, lessAt, moreAt, stretchMinutes, wrapped, carried, setsFrom, nobodies};
+ghost use Rattle.owners.specs.Derived.{plan, derived, afresh, taken, given, stretchMinutes, wrapped, carried, setsFrom, nobodies};
 ghost use Rattle.owners.specs.Inside.{PlanSound, OneOwner, Makes};
-
-// Slots a up to e of an owner's set are put in, or out where `want` is false; nobody has no set.
-fn put_row(people: usize, slots: usize, sets: &mut [u64], owner: u8, a: usize, e: usize, want: bool)
-    ensures { λ _. ⌜ now (sets .exit) ≡ setFor (valueOf want) people slots owner a e (now (sets .entry)) ⌝ }
-{
-    if owner == paper::NOBODY {
-        return;
-    }
-    put_stretch(people, slots, sets, owner as usize, a, e, want);
-}
 
 // n less than m, at least 0.
 fn less(m: u64, n: u64) -> u64
@@ -26,30 +15,29 @@ fn less(m: u64, n: u64) -> u64
     if n < m { m - n } else { 0 }
 }
 
-// n minutes less for an owner; nobody has none.
-fn take_from(minutes: &mut [u64], owner: u8, n: u64)
-    ensures { λ _. ⌜ now (minutes .exit) ≡ lessAt owner n (now (minutes .entry)) ⌝ }
+// n less at place i of a column, at least 0; a place that isn't lent has none.
+fn less_at(column: &mut [u64], i: usize, n: u64)
+    ensures { λ _. ⌜ now (column .exit) ≡ set (now (column .entry)) i (getD (now (column .entry)) i 0 - n) ⌝ }
 {
-    if owner == paper::NOBODY {
-        return;
-    }
-    let w = owner as usize;
-    if w < minutes.len() {
-        minutes[w] = less(minutes[w], n);
+    if i < column.len() {
+        column[i] = less(column[i], n);
     }
 }
 
-// n minutes more for an owner.
-fn give_to(minutes: &mut [u64], owner: u8, n: u64)
-    ensures { λ _. ⌜ now (minutes .exit) ≡ moreAt owner n (now (minutes .entry)) ⌝ }
+// n more at place i of a column.
+fn more_at(column: &mut [u64], i: usize, n: u64)
+    ensures { λ _. ⌜ now (column .exit) ≡ set (now (column .entry)) i (wrapped (getD (now (column .entry)) i 0 + n)) ⌝ }
 {
-    if owner == paper::NOBODY {
-        return;
+    if i < column.len() {
+        column[i] = std::num::wrapping_add_u64(column[i], n);
     }
-    let w = owner as usize;
-    if w < minutes.len() {
-        minutes[w] = std::num::wrapping_add_u64(minutes[w], n);
-    }
+}
+
+// How many slots there are from a up to e.
+fn slots_in(a: usize, e: usize) -> u64
+    ensures { λ r. ⌜ r ≡ e - a ⌝ }
+{
+    if a < e { (e - a) as u64 } else { 0 }
 }
 
 // A number of 32 bits as one of 64.
@@ -137,27 +125,52 @@ pub fn fill_owners(owners: &mut [u8], a: usize, e: usize, owner: u8)
     }
 }
 
-// The sets and minutes of two owners, when slots a up to e go from one to the other.
-fn carry(
+// Slots a up to e, of n minutes, are taken from an owner: out of their set and minutes, or out of the totals where it is nobody.
+fn take(
     people: usize,
     slots: usize,
-    starts: &[u32],
-    ends: &[u32],
     sets: &mut [u64],
     minutes: &mut [u64],
+    totals: &mut [u64],
     a: usize,
     e: usize,
-    old: u8,
-    to: u8,
+    n: u64,
+    owner: u8,
 )
-    ensures { λ _. ⌜ derived (now (sets .exit)) (now (minutes .exit)) ≡ carried (plan people slots (now (starts .entry)) (now (ends
-        .entry))) a e old to (derived (now (sets .entry)) (now (minutes .entry))) ⌝ }
+    ensures { λ _. ⌜ derived (now (sets .exit)) (now (minutes .exit)) (now (totals .exit)) ≡ taken people slots a e n owner (derived
+        (now (sets .entry)) (now (minutes .entry)) (now (totals .entry))) ⌝ }
 {
-    let n = stretch_minutes(starts, ends, a, e);
-    put_row(people, slots, sets, old, a, e, false);
-    put_row(people, slots, sets, to, a, e, true);
-    take_from(minutes, old, n);
-    give_to(minutes, to, n);
+    if owner == paper::NOBODY {
+        less_at(totals, 0, n);
+        less_at(totals, 1, slots_in(a, e));
+        return;
+    }
+    put_stretch(people, slots, sets, owner as usize, a, e, false);
+    less_at(minutes, owner as usize, n);
+}
+
+// Slots a up to e, of n minutes, are given to an owner: into their set and minutes, or into the totals where it is nobody.
+fn give(
+    people: usize,
+    slots: usize,
+    sets: &mut [u64],
+    minutes: &mut [u64],
+    totals: &mut [u64],
+    a: usize,
+    e: usize,
+    n: u64,
+    owner: u8,
+)
+    ensures { λ _. ⌜ derived (now (sets .exit)) (now (minutes .exit)) (now (totals .exit)) ≡ given people slots a e n owner (derived
+        (now (sets .entry)) (now (minutes .entry)) (now (totals .entry))) ⌝ }
+{
+    if owner == paper::NOBODY {
+        more_at(totals, 0, n);
+        more_at(totals, 1, slots_in(a, e));
+        return;
+    }
+    put_stretch(people, slots, sets, owner as usize, a, e, true);
+    more_at(minutes, owner as usize, n);
 }
 
 // Slots a up to e go from the owner of slot a to another. On a rota in step where they have one owner, `proofs/Steps` says that what is
@@ -170,16 +183,19 @@ pub fn hand_over(
     owners: &mut [u8],
     sets: &mut [u64],
     minutes: &mut [u64],
+    totals: &mut [u64],
     a: usize,
     e: usize,
     to: u8,
 )
     ensures { λ _. ⌜ (now (owners .exit) ≡ fill to a (e - a) (now (owners .entry))) × (derived (now (sets .exit)) (now (minutes
-        .exit)) ≡ carried (plan people slots (now (starts .entry)) (now (ends .entry))) a e (getD (now (owners .entry)) a 0) to
-        (derived (now (sets .entry)) (now (minutes .entry)))) ⌝ }
+        .exit)) (now (totals .exit)) ≡ carried (plan people slots (now (starts .entry)) (now (ends .entry))) a e (getD (now (owners .entry)) a 0) to
+        (derived (now (sets .entry)) (now (minutes .entry)) (now (totals .entry)))) ⌝ }
 {
     let old = owner_at(owners, a);
-    carry(people, slots, starts, ends, sets, minutes, a, e, old, to);
+    let n = stretch_minutes(starts, ends, a, e);
+    take(people, slots, sets, minutes, totals, a, e, n, old);
+    give(people, slots, sets, minutes, totals, a, e, n, to);
     fill_owners(owners, a, e, to);
 }
 
@@ -201,7 +217,7 @@ fn stretch_end(slots: usize, owners: &[u8], i: usize) -> usize
 }
 
 // Everyone's set loses its slots below the count.
-pub(crate) fn clear_sets(people: usize, slots: usize, sets: &mut [u64])
+fn clear_sets(people: usize, slots: usize, sets: &mut [u64])
     requires { ⌜ (1 ≤ people) × (people ≤ 32) × (slots ≤ 1024) × (16 * people ≤ length (now sets)) ⌝ }
     ensures { λ _. ⌜ now (sets .exit) ≡ setsFrom people slots (nobodies slots) (now (sets .entry)) ⌝ }
 {
@@ -212,19 +228,19 @@ pub(crate) fn clear_sets(people: usize, slots: usize, sets: &mut [u64])
     }
 }
 
-// Everyone's minutes become 0.
-pub(crate) fn clear_minutes(people: usize, minutes: &mut [u64])
-    requires { ⌜ people ≤ length (now minutes) ⌝ }
-    ensures { λ _. ⌜ now (minutes .exit) ≡ over (λ _. 0) people (now (minutes .entry)) ⌝ }
+// The first n entries of a column become 0.
+fn clear_first(n: usize, column: &mut [u64])
+    requires { ⌜ n ≤ length (now column) ⌝ }
+    ensures { λ _. ⌜ now (column .exit) ≡ over (λ _. 0) n (now (column .entry)) ⌝ }
 {
-    let mut p: usize = 0;
-    while p < people {
-        minutes[p] = 0;
-        p += 1;
+    let mut i: usize = 0;
+    while i < n {
+        column[i] = 0;
+        i += 1;
     }
 }
 
-// Sets and minutes worked out afresh from owners, a stretch of one owner at a time.
+// Sets, minutes and totals worked out afresh from owners, a stretch of one owner at a time.
 pub(crate) fn rebuild(
     people: usize,
     slots: usize,
@@ -233,29 +249,21 @@ pub(crate) fn rebuild(
     owners: &[u8],
     sets: &mut [u64],
     minutes: &mut [u64],
+    totals: &mut [u64],
 )
     requires { ⌜ PlanSound (plan people slots (now starts) (now ends)) ⌝ }
-    requires { ⌜ Makes (plan people slots (now starts) (now ends)) (now owners) (derived (now sets) (now minutes)) ⌝ }
-    ensures { λ _. ⌜ derived (now (sets .exit)) (now (minutes .exit)) ≡ afresh (plan people slots (now (starts .entry)) (now (ends
-        .entry))) (now (owners .entry)) (derived (now (sets .entry)) (now (minutes .entry))) ⌝ }
+    requires { ⌜ Makes (plan people slots (now starts) (now ends)) (now owners) (derived (now sets) (now minutes) (now totals)) ⌝ }
+    ensures { λ _. ⌜ derived (now (sets .exit)) (now (minutes .exit)) (now (totals .exit)) ≡ afresh (plan people slots (now (starts .entry)) (now (ends
+        .entry))) (now (owners .entry)) (derived (now (sets .entry)) (now (minutes .entry)) (now (totals .entry))) ⌝ }
 {
     clear_sets(people, slots, sets);
-    clear_minutes(people, minutes);
+    clear_first(people, minutes);
+    clear_first(2, totals);
     let mut i: usize = 0;
     while i < slots {
         let e = stretch_end(slots, owners, i);
-        carry(
-            people,
-            slots,
-            starts,
-            ends,
-            sets,
-            minutes,
-            i,
-            e,
-            paper::NOBODY,
-            owners[i],
-        );
+        let n = stretch_minutes(starts, ends, i, e);
+        give(people, slots, sets, minutes, totals, i, e, n, owners[i]);
         i = e;
     }
 }

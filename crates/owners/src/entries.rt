@@ -2,8 +2,6 @@
 use crate::checks::check_available;
 use crate::checks::check_known;
 use crate::checks::lent_refusal;
-use crate::derived::clear_minutes;
-use crate::derived::clear_sets;
 use crate::derived::fill_owners;
 use crate::derived::rebuild;
 use crate::scan::count_nobody;
@@ -25,7 +23,7 @@ ghost use Rattle.owners.specs.Derived.{plan, derived, knownBy};
 ghost use Rattle.owners.specs.Entries.{fromSlotsRow, fromSlots, emptyRow, emptied, placeless, Ended, ownerRow, ownerIs, minutesRow, minutesIs};
 ghost use Rattle.owners.specs.Entries.{unassignedRow, unassignedIs, uncoveredRow, uncoveredIs, slotsOfIs};
 
-// What stands against making sets and minutes from owners: 1, 2, 9, 11 or 12.
+// What stands against making sets, minutes and totals from owners: 1, 2, 9, 11 or 12.
 fn from_slots_refusal(
     people: usize,
     slots: usize,
@@ -35,9 +33,10 @@ fn from_slots_refusal(
     owners: &[u8],
     sets: &[u64],
     minutes: &[u64],
+    totals: &[u64],
 ) -> Refusal
     ensures { λ r. ⌜ r ≡ refusalOf (fromSlotsRow (plan people slots (now (starts .entry)) (now (ends .entry))) (now (avail .entry))
-        (now (owners .entry)) (derived (now (sets .entry)) (now (minutes .entry)))) ⌝ }
+        (now (owners .entry)) (derived (now (sets .entry)) (now (minutes .entry)) (now (totals .entry)))) ⌝ }
 {
     let f = lent_refusal(
         true,
@@ -50,12 +49,13 @@ fn from_slots_refusal(
         owners,
         sets,
         minutes,
+        totals,
     );
     let f = check_known(f, people, slots, owners);
     check_available(f, slots, avail, owners)
 }
 
-// Sets and minutes worked out from owners. Refusals 1, 2, 9, 11 (unknown owner), 12 (owner not available).
+// Sets, minutes and totals worked out from owners. Refusals 1, 2, 9, 11 (unknown owner), 12 (owner not available).
 pub fn from_slots(
     people: usize,
     slots: usize,
@@ -65,52 +65,73 @@ pub fn from_slots(
     owners: &[u8],
     sets: &mut [u64],
     minutes: &mut [u64],
+    totals: &mut [u64],
 ) -> u8
     ensures { λ r. ⌜ Ended (fromSlots (plan people slots (now (starts .entry)) (now (ends .entry))) (now (avail .entry)) (now
-        (owners .entry)) (derived (now (sets .entry)) (now (minutes .entry)))) (placeless r) (now (owners .entry)) (derived (now (sets .exit))
-        (now (minutes .exit))) [] ⌝ }
+        (owners .entry)) (derived (now (sets .entry)) (now (minutes .entry)) (now (totals .entry)))) (placeless r) (now (owners .entry)) (derived (now (sets .exit))
+        (now (minutes .exit)) (now (totals .exit))) [] ⌝ }
 {
-    let n = from_slots_refusal(people, slots, starts, ends, avail, owners, sets, minutes).number;
+    let n = from_slots_refusal(
+        people,
+        slots,
+        starts,
+        ends,
+        avail,
+        owners,
+        sets,
+        minutes,
+        totals,
+    ).number;
     if n == 0 {
-        rebuild(people, slots, starts, ends, owners, sets, minutes);
+        rebuild(people, slots, starts, ends, owners, sets, minutes, totals);
         return 0;
     }
     n
 }
 
-// What stands against an empty rota: 1 or 2.
+// What stands against an empty rota: 1, 2 or 9.
 fn empty_refusal(
     people: usize,
     slots: usize,
+    starts: &[u32],
+    ends: &[u32],
     owners: &[u8],
     sets: &[u64],
     minutes: &[u64],
+    totals: &[u64],
 ) -> Refusal
-    ensures { λ r. ⌜ r ≡ refusalOf (emptyRow people slots (now (owners .entry)) (derived (now (sets .entry)) (now (minutes .entry)))) ⌝ }
+    ensures { λ r. ⌜ r ≡ refusalOf (emptyRow (plan people slots (now (starts .entry)) (now (ends .entry))) (now (owners .entry))
+        (derived (now (sets .entry)) (now (minutes .entry)) (now (totals .entry)))) ⌝ }
 {
     let f = paper::check_people(paper::accepted(), people);
     let f = paper::check_slots(f, slots);
+    let f = slots::check_room(f, slots, starts, ends);
     let f = paper::check(f, slots <= owners.len(), 2);
     let f = paper::check_words(f, people, sets);
-    paper::check(f, people <= minutes.len(), 2)
+    let f = paper::check(f, people <= minutes.len(), 2);
+    let f = paper::check(f, 2 <= totals.len(), 2);
+    slots::check_order(f, slots, starts, ends, 9)
 }
 
-// An empty rota: nobody owns a slot, sets and minutes are cleared. Refusals 1, 2.
+// An empty rota: nobody owns a slot, and sets, minutes and totals say so. Refusals 1, 2, 9.
 pub fn empty(
     people: usize,
     slots: usize,
+    starts: &[u32],
+    ends: &[u32],
     owners: &mut [u8],
     sets: &mut [u64],
     minutes: &mut [u64],
+    totals: &mut [u64],
 ) -> u8
-    ensures { λ r. ⌜ Ended (emptied people slots (now (owners .entry)) (derived (now (sets .entry)) (now (minutes .entry)))) (placeless r) (now
-        (owners .exit)) (derived (now (sets .exit)) (now (minutes .exit))) [] ⌝ }
+    ensures { λ r. ⌜ Ended (emptied (plan people slots (now (starts .entry)) (now (ends .entry))) (now (owners .entry)) (derived (now
+        (sets .entry)) (now (minutes .entry)) (now (totals .entry)))) (placeless r) (now (owners .exit)) (derived (now (sets .exit))
+        (now (minutes .exit)) (now (totals .exit))) [] ⌝ }
 {
-    let n = empty_refusal(people, slots, owners, sets, minutes).number;
+    let n = empty_refusal(people, slots, starts, ends, owners, sets, minutes, totals).number;
     if n == 0 {
         fill_owners(owners, 0, slots, paper::NOBODY);
-        clear_sets(people, slots, sets);
-        clear_minutes(people, minutes);
+        rebuild(people, slots, starts, ends, owners, sets, minutes, totals);
         return 0;
     }
     n

@@ -4,7 +4,7 @@ use crate::derived::rebuild;
 use crate::scan::first_unavailable;
 use crate::scan::first_uneven;
 use crate::scan::first_unknown;
-use crate::scan::first_wrong_minutes;
+use crate::scan::first_wrong_entry;
 use crate::scan::first_wrong_slot;
 use paper::Refusal;
 use slotset::YesNo;
@@ -70,7 +70,7 @@ fn refusal_in(part: u8, place: usize, second: usize) -> Refusal
     }
 }
 
-// Of sets and minutes, which are worked out anew beside them: wrong set 4, wrong minutes 5.
+// Of sets, minutes and totals, which are worked out anew beside them: wrong set 4, wrong minutes 5, wrong total 6.
 fn derived_refusal(
     people: usize,
     slots: usize,
@@ -79,14 +79,16 @@ fn derived_refusal(
     owners: &[u8],
     sets: &[u64],
     minutes: &[u64],
+    totals: &[u64],
 ) -> Refusal
     requires { ⌜ PlanSound (plan people slots (now starts) (now ends)) ⌝ }
-    requires { ⌜ Makes (plan people slots (now starts) (now ends)) (now owners) (derived (now sets) (now minutes)) ⌝ }
+    requires { ⌜ Makes (plan people slots (now starts) (now ends)) (now owners) (derived (now sets) (now minutes) (now totals)) ⌝ }
     ensures { λ r. ⌜ r ≡ refusalOf (derivedTests (plan people slots (now (starts .entry)) (now (ends .entry))) (now (owners .entry))
-        (derived (now (sets .entry)) (now (minutes .entry)))) ⌝ }
+        (derived (now (sets .entry)) (now (minutes .entry)) (now (totals .entry)))) ⌝ }
 {
     let mut right_sets = [0u64; 512];
     let mut right_minutes = [0u64; 32];
+    let mut right_totals = [0u64; 2];
     rebuild(
         people,
         slots,
@@ -95,11 +97,16 @@ fn derived_refusal(
         owners,
         &mut right_sets,
         &mut right_minutes,
+        &mut right_totals,
     );
     if sets_right(people, slots, sets, &right_sets) {
-        let late = first_wrong_minutes(people, minutes, &right_minutes);
-        if late < people {
-            return refusal_in(5, late, 0);
+        let person = first_wrong_entry(people, minutes, &right_minutes);
+        if person < people {
+            return refusal_in(5, person, 0);
+        }
+        let total = first_wrong_entry(2, totals, &right_totals);
+        if total < 2 {
+            return refusal_in(6, total, 0);
         }
         return paper::accepted();
     }
@@ -120,11 +127,12 @@ fn recount_refusal(
     owners: &[u8],
     sets: &[u64],
     minutes: &[u64],
+    totals: &[u64],
 ) -> Refusal
     requires { ⌜ PlanSound (plan people slots (now starts) (now ends)) ⌝ }
-    requires { ⌜ RotaRoom people slots (now avail) (now owners) (derived (now sets) (now minutes)) ⌝ }
+    requires { ⌜ RotaRoom people slots (now avail) (now owners) (derived (now sets) (now minutes) (now totals)) ⌝ }
     ensures { λ r. ⌜ r ≡ refusalOf (recountTests (plan people slots (now (starts .entry)) (now (ends .entry))) (now (avail .entry))
-        units (now (begins .entry)) (now (owners .entry)) (derived (now (sets .entry)) (now (minutes .entry)))) ⌝ }
+        units (now (begins .entry)) (now (owners .entry)) (derived (now (sets .entry)) (now (minutes .entry)) (now (totals .entry)))) ⌝ }
 {
     let unknown = first_unknown(people, slots, owners);
     if unknown < slots {
@@ -138,7 +146,7 @@ fn recount_refusal(
     if uneven < units {
         return refusal_in(3, uneven, 0);
     }
-    derived_refusal(people, slots, starts, ends, owners, sets, minutes)
+    derived_refusal(people, slots, starts, ends, owners, sets, minutes, totals)
 }
 
 // What the recount refuses, with part and place: 1, 2, 9 or 10. `counts` and `room` are the caller's own tests of rules 1 and 2.
@@ -155,9 +163,10 @@ pub fn recounted(
     owners: &[u8],
     sets: &[u64],
     minutes: &[u64],
+    totals: &[u64],
 ) -> Refusal
     ensures { λ r. ⌜ r ≡ refusalOf (recountRow counts room (plan people slots (now (starts .entry)) (now (ends .entry))) (now (avail
-        .entry)) units (now (begins .entry)) (now (owners .entry)) (derived (now (sets .entry)) (now (minutes .entry)))) ⌝ }
+        .entry)) units (now (begins .entry)) (now (owners .entry)) (derived (now (sets .entry)) (now (minutes .entry)) (now (totals .entry)))) ⌝ }
 {
     let f = lent_refusal(
         counts,
@@ -170,6 +179,7 @@ pub fn recounted(
         owners,
         sets,
         minutes,
+        totals,
     );
     let g = units::check_units(f, slots, units, begins);
     if g.number == 0 {
@@ -184,6 +194,7 @@ pub fn recounted(
             owners,
             sets,
             minutes,
+            totals,
         );
     }
     g
@@ -199,9 +210,10 @@ pub fn recount_slots(
     owners: &[u8],
     sets: &[u64],
     minutes: &[u64],
+    totals: &[u64],
 ) -> Refusal
     ensures { λ r. ⌜ r ≡ refusalOf (recountSlotsRow (plan people slots (now (starts .entry)) (now (ends .entry))) (now (avail .entry))
-        (now (owners .entry)) (derived (now (sets .entry)) (now (minutes .entry)))) ⌝ }
+        (now (owners .entry)) (derived (now (sets .entry)) (now (minutes .entry)) (now (totals .entry)))) ⌝ }
 {
     let f = lent_refusal(
         true,
@@ -214,6 +226,7 @@ pub fn recount_slots(
         owners,
         sets,
         minutes,
+        totals,
     );
     if f.number == 0 {
         let none = [0u16; 1];
@@ -228,6 +241,7 @@ pub fn recount_slots(
             owners,
             sets,
             minutes,
+            totals,
         );
     }
     f
@@ -245,10 +259,11 @@ pub fn recount(
     owners: &[u8],
     sets: &[u64],
     minutes: &[u64],
+    totals: &[u64],
 ) -> Refusal
     ensures { λ r. ⌜ r ≡ refusalOf (recountRow true (leb units (length (now (begins .entry)))) (plan people slots (now (starts .entry))
         (now (ends .entry))) (now (avail .entry)) units (now (begins .entry)) (now (owners .entry)) (derived (now (sets .entry))
-        (now (minutes .entry)))) ⌝ }
+        (now (minutes .entry)) (now (totals .entry)))) ⌝ }
 {
     recounted(
         true,
@@ -263,5 +278,6 @@ pub fn recount(
         owners,
         sets,
         minutes,
+        totals,
     )
 }

@@ -168,20 +168,20 @@ pub(crate) fn worked_by(
     total
 }
 
-// The first person whose minutes are not the right ones, or the number of people.
-pub(crate) fn first_wrong_minutes(people: usize, minutes: &[u64], right: &[u64]) -> usize
-    requires { ⌜ (people ≤ length (now minutes)) × (people ≤ length (now right)) ⌝ }
-    ensures { λ r. ⌜ r ≡ firstFail people (sameEntry (now (minutes .entry)) (now (right .entry))) ⌝ }
+// The first of n entries of a column that is not the right one, or n.
+pub(crate) fn first_wrong_entry(n: usize, column: &[u64], right: &[u64]) -> usize
+    requires { ⌜ (n ≤ length (now column)) × (n ≤ length (now right)) ⌝ }
+    ensures { λ r. ⌜ r ≡ firstFail n (sameEntry (now (column .entry)) (now (right .entry))) ⌝ }
 {
-    let mut p: usize = 0;
-    while p < people {
-        if minutes[p] == right[p] {
-            p += 1;
+    let mut i: usize = 0;
+    while i < n {
+        if column[i] == right[i] {
+            i += 1;
         } else {
-            return p;
+            return i;
         }
     }
-    people
+    n
 }
 
 // How many of the slots nobody owns.

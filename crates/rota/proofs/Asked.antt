@@ -42,13 +42,13 @@ module _ (P : Plan) (avail o : List ℕ) (D : Derived) where
     assign-asks z =
         let h = passed (assignRow P avail o D k w) refl z in
         record {
-          on = lent-right P avail o D (h 0) (h 1) (h 4) (h 5) (h 6) (h 7) (h 9);
+          on = lent-right P avail o D (h 0) (h 1) (h 4) (h 5) (h 6) (h 7) (h 8) (h 10);
           recount =
               recount-says P avail 0 [] o D
-              (and-true _ _ (h 10) (and-true _ _ (h 11) (and-true _ _ (h 12) (and-true _ _ (h 13) (h 14)))));
-          slot = ltb-true _ _ (h 15);
-          known = h 16;
-          available = h 17;
+              (and-true _ _ (h 11) (and-true _ _ (h 12) (and-true _ _ (h 13) (and-true _ _ (h 14) (and-true _ _ (h 15) (h 16))))));
+          slot = ltb-true _ _ (h 17);
+          known = h 18;
+          available = h 19;
         }
 
     pub asks-one : Asks → OneOwner o (P .slots) k (k + 1)

@@ -12,11 +12,12 @@ use Rattle.rota.proofs.draws.Draw as draw
 use Rattle.rota.proofs.draws.play as play
 
 module _ {M : Type 1} (𝓤 : URA M) (H : Heap 𝓤) (A : Atoms 𝓤) (W : Given 𝓤 H A) where
-  abbrev pub known : (κs : Lfts 10) → Knowns 𝓤 H A (typesAt (play.signature .params) κs)
+  abbrev pub known : (κs : Lfts 11) → Knowns 𝓤 H A (typesAt (play.signature .params) κs)
   known κs =
       number 𝓤 H A W w64 & number 𝓤 H A W w64 & number 𝓤 H A W w64 & number 𝓤 H A W w64 & lent 𝓤 H A W (named 0) (κs .0) u32
       & lent 𝓤 H A W (named 1) (κs .1 .0) u32 & lent 𝓤 H A W (named 2) (κs .1 .1 .0) u64 & lent 𝓤 H A W (named 3) (κs .1 .1 .1 .0) u16
       & lent 𝓤 H A W (named 4) (κs .1 .1 .1 .1 .0) u64 & lent 𝓤 H A W (named 5) (κs .1 .1 .1 .1 .1 .0) draw.the-row
       & lent-mut 𝓤 H A W (named 6) (κs .1 .1 .1 .1 .1 .1 .0) u8 & lent-mut 𝓤 H A W (named 7) (κs .1 .1 .1 .1 .1 .1 .1 .0) u64
       & lent-mut 𝓤 H A W (named 8) (κs .1 .1 .1 .1 .1 .1 .1 .1 .0) u64
-      & lent-mut 𝓤 H A W (named 9) (κs .1 .1 .1 .1 .1 .1 .1 .1 .1 .0) u8 & tt
+      & lent-mut 𝓤 H A W (named 9) (κs .1 .1 .1 .1 .1 .1 .1 .1 .1 .0) u64
+      & lent-mut 𝓤 H A W (named 10) (κs .1 .1 .1 .1 .1 .1 .1 .1 .1 .1 .0) u8 & tt

@@ -24,7 +24,7 @@ use Rattle.rota.specs.Board.{Board, BoardSound, InUnit, Even, ownerOf}
 use Rattle.rota.specs.Moves.{Draw, draw}
 use Rattle.rota.specs.Plays.{step, ownersAfter, answer, answers, touched, drawsOf}
 use Rattle.rota.specs.Lent.{fitsUnit, frozenUnit, boardOf}
-use Rattle.owners.specs.Derived.{Plan, Derived, knownBy, worked, uncovered, afresh}
+use Rattle.owners.specs.Derived.{Plan, Derived, knownBy, worked, uncovered, afresh, totalOf}
 use Rattle.owners.specs.Inside.{PlanSound}
 use Rattle.owners.specs.Recount.{availableFor, recountTests, recounts}
 use Rattle.owners.specs.Entries.{Outcome, outcome, placeless, lentRow, recountRow, recountSlotsRow, fromSlotsRow, fromSlots}
@@ -124,17 +124,19 @@ module _ (P : Plan) (avail : List ℕ) (units : ℕ) (begins frozen : List ℕ) 
       → getD (step B after d) k 0 ≡ ownerThen B after d A (unitOf units begins k)
   next-hands-over d A k h = draw-hands-over B sound after after-even (unitOf units begins k) k (in-unit k h) d A
 
-  -- owners past the slots stay, and so do bits beside the slots and minutes past the people
+  -- owners past the slots stay, and so do bits beside the slots, minutes past the people and what lies past the totals
   pub owners-past-stay : (k : ℕ) → P .slots ≤ k → getD after k 0 ≡ getD o k 0
   owners-past-stay k h = play-past B sound k h o ds even
 
   pub derived-past-stay : ((i : ℕ) → Beside (P .people) (P .slots) i → slot (afresh P after D .sets) 0 i ≡ slot (D .sets) 0 i)
       × ((p : ℕ) → P .people ≤ p → getD (afresh P after D .minutes) p 0 ≡ getD (D .minutes) p 0)
+      × ((i : ℕ) → 2 ≤ i → getD (afresh P after D .totals) i 0 ≡ getD (D .totals) i 0)
   unfolding afresh
   derived-past-stay =
       let g = A .right .on in (
         λ i b. sets-out (P .slots) after (D .sets) (g .sound .slots-few) (P .people) (g .room .sets-room) i b,
         λ p h. getD-over-out (worked P after) (P .people) (D .minutes) p h,
+        λ i h. getD-over-out (totalOf P after) 2 (D .totals) i h,
       )
 
   pub played-recounts : recounts P avail units begins after (afresh P after D) ≡ true
@@ -142,7 +144,7 @@ module _ (P : Plan) (avail : List ℕ) (units : ℕ) (begins frozen : List ℕ) 
   played-recounts =
       let g = A .right .on in
       let J = afresh-step P after D (g .sound .slots-few) (omega (arith, play-length B o ds, g .room .owners-room)) (g .room .sets-room)
-      (g .room .minutes-room) owners-known in
+      (g .room .minutes-room) (g .room .totals-room) owners-known in
       says-recount P avail units begins after (afresh P after D)
       record {
         known = owners-known;
@@ -150,6 +152,7 @@ module _ (P : Plan) (avail : List ℕ) (units : ℕ) (begins frozen : List ℕ) 
         even = λ u k h a b. after-even .same u k record { below = h; from = a; upto = b };
         sets = J .sets;
         minutes = J .minutes;
+        totals = J .totals;
       }
 
 -- ---- every rota that passes the recount
@@ -159,21 +162,26 @@ module _ (P : Plan) (S : PlanSound P) (avail : List ℕ) (units : ℕ) (begins o
   counted : Recounted P avail units begins o D
   counted = recount-says P avail units begins o D e
 
-  -- all persons' minutes plus the uncovered ones are the sum of the lent slots
-  pub minutes-and-uncovered : sum (P .people) (λ p. getD (D .minutes) p 0) + uncovered P o ≡ demandOf (P .slots) (P .starts) (P .ends)
+  -- all persons' minutes plus the stored uncovered ones are the sum of the lent slots
+  pub minutes-and-uncovered : sum (P .people) (λ p. getD (D .minutes) p 0) + getD (D .totals) 0 0 ≡ demandOf (P .slots) (P .starts) (P .ends)
+  unfolding totalOf
   minutes-and-uncovered =
-      ap (λ (s : ℕ). s + uncovered P o) (sum-same (P .people) (λ p. getD (D .minutes) p 0) (worked P o) (counted .minutes))
+      ap (λ (t : ℕ). sum (P .people) (λ p. getD (D .minutes) p 0) + t) (counted .totals 0 (omega arith))
+      ∙ ap (λ (s : ℕ). s + uncovered P o) (sum-same (P .people) (λ p. getD (D .minutes) p 0) (worked P o) (counted .minutes))
       ∙ minutes-total P o (S .people-few) (counted .known)
 
 -- ---- from_slots of the owners of a rota that passes the recount
 
--- D′ has the sets and minutes of D; every other bit and entry, and the lengths, are those of E
+-- D′ has the sets, minutes and totals of D; every other bit and entry, and the lengths, are those of E
 pub record Copied (P : Plan) (D E D′ : Derived) : Type 0 where
   pub sets : (p k : ℕ) → p < P .people → k < P .slots → slot (D′ .sets) (16 * p) k ≡ slot (D .sets) (16 * p) k
   pub minutes : (p : ℕ) → p < P .people → getD (D′ .minutes) p 0 ≡ getD (D .minutes) p 0
+  pub totals : (i : ℕ) → i < 2 → getD (D′ .totals) i 0 ≡ getD (D .totals) i 0
   pub beside : (i : ℕ) → Beside (P .people) (P .slots) i → slot (D′ .sets) 0 i ≡ slot (E .sets) 0 i
   pub past : (p : ℕ) → P .people ≤ p → getD (D′ .minutes) p 0 ≡ getD (E .minutes) p 0
+  pub past-totals : (i : ℕ) → 2 ≤ i → getD (D′ .totals) i 0 ≡ getD (E .totals) i 0
   pub lengths : (length (D′ .sets) ≡ length (E .sets)) × (length (D′ .minutes) ≡ length (E .minutes))
+      × (length (D′ .totals) ≡ length (E .totals))
 
 -- a rota that passes with units passes without
 pub recount-slots-too : (counts room : Bool) (P : Plan) (avail : List ℕ) (units : ℕ) (begins o : List ℕ) (D : Derived)
@@ -182,7 +190,7 @@ unfolding recountRow recountSlotsRow lentRow recountTests all
 recount-slots-too counts room P avail units begins o D e =
     let h = passed (recountRow counts room P avail units begins o D) refl e in
     all-pass (recountSlotsRow P avail o D)
-    (h 0, (h 1, (refl, (h 3, (h 4, (h 5, (h 6, (h 7, (refl, (h 9, (h 11, (h 12, (refl, (h 14, (h 15, tt)))))))))))))))
+    (h 0, (h 1, (refl, (h 3, (h 4, (h 5, (h 6, (h 7, (h 8, (refl, (h 10, (h 12, (h 13, (refl, (h 15, (h 16, (h 17, tt)))))))))))))))))
 
 module _ (P : Plan) (avail o : List ℕ) (D : Derived) (e : numberOf (recountSlotsRow P avail o D) ≡ 0) where
   on : LentRight P avail o D
@@ -191,13 +199,13 @@ module _ (P : Plan) (avail o : List ℕ) (D : Derived) (e : numberOf (recountSlo
   right : Recounted P avail 0 [] o D
   right = recount-says P avail 0 [] o D (slots-asks P avail o D e .1)
 
-  module _ (E : Derived) (rs : 16 * P .people ≤ length (E .sets)) (rm : P .people ≤ length (E .minutes)) where
+  module _ (E : Derived) (rs : 16 * P .people ≤ length (E .sets)) (rm : P .people ≤ length (E .minutes)) (rt : 2 ≤ length (E .totals)) where
     accepted : numberOf (fromSlotsRow P avail o E) ≡ 0
     unfolding fromSlotsRow recountSlotsRow lentRow recountTests
     accepted =
         let h = passed (recountSlotsRow P avail o D) refl e in
         all-pass (fromSlotsRow P avail o E)
-        (h 0, (h 1, (refl, (h 3, (h 4, (h 5, (le-leb _ _ rs, (le-leb _ _ rm, (refl, (h 9, (h 10, (h 11, tt))))))))))))
+        (h 0, (h 1, (refl, (h 3, (h 4, (h 5, (le-leb _ _ rs, (le-leb _ _ rm, (le-leb _ _ rt, (refl, (h 10, (h 11, (h 12, tt)))))))))))))
 
     -- whatever columns are lent, it is accepted and leaves what is worked out afresh
     made : fromSlots P avail o E ≡ record { refusal = placeless 0; owners = o; derived = afresh P o E; answers = [] }
@@ -208,13 +216,15 @@ module _ (P : Plan) (avail o : List ℕ) (D : Derived) (e : numberOf (recountSlo
     pub from-slots-copies : Copied P D E (fromSlots P avail o E .derived)
     unfolding afresh
     from-slots-copies =
-        let J = afresh-step P o E (on .sound .slots-few) (on .room .owners-room) rs rm (right .known) in
+        let J = afresh-step P o E (on .sound .slots-few) (on .room .owners-room) rs rm rt (right .known) in
         subst (λ (y : Outcome). Copied P D E (y .derived)) (sym made)
         record {
           sets = λ p k h g. J .sets p k h g ∙ sym (right .sets p k h g);
           minutes = λ p h. J .minutes p h ∙ sym (right .minutes p h);
+          totals = λ i h. J .totals i h ∙ sym (right .totals i h);
           beside = λ i b. sets-out (P .slots) o (E .sets) (on .sound .slots-few) (P .people) rs i b;
           past = λ p h. getD-over-out (worked P o) (P .people) (E .minutes) p h;
+          past-totals = λ i h. getD-over-out (totalOf P o) 2 (E .totals) i h;
           lengths = afresh-lengths P o E;
         }
 
@@ -222,7 +232,7 @@ module _ (P : Plan) (avail o : List ℕ) (D : Derived) (e : numberOf (recountSlo
   pub from-slots-back : Fit (D .sets) → fromSlots P avail o D ≡ record { refusal = placeless 0; owners = o; derived = D; answers = [] }
   from-slots-back f =
       let R = on .room in
-      made D (R .sets-room) (R .minutes-room)
+      made D (R .sets-room) (R .minutes-room) (R .totals-room)
       ∙ ap (λ (d : Derived). record { refusal = placeless 0; owners = o; derived = d; answers = [] })
       (sym (afresh-same P o D (on .sound .slots-few) f (recount-step P avail 0 [] o D R right)))
 
@@ -245,7 +255,7 @@ module _ (P : Plan) (avail o : List ℕ) (D : Derived) (k w : ℕ) (A : Asks P a
       let g = A .on in
       let J = afresh-step P (set o k w) D (g .sound .slots-few) (omega (arith, length-set o k w, g .room .owners-room)) (g .room
       .sets-room)
-      (g .room .minutes-room) set-known in
+      (g .room .minutes-room) (g .room .totals-room) set-known in
       says-recount P avail 0 [] (set o k w) (afresh P (set o k w) D)
       record {
         known = set-known;
@@ -254,6 +264,7 @@ module _ (P : Plan) (avail o : List ℕ) (D : Derived) (k w : ℕ) (A : Asks P a
         even = λ u j h a b. absurd (omega arith);
         sets = J .sets;
         minutes = J .minutes;
+        totals = J .totals;
       }
 
 -- ---- a list played in two calls

@@ -90,9 +90,10 @@ module _ (B : Board) (T : BoardSound B) (o : List ℕ) (E : Even B o) (H : ℕ �
 -- lengths stay
 pub over-lengths : (P : Plan) (o : List ℕ) (D : Derived) (a e w : ℕ) (o′ : List ℕ) (D′ : Derived) → HandedOver P o D a e w o′ D′
     → (length o′ ≡ length o) × (length (D′ .sets) ≡ length (D .sets)) × (length (D′ .minutes) ≡ length (D .minutes))
+    × (length (D′ .totals) ≡ length (D .totals))
 over-lengths P o D a e w o′ D′ O =
     let y = lengths-kept P o′ D D′ (O .derived) in
-    (ap length (O .owners) ∙ length-fill w a (e - a) o, y .0, y .1)
+    (ap length (O .owners) ∙ length-fill w a (e - a) o, y .0, y .1, y .2)
 
 -- ---- one draw
 
@@ -160,6 +161,7 @@ module _ (P : Plan) (B : Board) (o : List ℕ) (D : Derived) (x : List ℕ) (ds 
   ran-answers h = ap length (R .answers) ∙ length-onto (answers B o ds) x (omega (arith, answers-length B o ds))
 
   pub ran-lengths : (length (D′ .sets) ≡ length (D .sets)) × (length (D′ .minutes) ≡ length (D .minutes))
+      × (length (D′ .totals) ≡ length (D .totals))
   ran-lengths = lengths-kept P o′ D D′ (R .derived)
 
   pub ran-more : (i : ℕ) → length ds ≡ i → (d : Draw) (o″ : List ℕ) (D″ : Derived) (x″ : List ℕ) → P .slots ≤ 1024

@@ -18,18 +18,31 @@ pub(crate) fn hand_over(
     owners: &mut [u8],
     sets: &mut [u64],
     minutes: &mut [u64],
+    totals: &mut [u64],
     a: usize,
     e: usize,
     to: u8,
 )
     requires { ⌜ PlanSound (plan people slots (now starts) (now ends)) ⌝ }
-    requires { ⌜ InStep (plan people slots (now starts) (now ends)) (now owners) (derived (now sets) (now minutes)) ⌝ }
+    requires { ⌜ InStep (plan people slots (now starts) (now ends)) (now owners) (derived (now sets) (now minutes) (now totals)) ⌝ }
     requires { ⌜ OneOwner (now owners) slots a e ⌝ }
     requires { ⌜ knownBy people to ≡ true ⌝ }
     ensures { λ _. ⌜ HandedOver (plan people slots (now (starts .entry)) (now (ends .entry))) (now (owners .entry)) (derived (now
-        (sets .entry)) (now (minutes .entry))) a e to (now (owners .exit)) (derived (now (sets .exit)) (now (minutes .exit))) ⌝ }
+        (sets .entry)) (now (minutes .entry)) (now (totals .entry))) a e to (now (owners .exit)) (derived (now (sets .exit)) (now (minutes .exit)) (now (totals .exit))) ⌝ }
 {
-    owners::hand_over(people, slots, starts, ends, owners, sets, minutes, a, e, to);
+    owners::hand_over(
+        people,
+        slots,
+        starts,
+        ends,
+        owners,
+        sets,
+        minutes,
+        totals,
+        a,
+        e,
+        to,
+    );
 }
 
 // What stands against a single assign: 1, 2, 9, 10, 11 or 12.
@@ -42,13 +55,24 @@ fn assign_refusal(
     owners: &[u8],
     sets: &[u64],
     minutes: &[u64],
+    totals: &[u64],
     slot: usize,
     owner: u8,
 ) -> Refusal
     ensures { λ r. ⌜ r ≡ refusalOf (assignRow (plan people slots (now (starts .entry)) (now (ends .entry))) (now (avail .entry)) (now
-        (owners .entry)) (derived (now (sets .entry)) (now (minutes .entry))) slot owner) ⌝ }
+        (owners .entry)) (derived (now (sets .entry)) (now (minutes .entry)) (now (totals .entry))) slot owner) ⌝ }
 {
-    let f = owners::recount_slots(people, slots, starts, ends, avail, owners, sets, minutes);
+    let f = owners::recount_slots(
+        people,
+        slots,
+        starts,
+        ends,
+        avail,
+        owners,
+        sets,
+        minutes,
+        totals,
+    );
     let f = paper::check(f, slot < slots, 11);
     let f = paper::check(f, owners::known_by(people, owner), 11);
     paper::check(f, owners::available_for(avail, owner, slot), 12)
@@ -64,12 +88,13 @@ pub fn assign(
     owners: &mut [u8],
     sets: &mut [u64],
     minutes: &mut [u64],
+    totals: &mut [u64],
     slot: usize,
     owner: u8,
 ) -> Refusal
     ensures { λ r. ⌜ Ended (assigned (plan people slots (now (starts .entry)) (now (ends .entry))) (now (avail .entry)) (now (owners
-        .entry)) (derived (now (sets .entry)) (now (minutes .entry))) slot owner) r (now (owners .exit)) (derived (now (sets .exit))
-        (now (minutes .exit))) [] ⌝ }
+        .entry)) (derived (now (sets .entry)) (now (minutes .entry)) (now (totals .entry))) slot owner) r (now (owners .exit)) (derived (now (sets .exit))
+        (now (minutes .exit)) (now (totals .exit))) [] ⌝ }
 {
     let refusal = assign_refusal(
         people,
@@ -80,6 +105,7 @@ pub fn assign(
         owners,
         sets,
         minutes,
+        totals,
         slot,
         owner,
     );
@@ -92,6 +118,7 @@ pub fn assign(
             owners,
             sets,
             minutes,
+            totals,
             slot,
             slot + 1,
             owner,

@@ -29,11 +29,12 @@ pub fn play(
     owners: &mut [u8],
     sets: &mut [u64],
     minutes: &mut [u64],
+    totals: &mut [u64],
     answers: &mut [u8],
 ) -> Refusal
     ensures { λ r. ⌜ Ended (playedDraws (plan people slots (now (starts .entry)) (now (ends .entry))) (now (avail .entry)) units
         (now (begins .entry)) (now (frozen .entry)) count (now (draws .entry)) (now (owners .entry)) (derived (now (sets .entry))
-        (now (minutes .entry))) (now (answers .entry))) r (now (owners .exit)) (derived (now (sets .exit)) (now (minutes .exit)))
+        (now (minutes .entry)) (now (totals .entry))) (now (answers .entry))) r (now (owners .exit)) (derived (now (sets .exit)) (now (minutes .exit)) (now (totals .exit)))
         (now (answers .exit)) ⌝ }
 {
     let b = begin(
@@ -49,6 +50,7 @@ pub fn play(
         owners,
         sets,
         minutes,
+        totals,
         count <= draws.len(),
         answers,
     );
@@ -70,6 +72,7 @@ pub fn play(
             owners,
             sets,
             minutes,
+            totals,
             d.draw,
             d.first,
             d.second,

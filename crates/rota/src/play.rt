@@ -80,18 +80,19 @@ fn step(
     owners: &mut [u8],
     sets: &mut [u64],
     minutes: &mut [u64],
+    totals: &mut [u64],
     kind: u16,
     first: u16,
     second: u16,
 ) -> u8
     requires { ⌜ PlanSound (plan people slots (now starts) (now ends)) ⌝ }
-    requires { ⌜ InStep (plan people slots (now starts) (now ends)) (now owners) (derived (now sets) (now minutes)) ⌝ }
+    requires { ⌜ InStep (plan people slots (now starts) (now ends)) (now owners) (derived (now sets) (now minutes) (now totals)) ⌝ }
     requires { ⌜ BoardSound (ready people slots units (now begins) (now fits) (now flags)) ⌝ }
     requires { ⌜ Even (ready people slots units (now begins) (now fits) (now flags)) (now owners) ⌝ }
     requires { ⌜ (units ≤ length (now begins)) × (units ≤ length (now fits)) × (units ≤ length (now flags)) ⌝ }
     ensures { λ r. ⌜ Stepped (plan people slots (now (starts .entry)) (now (ends .entry))) (ready people slots units (now (begins
         .entry)) (now (fits .entry)) (now (flags .entry))) (now (owners .entry)) (derived (now (sets .entry)) (now (minutes
-        .entry))) (draw kind first second) r (now (owners .exit)) (derived (now (sets .exit)) (now (minutes .exit))) ⌝ }
+        .entry)) (now (totals .entry))) (draw kind first second) r (now (owners .exit)) (derived (now (sets .exit)) (now (minutes .exit)) (now (totals .exit))) ⌝ }
 {
     match decide(
         people,
@@ -115,6 +116,7 @@ fn step(
                 owners,
                 sets,
                 minutes,
+                totals,
                 from,
                 upto,
                 to,
@@ -137,6 +139,7 @@ fn step(
                 owners,
                 sets,
                 minutes,
+                totals,
                 from,
                 upto,
                 to,
@@ -149,6 +152,7 @@ fn step(
                 owners,
                 sets,
                 minutes,
+                totals,
                 from2,
                 upto2,
                 to2,
@@ -171,6 +175,7 @@ pub(crate) fn step_at(
     owners: &mut [u8],
     sets: &mut [u64],
     minutes: &mut [u64],
+    totals: &mut [u64],
     kind: u16,
     first: u16,
     second: u16,
@@ -178,11 +183,11 @@ pub(crate) fn step_at(
     answers: &mut [u8],
 )
     requires { ⌜ StepAsks (plan people slots (now starts) (now ends)) (ready people slots units (now begins) (now fits) (now flags))
-        (now owners) (derived (now sets) (now minutes)) (now begins) (now fits) (now flags) i (now answers) ⌝ }
+        (now owners) (derived (now sets) (now minutes) (now totals)) (now begins) (now fits) (now flags) i (now answers) ⌝ }
     ensures { λ _. ⌜ SteppedAt (plan people slots (now (starts .entry)) (now (ends .entry))) (ready people slots units (now (begins
         .entry)) (now (fits .entry)) (now (flags .entry))) (now (owners .entry)) (derived (now (sets .entry)) (now (minutes
-        .entry))) (draw kind first second) i (now (answers .entry)) (now (owners .exit)) (derived (now (sets .exit)) (now (minutes
-        .exit))) (now (answers .exit)) ⌝ }
+        .entry)) (now (totals .entry))) (draw kind first second) i (now (answers .entry)) (now (owners .exit)) (derived (now (sets .exit)) (now (minutes
+        .exit)) (now (totals .exit))) (now (answers .exit)) ⌝ }
 {
     answers[i] = step(
         people,
@@ -196,6 +201,7 @@ pub(crate) fn step_at(
         owners,
         sets,
         minutes,
+        totals,
         kind,
         first,
         second,
@@ -219,18 +225,19 @@ fn run(
     owners: &mut [u8],
     sets: &mut [u64],
     minutes: &mut [u64],
+    totals: &mut [u64],
     answers: &mut [u8],
 )
     requires { ⌜ PlanSound (plan people slots (now starts) (now ends)) ⌝ }
-    requires { ⌜ InStep (plan people slots (now starts) (now ends)) (now owners) (derived (now sets) (now minutes)) ⌝ }
+    requires { ⌜ InStep (plan people slots (now starts) (now ends)) (now owners) (derived (now sets) (now minutes) (now totals)) ⌝ }
     requires { ⌜ BoardSound (ready people slots units (now begins) (now fits) (now flags)) ⌝ }
     requires { ⌜ Even (ready people slots units (now begins) (now fits) (now flags)) (now owners) ⌝ }
     requires { ⌜ DrawRoom count (now draws) (now firsts) (now seconds) (now answers) ⌝ }
     requires { ⌜ (units ≤ length (now begins)) × (units ≤ length (now fits)) × (units ≤ length (now flags)) ⌝ }
     ensures { λ _. ⌜ Ran (plan people slots (now (starts .entry)) (now (ends .entry))) (ready people slots units (now (begins
         .entry)) (now (fits .entry)) (now (flags .entry))) (now (owners .entry)) (derived (now (sets .entry)) (now (minutes
-        .entry))) (now (answers .entry)) (drawsOf (now (draws .entry)) (now (firsts .entry)) (now (seconds .entry)) count) (now (owners
-        .exit)) (derived (now (sets .exit)) (now (minutes .exit))) (now (answers .exit)) ⌝ }
+        .entry)) (now (totals .entry))) (now (answers .entry)) (drawsOf (now (draws .entry)) (now (firsts .entry)) (now (seconds .entry)) count) (now (owners
+        .exit)) (derived (now (sets .exit)) (now (minutes .exit)) (now (totals .exit))) (now (answers .exit)) ⌝ }
 {
     let mut i: usize = 0;
     while i < count {
@@ -246,6 +253,7 @@ fn run(
             owners,
             sets,
             minutes,
+            totals,
             draws[i],
             firsts[i],
             seconds[i],
@@ -270,11 +278,12 @@ fn play_refusal(
     owners: &[u8],
     sets: &[u64],
     minutes: &[u64],
+    totals: &[u64],
     answers: &[u8],
     enough: bool,
 ) -> Refusal
     ensures { λ r. ⌜ r ≡ refusalOf (playRow (plan people slots (now (starts .entry)) (now (ends .entry))) (now (avail .entry)) units (now
-        (begins .entry)) (now (frozen .entry)) count enough (now (owners .entry)) (derived (now (sets .entry)) (now (minutes .entry)))
+        (begins .entry)) (now (frozen .entry)) count enough (now (owners .entry)) (derived (now (sets .entry)) (now (minutes .entry)) (now (totals .entry)))
         (now (answers .entry))) ⌝ }
 {
     owners::recounted(
@@ -290,6 +299,7 @@ fn play_refusal(
         owners,
         sets,
         minutes,
+        totals,
     )
 }
 
@@ -307,11 +317,12 @@ pub(crate) fn begin(
     owners: &[u8],
     sets: &[u64],
     minutes: &[u64],
+    totals: &[u64],
     enough: bool,
     answers: &[u8],
 ) -> Begun
     ensures { λ r. ⌜ Begins (plan people slots (now (starts .entry)) (now (ends .entry))) (now (avail .entry)) units (now (begins
-        .entry)) (now (frozen .entry)) count enough (now (owners .entry)) (derived (now (sets .entry)) (now (minutes .entry))) (now
+        .entry)) (now (frozen .entry)) count enough (now (owners .entry)) (derived (now (sets .entry)) (now (minutes .entry)) (now (totals .entry))) (now
         (answers .entry)) r ⌝ }
 {
     let refusal = play_refusal(
@@ -327,6 +338,7 @@ pub(crate) fn begin(
         owners,
         sets,
         minutes,
+        totals,
         answers,
         enough,
     );
@@ -367,12 +379,13 @@ pub fn play(
     owners: &mut [u8],
     sets: &mut [u64],
     minutes: &mut [u64],
+    totals: &mut [u64],
     answers: &mut [u8],
 ) -> Refusal
     ensures { λ r. ⌜ Ended (played (plan people slots (now (starts .entry)) (now (ends .entry))) (now (avail .entry)) units (now
         (begins .entry)) (now (frozen .entry)) count (now (draws .entry)) (now (firsts .entry)) (now (seconds .entry)) (now (owners
-        .entry)) (derived (now (sets .entry)) (now (minutes .entry))) (now (answers .entry))) r (now (owners .exit)) (derived (now
-        (sets .exit)) (now (minutes .exit))) (now (answers .exit)) ⌝ }
+        .entry)) (derived (now (sets .entry)) (now (minutes .entry)) (now (totals .entry))) (now (answers .entry))) r (now (owners .exit)) (derived (now
+        (sets .exit)) (now (minutes .exit)) (now (totals .exit))) (now (answers .exit)) ⌝ }
 {
     let b = begin(
         people,
@@ -387,6 +400,7 @@ pub fn play(
         owners,
         sets,
         minutes,
+        totals,
         columns_enough(count, draws, firsts, seconds),
         answers,
     );
@@ -410,6 +424,7 @@ pub fn play(
             owners,
             sets,
             minutes,
+            totals,
             answers,
         );
         return refusal;

@@ -9,16 +9,25 @@ use Rattle.owners.proofs.checks.lent_refusal.Tie as tie
 returns : tie.Need-returns
 unfolding lentRow
 returns c =
-    let b = c .before .before .before .before in
-    checked _ refl (b .before .before .before .before .before .before .accepted .ensures)
-    (link (b .before .before .before .before .before .check-people .ensures) (link (b .before .before .before .before .check-slots .ensures)
-    (link (b .before .before .before .check .ensures) (link (b .before .before .check-room .ensures) (link (b .before .check-words .ensures)
-    (link (b .check2 .ensures) (link (c .before .before .before .check-words2 .ensures) (link (c .before .before .check3 .ensures)
-    (link (c .before .check4 .ensures) (link (c .check-order .ensures) ends))))))))))
+    checked _ refl (c .before .before .before .before .before .before .before .before .before .before .before .accepted .ensures)
+    (link (c .before .before .before .before .before .before .before .before .before .before .check-people .ensures) (link (c .before .before .before .before .before .before .before .before .before .check-slots .ensures) (link (c .before .before .before .before .before .before .before .before .check .ensures) (link (c .before .before .before .before .before .before .before .check-room .ensures)
+    (link (c .before .before .before .before .before .before .check-words .ensures) (link (c .before .before .before .before .before .check2 .ensures) (link (c .before .before .before .before .check-words2 .ensures) (link (c .before .before .before .check3 .ensures)
+    (link (c .before .before .check4 .ensures) (link (c .before .check5 .ensures) (link (c .check-order .ensures) ends)))))))))))
 
 pub lent-refusal-spec : {M : Type 1} → statement M
 lent-refusal-spec =
     tie.close
-    (tie.spec (λ c κs. search needs) (λ c κs. search needs) (λ c κs. search needs) (λ c κs. search needs) (λ c κs. search needs)
-    (λ c κs. search needs) (λ c κs. search needs) (λ c κs. search needs) (λ c κs. search needs) (λ c κs. search needs)
-    (λ c κs. search needs) returns)
+    (tie.spec
+    (λ c κs. search needs)
+    (λ c κs. search needs)
+    (λ c κs. search needs)
+    (λ c κs. search needs)
+    (λ c κs. search needs)
+    (λ c κs. search needs)
+    (λ c κs. search needs)
+    (λ c κs. search needs)
+    (λ c κs. search needs)
+    (λ c κs. search needs)
+    (λ c κs. search needs)
+    (λ c κs. search needs)
+    returns)

@@ -1,19 +1,34 @@
 -- `owners::derived::hand_over` meets its contract. Assumes nothing.
-use mathlib.Core.Path.{ap, _∙_}
+use mathlib.Core.Path.{ap, ap₂, _∙_}
 use Prim.Native.Nat.{ℕ}
 use borrow.Author.Needs.{needs}
-use Rattle.owners.specs.Derived.{plan, derived, carried}
+use Rattle.owners.specs.Derived.{Derived, plan, derived, taken, given, carried}
 use Rattle.owners.proofs.derived.hand_over.Statement.{statement}
 use Rattle.owners.proofs.derived.hand_over.Tie as tie
 
 returns : tie.Need-returns
+unfolding carried
 returns c =
-    let b = c .before .before .before .before .before .before .before .before in
-    let o = b .before .before .before .owner-at in
-    let x = b .before .before .before .before .before .before .before .before .before .before .args in
-    let P = plan (x .people) (x .slots) (x .starts .now) (x .ends .now) in
-    let D = derived (x .sets .now) (x .minutes .now) in
-    (c .before .before .fill-owners .ensures, b .carry .ensures ∙ ap (λ (w : ℕ). carried P (x .a) (x .e) w (x .to) D) (o .ensures))
+    let x = c .before .before .before .before .before .before .before .before .before .before .before .before .before .before .before .before .before .before .before .before .before .before .before .before .before .before .before .before .before .before .before .before .before .args in
+    let D = derived (x .sets .now) (x .minutes .now) (x .totals .now) in
+    let n = c .before .before .before .before .before .before .before .before .before .before .before .before .before .before .before .before .before .before .before .before .before .before .before .before .stretch-minutes .ensures in (
+      c .before .before .fill-owners .ensures,
+      c .before .before .before .before .before .before .before .before .before .before .give .ensures
+          ∙ ap₂ (λ (k : ℕ) (d : Derived). given (x .people) (x .slots) (x .a) (x .e) k (x .to) d) n
+          (c .before .before .before .before .before .before .before .before .before .before .before .before .before .before .before .before .before .before .before .before .take .ensures ∙ ap₂ (λ (k w : ℕ). taken (x .people) (x .slots) (x .a) (x .e) k w D) n (c .before .before .before .before .before .before .before .before .before .before .before .before .before .before .before .before .before .before .before .before .before .before .before .before .before .owner-at .ensures)),
+    )
 
 pub hand-over-spec : {M : Type 1} → statement M
-hand-over-spec = tie.close (tie.spec (λ c κs. search needs) (λ c κs. search needs) (λ c κs. search needs) (λ c. search needs) (λ c. search needs) (λ c. search needs) returns)
+hand-over-spec =
+    tie.close
+    (tie.spec
+    (λ c κs. search needs)
+    (λ c κs. search needs)
+    (λ c κs. search needs)
+    (λ c κs. search needs)
+    (λ c κs. search needs)
+    (λ c. search needs)
+    (λ c. search needs)
+    (λ c. search needs)
+    (λ c. search needs)
+    returns)

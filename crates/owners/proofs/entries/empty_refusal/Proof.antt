@@ -9,13 +9,21 @@ use Rattle.owners.proofs.entries.empty_refusal.Tie as tie
 returns : tie.Need-returns
 unfolding emptyRow
 returns c =
-    let b = c .before .before .before .before in
-    checked _ refl (b .before .accepted .ensures)
-    (link (b .check-people .ensures) (link (c .before .before .before .check-slots .ensures) (link (c .before .before .check .ensures)
-    (link (c .before .check-words .ensures) (link (c .check2 .ensures) ends)))))
+    checked _ refl (c .before .before .before .before .before .before .before .before .accepted .ensures)
+    (link (c .before .before .before .before .before .before .before .check-people .ensures) (link (c .before .before .before .before .before .before .check-slots .ensures) (link (c .before .before .before .before .before .check-room .ensures) (link (c .before .before .before .before .check .ensures)
+    (link (c .before .before .before .check-words .ensures) (link (c .before .before .check2 .ensures) (link (c .before .check3 .ensures) (link (c .check-order .ensures) ends))))))))
 
 pub empty-refusal-spec : {M : Type 1} → statement M
 empty-refusal-spec =
     tie.close
-    (tie.spec (λ c κs. search needs) (λ c κs. search needs) (λ c κs. search needs) (λ c κs. search needs) (λ c κs. search needs)
-    (λ c κs. search needs) returns)
+    (tie.spec
+    (λ c κs. search needs)
+    (λ c κs. search needs)
+    (λ c κs. search needs)
+    (λ c κs. search needs)
+    (λ c κs. search needs)
+    (λ c κs. search needs)
+    (λ c κs. search needs)
+    (λ c κs. search needs)
+    (λ c κs. search needs)
+    returns)

@@ -11,4 +11,10 @@ returns c =
     (link (c .before .check-known .ensures) (link (c .check-available .ensures) ends))
 
 pub from-slots-refusal-spec : {M : Type 1} → statement M
-from-slots-refusal-spec = tie.close (tie.spec (λ c κs. search needs) (λ c κs. search needs) (λ c κs. search needs) returns)
+from-slots-refusal-spec =
+    tie.close
+    (tie.spec
+    (λ c κs. search needs)
+    (λ c κs. search needs)
+    (λ c κs. search needs)
+    returns)

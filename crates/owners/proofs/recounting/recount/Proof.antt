@@ -7,4 +7,8 @@ returns : tie.Need-returns
 returns c = c .recounted .ensures
 
 pub recount-spec : {M : Type 1} → statement M
-recount-spec = tie.close (tie.spec (λ c κs. search needs) returns)
+recount-spec =
+    tie.close
+    (tie.spec
+    (λ c κs. search needs)
+    returns)

@@ -31,10 +31,9 @@ returns-3 c =
 derived-refusal-requires : tie.Need-derived-refusal-requires
 unfolding knownAt
 derived-refusal-requires c κs =
-    let at-pre = c .before .before .before .before .before .before .before .before .before .before .before .before .before .pre
+    let at-pre = c .before .before .before .before .before .before .before .before .before .before .before .before .before .before .pre
     in
-    let at-args = c .before .before .before .before .before .before .before .before .before .before .before .before .before
-    .args in
+    let at-args = c .before .before .before .before .before .before .before .before .before .before .before .before .before .before .args in
     let at-first-unknown = c .before .before .before .before .before .first-unknown in
     let R = (at-pre .1) in (
       (at-pre .0),
@@ -42,6 +41,7 @@ derived-refusal-requires c κs =
         owners-room = R .owners-room;
         sets-room = R .sets-room;
         minutes-room = R .minutes-room;
+        totals-room = R .totals-room;
         known = λ k
             h. all-each _ _ (first-passes (at-args .slots) (knownAt (at-args .people) (at-args .owners .now)) (omega (
               arith,
@@ -52,17 +52,26 @@ derived-refusal-requires c κs =
 
 returns-4 : tie.Need-returns-4
 returns-4 c =
-    let b = c .before in
-    let at-first-unknown = b .before .before .before .before .before .first-unknown in
-    let at-if1 = b .before .before .before .before .if1 in
-    let at-first-unavailable = b .before .before .before .first-unavailable in
-    let at-if2 = b .before .before .if2 in
-    let at-first-uneven = b .before .first-uneven in
+    let at-first-unknown = c .before .before .before .before .before .before .first-unknown in
+    let at-if1 = c .before .before .before .before .before .if1 in
+    let at-first-unavailable = c .before .before .before .before .first-unavailable in
+    let at-if2 = c .before .before .before .if2 in
+    let at-first-uneven = c .before .before .first-uneven in
     refusal-derived _ _ _ _ _ _ _ _ (at-first-unknown .ensures) (at-if1 .left) _ (at-first-unavailable .ensures) (at-if2 .left) _
-    (at-first-uneven .ensures) (b .if3 .left) (c .derived-refusal .ensures)
+    (at-first-uneven .ensures) (c .before .if3 .left) (c .derived-refusal .ensures)
 
 pub recount-refusal-spec : {M : Type 1} → statement M
 recount-refusal-spec =
     tie.close
-    (tie.spec (λ c κs. search needs) (λ c κs. search needs) returns (λ c κs. search needs) (λ c κs. search needs) returns-2 (λ c κs. search needs) (λ c κs. search needs) returns-3
-    derived-refusal-requires returns-4)
+    (tie.spec
+    (λ c κs. search needs)
+    (λ c κs. search needs)
+    returns
+    (λ c κs. search needs)
+    (λ c κs. search needs)
+    returns-2
+    (λ c κs. search needs)
+    (λ c κs. search needs)
+    returns-3
+    derived-refusal-requires
+    returns-4)

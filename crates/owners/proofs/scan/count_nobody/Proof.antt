@@ -4,7 +4,8 @@ use Prim.Native.Nat.{ℕ, _-_, _≤_}
 use native.Mathlib.Omega.{arith}
 use borrow.Author.Needs.{needs}
 use Rattle.owners.specs.Derived.{unassigned}
-use Rattle.owners.proofs.Entered.{nobody-more, nobody-same, nobody-none, nobody-le}
+use Rattle.owners.proofs.Totals.{nobody-le}
+use Rattle.owners.proofs.Entered.{nobody-more, nobody-same, nobody-none}
 use Rattle.owners.proofs.scan.count_nobody.Statement.{statement}
 use Rattle.owners.proofs.scan.count_nobody.Tie as tie
 

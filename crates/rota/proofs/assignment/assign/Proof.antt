@@ -11,30 +11,30 @@ use Rattle.rota.proofs.assignment.assign.Tie as tie
 
 add-hand-over : tie.Need-add-hand-over
 add-hand-over c =
-    let at-args = c .before .before .before .before .before .before .before .before .before .before .before .before .before .before .before .args in
-    let at-assign-refused = c .before .before .before .before .before .assign-refusal in
-    let at-if1 = c .before .before .before .if1 in
+    let at-args = c .before .before .before .before .before .before .before .before .before .before .before .before .before .before .before .before .before .before .args in
+    let at-assign-refused = c .before .before .before .before .before .before .assign-refusal in
+    let at-if1 = c .before .before .before .before .if1 in
     let A = assign-asks (plan (at-args .people) (at-args .slots) (at-args .starts .now) (at-args .ends .now)) (at-args .avail
-    .now) (at-args .owners .now) (derived (at-args .sets .now) (at-args .minutes .now)) (at-args .slot) (at-args .owner)
+    .now) (at-args .owners .now) (derived (at-args .sets .now) (at-args .minutes .now) (at-args .totals .now)) (at-args .slot) (at-args .owner)
     (sym (said _ (at-assign-refused .ensures)) ∙ (at-if1 .taken)) in
     omega (arith, A .slot, A .on .sound .slots-few)
 
 hand-over-requires : tie.Need-hand-over-requires
 hand-over-requires c κs =
-    let at-args = c .before .before .before .before .before .before .before .before .before .before .before .before .before .before .before .args in
-    let at-assign-refused = c .before .before .before .before .before .assign-refusal in
-    let at-if1 = c .before .before .before .if1 in
+    let at-args = c .before .before .before .before .before .before .before .before .before .before .before .before .before .before .before .before .before .before .args in
+    let at-assign-refused = c .before .before .before .before .before .before .assign-refusal in
+    let at-if1 = c .before .before .before .before .if1 in
     let A = assign-asks (plan (at-args .people) (at-args .slots) (at-args .starts .now) (at-args .ends .now)) (at-args .avail
-    .now) (at-args .owners .now) (derived (at-args .sets .now) (at-args .minutes .now)) (at-args .slot) (at-args .owner)
+    .now) (at-args .owners .now) (derived (at-args .sets .now) (at-args .minutes .now) (at-args .totals .now)) (at-args .slot) (at-args .owner)
     (sym (said _ (at-assign-refused .ensures)) ∙ (at-if1 .taken)) in (
       A .on .sound,
       (
         asks-in-step (plan (at-args .people) (at-args .slots) (at-args .starts .now) (at-args .ends .now)) (at-args
-            .avail .now) (at-args .owners .now) (derived (at-args .sets .now) (at-args .minutes .now)) (at-args .slot) (at-args
+            .avail .now) (at-args .owners .now) (derived (at-args .sets .now) (at-args .minutes .now) (at-args .totals .now)) (at-args .slot) (at-args
             .owner) A,
         (
           asks-one (plan (at-args .people) (at-args .slots) (at-args .starts .now) (at-args .ends .now)) (at-args
-              .avail .now) (at-args .owners .now) (derived (at-args .sets .now) (at-args .minutes .now)) (at-args .slot) (at-args
+              .avail .now) (at-args .owners .now) (derived (at-args .sets .now) (at-args .minutes .now) (at-args .totals .now)) (at-args .slot) (at-args
               .owner) A,
           A .known,
         ),
@@ -42,30 +42,33 @@ hand-over-requires c κs =
     )
 
 same-length : tie.Need-same-length
-same-length c = over-lengths _ _ _ _ _ _ _ _ (c .before .before .before .before .before .before .hand-over .ensures) .0
+same-length c = over-lengths _ _ _ _ _ _ _ _ (c .before .before .before .before .before .before .before .before .hand-over .ensures) .0
 
 same-length-2 : tie.Need-same-length-2
-same-length-2 c = over-lengths _ _ _ _ _ _ _ _ (c .before .before .before .before .before .before .hand-over .ensures) .1
+same-length-2 c = over-lengths _ _ _ _ _ _ _ _ (c .before .before .before .before .before .before .before .before .hand-over .ensures) .1
 
 same-length-3 : tie.Need-same-length-3
-same-length-3 c = over-lengths _ _ _ _ _ _ _ _ (c .before .before .before .before .before .before .hand-over .ensures) .2
+same-length-3 c = over-lengths _ _ _ _ _ _ _ _ (c .before .before .before .before .before .before .before .before .hand-over .ensures) .2
+
+same-length-4 : tie.Need-same-length-4
+same-length-4 c = over-lengths _ _ _ _ _ _ _ _ (c .before .before .before .before .before .before .before .before .hand-over .ensures) .3
 
 returns : tie.Need-returns
 returns c =
-    let at-args = c .before .before .before .before .before .before .before .before .before .before .before .before .before .before .before .before .before .before .before .before .before .before .args in
-    let at-assign-refused = c .before .before .before .before .before .before .before .before .before .before .before .before .assign-refusal in
-    let at-if1 = c .before .before .before .before .before .before .before .before .before .before .if1 in
-    let at-hand-over = c .before .before .before .before .before .before .hand-over in
+    let at-args = c .before .before .before .before .before .before .before .before .before .before .before .before .before .before .before .before .before .before .before .before .before .before .before .before .before .before .before .args in
+    let at-assign-refused = c .before .before .before .before .before .before .before .before .before .before .before .before .before .before .before .assign-refusal in
+    let at-if1 = c .before .before .before .before .before .before .before .before .before .before .before .before .before .if1 in
+    let at-hand-over = c .before .before .before .before .before .before .before .before .hand-over in
     assigned-yes (plan (at-args .people) (at-args .slots) (at-args .starts .now) (at-args .ends .now)) (at-args .avail .now)
-    (at-args .owners .now) (derived (at-args .sets .now) (at-args .minutes .now)) (at-args .slot) (at-args .owner) _
+    (at-args .owners .now) (derived (at-args .sets .now) (at-args .minutes .now) (at-args .totals .now)) (at-args .slot) (at-args .owner) _
     (at-assign-refused .ensures) _ _ (at-if1 .taken) (at-hand-over .ensures)
 
 returns-2 : tie.Need-returns-2
 returns-2 c =
-    let at-args = c .before .before .before .before .before .before .before .before .before .before .before .before .args in
+    let at-args = c .before .before .before .before .before .before .before .before .before .before .before .before .before .before .args in
     let at-assign-refused = c .before .before .assign-refusal in
     assigned-refused (plan (at-args .people) (at-args .slots) (at-args .starts .now) (at-args .ends .now)) (at-args .avail .now)
-    (at-args .owners .now) (derived (at-args .sets .now) (at-args .minutes .now)) (at-args .slot) (at-args .owner) _
+    (at-args .owners .now) (derived (at-args .sets .now) (at-args .minutes .now) (at-args .totals .now)) (at-args .slot) (at-args .owner) _
     (at-assign-refused .ensures) (c .if1 .left)
 
 pub assign-spec : {M : Type 1} → statement M
@@ -78,7 +81,9 @@ assign-spec =
     same-length
     same-length-2
     same-length-3
+    same-length-4
     returns
+    (λ c. search needs)
     (λ c. search needs)
     (λ c. search needs)
     (λ c. search needs)

@@ -8,13 +8,19 @@ use Rattle.rota.proofs.assignment.hand_over.Tie as tie
 
 returns : tie.Need-returns
 returns c =
-    let b = c .before .before .before .before .before .before in
-    let k = b .before .before .before .before .before .slice-known2 in
-    let e = b .before .before .before .before .before .before .before .before .before in
-    let x = e .args in
-    handed (plan (x .people) (x .slots) (x .starts .now) (x .ends .now)) (x .owners .now) (derived (x .sets .now) (x .minutes .now))
-    (x .a) (x .e) (x .to) (e .pre .0) (e .pre .1 .0) (e .pre .1 .1 .0) (e .pre .1 .1 .1) (λ j. omega (arith, (k .given) j)) _ _
-    (b .hand-over .ensures .0) (b .hand-over .ensures .1)
+    let k = c .before .before .before .before .before .before .before .before .before .before .before .before .before .before .before .slice-known2 in
+    let x = c .before .before .before .before .before .before .before .before .before .before .before .before .before .before .before .before .before .before .before .args in
+    handed (plan (x .people) (x .slots) (x .starts .now) (x .ends .now)) (x .owners .now) (derived (x .sets .now) (x .minutes .now) (x .totals .now))
+    (x .a) (x .e) (x .to) (c .before .before .before .before .before .before .before .before .before .before .before .before .before .before .before .before .before .before .before .pre .0) (c .before .before .before .before .before .before .before .before .before .before .before .before .before .before .before .before .before .before .before .pre .1 .0) (c .before .before .before .before .before .before .before .before .before .before .before .before .before .before .before .before .before .before .before .pre .1 .1 .0) (c .before .before .before .before .before .before .before .before .before .before .before .before .before .before .before .before .before .before .before .pre .1 .1 .1) (λ j. omega (arith, (k .given) j)) _ _
+    (c .before .before .before .before .before .before .before .before .hand-over .ensures .0) (c .before .before .before .before .before .before .before .before .hand-over .ensures .1)
 
 pub hand-over-spec : {M : Type 1} → statement M
-hand-over-spec = tie.close (tie.spec (λ c κs. search needs) (λ c. search needs) (λ c. search needs) (λ c. search needs) returns)
+hand-over-spec =
+    tie.close
+    (tie.spec
+    (λ c κs. search needs)
+    (λ c. search needs)
+    (λ c. search needs)
+    (λ c. search needs)
+    (λ c. search needs)
+    returns)

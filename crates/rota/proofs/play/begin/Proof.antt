@@ -15,10 +15,9 @@ use Rattle.rota.proofs.play.begin.Tie as tie
 
 frozen-of-requires : tie.Need-frozen-of-requires
 frozen-of-requires c κs =
-    let c8 = c .before .before .before .before .before .before .before .before in
-    let a = c8 .before .before .before .before .before .before .before .args in
+    let a = c .before .before .before .before .before .before .before .before .before .before .before .before .before .before .before .before .args in
     let A = play-asks (plan (a .people) (a .slots) (a .starts .now) (a .ends .now)) (a .avail .now) (a .units) (a .begins .now)
-    (a .frozen .now) (a .count) (a .enough) (a .owners .now) (derived (a .sets .now) (a .minutes .now)) (a .answers .now)
+    (a .frozen .now) (a .count) (a .enough) (a .owners .now) (derived (a .sets .now) (a .minutes .now) (a .totals .now)) (a .answers .now)
     (sym (said _ (c .before .before .before .before .before .play-refusal .ensures)) ∙ c .before .before .before .if1 .taken) in
     let G = A .right in
     ((G .on .sound .slots-few, asks-few _ _ _ _ _ _ _ _ _ _ A, G .flags), unit-room _ _ _ (G .units-ok))
@@ -27,12 +26,11 @@ returns : tie.Need-returns
 unfolding unless
 returns c =
     let marks : length (c .frozen-of .result) ≡ 1024 = search needs in
-    let c8 = c .before .before .before .before .before .before .before .before in
-    let a = c8 .before .before .before .before .before .before .before .before .args in
+    let a = c .before .before .before .before .before .before .before .before .before .before .before .before .before .before .before .before .before .args in
     let no = c .before .before .before .before .before .before .play-refusal .ensures in
     let e = c .before .before .before .before .if1 .taken in
     let A = play-asks (plan (a .people) (a .slots) (a .starts .now) (a .ends .now)) (a .avail .now) (a .units) (a .begins .now)
-    (a .frozen .now) (a .count) (a .enough) (a .owners .now) (derived (a .sets .now) (a .minutes .now)) (a .answers .now)
+    (a .frozen .now) (a .count) (a .enough) (a .owners .now) (derived (a .sets .now) (a .minutes .now) (a .totals .now)) (a .answers .now)
     (sym (said _ no) ∙ e) in
     record {
       refusal = no;
@@ -40,13 +38,13 @@ returns c =
       fits = λ _. asks-fits _ _ _ _ _ _ _ _ _ _ A _ (c .before .before .unit-domains .ensures .1);
       flags = λ _. c .frozen-of .ensures;
       room = (c .before .before .unit-domains .kept .1 .1 .1 .1 .1 .0 ∙ length-replicate {A = ℕ} 1024 0, marks);
-      words = λ j. omega (arith, (c8 .before .shared-slice-known7 .given) j);
+      words = λ j. omega (arith, (c .before .before .before .before .before .before .before .before .before .before .shared-slice-known7 .given) j);
     }
 
 returns-2 : tie.Need-returns-2
 unfolding unless
 returns-2 c =
-    let a = c .before .before .before .before .before .before .before .before .before .before .before .before .args in
+    let a = c .before .before .before .before .before .before .before .before .before .before .before .before .before .args in
     let e = c .if1 .left in
     record {
       refusal = c .before .before .play-refusal .ensures;
@@ -54,7 +52,7 @@ returns-2 c =
       fits = λ z. absurd (e z);
       flags = λ z. absurd (e z);
       room = (length-replicate {A = ℕ} 1024 0, length-replicate {A = ℕ} 1024 0);
-      words = λ j. omega (arith, (c .before .before .before .before .before .shared-slice-known7 .given) j);
+      words = λ j. omega (arith, (c .before .before .before .before .before .before .shared-slice-known7 .given) j);
     }
 
 pub begin-spec : {M : Type 1} → statement M

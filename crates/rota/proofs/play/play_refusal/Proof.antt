@@ -8,4 +8,9 @@ returns : tie.Need-returns
 returns c = play-number _ _ _ _ _ _ _ _ _ _ _ _ (c .recounted .ensures) (c .before .play-room-ok .ensures)
 
 pub play-refusal-spec : {M : Type 1} → statement M
-play-refusal-spec = tie.close (tie.spec (λ c κs. search needs) (λ c κs. search needs) returns)
+play-refusal-spec =
+    tie.close
+    (tie.spec
+    (λ c κs. search needs)
+    (λ c κs. search needs)
+    returns)

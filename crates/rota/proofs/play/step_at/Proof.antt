@@ -6,17 +6,18 @@ use Rattle.rota.proofs.play.step_at.Tie as tie
 
 step-requires : tie.Need-step-requires
 step-requires c κs =
-    let p = c .before .before .before .before .before .before .before .before .before .before .before .before .pre in
+    let p = c .before .before .before .before .before .before .before .before .before .before .before .before .before .before .pre in
     (p .sound, (p .in-step, (p .board, (p .even, p .room))))
 
 returns : tie.Need-returns
-returns c = at-answer _ _ _ _ _ _ _ _ _ _ (c .before .before .before .before .before .before .step .ensures)
+returns c = at-answer _ _ _ _ _ _ _ _ _ _ (c .before .before .before .before .before .before .before .before .step .ensures)
 
 pub step-at-spec : {M : Type 1} → statement M
 step-at-spec =
     tie.close
     (tie.spec
     step-requires
+    (λ c. search needs)
     (λ c. search needs)
     (λ c. search needs)
     (λ c. search needs)

@@ -1,4 +1,4 @@
--- `owners::scan::first_wrong_minutes` meets its contract. Assumes nothing.
+-- `owners::scan::first_wrong_entry` meets its contract. Assumes nothing.
 use mathlib.Core.Path.{_≡_}
 use mathlib.Core.Bool.{true}
 use Prim.Native.Nat.{_-_, _≤_}
@@ -9,14 +9,14 @@ use Rattle.paper.specs.Count.{all}
 use Rattle.paper.proofs.Count.{all-none, all-more}
 use Rattle.owners.specs.Inside.{sameEntry}
 use Rattle.owners.proofs.Scans.{scan-fails, scan-ends}
-use Rattle.owners.proofs.scan.first_wrong_minutes.Statement.{statement}
-use Rattle.owners.proofs.scan.first_wrong_minutes.Tie as tie
+use Rattle.owners.proofs.scan.first_wrong_entry.Statement.{statement}
+use Rattle.owners.proofs.scan.first_wrong_entry.Tie as tie
 
 abbrev Inv-loop : tie.InvT-loop
-Inv-loop people minutes right p₀ p = (p ≤ people) × (all p (sameEntry minutes right) ≡ true)
+Inv-loop n column right i₀ i = (i ≤ n) × (all i (sameEntry column right) ≡ true)
 
 abbrev μ-loop : tie.MeasureT-loop
-μ-loop people minutes right p₀ p = people - p
+μ-loop n column right i₀ i = n - i
 
 loop-holds : tie.Need-loop-holds Inv-loop μ-loop
 loop-holds c = (search needs, all-none _)
@@ -32,8 +32,8 @@ returns c =
 returns-2 : tie.Need-returns-2 Inv-loop μ-loop
 returns-2 c = scan-ends _ _ _ (c .before .loop .inv .0) (c .loop-test .left) (c .before .loop .inv .1)
 
-pub first-wrong-minutes-spec : {M : Type 1} → statement M
-first-wrong-minutes-spec =
+pub first-wrong-entry-spec : {M : Type 1} → statement M
+first-wrong-entry-spec =
     tie.close
     (tie.spec Inv-loop μ-loop loop-holds (λ c. search needs) (λ c. search needs) (λ c. search needs) (λ c. search needs) (λ c. search needs)
     (λ c. omega arith) loop-again returns
