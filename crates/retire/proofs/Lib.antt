@@ -3,3 +3,4 @@ pub mod Rolls
 pub mod Bits
 pub mod Figured
 pub mod News
+pub mod Asks

@@ -1,9 +1,9 @@
 -- What is new, where it was written: slots, units and who is available. Assumes nothing.
 use mathlib.Core.Path.{_≡_, refl, sym, ap, _∙_}
-use mathlib.Core.Bool.{Bool, true, false, _&&_, cond}
+use mathlib.Core.Bool.{Bool, true, false, _&&_, _||_, cond}
 use mathlib.Core.Logic.{⊎-elim}
 use mathlib.Core.List.{List, []}
-use Prim.Native.Nat.{ℕ, zero, suc, _*_, _≤_, _<_}
+use Prim.Native.Nat.{ℕ, zero, suc, _+_, _*_, _≤_, _<_}
 use native.Mathlib.Omega.{arith}
 use borrow.Author.Tests.{le-leb, lt-leb, leb-true, lt-ltb, le-ltb, eq-eqb, ne-eqb}
 use lib.Dec.{leb, eqb}
@@ -18,8 +18,9 @@ use Rattle.slotset.specs.declared.Number.the-variants as number
 use Rattle.slotset.specs.Answers.{numberAs}
 use Rattle.slotset.specs.Slots.{slot}
 use Rattle.slots.specs.Lent.{slotRoomOk, slotsOk, slotOkAt}
-use Rattle.slots.specs.Ranges.{Ranges, rangeCountOk, rangeRoomOk, rangeOkAt, rangesOk}
+use Rattle.slots.specs.Ranges.{Ranges, ranges, rangeCountOk, rangeRoomOk, rangeOkAt, rangesOk}
 use Rattle.slots.specs.Atomic.{isCut, atomStarts, atomEnds, Base, base, startsOfAtoms, endsOfAtoms, atomiseRow, atomiseOf, AtomsEnd}
+use Rattle.slots.specs.Merged.{mergedRow, mergedRanges, columns}
 use Rattle.slots.specs.Availability.{availabilityRow, availabilityOf, availableBit}
 use Rattle.slots.proofs.AtomLaws.{BaseFits, fits-number}
 use Rattle.slots.proofs.SplitLaws.{atoms-even}
@@ -28,7 +29,7 @@ use Rattle.units.specs.declared.Settings.{Settings}
 use Rattle.units.specs.Settings.{settingsOk}
 use Rattle.units.specs.Starts.{startsRow, unitBegins, unitStarts, unitStartsIs}
 use Rattle.units.specs.Answers.{EndsAs, writtenAs}
-use Rattle.retire.specs.Inside.{NewRight, Written, WordsAre, numberOr}
+use Rattle.retire.specs.Inside.{NewRight, Written, WordsAre, numberOr, isNumber}
 
 -- what the tests of base slots and ranges ask besides of their room
 slot-room : (n : ℕ) (starts ends : List ℕ) → slotsOk n starts ends ≡ true → slotRoomOk n starts ends ≡ true
@@ -42,6 +43,10 @@ range-room people R e = both (rangeRoomOk R) (all (R .count) (rangeOkAt people R
 count-ok : (n : ℕ) → 1 ≤ n → n ≤ 1024 → slotCountOk n ≡ true
 unfolding slotCountOk
 count-ok n a b = and-true (leb 1 n) (leb n 1024) (le-leb 1 n a) (le-leb n 1024 b)
+
+pub says-people : (people : ℕ) → 1 ≤ people → people ≤ 32 → peopleOk people ≡ true
+unfolding peopleOk
+says-people people a b = and-true (leb 1 people) (leb people 32) (le-leb 1 people a) (le-leb people 32 b)
 
 -- a count of 0 is refused
 count-none : (n : ℕ) → n ≤ 0 → slotCountOk n ≡ false
@@ -203,3 +208,43 @@ module _ (people n : ℕ) (starts ends : List ℕ) (R : Ranges) (N : NewRight pe
           long = rb;
           entries = λ h. E .ends ∙ worked (numberOf (atomiseRow B)) _ _ (number-few (omega (arith, same)));
         }
+
+-- ---- how the tests of 4 and 5 are asked
+
+-- merging refuses ranges by 4 alone, where counts and room are right
+module _ (people : ℕ) (R : Ranges) (p s e : List ℕ) (ok : peopleOk people ≡ true) (few : R .count ≤ 1024) (room : rangeRoomOk R ≡ true)
+    (lp : length p ≡ 1024) (ls : length s ≡ 1024) (le : length e ≡ 1024) where
+  roomy-out : rangeRoomOk (ranges (R .count) p s e) ≡ true
+  unfolding rangeRoomOk
+  roomy-out =
+      and-true _ _ (le-leb (R .count) (length p) (omega arith))
+      (and-true _ _ (le-leb (R .count) (length s) (omega arith)) (le-leb (R .count) (length e) (omega arith)))
+
+  merge-passes : rangesOk people R ≡ true → numberOf (mergedRow people R (columns p s e)) ≡ 0
+  unfolding mergedRow rangeCountOk
+  merge-passes t = all-pass (mergedRow people R (columns p s e)) (ok, (le-leb (R .count) 1024 few, (room, (roomy-out, (t, tt)))))
+
+  merge-fails : rangesOk people R ≡ false → numberOf (mergedRow people R (columns p s e)) ≡ 0 → ⊥
+  unfolding mergedRow
+  merge-fails f z = mathlib.Core.Bool.true≢false (sym (passed (mergedRow people R (columns p s e)) refl z 4) ∙ f)
+
+  pub ranges-by : (r : Number) → r ≡ mergedRanges people R (columns p s e) .answer → isNumber r ≡ rangesOk people R
+  unfolding mergedRanges numberAs
+  ranges-by r q =
+      by-test (rangesOk people R) _
+      (λ t. ap isNumber (q ∙ worked (numberOf (mergedRow people R (columns p s e))) _ _ (merge-passes t)) ∙ sym t)
+      (λ f. ap isNumber (q ∙ kept (numberOf (mergedRow people R (columns p s e))) _ _ (merge-fails f)) ∙ sym f)
+
+-- a count that was written is 1,025 at most
+pub count-most : (l column : List ℕ) (n : ℕ) → Written l column n → n ≤ 1025
+count-most l column n W =
+    ⊎-elim (λ (h : 1024 < length l). omega (arith, W .full h)) (λ (h : length l ≤ 1024). omega (arith, W .number h)) (lt-or-ge 1024 (length l))
+
+-- and fits beside others exactly where the list does
+pub fits-by : (fault kept : ℕ) (l column : List ℕ) (n : ℕ) → Written l column n
+    → (eqb fault 9 || leb (kept + n) 1024) ≡ (eqb fault 9 || leb (kept + length l) 1024)
+fits-by fault kept l column n W =
+    ⊎-elim
+    (λ (h : 1024 < length l).
+    ap (λ (b : Bool). eqb fault 9 || b) (lt-leb (kept + n) 1024 (omega (arith, W .full h)) ∙ sym (lt-leb (kept + length l) 1024 (omega arith))))
+    (λ (h : length l ≤ 1024). ap (λ (x : ℕ). eqb fault 9 || leb (kept + x) 1024) (W .number h)) (lt-or-ge 1024 (length l))

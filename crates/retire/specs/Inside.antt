@@ -1,6 +1,6 @@
 -- What private functions of retire alone cite. Assumes nothing.
 use mathlib.Core.Path.{_≡_}
-use mathlib.Core.Bool.{Bool, true}
+use mathlib.Core.Bool.{Bool, true, false}
 use mathlib.Core.List.{List}
 use Prim.Native.Nat.{ℕ, _+_, _*_, _≤_, _<_}
 use lib.ListN.{length, getD}
@@ -38,3 +38,7 @@ WordsAre people n R starts ends ws =
 abbrev pub numberOr : Number → ℕ → ℕ
 numberOr (number.Is n) other = n
 numberOr (number.Refused m) other = other
+
+abbrev pub isNumber : Number → Bool
+isNumber (number.Is n) = true
+isNumber (number.Refused m) = false

@@ -4,4 +4,5 @@ pub mod Rolled
 pub mod Column
 pub mod Going
 pub mod New
+pub mod Outcome
 pub mod Inside

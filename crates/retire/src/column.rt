@@ -26,7 +26,7 @@ pub(crate) fn roll_owners(gone: usize, kept: usize, count: usize, owners: &mut [
 }
 
 // How many are left; none where more went than there were.
-fn left(before: usize, gone: usize) -> usize
+pub(crate) fn left(before: usize, gone: usize) -> usize
     ensures { λ r. ⌜ r ≡ before - gone ⌝ }
 {
     if gone < before { before - gone } else { 0 }

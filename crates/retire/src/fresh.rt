@@ -6,11 +6,12 @@ ghost use mathlib.Core.Bool.{true};
 ghost use Prim.Native.Nat.{_≤_};
 ghost use lib.ListN.{length};
 ghost use Rattle.slots.specs.Lent.{slotsOk};
-ghost use Rattle.slots.specs.Ranges.{ranges};
+ghost use Rattle.paper.specs.Limits.{rangesMost};
+ghost use Rattle.slots.specs.Ranges.{ranges, rangeRoomOk, rangesOk};
 ghost use Rattle.slots.specs.Atomic.{isCut, atomStarts, atomEnds};
 ghost use Rattle.units.specs.Settings.{settingsOk};
 ghost use Rattle.units.specs.Starts.{unitStarts};
-ghost use Rattle.retire.specs.Inside.{NewRight, Written, WordsAre, numberOr};
+ghost use Rattle.retire.specs.Inside.{NewRight, Written, WordsAre, numberOr, isNumber};
 
 // New slots: the first `count` of both columns, or 1,025 where they are too many.
 pub struct FreshSlots {
@@ -46,6 +47,43 @@ fn number_or(answer: Number, other: usize) -> usize
         Number::Is(n) => n,
         Number::Refused(_) => other,
     }
+}
+
+// Whether an answer is a number.
+fn is_number(answer: Number) -> bool
+    ensures { λ r. ⌜ r ≡ isNumber answer ⌝ }
+{
+    match answer {
+        Number::Is(_) => true,
+        Number::Refused(_) => false,
+    }
+}
+
+// Whether ranges pass rule 4: merging them refuses nothing else.
+pub(crate) fn ranges_ok(
+    people: usize,
+    count: usize,
+    persons: &[u16],
+    opens: &[u32],
+    shuts: &[u32],
+) -> bool
+    requires { ⌜ (people ≤ 32) × (1 ≤ people) × (count ≤ rangesMost)
+        × (rangeRoomOk (ranges count (now persons) (now opens) (now shuts)) ≡ true) ⌝ }
+    ensures { λ r. ⌜ r ≡ rangesOk people (ranges count (now (persons .entry)) (now (opens .entry)) (now (shuts .entry))) ⌝ }
+{
+    let mut whose = blank_begins();
+    let mut starts = blank_minutes();
+    let mut ends = blank_minutes();
+    is_number(slots::merged_ranges(
+        people,
+        count,
+        persons,
+        opens,
+        shuts,
+        &mut whose,
+        &mut starts,
+        &mut ends,
+    ))
 }
 
 // The base slots split at every start and end of a merged range that lies strictly inside one; there may be none.
