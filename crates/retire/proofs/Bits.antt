@@ -6,12 +6,12 @@ use Prim.Native.Nat.{ℕ, zero, suc, _+_, _-_, _*_, _≤_, _<_}
 use native.Mathlib.Omega.{arith}
 use borrow.Author.Tests.{lt-ltb, le-ltb}
 use lib.Dec.{eqb, ltb, leb}
-use lib.ListN.{length}
+use lib.ListN.{length, replicate}
 use Rattle.paper.specs.Limits.{peopleOk}
 use Rattle.paper.proofs.Logic.{by-test, lt-or-ge}
 use Rattle.slotset.specs.Slots.{slot, putSlot, putSlots, valueOf}
 use Rattle.slotset.specs.Answers.{rowStretchOf}
-use Rattle.slotset.proofs.Puts.{slot-lt, slot-puts-here, puts-same, length-puts}
+use Rattle.slotset.proofs.Puts.{slot-lt, slot-puts-here, slot-none, puts-same}
 use Rattle.slots.specs.Availability.{rows}
 use Rattle.slots.proofs.AvailLaws.{row-put, row-more, row-length, rows-more, rows-length}
 use Rattle.slots.proofs.Meaning.{other-slot}
@@ -88,3 +88,11 @@ module _ (people count gone kept : ℕ) (fresh ws₀ : List ℕ) (few : count �
       (λ x. absurd (omega arith)) l in
       rows-more setThen count p ws₀ ws next e
       (d ∙ puts-same _ (setThen p) (16 * p) 0 count ws (λ k a b. rolled-same gone kept _ _ _ _ k (λ l. still (gone + k) (omega arith)) (λ l. refl)))
+
+-- ---- flags: one set, and no new slot of it is set
+
+pub frozen-by : (gone kept count n : ℕ) (ws : List ℕ)
+    → putSlots (rolled gone kept (slot ws (16 * 0)) (slot (replicate n 0) (16 * 0))) (16 * 0) 0 count ws
+    ≡ putSlots (rolled gone kept (slot ws 0) (λ _. 0)) 0 0 count ws
+frozen-by gone kept count n ws =
+    puts-same _ _ 0 0 count ws (λ k a b. rolled-same gone kept _ _ _ _ k (λ _. refl) (λ _. slot-none n 0 (k - kept)))

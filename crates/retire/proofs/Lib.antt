@@ -4,3 +4,5 @@ pub mod Bits
 pub mod Figured
 pub mod News
 pub mod Asks
+pub mod Moved
+pub mod Passes

@@ -4,9 +4,12 @@ mod column;
 mod figures;
 mod fresh;
 mod going;
+mod moving;
+mod retiring;
 mod rolling;
 
 pub use column::retire_column;
+pub use retiring::retire;
 
 // What retiring comes to: how many slots went, how many slots and units there are then; nothing or everything would go, and nothing is
 // changed; or a refusal.
