@@ -6,3 +6,4 @@ pub mod News
 pub mod Asks
 pub mod Moved
 pub mod Passes
+pub mod Retires
