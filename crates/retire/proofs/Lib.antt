@@ -7,3 +7,4 @@ pub mod Asks
 pub mod Moved
 pub mod Passes
 pub mod Retires
+pub mod Promises

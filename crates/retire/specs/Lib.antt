@@ -5,4 +5,5 @@ pub mod Column
 pub mod Going
 pub mod New
 pub mod Outcome
+pub mod Promised
 pub mod Inside
