@@ -8,3 +8,4 @@ pub mod Moved
 pub mod Passes
 pub mod Retires
 pub mod Promises
+pub mod Follows

@@ -46,13 +46,13 @@ unfolding newUnits unitStarts
 new-units-few people N = among-le _ (newCount people N)
 
 module _ (H : Held) (N : New) (T : Retires H N) where
-  right : RetireRight H N
+  pub right : RetireRight H N
   right = retire-says H N (T .accepted)
 
-  P : PlanRight H N
+  pub P : PlanRight H N
   P = plan-right H N right (T .some) (T .rest) (gone-most H)
 
-  C : Recounted (planOf H) (H .lent .avail) (H .units) (H .lent .begins) (H .lent .owners) (H .lent .derived)
+  pub C : Recounted (planOf H) (H .lent .avail) (H .units) (H .lent .begins) (H .lent .owners) (H .lent .derived)
   C = recount-says (planOf H) (H .lent .avail) (H .units) (H .lent .begins) (H .lent .owners) (H .lent .derived) (whole-says H (right .whole-is) .2)
 
   starts-wide : slotsThen H N ≤ length (H .lent .starts)
@@ -61,7 +61,7 @@ module _ (H : Held) (N : New) (T : Retires H N) where
   ends-wide : slotsThen H N ≤ length (H .lent .ends)
   ends-wide = omega (arith, P .fits, P .ends-room)
 
-  owners-wide : slotsThen H N ≤ length (H .lent .owners)
+  pub owners-wide : slotsThen H N ≤ length (H .lent .owners)
   owners-wide = omega (arith, P .fits, right .asked .owners-room)
 
   -- ---- the minutes
@@ -165,16 +165,16 @@ module _ (H : Held) (N : New) (T : Retires H N) where
   plan-is : PlanRight H N
   plan-is = P H N T
 
-  begins-room : unitsThen H N ≤ length (H .lent .begins)
+  pub begins-room : unitsThen H N ≤ length (H .lent .begins)
   begins-room = omega (arith, units-fewer H N plan-is, new-units-few (H .people) N, plan-is .fits, plan-is .begins-room)
 
-  begin-old : (u : ℕ) → u < unitsKept H → unitStart (heldThen H N .lent .begins) u ≡ unitStart (H .lent .begins) (unitsGone H + u) - slotsGone H
+  pub begin-old : (u : ℕ) → u < unitsKept H → unitStart (heldThen H N .lent .begins) u ≡ unitStart (H .lent .begins) (unitsGone H + u) - slotsGone H
   unfolding heldThen beginThen
   begin-old u h =
       getD-over _ (unitsThen H N) (H .lent .begins) u (omega arith) (omega (arith, begins-room))
       ∙ rolled-old (unitsGone H) (unitsKept H) _ _ u h
 
-  begin-new : (u : ℕ) → u < length (newUnits (H .people) N)
+  pub begin-new : (u : ℕ) → u < length (newUnits (H .people) N)
       → unitStart (heldThen H N .lent .begins) (unitsKept H + u) ≡ slotsKept H + entry (newUnits (H .people) N) u
   unfolding heldThen beginThen
   begin-new u h =
