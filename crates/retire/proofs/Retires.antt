@@ -116,8 +116,12 @@ module _ (H : Held) (N : New) (f : Refusal) (ef : f ≡ refusalOf (retireRow H N
         pub priors-low : (p : ℕ) → p < H .people
             → priorThen (plan (H .people) gone (H .lent .starts) (H .lent .ends)) (H .lent .owners) (H .lent .priors) gone p ≤ lastMinute
         priors-low p h =
-            omega (arith, prior-by p, leb-true (priorThen (planOf H) (H .lent .owners) (H .lent .priors) (slotsGone H) p) lastMinute (all-each (H .people) (λ q. leb (priorThen (planOf H) (H .lent .owners) (H .lent .priors) (slotsGone H) q) lastMinute)
-            (figures-parts .0) p h))
+            omega (
+              arith,
+              prior-by p,
+              leb-true (priorThen (planOf H) (H .lent .owners) (H .lent .priors) (slotsGone H) p) lastMinute (all-each (H .people) (λ q. leb (priorThen (planOf H) (H .lent .owners) (H .lent .priors) (slotsGone H) q) lastMinute)
+                  (figures-parts .0) p h),
+            )
 
         pub retired-low : retiredThen (plan (H .people) gone (H .lent .starts) (H .lent .ends)) (H .lent .owners) (H .lent .retired) gone ≤ lastMinute
         retired-low = omega (arith, retired-by, leb-true (retiredThen (planOf H) (H .lent .owners) (H .lent .retired) (slotsGone H)) lastMinute (figures-parts .1))

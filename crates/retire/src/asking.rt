@@ -86,7 +86,14 @@ fn asked_refusal(
 }
 
 // Whether new slots come after the last end that is left, where slots and units are sound: there are none, nothing is left, or they do.
-fn comes_after(fault: u8, slots: usize, kept: usize, base: usize, ends: &[u32], froms: &[u32]) -> bool
+fn comes_after(
+    fault: u8,
+    slots: usize,
+    kept: usize,
+    base: usize,
+    ends: &[u32],
+    froms: &[u32],
+) -> bool
     ensures { λ r. ⌜ r ≡ eqb fault 9 || (leb base 0 || (leb kept 0 || leb (entry (now (ends .entry)) (slots - 1)) (entry (now (froms .entry)) 0))) ⌝ }
 {
     if fault == 9 {
@@ -266,7 +273,19 @@ pub(crate) fn retire_refusal(
         let g = slots::check_order(f, base, froms, tos, 3);
         let g = paper::check(g, comes_after(fault, slots, kept, base, ends, froms), 3);
         let g = check_ranges(g, people, count, persons, opens, shuts);
-        let g = check_fits(g, fault, people, kept, base, count, froms, tos, persons, opens, shuts);
+        let g = check_fits(
+            g,
+            fault,
+            people,
+            kept,
+            base,
+            count,
+            froms,
+            tos,
+            persons,
+            opens,
+            shuts,
+        );
         let g = paper::check(g, figures_ok(people, priors, retired), 6);
         let g = paper::check(
             g,

@@ -160,6 +160,16 @@ pub(crate) fn fresh_words(
         (now (ends .entry)) r ⌝ }
 {
     let mut words = blank_words();
-    slots::availability(people, n, count, starts, ends, persons, opens, shuts, &mut words);
+    slots::availability(
+        people,
+        n,
+        count,
+        starts,
+        ends,
+        persons,
+        opens,
+        shuts,
+        &mut words,
+    );
     words
 }

@@ -75,7 +75,16 @@ pub(crate) fn move_plan(
     let new_starts = fresh.starts;
     let new_ends = fresh.ends;
     let n = fresh.count;
-    let words = fresh_words(people, n, count, &new_starts, &new_ends, persons, opens, shuts);
+    let words = fresh_words(
+        people,
+        n,
+        count,
+        &new_starts,
+        &new_ends,
+        persons,
+        opens,
+        shuts,
+    );
     let some = fresh_units(n, settings, &new_starts, &new_ends);
     let new_begins = some.begins;
     let m = some.count;
@@ -113,7 +122,17 @@ pub(crate) fn move_owners(
         (totals .entry)))) ⌝ }
 {
     roll_owners(gone, kept, slots, owners);
-    owners::from_slots(people, slots, starts, ends, avail, owners, sets, minutes, totals);
+    owners::from_slots(
+        people,
+        slots,
+        starts,
+        ends,
+        avail,
+        owners,
+        sets,
+        minutes,
+        totals,
+    );
 }
 
 // The minutes of the slots that go: each person's to their priors, nobody's to the retired total.

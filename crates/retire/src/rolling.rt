@@ -82,14 +82,7 @@ pub(crate) fn roll_begins(
 }
 
 // Whether a person's set holds slot k then: as it stands further on, or as it is in the new words.
-fn holds_then(
-    gone: usize,
-    kept: usize,
-    fresh: &[u64],
-    words: &[u64],
-    person: u8,
-    k: usize,
-) -> bool
+fn holds_then(gone: usize, kept: usize, fresh: &[u64], words: &[u64], person: u8, k: usize) -> bool
     requires { ⌜ gone + kept ≤ 1024 ⌝ }
     ensures { λ r. ⌜ r ≡ eqb (rolled gone kept (slot (now (words .entry)) (16 * person)) (slot (now (fresh .entry)) (16 * person)) k) 1 ⌝ }
 {

@@ -6,9 +6,9 @@ use Rattle.retire.proofs.fresh.fresh_slots.Tie as tie
 
 returns : tie.Need-returns
 returns c = (
-      none-written _ _ (no-starts _ _ _ _ (c .if1 .taken)) (search needs),
-      none-written _ _ (no-ends _ _ _ _ (c .if1 .taken)) (search needs),
-    )
+  none-written _ _ (no-starts _ _ _ _ (c .if1 .taken)) (search needs),
+  none-written _ _ (no-ends _ _ _ _ (c .if1 .taken)) (search needs),
+)
 
 returns-2 : tie.Need-returns-2
 returns-2 c =

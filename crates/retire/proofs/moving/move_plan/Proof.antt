@@ -75,8 +75,7 @@ roll-begins-requires c κs =
     let R = rooms _ _ (pre .0) _ _ _ (W .0) (W .1) _ _ (pre .1) (c .before .before .before .before .before .before .before .before .before .before .before .before .before .before .before .before .before .before .before .before .before .start-from .ensures) in
     let U = c .before .before .before .before .before .before .before .before .before .before .before .before .fresh-units .ensures in
     let few = unit-room _ _ (pre .0) _ _ _ (W .0) (W .1) _ _ (pre .1) (c .before .before .before .before .before .before .before .before .before .before .before .before .before .before .before .before .before .before .before .before .before .start-from .ensures) _ _ U in
-    let long = unit-long _ _ (pre .0) _ _ _ (W .0) (W .1) _ _ _ (pre .1) (c .before .before .before .before .before .before .before .before .before .before .before .before .before .before .before .before .before .before .before .before .before .start-from .ensures) refl _ _ U in
-    (
+    let long = unit-long _ _ (pre .0) _ _ _ (W .0) (W .1) _ _ _ (pre .1) (c .before .before .before .before .before .before .before .before .before .before .before .before .before .before .before .before .before .before .before .before .before .start-from .ensures) refl _ _ U in (
       (omega (arith, R .went-few, R .units-few, pre .0 .begins-room), omega (arith, few, pre .0 .begins-room), omega (arith, few, long)),
       (
         omega (arith, R .total),
