@@ -25,7 +25,7 @@
       7  Fairness, lock, boundary, every-count, weekday mask, shift days, cap or rest are outside their limits.
       8  An unrounded target is not finite, or of size 2^40 or more.
       9  Lent slots are empty, reversed, too late or overlap, or unit starts don't rise from 0 below the slot count.
-     10  The recount fails: owners, units, sets and minutes don't fit together.
+     10  The recount fails: owners, units, sets, minutes and totals don't fit together.
      11  A slot, unit, person or index is not below its count, or no saved settings have the number.
      12  A person is to get a slot for which they aren't available.
      13  The job file or the store of settings breaks its layout or is too long.
@@ -34,7 +34,7 @@
    set it is the lowest person, and the second number is that person's lowest slot.
      10.1  the slot's owner is unknown            10.4  the person's set is wrong at the slot that is the second number
      10.2  the slot's owner is not available      10.5  the person's minutes are wrong
-     10.3  the unit has more than one owner
+     10.3  the unit has more than one owner       10.6  the stored total is wrong: place 0 is the uncovered minutes, 1 the count
 
    Settings go as six numbers.
      fairness  what a share is measured by: 0 capacity times the minutes a person is available for, 1 capacity times demand
@@ -70,8 +70,8 @@ extern "C" {
 /* A call needs at most 256 KiB of the caller's stack (boltraven_run_job the most); docs/STACK.md has the figure of each function. */
 
 /* The version of this header; boltraven_version() answers the library's, which is to be the same. */
-#define BOLTRAVEN_VERSION 300
-#define BOLTRAVEN_VERSION_TEXT "0.3.0"
+#define BOLTRAVEN_VERSION 400
+#define BOLTRAVEN_VERSION_TEXT "0.4.0"
 
 #define BOLTRAVEN_NOTHING 65536
 #define BOLTRAVEN_RUN 0
@@ -80,6 +80,9 @@ extern "C" {
 #define BOLTRAVEN_PUBLISHED 1
 #define BOLTRAVEN_NOBODY 255
 #define BOLTRAVEN_SET_WORDS 16
+#define BOLTRAVEN_TOTALS 2
+#define BOLTRAVEN_UNCOVERED_MINUTES 0
+#define BOLTRAVEN_UNASSIGNED_SLOTS 1
 #define BOLTRAVEN_PEOPLE_MOST 32
 #define BOLTRAVEN_SLOTS_MOST 1024
 #define BOLTRAVEN_RANGES_MOST 1024
@@ -113,7 +116,7 @@ static inline const char *boltraven_refusal_text(uint8_t number) {
     case 7: return "Fairness, lock, boundary, every-count, weekday mask, shift days, cap or rest are outside their limits.";
     case 8: return "An unrounded target is not finite, or of size 2^40 or more.";
     case 9: return "Lent slots are empty, reversed, too late or overlap, or unit starts don't rise from 0 below the slot count.";
-    case 10: return "The recount fails: owners, units, sets and minutes don't fit together.";
+    case 10: return "The recount fails: owners, units, sets, minutes and totals don't fit together.";
     case 11: return "A slot, unit, person or index is not below its count, or no saved settings have the number.";
     case 12: return "A person is to get a slot for which they aren't available.";
     case 13: return "The job file or the store of settings breaks its layout or is too long.";
@@ -129,6 +132,7 @@ static inline const char *boltraven_fault_format(uint8_t part) {
     case 3: return "unit %u has more than one owner";
     case 4: return "person %u's set is wrong at slot %u";
     case 5: return "person %u's minutes are wrong";
+    case 6: return "stored total %u is wrong (0 is the uncovered minutes, 1 the unassigned slots)";
     default: return NULL;
     }
 }
@@ -327,23 +331,26 @@ uint8_t boltraven_compute_targets(size_t people, size_t slots, uint8_t fairness,
                                   const uint64_t *avail, size_t avail_len, const double *capacities, size_t capacities_len,
                                   const uint32_t *priors, size_t priors_len, int64_t *out, size_t out_len);
 
-/* ---- A rota: an owner a slot, and everybody's set and minutes. */
+/* ---- A rota: an owner a slot, everybody's set and minutes, and two totals: BOLTRAVEN_UNCOVERED_MINUTES, the minutes of the slots that
+   nobody owns, and BOLTRAVEN_UNASSIGNED_SLOTS, how many these are. Whatever changes an owner keeps sets, minutes and totals true, and
+   whatever is given a rota recounts them first; so the totals are read where they stand. */
 
 /* A rota in which nobody owns a slot. */
-uint8_t boltraven_empty(size_t people, size_t slots, uint8_t *owners, size_t owners_len, uint64_t *sets, size_t sets_len,
-                        uint64_t *minutes, size_t minutes_len);
+uint8_t boltraven_empty(size_t people, size_t slots, const uint32_t *starts, size_t starts_len, const uint32_t *ends, size_t ends_len,
+                        uint8_t *owners, size_t owners_len, uint64_t *sets, size_t sets_len, uint64_t *minutes, size_t minutes_len,
+                        uint64_t *totals, size_t totals_len);
 
-/* Sets and minutes from owners. */
+/* Sets, minutes and totals from owners. */
 uint8_t boltraven_from_slots(size_t people, size_t slots, const uint32_t *starts, size_t starts_len,
                              const uint32_t *ends, size_t ends_len, const uint64_t *avail, size_t avail_len,
                              const uint8_t *owners, size_t owners_len, uint64_t *sets, size_t sets_len,
-                             uint64_t *minutes, size_t minutes_len);
+                             uint64_t *minutes, size_t minutes_len, uint64_t *totals, size_t totals_len);
 
 /* A slot given to a person, or cleared by 255: 0, or the refusal with its place, never 10.3. */
 uint64_t boltraven_assign(size_t people, size_t slots, const uint32_t *starts, size_t starts_len,
                           const uint32_t *ends, size_t ends_len, const uint64_t *avail, size_t avail_len,
                           uint8_t *owners, size_t owners_len, uint64_t *sets, size_t sets_len, uint64_t *minutes, size_t minutes_len,
-                          size_t slot, uint8_t owner);
+                          uint64_t *totals, size_t totals_len, size_t slot, uint8_t owner);
 
 /* The owner of a slot, 255 for nobody. */
 uint64_t boltraven_owner_of_slot(size_t people, size_t slots, const uint8_t *owners, size_t owners_len, size_t slot);
@@ -351,24 +358,25 @@ uint64_t boltraven_owner_of_slot(size_t people, size_t slots, const uint8_t *own
 /* A person's minutes. */
 uint8_t boltraven_minutes_of(size_t people, const uint64_t *minutes, size_t minutes_len, size_t person, uint64_t *out);
 
-/* How many slots nobody owns. */
+/* How many slots nobody owns, counted by the owners; a rota has it stored. */
 uint64_t boltraven_unassigned_count(size_t people, size_t slots, const uint8_t *owners, size_t owners_len);
 
-/* The minutes of the slots that nobody owns. */
+/* The minutes of the slots that nobody owns, added up by the owners; a rota has them stored. */
 uint8_t boltraven_uncovered_minutes(size_t people, size_t slots, const uint32_t *starts, size_t starts_len,
                                     const uint32_t *ends, size_t ends_len, const uint8_t *owners, size_t owners_len, uint64_t *out);
 
-/* Whether owners, sets and minutes fit together, and units have one owner each: 0, or the refusal with its place. */
+/* Whether owners, sets, minutes and totals fit together, and units have one owner each: 0, or the refusal with its place. */
 uint64_t boltraven_recount(size_t people, size_t slots, size_t units, const uint32_t *starts, size_t starts_len,
                            const uint32_t *ends, size_t ends_len, const uint64_t *avail, size_t avail_len,
                            const uint16_t *unit_starts, size_t unit_starts_len, const uint8_t *owners, size_t owners_len,
-                           const uint64_t *sets, size_t sets_len, const uint64_t *minutes, size_t minutes_len);
+                           const uint64_t *sets, size_t sets_len, const uint64_t *minutes, size_t minutes_len,
+                           const uint64_t *totals, size_t totals_len);
 
 /* The same, units aside: never 10.3. */
 uint64_t boltraven_recount_slots(size_t people, size_t slots, const uint32_t *starts, size_t starts_len,
                                  const uint32_t *ends, size_t ends_len, const uint64_t *avail, size_t avail_len,
                                  const uint8_t *owners, size_t owners_len, const uint64_t *sets, size_t sets_len,
-                                 const uint64_t *minutes, size_t minutes_len);
+                                 const uint64_t *minutes, size_t minutes_len, const uint64_t *totals, size_t totals_len);
 
 /* Whether a rota made elsewhere may be used: 0; or the first rule that it breaks, 1 owners known and available, 2 frozen slots as published, 3
    units uniform, 4 no shift longer than `cap` minutes, 5 no two shifts of one person closer than `rest`, with the lowest slot at which it
@@ -385,7 +393,7 @@ uint64_t boltraven_play(size_t people, size_t slots, size_t units, size_t count,
                         const uint16_t *draws, size_t draws_len, const uint16_t *firsts, size_t firsts_len,
                         const uint16_t *seconds, size_t seconds_len, uint8_t *owners, size_t owners_len,
                         uint64_t *sets, size_t sets_len, uint64_t *minutes, size_t minutes_len,
-                        uint8_t *answers, size_t answers_len);
+                        uint64_t *totals, size_t totals_len, uint8_t *answers, size_t answers_len);
 
 /* The same of draws as structs. */
 uint64_t boltraven_play_draws(size_t people, size_t slots, size_t units, size_t count, const uint32_t *starts, size_t starts_len,
@@ -393,7 +401,7 @@ uint64_t boltraven_play_draws(size_t people, size_t slots, size_t units, size_t 
                               const uint16_t *unit_starts, size_t unit_starts_len, const uint64_t *frozen, size_t frozen_len,
                               const struct boltraven_draw *draws, size_t draws_len, uint8_t *owners, size_t owners_len,
                               uint64_t *sets, size_t sets_len, uint64_t *minutes, size_t minutes_len,
-                              uint8_t *answers, size_t answers_len);
+                              uint64_t *totals, size_t totals_len, uint8_t *answers, size_t answers_len);
 
 /* ---- Published and draft: two owner columns of one length over the same slots. A slot is read as published where it is frozen, as in the
    draft where not; draws are played on the draft alone. */
@@ -461,8 +469,8 @@ uint64_t boltraven_way_back(size_t people, size_t slots, size_t units, const uin
                             const uint16_t *unit_starts, size_t unit_starts_len, const uint64_t *frozen, size_t frozen_len,
                             const uint8_t *remembered, size_t remembered_len, const uint8_t *owners, size_t owners_len,
                             const uint64_t *sets, size_t sets_len, const uint64_t *minutes, size_t minutes_len,
-                            uint16_t *draws, size_t draws_len, uint16_t *firsts, size_t firsts_len,
-                            uint16_t *seconds, size_t seconds_len, uint64_t *told);
+                            const uint64_t *totals, size_t totals_len, uint16_t *draws, size_t draws_len,
+                            uint16_t *firsts, size_t firsts_len, uint16_t *seconds, size_t seconds_len, uint64_t *told);
 
 /* ---- A whole job. */
 

@@ -1,6 +1,7 @@
 /* One base slot of two hours and two people: the slots after the split, who can cover which, targets, a rota, one draw played, and the
    listing that a job of the same numbers has. Then what a click on each of a person's slots shows, the list screen of a published and a
-   draft column, whether the rota could have come from elsewhere with two caps on a shift, and two refusals, one with its place. */
+   draft column, whether the rota could have come from elsewhere with two caps on a shift, what is uncovered after a slot is cleared and given
+   back, and three refusals, two with their place. */
 #include <inttypes.h>
 #include <stdio.h>
 #include <stdlib.h>
@@ -17,7 +18,7 @@ static size_t slots, units;
 
 /* The rota. */
 static uint8_t owners[SLOTS];
-static uint64_t sets[WORDS], minutes[PEOPLE];
+static uint64_t sets[WORDS], minutes[PEOPLE], totals[BOLTRAVEN_TOTALS];
 static int64_t targets[PEOPLE];
 
 /* Ends the program where something is refused that should not be. */
@@ -54,20 +55,18 @@ static uint8_t play(void) {
     uint8_t answers[DRAWS];
     owners[0] = owners[1] = 0;
     done("from_slots", boltraven_from_slots(PEOPLE, slots, starts, SLOTS, ends, SLOTS, avail, WORDS, owners, SLOTS, sets, WORDS, minutes,
-                                            PEOPLE));
+                                            PEOPLE, totals, BOLTRAVEN_TOTALS));
     done("play_draws", boltraven_play_draws(PEOPLE, slots, units, DRAWS, starts, SLOTS, ends, SLOTS, avail, WORDS, unit_starts, SLOTS,
-                                            frozen, BOLTRAVEN_SET_WORDS, draws, DRAWS, owners, SLOTS, sets, WORDS, minutes, PEOPLE, answers,
-                                            DRAWS));
+                                            frozen, BOLTRAVEN_SET_WORDS, draws, DRAWS, owners, SLOTS, sets, WORDS, minutes, PEOPLE, totals,
+                                            BOLTRAVEN_TOTALS, answers, DRAWS));
     return answers[0];
 }
 
 static void list(uint8_t answered) {
-    uint64_t uncovered;
     for (size_t k = 0; k < slots; k++) printf("S %zu %" PRIu32 " %" PRIu32 " %d\n", k, starts[k], ends[k], owners[k]);
     for (size_t p = 0; p < PEOPLE; p++) printf("P %zu %" PRIu64 " %" PRId64 "\n", p, minutes[p], targets[p]);
     printf("D 0 %c\n", "ANC"[answered]);
-    done("uncovered_minutes", boltraven_uncovered_minutes(PEOPLE, slots, starts, SLOTS, ends, SLOTS, owners, SLOTS, &uncovered));
-    printf("U %" PRIu64 "\n", uncovered);
+    printf("U %" PRIu64 "\n", totals[BOLTRAVEN_UNCOVERED_MINUTES]);
 }
 
 /* What holds a slot of a person's set: the whole run, or the whole hole. */
@@ -91,10 +90,24 @@ static void screen(void) {
     }
 }
 
+/* A slot given to a person, or cleared. */
+static uint64_t assign(size_t slot, uint8_t owner) {
+    return boltraven_assign(PEOPLE, slots, starts, SLOTS, ends, SLOTS, avail, WORDS, owners, SLOTS, sets, WORDS, minutes, PEOPLE, totals,
+                            BOLTRAVEN_TOTALS, slot, owner);
+}
+
+/* What nobody holds, as it stands with the rota, after slot 0 is cleared and given back. */
+static void clear(void) {
+    const uint8_t wanted[] = {BOLTRAVEN_NOBODY, owners[0]};
+    for (size_t k = 0; k < 2; k++) {
+        done("assign", assign(0, wanted[k]));
+        printf("uncovered %" PRIu64 " %" PRIu64 "\n", totals[BOLTRAVEN_UNCOVERED_MINUTES], totals[BOLTRAVEN_UNASSIGNED_SLOTS]);
+    }
+}
+
 /* Gives slot 0 to person 1, and tells why not: of a failed recount the part, and where. */
 static void refuse(void) {
-    const uint64_t refusal =
-        boltraven_assign(PEOPLE, slots, starts, SLOTS, ends, SLOTS, avail, WORDS, owners, SLOTS, sets, WORDS, minutes, PEOPLE, 0, 1);
+    const uint64_t refusal = assign(0, 1);
     const uint8_t number = BOLTRAVEN_NUMBER(refusal), part = BOLTRAVEN_PART(refusal);
     if (part == 0) {
         printf("R %d: %s\n", number, boltraven_refusal_text(number));
@@ -129,7 +142,10 @@ int main(void) {
     screen();
     judge(60);
     judge(59);
-    /* person 1 is not there for slot 0; and then slot 1 is taken out of person 1's set behind the library's back */
+    clear();
+    /* person 1 is not there for slot 0; and then slot 1 is counted as uncovered, and taken out of person 1's set, behind the library's back */
+    refuse();
+    totals[BOLTRAVEN_UNASSIGNED_SLOTS]++;
     refuse();
     sets[BOLTRAVEN_SET_WORDS] &= ~(uint64_t)2;
     refuse();

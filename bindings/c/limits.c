@@ -29,7 +29,7 @@ enum {
 struct room {
     uint32_t base_starts[BASES], base_ends[BASES], opens[RANGES], shuts[RANGES], starts[SLOTS], ends[SLOTS], froms[SLOTS], tos[SLOTS];
     uint32_t priors[PEOPLE], masks[SLOTS];
-    uint64_t avail[WORDS], sets[WORDS], frozen[SET], minutes[PEOPLE], first, last, next, slots, units;
+    uint64_t avail[WORDS], sets[WORDS], frozen[SET], minutes[PEOPLE], totals[BOLTRAVEN_TOTALS], first, last, next, slots, units;
     int64_t targets[PEOPLE];
     double capacities[PEOPLE];
     struct boltraven_draw structs[DRAWS];
@@ -113,14 +113,17 @@ CALL(compute_targets) {
     return boltraven_compute_targets(PEOPLE, r->slots, 0, 1, r->starts, SLOTS, r->ends, SLOTS, r->avail, WORDS, r->capacities,
                                      PEOPLE, r->priors, PEOPLE, r->targets, PEOPLE);
 }
-CALL(empty) { return boltraven_empty(PEOPLE, r->slots, r->owners, SLOTS, r->sets, WORDS, r->minutes, PEOPLE); }
+CALL(empty) {
+    return boltraven_empty(PEOPLE, r->slots, r->starts, SLOTS, r->ends, SLOTS, r->owners, SLOTS, r->sets, WORDS, r->minutes, PEOPLE,
+                           r->totals, BOLTRAVEN_TOTALS);
+}
 CALL(from_slots) {
     return boltraven_from_slots(PEOPLE, r->slots, r->starts, SLOTS, r->ends, SLOTS, r->avail, WORDS, r->owners, SLOTS, r->sets, WORDS,
-                                r->minutes, PEOPLE);
+                                r->minutes, PEOPLE, r->totals, BOLTRAVEN_TOTALS);
 }
 CALL(assign) {
     return boltraven_assign(PEOPLE, r->slots, r->starts, SLOTS, r->ends, SLOTS, r->avail, WORDS, r->owners, SLOTS, r->sets, WORDS,
-                            r->minutes, PEOPLE, r->slots - 3, PEOPLE - 1);
+                            r->minutes, PEOPLE, r->totals, BOLTRAVEN_TOTALS, r->slots - 3, PEOPLE - 1);
 }
 CALL(owner_of_slot) { return boltraven_owner_of_slot(PEOPLE, r->slots, r->owners, SLOTS, r->slots - 1); }
 CALL(minutes_of) { return boltraven_minutes_of(PEOPLE, r->minutes, PEOPLE, PEOPLE - 1, &r->first); }
@@ -130,11 +133,11 @@ CALL(uncovered_minutes) {
 }
 CALL(recount) {
     return boltraven_recount(PEOPLE, r->slots, r->units, r->starts, SLOTS, r->ends, SLOTS, r->avail, WORDS, r->unit_starts, SLOTS,
-                             r->owners, SLOTS, r->sets, WORDS, r->minutes, PEOPLE);
+                             r->owners, SLOTS, r->sets, WORDS, r->minutes, PEOPLE, r->totals, BOLTRAVEN_TOTALS);
 }
 CALL(recount_slots) {
     return boltraven_recount_slots(PEOPLE, r->slots, r->starts, SLOTS, r->ends, SLOTS, r->avail, WORDS, r->owners, SLOTS, r->sets, WORDS,
-                                   r->minutes, PEOPLE);
+                                   r->minutes, PEOPLE, r->totals, BOLTRAVEN_TOTALS);
 }
 CALL(may_be_used) {
     return boltraven_may_be_used(PEOPLE, r->slots, r->units, 100000000, 1, r->starts, SLOTS, r->ends, SLOTS, r->avail, WORDS,
@@ -143,11 +146,12 @@ CALL(may_be_used) {
 CALL(play) {
     return boltraven_play(PEOPLE, r->slots, r->units, DRAWS, r->starts, SLOTS, r->ends, SLOTS, r->avail, WORDS, r->unit_starts, SLOTS,
                           r->frozen, SET, r->draws, DRAWS, r->firsts, DRAWS, r->seconds, DRAWS, r->owners, SLOTS, r->sets, WORDS,
-                          r->minutes, PEOPLE, r->answers, DRAWS);
+                          r->minutes, PEOPLE, r->totals, BOLTRAVEN_TOTALS, r->answers, DRAWS);
 }
 CALL(play_draws) {
     return boltraven_play_draws(PEOPLE, r->slots, r->units, DRAWS, r->starts, SLOTS, r->ends, SLOTS, r->avail, WORDS, r->unit_starts, SLOTS,
-                                r->frozen, SET, r->structs, DRAWS, r->owners, SLOTS, r->sets, WORDS, r->minutes, PEOPLE, r->answers, DRAWS);
+                                r->frozen, SET, r->structs, DRAWS, r->owners, SLOTS, r->sets, WORDS, r->minutes, PEOPLE, r->totals,
+                                BOLTRAVEN_TOTALS, r->answers, DRAWS);
 }
 CALL(stretch) { return boltraven_stretch(r->slots, r->answers, DRAWS, r->owners, SLOTS, r->frozen, SET, 0, &r->first); }
 CALL(publish) { return boltraven_publish(r->slots, r->owners, SLOTS, r->frozen, SET, r->answers, DRAWS); }
@@ -162,8 +166,8 @@ CALL(ask_settings) {
 }
 CALL(way_back) {
     return boltraven_way_back(PEOPLE, r->slots, r->units, r->starts, SLOTS, r->ends, SLOTS, r->avail, WORDS, r->unit_starts, SLOTS, r->frozen,
-                              SET, r->owners, SLOTS, r->owners, SLOTS, r->sets, WORDS, r->minutes, PEOPLE, r->draws, DRAWS, r->firsts, DRAWS,
-                              r->seconds, DRAWS, &r->first);
+                              SET, r->owners, SLOTS, r->owners, SLOTS, r->sets, WORDS, r->minutes, PEOPLE, r->totals, BOLTRAVEN_TOTALS,
+                              r->draws, DRAWS, r->firsts, DRAWS, r->seconds, DRAWS, &r->first);
 }
 CALL(run_job) { return boltraven_run_job(r->file, r->file_len, r->listing, BOLTRAVEN_LISTING_MOST, &r->first); }
 

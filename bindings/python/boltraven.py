@@ -10,7 +10,7 @@ import os
 
 __all__ = ["FAULTS", "Refusal", "SENTENCES", "VERSION", "run_job"]
 
-VERSION = "0.3.0"
+VERSION = "0.4.0"
 
 # What a refusal's number says.
 SENTENCES = {
@@ -23,7 +23,7 @@ SENTENCES = {
     7: "Fairness, lock, boundary, every-count, weekday mask, shift days, cap or rest are outside their limits.",
     8: "An unrounded target is not finite, or of size 2^40 or more.",
     9: "Lent slots are empty, reversed, too late or overlap, or unit starts don't rise from 0 below the slot count.",
-    10: "The recount fails: owners, units, sets and minutes don't fit together.",
+    10: "The recount fails: owners, units, sets, minutes and totals don't fit together.",
     11: "A slot, unit, person or index is not below its count, or no saved settings have the number.",
     12: "A person is to get a slot for which they aren't available.",
     13: "The job file or the store of settings breaks its layout or is too long.",
@@ -36,6 +36,7 @@ FAULTS = {
     3: "unit {place} has more than one owner",
     4: "person {place}'s set is wrong at slot {second}",
     5: "person {place}'s minutes are wrong",
+    6: "stored total {place} is wrong (0 is the uncovered minutes, 1 the unassigned slots)",
 }
 
 # Room for a listing, in bytes: more than the longest one needs.

@@ -225,7 +225,7 @@ impl JobCase {
         for (draw, &answer) in end.answers.iter().enumerate() {
             text.push_str(&format!("D {draw} {}\n", ["A", "N", "C"][usize::from(answer)]));
         }
-        text.push_str(&format!("U {}\n", end.uncovered));
+        text.push_str(&format!("U {}\n", end.totals[0]));
         text
     }
 

@@ -101,16 +101,18 @@ exports! {
     plain date_of(number);
     plain weekday_of(number);
     done compute_targets(number, number, number, number, slice, slice, slice, slice, slice, slice);
-    done from_slots(number, number, slice, slice, slice, slice, slice, slice);
-    done assign(number, number, slice, slice, slice, slice, slice, slice, number, number);
-    done play(number, number, number, number, slice, slice, slice, slice, slice, slice, slice, slice, slice, slice, slice, slice);
-    done play_draws(number, number, number, number, slice, slice, slice, slice, slice, slice, slice, slice, slice, slice);
-    led way_back(
-        number, number, number, slice, slice, slice, slice, slice, slice, slice, slice, slice, slice, slice, slice, out
+    done from_slots(number, number, slice, slice, slice, slice, slice, slice, slice);
+    done assign(number, number, slice, slice, slice, slice, slice, slice, slice, number, number);
+    done play(
+        number, number, number, number, slice, slice, slice, slice, slice, slice, slice, slice, slice, slice, slice, slice, slice
     );
-    done empty(number, number, slice, slice, slice);
-    done recount(number, number, number, slice, slice, slice, slice, slice, slice, slice);
-    done recount_slots(number, number, slice, slice, slice, slice, slice, slice);
+    done play_draws(number, number, number, number, slice, slice, slice, slice, slice, slice, slice, slice, slice, slice, slice);
+    led way_back(
+        number, number, number, slice, slice, slice, slice, slice, slice, slice, slice, slice, slice, slice, slice, slice, out
+    );
+    done empty(number, number, slice, slice, slice, slice, slice, slice);
+    done recount(number, number, number, slice, slice, slice, slice, slice, slice, slice, slice);
+    done recount_slots(number, number, slice, slice, slice, slice, slice, slice, slice);
     number owner_of_slot(number, number, slice, number);
     done minutes_of(number, slice, number, out);
     number unassigned_count(number, number, slice);

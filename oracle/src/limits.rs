@@ -15,6 +15,9 @@ pub const FILE_MOST: usize = 49_152;
 /// Words in a set.
 pub const SET_WORDS: usize = 16;
 
+/// The totals kept with a rota: what nobody owns, in minutes and in slots.
+pub const TOTALS: usize = 2;
+
 /// The owner byte of a slot that nobody holds.
 pub const NOBODY: u8 = 255;
 

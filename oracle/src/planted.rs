@@ -2,10 +2,10 @@
 
 use crate::bits::{has_bit, put_bit};
 use crate::call::Question;
-use crate::limits::NOBODY;
+use crate::limits::{NOBODY, TOTALS};
 use crate::problems::{Person, ProblemCase, Range, Settings};
 use crate::recounts::{faults, of_slots, of_units, with_units, without_units, PARTS};
-use crate::rotas::{sets_into, LentRota, RotaCase};
+use crate::rotas::{sets_into, uncovered, LentRota, RotaCase};
 use crate::seed::Seed;
 
 /// The most parts that are planted together, and the most places of each.
@@ -68,6 +68,8 @@ pub fn with_faults(seed: &mut Seed, case: &RotaCase, parts: &[usize]) -> Option<
         let own = (0..slots).filter(|&slot| usize::from(rota.owners[slot]) == person);
         rota.minutes[person] = own.map(|slot| u64::from(rota.ends[slot] - rota.starts[slot])).sum();
     }
+    let open = rota.owners[..slots].iter().filter(|&&owner| owner == NOBODY).count();
+    rota.totals[..TOTALS].copy_from_slice(&[uncovered(&case.problem, &rota.owners[..slots]), open as u64]);
     if parts.contains(&4) {
         plant_bits(seed, &mut rota, slots);
     }
@@ -76,6 +78,9 @@ pub fn with_faults(seed: &mut Seed, case: &RotaCase, parts: &[usize]) -> Option<
         for &person in people.iter().take(seed.within(1, PLACES) as usize) {
             rota.minutes[person] ^= 1 << seed.pick(&[0, 1, 7, 32, 63]);
         }
+    }
+    if parts.contains(&6) {
+        plant_totals(seed, &mut rota);
     }
     let planted = faults(case, &rota);
     let with: Vec<usize> = (1..=PARTS).filter(|part| !planted[part - 1].is_empty()).collect();
@@ -137,6 +142,18 @@ fn plant_bits(seed: &mut Seed, rota: &mut LentRota, slots: usize) {
     }
 }
 
+/// One total wrong, or both: by one, as an owner's change that was missed would leave it, or by any bit.
+fn plant_totals(seed: &mut Seed, rota: &mut LentRota) {
+    let which = shuffled(seed, TOTALS);
+    for &k in which.iter().take(seed.within(1, PLACES) as usize) {
+        rota.totals[k] = match seed.below(3) {
+            0 => rota.totals[k] + 1,
+            1 if rota.totals[k] > 0 => 0,
+            _ => rota.totals[k] ^ 1 << seed.pick(&[0, 1, 7, 32, 63]),
+        };
+    }
+}
+
 // ---- the table by which the parts were read
 
 /// Slots of 60 minutes, units 0-1 and 2-3, person 0 available for all of them, person 1 for 2 and 3; owners 0 0 1 1.
@@ -159,21 +176,25 @@ fn table_case() -> RotaCase {
     }
 }
 
-/// Owners, and of a damage beside them person 1's set of slots and person 0's minutes.
-type Damage = ([u8; 4], Option<u64>, Option<u64>);
+/// Owners, and of a damage beside them person 1's set of slots, person 0's minutes, and the totals.
+type Damage = ([u8; 4], Option<u64>, Option<u64>, [u64; TOTALS]);
 
-const DAMAGES: [Damage; 6] = [
-    ([0, 9, 1, 7], None, None),
-    ([1, 0, 9, 1], None, None),
-    ([1, 0, 1, 1], None, None),
-    ([0, 0, 1, NOBODY], None, None),
-    ([0, 0, 1, 1], Some(0b0110), None),
-    ([0, 0, 1, 1], None, Some(121)),
+const DAMAGES: [Damage; 10] = [
+    ([0, 9, 1, 7], None, None, [0, 0]),
+    ([1, 0, 9, 1], None, None, [0, 0]),
+    ([1, 0, 1, 1], None, None, [0, 0]),
+    ([0, 0, 1, NOBODY], None, None, [0, 0]),
+    ([0, 0, 1, 1], Some(0b0110), None, [0, 0]),
+    ([0, 0, 1, 1], None, Some(121), [0, 0]),
+    ([0, 0, 1, 1], None, None, [60, 0]),
+    ([0, 0, 1, 1], None, None, [0, 1]),
+    ([0, 0, 1, 1], None, None, [60, 1]),
+    ([0, 0, 1, 1], None, Some(121), [60, 1]),
 ];
 
-/// The rotas of the table. Sets and minutes are those of owners 0 0 1 1 but where they are the damage.
+/// The rotas of the table. Sets, minutes and totals are those of owners 0 0 1 1 but where they are the damage.
 pub fn table() -> Vec<(RotaCase, LentRota)> {
-    let damaged = |(owners, set, minutes): Damage| {
+    let damaged = |(owners, set, minutes, totals): Damage| {
         let case = table_case();
         let mut rota = LentRota::new(&mut Seed::new(0), &case);
         rota.owners[..4].copy_from_slice(&owners);
@@ -183,6 +204,7 @@ pub fn table() -> Vec<(RotaCase, LentRota)> {
         if let Some(minutes) = minutes {
             rota.minutes[0] = minutes;
         }
+        rota.totals[..TOTALS].copy_from_slice(&totals);
         (case, rota)
     };
     DAMAGES.into_iter().map(damaged).collect()
@@ -207,6 +229,10 @@ mod tests {
             same(2, 0, 0),
             [failed(3, 1, 0), failed(4, 1, 3)],
             same(4, 1, 1),
+            same(5, 0, 0),
+            same(6, 0, 0),
+            same(6, 1, 0),
+            same(6, 0, 0),
             same(5, 0, 0),
         ];
         for ((case, rota), due) in table().into_iter().zip(due) {
@@ -240,9 +266,9 @@ mod tests {
     #[test]
     fn every_choice_of_parts_is_planted() {
         let mut seen: BTreeMap<Vec<usize>, u64> = BTreeMap::new();
-        let mut twice = [0u64; 5];
+        let mut twice = [0u64; 6];
         let mut told = [0u64; 3];
-        for k in 0..1000 {
+        for k in 0..2000 {
             let (case, rota) = any_rota(&mut Seed::new(k));
             let faults = faults(&case, &rota);
             let parts = planted(&faults);
@@ -253,7 +279,7 @@ mod tests {
                 *told += u64::from(wrong.is_some_and(|wrong| wrong != due));
             }
         }
-        assert_eq!(seen.len(), 1 + 5 + 10 + 10, "{seen:?}");
+        assert_eq!(seen.len(), 1 + 6 + 15 + 20, "{seen:?}");
         assert!(seen.values().all(|&times| times > 8), "{seen:?}");
         assert!(twice.iter().all(|&times| times > 30), "{twice:?}");
         assert!(told.iter().all(|&times| times > 10), "{told:?}");

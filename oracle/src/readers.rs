@@ -48,7 +48,7 @@ pub fn questions(seed: &mut Seed, case: &RotaCase, lent: &LentRota) -> Vec<Quest
     ];
     let unassigned = Some(assignment.unassigned_count() as u64);
     let unassigned_args = owner_args[..3].to_vec();
-    let uncovered = Some(vec![played(problem, &assignment, vec![]).uncovered]);
+    let uncovered = Some(vec![played(problem, &assignment, vec![]).totals[0]]);
     let uncovered_args = [lent.plan_args(), vec![Arg::Lent(1, lent.owners.clone())]].concat();
     let minutes = (person < people).then(|| vec![assignment.assigned_minutes(person) as u64]);
     let minutes_args = vec![

@@ -1,12 +1,12 @@
-//! The recount, by the paper's five parts, each walked over the whole rota against what the Rust rebuilds from the owners: every place at
+//! The recount, by its six parts, each walked over the whole rota against what the Rust rebuilds from the owners: every place at
 //! fault, of which the lowest of the first part that has one is due. And an empty rota.
 
 use on_call::model::Assignment;
 
 use crate::bits::{has_bit, put_bit};
 use crate::call::{bytes16, bytes32, bytes64, Arg, Outcome, Question};
-use crate::limits::{NOBODY, SET_WORDS};
-use crate::rotas::{played, LentRota, RotaCase};
+use crate::limits::{NOBODY, SET_WORDS, TOTALS};
+use crate::rotas::{played, uncovered, LentRota, RotaCase};
 use crate::seed::Seed;
 use crate::table::failed;
 
@@ -24,19 +24,19 @@ pub fn questions(seed: &mut Seed, case: &RotaCase, lent: &LentRota) -> Vec<Quest
 }
 
 /// The parts of the recount.
-pub const PARTS: usize = 5;
+pub const PARTS: usize = 6;
 
-/// The places at fault of each part, ascending: a slot, a slot, a unit, a person with a slot, a person.
+/// The places at fault of each part, ascending: a slot, a slot, a unit, a person with a slot, a person, a total.
 pub type Faults = [Vec<(usize, usize)>; PARTS];
 
 /// What is due of a recount with units: 0, or the lowest place of the first part that has one.
 pub fn of_units(faults: &Faults) -> u64 {
-    first_of(faults, &[1, 2, 3, 4, 5])
+    first_of(faults, &[1, 2, 3, 4, 5, 6])
 }
 
 /// The same without units: part 3 is never asked.
 pub fn of_slots(faults: &Faults) -> u64 {
-    first_of(faults, &[1, 2, 4, 5])
+    first_of(faults, &[1, 2, 4, 5, 6])
 }
 
 fn first_of(faults: &Faults, parts: &[usize]) -> u64 {
@@ -45,7 +45,7 @@ fn first_of(faults: &Faults, parts: &[usize]) -> u64 {
 }
 
 /// Every place at fault: owners known, owners available, units uniform, sets and minutes equal to those that the Rust rebuilds from the
-/// owners, an unknown one holding nothing. Bits past the last slot don't count.
+/// owners, an unknown one holding nothing, totals those of the slots of nobody's. Bits past the last slot don't count.
 pub fn faults(case: &RotaCase, lent: &LentRota) -> Faults {
     let problem = &case.problem;
     let slots = problem.slot_count();
@@ -66,6 +66,8 @@ pub fn faults(case: &RotaCase, lent: &LentRota) -> Faults {
     };
     let alone = |place: usize| (place, 0);
     let people = 0..lent.people;
+    let open = owners.iter().filter(|&&owner| owner == NOBODY).count() as u64;
+    let totals = [uncovered(problem, owners), open];
     [
         (0..slots).filter(is_unknown).map(alone).collect(),
         (0..slots).filter(is_away).map(alone).collect(),
@@ -75,6 +77,7 @@ pub fn faults(case: &RotaCase, lent: &LentRota) -> Faults {
             .filter(|&person| lent.minutes[person] != rebuilt.assigned_minutes(person) as u64)
             .map(alone)
             .collect(),
+        (0..TOTALS).filter(|&k| lent.totals[k] != totals[k]).map(alone).collect(),
     ]
 }
 
@@ -85,11 +88,11 @@ fn changed(seed: &mut Seed, case: &RotaCase, lent: &LentRota) -> LentRota {
     let slot = seed.below(slots as u64) as usize;
     let person = seed.below(rota.people as u64) as usize;
     let somebody = if seed.one_in(4) { NOBODY } else { person as u8 };
-    match seed.below(7) {
+    match seed.below(9) {
         0 => {}
         // an owner, and nothing else
         1 => rota.owners[slot] = somebody,
-        // an owner, with sets and minutes: the slot's unit may be uneven now, or the person unavailable
+        // an owner, with all that is derived: the slot's unit may be uneven now, or the person unavailable
         2 | 3 => {
             rota.owners[slot] = somebody;
             let made = played(&case.problem, &case.assignment(&rota.owners[..slots]), vec![]);
@@ -103,7 +106,14 @@ fn changed(seed: &mut Seed, case: &RotaCase, lent: &LentRota) -> LentRota {
                 put_bit(&mut rota.sets, person, past, seed.one_in(2));
             }
         }
-        _ => rota.minutes[person] = seed.pick(&[0, rota.minutes[person], rota.minutes[person] ^ 1 << 32]),
+        6 => rota.minutes[person] = seed.pick(&[0, rota.minutes[person], rota.minutes[person] ^ 1 << 32]),
+        7 => {
+            let k = seed.below(TOTALS as u64) as usize;
+            let total = rota.totals[k];
+            rota.totals[k] = seed.pick(&[0, total, total + 1, total ^ 1 << 32]);
+        }
+        // what lies past the totals
+        _ => rota.totals[TOTALS..].fill_with(|| seed.word()),
     }
     rota
 }
@@ -137,7 +147,7 @@ pub fn empty(case: &RotaCase, lent: &LentRota, number: u64) -> Question {
     if number == 0 {
         after.hold(&played(&case.problem, &Assignment::empty(&case.problem), vec![]));
     }
-    let mut args = vec![Arg::Number(lent.people as u64), Arg::Number(lent.starts.len() as u64)];
+    let mut args = lent.plan_args();
     args.extend(lent.rota_args(Arg::LentMut));
     Question {
         function: "boltraven_empty",

@@ -8,7 +8,7 @@ use rand::Script;
 
 use crate::bits::put_bit;
 use crate::call::{bytes16, bytes32, bytes64, Arg, Outcome, Question};
-use crate::limits::{DRAWS_MOST, MINUTES_MOST, NOBODY, PEOPLE_MOST, SET_WORDS, SLOTS_MOST};
+use crate::limits::{DRAWS_MOST, MINUTES_MOST, NOBODY, PEOPLE_MOST, SET_WORDS, SLOTS_MOST, TOTALS};
 use crate::problems::{availability_into, slots_of, unit_starts_of, Person, ProblemCase, Range, Settings};
 use crate::seed::Seed;
 
@@ -29,7 +29,8 @@ pub struct Played {
     pub answers: Vec<u8>,
     pub owners: Vec<u8>,
     pub minutes: Vec<u64>,
-    pub uncovered: u64,
+    /// What nobody owns, in minutes and in slots.
+    pub totals: [u64; TOTALS],
 }
 
 impl RotaCase {
@@ -88,15 +89,23 @@ pub fn played(problem: &Problem, assignment: &Assignment, answers: Vec<u8>) -> P
         .iter()
         .map(|slot| slot.map_or(NOBODY, |person| person as u8))
         .collect();
-    let uncovered = owners.iter().zip(&problem.slot_minutes).filter(|(&owner, _)| owner == NOBODY);
     Played {
         minutes: (0..problem.human_count())
             .map(|person| assignment.assigned_minutes(person) as u64)
             .collect(),
-        uncovered: uncovered.map(|(_, &minutes)| minutes as u64).sum(),
+        totals: [uncovered(problem, &owners), assignment.unassigned_count() as u64],
         answers,
         owners,
     }
+}
+
+/// The minutes of the slots that nobody owns.
+pub fn uncovered(problem: &Problem, owners: &[u8]) -> u64 {
+    let slots = owners.iter().zip(&problem.slot_minutes);
+    slots
+        .filter(|(&owner, _)| owner == NOBODY)
+        .map(|(_, &minutes)| minutes as u64)
+        .sum()
 }
 
 /// Plays draws by the Rust's moves: an answer each. One list of changes serves all draws, as in its search.
@@ -252,6 +261,7 @@ pub struct LentRota {
     pub owners: Vec<u8>,
     pub sets: Vec<u64>,
     pub minutes: Vec<u64>,
+    pub totals: Vec<u64>,
     pub count: usize,
     pub draws: Vec<Draw>,
     pub answers: Vec<u8>,
@@ -276,6 +286,8 @@ impl LentRota {
         let mut bytes = |list: &[u8]| [list, &vec![seed.word() as u8; spare]].concat();
         let owners = bytes(&case.owners);
         let answers = bytes(&vec![9; case.draws.len()]);
+        let minutes = [&begun.minutes[..], &vec![seed.word(); spare]].concat();
+        let past: Vec<u64> = (0..seed.below(3)).map(|_| seed.word()).collect();
         Self {
             people,
             units: unit_starts.len(),
@@ -286,7 +298,8 @@ impl LentRota {
             frozen,
             owners,
             sets,
-            minutes: [&begun.minutes[..], &vec![seed.word(); spare]].concat(),
+            minutes,
+            totals: [&begun.totals[..], &past].concat(),
             count: case.draws.len(),
             draws: case.draws.clone(),
             answers,
@@ -343,25 +356,32 @@ impl LentRota {
         ]
     }
 
-    /// Owners, sets and minutes as they are passed, to be read alone or to be written.
-    pub fn rota_args(&self, lent: fn(usize, Vec<u8>) -> Arg) -> [Arg; 3] {
+    /// Owners, sets, minutes and totals as they are passed, to be read alone or to be written.
+    pub fn rota_args(&self, lent: fn(usize, Vec<u8>) -> Arg) -> [Arg; 4] {
         [
             lent(1, self.owners.clone()),
             lent(8, bytes64(&self.sets)),
             lent(8, bytes64(&self.minutes)),
+            lent(8, bytes64(&self.totals)),
         ]
     }
 
-    /// Owners, sets and minutes as bytes.
+    /// Owners, sets, minutes and totals as bytes.
     pub fn buffers(&self) -> Vec<Vec<u8>> {
-        vec![self.owners.clone(), bytes64(&self.sets), bytes64(&self.minutes)]
+        vec![
+            self.owners.clone(),
+            bytes64(&self.sets),
+            bytes64(&self.minutes),
+            bytes64(&self.totals),
+        ]
     }
 
-    /// Puts another rota in the place of this one: what lies past its slots and people stays.
+    /// Puts another rota in the place of this one: what lies past its slots, people and totals stays.
     pub fn hold(&mut self, rota: &Played) {
         self.owners[..rota.owners.len()].copy_from_slice(&rota.owners);
         sets_into(&mut self.sets, self.people, &rota.owners);
         self.minutes[..rota.minutes.len()].copy_from_slice(&rota.minutes);
+        self.totals[..TOTALS].copy_from_slice(&rota.totals);
     }
 }
 
@@ -385,31 +405,35 @@ impl LentRota {
         ]
     }
 
-    /// Sets and minutes from owners that are available, over whatever stood there.
-    pub fn made_from_slots(&self, seed: &mut Seed, case: &RotaCase) -> Question {
+    /// Sets, minutes and totals from owners, over whatever stood there; or a refusal that leaves it.
+    pub fn made_from_slots(&self, seed: &mut Seed, case: &RotaCase, number: u64) -> Question {
         let mut rota = self.clone();
         rota.sets.fill_with(|| seed.word());
         rota.minutes.fill_with(|| seed.word());
+        rota.totals.fill_with(|| seed.word());
         let mut args = self.plan_args();
         args.extend([
             Arg::Lent(8, bytes64(&self.avail)),
             Arg::Lent(1, self.owners.clone()),
             Arg::LentMut(8, bytes64(&rota.sets)),
             Arg::LentMut(8, bytes64(&rota.minutes)),
+            Arg::LentMut(8, bytes64(&rota.totals)),
         ]);
-        rota.hold(&played(&case.problem, &case.assignment(&case.owners), vec![]));
+        if number == 0 {
+            rota.hold(&played(&case.problem, &case.assignment(&case.owners), vec![]));
+        }
         Question {
             function: "boltraven_from_slots",
             args,
             due: Outcome {
-                result: 0,
-                written: vec![bytes64(&rota.sets), bytes64(&rota.minutes)],
+                result: number,
+                written: rota.buffers().split_off(1),
             },
         }
     }
 
-    /// A slot assigned to somebody or cleared, on a rota of which the recount without units gives this number. The Rust has no answer for
-    /// one who is not available, or an unknown one or slot: 12, 11.
+    /// A slot assigned to somebody or cleared, on a rota of which the recount without units gives this number: any slot and owner, the
+    /// slot's own owner again, or a slot of nobody's to one who is available for it.
     pub fn assign(&self, seed: &mut Seed, case: &RotaCase, recount: u64) -> Question {
         let slots = self.starts.len();
         let slot = if seed.one_in(12) {
@@ -417,11 +441,43 @@ impl LentRota {
         } else {
             seed.below(slots as u64) as usize
         };
-        let owner = match seed.below(8) {
-            0 => NOBODY,
-            1 if seed.one_in(3) => self.people as u8,
-            _ => seed.below(self.people as u64) as u8,
+        let domains = &case.problem.domains;
+        let open = |slot: &usize| self.owners.get(*slot) == Some(&NOBODY) && !domains[*slot].is_empty();
+        let (slot, owner) = match seed.below(10) {
+            0 => (slot, NOBODY),
+            1 if seed.one_in(3) => (slot, self.people as u8),
+            2 if slot < self.owners.len() => (slot, self.owners[slot]),
+            3 => match (0..slots).find(open) {
+                Some(slot) => (slot, seed.pick(&domains[slot]) as u8),
+                None => (slot, NOBODY),
+            },
+            _ => (slot, seed.below(self.people.max(1) as u64) as u8),
         };
+        self.assigned(case, slot, owner, recount).0
+    }
+
+    /// A slot that somebody is available for, cleared, cleared again, filled, filled again, and given to whoever comes next: each on what
+    /// the one before left.
+    pub fn assigns_in_turn(&self, seed: &mut Seed, case: &RotaCase) -> Vec<Question> {
+        let from = seed.below(self.starts.len() as u64) as usize;
+        let domains = &case.problem.domains;
+        let Some(slot) = (from..domains.len()).find(|&slot| !domains[slot].is_empty()) else {
+            return vec![];
+        };
+        let (one, next) = (seed.pick(&domains[slot]) as u8, seed.pick(&domains[slot]) as u8);
+        let mut rota = self.clone();
+        let mut asked = Vec::new();
+        for owner in [NOBODY, NOBODY, one, one, next] {
+            let (question, after) = rota.assigned(case, slot, owner, 0);
+            asked.push(question);
+            rota = after;
+        }
+        asked
+    }
+
+    /// A slot assigned, and the rota after it. The Rust has no answer for one who is not available, or an unknown one or slot: 12, 11.
+    fn assigned(&self, case: &RotaCase, slot: usize, owner: u8, recount: u64) -> (Question, Self) {
+        let slots = self.starts.len();
         let person = usize::from(owner);
         let number = if recount > 0 {
             recount
@@ -442,21 +498,40 @@ impl LentRota {
             assignment.assign(&case.problem, slot, (owner != NOBODY).then_some(person));
             after.hold(&played(&case.problem, &assignment, vec![]));
         }
-        Question {
-            function: "boltraven_assign",
-            args,
-            due: Outcome {
-                result: number,
-                written: after.buffers(),
-            },
-        }
+        let due = Outcome {
+            result: number,
+            written: after.buffers(),
+        };
+        let function = "boltraven_assign";
+        (Question { function, args, due }, after)
     }
 }
 
 #[cfg(test)]
 mod tests {
-    use super::RotaCase;
+    use super::{played, LentRota, RotaCase};
+    use crate::limits::NOBODY;
     use crate::seed::Seed;
+
+    /// Plays that fill units of several slots, that fill some and not all of what was open, and totals lent in every length from two to
+    /// four: the generators reach them. No play of the Rust raises a total.
+    #[test]
+    fn open_units_of_several_slots_are_filled() {
+        let (mut filled, mut partly, mut lengths) = (0, 0, [0u64; 3]);
+        for k in 0..400 {
+            let mut seed = Seed::new(k);
+            let case = RotaCase::new(&mut seed);
+            let (begun, end) = (played(&case.problem, &case.assignment(&case.owners), vec![]), case.play());
+            assert!(begun.totals.iter().zip(end.totals).all(|(&before, after)| after <= before));
+            let is_filled =
+                |unit: &&std::ops::Range<usize>| unit.len() > 1 && case.owners[unit.start] == NOBODY && end.owners[unit.start] != NOBODY;
+            filled += case.problem.units.iter().filter(is_filled).count();
+            partly += usize::from(0 < end.totals[1] && end.totals[1] < begun.totals[1]);
+            lengths[LentRota::new(&mut seed, &case).totals.len() - 2] += 1;
+        }
+        assert!(filled > 20 && partly > 30, "{filled}, {partly}");
+        assert!(lengths.iter().all(|&times| times > 50), "{lengths:?}");
+    }
 
     /// The generators make rotas that the Rust takes, and draws that reach every answer.
     #[test]

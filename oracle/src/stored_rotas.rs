@@ -1,7 +1,7 @@
 //! Records of rotas, in sections: plays, four facts that are easy to get wrong, single assigns, damaged plays, and failed recounts.
 
 use crate::bits::has_bit;
-use crate::limits::{DRAWS_MOST, NOBODY, SET_WORDS};
+use crate::limits::{DRAWS_MOST, NOBODY, SET_WORDS, TOTALS};
 use crate::planted::{some_parts, table, with_faults};
 use crate::problems::{unit_starts_of, Person, ProblemCase, Range, Settings};
 use crate::recounts::{faults, of_slots, of_units};
@@ -17,14 +17,14 @@ const DRAWS: usize = 8;
 
 /// Of each section: its records (the first has as many as are asked for), the answers of one record, and what its line says they are of.
 const SECTIONS: [(u64, u64, &str); 8] = [
-    (0, 4, ""),
-    (12, 7, " of unfrozen twins"),
-    (12, 6, " of rotas made uneven"),
-    (12, 5, " of swaps of unequal units"),
-    (12, 5, " of reassigns"),
-    (20, 4, " of single assigns"),
-    (32, 5, " of damaged rotas"),
-    (24, 3, " of failed recounts"),
+    (0, 5, ""),
+    (12, 8, " of unfrozen twins"),
+    (12, 7, " of rotas made uneven"),
+    (12, 6, " of swaps of unequal units"),
+    (12, 6, " of reassigns"),
+    (24, 5, " of single assigns"),
+    (36, 6, " of damaged rotas"),
+    (32, 3, " of failed recounts"),
 ];
 
 /// Sections, each with its number of records as u16 before them: plays; twins, which act with no slot frozen and are stopped by one unit;
@@ -33,10 +33,13 @@ const SECTIONS: [(u64, u64, &str); 8] = [
 ///
 /// A record is, low byte first: people, slots, units and draws as u16; sixteen starts and sixteen ends as u32; sixteen u16 of the slots at
 /// which units begin; four u16 of slots that a person can cover; a u16 of frozen slots; sixteen owners; the three columns of eight u16 of
-/// draws; then what the Rust makes of it: eight answers, sixteen owners, four u16 of the slots that a person holds, four u32 of minutes;
-/// then as u16 the slot and the owner of an assign; the number that is due, of 10 with its part, place and second number, and the same of
-/// the recount without units; what is held and worked before it, as u16 and u32 of four people; and u16 of how many owners, words of sets
-/// and unit starts are lent.
+/// draws; then what the Rust makes of it: eight answers, sixteen owners, four u16 of the slots that a person holds, four u32 of minutes, and
+/// two u32 of what nobody owns, in minutes and in slots; then as u16 the slot and the owner of an assign; the number that is due, of 10 with
+/// its part, place and second number, and the same of the recount without units; what is held, worked and owned by nobody before it, as u16
+/// and u32 of four people and two u32; and u16 of how many owners, words of sets, totals and unit starts are lent. Of three totals the last
+/// is past the needed ones.
+///
+/// The worked example of the totals is in it: the first play, and the first three single assigns.
 pub fn rotas(n: u64, run: u64) -> Stored {
     let kinds: [fn(&mut Seed, u64) -> Option<Record>; 8] = [plain, twin, uneven, unequal_swap, reassign, assign, damaged, failing];
     let mut bytes = Vec::new();
@@ -66,6 +69,7 @@ struct Record {
     owners: Vec<u8>,
     sets: Vec<u16>,
     minutes: Vec<u64>,
+    totals: Vec<u64>,
     slot: usize,
     owner: u8,
     /// The number that is due, with part and places; and of the recount without units.
@@ -73,6 +77,7 @@ struct Record {
     of_slots: u64,
     owners_lent: usize,
     words_lent: usize,
+    totals_lent: usize,
 }
 
 /// A small rota, its draws cut to those that fit.
@@ -99,12 +104,14 @@ impl Record {
             owners: case.owners.clone(),
             sets: held(problem.human_count(), &case.owners),
             minutes: begun.minutes,
+            totals: begun.totals.to_vec(),
             slot: 0,
             owner: NOBODY,
             number: 0,
             of_slots: 0,
             owners_lent: SLOTS,
             words_lent: SET_WORDS * PEOPLE,
+            totals_lent: TOTALS + problem.slot_count() % 2,
             case,
             due,
         }
@@ -133,6 +140,7 @@ impl Record {
         fill(bytes, SLOTS, &self.due.owners);
         filled16(bytes, PEOPLE, &held(problem.human_count(), &self.due.owners), 0);
         worked(bytes, &self.due.minutes);
+        open(bytes, &self.due.totals);
         half(bytes, self.slot);
         half(bytes, usize::from(self.owner));
         for answer in [self.number, self.of_slots] {
@@ -143,7 +151,8 @@ impl Record {
         }
         filled16(bytes, PEOPLE, &self.sets, 0);
         worked(bytes, &self.minutes);
-        for length in [self.owners_lent, self.words_lent, self.units.unit_starts.len()] {
+        open(bytes, &self.totals);
+        for length in [self.owners_lent, self.words_lent, self.totals_lent, self.units.unit_starts.len()] {
             half(bytes, length);
         }
     }
@@ -163,14 +172,25 @@ fn worked(bytes: &mut Vec<u8>, minutes: &[u64]) {
     filled32(bytes, PEOPLE, &column, 0);
 }
 
+fn open(bytes: &mut Vec<u8>, totals: &[u64]) {
+    let both: Vec<u32> = totals.iter().map(|&total| total as u32).collect();
+    filled32(bytes, TOTALS, &both, 0);
+}
+
 /// Bytes, with zeros up to a count.
 fn fill(bytes: &mut Vec<u8>, count: usize, list: &[u8]) {
     bytes.extend(list.iter().copied().chain(std::iter::repeat(0)).take(count));
 }
 
 /// A play; most of them act, since one that only stays put tells little. One in eight ends with a shift whose second is above 1: choice
-/// outside.
+/// outside. The first is the last step of the totals' worked example.
 fn plain(seed: &mut Seed, made: u64) -> Option<Record> {
+    if made == 0 {
+        let mut case = open_slots([NOBODY, 1]);
+        case.draws = vec![(0, 0, 0)];
+        let end = case.play();
+        return Some(Record::new(case, end));
+    }
     let mut case = small(seed)?;
     let shifts = made % 8 == 1;
     if shifts {
@@ -182,6 +202,29 @@ fn plain(seed: &mut Seed, made: u64) -> Option<Record> {
     let outside = !shifts || end.answers.last() == Some(&2);
     (outside && (end.answers.contains(&0) || made % 4 == 0)).then(|| Record::new(case, end))
 }
+
+/// The totals' worked example: slots of one and two hours, each a unit, and two people who can cover both.
+fn open_slots(owners: [u8; 2]) -> RotaCase {
+    let range = |person| Range {
+        person,
+        start: 0,
+        end: 180,
+    };
+    let case = ProblemCase {
+        base: vec![(0, 60), (60, 180)],
+        ranges: vec![range(0), range(1)],
+        people: vec![Person::PLAIN; 2],
+        settings: Settings::PLAIN,
+    };
+    RotaCase {
+        problem: case.rust(),
+        owners: owners.to_vec(),
+        draws: vec![],
+    }
+}
+
+/// Its single assigns: the second slot filled, the first cleared, and cleared again.
+const FILLED_AND_CLEARED: [([u8; 2], usize, u8); 3] = [([0, NOBODY], 1, 1), ([0, 1], 0, NOBODY), ([NOBODY, 1], 0, NOBODY)];
 
 /// Marked case 12, but with no slot frozen yet: two units, owners 0 and 1, draw (35, 0, 1).
 fn case_12() -> RotaCase {
@@ -268,8 +311,11 @@ fn uneven(seed: &mut Seed, _: u64) -> Option<Record> {
     Some(record)
 }
 
-/// One slot assigned: an unknown slot or owner is 11, one who is not available 12.
-fn assign(seed: &mut Seed, _: u64) -> Option<Record> {
+/// One slot assigned: an unknown slot or owner is 11, one who is not available 12. The first are the totals' worked example.
+fn assign(seed: &mut Seed, made: u64) -> Option<Record> {
+    if let Some(&(owners, slot, owner)) = FILLED_AND_CLEARED.get(made as usize) {
+        return Some(assigned(open_slots(owners), slot, owner));
+    }
     let case = small(seed)?;
     let (people, slots) = (case.problem.human_count(), case.problem.slot_count());
     let slot = seed.below(slots as u64 + 1) as usize;
@@ -324,7 +370,7 @@ fn reassign(seed: &mut Seed, _: u64) -> Option<Record> {
 }
 
 /// Rules that damage breaks.
-const RULES: u64 = 9;
+const RULES: u64 = 11;
 
 /// A play with one fault or two: what is due is the lowest of their numbers, and everything lent as it was.
 fn damaged(seed: &mut Seed, _: u64) -> Option<Record> {
@@ -339,15 +385,17 @@ fn damaged(seed: &mut Seed, _: u64) -> Option<Record> {
     let second = (first + seed.below(RULES)) % RULES;
     for rule in [first, second].into_iter().take(if first == second { 1 } else { 2 }) {
         let (slot, person) = (seed.below(slots as u64) as usize, seed.below(people as u64) as usize);
-        record.damage(seed, rule, slot, person);
+        let total = seed.below(TOTALS as u64) as usize;
+        record.damage(seed, rule, slot, person, total);
         recount.extend(match rule {
             4 => Some((1, slot, 0)),
             5 => Some((4, person, slot)),
             6 => Some((5, person, 0)),
+            9 => Some((6, total, 0)),
             _ => None,
         });
     }
-    let room = record.slots.count <= record.owners_lent && words_ok(record.people, record.words_lent);
+    let room = record.slots.count <= record.owners_lent && words_ok(record.people, record.words_lent) && TOTALS <= record.totals_lent;
     record.number = lowest(&[
         (1, people_ok(record.people) && record.slots.count_ok() && record.draws <= DRAWS_MOST),
         (2, room),
@@ -379,15 +427,20 @@ fn failing(seed: &mut Seed, made: u64) -> Option<Record> {
     let set = |person: usize| (0..slots).map(|slot| u16::from(has_bit(&rota.sets, person, slot)) << slot).sum();
     record.sets = (0..people).map(set).collect();
     record.minutes = rota.minutes[..people].to_vec();
+    record.totals = rota.totals[..TOTALS].to_vec();
     (record.number, record.of_slots) = (of_units(&faults), of_slots(&faults));
-    // minutes are stored as u32
-    let fits = record.minutes.iter().all(|&minutes| u32::try_from(minutes).is_ok());
+    // minutes and totals are stored as u32
+    let fits = record
+        .minutes
+        .iter()
+        .chain(&record.totals)
+        .all(|&figure| u32::try_from(figure).is_ok());
     fits.then_some(record)
 }
 
 impl Record {
-    /// Breaks a rule: 4 to 6 are those of the recount.
-    fn damage(&mut self, seed: &mut Seed, rule: u64, slot: usize, person: usize) {
+    /// Breaks a rule: 4 to 6, and 9, are those of the recount.
+    fn damage(&mut self, seed: &mut Seed, rule: u64, slot: usize, person: usize, total: usize) {
         match rule {
             0 => self.people = seed.pick(&[0, 33, 65_535]),
             1 => self.draws = seed.pick(&[DRAWS_MOST + 1, 65_535]),
@@ -397,15 +450,39 @@ impl Record {
             5 => self.sets[person] ^= 1 << slot,
             6 => self.minutes[person] ^= 1 << seed.below(31),
             7 => self.units.unit_starts[0] = 1,
-            _ => self.slots.ends[slot] = self.slots.starts[slot],
+            8 => self.slots.ends[slot] = self.slots.starts[slot],
+            9 => self.totals[total] ^= 1 << seed.below(31),
+            _ => self.totals_lent = total,
         }
     }
 }
 
 #[cfg(test)]
 mod tests {
+    use super::{assigned, open_slots, FILLED_AND_CLEARED};
+    use crate::limits::NOBODY;
+
+    /// The worked example by hand: minutes and totals after each step.
+    #[test]
+    fn totals_follow_the_example() {
+        let due = [([60, 120], [0, 0]), ([0, 120], [60, 1]), ([0, 120], [60, 1])];
+        for ((owners, slot, owner), (minutes, totals)) in FILLED_AND_CLEARED.into_iter().zip(due) {
+            let record = assigned(open_slots(owners), slot, owner);
+            assert_eq!(
+                (record.number, &record.due.minutes[..], record.due.totals),
+                (0, &minutes[..], totals)
+            );
+        }
+        let begun = open_slots([0, NOBODY]).play();
+        assert_eq!((&begun.minutes[..], begun.totals), (&[60, 0][..], [120, 1]));
+        let mut case = open_slots([NOBODY, 1]);
+        case.draws = vec![(0, 0, 0)];
+        let end = case.play();
+        assert_eq!((&end.answers[..], &end.minutes[..], end.totals), (&[0][..], &[60, 120][..], [0, 0]));
+    }
+
     #[test]
     fn records_have_one_size() {
-        assert_eq!(super::rotas(7, 1).bytes.len(), 8 * 2 + (7 + 4 * 12 + 20 + 32 + 24) * 340);
+        assert_eq!(super::rotas(7, 1).bytes.len(), 8 * 2 + (7 + 4 * 12 + 24 + 36 + 32) * 358);
     }
 }

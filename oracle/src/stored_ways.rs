@@ -1,9 +1,10 @@
 //! Records of ways back: the worked examples, then any, with those that a unit stands in the way of and those that are refused.
 
+use crate::limits::{NOBODY, TOTALS};
 use crate::planted::with_faults;
 use crate::problems::{unit_starts_of, Person, ProblemCase, Range, Settings};
 use crate::recounts::{faults, of_units};
-use crate::rotas::{owners, Draw, LentRota, RotaCase};
+use crate::rotas::{owners, uncovered, Draw, LentRota, RotaCase};
 use crate::seed::Seed;
 use crate::stored::{filled16, filled32, half, records, Stored};
 use crate::table::Slots;
@@ -20,8 +21,8 @@ const UNANSWERED: u8 = 9;
 /// Records of ways back. A record is, low byte first: people, slots and units as u16; sixteen starts and sixteen ends as u32; sixteen u16 of
 /// the slots at which units begin; four u16 of slots that a person can cover; a u16 of frozen slots; sixteen remembered owners, and sixteen
 /// owners as they are; then what is due: as u16 whether there are draws (0), a unit in the way (1) or a refusal (2), how many draws or
-/// which unit, and the refusal's number, part and place; the three columns of sixteen u16; and sixteen answers of the play of the draws.
-/// A record has four answers, and one more where there are draws.
+/// which unit, and the refusal's number, part and place; the three columns of sixteen u16; sixteen answers of the play of the draws; and as
+/// two u32 what nobody owns of the remembered owners, in minutes and in slots. A record has four answers, and one more where there are draws.
 pub fn ways(n: u64, run: u64) -> Stored {
     let mut bytes = Vec::new();
     let mut answers = 0;
@@ -136,6 +137,8 @@ fn write(bytes: &mut Vec<u8>, case: &RotaCase, remembered: &[u8]) -> u64 {
         filled16(bytes, SLOTS, &column, BEFORE);
     }
     bytes.extend((0..SLOTS).map(|k| if k < draws.len() { 0 } else { UNANSWERED }));
+    let open = remembered.iter().filter(|&&owner| owner == NOBODY).count();
+    filled32(bytes, TOTALS, &[uncovered(problem, remembered) as u32, open as u32], 0);
     if kind == 0 {
         5
     } else {

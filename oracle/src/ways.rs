@@ -3,7 +3,7 @@
 use on_call::model::problem::Problem;
 
 use crate::call::{bytes16, bytes32, bytes64, Arg, Outcome, Question};
-use crate::limits::{NOBODY, NOTHING, SET_WORDS};
+use crate::limits::{NOBODY, NOTHING, SET_WORDS, TOTALS};
 use crate::planted::{some_parts, with_faults};
 use crate::recounts::{faults, of_units};
 use crate::rotas::{owners, play, played, Draw, LentRota, Played, RotaCase};
@@ -222,7 +222,7 @@ fn spoil(seed: &mut Seed, case: &RotaCase, remembered: &mut [u8]) {
 fn spoil_lent(seed: &mut Seed, rota: &mut LentRota) -> u64 {
     let slots = rota.starts.len();
     let slot = seed.below(slots as u64) as usize;
-    match seed.below(8) {
+    match seed.below(9) {
         0 => rota.people = seed.pick(&[0, 33, usize::MAX]),
         1 => rota.starts.clear(),
         2 => rota.owners.truncate(slots - 1),
@@ -230,6 +230,7 @@ fn spoil_lent(seed: &mut Seed, rota: &mut LentRota) -> u64 {
         4 => rota.frozen.truncate(SET_WORDS - 1),
         5 => rota.unit_starts.truncate(rota.units - 1),
         6 => rota.ends[slot] = rota.starts[slot],
+        7 => rota.totals.truncate(seed.below(TOTALS as u64) as usize),
         _ => rota.unit_starts[0] = 1,
     }
     match (rota.starts.is_empty() || rota.people == 0 || rota.people > 32, rota.ends.get(slot)) {

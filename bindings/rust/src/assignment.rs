@@ -1,7 +1,7 @@
 //! A rota: who holds which slot.
 
 use crate::draw::Draw;
-use crate::lent::{self, written, NOBODY, SET_WORDS};
+use crate::lent::{self, written, NOBODY, SET_WORDS, TOTALS, UNASSIGNED_SLOTS, UNCOVERED_MINUTES};
 use crate::problem::Problem;
 use crate::refusal::{checked, Refusal};
 use crate::set::SlotSet;
@@ -39,7 +39,7 @@ pub enum WayBack {
     },
 }
 
-/// The owners of all slots, with everybody's set of slots and minutes, which always fit together.
+/// The owners of all slots, with everybody's set of slots and minutes and what nobody owns, which always fit together.
 ///
 /// A method that takes a [`Problem`] is meant for the one that the rota was made for. With another one it is refused, or answers for the
 /// slots and people of that one.
@@ -59,6 +59,7 @@ pub enum WayBack {
 /// assert_eq!(rota.slots_of(0)?.iter().collect::<Vec<_>>(), [0]);
 /// assert_eq!(rota.runs(), [vec![(0, 0)], vec![]]);
 /// assert_eq!((rota.unassigned_count(), rota.uncovered_minutes(&problem)?), (1, 60));
+/// assert_eq!((rota.stored_unassigned_count(), rota.stored_uncovered_minutes()), (1, 60));
 ///
 /// // Both slots of person 0; then the second unit goes to the second of those who can cover it, and there is no tenth.
 /// let mut rota = Assignment::from_slots(&problem, &[Some(0), Some(0)])?;
@@ -77,6 +78,7 @@ pub struct Assignment {
     owners: Vec<u8>,
     sets: Vec<u64>,
     minutes: Vec<u64>,
+    totals: [u64; TOTALS],
 }
 
 /// An owner as the library takes it. A person whose number doesn't fit is as unknown as the last number that does.
@@ -100,8 +102,18 @@ impl Assignment {
             owners: vec![NOBODY; slots],
             sets: vec![0; SET_WORDS * people],
             minutes: vec![0; people],
+            totals: [0; TOTALS],
         };
-        checked(lent::empty(people, slots, &mut rota.owners, &mut rota.sets, &mut rota.minutes));
+        checked(lent::empty(
+            people,
+            slots,
+            problem.slots().starts(),
+            problem.slots().ends(),
+            &mut rota.owners,
+            &mut rota.sets,
+            &mut rota.minutes,
+            &mut rota.totals,
+        ));
         rota
     }
 
@@ -112,6 +124,7 @@ impl Assignment {
             owners: slots.iter().take(count).copied().map(owner_byte).collect(),
             sets: vec![0; SET_WORDS * problem.human_count()],
             minutes: vec![0; problem.human_count()],
+            totals: [0; TOTALS],
         };
         lent::from_slots(
             problem.human_count(),
@@ -122,6 +135,7 @@ impl Assignment {
             &rota.owners,
             &mut rota.sets,
             &mut rota.minutes,
+            &mut rota.totals,
         )?;
         Ok(rota)
     }
@@ -179,6 +193,7 @@ impl Assignment {
             &mut self.owners,
             &mut self.sets,
             &mut self.minutes,
+            &mut self.totals,
             slot,
             owner_byte(owner),
         )
@@ -201,6 +216,7 @@ impl Assignment {
             &mut self.owners,
             &mut self.sets,
             &mut self.minutes,
+            &mut self.totals,
             &mut answers,
         )?;
         Ok(answers.into_iter().map(Answer::of).collect())
@@ -226,6 +242,7 @@ impl Assignment {
             &self.owners,
             &self.sets,
             &self.minutes,
+            &self.totals,
             &mut draws,
             &mut firsts,
             &mut seconds,
@@ -243,7 +260,7 @@ impl Assignment {
         Ok(WayBack::Draws((0..told).map(draw).collect()))
     }
 
-    /// Whether owners, units, sets and minutes fit together, as a play asks it first. Refusal 10: a unit has two owners, which `assign` can
+    /// Whether owners, units, sets, minutes and totals fit together, as a play asks it first. Refusal 10: a unit has two owners, which `assign` can
     /// bring about; the lowest such unit is named.
     pub fn recount(&self, problem: &Problem) -> Result<(), Refusal> {
         lent::recount(
@@ -257,17 +274,28 @@ impl Assignment {
             &self.owners,
             &self.sets,
             &self.minutes,
+            &self.totals,
         )
     }
 
-    /// How many slots nobody owns.
+    /// How many slots nobody owns, counted by the owners.
     pub fn unassigned_count(&self) -> usize {
         checked(lent::unassigned_count(self.minutes.len(), self.owners.len(), &self.owners))
     }
 
-    /// The minutes of the slots that nobody owns. Refusals 2, 11, where the problem is another one.
+    /// The minutes of the slots that nobody owns, added up by the owners. Refusals 2, 11, where the problem is another one.
     pub fn uncovered_minutes(&self, problem: &Problem) -> Result<u64, Refusal> {
         let (people, slots) = (problem.human_count(), problem.slots());
         written(|out| lent::uncovered_minutes(people, slots.len(), slots.starts(), slots.ends(), &self.owners, out))
+    }
+
+    /// How many slots nobody owns, as it is kept with the rota: nothing is counted.
+    pub fn stored_unassigned_count(&self) -> usize {
+        self.totals[UNASSIGNED_SLOTS] as usize
+    }
+
+    /// The minutes of the slots that nobody owns, as they are kept with the rota: nothing is added up.
+    pub fn stored_uncovered_minutes(&self) -> u64 {
+        self.totals[UNCOVERED_MINUTES]
     }
 }

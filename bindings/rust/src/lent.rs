@@ -112,36 +112,39 @@
 //! # Ok::<(), boltraven::Refusal>(())
 //! ```
 //!
-//! A rota: its owners, sets and minutes; and a whole job.
+//! A rota: its owners, sets, minutes and totals; and a whole job.
 //!
 //! ```
 //! use boltraven::{lent, Draw, Fault, Refusal, Rule, LISTING_MOST};
 //!
 //! let (starts, ends, unit_starts, frozen) = ([0, 60], [60, 120], [0, 1], [0; 16]);
-//! let (mut avail, mut owners, mut sets, mut minutes) = ([0; 32], [0; 2], [0; 32], [0; 2]);
+//! let (mut avail, mut owners, mut sets, mut minutes, mut totals) = ([0; 32], [0; 2], [0; 32], [0; 2], [0; lent::TOTALS]);
 //! (avail[0], avail[16]) = (0b11, 0b10);
-//! lent::empty(2, 2, &mut owners, &mut sets, &mut minutes)?;
-//! assert_eq!((owners, lent::unassigned_count(2, 2, &owners)?), ([lent::NOBODY; 2], 2));
-//! lent::assign(2, 2, &starts, &ends, &avail, &mut owners, &mut sets, &mut minutes, 0, 0)?;
+//! lent::empty(2, 2, &starts, &ends, &mut owners, &mut sets, &mut minutes, &mut totals)?;
+//! assert_eq!((owners, totals, lent::unassigned_count(2, 2, &owners)?), ([lent::NOBODY; 2], [120, 2], 2));
+//! lent::assign(2, 2, &starts, &ends, &avail, &mut owners, &mut sets, &mut minutes, &mut totals, 0, 0)?;
 //! let mut out = 0;
 //! lent::uncovered_minutes(2, 2, &starts, &ends, &owners, &mut out)?;
-//! assert_eq!(out, 60);
+//! assert_eq!((out, totals[lent::UNCOVERED_MINUTES], totals[lent::UNASSIGNED_SLOTS]), (60, 60, 1));
 //!
 //! owners = [0, 0];
-//! lent::from_slots(2, 2, &starts, &ends, &avail, &owners, &mut sets, &mut minutes)?;
+//! lent::from_slots(2, 2, &starts, &ends, &avail, &owners, &mut sets, &mut minutes, &mut totals)?;
+//! assert_eq!(totals, [0, 0]);
 //! let mut answers = [9; 1];
 //! lent::play(
-//!     2, 2, 2, 1, &starts, &ends, &avail, &unit_starts, &frozen, &[0], &[1], &[1], &mut owners, &mut sets, &mut minutes, &mut answers
+//!     2, 2, 2, 1, &starts, &ends, &avail, &unit_starts, &frozen, &[0], &[1], &[1], &mut owners, &mut sets, &mut minutes, &mut totals,
+//!     &mut answers
 //! )?;
 //! assert_eq!((answers, owners, lent::owner_of_slot(2, 2, &owners, 1)?), ([0], [0, 1], 1));
 //! let draws = [Draw { draw: 0, first: 1, second: 0 }];
 //! lent::play_draws(
-//!     2, 2, 2, 1, &starts, &ends, &avail, &unit_starts, &frozen, &draws, &mut owners, &mut sets, &mut minutes, &mut answers
+//!     2, 2, 2, 1, &starts, &ends, &avail, &unit_starts, &frozen, &draws, &mut owners, &mut sets, &mut minutes, &mut totals, &mut answers
 //! )?;
 //! assert_eq!((answers, owners), ([0], [0, 0]));
 //! let (mut kinds, mut firsts, mut seconds) = ([9; 2], [9; 2], [9; 2]);
 //! assert!(lent::way_back(
-//!     2, 2, 2, &starts, &ends, &avail, &unit_starts, &frozen, &[0, 1], &owners, &sets, &minutes, &mut kinds, &mut firsts, &mut seconds, &mut out
+//!     2, 2, 2, &starts, &ends, &avail, &unit_starts, &frozen, &[0, 1], &owners, &sets, &minutes, &totals, &mut kinds, &mut firsts,
+//!     &mut seconds, &mut out
 //! )?);
 //! assert_eq!((out, kinds, firsts, seconds), (1, [0, 9], [1, 9], [1, 9]));
 //! lent::minutes_of(2, &minutes, 0, &mut out)?;
@@ -158,9 +161,12 @@
 //! );
 //! assert_eq!(slot, 0);
 //!
+//! totals[1] = 7;
+//! let units = lent::recount(2, 2, 2, &starts, &ends, &avail, &unit_starts, &owners, &sets, &minutes, &totals);
+//! assert_eq!(units, Err(Refusal::Recount(Fault::WrongTotal { total: 1 })));
 //! minutes[0] = 7;
-//! let units = lent::recount(2, 2, 2, &starts, &ends, &avail, &unit_starts, &owners, &sets, &minutes);
-//! let slots = lent::recount_slots(2, 2, &starts, &ends, &avail, &owners, &sets, &minutes);
+//! let units = lent::recount(2, 2, 2, &starts, &ends, &avail, &unit_starts, &owners, &sets, &minutes, &totals);
+//! let slots = lent::recount_slots(2, 2, &starts, &ends, &avail, &owners, &sets, &minutes, &totals);
 //! let wrong = Refusal::Recount(Fault::WrongMinutes { person: 0 });
 //! assert_eq!((units, slots), (Err(wrong), Err(wrong)));
 //!
@@ -217,6 +223,15 @@ pub const SLOTS_MOST: usize = 1024;
 
 /// The owner of a slot that nobody holds.
 pub const NOBODY: u8 = 255;
+
+/// The totals kept with a rota, and where each stands.
+pub const TOTALS: usize = 2;
+
+/// The place of the minutes of the slots that nobody owns.
+pub const UNCOVERED_MINUTES: usize = 0;
+
+/// The place of the number of slots that nobody owns.
+pub const UNASSIGNED_SLOTS: usize = 1;
 
 /// What holds a slot of a set: [`run_bounds`] answers it.
 #[derive(Debug, Clone, Copy, PartialEq, Eq, Hash)]
@@ -593,33 +608,37 @@ exports! {
         priors: &[u32], out: &mut [i64]
     ) -> Result<(), Refusal> = done(u8);
 
-    // ---- a rota: its owners, everybody's set of slots and minutes
+    // ---- a rota: its owners, everybody's set of slots and minutes, and what nobody owns, in minutes and in slots
 
-    /// Sets and minutes from owners. Refusals: 1, 2, 9, 11, 12.
+    /// Sets, minutes and totals from owners. Refusals: 1, 2, 9, 11, 12.
     pub fn from_slots(
-        people: usize, slots: usize, starts: &[u32], ends: &[u32], avail: &[u64], owners: &[u8], sets: &mut [u64], minutes: &mut [u64]
+        people: usize, slots: usize, starts: &[u32], ends: &[u32], avail: &[u64], owners: &[u8], sets: &mut [u64], minutes: &mut [u64],
+        totals: &mut [u64]
     ) -> Result<(), Refusal> = done(u8);
 
-    /// An empty rota: nobody owns a slot, and sets and minutes are cleared. Refusals: 1, 2.
-    pub fn empty(people: usize, slots: usize, owners: &mut [u8], sets: &mut [u64], minutes: &mut [u64]) -> Result<(), Refusal> = done(u8);
+    /// An empty rota: nobody owns a slot, sets and minutes are cleared, and all is uncovered. Refusals: 1, 2, 9.
+    pub fn empty(
+        people: usize, slots: usize, starts: &[u32], ends: &[u32], owners: &mut [u8], sets: &mut [u64], minutes: &mut [u64],
+        totals: &mut [u64]
+    ) -> Result<(), Refusal> = done(u8);
 
     /// A slot assigned to a person, or cleared by 255. It asks nothing of units, so 10.3 never comes. Refusals: 1, 2, 9 to 12.
     pub fn assign(
         people: usize, slots: usize, starts: &[u32], ends: &[u32], avail: &[u64], owners: &mut [u8], sets: &mut [u64], minutes: &mut [u64],
-        slot: usize, owner: u8
+        totals: &mut [u64], slot: usize, owner: u8
     ) -> Result<(), Refusal> = placed(u64);
 
     /// Plays draws, given as three columns: an answer byte each, 0 acted, 1 no move, 2 a choice outside. Refusals: 1, 2, 9, 10.
     pub fn play(
         people: usize, slots: usize, units: usize, count: usize, starts: &[u32], ends: &[u32], avail: &[u64], unit_starts: &[u16],
         frozen: &[u64], draws: &[u16], firsts: &[u16], seconds: &[u16], owners: &mut [u8], sets: &mut [u64], minutes: &mut [u64],
-        answers: &mut [u8]
+        totals: &mut [u64], answers: &mut [u8]
     ) -> Result<(), Refusal> = placed(u64);
 
     /// Plays draws as they stand: an answer byte each, 0 acted, 1 no move, 2 a choice outside. Refusals: 1, 2, 9, 10.
     pub fn play_draws(
         people: usize, slots: usize, units: usize, count: usize, starts: &[u32], ends: &[u32], avail: &[u64], unit_starts: &[u16],
-        frozen: &[u64], draws: &[Draw], owners: &mut [u8], sets: &mut [u64], minutes: &mut [u64], answers: &mut [u8]
+        frozen: &[u64], draws: &[Draw], owners: &mut [u8], sets: &mut [u64], minutes: &mut [u64], totals: &mut [u64], answers: &mut [u8]
     ) -> Result<(), Refusal> = placed(u64);
 
     /// The way back to remembered owners, one byte a slot: for each unit whose owner differs a draw 0 to its remembered owner, ascending, in
@@ -628,20 +647,20 @@ exports! {
     /// is frozen. What stands against the rota, up to 10, comes before 10.3, 11 and 12 of the remembered owners. Refusals: 1, 2, 9 to 12.
     pub fn way_back(
         people: usize, slots: usize, units: usize, starts: &[u32], ends: &[u32], avail: &[u64], unit_starts: &[u16], frozen: &[u64],
-        remembered: &[u8], owners: &[u8], sets: &[u64], minutes: &[u64], draws: &mut [u16], firsts: &mut [u16], seconds: &mut [u16],
-        told: &mut u64
+        remembered: &[u8], owners: &[u8], sets: &[u64], minutes: &[u64], totals: &[u64], draws: &mut [u16], firsts: &mut [u16],
+        seconds: &mut [u16], told: &mut u64
     ) -> Result<bool, Refusal> = led(u64);
 
-    /// Whether owners, units, sets and minutes fit together, as a play asks it first; where not, the first part that fails and its lowest
+    /// Whether owners, units, sets, minutes and totals fit together, as a play asks it first; where not, the first part that fails and its lowest
     /// place. Refusals: 1, 2, 9, 10.
     pub fn recount(
         people: usize, slots: usize, units: usize, starts: &[u32], ends: &[u32], avail: &[u64], unit_starts: &[u16], owners: &[u8], sets: &[u64],
-        minutes: &[u64]
+        minutes: &[u64], totals: &[u64]
     ) -> Result<(), Refusal> = placed(u64);
 
     /// The same without units, as a single assign asks it: 10.3 never comes. Refusals: 1, 2, 9, 10.
     pub fn recount_slots(
-        people: usize, slots: usize, starts: &[u32], ends: &[u32], avail: &[u64], owners: &[u8], sets: &[u64], minutes: &[u64]
+        people: usize, slots: usize, starts: &[u32], ends: &[u32], avail: &[u64], owners: &[u8], sets: &[u64], minutes: &[u64], totals: &[u64]
     ) -> Result<(), Refusal> = placed(u64);
 
     /// The owner of a slot: a person's number, or 255 for nobody. Refusals: 1, 2, 11.
@@ -650,10 +669,10 @@ exports! {
     /// A person's minutes. Refusals: 1, 2, 11.
     pub fn minutes_of(people: usize, minutes: &[u64], person: usize, out: &mut u64) -> Result<(), Refusal> = done(u8);
 
-    /// The slots that nobody owns. Refusals: 1, 2, 11.
+    /// The slots that nobody owns, counted by the owners. Refusals: 1, 2, 11.
     pub fn unassigned_count(people: usize, slots: usize, owners: &[u8]) -> Result<usize, Refusal> = number(u64);
 
-    /// The minutes of the slots that nobody owns. Refusals: 1, 2, 9, 11.
+    /// The minutes of the slots that nobody owns, added up by the owners. Refusals: 1, 2, 9, 11.
     pub fn uncovered_minutes(
         people: usize, slots: usize, starts: &[u32], ends: &[u32], owners: &[u8], out: &mut u64
     ) -> Result<(), Refusal> = done(u8);

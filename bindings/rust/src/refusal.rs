@@ -73,14 +73,14 @@ refusals! {
     Settings = 7, "Fairness, lock, boundary, every-count, weekday mask, shift days, cap or rest are outside their limits.";
     Target = 8, "An unrounded target is not finite, or of size 2^40 or more.";
     Slots = 9, "Lent slots are empty, reversed, too late or overlap, or unit starts don't rise from 0 below the slot count.";
-    Recount(Fault) = 10, "The recount fails: owners, units, sets and minutes don't fit together.";
+    Recount(Fault) = 10, "The recount fails: owners, units, sets, minutes and totals don't fit together.";
     Unknown = 11, "A slot, unit, person or index is not below its count, or no saved settings have the number.";
     Unavailable = 12, "A person is to get a slot for which they aren't available.";
     JobFile = 13, "The job file or the store of settings breaks its layout or is too long.";
 }
 
-/// Where a recount failed. The parts are checked in this order over the whole rota, and the lowest slot, unit or person at fault is named:
-/// of a wrong set the lowest person, and that person's lowest slot.
+/// Where a recount failed. The parts are checked in this order over the whole rota, and the lowest slot, unit, person or total at fault is
+/// named: of a wrong set the lowest person, and that person's lowest slot.
 ///
 /// ```
 /// use boltraven::Fault;
@@ -119,10 +119,15 @@ pub enum Fault {
         /// The lowest such person.
         person: usize,
     },
+    /// 10.6: a stored total isn't that of the slots that nobody owns.
+    WrongTotal {
+        /// The lower such total: 0 the uncovered minutes, 1 the unassigned slots.
+        total: usize,
+    },
 }
 
 impl Fault {
-    /// Its part, 1 to 5, place and second number, which all parts but 4 have as 0.
+    /// Its part, 1 to 6, place and second number, which all parts but 4 have as 0.
     const fn numbers(self) -> (u8, usize, usize) {
         match self {
             Fault::UnknownOwner { slot } => (1, slot, 0),
@@ -130,6 +135,7 @@ impl Fault {
             Fault::UnevenUnit { unit } => (3, unit, 0),
             Fault::WrongSet { person, slot } => (4, person, slot),
             Fault::WrongMinutes { person } => (5, person, 0),
+            Fault::WrongTotal { total } => (6, total, 0),
         }
     }
 
@@ -138,7 +144,7 @@ impl Fault {
         self.numbers().0
     }
 
-    /// The slot, unit or person at fault.
+    /// The slot, unit, person or total at fault.
     pub const fn place(self) -> usize {
         self.numbers().1
     }
@@ -156,6 +162,7 @@ impl Fault {
             (3, 0) => Some(Fault::UnevenUnit { unit: place }),
             (4, slot) => Some(Fault::WrongSet { person: place, slot }),
             (5, 0) => Some(Fault::WrongMinutes { person: place }),
+            (6, 0) => Some(Fault::WrongTotal { total: place }),
             _ => None,
         }
     }
@@ -170,6 +177,12 @@ impl fmt::Display for Fault {
             Fault::UnevenUnit { unit } => write!(f, "unit {unit} has more than one owner"),
             Fault::WrongSet { person, slot } => write!(f, "person {person}'s set is wrong at slot {slot}"),
             Fault::WrongMinutes { person } => write!(f, "person {person}'s minutes are wrong"),
+            Fault::WrongTotal { total } => {
+                write!(
+                    f,
+                    "stored total {total} is wrong (0 is the uncovered minutes, 1 the unassigned slots)"
+                )
+            }
         }
     }
 }

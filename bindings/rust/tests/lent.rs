@@ -49,6 +49,7 @@ fn every_fault_has_its_numbers_and_sentence() {
         (Fault::UnevenUnit { unit: 7 }, 3, 7, 0),
         (Fault::WrongSet { person: 31, slot: 1023 }, 4, 31, 1023),
         (Fault::WrongMinutes { person: 31 }, 5, 31, 0),
+        (Fault::WrongTotal { total: 1 }, 6, 1, 0),
     ];
     let table = rows(include_str!("../../../tools/faults.txt"));
     assert_eq!(table.len(), faults.len());
@@ -125,23 +126,37 @@ fn a_rota_keeps_what_lies_past_its_ends() {
     let mut owners = vec![0, 0, 77];
     let mut sets = vec![SPARE; 33];
     let mut minutes = vec![SPARE; 3];
-    let made = lent::from_slots(2, 2, &STARTS, &ENDS, &avail(), &owners, &mut sets, &mut minutes);
+    let mut totals = vec![SPARE; 3];
+    let made = lent::from_slots(2, 2, &STARTS, &ENDS, &avail(), &owners, &mut sets, &mut minutes, &mut totals);
     assert_eq!(made, Ok(()));
     assert_eq!(minutes, [120, 0, SPARE]);
+    assert_eq!(totals, [0, 0, SPARE]);
     assert_eq!((sets[0], sets[SET_WORDS]), (SPARE | 0b11, SPARE & !0b11));
     assert!(sets.iter().enumerate().all(|(k, &word)| k == 0 || k == SET_WORDS || word == SPARE));
 
     // Person 1 can't have slot 0, and there is no slot 2: nothing changes.
-    let before = (owners.clone(), sets.clone(), minutes.clone());
+    let before = (owners.clone(), sets.clone(), minutes.clone(), totals.clone());
     for (slot, owner, refusal) in [(0, 1, Refusal::Unavailable), (2, 0, Refusal::Unknown), (0, 2, Refusal::Unknown)] {
-        let refused = lent::assign(2, 2, &STARTS, &ENDS, &avail(), &mut owners, &mut sets, &mut minutes, slot, owner);
+        let refused = lent::assign(
+            2,
+            2,
+            &STARTS,
+            &ENDS,
+            &avail(),
+            &mut owners,
+            &mut sets,
+            &mut minutes,
+            &mut totals,
+            slot,
+            owner,
+        );
         assert_eq!(refused, Err(refusal));
-        assert_eq!((&owners, &sets, &minutes), (&before.0, &before.1, &before.2));
+        assert_eq!((&owners, &sets, &minutes, &totals), (&before.0, &before.1, &before.2, &before.3));
     }
 
     let mut answers = [9; 4];
     let frozen = [SPARE & !0b11; SET_WORDS];
-    let mut play = |owners: &mut [u8], minutes: &mut [u64]| {
+    let mut play = |owners: &mut [u8], minutes: &mut [u64], totals: &mut [u64]| {
         let (draws, firsts, seconds) = ([0, 100, 35], [1, 0, 0], [1, 0, 9]);
         lent::play(
             2,
@@ -159,19 +174,28 @@ fn a_rota_keeps_what_lies_past_its_ends() {
             owners,
             &mut sets,
             minutes,
+            totals,
             &mut answers,
         )
     };
+    let wrong = |fault| Err(Refusal::Recount(fault));
+    totals[1] += 1;
+    assert_eq!(play(&mut owners, &mut minutes, &mut totals), wrong(Fault::WrongTotal { total: 1 }));
+    totals[0] += 1;
+    assert_eq!(play(&mut owners, &mut minutes, &mut totals), wrong(Fault::WrongTotal { total: 0 }));
     minutes[0] += 1;
     assert_eq!(
-        play(&mut owners, &mut minutes),
-        Err(Refusal::Recount(Fault::WrongMinutes { person: 0 }))
+        play(&mut owners, &mut minutes, &mut totals),
+        wrong(Fault::WrongMinutes { person: 0 })
     );
+    assert_eq!(play(&mut owners, &mut minutes, &mut totals[..1]), Err(Refusal::ShortBuffer));
     minutes[0] -= 1;
-    assert_eq!(play(&mut owners, &mut minutes), Ok(()));
+    totals[..2].fill(0);
+    assert_eq!(play(&mut owners, &mut minutes, &mut totals), Ok(()));
     assert_eq!(answers, [0, 2, 2, 9]);
     assert_eq!(owners, [0, 1, 77]);
     assert_eq!(minutes, [60, 60, SPARE]);
+    assert_eq!(totals, [0, 0, SPARE]);
 }
 
 #[test]

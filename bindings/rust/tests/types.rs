@@ -113,8 +113,8 @@ fn rotas_refuse_and_stay() {
         rota.play(&problem, &[draw, first, draw]),
         Ok(vec![Answer::Acted, Answer::NoMove, Answer::NoMove])
     );
-    assert_eq!(rota.unassigned_count(), 1);
-    assert_eq!(rota.uncovered_minutes(&problem), Ok(60));
+    assert_eq!((rota.unassigned_count(), rota.stored_unassigned_count()), (1, 1));
+    assert_eq!((rota.uncovered_minutes(&problem), rota.stored_uncovered_minutes()), (Ok(60), 60));
 }
 
 #[test]
@@ -122,12 +122,22 @@ fn a_unit_with_two_owners_fails_the_recount() {
     let problem = Problem::build(PAIRS, &days(4), &[ONE; 2], &[always(0), always(1)]).expect("it is taken");
     let mut rota = Assignment::empty(&problem);
     assert_eq!(rota.recount(&problem), Ok(()));
+    assert_eq!((rota.stored_uncovered_minutes(), rota.stored_unassigned_count()), (240, 4));
     assert_eq!(rota.assign(&problem, 3, Some(1)), Ok(()));
+    assert_eq!((rota.stored_uncovered_minutes(), rota.stored_unassigned_count()), (180, 3));
     let uneven = Refusal::Recount(Fault::UnevenUnit { unit: 1 });
     assert_eq!(rota.recount(&problem), Err(uneven));
     assert_eq!(rota.play(&problem, &[]), Err(uneven));
     assert_eq!(rota.assign(&problem, 2, Some(1)), Ok(()));
     assert_eq!(rota.recount(&problem), Ok(()));
+    // The first pair, which nobody owns, goes whole to person 0.
+    let pair = Draw {
+        draw: 0,
+        first: 0,
+        second: 0,
+    };
+    assert_eq!(rota.play(&problem, &[pair]), Ok(vec![Answer::Acted]));
+    assert_eq!((rota.stored_uncovered_minutes(), rota.stored_unassigned_count()), (0, 0));
     assert_eq!(problem.unit_of_slot(4), Err(Refusal::Unknown));
     assert_eq!(problem.rotation_slots(2), Err(Refusal::Unknown));
 }

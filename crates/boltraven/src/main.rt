@@ -156,7 +156,7 @@ fn print_asked(word: &[u8]) {
         return;
     }
     if stored::same_raws(word, b"--version") {
-        io::write_all(STDOUT_FILENO, b"boltraven 0.3.0\n");
+        io::write_all(STDOUT_FILENO, b"boltraven 0.4.0\n");
         return;
     }
     if is_option(word) {

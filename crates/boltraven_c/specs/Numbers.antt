@@ -16,9 +16,9 @@ use Rattle.slotset.specs.declared.NextRun.the-variants as nextRun
 use Rattle.slotset.specs.declared.NextMember.{NextMember}
 use Rattle.slotset.specs.declared.NextMember.the-variants as nextMember
 
--- the version 0.3.0: ten thousand times 0, a hundred times 3, and 0
+-- the version 0.4.0: ten thousand times 0, a hundred times 4, and 0
 abbrev pub versionNumber : ℕ
-versionNumber = 300
+versionNumber = 400
 
 -- a refusal that may name a place: the number in bits 0 to 7, the part in bits 8 to 15, the place in bits 16 to 31, the second place in
 -- bits 32 to 47; 0 where nothing is refused

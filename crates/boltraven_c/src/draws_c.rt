@@ -21,13 +21,14 @@ pub extern "C" fn boltraven_play_draws(
     owners: &mut [u8],
     sets: &mut [u64],
     minutes: &mut [u64],
+    totals: &mut [u64],
     answers: &mut [u8],
 ) -> u64
     ensures { λ r. ⌜ EndedAs
         (playedDraws (plan people slots (now (starts .entry)) (now (ends .entry))) (now (avail .entry)) units (now («unit_starts» .entry))
-        (now (frozen .entry)) count (now (draws .entry)) (now (owners .entry)) (derived (now (sets .entry)) (now (minutes .entry)))
-        (now (answers .entry)))
-        r (now (owners .exit)) (derived (now (sets .exit)) (now (minutes .exit))) (now (answers .exit)) ⌝ }
+        (now (frozen .entry)) count (now (draws .entry)) (now (owners .entry)) (derived (now (sets .entry)) (now (minutes .entry))
+        (now (totals .entry))) (now (answers .entry)))
+        r (now (owners .exit)) (derived (now (sets .exit)) (now (minutes .exit)) (now (totals .exit))) (now (answers .exit)) ⌝ }
 {
     refusal_number(rota::draws::play(
         people,
@@ -43,6 +44,7 @@ pub extern "C" fn boltraven_play_draws(
         owners,
         sets,
         minutes,
+        totals,
         answers,
     ))
 }

@@ -27,11 +27,12 @@ pub extern "C" fn boltraven_recount(
     owners: &[u8],
     sets: &[u64],
     minutes: &[u64],
+    totals: &[u64],
 ) -> u64
     ensures { λ r. ⌜ r ≡ refusalNumber (refusalOf (recountRow true (leb units (length (now («unit_starts» .entry))))
         (plan people slots (now (starts .entry))
         (now (ends .entry))) (now (avail .entry)) units (now («unit_starts» .entry)) (now (owners .entry)) (derived (now (sets .entry))
-        (now (minutes .entry))))) ⌝ }
+        (now (minutes .entry)) (now (totals .entry))))) ⌝ }
 {
     refusal_number(owners::recount(
         people,
@@ -44,6 +45,7 @@ pub extern "C" fn boltraven_recount(
         owners,
         sets,
         minutes,
+        totals,
     ))
 }
 
@@ -58,14 +60,25 @@ pub extern "C" fn boltraven_recount_slots(
     owners: &[u8],
     sets: &[u64],
     minutes: &[u64],
+    totals: &[u64],
 ) -> u64
     ensures { λ r. ⌜ r ≡ refusalNumber (refusalOf (recountSlotsRow (plan people slots (now (starts .entry)) (now (ends .entry)))
-        (now (avail .entry)) (now (owners .entry)) (derived (now (sets .entry)) (now (minutes .entry))))) ⌝ }
+        (now (avail .entry)) (now (owners .entry)) (derived (now (sets .entry)) (now (minutes .entry)) (now (totals .entry))))) ⌝ }
 {
-    refusal_number(owners::recount_slots(people, slots, starts, ends, avail, owners, sets, minutes))
+    refusal_number(owners::recount_slots(
+        people,
+        slots,
+        starts,
+        ends,
+        avail,
+        owners,
+        sets,
+        minutes,
+        totals,
+    ))
 }
 
-// Sets and minutes from owners.
+// Sets, minutes and totals from owners.
 #[no_mangle]
 pub extern "C" fn boltraven_from_slots(
     people: usize,
@@ -76,29 +89,44 @@ pub extern "C" fn boltraven_from_slots(
     owners: &[u8],
     sets: &mut [u64],
     minutes: &mut [u64],
+    totals: &mut [u64],
 ) -> u8
     ensures { λ r. ⌜ Ended
         (fromSlots (plan people slots (now (starts .entry)) (now (ends .entry))) (now (avail .entry)) (now (owners .entry))
-        (derived (now (sets .entry)) (now (minutes .entry))))
-        (placeless r) (now (owners .entry)) (derived (now (sets .exit)) (now (minutes .exit))) [] ⌝ }
+        (derived (now (sets .entry)) (now (minutes .entry)) (now (totals .entry))))
+        (placeless r) (now (owners .entry)) (derived (now (sets .exit)) (now (minutes .exit)) (now (totals .exit))) [] ⌝ }
 {
-    owners::from_slots(people, slots, starts, ends, avail, owners, sets, minutes)
+    owners::from_slots(
+        people,
+        slots,
+        starts,
+        ends,
+        avail,
+        owners,
+        sets,
+        minutes,
+        totals,
+    )
 }
 
-// An empty rota: nobody owns a slot, and sets and minutes are cleared.
+// An empty rota: nobody owns a slot, sets and minutes are cleared, and all is uncovered.
 #[no_mangle]
 pub extern "C" fn boltraven_empty(
     people: usize,
     slots: usize,
+    starts: &[u32],
+    ends: &[u32],
     owners: &mut [u8],
     sets: &mut [u64],
     minutes: &mut [u64],
+    totals: &mut [u64],
 ) -> u8
     ensures { λ r. ⌜ Ended
-        (emptied people slots (now (owners .entry)) (derived (now (sets .entry)) (now (minutes .entry))))
-        (placeless r) (now (owners .exit)) (derived (now (sets .exit)) (now (minutes .exit))) [] ⌝ }
+        (emptied (plan people slots (now (starts .entry)) (now (ends .entry))) (now (owners .entry))
+        (derived (now (sets .entry)) (now (minutes .entry)) (now (totals .entry))))
+        (placeless r) (now (owners .exit)) (derived (now (sets .exit)) (now (minutes .exit)) (now (totals .exit))) [] ⌝ }
 {
-    owners::empty(people, slots, owners, sets, minutes)
+    owners::empty(people, slots, starts, ends, owners, sets, minutes, totals)
 }
 
 // The owner of a slot: a person's number, or 255 for nobody.

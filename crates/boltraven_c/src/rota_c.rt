@@ -16,13 +16,14 @@ pub extern "C" fn boltraven_assign(
     owners: &mut [u8],
     sets: &mut [u64],
     minutes: &mut [u64],
+    totals: &mut [u64],
     slot: usize,
     owner: u8,
 ) -> u64
     ensures { λ r. ⌜ EndedAs
         (assigned (plan people slots (now (starts .entry)) (now (ends .entry))) (now (avail .entry)) (now (owners .entry))
-        (derived (now (sets .entry)) (now (minutes .entry))) slot owner)
-        r (now (owners .exit)) (derived (now (sets .exit)) (now (minutes .exit))) [] ⌝ }
+        (derived (now (sets .entry)) (now (minutes .entry)) (now (totals .entry))) slot owner)
+        r (now (owners .exit)) (derived (now (sets .exit)) (now (minutes .exit)) (now (totals .exit))) [] ⌝ }
 {
     refusal_number(rota::assignment::assign(
         people,
@@ -33,6 +34,7 @@ pub extern "C" fn boltraven_assign(
         owners,
         sets,
         minutes,
+        totals,
         slot,
         owner,
     ))
@@ -56,13 +58,14 @@ pub extern "C" fn boltraven_play(
     owners: &mut [u8],
     sets: &mut [u64],
     minutes: &mut [u64],
+    totals: &mut [u64],
     answers: &mut [u8],
 ) -> u64
     ensures { λ r. ⌜ EndedAs
         (played (plan people slots (now (starts .entry)) (now (ends .entry))) (now (avail .entry)) units (now («unit_starts» .entry))
         (now (frozen .entry)) count (now (draws .entry)) (now (firsts .entry)) (now (seconds .entry)) (now (owners .entry))
-        (derived (now (sets .entry)) (now (minutes .entry))) (now (answers .entry)))
-        r (now (owners .exit)) (derived (now (sets .exit)) (now (minutes .exit))) (now (answers .exit)) ⌝ }
+        (derived (now (sets .entry)) (now (minutes .entry)) (now (totals .entry))) (now (answers .entry)))
+        r (now (owners .exit)) (derived (now (sets .exit)) (now (minutes .exit)) (now (totals .exit))) (now (answers .exit)) ⌝ }
 {
     refusal_number(rota::play::play(
         people,
@@ -80,6 +83,7 @@ pub extern "C" fn boltraven_play(
         owners,
         sets,
         minutes,
+        totals,
         answers,
     ))
 }

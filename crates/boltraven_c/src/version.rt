@@ -2,8 +2,8 @@
 ghost use mathlib.Core.Path.{_≡_};
 ghost use Rattle.boltraven_c.specs.Numbers.{versionNumber};
 
-// 0.3.0.
-const VERSION: u32 = 300;
+// 0.4.0.
+const VERSION: u32 = 400;
 
 // Ten thousand times the major number, a hundred times the minor one, and the patch.
 #[no_mangle]

@@ -21,6 +21,7 @@ pub extern "C" fn boltraven_way_back(
     owners: &[u8],
     sets: &[u64],
     minutes: &[u64],
+    totals: &[u64],
     draws: &mut [u16],
     firsts: &mut [u16],
     seconds: &mut [u16],
@@ -28,7 +29,7 @@ pub extern "C" fn boltraven_way_back(
 ) -> u64
     ensures { λ r. ⌜ WayEnds (wayBack (plan people slots (now (starts .entry)) (now (ends .entry))) (now (avail .entry)) units (now
         («unit_starts» .entry)) (now (frozen .entry)) (now (remembered .entry)) (now (owners .entry)) (derived (now (sets .entry)) (now
-        (minutes .entry))) (now (draws .entry)) (now (firsts .entry)) (now (seconds .entry))) (now (told .entry)) r (now (draws .exit))
+        (minutes .entry)) (now (totals .entry))) (now (draws .entry)) (now (firsts .entry)) (now (seconds .entry))) (now (told .entry)) r (now (draws .exit))
         (now (firsts .exit)) (now (seconds .exit)) (now (told .exit)) ⌝ }
 {
     let way = wayback::way_back(
@@ -44,6 +45,7 @@ pub extern "C" fn boltraven_way_back(
         owners,
         sets,
         minutes,
+        totals,
         draws,
         firsts,
         seconds,

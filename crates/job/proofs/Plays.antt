@@ -15,7 +15,7 @@ use Rattle.paper.proofs.Count.{each-all}
 use Rattle.slotset.specs.Slots.{slot}
 use Rattle.slots.specs.Lent.{demandOf, minutesAs}
 use Rattle.slots.specs.declared.Minutes.the-variants as minutes
-use Rattle.owners.specs.Derived.{Plan, Derived, knownBy, worked, uncovered, afresh}
+use Rattle.owners.specs.Derived.{Plan, Derived, knownBy, worked, uncovered, totalOf, afresh}
 use Rattle.owners.specs.Inside.{PlanSound}
 use Rattle.owners.specs.Recount.{availableFor, knownAt, recounts}
 use Rattle.rota.specs.Moves.{Draw}
@@ -88,30 +88,13 @@ module _ (R : Ready) (d : Draws) (o : List ℕ) (D : Derived) (e : playOf R d o 
   pub minutes-are : (p : ℕ) → p < R .people → getD (playOf R d o D .derived .minutes) p 0 ≡ worked P (playOf R d o D .owners) p
   minutes-are = right .minutes
 
-  -- U is a number
-  pub uncovered-answered : state.uncoveredIs P (playOf R d o D .owners) ≡ minutes.Is (uncovered P (playOf R d o D .owners))
-  unfolding state.uncoveredIs state.uncoveredRow minutesAs knownAt after
-  uncovered-answered =
-      let w = playOf R d o D .owners in
-      let g = asks .right .on in
-      let l = play-length (boardOf (R .people) (R .slots) (R .units) (R .avail) (R .begins) (R .frozen)) o drawn in
-      ap (λ (n : ℕ). minutesAs n (uncovered P w))
-      (all-pass (state.uncoveredRow P w) (
-        g .people,
-        (
-          g .count,
-          (
-            lent-room (R .slots) (R .starts) (R .ends) (g .lent),
-            (
-              le-leb (R .slots) (length w) (omega (arith, ap length owners-are, l, g .room .owners-room)),
-              (g .lent, (each-all (R .slots) (λ k. knownBy (R .people) (getD w k 0)) (right .known), tt)),
-            ),
-          ),
-        ),
-      ))
+  -- U is the stored total, which is that of the owners
+  pub uncovered-is : getD (playOf R d o D .derived .totals) 0 0 ≡ uncovered P (playOf R d o D .owners)
+  unfolding totalOf
+  uncovered-is = right .totals 0 (omega arith)
 
   -- all persons' minutes and U are the total of the slots
-  pub total-after : sum (R .people) (λ p. getD (playOf R d o D .derived .minutes) p 0) + uncovered P (playOf R d o D .owners)
+  pub total-after : sum (R .people) (λ p. getD (playOf R d o D .derived .minutes) p 0) + getD (playOf R d o D .derived .totals) 0 0
       ≡ demandOf (R .slots) (R .starts) (R .ends)
   total-after =
       promises.minutes-and-uncovered P plan-right (R .avail) (R .units) (R .begins) (playOf R d o D .owners) (playOf R d o D .derived)

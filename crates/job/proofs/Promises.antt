@@ -174,10 +174,10 @@ module _ (s x : List ℕ) where
     unfolding playedOf startedOf
     not-refused = rotas.play-refusal (readyOf s) (drawsOf s) (ownersOf s) (sound s (length x) pass) (free s (length x) pass)
 
-    -- U is a number: the reader that answers it is never refused
-    pub uncovered-answered : state.uncoveredIs (planOf (readyOf s)) (playedOf s .owners) ≡ minutes.Is (listedOf s .uncovered)
+    -- U is the minutes of the slots that nobody owns after the draws
+    pub uncovered-is : listedOf s .uncovered ≡ uncovered (planOf (readyOf s)) (playedOf s .owners)
     unfolding listedOf playedOf
-    uncovered-answered = plays.uncovered-answered (readyOf s) (drawsOf s) (ownersOf s) (startedOf s .derived) not-refused
+    uncovered-is = plays.uncovered-is (readyOf s) (drawsOf s) (ownersOf s) (startedOf s .derived) not-refused
 
     -- P minutes and U add up to the total of the base slots in the file
     pub total : sum (listedOf s .people) (λ p. getD (listedOf s .minutes) p 0) + listedOf s .uncovered ≡ baseTotal s
@@ -187,7 +187,7 @@ module _ (s x : List ℕ) where
 
     -- and so do they before the draws
     pub total-before : sum (listedOf s .people) (λ p. getD (startedOf s .derived .minutes) p 0)
-        + uncovered (planOf (readyOf s)) (ownersOf s) ≡ baseTotal s
+        + getD (startedOf s .derived .totals) 0 0 ≡ baseTotal s
     unfolding listedOf startedOf
     total-before =
         rotas.total-before (readyOf s) (drawsOf s) (ownersOf s) (sound s (length x) pass) (free s (length x) pass)
@@ -255,7 +255,8 @@ module _ (s x : List ℕ) where
         (eq-eqb _ 1 (frozen-there s (length x) pass some k h b))
 
     -- a covered slot stays covered
-    pub stays-covered : (k : ℕ) → k < listedOf s .slots → (getD (ownersOf s) k 0 ≡ nobody → ⊥) → getD (listedOf s .owners) k 0 ≡ nobody → ⊥
+    pub stays-covered : (k : ℕ) → k < listedOf s .slots → (getD (ownersOf s) k 0 ≡ nobody → ⊥) → getD (listedOf s .owners) k 0 ≡
+        nobody → ⊥
     unfolding listedOf playedOf startedOf
     stays-covered k h = plays.stays-covered (readyOf s) (drawsOf s) (ownersOf s) (startedOf s .derived) not-refused k h
 

@@ -183,7 +183,8 @@ module _ {s c b : List ℕ} (K : ReadOk s c b) where
 
   pub targets-are : (n : ℕ) (S E av : List ℕ) (cp : List Float) (pr : List ℕ) (st : Settings) (h : JobTargets) → cp ≡ capacitiesOf s
       → pr ≡ priorsOf s → st ≡ settingsIn s
-      → TargetsAs (targets.computeTargets (targets.given (getD c 2 0) n S E av cp pr (st .fairness) (st .edition)) (replicate 32 (pos 0))) h
+      → TargetsAs (targets.computeTargets (targets.given (getD c 2 0) n S E av cp pr (st .fairness) (st .edition)) (replicate 32 (pos
+      0))) h
       → TargetsAs (targetsIn s n S E av) h
   unfolding targetsIn
   targets-are n S E av cp pr st h p q t w =
@@ -203,7 +204,7 @@ module _ {s c b : List ℕ} (K : ReadOk s c b) where
       (D : UnitsAs (unitStartsIs st (S .count) (S .starts) (S .ends) (replicate 1024 0)) U)
       (E : OwnersAs s (getD b 5 0) (getD c 5 0) (S .count) (getD c 2 0) (U .count) (U .begins) O)
       (F : StartedAs (state.fromSlots (plan (getD c 2 0) (S .count) (S .starts) (S .ends)) (S .avail) (O .owners)
-      (derived (replicate 512 0) (replicate 32 0))) W)
+      (derived (replicate 512 0) (replicate 32 0) (replicate 2 0))) W)
       (G : fz ≡ frozenIn (S .count) (S .starts) (S .ends) (counted s 4) (instantOf s)) where
     abbrev got : Ready
     got = ready (getD c 2 0) (S .count) (S .starts) (S .ends) (S .avail) (U .count) (U .begins) fz (T .targets)
@@ -242,7 +243,7 @@ module _ {s c b : List ℕ} (K : ReadOk s c b) where
     owners-is = E .owners ∙ ap narrowed written-is
 
     started-is : state.fromSlots (plan (getD c 2 0) (S .count) (S .starts) (S .ends)) (S .avail) (O .owners)
-        (derived (replicate 512 0) (replicate 32 0)) ≡ startedOf s
+        (derived (replicate 512 0) (replicate 32 0) (replicate 2 0)) ≡ startedOf s
     unfolding startedOf startOf
     started-is = ap₂ (λ (R : Ready) (o : List ℕ). startOf R o) got-ready owners-is
 
@@ -290,6 +291,7 @@ module _ {s c b : List ℕ} (K : ReadOk s c b) where
           owners = O .owners;
           sets = W .sets;
           minutes = W .minutes;
+          totals = W .totals;
         })
     prepared-are f g h i =
         record {

@@ -24,11 +24,10 @@ use Rattle.job.specs.Listing.{Listed, listed, listingOf}
 use Rattle.job.specs.Stages.{counted, peopleOf, drawsOf, Ready, readyOf, ownersOf, planOf, playOf, startedOf, playedOf, listedOf}
 use Rattle.job.specs.Stages.{unevenOf}
 use Rattle.job.specs.Outcome.{AllPass, readRow, prepareRow, jobTests, refusalAt, Result, refusedAs, listedAs, jobResult, Ends}
-use Rattle.job.specs.Inside.{PlayedAs, readyBy, PreparedAs, minutesValue}
+use Rattle.job.specs.Inside.{PlayedAs, readyBy, PreparedAs}
 use Rattle.job.proofs.Tests.{Numbered, number-none, refusal-by, rest-number}
 use Rattle.job.proofs.Answered.{numbered, free, sound, targets-right}
 use Rattle.job.proofs.Rotas.{play-refusal}
-use Rattle.job.proofs.Plays.{uncovered-answered}
 
 -- ---- what is answered
 
@@ -71,7 +70,8 @@ module _ (s x : List ℕ) where
       refusal-by (λ n. refusalAt n (unevenOf s)) refl (jobTests s (length x))
       (refl, (refl, (refl, (refl, (refl, (refl, (refl, (refl, (refl, (refl, (refl, tt)))))))))))
 
-  pub prepare-refused : (f : Refusal) (n u : ℕ) → numberOf readTests ≡ 0 → n ≡ numberOf (prepareRow s) → u ≡ unevenOf s → f ≡ refusalAt n u
+  pub prepare-refused : (f : Refusal) (n u : ℕ) → numberOf readTests ≡ 0 → n ≡ numberOf (prepareRow s) → u ≡ unevenOf s → f ≡
+      refusalAt n u
       → (n ≡ 0 → ⊥) → Ends (jobResult s x) (answer.Refused f) x
   unfolding jobTests
   prepare-refused f n u z e q p h =
@@ -94,40 +94,37 @@ module _ (s x : List ℕ) where
         subst (λ (R : Ready). (k : ℕ) → k < R .people → mag (getD (R .targets) k (pos 0)) < 2 ^ 63) (sym (P .ready))
         (targets-right s (length x) pass .1)
 
-    module _ (y : Played) (Y : PlayedAs (playOf (readyBy p) (drawsOf s) (p .owners) (derived (p .sets) (p .minutes))) y) where
-      played-is : playOf (readyBy p) (drawsOf s) (p .owners) (derived (p .sets) (p .minutes)) ≡ playedOf s
+    module _ (y : Played) (Y : PlayedAs (playOf (readyBy p) (drawsOf s) (p .owners) (derived (p .sets) (p .minutes) (p .totals))) y) where
+      played-is : playOf (readyBy p) (drawsOf s) (p .owners) (derived (p .sets) (p .minutes) (p .totals)) ≡ playedOf s
       unfolding playedOf
       played-is =
-          ap₂ (λ (R : Ready) (o : List ℕ). playOf R (drawsOf s) o (derived (p .sets) (p .minutes))) (P .ready) (P .owners)
+          ap₂ (λ (R : Ready) (o : List ℕ). playOf R (drawsOf s) o (derived (p .sets) (p .minutes) (p .totals))) (P .ready) (P .owners)
           ∙ ap (λ (D : Derived). playOf (readyOf s) (drawsOf s) (ownersOf s) D) (P .derived)
 
       Z : PlayedAs (playedOf s) y
       Z = subst (λ (r : state.Outcome). PlayedAs r y) played-is Y
 
       -- what is listed, by what a play goes by and what it left
-      abbrev listedBy : Ready → List ℕ → List ℕ → List ℕ → Listed
-      listedBy R o m a =
-          listed (R .slots) (R .starts) (R .ends) o (R .people) m (R .targets) (drawsOf s .count) a
-          (minutesValue (state.uncoveredIs (planOf R) o))
+      abbrev listedBy : Ready → List ℕ → List ℕ → List ℕ → List ℕ → Listed
+      listedBy R o m t a =
+          listed (R .slots) (R .starts) (R .ends) o (R .people) m (R .targets) (drawsOf s .count) a (getD t 0 0)
 
-      listed-is : listedBy (readyBy p) (y .owners) (y .minutes) (y .answers) ≡ listedOf s
-      unfolding listedOf playedOf startedOf
+      listed-is : listedBy (readyBy p) (y .owners) (y .minutes) (y .totals) (y .answers) ≡ listedOf s
+      unfolding listedOf
       listed-is =
           let R = readyOf s in
           let r = playedOf s in
-          let no = play-refusal R (drawsOf s) (ownersOf s) (sound s (length x) pass) (free s (length x) pass) in
-          ap₂ (λ (Q : Ready) (o : List ℕ). listedBy Q o (y .minutes) (y .answers)) (P .ready) (Z .owners)
-          ∙ ap₂ (λ (m a : List ℕ). listedBy R (r .owners) m a) (Z .minutes) (Z .answers)
-          ∙ ap (λ (f : Minutes). listed (R .slots) (R .starts) (R .ends) (r .owners) (R .people) (r .derived .minutes) (R .targets)
-          (drawsOf s .count) (r .answers) (minutesValue f)) (uncovered-answered R (drawsOf s) (ownersOf s) _ no)
+          ap₂ (λ (Q : Ready) (o : List ℕ). listedBy Q o (y .minutes) (y .totals) (y .answers)) (P .ready) (Z .owners)
+          ∙ ap₂ (λ (m t : List ℕ). listedBy R (r .owners) m t (y .answers)) (Z .minutes) (Z .totals)
+          ∙ ap (listedBy R (r .owners) (r .derived .minutes) (r .derived .totals)) (Z .answers)
 
       pub job-listed : (d n : ℕ) (out : List ℕ) → d ≡ counted s 6
           → Wrote (listingOf (listed (p .slots) (p .starts) (p .ends) (y .owners) (p .people) (y .minutes) (p .targets) d (y .answers)
-          (minutesValue (state.uncoveredIs (planOf (readyBy p)) (y .owners))))) 0 x n out → Ends (jobResult s x) (answer.Length n) out
+          (getD (y .totals) 0 0))) 0 x n out → Ends (jobResult s x) (answer.Length n) out
       unfolding listedAs drawsOf
       job-listed d n out q w =
           let l = ap (λ (c : ℕ). listingOf (listed (p .slots) (p .starts) (p .ends) (y .owners) (p .people) (y .minutes) (p .targets) c
-          (y .answers) (minutesValue (state.uncoveredIs (planOf (readyBy p)) (y .owners))))) q ∙ ap listingOf listed-is in
+          (y .answers) (getD (y .totals) 0 0))) q ∙ ap listingOf listed-is in
           let v = subst (λ (t : List ℕ). Wrote t 0 x n out) l w in
           let t = answered-none none in
           let m : n ≡ length (listingOf (listedOf s)) = omega (arith, v .ends) in

@@ -14,7 +14,7 @@ use Rattle.paper.proofs.Logic.{and-true, people-says, slot-count-says}
 use Rattle.paper.proofs.Count.{each-all, all-each}
 use Rattle.slots.specs.Lent.{slotsOk, demandOf}
 use Rattle.units.specs.Units.{unitStart, unitEnd, unitsOk}
-use Rattle.owners.specs.Derived.{Plan, Derived, derived, knownBy, uncovered, afresh}
+use Rattle.owners.specs.Derived.{Plan, Derived, derived, knownBy, afresh}
 use Rattle.owners.specs.Inside.{InStep}
 use Rattle.owners.specs.Recount.{knownAt, availableAt, recounts}
 use Rattle.owners.specs.Entries as state
@@ -44,9 +44,9 @@ pub record RotaSound (R : Ready) (d : Draws) (o : List ℕ) : Type 0 where
   pub even : (u k : ℕ) → u < R .units → unitStart (R .begins) u ≤ k → k < unitEnd (R .slots) (R .units) (R .begins) u
       → getD o k 0 ≡ getD o (unitStart (R .begins) u) 0
 
--- sets and minutes before they are made
+-- sets, minutes and totals before they are made
 abbrev none : Derived
-none = derived (replicate 512 0) (replicate 32 0)
+none = derived (replicate 512 0) (replicate 32 0) (replicate 2 0)
 
 module _ (R : Ready) (d : Draws) (o : List ℕ) (H : RotaSound R d o) where
   abbrev P : Plan
@@ -77,6 +77,7 @@ module _ (R : Ready) (d : Draws) (o : List ℕ) (H : RotaSound R d o) where
         le-leb (R .slots) (length o) (H .owners-room),
         le-leb (16 * R .people) (length (replicate {A = ℕ} 512 0)) (omega (arith, few, length-replicate {A = ℕ} 512 0)),
         le-leb (R .people) (length (replicate {A = ℕ} 32 0)) (omega (arith, few, length-replicate {A = ℕ} 32 0)),
+        le-leb 2 (length (replicate {A = ℕ} 2 0)) (omega (arith, length-replicate {A = ℕ} 2 0)),
         H .lent,
         all-known,
       )
@@ -90,7 +91,7 @@ module _ (R : Ready) (d : Draws) (o : List ℕ) (H : RotaSound R d o) where
     in-step : InStep P o (afresh P o none)
     in-step =
         afresh-step P o none slots-few (H .owners-room) (omega (arith, few, length-replicate {A = ℕ} 512 0))
-        (omega (arith, few, length-replicate {A = ℕ} 32 0)) (H .known)
+        (omega (arith, few, length-replicate {A = ℕ} 32 0)) (omega (arith, length-replicate {A = ℕ} 2 0)) (H .known)
 
     recounted : recounts P (R .avail) (R .units) (R .begins) o (afresh P o none) ≡ true
     unfolding availableAt
@@ -102,6 +103,7 @@ module _ (R : Ready) (d : Draws) (o : List ℕ) (H : RotaSound R d o) where
           even = H .even;
           sets = in-step .sets;
           minutes = in-step .minutes;
+          totals = in-step .totals;
         }
 
     -- ---- the play is never refused
@@ -134,6 +136,7 @@ module _ (R : Ready) (d : Draws) (o : List ℕ) (H : RotaSound R d o) where
           le-leb (R .slots) (length o) (H .owners-room),
           le-leb (16 * R .people) (length (E .sets)) (in-step .sets-room),
           le-leb (R .people) (length (E .minutes)) (in-step .minutes-room),
+          le-leb 2 (length (E .totals)) (in-step .totals-room),
           play-room,
           H .lent,
           H .units-ok,
@@ -144,9 +147,10 @@ module _ (R : Ready) (d : Draws) (o : List ℕ) (H : RotaSound R d o) where
     unfolding playOf rota.playedList state.outcome
     play-refusal = ap (λ (E : Derived). playOf R d o E .refusal .number) started ∙ said _ refl ∙ play-none
 
-    -- all persons' minutes and the uncovered ones are the total of the slots
-    pub total-before : sum (R .people) (λ p. getD (startOf R o .derived .minutes) p 0) + uncovered P o
+    -- all persons' minutes and the stored uncovered ones are the total of the slots
+    pub total-before : sum (R .people) (λ p. getD (startOf R o .derived .minutes) p 0) + getD (startOf R o .derived .totals) 0 0
         ≡ demandOf (R .slots) (R .starts) (R .ends)
     total-before =
-        ap (λ (E : Derived). sum (R .people) (λ p. getD (E .minutes) p 0) + uncovered P o) started
-        ∙ minutes-and-uncovered P (plan-sound P (H .people-ok) (H .count-ok) (H .lent)) (R .avail) (R .units) (R .begins) o (afresh P o none) recounted
+        ap (λ (E : Derived). sum (R .people) (λ p. getD (E .minutes) p 0) + getD (E .totals) 0 0) started
+        ∙ minutes-and-uncovered P (plan-sound P (H .people-ok) (H .count-ok) (H .lent)) (R .avail) (R .units) (R .begins) o (afresh P
+        o none) recounted

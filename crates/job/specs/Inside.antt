@@ -7,8 +7,6 @@ use lib.ListN.{length, getD}
 use Rattle.paper.specs.Limits.{Test, test, numberOf}
 use Rattle.slotset.specs.Answers.{numberRefusal}
 use Rattle.slots.specs.Atomic as atomic
-use Rattle.slots.specs.declared.Minutes.{Minutes}
-use Rattle.slots.specs.declared.Minutes.the-variants as minutes
 use Rattle.units.specs.Answers.{Written}
 use Rattle.targets.specs.Outcome as targets
 use Rattle.owners.specs.Derived.{derived}
@@ -74,18 +72,20 @@ pub record OwnersAs (s : List ℕ) (at n slots people units : ℕ) (begins : Lis
   pub uneven : r .uneven ≡ unevenIn slots units begins (placed s at slots n)
   pub owners : r .owners ≡ narrowed (placed s at slots n)
 
--- sets and minutes, and the play, as the rota gives them
+-- sets, minutes and totals, and the play, as the rota gives them
 pub record StartedAs (y : state.Outcome) (r : Started) : Type 0 where
   pub number : r .number ≡ y .refusal .number
-  pub derived : derived (r .sets) (r .minutes) ≡ y .derived
+  pub derived : derived (r .sets) (r .minutes) (r .totals) ≡ y .derived
 
 pub record PlayedAs (y : state.Outcome) (r : Played) : Type 0 where
   pub number : r .number ≡ y .refusal .number
   pub owners : r .owners ≡ y .owners
   pub minutes : r .minutes ≡ y .derived .minutes
+  pub totals : r .totals ≡ y .derived .totals
   pub answers : r .answers ≡ y .answers
   pub owners-room : length (r .owners) ≡ 1024
   pub minutes-room : length (r .minutes) ≡ 32
+  pub totals-room : length (r .totals) ≡ 2
   pub answers-room : length (r .answers) ≡ 1024
 
 -- what a play goes by, of a prepared job; and that it was prepared from the file s
@@ -98,7 +98,7 @@ pub record PreparedAs (s : List ℕ) (r : Prepared) : Type 0 where
   pub uneven : r .uneven ≡ unevenOf s
   pub ready : readyBy r ≡ readyOf s
   pub owners : r .owners ≡ ownersOf s
-  pub derived : derived (r .sets) (r .minutes) ≡ startedOf s .derived
+  pub derived : derived (r .sets) (r .minutes) (r .totals) ≡ startedOf s .derived
   pub slots-few : r .slots ≤ 1024
   pub people-few : r .people ≤ 32
   pub starts-room : length (r .starts) ≡ 1024
@@ -106,8 +106,3 @@ pub record PreparedAs (s : List ℕ) (r : Prepared) : Type 0 where
   pub begins-room : length (r .begins) ≡ 1024
   pub frozen-room : length (r .frozen) ≡ 16
   pub targets-room : length (r .targets) ≡ 32
-
--- minutes that were asked for, 0 where refused
-abbrev pub minutesValue : Minutes → ℕ
-minutesValue (minutes.Is m) = m
-minutesValue (minutes.Refused k) = 0

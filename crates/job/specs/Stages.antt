@@ -18,7 +18,7 @@ use Rattle.units.specs.declared.Settings.{Settings}
 use Rattle.units.specs.Answers.{Written}
 use Rattle.units.specs.Starts.{unitStartsIs}
 use Rattle.targets.specs.Outcome as targets
-use Rattle.owners.specs.Derived.{Plan, plan, Derived, derived, knownBy, uncovered}
+use Rattle.owners.specs.Derived.{Plan, plan, Derived, derived, knownBy}
 use Rattle.owners.specs.Recount.{firstFail, evenAt}
 use Rattle.owners.specs.Entries as state
 use Rattle.rota.specs.Entries as rota
@@ -206,9 +206,9 @@ unevenOf s = unevenIn (readyOf s .slots) (readyOf s .units) (readyOf s .begins) 
 abbrev pub planOf : Ready → Plan
 planOf R = plan (R .people) (R .slots) (R .starts) (R .ends)
 
--- sets and minutes from the owners (12), and the play of the draws
+-- sets, minutes and totals from the owners (12), and the play of the draws
 unfoldable pub startOf : Ready → List ℕ → state.Outcome
-startOf R o = state.fromSlots (planOf R) (R .avail) o (derived (replicate 512 0) (replicate 32 0))
+startOf R o = state.fromSlots (planOf R) (R .avail) o (derived (replicate 512 0) (replicate 32 0) (replicate 2 0))
 
 unfoldable pub playOf : Ready → Draws → List ℕ → Derived → state.Outcome
 playOf R d o D =
@@ -221,10 +221,10 @@ startedOf s = startOf (readyOf s) (ownersOf s)
 unfoldable pub playedOf : List ℕ → state.Outcome
 playedOf s = playOf (readyOf s) (drawsOf s) (ownersOf s) (startedOf s .derived)
 
--- what is listed: P minutes and U are those of the owners after the draws
+-- what is listed: P minutes and U are those stored after the draws
 unfoldable pub listedOf : List ℕ → Listed
 listedOf s =
     let R = readyOf s in
     let y = playedOf s in
     listed (R .slots) (R .starts) (R .ends) (y .owners) (R .people) (y .derived .minutes) (R .targets) (drawsOf s .count) (y .answers)
-    (uncovered (planOf R) (y .owners))
+    (getD (y .derived .totals) 0 0)

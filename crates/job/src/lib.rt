@@ -52,11 +52,12 @@ pub struct JobOwners {
     pub owners: [u8; 1024],
 }
 
-// Sets and minutes from the owners, or the number of a refusal.
+// Sets, minutes and totals from the owners, or the number of a refusal.
 pub struct Started {
     pub number: u8,
     pub sets: [u64; 512],
     pub minutes: [u64; 32],
+    pub totals: [u64; 2],
 }
 
 // What a play goes by, and the rota before the draws; or the number of a refusal, and the lowest unit with two owners.
@@ -75,6 +76,7 @@ pub struct Prepared {
     pub owners: [u8; 1024],
     pub sets: [u64; 512],
     pub minutes: [u64; 32],
+    pub totals: [u64; 2],
 }
 
 // What a play leaves, or the number of a refusal.
@@ -82,6 +84,7 @@ pub struct Played {
     pub number: u8,
     pub owners: [u8; 1024],
     pub minutes: [u64; 32],
+    pub totals: [u64; 2],
     pub answers: [u8; 1024],
 }
 

@@ -144,7 +144,8 @@ fn put_slots(
 ) -> usize
     requires { ⌜ (n ≤ length (now starts)) × (n ≤ length (now ends)) × (n ≤ length (now owners)) ⌝ }
     requires { ⌜ at + length (lines (slotAt (now starts) (now ends) (now owners)) n) ≤ length (now out) ⌝ }
-    ensures { λ r. ⌜ Wrote (lines (slotAt (now (starts .entry)) (now (ends .entry)) (now (owners .entry))) n) at (now (out .entry)) r
+    ensures { λ r. ⌜ Wrote (lines (slotAt (now (starts .entry)) (now (ends .entry)) (now (owners .entry))) n) at (now (out
+        .entry)) r
         (now (out .exit)) ⌝ }
 {
     let mut next = at;
@@ -160,7 +161,8 @@ fn put_slots(
 fn put_people(out: &mut [u8], at: usize, n: usize, minutes: &[u64], targets: &[i64]) -> usize
     requires { ⌜ (n ≤ length (now minutes)) × (n ≤ length (now targets)) ⌝ }
     requires { ⌜ at + length (lines (personAt (now minutes) (now targets)) n) ≤ length (now out) ⌝ }
-    ensures { λ r. ⌜ Wrote (lines (personAt (now (minutes .entry)) (now (targets .entry))) n) at (now (out .entry)) r (now (out .exit)) ⌝ }
+    ensures { λ r. ⌜ Wrote (lines (personAt (now (minutes .entry)) (now (targets .entry))) n) at (now (out .entry)) r (now (out
+        .exit)) ⌝ }
 {
     let mut next = at;
     let mut k: usize = 0;
@@ -206,7 +208,8 @@ fn put_lines(
     requires { ⌜ length (listingOf (listed slots (now starts) (now ends) (now owners) people (now minutes) (now targets) draws
         (now answers) uncovered)) ≤ length (now out) ⌝ }
     ensures { λ r. ⌜ Wrote (listingOf (listed slots (now (starts .entry)) (now (ends .entry)) (now (owners .entry)) people
-        (now (minutes .entry)) (now (targets .entry)) draws (now (answers .entry)) uncovered)) 0 (now (out .entry)) r (now (out .exit)) ⌝ }
+        (now (minutes .entry)) (now (targets .entry)) draws (now (answers .entry)) uncovered)) 0 (now (out .entry)) r (now (out
+        .exit)) ⌝ }
 {
     let first = put_slots(out, 0, slots, starts, ends, owners);
     let second = put_people(out, first, people, minutes, targets);
@@ -233,7 +236,8 @@ pub(crate) fn put_listing(
     requires { ⌜ (people ≤ length (now minutes)) × (people ≤ length (now targets)) × (draws ≤ length (now answers)) ⌝ }
     requires { ⌜ ((p : ℕ) → p < people → mag (getD (now targets) p (pos 0)) < 2 ^ 63) ⌝ }
     ensures { λ r. ⌜ Wrote (listingOf (listed slots (now (starts .entry)) (now (ends .entry)) (now (owners .entry)) people
-        (now (minutes .entry)) (now (targets .entry)) draws (now (answers .entry)) uncovered)) 0 (now (out .entry)) r (now (out .exit)) ⌝ }
+        (now (minutes .entry)) (now (targets .entry)) draws (now (answers .entry)) uncovered)) 0 (now (out .entry)) r (now (out
+        .exit)) ⌝ }
 {
     put_lines(
         out,
@@ -308,8 +312,10 @@ fn put_part(out: &mut [u8], at: usize, part: u8, place: u64, second: u64) -> usi
 
 // The line of a refusal.
 fn put_refusal(out: &mut [u8], number: u8, part: u8, place: u64, second: u64) -> usize
-    requires { ⌜ length (refusalLine (record { number = number; part = part; place = place; second = second })) ≤ length (now out) ⌝ }
-    ensures { λ r. ⌜ Wrote (refusalLine (record { number = number; part = part; place = place; second = second })) 0 (now (out .entry)) r
+    requires { ⌜ length (refusalLine (record { number = number; part = part; place = place; second = second })) ≤ length (now
+        out) ⌝ }
+    ensures { λ r. ⌜ Wrote (refusalLine (record { number = number; part = part; place = place; second = second })) 0 (now (out
+        .entry)) r
         (now (out .exit)) ⌝ }
 {
     if part == 0 {

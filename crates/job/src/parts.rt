@@ -49,7 +49,8 @@ pub(crate) fn atoms_of(
     shuts: &[u32],
 ) -> Atoms
     ensures { λ r. ⌜ AtomsAs (atomiseOf (base slots (now (starts .entry)) (now (ends .entry)) people
-        (ranges count (now (persons .entry)) (now (opens .entry)) (now (shuts .entry))) (replicate 1024 0) (replicate 1024 0))) r ⌝ }
+        (ranges count (now (persons .entry)) (now (opens .entry)) (now (shuts .entry))) (replicate 1024 0) (replicate 1024 0))) r
+        ⌝ }
 {
     let mut froms = [0u32; 1024];
     let mut tos = [0u32; 1024];

@@ -67,7 +67,8 @@ fn targets_in(
     avail: &[u64],
 ) -> JobTargets
     requires { ⌜ ReadOk (now file) counts blocks ⌝ }
-    ensures { λ r. ⌜ TargetsAs (targetsIn (now (file .entry)) slots (now (starts .entry)) (now (ends .entry)) (now (avail .entry))) r ⌝ }
+    ensures { λ r. ⌜ TargetsAs (targetsIn (now (file .entry)) slots (now (starts .entry)) (now (ends .entry)) (now (avail
+        .entry))) r ⌝ }
 {
     let people = counts[2];
     let at = blocks[2];
@@ -137,6 +138,7 @@ pub(crate) fn prepare(file: &[u8], counts: [usize; 8], blocks: [usize; 8]) -> Pr
     let targets = t.targets;
     let sets = r.sets;
     let minutes = r.minutes;
+    let totals = r.totals;
     let figures = first_number(t.number, u.number);
     let rota = first_number(o.number, r.number);
     let rest = first_number(figures, rota);
@@ -156,5 +158,6 @@ pub(crate) fn prepare(file: &[u8], counts: [usize; 8], blocks: [usize; 8]) -> Pr
         owners,
         sets,
         minutes,
+        totals,
     }
 }

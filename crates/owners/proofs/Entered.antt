@@ -30,7 +30,8 @@ use Rattle.owners.specs.Entries.{emptyRow, emptied, placeless, uncovered
 
 -- ---- what the first tests leave known
 
-pub plan-sound : (P : Plan) → peopleOk (P .people) ≡ true → slotCountOk (P .slots) ≡ true → slotsOk (P .slots) (P .starts) (P .ends) ≡ true
+pub plan-sound : (P : Plan) → peopleOk (P .people) ≡ true → slotCountOk (P .slots) ≡ true → slotsOk (P .slots) (P .starts) (P .ends)
+    ≡ true
     → PlanSound P
 plan-sound P a b c =
     let p = people-says (P .people) a in
@@ -80,7 +81,8 @@ lent-row-right counts room P avail o D z =
 -- ---- what the recount leaves known
 
 ten : (a b c d e f : Bool)
-    → _≡_ {A = ℕ} (cond a (cond b (cond c (cond d (cond e (cond f 0 10) 10) 10) 10) 10) 10) (cond (a && (b && (c && (d && (e && f))))) 0 10)
+    → _≡_ {A = ℕ} (cond a (cond b (cond c (cond d (cond e (cond f 0 10) 10) 10) 10) 10) 10) (cond (a && (b && (c && (d && (e &&
+    f))))) 0 10)
 ten false b c d e f = refl
 ten true false c d e f = refl
 ten true true false d e f = refl
@@ -149,7 +151,8 @@ module _ (P : Plan) (avail : List ℕ) (units : ℕ) (begins o : List ℕ) (D : 
   unfolding recounts recountTests numberOf
   recount-number =
       ten (all (P .slots) (knownAt (P .people) o)) (all (P .slots) (availableAt avail o)) (all units (evenAt (P .slots) units begins o))
-      (all (P .people) (setAt (P .slots) o (D .sets))) (all (P .people) (minutesOkAt P o (D .minutes))) (all 2 (totalOkAt P o (D .totals)))
+      (all (P .people) (setAt (P .slots) o (D .sets))) (all (P .people) (minutesOkAt P o (D .minutes))) (all 2 (totalOkAt P o (D
+      .totals)))
 
   -- the first refusal of the whole row: of lent columns and units, or else of the six
   module _ (counts room : Bool) (f g : Refusal) (ef : f ≡ refusalOf (lentRow counts room P avail o D))

@@ -157,7 +157,8 @@ module _ (P : Plan) (S : PlanSound P) (o : List ℕ) (D₀ : Derived) where
               ∙ afresh-owners P next-owners (cut (P .slots) e o) D₀ next);
           totals =
               ap (λ (d : Derived). d .totals) q ∙ ap₂ (λ (x : ℕ) (l : List ℕ). moreTotals w x (e - i) l) few (M .totals)
-              ∙ totals-given P o (D₀ .totals) i e w le (O .within) (O .each) (S .lent .demand-fits) (S .slots-few) (M .makes .totals-room);
+              ∙ totals-given P o (D₀ .totals) i e w le (O .within) (O .each) (S .lent .demand-fits) (S .slots-few) (M .makes
+              .totals-room);
           makes = M .makes;
           fit = M .fit;
         }
@@ -207,7 +208,8 @@ module _ (P : Plan) (S : PlanSound P) (o : List ℕ) (s₀ m₀ t₀ s m t : Lis
       (λ p k h g.
       ap (λ (x : List ℕ). slot x (16 * p) k) es
       ∙ sets-in (P .slots) (nobodies (P .slots)) s₀ (S .slots-few) (P .people) (M .sets-room) p k h g
-      ∙ held-same (nobodies (P .slots)) (cut (P .slots) 0 o) p k (nobody-at (P .slots) k g ∙ sym (cut-after (P .slots) 0 o l k zero-le g)))
+      ∙ held-same (nobodies (P .slots)) (cut (P .slots) 0 o) p k (nobody-at (P .slots) k g ∙ sym (cut-after (P .slots) 0 o l k
+      zero-le g)))
 
   cleared-minutes : m ≡ over (worked P (cut (P .slots) 0 o)) (P .people) m
   cleared-minutes =

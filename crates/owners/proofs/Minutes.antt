@@ -152,7 +152,8 @@ portion-none w p = by-test (eqb w p) _ (λ t. simp t) (λ f. simp f)
 -- m slots from a on go from old to w
 fill-owned : (n : ℕ) (len : ℕ → ℕ) (o : List ℕ) (p a m old w : ℕ) → a + m ≤ n → n ≤ length o
     → ((k : ℕ) → a ≤ k → k < a + m → getD o k 0 ≡ old)
-    → ownedOf n len (fill w a m o) p + portion old p (sum m (λ j. len (a + j))) ≡ ownedOf n len o p + portion w p (sum m (λ j. len (a + j)))
+    → ownedOf n len (fill w a m o) p + portion old p (sum m (λ j. len (a + j))) ≡ ownedOf n len o p + portion w p (sum m (λ j. len (a
+    + j)))
 unfolding fill sum
 fill-owned n len o p a zero old w h r s = omega (arith, portion-none old p, portion-none w p)
 fill-owned n len o p a (suc m) old w h r s =
@@ -183,7 +184,8 @@ pub worked-over : (P : Plan) (o : List ℕ) (p a e old w : ℕ) → a ≤ e → 
     → ((k : ℕ) → a ≤ k → k < e → getD o k 0 ≡ old)
     → worked P (fill w a (e - a) o) p + portion old p (minutesIn P a e) ≡ worked P o p + portion w p (minutesIn P a e)
 unfolding worked ownedOf stretchMinutes sumIn
-worked-over P o p a e old w h g r s = fill-owned (P .slots) (lengthAt P) o p a (e - a) old w (omega arith) r (λ k x y. s k x (omega arith))
+worked-over P o p a e old w h g r s = fill-owned (P .slots) (lengthAt P) o p a (e - a) old w (omega arith) r (λ k x y. s k x (omega
+    arith))
 
 -- ---- how many slots nobody owns
 
@@ -198,7 +200,8 @@ unfolding unassigned count ownedOf portion
 unassigned-over n o a e old w h g r s =
     let x = fill-owned n (λ _. 1) o nobody a (e - a) old w (omega arith) r (λ k x y. s k x (omega arith)) in
     let y = ones (e - a) in
-    ap (λ (k : ℕ). unassigned n (fill w a (e - a) o) + portion old nobody k) (sym y) ∙ x ∙ ap (λ (k : ℕ). unassigned n o + portion w nobody k) y
+    ap (λ (k : ℕ). unassigned n (fill w a (e - a) o) + portion old nobody k) (sym y) ∙ x ∙ ap (λ (k : ℕ). unassigned n o + portion w
+    nobody k) y
 
 -- ---- the first slots alone
 

@@ -32,7 +32,8 @@ use Rattle.owners.proofs.Sets.{length-sets, sets-fit, sets-in, sets-aga
 
 -- columns that are the same make the same record
 pub derived-same : {s s′ m m′ t t′ : List ℕ} → s ≡ s′ → m ≡ m′ → t ≡ t′ → _≡_ {A = Derived} (derived s m t) (derived s′ m′ t′)
-derived-same {s} {s′} {m} {m′} {t} {t′} p q r = ap₂ {C = Derived} (λ (x y : List ℕ). derived x y t) p q ∙ ap {B = Derived} (derived s′ m′) r
+derived-same {s} {s′} {m} {m′} {t} {t′} p q r = ap₂ {C = Derived} (λ (x y : List ℕ). derived x y t) p q ∙ ap {B = Derived} (derived
+    s′ m′) r
 
 -- what is worked out afresh forgets what was there before
 pub afresh-again : (P : Plan) (o o′ : List ℕ) (D : Derived) → P .slots ≤ 1024 → 16 * P .people ≤ length (D .sets) → Fit (D .sets)
@@ -281,7 +282,8 @@ module _ (P : Plan) (S : PlanSound P) (o : List ℕ) (D : Derived) (J : InStep P
       (ap (λ (x : ℕ). moreAt w x (lessAt old x (D .minutes))) n
       ∙ more-adds w t (lessAt old t (D .minutes)) (λ z. new-room z .1) ∙ minutes-handed)
       (ap (λ (x : ℕ). moreTotals w x (e - a) (lessTotals old x (e - a) (D .totals))) n
-      ∙ totals-handed P o (D .totals) a e old w le within (J .owners-room) owned (S .lent .demand-fits) (S .slots-few) (J .totals-room) (J .totals))
+      ∙ totals-handed P o (D .totals) a e old w le within (J .owners-room) owned (S .lent .demand-fits) (S .slots-few) (J
+      .totals-room) (J .totals))
 
   pub handed-step : InStep P (fill w a (e - a) o) (afresh P (fill w a (e - a) o) D)
   handed-step =

@@ -32,7 +32,8 @@ unfolding over
 two-set f t x y p q = ap₂ (λ (a b : ℕ). set (set t 0 a) 1 b) p q
 
 -- one entry after the other, f being the change
-pub one-by-one : (f : ℕ → ℕ → ℕ) (t t₁ t₂ : List ℕ) (n k v : ℕ) → t₁ ≡ set t 0 (f (getD t 0 0) n) → v ≡ k → t₂ ≡ set t₁ 1 (f (getD t₁ 1 0) v)
+pub one-by-one : (f : ℕ → ℕ → ℕ) (t t₁ t₂ : List ℕ) (n k v : ℕ) → t₁ ≡ set t 0 (f (getD t 0 0) n) → v ≡ k → t₂ ≡ set t₁ 1 (f (getD t₁
+    1 0) v)
     → t₂ ≡ set (set t 0 (f (getD t 0 0) n)) 1 (f (getD t 1 0) k)
 one-by-one f t t₁ t₂ n k v p q r =
     let x : getD t₁ 1 0 ≡ getD t 1 0 =
@@ -180,7 +181,8 @@ totals-none P o zero h = refl
 totals-none P o (suc i) h = refl
 
 -- only the owners below the slot count matter
-pub totals-owners : (P : Plan) (o o′ : List ℕ) → ((k : ℕ) → k < P .slots → getD o k 0 ≡ getD o′ k 0) → (i : ℕ) → totalOf P o i ≡ totalOf P o′ i
+pub totals-owners : (P : Plan) (o o′ : List ℕ) → ((k : ℕ) → k < P .slots → getD o k 0 ≡ getD o′ k 0) → (i : ℕ) → totalOf P o i ≡
+    totalOf P o′ i
 unfolding totalOf uncovered worked unassigned count
 totals-owners P o o′ h zero = sum-same (P .slots) _ _ (λ k l. ap (λ (w : ℕ). portion w nobody (lengthAt P k)) (h k l))
 totals-owners P o o′ h (suc i) = sum-same (P .slots) _ _ (λ k l. ap (λ (w : ℕ). cond (eqb w nobody) 1 0) (h k l))

@@ -189,7 +189,8 @@ pub fn hand_over(
     to: u8,
 )
     ensures { λ _. ⌜ (now (owners .exit) ≡ fill to a (e - a) (now (owners .entry))) × (derived (now (sets .exit)) (now (minutes
-        .exit)) (now (totals .exit)) ≡ carried (plan people slots (now (starts .entry)) (now (ends .entry))) a e (getD (now (owners .entry)) a 0) to
+        .exit)) (now (totals .exit)) ≡ carried (plan people slots (now (starts .entry)) (now (ends .entry))) a e (getD (now
+        (owners .entry)) a 0) to
         (derived (now (sets .entry)) (now (minutes .entry)) (now (totals .entry)))) ⌝ }
 {
     let old = owner_at(owners, a);
@@ -253,7 +254,8 @@ pub(crate) fn rebuild(
 )
     requires { ⌜ PlanSound (plan people slots (now starts) (now ends)) ⌝ }
     requires { ⌜ Makes (plan people slots (now starts) (now ends)) (now owners) (derived (now sets) (now minutes) (now totals)) ⌝ }
-    ensures { λ _. ⌜ derived (now (sets .exit)) (now (minutes .exit)) (now (totals .exit)) ≡ afresh (plan people slots (now (starts .entry)) (now (ends
+    ensures { λ _. ⌜ derived (now (sets .exit)) (now (minutes .exit)) (now (totals .exit)) ≡ afresh (plan people slots (now
+        (starts .entry)) (now (ends
         .entry))) (now (owners .entry)) (derived (now (sets .entry)) (now (minutes .entry)) (now (totals .entry))) ⌝ }
 {
     clear_sets(people, slots, sets);

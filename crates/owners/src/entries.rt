@@ -68,7 +68,8 @@ pub fn from_slots(
     totals: &mut [u64],
 ) -> u8
     ensures { λ r. ⌜ Ended (fromSlots (plan people slots (now (starts .entry)) (now (ends .entry))) (now (avail .entry)) (now
-        (owners .entry)) (derived (now (sets .entry)) (now (minutes .entry)) (now (totals .entry)))) (placeless r) (now (owners .entry)) (derived (now (sets .exit))
+        (owners .entry)) (derived (now (sets .entry)) (now (minutes .entry)) (now (totals .entry)))) (placeless r) (now (owners
+        .entry)) (derived (now (sets .exit))
         (now (minutes .exit)) (now (totals .exit))) [] ⌝ }
 {
     let n = from_slots_refusal(
@@ -107,10 +108,10 @@ fn empty_refusal(
     let f = paper::check_slots(f, slots);
     let f = slots::check_room(f, slots, starts, ends);
     let f = paper::check(f, slots <= owners.len(), 2);
-    let f = paper::check_words(f, people, sets);
-    let f = paper::check(f, people <= minutes.len(), 2);
-    let f = paper::check(f, 2 <= totals.len(), 2);
-    slots::check_order(f, slots, starts, ends, 9)
+    let g = paper::check_words(f, people, sets);
+    let g = paper::check(g, people <= minutes.len(), 2);
+    let g = paper::check(g, 2 <= totals.len(), 2);
+    slots::check_order(g, slots, starts, ends, 9)
 }
 
 // An empty rota: nobody owns a slot, and sets, minutes and totals say so. Refusals 1, 2, 9.
@@ -124,7 +125,8 @@ pub fn empty(
     minutes: &mut [u64],
     totals: &mut [u64],
 ) -> u8
-    ensures { λ r. ⌜ Ended (emptied (plan people slots (now (starts .entry)) (now (ends .entry))) (now (owners .entry)) (derived (now
+    ensures { λ r. ⌜ Ended (emptied (plan people slots (now (starts .entry)) (now (ends .entry))) (now (owners .entry)) (derived
+        (now
         (sets .entry)) (now (minutes .entry)) (now (totals .entry)))) (placeless r) (now (owners .exit)) (derived (now (sets .exit))
         (now (minutes .exit)) (now (totals .exit))) [] ⌝ }
 {
@@ -232,7 +234,8 @@ fn uncovered_refusal(
     ends: &[u32],
     owners: &[u8],
 ) -> Refusal
-    ensures { λ r. ⌜ r ≡ refusalOf (uncoveredRow (plan people slots (now (starts .entry)) (now (ends .entry))) (now (owners .entry))) ⌝ }
+    ensures { λ r. ⌜ r ≡ refusalOf (uncoveredRow (plan people slots (now (starts .entry)) (now (ends .entry))) (now (owners
+        .entry))) ⌝ }
 {
     let f = paper::check_people(paper::accepted(), people);
     let f = paper::check_slots(f, slots);

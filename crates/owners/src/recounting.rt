@@ -33,7 +33,8 @@ fn is_yes(answer: YesNo) -> bool
 
 // Whether everybody's sets are the right ones.
 fn sets_right(people: usize, slots: usize, sets: &[u64], right: &[u64]) -> bool
-    requires { ⌜ (1 ≤ people) × (people ≤ 32) × (slots ≤ 1024) × (16 * people ≤ length (now sets)) × (16 * people ≤ length (now right)) ⌝ }
+    requires { ⌜ (1 ≤ people) × (people ≤ 32) × (slots ≤ 1024) × (16 * people ≤ length (now sets)) × (16 * people ≤ length (now
+        right)) ⌝ }
     ensures { λ r. ⌜ r ≡ sameSets (now (sets .entry)) (now (right .entry)) people slots ⌝ }
 {
     is_yes(slotset::row::same_sets(people, slots, sets, right))
@@ -41,7 +42,8 @@ fn sets_right(people: usize, slots: usize, sets: &[u64], right: &[u64]) -> bool
 
 // The first person whose set is wrong, where somebody's is: by halves, since the sets of the first people are compared word by word.
 fn first_wrong_set(people: usize, slots: usize, sets: &[u64], right: &[u64]) -> usize
-    requires { ⌜ (1 ≤ people) × (people ≤ 32) × (slots ≤ 1024) × (16 * people ≤ length (now sets)) × (16 * people ≤ length (now right)) ⌝ }
+    requires { ⌜ (1 ≤ people) × (people ≤ 32) × (slots ≤ 1024) × (16 * people ≤ length (now sets)) × (16 * people ≤ length (now
+        right)) ⌝ }
     requires { ⌜ sameSets (now sets) (now right) people slots ≡ false ⌝ }
     ensures { λ r. ⌜ r ≡ firstFail people (sameSet slots (now (sets .entry)) (now (right .entry))) ⌝ }
 {
@@ -132,7 +134,8 @@ fn recount_refusal(
     requires { ⌜ PlanSound (plan people slots (now starts) (now ends)) ⌝ }
     requires { ⌜ RotaRoom people slots (now avail) (now owners) (derived (now sets) (now minutes) (now totals)) ⌝ }
     ensures { λ r. ⌜ r ≡ refusalOf (recountTests (plan people slots (now (starts .entry)) (now (ends .entry))) (now (avail .entry))
-        units (now (begins .entry)) (now (owners .entry)) (derived (now (sets .entry)) (now (minutes .entry)) (now (totals .entry)))) ⌝ }
+        units (now (begins .entry)) (now (owners .entry)) (derived (now (sets .entry)) (now (minutes .entry)) (now (totals
+        .entry)))) ⌝ }
 {
     let unknown = first_unknown(people, slots, owners);
     if unknown < slots {
@@ -166,7 +169,8 @@ pub fn recounted(
     totals: &[u64],
 ) -> Refusal
     ensures { λ r. ⌜ r ≡ refusalOf (recountRow counts room (plan people slots (now (starts .entry)) (now (ends .entry))) (now (avail
-        .entry)) units (now (begins .entry)) (now (owners .entry)) (derived (now (sets .entry)) (now (minutes .entry)) (now (totals .entry)))) ⌝ }
+        .entry)) units (now (begins .entry)) (now (owners .entry)) (derived (now (sets .entry)) (now (minutes .entry)) (now
+        (totals .entry)))) ⌝ }
 {
     let f = lent_refusal(
         counts,
@@ -212,7 +216,8 @@ pub fn recount_slots(
     minutes: &[u64],
     totals: &[u64],
 ) -> Refusal
-    ensures { λ r. ⌜ r ≡ refusalOf (recountSlotsRow (plan people slots (now (starts .entry)) (now (ends .entry))) (now (avail .entry))
+    ensures { λ r. ⌜ r ≡ refusalOf (recountSlotsRow (plan people slots (now (starts .entry)) (now (ends .entry))) (now (avail
+        .entry))
         (now (owners .entry)) (derived (now (sets .entry)) (now (minutes .entry)) (now (totals .entry)))) ⌝ }
 {
     let f = lent_refusal(
@@ -261,7 +266,8 @@ pub fn recount(
     minutes: &[u64],
     totals: &[u64],
 ) -> Refusal
-    ensures { λ r. ⌜ r ≡ refusalOf (recountRow true (leb units (length (now (begins .entry)))) (plan people slots (now (starts .entry))
+    ensures { λ r. ⌜ r ≡ refusalOf (recountRow true (leb units (length (now (begins .entry)))) (plan people slots (now (starts
+        .entry))
         (now (ends .entry))) (now (avail .entry)) units (now (begins .entry)) (now (owners .entry)) (derived (now (sets .entry))
         (now (minutes .entry)) (now (totals .entry)))) ⌝ }
 {

@@ -9,7 +9,7 @@ use lib.Dec.{leb}
 use lib.IntN.{pos}
 use lib.ListN.{length, replicate, length-replicate}
 use Rattle.paper.specs.Bits.{bitOf}
-use Rattle.paper.specs.Count.{all, allIn, sum}
+use Rattle.paper.specs.Count.{all, allIn, sum, count}
 use Rattle.paper.specs.Limits.{peopleOk, slotCountOk, countsOk, numberOf}
 use Rattle.paper.specs.Rows.{unless, refusalOf}
 use Rattle.slotset.specs.Slots.{slot, has}
@@ -32,8 +32,8 @@ use Rattle.units.specs.Domains.{available, unfrozen, clear, unitFrozen, unitFro
 use Rattle.units.specs.Domains.{unitDomainRow, unitDomainIs, unitDomainsRow}
 use Rattle.units.specs.Achievable.{achievableRunRow, achievableRunIs}
 use Rattle.targets.specs.Outcome as targets
-use Rattle.owners.specs.Derived.{knownBy, portion, worked, held}
-use Rattle.owners.specs.Recount.{knownAt, availableFor, availableAt, evenAt, setSlotAt, setAt, minutesOkAt, recountTests}
+use Rattle.owners.specs.Derived.{knownBy, portion, worked, held, uncovered, unassigned, totalOf}
+use Rattle.owners.specs.Recount.{knownAt, availableFor, availableAt, evenAt, setSlotAt, setAt, minutesOkAt, recountTests, totalOkAt}
 use Rattle.owners.specs.Entries as state
 use Rattle.rota.specs.Entries as rota
 use Rattle.rota.specs.Draws.{draws, firsts, seconds}
@@ -61,7 +61,8 @@ no-draws-played = ap (λ (y : state.Outcome). y .refusal .number) (draws-alike n
 pub each-accepts : EachAccepts
 unfolding numberOf refusalOf unless lengthRow slotRow stretchOk stretchRow setsRow personRow personStretchRow sameSetsRow runsRow
     changedAs newOf putOf
-    stretchOf loadOf yesNoAs numberAs minutesAs writtenAs spanAs peopleOk slotCountOk countsOk all allIn slotRoomOk slotsOk slotOkAt slotOk
+    stretchOf loadOf yesNoAs numberAs minutesAs writtenAs spanAs peopleOk slotCountOk countsOk all allIn slotRoomOk slotsOk slotOkAt
+    slotOk
     prevEnd rangeCountOk rangeRoomOk rangesOk rangeOkAt rangeOk lentRow slotMinutesRow demandIs slotMinutesIs mergedRow mergedRanges
     availabilityRow
     freezeRow freezeOf availableRow isAvailable unitsOk startOk unitsRow unitSlotsRow unitOfSlotRow unitCountIs unitSlotsIs unitOfSlotIs
@@ -70,7 +71,8 @@ unfolding numberOf refusalOf unless lengthRow slotRow stretchOk stretchRow setsR
     state.fromSlotsRow state.outcome state.lentRow state.emptied state.emptyRow rota.assigned rota.assignRow state.recountRow
     state.recountSlotsRow recountTests state.ownerIs state.ownerRow state.minutesIs state.minutesRow state.slotsOfIs state.unassignedIs
     state.unassignedRow state.uncoveredIs state.uncoveredRow knownBy knownAt availableFor availableAt available evenAt unitEnd setAt
-    setSlotAt held minutesOkAt worked portion sum minutesAt slot bitOf has unfrozen clear unitFrozen
+    setSlotAt held minutesOkAt totalOkAt totalOf uncovered unassigned count worked portion sum minutesAt slot bitOf has unfrozen
+    clear unitFrozen
 each-accepts = record {
   set-asked = refl;
   set-new = refl;

@@ -36,8 +36,8 @@ use Rattle.rota.specs.Board.{ownerOf, unowned}
 use Rattle.rota.specs.Lent.{fitsUnit, frozenUnit}
 use Rattle.rota.specs.Moves.{anyOf, decided, swapped, reassigned, picked, domainOf}
 use Rattle.rota.specs.Plays.{step, ownersAfter, drawsOf}
-use Rattle.owners.specs.Derived.{Plan, Derived, knownBy, portion, worked, held, setsFrom, afresh}
-use Rattle.owners.specs.Recount.{knownAt, availableFor, availableAt, evenAt, setSlotAt, setAt, minutesOkAt, recounts}
+use Rattle.owners.specs.Derived.{Plan, Derived, knownBy, portion, worked, held, setsFrom, afresh, uncovered, unassigned, totalOf}
+use Rattle.owners.specs.Recount.{knownAt, availableFor, availableAt, evenAt, setSlotAt, setAt, minutesOkAt, recounts, totalOkAt}
 use Rattle.owners.specs.Entries as state
 use Rattle.slots.specs.Lent.{minutesRefusal}
 use Rattle.owners.proofs.Entered.{recount-says}
@@ -59,7 +59,7 @@ use Rattle.promises.proofs.Rota.{asks, answered-total}
 
 -- nothing past what is needed, and these answers
 abbrev spare : List ℕ → Spare
-spare x = record { owners = []; sets = []; minutes = []; answers = x }
+spare x = record { owners = []; sets = []; minutes = []; totals = []; answers = x }
 
 -- owners 0 and 1, no draw
 abbrev still : Call
@@ -96,7 +96,7 @@ module _ (C : Component) (M : MarkedCases C) (T : RefusesByTable C) (S : SizesRe
   always-refusing-falls (refuses-play f) =
       f still (one-given _ _ _ (T still) (rota-refuses .play still .given)
       ∙ ap (λ (y : state.Outcome). y .refusal .number) (accepted-is still still-accepted))
-  always-refusing-falls (refuses-uncovered f) = f _ _ (ap minutesRefusal (U still still-accepted .1))
+  always-refusing-falls (refuses-uncovered f) = f _ _ (ap minutesRefusal (U still still-accepted .0))
 
 -- ---- one fixed answer
 
@@ -171,9 +171,9 @@ doing-nothing-keeps C f =
       λ c e k h owned now. owned (sym (same c k) ∙ now),
       λ tells c e.
           let t = answered-total c e (c .owners) (c .derived) (asks c e .right .on .room .owners-room) (accepted-says c e .recount) in (
-            t .0,
-            tells (c .plan) (C .play c .owners) ∙ ap (built .uncovered (c .plan)) (f .owners c) ∙ t .1,
-            ap (λ (D : Derived). sum (c .plan .people) (λ p. getD (D .minutes) p 0) + t .0) (f .derived c) ∙ t .2,
+            tells (c .plan) (C .play c .owners) ∙ ap (built .uncovered (c .plan)) (f .owners c) ∙ t .0
+                ∙ ap (λ (D : Derived). minutes.Is (getD (D .totals) 0 0)) (sym (f .derived c)),
+            ap (λ (D : Derived). sum (c .plan .people) (λ p. getD (D .minutes) p 0) + getD (D .totals) 0 0) (f .derived c) ∙ t .1,
           ),
     )
 
@@ -224,17 +224,17 @@ first-draw-only-falls C f g =
 
 -- both slots are person 0's; the second is nobody's
 abbrev both-his : Owned
-both-his = record { first = 0; second = 0; words0 = 3; words1 = 0; minutes0 = 120; minutes1 = 0 }
+both-his = record { first = 0; second = 0; words0 = 3; words1 = 0; minutes0 = 120; minutes1 = 0; uncovered = 0; unassigned = 0 }
 
 abbrev half : Owned
-half = record { first = 0; second = 255; words0 = 1; words1 = 0; minutes0 = 60; minutes1 = 0 }
+half = record { first = 0; second = 255; words0 = 1; words1 = 0; minutes0 = 60; minutes1 = 0; uncovered = 60; unassigned = 1 }
 
 abbrev at-rest : Owned → Call
 at-rest r = twoUnits r 0 0 [] [] [] (spare [])
 
 rest-accepted : (noOf (at-rest both-his) ≡ 0) × (noOf (at-rest half) ≡ 0)
 unfolding recounts all allIn knownAt knownBy availableAt availableFor available evenAt unitEnd setAt setSlotAt held minutesOkAt worked
-    portion sum minutesAt slot bitOf
+    portion sum minutesAt slot bitOf totalOkAt totalOf uncovered unassigned count
 rest-accepted = (
   accepted both-his 0 0 [] [] [] (spare []) refl refl refl refl (omega arith) refl,
   accepted half 0 0 [] [] [] (spare []) refl refl refl refl (omega arith) refl,
@@ -298,10 +298,12 @@ module _ (C : Component) (g : EndsAfresh C) where
   invented-uncovered-falls i f =
       let a = f (at-rest apart) still-accepted in
       let b = f (at-rest half) (rest-accepted .1) in
-      let q : minutes.Is (a .0) ≡ minutes.Is (b .0) = sym (a .1) ∙ i _ _ _ ∙ b .1 in
-      let z : a .0 ≡ b .0 = cc in
-      let s : 120 + a .0 ≡ 120 =
-      ap (λ (n : ℕ). n + a .0) (sym (ap minutes-in (g (at-rest apart) still-accepted) ∙ covered-sum)) ∙ a .2 ∙ both-hours in
-      let t : 60 + b .0 ≡ 120 =
-      ap (λ (n : ℕ). n + b .0) (sym (ap minutes-in (g (at-rest half) (rest-accepted .1)) ∙ half-sum)) ∙ b .2 ∙ both-hours in
+      let u = getD (C .play (at-rest apart) .derived .totals) 0 0 in
+      let v = getD (C .play (at-rest half) .derived .totals) 0 0 in
+      let q : minutes.Is u ≡ minutes.Is v = sym (a .0) ∙ i _ _ _ ∙ b .0 in
+      let z : u ≡ v = cc in
+      let s : 120 + u ≡ 120 =
+      ap (λ (n : ℕ). n + u) (sym (ap minutes-in (g (at-rest apart) still-accepted) ∙ covered-sum)) ∙ a .1 ∙ both-hours in
+      let t : 60 + v ≡ 120 =
+      ap (λ (n : ℕ). n + v) (sym (ap minutes-in (g (at-rest half) (rest-accepted .1)) ∙ half-sum)) ∙ b .1 ∙ both-hours in
       omega arith

@@ -13,7 +13,7 @@ use lib.ListN.{length, getD, drop, replicate, set, length-replicate, List·getD-
 use Rattle.paper.specs.Limits.{peopleOk, slotCountOk, countsOk, Test, numberOf}
 use Rattle.paper.specs.Bits.{bitOf}
 use Rattle.paper.specs.Rows.{unless, accepted as no-refusal}
-use Rattle.paper.specs.Count.{all, allIn, some, sum, among, over, fill, onto}
+use Rattle.paper.specs.Count.{all, allIn, some, sum, count, among, over, fill, onto}
 use Rattle.paper.proofs.Logic.{both, four, below-suc, lt-or-ge}
 use Rattle.paper.proofs.Count.{all-each}
 use Rattle.slotset.specs.Slots.{slot, withBit, putSlot, putSlots}
@@ -34,8 +34,8 @@ use Rattle.targets.specs.SecondEdition.{sharedOut}
 use Rattle.targets.specs.Outcome as targets
 use Rattle.targets.proofs.Accepted.{Lent}
 use Rattle.targets.proofs.Promises.{number-lent, when-accepted}
-use Rattle.owners.specs.Derived.{plan, derived, Derived, knownBy, portion, worked, uncovered, held, setsFrom, afresh}
-use Rattle.owners.specs.Recount.{knownAt, availableFor, availableAt, evenAt, setSlotAt, setAt, minutesOkAt, recounts}
+use Rattle.owners.specs.Derived.{plan, derived, Derived, knownBy, portion, worked, uncovered, unassigned, totalOf, held, setsFrom, afresh}
+use Rattle.owners.specs.Recount.{knownAt, availableFor, availableAt, evenAt, setSlotAt, setAt, minutesOkAt, recounts, totalOkAt}
 use Rattle.owners.specs.Entries.{Outcome, outcome, lentRow, fromSlotsRow, fromSlots}
 use Rattle.rota.specs.Board.{ownerOf, unowned}
 use Rattle.rota.specs.Lent.{fitsUnit, frozenUnit}
@@ -132,7 +132,8 @@ checked = targets.given 2 2 from to avail (G .capacities) (G .priors) 0 0
 
 targets-are : targets.computeTargets checked (replicate 32 (pos 0)) .out ≡ pos 80 ∷ pos 40 ∷ replicate 30 (pos 0)
 unfolding peopleOk slotCountOk slotRoomOk slotsOk slotOkAt slotOk prevEnd all allFiguresOk figuresOk le lt eq ofBits ofFields numberOf
-    demandOf sum minutesAt availableMinutes domains.available slot bitOf ofInt mul add div sub rounded within settled pass passes sharedOut adjusted
+    demandOf sum minutesAt availableMinutes domains.available slot bitOf ofInt mul add div sub rounded within settled pass passes
+    sharedOut adjusted
 targets-are =
     let out = replicate 32 (pos 0) in
     let l : Lent checked (length out) = record {
@@ -174,12 +175,13 @@ abbrev owners : List ℕ
 owners = 0 ∷ 0 ∷ replicate 1022 255
 
 abbrev before : Derived
-before = derived (set (replicate 512 0) 0 3) (120 ∷ 0 ∷ replicate 30 0)
+before = derived (set (replicate 512 0) 0 3) (120 ∷ 0 ∷ replicate 30 0) (0 ∷ 0 ∷ [])
 
-start-is : fromSlots (plan 2 2 from to) avail owners (derived (replicate 512 0) (replicate 32 0)) .derived ≡ before
-unfolding fromSlots fromSlotsRow lentRow outcome numberOf unless peopleOk slotCountOk slotRoomOk slotsOk slotOkAt slotOk prevEnd all knownAt
+start-is : fromSlots (plan 2 2 from to) avail owners (derived (replicate 512 0) (replicate 32 0) (replicate 2 0)) .derived ≡ before
+unfolding fromSlots fromSlotsRow lentRow outcome numberOf unless peopleOk slotCountOk slotRoomOk slotsOk slotOkAt slotOk prevEnd all
+    knownAt
     knownBy availableAt availableFor domains.available slot bitOf afresh setsFrom putSlots putSlot withBit held over worked portion sum
-    minutesAt
+    minutesAt totalOf uncovered unassigned count
 start-is = refl
 
 abbrev call : Call
@@ -199,8 +201,10 @@ call = record {
 }
 
 call-accepted : Accepted call
-unfolding roomOk countsOk peopleOk slotCountOk slotsOk slotRoomOk slotOkAt slotOk prevEnd all unitsOk startOk recounts allIn knownAt knownBy
+unfolding roomOk countsOk peopleOk slotCountOk slotsOk slotRoomOk slotOkAt slotOk prevEnd all unitsOk startOk recounts allIn knownAt
+    knownBy
     availableAt availableFor domains.available evenAt unitEnd setAt setSlotAt held minutesOkAt worked portion sum minutesAt slot bitOf
+    totalOkAt totalOf uncovered unassigned count
 call-accepted = record {
   counts = refl;
   few = refl;
@@ -219,12 +223,12 @@ call-accepted = record {
 after : playOf call ≡ record {
   refusal = no-refusal;
   owners = 0 ∷ 1 ∷ replicate 1022 255;
-  derived = derived (set (set (replicate 512 0) 0 1) 16 2) (60 ∷ 60 ∷ replicate 30 0);
+  derived = derived (set (set (replicate 512 0) 0 1) 16 2) (60 ∷ 60 ∷ replicate 30 0) (0 ∷ 0 ∷ []);
   answers = 0 ∷ drop 1 zeros;
 }
 unfolding drawsOf ownersAfter answers answer step onto decided anyOf reassigned picked domainOf unowned ownerOf frozenUnit
     domains.unitFrozen domains.clear domains.unfrozen allIn all among slot bitOf unitEnd fitsUnit domains.able domains.available afresh
-    setsFrom putSlots putSlot withBit held over fill worked portion sum minutesAt
+    setsFrom putSlots putSlot withBit held over fill worked portion sum minutesAt totalOf uncovered unassigned count
 after = accepted-is call (says-accepted call call-accepted)
 
 -- ---- the listing
@@ -256,19 +260,18 @@ listedOn Q D =
       answers = zeros;
     } in
     listed (Q .slots) (Q .starts) (Q .ends) (y .owners) (Q .people) (y .derived .minutes) (Q .targets) 1 (y .answers)
-    (uncovered P (y .owners))
+    (getD (y .derived .totals) 0 0)
 
 abbrev startOn : Ready → Derived
 startOn Q =
     let P = plan (Q .people) (Q .slots) (Q .starts) (Q .ends) in
-    fromSlots P (Q .avail) owners (derived (replicate 512 0) (replicate 32 0)) .derived
+    fromSlots P (Q .avail) owners (derived (replicate 512 0) (replicate 32 0) (replicate 2 0)) .derived
 
 listed-is : listedFrom G owners ≡ L
-unfolding uncovered worked portion sum minutesAt
 listed-is =
     ap (λ (Q : Ready). listedOn Q (startOn Q)) ready-is ∙ ap (listedOn R) start-is
     ∙ ap (λ (y : Outcome). listed 2 from to (y .owners) 2 (y .derived .minutes) (R .targets) 1 (y .answers)
-    (uncovered (plan 2 2 from to) (y .owners))) after
+    (getD (y .derived .totals) 0 0)) after
 
 -- ---- its file
 
@@ -399,9 +402,11 @@ module _ (x : List ℕ) (room : 65536 ≤ length x) where
       let p1 = more 0 (λ j h. absurd (omega arith)) (T .layout bytes .passes .1 job-file) in
       let p2 = more 1 p1 (T .counts job-file .passes .1 counts) in
       let p3 = more 2 p2 (T .room .passes .1 room) in
-      let p4 = more 3 p3 (T .base job-file p3 .passes .1 (given (λ (H : Given). SlotsRight (H .base) (H .starts) (H .ends)) slots-right)) in
+      let p4 = more 3 p3 (T .base job-file p3 .passes .1 (given (λ (H : Given). SlotsRight (H .base) (H .starts) (H .ends))
+      slots-right)) in
       let p5 = more 4 p4 (T .ranges job-file p4 .passes .1 (given (λ (H : Given). RangesRight (H .people) (H .ranges)) ranges-right)) in
-      let p6 = more 5 p5 (T .atoms job-file p5 .passes .1 (given (λ (H : Given). length (startsOfAtoms (baseFrom H)) ≤ 1024) atoms-few)) in
+      let p6 = more 5 p5 (T .atoms job-file p5 .passes .1 (given (λ (H : Given). length (startsOfAtoms (baseFrom H)) ≤ 1024)
+      atoms-few)) in
       let p7 = more 6 p6 (T .figures job-file p6 .passes .1
       (given (λ (H : Given). FiguresRight (H .people) (H .capacities) (H .priors)) figures-right)) in
       more 7 p7 (T .settings job-file p7 .passes .1 (given (λ (H : Given). SettingsRight (H .settings)) settings-right))

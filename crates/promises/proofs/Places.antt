@@ -19,7 +19,8 @@ use Rattle.paper.proofs.Rows.{numbered, said}
 use Rattle.slotset.specs.Slots.{slot}
 use Rattle.units.specs.Units.{unitStart, unitEnd, unitsOk}
 use Rattle.owners.specs.Derived.{Plan, Derived, worked, held}
-use Rattle.owners.specs.Recount.{firstFail, knownAt, availableAt, evenAt, setSlotAt, setAt, minutesOkAt, recountTests, recounts}
+use Rattle.owners.specs.Recount.{firstFail, knownAt, availableAt, evenAt, setSlotAt, setAt, minutesOkAt, totalOkAt, recountTests}
+use Rattle.owners.specs.Recount.{recounts}
 use Rattle.owners.specs.Entries.{placeless, Outcome, outcome, lentRow, recountRow, recountSlotsRow}
 use Rattle.owners.proofs.RecountRefusals.{first-on, first-stops}
 use Rattle.owners.proofs.Entered.{recount-number}
@@ -35,8 +36,8 @@ use Rattle.promises.specs.Entries.{Call, rowOf, playOf, playDrawsOf, ofD
 use Rattle.promises.specs.JobFields.{givenBy, readyFrom}
 use Rattle.promises.specs.JobTests.{AllRight, LowestFault, UnitEven}
 use Rattle.promises.specs.RotaRules.{PassesRecount}
-use Rattle.promises.specs.Places.{fault, OwnerKnown, OwnerAvailable, OneOwner, SlotRight, SetRight, MinutesRight, FailsAt, unknown}
-use Rattle.promises.specs.Places.{unavailable, uneven, wrong-set, wrong-minutes, Places, beforeRecount, PlacesByRule}
+use Rattle.promises.specs.Places.{fault, OwnerKnown, OwnerAvailable, OneOwner, SlotRight, SetRight, MinutesRight, TotalRight, FailsAt}
+use Rattle.promises.specs.Places.{unknown, unavailable, uneven, wrong-set, wrong-minutes, wrong-total, Places, beforeRecount, PlacesByRule}
 use Rattle.promises.proofs.Numbers.{none-given}
 use Rattle.promises.proofs.Tests.{known-test, available-test}
 use Rattle.promises.proofs.Lowest.{right-exactly, lowest-fault, fault-first}
@@ -80,6 +81,10 @@ module _ (P : Plan) (avail : List ℕ) (units : ℕ) (begins o : List ℕ) (D : 
   unfolding minutesOkAt
   minutes-tells p h = (eqb-true _ _, eq-eqb _ _)
 
+  total-tells : (i : ℕ) → i < 2 → (totalOkAt P o (D .totals) i ≡ true) ↔ TotalRight P o D i
+  unfolding totalOkAt
+  total-tells i h = (eqb-true _ _, eq-eqb _ _)
+
   -- ---- the recount by itself
 
   abbrev row : List Test
@@ -99,6 +104,9 @@ module _ (P : Plan) (avail : List ℕ) (units : ℕ) (begins o : List ℕ) (D : 
 
   sets : (all (P .people) (setAt (P .slots) o (D .sets)) ≡ true) ↔ AllRight (P .people) (SetRight P o D)
   sets = right-exactly (P .people) (setAt (P .slots) o (D .sets)) (SetRight P o D) set-tells
+
+  figures : (all (P .people) (minutesOkAt P o (D .minutes)) ≡ true) ↔ AllRight (P .people) (MinutesRight P o D)
+  figures = right-exactly (P .people) (minutesOkAt P o (D .minutes)) (MinutesRight P o D) minutes-tells
 
   -- a refusal of the recount is at a place
   abbrev Fails : Refusal → Type 0
@@ -120,7 +128,10 @@ module _ (P : Plan) (avail : List ℕ) (units : ℕ) (begins o : List ℕ) (D : 
       (λ b. by-test (all units (evenAt (P .slots) units begins o)) _
       (λ c. by-test (all (P .people) (setAt (P .slots) o (D .sets))) _
       (λ d. by-test (all (P .people) (minutesOkAt P o (D .minutes))) _
-      (λ e. absurd (n (simp (a, b, c, d, e))))
+      (λ e. by-test (all 2 (totalOkAt P o (D .totals))) _
+      (λ g. absurd (n (simp (a, b, c, d, e, g))))
+      (λ g. simp (a, b, c, d, e, g) (wrong-total _ refl (known .0 a) (free .0 b) (even .0 c) (sets .0 d) (figures .0 e)
+      (lowest-fault 2 (totalOkAt P o (D .totals)) (TotalRight P o D) total-tells g))))
       (λ e. simp (a, b, c, d, e) (wrong-minutes _ refl (known .0 a) (free .0 b) (even .0 c) (sets .0 d)
       (lowest-fault (P .people) (minutesOkAt P o (D .minutes)) (MinutesRight P o D) minutes-tells e))))
       (λ d.
@@ -152,6 +163,9 @@ module _ (P : Plan) (avail : List ℕ) (units : ℕ) (begins o : List ℕ) (D : 
   fails-is f (wrong-minutes p e K A U S L) =
       let x = fault-first (P .people) (minutesOkAt P o (D .minutes)) (MinutesRight P o D) minutes-tells p L in
       simp (known .1 K, free .1 A, even .1 U, sets .1 S, x .1) (ap (λ (i : ℕ). fault 5 i 0) (sym (x .0)) ∙ sym e)
+  fails-is f (wrong-total i e K A U S M L) =
+      let x = fault-first 2 (totalOkAt P o (D .totals)) (TotalRight P o D) total-tells i L in
+      simp (known .1 K, free .1 A, even .1 U, sets .1 S, figures .1 M, x .1) (ap (λ (j : ℕ). fault 6 j 0) (sym (x .0)) ∙ sym e)
 
   -- it passes or answers 10
   ten-or-none : (X : Type 0) → (refusalOf row ≡ accepted → X) → (refusalOf row .number ≡ 10 → Fails (refusalOf row) → X) → X
@@ -206,6 +220,7 @@ module _ (P : Plan) (avail : List ℕ) (units : ℕ) (begins o : List ℕ) (D : 
   ten f (uneven u e K A L) = ap (λ (g : Refusal). g .number) e
   ten f (wrong-set p k e K A U L M) = ap (λ (g : Refusal). g .number) e
   ten f (wrong-minutes p e K A U S L) = ap (λ (g : Refusal). g .number) e
+  ten f (wrong-total i e K A U S M L) = ap (λ (g : Refusal). g .number) e
 
   places-before : (n : ℕ) (ts us : List Test) → numbered ts ≡ true → ByNumber placeless us → numberOf us ≢ 10
       → Places (refusalOf ts) n Fails → Places (refusalOf (ts ++ us)) n Fails
@@ -251,7 +266,7 @@ pub with-units : (counts room : Bool) (P : Plan) (avail : List ℕ) (units : ℕ
 unfolding recountRow lentRow
 with-units counts room P avail units begins o D =
     places P avail units begins o D (lentRow counts room P avail o D ++ (test 9 (unitsOk (P .slots) units begins) ∷ [])) refl
-    (refl, (refl, (refl, (refl, (refl, (refl, (refl, (refl, (refl, (refl, (refl, tt)))))))))))
+    (refl, (refl, (refl, (refl, (refl, (refl, (refl, (refl, (refl, (refl, (refl, (refl, tt))))))))))))
     (not-given 10 _ (λ q. omega arith) refl) _ refl
 
 -- without units no unit is uneven
@@ -266,6 +281,7 @@ never-three P avail o D f n L q =
     at (uneven u e K A F) = omega (arith, F .below)
     at (wrong-set p k e K A U F M) = omega (arith, q, ap (λ (g : Refusal). g .part) e)
     at (wrong-minutes p e K A U S F) = omega (arith, q, ap (λ (g : Refusal). g .part) e)
+    at (wrong-total i e K A U S M F) = omega (arith, q, ap (λ (g : Refusal). g .part) e)
 
 module _ (P : Plan) (avail o : List ℕ) (D : Derived) where
   abbrev lent : ℕ
@@ -275,7 +291,8 @@ module _ (P : Plan) (avail o : List ℕ) (D : Derived) where
   unfolding recountSlotsRow lentRow
   slots-places =
       places P avail 0 [] o D (lentRow true true P avail o D) refl
-      (refl, (refl, (refl, (refl, (refl, (refl, (refl, (refl, (refl, (refl, tt)))))))))) (not-given 10 _ (λ q. omega arith) refl) _ refl
+      (refl, (refl, (refl, (refl, (refl, (refl, (refl, (refl, (refl, (refl, (refl, tt))))))))))) (not-given 10 _ (λ q. omega arith)
+      refl) _ refl
 
   pub assign-places : (k w : ℕ) → Places (assigned P avail o D k w .refusal) lent (FailsAt P avail 0 [] o D)
   unfolding assigned outcome assignRow recountSlotsRow lentRow recountTests

@@ -30,7 +30,7 @@ use Rattle.job.proofs.Results.{answered-none, answered-some}
 use Rattle.boltraven_c.specs.Numbers.{refusalNumber}
 use Rattle.promises.specs.Entries.{Call, playOf, playDrawsOf, ofDraws}
 use Rattle.promises.specs.Exports.{readRefusal, ReadsBack}
-use Rattle.promises.specs.Places.{fault, FailsAt, unknown, unavailable, uneven, wrong-set, wrong-minutes, Places, beforeRecount}
+use Rattle.promises.specs.Places.{fault, FailsAt, unknown, unavailable, uneven, wrong-set, wrong-minutes, wrong-total, Places, beforeRecount}
 use Rattle.promises.proofs.Places.{with-units, slots-places, assign-places, before, fault-is, job-none}
 use Rattle.promises.proofs.Rota.{draws-alike}
 
@@ -71,7 +71,7 @@ number-small (t ∷ ts) h =
 pub placeless-small : (n : ℕ) → n < 256 → Small (placeless n)
 placeless-small n h = record { number = h; part = omega arith; place = omega arith; second = omega arith }
 
-pub fault-small : (part place second : ℕ) → part ≤ 5 → place ≤ 1024 → second ≤ 1024 → Small (fault part place second)
+pub fault-small : (part place second : ℕ) → part ≤ 6 → place ≤ 1024 → second ≤ 1024 → Small (fault part place second)
 fault-small part place second a b c = record { number = omega arith; part = omega arith; place = omega arith; second = omega arith }
 
 -- ---- the places of a recount
@@ -88,6 +88,8 @@ fails-small P avail units begins o D few short many f (wrong-set p k e K A U L M
     subst Small (sym e) (fault-small 4 p k (omega arith) (omega (arith, L .below)) (omega (arith, M .below)))
 fails-small P avail units begins o D few short many f (wrong-minutes p e K A U S L) =
     subst Small (sym e) (fault-small 5 p 0 (omega arith) (omega (arith, L .below)) (omega arith))
+fails-small P avail units begins o D few short many f (wrong-total i e K A U S M L) =
+    subst Small (sym e) (fault-small 6 i 0 (omega arith) (omega (arith, L .below)) (omega arith))
 
 places-small : (f : Refusal) (n : ℕ) (Fails : Refusal → Type 0) → Places f n Fails → f .number < 256
     → (n ≡ 0 → (g : Refusal) → Fails g → Small g) → Small f
@@ -110,7 +112,7 @@ units-back counts room P avail units begins o D =
     let h = passed _ refl z in
     let short = slot-count-says (P .slots) (h 1) .1 in
     fails-small P avail units begins o D (people-says (P .people) (h 0) .1) short
-    (omega (arith, short, units-within (P .slots) units begins (h 10)))))
+    (omega (arith, short, units-within (P .slots) units begins (h 11)))))
 
 module _ (P : Plan) (avail o : List ℕ) (D : Derived) where
   few : numberOf (lentRow true true P avail o D) ≡ 0 → (g : Refusal) → FailsAt P avail 0 [] o D g → Small g

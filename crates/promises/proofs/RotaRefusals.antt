@@ -10,7 +10,7 @@ use lib.ListN.{length, getD, set, replicate}
 use Rattle.paper.proofs.Rows.{said}
 use Rattle.paper.specs.declared.Refusal.{Refusal}
 use Rattle.paper.specs.Limits.{peopleOk, slotCountOk, orElse, Test, test, numberOf, nobody, countsOk}
-use Rattle.paper.specs.Count.{fill, over}
+use Rattle.paper.specs.Count.{fill}
 use Rattle.paper.proofs.Logic.{by-test, slot-count-says}
 use Rattle.paper.specs.Rows.{unless, refusalOf}
 use Rattle.slotset.specs.declared.Changed.{Changed}
@@ -20,7 +20,7 @@ use Rattle.slots.specs.Lent.{minutesRefusal}
 use Rattle.slots.proofs.LentLaws.{minutes-said}
 use Rattle.targets.specs.Outcome as targets
 use Rattle.targets.proofs.Promises.{number-row, refused-keeps}
-use Rattle.owners.specs.Derived.{Plan, Derived, derived, afresh, setsFrom, nobodies, unassigned, uncovered}
+use Rattle.owners.specs.Derived.{Plan, Derived, afresh, unassigned, uncovered}
 use Rattle.rota.specs.Entries as rota
 use Rattle.rota.specs.declared.draws.Draw.{Draw}
 use Rattle.rota.proofs.Alike.{played-same}
@@ -96,17 +96,22 @@ play-draws-refuses : (c : Call) (ds : List Draw)
     Refuses {A = Lent} (rules (rowOf (ofDraws c ds))) (y .refusal .number) (c .owners, c .derived, c .answers) (left y)
 play-draws-refuses c ds =
     let same = played-same (c .plan) (c .avail) (c .units) (c .begins) (c .frozen) (c .count) (c .owners) (c .derived) (c .answers) ds in
-    subst (λ (y : state.Outcome). Refuses {A = Lent} (rules (rowOf (ofDraws c ds))) (y .refusal .number) (c .owners, c .derived, c .answers) (left y))
+    subst (λ (y : state.Outcome). Refuses {A = Lent} (rules (rowOf (ofDraws c ds))) (y .refusal .number) (
+      c .owners,
+      c .derived,
+      c
+          .answers,
+    ) (left y))
     (sym same) (play-refuses (ofDraws c ds))
 
-empty-refuses : (people slots : ℕ) (o : List ℕ) (D : Derived)
-    → let y = state.emptied people slots o D in
-    Refuses {A = Lent} (rules (state.emptyRow people slots o D)) (y .refusal .number) (o, D, []) (left y)
+empty-refuses : (P : Plan) (o : List ℕ) (D : Derived)
+    → let y = state.emptied P o D in
+    Refuses {A = Lent} (rules (state.emptyRow P o D)) (y .refusal .number) (o, D, []) (left y)
 unfolding state.emptied state.emptyRow
-empty-refuses people slots o D =
-    let t = state.emptyRow people slots o D in
-    outcome-refuses t (state.placeless (numberOf t)) o D [] (fill nobody 0 slots o)
-    (derived (setsFrom people slots (nobodies slots) (D .sets)) (over (λ _. 0) people (D .minutes))) [] refl refl
+empty-refuses P o D =
+    let t = state.emptyRow P o D in
+    let none = fill nobody 0 (P .slots) o in
+    outcome-refuses t (state.placeless (numberOf t)) o D [] none (afresh P none D) [] refl refl
 
 owner-number : (people slots : ℕ) (o : List ℕ) (k : ℕ)
     → GivenByTests (state.ownerRow people slots o k) (numberRefusal (state.ownerIs people slots o k))

@@ -1,6 +1,6 @@
 -- Demand 2, the rota, by the laws of rota. Assumes nothing.
 use mathlib.Core.Path.{_≡_, refl, sym, ap, _∙_}
-use mathlib.Core.Bool.{Bool, true, false, cond}
+use mathlib.Core.Bool.{Bool, true, false, cond, _&&_}
 use mathlib.Core.List.{List, []}
 use mathlib.Core.Logic.{inl, _↔_, _≢_}
 use Prim.Native.Nat.{ℕ, _-_, _*_, _≤_, _<_, zero-le}
@@ -14,9 +14,9 @@ use Rattle.paper.specs.declared.Refusal.{Refusal}
 use Rattle.paper.specs.Limits.{nobody, slotCountOk, numberOf}
 use Rattle.paper.proofs.Rows.{passed, said}
 use Rattle.paper.specs.Rows.{unless, accepted}
-use Rattle.paper.specs.Count.{all, sum, count, over, fill}
-use Rattle.paper.proofs.Logic.{by-test, five, and-true, zero-of, slot-count-says}
-use Rattle.paper.proofs.Count.{all-each, getD-over, getD-over-out, getD-fill-in, getD-fill-out}
+use Rattle.paper.specs.Count.{all, sum, count, fill}
+use Rattle.paper.proofs.Logic.{by-test, five, both, and-true, zero-of, slot-count-says}
+use Rattle.paper.proofs.Count.{all-each, getD-over-out, length-fill, getD-fill-in, getD-fill-out}
 use Rattle.slotset.specs.declared.Changed.{Changed}
 use Rattle.slotset.specs.declared.Number.the-variants as number
 use Rattle.slotset.specs.Slots.{slot}
@@ -28,15 +28,16 @@ use Rattle.slots.specs.Lent.{slotRoomOk, minutesAt, minutesAs, minutesRefusal}
 use Rattle.slots.proofs.LentLaws.{minutes-said}
 use Rattle.units.specs.Units.{unitStart, unitsOk, InUnit}
 use Rattle.units.proofs.Units.{unit-within}
-use Rattle.owners.specs.Derived.{Plan, Derived, derived, portion, worked, unassigned, uncovered, held, setsFrom, nobodies, afresh}
+use Rattle.owners.specs.Derived.{Plan, Derived, portion, worked, unassigned, uncovered, totalOf, held, afresh}
+use Rattle.owners.specs.Inside.{PlanSound, InStep, Makes}
 use Rattle.owners.specs.Recount.{knownAt, availableAt, recounts, recountTests}
 use Rattle.rota.specs.Entries.{assigned, assignRow}
 use Rattle.owners.specs.Entries.{Outcome, outcome, lentRow, fromSlotsRow, fromSlots, emptied, placeless, recountSlotsRow}
 use Rattle.owners.specs.Entries.{ownerIs, minutesIs, unassignedIs, uncoveredIs, slotsOfIs}
-use Rattle.owners.proofs.Sets.{held-own, held-not, sets-in, sets-out}
+use Rattle.owners.proofs.Sets.{held-own, held-not, sets-out}
+use Rattle.owners.proofs.Totals.{both-totals}
 use Rattle.owners.proofs.Steps.{afresh-step, afresh-lengths}
-use Rattle.owners.proofs.Made.{nobody-at, none-worked}
-use Rattle.owners.proofs.Entered.{lent-right, LentRight, recount-says, says-recount, empty-says}
+use Rattle.owners.proofs.Entered.{lent-right, LentRight, recount-says, says-recount, empty-asks}
 use Rattle.rota.proofs.Asked.{Asks, assign-asks}
 use Rattle.rota.proofs.Promises.{assign-recounts}
 use Rattle.promises.specs.Entries.{Call, noOf, onRota}
@@ -78,6 +79,7 @@ module _ (o ws : List ℕ) (p k : ℕ) where
 
 pub recount-by-rule : (P : Plan) (avail : List ℕ) (units : ℕ) (begins o : List ℕ) (D : Derived)
     → (recounts P avail units begins o D ≡ true) ↔ PassesRecount P avail units begins o D
+unfolding totalOf uncovered unassigned
 recount-by-rule P avail units begins o D = (
   λ e.
       let r = recount-says P avail units begins o D e in
@@ -87,6 +89,8 @@ recount-by-rule P avail units begins o D = (
         uniform = λ u k i. r .even u k (i .known) (i .from) (i .to);
         sets = λ p k h g. held-says o (D .sets) p k (r .sets p k h g);
         minutes = r .minutes;
+        uncovered = r .totals 0 (omega arith);
+        unassigned = r .totals 1 (omega arith);
       },
   λ x. says-recount P avail units begins o D
       record {
@@ -95,20 +99,22 @@ recount-by-rule P avail units begins o D = (
         even = λ u k h a b. x .uniform u k record { known = h; from = a; to = b };
         sets = λ p k h g. says-held o (D .sets) p k (x .sets p k h g);
         minutes = x .minutes;
+        totals = both-totals (λ i. getD (D .totals) i 0) (totalOf P o) (x .uncovered) (x .unassigned);
       },
 )
 
 -- ---- what is made afresh
 
 -- what lies past a rota that was made from owners that keep what lies past the slots
-past-afresh : (P : Plan) (avail o o′ : List ℕ) (D : Derived) (x : List ℕ) → LentRight P avail o D
+past-afresh : (P : Plan) (o o′ : List ℕ) (D : Derived) (x : List ℕ) → P .slots ≤ 1024 → 16 * P .people ≤ length (D .sets)
     → ((k : ℕ) → P .slots ≤ k → getD o′ k 0 ≡ getD o k 0)
     → PastKept (P .people) (P .slots) o D record { refusal = accepted; owners = o′; derived = afresh P o′ D; answers = x }
 unfolding afresh
-past-afresh P avail o o′ D x g same = record {
+past-afresh P o o′ D x few room same = record {
   owners = same;
   minutes = λ p h. getD-over-out (worked P o′) (P .people) (D .minutes) p h;
-  sets = λ i b. sets-out (P .slots) o′ (D .sets) (g .sound .slots-few) (P .people) (g .room .sets-room) i b;
+  totals = λ i h. getD-over-out (totalOf P o′) 2 (D .totals) i h;
+  sets = λ i b. sets-out (P .slots) o′ (D .sets) few (P .people) room i b;
 }
 
 -- ---- from_slots
@@ -122,14 +128,16 @@ module _ (P : Plan) (avail o : List ℕ) (D : Derived) (e : fromSlots P avail o 
   unfolding fromSlots outcome fromSlotsRow lentRow
   from-tests =
       let h = passed (fromSlotsRow P avail o D) refl e in
-      (lent-right P avail o D (h 0) (h 1) (h 4) (h 5) (h 6) (h 7) (h 9), h 10, h 11)
+      (lent-right P avail o D (h 0) (h 1) (h 4) (h 5) (h 6) (h 7) (h 8) (h 10), h 11, h 12)
 
   from-recounts : recounts P avail 0 [] o (afresh P o D) ≡ true
   unfolding knownAt availableAt
   from-recounts =
       let g = from-tests .0 in
       let known = all-each (P .slots) (knownAt (P .people) o) (from-tests .1) in
-      let J = afresh-step P o D (g .sound .slots-few) (g .room .owners-room) (g .room .sets-room) (g .room .minutes-room) known in
+      let J = afresh-step P o D (g .sound .slots-few) (g .room .owners-room) (g .room .sets-room) (g .room .minutes-room) (g .room
+      .totals-room)
+      known in
       says-recount P avail 0 [] o (afresh P o D)
       record {
         known = known;
@@ -137,6 +145,7 @@ module _ (P : Plan) (avail o : List ℕ) (D : Derived) (e : fromSlots P avail o 
         even = λ u k h a b. absurd (omega arith);
         sets = J .sets;
         minutes = J .minutes;
+        totals = J .totals;
       }
 
   from-made : (fromSlots P avail o D .owners ≡ o) × Made P avail o D (fromSlots P avail o D)
@@ -144,7 +153,7 @@ module _ (P : Plan) (avail o : List ℕ) (D : Derived) (e : fromSlots P avail o 
     refl,
     record {
       recount = recount-by-rule P avail 0 [] o (afresh P o D) .0 from-recounts;
-      past = past-afresh P avail o o D [] (from-tests .0) (λ k h. refl);
+      past = let g = from-tests .0 in past-afresh P o o D [] (g .sound .slots-few) (g .room .sets-room) (λ k h. refl);
     },
   )
 
@@ -173,7 +182,9 @@ module _ (P : Plan) (avail o : List ℕ) (D : Derived) (k w : ℕ) (e : assigned
         record {
           recount =
               recount-by-rule P avail 0 [] (set o k w) (afresh P (set o k w) D) .0 (assign-recounts P avail o D k w A);
-          past = past-afresh P avail o (set o k w) D [] (A .on) (λ j h. other j (λ q. omega (arith, q, A .slot)));
+          past =
+              past-afresh P o (set o k w) D [] (A .on .sound .slots-few) (A .on .room .sets-room)
+              (λ j h. other j (λ q. omega (arith, q, A .slot)));
         },
       )
 
@@ -194,10 +205,10 @@ module _ (c : Call) (k w : ℕ) (e : noOf c ≡ 0) where
 
     -- as much room as before
     lengths : (length (y .owners) ≡ length (c .owners)) × (length (y .derived .sets) ≡ length (c .derived .sets))
-        × (length (y .derived .minutes) ≡ length (c .derived .minutes))
+        × (length (y .derived .minutes) ≡ length (c .derived .minutes)) × (length (y .derived .totals) ≡ length (c .derived .totals))
     lengths =
         let l = afresh-lengths (c .plan) (set (c .owners) k w) (c .derived) in
-        rw (assigned-is (c .plan) (c .avail) (c .owners) (c .derived) k w z) (length-set (c .owners) k w, l .0, l .1)
+        rw (assigned-is (c .plan) (c .avail) (c .owners) (c .derived) k w z) (length-set (c .owners) k w, l .0, l .1, l .2)
 
     room : roomOk (c .plan) (c .avail) (y .owners) (y .derived) ≡ true
     unfolding roomOk
@@ -205,73 +216,68 @@ module _ (c : Call) (k w : ℕ) (e : noOf c ≡ 0) where
         let P = c .plan in
         let r = five (slotRoomOk (P .slots) (P .starts) (P .ends)) (leb (16 * P .people) (length (c .avail)))
         (leb (P .slots) (length (c .owners))) (leb (16 * P .people) (length (c .derived .sets)))
-        (leb (P .people) (length (c .derived .minutes))) (accepted-says c e .room) in
+        (leb (P .people) (length (c .derived .minutes)) && leb 2 (length (c .derived .totals))) (accepted-says c e .room) in
+        let f = both (leb (P .people) (length (c .derived .minutes))) (leb 2 (length (c .derived .totals))) (r .4) in
         and-true _ _ (r .0) (and-true _ _ (r .1) (and-true _ _ (ap (leb (P .slots)) (lengths .0) ∙ r .2)
-        (and-true _ _ (ap (leb (16 * P .people)) (lengths .1) ∙ r .3) (ap (leb (P .people)) (lengths .2) ∙ r .4))))
+        (and-true _ _ (ap (leb (16 * P .people)) (lengths .1) ∙ r .3)
+        (and-true _ _ (ap (leb (P .people)) (lengths .2) ∙ f .0) (ap (leb 2) (lengths .3) ∙ f .1)))))
 
     uneven-refused : noOf next ≡ 10
     uneven-refused =
         let A = accepted-says c e in
-        number-of next (A .few) (play-room c A) (rooms (c .plan) (c .avail) (y .owners) (y .derived) (A .counts) room) (A .slots) (A .units)
+        number-of next (A .few) (play-room c A) (rooms (c .plan) (c .avail) (y .owners) (y .derived) (A .counts) room) (A .slots) (A
+        .units)
         ∙ ap (λ (b : Bool). cond b 0 10) fails
 
 -- ---- an empty rota
 
-module _ (P : Plan) (o : List ℕ) (D : Derived) (e : emptied (P .people) (P .slots) o D .refusal .number ≡ 0) where
+module _ (P : Plan) (o : List ℕ) (D : Derived) (e : emptied P o D .refusal .number ≡ 0) where
   abbrev owners : List ℕ
   owners = fill nobody 0 (P .slots) o
 
   abbrev cleared : Derived
-  cleared = derived (setsFrom (P .people) (P .slots) (nobodies (P .slots)) (D .sets)) (over (λ _. 0) (P .people) (D .minutes))
+  cleared = afresh P owners D
 
-  emptied-is : emptied (P .people) (P .slots) o D ≡ record { refusal = accepted; owners = owners; derived = cleared; answers = [] }
+  emptied-is : emptied P o D ≡ record { refusal = accepted; owners = owners; derived = cleared; answers = [] }
   unfolding emptied outcome unless
   emptied-is = ap (λ (n : ℕ). outcome (placeless n) o D [] owners cleared []) e
 
   -- what its tests say
-  pub record Clears : Type 0 where
-    pub people : P .people ≤ 32
-    pub slots : P .slots ≤ 1024
-    pub owners-room : P .slots ≤ length o
-    pub sets-room : 16 * P .people ≤ length (D .sets)
-    pub minutes-room : P .people ≤ length (D .minutes)
-
-  clears : Clears
+  clears : PlanSound P × Makes P owners D
   unfolding emptied outcome
-  clears =
-      let x = empty-says (P .people) (P .slots) o D e in
-      record { people = x .1; slots = x .2; owners-room = x .3; sets-room = x .4; minutes-room = x .5 }
+  clears = empty-asks P o D e owners (let q : P .slots ≡ P .slots - 0 = omega arith in ap (λ (k : ℕ). fill nobody 0 k o) q)
 
   nobodys : (k : ℕ) → k < P .slots → getD owners k 0 ≡ nobody
-  nobodys k h = getD-fill-in nobody 0 (P .slots) o k zero-le (omega arith) (omega (arith, clears .owners-room))
+  nobodys k h =
+      getD-fill-in nobody 0 (P .slots) o k zero-le (omega arith) (omega (
+        arith,
+        clears .1 .owners-room,
+        length-fill nobody 0 (P
+            .slots) o,
+      ))
 
-  -- nobody of the people is nobody
-  not-nobody : (p : ℕ) → p < P .people → nobody ≢ p
-  not-nobody p h q = omega (arith, q, clears .people)
-
-  unset : (p k : ℕ) → p < P .people → k < P .slots → slot (cleared .sets) (16 * p) k ≡ 0
-  unset p k h g =
-      sets-in (P .slots) (nobodies (P .slots)) (D .sets) (clears .slots) (P .people) (clears .sets-room) p k h g
-      ∙ held-not (nobodies (P .slots)) p k (λ q. not-nobody p h (sym (nobody-at (P .slots) k g) ∙ q))
+  -- it is in step, so that all but its units is as worked out
+  steps : InStep P owners cleared
+  steps =
+      let M = clears .1 in
+      afresh-step P owners D (clears .0 .slots-few) (M .owners-room) (M .sets-room) (M .minutes-room) (M .totals-room) (M .known)
 
   empty-recounts : (avail : List ℕ) (units : ℕ) (begins : List ℕ) → unitsOk (P .slots) units begins ≡ true
       → PassesRecount P avail units begins owners cleared
+  unfolding totalOf uncovered unassigned
   empty-recounts avail units begins ok = record {
     known = λ k h. inl (nobodys k h);
     available = λ k h n. absurd (n (nobodys k h));
     uniform = λ u k i.
         let w = unit-within (P .slots) units begins ok u (i .known) in
         nobodys k (omega (arith, i .to, w)) ∙ sym (nobodys (unitStart begins u) (omega (arith, i .from, i .to, w)));
-    sets = λ p k h g. (
-      λ q. absurd (omega (arith, q, unset p k h g)),
-      λ q. absurd (not-nobody p h (sym (nobodys k g) ∙ q)),
-    );
-    minutes = λ p h.
-        getD-over (λ _. 0) (P .people) (D .minutes) p h (omega (arith, clears .minutes-room))
-        ∙ sym (none-worked P owners p (λ q. not-nobody p h (sym q)) nobodys);
+    sets = λ p k h g. held-says owners (cleared .sets) p k (steps .sets p k h g);
+    minutes = steps .minutes;
+    uncovered = steps .totals 0 (omega arith);
+    unassigned = steps .totals 1 (omega arith);
   }
 
-  empty-left : let y = emptied (P .people) (P .slots) o D in
+  empty-left : let y = emptied P o D in
       ((k : ℕ) → k < P .slots → getD (y .owners) k 0 ≡ nobody)
       × ((avail : List ℕ) (units : ℕ) (begins : List ℕ) → unitsOk (P .slots) units begins ≡ true
       → PassesRecount P avail units begins (y .owners) (y .derived))
@@ -279,11 +285,8 @@ module _ (P : Plan) (o : List ℕ) (D : Derived) (e : emptied (P .people) (P .sl
   empty-left = rw emptied-is (
     nobodys,
     empty-recounts,
-    record {
-      owners = λ k h. getD-fill-out nobody 0 (P .slots) o k (λ a b. omega arith);
-      minutes = λ p h. getD-over-out (λ _. 0) (P .people) (D .minutes) p h;
-      sets = λ i b. sets-out (P .slots) (nobodies (P .slots)) (D .sets) (clears .slots) (P .people) (clears .sets-room) i b;
-    },
+    past-afresh P o owners D [] (clears .0 .slots-few) (clears .1 .sets-room)
+        (λ k h. getD-fill-out nobody 0 (P .slots) o k (λ a b. omega arith)),
   )
 
 -- ---- the readers

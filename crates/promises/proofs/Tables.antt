@@ -35,7 +35,7 @@ use Rattle.units.specs.Achievable.{achievableRunRow}
 use Rattle.targets.specs.Figures.{allFiguresOk}
 use Rattle.targets.specs.Outcome as targets
 use Rattle.owners.specs.Derived.{Plan, Derived, knownBy}
-use Rattle.owners.specs.Recount.{knownAt, availableFor, availableAt, evenAt, setAt, minutesOkAt, recountTests, recounts}
+use Rattle.owners.specs.Recount.{knownAt, availableFor, availableAt, evenAt, setAt, minutesOkAt, recountTests, recounts, totalOkAt}
 use Rattle.owners.specs.Entries as state
 use Rattle.rota.specs.Entries as rota
 use Rattle.rota.specs.declared.draws.Draw.{Draw}
@@ -243,12 +243,12 @@ all-available-says avail slots o {t} {n} h =
       λ x. each-all slots (availableAt avail o) (λ k l. available-test avail (getD o k 0) k .1 (x k l)),
     ) (λ e. h)
 
--- the five tests of the recount are one rule
+-- the six tests of the recount are one rule
 recount-says : (P : Plan) (avail : List ℕ) (units : ℕ) (begins o : List ℕ) (D : Derived) {t : List Rule} {n : ℕ} → First t n
     → First (broken 10 (PassesRecount P avail units begins o D) ∷ t)
     (cond (all (P .slots) (knownAt (P .people) o)) (cond (all (P .slots) (availableAt avail o))
     (cond (all units (evenAt (P .slots) units begins o)) (cond (all (P .people) (setAt (P .slots) o (D .sets)))
-    (cond (all (P .people) (minutesOkAt P o (D .minutes))) n 10) 10) 10) 10) 10)
+    (cond (all (P .people) (minutesOkAt P o (D .minutes))) (cond (all 2 (totalOkAt P o (D .totals))) n 10) 10) 10) 10) 10) 10)
 unfolding recounts
 recount-says P avail units begins o D {t} {n} h =
     let a = all (P .slots) (knownAt (P .people) o) in
@@ -256,9 +256,11 @@ recount-says P avail units begins o D {t} {n} h =
     let c = all units (evenAt (P .slots) units begins o) in
     let d = all (P .people) (setAt (P .slots) o (D .sets)) in
     let e = all (P .people) (minutesOkAt P o (D .minutes)) in
-    let chain : cond a (cond b (cond c (cond d (cond e n 10) 10) 10) 10) 10 ≡ cond (a && (b && (c && (d && e)))) n 10 =
-    ap (λ (x : ℕ). cond a x 10) (ap (λ (x : ℕ). cond b x 10) (ap (λ (x : ℕ). cond c x 10) (join d e n 10) ∙ join c (d && e) n 10)
-    ∙ join b (c && (d && e)) n 10) ∙ join a (b && (c && (d && e))) n 10 in
+    let f = all 2 (totalOkAt P o (D .totals)) in
+    let g = e && f in
+    let chain : cond a (cond b (cond c (cond d (cond e (cond f n 10) 10) 10) 10) 10) 10 ≡ cond (a && (b && (c && (d && g)))) n 10 =
+    ap (λ (x : ℕ). cond a x 10) (ap (λ (x : ℕ). cond b x 10) (ap (λ (x : ℕ). cond c x 10) (ap (λ (x : ℕ). cond d x 10) (join e f n 10)
+    ∙ join d g n 10) ∙ join c (d && g) n 10) ∙ join b (c && (d && g)) n 10) ∙ join a (b && (c && (d && g))) n 10 in
     subst (First (broken 10 (PassesRecount P avail units begins o D) ∷ t)) (sym chain)
     (say-broken 10 (PassesRecount P avail units begins o D) (recounts P avail units begins o D) {t = t} {n = n}
     (rota-by-rule .recount P avail units begins o D) (λ z. h))
@@ -323,7 +325,8 @@ sets-by-table = record {
       by-first _ (personRow ws people person len) _ refl refl (sets-refuse .load ws people person len) (rows-first ws people person len);
   put-stretch = λ ws people person len a e.
       by-first _ (personStretchRow ws people person len a e) _ refl refl (sets-refuse .put-stretch 0 ws people person len a e .given)
-      (people-says people (most-says len (say-short (16 * people) (length ws) (λ z. say-below person people (stretch-says a e len none)))));
+      (people-says people (most-says len (say-short (16 * people) (length ws) (λ z. say-below person people (stretch-says a e len
+      none)))));
   same-sets = λ ws vs people len.
       by-first _ (sameSetsRow ws vs people len) _ refl refl (sets-refuse .same-sets ws vs people len)
       (people-says people (most-says len (say-short (16 * people) (length ws) (λ y. say-short (16 * people) (length vs) (λ z. none)))));
@@ -467,7 +470,8 @@ targets-first g room =
 targets-number : (g : targets.Given) (out : List ℤ) → GivenBy (tables.targetsTable g (length out)) (targets.computeTargets g out .number)
 unfolding targets.targetsRow targets.roomRow
 targets-number g out =
-    by-first _ (targets.targetsRow g (length out)) _ refl refl (targets-refuse .compute-targets g out .given) (targets-first g (length out))
+    by-first _ (targets.targetsRow g (length out)) _ refl refl (targets-refuse .compute-targets g out .given) (targets-first g
+    (length out))
 
 -- ---- the rota
 
@@ -476,15 +480,19 @@ module _ (P : Plan) (avail o : List ℕ) (D : Derived) where
   lent-says : {t : List Rule} {n : ℕ}
       → (slotRoomOk (P .slots) (P .starts) (P .ends) ≡ true → First t n)
       → First (short (P .slots) (length (P .starts)) ∷ short (P .slots) (length (P .ends)) ∷ short (16 * P .people) (length avail)
-      ∷ short (P .slots) (length o) ∷ short (16 * P .people) (length (D .sets)) ∷ short (P .people) (length (D .minutes)) ∷ t)
+      ∷ short (P .slots) (length o) ∷ short (16 * P .people) (length (D .sets)) ∷ short (P .people) (length (D .minutes))
+      ∷ short 2 (length (D .totals)) ∷ t)
       (cond (slotRoomOk (P .slots) (P .starts) (P .ends)) (cond (leb (16 * P .people) (length avail)) (cond (leb (P .slots) (length o))
-      (cond (leb (16 * P .people) (length (D .sets))) (cond (leb (P .people) (length (D .minutes))) n 2) 2) 2) 2) 2)
+      (cond (leb (16 * P .people) (length (D .sets))) (cond (leb (P .people) (length (D .minutes))) (cond (leb 2 (length (D
+      .totals))) n 2) 2)
+      2) 2) 2) 2)
   lent-says {t} {n} h =
       columns-say (P .slots) (P .starts) (P .ends) (λ r.
       say-short (16 * P .people) (length avail) (λ x.
       say-short (P .slots) (length o) (λ y.
       say-short (16 * P .people) (length (D .sets)) (λ z.
-      say-short (P .people) (length (D .minutes)) {t = t} {n = n} (λ w. h r)))))
+      say-short (P .people) (length (D .minutes)) (λ w.
+      say-short 2 (length (D .totals)) {t = t} {n = n} (λ v. h r))))))
 
 from-slots-first : (P : Plan) (avail o : List ℕ) (D : Derived)
     → First (tables.fromSlotsTable P avail o D) (numberOf (state.fromSlotsRow P avail o D))
@@ -551,18 +559,21 @@ play-first c =
     (units-right (c .plan .slots) (c .units) (c .begins) q
     (recount-says (c .plan) (c .avail) (c .units) (c .begins) (c .owners) (c .derived) none)))))))
 
-play-number : (c : Call) → GivenBy (tables.playTable c (length (c .draws)) (length (c .firsts)) (length (c .seconds))) (playOf c .refusal .number)
+play-number : (c : Call) → GivenBy (tables.playTable c (length (c .draws)) (length (c .firsts)) (length (c .seconds))) (playOf c
+    .refusal .number)
 unfolding state.recountRow state.lentRow recountTests
 play-number c = by-first _ (rowOf c) _ refl refl (rota-refuses .play c .given) (play-first c)
 
-draws-number : (c : Call) (ds : List Draw) → GivenBy (tables.playTable c (length ds) (length ds) (length ds)) (playDrawsOf c ds .refusal .number)
+draws-number : (c : Call) (ds : List Draw) → GivenBy (tables.playTable c (length ds) (length ds) (length ds)) (playDrawsOf c ds
+    .refusal .number)
 unfolding draws firsts seconds
 draws-number c ds =
     let n = playDrawsOf c ds .refusal .number in
     subst (λ (k : ℕ). GivenBy (tables.playTable c k (length ds) (length ds)) n) (length-map ds (λ d. d .draw))
     (subst (λ (k : ℕ). GivenBy (tables.playTable c (length (draws ds)) k (length ds)) n) (length-map ds (λ d. d .first))
     (subst (λ (k : ℕ). GivenBy (tables.playTable c (length (draws ds)) (length (firsts ds)) k) n) (length-map ds (λ d. d .second))
-    (subst (λ (y : state.Outcome). GivenBy (tables.playTable c (length (draws ds)) (length (firsts ds)) (length (seconds ds))) (y .refusal .number))
+    (subst (λ (y : state.Outcome). GivenBy (tables.playTable c (length (draws ds)) (length (firsts ds)) (length (seconds ds))) (y
+    .refusal .number))
     (sym (draws-alike c ds)) (play-number (ofDraws c ds)))))
 
 slots-of-first : (people slots : ℕ) (ws : List ℕ) (p : ℕ)
@@ -580,9 +591,11 @@ unfolding numberOf state.fromSlotsRow state.lentRow rota.assignRow state.recount
 rota-by-table = record {
   compute-targets = targets-number;
   from-slots = λ P avail o D.
-      by-first _ (state.fromSlotsRow P avail o D) _ refl refl (rota-refuses .from-slots P avail o D .given) (from-slots-first P avail o D);
+      by-first _ (state.fromSlotsRow P avail o D) _ refl refl (rota-refuses .from-slots P avail o D .given) (from-slots-first P avail
+      o D);
   assign = λ P avail o D k w.
-      by-first _ (rota.assignRow P avail o D k w) _ refl refl (rota-refuses .assign P avail o D k w .given) (assign-first P avail o D k w);
+      by-first _ (rota.assignRow P avail o D k w) _ refl refl (rota-refuses .assign P avail o D k w .given) (assign-first P avail o D
+      k w);
   recount = λ P avail units begins o D.
       by-first _ (state.recountRow true (leb units (length begins)) P avail units begins o D) _ refl refl
       (rota-refuses .recount true (leb units (length begins)) P avail units begins o D) (recount-first P avail units begins o D);
@@ -591,10 +604,12 @@ rota-by-table = record {
       (recount-slots-first P avail o D);
   play = play-number;
   play-draws = draws-number;
-  empty = λ people slots o D.
-      by-first _ (state.emptyRow people slots o D) _ refl refl (rota-refuses .empty people slots o D .given)
-      (people-says people (slots-says slots (say-short slots (length o) (λ x. say-short (16 * people) (length (D .sets)) (λ y.
-      say-short people (length (D .minutes)) (λ z. none))))));
+  empty = λ P o D.
+      by-first _ (state.emptyRow P o D) _ refl refl (rota-refuses .empty P o D .given)
+      (people-says (P .people) (slots-says (P .slots) (columns-say (P .slots) (P .starts) (P .ends) (λ r.
+      say-short (P .slots) (length o) (λ x. say-short (16 * P .people) (length (D .sets)) (λ y.
+      say-short (P .people) (length (D .minutes)) (λ z. say-short 2 (length (D .totals)) (λ w.
+      right-says 9 (P .slots) (P .starts) (P .ends) r none))))))));
   owner-of-slot = λ people slots o k.
       by-first _ (state.ownerRow people slots o k) _ refl refl (rota-refuses .owner-of-slot people slots o k)
       (people-says people (slots-says slots (say-short slots (length o) (λ x.

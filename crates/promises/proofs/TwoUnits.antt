@@ -11,7 +11,7 @@ use lib.ListN.{length, drop}
 use Rattle.paper.specs.Rows.{accepted as no-refusal}
 use Rattle.paper.specs.Limits.{peopleOk, slotCountOk, countsOk}
 use Rattle.paper.specs.Bits.{bitOf}
-use Rattle.paper.specs.Count.{all, allIn, sum, over, onto}
+use Rattle.paper.specs.Count.{all, allIn, sum, count, over, onto}
 use Rattle.paper.proofs.Logic.{and-true}
 use Rattle.slotset.specs.Slots.{slot, withBit, putSlot, putSlots}
 use Rattle.slots.specs.Lent.{slotOk, prevEnd, slotOkAt, slotRoomOk, slotsOk, minutesAt}
@@ -21,8 +21,8 @@ use Rattle.rota.specs.Board.{ownerOf, unowned}
 use Rattle.rota.specs.Lent.{fitsUnit, frozenUnit}
 use Rattle.rota.specs.Moves.{anyOf, decided, swapped}
 use Rattle.rota.specs.Plays.{step, ownersAfter, answer, answers, drawsOf}
-use Rattle.owners.specs.Derived.{knownBy, portion, worked, held, setsFrom, afresh}
-use Rattle.owners.specs.Recount.{knownAt, availableFor, availableAt, evenAt, setSlotAt, setAt, minutesOkAt, recounts}
+use Rattle.owners.specs.Derived.{knownBy, portion, worked, uncovered, unassigned, totalOf, held, setsFrom, afresh}
+use Rattle.owners.specs.Recount.{knownAt, availableFor, availableAt, evenAt, setSlotAt, setAt, minutesOkAt, totalOkAt, recounts}
 use Rattle.promises.specs.Entries.{Call, noOf, playOf}
 use Rattle.promises.specs.Marked.{Owned, apart, Spare, twoUnits}
 use Rattle.promises.proofs.Calls.{roomOk, Accepted, says-accepted, accepted-is}
@@ -40,8 +40,9 @@ module _ (r : Owned) (frozen count : ℕ) (draws firsts seconds : List ℕ) (mor
       let a : 2 ≤ length (call .owners) = omega arith in
       let b : 32 ≤ length (call .derived .sets) = omega arith in
       let d : 2 ≤ length (call .derived .minutes) = omega arith in
-      and-true _ _ (le-leb 2 (length (call .owners)) a)
-      (and-true _ _ (le-leb 32 (length (call .derived .sets)) b) (le-leb 2 (length (call .derived .minutes)) d))
+      let t : 2 ≤ length (call .derived .totals) = omega arith in
+      and-true _ _ (le-leb 2 (length (call .owners)) a) (and-true _ _ (le-leb 32 (length (call .derived .sets)) b)
+      (and-true _ _ (le-leb 2 (length (call .derived .minutes)) d) (le-leb 2 (length (call .derived .totals)) t)))
 
   passes : recounts (call .plan) (call .avail) 2 (call .begins) (call .owners) (call .derived) ≡ true → Accepted call
   unfolding countsOk peopleOk slotCountOk slotsOk slotRoomOk slotOkAt slotOk prevEnd all unitsOk startOk
@@ -68,8 +69,7 @@ pub apart-recounts : (frozen count : ℕ) (draws firsts seconds : List ℕ) (mor
     → let c = twoUnits apart frozen count draws firsts seconds more in
     recounts (c .plan) (c .avail) 2 (c .begins) (c .owners) (c .derived) ≡ true
 unfolding recounts all allIn knownAt knownBy availableAt availableFor available evenAt unitEnd setAt setSlotAt held minutesOkAt worked
-    portion sum
-    minutesAt slot bitOf
+    portion sum minutesAt slot bitOf totalOkAt totalOf uncovered unassigned count
 apart-recounts frozen count draws firsts seconds more = refl
 
 -- unit 1 frozen, the swap of both units: 1, and nothing changes
@@ -78,6 +78,8 @@ pub case-12 : (more : Spare) → 1 ≤ length (more .answers)
     playOf c ≡ record { refusal = no-refusal; owners = c .owners; derived = c .derived; answers = 1 ∷ drop 1 (more .answers) }
 unfolding drawsOf ownersAfter answers answer step onto decided anyOf swapped unowned ownerOf frozenUnit unitFrozen clear unfrozen allIn
     all slot bitOf unitEnd fitsUnit able available afresh setsFrom putSlots putSlot withBit held over worked portion sum minutesAt
+    totalOf uncovered
+    unassigned count
 case-12 more room =
     accepted-is (twoUnits apart 2 1 (35 ∷ []) (0 ∷ []) (1 ∷ []) more) (accepted apart 2 1 (35 ∷ []) (0 ∷ []) (1 ∷ []) more
     refl refl refl refl room (apart-recounts 2 1 (35 ∷ []) (0 ∷ []) (1 ∷ []) more))

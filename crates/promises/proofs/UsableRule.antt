@@ -218,7 +218,8 @@ module _ (B : Brought) (z : numberOf (usableRow B) ≡ 0) (k : ℕ) (b : TooClos
 -- ---- taken over
 
 module _ (B : Brought) (D : Derived) (z : numberOf (usableRow B) ≡ 0) (u : verdictIs B ≡ verdict.Usable)
-    (s : 16 * B .plan .people ≤ length (D .sets)) (m : B .plan .people ≤ length (D .minutes)) where
+    (s : 16 * B .plan .people ≤ length (D .sets)) (m : B .plan .people ≤ length (D .minutes))
+    (t : 2 ≤ length (D .totals)) where
   right : Right B
   right = row-right B z
 
@@ -252,12 +253,15 @@ module _ (B : Brought) (D : Derived) (z : numberOf (usableRow B) ≡ 0) (u : ver
                     (
                       le-leb _ _ m,
                       (
-                        refl,
+                        le-leb _ _ t,
                         (
-                          right .lent,
+                          refl,
                           (
-                            each-all (slotsOf B) (knownAt (B .plan .people) (B .owners)) (λ k h. each k h .0),
-                            (each-all (slotsOf B) (availableAt (B .avail) (B .owners)) (λ k h. each k h .1), tt),
+                            right .lent,
+                            (
+                              each-all (slotsOf B) (knownAt (B .plan .people) (B .owners)) (λ k h. each k h .0),
+                              (each-all (slotsOf B) (availableAt (B .avail) (B .owners)) (λ k h. each k h .1), tt),
+                            ),
                           ),
                         ),
                       ),
@@ -291,6 +295,8 @@ module _ (B : Brought) (D : Derived) (z : numberOf (usableRow B) ≡ 0) (u : ver
               ∙ sym (ap (λ (l : List ℕ). getD l (unitStart (B .begins) v) 0) (M .0));
           sets = R .sets;
           minutes = R .minutes;
+          uncovered = R .uncovered;
+          unassigned = R .unassigned;
         },
       )
 
@@ -328,18 +334,21 @@ told-judged B =
 
 told : (B : Brought) → Told (verdictIs B)
 unfolding verdictIs unless
-told B = by-cond (eqb (numberOf (usableRow B)) 0) (judged B) (verdict.Refused (numberOf (usableRow B))) Told (λ e. told-judged B) (λ e. tt)
+told B = by-cond (eqb (numberOf (usableRow B)) 0) (judged B) (verdict.Refused (numberOf (usableRow B))) Told (λ e. told-judged B) (λ
+    e. tt)
 
 -- ---- all of it
 
 both-pass : verdictIs (bothHers 120 1) ≡ verdict.Usable
-unfolding verdictIs usableRow unless numberOf figuresOk peopleOk slotCountOk slotRoomOk slotsOk all slotOkAt slotOk prevEnd unitsOk startOk
+unfolding verdictIs usableRow unless numberOf figuresOk peopleOk slotCountOk slotRoomOk slotsOk all slotOkAt slotOk prevEnd unitsOk
+    startOk
     judged orBroken allowedAt knownAt availableAt knownBy availableFor available slot bitOf publishedAt unfrozen uniformAt unitOf opensAt
     closesAt held cappedAt restedAt firstFail nextWith lastBelow up down
 both-pass = refl
 
 both-long : verdictIs (bothHers 119 1) ≡ verdict.Broken 4 0
-unfolding verdictIs usableRow unless numberOf figuresOk peopleOk slotCountOk slotRoomOk slotsOk all slotOkAt slotOk prevEnd unitsOk startOk
+unfolding verdictIs usableRow unless numberOf figuresOk peopleOk slotCountOk slotRoomOk slotsOk all slotOkAt slotOk prevEnd unitsOk
+    startOk
     judged orBroken allowedAt knownAt availableAt knownBy availableFor available slot bitOf publishedAt unfrozen uniformAt unitOf opensAt
     closesAt held cappedAt restedAt firstFail nextWith lastBelow up down
 both-long = refl

@@ -10,7 +10,7 @@ use lib.Dec.{ltb}
 use lib.ListN.{length, getD, drop, replicate, length-replicate, getD-replicate, List·getD-append, List·getD-eq-default}
 use Rattle.paper.specs.Limits.{nobody, peopleOk, slotCountOk, countsOk}
 use Rattle.paper.specs.Bits.{bitOf}
-use Rattle.paper.specs.Count.{all, allIn, among, sum, fill, onto}
+use Rattle.paper.specs.Count.{all, allIn, among, sum, fill, onto, count}
 use Rattle.paper.proofs.Logic.{lt-or-ge}
 use Rattle.paper.proofs.Count.{all-each}
 use Rattle.slotset.specs.Slots.{slot}
@@ -18,8 +18,8 @@ use Rattle.slots.specs.Lent.{slotOk, prevEnd, slotOkAt, slotRoomOk, slotsOk, mi
 use Rattle.units.specs.Units.{unitEnd, startOk, unitsOk}
 use Rattle.units.specs.Domains.{available, able, unfrozen, clear, unitFrozen}
 use Rattle.units.proofs.Units.{units-within}
-use Rattle.owners.specs.Derived.{Derived, knownBy, portion, worked, held, afresh}
-use Rattle.owners.specs.Recount.{knownAt, availableFor, availableAt, evenAt, setSlotAt, setAt, minutesOkAt, recounts}
+use Rattle.owners.specs.Derived.{Derived, knownBy, portion, worked, held, afresh, uncovered, unassigned, totalOf}
+use Rattle.owners.specs.Recount.{knownAt, availableFor, availableAt, evenAt, setSlotAt, setAt, minutesOkAt, recounts, totalOkAt}
 use Rattle.owners.specs.Entries.{Outcome}
 use Rattle.owners.proofs.Entered.{recount-step}
 use Rattle.owners.proofs.Steps.{afresh-again, afresh-same, afresh-fit}
@@ -275,7 +275,8 @@ way-back-in-any-order c a D p ps f A owned ds K w H =
     (after-returns B (sound k e) a all (even k e) (subst (OwnedBefore B a) (r .owners) owned)) in
     let n : length ds ≡ w .count = ap length (sym (H .these)) ∙ draws-length (w .draws) (w .firsts) (w .seconds) (w .count) in
     let b = brings k e f o (lastDerived built c a D (p ∷ ps)) (r .derived) ds w H
-    (last-accepted c a D p ps f A w (omega (arith, takes-few B a o ds K, n, units-few k e)) (H .draws) (H .firsts) (H .seconds) (H .answers))
+    (last-accepted c a D p ps f A w (omega (arith, takes-few B a o ds K, n, units-few k e)) (H .draws) (H .firsts) (H .seconds) (H
+    .answers))
     (returns B (sound k e) a o ds R K) in
     record { accepted = b .accepted; act = b .act; owners = b .owners; derived = b .derived }
 
@@ -297,7 +298,8 @@ never-unowned c e k h none owned w n q =
 
 three-passes : Accepted threeUnits
 unfolding countsOk peopleOk slotCountOk slotsOk slotRoomOk slotOkAt slotOk prevEnd all unitsOk startOk roomOk
-    recounts allIn knownAt knownBy availableAt availableFor available evenAt unitEnd setAt setSlotAt held minutesOkAt worked
+    recounts allIn knownAt knownBy availableAt availableFor available evenAt unitEnd setAt setSlotAt held minutesOkAt totalOkAt
+    totalOf uncovered unassigned count worked
     portion sum minutesAt slot bitOf
 three-passes = record {
   counts = refl;
@@ -323,13 +325,15 @@ three = boardIn threeUnits
 -- the swap of runs on 0 1 0, and on what it leaves
 three-first : (ownersAfter three (0 ∷ 1 ∷ 0 ∷ []) (drawsIn threeUnits) ≡ 1 ∷ 0 ∷ 0 ∷ [])
     × (answers three (0 ∷ 1 ∷ 0 ∷ []) (drawsIn threeUnits) ≡ 0 ∷ [])
-unfolding drawsOf ownersAfter answers answer step decided anyOf runsSwapped runFirst runLast runStart runEnd runTo movable covers unowned ownerOf
+unfolding drawsOf ownersAfter answers answer step decided anyOf runsSwapped runFirst runLast runStart runEnd runTo movable covers
+    unowned ownerOf
     frozenUnit unitFrozen clear unfrozen allIn all slot bitOf unitEnd fitsUnit able available fill
 three-first = (refl, refl)
 
 three-second : (ownersAfter three (1 ∷ 0 ∷ 0 ∷ []) (drawsIn threeUnits) ≡ 0 ∷ 1 ∷ 1 ∷ [])
     × (answers three (1 ∷ 0 ∷ 0 ∷ []) (drawsIn threeUnits) ≡ 0 ∷ [])
-unfolding drawsOf ownersAfter answers answer step decided anyOf runsSwapped runFirst runLast runStart runEnd runTo movable covers unowned ownerOf
+unfolding drawsOf ownersAfter answers answer step decided anyOf runsSwapped runFirst runLast runStart runEnd runTo movable covers
+    unowned ownerOf
     frozenUnit unitFrozen clear unfrozen allIn all slot bitOf unitEnd fitsUnit able available fill
 three-second = (refl, refl)
 
@@ -352,7 +356,11 @@ runs-dont =
     let said : playOf c .answers ≡ 0 ∷ [] =
     ap (λ (z : Outcome). z .answers) y ∙ ap (λ (l : List ℕ). l ++ drop (length l) (9 ∷ [])) (three-first .1) in
     let part : Part = record { count = 1; draws = c .draws; firsts = c .firsts; seconds = c .seconds; answers = playOf c .answers } in
-    let e = next-accepted c three-accepted three-words part (omega arith) (omega arith) (omega arith) (omega arith) (omega (arith, ap length said)) in
+    let e = next-accepted c three-accepted three-words part (omega arith) (omega arith) (omega arith) (omega arith) (omega (
+      arith,
+      ap
+          length said,
+    )) in
     let z = accepted-is (again built c) e in
     record {
       accepted = (three-accepted, ap (λ (t : Outcome). t .refusal .number) z);
@@ -370,8 +378,15 @@ runs-dont =
 
 two-accepted : noOf swapTwo ≡ 0
 two-accepted =
-    accepted apart 0 1 (35 ∷ []) (0 ∷ []) (1 ∷ []) (record { owners = []; sets = []; minutes = []; answers = 9 ∷ [] }) refl refl refl refl
-    (omega arith) (apart-recounts 0 1 (35 ∷ []) (0 ∷ []) (1 ∷ []) (record { owners = []; sets = []; minutes = []; answers = 9 ∷ [] }))
+    accepted apart 0 1 (35 ∷ []) (0 ∷ []) (1 ∷ []) (record { owners = []; sets = []; minutes = []; totals = []; answers = 9 ∷ [] })
+    refl refl refl refl
+    (omega arith) (apart-recounts 0 1 (35 ∷ []) (0 ∷ []) (1 ∷ []) (record {
+      owners = [];
+      sets = [];
+      minutes = [];
+      totals = [];
+      answers = 9 ∷ [];
+    }))
 
 two-words : Words (swapTwo .derived .sets)
 unfolding all
@@ -383,11 +398,21 @@ one-only-breaks C promise W =
     omega (arith, sym (W .no-move) ∙ back .acts)
 
 half-accepted : noOf halfOwned ≡ 0
-unfolding recounts all allIn knownAt knownBy availableAt availableFor available evenAt unitEnd setAt setSlotAt held minutesOkAt worked
+unfolding recounts all allIn knownAt knownBy availableAt availableFor available evenAt unitEnd setAt setSlotAt held minutesOkAt
+    totalOkAt totalOf uncovered unassigned count worked
     portion sum minutesAt slot bitOf
 half-accepted =
-    accepted (record { first = 255; second = 1; words0 = 0; words1 = 2; minutes0 = 0; minutes1 = 60 }) 0 1 (0 ∷ []) (0 ∷ []) (0 ∷ [])
-    (record { owners = []; sets = []; minutes = []; answers = 9 ∷ [] }) refl refl refl refl (omega arith) refl
+    accepted (record {
+      first = 255;
+      second = 1;
+      words0 = 0;
+      words1 = 2;
+      minutes0 = 0;
+      minutes1 = 60;
+      uncovered = 60;
+      unassigned = 1;
+    }) 0 1 (0 ∷ []) (0 ∷ []) (0 ∷ [])
+    (record { owners = []; sets = []; minutes = []; totals = []; answers = 9 ∷ [] }) refl refl refl refl (omega arith) refl
 
 half-plays : ownersIn halfOwned ≡ 0 ∷ 1 ∷ []
 unfolding drawsOf ownersAfter step decided anyOf reassigned picked domainOf among unowned ownerOf

@@ -21,8 +21,8 @@ use Rattle.slots.specs.Lent.{slotOk, prevEnd, slotOkAt, slotRoomOk, slotsOk, mi
 use Rattle.units.specs.Units.{unitEnd, startOk, unitsOk}
 use Rattle.units.proofs.Units.{units-within}
 use Rattle.units.specs.Domains.{available, able, unfrozen, clear, unitFrozen}
-use Rattle.owners.specs.Derived.{knownBy, portion, worked, held, afresh}
-use Rattle.owners.specs.Recount.{firstFail, knownAt, availableFor, availableAt, evenAt, setSlotAt, setAt, minutesOkAt, recountTests}
+use Rattle.owners.specs.Derived.{knownBy, portion, worked, held, afresh, uncovered, unassigned, totalOf}
+use Rattle.owners.specs.Recount.{firstFail, knownAt, availableFor, availableAt, evenAt, setSlotAt, setAt, minutesOkAt, recountTests, totalOkAt}
 use Rattle.owners.specs.Entries as state
 use Rattle.owners.proofs.Made.{afresh-owners}
 use Rattle.owners.proofs.Entered.{recount-says, recount-asks}
@@ -143,9 +143,11 @@ module _ (c : Call) (q : Asked) where
       there =
           let lo = A .asks .on .room .owners-room in
           returns B sound a′ o ds
-          (can-again (c .plan) (c .avail) (c .units) (c .begins) (c .frozen) a o (A .asks .units-ok) (A .owners-room) lo (A .remembered) even
+          (can-again (c .plan) (c .avail) (c .units) (c .begins) (c .frozen) a o (A .asks .units-ok) (A .owners-room) lo (A
+          .remembered) even
           none)
-          (takes-again (c .plan) (c .avail) (c .units) (c .begins) (c .frozen) a o (A .asks .units-ok) (A .owners-room) lo (A .remembered) ds
+          (takes-again (c .plan) (c .avail) (c .units) (c .begins) (c .frozen) a o (A .asks .units-ok) (A .owners-room) lo (A
+          .remembered) ds
           (back-takes B a o))
 
       module _ (y : Outcome) (n : ℕ) (L : LeadsBy y n) (x : List ℕ) (room : n ≤ length x) where
@@ -177,12 +179,15 @@ module _ (c : Call) (q : Asked) where
 
   leads : (n : ℕ) → wayFor c q .answer ≡ way.Draws n → Leads built c q n
   leads n e =
-      let r = found-says (c .plan) (c .avail) (c .units) (c .begins) (c .frozen) a o (c .derived) (q .draws) (q .firsts) (q .seconds) n e in
+      let r = found-says (c .plan) (c .avail) (c .units) (c .begins) (c .frozen) a o (c .derived) (q .draws) (q .firsts) (q .seconds)
+      n e in
       let z = r .0 in
-      let is = is-found (c .plan) (c .avail) (c .units) (c .begins) (c .frozen) a o (c .derived) (q .draws) (q .firsts) (q .seconds) z (r .1) in
+      let is = is-found (c .plan) (c .avail) (c .units) (c .begins) (c .frozen) a o (c .derived) (q .draws) (q .firsts) (q .seconds)
+      z (r .1) in
       let none : (u : ℕ) → InWay B a o u → ⊥ = λ u I. first-lowest B a o u (omega (arith, I .differ .known, r .1)) I in
       let y = wayFor c q in
-      let L : LeadsBy z y n = subst (LeadsBy z y) (r .2) (subst (λ (t : Outcome). LeadsBy z t (length (back B a o))) (sym is) (leads-by z)) in
+      let L : LeadsBy z y n = subst (LeadsBy z y) (r .2) (subst (λ (t : Outcome). LeadsBy z t (length (back B a o))) (sym is)
+      (leads-by z)) in
       record {
         is-back = L .is-back;
         past = L .past;
@@ -195,9 +200,11 @@ module _ (c : Call) (q : Asked) where
   blocks : (u : ℕ) → wayFor c q .answer ≡ way.NoWay u → Blocks built c q u
   unfolding wayOf
   blocks u e =
-      let r = blocked-says (c .plan) (c .avail) (c .units) (c .begins) (c .frozen) a o (c .derived) (q .draws) (q .firsts) (q .seconds) u e in
+      let r = blocked-says (c .plan) (c .avail) (c .units) (c .begins) (c .frozen) a o (c .derived) (q .draws) (q .firsts) (q
+      .seconds) u e in
       let z = r .0 in
-      let is = is-blocked (c .plan) (c .avail) (c .units) (c .begins) (c .frozen) a o (c .derived) (q .draws) (q .firsts) (q .seconds) z (r .1) in
+      let is = is-blocked (c .plan) (c .avail) (c .units) (c .begins) (c .frozen) a o (c .derived) (q .draws) (q .firsts) (q
+      .seconds) z (r .1) in
       let I : InWay B a o u = subst (InWay B a o) (r .2) (first-in B a o (r .1)) in
       record {
         in-way = I;
@@ -264,11 +271,13 @@ module _ (c : Call) (q : Asked) where
       (λ _. by-cond (all (P .slots) (availableAt (c .avail) a)) _ _ ReadsBack
       (λ _. small-back _ (placeless-small 0 (omega arith))) (λ _. small-back _ (placeless-small 12 (omega arith))))
       (λ _. small-back _ (placeless-small 11 (omega arith))))
-      (λ _. small-back _ (fault-small 3 (firstFail (c .units) p) 0 (omega arith) (omega (arith, first-is (c .units) p .within)) (omega arith)))
+      (λ _. small-back _ (fault-small 3 (firstFail (c .units) p) 0 (omega arith) (omega (arith, first-is (c .units) p .within))
+      (omega arith)))
 
   abbrev front : List Test
   front =
-      state.recountRow true (wayRoomOk (c .plan .slots) (c .units) (c .begins) (c .frozen) a (q .draws) (q .firsts) (q .seconds)) (c .plan)
+      state.recountRow true (wayRoomOk (c .plan .slots) (c .units) (c .begins) (c .frozen) a (q .draws) (q .firsts) (q .seconds)) (c
+      .plan)
       (c .avail) (c .units) (c .begins) o (c .derived)
 
   numbers : numbered front ≡ true
@@ -309,14 +318,16 @@ module _ (c : Call) (q : Asked) where
       let z = eqb-true _ _ t in
       ⊎-elim
       (λ (h : firstInWay B a o < c .units).
-      subst (λ (y : Outcome). Read (y .answer)) (sym (is-blocked P (c .avail) (c .units) (c .begins) (c .frozen) a o (c .derived) (q .draws)
+      subst (λ (y : Outcome). Read (y .answer)) (sym (is-blocked P (c .avail) (c .units) (c .begins) (c .frozen) a o (c .derived) (q
+      .draws)
       (q .firsts) (q .seconds) z h)) refl)
       (λ (h : c .units ≤ firstInWay B a o).
       subst (λ (y : Outcome). Read (y .answer)) (sym (is-found P (c .avail) (c .units) (c .begins) (c .frozen) a o (c .derived) (q .draws)
       (q .firsts) (q .seconds) z h)) refl)
       (lt-or-ge (firstInWay B a o) (c .units)))
       (λ n.
-      subst (λ (y : Outcome). Read (y .answer)) (sym (is-refused P (c .avail) (c .units) (c .begins) (c .frozen) a o (c .derived) (q .draws)
+      subst (λ (y : Outcome). Read (y .answer)) (sym (is-refused P (c .avail) (c .units) (c .begins) (c .frozen) a o (c .derived) (q
+      .draws)
       (q .firsts) (q .seconds) (eqb-false _ _ n)))
       (refused-reads (refusalOf (wayTests c q)) row-reads (λ k. eqb-false _ _ n (sym (said (wayTests c q) refl) ∙ k)) was))
 
@@ -324,8 +335,10 @@ module _ (c : Call) (q : Asked) where
 example : wayFor noDraw record { remembered = 1 ∷ 1 ∷ []; draws = replicate 2 9; firsts = replicate 2 9; seconds = replicate 2 9 }
     ≡ record { answer = way.Draws 1; draws = 0 ∷ 9 ∷ []; firsts = 0 ∷ 9 ∷ []; seconds = 1 ∷ 9 ∷ [] }
 unfolding wayBack wayRow refusalOf state.recountRow state.lentRow recountTests rememberedRow wayRoomOk columnsEnough wayOf drawsWritten
-    peopleOk slotCountOk slotRoomOk slotsOk slotOkAt slotOk prevEnd unitsOk startOk all allIn among count sum onto firstFail knownAt knownBy
-    availableFor availableAt available evenAt unitEnd setAt setSlotAt held minutesOkAt worked portion minutesAt slot bitOf
+    peopleOk slotCountOk slotRoomOk slotsOk slotOkAt slotOk prevEnd unitsOk startOk all allIn among count sum onto firstFail knownAt
+    knownBy
+    availableFor availableAt available evenAt unitEnd setAt setSlotAt held minutesOkAt totalOkAt totalOf uncovered unassigned worked
+    portion minutesAt slot bitOf
     firstInWay inTheWay differs differing unowned ownerOf frozenUnit unitFrozen clear unfrozen fitsUnit able back placeIn kindsOf firstsOf
     secondsOf
 example = refl

@@ -24,7 +24,7 @@ use Rattle.units.specs.Days.{coveredDaysIs, minutesPerDayIs, targetRunIs}
 use Rattle.units.specs.Domains.{unitFrozenIs, slotDomainIs, unitDomainIs, unitDomainsRow}
 use Rattle.units.specs.Achievable.{achievableRunIs}
 use Rattle.targets.specs.Outcome.{given, computeTargets}
-use Rattle.owners.specs.Derived.{derived}
+use Rattle.owners.specs.Derived.{plan, derived}
 use Rattle.owners.specs.Entries as state
 use Rattle.rota.specs.Entries as rota
 use Rattle.rota.specs.declared.draws.Draw.{Draw}
@@ -49,7 +49,7 @@ settings = record { fairness = 0; lock = 0; boundary = 0; edition = 0; value = 1
 
 -- two slots, owned by 0 and 1, no draw, and nothing lent past what is needed
 abbrev pub nothing : Spare
-nothing = record { owners = []; sets = []; minutes = []; answers = [] }
+nothing = record { owners = []; sets = []; minutes = []; totals = []; answers = [] }
 
 abbrev pub noDraw : Call
 noDraw = twoUnits apart 0 0 [] [] [] nothing
@@ -93,7 +93,7 @@ pub record EachAccepts : Type 0 where
       computeTargets g (pos 0 ∷ pos 0 ∷ []) .number ≡ 0
   -- the rota
   pub from-slots : state.fromSlots (noDraw .plan) (noDraw .avail) (noDraw .owners) (noDraw .derived) .refusal .number ≡ 0
-  pub empty : state.emptied 1 1 room (derived (words 0) room) .refusal .number ≡ 0
+  pub empty : state.emptied (plan 1 1 starts ends) room (derived (words 0) room (0 ∷ 0 ∷ [])) .refusal .number ≡ 0
   pub assign : rota.assigned (noDraw .plan) (noDraw .avail) (noDraw .owners) (noDraw .derived) 0 1 .refusal .number ≡ 0
   pub recount : numberOf (state.recountRow true (leb 2 (length (noDraw .begins))) (noDraw .plan) (noDraw .avail) 2 (noDraw .begins)
       (noDraw .owners) (noDraw .derived)) ≡ 0

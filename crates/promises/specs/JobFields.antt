@@ -18,7 +18,7 @@ use Rattle.units.specs.declared.Settings.{Settings}
 use Rattle.units.specs.Answers.{Written}
 use Rattle.units.specs.Starts.{unitStartsIs}
 use Rattle.targets.specs.Outcome.{given, computeTargets}
-use Rattle.owners.specs.Derived.{Plan, plan, derived, uncovered}
+use Rattle.owners.specs.Derived.{Plan, plan, derived}
 use Rattle.owners.specs.Entries.{Outcome, fromSlots}
 use Rattle.records.specs.Fields.{le}
 use Rattle.records.specs.Records.{Rec, bodies}
@@ -126,7 +126,7 @@ readyFrom G =
 
 -- the rota of the owners, and the play of the draws on it
 abbrev pub startFrom : Given → List ℕ → Outcome
-startFrom G o = fromSlots (planFrom G) (availFrom G) o (derived (replicate 512 0) (replicate 32 0))
+startFrom G o = fromSlots (planFrom G) (availFrom G) o (derived (replicate 512 0) (replicate 32 0) (replicate 2 0))
 
 abbrev pub callFrom : Given → List ℕ → Call
 callFrom G o = record {
@@ -149,7 +149,7 @@ abbrev pub listedFrom : Given → List ℕ → Listed
 listedFrom G o =
     let y = playOf (callFrom G o) in
     listed (slotsFrom G) (atomsFrom G .starts) (atomsFrom G .ends) (y .owners) (G .people) (y .derived .minutes) (readyFrom G .targets)
-    (G .played) (y .answers) (uncovered (planFrom G) (y .owners))
+    (G .played) (y .answers) (getD (y .derived .totals) 0 0)
 
 -- ---- the promise: an accepted job lists what its records give so
 

@@ -61,16 +61,19 @@ pub record Owned : Type 0 where
   pub words1 : ℕ
   pub minutes0 : ℕ
   pub minutes1 : ℕ
+  pub uncovered : ℕ
+  pub unassigned : ℕ
 
 -- owners 0 and 1
 abbrev pub apart : Owned
-apart = record { first = 0; second = 1; words0 = 1; words1 = 2; minutes0 = 60; minutes1 = 60 }
+apart = record { first = 0; second = 1; words0 = 1; words1 = 2; minutes0 = 60; minutes1 = 60; uncovered = 0; unassigned = 0 }
 
 -- what is lent past what is needed, and the answers' buffer: anything
 pub record Spare : Type 0 where
   pub owners : List ℕ
   pub sets : List ℕ
   pub minutes : List ℕ
+  pub totals : List ℕ
   pub answers : List ℕ
 
 abbrev pub words : ℕ → List ℕ
@@ -89,7 +92,8 @@ twoUnits r frozen count draws firsts seconds more = record {
   firsts = firsts;
   seconds = seconds;
   owners = r .first ∷ r .second ∷ more .owners;
-  derived = derived (words (r .words0) ++ (words (r .words1) ++ more .sets)) (r .minutes0 ∷ r .minutes1 ∷ more .minutes);
+  derived = derived (words (r .words0) ++ (words (r .words1) ++ more .sets)) (r .minutes0 ∷ r .minutes1 ∷ more .minutes)
+      (r .uncovered ∷ r .unassigned ∷ more .totals);
   answers = more .answers;
 }
 

@@ -10,7 +10,7 @@ use Rattle.paper.specs.declared.Refusal.{Refusal}
 use Rattle.paper.specs.Rows.{refusalOf}
 use Rattle.slotset.specs.Answers.{rowSlots}
 use Rattle.units.specs.Units.{unitStart, unitsOk, InUnit}
-use Rattle.owners.specs.Derived.{Plan, Derived, worked}
+use Rattle.owners.specs.Derived.{Plan, Derived, worked, totalOf}
 use Rattle.owners.specs.Recount.{recountTests}
 use Rattle.owners.specs.Entries.{placeless, lentRow, recountRow, recountSlotsRow}
 use Rattle.rota.specs.Entries.{assigned}
@@ -28,7 +28,7 @@ abbrev pub fault : ℕ → ℕ → ℕ → Refusal
 fault part place second = record { number = 10; part = part; place = place; second = second }
 
 -- ---- what is right at a place: the owner of a slot is known, and is available; a unit has one owner; a slot of a person's set is as the
--- owners say, and so is the set; a person's minutes are
+-- owners say, and so is the set; a person's minutes are; a stored total is
 
 abbrev pub OwnerKnown : Plan → List ℕ → ℕ → Type 0
 OwnerKnown P o k = (getD o k 0 ≡ nobody) ⊎ (getD o k 0 < P .people)
@@ -48,8 +48,11 @@ SetRight P o D p = AllRight (P .slots) (SlotRight o D p)
 abbrev pub MinutesRight : Plan → List ℕ → Derived → ℕ → Type 0
 MinutesRight P o D p = getD (D .minutes) p 0 ≡ worked P o p
 
+abbrev pub TotalRight : Plan → List ℕ → Derived → ℕ → Type 0
+TotalRight P o D i = getD (D .totals) i 0 ≡ totalOf P o i
+
 -- ---- "10 becomes 10.1 to 10.5 .. checked in that order .. the lowest slot, unit or person, for a wrong set the lowest person and that
--- person's lowest slot"
+-- person's lowest slot"; "a wrong stored total is 10.6, after wrong minutes; place 0 is minutes, 1 the count"
 
 pub data FailsAt (P : Plan) (avail : List ℕ) (units : ℕ) (begins o : List ℕ) (D : Derived) (f : Refusal) : Type 0 where
   unknown : (k : ℕ) → f ≡ fault 1 k 0 → LowestFault (P .slots) (OwnerKnown P o) k → FailsAt P avail units begins o D f
@@ -63,6 +66,9 @@ pub data FailsAt (P : Plan) (avail : List ℕ) (units : ℕ) (begins o : List �
   wrong-minutes : (p : ℕ) → f ≡ fault 5 p 0 → AllRight (P .slots) (OwnerKnown P o) → AllRight (P .slots) (OwnerAvailable avail o)
       → AllRight units (OneOwner P units begins o) → AllRight (P .people) (SetRight P o D)
       → LowestFault (P .people) (MinutesRight P o D) p → FailsAt P avail units begins o D f
+  wrong-total : (i : ℕ) → f ≡ fault 6 i 0 → AllRight (P .slots) (OwnerKnown P o) → AllRight (P .slots) (OwnerAvailable avail o)
+      → AllRight units (OneOwner P units begins o) → AllRight (P .people) (SetRight P o D) → AllRight (P .people) (MinutesRight P o D)
+      → LowestFault 2 (TotalRight P o D) i → FailsAt P avail units begins o D f
 
 -- what an entry answers, where n is the number of the tests before the recount: 10 exactly where they pass and the recount fails, with its
 -- part and place, of which only one fits; any other number names none
@@ -101,5 +107,6 @@ pub record PlacesByRule : Type 0 where
       → FailsAt (c .plan) (c .avail) (c .units) (c .begins) (c .owners) (c .derived) (playDrawsOf c ds .refusal)
   -- "in a job only 10.3 comes": its unit is the lowest to which the records give two owners
   pub job : (s x : List ℕ) (J : JobFile s) (f : Refusal) → jobResult s x .answer ≡ answer.Refused f → f .number ≡ 10
-      → let R = readyFrom (givenBy (J .records)) in (f ≡ fault 3 (f .place) 0) × LowestFault (R .units) (UnitEven (J .records) R) (f .place)
+      → let R = readyFrom (givenBy (J .records)) in (f ≡ fault 3 (f .place) 0) × LowestFault (R .units) (UnitEven (J .records) R) (f
+      .place)
   pub job-none : (s x : List ℕ) (f : Refusal) → jobResult s x .answer ≡ answer.Refused f → f .number ≢ 10 → f ≡ placeless (f .number)

@@ -13,7 +13,7 @@ use Rattle.slots.specs.Lent.{demandOf}
 use Rattle.units.specs.Units.{unitOf}
 use Rattle.slots.specs.declared.Minutes.the-variants as minutes
 use Rattle.rota.specs.Acts as acts
-use Rattle.owners.specs.Derived.{knownBy}
+use Rattle.owners.specs.Derived.{knownBy, totalOf}
 use Rattle.owners.specs.Recount.{availableFor, recounts}
 use Rattle.owners.specs.Entries.{Outcome, slotsOfIs}
 use Rattle.rota.specs.declared.draws.Draw.{Draw}
@@ -62,7 +62,7 @@ OnlyHandedOver C =
     (c : Call) → noOf c ≡ 0 → (k : ℕ) → k < c .plan .slots
     → ((i : ℕ) → i < c .count → HandedAt c i (unitOf (c .units) (c .begins) k) → ⊥) → after C c k ≡ before c k
 
--- "sets and minutes equal a recount": the rota that is left passes it, units too
+-- "sets and minutes equal a recount": the rota that is left passes it, units and stored totals too
 abbrev pub Recounts : Component → Type 0
 Recounts C =
     (c : Call) → noOf c ≡ 0
@@ -75,13 +75,23 @@ SizesRecount C =
     → C .size (slotsOfIs (c .plan .people) (c .plan .slots) (C .play c .derived .sets) p .set)
     ≡ number.Is (count (c .plan .slots) (λ k. eqb (after C c k) p))
 
--- "minutes plus uncovered minutes equal the slots' total": the uncovered minutes are answered, and this is their sum
+-- "minutes plus uncovered minutes equal the slots' total": the stored uncovered minutes are those that are answered, and this is their sum
 abbrev pub AddsUp : Component → Type 0
 AddsUp C =
     (c : Call) → noOf c ≡ 0
-    → (u : ℕ) × (C .uncovered (c .plan) (C .play c .owners) ≡ minutes.Is u)
-    × (sum (c .plan .people) (λ p. getD (C .play c .derived .minutes) p 0) + u
+    → let stored = getD (C .play c .derived .totals) 0 0 in
+    (C .uncovered (c .plan) (C .play c .owners) ≡ minutes.Is stored)
+    × (sum (c .plan .people) (λ p. getD (C .play c .derived .minutes) p 0) + stored
     ≡ demandOf (c .plan .slots) (c .plan .starts) (c .plan .ends))
+
+-- no draw raises a stored total: neither the uncovered minutes nor the number of slots that nobody owns
+abbrev pub TotalsFall : Component → Type 0
+TotalsFall C = (c : Call) → noOf c ≡ 0 → (i : ℕ) → i < 2 → getD (C .play c .derived .totals) i 0 ≤ getD (c .derived .totals) i 0
+
+-- a total that is wrong at the start is refused, and never carried on
+abbrev pub WrongTotalsRefused : Type 0
+WrongTotalsRefused =
+    (c : Call) (i : ℕ) → i < 2 → (getD (c .derived .totals) i 0 ≡ totalOf (c .plan) (c .owners) i → ⊥) → noOf c ≡ 0 → ⊥
 
 -- and of the paper, bytes past the list's end or the needed length stay: those of the rota, and answers past the draws
 abbrev pub PastStays : Component → Type 0

@@ -20,19 +20,23 @@ use Rattle.owners.specs.Entries.{Outcome, fromSlots, emptied, ownerIs, minutesI
 use Rattle.rota.specs.Entries.{assigned}
 use Rattle.promises.specs.Entries.{Call, noOf, onRota}
 
--- "The recount ..: owners known and available, units uniform, sets and minutes equal to those worked out from owners."
+-- "The recount ..: owners known and available, units uniform, sets and minutes equal to those worked out from owners", and so the stored
+-- totals: the minutes of the slots that nobody owns, and how many they are
 pub record PassesRecount (P : Plan) (avail : List ℕ) (units : ℕ) (begins o : List ℕ) (D : Derived) : Type 0 where
   pub known : (k : ℕ) → k < P .slots → (getD o k 0 ≡ nobody) ⊎ (getD o k 0 < P .people)
   pub available : (k : ℕ) → k < P .slots → getD o k 0 ≢ nobody → rowSlots avail (getD o k 0) k ≡ 1
   pub uniform : (u k : ℕ) → InUnit (P .slots) units begins k u → getD o k 0 ≡ getD o (unitStart begins u) 0
   pub sets : (p k : ℕ) → p < P .people → k < P .slots → (rowSlots (D .sets) p k ≡ 1) ↔ (getD o k 0 ≡ p)
   pub minutes : (p : ℕ) → p < P .people → getD (D .minutes) p 0 ≡ worked P o p
+  pub uncovered : getD (D .totals) 0 0 ≡ worked P o nobody
+  pub unassigned : getD (D .totals) 1 0 ≡ count (P .slots) (λ k. eqb (getD o k 0) nobody)
 
--- "Bytes past the list's end or the needed length always stay": owners past the slots, minutes past the people, and each bit of the sets
--- that is no slot of a person
+-- "Bytes past the list's end or the needed length always stay": owners past the slots, minutes past the people, what lies past the two
+-- totals, and each bit of the sets that is no slot of a person
 pub record PastKept (people slots : ℕ) (o : List ℕ) (D : Derived) (y : Outcome) : Type 0 where
   pub owners : (k : ℕ) → slots ≤ k → getD (y .owners) k 0 ≡ getD o k 0
   pub minutes : (p : ℕ) → people ≤ p → getD (y .derived .minutes) p 0 ≡ getD (D .minutes) p 0
+  pub totals : (i : ℕ) → 2 ≤ i → getD (y .derived .totals) i 0 ≡ getD (D .totals) i 0
   pub sets : (i : ℕ) → ((p k : ℕ) → p < people → k < slots → i ≡ 1024 * p + k → ⊥) → slot (y .derived .sets) 0 i ≡ slot (D .sets) 0 i
 
 -- what an entry that makes a rota leaves, units aside: it passes the recount, and what lies past it is as it was
@@ -48,7 +52,7 @@ pub record RotaByRule : Type 0 where
   -- the test that 10 stands for, both ways
   pub recount : (P : Plan) (avail : List ℕ) (units : ℕ) (begins o : List ℕ) (D : Derived)
       → (recounts P avail units begins o D ≡ true) ↔ PassesRecount P avail units begins o D
-  -- "`from_slots` makes sets and minutes from owners"
+  -- "`from_slots` makes sets and minutes from owners", and the totals
   pub from-slots : (P : Plan) (avail o : List ℕ) (D : Derived)
       → let y = fromSlots P avail o D in y .refusal .number ≡ 0 → (y .owners ≡ o) × Made P avail o D y
   -- "Single-slot assign recounts too but asks nothing of units or frozen flags": slot k has the owner, every other slot the one it had
@@ -58,11 +62,12 @@ pub record RotaByRule : Type 0 where
   -- "a rota it makes uneven is refused by the next play", whatever the draws
   pub uneven : (c : Call) (k w : ℕ) → noOf c ≡ 0
       → let y = assigned (c .plan) (c .avail) (c .owners) (c .derived) k w in y .refusal .number ≡ 0
-      → (u j : ℕ) → InUnit (c .plan .slots) (c .units) (c .begins) j u → getD (y .owners) j 0 ≢ getD (y .owners) (unitStart (c .begins) u) 0
+      → (u j : ℕ) → InUnit (c .plan .slots) (c .units) (c .begins) j u → getD (y .owners) j 0 ≢ getD (y .owners) (unitStart (c
+      .begins) u) 0
       → noOf (onRota c (y .owners) (y .derived) (c .answers)) ≡ 10
-  -- an empty rota: nobody owns a slot, and it passes the recount, units too, whatever the slots' times and the availability
+  -- an empty rota: nobody owns a slot, and it passes the recount, units too, whatever the availability
   pub empty : (P : Plan) (o : List ℕ) (D : Derived)
-      → let y = emptied (P .people) (P .slots) o D in y .refusal .number ≡ 0
+      → let y = emptied P o D in y .refusal .number ≡ 0
       → ((k : ℕ) → k < P .slots → getD (y .owners) k 0 ≡ nobody)
       × ((avail : List ℕ) (units : ℕ) (begins : List ℕ) → unitsOk (P .slots) units begins ≡ true
       → PassesRecount P avail units begins (y .owners) (y .derived))

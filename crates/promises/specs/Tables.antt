@@ -203,7 +203,7 @@ rotaTable P avail o D counts lengths more =
     outside 1 32 (P .people) ∷ outside 1 1024 (P .slots)
     ∷ (counts ++ (short (P .slots) (length (P .starts)) ∷ short (P .slots) (length (P .ends)) ∷ short (16 * P .people) (length avail)
     ∷ short (P .slots) (length o) ∷ short (16 * P .people) (length (D .sets)) ∷ short (P .people) (length (D .minutes))
-    ∷ (lengths ++ (broken 9 (SlotsRight (P .slots) (P .starts) (P .ends)) ∷ more))))
+    ∷ short 2 (length (D .totals)) ∷ (lengths ++ (broken 9 (SlotsRight (P .slots) (P .starts) (P .ends)) ∷ more))))
 
 abbrev pub fromSlotsTable : Plan → List ℕ → List ℕ → Derived → List Rule
 fromSlotsTable P avail o D =
@@ -230,10 +230,11 @@ playTable c draws firsts seconds =
     (short 16 (length (c .frozen)) ∷ short (c .count) draws ∷ short (c .count) firsts ∷ short (c .count) seconds
     ∷ short (c .count) (length (c .answers)) ∷ [])
 
-abbrev pub emptyTable : ℕ → ℕ → List ℕ → Derived → List Rule
-emptyTable people slots o D =
-    outside 1 32 people ∷ outside 1 1024 slots ∷ short slots (length o) ∷ short (16 * people) (length (D .sets))
-    ∷ short people (length (D .minutes)) ∷ []
+abbrev pub emptyTable : Plan → List ℕ → Derived → List Rule
+emptyTable P o D =
+    outside 1 32 (P .people) ∷ outside 1 1024 (P .slots) ∷ short (P .slots) (length (P .starts)) ∷ short (P .slots) (length (P .ends))
+    ∷ short (P .slots) (length o) ∷ short (16 * P .people) (length (D .sets)) ∷ short (P .people) (length (D .minutes))
+    ∷ short 2 (length (D .totals)) ∷ broken 9 (SlotsRight (P .slots) (P .starts) (P .ends)) ∷ []
 
 abbrev pub ownerTable : ℕ → ℕ → List ℕ → ℕ → List Rule
 ownerTable people slots o k =
@@ -266,7 +267,8 @@ pub record SetsByTable : Type 0 where
   pub stretch : (v : ℕ) (s : SlotSet) (a e : ℕ)
       → GivenBy (outside 0 1024 (s .len) ∷ reachesPast a e (s .len) ∷ []) (stretchOf v s a e .number)
   -- a person's row: every question of it, and `store`; then `load`, a stretch of it, everybody's sets, and the list of runs
-  pub rows : (ws : List ℕ) (people person len : ℕ) → GivenBy (rowTable ws people person len []) (numberOf (personRow ws people person len))
+  pub rows : (ws : List ℕ) (people person len : ℕ) → GivenBy (rowTable ws people person len []) (numberOf (personRow ws people person
+      len))
   pub load : (ws : List ℕ) (people person len : ℕ) → GivenBy (rowTable ws people person len []) (loadOf ws people person len .number)
   pub put-stretch : (ws : List ℕ) (people person len a e : ℕ)
       → GivenBy (rowTable ws people person len (reachesPast a e len ∷ [])) (numberOf (personStretchRow ws people person len a e))
@@ -275,7 +277,8 @@ pub record SetsByTable : Type 0 where
       → GivenBy (runsTable ws people person len begins lasts) (numberRefusal (allRunsOf ws people person len begins lasts .answer))
 
 pub record SlotsByTable : Type 0 where
-  pub demand : (slots : ℕ) (starts ends : List ℕ) → GivenBy (slotsTable slots starts ends []) (minutesRefusal (demandIs slots starts ends))
+  pub demand : (slots : ℕ) (starts ends : List ℕ) → GivenBy (slotsTable slots starts ends []) (minutesRefusal (demandIs slots starts
+      ends))
   pub slot-minutes : (slots : ℕ) (starts ends : List ℕ) (k : ℕ)
       → GivenBy (slotsTable slots starts ends (notBelow k slots ∷ [])) (minutesRefusal (slotMinutesIs slots starts ends k))
   pub merged-ranges : (people : ℕ) (R : Ranges) (out : Columns)
@@ -321,7 +324,8 @@ pub record UnitsByTable : Type 0 where
 pub record RotaByTable : Type 0 where
   pub compute-targets : (g : targets.Given) (out : List ℤ)
       → GivenBy (targetsTable g (length out)) (targets.computeTargets g out .number)
-  pub from-slots : (P : Plan) (avail o : List ℕ) (D : Derived) → GivenBy (fromSlotsTable P avail o D) (state.fromSlots P avail o D .refusal .number)
+  pub from-slots : (P : Plan) (avail o : List ℕ) (D : Derived) → GivenBy (fromSlotsTable P avail o D) (state.fromSlots P avail o D
+      .refusal .number)
   pub assign : (P : Plan) (avail o : List ℕ) (D : Derived) (k w : ℕ)
       → GivenBy (assignTable P avail o D k w) (rota.assigned P avail o D k w .refusal .number)
   pub recount : (P : Plan) (avail : List ℕ) (units : ℕ) (begins o : List ℕ) (D : Derived)
@@ -331,9 +335,9 @@ pub record RotaByTable : Type 0 where
       → GivenBy (recountSlotsTable P avail o D []) (numberOf (state.recountSlotsRow P avail o D))
   pub play : (c : Call) → GivenBy (playTable c (length (c .draws)) (length (c .firsts)) (length (c .seconds))) (playOf c .refusal .number)
   -- a list of structs has one length
-  pub play-draws : (c : Call) (ds : List Draw) → GivenBy (playTable c (length ds) (length ds) (length ds)) (playDrawsOf c ds .refusal .number)
-  pub empty : (people slots : ℕ) (o : List ℕ) (D : Derived)
-      → GivenBy (emptyTable people slots o D) (state.emptied people slots o D .refusal .number)
+  pub play-draws : (c : Call) (ds : List Draw) → GivenBy (playTable c (length ds) (length ds) (length ds)) (playDrawsOf c ds .refusal
+      .number)
+  pub empty : (P : Plan) (o : List ℕ) (D : Derived) → GivenBy (emptyTable P o D) (state.emptied P o D .refusal .number)
   pub owner-of-slot : (people slots : ℕ) (o : List ℕ) (k : ℕ)
       → GivenBy (ownerTable people slots o k) (numberRefusal (state.ownerIs people slots o k))
   pub minutes-of : (people : ℕ) (m : List ℕ) (p : ℕ) → GivenBy (minutesTable people m p) (minutesRefusal (state.minutesIs people m p))

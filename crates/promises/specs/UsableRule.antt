@@ -88,7 +88,7 @@ pub record UsableByRule : Type 0 where
   pub neighbours : (B : Brought) → numberOf (usableRow B) ≡ 0 → (k : ℕ) → TooClose B k → NextTooClose B k
   -- a rota that may be used can be taken over: from_slots accepts it, and what it makes passes the recount, units too
   pub taken-over : (B : Brought) (D : Derived) → numberOf (usableRow B) ≡ 0 → verdictIs B ≡ verdict.Usable
-      → 16 * B .plan .people ≤ length (D .sets) → B .plan .people ≤ length (D .minutes)
+      → 16 * B .plan .people ≤ length (D .sets) → B .plan .people ≤ length (D .minutes) → 2 ≤ length (D .totals)
       → let y = fromSlots (B .plan) (B .avail) (B .owners) D in
       (y .refusal .number ≡ 0) × PassesRecount (B .plan) (B .avail) (B .units) (B .begins) (y .owners) (y .derived)
   -- in C: the number and what stands beside it are read as the verdict that was meant

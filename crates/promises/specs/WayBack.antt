@@ -60,7 +60,7 @@ threeUnits = record {
   firsts = 0 ∷ [];
   seconds = 1 ∷ [];
   owners = 0 ∷ 1 ∷ 0 ∷ [];
-  derived = derived (words 5 ++ words 2) (120 ∷ 60 ∷ []);
+  derived = derived (words 5 ++ words 2) (120 ∷ 60 ∷ []) (0 ∷ 0 ∷ []);
   answers = 9 ∷ [];
 }
 
@@ -72,7 +72,7 @@ pub record RunsDont (C : Component) : Type 0 where
 
 -- a swap that moved one owner only: owners 0 and 1, (35, 0, 1) acts and leaves 1 and 1, where by the rule the same draw is no move
 abbrev pub swapTwo : Call
-swapTwo = twoUnits apart 0 1 (35 ∷ []) (0 ∷ []) (1 ∷ []) record { owners = []; sets = []; minutes = []; answers = 9 ∷ [] }
+swapTwo = twoUnits apart 0 1 (35 ∷ []) (0 ∷ []) (1 ∷ []) record { owners = []; sets = []; minutes = []; totals = []; answers = 9 ∷ [] }
 
 pub record MovesOneOnly (C : Component) : Type 0 where
   pub acts : getD (C .play swapTwo .answers) 0 0 ≡ 0
@@ -151,8 +151,9 @@ NeverUnowned C =
 -- such a rota: two units, nobody owns the first, and (0, 0, 0) gives it to person 0
 abbrev pub halfOwned : Call
 halfOwned =
-    twoUnits record { first = 255; second = 1; words0 = 0; words1 = 2; minutes0 = 0; minutes1 = 60 } 0 1 (0 ∷ []) (0 ∷ []) (0 ∷ [])
-    record { owners = []; sets = []; minutes = []; answers = 9 ∷ [] }
+    twoUnits record { first = 255; second = 1; words0 = 0; words1 = 2; minutes0 = 0; minutes1 = 60; uncovered = 60; unassigned = 1 }
+    0 1 (0 ∷ []) (0 ∷ []) (0 ∷ [])
+    record { owners = []; sets = []; minutes = []; totals = []; answers = 9 ∷ [] }
 
 pub record ConditionNeeded (C : Component) : Type 0 where
   pub accepted : noOf halfOwned ≡ 0

@@ -163,7 +163,8 @@ module _ (P : Plan) (S : PlanSound P) (avail : List ℕ) (units : ℕ) (begins o
   counted = recount-says P avail units begins o D e
 
   -- all persons' minutes plus the stored uncovered ones are the sum of the lent slots
-  pub minutes-and-uncovered : sum (P .people) (λ p. getD (D .minutes) p 0) + getD (D .totals) 0 0 ≡ demandOf (P .slots) (P .starts) (P .ends)
+  pub minutes-and-uncovered : sum (P .people) (λ p. getD (D .minutes) p 0) + getD (D .totals) 0 0 ≡ demandOf (P .slots) (P .starts)
+      (P .ends)
   unfolding totalOf
   minutes-and-uncovered =
       ap (λ (t : ℕ). sum (P .people) (λ p. getD (D .minutes) p 0) + t) (counted .totals 0 (omega arith))
@@ -199,7 +200,8 @@ module _ (P : Plan) (avail o : List ℕ) (D : Derived) (e : numberOf (recountSlo
   right : Recounted P avail 0 [] o D
   right = recount-says P avail 0 [] o D (slots-asks P avail o D e .1)
 
-  module _ (E : Derived) (rs : 16 * P .people ≤ length (E .sets)) (rm : P .people ≤ length (E .minutes)) (rt : 2 ≤ length (E .totals)) where
+  module _ (E : Derived) (rs : 16 * P .people ≤ length (E .sets)) (rm : P .people ≤ length (E .minutes)) (rt : 2 ≤ length (E
+      .totals)) where
     accepted : numberOf (fromSlotsRow P avail o E) ≡ 0
     unfolding fromSlotsRow recountSlotsRow lentRow recountTests
     accepted =

@@ -28,7 +28,8 @@ pub(crate) fn hand_over(
     requires { ⌜ OneOwner (now owners) slots a e ⌝ }
     requires { ⌜ knownBy people to ≡ true ⌝ }
     ensures { λ _. ⌜ HandedOver (plan people slots (now (starts .entry)) (now (ends .entry))) (now (owners .entry)) (derived (now
-        (sets .entry)) (now (minutes .entry)) (now (totals .entry))) a e to (now (owners .exit)) (derived (now (sets .exit)) (now (minutes .exit)) (now (totals .exit))) ⌝ }
+        (sets .entry)) (now (minutes .entry)) (now (totals .entry))) a e to (now (owners .exit)) (derived (now (sets .exit)) (now
+        (minutes .exit)) (now (totals .exit))) ⌝ }
 {
     owners::hand_over(
         people,
@@ -59,7 +60,8 @@ fn assign_refusal(
     slot: usize,
     owner: u8,
 ) -> Refusal
-    ensures { λ r. ⌜ r ≡ refusalOf (assignRow (plan people slots (now (starts .entry)) (now (ends .entry))) (now (avail .entry)) (now
+    ensures { λ r. ⌜ r ≡ refusalOf (assignRow (plan people slots (now (starts .entry)) (now (ends .entry))) (now (avail .entry))
+        (now
         (owners .entry)) (derived (now (sets .entry)) (now (minutes .entry)) (now (totals .entry))) slot owner) ⌝ }
 {
     let f = owners::recount_slots(
@@ -93,7 +95,8 @@ pub fn assign(
     owner: u8,
 ) -> Refusal
     ensures { λ r. ⌜ Ended (assigned (plan people slots (now (starts .entry)) (now (ends .entry))) (now (avail .entry)) (now (owners
-        .entry)) (derived (now (sets .entry)) (now (minutes .entry)) (now (totals .entry))) slot owner) r (now (owners .exit)) (derived (now (sets .exit))
+        .entry)) (derived (now (sets .entry)) (now (minutes .entry)) (now (totals .entry))) slot owner) r (now (owners .exit))
+        (derived (now (sets .exit))
         (now (minutes .exit)) (now (totals .exit))) [] ⌝ }
 {
     let refusal = assign_refusal(

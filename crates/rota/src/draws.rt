@@ -34,7 +34,8 @@ pub fn play(
 ) -> Refusal
     ensures { λ r. ⌜ Ended (playedDraws (plan people slots (now (starts .entry)) (now (ends .entry))) (now (avail .entry)) units
         (now (begins .entry)) (now (frozen .entry)) count (now (draws .entry)) (now (owners .entry)) (derived (now (sets .entry))
-        (now (minutes .entry)) (now (totals .entry))) (now (answers .entry))) r (now (owners .exit)) (derived (now (sets .exit)) (now (minutes .exit)) (now (totals .exit)))
+        (now (minutes .entry)) (now (totals .entry))) (now (answers .entry))) r (now (owners .exit)) (derived (now (sets .exit))
+        (now (minutes .exit)) (now (totals .exit)))
         (now (answers .exit)) ⌝ }
 {
     let b = begin(

@@ -264,7 +264,8 @@ fn swap_stays(
     first: usize,
     second: usize,
 ) -> bool
-    ensures { λ r. ⌜ r ≡ anyOf (swapStays (ready people slots units (now (begins .entry)) (now (fits .entry)) (now (flags .entry))) (now
+    ensures { λ r. ⌜ r ≡ anyOf (swapStays (ready people slots units (now (begins .entry)) (now (fits .entry)) (now (flags
+        .entry))) (now
         (owners .entry)) first second) ⌝ }
 {
     let left = owner_of(begins, owners, first);

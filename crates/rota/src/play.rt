@@ -92,7 +92,8 @@ fn step(
     requires { ⌜ (units ≤ length (now begins)) × (units ≤ length (now fits)) × (units ≤ length (now flags)) ⌝ }
     ensures { λ r. ⌜ Stepped (plan people slots (now (starts .entry)) (now (ends .entry))) (ready people slots units (now (begins
         .entry)) (now (fits .entry)) (now (flags .entry))) (now (owners .entry)) (derived (now (sets .entry)) (now (minutes
-        .entry)) (now (totals .entry))) (draw kind first second) r (now (owners .exit)) (derived (now (sets .exit)) (now (minutes .exit)) (now (totals .exit))) ⌝ }
+        .entry)) (now (totals .entry))) (draw kind first second) r (now (owners .exit)) (derived (now (sets .exit)) (now (minutes
+        .exit)) (now (totals .exit))) ⌝ }
 {
     match decide(
         people,
@@ -186,7 +187,8 @@ pub(crate) fn step_at(
         (now owners) (derived (now sets) (now minutes) (now totals)) (now begins) (now fits) (now flags) i (now answers) ⌝ }
     ensures { λ _. ⌜ SteppedAt (plan people slots (now (starts .entry)) (now (ends .entry))) (ready people slots units (now (begins
         .entry)) (now (fits .entry)) (now (flags .entry))) (now (owners .entry)) (derived (now (sets .entry)) (now (minutes
-        .entry)) (now (totals .entry))) (draw kind first second) i (now (answers .entry)) (now (owners .exit)) (derived (now (sets .exit)) (now (minutes
+        .entry)) (now (totals .entry))) (draw kind first second) i (now (answers .entry)) (now (owners .exit)) (derived (now
+        (sets .exit)) (now (minutes
         .exit)) (now (totals .exit))) (now (answers .exit)) ⌝ }
 {
     answers[i] = step(
@@ -236,7 +238,8 @@ fn run(
     requires { ⌜ (units ≤ length (now begins)) × (units ≤ length (now fits)) × (units ≤ length (now flags)) ⌝ }
     ensures { λ _. ⌜ Ran (plan people slots (now (starts .entry)) (now (ends .entry))) (ready people slots units (now (begins
         .entry)) (now (fits .entry)) (now (flags .entry))) (now (owners .entry)) (derived (now (sets .entry)) (now (minutes
-        .entry)) (now (totals .entry))) (now (answers .entry)) (drawsOf (now (draws .entry)) (now (firsts .entry)) (now (seconds .entry)) count) (now (owners
+        .entry)) (now (totals .entry))) (now (answers .entry)) (drawsOf (now (draws .entry)) (now (firsts .entry)) (now (seconds
+        .entry)) count) (now (owners
         .exit)) (derived (now (sets .exit)) (now (minutes .exit)) (now (totals .exit))) (now (answers .exit)) ⌝ }
 {
     let mut i: usize = 0;
@@ -282,8 +285,10 @@ fn play_refusal(
     answers: &[u8],
     enough: bool,
 ) -> Refusal
-    ensures { λ r. ⌜ r ≡ refusalOf (playRow (plan people slots (now (starts .entry)) (now (ends .entry))) (now (avail .entry)) units (now
-        (begins .entry)) (now (frozen .entry)) count enough (now (owners .entry)) (derived (now (sets .entry)) (now (minutes .entry)) (now (totals .entry)))
+    ensures { λ r. ⌜ r ≡ refusalOf (playRow (plan people slots (now (starts .entry)) (now (ends .entry))) (now (avail .entry))
+        units (now
+        (begins .entry)) (now (frozen .entry)) count enough (now (owners .entry)) (derived (now (sets .entry)) (now (minutes
+        .entry)) (now (totals .entry)))
         (now (answers .entry))) ⌝ }
 {
     owners::recounted(
@@ -322,7 +327,8 @@ pub(crate) fn begin(
     answers: &[u8],
 ) -> Begun
     ensures { λ r. ⌜ Begins (plan people slots (now (starts .entry)) (now (ends .entry))) (now (avail .entry)) units (now (begins
-        .entry)) (now (frozen .entry)) count enough (now (owners .entry)) (derived (now (sets .entry)) (now (minutes .entry)) (now (totals .entry))) (now
+        .entry)) (now (frozen .entry)) count enough (now (owners .entry)) (derived (now (sets .entry)) (now (minutes .entry))
+        (now (totals .entry))) (now
         (answers .entry)) r ⌝ }
 {
     let refusal = play_refusal(
@@ -384,7 +390,8 @@ pub fn play(
 ) -> Refusal
     ensures { λ r. ⌜ Ended (played (plan people slots (now (starts .entry)) (now (ends .entry))) (now (avail .entry)) units (now
         (begins .entry)) (now (frozen .entry)) count (now (draws .entry)) (now (firsts .entry)) (now (seconds .entry)) (now (owners
-        .entry)) (derived (now (sets .entry)) (now (minutes .entry)) (now (totals .entry))) (now (answers .entry))) r (now (owners .exit)) (derived (now
+        .entry)) (derived (now (sets .entry)) (now (minutes .entry)) (now (totals .entry))) (now (answers .entry))) r (now
+        (owners .exit)) (derived (now
         (sets .exit)) (now (minutes .exit)) (now (totals .exit))) (now (answers .exit)) ⌝ }
 {
     let b = begin(

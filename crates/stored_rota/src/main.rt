@@ -16,9 +16,9 @@ use stored::shorts;
 ghost use Prim.Native.Nat.{_≤_};
 
 // A record: people, slots, units, draws; the slots; where units begin; who can cover which slot; frozen slots; the owners before; the
-// draws; then the Rust's answers, owners, sets and minutes; an assign, and the refusal that is due, and that of a recount without units;
-// sets and minutes before; how much is lent.
-const RECORD: usize = 340;
+// draws; then the Rust's answers, owners, sets, minutes and totals; an assign, and the refusal that is due, and that of a recount without
+// units; sets, minutes and totals before; how much is lent.
+const RECORD: usize = 358;
 
 const STARTS_AT: usize = 8;
 
@@ -46,33 +46,40 @@ const SETS_DUE_AT: usize = 266;
 
 const MINUTES_DUE_AT: usize = 274;
 
-const SLOT_AT: usize = 290;
+const TOTALS_DUE_AT: usize = 290;
 
-const OWNER_AT: usize = 292;
+const SLOT_AT: usize = 298;
 
-const REFUSAL_AT: usize = 294;
+const OWNER_AT: usize = 300;
 
-const SLOTS_REFUSAL_AT: usize = 302;
+const REFUSAL_AT: usize = 302;
 
-const SETS_AT: usize = 310;
+const SLOTS_REFUSAL_AT: usize = 310;
 
-const MINUTES_AT: usize = 318;
+const SETS_AT: usize = 318;
 
-const OWNERS_LONG_AT: usize = 334;
+const MINUTES_AT: usize = 326;
 
-const SETS_LONG_AT: usize = 336;
+const TOTALS_AT: usize = 342;
 
-const FIRSTS_LONG_AT: usize = 338;
+const OWNERS_LONG_AT: usize = 350;
+
+const SETS_LONG_AT: usize = 352;
+
+const TOTALS_LONG_AT: usize = 354;
+
+const FIRSTS_LONG_AT: usize = 356;
 
 // The owner that is nobody.
 const NOBODY: u8 = 255;
 
-// A rota: its owners, sets and minutes, the refusal of the last call on it, and the answers of a play.
+// A rota: its owners, sets, minutes and totals, the refusal of the last call on it, and the answers of a play.
 struct Rota {
     refusal: Refusal,
     owners: [u8; 16],
     sets: [u64; 64],
     minutes: [u64; 4],
+    totals: [u64; 3],
     answers: [u8; 8],
 }
 
@@ -135,6 +142,14 @@ fn minutes(b: &[u8], at: usize) -> [u64; 4] {
     out
 }
 
+// What nobody owns, in minutes and in slots, a u32 each, and one more entry, which is to stay.
+fn totals(b: &[u8], at: usize) -> [u64; 3] {
+    let mut out = [77u64; 3];
+    out[0] = wide(quad(b, at));
+    out[1] = wide(quad(b, plus(at, 4)));
+    out
+}
+
 // The same arrays, handed back: what a function hands back has its length known where it is lent on.
 fn owners_again(a: [u8; 16]) -> [u8; 16] {
     a
@@ -145,6 +160,10 @@ fn sets_again(a: [u64; 64]) -> [u64; 64] {
 }
 
 fn minutes_again(a: [u64; 4]) -> [u64; 4] {
+    a
+}
+
+fn totals_again(a: [u64; 3]) -> [u64; 3] {
     a
 }
 
@@ -160,7 +179,7 @@ fn lent_firsts(a: &[u16; 16], n: usize) -> &[u16] {
     front_shorts(a, n)
 }
 
-// The rota whose sets and minutes are made from the owners of the record.
+// The rota whose sets, minutes and totals are made from the owners of the record.
 fn begin(b: &[u8]) -> Rota {
     let starts = times(b, STARTS_AT);
     let ends = times(b, ENDS_AT);
@@ -168,6 +187,7 @@ fn begin(b: &[u8]) -> Rota {
     let who = owners(b, OWNERS_AT);
     let mut own = [0u64; 64];
     let mut worked = [0u64; 4];
+    let mut open = [77u64; 3];
     owners::from_slots(
         half(b, 0),
         half(b, 2),
@@ -177,12 +197,14 @@ fn begin(b: &[u8]) -> Rota {
         &who,
         &mut own,
         &mut worked,
+        &mut open,
     );
     Rota {
         refusal: paper::accepted(),
         owners: who,
         sets: own,
         minutes: worked,
+        totals: open,
         answers: [0u8; 8],
     }
 }
@@ -192,22 +214,25 @@ fn as_lent(b: &[u8]) -> Rota {
     let who = owners(b, OWNERS_AT);
     let own = sets(b, SETS_AT);
     let worked = minutes(b, MINUTES_AT);
+    let open = totals(b, TOTALS_AT);
     Rota {
         refusal: paper::accepted(),
         owners: who,
         sets: own,
         minutes: worked,
+        totals: open,
         answers: [0u8; 8],
     }
 }
 
-// Plays the draws of a record on lent owners, sets and minutes: the refusal.
+// Plays the draws of a record on lent owners, sets, minutes and totals: the refusal.
 fn play_on(
     b: &[u8],
     flags: u64,
     who: &mut [u8],
     own: &mut [u64],
     worked: &mut [u64],
+    open: &mut [u64],
     said: &mut [u8],
 ) -> Refusal {
     let mut frozen = [0u64; 16];
@@ -235,6 +260,7 @@ fn play_on(
         who,
         own,
         worked,
+        open,
         said,
     )
 }
@@ -244,18 +270,22 @@ fn play(b: &[u8], flags: u64, before: Rota) -> Rota {
     let held_by = before.owners;
     let held = before.sets;
     let done = before.minutes;
+    let left = before.totals;
     let mut who = owners_again(held_by);
     let mut own = sets_again(held);
     let mut worked = minutes_again(done);
+    let mut open = totals_again(left);
     let mut said = [0u8; 8];
     let of_who = room(b, OWNERS_LONG_AT, 16);
     let of_own = room(b, SETS_LONG_AT, 64);
+    let of_open = room(b, TOTALS_LONG_AT, 3);
     let refusal = play_on(
         b,
         flags,
         &mut who[0..of_who],
         &mut own[0..of_own],
         &mut worked,
+        &mut open[0..of_open],
         &mut said,
     );
     Rota {
@@ -263,6 +293,7 @@ fn play(b: &[u8], flags: u64, before: Rota) -> Rota {
         owners: who,
         sets: own,
         minutes: worked,
+        totals: open,
         answers: said,
     }
 }
@@ -275,9 +306,11 @@ fn assign(b: &[u8], before: Rota) -> Rota {
     let held_by = before.owners;
     let held = before.sets;
     let done = before.minutes;
+    let left = before.totals;
     let mut who = owners_again(held_by);
     let mut own = sets_again(held);
     let mut worked = minutes_again(done);
+    let mut open = totals_again(left);
     let refusal = rota::assignment::assign(
         half(b, 0),
         half(b, 2),
@@ -287,6 +320,7 @@ fn assign(b: &[u8], before: Rota) -> Rota {
         &mut who,
         &mut own,
         &mut worked,
+        &mut open,
         half(b, SLOT_AT),
         raw(b, OWNER_AT),
     );
@@ -295,6 +329,7 @@ fn assign(b: &[u8], before: Rota) -> Rota {
         owners: who,
         sets: own,
         minutes: worked,
+        totals: open,
         answers: [0u8; 8],
     }
 }
@@ -326,7 +361,7 @@ fn is_untouched(got: &[u8; 8]) -> bool {
     same_raws(got, &zeros)
 }
 
-// Whether sets, and minutes, are those at an index.
+// Whether sets, minutes, and totals, are those at an index.
 fn is_sets(got: &[u64; 64], b: &[u8], at: usize) -> bool {
     same_words(got, &sets(b, at))
 }
@@ -335,7 +370,11 @@ fn is_minutes(got: &[u64; 4], b: &[u8], at: usize) -> bool {
     same_words(got, &minutes(b, at))
 }
 
-// The owners, sets and minutes of a rota, each compared with what stands at an index.
+fn is_totals(got: &[u64; 3], b: &[u8], at: usize) -> bool {
+    same_words(got, &totals(b, at))
+}
+
+// The owners, sets, minutes and totals of a rota, each compared with what stands at an index.
 fn rota_answers(
     tally: Tally,
     got: Rota,
@@ -343,20 +382,36 @@ fn rota_answers(
     owners_at: usize,
     sets_at: usize,
     minutes_at: usize,
+    totals_at: usize,
 ) -> Tally {
     let who = got.owners;
     let own = got.sets;
     let worked = got.minutes;
+    let open = got.totals;
     let t1 = tally.with(is_owners(&who, b, owners_at));
     let t2 = t1.with(is_sets(&own, b, sets_at));
-    t2.with(is_minutes(&worked, b, minutes_at))
+    let t3 = t2.with(is_minutes(&worked, b, minutes_at));
+    t3.with(is_totals(&open, b, totals_at))
+}
+
+// The same where what is due stands.
+fn due_answers(tally: Tally, got: Rota, b: &[u8]) -> Tally {
+    rota_answers(
+        tally,
+        got,
+        b,
+        OWNERS_DUE_AT,
+        SETS_DUE_AT,
+        MINUTES_DUE_AT,
+        TOTALS_DUE_AT,
+    )
 }
 
 // A rota after a play that is accepted: its answers, and the rota that is due.
 fn played_answers(tally: Tally, end: Rota, b: &[u8]) -> Tally {
     let said = end.answers;
     let t1 = tally.with(is_accepted(end.refusal) && is_answers(&said, b));
-    rota_answers(t1, end, b, OWNERS_DUE_AT, SETS_DUE_AT, MINUTES_DUE_AT)
+    due_answers(t1, end, b)
 }
 
 // The frozen slots of a record.
@@ -391,7 +446,7 @@ fn twin_acts(tally: Tally, b: &[u8]) -> Tally {
 fn uneven_refused(tally: Tally, b: &[u8]) -> Tally {
     let uneven = assign(b, begin(b));
     let t1 = tally.with(is_accepted(uneven.refusal));
-    let t2 = rota_answers(t1, uneven, b, OWNERS_DUE_AT, SETS_DUE_AT, MINUTES_DUE_AT);
+    let t2 = due_answers(t1, uneven, b);
     let next = play(b, flags(b), uneven);
     let who = next.owners;
     let t3 = t2.with(is_refusal(next.refusal, b, REFUSAL_AT));
@@ -410,7 +465,7 @@ fn changed(before: [u64; 4], after: [u64; 4]) -> usize {
     std::num::wrapping_add_usize(low, high)
 }
 
-// A swap of two units of unequal lengths changes the totals of both owners, and no other.
+// A swap of two units of unequal lengths changes the minutes of both owners, and no other.
 fn unequal_swap(tally: Tally, b: &[u8]) -> Tally {
     let begun = begin(b);
     let before = begun.minutes;
@@ -447,7 +502,7 @@ fn reassign_covers(tally: Tally, b: &[u8]) -> Tally {
 fn assign_answers(tally: Tally, b: &[u8]) -> Tally {
     let end = assign(b, begin(b));
     let t1 = tally.with(is_refusal(end.refusal, b, REFUSAL_AT));
-    rota_answers(t1, end, b, OWNERS_DUE_AT, SETS_DUE_AT, MINUTES_DUE_AT)
+    due_answers(t1, end, b)
 }
 
 // A play of a damaged rota: its refusal, and everything lent as it was.
@@ -456,11 +511,11 @@ fn damaged_refused(tally: Tally, b: &[u8]) -> Tally {
     let said = end.answers;
     let t1 = tally.with(is_refusal(end.refusal, b, REFUSAL_AT));
     let t2 = t1.with(is_untouched(&said));
-    rota_answers(t2, end, b, OWNERS_AT, SETS_AT, MINUTES_AT)
+    rota_answers(t2, end, b, OWNERS_AT, SETS_AT, MINUTES_AT, TOTALS_AT)
 }
 
-// The recount of lent owners, sets and minutes.
-fn recount_on(b: &[u8], who: &[u8], own: &[u64], worked: &[u64]) -> Refusal {
+// The recount of lent owners, sets, minutes and totals.
+fn recount_on(b: &[u8], who: &[u8], own: &[u64], worked: &[u64], open: &[u64]) -> Refusal {
     let starts = times(b, STARTS_AT);
     let ends = times(b, ENDS_AT);
     let able = sets(b, ABLE_AT);
@@ -476,6 +531,7 @@ fn recount_on(b: &[u8], who: &[u8], own: &[u64], worked: &[u64]) -> Refusal {
         who,
         own,
         worked,
+        open,
     )
 }
 
@@ -484,7 +540,8 @@ fn recount(b: &[u8], lent: Rota) -> Refusal {
     let who = lent.owners;
     let own = lent.sets;
     let worked = lent.minutes;
-    recount_on(b, &who, &own, &worked)
+    let open = lent.totals;
+    recount_on(b, &who, &own, &worked, &open)
 }
 
 fn recount_slots(b: &[u8], lent: Rota) -> Refusal {
@@ -494,6 +551,7 @@ fn recount_slots(b: &[u8], lent: Rota) -> Refusal {
     let who = lent.owners;
     let own = lent.sets;
     let worked = lent.minutes;
+    let open = lent.totals;
     owners::recount_slots(
         half(b, 0),
         half(b, 2),
@@ -503,6 +561,7 @@ fn recount_slots(b: &[u8], lent: Rota) -> Refusal {
         &who,
         &own,
         &worked,
+        &open,
     )
 }
 

@@ -5,6 +5,7 @@ use stored::Tally;
 use stored::Turn;
 use stored::half;
 use stored::plus;
+use stored::quad;
 use stored::quads;
 use stored::raws;
 use stored::same_raws;
@@ -13,8 +14,8 @@ use stored::shorts;
 use wayback::Way;
 
 // A record: people, slots, units; the slots; where units begin; who can cover which slot; frozen slots; the remembered owners and those as
-// they are; what is due: the answer, the three columns, and the answers of a play.
-const RECORD: usize = 330;
+// they are; what is due: the answer, the three columns, the answers of a play, and what nobody owns after it, in minutes and in slots.
+const RECORD: usize = 338;
 
 const STARTS_AT: usize = 6;
 
@@ -40,10 +41,13 @@ const SECONDS_AT: usize = 282;
 
 const PLAYED_AT: usize = 314;
 
-// Everybody's sets and minutes.
+const TOTALS_AT: usize = 330;
+
+// Everybody's sets and minutes, and the totals.
 struct Figures {
     sets: [u64; 64],
     minutes: [u64; 4],
+    totals: [u64; 2],
 }
 
 // A way, and the columns that it was written into.
@@ -101,11 +105,15 @@ fn minutes_again(a: [u64; 4]) -> [u64; 4] {
     a
 }
 
+fn totals_again(a: [u64; 2]) -> [u64; 2] {
+    a
+}
+
 fn column_again(a: [u16; 16]) -> [u16; 16] {
     a
 }
 
-// Everybody's sets and minutes, made from the owners as they are.
+// Everybody's sets and minutes, and the totals, made from the owners as they are.
 fn made(b: &[u8]) -> Figures {
     let starts = times(b, STARTS_AT);
     let ends = times(b, ENDS_AT);
@@ -113,6 +121,7 @@ fn made(b: &[u8]) -> Figures {
     let who = bytes(b, OWNERS_AT);
     let mut own = [0u64; 64];
     let mut worked = [0u64; 4];
+    let mut open = [0u64; 2];
     owners::from_slots(
         half(b, 0),
         half(b, 2),
@@ -122,18 +131,21 @@ fn made(b: &[u8]) -> Figures {
         &who,
         &mut own,
         &mut worked,
+        &mut open,
     );
     Figures {
         sets: own,
         minutes: worked,
+        totals: open,
     }
 }
 
-// Asks for the way back of a record, with sets and minutes, into three columns.
+// Asks for the way back of a record, with sets, minutes and totals, into three columns.
 fn way_into(
     b: &[u8],
     own: &[u64],
     worked: &[u64],
+    open: &[u64],
     draws: &mut [u16],
     firsts: &mut [u16],
     seconds: &mut [u16],
@@ -158,6 +170,7 @@ fn way_into(
         &who,
         own,
         worked,
+        open,
         draws,
         firsts,
         seconds,
@@ -169,12 +182,22 @@ fn ask(b: &[u8]) -> Asked {
     let m = made(b);
     let held = m.sets;
     let done = m.minutes;
+    let left = m.totals;
     let own = sets_again(held);
     let worked = minutes_again(done);
+    let open = totals_again(left);
     let mut draws = [7u16; 16];
     let mut firsts = [7u16; 16];
     let mut seconds = [7u16; 16];
-    let way = way_into(b, &own, &worked, &mut draws, &mut firsts, &mut seconds);
+    let way = way_into(
+        b,
+        &own,
+        &worked,
+        &open,
+        &mut draws,
+        &mut firsts,
+        &mut seconds,
+    );
     Asked {
         way,
         draws,
@@ -219,6 +242,7 @@ fn play_on(
     who: &mut [u8],
     own: &mut [u64],
     worked: &mut [u64],
+    open: &mut [u64],
     said: &mut [u8],
 ) -> Refusal {
     let starts = times(b, STARTS_AT);
@@ -242,14 +266,21 @@ fn play_on(
         who,
         own,
         worked,
+        open,
         said,
     )
 }
 
-// Whether a play was accepted, all of its draws acted, and the remembered owners are back.
-fn is_back(refusal: Refusal, who: [u8; 16], said: [u8; 16], b: &[u8]) -> bool {
+// Whether the totals are those that are due.
+fn is_totals(got: [u64; 2], b: &[u8]) -> bool {
+    got[0] == quad(b, TOTALS_AT) as u64 && got[1] == quad(b, plus(TOTALS_AT, 4)) as u64
+}
+
+// Whether a play was accepted, all of its draws acted, and the remembered owners and their totals are back.
+fn is_back(refusal: Refusal, who: [u8; 16], open: [u64; 2], said: [u8; 16], b: &[u8]) -> bool {
     refusal.number == 0
         && same_raws(&who, &bytes(b, REMEMBERED_AT))
+        && is_totals(open, b)
         && same_raws(&said, &bytes(b, PLAYED_AT))
 }
 
@@ -258,6 +289,7 @@ fn leads(b: &[u8], a: Asked, count: usize) -> bool {
     let m = made(b);
     let held = m.sets;
     let done = m.minutes;
+    let left = m.totals;
     let kinds = a.draws;
     let units = a.firsts;
     let places = a.seconds;
@@ -267,6 +299,7 @@ fn leads(b: &[u8], a: Asked, count: usize) -> bool {
     let mut who = bytes(b, OWNERS_AT);
     let mut own = sets_again(held);
     let mut worked = minutes_again(done);
+    let mut open = totals_again(left);
     let mut said = [9u8; 16];
     let refusal = play_on(
         b,
@@ -277,9 +310,10 @@ fn leads(b: &[u8], a: Asked, count: usize) -> bool {
         &mut who,
         &mut own,
         &mut worked,
+        &mut open,
         &mut said,
     );
-    is_back(refusal, who, said, b)
+    is_back(refusal, who, open, said, b)
 }
 
 // One more where there are draws: what they lead to.

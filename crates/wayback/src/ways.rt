@@ -89,13 +89,15 @@ fn way_refusal(
     owners: &[u8],
     sets: &[u64],
     minutes: &[u64],
+    totals: &[u64],
     draws: &[u16],
     firsts: &[u16],
     seconds: &[u16],
 ) -> Refusal
-    ensures { λ r. ⌜ r ≡ refusalOf (wayRow (plan people slots (now (starts .entry)) (now (ends .entry))) (now (avail .entry)) units (now
+    ensures { λ r. ⌜ r ≡ refusalOf (wayRow (plan people slots (now (starts .entry)) (now (ends .entry))) (now (avail .entry))
+        units (now
         (begins .entry)) (now (frozen .entry)) (now (remembered .entry)) (now (owners .entry)) (derived (now (sets .entry)) (now
-        (minutes .entry))) (now (draws .entry)) (now (firsts .entry)) (now (seconds .entry))) ⌝ }
+        (minutes .entry)) (now (totals .entry))) (now (draws .entry)) (now (firsts .entry)) (now (seconds .entry))) ⌝ }
 {
     let f = owners::recounted(
         true,
@@ -119,6 +121,7 @@ fn way_refusal(
         owners,
         sets,
         minutes,
+        totals,
     );
     if f.number == 0 {
         return remembered_refusal(
@@ -150,13 +153,15 @@ pub fn way_back(
     owners: &[u8],
     sets: &[u64],
     minutes: &[u64],
+    totals: &[u64],
     draws: &mut [u16],
     firsts: &mut [u16],
     seconds: &mut [u16],
 ) -> Way
     ensures { λ r. ⌜ Ended (wayBack (plan people slots (now (starts .entry)) (now (ends .entry))) (now (avail .entry)) units (now
         (begins .entry)) (now (frozen .entry)) (now (remembered .entry)) (now (owners .entry)) (derived (now (sets .entry)) (now
-        (minutes .entry))) (now (draws .entry)) (now (firsts .entry)) (now (seconds .entry))) r (now (draws .exit)) (now (firsts .exit))
+        (minutes .entry)) (now (totals .entry))) (now (draws .entry)) (now (firsts .entry)) (now (seconds .entry))) r (now (draws
+        .exit)) (now (firsts .exit))
         (now (seconds .exit)) ⌝ }
 {
     let f = way_refusal(
@@ -172,6 +177,7 @@ pub fn way_back(
         owners,
         sets,
         minutes,
+        totals,
         draws,
         firsts,
         seconds,

@@ -46,7 +46,8 @@ pub(crate) fn write_draws(
 ) -> usize
     requires { ⌜ WriteRoom units (now fits) (now draws) (now firsts) (now seconds) ⌝ }
     ensures { λ r. ⌜ Wrote (now (begins .entry)) (now (fits .entry)) (now (remembered .entry)) (now (owners .entry)) units r (now
-        (draws .entry)) (now (firsts .entry)) (now (seconds .entry)) (now (draws .exit)) (now (firsts .exit)) (now (seconds .exit)) ⌝ }
+        (draws .entry)) (now (firsts .entry)) (now (seconds .entry)) (now (draws .exit)) (now (firsts .exit)) (now (seconds
+        .exit)) ⌝ }
 {
     let mut n: usize = 0;
     let mut u: usize = 0;

@@ -5,7 +5,7 @@ use std::hint::black_box;
 use boltraven::{lent, Refusal};
 
 use super::{row, Row, Side};
-use crate::limits::{NOBODY, SET_WORDS, SLOTS_MOST};
+use crate::limits::{NOBODY, SET_WORDS, SLOTS_MOST, TOTALS};
 
 /// How many slots are lent and counted.
 const MANY: usize = 1_000_000;
@@ -19,6 +19,7 @@ pub struct Lent {
     owners: Vec<u8>,
     sets: Vec<u64>,
     minutes: Vec<u64>,
+    totals: Vec<u64>,
     out: u64,
 }
 
@@ -32,6 +33,7 @@ impl Lent {
             owners: vec![NOBODY; MANY],
             sets: vec![0; SET_WORDS],
             minutes: vec![0],
+            totals: vec![0; TOTALS],
             out: 0,
         }
     }
@@ -62,6 +64,7 @@ impl Lent {
             &self.owners,
             &mut self.sets,
             &mut self.minutes,
+            &mut self.totals,
         )
     }
 
@@ -82,6 +85,7 @@ impl Lent {
             &mut self.owners,
             &mut self.sets,
             &mut self.minutes,
+            &mut self.totals,
             &mut [],
         )
     }

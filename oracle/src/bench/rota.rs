@@ -10,7 +10,7 @@ use on_call::model::Assignment;
 use super::inputs::Rota;
 use super::{row, Row, Side};
 use crate::bits::{has_bit, put_bit};
-use crate::limits::NOBODY;
+use crate::limits::{NOBODY, TOTALS};
 use crate::rotas::{self, LentRota};
 
 /// What is to be seen of a rota.
@@ -19,6 +19,7 @@ struct Seen {
     owners: Vec<u8>,
     members: Vec<Vec<usize>>,
     minutes: Vec<u64>,
+    totals: Vec<u64>,
     answers: Vec<u8>,
 }
 
@@ -30,6 +31,7 @@ fn seen_of_lent(rota: &LentRota) -> Seen {
         owners: rota.owners[..slots].to_vec(),
         members: (0..people).map(members).collect(),
         minutes: rota.minutes[..people].to_vec(),
+        totals: rota.totals[..TOTALS].to_vec(),
         answers: rota.answers[..rota.count].to_vec(),
     }
 }
@@ -38,10 +40,12 @@ fn seen_of_lent(rota: &LentRota) -> Seen {
 fn seen_of_rust(problem: &Problem, assignment: &Assignment, answers: Vec<u8>) -> Seen {
     let people = 0..problem.human_count();
     let owner = |slot: &Option<usize>| slot.map_or(NOBODY, |person| person as u8);
+    let owners: Vec<u8> = assignment.slots().iter().map(owner).collect();
     Seen {
-        owners: assignment.slots().iter().map(owner).collect(),
         members: people.clone().map(|person| assignment.slots_of(person).iter().collect()).collect(),
         minutes: people.map(|person| assignment.assigned_minutes(person) as u64).collect(),
+        totals: vec![rotas::uncovered(problem, &owners), assignment.unassigned_count() as u64],
+        owners,
         answers,
     }
 }
@@ -68,6 +72,7 @@ fn lent_from_slots(rota: &mut LentRota) {
         &rota.owners,
         &mut rota.sets,
         &mut rota.minutes,
+        &mut rota.totals,
     );
     done.expect("nothing is refused");
 }
@@ -80,6 +85,7 @@ pub fn from_slots(rota: Rota) -> Row {
             let mut empty = rota.lent.clone();
             empty.sets.fill(0);
             empty.minutes.fill(0);
+            empty.totals.fill(0);
             empty
         }),
         run: Box::new(|rota: &mut LentRota| lent_from_slots(black_box(rota))),
@@ -121,6 +127,7 @@ fn lent_assigns(rota: &mut LentRota) {
             &mut rota.owners,
             &mut rota.sets,
             &mut rota.minutes,
+            &mut rota.totals,
             slot,
             owner,
         );
@@ -165,12 +172,13 @@ fn lent_recount(rota: &LentRota) -> bool {
         &rota.owners,
         &rota.sets,
         &rota.minutes,
+        &rota.totals,
     );
     answer.is_ok()
 }
 
 /// The recount in the Rust's terms, which has none: every owner known and available, one owner a unit, and a rota made anew of the owners
-/// with the same sets and minutes.
+/// with the same sets and minutes. It keeps no totals.
 fn rust_recount(problem: &Problem, assignment: &Assignment) -> bool {
     let owners = assignment.slots();
     let can = |person: usize, slot: usize| person < problem.human_count() && problem.is_available(person, slot);
@@ -201,8 +209,9 @@ pub fn recount(rota: Rota) -> Row {
     judged(kept(rota), |_, lent| lent_recount(lent), rust_recount)
 }
 
-/// A rota with a fault of a part of the recount at the last place: the last slot, unit or person, or the last slot of the last person's set.
-/// Where an owner is at fault, sets and minutes stay as they were: their parts come later.
+/// A rota with a fault of a part of the recount at the last place: the last slot, unit, person or total, or the last slot of the last person's
+/// set.
+/// Where an owner is at fault, sets, minutes and totals stay as they were: their parts come later.
 fn with_last_fault(rota: &Rota, part: usize) -> LentRota {
     let mut lent = rota.lent.clone();
     let (person, slot) = (lent.people - 1, lent.starts.len() - 1);
@@ -217,7 +226,8 @@ fn with_last_fault(rota: &Rota, part: usize) -> LentRota {
             let is = has_bit(&lent.sets, person, slot);
             put_bit(&mut lent.sets, person, slot, !is);
         }
-        _ => lent.minutes[person] += 1,
+        5 => lent.minutes[person] += 1,
+        _ => lent.totals[TOTALS - 1] += 1,
     }
     lent
 }
@@ -274,6 +284,7 @@ fn lent_play(rota: &Rota, lent: &mut LentRota, count: usize) -> bool {
         &mut lent.owners,
         &mut lent.sets,
         &mut lent.minutes,
+        &mut lent.totals,
         &mut lent.answers,
     );
     answer.is_ok()
@@ -295,6 +306,7 @@ fn lent_play_structs(rota: &Rota, lent: &mut LentRota, draws: usize) -> bool {
         &mut lent.owners,
         &mut lent.sets,
         &mut lent.minutes,
+        &mut lent.totals,
         &mut lent.answers,
     );
     answer.is_ok()

@@ -72,6 +72,9 @@ pub const ROWS: &[Named] = &[
     ("recount failed by wrong minutes, beside one that passes", |seed| {
         failed_recount(partly(seed), 5)
     }),
+    ("recount failed by a wrong total, beside one that passes", |seed| {
+        failed_recount(partly(seed), 6)
+    }),
     ("play, no draws, 1,024 slots", |seed| no_draws(typical(seed, SLOTS_MOST, 0, 1))),
     ("from_slots, 1,024 slots", |seed| from_slots(typical(seed, SLOTS_MOST, 0, 1))),
     ("64 assigns, 1,024 slots", |seed| assign(typical(seed, SLOTS_MOST, 0, 1))),

@@ -73,7 +73,7 @@ module _ {M : Type 1} (𝓤 : URA M) (H : Heap 𝓤) (A : Atoms 𝓤) (mem : Mem
   Entry = tripleOf 𝓤 H A entry.signature (entry.spec 𝓤 H A mem run)
 
 module _ {M : Type 1} (𝓤 : URA M) (H : Heap 𝓤) (A : Atoms 𝓤) (W : Given 𝓤 H A) (mem : Memory → SProp 𝓤) (run : Routine → Fun 𝓤)
-    (κs : Lfts 10) (qs : Shares 10) (a : Args entry.signature κs) where
+    (κs : Lfts 11) (qs : Shares 11) (a : Args entry.signature κs) where
   -- what both triples bind outside
   abbrev y : Entry 𝓤 H A mem run .Ghost
   y = ((κs, qs, tt, a, valuesOf 𝓤 H A entry.ended (entry.clauses 𝓤 H A mem run) (known 𝓤 H A W) κs a), tt)
@@ -94,18 +94,19 @@ module _ {M : Type 1} (𝓤 : URA M) (H : Heap 𝓤) (A : Atoms 𝓤) (W : Given
         qed W (raw (Play 𝓤 H A mem run .pre y) ∷ []) ∵
         enters ! C Λ code.function (Entry 𝓤 H A mem run .args y) _ (λ bs. typed) (λ bs.
         -- [the locals; what was passed]
-        move ! (48 ∷ []) $
-        lends ! 1 11 16 17 refl refl refl tt refl refl refl (tt, typed .1 .1 .1 .1 .1 .1 .1 .1 .1 .1 .0 .1) $
-        lends ! 1 12 18 19 refl refl refl tt refl refl refl (tt, typed .1 .1 .1 .1 .1 .1 .1 .1 .1 .1 .1 .0 .1) $
-        lends ! 1 13 20 21 refl refl refl tt refl refl refl (tt, typed .1 .1 .1 .1 .1 .1 .1 .1 .1 .1 .1 .1 .0 .1) $
-        lends ! 1 14 22 23 refl refl refl tt refl refl refl (tt, typed .1 .1 .1 .1 .1 .1 .1 .1 .1 .1 .1 .1 .1 .0 .1) $
+        move ! (54 ∷ []) $
+        lends ! 1 11 17 18 refl refl refl tt refl refl refl (tt, typed .1 .1 .1 .1 .1 .1 .1 .1 .1 .1 .0 .1) $
+        lends ! 1 12 19 20 refl refl refl tt refl refl refl (tt, typed .1 .1 .1 .1 .1 .1 .1 .1 .1 .1 .1 .0 .1) $
+        lends ! 1 13 21 22 refl refl refl tt refl refl refl (tt, typed .1 .1 .1 .1 .1 .1 .1 .1 .1 .1 .1 .1 .0 .1) $
+        lends ! 1 14 23 24 refl refl refl tt refl refl refl (tt, typed .1 .1 .1 .1 .1 .1 .1 .1 .1 .1 .1 .1 .1 .0 .1) $
+        lends ! 1 15 25 26 refl refl refl tt refl refl refl (tt, typed .1 .1 .1 .1 .1 .1 .1 .1 .1 .1 .1 .1 .1 .1 .0 .1) $
         asks ! fm play.ended (play.clauses 𝓤 H A mem run) met y
-        (copies ! 1 (1 ∷ 2 ∷ 3 ∷ 4 ∷ 5 ∷ 6 ∷ 7 ∷ 8 ∷ 9 ∷ 10 ∷ 17 ∷ 19 ∷ 21 ∷ 23 ∷ []) refl) _ (λ r ws. id⊢ 𝓤 _) (λ u f ws said is.
+        (copies ! 1 (1 ∷ 2 ∷ 3 ∷ 4 ∷ 5 ∷ 6 ∷ 7 ∷ 8 ∷ 9 ∷ 10 ∷ 18 ∷ 20 ∷ 22 ∷ 24 ∷ 26 ∷ []) refl) _ (λ r ws. id⊢ 𝓤 _) (λ u f ws said is.
         -- [the refusal; the tokens; the last values; the locals]
-        land ! (from ! (stop !)) (init ! 33 refl (LL.lawful R.the-type R′.the-laws 𝓤 H A W .typed f _ is .0)) $ drop ! $
+        land ! (from ! (stop !)) (init ! 35 refl (LL.lawful R.the-type R′.the-laws 𝓤 H A W .typed f _ is .0)) $ drop ! $
         -- `refusal_number`
         use0 W (raw (InNumber 𝓤 H A mem run .pre (to-number f u))) (goes-number f u is) $
-        asks ! fm number.ended (number.clauses 𝓤 H A mem run) met-number (to-number f u) (copies ! 3 (15 ∷ []) refl) _ (λ r ws′. id⊢ 𝓤 _)
+        asks ! fm number.ended (number.clauses 𝓤 H A mem run) met-number (to-number f u) (copies ! 3 (16 ∷ []) refl) _ (λ r ws′. id⊢ 𝓤 _)
         (λ w r ws′ e is′. drop ! $ drop ! $ drop ! $
         -- [the tokens; the last values; the locals]
         land ! (from ! (stop !)) (init ! 2 refl (uint-lawful 𝓤 H A W w64 .typed r _ is′ .0)) $ returns ! (look ! 2 refl) $

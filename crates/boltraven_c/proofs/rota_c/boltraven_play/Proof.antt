@@ -7,7 +7,7 @@ use Rattle.boltraven_c.proofs.rota_c.boltraven_play.Tie as tie
 
 returns : tie.Need-returns
 returns c =
-    let e = c .before .before .before .before .before .before .before .before .before .play .ensures in
+    let e = c .before .before .before .before .before .before .before .before .before .before .before .play .ensures in
     record {
       refusal = c .refusal-number .ensures ∙ ap refusalNumber (e .refusal);
       owners = e .owners;
@@ -17,4 +17,13 @@ returns c =
 
 pub boltraven-play-spec : {M : Type 1} → statement M
 boltraven-play-spec =
-    tie.close (tie.spec (λ c κs. search needs) (λ c κs. search needs) (λ c. search needs) (λ c. search needs) (λ c. search needs) (λ c. search needs) returns)
+    tie.close
+    (tie.spec
+    (λ c κs. search needs)
+    (λ c κs. search needs)
+    (λ c. search needs)
+    (λ c. search needs)
+    (λ c. search needs)
+    (λ c. search needs)
+    (λ c. search needs)
+    returns)

@@ -7,8 +7,15 @@ use Rattle.job.proofs.play.start_rota.Tie as tie
 
 returns : tie.Need-returns
 returns c =
-    let e = c .before .before .from-slots .ensures in
+    let e = c .before .before .before .from-slots .ensures in
     record { number = ap (λ (f : Refusal). f .number) (e .refusal); derived = e .derived }
 
 pub start-rota-spec : {M : Type 1} → statement M
-start-rota-spec = tie.close (tie.spec (λ c. search needs) (λ c. search needs) (λ c κs. search needs) returns)
+start-rota-spec =
+    tie.close
+    (tie.spec
+    (λ c. search needs)
+    (λ c. search needs)
+    (λ c. search needs)
+    (λ c κs. search needs)
+    returns)

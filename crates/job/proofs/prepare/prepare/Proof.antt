@@ -13,63 +13,65 @@ targets-in-requires : tie.Need-targets-in-requires
 targets-in-requires c κs = c .before .before .before .before .before .before .before .before .pre
 
 settings-in-requires : tie.Need-settings-in-requires
-settings-in-requires c κs = read-settings (c .before .before .before .before .before .before .before .before .before .pre)
+settings-in-requires c κs =
+    let c8 = c .before .before .before .before .before .before .before .before in
+    read-settings (c8 .before .pre)
 
 owners-of-requires : tie.Need-owners-of-requires
 owners-of-requires c κs =
-    let c13 = c .before .before .before .before .before .before .before .before .before .before .before .before .before in
-    let c15 = c13 .before .before in
-    (read-owners (c15 .pre), c13 .slots-in .ensures .few)
+    let c8 = c .before .before .before .before .before .before .before .before in (
+      read-owners (c8 .before .before .before .before .before .before .before .pre),
+      c8 .before .before .before .before .before
+          .slots-in .ensures .few,
+    )
 
 slice-aggregate-start-rota : tie.Need-slice-aggregate-start-rota
 slice-aggregate-start-rota c =
-    let c16 = c .before .before .before .before .before .before .before .before .before .before .before .before .before
-    .before .before .before in
+    let c8 = c .before .before .before .before .before .before .before .before in
+    let c16 = c8 .before .before .before .before .before .before .before .before in
     sym (c16 .slots-in .ensures .starts-room)
 
 slice-aggregate-start-rota-2 : tie.Need-slice-aggregate-start-rota-2
 slice-aggregate-start-rota-2 c =
-    let c17 = c .before .before .before .before .before .before .before .before .before .before .before .before .before
-    .before .before .before .before in
-    sym (c17 .slots-in .ensures .ends-room)
+    let c8 = c .before .before .before .before .before .before .before .before in
+    let c16 = c8 .before .before .before .before .before .before .before .before in
+    sym (c16 .before .slots-in .ensures .ends-room)
 
 slice-aggregate-start-rota-3 : tie.Need-slice-aggregate-start-rota-3
 slice-aggregate-start-rota-3 c =
-    let c18 = c .before .before .before .before .before .before .before .before .before .before .before .before .before
-    .before .before .before .before .before in
-    sym (c18 .slots-in .ensures .avail-room)
+    let c8 = c .before .before .before .before .before .before .before .before in
+    let c16 = c8 .before .before .before .before .before .before .before .before in
+    sym (c16 .before .before .slots-in .ensures .avail-room)
 
 slice-aggregate-frozen-of : tie.Need-slice-aggregate-frozen-of
 slice-aggregate-frozen-of c =
-    let c21 = c .before .before .before .before .before .before .before .before .before .before .before .before .before
-    .before .before .before .before .before .before .before .before in
-    sym (c21 .slots-in .ensures .starts-room)
+    let c8 = c .before .before .before .before .before .before .before .before in
+    let c16 = c8 .before .before .before .before .before .before .before .before in
+    sym (c16 .before .before .before .before .before .slots-in .ensures .starts-room)
 
 slice-aggregate-frozen-of-2 : tie.Need-slice-aggregate-frozen-of-2
 slice-aggregate-frozen-of-2 c =
-    let c22 = c .before .before .before .before .before .before .before .before .before .before .before .before .before
-    .before .before .before .before .before .before .before .before .before in
-    sym (c22 .slots-in .ensures .ends-room)
+    let c8 = c .before .before .before .before .before .before .before .before in
+    let c16 = c8 .before .before .before .before .before .before .before .before in
+    sym (c16 .before .before .before .before .before .before .slots-in .ensures .ends-room)
 
 frozen-of-requires : tie.Need-frozen-of-requires
 frozen-of-requires c κs =
-    let c24 = c .before .before .before .before .before .before .before .before .before .before .before .before .before
-    .before .before .before .before .before .before .before .before .before .before .before in
+    let c8 = c .before .before .before .before .before .before .before .before in
+    let c16 = c8 .before .before .before .before .before .before .before .before in
+    let c24 = c16 .before .before .before .before .before .before .before .before in
     c24 .pre
 
 returns : tie.Need-returns
 returns c =
-    let c3 = c .before .before .before in
-    let c7 = c3 .before .before .before .before in
-    let c10 = c7 .before .before .before in
-    let c16 = c10 .before .before .before .before .before .before in
-    let c19 = c16 .before .before .before in
-    let c22 = c19 .before .before .before in
-    let c23 = c22 .before in
-    let c30 = c23 .before .before .before .before .before .before .before in
-    let c32 = c30 .before .before in
-    prepared-are (c32 .pre) _ _ _ _ _ _ _ (c30 .slots-in .ensures) (c23 .targets-in .ensures) (c22 .settings-in .ensures)
-    (c19 .units-of .ensures) (c16 .owners-of .ensures) (c10 .start-rota .ensures) (c7 .frozen-of .ensures) (c3 .first-number .ensures)
+    let c8 = c .before .before .before .before .before .before .before .before in
+    let c16 = c8 .before .before .before .before .before .before .before .before in
+    let c24 = c16 .before .before .before .before .before .before .before .before in
+    let c32 = c24 .before .before .before .before .before .before .before .before in
+    prepared-are (c32 .before .pre) _ _ _ _ _ _ _ (c24 .before .before .before .before .before .before .before .slots-in .ensures)
+    (c24 .targets-in .ensures) (c16 .before .before .before .before .before .before .before .settings-in .ensures)
+    (c16 .before .before .before .before .units-of .ensures) (c16 .before .owners-of .ensures) (c8 .before .before .before
+    .start-rota .ensures) (c8 .frozen-of .ensures) (c .before .before .before .first-number .ensures)
     (c .before .before .first-number2 .ensures) (c .before .first-number3 .ensures) (c .first-number4 .ensures)
 
 pub prepare-spec : {M : Type 1} → statement M

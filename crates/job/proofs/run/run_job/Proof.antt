@@ -10,76 +10,59 @@ use Rattle.job.proofs.run.run_job.Tie as tie
 
 prepare-requires : tie.Need-prepare-requires
 prepare-requires c κs =
-    let c2 = c .before .before in
-    let c5 = c2 .before .before .before in
-    let r = c5 .read-file .ensures in
-    read-ok _ _ _ _ _ (r .0) (r .1 .0) (r .1 .1) (sym (said _ (c2 .read-refusal .ensures)) ∙ c .if1 .taken) .0
+    let r = c .before .before .before .before .before .read-file .ensures in
+    read-ok _ _ _ _ _ (r .0) (r .1 .0) (r .1 .1) (sym (said _ (c .before .before .read-refusal .ensures)) ∙ c .if1 .taken) .0
 
 play-requires : tie.Need-play-requires
 play-requires c κs =
-    let c2 = c .before .before in
-    let c4 = c2 .before .before in
-    let c7 = c4 .before .before .before in
-    let r = c7 .read-file .ensures in
+    let r = c .before .before .before .before .before .before .before .read-file .ensures in
     let P = c .before .prepare .ensures in
-    let K = read-ok _ _ _ _ _ (r .0) (r .1 .0) (r .1 .1) (sym (said _ (c4 .read-refusal .ensures)) ∙ c2 .if1 .taken) .0 in
+    let K = read-ok _ _ _ _ _ (r .0) (r .1 .0) (r .1 .1) (sym (said _ (c .before .before .before .before .read-refusal .ensures)) ∙ c
+    .before .before .if1 .taken) .0 in
     (K, (P .begins-room, P .frozen-room))
 
 list-requires : tie.Need-list-requires
 list-requires c κs =
-    let c2 = c .before .before in
-    let c3 = c2 .before in
-    let c4 = c3 .before in
-    let c6 = c4 .before .before in
-    let c9 = c6 .before .before .before in
-    let r = c9 .read-file .ensures in
-    let P = c3 .prepare .ensures in
+    let c8 = c .before .before .before .before .before .before .before .before in
+    let r = c8 .before .read-file .ensures in
+    let P = c .before .before .before .prepare .ensures in
     let Y = c .before .play .ensures in
-    let z = sym (said _ (c6 .read-refusal .ensures)) ∙ c4 .if1 .taken in
+    let z = sym (said _ (c .before .before .before .before .before .before .read-refusal .ensures)) ∙ c .before .before .before
+    .before .if1 .taken in
     let K = read-ok _ _ _ _ _ (r .0) (r .1 .0) (r .1 .1) z in (
       (P .slots-few, P .people-few, read-few (K .0) .4, K .1),
       (
         (P .starts-room, P .ends-room, P .targets-room),
         (
-          (Y .owners-room, Y .minutes-room, Y .answers-room),
-          targets-fit _ (c9 .before .before .before .args .out .now) _ (sym (read-number _ _ _ _ (r .0) (r .1 .0)) ∙ z) P (c2 .if2 .taken),
+          (Y .owners-room, Y .minutes-room, Y .totals-room, Y .answers-room),
+          targets-fit _ (c8 .before .before .before .before .args .out .now) _ (sym (read-number _ _ _ _ (r .0) (r .1 .0)) ∙ z) P (c
+              .before .before .if2 .taken),
         ),
       ),
     )
 
 returns : tie.Need-returns
 returns c =
-    let c2 = c .before .before in
-    let c4 = c2 .before .before in
-    let c5 = c4 .before in
-    let c6 = c5 .before in
-    let c7 = c6 .before in
-    let c9 = c7 .before .before in
-    let c12 = c9 .before .before .before in
-    let r = c12 .read-file .ensures in
-    let z = sym (said _ (c9 .read-refusal .ensures)) ∙ c7 .if1 .taken in
+    let c8 = c .before .before .before .before .before .before .before .before in
+    let r = c8 .before .before .before .before .read-file .ensures in
+    let z = sym (said _ (c8 .before .read-refusal .ensures)) ∙ c .before .before .before .before .before .before .before .if1 .taken in
     let K = read-ok _ _ _ _ _ (r .0) (r .1 .0) (r .1 .1) z in
-    job-listed _ _ _ (sym (read-number _ _ _ _ (r .0) (r .1 .0)) ∙ z) (c6 .prepare .ensures) (c5 .if2 .taken) _ (c4 .play .ensures) _ _ _
-    (read-count (K .0) 6) (c2 .list .ensures)
+    job-listed _ _ _ (sym (read-number _ _ _ _ (r .0) (r .1 .0)) ∙ z) (c .before .before .before .before .before .before .prepare
+    .ensures) (c .before .before .before .before .before .if2 .taken) _ (c .before .before .before .before .play .ensures) _ _ _
+    (read-count (K .0) 6) (c .before .before .list .ensures)
 
 returns-2 : tie.Need-returns-2
 returns-2 c =
-    let c2 = c .before .before in
-    let c3 = c2 .before in
-    let c5 = c3 .before .before in
-    let c8 = c5 .before .before .before in
-    let r = c8 .read-file .ensures in
-    let z = sym (said _ (c5 .read-refusal .ensures)) ∙ c3 .if1 .taken in
-    let P = c2 .prepare .ensures in
+    let r = c .before .before .before .before .before .before .before .before .read-file .ensures in
+    let z = sym (said _ (c .before .before .before .before .before .read-refusal .ensures)) ∙ c .before .before .before .if1 .taken in
+    let P = c .before .before .prepare .ensures in
     prepare-refused _ _ _ _ _ (sym (read-number _ _ _ _ (r .0) (r .1 .0)) ∙ z) (P .number) (P .uneven) (c .refusal-at .ensures)
     (c .before .if2 .left)
 
 returns-3 : tie.Need-returns-3
 returns-3 c =
-    let c2 = c .before .before in
-    let c5 = c2 .before .before .before in
-    let r = c5 .read-file .ensures in
-    read-refused _ _ _ (c2 .read-refusal .ensures ∙ read-refusal _ _ _ _ (r .0) (r .1 .0)) (c .if1 .left)
+    let r = c .before .before .before .before .before .read-file .ensures in
+    read-refused _ _ _ (c .before .before .read-refusal .ensures ∙ read-refusal _ _ _ _ (r .0) (r .1 .0)) (c .if1 .left)
 
 pub run-job-spec : {M : Type 1} → statement M
 run-job-spec =

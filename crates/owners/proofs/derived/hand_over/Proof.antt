@@ -9,13 +9,18 @@ use Rattle.owners.proofs.derived.hand_over.Tie as tie
 returns : tie.Need-returns
 unfolding carried
 returns c =
-    let x = c .before .before .before .before .before .before .before .before .before .before .before .before .before .before .before .before .before .before .before .before .before .before .before .before .before .before .before .before .before .before .before .before .before .args in
+    let c8 = c .before .before .before .before .before .before .before .before in
+    let c16 = c8 .before .before .before .before .before .before .before .before in
+    let c24 = c16 .before .before .before .before .before .before .before .before in
+    let c32 = c24 .before .before .before .before .before .before .before .before in
+    let x = c32 .before .args in
     let D = derived (x .sets .now) (x .minutes .now) (x .totals .now) in
-    let n = c .before .before .before .before .before .before .before .before .before .before .before .before .before .before .before .before .before .before .before .before .before .before .before .before .stretch-minutes .ensures in (
+    let n = c24 .stretch-minutes .ensures in (
       c .before .before .fill-owners .ensures,
-      c .before .before .before .before .before .before .before .before .before .before .give .ensures
+      c8 .before .before .give .ensures
           ∙ ap₂ (λ (k : ℕ) (d : Derived). given (x .people) (x .slots) (x .a) (x .e) k (x .to) d) n
-          (c .before .before .before .before .before .before .before .before .before .before .before .before .before .before .before .before .before .before .before .before .take .ensures ∙ ap₂ (λ (k w : ℕ). taken (x .people) (x .slots) (x .a) (x .e) k w D) n (c .before .before .before .before .before .before .before .before .before .before .before .before .before .before .before .before .before .before .before .before .before .before .before .before .before .owner-at .ensures)),
+          (c16 .before .before .before .before .take .ensures ∙ ap₂ (λ (k w : ℕ). taken (x .people) (x .slots) (x .a) (x .e) k w D) n
+          (c24 .before .owner-at .ensures)),
     )
 
 pub hand-over-spec : {M : Type 1} → statement M

@@ -12,16 +12,19 @@ use Rattle.owners.proofs.derived.take.Tie as tie
 returns : tie.Need-returns
 unfolding taken setFor lessAt lessTotals
 returns c =
-    let own = eq-eqb _ _ (c .before .before .before .before .before .before .before .before .before .if1 .taken) in
-    let x = c .before .before .before .before .before .before .before .before .before .before .before .before .before .args in
+    let c8 = c .before .before .before .before .before .before .before .before in
+    let own = eq-eqb _ _ (c8 .before .if1 .taken) in
+    let x = c8 .before .before .before .before .before .args in
     derived-same (simp own refl) (simp own refl)
-    (simp own (one-by-one _-_ (x .totals .now) _ _ _ _ _ (c .before .before .before .before .before .before .before .less-at .ensures) (c .before .before .before .slots-in .ensures) (c .before .before .less-at2 .ensures)))
+    (simp own (one-by-one _-_ (x .totals .now) _ _ _ _ _ (c .before .before .before .before .before .before .before .less-at
+    .ensures) (c .before .before .before .slots-in .ensures) (c .before .before .less-at2 .ensures)))
 
 returns-2 : tie.Need-returns-2
 unfolding taken setFor lessAt lessTotals
 returns-2 c =
     let other = ne-eqb _ _ (c .before .before .before .before .before .before .before .before .if1 .left) in
-    derived-same (simp other (c .before .before .before .before .before .before .put-stretch .ensures .1)) (simp other (c .before .before .less-at3 .ensures)) (simp other refl)
+    derived-same (simp other (c .before .before .before .before .before .before .put-stretch .ensures .1)) (simp other (c .before
+    .before .less-at3 .ensures)) (simp other refl)
 
 pub take-spec : {M : Type 1} → statement M
 take-spec =

@@ -10,8 +10,11 @@ returns : tie.Need-returns
 unfolding emptyRow
 returns c =
     checked _ refl (c .before .before .before .before .before .before .before .before .accepted .ensures)
-    (link (c .before .before .before .before .before .before .before .check-people .ensures) (link (c .before .before .before .before .before .before .check-slots .ensures) (link (c .before .before .before .before .before .check-room .ensures) (link (c .before .before .before .before .check .ensures)
-    (link (c .before .before .before .check-words .ensures) (link (c .before .before .check2 .ensures) (link (c .before .check3 .ensures) (link (c .check-order .ensures) ends))))))))
+    (link (c .before .before .before .before .before .before .before .check-people .ensures) (link (c .before .before .before .before
+    .before .before .check-slots .ensures) (link (c .before .before .before .before .before .check-room .ensures) (link (c .before
+    .before .before .before .check .ensures)
+    (link (c .before .before .before .check-words .ensures) (link (c .before .before .check2 .ensures) (link (c .before .check3
+    .ensures) (link (c .check-order .ensures) ends))))))))
 
 pub empty-refusal-spec : {M : Type 1} → statement M
 empty-refusal-spec =

@@ -10,11 +10,13 @@ use Rattle.owners.proofs.entries.from_slots.Tie as tie
 
 rebuild-requires : tie.Need-rebuild-requires
 rebuild-requires c κs =
-    let at-args = c .before .before .before .before .before .before .before .before .before .before .before .before .before .before .before .args in
+    let c8 = c .before .before .before .before .before .before .before .before in
+    let at-args = c8 .before .before .before .before .before .before .before .args in
     let at-from-slots-refused = c .before .before .before .before .from-slots-refusal in
     let at-if1 = c .before .before .before .if1 in
     let A = from-asks (plan (at-args .people) (at-args .slots) (at-args .starts .now) (at-args .ends .now)) (at-args .avail
-    .now) (at-args .owners .now) (derived (at-args .sets .now) (at-args .minutes .now) (at-args .totals .now)) (sym (said _ (at-from-slots-refused .ensures)) ∙
+    .now) (at-args .owners .now) (derived (at-args .sets .now) (at-args .minutes .now) (at-args .totals .now)) (sym (said _
+    (at-from-slots-refused .ensures)) ∙
     (at-if1 .taken)) in
     (A .0, A .1)
 
@@ -29,20 +31,25 @@ same-length-3 c = lengths-kept _ _ _ _ (c .before .before .before .before .befor
 
 returns : tie.Need-returns
 returns c =
-    let at-args = c .before .before .before .before .before .before .before .before .before .before .before .before .before .before .before .before .before .before .before .before .before .before .args in
-    let at-from-slots-refused = c .before .before .before .before .before .before .before .before .before .before .before .from-slots-refusal in
-    let at-if1 = c .before .before .before .before .before .before .before .before .before .before .if1 in
+    let c8 = c .before .before .before .before .before .before .before .before in
+    let c16 = c8 .before .before .before .before .before .before .before .before in
+    let at-args = c16 .before .before .before .before .before .before .args in
+    let at-from-slots-refused = c8 .before .before .before .from-slots-refusal in
+    let at-if1 = c8 .before .before .if1 in
     let at-rebuild = c .before .before .before .before .before .before .rebuild in
     from-yes (plan (at-args .people) (at-args .slots) (at-args .starts .now) (at-args .ends .now)) (at-args .avail .now)
-    (at-args .owners .now) (derived (at-args .sets .now) (at-args .minutes .now) (at-args .totals .now)) _ (said _ (at-from-slots-refused .ensures)) _ (at-if1
+    (at-args .owners .now) (derived (at-args .sets .now) (at-args .minutes .now) (at-args .totals .now)) _ (said _
+    (at-from-slots-refused .ensures)) _ (at-if1
     .taken) (at-rebuild .ensures)
 
 returns-2 : tie.Need-returns-2
 returns-2 c =
-    let at-args = c .before .before .before .before .before .before .before .before .before .before .before .before .args in
+    let c8 = c .before .before .before .before .before .before .before .before in
+    let at-args = c8 .before .before .before .before .args in
     let at-from-slots-refused = c .before .from-slots-refusal in
     from-refused (plan (at-args .people) (at-args .slots) (at-args .starts .now) (at-args .ends .now)) (at-args .avail .now) (at-args
-    .owners .now) (derived (at-args .sets .now) (at-args .minutes .now) (at-args .totals .now)) _ (said _ (at-from-slots-refused .ensures)) (c .if1 .left)
+    .owners .now) (derived (at-args .sets .now) (at-args .minutes .now) (at-args .totals .now)) _ (said _ (at-from-slots-refused
+    .ensures)) (c .if1 .left)
 
 pub from-slots-spec : {M : Type 1} → statement M
 from-slots-spec =

@@ -16,7 +16,8 @@ returns-2 c =
     let at-first-unknown = c .before .before .before .before .first-unknown in
     let at-if1 = c .before .before .before .if1 in
     let at-first-unavailable = c .before .before .first-unavailable in
-    refusal-unavailable _ _ _ _ _ _ _ _ (at-first-unknown .ensures) (at-if1 .left) _ (at-first-unavailable .ensures) (c .before .if2 .taken) (c .refusal-in2 .ensures)
+    refusal-unavailable _ _ _ _ _ _ _ _ (at-first-unknown .ensures) (at-if1 .left) _ (at-first-unavailable .ensures) (c .before .if2
+    .taken) (c .refusal-in2 .ensures)
 
 returns-3 : tie.Need-returns-3
 returns-3 c =
@@ -31,9 +32,10 @@ returns-3 c =
 derived-refusal-requires : tie.Need-derived-refusal-requires
 unfolding knownAt
 derived-refusal-requires c κs =
-    let at-pre = c .before .before .before .before .before .before .before .before .before .before .before .before .before .before .pre
+    let c8 = c .before .before .before .before .before .before .before .before in
+    let at-pre = c8 .before .before .before .before .before .before .pre
     in
-    let at-args = c .before .before .before .before .before .before .before .before .before .before .before .before .before .before .args in
+    let at-args = c8 .before .before .before .before .before .before .args in
     let at-first-unknown = c .before .before .before .before .before .first-unknown in
     let R = (at-pre .1) in (
       (at-pre .0),

@@ -7,15 +7,18 @@ use Rattle.owners.proofs.recounting.recounted.Tie as tie
 
 recount-refusal-requires : tie.Need-recount-refusal-requires
 recount-refusal-requires c κs =
-    let x = c .before .before .before .before .before .before .before .before .before .before .before .before .args in
+    let c8 = c .before .before .before .before .before .before .before .before in
+    let x = c8 .before .before .before .before .args in
     let g = front-right (plan (x .people) (x .slots) (x .starts .now) (x .ends .now)) (x .avail .now) (x .units) (x .begins .now)
-    (x .owners .now) (derived (x .sets .now) (x .minutes .now) (x .totals .now)) _ _ _ _ (c .before .before .before .lent-refusal .ensures) (c .before .before .check-units .ensures)
+    (x .owners .now) (derived (x .sets .now) (x .minutes .now) (x .totals .now)) _ _ _ _ (c .before .before .before .lent-refusal
+    .ensures) (c .before .before .check-units .ensures)
     (c .if1 .taken) in
     (g .sound, g .room)
 
 returns : tie.Need-returns
 returns c =
-    row-on _ _ _ _ _ _ _ _ _ _ (c .before .before .before .before .lent-refusal .ensures) (c .before .before .before .check-units .ensures) _ (c .before .if1 .taken)
+    row-on _ _ _ _ _ _ _ _ _ _ (c .before .before .before .before .lent-refusal .ensures) (c .before .before .before .check-units
+    .ensures) _ (c .before .if1 .taken)
     (c .recount-refusal .ensures)
 
 returns-2 : tie.Need-returns-2

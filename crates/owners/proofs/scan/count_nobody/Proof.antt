@@ -25,10 +25,18 @@ add-n c =
     omega (arith, nobody-le (at-args .owners .now) (at-loop .k), (at-loop .inv .1))
 
 loop-again : tie.Need-loop-again Inv-loop μ-loop
-loop-again c = (omega arith, nobody-more _ _ _ (c .before .before .before .loop .inv .1) (sym (c .before .owner-at .ensures) ∙ c .if1 .taken))
+loop-again c = (
+  omega arith,
+  nobody-more _ _ _ (c .before .before .before .loop .inv .1) (sym (c .before .owner-at .ensures) ∙ c .if1
+      .taken),
+)
 
 loop-again-2 : tie.Need-loop-again-2 Inv-loop μ-loop
-loop-again-2 c = (omega arith, nobody-same _ _ _ (c .before .before .before .loop .inv .1) (λ q. c .if1 .left (c .before .owner-at .ensures ∙ q)))
+loop-again-2 c = (
+  omega arith,
+  nobody-same _ _ _ (c .before .before .before .loop .inv .1) (λ q. c .if1 .left (c .before .owner-at
+      .ensures ∙ q)),
+)
 
 returns : tie.Need-returns Inv-loop μ-loop
 returns c =

@@ -35,6 +35,7 @@ returns-2 c = scan-ends _ _ _ (c .before .loop .inv .0) (c .loop-test .left) (c 
 pub first-wrong-entry-spec : {M : Type 1} → statement M
 first-wrong-entry-spec =
     tie.close
-    (tie.spec Inv-loop μ-loop loop-holds (λ c. search needs) (λ c. search needs) (λ c. search needs) (λ c. search needs) (λ c. search needs)
+    (tie.spec Inv-loop μ-loop loop-holds (λ c. search needs) (λ c. search needs) (λ c. search needs) (λ c. search needs) (λ c. search
+    needs)
     (λ c. omega arith) loop-again returns
     returns-2)

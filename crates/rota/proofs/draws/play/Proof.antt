@@ -1,6 +1,6 @@
 -- `rota::draws::play` meets its contract: a walk of its MIR, by hand, with a loop and no branch. `begin` judges the call and works out what
 -- a play works out once; masks and flags then lie in two local arrays, which are lent for the loop (`Arrays`); each turn reads `draws[i]`
--- and calls `step_at` on its numbers. The four `&mut` slices are lent to each call, as `&` to `begin` and as `&mut` to `step_at`, and come
+-- and calls `step_at` on its numbers. The five `&mut` slices are lent to each call, as `&` to `begin` and as `&mut` to `step_at`, and come
 -- back (`Loans`). The invariant at i is `Playing`. Assumes nothing.
 use mathlib.Core.Path.{_≡_, refl, sym, ap, subst}
 use mathlib.Core.Logic.{⊎-elim}
@@ -112,7 +112,7 @@ module _ {M : Type 1} (𝓤 : URA M) (H : Heap 𝓤) (A : Atoms 𝓤) (mem : Mem
   Entry = tripleOf 𝓤 H A entry.signature (entry.spec 𝓤 H A mem run)
 
 module _ {M : Type 1} (𝓤 : URA M) (H : Heap 𝓤) (A : Atoms 𝓤) (W : Given 𝓤 H A) (mem : Memory → SProp 𝓤) (run : Routine → Fun 𝓤)
-    (κs : Lfts 10) (qs : Shares 10) (a : Args entry.signature κs)
+    (κs : Lfts 11) (qs : Shares 11) (a : Args entry.signature κs)
     (are : Are (typesAt (entry.signature .params) κs) (Ises (typesAt (entry.signature .params) κs)) a
     (valuesOf 𝓤 H A entry.ended (entry.clauses 𝓤 H A mem run) (known 𝓤 H A W) κs a)) where
   abbrev Rs : List RattleType
@@ -165,8 +165,11 @@ module _ {M : Type 1} (𝓤 : URA M) (H : Heap 𝓤) (A : Atoms 𝓤) (W : Given
   abbrev minutes : RefT (List ℕ)
   minutes = a .1 .1 .1 .1 .1 .1 .1 .1 .1 .1 .1 .1 .0
 
+  abbrev totals : RefT (List ℕ)
+  totals = a .1 .1 .1 .1 .1 .1 .1 .1 .1 .1 .1 .1 .1 .0
+
   abbrev answers : RefT (List ℕ)
-  answers = a .1 .1 .1 .1 .1 .1 .1 .1 .1 .1 .1 .1 .1 .0
+  answers = a .1 .1 .1 .1 .1 .1 .1 .1 .1 .1 .1 .1 .1 .1 .0
 
   abbrev P : Plan
   P = plan people slots (starts .now) (ends .now)
@@ -213,34 +216,36 @@ module _ {M : Type 1} (𝓤 : URA M) (H : Heap 𝓤) (A : Atoms 𝓤) (W : Given
   abbrev DrawsToken : Fml
   DrawsToken = flft (κs .1 .1 .1 .1 .1 .0) (qs .1 .1 .1 .1 .1 .0)
 
-  -- the four slices that are written
+  -- the five slices that are written
   abbrev ss : List Slice
   ss =
       record { R = u8; κ = (κs .1 .1 .1 .1 .1 .1 .0); q = (qs .1 .1 .1 .1 .1 .1 .0); x = owners }
       ∷ record { R = u64; κ = (κs .1 .1 .1 .1 .1 .1 .1 .0); q = (qs .1 .1 .1 .1 .1 .1 .1 .0); x = sets }
       ∷ record { R = u64; κ = (κs .1 .1 .1 .1 .1 .1 .1 .1 .0); q = (qs .1 .1 .1 .1 .1 .1 .1 .1 .0); x = minutes }
-      ∷ record { R = u8; κ = (κs .1 .1 .1 .1 .1 .1 .1 .1 .1 .0); q = (qs .1 .1 .1 .1 .1 .1 .1 .1 .1 .0); x = answers } ∷ []
+      ∷ record { R = u64; κ = (κs .1 .1 .1 .1 .1 .1 .1 .1 .1 .0); q = (qs .1 .1 .1 .1 .1 .1 .1 .1 .1 .0); x = totals }
+      ∷ record { R = u8; κ = (κs .1 .1 .1 .1 .1 .1 .1 .1 .1 .1 .0); q = (qs .1 .1 .1 .1 .1 .1 .1 .1 .1 .1 .0); x = answers } ∷ []
 
   abbrev ls₀ : Lists ss
-  ls₀ = owners .now & sets .now & minutes .now & answers .now & tt
+  ls₀ = owners .now & sets .now & minutes .now & totals .now & answers .now & tt
 
   abbrev long₀ : AsLong ss ls₀
-  long₀ = refl & refl & refl & refl & tt
+  long₀ = refl & refl & refl & refl & refl & tt
 
   rooms : Rooms ss
   rooms =
       are .1 .1 .1 .1 .1 .1 .1 .1 .1 .1 .0 .0 .1
       & are .1 .1 .1 .1 .1 .1 .1 .1 .1 .1 .1 .0 .0 .1
       & are .1 .1 .1 .1 .1 .1 .1 .1 .1 .1 .1 .1 .0 .0 .1
-      & are .1 .1 .1 .1 .1 .1 .1 .1 .1 .1 .1 .1 .1 .0 .0 .1 & tt
+      & are .1 .1 .1 .1 .1 .1 .1 .1 .1 .1 .1 .1 .1 .0 .0 .1
+      & are .1 .1 .1 .1 .1 .1 .1 .1 .1 .1 .1 .1 .1 .1 .0 .0 .1 & tt
 
   -- the loans of a call: their lifetimes, and the slices as they are lent
-  abbrev q4 : Shares 4
-  q4 = fullShare & fullShare & fullShare & fullShare & tt
+  abbrev q-lent : Shares 5
+  q-lent = fullShare & fullShare & fullShare & fullShare & fullShare & tt
 
   module _ (ls : Lists ss) (g : Loans ss) where
-    abbrev k4 : Lfts 4
-    k4 = (g .0 .0 ∷ []) & (g .1 .0 .0 ∷ []) & (g .1 .1 .0 .0 ∷ []) & (g .1 .1 .1 .0 .0 ∷ []) & tt
+    abbrev k-lent : Lfts 5
+    k-lent = (g .0 .0 ∷ []) & (g .1 .0 .0 ∷ []) & (g .1 .1 .0 .0 ∷ []) & (g .1 .1 .1 .0 .0 ∷ []) & (g .1 .1 .1 .1 .0 .0 ∷ []) & tt
 
     abbrev lent-owners : RefT (List ℕ)
     lent-owners = record { ptr = owners .ptr; name = g .0 .1; now = ls .0 }
@@ -251,15 +256,18 @@ module _ {M : Type 1} (𝓤 : URA M) (H : Heap 𝓤) (A : Atoms 𝓤) (W : Given
     abbrev lent-minutes : RefT (List ℕ)
     lent-minutes = record { ptr = minutes .ptr; name = g .1 .1 .0 .1; now = ls .1 .1 .0 }
 
+    abbrev lent-totals : RefT (List ℕ)
+    lent-totals = record { ptr = totals .ptr; name = g .1 .1 .1 .0 .1; now = ls .1 .1 .1 .0 }
+
     abbrev lent-answers : RefT (List ℕ)
-    lent-answers = record { ptr = answers .ptr; name = g .1 .1 .1 .0 .1; now = ls .1 .1 .1 .0 }
+    lent-answers = record { ptr = answers .ptr; name = g .1 .1 .1 .1 .0 .1; now = ls .1 .1 .1 .1 .0 }
 
     -- ---- `begin`: what its triple binds outside, and what the caller keeps
-    abbrev kb : Lfts 9
-    kb = (κs .0) & (κs .1 .0) & (κs .1 .1 .0) & (κs .1 .1 .1 .0) & (κs .1 .1 .1 .1 .0) & k4
+    abbrev kb : Lfts 10
+    kb = (κs .0) & (κs .1 .0) & (κs .1 .1 .0) & (κs .1 .1 .1 .0) & (κs .1 .1 .1 .1 .0) & k-lent
 
-    abbrev qb : Shares 9
-    qb = (qs .0) & (qs .1 .0) & (qs .1 .1 .0) & (qs .1 .1 .1 .0) & (qs .1 .1 .1 .1 .0) & q4
+    abbrev qb : Shares 10
+    qb = (qs .0) & (qs .1 .0) & (qs .1 .1 .0) & (qs .1 .1 .1 .0) & (qs .1 .1 .1 .1 .0) & q-lent
 
     abbrev to-begin : Begin 𝓤 H A mem run .Ghost
     to-begin = (
@@ -267,11 +275,11 @@ module _ {M : Type 1} (𝓤 : URA M) (H : Heap 𝓤) (A : Atoms 𝓤) (W : Given
         kb,
         qb,
         tt,
-        people & slots & units & count & starts & ends & avail & begins & frozen & lent-owners & lent-sets & lent-minutes & enough
-            & lent-answers & tt,
+        people & slots & units & count & starts & ends & avail & begins & frozen & lent-owners & lent-sets & lent-minutes
+            & lent-totals & enough & lent-answers & tt,
         (vint w64 people ∷ []) & (vint w64 slots ∷ []) & (vint w64 units ∷ []) & (vint w64 count ∷ []) & slice-vals starts
             & slice-vals ends & slice-vals avail & slice-vals begins & slice-vals frozen & slice-vals owners & slice-vals sets
-            & slice-vals minutes & (vbool enough ∷ []) & slice-vals answers & tt,
+            & slice-vals minutes & slice-vals totals & (vbool enough ∷ []) & slice-vals answers & tt,
       ),
       tt,
     )
@@ -283,32 +291,34 @@ module _ {M : Type 1} (𝓤 : URA M) (H : Heap 𝓤) (A : Atoms 𝓤) (W : Given
   out-begin : (ls : Lists ss) → AsLong ss ls → ent 𝓤 (sep 𝓤 Five (HasAll 𝓤 H A ss ls))
       (H .⇛ (ex 𝓤 (λ (g : Loans ss). sep 𝓤 (Begin 𝓤 H A mem run .pre (to-begin ls g)) (Left-begin ls g))))
   out-begin ls long =
-      qed W ((raw (toks 𝓤 A 5 k5 q5) ⊛ ‵ (owns Rs5 a5 v5)) ∷ raw (HasAll 𝓤 H A ss ls) ∷ []) ∵ updating ! $ split ! $ tokens-out ! 5 k5 q5 $
-      -- [tokens 0 to 4; what the five own; the four]
+      qed W ((raw (toks 𝓤 A 5 k5 q5) ⊛ ‵ (owns Rs5 a5 v5)) ∷ raw (HasAll 𝓤 H A ss ls) ∷ []) ∵ updating ! $ split ! $ tokens-out ! 5
+      k5 q5 $
+      -- [tokens 0 to 4; what the five own; the written]
       move ! (5 ∷ []) $ use1 W (‵ (owns Rs5 a5 v5) ⊛ ‵ (owns Rs5 a5 v5)) (owns-twice 𝓤 H A W Rs5 copies5 a5 v5) $ split ! $
       owns-out ! Rs5 a5 v5 $ move ! (11 ∷ []) $
       use1 W (later (some (λ (g : Loans ss). raw (LentAll 𝓤 H A (Shown 𝓤 H A) ss ls g) ⊛ raw (KeptAll 𝓤 H A (KeptShown 𝓤 H A) ss ls g))))
       (shows-all 𝓤 H A W ss ls rooms long) $ await ! tt $ pick ! (λ g. split ! $ lent-out ! (Shown 𝓤 H A) ss ls g $
       -- [token and slice of each loan; what is kept; the five; the five; tokens 0 to 4]
       at-once ! $ show ! (λ (g : Loans ss). sep 𝓤 (Begin 𝓤 H A mem run .pre (to-begin ls g)) (Left-begin ls g)) g $
-      move ! (15 ∷ 16 ∷ 17 ∷ 18 ∷ 19 ∷ 0 ∷ 2 ∷ 4 ∷ 6 ∷ []) $ tokens-in ! 9 (kb ls g) (qb ls g) _ refl $
-      -- [the tokens; the four; what is kept; the five; the five]
+      move ! (17 ∷ 18 ∷ 19 ∷ 20 ∷ 21 ∷ 0 ∷ 2 ∷ 4 ∷ 6 ∷ 8 ∷ []) $ tokens-in ! 10 (kb ls g) (qb ls g) _ refl $
+      -- [the tokens; the written; what is kept; the five; the five]
       owned ! bool (Is bool) (bool-makes 𝓤 H A W) enough _ refl $
       owned ! usize (Is usize) (uint-makes 𝓤 H A W w64) count _ (refl, are .1 .1 .1 .0 .1) $
       owned ! usize (Is usize) (uint-makes 𝓤 H A W w64) units _ (refl, are .1 .1 .0 .1) $
       owned ! usize (Is usize) (uint-makes 𝓤 H A W w64) slots _ (refl, are .1 .0 .1) $
       owned ! usize (Is usize) (uint-makes 𝓤 H A W w64) people _ (refl, are .0 .1) $
-      move ! (0 ∷ 1 ∷ 2 ∷ 3 ∷ 11 ∷ 12 ∷ 13 ∷ 14 ∷ 15 ∷ 6 ∷ 7 ∷ 8 ∷ 4 ∷ 9 ∷ []) $
+      move ! (0 ∷ 1 ∷ 2 ∷ 3 ∷ 12 ∷ 13 ∷ 14 ∷ 15 ∷ 16 ∷ 6 ∷ 7 ∷ 8 ∷ 9 ∷ 4 ∷ 10 ∷ []) $
       owns-in ! (typesAt (begin.signature .params) (kb ls g)) (to-begin ls g .0 .3) (to-begin ls g .0 .4) _ refl $
       move ! (1 ∷ 0 ∷ []) $ join ! $ nothing ! $ move ! (1 ∷ 0 ∷ []) $ join ! $ frame ! $ move ! (1 ∷ 0 ∷ []) $ done !)
 
   back-begin : (ls : Lists ss) → AsLong ss ls → (g : Loans ss)
-      → ent 𝓤 (sep 𝓤 (toks 𝓤 A 9 (kb ls g) (qb ls g)) (Left-begin ls g)) (H .⇛ (sep 𝓤 Five (HasAll 𝓤 H A ss ls)))
+      → ent 𝓤 (sep 𝓤 (toks 𝓤 A 10 (kb ls g) (qb ls g)) (Left-begin ls g)) (H .⇛ (sep 𝓤 Five (HasAll 𝓤 H A ss ls)))
   back-begin ls long g =
-      qed W (raw (toks 𝓤 A 9 (kb ls g) (qb ls g)) ∷ ‵ (owns Rs5 a5 v5) ∷ raw (KeptAll 𝓤 H A (KeptShown 𝓤 H A) ss ls g) ∷ []) ∵ updating ! $
-      tokens-out ! 9 (kb ls g) (qb ls g) $ tokens-in ! 5 k5 q5 _ refl $ move ! (0 ∷ 5 ∷ []) $ join ! $
+      qed W (raw (toks 𝓤 A 10 (kb ls g) (qb ls g)) ∷ ‵ (owns Rs5 a5 v5) ∷ raw (KeptAll 𝓤 H A (KeptShown 𝓤 H A) ss ls g) ∷ []) ∵
+      updating ! $
+      tokens-out ! 10 (kb ls g) (qb ls g) $ tokens-in ! 5 k5 q5 _ refl $ move ! (0 ∷ 6 ∷ []) $ join ! $
       -- [the five with their tokens; the loans' tokens; what is kept]
-      move ! (1 ∷ 2 ∷ 3 ∷ 4 ∷ []) $ tokens-in ! 4 (k4 ls g) q4 _ refl $ move ! (0 ∷ 2 ∷ []) $
+      move ! (1 ∷ 2 ∷ 3 ∷ 4 ∷ 5 ∷ []) $ tokens-in ! 5 (k-lent ls g) q-lent _ refl $ move ! (0 ∷ 2 ∷ []) $
       use2 W (later (raw (HasAll 𝓤 H A ss ls))) (hides-all 𝓤 H A W ss ls g rooms long) $ await ! tt $ at-once ! $ move ! (1 ∷ 0 ∷ []) $
       frame ! $ done !
 
@@ -318,17 +328,18 @@ module _ {M : Type 1} (𝓤 : URA M) (H : Heap 𝓤) (A : Atoms 𝓤) (W : Given
   opens : ent 𝓤 (onEntry 𝓤 H A entry.signature κs qs a vss)
       (sep 𝓤 (sep 𝓤 (sem 𝓤 H A DrawsToken) (sem 𝓤 H A OwnDraws)) (sep 𝓤 Five (HasAll 𝓤 H A ss ls₀)))
   opens =
-      qed W (raw (toks 𝓤 A 10 κs qs) ∷ ‵ (owns Rs a vss) ∷ []) ∵ tokens-out ! 10 κs qs $ move ! (10 ∷ []) $ owns-out ! Rs a vss $
-      move ! (19 ∷ 9 ∷ []) $ join ! $ frame ! $
-      move ! (13 ∷ 14 ∷ 15 ∷ 16 ∷ 17 ∷ []) $ tokens-in ! 5 k5 q5 _ refl $ move ! (5 ∷ 6 ∷ 7 ∷ 8 ∷ 9 ∷ []) $
+      qed W (raw (toks 𝓤 A 11 κs qs) ∷ ‵ (owns Rs a vss) ∷ []) ∵ tokens-out ! 11 κs qs $ move ! (11 ∷ []) $ owns-out ! Rs a vss $
+      move ! (20 ∷ 9 ∷ []) $ join ! $ frame ! $
+      move ! (14 ∷ 15 ∷ 16 ∷ 17 ∷ 18 ∷ []) $ tokens-in ! 5 k5 q5 _ refl $ move ! (5 ∷ 6 ∷ 7 ∷ 8 ∷ 9 ∷ []) $
       owns-in ! Rs5 a5 v5 _ refl $ move ! (1 ∷ 0 ∷ []) $ join ! $ frame ! $
-      keep ! (4 ∷ 8 ∷ 5 ∷ 9 ∷ 6 ∷ 10 ∷ 7 ∷ 11 ∷ []) $ join ! $ frame ! $ join ! $ frame ! $ join ! $ frame ! $ join ! $
-      nothing ! $ move ! (1 ∷ 0 ∷ []) $ done !
+      keep ! (4 ∷ 9 ∷ 5 ∷ 10 ∷ 6 ∷ 11 ∷ 7 ∷ 12 ∷ 8 ∷ 13 ∷ []) $ join ! $ frame ! $ join ! $ frame ! $ join ! $ frame ! $
+      join ! $ frame ! $ join ! $ nothing ! $ move ! (1 ∷ 0 ∷ []) $ done !
 
   -- the end
   finish : (r : Refusal) (ls : Lists ss) → AsLong ss ls → Is R.the-row r (LL.val R.the-type R′.the-laws r ∷ [])
       → Ended (playedDraws P (avail .now) units (begins .now) (frozen .now) count (draws .now) (owners .now)
-      (derived (sets .now) (minutes .now)) (answers .now)) r (ls .0) (derived (ls .1 .0) (ls .1 .1 .0)) (ls .1 .1 .1 .0)
+      (derived (sets .now) (minutes .now) (totals .now)) (answers .now)) r (ls .0)
+      (derived (ls .1 .0) (ls .1 .1 .0) (ls .1 .1 .1 .0)) (ls .1 .1 .1 .1 .0)
       → ent 𝓤 (sep 𝓤 (sem 𝓤 H A DrawsToken) (sep 𝓤 (toks 𝓤 A 5 k5 q5) (HasAll 𝓤 H A ss ls)))
       (Entry 𝓤 H A mem run .post y (LL.val R.the-type R′.the-laws r))
   finish r ls long is said =
@@ -336,23 +347,27 @@ module _ {M : Type 1} (𝓤 : URA M) (H : Heap 𝓤) (A : Atoms 𝓤) (W : Given
       move ! (2 ∷ []) $ use1 W (later (raw (OwnTokens 𝓤 H A ss) ⊛ ‵ (SaidLast ss ls))) (ends-all 𝓤 H A W ss ls long) $ await ! tt $
       split ! $
       move ! (3 ∷ []) $ tokens-out ! 5 k5 q5 $ move ! (5 ∷ []) $
-      tokens-out ! 4 ((κs .1 .1 .1 .1 .1 .1 .0) & (κs .1 .1 .1 .1 .1 .1 .1 .0) & (κs .1 .1 .1 .1 .1 .1 .1 .1 .0) &
-      (κs .1 .1 .1 .1 .1 .1 .1 .1 .1 .0) & tt)
-      ((qs .1 .1 .1 .1 .1 .1 .0) & (qs .1 .1 .1 .1 .1 .1 .1 .0) & (qs .1 .1 .1 .1 .1 .1 .1 .1 .0) & (qs .1 .1 .1 .1 .1 .1 .1 .1 .1 .0) & tt) $
-      move ! (4 ∷ 5 ∷ 6 ∷ 7 ∷ 8 ∷ 10 ∷ 0 ∷ 1 ∷ 2 ∷ 3 ∷ []) $ tokens-in ! 10 κs qs _ refl $
-      -- [the tokens; what is said of the four]
-      move ! (1 ∷ []) $ fsplit ! $ move ! (1 ∷ []) $ fsplit ! $ move ! (1 ∷ []) $ fsplit ! $ move ! (1 ∷ []) $
-      move ! (1 ∷ 0 ∷ []) $ fjoin ! $ move ! (1 ∷ 0 ∷ []) $ fjoin ! $ move ! (1 ∷ 0 ∷ []) $ fjoin ! $ nothing ! $ fjoin ! $
+      tokens-out ! 5 ((κs .1 .1 .1 .1 .1 .1 .0) & (κs .1 .1 .1 .1 .1 .1 .1 .0) & (κs .1 .1 .1 .1 .1 .1 .1 .1 .0) &
+      (κs .1 .1 .1 .1 .1 .1 .1 .1 .1 .0) & (κs .1 .1 .1 .1 .1 .1 .1 .1 .1 .1 .0) & tt)
+      ((qs .1 .1 .1 .1 .1 .1 .0) & (qs .1 .1 .1 .1 .1 .1 .1 .0) & (qs .1 .1 .1 .1 .1 .1 .1 .1 .0) & (qs .1 .1 .1 .1 .1 .1 .1 .1 .1 .0) &
+      (qs .1 .1 .1 .1 .1 .1 .1 .1 .1 .1 .0) & tt) $
+      move ! (5 ∷ 6 ∷ 7 ∷ 8 ∷ 9 ∷ 11 ∷ 0 ∷ 1 ∷ 2 ∷ 3 ∷ 4 ∷ []) $ tokens-in ! 11 κs qs _ refl $
+      -- [the tokens; what is said of the written]
+      move ! (1 ∷ []) $ fsplit ! $ move ! (1 ∷ []) $ fsplit ! $ move ! (1 ∷ []) $ fsplit ! $ move ! (1 ∷ []) $ fsplit ! $
+      move ! (1 ∷ []) $
+      move ! (1 ∷ 0 ∷ []) $ fjoin ! $ move ! (1 ∷ 0 ∷ []) $ fjoin ! $ move ! (1 ∷ 0 ∷ []) $ fjoin ! $ move ! (1 ∷ 0 ∷ []) $ fjoin ! $
+      nothing ! $ fjoin ! $
       nothing ! $ fjoin ! $ nothing ! $ fjoin ! $ nothing ! $ fjoin ! $ nothing ! $ fjoin ! $ nothing ! $ fjoin ! $ nothing ! $ fjoin ! $
       nothing ! $ fjoin ! $ nothing ! $ fjoin ! $ nothing ! $ fjoin ! $
       keep ! (1 ∷ 0 ∷ []) $ owned ! R.the-row (Is R.the-row) (LL.makes R.the-type R′.the-plain 𝓤 H A) r _ is $
       by ! (ends-with 𝓤 H A W entry.ended (entry.clauses 𝓤 H A mem run) y (LL.val R.the-type R′.the-laws r) r
-      (tt & tt & tt & tt & tt & tt & tt & tt & tt & tt & ls .0 & ls .1 .0 & ls .1 .1 .0 & ls .1 .1 .1 .0 & tt) _ (id⊢ 𝓤 _) said)
+      (tt & tt & tt & tt & tt & tt & tt & tt & tt & tt & ls .0 & ls .1 .0 & ls .1 .1 .0 & ls .1 .1 .1 .0
+      & ls .1 .1 .1 .1 .0 & tt) _ (id⊢ 𝓤 _) said)
 
   -- ---- a play that has begun, its masks and flags in arrays at p₁ and p₂
   module _ (b : Begun) (is-b : Is S.the-row b (LL.val S.the-type S′.the-laws b ∷ []))
-      (w : Begins P (avail .now) units (begins .now) (frozen .now) count enough (owners .now) (derived (sets .now) (minutes .now))
-      (answers .now) b) where
+      (w : Begins P (avail .now) units (begins .now) (frozen .now) count enough (owners .now)
+      (derived (sets .now) (minutes .now) (totals .now)) (answers .now) b) where
     abbrev fits-val : Val
     fits-val = S′.the-laws .1 .1 .0 .val (S.the-type .to b .1 .1 .0)
 
@@ -380,10 +395,11 @@ module _ {M : Type 1} (𝓤 : URA M) (H : Heap 𝓤) (A : Atoms 𝓤) (W : Given
 
     abbrev Plays : ℕ → Lists ss → Type 0
     Plays i ls =
-        Playing P (avail .now) units (begins .now) (frozen .now) count (owners .now) (derived (sets .now) (minutes .now)) (answers .now)
-        (draws .now) b w i (ls .0) (derived (ls .1 .0) (ls .1 .1 .0)) (ls .1 .1 .1 .0)
+        Playing P (avail .now) units (begins .now) (frozen .now) count (owners .now)
+        (derived (sets .now) (minutes .now) (totals .now)) (answers .now)
+        (draws .now) b w i (ls .0) (derived (ls .1 .0) (ls .1 .1 .0) (ls .1 .1 .1 .0)) (ls .1 .1 .1 .1 .0)
 
-    -- the loop's variant: i and the four lists, with what the invariant says of them, ordered by what is left
+    -- the loop's variant: i and the five lists, with what the invariant says of them, ordered by what is left
     record Upto : Type 0 where
       i : ℕ
       ls : Lists ss
@@ -398,8 +414,9 @@ module _ {M : Type 1} (𝓤 : URA M) (H : Heap 𝓤) (A : Atoms 𝓤) (W : Given
 
     abbrev Checked : ℕ → Lists ss → Type 0
     Checked i ls =
-        StepAsks P (ready people slots units (begins .now) (b .fits) (b .flags)) (ls .0) (derived (ls .1 .0) (ls .1 .1 .0)) (begins .now)
-        (b .fits) (b .flags) i (ls .1 .1 .1 .0)
+        StepAsks P (ready people slots units (begins .now) (b .fits) (b .flags)) (ls .0)
+        (derived (ls .1 .0) (ls .1 .1 .0) (ls .1 .1 .1 .0)) (begins .now)
+        (b .fits) (b .flags) i (ls .1 .1 .1 .1 .0)
 
     module _ (p₁ p₂ : ℕ) (g₁ g₂ : Loan) where
       -- what every step reads: three slices that were passed, the masks and the flags; and the tokens of the other two
@@ -465,24 +482,25 @@ module _ {M : Type 1} (𝓤 : URA M) (H : Heap 𝓤) (A : Atoms 𝓤) (W : Given
 
       -- ---- `step_at`
       module _ (ls : Lists ss) (g : Loans ss) where
-        abbrev ks : Lfts 9
-        ks = (κs .0) & (κs .1 .0) & (κs .1 .1 .1 .0) & (g₁ .0 ∷ []) & (g₂ .0 ∷ []) & k4 ls g
+        abbrev ks : Lfts 10
+        ks = (κs .0) & (κs .1 .0) & (κs .1 .1 .1 .0) & (g₁ .0 ∷ []) & (g₂ .0 ∷ []) & k-lent ls g
 
-        abbrev qs9 : Shares 9
-        qs9 = (qs .0) & (qs .1 .0) & (qs .1 .1 .1 .0) & fullShare & fullShare & q4
+        abbrev qs10 : Shares 10
+        qs10 = (qs .0) & (qs .1 .0) & (qs .1 .1 .1 .0) & fullShare & fullShare & q-lent
 
         abbrev to-step : ℕ → struct.Draw → StepAt 𝓤 H A mem run .Ghost
         to-step i d = (
           (
             ks,
-            qs9,
+            qs10,
             tt,
-            people & slots & units & starts & ends & begins & lent-fits & lent-flags & lent-owners ls g & lent-sets ls g & lent-minutes ls g
-                & d .draw & d .first & d .second & i & lent-answers ls g & tt,
+            people & slots & units & starts & ends & begins & lent-fits & lent-flags & lent-owners ls g & lent-sets ls g &
+                lent-minutes ls g
+                & lent-totals ls g & d .draw & d .first & d .second & i & lent-answers ls g & tt,
             (vint w64 people ∷ []) & (vint w64 slots ∷ []) & (vint w64 units ∷ []) & slice-vals starts & slice-vals ends
                 & slice-vals begins & (sliceVal (p₁, 0) 1024 ∷ []) & (sliceVal (p₂, 0) 1024 ∷ []) & slice-vals owners & slice-vals sets
-                & slice-vals minutes & (vint w16 (d .draw) ∷ []) & (vint w16 (d .first) ∷ []) & (vint w16 (d .second) ∷ [])
-                & (vint w64 i ∷ []) & slice-vals answers & tt,
+                & slice-vals minutes & slice-vals totals & (vint w16 (d .draw) ∷ []) & (vint w16 (d .first) ∷ [])
+                & (vint w16 (d .second) ∷ []) & (vint w64 i ∷ []) & slice-vals answers & tt,
           ),
           tt,
         )
@@ -502,8 +520,8 @@ module _ {M : Type 1} (𝓤 : URA M) (H : Heap 𝓤) (A : Atoms 𝓤) (W : Given
           (lends-all 𝓤 H A W ss ls rooms long) $ await ! tt $ pick ! (λ g. split ! $ lent-out ! (Lent 𝓤 H A) ss ls g $
           -- [token and slice of each loan; what is kept; what is read; the same; its tokens]
           at-once ! $ show ! (λ (g : Loans ss). sep 𝓤 (StepAt 𝓤 H A mem run .pre (to-step ls g i d)) (Left-step ls g)) g $
-          move ! (15 ∷ 16 ∷ 17 ∷ 18 ∷ 19 ∷ 0 ∷ 2 ∷ 4 ∷ 6 ∷ []) $ tokens-in ! 9 (ks ls g) (qs9 ls g) _ refl $
-          -- [the tokens; the four; what is kept; what is read; the same]
+          move ! (17 ∷ 18 ∷ 19 ∷ 20 ∷ 21 ∷ 0 ∷ 2 ∷ 4 ∷ 6 ∷ 8 ∷ []) $ tokens-in ! 10 (ks ls g) (qs10 ls g) _ refl $
+          -- [the tokens; the written; what is kept; what is read; the same]
           owned ! usize (Is usize) (uint-makes 𝓤 H A W w64) i _ (refl, i-fits) $
           owned ! u16 (Is u16) (uint-makes 𝓤 H A W w16) (d .second) _ (refl, d-fits .1 .1) $
           owned ! u16 (Is u16) (uint-makes 𝓤 H A W w16) (d .first) _ (refl, d-fits .1 .0) $
@@ -511,7 +529,7 @@ module _ {M : Type 1} (𝓤 : URA M) (H : Heap 𝓤) (A : Atoms 𝓤) (W : Given
           owned ! usize (Is usize) (uint-makes 𝓤 H A W w64) units _ (refl, are .1 .1 .0 .1) $
           owned ! usize (Is usize) (uint-makes 𝓤 H A W w64) slots _ (refl, are .1 .0 .1) $
           owned ! usize (Is usize) (uint-makes 𝓤 H A W w64) people _ (refl, are .0 .1) $
-          move ! (0 ∷ 1 ∷ 2 ∷ 13 ∷ 14 ∷ 15 ∷ 16 ∷ 17 ∷ 8 ∷ 9 ∷ 10 ∷ 3 ∷ 4 ∷ 5 ∷ 6 ∷ 11 ∷ []) $
+          move ! (0 ∷ 1 ∷ 2 ∷ 14 ∷ 15 ∷ 16 ∷ 17 ∷ 18 ∷ 8 ∷ 9 ∷ 10 ∷ 11 ∷ 3 ∷ 4 ∷ 5 ∷ 6 ∷ 12 ∷ []) $
           owns-in ! (typesAt (step-at.signature .params) (ks ls g)) (to-step ls g i d .0 .3) (to-step ls g i d .0 .4) _ refl $
           move ! (1 ∷ 0 ∷ []) $ join ! $ use0 W (raw (fact 𝓤 (Checked i ls))) (factI 𝓤 _ (emp 𝓤) checked) $ move ! (1 ∷ 0 ∷ []) $ join ! $
           frame ! $ move ! (1 ∷ 0 ∷ []) $ done !)
@@ -522,23 +540,24 @@ module _ {M : Type 1} (𝓤 : URA M) (H : Heap 𝓤) (A : Atoms 𝓤) (W : Given
 
         abbrev left-lists : Left-lists → Lists ss
         left-lists ws = ws .1 .1 .1 .1 .1 .1 .1 .1 .0 & ws .1 .1 .1 .1 .1 .1 .1 .1 .1 .0 & ws .1 .1 .1 .1 .1 .1 .1 .1 .1 .1 .0
-            & ws .1 .1 .1 .1 .1 .1 .1 .1 .1 .1 .1 .1 .1 .1 .1 .0 & tt
+            & ws .1 .1 .1 .1 .1 .1 .1 .1 .1 .1 .1 .0 & ws .1 .1 .1 .1 .1 .1 .1 .1 .1 .1 .1 .1 .1 .1 .1 .1 .0 & tt
 
         back-step : AsLong ss ls → (ws : Left-lists)
-            → ent 𝓤 (sep 𝓤 (toks 𝓤 A 9 (ks ls g) (qs9 ls g))
+            → ent 𝓤 (sep 𝓤 (toks 𝓤 A 10 (ks ls g) (qs10 ls g))
             (sep 𝓤 (sem 𝓤 H A (lasts step-at.ended (ks ls g) (to-step ls g i d .0 .3) ws)) (Left-step ls g)))
             (H .⇛ (sep 𝓤 (fact 𝓤 (AsLong ss (left-lists ws))) (sep 𝓤 Read (HasAll 𝓤 H A ss (left-lists ws)))))
         back-step long ws =
-            qed W (raw (toks 𝓤 A 9 (ks ls g) (qs9 ls g)) ∷ ‵ (lasts step-at.ended (ks ls g) (to-step ls g i d .0 .3) ws)
+            qed W (raw (toks 𝓤 A 10 (ks ls g) (qs10 ls g)) ∷ ‵ (lasts step-at.ended (ks ls g) (to-step ls g i d .0 .3) ws)
             ∷ ‵ (owns Rr ar vr) ∷ raw (KeptAll 𝓤 H A (Kept 𝓤 H A) ss ls g) ∷ []) ∵ updating ! $
-            tokens-out ! 9 (ks ls g) (qs9 ls g) $ tokens-in ! 5 kr qr _ refl $ move ! (0 ∷ 6 ∷ []) $ join ! $
+            tokens-out ! 10 (ks ls g) (qs10 ls g) $ tokens-in ! 5 kr qr _ refl $ move ! (0 ∷ 7 ∷ []) $ join ! $
             -- [what is read, with its tokens; the loans' tokens; what is said; what is kept]
-            move ! (5 ∷ []) $ fsplit ! $ drop ! $ fsplit ! $ drop ! $ fsplit ! $ drop ! $ fsplit ! $ drop ! $ fsplit ! $ drop ! $
+            move ! (6 ∷ []) $ fsplit ! $ drop ! $ fsplit ! $ drop ! $ fsplit ! $ drop ! $ fsplit ! $ drop ! $ fsplit ! $ drop ! $
             fsplit ! $ drop ! $ fsplit ! $ drop ! $ fsplit ! $ drop ! $
-            fsplit ! $ move ! (1 ∷ []) $ fsplit ! $ move ! (1 ∷ []) $ fsplit ! $ move ! (1 ∷ []) $ fsplit ! $ drop ! $ fsplit ! $
-            drop ! $ fsplit ! $ drop ! $ fsplit ! $ drop ! $
-            move ! (1 ∷ 0 ∷ []) $ fjoin ! $ move ! (1 ∷ 0 ∷ []) $ fjoin ! $ move ! (1 ∷ 0 ∷ []) $ fjoin ! $
-            move ! (2 ∷ 3 ∷ 4 ∷ 5 ∷ []) $ tokens-in ! 4 (k4 ls g) q4 _ refl $ move ! (0 ∷ 3 ∷ 1 ∷ []) $
+            fsplit ! $ move ! (1 ∷ []) $ fsplit ! $ move ! (1 ∷ []) $ fsplit ! $ move ! (1 ∷ []) $ fsplit ! $ move ! (1 ∷ []) $
+            fsplit ! $ drop ! $ fsplit ! $ drop ! $ fsplit ! $ drop ! $ fsplit ! $ drop ! $
+            move ! (1 ∷ 0 ∷ []) $ fjoin ! $ move ! (1 ∷ 0 ∷ []) $ fjoin ! $ move ! (1 ∷ 0 ∷ []) $ fjoin ! $ move ! (1 ∷ 0 ∷ []) $
+            fjoin ! $
+            move ! (2 ∷ 3 ∷ 4 ∷ 5 ∷ 6 ∷ []) $ tokens-in ! 5 (k-lent ls g) q-lent _ refl $ move ! (0 ∷ 3 ∷ 1 ∷ []) $
             use3 W (later (raw (fact 𝓤 (AsLong ss (left-lists ws))) ⊛ raw (HasAll 𝓤 H A ss (left-lists ws))))
             (back-all 𝓤 H A W ss ls (left-lists ws) g rooms long) $ await ! tt $ split ! $ at-once ! $ move ! (0 ∷ 2 ∷ []) $
             frame ! $ frame ! $ done !
@@ -558,10 +577,10 @@ module _ {M : Type 1} (𝓤 : URA M) (H : Heap 𝓤) (A : Atoms 𝓤) (W : Given
       Post = Entry 𝓤 H A mem run .post y
 
       abbrev p₁ : ℕ
-      p₁ = spotOf 𝓤 H En 16 .1
+      p₁ = spotOf 𝓤 H En 17 .1
 
       abbrev p₂ : ℕ
-      p₂ = spotOf 𝓤 H En 17 .1
+      p₂ = spotOf 𝓤 H En 18 .1
 
       -- what the locals hold between turns; the arrays, i and the last test are said apart
       abbrev holds : Option Val → Option Val → Option Val → Option Val → Option Val → List (Option Val)
@@ -570,19 +589,21 @@ module _ {M : Type 1} (𝓤 : URA M) (H : Heap 𝓤) (A : Atoms 𝓤) (W : Given
           filled (only (slice-vals starts)) ∷ filled (only (slice-vals ends)) ∷ filled (only (slice-vals avail)) ∷
           filled (only (slice-vals begins)) ∷ filled (only (slice-vals frozen)) ∷ filled (only (slice-vals draws)) ∷
           filled (only (slice-vals owners)) ∷ filled (only (slice-vals sets)) ∷ filled (only (slice-vals minutes)) ∷
-          filled (only (slice-vals answers)) ∷ filled (LL.val S.the-type S′.the-laws b) ∷ fits ∷ flags ∷
+          filled (only (slice-vals totals)) ∷ filled (only (slice-vals answers)) ∷
+          filled (LL.val S.the-type S′.the-laws b) ∷ fits ∷ flags ∷
           filled (vint w64 (b .todo)) ∷ i ∷ none ∷ filled (vptr (owners .ptr .0) (owners .ptr .1)) ∷
           filled (only (slice-vals owners)) ∷ filled (vptr (sets .ptr .0) (sets .ptr .1)) ∷
           filled (only (slice-vals sets)) ∷ filled (vptr (minutes .ptr .0) (minutes .ptr .1)) ∷
-          filled (only (slice-vals minutes)) ∷ filled (vint w64 (length (draws .now))) ∷ filled (vbool enough) ∷
+          filled (only (slice-vals minutes)) ∷ filled (vptr (totals .ptr .0) (totals .ptr .1)) ∷ filled (only (slice-vals totals)) ∷
+          filled (vint w64 (length (draws .now))) ∷ filled (vbool enough) ∷
           filled (vptr (answers .ptr .0) (answers .ptr .1)) ∷ filled (only (slice-vals answers)) ∷ test ∷ none ∷ none ∷
-          none ∷ none ∷ none ∷ none ∷ none ∷ none ∷ none ∷ none ∷ none ∷ none ∷ none ∷ none ∷ none ∷ none ∷ []
+          none ∷ none ∷ none ∷ none ∷ none ∷ none ∷ none ∷ none ∷ none ∷ none ∷ none ∷ none ∷ none ∷ none ∷ none ∷ none ∷ []
 
       module _ (g₁ g₂ : Loan) where
-        -- [the locals, with the way back of each array in its place; two tokens; the list's token; what it owns; what is read; the four]
+        -- [the locals, with the way back of each array in its place; two tokens; the list's token; what it owns; what is read; the written]
         abbrev At : Upto → List (Item 𝓤)
         At t =
-            put 𝓤 H A 32 (KeptArray 𝓤 H A W u32 1024 p₁ (b .fits) g₁) (put 𝓤 H A 34 (KeptArray 𝓤 H A W u8 1024 p₂ (b .flags) g₂)
+            put 𝓤 H A 34 (KeptArray 𝓤 H A W u32 1024 p₁ (b .fits) g₁) (put 𝓤 H A 36 (KeptArray 𝓤 H A W u8 1024 p₂ (b .flags) g₂)
             (localsAs 𝓤 H En (holds none none none (filled (vint w64 (t .i))) none)))
             ++ (raw (Unread p₁ p₂ g₁ g₂) ∷ ‵ DrawsToken ∷ ‵ OwnDraws ∷ raw (Read p₁ p₂ g₁ g₂) ∷ raw (HasAll 𝓤 H A ss (t .ls)) ∷ [])
 
@@ -590,80 +611,82 @@ module _ {M : Type 1} (𝓤 : URA M) (H : Heap 𝓤) (A : Atoms 𝓤) (W : Given
         abbrev Turned : Upto → Out → SProp 𝓤
         Turned t =
             afterTurn 𝓤 H (Below 𝓤 H A Nearer At t)
-            (afterBlock 𝓤 H (afterSeq 𝓤 H (Wp 𝓤 H C Λ En body.t-17 (atReturn 𝓤 H En Post)) (atReturn 𝓤 H En Post)))
+            (afterBlock 𝓤 H (afterSeq 𝓤 H (Wp 𝓤 H C Λ En body.t-19 (atReturn 𝓤 H En Post)) (atReturn 𝓤 H En Post)))
 
         -- the turn that leaves the loop: the arrays come back
         leaves : (t : Upto) → t .i ≡ b .todo → Sq W (At t) (runs C Λ En body.turn-1 (anyQ (Turned t)))
         unfolding afterTurn
         leaves t is-n =
-            assigns ! (bin ! (load ! (from ! (stop !)) (look ! 38 refl)) (load ! (from ! (stop !)) (look ! 36 refl)) tt) (from ! (stop !))
-            (init ! 62 refl (tt, tt)) $
-            rewrite ! 62 (λ (z : Bool). ‵ (fat fullShare tyBool (spotOf 𝓤 H En 31 .1) 0 (vbool z)))
+            assigns ! (bin ! (load ! (from ! (stop !)) (look ! 40 refl)) (load ! (from ! (stop !)) (look ! 38 refl)) tt) (from ! (stop !))
+            (init ! 68 refl (tt, tt)) $
+            rewrite ! 68 (λ (z : Bool). ‵ (fat fullShare tyBool (spotOf 𝓤 H En 34 .1) 0 (vbool z)))
             (le-ltb (t .i) (b .todo) (omega (arith, is-n))) refl $
-            leaves-loop ! (load ! (from ! (stop !)) (look ! 62 refl)) $ exec ! C Λ En body.t-17 (atRet En Post) $
-            assigns ! (of-opd ! (load ! (from ! (fld ! refl (stop !))) (look-in ! 30 (sub ! 0 refl (whole !))))) (from ! (stop !))
+            leaves-loop ! (load ! (from ! (stop !)) (look ! 68 refl)) $ exec ! C Λ En body.t-19 (atRet En Post) $
+            assigns ! (of-opd ! (load ! (from ! (fld ! refl (stop !))) (look-in ! 32 (sub ! 0 refl (whole !))))) (from ! (stop !))
             (init ! 0 refl (LL.lawful R.the-type R′.the-laws 𝓤 H A W .typed (b .refusal) _ is-refusal .0)) $
-            move ! (99 ∷ 96 ∷ []) $
+            move ! (109 ∷ 106 ∷ []) $
             use2 W (raw (toks 𝓤 A 5 k5 q5) ⊛ (‵ (flft (g₁ .0 ∷ []) fullShare) ⊛ ‵ (flft (g₂ .0 ∷ []) fullShare)))
             (out-of-loop p₁ p₂ g₁ g₂) $ split ! $ move ! (1 ∷ []) $ split ! $
-            -- [the loans' tokens; the five tokens; the locals; the list's token; what it owns; the four]
-            move ! (0 ∷ 35 ∷ []) $ use2 W (later (InLocal 𝓤 H A W u32 1024 p₁ (b .fits) fits-val))
-            (array-back 𝓤 H A W u32 1024 p₁ (b .fits) (uint-vals w32) (uint-tells w32) fits-val is-fits g₁) $ await ! tt $ place-at ! 34 $
-            move ! (0 ∷ 36 ∷ []) $ use2 W (later (InLocal 𝓤 H A W u8 1024 p₂ (b .flags) flags-val))
-            (array-back 𝓤 H A W u8 1024 p₂ (b .flags) (uint-vals w8) (uint-tells w8) flags-val is-flags g₂) $ await ! tt $ place-at ! 35 $
+            -- [the loans' tokens; the five tokens; the locals; the list's token; what it owns; the written]
+            move ! (0 ∷ 37 ∷ []) $ use2 W (later (InLocal 𝓤 H A W u32 1024 p₁ (b .fits) fits-val))
+            (array-back 𝓤 H A W u32 1024 p₁ (b .fits) (uint-vals w32) (uint-tells w32) fits-val is-fits g₁) $ await ! tt $ place-at ! 36 $
+            move ! (0 ∷ 38 ∷ []) $ use2 W (later (InLocal 𝓤 H A W u8 1024 p₂ (b .flags) flags-val))
+            (array-back 𝓤 H A W u8 1024 p₂ (b .flags) (uint-vals w8) (uint-tells w8) flags-val is-flags g₂) $ await ! tt $ place-at ! 37 $
             sink ! 1 $ returns ! (look ! 0 refl) $
             leaves-each ! (holds (filled refusal-val) (filled fits-val) (filled flags-val) (filled (vint w64 (t .i)))
             (filled (vbool false))) _ tt refl $
-            -- [the list's token; what it owns; the four; the five tokens]
+            -- [the list's token; what it owns; the written; the five tokens]
             keep ! (0 ∷ 3 ∷ 2 ∷ []) $ by ! (finish (b .refusal) (t .ls) (t .long) is-refusal
-            (playing-ends P (avail .now) units (begins .now) (frozen .now) count (owners .now) (derived (sets .now) (minutes .now))
-            (answers .now)
+            (playing-ends P (avail .now) units (begins .now) (frozen .now) count (owners .now)
+            (derived (sets .now) (minutes .now) (totals .now)) (answers .now)
             (draws .now) b w (t .i) _ _ _ (t .plays) is-n))
 
         -- a turn that plays one draw
         goes-on : (t : Upto) → t .i < b .todo → Sq W (At t) (runs C Λ En body.turn-1 (anyQ (Turned t)))
         unfolding afterTurn
         goes-on t less =
-            assigns ! (bin ! (load ! (from ! (stop !)) (look ! 38 refl)) (load ! (from ! (stop !)) (look ! 36 refl)) tt) (from ! (stop !))
-            (init ! 62 refl (tt, tt)) $
-            rewrite ! 62 (λ (z : Bool). ‵ (fat fullShare tyBool (spotOf 𝓤 H En 31 .1) 0 (vbool z))) (lt-ltb (t .i) (b .todo) less) refl $
-            stays ! (load ! (from ! (stop !)) (look ! 62 refl)) $
+            assigns ! (bin ! (load ! (from ! (stop !)) (look ! 40 refl)) (load ! (from ! (stop !)) (look ! 38 refl)) tt) (from ! (stop !))
+            (init ! 68 refl (tt, tt)) $
+            rewrite ! 68 (λ (z : Bool). ‵ (fat fullShare tyBool (spotOf 𝓤 H En 34 .1) 0 (vbool z))) (lt-ltb (t .i) (b .todo) less) refl $
+            stays ! (load ! (from ! (stop !)) (look ! 68 refl)) $
             -- `draws[i]`, by a copy of the slice
-            assigns ! (bin ! (load ! (from ! (stop !)) (look ! 38 refl)) (lit ! tt) (record { fits = small-i })) (from ! (stop !))
-            (init ! 64 refl (tt, record { fits = small-i })) $
+            assigns ! (bin ! (load ! (from ! (stop !)) (look ! 40 refl)) (lit ! tt) (record { fits = small-i })) (from ! (stop !))
+            (init ! 70 refl (tt, record { fits = small-i })) $
             assigns ! (bin ! (load ! (from ! (fld ! refl (stop !))) (look-in ! 20 (sub ! 0 refl (whole !)))) (load ! (from ! (stop !))
-            (look ! 64 refl)) tt) (from ! (stop !)) (init ! 66 refl (tt, tt)) $
-            rewrite ! 66 (λ (p : ℕ). ‵ (fat fullShare tyPtr (spotOf 𝓤 H En 33 .1) 0 (vptr (draws .ptr .0) p)))
+            (look ! 70 refl)) tt) (from ! (stop !)) (init ! 72 refl (tt, tt)) $
+            rewrite ! 72 (λ (p : ℕ). ‵ (fat fullShare tyPtr (spotOf 𝓤 H En 36 .1) 0 (vptr (draws .ptr .0) p)))
             (sym (place-is 6 (draws .ptr .1) (t .i))) refl $
-            move ! (98 ∷ []) $ use1 W (‵ OwnDraws ⊛ ‵ OwnDraws)
+            move ! (108 ∷ []) $ use1 W (‵ OwnDraws ⊛ ‵ OwnDraws)
             (shr-slice-copy 𝓤 H A W (named 5) (κs .1 .1 .1 .1 .1 .0) T.the-row .twice draws (slice-vals draws)) $ split ! $
-            fsplit ! $ drop ! $ fsplit ! $ drop ! $ move ! (0 ∷ 99 ∷ []) $
+            fsplit ! $ drop ! $ fsplit ! $ drop ! $ move ! (0 ∷ 109 ∷ []) $
             looks-slice ! tt T.the-row (Is T.the-row) (shows 𝓤 H A T.the-row) (LL.vals T.the-type T′.the-laws)
             (LL.tells T.the-type T′.the-laws) (LL.copy T.the-type T′.the-copy 𝓤 H A W) (draws .now) (draws .ptr .0) (draws .ptr .1) (λ q′.
             elem-out ! T.the-row (Is T.the-row) (shows 𝓤 H A T.the-row) (LL.vals T.the-type T′.the-laws)
             (LL.tells T.the-type T′.the-laws) q′ (draws .now) (t .i) no-draw (draws .ptr .0) (draws .ptr .1) within (λ is.
             -- [draws[i]; what it owns; the others; what shuts; the fractured borrow; what the list owns; the locals; the rest]
-            assigns ! (of-opd ! (load ! (from ! (hop ! (look ! 72 refl) (stop !))) (look-raw ! 0 refl))) (from ! (stop !)) (init ! 74 refl
+            assigns ! (of-opd ! (load ! (from ! (hop ! (look ! 78 refl) (stop !))) (look-raw ! 0 refl))) (from ! (stop !)) (init ! 80 refl
             (LL.lawful T.the-type T′.the-laws 𝓤 H A W .typed d _ is .0)) $
-            assigns ! (of-opd ! (load ! (from ! (stop !)) (look ! 74 refl))) (from ! (stop !)) (init ! 46 refl
+            assigns ! (of-opd ! (load ! (from ! (stop !)) (look ! 80 refl))) (from ! (stop !)) (init ! 48 refl
             (LL.lawful T.the-type T′.the-laws 𝓤 H A W .typed d _ is .0)) $
-            elem-back ! T.the-row q′ (draws .now) (t .i) no-draw (LL.vals T.the-type T′.the-laws d) (draws .ptr .0) (draws .ptr .1) within $
+            elem-back ! T.the-row q′ (draws .now) (t .i) no-draw (LL.vals T.the-type T′.the-laws d) (draws .ptr .0) (draws .ptr .1)
+            within $
             shuts-slice ! tt T.the-row q′ (draws .now) (draws .ptr .0) (draws .ptr .1) $ move ! (1 ∷ []) $ drop ! $ sink ! 2 $
-            -- [the locals; two tokens; what is read; the four; the list's token; what it owns]
-            assigns ! (addr ! (from ! (stop !))) (from ! (stop !)) (init ! 72 refl (tt, tt)) $
-            assigns ! (agg ! (and-then ! (load ! (from ! (stop !)) (look ! 72 refl)) (and-then ! (counted ! (record { fits = lit< tt }))
+            -- [the locals; two tokens; what is read; the written; the list's token; what it owns]
+            assigns ! (addr ! (from ! (stop !))) (from ! (stop !)) (init ! 78 refl (tt, tt)) $
+            assigns ! (agg ! (and-then ! (load ! (from ! (stop !)) (look ! 78 refl)) (and-then ! (counted ! (record { fits = lit< tt }))
             (no-more !)))) (from ! (stop !))
-            (init ! 74 refl (tt, (tt, (record { fits = lit< tt }, tt)))) $
-            assigns ! (addr ! (from ! (stop !))) (from ! (stop !)) (init ! 76 refl (tt, tt)) $
-            assigns ! (agg ! (and-then ! (load ! (from ! (stop !)) (look ! 76 refl)) (and-then ! (counted ! (record { fits = lit< tt }))
+            (init ! 80 refl (tt, (tt, (record { fits = lit< tt }, tt)))) $
+            assigns ! (addr ! (from ! (stop !))) (from ! (stop !)) (init ! 82 refl (tt, tt)) $
+            assigns ! (agg ! (and-then ! (load ! (from ! (stop !)) (look ! 82 refl)) (and-then ! (counted ! (record { fits = lit< tt }))
             (no-more !)))) (from ! (stop !))
-            (init ! 78 refl (tt, (tt, (record { fits = lit< tt }, tt)))) $
-            lends ! 0 11 40 41 refl refl refl tt refl refl refl (tt, typed .1 .1 .1 .1 .1 .1 .1 .1 .1 .1 .0 .1) $
-            lends ! 0 12 42 43 refl refl refl tt refl refl refl (tt, typed .1 .1 .1 .1 .1 .1 .1 .1 .1 .1 .1 .0 .1) $
-            lends ! 0 13 44 45 refl refl refl tt refl refl refl (tt, typed .1 .1 .1 .1 .1 .1 .1 .1 .1 .1 .1 .1 .0 .1) $
-            lends ! 0 14 46 47 refl refl refl tt refl refl refl (tt, typed .1 .1 .1 .1 .1 .1 .1 .1 .1 .1 .1 .1 .1 .0 .1) $
+            (init ! 84 refl (tt, (tt, (record { fits = lit< tt }, tt)))) $
+            lends ! 0 11 43 44 refl refl refl tt refl refl refl (tt, typed .1 .1 .1 .1 .1 .1 .1 .1 .1 .1 .0 .1) $
+            lends ! 0 12 45 46 refl refl refl tt refl refl refl (tt, typed .1 .1 .1 .1 .1 .1 .1 .1 .1 .1 .1 .0 .1) $
+            lends ! 0 13 47 48 refl refl refl tt refl refl refl (tt, typed .1 .1 .1 .1 .1 .1 .1 .1 .1 .1 .1 .1 .0 .1) $
+            lends ! 0 14 49 50 refl refl refl tt refl refl refl (tt, typed .1 .1 .1 .1 .1 .1 .1 .1 .1 .1 .1 .1 .1 .0 .1) $
+            lends ! 0 15 51 52 refl refl refl tt refl refl refl (tt, typed .1 .1 .1 .1 .1 .1 .1 .1 .1 .1 .1 .1 .1 .1 .0 .1) $
             -- `step_at`
-            move ! (97 ∷ 98 ∷ []) $
+            move ! (107 ∷ 108 ∷ []) $
             use2 W (later (some (λ (g : Loans ss). raw (StepAt 𝓤 H A mem run .pre (to-step p₁ p₂ g₁ g₂ (t .ls) g (t .i) d))
             ⊛ raw (Left-step p₁ p₂ g₁ g₂ (t .ls) g)))) (out-step p₁ p₂ g₁ g₂ (t .ls) (t .long) (t .i) d i-fits (numbers-fit is) checked) $
             await ! tt $ pick ! (λ g. split ! $
@@ -671,31 +694,32 @@ module _ {M : Type 1} (𝓤 : URA M) (H : Heap 𝓤) (A : Atoms 𝓤) (W : Given
             (and-then ! (load ! (from ! (stop !)) (look ! 4 refl)) (and-then ! (load ! (from ! (stop !)) (look ! 6 refl))
             (and-then ! (load ! (from ! (stop !)) (look ! 8 refl)) (and-then ! (load ! (from ! (stop !)) (look ! 12 refl))
             (and-then ! (load ! (from ! (stop !)) (look ! 14 refl)) (and-then ! (load ! (from ! (stop !)) (look ! 18 refl))
-            (and-then ! (load ! (from ! (stop !)) (look ! 76 refl)) (and-then ! (load ! (from ! (stop !)) (look ! 80 refl))
-            (and-then ! (load ! (from ! (stop !)) (look ! 84 refl)) (and-then ! (load ! (from ! (stop !)) (look ! 88 refl))
-            (and-then ! (load ! (from ! (stop !)) (look ! 92 refl))
-            (and-then ! (load ! (from ! (fld ! refl (stop !))) (look-in ! 42 (sub ! 0 refl (whole !))))
-            (and-then ! (load ! (from ! (fld ! refl (stop !))) (look-in ! 42 (sub ! 1 refl (whole !))))
-            (and-then ! (load ! (from ! (fld ! refl (stop !))) (look-in ! 42 (sub ! 2 refl (whole !))))
-            (and-then ! (load ! (from ! (stop !)) (look ! 40 refl)) (and-then ! (load ! (from ! (stop !)) (look ! 96 refl))
-            (no-more !))))))))))))))))) _
+            (and-then ! (load ! (from ! (stop !)) (look ! 82 refl)) (and-then ! (load ! (from ! (stop !)) (look ! 86 refl))
+            (and-then ! (load ! (from ! (stop !)) (look ! 90 refl)) (and-then ! (load ! (from ! (stop !)) (look ! 94 refl))
+            (and-then ! (load ! (from ! (stop !)) (look ! 98 refl)) (and-then ! (load ! (from ! (stop !)) (look ! 102 refl))
+            (and-then ! (load ! (from ! (fld ! refl (stop !))) (look-in ! 44 (sub ! 0 refl (whole !))))
+            (and-then ! (load ! (from ! (fld ! refl (stop !))) (look-in ! 44 (sub ! 1 refl (whole !))))
+            (and-then ! (load ! (from ! (fld ! refl (stop !))) (look-in ! 44 (sub ! 2 refl (whole !))))
+            (and-then ! (load ! (from ! (stop !)) (look ! 42 refl)) (and-then ! (load ! (from ! (stop !)) (look ! 106 refl))
+            (no-more !)))))))))))))))))) _
             (λ r ws. id⊢ 𝓤 _) (λ z r ws e is′. drop ! $
             use3 W (later (raw (fact 𝓤 (AsLong ss (left-lists p₁ p₂ g₁ g₂ (t .ls) g (t .i) d ws)))
             ⊛ (raw (Read p₁ p₂ g₁ g₂) ⊛ raw (HasAll 𝓤 H A ss (left-lists p₁ p₂ g₁ g₂ (t .ls) g (t .i) d ws)))))
             (back-step p₁ p₂ g₁ g₂ (t .ls) g (t .i) d (t .long) ws) $ await ! tt $ split ! $
             heard ! (AsLong ss (left-lists p₁ p₂ g₁ g₂ (t .ls) g (t .i) d ws)) (λ long′. split ! $
-            land ! (from ! (stop !)) (init ! 72 refl (nothing-lawful 𝓤 H A W .typed r _ is′ .0)) $ sink ! 2 $
-            assigns-last ! (bin ! (load ! (from ! (stop !)) (look ! 38 refl)) (lit ! tt) (record { fits = next-fits })) (from ! (stop !))
-            (store ! 38 refl (tt, record { fits = next-fits })) $
-            forget ! 40 refl $ forget ! 62 refl $ forget ! 64 refl $ forget ! 66 refl $ forget ! 68 refl $ forget ! 70 refl $
-            forget ! 72 refl $ forget ! 74 refl $ forget ! 76 refl $ forget ! 78 refl $ forget ! 80 refl $ forget ! 82 refl $
-            forget ! 84 refl $ forget ! 86 refl $ forget ! 88 refl $ forget ! 90 refl $ forget ! 92 refl $ forget ! 94 refl $
+            land ! (from ! (stop !)) (init ! 78 refl (nothing-lawful 𝓤 H A W .typed r _ is′ .0)) $ sink ! 2 $
+            assigns-last ! (bin ! (load ! (from ! (stop !)) (look ! 40 refl)) (lit ! tt) (record { fits = next-fits })) (from ! (stop !))
+            (store ! 40 refl (tt, record { fits = next-fits })) $
+            forget ! 42 refl $ forget ! 68 refl $ forget ! 70 refl $ forget ! 72 refl $ forget ! 74 refl $ forget ! 76 refl $
+            forget ! 78 refl $ forget ! 80 refl $ forget ! 82 refl $ forget ! 84 refl $ forget ! 86 refl $ forget ! 88 refl $
+            forget ! 90 refl $ forget ! 92 refl $ forget ! 94 refl $ forget ! 96 refl $ forget ! 98 refl $ forget ! 100 refl $
+            forget ! 102 refl $ forget ! 104 refl $
             again ! Nearer At t (record {
               i = t .i + 1;
               ls = left-lists p₁ p₂ g₁ g₂ (t .ls) g (t .i) d ws;
               long = long′;
-              plays = playing-more P (avail .now) units (begins .now) (frozen .now) count (owners .now) (derived (sets .now)
-                  (minutes .now)) (answers .now)
+              plays = playing-more P (avail .now) units (begins .now) (frozen .now) count (owners .now)
+                  (derived (sets .now) (minutes .now) (totals .now)) (answers .now)
                   (draws .now) b w (t .i) _ _ _ (t .plays) less _ _ _ e;
             }) (omega (arith, less)))))))
           where
@@ -703,8 +727,8 @@ module _ {M : Type 1} (𝓤 : URA M) (H : Heap 𝓤) (A : Atoms 𝓤) (W : Given
             d = drawAt (draws .now) (t .i)
 
             within : t .i < length (draws .now)
-            within = next-within P (avail .now) units (begins .now) (frozen .now) count (owners .now) (derived (sets .now)
-                (minutes .now)) (answers .now)
+            within = next-within P (avail .now) units (begins .now) (frozen .now) count (owners .now)
+                (derived (sets .now) (minutes .now) (totals .now)) (answers .now)
                 (draws .now) b w (t .i) _ _ _ (t .plays) less
 
             small-i : t .i * 6 < 2 ^ 64
@@ -723,15 +747,15 @@ module _ {M : Type 1} (𝓤 : URA M) (H : Heap 𝓤) (A : Atoms 𝓤) (W : Given
                 (o .0 .1, (o .1 .0 .1, o .1 .1 .0 .1))
 
             checked : Checked (t .i) (t .ls)
-            checked = next-asks P (avail .now) units (begins .now) (frozen .now) count (owners .now) (derived (sets .now) (minutes .now))
-                (answers .now)
+            checked = next-asks P (avail .now) units (begins .now) (frozen .now) count (owners .now)
+                (derived (sets .now) (minutes .now) (totals .now)) (answers .now)
                 (draws .now) b w (t .i) _ _ _ (t .plays) less
 
         turns : (t : Upto) → Sq W (At t) (runs C Λ En body.turn-1 (anyQ (Turned t)))
         turns t = ⊎-elim (leaves t) (goes-on t) (eq-or-lt-of-le (t .plays .within))
 
         -- the loop, from no draw played yet
-        starts-at : (t : Upto) → Sq W (At t) (runs C Λ En body.t-16 (atRet En Post))
+        starts-at : (t : Upto) → Sq W (At t) (runs C Λ En body.t-18 (atRet En Post))
         starts-at t = first ! $ blocks ! $ loops ! 𝓣 Nearer Nearer-wf At turns t
 
       -- masks and flags are copied to the arrays, and lent
@@ -741,44 +765,46 @@ module _ {M : Type 1} (𝓤 : URA M) (H : Heap 𝓤) (A : Atoms 𝓤) (W : Given
           filled (only (slice-vals starts)) ∷ filled (only (slice-vals ends)) ∷ filled (only (slice-vals avail)) ∷
           filled (only (slice-vals begins)) ∷ filled (only (slice-vals frozen)) ∷ filled (only (slice-vals draws)) ∷
           filled (only (slice-vals owners)) ∷ filled (only (slice-vals sets)) ∷ filled (only (slice-vals minutes)) ∷
-          filled (only (slice-vals answers)) ∷ filled (LL.val S.the-type S′.the-laws b) ∷ none ∷ none ∷ none ∷ none ∷
+          filled (only (slice-vals totals)) ∷ filled (only (slice-vals answers)) ∷
+          filled (LL.val S.the-type S′.the-laws b) ∷ none ∷ none ∷ none ∷ none ∷
           none ∷ filled (vptr (owners .ptr .0) (owners .ptr .1)) ∷ filled (only (slice-vals owners)) ∷
           filled (vptr (sets .ptr .0) (sets .ptr .1)) ∷ filled (only (slice-vals sets)) ∷
           filled (vptr (minutes .ptr .0) (minutes .ptr .1)) ∷ filled (only (slice-vals minutes)) ∷
+          filled (vptr (totals .ptr .0) (totals .ptr .1)) ∷ filled (only (slice-vals totals)) ∷
           filled (vint w64 (length (draws .now))) ∷ filled (vbool enough) ∷
           filled (vptr (answers .ptr .0) (answers .ptr .1)) ∷ filled (only (slice-vals answers)) ∷ none ∷ none ∷ none ∷
-          none ∷ none ∷ none ∷ none ∷ none ∷ none ∷ none ∷ none ∷ none ∷ none ∷ none ∷ none ∷ none ∷ none ∷ []
+          none ∷ none ∷ none ∷ none ∷ none ∷ none ∷ none ∷ none ∷ none ∷ none ∷ none ∷ none ∷ none ∷ none ∷ none ∷ none ∷ []
 
       goes : Sq W (localsAs 𝓤 H En begun-values ++ (‵ DrawsToken ∷ ‵ OwnDraws ∷ raw Five ∷ raw (HasAll 𝓤 H A ss ls₀) ∷ []))
-          (runs C Λ En body.t-12 (atRet En Post))
+          (runs C Λ En body.t-14 (atRet En Post))
       goes =
-          assigns ! (of-opd ! (load ! (from ! (fld ! refl (stop !))) (look-in ! 30 (sub ! 2 refl (whole !))))) (from ! (stop !))
-          (init ! 32 refl (array-lawful 𝓤 H A W u32 (uint-lawful 𝓤 H A W w32) 1024 .typed (b .fits) _ is-fits .0)) $
-          assigns ! (of-opd ! (load ! (from ! (fld ! refl (stop !))) (look-in ! 30 (sub ! 3 refl (whole !))))) (from ! (stop !))
-          (init ! 34 refl (array-lawful 𝓤 H A W u8 (uint-lawful 𝓤 H A W w8) 1024 .typed (b .flags) _ is-flags .0)) $
-          assigns ! (of-opd ! (load ! (from ! (fld ! refl (stop !))) (look-in ! 30 (sub ! 1 refl (whole !))))) (from ! (stop !))
-          (init ! 36 refl (tt, record { fits = todo-fits })) $
-          assigns ! (of-opd ! (lit ! tt)) (from ! (stop !)) (init ! 38 refl (tt, record { fits = lit< tt })) $
-          move ! (32 ∷ []) $ use1 W (later (some (λ (g : Loan). (‵ (flft (g .0 ∷ []) fullShare) ⊛ ShownArray 𝓤 H A W u32 1024 p₁
+          assigns ! (of-opd ! (load ! (from ! (fld ! refl (stop !))) (look-in ! 32 (sub ! 2 refl (whole !))))) (from ! (stop !))
+          (init ! 34 refl (array-lawful 𝓤 H A W u32 (uint-lawful 𝓤 H A W w32) 1024 .typed (b .fits) _ is-fits .0)) $
+          assigns ! (of-opd ! (load ! (from ! (fld ! refl (stop !))) (look-in ! 32 (sub ! 3 refl (whole !))))) (from ! (stop !))
+          (init ! 36 refl (array-lawful 𝓤 H A W u8 (uint-lawful 𝓤 H A W w8) 1024 .typed (b .flags) _ is-flags .0)) $
+          assigns ! (of-opd ! (load ! (from ! (fld ! refl (stop !))) (look-in ! 32 (sub ! 1 refl (whole !))))) (from ! (stop !))
+          (init ! 38 refl (tt, record { fits = todo-fits })) $
+          assigns ! (of-opd ! (lit ! tt)) (from ! (stop !)) (init ! 40 refl (tt, record { fits = lit< tt })) $
+          move ! (34 ∷ []) $ use1 W (later (some (λ (g : Loan). (‵ (flft (g .0 ∷ []) fullShare) ⊛ ShownArray 𝓤 H A W u32 1024 p₁
           (b .fits) g)
           ⊛ KeptArray 𝓤 H A W u32 1024 p₁ (b .fits) g)))
           (lends-array 𝓤 H A W u32 1024 p₁ (b .fits) tt (uint-makes 𝓤 H A W w32) fits-val is-fits (lit< tt, lit< tt)) $ await ! tt $
-          pick ! (λ g₁. split ! $ move ! (1 ∷ []) $ place-at ! 33 $
+          pick ! (λ g₁. split ! $ move ! (1 ∷ []) $ place-at ! 35 $
           -- [the masks' loan; the locals]
-          move ! (35 ∷ []) $ use1 W (later (some (λ (g : Loan). (‵ (flft (g .0 ∷ []) fullShare) ⊛ ShownArray 𝓤 H A W u8 1024 p₂
+          move ! (37 ∷ []) $ use1 W (later (some (λ (g : Loan). (‵ (flft (g .0 ∷ []) fullShare) ⊛ ShownArray 𝓤 H A W u8 1024 p₂
           (b .flags) g)
           ⊛ KeptArray 𝓤 H A W u8 1024 p₂ (b .flags) g)))
           (lends-array 𝓤 H A W u8 1024 p₂ (b .flags) tt (uint-makes 𝓤 H A W w8) flags-val is-flags (lit< tt, lit< tt)) $ await ! tt $
-          pick ! (λ g₂. split ! $ move ! (1 ∷ []) $ place-at ! 36 $ sink ! 2 $
-          -- [the locals; the list's token; what it owns; the five; the four; the flags' loan; the masks' loan]
-          move ! (98 ∷ 101 ∷ 100 ∷ []) $ use3 W (raw (Unread p₁ p₂ g₁ g₂) ⊛ raw (Read p₁ p₂ g₁ g₂)) (into-loop p₁ p₂ g₁ g₂) $ split ! $
-          move ! (0 ∷ 98 ∷ 99 ∷ 1 ∷ 100 ∷ []) $ sink ! 5 $
+          pick ! (λ g₂. split ! $ move ! (1 ∷ []) $ place-at ! 38 $ sink ! 2 $
+          -- [the locals; the list's token; what it owns; the five; the written; the flags' loan; the masks' loan]
+          move ! (108 ∷ 111 ∷ 110 ∷ []) $ use3 W (raw (Unread p₁ p₂ g₁ g₂) ⊛ raw (Read p₁ p₂ g₁ g₂)) (into-loop p₁ p₂ g₁ g₂) $ split ! $
+          move ! (0 ∷ 108 ∷ 109 ∷ 1 ∷ 110 ∷ []) $ sink ! 5 $
           starts-at g₁ g₂ (record {
             i = 0;
             ls = ls₀;
             long = long₀;
-            plays = playing-starts P (avail .now) units (begins .now) (frozen .now) count (owners .now) (derived (sets .now)
-                (minutes .now)) (answers .now)
+            plays = playing-starts P (avail .now) units (begins .now) (frozen .now) count (owners .now)
+                (derived (sets .now) (minutes .now) (totals .now)) (answers .now)
                 (draws .now) b w;
           })))
 
@@ -791,26 +817,27 @@ module _ {M : Type 1} (𝓤 : URA M) (H : Heap 𝓤) (A : Atoms 𝓤) (W : Given
         qed W (raw (onEntry 𝓤 H A entry.signature κs qs a vss) ∷ ‵ ftrue ∷ []) ∵ move ! (1 ∷ []) $ drop ! $
         use1 W ((‵ DrawsToken ⊛ ‵ OwnDraws) ⊛ (raw Five ⊛ raw (HasAll 𝓤 H A ss ls₀))) opens $ split ! $ split ! $
         move ! (2 ∷ []) $ split ! $ enters ! (𝓣 .C) (𝓣 .Λ) code.function (Entry 𝓤 H A mem run .args y) _ (λ bs. typed) (λ bs.
-        -- [the locals; the five; the four; the list's token; what it owns]
-        lends ! 0 11 21 22 refl refl refl tt refl refl refl (tt, typed .1 .1 .1 .1 .1 .1 .1 .1 .1 .1 .0 .1) $
-        lends ! 0 12 23 24 refl refl refl tt refl refl refl (tt, typed .1 .1 .1 .1 .1 .1 .1 .1 .1 .1 .1 .0 .1) $
-        lends ! 0 13 25 26 refl refl refl tt refl refl refl (tt, typed .1 .1 .1 .1 .1 .1 .1 .1 .1 .1 .1 .1 .0 .1) $
+        -- [the locals; the five; the written; the list's token; what it owns]
+        lends ! 0 11 22 23 refl refl refl tt refl refl refl (tt, typed .1 .1 .1 .1 .1 .1 .1 .1 .1 .1 .0 .1) $
+        lends ! 0 12 24 25 refl refl refl tt refl refl refl (tt, typed .1 .1 .1 .1 .1 .1 .1 .1 .1 .1 .1 .0 .1) $
+        lends ! 0 13 26 27 refl refl refl tt refl refl refl (tt, typed .1 .1 .1 .1 .1 .1 .1 .1 .1 .1 .1 .1 .0 .1) $
+        lends ! 0 14 28 29 refl refl refl tt refl refl refl (tt, typed .1 .1 .1 .1 .1 .1 .1 .1 .1 .1 .1 .1 .1 .0 .1) $
         assigns ! (of-opd ! (load ! (from ! (fld ! refl (stop !))) (look-in ! 20 (sub ! 1 refl (whole !))))) (from ! (stop !))
-        (init ! 54 refl (tt, record { fits = are .1 .1 .1 .1 .1 .1 .1 .1 .1 .0 .0 .1 .0 })) $
-        assigns ! (bin ! (load ! (from ! (stop !)) (look ! 8 refl)) (load ! (from ! (stop !)) (look ! 54 refl)) tt) (from ! (stop !))
-        (init ! 56 refl (tt, tt)) $
-        lends ! 0 14 29 30 refl refl refl tt refl refl refl (tt, typed .1 .1 .1 .1 .1 .1 .1 .1 .1 .1 .1 .1 .1 .0 .1) $
+        (init ! 60 refl (tt, record { fits = are .1 .1 .1 .1 .1 .1 .1 .1 .1 .0 .0 .1 .0 })) $
+        assigns ! (bin ! (load ! (from ! (stop !)) (look ! 8 refl)) (load ! (from ! (stop !)) (look ! 60 refl)) tt) (from ! (stop !))
+        (init ! 62 refl (tt, tt)) $
+        lends ! 0 15 32 33 refl refl refl tt refl refl refl (tt, typed .1 .1 .1 .1 .1 .1 .1 .1 .1 .1 .1 .1 .1 .1 .0 .1) $
         -- `begin`
-        move ! (96 ∷ 97 ∷ []) $
+        move ! (106 ∷ 107 ∷ []) $
         use2 W (later (some (λ (g : Loans ss). raw (Begin 𝓤 H A mem run .pre (to-begin ls₀ g)) ⊛ raw (Left-begin ls₀ g))))
         (out-begin ls₀ long₀) $ await ! tt $ pick ! (λ g. split ! $
         asks ! (fmOf 𝓤 H (W .laws) 𝓣) begin.ended (begin.clauses 𝓤 H A mem run) met-begin (to-begin ls₀ g)
-        (copies ! 2 (1 ∷ 2 ∷ 3 ∷ 4 ∷ 5 ∷ 6 ∷ 7 ∷ 8 ∷ 9 ∷ 22 ∷ 24 ∷ 26 ∷ 28 ∷ 30 ∷ []) refl) _ (λ r ws. id⊢ 𝓤 _) (λ u b ws e is. drop ! $
-        move ! (1 ∷ []) $ drop ! $
+        (copies ! 2 (1 ∷ 2 ∷ 3 ∷ 4 ∷ 5 ∷ 6 ∷ 7 ∷ 8 ∷ 9 ∷ 23 ∷ 25 ∷ 27 ∷ 29 ∷ 31 ∷ 33 ∷ []) refl) _ (λ r ws. id⊢ 𝓤 _) (λ u b ws e is.
+        drop ! $ move ! (1 ∷ []) $ drop ! $
         use2 W (later (raw Five ⊛ raw (HasAll 𝓤 H A ss ls₀))) (back-begin ls₀ long₀ g) $ await ! tt $ split ! $
-        land ! (from ! (stop !)) (init ! 32 refl (LL.lawful S.the-type S′.the-laws 𝓤 H A W .typed b _ is .0)) $ sink ! 2 $
-        rewrite ! 30 (λ (z : Val). ‵ (fat fullShare (spotOf 𝓤 H (envAt 𝓤 H (code.function .locals) bs) 15 .0)
-        (spotOf 𝓤 H (envAt 𝓤 H (code.function .locals) bs) 15 .1) 0 z)) (ap only (LL.tells S.the-type S′.the-laws b _ is)) refl $
+        land ! (from ! (stop !)) (init ! 34 refl (LL.lawful S.the-type S′.the-laws 𝓤 H A W .typed b _ is .0)) $ sink ! 2 $
+        rewrite ! 32 (λ (z : Val). ‵ (fat fullShare (spotOf 𝓤 H (envAt 𝓤 H (code.function .locals) bs) 16 .0)
+        (spotOf 𝓤 H (envAt 𝓤 H (code.function .locals) bs) 16 .1) 0 z)) (ap only (LL.tells S.the-type S′.the-laws b _ is)) refl $
         goes b (subst (λ (us : List Val). Is S.the-row b us) (LL.tells S.the-type S′.the-laws b _ is) is) e 𝓣 met-step typed bs)))
 
 module _ {M : Type 1} (𝓤 : URA M) (H : Heap 𝓤) (A : Atoms 𝓤) (W : Given 𝓤 H A) (mem : Memory → SProp 𝓤) (run : Routine → Fun 𝓤) where

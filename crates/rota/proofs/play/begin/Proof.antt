@@ -15,7 +15,9 @@ use Rattle.rota.proofs.play.begin.Tie as tie
 
 frozen-of-requires : tie.Need-frozen-of-requires
 frozen-of-requires c κs =
-    let a = c .before .before .before .before .before .before .before .before .before .before .before .before .before .before .before .before .args in
+    let c8 = c .before .before .before .before .before .before .before .before in
+    let c16 = c8 .before .before .before .before .before .before .before .before in
+    let a = c16 .args in
     let A = play-asks (plan (a .people) (a .slots) (a .starts .now) (a .ends .now)) (a .avail .now) (a .units) (a .begins .now)
     (a .frozen .now) (a .count) (a .enough) (a .owners .now) (derived (a .sets .now) (a .minutes .now) (a .totals .now)) (a .answers .now)
     (sym (said _ (c .before .before .before .before .before .play-refusal .ensures)) ∙ c .before .before .before .if1 .taken) in
@@ -25,8 +27,10 @@ frozen-of-requires c κs =
 returns : tie.Need-returns
 unfolding unless
 returns c =
+    let c8 = c .before .before .before .before .before .before .before .before in
+    let c16 = c8 .before .before .before .before .before .before .before .before in
     let marks : length (c .frozen-of .result) ≡ 1024 = search needs in
-    let a = c .before .before .before .before .before .before .before .before .before .before .before .before .before .before .before .before .before .args in
+    let a = c16 .before .args in
     let no = c .before .before .before .before .before .before .play-refusal .ensures in
     let e = c .before .before .before .before .if1 .taken in
     let A = play-asks (plan (a .people) (a .slots) (a .starts .now) (a .ends .now)) (a .avail .now) (a .units) (a .begins .now)
@@ -38,13 +42,14 @@ returns c =
       fits = λ _. asks-fits _ _ _ _ _ _ _ _ _ _ A _ (c .before .before .unit-domains .ensures .1);
       flags = λ _. c .frozen-of .ensures;
       room = (c .before .before .unit-domains .kept .1 .1 .1 .1 .1 .0 ∙ length-replicate {A = ℕ} 1024 0, marks);
-      words = λ j. omega (arith, (c .before .before .before .before .before .before .before .before .before .before .shared-slice-known7 .given) j);
+      words = λ j. omega (arith, (c8 .before .before .shared-slice-known7 .given) j);
     }
 
 returns-2 : tie.Need-returns-2
 unfolding unless
 returns-2 c =
-    let a = c .before .before .before .before .before .before .before .before .before .before .before .before .before .args in
+    let c8 = c .before .before .before .before .before .before .before .before in
+    let a = c8 .before .before .before .before .before .args in
     let e = c .if1 .left in
     record {
       refusal = c .before .before .play-refusal .ensures;

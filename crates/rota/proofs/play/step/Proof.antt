@@ -11,7 +11,8 @@ use Rattle.rota.proofs.play.step.Tie as tie
 
 decide-requires : tie.Need-decide-requires
 decide-requires c κs =
-    let at-pre = c .before .before .before .before .before .before .before .before .before .before .pre in
+    let c8 = c .before .before .before .before .before .before .before .before in
+    let at-pre = c8 .before .before .pre in
     let room = at-pre .1 .1 .1 .1 in (
       (at-pre .0) .people-few,
       (board-owned _ _ _ _ _ _ _ (at-pre .1 .1 .0) (at-pre .1 .1 .1 .0) (room .0), (room .1, room .2)),
@@ -19,12 +20,15 @@ decide-requires c κs =
 
 hand-over-requires : tie.Need-hand-over-requires
 hand-over-requires c κs =
-    let at-args = c .before .before .before .before .before .before .before .before .before .before .before .before .before .before .before .before .before .before .args in
+    let c8 = c .before .before .before .before .before .before .before .before in
+    let c16 = c8 .before .before .before .before .before .before .before .before in
+    let at-args = c16 .before .before .args in
     let at-decide = c .before .before .before .before .before .before .before .decide in
-    let at-pre = c .before .before .before .before .before .before .before .before .before .before .before .before .before .before .before .before .before .before .pre in
+    let at-pre = c16 .before .before .pre in
     let at-from = c .before .before .before .before .before .from in
     let L = drawn-lawful (plan (at-args .people) (at-args .slots) (at-args .starts .now) (at-args .ends .now)) _ _ (derived
-    (at-args .sets .now) (at-args .minutes .now) (at-args .totals .now)) _ _ (at-decide .ensures) (at-pre .1 .1 .1 .0) _ (at-from .given .1) in (
+    (at-args .sets .now) (at-args .minutes .now) (at-args .totals .now)) _ _ (at-decide .ensures) (at-pre .1 .1 .1 .0) _ (at-from
+    .given .1) in (
       (at-pre .0),
       (
         (at-pre .1 .0),
@@ -38,12 +42,15 @@ hand-over-requires c κs =
 
 hand-over-requires-2 : tie.Need-hand-over-requires-2
 hand-over-requires-2 c κs =
-    let at-args = c .before .before .before .before .before .before .before .before .before .before .before .before .before .before .before .before .before .before .args in
+    let c8 = c .before .before .before .before .before .before .before .before in
+    let c16 = c8 .before .before .before .before .before .before .before .before in
+    let at-args = c16 .before .before .args in
     let at-decide = c .before .before .before .before .before .before .before .decide in
-    let at-pre = c .before .before .before .before .before .before .before .before .before .before .before .before .before .before .before .before .before .before .pre in
+    let at-pre = c16 .before .before .pre in
     let at-from2 = c .before .before .before .before .before .from2 in
     let L = drawn-lawful (plan (at-args .people) (at-args .slots) (at-args .starts .now) (at-args .ends .now)) _ _ (derived
-    (at-args .sets .now) (at-args .minutes .now) (at-args .totals .now)) _ _ (at-decide .ensures) (at-pre .1 .1 .1 .0) _ (at-from2 .given .1) in (
+    (at-args .sets .now) (at-args .minutes .now) (at-args .totals .now)) _ _ (at-decide .ensures) (at-pre .1 .1 .1 .0) _ (at-from2
+    .given .1) in (
       (at-pre .0),
       (
         (at-pre .1 .0),
@@ -57,13 +64,17 @@ hand-over-requires-2 c κs =
 
 hand-over-requires-3 : tie.Need-hand-over-requires-3
 hand-over-requires-3 c κs =
-    let at-args = c .before .before .before .before .before .before .before .before .before .before .before .before .before .before .before .before .before .before .before .before .before .before .before .before .before .before .before .before .before .before .before .args in
-    let at-decide = c .before .before .before .before .before .before .before .before .before .before .before .before .before .before .before .before .before .before .before .before .decide in
-    let at-pre = c .before .before .before .before .before .before .before .before .before .before .before .before .before .before .before .before .before .before .before .before .before .before .before .before .before .before .before .before .before .before .before .pre in
-    let at-from2 = c .before .before .before .before .before .before .before .before .before .before .before .before .before .before .before .before .before .before .from2 in
-    let at-hand-over2 = c .before .before .before .before .before .before .before .before .before .before .before .before .hand-over2 in
+    let c8 = c .before .before .before .before .before .before .before .before in
+    let c16 = c8 .before .before .before .before .before .before .before .before in
+    let c24 = c16 .before .before .before .before .before .before .before .before in
+    let at-args = c24 .before .before .before .before .before .before .before .args in
+    let at-decide = c16 .before .before .before .before .decide in
+    let at-pre = c24 .before .before .before .before .before .before .before .pre in
+    let at-from2 = c16 .before .before .from2 in
+    let at-hand-over2 = c8 .before .before .before .before .hand-over2 in
     let L = drawn-lawful (plan (at-args .people) (at-args .slots) (at-args .starts .now) (at-args .ends .now)) _ _ (derived
-    (at-args .sets .now) (at-args .minutes .now) (at-args .totals .now)) _ _ (at-decide .ensures) (at-pre .1 .1 .1 .0) _ (at-from2 .given .1) in (
+    (at-args .sets .now) (at-args .minutes .now) (at-args .totals .now)) _ _ (at-decide .ensures) (at-pre .1 .1 .1 .0) _ (at-from2
+    .given .1) in (
       (at-pre .0),
       (
         (at-hand-over2 .ensures) .step,
@@ -77,8 +88,9 @@ hand-over-requires-3 c κs =
 
 returns : tie.Need-returns
 returns c =
+    let c8 = c .before .before .before .before .before .before .before .before in
     let at-decide = c .before .before .before .decide in
-    let at-pre = c .before .before .before .before .before .before .before .before .before .before .before .before .before .before .pre
+    let at-pre = c8 .before .before .before .before .before .before .pre
     in
     let at-slice-known2 = c .before .before .before .before .before .before .before .slice-known2 in
     stepped-stay _ _ _ _ _ _ (at-decide .ensures) _ (c .before .n .given .1) ((at-pre .0) .slots-few) (λ j. omega (
@@ -100,35 +112,54 @@ same-length-5 c = over-lengths _ _ _ _ _ _ _ _ (c .before .before .before .befor
 
 returns-2 : tie.Need-returns-2
 returns-2 c =
-    let at-decide = c .before .before .before .before .before .before .before .before .before .before .before .before .before .before .before .before .decide in
-    let at-from = c .before .before .before .before .before .before .before .before .before .before .before .before .before .before .from in
-    let at-hand-over = c .before .before .before .before .before .before .before .before .hand-over in
+    let c8 = c .before .before .before .before .before .before .before .before in
+    let c16 = c8 .before .before .before .before .before .before .before .before in
+    let at-decide = c16 .decide in
+    let at-from = c8 .before .before .before .before .before .before .from in
+    let at-hand-over = c8 .hand-over in
     stepped-give _ _ _ _ _ _ (at-decide .ensures) _ _ _ _ _ (at-from .given .1) (at-hand-over .ensures)
 
 same-length-6 : tie.Need-same-length-6
 same-length-6 c =
-    over-lengths _ _ _ _ _ _ _ _ (c .before .before .before .before .before .before .before .before .hand-over3 .ensures) .0 ∙ over-lengths _ _ _ _ _ _ _ _ (c .before .before .before .before .before .before .before .before .before .before .before .before .before .before .before .before .before .before .before .before .before .hand-over2 .ensures) .0
+    let c8 = c .before .before .before .before .before .before .before .before in
+    let c16 = c8 .before .before .before .before .before .before .before .before in
+    over-lengths _ _ _ _ _ _ _ _ (c8 .hand-over3 .ensures) .0 ∙ over-lengths _ _ _ _ _ _ _ _ (c16 .before .before .before .before
+    .before .hand-over2 .ensures) .0
 
 same-length-7 : tie.Need-same-length-7
 same-length-7 c =
-    over-lengths _ _ _ _ _ _ _ _ (c .before .before .before .before .before .before .before .before .hand-over3 .ensures) .1 ∙ over-lengths _ _ _ _ _ _ _ _ (c .before .before .before .before .before .before .before .before .before .before .before .before .before .before .before .before .before .before .before .before .before .hand-over2 .ensures) .1
+    let c8 = c .before .before .before .before .before .before .before .before in
+    let c16 = c8 .before .before .before .before .before .before .before .before in
+    over-lengths _ _ _ _ _ _ _ _ (c8 .hand-over3 .ensures) .1 ∙ over-lengths _ _ _ _ _ _ _ _ (c16 .before .before .before .before
+    .before .hand-over2 .ensures) .1
 
 same-length-8 : tie.Need-same-length-8
 same-length-8 c =
-    over-lengths _ _ _ _ _ _ _ _ (c .before .before .before .before .before .before .before .before .hand-over3 .ensures) .2 ∙ over-lengths _ _ _ _ _ _ _ _ (c .before .before .before .before .before .before .before .before .before .before .before .before .before .before .before .before .before .before .before .before .before .hand-over2 .ensures) .2
+    let c8 = c .before .before .before .before .before .before .before .before in
+    let c16 = c8 .before .before .before .before .before .before .before .before in
+    over-lengths _ _ _ _ _ _ _ _ (c8 .hand-over3 .ensures) .2 ∙ over-lengths _ _ _ _ _ _ _ _ (c16 .before .before .before .before
+    .before .hand-over2 .ensures) .2
 
 same-length-9 : tie.Need-same-length-9
 same-length-9 c =
-    over-lengths _ _ _ _ _ _ _ _ (c .before .before .before .before .before .before .before .before .hand-over3 .ensures) .3 ∙ over-lengths _ _ _ _ _ _ _ _ (c .before .before .before .before .before .before .before .before .before .before .before .before .before .before .before .before .before .before .before .before .before .hand-over2 .ensures) .3
+    let c8 = c .before .before .before .before .before .before .before .before in
+    let c16 = c8 .before .before .before .before .before .before .before .before in
+    over-lengths _ _ _ _ _ _ _ _ (c8 .hand-over3 .ensures) .3 ∙ over-lengths _ _ _ _ _ _ _ _ (c16 .before .before .before .before
+    .before .hand-over2 .ensures) .3
 
 returns-3 : tie.Need-returns-3
 returns-3 c =
-    let at-decide = c .before .before .before .before .before .before .before .before .before .before .before .before .before .before .before .before .before .before .before .before .before .before .before .before .before .before .before .before .before .decide in
-    let at-pre = c .before .before .before .before .before .before .before .before .before .before .before .before .before .before .before .before .before .before .before .before .before .before .before .before .before .before .before .before .before .before .before .before .before .before .before .before .before .before .before .before .pre in
-    let at-slice-known2 = c .before .before .before .before .before .before .before .before .before .before .before .before .before .before .before .before .before .before .before .before .before .before .before .before .before .before .before .before .before .before .before .before .before .slice-known2 in
-    let at-from2 = c .before .before .before .before .before .before .before .before .before .before .before .before .before .before .before .before .before .before .before .before .before .before .before .before .before .before .before .from2 in
-    let at-hand-over2 = c .before .before .before .before .before .before .before .before .before .before .before .before .before .before .before .before .before .before .before .before .before .hand-over2 in
-    let at-hand-over3 = c .before .before .before .before .before .before .before .before .hand-over3 in
+    let c8 = c .before .before .before .before .before .before .before .before in
+    let c16 = c8 .before .before .before .before .before .before .before .before in
+    let c24 = c16 .before .before .before .before .before .before .before .before in
+    let c32 = c24 .before .before .before .before .before .before .before .before in
+    let c40 = c32 .before .before .before .before .before .before .before .before in
+    let at-decide = c24 .before .before .before .before .before .decide in
+    let at-pre = c40 .pre in
+    let at-slice-known2 = c32 .before .slice-known2 in
+    let at-from2 = c24 .before .before .before .from2 in
+    let at-hand-over2 = c16 .before .before .before .before .before .hand-over2 in
+    let at-hand-over3 = c8 .hand-over3 in
     stepped-trade _ _ _ _ _ _ (at-decide .ensures) _ _ _ _ _ _ _ _ _ _ ((at-pre .0) .slots-few) ((at-pre .1 .0) .sets-room) (λ
     j. omega (arith, (at-slice-known2 .given) j)) (at-from2 .given .1) (at-hand-over2 .ensures) (at-hand-over3 .ensures)
 

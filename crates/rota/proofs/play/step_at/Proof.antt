@@ -6,7 +6,8 @@ use Rattle.rota.proofs.play.step_at.Tie as tie
 
 step-requires : tie.Need-step-requires
 step-requires c κs =
-    let p = c .before .before .before .before .before .before .before .before .before .before .before .before .before .before .pre in
+    let c8 = c .before .before .before .before .before .before .before .before in
+    let p = c8 .before .before .before .before .before .before .pre in
     (p .sound, (p .in-step, (p .board, (p .even, p .room))))
 
 returns : tie.Need-returns
