@@ -6,6 +6,7 @@ mod columns_c;
 mod draws_c;
 mod job_c;
 mod owners_c;
+mod retire_c;
 mod rota_c;
 mod runs_c;
 mod set_c;
