@@ -5,13 +5,14 @@ use mathlib.Core.Logic.{⊎-elim}
 use mathlib.Core.List.{List, [], _∷_}
 use Prim.Native.Nat.{ℕ, zero, suc, _+_, _-_, _*_, _≤_, _<_}
 use native.Mathlib.Omega.{arith}
-use borrow.Author.Tests.{le-leb, lt-ltb}
+use borrow.Author.Tests.{le-leb, lt-ltb, eq-eqb, ne-eqb}
 use lib.Dec.{leb, ltb}
 use lib.ListN.{length, getD}
 use Rattle.paper.specs.Limits.{nobody, numberOf, slotCountOk}
 use Rattle.paper.specs.Count.{sum, over}
 use Rattle.paper.proofs.Logic.{lt-or-ge, people-says, slot-count-says, and-true}
-use Rattle.paper.proofs.Rows.{all-pass}
+use Rattle.paper.specs.Rows.{refusalOf}
+use Rattle.paper.proofs.Rows.{all-pass, said}
 use Rattle.paper.proofs.Count.{sum-same, sum-add, sum-after, getD-over, among-le}
 use Rattle.units.specs.Starts.{unitStarts}
 use Rattle.slotset.specs.Slots.{slot, putSlots}
@@ -30,9 +31,9 @@ use Rattle.retire.specs.Column.{columnRow}
 use Rattle.retire.specs.Going.{goneUnits, frozenWhole, LongestStretch, goingPlan, priorThen, retiredThen, priorsThen, retiredColumn}
 use Rattle.retire.specs.New.{New, newStarts, newEnds, newCount, newBit, newUnits}
 use Rattle.retire.specs.Outcome.{Held, planOf, unitsGone, slotsGone, slotsKept, unitsKept, slotsThen, unitsThen, startsThen, endsThen}
-use Rattle.retire.specs.Outcome.{availThen, frozenThen, ownersThen, heldThen}
+use Rattle.retire.specs.Outcome.{availThen, frozenThen, ownersThen, heldThen, retireRow, retireOf}
 use Rattle.retire.specs.Inside.{PlanRight}
-use Rattle.retire.specs.Promised.{Retires, standing, NoMinuteLost, Retirings, afterAll, newDemand, StaysAndComes, ColumnFollows}
+use Rattle.retire.specs.Promised.{Retires, standing, NoMinuteLost, Retirings, afterAll, newDemand, StaysAndComes, ColumnFollows, ExactlyWhen}
 use Rattle.retire.proofs.Rolls.{rolled-old, rolled-new}
 use Rattle.retire.proofs.Bits.{rolled-lt}
 use Rattle.retire.proofs.Asks.{AskedRight, whole-says}
@@ -250,3 +251,22 @@ module _ (H : Held) (N : New) (T : Retires H N) where
           ),
         ),
       )
+
+-- ---- the answers, exactly when
+
+pub exactly-when : (H : Held) (N : New) → ExactlyWhen H N
+unfolding retireOf
+exactly-when H N =
+    let number = said (retireRow H N) refl in
+    record {
+      nothing = λ z y. simp (eq-eqb (refusalOf (retireRow H N) .number) 0 (number ∙ z), eq-eqb (unitsGone H) 0 y);
+      everything = λ z n y.
+          simp (eq-eqb (refusalOf (retireRow H N) .number) 0 (number ∙ z), ne-eqb (unitsGone H) 0 n, eq-eqb (unitsGone H) (H .units) y);
+      retired = λ T.
+          simp (
+            eq-eqb (refusalOf (retireRow H N) .number) 0 (number ∙ T .accepted),
+            ne-eqb (unitsGone H) 0 (T .some),
+            ne-eqb (unitsGone H) (H .units) (T .rest),
+          );
+      refused = λ n. simp (ne-eqb (refusalOf (retireRow H N) .number) 0 (λ z. n (sym number ∙ z)));
+    }

@@ -11,11 +11,14 @@ use Rattle.slots.specs.Lent.{demandOf, slotsOk}
 use Rattle.units.specs.Units.{unitStart, unitsOk}
 use Rattle.owners.specs.Derived.{worked, uncovered}
 use Rattle.owners.specs.Recount.{recounts}
+use Rattle.paper.specs.Rows.{refusalOf}
+use Rattle.retire.specs.declared.Retiring.the-variants as retiring
 use Rattle.retire.specs.Rolled.{entry}
 use Rattle.retire.specs.Column.{columnRow}
 use Rattle.retire.specs.Going.{LongestStretch, goingPlan}
 use Rattle.retire.specs.New.{New, newStarts, newEnds, newCount, newBit, newUnits}
 use Rattle.retire.specs.Outcome.{Held, planOf, unitsGone, slotsGone, slotsKept, unitsKept, slotsThen, unitsThen, heldThen, retireRow}
+use Rattle.retire.specs.Outcome.{leaves, retireOf}
 
 -- a retiring in which something goes and something stays
 pub record Retires (H : Held) (N : New) : Type 0 where
@@ -90,3 +93,13 @@ pub record PlayFollows (H : Held) : Type 0 where
 
 abbrev pub ColumnFollows : Held → New → Type 0
 ColumnFollows H N = (column : List ℕ) → 1024 ≤ length column → numberOf (columnRow (H .slots) (slotsGone H) (slotsThen H N) column) ≡ 0
+
+-- ---- nothing, everything, and a refusal: exactly when; and then every lent byte is as it was
+
+pub record ExactlyWhen (H : Held) (N : New) : Type 0 where
+  pub nothing : numberOf (retireRow H N) ≡ 0 → unitsGone H ≡ 0 → retireOf H N ≡ leaves retiring.Nothing (H .lent)
+  pub everything : numberOf (retireRow H N) ≡ 0 → (unitsGone H ≡ 0 → ⊥) → unitsGone H ≡ H .units
+      → retireOf H N ≡ leaves retiring.Everything (H .lent)
+  pub retired : Retires H N
+      → retireOf H N ≡ leaves (retiring.Retired (slotsGone H) (slotsThen H N) (unitsThen H N)) (heldThen H N .lent)
+  pub refused : (numberOf (retireRow H N) ≡ 0 → ⊥) → retireOf H N ≡ leaves (retiring.Refused (refusalOf (retireRow H N))) (H .lent)
