@@ -46,7 +46,7 @@ pub extern "C" fn boltraven_retire(
     starts: &mut [u32],
     ends: &mut [u32],
     avail: &mut [u64],
-    begins: &mut [u16],
+    unit_starts: &mut [u16],
     frozen: &mut [u64],
     owners: &mut [u8],
     sets: &mut [u64],
@@ -57,10 +57,10 @@ pub extern "C" fn boltraven_retire(
     told: &mut u64,
 ) -> u64
     ensures { λ r. ⌜ RetiringEnds (retireOf (held people slots units (columns (now (starts .entry)) (now (ends .entry)) (now (avail .entry))
-        (now (begins .entry)) (now (frozen .entry)) (now (owners .entry)) (derived (now (sets .entry)) (now (minutes .entry)) (now (totals
+        (now («unit_starts» .entry)) (now (frozen .entry)) (now (owners .entry)) (derived (now (sets .entry)) (now (minutes .entry)) (now (totals
         .entry))) (now (priors .entry)) (now (retired .entry)))) (new (settingsOf fairness lock boundary edition value days) base (now (froms
         .entry)) (now (tos .entry)) (ranges count (now (persons .entry)) (now (opens .entry)) (now (shuts .entry))))) (now (told .entry)) r
-        (columns (now (starts .exit)) (now (ends .exit)) (now (avail .exit)) (now (begins .exit)) (now (frozen .exit)) (now (owners .exit))
+        (columns (now (starts .exit)) (now (ends .exit)) (now (avail .exit)) (now («unit_starts» .exit)) (now (frozen .exit)) (now (owners .exit))
         (derived (now (sets .exit)) (now (minutes .exit)) (now (totals .exit))) (now (priors .exit)) (now (retired .exit))) (now (told
         .exit)) ⌝ }
 {
@@ -87,7 +87,7 @@ pub extern "C" fn boltraven_retire(
         starts,
         ends,
         avail,
-        begins,
+        unit_starts,
         frozen,
         owners,
         sets,
