@@ -41,3 +41,4 @@ pub mod Accepts
 pub mod Exports
 pub mod WayBackRule
 pub mod Empty
+pub mod RetireRule
