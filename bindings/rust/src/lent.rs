@@ -366,6 +366,31 @@ fn led(answer: u64) -> Result<bool, Refusal> {
     }
 }
 
+/// What retiring comes to.
+#[derive(Clone, Copy, Debug, PartialEq, Eq)]
+pub enum Retiring {
+    /// Some units went and some stay; the three counts are written.
+    Retired,
+    /// No unit would go; nothing is changed.
+    Nothing,
+    /// Every unit would go; nothing is changed.
+    Everything,
+}
+
+/// Where everything would go.
+const EVERYTHING: u64 = 131_072;
+
+/// What retiring came to; or a refusal with its place.
+#[inline]
+fn retiring(answer: u64) -> Result<Retiring, Refusal> {
+    match answer {
+        0 => Ok(Retiring::Retired),
+        NOTHING => Ok(Retiring::Nothing),
+        EVERYTHING => Ok(Retiring::Everything),
+        n => Err(refused(n)),
+    }
+}
+
 /// A number that is the answer itself.
 fn plain(answer: u32) -> u32 {
     answer
@@ -650,6 +675,20 @@ exports! {
         remembered: &[u8], owners: &[u8], sets: &[u64], minutes: &[u64], totals: &[u64], draws: &mut [u16], firsts: &mut [u16],
         seconds: &mut [u16], told: &mut u64
     ) -> Result<bool, Refusal> = led(u64);
+
+    /// Retires past weeks: the leading units of which every slot is frozen go, and the rest comes to the front; what each person owned of them is
+    /// added to their `priors`, what nobody owned to `retired`; `base` new slots, from `froms` up to `tos`, split over the `count` ranges, come
+    /// behind. Retired, and `told` is how many slots went (bits 0 to 15), how many there are (16 to 31) and how many units (32 to 47). Starts, ends,
+    /// unit starts and owners need room for 1,024 entries. Refusals: 1 to 7, 9, 10.
+    pub fn retire(
+        people: usize, slots: usize, units: usize, base: usize, count: usize, fairness: u8, lock: u8, boundary: u8, edition: u8, value: u16,
+        days: u16, froms: &[u32], tos: &[u32], persons: &[u16], opens: &[u32], shuts: &[u32], starts: &mut [u32], ends: &mut [u32],
+        avail: &mut [u64], unit_starts: &mut [u16], frozen: &mut [u64], owners: &mut [u8], sets: &mut [u64], minutes: &mut [u64],
+        totals: &mut [u64], priors: &mut [u32], retired: &mut [u64], told: &mut u64
+    ) -> Result<Retiring, Refusal> = retiring(u64);
+
+    /// A published column after it, by the slots before, how many went and how many there are: nobody has what is new. Refusals: 1, 2.
+    pub fn retire_column(before: usize, gone: usize, count: usize, column: &mut [u8]) -> Result<(), Refusal> = done(u8);
 
     /// Whether owners, units, sets, minutes and totals fit together, as a play asks it first; where not, the first part that fails and its lowest
     /// place. Refusals: 1, 2, 9, 10.
