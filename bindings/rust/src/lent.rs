@@ -184,6 +184,43 @@
 //! # Ok::<(), Refusal>(())
 //! ```
 //!
+//! Past weeks retired: six shifts, two a unit, of which five are frozen, so that four go; two new base slots, the first split, come behind.
+//!
+//! ```
+//! use boltraven::{lent, Refusal};
+//!
+//! let (mut starts, mut ends, mut unit_starts) = ([0; lent::SLOTS_MOST], [0; lent::SLOTS_MOST], [0; lent::SLOTS_MOST]);
+//! for day in 0..6 {
+//!     (starts[day], ends[day]) = (1440 * day as u32 + 480, 1440 * day as u32 + 960);
+//! }
+//! (unit_starts[1], unit_starts[2]) = (2, 4);
+//! let (mut avail, mut frozen, mut owners) = ([0; 32], [0; 16], [lent::NOBODY; lent::SLOTS_MOST]);
+//! (avail[0], avail[16], frozen[0]) = (0b11_1111, 0b11_1111, 0b1_1111);
+//! owners[..6].copy_from_slice(&[0, 0, 255, 255, 1, 1]);
+//! let (mut sets, mut minutes, mut totals) = ([0; 32], [0; 2], [0; lent::TOTALS]);
+//! lent::from_slots(2, 6, &starts, &ends, &avail, &owners, &mut sets, &mut minutes, &mut totals)?;
+//!
+//! let (mut priors, mut retired, mut told) = ([100, 0], [7], 0);
+//! let mut retire = |frozen: &mut [u64], priors: &mut [u32]| {
+//!     lent::retire(
+//!         2, 6, 3, 2, 2, 0, 1, 0, 0, 2, 1, &[8160, 9600], &[8640, 10080], &[0, 1], &[8160, 0], &[8400, 100_000], &mut starts, &mut ends,
+//!         &mut avail, &mut unit_starts, frozen, &mut owners, &mut sets, &mut minutes, &mut totals, priors, &mut retired, &mut told
+//!     )
+//! };
+//! assert_eq!(retire(&mut [0b11_1110; 16], &mut priors)?, lent::Retiring::Nothing);
+//! assert_eq!(retire(&mut [0b11_1111; 16], &mut priors)?, lent::Retiring::Everything);
+//! assert_eq!(retire(&mut frozen, &mut [99_999_041, 0]), Err(Refusal::Figures));
+//! assert_eq!(retire(&mut frozen, &mut priors)?, lent::Retiring::Retired);
+//! assert_eq!((told & 65_535, told >> 16 & 65_535, told >> 32), (4, 5, 3));
+//! assert_eq!((starts[..5].to_vec(), unit_starts[..3].to_vec()), (vec![6240, 7680, 8160, 8400, 9600], vec![0, 2, 4]));
+//! assert_eq!((owners[..5].to_vec(), minutes, totals, priors, retired), (vec![1, 1, 255, 255, 255], [0, 960], [960, 3], [1060, 0], [967]));
+//!
+//! let mut published = [0, 0, 1, 1, 1, 1];
+//! lent::retire_column(6, 4, 5, &mut published)?;
+//! assert_eq!(published, [1, 1, 255, 255, 255, 1]);
+//! # Ok::<(), Refusal>(())
+//! ```
+//!
 //! A store of settings: an area of bytes, and how many of them are used.
 //!
 //! ```
