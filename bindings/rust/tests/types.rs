@@ -2,8 +2,8 @@
 
 use boltraven::lent::SLOTS_MOST;
 use boltraven::{
-    retire_column, Answer, Assignment, Availability, Boundary, Draw, Edition, Fairness, Fault, Job, Person, Problem, Range, Refusal, Retired,
-    Run, Settings, Slot, SlotSet, Slots, Weekday,
+    retire_column, Answer, Assignment, Availability, Boundary, Draw, Edition, Fairness, Fault, Job, Person, Problem, Range, Refusal,
+    Retired, Run, Settings, Slot, SlotSet, Slots, Weekday,
 };
 
 const ONE: Person = Person { capacity: 1.0, prior: 0 };
@@ -391,7 +391,14 @@ fn retiring_is_refused_or_changes_nothing() {
         (&given, &people, 0, &none, &[always(2)], refused(Refusal::Range)),
         (&given, &full, 0, &none, &[], refused(Refusal::Figures)),
         (&given, &people, 100_000_000, &none, &[], refused(Refusal::Figures)),
-        (&uneven, &people, 0, &none, &[], refused(Refusal::Recount(Fault::UnevenUnit { unit: 2 }))),
+        (
+            &uneven,
+            &people,
+            0,
+            &none,
+            &[],
+            refused(Refusal::Recount(Fault::UnevenUnit { unit: 2 })),
+        ),
         (&given, &endless, 0, &none, &[], refused(Refusal::Figures)),
         (&uneven, &endless, 0, &none, &[], refused(Refusal::Figures)),
         (&uneven, &endless, 0, &late, &[], refused(Refusal::BaseSlot)),
@@ -399,19 +406,33 @@ fn retiring_is_refused_or_changes_nothing() {
     for (given, people, retired, base, ranges, due) in cases {
         let ((mut problem, mut rota), mut figures, mut total) = (given.clone(), people.to_vec(), retired);
         assert_eq!(problem.retire(&mut rota, &mut figures, &mut total, base, ranges), due);
-        assert_eq!((problem, rota, figures, total), (given.0.clone(), given.1.clone(), people.to_vec(), retired));
+        assert_eq!(
+            (problem, rota, figures, total),
+            (given.0.clone(), given.1.clone(), people.to_vec(), retired)
+        );
     }
     // The largest prior and the largest number of slots that pass.
     let (mut problem, mut rota) = given;
     let mut figures = [Person { prior: 99_999_040, ..ONE }, ONE, ONE];
     let went = problem.retire(&mut rota, &mut figures, &mut 99_999_040, &many[..1020], &[always(1)]);
-    assert_eq!(went, Ok(Retired::Went { gone: 4, slots: 1024, units: 512 }));
+    assert_eq!(
+        went,
+        Ok(Retired::Went {
+            gone: 4,
+            slots: 1024,
+            units: 512
+        })
+    );
     assert_eq!(figures.map(|one| one.prior), [100_000_000, 0, 0]);
 }
 
 #[test]
 fn a_published_column_follows() {
-    let went = Retired::Went { gone: 2, slots: 3, units: 3 };
+    let went = Retired::Went {
+        gone: 2,
+        slots: 3,
+        units: 3,
+    };
     let column = |mut column: Vec<u8>, retired| retire_column(&mut column, retired).map(|()| column);
     assert_eq!(column(vec![7, 7, 1, 2], went), Ok(vec![1, 2, 255]));
     assert_eq!(column(vec![7, 7, 1, 2, 3], went), Ok(vec![1, 2, 3]));
