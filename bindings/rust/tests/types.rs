@@ -363,6 +363,16 @@ fn retired_they_are_as_built_from_what_is_left() {
     }
 }
 
+/// A problem and its rota, the figures of people, the retired total, new base slots and ranges; and what retiring is to come to.
+type Case<'a> = (
+    &'a (Problem, Assignment),
+    &'a [Person],
+    u64,
+    &'a [Slot],
+    &'a [Range],
+    Result<Retired, Refusal>,
+);
+
 #[test]
 fn retiring_is_refused_or_changes_nothing() {
     let people = [ONE; 2];
@@ -380,7 +390,7 @@ fn retiring_is_refused_or_changes_nothing() {
     let endless = [Person { capacity: 1001.0, ..ONE }, ONE];
     let (none, late, many) = (shifts(8..8), shifts(7..9), shifts(8..1029));
     let refused = |refusal| Err::<Retired, Refusal>(refusal);
-    let cases: [(&(Problem, Assignment), &[Person], u64, &[Slot], &[Range], Result<Retired, Refusal>); 14] = [
+    let cases: [Case; 14] = [
         (&open, &people, 0, &none, &[], Ok(Retired::Nothing)),
         (&done, &people, 0, &many[..1020], &[], Ok(Retired::Everything)),
         (&given, &people, 0, &many[..1025 - 4], &[], refused(Refusal::TooManySlots)),
