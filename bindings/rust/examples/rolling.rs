@@ -10,7 +10,8 @@
 use std::error::Error;
 
 use boltraven::{
-    publish, retire_column, Answer, Assignment, Boundary, Draw, Person, Problem, Range, Refusal, Retired, Settings, Slot, Weekday, Weekdays,
+    publish, retire_column, Answer, Assignment, Boundary, Draw, Person, Problem, Range, Refusal, Retiring, Settings, Slot, Weekday,
+    Weekdays,
 };
 
 const WEEKS: u32 = 5;
@@ -39,7 +40,7 @@ fn main() -> Result<(), Box<dyn Error>> {
         let new = shifts(week + 2);
         let went = problem.retire(&mut rota, &mut people, &mut retired, &new, &ranges(week + 2))?;
         retire_column(&mut published, went)?;
-        let Retired::Went { gone, slots, units } = went else {
+        let Retiring::Retired { gone, slots, units } = went else {
             return Err("a week is due to go".into());
         };
         println!("week {week}: {gone} slots went, {slots} in {units} units are there");

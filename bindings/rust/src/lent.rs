@@ -290,10 +290,24 @@ pub enum Kept {
     Newer,
 }
 
+/// What retiring comes to: [`retire`] answers it.
+#[derive(Debug, Clone, Copy, PartialEq, Eq, Hash)]
+pub enum Retiring {
+    /// Some units went and some stay; the three counts are written.
+    Retired,
+    /// No unit would go; nothing is changed.
+    Nothing,
+    /// Every unit would go; nothing is changed.
+    Everything,
+}
+
 // ---- answers that came as one number
 
 /// What is answered where there is nothing; a refusal adds its number.
 const NOTHING: u64 = 65_536;
+
+/// What retiring answers where everything would go.
+const EVERYTHING: u64 = 131_072;
 
 /// The refusal of a number that the library gave.
 #[cold]
@@ -402,20 +416,6 @@ fn led(answer: u64) -> Result<bool, Refusal> {
         n => Err(refused(n)),
     }
 }
-
-/// What retiring comes to.
-#[derive(Clone, Copy, Debug, PartialEq, Eq)]
-pub enum Retiring {
-    /// Some units went and some stay; the three counts are written.
-    Retired,
-    /// No unit would go; nothing is changed.
-    Nothing,
-    /// Every unit would go; nothing is changed.
-    Everything,
-}
-
-/// Where everything would go.
-const EVERYTHING: u64 = 131_072;
 
 /// What retiring came to; or a refusal with its place.
 #[inline]

@@ -58,7 +58,7 @@ pub use job::{run_job, Job, LISTING_MOST};
 pub use job_text::JobTextError;
 pub use problem::Problem;
 pub use refusal::{Fault, NoRefusal, Refusal};
-pub use retiring::{retire_column, Retired};
+pub use retiring::{retire_column, Retiring};
 pub use set::{Members, Run, Runs, SlotSet};
 pub use settings::{Boundary, Edition, Fairness, Settings};
 pub use slots::{merged_ranges, Range, Slot, Slots};

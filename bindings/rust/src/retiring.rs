@@ -2,7 +2,7 @@
 
 use crate::assignment::Assignment;
 use crate::availability::Availability;
-use crate::lent::{self, Retiring, NOBODY, SLOTS_MOST};
+use crate::lent::{self, NOBODY, SLOTS_MOST};
 use crate::problem::Problem;
 use crate::refusal::{checked, Refusal};
 use crate::settings::with_settings;
@@ -12,9 +12,9 @@ use crate::units::Units;
 
 /// What retiring came to.
 #[derive(Debug, Clone, Copy, PartialEq, Eq, Hash)]
-pub enum Retired {
+pub enum Retiring {
     /// The leading units of which every slot was frozen are gone.
-    Went {
+    Retired {
         /// How many slots went.
         gone: usize,
         /// How many there are now, new ones with them.
@@ -38,7 +38,7 @@ impl Problem {
     /// Refusals 1 to 7, 9, 10, of which 6 is also a capacity that targets don't take; refused, nothing is changed.
     ///
     /// ```
-    /// use boltraven::{Assignment, Boundary, Person, Problem, Range, Refusal, Retired, Settings, Slot};
+    /// use boltraven::{Assignment, Boundary, Person, Problem, Range, Refusal, Retiring, Settings, Slot};
     ///
     /// // A shift of eight hours on each of six days, two a unit.
     /// let settings = Settings { lock: true, boundary: Boundary::EverySlots(2), ..Settings::default() };
@@ -51,13 +51,13 @@ impl Problem {
     /// let new = [Slot { start: 8160, end: 8640 }, Slot { start: 9600, end: 10080 }];
     /// let there = [Range { person: 0, start: 8160, end: 8400 }, Range { person: 1, start: 0, end: 100_000 }];
     /// let mut retired = 7;
-    /// assert_eq!(problem.retire(&mut rota, &mut people, &mut retired, &new, &there)?, Retired::Nothing);
+    /// assert_eq!(problem.retire(&mut rota, &mut people, &mut retired, &new, &there)?, Retiring::Nothing);
     ///
     /// // Five slots are frozen: two units go, and the third stays whole.
     /// problem.freeze_before(6720);
     /// let demand = problem.total_demand();
     /// let went = problem.retire(&mut rota, &mut people, &mut retired, &new, &there)?;
-    /// assert_eq!(went, Retired::Went { gone: 4, slots: 5, units: 3 });
+    /// assert_eq!(went, Retiring::Retired { gone: 4, slots: 5, units: 3 });
     /// assert_eq!(rota.slots(), [Some(1), Some(1), None, None, None]);
     /// assert_eq!((people[0].prior, people[1].prior, retired), (1060, 0, 967));
     /// assert_eq!((people[0].prior as u64 - 100) + (retired - 7) + (problem.total_demand() - 960), demand);
@@ -75,7 +75,7 @@ impl Problem {
         retired: &mut u64,
         base: &[Slot],
         ranges: &[Range],
-    ) -> Result<Retired, Refusal> {
+    ) -> Result<Retiring, Refusal> {
         let (count, before) = (self.human_count(), self.slot_count());
         let (froms, tos) = columns(base);
         let given = Columns::of(ranges);
@@ -118,9 +118,9 @@ impl Problem {
             _ => given_figures?,
         };
         match retiring? {
-            Retiring::Nothing => return Ok(Retired::Nothing),
-            Retiring::Everything => return Ok(Retired::Everything),
-            Retiring::Retired => {}
+            lent::Retiring::Nothing => return Ok(Retiring::Nothing),
+            lent::Retiring::Everything => return Ok(Retiring::Everything),
+            lent::Retiring::Retired => {}
         }
         let number = |from: u32| usize::from((told >> from) as u16);
         let (gone, slots, units) = (number(0), number(16), number(32));
@@ -148,7 +148,7 @@ impl Problem {
         self.frozen.set_to(frozen, slots);
         (self.slots, self.availability, self.units) = (held, availability, formed);
         (*rota, *retired) = (then, total[0]);
-        Ok(Retired::Went { gone, slots, units })
+        Ok(Retiring::Retired { gone, slots, units })
     }
 
     /// The targets of these slots by the problem's settings, for as many people as it has.
@@ -176,16 +176,16 @@ fn forget(people: usize, before: usize, slots: usize, words: &mut [u64], person:
 /// everything it stays as it is. Refusal 1: it has no slots or more than 1,024, fewer than went, or more would be left than there are.
 ///
 /// ```
-/// use boltraven::{retire_column, Retired};
+/// use boltraven::{retire_column, Retiring};
 ///
 /// let mut published = vec![0, 0, 1, 1];
-/// retire_column(&mut published, Retired::Nothing)?;
-/// retire_column(&mut published, Retired::Went { gone: 2, slots: 3, units: 2 })?;
+/// retire_column(&mut published, Retiring::Nothing)?;
+/// retire_column(&mut published, Retiring::Retired { gone: 2, slots: 3, units: 2 })?;
 /// assert_eq!(published, [1, 1, 255]);
 /// # Ok::<(), boltraven::Refusal>(())
 /// ```
-pub fn retire_column(published: &mut Vec<u8>, retired: Retired) -> Result<(), Refusal> {
-    let Retired::Went { gone, slots, .. } = retired else {
+pub fn retire_column(published: &mut Vec<u8>, retired: Retiring) -> Result<(), Refusal> {
+    let Retiring::Retired { gone, slots, .. } = retired else {
         return Ok(());
     };
     let before = published.len();

@@ -3,7 +3,7 @@
 use boltraven::lent::SLOTS_MOST;
 use boltraven::{
     retire_column, Answer, Assignment, Availability, Boundary, Draw, Edition, Fairness, Fault, Job, Person, Problem, Range, Refusal,
-    Retired, Run, Settings, Slot, SlotSet, Slots, Weekday,
+    Retiring, Run, Settings, Slot, SlotSet, Slots, Weekday,
 };
 
 const ONE: Person = Person { capacity: 1.0, prior: 0 };
@@ -333,7 +333,7 @@ fn retired_they_are_as_built_from_what_is_left() {
             let slots = 4 + new.len();
             let went = problem.retire(&mut rota, &mut people, &mut retired, &shifts(new.clone()), &ranges);
             let units = problem.unit_count();
-            assert_eq!(went, Ok(Retired::Went { gone: 4, slots, units }));
+            assert_eq!(went, Ok(Retiring::Retired { gone: 4, slots, units }));
             let (held, nobodys) = if settings == weeks { (1920, 0) } else { (960, 960) };
             assert_eq!((people.map(|one| one.prior), retired), ([held, 9], 5 + nobodys));
 
@@ -370,7 +370,7 @@ type Case<'a> = (
     u64,
     &'a [Slot],
     &'a [Range],
-    Result<Retired, Refusal>,
+    Result<Retiring, Refusal>,
 );
 
 #[test]
@@ -389,10 +389,10 @@ fn retiring_is_refused_or_changes_nothing() {
     let full = [Person { prior: 99_999_041, ..ONE }, ONE];
     let endless = [Person { capacity: 1001.0, ..ONE }, ONE];
     let (none, late, many) = (shifts(8..8), shifts(7..9), shifts(8..1029));
-    let refused = |refusal| Err::<Retired, Refusal>(refusal);
+    let refused = |refusal| Err::<Retiring, Refusal>(refusal);
     let cases: [Case; 14] = [
-        (&open, &people, 0, &none, &[], Ok(Retired::Nothing)),
-        (&done, &people, 0, &many[..1020], &[], Ok(Retired::Everything)),
+        (&open, &people, 0, &none, &[], Ok(Retiring::Nothing)),
+        (&done, &people, 0, &many[..1020], &[], Ok(Retiring::Everything)),
         (&given, &people, 0, &many[..1025 - 4], &[], refused(Refusal::TooManySlots)),
         (&given, &people, 0, &vec![many[0]; 1025], &[], refused(Refusal::Count)),
         (&given, &people[..1], 0, &none, &[], refused(Refusal::ShortBuffer)),
@@ -427,7 +427,7 @@ fn retiring_is_refused_or_changes_nothing() {
     let went = problem.retire(&mut rota, &mut figures, &mut 99_999_040, &many[..1020], &[always(1)]);
     assert_eq!(
         went,
-        Ok(Retired::Went {
+        Ok(Retiring::Retired {
             gone: 4,
             slots: 1024,
             units: 512
@@ -438,7 +438,7 @@ fn retiring_is_refused_or_changes_nothing() {
 
 #[test]
 fn a_published_column_follows() {
-    let went = Retired::Went {
+    let went = Retiring::Retired {
         gone: 2,
         slots: 3,
         units: 3,
@@ -449,5 +449,5 @@ fn a_published_column_follows() {
     assert_eq!(column(vec![7, 7, 1, 2, 3, 4], went), Err(Refusal::Count));
     assert_eq!(column(vec![7], went), Err(Refusal::Count));
     assert_eq!(column(vec![7; 1025], went), Err(Refusal::Count));
-    assert_eq!(column(vec![7], Retired::Everything), Ok(vec![7]));
+    assert_eq!(column(vec![7], Retiring::Everything), Ok(vec![7]));
 }
