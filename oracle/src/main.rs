@@ -22,6 +22,7 @@ mod problems;
 mod program;
 mod readers;
 mod recounts;
+mod retiring;
 mod rota_questions;
 mod rotas;
 mod rotations;
@@ -62,7 +63,7 @@ const fn kind(name: &'static str, questions: fn(u64) -> Vec<Question>) -> Kind {
 }
 
 /// Every kind.
-const KINDS: [Kind; 26] = [
+const KINDS: [Kind; 28] = [
     kind("slot-sets", sets::questions),
     kind("slot-sets-damaged", sets::damaged),
     kind("slots", splitting::questions),
@@ -85,6 +86,8 @@ const KINDS: [Kind; 26] = [
     kind("elsewhere-damaged", elsewhere::damaged),
     kind("ways-back", ways::questions),
     kind("ways-back-damaged", ways::damaged),
+    kind("retiring", retiring::questions),
+    kind("retiring-damaged", retiring::damaged),
     kind("jobs", jobs::questions),
     kind("jobs-damaged", jobs::damaged),
     kind("stores", stores::questions),
