@@ -33,6 +33,7 @@ mod splitting;
 mod stored;
 mod stored_elsewhere;
 mod stored_jobs;
+mod stored_retirings;
 mod stored_rotas;
 mod stored_slots;
 mod stored_units;
@@ -174,6 +175,7 @@ fn store(kind: &str, n: u64, seed: u64, folder: &Path) -> ExitCode {
         "columns" => Ok(columns::stored(n, seed)),
         "elsewhere" => Ok(stored_elsewhere::elsewhere(n, seed)),
         "ways-back" => Ok(stored_ways::ways(n, seed)),
+        "retirings" => Ok(stored_retirings::retirings(n, seed)),
         "jobs" => stored_jobs::jobs(n, seed),
         "stores" => Ok(stores::stored(n, seed)),
         _ => Err(format!("no kind {kind}")),

@@ -465,15 +465,16 @@ impl Held {
     fn new_up_to(&self, seed: &mut Seed, room: usize) -> New {
         let kept = self.slots.count - self.going().1;
         let fresh = room - kept;
-        let cuts = (seed.below(4) as usize).max(fresh.saturating_sub(SLOTS_MOST)).min(fresh.saturating_sub(1));
+        // ranges of one person merge into the longest, so each cut needs a person of its own
+        let cuts = (seed.below(4) as usize).min(self.people).max(fresh.saturating_sub(SLOTS_MOST));
+        let cuts = cuts.min(fresh.saturating_sub(1));
         let last = self.slots.ends[self.slots.count - 1];
         let base: Vec<(u32, u32)> = (0..(fresh - cuts) as u32).map(|k| (last + 10 * k, last + 10 * k + 10)).collect();
         let range = |k: usize| Range {
-            person: k % self.people,
+            person: k,
             start: last + 1 + k as u32,
             end: MINUTES_MOST as u32,
         };
-        // one person's ranges merge into the longest, so each cut needs a person of its own
         let ranges: Vec<Range> = (0..cuts).map(range).collect();
         New::of(self.people, &base, &ranges, settings(seed))
     }
@@ -567,7 +568,7 @@ pub fn damaged(case_seed: u64) -> Vec<Question> {
 }
 
 /// One fault more.
-fn damage(seed: &mut Seed, held: &mut Held, new: &mut New) {
+pub fn damage(seed: &mut Seed, held: &mut Held, new: &mut New) {
     let count = held.slots.count.min(SLOTS_MOST);
     let people = held.people.min(32);
     let words = (SET_WORDS * people).saturating_sub(1);
@@ -670,5 +671,93 @@ fn column(seed: &mut Seed, before: usize, gone: usize, count: usize) -> Question
             result: number,
             written: vec![after],
         },
+    }
+}
+
+// ---- small ones, to be stored
+
+/// The example by which document 02's request was read: six slots on six days in units of two, of which the first five are frozen; two new
+/// slots, the first of which touches the last end and is cut by a range.
+pub fn example() -> (Held, New) {
+    let slots: Vec<(u32, u32)> = (0..6).map(|day| (1440 * day + 480, 1440 * day + 960)).collect();
+    let mut held = Held {
+        people: 2,
+        slots: Slots::new(&slots),
+        units: Units {
+            count: 3,
+            unit_starts: vec![0, 2, 4],
+        },
+        avail: vec![0; 2 * SET_WORDS],
+        frozen: vec![0; SET_WORDS],
+        owners: vec![0, 0, NOBODY, NOBODY, 1, 1],
+        sets: vec![0; 2 * SET_WORDS],
+        minutes: vec![960, 960],
+        totals: vec![960, 2],
+        priors: vec![100, 0],
+        retired: vec![7],
+    };
+    held.slots.starts.resize(SLOTS_MOST, 7);
+    held.slots.ends.resize(SLOTS_MOST, 7);
+    held.units.unit_starts.resize(SLOTS_MOST, 7);
+    held.owners.resize(SLOTS_MOST, 7);
+    held.frozen[0] = 31;
+    (held.avail[0], held.avail[SET_WORDS]) = (63, 63);
+    (held.sets[0], held.sets[SET_WORDS]) = (3, 48);
+    let range = |person, start, end| Range { person, start, end };
+    let settings = Settings {
+        lock: 1,
+        value: 2,
+        ..Settings::PLAIN
+    };
+    let ranges = [range(0, 8160, 8400), range(1, 0, 100_000)];
+    (held, New::of(2, &[(8160, 8640), (9600, 10_080)], &ranges, settings))
+}
+
+/// A rota of few slots with what is new, by a seed; none where the seed's are too many.
+pub fn small(seed: &mut Seed, people: usize, slots: usize) -> Option<(Held, New)> {
+    let held = held(seed);
+    if held.people > people || held.slots.count > slots {
+        return None;
+    }
+    let new = held.new_behind(seed);
+    Some((held, new))
+}
+
+#[cfg(test)]
+mod tests {
+    use super::{damaged, questions, EVERYTHING};
+    use crate::limits::{NOTHING, SLOTS_MOST};
+
+    /// Retired, nothing, everything, exactly 1,024 slots then, and 5 and 6: the sound cases reach them.
+    #[test]
+    fn every_outcome_is_reached() {
+        let mut seen = [0u64; 6];
+        for k in 0..400 {
+            let due = &questions(k)[0].due;
+            let told = u64::from_le_bytes(due.written[11][..].try_into().expect("eight bytes"));
+            let is_full = due.result == 0 && told >> 16 & 65_535 == SLOTS_MOST as u64;
+            let kinds = [0, NOTHING, EVERYTHING, 5, 6];
+            for (kind, times) in kinds.iter().zip(&mut seen) {
+                *times += u64::from(due.result == *kind);
+            }
+            seen[5] += u64::from(is_full);
+        }
+        assert!(seen.iter().all(|&times| times > 5), "{seen:?}");
+    }
+
+    /// Every refusal, and every part of the recount.
+    #[test]
+    fn every_refusal_is_reached() {
+        let mut seen = [0u64; 14];
+        for k in 0..3000 {
+            let number = damaged(k)[0].due.result;
+            match number & 255 {
+                10 => seen[(number >> 8 & 255) as usize + 7] += 1,
+                n @ 1..=7 if number < NOTHING => seen[n as usize - 1] += 1,
+                9 => seen[7] += 1,
+                _ => {}
+            }
+        }
+        assert!(seen.iter().all(|&times| times > 5), "{seen:?}");
     }
 }
