@@ -631,7 +631,10 @@ pub fn damage(seed: &mut Seed, held: &mut Held, new: &mut New) {
         19 => match seed.below(4) {
             0 => held.units.count = 0,
             1 => held.units.unit_starts[0] = 1,
-            2 => held.units.unit_starts[held.units.count.max(1) - 1] = count as u16,
+            2 => {
+                let last = held.units.count.clamp(1, held.units.unit_starts.len()) - 1;
+                held.units.unit_starts[last] = count as u16;
+            }
             _ => held.units.count = held.units.unit_starts.len() + seed.below(2) as usize,
         },
         // 10
