@@ -141,7 +141,10 @@ impl Held {
 
     /// Where each unit begins and ends.
     fn bounds(&self) -> Vec<(usize, usize)> {
-        let starts: Vec<usize> = self.units.unit_starts[..self.units.count].iter().map(|&at| usize::from(at)).collect();
+        let starts: Vec<usize> = self.units.unit_starts[..self.units.count]
+            .iter()
+            .map(|&at| usize::from(at))
+            .collect();
         let ends = starts.iter().skip(1).copied().chain([self.slots.count]);
         starts.iter().copied().zip(ends).collect()
     }
@@ -187,7 +190,10 @@ impl Held {
     /// Each person's prior minutes, and the retired total, after the first slots went.
     fn figures_after(&self, gone: usize) -> (Vec<u64>, u64) {
         let prior = |person: usize| u64::from(self.priors[person]) + self.owned(person as u8, gone);
-        ((0..self.people).map(prior).collect(), self.retired[0].saturating_add(self.owned(NOBODY, gone)))
+        (
+            (0..self.people).map(prior).collect(),
+            self.retired[0].saturating_add(self.owned(NOBODY, gone)),
+        )
     }
 
     /// The refusal's number, or 0.

@@ -26,7 +26,9 @@ pub fn retirings(n: u64, run: u64) -> Stored {
     let mut bytes = Vec::new();
     let mut answers = 0;
     records(n, run, "stored-retirings", |seed, made| {
-        let Some((held, new)) = record(seed, made as usize) else { return false };
+        let Some((held, new)) = record(seed, made as usize) else {
+            return false;
+        };
         write(&mut bytes, seed, &held, &new);
         answers += ANSWERS;
         true
@@ -53,7 +55,17 @@ fn record(seed: &mut Seed, made: usize) -> Option<(Held, New)> {
         2 => held.frozen[0] |= 63,
         3 => held.priors[0] = 99_999_040,
         4 => held.priors[0] = 99_999_041,
-        5 => new = New::of(2, &[(8160, 8161)], &[], Settings { value: 2, ..Settings::PLAIN }),
+        5 => {
+            new = New::of(
+                2,
+                &[(8160, 8161)],
+                &[],
+                Settings {
+                    value: 2,
+                    ..Settings::PLAIN
+                },
+            )
+        }
         6 => new.base.starts[0] = 8159,
         7 => held.minutes = vec![0, 0],
         _ => {}
@@ -68,8 +80,10 @@ fn fits(held: &Held, new: &New) -> bool {
     let figures = held.minutes.len() >= held.people && held.totals.len() >= 2 && held.priors.len() >= held.people;
     let sets = held.avail.len() >= 16 * held.people && held.sets.len() >= 16 * held.people && held.frozen.len() >= 16;
     let base = new.base.count <= BASE && new.base.starts.len() == new.base.count && new.base.ends.len() == new.base.count;
-    let ranges = new.ranges.count <= RANGES && [new.ranges.opens.len(), new.ranges.shuts.len(), new.ranges.persons.len()] == [new.ranges.count; 3];
-    let lent = columns && counts && figures && sets && base && ranges && held.units.unit_starts.len() >= SLOTS_MOST && !held.retired.is_empty();
+    let ranges =
+        new.ranges.count <= RANGES && [new.ranges.opens.len(), new.ranges.shuts.len(), new.ranges.persons.len()] == [new.ranges.count; 3];
+    let lent =
+        columns && counts && figures && sets && base && ranges && held.units.unit_starts.len() >= SLOTS_MOST && !held.retired.is_empty();
     lent && match held.due(new) {
         Due::Retired(_, then) => then.slots.count <= SLOTS,
         _ => true,
