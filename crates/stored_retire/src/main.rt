@@ -71,26 +71,7 @@ const PRIORS: usize = 296;
 
 const RETIRED: usize = 312;
 
-// A column of 1,024 u32, u16 or u8; what comes after its sixteen entries in the record is garbage past the slots.
-fn long_times(b: &[u8], at: usize) -> [u32; 1024] {
-    let mut out = [0u32; 1024];
-    quads(b, at, &mut out);
-    out
-}
-
-fn long_begins(b: &[u8], at: usize) -> [u16; 1024] {
-    let mut out = [0u16; 1024];
-    shorts(b, at, &mut out);
-    out
-}
-
-fn long_owners(b: &[u8], at: usize) -> [u8; 1024] {
-    let mut out = [0u8; 1024];
-    raws(b, at, &mut out);
-    out
-}
-
-// Their first sixteen entries.
+// The first sixteen entries of a column.
 fn times(b: &[u8], at: usize) -> [u32; 16] {
     let mut out = [0u32; 16];
     quads(b, at, &mut out);
@@ -304,12 +285,17 @@ fn with_column(t: Tally, b: &[u8]) -> Tally {
     t.with(number == 0 && same_raws(&published, &bytes(b, THEN_AT)))
 }
 
-// Compares a record: the answer, eleven columns, and the published one.
+// Compares a record: the answer, eleven columns, and the published one. What comes after the sixteen entries of a long column is garbage past the
+// slots.
 fn compared(tally: Tally, b: &[u8]) -> Tally {
-    let mut starts = long_times(b, LENT_AT);
-    let mut ends = long_times(b, plus(LENT_AT, ENDS));
-    let mut units = long_begins(b, plus(LENT_AT, BEGINS));
-    let mut owners = long_owners(b, plus(LENT_AT, OWNERS));
+    let mut starts = [0u32; 1024];
+    let mut ends = [0u32; 1024];
+    let mut units = [0u16; 1024];
+    let mut owners = [0u8; 1024];
+    quads(b, LENT_AT, &mut starts);
+    quads(b, plus(LENT_AT, ENDS), &mut ends);
+    shorts(b, plus(LENT_AT, BEGINS), &mut units);
+    raws(b, plus(LENT_AT, OWNERS), &mut owners);
     let mut avail = sets(b, plus(LENT_AT, AVAIL));
     let mut own = sets(b, plus(LENT_AT, SETS));
     let mut frozen = flags(b, plus(LENT_AT, FROZEN));
