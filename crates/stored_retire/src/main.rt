@@ -38,7 +38,27 @@ const OPENS_AT: usize = 62;
 
 const SHUTS_AT: usize = 86;
 
-const LENT_AT: usize = 110;
+const LENT_STARTS_AT: usize = 110;
+
+const LENT_ENDS_AT: usize = 174;
+
+const LENT_BEGINS_AT: usize = 238;
+
+const LENT_OWNERS_AT: usize = 270;
+
+const LENT_AVAIL_AT: usize = 286;
+
+const LENT_SETS_AT: usize = 318;
+
+const LENT_FROZEN_AT: usize = 350;
+
+const LENT_MINUTES_AT: usize = 358;
+
+const LENT_TOTALS_AT: usize = 390;
+
+const LENT_PRIORS_AT: usize = 406;
+
+const LENT_RETIRED_AT: usize = 422;
 
 const ANSWER_AT: usize = 430;
 
@@ -50,7 +70,7 @@ const PUBLISHED_AT: usize = 764;
 
 const THEN_AT: usize = 780;
 
-// Where each column begins among all columns.
+// Where each column begins among all columns as they are then.
 const ENDS: usize = 64;
 
 const BEGINS: usize = 128;
@@ -71,7 +91,26 @@ const PRIORS: usize = 296;
 
 const RETIRED: usize = 312;
 
-// The first sixteen entries of a column.
+// A column of 1,024 u32, u16 or u8; what comes after its sixteen entries in the record is garbage past the slots.
+fn long_times(b: &[u8], at: usize) -> [u32; 1024] {
+    let mut out = [0u32; 1024];
+    quads(b, at, &mut out);
+    out
+}
+
+fn long_begins(b: &[u8], at: usize) -> [u16; 1024] {
+    let mut out = [0u16; 1024];
+    shorts(b, at, &mut out);
+    out
+}
+
+fn long_owners(b: &[u8], at: usize) -> [u8; 1024] {
+    let mut out = [0u8; 1024];
+    raws(b, at, &mut out);
+    out
+}
+
+// Their first sixteen entries.
 fn times(b: &[u8], at: usize) -> [u32; 16] {
     let mut out = [0u32; 16];
     quads(b, at, &mut out);
@@ -285,24 +324,19 @@ fn with_column(t: Tally, b: &[u8]) -> Tally {
     t.with(number == 0 && same_raws(&published, &bytes(b, THEN_AT)))
 }
 
-// Compares a record: the answer, eleven columns, and the published one. What comes after the sixteen entries of a long column is garbage past the
-// slots.
+// Compares a record: the answer, eleven columns, and the published one.
 fn compared(tally: Tally, b: &[u8]) -> Tally {
-    let mut starts = [0u32; 1024];
-    let mut ends = [0u32; 1024];
-    let mut units = [0u16; 1024];
-    let mut owners = [0u8; 1024];
-    quads(b, LENT_AT, &mut starts);
-    quads(b, plus(LENT_AT, ENDS), &mut ends);
-    shorts(b, plus(LENT_AT, BEGINS), &mut units);
-    raws(b, plus(LENT_AT, OWNERS), &mut owners);
-    let mut avail = sets(b, plus(LENT_AT, AVAIL));
-    let mut own = sets(b, plus(LENT_AT, SETS));
-    let mut frozen = flags(b, plus(LENT_AT, FROZEN));
-    let mut minutes = four_words(b, plus(LENT_AT, MINUTES));
-    let mut totals = two_words(b, plus(LENT_AT, TOTALS));
-    let mut priors = four(b, plus(LENT_AT, PRIORS));
-    let mut retired = one_word(b, plus(LENT_AT, RETIRED));
+    let mut starts = long_times(b, LENT_STARTS_AT);
+    let mut ends = long_times(b, LENT_ENDS_AT);
+    let mut units = long_begins(b, LENT_BEGINS_AT);
+    let mut owners = long_owners(b, LENT_OWNERS_AT);
+    let mut avail = sets(b, LENT_AVAIL_AT);
+    let mut own = sets(b, LENT_SETS_AT);
+    let mut frozen = flags(b, LENT_FROZEN_AT);
+    let mut minutes = four_words(b, LENT_MINUTES_AT);
+    let mut totals = two_words(b, LENT_TOTALS_AT);
+    let mut priors = four(b, LENT_PRIORS_AT);
+    let mut retired = one_word(b, LENT_RETIRED_AT);
     let answer = asked(
         b,
         &mut starts,
