@@ -267,7 +267,7 @@ impl Held {
         let begins: Vec<u16> = old_units.chain(new_units.iter().map(|&at| at + kept as u16)).collect();
         then.units.count = begins.len();
         then.units.unit_starts[..begins.len()].copy_from_slice(&begins);
-        for slot in 0..count {
+        for (slot, &owner) in owners.iter().enumerate() {
             let was = (slot < kept).then_some(gone + slot);
             put_bit(&mut then.frozen, 0, slot, was.is_some_and(|was| has_bit(&self.frozen, 0, was)));
             for person in 0..self.people {
@@ -277,7 +277,7 @@ impl Held {
                     (None, None) => unreachable!("a slot that is neither old nor new"),
                 };
                 put_bit(&mut then.avail, person, slot, can);
-                put_bit(&mut then.sets, person, slot, usize::from(owners[slot]) == person);
+                put_bit(&mut then.sets, person, slot, usize::from(owner) == person);
             }
         }
         for person in 0..self.people {
@@ -644,10 +644,14 @@ pub fn damage(seed: &mut Seed, held: &mut Held, new: &mut New) {
             _ => held.units.count = held.units.unit_starts.len() + seed.below(2) as usize,
         },
         // 10
-        _ if is_sound && held.owners.len() >= count && held.avail.len() > words && held.sets.len() > words => {
-            if held.minutes.len() >= people && held.totals.len() >= TOTALS {
-                held.spoil(seed);
-            }
+        _ if is_sound
+            && held.owners.len() >= count
+            && held.avail.len() > words
+            && held.sets.len() > words
+            && held.minutes.len() >= people
+            && held.totals.len() >= TOTALS =>
+        {
+            held.spoil(seed);
         }
         _ => {}
     }
