@@ -74,6 +74,7 @@ extern "C" {
 #define BOLTRAVEN_VERSION_TEXT "0.4.0"
 
 #define BOLTRAVEN_NOTHING 65536
+#define BOLTRAVEN_EVERYTHING 131072
 #define BOLTRAVEN_RUN 0
 #define BOLTRAVEN_HOLE 1
 #define BOLTRAVEN_DRAFT 0
@@ -486,6 +487,25 @@ uint64_t boltraven_mend(size_t people, size_t slots, size_t units, const uint32_
                         size_t ends_len, const uint64_t *avail, size_t avail_len, const uint16_t *unit_starts, size_t unit_starts_len,
                         const uint64_t *frozen, size_t frozen_len, uint8_t *owners, size_t owners_len, uint64_t *sets, size_t sets_len,
                         uint64_t *minutes, size_t minutes_len, uint64_t *totals, size_t totals_len, uint64_t *list, size_t list_len);
+
+/* Retires past weeks: the leading units of which every slot is frozen go, and the rest comes to the front. What each person owned of the slots that
+   go is added to their `priors`, what nobody owned to `retired`, one number; `base` new slots, from `froms` up to `tos`, split over the `count`
+   ranges, which are for them alone, come behind with nobody on them and not frozen, in units of their own. Sets, minutes and totals are then those
+   of the slots now held. Starts, ends, unit starts and owners need room for 1,024 entries each. 0, and `told` is how many slots went (bits 0 to
+   15), how many there are (16 to 31) and how many units (32 to 47); BOLTRAVEN_NOTHING where nothing would go, BOLTRAVEN_EVERYTHING where
+   everything would, and then nothing is changed. Else the refusal with its place: 1 to 7, 9, 10. */
+uint64_t boltraven_retire(size_t people, size_t slots, size_t units, size_t base, size_t count, uint8_t fairness, uint8_t lock,
+                          uint8_t boundary, uint8_t edition, uint16_t value, uint16_t days, const uint32_t *froms, size_t froms_len,
+                          const uint32_t *tos, size_t tos_len, const uint16_t *persons, size_t persons_len,
+                          const uint32_t *opens, size_t opens_len, const uint32_t *shuts, size_t shuts_len,
+                          uint32_t *starts, size_t starts_len, uint32_t *ends, size_t ends_len, uint64_t *avail, size_t avail_len,
+                          uint16_t *unit_starts, size_t unit_starts_len, uint64_t *frozen, size_t frozen_len,
+                          uint8_t *owners, size_t owners_len, uint64_t *sets, size_t sets_len, uint64_t *minutes, size_t minutes_len,
+                          uint64_t *totals, size_t totals_len, uint32_t *priors, size_t priors_len, uint64_t *retired, size_t retired_len,
+                          uint64_t *told);
+
+/* A published column after it, by the slots before and the two numbers that retiring told: the rest comes to the front, nobody has the new slots. */
+uint8_t boltraven_retire_column(size_t before, size_t gone, size_t count, uint8_t *column, size_t column_len);
 
 /* ---- A whole job. */
 

@@ -1,7 +1,7 @@
 /* One base slot of two hours and two people: the slots after the split, who can cover which, targets, a rota, one draw played, and the
    listing that a job of the same numbers has. Then what a click on each of a person's slots shows, the list screen of a published and a
    draft column, whether the rota could have come from elsewhere with two caps on a shift, what is uncovered after a slot is cleared and given
-   back, and three refusals, two with their place. */
+   back, three refusals, two with their place, and at last the first hour retired, and a new one behind. */
 #include <inttypes.h>
 #include <stdio.h>
 #include <stdlib.h>
@@ -131,6 +131,26 @@ static void judge(uint32_t cap) {
     }
 }
 
+/* The sets worked out anew; then the first hour is past: it goes to its owner's prior minutes, and an hour comes for which person 1 is there. */
+static void roll(void) {
+    const uint32_t froms[] = {120}, tos[] = {180}, opens[] = {120}, shuts[] = {180};
+    const uint16_t persons[] = {1};
+    uint32_t priors[PEOPLE] = {0, 0};
+    uint64_t retired = 0, told;
+    done("from_slots", boltraven_from_slots(PEOPLE, slots, starts, SLOTS, ends, SLOTS, avail, WORDS, owners, SLOTS, sets, WORDS, minutes,
+                                            PEOPLE, totals, BOLTRAVEN_TOTALS));
+    answer("freeze_before", boltraven_freeze_before(slots, starts, SLOTS, ends, SLOTS, frozen, BOLTRAVEN_SET_WORDS, 60));
+    /* BOLTRAVEN_NOTHING and BOLTRAVEN_EVERYTHING don't come here: the first of two units is frozen */
+    done("retire", boltraven_retire(PEOPLE, slots, units, 1, 1, 0, 0, 0, 0, 1, 1, froms, 1, tos, 1, persons, 1, opens, 1, shuts, 1, starts,
+                                    SLOTS, ends, SLOTS, avail, WORDS, unit_starts, SLOTS, frozen, BOLTRAVEN_SET_WORDS, owners, SLOTS, sets,
+                                    WORDS, minutes, PEOPLE, totals, BOLTRAVEN_TOTALS, priors, PEOPLE, &retired, 1, &told));
+    slots = told >> 16 & 65535;
+    units = told >> 32;
+    printf("retired %d, now %zu in %zu units\n", (int)(told & 65535), slots, units);
+    for (size_t k = 0; k < slots; k++) printf("S %zu %" PRIu32 " %" PRIu32 " %d\n", k, starts[k], ends[k], owners[k]);
+    printf("priors %" PRIu32 " %" PRIu32 ", of nobody %" PRIu64 "\n", priors[0], priors[1], retired);
+}
+
 int main(void) {
     if (boltraven_version() != BOLTRAVEN_VERSION) {
         fprintf(stderr, "the library is not of this header's version, %s\n", BOLTRAVEN_VERSION_TEXT);
@@ -149,5 +169,6 @@ int main(void) {
     refuse();
     sets[BOLTRAVEN_SET_WORDS] &= ~(uint64_t)2;
     refuse();
+    roll();
     return 0;
 }

@@ -18,6 +18,7 @@ enum {
     SET = BOLTRAVEN_SET_WORDS,
     WORDS = PEOPLE * SET,
     BASES = 992,
+    NEW = 495,
     STORE = 128 * 12,
     REPAIRS = 5 * (SLOTS + WORDS + PEOPLE + BOLTRAVEN_TOTALS),
     LENT_STACK = 4 << 20,
@@ -32,6 +33,9 @@ struct room {
     uint32_t priors[PEOPLE], masks[SLOTS];
     uint64_t avail[WORDS], sets[WORDS], frozen[SET], minutes[PEOPLE], runs[PEOPLE], totals[BOLTRAVEN_TOTALS], first, last, next, slots, units;
     uint64_t repairs[REPAIRS];
+    /* what comes where weeks are retired */
+    uint32_t new_starts[NEW], new_ends[NEW], new_opens[RANGES], new_shuts[RANGES];
+    uint64_t retired;
     int64_t targets[PEOPLE];
     double capacities[PEOPLE];
     struct boltraven_draw structs[DRAWS];
@@ -179,6 +183,15 @@ CALL(mend) {
     return boltraven_mend(PEOPLE, r->slots, r->units, r->starts, SLOTS, r->ends, SLOTS, r->avail, WORDS, r->unit_starts, SLOTS, r->frozen, SET,
                           r->owners, SLOTS, r->sets, WORDS, r->minutes, PEOPLE, r->totals, BOLTRAVEN_TOTALS, r->repairs, REPAIRS);
 }
+/* the first half is frozen, and its 509 slots in whole weeks go; what comes, split as before, fills the room to the last slot */
+CALL(retire) {
+    for (size_t k = 0; k < 8; k++) r->frozen[k] = UINT64_MAX;
+    return boltraven_retire(PEOPLE, r->slots, r->units, NEW, RANGES, 0, 1, 1, 1, 1, 7, r->new_starts, NEW, r->new_ends, NEW, r->persons,
+                            RANGES, r->new_opens, RANGES, r->new_shuts, RANGES, r->starts, SLOTS, r->ends, SLOTS, r->avail, WORDS,
+                            r->unit_starts, SLOTS, r->frozen, SET, r->owners, SLOTS, r->sets, WORDS, r->minutes, PEOPLE, r->totals,
+                            BOLTRAVEN_TOTALS, r->priors, PEOPLE, &r->retired, 1, &r->first);
+}
+CALL(retire_column) { return boltraven_retire_column(r->slots, 509, SLOTS, r->owners, SLOTS); }
 CALL(run_job) { return boltraven_run_job(r->file, r->file_len, r->listing, BOLTRAVEN_LISTING_MOST, &r->first); }
 
 /* Each by its name. None may be refused, since the deepest way goes through the work: `most` is the largest answer that is no refusal. */
@@ -199,7 +212,7 @@ static const struct {
     DONE(minutes_per_day), DONE(target_run), DONE(achievable_run), DONE(achievable_runs), DONE(compute_targets), DONE(empty), DONE(from_slots),
     DONE(assign),
     NUMBER(owner_of_slot), DONE(minutes_of), NUMBER(unassigned_count), DONE(uncovered_minutes), DONE(recount), DONE(recount_slots),
-    DONE(may_be_used), DONE(play), DONE(play_draws), DONE(way_back), NUMBER(mend), NUMBER(stretch), DONE(publish), DONE(show), DONE(run_job), NUMBER(count_settings),
+    DONE(may_be_used), DONE(play), DONE(play_draws), DONE(way_back), NUMBER(mend), DONE(retire), DONE(retire_column), NUMBER(stretch), DONE(publish), DONE(show), DONE(run_job), NUMBER(count_settings),
     DONE(save_settings), DONE(ask_settings)};
 
 enum { CALLS = sizeof calls / sizeof calls[0] };
@@ -252,6 +265,11 @@ static void make(void) {
         made.persons[k] = k % PEOPLE;
         made.opens[k] = 1440 * 32 * (k / PEOPLE);
         made.shuts[k] = made.opens[k] + 1440 * 31 + 30;
+    }
+    for (uint32_t k = 0; k < NEW; k++) made.new_starts[k] = 1440 * (BASES + k), made.new_ends[k] = made.new_starts[k] + 60;
+    for (uint32_t k = 0; k < RANGES; k++) {
+        made.new_opens[k] = made.opens[k] + 1440 * BASES;
+        made.new_shuts[k] = made.shuts[k] + 1440 * BASES;
     }
     for (size_t p = 0; p < PEOPLE; p++) made.capacities[p] = 0.5 + 0.1 * p, made.priors[p] = 100 * p;
     struct room *r = &made;

@@ -112,6 +112,11 @@ exports! {
         number, number, number, slice, slice, slice, slice, slice, slice, slice, slice, slice, slice, slice, slice, slice, out
     );
     number mend(number, number, number, slice, slice, slice, slice, slice, slice, slice, slice, slice, slice);
+    retired retire(
+        number, number, number, number, number, number, number, number, number, number, number, slice, slice, slice, slice, slice, slice, slice,
+        slice, slice, slice, slice, slice, slice, slice, slice, slice, out
+    );
+    done retire_column(number, number, number, slice);
     done empty(number, number, slice, slice, slice, slice, slice, slice);
     done recount(number, number, number, slice, slice, slice, slice, slice, slice, slice, slice);
     done recount_slots(number, number, slice, slice, slice, slice, slice, slice, slice);
@@ -176,6 +181,14 @@ fn judged(answer: Result<Option<Rule>, Refusal>) -> u64 {
 
 fn led(answer: Result<bool, Refusal>) -> u64 {
     answer.map_or_else(number_of, |is_way| if is_way { 0 } else { NOTHING })
+}
+
+fn retired(answer: Result<lent::Retiring, Refusal>) -> u64 {
+    answer.map_or_else(number_of, |retiring| match retiring {
+        lent::Retiring::Retired => 0,
+        lent::Retiring::Nothing => NOTHING,
+        lent::Retiring::Everything => 2 * NOTHING,
+    })
 }
 
 fn plain(answer: u32) -> u64 {

@@ -23,6 +23,7 @@ mod problems;
 mod program;
 mod readers;
 mod recounts;
+mod retiring;
 mod rota_questions;
 mod rotas;
 mod rotations;
@@ -34,6 +35,7 @@ mod stored;
 mod stored_elsewhere;
 mod stored_jobs;
 mod stored_mending;
+mod stored_retirings;
 mod stored_rotas;
 mod stored_slots;
 mod stored_units;
@@ -64,7 +66,7 @@ const fn kind(name: &'static str, questions: fn(u64) -> Vec<Question>) -> Kind {
 }
 
 /// Every kind.
-const KINDS: [Kind; 28] = [
+const KINDS: [Kind; 30] = [
     kind("slot-sets", sets::questions),
     kind("slot-sets-damaged", sets::damaged),
     kind("slots", splitting::questions),
@@ -89,6 +91,8 @@ const KINDS: [Kind; 28] = [
     kind("ways-back-damaged", ways::damaged),
     kind("mending", mending::questions),
     kind("mending-damaged", mending::damaged),
+    kind("retiring", retiring::questions),
+    kind("retiring-damaged", retiring::damaged),
     kind("jobs", jobs::questions),
     kind("jobs-damaged", jobs::damaged),
     kind("stores", stores::questions),
@@ -176,6 +180,7 @@ fn store(kind: &str, n: u64, seed: u64, folder: &Path) -> ExitCode {
         "elsewhere" => Ok(stored_elsewhere::elsewhere(n, seed)),
         "ways-back" => Ok(stored_ways::ways(n, seed)),
         "mending" => Ok(stored_mending::mending(n, seed)),
+        "retirings" => Ok(stored_retirings::retirings(n, seed)),
         "jobs" => stored_jobs::jobs(n, seed),
         "stores" => Ok(stores::stored(n, seed)),
         _ => Err(format!("no kind {kind}")),

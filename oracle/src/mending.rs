@@ -103,8 +103,8 @@ impl Found {
         let minutes = |slot: usize| u64::from(self.slots.ends[slot] - self.slots.starts[slot]);
         let of = |owner: usize| owners.iter().enumerate().filter(move |(_, &is)| usize::from(is) == owner);
         for person in 0..self.people {
-            for slot in 0..owners.len() {
-                put_bit(&mut new.sets, person, slot, usize::from(owners[slot]) == person);
+            for (slot, &owner) in owners.iter().enumerate() {
+                put_bit(&mut new.sets, person, slot, usize::from(owner) == person);
             }
             new.minutes[person] = of(person).map(|(slot, _)| minutes(slot)).sum();
         }

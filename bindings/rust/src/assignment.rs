@@ -75,10 +75,10 @@ pub enum WayBack {
 /// ```
 #[derive(Debug, Clone, PartialEq, Eq, Hash)]
 pub struct Assignment {
-    owners: Vec<u8>,
-    sets: Vec<u64>,
-    minutes: Vec<u64>,
-    totals: [u64; TOTALS],
+    pub(crate) owners: Vec<u8>,
+    pub(crate) sets: Vec<u64>,
+    pub(crate) minutes: Vec<u64>,
+    pub(crate) totals: [u64; TOTALS],
 }
 
 /// An owner as the library takes it. A person whose number doesn't fit is as unknown as the last number that does.

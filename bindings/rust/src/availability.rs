@@ -54,6 +54,11 @@ impl Availability {
         })
     }
 
+    /// With these words, which the library wrote.
+    pub(crate) fn of_words(people: usize, slots: usize, words: Vec<u64>) -> Self {
+        Self { people, slots, words }
+    }
+
     /// How many people there are.
     pub fn people(&self) -> usize {
         self.people

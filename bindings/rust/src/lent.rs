@@ -199,6 +199,43 @@
 //! # Ok::<(), Refusal>(())
 //! ```
 //!
+//! Past weeks retired: six shifts, two a unit, of which five are frozen, so that four go; two new base slots, the first split, come behind.
+//!
+//! ```
+//! use boltraven::{lent, Refusal};
+//!
+//! let (mut starts, mut ends, mut unit_starts) = ([0; lent::SLOTS_MOST], [0; lent::SLOTS_MOST], [0; lent::SLOTS_MOST]);
+//! for day in 0..6 {
+//!     (starts[day], ends[day]) = (1440 * day as u32 + 480, 1440 * day as u32 + 960);
+//! }
+//! (unit_starts[1], unit_starts[2]) = (2, 4);
+//! let (mut avail, mut frozen, mut owners) = ([0; 32], [0; 16], [lent::NOBODY; lent::SLOTS_MOST]);
+//! (avail[0], avail[16], frozen[0]) = (0b11_1111, 0b11_1111, 0b1_1111);
+//! owners[..6].copy_from_slice(&[0, 0, 255, 255, 1, 1]);
+//! let (mut sets, mut minutes, mut totals) = ([0; 32], [0; 2], [0; lent::TOTALS]);
+//! lent::from_slots(2, 6, &starts, &ends, &avail, &owners, &mut sets, &mut minutes, &mut totals)?;
+//!
+//! let (mut priors, mut retired, mut told) = ([100, 0], [7], 0);
+//! let mut retire = |frozen: &mut [u64], priors: &mut [u32]| {
+//!     lent::retire(
+//!         2, 6, 3, 2, 2, 0, 1, 0, 0, 2, 1, &[8160, 9600], &[8640, 10080], &[0, 1], &[8160, 0], &[8400, 100_000], &mut starts, &mut ends,
+//!         &mut avail, &mut unit_starts, frozen, &mut owners, &mut sets, &mut minutes, &mut totals, priors, &mut retired, &mut told
+//!     )
+//! };
+//! assert_eq!(retire(&mut [0b11_1110; 16], &mut priors)?, lent::Retiring::Nothing);
+//! assert_eq!(retire(&mut [0b11_1111; 16], &mut priors)?, lent::Retiring::Everything);
+//! assert_eq!(retire(&mut frozen, &mut [99_999_041, 0]), Err(Refusal::Figures));
+//! assert_eq!(retire(&mut frozen, &mut priors)?, lent::Retiring::Retired);
+//! assert_eq!((told & 65_535, told >> 16 & 65_535, told >> 32), (4, 5, 3));
+//! assert_eq!((starts[..5].to_vec(), unit_starts[..3].to_vec()), (vec![6240, 7680, 8160, 8400, 9600], vec![0, 2, 4]));
+//! assert_eq!((owners[..5].to_vec(), minutes, totals, priors, retired), (vec![1, 1, 255, 255, 255], [0, 960], [960, 3], [1060, 0], [967]));
+//!
+//! let mut published = [0, 0, 1, 1, 1, 1];
+//! lent::retire_column(6, 4, 5, &mut published)?;
+//! assert_eq!(published, [1, 1, 255, 255, 255, 1]);
+//! # Ok::<(), Refusal>(())
+//! ```
+//!
 //! A store of settings: an area of bytes, and how many of them are used.
 //!
 //! ```
@@ -268,10 +305,24 @@ pub enum Kept {
     Newer,
 }
 
+/// What retiring comes to: [`retire`] answers it.
+#[derive(Debug, Clone, Copy, PartialEq, Eq, Hash)]
+pub enum Retiring {
+    /// Some units went and some stay; the three counts are written.
+    Retired,
+    /// No unit would go; nothing is changed.
+    Nothing,
+    /// Every unit would go; nothing is changed.
+    Everything,
+}
+
 // ---- answers that came as one number
 
 /// What is answered where there is nothing; a refusal adds its number.
 const NOTHING: u64 = 65_536;
+
+/// What retiring answers where everything would go.
+const EVERYTHING: u64 = 131_072;
 
 /// The refusal of a number that the library gave.
 #[cold]
@@ -377,6 +428,17 @@ fn led(answer: u64) -> Result<bool, Refusal> {
     match answer {
         0 => Ok(true),
         NOTHING => Ok(false),
+        n => Err(refused(n)),
+    }
+}
+
+/// What retiring came to; or a refusal with its place.
+#[inline]
+fn retiring(answer: u64) -> Result<Retiring, Refusal> {
+    match answer {
+        0 => Ok(Retiring::Retired),
+        NOTHING => Ok(Retiring::Nothing),
+        EVERYTHING => Ok(Retiring::Everything),
         n => Err(refused(n)),
     }
 }
@@ -680,6 +742,20 @@ exports! {
         people: usize, slots: usize, units: usize, starts: &[u32], ends: &[u32], avail: &[u64], unit_starts: &[u16], frozen: &[u64],
         owners: &mut [u8], sets: &mut [u64], minutes: &mut [u64], totals: &mut [u64], list: &mut [u64]
     ) -> Result<usize, Refusal> = number(u64);
+
+    /// Retires past weeks: the leading units of which every slot is frozen go, and the rest comes to the front; what each person owned of them is
+    /// added to their `priors`, what nobody owned to `retired`; `base` new slots, from `froms` up to `tos`, split over the `count` ranges, come
+    /// behind. Retired, and `told` is how many slots went (bits 0 to 15), how many there are (16 to 31) and how many units (32 to 47). Starts, ends,
+    /// unit starts and owners need room for 1,024 entries. Refusals: 1 to 7, 9, 10.
+    pub fn retire(
+        people: usize, slots: usize, units: usize, base: usize, count: usize, fairness: u8, lock: u8, boundary: u8, edition: u8, value: u16,
+        days: u16, froms: &[u32], tos: &[u32], persons: &[u16], opens: &[u32], shuts: &[u32], starts: &mut [u32], ends: &mut [u32],
+        avail: &mut [u64], unit_starts: &mut [u16], frozen: &mut [u64], owners: &mut [u8], sets: &mut [u64], minutes: &mut [u64],
+        totals: &mut [u64], priors: &mut [u32], retired: &mut [u64], told: &mut u64
+    ) -> Result<Retiring, Refusal> = retiring(u64);
+
+    /// A published column after it, by the slots before, how many went and how many there are: nobody has what is new. Refusals: 1, 2.
+    pub fn retire_column(before: usize, gone: usize, count: usize, column: &mut [u8]) -> Result<(), Refusal> = done(u8);
 
     /// Whether owners, units, sets, minutes and totals fit together, as a play asks it first; where not, the first part that fails and its lowest
     /// place. Refusals: 1, 2, 9, 10.

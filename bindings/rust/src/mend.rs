@@ -156,7 +156,7 @@ impl Assignment {
     /// anew. With it come the repairs: none where the rota was right. Refusal 2 (a column shorter than the problem needs).
     ///
     /// ```
-    /// use boltraven::{Assignment, Boundary, Person, Problem, Range, Refusal, Settings, Slot};
+    /// use boltraven::{Assignment, Boundary, Cause, Person, Problem, Range, Refusal, Repair, Repairs, Settings, Slot};
     ///
     /// // Five hours, locked in pairs; person 0 can do all of them, person 1 the third and the fourth. The first slot is frozen.
     /// let base = [0, 60, 120, 180, 240].map(|start| Slot { start, end: start + 60 });
@@ -172,6 +172,8 @@ impl Assignment {
     /// let (rota, repairs) = Assignment::mended(&problem, &[7, 0, 1, 1, 1], &sets, &[180, 120], &[0, 0])?;
     /// assert_eq!(rota.owners(), [255, 255, 1, 1, 255]);
     /// assert_eq!(rota.recount(&problem), Ok(()));
+    /// let mut left: Repairs = repairs.clone();
+    /// assert_eq!(left.next(), Some(Repair::Slot { slot: 0, owner: 7, cause: Cause::Unknown, frozen: true }));
     /// let sentences: Vec<String> = repairs.map(|repair| repair.to_string()).collect();
     /// assert_eq!(
     ///     sentences,

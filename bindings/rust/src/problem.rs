@@ -43,14 +43,14 @@ use crate::units::Units;
 /// ```
 #[derive(Debug, Clone, PartialEq, Eq, Hash)]
 pub struct Problem {
-    settings: Settings,
-    slots: Slots,
-    availability: Availability,
-    rotations: Units,
-    units: Units,
-    targets: Vec<i64>,
-    target_run: u64,
-    frozen: SlotSet,
+    pub(crate) settings: Settings,
+    pub(crate) slots: Slots,
+    pub(crate) availability: Availability,
+    pub(crate) rotations: Units,
+    pub(crate) units: Units,
+    pub(crate) targets: Vec<i64>,
+    pub(crate) target_run: u64,
+    pub(crate) frozen: SlotSet,
 }
 
 impl Problem {

@@ -78,6 +78,11 @@ impl SlotSet {
         &mut self.words
     }
 
+    /// Puts other words in its place, of which none has a bit at or past the length.
+    pub(crate) fn set_to(&mut self, words: [u64; SET_WORDS], len: usize) {
+        (self.words, self.len) = (words, len);
+    }
+
     /// Whether a slot is a member; past the length none is.
     pub fn contains(&self, slot: usize) -> bool {
         checked(lent::set_contains(self.len, &self.words, slot))

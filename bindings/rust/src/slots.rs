@@ -92,12 +92,12 @@ pub fn merged_ranges(people: usize, ranges: &[Range]) -> Result<Vec<Range>, Refu
 /// ```
 #[derive(Debug, Clone, PartialEq, Eq, Hash)]
 pub struct Slots {
-    starts: Vec<u32>,
-    ends: Vec<u32>,
+    pub(crate) starts: Vec<u32>,
+    pub(crate) ends: Vec<u32>,
 }
 
 /// Slots as two columns, their starts and their ends.
-fn columns(slots: &[Slot]) -> (Vec<u32>, Vec<u32>) {
+pub(crate) fn columns(slots: &[Slot]) -> (Vec<u32>, Vec<u32>) {
     slots.iter().map(|slot| (slot.start, slot.end)).unzip()
 }
 

@@ -58,6 +58,11 @@ impl Units {
         })
     }
 
+    /// Those with these first slots, which the library wrote.
+    pub(crate) fn of_starts(unit_starts: Vec<u16>, slots: usize) -> Self {
+        Self { unit_starts, slots }
+    }
+
     /// How many there are.
     #[allow(clippy::len_without_is_empty)]
     pub fn len(&self) -> usize {

@@ -2,8 +2,8 @@
 
 use boltraven::lent::SLOTS_MOST;
 use boltraven::{
-    Answer, Assignment, Availability, Boundary, Draw, Edition, Fairness, Fault, Job, Person, Problem, Range, Refusal, Run, Settings, Slot,
-    SlotSet, Slots, Weekday,
+    retire_column, Answer, Assignment, Availability, Boundary, Draw, Edition, Fairness, Fault, Job, Person, Problem, Range, Refusal,
+    Retiring, Run, Settings, Slot, SlotSet, Slots, Weekday,
 };
 
 const ONE: Person = Person { capacity: 1.0, prior: 0 };
@@ -291,4 +291,163 @@ fn text_that_is_no_job_is_named_by_its_line() {
         }]
     );
     assert_eq!((job.people[0].capacity, job.owners), (0.5, vec![(0, None), (1, None)]));
+}
+
+/// A shift of eight hours on each of these days.
+fn shifts(days: std::ops::Range<u32>) -> Vec<Slot> {
+    let shift = |day| Slot {
+        start: day * 1440 + 480,
+        end: day * 1440 + 960,
+    };
+    days.map(shift).collect()
+}
+
+/// Eight days of two people who are always there, the first four frozen, held by person 0 but for days 2 and 3 where they needn't be one unit
+/// with days 0 and 1; the last four by person 1, of which day 6 is frozen too.
+fn eight_days(settings: Settings, people: &[Person; 2]) -> (Problem, Assignment) {
+    let mut problem = Problem::build(settings, &shifts(0..8), people, &[always(0), always(1)]).expect("it is taken");
+    let owner = |slot: usize| match slot {
+        4.. => Some(1),
+        2 | 3 if settings.boundary == Boundary::EverySlots(2) => None,
+        _ => Some(0),
+    };
+    let rota = Assignment::from_slots(&problem, &(0..8).map(owner).collect::<Vec<_>>()).expect("everybody is there");
+    assert_eq!(problem.freeze_before(3 * 1440 + 960), 4);
+    problem.freeze(6).expect("there is such a slot");
+    (problem, rota)
+}
+
+#[test]
+fn retired_they_are_as_built_from_what_is_left() {
+    // Day 4 is a Monday, so that a week begins with it as a pair does.
+    let weeks = Settings {
+        boundary: Boundary::DayOfWeek(Weekday::Monday.into()),
+        ..PAIRS
+    };
+    let ranges = [always(0), always(1)];
+    for settings in [PAIRS, weeks, Settings { lock: false, ..PAIRS }] {
+        for new in [8..8, 8..40] {
+            let mut people = [ONE, Person { capacity: 0.5, prior: 9 }];
+            let mut retired = 5;
+            let (mut problem, mut rota) = eight_days(settings, &people);
+            let slots = 4 + new.len();
+            let went = problem.retire(&mut rota, &mut people, &mut retired, &shifts(new.clone()), &ranges);
+            let units = problem.unit_count();
+            assert_eq!(went, Ok(Retiring::Retired { gone: 4, slots, units }));
+            let (held, nobodys) = if settings == weeks { (1920, 0) } else { (960, 960) };
+            assert_eq!((people.map(|one| one.prior), retired), ([held, 9], 5 + nobodys));
+
+            let mut built = Problem::build(settings, &shifts(4..new.end), &people, &ranges).expect("it is taken");
+            built.freeze(2).expect("there is such a slot");
+            if settings == weeks && !new.is_empty() {
+                // The first new slot, a Friday, begins a unit of its own.
+                assert_eq!((problem.unit_of_slot(4), built.unit_of_slot(4)), (Ok(1), Ok(0)));
+                assert_eq!(problem.rotations(), problem.units());
+                assert_eq!((problem.slots(), problem.targets()), (built.slots(), built.targets()));
+            } else {
+                assert_eq!(problem, built);
+            }
+            let owners: Vec<Option<usize>> = (0..slots).map(|slot| (slot < 4).then_some(1)).collect();
+            assert_eq!(Ok(&rota), Assignment::from_slots(&problem, &owners).as_ref());
+
+            // A play follows.
+            let draw = Draw {
+                draw: 0,
+                first: units as u16 - 1,
+                second: 0,
+            };
+            let is_frozen = problem.is_unit_frozen(units - 1).expect("there is such a unit");
+            let answer = if is_frozen { Answer::NoMove } else { Answer::Acted };
+            assert_eq!((rota.recount(&problem), rota.play(&problem, &[draw])), (Ok(()), Ok(vec![answer])));
+        }
+    }
+}
+
+/// A problem and its rota, the figures of people, the retired total, new base slots and ranges; and what retiring is to come to.
+type Case<'a> = (
+    &'a (Problem, Assignment),
+    &'a [Person],
+    u64,
+    &'a [Slot],
+    &'a [Range],
+    Result<Retiring, Refusal>,
+);
+
+#[test]
+fn retiring_is_refused_or_changes_nothing() {
+    let people = [ONE; 2];
+    let given = eight_days(PAIRS, &people);
+    let mut open = given.clone();
+    open.0 = Problem::build(PAIRS, &shifts(0..8), &people, &[always(0), always(1)]).expect("it is taken");
+    let mut done = given.clone();
+    assert_eq!(done.0.freeze_before(100_000_000), 8);
+    let mut uneven = given.clone();
+    uneven.1.assign(&uneven.0, 5, None).expect("a slot is cleared");
+    let mut shorter = given.clone();
+    let seven = Problem::build(PAIRS, &shifts(0..7), &people, &[]).expect("it is taken");
+    shorter.1 = Assignment::empty(&seven);
+    let full = [Person { prior: 99_999_041, ..ONE }, ONE];
+    let endless = [Person { capacity: 1001.0, ..ONE }, ONE];
+    let (none, late, many) = (shifts(8..8), shifts(7..9), shifts(8..1029));
+    let refused = |refusal| Err::<Retiring, Refusal>(refusal);
+    let cases: [Case; 14] = [
+        (&open, &people, 0, &none, &[], Ok(Retiring::Nothing)),
+        (&done, &people, 0, &many[..1020], &[], Ok(Retiring::Everything)),
+        (&given, &people, 0, &many[..1025 - 4], &[], refused(Refusal::TooManySlots)),
+        (&given, &people, 0, &vec![many[0]; 1025], &[], refused(Refusal::Count)),
+        (&given, &people[..1], 0, &none, &[], refused(Refusal::ShortBuffer)),
+        (&shorter, &people, 0, &none, &[], refused(Refusal::ShortBuffer)),
+        (&given, &people, 0, &late, &[], refused(Refusal::BaseSlot)),
+        (&given, &people, 0, &none, &[always(2)], refused(Refusal::Range)),
+        (&given, &full, 0, &none, &[], refused(Refusal::Figures)),
+        (&given, &people, 100_000_000, &none, &[], refused(Refusal::Figures)),
+        (
+            &uneven,
+            &people,
+            0,
+            &none,
+            &[],
+            refused(Refusal::Recount(Fault::UnevenUnit { unit: 2 })),
+        ),
+        (&given, &endless, 0, &none, &[], refused(Refusal::Figures)),
+        (&uneven, &endless, 0, &none, &[], refused(Refusal::Figures)),
+        (&uneven, &endless, 0, &late, &[], refused(Refusal::BaseSlot)),
+    ];
+    for (given, people, retired, base, ranges, due) in cases {
+        let ((mut problem, mut rota), mut figures, mut total) = (given.clone(), people.to_vec(), retired);
+        assert_eq!(problem.retire(&mut rota, &mut figures, &mut total, base, ranges), due);
+        assert_eq!(
+            (problem, rota, figures, total),
+            (given.0.clone(), given.1.clone(), people.to_vec(), retired)
+        );
+    }
+    // The largest prior and the largest number of slots that pass.
+    let (mut problem, mut rota) = given;
+    let mut figures = [Person { prior: 99_999_040, ..ONE }, ONE, ONE];
+    let went = problem.retire(&mut rota, &mut figures, &mut 99_999_040, &many[..1020], &[always(1)]);
+    assert_eq!(
+        went,
+        Ok(Retiring::Retired {
+            gone: 4,
+            slots: 1024,
+            units: 512
+        })
+    );
+    assert_eq!(figures.map(|one| one.prior), [100_000_000, 0, 0]);
+}
+
+#[test]
+fn a_published_column_follows() {
+    let went = Retiring::Retired {
+        gone: 2,
+        slots: 3,
+        units: 3,
+    };
+    let column = |mut column: Vec<u8>, retired| retire_column(&mut column, retired).map(|()| column);
+    assert_eq!(column(vec![7, 7, 1, 2], went), Ok(vec![1, 2, 255]));
+    assert_eq!(column(vec![7, 7, 1, 2, 3], went), Ok(vec![1, 2, 3]));
+    assert_eq!(column(vec![7, 7, 1, 2, 3, 4], went), Err(Refusal::Count));
+    assert_eq!(column(vec![7], went), Err(Refusal::Count));
+    assert_eq!(column(vec![7; 1025], went), Err(Refusal::Count));
+    assert_eq!(column(vec![7], Retiring::Everything), Ok(vec![7]));
 }

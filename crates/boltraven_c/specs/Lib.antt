@@ -7,3 +7,4 @@ pub mod Rota
 pub mod Store
 pub mod Usable
 pub mod Ways
+pub mod Retiring

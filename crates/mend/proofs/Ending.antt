@@ -182,7 +182,7 @@ module _ (P : Plan) (avail : List ℕ) (units : ℕ) (begins frozen : List ℕ) 
       many-due : howMany (P .people) (P .slots) R new ≡ length due
       many-due =
           sym (many-listed (P .people) (P .slots) (R .owners) (R .derived .sets) (R .derived .minutes) (R .derived .totals) o′ s′ m′ t′
-              frozen)
+          frozen)
           ∙ ap length due-listed
 
       -- and what is written is the outcome

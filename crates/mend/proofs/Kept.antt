@@ -38,7 +38,7 @@ module _ (people : ℕ) (avail o : List ℕ) where
   unfolding mayKeep knownAt
   left-known k =
       by-test (mayKeep people avail o k) _ (λ t. ap (knownBy people) (left-kept k t) ∙ both (knownAt people o k) (availableAt avail o
-          k) t .0)
+      k) t .0)
       (λ f. ap (knownBy people) (left-gone k f) ∙ known-nobody people)
 
   left-available : (k : ℕ) → availableFor avail (leftTo people avail o k) k ≡ true
@@ -126,7 +126,7 @@ module _ (P : Plan) (avail : List ℕ) (units : ℕ) (begins o : List ℕ) where
       pub mended-available : (k : ℕ) → k < P .slots → availableFor avail (getD (mended P avail units begins o) k 0) k ≡ true
       mended-available k h =
           by-slot (λ w. availableFor avail w k ≡ true) k h (left-available (P .people) avail o k) (sym (available-nobody avail nobody k
-              refl))
+          refl))
 
       -- each unit has one owner
       pub mended-even : (u k : ℕ) → u < units → unitStart begins u ≤ k → k < unitEnd (P .slots) units begins u
@@ -175,7 +175,7 @@ module _ (P : Plan) (avail : List ℕ) (units : ℕ) (begins o : List ℕ) where
           = λ i I.
           sym (barred-at (P .people) avail o (P .slots) i (omega (arith, I .to)) room)
           ∙ eqb-true _ _ (in-each s (unitEnd (P .slots) units begins u) (λ x. eqb (getD left x 0) (getD left s 0)) t i (I .from) (I
-              .to)) in
+          .to)) in
           at j J ∙ sym (at k K)
 
       pub keeps-kept : (k : ℕ) → k < P .slots → Keeps P avail units begins o k → getD (mended P avail units begins o) k 0 ≡ getD o k 0

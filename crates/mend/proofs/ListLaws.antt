@@ -72,7 +72,7 @@ repairs-same part flag old new new′ (suc n) f =
     (λ t.
     repairs-in part flag old new n t
     ∙ ap₂ (λ (rs : List Repair) (x : ℕ). rs ++ (record { part = part; place = n; old = getD old n 0; new = x; frozen = flag n } ∷ []))
-        rest e
+    rest e
     ∙ sym (repairs-in part flag old new′ n (sym d ∙ t)))
     (λ u. repairs-out part flag old new n u ∙ rest ∙ sym (repairs-out part flag old new′ n (sym d ∙ u)))
     ∙ ap (λ (k : ℕ). repairsOf part flag k old new′) (add-one n)
@@ -118,8 +118,13 @@ written-one part place old new frozen at list h rs first L =
     let vs : List ℕ = part ∷ place ∷ old ∷ new ∷ frozen ∷ [] in
     let n : 5 * at ≡ length (numbers rs) = omega (arith, numbers-length rs, L .number) in
     let room : 5 * at + 5 ≤ length first
-    = omega (arith, ap length (L .written), length-append (numbers rs) (drop (length (numbers rs)) first), length-drop (length (numbers
-        rs)) first) in
+    = omega (
+      arith,
+      ap length (L .written),
+      length-append (numbers rs) (drop (length (numbers rs)) first),
+      length-drop (length (numbers
+          rs)) first,
+    ) in
     record {
       number = omega (arith, L .number, length-append rs (r ∷ []));
       written =

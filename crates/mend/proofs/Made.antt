@@ -157,10 +157,10 @@ module _ (P : Plan) (avail : List ℕ) (units : ℕ) (begins o s : List ℕ) (M 
       passes =
           let known = each-all (P .slots) (knownAt (P .people) o₃)
           (λ k h. ap (λ (l : List ℕ). knownAt (P .people) l k) steps ∙ mended-known P avail units begins o₁ (M .units-ok) first-room k
-              h) in
+          h) in
           let able = each-all (P .slots) (availableAt avail o₃)
           (λ k h. ap (λ (l : List ℕ). availableAt avail l k) steps ∙ mended-available P avail units begins o₁ (M .units-ok) first-room
-              k h) in
+          k h) in
           all-pass (fromSlotsRow P avail o₃ before) (
             M .people,
             (

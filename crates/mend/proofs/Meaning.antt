@@ -139,7 +139,7 @@ module _ (P : Plan) (avail : List ℕ) (units : ℕ) (begins frozen : List ℕ) 
         mended-none P avail units begins (R .owners) (C .known) (C .available)
         (λ u h.
         each-in (unitStart begins u) (unitEnd (P .slots) units begins u) (λ k. eqb (getD (R .owners) k 0) (getD (R .owners) (unitStart
-            begins u) 0))
+        begins u) 0))
         (λ k a b. eq-eqb _ _ (C .even u k h a b)))
 
     derived-stays : R .derived ≡ afresh P (R .owners) (R .derived)

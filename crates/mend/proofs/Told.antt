@@ -102,8 +102,15 @@ module _ (people slots : ℕ) (frozen : List ℕ) (found new : Rota) where
   says : (p : ℕ) → p < 4 → Each (Says people slots frozen found new) (in′ p)
   says p h =
       each-of p (flagOf frozen p) (column found p) (column new p) (Says people slots frozen found new) (entries people slots p)
-      (λ k g t. record { part = h; place = g; old = refl; new = refl; differ = differ-other (column found p) (column new p) k t; frozen
-          = refl })
+      (λ k g t. record {
+        part = h;
+        place = g;
+        old = refl;
+        new = refl;
+        differ = differ-other (column found p) (column new p) k t;
+        frozen
+            = refl;
+      })
 
   crosses : (p q : ℕ) → p < q → Each (λ r. Each (Before r) (in′ q)) (in′ p)
   crosses p q h =
@@ -134,7 +141,7 @@ module _ (people slots : ℕ) (frozen : List ℕ) (found new : Rota) where
         only =
             each-append S (in′ 0) most (says 0 (omega arith))
             (each-append S (in′ 1) last (says 1 (omega arith)) (each-append S (in′ 2) (in′ 3) (says 2 (omega arith)) (says 3 (omega
-                arith))));
+            arith))));
         every = each-part;
         rises =
             rises-append (in′ 0) most (rising 0) later

@@ -72,6 +72,10 @@ unfoldable pub writeOut : ℕ → ℕ → List ℕ → Rota → Rota → List �
 writeOut people slots frozen found new l =
     let n = howMany people slots found new in
     cond (leb (5 * n) (length l))
-    (record { answer = number.Is n; rota = takenOver people slots found new; list = onto (numbers (repairs people slots frozen found
-        new)) l })
+    (record {
+      answer = number.Is n;
+      rota = takenOver people slots found new;
+      list = onto (numbers (repairs people slots frozen found
+          new)) l;
+    })
     (record { answer = number.Refused 2; rota = found; list = l })

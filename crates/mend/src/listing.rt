@@ -165,7 +165,7 @@ pub(crate) fn count_repairs(
     requires { ⌜ (people ≤ 32) × (slots ≤ 1024) ⌝ }
     ensures { λ r. ⌜ r ≡ howMany people slots (rota (now (owners .entry)) (derived (now (sets .entry)) (now (minutes .entry)) (now (totals
         .entry)))) (rota (now («new_owners» .entry)) (derived (now («new_sets» .entry)) (now («new_minutes» .entry)) (now («new_totals»
-            .entry)))) ⌝ }
+        .entry)))) ⌝ }
 {
     count_owners(slots, owners, new_owners)
         + count_words(16 * people, sets, new_sets)
@@ -193,7 +193,7 @@ pub(crate) fn list_repairs(
         (rota (now «new_owners») (derived (now «new_sets») (now «new_minutes») (now «new_totals»))) ≤ length (now list)) ⌝ }
     ensures { λ _. ⌜ now (list .exit) ≡ onto (numbers (repairs people slots (now (frozen .entry)) (rota (now (owners .entry)) (derived (now
         (sets .entry)) (now (minutes .entry)) (now (totals .entry)))) (rota (now («new_owners» .entry)) (derived (now («new_sets»
-            .entry)) (now
+        .entry)) (now
         («new_minutes» .entry)) (now («new_totals» .entry)))))) (now (list .entry)) ⌝ }
 {
     let n = list_owners(slots, frozen, owners, new_owners, 0, list);

@@ -59,7 +59,7 @@ fn work_out(
     requires { ⌜ NewRoom people slots (now «new_owners») (now «new_sets») (now «new_minutes») (now «new_totals») ⌝ }
     ensures { λ _. ⌜ WorkedOut (plan people slots (now (starts .entry)) (now (ends .entry))) (now (avail .entry)) units (now (begins
         .entry)) (now (owners .entry)) (now (sets .entry)) (now («new_owners» .exit)) (now («new_sets» .exit)) (now («new_minutes»
-            .exit)) (now
+        .exit)) (now
         («new_totals» .exit)) ⌝ }
 {
     copy_owners(slots, owners, new_owners);
@@ -98,7 +98,7 @@ fn take_over(
     ensures { λ _. ⌜ rota (now (owners .exit)) (derived (now (sets .exit)) (now (minutes .exit)) (now (totals .exit))) ≡ takenOver
         people slots
         (rota (now (owners .entry)) (derived (now (sets .entry)) (now (minutes .entry)) (now (totals .entry)))) (rota (now
-            («new_owners» .entry))
+        («new_owners» .entry))
         (derived (now («new_sets» .entry)) (now («new_minutes» .entry)) (now («new_totals» .entry)))) ⌝ }
 {
     copy_owners(slots, new_owners, owners);
@@ -128,7 +128,7 @@ fn write_out(
     ensures { λ r. ⌜ Ended (writeOut people slots (now (frozen .entry)) (rota (now (owners .entry)) (derived (now (sets .entry)) (now
         (minutes
         .entry)) (now (totals .entry)))) (rota (now («new_owners» .entry)) (derived (now («new_sets» .entry)) (now («new_minutes»
-            .entry)) (now
+        .entry)) (now
         («new_totals» .entry)))) (now (list .entry))) r (rota (now (owners .exit)) (derived (now (sets .exit)) (now (minutes .exit)) (now
         (totals .exit)))) (now (list .exit)) ⌝ }
 {
@@ -197,9 +197,9 @@ fn mend_found(
         (derived (now sets) (now minutes) (now totals)))) ≡ 0 ⌝ }
     ensures { λ r. ⌜ Ended (mending (plan people slots (now (starts .entry)) (now (ends .entry))) (now (avail .entry)) units (now (begins
         .entry)) (now (frozen .entry)) (rota (now (owners .entry)) (derived (now (sets .entry)) (now (minutes .entry)) (now (totals
-            .entry))))
+        .entry))))
         (now (list .entry))) r (rota (now (owners .exit)) (derived (now (sets .exit)) (now (minutes .exit)) (now (totals .exit)))) (now
-            (list
+        (list
         .exit)) ⌝ }
 {
     let mut new_owners = [0u8; 1024];
@@ -291,9 +291,9 @@ pub fn mend(
 ) -> Number
     ensures { λ r. ⌜ Ended (mending (plan people slots (now (starts .entry)) (now (ends .entry))) (now (avail .entry)) units (now (begins
         .entry)) (now (frozen .entry)) (rota (now (owners .entry)) (derived (now (sets .entry)) (now (minutes .entry)) (now (totals
-            .entry))))
+        .entry))))
         (now (list .entry))) r (rota (now (owners .exit)) (derived (now (sets .exit)) (now (minutes .exit)) (now (totals .exit)))) (now
-            (list
+        (list
         .exit)) ⌝ }
 {
     let n = found_refusal(

@@ -48,3 +48,4 @@ pub mod ReadRefusals
 pub mod Exports
 pub mod Empty
 pub mod Outcomes
+pub mod RetireRule

@@ -58,7 +58,7 @@ first d =
     say-short (d .plan .people) (length (d .found .derived .minutes)) (λ m.
     say-short 2 (length (d .found .derived .totals)) (λ t.
     right-says 9 (d .plan .slots) (d .plan .starts) (d .plan .ends) r (units-right (d .plan .slots) (d .units) (d .begins) q
-        none)))))))))))
+    none)))))))))))
 
 -- ---- the outcome, by the number
 
@@ -119,7 +119,7 @@ module _ (d : Damaged) where
     right : RightRota d (mendedOf d (d .found))
     right =
         rota-by-rule .recount (d .plan) (d .avail) (d .units) (d .begins) (mendedOf d (d .found) .owners) (mendedOf d (d .found)
-            .derived) .0
+        .derived) .0
         (result-recounts (d .plan) (d .avail) (d .units) (d .begins) (d .frozen) (d .found) z)
 
     stays-right : Words d → RightRota d (d .found) → (mendedOf d (d .found) ≡ d .found) × (dueOf d (d .found) ≡ [])

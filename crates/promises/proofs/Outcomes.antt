@@ -34,5 +34,6 @@ one-outcome-fits = record {
   way-back = λ y r s p q.
       four r s (p .said ∙ sym (q .said)) (p .draws ∙ sym (q .draws)) (p .firsts ∙ sym (q .firsts)) (p .seconds ∙ sym (q .seconds));
   mend = λ y r s p q. triple r s (p .said ∙ sym (q .said)) (p .left ∙ sym (q .left)) (p .list ∙ sym (q .list));
+  retire = λ y r s p q. pair r s (p .said ∙ sym (q .said)) (p .left ∙ sym (q .left));
   run-job = λ y r s p q. pair r s (p .said ∙ sym (q .said)) (p .left ∙ sym (q .left));
 }

@@ -42,3 +42,4 @@ pub mod Exports
 pub mod WayBackRule
 pub mod MendRule
 pub mod Empty
+pub mod RetireRule

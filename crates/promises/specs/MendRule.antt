@@ -91,7 +91,7 @@ pub record MendByRule : Type 0 where
   pub accepted : (d : Damaged) → numberOf (lentTests d) ≡ 0
       → let R = mendedOf d (d .found) in
       numberOf (recountRow (mathlib.Core.Bool.true) (leb (d .units) (length (d .begins))) (d .plan) (d .avail) (d .units) (d .begins)
-          (R .owners) (R .derived))
+      (R .owners) (R .derived))
       ≡ 0
   -- a rota that passed is unchanged, and its list is empty; and mending twice changes nothing more
   pub unchanged : (d : Damaged) → numberOf (lentTests d) ≡ 0 → Words d → RightRota d (d .found)

@@ -14,6 +14,8 @@ use Rattle.owners.specs.Derived.{Derived}
 use Rattle.owners.specs.Entries as state
 use Rattle.mend.specs.Repairs.{Rota}
 use Rattle.mend.specs.Answers as mend
+use Rattle.retire.specs.declared.Retiring.{Retiring}
+use Rattle.retire.specs.Outcome as retire
 use Rattle.wayback.specs.declared.Way.{Way}
 use Rattle.wayback.specs.Answers as wayback
 use Rattle.job.specs.declared.JobAnswer.{JobAnswer}
@@ -36,5 +38,7 @@ pub record OneOutcome : Type 1 where
   pub rota : (y : state.Outcome) → Only (λ (r : Refusal × List ℕ × Derived × List ℕ). state.Ended y (r .0) (r .1) (r .2) (r .3))
   pub way-back : (y : wayback.Outcome) → Only (λ (r : Way × List ℕ × List ℕ × List ℕ). wayback.Ended y (r .0) (r .1) (r .2) (r .3))
   pub mend : (y : mend.Outcome) → Only (λ (r : Number × Rota × List ℕ). mend.Ended y (r .0) (r .1) (r .2))
+  -- retiring: what is answered, and all eleven columns
+  pub retire : (y : retire.Outcome) → Only (λ (r : Retiring × retire.Columns). retire.Ended y (r .0) (r .1))
   -- run_job, refusal_line
   pub run-job : (y : job.Result) → Only (λ (r : JobAnswer × List ℕ). job.Ends y (r .0) (r .1))

@@ -41,9 +41,9 @@ loop-again-2 c =
     let at = b .before .before .before .before in
     let a = at .before .before .before in
     let went = uneven-goes _ _ _ _ (a .pre) _ (b .before .before .before .loop-test .taken) _ (at .loop .inv .1) _ (b .before .is-even
-        .ensures)
+    .ensures)
     (b .if1 .left) _ _ _ (c .before .before .before .before .before .start-of .ensures) (c .before .before .before .before .unit-end
-        .ensures)
+    .ensures)
     (c .before .before .fill-owners .ensures) in
     (omega arith, went, ap length went ∙ uneven-length _ _ _ _ _)
 

@@ -16,7 +16,7 @@ returns c =
     let first = drop (a .unit) (a .begins .now) in
     even-alone _ _ _ _ _ _ _ _ (c .before .before .unit-end .ensures)
     (getD-take (length (a .begins .now) - a .unit) first 0 0 (omega arith) ∙ getD-drop (a .unit) (a .begins .now) 0 0 ∙ ap (λ (k : ℕ).
-        getD (a .begins .now) k 0) z) (c .first-uneven .ensures)
+    getD (a .begins .now) k 0) z) (c .first-uneven .ensures)
 
 pub is-even-spec : {M : Type 1} → statement M
 is-even-spec =

@@ -37,25 +37,25 @@ add-done : tie.Need-add-done Inv-loop μ-loop
 add-done c =
     let b = c .before .before .before .before .before .before .before in
     let room = reached-room _ _ _ _ _ _ _ _ _ _ (b .before .before .before .before .loop .inv) (b .before .before .before .loop-test
-        .taken)
+    .taken)
     (differs-yes _ _ _ _ _ (b .before .before .owner-at .ensures) (b .before .owner-at2 .ensures) (b .if1 .left))
     (c .before .before .before .before .before .before .before .before .before .before .before .before .before .before .before .before
-        .pre) in
+    .pre) in
     omega arith
 
 loop-again-2 : tie.Need-loop-again-2 Inv-loop μ-loop
 loop-again-2 c =
     let b = c .before .before .before .before .before .before .before in
     let a = c .before .before .before .before .before .before .before .before .before .before .before .before .before .before .before
-        .before .args in
+    .before .args in
     let was = b .before .before .owner-at .ensures in
     let is = b .before .owner-at2 .ensures in
     reached-in _ _ _ _ _ _ _ _ _ _ (b .before .before .before .before .loop .inv) (b .before .before .before .loop-test .taken)
     (differs-yes _ _ _ _ _ was is (b .if1 .left)) _
     (repair-is 0 (flagOf (a .frozen .now) 0) (a .old .now) (a .new .now) _ _ _ _ (c .before .before .before .before .before .wide
-        .ensures ∙ was) (c .before .before .before .before .wide2 .ensures ∙ is)
+    .ensures ∙ was) (c .before .before .before .before .wide2 .ensures ∙ is)
     (c .before .before .before .flag-of .ensures)) _ (c .before .before .write-repair .kept .1 .0) (c .before .before .write-repair
-        .ensures)
+    .ensures)
 
 same-length : tie.Need-same-length Inv-loop μ-loop
 same-length c = c .before .loop .inv .long

@@ -13,15 +13,15 @@ list-words-requires : tie.Need-list-words-requires
 list-words-requires c κs =
     let a = c .before .before .before .list-owners in
     room-1 _ _ _ _ _ _ _ _ _ _ _ (c .before .before .before .before .before .before .before .before .before .before .before .before
-        .before .before .before .pre .2) _ (a .ensures .number) _ (a .kept .1 .1 .1 .1 .1 .0)
+    .before .before .before .pre .2) _ (a .ensures .number) _ (a .kept .1 .1 .1 .1 .1 .0)
 
 list-words-requires-2 : tie.Need-list-words-requires-2
 list-words-requires-2 c κs =
     let b = c .before .before .before .list-words in
     let a = c .before .before .before .before .before .before .before .list-owners in
     room-2 _ _ _ _ _ _ _ _ _ _ _ (c .before .before .before .before .before .before .before .before .before .before .before .before
-        .before .before .before .before .before .before .before .pre .2) _ (a .ensures .number) _ (b .kept .1 .1 .1 .1 .1 .0 ∙ a .kept
-        .1 .1 .1 .1 .1 .0) _ (b .ensures .number)
+    .before .before .before .before .before .before .before .pre .2) _ (a .ensures .number) _ (b .kept .1 .1 .1 .1 .1 .0 ∙ a .kept
+    .1 .1 .1 .1 .1 .0) _ (b .ensures .number)
 
 list-words-requires-3 : tie.Need-list-words-requires-3
 list-words-requires-3 c κs =
@@ -29,8 +29,8 @@ list-words-requires-3 c κs =
     let b = c .before .before .before .before .before .before .before .list-words in
     let a = c .before .before .before .before .before .before .before .before .before .before .before .list-owners in
     room-3 _ _ _ _ _ _ _ _ _ _ _ (c .before .before .before .before .before .before .before .before .before .before .before .before
-        .before .before .before .before .before .before .before .before .before .before .before .pre .2) _ (a .ensures .number) _ (d
-        .kept .1 .1 .1 .1 .1 .0 ∙ b .kept .1 .1 .1 .1 .1 .0 ∙ a .kept .1 .1 .1 .1 .1 .0) _ (b .ensures .number) _
+    .before .before .before .before .before .before .before .before .before .before .before .pre .2) _ (a .ensures .number) _ (d
+    .kept .1 .1 .1 .1 .1 .0 ∙ b .kept .1 .1 .1 .1 .1 .0 ∙ a .kept .1 .1 .1 .1 .1 .0) _ (b .ensures .number) _
     (d .ensures .number)
 
 returns : tie.Need-returns
@@ -39,7 +39,7 @@ returns c =
     let d = c .before .before .before .before .before .before .list-words2 in
     let b = c .before .before .before .before .before .before .before .before .before .before .list-words in
     let a = c .before .before .before .before .before .before .before .before .before .before .before .before .before .before
-        .list-owners in
+    .list-owners in
     all-listed _ _ _ _ _ _ _ _ _ _ _ _ _ _ _ _ _ _ _ _ (a .ensures) (b .ensures) (d .ensures) (e .ensures)
 
 pub list-repairs-spec : {M : Type 1} → statement M

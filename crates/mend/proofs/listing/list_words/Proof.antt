@@ -36,7 +36,7 @@ add-done : tie.Need-add-done Inv-loop μ-loop
 add-done c =
     let b = c .before .before .before .before in
     let room = reached-room _ _ _ _ _ _ _ _ _ _ (b .before .before .before .before .loop .inv) (b .before .before .before .loop-test
-        .taken)
+    .taken)
     (differs-yes _ _ _ _ _ (b .before .before .word-at .ensures) (b .before .word-at2 .ensures) (b .if1 .left))
     (c .before .before .before .before .before .before .before .before .before .before .before .before .pre) in
     omega arith
@@ -50,7 +50,7 @@ loop-again-2 c =
     reached-in _ _ _ _ _ _ _ _ _ _ (b .before .before .before .before .loop .inv) (b .before .before .before .loop-test .taken)
     (differs-yes _ _ _ _ _ was is (b .if1 .left)) _
     (repair-is (a .part) (λ _. 0) (a .old .now) (a .new .now) _ _ _ _ was is refl) _ (c .before .before .write-repair .kept .1 .0) (c
-        .before .before .write-repair .ensures)
+    .before .before .write-repair .ensures)
 
 same-length : tie.Need-same-length Inv-loop μ-loop
 same-length c = c .before .loop .inv .long

@@ -10,7 +10,7 @@ use Rattle.mend.proofs.mending.mend_found.Tie as tie
 work-out-requires : tie.Need-work-out-requires
 work-out-requires c κs =
     let z = c .before .before .before .before .before .before .before .before .before .before .before .before .before .before .before
-        .before .pre in (
+    .before .pre in (
       mendable _ _ _ _ _ _ z,
       local-room _ _ _ _ _ _ z _ _ _ _ (length-replicate {A = ℕ} 1024 0) (length-replicate {A = ℕ} 512 0) (length-replicate {A = ℕ} 32 0)
           (length-replicate {A = ℕ} 2 0),
@@ -19,7 +19,7 @@ work-out-requires c κs =
 write-out-requires : tie.Need-write-out-requires
 write-out-requires c κs =
     let z = c .before .before .before .before .before .before .before .before .before .before .before .before .before .before .before
-        .before .before .before .before .before .before .before .before .before .before .before .before .before .before .before .pre in
+    .before .before .before .before .before .before .before .before .before .before .before .before .before .before .before .pre in
     let w = c .before .before .before .before .before .before .before .before .before .before .before .before .before .work-out in
     let new = local-room _ _ _ _ _ _ z _ _ _ _ (w .kept .1 .1 .1 .1 .1 .1 .1 .1 .1 .0 ∙ length-replicate {A = ℕ} 1024 0)
     (w .kept .1 .1 .1 .1 .1 .1 .1 .1 .1 .1 .0 ∙ length-replicate {A = ℕ} 512 0)
@@ -32,7 +32,7 @@ returns c =
     let w = c .before .before .before .before .before .before .before .before .before .before in
     let o = w .before .before .before .before .before .before .before .before .before .before .before .before .before .before in
     let a = o .before .before .before .before .before .before .before .before .before .before .before .before .before .before .before
-        .before .before in
+    .before .before in
     ended-as _ _ _ _ _ (writes-due _ _ _ _ _ _ (a .pre) _ _ _ _ (o .work-out .ensures) _) (w .write-out .ensures)
 
 pub mend-found-spec : {M : Type 1} → statement M

@@ -13,7 +13,7 @@ returns c =
     let o = b .before .before .before .before in
     let a = o .before .before .before .before .before .before .before .before .before .before .before .before in
     worked-out _ _ _ _ _ _ (a .pre .0) _ _ _ _ (a .pre .1) _ _ _ (o .copy-owners .ensures) (b .clear-barred .ensures) (u .clear-uneven
-        .ensures) _
+    .ensures) _
     (w .copy-words .ensures) _ _ _ _ (f .from-slots .ensures)
 
 pub work-out-spec : {M : Type 1} → statement M

@@ -15,7 +15,7 @@ mul-if1 c =
 take-over-requires : tie.Need-take-over-requires
 take-over-requires c κs =
     let a = c .before .before .before .before .before .before .before .before .before .before .before .before .before .before .before
-        .before .before .before .before .before .before .before .before .before .before .before .before .before in
+    .before .before .before .before .before .before .before .before .before .before .before .before .before in
     (a .pre .0 .0, (a .pre .1 .0, a .pre .1 .1))
 
 returns : tie.Need-returns
