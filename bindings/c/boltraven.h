@@ -10,10 +10,10 @@
 
    Answers. A function that returns uint8_t gives 0, or the number of the refusal, 1 to 13; what it was asked for stands in the lists
    and behind the addresses (`uint64_t *out`), which stay as they were where it refuses. One that returns uint64_t gives what was asked
-   (below 65,536), or BOLTRAVEN_NOTHING, or BOLTRAVEN_NOTHING + n for the refusal n; but the seven that can give 10 (the two recounts, assign,
-   the two plays, way_back, run_job) return 0, or the refusal with its place in one uint64_t, which the macros below take apart; way_back may
-   answer BOLTRAVEN_NOTHING too. A date and a weekday
-   are plain numbers.
+   (below 65,536), or BOLTRAVEN_NOTHING, or BOLTRAVEN_NOTHING + n for the refusal n; but the nine that can give 10 (the two recounts, assign,
+   the two plays, begin_recording, replay_block, way_back, run_job), and read_block, return 0, or the refusal with its place in one uint64_t,
+   which the macros below take apart; read_block, replay_block and way_back may answer BOLTRAVEN_NOTHING too. A date, a weekday and a job's
+   end are plain numbers.
 
    Refusals. Where several apply the lowest number is given, but 13 before all.
       1  A count is outside its limits, or a set is longer than 1,024 slots.
@@ -28,7 +28,7 @@
      10  The recount fails: owners, units, sets, minutes and totals don't fit together.
      11  A slot, unit, person or index is not below its count, or no saved settings have the number.
      12  A person is to get a slot for which they aren't available.
-     13  The job file or the store of settings breaks its layout or is too long.
+     13  The job file, a recording or the store of settings breaks its layout or is too long.
 
    Where the recount fails, by its parts, which are checked in this order over the whole rota. The place is the lowest at fault; of a wrong
    set it is the lowest person, and the second number is that person's lowest slot.
@@ -98,7 +98,7 @@ struct boltraven_draw {
     uint16_t second;
 };
 
-/* What the seven functions that can give 10 answer, taken apart: the refusal's number, 0 for none; of 10 the part of the recount that failed,
+/* What the nine functions that can give 10 answer, taken apart: the refusal's number, 0 for none; of 10 the part of the recount that failed,
    its place, and the second number of part 4. All three are 0 for the other refusals. */
 #define BOLTRAVEN_NUMBER(refusal) ((uint8_t)((refusal) & 255))
 #define BOLTRAVEN_PART(refusal) ((uint8_t)((refusal) >> 8 & 255))
@@ -120,7 +120,7 @@ static inline const char *boltraven_refusal_text(uint8_t number) {
     case 10: return "The recount fails: owners, units, sets, minutes and totals don't fit together.";
     case 11: return "A slot, unit, person or index is not below its count, or no saved settings have the number.";
     case 12: return "A person is to get a slot for which they aren't available.";
-    case 13: return "The job file or the store of settings breaks its layout or is too long.";
+    case 13: return "The job file, a recording or the store of settings breaks its layout or is too long.";
     default: return NULL;
     }
 }
@@ -408,6 +408,42 @@ uint64_t boltraven_play_draws(size_t people, size_t slots, size_t units, size_t 
                               const struct boltraven_draw *draws, size_t draws_len, uint8_t *owners, size_t owners_len,
                               uint64_t *sets, size_t sets_len, uint64_t *minutes, size_t minutes_len,
                               uint64_t *totals, size_t totals_len, uint8_t *answers, size_t answers_len);
+
+/* A recorded block replayed: its draws in three columns beside their recorded answers, played in order, up to and with the first whose answer
+   isn't the recorded one. 0, all agree. BOLTRAVEN_NOTHING, and `place` is the first that differs, from 0: it and the draws before it are
+   played, those after it aren't. Else the refusal with its place: 13 for a recorded answer above 2, then those of a play; the rota is then as
+   it was. The answers need no list: they are the recorded ones, but the one that differs. */
+uint64_t boltraven_replay_block(size_t people, size_t slots, size_t units, size_t count, const uint32_t *starts, size_t starts_len,
+                                const uint32_t *ends, size_t ends_len, const uint64_t *avail, size_t avail_len,
+                                const uint16_t *unit_starts, size_t unit_starts_len, const uint64_t *frozen, size_t frozen_len,
+                                const uint16_t *draws, size_t draws_len, const uint16_t *firsts, size_t firsts_len,
+                                const uint16_t *seconds, size_t seconds_len, const uint16_t *recorded, size_t recorded_len,
+                                uint8_t *owners, size_t owners_len, uint64_t *sets, size_t sets_len,
+                                uint64_t *minutes, size_t minutes_len, uint64_t *totals, size_t totals_len, uint64_t *place);
+
+/* A recording: a job's records, then draws (kind 8) with their recorded answers, a record of kind 9 after each block. How many of its bytes
+   are the job's: all up to the first record of kind 8 or 9. The blocks are what follows. */
+uint64_t boltraven_job_end(const uint8_t *bytes, size_t bytes_len);
+
+/* A recording's job, prepared: all that replay_block goes by, and the targets, each from the front of its list, with the three counts. Starts,
+   ends, unit starts and owners need room for BOLTRAVEN_SLOTS_MOST entries, `avail` and `sets` for BOLTRAVEN_SET_WORDS a person of
+   BOLTRAVEN_PEOPLE_MOST, targets and minutes for BOLTRAVEN_PEOPLE_MOST, whatever the job is; they are written so far, with nothing (nobody in
+   owners) past the job's own. 0, or the refusal with its place, as run_job gives it of the same file: of 10 only 10.3 comes; a draw (kind 7)
+   is 13. */
+uint64_t boltraven_begin_recording(const uint8_t *bytes, size_t bytes_len, uint32_t *starts, size_t starts_len,
+                                   uint32_t *ends, size_t ends_len, uint64_t *avail, size_t avail_len,
+                                   uint16_t *unit_starts, size_t unit_starts_len, uint64_t *frozen, size_t frozen_len,
+                                   int64_t *targets, size_t targets_len, uint8_t *owners, size_t owners_len,
+                                   uint64_t *sets, size_t sets_len, uint64_t *minutes, size_t minutes_len,
+                                   uint64_t *totals, size_t totals_len, uint64_t *people, uint64_t *slots, uint64_t *units);
+
+/* The block at the front of the bytes that follow a job or a block, where `blocks` were read before it: its draws and their recorded answers in
+   four lists, as replay_block takes them. 0, with how many draws it has, and how many bytes, after which the next begins; BOLTRAVEN_NOTHING where
+   no bytes are left. Else the refusal: 13 or 1, by the first faulty record (no draw or close, an answer above 2, the end before a close; the
+   1,025th draw, or anything after 65,535 blocks); 2 where a list has no room for the draws. */
+uint64_t boltraven_read_block(const uint8_t *bytes, size_t bytes_len, size_t blocks, uint16_t *draws, size_t draws_len,
+                              uint16_t *firsts, size_t firsts_len, uint16_t *seconds, size_t seconds_len,
+                              uint16_t *recorded, size_t recorded_len, uint64_t *count, uint64_t *next);
 
 /* ---- Published and draft: two owner columns of one length over the same slots. A slot is read as published where it is frozen, as in the
    draft where not; draws are played on the draft alone. */

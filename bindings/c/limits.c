@@ -20,6 +20,7 @@ enum {
     BASES = 992,
     NEW = 495,
     STORE = 128 * 12,
+    BLOCK = 12 * DRAWS + 4,
     REPAIRS = 5 * (SLOTS + WORDS + PEOPLE + BOLTRAVEN_TOTALS),
     LENT_STACK = 4 << 20,
     THREAD_STACK = 512 << 10,
@@ -39,13 +40,15 @@ struct room {
     int64_t targets[PEOPLE];
     double capacities[PEOPLE];
     struct boltraven_draw structs[DRAWS];
-    uint16_t persons[RANGES], whose[RANGES], unit_starts[SLOTS], draws[DRAWS], firsts[DRAWS], seconds[DRAWS];
+    uint16_t persons[RANGES], whose[RANGES], unit_starts[SLOTS], draws[DRAWS], firsts[DRAWS], seconds[DRAWS], recorded[DRAWS];
     uint16_t counts[PEOPLE], run_firsts[PEOPLE * SLOTS], run_lasts[PEOPLE * SLOTS];
     uint8_t owners[SLOTS], list[PEOPLE], answers[DRAWS], file[BOLTRAVEN_FILE_MOST], listing[BOLTRAVEN_LISTING_MOST];
     /* a store of settings with one record less than it may have */
     uint8_t store[STORE], figures[4];
     uint16_t words[2];
-    size_t file_len;
+    /* the file without its draws, and these as a recorded block */
+    uint8_t recording[BOLTRAVEN_FILE_MOST + BLOCK];
+    size_t file_len, job_len;
 };
 
 /* ---- a call of each: weeks held whole, person 31, the last slot or unit */
@@ -163,6 +166,21 @@ CALL(play_draws) {
                                 r->frozen, SET, r->structs, DRAWS, r->owners, SLOTS, r->sets, WORDS, r->minutes, PEOPLE, r->totals,
                                 BOLTRAVEN_TOTALS, r->answers, DRAWS);
 }
+CALL(replay_block) {
+    return boltraven_replay_block(PEOPLE, r->slots, r->units, DRAWS, r->starts, SLOTS, r->ends, SLOTS, r->avail, WORDS, r->unit_starts, SLOTS,
+                                  r->frozen, SET, r->draws, DRAWS, r->firsts, DRAWS, r->seconds, DRAWS, r->recorded, DRAWS, r->owners, SLOTS,
+                                  r->sets, WORDS, r->minutes, PEOPLE, r->totals, BOLTRAVEN_TOTALS, &r->first);
+}
+CALL(job_end) { return boltraven_job_end(r->recording, r->job_len + BLOCK); }
+CALL(begin_recording) {
+    return boltraven_begin_recording(r->recording, r->job_len, r->starts, SLOTS, r->ends, SLOTS, r->avail, WORDS, r->unit_starts, SLOTS,
+                                     r->frozen, SET, r->targets, PEOPLE, r->owners, SLOTS, r->sets, WORDS, r->minutes, PEOPLE, r->totals,
+                                     BOLTRAVEN_TOTALS, &r->first, &r->last, &r->next);
+}
+CALL(read_block) {
+    return boltraven_read_block(r->recording + r->job_len, BLOCK, 0, r->draws, DRAWS, r->firsts, DRAWS, r->seconds, DRAWS, r->recorded, DRAWS,
+                                &r->first, &r->last);
+}
 CALL(stretch) { return boltraven_stretch(r->slots, r->answers, DRAWS, r->owners, SLOTS, r->frozen, SET, 0, &r->first); }
 CALL(publish) { return boltraven_publish(r->slots, r->owners, SLOTS, r->frozen, SET, r->answers, DRAWS); }
 CALL(show) {
@@ -212,7 +230,8 @@ static const struct {
     DONE(minutes_per_day), DONE(target_run), DONE(achievable_run), DONE(achievable_runs), DONE(compute_targets), DONE(empty), DONE(from_slots),
     DONE(assign),
     NUMBER(owner_of_slot), DONE(minutes_of), NUMBER(unassigned_count), DONE(uncovered_minutes), DONE(recount), DONE(recount_slots),
-    DONE(may_be_used), DONE(play), DONE(play_draws), DONE(way_back), NUMBER(mend), DONE(retire), DONE(retire_column), NUMBER(stretch), DONE(publish), DONE(show), DONE(run_job), NUMBER(count_settings),
+    DONE(may_be_used), DONE(play), DONE(play_draws), DONE(replay_block), NUMBER(job_end), DONE(begin_recording), DONE(read_block), DONE(way_back),
+    NUMBER(mend), DONE(retire), DONE(retire_column), NUMBER(stretch), DONE(publish), DONE(show), DONE(run_job), NUMBER(count_settings),
     DONE(save_settings), DONE(ask_settings)};
 
 enum { CALLS = sizeof calls / sizeof calls[0] };
@@ -256,7 +275,29 @@ static void make_file(void) {
     }
     add(5, &freeze, sizeof freeze);
     for (uint16_t k = 0; k < made.slots; k++) add(6, (uint16_t[]){k, made.owners[k]}, 4);
+    made.job_len = made.file_len;
     for (size_t k = 0; k < DRAWS; k++) add(7, &made.structs[k], 6);
+}
+
+/* The file's job, and a block of all its draws. */
+static void make_recording(void) {
+    memcpy(made.recording, made.file, made.job_len);
+    uint8_t *block = made.recording + made.job_len;
+    for (size_t k = 0; k < DRAWS; k++) {
+        const uint16_t record[6] = {8, 8, made.draws[k], made.firsts[k], made.seconds[k], made.recorded[k]};
+        memcpy(block + 12 * k, record, sizeof record);
+    }
+    memcpy(block + 12 * DRAWS, (uint16_t[]){0, 9}, 4);
+}
+
+/* The answers to the draws, as they are played. */
+static void make_recorded(void) {
+    struct room *played = malloc(sizeof *played);
+    must(played != NULL, "no memory");
+    memcpy(played, &made, sizeof made);
+    must(call_play(played) == 0, "draws are refused");
+    for (size_t k = 0; k < DRAWS; k++) made.recorded[k] = played->answers[k];
+    free(played);
 }
 
 static void make(void) {
@@ -290,7 +331,9 @@ static void make(void) {
         made.draws[k] = k % 100, made.firsts[k] = 7 * k % made.units, made.seconds[k] = k % 3;
         made.structs[k] = (struct boltraven_draw){made.draws[k], made.firsts[k], made.seconds[k]};
     }
+    make_recorded();
     make_file();
+    make_recording();
     for (size_t k = 0; k < 127; k++) {
         must(boltraven_save_settings(made.store, STORE, 12 * k, 0, 1, 1, k % 2, 127, k, &made.first, &made.last) == 0, "settings are refused");
         must(made.first == k + 1 && made.last == 12 * k + 12, "settings are saved under another number");

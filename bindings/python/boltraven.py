@@ -26,7 +26,7 @@ SENTENCES = {
     10: "The recount fails: owners, units, sets, minutes and totals don't fit together.",
     11: "A slot, unit, person or index is not below its count, or no saved settings have the number.",
     12: "A person is to get a slot for which they aren't available.",
-    13: "The job file or the store of settings breaks its layout or is too long.",
+    13: "The job file, a recording or the store of settings breaks its layout or is too long.",
 }
 
 # What a part of the recount, which is refusal 10, says of its place.

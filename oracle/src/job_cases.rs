@@ -209,7 +209,17 @@ impl JobCase {
     pub fn listing(&self) -> String {
         let problem = self.frozen();
         let end = self.play(&problem);
-        let (starts, ends) = slots_of(&problem);
+        let mut text = self.rota_lines(&problem, &end);
+        for (draw, &answer) in end.answers.iter().enumerate() {
+            text.push_str(&format!("D {draw} {}\n", ["A", "N", "C"][usize::from(answer)]));
+        }
+        text.push_str(&format!("U {}\n", end.totals[0]));
+        text
+    }
+
+    /// The lines of slots and people.
+    pub fn rota_lines(&self, problem: &Problem, end: &Played) -> String {
+        let (starts, ends) = slots_of(problem);
         let mut text = String::new();
         for slot in 0..problem.slot_count() {
             let owner = if end.owners[slot] == NOBODY {
@@ -219,18 +229,14 @@ impl JobCase {
             };
             text.push_str(&format!("S {slot} {} {} {owner}\n", starts[slot], ends[slot]));
         }
-        for (person, target) in self.targets(&problem).iter().enumerate() {
+        for (person, target) in self.targets(problem).iter().enumerate() {
             text.push_str(&format!("P {person} {} {target}\n", end.minutes[person]));
         }
-        for (draw, &answer) in end.answers.iter().enumerate() {
-            text.push_str(&format!("D {draw} {}\n", ["A", "N", "C"][usize::from(answer)]));
-        }
-        text.push_str(&format!("U {}\n", end.totals[0]));
         text
     }
 
     /// The targets: the Rust's, or edition 2's over the Rust's rounded ones.
-    fn targets(&self, problem: &Problem) -> Vec<i64> {
+    pub fn targets(&self, problem: &Problem) -> Vec<i64> {
         if self.problem.settings.edition == 0 {
             return problem.targets.clone();
         }

@@ -1,4 +1,4 @@
-//! The form of a job's file: the kinds of its records, a record, and the bytes of several.
+//! The form of a job's file and of a recording: the kinds of their records, a record, and the bytes of several.
 
 pub const SETTINGS: u16 = 1;
 pub const BASE: u16 = 2;
@@ -7,6 +7,8 @@ pub const RANGE: u16 = 4;
 pub const FREEZE: u16 = 5;
 pub const OWNER: u16 = 6;
 pub const DRAW: u16 = 7;
+pub const RECORDED: u16 = 8;
+pub const CLOSE: u16 = 9;
 
 /// A record: its kind and its body.
 pub type Record = (u16, Vec<u8>);

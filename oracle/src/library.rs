@@ -108,6 +108,12 @@ exports! {
         number, number, number, number, slice, slice, slice, slice, slice, slice, slice, slice, slice, slice, slice, slice, slice
     );
     done play_draws(number, number, number, number, slice, slice, slice, slice, slice, slice, slice, slice, slice, slice, slice);
+    led replay_block(
+        number, number, number, number, slice, slice, slice, slice, slice, slice, slice, slice, slice, slice, slice, slice, slice, out
+    );
+    length job_end(slice);
+    done begin_recording(slice, slice, slice, slice, slice, slice, slice, slice, slice, slice, slice, out, out, out);
+    led read_block(slice, number, slice, slice, slice, slice, out, out);
     led way_back(
         number, number, number, slice, slice, slice, slice, slice, slice, slice, slice, slice, slice, slice, slice, slice, out
     );
@@ -189,6 +195,10 @@ fn retired(answer: Result<lent::Retiring, Refusal>) -> u64 {
         lent::Retiring::Nothing => NOTHING,
         lent::Retiring::Everything => 2 * NOTHING,
     })
+}
+
+fn length(answer: usize) -> u64 {
+    answer as u64
 }
 
 fn plain(answer: u32) -> u64 {

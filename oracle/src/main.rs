@@ -17,12 +17,15 @@ mod lent_units;
 mod library;
 mod limits;
 mod mending;
+mod openings;
 mod orders;
 mod planted;
 mod problems;
 mod program;
 mod readers;
+mod recordings;
 mod recounts;
+mod replays;
 mod retiring;
 mod rota_questions;
 mod rotas;
@@ -35,6 +38,7 @@ mod stored;
 mod stored_elsewhere;
 mod stored_jobs;
 mod stored_mending;
+mod stored_recordings;
 mod stored_retirings;
 mod stored_rotas;
 mod stored_slots;
@@ -66,7 +70,7 @@ const fn kind(name: &'static str, questions: fn(u64) -> Vec<Question>) -> Kind {
 }
 
 /// Every kind.
-const KINDS: [Kind; 30] = [
+const KINDS: [Kind; 34] = [
     kind("slot-sets", sets::questions),
     kind("slot-sets-damaged", sets::damaged),
     kind("slots", splitting::questions),
@@ -87,6 +91,10 @@ const KINDS: [Kind; 30] = [
     kind("columns-damaged", columns::damaged),
     kind("elsewhere", elsewhere::questions),
     kind("elsewhere-damaged", elsewhere::damaged),
+    kind("replays", replays::questions),
+    kind("replays-damaged", replays::damaged),
+    kind("openings", openings::questions),
+    kind("openings-damaged", openings::damaged),
     kind("ways-back", ways::questions),
     kind("ways-back-damaged", ways::damaged),
     kind("mending", mending::questions),
@@ -106,7 +114,8 @@ const ENOUGH: u64 = 100;
 const SHOWN: u64 = 20;
 
 const USAGE: &str = "usage: oracle compare N SEED KIND|every | case KIND CASE-SEED | days | long_listing | time N
-       oracle program N SEED COMMAND.. | rules N SEED | store KIND N SEED FOLDER
+       oracle program N SEED COMMAND.. | recordings N SEED COMMAND.. | rules N SEED | store KIND N SEED FOLDER
+       oracle recording BLOCKS FILE limits|paper | shown-of FILE
        oracle limits | listing-of FILE | moves BLOCKS DRAWS SEED FILE
        oracle bench rows | bench SEED [COUNTS] | bench SEED ROW ours|rust TURNS";
 
@@ -138,6 +147,21 @@ fn main() -> ExitCode {
         ["program", n, seed, _, ..] => match (n.parse(), seed.parse()) {
             (Ok(n), Ok(seed)) => ended(program::compare(n, seed, &words[3..])),
             _ => usage(),
+        },
+        ["recordings", n, seed, _, ..] => match (n.parse(), seed.parse()) {
+            (Ok(n), Ok(seed)) => ended(recordings::compare(n, seed, &words[3..])),
+            _ => usage(),
+        },
+        ["recording", blocks, file, of @ ("limits" | "paper")] => match blocks.parse() {
+            Ok(blocks) => ended(recordings::write_long(blocks, file, *of == "paper").map(|()| 0)),
+            Err(_) => usage(),
+        },
+        ["shown-of", file] => match fs::read(file) {
+            Ok(bytes) => write_out(recordings::shown_of(&bytes).as_bytes()),
+            Err(error) => {
+                eprintln!("oracle: {file}: {error}");
+                ExitCode::from(2)
+            }
         },
         ["rules", n, seed] => match (n.parse(), seed.parse()) {
             (Ok(n), Ok(seed)) => compare_rules(n, seed),
@@ -182,6 +206,7 @@ fn store(kind: &str, n: u64, seed: u64, folder: &Path) -> ExitCode {
         "mending" => Ok(stored_mending::mending(n, seed)),
         "retirings" => Ok(stored_retirings::retirings(n, seed)),
         "jobs" => stored_jobs::jobs(n, seed),
+        "recordings" => stored_recordings::recordings(n, seed),
         "stores" => Ok(stores::stored(n, seed)),
         _ => Err(format!("no kind {kind}")),
     };

@@ -38,18 +38,18 @@ pub fn compare(n: u64, run: u64, command: &[String]) -> io::Result<u64> {
     Ok(differing)
 }
 
-fn started(command: &[String], words: &[&Path]) -> Command {
+pub fn started(command: &[String], words: &[&Path]) -> Command {
     let mut program = Command::new(&command[0]);
     program.args(&command[1..]).args(words);
     program
 }
 
 /// The listing or the line of the refusal, nothing else, and status 0.
-fn is_listing(got: &Output, due: &str) -> bool {
+pub fn is_listing(got: &Output, due: &str) -> bool {
     got.status.success() && got.stdout == due.as_bytes() && got.stderr.is_empty()
 }
 
-fn described(got: &Output) -> String {
+pub fn described(got: &Output) -> String {
     let text = String::from_utf8_lossy(&got.stdout);
     let first = text.lines().next().unwrap_or("nothing");
     format!("{}, {} bytes written, first '{first}'", got.status, got.stdout.len())

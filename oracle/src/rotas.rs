@@ -342,7 +342,7 @@ impl LentRota {
     }
 
     /// What a play takes before its draws and its rota.
-    fn board(&self) -> Vec<Arg> {
+    pub fn board(&self) -> Vec<Arg> {
         vec![
             Arg::Number(self.people as u64),
             Arg::Number(self.starts.len() as u64),

@@ -219,7 +219,7 @@ fn spoil(seed: &mut Seed, case: &RotaCase, remembered: &mut [u8]) {
 }
 
 /// A fault of what the rota is lent in: its number.
-fn spoil_lent(seed: &mut Seed, rota: &mut LentRota) -> u64 {
+pub fn spoil_lent(seed: &mut Seed, rota: &mut LentRota) -> u64 {
     let slots = rota.starts.len();
     let slot = seed.below(slots as u64) as usize;
     match seed.below(9) {

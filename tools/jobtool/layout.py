@@ -1,9 +1,9 @@
-"""The job file: records of a body's length (u16), a kind (u16) and the body, all little-endian (docs/REFERENCE.md)."""
+"""The job file and the recording: records of a body's length (u16), a kind (u16) and the body, all little-endian (docs/REFERENCE.md)."""
 import struct
 
 from jobtool.wrong import Wrong
 
-SETTINGS, BASE, PERSON, RANGE, FREEZE, OWNER, DRAW = range(1, 8)
+SETTINGS, BASE, PERSON, RANGE, FREEZE, OWNER, DRAW, RECORDED, CLOSE = range(1, 10)
 NOBODY = 255
 BODY_MOST = 65535
 
@@ -16,6 +16,8 @@ BODIES = {
     FREEZE: struct.Struct("<I"),  # instant
     OWNER: struct.Struct("<HH"),  # slot, owner
     DRAW: struct.Struct("<HHH"),  # draw, first, second
+    RECORDED: struct.Struct("<HHHH"),  # draw, first, second, answer
+    CLOSE: struct.Struct("<"),  # nothing
 }
 
 

@@ -3,13 +3,14 @@ import argparse
 import os
 import sys
 
-from jobtool import VERSION, forms, layout, listing, picture, program, rota, store, text, times
+from jobtool import VERSION, forms, layout, listing, picture, program, refusals, rota, store, text, times
 from jobtool.wrong import Wrong
 
-# A job file has at most 6,144 records, of 8 bytes at least: their text is far shorter than this.
+# A job file has at most 6,144 records, of 8 bytes at least: their text is far shorter than this. A recording's text is limited alike here;
+# boltraven_replay itself reads one of any length.
 INPUT_MOST = 2**20
 
-STATUS = """status: 0 done; 1 the job is refused (its sentence is on standard error); 2 something can't be read or isn't there.
+STATUS = """status: 0 done; 1 the job is refused, or a replay finds a difference (the sentence is on standard error); 2 something can't be read or isn't there.
 A file name of - is standard input. A file whose name begins with - is given as ./-NAME."""
 
 
@@ -23,7 +24,7 @@ def parser():
     top = Parser(prog="job", formatter_class=plain, description="A job as text, as a file, as its listing and as a picture.",
                  epilog="The text of a job:\n" + text.__doc__.partition("\n")[2] + "\n" + STATUS)
     top.add_argument("--version", action="version", version="job %s" % VERSION)
-    subs = top.add_subparsers(dest="what", required=True, metavar="pack | show | run | picture | store", parser_class=Parser)
+    subs = top.add_subparsers(dest="what", required=True, metavar="pack | show | run | picture | replay | store", parser_class=Parser)
 
     one = subs.add_parser("pack", help="make a job file of a text", epilog=STATUS, formatter_class=plain)
     with_store(one)
@@ -50,6 +51,10 @@ def parser():
     one.add_argument("--names", default="", metavar="NAME,NAME..", help="what to call the people, in their order")
     one.add_argument("text", metavar="TEXT")
     one.add_argument("svg", metavar="SVG")
+
+    one = subs.add_parser("replay", help="run target/bin/boltraven_replay on a recording's text and print what it shows", epilog=STATUS,
+                          formatter_class=plain)
+    one.add_argument("text", metavar="TEXT")
 
     one = subs.add_parser("store", help="print a store of settings as a text, a record a line", epilog=STATUS, formatter_class=plain)
     one.add_argument("store", metavar="STORE")
@@ -126,6 +131,19 @@ def run(words):
     return refused(read.refusal) if read.refusal is not None else 0
 
 
+def replay(words):
+    """A recording's replay: the blocks as they are shown, and the last line, which says how it ended."""
+    shown = program.listing_of(layout.file_of(records_of(words.text)), "boltraven_replay")
+    sys.stdout.write(shown)
+    kind, *rest = shown.splitlines()[-1].split()
+    if kind == "R":
+        return refused(refusals.read(rest))
+    if kind == "X":
+        print("the answer to draw %s of block %s is another one than the recorded" % (rest[1], rest[0]), file=sys.stderr)
+        return 1
+    return 0
+
+
 def draw(words):
     _, read, job = ran(words.text, words.settings)
     if read.refusal is not None:
@@ -143,7 +161,7 @@ def main(words):
     """The status with which to end."""
     given = parser().parse_args(words)
     try:
-        status = {"pack": pack, "show": show, "run": run, "picture": draw, "store": show_store}[given.what](given) or 0
+        status = {"pack": pack, "show": show, "run": run, "picture": draw, "replay": replay, "store": show_store}[given.what](given) or 0
         sys.stdout.flush()
         return status
     except BrokenPipeError:

@@ -1,4 +1,4 @@
-"""The text form of a job: a record a line.
+"""The text form of a job, and of a recording: a record a line.
 
 One record a line, in the file's order; what follows # is a comment. UTF-8, with or without a byte-order mark. TIME is a number of minutes,
 or a date like 1970-01-04T22:00.
@@ -10,6 +10,8 @@ or a date like 1970-01-04T22:00.
   freeze TIME
   owner SLOT OWNER           a person's number, or - for nobody
   draw DRAW FIRST SECOND
+  recorded DRAW FIRST SECOND ANSWER    in a recording: a draw with the answer that it got, 0 to 2
+  close                                in a recording: the end of a block
   record KIND HEX            any other record, its body in hexadecimal
 
 Text that is wrong is reported with its line, and no file is written. Order, counts and sense are not judged here: boltraven does that.
@@ -18,7 +20,7 @@ import re
 import struct
 
 from jobtool import layout, times
-from jobtool.layout import BASE, DRAW, FREEZE, NOBODY, OWNER, PERSON, RANGE, SETTINGS
+from jobtool.layout import BASE, CLOSE, DRAW, FREEZE, NOBODY, OWNER, PERSON, RANGE, RECORDED, SETTINGS
 from jobtool.wrong import Wrong
 
 U16, U32, U64 = 2**16 - 1, 2**32 - 1, 2**64 - 1
@@ -124,6 +126,12 @@ def record(word, words):
     if word == "draw":
         want(words, 3, "a draw is: draw, first, second")
         return DRAW, layout.body(DRAW, *(number(one, U16, "a draw's number") for one in words))
+    if word == "recorded":
+        want(words, 4, "a recorded draw is: draw, first, second, answer")
+        return RECORDED, layout.body(RECORDED, *(number(one, U16, "a recorded draw's number") for one in words))
+    if word == "close":
+        want(words, 0, "a close has nothing after it")
+        return CLOSE, layout.body(CLOSE)
     if word == "record":
         return other(words)
     raise Wrong("no record is called '%.40s'" % word)
@@ -186,6 +194,10 @@ def line_of(kind, data, shown=str):
         return "freeze %s" % shown(got[0])
     if kind == OWNER:
         return "owner %d %s" % (got[0], "-" if got[1] == NOBODY else got[1])
+    if kind == RECORDED:
+        return "recorded %d %d %d %d" % got
+    if kind == CLOSE:
+        return "close"
     return "draw %d %d %d" % got
 
 

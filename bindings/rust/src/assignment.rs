@@ -18,13 +18,35 @@ pub enum Answer {
 }
 
 impl Answer {
-    fn of(byte: u8) -> Self {
+    /// Of the number that stands for it.
+    pub(crate) fn of(byte: u8) -> Self {
         match byte {
             0 => Answer::Acted,
             1 => Answer::NoMove,
             _ => Answer::Outside,
         }
     }
+
+    /// As it is recorded.
+    fn recorded(self) -> u16 {
+        match self {
+            Answer::Acted => 0,
+            Answer::NoMove => 1,
+            Answer::Outside => 2,
+        }
+    }
+}
+
+/// What a replay of recorded draws comes to.
+#[derive(Debug, Clone, Copy, PartialEq, Eq, Hash)]
+pub enum Replay {
+    /// Each draw is answered as it was recorded.
+    Agrees,
+    /// One isn't. It and the draws before it are played, those after it aren't.
+    Differs {
+        /// The first such draw, from 0.
+        place: usize,
+    },
 }
 
 /// What a way back comes to.
@@ -45,7 +67,7 @@ pub enum WayBack {
 /// slots and people of that one.
 ///
 /// ```
-/// use boltraven::{Answer, Assignment, Draw, Person, Problem, Range, Refusal, Settings, Slot, WayBack};
+/// use boltraven::{Answer, Assignment, Draw, Person, Problem, Range, Refusal, Replay, Settings, Slot, WayBack};
 ///
 /// let base = [Slot { start: 0, end: 60 }, Slot { start: 60, end: 120 }];
 /// let people = [Person { capacity: 1.0, prior: 0 }; 2];
@@ -71,6 +93,11 @@ pub enum WayBack {
 /// // The way back to where it began.
 /// let WayBack::Draws(back) = rota.way_back(&problem, &[Some(0), Some(0)])? else { panic!("there is one") };
 /// assert_eq!((rota.play(&problem, &back)?, rota.owners()), (vec![Answer::Acted], &[0, 0][..]));
+///
+/// // What was recorded is replayed: the second of these draws is answered otherwise, and the third isn't played.
+/// let block = [(draws[0], Answer::Acted), (back[0], Answer::NoMove), (draws[0], Answer::Acted)];
+/// assert_eq!((rota.replay(&problem, &block[..1])?, rota.owners()), (Replay::Agrees, &[0, 1][..]));
+/// assert_eq!((rota.replay(&problem, &block[1..])?, rota.owners()), (Replay::Differs { place: 0 }, &[0, 0][..]));
 /// # Ok::<(), Refusal>(())
 /// ```
 #[derive(Debug, Clone, PartialEq, Eq, Hash)]
@@ -242,6 +269,38 @@ impl Assignment {
             &mut answers,
         )?;
         Ok(answers.into_iter().map(Answer::of).collect())
+    }
+
+    /// Replays a block of recorded draws: in order, up to and with the first whose answer isn't the recorded one. Refusals 1 (more than 1,024
+    /// draws), 10.
+    pub fn replay(&mut self, problem: &Problem, block: &[(Draw, Answer)]) -> Result<Replay, Refusal> {
+        let column = |number: fn(&(Draw, Answer)) -> u16| block.iter().map(number).collect::<Vec<u16>>();
+        let mut place = 0;
+        let agrees = lent::replay_block(
+            problem.human_count(),
+            problem.slot_count(),
+            problem.unit_count(),
+            block.len(),
+            problem.slots().starts(),
+            problem.slots().ends(),
+            problem.availability().words(),
+            problem.units().unit_starts(),
+            problem.frozen().words(),
+            &column(|(draw, _)| draw.draw),
+            &column(|(draw, _)| draw.first),
+            &column(|(draw, _)| draw.second),
+            &column(|(_, answer)| answer.recorded()),
+            &mut self.owners,
+            &mut self.sets,
+            &mut self.minutes,
+            &mut self.totals,
+            &mut place,
+        )?;
+        Ok(if agrees {
+            Replay::Agrees
+        } else {
+            Replay::Differs { place: place as usize }
+        })
     }
 
     /// The draws that bring remembered owners back, one owner a slot. Refusals 2 (fewer owners than slots), 10 (of the rota, or a unit with

@@ -150,6 +150,15 @@
 //!     &mut seconds, &mut out
 //! )?);
 //! assert_eq!((out, kinds, firsts, seconds), (1, [0, 9], [1, 9], [1, 9]));
+//! assert!(lent::replay_block(
+//!     2, 2, 2, 1, &starts, &ends, &avail, &unit_starts, &frozen, &[0], &[1], &[1], &[0], &mut owners, &mut sets, &mut minutes, &mut totals,
+//!     &mut out
+//! )?);
+//! assert!(!lent::replay_block(
+//!     2, 2, 2, 3, &starts, &ends, &avail, &unit_starts, &frozen, &[0; 3], &[0, 1, 1], &[1, 0, 1], &[2, 1, 0], &mut owners, &mut sets,
+//!     &mut minutes, &mut totals, &mut out
+//! )?);
+//! assert_eq!((out, owners), (1, [0, 0]));
 //! lent::minutes_of(2, &minutes, 0, &mut out)?;
 //! assert_eq!(out, 120);
 //!
@@ -196,6 +205,45 @@
 //! let mut listing = vec![0; LISTING_MOST];
 //! assert_eq!(lent::run_job(b"no job", &mut listing, &mut out), Err(Refusal::JobFile));
 //! assert!(lent::version() >= 100);
+//! # Ok::<(), Refusal>(())
+//! ```
+//!
+//! A recording: the job above, prepared, and a block of one draw.
+//!
+//! ```
+//! use boltraven::{lent, Job, Person, Range, Refusal, Slot};
+//!
+//! let job = Job {
+//!     base: vec![Slot { start: 0, end: 120 }],
+//!     people: vec![Person { capacity: 1.0, prior: 0 }; 2],
+//!     ranges: vec![Range { person: 0, start: 0, end: 120 }, Range { person: 1, start: 60, end: 180 }],
+//!     owners: vec![(0, Some(0)), (1, Some(0))],
+//!     ..Job::default()
+//! };
+//! let recording = [&job.file()[..], &[8, 0, 8, 0, 0, 0, 1, 0, 1, 0, 0, 0], &[0, 0, 9, 0]].concat();
+//! let end = lent::job_end(&recording);
+//! assert_eq!(end, job.file().len());
+//!
+//! let (mut starts, mut ends, mut unit_starts) = ([0; lent::SLOTS_MOST], [0; lent::SLOTS_MOST], [0; lent::SLOTS_MOST]);
+//! let (mut avail, mut frozen, mut targets) = ([0; 512], [0; lent::SET_WORDS], [0; lent::PEOPLE_MOST]);
+//! let (mut owners, mut sets, mut minutes, mut totals) = ([9; lent::SLOTS_MOST], [0; 512], [0; lent::PEOPLE_MOST], [0; lent::TOTALS]);
+//! let (mut people, mut slots, mut units) = (0, 0, 0);
+//! let mut begin = |job: &[u8], totals: &mut [u64]| {
+//!     lent::begin_recording(
+//!         job, &mut starts, &mut ends, &mut avail, &mut unit_starts, &mut frozen, &mut targets, &mut owners, &mut sets, &mut minutes,
+//!         totals, &mut people, &mut slots, &mut units
+//!     )
+//! };
+//! assert_eq!(begin(&recording[..end], &mut totals[..1]), Err(Refusal::ShortBuffer));
+//! begin(&recording[..end], &mut totals)?;
+//! assert_eq!((people, slots, units, &targets[..3], &owners[..3]), (2, 2, 2, &[80, 40, 0][..], &[0, 0, 255][..]));
+//! assert_eq!((&minutes[..2], totals), (&[120, 0][..], [0, 0]));
+//!
+//! let [mut draws, mut firsts, mut seconds, mut recorded] = [[9; lent::DRAWS_MOST]; 4];
+//! let (mut count, mut next) = (0, 0);
+//! let mut read = |bytes: &[u8]| lent::read_block(bytes, 0, &mut draws, &mut firsts, &mut seconds, &mut recorded, &mut count, &mut next);
+//! assert_eq!((read(&recording[end..])?, read(&[])?, read(&[9])), (true, false, Err(Refusal::JobFile)));
+//! assert_eq!((count, next, draws[0], firsts[0], seconds[0], recorded[0], draws[1]), (1, 16, 0, 1, 1, 0, 9));
 //! # Ok::<(), Refusal>(())
 //! ```
 //!
@@ -272,6 +320,9 @@ pub const PEOPLE_MOST: usize = 32;
 
 /// The most slots that a set or a list of atomic slots has.
 pub const SLOTS_MOST: usize = 1024;
+
+/// The most draws of a play and of a recorded block.
+pub const DRAWS_MOST: usize = 1024;
 
 /// The owner of a slot that nobody holds.
 pub const NOBODY: u8 = 255;
@@ -422,7 +473,8 @@ fn judged(answer: u64) -> Result<Option<Rule>, Refusal> {
     }
 }
 
-/// Whether there is a way back, the number beside it being written: 0 yes, nothing no; or a refusal with its place.
+/// Whether there is a way back, or all draws agree, or there is a block, the numbers beside it being written: 0 yes, nothing no; or a refusal
+/// with its place.
 #[inline]
 fn led(answer: u64) -> Result<bool, Refusal> {
     match answer {
@@ -446,6 +498,11 @@ fn retiring(answer: u64) -> Result<Retiring, Refusal> {
 /// A number that is the answer itself.
 fn plain(answer: u32) -> u32 {
     answer
+}
+
+/// A number of bytes.
+fn length(answer: u64) -> usize {
+    answer as usize
 }
 
 /// The number that a call writes through an address.
@@ -723,6 +780,35 @@ exports! {
         people: usize, slots: usize, units: usize, count: usize, starts: &[u32], ends: &[u32], avail: &[u64], unit_starts: &[u16],
         frozen: &[u64], draws: &[Draw], owners: &mut [u8], sets: &mut [u64], minutes: &mut [u64], totals: &mut [u64], answers: &mut [u8]
     ) -> Result<(), Refusal> = placed(u64);
+
+    /// Replays a recorded block: its draws in three columns beside their recorded answers, played in order, up to and with the first whose
+    /// answer isn't the recorded one. Yes, all agree. No, and `place` is the first that differs, from 0: it and the draws before it are played,
+    /// those after it aren't. A recorded answer above 2 is 13, before all. Refusals: 1, 2, 9, 10, 13.
+    pub fn replay_block(
+        people: usize, slots: usize, units: usize, count: usize, starts: &[u32], ends: &[u32], avail: &[u64], unit_starts: &[u16],
+        frozen: &[u64], draws: &[u16], firsts: &[u16], seconds: &[u16], recorded: &[u16], owners: &mut [u8], sets: &mut [u64],
+        minutes: &mut [u64], totals: &mut [u64], place: &mut u64
+    ) -> Result<bool, Refusal> = led(u64);
+
+    /// How many bytes of a recording are its job's: all up to the first record of a recorded draw or of a close. The blocks are what follows.
+    pub fn job_end(bytes: &[u8]) -> usize = length(u64);
+
+    /// Prepares a recording's job: all that a replay goes by, and the targets, each from the front of its list, with the three counts. Starts,
+    /// ends, unit starts and owners need room for 1,024 entries, availability and sets for 512 words, targets and minutes for 32, whatever the
+    /// job is, and are written so far. A draw of a job's file is 13, and of 10 only 10.3 comes. Refusals: 1 to 7, 10 to 13.
+    pub fn begin_recording(
+        bytes: &[u8], starts: &mut [u32], ends: &mut [u32], avail: &mut [u64], unit_starts: &mut [u16], frozen: &mut [u64],
+        targets: &mut [i64], owners: &mut [u8], sets: &mut [u64], minutes: &mut [u64], totals: &mut [u64], people: &mut u64,
+        slots: &mut u64, units: &mut u64
+    ) -> Result<(), Refusal> = placed(u64);
+
+    /// Reads the block at the front of the bytes that follow a job or a block, where `blocks` were read before it, into four columns. Yes, with
+    /// how many draws it has, and how many bytes, after which the next begins. No, no bytes are left. 13 and 1 are by the first faulty record, 2
+    /// is a list without room for the draws. Refusals: 1, 2, 13.
+    pub fn read_block(
+        bytes: &[u8], blocks: usize, draws: &mut [u16], firsts: &mut [u16], seconds: &mut [u16], recorded: &mut [u16], count: &mut u64,
+        next: &mut u64
+    ) -> Result<bool, Refusal> = led(u64);
 
     /// The way back to remembered owners, one byte a slot: for each unit whose owner differs a draw 0 to its remembered owner, ascending, in
     /// three columns with room for as many entries as slots. Yes, and `told` is how many draws were written: played, each acts, and the

@@ -76,7 +76,7 @@ refusals! {
     Recount(Fault) = 10, "The recount fails: owners, units, sets, minutes and totals don't fit together.";
     Unknown = 11, "A slot, unit, person or index is not below its count, or no saved settings have the number.";
     Unavailable = 12, "A person is to get a slot for which they aren't available.";
-    JobFile = 13, "The job file or the store of settings breaks its layout or is too long.";
+    JobFile = 13, "The job file, a recording or the store of settings breaks its layout or is too long.";
 }
 
 /// Where a recount failed. The parts are checked in this order over the whole rota, and the lowest slot, unit, person or total at fault is

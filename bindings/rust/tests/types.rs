@@ -2,8 +2,8 @@
 
 use boltraven::lent::SLOTS_MOST;
 use boltraven::{
-    retire_column, Answer, Assignment, Availability, Boundary, Draw, Edition, Fairness, Fault, Job, Person, Problem, Range, Refusal,
-    Retiring, Run, Settings, Slot, SlotSet, Slots, Weekday,
+    retire_column, Answer, Assignment, Availability, Boundary, Draw, Edition, Fairness, Fault, Job, Person, Problem, Range, Recording,
+    Refusal, Replay, Retiring, Run, Settings, Slot, SlotSet, Slots, Weekday,
 };
 
 const ONE: Person = Person { capacity: 1.0, prior: 0 };
@@ -450,4 +450,100 @@ fn a_published_column_follows() {
     assert_eq!(column(vec![7], went), Err(Refusal::Count));
     assert_eq!(column(vec![7; 1025], went), Err(Refusal::Count));
     assert_eq!(column(vec![7], Retiring::Everything), Ok(vec![7]));
+}
+
+/// A record of a recorded draw, and the close of a block.
+fn recorded(draw: Draw, answer: u16) -> Vec<u8> {
+    let numbers = [8, 8, draw.draw, draw.first, draw.second, answer];
+    numbers.iter().flat_map(|number: &u16| number.to_le_bytes()).collect()
+}
+
+const CLOSE: [u8; 4] = [0, 0, 9, 0];
+
+/// Opened, a recording is the problem and the rota that its job's parts make; its blocks play them as a play of their draws does.
+#[test]
+fn a_recording_is_its_job_and_its_blocks() {
+    let people = [Person { capacity: 1.0, prior: 7 }; 2];
+    let job = Job {
+        settings: PAIRS,
+        base: days(6),
+        people: people.to_vec(),
+        ranges: vec![always(0), always(1)],
+        freeze: Some(1440),
+        owners: (0..6).map(|slot| (slot, Some(0))).collect(),
+        draws: vec![],
+    };
+    let mut problem = Problem::build(PAIRS, &job.base, &people, &job.ranges).expect("it is built");
+    problem.freeze_before(1440);
+    let mut rota = Assignment::from_slots(&problem, &[Some(0); 6]).expect("owners are right");
+    let draws = [1, 2].map(|first| Draw { draw: 0, first, second: 1 });
+    let file = [
+        job.file(),
+        recorded(draws[0], 0),
+        CLOSE.to_vec(),
+        CLOSE.to_vec(),
+        recorded(draws[1], 0),
+        CLOSE.to_vec(),
+    ]
+    .concat();
+
+    let Recording {
+        problem: opened,
+        mut assignment,
+        blocks,
+    } = Recording::open(&file).expect("it is a recording");
+    assert_eq!((&opened, &assignment), (&problem, &rota));
+    assert_eq!(
+        blocks.clone().map(|block| block.map_or(9, |draws| draws.len())).collect::<Vec<_>>(),
+        [1, 0, 1]
+    );
+    for block in blocks {
+        let block = block.expect("it is a block");
+        assert_eq!(assignment.replay(&opened, &block), Ok(Replay::Agrees));
+    }
+    assert_eq!(rota.play(&problem, &draws), Ok(vec![Answer::Acted; 2]));
+    assert_eq!(assignment, rota);
+}
+
+/// A job that is refused gives no recording; a block that is refused is the last.
+#[test]
+fn recordings_are_refused() {
+    let job = Job {
+        base: days(1),
+        people: vec![ONE],
+        ..Job::default()
+    };
+    let open = |file: &[u8]| Recording::open(file).map(|recording| recording.blocks.map(|block| block.map(|draws| draws.len())).collect());
+    let any = Draw {
+        draw: 0,
+        first: 0,
+        second: 0,
+    };
+    let with = |tail: &[Vec<u8>]| open(&[job.file(), tail.concat()].concat());
+    assert_eq!(with(&[]), Ok(vec![]));
+    assert_eq!(
+        with(&[CLOSE.to_vec(), recorded(any, 3), CLOSE.to_vec()]),
+        Ok(vec![Ok(0), Err(Refusal::JobFile)])
+    );
+    assert_eq!(with(&[recorded(any, 0)]), Ok(vec![Err(Refusal::JobFile)]));
+    assert_eq!(
+        with(&[recorded(any, 0).repeat(1025), CLOSE.to_vec()]),
+        Ok(vec![Err(Refusal::Count)])
+    );
+    assert_eq!(with(&[vec![0]]), Err(Refusal::JobFile));
+    let drawn = Job {
+        draws: vec![any],
+        ..job.clone()
+    };
+    assert_eq!(open(&drawn.file()), Err(Refusal::JobFile));
+    let empty = Job {
+        people: vec![],
+        ..job.clone()
+    };
+    assert_eq!(open(&[empty.file(), CLOSE.to_vec()].concat()), Err(Refusal::Count));
+    let owned = Job {
+        owners: vec![(0, Some(0))],
+        ..job.clone()
+    };
+    assert_eq!(open(&owned.file()), Err(Refusal::Unavailable));
 }

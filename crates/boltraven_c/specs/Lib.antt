@@ -4,6 +4,7 @@ pub mod Numbers
 pub mod Units
 pub mod Columns
 pub mod Rota
+pub mod Replay
 pub mod Store
 pub mod Usable
 pub mod Ways

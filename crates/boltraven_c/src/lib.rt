@@ -7,6 +7,8 @@ mod draws_c;
 mod job_c;
 mod mend_c;
 mod owners_c;
+mod recording_c;
+mod replay_c;
 mod retire_c;
 mod rota_c;
 mod runs_c;

@@ -17,7 +17,7 @@ use Rattle.job.proofs.Texts.{digits-le, owner-none, owner-some, head-le
 
 -- ---- fields
 
-head-le : (letter n last k : ℕ) → length (digits n) ≤ k → length (headText letter n last) ≤ 3 + k
+pub head-le : (letter n last k : ℕ) → length (digits n) ≤ k → length (headText letter n last) ≤ 3 + k
 head-le letter n last k h = omega (arith, head-length letter n last)
 
 then-le : (l : List ℕ) (last k : ℕ) → length l ≤ k → length (l ++ (last ∷ [])) ≤ k + 1
@@ -26,7 +26,7 @@ then-le l last k h = omega (arith, length-append l (last ∷ []))
 both-le : (l m : List ℕ) (j k : ℕ) → length l ≤ j → length m ≤ k → length (l ++ m) ≤ j + k
 both-le l m j k g h = omega (arith, length-append l m)
 
-long-le : (n : ℕ) → n < 2 ^ 64 → length (digits n) ≤ 20
+pub long-le : (n : ℕ) → n < 2 ^ 64 → length (digits n) ≤ 20
 long-le n h = digits-le 19 n (omega arith) (omega arith)
 
 owner-le : (w : ℕ) → w < 2 ^ 8 → length (ownerText w) ≤ 3
@@ -42,7 +42,7 @@ signed-le (negsuc n) h = omega (arith, digits-le 18 (suc n) (omega arith) (omega
 
 -- ---- lines
 
-slot-le : (k start end owner : ℕ) → k < 1024 → start < 2 ^ 32 → end < 2 ^ 32 → owner < 2 ^ 8 → length (slotLine k start end owner) ≤ 33
+pub slot-le : (k start end owner : ℕ) → k < 1024 → start < 2 ^ 32 → end < 2 ^ 32 → owner < 2 ^ 8 → length (slotLine k start end owner) ≤ 33
 unfolding slotLine
 slot-le k start end owner a b c d =
     let ten : (n : ℕ) → n < 2 ^ 32 → length (digits n) ≤ 10 = λ n h. digits-le 9 n (omega arith) (omega arith) in
@@ -50,7 +50,7 @@ slot-le k start end owner a b c d =
     (both-le (digits start ++ (32 ∷ [])) _ 11 15 (then-le (digits start) 32 10 (ten start b))
     (both-le (digits end ++ (32 ∷ [])) _ 11 4 (then-le (digits end) 32 10 (ten end c)) (then-le (ownerText owner) 10 3 (owner-le owner d))))
 
-person-le : (p minutes : ℕ) (target : ℤ) → p < 32 → minutes < 2 ^ 64 → mag target < 2 ^ 63
+pub person-le : (p minutes : ℕ) (target : ℤ) → p < 32 → minutes < 2 ^ 64 → mag target < 2 ^ 63
     → length (personLine p minutes target) ≤ 47
 unfolding personLine
 person-le p minutes target a b c =
@@ -77,7 +77,7 @@ lines-le f b (suc n) h =
     )
 
 -- as many lines as there may be
-most-le : (f : ℕ → List ℕ) (b n m : ℕ) → n ≤ m → ((k : ℕ) → k < n → length (f k) ≤ b) → length (lines f n) ≤ m * b
+pub most-le : (f : ℕ → List ℕ) (b n m : ℕ) → n ≤ m → ((k : ℕ) → k < n → length (f k) ≤ b) → length (lines f n) ≤ m * b
 most-le f b n m g h = omega (arith, lines-le f b n h, mul-le-mul-right b g)
 
 -- ---- the listing

@@ -4,11 +4,14 @@ pub mod Layouts
 pub mod Texts
 pub mod RefusalLines
 pub mod Lengths
+pub mod Shows
 pub mod Digits
 pub mod Signs
 pub mod Prepares
 pub mod Written
 pub mod Results
+pub mod Begins
+pub mod Lays
 pub mod Readings
 pub mod Tests
 pub mod Placed

@@ -1,7 +1,7 @@
 -- What a file whose layout and counts are right leaves known, and the parts that the stages return. Assumes nothing.
 use mathlib.Core.Path.{_≡_, refl, sym, ap, ap₂, _∙_, subst}
 use mathlib.Core.Logic.{⊎-elim}
-use mathlib.Core.Bool.{Bool, cond}
+use mathlib.Core.Bool.{Bool, true, cond}
 use mathlib.Core.List.{List}
 use Prim.Native.Nat.{ℕ, _+_, _*_, _≤_, _<_}
 use native.Mathlib.Omega.{arith}
@@ -34,7 +34,6 @@ use Rattle.job.specs.declared.JobTargets.{JobTargets}
 use Rattle.job.specs.declared.JobOwners.{JobOwners}
 use Rattle.job.specs.declared.Started.{Started}
 use Rattle.job.specs.File.{jobLayout, jobSizes, fileMost, jobCounts, jobStarts, restOk, fileOk}
-use Rattle.job.specs.Listing.{listingMost}
 use Rattle.job.specs.Columns.{column, floatColumn}
 use Rattle.slotset.specs.Answers.{numberRefusal}
 use Rattle.job.specs.Stages.{jobCountsOk, instantOf}
@@ -311,21 +310,21 @@ module _ {s c b : List ℕ} (K : ReadOk s c b) where
 
 -- ---- the whole file
 
-pub read-refusal : (s c : List ℕ) (ok : Bool) (room : ℕ) → ok ≡ fileOk s → c ≡ jobCounts s
+pub read-refusal : (s c : List ℕ) (ok room : Bool) → ok ≡ fileOk s → c ≡ jobCounts s
     → refusalOf (readRow ok (getD c 1 0) (getD c 2 0) (getD c 3 0) (getD c 6 0) room)
     ≡ refusalOf (readRow (fileOk s) (counted s 1) (peopleOf s) (counted s 3) (counted s 6) room)
 read-refusal s c ok room p q =
     ap₂ (λ (k : Bool) (d : List ℕ). refusalOf (readRow k (getD d 1 0) (getD d 2 0) (getD d 3 0) (getD d 6 0) room)) p q
 
-pub read-number : (s c : List ℕ) (ok : Bool) (room : ℕ) → ok ≡ fileOk s → c ≡ jobCounts s
+pub read-number : (s c : List ℕ) (ok room : Bool) → ok ≡ fileOk s → c ≡ jobCounts s
     → numberOf (readRow ok (getD c 1 0) (getD c 2 0) (getD c 3 0) (getD c 6 0) room)
     ≡ numberOf (readRow (fileOk s) (counted s 1) (peopleOf s) (counted s 3) (counted s 6) room)
 read-number s c ok room p q =
     ap₂ (λ (k : Bool) (d : List ℕ). numberOf (readRow k (getD d 1 0) (getD d 2 0) (getD d 3 0) (getD d 6 0) room)) p q
 
-pub read-ok : (s c b : List ℕ) (ok : Bool) (room : ℕ) → ok ≡ fileOk s → c ≡ jobCounts s → b ≡ jobStarts s
-    → numberOf (readRow ok (getD c 1 0) (getD c 2 0) (getD c 3 0) (getD c 6 0) room) ≡ 0 → ReadOk s c b × (listingMost ≤ room)
+pub read-ok : (s c b : List ℕ) (ok room : Bool) → ok ≡ fileOk s → c ≡ jobCounts s → b ≡ jobStarts s
+    → numberOf (readRow ok (getD c 1 0) (getD c 2 0) (getD c 3 0) (getD c 6 0) room) ≡ 0 → ReadOk s c b × (room ≡ true)
 unfolding readRow
 read-ok s c b ok room p q r z =
     let h = passed (readRow ok (getD c 1 0) (getD c 2 0) (getD c 3 0) (getD c 6 0) room) refl z in
-    (record { ok = sym p ∙ h 0; counts = q; starts = r; few = h 1 }, leb-true listingMost room (h 2))
+    (record { ok = sym p ∙ h 0; counts = q; starts = r; few = h 1 }, h 2)

@@ -3,7 +3,7 @@ use mathlib.Core.Path.{_≡_, refl, sym, ap, ap₂, _∙_, subst}
 use mathlib.Core.List.{List}
 use Prim.Native.Nat.{ℕ, _^_, _<_}
 use native.Mathlib.Omega.{arith}
-use lib.Dec.{lit<}
+use lib.Dec.{leb, lit<}
 use lib.IntN.{pos}
 use lib.Signed.{mag}
 use lib.ListN.{length, getD}
@@ -20,7 +20,7 @@ use Rattle.job.specs.declared.JobAnswer.the-variants as answer
 use Rattle.job.specs.declared.Prepared.{Prepared}
 use Rattle.job.specs.declared.Played.{Played}
 use Rattle.job.specs.File.{fileOk}
-use Rattle.job.specs.Listing.{Listed, listed, listingOf}
+use Rattle.job.specs.Listing.{Listed, listed, listingOf, listingMost}
 use Rattle.job.specs.Stages.{counted, peopleOf, drawsOf, Ready, readyOf, ownersOf, planOf, playOf, startedOf, playedOf, listedOf}
 use Rattle.job.specs.Stages.{unevenOf}
 use Rattle.job.specs.Outcome.{AllPass, readRow, prepareRow, jobTests, refusalAt, Result, refusedAs, listedAs, jobResult, Ends}
@@ -52,9 +52,9 @@ module _ (s x : List ℕ) where
       }
 
   abbrev readTests : List Test
-  readTests = readRow (fileOk s) (counted s 1) (peopleOf s) (counted s 3) (counted s 6) (length x)
+  readTests = readRow (fileOk s) (counted s 1) (peopleOf s) (counted s 3) (counted s 6) (leb listingMost (length x))
 
-  read-numbered : Numbered (readRow (fileOk s) (counted s 1) (peopleOf s) (counted s 3) (counted s 6) (length x))
+  read-numbered : Numbered (readRow (fileOk s) (counted s 1) (peopleOf s) (counted s 3) (counted s 6) (leb listingMost (length x)))
   unfolding readRow
   read-numbered = (lit< tt, (lit< tt, (lit< tt, tt)))
 

@@ -139,7 +139,7 @@ refusal-by f z (t ∷ ts) b = by-test (t .passes) _ (λ p. simp p (refusal-by f 
 
 -- ---- the first tests of a row, and then the others
 
-number-append : (ts us : List Test) → Numbered ts → numberOf (ts ++ us) ≡ cond (eqb (numberOf ts) 0) (numberOf us) (numberOf ts)
+pub number-append : (ts us : List Test) → Numbered ts → numberOf (ts ++ us) ≡ cond (eqb (numberOf ts) 0) (numberOf us) (numberOf ts)
 unfolding numberOf
 number-append [] us N = refl
 number-append (t ∷ ts) us N =

@@ -5,4 +5,6 @@ pub mod Listing
 pub mod Digits
 pub mod Stages
 pub mod Outcome
+pub mod Shown
+pub mod Begun
 pub mod Inside

@@ -26,9 +26,9 @@ use Rattle.job.specs.Stages.{allKnown, writtenOf, unevenOf, ownersOf, li
 -- ---- the tests of a job, in the order in which they are given: 13, then rising
 
 -- of the file and the room
-unfoldable pub readRow : Bool → ℕ → ℕ → ℕ → ℕ → ℕ → List Test
+unfoldable pub readRow : Bool → ℕ → ℕ → ℕ → ℕ → Bool → List Test
 readRow right base people ranges draws room =
-    test 13 right ∷ test 1 (jobCountsOk base people ranges draws) ∷ test 2 (leb listingMost room) ∷ []
+    test 13 right ∷ test 1 (jobCountsOk base people ranges draws) ∷ test 2 room ∷ []
 
 -- of what stands in the file
 unfoldable pub prepareRow : List ℕ → List Test
@@ -43,7 +43,8 @@ prepareRow s =
     ∷ test 12 (all (R .slots) (availableAt (R .avail) (ownersOf s))) ∷ []
 
 unfoldable pub jobTests : List ℕ → ℕ → List Test
-jobTests s room = readRow (fileOk s) (counted s 1) (peopleOf s) (counted s 3) (counted s 6) room ++ prepareRow s
+jobTests s room =
+    readRow (fileOk s) (counted s 1) (peopleOf s) (counted s 3) (counted s 6) (leb listingMost room) ++ prepareRow s
 
 -- the number given in the paper's words: the lowest of those that apply, but 13 comes before all
 abbrev pub rank : ℕ → ℕ

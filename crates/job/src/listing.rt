@@ -14,7 +14,7 @@ ghost use Rattle.job.specs.Listing.{listed, listingOf, listingMost, plac
 ghost use Rattle.job.specs.Outcome.{Ends, refusalResult};
 
 // One byte.
-fn put_byte(out: &mut [u8], at: usize, byte: u8) -> usize
+pub(crate) fn put_byte(out: &mut [u8], at: usize, byte: u8) -> usize
     requires { ⌜ at < length (now out) ⌝ }
     ensures { λ r. ⌜ Wrote (byte ∷ []) at (now (out .entry)) r (now (out .exit)) ⌝ }
 {
@@ -35,7 +35,7 @@ fn put_number(out: &mut [u8], at: usize, n: u64) -> usize
 }
 
 // A number and one byte more.
-fn put_number_then(out: &mut [u8], at: usize, n: u64, last: u8) -> usize
+pub(crate) fn put_number_then(out: &mut [u8], at: usize, n: u64, last: u8) -> usize
     requires { ⌜ at + length (digits n ++ (last ∷ [])) ≤ length (now out) ⌝ }
     ensures { λ r. ⌜ Wrote (digits n ++ (last ∷ [])) at (now (out .entry)) r (now (out .exit)) ⌝ }
 {
@@ -44,7 +44,7 @@ fn put_number_then(out: &mut [u8], at: usize, n: u64, last: u8) -> usize
 }
 
 // A letter, a space, a number and one byte more.
-fn put_head(out: &mut [u8], at: usize, letter: u8, n: u64, last: u8) -> usize
+pub(crate) fn put_head(out: &mut [u8], at: usize, letter: u8, n: u64, last: u8) -> usize
     requires { ⌜ at + length (headText letter n last) ≤ length (now out) ⌝ }
     ensures { λ r. ⌜ Wrote (headText letter n last) at (now (out .entry)) r (now (out .exit)) ⌝ }
 {
@@ -134,7 +134,7 @@ fn put_draw(out: &mut [u8], at: usize, d: usize, answer: u8) -> usize
 }
 
 // The lines of n slots.
-fn put_slots(
+pub(crate) fn put_slots(
     out: &mut [u8],
     at: usize,
     n: usize,
@@ -144,8 +144,7 @@ fn put_slots(
 ) -> usize
     requires { ⌜ (n ≤ length (now starts)) × (n ≤ length (now ends)) × (n ≤ length (now owners)) ⌝ }
     requires { ⌜ at + length (lines (slotAt (now starts) (now ends) (now owners)) n) ≤ length (now out) ⌝ }
-    ensures { λ r. ⌜ Wrote (lines (slotAt (now (starts .entry)) (now (ends .entry)) (now (owners .entry))) n) at (now (out
-        .entry)) r
+    ensures { λ r. ⌜ Wrote (lines (slotAt (now (starts .entry)) (now (ends .entry)) (now (owners .entry))) n) at (now (out .entry)) r
         (now (out .exit)) ⌝ }
 {
     let mut next = at;
@@ -158,11 +157,16 @@ fn put_slots(
 }
 
 // The lines of n people.
-fn put_people(out: &mut [u8], at: usize, n: usize, minutes: &[u64], targets: &[i64]) -> usize
+pub(crate) fn put_people(
+    out: &mut [u8],
+    at: usize,
+    n: usize,
+    minutes: &[u64],
+    targets: &[i64],
+) -> usize
     requires { ⌜ (n ≤ length (now minutes)) × (n ≤ length (now targets)) ⌝ }
     requires { ⌜ at + length (lines (personAt (now minutes) (now targets)) n) ≤ length (now out) ⌝ }
-    ensures { λ r. ⌜ Wrote (lines (personAt (now (minutes .entry)) (now (targets .entry))) n) at (now (out .entry)) r (now (out
-        .exit)) ⌝ }
+    ensures { λ r. ⌜ Wrote (lines (personAt (now (minutes .entry)) (now (targets .entry))) n) at (now (out .entry)) r (now (out .exit)) ⌝ }
 {
     let mut next = at;
     let mut k: usize = 0;
@@ -208,8 +212,7 @@ fn put_lines(
     requires { ⌜ length (listingOf (listed slots (now starts) (now ends) (now owners) people (now minutes) (now targets) draws
         (now answers) uncovered)) ≤ length (now out) ⌝ }
     ensures { λ r. ⌜ Wrote (listingOf (listed slots (now (starts .entry)) (now (ends .entry)) (now (owners .entry)) people
-        (now (minutes .entry)) (now (targets .entry)) draws (now (answers .entry)) uncovered)) 0 (now (out .entry)) r (now (out
-        .exit)) ⌝ }
+        (now (minutes .entry)) (now (targets .entry)) draws (now (answers .entry)) uncovered)) 0 (now (out .entry)) r (now (out .exit)) ⌝ }
 {
     let first = put_slots(out, 0, slots, starts, ends, owners);
     let second = put_people(out, first, people, minutes, targets);
@@ -236,8 +239,7 @@ pub(crate) fn put_listing(
     requires { ⌜ (people ≤ length (now minutes)) × (people ≤ length (now targets)) × (draws ≤ length (now answers)) ⌝ }
     requires { ⌜ ((p : ℕ) → p < people → mag (getD (now targets) p (pos 0)) < 2 ^ 63) ⌝ }
     ensures { λ r. ⌜ Wrote (listingOf (listed slots (now (starts .entry)) (now (ends .entry)) (now (owners .entry)) people
-        (now (minutes .entry)) (now (targets .entry)) draws (now (answers .entry)) uncovered)) 0 (now (out .entry)) r (now (out
-        .exit)) ⌝ }
+        (now (minutes .entry)) (now (targets .entry)) draws (now (answers .entry)) uncovered)) 0 (now (out .entry)) r (now (out .exit)) ⌝ }
 {
     put_lines(
         out,
@@ -255,7 +257,7 @@ pub(crate) fn put_listing(
 }
 
 // How many digits a number has.
-fn digit_count(n: u64) -> usize
+pub(crate) fn digit_count(n: u64) -> usize
     ensures { λ r. ⌜ (r ≡ length (digits n)) × (r ≤ 20) ⌝ }
 {
     let mut count: usize = 1;
@@ -279,7 +281,7 @@ fn place_size(part: u8, place: u64, second: u64) -> usize
 }
 
 // How many bytes the line of a refusal has.
-fn refusal_size(number: u8, part: u8, place: u64, second: u64) -> usize
+pub(crate) fn refusal_size(number: u8, part: u8, place: u64, second: u64) -> usize
     ensures { λ r. ⌜ r ≡ length (refusalLine (record { number = number; part = part; place = place; second = second })) ⌝ }
 {
     let size = digit_count(number as u64) + 3;
@@ -311,11 +313,9 @@ fn put_part(out: &mut [u8], at: usize, part: u8, place: u64, second: u64) -> usi
 }
 
 // The line of a refusal.
-fn put_refusal(out: &mut [u8], number: u8, part: u8, place: u64, second: u64) -> usize
-    requires { ⌜ length (refusalLine (record { number = number; part = part; place = place; second = second })) ≤ length (now
-        out) ⌝ }
-    ensures { λ r. ⌜ Wrote (refusalLine (record { number = number; part = part; place = place; second = second })) 0 (now (out
-        .entry)) r
+pub(crate) fn put_refusal(out: &mut [u8], number: u8, part: u8, place: u64, second: u64) -> usize
+    requires { ⌜ length (refusalLine (record { number = number; part = part; place = place; second = second })) ≤ length (now out) ⌝ }
+    ensures { λ r. ⌜ Wrote (refusalLine (record { number = number; part = part; place = place; second = second })) 0 (now (out .entry)) r
         (now (out .exit)) ⌝ }
 {
     if part == 0 {

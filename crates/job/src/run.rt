@@ -30,24 +30,24 @@ fn counts_ok(base: usize, people: usize, ranges: usize, draws: usize) -> bool
 }
 
 // 13, then 1, then 2.
-fn read_refusal(
+pub(crate) fn read_refusal(
     right: bool,
     base: usize,
     people: usize,
     ranges: usize,
     draws: usize,
-    room: usize,
+    room: bool,
 ) -> Refusal
     ensures { λ r. ⌜ r ≡ refusalOf (readRow right base people ranges draws room) ⌝ }
 {
     let few = counts_ok(base, people, ranges, draws);
     let f = paper::check(paper::accepted(), right, 13);
     let f = paper::check(f, few, 1);
-    paper::check(f, LISTING_MOST <= room, 2)
+    paper::check(f, room, 2)
 }
 
 // A refusal by its number: 10 is of the lowest unit with two owners, which is part 3.
-fn refusal_at(number: u8, uneven: usize) -> Refusal
+pub(crate) fn refusal_at(number: u8, uneven: usize) -> Refusal
     ensures { λ r. ⌜ r ≡ refusalAt number uneven ⌝ }
 {
     if number == 10 {
@@ -73,7 +73,8 @@ pub fn run_job(file: &[u8], out: &mut [u8]) -> JobAnswer
     let w = read_file(file);
     let counts = w.counts;
     let blocks = w.starts;
-    let refusal = read_refusal(w.ok, counts[1], counts[2], counts[3], counts[6], out.len());
+    let room = LISTING_MOST <= out.len();
+    let refusal = read_refusal(w.ok, counts[1], counts[2], counts[3], counts[6], room);
     if refusal.number == 0 {
         let p = prepare(file, counts, blocks);
         let number = p.number;

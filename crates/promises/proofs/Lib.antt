@@ -31,7 +31,10 @@ pub mod PlayRule
 pub mod ManyCalls
 pub mod ColumnRules
 pub mod WayBack
+pub mod Replay
 pub mod WayBackRule
+pub mod ReplayRule
+pub mod RecordingRule
 pub mod MendRule
 pub mod JobRules
 pub mod JobOwners

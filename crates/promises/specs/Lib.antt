@@ -1,6 +1,6 @@
 -- What is promised. Entries: a component, by what its entries answer. Marked: the twelve marked cases. Demand 1: Table, Tests, Numbers,
 -- Refusals, SetRefusals, Outcomes. Demand 2: SetRules, SlotRules, UnitRules, TargetRules, EditionRules, MoveRules, RotaRules. Demand 3:
--- Rota. The job: JobRules, JobFields, JobTests, JobText, JobExample. Places: where the recount failed.
+-- Rota, ManyCalls, Replay. The job: JobRules, JobFields, JobTests, JobText, JobExample. Places: where the recount failed.
 -- Empty: how empty answers are shut out.
 pub mod Entries
 pub mod Marked
@@ -29,6 +29,7 @@ pub mod Rota
 pub mod ManyCalls
 pub mod ColumnRules
 pub mod WayBack
+pub mod Replay
 pub mod JobRules
 pub mod JobFields
 pub mod JobTests
@@ -40,6 +41,8 @@ pub mod ListRules
 pub mod Accepts
 pub mod Exports
 pub mod WayBackRule
+pub mod ReplayRule
+pub mod RecordingRule
 pub mod MendRule
 pub mod Empty
 pub mod RetireRule

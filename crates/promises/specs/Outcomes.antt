@@ -16,10 +16,15 @@ use Rattle.mend.specs.Repairs.{Rota}
 use Rattle.mend.specs.Answers as mend
 use Rattle.retire.specs.declared.Retiring.{Retiring}
 use Rattle.retire.specs.Outcome as retire
+use Rattle.rota.specs.declared.replay.Replayed.{Replayed}
+use Rattle.rota.specs.Replays as replay
 use Rattle.wayback.specs.declared.Way.{Way}
 use Rattle.wayback.specs.Answers as wayback
 use Rattle.job.specs.declared.JobAnswer.{JobAnswer}
 use Rattle.job.specs.Outcome as job
+use Rattle.job.specs.Begun as begun
+use Rattle.replay.specs.declared.BlockRead.{BlockRead}
+use Rattle.replay.specs.Reading as reading
 
 abbrev pub Only {ℓ} : {A : Type ℓ} → (A → Type ℓ) → Type ℓ
 Only {A = A} Fits = (x y : A) → Fits x → Fits y → x ≡ y
@@ -36,6 +41,11 @@ pub record OneOutcome : Type 1 where
   pub compute-targets : (g : targets.Given) (out : List ℤ) → Only (λ (r : ℕ × List ℤ). targets.Meets g out (r .0) (r .1))
   -- from_slots, assign, empty, and play, of columns and of structs
   pub rota : (y : state.Outcome) → Only (λ (r : Refusal × List ℕ × Derived × List ℕ). state.Ended y (r .0) (r .1) (r .2) (r .3))
+  pub replay-block : (y : replay.Outcome) → Only (λ (r : Replayed × List ℕ × Derived). replay.Replays y (r .0) (r .1) (r .2))
+  -- begin_recording: what is answered, the three counts and all ten columns; read_block: what is answered, and its four columns
+  pub begin-recording : (y : begun.Beginning) → Only (λ (r : Refusal × begun.Lent). begun.Begins y (r .0) (r .1))
+  pub read-block : (t : List ℕ) (blocks : ℕ) (ks fs ss rs : List ℕ)
+      → Only (λ (r : BlockRead × List ℕ × List ℕ × List ℕ × List ℕ). reading.ReadsAs t blocks ks fs ss rs (r .0) (r .1) (r .2) (r .3) (r .4))
   pub way-back : (y : wayback.Outcome) → Only (λ (r : Way × List ℕ × List ℕ × List ℕ). wayback.Ended y (r .0) (r .1) (r .2) (r .3))
   pub mend : (y : mend.Outcome) → Only (λ (r : Number × Rota × List ℕ). mend.Ended y (r .0) (r .1) (r .2))
   -- retiring: what is answered, and all eleven columns

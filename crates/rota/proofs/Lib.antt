@@ -18,3 +18,4 @@ pub mod Listed
 pub mod Passed
 pub mod Asked
 pub mod Promises
+pub mod Replays

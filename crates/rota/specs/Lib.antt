@@ -9,3 +9,4 @@ pub mod Stepped
 pub mod Entries
 pub mod Draws
 pub mod Begins
+pub mod Replays

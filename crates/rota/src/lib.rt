@@ -5,6 +5,7 @@ mod checks;
 pub mod draws;
 mod moves;
 pub mod play;
+pub mod replay;
 
 // One of a list of people: nobody is on it, the choice lies beyond it, or this person.
 enum Pick {

@@ -68,7 +68,7 @@ fn frozen_of(slots: usize, units: usize, begins: &[u16], frozen: &[u64]) -> [u8;
 }
 
 // One draw: judged, then done. The answer is 0, 1 or 2.
-fn step(
+pub(crate) fn step(
     people: usize,
     slots: usize,
     units: usize,

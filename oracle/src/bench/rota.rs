@@ -340,6 +340,50 @@ pub fn structs(rota: Rota) -> Row {
     row(lent_side(rota, lent_play_structs), lent_side(rota, lent_play))
 }
 
+/// All draws of a rota, replayed beside the answers that the Rust's moves give them; whether all agree.
+fn lent_replay(rota: &Rota, recorded: &[u16], lent: &mut LentRota) -> bool {
+    let [draws, firsts, seconds] = &rota.columns;
+    let mut place = 0;
+    let answer = lent::replay_block(
+        lent.people,
+        lent.starts.len(),
+        lent.units,
+        lent.count,
+        &lent.starts,
+        &lent.ends,
+        &lent.avail,
+        &lent.unit_starts,
+        &lent.frozen,
+        draws,
+        firsts,
+        seconds,
+        recorded,
+        &mut lent.owners,
+        &mut lent.sets,
+        &mut lent.minutes,
+        &mut lent.totals,
+        &mut place,
+    );
+    answer == Ok(true)
+}
+
+/// A replay of all draws of a rota, which agree; in the Rust's place the play of the same draws.
+pub fn replay(rota: Rota) -> Row {
+    let rota = kept(rota);
+    let answers = rotas::play(&rota.case.problem, &mut begun(rota), &rota.case.draws);
+    let recorded: Vec<u16> = answers.iter().copied().map(u16::from).collect();
+    let ours = Side {
+        fresh: Box::new(move || {
+            let mut lent = rota.lent.clone();
+            lent.answers[..answers.len()].copy_from_slice(&answers);
+            lent
+        }),
+        run: Box::new(move |lent: &mut LentRota| assert!(lent_replay(rota, &recorded, black_box(lent)), "all agree")),
+        seen: Box::new(seen_of_lent),
+    };
+    row(ours, lent_side(rota, lent_play))
+}
+
 // ---- runs
 
 /// Everybody's runs, each person's in order.

@@ -5,7 +5,7 @@ use super::job::job;
 use super::merge::merge;
 use super::prepare::{prepare, prepare_all};
 use super::refused::{refused, Lent};
-use super::rota::{assign, failed_recount, from_slots, no_draws, play, recount, runs, structs};
+use super::rota::{assign, failed_recount, from_slots, no_draws, play, recount, replay, runs, structs};
 use super::set::{count, next_set, row_count, row_next_set, row_run_bounds, run_bounds};
 use super::spread::largest_remainder;
 use super::Row;
@@ -53,6 +53,9 @@ pub const ROWS: &[Named] = &[
     }),
     ("play of structs, beside one of columns, 1,024 slots", |seed| {
         structs(typical(seed, SLOTS_MOST, 0, 1))
+    }),
+    ("replay of 1,024 draws, beside their play, 1,024 slots", |seed| {
+        replay(typical(seed, SLOTS_MOST, 0, 1))
     }),
     ("recount, 64 slots", |seed| recount(typical(seed, 64, 0, 1))),
     ("recount, 256 slots", |seed| recount(typical(seed, 256, 0, 1))),

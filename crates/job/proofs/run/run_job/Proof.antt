@@ -1,6 +1,7 @@
 -- `job::run::run_job` meets its contract. Assumes nothing.
 -- Below, cN is what is known N places before c.
 use borrow.Author.Needs.{needs}
+use borrow.Author.Tests.{leb-true}
 use mathlib.Core.Path.{sym, _∙_}
 use Rattle.paper.proofs.Rows.{said}
 use Rattle.job.proofs.Readings.{read-few, read-count, read-number, read-refusal, read-ok}
@@ -30,7 +31,7 @@ list-requires c κs =
     let z = sym (said _ (c .before .before .before .before .before .before .read-refusal .ensures)) ∙ c .before .before .before
     .before .if1 .taken in
     let K = read-ok _ _ _ _ _ (r .0) (r .1 .0) (r .1 .1) z in (
-      (P .slots-few, P .people-few, read-few (K .0) .4, K .1),
+      (P .slots-few, P .people-few, read-few (K .0) .4, leb-true _ _ (K .1)),
       (
         (P .starts-room, P .ends-room, P .targets-room),
         (

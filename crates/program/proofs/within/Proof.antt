@@ -1,10 +1,9 @@
--- `boltraven::within` meets its contract. Assumes nothing.
+-- `program::within` meets its contract. Assumes nothing.
 use mathlib.Core.Path.{sym}
-use native.Mathlib.Omega.{arith}
 use native.Mathlib.Nat.{le-refl}
 use lib.Seq.{length-take-le}
-use Rattle.boltraven.proofs.within.Statement.{statement}
-use Rattle.boltraven.proofs.within.Tie as tie
+use Rattle.program.proofs.within.Statement.{statement}
+use Rattle.program.proofs.within.Tie as tie
 
 returns : tie.Need-returns
 returns c = (c .if1 .taken, sym (length-take-le _ _ (c .if1 .taken)))
