@@ -1,19 +1,20 @@
 -- The laws of judging a draw: tests in a row, masks of people, picks, owners of units, and the walks to a run's two ends. Assumes nothing.
 use mathlib.Core.Path.{_≡_, sym, ap, ap₂, _∙_}
-use mathlib.Core.Bool.{Bool, true, false, cond, _&&_, _||_, or-false, or-assoc}
+use mathlib.Core.Bool.{Bool, true, false, cond, not, _&&_, _||_, or-false, or-assoc}
 use mathlib.Core.Logic.{⊎-elim}
 use mathlib.Core.List.{List, [], _∷_, _++_}
-use Prim.Native.Nat.{ℕ, zero, suc, _+_, _-_, _^_, _≤_, _<_, min}
-use native.Mathlib.Nat.{le-antisymm}
+use Prim.Native.Nat.{ℕ, zero, suc, _+_, _-_, _*_, _%_, _^_, _≤_, _<_, min}
+use native.Mathlib.Nat.{le-antisymm, one-mul}
 use native.Mathlib.Omega.{arith}
 use borrow.Author.Tests.{eq-eqb, ne-eqb, le-leb, lt-leb}
-use lib.Dec.{eqb, leb}
+use lib.Dec.{eqb, leb, lit<}
 use lib.Bits.{bitAnd}
+use lib.Pow.{shl-exact}
 use lib.ListN.{length, getD, length-append}
 use Rattle.paper.specs.Bits.{bitOf}
 use Rattle.paper.specs.Count.{all, allIn, among}
-use Rattle.paper.proofs.Bits.{top-clear, bit-and, bit-ones, bit-lt}
-use Rattle.paper.proofs.Count.{in-none, in-fails, among-at, among-in}
+use Rattle.paper.proofs.Bits.{top-clear, bit-and, bit-mod, bit-ones, bit-lt}
+use Rattle.paper.proofs.Count.{all-each, each-all, in-none, in-fails, among-none, among-at, among-in}
 use Rattle.paper.proofs.Logic.{lt-or-ge}
 use Rattle.rota.specs.declared.Pick.the-variants.{Nobody, Beyond, Person}
 use Rattle.rota.specs.declared.Move.{Move}
@@ -63,6 +64,16 @@ pub mask-past : (mask p : ℕ) → mask < 2 ^ 32 → 32 ≤ p → false ≡ inMa
 unfolding inMask
 mask-past mask p h g = sym (ap (λ (b : ℕ). eqb b 1) (top-clear mask 32 p h g))
 
+-- one bit of 32, shifted up; where the k lowest bits of a mask are all ones, the first k people all stand in it
+pub one-shl : (k : ℕ) → k < 32 → 1 * 2 ^ k % 2 ^ 32 ≡ 2 ^ k
+one-shl k h = shl-exact {a = 1} 1 k 32 (lit< tt) (omega arith) ∙ one-mul (2 ^ k)
+
+pub all-stand : (mask k : ℕ) → mask % 2 ^ k ≡ 2 ^ k - 1 → all k (inMask mask) ≡ true
+unfolding inMask
+all-stand mask k e =
+    each-all k (λ p. eqb (bitOf mask p) 1)
+    (λ p h. eq-eqb _ 1 (sym (bit-mod mask k p h) ∙ ap (λ (w : ℕ). bitOf w p) e ∙ bit-ones k p h))
+
 both-set : (a b : ℕ) → a < 2 → b < 2 → eqb (min a b) 1 ≡ eqb a 1 && eqb b 1
 both-set zero b h g = let e : min 0 b ≡ 0 = omega arith in ap (λ (x : ℕ). eqb x 1) e
 both-set (suc zero) b h g = let e : min 1 b ≡ b = omega arith in ap (λ (x : ℕ). eqb x 1) e
@@ -110,6 +121,19 @@ cover-says fits a e mask p h m f C =
 
 pub picked-more : (q : ℕ → Bool) (i : ℕ) → q i ≡ true → length (among q i) + 1 ≡ length (among q (i + 1))
 picked-more q i t = sym (ap length (among-in q i t) ∙ length-append (among q i) (i ∷ []))
+
+-- where everybody below n passes, n are listed; so counting may start past people who all stand in a mask, up to the one left out
+picked-each : (q : ℕ → Bool) (n : ℕ) → ((k : ℕ) → k < n → q k ≡ true) → n ≡ length (among q n)
+picked-each q zero f = sym (among-none q)
+picked-each q (suc n) f =
+    let e : n + 1 ≡ suc n = omega arith in
+    sym e ∙ ap (λ (m : ℕ). m + 1) (picked-each q n (λ k h. f k (omega arith))) ∙ picked-more q n (f n (omega arith))
+    ∙ ap (λ (m : ℕ). length (among q m)) e
+
+pub picked-start : (mask skip n : ℕ) → n ≤ skip → all n (inMask mask) ≡ true
+    → n ≡ length (among (λ p. not (eqb p skip) && inMask mask p) n)
+picked-start mask skip n h e =
+    picked-each _ n (λ k g. simp (ne-eqb k skip (λ z. omega (arith, z)), all-each n (inMask mask) e k g))
 
 module _ (q : ℕ → Bool) (people k : ℕ) where
   pub picked-found : (i seen : ℕ) → i < people → q i ≡ true → seen ≡ length (among q i) → seen ≡ k → Person i ≡ picked (among q people) k

@@ -2,11 +2,11 @@
 use crate::Move;
 use crate::Pick;
 ghost use mathlib.Core.Path.{_≡_};
-ghost use mathlib.Core.Bool.{not, _&&_, _||_};
-ghost use Prim.Native.Nat.{suc, _+_, _-_, _<_, _≤_};
+ghost use mathlib.Core.Bool.{true, not, _&&_, _||_};
+ghost use Prim.Native.Nat.{suc, _+_, _-_, _<_, _≤_, min};
 ghost use lib.Dec.{eqb};
 ghost use lib.ListN.{length, getD};
-ghost use Rattle.paper.specs.Count.{allIn, among};
+ghost use Rattle.paper.specs.Count.{all, allIn, among};
 ghost use Rattle.units.specs.Units.{unitStart, unitEnd};
 ghost use Rattle.rota.specs.Board.{runStart, runEnd};
 ghost use Rattle.units.specs.Domains.{inMask};
@@ -142,13 +142,35 @@ fn fits_all(fits: &[u32], a: usize, e: usize, person: u8) -> bool
     in_mask(cover_of(fits, a, e), person as usize)
 }
 
-// The nth person of a mask, ascending, `skip` left out.
+// The lower of two numbers.
+pub(crate) fn lower_of(a: usize, b: usize) -> usize
+    ensures { λ r. ⌜ r ≡ min a b ⌝ }
+{
+    if a < b { a } else { b }
+}
+
+// k where the first k people all stand in a mask, else 0: those need not be counted one by one.
+fn all_first(mask: u32, people: usize, k: usize) -> usize
+    requires { ⌜ people ≤ 32 ⌝ }
+    ensures { λ r. ⌜ (r ≤ people) × (r ≤ k) × (all r (inMask mask) ≡ true) ⌝ }
+{
+    if k < people {
+        let bound = 1u32 << k;
+        if mask % bound == bound - 1 {
+            return k;
+        }
+        return 0;
+    }
+    0
+}
+
+// The nth person of a mask, ascending, `skip` left out. Counting starts past those that all stand in it.
 fn nth_of(mask: u32, people: usize, skip: u8, nth: usize) -> Pick
     requires { ⌜ people ≤ 32 ⌝ }
     ensures { λ r. ⌜ r ≡ picked (among (λ p. not (eqb p skip) && inMask mask p) people) nth ⌝ }
 {
-    let mut p: usize = 0;
-    let mut seen: usize = 0;
+    let mut p = all_first(mask, people, lower_of(nth, skip as usize));
+    let mut seen = p;
     while p < people {
         if is_other(mask, skip, p) {
             if seen == nth {
@@ -169,12 +191,13 @@ fn nth_of(mask: u32, people: usize, skip: u8, nth: usize) -> Pick
 
 // Whether a person stands in a mask and is not `skip`.
 fn is_other(mask: u32, skip: u8, person: usize) -> bool
+    requires { ⌜ person < 32 ⌝ }
     ensures { λ r. ⌜ r ≡ not (eqb person skip) && inMask mask person ⌝ }
 {
     if person == skip as usize {
         return false;
     }
-    in_mask(mask, person)
+    (mask >> person) % 2 == 1
 }
 
 // Units a to b, both included, to a person.

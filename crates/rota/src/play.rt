@@ -394,7 +394,7 @@ pub fn play(
         (owners .exit)) (derived (now
         (sets .exit)) (now (minutes .exit)) (now (totals .exit))) (now (answers .exit)) ⌝ }
 {
-    let b = begin(
+    let refusal = play_refusal(
         people,
         slots,
         units,
@@ -408,13 +408,13 @@ pub fn play(
         sets,
         minutes,
         totals,
-        columns_enough(count, draws, firsts, seconds),
         answers,
+        columns_enough(count, draws, firsts, seconds),
     );
-    let refusal = b.refusal;
     if refusal.number == 0 {
-        let fits = b.fits;
-        let flags = b.flags;
+        let mut fits = [0u32; 1024];
+        units::unit_domains(people, slots, units, avail, begins, &mut fits);
+        let flags = frozen_of(slots, units, begins, frozen);
         run(
             people,
             slots,

@@ -1,10 +1,11 @@
 // A replay of one recorded block of draws: it stops by itself at the first draw whose answer isn't the recorded one.
 use crate::checks::columns_enough;
+use crate::moves::lower_of;
 use crate::play::begin;
 use crate::play::step;
 use paper::Refusal;
 ghost use mathlib.Core.Path.{_≡_};
-ghost use Prim.Native.Nat.{_≤_, min};
+ghost use Prim.Native.Nat.{_≤_};
 ghost use lib.ListN.{length};
 ghost use Rattle.paper.specs.Count.{all};
 ghost use Rattle.owners.specs.Derived.{plan, derived};
@@ -20,13 +21,6 @@ pub enum Replayed {
     Agrees,
     Differs(usize),
     Refused(Refusal),
-}
-
-// The lower of two numbers.
-fn lower_of(a: usize, b: usize) -> usize
-    ensures { λ r. ⌜ r ≡ min a b ⌝ }
-{
-    if a < b { a } else { b }
 }
 
 // Whether the first recorded answers, as many as are lent of count, are 0, 1 or 2.

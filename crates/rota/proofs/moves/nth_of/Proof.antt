@@ -7,9 +7,9 @@ use borrow.Author.Needs.{needs}
 use lib.Dec.{eqb}
 use lib.ListN.{length}
 use Rattle.paper.specs.Count.{among}
-use Rattle.paper.proofs.Count.{among-none, among-out}
+use Rattle.paper.proofs.Count.{among-out}
 use Rattle.units.specs.Domains.{inMask}
-use Rattle.rota.proofs.Judged.{picked-found, picked-more, picked-nobody, picked-beyond}
+use Rattle.rota.proofs.Judged.{picked-start, picked-found, picked-more, picked-nobody, picked-beyond}
 use Rattle.rota.proofs.moves.nth_of.Statement.{statement}
 use Rattle.rota.proofs.moves.nth_of.Tie as tie
 
@@ -21,7 +21,13 @@ abbrev μ-loop : tie.MeasureT-loop
 μ-loop mask people skip nth p₀ seen₀ p seen = people - p
 
 loop-holds : tie.Need-loop-holds Inv-loop μ-loop
-loop-holds c = (search needs, sym (among-none _), search needs)
+loop-holds c =
+    let r = c .all-first .ensures in
+    let low = c .before .lower-of .ensures in
+    (r .0, picked-start _ _ _ (omega (arith, r .1, low)) (r .2), omega (arith, r .1, low))
+
+is-other-requires : tie.Need-is-other-requires Inv-loop μ-loop
+is-other-requires c κs = omega (arith, c .loop-test .taken, c .before .before .before .before .pre)
 
 returns : tie.Need-returns Inv-loop μ-loop
 returns c =
@@ -70,8 +76,10 @@ nth-of-spec =
     (tie.spec
     Inv-loop
     μ-loop
-    loop-holds
     (λ c κs. search needs)
+    (λ c κs. search needs)
+    loop-holds
+    is-other-requires
     (λ c. search needs)
     returns
     (λ c. search needs)

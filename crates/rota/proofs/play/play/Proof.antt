@@ -1,25 +1,33 @@
 -- `rota::play::play` meets its contract. Assumes nothing.
-use mathlib.Core.Path.{_≡_, subst}
-use mathlib.Core.Bool.{Bool}
-use mathlib.Core.List.{List}
+use mathlib.Core.Path.{_≡_, sym, _∙_}
 use Prim.Native.Nat.{ℕ}
+use native.Mathlib.Omega.{arith}
 use borrow.Author.Needs.{needs}
+use lib.ListN.{length, length-replicate}
+use Rattle.paper.proofs.Rows.{said}
+use Rattle.units.proofs.Units.{units-room}
 use Rattle.owners.specs.Derived.{plan, derived}
-use Rattle.rota.specs.declared.play.Begun.{Begun}
 use Rattle.rota.specs.Entries.{columnsEnough}
-use Rattle.rota.specs.Begins.{Begins}
-use Rattle.rota.proofs.Entered.{asks-step, columns-room}
-use Rattle.rota.proofs.Beginning.{begun-asks, begun-board, begun-even, begun-room, begun-yes, begun-refused}
+use Rattle.rota.proofs.Entered.{unit-room, columns-room, enough-number, play-asks, asks-few, asks-fits, asks-step}
+use Rattle.rota.proofs.Entered.{ready-sound, ready-even, played-yes, played-refused}
 use Rattle.rota.proofs.play.play.Statement.{statement}
 use Rattle.rota.proofs.play.play.Tie as tie
 
--- the play has begun, with columns that have enough draws or not
-begun-of : (people slots units n : ℕ) (starts ends avail begins frozen o sets minutes totals ks fs ss x : List ℕ) (b : Begun) (e : Bool)
-    → Begins (plan people slots starts ends) avail units begins frozen n e o (derived sets minutes totals) x b → e ≡ columnsEnough n
-    ks fs ss
-    → Begins (plan people slots starts ends) avail units begins frozen n (columnsEnough n ks fs ss) o (derived sets minutes totals) x b
-begun-of people slots units n starts ends avail begins frozen o sets minutes totals ks fs ss x b e w q =
-    subst (λ (t : Bool). Begins (plan people slots starts ends) avail units begins frozen n t o (derived sets minutes totals) x b) q w
+frozen-of-requires : tie.Need-frozen-of-requires
+frozen-of-requires c κs =
+    let c8 = c .before .before .before .before .before .before .before .before in
+    let c16 = c8 .before .before .before .before .before .before .before .before in
+    let c24 = c16 .before .before .before .before .before .before .before .before in
+    let a = c24 .before .args in
+    let no = enough-number (plan (a .people) (a .slots) (a .starts .now) (a .ends .now)) (a .avail .now) (a .units) (a .begins .now) (a
+    .frozen .now) (a .count) (columnsEnough (a .count) (a .draws .now) (a .firsts .now) (a .seconds .now)) (a .owners .now) (derived
+    (a .sets .now) (a .minutes .now) (a .totals .now)) (a .answers .now) _ _ (c .before .before .before .before .before .play-refusal .ensures)
+    (c .before .before .before .before .before .before .columns-enough .ensures) in
+    let A = play-asks (plan (a .people) (a .slots) (a .starts .now) (a .ends .now)) (a .avail .now) (a .units) (a .begins .now) (a
+    .frozen .now) (a .count) (columnsEnough (a .count) (a .draws .now) (a .firsts .now) (a .seconds .now)) (a .owners .now) (derived
+    (a .sets .now) (a .minutes .now) (a .totals .now)) (a .answers .now) (sym (said _ no) ∙ c .before .before .before .if1 .taken) in
+    let G = A .right in
+    ((G .on .sound .slots-few, asks-few _ _ _ _ _ _ _ _ _ _ A, G .flags), unit-room _ _ _ (G .units-ok))
 
 run-requires : tie.Need-run-requires
 run-requires c κs =
@@ -27,22 +35,31 @@ run-requires c κs =
     let c16 = c8 .before .before .before .before .before .before .before .before in
     let c24 = c16 .before .before .before .before .before .before .before .before in
     let c32 = c24 .before .before .before .before .before .before .before .before in
-    let a = c32 .args in
-    let b = c8 .before .before .before .before .begin in
-    let w = begun-of (a .people) (a .slots) (a .units) (a .count) (a .starts .now) (a .ends .now) (a .avail .now) (a .begins .now)
-    (a .frozen .now) (a .owners .now) (a .sets .now) (a .minutes .now) (a .totals .now) (a .draws .now) (a .firsts .now) (a .seconds
-    .now) (a .answers .now)
-    (b .result) _ (b .ensures) (c8 .before .before .before .before .before .before .columns-enough .ensures) in
-    let z = c8 .before .if1 .taken in
-    let A = begun-asks _ _ _ _ _ _ _ _ _ _ _ w z in (
-      A .right .on .sound,
+    let a = c32 .before .args in
+    let no = enough-number (plan (a .people) (a .slots) (a .starts .now) (a .ends .now)) (a .avail .now) (a .units) (a .begins .now) (a
+    .frozen .now) (a .count) (columnsEnough (a .count) (a .draws .now) (a .firsts .now) (a .seconds .now)) (a .owners .now) (derived
+    (a .sets .now) (a .minutes .now) (a .totals .now)) (a .answers .now) _ _ (c8 .before .before .before .before .before .play-refusal .ensures)
+    (c8 .before .before .before .before .before .before .columns-enough .ensures) in
+    let A = play-asks (plan (a .people) (a .slots) (a .starts .now) (a .ends .now)) (a .avail .now) (a .units) (a .begins .now) (a
+    .frozen .now) (a .count) (columnsEnough (a .count) (a .draws .now) (a .firsts .now) (a .seconds .now)) (a .owners .now) (derived
+    (a .sets .now) (a .minutes .now) (a .totals .now)) (a .answers .now) (sym (said _ no) ∙ c8 .before .before .before .if1 .taken) in
+    let G = A .right in
+    let few = asks-few _ _ _ _ _ _ _ _ _ _ A in
+    let F = asks-fits _ _ _ _ _ _ _ _ _ _ A _ (c8 .before .unit-domains .ensures .1) in
+    let M = c .before .before .before .before .before .before .before .frozen-of in
+    let masks = c8 .before .unit-domains .kept .1 .1 .1 .1 .1 .0 ∙ length-replicate {A = ℕ} 1024 0 in
+    let marks : length (M .result) ≡ 1024 = search (needs, M .ok) in (
+      G .on .sound,
       (
         asks-step _ _ _ _ _ _ _ _ _ _ A,
         (
-          begun-board _ _ _ _ _ _ _ _ _ _ _ w z,
+          ready-sound _ _ _ _ _ _ _ _ _ _ A _ _ F (M .ensures),
           (
-            begun-even _ _ _ _ _ _ _ _ _ _ _ w z,
-            (columns-room _ _ _ _ _ (A .right .draws) (A .right .answers), begun-room _ _ _ _ _ _ _ _ _ _ _ w z),
+            ready-even _ _ _ _ _ _ _ _ _ _ A _ _ F (M .ensures),
+            (
+              columns-room _ _ _ _ _ (G .draws) (G .answers),
+              (units-room _ _ _ (G .units-ok), omega (arith, few, masks), omega (arith, few, marks)),
+            ),
           ),
         ),
       ),
@@ -55,25 +72,27 @@ returns c =
     let c24 = c16 .before .before .before .before .before .before .before .before in
     let c32 = c24 .before .before .before .before .before .before .before .before in
     let c40 = c32 .before .before .before .before .before .before .before .before in
-    let a = c40 .before .before .before .args in
-    let b = c16 .before .before .before .before .before .before .before .begin in
-    let w = begun-of (a .people) (a .slots) (a .units) (a .count) (a .starts .now) (a .ends .now) (a .avail .now) (a .begins .now)
-    (a .frozen .now) (a .owners .now) (a .sets .now) (a .minutes .now) (a .totals .now) (a .draws .now) (a .firsts .now) (a .seconds
-    .now) (a .answers .now)
-    (b .result) _ (b .ensures) (c24 .before .columns-enough .ensures) in
-    begun-yes _ _ _ _ _ _ _ _ _ _ _ w (c16 .before .before .before .before .if1 .taken) _ _ _ _ (c8 .before .before .run .ensures)
+    let a = c40 .before .before .before .before .args in
+    let no = enough-number (plan (a .people) (a .slots) (a .starts .now) (a .ends .now)) (a .avail .now) (a .units) (a .begins .now) (a
+    .frozen .now) (a .count) (columnsEnough (a .count) (a .draws .now) (a .firsts .now) (a .seconds .now)) (a .owners .now) (derived
+    (a .sets .now) (a .minutes .now) (a .totals .now)) (a .answers .now) _ _ (c24 .play-refusal .ensures) (c24 .before .columns-enough .ensures) in
+    let A = play-asks (plan (a .people) (a .slots) (a .starts .now) (a .ends .now)) (a .avail .now) (a .units) (a .begins .now) (a
+    .frozen .now) (a .count) (columnsEnough (a .count) (a .draws .now) (a .firsts .now) (a .seconds .now)) (a .owners .now) (derived
+    (a .sets .now) (a .minutes .now) (a .totals .now)) (a .answers .now) (sym (said _ no) ∙ c16 .before .before .before .before .before .before .if1 .taken) in
+    let F = asks-fits _ _ _ _ _ _ _ _ _ _ A _ (c16 .before .before .before .before .unit-domains .ensures .1) in
+    played-yes _ _ _ _ _ _ _ _ _ _ A _ _ F (c16 .before .before .frozen-of .ensures) _ _ no (c16 .before .before .before .before
+    .before .before .if1 .taken) _ _ _ (c8 .before .before .run .ensures)
 
 returns-2 : tie.Need-returns-2
 returns-2 c =
     let c8 = c .before .before .before .before .before .before .before .before in
     let c16 = c8 .before .before .before .before .before .before .before .before in
-    let a = c16 .before .before .before .before .before .before .before .args in
-    let b = c .before .before .before .begin in
-    let w = begun-of (a .people) (a .slots) (a .units) (a .count) (a .starts .now) (a .ends .now) (a .avail .now) (a .begins .now)
-    (a .frozen .now) (a .owners .now) (a .sets .now) (a .minutes .now) (a .totals .now) (a .draws .now) (a .firsts .now) (a .seconds
-    .now) (a .answers .now)
-    (b .result) _ (b .ensures) (c .before .before .before .before .before .columns-enough .ensures) in
-    begun-refused _ _ _ _ _ _ _ _ _ _ _ w (c .if1 .left) _
+    let a = c16 .before .before .before .before .before .before .args in
+    let no = enough-number (plan (a .people) (a .slots) (a .starts .now) (a .ends .now)) (a .avail .now) (a .units) (a .begins .now) (a
+    .frozen .now) (a .count) (columnsEnough (a .count) (a .draws .now) (a .firsts .now) (a .seconds .now)) (a .owners .now) (derived
+    (a .sets .now) (a .minutes .now) (a .totals .now)) (a .answers .now) _ _ (c .before .before .play-refusal .ensures)
+    (c .before .before .before .columns-enough .ensures) in
+    played-refused _ _ _ _ _ _ _ _ _ _ _ _ no (c .if1 .left)
 
 pub play-spec : {M : Type 1} → statement M
 play-spec =
@@ -81,6 +100,9 @@ play-spec =
     (tie.spec
     (λ c κs. search needs)
     (λ c κs. search needs)
+    (λ c. search needs)
+    (λ c κs. search needs)
+    frozen-of-requires
     (λ c. search needs)
     (λ c. search needs)
     run-requires
