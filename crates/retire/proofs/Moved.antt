@@ -227,7 +227,8 @@ module _ (H : Held) (N : New) (P : PlanRight H N) where
             e ∙ over-same _ (beginThen went (H .units - went) gone kept (H .lent .begins) (newUnits (H .people) N)) (H .units - went + m) (H .lent .begins)
             (λ k b. rolled-same went (H .units - went) _ _ _ _ k (λ _. refl) (λ g. ap (λ (x : ℕ). kept + x) (unit-at (k - (H .units - went)) (omega arith))))
             ∙ ap₂ (λ (x y : ℕ). over (beginThen x (H .units - x) y kept (H .lent .begins) (newUnits (H .people) N)) (H .units - x + m) (H .lent .begins)) ew gone-is
-            ∙ ap₂ (λ (x y : ℕ). over (beginThen (unitsGone H) (unitsKept H) (slotsGone H) x (H .lent .begins) (newUnits (H .people) N)) (unitsKept H + y) (H .lent .begins)) kept-is unit-count-is
+            ∙ ap₂ (λ (x y : ℕ). over (beginThen (unitsGone H) (unitsKept H) (slotsGone H) x (H .lent .begins) (newUnits (H .people) N)) (unitsKept H + y) (H .lent
+            .begins)) kept-is unit-count-is
 
 -- ---- the rooms that the code's calls ask for
 

@@ -348,7 +348,12 @@ module _ (H : Held) (N : New) (P : PlanRight H N) where
               (
                 room-of slots-pass,
                 (
-                  le-leb (16 * H .people) (length (availThen H N)) (omega (arith, length-rows (λ p. rolled (slotsGone H) (slotsKept H) (slot (H .lent .avail) (16 * p)) (newBit (H .people) N p)) (slotsThen H N) (H .people) (H .lent .avail), P .avail-room)),
+                  le-leb (16 * H .people) (length (availThen H N)) (omega (
+                    arith,
+                    length-rows (λ p. rolled (slotsGone H) (slotsKept H) (slot (H .lent .avail) (16 * p))
+                        (newBit (H .people) N p)) (slotsThen H N) (H .people) (H .lent .avail),
+                    P .avail-room,
+                  )),
                   (
                     le-leb (slotsThen H N) (length (ownersThen H N))
                         (omega (arith, column-length (slotsGone H) (slotsKept H) (slotsThen H N) (λ _. nobody) (H .lent .owners) owners-wide, owners-wide)),

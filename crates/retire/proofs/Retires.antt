@@ -119,7 +119,8 @@ module _ (H : Held) (N : New) (f : Refusal) (ef : f ≡ refusalOf (retireRow H N
             omega (
               arith,
               prior-by p,
-              leb-true (priorThen (planOf H) (H .lent .owners) (H .lent .priors) (slotsGone H) p) lastMinute (all-each (H .people) (λ q. leb (priorThen (planOf H) (H .lent .owners) (H .lent .priors) (slotsGone H) q) lastMinute)
+              leb-true (priorThen (planOf H) (H .lent .owners) (H .lent .priors) (slotsGone H) p) lastMinute (all-each (H .people) (λ q. leb (priorThen (planOf H) (H .lent
+                  .owners) (H .lent .priors) (slotsGone H) q) lastMinute)
                   (figures-parts .0) p h),
             )
 
@@ -161,7 +162,8 @@ module _ (H : Held) (N : New) (f : Refusal) (ef : f ≡ refusalOf (retireRow H N
 
           pub owners-pass : numberOf (fromSlotsRow (plan (H .people) n s e) a (rolledColumn gone (H .slots - gone) n (λ _. nobody) (H .lent .owners)) (H .lent .derived)) ≡ 0
           owners-pass =
-              ap (λ (x : Rattle.owners.specs.Derived.Plan). numberOf (fromSlotsRow x a (rolledColumn gone (H .slots - gone) n (λ _. nobody) (H .lent .owners)) (H .lent .derived))) plan-by
+              ap (λ (x : Rattle.owners.specs.Derived.Plan). numberOf (fromSlotsRow x a (rolledColumn gone (H .slots - gone) n (λ _. nobody) (H .lent .owners)) (H .lent
+              .derived))) plan-by
               ∙ ap₂ (λ (x y : List ℕ). numberOf (fromSlotsRow (planThen H N) x y (H .lent .derived))) (M .avail-are) owners-by
               ∙ then-passes H N plan-of (asked-of .owners-room)
               (recount-says (planOf H) (H .lent .avail) (H .units) (H .lent .begins) (H .lent .owners) (H .lent .derived) (whole-says H (right .whole-is) .2)) asked-of

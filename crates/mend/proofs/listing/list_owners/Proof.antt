@@ -8,8 +8,6 @@ use Rattle.mend.proofs.ListLaws.{differs-no, differs-yes, repair-is, Re
 use Rattle.mend.proofs.ListLaws.{reached-none, reached-out, reached-room, reached-in, reached-end}
 use Rattle.mend.proofs.listing.list_owners.Statement.{statement}
 use Rattle.mend.proofs.listing.list_owners.Tie as tie
-use Rattle.mend.proofs.listing.list_owners.Reads as reads
-use Rattle.mend.proofs.listing.list_owners.Lts as lts
 
 abbrev Inv-loop : tie.InvT-loop
 Inv-loop n frozen old new at list₀ done₀ k₀ list done k = Reached 0 (flagOf frozen 0) old new n at list₀ k done list

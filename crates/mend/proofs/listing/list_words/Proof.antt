@@ -7,8 +7,6 @@ use Rattle.mend.proofs.ListLaws.{differs-no, differs-yes, repair-is, Re
 use Rattle.mend.proofs.ListLaws.{reached-none, reached-out, reached-room, reached-in, reached-end}
 use Rattle.mend.proofs.listing.list_words.Statement.{statement}
 use Rattle.mend.proofs.listing.list_words.Tie as tie
-use Rattle.mend.proofs.listing.list_words.Reads as reads
-use Rattle.mend.proofs.listing.list_words.Lts as lts
 
 abbrev Inv-loop : tie.InvT-loop
 Inv-loop part n old new at list₀ done₀ k₀ list done k = Reached part (λ _. 0) old new n at list₀ k done list

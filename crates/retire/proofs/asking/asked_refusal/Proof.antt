@@ -22,7 +22,8 @@ returns c =
     (link (b .before .before .before .before .before .check4 .ensures) (link (b .before .before .before .before .check5 .ensures)
     (link (b .before .before .before .check6 .ensures) (link (b .before .before .check-words2 .ensures) (link (b .before .check7 .ensures)
     (link (b .check8 .ensures) (link (c .before .before .before .check9 .ensures) (link (c .before .before .check10 .ensures)
-    (link (c .before .check-room2 .ensures) (link (renamed _ 2 (c .check11 .ensures) (b .before .before .before .before .before .before .before .before .before .before .before .before .before .before .range-room-ok .ensures)) ends)))))))))))))))))
+    (link (c .before .check-room2 .ensures) (link (renamed _ 2 (c .check11 .ensures) (b .before .before .before .before .before .before .before .before .before .before
+    .before .before .before .before .range-room-ok .ensures)) ends)))))))))))))))))
 
 pub asked-refusal-spec : {M : Type 1} → statement M
 asked-refusal-spec =

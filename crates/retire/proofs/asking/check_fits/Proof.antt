@@ -13,7 +13,8 @@ fits-requires : tie.Need-fits-requires
 fits-requires c κs = (c .before .before .before .before .before .before .before .before .pre .0, count-most _ _ _ (c .fresh-slots .ensures .0))
 
 returns : tie.Need-returns
-returns c = renamed _ 5 (c .check .ensures) (c .before .fits2 .ensures ∙ fits-by (c .before .before .before .before .before .before .before .before .before .before .args .fault) (c .before .before .before .before .before .before .before .before .before .before .args .kept) _ _ _ (c .before .before .fresh-slots .ensures .0))
+returns c = renamed _ 5 (c .check .ensures) (c .before .fits2 .ensures ∙ fits-by (c .before .before .before .before .before .before .before .before .before .before .args
+    .fault) (c .before .before .before .before .before .before .before .before .before .before .args .kept) _ _ _ (c .before .before .fresh-slots .ensures .0))
 
 returns-2 : tie.Need-returns-2
 returns-2 c = skipped _ _ (c .if1 .left)

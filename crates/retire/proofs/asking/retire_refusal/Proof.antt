@@ -30,16 +30,22 @@ lifted-ok-requires c κs =
     let f = b .asked-refusal .ensures in
     let z = c .before .before .before .before .before .before .before .before .before .before .before .if1 .taken in (
       people-says _ (asked _ _ _ f z .people-ok) .1,
-      gone-within _ _ _ f z _ (c .before .before .before .before .before .before .before .before .before .before .recounted .ensures) _ _ _ (c .before .before .before .before .before .before .before .before .before .gone-units .ensures) (c .before .before .before .before .before .before .before .before .start-from .ensures) (c .before .before .before .before .before .before .before .left .ensures),
+      gone-within _ _ _ f z _ (c .before .before .before .before .before .before .before .before .before .before .recounted .ensures) _ _ _ (c .before .before .before
+          .before .before .before .before .before .before .gone-units .ensures) (c .before .before .before .before .before .before .before .before .start-from .ensures) (c
+          .before .before .before .before .before .before .before .left .ensures),
     )
 
 returns : tie.Need-returns
 returns c =
     let b = c .before .before .before .before .before .before .before .before .before .before in
-    retire-all _ _ _ (b .before .before .before .before .before .before .before .before .asked-refusal .ensures) (b .before .before .before .before .before .before .if1 .taken) _ (b .before .before .before .before .before .recounted .ensures) _ _ _ (b .before .before .before .before .gone-units .ensures)
+    retire-all _ _ _ (b .before .before .before .before .before .before .before .before .asked-refusal .ensures) (b .before .before .before .before .before .before .if1
+    .taken) _ (b .before .before .before .before .before .recounted .ensures) _ _ _ (b .before .before .before .before .gone-units .ensures)
     (b .before .before .before .start-from .ensures) (b .before .before .left .ensures) _ _ _ _ _ _ _ _ _ _ _ _ (b .before .check-order .ensures) (b .comes-after .ensures)
-    (c .before .before .before .before .before .before .before .before .before .check .ensures) (c .before .before .before .before .before .before .before .before .check-ranges .ensures) (c .before .before .before .before .before .before .before .check-fits .ensures) (c .before .before .before .before .before .before .figures-ok .ensures) (c .before .before .before .before .before .check2 .ensures)
-    (c .before .before .before .before .lifted-ok .ensures) (c .before .before .before .check3 .ensures) (c .before .before .settings-ok .ensures) (c .before .check4 .ensures) (c .or-later .ensures .0)
+    (c .before .before .before .before .before .before .before .before .before .check .ensures) (c .before .before .before .before .before .before .before .before
+    .check-ranges .ensures) (c .before .before .before .before .before .before .before .check-fits .ensures) (c .before .before .before .before .before .before .figures-ok
+    .ensures) (c .before .before .before .before .before .check2 .ensures)
+    (c .before .before .before .before .lifted-ok .ensures) (c .before .before .before .check3 .ensures) (c .before .before .settings-ok .ensures) (c .before .check4
+    .ensures) (c .or-later .ensures .0)
     (c .or-later .ensures .1)
 
 returns-2 : tie.Need-returns-2

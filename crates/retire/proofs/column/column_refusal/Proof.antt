@@ -14,7 +14,8 @@ returns c =
     let b = c .before .before .before .before in
     checked _ refl (b .before .before .accepted .ensures)
     (link (b .before .check-slots .ensures) (link (b .check-slots2 .ensures) (link (c .before .before .before .check .ensures)
-    (link (renamed _ 1 (c .before .before .check2 .ensures) (ap (λ (x : ℕ). leb x (b .before .before .before .before .before .args .count)) (b .before .before .before .left .ensures))) (link (c .before .check3 .ensures) (link (c .check4 .ensures) ends))))))
+    (link (renamed _ 1 (c .before .before .check2 .ensures) (ap (λ (x : ℕ). leb x (b .before .before .before .before .before .args .count)) (b .before .before .before .left
+    .ensures))) (link (c .before .check3 .ensures) (link (c .check4 .ensures) ends))))))
 
 pub column-refusal-spec : {M : Type 1} → statement M
 column-refusal-spec =

@@ -9,11 +9,13 @@ use Rattle.retire.proofs.entry.retire.Statement.{statement}
 use Rattle.retire.proofs.entry.retire.Tie as tie
 
 returns : tie.Need-returns
-returns c = end-nothing _ _ _ (c .before .before .before .before .before .before .retire-refusal .ensures) (c .before .before .before .before .if1 .taken) _ (c .before .gone-units .ensures) (c .if2 .taken)
+returns c = end-nothing _ _ _ (c .before .before .before .before .before .before .retire-refusal .ensures) (c .before .before .before .before .if1 .taken) _ (c .before
+    .gone-units .ensures) (c .if2 .taken)
 
 returns-2 : tie.Need-returns-2
 returns-2 c =
-    end-everything _ _ _ (c .before .before .before .before .before .before .before .retire-refusal .ensures) (c .before .before .before .before .before .if1 .taken) _ (c .before .before .gone-units .ensures) (c .before .if2 .left)
+    end-everything _ _ _ (c .before .before .before .before .before .before .before .retire-refusal .ensures) (c .before .before .before .before .before .if1 .taken) _ (c
+    .before .before .gone-units .ensures) (c .before .if2 .left)
     (c .if3 .taken)
 
 add-figures-requires : tie.Need-add-figures-requires
@@ -49,7 +51,8 @@ move-plan-requires c κs =
 
 sub-move-owners : tie.Need-sub-move-owners
 sub-move-owners c =
-    let b = c .before .before .before .before .before .before .before .before .before .before .before .before .before .before .before .before .before .before .before .before .before .before .before .before .before .before .before .before .before .before .before .before .before in
+    let b = c .before .before .before .before .before .before .before .before .before .before .before .before .before .before .before .before .before .before .before
+    .before .before .before .before .before .before .before .before .before .before .before .before .before .before in
     let f = b .before .before .before .before .before .before .before .before .before .retire-refusal .ensures in
     let z = b .before .before .before .before .before .before .before .if1 .taken in
     let u = b .before .before .before .before .gone-units .ensures in
@@ -60,31 +63,39 @@ sub-move-owners c =
 
 move-owners-requires : tie.Need-move-owners-requires
 move-owners-requires c κs =
-    let b = c .before .before .before .before .before .before .before .before .before .before .before .before .before .before .before .before .before .before .before .before .before .before .before .before .before .before .before .before .before .before .before .before .before in
+    let b = c .before .before .before .before .before .before .before .before .before .before .before .before .before .before .before .before .before .before .before
+    .before .before .before .before .before .before .before .before .before .before .before .before .before .before in
     let f = b .before .before .before .before .before .before .before .before .before .retire-refusal .ensures in
     let z = b .before .before .before .before .before .before .before .if1 .taken in
     let u = b .before .before .before .before .gone-units .ensures in
     let some = b .before .before .before .if2 .left in
     let rest = b .before .before .if3 .left in
     let g = b .start-from .ensures in
-    let M = part-moved _ _ _ _ _ _ _ _ _ _ _ _ _ _ _ _ _ _ _ _ (c .before .before .before .before .before .before .before .before .before .before .before .before .before .before .before .before .before .move-plan .ensures) in
+    let M = part-moved _ _ _ _ _ _ _ _ _ _ _ _ _ _ _ _ _ _ _ _ (c .before .before .before .before .before .before .before .before .before .before .before .before .before
+    .before .before .before .before .move-plan .ensures) in
     (owners-room _ _ _ f z _ u some rest _ g _ _ _ _ _ _ _ M, owners-pass _ _ _ f z _ u some rest _ g _ _ _ _ _ _ _ M)
 
 same-length-32 : tie.Need-same-length-32
-same-length-32 c = priors-long _ _ _ _ _ (c .before .before .before .before .before .before .before .before .before .before .before .before .before .before .before .before .before .before .before .before .before .before .before .before .before .before .before .before .before .before .before .before .before .before .before .before .add-figures .ensures .0)
+same-length-32 c = priors-long _ _ _ _ _ (c .before .before .before .before .before .before .before .before .before .before .before .before .before .before .before .before
+    .before .before .before .before .before .before .before .before .before .before .before .before .before .before .before .before .before .before .before .before
+    .add-figures .ensures .0)
 
 returns-3 : tie.Need-returns-3
 returns-3 c =
-    let b = c .before .before .before .before .before .before .before .before .before .before .before .before .before .before .before .before .before .before .before .before .before .before .before .before .before .before .before .before .before .before .before .before .before .before .before .before .before .before .before .before .before .before in
+    let b = c .before .before .before .before .before .before .before .before .before .before .before .before .before .before .before .before .before .before .before
+    .before .before .before .before .before .before .before .before .before .before .before .before .before .before .before .before .before .before .before .before .before
+    .before .before in
     let f = b .before .before .before .before .before .before .before .before .before .retire-refusal .ensures in
     let z = b .before .before .before .before .before .before .before .if1 .taken in
     let u = b .before .before .before .before .gone-units .ensures in
     let some = b .before .before .before .if2 .left in
     let rest = b .before .before .if3 .left in
     let g = b .start-from .ensures in
-    let M = part-moved _ _ _ _ _ _ _ _ _ _ _ _ _ _ _ _ _ _ _ _ (c .before .before .before .before .before .before .before .before .before .before .before .before .before .before .before .before .before .before .before .before .before .before .before .before .before .before .move-plan .ensures) in
+    let M = part-moved _ _ _ _ _ _ _ _ _ _ _ _ _ _ _ _ _ _ _ _ (c .before .before .before .before .before .before .before .before .before .before .before .before .before
+    .before .before .before .before .before .before .before .before .before .before .before .before .before .move-plan .ensures) in
     let D = c .before .before .before .before .before .before .before .before .move-owners .ensures in
-    let F = c .before .before .before .before .before .before .before .before .before .before .before .before .before .before .before .before .before .before .before .before .before .before .before .before .before .before .before .before .before .before .before .before .before .before .before .before .add-figures .ensures in
+    let F = c .before .before .before .before .before .before .before .before .before .before .before .before .before .before .before .before .before .before .before
+    .before .before .before .before .before .before .before .before .before .before .before .before .before .before .before .before .before .add-figures .ensures in
     end-retired _ _ _ f z _ u some rest _ _ _ _ (gone-is _ _ _ f z _ u some rest _ g) (M .slots-are) (M .units-are)
     (all-moved _ _ _ f z _ u some rest _ g _ _ _ _ _ _ _ M _ _ _ _ (D .0) (D .1) (F .0) (F .1))
 

@@ -9,7 +9,12 @@ use Rattle.retire.proofs.figures.add_retired.Tie as tie
 add-retired : tie.Need-add-retired
 add-retired c =
     let args = c .before .before .before .before .before .before .args in
-    omega (arith, retired-by (args .people) (args .gone) _ _ _ (args .retired .now) _ _ refl (c .before .minutes-gone .ensures), c .before .before .before .before .before .before .pre .1)
+    omega (
+      arith,
+      retired-by (args .people) (args .gone) _ _ _ (args .retired .now) _ _ refl (c .before .minutes-gone .ensures),
+      c .before .before .before .before .before
+          .before .pre .1,
+    )
 
 returns : tie.Need-returns
 returns c =

@@ -30,7 +30,8 @@ loop-again c =
     let args = b .before .before .before .before .before .before .args in (
       omega arith,
       all-more _ _ (b .before .loop .inv .1)
-          (sym (ap (λ (x : ℕ). leb x 100000000) (prior-by (args .people) (args .gone) _ _ _ _ _ _ _ (c .before .before .before .entry-of .ensures) (c .before .before .minutes-gone .ensures)))
+          (sym (ap (λ (x : ℕ). leb x 100000000) (prior-by (args .people) (args .gone) _ _ _ _ _ _ _ (c .before .before .before .entry-of .ensures) (c .before .before
+          .minutes-gone .ensures)))
           ∙ sym (c .before .sum-ok .ensures) ∙ c .if1 .taken),
     )
 
@@ -39,7 +40,8 @@ returns c =
     let b = c .before .before .before .before in
     let args = b .before .before .before .before .before .before .args in
     sym (all-fails _ _ _ (b .loop-test .taken)
-    (sym (ap (λ (x : ℕ). leb x 100000000) (prior-by (args .people) (args .gone) _ _ _ _ _ _ _ (c .before .before .before .entry-of .ensures) (c .before .before .minutes-gone .ensures)))
+    (sym (ap (λ (x : ℕ). leb x 100000000) (prior-by (args .people) (args .gone) _ _ _ _ _ _ _ (c .before .before .before .entry-of .ensures) (c .before .before
+    .minutes-gone .ensures)))
     ∙ sym (c .before .sum-ok .ensures) ∙ c .if1 .left))
 
 returns-2 : tie.Need-returns-2 Inv-loop μ-loop

@@ -10,7 +10,8 @@ returns c =
     let b = c .before .before .before .before .before .before in
     let pre = b .before .before .before .before .before .before .before .before .pre in
     c .is-number .ensures
-    ∙ ranges-by _ _ _ _ _ (says-people _ (pre .1) (pre .0)) (pre .2) (pre .3) (search needs) (search needs) (search needs) _ (c .before .before .before .before .merged-ranges .ensures .said)
+    ∙ ranges-by _ _ _ _ _ (says-people _ (pre .1) (pre .0)) (pre .2) (pre .3) (search needs) (search needs) (search needs) _ (c .before .before .before .before
+    .merged-ranges .ensures .said)
 
 pub ranges-ok-spec : {M : Type 1} → statement M
 ranges-ok-spec =

@@ -10,8 +10,11 @@ use Rattle.retire.proofs.moving.move_owners.Tie as tie
 
 returns : tie.Need-returns
 returns c =
-    let e = c .before .before .before .before .before .before .before .before .before .before .before .before .before .roll-owners .ensures in
-    (e, owners-moved _ _ _ _ _ (c .before .before .before .before .before .before .before .before .before .before .before .before .before .before .before .before .before .before .before .before .before .before .pre .1) _ e _ _ (c .before .before .before .before .before .before .from-slots .ensures))
+    let e = c .before .before .before .before .before .before .before .before .before .before .before .before .before .roll-owners .ensures in (
+      e,
+      owners-moved _ _ _ _ _ (c .before .before .before .before .before .before .before .before .before .before .before .before .before .before .before .before .before
+          .before .before .before .before .before .pre .1) _ e _ _ (c .before .before .before .before .before .before .from-slots .ensures),
+    )
 
 pub move-owners-spec : {M : Type 1} → statement M
 move-owners-spec =

@@ -34,4 +34,5 @@ returns-2 c =
     (save-number _ _ _ (j .0) _ _ _ (j .1) (c .before .before .room-ok .ensures) (c .before .save-refusal .ensures)) (c .if1 .left)
 
 pub save-spec : {M : Type 1} → statement M
-save-spec = tie.close (tie.spec (λ c κs. search needs) (λ c κs. search needs) (λ c κs. search needs) (λ c κs. search needs) (λ c. search needs) (λ c κs. search needs) add-t22 add-t24 (λ c. search needs) returns (λ c. search needs) returns-2)
+save-spec = tie.close (tie.spec (λ c κs. search needs) (λ c κs. search needs) (λ c κs. search needs) (λ c κs. search needs) (λ c. search needs)
+    (λ c κs. search needs) add-t22 add-t24 (λ c. search needs) returns (λ c. search needs) returns-2)
