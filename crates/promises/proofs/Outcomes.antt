@@ -2,11 +2,16 @@
 use mathlib.Core.Path.{_≡_, sym, ap, ap₂, _∙_}
 use mathlib.Core.List.{List}
 use Prim.Native.Nat.{ℕ}
+use lib.ListN.{replicate}
+use Rattle.paper.specs.declared.Refusal.{Refusal}
+use Rattle.paper.specs.Rows.{unless}
 use Rattle.paper.proofs.Logic.{one-outcome}
 use Rattle.slots.proofs.Meaning.{one-merged-end, one-atoms-end}
 use Rattle.units.proofs.Answers as units
 use Rattle.targets.proofs.Promises.{only-one}
 use Rattle.owners.proofs.Entered as state
+use Rattle.job.specs.Stages.{readyOf, ownersOf, startedOf}
+use Rattle.job.specs.Begun.{noReady, noDerived}
 use Rattle.replay.specs.declared.BlockRead.{BlockRead}
 use Rattle.replay.specs.Reading.{drawsIn, fieldsOf}
 use Rattle.promises.specs.Outcomes.{OneOutcome}
@@ -43,6 +48,15 @@ one-outcome-fits = record {
       let e = state.one-outcome y (r .0) (s .0) (r .1) (s .1) (r .2) (s .2) (r .3) (s .3) p q in four r s (e .0) (e .1) (e .2) (e .3);
   replay-block = λ y r s p q.
       triple r s (p .answer ∙ sym (q .answer)) (p .owners ∙ sym (q .owners)) (p .derived ∙ sym (q .derived));
+  begin = λ file room r q p t.
+      let e = p .refusal ∙ sym (t .refusal) in (
+        e,
+        p .ready ∙ ap (λ (f : Refusal). unless (f .number) noReady (readyOf file)) e ∙ sym (t .ready),
+        p .owners ∙ ap (λ (f : Refusal). unless (f .number) (replicate 1024 0) (ownersOf file)) e ∙ sym (t .owners),
+        p .derived ∙ ap (λ (f : Refusal). unless (f .number) noDerived (startedOf file .derived)) e ∙ sym (t .derived),
+      );
+  play-block = λ y r s p q.
+      four r s (p .answer ∙ sym (q .answer)) (p .owners ∙ sym (q .owners)) (p .derived ∙ sym (q .derived)) (p .out ∙ sym (q .out));
   begin-recording = λ y r s p q. pair r s (p .said ∙ sym (q .said)) (p .left ∙ sym (q .left));
   read-block = λ t blocks ks fs ss rs r s p q.
       let e = p .said ∙ sym (q .said) in

@@ -1,6 +1,7 @@
 -- "that only one outcome fits is itself proved": of each form that a contract has, two outcomes that meet it are one.
 -- There is no exception. Assumes nothing.
 use mathlib.Core.Path.{_≡_}
+use mathlib.Core.Bool.{Bool}
 use mathlib.Core.List.{List}
 use Prim.Native.Nat.{ℕ}
 use lib.IntN.{ℤ}
@@ -22,9 +23,12 @@ use Rattle.wayback.specs.declared.Way.{Way}
 use Rattle.wayback.specs.Answers as wayback
 use Rattle.job.specs.declared.JobAnswer.{JobAnswer}
 use Rattle.job.specs.Outcome as job
+use Rattle.job.specs.declared.Begun.{Begun}
 use Rattle.job.specs.Begun as begun
 use Rattle.replay.specs.declared.BlockRead.{BlockRead}
 use Rattle.replay.specs.Reading as reading
+use Rattle.replay.specs.declared.Played.{Played}
+use Rattle.replay.specs.Stage as stage
 
 abbrev pub Only {ℓ} : {A : Type ℓ} → (A → Type ℓ) → Type ℓ
 Only {A = A} Fits = (x y : A) → Fits x → Fits y → x ≡ y
@@ -42,6 +46,11 @@ pub record OneOutcome : Type 1 where
   -- from_slots, assign, empty, and play, of columns and of structs
   pub rota : (y : state.Outcome) → Only (λ (r : Refusal × List ℕ × Derived × List ℕ). state.Ended y (r .0) (r .1) (r .2) (r .3))
   pub replay-block : (y : replay.Outcome) → Only (λ (r : Replayed × List ℕ × Derived). replay.Replays y (r .0) (r .1) (r .2))
+  -- begin: the refusal, and all that is handed over beside it; play_block: what is answered, the rota and the text's buffer
+  pub begin : (file : List ℕ) (room : Bool) (r q : Begun) → begun.BegunIn file room r → begun.BegunIn file room q
+      → (r .refusal ≡ q .refusal) × (begun.readyFrom r ≡ begun.readyFrom q) × (r .owners ≡ q .owners)
+      × (begun.derivedFrom r ≡ begun.derivedFrom q)
+  pub play-block : (y : stage.Staged) → Only (λ (r : Played × List ℕ × Derived × List ℕ). stage.StagedAs y (r .0) (r .1) (r .2) (r .3))
   -- begin_recording: what is answered, the three counts and all ten columns; read_block: what is answered, and its four columns
   pub begin-recording : (y : begun.Beginning) → Only (λ (r : Refusal × begun.Lent). begun.Begins y (r .0) (r .1))
   pub read-block : (t : List ℕ) (blocks : ℕ) (ks fs ss rs : List ℕ)
