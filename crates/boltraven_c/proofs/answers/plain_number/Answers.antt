@@ -1,0 +1,8 @@
+-- `boltraven_c::answers::plain_number` meets its contract. Assumes nothing.
+use borrow.Author.Rules.{rules}
+use mathlib.Core.Path.{sym, ap, ◌∙◌}
+use Rattle.boltraven_c.specs.Numbers.{plain_number}
+use Rattle.boltraven_c.proofs.answers.plain_number.Goals as goal
+
+pub returns-in-Refused : goal.returns-in-Refused
+returns-in-Refused c = c.refused.ensures ∙ sym (ap plain_number c.in-Refused.is)

@@ -1,0 +1,15 @@
+-- `boltraven_c::rota_c::boltraven_assign` meets its contract. Assumes nothing.
+use borrow.Author.Rules.{rules}
+use mathlib.Core.Path.{ap, ◌∙◌}
+use Rattle.boltraven_c.specs.Numbers.{refusal_number}
+use Rattle.boltraven_c.proofs.rota_c.boltraven_assign.Goals as goal
+
+pub returns : goal.returns
+returns c =
+    let e = c.assign.ensures in
+    record {
+      refusal = c.refusal_number.ensures ∙ ap refusal_number e.refusal;
+      owners = e.owners;
+      derived = e.derived;
+      answers = e.answers;
+    }

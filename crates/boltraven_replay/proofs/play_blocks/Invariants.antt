@@ -1,0 +1,17 @@
+-- `boltraven_replay::play_blocks` meets its contract: it is safe and ends. Assumes nothing.
+use borrow.Author.Rules.{rules}
+use native.Mathlib.Omega.{arith}
+use mathlib.Core.Path.{◌≡◌}
+use mathlib.Core.List.{List}
+use Prim.Native.Nat.{ℕ, ◌-◌, ◌≤◌}
+use lib.IntN.{ℤ}
+use lib.ListN.{length}
+use Rattle.boltraven_replay.specs.declared.Window.{Window}
+use Rattle.boltraven_replay.proofs.play_blocks.Given as goal
+
+abbrev pub invariant-loop-block : goal.invariant-loop-block
+invariant-loop-block l =
+    Held l.initial.buf l.starts l.ends l.avail l.begins l.frozen l.targets l.buf l.owners l.sets l.minutes l.totals l.out l.w
+
+abbrev pub decreases-loop-block : goal.decreases-loop-block
+decreases-loop-block l = 65536 - l.block

@@ -1,0 +1,17 @@
+-- `columns::write_part` meets its contract. Assumes nothing.
+use mathlib.Core.Path.{◌≡◌, refl, sym, ap, ◌∙◌}
+use mathlib.Core.List.{List}
+use Prim.Native.Nat.{ℕ, ◌+◌, ◌-◌, ◌≤◌}
+use native.Mathlib.Omega.{arith}
+use lib.ListN.{length, get_or, set, length-set}
+use Rattle.columns.specs.Inside.{written_at}
+use Rattle.columns.proofs.Walk.{written_none, written-more}
+use borrow.Author.Rules.{rules}
+use Rattle.columns.proofs.write_part.Given as goal
+
+abbrev pub invariant-loop-k : goal.invariant-loop-k
+invariant-loop-k l =
+    (l.k ≤ length l.part) × (l.shown ≡ written_at (λ j. get_or l.part j 0) l.at l.k l.initial.shown) × (length l.shown ≡ length l.initial.shown)
+
+abbrev pub decreases-loop-k : goal.decreases-loop-k
+decreases-loop-k l = length l.part - l.k

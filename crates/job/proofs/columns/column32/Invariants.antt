@@ -1,0 +1,14 @@
+-- `job::columns::column32` meets its contract. The invariant: the first k numbers are read. Assumes nothing.
+use borrow.Author.Rules.{rules}
+use mathlib.Core.Path.{◌≡◌, ap, ◌∙◌}
+use Prim.Native.Nat.{◌-◌, ◌≤◌}
+use native.Mathlib.Omega.{arith}
+use Rattle.job.specs.Columns.{column}
+use Rattle.job.proofs.Files.{column-none, column-more}
+use Rattle.job.proofs.columns.column32.Given as goal
+
+abbrev pub invariant-loop-k : goal.invariant-loop-k
+invariant-loop-k l = (l.out ≡ column 4 l.s l.at l.stride l.k) × (l.k ≤ l.n)
+
+abbrev pub decreases-loop-k : goal.decreases-loop-k
+decreases-loop-k l = l.n - l.k

@@ -1,0 +1,37 @@
+-- `job::file::read_file` meets its contract. Assumes nothing.
+-- Below, c_n is what is known N places before c.
+use borrow.Author.Rules.{rules}
+use mathlib.Core.Path.{sym, ap, ◌∙◌}
+use mathlib.Core.Bool.{Bool, ◌&&◌}
+use Rattle.job.specs.File.{job_counts, job_starts}
+use Rattle.job.proofs.Files.{owners-end, file-ok}
+use Rattle.job.proofs.file.read_file.Goals as goal
+
+pub rest_ok-rest-requires : goal.rest_ok-rest-requires
+unfolding job_counts job_starts
+rest_ok-rest-requires c =
+    let c4 = c in
+    let w = c.walk-w.ensures.counts_value in
+    owners-end c4.args.s.now _ _ w.0 w.1
+
+pub returns-then-w : goal.returns-then-w
+unfolding job_counts job_starts
+returns-then-w c =
+    let c4 = c in
+    let c6 = c4 in
+    let w = c4.walk-w.ensures in record {
+      ok_value = sym (ap (λ (b : Bool). b && c.rest_ok-rest.result) c.if-w.true)
+          ∙ file-ok c6.args.s.now _ _ w.counts_value.0 w.counts_value.1 _ _ w.ok_value c.rest_ok-rest.ensures;
+      counts_value = w.counts_value;
+    }
+
+pub returns : goal.returns
+unfolding job_counts job_starts
+returns c =
+    let c4 = c in
+    let c6 = c4 in
+    let w = c4.walk-w.ensures in record {
+      ok_value = sym (ap (λ (b : Bool). b && c.rest_ok-rest.result) c.if-w.false)
+          ∙ file-ok c6.args.s.now _ _ w.counts_value.0 w.counts_value.1 _ _ w.ok_value c.rest_ok-rest.ensures;
+      counts_value = w.counts_value;
+    }

@@ -1,0 +1,36 @@
+-- `job::lent::lay8` meets its contract. Assumes nothing.
+use mathlib.Core.Path.{◌≡◌, sym, ap, ◌∙◌}
+use Prim.Native.Nat.{◌-◌, ◌≤◌}
+use native.Mathlib.Omega.{arith}
+use borrow.Author.Rules.{rules}
+use lib.ListN.{length}
+use Rattle.job.proofs.Lays.{laying, lay-none, lay-length, lay-more, lay_done}
+use Rattle.job.proofs.lent.lay8.Goals as goal
+
+pub loop-k-init : goal.loop-k-init
+loop-k-init c = (omega arith, lay-none _ _, search rules)
+
+pub loop-k-preserved : goal.loop-k-preserved
+loop-k-preserved c =
+    let at = c.loop-k in
+    let pre = c.requires in
+    let next = lay-more _ _ _ _ _ c.loop-k-test.true pre at.invariant.1 in
+    (omega arith, next, ap length next ∙ lay-length _ _ _ (omega arith) pre)
+
+pub shape_of-to : goal.shape_of-to
+shape_of-to c = c.loop-k.invariant.2
+
+pub returns : goal.returns
+returns c = lay_done _ _ _ _ c.loop-k.invariant.0 c.loop-k-test.false c.loop-k.invariant.1
+
+pub bounds-from-k : goal.bounds-from-k
+bounds-from-k c = omega arith
+
+pub bounds-to-k : goal.bounds-to-k
+bounds-to-k c = omega arith
+
+pub overflow_add-k : goal.overflow_add-k
+overflow_add-k c = omega arith
+
+pub loop-k-smaller : goal.loop-k-smaller
+loop-k-smaller c = omega arith

@@ -1,0 +1,30 @@
+-- `job::listing::put_listing` meets its contract: each field is a value of its type. Assumes nothing.
+use borrow.Author.Rules.{rules}
+use native.Mathlib.Omega.{arith}
+use mir.Syntax.{w64}
+use mir.Val.{Fits}
+use Rattle.job.specs.Listing.{listed}
+use Rattle.job.proofs.Lengths.{Fields, listing-fits}
+use Rattle.job.proofs.listing.put_listing.Goals as goal
+
+pub put_lines-requires : goal.put_lines-requires
+put_lines-requires c =
+    let c2 = c in
+    let c5 = c2 in
+    let s = c5 in
+    let a = s.args in
+    let L = listed a.slots a.starts.now a.ends.now a.owners.now a.people a.minutes.now a.targets.now a.draws
+    a.answers.now a.uncovered in
+    let u : Fits w64 a.uncovered = search rules in
+    let F : Fields L = record {
+      slots-few = s.requires.slots_bound.0;
+      people-few = s.requires.slots_bound.1;
+      draws-few = s.requires.slots_bound.2;
+      starts = λ k h. omega (arith, c5.shared-slice-known.given k);
+      ends = λ k h. omega (arith, c2.shared-slice-known2.given k);
+      owners = λ k h. omega (arith, c2.shared-slice-known3.given k);
+      minutes = λ p h. omega (arith, c2.shared-slice-known4.given p);
+      targets = s.requires.by_index;
+      uncovered = omega (arith, u.fits);
+    } in
+    record { slots_in_bounds = s.requires.slots_in_bounds; people_in_bounds = s.requires.people_in_bounds; uncovered_in_bounds = omega (arith, listing-fits L F, s.requires.slots_bound) }

@@ -1,0 +1,27 @@
+-- `job::owning::all_known` meets its contract. The invariant: the first k records are right. Assumes nothing.
+-- Below, c_n is what is known N places before c.
+use borrow.Author.Rules.{rules}
+use mathlib.Core.Path.{◌≡◌, sym, ◌∙◌}
+use mathlib.Core.Bool.{true}
+use Prim.Native.Nat.{◌-◌, ◌≤◌}
+use native.Mathlib.Omega.{arith}
+use Rattle.paper.specs.Count.{all}
+use Rattle.paper.proofs.Count.{all_none, all_more, all-fails, all_done}
+use Rattle.job.specs.Stages.{record_known, all_known}
+use Rattle.job.proofs.owning.all_known.Goals as goal
+
+pub loop-k-init : goal.loop-k-init
+loop-k-init c = (all_none _, omega arith)
+
+pub loop-k-preserved : goal.loop-k-preserved
+loop-k-preserved c =
+    let c3 = c in
+    (all_more _ _ c3.loop-k.invariant.0 (sym c.record_known.ensures ∙ c.if-record_known.true), omega arith)
+
+pub returns-else-record_known : goal.returns-else-record_known
+unfolding all_known
+returns-else-record_known c = sym (all-fails _ _ _ c.loop-k-test.true (sym c.record_known.ensures ∙ c.if-record_known.false))
+
+pub returns : goal.returns
+unfolding all_known
+returns c = all_done _ _ _ c.loop-k.invariant.1 c.loop-k-test.false c.loop-k.invariant.0

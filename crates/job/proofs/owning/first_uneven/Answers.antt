@@ -1,0 +1,28 @@
+-- `job::owning::first_uneven` meets its contract. The invariant: the first u units are even. Assumes nothing.
+use borrow.Author.Rules.{rules}
+use mathlib.Core.Path.{◌≡◌, sym, ◌∙◌}
+use mathlib.Core.Bool.{true}
+use Prim.Native.Nat.{◌-◌, ◌≤◌}
+use native.Mathlib.Omega.{arith}
+use Rattle.paper.specs.Count.{all}
+use Rattle.paper.proofs.Count.{all_none, all_more}
+use Rattle.owners.specs.Recount.{even_at}
+use Rattle.owners.proofs.Scans.{scan-fails, scan-ends}
+use Rattle.job.specs.Stages.{uneven_in}
+use Rattle.job.proofs.owning.first_uneven.Goals as goal
+
+pub loop-u-init : goal.loop-u-init
+loop-u-init c = (all_none _, omega arith)
+
+pub loop-u-preserved : goal.loop-u-preserved
+loop-u-preserved c = (all_more _ _ c.loop-u.invariant.0 (sym c.unit_even.ensures ∙ c.if-unit_even.true), omega arith)
+
+pub returns-else-unit_even : goal.returns-else-unit_even
+unfolding uneven_in
+returns-else-unit_even c =
+    let b = c in
+    scan-fails _ _ _ b.loop-u-test.true b.loop-u.invariant.0 (sym c.unit_even.ensures ∙ c.if-unit_even.false)
+
+pub returns : goal.returns
+unfolding uneven_in
+returns c = scan-ends _ _ _ c.loop-u.invariant.1 c.loop-u-test.false c.loop-u.invariant.0

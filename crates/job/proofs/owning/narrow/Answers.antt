@@ -1,0 +1,29 @@
+-- `job::owning::narrow` meets its contract. The invariant: the first k owners are bytes. Assumes nothing.
+use borrow.Author.Rules.{rules}
+use mathlib.Core.Path.{◌≡◌, sym, ap, ◌∙◌}
+use Prim.Native.Nat.{ℕ, ◌-◌, ◌≤◌}
+use native.Mathlib.Omega.{arith}
+use lib.ListN.{get_or, replicate}
+use Rattle.paper.specs.Count.{over}
+use Rattle.paper.proofs.Count.{over_none}
+use Rattle.job.specs.Stages.{byte_of, narrowed}
+use Rattle.records.proofs.Walks.{over-turn, over_done}
+use Rattle.job.proofs.Prepares.{byte_small, byte-large}
+use Rattle.job.proofs.owning.narrow.Goals as goal
+
+pub loop-k-init : goal.loop-k-init
+loop-k-init c = (sym (over_none _ _), omega arith)
+
+pub loop-k-preserved-then-owner-lt256 : goal.loop-k-preserved-then-owner-lt256
+loop-k-preserved-then-owner-lt256 c =
+    let inv = c.loop-k.invariant in
+    (over-turn _ _ _ _ _ inv.0 (byte_small _ c.if-owner-lt256.true ∙ ap byte_of c.entry16-owner.ensures), omega arith)
+
+pub loop-k-preserved : goal.loop-k-preserved
+loop-k-preserved c =
+    let inv = c.loop-k.invariant in
+    (over-turn _ _ _ _ _ inv.0 (byte-large _ c.if-owner-lt256.false ∙ ap byte_of c.entry16-owner.ensures), omega arith)
+
+pub returns : goal.returns
+unfolding narrowed
+returns c = over_done _ _ _ _ _ (omega arith) c.loop-k.invariant.0

@@ -1,0 +1,14 @@
+-- `job::run::read_refusal` meets its contract. Assumes nothing.
+use borrow.Author.Rules.{rules}
+use mathlib.Core.Path.{refl}
+use Rattle.paper.proofs.Rows.{link, ends, checked, renamed}
+use Rattle.job.specs.Outcome.{read_row}
+use Rattle.job.proofs.run.read_refusal.Goals as goal
+
+pub returns : goal.returns
+unfolding read_row
+returns c =
+    let c3 = c in
+    checked _ refl c3.accepted.ensures
+    (link c.check-f.ensures (link (renamed _ 1 c.check-f-2.ensures c3.counts_ok-few.ensures)
+    (link c.check.ensures ends)))

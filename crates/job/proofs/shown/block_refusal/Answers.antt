@@ -1,0 +1,15 @@
+-- `job::shown::block_refusal` meets its contract. Assumes nothing.
+use mathlib.Core.Path.{refl}
+use Rattle.paper.proofs.Rows.{link, ends, checked}
+use Rattle.job.specs.Shown.{block_row}
+use borrow.Author.Rules.{rules}
+use Rattle.job.proofs.shown.block_refusal.Goals as goal
+
+pub returns : goal.returns
+unfolding block_row
+returns c =
+    let b = c in
+    checked _ refl b.accepted.ensures
+    (link b.check_people-f.ensures (link b.check_slots-f.ensures
+    (link b.check-f.ensures (link b.check2.ensures (link c.check-f-3.ensures
+    (link c.check-f-4.ensures (link c.check-f-5.ensures (link c.check.ensures ends))))))))

@@ -1,0 +1,17 @@
+-- `mend::clearing::clear_uneven` meets its contract. Assumes nothing.
+use mathlib.Core.Path.{◌≡◌, refl, sym, ap, ◌∙◌}
+use Prim.Native.Nat.{◌-◌, ◌≤◌}
+use native.Mathlib.Omega.{arith}
+use borrow.Author.Rules.{rules}
+use lib.ListN.{length}
+use Rattle.units.proofs.Units.{units-room}
+use Rattle.mend.specs.Mended.{uneven_cleared}
+use Rattle.mend.proofs.Cleared.{uneven-none, uneven-length, even-stays, uneven-goes, uneven-end}
+use Rattle.mend.proofs.clearing.clear_uneven.Given as goal
+
+abbrev pub invariant-loop-u : goal.invariant-loop-u
+invariant-loop-u l =
+    (l.u ≤ l.units) × (l.owners ≡ uneven_cleared l.slots l.units l.begins l.initial.owners l.u) × (length l.owners ≡ length l.initial.owners)
+
+abbrev pub decreases-loop-u : goal.decreases-loop-u
+decreases-loop-u l = l.units - l.u

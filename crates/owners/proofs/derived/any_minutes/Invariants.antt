@@ -1,0 +1,12 @@
+-- `owners::derived::any_minutes` meets its contract. Assumes nothing.
+use Rattle.std.proofs.Common.{◌≡◌, ◌-◌, ◌≤◌, ◌∙◌, arith, rules}
+use Rattle.owners.specs.Derived.{stretch_minutes, wrapped}
+use Rattle.owners.proofs.Steps.{stretch-none, stretch-more, stretch-end}
+use Rattle.owners.proofs.derived.any_minutes.Given as goal
+
+abbrev pub invariant-loop-k : goal.invariant-loop-k
+invariant-loop-k l =
+    (l.a ≤ l.k) × (l.k - l.a ≤ l.e - l.a) × (l.total ≡ wrapped (stretch_minutes l.starts l.ends l.a l.k))
+
+abbrev pub decreases-loop-k : goal.decreases-loop-k
+decreases-loop-k l = l.e - l.k

@@ -1,0 +1,12 @@
+-- `owners::derived::fill_lent` meets its contract. Assumes nothing.
+use Rattle.std.proofs.Common.{◌≡◌, ℕ, ◌-◌, ◌≤◌, List, length, set, sym, refl, ap, ◌∙◌, arith, length-set, rules}
+use Rattle.paper.specs.Count.{fill}
+use Rattle.paper.proofs.Count.{fill_none, fill_more}
+use Rattle.owners.proofs.derived.fill_lent.Given as goal
+
+abbrev pub invariant-loop-k : goal.invariant-loop-k
+invariant-loop-k l =
+    (l.a ≤ l.k) × (l.k - l.a ≤ l.e - l.a) × (l.owners ≡ fill l.owner l.a (l.k - l.a) l.initial.owners) × (length l.owners ≡ length l.initial.owners)
+
+abbrev pub decreases-loop-k : goal.decreases-loop-k
+decreases-loop-k l = l.e - l.k

@@ -1,0 +1,13 @@
+-- `owners::entries::unassigned_refusal` meets its contract. Assumes nothing.
+use Rattle.std.proofs.Common.{refl, rules}
+use Rattle.paper.proofs.Rows.{link, ends, checked}
+use Rattle.owners.specs.Entries.{unassigned_row}
+use Rattle.owners.proofs.entries.unassigned_refusal.Goals as goal
+
+pub returns : goal.returns
+unfolding unassigned_row
+returns c =
+    let b = c in
+    checked _ refl b.accepted.ensures
+    (link c.check_people-f.ensures (link c.check_slots-f.ensures
+    (link c.check-f.ensures (link c.check_known.ensures ends))))

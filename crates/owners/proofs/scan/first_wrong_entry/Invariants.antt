@@ -1,0 +1,13 @@
+-- `owners::scan::first_wrong_entry` meets its contract. Assumes nothing.
+use Rattle.std.proofs.Common.{◌≡◌, ◌-◌, ◌≤◌, true, arith, rules, eq-eqb, ne_eqb}
+use Rattle.paper.specs.Count.{all}
+use Rattle.paper.proofs.Count.{all_none, all_more}
+use Rattle.owners.specs.Inside.{same_entry}
+use Rattle.owners.proofs.Scans.{scan-fails, scan-ends}
+use Rattle.owners.proofs.scan.first_wrong_entry.Given as goal
+
+abbrev pub invariant-loop-i : goal.invariant-loop-i
+invariant-loop-i l = (l.i ≤ l.n) × (all l.i (same_entry l.column l.right) ≡ true)
+
+abbrev pub decreases-loop-i : goal.decreases-loop-i
+decreases-loop-i l = l.n - l.i

@@ -1,0 +1,13 @@
+-- `owners::scan::first_wrong_slot` meets its contract. Assumes nothing.
+use Rattle.std.proofs.Common.{◌≡◌, ◌-◌, ◌≤◌, true, ◌∙◌, arith, rules}
+use Rattle.paper.specs.Count.{all}
+use Rattle.paper.proofs.Count.{all_none, all_more}
+use Rattle.owners.specs.Recount.{set_slot_at}
+use Rattle.owners.proofs.Scans.{scan-fails, scan-ends, member-test}
+use Rattle.owners.proofs.scan.first_wrong_slot.Given as goal
+
+abbrev pub invariant-loop-k : goal.invariant-loop-k
+invariant-loop-k l = (l.k ≤ l.slots) × (all l.k (set_slot_at l.owners l.sets l.person) ≡ true)
+
+abbrev pub decreases-loop-k : goal.decreases-loop-k
+decreases-loop-k l = l.slots - l.k

@@ -1,0 +1,12 @@
+-- `owners::scan::is_even` meets its contract. Assumes nothing.
+use Rattle.std.proofs.Common.{◌≡◌, ◌-◌, ◌≤◌, true, eqb, get_or, sym, ◌∙◌, arith, rules, eq-eqb, ne_eqb}
+use Rattle.paper.specs.Count.{all_in}
+use Rattle.paper.proofs.Count.{in-none, in-more, in-fails}
+use Rattle.owners.proofs.Scans.{even-as, in-past}
+use Rattle.owners.proofs.scan.is_even.Given as goal
+
+abbrev pub invariant-loop-k : goal.invariant-loop-k
+invariant-loop-k l = (l.a ≤ l.k) × (l.k - l.a ≤ l.e - l.a) × (all_in l.a l.k (λ j. eqb (get_or l.owners j 0) l.owner) ≡ true)
+
+abbrev pub decreases-loop-k : goal.decreases-loop-k
+decreases-loop-k l = l.e - l.k

@@ -1,0 +1,7 @@
+-- `paper::check_slots` meets its contract. Assumes nothing.
+use Rattle.paper.proofs.Rows.{renamed}
+use borrow.Author.Rules.{rules}
+use Rattle.paper.proofs.check_slots.Goals as goal
+
+pub returns : goal.returns
+returns c = renamed _ _ c.check.ensures c.slot_count_ok.ensures

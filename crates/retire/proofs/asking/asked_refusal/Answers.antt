@@ -1,0 +1,24 @@
+-- `retire::asking::asked_refusal` meets its contract. Assumes nothing.
+use mathlib.Core.Path.{refl}
+use Rattle.paper.proofs.Rows.{link, ends, checked, renamed}
+use Rattle.slots.specs.Ranges.{range_count_ok}
+use Rattle.retire.specs.Outcome.{asked_row}
+use borrow.Author.Rules.{rules}
+use Rattle.retire.proofs.asking.asked_refusal.Goals as goal
+
+pub returns : goal.returns
+unfolding asked_row range_count_ok
+returns c =
+    let b = c in
+    checked _ refl b.accepted.ensures
+    (link b.check_people-f.ensures
+    (link b.check_slots-f.ensures
+    (link b.check-f.ensures
+    (link b.check2.ensures
+    (link b.check_room-f.ensures
+    (link b.check_words-f.ensures
+    (link b.check3.ensures
+    (link b.check4.ensures (link b.check5.ensures
+    (link b.check6.ensures (link b.check-words2.ensures (link b.check7.ensures
+    (link b.check8.ensures (link c.check-f-9.ensures (link c.check-f-10.ensures
+    (link c.check_room-f-2.ensures (link (renamed _ 2 c.check.ensures b.range_room_ok-ranged.ensures) ends)))))))))))))))))

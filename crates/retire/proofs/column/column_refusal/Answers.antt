@@ -1,0 +1,16 @@
+-- `retire::column::column_refusal` meets its contract. Assumes nothing.
+use mathlib.Core.Path.{refl, ap}
+use Prim.Native.Nat.{ℕ}
+use lib.Dec.{leb}
+use Rattle.paper.proofs.Rows.{link, ends, checked, renamed}
+use Rattle.retire.specs.Column.{column_row}
+use borrow.Author.Rules.{rules}
+use Rattle.retire.proofs.column.column_refusal.Goals as goal
+
+pub returns : goal.returns
+unfolding column_row
+returns c =
+    let b = c in
+    checked _ refl b.accepted.ensures
+    (link b.check_slots-f.ensures (link b.check-slots2.ensures (link c.check-f.ensures
+    (link (renamed _ 1 c.check-f-2.ensures (ap (λ (x : ℕ). leb x b.args.count) b.left-kept.ensures)) (link c.check-f-3.ensures (link c.check.ensures ends))))))

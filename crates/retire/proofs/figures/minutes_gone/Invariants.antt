@@ -1,0 +1,19 @@
+-- `retire::figures::minutes_gone` meets its contract. Assumes nothing.
+use mathlib.Core.Path.{◌≡◌, sym, ap, ◌∙◌}
+use Prim.Native.Nat.{ℕ, ◌-◌, ◌*◌, ◌≤◌}
+use native.Mathlib.Omega.{arith}
+use borrow.Author.Rules.{rules}
+use lib.ListN.{get_or}
+use Rattle.paper.specs.Count.{sum}
+use Rattle.paper.proofs.Count.{sum-none, sum_done}
+use Rattle.slots.specs.Lent.{minutes_at}
+use Rattle.owners.specs.Derived.{plan, worked, portion}
+use Rattle.owners.proofs.Scans.{worked-more}
+use Rattle.retire.proofs.figures.minutes_gone.Given as goal
+
+abbrev pub invariant-loop-k : goal.invariant-loop-k
+invariant-loop-k l =
+    (l.k ≤ l.gone) × (l.total ≤ l.k * 4294967295) × (l.total ≡ sum l.k (λ j. portion (get_or l.owners j 0) l.person (minutes_at l.starts l.ends j)))
+
+abbrev pub decreases-loop-k : goal.decreases-loop-k
+decreases-loop-k l = l.gone - l.k

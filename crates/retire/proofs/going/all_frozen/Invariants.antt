@@ -1,0 +1,17 @@
+-- `retire::going::all_frozen` meets its contract. Assumes nothing.
+use mathlib.Core.Path.{◌≡◌, sym, ◌∙◌}
+use mathlib.Core.Bool.{true}
+use Prim.Native.Nat.{◌-◌, ◌≤◌}
+use native.Mathlib.Omega.{arith}
+use borrow.Author.Rules.{rules}
+use Rattle.paper.specs.Count.{all_in}
+use Rattle.paper.proofs.Count.{in-none, in-more, in-fails}
+use Rattle.owners.proofs.Scans.{in-past}
+use Rattle.retire.specs.Going.{is_frozen}
+use Rattle.retire.proofs.going.all_frozen.Given as goal
+
+abbrev pub invariant-loop-k : goal.invariant-loop-k
+invariant-loop-k l = (l.a ≤ l.k) × (l.k - l.a ≤ l.e - l.a) × (all_in l.a l.k (is_frozen l.frozen) ≡ true)
+
+abbrev pub decreases-loop-k : goal.decreases-loop-k
+decreases-loop-k l = l.e - l.k

@@ -1,0 +1,13 @@
+-- `retire::rolling::holds_then` meets its contract. Assumes nothing.
+use mathlib.Core.Path.{sym, ap, ◌∙◌}
+use Prim.Native.Nat.{ℕ}
+use borrow.Author.Rules.{rules}
+use lib.Dec.{eqb}
+use Rattle.retire.proofs.Rolls.{rolled-old, rolled-new}
+use Rattle.retire.proofs.rolling.holds_then.Goals as goal
+
+pub returns-then-k-kept : goal.returns-then-k-kept
+returns-then-k-kept c = c.holds.ensures ∙ ap (λ (x : ℕ). eqb x 1) (sym (rolled-old _ _ _ _ _ c.if-k-kept.true))
+
+pub returns : goal.returns
+returns c = c.holds-2.ensures ∙ ap (λ (x : ℕ). eqb x 1) (sym (rolled-new _ _ _ _ _ c.if-k-kept.false))

@@ -1,0 +1,19 @@
+-- `retire::rolling::roll_row` meets its contract. Assumes nothing.
+use mathlib.Core.Path.{◌≡◌, sym}
+use Prim.Native.Nat.{◌-◌, ◌*◌, ◌≤◌}
+use native.Mathlib.Omega.{arith}
+use borrow.Author.Rules.{rules}
+use Rattle.paper.proofs.Logic.{people-says}
+use Rattle.slotset.specs.Slots.{slot, put_slots}
+use Rattle.slotset.proofs.Puts.{puts_none}
+use Rattle.slots.proofs.AvailLaws.{row-length, row_done}
+use Rattle.retire.specs.Rolled.{rolled}
+use Rattle.retire.proofs.Bits.{row-turn}
+use Rattle.retire.proofs.rolling.roll_row.Given as goal
+
+abbrev pub invariant-loop-k : goal.invariant-loop-k
+invariant-loop-k l =
+    (l.k ≤ l.count) × (l.words ≡ put_slots (rolled l.gone l.kept (slot l.initial.words (16 * l.person)) (slot l.fresh (16 * l.person))) (16 * l.person) 0 l.k l.initial.words)
+
+abbrev pub decreases-loop-k : goal.decreases-loop-k
+decreases-loop-k l = l.count - l.k

@@ -1,0 +1,14 @@
+-- `rota::moves::cover_of` meets its contract. Assumes nothing.
+use mathlib.Core.Path.{◌≡◌, refl, sym}
+use Prim.Native.Nat.{◌-◌, ◌≤◌}
+use native.Mathlib.Omega.{arith}
+use borrow.Author.Rules.{rules}
+use Rattle.rota.specs.Ready.{Cover}
+use Rattle.rota.proofs.Judged.{cover-start, cover-more}
+use Rattle.rota.proofs.moves.cover_of.Given as goal
+
+abbrev pub invariant-loop-u : goal.invariant-loop-u
+invariant-loop-u l = (l.a ≤ l.u) × (l.u ≤ l.e) × Cover l.fits l.a l.u l.mask
+
+abbrev pub decreases-loop-u : goal.decreases-loop-u
+decreases-loop-u l = l.e - l.u

@@ -1,0 +1,14 @@
+-- `rota::moves::is_other` meets its contract. Assumes nothing.
+use mathlib.Core.Path.{refl}
+use borrow.Author.Rules.{rules}
+use borrow.Author.Tests.{eq-eqb, ne_eqb}
+use Rattle.paper.specs.Bits.{bit_of}
+use Rattle.units.specs.Domains.{in_mask}
+use Rattle.rota.proofs.moves.is_other.Goals as goal
+
+pub returns-then-person-skip : goal.returns-then-person-skip
+returns-then-person-skip c = simp (eq-eqb _ _ c.if-person-skip.true)
+
+pub returns : goal.returns
+unfolding in_mask bit_of
+returns c = simp (ne_eqb _ _ c.if-person-skip.false)

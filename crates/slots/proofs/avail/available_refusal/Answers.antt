@@ -1,0 +1,14 @@
+-- `slots::avail::available_refusal` meets its contract. Assumes nothing.
+use mathlib.Core.Path.{refl}
+use Rattle.paper.proofs.Rows.{link, ends, checked}
+use Rattle.slots.specs.Availability.{available_row}
+use borrow.Author.Rules.{rules}
+use Rattle.slots.proofs.avail.available_refusal.Goals as goal
+
+pub returns : goal.returns
+unfolding available_row
+returns c =
+    let b = c in
+    checked _ refl b.accepted.ensures
+    (link b.check_people-f.ensures (link c.check_slots-f.ensures (link c.check_words-f.ensures
+    (link c.check-f.ensures (link c.check.ensures ends)))))

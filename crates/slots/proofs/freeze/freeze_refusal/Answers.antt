@@ -1,0 +1,14 @@
+-- `slots::freeze::freeze_refusal` meets its contract. Assumes nothing.
+use mathlib.Core.Path.{refl}
+use Rattle.paper.proofs.Rows.{link, ends, checked}
+use Rattle.slots.specs.Freeze.{freeze_row}
+use borrow.Author.Rules.{rules}
+use Rattle.slots.proofs.freeze.freeze_refusal.Goals as goal
+
+pub returns : goal.returns
+unfolding freeze_row
+returns c =
+    let b = c in
+    checked _ refl b.accepted.ensures
+    (link c.check_slots-f.ensures (link c.check_room-f.ensures
+    (link c.check_words-f.ensures (link c.check_order.ensures ends))))

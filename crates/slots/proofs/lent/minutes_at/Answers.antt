@@ -1,0 +1,10 @@
+-- `slots::lent::minutes_at` meets its contract. Assumes nothing.
+use mathlib.Core.Path.{ap₂, ◌∙◌}
+use Prim.Native.Nat.{◌-◌}
+use Rattle.slots.specs.Lent.{minutes_at}
+use borrow.Author.Rules.{rules}
+use Rattle.slots.proofs.lent.minutes_at.Goals as goal
+
+pub returns : goal.returns
+unfolding minutes_at
+returns c = c.minutes_between.ensures ∙ ap₂ ◌-◌ c.entry_of-2.ensures c.entry_of.ensures

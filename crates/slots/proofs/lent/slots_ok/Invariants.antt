@@ -1,0 +1,20 @@
+-- `slots::lent::slots_ok` meets its contract. Assumes nothing.
+use borrow.Author.Rules.{rules}
+use mathlib.Core.Path.{◌≡◌, sym, ◌∙◌}
+use mathlib.Core.Bool.{true}
+use Prim.Native.Nat.{◌≤◌, ◌-◌}
+use native.Mathlib.Omega.{arith}
+use lib.ListN.{length}
+use Rattle.paper.specs.Count.{all}
+use Rattle.slots.specs.Lent.{slot_room_ok, slots_ok, prev_end}
+use Rattle.slots.specs.Inside.{slot_fits_at}
+use Rattle.slots.proofs.LentLaws.{room_says, fits-none, fits_more, fits-done, prev-none, prev_more}
+use Rattle.slots.proofs.lent.slots_ok.Given as goal
+
+abbrev pub invariant-loop-i : goal.invariant-loop-i
+invariant-loop-i l =
+    (slot_room_ok l.slots l.starts l.ends ≡ true) × (l.slots ≤ length l.starts) × (l.slots ≤ length l.ends)
+    × (l.i ≤ l.slots) × (l.ok ≡ all l.i (slot_fits_at l.starts l.ends)) × (l.prev ≡ prev_end l.ends l.i)
+
+abbrev pub decreases-loop-i : goal.decreases-loop-i
+decreases-loop-i l = l.slots - l.i

@@ -1,0 +1,16 @@
+-- `slots::split::base_refusal` meets its contract. Assumes nothing.
+use mathlib.Core.Path.{refl}
+use Rattle.paper.proofs.Rows.{link, ends, checked}
+use Rattle.slots.specs.Atomic.{base_row}
+use borrow.Author.Rules.{rules}
+use Rattle.slots.proofs.split.base_refusal.Goals as goal
+
+pub returns : goal.returns
+unfolding base_row
+returns c =
+    let b = c in
+    checked _ refl b.accepted.ensures
+    (link b.check_people-f.ensures (link b.check_slots-f.ensures
+    (link b.check_range_count-f.ensures (link b.check_room-f.ensures
+    (link c.check_range_room-f.ensures (link c.check_room-f-2.ensures
+    (link c.check_order-f.ensures (link c.check_ranges.ensures ends))))))))

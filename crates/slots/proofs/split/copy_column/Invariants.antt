@@ -1,0 +1,16 @@
+-- `slots::split::copy_column` meets its contract. Assumes nothing.
+use borrow.Author.Rules.{rules}
+use mathlib.Core.Path.{◌≡◌, refl, sym}
+use Prim.Native.Nat.{◌≤◌, ◌-◌}
+use native.Mathlib.Omega.{arith}
+use lib.ListN.{get_or}
+use Rattle.paper.specs.Count.{over}
+use Rattle.paper.proofs.Count.{over_none}
+use Rattle.slots.proofs.MergedLaws.{column-more, column-room, column-length, column-done}
+use Rattle.slots.proofs.split.copy_column.Given as goal
+
+abbrev pub invariant-loop-i : goal.invariant-loop-i
+invariant-loop-i l = (l.i ≤ l.n) × (l.column ≡ over (λ k. get_or l.src k 0) l.i l.initial.column)
+
+abbrev pub decreases-loop-i : goal.decreases-loop-i
+decreases-loop-i l = l.n - l.i

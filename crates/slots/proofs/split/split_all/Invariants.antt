@@ -1,0 +1,15 @@
+-- `slots::split::split_all` meets its contract. Assumes nothing.
+use borrow.Author.Rules.{rules}
+use Prim.Native.Nat.{◌≤◌, ◌-◌}
+use native.Mathlib.Omega.{arith}
+use lib.ListN.{take}
+use Rattle.slots.specs.Inside.{key_cut}
+use Rattle.slots.proofs.CutLaws.{Growing, grow-starts, grow-more, grow-full, grow-ends}
+use Rattle.slots.proofs.split.split_all.Given as goal
+
+abbrev pub invariant-loop-i : goal.invariant-loop-i
+invariant-loop-i l = (l.i ≤ l.slots) × Growing
+    (key_cut (take l.n l.keys)) l.i l.starts l.ends l.count l.initial.froms l.initial.tos l.froms l.tos
+
+abbrev pub decreases-loop-i : goal.decreases-loop-i
+decreases-loop-i l = l.slots - l.i

@@ -1,0 +1,14 @@
+-- `slots::split::split_slot` meets its contract. Assumes nothing.
+use Prim.Native.Nat.{◌<◌, ◌-◌}
+use native.Mathlib.Omega.{arith}
+use lib.ListN.{take, length-set}
+use Rattle.slots.specs.Inside.{key_cut}
+use Rattle.slots.proofs.CutLaws.{Splitting, split-starts, split-room, split-more, split-ends, split-full}
+use Rattle.slots.proofs.split.split_slot.Given as goal
+
+abbrev pub invariant-loop-m : goal.invariant-loop-m
+invariant-loop-m l = Splitting
+    (key_cut (take l.n l.keys)) l.start l.count l.prev l.m l.initial.starts l.initial.ends l.starts l.ends × (l.prev < l.end)
+
+abbrev pub decreases-loop-m : goal.decreases-loop-m
+decreases-loop-m l = 1024 - l.m

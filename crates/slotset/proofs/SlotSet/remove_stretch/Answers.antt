@@ -1,0 +1,6 @@
+-- `slotset::SlotSet::remove_stretch` meets its contract. Assumes nothing.
+use borrow.Author.Rules.{rules}
+use Rattle.slotset.proofs.SlotSet.remove_stretch.Goals as goal
+
+pub returns : goal.returns
+returns c = c.put_stretch.ensures

@@ -1,0 +1,22 @@
+-- `slotset::SlotSet::run_bounds` meets its contract. Assumes nothing.
+use borrow.Author.Rules.{rules}
+use mathlib.Core.Path.{◌≡◌, sym, ◌∙◌}
+use native.Mathlib.Omega.{arith}
+use lib.ListN.{length}
+use Rattle.paper.proofs.Rows.{said}
+use Rattle.slotset.proofs.Refusals.{len-says, run_is, run-refused}
+use Rattle.slotset.proofs.SlotSet.run_bounds.Goals as goal
+
+pub run_bounds-requires : goal.run_bounds-requires
+run_bounds-requires c =
+    let k = c in
+    let n : length k.args.self.words ≡ 16 = search rules in
+    (omega (arith, n), len-says _ (sym (said _ k.len_refusal-number.ensures) ∙ k.if-number-eq0.true))
+
+pub returns-then-number-eq0 : goal.returns-then-number-eq0
+returns-then-number-eq0 c =
+    let k = c in
+    c.run_bounds.ensures ∙ run_is _ _ (said _ k.len_refusal-number.ensures) k.if-number-eq0.true _ _ _
+
+pub returns : goal.returns
+returns c = run-refused _ _ (said _ c.len_refusal-number.ensures) c.if-number-eq0.false _ _ _

@@ -1,0 +1,17 @@
+-- `slotset::one::count` meets its contract. Assumes nothing.
+use borrow.Author.Rules.{rules}
+use mathlib.Core.Path.{sym, ◌∙◌}
+use Rattle.paper.proofs.Rows.{said}
+use Rattle.slotset.proofs.Refusals.{set_says, number_is, number-refused}
+use Rattle.slotset.proofs.one.count.Goals as goal
+
+pub count-requires : goal.count-requires
+count-requires c =
+    let r = set_says _ _ (sym (said _ c.set_refusal-number.ensures) ∙ c.if-number-eq0.true) in
+    r
+
+pub returns-then-number-eq0 : goal.returns-then-number-eq0
+returns-then-number-eq0 c = number_is _ _ (said _ c.set_refusal-number.ensures) c.if-number-eq0.true _ _ c.count.ensures
+
+pub returns : goal.returns
+returns c = number-refused _ _ (said _ c.set_refusal-number.ensures) c.if-number-eq0.false _

@@ -1,0 +1,17 @@
+-- `slotset::one::next_member` meets its contract. Assumes nothing.
+use borrow.Author.Rules.{rules}
+use mathlib.Core.Path.{sym, ◌∙◌}
+use Rattle.paper.proofs.Rows.{said}
+use Rattle.slotset.proofs.Refusals.{set_says, next-member-is, next-member-refused}
+use Rattle.slotset.proofs.one.next_member.Goals as goal
+
+pub next_member-requires : goal.next_member-requires
+next_member-requires c =
+    let r = set_says _ _ (sym (said _ c.set_refusal-number.ensures) ∙ c.if-number-eq0.true) in
+    r
+
+pub returns-then-number-eq0 : goal.returns-then-number-eq0
+returns-then-number-eq0 c = c.next_member.ensures ∙ next-member-is _ _ (said _ c.set_refusal-number.ensures) c.if-number-eq0.true _ _ _
+
+pub returns : goal.returns
+returns c = next-member-refused _ _ (said _ c.set_refusal-number.ensures) c.if-number-eq0.false _ _ _

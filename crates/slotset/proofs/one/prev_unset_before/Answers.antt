@@ -1,0 +1,17 @@
+-- `slotset::one::prev_unset_before` meets its contract. Assumes nothing.
+use borrow.Author.Rules.{rules}
+use mathlib.Core.Path.{sym, ◌∙◌}
+use Rattle.paper.proofs.Rows.{said}
+use Rattle.slotset.proofs.Refusals.{set_says, found-is, found-refused}
+use Rattle.slotset.proofs.one.prev_unset_before.Goals as goal
+
+pub last_below-requires : goal.last_below-requires
+last_below-requires c =
+    let r = set_says _ _ (sym (said _ c.set_refusal-number.ensures) ∙ c.if-number-eq0.true) in
+    r
+
+pub returns-then-number-eq0 : goal.returns-then-number-eq0
+returns-then-number-eq0 c = found-is _ _ (said _ c.set_refusal-number.ensures) c.if-number-eq0.true _ _ c.last_below.ensures
+
+pub returns : goal.returns
+returns c = found-refused _ _ (said _ c.set_refusal-number.ensures) c.if-number-eq0.false _

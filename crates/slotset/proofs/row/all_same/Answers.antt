@@ -1,0 +1,29 @@
+-- `slotset::row::all_same` meets its contract. The invariant: the sets of the first p people are the same. Assumes nothing.
+use borrow.Author.Rules.{rules}
+use mathlib.Core.Path.{◌≡◌, sym, ◌∙◌}
+use mathlib.Core.Bool.{true}
+use Prim.Native.Nat.{◌-◌, ◌≤◌}
+use native.Mathlib.Omega.{arith}
+use Rattle.paper.proofs.Count.{all_none, all_more, all-fails, all_done}
+use Rattle.slotset.specs.Answers.{same_sets}
+use Rattle.slotset.proofs.row.all_same.Goals as goal
+
+pub loop-p-init : goal.loop-p-init
+unfolding same_sets
+loop-p-init c = (omega arith, all_none _)
+
+pub same-requires : goal.same-requires
+same-requires c = (omega arith, omega arith, omega arith)
+
+pub loop-p-preserved : goal.loop-p-preserved
+unfolding same_sets
+loop-p-preserved c =
+    (omega arith, all_more _ _ c.loop-p.invariant.1 (sym c.same.ensures ∙ c.if-same.true))
+
+pub returns-else-same : goal.returns-else-same
+unfolding same_sets
+returns-else-same c = sym (all-fails _ _ _ c.loop-p-test.true (sym c.same.ensures ∙ c.if-same.false))
+
+pub returns : goal.returns
+unfolding same_sets
+returns c = all_done _ _ _ c.loop-p.invariant.0 c.loop-p-test.false c.loop-p.invariant.1

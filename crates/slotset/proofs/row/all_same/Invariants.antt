@@ -1,0 +1,15 @@
+-- `slotset::row::all_same` meets its contract. The invariant: the sets of the first p people are the same. Assumes nothing.
+use borrow.Author.Rules.{rules}
+use mathlib.Core.Path.{◌≡◌, sym, ◌∙◌}
+use mathlib.Core.Bool.{true}
+use Prim.Native.Nat.{◌-◌, ◌≤◌}
+use native.Mathlib.Omega.{arith}
+use Rattle.paper.proofs.Count.{all_none, all_more, all-fails, all_done}
+use Rattle.slotset.specs.Answers.{same_sets}
+use Rattle.slotset.proofs.row.all_same.Given as goal
+
+abbrev pub invariant-loop-p : goal.invariant-loop-p
+invariant-loop-p l = (l.p ≤ l.people) × (same_sets l.a l.b l.p l.len ≡ true)
+
+abbrev pub decreases-loop-p : goal.decreases-loop-p
+decreases-loop-p l = l.people - l.p

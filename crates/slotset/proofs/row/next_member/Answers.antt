@@ -1,0 +1,23 @@
+-- `slotset::row::next_member` meets its contract. Assumes nothing.
+use borrow.Author.Rules.{rules}
+use mathlib.Core.Path.{sym, ◌∙◌}
+use native.Mathlib.Omega.{arith}
+use Rattle.paper.proofs.Rows.{said}
+use Rattle.slotset.proofs.Refusals.{row-says, next-member-is, next-member-refused}
+use Rattle.slotset.proofs.row.next_member.Goals as goal
+
+pub overflow_mul-person : goal.overflow_mul-person
+overflow_mul-person c =
+    let r = row-says _ _ _ _ (sym (said _ c.row_refusal-number.ensures) ∙ c.if-number-eq0.true) in
+    omega (arith, r.few, r.known)
+
+pub next_member-requires : goal.next_member-requires
+next_member-requires c =
+    let r = row-says _ _ _ _ (sym (said _ c.row_refusal-number.ensures) ∙ c.if-number-eq0.true) in
+    (r.words, r.short)
+
+pub returns-then-number-eq0 : goal.returns-then-number-eq0
+returns-then-number-eq0 c = c.next_member.ensures ∙ next-member-is _ _ (said _ c.row_refusal-number.ensures) c.if-number-eq0.true _ _ _
+
+pub returns : goal.returns
+returns c = next-member-refused _ _ (said _ c.row_refusal-number.ensures) c.if-number-eq0.false _ _ _

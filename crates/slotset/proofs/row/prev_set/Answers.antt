@@ -1,0 +1,23 @@
+-- `slotset::row::prev_set` meets its contract. Assumes nothing.
+use borrow.Author.Rules.{rules}
+use mathlib.Core.Path.{sym, ◌∙◌}
+use native.Mathlib.Omega.{arith}
+use Rattle.paper.proofs.Rows.{said}
+use Rattle.slotset.proofs.Refusals.{row-says, found-is, found-refused}
+use Rattle.slotset.proofs.row.prev_set.Goals as goal
+
+pub overflow_mul-person : goal.overflow_mul-person
+overflow_mul-person c =
+    let r = row-says _ _ _ _ (sym (said _ c.row_refusal-number.ensures) ∙ c.if-number-eq0.true) in
+    omega (arith, r.few, r.known)
+
+pub prev_set-requires : goal.prev_set-requires
+prev_set-requires c =
+    let r = row-says _ _ _ _ (sym (said _ c.row_refusal-number.ensures) ∙ c.if-number-eq0.true) in
+    (r.words, r.short)
+
+pub returns-then-number-eq0 : goal.returns-then-number-eq0
+returns-then-number-eq0 c = found-is _ _ (said _ c.row_refusal-number.ensures) c.if-number-eq0.true _ _ c.prev_set.ensures
+
+pub returns : goal.returns
+returns c = found-refused _ _ (said _ c.row_refusal-number.ensures) c.if-number-eq0.false _

@@ -1,0 +1,23 @@
+-- `slotset::row::run_bounds` meets its contract. Assumes nothing.
+use borrow.Author.Rules.{rules}
+use mathlib.Core.Path.{sym, ◌∙◌}
+use native.Mathlib.Omega.{arith}
+use Rattle.paper.proofs.Rows.{said}
+use Rattle.slotset.proofs.Refusals.{row-says, run_is, run-refused}
+use Rattle.slotset.proofs.row.run_bounds.Goals as goal
+
+pub overflow_mul-person : goal.overflow_mul-person
+overflow_mul-person c =
+    let r = row-says _ _ _ _ (sym (said _ c.row_refusal-number.ensures) ∙ c.if-number-eq0.true) in
+    omega (arith, r.few, r.known)
+
+pub run_bounds-requires : goal.run_bounds-requires
+run_bounds-requires c =
+    let r = row-says _ _ _ _ (sym (said _ c.row_refusal-number.ensures) ∙ c.if-number-eq0.true) in
+    (r.words, r.short)
+
+pub returns-then-number-eq0 : goal.returns-then-number-eq0
+returns-then-number-eq0 c = c.run_bounds.ensures ∙ run_is _ _ (said _ c.row_refusal-number.ensures) c.if-number-eq0.true _ _ _
+
+pub returns : goal.returns
+returns c = run-refused _ _ (said _ c.row_refusal-number.ensures) c.if-number-eq0.false _ _ _

@@ -1,0 +1,15 @@
+-- `slotset::scan::count_words` meets its contract. The invariant: n is the number of members below word j. Assumes nothing.
+use borrow.Author.Rules.{rules}
+use mathlib.Core.Path.{◌≡◌, refl, ap, ◌∙◌}
+use Prim.Native.Nat.{◌+◌, ◌-◌, ◌*◌, ◌≤◌}
+use native.Mathlib.Omega.{arith}
+use Rattle.paper.specs.Count.{sum}
+use Rattle.slotset.specs.Slots.{slot, size}
+use Rattle.slotset.proofs.Counts.{count_add}
+use Rattle.slotset.proofs.scan.count_words.Given as goal
+
+abbrev pub invariant-loop-j : goal.invariant-loop-j
+invariant-loop-j l = (l.j ≤ l.whole) × (l.n ≡ size (slot l.words l.base) (l.j * 64)) × (l.n ≤ l.j * 64)
+
+abbrev pub decreases-loop-j : goal.decreases-loop-j
+decreases-loop-j l = l.whole - l.j

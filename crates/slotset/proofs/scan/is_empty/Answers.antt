@@ -1,0 +1,28 @@
+-- `slotset::scan::is_empty` meets its contract. Assumes nothing.
+use borrow.Author.Rules.{rules}
+use mathlib.Core.Path.{sym, ◌∙◌, subst}
+use Rattle.slotset.specs.Slots.{slot}
+use Rattle.slotset.specs.Search.{First}
+use Rattle.slotset.proofs.Meaning.{next-is, none_found, one_found}
+use Rattle.slotset.proofs.Puts.{slot_lt}
+use Rattle.slotset.proofs.scan.is_empty.Goals as goal
+
+pub returns-in-At : goal.returns-in-At
+returns-in-At c =
+    let s = c.args in
+    let f = slot s.words.now s.base in
+    one_found f s.len _
+    (subst (First 1 f s.len 0) (sym c.next_with-found.ensures ∙ c.in-At.is) (next-is 1 f s.len 0))
+
+pub returns-in-Nothing : goal.returns-in-Nothing
+returns-in-Nothing c =
+    let s = c.args in
+    let f = slot s.words.now s.base in
+    none_found f s.len (slot_lt s.words.now s.base)
+    (subst (First 1 f s.len 0) (sym c.next_with-found.ensures ∙ c.in-Nothing.is) (next-is 1 f s.len 0))
+
+pub returns-in-Refused : goal.returns-in-Refused
+returns-in-Refused c =
+    let s = c.args in
+    let f = slot s.words.now s.base in
+    absurd (subst (First 1 f s.len 0) (sym c.next_with-found.ensures ∙ c.in-Refused.is) (next-is 1 f s.len 0))

@@ -1,0 +1,17 @@
+-- `slotset::scan::next_in_words` meets its contract. The invariant: the answer from word `first` on is the answer from word j on.
+-- Assumes nothing.
+use borrow.Author.Rules.{rules}
+use mathlib.Core.Path.{◌≡◌, refl, sym, ◌∙◌}
+use Prim.Native.Nat.{◌-◌, ◌*◌, ◌≤◌}
+use native.Mathlib.Omega.{arith}
+use Rattle.slotset.specs.Slots.{slot, value_of}
+use Rattle.slotset.specs.Search.{next_with}
+use Rattle.slotset.proofs.Scans.{next-end, word_next, word-found}
+use Rattle.slotset.proofs.scan.next_in_words.Given as goal
+
+abbrev pub invariant-loop-j : goal.invariant-loop-j
+invariant-loop-j l =
+    (l.j ≤ 16) × (next_with (value_of l.want) (slot l.words l.base) l.len (l.first * 64) ≡ next_with (value_of l.want) (slot l.words l.base) l.len (l.j * 64))
+
+abbrev pub decreases-loop-j : goal.decreases-loop-j
+decreases-loop-j l = 16 - l.j

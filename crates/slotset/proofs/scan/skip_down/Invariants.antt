@@ -1,0 +1,15 @@
+-- `slotset::scan::skip_down` meets its contract. The invariant: every word so far is x. Assumes nothing.
+use borrow.Author.Rules.{rules}
+use mathlib.Core.Path.{◌≡◌, sym, ap, ◌∙◌}
+use Prim.Native.Nat.{ℕ, ◌+◌, ◌-◌, ◌≤◌, ◌<◌}
+use native.Mathlib.Omega.{arith}
+use lib.ListN.{get_or}
+use Rattle.slotset.proofs.Skips.{one_less}
+use Rattle.slotset.proofs.scan.skip_down.Given as goal
+
+abbrev pub invariant-loop-end : goal.invariant-loop-end
+invariant-loop-end l =
+    ((0 < l.before → 0 < l.end) × (l.end ≤ l.before)) × ((k : ℕ) → l.end ≤ k → k < l.before → get_or l.words (l.base + k) 0 ≡ l.x)
+
+abbrev pub decreases-loop-end : goal.decreases-loop-end
+decreases-loop-end l = l.end

@@ -1,0 +1,16 @@
+-- `slotset::scan::skip_up` meets its contract. The invariant: every word so far is x. Assumes nothing.
+use borrow.Author.Rules.{rules}
+use mathlib.Core.Path.{◌≡◌, ap, ◌∙◌}
+use mathlib.Core.Logic.{⊎_elim}
+use Prim.Native.Nat.{ℕ, ◌+◌, ◌-◌, ◌≤◌, ◌<◌}
+use native.Mathlib.Omega.{arith}
+use lib.ListN.{get_or}
+use Rattle.slotset.proofs.Skips.{one_more}
+use Rattle.slotset.proofs.scan.skip_up.Given as goal
+
+abbrev pub invariant-loop-j : goal.invariant-loop-j
+invariant-loop-j l =
+    ((l.first ≤ l.j) × (l.j ≤ l.end)) × ((k : ℕ) → l.first ≤ k → k < l.j → get_or l.words (l.base + k) 0 ≡ l.x)
+
+abbrev pub decreases-loop-j : goal.decreases-loop-j
+decreases-loop-j l = l.end - l.j

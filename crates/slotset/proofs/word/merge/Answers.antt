@@ -1,0 +1,7 @@
+-- `slotset::word::merge` meets its contract. Assumes nothing.
+use borrow.Author.Rules.{rules}
+use Rattle.slotset.proofs.Words.{merge-law}
+use Rattle.slotset.proofs.word.merge.Goals as goal
+
+pub returns : goal.returns
+returns c = merge-law _ _ _ _ c.requires.0 c.requires.1

@@ -1,0 +1,9 @@
+-- `store::figures::figures_at` meets its contract. Assumes nothing.
+use borrow.Author.Rules.{rules}
+use Rattle.store.proofs.Reading.{figures-read}
+use Rattle.store.proofs.figures.figures_at.Goals as goal
+
+pub returns : goal.returns
+returns c =
+    let b = c in
+    figures-read _ _ _ _ b.requires b.field-value.ensures.0 b.field-days.ensures.0

@@ -1,0 +1,28 @@
+-- `store::figures::kept_at` meets its contract. Assumes nothing.
+use borrow.Author.Rules.{rules}
+use mathlib.Core.Path.{◌≡◌, sym, ap, ◌∙◌}
+use native.Mathlib.Omega.{arith}
+use Rattle.records.specs.Fields.{le}
+use Rattle.records.proofs.Numbers.{field_is}
+use Rattle.store.specs.declared.Kept.TheVariants as kept
+use Rattle.store.proofs.Reading.{head-room, kind-read, newer-at, figures-room, figures-at}
+use Rattle.store.proofs.figures.kept_at.Goals as goal
+
+pub overflow_add-at : goal.overflow_add-at
+overflow_add-at c = omega (arith, head-room _ _ c.requires)
+
+pub returns-then-field-gt33 : goal.returns-then-field-gt33
+returns-then-field-gt33 c =
+    let b = c in
+    newer-at _ _ b.requires (omega (arith, kind-read _ _ b.requires _ c.field.ensures.0))
+
+pub figures_at-figures-requires : goal.figures_at-figures-requires
+figures_at-figures-requires c =
+    let b = c in
+    figures-room _ _ b.requires (omega (arith, kind-read _ _ b.requires _ c.field.ensures.0))
+
+pub returns : goal.returns
+returns c =
+    let b = c in
+    ap kept.Figures c.figures_at-figures.ensures
+    ∙ figures-at _ _ b.requires (omega (arith, kind-read _ _ b.requires _ c.field.ensures.0))

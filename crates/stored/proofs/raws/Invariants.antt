@@ -1,0 +1,11 @@
+-- `stored::raws` meets its contract. Assumes nothing.
+use Rattle.std.proofs.Common.{ℕ, ◌-◌, length, get_or, ap, ◌∙◌, rules}
+use Rattle.stored.specs.Columns.{byte_after}
+use Rattle.stored.proofs.Columns.{Filled, filled_none, filled_more, filled-less, filled-done}
+use Rattle.stored.proofs.raws.Given as goal
+
+abbrev pub invariant-loop-j : goal.invariant-loop-j
+invariant-loop-j l = Filled (byte_after l.b l.at) l.initial.out l.out l.j
+
+abbrev pub decreases-loop-j : goal.decreases-loop-j
+decreases-loop-j l = length l.initial.out - l.j

@@ -1,0 +1,10 @@
+-- `stored::same_quads` meets its contract. Assumes nothing.
+use Rattle.std.proofs.Common.{◌-◌, length, arith, rules}
+use Rattle.stored.proofs.Columns.{Compared, compared-none, compared-more, differs, agrees, unlike}
+use Rattle.stored.proofs.same_quads.Given as goal
+
+abbrev pub invariant-loop-j : goal.invariant-loop-j
+invariant-loop-j l = Compared l.a l.b l.j
+
+abbrev pub decreases-loop-j : goal.decreases-loop-j
+decreases-loop-j l = length l.a - l.j

@@ -1,0 +1,9 @@
+-- `stored_retire::compare` meets its contract: it is safe and ends. Assumes nothing.
+use borrow.Author.Rules.{rules}
+use Rattle.stored_retire.proofs.compare.Given as goal
+
+abbrev pub invariant-loop-turns : goal.invariant-loop-turns
+invariant-loop-turns l = Unit
+
+abbrev pub decreases-loop-turns : goal.decreases-loop-turns
+decreases-loop-turns l = l.turns

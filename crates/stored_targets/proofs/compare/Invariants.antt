@@ -1,0 +1,9 @@
+-- `stored_targets::compare` meets its contract: it is safe and ends. Assumes nothing.
+use Rattle.std.proofs.Common.{rules}
+use Rattle.stored_targets.proofs.compare.Given as goal
+
+abbrev pub invariant-loop-turns : goal.invariant-loop-turns
+invariant-loop-turns l = Unit
+
+abbrev pub decreases-loop-turns : goal.decreases-loop-turns
+decreases-loop-turns l = l.turns

@@ -1,0 +1,17 @@
+-- `targets::checks::checks_refusal` meets its contract. Assumes nothing.
+use Rattle.std.proofs.Common.{refl, rules}
+use Rattle.paper.proofs.Rows.{link, ends, checked}
+use Rattle.targets.specs.Outcome.{room_row}
+use Rattle.targets.specs.Inside.{checks_row}
+use Rattle.targets.proofs.checks.checks_refusal.Goals as goal
+
+pub returns : goal.returns
+unfolding checks_row room_row
+returns c =
+    let b = c in
+    checked _ refl b.accepted.ensures
+    (link b.check_people-f.ensures
+    (link b.check_slots-f.ensures (link b.check_room-f.ensures
+    (link b.check_words-f.ensures (link b.check-f.ensures (link b.check2.ensures
+    (link b.check3.ensures (link c.check_figures-f.ensures (link c.check-f-4.ensures
+    (link c.check-f-5.ensures (link c.check_order.ensures ends)))))))))))

@@ -1,0 +1,13 @@
+-- `targets::passes::settled_standings` meets its contract. Assumes nothing.
+use Rattle.std.proofs.Common.{◌≡◌, ◌-◌, ◌≤◌, false, ◌++◌, map, length, take, drop, refl, arith, length-set, rules}
+use Rattle.targets.specs.Passes.{outside, settle}
+use Rattle.targets.specs.declared.Standing.{Standing}
+use Rattle.targets.proofs.Loops.{copied, filled}
+use Rattle.targets.proofs.Each.{each_at, none_each}
+use Rattle.targets.proofs.passes.settled_standings.Given as goal
+
+abbrev pub invariant-loop-i : goal.invariant-loop-i
+invariant-loop-i l = (l.i ≤ 32) × (length l.out ≡ 32) × (take l.i l.out ++ map (settle l.n l.sum) (drop l.i l.standings) ≡ map (settle l.n l.sum) l.standings)
+
+abbrev pub decreases-loop-i : goal.decreases-loop-i
+decreases-loop-i l = 32 - l.i

@@ -1,0 +1,11 @@
+-- `targets::passes::some_below_zero` meets its contract: what is left to look at says as much as the whole. Assumes nothing.
+use Rattle.std.proofs.Common.{◌≡◌, ◌-◌, ◌≤◌, drop, refl, arith, rules}
+use Rattle.targets.specs.Passes.{some, below_zero}
+use Rattle.targets.proofs.Loops.{found, missed, nowhere}
+use Rattle.targets.proofs.passes.some_below_zero.Given as goal
+
+abbrev pub invariant-loop-i : goal.invariant-loop-i
+invariant-loop-i l = (l.i ≤ 32) × (some (below_zero l.n l.sum) (drop l.i l.standings) ≡ some (below_zero l.n l.sum) l.standings)
+
+abbrev pub decreases-loop-i : goal.decreases-loop-i
+decreases-loop-i l = 32 - l.i

@@ -1,0 +1,6 @@
+-- `targets::passes::with_share` meets its contract. Assumes nothing.
+use Rattle.std.proofs.Common.{rules}
+use Rattle.targets.proofs.passes.with_share.Goals as goal
+
+pub returns : goal.returns
+returns c = rw c.if-l.false

@@ -1,0 +1,11 @@
+-- `targets::put_targets` meets its contract. Assumes nothing.
+use Rattle.std.proofs.Common.{◌≡◌, ◌-◌, ◌≤◌, ◌++◌, length, take, drop, pos, refl, arith, length-set, to_z-of_z, rules}
+use borrow.Author.Rules.{sfits_of}
+use Rattle.targets.proofs.Loops.{put}
+use Rattle.targets.proofs.put_targets.Given as goal
+
+abbrev pub invariant-loop-i : goal.invariant-loop-i
+invariant-loop-i l = (l.i ≤ l.people) × (length l.out ≡ length l.initial.out) × (l.out ≡ take l.i l.targets ++ drop l.i l.initial.out)
+
+abbrev pub decreases-loop-i : goal.decreases-loop-i
+decreases-loop-i l = l.people - l.i

@@ -1,0 +1,26 @@
+-- `targets::remainder::adjusted_of` meets its contract. Assumes nothing.
+use Rattle.std.proofs.Common.{ap, ◌∙◌, arith, to_z-of_z, rules}
+use borrow.Author.Rules.{sfits_of}
+use Rattle.targets.specs.declared.Best.{Best}
+use Rattle.targets.specs.declared.Standing.{Standing}
+use Rattle.targets.specs.Figures.{pad}
+use Rattle.targets.specs.Inside.{SmallTarget}
+use Rattle.targets.proofs.Each.{each_at}
+use Rattle.targets.proofs.Taker.{same-standing, adjusted-by}
+use Rattle.targets.proofs.remainder.adjusted_of.Goals as goal
+
+pub with_rest-t-requires : goal.with_rest-t-requires
+with_rest-t-requires c =
+    let e = c in
+    (each_at SmallTarget e.args.t1 c.best_of-b.result.at _ e.requires (omega arith), omega arith)
+
+pub returns : goal.returns
+returns c =
+    let a = c.args in
+    let b = c.best_of-b in
+    adjusted-by a.t1 a.demand
+    c.Signed-of.ensures
+    (ap (λ (x : Best). x.at) b.ensures.0)
+    (ap (λ (l : Standing). l.target) (same-standing a.t1 b.result.at _ pad (omega arith)))
+    c.total_of-total.ensures.0
+    (to_z-of_z (sfits_of c.with_rest-t.type-inv) ∙ c.with_rest-t.ensures)

@@ -1,0 +1,14 @@
+-- `targets::remainder::signed_of` meets its contract. Assumes nothing.
+use borrow.Author.Rules.{sfits_of}
+use Rattle.std.proofs.Common.{◌≡◌, ◌-◌, ◌≤◌, ◌++◌, map, length, take, drop, refl, ◌∙◌, arith, length-set, to_z-of_z, rules}
+use Rattle.targets.specs.Remainder.{target_of}
+use Rattle.targets.proofs.Loops.{copied, filled}
+use Rattle.targets.specs.Inside.{SmallTarget}
+use Rattle.targets.proofs.Each.{each_at}
+use Rattle.targets.proofs.remainder.signed_of.Given as goal
+
+abbrev pub invariant-loop-i : goal.invariant-loop-i
+invariant-loop-i l = (l.i ≤ 32) × (length l.out ≡ 32) × (take l.i l.out ++ map target_of (drop l.i l.standings) ≡ map target_of l.standings)
+
+abbrev pub decreases-loop-i : goal.decreases-loop-i
+decreases-loop-i l = 32 - l.i

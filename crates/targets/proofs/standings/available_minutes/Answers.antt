@@ -1,0 +1,53 @@
+-- `targets::standings::available_minutes` meets its contract: the total is that of the slots passed. Assumes nothing.
+use Rattle.std.proofs.Common.{◌≡◌, ℕ, ◌+◌, ◌-◌, ◌≤◌, sym, ◌∙◌, ap₂, arith, rules}
+use Rattle.paper.specs.Count.{sum}
+use Rattle.paper.proofs.Count.{sum-none, sum_more, sum_done}
+use Rattle.targets.specs.Figures.{minutes_if_available, available_minutes}
+use Rattle.targets.proofs.Minutes.{available-part}
+use Rattle.targets.proofs.standings.available_minutes.Goals as goal
+
+pub loop-k-init : goal.loop-k-init
+loop-k-init c =
+    let a = c.args in
+    (search rules, sym (sum-none (minutes_if_available a.starts.now a.ends.now a.avail.now a.person)))
+
+pub minutes_if_available-total-requires : goal.minutes_if_available-total-requires
+minutes_if_available-total-requires c = (c.requires.0, omega arith)
+
+-- what the total is after one turn
+more : (c : tie.After-minutes-if-available invariant-loop decreases-loop)
+    → let p = c in
+    let a = p.args in
+    p.loop-k.total + c.minutes_if_available-total.result
+    ≡ sum (p.loop-k.k + 1) (minutes_if_available a.starts.now a.ends.now a.avail.now a.person)
+more c =
+    let p = c in
+    let a = p.args in
+    let f = minutes_if_available a.starts.now a.ends.now a.avail.now a.person in
+    ap₂ (λ (x y : ℕ). x + y) p.loop-k.invariant.1 c.minutes_if_available-total.ensures ∙ sym (sum_more p.loop-k.k f)
+
+pub overflow_add-total : goal.overflow_add-total
+overflow_add-total c =
+    let p = c in
+    let e = p in
+    let a = e.args in
+    let n : p.loop-k.k + 1 ≤ a.slots = omega arith in
+    let h = available-part a.slots a.starts.now a.ends.now a.avail.now a.person e.requires.1 (p.loop-k.k + 1) n in
+    omega (arith, more c, h)
+
+pub loop-k-preserved : goal.loop-k-preserved
+loop-k-preserved c = (omega arith, more c)
+
+pub returns : goal.returns
+unfolding available_minutes
+returns c =
+    let p = c in
+    let a = p.args in
+    sum_done a.slots p.loop-k.k p.loop-k.total (minutes_if_available a.starts.now a.ends.now a.avail.now a.person)
+    (omega arith) (omega arith) p.loop-k.invariant.1
+
+pub overflow_add-k : goal.overflow_add-k
+overflow_add-k c = omega arith
+
+pub loop-k-smaller : goal.loop-k-smaller
+loop-k-smaller c = omega arith

@@ -1,0 +1,14 @@
+-- `units::days::target_run_refusal` meets its contract. Assumes nothing.
+use mathlib.Core.Path.{refl}
+use Rattle.paper.proofs.Rows.{link, ends, checked}
+use Rattle.units.specs.Days.{target_run_row}
+use borrow.Author.Rules.{rules}
+use Rattle.units.proofs.days.target_run_refusal.Goals as goal
+
+pub returns : goal.returns
+unfolding target_run_row
+returns c =
+    let b = c in
+    checked _ refl b.accepted.ensures
+    (link c.check_slots-f.ensures (link c.check_room-f.ensures
+    (link c.check_settings-f.ensures (link c.check_order.ensures ends))))

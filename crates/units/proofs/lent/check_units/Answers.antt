@@ -1,0 +1,10 @@
+-- `units::lent::check_units` meets its contract. Assumes nothing.
+use Rattle.paper.proofs.Rows.{renamed, skipped}
+use borrow.Author.Rules.{rules}
+use Rattle.units.proofs.lent.check_units.Goals as goal
+
+pub returns-then-before-eq0 : goal.returns-then-before-eq0
+returns-then-before-eq0 c = renamed _ _ c.check.ensures c.units_ok.ensures
+
+pub returns : goal.returns
+returns c = skipped _ _ c.if-before-eq0.false

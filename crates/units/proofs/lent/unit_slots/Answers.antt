@@ -1,0 +1,21 @@
+-- `units::lent::unit_slots` meets its contract. Assumes nothing.
+use mathlib.Core.Path.{refl}
+use Rattle.paper.proofs.Rows.{link, ends, checked-more, said}
+use Rattle.units.specs.Answers.{units_row, unit_slots_row, unit_slots_is}
+use Rattle.units.proofs.Answers.{span-answered, span-refused}
+use borrow.Author.Rules.{rules}
+use Rattle.units.proofs.lent.unit_slots.Goals as goal
+
+pub returns-then-n-eq0 : goal.returns-then-n-eq0
+unfolding unit_slots_is unit_slots_row units_row
+returns-then-n-eq0 c =
+    let b = c in
+    let n = said _ (checked-more _ _ refl b.units_refusal.ensures (link b.check-n.ensures ends)) in
+    span-answered _ _ _ _ _ _ n c.if-n-eq0.true c.start_of_lem.ensures c.unit_end.ensures
+
+pub returns-else-n-eq0 : goal.returns-else-n-eq0
+unfolding unit_slots_is unit_slots_row units_row
+returns-else-n-eq0 c =
+    let b = c in
+    let n = said _ (checked-more _ _ refl b.units_refusal.ensures (link b.check-n.ensures ends)) in
+    span-refused _ _ _ _ n c.if-n-eq0.false

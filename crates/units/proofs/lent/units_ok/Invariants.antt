@@ -1,0 +1,18 @@
+-- `units::lent::units_ok` meets its contract. Assumes nothing.
+use mathlib.Core.Path.{◌≡◌, sym, ◌∙◌}
+use mathlib.Core.Bool.{true}
+use Prim.Native.Nat.{◌≤◌, ◌-◌}
+use native.Mathlib.Omega.{arith}
+use borrow.Author.Rules.{rules}
+use borrow.Author.Tests.{lt-leb, le-leb}
+use lib.ListN.{length}
+use Rattle.paper.specs.Count.{all}
+use Rattle.paper.proofs.Count.{all_none, all_more, all-fails, all_done}
+use Rattle.units.specs.Units.{start_ok, units_ok}
+use Rattle.units.proofs.lent.units_ok.Given as goal
+
+abbrev pub invariant-loop-u : goal.invariant-loop-u
+invariant-loop-u l = (l.u ≤ l.units) × (all l.u (start_ok l.slots l.begins) ≡ true) × (1 ≤ l.units) × (l.units ≤ length l.begins)
+
+abbrev pub decreases-loop-u : goal.decreases-loop-u
+decreases-loop-u l = l.units - l.u

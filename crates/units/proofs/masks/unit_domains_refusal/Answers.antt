@@ -1,0 +1,14 @@
+-- `units::masks::unit_domains_refusal` meets its contract. Assumes nothing.
+use mathlib.Core.Path.{refl}
+use Rattle.paper.proofs.Rows.{link, ends, checked}
+use Rattle.units.specs.Domains.{unit_domains_row}
+use borrow.Author.Rules.{rules}
+use Rattle.units.proofs.masks.unit_domains_refusal.Goals as goal
+
+pub returns : goal.returns
+unfolding unit_domains_row
+returns c =
+    let b = c in
+    checked _ refl b.accepted.ensures
+    (link b.check_people-f.ensures (link b.check_slots-f.ensures (link c.check_words-f.ensures
+    (link c.check-f.ensures (link c.check-f-2.ensures (link c.check_units.ensures ends))))))

@@ -1,0 +1,18 @@
+-- `units::masks::write_masks` meets its contract. Assumes nothing.
+use mathlib.Core.Path.{◌≡◌, ap, ◌∙◌, refl}
+use Prim.Native.Nat.{◌-◌, ◌≤◌}
+use native.Mathlib.Omega.{arith}
+use lib.ListN.{length}
+use Rattle.paper.specs.Count.{over}
+use Rattle.paper.proofs.Count.{length_over}
+use Rattle.paper.proofs.Logic.{people-says}
+use Rattle.units.specs.Inside.{mask_then}
+use Rattle.units.proofs.Striking.{strikes-begin, strikes-end, strikes-held, strikes-again, room-kept}
+use Rattle.units.proofs.masks.write_masks.Given as goal
+
+abbrev pub invariant-loop-p : goal.invariant-loop-p
+invariant-loop-p l =
+    (l.p ≤ l.people) × (l.masks ≡ over (mask_then l.avail l.people l.slots l.units l.begins l.p 0) l.units l.initial.masks)
+
+abbrev pub decreases-loop-p : goal.decreases-loop-p
+decreases-loop-p l = l.people - l.p

@@ -1,0 +1,7 @@
+-- `units::refuse::check_settings` meets its contract. Assumes nothing.
+use Rattle.paper.proofs.Rows.{renamed}
+use borrow.Author.Rules.{rules}
+use Rattle.units.proofs.refuse.check_settings.Goals as goal
+
+pub returns : goal.returns
+returns c = renamed _ _ c.check.ensures c.settings_ok.ensures

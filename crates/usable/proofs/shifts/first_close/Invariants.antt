@@ -1,0 +1,23 @@
+-- `usable::shifts::first_close` meets its contract. Assumes nothing.
+use mathlib.Core.Path.{◌≡◌, refl, sym, ap, ◌∙◌}
+use mathlib.Core.Bool.{true}
+use Prim.Native.Nat.{ℕ, ◌+◌, ◌-◌, ◌≤◌, ◌<◌}
+use native.Mathlib.Omega.{arith}
+use borrow.Author.Rules.{rules}
+use lib.ListN.{get_or, length, length-set}
+use Rattle.paper.specs.Count.{all}
+use Rattle.paper.proofs.Count.{all_none, all_more}
+use Rattle.owners.proofs.Scans.{scan-fails, scan-ends}
+use Rattle.usable.specs.Rules.{rested_at}
+use Rattle.usable.specs.Inside.{free_from}
+use Rattle.usable.proofs.Walks.{free-none, free_more}
+use Rattle.usable.proofs.Rested.{rested-by}
+use Rattle.usable.proofs.shifts.first_close.Given as goal
+
+abbrev pub invariant-loop-k : goal.invariant-loop-k
+invariant-loop-k l =
+    (l.k ≤ l.slots) × ((w : ℕ) → w < 256 → get_or l.free w 0 ≡ free_from l.rest l.ends l.owners l.k w)
+    × (all l.k (rested_at l.slots l.rest l.starts l.ends l.owners) ≡ true) × (length l.free ≡ 256)
+
+abbrev pub decreases-loop-k : goal.decreases-loop-k
+decreases-loop-k l = l.slots - l.k

@@ -1,0 +1,15 @@
+-- `wayback::writing::place_in` meets its contract. Assumes nothing.
+use mathlib.Core.Path.{◌≡◌, sym, ap, ◌∙◌}
+use Prim.Native.Nat.{◌+◌, ◌-◌, ◌≤◌}
+use native.Mathlib.Omega.{arith}
+use borrow.Author.Rules.{rules}
+use Rattle.paper.specs.Count.{count}
+use Rattle.paper.proofs.Count.{count_none, count-in, count-out, count-done}
+use Rattle.units.specs.Domains.{in_mask}
+use Rattle.wayback.proofs.writing.place_in.Given as goal
+
+abbrev pub invariant-loop-q : goal.invariant-loop-q
+invariant-loop-q l = (l.q ≤ l.person) × (l.n ≤ l.q) × (l.n ≡ count l.q (in_mask l.mask))
+
+abbrev pub decreases-loop-q : goal.decreases-loop-q
+decreases-loop-q l = l.person - l.q

@@ -1,0 +1,16 @@
+-- `wayback::writing::write_draws` meets its contract. Assumes nothing.
+use Prim.Native.Nat.{◌-◌, ◌≤◌}
+use native.Mathlib.Omega.{arith}
+use borrow.Author.Rules.{rules}
+use Rattle.wayback.specs.Inside.{WriteRoom, Wrote}
+use Rattle.wayback.proofs.Written.{wrote_none, wrote-out, wrote-in, wrote-end, changed-no, changed-yes, place-by, number_fits}
+use Rattle.wayback.proofs.Written.{draws-length, firsts-length, seconds-length, draws-there, firsts-there, seconds-there}
+use Rattle.wayback.proofs.writing.write_draws.Given as goal
+
+abbrev pub invariant-loop-u : goal.invariant-loop-u
+invariant-loop-u l =
+    Wrote l.begins l.fits l.remembered l.owners l.u l.n l.initial.draws l.initial.firsts l.initial.seconds l.draws l.firsts l.seconds × (l.u ≤ l.units)
+    × WriteRoom l.units l.fits l.initial.draws l.initial.firsts l.initial.seconds
+
+abbrev pub decreases-loop-u : goal.decreases-loop-u
+decreases-loop-u l = l.units - l.u
