@@ -5,7 +5,42 @@ usage: convert.py NAMES CRATE_FOLDER..     NAMES: what rt names wrote
 """
 import json, os, re, sys
 
-def norm(s): return s.replace('_','-').rstrip("'")
+def norm(s):
+    s=s.lower()
+    if s.endswith('_lem'): s=s[:-4]
+    return s.replace('_','-').rstrip("'")
+PARAMS={}  # (crate, fn) -> [(path, all params, &mut params)]
+def scan_params(root):
+    import glob
+    for p in glob.glob(os.path.join(root,'crates/*/src/**/*.rt'),recursive=True):
+        s=open(p,encoding='utf-8').read()
+        crate,rel=p.split('/crates/')[1].split('/src/')
+        mod=[] if rel in('lib.rt','main.rt') else rel[:-3].split('/')
+        for m in re.finditer(r"\bfn (\w+)(?:<[^(]*>)?\(",s):
+            i=m.end();d=1
+            while d:
+                if s[i] in '([<{': d+=1
+                elif s[i] in ')]}' or (s[i]=='>' and s[i-1]!='-'): d-=1
+                i+=1
+            ps=split_commas(re.sub(r"//[^\n]*","",s[m.end():i-1]))
+            names=[];muts=[]
+            for q in ps:
+                n=re.match(r"(?:mut )?(&(?:'\w+ )?(?:mut )?)?(?:mut )?(\w+)",q.strip())
+                if not n: continue
+                names.append(n[2])
+                if re.search(r"&(?:'\w+ )?mut ",q): muts.append(n[2])
+            ty=re.findall(r"(?m)^impl(?:<[^>]*>)? (\w+)",s[:m.start()])
+            PARAMS.setdefault((crate,m[1]),[]).append(('::'.join([crate]+mod+[m[1]]),names,muts,ty[-1] if ty else None))
+def params_of(path):
+    cr,fn=path.split('::')[0],path.split('::')[-1]
+    c=PARAMS.get((cr,fn)) or []
+    for x in c:
+        if x[0]==path: return x
+    for x in c:
+        if x[3] and x[3] in path.split('::'): return x
+    return c[0] if c else None
+MUTS={}
+OWN=[]
 
 USE = re.compile(r"^(?:pub )?use ")
 
@@ -114,6 +149,19 @@ def paths(body, steps):
         body=re.sub(r"(?<![\w.'-])"+re.escape(a)+r"\.before(?![\w'-])",a+"."+keep,body)
     body=re.sub(r"(?:\.before)+(?![\w'-])", "", body)
     body=body.replace(keep,'before')
+    body=re.sub(r"\.pre(?![\w'-])",".requires",body)
+    body=re.sub(r"\.taken(?![\w'-])",".true",body)
+    body=re.sub(r"(\.if\d*|\.loop-test\d*|\.if-[\w'-]+|\.loop-[\w'-]+-test)\.left(?![\w'-])",r"\1.false",body)
+    body=re.sub(r"(\.args)\.t(\d+)(?![\w'-])",lambda m: m[1]+'.'+OWN[int(m[2])] if int(m[2])<len(OWN) else m[0],body)
+    for st,muts in MUTS.items():
+        stp=re.escape(st).replace('\\-','[-_]')
+        def nw(m):
+            k=int(m.group(3))
+            w={'last':'new','kept':'auto'}.get(m.group(2),m.group(2))
+            return m.group(1)+'.'+w+'.'+muts[k] if k<len(muts) else m.group(0)
+        body=re.sub(r"((?i:\."+stp+r"))\.(new|last|kept)\.(\d)(?![\w'-])",nw,body)
+        for a in set(re.findall(r"let ([\w'-]+)(?: : [^=]*)? = [\w'.-]*\.(?i:"+stp+r") in",body)):
+            body=re.sub(r"((?<![\w.'-])"+re.escape(a)+r")\.(new|last|kept)\.(\d)(?![\w'-])",nw,body)
     # clauses of a requires, of a callee's ensures
     def pre_path(rest):
         n=len(PRE); k=0; parts=rest[1:].split('.') if rest else []
@@ -146,7 +194,7 @@ def paths(body, steps):
                     if tuple(parts[i+1:i+1+len(pth)])==pth and pth:
                         return '.'+'.'.join([(steps.get(norm(q),q)) for q in parts[:i]]+list(new)+parts[i+1+len(pth):])
         q=steps.get(norm(parts[0]))
-        if q and (base=='c' or not re.search(r"-\d+$",q)): parts[0]=q
+        if q and (base=='c' or not re.search(r"-1$",q)): parts[0]=q
         return '.'+'.'.join(parts)
     return re.sub(r"(?<=[\w')])(?:\.[A-Za-z0-9][\w'-]*)+", chain, body)
 
@@ -174,7 +222,13 @@ def convert(path, entry, report):
         if a:
             for newf,oldstep,pth in a[2]:
                 if pth: ARMS.setdefault(norm(oldstep),[]).append((tuple(pth),(a[0],newf)))
-    CALLEE.clear()
+    CALLEE.clear(); MUTS.clear()
+    for pl in entry['places']:
+        if pl[3]:
+            x=params_of(pl[3])
+            if x: MUTS[norm(pl[2][0])]=x[2]
+    x=params_of(entry['self'])
+    OWN[:]=x[1] if x else []
     for pl in entry['places']:
         if pl[3]:
             cr,fn=pl[3].split('::')[0],pl[3].split('::')[-1]
@@ -358,6 +412,7 @@ def main():
         c=os.path.basename(crate.rstrip('/'))
         d=json.load(open(os.path.join(names,'crates',c,'names.json')))
         report=[];n=0;bad=0
+        if not PARAMS: scan_params(os.path.dirname(os.path.dirname(os.path.abspath(crate.rstrip('/')))))
         if not MULTI: scan_multi(os.path.dirname(os.path.dirname(os.path.abspath(crate.rstrip('/')))))
         for folder,_,files in os.walk(os.path.join(crate,'proofs')):
             if 'Proof.antt' in files:
@@ -367,6 +422,7 @@ def main():
                 if key not in d:
                     report.append(f"{p}: no entry {key}"); continue
                 try:
+                    d[key]['self']='::'.join([c]+rel.split('.'))
                     r=convert(p,d[key],report)
                 except Exception as e:
                     report.append(f"{p}: FAILED {e!r}"); r=False

@@ -39,9 +39,9 @@ pub returns-then-a : goal.returns-then-a
 returns-then-a c =
     let b = c in
     let g = lent (start b) in
-    meets-eight g (start b).args.out.now (clear b) c.Targets-of.result
+    meets-eight g (start b).args.out.now (clear b) c.targets_of-a.result
     (demand-is g (fine b).sound c.demand_of-demand.ensures) c.standings_of-standings.ensures
-    c.Targets-of.ensures c.if-a.true
+    c.targets_of-a.ensures c.if-a.true
 
 pub put_targets-requires : goal.put_targets-requires
 put_targets-requires c =
@@ -53,9 +53,9 @@ returns-then-n-eq0 c =
     let t = c in
     let b = t in
     let g = lent (start b) in
-    meets-done g (start b).args.out.now (clear b) t.Targets-of.result
+    meets-done g (start b).args.out.now (clear b) t.targets_of-a.result
     (demand-is g (fine b).sound t.demand_of-demand.ensures) t.standings_of-standings.ensures
-    t.Targets-of.ensures c.if-a.false c.put_targets.ensures
+    t.targets_of-a.ensures c.if-a.false c.put_targets.ensures
 
 pub returns : goal.returns
 returns c =

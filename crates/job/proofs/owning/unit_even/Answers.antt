@@ -28,10 +28,10 @@ returns-else-entry16-owner c =
     let c5 = c4 in
     in-fails _ _ _ _ c3.loop-k.invariant.1 c.loop-k-test.true
     (ne_eqb _ _ (λ x. c.if-entry16-owner.false (c.entry16.ensures ∙ x)))
-    ∙ even-as _ _ _ _ _ _ _ _ c5.start_of_lem.ensures c5.unit_end-e.ensures c4.entry16-owner.ensures
+    ∙ even-as _ _ _ _ _ _ _ _ c5.start_of-a.ensures c5.unit_end-e.ensures c4.entry16-owner.ensures
 
 pub returns : goal.returns
 returns c =
     let c3 = c in
-    sym (sym (even-as _ _ _ _ _ _ _ _ c3.start_of_lem.ensures c3.unit_end-e.ensures c.entry16-owner.ensures)
+    sym (sym (even-as _ _ _ _ _ _ _ _ c3.start_of-a.ensures c3.unit_end-e.ensures c.entry16-owner.ensures)
     ∙ each_in _ _ _ (λ j a b. in-each _ _ _ c.loop-k.invariant.0 j a (omega arith)))

@@ -34,4 +34,4 @@ returns c =
     let c10 = c5 in
     let K = c10.requires in
     targets-are K _ _ _ _ _ _ _ _ (c5.column_f64-capacities.ensures ∙ read-floats K) (c4.column32-priors.ensures ∙ read-column K 2 8 4)
-    c3.settings_in-settings.ensures c.Targets-of.ensures
+    c3.settings_in-settings.ensures c.targets_of.ensures

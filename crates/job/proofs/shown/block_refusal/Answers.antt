@@ -11,5 +11,5 @@ returns c =
     let b = c in
     checked _ refl b.accepted.ensures
     (link b.check_people-f.ensures (link b.check_slots-f.ensures
-    (link b.check-f.ensures (link b.check2.ensures (link c.check-f-3.ensures
+    (link b.check-f.ensures (link b.check-f-2.ensures (link c.check-f-3.ensures
     (link c.check-f-4.ensures (link c.check-f-5.ensures (link c.check.ensures ends))))))))

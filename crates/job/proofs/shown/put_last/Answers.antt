@@ -63,4 +63,4 @@ pub shape_of-out-in-Refused : goal.shape_of-out-in-Refused
 shape_of-out-in-Refused c = search rules
 
 pub returns-in-Refused : goal.returns-in-Refused
-returns-in-Refused c = wrote-same (sym (ap last_line c.in-Refused.is)) c.Put-refused.ensures
+returns-in-Refused c = wrote-same (sym (ap last_line c.in-Refused.is)) c.put_refused.ensures

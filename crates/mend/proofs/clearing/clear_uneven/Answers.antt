@@ -33,7 +33,7 @@ loop-u-preserved c =
     let at = b in
     let a = at in
     let went = uneven-goes _ _ _ _ a.requires _ b.loop-u-test.true _ at.loop-u.invariant.1 _ b.is_even.ensures
-    b.if-is_even.false _ _ _ c.start_of_lem.ensures c.unit_end-e.ensures
+    b.if-is_even.false _ _ _ c.start_of-a.ensures c.unit_end-e.ensures
     c.fill_owners.ensures in
     (omega arith, went, ap length went ∙ uneven-length _ _ _ _ _)
 

@@ -13,6 +13,6 @@ returns c =
     (link b.check_people-f.ensures
     (link b.check_slots-f.ensures
     (link b.check_room-f.ensures (link b.check_words-f.ensures
-    (link b.check-f.ensures (link b.check2.ensures (link b.check3.ensures
-    (link b.check-words2.ensures (link c.check-f-4.ensures (link c.check-f-5.ensures
+    (link b.check-f.ensures (link b.check-f-2.ensures (link b.check-f-3.ensures
+    (link b.check_words-f-2.ensures (link c.check-f-4.ensures (link c.check-f-5.ensures
     (link c.check_order-f.ensures (link c.check_units.ensures ends))))))))))))

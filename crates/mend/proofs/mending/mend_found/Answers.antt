@@ -29,4 +29,4 @@ returns c =
     let w = c in
     let o = w in
     let a = o in
-    ended-as _ _ _ _ _ (writes-due _ _ _ _ _ _ a.pre _ _ _ _ o.work_out.ensures _) w.write_out.ensures
+    ended-as _ _ _ _ _ (writes-due _ _ _ _ _ _ a.requires _ _ _ _ o.work_out.ensures _) w.write_out.ensures

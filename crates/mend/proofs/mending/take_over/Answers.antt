@@ -7,4 +7,4 @@ pub returns : goal.returns
 returns c =
     let b = c in
     rota-same b.copy_owners.ensures
-    b.copy_words.ensures b.copy-words2.ensures c.copy_words-3.ensures
+    b.copy_words.ensures b.copy_words-2.ensures c.copy_words-3.ensures

@@ -14,7 +14,7 @@ overflow_mul-n c =
 pub take_over-requires : goal.take_over-requires
 take_over-requires c =
     let a = c in
-    record { people_bound = a.pre.0.0; new_room = a.pre.1.0; new_room_2 = a.pre.1.1 }
+    record { people_bound = a.requires.people_bound.0; new_room = a.requires.new_room; new_room_2 = a.requires.new_room_2 }
 
 pub returns-then-n-list : goal.returns-then-n-list
 returns-then-n-list c =

@@ -6,4 +6,4 @@ use Rattle.owners.proofs.entries.check_owner.Goals as goal
 
 pub returns : goal.returns
 returns c =
-    renamed _ _ c.check.ensures (c.known_by_lem.ensures ∙ ap (known_by _) c.owner_at.ensures)
+    renamed _ _ c.check.ensures (c.known_by.ensures ∙ ap (known_by _) c.owner_at.ensures)

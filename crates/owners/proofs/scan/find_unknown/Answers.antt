@@ -14,7 +14,7 @@ pub loop-k-preserved : goal.loop-k-preserved
 unfolding known_at
 loop-k-preserved c =
     let at-loop = c.loop-k in
-    let at-known-by = c.known_by_lem in
+    let at-known-by = c.known_by in
     let at-owner-at = c.owner_at in
     (omega arith, all_more _ _ at-loop.invariant.1 (sym (at-known-by.ensures ∙ ap (known_by _) at-owner-at.ensures) ∙ c.if-known_by.true))
 
@@ -23,7 +23,7 @@ unfolding known_at
 returns-else-known_by c =
     let at-loop-test = c.loop-k-test in
     let at-loop = c.loop-k in
-    let at-known-by = c.known_by_lem in
+    let at-known-by = c.known_by in
     let at-owner-at = c.owner_at in
     scan-fails _ _ _ at-loop-test.true at-loop.invariant.1 (sym (at-known-by.ensures ∙ ap (known_by _) at-owner-at.ensures) ∙ c.if-known_by.false)
 

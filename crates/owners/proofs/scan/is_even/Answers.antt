@@ -22,7 +22,7 @@ returns-else-owner_at-owner c =
     let at-loop-test = c.loop-k-test in
     let at-owner-at = c.owner_at-owner in
     let at-unit-end = c.unit_end-e in
-    let at-start-of = c.start_of_lem in
+    let at-start-of = c.start_of-a in
     in-fails _ _ _ _ at-loop.invariant.0 at-loop-test.true (ne_eqb _ _ (λ q. c.if-owner_at-owner.false (c.owner_at.ensures ∙ q)))
     ∙ even-as _ _ _ _ _ _ _ _ at-start-of.ensures at-unit-end.ensures at-owner-at.ensures
 
@@ -31,7 +31,7 @@ returns c =
     let at-loop = c.loop-k in
     let at-owner-at = c.owner_at-owner in
     let at-unit-end = c.unit_end-e in
-    let at-start-of = c.start_of_lem in
+    let at-start-of = c.start_of-a in
     in-past _ _ _ _ at-loop.invariant.1 c.loop-k-test.false at-loop.invariant.2
     ∙ even-as _ _ _ _ _ _ _ _ at-start-of.ensures at-unit-end.ensures at-owner-at.ensures
 

@@ -39,7 +39,7 @@ returns c =
     let c14 = c6 in
     let a = c14.args in
     record-put a.kind a.body.now a.at a.area.now _ _ (length a.body.now) refl (omega arith) (omega arith)
-    c6.put_bytes.ensures c2.put-bytes2.ensures
+    c6.put_bytes.ensures c2.put_bytes-2.ensures
 
 pub put_bytes-requires : goal.put_bytes-requires
 put_bytes-requires c = omega arith

@@ -79,7 +79,7 @@ returns-then-columns_room c =
     let d = i in
     reads_all _ _ _ _ _ _ _ d.block_at-r.ensures.0 _ d.draws_in-n.ensures _ _ _ _
     (sym i.columns_room.ensures ∙ i.if-columns_room.true) c14.read_fields.ensures c6.read_fields-then-columns_room.ensures
-    c6.read-fields3.ensures c.read_fields-then-columns_room-3.ensures
+    c6.read_fields-then-columns_room-2.ensures c.read_fields-then-columns_room-3.ensures
 
 pub shape_of-draws : goal.shape_of-draws
 shape_of-draws c = search rules

@@ -14,11 +14,11 @@ returns c =
     (link b.check_people-f.ensures
     (link b.check_slots-f.ensures
     (link b.check-f.ensures
-    (link b.check2.ensures
+    (link b.check-f-2.ensures
     (link b.check_room-f.ensures
     (link b.check_words-f.ensures
-    (link b.check3.ensures
-    (link b.check4.ensures (link b.check5.ensures
-    (link b.check6.ensures (link b.check-words2.ensures (link b.check7.ensures
-    (link b.check8.ensures (link c.check-f-9.ensures (link c.check-f-10.ensures
+    (link b.check-f-3.ensures
+    (link b.check-f-4.ensures (link b.check-f-5.ensures
+    (link b.check-f-6.ensures (link b.check_words-f-2.ensures (link b.check-f-7.ensures
+    (link b.check-f-8.ensures (link c.check-f-9.ensures (link c.check-f-10.ensures
     (link c.check_room-f-2.ensures (link (renamed _ 2 c.check.ensures b.range_room_ok-ranged.ensures) ends)))))))))))))))))

@@ -12,5 +12,5 @@ unfolding column_row
 returns c =
     let b = c in
     checked _ refl b.accepted.ensures
-    (link b.check_slots-f.ensures (link b.check-slots2.ensures (link c.check-f.ensures
+    (link b.check_slots-f.ensures (link b.check_slots-f-2.ensures (link c.check-f.ensures
     (link (renamed _ 1 c.check-f-2.ensures (ap (λ (x : ℕ). leb x b.args.count) b.left-kept.ensures)) (link c.check-f-3.ensures (link c.check.ensures ends))))))

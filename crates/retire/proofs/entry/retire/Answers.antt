@@ -50,10 +50,10 @@ pub overflow_sub-slots : goal.overflow_sub-slots
 overflow_sub-slots c =
     let b = c in
     let f = b.retire_refusal-f.ensures in
-    let z = b.if-f-eq0.taken in
+    let z = b.if-f-eq0.true in
     let u = b.gone_units-went.ensures in
-    let some = b.if-went-eq0.left in
-    let rest = b.if-went-units.left in
+    let some = b.if-went-eq0.false in
+    let rest = b.if-went-units.false in
     let low = gone-under _ _ _ f z _ u some rest _ b.start_from-gone.ensures in
     omega (arith, low)
 
@@ -61,10 +61,10 @@ pub move_owners-requires : goal.move_owners-requires
 move_owners-requires c =
     let b = c in
     let f = b.retire_refusal-f.ensures in
-    let z = b.if-f-eq0.taken in
+    let z = b.if-f-eq0.true in
     let u = b.gone_units-went.ensures in
-    let some = b.if-went-eq0.left in
-    let rest = b.if-went-units.left in
+    let some = b.if-went-eq0.false in
+    let rest = b.if-went-units.false in
     let g = b.start_from-gone.ensures in
     let M = part_moved _ _ _ _ _ _ _ _ _ _ _ _ _ _ _ _ _ _ _ _ c.move_plan-then.ensures in
     record { kept_in_bounds = owners-room _ _ _ f z _ u some rest _ g _ _ _ _ _ _ _ M; totals_value = owners-pass _ _ _ f z _ u some rest _ g _ _ _ _ _ _ _ M }
@@ -76,10 +76,10 @@ pub returns-then-f-eq0 : goal.returns-then-f-eq0
 returns-then-f-eq0 c =
     let b = c in
     let f = b.retire_refusal-f.ensures in
-    let z = b.if-f-eq0.taken in
+    let z = b.if-f-eq0.true in
     let u = b.gone_units-went.ensures in
-    let some = b.if-went-eq0.left in
-    let rest = b.if-went-units.left in
+    let some = b.if-went-eq0.false in
+    let rest = b.if-went-units.false in
     let g = b.start_from-gone.ensures in
     let M = part_moved _ _ _ _ _ _ _ _ _ _ _ _ _ _ _ _ _ _ _ _ c.move_plan-then.ensures in
     let D = c.move_owners.ensures in

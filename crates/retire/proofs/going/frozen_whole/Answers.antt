@@ -10,4 +10,4 @@ pub returns : goal.returns
 unfolding frozen_whole
 returns c =
     c.all_frozen.ensures
-    ∙ ap₂ (λ (a e : ℕ). all_in a e (is_frozen c.args.frozen.now)) c.start_of_lem.ensures c.unit_end-e.ensures
+    ∙ ap₂ (λ (a e : ℕ). all_in a e (is_frozen c.args.frozen.now)) c.start_of-a.ensures c.unit_end-e.ensures

@@ -8,7 +8,7 @@ use Rattle.retire.proofs.going.start_from.Goals as goal
 
 pub returns-then-unit-units : goal.returns-then-unit-units
 unfolding start_from
-returns-then-unit-units c = c.start_of_lem.ensures ∙ simp (lt-ltb _ _ c.if-unit-units.true)
+returns-then-unit-units c = c.start_of.ensures ∙ simp (lt-ltb _ _ c.if-unit-units.true)
 
 pub returns : goal.returns
 unfolding start_from

@@ -144,8 +144,8 @@ overflow_add-result-2 c =
 pub returns : goal.returns
 returns c =
     let b = c in
-    let pre = b.pre in
+    let pre = b.requires in
     let W = b.fresh_slots-fresh.ensures in
-    plan-moved _ _ pre.0 _ _ _ W.0 W.1 _ _ pre.1 b.start_from-gone.ensures _ _ c.fresh_units-some.ensures _ _ _ _ _ _
+    plan-moved _ _ pre.plan_right _ _ _ W.0 W.1 _ _ pre.went_value b.start_from-gone.ensures _ _ c.fresh_units-some.ensures _ _ _ _ _ _
     c.fresh_words-words.ensures c.roll_minutes.ensures c.roll_minutes-2.ensures c.roll_rows.ensures
     c.roll_begins.ensures c.roll_frozen.ensures

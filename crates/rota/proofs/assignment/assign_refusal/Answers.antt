@@ -8,5 +8,5 @@ pub returns : goal.returns
 returns c =
     assign-number _ _ _ _ _ _ c.recount_slots-f.ensures
     (link c.check-f.ensures
-    (link (renamed _ _ c.check-f-2.ensures c.known_by_lem.ensures)
+    (link (renamed _ _ c.check-f-2.ensures c.known_by.ensures)
     (link (renamed _ _ c.check.ensures c.available_for.ensures) ends)))

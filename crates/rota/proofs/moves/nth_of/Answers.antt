@@ -14,7 +14,7 @@ use Rattle.rota.proofs.moves.nth_of.Goals as goal
 
 pub loop-p-init : goal.loop-p-init
 loop-p-init c =
-    let r = c.All-first.ensures in
+    let r = c.all_first-p.ensures in
     let low = c.lower_of.ensures in
     (r.0, picked-start _ _ _ (omega (arith, r.1, low)) r.2, omega (arith, r.1, low))
 

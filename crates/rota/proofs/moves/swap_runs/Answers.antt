@@ -119,7 +119,7 @@ returns-then-runs_fit c =
     let at-run-start2 = c.run_start-c in
     let at-run-end2 = c.run_end-d in
     let at-if6 = c.if-a-c in
-    let at-runs-fit = c.Runs-Fit in
+    let at-runs-fit = c.runs_fit in
     let at-if7 = c.if-runs_fit in
     runs-act _ _ _ _ _ _ at-owner-of.ensures at-owner-of2.ensures _ _ _ _ at-run-start.ensures at-run-end.ensures
     at-run-start2.ensures
@@ -136,7 +136,7 @@ returns c =
     let at-run-end = c.run_end-b in
     let at-run-start2 = c.run_start-c in
     let at-run-end2 = c.run_end-d in
-    let at-runs-fit = c.Runs-Fit in
+    let at-runs-fit = c.runs_fit in
     runs-unfit _ _ _ _ _ _ at-owner-of.ensures at-owner-of2.ensures _ _ _ _ at-run-start.ensures at-run-end.ensures
     at-run-start2.ensures
     at-run-end2.ensures (sym at-runs-fit.ensures ∙ c.if-runs_fit.false)

@@ -19,11 +19,11 @@ returns c =
     let right = c8.owner_of-right.ensures in
     ask-more _ _ c.either.ensures
     (ask-more _ _ c.either-stays-6.ensures
-    (ask-more _ _ c4.either5.ensures
-    (ask-more _ _ c4.either4.ensures
-    (ask-more _ _ c4.either3.ensures
-    (ask-more _ _ c4.either2.ensures
-    (ask-two _ _ c8.either-stays.ensures c8.is_frozen.ensures c8.is-frozen2.ensures)
+    (ask-more _ _ c4.either-stays-5.ensures
+    (ask-more _ _ c4.either-stays-4.ensures
+    (ask-more _ _ c4.either-stays-3.ensures
+    (ask-more _ _ c4.either-stays-2.ensures
+    (ask-two _ _ c8.either-stays.ensures c8.is_frozen.ensures c8.is_frozen-2.ensures)
     refl)
     (ap (λ (w : ℕ). eqb w nobody) left))
     (ap (λ (w : ℕ). eqb w nobody) right))

@@ -32,7 +32,7 @@ loop-u-preserved c =
     let at-loop = c.loop-u in
     let at-args = c.args in
     let at_pre = c.requires in
-    let at-start-of = c.start_of_lem in
+    let at-start-of = c.start_of-a in
     let at-unit-end = c.unit_end-e in (
       omega arith,
       simp length-set at-loop.invariant.1,

@@ -98,25 +98,25 @@ pub shape_of-owners-in-Trade : goal.shape_of-owners-in-Trade
 shape_of-owners-in-Trade c =
     let c8 = c in
     let c16 = c8 in
-    (over-lengths _ _ _ _ _ _ _ _ c8.hand-over3.ensures).0 ∙ (over-lengths _ _ _ _ _ _ _ _ c16.hand_over-in-Trade.ensures).0
+    (over-lengths _ _ _ _ _ _ _ _ c8.hand_over-in-Trade-2.ensures).0 ∙ (over-lengths _ _ _ _ _ _ _ _ c16.hand_over-in-Trade.ensures).0
 
 pub shape_of-sets-in-Trade : goal.shape_of-sets-in-Trade
 shape_of-sets-in-Trade c =
     let c8 = c in
     let c16 = c8 in
-    (over-lengths _ _ _ _ _ _ _ _ c8.hand-over3.ensures).1 ∙ (over-lengths _ _ _ _ _ _ _ _ c16.hand_over-in-Trade.ensures).1
+    (over-lengths _ _ _ _ _ _ _ _ c8.hand_over-in-Trade-2.ensures).1 ∙ (over-lengths _ _ _ _ _ _ _ _ c16.hand_over-in-Trade.ensures).1
 
 pub shape_of-minutes-in-Trade : goal.shape_of-minutes-in-Trade
 shape_of-minutes-in-Trade c =
     let c8 = c in
     let c16 = c8 in
-    (over-lengths _ _ _ _ _ _ _ _ c8.hand-over3.ensures).2 ∙ (over-lengths _ _ _ _ _ _ _ _ c16.hand_over-in-Trade.ensures).2
+    (over-lengths _ _ _ _ _ _ _ _ c8.hand_over-in-Trade-2.ensures).2 ∙ (over-lengths _ _ _ _ _ _ _ _ c16.hand_over-in-Trade.ensures).2
 
 pub shape_of-totals-in-Trade : goal.shape_of-totals-in-Trade
 shape_of-totals-in-Trade c =
     let c8 = c in
     let c16 = c8 in
-    (over-lengths _ _ _ _ _ _ _ _ c8.hand-over3.ensures).3 ∙ (over-lengths _ _ _ _ _ _ _ _ c16.hand_over-in-Trade.ensures).3
+    (over-lengths _ _ _ _ _ _ _ _ c8.hand_over-in-Trade-2.ensures).3 ∙ (over-lengths _ _ _ _ _ _ _ _ c16.hand_over-in-Trade.ensures).3
 
 pub returns-in-Trade : goal.returns-in-Trade
 returns-in-Trade c =
@@ -130,6 +130,6 @@ returns-in-Trade c =
     let at-slice-known2 = c32.slice-known2 in
     let at-from2 = c24.from2 in
     let at-hand-over2 = c16.hand_over-in-Trade in
-    let at-hand-over3 = c8.hand-over3 in
+    let at-hand-over3 = c8.hand_over-in-Trade-2 in
     stepped-trade _ _ _ _ _ _ at-decide.ensures _ _ _ _ _ _ _ _ _ _ at_pre.plan_sound.slots-few at_pre.in_step.sets-room (λ
     j. omega (arith, at-slice-known2.given j)) at-from2.given.1 at-hand-over2.ensures at-hand-over3.ensures

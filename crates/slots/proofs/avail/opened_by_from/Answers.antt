@@ -36,7 +36,7 @@ loop-r-preserved c =
     let loop = c.loop-r in
     let loop-test = c.loop-r-test in (
       omega (arith, loop-test.true),
-      opened-more _ _ _ _ loop.invariant.0 loop.invariant.1 (omega (arith, c.if-opens_at-place.true, c.Opens-at.ensures)),
+      opened-more _ _ _ _ loop.invariant.0 loop.invariant.1 (omega (arith, c.if-opens_at-place.true, c.opens_at.ensures)),
     )
 
 pub returns-else-opens_at-place : goal.returns-else-opens_at-place
@@ -45,7 +45,7 @@ returns-else-opens_at-place c =
     let pre = c.requires in
     let loop = c.loop-r in
     let rise = opens-rise args.keys.now args.n pre.n_bound.1 pre.n_bound.2 in
-    opened-stops _ _ _ _ loop.invariant.0 loop.invariant.1 rise (omega (arith, c.if-opens_at-place.false, c.Opens-at.ensures))
+    opened-stops _ _ _ _ loop.invariant.0 loop.invariant.1 rise (omega (arith, c.if-opens_at-place.false, c.opens_at.ensures))
 
 pub returns : goal.returns
 returns c = opened-ends _ _ _ _ c.loop-r.invariant.0 c.loop-r.invariant.1 c.loop-r-test.false

@@ -16,7 +16,7 @@ pub returns-then-number-eq0 : goal.returns-then-number-eq0
 returns-then-number-eq0 c =
     let freeze-refusal = c.freeze_refusal-number in
     let if1 = c.if-number-eq0 in
-    let Ended-by = c.Ended-by in
+    let Ended-by = c.ended_by-n in
     let put-stretch = c.put_stretch in
     freeze-done _ _ _ _ _ _ (said _ freeze-refusal.ensures) if1.true _ Ended-by.ensures _ put-stretch.ensures.1
 

@@ -47,7 +47,7 @@ pub overflow_cast-froms : goal.overflow_cast-froms
 overflow_cast-froms c =
     let args = c.args in
     let loop = c.loop-i in
-    omega (arith, c.start_of_lem.ensures, start-lt (get_or args.keys.now loop.i 0))
+    omega (arith, c.start_of.ensures, start-lt (get_or args.keys.now loop.i 0))
 
 pub offset_bounds-froms-i : goal.offset_bounds-froms-i
 offset_bounds-froms-i c =
@@ -99,7 +99,7 @@ loop-i-preserved c =
     let person-of = c.person_of in (
       omega (arith, loop-test.true),
       column-more _ _ _ _ _ loop.invariant.1 person-of.ensures,
-      column-more _ _ _ _ _ loop.invariant.2 c.start_of_lem.ensures,
+      column-more _ _ _ _ _ loop.invariant.2 c.start_of.ensures,
       column-more _ _ _ _ _ loop.invariant.3 c.end_of.ensures,
     )
 

@@ -42,7 +42,7 @@ copy_column-requires-then-atoms-le-SLOTS_MOST c =
     let blank-column2 = c.blank_column-e in
     let if2 = c.if-atoms-le-SLOTS_MOST in
     let split-all = c.split_all-atoms in
-    let S = base-says _ (sym (said _ base-refusal.ensures) ∙ if1.taken) in
+    let S = base-says _ (sym (said _ base-refusal.ensures) ∙ if1.true) in
     let e : length blank-column2.result ≡ 1024 = search rules in
     (if2.true, omega (arith, if2.true, e, split-all.auto.1.1.1.1.1.1.0), omega (arith, if2.true, S.room.1))
 
@@ -59,7 +59,7 @@ returns-then-atoms-le-SLOTS_MOST c =
     let copy-column2 = c.copy_column-then-atoms-le-SLOTS_MOST in
     let s : length blank-column.result ≡ 1024 = search rules in
     let e : length blank-column2.result ≡ 1024 = search rules in
-    atoms-done _ _ base-refusal.ensures if1.taken merged-keys.result.keys _ merged-keys.ensures _ _ _ _ _ split-all.ensures
+    atoms-done _ _ base-refusal.ensures if1.true merged-keys.result.keys _ merged-keys.ensures _ _ _ _ _ split-all.ensures
     if2.true
     (omega (arith, s, split-all.auto.1.1.1.1.1.0)) (omega (arith, e, split-all.auto.1.1.1.1.1.1.0))
     _ _ copy-column.ensures copy-column2.ensures

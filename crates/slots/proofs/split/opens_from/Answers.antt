@@ -15,7 +15,7 @@ bounds-keys-r c =
     omega (arith, c.if-r-n.true, pre.1)
 
 pub returns-then-r-n : goal.returns-then-r-n
-returns-then-r-n c = opens-some _ _ _ _ c.if-r-n.true c.Opens-at.ensures
+returns-then-r-n c = opens-some _ _ _ _ c.if-r-n.true c.opens_at.ensures
 
 pub returns : goal.returns
 returns c = opens-past _ _ _ c.if-r-n.false

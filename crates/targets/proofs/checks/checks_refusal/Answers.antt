@@ -12,6 +12,6 @@ returns c =
     checked _ refl b.accepted.ensures
     (link b.check_people-f.ensures
     (link b.check_slots-f.ensures (link b.check_room-f.ensures
-    (link b.check_words-f.ensures (link b.check-f.ensures (link b.check2.ensures
-    (link b.check3.ensures (link c.check_figures-f.ensures (link c.check-f-4.ensures
+    (link b.check_words-f.ensures (link b.check-f.ensures (link b.check-f-2.ensures
+    (link b.check-f-3.ensures (link c.check_figures-f.ensures (link c.check-f-4.ensures
     (link c.check-f-5.ensures (link c.check_order.ensures ends)))))))))))

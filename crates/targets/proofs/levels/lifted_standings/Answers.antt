@@ -13,7 +13,7 @@ loop-i-preserved c =
     let p = c.loop-i in (
       search rules,
       simp length-set p.invariant.1,
-      lift-turn a.level p.rest a.t1 p.out p.i _ p.invariant.2 c.lifted_standing-m.ensures c.left_After.ensures
+      lift-turn a.level p.rest a.t1 p.out p.i _ p.invariant.2 c.lifted_standing-m.ensures c.left_after-rest.ensures
           (omega arith) (omega arith),
     )
 

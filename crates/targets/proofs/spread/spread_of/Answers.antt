@@ -16,12 +16,12 @@ signed_of-requires c =
     let e = c in
     let n : length e.args.standings ≡ 32 = search rules in
     after_small e.args.people e.args.standings e.requires.0 (omega arith) e.requires.2 e.requires.3 c.taking_part-part.ensures
-    e.args.demand (omega arith) c.Handed-out.ensures
+    e.args.demand (omega arith) c.handed_out-after.ensures
 
 pub returns : goal.returns
 returns c =
     let d = c.args.demand in
-    c.Signed-of.ensures ∙ ap (map target_of) (c.Handed-out.ensures ∙ ap (handed_out d) c.taking_part-part.ensures)
+    c.signed_of.ensures ∙ ap (map target_of) (c.handed_out-after.ensures ∙ ap (handed_out d) c.taking_part-part.ensures)
 
 pub taking_part-part-requires : goal.taking_part-part-requires
 taking_part-part-requires c = c.requires.1

@@ -19,7 +19,7 @@ returns-then-n-eq0 c =
     let c4 = c in
     let w = c.write_domain.ensures in
     let n = said _ c4.unit_domain_refusal-n.ensures in
-    let s = domain-at _ _ _ _ _ _ _ _ c4.start_of_lem.ensures c4.unit_end-to.ensures in
+    let s = domain-at _ _ _ _ _ _ _ _ c4.start_of-from.ensures c4.unit_end-to.ensures in
     written-answered _ _ _ _ _ _ _ n c4.if-n-eq0.true w.value w.list_after s
 
 pub returns-else-n-eq0 : goal.returns-else-n-eq0

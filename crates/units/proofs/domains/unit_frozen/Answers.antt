@@ -18,7 +18,7 @@ returns-then-clear c =
     let n = said _ c4.unit_frozen_refusal-n.ensures in
     let z = c4.if-n-eq0.true in
     let h = frozen-says _ _ _ _ _ (sym n ∙ z) in
-    let from = c.start_of_lem.ensures in
+    let from = c.start_of.ensures in
     let b = frozen-by _ _ _ _ _ _ _ _ h from c.unit_end.ensures c.clear.ensures in
     yes-no-is _ _ n z false _ (sym (b ∙ ap not c.if-clear.true))
 
@@ -29,7 +29,7 @@ returns-else-clear c =
     let n = said _ c4.unit_frozen_refusal-n.ensures in
     let z = c4.if-n-eq0.true in
     let h = frozen-says _ _ _ _ _ (sym n ∙ z) in
-    let from = c.start_of_lem.ensures in
+    let from = c.start_of.ensures in
     let b = frozen-by _ _ _ _ _ _ _ _ h from c.unit_end.ensures c.clear.ensures in
     yes-no-is _ _ n z true _ (sym (b ∙ ap not c.if-clear.false))
 

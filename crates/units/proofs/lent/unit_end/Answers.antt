@@ -8,7 +8,7 @@ use Rattle.units.proofs.lent.unit_end.Goals as goal
 
 pub returns-then-next-units : goal.returns-then-next-units
 unfolding unit_end
-returns-then-next-units c = simp (lt-ltb _ _ c.if-next-units.true) c.start_of_lem.ensures
+returns-then-next-units c = simp (lt-ltb _ _ c.if-next-units.true) c.start_of.ensures
 
 pub returns-then-u-units : goal.returns-then-u-units
 unfolding unit_end

@@ -12,12 +12,12 @@ loop-n-init c = refl
 pub returns-then-start_of-slot : goal.returns-then-start_of-slot
 returns-then-start_of-slot c =
     let at = c.loop-n in
-    sym (at.invariant ∙ of-here _ _ _ _ c.loop-n-test.true c.start_of_lem.ensures c.if-start_of-slot.true)
+    sym (at.invariant ∙ of-here _ _ _ _ c.loop-n-test.true c.start_of.ensures c.if-start_of-slot.true)
 
 pub loop-n-preserved : goal.loop-n-preserved
 loop-n-preserved c =
     let at = c.loop-n in
-    at.invariant ∙ of-before _ _ _ _ c.loop-n-test.true c.start_of_lem.ensures c.if-start_of-slot.false
+    at.invariant ∙ of-before _ _ _ _ c.loop-n-test.true c.start_of.ensures c.if-start_of-slot.false
 
 pub returns : goal.returns
 returns c = sym (c.loop-n.invariant ∙ of_none _ _ _ c.loop-n-test.false)

@@ -11,7 +11,7 @@ unfolding unit_slots_is unit_slots_row units_row
 returns-then-n-eq0 c =
     let b = c in
     let n = said _ (checked-more _ _ refl b.units_refusal.ensures (link b.check-n.ensures ends)) in
-    span-answered _ _ _ _ _ _ n c.if-n-eq0.true c.start_of_lem.ensures c.unit_end.ensures
+    span-answered _ _ _ _ _ _ n c.if-n-eq0.true c.start_of.ensures c.unit_end.ensures
 
 pub returns-else-n-eq0 : goal.returns-else-n-eq0
 unfolding unit_slots_is unit_slots_row units_row

@@ -13,6 +13,6 @@ returns c =
     checked _ refl a.accepted.ensures
     (link a.check_people-f.ensures (link a.check_slots-f.ensures
     (link a.check_room-f.ensures (link a.check_words-f.ensures (link b.check-f.ensures
-    (link b.check2.ensures (link b.check3.ensures (link b.check4.ensures
+    (link b.check-f-2.ensures (link b.check-f-3.ensures (link b.check-f-4.ensures
     (link (renamed _ 7 c.check-f-5.ensures c.figures_ok.ensures)
     (link c.check_order-f.ensures (link c.check_units.ensures ends)))))))))))

@@ -25,7 +25,7 @@ loop-k-preserved c =
       omega arith,
       unit-more _ _ _ _ _ L.invariant.1.right I,
       all_more _ _ L.invariant.2 (uniform-yes _ _ _ _ _ _ _ _ _ L.invariant.1.right I c.owner_at.ensures
-          c.start_of_lem.ensures c.owner_at-in-loop-k.ensures c.if-owner_at.true),
+          c.start_of.ensures c.owner_at-in-loop-k.ensures c.if-owner_at.true),
     )
 
 pub returns-else-owner_at : goal.returns-else-owner_at
@@ -34,7 +34,7 @@ returns-else-owner_at c =
     let L = c.loop-k in
     scan-fails _ _ _ c.loop-k-test.true L.invariant.2
     (uniform-no _ _ _ _ _ _ _ _ _ L.invariant.1.right I c.owner_at.ensures
-    c.start_of_lem.ensures c.owner_at-in-loop-k.ensures c.if-owner_at.false)
+    c.start_of.ensures c.owner_at-in-loop-k.ensures c.if-owner_at.false)
 
 pub returns : goal.returns
 returns c = scan-ends _ _ _ c.loop-k.invariant.0 c.loop-k-test.false c.loop-k.invariant.2

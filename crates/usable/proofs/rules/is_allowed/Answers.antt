@@ -6,8 +6,8 @@ use Rattle.usable.proofs.rules.is_allowed.Goals as goal
 pub returns-then-known_by : goal.returns-then-known_by
 returns-then-known_by c =
     let b = c in
-    allowed-on _ _ _ _ _ _ b.owner_at-owner.ensures b.known_by_lem.ensures _ c.if-known_by.true c.available_for.ensures
+    allowed-on _ _ _ _ _ _ b.owner_at-owner.ensures b.known_by.ensures _ c.if-known_by.true c.available_for.ensures
 
 pub returns : goal.returns
 returns c =
-    allowed-stops _ _ _ _ _ _ c.owner_at-owner.ensures c.known_by_lem.ensures c.if-known_by.false
+    allowed-stops _ _ _ _ _ _ c.owner_at-owner.ensures c.known_by.ensures c.if-known_by.false

@@ -8,7 +8,7 @@ use Rattle.wayback.proofs.search.is_frozen.Goals as goal
 
 pub returns : goal.returns
 returns c =
-    let start = c.start_of_lem.ensures in
+    let start = c.start_of-a.ensures in
     let end = c.unit_end-e.ensures in
     let pre = c.requires in
     let args = c.args in

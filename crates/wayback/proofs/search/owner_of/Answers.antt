@@ -7,4 +7,4 @@ use Rattle.wayback.proofs.search.owner_of.Goals as goal
 
 pub returns : goal.returns
 returns c =
-    c.owner_at.ensures ∙ ap (λ (k : ℕ). get_or c.args.owners.now k 0) c.start_of_lem.ensures
+    c.owner_at.ensures ∙ ap (λ (k : ℕ). get_or c.args.owners.now k 0) c.start_of.ensures
