@@ -156,12 +156,15 @@ def paths(body, steps):
     for st,muts in MUTS.items():
         stp=re.escape(st).replace('\\-','[-_]')
         def nw(m):
-            k=int(m.group(3))
             w={'last':'new','kept':'auto'}.get(m.group(2),m.group(2))
+            digits=m.group(3)
+            if not digits: return m.group(1)+'.'+w
+            k=digits.count('1')
+            if digits.endswith('1') : return m.group(0)
             return m.group(1)+'.'+w+'.'+muts[k] if k<len(muts) else m.group(0)
-        body=re.sub(r"((?i:\."+stp+r"))\.(new|last|kept)\.(\d)(?![\w'-])",nw,body)
+        body=re.sub(r"((?i:\."+stp+r"))\.(new|last|kept)((?:\.[01](?![\w'-]))*)(?![\w'-])",nw,body)
         for a in set(re.findall(r"let ([\w'-]+)(?: : [^=]*)? = [\w'.-]*\.(?i:"+stp+r") in",body)):
-            body=re.sub(r"((?<![\w.'-])"+re.escape(a)+r")\.(new|last|kept)\.(\d)(?![\w'-])",nw,body)
+            body=re.sub(r"((?<![\w.'-])"+re.escape(a)+r")\.(new|last|kept)((?:\.[01](?![\w'-]))*)(?![\w'-])",nw,body)
     # clauses of a requires, of a callee's ensures
     def pre_path(rest):
         n=len(PRE); k=0; parts=rest[1:].split('.') if rest else []
@@ -226,7 +229,7 @@ def convert(path, entry, report):
     for pl in entry['places']:
         if pl[3]:
             x=params_of(pl[3])
-            if x: MUTS[norm(pl[2][0])]=x[2]
+            if x: MUTS[norm(pl[2][0])]=x[1]
     x=params_of(entry['self'])
     OWN[:]=x[1] if x else []
     for pl in entry['places']:

@@ -43,7 +43,7 @@ module _ (p d f now : List ℕ) (k : ℕ) (r : Bool) (is : r ≡ is_frozen f k) 
       ∙ set_own (over (owner_read p d f) k p) k _ (omega (arith, length_over (owner_read p d f) k p))
       (read-frozen p d f k (sym is ∙ t) ∙ sym (get_d-over-out (owner_read p d f) k p k (let q : k ≤ k = omega arith in q))))
 
-  pub open_more : r ≡ false → set (λ x. x.now) k (get_or d k 0) ≡ over (owner_read p d f) (k + 1) p
+  pub open_more : r ≡ false → set now k (get_or d k 0) ≡ over (owner_read p d f) (k + 1) p
   open_more t =
       ap₂ (λ (l : List ℕ) (x : ℕ). set l k x) so (sym (read-open p d f k (sym is ∙ t))) ∙ sym (over-more (owner_read p d f) k p)
 
