@@ -162,9 +162,9 @@ def paths(body, steps):
             k=digits.count('1')
             if digits.endswith('1') : return m.group(0)
             return m.group(1)+'.'+w+'.'+muts[k] if k<len(muts) else m.group(0)
-        body=re.sub(r"((?i:\."+stp+r"))\.(new|last|kept)((?:\.[01](?![\w'-]))*)(?![\w'-])",nw,body)
+        body=re.sub(r"((?i:\."+stp+r"))\.(new|last|kept|auto)((?:\.[01](?![\w'-]))*)(?![\w'-])",nw,body)
         for a in set(re.findall(r"let ([\w'-]+)(?: : [^=]*)? = [\w'.-]*\.(?i:"+stp+r") in",body)):
-            body=re.sub(r"((?<![\w.'-])"+re.escape(a)+r")\.(new|last|kept)((?:\.[01](?![\w'-]))*)(?![\w'-])",nw,body)
+            body=re.sub(r"((?<![\w.'-])"+re.escape(a)+r")\.(new|last|kept|auto)((?:\.[01](?![\w'-]))*)(?![\w'-])",nw,body)
     # clauses of a requires, of a callee's ensures
     def pre_path(rest):
         n=len(PRE); k=0; parts=rest[1:].split('.') if rest else []

@@ -41,7 +41,7 @@ loop-k-preserved c =
     reached-in _ _ _ _ _ _ _ _ _ _ b.loop-k.invariant b.loop-k-test.true
     (differs-yes _ _ _ _ _ was is b.if-was-is.false) _
     (repair-is 0 (flag_of a.frozen.now 0) a.old.now a.new.now _ _ _ _ (c.wide.ensures ∙ was) (c.wide-else-was-is.ensures ∙ is)
-    c.flag_of.ensures) _ c.write_repair.auto.1.0 c.write_repair.ensures
+    c.flag_of.ensures) _ c.write_repair.auto.list c.write_repair.ensures
 
 pub shape_of-list : goal.shape_of-list
 shape_of-list c = c.loop-k.invariant.long

@@ -10,20 +10,20 @@ list_owners-n-requires c = room_0 _ _ _ _ _ _ _ _ _ _ _ c.requires.2
 pub list_words-n-requires : goal.list_words-n-requires
 list_words-n-requires c =
     let a = c.list_owners-n in
-    room-1 _ _ _ _ _ _ _ _ _ _ _ c.requires.2 _ a.ensures.number _ a.auto.1.1.1.1.1.0
+    room-1 _ _ _ _ _ _ _ _ _ _ _ c.requires.2 _ a.ensures.number _ a.auto.list
 
 pub list_words-n-requires-2 : goal.list_words-n-requires-2
 list_words-n-requires-2 c =
     let b = c.list_words-n in
     let a = c.list_owners-n in
-    room-2 _ _ _ _ _ _ _ _ _ _ _ c.requires.2 _ a.ensures.number _ (b.auto.1.1.1.1.1.0 ∙ a.auto.1.1.1.1.1.0) _ b.ensures.number
+    room-2 _ _ _ _ _ _ _ _ _ _ _ c.requires.2 _ a.ensures.number _ (b.auto.list ∙ a.auto.list) _ b.ensures.number
 
 pub list_words-requires : goal.list_words-requires
 list_words-requires c =
     let d = c.list_words-n-2 in
     let b = c.list_words-n in
     let a = c.list_owners-n in
-    room-3 _ _ _ _ _ _ _ _ _ _ _ c.requires.2 _ a.ensures.number _ (d.auto.1.1.1.1.1.0 ∙ b.auto.1.1.1.1.1.0 ∙ a.auto.1.1.1.1.1.0) _ b.ensures.number _
+    room-3 _ _ _ _ _ _ _ _ _ _ _ c.requires.2 _ a.ensures.number _ (d.auto.list ∙ b.auto.list ∙ a.auto.list) _ b.ensures.number _
     d.ensures.number
 
 pub returns : goal.returns

@@ -39,7 +39,7 @@ loop-k-preserved c =
     let is = b.word_at-is.ensures in
     reached-in _ _ _ _ _ _ _ _ _ _ b.loop-k.invariant b.loop-k-test.true
     (differs-yes _ _ _ _ _ was is b.if-was-is.false) _
-    (repair-is a.part (λ _. 0) a.old.now a.new.now _ _ _ _ was is refl) _ c.write_repair.auto.1.0 c.write_repair.ensures
+    (repair-is a.part (λ _. 0) a.old.now a.new.now _ _ _ _ was is refl) _ c.write_repair.auto.list c.write_repair.ensures
 
 pub shape_of-list : goal.shape_of-list
 shape_of-list c = c.loop-k.invariant.long

@@ -18,10 +18,10 @@ pub write_out-requires : goal.write_out-requires
 write_out-requires c =
     let z = c.requires in
     let w = c.work_out in
-    let new = local-room _ _ _ _ _ _ z _ _ _ _ (w.auto.1.1.1.1.1.1.1.1.1.0 ∙ length-replicate {A = ℕ} 1024 0)
-    (w.auto.1.1.1.1.1.1.1.1.1.1.0 ∙ length-replicate {A = ℕ} 512 0)
-    (w.auto.1.1.1.1.1.1.1.1.1.1.1.0 ∙ length-replicate {A = ℕ} 32 0)
-    (w.auto.1.1.1.1.1.1.1.1.1.1.1.1.0 ∙ length-replicate {A = ℕ} 2 0) in
+    let new = local-room _ _ _ _ _ _ z _ _ _ _ (w.auto.new_owners ∙ length-replicate {A = ℕ} 1024 0)
+    (w.auto.new_sets ∙ length-replicate {A = ℕ} 512 0)
+    (w.auto.new_minutes ∙ length-replicate {A = ℕ} 32 0)
+    (w.auto.new_totals ∙ length-replicate {A = ℕ} 2 0) in
     record { people_bound = (people-few _ _ _ _ _ _ z, slots-few _ _ _ _ _ _ z); new_room = new; new_room_2 = found-room _ _ _ _ _ _ z }
 
 pub returns : goal.returns

@@ -40,7 +40,7 @@ returns-then-refusal-eq0 c =
       todo = sym (ap (λ (t : Bool). cond t a.count 0) (eq-eqb _ 0 e));
       fits = λ _. asks-fits _ _ _ _ _ _ _ _ _ _ A _ c.unit_domains.ensures.masks_after;
       flags = λ _. c.frozen_of-flags.ensures;
-      room = (c.unit_domains.auto.1.1.1.1.1.0 ∙ length-replicate {A = ℕ} 1024 0, marks);
+      room = (c.unit_domains.auto.masks ∙ length-replicate {A = ℕ} 1024 0, marks);
       words = λ j. omega (arith, c8.shared-slice-known7.given j);
     }
 

@@ -33,7 +33,7 @@ copy_column-requires c =
     let split-all = c.split_all-atoms in
     let S = base-says _ (sym (said _ base-refusal.ensures) ∙ if1.true) in
     let s : length blank-column.result ≡ 1024 = search rules in
-    (if2.true, omega (arith, if2.true, s, split-all.auto.1.1.1.1.1.0), omega (arith, if2.true, S.room.0))
+    (if2.true, omega (arith, if2.true, s, split-all.auto.froms), omega (arith, if2.true, S.room.0))
 
 pub copy_column-requires-then-atoms-le-SLOTS_MOST : goal.copy_column-requires-then-atoms-le-SLOTS_MOST
 copy_column-requires-then-atoms-le-SLOTS_MOST c =
@@ -44,7 +44,7 @@ copy_column-requires-then-atoms-le-SLOTS_MOST c =
     let split-all = c.split_all-atoms in
     let S = base-says _ (sym (said _ base-refusal.ensures) ∙ if1.true) in
     let e : length blank-column2.result ≡ 1024 = search rules in
-    (if2.true, omega (arith, if2.true, e, split-all.auto.1.1.1.1.1.1.0), omega (arith, if2.true, S.room.1))
+    (if2.true, omega (arith, if2.true, e, split-all.auto.tos), omega (arith, if2.true, S.room.1))
 
 pub returns-then-atoms-le-SLOTS_MOST : goal.returns-then-atoms-le-SLOTS_MOST
 returns-then-atoms-le-SLOTS_MOST c =
@@ -61,7 +61,7 @@ returns-then-atoms-le-SLOTS_MOST c =
     let e : length blank-column2.result ≡ 1024 = search rules in
     atoms-done _ _ base-refusal.ensures if1.true merged-keys.result.keys _ merged-keys.ensures _ _ _ _ _ split-all.ensures
     if2.true
-    (omega (arith, s, split-all.auto.1.1.1.1.1.0)) (omega (arith, e, split-all.auto.1.1.1.1.1.1.0))
+    (omega (arith, s, split-all.auto.froms)) (omega (arith, e, split-all.auto.tos))
     _ _ copy-column.ensures copy-column2.ensures
 
 pub returns-then-number-eq0 : goal.returns-then-number-eq0

@@ -41,13 +41,13 @@ pub shape_of-froms-then-count-gt-SLOTS_MOST : goal.shape_of-froms-then-count-gt-
 shape_of-froms-then-count-gt-SLOTS_MOST c =
     let split-slot = c.split_slot-count in
     let loop = c.loop-i in
-    omega (arith, split-slot.auto.1.1.1.1.0, loop.invariant.1.lengths.0)
+    omega (arith, split-slot.auto.starts, loop.invariant.1.lengths.0)
 
 pub shape_of-tos-then-count-gt-SLOTS_MOST : goal.shape_of-tos-then-count-gt-SLOTS_MOST
 shape_of-tos-then-count-gt-SLOTS_MOST c =
     let split-slot = c.split_slot-count in
     let loop = c.loop-i in
-    omega (arith, split-slot.auto.1.1.1.1.1.0, loop.invariant.1.lengths.1)
+    omega (arith, split-slot.auto.ends, loop.invariant.1.lengths.1)
 
 pub returns-then-count-gt-SLOTS_MOST : goal.returns-then-count-gt-SLOTS_MOST
 returns-then-count-gt-SLOTS_MOST c =
@@ -73,8 +73,8 @@ loop-i-preserved c =
     let loop = c.loop-i in
     let split-slot = c.split_slot-count in (
       omega (arith, loop-test.true),
-      grow-more _ _ _ _ _ _ _ _ _ _ _ _ loop.invariant.1 split-slot.ensures split-slot.auto.1.1.1.1.0
-          split-slot.auto.1.1.1.1.1.0 c.if-count-gt-SLOTS_MOST.false,
+      grow-more _ _ _ _ _ _ _ _ _ _ _ _ loop.invariant.1 split-slot.ensures split-slot.auto.starts
+          split-slot.auto.ends c.if-count-gt-SLOTS_MOST.false,
     )
 
 pub shape_of-froms : goal.shape_of-froms

@@ -25,7 +25,7 @@ write_draws-requires c =
     record {
       few = A.units-few;
       masks =
-          omega (arith, c.unit_domains.auto.1.1.1.1.1.0, length-replicate {A = ℕ} 1024 0, A.units-few);
+          omega (arith, c.unit_domains.auto.masks, length-replicate {A = ℕ} 1024 0, A.units-few);
       draws = omega (arith, A.units-within, A.draws);
       firsts = omega (arith, A.units-within, A.firsts);
       seconds = omega (arith, A.units-within, A.seconds);
