@@ -143,16 +143,18 @@ def as_record(text, fields, report, path, goal):
 def paths(body, steps):
     # drop .before chains, rename steps
     argnames=set(re.findall(r"let ([\w'-]+)(?: : [^=]*)? = [\w'.-]*\.args in",body))
-    keep='\1'
-    body=re.sub(r"\.args\.before(?![\w'-])","\.args."+keep,body).replace("\\.args",".args")
-    for a in argnames:
-        body=re.sub(r"(?<![\w.'-])"+re.escape(a)+r"\.before(?![\w'-])",a+"."+keep,body)
-    body=re.sub(r"(?:\.before)+(?![\w'-])", "", body)
-    body=body.replace(keep,'before')
+    ctx={'c'}
+    for m in re.finditer(r"let ([\w'-]+)(?: : [^=]*?)? = ([\w'-]+)((?:\.before)*) in",body):
+        if m[2] in ctx: ctx.add(m[1])
+    ctx|=set(re.findall(r"(?<![\w'-])(c\d+)(?![\w'-])",body))
+    body=re.sub(r"(?<![\w.'-])("+'|'.join(re.escape(x) for x in sorted(ctx,key=len,reverse=True))+r")(?:\.before)+(?![\w'-])",r"\1",body)
     body=re.sub(r"\.pre(?![\w'-])",".requires",body)
     body=re.sub(r"\.taken(?![\w'-])",".true",body)
     body=re.sub(r"(\.if\d*|\.loop-test\d*|\.if-[\w'-]+|\.loop-[\w'-]+-test)\.left(?![\w'-])",r"\1.false",body)
-    body=re.sub(r"(\.args)\.t(\d+)(?![\w'-])",lambda m: m[1]+'.'+OWN[int(m[2])] if int(m[2])<len(OWN) else m[0],body)
+    body=re.sub(r"(\.args)\.t(\d+)(?![\w'-])",lambda m: m[1]+'.'+OWN[int(m[2])-1] if int(m[2])<=len(OWN) else m[0],body)
+    for a in argnames:
+        body=re.sub(r"((?<![\w.'-])"+re.escape(a)+r")\.t(\d+)(?![\w'-])",lambda m: m[1]+'.'+OWN[int(m[2])-1] if int(m[2])<=len(OWN) else m[0],body)
+    body=re.sub(r"\.type-inv(?![\w'-])",".type_inv",body)
     for st,muts in MUTS.items():
         stp=re.escape(st).replace('\\-','[-_]')
         def nw(m):

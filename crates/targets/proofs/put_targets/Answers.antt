@@ -11,7 +11,7 @@ pub loop-i-preserved : goal.loop-i-preserved
 loop-i-preserved c =
     let a = c.args in
     let p = c.loop-i in
-    let t = put a.t2 a.out.now p.i (pos 0) p.invariant.2 (to_z-of_z (sfits_of c.t-1.given)) (omega arith) (omega arith) in
+    let t = put a.targets a.out.now p.i (pos 0) p.invariant.2 (to_z-of_z (sfits_of c.t-1.given)) (omega arith) (omega arith) in
     (search rules, simp length-set p.invariant.1, t)
 
 pub returns : goal.returns

@@ -18,7 +18,7 @@ loop-i-init c = (sym (over_none _ _), sym (over_none _ _), walk_none _ _, omega 
 
 pub block_from-b-requires : goal.block_from-b-requires
 block_from-b-requires c =
-    let f : Fits w16 (get_or c.args.limit c.loop-i.i 0) = search rules in
+    let f : Fits w16 (get_or c.args.sizes c.loop-i.i 0) = search rules in
     (c.loop-i.invariant.3, f.fits)
 
 pub loop-i-preserved : goal.loop-i-preserved

@@ -43,7 +43,7 @@ run-requires c =
     let F = asks-fits _ _ _ _ _ _ _ _ _ _ A _ c8.unit_domains.ensures.masks_after in
     let M = c.frozen_of-flags in
     let masks = c8.unit_domains.auto.masks ∙ length-replicate {A = ℕ} 1024 0 in
-    let marks : length M.result ≡ 1024 = search (rules, M.type-inv) in record { plan_sound = G.on.sound; in_step = asks-step _ _ _ _ _ _ _ _ _ _ A; board_sound = ready-sound _ _ _ _ _ _ _ _ _ _ A _ _ F M.ensures; even = ready-even _ _ _ _ _ _ _ _ _ _ A _ _ F M.ensures; draw_room = columns-room _ _ _ _ _ G.draws G.answers; units_in_bounds = (units-room _ _ _ G.units-ok, omega (arith, few, masks), omega (arith, few, marks)) }
+    let marks : length M.result ≡ 1024 = search (rules, M.type_inv) in record { plan_sound = G.on.sound; in_step = asks-step _ _ _ _ _ _ _ _ _ _ A; board_sound = ready-sound _ _ _ _ _ _ _ _ _ _ A _ _ F M.ensures; even = ready-even _ _ _ _ _ _ _ _ _ _ A _ _ F M.ensures; draw_room = columns-room _ _ _ _ _ G.draws G.answers; units_in_bounds = (units-room _ _ _ G.units-ok, omega (arith, few, masks), omega (arith, few, marks)) }
 
 pub returns-then-refusal-eq0 : goal.returns-then-refusal-eq0
 returns-then-refusal-eq0 c =

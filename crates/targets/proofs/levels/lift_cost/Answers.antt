@@ -14,9 +14,9 @@ pub loop-i-preserved : goal.loop-i-preserved
 loop-i-preserved c =
     let a = c.args in
     let p = c.loop-i in
-    (search rules, omega arith, cost-turn a.level p.sum a.t1 p.i _ p.invariant.2 c.with_missing-sum.ensures.0 (omega arith))
+    (search rules, omega arith, cost-turn a.level p.sum a.standings p.i _ p.invariant.2 c.with_missing-sum.ensures.0 (omega arith))
 
 pub returns : goal.returns
 returns c =
     let a = c.args in
-    cost-over a.level c.loop-i.sum a.t1 c.loop-i.i c.loop-i.invariant.2 (omega arith)
+    cost-over a.level c.loop-i.sum a.standings c.loop-i.i c.loop-i.invariant.2 (omega arith)

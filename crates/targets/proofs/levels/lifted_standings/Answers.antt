@@ -13,7 +13,7 @@ loop-i-preserved c =
     let p = c.loop-i in (
       search rules,
       simp length-set p.invariant.1,
-      lift-turn a.level p.rest a.t1 p.out p.i _ p.invariant.2 c.lifted_standing-m.ensures c.left_after-rest.ensures
+      lift-turn a.level p.rest a.standings p.out p.i _ p.invariant.2 c.lifted_standing-m.ensures c.left_after-rest.ensures
           (omega arith) (omega arith),
     )
 
@@ -21,4 +21,4 @@ pub returns : goal.returns
 returns c =
     let a = c.args in
     let p = c.loop-i in
-    lift-over a.level p.rest a.t1 p.out p.i p.invariant.2 (omega arith) (omega arith)
+    lift-over a.level p.rest a.standings p.out p.i p.invariant.2 (omega arith) (omega arith)

@@ -12,7 +12,7 @@ pub loop-i-preserved : goal.loop-i-preserved
 loop-i-preserved c =
     let a = c.args in
     let p = c.loop-i in
-    (search rules, omega arith, turn lower a.t1 p.i _ p.invariant.2 c.lower_of-low.ensures.0 (omega arith))
+    (search rules, omega arith, turn lower a.standings p.i _ p.invariant.2 c.lower_of-low.ensures.0 (omega arith))
 
 pub returns : goal.returns
-returns c = (over lower c.args.t1 c.loop-i.i c.loop-i.invariant.2 (omega arith), search rules)
+returns c = (over lower c.args.standings c.loop-i.i c.loop-i.invariant.2 (omega arith), search rules)

@@ -13,7 +13,7 @@ pub settled_standing-m-requires : goal.settled_standing-m-requires
 settled_standing-m-requires c =
     let a = c.args in
     let p = outside a.n a.sum in
-    each_at (λ (l : Standing). p l ≡ false) a.t1 c.loop-i.i _ (none_each p a.t1 c.requires)
+    each_at (λ (l : Standing). p l ≡ false) a.standings c.loop-i.i _ (none_each p a.standings c.requires)
     (omega arith)
 
 pub loop-i-preserved : goal.loop-i-preserved
@@ -22,11 +22,11 @@ loop-i-preserved c =
     let p = c.loop-i in (
       search rules,
       simp length-set p.invariant.1,
-      copied (settle a.n a.sum) a.t1 p.out p.i _ p.invariant.2 c.settled_standing-m.ensures (omega arith) (omega arith),
+      copied (settle a.n a.sum) a.standings p.out p.i _ p.invariant.2 c.settled_standing-m.ensures (omega arith) (omega arith),
     )
 
 pub returns : goal.returns
 returns c =
     let a = c.args in
     let p = c.loop-i in
-    filled (settle a.n a.sum) a.t1 p.out p.i p.invariant.2 (omega arith) (omega arith)
+    filled (settle a.n a.sum) a.standings p.out p.i p.invariant.2 (omega arith) (omega arith)

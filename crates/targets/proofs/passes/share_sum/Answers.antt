@@ -13,7 +13,7 @@ loop-i-init c = (search rules, refl)
 pub loop-i-preserved : goal.loop-i-preserved
 loop-i-preserved c =
     let p = c in
-    (search rules, turn with_share p.args.t1 p.loop-i.i _ p.loop-i.invariant.1 c.with_share-sum.ensures (omega arith))
+    (search rules, turn with_share p.args.standings p.loop-i.i _ p.loop-i.invariant.1 c.with_share-sum.ensures (omega arith))
 
 pub returns : goal.returns
-returns c = over with_share c.args.t1 c.loop-i.i c.loop-i.invariant.1 (omega arith)
+returns c = over with_share c.args.standings c.loop-i.i c.loop-i.invariant.1 (omega arith)

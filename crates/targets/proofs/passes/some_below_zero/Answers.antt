@@ -11,17 +11,17 @@ pub returns-then-is_below_zero : goal.returns-then-is_below_zero
 returns-then-is_below_zero c =
     let a = c.args in
     let p = c.loop-i in
-    found (below_zero a.n a.sum) a.t1 p.i _ p.invariant.1 c.is_below_zero.ensures c.if-is_below_zero.true (omega arith)
+    found (below_zero a.n a.sum) a.standings p.i _ p.invariant.1 c.is_below_zero.ensures c.if-is_below_zero.true (omega arith)
 
 pub loop-i-preserved : goal.loop-i-preserved
 loop-i-preserved c =
     let a = c.args in
     let p = c.loop-i in
-    let h = missed (below_zero a.n a.sum) a.t1 p.i _ p.invariant.1 c.is_below_zero.ensures c.if-is_below_zero.false
+    let h = missed (below_zero a.n a.sum) a.standings p.i _ p.invariant.1 c.is_below_zero.ensures c.if-is_below_zero.false
     (omega arith) in
     (search rules, h)
 
 pub returns : goal.returns
 returns c =
     let a = c.args in
-    nowhere (below_zero a.n a.sum) a.t1 c.loop-i.i c.loop-i.invariant.1 (omega arith)
+    nowhere (below_zero a.n a.sum) a.standings c.loop-i.i c.loop-i.invariant.1 (omega arith)

@@ -12,15 +12,15 @@ use Rattle.targets.proofs.remainder.adjusted_of.Goals as goal
 pub with_rest-t-requires : goal.with_rest-t-requires
 with_rest-t-requires c =
     let e = c in
-    (each_at SmallTarget e.args.demand c.best_of-b.result.at _ e.requires (omega arith), omega arith)
+    (each_at SmallTarget e.args.standings c.best_of-b.result.at _ e.requires (omega arith), omega arith)
 
 pub returns : goal.returns
 returns c =
     let a = c.args in
     let b = c.best_of-b in
-    adjusted-by a.t1 a.demand
+    adjusted-by a.standings a.demand
     c.signed_of-out.ensures
     (ap (λ (x : Best). x.at) b.ensures.0)
-    (ap (λ (l : Standing). l.target) (same-standing a.t1 b.result.at _ pad (omega arith)))
+    (ap (λ (l : Standing). l.target) (same-standing a.standings b.result.at _ pad (omega arith)))
     c.total_of-total.ensures.0
-    (to_z-of_z (sfits_of c.with_rest-t.type-inv) ∙ c.with_rest-t.ensures)
+    (to_z-of_z (sfits_of c.with_rest-t.type_inv) ∙ c.with_rest-t.ensures)

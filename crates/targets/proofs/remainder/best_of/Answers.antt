@@ -12,11 +12,11 @@ pub loop-i-preserved : goal.loop-i-preserved
 loop-i-preserved c =
     let p = c.loop-i in
     let e = c.better_of-b.ensures in
-    let t = turn better c.args.t1 p.i _ p.invariant.4 e.0 (omega arith) in
+    let t = turn better c.args.standings p.i _ p.invariant.4 e.0 (omega arith) in
     (search rules, omega arith, omega arith, omega arith, t)
 
 pub returns : goal.returns
-returns c = (over better c.args.t1 c.loop-i.i c.loop-i.invariant.4 (omega arith), search rules)
+returns c = (over better c.args.standings c.loop-i.i c.loop-i.invariant.4 (omega arith), search rules)
 
 pub better_of-b-requires : goal.better_of-b-requires
 better_of-b-requires c = omega arith

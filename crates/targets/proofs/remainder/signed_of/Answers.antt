@@ -13,19 +13,19 @@ loop-i-init c = (search rules, refl, refl)
 pub signed_target-t-requires : goal.signed_target-t-requires
 signed_target-t-requires c =
     let e = c in
-    each_at SmallTarget e.args.t1 c.loop-i.i _ e.requires (omega arith)
+    each_at SmallTarget e.args.standings c.loop-i.i _ e.requires (omega arith)
 
 pub loop-i-preserved : goal.loop-i-preserved
 loop-i-preserved c =
     let a = c.args in
     let p = c.loop-i in
-    let t = to_z-of_z (sfits_of c.signed_target-t.type-inv) ∙ c.signed_target-t.ensures in (
+    let t = to_z-of_z (sfits_of c.signed_target-t.type_inv) ∙ c.signed_target-t.ensures in (
       search rules,
       simp length-set p.invariant.1,
-      copied target_of a.t1 p.out p.i _ p.invariant.2 t (omega arith) (omega arith),
+      copied target_of a.standings p.out p.i _ p.invariant.2 t (omega arith) (omega arith),
     )
 
 pub returns : goal.returns
 returns c =
     let a = c.args in
-    filled target_of a.t1 c.loop-i.out c.loop-i.i c.loop-i.invariant.2 (omega arith) (omega arith)
+    filled target_of a.standings c.loop-i.out c.loop-i.i c.loop-i.invariant.2 (omega arith) (omega arith)

@@ -13,13 +13,13 @@ loop-i-init c = (search rules, search rules, refl)
 pub with_target-sum-requires : goal.with_target-sum-requires
 with_target-sum-requires c =
     let e = c in
-    (omega arith, each_at SmallTarget e.args.t1 c.loop-i.i _ e.requires (omega arith))
+    (omega arith, each_at SmallTarget e.args.standings c.loop-i.i _ e.requires (omega arith))
 
 pub loop-i-preserved : goal.loop-i-preserved
 loop-i-preserved c =
     let a = c.args in
     let p = c.loop-i in
-    (search rules, omega arith, turn with_target a.t1 p.i _ p.invariant.2 c.with_target-sum.ensures.0 (omega arith))
+    (search rules, omega arith, turn with_target a.standings p.i _ p.invariant.2 c.with_target-sum.ensures.0 (omega arith))
 
 pub returns : goal.returns
-returns c = (over with_target c.args.t1 c.loop-i.i c.loop-i.invariant.2 (omega arith), omega arith)
+returns c = (over with_target c.args.standings c.loop-i.i c.loop-i.invariant.2 (omega arith), omega arith)

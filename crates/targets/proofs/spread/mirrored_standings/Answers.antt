@@ -11,7 +11,7 @@ loop-i-init c = (search rules, omega arith, refl)
 pub mirrored_standing-m-requires : goal.mirrored_standing-m-requires
 mirrored_standing-m-requires c =
     let e = c in
-    each_at SmallTarget e.args.t1 c.loop-i.i _ e.requires (omega arith)
+    each_at SmallTarget e.args.standings c.loop-i.i _ e.requires (omega arith)
 
 pub loop-i-preserved : goal.loop-i-preserved
 loop-i-preserved c =
@@ -19,10 +19,10 @@ loop-i-preserved c =
     let p = c.loop-i in (
       search rules,
       simp length-set p.invariant.1,
-      copied mirrored a.t1 p.out p.i _ p.invariant.2 c.mirrored_standing-m.ensures (omega arith) (omega arith),
+      copied mirrored a.standings p.out p.i _ p.invariant.2 c.mirrored_standing-m.ensures (omega arith) (omega arith),
     )
 
 pub returns : goal.returns
 returns c =
     let p = c.loop-i in
-    filled mirrored c.args.t1 p.out p.i p.invariant.2 (omega arith) (omega arith)
+    filled mirrored c.args.standings p.out p.i p.invariant.2 (omega arith) (omega arith)

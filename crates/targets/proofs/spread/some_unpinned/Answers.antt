@@ -12,13 +12,13 @@ pub returns-then-is_unpinned : goal.returns-then-is_unpinned
 returns-then-is_unpinned c =
     let a = c.args in
     let p = c.loop-i in
-    found unpinned a.t1 p.i _ p.invariant.1 c.is_unpinned.ensures c.if-is_unpinned.true (omega arith)
+    found unpinned a.standings p.i _ p.invariant.1 c.is_unpinned.ensures c.if-is_unpinned.true (omega arith)
 
 pub loop-i-preserved : goal.loop-i-preserved
 loop-i-preserved c =
     let a = c.args in
     let p = c.loop-i in
-    (search rules, missed unpinned a.t1 p.i _ p.invariant.1 c.is_unpinned.ensures c.if-is_unpinned.false (omega arith))
+    (search rules, missed unpinned a.standings p.i _ p.invariant.1 c.is_unpinned.ensures c.if-is_unpinned.false (omega arith))
 
 pub returns : goal.returns
-returns c = nowhere unpinned c.args.t1 c.loop-i.i c.loop-i.invariant.1 (omega arith)
+returns c = nowhere unpinned c.args.standings c.loop-i.i c.loop-i.invariant.1 (omega arith)

@@ -14,8 +14,8 @@ loop-i-preserved c =
     let p = c.loop-i in (
       search rules,
       simp length-set p.invariant.1,
-      put (map unpin a.t2) a.t2 p.i _ p.invariant.2 (c.unpinned_standing-m.ensures ∙ sym (get_or-map unpin a.t2 p.i _))
-          (omega (arith, length-map a.t2 unpin)) (omega arith),
+      put (map unpin a.standings) a.standings p.i _ p.invariant.2 (c.unpinned_standing-m.ensures ∙ sym (get_or-map unpin a.standings p.i _))
+          (omega (arith, length-map a.standings unpin)) (omega arith),
     )
 
 pub returns : goal.returns

@@ -64,7 +64,7 @@ overflow_sub-masks c =
     let R = pre.mask_room in
     let h = pre.person_lt_people.0 in
     let F = b4.next_had-had.ensures in
-    let f = lacks-unit _ _ _ _ R.right _ _ _ _ _ pre.person_lt_people.1 pre.person_lt_people.2 F b4.loop-w.invariant.0
+    let f = lacks-unit _ _ _ _ R.right _ _ _ _ _ pre.person_lt_people.1 pre.person_lt_people.2 F.before b4.loop-w.invariant.0
     c.loop-w-test.true
     c.if-begins-w.true in
     let bit = one_bit _ _ h (people-says _ R.counted).1 in
@@ -83,7 +83,7 @@ loop-w-preserved c =
     let R = pre.mask_room in
     let h = pre.person_lt_people.0 in
     let F = b4.next_had-had.ensures in
-    let f = lacks-unit _ _ _ _ R.right _ _ _ _ _ pre.person_lt_people.1 pre.person_lt_people.2 F b4.loop-w.invariant.0
+    let f = lacks-unit _ _ _ _ R.right _ _ _ _ _ pre.person_lt_people.1 pre.person_lt_people.2 F.before b4.loop-w.invariant.0
     c.loop-w-test.true
     c.if-begins-w.true in
     let bit = one_bit _ _ h (people-says _ R.counted).1 in (

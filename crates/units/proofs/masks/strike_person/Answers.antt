@@ -47,7 +47,7 @@ strike-u-requires c =
     let at = b4.loop-u in
     let G = c.next_gap-gap.ensures in
     let U = c.unit_from-v.ensures in
-    let skip = skip-to-gap _ _ _ _ _ pre.mask_room.right _ _ _ _ G _ U.1 U.0 in record { mask_room = room-kept _ _ _ _ _ _ _ _ _ at.invariant.1 pre.mask_room; person_lt_people = (pre.person_lt_people, U.0, G.here c.if-gap-slots.true); masks_value = strikes-held _ _ _ _ _ _ _ _ _ _ at.invariant.1 skip }
+    let skip = skip-to-gap _ _ _ _ _ pre.mask_room.right _ _ _ _ G.before _ U.1 U.0 in record { mask_room = room-kept _ _ _ _ _ _ _ _ _ at.invariant.1 pre.mask_room; person_lt_people = (pre.person_lt_people, U.0, G.here c.if-gap-slots.true); masks_value = strikes-held _ _ _ _ _ _ _ _ _ _ at.invariant.1 skip }
 
 pub loop-u-smaller : goal.loop-u-smaller
 loop-u-smaller c =
@@ -69,7 +69,7 @@ returns-else-gap-slots c =
     let b4 = c in
     let R = b4.requires.mask_room in
     let G = c.next_gap-gap.ensures in
-    b4.loop-u.invariant.1 ∙ skip-rest _ _ _ _ _ R.right _ _ _ _ G b4.loop-u.invariant.0 c.if-gap-slots.false
+    b4.loop-u.invariant.1 ∙ skip-rest _ _ _ _ _ R.right _ _ _ _ G.before b4.loop-u.invariant.0 c.if-gap-slots.false
 
 pub shape_of-masks : goal.shape_of-masks
 shape_of-masks c = ap length c.loop-u.invariant.1 ∙ length_over _ _ _
