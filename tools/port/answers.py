@@ -40,6 +40,7 @@ def params_of(path):
         if x[3] and x[3] in path.split('::'): return x
     return c[0] if c else None
 MUTS={}
+WRAPS=[]
 OWN=[]
 
 USE = re.compile(r"^(?:pub )?use ")
@@ -142,9 +143,9 @@ def as_record(text, fields, report, path, goal):
     return text[:i]+rec+text[e:]
 def paths(body, steps):
     # drop .before chains, rename steps
-    argnames=set(re.findall(r"let ([\w'-]+)(?: : [^=]*)? = [\w'.-]*\.args in",body))
+    argnames=set(re.findall(r"let ([\w'-]+)(?: : [^=]*)? = [\w'.-]*\.args\s+in",body))
     ctx={'c'}
-    for m in re.finditer(r"let ([\w'-]+)(?: : [^=]*?)? = ([\w'-]+)((?:\.before)*) in",body):
+    for m in re.finditer(r"let ([\w'-]+)(?: : [^=]*?)? = ([\w'-]+)((?:\.before)*)\s+in",body):
         if m[2] in ctx: ctx.add(m[1])
     ctx|=set(re.findall(r"(?<![\w'-])(c\d+)(?![\w'-])",body))
     body=re.sub(r"(?<![\w.'-])("+'|'.join(re.escape(x) for x in sorted(ctx,key=len,reverse=True))+r")(?:\.before)+(?![\w'-])",r"\1",body)
@@ -165,8 +166,11 @@ def paths(body, steps):
             if digits.endswith('1') : return m.group(0)
             return m.group(1)+'.'+w+'.'+muts[k] if k<len(muts) else m.group(0)
         body=re.sub(r"((?i:\."+stp+r"))\.(new|last|kept|auto)((?:\.[01](?![\w'-]))*)(?![\w'-])",nw,body)
-        for a in set(re.findall(r"let ([\w'-]+)(?: : [^=]*)? = [\w'.-]*\.(?i:"+stp+r") in",body)):
+        for a in set(re.findall(r"let ([\w'-]+)(?: : [^=]*)? = [\w'.-]*\.(?i:"+stp+r")\s+in",body)):
             body=re.sub(r"((?<![\w.'-])"+re.escape(a)+r")\.(new|last|kept|auto)((?:\.[01](?![\w'-]))*)(?![\w'-])",nw,body)
+    for st in WRAPS:
+        stp=re.escape(st).replace('\\-','[-_]')
+        body=re.sub(r"((?i:\."+stp+r")\.ensures)(?!\.value)(?![\w'-])",r"\1.value",body)
     # clauses of a requires, of a callee's ensures
     def pre_path(rest):
         n=len(PRE); k=0; parts=rest[1:].split('.') if rest else []
@@ -176,7 +180,7 @@ def paths(body, steps):
             else: return None
         return '.'+'.'.join([PRE[k]]+parts)
     if PRE:
-        al=set(re.findall(r"let ([\w'-]+)(?: : [^=]*)? = [\w'.-]*\.requires in",body))
+        al=set(re.findall(r"let ([\w'-]+)(?: : [^=]*)? = [\w'.-]*\.requires\s+in",body))
         def rq(m):
             r=pre_path(m.group(2)); return m.group(1)+r if r else m.group(0)
         body=re.sub(r"(\.requires)((?:\.[01](?![\w'-]))+)",rq,body)
@@ -187,7 +191,7 @@ def paths(body, steps):
         def en(m):
             k=int(m.group(2)); return m.group(1)+'.'+names[k] if k<len(names) else m.group(0)
         body=re.sub(r"(\."+stp+r"\.ensures)\.(\d)(?![\w'-])",en,body)
-        for a in set(re.findall(r"let ([\w'-]+)(?: : [^=]*)? = [\w'.-]*\."+stp+r"\.ensures in",body)):
+        for a in set(re.findall(r"let ([\w'-]+)(?: : [^=]*)? = [\w'.-]*\."+stp+r"\.ensures\s+in",body)):
             body=re.sub(r"((?<![\w.'-])"+re.escape(a)+r")\.(\d)(?![\w'-])",en,body)
     def chain(m):
         base=re.search(r"[\w'-]*$",m.string[:m.start()]).group(0)
@@ -199,7 +203,7 @@ def paths(body, steps):
                     if tuple(parts[i+1:i+1+len(pth)])==pth and pth:
                         return '.'+'.'.join([(steps.get(norm(q),q)) for q in parts[:i]]+list(new)+parts[i+1+len(pth):])
         q=steps.get(norm(parts[0]))
-        if q and (base=='c' or not re.search(r"-1$",q)): parts[0]=q
+        if q and (base in ctx or not re.search(r"-1$",q)): parts[0]=q
         return '.'+'.'.join(parts)
     return re.sub(r"(?<=[\w')])(?:\.[A-Za-z0-9][\w'-]*)+", chain, body)
 
@@ -227,9 +231,10 @@ def convert(path, entry, report):
         if a:
             for newf,oldstep,pth in a[2]:
                 if pth: ARMS.setdefault(norm(oldstep),[]).append((tuple(pth),(a[0],newf)))
-    CALLEE.clear(); MUTS.clear()
+    CALLEE.clear(); MUTS.clear(); WRAPS.clear()
     for pl in entry['places']:
         if pl[3]:
+            if '::num::wrapping_' in pl[3]: WRAPS.append(norm(pl[2][0]))
             x=params_of(pl[3])
             if x: MUTS[norm(pl[2][0])]=x[1]
     x=params_of(entry['self'])

@@ -1,5 +1,5 @@
 -- `targets::put_targets` meets its contract. Assumes nothing.
-use Rattle.std.proofs.Common.{◌≡◌, ◌-◌, ◌≤◌, ◌++◌, length, take, drop, pos, refl, arith, length-set, to_z-of_z, rules}
+use Rattle.std.proofs.Common.{◌≡◌, ◌-◌, ◌≤◌, ◌++◌, length, take, drop, pos, refl, arith, length-set, to_z-of_z, w64, rules}
 use borrow.Author.Rules.{sfits_of}
 use Rattle.targets.proofs.Loops.{put}
 use Rattle.targets.proofs.put_targets.Goals as goal
@@ -11,7 +11,7 @@ pub loop-i-preserved : goal.loop-i-preserved
 loop-i-preserved c =
     let a = c.args in
     let p = c.loop-i in
-    let t = put a.targets a.out.now p.i (pos 0) p.invariant.2 (to_z-of_z (sfits_of c.t-1.given)) (omega arith) (omega arith) in
+    let t = put a.targets a.out.now p.i (pos 0) p.invariant.2 (to_z-of_z {w = w64} (sfits_of c.t-1.given)) (omega arith) (omega arith) in
     (search rules, simp length-set p.invariant.1, t)
 
 pub returns : goal.returns

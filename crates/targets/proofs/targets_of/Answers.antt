@@ -1,10 +1,10 @@
 -- `targets::targets_of` meets its contract. Assumes nothing.
-use Rattle.std.proofs.Common.{◌≡◌, ℕ, ◌+◌, false, List, [], ◌∷◌, sym, refl, ap, ◌∙◌, subst, ⊎_elim, true≢false, arith, rules}
+use Rattle.std.proofs.Common.{◌≡◌, ℕ, ◌+◌, false, List, [], ◌∷◌, sym, refl, ap, ◌∙◌, subst, ◌⊎◌, inl, inr, ⊎_elim, true≢false, arith, rules}
 use denote.Enum.Declared.{tag_of}
 use types.Run.{OneOf}
 use Rattle.targets.specs.declared.Standing.{Standing}
 use Rattle.targets.specs.declared.Next.{Next}
-use Rattle.targets.specs.declared.Next.TheVariants.{Refused}
+use Rattle.targets.specs.declared.Next.TheVariants.{Again, Done, Refused}
 use Rattle.targets.specs.Passes.{Passed, again}
 use Rattle.targets.specs.declared.Answer.{Answer}
 use Rattle.targets.specs.Inside.{round_is, AnswerOf, Small, PinnedZero}
@@ -25,13 +25,17 @@ left-have : (P : List Standing → Type 0) (n : Next) (ls : List Standing) → (
 left-have P n ls f e h =
     by_left n ls (λ (q : Passed). OfStandings P q → P ls) f (λ h. h) (λ h. h) (subst (OfStandings P) (sym e) h)
 
+-- after the passes: on, unless they refuse
+goes-on : (n : Next) → ((n ≡ Again) ⊎ (n ≡ Done)) → n ≡ Refused → ⊥
+goes-on n h e = elim h [ inl a ↦ cc | inr d ↦ cc ]
+
 pub shared_out-t-requires : goal.shared_out-t-requires
 shared_out-t-requires c =
     let p = c in
     let r = p.passes_of-r.result in
     let a = p.args in
     let q = p.requires in
-    let f = not-refused r.next c.in-Refused.keys2 in (
+    let f = goes-on r.next c.in-Again.is in (
       q.0,
       q.1,
       left-have Small r.next r.standings f p.passes_of-r.ensures
@@ -59,6 +63,6 @@ returns-in-Again c =
     of-round a.edition a.people a.demand _
     (by_left r.next r.standings
     (λ (q : Passed). AnswerOf a.edition a.people a.demand q (record { refused = false; targets = c.shared_out-t.result }))
-    (not-refused r.next c.in-Refused.keys2)
+    (goes-on r.next c.in-Again.is)
     (record { kept = refl; given = λ f. c.shared_out-t.ensures }) (record { kept = refl; given = λ f. c.shared_out-t.ensures }))
     p.passes_of-r.ensures

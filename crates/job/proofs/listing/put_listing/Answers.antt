@@ -20,10 +20,10 @@ put_lines-requires c =
       slots-few = s.requires.slots_bound.0;
       people-few = s.requires.slots_bound.1;
       draws-few = s.requires.slots_bound.2;
-      starts = λ k h. omega (arith, c5.shared-slice-known.given k);
-      ends = λ k h. omega (arith, c2.shared-slice-known2.given k);
-      owners = λ k h. omega (arith, c2.shared-slice-known3.given k);
-      minutes = λ p h. omega (arith, c2.shared-slice-known4.given p);
+      starts = λ k h. omega (arith, c5.shared_slice_known-1.given k);
+      ends = λ k h. omega (arith, c2.shared_slice_known-2-1.given k);
+      owners = λ k h. omega (arith, c2.shared_slice_known-3-1.given k);
+      minutes = λ p h. omega (arith, c2.shared_slice_known-4-1.given p);
       targets = s.requires.by_index;
       uncovered = omega (arith, u.fits);
     } in

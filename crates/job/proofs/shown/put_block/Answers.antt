@@ -25,10 +25,10 @@ put_block_lines-length-requires c =
     _ c4.block_refusal-f.ensures c.if-f-eq0.true in
     let b : Fits w64 a.block = search rules in
     let F : Columns a.people a.starts.now a.ends.now a.owners.now a.minutes.now a.targets.now = record {
-      starts = λ i. omega (arith, k.shared-slice-known.given i);
-      ends = λ i. omega (arith, k.shared-slice-known2.given i);
-      owners = λ i. omega (arith, k.shared-slice-known3.given i);
-      minutes = λ i. omega (arith, k.shared-slice-known4.given i);
+      starts = λ i. omega (arith, k.shared_slice_known-1.given i);
+      ends = λ i. omega (arith, k.shared_slice_known-2-1.given i);
+      owners = λ i. omega (arith, k.shared_slice_known-3-1.given i);
+      minutes = λ i. omega (arith, k.shared_slice_known-4-1.given i);
       targets = c.see_targets.ensures;
     } in record {
       slots_in_bounds = (R.starts-room, R.ends-room, R.owners-room);

@@ -12,7 +12,7 @@ loop-k-preserved c =
     let at-loop = c.loop-k in (
       omega arith,
       omega arith,
-      stretch-more _ _ _ _ _ _ _ at-loop.invariant.0 at-loop.invariant.2 c.minutes_at.ensures c.wrapping_add_u64-total.ensures,
+      stretch-more _ _ _ _ _ _ _ at-loop.invariant.0 at-loop.invariant.2 c.minutes_at.ensures c.wrapping_add_u64-total.ensures.value,
     )
 
 pub returns : goal.returns

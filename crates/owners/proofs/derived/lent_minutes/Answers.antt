@@ -16,7 +16,7 @@ loop-k-preserved c =
     ∙ ap₂ (λ (x y : ℕ). x - y) c.wide.ensures c.wide-in-loop-k.ensures in (
       omega arith,
       omega arith,
-      stretch-more _ _ _ _ _ _ _ at-loop.invariant.0 at-loop.invariant.2 minutes c.wrapping_add_u64-total.ensures,
+      stretch-more _ _ _ _ _ _ _ at-loop.invariant.0 at-loop.invariant.2 minutes c.wrapping_add_u64-total.ensures.value,
     )
 
 pub returns : goal.returns

@@ -26,7 +26,7 @@ loop-i-init c =
     let c8 = c in
     let c16 = c8 in
     let at_pre = c16.requires in
-    let at-slice-known = c8.slice-known in
+    let at-slice-known = c8.slice_known-1 in
     made-start _ at_pre.plan_sound _ _ _ _ _ _ _ at_pre.makes (λ j. omega (arith, at-slice-known.given j)) c8.clear_sets.ensures
     c.clear_first.ensures c.clear_first-2.ensures
 
@@ -82,6 +82,6 @@ returns c =
     let c8 = c in
     let c16 = c8 in
     let at_pre = c16.requires in
-    let at-slice-known = c16.slice-known in
+    let at-slice-known = c16.slice_known-1 in
     made-end _ at_pre.plan_sound _ _ _ _ c.loop-i-test.false c.loop-i.invariant ∙ cleared-forgotten _ at_pre.plan_sound _ _ _ _ _ _ _ at_pre.makes
     (λ j. omega (arith, at-slice-known.given j)) c8.clear_sets.ensures c8.clear_first.ensures c.clear_first-2.ensures

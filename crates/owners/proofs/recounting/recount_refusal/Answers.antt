@@ -34,8 +34,8 @@ derived_refusal-requires c =
     in
     let at-args = c8.args in
     let at-first-unknown = c.first_unknown-unknown in
-    let R = at_pre.1 in record {
-      plan_sound = at_pre.0;
+    let R = at_pre.rota_room in record {
+      plan_sound = at_pre.plan_sound;
       makes = record {
         owners-room = R.owners-room;
         sets-room = R.sets-room;

@@ -13,7 +13,7 @@ loop-k-preserved c =
     let args = c.args in
     let byte : get_or args.owners.now at.k 0 < 256 = omega (arith, c.shared_slice_known-in-loop-k-1.given at.k) in (
       omega arith,
-      enough-more args.owners.now _ _ _ _ at.invariant.1 byte c.wrapping_add_u8.ensures c.higher-most.ensures,
+      enough-more args.owners.now _ _ _ _ at.invariant.1 byte c.wrapping_add_u8.ensures.value c.higher-most.ensures,
     )
 
 pub returns : goal.returns

@@ -9,7 +9,7 @@ pub returns : goal.returns
 returns c =
     let c8 = c in
     let c16 = c8 in
-    let k = c8.slice-known2 in
+    let k = c8.slice_known-2-1 in
     let x = c16.args in
     handed (plan x.people x.slots x.starts.now x.ends.now) x.owners.now (derived x.sets.now x.minutes.now
     x.totals.now)

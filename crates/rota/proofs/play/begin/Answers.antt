@@ -41,7 +41,7 @@ returns-then-refusal-eq0 c =
       fits = λ _. asks-fits _ _ _ _ _ _ _ _ _ _ A _ c.unit_domains.ensures.masks_after;
       flags = λ _. c.frozen_of-flags.ensures;
       room = (c.unit_domains.auto.masks ∙ length-replicate {A = ℕ} 1024 0, marks);
-      words = λ j. omega (arith, c8.shared-slice-known7.given j);
+      words = λ j. omega (arith, c8.shared_slice_known-7-1.given j);
     }
 
 pub returns : goal.returns

@@ -69,7 +69,7 @@ loop-i-preserved c =
     let c24 = c16 in
     let c32 = c24 in
     let p = c32.requires in
-    let words = c24.slice-known2 in (
+    let words = c24.slice_known-2-1 in (
       omega arith,
       columns-more _ _ _ _ _ _ _ _ _ _ _ _ c16.loop-i.invariant.1 _ _ _ p.plan_sound.slots-few p.in_step.sets-room
           (λ j. omega (arith, words.given j)) (omega (arith, p.draw_room.answers)) c8.step_at.ensures,

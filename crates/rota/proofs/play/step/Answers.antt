@@ -50,7 +50,7 @@ hand_over-requires-in-Trade-2 c =
     let at-args = c24.args in
     let at-decide = c16.decide in
     let at_pre = c24.requires in
-    let at-from2 = c16.from2 in
+    let at-from2 = c16.from-in-Trade-1 in
     let at-hand-over2 = c8.hand_over-in-Trade in
     let L = drawn-lawful (plan at-args.people at-args.slots at-args.starts.now at-args.ends.now) _ _ (derived
     at-args.sets.now at-args.minutes.now at-args.totals.now) _ _ at-decide.ensures at_pre.even _ at-from2.given.1 in record {
@@ -68,10 +68,10 @@ returns-in-Stay c =
     let at_pre = c8.requires
     in
     let at-slice-known2 = c.slice_known-2-1 in
-    stepped-stay _ _ _ _ _ _ at-decide.ensures _ c.in-Stay.is at_pre.0.slots-few (λ j. omega (
+    stepped-stay _ _ _ _ _ _ at-decide.ensures _ c.in-Stay.is at_pre.plan_sound.slots-few (λ j. omega (
       arith,
       at-slice-known2.given j,
-    )) at_pre.1.0
+    )) at_pre.in_step
 
 pub shape_of-owners-in-Give : goal.shape_of-owners-in-Give
 shape_of-owners-in-Give c = (over-lengths _ _ _ _ _ _ _ _ c.hand_over.ensures).0
@@ -90,7 +90,7 @@ returns-in-Give c =
     let c8 = c in
     let c16 = c8 in
     let at-decide = c16.decide in
-    let at_from = c8.from in
+    let at_from = c8.from-1 in
     let at-hand-over = c8.hand_over in
     stepped-give _ _ _ _ _ _ at-decide.ensures _ _ _ _ _ at_from.given.1 at-hand-over.ensures
 
@@ -127,8 +127,8 @@ returns-in-Trade c =
     let c40 = c32 in
     let at-decide = c24.decide in
     let at_pre = c40.requires in
-    let at-slice-known2 = c32.slice-known2 in
-    let at-from2 = c24.from2 in
+    let at-slice-known2 = c32.slice_known-2-1 in
+    let at-from2 = c24.from-in-Trade-1 in
     let at-hand-over2 = c16.hand_over-in-Trade in
     let at-hand-over3 = c8.hand_over-in-Trade-2 in
     stepped-trade _ _ _ _ _ _ at-decide.ensures _ _ _ _ _ _ _ _ _ _ at_pre.plan_sound.slots-few at_pre.in_step.sets-room (λ

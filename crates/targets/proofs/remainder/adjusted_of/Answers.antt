@@ -1,5 +1,5 @@
 -- `targets::remainder::adjusted_of` meets its contract. Assumes nothing.
-use Rattle.std.proofs.Common.{ap, ◌∙◌, arith, to_z-of_z, rules}
+use Rattle.std.proofs.Common.{ap, ◌∙◌, arith, to_z-of_z, w64, rules}
 use borrow.Author.Rules.{sfits_of}
 use Rattle.targets.specs.declared.Best.{Best}
 use Rattle.targets.specs.declared.Standing.{Standing}
@@ -23,4 +23,4 @@ returns c =
     (ap (λ (x : Best). x.at) b.ensures.0)
     (ap (λ (l : Standing). l.target) (same-standing a.standings b.result.at _ pad (omega arith)))
     c.total_of-total.ensures.0
-    (to_z-of_z (sfits_of c.with_rest-t.type_inv) ∙ c.with_rest-t.ensures)
+    (to_z-of_z {w = w64} (sfits_of c.with_rest-t.type_inv) ∙ c.with_rest-t.ensures)

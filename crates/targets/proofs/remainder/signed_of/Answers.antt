@@ -1,6 +1,6 @@
 -- `targets::remainder::signed_of` meets its contract. Assumes nothing.
 use borrow.Author.Rules.{sfits_of}
-use Rattle.std.proofs.Common.{◌≡◌, ◌-◌, ◌≤◌, ◌++◌, map, length, take, drop, refl, ◌∙◌, arith, length-set, to_z-of_z, rules}
+use Rattle.std.proofs.Common.{◌≡◌, ◌-◌, ◌≤◌, ◌++◌, map, length, take, drop, refl, ◌∙◌, arith, length-set, to_z-of_z, w64, rules}
 use Rattle.targets.specs.Remainder.{target_of}
 use Rattle.targets.proofs.Loops.{copied, filled}
 use Rattle.targets.specs.Inside.{SmallTarget}
@@ -19,7 +19,7 @@ pub loop-i-preserved : goal.loop-i-preserved
 loop-i-preserved c =
     let a = c.args in
     let p = c.loop-i in
-    let t = to_z-of_z (sfits_of c.signed_target-t.type_inv) ∙ c.signed_target-t.ensures in (
+    let t = to_z-of_z {w = w64} (sfits_of c.signed_target-t.type_inv) ∙ c.signed_target-t.ensures in (
       search rules,
       simp length-set p.invariant.1,
       copied target_of a.standings p.out p.i _ p.invariant.2 t (omega arith) (omega arith),

@@ -3,17 +3,14 @@ use Rattle.std.proofs.Common.{ℕ, ◌+◌, ◌/◌, ap, ◌∙◌, arith}
 use Rattle.targets.proofs.Nearest.{Nearest, nearest-of, held}
 use Rattle.targets.proofs.rounding.nearest.Goals as goal
 
-near : (c : tie.Start) → Nearest c.args.x
-near c = nearest-of c.args.x (held c.well-formed.0.1) c.requires.0 c.requires.1
-
 pub truncating_f64_to_u64-requires : goal.truncating_f64_to_u64-requires
-truncating_f64_to_u64-requires c = record { lower_bound = (near c).low; upper_bound = (near c).high }
+truncating_f64_to_u64-requires c = record { lower_bound = (nearest-of c.args.x (held c.well_formed.0.1) c.requires.0 c.requires.1).low; upper_bound = (nearest-of c.args.x (held c.well_formed.0.1) c.requires.0 c.requires.1).high }
 
 pub overflow_add-result : goal.overflow_add-result
-overflow_add-result c = omega (arith, c.truncating_f64_to_u64.ensures, (near c).small)
+overflow_add-result c = omega (arith, c.truncating_f64_to_u64.ensures, (nearest-of c.args.x (held c.well_formed.0.1) c.requires.0 c.requires.1).small)
 
 pub returns : goal.returns
 returns c =
-    let n = near c in
+    let n = nearest-of c.args.x (held c.well_formed.0.1) c.requires.0 c.requires.1 in
     let e = c.truncating_f64_to_u64.ensures in
     (ap (λ (k : ℕ). (k + 1) / 2) e ∙ n.is, omega (arith, e, n.small))

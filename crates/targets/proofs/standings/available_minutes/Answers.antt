@@ -15,28 +15,22 @@ pub minutes_if_available-total-requires : goal.minutes_if_available-total-requir
 minutes_if_available-total-requires c = (c.requires.0, omega arith)
 
 -- what the total is after one turn
-more : (c : tie.After-minutes-if-available invariant-loop decreases-loop)
-    → let p = c in
-    let a = p.args in
-    p.loop-k.total + c.minutes_if_available-total.result
-    ≡ sum (p.loop-k.k + 1) (minutes_if_available a.starts.now a.ends.now a.avail.now a.person)
-more c =
-    let p = c in
-    let a = p.args in
-    let f = minutes_if_available a.starts.now a.ends.now a.avail.now a.person in
-    ap₂ (λ (x y : ℕ). x + y) p.loop-k.invariant.1 c.minutes_if_available-total.ensures ∙ sym (sum_more p.loop-k.k f)
+more : (f : ℕ → ℕ) (k total m : ℕ) → total ≡ sum k f → m ≡ f k → total + m ≡ sum (k + 1) f
+more f k total m is got = ap₂ (λ (x y : ℕ). x + y) is got ∙ sym (sum_more k f)
 
 pub overflow_add-total : goal.overflow_add-total
 overflow_add-total c =
-    let p = c in
-    let e = p in
-    let a = e.args in
-    let n : p.loop-k.k + 1 ≤ a.slots = omega arith in
-    let h = available-part a.slots a.starts.now a.ends.now a.avail.now a.person e.requires.1 (p.loop-k.k + 1) n in
-    omega (arith, more c, h)
+    let a = c.args in
+    let f = minutes_if_available a.starts.now a.ends.now a.avail.now a.person in
+    let n : c.loop-k.k + 1 ≤ a.slots = omega arith in
+    let h = available-part a.slots a.starts.now a.ends.now a.avail.now a.person c.requires.1 (c.loop-k.k + 1) n in
+    omega (arith, more f _ _ _ c.loop-k.invariant.1 c.minutes_if_available-total.ensures, h)
 
 pub loop-k-preserved : goal.loop-k-preserved
-loop-k-preserved c = (omega arith, more c)
+loop-k-preserved c =
+    let a = c.args in
+    let f = minutes_if_available a.starts.now a.ends.now a.avail.now a.person in
+    (omega arith, more f _ _ _ c.loop-k.invariant.1 c.minutes_if_available-total.ensures)
 
 pub returns : goal.returns
 unfolding available_minutes

@@ -7,12 +7,6 @@ use Rattle.targets.specs.Outcome.{Given, given, standing_in}
 use Rattle.targets.proofs.Loops.{fill}
 use Rattle.targets.proofs.standings.standings_of.Goals as goal
 
--- what is lent
-abbrev lent : tie.Start invariant-loop decreases-loop → Given
-lent s =
-    let a = s.args in
-    given a.people a.slots a.starts.now a.ends.now a.avail.now a.capacities.now a.priors.now a.fairness 0
-
 pub loop-i-init : goal.loop-i-init
 unfolding of_bits
 loop-i-init c = (search rules, refl)
@@ -43,7 +37,8 @@ pub loop-i-preserved : goal.loop-i-preserved
 loop-i-preserved c =
     let p = c in
     let e = p in
-    let g = lent e in
+    let a = e.args in
+    let g = given a.people a.slots a.starts.now a.ends.now a.avail.now a.capacities.now a.priors.now a.fairness 0 in
     let m = available_minutes g.slots g.starts g.ends g.avail p.loop-i.i in
     let b = c.base_of-base.ensures ∙ ap (λ (d : ℕ). cond (eqb g.fairness 1) d m) e.requires.1 in
     let l = c.standing_of-l.ensures ∙ ap (standing_of (person_at g.capacities g.priors p.loop-i.i)) b in
