@@ -193,6 +193,14 @@ def paths(body, steps):
         body=re.sub(r"(\."+stp+r"\.ensures)\.(\d)(?![\w'-])",en,body)
         for a in set(re.findall(r"let ([\w'-]+)(?: : [^=]*)? = [\w'.-]*\."+stp+r"\.ensures\s+in",body)):
             body=re.sub(r"((?<![\w.'-])"+re.escape(a)+r")\.(\d)(?![\w'-])",en,body)
+    for m in list(re.finditer(r"let ([\w'-]+) = ([\w'.-]+)\.([\w'-]+)\s+in",body)):
+        arms=ARMS.get(norm(m[3]))
+        if not arms: continue
+        a=m[1]
+        for pth,new in sorted(arms,key=lambda x:-len(x[0])):
+            body=re.sub(r"(?<![\w.'-])"+re.escape(a)+r"\."+re.escape('.'.join(pth))+r"(?![\w'-])",lambda _: m[2]+'.'+'.'.join(new),body)
+        rest=body.replace(m[0],'')
+        if not re.search(r"(?<![\w.'-])"+re.escape(a)+r"(?![\w'-])",rest): body=re.sub(re.escape(m[0])+r"\s*",'',body)
     def chain(m):
         base=re.search(r"[\w'-]*$",m.string[:m.start()]).group(0)
         parts=m.group(0)[1:].split('.')

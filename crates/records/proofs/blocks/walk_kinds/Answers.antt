@@ -25,11 +25,11 @@ pub loop-i-preserved : goal.loop-i-preserved
 loop-i-preserved c =
     let l = c in
     let b = c.block_from-b in
-    let n = block-next _ _ _ _ _ _ l.loop-i.invariant.2 b.ensures.0 b.ensures.1.0 in (
+    let n = block-next _ _ _ _ _ _ l.loop-i.invariant.2 b.ensures.count_value b.ensures.end_value.0 in (
       over-turn _ _ _ _ _ l.loop-i.invariant.0 n.0,
       over-turn _ _ _ _ _ l.loop-i.invariant.1 l.loop-i.invariant.2,
       n.1,
-      b.ensures.1.1,
+      b.ensures.end_value.1,
       omega arith,
     )
 

@@ -12,7 +12,7 @@ pub fits-requires : goal.fits-requires
 fits-requires c = (c.requires.0, count_most _ _ _ c.fresh_slots-fresh.ensures.0)
 
 pub returns-then-before-eq0 : goal.returns-then-before-eq0
-returns-then-before-eq0 c = renamed _ 5 c.check.ensures (c.fits2.ensures ∙ fits_by c.args.fault c.args.kept _ _ _ c.fresh_slots-fresh.ensures.0)
+returns-then-before-eq0 c = renamed _ 5 c.check.ensures (c.fits.ensures ∙ fits_by c.args.fault c.args.kept _ _ _ c.fresh_slots-fresh.ensures.0)
 
 pub returns : goal.returns
 returns c = skipped _ _ c.if-before-eq0.false

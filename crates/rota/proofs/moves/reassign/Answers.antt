@@ -47,10 +47,9 @@ returns-then-p-owner_of c =
     let at-nth-of = c.nth_of in
     let at-args = c.args in
     let at-mask-of = c.mask_of in
-    let at_p = c.p-1 in
     let at-owner-of = c.owner_of in
     reassign-kept _ _ _ _ _ (sym at-is-frozen.ensures ∙ at-if1.false) (pick_all _ _ _ _ at_pre at-nth-of.ensures ∙ ap (λ
-    (m : ℕ). picked (among (in_mask m) at-args.people) at-args.second) at-mask-of.ensures) _ _ at_p.given.1
+    (m : ℕ). picked (among (in_mask m) at-args.people) at-args.second) at-mask-of.ensures) _ _ c.in-Person.is
     at-owner-of.ensures c.if-p-owner_of.true
 
 pub returns-else-p-owner_of : goal.returns-else-p-owner_of
@@ -62,9 +61,8 @@ returns-else-p-owner_of c =
     let at-nth-of = c.nth_of in
     let at-args = c.args in
     let at-mask-of = c.mask_of in
-    let at_p = c.p-1 in
     let at-owner-of = c.owner_of in
     let at-if2 = c.if-p-owner_of in
     reassign-given _ _ _ _ _ (sym at-is-frozen.ensures ∙ at-if1.false) (pick_all _ _ _ _ at_pre at-nth-of.ensures ∙ ap
-    (λ (m : ℕ). picked (among (in_mask m) at-args.people) at-args.second) at-mask-of.ensures) _ _ at_p.given.1
+    (λ (m : ℕ). picked (among (in_mask m) at-args.people) at-args.second) at-mask-of.ensures) _ _ c.in-Person.is
     at-owner-of.ensures _ at-if2.false c.give.ensures

@@ -99,8 +99,7 @@ returns-in-Person c =
     let at_pre = c.requires in
     let at-cover-of = c.cover_of in
     let at-nth-of = c.nth_of in
-    let at_p = c.p-1 in
-    run-given _ _ _ _ _ at-owner-of.ensures _ _ at-run-start.ensures at-run-end.ensures _ _ (sym at-is-frozen.ensures ∙ at-if1.false) at-if2.false (sym at-is-movable.ensures ∙ at-if3.true) at_pre.people_bound.0 at-cover-of.ensures.each at-nth-of.ensures _ _ at_p.given.1 c.give.ensures
+    run-given _ _ _ _ _ at-owner-of.ensures _ _ at-run-start.ensures at-run-end.ensures _ _ (sym at-is-frozen.ensures ∙ at-if1.false) at-if2.false (sym at-is-movable.ensures ∙ at-if3.true) at_pre.people_bound.0 at-cover-of.ensures.each at-nth-of.ensures _ _ c.in-Person.is c.give.ensures
 
 pub returns-else-is_movable : goal.returns-else-is_movable
 unfolding owner_of run_first run_last

@@ -21,9 +21,8 @@ hand_over-requires c =
     let at-args = c16.args in
     let at-decide = c.decide in
     let at_pre = c16.requires in
-    let at_from = c.from-1 in
     let L = drawn-lawful (plan at-args.people at-args.slots at-args.starts.now at-args.ends.now) _ _ (derived
-    at-args.sets.now at-args.minutes.now at-args.totals.now) _ _ at-decide.ensures at_pre.even _ at_from.given.1 in record { plan_sound = at_pre.plan_sound; in_step = at_pre.in_step; one_owner = stretch-one _ at_pre.board_sound _ at_pre.even _ _ _ _ L; to_value = stretch-known _ at_pre.board_sound _ at_pre.even _ _ _ _ L }
+    at-args.sets.now at-args.minutes.now at-args.totals.now) _ _ at-decide.ensures at_pre.even _ c.in-Give.is in record { plan_sound = at_pre.plan_sound; in_step = at_pre.in_step; one_owner = stretch-one _ at_pre.board_sound _ at_pre.even _ _ _ _ L; to_value = stretch-known _ at_pre.board_sound _ at_pre.even _ _ _ _ L }
 
 pub hand_over-requires-in-Trade : goal.hand_over-requires-in-Trade
 hand_over-requires-in-Trade c =
@@ -32,9 +31,8 @@ hand_over-requires-in-Trade c =
     let at-args = c16.args in
     let at-decide = c.decide in
     let at_pre = c16.requires in
-    let at-from2 = c.from-in-Trade-1 in
     let L = drawn-lawful (plan at-args.people at-args.slots at-args.starts.now at-args.ends.now) _ _ (derived
-    at-args.sets.now at-args.minutes.now at-args.totals.now) _ _ at-decide.ensures at_pre.even _ at-from2.given.1 in record {
+    at-args.sets.now at-args.minutes.now at-args.totals.now) _ _ at-decide.ensures at_pre.even _ c.in-Trade.is in record {
       plan_sound = at_pre.plan_sound;
       in_step = at_pre.in_step;
       one_owner = stretch-one _ at_pre.board_sound _ at_pre.even _ _ _ _ L.left;
@@ -50,10 +48,9 @@ hand_over-requires-in-Trade-2 c =
     let at-args = c24.args in
     let at-decide = c16.decide in
     let at_pre = c24.requires in
-    let at-from2 = c16.from-in-Trade-1 in
     let at-hand-over2 = c8.hand_over-in-Trade in
     let L = drawn-lawful (plan at-args.people at-args.slots at-args.starts.now at-args.ends.now) _ _ (derived
-    at-args.sets.now at-args.minutes.now at-args.totals.now) _ _ at-decide.ensures at_pre.even _ at-from2.given.1 in record {
+    at-args.sets.now at-args.minutes.now at-args.totals.now) _ _ at-decide.ensures at_pre.even _ c16.in-Trade.is in record {
       plan_sound = at_pre.plan_sound;
       in_step = at-hand-over2.ensures.step;
       one_owner = second-after _ at_pre.board_sound _ at_pre.even _ _ _ _ _ _ _ L _
@@ -90,9 +87,8 @@ returns-in-Give c =
     let c8 = c in
     let c16 = c8 in
     let at-decide = c16.decide in
-    let at_from = c8.from-1 in
     let at-hand-over = c8.hand_over in
-    stepped-give _ _ _ _ _ _ at-decide.ensures _ _ _ _ _ at_from.given.1 at-hand-over.ensures
+    stepped-give _ _ _ _ _ _ at-decide.ensures _ _ _ _ _ c8.in-Give.is at-hand-over.ensures
 
 pub shape_of-owners-in-Trade : goal.shape_of-owners-in-Trade
 shape_of-owners-in-Trade c =
@@ -128,8 +124,7 @@ returns-in-Trade c =
     let at-decide = c24.decide in
     let at_pre = c40.requires in
     let at-slice-known2 = c32.slice_known-2-1 in
-    let at-from2 = c24.from-in-Trade-1 in
     let at-hand-over2 = c16.hand_over-in-Trade in
     let at-hand-over3 = c8.hand_over-in-Trade-2 in
     stepped-trade _ _ _ _ _ _ at-decide.ensures _ _ _ _ _ _ _ _ _ _ at_pre.plan_sound.slots-few at_pre.in_step.sets-room (λ
-    j. omega (arith, at-slice-known2.given j)) at-from2.given.1 at-hand-over2.ensures at-hand-over3.ensures
+    j. omega (arith, at-slice-known2.given j)) c24.in-Trade.is at-hand-over2.ensures at-hand-over3.ensures
