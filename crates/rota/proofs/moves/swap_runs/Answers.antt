@@ -123,7 +123,7 @@ returns-then-runs_fit c =
     let at-if7 = c.if-runs_fit in
     runs-act _ _ _ _ _ _ at-owner-of.ensures at-owner-of2.ensures _ _ _ _ at-run-start.ensures at-run-end.ensures
     at-run-start2.ensures
-    at-run-end2.ensures _ (sym at-is-frozen.ensures ∙ at-if1.left) (sym at-is-frozen2.ensures ∙ at-if2.false)
+    at-run-end2.ensures _ (sym at-is-frozen.ensures ∙ at-if1.false) (sym at-is-frozen2.ensures ∙ at-if2.false)
     at-if3.false
     at-if4.false at-if6.false at-if5.false (sym at-runs-fit.ensures ∙ at-if7.true) c.trade.ensures
 
