@@ -23,7 +23,7 @@ pub extern "C" fn boltraven_mend(
     totals: &mut [u64],
     list: &mut [u64],
 ) -> u64
-    ensures { MendEnds (mending (plan people slots starts.now ends.now) avail.now units unit_starts.now frozen.now (rota owners.old (derived sets.old minutes.old totals.old)) list.old) result (rota owners.new (derived sets.new minutes.new totals.exit.now)) list.new }
+    ensures { MendEnds (mending (plan people slots starts.now ends.now) avail.now units unit_starts.now frozen.now (rota owners.old (derived sets.old minutes.old totals.old)) list.old) result (rota owners.new (derived sets.new minutes.new totals.new)) list.new }
 {
     let number = mend::mend(
         people,

@@ -29,7 +29,7 @@ pub extern "C" fn boltraven_replay_block(
     totals: &mut [u64],
     place: &mut u64,
 ) -> u64
-    ensures { ReplayEnds (replayed (plan people slots starts.now ends.now) avail.now units unit_starts.now frozen.now count draws.now firsts.now seconds.now recorded.now owners.old (derived sets.old minutes.old totals.old)) place.old result owners.new (derived sets.new minutes.new totals.new) place.exit.now }
+    ensures { ReplayEnds (replayed (plan people slots starts.now ends.now) avail.now units unit_starts.now frozen.now count draws.now firsts.now seconds.now recorded.now owners.old (derived sets.old minutes.old totals.old)) place.old result owners.new (derived sets.new minutes.new totals.new) place.new }
 {
     let answer = rota::replay::replay_block(
         people,

@@ -58,9 +58,9 @@ pub extern "C" fn boltraven_retire(
     told: &mut u64,
 ) -> u64
     ensures { RetiringEnds (retire_of (held people slots units (columns starts.old ends.old avail.old
-        unit_starts.old frozen.old owners.old (derived sets.old minutes.old totals.entry.now) priors.old retired.old)) (new (settings_of fairness lock boundary edition value days) base froms.entry.now tos.now (ranges count persons.now opens.now shuts.now))) told.old result
+        unit_starts.old frozen.old owners.old (derived sets.old minutes.old totals.old) priors.old retired.old)) (new (settings_of fairness lock boundary edition value days) base froms.now tos.now (ranges count persons.now opens.now shuts.now))) told.old result
         (columns starts.new ends.new avail.new unit_starts.new frozen.new owners.new
-        (derived sets.new minutes.new totals.new) priors.new retired.new) told.exit.now }
+        (derived sets.new minutes.new totals.new) priors.new retired.new) told.new }
 {
     let settings = Settings {
         fairness,

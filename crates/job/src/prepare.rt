@@ -58,7 +58,7 @@ fn targets_in(
     avail: &[u64],
 ) -> JobTargets
     requires { ReadOk file.now counts blocks }
-    ensures { TargetsAs (targets_in file.now slots starts.now ends.now avail.entry.now) result }
+    ensures { TargetsAs (targets_in file.now slots starts.now ends.now avail.now) result }
 {
     let people = counts[2];
     let at = blocks[2];

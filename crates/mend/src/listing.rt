@@ -92,7 +92,7 @@ pub(crate) fn list_owners(
     list: &mut [u64],
 ) -> usize
     requires { 5 * (at + count n (differs_at old.now new.now)) ≤ length list.old }
-    ensures { Lists 0 (flag_of frozen.now 0) n old.now new.now at result list.old list.exit.now }
+    ensures { Lists 0 (flag_of frozen.now 0) n old.now new.now at result list.old list.new }
 {
     let mut done = at;
     let mut k: usize = 0;
@@ -160,7 +160,7 @@ pub(crate) fn count_repairs(
     new_totals: &[u64],
 ) -> usize
     requires { (people ≤ 32) × (slots ≤ 1024) }
-    ensures { result ≡ how_many people slots (rota owners.now (derived sets.now minutes.now totals.entry.now)) (rota new_owners.now (derived new_sets.now new_minutes.now new_totals.entry.now)) }
+    ensures { result ≡ how_many people slots (rota owners.now (derived sets.now minutes.now totals.now)) (rota new_owners.now (derived new_sets.now new_minutes.now new_totals.now)) }
 {
     count_owners(slots, owners, new_owners)
         + count_words(16 * people, sets, new_sets)
@@ -185,7 +185,7 @@ pub(crate) fn list_repairs(
 )
     requires { (people ≤ 32) × (slots ≤ 1024) × (5 * how_many people slots (rota owners.now (derived sets.now minutes.now totals.now))
         (rota new_owners.now (derived new_sets.now new_minutes.now new_totals.now)) ≤ length list.old) }
-    ensures { list.new ≡ onto (numbers (repairs people slots frozen.now (rota owners.now (derived sets.now minutes.now totals.now)) (rota new_owners.now (derived new_sets.entry.now new_minutes.now new_totals.now)))) list.old }
+    ensures { list.new ≡ onto (numbers (repairs people slots frozen.now (rota owners.now (derived sets.now minutes.now totals.now)) (rota new_owners.now (derived new_sets.now new_minutes.now new_totals.now)))) list.old }
 {
     let n = list_owners(slots, frozen, owners, new_owners, 0, list);
     let n = list_words(1, 16 * people, sets, new_sets, n, list);

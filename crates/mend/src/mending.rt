@@ -54,7 +54,7 @@ fn work_out(
 )
     requires mendable { Mendable (plan people slots starts.now ends.now) avail.now units begins.now owners.now sets.now }
     requires new_room { NewRoom people slots new_owners.old new_sets.old new_minutes.old new_totals.old }
-    ensures { WorkedOut (plan people slots starts.now ends.now) avail.now units begins.entry.now owners.now sets.now new_owners.new new_sets.new new_minutes.exit.now new_totals.new }
+    ensures { WorkedOut (plan people slots starts.now ends.now) avail.now units begins.now owners.now sets.now new_owners.new new_sets.new new_minutes.new new_totals.new }
 {
     copy_owners(slots, owners, new_owners);
     clear_barred(people, slots, avail, new_owners);
@@ -118,7 +118,7 @@ fn write_out(
     requires people_bound { (people ≤ 32) × (slots ≤ 1024) }
     requires new_room { NewRoom people slots new_owners.now new_sets.now new_minutes.now new_totals.now }
     requires new_room_2 { NewRoom people slots owners.old sets.old minutes.old totals.old }
-    ensures { Ended (write_out people slots frozen.now (rota owners.old (derived sets.old minutes.entry.now totals.old)) (rota new_owners.now (derived new_sets.now new_minutes.entry.now new_totals.now)) list.old) result (rota owners.new (derived sets.new minutes.new totals.new)) list.new }
+    ensures { Ended (write_out people slots frozen.now (rota owners.old (derived sets.old minutes.old totals.old)) (rota new_owners.now (derived new_sets.now new_minutes.now new_totals.now)) list.old) result (rota owners.new (derived sets.new minutes.new totals.new)) list.new }
 {
     let n = count_repairs(
         people,
@@ -182,8 +182,8 @@ fn mend_found(
 ) -> Number
     requires { number_of (found_row (plan people slots starts.now ends.now) avail.now units begins.now frozen.now (rota owners.old
         (derived sets.old minutes.old totals.old))) ≡ 0 }
-    ensures { Ended (mending (plan people slots starts.now ends.now) avail.now units begins.entry.now frozen.now (rota owners.old (derived sets.old minutes.old totals.entry.now))
-        list.old) result (rota owners.new (derived sets.new minutes.new totals.new)) list.exit.now }
+    ensures { Ended (mending (plan people slots starts.now ends.now) avail.now units begins.now frozen.now (rota owners.old (derived sets.old minutes.old totals.old))
+        list.old) result (rota owners.new (derived sets.new minutes.new totals.new)) list.new }
 {
     let mut new_owners = [0u8; 1024];
     let mut new_sets = [0u64; 512];
@@ -235,7 +235,7 @@ fn found_refusal(
     minutes: &[u64],
     totals: &[u64],
 ) -> Refusal
-    ensures { result ≡ refusal_of (found_row (plan people slots starts.now ends.now) avail.now units begins.now frozen.now (rota owners.now (derived sets.now minutes.now totals.entry.now))) }
+    ensures { result ≡ refusal_of (found_row (plan people slots starts.now ends.now) avail.now units begins.now frozen.now (rota owners.now (derived sets.now minutes.now totals.now))) }
 {
     let f = paper::check_people(paper::accepted(), people);
     let f = paper::check_slots(f, slots);
@@ -270,8 +270,8 @@ pub fn mend(
     totals: &mut [u64],
     list: &mut [u64],
 ) -> Number
-    ensures { Ended (mending (plan people slots starts.now ends.now) avail.now units begins.entry.now frozen.now (rota owners.old (derived sets.old minutes.old totals.entry.now))
-        list.old) result (rota owners.new (derived sets.new minutes.new totals.new)) list.exit.now }
+    ensures { Ended (mending (plan people slots starts.now ends.now) avail.now units begins.now frozen.now (rota owners.old (derived sets.old minutes.old totals.old))
+        list.old) result (rota owners.new (derived sets.new minutes.new totals.new)) list.new }
 {
     let n = found_refusal(
         people, slots, units, starts, ends, avail, begins, frozen, owners, sets, minutes, totals,

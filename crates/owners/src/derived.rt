@@ -187,7 +187,7 @@ pub fn hand_over(
     e: usize,
     to: u8,
 )
-    ensures { (owners.new ≡ fill to a (e - a) owners.old) × (derived sets.new minutes.exit.now totals.new ≡ carried (plan people slots starts.now ends.now) a e (slice_index owners.old a) to
+    ensures { (owners.new ≡ fill to a (e - a) owners.old) × (derived sets.new minutes.new totals.new ≡ carried (plan people slots starts.now ends.now) a e (slice_index owners.old a) to
         (derived sets.old minutes.old totals.old)) }
 {
     let old = owner_at(owners, a);
@@ -251,7 +251,7 @@ pub(crate) fn rebuild(
 )
     requires plan_sound { PlanSound (plan people slots starts.now ends.now) }
     requires makes { Makes (plan people slots starts.now ends.now) owners.now (derived sets.old minutes.old totals.old) }
-    ensures { derived sets.new minutes.new totals.new ≡ afresh (plan people slots starts.now ends.entry.now) owners.now (derived sets.old minutes.old totals.old) }
+    ensures { derived sets.new minutes.new totals.new ≡ afresh (plan people slots starts.now ends.now) owners.now (derived sets.old minutes.old totals.old) }
 {
     clear_sets(people, slots, sets);
     clear_first(people, minutes);

@@ -47,7 +47,7 @@ pub fn from_slots(
     minutes: &mut [u64],
     totals: &mut [u64],
 ) -> u8
-    ensures { Ended (from_slots (plan people slots starts.now ends.now) avail.now owners.now (derived sets.old minutes.old totals.old)) (placeless result) owners.entry.now (derived sets.new
+    ensures { Ended (from_slots (plan people slots starts.now ends.now) avail.now owners.now (derived sets.old minutes.old totals.old)) (placeless result) owners.now (derived sets.new
         minutes.new totals.new) [] }
 {
     let n = from_slots_refusal(
@@ -204,7 +204,7 @@ fn uncovered_refusal(
     ends: &[u32],
     owners: &[u8],
 ) -> Refusal
-    ensures { result ≡ refusal_of (uncovered_row (plan people slots starts.now ends.now) owners.entry.now) }
+    ensures { result ≡ refusal_of (uncovered_row (plan people slots starts.now ends.now) owners.now) }
 {
     let f = paper::check_people(paper::accepted(), people);
     let f = paper::check_slots(f, slots);

@@ -127,7 +127,7 @@ fn recount_refusal(
     requires plan_sound { PlanSound (plan people slots starts.now ends.now) }
     requires rota_room { RotaRoom people slots avail.now owners.now (derived sets.now minutes.now totals.now) }
     ensures { result ≡ refusal_of (recount_tests (plan people slots starts.now ends.now) avail.now
-        units begins.now owners.now (derived sets.now minutes.now totals.entry.now)) }
+        units begins.now owners.now (derived sets.now minutes.now totals.now)) }
 {
     let unknown = first_unknown(people, slots, owners);
     if unknown < slots {
@@ -160,7 +160,7 @@ pub fn recounted(
     minutes: &[u64],
     totals: &[u64],
 ) -> Refusal
-    ensures { result ≡ refusal_of (recount_row counts room (plan people slots starts.now ends.now) avail.entry.now units begins.now owners.now (derived sets.now minutes.now totals.now)) }
+    ensures { result ≡ refusal_of (recount_row counts room (plan people slots starts.now ends.now) avail.now units begins.now owners.now (derived sets.now minutes.now totals.now)) }
 {
     let f = lent_refusal(
         counts, room, people, slots, starts, ends, avail, owners, sets, minutes, totals,
@@ -186,7 +186,7 @@ pub fn recount_slots(
     minutes: &[u64],
     totals: &[u64],
 ) -> Refusal
-    ensures { result ≡ refusal_of (recount_slots_row (plan people slots starts.now ends.now) avail.entry.now
+    ensures { result ≡ refusal_of (recount_slots_row (plan people slots starts.now ends.now) avail.now
         owners.now (derived sets.now minutes.now totals.now)) }
 {
     let f = lent_refusal(
@@ -215,7 +215,7 @@ pub fn recount(
     minutes: &[u64],
     totals: &[u64],
 ) -> Refusal
-    ensures { result ≡ refusal_of (recount_row true (nat_le units (length begins.now)) (plan people slots starts.entry.now
+    ensures { result ≡ refusal_of (recount_row true (nat_le units (length begins.now)) (plan people slots starts.now
         ends.now) avail.now units begins.now owners.now (derived sets.now
         minutes.now totals.now)) }
 {

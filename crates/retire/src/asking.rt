@@ -54,7 +54,7 @@ fn asked_refusal(
     priors: &[u32],
     retired: &[u64],
 ) -> Refusal
-    ensures { result ≡ refusal_of (asked_row (held people slots units (columns starts.now ends.now avail.entry.now begins.now frozen.now owners.now (derived sets.now minutes.now
+    ensures { result ≡ refusal_of (asked_row (held people slots units (columns starts.now ends.now avail.now begins.now frozen.now owners.now (derived sets.now minutes.now
         totals.now) priors.now retired.now)) (new settings base froms.now tos.now
         (ranges count persons.now opens.now shuts.now))) }
 {
@@ -112,7 +112,7 @@ fn check_ranges(
 ) -> Refusal
     requires { (people ≤ 32) × (1 ≤ people) × (count ≤ ranges_most)
         × (range_room_ok (ranges count persons.now opens.now shuts.now) ≡ true) }
-    ensures { result ≡ next before (test 4 (ranges_ok people (ranges count persons.now opens.now shuts.entry.now))) }
+    ensures { result ≡ next before (test 4 (ranges_ok people (ranges count persons.now opens.now shuts.now))) }
 {
     if before.number == 0 {
         return paper::check(before, ranges_ok(people, count, persons, opens, shuts), 4);
@@ -146,7 +146,7 @@ fn check_fits(
     shuts: &[u32],
 ) -> Refusal
     requires { (kept ≤ 1024) × (before.number ≡ 0 → NewRight people base froms.now tos.now (ranges count persons.now opens.now shuts.now)) }
-    ensures { result ≡ next before (test 5 (eqb fault 9 || leb (kept + length (atom_starts (is_cut people (ranges count persons.entry.now opens.now shuts.now)) base froms.now tos.now)) 1024)) }
+    ensures { result ≡ next before (test 5 (eqb fault 9 || leb (kept + length (atom_starts (is_cut people (ranges count persons.now opens.now shuts.now)) base froms.now tos.now)) 1024)) }
 {
     if before.number == 0 {
         let fresh = fresh_slots(people, base, count, froms, tos, persons, opens, shuts);
@@ -167,7 +167,7 @@ fn lifted_ok(
     retired: &[u64],
 ) -> bool
     requires { (people ≤ 32) × (fault ≡ 0 → gone ≤ 1024) }
-    ensures { result ≡ not (eqb fault 0) || (all people (λ p. leb (prior_then (plan people gone starts.now ends.entry.now) owners.now priors.now gone p) last_minute) && leb (retired_then (plan people gone starts.entry.now ends.now) owners.now retired.now gone) last_minute) }
+    ensures { result ≡ not (eqb fault 0) || (all people (λ p. leb (prior_then (plan people gone starts.now ends.now) owners.now priors.now gone p) last_minute) && leb (retired_then (plan people gone starts.now ends.now) owners.now retired.now gone) last_minute) }
 {
     if fault == 0 {
         return figures_then_ok(people, gone, starts, ends, owners, priors, retired);
@@ -210,7 +210,7 @@ pub(crate) fn retire_refusal(
     priors: &[u32],
     retired: &[u64],
 ) -> Refusal
-    ensures { result ≡ refusal_of (retire_row (held people slots units (columns starts.now ends.now avail.entry.now begins.now frozen.now owners.now (derived sets.now minutes.now
+    ensures { result ≡ refusal_of (retire_row (held people slots units (columns starts.now ends.now avail.now begins.now frozen.now owners.now (derived sets.now minutes.now
         totals.now) priors.now retired.now)) (new settings base froms.now tos.now
         (ranges count persons.now opens.now shuts.now))) }
 {

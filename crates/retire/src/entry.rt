@@ -38,8 +38,8 @@ pub fn retire(
     priors: &mut [u32],
     retired: &mut [u64],
 ) -> Retiring
-    ensures { Ended (retire_of (held people slots units (columns starts.old ends.old avail.old begins.old frozen.old owners.old (derived sets.old minutes.old totals.entry.now) priors.old retired.old)) (new settings base froms.now tos.now (ranges count
-        persons.now opens.now shuts.now))) result (columns starts.new ends.new avail.exit.now begins.new frozen.new owners.new (derived sets.new minutes.new totals.new) priors.new retired.new) }
+    ensures { Ended (retire_of (held people slots units (columns starts.old ends.old avail.old begins.old frozen.old owners.old (derived sets.old minutes.old totals.old) priors.old retired.old)) (new settings base froms.now tos.now (ranges count
+        persons.now opens.now shuts.now))) result (columns starts.new ends.new avail.new begins.new frozen.new owners.new (derived sets.new minutes.new totals.new) priors.new retired.new) }
 {
     let f = retire_refusal(
         people, slots, units, base, count, settings, froms, tos, persons, opens, shuts, starts,

@@ -84,7 +84,7 @@ fn priors_then_ok(
     priors: &[u32],
 ) -> bool
     requires { (people ≤ 32) × (gone ≤ 1024) }
-    ensures { result ≡ all people (λ p. leb (prior_then (plan people gone starts.now ends.now) owners.entry.now priors.now gone p) last_minute) }
+    ensures { result ≡ all people (λ p. leb (prior_then (plan people gone starts.now ends.now) owners.now priors.now gone p) last_minute) }
 {
     let mut p: usize = 0;
     while p < people {
@@ -121,7 +121,7 @@ pub(crate) fn figures_then_ok(
     retired: &[u64],
 ) -> bool
     requires { (people ≤ 32) × (gone ≤ 1024) }
-    ensures { result ≡ all people (λ p. leb (prior_then (plan people gone starts.now ends.now) owners.entry.now priors.now gone p) last_minute) && leb (retired_then (plan people gone starts.now ends.now)
+    ensures { result ≡ all people (λ p. leb (prior_then (plan people gone starts.now ends.now) owners.now priors.now gone p) last_minute) && leb (retired_then (plan people gone starts.now ends.now)
         owners.now retired.now gone) last_minute }
 {
     let priors_fit = priors_then_ok(people, gone, starts, ends, owners, priors);
@@ -163,7 +163,7 @@ pub(crate) fn add_retired(
 )
     requires gone_bound { (gone ≤ 1024) × (1 ≤ length retired.old) }
     requires gone_bound_2 { retired_then (plan people gone starts.now ends.now) owners.now retired.old gone ≤ last_minute }
-    ensures { retired.new ≡ retired_column (plan people gone starts.now ends.now) owners.entry.now retired.old gone }
+    ensures { retired.new ≡ retired_column (plan people gone starts.now ends.now) owners.now retired.old gone }
 {
     let more = minutes_gone(gone, starts, ends, owners, paper::NOBODY);
     retired[0] = retired[0] + more;

@@ -55,7 +55,7 @@ pub(crate) fn move_plan(
 ) -> Counts
     requires plan_right { PlanRight (plan_held people slots units starts.old ends.old avail.old begins.old frozen.old) (new settings base froms.now tos.now (ranges count persons.now opens.now shuts.now)) }
     requires went_value { went ≡ gone_units slots units begins.old frozen.old }
-    ensures { PlanMoved (plan_held people slots units starts.old ends.old avail.old begins.entry.now frozen.old) (new settings base froms.now tos.now (ranges count persons.now opens.now shuts.now)) result.slots result.units starts.new ends.new avail.new begins.new frozen.new }
+    ensures { PlanMoved (plan_held people slots units starts.old ends.old avail.old begins.old frozen.old) (new settings base froms.now tos.now (ranges count persons.now opens.now shuts.now)) result.slots result.units starts.new ends.new avail.new begins.new frozen.new }
 {
     let gone = start_from(slots, units, begins, went);
     let kept = slots - gone;
@@ -106,7 +106,7 @@ pub(crate) fn move_owners(
     requires totals_value { number_of (from_slots_row (plan people slots starts.now ends.now) avail.now (rolled_column gone kept slots (λ _. nobody)
         owners.old) (derived sets.old minutes.old totals.old)) ≡ 0 }
     ensures { (owners.new ≡ rolled_column gone kept slots (λ _. nobody) owners.old)
-        × (derived sets.new minutes.new totals.new ≡ afresh (plan people slots starts.now ends.entry.now) (rolled_column gone kept slots (λ _. nobody) owners.old) (derived sets.old minutes.old totals.old)) }
+        × (derived sets.new minutes.new totals.new ≡ afresh (plan people slots starts.now ends.now) (rolled_column gone kept slots (λ _. nobody) owners.old) (derived sets.old minutes.old totals.old)) }
 {
     roll_owners(gone, kept, slots, owners);
     owners::from_slots(

@@ -72,7 +72,7 @@ pub fn assign(
     slot: usize,
     owner: u8,
 ) -> Refusal
-    ensures { Ended (assigned (plan people slots starts.now ends.now) avail.now owners.entry.now (derived sets.old minutes.old totals.old) slot owner) result owners.new
+    ensures { Ended (assigned (plan people slots starts.now ends.now) avail.now owners.old (derived sets.old minutes.old totals.old) slot owner) result owners.new
         (derived sets.new
         minutes.new totals.new) [] }
 {

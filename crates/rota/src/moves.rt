@@ -282,7 +282,7 @@ fn swap_stays(
     first: usize,
     second: usize,
 ) -> bool
-    ensures { result ≡ any_of (swap_stays (ready people slots units begins.now fits.now flags.entry.now) owners.now first second) }
+    ensures { result ≡ any_of (swap_stays (ready people slots units begins.now fits.now flags.now) owners.now first second) }
 {
     let left = owner_of(begins, owners, first);
     let right = owner_of(begins, owners, second);

@@ -89,7 +89,7 @@ pub(crate) fn step(
     requires board_sound { BoardSound (ready people slots units begins.now fits.now flags.now) }
     requires even { Even (ready people slots units begins.now fits.now flags.now) owners.old }
     requires units_in_bounds { (units ≤ length begins.now) × (units ≤ length fits.now) × (units ≤ length flags.now) }
-    ensures { Stepped (plan people slots starts.now ends.now) (ready people slots units begins.entry.now fits.now flags.now) owners.old (derived sets.old minutes.entry.now totals.old) (draw kind first second) result owners.new (derived sets.new minutes.exit.now totals.new) }
+    ensures { Stepped (plan people slots starts.now ends.now) (ready people slots units begins.now fits.now flags.now) owners.old (derived sets.old minutes.old totals.old) (draw kind first second) result owners.new (derived sets.new minutes.new totals.new) }
 {
     match decide(
         people, slots, units, begins, fits, flags, owners, kind, first, second,
@@ -142,7 +142,7 @@ pub(crate) fn step_at(
 )
     requires { StepAsks (plan people slots starts.now ends.now) (ready people slots units begins.now fits.now flags.now)
         owners.old (derived sets.old minutes.old totals.old) begins.now fits.now flags.now i answers.old }
-    ensures { SteppedAt (plan people slots starts.now ends.now) (ready people slots units begins.entry.now fits.now flags.now) owners.old (derived sets.old minutes.entry.now totals.old) (draw kind first second) i answers.old owners.new (derived sets.new minutes.exit.now totals.new) answers.new }
+    ensures { SteppedAt (plan people slots starts.now ends.now) (ready people slots units begins.now fits.now flags.now) owners.old (derived sets.old minutes.old totals.old) (draw kind first second) i answers.old owners.new (derived sets.new minutes.new totals.new) answers.new }
 {
     answers[i] = step(
         people, slots, units, starts, ends, begins, fits, flags, owners, sets, minutes, totals,
@@ -176,7 +176,7 @@ fn run(
     requires even { Even (ready people slots units begins.now fits.now flags.now) owners.old }
     requires draw_room { DrawRoom count draws.now firsts.now seconds.now answers.old }
     requires units_in_bounds { (units ≤ length begins.now) × (units ≤ length fits.now) × (units ≤ length flags.now) }
-    ensures { Ran (plan people slots starts.now ends.now) (ready people slots units begins.entry.now fits.now flags.now) owners.old (derived sets.old minutes.entry.now totals.old) answers.old (draws_of draws.now firsts.now seconds.entry.now count) owners.exit.now (derived sets.new minutes.new totals.new) answers.new }
+    ensures { Ran (plan people slots starts.now ends.now) (ready people slots units begins.now fits.now flags.now) owners.old (derived sets.old minutes.old totals.old) answers.old (draws_of draws.now firsts.now seconds.now count) owners.new (derived sets.new minutes.new totals.new) answers.new }
 {
     let mut i: usize = 0;
     while i < count {
@@ -207,7 +207,7 @@ fn play_refusal(
     enough: bool,
 ) -> Refusal
     ensures { result ≡ refusal_of (play_row (plan people slots starts.now ends.now) avail.now
-        units begins.now frozen.now count enough owners.now (derived sets.now minutes.entry.now totals.now)
+        units begins.now frozen.now count enough owners.now (derived sets.now minutes.now totals.now)
         answers.now) }
 {
     owners::recounted(
@@ -245,7 +245,7 @@ pub(crate) fn begin(
     enough: bool,
     answers: &[u8],
 ) -> Begun
-    ensures { Begins (plan people slots starts.now ends.now) avail.now units begins.entry.now frozen.now count enough owners.now (derived sets.now minutes.now
+    ensures { Begins (plan people slots starts.now ends.now) avail.now units begins.now frozen.now count enough owners.now (derived sets.now minutes.now
         totals.now) answers.now result }
 {
     let refusal = play_refusal(
@@ -292,7 +292,7 @@ pub fn play(
     totals: &mut [u64],
     answers: &mut [u8],
 ) -> Refusal
-    ensures { Ended (played (plan people slots starts.now ends.now) avail.now units begins.now frozen.now count draws.now firsts.now seconds.now owners.entry.now (derived sets.old minutes.old totals.old) answers.old) result owners.new (derived sets.new minutes.new totals.new) answers.new }
+    ensures { Ended (played (plan people slots starts.now ends.now) avail.now units begins.now frozen.now count draws.now firsts.now seconds.now owners.old (derived sets.old minutes.old totals.old) answers.old) result owners.new (derived sets.new minutes.new totals.new) answers.new }
 {
     let refusal = play_refusal(
         people,

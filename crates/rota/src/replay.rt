@@ -64,7 +64,7 @@ fn run_on(
     requires even { Even (ready people slots units begins.now fits.now flags.now) owners.old }
     requires draw_room { DrawRoom count draws.now firsts.now seconds.now recorded.now }
     requires units_in_bounds { (units ≤ length begins.now) × (units ≤ length fits.now) × (units ≤ length flags.now) }
-    ensures { RanOn (plan people slots starts.now ends.now) (ready people slots units begins.entry.now fits.now flags.now) owners.old (derived sets.old minutes.entry.now totals.old) (draws_of draws.now firsts.now seconds.now count) recorded.now result owners.new (derived sets.new minutes.new totals.new) }
+    ensures { RanOn (plan people slots starts.now ends.now) (ready people slots units begins.now fits.now flags.now) owners.old (derived sets.old minutes.old totals.old) (draws_of draws.now firsts.now seconds.now count) recorded.now result owners.new (derived sets.new minutes.new totals.new) }
 {
     let mut i: usize = 0;
     while i < count {
@@ -103,7 +103,7 @@ pub fn replay_block(
     minutes: &mut [u64],
     totals: &mut [u64],
 ) -> Replayed
-    ensures { Replays (replayed (plan people slots starts.now ends.now) avail.now units begins.now frozen.now count draws.now firsts.now seconds.now recorded.entry.now owners.old (derived sets.old minutes.old totals.old)) result owners.exit.now (derived sets.new minutes.new totals.new) }
+    ensures { Replays (replayed (plan people slots starts.now ends.now) avail.now units begins.now frozen.now count draws.now firsts.now seconds.now recorded.now owners.old (derived sets.old minutes.old totals.old)) result owners.new (derived sets.new minutes.new totals.new) }
 {
     if answers_ok(count, recorded) {
         let b = begin(

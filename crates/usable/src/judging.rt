@@ -40,7 +40,7 @@ fn usable_refusal(
     published: &[u8],
     owners: &[u8],
 ) -> Refusal
-    ensures { result ≡ refusal_of (usable_row (brought people slots units cap rest starts.now ends.now avail.entry.now begins.now frozen.now published.now owners.now)) }
+    ensures { result ≡ refusal_of (usable_row (brought people slots units cap rest starts.now ends.now avail.now begins.now frozen.now published.now owners.now)) }
 {
     let f = paper::check_people(paper::accepted(), people);
     let f = paper::check_slots(f, slots);

@@ -48,7 +48,7 @@ fn stands_in_way(
 ) -> bool
     requires slots_bound { (slots ≤ 1024) × (16 ≤ length frozen.now) × (unit < units) }
     requires unit_room { UnitRoom slots units begins.now }
-    ensures { result ≡ stands_in_way slots units begins.now frozen.now remembered.now owners.entry.now unit }
+    ensures { result ≡ stands_in_way slots units begins.now frozen.now remembered.now owners.now unit }
 {
     let was = owner_of(begins, remembered, unit);
     if was == owner_of(begins, owners, unit) {

@@ -20,7 +20,7 @@ fn room_ok(
     firsts: &[u16],
     seconds: &[u16],
 ) -> bool
-    ensures { result ≡ way_room_ok slots units begins.now frozen.now remembered.now draws.entry.now firsts.now seconds.now }
+    ensures { result ≡ way_room_ok slots units begins.now frozen.now remembered.now draws.now firsts.now seconds.now }
 {
     let columns = both(
         slots <= draws.len(),
@@ -141,7 +141,7 @@ pub fn way_back(
     firsts: &mut [u16],
     seconds: &mut [u16],
 ) -> Way
-    ensures { Ended (way_back_of (plan people slots starts.now ends.now) avail.now units begins.now frozen.now remembered.now owners.now (derived sets.now minutes.now totals.now) draws.old firsts.old seconds.old) result draws.exit.now firsts.new
+    ensures { Ended (way_back_of (plan people slots starts.now ends.now) avail.now units begins.now frozen.now remembered.now owners.now (derived sets.now minutes.now totals.now) draws.old firsts.old seconds.old) result draws.new firsts.new
         seconds.new }
 {
     let f = way_refusal(

@@ -46,7 +46,7 @@ pub(crate) fn write_draws(
     seconds: &mut [u16],
 ) -> usize
     requires { WriteRoom units fits.now draws.old firsts.old seconds.old }
-    ensures { Wrote begins.now fits.now remembered.now owners.now units result draws.old firsts.old seconds.old draws.new firsts.new seconds.exit.now }
+    ensures { Wrote begins.now fits.now remembered.now owners.now units result draws.old firsts.old seconds.old draws.new firsts.new seconds.new }
 {
     let mut n: usize = 0;
     let mut u: usize = 0;
