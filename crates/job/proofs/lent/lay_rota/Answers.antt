@@ -61,8 +61,7 @@ lay64-requires-3 c =
 
 pub returns : goal.returns
 returns c =
-    let whole = (
-  c.lay8.ensures,
-  derived-is (derived_from c.args.b) _ _ _ _ c.lay64.ensures c.lay64-2.ensures c.lay64-3.ensures, in
-    record { owners_after = whole.0; totals_after = whole.1 }
-)
+    record {
+      owners_after = c.lay8.ensures;
+      totals_after = derived-is (derived_from c.args.b) _ _ _ _ c.lay64.ensures c.lay64-2.ensures c.lay64-3.ensures;
+    }
