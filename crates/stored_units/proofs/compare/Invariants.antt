@@ -1,5 +1,4 @@
 -- `stored_units::compare` meets its contract: it is safe and ends. Assumes nothing.
-use borrow.Author.Rules.{rules}
 use Rattle.stored_units.proofs.compare.Given as goal
 
 abbrev pub invariant-loop-left : goal.invariant-loop-left
