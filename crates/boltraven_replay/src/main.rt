@@ -1,19 +1,22 @@
 // boltraven_replay RECORDING: the blocks of a recording played again, shown on standard output as they are played. With no argument it reads standard
 // input. It holds a window of the file and the text of one block, whatever the file's size. What can't be read is reported on standard error.
+#![tactic(auto)]
+
 ghost use Rattle.std.specs.Prelude.{◌≡◌, ◌≤◌, length};
 
 use job::{Begun, Ending, JobAnswer};
-use libc::{STDERR_FILENO, STDIN_FILENO, STDOUT_FILENO};
 use program::Request;
 use replay::Played;
+use std::io;
+use std::io::{Print, Read, Write};
 
-// The bytes from `at` up to `count` are not used yet; whether the file ended with them, and whether reading failed.
+// The bytes from `at` up to `count` are not used yet; whether the file ended with them, and the error where reading failed.
 #[derive(Clone, Copy)]
 struct Window {
     at: usize,
     count: usize,
     ended: bool,
-    failed: bool,
+    failed: Option<io::Error>,
 }
 
 // Moves the bytes from `at` up to `count` to the front; how many they are.
@@ -30,7 +33,7 @@ fn to_front(buf: &mut [u8], at: usize, count: usize) -> usize
 }
 
 // A window that holds the next block whole, or all that is left of the file.
-fn refill(fd: i32, buf: &mut [u8], w: Window) -> Window
+fn refill<R: Read>(from: &mut R, buf: &mut [u8], w: Window) -> Window
     requires { (w.at ≤ w.count) × (w.count ≤ length buf.old) }
     ensures { (result.at ≤ result.count) × (result.count ≤ length buf.new) }
 {
@@ -41,7 +44,7 @@ fn refill(fd: i32, buf: &mut [u8], w: Window) -> Window
         return w;
     }
     let kept = to_front(buf, w.at, w.count);
-    let input = program::read_on(fd, buf, kept);
+    let input = program::read_on(from, buf, kept);
     Window {
         at: 0,
         count: input.count,
@@ -73,17 +76,24 @@ fn after(w: Window, used: usize) -> Window
 }
 
 // The last line.
-fn print_last(end: Ending) {
+fn print_last(rt: &impl Print, end: Ending) -> io::Result<()> {
     let mut line = [0u8; 64];
     let answer = job::last_line(end, &mut line);
     match answer {
-        JobAnswer::Length(n) => program::print_text(n, &line),
-        JobAnswer::Refused(_) => (),
+        JobAnswer::Length(n) => program::print_text(rt, n, &line),
+        JobAnswer::Refused(_) => Ok(()),
     }
 }
 
 // The blocks, one after the other, from the rota that the job begins with.
-fn play_blocks(fd: i32, what: &[u8], buf: &mut [u8], first: Window, b: Begun)
+fn play_blocks<R: Read>(
+    rt: &HostRuntime,
+    from: &mut R,
+    what: &[u8],
+    buf: &mut [u8],
+    first: Window,
+    b: Begun,
+) -> io::Result<()>
     requires { (first.at ≤ first.count) × (first.count ≤ length buf.old) }
 {
     let starts = b.starts;
@@ -100,10 +110,9 @@ fn play_blocks(fd: i32, what: &[u8], buf: &mut [u8], first: Window, b: Begun)
     let mut w = first;
     let mut block: usize = 0;
     while block <= replay::BLOCKS_MOST {
-        w = refill(fd, buf, w);
-        if w.failed {
-            os::fail(what);
-            return;
+        w = refill(from, buf, w);
+        if let Some(error) = w.failed {
+            return program::fail(&mut rt.stderr(), what, error);
         }
         let at = w.at;
         let count = w.count;
@@ -127,26 +136,25 @@ fn play_blocks(fd: i32, what: &[u8], buf: &mut [u8], first: Window, b: Begun)
         );
         match played {
             Played::More { length, next } => {
-                program::print_text(length, &out);
+                program::print_text(rt, length, &out)?;
                 w = after(w, next);
                 block += 1;
             }
             Played::Last { length, end } => {
-                program::print_text(length, &out);
-                print_last(end);
-                return;
+                program::print_text(rt, length, &out)?;
+                return print_last(rt, end);
             }
         }
     }
+    Ok(())
 }
 
-// The replay of the recording that fd holds; what names it where it can't be read.
-fn print_replay(fd: i32, what: &[u8]) {
+// The replay of the recording that an input holds; what names it where it can't be read.
+fn print_replay<R: Read>(rt: &HostRuntime, from: &mut R, what: &[u8]) -> io::Result<()> {
     let mut buf = [0u8; 65536];
-    let input = program::read_on(fd, &mut buf, 0);
-    if input.failed {
-        os::fail(what);
-        return;
+    let input = program::read_on(from, &mut buf, 0);
+    if let Some(error) = input.failed {
+        return program::fail(&mut rt.stderr(), what, error);
     }
     let n = program::within(input.count, &buf);
     let end = replay::job_end(&buf[..n]);
@@ -158,97 +166,67 @@ fn print_replay(fd: i32, what: &[u8]) {
             at,
             count: n,
             ended: n < 65536,
-            failed: false,
+            failed: None,
         };
-        play_blocks(fd, what, &mut buf, w, b);
-        return;
+        return play_blocks(rt, from, what, &mut buf, w, b);
     }
-    print_last(Ending::Refused(refusal));
+    print_last(rt, Ending::Refused(refusal))
 }
 
 // The replay of the file of that name.
-fn print_file(name: &[u8]) {
-    let fd = os::open_read(name);
-    if fd < 0 {
-        os::fail(name);
-        return;
+fn print_file(rt: &HostRuntime, name: &[u8]) -> io::Result<()> {
+    match program::open_file(rt, name) {
+        Ok(mut file) => print_replay(rt, &mut file, name),
+        Err(error) => program::fail(&mut rt.stderr(), name, error),
     }
-    print_replay(fd, name);
-    libc::close(fd);
 }
 
 // How the program is called.
-fn print_help() {
-    io::write_all(
-        STDOUT_FILENO,
+fn print_help(rt: &impl Print) -> io::Result<()> {
+    rt.write_all(
         b"boltraven_replay RECORDING    plays the blocks of a recording again; without RECORDING, of standard input\n",
-    );
-    io::write_all(
-        STDOUT_FILENO,
-        b"boltraven_replay --help, boltraven_replay --version\n",
-    );
-    io::write_all(
-        STDOUT_FILENO,
-        b"\n_each block gives a line B and its number, then slots and people as a listing has them. The last line is E where every answer\n",
-    );
-    io::write_all(
-        STDOUT_FILENO,
+    )?;
+    rt.write_all(b"boltraven_replay --help, boltraven_replay --version\n")?;
+    rt.write_all(
+        b"\nEach block gives a line B and its number, then slots and people as a listing has them. The last line is E where every answer\n",
+    )?;
+    rt.write_all(
         b"agrees, X with the block and the place of the first that differs, or R and a refusal's number; docs/REFERENCE.md tells them.\n",
-    );
-    io::write_all(
-        STDOUT_FILENO,
-        b"What can't be read is reported on standard error, after what was shown.\n",
-    );
-    io::write_all(
-        STDOUT_FILENO,
-        b"The exit status is 0 in every case: read the last line.\n",
-    );
-    io::write_all(
-        STDOUT_FILENO,
-        b"A file whose name begins with - is given as ./-NAME.\n",
-    );
+    )?;
+    rt.write_all(b"What can't be read is reported on standard error, after what was shown.\n")?;
+    rt.write_all(b"The exit status is 0 in every case: read the last line.\n")?;
+    rt.write_all(b"A file whose name begins with - is given as ./-NAME.\n")
 }
 
 // What a word asks for: help, the version, or the replay of the file that it names.
-fn print_asked(word: &[u8]) {
+fn print_asked(rt: &HostRuntime, word: &[u8]) -> io::Result<()> {
     match program::asked(word) {
-        Request::Help => print_help(),
-        Request::Version => {
-            io::write_all(STDOUT_FILENO, b"boltraven_replay 0.4.0\n");
-        }
-        Request::Unknown => {
-            io::write_all(
-                STDERR_FILENO,
-                b"boltraven_replay: a file whose name begins with - is given as ./-NAME; --help tells more\n",
-            );
-        }
-        Request::File => print_file(word),
+        Request::Help => print_help(rt),
+        Request::Version => rt.write_all(b"boltraven_replay 0.4.0\n"),
+        Request::Unknown => rt.stderr().write_all(
+            b"boltraven_replay: a file whose name begins with - is given as ./-NAME; --help tells more\n",
+        ),
+        Request::File => print_file(rt, word),
     }
 }
 
 // What the one argument asks for.
-fn print_first() {
-    let mut word = io::buffer();
-    let n = os::arg(1, &mut word);
-    if os::errno() != 0 {
-        os::fail(b"the argument");
-        return;
+fn print_first(rt: &HostRuntime) -> io::Result<()> {
+    let mut word = [0u8; 4096];
+    match program::first_word(rt, &mut word) {
+        Ok(n) => print_asked(rt, &word[..n]),
+        Err(error) => program::fail(&mut rt.stderr(), b"the argument", error),
     }
-    print_asked(&word[..n]);
 }
 
-fn main() {
-    let count = os::arg_count();
-    if count > 2 {
-        io::write_all(
-            STDERR_FILENO,
+fn main(rt: HostRuntime) -> io::Result<()> {
+    if program::has_word(&rt, 2) {
+        return rt.stderr().write_all(
             b"boltraven_replay: more than one argument; --help tells more\n",
         );
-        return;
     }
-    if count < 2 {
-        print_replay(STDIN_FILENO, b"standard input");
-        return;
+    if program::has_word(&rt, 1) {
+        return print_first(&rt);
     }
-    print_first();
+    print_replay(&rt, &mut rt.stdin(), b"standard input")
 }

@@ -1,7 +1,13 @@
 // Reading stored answers: the numbers of a record, low byte first, and the tally of what was compared. The programs `stored_*` use it.
+#![tactic(auto)]
+
 ghost use Rattle.std.specs.Prelude.{◌≡◌, ◌+◌, ◌<◌, ◌≤◌, min, true, false, if◌then◌else◌, nat_eq, slice_index};
+ghost use Rattle.std.specs.Io.{ReadsAtMost};
 ghost use Rattle.stored.specs.Numbers.{further, little_at, four_after};
 ghost use Rattle.stored.specs.Columns.{filled, bytes_filled, row_word, rows_filled, same, front};
+
+use std::io;
+use std::io::Read;
 
 // How many answers were compared, and how many differ.
 #[derive(Clone, Copy)]
@@ -67,6 +73,21 @@ impl Turn {
             more: false,
         }
     }
+}
+
+// Reads until buf is full or the input ends; how many bytes came.
+pub fn read_full<R: Read>(from: &mut R, buf: &mut [u8]) -> io::Result<usize>
+    ensures { ReadsAtMost result buf.new }
+{
+    let mut done: usize = 0;
+    while done < buf.len() {
+        let n = from.read(&mut buf[done..])?;
+        if n == 0 {
+            break;
+        }
+        done += n;
+    }
+    Ok(done)
 }
 
 // An index k further on: no index of a record is near the end of numbers.

@@ -1,10 +1,14 @@
 // Replays stored answers on published and draft columns: reads records from standard input, asks the library the same, refusals included,
 // and tells how many answers it compared and how many differ. The answers are the generator's own, slot by slot: the Rust has no such
 // columns. `oracle/store` writes the records (oracle/src/columns.rs has their layout).
+#![tactic(auto)]
+
 ghost use Rattle.std.specs.Prelude.{◌≤◌};
 
 use slotset::YesNo;
-use stored::{Tally, at_most, front_words, half, plus, raw, raws, same_raws, word};
+use std::io;
+use std::io::Read;
+use stored::{Tally, at_most, front_words, half, plus, raw, raws, read_full, same_raws, word};
 
 // A record: the slots; how long the published column, the draft, the flags and the list are; the flags; both columns; the owner read of
 // each slot; six slots with the number of the refusal, which column and how long; what publishing and the list screen answer and leave.
@@ -150,37 +154,34 @@ fn record_answers(tally: Tally, b: &[u8]) -> Tally {
 }
 
 // Reads one record and compares its answers. Part of a record is a damaged file, and counts as a difference.
-fn one_record(tally: Tally) -> Tally {
+fn one_record<R: Read>(from: &mut R, tally: Tally) -> io::Result<Tally> {
     let mut b = [0u8; RECORD];
-    let got = io::read_full(0, &mut b);
+    let got = read_full(from, &mut b)?;
     if got == RECORD {
-        return record_answers(tally, &b);
+        return Ok(record_answers(tally, &b));
     }
-    tally.with(false)
+    Ok(tally.with(false))
 }
 
 // How many records there are.
-fn records() -> usize {
+fn records<R: Read>(from: &mut R) -> io::Result<usize> {
     let mut b = [0u8; 2];
-    io::read_full(0, &mut b);
-    half(&b, 0)
+    read_full(from, &mut b)?;
+    Ok(half(&b, 0))
 }
 
 // Every record.
-fn compare() -> Tally {
+fn compare<R: Read>(from: &mut R) -> io::Result<Tally> {
     let mut t = Tally::none();
-    let mut left = records();
+    let mut left = records(from)?;
     while left > 0 {
-        t = one_record(t);
+        t = one_record(from, t)?;
         left -= 1;
     }
-    t
+    Ok(t)
 }
 
-fn main() {
-    let t = compare();
-    io::print_decimal(1, t.compared);
-    io::write_all(1, b" answers compared, ");
-    io::print_decimal(1, t.differing);
-    io::write_all(1, b" differ\n");
+fn main(rt: HostRuntime) -> io::Result<()> {
+    let t = compare(&mut rt.stdin())?;
+    println!(rt; "{} answers compared, {} differ", t.compared, t.differing)
 }

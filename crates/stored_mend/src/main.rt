@@ -1,10 +1,12 @@
 // Replays stored repairs of damaged rotas: reads records from standard input, mends each rota, and tells how many answers it compared
 // and how
 // many differ. `oracle/store` writes the records (oracle/src/stored_mending.rs has their layout).
+#![tactic(auto)]
+
 use slotset::Number;
-use stored::{
-    Tally, Turn, at_most, half, plus, quads, raws, rows, same_raws, same_words, shorts, word,
-};
+use std::io;
+use std::io::{Print, Read};
+use stored::{Tally, Turn, at_most, half, plus, quads, raws, read_full, rows, same_raws, same_words, shorts, word};
 
 // A record: counts and the list's room, slots, units, who can cover which, frozen slots, the rota as it was found; how many repairs are
 // due,
@@ -249,39 +251,36 @@ fn compared(tally: Tally, b: &[u8]) -> Tally {
 }
 
 // Reads one record and compares it.
-fn one_record(tally: Tally) -> Turn {
+fn one_record<R: Read>(from: &mut R, tally: Tally) -> io::Result<Turn> {
     let mut b = [0u8; RECORD];
-    let got = io::read_full(0, &mut b);
+    let got = read_full(from, &mut b)?;
     if got == RECORD {
-        return Turn::whole(compared(tally, &b));
+        return Ok(Turn::whole(compared(tally, &b)));
     }
-    Turn::last(tally, got)
+    Ok(Turn::last(tally, got))
 }
 
 // Every record of the input. A proved loop has to end, so it counts its turns down from a number that no input uses up.
-fn compare() -> Tally {
+fn compare<R: Read>(from: &mut R) -> io::Result<Tally> {
     let mut t = Tally::none();
     let mut turns = u64::MAX;
     while turns > 0 {
-        let last = one_record(t);
+        let last = one_record(from, t)?;
         t = last.tally;
         if last.more {
             turns -= 1;
         } else {
-            return t;
+            return Ok(t);
         }
     }
-    t
+    Ok(t)
 }
 
 // Writes the line that a comparison ends with.
-fn print(t: Tally) {
-    io::print_decimal(1, t.compared);
-    io::write_all(1, b" answers compared, ");
-    io::print_decimal(1, t.differing);
-    io::write_all(1, b" differ\n");
+fn print(rt: &impl Print, t: Tally) -> io::Result<()> {
+    println!(rt; "{} answers compared, {} differ", t.compared, t.differing)
 }
 
-fn main() {
-    print(compare());
+fn main(rt: HostRuntime) -> io::Result<()> {
+    print(&rt, compare(&mut rt.stdin())?)
 }

@@ -1,8 +1,12 @@
 // Replays stored recordings: reads recordings, each with the text that is due for it, from standard input, plays them block by block, and tells
 // how many it compared and how many differ. `oracle/store` writes them (oracle/src/stored_recordings.rs has their layout).
+#![tactic(auto)]
+
 use job::{Begun, Ending, JobAnswer};
 use replay::Played;
-use stored::{Tally, Turn, at_most, raw, same_raws, short};
+use std::io;
+use std::io::{Print, Read};
+use stored::{Tally, Turn, at_most, half, raw, read_full, same_raws, short};
 
 // A stored recording begins with two u16: the length of its file, and of the text that is due. Both follow.
 const HEAD: usize = 4;
@@ -120,59 +124,56 @@ fn as_due(file: &[u8], due: &[u8]) -> bool {
 }
 
 // Reads n bytes to the front of a buffer that has room for them, and answers whether all came.
-fn filled(buf: &mut [u8], n: u16) -> bool {
-    let k = io::count(n as isize, buf);
-    io::read_full(0, &mut buf[..k]) == k
+fn filled<R: Read>(from: &mut R, buf: &mut [u8], n: u16) -> io::Result<bool> {
+    let k = at_most(n as usize, buf.len());
+    Ok(read_full(from, &mut buf[..k])? == k)
 }
 
 // Reads the file and the text of a recording whose head was read, and compares.
-fn one_body(tally: Tally, head: &[u8]) -> Turn {
-    let mut file = io::large_buffer();
-    let mut due = io::large_buffer();
-    let whole = filled(&mut file, short(head, 0));
-    let due_read = filled(&mut due, short(head, 2));
-    let n = io::count(short(head, 0) as isize, &file);
-    let m = io::count(short(head, 2) as isize, &due);
+fn one_body<R: Read>(from: &mut R, tally: Tally, head: &[u8]) -> io::Result<Turn> {
+    let mut file = [0u8; 65536];
+    let mut due = [0u8; 65536];
+    let whole = filled(from, &mut file, short(head, 0))?;
+    let due_read = filled(from, &mut due, short(head, 2))?;
+    let n = at_most(half(head, 0), file.len());
+    let m = at_most(half(head, 2), due.len());
     if whole && due_read {
-        return Turn::whole(tally.with(as_due(&file[..n], &due[..m])));
+        return Ok(Turn::whole(tally.with(as_due(&file[..n], &due[..m]))));
     }
-    Turn::last(tally, HEAD)
+    Ok(Turn::last(tally, HEAD))
 }
 
 // Reads one recording and compares it.
-fn one_recording(tally: Tally) -> Turn {
+fn one_recording<R: Read>(from: &mut R, tally: Tally) -> io::Result<Turn> {
     let mut head = [0u8; HEAD];
-    let got = io::read_full(0, &mut head);
+    let got = read_full(from, &mut head)?;
     if got == HEAD {
-        return one_body(tally, &head);
+        return one_body(from, tally, &head);
     }
-    Turn::last(tally, got)
+    Ok(Turn::last(tally, got))
 }
 
 // Every recording of the input. A proved loop has to end, so it counts its turns down from a number that no input uses up.
-fn compare() -> Tally {
+fn compare<R: Read>(from: &mut R) -> io::Result<Tally> {
     let mut t = Tally::none();
     let mut turns = u64::MAX;
     while turns > 0 {
-        let last = one_recording(t);
+        let last = one_recording(from, t)?;
         t = last.tally;
         if last.more {
             turns -= 1;
         } else {
-            return t;
+            return Ok(t);
         }
     }
-    t
+    Ok(t)
 }
 
 // Writes the line that a comparison ends with.
-fn print(t: Tally) {
-    io::print_decimal(1, t.compared);
-    io::write_all(1, b" answers compared, ");
-    io::print_decimal(1, t.differing);
-    io::write_all(1, b" differ\n");
+fn print(rt: &impl Print, t: Tally) -> io::Result<()> {
+    println!(rt; "{} answers compared, {} differ", t.compared, t.differing)
 }
 
-fn main() {
-    print(compare());
+fn main(rt: HostRuntime) -> io::Result<()> {
+    print(&rt, compare(&mut rt.stdin())?)
 }

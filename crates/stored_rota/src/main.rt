@@ -1,11 +1,13 @@
 // Replays stored rotas of the Rust: reads sections of records from standard input, plays and assigns the same, and tells for each section
 // how many answers it compared and how many differ. `oracle/store` writes the records (oracle/src/stored_rotas.rs has their layout).
+#![tactic(auto)]
+
 ghost use Rattle.std.specs.Prelude.{◌≤◌};
 
 use paper::Refusal;
-use stored::{
-    Tally, at_most, front_shorts, half, plus, quad, quads, raw, raws, same_raws, same_words, shorts,
-};
+use std::io;
+use std::io::{Print, Read};
+use stored::{Tally, at_most, front_shorts, half, plus, quad, quads, raw, raws, read_full, same_raws, same_words, shorts};
 
 // A record: people, slots, units, draws; the slots; where units begin; who can cover which slot; frozen slots; the owners before; the
 // draws; then the Rust's answers, owners, sets, minutes and totals; an assign, and the refusal that is due, and that of a recount without
@@ -581,50 +583,46 @@ fn record_answers(section: usize, tally: Tally, b: &[u8]) -> Tally {
 }
 
 // Reads one record and compares its answers. Part of a record is a damaged file, and counts as a difference.
-fn one_record(section: usize, tally: Tally) -> Tally {
+fn one_record<R: Read>(from: &mut R, section: usize, tally: Tally) -> io::Result<Tally> {
     let mut b = [0u8; RECORD];
-    let got = io::read_full(0, &mut b);
+    let got = read_full(from, &mut b)?;
     if got == RECORD {
-        return record_answers(section, tally, &b);
+        return Ok(record_answers(section, tally, &b));
     }
-    tally.with(false)
+    Ok(tally.with(false))
 }
 
 // How many records come next.
-fn records() -> usize {
+fn records<R: Read>(from: &mut R) -> io::Result<usize> {
     let mut b = [0u8; 2];
-    io::read_full(0, &mut b);
-    half(&b, 0)
+    read_full(from, &mut b)?;
+    Ok(half(&b, 0))
 }
 
 // Every record of a section.
-fn compare(section: usize) -> Tally {
+fn compare<R: Read>(from: &mut R, section: usize) -> io::Result<Tally> {
     let mut t = Tally::none();
-    let mut left = records();
+    let mut left = records(from)?;
     while left > 0 {
-        t = one_record(section, t);
+        t = one_record(from, section, t)?;
         left -= 1;
     }
-    t
+    Ok(t)
 }
 
 // Writes the line of a section.
-fn print(t: Tally, of: &[u8]) {
-    io::print_decimal(1, t.compared);
-    io::write_all(1, b" answers");
-    io::write_all(1, of);
-    io::write_all(1, b" compared, ");
-    io::print_decimal(1, t.differing);
-    io::write_all(1, b" differ\n");
+fn print(rt: &impl Print, t: Tally, of: &str) -> io::Result<()> {
+    println!(rt; "{} answers{of} compared, {} differ", t.compared, t.differing)
 }
 
-fn main() {
-    print(compare(0), b"");
-    print(compare(1), b" of unfrozen twins");
-    print(compare(2), b" of rotas made uneven");
-    print(compare(3), b" of swaps of unequal units");
-    print(compare(4), b" of reassigns");
-    print(compare(5), b" of single assigns");
-    print(compare(6), b" of damaged rotas");
-    print(compare(7), b" of failed recounts");
+fn main(rt: HostRuntime) -> io::Result<()> {
+    let mut from = rt.stdin();
+    print(&rt, compare(&mut from, 0)?, "")?;
+    print(&rt, compare(&mut from, 1)?, " of unfrozen twins")?;
+    print(&rt, compare(&mut from, 2)?, " of rotas made uneven")?;
+    print(&rt, compare(&mut from, 3)?, " of swaps of unequal units")?;
+    print(&rt, compare(&mut from, 4)?, " of reassigns")?;
+    print(&rt, compare(&mut from, 5)?, " of single assigns")?;
+    print(&rt, compare(&mut from, 6)?, " of damaged rotas")?;
+    print(&rt, compare(&mut from, 7)?, " of failed recounts")
 }

@@ -1,12 +1,16 @@
 // Replays stored answers of the Rust on slots: reads records from standard input, asks the library the same, refusals included, and tells
 // how many answers it compared and how many differ. `oracle/store` writes the records (oracle/src/stored_slots.rs has their layout).
+#![tactic(auto)]
+
 ghost use Rattle.std.specs.Prelude.{◌≤◌};
 
 use slots::Minutes;
 use slotset::{Number, YesNo};
+use std::io;
+use std::io::{Print, Read};
 use stored::{
-    Tally, Turn, at_most, front_quads, front_shorts, front_words, half, plus, quad, quads, rows,
-    same_quads, same_shorts, same_words, shorts, size,
+    Tally, Turn, at_most, front_quads, front_shorts, front_words, half, plus, quad, quads,
+    read_full, rows, same_quads, same_shorts, same_words, shorts, size,
 };
 
 // A record: counts and what is asked; how long each lent column is; the columns; rows and flags before and after; the answers; the columns
@@ -348,39 +352,36 @@ fn record_answers(tally: Tally, b: &[u8]) -> Tally {
 }
 
 // Reads one record and compares its answers.
-fn one_record(tally: Tally) -> Turn {
+fn one_record<R: Read>(from: &mut R, tally: Tally) -> io::Result<Turn> {
     let mut b = [0u8; RECORD];
-    let got = io::read_full(0, &mut b);
+    let got = read_full(from, &mut b)?;
     if got == RECORD {
-        return Turn::whole(record_answers(tally, &b));
+        return Ok(Turn::whole(record_answers(tally, &b)));
     }
-    Turn::last(tally, got)
+    Ok(Turn::last(tally, got))
 }
 
 // Every record of the input. A proved loop has to end, so it counts its turns down from a number that no input uses up.
-fn compare() -> Tally {
+fn compare<R: Read>(from: &mut R) -> io::Result<Tally> {
     let mut t = Tally::none();
     let mut turns = u64::MAX;
     while turns > 0 {
-        let last = one_record(t);
+        let last = one_record(from, t)?;
         t = last.tally;
         if last.more {
             turns -= 1;
         } else {
-            return t;
+            return Ok(t);
         }
     }
-    t
+    Ok(t)
 }
 
 // Writes the line that a comparison ends with.
-fn print(t: Tally) {
-    io::print_decimal(1, t.compared);
-    io::write_all(1, b" answers compared, ");
-    io::print_decimal(1, t.differing);
-    io::write_all(1, b" differ\n");
+fn print(rt: &impl Print, t: Tally) -> io::Result<()> {
+    println!(rt; "{} answers compared, {} differ", t.compared, t.differing)
 }
 
-fn main() {
-    print(compare());
+fn main(rt: HostRuntime) -> io::Result<()> {
+    print(&rt, compare(&mut rt.stdin())?)
 }

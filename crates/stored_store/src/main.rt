@@ -1,10 +1,14 @@
 // Replays stored stores: reads areas, each with what is due of it, from standard input, asks the store, and tells how many answers it compared
 // and how many differ. `oracle/store` writes them (oracle/src/stores.rs has their layout).
+#![tactic(auto)]
+
 ghost use Rattle.std.specs.Prelude.{◌<◌};
 
 use slotset::Number;
 use store::{Asked, Saved};
-use stored::{Tally, Turn, half, raw, same_raws, short};
+use std::io;
+use std::io::{Print, Read};
+use stored::{Tally, Turn, at_most, half, raw, read_full, same_raws, short};
 use units::Settings;
 
 // A stored area begins with these bytes; the area follows, and then the area after settings were saved.
@@ -74,61 +78,58 @@ fn saved(head: &[u8], area: &mut [u8], after: &[u8]) -> bool {
 }
 
 // Reads n bytes to the front of a buffer that has room for them, and answers whether all came.
-fn filled(buf: &mut [u8], n: u16) -> bool {
-    let k = io::count(n as isize, buf);
-    io::read_full(0, &mut buf[..k]) == k
+fn filled<R: Read>(from: &mut R, buf: &mut [u8], n: u16) -> io::Result<bool> {
+    let k = at_most(n as usize, buf.len());
+    Ok(read_full(from, &mut buf[..k])? == k)
 }
 
 // Reads the areas of a record whose head was read, and compares.
-fn one_body(tally: Tally, head: &[u8]) -> Turn {
-    let mut area = io::large_buffer();
-    let mut after = io::large_buffer();
-    let whole = filled(&mut area, short(head, 0));
-    let due_read = filled(&mut after, short(head, 0));
-    let n = io::count(short(head, 0) as isize, &area);
-    let m = io::count(short(head, 0) as isize, &after);
+fn one_body<R: Read>(from: &mut R, tally: Tally, head: &[u8]) -> io::Result<Turn> {
+    let mut area = [0u8; 65536];
+    let mut after = [0u8; 65536];
+    let whole = filled(from, &mut area, short(head, 0))?;
+    let due_read = filled(from, &mut after, short(head, 0))?;
+    let n = at_most(half(head, 0), area.len());
+    let m = at_most(half(head, 0), after.len());
     if whole && due_read {
         let t = tally.with(counted(head, &area[..n]));
         let t = t.with(asked(head, &area[..n]));
-        return Turn::whole(t.with(saved(head, &mut area[..n], &after[..m])));
+        return Ok(Turn::whole(t.with(saved(head, &mut area[..n], &after[..m]))));
     }
-    Turn::last(tally, HEAD)
+    Ok(Turn::last(tally, HEAD))
 }
 
 // Reads one area and compares it.
-fn one_area(tally: Tally) -> Turn {
+fn one_area<R: Read>(from: &mut R, tally: Tally) -> io::Result<Turn> {
     let mut head = [0u8; HEAD];
-    let got = io::read_full(0, &mut head);
+    let got = read_full(from, &mut head)?;
     if got == HEAD {
-        return one_body(tally, &head);
+        return one_body(from, tally, &head);
     }
-    Turn::last(tally, got)
+    Ok(Turn::last(tally, got))
 }
 
 // Every area of the input. A proved loop has to end, so it counts its turns down from a number that no input uses up.
-fn compare() -> Tally {
+fn compare<R: Read>(from: &mut R) -> io::Result<Tally> {
     let mut t = Tally::none();
     let mut turns = u64::MAX;
     while turns > 0 {
-        let last = one_area(t);
+        let last = one_area(from, t)?;
         t = last.tally;
         if last.more {
             turns -= 1;
         } else {
-            return t;
+            return Ok(t);
         }
     }
-    t
+    Ok(t)
 }
 
 // Writes the line that a comparison ends with.
-fn print(t: Tally) {
-    io::print_decimal(1, t.compared);
-    io::write_all(1, b" answers compared, ");
-    io::print_decimal(1, t.differing);
-    io::write_all(1, b" differ\n");
+fn print(rt: &impl Print, t: Tally) -> io::Result<()> {
+    println!(rt; "{} answers compared, {} differ", t.compared, t.differing)
 }
 
-fn main() {
-    print(compare());
+fn main(rt: HostRuntime) -> io::Result<()> {
+    print(&rt, compare(&mut rt.stdin())?)
 }

@@ -1,13 +1,17 @@
 // Replays stored answers of the Rust on units: reads records from standard input, asks the library the same, refusals included, and tells
 // how many answers it compared and how many differ. Where the Rust counts fewer days than are covered, the figures that follow from the days
 // are the generator's own. `oracle/store` writes the records (oracle/src/stored_units.rs has their layout).
+#![tactic(auto)]
+
 ghost use Rattle.std.specs.Prelude.{◌≤◌};
 
 use slots::Minutes;
 use slotset::{Number, YesNo};
+use std::io;
+use std::io::{Print, Read};
 use stored::{
-    Tally, at_most, front_quads, front_shorts, front_words, half, plus, quads, raw, raws, rows,
-    same_quads, same_raws, same_shorts, short, shorts, size, word,
+    Tally, at_most, front_quads, front_shorts, front_words, half, plus, quads, raw, raws,
+    read_full, rows, same_quads, same_raws, same_shorts, short, shorts, size, word,
 };
 use units::{Settings, UnitSlots};
 
@@ -372,45 +376,48 @@ fn record_answers(tally: Tally, b: &[u8]) -> Tally {
 }
 
 // Reads one record and compares its answers. Part of a record is a damaged file, and counts as a difference.
-fn one_record(tally: Tally) -> Tally {
+fn one_record<R: Read>(from: &mut R, tally: Tally) -> io::Result<Tally> {
     let mut b = [0u8; RECORD];
-    let got = io::read_full(0, &mut b);
+    let got = read_full(from, &mut b)?;
     if got == RECORD {
-        return record_answers(tally, &b);
+        return Ok(record_answers(tally, &b));
     }
-    tally.with(false)
+    Ok(tally.with(false))
 }
 
 // How many records come next.
-fn records() -> usize {
+fn records<R: Read>(from: &mut R) -> io::Result<usize> {
     let mut b = [0u8; 2];
-    io::read_full(0, &mut b);
-    half(&b, 0)
+    read_full(from, &mut b)?;
+    Ok(half(&b, 0))
 }
 
 // Every record of a section.
-fn compare() -> Tally {
+fn compare<R: Read>(from: &mut R) -> io::Result<Tally> {
     let mut t = Tally::none();
-    let mut left = records();
+    let mut left = records(from)?;
     while left > 0 {
-        t = one_record(t);
+        t = one_record(from, t)?;
         left -= 1;
     }
-    t
+    Ok(t)
 }
 
 // Writes the line of a section.
-fn print(t: Tally, of: &[u8]) {
-    io::print_decimal(1, t.compared);
-    io::write_all(1, b" answers");
-    io::write_all(1, of);
-    io::write_all(1, b" compared, ");
-    io::print_decimal(1, t.differing);
-    io::write_all(1, b" differ\n");
+fn print(rt: &impl Print, t: Tally, of: &str) -> io::Result<()> {
+    println!(rt;
+        "{} answers{of} compared, {} differ",
+        t.compared, t.differing
+    )
 }
 
 // Where the Rust counts the days that are covered, and where it counts fewer.
-fn main() {
-    print(compare(), b"");
-    print(compare(), b" where the Rust counts fewer days");
+fn main(rt: HostRuntime) -> io::Result<()> {
+    let mut from = rt.stdin();
+    print(&rt, compare(&mut from)?, "")?;
+    print(
+        &rt,
+        compare(&mut from)?,
+        " where the Rust counts fewer days",
+    )
 }

@@ -1,7 +1,11 @@
 // Replays stored verdicts on rotas made elsewhere, worked out by the generator's own scans: reads records from standard input, judges each
 // rota, and tells how many it compared and how many differ. `oracle/store` writes the records (oracle/src/stored_elsewhere.rs has their
 // layout).
-use stored::{Tally, Turn, half, quad, quads, raws, rows, shorts};
+#![tactic(auto)]
+
+use std::io;
+use std::io::{Print, Read};
+use stored::{Tally, Turn, half, quad, quads, raws, read_full, rows, shorts};
 use usable::Verdict;
 
 // A record: counts, figures, slots, units, who can cover which, frozen slots, published owners, owners, the verdict.
@@ -91,42 +95,39 @@ fn judged(b: &[u8]) -> Verdict {
 }
 
 // Reads one record and compares it.
-fn one_record(tally: Tally) -> Turn {
+fn one_record<R: Read>(from: &mut R, tally: Tally) -> io::Result<Turn> {
     let mut b = [0u8; RECORD];
-    let got = io::read_full(0, &mut b);
+    let got = read_full(from, &mut b)?;
     if got == RECORD {
         let verdict = judged(&b);
         let due = half(&b, VERDICT_AT);
         let at = half(&b, SLOT_AT);
-        return Turn::whole(tally.with(is_due(verdict, due, at)));
+        return Ok(Turn::whole(tally.with(is_due(verdict, due, at))));
     }
-    Turn::last(tally, got)
+    Ok(Turn::last(tally, got))
 }
 
 // Every record of the input. A proved loop has to end, so it counts its turns down from a number that no input uses up.
-fn compare() -> Tally {
+fn compare<R: Read>(from: &mut R) -> io::Result<Tally> {
     let mut t = Tally::none();
     let mut turns = u64::MAX;
     while turns > 0 {
-        let last = one_record(t);
+        let last = one_record(from, t)?;
         t = last.tally;
         if last.more {
             turns -= 1;
         } else {
-            return t;
+            return Ok(t);
         }
     }
-    t
+    Ok(t)
 }
 
 // Writes the line that a comparison ends with.
-fn print(t: Tally) {
-    io::print_decimal(1, t.compared);
-    io::write_all(1, b" answers compared, ");
-    io::print_decimal(1, t.differing);
-    io::write_all(1, b" differ\n");
+fn print(rt: &impl Print, t: Tally) -> io::Result<()> {
+    println!(rt; "{} answers compared, {} differ", t.compared, t.differing)
 }
 
-fn main() {
-    print(compare());
+fn main(rt: HostRuntime) -> io::Result<()> {
+    print(&rt, compare(&mut rt.stdin())?)
 }

@@ -1,7 +1,6 @@
 -- `program::asked` meets its contract. Assumes nothing.
 use mathlib.Core.Path.{sym, ◌∙◌}
 use mathlib.Core.Bool.{true, false}
-use borrow.Author.Rules.{rules}
 use Rattle.program.proofs.Asks.{asks-help, asks-version, asks_rest}
 use Rattle.program.proofs.asked.Goals as goal
 

@@ -1,5 +1,5 @@
 -- `stored::byte_after` meets its contract. Assumes nothing.
-use Rattle.std.proofs.Common.{◌+◌, sym, arith, rules}
+use Rattle.std.proofs.Common.{◌+◌, sym, arith}
 use lib.ListN.{get_or-eq_default}
 use Rattle.stored.proofs.byte_after.Goals as goal
 

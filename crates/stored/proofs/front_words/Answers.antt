@@ -1,5 +1,4 @@
 -- `stored::front_words` meets its contract. Assumes nothing.
-use Rattle.std.proofs.Common.{rules}
 use Rattle.stored.proofs.Columns.{front-is}
 use Rattle.stored.proofs.front_words.Goals as goal
 

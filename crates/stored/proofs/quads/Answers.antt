@@ -1,8 +1,7 @@
 -- `stored::quads` meets its contract. Assumes nothing.
-use Rattle.std.proofs.Common.{◌-◌, length, ap, ◌∙◌, rules}
-use Rattle.stored.specs.Columns.{number_after}
+use Rattle.std.proofs.Common.{ap, ◌∙◌}
 use Rattle.stored.specs.Numbers.{little_at}
-use Rattle.stored.proofs.Columns.{Filled, filled_none, filled_more, filled-less, filled-done}
+use Rattle.stored.proofs.Columns.{filled_none, filled_more, filled-less, filled-done}
 use Rattle.stored.proofs.quads.Goals as goal
 
 pub loop-j-init : goal.loop-j-init

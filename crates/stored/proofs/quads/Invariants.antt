@@ -1,8 +1,7 @@
 -- `stored::quads` meets its contract. Assumes nothing.
-use Rattle.std.proofs.Common.{◌-◌, length, ap, ◌∙◌, rules}
+use Rattle.std.proofs.Common.{◌-◌, length}
 use Rattle.stored.specs.Columns.{number_after}
-use Rattle.stored.specs.Numbers.{little_at}
-use Rattle.stored.proofs.Columns.{Filled, filled_none, filled_more, filled-less, filled-done}
+use Rattle.stored.proofs.Columns.{Filled}
 use Rattle.stored.proofs.quads.Given as goal
 
 abbrev pub invariant-loop-j : goal.invariant-loop-j

@@ -1,5 +1,5 @@
 -- `stored::raw` meets its contract. Assumes nothing.
-use Rattle.std.proofs.Common.{sym, arith, rules}
+use Rattle.std.proofs.Common.{sym, arith}
 use lib.ListN.{get_or-eq_default}
 use Rattle.stored.proofs.raw.Goals as goal
 

@@ -1,7 +1,6 @@
 -- `stored::raws` meets its contract. Assumes nothing.
-use Rattle.std.proofs.Common.{ℕ, ◌-◌, length, get_or, ap, ◌∙◌, rules}
-use Rattle.stored.specs.Columns.{byte_after}
-use Rattle.stored.proofs.Columns.{Filled, filled_none, filled_more, filled-less, filled-done}
+use Rattle.std.proofs.Common.{ℕ, get_or, ap, ◌∙◌}
+use Rattle.stored.proofs.Columns.{filled_none, filled_more, filled-less, filled-done}
 use Rattle.stored.proofs.raws.Goals as goal
 
 pub loop-j-init : goal.loop-j-init

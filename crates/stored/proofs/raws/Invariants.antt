@@ -1,7 +1,7 @@
 -- `stored::raws` meets its contract. Assumes nothing.
-use Rattle.std.proofs.Common.{ℕ, ◌-◌, length, get_or, ap, ◌∙◌, rules}
+use Rattle.std.proofs.Common.{◌-◌, length}
 use Rattle.stored.specs.Columns.{byte_after}
-use Rattle.stored.proofs.Columns.{Filled, filled_none, filled_more, filled-less, filled-done}
+use Rattle.stored.proofs.Columns.{Filled}
 use Rattle.stored.proofs.raws.Given as goal
 
 abbrev pub invariant-loop-j : goal.invariant-loop-j

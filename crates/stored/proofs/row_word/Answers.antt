@@ -1,5 +1,5 @@
 -- `stored::row_word` meets its contract. Assumes nothing.
-use Rattle.std.proofs.Common.{◌*◌, ◌/◌, Bool, cond, sym, ap, ◌∙◌, rules, eq-eqb, ne_eqb}
+use Rattle.std.proofs.Common.{◌*◌, ◌/◌, Bool, cond, sym, ap, ◌∙◌, eq-eqb, ne_eqb}
 use Rattle.stored.specs.Numbers.{further, little_at}
 use Rattle.stored.proofs.row_word.Goals as goal
 

@@ -1,7 +1,5 @@
 -- `stored::rows` meets its contract. Assumes nothing.
-use Rattle.std.proofs.Common.{◌-◌, length, rules}
-use Rattle.stored.specs.Columns.{row_word}
-use Rattle.stored.proofs.Columns.{Filled, filled_none, filled_more, filled-less, filled-done}
+use Rattle.stored.proofs.Columns.{filled_none, filled_more, filled-less, filled-done}
 use Rattle.stored.proofs.rows.Goals as goal
 
 pub loop-j-init : goal.loop-j-init

@@ -1,7 +1,7 @@
 -- `stored::rows` meets its contract. Assumes nothing.
-use Rattle.std.proofs.Common.{◌-◌, length, rules}
+use Rattle.std.proofs.Common.{◌-◌, length}
 use Rattle.stored.specs.Columns.{row_word}
-use Rattle.stored.proofs.Columns.{Filled, filled_none, filled_more, filled-less, filled-done}
+use Rattle.stored.proofs.Columns.{Filled}
 use Rattle.stored.proofs.rows.Given as goal
 
 abbrev pub invariant-loop-j : goal.invariant-loop-j

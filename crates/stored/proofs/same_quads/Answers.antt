@@ -1,6 +1,6 @@
 -- `stored::same_quads` meets its contract. Assumes nothing.
-use Rattle.std.proofs.Common.{◌-◌, length, arith, rules}
-use Rattle.stored.proofs.Columns.{Compared, compared-none, compared-more, differs, agrees, unlike}
+use Rattle.std.proofs.Common.{arith}
+use Rattle.stored.proofs.Columns.{compared-none, compared-more, differs, agrees, unlike}
 use Rattle.stored.proofs.same_quads.Goals as goal
 
 pub loop-j-init : goal.loop-j-init

@@ -1,6 +1,6 @@
 -- `stored::same_shorts` meets its contract. Assumes nothing.
-use Rattle.std.proofs.Common.{◌-◌, length, arith, rules}
-use Rattle.stored.proofs.Columns.{Compared, compared-none, compared-more, differs, agrees, unlike}
+use Rattle.std.proofs.Common.{◌-◌, length}
+use Rattle.stored.proofs.Columns.{Compared}
 use Rattle.stored.proofs.same_shorts.Given as goal
 
 abbrev pub invariant-loop-j : goal.invariant-loop-j

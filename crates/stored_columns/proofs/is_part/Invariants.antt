@@ -1,5 +1,4 @@
 -- `stored_columns::is_part` meets its contract: it is safe and ends. Assumes nothing.
-use borrow.Author.Rules.{rules}
 use Prim.Native.Nat.{◌-◌}
 use Rattle.stored_columns.proofs.is_part.Given as goal
 

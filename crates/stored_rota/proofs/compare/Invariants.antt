@@ -3,7 +3,7 @@ use Rattle.std.proofs.Common.{rules}
 use Rattle.stored_rota.proofs.compare.Given as goal
 
 abbrev pub invariant-loop-left : goal.invariant-loop-left
-invariant-loop-left l = Unit
+invariant-loop-left g l = Unit
 
 abbrev pub decreases-loop-left : goal.decreases-loop-left
-decreases-loop-left l = l.left
+decreases-loop-left g l = l.left

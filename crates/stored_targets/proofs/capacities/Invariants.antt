@@ -1,5 +1,5 @@
 -- `stored_targets::capacities` meets its contract: it is safe and ends. Assumes nothing.
-use Rattle.std.proofs.Common.{◌-◌, ◌≤◌, rules}
+use Rattle.std.proofs.Common.{◌-◌, ◌≤◌}
 use Rattle.stored_targets.proofs.capacities.Given as goal
 
 abbrev pub invariant-loop-j : goal.invariant-loop-j

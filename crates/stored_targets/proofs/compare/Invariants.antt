@@ -1,9 +1,8 @@
 -- `stored_targets::compare` meets its contract: it is safe and ends. Assumes nothing.
-use Rattle.std.proofs.Common.{rules}
 use Rattle.stored_targets.proofs.compare.Given as goal
 
 abbrev pub invariant-loop-turns : goal.invariant-loop-turns
-invariant-loop-turns l = Unit
+invariant-loop-turns g l = Unit
 
 abbrev pub decreases-loop-turns : goal.decreases-loop-turns
-decreases-loop-turns l = l.turns
+decreases-loop-turns g l = l.turns

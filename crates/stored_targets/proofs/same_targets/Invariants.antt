@@ -1,5 +1,5 @@
 -- `stored_targets::same_targets` meets its contract: it is safe and ends. Assumes nothing.
-use Rattle.std.proofs.Common.{◌-◌, ◌≤◌, rules}
+use Rattle.std.proofs.Common.{◌-◌, ◌≤◌}
 use Rattle.stored_targets.proofs.same_targets.Given as goal
 
 abbrev pub invariant-loop-k : goal.invariant-loop-k

@@ -1,9 +1,8 @@
 -- `stored_units::compare` meets its contract: it is safe and ends. Assumes nothing.
-use borrow.Author.Rules.{rules}
 use Rattle.stored_units.proofs.compare.Given as goal
 
 abbrev pub invariant-loop-left : goal.invariant-loop-left
-invariant-loop-left l = Unit
+invariant-loop-left g l = Unit
 
 abbrev pub decreases-loop-left : goal.decreases-loop-left
-decreases-loop-left l = l.left
+decreases-loop-left g l = l.left

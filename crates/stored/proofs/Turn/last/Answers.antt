@@ -1,5 +1,5 @@
 -- `stored::Turn::last` meets its contract. Assumes nothing.
-use Rattle.std.proofs.Common.{Bool, cond, sym, refl, ap, ◌∙◌, rules, eq-eqb, ne_eqb}
+use Rattle.std.proofs.Common.{Bool, cond, sym, refl, ap, ◌∙◌, eq-eqb, ne_eqb}
 use Rattle.stored.specs.Numbers.{further}
 use Rattle.stored.proofs.Turn.last.Goals as goal
 
