@@ -1,2 +1,3 @@
--- The proofs of a reader of runs: Listing, the columns of all runs.
+-- The proofs of a reader of runs: Readers, a reader taken apart; Listing, the columns of all runs.
 pub mod Listing
+pub mod Readers
