@@ -1,5 +1,7 @@
 // The published owners and the draft's side by side, over the same slots. A manager reads the published column where a slot is frozen
 // and the draft elsewhere; draws are played on the draft alone.
+#![tactic(auto)]
+
 ghost use Rattle.std.specs.Prelude.{◌≡◌, ◌+◌, ◌≤◌, ◌<◌, length, get_or};
 ghost use Rattle.paper.specs.Limits.{number_of};
 ghost use Rattle.paper.specs.Rows.{refusal_of};

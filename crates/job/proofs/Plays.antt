@@ -4,32 +4,27 @@ use mathlib.Core.Bool.{Bool, true}
 use mathlib.Core.List.{List}
 use Prim.Native.Nat.{ℕ, ◌+◌, ◌≤◌, ◌<◌}
 use native.Mathlib.Omega.{arith}
-use borrow.Author.Tests.{le-leb}
 use lib.Dec.{eqb}
-use lib.ListN.{length, get_or, replicate, length-replicate}
+use lib.ListN.{get_or, replicate, length-replicate}
 use Rattle.paper.specs.Limits.{nobody, number_of}
-use Rattle.paper.proofs.Rows.{all_pass, said}
+use Rattle.paper.proofs.Rows.{said}
 use Rattle.paper.specs.Rows.{unless}
 use Rattle.paper.specs.Count.{sum}
-use Rattle.paper.proofs.Count.{each_all}
 use Rattle.slotset.specs.Slots.{slot}
-use Rattle.slots.specs.Lent.{demand_of, minutes_as}
-use Rattle.slots.specs.declared.Minutes.TheVariants as minutes
+use Rattle.slots.specs.Lent.{demand_of}
 use Rattle.owners.specs.Derived.{Plan, Derived, known_by, worked, uncovered, total_of, afresh}
 use Rattle.owners.specs.Inside.{PlanSound}
-use Rattle.owners.specs.Recount.{available_for, known_at, recounts}
+use Rattle.owners.specs.Recount.{available_for, recounts}
 use Rattle.rota.specs.Moves.{Draw}
 use Rattle.rota.specs.Plays.{draws_of, owners_after}
 use Rattle.rota.specs.Lent.{board_of}
 use Rattle.owners.specs.Entries as state
 use Rattle.rota.specs.Entries as rota
-use Rattle.rota.proofs.Plays.{play-length}
 use Rattle.rota.proofs.Entered.{PlayAsks, play-asks}
 use Rattle.owners.proofs.Entered.{Recounted, recount-says}
 use Rattle.rota.proofs.Promises as promises
 use Rattle.job.specs.Stages.{Ready, Draws, plan_of, play_of}
 use Rattle.job.proofs.Prepares.{when-none}
-use Rattle.job.proofs.Passing.{lent-room}
 
 module _ (R : Ready) (d : Draws) (o : List ℕ) (D : Derived) (e : (play_of R d o D).refusal.number ≡ 0) where
   abbrev P : Plan

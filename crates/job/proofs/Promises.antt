@@ -20,11 +20,9 @@ use Rattle.paper.proofs.Logic.{by-test, both, or_right}
 use Rattle.paper.proofs.Count.{all-each, sum-part, sum_same}
 use Rattle.slots.proofs.LentLaws.{slots-sound}
 use Rattle.targets.specs.Remainder.{sumℤ}
-use Rattle.slots.specs.declared.Minutes.TheVariants as minutes
 use Rattle.owners.specs.Derived.{known_by, uncovered}
 use Rattle.owners.proofs.Minutes.{known-below}
 use Rattle.owners.specs.Recount.{available_for}
-use Rattle.owners.specs.Entries as state
 use Rattle.job.specs.declared.JobAnswer.{JobAnswer}
 use Rattle.job.specs.declared.JobAnswer.TheVariants as answer
 use Rattle.records.specs.Fields.{le}

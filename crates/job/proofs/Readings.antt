@@ -6,13 +6,13 @@ use mathlib.Core.List.{List}
 use Prim.Native.Nat.{ℕ, ◌+◌, ◌*◌, ◌≤◌, ◌<◌}
 use native.Mathlib.Omega.{arith}
 use borrow.Author.Tests.{leb-true, eqb-true}
-use lib.Dec.{leb, eqb, lit<, lit≤}
+use lib.Dec.{eqb, lit<, lit≤}
 use lib.Ieee.{Float}
 use lib.IntN.{ℤ, pos}
 use lib.ListN.{length, get_or, replicate}
 use Rattle.paper.specs.Limits.{number_of}
 use Rattle.paper.proofs.Rows.{passed}
-use Rattle.paper.proofs.Logic.{by-test, both, cond-zero, lt-or-ge, people-says, slot-count-says}
+use Rattle.paper.proofs.Logic.{by-test, both, lt-or-ge, people-says, slot-count-says}
 use Rattle.paper.specs.Rows.{unless, refusal_of}
 use Rattle.slotset.specs.declared.Number.TheVariants as number
 use Rattle.slots.specs.Ranges.{Ranges, ranges}

@@ -11,7 +11,6 @@ use Rattle.paper.specs.Limits.{Test, number_of}
 use Rattle.paper.specs.declared.Refusal.{Refusal}
 use Rattle.paper.specs.Rows.{refusal_of}
 use Rattle.paper.proofs.Rows.{said, worked, kept}
-use Rattle.slots.specs.declared.Minutes.{Minutes}
 use Rattle.owners.specs.Derived.{Derived, derived}
 use Rattle.owners.specs.Entries as state
 use Rattle.owners.proofs.RecountRefusals.{first_stops}
@@ -21,13 +20,12 @@ use Rattle.job.specs.declared.Prepared.{Prepared}
 use Rattle.job.specs.declared.Played.{Played}
 use Rattle.job.specs.File.{file_ok}
 use Rattle.job.specs.Listing.{Listed, listed, listing_of, listing_most}
-use Rattle.job.specs.Stages.{counted, people_of, draws_of, Ready, ready_of, owners_of, plan_of, play_of, started_of, played_of, listed_of}
+use Rattle.job.specs.Stages.{counted, people_of, draws_of, Ready, ready_of, owners_of, play_of, played_of, listed_of}
 use Rattle.job.specs.Stages.{uneven_of}
 use Rattle.job.specs.Outcome.{AllPass, read_row, prepare_row, job_tests, refusal_at, Result, refused_as, listed_as, job_result, Ends}
 use Rattle.job.specs.Inside.{PlayedAs, ready_by, PreparedAs}
 use Rattle.job.proofs.Tests.{Numbered, number-none, refusal-by, rest-number}
-use Rattle.job.proofs.Answered.{numbered, free, sound, targets-right}
-use Rattle.job.proofs.Rotas.{play-refusal}
+use Rattle.job.proofs.Answered.{numbered, targets-right}
 
 -- ---- what is answered
 

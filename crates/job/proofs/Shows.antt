@@ -9,7 +9,7 @@ use lib.IntN.{ℤ, pos}
 use lib.Signed.{mag}
 use lib.ListN.{length, get_or, length-append}
 use Rattle.paper.specs.declared.Refusal.{Refusal}
-use Rattle.paper.specs.Limits.{Test, test, people_ok, slot_count_ok}
+use Rattle.paper.specs.Limits.{Test, test}
 use Rattle.paper.specs.Rows.{accepted, refusal_of, next, unless}
 use Rattle.paper.proofs.Rows.{link, ends, checked, renamed, said, passed, worked, kept}
 use Rattle.paper.proofs.Logic.{people-says, slot-count-says}

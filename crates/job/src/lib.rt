@@ -1,4 +1,6 @@
 // A job file in, its listing out, all on lent slices.
+#![tactic(auto)]
+
 mod columns;
 mod fields;
 mod file;

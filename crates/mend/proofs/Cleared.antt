@@ -11,10 +11,10 @@ use lib.ListN.{length, get_or, set}
 use Rattle.paper.specs.Limits.{nobody}
 use Rattle.paper.specs.Count.{all, all_in, over, fill}
 use Rattle.paper.proofs.Logic.{by-test, below_suc}
-use Rattle.paper.proofs.Count.{in-same, length_over, over-more, get_d_over, get_d-over-out, length-fill, get_d-fill-in, get_d-fill-out}
+use Rattle.paper.proofs.Count.{in-same, over-more, get_d-over-out, length-fill, get_d-fill-in, get_d-fill-out}
 use Rattle.units.specs.Units.{unit_start, unit_end, units_ok, InUnit}
 use Rattle.units.proofs.Units.{unit-some, unit-only}
-use Rattle.owners.specs.Derived.{Plan, known_by}
+use Rattle.owners.specs.Derived.{known_by}
 use Rattle.owners.specs.Recount.{first_fail, known_at, available_for, available_at, even_at}
 use Rattle.owners.proofs.Scans.{scan-test}
 use Rattle.mend.specs.Mended.{may_keep, left_to, barred_cleared, vacated, uneven_cleared}

@@ -2,7 +2,7 @@
 use mathlib.Core.Path.{◌≡◌, refl, sym, ap, ap₂, subst, ◌∙◌}
 use mathlib.Core.Bool.{Bool, true, false, cond}
 use mathlib.Core.List.{List, [], ◌∷◌, ◌++◌}
-use Prim.Native.Nat.{ℕ, zero, suc, ◌+◌, ◌*◌, ◌≤◌, ◌<◌}
+use Prim.Native.Nat.{ℕ, zero, suc, ◌*◌, ◌≤◌, ◌<◌}
 use native.Mathlib.Omega.{arith}
 use borrow.Author.Tests.{leb-true, le-leb, lt-leb}
 use lib.Dec.{leb}
@@ -27,7 +27,7 @@ use Rattle.mend.specs.Repairs.{Rota, rota, column, entries, flag_of, Repair, rep
 use Rattle.mend.specs.Answers.{mended_rota, repairs_due, found_row, mend_row, Outcome, mending, Ended}
 use Rattle.mend.specs.Inside.{how_many, taken_over, Mendable, NewRoom, WorkedOut, write_out}
 use Rattle.mend.proofs.Kept.{mended-length, mended-past}
-use Rattle.mend.proofs.ListLaws.{repairs-same, many-few, many-listed}
+use Rattle.mend.proofs.ListLaws.{repairs-same, many-listed}
 use Rattle.mend.proofs.Made.{copied_is, rota-same, sets-past}
 
 -- ---- a row that goes on from another, by its number

@@ -1,20 +1,17 @@
 -- What each slot of the mended owners is: it keeps its owner, or is nobody's. Assumes nothing.
 use mathlib.Core.Path.{◌≡◌, refl, sym, ap, ap₂, ◌∙◌}
-use mathlib.Core.Logic.{⊎_elim}
 use mathlib.Core.Bool.{Bool, true, false, cond, ◌&&◌}
 use mathlib.Core.List.{List}
-use Prim.Native.Nat.{ℕ, zero, suc, ◌+◌, ◌-◌, ◌≤◌, ◌<◌}
+use Prim.Native.Nat.{ℕ, zero, suc, ◌≤◌, ◌<◌}
 use native.Mathlib.Omega.{arith}
 use borrow.Author.Tests.{eqb-true, eq-eqb}
 use lib.Dec.{eqb}
 use lib.ListN.{length, get_or}
-use lib.Seq.{ext_get_or}
 use Rattle.paper.specs.Limits.{nobody}
-use Rattle.paper.specs.Count.{all, all_in, over}
-use Rattle.paper.proofs.Logic.{by-test, both, and-true, lt-or-ge}
-use Rattle.paper.proofs.Count.{all-each, in-each, each_in, length_over, get_d_over, get_d-over-out, over-right}
+use Rattle.paper.proofs.Logic.{by-test, both, and-true}
+use Rattle.paper.proofs.Count.{in-each, each_in, length_over, get_d_over, get_d-over-out, over-right}
 use Rattle.units.specs.Units.{unit_start, unit_end, units_ok, InUnit, unit_of}
-use Rattle.units.proofs.Units.{unit-some, unit-within, unit-of-in, unit-of-only}
+use Rattle.units.proofs.Units.{unit-some, unit-within, unit-of-in}
 use Rattle.owners.specs.Derived.{Plan, known_by}
 use Rattle.owners.specs.Recount.{available_for, known_at, available_at, even_at}
 use Rattle.owners.proofs.Minutes.{known-nobody}

@@ -1,17 +1,14 @@
 -- What is worked out beside what was found, and written where that stood. Assumes nothing.
-use mathlib.Core.Path.{◌≡◌, refl, sym, ap, ap₂, subst, ◌∙◌}
+use mathlib.Core.Path.{◌≡◌, refl, sym, ap, ap₂, ◌∙◌}
 use mathlib.Core.Logic.{⊎_elim}
-use mathlib.Core.Bool.{Bool, true}
 use mathlib.Core.List.{List, []}
-use Prim.Native.Nat.{ℕ, zero, suc, ◌+◌, ◌-◌, ◌*◌, ◌/◌, ◌%◌, ◌≤◌, ◌<◌}
+use Prim.Native.Nat.{ℕ, zero, suc, ◌+◌, ◌*◌, ◌/◌, ◌%◌, ◌≤◌, ◌<◌}
 use native.Mathlib.Omega.{arith}
 use borrow.Author.Tests.{eqb-true, eqb-false, le-leb}
-use lib.Dec.{eqb, leb}
-use lib.ListN.{length, get_or, set, length-set}
+use lib.Dec.{eqb}
+use lib.ListN.{length, get_or, set}
 use lib.Seq.{ext_get_or, get_or-set_same, get_or-set_other}
 use Rattle.paper.specs.Limits.{number_of}
-use Rattle.paper.specs.declared.Refusal.{Refusal}
-use Rattle.paper.specs.Count.{all, over}
 use Rattle.paper.proofs.Logic.{by-test, lt-or-ge}
 use Rattle.paper.proofs.Count.{each_all, length_over, over_none, over-more, get_d_over, get_d-over-out}
 use Rattle.paper.proofs.Rows.{all_pass, worked}
@@ -24,12 +21,10 @@ use Rattle.owners.proofs.Steps.{derived-same}
 use Rattle.owners.proofs.Made.{afresh-owners}
 use Rattle.owners.specs.Entries.{lent_row, placeless, outcome, Ended, from_slots_row, from_slots}
 use Rattle.owners.specs.Recount.{known_at, available_at}
-use Rattle.units.specs.Units.{units_ok}
 use Rattle.mend.specs.Mended.{barred_cleared, uneven_cleared, mended}
 use Rattle.mend.specs.Repairs.{Rota, rota}
 use Rattle.mend.specs.Inside.{copied, Mendable, NewRoom, WorkedOut}
-use Rattle.mend.proofs.Cleared.{uneven-length}
-use Rattle.mend.proofs.Kept.{barred-length, mended-length, mended-known, mended-available, mended-same}
+use Rattle.mend.proofs.Kept.{mended-length, mended-known, mended-available, mended-same}
 
 -- ---- columns copied
 

@@ -1,28 +1,23 @@
 -- What mending comes to: the result passes the recount, what passed is left alone, and twice is once. Assumes nothing.
-use mathlib.Core.Path.{◌≡◌, refl, sym, ap, ap₂, subst, ◌∙◌}
+use mathlib.Core.Path.{◌≡◌, refl, sym, ap, ◌∙◌}
 use mathlib.Core.Bool.{Bool, true, cond}
 use mathlib.Core.List.{List, [], ◌∷◌, ◌++◌}
-use Prim.Native.Nat.{ℕ, zero, suc, ◌*◌, ◌≤◌, ◌<◌}
+use Prim.Native.Nat.{ℕ, zero, suc, ◌*◌, ◌≤◌}
 use native.Mathlib.Omega.{arith}
 use borrow.Author.Tests.{eq-eqb}
 use lib.Dec.{eqb, leb}
 use lib.ListN.{length, get_or}
 use Rattle.paper.specs.Limits.{Test, test, number_of}
 use Rattle.paper.specs.declared.Refusal.{Refusal}
-use Rattle.paper.specs.Count.{over, onto}
-use Rattle.paper.proofs.Count.{each_in, length_over, get_d-over-out}
-use Rattle.paper.proofs.Rows.{numbered, said, passed, worked, all_pass}
-use Rattle.slotset.specs.declared.Number.TheVariants as number
-use Rattle.slotset.specs.Answers.{number_as}
+use Rattle.paper.proofs.Count.{each_in, get_d-over-out}
+use Rattle.paper.proofs.Rows.{said, passed, all_pass}
 use Rattle.slotset.proofs.Puts.{Fit}
 use Rattle.units.specs.Units.{unit_start, unit_end, units_ok}
-use Rattle.units.proofs.Units.{units-room}
 use Rattle.owners.specs.Derived.{Plan, Derived, derived, sets_from, total_of, afresh}
 use Rattle.owners.specs.Derived as figures
 use Rattle.owners.specs.Recount.{even_at, recount_tests, recounts}
 use Rattle.owners.specs.Entries.{lent_row, recount_row}
 use Rattle.owners.specs.Inside.{InStep}
-use Rattle.owners.proofs.Sets.{length-sets}
 use Rattle.owners.proofs.Steps.{afresh-same, afresh-step, afresh-fit, afresh-lengths}
 use Rattle.owners.proofs.RecountRefusals.{first_on}
 use Rattle.owners.proofs.Entered.{Recounted, recount-says, says-recount, recount-number}

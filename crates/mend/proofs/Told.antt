@@ -1,20 +1,19 @@
 -- The list of repairs tells exactly what differs; applied it gives the new rota, and undone the one that was found. Assumes nothing.
 use mathlib.Core.Path.{◌≡◌, refl, sym, ap, ap₂, subst, ◌∙◌}
-use mathlib.Core.Logic.{◌⊎◌, inl, inr, ⊎_elim}
+use mathlib.Core.Logic.{inl, inr, ⊎_elim}
 use mathlib.Core.Bool.{Bool, true, false, not}
 use mathlib.Core.List.{List, [], ◌∷◌, ◌++◌}
-use Prim.Native.Nat.{ℕ, zero, suc, ◌+◌, ◌≤◌, ◌<◌}
+use Prim.Native.Nat.{ℕ, zero, suc, ◌≤◌, ◌<◌}
 use native.Mathlib.Numerals.{add-one}
 use native.Mathlib.Omega.{arith}
-use borrow.Author.Tests.{eq-eqb, ne_eqb, eqb-true}
+use borrow.Author.Tests.{eq-eqb, eqb-true}
 use lib.Dec.{eqb}
 use lib.ListN.{length, get_or, set}
 use lib.Seq.{ext_get_or, set-get_or}
 use Rattle.paper.specs.Count.{over}
 use Rattle.paper.proofs.Logic.{by-test, below_suc, lt-or-ge}
 use Rattle.paper.proofs.Count.{over_none, over-more, length_over, get_d_over, get_d-over-out}
-use Rattle.owners.specs.Derived.{derived}
-use Rattle.mend.specs.Repairs.{Rota, rota, column, entries, flag_of, Repair, differs_at, repair_at, repairs_of, repairs_in, repairs}
+use Rattle.mend.specs.Repairs.{Rota, column, entries, flag_of, Repair, differs_at, repair_at, repairs_of, repairs_in, repairs}
 use Rattle.mend.specs.Repairs.{Says, Before, Each, Some, Rises, Tells, with_column, put, carried, applied, undone}
 use Rattle.mend.proofs.ListLaws.{differs-no, differs-yes, repairs-none, repairs-in, repairs-out}
 

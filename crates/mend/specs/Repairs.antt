@@ -1,5 +1,5 @@
 -- The list of repairs: every place at which what was found and what is mended differ, with both. Assumes nothing.
-use Rattle.std.specs.Prelude.{◌≡◌, ◌⊎◌, Bool, true, not, List, [], ◌∷◌, ◌++◌, map, ℕ, zero, suc, ◌*◌, ◌<◌, eqb, get_or, set}
+use Rattle.std.specs.Prelude.{◌≡◌, ◌⊎◌, Bool, not, List, [], ◌∷◌, ◌++◌, map, ℕ, zero, suc, ◌*◌, ◌<◌, eqb, get_or, set}
 use Rattle.paper.specs.Count.{among}
 use Rattle.slotset.specs.Slots.{slot}
 use Rattle.owners.specs.Derived.{Derived, derived}

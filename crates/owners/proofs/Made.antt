@@ -1,5 +1,5 @@
 -- Sets, minutes and totals made from owners, a stretch at a time. Assumes nothing.
-use Rattle.std.proofs.Common.{◌≡◌, ℕ, zero, suc, ◌+◌, ◌-◌, ◌*◌, ◌<◌, ◌≤◌, Bool, true, List, [], length, get_or, sym, refl, ap, ◌∙◌, subst, ap₂, ⊎_elim, zero-le, add-one, arith}
+use Rattle.std.proofs.Common.{◌≡◌, ℕ, zero, suc, ◌+◌, ◌-◌, ◌*◌, ◌<◌, ◌≤◌, true, List, [], length, get_or, sym, refl, ap, ◌∙◌, subst, ap₂, ⊎_elim, zero-le, add-one, arith}
 use lib.ListN.{get_or-replicate}
 use Rattle.paper.specs.Limits.{nobody}
 use Rattle.paper.specs.Count.{over, fill}

@@ -14,7 +14,7 @@ use Rattle.slotset.specs.Slots.{slot, same_slots}
 use Rattle.slotset.specs.declared.YesNo.TheVariants as yes_no
 use Rattle.slotset.specs.Answers.{same_sets, same_sets_row, yes_no_as}
 use Rattle.slotset.proofs.Refusals.{says_same}
-use Rattle.owners.specs.Derived.{Plan, Derived, derived, worked, total_of, held, sets_from, afresh}
+use Rattle.owners.specs.Derived.{Plan, Derived, derived, worked, total_of, sets_from, afresh}
 use Rattle.owners.specs.Inside.{PlanSound, Makes, is_yes, same_set, same_entry}
 use Rattle.owners.specs.Recount.{first_fail, known_at, available_at, even_at, set_slot_at, set_at, minutes_ok_at, total_ok_at}
 use Rattle.owners.specs.Recount.{derived_tests, recount_tests}

@@ -1,5 +1,5 @@
 -- The laws of scans that answer their first fault. Assumes nothing.
-use Rattle.std.proofs.Common.{◌≡◌, ℕ, zero, suc, ◌+◌, ◌-◌, ◌*◌, ◌%◌, ◌^◌, ◌<◌, ◌≤◌, max, Bool, true, false, cond, not, ◌&&◌, eqb, ltb, List, length, get_or, sym, refl, ap, ◌∙◌, ap₂, ⊎_elim, le_antisymm, arith, ltb-true, le-ltb, lt-ltb, eq-eqb, ne_eqb}
+use Rattle.std.proofs.Common.{◌≡◌, ℕ, zero, suc, ◌+◌, ◌-◌, ◌*◌, ◌%◌, ◌^◌, ◌<◌, ◌≤◌, max, Bool, true, false, cond, not, ◌&&◌, eqb, ltb, List, get_or, sym, refl, ap, ◌∙◌, ap₂, ⊎_elim, le_antisymm, arith, ltb-true, le-ltb, lt-ltb, eq-eqb, ne_eqb}
 use Rattle.paper.specs.Limits.{nobody}
 use Rattle.paper.specs.Count.{all, all_in, sum}
 use Rattle.paper.proofs.Logic.{by-test, lt-or-ge, below_suc, both, or_left, or-second, or-either}

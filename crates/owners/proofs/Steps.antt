@@ -1,5 +1,5 @@
 -- A rota stays in step: worked out afresh, and when a stretch of slots changes hands. Assumes nothing.
-use Rattle.std.proofs.Common.{◌≡◌, ℕ, ◌+◌, ◌-◌, ◌*◌, ◌^◌, ◌<◌, ◌≤◌, Bool, true, cond, eqb, List, length, get_or, set, sym, ap, ◌∙◌, subst, ap₂, ⊎_elim, mod-eq_of_lt, arith, length-set, get_or-set_other, get_or-set_same, ext_get_or, eqb-true}
+use Rattle.std.proofs.Common.{◌≡◌, ℕ, ◌+◌, ◌-◌, ◌*◌, ◌^◌, ◌<◌, ◌≤◌, true, cond, eqb, List, length, get_or, set, sym, ap, ◌∙◌, subst, ap₂, ⊎_elim, mod-eq_of_lt, arith, length-set, get_or-set_other, get_or-set_same, ext_get_or, eqb-true}
 use native.Mathlib.Nat.{mod-add-mod}
 use borrow.Author.Tests.{eqb-false}
 use Rattle.paper.specs.Limits.{nobody}

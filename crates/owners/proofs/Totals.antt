@@ -1,5 +1,5 @@
 -- The two totals: their entries after a stretch was taken or given, in place and worked out afresh. Assumes nothing.
-use Rattle.std.proofs.Common.{◌≡◌, ℕ, zero, suc, ◌+◌, ◌-◌, ◌^◌, ◌<◌, ◌≤◌, Bool, true, cond, eqb, List, length, get_or, set, sym, refl, ap, ◌∙◌, ap₂, mod-eq_of_lt, arith, length-set, get_or-set_other, eqb-true}
+use Rattle.std.proofs.Common.{◌≡◌, ℕ, zero, suc, ◌+◌, ◌-◌, ◌^◌, ◌<◌, ◌≤◌, Bool, cond, eqb, List, length, get_or, set, refl, ap, ◌∙◌, ap₂, mod-eq_of_lt, arith, length-set, get_or-set_other, eqb-true}
 use borrow.Author.Tests.{eqb-false}
 use Rattle.paper.specs.Limits.{nobody}
 use Rattle.paper.specs.Count.{sum, count, over, fill}

@@ -1,5 +1,5 @@
 -- What is worked out from owners: each person's set of slots and minutes, and the totals of what nobody owns. Assumes nothing.
-use Rattle.std.specs.Prelude.{ℕ, zero, suc, ◌+◌, ◌-◌, ◌*◌, ◌%◌, ◌^◌, Bool, cond, ◌||◌, List, set, replicate, ◌==◌, nat_eq, nat_lt, slice_index, slice_set}
+use Rattle.std.specs.Prelude.{ℕ, zero, suc, ◌+◌, ◌-◌, ◌*◌, ◌%◌, ◌^◌, Bool, cond, ◌||◌, List, replicate, ◌==◌, nat_eq, nat_lt, slice_index, slice_set}
 use Rattle.paper.specs.Limits.{nobody}
 use Rattle.paper.specs.Count.{sum, sum_in, count, over}
 use Rattle.slotset.specs.Slots.{put_slots}

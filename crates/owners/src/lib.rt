@@ -1,4 +1,6 @@
 // Owners of slots, and what is derived from them: each person's set of slots and minutes; made, read, handed over and recounted.
+#![tactic(auto)]
+
 mod checks;
 mod derived;
 mod entries;

@@ -1,6 +1,5 @@
 -- How empty answers are shut out: each breaks a promise, by a witness. Assumes nothing.
-use mathlib.Core.Path.{◌≡◌, refl, sym, ap, ap₂, ◌∙◌, subst}
-use mathlib.Core.Bool.{Bool, true, false, cond}
+use mathlib.Core.Path.{◌≡◌, refl, sym, ap, ◌∙◌, subst}
 use mathlib.Core.List.{List, [], ◌∷◌}
 use Prim.Native.Nat.{ℕ, ◌+◌, ◌≤◌, ◌<◌}
 use native.Mathlib.Decide.{ℕ_discrete}
@@ -10,7 +9,6 @@ use lib.IntN.{ℤ, pos}
 use lib.ListN.{length, get_or, replicate, length-replicate}
 use native.Mathlib.Nat.{le_of_eq}
 use Rattle.paper.specs.Bits.{bit_of}
-use Rattle.paper.proofs.Logic.{by-test}
 use Rattle.paper.proofs.Rows.{kept}
 use Rattle.paper.specs.Count.{all, all_in, sum, count, over, fill, among}
 use Rattle.slotset.specs.declared.Found.TheVariants.{At, Nothing}
@@ -20,7 +18,7 @@ use Rattle.slotset.specs.declared.Number.TheVariants as number
 use Rattle.paper.specs.Limits.{people_ok, slot_count_ok, number_of}
 use Rattle.paper.specs.Rows.{unless}
 use Rattle.slotset.specs.declared.SlotSet.{SlotSet}
-use Rattle.slotset.specs.Slots.{Bits, slot, with_bit, put_slot, put_slots, has}
+use Rattle.slotset.specs.Slots.{Bits, slot, with_bit, put_slot, put_slots}
 use Rattle.slotset.specs.Runs.{Around}
 use Rattle.slotset.specs.Answers.{length_row, sets_row, person_row, slots_of, run_as, Holds, changed_as, load_of}
 use Rattle.slotset.proofs.Puts.{slot_lt}

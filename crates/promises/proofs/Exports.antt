@@ -1,12 +1,12 @@
 -- What a C caller reads is what was meant. Assumes nothing.
-use mathlib.Core.Path.{◌≡◌, refl, sym, ap, ◌∙◌}
-use mathlib.Core.Bool.{Bool, true, false, cond}
-use mathlib.Core.List.{List, [], ◌∷◌, ◌++◌}
+use mathlib.Core.Path.{◌≡◌, refl, ap, ◌∙◌}
+use mathlib.Core.Bool.{Bool, false, cond}
+use mathlib.Core.List.{List, [], ◌∷◌}
 use mathlib.Core.Logic.{⊎_elim}
 use Prim.Native.Nat.{ℕ, zero, suc, ◌+◌, ◌-◌, ◌*◌, ◌≤◌, ◌<◌}
 use native.Mathlib.Omega.{arith}
-use borrow.Author.Tests.{eq-eqb, ne_eqb, eqb-true, eqb-false, leb-true, lt-ltb, le-ltb, ltb-true}
-use lib.Dec.{eqb, ltb, leb}
+use borrow.Author.Tests.{ne_eqb, eqb-true, eqb-false, leb-true, lt-ltb, le-ltb, ltb-true}
+use lib.Dec.{eqb, ltb}
 use lib.ListN.{length, get_or, length-append}
 use Rattle.paper.specs.Limits.{nobody, number_of}
 use Rattle.paper.specs.Rows.{unless}
@@ -17,7 +17,6 @@ use Rattle.paper.proofs.Rows.{passed}
 use Rattle.slotset.specs.declared.Found.{Found}
 use Rattle.slotset.specs.declared.Found.TheVariants as found
 use Rattle.slotset.specs.declared.YesNo.TheVariants as yes_no
-use Rattle.slotset.specs.declared.Number.{Number}
 use Rattle.slotset.specs.declared.Number.TheVariants as number
 use Rattle.slotset.specs.declared.Run.{Run}
 use Rattle.slotset.specs.declared.Run.TheVariants as run
@@ -25,7 +24,7 @@ use Rattle.slotset.specs.declared.NextRun.{NextRun}
 use Rattle.slotset.specs.declared.NextRun.TheVariants as next_run
 use Rattle.slotset.specs.declared.NextMember.{NextMember}
 use Rattle.slotset.specs.declared.NextMember.TheVariants as next_member
-use Rattle.slotset.specs.Slots.{size, has}
+use Rattle.slotset.specs.Slots.{size}
 use Rattle.slotset.specs.Search.{next_with, last_below, next_set, First, Last}
 use Rattle.slotset.specs.Runs.{first_around, last_around}
 use Rattle.slotset.specs.Answers.{sets_row, person_row, row_slots, found_as, yes_no_as, number_as, run_as, stretch_as, run_step, next_run_as, member_step}
@@ -48,11 +47,11 @@ use Rattle.units.specs.Domains.{available, able, domain, slot_domain, unit_domai
 use Rattle.units.proofs.Units.{units-within, unit-of-in}
 use Rattle.owners.specs.Derived.{unassigned}
 use Rattle.owners.specs.Entries.{owner_row, owner_is, unassigned_row, unassigned_is}
-use Rattle.boltraven_c.specs.Numbers.{found_number, yes_no_number, plain_number, run_number, run_first, run_last}
+use Rattle.boltraven_c.specs.Numbers.{found_number, yes_no_number, run_number, run_first, run_last}
 use Rattle.boltraven_c.specs.Numbers.{next_run_number, next_run_first, next_run_last, next_run_cursor, member_number, member_at, member_cursor}
 use Rattle.boltraven_c.specs.Numbers.{minutes_written}
 use Rattle.boltraven_c.specs.Units.{span_from, span_to}
-use Rattle.promises.specs.Exports.{read_number, read_found, read_told, read_minutes, read_span, read_run, read_next_run, read_member}
+use Rattle.promises.specs.Exports.{read_found, read_told, read_minutes, read_span, read_run, read_next_run, read_member}
 use Rattle.promises.specs.Exports.{Read, ReadsAsMeant}
 use Rattle.promises.proofs.Tests.{known-test}
 use Rattle.promises.proofs.ReadRefusals.{units-back, slots-back, assign-back, play-back, draws-back, job-back}

@@ -1,12 +1,12 @@
 -- The paper's example of a job, worked out by the definitions. Assumes nothing.
 use mathlib.Core.Path.{◌≡◌, refl, sym, ap, ap₂, ◌∙◌, subst}
 use mathlib.Core.Logic.{inr, ⊎_elim}
-use mathlib.Core.Bool.{Bool, true, cond, ◌&&◌}
-use mathlib.Core.List.{List, [], ◌∷◌, ◌++◌, map}
+use mathlib.Core.Bool.{Bool, true, ◌&&◌}
+use mathlib.Core.List.{List, [], ◌∷◌, map}
 use Prim.Native.Nat.{ℕ, suc, ◌-◌, ◌≤◌, ◌<◌}
 use native.Mathlib.Omega.{arith}
 use borrow.Author.Tests.{leb-true, ltb-true, eqb-true}
-use lib.Dec.{eqb, ltb, leb, lit<, lit≤}
+use lib.Dec.{eqb, ltb, leb, lit≤}
 use lib.Ieee.{binary64, of_bits, of_fields, add, sub, mul, div, lt, eq, le, of_int}
 use lib.IntN.{ℤ, pos}
 use lib.ListN.{length, get_or, drop, replicate, set, length-replicate, get_or-eq_default}
@@ -24,7 +24,7 @@ use Rattle.slots.specs.Atomic.{lies_before, is_cut, cut_after, cuts_in, atom_sta
 use Rattle.slots.specs.Availability.{available_bit, rows, availability_row, availability_of}
 use Rattle.units.specs.Settings.{boundary_ok, settings_ok}
 use Rattle.units.specs.Answers.{Written, written_as}
-use Rattle.units.specs.Starts.{every_begins, rotation_begins, unit_begins, unit_starts, starts_row, unit_starts_is}
+use Rattle.units.specs.Starts.{unit_begins, unit_starts, starts_row, unit_starts_is}
 use Rattle.units.specs.Units.{unit_end, start_ok, units_ok}
 use Rattle.units.specs.Domains as domains
 use Rattle.targets.specs.Figures.{figures_ok, all_figures_ok, available_minutes}

@@ -1,7 +1,7 @@
 -- What an accepted job lists is what the records of its file give, field by field. Assumes nothing.
-use mathlib.Core.Path.{◌≡◌, refl, sym, ap, ap₂, ◌∙◌, subst}
+use mathlib.Core.Path.{◌≡◌, refl, sym, ap, ap₂, ◌∙◌}
 use mathlib.Core.Logic.{⊎_elim}
-use mathlib.Core.Bool.{Bool, true, cond, ◌&&◌}
+use mathlib.Core.Bool.{Bool, true, cond}
 use mathlib.Core.List.{List, [], map}
 use Prim.Native.Nat.{ℕ, ◌+◌, ◌*◌, ◌≤◌, ◌<◌}
 use native.Mathlib.Omega.{arith}
@@ -11,21 +11,19 @@ use lib.Ieee.{binary64, of_bits}
 use lib.ListN.{length, get_or, replicate}
 use Rattle.paper.proofs.Rows.{said}
 use Rattle.paper.specs.Limits.{number_of, nobody}
-use Rattle.paper.specs.Count.{all, over}
+use Rattle.paper.specs.Count.{over}
 use Rattle.paper.proofs.Logic.{by-test, lt-or-ge, slot-count-says, people-says}
 use Rattle.paper.proofs.Count.{all-each, over-same}
 use Rattle.slots.specs.Ranges.{ranges}
-use Rattle.units.specs.declared.Settings.{Settings}
 use Rattle.owners.specs.Derived.{known_by}
 use Rattle.owners.proofs.Minutes.{known-below}
 use Rattle.records.specs.Fields.{le}
 use Rattle.records.specs.Records.{bodies}
 use Rattle.job.specs.File.{job_sizes, JobFile}
 use Rattle.job.specs.Columns.{column, float_column}
-use Rattle.job.specs.Listing.{Listed}
 use Rattle.job.specs.Stages.{counted, block_start, people_of, column_of, ranges_of, capacities_of, priors_of, settings_in, instant_of, draws_of}
-use Rattle.job.specs.Stages.{base_of, atoms_of, avail_in, targets_in, units_in, frozen_in, Ready, ready_in, ready_of, placed, record_known, all_known}
-use Rattle.job.specs.Stages.{byte_of, narrowed, written_of, owners_of, start_of, play_of, started_of, played_of, listed_of, owner_value}
+use Rattle.job.specs.Stages.{base_of, atoms_of, avail_in, targets_in, units_in, frozen_in, ready_in, ready_of, record_known, all_known}
+use Rattle.job.specs.Stages.{byte_of, narrowed, written_of, owners_of, start_of, play_of, started_of, played_of, listed_of}
 use Rattle.job.specs.Outcome.{AllPass, read_row, prepare_row, job_tests, Result, refused_as, job_refusal, job_result}
 use Rattle.job.proofs.Layouts.{counts-read, fields_read, settings-read}
 use Rattle.job.proofs.Prepares.{byte_small}

@@ -2,37 +2,35 @@
 use mathlib.Core.Path.{◌≡◌, refl, sym, ap, ◌∙◌, subst}
 use mathlib.Core.Logic.{◌↔◌}
 use mathlib.Core.Bool.{true, false}
-use mathlib.Core.List.{List, []}
+use mathlib.Core.List.{List}
 use Prim.Native.Nat.{ℕ, ◌≤◌, ◌<◌}
 use native.Mathlib.Omega.{arith}
 use borrow.Author.Tests.{le-leb, leb-true, eq-eqb, eqb-true}
 use lib.Dec.{eqb, leb, lit<}
 use lib.ListN.{length, get_or, replicate, length-replicate}
-use Rattle.paper.specs.Limits.{nobody, number_of}
+use Rattle.paper.specs.Limits.{number_of}
 use Rattle.paper.specs.Count.{all}
 use Rattle.paper.proofs.Logic.{and-true, slot-count-says, people-says}
 use Rattle.paper.proofs.Count.{all-each, each_all, in-each, each_in, get_d_over}
 use Rattle.slots.specs.Lent.{slots_ok}
 use Rattle.slots.specs.Ranges.{ranges_ok}
-use Rattle.slots.specs.Atomic.{Base, starts_of_atoms}
+use Rattle.slots.specs.Atomic.{starts_of_atoms}
 use Rattle.units.specs.Units.{unit_start, unit_end}
 use Rattle.units.proofs.Units.{unit-within}
 use Rattle.targets.specs.Figures.{all_figures_ok}
 use Rattle.units.specs.Settings.{settings_ok}
 use Rattle.owners.specs.Recount.{even_at, available_for, available_at}
-use Rattle.records.specs.Fields.{Bytes}
 use Rattle.records.specs.Records.{bodies}
-use Rattle.job.specs.File.{file_ok, JobFile}
+use Rattle.job.specs.File.{JobFile}
 use Rattle.job.specs.Stages.{counted, block_start, people_of, job_counts_ok, column_of, ranges_of, capacities_of, priors_of, settings_in, base_of, Ready}
 use Rattle.job.specs.Stages.{ready_of, record_known, all_known, all_even, uneven_in, uneven_of, written_of, owners_of}
 use Rattle.job.specs.Outcome.{test_at, read_row, prepare_row, job_tests}
 use Rattle.job.proofs.Layouts.{rule-13, counts-read}
 use Rattle.job.proofs.Prepares.{few-says}
-use Rattle.job.proofs.Passing.{AtomsSound}
 use Rattle.job.proofs.Answered.{Few, each-few, base-fits, atom_tests, atoms-right, units-there}
 use Rattle.promises.specs.Tests.{SlotsRight, RangesRight, FiguresRight, SettingsRight}
 use Rattle.promises.specs.JobFields.{Given, given_by, owner_in, base_from}
-use Rattle.promises.specs.JobTests.{PassesWhen, PassBefore, CountsRight, LowestFault, UnitEven, OwnersEven, OwnersKnown, OwnersAble}
+use Rattle.promises.specs.JobTests.{PassBefore, CountsRight, LowestFault, UnitEven, OwnersEven, OwnersKnown, OwnersAble}
 use Rattle.promises.specs.JobTests.{JobTestsByRule}
 use Rattle.promises.proofs.Tests.{tests-by-rule, known-test, available-test}
 use Rattle.promises.proofs.Lowest.{right-exactly, lowest-fault}

@@ -6,27 +6,24 @@ use mathlib.Core.List.{List, [], ◌∷◌, ◌++◌, append-nil, append_assoc}
 use Prim.Native.Nat.{ℕ, zero, suc, ◌+◌, ◌≤◌, ◌<◌}
 use native.Mathlib.Omega.{arith}
 use lib.Dec.{eqb}
-use lib.IntN.{ℤ}
 use lib.ListN.{length, get_or, take, drop}
 use lib.Seq.{take_at, drop_at}
 use Rattle.owners.specs.Entries.{placeless}
 use Rattle.paper.specs.declared.Refusal.{Refusal}
 use Rattle.paper.proofs.Logic.{by-test, lt-or-ge}
 use Rattle.records.specs.Puts.{put}
-use Rattle.job.specs.declared.JobAnswer.{JobAnswer}
 use Rattle.job.specs.declared.JobAnswer.TheVariants as answer
 use Rattle.job.specs.File.{JobFile}
 use Rattle.job.specs.Listing.{digits, signed, owner_text, answer_letter, head_text, slot_line, person_line, draw_line, uncovered_line, refusal_line}
 use Rattle.job.specs.Listing.{place_text, part_text}
 use Rattle.job.specs.Listing.{lines, Listed, slot_at, person_at, draw_at, listing_of}
-use Rattle.job.specs.Stages.{listed_of}
 use Rattle.job.specs.Outcome.{Result, refused_as, listed_as, job_refusal, job_length, job_result, refusal_result}
 use Rattle.job.proofs.Digits.{digits_value, digits_decimal, signed-value}
 use Rattle.job.proofs.Results.{answered-none}
 use Rattle.job.proofs.Promises.{listing-stands}
 use Rattle.job.proofs.RefusalLines.{line-short, line-stands}
 use Rattle.promises.specs.JobFields.{given_by, owners_by, listed_from}
-use Rattle.promises.specs.JobText.{line_of, text_of, each, slot_words, person_words, answer_word, draw_words, uncovered_words, lines_of}
+use Rattle.promises.specs.JobText.{line_of, text_of, each, slot_words, person_words, draw_words, uncovered_words, lines_of}
 use Rattle.promises.specs.JobText.{refusal_text, JobText}
 use Rattle.promises.proofs.JobFields.{accepted-none, job-by-records}
 

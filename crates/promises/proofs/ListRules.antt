@@ -8,7 +8,6 @@ use lib.ListN.{length, get_or}
 use Rattle.paper.specs.Bits.{bit_of}
 use Rattle.paper.specs.Count.{all, all_in}
 use Rattle.paper.specs.Limits.{people_ok, slot_count_ok, number_of}
-use Rattle.paper.specs.Rows.{unless}
 use Rattle.paper.proofs.Logic.{lt-or-ge}
 use mathlib.Core.Logic.{⊎_elim}
 use Rattle.slotset.specs.declared.SlotSet.{SlotSet}
@@ -18,7 +17,7 @@ use Rattle.slotset.specs.declared.NextRun.TheVariants as next_run
 use Rattle.slotset.specs.declared.NextRun.{NextRun}
 use Rattle.slotset.specs.declared.Run.{Run}
 use Rattle.slotset.specs.declared.Run.TheVariants.{Span}
-use Rattle.slotset.specs.Slots.{Bits, slot, Member}
+use Rattle.slotset.specs.Slots.{slot}
 use Rattle.slotset.specs.Runs.{Around, Ends, ends_of_runs, AreRuns}
 use Rattle.slotset.specs.Answers.{length_row, sets_row, slots_of, row_slots, run_as, next_run_as}
 use Rattle.slotset.proofs.Puts.{slot_lt}

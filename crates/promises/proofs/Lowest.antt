@@ -8,7 +8,7 @@ use Rattle.paper.specs.Count.{all}
 use Rattle.paper.proofs.Logic.{by-test, lt-or-ge}
 use Rattle.paper.proofs.Count.{all-each, each_all}
 use Rattle.owners.specs.Recount.{first_fail}
-use Rattle.owners.proofs.Scans.{FirstFault, first-is, first-only, first_passes, scan-no}
+use Rattle.owners.proofs.Scans.{first-is, first-only, first_passes, scan-no}
 use Rattle.promises.specs.JobTests.{AllRight, LowestFault}
 
 module _ (n : ℕ) (p : ℕ → Bool) (Right : ℕ → Type 0) (tells : (k : ℕ) → k < n → (p k ≡ true) ↔ Right k) where

@@ -1,15 +1,13 @@
 -- Draws played in any number of calls end as in one. Assumes nothing.
 use mathlib.Core.Path.{◌≡◌, refl, sym, ap, ap₂, subst, ◌∙◌}
 use mathlib.Core.List.{List, [], ◌∷◌, ◌++◌, map, append-nil}
-use Prim.Native.Nat.{ℕ, suc, ◌+◌, ◌*◌, ◌≤◌}
+use Prim.Native.Nat.{ℕ, suc, ◌≤◌}
 use native.Mathlib.Omega.{arith}
 use borrow.Author.Tests.{le-leb}
-use lib.ListN.{length, take, drop, length-append}
+use lib.ListN.{length, take}
 use lib.Seq.{take_at, take-length}
 use Rattle.paper.proofs.Rows.{said as row_number}
-use Rattle.paper.specs.Limits.{draws_most}
 use Rattle.paper.specs.Count.{onto}
-use Rattle.rota.specs.Board.{Board}
 use Rattle.rota.specs.Moves.{Draw}
 use Rattle.rota.specs.Plays.{draws_of, owners_after, answers}
 use Rattle.owners.specs.Derived.{Derived, afresh}
@@ -20,11 +18,11 @@ use Rattle.owners.proofs.Steps.{afresh-again, afresh-fit}
 use Rattle.rota.specs.declared.draws.Draw as struct
 use Rattle.rota.specs.Draws.{numbers, draws, firsts, seconds}
 use Rattle.rota.proofs.Alike.{draws-same}
-use Rattle.promises.specs.Entries.{Call, built, no_of, play_of, afresh_in, board_in, owners_in, draws_in, row_of}
+use Rattle.promises.specs.Entries.{Call, built, no_of, play_of, board_in, draws_in, row_of}
 use Rattle.promises.specs.Rota.{Words}
 use Rattle.promises.specs.ManyCalls.{Part, part_call, draws_of_parts, AllAccepted, last_owners, last_derived, all_answers, EndsAsOne}
-use Rattle.promises.specs.ManyCalls.{PartsEndAsOne, Whole, PlayedAsOne, ManyCalls, StructsCut}
-use Rattle.promises.proofs.Calls.{accepted-is, Accepted, accepted-says, says-accepted}
+use Rattle.promises.specs.ManyCalls.{PartsEndAsOne, ManyCalls, StructsCut}
+use Rattle.promises.proofs.Calls.{accepted-is, accepted-says, says-accepted}
 use Rattle.promises.proofs.Rota.{asks}
 
 -- the answers of an accepted call, cut at their number

@@ -1,11 +1,10 @@
 -- A damaged rota mended, by its rule. Assumes nothing.
 use mathlib.Core.Path.{◌≡◌, refl, sym, ap, ap₂, ◌∙◌}
-use mathlib.Core.Bool.{Bool, true, false, cond}
 use mathlib.Core.List.{List, [], ◌∷◌, ◌++◌}
 use Prim.Native.Nat.{ℕ, ◌*◌, ◌≤◌, ◌<◌}
 use native.Mathlib.Omega.{arith}
 use borrow.Author.Tests.{le-leb, lt-leb}
-use lib.Dec.{eqb, leb}
+use lib.Dec.{leb}
 use lib.ListN.{length, get_or}
 use Rattle.paper.specs.Limits.{people_ok, slot_count_ok, Test, test, number_of}
 use Rattle.paper.specs.declared.Refusal.{Refusal}
@@ -13,7 +12,7 @@ use Rattle.paper.specs.Rows.{unless}
 use Rattle.paper.specs.Count.{all, all_in, sum, count, over, fill, onto, among}
 use Rattle.paper.specs.Bits.{bit_of}
 use Rattle.paper.proofs.Refusals.{number-pass, number-fail}
-use Rattle.paper.proofs.Rows.{numbered, said, worked, kept}
+use Rattle.paper.proofs.Rows.{said, worked, kept}
 use Rattle.slotset.specs.declared.Number.{Number}
 use Rattle.slotset.specs.declared.Number.TheVariants as number
 use Rattle.slotset.specs.Slots.{slot, with_bit, put_slot, put_slots}
@@ -26,7 +25,7 @@ use Rattle.owners.specs.Derived.{Plan, known_by, portion, uncovered, unassigned,
 use Rattle.owners.specs.Derived as figures
 use Rattle.owners.specs.Recount.{available_for, known_at, available_at, even_at}
 use Rattle.owners.proofs.RecountRefusals.{first_on, first_stops}
-use Rattle.mend.specs.Mended.{may_keep, left_to, barred_cleared, uneven_cleared, mended, Keeps}
+use Rattle.mend.specs.Mended.{may_keep, left_to, barred_cleared, uneven_cleared, mended}
 use Rattle.mend.specs.Repairs.{Rota, rota, column, entries, flag_of, Repair, differs_at, repairs_of, repairs, numbers}
 use Rattle.mend.specs.Answers.{Outcome, mended_rota, repairs_due, found_row, mend_row, mending}
 use Rattle.mend.proofs.ListLaws.{numbers-length}

@@ -4,15 +4,13 @@ use mathlib.Core.Bool.{Bool, true, false, not, ◌&&◌, ◌||◌, cond}
 use mathlib.Core.List.{List, [], ◌∷◌, map}
 use mathlib.Core.Logic.{inl, inr, ⊎_elim}
 use Prim.Native.Nat.{ℕ, zero, suc}
-use lib.IntN.{ℤ}
-use lib.ListN.{length}
 use lib.Ieee.{Float, lt}
 use Rattle.paper.proofs.Logic.{by-test, or-either, or_left, or-second, both}
 use Rattle.targets.specs.declared.Standing.{Standing}
 use Rattle.targets.specs.Figures.{zero_f, whole}
 use Rattle.targets.specs.Passes.{unrounded, settle, outside, below_zero, share_sum, notional, some}
 use Rattle.targets.specs.Passes.{Passed, again, done, refused, pass, passes, passes_leave, standings_left, guarded}
-use Rattle.targets.specs.Outcome.{Given, compute_targets, demand_in, standings_in, left_in}
+use Rattle.targets.specs.Outcome.{demand_in, standings_in, left_in}
 use Rattle.targets.proofs.Loops.{differ}
 use Rattle.targets.proofs.Cases.{done-stays, refused-stays}
 use Rattle.targets.proofs.Promises.{never-cut, accepted-sound, guard-kept, people-in}

@@ -1,9 +1,9 @@
 -- Where the recount failed, by the laws of owners and of job. Assumes nothing.
 use mathlib.Core.Path.{◌≡◌, refl, sym, ap, ◌∙◌, subst}
-use mathlib.Core.Bool.{Bool, true, false, cond, not, ◌&&◌, ◌||◌}
+use mathlib.Core.Bool.{Bool, true, cond, not, ◌&&◌, ◌||◌}
 use mathlib.Core.List.{List, [], ◌∷◌, ◌++◌}
 use mathlib.Core.Logic.{◌↔◌, ◌≢◌}
-use Prim.Native.Nat.{ℕ, ◌≤◌, ◌<◌}
+use Prim.Native.Nat.{ℕ, ◌<◌}
 use native.Mathlib.Omega.{arith}
 use borrow.Author.Tests.{eq-eqb, ne_eqb, eqb-true, eqb-false, ltb-true, not-true}
 use lib.Dec.{eqb, ltb}
@@ -11,14 +11,13 @@ use lib.ListN.{length, get_or}
 use Rattle.paper.specs.Limits.{Test, test, number_of}
 use Rattle.paper.specs.declared.Refusal.{Refusal}
 use Rattle.paper.specs.Rows.{accepted, refusal_of}
-use Rattle.paper.specs.Count.{all, all_in}
+use Rattle.paper.specs.Count.{all}
 use Rattle.paper.proofs.Logic.{by-test, both, or_right}
 use Rattle.paper.proofs.Count.{all-each, in-each, each_in}
 use Rattle.paper.proofs.Refusals.{number-pass, number-fail}
 use Rattle.paper.proofs.Rows.{numbered, said}
-use Rattle.slotset.specs.Slots.{slot}
 use Rattle.units.specs.Units.{unit_start, unit_end, units_ok}
-use Rattle.owners.specs.Derived.{Plan, Derived, worked, held}
+use Rattle.owners.specs.Derived.{Plan, Derived}
 use Rattle.owners.specs.Recount.{first_fail, known_at, available_at, even_at, set_slot_at, set_at, minutes_ok_at, total_ok_at, recount_tests}
 use Rattle.owners.specs.Recount.{recounts}
 use Rattle.owners.specs.Entries.{placeless, Outcome, outcome, lent_row, recount_row, recount_slots_row}
@@ -32,7 +31,7 @@ use Rattle.job.specs.Stages.{uneven_of}
 use Rattle.job.specs.Outcome.{rank, test_at, Lowest, read_row, prepare_row, job_tests, refusal_at, job_result}
 use Rattle.job.proofs.Tests.{ByNumber, refusal-by}
 use Rattle.job.proofs.Promises.{lowest-number}
-use Rattle.promises.specs.Entries.{Call, row_of, play_of, play_draws_of, of_draws}
+use Rattle.promises.specs.Entries.{Call, play_of, play_draws_of, of_draws}
 use Rattle.promises.specs.JobFields.{given_by, ready_from}
 use Rattle.promises.specs.JobTests.{AllRight, LowestFault, UnitEven}
 use Rattle.promises.specs.RotaRules.{PassesRecount}

@@ -7,10 +7,10 @@ use Prim.Native.Nat.{ℕ, zero, suc, ◌+◌, ◌*◌, ◌-◌, ◌≤◌, ◌<�
 use native.Mathlib.Omega.{arith}
 use borrow.Author.Tests.{eq-eqb, eqb-true, eqb-false, ltb-true, lt-ltb}
 use lib.Dec.{eqb, ltb}
-use lib.ListN.{length, get_or}
+use lib.ListN.{get_or}
 use lib.Seq.{ext_get_or}
 use Rattle.paper.specs.Count.{all, all_in}
-use Rattle.paper.proofs.Logic.{by-test, both, and-true, lt-or-ge, and_last}
+use Rattle.paper.proofs.Logic.{by-test, both, and-true, lt-or-ge}
 use Rattle.paper.proofs.Count.{in-each, each_in}
 use Rattle.slotset.specs.Slots.{slot}
 use Rattle.units.specs.Units.{unit_start, unit_end, units_ok}
@@ -26,9 +26,9 @@ use Rattle.rota.proofs.Entered.{asks-sound, asks-even}
 use Rattle.rota.proofs.Plays.{owners-append, play-even, play-length, play-past}
 use Rattle.rota.proofs.Drawn.{draw-acts-exactly}
 use Rattle.rota.proofs.HandsOver.{draw-hands-over, draw-keeps}
-use Rattle.promises.specs.Entries.{Call, built, enough_in, no_of, board_in, draws_in}
+use Rattle.promises.specs.Entries.{Call, built, enough_in, no_of, board_in}
 use Rattle.promises.specs.MoveRules.{draw_at, found_at}
-use Rattle.promises.specs.PlayRule.{Turn, History, PlayedBy, PlaysByRule, OneHistory, InSlots, BoardInSlots, BoardsInSlots}
+use Rattle.promises.specs.PlayRule.{Turn, History, PlaysByRule, OneHistory, InSlots, BoardsInSlots}
 use Rattle.promises.proofs.Calls.{accepted-is, accepted-says}
 use Rattle.promises.proofs.Rota.{asks}
 use Rattle.promises.proofs.MoveRules.{moves-by-rule}

@@ -1,12 +1,11 @@
 -- A refusal as one number is read back: every number that an entry gives is small, and so is every place. Assumes nothing.
-use mathlib.Core.Path.{◌≡◌, refl, sym, ap, ◌∙◌, subst}
+use mathlib.Core.Path.{◌≡◌, refl, sym, ap, subst}
 use mathlib.Core.Bool.{Bool, true, ◌&&◌}
 use mathlib.Core.List.{List, [], ◌∷◌}
-use mathlib.Core.Logic.{◌≢◌}
 use Prim.Native.Nat.{ℕ, ◌≤◌, ◌<◌}
 use native.Mathlib.Omega.{arith}
 use borrow.Author.Tests.{eqb-true, eqb-false, ltb-true}
-use lib.Dec.{eqb, ltb, leb}
+use lib.Dec.{eqb, ltb}
 use lib.ListN.{length}
 use Rattle.paper.specs.Limits.{Test, number_of}
 use Rattle.paper.specs.declared.Refusal.{Refusal}
@@ -14,7 +13,6 @@ use Rattle.paper.specs.Rows.{accepted, refusal_of}
 use Rattle.paper.proofs.Logic.{by-test, both, people-says, slot-count-says}
 use Rattle.paper.proofs.Refusals.{number-pass, number-fail}
 use Rattle.paper.proofs.Rows.{passed, said}
-use Rattle.units.specs.Units.{units_ok}
 use Rattle.units.proofs.Units.{units-within}
 use Rattle.owners.specs.Derived.{Plan, Derived}
 use Rattle.owners.specs.Recount.{even_at, recount_tests}
@@ -30,7 +28,7 @@ use Rattle.job.proofs.Results.{answered-none, answered-some}
 use Rattle.boltraven_c.specs.Numbers.{refusal_number}
 use Rattle.promises.specs.Entries.{Call, play_of, play_draws_of, of_draws}
 use Rattle.promises.specs.Exports.{read_refusal, ReadsBack}
-use Rattle.promises.specs.Places.{fault, FailsAt, unknown, unavailable, uneven, wrong-set, wrong-minutes, wrong-total, Places, before_recount}
+use Rattle.promises.specs.Places.{fault, FailsAt, unknown, unavailable, uneven, wrong-set, wrong-minutes, wrong-total, Places}
 use Rattle.promises.proofs.Places.{with-units, slots-places, assign-places, before, fault-is, job-none}
 use Rattle.promises.proofs.Rota.{draws-alike}
 

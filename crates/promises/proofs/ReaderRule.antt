@@ -7,14 +7,14 @@ use lib.ListN.{length, replicate}
 use denote.Ref.{Bor}
 use Rattle.slotset.specs.declared.NextRun.{NextRun}
 use Rattle.slotset.specs.declared.NextRun.TheVariants as next_run
-use Rattle.slotset.specs.Slots.{Bits, slot}
+use Rattle.slotset.specs.Slots.{Bits}
 use Rattle.slotset.specs.Runs.{Ends, ends_of_runs, AreRuns}
-use Rattle.slotset.specs.Answers.{row_refusal, row_slots, row_next_run, next_run_as}
+use Rattle.slotset.specs.Answers.{row_refusal, row_slots, next_run_as}
 use Rattle.slotset.proofs.Puts.{slot_lt}
 use Rattle.runs.specs.declared.Runs.{Runs}
 use Rattle.runs.specs.Reader.{reader_of, moved_to, cursor_after, next_of}
 use Rattle.promises.specs.SetRules.{first_ahead}
-use Rattle.promises.specs.ReaderRule.{advanced, answered, span_of, ReadsAllRuns}
+use Rattle.promises.specs.ReaderRule.{answered, span_of, ReadsAllRuns}
 use Rattle.promises.proofs.SetRules.{sets-by-rule}
 
 module _ (words : Bor (List ℕ)) (people person len : ℕ) (e : row_refusal words.now people person len ≡ 0) where

@@ -25,9 +25,8 @@ use Rattle.owners.proofs.Steps.{afresh-again, afresh-fit, afresh-same}
 use Rattle.rota.specs.declared.replay.Replayed.{Replayed}
 use Rattle.rota.specs.declared.replay.Replayed.TheVariants as variant
 use Rattle.rota.specs.Board.{Board}
-use Rattle.rota.specs.Moves.{Draw, draw, handed}
+use Rattle.rota.specs.Moves.{Draw, handed}
 use Rattle.rota.specs.Plays.{step, owners_after, answer, answers, touched}
-use Rattle.rota.specs.Acts as acts
 use Rattle.rota.specs.Replays.{agrees_at, agreeing, block_played, answer_ok, replay_row, Outcome, agrees_up_to, replayed_list}
 use Rattle.rota.proofs.Plays.{play-length, owners-append, answers-append, answers-length, draws-length}
 use Rattle.rota.proofs.Entered.{asks-step}

@@ -2,12 +2,12 @@
 use mathlib.Core.Path.{◌≡◌, refl, sym, ap, ◌∙◌}
 use mathlib.Core.Bool.{Bool}
 use mathlib.Core.List.{List, [], ◌∷◌, ◌++◌}
-use Prim.Native.Nat.{ℕ, zero, suc, ◌+◌, ◌-◌, ◌<◌}
+use Prim.Native.Nat.{ℕ, zero, suc, ◌-◌, ◌<◌}
 use native.Mathlib.Omega.{arith}
 use lib.ListN.{length, get_or}
 use Rattle.paper.specs.Limits.{number_of}
 use Rattle.slotset.specs.declared.Number.TheVariants as number
-use Rattle.slots.specs.Atomic.{Base, atomise_of, atomise_row, is_cut, IsCuts, starts_of_atoms, ends_of_atoms}
+use Rattle.slots.specs.Atomic.{Base, atomise_row, is_cut, IsCuts, starts_of_atoms, ends_of_atoms}
 use Rattle.slots.proofs.SplitLaws as laws
 use Rattle.promises.specs.SplitRule.{strung, CutsOf, lengths, LeavesPieces, SplitAtCuts}
 use Rattle.promises.proofs.SlotRules.{slots-by-rule}

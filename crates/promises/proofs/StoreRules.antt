@@ -2,21 +2,18 @@
 use mathlib.Core.Path.{◌≡◌, refl, sym, ap, ap₂, ◌∙◌, subst}
 use mathlib.Core.Bool.{Bool, true, false, cond}
 use mathlib.Core.List.{List, [], ◌∷◌, ◌++◌, append_assoc}
-use mathlib.Core.Logic.{◌⊎◌, inl, inr, ⊎_elim, ◌↔◌}
+use mathlib.Core.Logic.{⊎_elim, ◌↔◌}
 use Prim.Native.Nat.{ℕ, zero, suc, ◌+◌, ◌-◌, ◌*◌, ◌≤◌, ◌<◌}
 use native.Mathlib.Omega.{arith}
 use borrow.Author.Tests.{lt-ltb, le-ltb, ltb-true, ltb-false, le-leb, lt-leb, leb-true, eqb-true, eq-eqb, ne_eqb}
-use lib.Dec.{leb, ltb, eqb}
+use lib.Dec.{leb, eqb}
 use lib.ListN.{length, get_or, take, length-append, get_or-append, get_or-eq_default}
 use lib.Seq.{get_or-append-add, get_or-take}
 use Rattle.paper.specs.Limits.{Test, test, number_of}
-use Rattle.paper.specs.Rows.{unless}
-use Rattle.paper.proofs.Logic.{by-test, lt-or-ge, below_suc}
+use Rattle.paper.proofs.Logic.{by-test, lt-or-ge}
 use Rattle.paper.proofs.Rows.{kept, worked}
 use Rattle.paper.proofs.Refusals.{number-pass, number-fail}
-use Rattle.slotset.specs.declared.Number.{Number}
 use Rattle.slotset.specs.declared.Number.TheVariants as number
-use Rattle.slotset.specs.Answers.{number_refusal}
 use Rattle.slotset.proofs.Refusals.{number-said}
 use Rattle.units.specs.declared.Settings.{Settings}
 use Rattle.units.specs.Settings.{settings_ok}
@@ -28,20 +25,18 @@ use Rattle.store.specs.declared.Saved.{Saved}
 use Rattle.store.specs.declared.Saved.TheVariants as saved
 use Rattle.store.specs.declared.Asked.{Asked}
 use Rattle.store.specs.declared.Asked.TheVariants as asked
-use Rattle.store.specs.Layout.{is_store, count_in, StoreOf, IsStore}
-use Rattle.store.specs.Figures.{figures_of, kept_of, kept_in, settings_record}
-use Rattle.store.specs.Outcome.{layout_ok, store_tests, store_row, save_row, ask_row, count_is, save_is, ask_is, saved_refusal, asked_refusal, judged}
-use Rattle.store.specs.Outcome.{Saving, SavesAs}
+use Rattle.store.specs.Layout.{is_store, count_in, StoreOf}
+use Rattle.store.specs.Figures.{figures_of, kept_of, settings_record}
+use Rattle.store.specs.Outcome.{layout_ok, store_row, save_row, ask_row, count_is, save_is, ask_is, saved_refusal, judged}
 use Rattle.store.proofs.Outcomes.{layout-held, save-passed, save-room}
 use Rattle.store.proofs.Reading.{kept-newer, kept-figures}
 use Rattle.store.proofs.Stores.{ok-store, store_ok, store-count, saved-kept}
 use Rattle.store.proofs.Asks.{asked-number, saved-number, ask-record, ask-unknown, count-records, layout-fails}
 use Rattle.store.proofs.Saves.{more-length, more-front, more-last, Accepted, accepted-says, saves, save-free}
 use Rattle.store.proofs.Saves.{saved-length, saved-before, saved-behind, saved-store}
-use Rattle.promises.specs.Outcomes.{Only}
 use Rattle.promises.specs.StoreRules.{Broken, StoreRefuses, StoreReads, AfterSave, Saves, none, more, no_settings, AfterSaves, StoresByRule}
 use Rattle.promises.specs.StoreRules.{read_saved, read_asked, figures_left, StoreRead}
-use Rattle.boltraven_c.specs.Store.{saved_number, saved_used, asked_number, asked_figure}
+use Rattle.boltraven_c.specs.Store.{saved_number, saved_used, asked_number}
 
 -- ---- demand 1
 

@@ -3,23 +3,21 @@ use mathlib.Core.Path.{◌≡◌, refl, sym, ap, ◌∙◌, subst}
 use mathlib.Core.Bool.{Bool, true, false, ◌&&◌, ◌||◌, cond}
 use mathlib.Core.List.{List, [], ◌∷◌}
 use mathlib.Core.Logic.{◌⊎◌, inl, inr, ⊎_elim, ◌↔◌}
-use Prim.Native.Nat.{ℕ, suc, ◌-◌, ◌*◌, ◌≤◌, ◌<◌, zero-le}
+use Prim.Native.Nat.{ℕ, ◌-◌, ◌*◌, ◌≤◌, ◌<◌, zero-le}
 use native.Mathlib.Omega.{arith}
 use borrow.Author.Tests.{leb-true, le-leb, ltb-true, lt-ltb}
 use lib.Dec.{leb, ltb}
-use lib.Ieee.{Float}
 use lib.IntN.{ℤ}
 use lib.ListN.{length, get_or, length-map}
 use Rattle.paper.specs.Limits.{people_ok, slot_count_ok, counts_ok, Test, test, number_of}
 use Rattle.paper.specs.Count.{all}
-use Rattle.paper.proofs.Logic.{by_cond, by-test, both, and-true, or_left, or-second, or-either, lt-or-ge}
+use Rattle.paper.proofs.Logic.{by_cond, both, and-true, or_left, or-second, or-either, lt-or-ge}
 use Rattle.paper.proofs.Count.{all-each, each_all}
-use Rattle.slotset.specs.declared.SlotSet.{SlotSet}
 use Rattle.slotset.specs.Answers.{length_row, slot_row, stretch_ok, stretch_row, sets_row, same_sets_row, person_row, person_stretch_row}
 use Rattle.runs.specs.Listed.{runs_row}
 use Rattle.slots.specs.Lent.{slot_room_ok, slots_ok, lent_row, slot_minutes_row}
 use Rattle.slots.specs.Ranges.{Ranges, range_count_ok, range_room_ok, ranges_ok, ranges}
-use Rattle.slots.specs.Merged.{Columns, merged_row}
+use Rattle.slots.specs.Merged.{merged_row}
 use Rattle.slots.specs.Atomic.{Base, base_row, atomise_row, is_cut, cuts_in, starts_of_atoms}
 use Rattle.slots.specs.Availability.{availability_row, available_row}
 use Rattle.slots.specs.Freeze.{freeze_row}
@@ -42,7 +40,7 @@ use Rattle.rota.specs.declared.draws.Draw.{Draw}
 use Rattle.rota.specs.Draws.{draws, firsts, seconds}
 use Rattle.promises.specs.Entries.{Call, play_of, of_draws, play_draws_of, row_of}
 use Rattle.promises.specs.Table.{Rule, rules, Applies, GivenBy, GivenByTests}
-use Rattle.promises.specs.Tests.{SlotsRight, RangesRight, FiguresRight, SettingsRight, UnitsRight}
+use Rattle.promises.specs.Tests.{SlotsRight, RangesRight, SettingsRight, UnitsRight}
 use Rattle.promises.specs.RotaRules.{PassesRecount}
 use Rattle.promises.specs.SplitRule.{strung, CutsOf}
 use Rattle.promises.specs.Tables.{outside, short, broken, overfull, beyond, not_below, reaches_past, Known, Available, AllKnown}

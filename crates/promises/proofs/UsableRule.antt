@@ -1,45 +1,43 @@
 -- A rota made elsewhere: the verdict, shifts, refusals, and that what may be used can be taken over. Assumes nothing.
 use mathlib.Core.Path.{◌≡◌, refl, sym, ap, ◌∙◌, subst}
-use mathlib.Core.Bool.{Bool, true, false, cond}
-use mathlib.Core.List.{List, [], ◌∷◌}
-use mathlib.Core.Logic.{◌⊎◌, ⊎_elim, ◌↔◌}
-use Prim.Native.Nat.{ℕ, zero, suc, ◌+◌, ◌-◌, ◌*◌, ◌≤◌, ◌<◌}
+use mathlib.Core.Bool.{Bool, true, cond}
+use mathlib.Core.List.{List}
+use mathlib.Core.Logic.{⊎_elim, ◌↔◌}
+use Prim.Native.Nat.{ℕ, ◌+◌, ◌-◌, ◌*◌, ◌≤◌, ◌<◌}
 use native.Mathlib.Omega.{arith}
-use borrow.Author.Tests.{eq-eqb, ne_eqb, eqb-true, le-leb, leb-true, lt-ltb, le-ltb}
+use borrow.Author.Tests.{ne_eqb, eqb-true, le-leb, leb-true, lt-ltb, le-ltb}
 use lib.Dec.{eqb, leb, ltb}
 use lib.ListN.{length, get_or}
 use Rattle.paper.specs.Limits.{nobody, last_minute, people_ok, slot_count_ok, number_of}
 use Rattle.paper.specs.Rows.{unless}
 use Rattle.paper.specs.Count.{all}
 use Rattle.paper.specs.Bits.{bit_of}
-use Rattle.paper.proofs.Logic.{by-test, by_cond, lt-or-ge, both, three, and-true, number-of-made}
+use Rattle.paper.proofs.Logic.{by_cond, lt-or-ge, both, three, and-true, number-of-made}
 use Rattle.paper.proofs.Count.{all-each, each_all}
 use Rattle.paper.proofs.Rows.{all_pass}
 use Rattle.slotset.specs.Slots.{slot}
 use Rattle.slotset.specs.Search.{up, down, next_with, last_below}
-use Rattle.slotset.specs.Runs.{Around}
 use Rattle.slots.specs.Lent.{slot_room_ok, slots_ok, slot_ok_at, slot_ok, prev_end}
 use Rattle.slots.proofs.LentLaws.{slots-sound}
 use Rattle.units.specs.Units.{units_ok, start_ok, unit_start, unit_of, InUnit}
 use Rattle.units.specs.Domains.{available, unfrozen}
 use Rattle.units.proofs.Units.{unit-of-only, unit-within}
-use Rattle.owners.specs.Derived.{Plan, Derived, held, known_by}
+use Rattle.owners.specs.Derived.{Derived, held, known_by}
 use Rattle.owners.specs.Recount.{first_fail, known_at, available_at, available_for}
 use Rattle.owners.specs.Entries.{lent_row, from_slots_row, from_slots, outcome}
 use Rattle.owners.proofs.Sets.{held-own, held-not}
 use Rattle.usable.specs.declared.Verdict.{Verdict}
 use Rattle.usable.specs.declared.Verdict.TheVariants as verdict
 use Rattle.usable.specs.Rules.{allowed_at, published_at, uniform_at, opens_at, closes_at, capped_at, rested_at, shift_first, shift_last}
-use Rattle.usable.specs.Broken.{Brought, slots_of, owner_of, start_of, end_of, Shift, TooClose, AllHold, FirstBroken, Means}
+use Rattle.usable.specs.Broken.{Brought, slots_of, owner_of, Shift, TooClose, AllHold, FirstBroken, Means}
 use Rattle.usable.specs.Answers.{figures_ok, usable_row, or_broken, judged, verdict_is, verdict_refusal}
 use Rattle.usable.proofs.ShiftLaws.{held_one, held-zero, around-each, shift-around}
-use Rattle.usable.proofs.Rested.{LastOf, Freed, free-is, ends-rise, last-closes}
+use Rattle.usable.proofs.Rested.{LastOf, free-is, ends-rise, last-closes}
 use Rattle.usable.proofs.Judged.{Right, row-right, judged-when, judged-holds}
 use Rattle.usable.proofs.Meaning.{judged-means, means-one, shift-owner, shift-ends, shift-below, opens, close_of}
 use Rattle.boltraven_c.specs.Usable.{verdict_number, verdict_slot}
-use Rattle.promises.specs.Table.{Rule, GivenByTests}
+use Rattle.promises.specs.Table.{GivenByTests}
 use Rattle.promises.specs.SetRules.{TheOne}
-use Rattle.promises.specs.Tables.{broken}
 use Rattle.promises.specs.RotaRules.{PassesRecount}
 use Rattle.promises.specs.UsableRule.{CapAndRest, usable_table, Owns, IsShift, NextTooClose, read_verdict, both_hers, UsableByRule}
 use Rattle.promises.proofs.Table.{given-as}

@@ -1,14 +1,14 @@
 -- The way back: the laws of wayback over owners, carried to calls of play. Assumes nothing.
 use mathlib.Core.Path.{◌≡◌, refl, sym, ap, subst, ◌∙◌}
-use mathlib.Core.Bool.{Bool, true}
+use mathlib.Core.Bool.{true}
 use mathlib.Core.List.{List, [], ◌∷◌, ◌++◌}
 use mathlib.Core.Logic.{⊎_elim}
-use Prim.Native.Nat.{ℕ, zero, suc, ◌^◌, ◌≤◌, ◌<◌}
+use Prim.Native.Nat.{ℕ, suc, ◌^◌, ◌≤◌, ◌<◌}
 use native.Mathlib.Omega.{arith}
 use borrow.Author.Tests.{le-leb, ltb-true}
 use lib.Dec.{ltb}
 use lib.ListN.{length, get_or, drop, replicate, length-replicate, get_or-replicate, get_or-append, get_or-eq_default}
-use Rattle.paper.specs.Limits.{nobody, people_ok, slot_count_ok, counts_ok}
+use Rattle.paper.specs.Limits.{people_ok, slot_count_ok, counts_ok}
 use Rattle.paper.specs.Bits.{bit_of}
 use Rattle.paper.specs.Count.{all, all_in, among, sum, fill, onto, count}
 use Rattle.paper.proofs.Logic.{lt-or-ge}
@@ -17,7 +17,6 @@ use Rattle.slotset.specs.Slots.{slot}
 use Rattle.slots.specs.Lent.{slot_ok, prev_end, slot_ok_at, slot_room_ok, slots_ok, minutes_at}
 use Rattle.units.specs.Units.{unit_end, start_ok, units_ok}
 use Rattle.units.specs.Domains.{available, able, unfrozen, clear, unit_frozen}
-use Rattle.units.proofs.Units.{units-within}
 use Rattle.owners.specs.Derived.{Derived, known_by, portion, worked, held, afresh, uncovered, unassigned, total_of}
 use Rattle.owners.specs.Recount.{known_at, available_for, available_at, even_at, set_slot_at, set_at, minutes_ok_at, recounts, total_ok_at}
 use Rattle.owners.specs.Entries.{Outcome}
@@ -28,17 +27,17 @@ use Rattle.rota.specs.Lent.{fits_unit, frozen_unit}
 use Rattle.rota.specs.Moves.{Draw, any_of, decided, domain_of, picked, reassigned, runs_swapped, run_first, run_last, movable, covers}
 use Rattle.rota.specs.Plays.{step, answer, owners_after, answers, draws_of}
 use Rattle.rota.proofs.Entered.{asks-sound, asks-even, asks-few}
-use Rattle.rota.proofs.Plays.{owners-append, answers-length, draws-length, play-even}
+use Rattle.rota.proofs.Plays.{owners-append, draws-length, play-even}
 use Rattle.rota.proofs.Drawn.{draw-acts-exactly}
 use Rattle.wayback.specs.Back as wayback
 use Rattle.wayback.specs.Back.{back}
 use Rattle.wayback.proofs.SwapAgain.{swap-again}
 use Rattle.wayback.proofs.Returns.{CanReturn, returns, after-returns, back_at, back-rises, back-takes, place_is, takes-exactly, takes-few}
-use Rattle.promises.specs.Entries.{Call, built, enough_in, no_of, play_of, afresh_in, board_in, draws_in, owners_in}
+use Rattle.promises.specs.Entries.{Call, built, enough_in, no_of, play_of, board_in, draws_in, owners_in}
 use Rattle.promises.specs.Marked.{apart}
 use Rattle.promises.specs.MoveRules.{draw_at, found_at}
 use Rattle.promises.specs.Rota.{Words, second_call}
-use Rattle.promises.specs.ManyCalls.{Part, part_call, draws_of_parts, AllAccepted, last_owners, last_derived, EndsAsOne}
+use Rattle.promises.specs.ManyCalls.{Part, part_call, draws_of_parts, AllAccepted, last_owners, last_derived}
 use Rattle.promises.specs.WayBack.{again, ComesBack, SwapsComeBack, SwapsUndone, three_units, RunsDont, swap_two, OneOnlyBreaks}
 use Rattle.promises.specs.WayBack.{BackListed, AsManyAsDiffer, OwnedBefore, Holds, BringsBack, WayBack, WayBackInAnyOrder, NeverUnowned, half_owned, ConditionNeeded}
 use Rattle.promises.proofs.Calls.{accepted-is, Accepted, accepted-says, says-accepted, room_ok}

@@ -1,12 +1,12 @@
 -- way_back by its rule: the laws of wayback, carried to calls of play. Assumes nothing.
 use mathlib.Core.Path.{◌≡◌, refl, sym, ap, ap₂, subst, ◌∙◌}
-use mathlib.Core.Bool.{Bool, true, cond, ◌&&◌}
+use mathlib.Core.Bool.{Bool, true, cond}
 use mathlib.Core.List.{List, [], ◌∷◌}
 use mathlib.Core.Logic.{⊎_elim}
 use Prim.Native.Nat.{ℕ, ◌%◌, ◌≤◌, ◌<◌}
 use native.Mathlib.Omega.{arith}
 use borrow.Author.Tests.{eqb-true, eqb-false, ne_eqb, le-leb}
-use lib.Dec.{eqb, leb}
+use lib.Dec.{eqb}
 use lib.ListN.{length, get_or, replicate, take, length-map, length-replicate, get_or-replicate}
 use Rattle.paper.specs.Limits.{people_ok, slot_count_ok, Test, number_of}
 use Rattle.paper.specs.declared.Refusal.{Refusal}
@@ -50,7 +50,7 @@ use Rattle.promises.specs.ManyCalls.{Part, part_call}
 use Rattle.promises.specs.Accepts.{no_draw}
 use Rattle.promises.specs.Exports.{read_refusal, ReadsBack}
 use Rattle.promises.specs.Table.{rules, Refuses}
-use Rattle.promises.specs.WayBackRule.{Asked, way_for, way_tests, way_refusal, read_way, written, Leads, Blocks, WayByRule}
+use Rattle.promises.specs.WayBackRule.{Asked, way_for, way_tests, way_refusal, read_way, Leads, Blocks, WayByRule}
 use Rattle.promises.proofs.Calls.{accepted-is}
 use Rattle.promises.proofs.ReadRefusals.{small-back, placeless-small, fault-small, units-back}
 use Rattle.promises.proofs.Table.{given-as}

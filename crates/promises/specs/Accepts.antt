@@ -21,7 +21,6 @@ use Rattle.targets.specs.Outcome.{given, compute_targets}
 use Rattle.owners.specs.Derived.{plan, derived}
 use Rattle.owners.specs.Entries as state
 use Rattle.rota.specs.Entries as rota
-use Rattle.rota.specs.declared.draws.Draw.{Draw}
 use Rattle.promises.specs.Entries.{Call, play_of, play_draws_of}
 use Rattle.promises.specs.Marked.{in_words, one_person, one, words, Spare, apart, two_units}
 

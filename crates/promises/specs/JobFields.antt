@@ -17,7 +17,6 @@ use Rattle.owners.specs.Derived.{Plan, plan, derived}
 use Rattle.owners.specs.Entries.{Outcome, from_slots}
 use Rattle.records.specs.Fields.{le}
 use Rattle.records.specs.Records.{Rec, bodies}
-use Rattle.job.specs.declared.JobAnswer.{JobAnswer}
 use Rattle.job.specs.File.{JobFile}
 use Rattle.job.specs.Listing.{Listed, listed}
 use Rattle.job.specs.Stages.{value_of, Ready, ready, listed_of}

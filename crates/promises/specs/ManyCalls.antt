@@ -7,7 +7,7 @@ use Rattle.rota.specs.Plays.{draws_of, owners_after, answers}
 use Rattle.owners.specs.Derived.{Derived, afresh}
 use Rattle.rota.specs.declared.draws.Draw as struct
 use Rattle.rota.specs.Draws.{draws, firsts, seconds}
-use Rattle.promises.specs.Entries.{Call, Component, with_draws, on_rota, board_in, draws_in}
+use Rattle.promises.specs.Entries.{Call, Component, with_draws, on_rota, board_in}
 use Rattle.promises.specs.Rota.{Words}
 
 -- the draws of one call, in three columns, and the buffer that its answers go to

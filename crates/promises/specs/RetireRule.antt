@@ -1,5 +1,5 @@
 -- Retiring past weeks, by its rule: no minute is lost, what goes, what stays, what is new, and what follows. Assumes nothing.
-use Rattle.std.specs.Prelude.{◌≡◌, List, ℕ, ◌+◌}
+use Rattle.std.specs.Prelude.{◌≡◌, List, ◌+◌}
 use Rattle.retire.specs.New.{New}
 use Rattle.retire.specs.Outcome.{Held, held_then}
 use Rattle.retire.specs.Promised.{Retires, NoMinuteLost, Retirings, standing, after_all, new_demand, StaysAndComes, PlayFollows, ExactlyWhen}

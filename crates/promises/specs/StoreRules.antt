@@ -1,6 +1,5 @@
 -- A store of settings: its refusals, 13 both ways, what each number answers, and what a save leaves behind. Assumes nothing.
 use Rattle.std.specs.Prelude.{◌≡◌, true, cond, List, [], ◌∷◌, ◌++◌, ◌⊎◌, ◌↔◌, ℕ, suc, ◌+◌, ◌-◌, ◌*◌, ◌≤◌, ◌<◌, eqb, length, get_or, take}
-use Rattle.slotset.specs.declared.Number.{Number}
 use Rattle.slotset.specs.declared.Number.TheVariants as number
 use Rattle.slotset.specs.Answers.{number_refusal}
 use Rattle.units.specs.declared.Settings.{Settings}

@@ -8,7 +8,6 @@ use lib.ListN.{length, get_or, drop, length-drop}
 use Rattle.paper.proofs.Logic.{by-test}
 use Rattle.records.specs.Fields.{le, Bytes}
 use Rattle.records.specs.Records.{Rec, bytes_of, file_of, record_of}
-use Rattle.records.specs.declared.Head.{Head}
 use Rattle.records.specs.declared.Head.TheVariants as head
 use Rattle.records.specs.Heads.{found_at, whole_at, head_at, place_of}
 use Rattle.records.proofs.Sequences.{body_at, length-body, body_bytes, body-field, record-split}

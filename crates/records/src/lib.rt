@@ -1,4 +1,6 @@
 // Records: body length u16, kind u16, body, lowest byte first. Their fields, the walk over a file of them, and writing one.
+#![tactic(auto)]
+
 mod blocks;
 mod fields;
 mod heads;

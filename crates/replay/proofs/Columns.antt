@@ -1,18 +1,17 @@
 -- Laws of a block's columns. Assumes nothing.
-use mathlib.Core.Path.{◌≡◌, refl, sym, ap, ◌∙◌}
-use mathlib.Core.Bool.{Bool, true, false, cond, ◌&&◌}
+use mathlib.Core.Path.{◌≡◌, sym, ap, ◌∙◌}
+use mathlib.Core.Bool.{Bool, true, false, cond}
 use mathlib.Core.List.{List}
-use Prim.Native.Nat.{ℕ, ◌+◌, ◌*◌, ◌≤◌, ◌<◌}
+use Prim.Native.Nat.{ℕ, ◌+◌, ◌*◌, ◌≤◌}
 use native.Mathlib.Omega.{arith}
 use borrow.Author.Tests.{leb-true}
 use lib.Dec.{leb}
 use lib.ListN.{length, set}
-use Rattle.paper.specs.Count.{over}
 use Rattle.paper.proofs.Logic.{four}
 use Rattle.paper.proofs.Count.{over_none, length_over}
 use Rattle.records.specs.Fields.{le, field_at}
 use Rattle.records.proofs.Numbers.{field_is}
-use Rattle.records.proofs.Walks.{over-turn, over_done}
+use Rattle.records.proofs.Walks.{over-turn}
 use Rattle.replay.specs.declared.BlockRead.{BlockRead}
 use Rattle.replay.specs.declared.BlockRead.TheVariants as read
 use Rattle.replay.specs.Reading.{block_read, draws_in, fields_of, columns_room, read_answer, ReadsAs}

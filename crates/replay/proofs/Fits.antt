@@ -1,6 +1,6 @@
 -- A rota on which a block is never refused: one that a job begins with, and one that a block left. Assumes nothing.
-use mathlib.Core.Path.{◌≡◌, refl, sym, ap, ◌∙◌}
-use mathlib.Core.Bool.{Bool, true, cond, ◌&&◌}
+use mathlib.Core.Path.{◌≡◌, refl, ap, ◌∙◌}
+use mathlib.Core.Bool.{Bool, true, cond}
 use mathlib.Core.List.{List, []}
 use Prim.Native.Nat.{ℕ, ◌*◌, ◌≤◌}
 use native.Mathlib.Omega.{arith}
@@ -9,7 +9,6 @@ use lib.Dec.{leb}
 use lib.ListN.{length}
 use Rattle.paper.specs.Limits.{number_of}
 use Rattle.paper.proofs.Logic.{both, and-true}
-use Rattle.slots.specs.Lent.{slot_room_ok, slots_ok}
 use Rattle.units.specs.Units.{units_ok}
 use Rattle.owners.specs.Derived.{Plan, Derived, afresh}
 use Rattle.owners.specs.Recount.{recounts}

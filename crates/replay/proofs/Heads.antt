@@ -1,17 +1,16 @@
 -- Laws of the walk over heads, up to where the job ends. Assumes nothing.
 use mathlib.Core.Path.{◌≡◌, refl, sym, ap, ap₂, ◌∙◌}
-use mathlib.Core.Bool.{Bool, true, false, not, cond, ◌&&◌, ◌||◌}
+use mathlib.Core.Bool.{Bool, true, false, not, cond, ◌&&◌}
 use mathlib.Core.List.{List}
-use Prim.Native.Nat.{ℕ, suc, ◌+◌, ◌≤◌, ◌<◌}
+use Prim.Native.Nat.{ℕ, ◌+◌, ◌≤◌, ◌<◌}
 use native.Mathlib.Omega.{arith}
 use borrow.Author.Tests.{le-leb, lt-leb, eq-eqb, ne_eqb}
-use lib.Dec.{leb, eqb}
+use lib.Dec.{eqb}
 use lib.ListN.{length}
 use Rattle.paper.specs.Count.{all}
 use Rattle.paper.proofs.Logic.{and-true, and-stops, or_left, or-second}
 use Rattle.paper.proofs.Count.{all_none, all_more}
 use Rattle.records.specs.Fields.{le, field_at}
-use Rattle.records.specs.Records.{lead}
 use Rattle.records.specs.Heads.{place_of}
 use Rattle.records.proofs.Numbers.{field_is}
 use Rattle.records.proofs.Walks.{lead_is}

@@ -1,7 +1,7 @@
 -- A recording's text, however the file comes in pieces. Assumes nothing.
 use mathlib.Core.Path.{◌≡◌, refl, sym, ap, ap₂, ◌∙◌, subst}
 use mathlib.Core.Logic.{◌⊎◌, inl, inr, ⊎_elim}
-use mathlib.Core.Bool.{Bool, true, false, cond, ◌&&◌, ◌||◌}
+use mathlib.Core.Bool.{Bool, cond, ◌&&◌, ◌||◌}
 use mathlib.Core.List.{List, [], ◌++◌, append-nil}
 use Prim.Native.Nat.{ℕ, ◌+◌, ◌≤◌, ◌<◌}
 use native.Mathlib.Omega.{arith}
@@ -11,7 +11,7 @@ use lib.ListN.{length, take, drop, replicate}
 use lib.Seq.{take-append-le, length-take-le}
 use Rattle.paper.specs.declared.Refusal.{Refusal}
 use Rattle.paper.specs.Limits.{number_of}
-use Rattle.paper.specs.Rows.{unless, refusal_of}
+use Rattle.paper.specs.Rows.{refusal_of}
 use Rattle.paper.proofs.Logic.{by-test, both}
 use Rattle.paper.proofs.Rows.{worked, kept, said}
 use Rattle.owners.specs.Derived.{Derived}
@@ -20,20 +20,19 @@ use Rattle.owners.specs.Entries as state
 use Rattle.records.specs.Fields.{le}
 use Rattle.records.specs.Heads.{place_of}
 use Rattle.rota.specs.Entries as rota
-use Rattle.job.specs.declared.Begun.{Begun}
 use Rattle.job.specs.declared.Ending.TheVariants as ending
 use Rattle.job.specs.Listing.{listing_most, refusal_line}
-use Rattle.job.specs.Stages.{Ready, plan_of, draws_of, ready_of, owners_of, start_of, started_of, play_of}
+use Rattle.job.specs.Stages.{Ready, draws_of, ready_of, owners_of, start_of, started_of, play_of}
 use Rattle.job.specs.Outcome.{AllPass, job_tests}
 use Rattle.job.specs.Shown.{last_line}
-use Rattle.job.specs.Begun.{recorded_tests, ready_from, derived_from, no_ready, no_derived, BegunAs}
+use Rattle.job.specs.Begun.{recorded_tests, ready_from, derived_from, no_ready, no_derived}
 use Rattle.job.proofs.Tests.{number-none}
 use Rattle.job.proofs.Answered.{numbered, sound, free}
 use Rattle.job.proofs.Rotas.{play-refusal}
 use Rattle.job.proofs.Begins.{recorded-job, too_long}
 use Rattle.replay.specs.Reading.{blocks_most, head_stands, opens_blocks, job_heads, job_end}
 use Rattle.replay.specs.Text.{blocks_text, replay_text}
-use Rattle.replay.specs.Runs.{Window, Writes, Replays, refused, begun}
+use Rattle.replay.specs.Runs.{Window, Replays, refused, begun}
 use Rattle.replay.proofs.Windows.{window-job}
 use Rattle.replay.proofs.Fits.{Fit, fit-played}
 use Rattle.replay.proofs.Streams.{writes-text}

@@ -2,7 +2,7 @@
 use mathlib.Core.Path.{◌≡◌, refl, sym, ap, ◌∙◌}
 use mathlib.Core.Bool.{Bool, true, false, cond, ◌&&◌, ◌||◌}
 use mathlib.Core.List.{List}
-use Prim.Native.Nat.{ℕ, suc, ◌+◌, ◌*◌, ◌≤◌, ◌<◌}
+use Prim.Native.Nat.{ℕ, ◌+◌, ◌*◌, ◌≤◌, ◌<◌}
 use native.Mathlib.Omega.{arith}
 use borrow.Author.Tests.{lt-ltb, le-ltb, eq-eqb, eqb-true}
 use lib.Dec.{leb, ltb, eqb}
@@ -10,18 +10,16 @@ use lib.ListN.{length}
 use Rattle.paper.specs.Limits.{number_of, draws_most}
 use Rattle.paper.specs.Rows.{unless}
 use Rattle.paper.specs.Count.{all}
-use Rattle.paper.proofs.Logic.{by-test, both, and-true, and-stops}
+use Rattle.paper.proofs.Logic.{by-test, both, and-stops}
 use Rattle.paper.proofs.Count.{all_none, all_more}
 use Rattle.paper.proofs.Rows.{worked, kept}
 use Rattle.records.specs.Fields.{le, field_at}
-use Rattle.records.specs.Records.{record_at, lead}
-use Rattle.records.specs.Heads.{whole_at, head_at}
-use Rattle.records.specs.declared.Head.{Head}
+use Rattle.records.specs.Records.{record_at}
+use Rattle.records.specs.Heads.{head_at}
 use Rattle.records.specs.declared.Head.TheVariants as head
 use Rattle.records.proofs.Numbers.{field_is}
 use Rattle.records.proofs.Walks.{lead_is, lead-full, record-says, record_is}
 use Rattle.records.proofs.Mixed.{head-says, head-none, whole_says, whole_is}
-use Rattle.replay.specs.declared.BlockRead.{BlockRead}
 use Rattle.replay.specs.declared.BlockRead.TheVariants as read
 use Rattle.replay.specs.Reading.{blocks_most, draw_at, close_at, record_row, fault_at, draw_fine, leading_draws, block_read}
 

@@ -10,7 +10,6 @@ use lib.Dec.{eqb}
 use lib.ListN.{length, take, drop, replicate}
 use lib.Seq.{take_all}
 use Rattle.paper.proofs.Logic.{by-test, lt-or-ge}
-use Rattle.owners.specs.Entries.{placeless}
 use Rattle.owners.specs.Recount.{first_fail}
 use Rattle.owners.proofs.Scans.{FirstFault, first-is, first-only}
 use Rattle.rota.specs.Moves.{Draw}
@@ -24,7 +23,7 @@ use Rattle.replay.specs.declared.BlockRead.{BlockRead}
 use Rattle.replay.specs.declared.BlockRead.TheVariants as read
 use Rattle.replay.specs.Reading.{blocks_most, fault_at, leading_draws, block_read, fields_of}
 use Rattle.replay.specs.Text.{draws_in, recorded_in, board_in, shown_text, blocks_text}
-use Rattle.replay.specs.Rule.{Agrees, Differs, Shows, ends, refuses, differs, agrees}
+use Rattle.replay.specs.Rule.{Shows, ends, refuses, differs, agrees}
 use Rattle.replay.proofs.Records.{block-end, block-is, block-faulty}
 use Rattle.replay.proofs.Streams.{is_read, place_in, after_in, text-by, body-agrees, body-differs}
 

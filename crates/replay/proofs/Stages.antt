@@ -2,7 +2,7 @@
 use mathlib.Core.Path.{◌≡◌, refl, sym, ap, ap₂, ◌∙◌, subst}
 use mathlib.Core.Bool.{Bool, true, false, cond}
 use mathlib.Core.List.{List, ◌∷◌, []}
-use Prim.Native.Nat.{ℕ, ◌+◌, ◌≤◌}
+use Prim.Native.Nat.{ℕ, ◌≤◌}
 use native.Mathlib.Omega.{arith}
 use borrow.Author.Tests.{le-leb, eq-eqb}
 use lib.Dec.{leb, eqb, ltb}
@@ -11,7 +11,7 @@ use lib.ListN.{length, replicate, length-replicate}
 use Rattle.paper.specs.declared.Refusal.{Refusal}
 use Rattle.paper.specs.Limits.{test, people_ok, slot_count_ok}
 use Rattle.paper.specs.Rows.{unless, refusal_of}
-use Rattle.paper.proofs.Logic.{by-test, and-true}
+use Rattle.paper.proofs.Logic.{by-test}
 use Rattle.paper.proofs.Rows.{worked, kept}
 use Rattle.owners.specs.Derived.{Plan, Derived, afresh}
 use Rattle.owners.specs.Entries.{placeless}
@@ -29,7 +29,7 @@ use Rattle.job.specs.declared.Ending.TheVariants as ending
 use Rattle.job.specs.declared.JobAnswer.{JobAnswer}
 use Rattle.job.specs.declared.JobAnswer.TheVariants as answer
 use Rattle.job.specs.Listing.{listing_most}
-use Rattle.job.specs.Outcome.{Result, refused_as, listed_as, Ends}
+use Rattle.job.specs.Outcome.{Result, listed_as, Ends}
 use Rattle.job.specs.Stages.{Ready, plan_of}
 use Rattle.job.specs.Shown.{block_text, block_row, block_result}
 use Rattle.replay.specs.declared.BlockRead.{BlockRead}

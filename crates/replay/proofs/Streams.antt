@@ -1,15 +1,15 @@
 -- However a recording is streamed, its stages one after the other write its text and nothing else. Assumes nothing.
 use mathlib.Core.Path.{◌≡◌, refl, sym, ap, ap₂, ◌∙◌, subst}
-use mathlib.Core.Logic.{◌⊎◌, inl, inr, ⊎_elim}
+use mathlib.Core.Logic.{⊎_elim}
 use mathlib.Core.Bool.{Bool, true, false, cond, ◌&&◌, ◌||◌}
-use mathlib.Core.List.{List, [], ◌∷◌, ◌++◌, append-nil}
+use mathlib.Core.List.{List, [], ◌++◌, append-nil}
 use Prim.Native.Nat.{ℕ, zero, suc, ◌+◌, ◌-◌, ◌*◌, ◌≤◌, ◌<◌}
 use native.Mathlib.Omega.{arith}
-use borrow.Author.Tests.{le-leb, leb-true, eq-eqb, ne_eqb, eqb-true, lt-ltb, le-ltb, ltb-true}
-use lib.Dec.{leb, ltb, eqb}
-use lib.IntN.{ℤ, pos}
+use borrow.Author.Tests.{le-leb, eq-eqb, ne_eqb, eqb-true, lt-ltb, le-ltb, ltb-true}
+use lib.Dec.{leb, eqb}
+use lib.IntN.{pos}
 use lib.ListN.{length, get_or, take, drop, replicate, length-replicate}
-use lib.Seq.{take_at, take-append-le}
+use lib.Seq.{take_at}
 use Rattle.paper.specs.Limits.{number_of, draws_most}
 use Rattle.paper.specs.Rows.{unless, refusal_of}
 use Rattle.paper.specs.Count.{all, over}

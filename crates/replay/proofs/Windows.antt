@@ -1,7 +1,7 @@
 -- However a recording is streamed: what its first bytes say of where the job ends, and those of a block of that block. Assumes nothing.
 use mathlib.Core.Path.{◌≡◌, refl, sym, ap, ap₂, ◌∙◌}
 use mathlib.Core.Logic.{◌⊎◌, inl, inr}
-use mathlib.Core.Bool.{Bool, true, false, not, cond, ◌&&◌, ◌||◌}
+use mathlib.Core.Bool.{Bool, true, not, cond, ◌&&◌, ◌||◌}
 use mathlib.Core.List.{List, ◌++◌}
 use Prim.Native.Nat.{ℕ, zero, suc, ◌+◌, ◌-◌, ◌*◌, ◌≤◌, ◌<◌}
 use native.Mathlib.Omega.{arith}
@@ -10,15 +10,14 @@ use lib.Dec.{leb, ltb, eqb}
 use lib.ListN.{length, length-append}
 use Rattle.paper.specs.Limits.{draws_most}
 use Rattle.paper.specs.Rows.{unless}
-use Rattle.paper.specs.Count.{all}
-use Rattle.paper.proofs.Logic.{by-test, both}
+use Rattle.paper.proofs.Logic.{by-test}
 use Rattle.paper.proofs.Count.{all-each, each_all, all_same}
 use Rattle.records.specs.Fields.{le}
 use Rattle.records.specs.Records.{record_at, lead}
 use Rattle.records.specs.Heads.{place_of}
 use Rattle.records.proofs.Numbers.{le-front}
 use Rattle.records.proofs.Walks.{lead-all, lead-most}
-use Rattle.records.proofs.Mixed.{place_none, place-more}
+use Rattle.records.proofs.Mixed.{place_none}
 use Rattle.replay.specs.declared.BlockRead.{BlockRead}
 use Rattle.replay.specs.declared.BlockRead.TheVariants as read
 use Rattle.replay.specs.Reading.{blocks_most, head_stands, opens_blocks, job_heads, job_end}

@@ -1,6 +1,5 @@
 -- A run of the stages over a recording: however the file comes in pieces. Assumes nothing.
-use Rattle.std.specs.Prelude.{◌≡◌, ◌⊎◌, List, [], ◌++◌, ℕ, zero, suc, ◌+◌, ◌≤◌, length, take, drop}
-use Rattle.paper.specs.Rows.{refusal_of}
+use Rattle.std.specs.Prelude.{◌≡◌, ◌⊎◌, List, [], ◌++◌, ℕ, suc, ◌≤◌, length, take, drop}
 use Rattle.owners.specs.Derived.{Derived}
 use Rattle.job.specs.declared.Begun.{Begun}
 use Rattle.job.specs.declared.Ending.{Ending}
@@ -9,7 +8,6 @@ use Rattle.job.specs.Listing.{listing_most}
 use Rattle.job.specs.Stages.{Ready}
 use Rattle.job.specs.Shown.{last_line}
 use Rattle.job.specs.Begun.{BegunAs, ready_from, derived_from}
-use Rattle.replay.specs.declared.Played.{Played}
 use Rattle.replay.specs.declared.Played.TheVariants as played
 use Rattle.replay.specs.Reading.{job_end}
 use Rattle.replay.specs.Stage.{Staged, stage_of}

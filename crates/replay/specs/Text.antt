@@ -1,5 +1,5 @@
 -- The text that a recording's replay writes, said of its file alone. Assumes nothing.
-use Rattle.std.specs.Prelude.{cond, List, [], ◌∷◌, ◌++◌, ℕ, zero, suc, ◌-◌, eqb, take, drop, replicate}
+use Rattle.std.specs.Prelude.{cond, List, [], ◌++◌, ℕ, zero, suc, ◌-◌, eqb, take, drop, replicate}
 use Rattle.paper.specs.Rows.{unless, refusal_of}
 use Rattle.paper.specs.Count.{over}
 use Rattle.owners.specs.Derived.{worked}

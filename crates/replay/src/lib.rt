@@ -1,4 +1,6 @@
 // A recording: a job, then blocks of draws with the answers that a live search gave. Read block by block, played, and compared.
+#![tactic(auto)]
+
 mod reading;
 mod stage;
 

@@ -1,24 +1,22 @@
 -- What the tests of retiring say, and how they come together. Assumes nothing.
 use mathlib.Core.Path.{◌≡◌, refl, sym, ap, ◌∙◌}
 use mathlib.Core.Bool.{Bool, true, false, ◌&&◌, ◌||◌, not, cond}
-use mathlib.Core.Logic.{⊎_elim}
 use mathlib.Core.List.{List, [], ◌∷◌, ◌++◌}
 use Prim.Native.Nat.{ℕ, ◌+◌, ◌-◌, ◌*◌, ◌≤◌, ◌<◌}
 use native.Mathlib.Omega.{arith}
 use borrow.Author.Tests.{leb-true, ltb-true, le-leb, lt-leb, eq-eqb, ne_eqb, lt-ltb}
 use lib.Dec.{eqb, leb, ltb}
 use lib.ListN.{length}
-use Rattle.paper.specs.Limits.{people_ok, slot_count_ok, slots_most, ranges_most, set_words, Test, test, number_of}
+use Rattle.paper.specs.Limits.{people_ok, slot_count_ok, slots_most, ranges_most, Test, test, number_of}
 use Rattle.paper.specs.declared.Refusal.{Refusal}
-use Rattle.paper.specs.Rows.{accepted, refusal_of, next, test_refusal}
-use Rattle.paper.proofs.Logic.{by-test, both, and-true, lt-or-ge, people-says, slot-count-says}
+use Rattle.paper.specs.Rows.{refusal_of, next}
+use Rattle.paper.proofs.Logic.{by-test, both, and-true, slot-count-says}
 use Rattle.paper.proofs.Rows.{passed, all_pass, said, Checked, link, ends, renamed, checked-more, next-fail, next-kept}
 use Rattle.slots.specs.Lent.{slot_room_ok, slots_ok}
 use Rattle.slots.specs.Ranges.{range_count_ok, range_room_ok, ranges_ok}
 use Rattle.slots.proofs.LentLaws.{room_says}
 use Rattle.units.specs.Units.{units_ok}
-use Rattle.owners.specs.Derived.{Derived}
-use Rattle.owners.specs.Recount.{recounts, recount_tests}
+use Rattle.owners.specs.Recount.{recounts}
 use Rattle.owners.specs.Entries.{lent_row, recount_row}
 use Rattle.owners.proofs.RecountRefusals.{first_on, first_stops}
 use Rattle.owners.proofs.Entered.{recount-number}

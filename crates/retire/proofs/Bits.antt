@@ -4,7 +4,7 @@ use mathlib.Core.Bool.{Bool, true, false, ◌&&◌, cond}
 use mathlib.Core.List.{List}
 use Prim.Native.Nat.{ℕ, zero, suc, ◌+◌, ◌-◌, ◌*◌, ◌≤◌, ◌<◌}
 use native.Mathlib.Omega.{arith}
-use borrow.Author.Tests.{lt-ltb, le-ltb}
+use borrow.Author.Tests.{le-ltb}
 use lib.Dec.{eqb, ltb, leb}
 use lib.ListN.{length, replicate}
 use Rattle.paper.specs.Limits.{people_ok}
@@ -13,7 +13,7 @@ use Rattle.slotset.specs.Slots.{slot, put_slot, put_slots, value_of}
 use Rattle.slotset.specs.Answers.{row_stretch_of}
 use Rattle.slotset.proofs.Puts.{slot_lt, slot-puts-here, slot-none, puts-same}
 use Rattle.slots.specs.Availability.{rows}
-use Rattle.slots.proofs.AvailLaws.{row_put, row_more, row-length, rows_more, rows-length}
+use Rattle.slots.proofs.AvailLaws.{row_put, row_more, row-length, rows_more}
 use Rattle.slots.proofs.Meaning.{other-slot}
 use Rattle.retire.specs.Rolled.{rolled}
 use Rattle.retire.proofs.Rolls.{rolled-old, rolled-new}

@@ -1,14 +1,14 @@
 -- The minutes that go, person by person. Assumes nothing.
-use mathlib.Core.Path.{◌≡◌, refl, sym, ap, ap₂, ◌∙◌}
+use mathlib.Core.Path.{◌≡◌, sym, ap, ap₂, ◌∙◌}
 use mathlib.Core.Bool.{Bool, true, ◌&&◌}
 use mathlib.Core.List.{List}
-use Prim.Native.Nat.{ℕ, zero, suc, ◌+◌, ◌-◌, ◌*◌, ◌≤◌, ◌<◌}
+use Prim.Native.Nat.{ℕ, ◌+◌, ◌-◌, ◌≤◌, ◌<◌}
 use native.Mathlib.Omega.{arith}
 use borrow.Author.Tests.{le-leb, lt-leb}
 use lib.Dec.{leb}
 use lib.ListN.{length, get_or, set}
-use Rattle.paper.specs.Limits.{last_minute, nobody}
-use Rattle.paper.specs.Count.{sum, over}
+use Rattle.paper.specs.Limits.{nobody}
+use Rattle.paper.specs.Count.{over}
 use Rattle.paper.proofs.Count.{over_none, over-more, length_over, get_d-over-out}
 use Rattle.owners.specs.Derived.{plan, worked, uncovered}
 use Rattle.retire.specs.Rolled.{entry}

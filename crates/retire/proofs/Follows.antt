@@ -1,34 +1,31 @@
 -- After retiring, slots and units pass rule 9 and the recount passes: a play follows. Assumes nothing.
-use mathlib.Core.Path.{◌≡◌, refl, sym, ap, ap₂, ◌∙◌}
-use mathlib.Core.Bool.{Bool, true, false, ◌&&◌, cond}
+use mathlib.Core.Path.{◌≡◌, sym, ap, ◌∙◌}
+use mathlib.Core.Bool.{Bool, true}
 use mathlib.Core.Logic.{⊎_elim}
-use mathlib.Core.List.{List, []}
-use Prim.Native.Nat.{ℕ, zero, suc, ◌+◌, ◌-◌, ◌*◌, ◌≤◌, ◌<◌}
-use native.Mathlib.Numerals.{add-one}
+use mathlib.Core.List.{List}
+use Prim.Native.Nat.{ℕ, zero, suc, ◌+◌, ◌-◌, ◌≤◌, ◌<◌}
 use native.Mathlib.Omega.{arith}
-use borrow.Author.Tests.{le-leb, lt-ltb, le-ltb, eq-eqb}
-use lib.Dec.{eqb, leb, ltb}
+use borrow.Author.Tests.{le-leb, lt-ltb, eq-eqb}
 use lib.ListN.{length, get_or}
 use Rattle.paper.specs.Limits.{nobody}
-use Rattle.paper.specs.Count.{all, over, among}
+use Rattle.paper.specs.Count.{among}
 use Rattle.paper.proofs.Logic.{lt-or-ge, and-true}
 use Rattle.paper.proofs.Count.{each_all, length_over, among-at, among-each, among-rises, among_none}
-use Rattle.units.specs.Units.{unit_start, unit_end, start_rises, start_ok, units_ok}
+use Rattle.units.specs.Units.{unit_start, unit_end, start_ok, units_ok}
 use Rattle.units.specs.Starts.{unit_begins, unit_starts}
 use Rattle.units.proofs.Begins.{unit-zero}
 use Rattle.units.proofs.Units.{starts-below, starts-rise, starts-far, ends_next, ends_last, unit-within}
 use Rattle.owners.specs.Derived.{afresh}
-use Rattle.owners.specs.Inside.{InStep}
 use Rattle.owners.proofs.Steps.{afresh-step}
-use Rattle.owners.proofs.Entered.{Recounted, says-recount}
+use Rattle.owners.proofs.Entered.{says-recount}
 use Rattle.retire.specs.Rolled.{entry, begin_then}
 use Rattle.retire.specs.New.{New, new_starts, new_count, new_units}
-use Rattle.retire.specs.Outcome.{Held, plan_of, units_gone, slots_gone, slots_kept, units_kept, slots_then, units_then, begins_then, avail_then}
+use Rattle.retire.specs.Outcome.{Held, units_gone, slots_gone, slots_kept, units_kept, slots_then, units_then, begins_then, avail_then}
 use Rattle.retire.specs.Outcome.{owners_then, plan_then, held_then}
 use Rattle.retire.specs.Inside.{PlanRight}
-use Rattle.retire.specs.Promised.{Retires, StaysAndComes, PlayFollows}
+use Rattle.retire.specs.Promised.{Retires, PlayFollows}
 use Rattle.retire.proofs.Moved.{gone-start, gone-below}
-use Rattle.retire.proofs.Passes.{column-length, slots-pass, owner-old, owner-new, known-then, fits-then, kept-some}
+use Rattle.retire.proofs.Passes.{column-length, slots-pass, owner-old, owner-new, known-then, fits-then}
 use Rattle.retire.proofs.Promises.{right, P, C, owners-wide, begins-room, begin-old, begin-new}
 
 -- ---- the new units: the first starts with the first new slot, they rise, and stay among the new slots

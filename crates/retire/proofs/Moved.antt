@@ -1,5 +1,5 @@
 -- Slots, units, availability and flags once they have moved: what was written by value is what is new. Assumes nothing.
-use mathlib.Core.Path.{◌≡◌, refl, sym, ap, ap₂, subst, ◌∙◌}
+use mathlib.Core.Path.{◌≡◌, refl, sym, ap, ap₂, ◌∙◌}
 use mathlib.Core.Bool.{Bool, true, cond}
 use mathlib.Core.List.{List}
 use Prim.Native.Nat.{ℕ, zero, suc, ◌+◌, ◌-◌, ◌*◌, ◌≤◌, ◌<◌}
@@ -7,7 +7,7 @@ use native.Mathlib.Omega.{arith}
 use borrow.Author.Tests.{lt-ltb}
 use lib.Dec.{ltb}
 use lib.ListN.{length, get_or}
-use Rattle.paper.specs.Count.{over, onto, among}
+use Rattle.paper.specs.Count.{over, onto}
 use Rattle.paper.proofs.Count.{over-same, among_same, among-each, among-le, length-onto}
 use Rattle.slotset.specs.Slots.{slot, put_slots}
 use Rattle.slotset.proofs.Puts.{puts-same}
@@ -25,7 +25,7 @@ use Rattle.units.proofs.Units.{starts-below, starts-rise, units-within}
 use Rattle.retire.specs.Rolled.{entry, rolled, rolled_column, begin_then}
 use Rattle.retire.specs.Going.{start_from, gone_slots}
 use Rattle.retire.specs.New.{New, new_starts, new_ends, new_count, new_bit, new_units}
-use Rattle.retire.specs.Outcome.{Held, units_gone, slots_gone, slots_kept, units_kept, slots_then, units_then, starts_then, ends_then}
+use Rattle.retire.specs.Outcome.{Held, units_gone, slots_gone, slots_kept, units_kept, slots_then}
 use Rattle.retire.specs.Outcome.{avail_then, begins_then, frozen_after}
 use Rattle.retire.specs.Inside.{NewRight, Written, WordsAre, PlanRight, PlanMoved}
 use Rattle.retire.proofs.Bits.{rolled-same}

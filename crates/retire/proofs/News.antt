@@ -3,9 +3,9 @@ use mathlib.Core.Path.{◌≡◌, refl, sym, ap, ◌∙◌}
 use mathlib.Core.Bool.{Bool, true, false, ◌&&◌, ◌||◌, cond}
 use mathlib.Core.Logic.{⊎_elim}
 use mathlib.Core.List.{List, []}
-use Prim.Native.Nat.{ℕ, zero, suc, ◌+◌, ◌*◌, ◌≤◌, ◌<◌}
+use Prim.Native.Nat.{ℕ, ◌+◌, ◌*◌, ◌≤◌, ◌<◌}
 use native.Mathlib.Omega.{arith}
-use borrow.Author.Tests.{le-leb, lt-leb, leb-true, lt-ltb, le-ltb, eq-eqb, ne_eqb}
+use borrow.Author.Tests.{le-leb, lt-leb}
 use lib.Dec.{leb, eqb}
 use lib.ListN.{length}
 use Rattle.paper.specs.Limits.{people_ok, slot_count_ok, number_of}
@@ -14,12 +14,11 @@ use Rattle.paper.proofs.Logic.{both, and-true, lt-or-ge, people-says, by-test}
 use Rattle.paper.proofs.Rows.{all_pass, worked, kept, passed}
 use Rattle.paper.proofs.Count.{onto-none, among-le}
 use Rattle.slotset.specs.declared.Number.{Number}
-use Rattle.slotset.specs.declared.Number.TheVariants as number
 use Rattle.slotset.specs.Answers.{number_as}
 use Rattle.slotset.specs.Slots.{slot}
 use Rattle.slots.specs.Lent.{slot_room_ok, slots_ok, slot_ok_at}
 use Rattle.slots.specs.Ranges.{Ranges, ranges, range_count_ok, range_room_ok, range_ok_at, ranges_ok}
-use Rattle.slots.specs.Atomic.{is_cut, atom_starts, atom_ends, Base, base, starts_of_atoms, ends_of_atoms, atomise_row, atomise_of, AtomsEnd}
+use Rattle.slots.specs.Atomic.{is_cut, atom_starts, atom_ends, Base, base, starts_of_atoms, atomise_row, atomise_of, AtomsEnd}
 use Rattle.slots.specs.Merged.{merged_row, merged_ranges, columns}
 use Rattle.slots.specs.Availability.{availability_row, availability_of, available_bit}
 use Rattle.slots.proofs.AtomLaws.{BaseFits, fits-number}

@@ -1,26 +1,23 @@
 -- What the tests leave known where nothing is refused; and the rota then passes. Assumes nothing.
-use mathlib.Core.Path.{◌≡◌, refl, sym, ap, ap₂, ◌∙◌}
+use mathlib.Core.Path.{◌≡◌, refl, sym, ap, ◌∙◌}
 use mathlib.Core.Bool.{Bool, true, false, ◌&&◌, ◌||◌, not, cond}
 use mathlib.Core.Logic.{◌⊎◌, inl, inr, ⊎_elim}
-use mathlib.Core.List.{List, [], ◌∷◌, ◌++◌}
+use mathlib.Core.List.{List, [], ◌++◌}
 use Prim.Native.Nat.{ℕ, zero, suc, ◌+◌, ◌-◌, ◌*◌, ◌≤◌, ◌<◌, zero-le}
 use native.Mathlib.Omega.{arith}
-use borrow.Author.Tests.{leb-true, ltb-true, le-leb, lt-leb, lt-ltb, eq-eqb, ne_eqb, eqb-true, eqb-false}
-use lib.Dec.{eqb, leb, ltb}
+use borrow.Author.Tests.{leb-true, le-leb, lt-ltb, eq-eqb, eqb-true, eqb-false}
+use lib.Dec.{eqb, leb}
 use lib.ListN.{length, get_or}
 use lib.ListN.{get_or-append}
-use Rattle.paper.specs.Limits.{people_ok, slot_count_ok, slots_most, last_minute, nobody, Test, number_of}
-use Rattle.paper.specs.Rows.{refusal_of}
+use Rattle.paper.specs.Limits.{slot_count_ok, slots_most, nobody, Test, number_of}
 use Rattle.paper.specs.Count.{all}
-use Rattle.paper.proofs.Logic.{by-test, both, and-true, or-either, or-second, or_right, lt-or-ge, people-says, slot-count-says}
+use Rattle.paper.proofs.Logic.{by-test, both, and-true, or-either, or-second, or_right, lt-or-ge, slot-count-says}
 use Rattle.paper.proofs.Rows.{worked, passed, all_pass, said, numbered}
-use Rattle.paper.proofs.Count.{all-each, each_all, get_d_over, get_d-over-out, length_over}
+use Rattle.paper.proofs.Count.{each_all, get_d_over, get_d-over-out, length_over}
 use Rattle.slotset.specs.Slots.{slot}
 use Rattle.slotset.proofs.Puts.{slot_lt}
 use Rattle.slots.specs.Lent.{slot_ok, slot_ok_at, slot_room_ok, slots_ok, prev_end, SlotsSound}
-use Rattle.slots.specs.Ranges.{ranges_ok}
-use Rattle.slots.specs.Atomic.{is_cut, atom_starts, atom_ends, cuts_in}
-use Rattle.slots.specs.Availability.{available_bit}
+use Rattle.slots.specs.Atomic.{is_cut, atom_starts}
 use Rattle.slots.proofs.LentLaws.{slots-sound}
 use Rattle.slots.proofs.SplitLaws.{atoms-ok, atoms-some}
 use Rattle.slots.proofs.Meaning.{set-slot, bit-lt-two}
@@ -34,12 +31,12 @@ use Rattle.owners.specs.Derived.{Plan, Derived, known_by, afresh}
 use Rattle.owners.specs.Recount.{recounts, available_for, known_at, available_at}
 use Rattle.owners.specs.Entries.{lent_row, from_slots_row, from_slots, outcome, placeless, Ended}
 use Rattle.owners.proofs.RecountRefusals.{first_on, first_stops}
-use Rattle.owners.proofs.Entered.{Recounted, recount-says}
+use Rattle.owners.proofs.Entered.{Recounted}
 use Rattle.owners.proofs.Minutes.{known-nobody, known-below}
 use Rattle.retire.specs.Rolled.{entry, rolled, rolled_column}
 use Rattle.retire.specs.New.{New, new_starts, new_ends, new_count, new_bit}
 use Rattle.retire.specs.Outcome.{Held, plan_of, units_gone, slots_gone, slots_kept, slots_then, starts_then, ends_then, owners_then, avail_then}
-use Rattle.retire.specs.Outcome.{plan_then, asked_row, new_row, held_row, retire_row, sound, whole, comes_after, figures_ok, figures_then_ok}
+use Rattle.retire.specs.Outcome.{plan_then, asked_row, new_row, held_row, retire_row, sound, whole, comes_after, figures_then_ok}
 use Rattle.retire.specs.Inside.{NewRight, PlanRight}
 use Rattle.retire.proofs.Rolls.{rolled-old, rolled-new}
 use Rattle.retire.proofs.Bits.{rolled-lt}

@@ -1,44 +1,42 @@
 -- Retiring loses no minute; what goes, what stays and what is new; a play and a published column follow. Assumes nothing.
 use mathlib.Core.Path.{◌≡◌, refl, sym, ap, ap₂, ◌∙◌}
 use mathlib.Core.Bool.{Bool, true, false, cond}
-use mathlib.Core.Logic.{⊎_elim}
 use mathlib.Core.List.{List, [], ◌∷◌}
-use Prim.Native.Nat.{ℕ, zero, suc, ◌+◌, ◌-◌, ◌*◌, ◌≤◌, ◌<◌}
+use Prim.Native.Nat.{ℕ, ◌+◌, ◌-◌, ◌≤◌, ◌<◌}
 use native.Mathlib.Omega.{arith}
 use borrow.Author.Tests.{le-leb, lt-ltb, eq-eqb, ne_eqb}
-use lib.Dec.{leb, ltb}
-use lib.ListN.{length, get_or}
-use Rattle.paper.specs.Limits.{nobody, number_of, slot_count_ok}
-use Rattle.paper.specs.Count.{sum, over}
-use Rattle.paper.proofs.Logic.{lt-or-ge, people-says, slot-count-says, and-true}
+use lib.ListN.{length}
+use Rattle.paper.specs.Limits.{nobody, slot_count_ok}
+use Rattle.paper.specs.Count.{sum}
+use Rattle.paper.proofs.Logic.{people-says, slot-count-says, and-true}
 use Rattle.paper.specs.Rows.{refusal_of}
 use Rattle.paper.proofs.Rows.{all_pass, said}
 use Rattle.paper.proofs.Count.{sum_same, sum-add, sum-after, get_d_over, among-le}
 use Rattle.units.specs.Starts.{unit_starts}
-use Rattle.slotset.specs.Slots.{slot, put_slots}
+use Rattle.slotset.specs.Slots.{slot}
 use Rattle.slotset.proofs.Puts.{slot_lt, slot-puts-here}
-use Rattle.slots.specs.Lent.{minutes_at, demand_of, slots_ok}
-use Rattle.slots.specs.Atomic.{is_cut, atom_starts, atom_ends}
+use Rattle.slots.specs.Lent.{minutes_at, demand_of}
+use Rattle.slots.specs.Atomic.{is_cut}
 use Rattle.slots.proofs.LentLaws.{slots-each}
 use Rattle.slots.proofs.SplitLaws.{atoms-demand}
-use Rattle.units.specs.Units.{unit_start, units_ok}
-use Rattle.owners.specs.Derived.{plan, worked, uncovered}
+use Rattle.units.specs.Units.{unit_start}
+use Rattle.owners.specs.Derived.{worked, uncovered}
 use Rattle.owners.proofs.Scans.{first-is}
 use Rattle.owners.proofs.Minutes.{minutes-total}
 use Rattle.owners.proofs.Entered.{Recounted, recount-says}
-use Rattle.retire.specs.Rolled.{entry, rolled, rolled_column, begin_then}
+use Rattle.retire.specs.Rolled.{entry, rolled, begin_then}
 use Rattle.retire.specs.Column.{column_row}
-use Rattle.retire.specs.Going.{gone_units, frozen_whole, LongestStretch, going_plan, prior_then, retired_then, priors_then, retired_column}
+use Rattle.retire.specs.Going.{gone_units, frozen_whole, going_plan, prior_then, retired_then, priors_then, retired_column}
 use Rattle.retire.specs.New.{New, new_starts, new_ends, new_count, new_bit, new_units}
 use Rattle.retire.specs.Outcome.{Held, plan_of, units_gone, slots_gone, slots_kept, units_kept, slots_then, units_then, starts_then, ends_then}
-use Rattle.retire.specs.Outcome.{avail_then, frozen_after, owners_then, held_then, retire_row, retire_of}
+use Rattle.retire.specs.Outcome.{held_then, retire_row, retire_of}
 use Rattle.retire.specs.Inside.{PlanRight}
 use Rattle.retire.specs.Promised.{Retires, standing, NoMinuteLost, Retirings, after_all, new_demand, StaysAndComes, ColumnFollows, ExactlyWhen}
 use Rattle.retire.proofs.Rolls.{rolled-old, rolled-new}
 use Rattle.retire.proofs.Bits.{rolled-lt}
-use Rattle.retire.proofs.Asks.{AskedRight, whole_says}
+use Rattle.retire.proofs.Asks.{whole_says}
 use Rattle.retire.proofs.Moved.{gone-start, gone-below, units-fewer}
-use Rattle.retire.proofs.Passes.{RetireRight, retire-says, plan-right, at_old, at_new, avail-at, kept-some}
+use Rattle.retire.proofs.Passes.{RetireRight, retire-says, plan-right, at_old, at_new, avail-at}
 use Rattle.retire.proofs.Retires.{gone-most}
 
 -- no more new units than new slots

@@ -1,7 +1,7 @@
 -- The outcome of retiring, from what the code's calls say. Assumes nothing.
-use mathlib.Core.Path.{◌≡◌, refl, sym, ap, ap₂, ◌∙◌}
-use mathlib.Core.Bool.{Bool, true, false, ◌&&◌, cond}
-use mathlib.Core.List.{List, []}
+use mathlib.Core.Path.{◌≡◌, sym, ap, ap₂, ◌∙◌}
+use mathlib.Core.Bool.{true, false}
+use mathlib.Core.List.{List}
 use Prim.Native.Nat.{ℕ, ◌+◌, ◌-◌, ◌≤◌, ◌<◌}
 use native.Mathlib.Omega.{arith}
 use borrow.Author.Tests.{leb-true, eq-eqb, ne_eqb}
@@ -11,21 +11,20 @@ use Rattle.paper.specs.Limits.{last_minute, nobody, number_of}
 use Rattle.paper.specs.declared.Refusal.{Refusal}
 use Rattle.paper.specs.Rows.{refusal_of}
 use Rattle.paper.specs.Count.{all, over}
-use Rattle.paper.proofs.Logic.{both, people-says, slot-count-says}
+use Rattle.paper.proofs.Logic.{both}
 use Rattle.paper.proofs.Rows.{said}
 use Rattle.paper.proofs.Count.{all-each, length_over}
 use Rattle.owners.specs.Derived.{plan, Derived, derived, worked, uncovered, afresh}
 use Rattle.owners.specs.Entries.{from_slots_row}
-use Rattle.owners.proofs.Scans.{FirstFault, first-is}
+use Rattle.owners.proofs.Scans.{first-is}
 use Rattle.owners.proofs.Entered.{recount-says}
-use Rattle.retire.specs.declared.Retiring.{Retiring}
 use Rattle.retire.specs.declared.Retiring.TheVariants as retiring
 use Rattle.retire.specs.Rolled.{entry, rolled_column}
 use Rattle.retire.specs.Going.{gone_units, frozen_whole, gone_slots, start_from, prior_then, retired_then, priors_then, retired_column}
 use Rattle.retire.specs.New.{New}
-use Rattle.retire.specs.Outcome.{Columns, columns, Held, held, plan_of, units_gone, slots_gone, slots_kept, units_kept, slots_then, units_then}
+use Rattle.retire.specs.Outcome.{Columns, columns, Held, held, plan_of, units_gone, slots_gone, slots_kept, slots_then, units_then}
 use Rattle.retire.specs.Outcome.{starts_then, ends_then, avail_then, begins_then, frozen_after, owners_then, plan_then, held_then}
-use Rattle.retire.specs.Outcome.{retire_row, figures_then_ok, whole, Outcome, leaves, retire_of, Ended}
+use Rattle.retire.specs.Outcome.{retire_row, figures_then_ok, retire_of, Ended}
 use Rattle.retire.specs.Inside.{plan_held, PlanRight, PlanMoved}
 use Rattle.retire.proofs.Asks.{AskedRight, whole_says}
 use Rattle.retire.proofs.Passes.{RetireRight, retire-says, plan-right, then-passes}

@@ -1,14 +1,13 @@
 -- A column moved to the front entry by entry: the one law of every width. Assumes nothing.
 use mathlib.Core.Path.{◌≡◌, refl, sym, ap, ◌∙◌}
-use mathlib.Core.Bool.{Bool, true, false, cond}
+use mathlib.Core.Bool.{Bool, cond}
 use mathlib.Core.List.{List}
 use Prim.Native.Nat.{ℕ, ◌+◌, ◌-◌, ◌≤◌, ◌<◌}
 use native.Mathlib.Omega.{arith}
 use borrow.Author.Tests.{lt-ltb, le-ltb, leb-true}
-use lib.Dec.{ltb}
 use lib.ListN.{length, get_or, set}
 use Rattle.paper.specs.Count.{over}
-use Rattle.paper.proofs.Count.{over_none, over-more, over-same, length_over, get_d_over, get_d-over-out}
+use Rattle.paper.proofs.Count.{over_none, over-more, length_over, get_d-over-out}
 use Rattle.paper.specs.Limits.{number_of}
 use Rattle.paper.proofs.Rows.{passed}
 use Rattle.retire.specs.Column.{column_row}

@@ -1,5 +1,5 @@
 -- What private functions of retire alone cite. Assumes nothing.
-use Rattle.std.specs.Prelude.{◌≡◌, Bool, true, false, ◌⊎◌, List, [], ℕ, ◌+◌, ◌-◌, ◌*◌, ◌≤◌, ◌<◌, length, get_or}
+use Rattle.std.specs.Prelude.{◌≡◌, Bool, true, false, ◌⊎◌, List, [], ℕ, ◌-◌, ◌*◌, ◌≤◌, ◌<◌, length}
 use Rattle.paper.specs.Limits.{people_ok, ranges_most}
 use Rattle.paper.specs.Count.{onto}
 use Rattle.slotset.specs.Slots.{slot}

@@ -1,5 +1,5 @@
 -- What retiring promises, said apart from how it is worked out. Assumes nothing.
-use Rattle.std.specs.Prelude.{◌≡◌, true, false, List, [], ◌∷◌, ℕ, ◌+◌, ◌-◌, ◌*◌, ◌≤◌, ◌<◌, length}
+use Rattle.std.specs.Prelude.{◌≡◌, true, List, [], ◌∷◌, ℕ, ◌+◌, ◌-◌, ◌*◌, ◌≤◌, ◌<◌, length}
 use Rattle.paper.specs.Limits.{nobody, number_of}
 use Rattle.paper.specs.Count.{sum}
 use Rattle.slotset.specs.Slots.{slot}

@@ -1,4 +1,6 @@
 // Past weeks retired: the leading units that are frozen whole go, the rest moves to the front, and new slots come behind it.
+#![tactic(auto)]
+
 mod asking;
 mod column;
 mod entry;

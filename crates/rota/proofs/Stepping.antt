@@ -15,7 +15,7 @@ use Rattle.rota.specs.declared.Move.TheVariants.{Stay, Give, Trade}
 use Rattle.rota.specs.Board.{Board, BoardSound, InUnit, Even, owner_of}
 use Rattle.rota.specs.Moves.{Draw, draw, decided, answer_of, act, handed}
 use Rattle.rota.specs.Plays.{step, answer, owners_after, answers, draws_of}
-use Rattle.owners.specs.Derived.{Plan, known_by, Derived, derived, afresh}
+use Rattle.owners.specs.Derived.{Plan, known_by, Derived, afresh}
 use Rattle.owners.specs.Inside.{InStep, HandedOver, OneOwner}
 use Rattle.rota.specs.Stepped.{Stepped, SteppedAt, Ran}
 use Rattle.owners.proofs.Minutes.{known-person}

@@ -1,4 +1,5 @@
 // What changes a rota: a single assign, the five moves, and a play of many draws.
+#![tactic(auto)]
 
 pub mod assignment;
 mod checks;

@@ -1,5 +1,7 @@
 // A reader of a person's runs that holds the lent words, as an iterator does. Each answer is that of the cursor by value.
 // The functions over `Runs` are few and thin: each takes it apart and calls a function over plain parameters.
+#![tactic(auto)]
+
 ghost use Rattle.std.specs.Prelude.{◌≡◌, ◌≤◌, length};
 ghost use Rattle.paper.specs.Limits.{number_of};
 ghost use Rattle.paper.specs.Rows.{refusal_of};

@@ -14,12 +14,12 @@ use Rattle.paper.proofs.Logic.{people-says}
 use Rattle.slotset.specs.declared.Found.{Found}
 use Rattle.slotset.specs.declared.Found.TheVariants.{At, Nothing, Refused}
 use Rattle.slotset.specs.Slots.{Bits}
-use Rattle.slotset.specs.Search.{First, next_set, next_with}
-use Rattle.slotset.specs.Runs.{Ends, end_of, when_found, last_around, runs, ends_of_runs}
+use Rattle.slotset.specs.Search.{First, next_set}
+use Rattle.slotset.specs.Runs.{Ends, when_found, last_around, runs, ends_of_runs}
 use Rattle.slotset.specs.Answers.{sets_row, row_slots}
 use Rattle.slotset.specs.Lists.{every_run_row, person_runs, every_run, column}
 use Rattle.slotset.proofs.Meaning.{next-is}
-use Rattle.slotset.proofs.Runs.{run-around, next-after}
+use Rattle.slotset.proofs.Runs.{run-around}
 
 -- where nothing is refused, the sets may be read and the columns have room
 pub every-says : (ws : List ℕ) (people len k n m : ℕ) → number_of (every_run_row ws people len k n m) ≡ 0

@@ -1,5 +1,7 @@
 // A set of up to 1,024 slots: slot i is bit i mod 64 of word i div 64. Bits at or past the length are ignored and never written.
 // A set by value is 16 words and a length; a row is one person's 16 words among lent ones (module `row`).
+#![tactic(auto)]
+
 pub mod bit;
 pub mod listing;
 pub mod one;

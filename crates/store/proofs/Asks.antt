@@ -11,19 +11,17 @@ use Rattle.paper.specs.Limits.{number_of}
 use Rattle.paper.specs.Rows.{unless}
 use Rattle.paper.proofs.Logic.{by-test, number-of-made}
 use Rattle.paper.proofs.Rows.{all_pass}
-use Rattle.slotset.specs.declared.Number.{Number}
 use Rattle.slotset.specs.declared.Number.TheVariants as number
 use Rattle.slotset.proofs.Refusals.{number_is}
 use Rattle.records.specs.Records.{Rec, record_of}
 use Rattle.units.specs.Settings.{settings_ok}
 use Rattle.store.specs.declared.Kept.{Kept}
 use Rattle.store.specs.declared.Kept.TheVariants as kept
-use Rattle.store.specs.declared.Asked.{Asked}
 use Rattle.store.specs.declared.Asked.TheVariants as asked
 use Rattle.store.specs.declared.Saved.TheVariants as saved
 use Rattle.store.specs.Layout.{is_store, count_in, StoreOf}
 use Rattle.store.specs.Figures.{kept_of, kept_in}
-use Rattle.store.specs.Outcome.{layout_ok, store_tests, ask_tests, store_row, ask_row, save_row, answer_of, judged, ask_is, count_is, save_is}
+use Rattle.store.specs.Outcome.{layout_ok, ask_tests, store_row, ask_row, save_row, answer_of, judged, ask_is, count_is, save_is}
 use Rattle.store.specs.Outcome.{asked_refusal, saved_refusal}
 use Rattle.store.proofs.Outcomes.{layout-held, layout-short}
 use Rattle.store.proofs.Stores.{store_ok, store-count, store_kept, store-unknown}

@@ -1,19 +1,18 @@
 -- Laws of the records that the walk counts. Assumes nothing.
 use mathlib.Core.Path.{◌≡◌, refl, sym, ap, ◌∙◌}
-use mathlib.Core.Bool.{Bool, true, false}
+use mathlib.Core.Bool.{true, false}
 use mathlib.Core.List.{List}
-use Prim.Native.Nat.{ℕ, ◌+◌, ◌-◌, ◌≤◌, ◌<◌}
+use Prim.Native.Nat.{ℕ, ◌+◌, ◌≤◌, ◌<◌}
 use native.Mathlib.Omega.{arith}
 use lib.ListN.{length}
 use Rattle.paper.specs.Count.{all}
 use Rattle.paper.proofs.Count.{all_none, all_more, all-each, each_all}
 use Rattle.records.specs.Fields.{le}
-use Rattle.records.specs.Records.{lead}
 use Rattle.records.specs.Heads.{place_of}
 use Rattle.records.proofs.Walks.{lead_is, lead-all, lead-full, lead-most}
 use Rattle.records.proofs.Mixed.{place_none, place-more, whole_says}
 use Rattle.store.specs.Layout.{right_at, count_up_to}
-use Rattle.store.proofs.Right.{right-whole, step-some, step-none}
+use Rattle.store.proofs.Right.{right-whole}
 
 pub counted-right : (s : List ℕ) (most k : ℕ) → k < count_up_to s most → right_at s (place_of s k) ≡ true
 unfolding count_up_to

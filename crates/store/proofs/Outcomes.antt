@@ -8,12 +8,10 @@ use borrow.Author.Tests.{le-leb, lt-leb, leb-true, lt-ltb, le-ltb, ltb-true}
 use lib.Dec.{leb, ltb, eqb}
 use lib.ListN.{length, take}
 use Rattle.paper.specs.Limits.{number_of}
-use Rattle.paper.specs.Rows.{unless, refusal_of}
+use Rattle.paper.specs.Rows.{refusal_of}
 use Rattle.paper.specs.declared.Refusal.{Refusal}
 use Rattle.paper.proofs.Logic.{both, or_left, and-stops}
 use Rattle.paper.proofs.Rows.{worked, kept, said, passed}
-use Rattle.records.specs.Records.{bytes_of}
-use Rattle.records.specs.Puts.{put}
 use Rattle.records.specs.Heads.{place_of}
 use Rattle.records.specs.Writes.{written, with_record}
 use Rattle.records.proofs.Writes.{record-written}
@@ -24,7 +22,7 @@ use Rattle.store.specs.declared.Asked.{Asked}
 use Rattle.store.specs.declared.Asked.TheVariants as asked
 use Rattle.store.specs.declared.Saved.TheVariants as saved
 use Rattle.store.specs.Layout.{count_up_to, count_in, is_store}
-use Rattle.store.specs.Figures.{kept_in, body_of, settings_record}
+use Rattle.store.specs.Figures.{kept_in, body_of}
 use Rattle.store.specs.Outcome.{layout_ok, room_ok, store_tests, save_tests, ask_tests, store_row, save_row, ask_row}
 use Rattle.store.specs.Outcome.{answer_of, ask_is, save_is, SavesAs}
 

@@ -1,20 +1,19 @@
 -- Laws of what a number stands for. Assumes nothing.
 use mathlib.Core.Path.{◌≡◌, refl, sym, ap, ap₂, ◌∙◌}
-use mathlib.Core.Bool.{Bool, true, false, cond}
+use mathlib.Core.Bool.{Bool, true, cond}
 use mathlib.Core.List.{List}
 use Prim.Native.Nat.{ℕ, ◌+◌, ◌-◌, ◌≤◌, ◌<◌}
 use native.Mathlib.Omega.{arith}
 use borrow.Author.Tests.{le-leb, lt-leb, lt-ltb, le-ltb, eqb-true}
-use lib.Dec.{leb, ltb, eqb}
+use lib.Dec.{eqb}
 use lib.ListN.{length, get_or}
 use Rattle.paper.proofs.Logic.{by-test, and-true, and-stops, and_last}
 use Rattle.records.specs.Fields.{le, field_at}
 use Rattle.records.specs.Records.{Rec}
-use Rattle.records.specs.Heads.{found_at, whole_at, place_of}
+use Rattle.records.specs.Heads.{found_at, place_of}
 use Rattle.records.proofs.Numbers.{field_is}
 use Rattle.records.proofs.Mixed.{found-length, found-field, found-byte, whole_says}
 use Rattle.units.specs.declared.Settings.{Settings}
-use Rattle.store.specs.declared.Kept.{Kept}
 use Rattle.store.specs.declared.Kept.TheVariants as kept
 use Rattle.store.specs.Layout.{right_at, count_up_to, count_in}
 use Rattle.store.specs.Figures.{figures_of, kept_of, number_known, kept_in}

@@ -1,14 +1,13 @@
 -- Laws of a right record, and of one at a place. Assumes nothing.
-use mathlib.Core.Path.{◌≡◌, refl, sym, ap, ap₂, ◌∙◌}
+use mathlib.Core.Path.{◌≡◌, sym, ap, ◌∙◌}
 use mathlib.Core.Bool.{Bool, true, false, cond, ◌&&◌, ◌||◌}
 use mathlib.Core.List.{List}
-use mathlib.Core.Logic.{⊎_elim}
 use Prim.Native.Nat.{ℕ, ◌+◌, ◌≤◌, ◌<◌}
 use native.Mathlib.Omega.{arith}
 use borrow.Author.Tests.{le-leb, lt-leb, leb-true, lt-ltb, le-ltb, ltb-true, eq-eqb, ne_eqb, eqb-true}
 use lib.Dec.{leb, ltb, eqb}
 use lib.ListN.{length, get_or}
-use Rattle.paper.proofs.Logic.{by-test, both, three, and-true, and-stops, or-either, or_left, or-second}
+use Rattle.paper.proofs.Logic.{by-test, both, three, and-true, and-stops, or_left}
 use Rattle.records.specs.Fields.{le, Bytes}
 use Rattle.records.specs.Records.{Rec}
 use Rattle.records.specs.declared.Head.TheVariants as head

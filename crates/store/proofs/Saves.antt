@@ -1,18 +1,16 @@
 -- A store after settings were saved: one record more at its end, and all else as it was. Assumes nothing.
-use mathlib.Core.Path.{◌≡◌, refl, sym, ap, ap₂, ◌∙◌, subst}
-use mathlib.Core.Bool.{Bool, true, false}
+use mathlib.Core.Path.{◌≡◌, sym, ap, ◌∙◌, subst}
+use mathlib.Core.Bool.{true}
 use mathlib.Core.List.{List, [], ◌∷◌, ◌++◌, append_assoc}
-use mathlib.Core.Logic.{⊎_elim}
-use Prim.Native.Nat.{ℕ, zero, suc, ◌+◌, ◌-◌, ◌≤◌, ◌<◌}
+use Prim.Native.Nat.{ℕ, suc, ◌+◌, ◌-◌, ◌≤◌, ◌<◌}
 use native.Mathlib.Omega.{arith}
 use borrow.Author.Tests.{le-leb, lt-ltb}
 use lib.ListN.{length, get_or, take, drop, length-append, get_or-append}
-use lib.Seq.{length-take-le, get_or-take, get_or-drop, get_or-append-add, take_at, take-append-le, drop-append-add}
+use lib.Seq.{length-take-le, get_or-take, get_or-drop, get_or-append-add, take_at}
 use Rattle.paper.specs.Limits.{number_of}
-use Rattle.paper.specs.Rows.{unless}
-use Rattle.paper.proofs.Logic.{by-test, and-true, lt-or-ge, below_suc}
+use Rattle.paper.proofs.Logic.{by-test, below_suc}
 use Rattle.paper.proofs.Rows.{worked, kept, all_pass}
-use Rattle.records.specs.Records.{Rec, record_of, bytes_of, file_of}
+use Rattle.records.specs.Records.{Rec, record_of, bytes_of}
 use Rattle.records.specs.Puts.{put}
 use Rattle.records.proofs.Puts.{length-put}
 use Rattle.records.proofs.Mixed.{file-more}
@@ -20,9 +18,9 @@ use Rattle.units.specs.declared.Settings.{Settings}
 use Rattle.units.specs.Settings.{settings_ok}
 use Rattle.store.specs.declared.Saved.{Saved}
 use Rattle.store.specs.declared.Saved.TheVariants as saved
-use Rattle.store.specs.Layout.{count_in, is_store, RightRecord, StoreOf}
+use Rattle.store.specs.Layout.{count_in, RightRecord, StoreOf}
 use Rattle.store.specs.Figures.{settings_record}
-use Rattle.store.specs.Outcome.{layout_ok, room_ok, save_row, save_is}
+use Rattle.store.specs.Outcome.{save_row, save_is}
 use Rattle.store.proofs.Outcomes.{layout-held, room-is, save-passed, save-room}
 use Rattle.store.proofs.Stores.{store_ok, store-count, record-twelve, saved-right}
 

@@ -1,26 +1,23 @@
 -- The used bytes of a store as a sequence of right records: 13 both ways, and what each number stands for. Assumes nothing.
 use mathlib.Core.Path.{◌≡◌, refl, sym, ap, ap₂, ◌∙◌, subst}
-use mathlib.Core.Bool.{Bool, true, false, cond, ◌&&◌}
-use mathlib.Core.List.{List, [], ◌∷◌, ◌++◌, append_assoc}
+use mathlib.Core.Bool.{Bool, true, cond, ◌&&◌}
+use mathlib.Core.List.{List, [], ◌∷◌, ◌++◌}
 use mathlib.Core.Logic.{◌↔◌, ⊎_elim}
 use Prim.Native.Nat.{ℕ, zero, suc, ◌+◌, ◌-◌, ◌*◌, ◌/◌, ◌%◌, ◌≤◌, ◌<◌}
 use native.Mathlib.Omega.{arith}
-use borrow.Author.Tests.{leb-true, eq-eqb, ne_eqb, eqb-true, lt-ltb, le-ltb}
+use borrow.Author.Tests.{leb-true, eq-eqb, eqb-true}
 use lib.Dec.{eqb, lit<}
-use lib.ListN.{length, get_or, take, drop, length-append, get_or-append, get_or-eq_default}
-use lib.Seq.{drop-length, take-append-add, length-take-le, get_or-append-add, take_at}
-use Rattle.paper.proofs.Logic.{by-test, both, five, lt-or-ge, below_suc}
+use lib.ListN.{length, drop}
+use lib.Seq.{drop-length}
+use Rattle.paper.proofs.Logic.{by-test, both, five, lt-or-ge}
 use Rattle.records.specs.Fields.{le, le_bytes, Bytes}
 use Rattle.records.specs.Records.{Rec, record_of, bytes_of, file_of}
-use Rattle.records.specs.Puts.{put}
 use Rattle.records.specs.Heads.{found_at, whole_at, place_of}
-use Rattle.records.proofs.Numbers.{le-written}
-use Rattle.records.proofs.Mixed.{RecFits, found_from, found-count, found-at, found-file, Reads, file-reads, file-more, none-at-end, place_none}
+use Rattle.records.proofs.Mixed.{RecFits, found_from, found-count, found-at, found-file, Reads, file-reads, none-at-end, place_none}
 use Rattle.units.specs.declared.Settings.{Settings}
 use Rattle.units.specs.Settings.{settings_ok, boundary_ok}
-use Rattle.store.specs.declared.Kept.{Kept}
 use Rattle.store.specs.declared.Kept.TheVariants as kept
-use Rattle.store.specs.Layout.{record_right, right_at, count_up_to, count_in, is_store, RightRecord, StoreOf, IsStore}
+use Rattle.store.specs.Layout.{record_right, right_at, count_in, is_store, RightRecord, StoreOf, IsStore}
 use Rattle.store.specs.Figures.{figures_of, kept_of, kept_in, body_of, settings_record}
 use Rattle.store.proofs.Right.{right-whole, right_is, right-not, right-record, said-right}
 use Rattle.store.proofs.Counted.{counted-right, counted-most, counted-full, counted_is}

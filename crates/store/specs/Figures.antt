@@ -1,5 +1,5 @@
 -- Settings as a record: what one holds, and what is written. Assumes nothing.
-use Rattle.std.specs.Prelude.{Bool, ◌&&◌, cond, List, [], ◌∷◌, ◌++◌, ℕ, ◌-◌, leb, ltb, eqb, get_or}
+use Rattle.std.specs.Prelude.{Bool, ◌&&◌, cond, List, ◌∷◌, ◌++◌, ℕ, ◌-◌, leb, ltb, eqb, get_or}
 use Rattle.records.specs.Fields.{le, le_bytes}
 use Rattle.records.specs.Records.{Rec}
 use Rattle.records.specs.Heads.{found_at, place_of}

@@ -1,4 +1,6 @@
 // A store of settings in a lent area: records one after the other in its used bytes, numbered from 1 in order of saving.
+#![tactic(auto)]
+
 mod entries;
 mod figures;
 mod walk;

@@ -1,5 +1,5 @@
 -- The checks before the work: what they leave known where nothing is refused by them, and what the whole row says then. Assumes nothing.
-use Rattle.std.proofs.Common.{◌≡◌, ℕ, ◌*◌, ◌<◌, ◌≤◌, Bool, true, false, not, ◌&&◌, ◌||◌, eqb, ltb, leb, List, [], ◌∷◌, ◌++◌, length, sym, refl, ap, ◌∙◌, arith, ltb-true, eqb-true, le-leb, leb-true}
+use Rattle.std.proofs.Common.{◌≡◌, ℕ, ◌*◌, ◌<◌, ◌≤◌, Bool, true, false, not, ◌&&◌, eqb, ltb, leb, List, [], ◌∷◌, ◌++◌, length, sym, refl, ap, ◌∙◌, arith, ltb-true, le-leb, leb-true}
 use borrow.Author.Tests.{eqb-false, not-true, not-false}
 use Rattle.paper.specs.Limits.{people_ok, slot_count_ok, Test, test, number_of}
 use Rattle.paper.specs.Rows.{unless}

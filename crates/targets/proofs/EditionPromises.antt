@@ -1,9 +1,8 @@
 -- What edition 2 promises: who a minute goes to, no target below 0, pinned people keep theirs, and the level that missing minutes reach.
 -- Assumes nothing.
-use Rattle.std.proofs.Common.{◌≡◌, ℕ, zero, suc, ◌+◌, ◌-◌, ◌<◌, ◌≤◌, Bool, true, false, cond, not, ◌&&◌, eqb, ltb, leb, List, [], ◌∷◌, ◌++◌, map, length, get_or, take, drop, set, ℤ, pos, sym, refl, ap, ◌∙◌, subst, ap₂, ⊎_elim, true≢false, suc-le-suc, le_of_suc-le-suc, not-suc-le-zero, zero-lt-suc, arith, le-ltb, lt-ltb, le-leb}
-use borrow.Author.Tests.{not-true}
-use lib.ListN.{length-map, get_or-map, get_or-append}
-use Rattle.paper.proofs.Logic.{by-test, by_cond, and-true, lt-or-ge}
+use Rattle.std.proofs.Common.{◌≡◌, ℕ, zero, suc, ◌+◌, ◌-◌, ◌<◌, ◌≤◌, Bool, true, false, cond, not, leb, List, [], ◌∷◌, map, length, get_or, drop, set, ℤ, pos, sym, refl, ap, ◌∙◌, subst, suc-le-suc, le_of_suc-le-suc, not-suc-le-zero, zero-lt-suc, arith, le-ltb, lt-ltb, le-leb}
+use lib.ListN.{get_or-map, get_or-append}
+use Rattle.paper.proofs.Logic.{by-test, by_cond, and-true}
 use Rattle.targets.specs.declared.Standing.{Standing}
 use Rattle.targets.specs.Figures.{pad}
 use Rattle.targets.specs.Passes.{some}
@@ -11,9 +10,9 @@ use Rattle.targets.specs.Remainder.{total_of, target_of}
 use Rattle.targets.specs.SecondEdition.{unpinned, unpin, taking_part, retargeted, one_more, one_less, has_less, has_more}
 use Rattle.targets.specs.SecondEdition.{is_smallest, is_largest, on_first, give_minute, take_minute, Smallest, LargestFirst}
 use Rattle.targets.specs.SecondEdition.{times, handed_out, spread, shared_out}
-use Rattle.targets.specs.Levels.{reached, lift_cost, on_level, lifted_standing, left_after, lifted, Lifts, Levelled}
+use Rattle.targets.specs.Levels.{reached, lift_cost, on_level, lifted_standing, left_after, lifted, Levelled}
 use Rattle.targets.specs.Outcome.{Given, demand_in, left_in, targets_in, compute_targets}
-use Rattle.targets.specs.Inside.{Each, Small, PinnedZero}
+use Rattle.targets.specs.Inside.{Each}
 use Rattle.targets.proofs.Each.{each_at, each_none, at_some}
 use Rattle.targets.proofs.Sums.{added_up, total-is}
 use Rattle.targets.proofs.LevelLaws.{first-here, first-later, reached-says, not-reached, lifts-given}

@@ -1,9 +1,9 @@
 -- The minute-by-minute rule by levels: as many minutes as a level costs lift everybody to it, and what is left over lifts the first of
 -- them. Assumes nothing.
-use Rattle.std.proofs.Common.{◌≡◌, ℕ, zero, suc, ◌+◌, ◌-◌, ◌<◌, ◌≤◌, Bool, true, false, cond, not, ◌&&◌, eqb, ltb, leb, ◌⊎◌, List, [], ◌∷◌, ◌++◌, length, get_or, take, drop, set, sym, refl, ap, ◌∙◌, ap₂, inl, inr, ⊎_elim, true≢false, append-nil, zero-le, not-suc-le-zero, add-zero, add-suc, suc-add, zero-add, add-one, arith, drop_of_length-le, take_all, drop-cons, take-suc-set, le-ltb, lt-ltb, eq-eqb, ne_eqb, eqb-true, le-leb, leb-false, leb-true}
+use Rattle.std.proofs.Common.{◌≡◌, ℕ, zero, suc, ◌+◌, ◌-◌, ◌<◌, ◌≤◌, Bool, true, false, cond, not, ◌&&◌, eqb, ltb, leb, List, [], ◌∷◌, ◌++◌, length, get_or, take, drop, set, sym, refl, ap, ◌∙◌, ap₂, ⊎_elim, append-nil, not-suc-le-zero, add-zero, add-suc, suc-add, zero-add, add-one, arith, drop_of_length-le, take_all, drop-cons, take-suc-set, le-ltb, lt-ltb, eq-eqb, ne_eqb, eqb-true, le-leb, leb-false, leb-true}
 use borrow.Author.Tests.{not-true}
 use lib.Seq.{append_snoc}
-use Rattle.paper.proofs.Logic.{by-test, by_cond, both, and-true, or_left, or_right, or-second, lt-or-ge}
+use Rattle.paper.proofs.Logic.{by-test, by_cond, both, and-true, or_left, or-second, lt-or-ge}
 use Rattle.targets.specs.declared.Standing.{Standing}
 use Rattle.targets.specs.Passes.{some}
 use Rattle.targets.specs.Inside.{Each}

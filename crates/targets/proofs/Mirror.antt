@@ -1,5 +1,5 @@
 -- Extra minutes are missing minutes in a mirror: a target t shows as 2 ^ 40 less t, and the largest as the smallest. Assumes nothing.
-use Rattle.std.proofs.Common.{◌≡◌, ℕ, zero, suc, ◌+◌, ◌-◌, ◌*◌, ◌<◌, ◌≤◌, Bool, true, false, cond, not, ◌&&◌, ◌||◌, ltb, List, [], ◌∷◌, map, length, sym, refl, ap, ◌∙◌, subst, ap₂, ⊎_elim, le_refl, mul-suc, arith, ltb-true, lt-ltb}
+use Rattle.std.proofs.Common.{◌≡◌, ℕ, zero, suc, ◌+◌, ◌-◌, ◌<◌, ◌≤◌, Bool, cond, not, ◌&&◌, ◌||◌, ltb, List, [], ◌∷◌, map, sym, refl, ap, ◌∙◌, subst, ap₂, ⊎_elim, le_refl, arith, ltb-true, lt-ltb}
 use Rattle.paper.proofs.Logic.{by-test, by_cond, same_test, lt-or-ge}
 use Rattle.targets.specs.declared.Standing.{Standing}
 use Rattle.targets.specs.Passes.{some}
@@ -7,7 +7,7 @@ use Rattle.targets.specs.SecondEdition.{unpinned, retargeted, one_more, one_less
 use Rattle.targets.specs.SecondEdition.{give_minute, take_minute, times}
 use Rattle.targets.specs.Levels.{reached, lift_cost, on_level, one_fewer, lifted_standing, left_after, lifted, Lifts}
 use Rattle.targets.specs.Inside.{Each, SmallTarget, Small, highest, mirrored}
-use Rattle.targets.proofs.Each.{each-then, each_map}
+use Rattle.targets.proofs.Each.{each-then}
 use Rattle.targets.proofs.LevelLaws.{first-here, first-later, is-reached, reached_by, cost-next, cost-grows, one-minute, by-levels}
 
 -- ---- one minute

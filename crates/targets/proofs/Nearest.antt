@@ -5,7 +5,7 @@ use mathlib.Core.Bool.{and-true}
 use native.Mathlib.Nat.{eq_of_mul-eq-mul_right}
 use native.Mathlib.Nat.{add-div_right, div-div-eq-div-mul, zero-div}
 use lib.Pow.{pow-lt}
-use lib.Ieee.{Float, nan, inf, fin, binary64, add, sum, round, lt, fits, up, down, low, to_unsigned}
+use lib.Ieee.{Float, nan, inf, fin, binary64, add, sum, round, lt, fits, up, down, to_unsigned}
 use lib.Ieee.Exact.{HasValue, round_exact}
 use lib.Ieee.Fits.{up_pos, down_pos, and_l, and_r}
 use lib.Ieee.Nearest.{div_same}

@@ -1,5 +1,5 @@
 -- The targets of edition 2: there is a level for every number of minutes, and after them the targets add up to demand. Assumes nothing.
-use Rattle.std.proofs.Common.{◌≡◌, ℕ, zero, suc, ◌+◌, ◌-◌, ◌*◌, ◌<◌, ◌≤◌, Bool, true, false, cond, not, ◌&&◌, ◌||◌, eqb, ltb, leb, ◌⊎◌, List, [], ◌∷◌, ◌++◌, map, length, take, drop, ℤ, pos, sym, refl, ap, ◌∙◌, subst, ap₂, inl, inr, ⊎_elim, true≢false, append-nil, zero-le, le_of_eq, le_refl, mul-suc, arith, drop_of_length-le, take_all, ltb-false, ltb-true, eq-eqb, ne_eqb, le-leb, leb-false, leb-true}
+use Rattle.std.proofs.Common.{◌≡◌, ℕ, zero, suc, ◌+◌, ◌-◌, ◌*◌, ◌<◌, ◌≤◌, Bool, true, false, cond, ◌&&◌, ◌||◌, eqb, ltb, leb, ◌⊎◌, List, [], ◌∷◌, ◌++◌, map, length, take, drop, ℤ, pos, sym, refl, ap, ◌∙◌, subst, ap₂, inl, inr, ⊎_elim, true≢false, append-nil, zero-le, le_of_eq, le_refl, mul-suc, arith, drop_of_length-le, take_all, ltb-false, ltb-true, eq-eqb, ne_eqb, le-leb, leb-false, leb-true}
 use mathlib.Core.List.{foldl}
 use borrow.Author.Tests.{lt-leb, not-true}
 use lib.ListN.{length-map}
@@ -9,7 +9,7 @@ use Rattle.targets.specs.Passes.{some}
 use Rattle.targets.specs.Remainder.{total_of, target_of, adjusted, sumℤ}
 use Rattle.targets.specs.SecondEdition.{unpinned, unpin, taking_part, retargeted, give_minute, take_minute, times, handed_out}
 use Rattle.targets.specs.SecondEdition.{spread, shared_out}
-use Rattle.targets.specs.Levels.{reached, missing_to, lift_cost, on_level, one_fewer, lifted_standing, left_after, lifted, Lifts}
+use Rattle.targets.specs.Levels.{reached, missing_to, lift_cost, left_after, lifted, Lifts}
 use Rattle.targets.specs.Inside.{Each, SmallTarget, Small, PinnedZero, highest, mirrored, lower, smallest_of, taking_first}
 use Rattle.targets.specs.Inside.{shared_first}
 use Rattle.targets.proofs.Each.{each-then}

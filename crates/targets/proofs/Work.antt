@@ -1,5 +1,5 @@
 -- The work behind the checks: what its calls give is the outcome. Assumes nothing.
-use Rattle.std.proofs.Common.{◌≡◌, ℕ, ◌+◌, ◌-◌, ◌<◌, Bool, true, false, cond, not, List, ◌++◌, length, take, drop, replicate, ℤ, sym, refl, ap, ◌∙◌, subst, arith}
+use Rattle.std.proofs.Common.{◌≡◌, ℕ, ◌+◌, ◌-◌, Bool, true, false, cond, not, List, ◌++◌, length, take, drop, replicate, ℤ, sym, refl, ap, ◌∙◌, subst, arith}
 use Rattle.paper.specs.Limits.{number_of}
 use Rattle.paper.proofs.Rows.{worked, kept}
 use Rattle.slots.specs.Lent.{demand_of, demand_when_ok}
@@ -7,7 +7,7 @@ use Rattle.targets.specs.declared.Standing.{Standing}
 use Rattle.targets.specs.declared.Answer.{Answer}
 use Rattle.targets.specs.Figures.{pad}
 use Rattle.targets.specs.Passes.{again, passes, guarded}
-use Rattle.targets.specs.Outcome.{Given, given, demand_in, standing_in, standings_in, passed_in, targets_in, guard_ok, targets_row, compute_targets, Meets}
+use Rattle.targets.specs.Outcome.{Given, given, demand_in, standing_in, standings_in, passed_in, targets_in, targets_row, compute_targets, Meets}
 use Rattle.targets.specs.Inside.{AnswerOf, Small, PinnedZero, checks_row, Sound}
 use Rattle.targets.proofs.Loops.{length-up_to}
 use Rattle.targets.proofs.Sizes.{small-standings, zero-standings}

@@ -1,6 +1,6 @@
 -- The level that missing minutes reach: the unpinned below it are lifted to it, and what is left over lifts the first of them by one more.
 -- Assumes nothing.
-use Rattle.std.specs.Prelude.{◌≡◌, ℕ, zero, suc, ◌+◌, ◌-◌, ◌<◌, ◌≤◌, Bool, cond, not, ◌&&◌, List, [], ◌∷◌, nat_le}
+use Rattle.std.specs.Prelude.{◌≡◌, ℕ, zero, suc, ◌+◌, ◌-◌, ◌<◌, ◌≤◌, Bool, cond, ◌&&◌, List, [], ◌∷◌, nat_le}
 use Rattle.targets.specs.declared.Standing.{Standing}
 use Rattle.targets.specs.SecondEdition.{unpinned, retargeted}
 

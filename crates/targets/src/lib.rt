@@ -1,6 +1,8 @@
 // Fair-share targets. Every step on an f64 is rounded once, in the paper's order.
 // Checks, standings, passes, remainder: what the passes leave and what is done with the remainder are apart. Edition 2 of the latter:
 // spread, over levels.
+#![tactic(auto)]
+
 mod checks;
 mod levels;
 mod passes;

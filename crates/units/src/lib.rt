@@ -1,4 +1,6 @@
 // Rotations, units, domains and run lengths of lent slots.
+#![tactic(auto)]
+
 mod dates;
 mod days;
 mod domains;

@@ -1,14 +1,11 @@
 -- The five rules in their order: what the code's walks come to. And what the refusals' row leaves known. Assumes nothing.
 use mathlib.Core.Path.{◌≡◌, refl, sym, ap, ◌∙◌}
-use mathlib.Core.Bool.{Bool, true, false, cond, ◌&&◌}
-use mathlib.Core.List.{List}
+use mathlib.Core.Bool.{Bool, true, cond}
 use Prim.Native.Nat.{ℕ, ◌*◌, ◌≤◌, ◌<◌}
 use native.Mathlib.Omega.{arith}
-use borrow.Author.Tests.{leb-true}
 use lib.Dec.{leb}
 use lib.ListN.{length}
 use Rattle.paper.specs.Limits.{people_ok, slot_count_ok, number_of}
-use Rattle.paper.specs.Rows.{unless}
 use Rattle.paper.specs.Count.{all}
 use Rattle.paper.proofs.Logic.{by-test}
 use Rattle.paper.proofs.Rows.{passed, worked, kept}

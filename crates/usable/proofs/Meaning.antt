@@ -2,8 +2,8 @@
 use mathlib.Core.Path.{◌≡◌, refl, sym, ap, ap₂, ◌∙◌, subst}
 use mathlib.Core.Bool.{Bool, true, false, not, cond, ◌&&◌, ◌||◌}
 use mathlib.Core.List.{List}
-use mathlib.Core.Logic.{◌⊎◌, inl, inr, ⊎_elim}
-use Prim.Native.Nat.{ℕ, zero, suc, ◌+◌, ◌-◌, ◌*◌, ◌≤◌, ◌<◌}
+use mathlib.Core.Logic.{⊎_elim}
+use Prim.Native.Nat.{ℕ, zero, suc, ◌-◌, ◌*◌, ◌≤◌, ◌<◌}
 use native.Mathlib.Omega.{arith}
 use borrow.Author.Tests.{eq-eqb, ne_eqb, eqb-true, eqb-false, lt-ltb, ltb-true, lt-leb, leb-false}
 use lib.Dec.{eqb, ltb, leb}
@@ -14,8 +14,8 @@ use Rattle.paper.proofs.Logic.{by-test, lt-or-ge, both, and-true, or_left, or_ri
 use Rattle.paper.proofs.Count.{all-each, all-fails}
 use Rattle.slotset.specs.Slots.{slot}
 use Rattle.slotset.specs.Runs.{Around}
-use Rattle.slotset.proofs.Runs.{around-unique, around-slot}
-use Rattle.units.specs.Units.{unit_start, unit_of, units_ok, InUnit}
+use Rattle.slotset.proofs.Runs.{around-unique}
+use Rattle.units.specs.Units.{unit_start, unit_of, units_ok}
 use Rattle.units.specs.Domains.{available, unfrozen}
 use Rattle.units.proofs.Units.{unit-of-in, unit-of-only, unit-within}
 use Rattle.owners.specs.Derived.{held, known_by}
@@ -24,11 +24,11 @@ use Rattle.owners.proofs.Scans.{first-is, first_passes}
 use Rattle.usable.specs.declared.Verdict.{Verdict}
 use Rattle.usable.specs.declared.Verdict.TheVariants as verdict
 use Rattle.usable.specs.Rules.{allowed_at, published_at, uniform_at, shift_first, shift_last, opens_at, closes_at, capped_at, rested_at}
-use Rattle.usable.specs.Broken.{Brought, slots_of, owner_of, start_of, end_of, Shift, Barred, Moved, Uneven, TooLong, TooClose, Breaks}
-use Rattle.usable.specs.Broken.{AllHold, FirstBroken, Means}
+use Rattle.usable.specs.Broken.{Brought, slots_of, owner_of, start_of, end_of, Shift, TooClose, Breaks}
+use Rattle.usable.specs.Broken.{Means}
 use Rattle.usable.specs.Answers.{usable_row, or_broken, judged}
 use Rattle.usable.proofs.ShiftLaws.{not-true, not-false, held_one, around-each, shift-around}
-use Rattle.usable.proofs.Judged.{Right, row-right}
+use Rattle.usable.proofs.Judged.{row-right}
 
 clash : {b : Bool} → b ≡ true → b ≡ false → ⊥
 clash t f = mathlib.Core.Bool.true≢false (sym t ∙ f)

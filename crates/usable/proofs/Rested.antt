@@ -4,7 +4,6 @@ use mathlib.Core.Bool.{Bool, true, false, not, cond, ◌&&◌}
 use mathlib.Core.List.{List}
 use mathlib.Core.Logic.{◌⊎◌, inl, inr, ⊎_elim}
 use Prim.Native.Nat.{ℕ, zero, suc, ◌+◌, ◌-◌, ◌≤◌, ◌<◌}
-use native.Mathlib.Decide.{ℕ_discrete}
 use native.Mathlib.Omega.{arith}
 use borrow.Author.Tests.{eq-eqb, eqb-true, eqb-false, le-leb, leb-true}
 use lib.Dec.{eqb, leb, ltb}
@@ -14,7 +13,7 @@ use Rattle.paper.specs.Count.{all}
 use Rattle.paper.proofs.Logic.{by-test, lt-or-ge, below_suc, both, and-true, same_test}
 use Rattle.paper.proofs.Count.{all-each, each_all}
 use Rattle.slots.specs.Lent.{SlotsSound}
-use Rattle.usable.specs.Rules.{shift_first, shift_last, opens_at, closes_at, rested_at}
+use Rattle.usable.specs.Rules.{opens_at, closes_at, rested_at}
 use Rattle.usable.specs.Inside.{goes_on, free_from, rested_by}
 use Rattle.usable.proofs.ShiftLaws.{opens_by, last-stops, first-other}
 

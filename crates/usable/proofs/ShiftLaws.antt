@@ -1,20 +1,20 @@
 -- Shifts: which slots open one, and where they end, by the owners of neighbouring slots. Assumes nothing.
-use mathlib.Core.Path.{◌≡◌, refl, sym, ap, ap₂, ◌∙◌, subst}
+use mathlib.Core.Path.{◌≡◌, refl, sym, ap, ap₂, ◌∙◌}
 use mathlib.Core.Bool.{Bool, true, false, not, cond, ◌&&◌, ◌||◌}
 use mathlib.Core.List.{List}
 use mathlib.Core.Logic.{⊎_elim}
 use Prim.Native.Nat.{ℕ, ◌+◌, ◌-◌, ◌≤◌, ◌<◌}
 use native.Mathlib.Omega.{arith}
-use borrow.Author.Tests.{eq-eqb, ne_eqb, eqb-true, eqb-false, lt-ltb, le-ltb, ltb-true}
+use borrow.Author.Tests.{eq-eqb, ne_eqb, eqb-true, eqb-false, lt-ltb, ltb-true}
 use lib.Dec.{eqb, ltb, leb}
 use lib.ListN.{get_or}
 use Rattle.paper.specs.Limits.{nobody}
-use Rattle.paper.proofs.Logic.{by-test, lt-or-ge, both, and-true, and-stops, or_left, or-second, or-either, same_test}
-use Rattle.slotset.specs.Runs.{first_around, last_around, Around}
+use Rattle.paper.proofs.Logic.{by-test, lt-or-ge, both, and-true, or_left, or-second, or-either, same_test}
+use Rattle.slotset.specs.Runs.{last_around, Around}
 use Rattle.slotset.proofs.Runs.{run-around, around-unique}
 use Rattle.owners.specs.Derived.{held}
 use Rattle.owners.proofs.Sets.{held-lt, held-own, held-not}
-use Rattle.usable.specs.Rules.{shift_first, shift_last, opens_at, closes_at, capped_at}
+use Rattle.usable.specs.Rules.{shift_first, shift_last, opens_at, capped_at}
 use Rattle.usable.specs.Inside.{opens_by_owners, goes_on, end_from, capped_by}
 
 -- a test and its opposite

@@ -1,9 +1,9 @@
 -- What the walks keep: the unit of the slot, the first fault from a slot on, from when on each owner may start again. Assumes nothing.
 use mathlib.Core.Path.{◌≡◌, sym, ap, ◌∙◌, subst}
-use mathlib.Core.Bool.{Bool, true, false, not, cond}
+use mathlib.Core.Bool.{Bool, true, false, cond}
 use mathlib.Core.List.{List}
 use mathlib.Core.Logic.{⊎_elim}
-use Prim.Native.Nat.{ℕ, zero, suc, ◌+◌, ◌-◌, ◌≤◌, ◌<◌}
+use Prim.Native.Nat.{ℕ, ◌+◌, ◌-◌, ◌≤◌, ◌<◌}
 use native.Mathlib.Decide.{ℕ_discrete}
 use native.Mathlib.Numerals.{add-one}
 use native.Mathlib.Omega.{arith}
@@ -12,7 +12,7 @@ use lib.Dec.{eqb}
 use lib.ListN.{length, get_or, set, replicate, length-replicate, get_or-replicate, get_or-eq_default}
 use lib.Seq.{get_or-set_same, get_or-set_other}
 use Rattle.paper.specs.Count.{FirstWhere}
-use Rattle.paper.proofs.Logic.{by-test, lt-or-ge}
+use Rattle.paper.proofs.Logic.{lt-or-ge}
 use Rattle.units.specs.Units.{unit_start, unit_end, units_ok, unit_of, InUnit}
 use Rattle.units.proofs.Units.{starts-begin, ends_next, ends_last, units-some, unit-some, unit-of-only}
 use Rattle.owners.specs.Recount.{first_fail}

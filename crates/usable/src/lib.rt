@@ -1,4 +1,6 @@
 // A rota made elsewhere: whether it may be used, by five rules, or which of them it breaks first and at which slot.
+#![tactic(auto)]
+
 mod judging;
 mod rules;
 mod shifts;

@@ -3,10 +3,10 @@
 use mathlib.Core.Path.{◌≡◌, refl, sym, ap, ap₂, subst, ◌∙◌}
 use mathlib.Core.Bool.{Bool, true, false, cond, not, ◌&&◌, ◌||◌}
 use mathlib.Core.List.{List, [], ◌∷◌, ◌++◌}
-use mathlib.Core.Logic.{◌⊎◌, inl, inr, ⊎_elim}
+use mathlib.Core.Logic.{inl, inr, ⊎_elim}
 use Prim.Native.Nat.{ℕ, zero, suc, ◌+◌, ◌-◌, ◌≤◌, ◌<◌}
 use native.Mathlib.Omega.{arith}
-use borrow.Author.Tests.{eq-eqb, ne_eqb, eqb-true, eqb-false, lt-ltb, le-ltb, ltb-true, ltb-false}
+use borrow.Author.Tests.{eq-eqb, ne_eqb, eqb-true, eqb-false, lt-ltb, le-ltb}
 use lib.Dec.{eqb, ltb}
 use lib.ListN.{length, get_or, take, drop, length-take, length-map, get_or-append, get_or-map}
 use lib.Seq.{get_or-take, get_or-drop, get_or-append-add, take-suc, take-length}
@@ -21,15 +21,14 @@ use Rattle.units.specs.Units.{unit_start, unit_end, units_ok}
 use Rattle.units.specs.Domains.{available, able}
 use Rattle.units.proofs.Units.{unit-some, unit-within}
 use Rattle.owners.specs.Derived.{Plan, Derived}
-use Rattle.owners.specs.Recount.{first_fail, known_at, available_for, available_at, even_at}
+use Rattle.owners.specs.Recount.{known_at, available_for, available_at, even_at}
 use Rattle.owners.proofs.Minutes.{known-below}
 use Rattle.owners.proofs.Scans.{FirstFault, first-is}
 use Rattle.rota.specs.Board.{Board, BoardSound, InUnit, Even, owner_of, unowned}
 use Rattle.rota.specs.Moves.{Draw, draw}
-use Rattle.rota.specs.Plays.{draws_of, owners_after, answers}
+use Rattle.rota.specs.Plays.{draws_of, owners_after}
 use Rattle.rota.specs.Lent.{fits_unit, board_of}
 use Rattle.rota.proofs.Plays.{play-frozen, play-covered}
-use Rattle.wayback.specs.declared.Way.{Way}
 use Rattle.wayback.specs.declared.Way.TheVariants as way
 use Rattle.wayback.specs.Back.{differs, place_in, back, kinds_of, firsts_of, seconds_of, draw_at, Differ, TakesBack}
 use Rattle.wayback.specs.Answers.{remembered_row, way_row, in_the_way, InWay, first_in_way, Outcome, way_of, draws_written, way_back_of}

@@ -6,13 +6,13 @@ use Prim.Native.Nat.{ℕ, zero, suc, ◌≤◌, ◌<◌}
 use native.Mathlib.Omega.{arith}
 use borrow.Author.Tests.{eq-eqb, ne_eqb, eqb-true, eqb-false}
 use lib.Dec.{eqb}
-use lib.ListN.{length, get_or, replicate, length-map, get_or-map}
+use lib.ListN.{length, get_or, replicate, length-map}
 use Rattle.paper.specs.Limits.{nobody}
 use Rattle.paper.specs.Count.{some, among, count}
 use Rattle.paper.proofs.Logic.{by-test, same_test}
 use Rattle.paper.proofs.Count.{some-here, some-none, some_more, some_one, count-change, count-opening, among-at, among-count, among-each, among-le}
 use Rattle.paper.proofs.Count.{among_same, rises-far}
-use Rattle.rota.specs.Board.{Board, BoardSound, InUnit, Even, owner_of}
+use Rattle.rota.specs.Board.{Board, BoardSound, Even, owner_of}
 use Rattle.rota.specs.Moves.{Draw, draw, domain_of}
 use Rattle.rota.specs.Plays.{step, answer, owners_after, answers}
 use Rattle.rota.specs.Acts.{Chosen, ReassignActs, Acts, reassigns, owner_then}

@@ -1,7 +1,7 @@
 -- What stands in the way, test by test, and what stands against a way back. Assumes nothing.
 use mathlib.Core.Path.{◌≡◌, refl, sym, ap, ap₂, ◌∙◌}
 use mathlib.Core.Bool.{Bool, true, false, cond, not, ◌&&◌, ◌||◌}
-use mathlib.Core.List.{List, [], ◌∷◌, ◌++◌}
+use mathlib.Core.List.{List, [], ◌∷◌}
 use Prim.Native.Nat.{ℕ, ◌≤◌, ◌<◌}
 use native.Mathlib.Omega.{arith}
 use borrow.Author.Tests.{eq-eqb, ne_eqb, eqb-true, lt-ltb, leb-true}
@@ -9,7 +9,7 @@ use lib.Dec.{eqb, leb}
 use lib.ListN.{length}
 use Rattle.paper.specs.Limits.{nobody, Test, test_in, test, number_of}
 use Rattle.paper.specs.declared.Refusal.{Refusal}
-use Rattle.paper.specs.Rows.{accepted, test_refusal, refusal_of}
+use Rattle.paper.specs.Rows.{accepted, refusal_of}
 use Rattle.paper.specs.Count.{all}
 use Rattle.paper.proofs.Logic.{by-test, both, three}
 use Rattle.paper.proofs.Rows.{numbered, said}
@@ -17,10 +17,10 @@ use Rattle.slotset.specs.declared.Found.{Found}
 use Rattle.slotset.specs.declared.Found.TheVariants as found
 use Rattle.slotset.specs.Answers.{row_refusal, found_as, row_slots}
 use Rattle.slotset.specs.Search.{next_set}
-use Rattle.units.specs.Units.{unit_start, unit_end, units_ok}
-use Rattle.units.specs.Domains.{clear, unit_frozen, unit_domains_row, unit_domains_is}
+use Rattle.units.specs.Units.{unit_start, unit_end}
+use Rattle.units.specs.Domains.{clear, unit_frozen}
 use Rattle.units.specs.Inside.{is_nothing}
-use Rattle.units.proofs.Sets.{clear-law, clear-known, domains-asked}
+use Rattle.units.proofs.Sets.{clear-law, clear-known}
 use Rattle.units.proofs.Units.{units-within}
 use Rattle.owners.specs.Derived.{Plan, Derived}
 use Rattle.owners.specs.Recount.{first_fail, known_at, available_at, even_at, recount_tests}

@@ -1,15 +1,14 @@
 -- A swap of units that acts, played at once again, acts and undoes itself: over owners. Assumes nothing.
 use mathlib.Core.Path.{◌≡◌, refl, sym, ap, ◌∙◌}
-use mathlib.Core.Bool.{Bool, true, cond}
+use mathlib.Core.Bool.{Bool, cond}
 use mathlib.Core.List.{List, [], ◌∷◌}
 use mathlib.Core.Logic.{⊎_elim}
 use Prim.Native.Nat.{ℕ, ◌≤◌, ◌<◌}
 use native.Mathlib.Omega.{arith}
-use borrow.Author.Tests.{eq-eqb, ne_eqb, eqb-true, eqb-false}
+use borrow.Author.Tests.{eq-eqb, ne_eqb, eqb-true}
 use lib.Dec.{eqb}
 use lib.ListN.{length, get_or}
 use lib.Seq.{ext_get_or}
-use Rattle.paper.specs.Limits.{nobody}
 use Rattle.paper.proofs.Logic.{by-test, lt-or-ge}
 use Rattle.rota.specs.Board.{Board, BoardSound, InUnit, Even, owner_of}
 use Rattle.rota.specs.Moves.{Draw}

@@ -1,4 +1,6 @@
 // The way back from one rota to another: for each unit whose owner differs a reassign to its old owner, written into lent columns.
+#![tactic(auto)]
+
 mod search;
 mod ways;
 mod writing;

@@ -2,7 +2,6 @@
 use mathlib.Core.Path.{refl}
 use Rattle.paper.proofs.Rows.{link, ends, checked}
 use Rattle.columns.specs.Parts.{columns_row}
-use borrow.Author.Rules.{rules}
 use Rattle.columns.proofs.columns_refusal.Goals as goal
 
 pub returns : goal.returns

@@ -1,8 +1,8 @@
 -- `columns::copy_open` meets its contract. Assumes nothing.
 use mathlib.Core.Path.{◌≡◌, refl, sym, ap, ◌∙◌}
-use Prim.Native.Nat.{ℕ, ◌-◌, ◌≤◌}
+use Prim.Native.Nat.{ℕ}
 use native.Mathlib.Omega.{arith}
-use lib.ListN.{length, length-set}
+use lib.ListN.{length-set}
 use Rattle.paper.specs.Count.{over}
 use Rattle.paper.proofs.Count.{over_none}
 use Rattle.columns.specs.Publishing.{owner_read}

@@ -1,13 +1,9 @@
 -- `columns::copy_open` meets its contract. Assumes nothing.
-use mathlib.Core.Path.{◌≡◌, refl, sym, ap, ◌∙◌}
-use Prim.Native.Nat.{ℕ, ◌-◌, ◌≤◌}
-use native.Mathlib.Omega.{arith}
-use lib.ListN.{length, length-set}
+use mathlib.Core.Path.{◌≡◌}
+use Prim.Native.Nat.{◌-◌, ◌≤◌}
+use lib.ListN.{length}
 use Rattle.paper.specs.Count.{over}
-use Rattle.paper.proofs.Count.{over_none}
 use Rattle.columns.specs.Publishing.{owner_read}
-use Rattle.columns.proofs.Walk.{frozen-more, open_more}
-use borrow.Author.Rules.{rules}
 use Rattle.columns.proofs.copy_open.Given as goal
 
 abbrev pub invariant-loop-k : goal.invariant-loop-k

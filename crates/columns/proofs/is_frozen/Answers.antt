@@ -1,6 +1,5 @@
 -- `columns::is_frozen` meets its contract. Assumes nothing.
 use Rattle.columns.specs.Parts.{is_frozen}
-use borrow.Author.Rules.{rules}
 use Rattle.columns.proofs.is_frozen.Goals as goal
 
 pub returns : goal.returns

@@ -4,7 +4,6 @@ use Rattle.paper.specs.Rows.{unless}
 use Rattle.paper.proofs.Rows.{said}
 use Rattle.slotset.specs.Answers.{yes_no_as}
 use Rattle.slotset.proofs.Refusals.{yes-no-is, yes-no-refused}
-use borrow.Author.Rules.{rules}
 use Rattle.columns.proofs.is_published.Goals as goal
 
 pub returns-then-is_frozen : goal.returns-then-is_frozen

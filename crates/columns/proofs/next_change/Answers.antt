@@ -1,6 +1,5 @@
 -- `columns::next_change` meets its contract. Assumes nothing.
 use Rattle.columns.proofs.Parts.{change-of-frozen, change-of-open}
-use borrow.Author.Rules.{rules}
 use Rattle.columns.proofs.next_change.Goals as goal
 
 pub returns-then-is_frozen : goal.returns-then-is_frozen

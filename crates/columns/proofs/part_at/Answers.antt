@@ -2,7 +2,6 @@
 use mathlib.Core.Path.{refl, sym, ◌∙◌}
 use native.Mathlib.Omega.{arith}
 use Rattle.columns.proofs.Parts.{part-is}
-use borrow.Author.Rules.{rules}
 use Rattle.columns.proofs.part_at.Goals as goal
 
 pub next_change-upto-requires : goal.next_change-upto-requires

@@ -4,7 +4,6 @@ use Rattle.paper.proofs.Rows.{said}
 use Rattle.slotset.proofs.Refusals.{work-is, old-is}
 use Rattle.columns.specs.Publishing.{publish_of}
 use Rattle.columns.proofs.Parts.{columns-says}
-use borrow.Author.Rules.{rules}
 use Rattle.columns.proofs.publish.Goals as goal
 
 pub copy_open-requires : goal.copy_open-requires

@@ -4,7 +4,6 @@ use Rattle.paper.proofs.Rows.{said}
 use Rattle.slotset.proofs.Refusals.{work-is, old-is}
 use Rattle.columns.specs.Publishing.{show_of}
 use Rattle.columns.proofs.Parts.{show-says}
-use borrow.Author.Rules.{rules}
 use Rattle.columns.proofs.show.Goals as goal
 
 pub show_parts-requires : goal.show_parts-requires

@@ -1,14 +1,9 @@
 -- `columns::show_parts` meets its contract. Assumes nothing.
-use mathlib.Core.Path.{◌≡◌, refl, sym, ap, ◌∙◌}
-use mathlib.Core.List.{List}
-use Prim.Native.Nat.{ℕ, ◌-◌, ◌≤◌}
-use native.Mathlib.Omega.{arith}
+use mathlib.Core.Path.{◌≡◌}
+use Prim.Native.Nat.{◌-◌, ◌≤◌}
 use lib.ListN.{length}
 use Rattle.paper.specs.Count.{over}
-use Rattle.paper.proofs.Count.{over_none, length_over}
 use Rattle.columns.specs.Publishing.{owner_read}
-use Rattle.columns.proofs.Walk.{part-ends, part-more}
-use borrow.Author.Rules.{rules}
 use Rattle.columns.proofs.show_parts.Given as goal
 
 abbrev pub invariant-loop-at : goal.invariant-loop-at

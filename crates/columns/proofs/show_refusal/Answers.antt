@@ -3,7 +3,6 @@ use mathlib.Core.Path.{refl}
 use Rattle.paper.proofs.Rows.{link, ends, checked-more}
 use Rattle.columns.specs.Parts.{columns_row}
 use Rattle.columns.specs.Publishing.{show_row}
-use borrow.Author.Rules.{rules}
 use Rattle.columns.proofs.show_refusal.Goals as goal
 
 pub returns : goal.returns

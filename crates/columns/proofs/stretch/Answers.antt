@@ -3,7 +3,6 @@ use mathlib.Core.Path.{refl, sym, ◌∙◌}
 use native.Mathlib.Omega.{arith}
 use Rattle.paper.proofs.Rows.{said}
 use Rattle.columns.proofs.Parts.{stretch-says, handed, nothing-handed}
-use borrow.Author.Rules.{rules}
 use Rattle.columns.proofs.stretch.Goals as goal
 
 pub part_at-requires : goal.part_at-requires

@@ -1,12 +1,8 @@
 -- `columns::write_part` meets its contract. Assumes nothing.
-use mathlib.Core.Path.{◌≡◌, refl, sym, ap, ◌∙◌}
-use mathlib.Core.List.{List}
-use Prim.Native.Nat.{ℕ, ◌+◌, ◌-◌, ◌≤◌}
-use native.Mathlib.Omega.{arith}
-use lib.ListN.{length, get_or, set, length-set}
+use mathlib.Core.Path.{◌≡◌}
+use Prim.Native.Nat.{◌-◌, ◌≤◌}
+use lib.ListN.{length, get_or}
 use Rattle.columns.specs.Inside.{written_at}
-use Rattle.columns.proofs.Walk.{written_none, written-more}
-use borrow.Author.Rules.{rules}
 use Rattle.columns.proofs.write_part.Given as goal
 
 abbrev pub invariant-loop-k : goal.invariant-loop-k

@@ -1,6 +1,5 @@
 -- `paper::check_slots` meets its contract. Assumes nothing.
 use Rattle.paper.proofs.Rows.{renamed}
-use borrow.Author.Rules.{rules}
 use Rattle.paper.proofs.check_slots.Goals as goal
 
 pub returns : goal.returns

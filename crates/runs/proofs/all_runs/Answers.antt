@@ -1,5 +1,4 @@
 -- `runs::all_runs` meets its contract. Assumes nothing.
-use borrow.Author.Rules.{rules}
 use mathlib.Core.Path.{sym, ◌∙◌}
 use Rattle.paper.proofs.Rows.{said}
 use Rattle.slotset.proofs.Refusals.{number_is, number-refused, work-is, old-is}

@@ -3,7 +3,6 @@ use mathlib.Core.Path.{refl}
 use Rattle.paper.proofs.Rows.{link, ends, checked-more}
 use Rattle.slotset.specs.Answers.{sets_row}
 use Rattle.runs.specs.Listed.{runs_row}
-use borrow.Author.Rules.{rules}
 use Rattle.runs.proofs.list_refusal.Goals as goal
 
 pub returns : goal.returns

@@ -1,14 +1,10 @@
 -- `runs::list_runs` meets its contract. Assumes nothing.
-use borrow.Author.Rules.{rules}
-use mathlib.Core.Path.{◌≡◌}
-use Prim.Native.Nat.{◌-◌, ◌*◌, ◌≤◌}
+use Prim.Native.Nat.{◌*◌}
 use native.Mathlib.Omega.{arith}
-use lib.ListN.{length}
-use Rattle.paper.specs.Limits.{number_of}
-use Rattle.slotset.specs.Answers.{person_row, row_slots}
+use Rattle.slotset.specs.Answers.{row_slots}
 use Rattle.slotset.proofs.Puts.{slot_lt}
 use Rattle.slotset.proofs.Refusals.{row-says}
-use Rattle.runs.proofs.Listing.{Listing, listing-starts, listing-given, listing-more, listing-past, listing-done}
+use Rattle.runs.proofs.Listing.{listing-starts, listing-given, listing-more, listing-past, listing-done}
 use Rattle.runs.proofs.Listing.{listing-refused, answered}
 use Rattle.runs.proofs.list_runs.Goals as goal
 

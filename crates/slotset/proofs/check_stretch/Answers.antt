@@ -1,6 +1,5 @@
 -- `slotset::check_stretch` meets its contract. Assumes nothing.
 use Rattle.paper.proofs.Rows.{renamed}
-use borrow.Author.Rules.{rules}
 use Rattle.slotset.proofs.check_stretch.Goals as goal
 
 pub returns : goal.returns

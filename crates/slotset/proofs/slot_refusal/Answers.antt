@@ -2,7 +2,6 @@
 use mathlib.Core.Path.{refl}
 use Rattle.paper.proofs.Rows.{link, ends, checked}
 use Rattle.slotset.specs.Answers.{slot_row}
-use borrow.Author.Rules.{rules}
 use Rattle.slotset.proofs.slot_refusal.Goals as goal
 
 pub returns : goal.returns

@@ -1,10 +1,10 @@
 -- `targets::compute_targets` meets its contract. Assumes nothing.
-use Rattle.std.proofs.Common.{◌≡◌, length, sym, ◌∙◌, rules}
+use Rattle.std.proofs.Common.{◌≡◌, length, sym, ◌∙◌}
 use Rattle.paper.specs.Limits.{number_of}
 use Rattle.paper.proofs.Rows.{said}
-use Rattle.targets.specs.Outcome.{Given, given}
+use Rattle.targets.specs.Outcome.{given}
 use Rattle.targets.specs.Inside.{checks_row}
-use Rattle.targets.proofs.Accepted.{Accepted, accepted}
+use Rattle.targets.proofs.Accepted.{accepted}
 use Rattle.targets.proofs.Work.{sound-again, demand-is, small-in, zero_in, meets-refused, meets-eight, meets-done}
 use Rattle.targets.proofs.compute_targets.Goals as goal
 

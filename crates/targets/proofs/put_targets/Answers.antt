@@ -1,5 +1,5 @@
 -- `targets::put_targets` meets its contract. Assumes nothing.
-use Rattle.std.proofs.Common.{◌≡◌, ◌-◌, ◌≤◌, ◌++◌, length, take, drop, pos, refl, arith, length-set, to_z-of_z, w64, rules}
+use Rattle.std.proofs.Common.{◌≡◌, pos, refl, arith, length-set, to_z-of_z, w64, rules}
 use borrow.Author.Rules.{sfits_of}
 use Rattle.targets.proofs.Loops.{put}
 use Rattle.targets.proofs.put_targets.Goals as goal

@@ -1,7 +1,5 @@
 -- `targets::put_targets` meets its contract. Assumes nothing.
-use Rattle.std.proofs.Common.{◌≡◌, ◌-◌, ◌≤◌, ◌++◌, length, take, drop, pos, refl, arith, length-set, to_z-of_z, rules}
-use borrow.Author.Rules.{sfits_of}
-use Rattle.targets.proofs.Loops.{put}
+use Rattle.std.proofs.Common.{◌≡◌, ◌-◌, ◌≤◌, ◌++◌, length, take, drop}
 use Rattle.targets.proofs.put_targets.Given as goal
 
 abbrev pub invariant-loop-i : goal.invariant-loop-i

@@ -1,5 +1,5 @@
 -- `targets::targets_of` meets its contract. Assumes nothing.
-use Rattle.std.proofs.Common.{◌≡◌, ℕ, ◌+◌, false, List, [], ◌∷◌, sym, refl, ap, ◌∙◌, subst, ◌⊎◌, inl, inr, ⊎_elim, true≢false, arith, rules}
+use Rattle.std.proofs.Common.{◌≡◌, ℕ, ◌+◌, false, List, [], ◌∷◌, sym, refl, ap, ◌∙◌, subst, ◌⊎◌, inl, inr, ⊎_elim, true≢false, arith}
 use denote.Enum.Declared.{tag_of}
 use types.Run.{OneOf}
 use Rattle.targets.specs.declared.Standing.{Standing}

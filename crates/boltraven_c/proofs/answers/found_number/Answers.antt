@@ -1,5 +1,4 @@
 -- `boltraven_c::answers::found_number` meets its contract. Assumes nothing.
-use borrow.Author.Rules.{rules}
 use mathlib.Core.Path.{sym, ap, ◌∙◌}
 use Rattle.boltraven_c.specs.Numbers.{found_number}
 use Rattle.boltraven_c.proofs.answers.found_number.Goals as goal

@@ -1,5 +1,4 @@
 -- `boltraven_c::answers::plain_number` meets its contract. Assumes nothing.
-use borrow.Author.Rules.{rules}
 use mathlib.Core.Path.{sym, ap, ◌∙◌}
 use Rattle.boltraven_c.specs.Numbers.{plain_number}
 use Rattle.boltraven_c.proofs.answers.plain_number.Goals as goal

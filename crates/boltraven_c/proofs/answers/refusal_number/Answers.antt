@@ -1,5 +1,4 @@
 -- `boltraven_c::answers::refusal_number` meets its contract. Assumes nothing.
-use borrow.Author.Rules.{rules}
 use mathlib.Core.Path.{refl}
 use Rattle.boltraven_c.specs.Numbers.{refusal_number}
 use Rattle.boltraven_c.proofs.answers.refusal_number.Goals as goal

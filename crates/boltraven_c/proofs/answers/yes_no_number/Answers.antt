@@ -1,5 +1,4 @@
 -- `boltraven_c::answers::yes_no_number` meets its contract. Assumes nothing.
-use borrow.Author.Rules.{rules}
 use mathlib.Core.Path.{sym, ap, ◌∙◌}
 use Rattle.boltraven_c.specs.Numbers.{yes_no_number}
 use Rattle.boltraven_c.proofs.answers.yes_no_number.Goals as goal

@@ -1,5 +1,4 @@
 -- `boltraven_c::job_c::boltraven_run_job` meets its contract. Assumes nothing.
-use borrow.Author.Rules.{rules}
 use mathlib.Core.Path.{ap, ◌∙◌}
 use Rattle.job.specs.declared.JobAnswer.{JobAnswer}
 use Rattle.job.specs.Outcome.{job_refusal, job_length}

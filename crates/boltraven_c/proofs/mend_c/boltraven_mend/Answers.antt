@@ -1,6 +1,5 @@
 -- `boltraven_c::mend_c::boltraven_mend` meets its contract. Assumes nothing.
 use mathlib.Core.Path.{ap, ◌∙◌}
-use borrow.Author.Rules.{rules}
 use Rattle.boltraven_c.specs.Numbers.{plain_number}
 use Rattle.boltraven_c.proofs.mend_c.boltraven_mend.Goals as goal
 

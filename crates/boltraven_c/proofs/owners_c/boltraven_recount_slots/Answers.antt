@@ -1,5 +1,4 @@
 -- `boltraven_c::owners_c::boltraven_recount_slots` meets its contract. Assumes nothing.
-use borrow.Author.Rules.{rules}
 use mathlib.Core.Path.{ap, ◌∙◌}
 use Rattle.boltraven_c.specs.Numbers.{refusal_number}
 use Rattle.boltraven_c.proofs.owners_c.boltraven_recount_slots.Goals as goal

@@ -1,5 +1,4 @@
 -- `boltraven_c::owners_c::boltraven_uncovered_minutes` meets its contract. Assumes nothing.
-use borrow.Author.Rules.{rules}
 use mathlib.Core.Path.{ap, ◌∙◌}
 use Rattle.slots.specs.Lent.{minutes_refusal}
 use Rattle.boltraven_c.specs.Numbers.{minutes_written}

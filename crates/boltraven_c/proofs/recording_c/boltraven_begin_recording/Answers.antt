@@ -1,6 +1,5 @@
 -- `boltraven_c::recording_c::boltraven_begin_recording` meets its contract. Assumes nothing.
 use mathlib.Core.Path.{ap, ◌∙◌}
-use borrow.Author.Rules.{rules}
 use Rattle.boltraven_c.specs.Numbers.{refusal_number}
 use Rattle.boltraven_c.proofs.recording_c.boltraven_begin_recording.Goals as goal
 

@@ -2,7 +2,6 @@
 use mathlib.Core.Path.{◌≡◌, sym, ap, ◌∙◌, subst}
 use mathlib.Core.List.{List}
 use Prim.Native.Nat.{ℕ}
-use borrow.Author.Rules.{rules}
 use Rattle.replay.specs.declared.BlockRead.{BlockRead}
 use Rattle.replay.specs.Reading.{read_answer, ReadsAs}
 use Rattle.boltraven_c.specs.Replay.{block_number, block_count, block_next, BlockEnds}

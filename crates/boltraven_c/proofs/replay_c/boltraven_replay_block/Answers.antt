@@ -1,6 +1,5 @@
 -- `boltraven_c::replay_c::boltraven_replay_block` meets its contract. Assumes nothing.
 use mathlib.Core.Path.{sym, ap, ◌∙◌}
-use borrow.Author.Rules.{rules}
 use Rattle.boltraven_c.specs.Replay.{replay_number, replay_place}
 use Rattle.boltraven_c.proofs.replay_c.boltraven_replay_block.Goals as goal
 

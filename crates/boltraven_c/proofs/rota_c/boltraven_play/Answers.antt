@@ -1,5 +1,4 @@
 -- `boltraven_c::rota_c::boltraven_play` meets its contract. Assumes nothing.
-use borrow.Author.Rules.{rules}
 use mathlib.Core.Path.{ap, ◌∙◌}
 use Rattle.boltraven_c.specs.Numbers.{refusal_number}
 use Rattle.boltraven_c.proofs.rota_c.boltraven_play.Goals as goal

@@ -1,5 +1,4 @@
 -- `boltraven_c::runs_c::boltraven_every_run` meets its contract. Assumes nothing.
-use borrow.Author.Rules.{rules}
 use mathlib.Core.Path.{ap, ◌∙◌}
 use Rattle.boltraven_c.specs.Numbers.{plain_number}
 use Rattle.boltraven_c.proofs.runs_c.boltraven_every_run.Goals as goal

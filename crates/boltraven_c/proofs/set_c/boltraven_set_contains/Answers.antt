@@ -1,5 +1,4 @@
 -- `boltraven_c::set_c::boltraven_set_contains` meets its contract. Assumes nothing.
-use borrow.Author.Rules.{rules}
 use mathlib.Core.Path.{ap, ◌∙◌}
 use Rattle.boltraven_c.specs.Numbers.{yes_no_number}
 use Rattle.boltraven_c.proofs.set_c.boltraven_set_contains.Goals as goal

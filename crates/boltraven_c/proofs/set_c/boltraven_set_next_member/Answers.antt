@@ -1,5 +1,4 @@
 -- `boltraven_c::set_c::boltraven_set_next_member` meets its contract. Assumes nothing.
-use borrow.Author.Rules.{rules}
 use mathlib.Core.Path.{sym, ap, ◌∙◌}
 use Rattle.boltraven_c.specs.Numbers.{member_number, member_at, member_cursor}
 use Rattle.boltraven_c.proofs.set_c.boltraven_set_next_member.Goals as goal

@@ -1,5 +1,4 @@
 -- `boltraven_c::set_c::boltraven_set_next_set` meets its contract. Assumes nothing.
-use borrow.Author.Rules.{rules}
 use mathlib.Core.Path.{ap, ◌∙◌}
 use Rattle.boltraven_c.specs.Numbers.{found_number}
 use Rattle.boltraven_c.proofs.set_c.boltraven_set_next_set.Goals as goal

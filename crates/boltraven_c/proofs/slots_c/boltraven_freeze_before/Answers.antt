@@ -1,5 +1,4 @@
 -- `boltraven_c::slots_c::boltraven_freeze_before` meets its contract. Assumes nothing.
-use borrow.Author.Rules.{rules}
 use mathlib.Core.Path.{ap, ◌∙◌}
 use Rattle.boltraven_c.specs.Numbers.{plain_number}
 use Rattle.boltraven_c.proofs.slots_c.boltraven_freeze_before.Goals as goal

@@ -1,5 +1,4 @@
 -- `boltraven_c::slotset_c::boltraven_count` meets its contract. Assumes nothing.
-use borrow.Author.Rules.{rules}
 use mathlib.Core.Path.{ap, ◌∙◌}
 use Rattle.boltraven_c.specs.Numbers.{plain_number}
 use Rattle.boltraven_c.proofs.slotset_c.boltraven_count.Goals as goal

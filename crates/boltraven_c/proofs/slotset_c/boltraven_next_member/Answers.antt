@@ -1,5 +1,4 @@
 -- `boltraven_c::slotset_c::boltraven_next_member` meets its contract. Assumes nothing.
-use borrow.Author.Rules.{rules}
 use mathlib.Core.Path.{sym, ap, ◌∙◌}
 use Rattle.boltraven_c.specs.Numbers.{member_number, member_at, member_cursor}
 use Rattle.boltraven_c.proofs.slotset_c.boltraven_next_member.Goals as goal

@@ -1,5 +1,4 @@
 -- `boltraven_c::slotset_c::boltraven_next_run` meets its contract. Assumes nothing.
-use borrow.Author.Rules.{rules}
 use mathlib.Core.Path.{sym, ap, ◌∙◌}
 use Rattle.boltraven_c.specs.Numbers.{next_run_number, next_run_first, next_run_last, next_run_cursor}
 use Rattle.boltraven_c.proofs.slotset_c.boltraven_next_run.Goals as goal

@@ -1,5 +1,4 @@
 -- `boltraven_c::slotset_c::boltraven_prev_set` meets its contract. Assumes nothing.
-use borrow.Author.Rules.{rules}
 use mathlib.Core.Path.{ap, ◌∙◌}
 use Rattle.boltraven_c.specs.Numbers.{found_number}
 use Rattle.boltraven_c.proofs.slotset_c.boltraven_prev_set.Goals as goal

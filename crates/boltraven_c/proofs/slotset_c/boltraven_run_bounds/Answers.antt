@@ -1,5 +1,4 @@
 -- `boltraven_c::slotset_c::boltraven_run_bounds` meets its contract. Assumes nothing.
-use borrow.Author.Rules.{rules}
 use mathlib.Core.Path.{sym, ap, ◌∙◌}
 use Rattle.boltraven_c.specs.Numbers.{run_number, run_first, run_last}
 use Rattle.boltraven_c.proofs.slotset_c.boltraven_run_bounds.Goals as goal

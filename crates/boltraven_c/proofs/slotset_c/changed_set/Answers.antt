@@ -1,5 +1,4 @@
 -- `boltraven_c::slotset_c::changed_set` meets its contract. Assumes nothing.
-use borrow.Author.Rules.{rules}
 use mathlib.Core.Path.{◌∙◌, ap, sym}
 use mathlib.Core.Bool.{Bool}
 use Rattle.slotset.specs.Slots.{value_of}

@@ -1,5 +1,4 @@
 -- `boltraven_c::slotset_c::put_by_value` meets its contract. Assumes nothing.
-use borrow.Author.Rules.{rules}
 use Rattle.slotset.specs.Slots.{value_of}
 use Rattle.slotset.proofs.Puts.{value-lt}
 use Rattle.boltraven_c.proofs.Puts.{done, slot-refused, row-refused}

@@ -1,5 +1,4 @@
 -- `boltraven_c::store_c::boltraven_ask_settings` meets its contract. Assumes nothing.
-use borrow.Author.Rules.{rules}
 use mathlib.Core.Path.{◌≡◌, sym, ap, ◌∙◌}
 use Prim.Native.Nat.{ℕ}
 use Rattle.units.specs.declared.Settings.{Settings}

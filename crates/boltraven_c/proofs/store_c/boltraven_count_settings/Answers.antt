@@ -1,5 +1,4 @@
 -- `boltraven_c::store_c::boltraven_count_settings` meets its contract. Assumes nothing.
-use borrow.Author.Rules.{rules}
 use mathlib.Core.Path.{ap, ◌∙◌}
 use Rattle.boltraven_c.specs.Numbers.{plain_number}
 use Rattle.boltraven_c.proofs.store_c.boltraven_count_settings.Goals as goal

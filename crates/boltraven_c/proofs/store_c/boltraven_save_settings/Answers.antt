@@ -1,5 +1,4 @@
 -- `boltraven_c::store_c::boltraven_save_settings` meets its contract. Assumes nothing.
-use borrow.Author.Rules.{rules}
 use mathlib.Core.Path.{sym, ap, ◌∙◌}
 use Rattle.store.specs.Outcome.{saved_refusal}
 use Rattle.boltraven_c.specs.Store.{saved_number, saved_used}

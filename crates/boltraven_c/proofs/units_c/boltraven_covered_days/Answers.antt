@@ -1,5 +1,4 @@
 -- `boltraven_c::units_c::boltraven_covered_days` meets its contract. Assumes nothing.
-use borrow.Author.Rules.{rules}
 use mathlib.Core.Path.{ap, ◌∙◌}
 use Rattle.slotset.specs.Answers.{number_refusal}
 use Rattle.boltraven_c.specs.Numbers.{number_is}

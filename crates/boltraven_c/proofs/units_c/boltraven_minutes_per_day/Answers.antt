@@ -1,5 +1,4 @@
 -- `boltraven_c::units_c::boltraven_minutes_per_day` meets its contract. Assumes nothing.
-use borrow.Author.Rules.{rules}
 use mathlib.Core.Path.{ap, ◌∙◌}
 use Rattle.slots.specs.Lent.{minutes_refusal}
 use Rattle.boltraven_c.specs.Numbers.{minutes_written}

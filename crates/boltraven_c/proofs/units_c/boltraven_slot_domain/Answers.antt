@@ -1,5 +1,4 @@
 -- `boltraven_c::units_c::boltraven_slot_domain` meets its contract. Assumes nothing.
-use borrow.Author.Rules.{rules}
 use mathlib.Core.Path.{ap, ◌∙◌}
 use Rattle.boltraven_c.specs.Numbers.{plain_number}
 use Rattle.boltraven_c.proofs.units_c.boltraven_slot_domain.Goals as goal

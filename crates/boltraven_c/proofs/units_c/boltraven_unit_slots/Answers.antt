@@ -1,5 +1,4 @@
 -- `boltraven_c::units_c::boltraven_unit_slots` meets its contract. Assumes nothing.
-use borrow.Author.Rules.{rules}
 use mathlib.Core.Path.{sym, ap, ◌∙◌}
 use Rattle.units.specs.Answers.{span_refusal}
 use Rattle.boltraven_c.specs.Units.{span_from, span_to}

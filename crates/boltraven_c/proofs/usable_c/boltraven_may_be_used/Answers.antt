@@ -1,5 +1,4 @@
 -- `boltraven_c::usable_c::boltraven_may_be_used` meets its contract. Assumes nothing.
-use borrow.Author.Rules.{rules}
 use mathlib.Core.Path.{ap, ◌∙◌}
 use Rattle.boltraven_c.specs.Usable.{verdict_number, verdict_slot}
 use Rattle.boltraven_c.proofs.usable_c.boltraven_may_be_used.Goals as goal

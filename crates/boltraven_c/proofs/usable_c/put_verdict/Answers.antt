@@ -1,5 +1,4 @@
 -- `boltraven_c::usable_c::put_verdict` meets its contract. Assumes nothing.
-use borrow.Author.Rules.{rules}
 use mathlib.Core.Path.{sym, ap, ◌∙◌}
 use Rattle.boltraven_c.specs.Usable.{verdict_number, verdict_slot}
 use Rattle.boltraven_c.proofs.usable_c.put_verdict.Goals as goal

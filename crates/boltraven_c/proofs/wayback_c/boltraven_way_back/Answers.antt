@@ -1,6 +1,5 @@
 -- `boltraven_c::wayback_c::boltraven_way_back` meets its contract. Assumes nothing.
 use mathlib.Core.Path.{sym, ap, ◌∙◌}
-use borrow.Author.Rules.{rules}
 use Rattle.boltraven_c.specs.Ways.{way_number, way_told}
 use Rattle.boltraven_c.proofs.wayback_c.boltraven_way_back.Goals as goal
 

@@ -1,7 +1,5 @@
 -- `job::columns::column16` meets its contract. The invariant: the first k numbers are read. Assumes nothing.
-use borrow.Author.Rules.{rules}
 use mathlib.Core.Path.{◌≡◌, ap, ◌∙◌}
-use Prim.Native.Nat.{◌-◌, ◌≤◌}
 use native.Mathlib.Omega.{arith}
 use Rattle.job.specs.Columns.{column}
 use Rattle.job.proofs.Files.{column-none, column-more}

@@ -1,10 +1,7 @@
 -- `job::columns::column32` meets its contract. The invariant: the first k numbers are read. Assumes nothing.
-use borrow.Author.Rules.{rules}
-use mathlib.Core.Path.{◌≡◌, ap, ◌∙◌}
+use mathlib.Core.Path.{◌≡◌}
 use Prim.Native.Nat.{◌-◌, ◌≤◌}
-use native.Mathlib.Omega.{arith}
 use Rattle.job.specs.Columns.{column}
-use Rattle.job.proofs.Files.{column-none, column-more}
 use Rattle.job.proofs.columns.column32.Given as goal
 
 abbrev pub invariant-loop-k : goal.invariant-loop-k

@@ -1,12 +1,8 @@
 -- `job::columns::column_f64` meets its contract. The invariant: the first k patterns are read. Assumes nothing.
 -- Below, c_n is what is known N places before c.
-use borrow.Author.Rules.{rules}
-use mathlib.Core.Path.{◌≡◌, ap, ◌∙◌}
+use mathlib.Core.Path.{◌≡◌}
 use Prim.Native.Nat.{◌-◌, ◌≤◌}
-use native.Mathlib.Omega.{arith}
-use lib.Ieee.{binary64, of_bits}
 use Rattle.job.specs.Columns.{float_column}
-use Rattle.job.proofs.Files.{floats-none, floats-more}
 use Rattle.job.proofs.columns.column_f64.Given as goal
 
 abbrev pub invariant-loop-k : goal.invariant-loop-k

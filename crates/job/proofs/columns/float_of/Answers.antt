@@ -1,5 +1,4 @@
 -- `job::columns::float_of` meets its contract. Assumes nothing.
-use borrow.Author.Rules.{rules}
 use Rattle.job.proofs.Files.{no-nan-field, no-nan-digits, nan_pattern}
 use Rattle.job.proofs.columns.float_of.Goals as goal
 

@@ -1,5 +1,4 @@
 -- `job::fields::field` meets its contract. Assumes nothing.
-use borrow.Author.Rules.{rules}
 use mathlib.Core.Path.{◌∙◌}
 use Rattle.records.proofs.Numbers.{field_is}
 use Rattle.job.proofs.fields.field.Goals as goal

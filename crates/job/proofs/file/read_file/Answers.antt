@@ -1,6 +1,5 @@
 -- `job::file::read_file` meets its contract. Assumes nothing.
 -- Below, c_n is what is known N places before c.
-use borrow.Author.Rules.{rules}
 use mathlib.Core.Path.{sym, ap, ◌∙◌}
 use mathlib.Core.Bool.{Bool, ◌&&◌}
 use Rattle.job.specs.File.{job_counts, job_starts}

@@ -1,5 +1,4 @@
 -- `job::file::rest_ok` meets its contract. Assumes nothing.
-use borrow.Author.Rules.{rules}
 use Rattle.job.proofs.Files.{rest-last, rest-freezes, rest-settings}
 use Rattle.job.proofs.file.rest_ok.Goals as goal
 

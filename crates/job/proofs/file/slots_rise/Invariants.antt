@@ -1,15 +1,11 @@
 -- `job::file::slots_rise` meets its contract. The invariant: the slots rise up to record k. Assumes nothing.
 -- Below, c_n is what is known N places before c.
-use borrow.Author.Rules.{rules}
 use mathlib.Core.Path.{◌≡◌}
 use mathlib.Core.Bool.{true}
 use Prim.Native.Nat.{◌+◌, ◌-◌, ◌≤◌}
-use native.Mathlib.Omega.{arith}
 use lib.Dec.{ltb}
 use Rattle.paper.specs.Count.{all}
-use Rattle.paper.proofs.Count.{all_none}
 use Rattle.job.specs.File.{owner_slot}
-use Rattle.job.proofs.Files.{rise-more, rise-fails, rise-done}
 use Rattle.job.proofs.file.slots_rise.Given as goal
 
 abbrev pub invariant-loop-k : goal.invariant-loop-k

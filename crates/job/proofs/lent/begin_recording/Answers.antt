@@ -1,6 +1,5 @@
 -- `job::lent::begin_recording` meets its contract. Assumes nothing.
 use mathlib.Core.Path.{sym, ◌∙◌}
-use borrow.Author.Rules.{rules}
 use Rattle.job.specs.Begun.{ready_room}
 use Rattle.job.proofs.Lays.{begun-room, lent-kept, lent_laid}
 use Rattle.job.proofs.lent.begin_recording.Goals as goal

@@ -1,10 +1,9 @@
 -- `job::lent::lay32` meets its contract. Assumes nothing.
-use mathlib.Core.Path.{◌≡◌, sym, ap, ◌∙◌}
-use Prim.Native.Nat.{◌-◌, ◌≤◌}
+use mathlib.Core.Path.{ap, ◌∙◌}
 use native.Mathlib.Omega.{arith}
 use borrow.Author.Rules.{rules}
 use lib.ListN.{length}
-use Rattle.job.proofs.Lays.{laying, lay-none, lay-length, lay-more, lay_done}
+use Rattle.job.proofs.Lays.{lay-none, lay-length, lay-more, lay_done}
 use Rattle.job.proofs.lent.lay32.Goals as goal
 
 pub loop-k-init : goal.loop-k-init

@@ -1,10 +1,8 @@
 -- `job::lent::lay32` meets its contract. Assumes nothing.
-use mathlib.Core.Path.{◌≡◌, sym, ap, ◌∙◌}
+use mathlib.Core.Path.{◌≡◌}
 use Prim.Native.Nat.{◌-◌, ◌≤◌}
-use native.Mathlib.Omega.{arith}
-use borrow.Author.Rules.{rules}
 use lib.ListN.{length}
-use Rattle.job.proofs.Lays.{laying, lay-none, lay-length, lay-more, lay_done}
+use Rattle.job.proofs.Lays.{laying}
 use Rattle.job.proofs.lent.lay32.Given as goal
 
 abbrev pub invariant-loop-k : goal.invariant-loop-k

@@ -1,6 +1,5 @@
 -- `job::lent::lay_targets` meets its contract. Assumes nothing.
-use mathlib.Core.Path.{◌≡◌, sym, ap, ◌∙◌}
-use Prim.Native.Nat.{◌-◌, ◌≤◌}
+use mathlib.Core.Path.{ap, ◌∙◌}
 use native.Mathlib.Omega.{arith}
 use borrow.Author.Rules.{rules}
 use lib.IntN.{ℤ, pos}
@@ -8,7 +7,7 @@ use lib.ListN.{length, get_or, set}
 use mir.Syntax.{w64}
 use mir.Val.{SFits}
 use mir.ValLaws.{to_z-of_z}
-use Rattle.job.proofs.Lays.{laying, lay-none, lay-length, lay-more, lay_done}
+use Rattle.job.proofs.Lays.{lay-none, lay-length, lay-more, lay_done}
 use Rattle.job.proofs.lent.lay_targets.Goals as goal
 
 pub loop-k-init : goal.loop-k-init

@@ -1,14 +1,8 @@
 -- `job::lent::lay_targets` meets its contract. Assumes nothing.
-use mathlib.Core.Path.{◌≡◌, sym, ap, ◌∙◌}
+use mathlib.Core.Path.{◌≡◌}
 use Prim.Native.Nat.{◌-◌, ◌≤◌}
-use native.Mathlib.Omega.{arith}
-use borrow.Author.Rules.{rules}
-use lib.IntN.{ℤ, pos}
-use lib.ListN.{length, get_or, set}
-use mir.Syntax.{w64}
-use mir.Val.{SFits}
-use mir.ValLaws.{to_z-of_z}
-use Rattle.job.proofs.Lays.{laying, lay-none, lay-length, lay-more, lay_done}
+use lib.ListN.{length}
+use Rattle.job.proofs.Lays.{laying}
 use Rattle.job.proofs.lent.lay_targets.Given as goal
 
 abbrev pub invariant-loop-k : goal.invariant-loop-k

@@ -1,5 +1,4 @@
 -- `job::lent::rota_room` meets its contract. Assumes nothing.
-use borrow.Author.Rules.{rules}
 use lib.Dec.{leb}
 use lib.ListN.{length}
 use Rattle.job.specs.Begun.{rota_room}

@@ -1,6 +1,6 @@
 -- `job::listing::digit_count` meets its contract. Assumes nothing.
 use native.Mathlib.Omega.{arith}
-use Rattle.job.proofs.Texts.{Counting, counting-start, counting_more, counting-end, counting-few}
+use Rattle.job.proofs.Texts.{counting-start, counting_more, counting-end, counting-few}
 use Rattle.job.proofs.listing.digit_count.Goals as goal
 
 pub loop-rest-init : goal.loop-rest-init

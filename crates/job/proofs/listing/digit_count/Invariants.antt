@@ -1,6 +1,5 @@
 -- `job::listing::digit_count` meets its contract. Assumes nothing.
-use native.Mathlib.Omega.{arith}
-use Rattle.job.proofs.Texts.{Counting, counting-start, counting_more, counting-end, counting-few}
+use Rattle.job.proofs.Texts.{Counting}
 use Rattle.job.proofs.listing.digit_count.Given as goal
 
 abbrev pub invariant-loop-rest : goal.invariant-loop-rest

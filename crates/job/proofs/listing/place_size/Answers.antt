@@ -1,5 +1,4 @@
 -- `job::listing::place_size` meets its contract. Assumes nothing.
-use borrow.Author.Rules.{rules}
 use native.Mathlib.Omega.{arith}
 use Rattle.job.proofs.Texts.{two-length, one-length}
 use Rattle.job.proofs.listing.place_size.Goals as goal

@@ -1,7 +1,6 @@
 -- `job::listing::put_people` meets its contract. The invariant: the lines of the first k people are written. Assumes nothing.
 -- Below, c_n is what is known N places before c.
 use borrow.Author.Rules.{rules}
-use Prim.Native.Nat.{◌-◌, ◌≤◌}
 use native.Mathlib.Omega.{arith}
 use lib.ListN.{length, get_or}
 use lib.IntN.{ℤ, pos}
@@ -11,7 +10,7 @@ use mir.Val.{SFits}
 use mir.ValLaws.{to_z-of_z}
 use Rattle.job.specs.Listing.{person_line, person_at}
 use Rattle.records.proofs.Puts.{wrote-same}
-use Rattle.job.proofs.Texts.{Going, going_start, going-room, going_more, going_end}
+use Rattle.job.proofs.Texts.{going_start, going-room, going_more, going_end}
 use Rattle.job.proofs.listing.put_people.Goals as goal
 
 pub loop-k-init : goal.loop-k-init

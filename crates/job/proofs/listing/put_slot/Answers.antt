@@ -1,6 +1,5 @@
 -- `job::listing::put_slot` meets its contract. Assumes nothing.
 -- Below, c_n is what is known N places before c.
-use borrow.Author.Rules.{rules}
 use mathlib.Core.List.{List, [], ◌∷◌, ◌++◌}
 use Prim.Native.Nat.{ℕ}
 use Rattle.records.proofs.Puts.{room-first, room_next, wrote-both}

@@ -1,10 +1,8 @@
 -- `job::listing::put_slots` meets its contract. The invariant: the lines of the first k slots are written. Assumes nothing.
 -- Below, c_n is what is known N places before c.
-use borrow.Author.Rules.{rules}
-use Prim.Native.Nat.{◌-◌, ◌≤◌}
 use native.Mathlib.Omega.{arith}
 use Rattle.job.specs.Listing.{slot_at}
-use Rattle.job.proofs.Texts.{Going, going_start, going-room, going_more, going_end}
+use Rattle.job.proofs.Texts.{going_start, going-room, going_more, going_end}
 use Rattle.job.proofs.listing.put_slots.Goals as goal
 
 pub loop-k-init : goal.loop-k-init

@@ -1,5 +1,4 @@
 -- `job::listing::refusal_line` meets its contract. Below, c_n is what is known N places before c. Assumes nothing.
-use borrow.Author.Rules.{rules}
 use Rattle.job.proofs.RefusalLines.{line-asked, line-room, line_refused, line-written}
 use Rattle.job.proofs.listing.refusal_line.Goals as goal
 

@@ -1,5 +1,4 @@
 -- `job::listing::refusal_size` meets its contract. Assumes nothing.
-use borrow.Author.Rules.{rules}
 use native.Mathlib.Omega.{arith}
 use Rattle.job.proofs.Texts.{plain-length, placed-length}
 use Rattle.job.proofs.listing.refusal_size.Goals as goal

@@ -1,5 +1,4 @@
 -- `job::listing::size_of` meets its contract. Assumes nothing.
-use borrow.Author.Rules.{rules}
 use native.Mathlib.Omega.{arith}
 use Rattle.job.proofs.Signs.{next_fits, turned-fits, turned-whole, size_below, size_is, whole-fits}
 use Rattle.job.proofs.listing.size_of.Goals as goal

@@ -1,13 +1,9 @@
 -- `job::owning::all_known` meets its contract. The invariant: the first k records are right. Assumes nothing.
 -- Below, c_n is what is known N places before c.
-use borrow.Author.Rules.{rules}
-use mathlib.Core.Path.{◌≡◌, sym, ◌∙◌}
-use mathlib.Core.Bool.{true}
-use Prim.Native.Nat.{◌-◌, ◌≤◌}
+use mathlib.Core.Path.{sym, ◌∙◌}
 use native.Mathlib.Omega.{arith}
-use Rattle.paper.specs.Count.{all}
 use Rattle.paper.proofs.Count.{all_none, all_more, all-fails, all_done}
-use Rattle.job.specs.Stages.{record_known, all_known}
+use Rattle.job.specs.Stages.{all_known}
 use Rattle.job.proofs.owning.all_known.Goals as goal
 
 pub loop-k-init : goal.loop-k-init

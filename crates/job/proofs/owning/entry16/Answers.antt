@@ -1,5 +1,4 @@
 -- `job::owning::entry16` meets its contract. Assumes nothing.
-use borrow.Author.Rules.{rules}
 use mathlib.Core.Path.{sym}
 use lib.ListN.{get_or-eq_default}
 use Rattle.job.proofs.owning.entry16.Goals as goal

@@ -1,12 +1,7 @@
 -- `job::owning::first_uneven` meets its contract. The invariant: the first u units are even. Assumes nothing.
-use borrow.Author.Rules.{rules}
-use mathlib.Core.Path.{◌≡◌, sym, ◌∙◌}
-use mathlib.Core.Bool.{true}
-use Prim.Native.Nat.{◌-◌, ◌≤◌}
+use mathlib.Core.Path.{sym, ◌∙◌}
 use native.Mathlib.Omega.{arith}
-use Rattle.paper.specs.Count.{all}
 use Rattle.paper.proofs.Count.{all_none, all_more}
-use Rattle.owners.specs.Recount.{even_at}
 use Rattle.owners.proofs.Scans.{scan-fails, scan-ends}
 use Rattle.job.specs.Stages.{uneven_in}
 use Rattle.job.proofs.owning.first_uneven.Goals as goal

@@ -1,10 +1,6 @@
 -- `job::owning::narrow` meets its contract. The invariant: the first k owners are bytes. Assumes nothing.
-use borrow.Author.Rules.{rules}
-use mathlib.Core.Path.{◌≡◌, sym, ap, ◌∙◌}
-use Prim.Native.Nat.{ℕ, ◌-◌, ◌≤◌}
+use mathlib.Core.Path.{sym, ap, ◌∙◌}
 use native.Mathlib.Omega.{arith}
-use lib.ListN.{get_or, replicate}
-use Rattle.paper.specs.Count.{over}
 use Rattle.paper.proofs.Count.{over_none}
 use Rattle.job.specs.Stages.{byte_of, narrowed}
 use Rattle.records.proofs.Walks.{over-turn, over_done}

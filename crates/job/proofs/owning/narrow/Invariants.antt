@@ -1,14 +1,9 @@
 -- `job::owning::narrow` meets its contract. The invariant: the first k owners are bytes. Assumes nothing.
-use borrow.Author.Rules.{rules}
-use mathlib.Core.Path.{◌≡◌, sym, ap, ◌∙◌}
+use mathlib.Core.Path.{◌≡◌}
 use Prim.Native.Nat.{ℕ, ◌-◌, ◌≤◌}
-use native.Mathlib.Omega.{arith}
 use lib.ListN.{get_or, replicate}
 use Rattle.paper.specs.Count.{over}
-use Rattle.paper.proofs.Count.{over_none}
-use Rattle.job.specs.Stages.{byte_of, narrowed}
-use Rattle.records.proofs.Walks.{over-turn, over_done}
-use Rattle.job.proofs.Prepares.{byte_small, byte-large}
+use Rattle.job.specs.Stages.{byte_of}
 use Rattle.job.proofs.owning.narrow.Given as goal
 
 abbrev pub invariant-loop-k : goal.invariant-loop-k

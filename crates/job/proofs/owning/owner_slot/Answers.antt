@@ -1,5 +1,4 @@
 -- `job::owning::owner_slot` meets its contract. Assumes nothing.
-use borrow.Author.Rules.{rules}
 use Rattle.job.specs.File.{owner_slot}
 use Rattle.job.proofs.owning.owner_slot.Goals as goal
 

@@ -1,5 +1,4 @@
 -- `job::owning::owner_value` meets its contract. Assumes nothing.
-use borrow.Author.Rules.{rules}
 use Rattle.job.specs.Stages.{owner_value}
 use Rattle.job.proofs.owning.owner_value.Goals as goal
 

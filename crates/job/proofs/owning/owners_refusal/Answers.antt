@@ -1,5 +1,4 @@
 -- `job::owning::owners_refusal` meets its contract. Assumes nothing.
-use borrow.Author.Rules.{rules}
 use mathlib.Core.Path.{refl}
 use Rattle.paper.proofs.Rows.{link, ends, checked, renamed}
 use Rattle.job.specs.Inside.{owners_row}

@@ -1,8 +1,6 @@
 -- `job::owning::placed_by` meets its contract. The invariant: the first k records are placed. Assumes nothing.
 -- Below, c_n is what is known N places before c.
-use borrow.Author.Rules.{rules}
 use mathlib.Core.Path.{◌≡◌, ap, ◌∙◌}
-use Prim.Native.Nat.{◌-◌, ◌≤◌}
 use native.Mathlib.Omega.{arith}
 use Rattle.job.specs.Stages.{placed}
 use Rattle.job.proofs.Prepares.{placed-none, placed-more, placed-not}

@@ -1,11 +1,8 @@
 -- `job::owning::placed_by` meets its contract. The invariant: the first k records are placed. Assumes nothing.
 -- Below, c_n is what is known N places before c.
-use borrow.Author.Rules.{rules}
-use mathlib.Core.Path.{◌≡◌, ap, ◌∙◌}
+use mathlib.Core.Path.{◌≡◌}
 use Prim.Native.Nat.{◌-◌, ◌≤◌}
-use native.Mathlib.Omega.{arith}
 use Rattle.job.specs.Stages.{placed}
-use Rattle.job.proofs.Prepares.{placed-none, placed-more, placed-not}
 use Rattle.job.proofs.owning.placed_by.Given as goal
 
 abbrev pub invariant-loop-k : goal.invariant-loop-k

@@ -1,6 +1,5 @@
 -- `job::owning::record_known` meets its contract. Assumes nothing.
 -- Below, c_n is what is known N places before c.
-use borrow.Author.Rules.{rules}
 use mathlib.Core.Path.{sym, ap, ◌∙◌}
 use borrow.Author.Tests.{ne_eqb}
 use Rattle.owners.specs.Derived.{known_by}

@@ -1,14 +1,8 @@
 -- `job::owning::unit_even` meets its contract. The invariant: the slots from the unit's start up to k have its owner. Assumes nothing.
 -- Below, c_n is what is known N places before c.
-use borrow.Author.Rules.{rules}
-use mathlib.Core.Path.{◌≡◌, sym, ◌∙◌}
-use mathlib.Core.Bool.{true}
-use Prim.Native.Nat.{ℕ, ◌-◌, ◌≤◌}
+use mathlib.Core.Path.{sym, ◌∙◌}
 use native.Mathlib.Omega.{arith}
 use borrow.Author.Tests.{eq-eqb, ne_eqb}
-use lib.Dec.{eqb}
-use lib.ListN.{get_or}
-use Rattle.paper.specs.Count.{all_in}
 use Rattle.paper.proofs.Count.{in-none, in-more, in-fails, in-each, each_in}
 use Rattle.owners.proofs.Scans.{even-as}
 use Rattle.job.proofs.owning.unit_even.Goals as goal

@@ -1,5 +1,4 @@
 -- `job::parts::frozen_in` meets its contract. Assumes nothing.
-use borrow.Author.Rules.{rules}
 use mathlib.Core.Path.{◌∙◌}
 use Rattle.job.proofs.Prepares.{frozen-none, frozen-some}
 use Rattle.job.proofs.parts.frozen_in.Goals as goal

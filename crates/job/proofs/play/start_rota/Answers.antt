@@ -1,5 +1,4 @@
 -- `job::play::start_rota` meets its contract. Assumes nothing.
-use borrow.Author.Rules.{rules}
 use mathlib.Core.Path.{ap}
 use Rattle.paper.specs.declared.Refusal.{Refusal}
 use Rattle.job.proofs.play.start_rota.Goals as goal

@@ -1,6 +1,5 @@
 -- `job::prepare::frozen_of` meets its contract. Assumes nothing.
 -- Below, c_n is what is known N places before c.
-use borrow.Author.Rules.{rules}
 use Rattle.job.proofs.Readings.{read-freeze, frozen-are}
 use Rattle.job.proofs.prepare.frozen_of.Goals as goal
 

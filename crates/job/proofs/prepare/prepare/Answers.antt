@@ -1,6 +1,5 @@
 -- `job::prepare::prepare` meets its contract. Assumes nothing.
 -- Below, c_n is what is known N places before c.
-use borrow.Author.Rules.{rules}
 use mathlib.Core.Path.{sym}
 use Rattle.job.proofs.Readings.{read-settings, read-owners, prepared-are}
 use Rattle.job.proofs.prepare.prepare.Goals as goal

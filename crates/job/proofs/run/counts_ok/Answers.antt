@@ -1,6 +1,5 @@
 -- `job::run::counts_ok` meets its contract. Assumes nothing.
 -- Below, c_n is what is known N places before c.
-use borrow.Author.Rules.{rules}
 use mathlib.Core.Path.{sym, ◌∙◌}
 use Rattle.job.proofs.Prepares.{counts-draws, counts-ranges, counts-people, counts-base}
 use Rattle.job.proofs.run.counts_ok.Goals as goal

@@ -2,7 +2,6 @@
 use mathlib.Core.Path.{refl}
 use Rattle.paper.proofs.Rows.{link, ends, checked}
 use Rattle.job.specs.Shown.{block_row}
-use borrow.Author.Rules.{rules}
 use Rattle.job.proofs.shown.block_refusal.Goals as goal
 
 pub returns : goal.returns

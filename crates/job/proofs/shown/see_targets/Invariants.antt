@@ -1,14 +1,8 @@
 -- `job::shown::see_targets` meets its contract. Assumes nothing.
-use borrow.Author.Rules.{rules}
-use native.Mathlib.Omega.{arith}
-use mathlib.Core.Path.{sym, subst}
 use Prim.Native.Nat.{ℕ, ◌-◌, ◌^◌, ◌≤◌, ◌<◌}
 use lib.IntN.{pos}
 use lib.Signed.{mag}
 use lib.ListN.{get_or}
-use mir.Syntax.{w64}
-use mir.Val.{SFits}
-use Rattle.paper.proofs.Logic.{below_suc}
 use Rattle.job.proofs.shown.see_targets.Given as goal
 
 abbrev pub invariant-loop-p : goal.invariant-loop-p

@@ -1,12 +1,8 @@
 -- `mend::clearing::clear_barred` meets its contract. Assumes nothing.
-use mathlib.Core.Path.{◌≡◌, refl, sym}
-use Prim.Native.Nat.{◌-◌, ◌≤◌}
+use mathlib.Core.Path.{refl, sym}
 use native.Mathlib.Omega.{arith}
-use borrow.Author.Rules.{rules}
-use lib.ListN.{length, length-set}
-use Rattle.paper.specs.Count.{over}
+use lib.ListN.{length-set}
 use Rattle.paper.proofs.Count.{over_none}
-use Rattle.mend.specs.Mended.{left_to}
 use Rattle.mend.proofs.Cleared.{barred-more, barred-end}
 use Rattle.mend.proofs.clearing.clear_barred.Goals as goal
 

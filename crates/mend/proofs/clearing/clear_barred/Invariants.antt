@@ -1,13 +1,9 @@
 -- `mend::clearing::clear_barred` meets its contract. Assumes nothing.
-use mathlib.Core.Path.{◌≡◌, refl, sym}
+use mathlib.Core.Path.{◌≡◌}
 use Prim.Native.Nat.{◌-◌, ◌≤◌}
-use native.Mathlib.Omega.{arith}
-use borrow.Author.Rules.{rules}
-use lib.ListN.{length, length-set}
+use lib.ListN.{length}
 use Rattle.paper.specs.Count.{over}
-use Rattle.paper.proofs.Count.{over_none}
 use Rattle.mend.specs.Mended.{left_to}
-use Rattle.mend.proofs.Cleared.{barred-more, barred-end}
 use Rattle.mend.proofs.clearing.clear_barred.Given as goal
 
 abbrev pub invariant-loop-k : goal.invariant-loop-k

@@ -1,11 +1,8 @@
 -- `mend::clearing::clear_uneven` meets its contract. Assumes nothing.
-use mathlib.Core.Path.{◌≡◌, refl, sym, ap, ◌∙◌}
-use Prim.Native.Nat.{◌-◌, ◌≤◌}
+use mathlib.Core.Path.{refl, ap, ◌∙◌}
 use native.Mathlib.Omega.{arith}
-use borrow.Author.Rules.{rules}
 use lib.ListN.{length}
 use Rattle.units.proofs.Units.{units-room}
-use Rattle.mend.specs.Mended.{uneven_cleared}
 use Rattle.mend.proofs.Cleared.{uneven-none, uneven-length, even-stays, uneven-goes, uneven-end}
 use Rattle.mend.proofs.clearing.clear_uneven.Goals as goal
 

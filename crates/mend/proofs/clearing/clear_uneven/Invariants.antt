@@ -1,12 +1,8 @@
 -- `mend::clearing::clear_uneven` meets its contract. Assumes nothing.
-use mathlib.Core.Path.{◌≡◌, refl, sym, ap, ◌∙◌}
+use mathlib.Core.Path.{◌≡◌}
 use Prim.Native.Nat.{◌-◌, ◌≤◌}
-use native.Mathlib.Omega.{arith}
-use borrow.Author.Rules.{rules}
 use lib.ListN.{length}
-use Rattle.units.proofs.Units.{units-room}
 use Rattle.mend.specs.Mended.{uneven_cleared}
-use Rattle.mend.proofs.Cleared.{uneven-none, uneven-length, even-stays, uneven-goes, uneven-end}
 use Rattle.mend.proofs.clearing.clear_uneven.Given as goal
 
 abbrev pub invariant-loop-u : goal.invariant-loop-u

@@ -1,6 +1,5 @@
 -- `mend::clearing::left_to` meets its contract. Assumes nothing.
 use mathlib.Core.Path.{sym, ◌∙◌}
-use borrow.Author.Rules.{rules}
 use Rattle.paper.proofs.Logic.{and-true, and-stops, and_last}
 use Rattle.mend.proofs.Cleared.{left-yes, left-no}
 use Rattle.mend.proofs.clearing.left_to.Goals as goal

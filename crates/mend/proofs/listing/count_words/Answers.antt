@@ -1,11 +1,8 @@
 -- `mend::listing::count_words` meets its contract. Assumes nothing.
-use mathlib.Core.Path.{◌≡◌, sym, ap, ◌∙◌}
-use Prim.Native.Nat.{ℕ, ◌+◌, ◌-◌, ◌≤◌}
+use mathlib.Core.Path.{sym, ap, ◌∙◌}
+use Prim.Native.Nat.{ℕ, ◌+◌}
 use native.Mathlib.Omega.{arith}
-use borrow.Author.Rules.{rules}
-use Rattle.paper.specs.Count.{count}
 use Rattle.paper.proofs.Count.{count_none, count-in, count-out, count-done}
-use Rattle.mend.specs.Repairs.{differs_at}
 use Rattle.mend.proofs.ListLaws.{differs-no, differs-yes}
 use Rattle.mend.proofs.listing.count_words.Goals as goal
 

@@ -1,6 +1,5 @@
 -- `mend::listing::flag_of` meets its contract. Assumes nothing.
 use mathlib.Core.Path.{sym, ◌∙◌}
-use borrow.Author.Rules.{rules}
 use borrow.Author.Tests.{eqb-true, eqb-false}
 use Rattle.paper.proofs.Logic.{zero_of}
 use Rattle.slotset.proofs.Puts.{slot_lt}

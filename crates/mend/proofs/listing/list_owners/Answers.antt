@@ -1,10 +1,8 @@
 -- `mend::listing::list_owners` meets its contract. Assumes nothing.
-use mathlib.Core.Path.{◌≡◌, refl, sym, ap, ◌∙◌}
-use Prim.Native.Nat.{ℕ, ◌-◌, ◌≤◌}
+use mathlib.Core.Path.{◌∙◌}
 use native.Mathlib.Omega.{arith}
-use borrow.Author.Rules.{rules}
 use Rattle.mend.specs.Repairs.{flag_of}
-use Rattle.mend.proofs.ListLaws.{differs-no, differs-yes, repair-is, Reached}
+use Rattle.mend.proofs.ListLaws.{differs-no, differs-yes, repair-is}
 use Rattle.mend.proofs.ListLaws.{reached-none, reached-out, reached-room, reached-in, reached-end}
 use Rattle.mend.proofs.listing.list_owners.Goals as goal
 

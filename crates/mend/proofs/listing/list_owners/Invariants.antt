@@ -1,11 +1,7 @@
 -- `mend::listing::list_owners` meets its contract. Assumes nothing.
-use mathlib.Core.Path.{◌≡◌, refl, sym, ap, ◌∙◌}
-use Prim.Native.Nat.{ℕ, ◌-◌, ◌≤◌}
-use native.Mathlib.Omega.{arith}
-use borrow.Author.Rules.{rules}
+use Prim.Native.Nat.{◌-◌}
 use Rattle.mend.specs.Repairs.{flag_of}
-use Rattle.mend.proofs.ListLaws.{differs-no, differs-yes, repair-is, Reached}
-use Rattle.mend.proofs.ListLaws.{reached-none, reached-out, reached-room, reached-in, reached-end}
+use Rattle.mend.proofs.ListLaws.{Reached}
 use Rattle.mend.proofs.listing.list_owners.Given as goal
 
 abbrev pub invariant-loop-k : goal.invariant-loop-k

@@ -1,6 +1,5 @@
 -- `mend::listing::list_repairs` meets its contract. Assumes nothing.
 use mathlib.Core.Path.{◌∙◌}
-use borrow.Author.Rules.{rules}
 use Rattle.mend.proofs.ListLaws.{room_0, room-1, room-2, room-3, all_listed}
 use Rattle.mend.proofs.listing.list_repairs.Goals as goal
 

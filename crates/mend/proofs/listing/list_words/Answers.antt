@@ -1,9 +1,7 @@
 -- `mend::listing::list_words` meets its contract. Assumes nothing.
-use mathlib.Core.Path.{◌≡◌, refl, sym, ap, ◌∙◌}
-use Prim.Native.Nat.{ℕ, ◌-◌, ◌≤◌}
+use mathlib.Core.Path.{refl}
 use native.Mathlib.Omega.{arith}
-use borrow.Author.Rules.{rules}
-use Rattle.mend.proofs.ListLaws.{differs-no, differs-yes, repair-is, Reached}
+use Rattle.mend.proofs.ListLaws.{differs-no, differs-yes, repair-is}
 use Rattle.mend.proofs.ListLaws.{reached-none, reached-out, reached-room, reached-in, reached-end}
 use Rattle.mend.proofs.listing.list_words.Goals as goal
 

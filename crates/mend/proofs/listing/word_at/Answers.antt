@@ -1,6 +1,5 @@
 -- `mend::listing::word_at` meets its contract. Assumes nothing.
 use mathlib.Core.Path.{refl, sym}
-use borrow.Author.Rules.{rules}
 use lib.ListN.{get_or-eq_default}
 use Rattle.mend.proofs.listing.word_at.Goals as goal
 

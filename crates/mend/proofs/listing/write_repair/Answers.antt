@@ -1,6 +1,5 @@
 -- `mend::listing::write_repair` meets its contract. Assumes nothing.
 use native.Mathlib.Omega.{arith}
-use borrow.Author.Rules.{rules}
 use lib.ListN.{length-set}
 use Rattle.mend.proofs.ListLaws.{written_one}
 use Rattle.mend.proofs.listing.write_repair.Goals as goal

@@ -1,10 +1,7 @@
 -- `mend::mending::copy_owners` meets its contract. Assumes nothing.
-use mathlib.Core.Path.{◌≡◌, refl}
-use Prim.Native.Nat.{◌-◌, ◌≤◌}
+use mathlib.Core.Path.{refl}
 use native.Mathlib.Omega.{arith}
-use borrow.Author.Rules.{rules}
-use lib.ListN.{length, length-set}
-use Rattle.mend.specs.Inside.{copied}
+use lib.ListN.{length-set}
 use Rattle.mend.proofs.Made.{copied_none, copied_more, copied-end}
 use Rattle.mend.proofs.mending.copy_owners.Goals as goal
 

@@ -1,11 +1,8 @@
 -- `mend::mending::copy_owners` meets its contract. Assumes nothing.
-use mathlib.Core.Path.{◌≡◌, refl}
+use mathlib.Core.Path.{◌≡◌}
 use Prim.Native.Nat.{◌-◌, ◌≤◌}
-use native.Mathlib.Omega.{arith}
-use borrow.Author.Rules.{rules}
-use lib.ListN.{length, length-set}
+use lib.ListN.{length}
 use Rattle.mend.specs.Inside.{copied}
-use Rattle.mend.proofs.Made.{copied_none, copied_more, copied-end}
 use Rattle.mend.proofs.mending.copy_owners.Given as goal
 
 abbrev pub invariant-loop-k : goal.invariant-loop-k

@@ -2,7 +2,6 @@
 use mathlib.Core.Path.{refl}
 use Rattle.paper.proofs.Rows.{link, ends, checked}
 use Rattle.mend.specs.Answers.{found_row}
-use borrow.Author.Rules.{rules}
 use Rattle.mend.proofs.mending.found_refusal.Goals as goal
 
 pub returns : goal.returns

@@ -1,6 +1,5 @@
 -- `mend::mending::mend` meets its contract. Assumes nothing.
 use mathlib.Core.Path.{refl, sym, ◌∙◌}
-use borrow.Author.Rules.{rules}
 use Rattle.paper.proofs.Rows.{said}
 use Rattle.mend.proofs.Ending.{ends-refused}
 use Rattle.mend.proofs.mending.mend.Goals as goal

@@ -1,7 +1,6 @@
 -- `mend::mending::mend_found` meets its contract. Assumes nothing.
 use mathlib.Core.Path.{◌∙◌}
 use Prim.Native.Nat.{ℕ}
-use borrow.Author.Rules.{rules}
 use lib.ListN.{length-replicate}
 use Rattle.mend.proofs.Ending.{mendable, found-room, people-few, slots-few, local-room, ended-as, writes-due}
 use Rattle.mend.proofs.mending.mend_found.Goals as goal

@@ -1,5 +1,4 @@
 -- `mend::mending::take_over` meets its contract. Assumes nothing.
-use borrow.Author.Rules.{rules}
 use Rattle.mend.proofs.Made.{rota-same}
 use Rattle.mend.proofs.mending.take_over.Goals as goal
 

@@ -1,5 +1,4 @@
 -- `mend::mending::work_out` meets its contract. Assumes nothing.
-use borrow.Author.Rules.{rules}
 use Rattle.mend.proofs.Made.{worked-out}
 use Rattle.mend.proofs.mending.work_out.Goals as goal
 

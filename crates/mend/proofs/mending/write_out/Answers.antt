@@ -1,6 +1,5 @@
 -- `mend::mending::write_out` meets its contract. Assumes nothing.
 use native.Mathlib.Omega.{arith}
-use borrow.Author.Rules.{rules}
 use Rattle.mend.proofs.ListLaws.{many-fits}
 use Rattle.mend.proofs.Ending.{wrote-all, wrote_none}
 use Rattle.mend.proofs.mending.write_out.Goals as goal

@@ -1,5 +1,4 @@
 -- `owners::checks::check_available` meets its contract. Assumes nothing.
-use Rattle.std.proofs.Common.{rules}
 use Rattle.paper.proofs.Rows.{renamed, skipped}
 use Rattle.owners.proofs.Scans.{scan-test}
 use Rattle.owners.proofs.checks.check_available.Goals as goal

@@ -1,5 +1,4 @@
 -- `owners::checks::check_known` meets its contract. Assumes nothing.
-use Rattle.std.proofs.Common.{rules}
 use Rattle.paper.proofs.Rows.{renamed, skipped}
 use Rattle.owners.proofs.Scans.{scan-test}
 use Rattle.owners.proofs.checks.check_known.Goals as goal

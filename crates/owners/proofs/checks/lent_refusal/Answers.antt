@@ -1,5 +1,5 @@
 -- `owners::checks::lent_refusal` meets its contract. Assumes nothing.
-use Rattle.std.proofs.Common.{refl, rules}
+use Rattle.std.proofs.Common.{refl}
 use Rattle.paper.proofs.Rows.{link, ends, checked}
 use Rattle.owners.specs.Entries.{lent_row}
 use Rattle.owners.proofs.checks.lent_refusal.Goals as goal

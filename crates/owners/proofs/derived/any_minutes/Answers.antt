@@ -1,6 +1,5 @@
 -- `owners::derived::any_minutes` meets its contract. Assumes nothing.
-use Rattle.std.proofs.Common.{◌≡◌, ◌-◌, ◌≤◌, ◌∙◌, arith, rules}
-use Rattle.owners.specs.Derived.{stretch_minutes, wrapped}
+use Rattle.std.proofs.Common.{◌∙◌, arith, rules}
 use Rattle.owners.proofs.Steps.{stretch-none, stretch-more, stretch-end}
 use Rattle.owners.proofs.derived.any_minutes.Goals as goal
 

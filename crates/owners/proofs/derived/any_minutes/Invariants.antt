@@ -1,7 +1,6 @@
 -- `owners::derived::any_minutes` meets its contract. Assumes nothing.
-use Rattle.std.proofs.Common.{◌≡◌, ◌-◌, ◌≤◌, ◌∙◌, arith, rules}
+use Rattle.std.proofs.Common.{◌≡◌, ◌-◌, ◌≤◌}
 use Rattle.owners.specs.Derived.{stretch_minutes, wrapped}
-use Rattle.owners.proofs.Steps.{stretch-none, stretch-more, stretch-end}
 use Rattle.owners.proofs.derived.any_minutes.Given as goal
 
 abbrev pub invariant-loop-k : goal.invariant-loop-k

@@ -1,7 +1,6 @@
 -- `owners::derived::clear_first` meets its contract. Assumes nothing.
-use Rattle.std.proofs.Common.{◌≡◌, ℕ, ◌-◌, ◌≤◌, List, length, set, sym, refl, ap, ◌∙◌, arith, length-set, rules}
+use Rattle.std.proofs.Common.{◌≡◌, ◌-◌, ◌≤◌, length}
 use Rattle.paper.specs.Count.{over}
-use Rattle.paper.proofs.Count.{over_none, over-more}
 use Rattle.owners.proofs.derived.clear_first.Given as goal
 
 abbrev pub invariant-loop-i : goal.invariant-loop-i

@@ -1,5 +1,5 @@
 -- `owners::derived::clear_sets` meets its contract. Assumes nothing.
-use Rattle.std.proofs.Common.{◌≡◌, ℕ, ◌-◌, ◌≤◌, length, refl, ap, ◌∙◌, arith, rules}
+use Rattle.std.proofs.Common.{◌≡◌, ℕ, length, refl, ap, ◌∙◌, arith, rules}
 use Rattle.owners.specs.Derived.{sets_from, nobodies}
 use Rattle.owners.proofs.Sets.{length-sets}
 use Rattle.owners.proofs.Made.{clear-one}

@@ -1,8 +1,6 @@
 -- `owners::derived::clear_sets` meets its contract. Assumes nothing.
-use Rattle.std.proofs.Common.{◌≡◌, ℕ, ◌-◌, ◌≤◌, length, refl, ap, ◌∙◌, arith, rules}
+use Rattle.std.proofs.Common.{◌≡◌, ◌-◌, ◌≤◌, length}
 use Rattle.owners.specs.Derived.{sets_from, nobodies}
-use Rattle.owners.proofs.Sets.{length-sets}
-use Rattle.owners.proofs.Made.{clear-one}
 use Rattle.owners.proofs.derived.clear_sets.Given as goal
 
 abbrev pub invariant-loop-p : goal.invariant-loop-p

@@ -1,8 +1,6 @@
 -- `owners::derived::fill_any` meets its contract. Assumes nothing.
-use Rattle.std.proofs.Common.{◌≡◌, ℕ, ◌-◌, ◌≤◌, List, length, set, sym, refl, ap, ◌∙◌, arith, length-set, rules}
-use lib.Seq.{set_out}
+use Rattle.std.proofs.Common.{◌≡◌, ◌-◌, ◌≤◌, length}
 use Rattle.paper.specs.Count.{fill}
-use Rattle.paper.proofs.Count.{fill_none, fill_more}
 use Rattle.owners.proofs.derived.fill_any.Given as goal
 
 abbrev pub invariant-loop-k : goal.invariant-loop-k

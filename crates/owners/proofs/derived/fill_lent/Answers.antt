@@ -1,5 +1,5 @@
 -- `owners::derived::fill_lent` meets its contract. Assumes nothing.
-use Rattle.std.proofs.Common.{◌≡◌, ℕ, ◌-◌, ◌≤◌, List, length, set, sym, refl, ap, ◌∙◌, arith, length-set, rules}
+use Rattle.std.proofs.Common.{◌≡◌, ℕ, ◌-◌, List, set, sym, refl, ap, ◌∙◌, arith, length-set, rules}
 use Rattle.paper.specs.Count.{fill}
 use Rattle.paper.proofs.Count.{fill_none, fill_more}
 use Rattle.owners.proofs.derived.fill_lent.Goals as goal

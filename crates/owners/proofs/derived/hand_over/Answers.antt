@@ -1,6 +1,6 @@
 -- `owners::derived::hand_over` meets its contract. Assumes nothing.
-use Rattle.std.proofs.Common.{ℕ, ap, ◌∙◌, ap₂, rules}
-use Rattle.owners.specs.Derived.{Derived, plan, derived, taken, given, carried}
+use Rattle.std.proofs.Common.{ℕ, ◌∙◌, ap₂}
+use Rattle.owners.specs.Derived.{Derived, derived, taken, given, carried}
 use Rattle.owners.proofs.derived.hand_over.Goals as goal
 
 pub returns : goal.returns

@@ -1,7 +1,6 @@
 -- `owners::derived::lent_minutes` meets its contract. Assumes nothing.
-use Rattle.std.proofs.Common.{◌≡◌, ℕ, ◌-◌, ◌≤◌, ◌∙◌, ap₂, arith, rules}
+use Rattle.std.proofs.Common.{ℕ, ◌-◌, ◌∙◌, ap₂, arith, rules}
 use Rattle.slots.specs.Lent.{minutes_at}
-use Rattle.owners.specs.Derived.{stretch_minutes, wrapped}
 use Rattle.owners.proofs.Steps.{stretch-none, stretch-more, stretch-end}
 use Rattle.owners.proofs.derived.lent_minutes.Goals as goal
 

@@ -1,5 +1,5 @@
 -- `owners::derived::more_at` meets its contract. Assumes nothing.
-use Rattle.std.proofs.Common.{ℕ, set, sym, ap, rules}
+use Rattle.std.proofs.Common.{ℕ, set, sym, ap}
 use lib.Seq.{set_out}
 use Rattle.owners.proofs.derived.more_at.Goals as goal
 

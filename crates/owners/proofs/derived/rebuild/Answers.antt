@@ -1,9 +1,9 @@
 -- `owners::derived::rebuild` meets its contract. Assumes nothing.
-use Rattle.std.proofs.Common.{◌-◌, length, ap, ◌∙◌, arith, rules}
+use Rattle.std.proofs.Common.{length, ap, ◌∙◌, arith}
 use Rattle.paper.proofs.Count.{length_over}
-use Rattle.owners.specs.Derived.{plan, derived}
+use Rattle.owners.specs.Derived.{plan}
 use Rattle.owners.proofs.Sets.{length-sets}
-use Rattle.owners.proofs.Made.{Made, made_more, made-end, made-start, made-lengths, cleared-forgotten}
+use Rattle.owners.proofs.Made.{made_more, made-end, made-start, made-lengths, cleared-forgotten}
 use Rattle.owners.proofs.derived.rebuild.Goals as goal
 
 pub clear_sets-requires : goal.clear_sets-requires

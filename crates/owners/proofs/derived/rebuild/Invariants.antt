@@ -1,9 +1,7 @@
 -- `owners::derived::rebuild` meets its contract. Assumes nothing.
-use Rattle.std.proofs.Common.{◌-◌, length, ap, ◌∙◌, arith, rules}
-use Rattle.paper.proofs.Count.{length_over}
+use Rattle.std.proofs.Common.{◌-◌}
 use Rattle.owners.specs.Derived.{plan, derived}
-use Rattle.owners.proofs.Sets.{length-sets}
-use Rattle.owners.proofs.Made.{Made, made_more, made-end, made-start, made-lengths, cleared-forgotten}
+use Rattle.owners.proofs.Made.{Made}
 use Rattle.owners.proofs.derived.rebuild.Given as goal
 
 abbrev pub invariant-loop-i : goal.invariant-loop-i

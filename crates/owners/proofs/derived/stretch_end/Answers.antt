@@ -1,5 +1,5 @@
 -- `owners::derived::stretch_end` meets its contract. Assumes nothing.
-use Rattle.std.proofs.Common.{◌≡◌, ℕ, ◌-◌, ◌<◌, ◌≤◌, get_or, ap, ◌∙◌, ⊎_elim, arith, rules}
+use Rattle.std.proofs.Common.{◌≡◌, ℕ, ◌<◌, ◌≤◌, get_or, ap, ◌∙◌, ⊎_elim, arith}
 use Rattle.paper.proofs.Logic.{lt-or-ge}
 use Rattle.owners.proofs.derived.stretch_end.Goals as goal
 

@@ -1,6 +1,5 @@
 -- `owners::derived::stretch_end` meets its contract. Assumes nothing.
-use Rattle.std.proofs.Common.{◌≡◌, ℕ, ◌-◌, ◌<◌, ◌≤◌, get_or, ap, ◌∙◌, ⊎_elim, arith, rules}
-use Rattle.paper.proofs.Logic.{lt-or-ge}
+use Rattle.std.proofs.Common.{◌≡◌, ℕ, ◌-◌, ◌<◌, ◌≤◌, get_or}
 use Rattle.owners.proofs.derived.stretch_end.Given as goal
 
 abbrev pub invariant-loop-e : goal.invariant-loop-e

@@ -1,5 +1,5 @@
 -- `owners::derived::take` meets its contract. Assumes nothing.
-use Rattle.std.proofs.Common.{◌-◌, refl, rules, eq-eqb, ne_eqb}
+use Rattle.std.proofs.Common.{◌-◌, refl, eq-eqb, ne_eqb}
 use Rattle.owners.specs.Derived.{set_for, less_at, less_totals, taken}
 use Rattle.owners.proofs.Totals.{one_by_one}
 use Rattle.owners.proofs.Steps.{derived-same}

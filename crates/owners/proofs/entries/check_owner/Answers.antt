@@ -1,5 +1,5 @@
 -- `owners::entries::check_owner` meets its contract. Assumes nothing.
-use Rattle.std.proofs.Common.{ap, ◌∙◌, rules}
+use Rattle.std.proofs.Common.{ap, ◌∙◌}
 use Rattle.paper.proofs.Rows.{renamed}
 use Rattle.owners.specs.Derived.{known_by}
 use Rattle.owners.proofs.entries.check_owner.Goals as goal

@@ -1,5 +1,5 @@
 -- `owners::entries::empty` meets its contract. Assumes nothing.
-use Rattle.std.proofs.Common.{length, sym, ap, ◌∙◌, rules}
+use Rattle.std.proofs.Common.{length, sym, ap, ◌∙◌}
 use Rattle.paper.proofs.Rows.{said}
 use Rattle.paper.proofs.Count.{length-fill}
 use Rattle.owners.specs.Derived.{plan, derived}

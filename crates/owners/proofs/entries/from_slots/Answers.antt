@@ -1,5 +1,5 @@
 -- `owners::entries::from_slots` meets its contract. Assumes nothing.
-use Rattle.std.proofs.Common.{sym, ◌∙◌, rules}
+use Rattle.std.proofs.Common.{sym, ◌∙◌}
 use Rattle.paper.proofs.Rows.{said}
 use Rattle.owners.specs.Derived.{plan, derived}
 use Rattle.owners.proofs.Steps.{lengths-kept}

@@ -1,5 +1,4 @@
 -- `owners::entries::from_slots_refusal` meets its contract. Assumes nothing.
-use Rattle.std.proofs.Common.{rules}
 use Rattle.paper.proofs.Rows.{link, ends}
 use Rattle.owners.proofs.Entered.{from-number}
 use Rattle.owners.proofs.entries.from_slots_refusal.Goals as goal

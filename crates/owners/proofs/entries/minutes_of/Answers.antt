@@ -1,5 +1,4 @@
 -- `owners::entries::minutes_of` meets its contract. Assumes nothing.
-use Rattle.std.proofs.Common.{rules}
 use Rattle.paper.proofs.Rows.{said}
 use Rattle.slots.proofs.LentLaws.{minutes-is, minutes-refusal}
 use Rattle.owners.specs.Entries.{minutes_is}

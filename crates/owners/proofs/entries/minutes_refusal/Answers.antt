@@ -1,5 +1,5 @@
 -- `owners::entries::minutes_refusal` meets its contract. Assumes nothing.
-use Rattle.std.proofs.Common.{refl, rules}
+use Rattle.std.proofs.Common.{refl}
 use Rattle.paper.proofs.Rows.{link, ends, checked}
 use Rattle.owners.specs.Entries.{minutes_row}
 use Rattle.owners.proofs.entries.minutes_refusal.Goals as goal

@@ -1,5 +1,4 @@
 -- `owners::entries::owner_of_slot` meets its contract. Assumes nothing.
-use Rattle.std.proofs.Common.{rules}
 use Rattle.paper.proofs.Rows.{said}
 use Rattle.slotset.proofs.Refusals.{number_is, number-refused}
 use Rattle.owners.specs.Entries.{owner_is}

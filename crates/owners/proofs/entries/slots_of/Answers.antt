@@ -1,5 +1,5 @@
 -- `owners::entries::slots_of` meets its contract. Assumes nothing.
-use Rattle.std.proofs.Common.{sym, ◌∙◌, rules}
+use Rattle.std.proofs.Common.{sym, ◌∙◌}
 use Rattle.owners.specs.Entries.{slots_of_is}
 use Rattle.owners.proofs.entries.slots_of.Goals as goal
 

@@ -1,5 +1,5 @@
 -- `owners::entries::uncovered_minutes` meets its contract. Assumes nothing.
-use Rattle.std.proofs.Common.{sym, ◌∙◌, rules}
+use Rattle.std.proofs.Common.{sym, ◌∙◌}
 use Rattle.paper.proofs.Rows.{said}
 use Rattle.slots.proofs.LentLaws.{minutes-is, minutes-refusal}
 use Rattle.owners.specs.Derived.{plan, uncovered}

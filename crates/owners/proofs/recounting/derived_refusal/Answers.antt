@@ -1,5 +1,5 @@
 -- `owners::recounting::derived_refusal` meets its contract. Assumes nothing.
-use Rattle.std.proofs.Common.{sym, ◌∙◌, arith, rules}
+use Rattle.std.proofs.Common.{sym, ◌∙◌, arith}
 use Rattle.owners.specs.Derived.{plan}
 use Rattle.owners.proofs.RecountRefusals.{none-makes, made-lengths, right-sets, right-first, right-minutes, right-totals, first_below}
 use Rattle.owners.proofs.RecountRefusals.{refusal-set, refusal-minutes, refusal-total, refusal-clean}

@@ -1,7 +1,6 @@
 -- `owners::recounting::first_wrong_set` meets its contract. The invariant: the first `low` people's sets are right, the first `high` people's
 -- are not. Assumes nothing.
-use Rattle.std.proofs.Common.{◌≡◌, ◌-◌, ◌<◌, ◌≤◌, true, false, sym, ◌∙◌, arith}
-use Rattle.slotset.specs.Answers.{same_sets}
+use Rattle.std.proofs.Common.{sym, ◌∙◌, arith}
 use Rattle.owners.proofs.RecountRefusals.{halved-sets, none-same}
 use Rattle.owners.proofs.recounting.first_wrong_set.Goals as goal
 

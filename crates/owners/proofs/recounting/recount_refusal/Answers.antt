@@ -1,5 +1,5 @@
 -- `owners::recounting::recount_refusal` meets its contract. Assumes nothing.
-use Rattle.std.proofs.Common.{arith, rules}
+use Rattle.std.proofs.Common.{arith}
 use Rattle.paper.proofs.Count.{all-each}
 use Rattle.owners.specs.Recount.{known_at}
 use Rattle.owners.proofs.Scans.{first_passes}

@@ -1,5 +1,4 @@
 -- `owners::recounting::recounted` meets its contract. Assumes nothing.
-use Rattle.std.proofs.Common.{rules}
 use Rattle.owners.specs.Derived.{plan, derived}
 use Rattle.owners.proofs.Entered.{front-right, row_on, row-stops}
 use Rattle.owners.proofs.recounting.recounted.Goals as goal

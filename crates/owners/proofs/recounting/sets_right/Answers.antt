@@ -1,5 +1,5 @@
 -- `owners::recounting::sets_right` meets its contract. Assumes nothing.
-use Rattle.std.proofs.Common.{ap, ◌∙◌, rules}
+use Rattle.std.proofs.Common.{ap, ◌∙◌}
 use Rattle.owners.specs.Inside.{is_yes}
 use Rattle.owners.proofs.RecountRefusals.{yes-same}
 use Rattle.owners.proofs.recounting.sets_right.Goals as goal

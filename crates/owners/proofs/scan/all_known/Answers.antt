@@ -1,6 +1,6 @@
 -- `owners::scan::all_known` meets its contract. Assumes nothing.
 use mathlib.Core.Bool.{false≢true}
-use Rattle.std.proofs.Common.{rules, leb-true}
+use Rattle.std.proofs.Common.{leb-true}
 use Rattle.owners.proofs.Scans.{enough-known}
 use Rattle.owners.proofs.scan.all_known.Goals as goal
 

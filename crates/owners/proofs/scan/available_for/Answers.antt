@@ -1,5 +1,4 @@
 -- `owners::scan::available_for` meets its contract. Assumes nothing.
-use Rattle.std.proofs.Common.{rules}
 use Rattle.owners.proofs.Scans.{available-nobody, available-person}
 use Rattle.owners.proofs.scan.available_for.Goals as goal
 

@@ -1,5 +1,5 @@
 -- `owners::scan::count_nobody` meets its contract. Assumes nothing.
-use Rattle.std.proofs.Common.{◌≡◌, ℕ, ◌-◌, ◌≤◌, sym, ap, ◌∙◌, arith, rules}
+use Rattle.std.proofs.Common.{◌≡◌, ℕ, sym, ap, ◌∙◌, arith, rules}
 use Rattle.owners.specs.Derived.{unassigned}
 use Rattle.owners.proofs.Totals.{nobody-le}
 use Rattle.owners.proofs.Entered.{nobody-more, nobody-same, nobody-none}

@@ -1,8 +1,6 @@
 -- `owners::scan::count_nobody` meets its contract. Assumes nothing.
-use Rattle.std.proofs.Common.{◌≡◌, ℕ, ◌-◌, ◌≤◌, sym, ap, ◌∙◌, arith, rules}
+use Rattle.std.proofs.Common.{◌≡◌, ◌-◌, ◌≤◌}
 use Rattle.owners.specs.Derived.{unassigned}
-use Rattle.owners.proofs.Totals.{nobody-le}
-use Rattle.owners.proofs.Entered.{nobody-more, nobody-same, nobody-none}
 use Rattle.owners.proofs.scan.count_nobody.Given as goal
 
 abbrev pub invariant-loop-k : goal.invariant-loop-k

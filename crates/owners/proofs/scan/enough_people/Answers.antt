@@ -1,6 +1,5 @@
 -- `owners::scan::enough_people` meets its contract. Assumes nothing.
-use Rattle.std.proofs.Common.{◌≡◌, ℕ, ◌-◌, ◌<◌, ◌≤◌, true, get_or, arith, rules}
-use Rattle.owners.specs.Derived.{known_by}
+use Rattle.std.proofs.Common.{◌<◌, get_or, arith}
 use Rattle.owners.proofs.Scans.{enough-more}
 use Rattle.owners.proofs.scan.enough_people.Goals as goal
 

@@ -1,7 +1,6 @@
 -- `owners::scan::enough_people` meets its contract. Assumes nothing.
-use Rattle.std.proofs.Common.{◌≡◌, ℕ, ◌-◌, ◌<◌, ◌≤◌, true, get_or, arith, rules}
+use Rattle.std.proofs.Common.{◌≡◌, ℕ, ◌-◌, ◌<◌, ◌≤◌, true, get_or}
 use Rattle.owners.specs.Derived.{known_by}
-use Rattle.owners.proofs.Scans.{enough-more}
 use Rattle.owners.proofs.scan.enough_people.Given as goal
 
 abbrev pub invariant-loop-k : goal.invariant-loop-k

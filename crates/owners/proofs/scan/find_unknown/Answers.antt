@@ -1,6 +1,5 @@
 -- `owners::scan::find_unknown` meets its contract. Assumes nothing.
-use Rattle.std.proofs.Common.{◌≡◌, ◌-◌, ◌≤◌, true, sym, ap, ◌∙◌, arith, rules}
-use Rattle.paper.specs.Count.{all}
+use Rattle.std.proofs.Common.{sym, ap, ◌∙◌, arith, rules}
 use Rattle.paper.proofs.Count.{all_none, all_more}
 use Rattle.owners.specs.Derived.{known_by}
 use Rattle.owners.specs.Recount.{known_at}

@@ -1,10 +1,7 @@
 -- `owners::scan::find_unknown` meets its contract. Assumes nothing.
-use Rattle.std.proofs.Common.{◌≡◌, ◌-◌, ◌≤◌, true, sym, ap, ◌∙◌, arith, rules}
+use Rattle.std.proofs.Common.{◌≡◌, ◌-◌, ◌≤◌, true}
 use Rattle.paper.specs.Count.{all}
-use Rattle.paper.proofs.Count.{all_none, all_more}
-use Rattle.owners.specs.Derived.{known_by}
 use Rattle.owners.specs.Recount.{known_at}
-use Rattle.owners.proofs.Scans.{scan-fails, scan-ends}
 use Rattle.owners.proofs.scan.find_unknown.Given as goal
 
 abbrev pub invariant-loop-k : goal.invariant-loop-k

@@ -1,8 +1,6 @@
 -- `owners::scan::first_unavailable` meets its contract. Assumes nothing.
-use Rattle.std.proofs.Common.{◌≡◌, ◌-◌, ◌≤◌, true, ◌∙◌, arith, rules}
-use Rattle.paper.specs.Count.{all}
+use Rattle.std.proofs.Common.{◌∙◌, arith, rules}
 use Rattle.paper.proofs.Count.{all_none, all_more}
-use Rattle.owners.specs.Recount.{available_at}
 use Rattle.owners.proofs.Scans.{scan-fails, scan-ends, available-here}
 use Rattle.owners.proofs.scan.first_unavailable.Goals as goal
 

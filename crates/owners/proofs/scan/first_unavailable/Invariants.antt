@@ -1,9 +1,7 @@
 -- `owners::scan::first_unavailable` meets its contract. Assumes nothing.
-use Rattle.std.proofs.Common.{◌≡◌, ◌-◌, ◌≤◌, true, ◌∙◌, arith, rules}
+use Rattle.std.proofs.Common.{◌≡◌, ◌-◌, ◌≤◌, true}
 use Rattle.paper.specs.Count.{all}
-use Rattle.paper.proofs.Count.{all_none, all_more}
 use Rattle.owners.specs.Recount.{available_at}
-use Rattle.owners.proofs.Scans.{scan-fails, scan-ends, available-here}
 use Rattle.owners.proofs.scan.first_unavailable.Given as goal
 
 abbrev pub invariant-loop-k : goal.invariant-loop-k

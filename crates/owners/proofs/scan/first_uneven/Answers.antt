@@ -1,8 +1,6 @@
 -- `owners::scan::first_uneven` meets its contract. Assumes nothing.
-use Rattle.std.proofs.Common.{◌≡◌, ◌-◌, ◌≤◌, true, sym, ◌∙◌, arith, rules}
-use Rattle.paper.specs.Count.{all}
+use Rattle.std.proofs.Common.{sym, ◌∙◌, arith, rules}
 use Rattle.paper.proofs.Count.{all_none, all_more}
-use Rattle.owners.specs.Recount.{even_at}
 use Rattle.owners.proofs.Scans.{scan-fails, scan-ends}
 use Rattle.owners.proofs.scan.first_uneven.Goals as goal
 

@@ -1,9 +1,7 @@
 -- `owners::scan::first_uneven` meets its contract. Assumes nothing.
-use Rattle.std.proofs.Common.{◌≡◌, ◌-◌, ◌≤◌, true, sym, ◌∙◌, arith, rules}
+use Rattle.std.proofs.Common.{◌≡◌, ◌-◌, ◌≤◌, true}
 use Rattle.paper.specs.Count.{all}
-use Rattle.paper.proofs.Count.{all_none, all_more}
 use Rattle.owners.specs.Recount.{even_at}
-use Rattle.owners.proofs.Scans.{scan-fails, scan-ends}
 use Rattle.owners.proofs.scan.first_uneven.Given as goal
 
 abbrev pub invariant-loop-u : goal.invariant-loop-u

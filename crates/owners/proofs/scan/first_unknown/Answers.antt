@@ -1,5 +1,5 @@
 -- `owners::scan::first_unknown` meets its contract. Assumes nothing.
-use Rattle.std.proofs.Common.{sym, rules}
+use Rattle.std.proofs.Common.{sym}
 use Rattle.owners.proofs.Scans.{fails-none}
 use Rattle.owners.proofs.scan.first_unknown.Goals as goal
 

@@ -1,9 +1,7 @@
 -- `owners::scan::first_wrong_entry` meets its contract. Assumes nothing.
-use Rattle.std.proofs.Common.{◌≡◌, ◌-◌, ◌≤◌, true, arith, rules, eq-eqb, ne_eqb}
+use Rattle.std.proofs.Common.{◌≡◌, ◌-◌, ◌≤◌, true}
 use Rattle.paper.specs.Count.{all}
-use Rattle.paper.proofs.Count.{all_none, all_more}
 use Rattle.owners.specs.Inside.{same_entry}
-use Rattle.owners.proofs.Scans.{scan-fails, scan-ends}
 use Rattle.owners.proofs.scan.first_wrong_entry.Given as goal
 
 abbrev pub invariant-loop-i : goal.invariant-loop-i

@@ -1,8 +1,6 @@
 -- `owners::scan::first_wrong_slot` meets its contract. Assumes nothing.
-use Rattle.std.proofs.Common.{◌≡◌, ◌-◌, ◌≤◌, true, ◌∙◌, arith, rules}
-use Rattle.paper.specs.Count.{all}
+use Rattle.std.proofs.Common.{◌∙◌, arith, rules}
 use Rattle.paper.proofs.Count.{all_none, all_more}
-use Rattle.owners.specs.Recount.{set_slot_at}
 use Rattle.owners.proofs.Scans.{scan-fails, scan-ends, member-test}
 use Rattle.owners.proofs.scan.first_wrong_slot.Goals as goal
 

@@ -1,9 +1,7 @@
 -- `owners::scan::first_wrong_slot` meets its contract. Assumes nothing.
-use Rattle.std.proofs.Common.{◌≡◌, ◌-◌, ◌≤◌, true, ◌∙◌, arith, rules}
+use Rattle.std.proofs.Common.{◌≡◌, ◌-◌, ◌≤◌, true}
 use Rattle.paper.specs.Count.{all}
-use Rattle.paper.proofs.Count.{all_none, all_more}
 use Rattle.owners.specs.Recount.{set_slot_at}
-use Rattle.owners.proofs.Scans.{scan-fails, scan-ends, member-test}
 use Rattle.owners.proofs.scan.first_wrong_slot.Given as goal
 
 abbrev pub invariant-loop-k : goal.invariant-loop-k

@@ -1,6 +1,5 @@
 -- `owners::scan::is_even` meets its contract. Assumes nothing.
-use Rattle.std.proofs.Common.{◌≡◌, ◌-◌, ◌≤◌, true, eqb, get_or, sym, ◌∙◌, arith, rules, eq-eqb, ne_eqb}
-use Rattle.paper.specs.Count.{all_in}
+use Rattle.std.proofs.Common.{sym, ◌∙◌, arith, eq-eqb, ne_eqb}
 use Rattle.paper.proofs.Count.{in-none, in-more, in-fails}
 use Rattle.owners.proofs.Scans.{even-as, in-past}
 use Rattle.owners.proofs.scan.is_even.Goals as goal

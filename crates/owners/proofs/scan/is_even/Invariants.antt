@@ -1,8 +1,6 @@
 -- `owners::scan::is_even` meets its contract. Assumes nothing.
-use Rattle.std.proofs.Common.{◌≡◌, ◌-◌, ◌≤◌, true, eqb, get_or, sym, ◌∙◌, arith, rules, eq-eqb, ne_eqb}
+use Rattle.std.proofs.Common.{◌≡◌, ◌-◌, ◌≤◌, true, eqb, get_or}
 use Rattle.paper.specs.Count.{all_in}
-use Rattle.paper.proofs.Count.{in-none, in-more, in-fails}
-use Rattle.owners.proofs.Scans.{even-as, in-past}
 use Rattle.owners.proofs.scan.is_even.Given as goal
 
 abbrev pub invariant-loop-k : goal.invariant-loop-k

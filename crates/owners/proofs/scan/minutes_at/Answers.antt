@@ -1,5 +1,5 @@
 -- `owners::scan::minutes_at` meets its contract. Assumes nothing.
-use Rattle.std.proofs.Common.{sym, refl, rules}
+use Rattle.std.proofs.Common.{sym, refl}
 use lib.ListN.{get_or-eq_default}
 use Rattle.owners.proofs.scan.minutes_at.Goals as goal
 

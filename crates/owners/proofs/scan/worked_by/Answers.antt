@@ -1,9 +1,7 @@
 -- `owners::scan::worked_by` meets its contract. Assumes nothing.
-use Rattle.std.proofs.Common.{◌≡◌, ◌-◌, ◌≤◌, get_or, sym, arith, rules}
-use Rattle.paper.specs.Count.{sum}
+use Rattle.std.proofs.Common.{sym, arith, rules}
 use Rattle.paper.proofs.Count.{sum-none, sum_done}
-use Rattle.slots.specs.Lent.{minutes_at}
-use Rattle.owners.specs.Derived.{plan, worked, portion}
+use Rattle.owners.specs.Derived.{plan, worked}
 use Rattle.owners.proofs.Scans.{worked-more, worked-fits}
 use Rattle.owners.proofs.scan.worked_by.Goals as goal
 

@@ -1,13 +1,9 @@
 -- `records::blocks::block_from` meets its contract. The invariant: `count` whole records stand between `at` and `end`. Assumes nothing.
-use mathlib.Core.Path.{◌≡◌, sym, ◌∙◌}
-use mathlib.Core.Bool.{true}
-use Prim.Native.Nat.{◌+◌, ◌-◌, ◌*◌, ◌≤◌}
+use mathlib.Core.Path.{sym, ◌∙◌}
+use Prim.Native.Nat.{◌+◌}
 use native.Mathlib.Omega.{arith}
 use native.Mathlib.Nat.{zero-mul}
-use lib.ListN.{length}
-use Rattle.paper.specs.Count.{all}
 use Rattle.paper.proofs.Count.{all_none}
-use Rattle.records.specs.Records.{record_at}
 use Rattle.records.proofs.Walks.{record-says, next-at, block_more, block-done}
 use Rattle.records.proofs.blocks.block_from.Goals as goal
 

@@ -1,5 +1,4 @@
 -- `records::blocks::record_at` meets its contract. Assumes nothing.
-use borrow.Author.Rules.{rules}
 use native.Mathlib.Omega.{arith}
 use mathlib.Core.Path.{sym}
 use Rattle.records.proofs.Walks.{record-short, record-kind, record-size}

@@ -1,16 +1,9 @@
 -- `records::blocks::walk_kinds` meets its contract. The invariant: the first i kinds are counted. Assumes nothing.
-use borrow.Author.Rules.{rules}
-use mathlib.Core.Path.{◌≡◌, sym, ap, ◌∙◌}
+use mathlib.Core.Path.{◌≡◌}
 use Prim.Native.Nat.{◌-◌, ◌≤◌}
-use native.Mathlib.Omega.{arith}
-use mir.Val.{Fits}
-use mir.Syntax.{w16}
-use lib.ListN.{length, get_or, replicate}
+use lib.ListN.{length, replicate}
 use Rattle.paper.specs.Count.{over}
-use Rattle.paper.proofs.Count.{over_none}
 use Rattle.records.specs.Records.{layout, block_at, count_of}
-use Rattle.records.proofs.Walks.{block-next, walk_none, walk-short, walk-long}
-use Rattle.records.proofs.Walks.{over-turn, over_done}
 use Rattle.records.proofs.blocks.walk_kinds.Given as goal
 
 abbrev pub invariant-loop-i : goal.invariant-loop-i

@@ -1,12 +1,7 @@
 -- `records::fields::number_at` meets its contract. The invariant: the bytes from `left` on are read. Assumes nothing.
-use borrow.Author.Rules.{rules}
-use mathlib.Core.Path.{◌≡◌, sym, ap₂, ◌∙◌}
-use Prim.Native.Nat.{ℕ, suc, ◌+◌, ◌-◌, ◌^◌, ◌≤◌, ◌<◌}
-use native.Mathlib.Omega.{arith}
-use lib.Dec.{lit<}
-use lib.ListN.{get_or}
+use mathlib.Core.Path.{◌≡◌}
+use Prim.Native.Nat.{◌+◌, ◌-◌, ◌^◌, ◌≤◌, ◌<◌}
 use Rattle.records.specs.Fields.{le}
-use Rattle.records.proofs.Numbers.{wider, below_power, le-turn, le-none}
 use Rattle.records.proofs.fields.number_at.Given as goal
 
 abbrev pub invariant-loop-left : goal.invariant-loop-left

@@ -1,5 +1,4 @@
 -- `records::heads::head_at` meets its contract. Assumes nothing.
-use borrow.Author.Rules.{rules}
 use native.Mathlib.Omega.{arith}
 use Rattle.records.proofs.Mixed.{head-whole, head-cut}
 use Rattle.records.proofs.heads.head_at.Goals as goal

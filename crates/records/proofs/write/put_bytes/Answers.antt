@@ -1,10 +1,7 @@
 -- `records::write::put_bytes` meets its contract. The invariant: the first k bytes are written. Assumes nothing.
-use borrow.Author.Rules.{rules}
-use mathlib.Core.Path.{◌≡◌, refl}
-use Prim.Native.Nat.{◌+◌, ◌-◌, ◌≤◌}
+use mathlib.Core.Path.{refl}
+use Prim.Native.Nat.{◌+◌}
 use native.Mathlib.Omega.{arith}
-use lib.ListN.{length, take}
-use Rattle.records.specs.Puts.{put}
 use Rattle.records.proofs.Writes.{bytes-none, bytes-more, bytes-done, bytes-length}
 use Rattle.records.proofs.write.put_bytes.Goals as goal
 

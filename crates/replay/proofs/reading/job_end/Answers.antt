@@ -1,10 +1,8 @@
 -- `replay::reading::job_end` meets its contract. Assumes nothing.
 use borrow.Author.Rules.{rules}
 use mathlib.Core.Path.{sym, ◌∙◌}
-use Prim.Native.Nat.{◌-◌, ◌≤◌}
 use native.Mathlib.Omega.{arith}
-use lib.ListN.{length}
-use Rattle.replay.proofs.Heads.{Heading, heading-none, heading-more, heading-found, heading-out, heading-cut, opens-draw, opens-close, opens-other, two_is}
+use Rattle.replay.proofs.Heads.{heading-none, heading-more, heading-found, heading-out, heading-cut, opens-draw, opens-close, opens-other, two_is}
 use Rattle.replay.proofs.reading.job_end.Goals as goal
 
 pub loop-at-init : goal.loop-at-init

@@ -1,8 +1,7 @@
 -- `replay::reading::leading_draws` meets its contract. Assumes nothing.
 use native.Mathlib.Omega.{arith}
 use mathlib.Core.Path.{sym, ◌∙◌}
-use Prim.Native.Nat.{◌-◌}
-use Rattle.replay.proofs.Records.{Leading, leading-none, leading-more, leading-stops, leading-full}
+use Rattle.replay.proofs.Records.{leading-none, leading-more, leading-stops, leading-full}
 use Rattle.replay.proofs.reading.leading_draws.Goals as goal
 
 pub loop-n-init : goal.loop-n-init

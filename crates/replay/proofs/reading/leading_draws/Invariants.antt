@@ -1,8 +1,6 @@
 -- `replay::reading::leading_draws` meets its contract. Assumes nothing.
-use native.Mathlib.Omega.{arith}
-use mathlib.Core.Path.{sym, ◌∙◌}
 use Prim.Native.Nat.{◌-◌}
-use Rattle.replay.proofs.Records.{Leading, leading-none, leading-more, leading-stops, leading-full}
+use Rattle.replay.proofs.Records.{Leading}
 use Rattle.replay.proofs.reading.leading_draws.Given as goal
 
 abbrev pub invariant-loop-n : goal.invariant-loop-n

@@ -1,10 +1,7 @@
 -- `replay::reading::read_fields` meets its contract. Assumes nothing.
 use borrow.Author.Rules.{rules}
 use native.Mathlib.Omega.{arith}
-use mathlib.Core.Path.{◌≡◌}
-use Prim.Native.Nat.{◌-◌, ◌≤◌}
 use Rattle.replay.proofs.Columns.{fields-none, fields-more, fields-length, fields-done}
-use Rattle.replay.specs.Reading.{fields_of}
 use Rattle.replay.proofs.reading.read_fields.Goals as goal
 
 pub loop-j-init : goal.loop-j-init

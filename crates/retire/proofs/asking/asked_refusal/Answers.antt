@@ -3,7 +3,6 @@ use mathlib.Core.Path.{refl}
 use Rattle.paper.proofs.Rows.{link, ends, checked, renamed}
 use Rattle.slots.specs.Ranges.{range_count_ok}
 use Rattle.retire.specs.Outcome.{asked_row}
-use borrow.Author.Rules.{rules}
 use Rattle.retire.proofs.asking.asked_refusal.Goals as goal
 
 pub returns : goal.returns

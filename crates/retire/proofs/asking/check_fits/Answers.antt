@@ -1,6 +1,5 @@
 -- `retire::asking::check_fits` meets its contract. Assumes nothing.
 use mathlib.Core.Path.{◌∙◌}
-use borrow.Author.Rules.{rules}
 use Rattle.paper.proofs.Rows.{skipped, renamed}
 use Rattle.retire.proofs.News.{fits_by, count_most}
 use Rattle.retire.proofs.asking.check_fits.Goals as goal

@@ -1,5 +1,4 @@
 -- `retire::asking::check_ranges` meets its contract. Assumes nothing.
-use borrow.Author.Rules.{rules}
 use Rattle.paper.proofs.Rows.{skipped, renamed}
 use Rattle.retire.proofs.asking.check_ranges.Goals as goal
 

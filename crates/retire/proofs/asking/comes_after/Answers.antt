@@ -1,7 +1,6 @@
 -- `retire::asking::comes_after` meets its contract. Assumes nothing.
 use mathlib.Core.Path.{sym, ap, ap₂, ◌∙◌}
 use Prim.Native.Nat.{ℕ, ◌-◌}
-use borrow.Author.Rules.{rules}
 use lib.Dec.{leb}
 use lib.ListN.{get_or}
 use Rattle.retire.proofs.Asks.{after-sound, after_none, after-all, after-so}

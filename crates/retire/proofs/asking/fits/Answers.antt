@@ -1,6 +1,4 @@
 -- `retire::asking::fits` meets its contract. Assumes nothing.
-use mathlib.Core.Path.{sym}
-use borrow.Author.Rules.{rules}
 use borrow.Author.Tests.{eq-eqb, ne_eqb}
 use Rattle.retire.proofs.asking.fits.Goals as goal
 

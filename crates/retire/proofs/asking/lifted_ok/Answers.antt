@@ -1,6 +1,5 @@
 -- `retire::asking::lifted_ok` meets its contract. Assumes nothing.
 use mathlib.Core.Path.{◌∙◌}
-use borrow.Author.Rules.{rules}
 use borrow.Author.Tests.{eq-eqb, ne_eqb}
 use Rattle.retire.proofs.asking.lifted_ok.Goals as goal
 

@@ -1,7 +1,6 @@
 -- `retire::asking::range_room_ok` meets its contract. Assumes nothing.
 use mathlib.Core.Path.{ap, ◌∙◌}
 use mathlib.Core.Bool.{Bool, ◌&&◌}
-use borrow.Author.Rules.{rules}
 use lib.Dec.{leb}
 use lib.ListN.{length}
 use Rattle.slots.specs.Ranges.{range_room_ok}

@@ -1,7 +1,5 @@
 -- `retire::asking::retire_refusal` meets its contract. Assumes nothing.
-use mathlib.Core.Path.{sym, ap, ◌∙◌}
 use native.Mathlib.Omega.{arith}
-use borrow.Author.Rules.{rules}
 use Rattle.retire.proofs.Asks.{asked, new-right, gone-within, retire-all, retire-stops}
 use Rattle.paper.proofs.Logic.{people-says, slot-count-says}
 use Rattle.retire.proofs.asking.retire_refusal.Goals as goal

@@ -4,7 +4,6 @@ use Prim.Native.Nat.{ℕ}
 use lib.Dec.{leb}
 use Rattle.paper.proofs.Rows.{link, ends, checked, renamed}
 use Rattle.retire.specs.Column.{column_row}
-use borrow.Author.Rules.{rules}
 use Rattle.retire.proofs.column.column_refusal.Goals as goal
 
 pub returns : goal.returns

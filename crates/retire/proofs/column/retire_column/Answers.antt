@@ -1,7 +1,6 @@
 -- `retire::column::retire_column` meets its contract. Assumes nothing.
 use mathlib.Core.Path.{sym, ◌∙◌}
 use native.Mathlib.Omega.{arith}
-use borrow.Author.Rules.{rules}
 use Rattle.paper.proofs.Rows.{said}
 use Rattle.slotset.proofs.Refusals.{work-is, old-is}
 use Rattle.retire.specs.Column.{retire_column}

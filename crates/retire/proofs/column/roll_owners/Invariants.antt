@@ -1,12 +1,9 @@
 -- `retire::column::roll_owners` meets its contract. Assumes nothing.
-use mathlib.Core.Path.{◌≡◌, refl}
-use Prim.Native.Nat.{◌+◌, ◌-◌, ◌≤◌}
-use native.Mathlib.Omega.{arith}
-use borrow.Author.Rules.{rules}
+use mathlib.Core.Path.{◌≡◌}
+use Prim.Native.Nat.{◌-◌, ◌≤◌}
 use lib.ListN.{length}
 use Rattle.paper.specs.Limits.{nobody}
 use Rattle.retire.specs.Rolled.{rolled_column}
-use Rattle.retire.proofs.Rolls.{roll-none, roll-length, roll-old, roll-new, roll-done}
 use Rattle.retire.proofs.column.roll_owners.Given as goal
 
 abbrev pub invariant-loop-k : goal.invariant-loop-k

@@ -1,11 +1,5 @@
 -- `retire::figures::add_priors` meets its contract. Assumes nothing.
-use mathlib.Core.Path.{◌≡◌}
-use Prim.Native.Nat.{◌+◌, ◌-◌, ◌≤◌, ◌<◌}
 use native.Mathlib.Omega.{arith}
-use borrow.Author.Rules.{rules}
-use Rattle.paper.specs.Count.{over}
-use Rattle.owners.specs.Derived.{plan}
-use Rattle.retire.specs.Going.{prior_then}
 use Rattle.retire.proofs.Figured.{prior-by, priors-none, priors-length, prior-read, priors-more, priors-done}
 use Rattle.retire.proofs.figures.add_priors.Goals as goal
 

@@ -1,7 +1,6 @@
 -- `retire::figures::add_retired` meets its contract. Assumes nothing.
-use mathlib.Core.Path.{refl, ◌∙◌}
+use mathlib.Core.Path.{refl}
 use native.Mathlib.Omega.{arith}
-use borrow.Author.Rules.{rules}
 use Rattle.retire.proofs.Figured.{retired-by, retired-done}
 use Rattle.retire.proofs.figures.add_retired.Goals as goal
 

@@ -2,7 +2,6 @@
 use mathlib.Core.Path.{ap, ap₂, ◌∙◌}
 use mathlib.Core.Bool.{◌&&◌}
 use Prim.Native.Nat.{ℕ}
-use borrow.Author.Rules.{rules}
 use lib.Dec.{leb}
 use Rattle.retire.proofs.Figured.{retired-by}
 use Rattle.retire.proofs.figures.figures_then_ok.Goals as goal

@@ -1,14 +1,10 @@
 -- `retire::figures::minutes_gone` meets its contract. Assumes nothing.
-use mathlib.Core.Path.{◌≡◌, sym, ap, ◌∙◌}
-use Prim.Native.Nat.{ℕ, ◌-◌, ◌*◌, ◌≤◌}
-use native.Mathlib.Omega.{arith}
-use borrow.Author.Rules.{rules}
+use mathlib.Core.Path.{◌≡◌}
+use Prim.Native.Nat.{◌-◌, ◌*◌, ◌≤◌}
 use lib.ListN.{get_or}
 use Rattle.paper.specs.Count.{sum}
-use Rattle.paper.proofs.Count.{sum-none, sum_done}
 use Rattle.slots.specs.Lent.{minutes_at}
-use Rattle.owners.specs.Derived.{plan, worked, portion}
-use Rattle.owners.proofs.Scans.{worked-more}
+use Rattle.owners.specs.Derived.{portion}
 use Rattle.retire.proofs.figures.minutes_gone.Given as goal
 
 abbrev pub invariant-loop-k : goal.invariant-loop-k

@@ -1,16 +1,12 @@
 -- `retire::figures::priors_then_ok` meets its contract. Assumes nothing.
-use mathlib.Core.Path.{◌≡◌, sym, ap, ◌∙◌}
+use mathlib.Core.Path.{◌≡◌}
 use mathlib.Core.Bool.{true}
-use Prim.Native.Nat.{ℕ, ◌-◌, ◌≤◌}
-use native.Mathlib.Omega.{arith}
-use borrow.Author.Rules.{rules}
+use Prim.Native.Nat.{◌-◌, ◌≤◌}
 use lib.Dec.{leb}
 use Rattle.paper.specs.Limits.{last_minute}
 use Rattle.paper.specs.Count.{all}
-use Rattle.paper.proofs.Count.{all_none, all_more, all-fails, all_done}
 use Rattle.owners.specs.Derived.{plan}
 use Rattle.retire.specs.Going.{prior_then}
-use Rattle.retire.proofs.Figured.{prior-by}
 use Rattle.retire.proofs.figures.priors_then_ok.Given as goal
 
 abbrev pub invariant-loop-p : goal.invariant-loop-p

@@ -1,6 +1,5 @@
 -- `retire::figures::sum_ok` meets its contract. Assumes nothing.
 use mathlib.Core.Path.{sym}
-use borrow.Author.Rules.{rules}
 use Rattle.retire.proofs.Figured.{sum_fits, sum_past}
 use Rattle.retire.proofs.figures.sum_ok.Goals as goal
 

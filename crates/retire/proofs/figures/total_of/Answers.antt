@@ -1,7 +1,5 @@
 -- `retire::figures::total_of` meets its contract. Assumes nothing.
 use mathlib.Core.Path.{sym}
-use native.Mathlib.Omega.{arith}
-use borrow.Author.Rules.{rules}
 use lib.ListN.{get_or-eq_default}
 use Rattle.retire.proofs.figures.total_of.Goals as goal
 

@@ -1,13 +1,8 @@
 -- `retire::going::all_frozen` meets its contract. Assumes nothing.
-use mathlib.Core.Path.{◌≡◌, sym, ◌∙◌}
-use mathlib.Core.Bool.{true}
-use Prim.Native.Nat.{◌-◌, ◌≤◌}
+use mathlib.Core.Path.{sym, ◌∙◌}
 use native.Mathlib.Omega.{arith}
-use borrow.Author.Rules.{rules}
-use Rattle.paper.specs.Count.{all_in}
 use Rattle.paper.proofs.Count.{in-none, in-more, in-fails}
 use Rattle.owners.proofs.Scans.{in-past}
-use Rattle.retire.specs.Going.{is_frozen}
 use Rattle.retire.proofs.going.all_frozen.Goals as goal
 
 pub loop-k-init : goal.loop-k-init

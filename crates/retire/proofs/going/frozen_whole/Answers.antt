@@ -1,7 +1,6 @@
 -- `retire::going::frozen_whole` meets its contract. Assumes nothing.
 use mathlib.Core.Path.{ap₂, ◌∙◌}
 use Prim.Native.Nat.{ℕ}
-use borrow.Author.Rules.{rules}
 use Rattle.paper.specs.Count.{all_in}
 use Rattle.retire.specs.Going.{is_frozen, frozen_whole}
 use Rattle.retire.proofs.going.frozen_whole.Goals as goal

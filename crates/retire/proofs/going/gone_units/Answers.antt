@@ -1,13 +1,9 @@
 -- `retire::going::gone_units` meets its contract. Assumes nothing.
-use mathlib.Core.Path.{◌≡◌, sym, ◌∙◌}
-use mathlib.Core.Bool.{true}
-use Prim.Native.Nat.{◌-◌, ◌≤◌}
+use mathlib.Core.Path.{sym, ◌∙◌}
 use native.Mathlib.Omega.{arith}
-use borrow.Author.Rules.{rules}
-use Rattle.paper.specs.Count.{all}
 use Rattle.paper.proofs.Count.{all_none, all_more}
 use Rattle.owners.proofs.Scans.{scan-fails, scan-ends}
-use Rattle.retire.specs.Going.{frozen_whole, gone_units}
+use Rattle.retire.specs.Going.{gone_units}
 use Rattle.retire.proofs.going.gone_units.Goals as goal
 
 pub loop-u-init : goal.loop-u-init

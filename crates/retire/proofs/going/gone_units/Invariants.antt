@@ -1,13 +1,9 @@
 -- `retire::going::gone_units` meets its contract. Assumes nothing.
-use mathlib.Core.Path.{◌≡◌, sym, ◌∙◌}
+use mathlib.Core.Path.{◌≡◌}
 use mathlib.Core.Bool.{true}
 use Prim.Native.Nat.{◌-◌, ◌≤◌}
-use native.Mathlib.Omega.{arith}
-use borrow.Author.Rules.{rules}
 use Rattle.paper.specs.Count.{all}
-use Rattle.paper.proofs.Count.{all_none, all_more}
-use Rattle.owners.proofs.Scans.{scan-fails, scan-ends}
-use Rattle.retire.specs.Going.{frozen_whole, gone_units}
+use Rattle.retire.specs.Going.{frozen_whole}
 use Rattle.retire.proofs.going.gone_units.Given as goal
 
 abbrev pub invariant-loop-u : goal.invariant-loop-u

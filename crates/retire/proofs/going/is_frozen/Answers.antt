@@ -1,5 +1,4 @@
 -- `retire::going::is_frozen` meets its contract. Assumes nothing.
-use borrow.Author.Rules.{rules}
 use Rattle.retire.specs.Going.{is_frozen}
 use Rattle.retire.proofs.going.is_frozen.Goals as goal
 

@@ -1,7 +1,5 @@
 -- `retire::going::start_from` meets its contract. Assumes nothing.
-use mathlib.Core.Path.{sym, ap, ◌∙◌}
-use mathlib.Core.Bool.{Bool, cond}
-use borrow.Author.Rules.{rules}
+use mathlib.Core.Path.{◌∙◌}
 use borrow.Author.Tests.{lt-ltb, le-ltb}
 use Rattle.retire.specs.Going.{start_from}
 use Rattle.retire.proofs.going.start_from.Goals as goal

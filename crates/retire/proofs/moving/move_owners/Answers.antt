@@ -1,9 +1,4 @@
 -- `retire::moving::move_owners` meets its contract. Assumes nothing.
-use mathlib.Core.Path.{sym, ap, ◌∙◌}
-use mathlib.Core.List.{List}
-use Prim.Native.Nat.{ℕ}
-use borrow.Author.Rules.{rules}
-use Rattle.paper.specs.Limits.{number_of}
 use Rattle.retire.proofs.Passes.{owners-moved}
 use Rattle.retire.proofs.moving.move_owners.Goals as goal
 

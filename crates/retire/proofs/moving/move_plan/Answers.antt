@@ -1,7 +1,6 @@
 -- `retire::moving::move_plan` meets its contract. Assumes nothing.
 use mathlib.Core.Path.{refl, sym}
 use native.Mathlib.Omega.{arith}
-use borrow.Author.Rules.{rules}
 use Rattle.retire.proofs.Asks.{gone-few}
 use Rattle.retire.proofs.Moved.{right-then, rooms, unit-room, unit-long, new-low, plan-moved}
 use Rattle.retire.proofs.moving.move_plan.Goals as goal

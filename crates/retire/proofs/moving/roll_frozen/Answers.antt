@@ -1,8 +1,6 @@
 -- `retire::moving::roll_frozen` meets its contract. Assumes nothing.
 use mathlib.Core.Path.{refl, ◌∙◌}
-use mathlib.Core.Bool.{true}
 use native.Mathlib.Omega.{arith}
-use borrow.Author.Rules.{rules}
 use Rattle.paper.specs.Limits.{people_ok}
 use Rattle.retire.proofs.Bits.{frozen-by}
 use Rattle.retire.proofs.moving.roll_frozen.Goals as goal

@@ -1,7 +1,6 @@
 -- `retire::rolling::holds_then` meets its contract. Assumes nothing.
 use mathlib.Core.Path.{sym, ap, ◌∙◌}
 use Prim.Native.Nat.{ℕ}
-use borrow.Author.Rules.{rules}
 use lib.Dec.{eqb}
 use Rattle.retire.proofs.Rolls.{rolled-old, rolled-new}
 use Rattle.retire.proofs.rolling.holds_then.Goals as goal

@@ -1,11 +1,6 @@
 -- `retire::rolling::roll_begins` meets its contract. Assumes nothing.
-use mathlib.Core.Path.{◌≡◌, refl}
-use Prim.Native.Nat.{◌+◌, ◌-◌, ◌≤◌}
+use mathlib.Core.Path.{refl}
 use native.Mathlib.Omega.{arith}
-use borrow.Author.Rules.{rules}
-use lib.ListN.{length}
-use Rattle.paper.specs.Count.{over}
-use Rattle.retire.specs.Rolled.{begin_then}
 use Rattle.retire.proofs.Rolls.{begins-none, begins-length, begins-old, begins-new, begins-done}
 use Rattle.retire.proofs.rolling.roll_begins.Goals as goal
 

@@ -1,12 +1,9 @@
 -- `retire::rolling::roll_begins` meets its contract. Assumes nothing.
-use mathlib.Core.Path.{◌≡◌, refl}
-use Prim.Native.Nat.{◌+◌, ◌-◌, ◌≤◌}
-use native.Mathlib.Omega.{arith}
-use borrow.Author.Rules.{rules}
+use mathlib.Core.Path.{◌≡◌}
+use Prim.Native.Nat.{◌-◌, ◌≤◌}
 use lib.ListN.{length}
 use Rattle.paper.specs.Count.{over}
 use Rattle.retire.specs.Rolled.{begin_then}
-use Rattle.retire.proofs.Rolls.{begins-none, begins-length, begins-old, begins-new, begins-done}
 use Rattle.retire.proofs.rolling.roll_begins.Given as goal
 
 abbrev pub invariant-loop-k : goal.invariant-loop-k

@@ -1,10 +1,7 @@
 -- `retire::rolling::roll_minutes` meets its contract. Assumes nothing.
-use mathlib.Core.Path.{◌≡◌, refl}
-use Prim.Native.Nat.{◌-◌, ◌≤◌}
+use mathlib.Core.Path.{refl}
 use native.Mathlib.Omega.{arith}
-use borrow.Author.Rules.{rules}
-use lib.ListN.{length}
-use Rattle.retire.specs.Rolled.{entry, rolled_column}
+use Rattle.retire.specs.Rolled.{entry}
 use Rattle.retire.proofs.Rolls.{roll-none, roll-length, roll-old, roll-new, roll-done}
 use Rattle.retire.proofs.rolling.roll_minutes.Goals as goal
 

@@ -1,11 +1,8 @@
 -- `retire::rolling::roll_minutes` meets its contract. Assumes nothing.
-use mathlib.Core.Path.{◌≡◌, refl}
+use mathlib.Core.Path.{◌≡◌}
 use Prim.Native.Nat.{◌-◌, ◌≤◌}
-use native.Mathlib.Omega.{arith}
-use borrow.Author.Rules.{rules}
 use lib.ListN.{length}
 use Rattle.retire.specs.Rolled.{entry, rolled_column}
-use Rattle.retire.proofs.Rolls.{roll-none, roll-length, roll-old, roll-new, roll-done}
 use Rattle.retire.proofs.rolling.roll_minutes.Given as goal
 
 abbrev pub invariant-loop-k : goal.invariant-loop-k

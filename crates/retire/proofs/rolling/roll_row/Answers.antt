@@ -1,13 +1,9 @@
 -- `retire::rolling::roll_row` meets its contract. Assumes nothing.
-use mathlib.Core.Path.{◌≡◌, sym}
-use Prim.Native.Nat.{◌-◌, ◌*◌, ◌≤◌}
+use mathlib.Core.Path.{sym}
 use native.Mathlib.Omega.{arith}
-use borrow.Author.Rules.{rules}
 use Rattle.paper.proofs.Logic.{people-says}
-use Rattle.slotset.specs.Slots.{slot, put_slots}
 use Rattle.slotset.proofs.Puts.{puts_none}
 use Rattle.slots.proofs.AvailLaws.{row-length, row_done}
-use Rattle.retire.specs.Rolled.{rolled}
 use Rattle.retire.proofs.Bits.{row-turn}
 use Rattle.retire.proofs.rolling.roll_row.Goals as goal
 

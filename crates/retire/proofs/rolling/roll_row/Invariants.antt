@@ -1,14 +1,8 @@
 -- `retire::rolling::roll_row` meets its contract. Assumes nothing.
-use mathlib.Core.Path.{◌≡◌, sym}
+use mathlib.Core.Path.{◌≡◌}
 use Prim.Native.Nat.{◌-◌, ◌*◌, ◌≤◌}
-use native.Mathlib.Omega.{arith}
-use borrow.Author.Rules.{rules}
-use Rattle.paper.proofs.Logic.{people-says}
 use Rattle.slotset.specs.Slots.{slot, put_slots}
-use Rattle.slotset.proofs.Puts.{puts_none}
-use Rattle.slots.proofs.AvailLaws.{row-length, row_done}
 use Rattle.retire.specs.Rolled.{rolled}
-use Rattle.retire.proofs.Bits.{row-turn}
 use Rattle.retire.proofs.rolling.roll_row.Given as goal
 
 abbrev pub invariant-loop-k : goal.invariant-loop-k

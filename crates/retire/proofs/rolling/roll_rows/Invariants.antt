@@ -1,14 +1,9 @@
 -- `retire::rolling::roll_rows` meets its contract. Assumes nothing.
 use mathlib.Core.Path.{◌≡◌}
 use Prim.Native.Nat.{◌-◌, ◌*◌, ◌≤◌}
-use native.Mathlib.Omega.{arith}
-use borrow.Author.Rules.{rules}
-use Rattle.paper.proofs.Logic.{people-says}
 use Rattle.slotset.specs.Slots.{slot}
 use Rattle.slots.specs.Availability.{rows}
-use Rattle.slots.proofs.AvailLaws.{rows_none, rows-length, rows-done}
 use Rattle.retire.specs.Rolled.{rolled}
-use Rattle.retire.proofs.Bits.{rows-turn}
 use Rattle.retire.proofs.rolling.roll_rows.Given as goal
 
 abbrev pub invariant-loop-person : goal.invariant-loop-person

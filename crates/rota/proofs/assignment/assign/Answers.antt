@@ -1,7 +1,6 @@
 -- `rota::assignment::assign` meets its contract. Assumes nothing.
 use mathlib.Core.Path.{sym, ◌∙◌}
 use native.Mathlib.Omega.{arith}
-use borrow.Author.Rules.{rules}
 use Rattle.paper.proofs.Rows.{said}
 use Rattle.owners.specs.Derived.{plan, derived}
 use Rattle.rota.proofs.Stepping.{over-lengths}

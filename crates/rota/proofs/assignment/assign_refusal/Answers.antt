@@ -1,5 +1,4 @@
 -- `rota::assignment::assign_refusal` meets its contract. Assumes nothing.
-use borrow.Author.Rules.{rules}
 use Rattle.paper.proofs.Rows.{link, ends, renamed}
 use Rattle.rota.proofs.Asked.{assign-number}
 use Rattle.rota.proofs.assignment.assign_refusal.Goals as goal

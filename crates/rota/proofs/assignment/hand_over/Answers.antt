@@ -1,6 +1,5 @@
 -- `rota::assignment::hand_over` meets its contract. Assumes nothing.
 use native.Mathlib.Omega.{arith}
-use borrow.Author.Rules.{rules}
 use Rattle.owners.specs.Derived.{plan, derived}
 use Rattle.owners.proofs.Steps.{handed}
 use Rattle.rota.proofs.assignment.hand_over.Goals as goal

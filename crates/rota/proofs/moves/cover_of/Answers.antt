@@ -1,9 +1,7 @@
 -- `rota::moves::cover_of` meets its contract. Assumes nothing.
 use mathlib.Core.Path.{◌≡◌, refl, sym}
-use Prim.Native.Nat.{◌-◌, ◌≤◌}
 use native.Mathlib.Omega.{arith}
 use borrow.Author.Rules.{rules}
-use Rattle.rota.specs.Ready.{Cover}
 use Rattle.rota.proofs.Judged.{cover-start, cover-more}
 use Rattle.rota.proofs.moves.cover_of.Goals as goal
 

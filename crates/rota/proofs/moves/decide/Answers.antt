@@ -1,6 +1,5 @@
 -- `rota::moves::decide` meets its contract. Assumes nothing.
 use mathlib.Core.Path.{sym, ◌∙◌}
-use borrow.Author.Rules.{rules}
 use Rattle.rota.proofs.Drawn.{out-number, out_first, is-reassign, is-swap, out-swap, is-reassign-run, is-swap-runs}
 use Rattle.rota.proofs.Drawn.{out-swap-runs, is-shift}
 use Rattle.rota.proofs.moves.decide.Goals as goal

@@ -1,7 +1,6 @@
 -- `rota::moves::fits_unit` meets its contract. Assumes nothing.
 use mathlib.Core.Path.{ap, ◌∙◌}
 use Prim.Native.Nat.{ℕ}
-use borrow.Author.Rules.{rules}
 use Rattle.units.specs.Domains.{in_mask}
 use Rattle.rota.specs.Ready.{fits_by}
 use Rattle.rota.proofs.moves.fits_unit.Goals as goal

@@ -1,7 +1,6 @@
 -- `rota::moves::grow` meets its contract. Assumes nothing.
 use mathlib.Core.Path.{sym, ◌∙◌}
 use native.Mathlib.Omega.{arith}
-use borrow.Author.Rules.{rules}
 use Rattle.rota.proofs.Moved.{grow-none, grow-frozen, grow-unfit, grow-acts}
 use Rattle.rota.proofs.moves.grow.Goals as goal
 

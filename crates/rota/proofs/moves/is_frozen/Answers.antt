@@ -1,7 +1,6 @@
 -- `rota::moves::is_frozen` meets its contract. Assumes nothing.
 use mathlib.Core.Path.{refl, sym, ap}
 use Prim.Native.Nat.{ℕ}
-use borrow.Author.Rules.{rules}
 use lib.Dec.{eqb}
 use lib.ListN.{get_or-eq_default}
 use Rattle.rota.specs.Ready.{frozen_by}

@@ -1,14 +1,9 @@
 -- `rota::moves::is_movable` meets its contract. Assumes nothing.
-use mathlib.Core.Path.{◌≡◌, sym, ap, ◌∙◌}
+use mathlib.Core.Path.{◌≡◌}
 use mathlib.Core.Bool.{not}
-use Prim.Native.Nat.{ℕ, ◌-◌, ◌≤◌}
-use native.Mathlib.Omega.{arith}
-use borrow.Author.Rules.{rules}
-use borrow.Author.Tests.{eq-eqb, ne_eqb}
+use Prim.Native.Nat.{◌-◌, ◌≤◌}
 use Rattle.paper.specs.Count.{all_in}
-use Rattle.paper.proofs.Count.{in-none, in-fails}
 use Rattle.rota.specs.Ready.{frozen_by}
-use Rattle.rota.proofs.Judged.{in-holds}
 use Rattle.rota.proofs.moves.is_movable.Given as goal
 
 abbrev pub invariant-loop-u : goal.invariant-loop-u

@@ -1,6 +1,4 @@
 -- `rota::moves::is_other` meets its contract. Assumes nothing.
-use mathlib.Core.Path.{refl}
-use borrow.Author.Rules.{rules}
 use borrow.Author.Tests.{eq-eqb, ne_eqb}
 use Rattle.paper.specs.Bits.{bit_of}
 use Rattle.units.specs.Domains.{in_mask}

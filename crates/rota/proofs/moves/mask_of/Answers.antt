@@ -1,6 +1,5 @@
 -- `rota::moves::mask_of` meets its contract. Assumes nothing.
 use mathlib.Core.Path.{sym}
-use borrow.Author.Rules.{rules}
 use lib.ListN.{get_or-eq_default}
 use Rattle.rota.proofs.moves.mask_of.Goals as goal
 

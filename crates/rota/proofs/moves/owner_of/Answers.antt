@@ -1,7 +1,6 @@
 -- `rota::moves::owner_of` meets its contract. Assumes nothing.
 use mathlib.Core.Path.{sym, ap, ◌∙◌}
 use Prim.Native.Nat.{ℕ}
-use borrow.Author.Rules.{rules}
 use lib.ListN.{get_or, get_or-eq_default}
 use Rattle.rota.proofs.moves.owner_of.Goals as goal
 

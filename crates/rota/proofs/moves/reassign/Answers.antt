@@ -1,7 +1,6 @@
 -- `rota::moves::reassign` meets its contract. Assumes nothing.
 use mathlib.Core.Path.{sym, ap, ◌∙◌}
 use Prim.Native.Nat.{ℕ}
-use borrow.Author.Rules.{rules}
 use Rattle.paper.specs.Count.{among}
 use Rattle.rota.specs.Board.{owner_of}
 use Rattle.units.specs.Domains.{in_mask}

@@ -1,12 +1,9 @@
 -- `rota::moves::run_end` meets its contract. Assumes nothing.
-use mathlib.Core.Path.{◌≡◌, refl, ap, ◌∙◌}
+use mathlib.Core.Path.{◌≡◌}
 use Prim.Native.Nat.{◌+◌, ◌-◌, ◌≤◌}
-use native.Mathlib.Omega.{arith}
-use borrow.Author.Rules.{rules}
 use lib.ListN.{get_or}
 use Rattle.units.specs.Units.{unit_start}
 use Rattle.rota.specs.Board.{run_end}
-use Rattle.rota.proofs.Judged.{end-up, end-here, end_none}
 use Rattle.rota.proofs.moves.run_end.Given as goal
 
 abbrev pub invariant-loop-n : goal.invariant-loop-n

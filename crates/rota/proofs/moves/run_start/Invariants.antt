@@ -1,12 +1,9 @@
 -- `rota::moves::run_start` meets its contract. Assumes nothing.
-use mathlib.Core.Path.{◌≡◌, ap, ◌∙◌}
-use Prim.Native.Nat.{◌+◌, ◌-◌, ◌≤◌}
-use native.Mathlib.Omega.{arith}
-use borrow.Author.Rules.{rules}
+use mathlib.Core.Path.{◌≡◌}
+use Prim.Native.Nat.{◌-◌, ◌≤◌}
 use lib.ListN.{get_or}
 use Rattle.units.specs.Units.{unit_start}
 use Rattle.rota.specs.Board.{run_start}
-use Rattle.rota.proofs.Judged.{start-down, start-here, start_none}
 use Rattle.rota.proofs.moves.run_start.Given as goal
 
 abbrev pub invariant-loop-n : goal.invariant-loop-n

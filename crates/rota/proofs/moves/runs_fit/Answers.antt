@@ -1,6 +1,5 @@
 -- `rota::moves::runs_fit` meets its contract. Assumes nothing.
 use mathlib.Core.Path.{sym, ◌∙◌}
-use borrow.Author.Rules.{rules}
 use Rattle.rota.specs.Ready.{runs_fit}
 use Rattle.rota.proofs.moves.runs_fit.Goals as goal
 

@@ -1,6 +1,5 @@
 -- `rota::moves::shift_boundary` meets its contract. Assumes nothing.
 use mathlib.Core.Path.{sym, ◌∙◌}
-use borrow.Author.Rules.{rules}
 use Rattle.rota.specs.Board.{owner_of}
 use Rattle.rota.specs.Moves.{run_first, run_last}
 use Rattle.rota.proofs.Judged.{fewer-owned}

@@ -1,7 +1,6 @@
 -- `rota::moves::shrink` meets its contract. Assumes nothing.
 use mathlib.Core.Path.{sym, ◌∙◌}
 use native.Mathlib.Omega.{arith}
-use borrow.Author.Rules.{rules}
 use Rattle.rota.specs.Board.{owner_of}
 use Rattle.rota.proofs.Moved.{shrink-none, shrink-one, shrink-unowned, shrink-unfit, shrink-acts, shrink-frozen}
 use Rattle.rota.proofs.moves.shrink.Goals as goal

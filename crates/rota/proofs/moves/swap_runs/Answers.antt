@@ -1,7 +1,6 @@
 -- `rota::moves::swap_runs` meets its contract. Assumes nothing.
 use mathlib.Core.Path.{sym, ◌∙◌}
 use native.Mathlib.Omega.{arith}
-use borrow.Author.Rules.{rules}
 use Rattle.rota.specs.Board.{owner_of}
 use Rattle.rota.specs.Ready.{runs_fit}
 use Rattle.rota.specs.Moves.{run_first, run_last}

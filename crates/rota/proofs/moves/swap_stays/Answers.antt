@@ -2,7 +2,6 @@
 use mathlib.Core.Path.{refl, ap, ap₂}
 use Prim.Native.Nat.{ℕ}
 use lib.Dec.{eqb}
-use borrow.Author.Rules.{rules}
 use Rattle.rota.specs.Board.{owner_of, unowned}
 use Rattle.paper.specs.Limits.{nobody}
 use Rattle.rota.proofs.Judged.{ask-two, ask-more}

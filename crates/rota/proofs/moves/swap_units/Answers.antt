@@ -1,6 +1,5 @@
 -- `rota::moves::swap_units` meets its contract. Assumes nothing.
-use mathlib.Core.Path.{sym, ap₂, ◌∙◌}
-use borrow.Author.Rules.{rules}
+use mathlib.Core.Path.{sym, ◌∙◌}
 use Rattle.rota.specs.Board.{owner_of}
 use Rattle.rota.proofs.Moved.{swap-stays, swap-acts}
 use Rattle.rota.proofs.moves.swap_units.Goals as goal

@@ -1,13 +1,7 @@
 -- `rota::play::frozen_of` meets its contract. Assumes nothing.
-use mathlib.Core.Path.{◌≡◌}
-use mathlib.Core.Bool.{◌&&◌}
-use Prim.Native.Nat.{ℕ, ◌-◌, ◌≤◌}
 use native.Mathlib.Omega.{arith}
 use borrow.Author.Rules.{rules}
-use lib.Dec.{ltb}
-use lib.ListN.{length, length-set}
-use Rattle.rota.specs.Ready.{frozen_by}
-use Rattle.units.specs.Domains.{unit_frozen}
+use lib.ListN.{length-set}
 use Rattle.rota.proofs.Readied.{marks-none, marks-more, marks-done}
 use Rattle.rota.proofs.play.frozen_of.Goals as goal
 

@@ -2,13 +2,10 @@
 use mathlib.Core.Path.{◌≡◌}
 use mathlib.Core.Bool.{◌&&◌}
 use Prim.Native.Nat.{ℕ, ◌-◌, ◌≤◌}
-use native.Mathlib.Omega.{arith}
-use borrow.Author.Rules.{rules}
 use lib.Dec.{ltb}
-use lib.ListN.{length, length-set}
+use lib.ListN.{length}
 use Rattle.rota.specs.Ready.{frozen_by}
 use Rattle.units.specs.Domains.{unit_frozen}
-use Rattle.rota.proofs.Readied.{marks-none, marks-more, marks-done}
 use Rattle.rota.proofs.play.frozen_of.Given as goal
 
 abbrev pub invariant-loop-u : goal.invariant-loop-u

@@ -1,6 +1,5 @@
 -- `rota::play::mark_of` meets its contract. Assumes nothing.
 use mathlib.Core.Path.{ap, ◌∙◌}
-use borrow.Author.Rules.{rules}
 use Rattle.rota.specs.Lent.{mark_found}
 use Rattle.rota.proofs.Readied.{mark-by}
 use Rattle.rota.proofs.play.mark_of.Goals as goal

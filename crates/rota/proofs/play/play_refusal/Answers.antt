@@ -1,5 +1,4 @@
 -- `rota::play::play_refusal` meets its contract. Assumes nothing.
-use borrow.Author.Rules.{rules}
 use Rattle.rota.proofs.Entered.{play-number}
 use Rattle.rota.proofs.play.play_refusal.Goals as goal
 

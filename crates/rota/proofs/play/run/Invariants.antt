@@ -1,12 +1,9 @@
 -- `rota::play::run` meets its contract. Assumes nothing.
 use Prim.Native.Nat.{◌-◌, ◌≤◌}
-use native.Mathlib.Omega.{arith}
-use borrow.Author.Rules.{rules}
 use Rattle.rota.specs.Ready.{ready}
 use Rattle.owners.specs.Derived.{plan, derived}
 use Rattle.rota.specs.Plays.{draws_of}
 use Rattle.rota.specs.Stepped.{Ran}
-use Rattle.rota.proofs.Stepping.{ran-start, ran-owners, ran-even, ran-lengths, columns-answers, columns-more, columns-end}
 use Rattle.rota.proofs.play.run.Given as goal
 
 abbrev pub invariant-loop-i : goal.invariant-loop-i

@@ -1,7 +1,6 @@
 -- `rota::play::step` meets its contract. Assumes nothing.
 use mathlib.Core.Path.{◌∙◌}
 use native.Mathlib.Omega.{arith}
-use borrow.Author.Rules.{rules}
 use Rattle.owners.specs.Derived.{plan, derived}
 use Rattle.rota.proofs.Judged.{board-owned}
 use Rattle.rota.proofs.Stepping.{stretch-one, stretch-known, second-after, over-lengths, drawn-lawful, stepped-stay}

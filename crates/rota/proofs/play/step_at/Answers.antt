@@ -1,5 +1,4 @@
 -- `rota::play::step_at` meets its contract. Assumes nothing.
-use borrow.Author.Rules.{rules}
 use Rattle.rota.proofs.Stepping.{at-answer}
 use Rattle.rota.proofs.play.step_at.Goals as goal
 

@@ -1,11 +1,8 @@
 -- `rota::replay::answers_ok` meets its contract. Assumes nothing.
-use mathlib.Core.Path.{◌≡◌, sym, ap, ◌∙◌}
-use mathlib.Core.Bool.{true}
-use Prim.Native.Nat.{◌-◌, ◌≤◌}
+use mathlib.Core.Path.{sym}
 use native.Mathlib.Omega.{arith}
 use borrow.Author.Rules.{rules}
 use borrow.Author.Tests.{le-leb, lt-leb}
-use Rattle.paper.specs.Count.{all}
 use Rattle.paper.proofs.Count.{all_none, all_more, all-fails}
 use Rattle.rota.specs.Replays.{answer_ok}
 use Rattle.rota.proofs.Replays.{answers-past}

@@ -1,14 +1,9 @@
 -- `rota::replay::answers_ok` meets its contract. Assumes nothing.
-use mathlib.Core.Path.{◌≡◌, sym, ap, ◌∙◌}
+use mathlib.Core.Path.{◌≡◌}
 use mathlib.Core.Bool.{true}
 use Prim.Native.Nat.{◌-◌, ◌≤◌}
-use native.Mathlib.Omega.{arith}
-use borrow.Author.Rules.{rules}
-use borrow.Author.Tests.{le-leb, lt-leb}
 use Rattle.paper.specs.Count.{all}
-use Rattle.paper.proofs.Count.{all_none, all_more, all-fails}
 use Rattle.rota.specs.Replays.{answer_ok}
-use Rattle.rota.proofs.Replays.{answers-past}
 use Rattle.rota.proofs.replay.answers_ok.Given as goal
 
 abbrev pub invariant-loop-i : goal.invariant-loop-i

@@ -1,7 +1,6 @@
 -- `rota::replay::replay_block` meets its contract. Assumes nothing.
 use mathlib.Core.Path.{sym, ◌∙◌}
 use Prim.Native.Nat.{ℕ}
-use borrow.Author.Rules.{rules}
 use lib.ListN.{length-replicate}
 use Rattle.owners.specs.Derived.{plan, derived}
 use Rattle.rota.proofs.Entered.{asks-step, columns-room}

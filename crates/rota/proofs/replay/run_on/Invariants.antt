@@ -1,13 +1,9 @@
 -- `rota::replay::run_on` meets its contract. Assumes nothing.
 use Prim.Native.Nat.{◌-◌, ◌≤◌}
-use native.Mathlib.Omega.{arith}
-use borrow.Author.Rules.{rules}
 use Rattle.owners.specs.Derived.{plan, derived}
 use Rattle.rota.specs.Ready.{ready}
 use Rattle.rota.specs.Plays.{draws_of}
 use Rattle.rota.specs.Stepped.{Ran}
-use Rattle.rota.proofs.Stepping.{ran-start, ran-even}
-use Rattle.rota.proofs.Replays.{agreed-next, ran-differs, ran-agrees, ran-on-lengths}
 use Rattle.rota.proofs.replay.run_on.Given as goal
 
 -- all agree so far: their answers, written onto the recorded ones, change nothing

@@ -2,7 +2,6 @@
 use mathlib.Core.Path.{refl}
 use Rattle.paper.proofs.Rows.{link, ends, checked}
 use Rattle.slots.specs.Availability.{availability_row}
-use borrow.Author.Rules.{rules}
 use Rattle.slots.proofs.avail.availability_refusal.Goals as goal
 
 pub returns : goal.returns

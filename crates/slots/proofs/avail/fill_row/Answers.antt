@@ -1,12 +1,9 @@
 -- `slots::avail::fill_row` meets its contract. Assumes nothing.
 use borrow.Author.Rules.{rules}
-use mathlib.Core.Path.{◌≡◌, refl, sym}
-use Prim.Native.Nat.{ℕ, ◌+◌, ◌≤◌, ◌<◌, ◌-◌, ◌*◌}
+use mathlib.Core.Path.{refl, sym}
 use native.Mathlib.Omega.{arith}
-use lib.ListN.{get_or, take}
+use lib.ListN.{take}
 use Rattle.paper.proofs.Logic.{people-says}
-use Rattle.slotset.specs.Slots.{put_slots}
-use Rattle.slots.specs.Inside.{opens, held_bit}
 use Rattle.slotset.proofs.Puts.{puts_none}
 use Rattle.slots.proofs.AvailLaws.{covered-by, row-length, row_done, row-turn}
 use Rattle.slots.proofs.avail.fill_row.Goals as goal

@@ -1,13 +1,9 @@
 -- `slots::avail::fill_rows` meets its contract. Assumes nothing.
-use borrow.Author.Rules.{rules}
 use mathlib.Core.Path.{◌≡◌}
 use Prim.Native.Nat.{◌≤◌, ◌-◌}
-use native.Mathlib.Omega.{arith}
 use lib.ListN.{take}
-use Rattle.paper.proofs.Logic.{people-says}
 use Rattle.slots.specs.Availability.{rows}
 use Rattle.slots.specs.Inside.{held_bit}
-use Rattle.slots.proofs.AvailLaws.{rows_none, rows_more, rows-length, rows-done}
 use Rattle.slots.proofs.avail.fill_rows.Given as goal
 
 abbrev pub invariant-loop-person : goal.invariant-loop-person

@@ -1,7 +1,6 @@
 -- `slots::avail::is_available` meets its contract. Assumes nothing.
 use Rattle.paper.proofs.Rows.{said}
 use Rattle.slots.proofs.AvailLaws.{available-refused, available-answered}
-use borrow.Author.Rules.{rules}
 use Rattle.slots.proofs.avail.is_available.Goals as goal
 
 pub returns-then-number-eq0 : goal.returns-then-number-eq0

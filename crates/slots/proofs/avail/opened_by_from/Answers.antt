@@ -1,9 +1,5 @@
 -- `slots::avail::opened_by_from` meets its contract. Assumes nothing.
-use borrow.Author.Rules.{rules}
-use Prim.Native.Nat.{ℕ, ◌-◌, ◌≤◌, ◌<◌}
 use native.Mathlib.Omega.{arith}
-use lib.ListN.{get_or}
-use Rattle.slots.specs.Inside.{opens}
 use Rattle.slots.proofs.AvailLaws.{opens-rise, opened-more, opened-stops, opened-ends}
 use Rattle.slots.proofs.avail.opened_by_from.Goals as goal
 

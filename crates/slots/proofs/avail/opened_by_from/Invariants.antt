@@ -1,10 +1,7 @@
 -- `slots::avail::opened_by_from` meets its contract. Assumes nothing.
-use borrow.Author.Rules.{rules}
 use Prim.Native.Nat.{ℕ, ◌-◌, ◌≤◌, ◌<◌}
-use native.Mathlib.Omega.{arith}
 use lib.ListN.{get_or}
 use Rattle.slots.specs.Inside.{opens}
-use Rattle.slots.proofs.AvailLaws.{opens-rise, opened-more, opened-stops, opened-ends}
 use Rattle.slots.proofs.avail.opened_by_from.Given as goal
 
 abbrev pub invariant-loop-r : goal.invariant-loop-r

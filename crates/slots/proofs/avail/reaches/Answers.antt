@@ -1,7 +1,6 @@
 -- `slots::avail::reaches` meets its contract. Assumes nothing.
 use native.Mathlib.Omega.{arith}
 use Rattle.slots.proofs.AvailLaws.{reaches_some, reaches-none}
-use borrow.Author.Rules.{rules}
 use Rattle.slots.proofs.avail.reaches.Goals as goal
 
 pub offset_bounds-keys-r : goal.offset_bounds-keys-r

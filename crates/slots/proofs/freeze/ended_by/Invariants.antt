@@ -1,8 +1,7 @@
 -- `slots::freeze::ended_by` meets its contract. Assumes nothing.
 use Prim.Native.Nat.{◌-◌}
-use native.Mathlib.Omega.{arith}
 use lib.ListN.{get_or}
-use Rattle.slots.proofs.FreezeLaws.{Between, between-all, between-up, between-down, between_done}
+use Rattle.slots.proofs.FreezeLaws.{Between}
 use Rattle.slots.proofs.freeze.ended_by.Given as goal
 
 abbrev pub invariant-loop-low : goal.invariant-loop-low

@@ -2,7 +2,6 @@
 use mathlib.Core.Path.{sym, ◌∙◌}
 use Rattle.paper.proofs.Rows.{said}
 use Rattle.slots.proofs.FreezeLaws.{freeze-says, ends-rise, freeze-done, freeze-refused}
-use borrow.Author.Rules.{rules}
 use Rattle.slots.proofs.freeze.freeze_before.Goals as goal
 
 pub ended_by-n-requires : goal.ended_by-n-requires

@@ -1,6 +1,5 @@
 -- `slots::lent::check_order` meets its contract. Assumes nothing.
 use Rattle.paper.proofs.Rows.{renamed, skipped}
-use borrow.Author.Rules.{rules}
 use Rattle.slots.proofs.lent.check_order.Goals as goal
 
 pub returns-then-before-eq0 : goal.returns-then-before-eq0

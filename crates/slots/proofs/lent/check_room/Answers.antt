@@ -1,6 +1,5 @@
 -- `slots::lent::check_room` meets its contract. Assumes nothing.
 use Rattle.paper.proofs.Rows.{renamed}
-use borrow.Author.Rules.{rules}
 use Rattle.slots.proofs.lent.check_room.Goals as goal
 
 pub returns : goal.returns

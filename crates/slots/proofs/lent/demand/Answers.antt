@@ -3,7 +3,6 @@ use mathlib.Core.Path.{sym, ◌∙◌}
 use Rattle.slots.specs.Lent.{demand_is}
 use Rattle.paper.proofs.Rows.{said}
 use Rattle.slots.proofs.LentLaws.{minutes-is, minutes-refusal, lent_says, when-ok}
-use borrow.Author.Rules.{rules}
 use Rattle.slots.proofs.lent.demand.Goals as goal
 
 pub returns-then-n-eq0 : goal.returns-then-n-eq0

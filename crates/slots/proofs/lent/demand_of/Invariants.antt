@@ -1,13 +1,9 @@
 -- `slots::lent::demand_of` meets its contract. Assumes nothing.
-use borrow.Author.Rules.{rules}
-use mathlib.Core.Path.{◌≡◌, sym, ◌∙◌}
+use mathlib.Core.Path.{◌≡◌}
 use mathlib.Core.Bool.{true}
 use Prim.Native.Nat.{◌≤◌, ◌-◌}
-use native.Mathlib.Omega.{arith}
 use Rattle.paper.specs.Count.{sum}
-use Rattle.paper.proofs.Count.{sum-none, sum_done}
-use Rattle.slots.specs.Lent.{slots_ok, minutes_at, demand_of, demand_when_ok}
-use Rattle.slots.proofs.LentLaws.{turn-adds, turn-fits}
+use Rattle.slots.specs.Lent.{slots_ok, minutes_at}
 use Rattle.slots.proofs.lent.demand_of.Given as goal
 
 abbrev pub invariant-loop-i : goal.invariant-loop-i

@@ -1,7 +1,6 @@
 -- `slots::lent::entry_of` meets its contract. Assumes nothing.
 use mathlib.Core.Path.{sym}
 use lib.ListN.{get_or-eq_default}
-use borrow.Author.Rules.{rules}
 use Rattle.slots.proofs.lent.entry_of.Goals as goal
 
 pub returns-else-k-column : goal.returns-else-k-column

@@ -2,7 +2,6 @@
 use mathlib.Core.Path.{ap₂, ◌∙◌}
 use Prim.Native.Nat.{◌-◌}
 use Rattle.slots.specs.Lent.{minutes_at}
-use borrow.Author.Rules.{rules}
 use Rattle.slots.proofs.lent.minutes_at.Goals as goal
 
 pub returns : goal.returns

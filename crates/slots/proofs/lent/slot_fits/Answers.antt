@@ -1,5 +1,4 @@
 -- `slots::lent::slot_fits` meets its contract. Assumes nothing.
-use borrow.Author.Rules.{rules}
 use Rattle.slots.specs.Inside.{slot_fits}
 use Rattle.slots.proofs.lent.slot_fits.Goals as goal
 

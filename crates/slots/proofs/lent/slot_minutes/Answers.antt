@@ -1,6 +1,5 @@
 -- `slots::lent::slot_minutes` meets its contract. Assumes nothing.
 use mathlib.Core.Path.{refl}
-use borrow.Author.Rules.{rules}
 use Rattle.paper.proofs.Rows.{link, ends, checked-more, said}
 use Rattle.slots.specs.Lent.{lent_row, slot_minutes_row, slot_minutes_is}
 use Rattle.slots.proofs.LentLaws.{minutes-is, minutes-refusal}

@@ -1,14 +1,11 @@
 -- `slots::lent::slots_ok` meets its contract. Assumes nothing.
-use borrow.Author.Rules.{rules}
-use mathlib.Core.Path.{◌≡◌, sym, ◌∙◌}
+use mathlib.Core.Path.{◌≡◌}
 use mathlib.Core.Bool.{true}
 use Prim.Native.Nat.{◌≤◌, ◌-◌}
-use native.Mathlib.Omega.{arith}
 use lib.ListN.{length}
 use Rattle.paper.specs.Count.{all}
-use Rattle.slots.specs.Lent.{slot_room_ok, slots_ok, prev_end}
+use Rattle.slots.specs.Lent.{slot_room_ok, prev_end}
 use Rattle.slots.specs.Inside.{slot_fits_at}
-use Rattle.slots.proofs.LentLaws.{room_says, fits-none, fits_more, fits-done, prev-none, prev_more}
 use Rattle.slots.proofs.lent.slots_ok.Given as goal
 
 abbrev pub invariant-loop-i : goal.invariant-loop-i

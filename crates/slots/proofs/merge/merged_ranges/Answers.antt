@@ -2,7 +2,6 @@
 use mathlib.Core.Path.{sym, ◌∙◌}
 use Rattle.paper.proofs.Rows.{said}
 use Rattle.slots.proofs.MergedLaws.{merged-says, merged-work, merged-done, merged-refused}
-use borrow.Author.Rules.{rules}
 use Rattle.slots.proofs.merge.merged_ranges.Goals as goal
 
 pub merged_keys-list-requires : goal.merged_keys-list-requires

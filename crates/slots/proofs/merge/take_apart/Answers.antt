@@ -1,12 +1,9 @@
 -- `slots::merge::take_apart` meets its contract. Assumes nothing.
 use borrow.Author.Rules.{rules}
-use mathlib.Core.Path.{◌≡◌, sym}
-use Prim.Native.Nat.{◌≤◌, ◌-◌}
+use mathlib.Core.Path.{sym}
 use native.Mathlib.Omega.{arith}
 use lib.ListN.{get_or}
-use Rattle.paper.specs.Count.{over}
 use Rattle.paper.proofs.Count.{over_none}
-use Rattle.slots.specs.Inside.{person_of, start_of, end_of}
 use Rattle.slots.proofs.Keys.{start-lt, end_lt}
 use Rattle.slots.proofs.MergedLaws.{column-more, column-room, column-length, column-done}
 use Rattle.slots.proofs.merge.take_apart.Goals as goal

@@ -2,7 +2,6 @@
 use mathlib.Core.Path.{refl}
 use Rattle.paper.proofs.Rows.{link, ends, checked}
 use Rattle.slots.specs.Atomic.{base_row}
-use borrow.Author.Rules.{rules}
 use Rattle.slots.proofs.split.base_refusal.Goals as goal
 
 pub returns : goal.returns

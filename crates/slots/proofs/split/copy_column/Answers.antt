@@ -1,10 +1,7 @@
 -- `slots::split::copy_column` meets its contract. Assumes nothing.
 use borrow.Author.Rules.{rules}
-use mathlib.Core.Path.{◌≡◌, refl, sym}
-use Prim.Native.Nat.{◌≤◌, ◌-◌}
+use mathlib.Core.Path.{refl, sym}
 use native.Mathlib.Omega.{arith}
-use lib.ListN.{get_or}
-use Rattle.paper.specs.Count.{over}
 use Rattle.paper.proofs.Count.{over_none}
 use Rattle.slots.proofs.MergedLaws.{column-more, column-room, column-length, column-done}
 use Rattle.slots.proofs.split.copy_column.Goals as goal

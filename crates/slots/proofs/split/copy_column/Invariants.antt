@@ -1,12 +1,8 @@
 -- `slots::split::copy_column` meets its contract. Assumes nothing.
-use borrow.Author.Rules.{rules}
-use mathlib.Core.Path.{◌≡◌, refl, sym}
+use mathlib.Core.Path.{◌≡◌}
 use Prim.Native.Nat.{◌≤◌, ◌-◌}
-use native.Mathlib.Omega.{arith}
 use lib.ListN.{get_or}
 use Rattle.paper.specs.Count.{over}
-use Rattle.paper.proofs.Count.{over_none}
-use Rattle.slots.proofs.MergedLaws.{column-more, column-room, column-length, column-done}
 use Rattle.slots.proofs.split.copy_column.Given as goal
 
 abbrev pub invariant-loop-i : goal.invariant-loop-i

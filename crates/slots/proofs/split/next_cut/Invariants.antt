@@ -1,12 +1,10 @@
 -- `slots::split::next_cut` meets its contract. Assumes nothing.
-use borrow.Author.Rules.{rules}
 use mathlib.Core.Bool.{true}
 use Prim.Native.Nat.{ℕ, suc, ◌+◌, ◌*◌, ◌≤◌, ◌<◌, ◌-◌}
-use native.Mathlib.Omega.{arith}
 use lib.ListN.{get_or, take}
 use Rattle.paper.specs.Count.{FirstWhere}
 use Rattle.slots.specs.Inside.{opens}
-use Rattle.slots.proofs.EdgeLaws.{cut_below, below-begin, below_more, below-done}
+use Rattle.slots.proofs.EdgeLaws.{cut_below}
 use Rattle.slots.proofs.split.next_cut.Given as goal
 
 abbrev pub invariant-loop-person : goal.invariant-loop-person

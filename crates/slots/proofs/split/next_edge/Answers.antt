@@ -1,7 +1,6 @@
 -- `slots::split::next_edge` meets its contract. Assumes nothing.
 use native.Mathlib.Omega.{arith}
 use Rattle.slots.proofs.EdgeLaws.{edge-close, edge-open}
-use borrow.Author.Rules.{rules}
 use Rattle.slots.proofs.split.next_edge.Goals as goal
 
 pub offset_bounds-keys-r : goal.offset_bounds-keys-r

@@ -1,7 +1,6 @@
 -- `slots::split::opens_from` meets its contract. Assumes nothing.
 use native.Mathlib.Omega.{arith}
 use Rattle.slots.proofs.EdgeLaws.{opens-some, opens-past}
-use borrow.Author.Rules.{rules}
 use Rattle.slots.proofs.split.opens_from.Goals as goal
 
 pub offset_bounds-keys-r : goal.offset_bounds-keys-r

@@ -1,10 +1,8 @@
 -- `slots::split::split_all` meets its contract. Assumes nothing.
-use borrow.Author.Rules.{rules}
 use Prim.Native.Nat.{◌≤◌, ◌-◌}
-use native.Mathlib.Omega.{arith}
 use lib.ListN.{take}
 use Rattle.slots.specs.Inside.{key_cut}
-use Rattle.slots.proofs.CutLaws.{Growing, grow-starts, grow-more, grow-full, grow-ends}
+use Rattle.slots.proofs.CutLaws.{Growing}
 use Rattle.slots.proofs.split.split_all.Given as goal
 
 abbrev pub invariant-loop-i : goal.invariant-loop-i

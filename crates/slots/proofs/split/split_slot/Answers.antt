@@ -1,9 +1,7 @@
 -- `slots::split::split_slot` meets its contract. Assumes nothing.
-use Prim.Native.Nat.{◌<◌, ◌-◌}
 use native.Mathlib.Omega.{arith}
-use lib.ListN.{take, length-set}
-use Rattle.slots.specs.Inside.{key_cut}
-use Rattle.slots.proofs.CutLaws.{Splitting, split-starts, split-room, split-more, split-ends, split-full}
+use lib.ListN.{length-set}
+use Rattle.slots.proofs.CutLaws.{split-starts, split-room, split-more, split-ends, split-full}
 use Rattle.slots.proofs.split.split_slot.Goals as goal
 
 pub loop-m-init : goal.loop-m-init

@@ -1,9 +1,8 @@
 -- `slots::split::split_slot` meets its contract. Assumes nothing.
 use Prim.Native.Nat.{◌<◌, ◌-◌}
-use native.Mathlib.Omega.{arith}
-use lib.ListN.{take, length-set}
+use lib.ListN.{take}
 use Rattle.slots.specs.Inside.{key_cut}
-use Rattle.slots.proofs.CutLaws.{Splitting, split-starts, split-room, split-more, split-ends, split-full}
+use Rattle.slots.proofs.CutLaws.{Splitting}
 use Rattle.slots.proofs.split.split_slot.Given as goal
 
 abbrev pub invariant-loop-m : goal.invariant-loop-m

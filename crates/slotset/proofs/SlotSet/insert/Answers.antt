@@ -1,5 +1,4 @@
 -- `slotset::SlotSet::insert` meets its contract. Assumes nothing.
-use borrow.Author.Rules.{rules}
 use Rattle.slotset.proofs.SlotSet.insert.Goals as goal
 
 pub returns : goal.returns

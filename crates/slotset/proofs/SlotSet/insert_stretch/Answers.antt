@@ -1,5 +1,4 @@
 -- `slotset::SlotSet::insert_stretch` meets its contract. Assumes nothing.
-use borrow.Author.Rules.{rules}
 use Rattle.slotset.proofs.SlotSet.insert_stretch.Goals as goal
 
 pub returns : goal.returns

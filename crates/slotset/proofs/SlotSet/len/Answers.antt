@@ -1,5 +1,4 @@
 -- `slotset::SlotSet::len` meets its contract. Assumes nothing.
-use borrow.Author.Rules.{rules}
 use Rattle.paper.proofs.Rows.{said}
 use Rattle.slotset.proofs.Refusals.{number_is, number-refused}
 use mathlib.Core.Path.{refl}

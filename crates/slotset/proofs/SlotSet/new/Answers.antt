@@ -1,5 +1,4 @@
 -- `slotset::SlotSet::new` meets its contract. Assumes nothing.
-use borrow.Author.Rules.{rules}
 use mathlib.Core.Path.{refl}
 use Rattle.slotset.specs.Answers.{new_of}
 use Rattle.paper.proofs.Rows.{said}

@@ -1,5 +1,4 @@
 -- `slotset::SlotSet::remove` meets its contract. Assumes nothing.
-use borrow.Author.Rules.{rules}
 use Rattle.slotset.proofs.SlotSet.remove.Goals as goal
 
 pub returns : goal.returns

@@ -1,5 +1,4 @@
 -- `slotset::SlotSet::remove_stretch` meets its contract. Assumes nothing.
-use borrow.Author.Rules.{rules}
 use Rattle.slotset.proofs.SlotSet.remove_stretch.Goals as goal
 
 pub returns : goal.returns

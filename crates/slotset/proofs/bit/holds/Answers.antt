@@ -1,7 +1,6 @@
 -- `slotset::bit::holds` meets its contract. Assumes nothing.
 use mathlib.Core.Path.{sym, ap, ◌∙◌}
 use Prim.Native.Nat.{ℕ, ◌%◌}
-use borrow.Author.Rules.{rules}
 use lib.Dec.{eqb}
 use lib.ListN.{get_or-eq_default}
 use Rattle.paper.specs.Bits.{bit_of}

@@ -1,10 +1,7 @@
 -- `slotset::listing::list_sets` meets its contract. Assumes nothing.
 use borrow.Author.Rules.{rules}
-use mathlib.Core.Path.{◌≡◌, sym, ap, ◌∙◌}
-use Prim.Native.Nat.{ℕ, ◌+◌, ◌-◌, ◌*◌, ◌≤◌}
 use native.Mathlib.Omega.{arith}
-use lib.ListN.{length}
-use Rattle.slotset.proofs.Columns.{Everybody, everybody-starts, everybody-long, everybody-room, everybody-more, person-few, everybody-end}
+use Rattle.slotset.proofs.Columns.{everybody-starts, everybody-long, everybody-room, everybody-more, person-few, everybody-end}
 use Rattle.slotset.proofs.listing.list_sets.Goals as goal
 
 pub loop-p-init : goal.loop-p-init

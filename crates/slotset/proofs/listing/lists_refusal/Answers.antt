@@ -1,5 +1,4 @@
 -- `slotset::listing::lists_refusal` meets its contract. Assumes nothing.
-use borrow.Author.Rules.{rules}
 use mathlib.Core.Path.{refl, sym, ◌∙◌}
 use native.Mathlib.Omega.{arith}
 use Rattle.paper.proofs.Rows.{said, link, ends, skipped, checked-more}

@@ -1,5 +1,4 @@
 -- `slotset::one::is_empty` meets its contract. Assumes nothing.
-use borrow.Author.Rules.{rules}
 use mathlib.Core.Path.{sym, ◌∙◌}
 use Rattle.paper.proofs.Rows.{said}
 use Rattle.slotset.proofs.Refusals.{set_says, yes-no-is, yes-no-refused}

@@ -1,5 +1,4 @@
 -- `slotset::one::run_bounds` meets its contract. Assumes nothing.
-use borrow.Author.Rules.{rules}
 use mathlib.Core.Path.{sym, ap, ◌∙◌}
 use native.Mathlib.Omega.{arith}
 use Rattle.paper.proofs.Rows.{said}

@@ -3,7 +3,6 @@ use mathlib.Core.Path.{refl, sym, ◌∙◌}
 use Rattle.paper.proofs.Logic.{both}
 use Rattle.paper.proofs.Rows.{next-pass, link, ends, checked}
 use Rattle.slotset.specs.Answers.{set_row}
-use borrow.Author.Rules.{rules}
 use Rattle.slotset.proofs.one.set_refusal.Goals as goal
 
 pub returns-then-set_ok : goal.returns-then-set_ok

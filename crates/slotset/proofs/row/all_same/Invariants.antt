@@ -1,10 +1,7 @@
 -- `slotset::row::all_same` meets its contract. The invariant: the sets of the first p people are the same. Assumes nothing.
-use borrow.Author.Rules.{rules}
-use mathlib.Core.Path.{◌≡◌, sym, ◌∙◌}
+use mathlib.Core.Path.{◌≡◌}
 use mathlib.Core.Bool.{true}
 use Prim.Native.Nat.{◌-◌, ◌≤◌}
-use native.Mathlib.Omega.{arith}
-use Rattle.paper.proofs.Count.{all_none, all_more, all-fails, all_done}
 use Rattle.slotset.specs.Answers.{same_sets}
 use Rattle.slotset.proofs.row.all_same.Given as goal
 

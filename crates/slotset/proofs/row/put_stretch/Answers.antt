@@ -1,5 +1,4 @@
 -- `slotset::row::put_stretch` meets its contract. Assumes nothing.
-use borrow.Author.Rules.{rules}
 use mathlib.Core.Path.{sym, ◌∙◌}
 use native.Mathlib.Omega.{arith}
 use Rattle.slotset.specs.Answers.{row_stretch_of}

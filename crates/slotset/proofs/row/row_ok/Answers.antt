@@ -1,5 +1,4 @@
 -- `slotset::row::row_ok` meets its contract. Assumes nothing.
-use borrow.Author.Rules.{rules}
 use mathlib.Core.Path.{ap₂, ◌∙◌}
 use mathlib.Core.Bool.{◌&&◌}
 use Rattle.slotset.proofs.row.row_ok.Goals as goal

@@ -3,7 +3,6 @@ use mathlib.Core.Path.{refl, sym, ◌∙◌}
 use Rattle.paper.proofs.Logic.{four}
 use Rattle.paper.proofs.Rows.{next-pass, link, ends, checked, checked-more}
 use Rattle.slotset.specs.Answers.{sets_row, person_row}
-use borrow.Author.Rules.{rules}
 use Rattle.slotset.proofs.row.row_refusal.Goals as goal
 
 pub returns-then-row_ok : goal.returns-then-row_ok

@@ -2,7 +2,6 @@
 use mathlib.Core.Path.{refl}
 use Rattle.paper.proofs.Rows.{link, ends, checked-more}
 use Rattle.slotset.specs.Answers.{sets_row, person_row, person_stretch_row}
-use borrow.Author.Rules.{rules}
 use Rattle.slotset.proofs.row.row_stretch_refusal.Goals as goal
 
 pub returns : goal.returns

@@ -1,5 +1,4 @@
 -- `slotset::row::same_sets` meets its contract. Assumes nothing.
-use borrow.Author.Rules.{rules}
 use mathlib.Core.Path.{sym, ◌∙◌}
 use Rattle.paper.proofs.Rows.{said}
 use Rattle.slotset.proofs.Refusals.{same-says, yes-no-is, yes-no-refused}

@@ -2,7 +2,6 @@
 use mathlib.Core.Path.{refl}
 use Rattle.paper.proofs.Rows.{link, ends, checked-more}
 use Rattle.slotset.specs.Answers.{sets_row, same_sets_row}
-use borrow.Author.Rules.{rules}
 use Rattle.slotset.proofs.row.same_sets_refusal.Goals as goal
 
 pub returns : goal.returns

@@ -1,10 +1,9 @@
 -- `slotset::row::words_at` meets its contract. The invariant: the first j words are copied. Assumes nothing.
 use borrow.Author.Rules.{rules}
 use mathlib.Core.Path.{◌≡◌, refl}
-use Prim.Native.Nat.{◌-◌, ◌≤◌}
 use native.Mathlib.Omega.{arith}
-use lib.ListN.{length, length-set}
-use Rattle.slotset.proofs.Lists.{Copied, copied_more, copied_all}
+use lib.ListN.{length-set}
+use Rattle.slotset.proofs.Lists.{copied_more, copied_all}
 use Rattle.slotset.proofs.row.words_at.Goals as goal
 
 pub loop-j-init : goal.loop-j-init

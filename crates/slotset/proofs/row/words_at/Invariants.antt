@@ -1,10 +1,8 @@
 -- `slotset::row::words_at` meets its contract. The invariant: the first j words are copied. Assumes nothing.
-use borrow.Author.Rules.{rules}
-use mathlib.Core.Path.{◌≡◌, refl}
+use mathlib.Core.Path.{◌≡◌}
 use Prim.Native.Nat.{◌-◌, ◌≤◌}
-use native.Mathlib.Omega.{arith}
-use lib.ListN.{length, length-set}
-use Rattle.slotset.proofs.Lists.{Copied, copied_more, copied_all}
+use lib.ListN.{length}
+use Rattle.slotset.proofs.Lists.{Copied}
 use Rattle.slotset.proofs.row.words_at.Given as goal
 
 abbrev pub invariant-loop-j : goal.invariant-loop-j

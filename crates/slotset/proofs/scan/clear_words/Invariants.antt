@@ -1,11 +1,8 @@
 -- `slotset::scan::clear_words` meets its contract. The invariant: the first j words are 0. Assumes nothing.
-use mathlib.Core.Path.{◌≡◌, refl, sym, ap, ◌∙◌}
-use borrow.Author.Rules.{rules}
-use Prim.Native.Nat.{ℕ, ◌+◌, ◌-◌, ◌*◌, ◌^◌, ◌≤◌, ◌<◌}
-use native.Mathlib.Omega.{arith}
-use lib.ListN.{length, length-set}
+use mathlib.Core.Path.{◌≡◌}
+use Prim.Native.Nat.{◌-◌, ◌*◌, ◌≤◌}
+use lib.ListN.{length}
 use Rattle.slotset.specs.Slots.{put_slots}
-use Rattle.slotset.proofs.Puts.{puts_none, words-cleared}
 use Rattle.slotset.proofs.scan.clear_words.Given as goal
 
 abbrev pub invariant-loop-j : goal.invariant-loop-j

@@ -1,5 +1,4 @@
 -- `slotset::scan::contains` meets its contract. Assumes nothing.
-use borrow.Author.Rules.{rules}
 use borrow.Author.Tests.{lt-ltb, le-ltb}
 use Rattle.slotset.specs.Slots.{slot, has}
 use Rattle.slotset.proofs.scan.contains.Goals as goal

@@ -1,9 +1,9 @@
 -- `slotset::scan::copy_slots` meets its contract. The invariant: the slots below `at` are copied. Assumes nothing.
 use borrow.Author.Rules.{rules}
 use mathlib.Core.Path.{◌≡◌, refl, sym, ap, ap₂, ◌∙◌}
-use Prim.Native.Nat.{ℕ, ◌+◌, ◌-◌, ◌*◌, ◌/◌, ◌%◌, ◌^◌, ◌≤◌, ◌<◌}
+use Prim.Native.Nat.{ℕ, ◌+◌, ◌-◌, ◌*◌, ◌/◌, ◌%◌, ◌^◌, ◌<◌}
 use native.Mathlib.Omega.{arith}
-use lib.ListN.{length, get_or, length-set}
+use lib.ListN.{get_or, length-set}
 use Rattle.paper.specs.Bits.{bit_of}
 use Rattle.slotset.specs.Slots.{slot, put_slots}
 use Rattle.slotset.proofs.Puts.{slot_lt, puts_none, turn-puts}

@@ -1,7 +1,6 @@
 -- `slotset::scan::count_words` meets its contract. The invariant: n is the number of members below word j. Assumes nothing.
-use borrow.Author.Rules.{rules}
 use mathlib.Core.Path.{◌≡◌, refl, ap, ◌∙◌}
-use Prim.Native.Nat.{◌+◌, ◌-◌, ◌*◌, ◌≤◌}
+use Prim.Native.Nat.{◌+◌, ◌*◌}
 use native.Mathlib.Omega.{arith}
 use Rattle.paper.specs.Count.{sum}
 use Rattle.slotset.specs.Slots.{slot, size}

@@ -1,11 +1,7 @@
 -- `slotset::scan::count_words` meets its contract. The invariant: n is the number of members below word j. Assumes nothing.
-use borrow.Author.Rules.{rules}
-use mathlib.Core.Path.{◌≡◌, refl, ap, ◌∙◌}
-use Prim.Native.Nat.{◌+◌, ◌-◌, ◌*◌, ◌≤◌}
-use native.Mathlib.Omega.{arith}
-use Rattle.paper.specs.Count.{sum}
+use mathlib.Core.Path.{◌≡◌}
+use Prim.Native.Nat.{◌-◌, ◌*◌, ◌≤◌}
 use Rattle.slotset.specs.Slots.{slot, size}
-use Rattle.slotset.proofs.Counts.{count_add}
 use Rattle.slotset.proofs.scan.count_words.Given as goal
 
 abbrev pub invariant-loop-j : goal.invariant-loop-j

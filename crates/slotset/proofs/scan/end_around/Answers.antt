@@ -1,6 +1,5 @@
 -- `slotset::scan::end_around` meets its contract. Assumes nothing.
-use borrow.Author.Rules.{rules}
-use mathlib.Core.Path.{◌≡◌, sym, ap, ◌∙◌}
+use mathlib.Core.Path.{sym, ap, ◌∙◌}
 use native.Mathlib.Omega.{arith}
 use Rattle.slotset.specs.Runs.{end_of}
 use Rattle.slotset.proofs.Scans.{word_next, word-found}

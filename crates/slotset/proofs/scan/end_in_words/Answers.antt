@@ -1,6 +1,6 @@
 -- `slotset::scan::end_in_words` meets its contract. Assumes nothing.
 use borrow.Author.Rules.{rules}
-use mathlib.Core.Path.{◌≡◌, sym, ap, ◌∙◌}
+use mathlib.Core.Path.{sym, ap, ◌∙◌}
 use native.Mathlib.Omega.{arith}
 use lib.ListN.{get_or}
 use Prim.Native.Nat.{◌+◌, ◌^◌, ◌<◌}

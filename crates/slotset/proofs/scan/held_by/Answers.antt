@@ -1,7 +1,6 @@
 -- `slotset::scan::held_by` meets its contract. Assumes nothing.
 use mathlib.Core.Path.{sym, ap}
 use mathlib.Core.Bool.{Bool, cond}
-use Rattle.slotset.specs.declared.Run.{Run}
 use Rattle.slotset.specs.declared.Run.TheVariants.{Span, Hole}
 use Rattle.slotset.proofs.scan.held_by.Goals as goal
 

@@ -1,5 +1,4 @@
 -- `slotset::scan::is_empty` meets its contract. Assumes nothing.
-use borrow.Author.Rules.{rules}
 use mathlib.Core.Path.{sym, ◌∙◌, subst}
 use Rattle.slotset.specs.Slots.{slot}
 use Rattle.slotset.specs.Search.{First}

@@ -1,5 +1,4 @@
 -- `slotset::scan::last_below` meets its contract. Assumes nothing.
-use borrow.Author.Rules.{rules}
 use mathlib.Core.Path.{◌≡◌, sym, ap, ◌∙◌}
 use native.Mathlib.Omega.{arith}
 use Rattle.slotset.specs.Search.{down, last_below}

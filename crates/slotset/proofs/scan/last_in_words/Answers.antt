@@ -2,9 +2,8 @@
 -- Assumes nothing.
 use borrow.Author.Rules.{rules}
 use mathlib.Core.Path.{◌≡◌, refl, sym, ap, ◌∙◌}
-use Prim.Native.Nat.{◌*◌, ◌≤◌}
+use Prim.Native.Nat.{◌*◌}
 use native.Mathlib.Omega.{arith}
-use Rattle.slotset.specs.Slots.{slot, value_of}
 use Rattle.slotset.specs.Search.{down}
 use Rattle.slotset.proofs.Scans.{word-before, word-last}
 use Rattle.slotset.proofs.scan.last_in_words.Goals as goal

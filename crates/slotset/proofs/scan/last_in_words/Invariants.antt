@@ -1,12 +1,9 @@
 -- `slotset::scan::last_in_words` meets its contract. The invariant: the answer below word `before` is the answer below word `end`.
 -- Assumes nothing.
-use borrow.Author.Rules.{rules}
-use mathlib.Core.Path.{◌≡◌, refl, sym, ap, ◌∙◌}
+use mathlib.Core.Path.{◌≡◌}
 use Prim.Native.Nat.{◌*◌, ◌≤◌}
-use native.Mathlib.Omega.{arith}
 use Rattle.slotset.specs.Slots.{slot, value_of}
 use Rattle.slotset.specs.Search.{down}
-use Rattle.slotset.proofs.Scans.{word-before, word-last}
 use Rattle.slotset.proofs.scan.last_in_words.Given as goal
 
 abbrev pub invariant-loop-end : goal.invariant-loop-end

@@ -1,5 +1,4 @@
 -- `slotset::scan::member_step` meets its contract. Assumes nothing.
-use borrow.Author.Rules.{rules}
 use mathlib.Core.Path.{sym, ap, subst}
 use native.Mathlib.Omega.{arith}
 use Rattle.slotset.specs.Inside.{Below}

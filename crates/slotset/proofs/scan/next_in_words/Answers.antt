@@ -1,11 +1,8 @@
 -- `slotset::scan::next_in_words` meets its contract. The invariant: the answer from word `first` on is the answer from word j on.
 -- Assumes nothing.
 use borrow.Author.Rules.{rules}
-use mathlib.Core.Path.{◌≡◌, refl, sym, ◌∙◌}
-use Prim.Native.Nat.{◌-◌, ◌*◌, ◌≤◌}
+use mathlib.Core.Path.{refl, sym, ◌∙◌}
 use native.Mathlib.Omega.{arith}
-use Rattle.slotset.specs.Slots.{slot, value_of}
-use Rattle.slotset.specs.Search.{next_with}
 use Rattle.slotset.proofs.Scans.{next-end, word_next, word-found}
 use Rattle.slotset.proofs.scan.next_in_words.Goals as goal
 

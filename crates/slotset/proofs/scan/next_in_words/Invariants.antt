@@ -1,12 +1,9 @@
 -- `slotset::scan::next_in_words` meets its contract. The invariant: the answer from word `first` on is the answer from word j on.
 -- Assumes nothing.
-use borrow.Author.Rules.{rules}
-use mathlib.Core.Path.{◌≡◌, refl, sym, ◌∙◌}
+use mathlib.Core.Path.{◌≡◌}
 use Prim.Native.Nat.{◌-◌, ◌*◌, ◌≤◌}
-use native.Mathlib.Omega.{arith}
 use Rattle.slotset.specs.Slots.{slot, value_of}
 use Rattle.slotset.specs.Search.{next_with}
-use Rattle.slotset.proofs.Scans.{next-end, word_next, word-found}
 use Rattle.slotset.proofs.scan.next_in_words.Given as goal
 
 abbrev pub invariant-loop-j : goal.invariant-loop-j

@@ -1,5 +1,4 @@
 -- `slotset::scan::next_member` meets its contract. Assumes nothing.
-use borrow.Author.Rules.{rules}
 use mathlib.Core.Path.{ap, ◌∙◌}
 use Rattle.paper.specs.Rows.{unless}
 use Rattle.slotset.specs.Slots.{slot}

@@ -1,5 +1,4 @@
 -- `slotset::scan::next_unset_after` meets its contract. Assumes nothing.
-use borrow.Author.Rules.{rules}
 use mathlib.Core.Path.{sym, ◌∙◌}
 use native.Mathlib.Omega.{arith}
 use Rattle.slotset.proofs.Scans.{next-end}

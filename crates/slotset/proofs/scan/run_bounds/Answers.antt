@@ -1,6 +1,5 @@
 -- `slotset::scan::run_bounds` meets its contract. Assumes nothing.
-use borrow.Author.Rules.{rules}
-use mathlib.Core.Path.{◌≡◌, sym, ap, ◌∙◌}
+use mathlib.Core.Path.{sym, ap, ◌∙◌}
 use Rattle.slotset.specs.Slots.{slot, value_of}
 use Rattle.slotset.proofs.Puts.{slot_lt}
 use Rattle.slotset.proofs.Runs.{has_value, answers-outside}

@@ -1,10 +1,9 @@
 -- `slotset::scan::same` meets its contract. The invariant: the sets are the same below word j. Assumes nothing.
 use borrow.Author.Rules.{rules}
 use mathlib.Core.Path.{◌≡◌, sym, ap, ◌∙◌}
-use mathlib.Core.Bool.{true}
-use Prim.Native.Nat.{ℕ, ◌-◌, ◌*◌, ◌≤◌, min}
+use Prim.Native.Nat.{◌*◌, min}
 use native.Mathlib.Omega.{arith}
-use Rattle.slotset.specs.Slots.{slot, same_slots}
+use Rattle.slotset.specs.Slots.{same_slots}
 use Rattle.slotset.proofs.Scans.{same_none, same_more, same-off}
 use Rattle.slotset.proofs.scan.same.Goals as goal
 

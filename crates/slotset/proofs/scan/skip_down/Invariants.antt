@@ -1,10 +1,7 @@
 -- `slotset::scan::skip_down` meets its contract. The invariant: every word so far is x. Assumes nothing.
-use borrow.Author.Rules.{rules}
-use mathlib.Core.Path.{◌≡◌, sym, ap, ◌∙◌}
-use Prim.Native.Nat.{ℕ, ◌+◌, ◌-◌, ◌≤◌, ◌<◌}
-use native.Mathlib.Omega.{arith}
+use mathlib.Core.Path.{◌≡◌}
+use Prim.Native.Nat.{ℕ, ◌+◌, ◌≤◌, ◌<◌}
 use lib.ListN.{get_or}
-use Rattle.slotset.proofs.Skips.{one_less}
 use Rattle.slotset.proofs.scan.skip_down.Given as goal
 
 abbrev pub invariant-loop-end : goal.invariant-loop-end

@@ -1,10 +1,6 @@
 -- `slotset::scan::skip_up` meets its contract. The invariant: every word so far is x. Assumes nothing.
 use borrow.Author.Rules.{rules}
-use mathlib.Core.Path.{◌≡◌, ap, ◌∙◌}
-use mathlib.Core.Logic.{⊎_elim}
-use Prim.Native.Nat.{ℕ, ◌+◌, ◌-◌, ◌≤◌, ◌<◌}
 use native.Mathlib.Omega.{arith}
-use lib.ListN.{get_or}
 use Rattle.slotset.proofs.Skips.{one_more}
 use Rattle.slotset.proofs.scan.skip_up.Goals as goal
 

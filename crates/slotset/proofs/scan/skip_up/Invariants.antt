@@ -1,11 +1,7 @@
 -- `slotset::scan::skip_up` meets its contract. The invariant: every word so far is x. Assumes nothing.
-use borrow.Author.Rules.{rules}
-use mathlib.Core.Path.{◌≡◌, ap, ◌∙◌}
-use mathlib.Core.Logic.{⊎_elim}
+use mathlib.Core.Path.{◌≡◌}
 use Prim.Native.Nat.{ℕ, ◌+◌, ◌-◌, ◌≤◌, ◌<◌}
-use native.Mathlib.Omega.{arith}
 use lib.ListN.{get_or}
-use Rattle.slotset.proofs.Skips.{one_more}
 use Rattle.slotset.proofs.scan.skip_up.Given as goal
 
 abbrev pub invariant-loop-j : goal.invariant-loop-j

@@ -1,5 +1,4 @@
 -- `slotset::word::merge` meets its contract. Assumes nothing.
-use borrow.Author.Rules.{rules}
 use Rattle.slotset.proofs.Words.{merge-law}
 use Rattle.slotset.proofs.word.merge.Goals as goal
 

@@ -1,5 +1,4 @@
 -- `slotset::word::same_below` meets its contract. Assumes nothing.
-use borrow.Author.Rules.{rules}
 use Rattle.slotset.proofs.Words.{same-law}
 use Rattle.slotset.proofs.word.same_below.Goals as goal
 

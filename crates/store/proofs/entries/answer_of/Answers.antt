@@ -1,6 +1,5 @@
 -- `store::entries::answer_of` meets its contract. Assumes nothing.
-use borrow.Author.Rules.{rules}
-use mathlib.Core.Path.{refl, sym, ap, ◌∙◌}
+use mathlib.Core.Path.{sym, ap}
 use Rattle.store.specs.Outcome.{answer_of}
 use Rattle.store.proofs.entries.answer_of.Goals as goal
 

@@ -1,5 +1,4 @@
 -- `store::entries::ask` meets its contract. Assumes nothing.
-use borrow.Author.Rules.{rules}
 use Rattle.store.proofs.Outcomes.{ask-number, ask-answered, ask-refused}
 use Rattle.store.proofs.entries.ask.Goals as goal
 

@@ -1,5 +1,4 @@
 -- `store::entries::ask_refusal` meets its contract. Assumes nothing.
-use borrow.Author.Rules.{rules}
 use mathlib.Core.Path.{refl}
 use Rattle.paper.proofs.Rows.{link, ends, checked-more, renamed}
 use Rattle.store.proofs.entries.ask_refusal.Goals as goal

@@ -1,6 +1,4 @@
 -- `store::entries::count` meets its contract. Assumes nothing.
-use borrow.Author.Rules.{rules}
-use mathlib.Core.Path.{refl, sym, ap, ◌∙◌}
 use Rattle.slotset.proofs.Refusals.{number_is, number-refused}
 use Rattle.store.specs.Outcome.{count_is}
 use Rattle.store.proofs.Outcomes.{store-number}

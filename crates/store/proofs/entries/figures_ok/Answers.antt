@@ -1,6 +1,5 @@
 -- `store::entries::figures_ok` meets its contract. Assumes nothing.
-use borrow.Author.Rules.{rules}
-use mathlib.Core.Path.{refl, sym, ap, ◌∙◌}
+use mathlib.Core.Path.{sym, ap, ◌∙◌}
 use Rattle.store.specs.Outcome.{figures_ok}
 use Rattle.store.proofs.entries.figures_ok.Goals as goal
 

@@ -1,6 +1,4 @@
 -- `store::entries::judge_layout` meets its contract. Assumes nothing.
-use borrow.Author.Rules.{rules}
-use mathlib.Core.Path.{◌≡◌, refl, sym, ap, ◌∙◌}
 use native.Mathlib.Omega.{arith}
 use Rattle.store.proofs.Outcomes.{layout-short, layout-read, count-read}
 use Rattle.store.proofs.entries.judge_layout.Goals as goal

@@ -1,5 +1,4 @@
 -- `store::entries::room_ok` meets its contract. Assumes nothing.
-use borrow.Author.Rules.{rules}
 use native.Mathlib.Omega.{arith}
 use Rattle.store.proofs.Outcomes.{room-low, room-is}
 use Rattle.store.proofs.entries.room_ok.Goals as goal

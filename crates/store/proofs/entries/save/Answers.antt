@@ -1,5 +1,4 @@
 -- `store::entries::save` meets its contract. Assumes nothing.
-use borrow.Author.Rules.{rules}
 use native.Mathlib.Omega.{arith}
 use mathlib.Core.Path.{sym, ◌∙◌}
 use Rattle.store.proofs.Counted.{counted-few}

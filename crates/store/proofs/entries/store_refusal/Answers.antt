@@ -1,5 +1,4 @@
 -- `store::entries::store_refusal` meets its contract. Assumes nothing.
-use borrow.Author.Rules.{rules}
 use mathlib.Core.Path.{refl}
 use Rattle.paper.proofs.Rows.{link, ends, checked}
 use Rattle.store.proofs.entries.store_refusal.Goals as goal

@@ -1,5 +1,4 @@
 -- `store::figures::body_of` meets its contract. Assumes nothing.
-use borrow.Author.Rules.{rules}
 use mathlib.Core.Path.{refl}
 use Rattle.records.specs.Fields.{le_bytes}
 use Rattle.store.specs.Figures.{body_of}

@@ -1,5 +1,4 @@
 -- `store::figures::figures_at` meets its contract. Assumes nothing.
-use borrow.Author.Rules.{rules}
 use Rattle.store.proofs.Reading.{figures-read}
 use Rattle.store.proofs.figures.figures_at.Goals as goal
 

@@ -1,9 +1,6 @@
 -- `store::figures::kept_at` meets its contract. Assumes nothing.
-use borrow.Author.Rules.{rules}
-use mathlib.Core.Path.{◌≡◌, sym, ap, ◌∙◌}
+use mathlib.Core.Path.{ap, ◌∙◌}
 use native.Mathlib.Omega.{arith}
-use Rattle.records.specs.Fields.{le}
-use Rattle.records.proofs.Numbers.{field_is}
 use Rattle.store.specs.declared.Kept.TheVariants as kept
 use Rattle.store.proofs.Reading.{head-room, kind-read, newer-at, figures-room, figures-at}
 use Rattle.store.proofs.figures.kept_at.Goals as goal

@@ -1,13 +1,7 @@
 -- `store::figures::kept_in` meets its contract. Assumes nothing.
-use borrow.Author.Rules.{rules}
-use mathlib.Core.Path.{◌≡◌, refl, sym, ap, ◌∙◌}
-use Prim.Native.Nat.{◌≤◌, ◌<◌}
+use mathlib.Core.Path.{◌∙◌}
 use native.Mathlib.Omega.{arith}
-use lib.ListN.{take}
-use Rattle.records.specs.Heads.{found_at}
-use Rattle.store.specs.Figures.{kept_of}
-use Rattle.store.specs.Layout.{count_in}
-use Rattle.store.proofs.Reading.{number-low, number-high, number-kept, number-found}
+use Rattle.store.proofs.Reading.{number-low, number-high, number-found}
 use Rattle.store.proofs.figures.kept_in.Goals as goal
 
 pub returns-then-number-lt1 : goal.returns-then-number-lt1

@@ -1,6 +1,5 @@
 -- `targets::checks::check_figures` meets its contract. Assumes nothing.
 use Rattle.paper.proofs.Rows.{renamed, skipped}
-use Rattle.std.proofs.Common.{rules}
 use Rattle.targets.proofs.checks.check_figures.Goals as goal
 
 pub returns-then-before-eq0 : goal.returns-then-before-eq0

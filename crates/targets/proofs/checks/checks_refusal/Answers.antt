@@ -1,5 +1,5 @@
 -- `targets::checks::checks_refusal` meets its contract. Assumes nothing.
-use Rattle.std.proofs.Common.{refl, rules}
+use Rattle.std.proofs.Common.{refl}
 use Rattle.paper.proofs.Rows.{link, ends, checked}
 use Rattle.targets.specs.Outcome.{room_row}
 use Rattle.targets.specs.Inside.{checks_row}

@@ -1,6 +1,5 @@
 -- `targets::levels::is_reached` meets its contract. Assumes nothing.
 use Rattle.targets.specs.Levels.{reached}
-use Rattle.std.proofs.Common.{rules}
 use Rattle.targets.proofs.levels.is_reached.Goals as goal
 
 pub returns-then-l : goal.returns-then-l

@@ -1,5 +1,4 @@
 -- `targets::levels::left_after` meets its contract. Assumes nothing.
-use Rattle.std.proofs.Common.{arith, rules}
 use Rattle.targets.proofs.LevelLaws.{fewer-none, fewer-some, left-on, left-off}
 use Rattle.targets.proofs.levels.left_after.Goals as goal
 

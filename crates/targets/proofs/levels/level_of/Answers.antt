@@ -1,6 +1,5 @@
 -- `targets::levels::level_of` meets its contract. Assumes nothing.
-use Rattle.std.proofs.Common.{◌≡◌, suc, ◌+◌, ◌-◌, ◌<◌, ◌≤◌, ap, arith, rules}
-use Rattle.targets.specs.Levels.{lift_cost}
+use Rattle.std.proofs.Common.{◌≡◌, suc, arith}
 use Rattle.targets.proofs.SpreadLaws.{level-start}
 use Rattle.targets.proofs.levels.level_of.Goals as goal
 

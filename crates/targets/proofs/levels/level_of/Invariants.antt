@@ -1,7 +1,6 @@
 -- `targets::levels::level_of` meets its contract. Assumes nothing.
-use Rattle.std.proofs.Common.{◌≡◌, suc, ◌+◌, ◌-◌, ◌<◌, ◌≤◌, ap, arith, rules}
+use Rattle.std.proofs.Common.{◌-◌, ◌<◌, ◌≤◌}
 use Rattle.targets.specs.Levels.{lift_cost}
-use Rattle.targets.proofs.SpreadLaws.{level-start}
 use Rattle.targets.proofs.levels.level_of.Given as goal
 
 abbrev pub invariant-loop-low : goal.invariant-loop-low

@@ -1,6 +1,5 @@
 -- `targets::levels::lift_cost` meets its contract. Assumes nothing.
-use Rattle.std.proofs.Common.{◌≡◌, ◌+◌, ◌-◌, ◌*◌, ◌≤◌, drop, zero-add, arith, rules}
-use Rattle.targets.specs.Levels.{lift_cost}
+use Rattle.std.proofs.Common.{zero-add, arith, rules}
 use Rattle.targets.proofs.LevelLaws.{cost-turn, cost-over}
 use Rattle.targets.proofs.levels.lift_cost.Goals as goal
 

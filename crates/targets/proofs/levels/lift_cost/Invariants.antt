@@ -1,7 +1,6 @@
 -- `targets::levels::lift_cost` meets its contract. Assumes nothing.
-use Rattle.std.proofs.Common.{◌≡◌, ◌+◌, ◌-◌, ◌*◌, ◌≤◌, drop, zero-add, arith, rules}
+use Rattle.std.proofs.Common.{◌≡◌, ◌+◌, ◌-◌, ◌*◌, ◌≤◌, drop}
 use Rattle.targets.specs.Levels.{lift_cost}
-use Rattle.targets.proofs.LevelLaws.{cost-turn, cost-over}
 use Rattle.targets.proofs.levels.lift_cost.Given as goal
 
 abbrev pub invariant-loop-i : goal.invariant-loop-i

@@ -1,5 +1,5 @@
 -- `targets::levels::lifted_by` meets its contract. Assumes nothing.
-use Rattle.std.proofs.Common.{arith, rules}
+use Rattle.std.proofs.Common.{arith}
 use Rattle.targets.proofs.LevelLaws.{lifts-by}
 use Rattle.targets.proofs.levels.lifted_by.Goals as goal
 

@@ -1,6 +1,5 @@
 -- `targets::levels::lifted_standing` meets its contract. Assumes nothing.
 use Rattle.targets.proofs.LevelLaws.{standing_on, standing-off}
-use Rattle.std.proofs.Common.{rules}
 use Rattle.targets.proofs.levels.lifted_standing.Goals as goal
 
 pub returns-then-is_reached : goal.returns-then-is_reached

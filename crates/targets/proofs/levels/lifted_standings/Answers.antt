@@ -1,6 +1,5 @@
 -- `targets::levels::lifted_standings` meets its contract. Assumes nothing.
-use Rattle.std.proofs.Common.{◌≡◌, ◌-◌, ◌≤◌, ◌++◌, length, take, drop, refl, arith, length-set, rules}
-use Rattle.targets.specs.Levels.{lifted}
+use Rattle.std.proofs.Common.{refl, arith, length-set, rules}
 use Rattle.targets.proofs.LevelLaws.{lift-turn, lift-over}
 use Rattle.targets.proofs.levels.lifted_standings.Goals as goal
 

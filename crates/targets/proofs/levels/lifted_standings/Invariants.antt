@@ -1,7 +1,6 @@
 -- `targets::levels::lifted_standings` meets its contract. Assumes nothing.
-use Rattle.std.proofs.Common.{◌≡◌, ◌-◌, ◌≤◌, ◌++◌, length, take, drop, refl, arith, length-set, rules}
+use Rattle.std.proofs.Common.{◌≡◌, ◌-◌, ◌≤◌, ◌++◌, length, take, drop}
 use Rattle.targets.specs.Levels.{lifted}
-use Rattle.targets.proofs.LevelLaws.{lift-turn, lift-over}
 use Rattle.targets.proofs.levels.lifted_standings.Given as goal
 
 abbrev pub invariant-loop-i : goal.invariant-loop-i

@@ -1,5 +1,5 @@
 -- `targets::levels::lower_of` meets its contract. Assumes nothing.
-use Rattle.std.proofs.Common.{refl, arith, rules, le-ltb, lt-ltb}
+use Rattle.std.proofs.Common.{refl, arith, le-ltb, lt-ltb}
 use Rattle.targets.proofs.levels.lower_of.Goals as goal
 
 pub returns-then-l : goal.returns-then-l

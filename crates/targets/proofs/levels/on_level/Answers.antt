@@ -1,5 +1,5 @@
 -- `targets::levels::on_level` meets its contract. Assumes nothing.
-use Rattle.std.proofs.Common.{arith, rules}
+use Rattle.std.proofs.Common.{arith}
 use Rattle.targets.proofs.LevelLaws.{on_none, on_some}
 use Rattle.targets.proofs.levels.on_level.Goals as goal
 

@@ -1,7 +1,6 @@
 -- `targets::levels::smallest_of` meets its contract. Assumes nothing.
-use Rattle.std.proofs.Common.{◌≡◌, ◌-◌, ◌≤◌, drop, refl, arith, rules}
-use mathlib.Core.List.{foldl}
-use Rattle.targets.specs.Inside.{lower, smallest_of}
+use Rattle.std.proofs.Common.{refl, arith, rules}
+use Rattle.targets.specs.Inside.{lower}
 use Rattle.targets.proofs.Loops.{turn, over}
 use Rattle.targets.proofs.levels.smallest_of.Goals as goal
 

@@ -1,8 +1,7 @@
 -- `targets::levels::smallest_of` meets its contract. Assumes nothing.
-use Rattle.std.proofs.Common.{◌≡◌, ◌-◌, ◌≤◌, drop, refl, arith, rules}
+use Rattle.std.proofs.Common.{◌≡◌, ◌-◌, ◌≤◌, drop}
 use mathlib.Core.List.{foldl}
 use Rattle.targets.specs.Inside.{lower, smallest_of}
-use Rattle.targets.proofs.Loops.{turn, over}
 use Rattle.targets.proofs.levels.smallest_of.Given as goal
 
 abbrev pub invariant-loop-i : goal.invariant-loop-i

@@ -1,5 +1,5 @@
 -- `targets::levels::with_missing` meets its contract. Assumes nothing.
-use Rattle.std.proofs.Common.{arith, rules}
+use Rattle.std.proofs.Common.{arith}
 use Rattle.targets.proofs.LevelLaws.{missing-pinned, missing-less, missing-enough}
 use Rattle.targets.proofs.levels.with_missing.Goals as goal
 

@@ -1,6 +1,5 @@
 -- `targets::passes::is_below_zero` meets its contract. Assumes nothing.
 use lib.Ieee.{of_bits}
-use Rattle.std.proofs.Common.{rules}
 use Rattle.targets.proofs.passes.is_below_zero.Goals as goal
 
 pub returns : goal.returns

@@ -1,5 +1,4 @@
 -- `targets::passes::is_outside` meets its contract. Assumes nothing.
-use Rattle.std.proofs.Common.{rules}
 use Rattle.targets.proofs.passes.is_outside.Goals as goal
 
 pub returns-then-is_within : goal.returns-then-is_within

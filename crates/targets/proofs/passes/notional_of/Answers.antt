@@ -1,7 +1,6 @@
 -- `targets::passes::notional_of` meets its contract. Assumes nothing.
-use Rattle.std.proofs.Common.{◌≡◌, ◌+◌, ◌-◌, ◌*◌, ◌≤◌, drop, refl, arith, rules}
-use mathlib.Core.List.{foldl}
-use Rattle.targets.specs.Passes.{with_prior, notional}
+use Rattle.std.proofs.Common.{refl, arith, rules}
+use Rattle.targets.specs.Passes.{with_prior}
 use Rattle.targets.proofs.Loops.{turn, over}
 use Rattle.targets.proofs.passes.notional_of.Goals as goal
 

@@ -1,6 +1,5 @@
 -- `targets::passes::pass_of` meets its contract. Assumes nothing.
 use Rattle.targets.specs.Passes.{pass}
-use Rattle.std.proofs.Common.{rules}
 use Rattle.targets.proofs.passes.pass_of.Goals as goal
 
 pub returns-in-Again : goal.returns-in-Again

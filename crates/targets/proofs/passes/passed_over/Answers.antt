@@ -1,6 +1,6 @@
 -- `targets::passes::passed_over` meets its contract. Assumes nothing.
 use lib.Ieee.{of_bits}
-use Rattle.std.proofs.Common.{sym, ◌∙◌, rules}
+use Rattle.std.proofs.Common.{sym, ◌∙◌}
 use Rattle.targets.proofs.passes.passed_over.Goals as goal
 
 pub returns-then-some_outside : goal.returns-then-some_outside

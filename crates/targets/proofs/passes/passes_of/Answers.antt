@@ -1,7 +1,6 @@
 -- `targets::passes::passes_of` meets its contract. Assumes nothing.
 use native.Mathlib.Nat.{sub-zero}
-use Rattle.std.proofs.Common.{◌≡◌, ◌+◌, ◌-◌, ◌≤◌, arith, rules}
-use Rattle.targets.specs.Passes.{passes}
+use Rattle.std.proofs.Common.{◌+◌, arith, rules}
 use Rattle.targets.specs.Inside.{passed_of}
 use Rattle.targets.proofs.Loops.{more, no_more}
 use Rattle.targets.proofs.passes.passes_of.Goals as goal

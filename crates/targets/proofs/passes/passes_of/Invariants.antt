@@ -1,9 +1,7 @@
 -- `targets::passes::passes_of` meets its contract. Assumes nothing.
-use native.Mathlib.Nat.{sub-zero}
-use Rattle.std.proofs.Common.{◌≡◌, ◌+◌, ◌-◌, ◌≤◌, arith, rules}
+use Rattle.std.proofs.Common.{◌≡◌, ◌+◌, ◌-◌, ◌≤◌}
 use Rattle.targets.specs.Passes.{passes}
 use Rattle.targets.specs.Inside.{passed_of}
-use Rattle.targets.proofs.Loops.{more, no_more}
 use Rattle.targets.proofs.passes.passes_of.Given as goal
 
 abbrev pub invariant-loop-k : goal.invariant-loop-k

@@ -1,5 +1,5 @@
 -- `targets::passes::settled_standing` meets its contract. Assumes nothing.
-use Rattle.std.proofs.Common.{ap, ◌∙◌, rules}
+use Rattle.std.proofs.Common.{ap, ◌∙◌}
 use lib.Ieee.{of_bits}
 use Rattle.targets.specs.Passes.{settled, within}
 use Rattle.targets.proofs.Loops.{at_pin, at-kept}

@@ -1,5 +1,5 @@
 -- `targets::passes::settled_standings` meets its contract. Assumes nothing.
-use Rattle.std.proofs.Common.{◌≡◌, ◌-◌, ◌≤◌, false, ◌++◌, map, length, take, drop, refl, arith, length-set, rules}
+use Rattle.std.proofs.Common.{◌≡◌, false, refl, arith, length-set, rules}
 use Rattle.targets.specs.Passes.{outside, settle}
 use Rattle.targets.specs.declared.Standing.{Standing}
 use Rattle.targets.proofs.Loops.{copied, filled}

@@ -1,9 +1,6 @@
 -- `targets::passes::settled_standings` meets its contract. Assumes nothing.
-use Rattle.std.proofs.Common.{◌≡◌, ◌-◌, ◌≤◌, false, ◌++◌, map, length, take, drop, refl, arith, length-set, rules}
-use Rattle.targets.specs.Passes.{outside, settle}
-use Rattle.targets.specs.declared.Standing.{Standing}
-use Rattle.targets.proofs.Loops.{copied, filled}
-use Rattle.targets.proofs.Each.{each_at, none_each}
+use Rattle.std.proofs.Common.{◌≡◌, ◌-◌, ◌≤◌, ◌++◌, map, length, take, drop}
+use Rattle.targets.specs.Passes.{settle}
 use Rattle.targets.proofs.passes.settled_standings.Given as goal
 
 abbrev pub invariant-loop-i : goal.invariant-loop-i

@@ -1,8 +1,7 @@
 -- `targets::passes::share_sum` meets its contract. Assumes nothing.
-use Rattle.std.proofs.Common.{◌≡◌, ◌-◌, ◌≤◌, drop, refl, arith, rules}
+use Rattle.std.proofs.Common.{refl, arith, rules}
 use lib.Ieee.{of_bits}
-use mathlib.Core.List.{foldl}
-use Rattle.targets.specs.Passes.{with_share, share_sum}
+use Rattle.targets.specs.Passes.{with_share}
 use Rattle.targets.proofs.Loops.{turn, over}
 use Rattle.targets.proofs.passes.share_sum.Goals as goal
 

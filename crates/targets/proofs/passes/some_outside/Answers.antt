@@ -1,6 +1,6 @@
 -- `targets::passes::some_outside` meets its contract: what is left to look at says as much as the whole. Assumes nothing.
-use Rattle.std.proofs.Common.{◌≡◌, ◌-◌, ◌≤◌, drop, refl, arith, rules}
-use Rattle.targets.specs.Passes.{some, outside}
+use Rattle.std.proofs.Common.{refl, arith, rules}
+use Rattle.targets.specs.Passes.{outside}
 use Rattle.targets.proofs.Loops.{found, missed, nowhere}
 use Rattle.targets.proofs.passes.some_outside.Goals as goal
 

@@ -1,5 +1,5 @@
 -- `targets::passes::with_prior` meets its contract. Assumes nothing.
-use Rattle.std.proofs.Common.{refl, arith, rules}
+use Rattle.std.proofs.Common.{refl, arith}
 use Rattle.targets.proofs.passes.with_prior.Goals as goal
 
 pub returns : goal.returns

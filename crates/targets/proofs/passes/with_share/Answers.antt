@@ -1,5 +1,4 @@
 -- `targets::passes::with_share` meets its contract. Assumes nothing.
-use Rattle.std.proofs.Common.{rules}
 use Rattle.targets.proofs.passes.with_share.Goals as goal
 
 pub returns : goal.returns

@@ -1,5 +1,5 @@
 -- `targets::remainder::adjusted_of` meets its contract. Assumes nothing.
-use Rattle.std.proofs.Common.{ap, ◌∙◌, arith, to_z-of_z, w64, rules}
+use Rattle.std.proofs.Common.{ap, ◌∙◌, arith, to_z-of_z, w64}
 use borrow.Author.Rules.{sfits_of}
 use Rattle.targets.specs.declared.Best.{Best}
 use Rattle.targets.specs.declared.Standing.{Standing}

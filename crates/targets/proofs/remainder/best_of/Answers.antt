@@ -1,6 +1,5 @@
 -- `targets::remainder::best_of` meets its contract. Assumes nothing.
-use Rattle.std.proofs.Common.{◌≡◌, ◌-◌, ◌<◌, ◌≤◌, drop, refl, arith, rules}
-use mathlib.Core.List.{foldl}
+use Rattle.std.proofs.Common.{refl, arith, rules}
 use Rattle.targets.specs.Remainder.{better}
 use Rattle.targets.proofs.Loops.{turn, over}
 use Rattle.targets.proofs.remainder.best_of.Goals as goal

@@ -1,8 +1,7 @@
 -- `targets::remainder::best_of` meets its contract. Assumes nothing.
-use Rattle.std.proofs.Common.{◌≡◌, ◌-◌, ◌<◌, ◌≤◌, drop, refl, arith, rules}
+use Rattle.std.proofs.Common.{◌≡◌, ◌-◌, ◌<◌, ◌≤◌, drop}
 use mathlib.Core.List.{foldl}
 use Rattle.targets.specs.Remainder.{better}
-use Rattle.targets.proofs.Loops.{turn, over}
 use Rattle.targets.proofs.remainder.best_of.Given as goal
 
 abbrev pub invariant-loop-i : goal.invariant-loop-i

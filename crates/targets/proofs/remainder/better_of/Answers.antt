@@ -1,5 +1,5 @@
 -- `targets::remainder::better_of` meets its contract. Assumes nothing.
-use Rattle.std.proofs.Common.{refl, arith, rules, le-leb}
+use Rattle.std.proofs.Common.{refl, arith, le-leb}
 use borrow.Author.Tests.{lt-leb}
 use Rattle.targets.proofs.remainder.better_of.Goals as goal
 

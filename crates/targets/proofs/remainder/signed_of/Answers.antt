@@ -1,6 +1,6 @@
 -- `targets::remainder::signed_of` meets its contract. Assumes nothing.
 use borrow.Author.Rules.{sfits_of}
-use Rattle.std.proofs.Common.{◌≡◌, ◌-◌, ◌≤◌, ◌++◌, map, length, take, drop, refl, ◌∙◌, arith, length-set, to_z-of_z, w64, rules}
+use Rattle.std.proofs.Common.{refl, ◌∙◌, arith, length-set, to_z-of_z, w64, rules}
 use Rattle.targets.specs.Remainder.{target_of}
 use Rattle.targets.proofs.Loops.{copied, filled}
 use Rattle.targets.specs.Inside.{SmallTarget}

@@ -1,10 +1,6 @@
 -- `targets::remainder::signed_of` meets its contract. Assumes nothing.
-use borrow.Author.Rules.{sfits_of}
-use Rattle.std.proofs.Common.{◌≡◌, ◌-◌, ◌≤◌, ◌++◌, map, length, take, drop, refl, ◌∙◌, arith, length-set, to_z-of_z, rules}
+use Rattle.std.proofs.Common.{◌≡◌, ◌-◌, ◌≤◌, ◌++◌, map, length, take, drop}
 use Rattle.targets.specs.Remainder.{target_of}
-use Rattle.targets.proofs.Loops.{copied, filled}
-use Rattle.targets.specs.Inside.{SmallTarget}
-use Rattle.targets.proofs.Each.{each_at}
 use Rattle.targets.proofs.remainder.signed_of.Given as goal
 
 abbrev pub invariant-loop-i : goal.invariant-loop-i

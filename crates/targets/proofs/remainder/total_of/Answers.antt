@@ -1,7 +1,6 @@
 -- `targets::remainder::total_of` meets its contract. Assumes nothing.
-use Rattle.std.proofs.Common.{◌≡◌, ◌-◌, ◌*◌, ◌≤◌, drop, refl, arith, rules}
-use mathlib.Core.List.{foldl}
-use Rattle.targets.specs.Remainder.{with_target, total_of}
+use Rattle.std.proofs.Common.{refl, arith, rules}
+use Rattle.targets.specs.Remainder.{with_target}
 use Rattle.targets.proofs.Loops.{turn, over}
 use Rattle.targets.specs.Inside.{SmallTarget}
 use Rattle.targets.proofs.Each.{each_at}

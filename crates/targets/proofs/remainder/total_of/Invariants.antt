@@ -1,10 +1,7 @@
 -- `targets::remainder::total_of` meets its contract. Assumes nothing.
-use Rattle.std.proofs.Common.{◌≡◌, ◌-◌, ◌*◌, ◌≤◌, drop, refl, arith, rules}
+use Rattle.std.proofs.Common.{◌≡◌, ◌-◌, ◌*◌, ◌≤◌, drop}
 use mathlib.Core.List.{foldl}
 use Rattle.targets.specs.Remainder.{with_target, total_of}
-use Rattle.targets.proofs.Loops.{turn, over}
-use Rattle.targets.specs.Inside.{SmallTarget}
-use Rattle.targets.proofs.Each.{each_at}
 use Rattle.targets.proofs.remainder.total_of.Given as goal
 
 abbrev pub invariant-loop-i : goal.invariant-loop-i

@@ -1,5 +1,5 @@
 -- `targets::remainder::with_rest` meets its contract. Assumes nothing.
-use Rattle.std.proofs.Common.{◌+◌, pos, neg_ℤ, ◌∙◌, arith, rules}
+use Rattle.std.proofs.Common.{◌+◌, pos, neg_ℤ, ◌∙◌, arith}
 use lib.IntN.{+ℤ_assoc}
 use Rattle.targets.proofs.Signed.{rest-fits, rest-is}
 use Rattle.targets.proofs.remainder.with_rest.Goals as goal

@@ -1,6 +1,6 @@
 -- `targets::rounding::nearest` meets its contract. Assumes nothing.
 use Rattle.std.proofs.Common.{ℕ, ◌+◌, ◌/◌, ap, ◌∙◌, arith}
-use Rattle.targets.proofs.Nearest.{Nearest, nearest-of, held}
+use Rattle.targets.proofs.Nearest.{nearest-of, held}
 use Rattle.targets.proofs.rounding.nearest.Goals as goal
 
 pub truncating_f64_to_u64-requires : goal.truncating_f64_to_u64-requires

@@ -1,5 +1,5 @@
 -- `targets::spread::handed_out` meets its contract. Assumes nothing.
-use Rattle.std.proofs.Common.{arith, rules}
+use Rattle.std.proofs.Common.{arith}
 use Rattle.targets.proofs.SpreadLaws.{handed-given, handed-taken, taken-small, shown-unpinned, shown-small}
 use Rattle.targets.proofs.spread.handed_out.Goals as goal
 

@@ -1,5 +1,5 @@
 -- `targets::spread::mirrored_standings` meets its contract. Assumes nothing.
-use Rattle.std.proofs.Common.{◌≡◌, ◌-◌, ◌≤◌, ◌++◌, map, length, take, drop, refl, arith, length-set, rules}
+use Rattle.std.proofs.Common.{refl, arith, length-set, rules}
 use Rattle.targets.specs.Inside.{SmallTarget, mirrored}
 use Rattle.targets.proofs.Loops.{copied, filled}
 use Rattle.targets.proofs.Each.{each_at}

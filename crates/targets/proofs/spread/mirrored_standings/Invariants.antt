@@ -1,8 +1,6 @@
 -- `targets::spread::mirrored_standings` meets its contract. Assumes nothing.
-use Rattle.std.proofs.Common.{◌≡◌, ◌-◌, ◌≤◌, ◌++◌, map, length, take, drop, refl, arith, length-set, rules}
-use Rattle.targets.specs.Inside.{SmallTarget, mirrored}
-use Rattle.targets.proofs.Loops.{copied, filled}
-use Rattle.targets.proofs.Each.{each_at}
+use Rattle.std.proofs.Common.{◌≡◌, ◌-◌, ◌≤◌, ◌++◌, map, length, take, drop}
+use Rattle.targets.specs.Inside.{mirrored}
 use Rattle.targets.proofs.spread.mirrored_standings.Given as goal
 
 abbrev pub invariant-loop-i : goal.invariant-loop-i

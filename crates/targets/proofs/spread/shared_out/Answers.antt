@@ -1,6 +1,5 @@
 -- `targets::spread::shared_out` meets its contract. Assumes nothing.
 use Rattle.targets.proofs.SpreadLaws.{shared_second, shared-first}
-use Rattle.std.proofs.Common.{rules}
 use Rattle.targets.proofs.spread.shared_out.Goals as goal
 
 pub returns-then-edition-eq1 : goal.returns-then-edition-eq1

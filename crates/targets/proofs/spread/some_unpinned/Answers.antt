@@ -1,6 +1,5 @@
 -- `targets::spread::some_unpinned` meets its contract. Assumes nothing.
-use Rattle.std.proofs.Common.{◌≡◌, ◌-◌, ◌≤◌, drop, refl, arith, rules}
-use Rattle.targets.specs.Passes.{some}
+use Rattle.std.proofs.Common.{refl, arith, rules}
 use Rattle.targets.specs.SecondEdition.{unpinned}
 use Rattle.targets.proofs.Loops.{found, missed, nowhere}
 use Rattle.targets.proofs.spread.some_unpinned.Goals as goal

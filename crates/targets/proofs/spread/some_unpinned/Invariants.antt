@@ -1,8 +1,7 @@
 -- `targets::spread::some_unpinned` meets its contract. Assumes nothing.
-use Rattle.std.proofs.Common.{◌≡◌, ◌-◌, ◌≤◌, drop, refl, arith, rules}
+use Rattle.std.proofs.Common.{◌≡◌, ◌-◌, ◌≤◌, drop}
 use Rattle.targets.specs.Passes.{some}
 use Rattle.targets.specs.SecondEdition.{unpinned}
-use Rattle.targets.proofs.Loops.{found, missed, nowhere}
 use Rattle.targets.proofs.spread.some_unpinned.Given as goal
 
 abbrev pub invariant-loop-i : goal.invariant-loop-i

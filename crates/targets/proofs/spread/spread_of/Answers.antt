@@ -1,5 +1,5 @@
 -- `targets::spread::spread_of` meets its contract. Assumes nothing.
-use Rattle.std.proofs.Common.{◌≡◌, ◌≤◌, map, length, ap, ◌∙◌, arith, rules}
+use Rattle.std.proofs.Common.{◌≡◌, map, length, ap, ◌∙◌, arith, rules}
 use Rattle.targets.specs.Remainder.{target_of}
 use Rattle.targets.specs.SecondEdition.{handed_out}
 use Rattle.targets.proofs.SpreadLaws.{part-ready, after_small}

@@ -1,6 +1,5 @@
 -- `targets::spread::taking_part` meets its contract. Assumes nothing.
 use Rattle.targets.proofs.SpreadLaws.{first_some, first-none}
-use Rattle.std.proofs.Common.{rules}
 use Rattle.targets.proofs.spread.taking_part.Goals as goal
 
 pub returns-then-some_unpinned : goal.returns-then-some_unpinned

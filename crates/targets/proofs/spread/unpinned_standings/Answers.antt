@@ -1,5 +1,5 @@
 -- `targets::spread::unpinned_standings` meets its contract. Assumes nothing.
-use Rattle.std.proofs.Common.{◌≡◌, ◌-◌, ◌≤◌, ◌++◌, map, length, take, drop, sym, refl, ◌∙◌, arith, length-set, rules}
+use Rattle.std.proofs.Common.{◌≡◌, map, sym, refl, ◌∙◌, arith, length-set, rules}
 use lib.ListN.{length-map, get_or-map}
 use Rattle.targets.specs.SecondEdition.{unpin}
 use Rattle.targets.proofs.Loops.{put}

@@ -1,8 +1,6 @@
 -- `targets::spread::unpinned_standings` meets its contract. Assumes nothing.
-use Rattle.std.proofs.Common.{◌≡◌, ◌-◌, ◌≤◌, ◌++◌, map, length, take, drop, sym, refl, ◌∙◌, arith, length-set, rules}
-use lib.ListN.{length-map, get_or-map}
+use Rattle.std.proofs.Common.{◌≡◌, ◌-◌, ◌≤◌, ◌++◌, map, length, take, drop}
 use Rattle.targets.specs.SecondEdition.{unpin}
-use Rattle.targets.proofs.Loops.{put}
 use Rattle.targets.proofs.spread.unpinned_standings.Given as goal
 
 abbrev pub invariant-loop-i : goal.invariant-loop-i

@@ -1,5 +1,5 @@
 -- `targets::standings::available_minutes` meets its contract: the total is that of the slots passed. Assumes nothing.
-use Rattle.std.proofs.Common.{◌≡◌, ℕ, ◌+◌, ◌-◌, ◌≤◌, sym, ◌∙◌, ap₂, arith, rules}
+use Rattle.std.proofs.Common.{◌≡◌, ℕ, ◌+◌, ◌≤◌, sym, ◌∙◌, ap₂, arith, rules}
 use Rattle.paper.specs.Count.{sum}
 use Rattle.paper.proofs.Count.{sum-none, sum_more, sum_done}
 use Rattle.targets.specs.Figures.{minutes_if_available, available_minutes}

@@ -1,5 +1,5 @@
 -- `targets::standings::base_of` meets its contract. Assumes nothing.
-use Rattle.std.proofs.Common.{rules, eq-eqb, ne_eqb}
+use Rattle.std.proofs.Common.{eq-eqb, ne_eqb}
 use Rattle.targets.proofs.standings.base_of.Goals as goal
 
 pub returns-then-fairness-eq1 : goal.returns-then-fairness-eq1

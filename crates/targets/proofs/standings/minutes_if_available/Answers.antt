@@ -1,5 +1,4 @@
 -- `targets::standings::minutes_if_available` meets its contract. Assumes nothing.
-use Rattle.std.proofs.Common.{rules}
 use Rattle.targets.proofs.Minutes.{answered-yes, yes-no-refused, answered-refused}
 use Rattle.targets.proofs.standings.minutes_if_available.Goals as goal
 

@@ -1,9 +1,9 @@
 -- `targets::standings::standings_of` meets its contract: the standings of the people passed stand in front, and the rest takes no part.
 -- Assumes nothing.
-use Rattle.std.proofs.Common.{◌≡◌, ℕ, ◌-◌, ◌≤◌, cond, eqb, ◌++◌, replicate, refl, ap, ◌∙◌, arith, rules}
+use Rattle.std.proofs.Common.{◌≡◌, ℕ, cond, eqb, refl, ap, ◌∙◌, arith, rules}
 use lib.Ieee.{of_bits}
-use Rattle.targets.specs.Figures.{person_at, standing_of, up_to, pad, available_minutes}
-use Rattle.targets.specs.Outcome.{Given, given, standing_in}
+use Rattle.targets.specs.Figures.{person_at, standing_of, pad, available_minutes}
+use Rattle.targets.specs.Outcome.{given, standing_in}
 use Rattle.targets.proofs.Loops.{fill}
 use Rattle.targets.proofs.standings.standings_of.Goals as goal
 

@@ -5,7 +5,6 @@ use Rattle.units.specs.Dates.{weekday_of, listed}
 use lib.Dec.{eqb}
 use Prim.Native.Nat.{ℕ, ◌/◌, ◌%◌, ◌^◌}
 use Rattle.paper.specs.Bits.{bit_of}
-use borrow.Author.Rules.{rules}
 use Rattle.units.proofs.dates.listed.Goals as goal
 
 pub overflow_cast-result : goal.overflow_cast-result

@@ -1,7 +1,6 @@
 -- `units::dates::weekday_of` meets its contract. Assumes nothing.
 use native.Mathlib.Omega.{arith}
 use Rattle.units.specs.Dates.{weekday_of}
-use borrow.Author.Rules.{rules}
 use Rattle.units.proofs.dates.weekday_of.Goals as goal
 
 pub returns : goal.returns

@@ -1,9 +1,8 @@
 -- `units::days::count_dates` meets its contract. Assumes nothing.
 use mathlib.Core.Path.{ap, ◌∙◌}
-use Prim.Native.Nat.{◌-◌, max}
+use Prim.Native.Nat.{max}
 use native.Mathlib.Omega.{arith}
-use borrow.Author.Rules.{rules}
-use Rattle.units.proofs.Covered.{Counted, counted_none, turn-fits, counted-more, counted-end, end_fits, next-is}
+use Rattle.units.proofs.Covered.{counted_none, turn-fits, counted-more, counted-end, end_fits, next-is}
 use Rattle.units.proofs.days.count_dates.Goals as goal
 
 pub loop-k-init : goal.loop-k-init

@@ -4,7 +4,6 @@ use Rattle.units.specs.Days.{covered_days_is}
 use Rattle.units.proofs.Covered.{lent-say}
 use Rattle.slotset.proofs.Refusals.{number_is, number-refused}
 use Rattle.paper.proofs.Rows.{said}
-use borrow.Author.Rules.{rules}
 use Rattle.units.proofs.days.covered_days.Goals as goal
 
 pub count_dates-requires : goal.count_dates-requires

@@ -1,6 +1,5 @@
 -- `units::days::day_minutes` meets its contract. Assumes nothing.
 use Rattle.units.proofs.Covered.{day-divides, day-least, day-more}
-use borrow.Author.Rules.{rules}
 use Rattle.units.proofs.days.day_minutes.Goals as goal
 
 pub nonzero_div-minutes : goal.nonzero_div-minutes

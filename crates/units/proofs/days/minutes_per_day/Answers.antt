@@ -4,7 +4,6 @@ use Rattle.units.specs.Days.{minutes_per_day_is}
 use Rattle.slots.proofs.LentLaws.{minutes-is, minutes-refusal}
 use Rattle.units.proofs.Covered.{lent-say}
 use Rattle.paper.proofs.Rows.{said}
-use borrow.Author.Rules.{rules}
 use Rattle.units.proofs.days.minutes_per_day.Goals as goal
 
 pub day_minutes-requires : goal.day_minutes-requires

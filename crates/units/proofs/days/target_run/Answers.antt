@@ -4,7 +4,6 @@ use Rattle.units.specs.Days.{target_run_is}
 use Rattle.slots.proofs.LentLaws.{minutes-is, minutes-refusal}
 use Rattle.units.proofs.Covered.{target-says}
 use Rattle.paper.proofs.Rows.{said}
-use borrow.Author.Rules.{rules}
 use Rattle.units.proofs.days.target_run.Goals as goal
 
 pub run_minutes-requires : goal.run_minutes-requires

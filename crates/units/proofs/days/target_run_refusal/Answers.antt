@@ -2,7 +2,6 @@
 use mathlib.Core.Path.{refl}
 use Rattle.paper.proofs.Rows.{link, ends, checked}
 use Rattle.units.specs.Days.{target_run_row}
-use borrow.Author.Rules.{rules}
 use Rattle.units.proofs.days.target_run_refusal.Goals as goal
 
 pub returns : goal.returns

@@ -1,7 +1,6 @@
 -- `units::domains::able` meets its contract. Assumes nothing.
 use mathlib.Core.Path.{ap, ◌∙◌}
 use native.Mathlib.Omega.{arith}
-use borrow.Author.Rules.{rules}
 use Rattle.units.specs.Inside.{is_nothing}
 use Rattle.units.proofs.Sets.{able-below-law, able-after-law}
 use Rattle.units.proofs.domains.able.Goals as goal

@@ -1,6 +1,5 @@
 -- `units::domains::clear` meets its contract. Assumes nothing.
 use mathlib.Core.Path.{ap, ◌∙◌}
-use borrow.Author.Rules.{rules}
 use Rattle.units.specs.Inside.{is_nothing}
 use Rattle.units.proofs.Sets.{clear-law}
 use Rattle.units.proofs.domains.clear.Goals as goal

@@ -5,7 +5,6 @@ use Rattle.units.proofs.Sets.{slot-domain-same, slot-domain-says}
 use native.Mathlib.Omega.{arith}
 use Rattle.units.proofs.Answers.{written-answered, written-refused}
 use Rattle.paper.proofs.Rows.{said}
-use borrow.Author.Rules.{rules}
 use Rattle.units.proofs.domains.slot_domain.Goals as goal
 
 pub overflow_add-slot : goal.overflow_add-slot

@@ -2,7 +2,6 @@
 use mathlib.Core.Path.{refl}
 use Rattle.paper.proofs.Rows.{link, ends, checked}
 use Rattle.units.specs.Domains.{slot_domain_row}
-use borrow.Author.Rules.{rules}
 use Rattle.units.proofs.domains.slot_domain_refusal.Goals as goal
 
 pub returns : goal.returns

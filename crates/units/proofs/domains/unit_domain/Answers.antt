@@ -4,7 +4,6 @@ use Rattle.units.specs.Domains.{unit_domain_is}
 use Rattle.units.proofs.Sets.{unit-domain-says, domain-at}
 use Rattle.units.proofs.Answers.{written-answered, written-refused}
 use Rattle.paper.proofs.Rows.{said}
-use borrow.Author.Rules.{rules}
 use Rattle.units.proofs.domains.unit_domain.Goals as goal
 
 pub write_domain-requires : goal.write_domain-requires

@@ -7,7 +7,6 @@ use mathlib.Core.Bool.{true, false, not}
 use Rattle.slotset.specs.Answers.{yes_no_as}
 use Rattle.slotset.proofs.Refusals.{yes-no-is, yes-no-refused}
 use Rattle.paper.proofs.Rows.{said}
-use borrow.Author.Rules.{rules}
 use Rattle.paper.specs.Rows.{unless}
 use Rattle.units.proofs.domains.unit_frozen.Goals as goal
 

@@ -1,13 +1,10 @@
 -- `units::domains::write_domain` meets its contract. Assumes nothing.
 use mathlib.Core.Path.{sym, ◌∙◌}
-use Rattle.units.specs.Domains.{able, domain}
+use Rattle.units.specs.Domains.{domain}
 use Rattle.units.proofs.Sets.{able-known}
 use native.Mathlib.Omega.{arith}
-use borrow.Author.Rules.{rules}
-use Prim.Native.Nat.{◌-◌}
 use Rattle.paper.proofs.Logic.{people-says}
-use Rattle.units.specs.Inside.{DomainRoom}
-use Rattle.units.proofs.Collect.{Collecting, collect-none, collect-few, collect-length}
+use Rattle.units.proofs.Collect.{collect-none, collect-few, collect-length}
 use Rattle.units.proofs.Collect.{collect-room, collect-in, collect-out, collect-end}
 use Rattle.units.proofs.domains.write_domain.Goals as goal
 

@@ -1,14 +1,8 @@
 -- `units::domains::write_domain` meets its contract. Assumes nothing.
-use mathlib.Core.Path.{sym, ◌∙◌}
-use Rattle.units.specs.Domains.{able, domain}
-use Rattle.units.proofs.Sets.{able-known}
-use native.Mathlib.Omega.{arith}
-use borrow.Author.Rules.{rules}
+use Rattle.units.specs.Domains.{able}
 use Prim.Native.Nat.{◌-◌}
-use Rattle.paper.proofs.Logic.{people-says}
 use Rattle.units.specs.Inside.{DomainRoom}
-use Rattle.units.proofs.Collect.{Collecting, collect-none, collect-few, collect-length}
-use Rattle.units.proofs.Collect.{collect-room, collect-in, collect-out, collect-end}
+use Rattle.units.proofs.Collect.{Collecting}
 use Rattle.units.proofs.domains.write_domain.Given as goal
 
 abbrev pub invariant-loop-p : goal.invariant-loop-p

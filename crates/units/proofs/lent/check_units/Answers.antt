@@ -1,6 +1,5 @@
 -- `units::lent::check_units` meets its contract. Assumes nothing.
 use Rattle.paper.proofs.Rows.{renamed, skipped}
-use borrow.Author.Rules.{rules}
 use Rattle.units.proofs.lent.check_units.Goals as goal
 
 pub returns-then-before-eq0 : goal.returns-then-before-eq0

@@ -1,7 +1,6 @@
 -- `units::lent::start_ok` meets its contract. Assumes nothing.
 use mathlib.Core.Path.{sym}
 use native.Mathlib.Omega.{arith}
-use borrow.Author.Rules.{rules}
 use Rattle.units.proofs.Units.{rises-first, rises-later, start-past, start-within}
 use Rattle.units.proofs.lent.start_ok.Goals as goal
 

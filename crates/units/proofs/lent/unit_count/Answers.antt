@@ -3,7 +3,6 @@ use mathlib.Core.Path.{refl}
 use Rattle.units.specs.Answers.{unit_count_is}
 use Rattle.slotset.proofs.Refusals.{number_is, number-refused}
 use Rattle.paper.proofs.Rows.{said}
-use borrow.Author.Rules.{rules}
 use Rattle.units.proofs.lent.unit_count.Goals as goal
 
 pub returns-then-n-eq0 : goal.returns-then-n-eq0

@@ -3,7 +3,6 @@ use native.Mathlib.Omega.{arith}
 use borrow.Author.Tests.{lt-ltb, le-ltb}
 use Rattle.units.specs.Units.{unit_end}
 use Prim.Native.Nat.{◌+◌, ◌≤◌}
-use borrow.Author.Rules.{rules}
 use Rattle.units.proofs.lent.unit_end.Goals as goal
 
 pub returns-then-next-units : goal.returns-then-next-units

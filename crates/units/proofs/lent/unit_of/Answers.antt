@@ -1,8 +1,6 @@
 -- `units::lent::unit_of` meets its contract. Assumes nothing.
 use native.Mathlib.Omega.{arith}
-use mathlib.Core.Path.{◌≡◌, refl, sym, ◌∙◌}
-use Rattle.units.specs.Units.{unit_of}
-use borrow.Author.Rules.{rules}
+use mathlib.Core.Path.{refl, sym, ◌∙◌}
 use Rattle.units.proofs.Units.{of-here, of-before, of_none}
 use Rattle.units.proofs.lent.unit_of.Goals as goal
 

@@ -1,9 +1,6 @@
 -- `units::lent::unit_of` meets its contract. Assumes nothing.
-use native.Mathlib.Omega.{arith}
-use mathlib.Core.Path.{◌≡◌, refl, sym, ◌∙◌}
+use mathlib.Core.Path.{◌≡◌}
 use Rattle.units.specs.Units.{unit_of}
-use borrow.Author.Rules.{rules}
-use Rattle.units.proofs.Units.{of-here, of-before, of_none}
 use Rattle.units.proofs.lent.unit_of.Given as goal
 
 abbrev pub invariant-loop-n : goal.invariant-loop-n

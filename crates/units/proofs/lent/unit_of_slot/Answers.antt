@@ -3,7 +3,6 @@ use mathlib.Core.Path.{refl}
 use Rattle.paper.proofs.Rows.{link, ends, checked-more, said}
 use Rattle.units.specs.Answers.{units_row, unit_of_slot_row, unit_of_slot_is}
 use Rattle.slotset.proofs.Refusals.{number_is, number-refused}
-use borrow.Author.Rules.{rules}
 use Rattle.units.proofs.lent.unit_of_slot.Goals as goal
 
 pub returns-then-n-eq0 : goal.returns-then-n-eq0

@@ -3,7 +3,6 @@ use mathlib.Core.Path.{refl}
 use Rattle.paper.proofs.Rows.{link, ends, checked-more, said}
 use Rattle.units.specs.Answers.{units_row, unit_slots_row, unit_slots_is}
 use Rattle.units.proofs.Answers.{span-answered, span-refused}
-use borrow.Author.Rules.{rules}
 use Rattle.units.proofs.lent.unit_slots.Goals as goal
 
 pub returns-then-n-eq0 : goal.returns-then-n-eq0

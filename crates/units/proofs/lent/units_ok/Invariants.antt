@@ -1,14 +1,10 @@
 -- `units::lent::units_ok` meets its contract. Assumes nothing.
-use mathlib.Core.Path.{◌≡◌, sym, ◌∙◌}
+use mathlib.Core.Path.{◌≡◌}
 use mathlib.Core.Bool.{true}
 use Prim.Native.Nat.{◌≤◌, ◌-◌}
-use native.Mathlib.Omega.{arith}
-use borrow.Author.Rules.{rules}
-use borrow.Author.Tests.{lt-leb, le-leb}
 use lib.ListN.{length}
 use Rattle.paper.specs.Count.{all}
-use Rattle.paper.proofs.Count.{all_none, all_more, all-fails, all_done}
-use Rattle.units.specs.Units.{start_ok, units_ok}
+use Rattle.units.specs.Units.{start_ok}
 use Rattle.units.proofs.lent.units_ok.Given as goal
 
 abbrev pub invariant-loop-u : goal.invariant-loop-u

@@ -1,15 +1,9 @@
 -- `units::masks::fill_masks` meets its contract. Assumes nothing.
-use mathlib.Core.Path.{◌≡◌, sym, ap, ap₂, ◌∙◌}
-use mathlib.Core.List.{List}
+use mathlib.Core.Path.{◌≡◌}
 use mathlib.Core.Bool.{true}
-use Prim.Native.Nat.{ℕ, ◌-◌, ◌≤◌}
-use native.Mathlib.Omega.{arith}
-use borrow.Author.Rules.{rules}
-use lib.ListN.{length, set}
+use Prim.Native.Nat.{◌-◌, ◌≤◌}
 use Rattle.paper.specs.Count.{over}
-use Rattle.paper.proofs.Count.{length_over, over_none, over-more}
 use Rattle.units.specs.Domains.{mask_of}
-use Rattle.units.proofs.MaskBits.{everybody-mask}
 use Rattle.units.proofs.masks.fill_masks.Given as goal
 
 abbrev pub invariant-loop-u : goal.invariant-loop-u

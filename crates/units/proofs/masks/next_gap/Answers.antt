@@ -1,6 +1,5 @@
 -- `units::masks::next_gap` meets its contract. Assumes nothing.
 use mathlib.Core.Path.{sym, ap, ◌∙◌}
-use borrow.Author.Rules.{rules}
 use Rattle.units.specs.Inside.{is_yes}
 use Rattle.units.proofs.Sets.{gap_here, gap-after}
 use Rattle.units.proofs.masks.next_gap.Goals as goal

@@ -1,5 +1,4 @@
 -- `units::masks::next_had` meets its contract. Assumes nothing.
-use borrow.Author.Rules.{rules}
 use Rattle.units.proofs.Sets.{had-law}
 use Rattle.units.proofs.masks.next_had.Goals as goal
 

@@ -1,12 +1,9 @@
 -- `units::masks::strike` meets its contract. Assumes nothing.
-use mathlib.Core.Path.{◌≡◌, ap, ◌∙◌}
-use Prim.Native.Nat.{◌-◌, ◌≤◌}
+use mathlib.Core.Path.{ap, ◌∙◌}
 use native.Mathlib.Omega.{arith}
 use lib.ListN.{length}
-use Rattle.paper.specs.Count.{over}
 use Rattle.paper.proofs.Count.{length_over}
 use Rattle.paper.proofs.Logic.{people-says}
-use Rattle.units.specs.Inside.{mask_then}
 use Rattle.units.proofs.Units.{units-room, unit-within}
 use Rattle.slotset.proofs.Refusals.{says_row}
 use Rattle.units.proofs.MaskBits.{one_bit}

@@ -1,7 +1,6 @@
 -- `units::masks::unit_domains` meets its contract. Assumes nothing.
 use mathlib.Core.Path.{sym, ◌∙◌}
 use Rattle.paper.proofs.Rows.{said}
-use borrow.Author.Rules.{rules}
 use Rattle.units.proofs.Sets.{unit-domains-say, domains-answered, domains-refused}
 use Rattle.units.proofs.masks.unit_domains.Goals as goal
 

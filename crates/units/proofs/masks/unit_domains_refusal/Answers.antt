@@ -2,7 +2,6 @@
 use mathlib.Core.Path.{refl}
 use Rattle.paper.proofs.Rows.{link, ends, checked}
 use Rattle.units.specs.Domains.{unit_domains_row}
-use borrow.Author.Rules.{rules}
 use Rattle.units.proofs.masks.unit_domains_refusal.Goals as goal
 
 pub returns : goal.returns

@@ -1,7 +1,6 @@
 -- `units::masks::unit_from` meets its contract. Assumes nothing.
-use Prim.Native.Nat.{◌+◌, ◌-◌, ◌≤◌, ◌<◌}
+use Prim.Native.Nat.{◌+◌}
 use native.Mathlib.Omega.{arith}
-use Rattle.units.specs.Units.{unit_start}
 use Rattle.units.proofs.Units.{units-room, ends_next, ends_last}
 use Rattle.units.proofs.masks.unit_from.Goals as goal
 

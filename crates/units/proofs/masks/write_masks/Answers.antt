@@ -1,12 +1,9 @@
 -- `units::masks::write_masks` meets its contract. Assumes nothing.
-use mathlib.Core.Path.{◌≡◌, ap, ◌∙◌, refl}
-use Prim.Native.Nat.{◌-◌, ◌≤◌}
+use mathlib.Core.Path.{ap, ◌∙◌, refl}
 use native.Mathlib.Omega.{arith}
 use lib.ListN.{length}
-use Rattle.paper.specs.Count.{over}
 use Rattle.paper.proofs.Count.{length_over}
 use Rattle.paper.proofs.Logic.{people-says}
-use Rattle.units.specs.Inside.{mask_then}
 use Rattle.units.proofs.Striking.{strikes-begin, strikes-end, strikes-held, strikes-again, room-kept}
 use Rattle.units.proofs.masks.write_masks.Goals as goal
 

@@ -1,13 +1,8 @@
 -- `units::masks::write_masks` meets its contract. Assumes nothing.
-use mathlib.Core.Path.{◌≡◌, ap, ◌∙◌, refl}
+use mathlib.Core.Path.{◌≡◌}
 use Prim.Native.Nat.{◌-◌, ◌≤◌}
-use native.Mathlib.Omega.{arith}
-use lib.ListN.{length}
 use Rattle.paper.specs.Count.{over}
-use Rattle.paper.proofs.Count.{length_over}
-use Rattle.paper.proofs.Logic.{people-says}
 use Rattle.units.specs.Inside.{mask_then}
-use Rattle.units.proofs.Striking.{strikes-begin, strikes-end, strikes-held, strikes-again, room-kept}
 use Rattle.units.proofs.masks.write_masks.Given as goal
 
 abbrev pub invariant-loop-p : goal.invariant-loop-p

@@ -1,6 +1,5 @@
 -- `units::refuse::check_settings` meets its contract. Assumes nothing.
 use Rattle.paper.proofs.Rows.{renamed}
-use borrow.Author.Rules.{rules}
 use Rattle.units.proofs.refuse.check_settings.Goals as goal
 
 pub returns : goal.returns

@@ -1,7 +1,6 @@
 -- `units::refuse::settings_ok` meets its contract. Assumes nothing.
 use borrow.Author.Tests.{le-leb, lt-leb}
 use Rattle.units.specs.Settings.{settings_ok}
-use borrow.Author.Rules.{rules}
 use Rattle.units.proofs.refuse.settings_ok.Goals as goal
 
 pub returns-then-s-gt1 : goal.returns-then-s-gt1

@@ -4,7 +4,6 @@ use Rattle.units.specs.Achievable.{achievable_run_is}
 use Rattle.units.proofs.Reach.{run-says, target-some, reach-at}
 use Rattle.slots.proofs.LentLaws.{minutes-is, minutes-refusal}
 use Rattle.paper.proofs.Rows.{said}
-use borrow.Author.Rules.{rules}
 use Rattle.units.proofs.runs.achievable_run.Goals as goal
 
 pub run_minutes-target-requires : goal.run_minutes-target-requires

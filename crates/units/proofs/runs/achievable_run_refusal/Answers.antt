@@ -2,7 +2,6 @@
 use mathlib.Core.Path.{refl}
 use Rattle.paper.proofs.Rows.{link, ends, checked}
 use Rattle.units.specs.Achievable.{achievable_run_row}
-use borrow.Author.Rules.{rules}
 use Rattle.units.proofs.runs.achievable_run_refusal.Goals as goal
 
 pub returns : goal.returns

@@ -1,7 +1,6 @@
 -- `units::runs::achievable_runs` meets its contract. Assumes nothing.
 use mathlib.Core.Path.{sym, ◌∙◌}
 use Rattle.paper.proofs.Rows.{said}
-use borrow.Author.Rules.{rules}
 use Rattle.units.proofs.Reach.{runs-say, target-some, runs-answered, runs-refused}
 use Rattle.units.proofs.runs.achievable_runs.Goals as goal
 

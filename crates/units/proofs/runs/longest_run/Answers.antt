@@ -1,12 +1,8 @@
 -- `units::runs::longest_run` meets its contract. Assumes nothing.
 use native.Mathlib.Omega.{arith}
-use Prim.Native.Nat.{◌-◌}
-use borrow.Author.Rules.{rules}
-use Rattle.slots.specs.Lent.{minutes_at}
 use Rattle.slotset.proofs.Refusals.{says_row}
-use Rattle.units.specs.Domains.{available}
 use Rattle.units.specs.Achievable.{longest_run}
-use Rattle.units.proofs.Reach.{Passing, pass-none, pass-more, pass-reached, pass-end, gets-on}
+use Rattle.units.proofs.Reach.{pass-none, pass-more, pass-reached, pass-end, gets-on}
 use Rattle.units.proofs.runs.longest_run.Goals as goal
 
 pub loop-at-init : goal.loop-at-init

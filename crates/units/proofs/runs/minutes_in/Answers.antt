@@ -1,8 +1,6 @@
 -- `units::runs::minutes_in` meets its contract. Assumes nothing.
-use mathlib.Core.Path.{◌≡◌, refl, sym}
-use Prim.Native.Nat.{◌-◌, ◌≤◌}
+use mathlib.Core.Path.{refl, sym}
 use native.Mathlib.Omega.{arith}
-use Rattle.paper.specs.Count.{sum_in}
 use Rattle.paper.proofs.Count.{sum-in-none}
 use Rattle.slots.specs.Lent.{minutes_at}
 use Rattle.slots.proofs.LentLaws.{slots-sound}

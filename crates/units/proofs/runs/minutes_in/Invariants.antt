@@ -1,12 +1,8 @@
 -- `units::runs::minutes_in` meets its contract. Assumes nothing.
-use mathlib.Core.Path.{◌≡◌, refl, sym}
+use mathlib.Core.Path.{◌≡◌}
 use Prim.Native.Nat.{◌-◌, ◌≤◌}
-use native.Mathlib.Omega.{arith}
 use Rattle.paper.specs.Count.{sum_in}
-use Rattle.paper.proofs.Count.{sum-in-none}
 use Rattle.slots.specs.Lent.{minutes_at}
-use Rattle.slots.proofs.LentLaws.{slots-sound}
-use Rattle.units.proofs.Reach.{part-fits, part-more, part-more-fits, part-done}
 use Rattle.units.proofs.runs.minutes_in.Given as goal
 
 abbrev pub invariant-loop-k : goal.invariant-loop-k

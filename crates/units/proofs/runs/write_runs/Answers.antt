@@ -1,11 +1,7 @@
 -- `units::runs::write_runs` meets its contract. Assumes nothing.
-use mathlib.Core.Path.{◌≡◌, sym}
-use Prim.Native.Nat.{◌-◌, ◌≤◌}
+use mathlib.Core.Path.{sym}
 use native.Mathlib.Omega.{arith}
-use borrow.Author.Rules.{rules}
-use Rattle.paper.specs.Count.{over}
 use Rattle.paper.proofs.Count.{over_none}
-use Rattle.units.specs.Achievable.{achievable, longest_run}
 use Rattle.units.proofs.Reach.{written-long, written-more, written-done}
 use Rattle.units.proofs.runs.write_runs.Goals as goal
 

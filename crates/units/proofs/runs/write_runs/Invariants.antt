@@ -1,12 +1,8 @@
 -- `units::runs::write_runs` meets its contract. Assumes nothing.
-use mathlib.Core.Path.{◌≡◌, sym}
+use mathlib.Core.Path.{◌≡◌}
 use Prim.Native.Nat.{◌-◌, ◌≤◌}
-use native.Mathlib.Omega.{arith}
-use borrow.Author.Rules.{rules}
 use Rattle.paper.specs.Count.{over}
-use Rattle.paper.proofs.Count.{over_none}
 use Rattle.units.specs.Achievable.{achievable, longest_run}
-use Rattle.units.proofs.Reach.{written-long, written-more, written-done}
 use Rattle.units.proofs.runs.write_runs.Given as goal
 
 abbrev pub invariant-loop-p : goal.invariant-loop-p

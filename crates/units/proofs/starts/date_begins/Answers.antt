@@ -1,7 +1,6 @@
 -- `units::starts::date_begins` meets its contract. Assumes nothing.
 use mathlib.Core.Path.{sym}
 use Rattle.units.proofs.Begins.{date-first, date-later}
-use borrow.Author.Rules.{rules}
 use Rattle.units.proofs.starts.date_begins.Goals as goal
 
 pub returns-then-k-eq0 : goal.returns-then-k-eq0

@@ -3,7 +3,6 @@ use mathlib.Core.Path.{sym, ap, ap₂, ◌∙◌}
 use mathlib.Core.Bool.{◌&&◌}
 use Rattle.units.specs.Dates.{listed}
 use Rattle.units.proofs.Begins.{day-first, day-later}
-use borrow.Author.Rules.{rules}
 use Rattle.units.proofs.starts.day_begins.Goals as goal
 
 pub returns-then-k-eq0 : goal.returns-then-k-eq0

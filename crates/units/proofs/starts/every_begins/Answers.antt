@@ -1,7 +1,6 @@
 -- `units::starts::every_begins` meets its contract. Assumes nothing.
 use mathlib.Core.Path.{sym}
 use Rattle.units.proofs.Begins.{every_one, every_more}
-use borrow.Author.Rules.{rules}
 use Rattle.units.proofs.starts.every_begins.Goals as goal
 
 pub returns-then-every-eq0 : goal.returns-then-every-eq0

@@ -4,7 +4,6 @@ use Rattle.units.specs.Starts.{rotation_starts, rotation_starts_is}
 use Rattle.units.proofs.Answers.{written-answered, written-refused}
 use Rattle.units.proofs.Begins.{locked-same, starts-say}
 use Rattle.paper.proofs.Rows.{said}
-use borrow.Author.Rules.{rules}
 use Rattle.units.proofs.starts.rotation_starts.Goals as goal
 
 pub write_starts-requires : goal.write_starts-requires

@@ -1,7 +1,6 @@
 -- `units::starts::start_date` meets its contract. Assumes nothing.
 use mathlib.Core.Path.{ap, ◌∙◌}
 use Rattle.units.specs.Dates.{date_of}
-use borrow.Author.Rules.{rules}
 use Rattle.units.proofs.starts.start_date.Goals as goal
 
 pub returns : goal.returns

@@ -1,7 +1,6 @@
 -- `units::starts::unit_begins` meets its contract. Assumes nothing.
 use borrow.Author.Tests.{eq-eqb, ne_eqb}
 use Rattle.units.specs.Starts.{rotation_begins, unit_begins}
-use borrow.Author.Rules.{rules}
 use Rattle.units.proofs.starts.unit_begins.Goals as goal
 
 pub returns-then-lock-eq0 : goal.returns-then-lock-eq0

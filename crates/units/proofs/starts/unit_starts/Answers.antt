@@ -4,7 +4,6 @@ use Rattle.units.specs.Starts.{unit_starts, unit_starts_is}
 use Rattle.units.proofs.Answers.{written-answered, written-refused}
 use Rattle.units.proofs.Begins.{starts-say}
 use Rattle.paper.proofs.Rows.{said}
-use borrow.Author.Rules.{rules}
 use Rattle.units.proofs.starts.unit_starts.Goals as goal
 
 pub write_starts-requires : goal.write_starts-requires

@@ -1,10 +1,7 @@
 -- `units::starts::write_starts` meets its contract. Assumes nothing.
 use native.Mathlib.Omega.{arith}
 use mathlib.Core.Path.{sym, ◌∙◌}
-use Rattle.units.specs.Starts.{unit_begins}
-use borrow.Author.Rules.{rules}
-use Prim.Native.Nat.{◌≤◌, ◌-◌}
-use Rattle.units.proofs.Collect.{Collecting, collect-none, collect-few, collect-length}
+use Rattle.units.proofs.Collect.{collect-none, collect-few, collect-length}
 use Rattle.units.proofs.Collect.{collect-room, collect-in, collect-out, collect-end}
 use Rattle.units.proofs.starts.write_starts.Goals as goal
 

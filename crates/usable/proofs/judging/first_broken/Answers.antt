@@ -1,6 +1,5 @@
 -- `usable::judging::first_broken` meets its contract. Assumes nothing.
 use mathlib.Core.Path.{refl}
-use borrow.Author.Rules.{rules}
 use Rattle.usable.specs.Answers.{judged}
 use Rattle.usable.proofs.Judged.{breaks, holds}
 use Rattle.usable.proofs.judging.first_broken.Goals as goal

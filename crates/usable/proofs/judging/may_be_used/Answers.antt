@@ -1,6 +1,5 @@
 -- `usable::judging::may_be_used` meets its contract. Assumes nothing.
 use mathlib.Core.Path.{sym, ap, ◌∙◌}
-use borrow.Author.Rules.{rules}
 use Rattle.paper.proofs.Rows.{said}
 use Rattle.usable.specs.declared.Verdict.TheVariants as verdict
 use Rattle.usable.proofs.Judged.{row-asks, judged-when, refused-when}

@@ -1,6 +1,5 @@
 -- `usable::judging::usable_refusal` meets its contract. Assumes nothing.
 use mathlib.Core.Path.{refl}
-use borrow.Author.Rules.{rules}
 use Rattle.paper.proofs.Rows.{link, ends, checked, renamed}
 use Rattle.usable.specs.Answers.{usable_row}
 use Rattle.usable.proofs.judging.usable_refusal.Goals as goal

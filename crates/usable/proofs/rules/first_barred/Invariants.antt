@@ -1,12 +1,8 @@
 -- `usable::rules::first_barred` meets its contract. Assumes nothing.
-use mathlib.Core.Path.{◌≡◌, sym, ◌∙◌}
+use mathlib.Core.Path.{◌≡◌}
 use mathlib.Core.Bool.{true}
 use Prim.Native.Nat.{◌-◌, ◌≤◌}
-use native.Mathlib.Omega.{arith}
-use borrow.Author.Rules.{rules}
 use Rattle.paper.specs.Count.{all}
-use Rattle.paper.proofs.Count.{all_none, all_more}
-use Rattle.owners.proofs.Scans.{scan-fails, scan-ends}
 use Rattle.usable.specs.Rules.{allowed_at}
 use Rattle.usable.proofs.rules.first_barred.Given as goal
 

@@ -1,13 +1,9 @@
 -- `usable::rules::first_moved` meets its contract. Assumes nothing.
-use mathlib.Core.Path.{◌≡◌, sym, ◌∙◌}
-use mathlib.Core.Bool.{true}
-use Prim.Native.Nat.{◌-◌, ◌≤◌}
+use mathlib.Core.Path.{sym, ◌∙◌}
 use native.Mathlib.Omega.{arith}
 use borrow.Author.Rules.{rules}
-use Rattle.paper.specs.Count.{all}
 use Rattle.paper.proofs.Count.{all_none, all_more}
 use Rattle.owners.proofs.Scans.{scan-fails, scan-ends}
-use Rattle.usable.specs.Rules.{published_at}
 use Rattle.usable.proofs.rules.first_moved.Goals as goal
 
 pub loop-k-init : goal.loop-k-init

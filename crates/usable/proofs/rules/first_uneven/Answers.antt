@@ -1,14 +1,8 @@
 -- `usable::rules::first_uneven` meets its contract. Assumes nothing.
-use mathlib.Core.Path.{◌≡◌}
-use mathlib.Core.Bool.{true}
-use Prim.Native.Nat.{◌-◌, ◌≤◌}
 use native.Mathlib.Omega.{arith}
 use borrow.Author.Rules.{rules}
-use Rattle.paper.specs.Count.{all}
 use Rattle.paper.proofs.Count.{all_none, all_more}
 use Rattle.owners.proofs.Scans.{scan-fails, scan-ends}
-use Rattle.usable.specs.Rules.{uniform_at}
-use Rattle.usable.specs.Inside.{ByUnit}
 use Rattle.usable.proofs.Walks.{unit-more, uniform-yes, uniform-no}
 use Rattle.usable.proofs.rules.first_uneven.Goals as goal
 

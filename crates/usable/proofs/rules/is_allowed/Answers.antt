@@ -1,5 +1,4 @@
 -- `usable::rules::is_allowed` meets its contract. Assumes nothing.
-use borrow.Author.Rules.{rules}
 use Rattle.usable.proofs.Asked.{allowed-on, allowed-stops}
 use Rattle.usable.proofs.rules.is_allowed.Goals as goal
 

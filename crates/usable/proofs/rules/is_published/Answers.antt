@@ -1,5 +1,4 @@
 -- `usable::rules::is_published` meets its contract. Assumes nothing.
-use borrow.Author.Rules.{rules}
 use Rattle.usable.proofs.Asked.{published-as, published-any}
 use Rattle.usable.proofs.rules.is_published.Goals as goal
 

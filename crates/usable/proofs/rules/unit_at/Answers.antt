@@ -1,6 +1,4 @@
 -- `usable::rules::unit_at` meets its contract. Assumes nothing.
-use borrow.Author.Rules.{rules}
-use native.Mathlib.Omega.{arith}
 use Rattle.usable.proofs.Walks.{unit-behind}
 use Rattle.usable.proofs.rules.unit_at.Goals as goal
 

@@ -1,14 +1,11 @@
 -- `usable::shifts::first_close` meets its contract. Assumes nothing.
-use mathlib.Core.Path.{◌≡◌, refl, sym, ap, ◌∙◌}
-use mathlib.Core.Bool.{true}
-use Prim.Native.Nat.{ℕ, ◌+◌, ◌-◌, ◌≤◌, ◌<◌}
+use mathlib.Core.Path.{refl, sym, ap, ◌∙◌}
+use Prim.Native.Nat.{ℕ, ◌+◌, ◌<◌}
 use native.Mathlib.Omega.{arith}
 use borrow.Author.Rules.{rules}
-use lib.ListN.{get_or, length, length-set}
-use Rattle.paper.specs.Count.{all}
+use lib.ListN.{length-set}
 use Rattle.paper.proofs.Count.{all_none, all_more}
 use Rattle.owners.proofs.Scans.{scan-fails, scan-ends}
-use Rattle.usable.specs.Rules.{rested_at}
 use Rattle.usable.specs.Inside.{free_from}
 use Rattle.usable.proofs.Walks.{free-none, free_more}
 use Rattle.usable.proofs.Rested.{rested-by}

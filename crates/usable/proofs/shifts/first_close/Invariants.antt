@@ -1,17 +1,11 @@
 -- `usable::shifts::first_close` meets its contract. Assumes nothing.
-use mathlib.Core.Path.{◌≡◌, refl, sym, ap, ◌∙◌}
+use mathlib.Core.Path.{◌≡◌}
 use mathlib.Core.Bool.{true}
-use Prim.Native.Nat.{ℕ, ◌+◌, ◌-◌, ◌≤◌, ◌<◌}
-use native.Mathlib.Omega.{arith}
-use borrow.Author.Rules.{rules}
-use lib.ListN.{get_or, length, length-set}
+use Prim.Native.Nat.{ℕ, ◌-◌, ◌≤◌, ◌<◌}
+use lib.ListN.{get_or, length}
 use Rattle.paper.specs.Count.{all}
-use Rattle.paper.proofs.Count.{all_none, all_more}
-use Rattle.owners.proofs.Scans.{scan-fails, scan-ends}
 use Rattle.usable.specs.Rules.{rested_at}
 use Rattle.usable.specs.Inside.{free_from}
-use Rattle.usable.proofs.Walks.{free-none, free_more}
-use Rattle.usable.proofs.Rested.{rested-by}
 use Rattle.usable.proofs.shifts.first_close.Given as goal
 
 abbrev pub invariant-loop-k : goal.invariant-loop-k

@@ -1,13 +1,10 @@
 -- `usable::shifts::first_long` meets its contract. Assumes nothing.
-use mathlib.Core.Path.{◌≡◌, sym, ap, ◌∙◌}
+use mathlib.Core.Path.{◌≡◌}
 use mathlib.Core.Bool.{false}
-use Prim.Native.Nat.{ℕ, ◌≤◌, ◌<◌}
-use native.Mathlib.Omega.{arith}
-use borrow.Author.Rules.{rules}
+use Prim.Native.Nat.{◌≤◌, ◌<◌}
 use lib.ListN.{get_or}
 use Rattle.paper.specs.Count.{FirstWhere}
 use Rattle.usable.specs.Rules.{shift_last, capped_at}
-use Rattle.usable.proofs.Walks.{fault-none, fault-first, capped-end, fault-capped}
 use Rattle.usable.proofs.shifts.first_long.Given as goal
 
 abbrev pub invariant-loop-k : goal.invariant-loop-k

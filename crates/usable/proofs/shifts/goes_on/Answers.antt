@@ -1,5 +1,4 @@
 -- `usable::shifts::goes_on` meets its contract. Assumes nothing.
-use borrow.Author.Rules.{rules}
 use Rattle.usable.proofs.Asked.{goes-as, goes_none}
 use Rattle.usable.proofs.shifts.goes_on.Goals as goal
 

@@ -1,5 +1,4 @@
 -- `usable::shifts::is_capped` meets its contract. Assumes nothing.
-use borrow.Author.Rules.{rules}
 use Rattle.usable.proofs.Asked.{capped_as, capped-any}
 use Rattle.usable.proofs.shifts.is_capped.Goals as goal
 

@@ -1,5 +1,4 @@
 -- `usable::shifts::is_rested` meets its contract. Assumes nothing.
-use borrow.Author.Rules.{rules}
 use Rattle.usable.proofs.Asked.{rested-as, rested-any}
 use Rattle.usable.proofs.shifts.is_rested.Goals as goal
 

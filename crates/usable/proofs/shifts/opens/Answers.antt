@@ -1,5 +1,4 @@
 -- `usable::shifts::opens` meets its contract. Assumes nothing.
-use borrow.Author.Rules.{rules}
 use Rattle.usable.proofs.Asked.{opens-nobody, opens-first, opens-same, opens-other}
 use Rattle.usable.proofs.shifts.opens.Goals as goal
 

@@ -1,5 +1,4 @@
 -- `usable::shifts::shift_end` meets its contract. Assumes nothing.
-use borrow.Author.Rules.{rules}
 use Rattle.usable.proofs.Asked.{end-next, end-here}
 use Rattle.usable.proofs.shifts.shift_end.Goals as goal
 

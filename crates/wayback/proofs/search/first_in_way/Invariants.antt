@@ -1,12 +1,8 @@
 -- `wayback::search::first_in_way` meets its contract. Assumes nothing.
-use mathlib.Core.Path.{◌≡◌, sym, ap, ◌∙◌}
+use mathlib.Core.Path.{◌≡◌}
 use mathlib.Core.Bool.{true, not}
 use Prim.Native.Nat.{◌-◌, ◌≤◌}
-use native.Mathlib.Omega.{arith}
-use borrow.Author.Rules.{rules}
 use Rattle.paper.specs.Count.{all}
-use Rattle.paper.proofs.Count.{all_none, all_more}
-use Rattle.owners.proofs.Scans.{scan-fails, scan-ends}
 use Rattle.wayback.specs.Inside.{stands_in_way}
 use Rattle.wayback.proofs.search.first_in_way.Given as goal
 

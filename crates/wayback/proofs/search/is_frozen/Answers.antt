@@ -1,7 +1,6 @@
 -- `wayback::search::is_frozen` meets its contract. Assumes nothing.
 use mathlib.Core.Path.{ap, ◌∙◌}
 use native.Mathlib.Omega.{arith}
-use borrow.Author.Rules.{rules}
 use Rattle.wayback.specs.Inside.{found_one}
 use Rattle.wayback.proofs.Searched.{frozen-by}
 use Rattle.wayback.proofs.search.is_frozen.Goals as goal

@@ -1,7 +1,6 @@
 -- `wayback::search::owner_of` meets its contract. Assumes nothing.
 use mathlib.Core.Path.{ap, ◌∙◌}
 use Prim.Native.Nat.{ℕ}
-use borrow.Author.Rules.{rules}
 use lib.ListN.{get_or}
 use Rattle.wayback.proofs.search.owner_of.Goals as goal
 

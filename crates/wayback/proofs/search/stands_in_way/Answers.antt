@@ -1,5 +1,4 @@
 -- `wayback::search::stands_in_way` meets its contract. Assumes nothing.
-use borrow.Author.Rules.{rules}
 use Rattle.wayback.proofs.Searched.{stands_same, stands-unowned, stands-frozen}
 use Rattle.wayback.proofs.search.stands_in_way.Goals as goal
 

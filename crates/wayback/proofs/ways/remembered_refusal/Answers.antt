@@ -1,5 +1,4 @@
 -- `wayback::ways::remembered_refusal` meets its contract. Assumes nothing.
-use borrow.Author.Rules.{rules}
 use Rattle.wayback.proofs.Searched.{remembered-uneven, remembered-unknown, remembered-away, remembered-right}
 use Rattle.wayback.proofs.ways.remembered_refusal.Goals as goal
 

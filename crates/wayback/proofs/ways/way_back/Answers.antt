@@ -1,7 +1,6 @@
 -- `wayback::ways::way_back` meets its contract. Assumes nothing.
 use Prim.Native.Nat.{ℕ}
 use native.Mathlib.Omega.{arith}
-use borrow.Author.Rules.{rules}
 use lib.ListN.{length-replicate}
 use Rattle.rota.proofs.Entered.{unit-room}
 use Rattle.wayback.proofs.Searched.{way-asks}

@@ -1,5 +1,4 @@
 -- `wayback::ways::way_refusal` meets its contract. Assumes nothing.
-use borrow.Author.Rules.{rules}
 use Rattle.wayback.proofs.Searched.{way_on, way-stops}
 use Rattle.wayback.proofs.ways.way_refusal.Goals as goal
 

@@ -2,7 +2,6 @@
 use mathlib.Core.Path.{refl}
 use Prim.Native.Nat.{◌^◌, ◌<◌}
 use native.Mathlib.Omega.{arith}
-use borrow.Author.Rules.{rules}
 use Rattle.paper.specs.Bits.{bit_of}
 use Rattle.units.specs.Domains.{in_mask}
 use Rattle.rota.proofs.Judged.{mask-past}

@@ -1,9 +1,6 @@
 -- `wayback::writing::place_in` meets its contract. Assumes nothing.
-use mathlib.Core.Path.{◌≡◌, sym, ap, ◌∙◌}
-use Prim.Native.Nat.{◌+◌, ◌-◌, ◌≤◌}
+use mathlib.Core.Path.{sym, ◌∙◌}
 use native.Mathlib.Omega.{arith}
-use borrow.Author.Rules.{rules}
-use Rattle.paper.specs.Count.{count}
 use Rattle.paper.proofs.Count.{count_none, count-in, count-out, count-done}
 use Rattle.units.specs.Domains.{in_mask}
 use Rattle.wayback.proofs.writing.place_in.Goals as goal

@@ -1,10 +1,6 @@
 -- `wayback::writing::write_draws` meets its contract. Assumes nothing.
 use Prim.Native.Nat.{◌-◌, ◌≤◌}
-use native.Mathlib.Omega.{arith}
-use borrow.Author.Rules.{rules}
 use Rattle.wayback.specs.Inside.{WriteRoom, Wrote}
-use Rattle.wayback.proofs.Written.{wrote_none, wrote-out, wrote-in, wrote-end, changed-no, changed-yes, place-by, number_fits}
-use Rattle.wayback.proofs.Written.{draws-length, firsts-length, seconds-length, draws-there, firsts-there, seconds-there}
 use Rattle.wayback.proofs.writing.write_draws.Given as goal
 
 abbrev pub invariant-loop-u : goal.invariant-loop-u
