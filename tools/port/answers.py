@@ -6,8 +6,11 @@ usage: convert.py NAMES CRATE_FOLDER..     NAMES: what rt names wrote
 import json, os, re, sys
 
 def norm(s):
+    SRC=s
     s=s.lower()
     if s.endswith('_lem'): s=s[:-4]
+    if s=='type_size': s='size'
+    if re.match(r"is[a-z]",s) and s!='is' and SRC.startswith('Is'): s=s[2:]
     return s.replace('_','-').rstrip("'")
 PARAMS={}  # (crate, fn) -> [(path, all params, &mut params)]
 def scan_params(root):
@@ -156,6 +159,7 @@ def paths(body, steps):
     for a in argnames:
         body=re.sub(r"((?<![\w.'-])"+re.escape(a)+r")\.t(\d+)(?![\w'-])",lambda m: m[1]+'.'+OWN[int(m[2])-1] if int(m[2])<=len(OWN) else m[0],body)
     body=re.sub(r"\.type-inv(?![\w'-])",".type_inv",body)
+    body=re.sub(r"\.well-formed(?![\w'-])",".well_formed",body)
     for st,muts in MUTS.items():
         stp=re.escape(st).replace('\\-','[-_]')
         def nw(m):
@@ -189,10 +193,15 @@ def paths(body, steps):
     for st,names in CALLEE.items():
         stp=re.escape(st).replace('\\-','[-_]')
         def en(m):
-            k=int(m.group(2)); return m.group(1)+'.'+names[k] if k<len(names) else m.group(0)
-        body=re.sub(r"(\."+stp+r"\.ensures)\.(\d)(?![\w'-])",en,body)
+            n=len(names);k=0;parts=m.group(2)[1:].split('.')
+            while parts and k<n-1 and parts[0]=='1': k+=1; parts=parts[1:]
+            if k<n-1:
+                if parts and parts[0]=='0': parts=parts[1:]
+                else: return m.group(0)
+            return m.group(1)+'.'+'.'.join([names[k]]+parts)
+        body=re.sub(r"(\."+stp+r"\.ensures)((?:\.\d(?![\w'-]))+)",en,body)
         for a in set(re.findall(r"let ([\w'-]+)(?: : [^=]*)? = [\w'.-]*\."+stp+r"\.ensures\s+in",body)):
-            body=re.sub(r"((?<![\w.'-])"+re.escape(a)+r")\.(\d)(?![\w'-])",en,body)
+            body=re.sub(r"((?<![\w.'-])"+re.escape(a)+r")((?:\.\d(?![\w'-]))+)",en,body)
     for m in list(re.finditer(r"let ([\w'-]+) = ([\w'.-]+)\.([\w'-]+)\s+in",body)):
         arms=ARMS.get(norm(m[3]))
         if not arms: continue

@@ -4,14 +4,15 @@ use mathlib.Core.List.{List, [], ◌∷◌}
 use Prim.Native.Nat.{ℕ}
 use lib.ListN.{length}
 use seplogic.Ra.Ura.{Ura}
-use seplogic.Ra.TreeShare.{full_share}
+use base.Fraction.{full_share}
 use mir.Syntax.{erased, ty_array, Width, int_big}
 use mir.Val.{Val, Fits, vint}
 use base.Logic.{SProp, ent, sep, ex, via, guard_i}
-use base.Fml.{GName, fsep, fat, flft, flent}
+use base.Fml.{Incl-refl, fsep, fat, flft, flent}
+use contract.BorrowLft.{⊑_static}
 use prog.Wp.{Env}
 use types.Logic.{Logic}
-use types.Kit.{Item, ‵, ◌⊛◌, some, later, ◌$◌, ◌∵◌, !, qed, by, move, use1, rewrite, split, join, pick, fsplit, fjoin, fpick, fpack}
+use types.Kit.{Item, ‵, ◌⊛◌, later, ◌$◌, ◌∵◌, !, qed, by, move, use1, use2, rewrite, split, join, fsplit, fjoin, fpick, fpack}
 use types.Kit.{frame, await, updating, now as at_once, show, done, mean}
 use types.Run.{Opd}
 use types.Tokens.{lft_new, lft_end, lent_back}
@@ -22,6 +23,7 @@ use denote.Lend.{lends_shr_slice}
 use denote.Laws.{Is, Tells, Makes, shows}
 use denote.Memory.{cell_at, part_at, part_of, lone, shares}
 use denote.RattleType.{RattleType}
+use denote.Shares.{Shares}
 use denote.Ref.{Bor}
 use denote.Slice.{slice_val, ShrSlice, Room}
 use denote.Steps.{owned, facts}
@@ -46,22 +48,24 @@ module _ {M : Type 1} {𝓤 : Ura M} (𝓛 : Logic 𝓤) (R : RattleType) (n b :
   abbrev pub Lends : Loan → SProp 𝓤
   Lends g = sep 𝓤 (sep 𝓤 (A.lft (g.0 ∷ []) full_share) (mean 𝓛 (ShownArray g))) (mean 𝓛 (KeptArray g))
 
-  pub lends-array : Single R.mir → Makes 𝓛 R (Is R) → (v : Val) → Is (Array R n) xs (v ∷ []) → Room R n
+  -- the elements are of a type of which a `&` asks for no token but the loan's: it holds no `&mut`
+  pub lends-array : Single R.mir → Makes 𝓛 R (Is R) → Shares 𝓛 R [] → (v : Val) → Is (Array R n) xs (v ∷ []) → Room R n
       → ent 𝓤 (mean 𝓛 (InLocal v)) (H.⇛ (ex 𝓤 Lends))
   unfolding part_of
-  lends-array one makes v is room =
+  lends-array one makes shared v is room =
       let e : length xs ≡ n = is.1.0.1 in
       qed 𝓛 (InLocal v ∷ []) ∵ updating ! $
       use1 𝓛 (‵ (cell_at full_share (Array R n).mir (v ∷ []) b 0)) (𝓛.laws.at_raw full_share (ty_array (lone R.mir) n) b 0 v) $
       owned ! (Array R n) (Is (Array R n)) (Array-Makes 𝓛 R makes n) xs (v ∷ []) is $ move ! (1 ∷ 0 ∷ []) $ fjoin ! $
       fpack ! (List Val) (λ vs. fsep (cell_at full_share (Array R n).mir vs b 0) ((Array R n).own_val xs vs)) (v ∷ []) $
       use1 𝓛 (‵ ((arr_parts (shares R) n).part full_share xs b 0)) (Array-apart 𝓛 R full_share one n xs b 0) $
-      rewrite ! 0 (λ (m : ℕ). ‵ ((arr_parts (shares R) m).part full_share xs b 0)) (sym e) refl $ lft_new ! tt (λ ν. move ! (1 ∷ []) $
-      use1 𝓛 (later (some (λ (δ : GName). ‵ ((ShrSlice erased (ν ∷ []) R).own_val (as_slice (ν, δ)) (slice_val (b, 0) (length xs) ∷ []))
-      ⊛ KeptArray (ν, δ)))) (lends_shr_slice 𝓛 R erased (ν ∷ []) full_share xs b 0 (subst (Room R) (sym e) room)) $ await ! tt $
-      pick ! (λ δ. split ! $
-      rewrite ! 0 (λ (m : ℕ). ‵ ((ShrSlice erased (ν ∷ []) R).own_val (as_slice (ν, δ)) (slice_val (b, 0) m ∷ []))) e refl $
-      at_once ! $ show ! Lends (ν, δ) $ move ! (2 ∷ 0 ∷ []) $ join ! $ frame ! $ done !))
+      rewrite ! 0 (λ (m : ℕ). ‵ ((arr_parts (shares R) m).part full_share xs b 0)) (sym e) refl $ lft_new ! tt (λ ν. move ! (1 ∷ 0 ∷ []) $
+      use2 𝓛 (later ((‵ ((ShrSlice erased (ν ∷ []) R).own_val (as_slice (ν, 0)) (slice_val (b, 0) (length xs) ∷ []))
+      ⊛ KeptArray (ν, 0)) ⊛ ‵ (flft (ν ∷ []) full_share))) (lends_shr_slice 𝓛 R erased (ν ∷ []) full_share xs b 0
+      (subst (Room R) (sym e) room) [] shared ((ν ∷ [], full_share) ∷ []) (⊑_static (ν ∷ [])) (Incl-refl (ν ∷ []))) $ await ! tt $
+      split ! $ split ! $
+      rewrite ! 0 (λ (m : ℕ). ‵ ((ShrSlice erased (ν ∷ []) R).own_val (as_slice (ν, 0)) (slice_val (b, 0) m ∷ []))) e refl $
+      at_once ! $ show ! Lends (ν, 0) $ move ! (2 ∷ 0 ∷ []) $ join ! $ frame ! $ done !)
 
   pub array_back : (vals : R.Denot → List Val) → Tells R (Is R) vals → (v : Val) → Is (Array R n) xs (v ∷ []) → (g : Loan)
       → ent 𝓤 (sep 𝓤 (A.lft (g.0 ∷ []) full_share) (mean 𝓛 (KeptArray g))) (H.⇛ (mean 𝓛 (InLocal v)))

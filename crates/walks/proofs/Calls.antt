@@ -4,7 +4,7 @@ use mathlib.Core.Path.{◌≡◌, subst}
 use mathlib.Core.List.{List, [], ◌∷◌}
 use Prim.Native.Nat.{ℕ, zero, suc}
 use seplogic.Ra.Ura.{Ura}
-use mir.Syntax.{Name, Place, Opd as Operand, Body, seq, call}
+use mir.Syntax.{Callee, Place, Opd as Operand, Body, seq, call}
 use mir.Val.{Val}
 use base.Logic.{SProp, ent, sep, emp, id⊢, via, emp∗, mono∗}
 use base.Fml.{Fml, ftrue, fsep}
@@ -57,10 +57,10 @@ module _ {M : Type 1} {𝓤 : Ura M} {𝓛 : Logic 𝓤} {K : Type 0} {Γ : List
       (φ : Result 𝓛 T c y → Finals 𝓛 T c y → Type 0)
       → ((r : Result 𝓛 T c y) (ws : Finals 𝓛 T c y) → ent 𝓤 (Says 𝓛 T c y r ws) (fact 𝓤 (φ r ws)))
       → ((r : Result 𝓛 T c y) (ws : Finals 𝓛 T c y) → φ r ws → Is (ResultType 𝓛 T c y) r (u ∷ [])
-      → Seq K 𝓛 (‵ ((ResultType 𝓛 T c y).own r (u ∷ [])) ∷ raw (Tokens 𝓛 T c y) ∷ ‵ (Told 𝓛 T c y ws) ∷ Γ) G)
+      → Seq K 𝓛 (‵ ((ResultType 𝓛 T c y).own_val r (u ∷ [])) ∷ raw (Tokens 𝓛 T c y) ∷ ‵ (Told 𝓛 T c y ws) ∷ Γ) G)
       → Seq K 𝓛 (raw ((contract_of 𝓛 T c).post y u) ∷ Γ) G
   gives t {G} z T c y u φ told k =
-      use1 𝓛 (later (some (λ (r : Result 𝓛 T c y). (raw (Tokens 𝓛 T c y) ⊛ ‵ ((ResultType 𝓛 T c y).own r (u ∷ [])))
+      use1 𝓛 (later (some (λ (r : Result 𝓛 T c y). (raw (Tokens 𝓛 T c y) ⊛ ‵ ((ResultType 𝓛 T c y).own_val r (u ∷ [])))
       ⊛ some (λ (ws : Finals 𝓛 T c y). ‵ (Told 𝓛 T c y ws) ⊛ raw (Says 𝓛 T c y r ws))))) (id⊢ 𝓤 _) $ await t z $ pick t (λ r.
       split t $ split t $ move t (2 ∷ []) $ pick t (λ ws. split t $ move t (1 ∷ []) $ use1 𝓛 (raw (fact 𝓤 (φ r ws))) (told r ws) $
       heard t (φ r ws) (λ p. move t (2 ∷ 1 ∷ 0 ∷ []) $
@@ -68,13 +68,13 @@ module _ {M : Type 1} {𝓤 : Ura M} {𝓛 : Logic 𝓤} {K : Type 0} {Γ : List
       k r ws p is))))
 
   -- a call, with what it left
-  pub asks : K → {E : Env 𝓤 H} {C : Calls 𝓤 H} {Λ : Loops 𝓤 H} {q : Post 𝓤 H} {f : Name} {xs : List Operand} {d : Place} {rest : Body}
+  pub asks : K → {E : Env 𝓤 H} {C : Calls 𝓤 H} {Λ : Loops 𝓤 H} {q : Post 𝓤 H} {f : Callee} {xs : List Operand} {d : Place} {rest : Body}
       → FmC 𝓤 H 𝓛.laws C → (T : Ended) (c : Clauses 𝓤 T) → Triple 𝓤 (C f) (contract_of 𝓛 T c) → (y : (contract_of 𝓛 T c).Ghost)
       → Opds K 𝓛 (raw ((contract_of 𝓛 T c).pre y) ∷ Γ) E xs ((contract_of 𝓛 T c).args y)
       → (φ : Result 𝓛 T c y → Finals 𝓛 T c y → Type 0)
       → ((r : Result 𝓛 T c y) (ws : Finals 𝓛 T c y) → ent 𝓤 (Says 𝓛 T c y r ws) (fact 𝓤 (φ r ws)))
       → ((u : Val) (r : Result 𝓛 T c y) (ws : Finals 𝓛 T c y) → φ r ws → Is (ResultType 𝓛 T c y) r (u ∷ [])
-      → Seq K 𝓛 (‵ ((ResultType 𝓛 T c y).own r (u ∷ [])) ∷ raw (Tokens 𝓛 T c y) ∷ ‵ (Told 𝓛 T c y ws) ∷ Γ)
+      → Seq K 𝓛 (‵ ((ResultType 𝓛 T c y).own_val r (u ∷ [])) ∷ raw (Tokens 𝓛 T c y) ∷ ‵ (Told 𝓛 T c y ws) ∷ Γ)
       (lands C Λ E d u rest q))
       → Seq K 𝓛 (raw ((contract_of 𝓛 T c).pre y) ∷ Γ) (runs C Λ E (seq (call f xs d) rest) q)
   asks t fm T c met y os φ told k =
@@ -91,10 +91,10 @@ goes-plain {𝓤 = 𝓤} 𝓛 Rs a vss makes are P p =
 pub ends : {M : Type 1} {𝓤 : Ura M} (𝓛 : Logic 𝓤) (T : Ended) (c : Clauses 𝓤 T)
     (y : (contract_of 𝓛 T c).Ghost) (u : Val) (r : Result 𝓛 T c y) (ws : Finals 𝓛 T c y) (φ : Type 0)
     → ent 𝓤 (fact 𝓤 φ) (Says 𝓛 T c y r ws) → φ
-    → ent 𝓤 (sep 𝓤 (sem 𝓛 ((ResultType 𝓛 T c y).own r (u ∷ []))) (sep 𝓤 (Tokens 𝓛 T c y) (sem 𝓛 (Told 𝓛 T c y ws))))
+    → ent 𝓤 (sep 𝓤 (sem 𝓛 ((ResultType 𝓛 T c y).own_val r (u ∷ []))) (sep 𝓤 (Tokens 𝓛 T c y) (sem 𝓛 (Told 𝓛 T c y ws))))
     ((contract_of 𝓛 T c).post y u)
 ends {𝓤 = 𝓤} 𝓛 T c y u r ws φ says p =
-    qed 𝓛 (‵ ((ResultType 𝓛 T c y).own r (u ∷ [])) ∷ raw (Tokens 𝓛 T c y) ∷ ‵ (Told 𝓛 T c y ws) ∷ []) ∵
+    qed 𝓛 (‵ ((ResultType 𝓛 T c y).own_val r (u ∷ [])) ∷ raw (Tokens 𝓛 T c y) ∷ ‵ (Told 𝓛 T c y ws) ∷ []) ∵
     updating ! $ at_once ! $ show ! (λ (r' : Result 𝓛 T c y). sep 𝓤 (Back 𝓛 T.signature y.0 u r')
     (ensured 𝓛 T c y.0.0 y.0.3 y.1 r')) r $ move ! (1 ∷ 0 ∷ []) $ join ! $ frame ! $
     show ! (λ (ws' : Finals 𝓛 T c y). sep 𝓤 (sem 𝓛 (Told 𝓛 T c y ws')) (Says 𝓛 T c y r ws')) ws $
@@ -113,8 +113,8 @@ silent {𝓤 = 𝓤} 𝓛 (suc n) = via 𝓤 _ (silent 𝓛 n) (emp∗ 𝓤 _)
 pub ends-silent : {M : Type 1} {𝓤 : Ura M} (𝓛 : Logic 𝓤) (T : Ended) (c : Clauses 𝓤 T)
     (y : (contract_of 𝓛 T c).Ghost) (u : Val) (r : Result 𝓛 T c y) (ws : Finals 𝓛 T c y) (n : ℕ)
     → silence n ≡ Told 𝓛 T c y ws → (φ : Type 0) → ent 𝓤 (fact 𝓤 φ) (Says 𝓛 T c y r ws) → φ
-    → ent 𝓤 (sep 𝓤 (sem 𝓛 ((ResultType 𝓛 T c y).own r (u ∷ []))) (Tokens 𝓛 T c y)) ((contract_of 𝓛 T c).post y u)
+    → ent 𝓤 (sep 𝓤 (sem 𝓛 ((ResultType 𝓛 T c y).own_val r (u ∷ []))) (Tokens 𝓛 T c y)) ((contract_of 𝓛 T c).post y u)
 ends-silent {𝓤 = 𝓤} 𝓛 T c y u r ws n e φ says p =
-    qed 𝓛 (‵ ((ResultType 𝓛 T c y).own r (u ∷ [])) ∷ raw (Tokens 𝓛 T c y) ∷ []) ∵
+    qed 𝓛 (‵ ((ResultType 𝓛 T c y).own_val r (u ∷ [])) ∷ raw (Tokens 𝓛 T c y) ∷ []) ∵
     use0 𝓛 (‵ (Told 𝓛 T c y ws)) (subst (λ (F : Fml). ent 𝓤 (emp 𝓤) (sem 𝓛 F)) e (silent 𝓛 n)) $
     move ! (1 ∷ 2 ∷ 0 ∷ []) $ by ! (ends 𝓛 T c y u r ws φ says p)

@@ -5,11 +5,12 @@ use mathlib.Core.List.{List, [], ◌∷◌, ◌++◌}
 use Prim.Native.Nat.{ℕ}
 use lib.ListN.{length}
 use seplogic.Ra.Ura.{Ura}
-use seplogic.Ra.TreeShare.{full_share}
-use mir.Syntax.{erased}
+use base.Fraction.{full_share}
+use mir.Syntax.{Width, erased}
 use base.Logic.{SProp, ent, sep, emp, ex, via, assoc∗, snd∗, mono_r}
-use base.Fml.{Lft, Share, GName, Fml, ftrue, fsep, feq, flft, flent, fobor, fobs, fauth}
+use base.Fml.{Lft, Share, Incl-refl, GName, Fml, ftrue, fsep, feq, flft, flent, fobor, fobs, fauth}
 use types.Logic.{Logic, sem}
+use contract.BorrowLft.{⊑_static}
 use contract.Monad.{fact, fact_i}
 use types.Kit.{Item, ‵, raw, ◌⊛◌, some, later, ◌$◌, ◌∵◌, !, qed, move, keep}
 use types.Kit.{drop, use0, use1, use2, use3, rewrite, split, join, pick}
@@ -22,7 +23,10 @@ use denote.Memory.{mem, shares}
 use denote.Index.{row, whole_in, whole_out, opens_slice, closes_slice}
 use denote.Lend.{Held, lends_slice, slice_back, lends_shr_slice}
 use denote.RattleType.{RattleType}
-use denote.Ref.{Bor, MutBor}
+use denote.Plain.{UInt}
+use denote.Copied.{uint_Copied}
+use denote.Shares.{Shares}
+use denote.MutBor.{MutBor, as_bor}
 use denote.Slice.{slice_val, shr_slice_vals, mut_slice_vals, MutSlice, ShrSlice, Room, finally, mut_slice_at, heres, coded_holeys, res-finally}
 use denote.Steps.{nothing, heard}
 
@@ -31,24 +35,24 @@ pub record Slice : Type 2 where
   pub R : RattleType
   pub κ : Lft
   pub q : Share
-  pub x : Bor (List R.Denot)
+  pub x : MutBor (List R.Denot)
 
 -- the lifetime of a loan, and its name
 abbrev pub Loan : Type 0
 Loan = ℕ × GName
 
 abbrev pub at : (s : Slice) → GName → List s.R.Denot → MutBor (List s.R.Denot)
-at s δ l = record { ref_ptr = s.x.ptr; ghost_name = δ; now = l }
+at s δ l = record { ref_ptr = s.x.ref_ptr; ghost_name = δ; now = l }
 
 -- its elements in memory; and its own borrow while those are out, with both halves of its ghost variable
 abbrev Elements : (s : Slice) → List s.R.Denot → Fml
-Elements s l = row s.R full_share l s.x.ptr.0 s.x.ptr.1
+Elements s l = row s.R full_share l s.x.ref_ptr.0 s.x.ref_ptr.1
 
 abbrev Opened : (s : Slice) → List s.R.Denot → Fml
 Opened s l =
     let v = (coded_holeys s.R).code (heres s.R l) in
-    fsep (fobor s.κ s.q (Held s.R (length l) s.x.ptr.0 s.x.ptr.1 s.x.name))
-    (fsep (fobs s.x.name v) (fauth s.x.name v))
+    fsep (fobor s.κ s.q (Held s.R (length l) s.x.ref_ptr.0 s.x.ref_ptr.1 s.x.ghost_name))
+    (fsep (fobs s.x.ghost_name v) (fauth s.x.ghost_name v))
 
 -- the last list under a name, as long as it was
 abbrev pub Said : (s : Slice) → GName → List s.R.Denot → ℕ → Fml
@@ -59,21 +63,21 @@ module _ {M : Type 1} {𝓤 : Ura M} (𝓛 : Logic 𝓤) where
   open 𝓛 use {A}
 
   abbrev pub Has : (s : Slice) → List s.R.Denot → SProp 𝓤
-  Has s l = sep 𝓤 (sem 𝓛 ((MutSlice erased s.κ s.R).own_val (at s s.x.name l) (mut_slice_vals s.x))) (A.lft s.κ s.q)
+  Has s l = sep 𝓤 (sem 𝓛 ((MutSlice erased s.κ s.R).own_val (at s s.x.ghost_name l) (mut_slice_vals s.x))) (A.lft s.κ s.q)
 
   abbrev pub Lent : (s : Slice) → List s.R.Denot → Loan → Item 𝓤
   Lent s l g = ‵ ((MutSlice erased (g.0 ∷ []) s.R).own_val (at s g.1 l) (mut_slice_vals s.x))
 
   abbrev pub Kept : (s : Slice) → List s.R.Denot → Loan → SProp 𝓤
-  Kept s l g = sem 𝓛 (fsep (flent (g.0 ∷ []) (Held s.R (length l) s.x.ptr.0 s.x.ptr.1 g.1)) (Opened s l))
+  Kept s l g = sem 𝓛 (fsep (flent (g.0 ∷ []) (Held s.R (length l) s.x.ref_ptr.0 s.x.ref_ptr.1 g.1)) (Opened s l))
 
   -- the same of a loan as `&`
   abbrev pub Shown : (s : Slice) → List s.R.Denot → Loan → Item 𝓤
-  Shown s l g = ‵ ((ShrSlice erased (g.0 ∷ []) s.R).own_val (at s g.1 l) (shr_slice_vals s.x))
+  Shown s l g = ‵ ((ShrSlice erased (g.0 ∷ []) s.R).own_val (as_bor (at s g.1 l)) (shr_slice_vals (as_bor s.x)))
 
   abbrev pub KeptShown : (s : Slice) → List s.R.Denot → Loan → SProp 𝓤
   KeptShown s l g =
-      sem 𝓛 (fsep (flent (g.0 ∷ []) ((arr_parts (shares s.R) (length l)).part full_share l s.x.ptr.0 s.x.ptr.1))
+      sem 𝓛 (fsep (flent (g.0 ∷ []) ((arr_parts (shares s.R) (length l)).part full_share l s.x.ref_ptr.0 s.x.ref_ptr.1))
       (Opened s l))
 
 module _ {M : Type 1} {𝓤 : Ura M} (𝓛 : Logic 𝓤) (s : Slice) where
@@ -82,18 +86,18 @@ module _ {M : Type 1} {𝓤 : Ura M} (𝓛 : Logic 𝓤) (s : Slice) where
 
   takes_out : (l : List s.R.Denot) → ent 𝓤 (Has 𝓛 s l) (H.⇛ (sep 𝓤 (sem 𝓛 (Elements s l)) (sem 𝓛 (Opened s l))))
   takes_out l =
-      qed 𝓛 (‵ ((MutSlice erased s.κ s.R).own_val (at s s.x.name l) (mut_slice_vals s.x)) ∷ ‵ (flft s.κ s.q) ∷ []) ∵ updating ! $
-      fsplit ! $ pure_l ! (mut_slice_at s.R (at s s.x.name l) (mut_slice_vals s.x)) (λ p. fsplit ! $
-      opens_slice ! tt s.R l s.x.ptr.0 s.x.ptr.1 $ at_once ! $ frame ! $
+      qed 𝓛 (‵ ((MutSlice erased s.κ s.R).own_val (at s s.x.ghost_name l) (mut_slice_vals s.x)) ∷ ‵ (flft s.κ s.q) ∷ []) ∵ updating ! $
+      fsplit ! $ pure_l ! (mut_slice_at s.R (at s s.x.ghost_name l) (mut_slice_vals s.x)) (λ p. fsplit ! $
+      opens_slice ! tt s.R l s.x.ref_ptr.0 s.x.ref_ptr.1 $ at_once ! $ frame ! $
       move ! (1 ∷ 2 ∷ []) $ fjoin ! $ move ! (1 ∷ 0 ∷ []) $ fjoin ! $ done !)
 
   puts_back : (l l' : List s.R.Denot) → Room s.R (length s.x.now) → length l ≡ length s.x.now → length l' ≡ length l
       → ent 𝓤 (sep 𝓤 (sem 𝓛 (Elements s l')) (sem 𝓛 (Opened s l))) (H.⇛ (Has 𝓛 s l'))
   puts_back l l' room e e' =
       qed 𝓛 (‵ (Elements s l') ∷ ‵ (Opened s l) ∷ []) ∵ updating ! $ move ! (1 ∷ []) $ fsplit ! $ move ! (1 ∷ []) $ fsplit ! $
-      move ! (3 ∷ 2 ∷ 0 ∷ 1 ∷ []) $ closes_slice ! tt s.R l l' e' s.x.ptr.0 s.x.ptr.1 $ at_once ! $ fjoin ! $
-      pure_i ! (mut_slice_at s.R (at s s.x.name l') (mut_slice_vals s.x)) (tt, (tt, tt))
-      (ap (λ (n : ℕ). slice_val s.x.ptr n ∷ []) (sym (e' ∙ e)), subst (Room s.R) (sym (e' ∙ e)) room) $ fjoin ! $ done !
+      move ! (3 ∷ 2 ∷ 0 ∷ 1 ∷ []) $ closes_slice ! tt s.R l l' e' s.x.ref_ptr.0 s.x.ref_ptr.1 $ at_once ! $ fjoin ! $
+      pure_i ! (mut_slice_at s.R (at s s.x.ghost_name l') (mut_slice_vals s.x)) (tt, (tt, tt))
+      (ap (λ (n : ℕ). slice_val s.x.ref_ptr n ∷ []) (sym (e' ∙ e)), subst (Room s.R) (sym (e' ∙ e)) room) $ fjoin ! $ done !
 
   -- it is lent as `&mut`, and comes back at the list that was said last
   lends_one : (l : List s.R.Denot) → Room s.R (length s.x.now) → length l ≡ length s.x.now
@@ -102,13 +106,13 @@ module _ {M : Type 1} {𝓤 : Ura M} (𝓛 : Logic 𝓤) (s : Slice) where
   lends_one l room e =
       qed 𝓛 (raw (Has 𝓛 s l) ∷ []) ∵ updating ! $ use1 𝓛 (later (‵ (Elements s l) ⊛ ‵ (Opened s l))) (takes_out l) $ await ! tt $
       split ! $
-      use1 𝓛 (‵ (cells (mem s.R) l s.x.ptr.0 s.x.ptr.1)) (whole_in 𝓛 s.R l s.x.ptr.0 s.x.ptr.1) $
+      use1 𝓛 (‵ (cells (mem s.R) l s.x.ref_ptr.0 s.x.ref_ptr.1)) (whole_in 𝓛 s.R l s.x.ref_ptr.0 s.x.ref_ptr.1) $
       lft_new ! tt (λ ν. move ! (1 ∷ []) $
-      use1 𝓛 (later (some (λ (δ : GName). ‵ ((MutSlice erased (ν ∷ []) s.R).own_val (at s δ l) (slice_val s.x.ptr (length l) ∷ []))
-      ⊛ ‵ (flent (ν ∷ []) (Held s.R (length l) s.x.ptr.0 s.x.ptr.1 δ)))))
-      (lends_slice 𝓛 s.R erased (ν ∷ []) l s.x.ptr.0 s.x.ptr.1 (subst (Room s.R) (sym e) room)) $ await ! tt $
+      use1 𝓛 (later (some (λ (δ : GName). ‵ ((MutSlice erased (ν ∷ []) s.R).own_val (at s δ l) (slice_val s.x.ref_ptr (length l) ∷ []))
+      ⊛ ‵ (flent (ν ∷ []) (Held s.R (length l) s.x.ref_ptr.0 s.x.ref_ptr.1 δ)))))
+      (lends_slice 𝓛 s.R erased (ν ∷ []) l s.x.ref_ptr.0 s.x.ref_ptr.1 (subst (Room s.R) (sym e) room)) $ await ! tt $
       pick ! (λ δ.
-      split ! $ rewrite ! 0 (λ (n : ℕ). ‵ ((MutSlice erased (ν ∷ []) s.R).own_val (at s δ l) (slice_val s.x.ptr n ∷ []))) e refl $
+      split ! $ rewrite ! 0 (λ (n : ℕ). ‵ ((MutSlice erased (ν ∷ []) s.R).own_val (at s δ l) (slice_val s.x.ref_ptr n ∷ []))) e refl $
       -- [the slice; the lender's part; the loan's token; the open borrow]
       at_once ! $ show ! (λ (g : Loan). sep 𝓤 (sep 𝓤 (A.lft (g.0 ∷ []) full_share) (mean 𝓛 (Lent 𝓛 s l g))) (Kept 𝓛 s l g))
       (ν, δ) $ move ! (2 ∷ 0 ∷ []) $ join ! $ frame ! $ fjoin ! $ done !))
@@ -118,36 +122,38 @@ module _ {M : Type 1} {𝓤 : Ura M} (𝓛 : Logic 𝓤) (s : Slice) where
       (H.⇛ (sep 𝓤 (fact 𝓤 (length l' ≡ length s.x.now)) (Has 𝓛 s l')))
   back_one l l' g room e =
       qed 𝓛 (‵ (flft (g.0 ∷ []) full_share)
-      ∷ ‵ (fsep (flent (g.0 ∷ []) (Held s.R (length l) s.x.ptr.0 s.x.ptr.1 g.1)) (Opened s l))
+      ∷ ‵ (fsep (flent (g.0 ∷ []) (Held s.R (length l) s.x.ref_ptr.0 s.x.ref_ptr.1 g.1)) (Opened s l))
       ∷ ‵ (Said s g.1 l' (length l)) ∷ []) ∵ updating ! $ lft_end ! tt $ move ! (2 ∷ []) $ fsplit ! $ move ! (1 ∷ []) $ feq_l ! (λ e'.
       move ! (2 ∷ []) $ fsplit ! $ move ! (3 ∷ 0 ∷ 2 ∷ []) $
-      use3 𝓛 (later (‵ ((Arr (mem s.R) (length l)).own_at l' s.x.ptr.0 s.x.ptr.1)))
-      (slice_back 𝓛 s.R (g.0 ∷ []) g.1 l' (length l) s.x.ptr.0 s.x.ptr.1) $ await ! tt $ fsplit ! $ drop ! $
-      use1 𝓛 (‵ (Elements s l')) (whole_out 𝓛 s.R l' s.x.ptr.0 s.x.ptr.1) $
+      use3 𝓛 (later (‵ ((Arr (mem s.R) (length l)).own_at l' s.x.ref_ptr.0 s.x.ref_ptr.1)))
+      (slice_back 𝓛 s.R (g.0 ∷ []) g.1 l' (length l) s.x.ref_ptr.0 s.x.ref_ptr.1) $ await ! tt $ fsplit ! $ drop ! $
+      use1 𝓛 (‵ (Elements s l')) (whole_out 𝓛 s.R l' s.x.ref_ptr.0 s.x.ref_ptr.1) $
       use2 𝓛 (later (raw (Has 𝓛 s l'))) (puts_back l l' room e e') $ await ! tt $ at_once ! $
       use0 𝓛 (raw (fact 𝓤 (length l' ≡ length s.x.now))) (fact_i 𝓤 _ (emp 𝓤) (e' ∙ e)) $ done !)
 
-  -- it is lent as `&`, and comes back as it was
-  shows-one : (l : List s.R.Denot) → Room s.R (length s.x.now) → length l ≡ length s.x.now
+  -- it is lent as `&`, and comes back as it was; its elements are of a type of which a `&` asks for no token but the loan's
+  shows-one : Shares 𝓛 s.R [] → (l : List s.R.Denot) → Room s.R (length s.x.now) → length l ≡ length s.x.now
       → ent 𝓤 (Has 𝓛 s l) (H.⇛ (ex 𝓤 (λ (g : Loan). sep 𝓤 (sep 𝓤 (A.lft (g.0 ∷ []) full_share) (mean 𝓛 (Shown 𝓛 s l g)))
       (KeptShown 𝓛 s l g))))
-  shows-one l room e =
+  shows-one shared l room e =
       qed 𝓛 (raw (Has 𝓛 s l) ∷ []) ∵ updating ! $ use1 𝓛 (later (‵ (Elements s l) ⊛ ‵ (Opened s l))) (takes_out l) $ await ! tt $
       split ! $
-      feq_i ! ℕ (length l) (length l) refl $ fjoin ! $ lft_new ! tt (λ ν. move ! (1 ∷ []) $
-      use1 𝓛 (later (some (λ (δ : GName). ‵ ((ShrSlice erased (ν ∷ []) s.R).own_val (at s δ l) (slice_val s.x.ptr (length l) ∷ []))
-      ⊛ ‵ (flent (ν ∷ []) ((arr_parts (shares s.R) (length l)).part full_share l s.x.ptr.0 s.x.ptr.1)))))
-      (lends_shr_slice 𝓛 s.R erased (ν ∷ []) full_share l s.x.ptr.0 s.x.ptr.1 (subst (Room s.R) (sym e) room)) $
-      await ! tt $ pick ! (λ δ. split ! $
-      rewrite ! 0 (λ (n : ℕ). ‵ ((ShrSlice erased (ν ∷ []) s.R).own_val (at s δ l) (slice_val s.x.ptr n ∷ []))) e refl $
+      feq_i ! ℕ (length l) (length l) refl $ fjoin ! $ lft_new ! tt (λ ν. move ! (1 ∷ 0 ∷ []) $
+      use2 𝓛 (later ((‵ ((ShrSlice erased (ν ∷ []) s.R).own_val (as_bor (at s 0 l)) (slice_val s.x.ref_ptr (length l) ∷ []))
+      ⊛ ‵ (flent (ν ∷ []) ((arr_parts (shares s.R) (length l)).part full_share l s.x.ref_ptr.0 s.x.ref_ptr.1)))
+      ⊛ ‵ (flft (ν ∷ []) full_share)))
+      (lends_shr_slice 𝓛 s.R erased (ν ∷ []) full_share l s.x.ref_ptr.0 s.x.ref_ptr.1 (subst (Room s.R) (sym e) room)
+      [] shared ((ν ∷ [], full_share) ∷ []) (⊑_static (ν ∷ [])) (Incl-refl (ν ∷ []))) $
+      await ! tt $ split ! $ split ! $
+      rewrite ! 0 (λ (n : ℕ). ‵ ((ShrSlice erased (ν ∷ []) s.R).own_val (as_bor (at s 0 l)) (slice_val s.x.ref_ptr n ∷ []))) e refl $
       at_once ! $ show ! (λ (g : Loan). sep 𝓤 (sep 𝓤 (A.lft (g.0 ∷ []) full_share) (mean 𝓛 (Shown 𝓛 s l g)))
-      (KeptShown 𝓛 s l g)) (ν, δ) $ move ! (2 ∷ 0 ∷ []) $ join ! $ frame ! $ fjoin ! $ done !))
+      (KeptShown 𝓛 s l g)) (ν, 0) $ move ! (2 ∷ 0 ∷ []) $ join ! $ frame ! $ fjoin ! $ done !)
 
   hides-one : (l : List s.R.Denot) (g : Loan) → Room s.R (length s.x.now) → length l ≡ length s.x.now
       → ent 𝓤 (sep 𝓤 (A.lft (g.0 ∷ []) full_share) (KeptShown 𝓛 s l g)) (H.⇛ (Has 𝓛 s l))
   hides-one l g room e =
       qed 𝓛 (‵ (flft (g.0 ∷ []) full_share) ∷ ‵ (fsep (flent (g.0 ∷ []) ((arr_parts (shares s.R) (length l)).part full_share l
-      s.x.ptr.0 s.x.ptr.1)) (Opened s l)) ∷ []) ∵ updating ! $ lft_end ! tt $ move ! (1 ∷ []) $ fsplit ! $
+      s.x.ref_ptr.0 s.x.ref_ptr.1)) (Opened s l)) ∷ []) ∵ updating ! $ lft_end ! tt $ move ! (1 ∷ []) $ fsplit ! $
       move ! (2 ∷ 0 ∷ []) $ lent_back ! tt $ fsplit ! $ drop ! $
       use2 𝓛 (later (raw (Has 𝓛 s l))) (puts_back l l room e refl) $ await ! tt $ at_once ! $ done !
 
@@ -155,9 +161,9 @@ module _ {M : Type 1} {𝓤 : Ura M} (𝓛 : Logic 𝓤) (s : Slice) where
   ends-one : (l : List s.R.Denot) → length l ≡ length s.x.now
       → ent 𝓤 (Has 𝓛 s l) (H.⇛ (sep 𝓤 (A.lft s.κ s.q) (sem 𝓛 (Said s s.x.ghost_name l (length s.x.now)))))
   ends-one l e =
-      qed 𝓛 (‵ ((MutSlice erased s.κ s.R).own_val (at s s.x.name l) (mut_slice_vals s.x)) ∷ ‵ (flft s.κ s.q) ∷ []) ∵ updating ! $
+      qed 𝓛 (‵ ((MutSlice erased s.κ s.R).own_val (at s s.x.ghost_name l) (mut_slice_vals s.x)) ∷ ‵ (flft s.κ s.q) ∷ []) ∵ updating ! $
       fsplit ! $ drop ! $ fsplit ! $ name_done ! tt $
-      use1 𝓛 (‵ (finally s.R s.x.name l)) (res-finally 𝓛 erased s.κ s.R s.x.name l) $
+      use1 𝓛 (‵ (finally s.R s.x.ghost_name l)) (res-finally 𝓛 erased s.κ s.R s.x.ghost_name l) $
       keep ! (0 ∷ 2 ∷ []) $ feq_i ! ℕ (length l) (length s.x.now) e $ move ! (1 ∷ 0 ∷ []) $ fjoin ! $ at_once ! $
       move ! (1 ∷ 0 ∷ []) $ done !
 
@@ -174,6 +180,19 @@ Loans (s ∷ ss) = Loan × Loans ss
 abbrev pub AsLong : (ss : List Slice) → Lists ss → Type 0
 AsLong [] ls = Unit {0}
 AsLong (s ∷ ss) ls = (length ls.0 ≡ length s.x.now) × AsLong ss ls.1
+
+-- a `&` to numbers asks for no token but the loan's
+pub shared-number : {M : Type 1} {𝓤 : Ura M} (𝓛 : Logic 𝓤) (w : Width) → Shares 𝓛 (UInt w) []
+shared-number 𝓛 w = (uint_Copied 𝓛 w).shares full_share []
+
+-- each of them is so
+abbrev pub AllAre : (Slice → Type 1) → List Slice → Type 1
+AllAre P [] = Unit {1}
+AllAre P (s ∷ ss) = P s × AllAre P ss
+
+any : (ss : List Slice) → AllAre (λ s. Unit {1}) ss
+any [] = tt
+any (s ∷ ss) = (tt, any ss)
 
 abbrev pub Rooms : List Slice → Type 0
 Rooms [] = Unit {0}
@@ -246,31 +265,33 @@ module _ {M : Type 1} {𝓤 : Ura M} (𝓛 : Logic 𝓤) where
   -- all are lent, each as `one` lends it
   open 𝓛 use {H, A}
 
-  module _ (lent : (s : Slice) → List s.R.Denot → Loan → Item 𝓤) (kept : (s : Slice) → List s.R.Denot → Loan → SProp 𝓤)
-      (one : (s : Slice) (l : List s.R.Denot) → Room s.R (length s.x.now) → length l ≡ length s.x.now → ent 𝓤
+  module _ (Ok : Slice → Type 1) (lent : (s : Slice) → List s.R.Denot → Loan → Item 𝓤)
+      (kept : (s : Slice) → List s.R.Denot → Loan → SProp 𝓤)
+      (one : (s : Slice) → Ok s → (l : List s.R.Denot) → Room s.R (length s.x.now) → length l ≡ length s.x.now → ent 𝓤
       (Has 𝓛 s l) (H.⇛ (ex 𝓤 (λ (g : Loan).
       sep 𝓤 (sep 𝓤 (A.lft (g.0 ∷ []) full_share) (mean 𝓛 (lent s l g))) (kept s l g))))) where
-    each_lent : (ss : List Slice) (ls : Lists ss) → Rooms ss → AsLong ss ls
+    each_lent : (ss : List Slice) → AllAre Ok ss → (ls : Lists ss) → Rooms ss → AsLong ss ls
         → ent 𝓤 (HasAll 𝓛 ss ls) (H.⇛ (ex 𝓤 (λ (g : Loans ss). sep 𝓤 (LentAll 𝓛 lent ss ls g) (KeptAll 𝓛 kept ss ls g))))
-    each_lent [] ls rooms e =
+    each_lent [] ok ls rooms e =
         qed 𝓛 (‵ ftrue ∷ []) ∵ updating ! $ at_once ! $ show ! (λ (g : Unit {0}). sep 𝓤 (emp 𝓤) (emp 𝓤)) tt $ nothing ! $ done !
-    each_lent (s ∷ ss) ls rooms e =
+    each_lent (s ∷ ss) ok ls rooms e =
         qed 𝓛 (raw (Has 𝓛 s ls.0) ∷ raw (HasAll 𝓛 ss ls.1) ∷ []) ∵ updating ! $
         use1 𝓛 (later (some (λ (g : Loan). (‵ (flft (g.0 ∷ []) full_share) ⊛ lent s ls.0 g) ⊛ raw (kept s ls.0 g))))
-        (one s ls.0 rooms.0 e.0) $ await ! tt $ pick ! (λ g. split ! $ move ! (2 ∷ []) $
+        (one s ok.0 ls.0 rooms.0 e.0) $ await ! tt $ pick ! (λ g. split ! $ move ! (2 ∷ []) $
         use1 𝓛 (later (some (λ (gs : Loans ss). raw (LentAll 𝓛 lent ss ls.1 gs) ⊛ raw (KeptAll 𝓛 kept ss ls.1 gs))))
-        (each_lent ss ls.1 rooms.1 e.1) $ await ! tt $ pick ! (λ gs. split ! $ at_once ! $
+        (each_lent ss ok.1 ls.1 rooms.1 e.1) $ await ! tt $ pick ! (λ gs. split ! $ at_once ! $
         show ! (λ (g : Loans (s ∷ ss)). sep 𝓤 (LentAll 𝓛 lent (s ∷ ss) ls g) (KeptAll 𝓛 kept (s ∷ ss) ls g)) (g, gs) $
         move ! (2 ∷ 0 ∷ []) $ join ! $ frame ! $ move ! (1 ∷ 0 ∷ []) $ done !))
 
   -- as `&mut`, or as `&`
   pub lends-all : (ss : List Slice) (ls : Lists ss) → Rooms ss → AsLong ss ls → ent 𝓤 (HasAll 𝓛 ss ls)
       (H.⇛ (ex 𝓤 (λ (g : Loans ss). sep 𝓤 (LentAll 𝓛 (Lent 𝓛) ss ls g) (KeptAll 𝓛 (Kept 𝓛) ss ls g))))
-  lends-all ss ls rooms e = each_lent (Lent 𝓛) (Kept 𝓛) (lends_one 𝓛) ss ls rooms e
+  lends-all ss ls rooms e = each_lent (λ s. Unit {1}) (Lent 𝓛) (Kept 𝓛) (λ s ok. lends_one 𝓛 s) ss (any ss) ls rooms e
 
-  pub shows-all : (ss : List Slice) (ls : Lists ss) → Rooms ss → AsLong ss ls → ent 𝓤 (HasAll 𝓛 ss ls)
+  pub shows-all : (ss : List Slice) → AllAre (λ s. Shares 𝓛 s.R []) ss → (ls : Lists ss) → Rooms ss → AsLong ss ls
+      → ent 𝓤 (HasAll 𝓛 ss ls)
       (H.⇛ (ex 𝓤 (λ (g : Loans ss). sep 𝓤 (LentAll 𝓛 (Shown 𝓛) ss ls g) (KeptAll 𝓛 (KeptShown 𝓛) ss ls g))))
-  shows-all ss ls rooms e = each_lent (Shown 𝓛) (KeptShown 𝓛) (shows-one 𝓛) ss ls rooms e
+  shows-all ss ok ls rooms e = each_lent (λ s. Shares 𝓛 s.R []) (Shown 𝓛) (KeptShown 𝓛) (shows-one 𝓛) ss ok ls rooms e
 
   -- all that were lent as `&` come back
   pub hides-all : (ss : List Slice) (ls : Lists ss) (g : Loans ss) → Rooms ss → AsLong ss ls

@@ -20,7 +20,7 @@ module _ {M : Type 1} {𝓤 : Ura M} (𝓛 : Logic 𝓤) where
 
   abbrev pub ownings : (Rs : List RattleType) → Denots Rs → Valss Rs → List (Item 𝓤)
   ownings [] a vss = []
-  ownings (R ∷ Rs) a vss = ‵ (R.own a.0 vss.0) ∷ ownings Rs a.1 vss.1
+  ownings (R ∷ Rs) a vss = ‵ (R.own_val a.0 vss.0) ∷ ownings Rs a.1 vss.1
 
   toks-apart : (n : ℕ) (κs : Lfts n) (qs : Shares n) (Γ : List (Item 𝓤))
       → ent 𝓤 (⋆ 𝓛 (raw (toks 𝓛 n κs qs) ∷ Γ)) (⋆ 𝓛 (tokens n κs qs ++ Γ))
@@ -47,19 +47,19 @@ module _ {M : Type 1} {𝓤 : Ura M} (𝓛 : Logic 𝓤) where
   owns-apart [] a vss Γ = via 𝓤 _ (pop 𝓛 (‵ ftrue) Γ) (snd∗ 𝓤 (sem 𝓛 ftrue) (⋆ 𝓛 Γ))
   owns-apart (R ∷ Rs) a vss Γ =
       via 𝓤 _ (pop 𝓛 (‵ (owns (R ∷ Rs) a vss)) Γ)
-      (via 𝓤 _ (assoc∗ 𝓤 (sem 𝓛 (R.own a.0 vss.0)) (sem 𝓛 (owns Rs a.1 vss.1)) (⋆ 𝓛 Γ))
-      (via 𝓤 _ (mono_r 𝓤 (sem 𝓛 (R.own a.0 vss.0))
+      (via 𝓤 _ (assoc∗ 𝓤 (sem 𝓛 (R.own_val a.0 vss.0)) (sem 𝓛 (owns Rs a.1 vss.1)) (⋆ 𝓛 Γ))
+      (via 𝓤 _ (mono_r 𝓤 (sem 𝓛 (R.own_val a.0 vss.0))
       (via 𝓤 _ (push 𝓛 (‵ (owns Rs a.1 vss.1)) Γ) (owns-apart Rs a.1 vss.1 Γ)))
-      (push 𝓛 (‵ (R.own a.0 vss.0)) (ownings Rs a.1 vss.1 ++ Γ))))
+      (push 𝓛 (‵ (R.own_val a.0 vss.0)) (ownings Rs a.1 vss.1 ++ Γ))))
 
   owns-together : (Rs : List RattleType) (a : Denots Rs) (vss : Valss Rs) (Γ : List (Item 𝓤))
       → ent 𝓤 (⋆ 𝓛 (ownings Rs a vss ++ Γ)) (⋆ 𝓛 (‵ (owns Rs a vss) ∷ Γ))
   owns-together [] a vss Γ = via 𝓤 _ (emp∗ 𝓤 (⋆ 𝓛 Γ)) (push 𝓛 (‵ ftrue) Γ)
   owns-together (R ∷ Rs) a vss Γ =
-      via 𝓤 _ (pop 𝓛 (‵ (R.own a.0 vss.0)) (ownings Rs a.1 vss.1 ++ Γ))
-      (via 𝓤 _ (mono_r 𝓤 (sem 𝓛 (R.own a.0 vss.0))
+      via 𝓤 _ (pop 𝓛 (‵ (R.own_val a.0 vss.0)) (ownings Rs a.1 vss.1 ++ Γ))
+      (via 𝓤 _ (mono_r 𝓤 (sem 𝓛 (R.own_val a.0 vss.0))
       (via 𝓤 _ (owns-together Rs a.1 vss.1 Γ) (pop 𝓛 (‵ (owns Rs a.1 vss.1)) Γ)))
-      (via 𝓤 _ (assoc' 𝓤 (sem 𝓛 (R.own a.0 vss.0)) (sem 𝓛 (owns Rs a.1 vss.1)) (⋆ 𝓛 Γ))
+      (via 𝓤 _ (assoc' 𝓤 (sem 𝓛 (R.own_val a.0 vss.0)) (sem 𝓛 (owns Rs a.1 vss.1)) (⋆ 𝓛 Γ))
       (push 𝓛 (‵ (owns (R ∷ Rs) a vss)) Γ)))
 
 module _ {M : Type 1} {𝓤 : Ura M} {𝓛 : Logic 𝓤} {K : Type 0} {Γ : List (Item 𝓤)} {G : Goal 𝓤 𝓛.H} where
@@ -94,7 +94,7 @@ module _ {M : Type 1} {𝓤 : Ura M} (𝓛 : Logic 𝓤) where
       → ent 𝓤 (sem 𝓛 (owns Rs a vss)) (sep 𝓤 (sem 𝓛 (owns Rs a vss)) (sem 𝓛 (owns Rs a vss)))
   owns-twice [] cs a vss = emp∗ 𝓤 _
   owns-twice (R ∷ Rs) cs a vss =
-      qed 𝓛 (‵ (R.own a.0 vss.0) ∷ ‵ (owns Rs a.1 vss.1) ∷ []) ∵
-      use1 𝓛 (‵ (R.own a.0 vss.0) ⊛ ‵ (R.own a.0 vss.0)) (cs.0.twice a.0 vss.0) $ split ! $ move ! (2 ∷ []) $
+      qed 𝓛 (‵ (R.own_val a.0 vss.0) ∷ ‵ (owns Rs a.1 vss.1) ∷ []) ∵
+      use1 𝓛 (‵ (R.own_val a.0 vss.0) ⊛ ‵ (R.own_val a.0 vss.0)) (cs.0.twice a.0 vss.0) $ split ! $ move ! (2 ∷ []) $
       use1 𝓛 (‵ (owns Rs a.1 vss.1) ⊛ ‵ (owns Rs a.1 vss.1)) (owns-twice Rs cs.1 a.1 vss.1) $ split ! $
       move ! (2 ∷ 0 ∷ []) $ fjoin ! $ frame ! $ move ! (1 ∷ 0 ∷ []) $ fjoin ! $ done !

@@ -3,7 +3,7 @@ use mathlib.Core.Path.{◌≡◌, refl, subst, sym}
 use mathlib.Core.List.{List, [], ◌∷◌}
 use Prim.Native.Nat.{ℕ, zero, ◌+◌, ◌*◌}
 use seplogic.Ra.Ura.{Ura}
-use seplogic.Ra.TreeShare.{full_share}
+use base.Fraction.{full_share}
 use lib.Dec.{T}
 use mir.Syntax.{Ty, Body, deref, field, place, copy, addr_of, aggregate, assign, seq, w64, ty_int, ty_ref, mut, Lifetime}
 use mir.Val.{Val, vptr, vint, vstruct, vcons, vnil, has_ty, WT}

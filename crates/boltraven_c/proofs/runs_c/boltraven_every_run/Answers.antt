@@ -7,4 +7,4 @@ use Rattle.boltraven_c.proofs.runs_c.boltraven_every_run.Goals as goal
 pub returns : goal.returns
 returns c =
     let e = c.every_run.ensures in
-    record { value = c.plain_number.ensures ∙ ap plain_number e.value; counts_after = e.counts_after.0; firsts_after = e.counts_after.1.0; lasts_after = e.counts_after.1.1 }
+    record { value = c.plain_number.ensures ∙ ap plain_number e.value; counts_after = e.counts_after; firsts_after = e.firsts_after; lasts_after = e.lasts_after }

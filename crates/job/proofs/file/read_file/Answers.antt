@@ -11,8 +11,8 @@ pub rest_ok-rest-requires : goal.rest_ok-rest-requires
 unfolding job_counts job_starts
 rest_ok-rest-requires c =
     let c4 = c in
-    let w = c.walk-w.ensures.counts_value in
-    owners-end c4.args.s.now _ _ w.0 w.1
+    let w = c.walk-w.ensures in
+    owners-end c4.args.s.now _ _ w.counts_value w.starts_value
 
 pub returns-then-w : goal.returns-then-w
 unfolding job_counts job_starts
@@ -21,8 +21,8 @@ returns-then-w c =
     let c6 = c4 in
     let w = c4.walk-w.ensures in record {
       ok_value = sym (ap (λ (b : Bool). b && c.rest_ok-rest.result) c.if-w.true)
-          ∙ file-ok c6.args.s.now _ _ w.counts_value.0 w.counts_value.1 _ _ w.ok_value c.rest_ok-rest.ensures;
-      counts_value = w.counts_value;
+          ∙ file-ok c6.args.s.now _ _ w.counts_value w.starts_value _ _ w.ok_value c.rest_ok-rest.ensures;
+      counts_value = (w.counts_value, w.starts_value);
     }
 
 pub returns : goal.returns
@@ -32,6 +32,6 @@ returns c =
     let c6 = c4 in
     let w = c4.walk-w.ensures in record {
       ok_value = sym (ap (λ (b : Bool). b && c.rest_ok-rest.result) c.if-w.false)
-          ∙ file-ok c6.args.s.now _ _ w.counts_value.0 w.counts_value.1 _ _ w.ok_value c.rest_ok-rest.ensures;
-      counts_value = w.counts_value;
+          ∙ file-ok c6.args.s.now _ _ w.counts_value w.starts_value _ _ w.ok_value c.rest_ok-rest.ensures;
+      counts_value = (w.counts_value, w.starts_value);
     }

@@ -9,34 +9,34 @@ use Rattle.job.proofs.lent.lay_ready.Goals as goal
 
 pub slice_bounds-lay32-end : goal.slice_bounds-lay32-end
 slice_bounds-lay32-end c =
-    let g = c.well-formed.0.1.1.1.1.1.0 in
+    let g = c.well_formed.0.1.1.1.1.1.0 in
     search rules
 
 pub lay32-requires : goal.lay32-requires
 lay32-requires c =
-    let g = c.well-formed.0.1.1.1.1.1.0 in
+    let g = c.well_formed.0.1.1.1.1.1.0 in
     let n : length c.args.b.starts ≡ 1024 = search rules in
     omega (arith, n, (ready-room _ c.requires).starts)
 
 pub slice_bounds-lay32-end-2 : goal.slice_bounds-lay32-end-2
 slice_bounds-lay32-end-2 c =
-    let g = c.well-formed.0.1.1.1.1.1.1.0 in
+    let g = c.well_formed.0.1.1.1.1.1.1.0 in
     search rules
 
 pub lay32-requires-2 : goal.lay32-requires-2
 lay32-requires-2 c =
-    let g = c.well-formed.0.1.1.1.1.1.1.0 in
+    let g = c.well_formed.0.1.1.1.1.1.1.0 in
     let n : length c.args.b.ends ≡ 1024 = search rules in
     omega (arith, n, (ready-room _ c.requires).ends)
 
 pub slice_bounds-lay64-end : goal.slice_bounds-lay64-end
 slice_bounds-lay64-end c =
-    let g = c.well-formed.0.1.1.1.1.1.1.1.0 in
+    let g = c.well_formed.0.1.1.1.1.1.1.1.0 in
     search rules
 
 pub lay64-requires : goal.lay64-requires
 lay64-requires c =
-    let g = c.well-formed.0.1.1.1.1.1.1.1.0 in
+    let g = c.well_formed.0.1.1.1.1.1.1.1.0 in
     let n : length c.args.b.avail ≡ 512 = search rules in
     omega (
       arith,
@@ -46,12 +46,12 @@ lay64-requires c =
 
 pub slice_bounds-lay16-end : goal.slice_bounds-lay16-end
 slice_bounds-lay16-end c =
-    let g = c.well-formed.0.1.1.1.1.1.1.1.1.1.0 in
+    let g = c.well_formed.0.1.1.1.1.1.1.1.1.1.0 in
     search rules
 
 pub lay16-requires : goal.lay16-requires
 lay16-requires c =
-    let g = c.well-formed.0.1.1.1.1.1.1.1.1.1.0 in
+    let g = c.well_formed.0.1.1.1.1.1.1.1.1.1.0 in
     let n : length c.args.b.begins ≡ 1024 = search rules in
     omega (
       arith,
@@ -61,12 +61,12 @@ lay16-requires c =
 
 pub slice_bounds-lay64-end-2 : goal.slice_bounds-lay64-end-2
 slice_bounds-lay64-end-2 c =
-    let g = c.well-formed.0.1.1.1.1.1.1.1.1.1.1.0 in
+    let g = c.well_formed.0.1.1.1.1.1.1.1.1.1.1.0 in
     search rules
 
 pub lay64-requires-2 : goal.lay64-requires-2
 lay64-requires-2 c =
-    let g = c.well-formed.0.1.1.1.1.1.1.1.1.1.1.0 in
+    let g = c.well_formed.0.1.1.1.1.1.1.1.1.1.1.0 in
     let n : length c.args.b.frozen ≡ 16 = search rules in
     omega (
       arith,
@@ -76,12 +76,12 @@ lay64-requires-2 c =
 
 pub slice_bounds-lay_targets-end : goal.slice_bounds-lay_targets-end
 slice_bounds-lay_targets-end c =
-    let g = c.well-formed.0.1.1.1.1.1.1.1.1.1.1.1.0 in
+    let g = c.well_formed.0.1.1.1.1.1.1.1.1.1.1.1.0 in
     search rules
 
 pub lay_targets-requires : goal.lay_targets-requires
 lay_targets-requires c =
-    let g = c.well-formed.0.1.1.1.1.1.1.1.1.1.1.1.0 in
+    let g = c.well_formed.0.1.1.1.1.1.1.1.1.1.1.1.0 in
     let n : length c.args.b.targets
     ≡ 32 = search rules in
     omega (

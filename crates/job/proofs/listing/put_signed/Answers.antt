@@ -18,8 +18,8 @@ put_byte-next-requires c =
       arith,
       s.requires,
       ap (λ (l : List ℕ). length (l ++ (10 ∷ [])))
-          (signed_below s.args.t s.ranges.t c.if-t-lt0.true c.type_size.result
-          c.type_size.ensures),
+          (signed_below s.args.t s.ranges.t c.if-t-lt0.true c.size_of-size.result
+          c.size_of-size.ensures),
     )
 
 pub put_number_then-requires : goal.put_number_then-requires
@@ -29,8 +29,8 @@ put_number_then-requires c =
     let c6 = c5 in
     let s = c6 in
     let r = subst (λ (l : List ℕ). s.args.at + length (l ++ (10 ∷ [])) ≤ length s.args.out.now)
-    (signed_below s.args.t s.ranges.t c5.if-t-lt0.true c6.type_size.result c6.type_size.ensures) s.requires in
-    room_next (digits c6.type_size.result ++ (10 ∷ [])) c3.put_byte-next.ensures r
+    (signed_below s.args.t s.ranges.t c5.if-t-lt0.true c6.size_of-size.result c6.size_of-size.ensures) s.requires in
+    room_next (digits c6.size_of-size.result ++ (10 ∷ [])) c3.put_byte-next.ensures r
 
 pub returns-then-t-lt0 : goal.returns-then-t-lt0
 returns-then-t-lt0 c =
@@ -38,7 +38,7 @@ returns-then-t-lt0 c =
     let c8 = c6 in
     let c9 = c8 in
     let s = c9 in
-    let e = signed_below s.args.t s.ranges.t c8.if-t-lt0.true c9.type_size.result c9.type_size.ensures in
+    let e = signed_below s.args.t s.ranges.t c8.if-t-lt0.true c9.size_of-size.result c9.size_of-size.ensures in
     let r = subst (λ (l : List ℕ). s.args.at + length (l ++ (10 ∷ [])) ≤ length s.args.out.now) e s.requires in
     wrote-same (ap (λ (l : List ℕ). l ++ (10 ∷ [])) (sym e)) (wrote-both c6.put_byte-next.ensures
     c.put_number_then.ensures r)
@@ -52,13 +52,13 @@ pub put_number_then-requires-2 : goal.put_number_then-requires-2
 put_number_then-requires-2 c =
     let s = c in
     subst (λ (l : List ℕ). s.args.at + length (l ++ (10 ∷ [])) ≤ length s.args.out.now)
-    (signed_above s.args.t s.ranges.t c.if-t-lt0.false c.type_size.result
-    c.type_size.ensures) s.requires
+    (signed_above s.args.t s.ranges.t c.if-t-lt0.false c.size_of-size.result
+    c.size_of-size.ensures) s.requires
 
 pub returns : goal.returns
 returns c =
     let c4 = c in
     let c5 = c4 in
     let s = c5 in
-    wrote-same (ap (λ (l : List ℕ). l ++ (10 ∷ [])) (sym (signed_above s.args.t s.ranges.t c4.if-t-lt0.false c5.type_size.result
-    c5.type_size.ensures))) c.put_number_then-2.ensures
+    wrote-same (ap (λ (l : List ℕ). l ++ (10 ∷ [])) (sym (signed_above s.args.t s.ranges.t c4.if-t-lt0.false c5.size_of-size.result
+    c5.size_of-size.ensures))) c.put_number_then-2.ensures

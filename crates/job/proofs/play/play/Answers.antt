@@ -13,14 +13,14 @@ use Rattle.job.proofs.Readings.{read-block, read-room, read-few, read-column, dr
 use Rattle.job.proofs.play.play.Goals as goal
 
 pub overflow_add-at : goal.overflow_add-at
-overflow_add-at c = omega (arith, read-block c.requires.read_ok 6 (lit< tt), c.well-formed.0)
+overflow_add-at c = omega (arith, read-block c.requires.read_ok 6 (lit< tt), c.well_formed.0)
 
 pub column16-draws-requires : goal.column16-draws-requires
 column16-draws-requires c =
     ((read-few c.requires.read_ok).4, read-room c.requires.read_ok 6 0 2 (lit< tt) (lit≤ tt))
 
 pub overflow_add-at-2 : goal.overflow_add-at-2
-overflow_add-at-2 c = omega (arith, read-block c.requires.read_ok 6 (lit< tt), c.well-formed.0)
+overflow_add-at-2 c = omega (arith, read-block c.requires.read_ok 6 (lit< tt), c.well_formed.0)
 
 pub column16-firsts-requires : goal.column16-firsts-requires
 column16-firsts-requires c =
@@ -28,7 +28,7 @@ column16-firsts-requires c =
     ((read-few K).4, read-room K 6 2 2 (lit< tt) (lit≤ tt))
 
 pub overflow_add-at-3 : goal.overflow_add-at-3
-overflow_add-at-3 c = omega (arith, read-block c.requires.read_ok 6 (lit< tt), c.well-formed.0)
+overflow_add-at-3 c = omega (arith, read-block c.requires.read_ok 6 (lit< tt), c.well_formed.0)
 
 pub column16-seconds-requires : goal.column16-seconds-requires
 column16-seconds-requires c =

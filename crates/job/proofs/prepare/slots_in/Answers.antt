@@ -8,7 +8,7 @@ use Rattle.job.proofs.Readings.{read-block, read-room, read-few, read-column, sl
 use Rattle.job.proofs.prepare.slots_in.Goals as goal
 
 pub overflow_add-base : goal.overflow_add-base
-overflow_add-base c = let s = c in omega (arith, read-block s.requires 1 (lit< tt), s.well-formed.0)
+overflow_add-base c = let s = c in omega (arith, read-block s.requires 1 (lit< tt), s.well_formed.0)
 
 pub column32-starts-requires : goal.column32-starts-requires
 column32-starts-requires c =
@@ -16,7 +16,7 @@ column32-starts-requires c =
     ((read-few s.requires).1, read-room s.requires 1 0 4 (lit< tt) (lit≤ tt))
 
 pub overflow_add-base-2 : goal.overflow_add-base-2
-overflow_add-base-2 c = let s = c in omega (arith, read-block s.requires 1 (lit< tt), s.well-formed.0)
+overflow_add-base-2 c = let s = c in omega (arith, read-block s.requires 1 (lit< tt), s.well_formed.0)
 
 pub column32-ends-requires : goal.column32-ends-requires
 column32-ends-requires c =
@@ -24,7 +24,7 @@ column32-ends-requires c =
     ((read-few s.requires).1, read-room s.requires 1 4 4 (lit< tt) (lit≤ tt))
 
 pub overflow_add-range : goal.overflow_add-range
-overflow_add-range c = let s = c in omega (arith, read-block s.requires 3 (lit< tt), s.well-formed.0)
+overflow_add-range c = let s = c in omega (arith, read-block s.requires 3 (lit< tt), s.well_formed.0)
 
 pub column16-persons-requires : goal.column16-persons-requires
 column16-persons-requires c =
@@ -32,7 +32,7 @@ column16-persons-requires c =
     ((read-few s.requires).3, read-room s.requires 3 0 2 (lit< tt) (lit≤ tt))
 
 pub overflow_add-range-2 : goal.overflow_add-range-2
-overflow_add-range-2 c = let s = c in omega (arith, read-block s.requires 3 (lit< tt), s.well-formed.0)
+overflow_add-range-2 c = let s = c in omega (arith, read-block s.requires 3 (lit< tt), s.well_formed.0)
 
 pub column32-opens-requires : goal.column32-opens-requires
 column32-opens-requires c =
@@ -40,7 +40,7 @@ column32-opens-requires c =
     ((read-few s.requires).3, read-room s.requires 3 2 4 (lit< tt) (lit≤ tt))
 
 pub overflow_add-range-3 : goal.overflow_add-range-3
-overflow_add-range-3 c = let s = c in omega (arith, read-block s.requires 3 (lit< tt), s.well-formed.0)
+overflow_add-range-3 c = let s = c in omega (arith, read-block s.requires 3 (lit< tt), s.well_formed.0)
 
 pub column32-shuts-requires : goal.column32-shuts-requires
 column32-shuts-requires c =

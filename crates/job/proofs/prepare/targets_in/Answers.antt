@@ -8,7 +8,7 @@ use Rattle.job.proofs.Readings.{read-block, read-room, read-few, read-settings, 
 use Rattle.job.proofs.prepare.targets_in.Goals as goal
 
 pub overflow_add-at : goal.overflow_add-at
-overflow_add-at c = let s = c in omega (arith, read-block s.requires 2 (lit< tt), s.well-formed.0)
+overflow_add-at c = let s = c in omega (arith, read-block s.requires 2 (lit< tt), s.well_formed.0)
 
 pub column_f64-capacities-requires : goal.column_f64-capacities-requires
 column_f64-capacities-requires c =
@@ -16,7 +16,7 @@ column_f64-capacities-requires c =
     (omega (arith, (read-few s.requires).2), read-room s.requires 2 0 8 (lit< tt) (lit≤ tt))
 
 pub overflow_add-at-2 : goal.overflow_add-at-2
-overflow_add-at-2 c = let s = c in omega (arith, read-block s.requires 2 (lit< tt), s.well-formed.0)
+overflow_add-at-2 c = let s = c in omega (arith, read-block s.requires 2 (lit< tt), s.well_formed.0)
 
 pub column32-priors-requires : goal.column32-priors-requires
 column32-priors-requires c =

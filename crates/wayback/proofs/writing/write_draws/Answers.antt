@@ -67,7 +67,7 @@ loop-u-preserved c =
     let was = c.owner_of-was.ensures in (
       wrote-in _ _ _ _ _ _ _ _ _ _ _ _ at.invariant.0 _ at.invariant.2 c.loop-u-test.true
           (changed-yes _ _ _ _ _ _ was c.owner_of.ensures c.if-was-owner_of.false) _
-          (place-by _ _ _ _ _ _ c.IsPlace-in.ensures was),
+          (place-by _ _ _ _ _ _ c.place_in.ensures was),
       omega arith,
       at.invariant.2,
     )
