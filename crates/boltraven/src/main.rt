@@ -83,9 +83,9 @@ fn print_first(rt: &HostRuntime) -> io::Result<()> {
 
 fn main(rt: HostRuntime) -> io::Result<()> {
     if program::has_word(&rt, 2) {
-        return rt.stderr().write_all(
-            b"boltraven: more than one argument; --help tells more\n",
-        );
+        return rt
+            .stderr()
+            .write_all(b"boltraven: more than one argument; --help tells more\n");
     }
     if program::has_word(&rt, 1) {
         return print_first(&rt);

@@ -6,7 +6,10 @@
 use slotset::Number;
 use std::io;
 use std::io::{Print, Read};
-use stored::{Tally, Turn, at_most, half, plus, quads, raws, read_full, rows, same_raws, same_words, shorts, word};
+use stored::{
+    Tally, Turn, at_most, half, plus, quads, raws, read_full, rows, same_raws, same_words, shorts,
+    word,
+};
 
 // A record: counts and the list's room, slots, units, who can cover which, frozen slots, the rota as it was found; how many repairs are
 // due,

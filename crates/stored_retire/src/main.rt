@@ -6,7 +6,10 @@ use paper::Refusal;
 use retire::Retiring;
 use std::io;
 use std::io::{Print, Read};
-use stored::{Tally, Turn, at_most, front_quads, front_shorts, half, plus, quads, raw, raws, read_full, rows, same_quads, same_raws, same_shorts, same_words, short, shorts, word};
+use stored::{
+    Tally, Turn, at_most, front_quads, front_shorts, half, plus, quads, raw, raws, read_full, rows,
+    same_quads, same_raws, same_shorts, same_words, short, shorts, word,
+};
 use units::Settings;
 
 // A record: five counts, the settings, new base slots and ranges; all columns as they are lent; the answer; all columns as they are then; a

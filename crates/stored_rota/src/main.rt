@@ -7,7 +7,10 @@ ghost use Rattle.std.specs.Prelude.{◌≤◌};
 use paper::Refusal;
 use std::io;
 use std::io::{Print, Read};
-use stored::{Tally, at_most, front_shorts, half, plus, quad, quads, raw, raws, read_full, same_raws, same_words, shorts};
+use stored::{
+    Tally, at_most, front_shorts, half, plus, quad, quads, raw, raws, read_full, same_raws,
+    same_words, shorts,
+};
 
 // A record: people, slots, units, draws; the slots; where units begin; who can cover which slot; frozen slots; the owners before; the
 // draws; then the Rust's answers, owners, sets, minutes and totals; an assign, and the refusal that is due, and that of a recount without
@@ -612,7 +615,10 @@ fn compare<R: Read>(from: &mut R, section: usize) -> io::Result<Tally> {
 
 // Writes the line of a section.
 fn print(rt: &impl Print, t: Tally, of: &str) -> io::Result<()> {
-    println!(rt; "{} answers{of} compared, {} differ", t.compared, t.differing)
+    println!(rt;
+        "{} answers{of} compared, {} differ",
+        t.compared, t.differing
+    )
 }
 
 fn main(rt: HostRuntime) -> io::Result<()> {

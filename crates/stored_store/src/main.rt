@@ -5,9 +5,9 @@
 ghost use Rattle.std.specs.Prelude.{◌<◌};
 
 use slotset::Number;
-use store::{Asked, Saved};
 use std::io;
 use std::io::{Print, Read};
+use store::{Asked, Saved};
 use stored::{Tally, Turn, at_most, half, raw, read_full, same_raws, short};
 use units::Settings;
 

@@ -5,7 +5,9 @@
 use paper::Refusal;
 use std::io;
 use std::io::{Print, Read};
-use stored::{Tally, Turn, half, plus, quad, quads, raws, read_full, same_raws, same_shorts, shorts};
+use stored::{
+    Tally, Turn, half, plus, quad, quads, raws, read_full, same_raws, same_shorts, shorts,
+};
 use wayback::Way;
 
 // A record: people, slots, units; the slots; where units begin; who can cover which slot; frozen slots; the remembered owners and those as

@@ -1,9 +1,6 @@
 -- `boltraven_replay::to_front` meets its contract. Assumes nothing.
 use borrow.Author.Rules.{rules}
 use native.Mathlib.Omega.{arith}
-use mathlib.Core.Path.{◌≡◌}
-use Prim.Native.Nat.{◌-◌, ◌≤◌}
-use lib.ListN.{length}
 use Rattle.boltraven_replay.proofs.to_front.Goals as goal
 
 pub loop-k-init : goal.loop-k-init

@@ -1,5 +1,4 @@
 -- `stored_mend::compare` meets its contract: it is safe and ends. Assumes nothing.
-use borrow.Author.Rules.{rules}
 use Rattle.stored_mend.proofs.compare.Given as goal
 
 abbrev pub invariant-loop-turns : goal.invariant-loop-turns

@@ -1,8 +1,5 @@
 -- `stored_mend::is_list` meets its contract: it is safe and ends. Assumes nothing.
-use Prim.Native.Nat.{◌-◌, ◌≤◌}
 use native.Mathlib.Omega.{arith}
-use borrow.Author.Rules.{rules}
-use lib.ListN.{length}
 use Rattle.stored_mend.proofs.is_list.Goals as goal
 
 pub loop-k-init : goal.loop-k-init

@@ -1,6 +1,5 @@
 -- `stored_mend::mend_with` meets its contract: it is safe and ends. Assumes nothing.
 use native.Mathlib.Omega.{arith}
-use borrow.Author.Rules.{rules}
 use lib.ListN.{length-take}
 use Rattle.stored_mend.proofs.mend_with.Goals as goal
 

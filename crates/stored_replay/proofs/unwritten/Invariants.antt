@@ -1,5 +1,4 @@
 -- `stored_replay::unwritten` meets its contract: it is safe and ends. Assumes nothing.
-use borrow.Author.Rules.{rules}
 use Prim.Native.Nat.{◌-◌}
 use Rattle.stored_replay.proofs.unwritten.Given as goal
 

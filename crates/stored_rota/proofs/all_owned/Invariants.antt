@@ -1,5 +1,5 @@
 -- `stored_rota::all_owned` meets its contract: it is safe and ends. Assumes nothing.
-use Rattle.std.proofs.Common.{◌-◌, ◌≤◌, rules}
+use Rattle.std.proofs.Common.{◌-◌, ◌≤◌}
 use Rattle.stored_rota.proofs.all_owned.Given as goal
 
 abbrev pub invariant-loop-j : goal.invariant-loop-j

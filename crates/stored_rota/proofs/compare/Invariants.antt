@@ -1,5 +1,4 @@
 -- `stored_rota::compare` meets its contract: it is safe and ends. Assumes nothing.
-use Rattle.std.proofs.Common.{rules}
 use Rattle.stored_rota.proofs.compare.Given as goal
 
 abbrev pub invariant-loop-left : goal.invariant-loop-left
