@@ -15,6 +15,7 @@ pub mod Entered
 pub mod Beginning
 pub mod Alike
 pub mod Listed
+pub mod Passed
 pub mod Asked
 pub mod Promises
 pub mod Replays
