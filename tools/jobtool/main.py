@@ -35,7 +35,7 @@ def parser():
     one.add_argument("--dates", action="store_true", help="times as dates")
     one.add_argument("job", metavar="JOB")
 
-    one = subs.add_parser("run", help="run target/bin/boltraven on a text and print the listing", epilog=STATUS, formatter_class=plain)
+    one = subs.add_parser("run", help="run the program boltraven on a text and print the listing", epilog=STATUS, formatter_class=plain)
     one.add_argument("--dates", action="store_true", help="times as dates with their weekday")
     one.add_argument("--units", action="store_true", help="each slot's unit")
     one.add_argument("--frozen", action="store_true", help="which slots are frozen")
@@ -52,7 +52,7 @@ def parser():
     one.add_argument("text", metavar="TEXT")
     one.add_argument("svg", metavar="SVG")
 
-    one = subs.add_parser("replay", help="run target/bin/boltraven_replay on a recording's text and print what it shows", epilog=STATUS,
+    one = subs.add_parser("replay", help="run the program boltraven_replay on a recording's text and print what it shows", epilog=STATUS,
                           formatter_class=plain)
     one.add_argument("text", metavar="TEXT")
 

@@ -1,4 +1,4 @@
-"""The programs target/bin/boltraven and boltraven_replay, under an emulator where the processor isn't x86-64."""
+"""The programs boltraven and boltraven_replay, as crates/NAME/out has them, under an emulator where the processor isn't x86-64."""
 import os
 import platform
 import shutil
@@ -10,9 +10,9 @@ ROOT = os.path.dirname(os.path.dirname(os.path.dirname(os.path.abspath(__file__)
 
 
 def command(name="boltraven"):
-    program = os.path.join(ROOT, "target", "bin", name)
+    program = os.path.join(ROOT, "crates", name, "out", name)
     if not os.path.exists(program):
-        raise Wrong("there is no program yet: `rt check %s` builds it" % name)
+        raise Wrong("there is no program yet: `tools/program %s` builds it" % name)
     if platform.machine() == "x86_64":
         return [program]
     if not shutil.which("qemu-x86_64"):

@@ -49,6 +49,7 @@ pub(crate) fn read_file(s: &[u8]) -> Walked
 }
 
 // One settings record; at most one freeze; the owners' slots rise.
+#[tactic(auto, unfolding(crate::specs::File::rest_ok))]
 fn rest_ok(s: &[u8], settings: usize, freezes: usize, at: usize, owners: usize) -> bool
     requires { at + owners * 8 ≤ length s.now }
     ensures { result ≡ rest_ok s.now settings freezes at owners }

@@ -204,3 +204,6 @@ module _ (t : List ℕ) (blocks n : ℕ) (some : length t ≡ 0 → ⊥) (e : n 
   pub block-faulty : (f : ℕ) → f ≡ fault_at t blocks n → (f ≡ 0 → ⊥) → read.Refused f ≡ block_read t blocks
   block-faulty f g z =
       ap read.Refused g ∙ sym (block-some ∙ kept (fault_at t blocks n) _ _ (λ q. z (g ∙ q)))
+
+-- what stands against a record, case by case, as a set of lemmas
+pub ruleset fault_cases = (fault-closes, fault-close-many, fault-draw, fault-draw-many, fault-block-many, fault-other)

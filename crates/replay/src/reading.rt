@@ -64,6 +64,7 @@ fn close_at(t: &[u8], at: usize) -> bool
 }
 
 // What stands against record j of the block: 13, 1 or nothing.
+#[tactic(auto, using(crate::proofs::Records::fault_cases))]
 fn fault_at(t: &[u8], blocks: usize, j: usize) -> u8
     requires { j ≤ 1024 }
     ensures { result ≡ fault_at t.now blocks j }
