@@ -4,25 +4,25 @@
 #![tactic(auto)]
 
 mod answers;
-mod columns_c;
-mod draws_c;
-mod job_c;
-mod mend_c;
-mod owners_c;
-mod recording_c;
-mod replay_c;
-mod retire_c;
-mod rota_c;
-mod runs_c;
-mod set_c;
-mod slots_c;
-mod slotset_c;
-mod store_c;
-mod targets_c;
-mod units_c;
-mod usable_c;
-mod version;
-mod wayback_c;
+pub mod columns_c;
+pub mod draws_c;
+pub mod job_c;
+pub mod mend_c;
+pub mod owners_c;
+pub mod recording_c;
+pub mod replay_c;
+pub mod retire_c;
+pub mod rota_c;
+pub mod runs_c;
+pub mod set_c;
+pub mod slots_c;
+pub mod slotset_c;
+pub mod store_c;
+pub mod targets_c;
+pub mod units_c;
+pub mod usable_c;
+pub mod version;
+pub mod wayback_c;
 
 ghost use Rattle.std.specs.Prelude.{◌≡◌, ◌+◌};
 
