@@ -1,4 +1,4 @@
-// The library for C and Rust to link: numbers, flags and slices of numbers, and one slice of structs laid out as C does.
+// What C and Rust call, which `boltraven_c_c` exports: numbers, flags and slices of numbers, and one slice of structs laid out as C does.
 // A slice is passed as its address and its number of elements.
 // Every function is total, as the one that it calls: what is promised of that one, said in numbers, is promised here.
 #![tactic(auto)]
